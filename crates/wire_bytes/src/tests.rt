@@ -39,6 +39,9 @@ fn fields(rt: HostRuntime) -> Result<(), Fail> {
     put_field(&mut out, 2, &FieldValue::Delimited(b"testing"))?;
     assert_eq!(rt; out.as_slice(), b"\x08\x96\x01\x12\x07testing".as_slice());
     put_field(&mut out, 16, &FieldValue::Delimited(b""))?;
-    assert_eq!(rt; out.as_slice(), b"\x08\x96\x01\x12\x07testing\x82\x01\x00".as_slice());
+    assert_eq!(rt;
+        out.as_slice(),
+        b"\x08\x96\x01\x12\x07testing\x82\x01\x00".as_slice()
+    );
     Ok(())
 }

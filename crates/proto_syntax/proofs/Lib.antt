@@ -1,0 +1,11 @@
+pub mod Apart
+pub mod Sound
+pub mod Begins
+pub mod Complete
+pub mod Reach
+pub mod Deeper
+pub mod WordTests
+pub mod Loops
+pub mod Levels
+pub mod Items
+pub mod Faults

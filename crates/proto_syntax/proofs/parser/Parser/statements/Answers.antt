@@ -1,0 +1,17 @@
+use Rattle.proto_syntax.specs.Grammar.{Many}
+use Rattle.proto_syntax.specs.Reading.{read, ended}
+use Rattle.proto_syntax.specs.Trees.{statement_tree}
+use Rattle.proto_syntax.specs.Gives.{spellings}
+use Rattle.proto_syntax.specs.Language.{statement, message}
+use Rattle.proto_syntax.proofs.Levels.{level, statement_decides, statement_not_empty}
+use Rattle.proto_syntax.proofs.Loops.{ends_more, fewer_left}
+use Rattle.proto_syntax.proofs.parser.Parser.statements.Goals as goal
+
+pub each-smaller : goal.each-smaller
+each-smaller c = fewer_left (statement (message c.args.depth)) (statement_tree c.in_ok-statement.statement) c.each.self.rest.now c.statement.new.self.rest.now (statement_not_empty _ (level c.args.depth)) c.in_ok-statement.ensures
+
+pub each-preserved : goal.each-preserved
+each-preserved c =
+    rw c.in_ok-push.ensures.items
+    (ends_more statement_tree (statement (message c.args.depth)) c.each.statements.items c.in_ok-statement.statement (spellings c.each.self.rest.now) (spellings c.statement.new.self.rest.now) (ended (read (Many (statement (message c.args.depth))) (spellings c.args.self.now.rest.now)))
+    (statement_decides _ (level c.args.depth)) (statement_not_empty _ (level c.args.depth)) c.in_ok-statement.ensures c.each.invariant)

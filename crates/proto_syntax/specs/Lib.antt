@@ -1,0 +1,8 @@
+pub mod Name
+pub mod Grammar
+pub mod Language
+pub mod Fault
+pub mod Trees
+pub mod Reading
+pub mod Gives
+pub mod Refusal

@@ -1,0 +1,14 @@
+//! The syntax of proto3: files as trees.
+//!
+//! The standard is the proto3 language specification, "Lexical Elements" to "Proto File".
+#![tactic(auto)]
+
+mod error;
+mod parser;
+pub mod tree;
+
+pub use error::ParseError;
+pub use parser::parse;
+
+#[cfg(test)]
+mod tests;

@@ -1,0 +1,27 @@
+//! The values of options (proto3 language specification, "Constant").
+
+use crate::tree::literal::{NumberLiteral, StringValue};
+use crate::tree::name::FullName;
+use proto_tokens::Span;
+
+/// The sign of a number.
+#[derive(Clone, Copy, Debug)]
+pub enum Sign {
+    Minus(Span),
+    Plus(Span),
+}
+
+/// An integer with an optional sign.
+#[derive(Clone, Copy, Debug)]
+pub struct ConstantNumber {
+    pub sign: Option<Sign>,
+    pub number: NumberLiteral,
+}
+
+/// The value of an option.
+#[derive(Debug, Drop)]
+pub enum Constant<'s> {
+    Name(FullName<'s>),
+    Number(ConstantNumber),
+    String(StringValue<'s>),
+}

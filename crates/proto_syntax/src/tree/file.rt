@@ -1,0 +1,55 @@
+//! Files and their statements (proto3 language specification, "Proto File").
+
+use crate::tree::enumeration::Enum;
+use crate::tree::literal::StringValue;
+use crate::tree::message::Message;
+use crate::tree::name::FullName;
+use crate::tree::option::OptionStatement;
+use crate::tree::service::Service;
+use proto_tokens::Span;
+use proto_tokens::row::Row;
+
+/// The `syntax` statement.
+#[derive(Debug, Drop)]
+pub struct Syntax<'s> {
+    pub keyword: Span,
+    pub equals: Span,
+    pub version: StringValue<'s>,
+    pub semicolon: Span,
+}
+
+/// An `import` statement.
+#[derive(Debug, Drop)]
+pub struct Import<'s> {
+    pub keyword: Span,
+    pub public: Option<Span>,
+    pub path: StringValue<'s>,
+    pub semicolon: Span,
+}
+
+/// A `package` statement.
+#[derive(Debug, Drop)]
+pub struct Package<'s> {
+    pub keyword: Span,
+    pub name: FullName<'s>,
+    pub semicolon: Span,
+}
+
+/// A statement of a file.
+#[derive(Debug, Drop)]
+pub enum Statement<'s> {
+    Import(Import<'s>),
+    Package(Package<'s>),
+    Option(OptionStatement<'s>),
+    Message(Message<'s>),
+    Enum(Enum<'s>),
+    Service(Service<'s>),
+    Empty(Span),
+}
+
+/// A file.
+#[derive(Debug, Drop)]
+pub struct FileTree<'s> {
+    pub syntax: Syntax<'s>,
+    pub statements: Row<Statement<'s>>,
+}

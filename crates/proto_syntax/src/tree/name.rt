@@ -1,0 +1,41 @@
+//! Names (proto3 language specification, "Identifiers").
+
+use proto_tokens::Span;
+use proto_tokens::row::Row;
+use std::marker::Model;
+
+/// An identifier.
+#[derive(Debug, Drop)]
+pub struct Name<'s> {
+    pub text: &'s str,
+    pub span: Span,
+}
+
+impl<'s> Model for Name<'s> {
+    ghost use Rattle.proto_syntax.specs.Name.{Identifier};
+
+    ghost Value = { Identifier };
+
+    ghost view = { λ a. record { text = a.text.now; span = a.span } };
+}
+
+/// A dot and the name behind it.
+#[derive(Debug, Drop)]
+pub struct NamePart<'s> {
+    pub dot: Span,
+    pub name: Name<'s>,
+}
+
+/// A name with dots: `fullIdent`.
+#[derive(Debug, Drop)]
+pub struct FullName<'s> {
+    pub first: Name<'s>,
+    pub rest: Row<NamePart<'s>>,
+}
+
+/// The name of a message or an enum, which may begin with a dot: `messageType` and `enumType`.
+#[derive(Debug, Drop)]
+pub struct TypeName<'s> {
+    pub dot: Option<Span>,
+    pub name: FullName<'s>,
+}

@@ -1,0 +1,30 @@
+//! Options (proto3 language specification, "Option").
+
+use crate::tree::constant::Constant;
+use crate::tree::list::Separated;
+use crate::tree::name::FullName;
+use proto_tokens::Span;
+
+/// The name of an option and its value.
+#[derive(Debug, Drop)]
+pub struct Setting<'s> {
+    pub name: FullName<'s>,
+    pub equals: Span,
+    pub value: Constant<'s>,
+}
+
+/// The options of a field or an enum value, in brackets.
+#[derive(Debug, Drop)]
+pub struct Options<'s> {
+    pub open_bracket: Span,
+    pub settings: Separated<Setting<'s>>,
+    pub close_bracket: Span,
+}
+
+/// An `option` statement.
+#[derive(Debug, Drop)]
+pub struct OptionStatement<'s> {
+    pub keyword: Span,
+    pub setting: Setting<'s>,
+    pub semicolon: Span,
+}

@@ -1,0 +1,11 @@
+use Rattle.std.proofs.Common.{length, ◌-◌}
+use Rattle.std.specs.Prelude.{map}
+use Rattle.proto_tokens.specs.Token.{spelled}
+use Rattle.proto_tokens.proofs.CutLemmas.{IsCutUpTo}
+use Rattle.proto_tokens.proofs.tokenizer.tokens_from.Given as goal
+
+abbrev pub invariant-loop-at : goal.invariant-loop-at
+invariant-loop-at l = IsCutUpTo l.source l.start l.at (map spelled l.tokens.items)
+
+abbrev pub decreases-loop-at : goal.decreases-loop-at
+decreases-loop-at l = length l.source - l.at

@@ -1,0 +1,14 @@
+pub mod Limits
+pub mod Kind
+pub mod KindOrder
+pub mod Fault
+pub mod Bytes
+pub mod Numeral
+pub mod Escape
+pub mod Cut
+pub mod Quoted
+pub mod Token
+pub mod Piece
+pub mod Spelling
+pub mod Steps
+pub mod formers

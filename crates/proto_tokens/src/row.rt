@@ -1,0 +1,93 @@
+//! Lists of items that trees are made of.
+
+ghost use Rattle.std.specs.Cmp.Lexicographic.{pointwise, lists_equiv, lists_per};
+ghost use Rattle.std.specs.List.{AllZip};
+ghost use Rattle.std.specs.Prelude.{◌≡◌, ◌==◌, [], length};
+
+use std::alloc::{AllocError, Global};
+use std::marker::Model;
+
+/// A list of items, kept in a `Vec`. Contracts see it as the list, whatever its capacity is, so a
+/// recursive type may hold rows of itself.
+#[derive(Debug, Drop)]
+pub struct Row<T> {
+    items: Vec<T>,
+}
+
+impl<T> Model for Row<T> {
+    ghost use Rattle.std.specs.Prelude.{List};
+
+    ghost Value = { List T };
+
+    ghost view = { λ row. row.items.items };
+}
+
+impl<T> Row<T> {
+    /// A row of no items, which takes no memory.
+    pub fn new(alloc: Global) -> Row<T>
+        ensures { result ≡ [] }
+    {
+        Row {
+            items: Vec::new(alloc),
+        }
+    }
+
+    /// The row of the items of a `Vec`, which it keeps.
+    pub fn from_vec(items: Vec<T>) -> Row<T>
+        ensures { result ≡ items.items }
+    {
+        Row { items }
+    }
+
+    /// The items as a `Vec`.
+    pub fn into_vec(self) -> Vec<T>
+        ensures { result.items ≡ self }
+    {
+        self.items
+    }
+
+    /// The items in their order.
+    pub fn as_slice(&self) -> &[T]
+        ensures { result.now ≡ self.now }
+    {
+        self.items.as_slice()
+    }
+
+    /// How many items there are.
+    pub fn len(&self) -> usize
+        ensures { result ≡ length self.now }
+    {
+        self.items.len()
+    }
+
+    /// Whether there is no item.
+    pub fn is_empty(&self) -> bool
+        ensures { result ≡ (length self.now == 0) }
+    {
+        self.items.is_empty()
+    }
+}
+
+impl<T: Clone> Clone for Row<T> {
+    ghost is_clone = { λ row copy. AllZip T.is_clone row copy };
+
+    fn clone(&self) -> Result<Row<T>, AllocError> {
+        Ok(Row {
+            items: self.items.clone()?,
+        })
+    }
+}
+
+impl<T: PartialEq> PartialEq for Row<T> {
+    ghost eq = { pointwise T.eq };
+
+    ghost laws = { lists_per T.laws };
+
+    fn eq(&self, other: &Row<T>) -> bool {
+        self.items == other.items
+    }
+}
+
+impl<T: Eq> Eq for Row<T> {
+    ghost laws = { lists_equiv T.Eq.laws };
+}

@@ -1,0 +1,77 @@
+//! Tokens, and why a source has none.
+
+ghost use Rattle.std.specs.Prelude.{◌≡◌, ◌<◌, ◌^◌};
+ghost use Rattle.proto_tokens.specs.declared.token.TokenError.TheVariants as errors;
+
+use crate::kind::Kind;
+use crate::place::{Place, Span};
+use std::alloc::{AllocError, AllocFailed};
+use std::borrow::CowStr;
+use thiserror::Error;
+
+/// A token, and the bytes of the source that it is.
+#[derive(Debug, Drop)]
+pub struct Token<'s> {
+    pub kind: TokenKind<'s>,
+    pub span: Span,
+}
+
+/// The tokens of a source in their order, and the place behind its last byte.
+#[derive(Debug, Drop)]
+pub struct Tokens<'s> {
+    pub items: Vec<Token<'s>>,
+    pub end: Place,
+}
+
+/// What a token is. Every keyword is an identifier.
+#[derive(Debug, Drop)]
+pub enum TokenKind<'s> {
+    /// A letter or `_`, then letters, digits and `_`; borrowed from the source.
+    Identifier(&'s str),
+    /// An integer literal, decimal, octal or hexadecimal, by its value.
+    Number(u64),
+    /// A string literal, by its value, which borrows the source where no escape stands in it.
+    StringLiteral(CowStr<'s>),
+    /// Any other visible ASCII character.
+    Punctuation(char),
+}
+
+/// Why a source has no tokens.
+#[derive(Debug, Drop, Error)]
+pub enum TokenError {
+    /// Its first fault, and where.
+    #[error("{1} at byte {0}")]
+    At(Place, Kind),
+    /// No memory for the tokens.
+    #[error("out of memory")]
+    NoMemory,
+}
+
+impl From<AllocError> for TokenError {
+    ghost from_gives = { λ _ e. e ≡ errors.NoMemory };
+
+    fn from(_error: AllocError) -> TokenError {
+        TokenError::NoMemory
+    }
+}
+
+impl<T: Drop> From<AllocFailed<T>> for TokenError {
+    ghost from_gives = { λ _ e. e ≡ errors.NoMemory };
+
+    fn from(_error: AllocFailed<T>) -> TokenError {
+        TokenError::NoMemory
+    }
+}
+
+/// The error that tells a fault at a place, given in bytes from the source's first.
+pub(crate) fn fault_at(offset: usize, kind: Kind) -> TokenError
+    requires { offset < 2 ^ 32 }
+    ensures { result ≡ errors.At (record { offset = offset }) kind }
+{
+    TokenError::At(
+        Place {
+            offset: offset as u32,
+        },
+        kind,
+    )
+}

@@ -1,0 +1,5 @@
+mod FilterMaps
+mod FirstFound
+mod JsonNames
+mod Refusals
+mod Starts

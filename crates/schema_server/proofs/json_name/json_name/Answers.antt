@@ -1,0 +1,20 @@
+use Rattle.std.proofs.Common.{arith, inl, inr, sym, ◌∙◌}
+use Rattle.schema_server.proofs.JsonNames.{json_name_unchanged, so_far_start, so_far_dropped, so_far_pushed, so_far_end, raised_as}
+use Rattle.std.proofs.lemmas.Bool.Decides.{nat_tests}
+use Rattle.schema_server.proofs.json_name.json_name.Goals as goal
+use Rattle.schema_server.proofs.json_name.json_name.Goals.{then-before-eq95, else-before-eq95}
+
+pub returns-then-not-has_underscore : goal.returns-then-not-has_underscore
+returns-then-not-has_underscore c = c.borrowed.ensures ∙ sym (json_name_unchanged c.args.name.now c.utf8.name (sym c.has_underscore.ensures ∙ c.if-not-has_underscore.true))
+
+pub loop-letter-init : goal.loop-letter-init
+loop-letter-init c = rw (c.new-json.ensures.bytes, c.into_iter-letter-iterator.ensures.into_iter_gives, c.chars-letter-items.ensures.rest) (so_far_start c.args.name.now c.utf8.name)
+
+pub loop-letter-preserved-in_ok-push : goal.loop-letter-preserved-in_ok-push
+loop-letter-preserved-in_ok-push c = so_far_pushed _ _ _ _ c.in-Some.letter c.if-before-eq95.push _ _ c.loop-letter.invariant c.in-Some.ensures.steps.0 (grind (arith, nat_tests)) (raised_as c.loop-letter.before c.in-Some.letter c.if-before-eq95.push (elim c.if-before-eq95.branch [ then-before-eq95 w ↦ inl (w.if-before-eq95.true, w.push-is ∙ c.to_ascii_uppercase-raised.ensures.value) | else-before-eq95 w ↦ inr (w.if-before-eq95.false, w.push-is) ])) c.in_ok-push.ensures.bytes
+
+pub loop-letter-preserved : goal.loop-letter-preserved
+loop-letter-preserved c = so_far_dropped _ _ _ _ c.in-Some.letter _ c.loop-letter.invariant c.in-Some.ensures.steps.0 c.if-letter-ne95.false
+
+pub returns : goal.returns
+returns c = c.owned.ensures ∙ so_far_end _ _ _ _ c.loop-letter.invariant c.in-None.ensures.steps.0.0

@@ -1,0 +1,46 @@
+-- What describing one source answers.
+use Rattle.std.specs.Prelude.{◌≡◌, ℕ, ◌≤◌, List, [], ◌⊎◌, length, string_bytes}
+use Rattle.proto_tokens.specs.Token.{Spelled}
+use Rattle.proto_tokens.specs.Spelling.{IsTokenList, IsFault}
+use Rattle.proto_tokens.specs.declared.fault.Fault.{Fault}
+use Rattle.proto_tokens.specs.declared.kind.Kind.{Kind}
+use Rattle.proto_tokens.specs.declared.kind.Kind.TheVariants.{Unexpected, UnexpectedEnd}
+use Rattle.proto_syntax.specs.Fault.{IsTreeOf}
+use Rattle.proto_syntax.specs.Trees.{file_tree}
+use Rattle.proto_syntax.specs.declared.tree.file.FileTree.{FileTree}
+use Rattle.schema_server.specs.Lowering.{lowered}
+use Rattle.schema_server.specs.Outside.{outside}
+use Rattle.schema_server.specs.DescriptorBytes.{file_desc_bytes}
+use Rattle.schema_server.specs.declared.compile_error.CompileError.{CompileError}
+use Rattle.schema_server.specs.declared.compile_error.CompileError.TheVariants as errors
+
+-- The text, of at most so many bytes, is a file whose messages have at most that depth, with this tree.
+abbrev pub IsFile : (bytes depth : ℕ) → List ℕ → FileTree → Type 0
+IsFile bytes depth text file = (ts : List Spelled) × IsTokenList bytes text ts × IsTreeOf depth ts (file_tree file)
+
+-- All of the file is described, and these bytes are its descriptor's.
+abbrev pub IsDescribedBy : (bytes depth : ℕ) → (name text descriptor : List ℕ) → Type 0
+IsDescribedBy bytes depth name text descriptor = (file : FileTree) × IsFile bytes depth text file × (outside file ≡ []) × (descriptor ≡ file_desc_bytes (lowered name file))
+
+-- the step of pass 1 that found a fault: 0 for the tokens, 1 for the grammar and for what is not described yet
+abbrev pub IsFoundIn : (bytes depth : ℕ) → List ℕ → (step place : ℕ) → Kind → Type 0
+IsFoundIn bytes depth text step place kind =
+    ((step ≡ 0) × IsFault bytes text place kind)
+    ⊎ ((step ≡ 1) × (ts : List Spelled) × IsTokenList bytes text ts × ((kind ≡ Unexpected) ⊎ (kind ≡ UnexpectedEnd)))
+
+pub record IsFaultFound (bytes depth : ℕ) (name text : List ℕ) (fault : Fault) : Type 0 where
+  pub pass : fault.pass ≡ 1
+  pub file : string_bytes fault.file ≡ name
+  pub within : fault.place.offset ≤ length text
+  pub short : fault.place.offset ≤ bytes
+  pub found : IsFoundIn bytes depth text fault.step fault.place.offset fault.kind
+
+-- want of memory is no fault
+abbrev pub IsRefusal : (bytes depth : ℕ) → (name text : List ℕ) → CompileError → Type 0
+IsRefusal bytes depth name text (errors.First fault) = IsFaultFound bytes depth name text fault
+IsRefusal bytes depth name text errors.NoMemory = Unit {0}
+
+-- the error is for want of memory, or names this fault of the tokens
+abbrev pub TellsTokenFault : (place : ℕ) → Kind → CompileError → Type 0
+TellsTokenFault place kind (errors.First fault) = (fault.step ≡ 0) × (fault.place.offset ≡ place) × (fault.kind ≡ kind)
+TellsTokenFault place kind errors.NoMemory = Unit {0}

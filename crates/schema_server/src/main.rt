@@ -1,0 +1,33 @@
+//! A schema server for Protocol Buffers.
+#![tactic(auto)]
+
+mod command_line;
+mod compile_error;
+mod describe;
+mod descriptor;
+mod descriptor_bytes;
+mod json_name;
+mod lowering;
+mod outside;
+mod program;
+#[cfg(test)]
+mod tests;
+
+use std::process::ExitCode;
+use std::{env, io};
+
+fn status(rt: &HostRuntime) -> io::Result<u8> {
+    let words: Vec<String> = env::args(rt)?.collect(rt.alloc())?;
+    let mut views = Vec::new(rt.alloc());
+    for word in words.iter() {
+        views.push(word.as_str())?;
+    }
+    Ok(program::run(rt, views.as_slice(), rt.stdin(), rt.stdout(), rt.stderr()))
+}
+
+fn main(rt: HostRuntime) -> ExitCode {
+    match status(&rt) {
+        Ok(status) => ExitCode::from(status),
+        Err(_) => ExitCode::from(4),
+    }
+}

@@ -1,0 +1,41 @@
+#!/usr/bin/env bash
+# Each allocation of the program refused in turn: it ends with 4 and `out of memory`, or as if nothing had been refused.
+set -u
+cd "$(dirname "$(readlink -f "$0")")/.." || exit 2
+folder=$(mktemp -d) || exit 2
+trap 'rm -rf "$folder"' EXIT
+cc -shared -fPIC -O1 -o "$folder/refuse.so" tests/refused_memory.c -ldl || exit 2
+./schema_server --help >/dev/null 2>&1
+program=crates/schema_server/out/schema_server
+failures=0
+
+# sweep STATUS OUTPUT FAULTS INPUT WORD..: as without a refusal, or out of memory, at each allocation.
+sweep() {
+    local status=$1 output=$2 faults=$3 input=$4 at=1
+    shift 4
+    while [ "$at" -le 2000 ]; do
+        printf '%b' "$input" | REFUSE_AT=$at LD_PRELOAD="$folder/refuse.so" "$program" "$@" >"$folder/output" 2>"$folder/faults" 9>"$folder/refused"
+        local got=$?
+        local as_usual=0 no_memory=0
+        [ "$got" = "$status" ] && [ "$(cat "$folder/output")" = "$output" ] && [ "$(cat "$folder/faults")" = "$faults" ] && as_usual=1
+        [ "$got" = 4 ] && [ ! -s "$folder/output" ] && [ "$(cat "$folder/faults")" = "out of memory" ] && no_memory=1
+        if [ ! -s "$folder/refused" ]; then
+            [ "$as_usual" = 1 ] && return
+            echo "$*: without a refusal: status $got, $(cat "$folder/faults")"
+            failures=$((failures + 1))
+            return
+        fi
+        if [ "$as_usual" = 0 ] && [ "$no_memory" = 0 ]; then
+            echo "$*: allocation $at refused: status $got, output '$(cat "$folder/output")', faults '$(cat "$folder/faults")'"
+            failures=$((failures + 1))
+        fi
+        at=$((at + 1))
+    done
+    echo "$*: no end after 2,000 allocations"
+    failures=$((failures + 1))
+}
+
+P='syntax = "proto3"; '
+sweep 0 0a07612e70726f746f22110a0141120c0a0178180120012805520178620670726f746f33 '' "${P}message A { int32 x = 1; }" describe a.proto
+sweep 1 '' 'e.proto:1:1: UnexpectedEnd' '' describe e.proto
+[ "$failures" = 0 ]
