@@ -36,13 +36,12 @@ pub enum TokenKind<'s> {
     Punctuation(char),
 }
 
-/// Why a source has no tokens.
+/// Why a source has no tokens: `At` names its first fault and where it stands, `NoMemory` that the
+/// allocator had no memory for them.
 #[derive(Debug, Drop, Error)]
 pub enum TokenError {
-    /// Its first fault, and where.
     #[error("{1} at byte {0}")]
     At(Place, Kind),
-    /// No memory for the tokens.
     #[error("out of memory")]
     NoMemory,
 }

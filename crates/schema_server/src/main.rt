@@ -28,6 +28,10 @@ fn status(rt: &HostRuntime) -> io::Result<u8> {
 fn main(rt: HostRuntime) -> ExitCode {
     match status(&rt) {
         Ok(status) => ExitCode::from(status),
-        Err(_) => ExitCode::from(4),
+        // The words could not be had: there was no memory for them.
+        Err(_) => {
+            let _ = eprintln!(rt; "out of memory");
+            ExitCode::from(4)
+        }
     }
 }
