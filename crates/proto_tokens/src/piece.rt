@@ -1,12 +1,12 @@
 //! The pieces that a source is cut into.
 
-ghost use Rattle.std.specs.Prelude.{◌≡◌, ◌==◌, ◌+◌, ◌<◌, ◌≤◌, ◌^◌, ℕ, None, Some, length, take, drop, slice_index, IsTrue, IsFalse, MatchOption, MatchResult};
+ghost use Rattle.std.specs.Prelude.{◌≡◌, ◌+◌, ◌<◌, ◌≤◌, ◌^◌, Some, length, take, drop, IsTrue, MatchOption, MatchResult};
 ghost use Rattle.std.specs.List.{prefix_len};
 ghost use Rattle.std.specs.Option.{option_map};
 ghost use Rattle.std.specs.Char.{is_ascii_digit};
 ghost use Rattle.proto_tokens.specs.Bytes as spec;
 ghost use Rattle.proto_tokens.specs.Piece.{HasNoClose, IsLongestPiece, IsPieceFault};
-ghost use Rattle.proto_tokens.specs.Token.{identifier, number, string_literal, punctuation, lexeme_of};
+ghost use Rattle.proto_tokens.specs.Token.{number, punctuation, lexeme_of};
 ghost use Rattle.proto_tokens.specs.Steps.{IsFirstClose, IsFaultAfter};
 
 use crate::bytes::{

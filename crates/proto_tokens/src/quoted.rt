@@ -1,10 +1,10 @@
 //! String literals.
 
-ghost use Rattle.std.specs.Prelude.{◌≡◌, ◌≢◌, ◌+◌, ◌<◌, ◌≤◌, ◌^◌, ℕ, List, ◌∷◌, ◌++◌, Some, length, drop, slice_index, IsTrue, MatchResult};
+ghost use Rattle.std.specs.Prelude.{◌≡◌, ◌+◌, ◌<◌, ◌≤◌, ◌^◌, ◌∷◌, Some, length, drop, IsTrue, MatchResult};
 ghost use Rattle.std.specs.List.{prefix_len};
 ghost use Rattle.std.specs.Cow.{cow_str_bytes};
 ghost use Rattle.proto_tokens.specs.Bytes.{begins, is_quote};
-ghost use Rattle.proto_tokens.specs.Quoted.{is_plain, HasByteAt};
+ghost use Rattle.proto_tokens.specs.Quoted.{is_plain};
 ghost use Rattle.proto_tokens.specs.Token.{string_literal};
 ghost use Rattle.proto_tokens.specs.Piece.{IsLongestPiece};
 ghost use Rattle.proto_tokens.specs.Steps.{IsFaultAfter, IsClosed};

@@ -1,8 +1,7 @@
 //! Sources as lists of tokens.
 
-ghost use Rattle.std.specs.Prelude.{◌≡◌, ◌+◌, ◌<◌, ◌≤◌, ◌^◌, ℕ, length, drop, List, map, IfOk, IfErr, IsErrAnd, MatchResult};
+ghost use Rattle.std.specs.Prelude.{◌≡◌, ◌<◌, ◌≤◌, ◌^◌, ℕ, length, List, map, IfOk, IfErr, IsErrAnd, MatchResult};
 ghost use Rattle.proto_tokens.specs.Limits.{limit_of};
-ghost use Rattle.proto_tokens.specs.Piece.{IsLongestPiece};
 ghost use Rattle.proto_tokens.specs.Token.{Spelled, spelled, tokens_of};
 ghost use Rattle.proto_tokens.specs.Spelling.{IsPlacedWithin, mark_len, SpellsFrom, IsTokenList, IsFault, IsFaultOf, TellsFault};
 ghost use Rattle.proto_tokens.specs.Steps.{IsFaultFrom};
