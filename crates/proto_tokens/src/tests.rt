@@ -400,6 +400,7 @@ fn rows(rt: HostRuntime) -> Result<(), Fail> {
     assert_eq!(rt; row.len(), 3);
     assert!(rt; !row.is_empty());
     assert_eq!(rt; row.as_slice(), [1, 2, 3].as_slice());
+    assert_eq!(rt; row.iter().position(|item| *item == 2), Some(1));
     let copy = row.clone()?;
     assert!(rt; copy == row);
     assert!(rt; copy != none);
