@@ -58,12 +58,15 @@ pub item_message : (m : Message) → message_item_tree (of.Message m) ≡ Left (
 item_message m = ap message_item_tree (sym (of.rolls-Message m)) ∙ fold-roll-MessageItem Tree Tree item_step message_step (opened.Message m) ∙ ap Left (fold_message m)
 
 -- a field whose type begins with the word `map`
-pub named_map : (n : FullName) (d : Declarator) → n.first.text ≡ codes "map" → unlabelled_tree None n d ≡ Left (Pair (name_tree n.first) (Pair (Right (row part_tree n.rest)) (declarator_tree d)))
+named_map : (n : FullName) (d : Declarator) → n.first.text ≡ codes "map" → unlabelled_tree None n d ≡ Left (Pair (name_tree n.first) (Pair (Right (row part_tree n.rest)) (declarator_tree d)))
 named_map n d e = by_cases (bytes_eq n.first.text (codes "map")) ((bytes_eq-Decides n.first.text (codes "map")).1 e) (Left (Pair (name_tree n.first) (Pair (Right (row part_tree n.rest)) (declarator_tree d)))) (Right (Right (Pair (Right (Right (Right (full_tree n)))) (declarator_tree d))))
   where
     by_cases : (b : Bool) → b ≡ true → (x y : Tree) → cond b x y ≡ x
     by_cases true h x y = refl
     by_cases false h x y = cc
+
+pub item_named : (n : FullName) (d : Declarator) → n.first.text ≡ codes "map" → message_item_tree (of.Field (record { label = None; field_type = Named (record { dot = None; name = n }); declarator = d })) ≡ Right (Right (Right (Right (Right (Left (Pair (name_tree n.first) (Pair (Right (row part_tree n.rest)) (declarator_tree d))))))))
+item_named n d e = item_field (record { label = None; field_type = Named (record { dot = None; name = n }); declarator = d }) ∙ ap (λ x. Right (Right (Right (Right (Right x))))) (named_map n d e)
 
 -- and one whose type does not
 not_named : (n : FullName) (d : Declarator) → bytes_eq n.first.text (codes "map") ≡ false → unlabelled_tree None n d ≡ Right (Right (Pair (Right (Right (Right (full_tree n)))) (declarator_tree d)))

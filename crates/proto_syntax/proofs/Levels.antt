@@ -3,9 +3,9 @@ use Rattle.std.proofs.Common.{◌≡◌, ℕ, zero, suc, true, false, List, [], 
 use Rattle.std.specs.Prelude.{codes}
 use Rattle.std.specs.Str.{byte}
 use Rattle.proto_tokens.specs.Token.{Spelled}
-use Rattle.proto_syntax.specs.Grammar.{Tree, Left, Right, Class, OneOf, Symbol, Grammar}
+use Rattle.proto_syntax.specs.Grammar.{Tree, Left, Right, OneOf, Symbol, Grammar}
 use Rattle.proto_syntax.specs.Reading.{read, Read, next_fits, all_apart, begins, goes_on, can_be_empty, decides}
-use Rattle.proto_syntax.specs.Language.{scalar_words, str, parts, full, named_but, type_but, signed, constant_number, constant, setting, options, option, rpc_type, rpc_body, rpc, service, erange, ereserved, value, range, reserved, declarator, member, oneof, map_entry, map_or_field, field_head, field, message_item, message, import, syntax, statement, file}
+use Rattle.proto_syntax.specs.Language.{str, parts, full, named_but, type_but, signed, constant_number, constant, setting, options, option, rpc_type, rpc_item, rpc_body, rpc, service_item, service, erange, ereserved, value, enum_item, range, reserved, declarator, member, oneof_item, oneof, map_type, map_or_field, field_head, field, message_item, message, import, syntax, statement, file}
 use Rattle.proto_syntax.proofs.Begins.{apart_other}
 
 -- what is used of the messages one level down
@@ -16,11 +16,11 @@ pub record IsLevel (m : Grammar) : Type 0 where
   pub decided : decides m ≡ true
 
 pub item_decides : (m : Grammar) → IsLevel m → decides (message_item m) ≡ true
-unfolding str parts full named_but type_but signed constant_number constant setting options option erange ereserved value range reserved declarator member oneof map_entry map_or_field field_head field
+unfolding str parts full named_but type_but signed constant_number constant setting options option erange ereserved value range reserved declarator member oneof map_type map_or_field field_head field
 item_decides m h = rw (h.begins_so, h.has_tokens, h.decided) refl
 
 pub level : (depth : ℕ) → IsLevel (message depth)
-unfolding str parts full named_but type_but signed constant_number constant setting options option erange ereserved value range reserved declarator member oneof map_entry map_or_field field_head field message
+unfolding str parts full named_but type_but signed constant_number constant setting options option erange ereserved value range reserved declarator member oneof map_type map_or_field field_head field message
 level zero = record { begins_so = refl; ends_so = refl; has_tokens = refl; decided = refl }
 level (suc depth) = let h = level depth in record { begins_so = refl; ends_so = refl; has_tokens = refl; decided = rw (h.begins_so, h.has_tokens, h.decided, h.ends_so) (refl {a = true}) }
 
@@ -72,24 +72,87 @@ begins_map = refl
 pub item_at_field : (m : Grammar) → IsLevel m → (ts us : List Spelled) (x : Tree) → next_fits (OneOf (codes "message" ∷ []) ∷ []) ts ≡ false → next_fits (OneOf (codes "enum" ∷ []) ∷ []) ts ≡ false → next_fits (OneOf (codes "option" ∷ []) ∷ []) ts ≡ false → next_fits (OneOf (codes "oneof" ∷ []) ∷ []) ts ≡ false → next_fits (OneOf (codes "reserved" ∷ []) ∷ []) ts ≡ false → next_fits (OneOf (codes "map" ∷ []) ∷ []) ts ≡ false → next_fits (Symbol (byte ";") ∷ []) ts ≡ false → read field ts ≡ Read x us → read (message_item m) ts ≡ Read (Right (Right (Right (Right (Right (Right (Right x))))))) us
 item_at_field m h ts us x e1 e2 e3 e4 e5 e6 e7 r = rw (h.begins_so, e1, e2, begins_option, e3, begins_oneof, e4, begins_reserved, e5, begins_map, e6, e7, r) refl
 
--- what begins with one of ds begins with none of cs
-pub other_than : (cs ds : List Class) (ts : List Spelled) → all_apart cs ds ≡ true → next_fits ds ts ≡ true → next_fits cs ts ≡ false
-other_than cs ds [] h e = refl
-other_than cs ds (t ∷ ts) h e = apart_other cs ds t.lexeme h e
+pub begins_ereserved : begins ereserved ≡ OneOf (codes "reserved" ∷ []) ∷ []
+unfolding ereserved
+begins_ereserved = refl
 
--- a word of a scalar type begins no other statement
-pub item_at_scalar : (m : Grammar) → IsLevel m → (ts us : List Spelled) (x : Tree) → next_fits (OneOf scalar_words ∷ []) ts ≡ true → read field ts ≡ Read x us → read (message_item m) ts ≡ Read (Right (Right (Right (Right (Right (Right (Right x))))))) us
-item_at_scalar m h ts us x e r =
-    item_at_field m h ts us x (other (OneOf (codes "message" ∷ [])) refl) (other (OneOf (codes "enum" ∷ [])) refl) (other (OneOf (codes "option" ∷ [])) refl) (other (OneOf (codes "oneof" ∷ [])) refl)
-    (other (OneOf (codes "reserved" ∷ [])) refl) (other (OneOf (codes "map" ∷ [])) refl) (other (Symbol (byte ";")) refl) r
-  where
-    other : (c : Class) → all_apart (c ∷ []) (OneOf scalar_words ∷ []) ≡ true → next_fits (c ∷ []) ts ≡ false
-    other c h = other_than (c ∷ []) (OneOf scalar_words ∷ []) ts h e
+pub begins_rpc : begins rpc ≡ OneOf (codes "rpc" ∷ []) ∷ []
+unfolding rpc
+begins_rpc = refl
 
--- a statement of a file that begins with the word `message`
-pub statement_at_message : (m : Grammar) → IsLevel m → (ts us : List Spelled) (x : Tree) → next_fits (OneOf (codes "message" ∷ []) ∷ []) ts ≡ true → read m ts ≡ Read x us → read (statement m) ts ≡ Read (Right (Right (Right (Left x)))) us
-unfolding import option
-statement_at_message m h ts us x e r = rw (other (OneOf (codes "import" ∷ [])) refl, other (OneOf (codes "package" ∷ [])) refl, other (OneOf (codes "option" ∷ [])) refl, h.begins_so, e, r) refl
-  where
-    other : (c : Class) → all_apart (c ∷ []) (OneOf (codes "message" ∷ []) ∷ []) ≡ true → next_fits (c ∷ []) ts ≡ false
-    other c h = other_than (c ∷ []) (OneOf (codes "message" ∷ []) ∷ []) ts h e
+pub begins_import : begins import ≡ OneOf (codes "import" ∷ []) ∷ []
+unfolding import
+begins_import = refl
+
+pub begins_service : begins service ≡ OneOf (codes "service" ∷ []) ∷ []
+unfolding service
+begins_service = refl
+
+-- what does not begin with the symbol that closes a block
+closed : (g : Grammar) → all_apart (begins g) (Symbol (byte "}") ∷ []) ≡ true → (ts : List Spelled) → next_fits (Symbol (byte "}") ∷ []) ts ≡ true → next_fits (begins g) ts ≡ false
+closed g h [] e = refl
+closed g h (t ∷ ts) e = apart_other (begins g) (Symbol (byte "}") ∷ []) t.lexeme h e
+
+pub oneof_decides : decides oneof_item ≡ true
+unfolding str parts full named_but type_but constant_number constant setting options option declarator member
+oneof_decides = refl {a = true}
+
+pub oneof_not_empty : can_be_empty oneof_item ≡ false
+unfolding option member named_but type_but parts full declarator
+oneof_not_empty = refl {a = false}
+
+oneof_apart : all_apart (begins oneof_item) (Symbol (byte "}") ∷ []) ≡ true
+unfolding option member named_but type_but parts full declarator
+oneof_apart = refl {a = true}
+
+pub oneof_closed : (ts : List Spelled) → next_fits (Symbol (byte "}") ∷ []) ts ≡ true → next_fits (begins oneof_item) ts ≡ false
+oneof_closed = closed oneof_item oneof_apart
+
+pub enum_decides : decides enum_item ≡ true
+unfolding str parts full signed constant_number constant setting options option erange ereserved value
+enum_decides = refl {a = true}
+
+pub enum_not_empty : can_be_empty enum_item ≡ false
+unfolding option ereserved value
+enum_not_empty = refl {a = false}
+
+enum_apart : all_apart (begins enum_item) (Symbol (byte "}") ∷ []) ≡ true
+unfolding option ereserved value
+enum_apart = refl {a = true}
+
+pub enum_closed : (ts : List Spelled) → next_fits (Symbol (byte "}") ∷ []) ts ≡ true → next_fits (begins enum_item) ts ≡ false
+enum_closed = closed enum_item enum_apart
+
+pub rpc_decides : decides rpc_item ≡ true
+unfolding str parts full constant_number constant setting option
+rpc_decides = refl {a = true}
+
+pub rpc_not_empty : can_be_empty rpc_item ≡ false
+unfolding option
+rpc_not_empty = refl {a = false}
+
+rpc_apart : all_apart (begins rpc_item) (Symbol (byte "}") ∷ []) ≡ true
+unfolding option
+rpc_apart = refl {a = true}
+
+pub rpc_closed : (ts : List Spelled) → next_fits (Symbol (byte "}") ∷ []) ts ≡ true → next_fits (begins rpc_item) ts ≡ false
+rpc_closed = closed rpc_item rpc_apart
+
+pub service_decides : decides service_item ≡ true
+unfolding str parts full named_but constant_number constant setting option rpc_type rpc_body rpc
+service_decides = refl {a = true}
+
+pub service_not_empty : can_be_empty service_item ≡ false
+unfolding option rpc
+service_not_empty = refl {a = false}
+
+service_apart : all_apart (begins service_item) (Symbol (byte "}") ∷ []) ≡ true
+unfolding option rpc
+service_apart = refl {a = true}
+
+pub service_closed : (ts : List Spelled) → next_fits (Symbol (byte "}") ∷ []) ts ≡ true → next_fits (begins service_item) ts ≡ false
+service_closed = closed service_item service_apart
+
+-- a statement of a file that begins with the word `option`
+pub statement_at_option : (m : Grammar) (ts us : List Spelled) (x : Tree) → next_fits (OneOf (codes "import" ∷ []) ∷ []) ts ≡ false → next_fits (OneOf (codes "package" ∷ []) ∷ []) ts ≡ false → next_fits (OneOf (codes "option" ∷ []) ∷ []) ts ≡ true → read option ts ≡ Read x us → read (statement m) ts ≡ Read (Right (Right (Left x))) us
+statement_at_option m ts us x e1 e2 e3 r = rw (begins_import, e1, e2, begins_option, e3, r) refl

@@ -4,8 +4,13 @@ pub mod Begins
 pub mod Complete
 pub mod Reach
 pub mod Deeper
+pub mod Prefix
 pub mod WordTests
 pub mod Loops
+pub mod Fails
 pub mod Levels
 pub mod Items
+pub mod Limits
 pub mod Faults
+pub mod Spellings
+pub mod Unique

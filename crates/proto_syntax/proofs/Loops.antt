@@ -210,7 +210,7 @@ ends_none f g ts = ap ended (rows_none f g ts)
 pub ends_more : {A : Type 0} → (f : A → Tree) (g : Grammar) (xs : List A) (x : A) (ts us : List Spelled) (o : Outcome) → decides g ≡ true → can_be_empty g ≡ false → read g ts ≡ Read (f x) us → Ends f g xs ts ≡ o → Ends f g (xs ++ (x ∷ [])) us ≡ o
 ends_more f g xs x ts us o d h i k = ap ended (rows_more f g xs x ts us (Rows f g xs ts) h (read_begins g (f x) ts us d h i) i refl) ∙ k
 
-ends_stop : {A : Type 0} → (f : A → Tree) (g : Grammar) (xs : List A) (d : Bool) (t : Spelled) (ts us : List Spelled) (o : Outcome) → decides g ≡ true → can_be_empty g ≡ false → read g (t ∷ ts) ≡ Stops d us → Ends f g xs (t ∷ ts) ≡ o → o ≡ Stops d us
+pub ends_stop : {A : Type 0} → (f : A → Tree) (g : Grammar) (xs : List A) (d : Bool) (t : Spelled) (ts us : List Spelled) (o : Outcome) → decides g ≡ true → can_be_empty g ≡ false → read g (t ∷ ts) ≡ Stops d us → Ends f g xs (t ∷ ts) ≡ o → o ≡ Stops d us
 ends_stop f g xs d t ts us o dg h i k = by_cases (next_fits (begins g) (t ∷ ts)) refl
   where
     by_cases : (z : Bool) → next_fits (begins g) (t ∷ ts) ≡ z → o ≡ Stops d us

@@ -188,11 +188,11 @@ oneof = word "oneof" ⨾ ident ⨾ symbol "{" ⨾ Many oneof_item ⨾ symbol "}"
 --
 -- A statement of a message that begins with `map` is a map where `<` follows, and else a field whose type begins with
 -- that word. One token tells them apart only behind the word, so both stand here.
-unfoldable pub map_entry : Grammar
-map_entry = symbol "<" ⨾ key ⨾ symbol "," ⨾ type_but [] ⨾ symbol ">"
+unfoldable pub map_type : Grammar
+map_type = symbol "<" ⨾ key ⨾ symbol "," ⨾ type_but [] ⨾ symbol ">"
 
 unfoldable pub map_or_field : Grammar
-map_or_field = word "map" ⨾ (map_entry ∣ parts) ⨾ declarator
+map_or_field = word "map" ⨾ (map_type ∣ parts) ⨾ declarator
 
 -- field = [ "optional" | "repeated" ] type ident "=" number [ options ] ";"
 --

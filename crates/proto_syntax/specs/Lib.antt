@@ -5,4 +5,4 @@ pub mod Fault
 pub mod Trees
 pub mod Reading
 pub mod Gives
-pub mod Refusal
+pub mod Position

@@ -33,6 +33,7 @@ use Rattle.proto_syntax.specs.declared.tree.literal.SignedNumber.{SignedNumber}
 use Rattle.proto_syntax.specs.declared.tree.literal.StringLiteral.{StringLiteral}
 use Rattle.proto_syntax.specs.declared.tree.literal.StringValue.{StringValue}
 use Rattle.proto_syntax.specs.declared.tree.map_field.MapField.{MapField}
+use Rattle.proto_syntax.specs.declared.tree.map_field.MapType.{MapType}
 use Rattle.proto_syntax.specs.declared.tree.message.Message.{Message, Message-F}
 use Rattle.proto_syntax.specs.declared.tree.message.MessageItem.{MessageItem, MessageItem-F, fold-MessageItem}
 use Rattle.proto_syntax.specs.declared.tree.message.MessageItem.TheOpen as message_item
@@ -273,16 +274,15 @@ oneof_item_tree (oneof_item.Field m) = Right (Right (member_tree m))
 abbrev pub oneof_tree : Oneof → Tree
 oneof_tree o = block_tree (codes "oneof") o.keyword o.name o.open_brace (row oneof_item_tree o.items) o.close_brace
 
--- a statement that begins with the word `map`, behind that word
-abbrev pub map_entry_tree : MapField → Tree
-map_entry_tree m =
+abbrev pub map_type_tree : MapType → Tree
+map_type_tree m =
     Pair (symbol_tree (byte "<") m.open_angle)
     (Pair (word_tree (word_of_key m.key) m.key_span)
     (Pair (symbol_tree (byte ",") m.comma)
     (Pair (type_tree m.value) (symbol_tree (byte ">") m.close_angle))))
 
 abbrev pub map_tree : MapField → Tree
-map_tree m = Pair (word_tree (codes "map") m.keyword) (Pair (Left (map_entry_tree m)) (declarator_tree m.declarator))
+map_tree m = Pair (word_tree (codes "map") m.keyword) (Pair (Left (map_type_tree m.map_type)) (declarator_tree m.declarator))
 
 abbrev pub label_tree : Label → Tree
 label_tree (label.Optional s) = Left (word_tree (codes "optional") s)

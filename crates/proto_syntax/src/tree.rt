@@ -23,7 +23,7 @@ pub use field::{Declarator, Field, FieldType, Label};
 pub use file::{FileTree, Import, Package, Statement, Syntax};
 pub use list::{Next, Separated};
 pub use literal::{NumberLiteral, SignedNumber, StringLiteral, StringValue};
-pub use map_field::MapField;
+pub use map_field::{MapField, MapType};
 pub use message::{Message, MessageItem};
 pub use name::{FullName, Name, NamePart, TypeName};
 pub use oneof::{Oneof, OneofField, OneofItem};

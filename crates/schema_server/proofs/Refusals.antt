@@ -1,26 +1,26 @@
 -- What the errors of describing say.
-use Rattle.std.proofs.Common.{◌∷◌, zero, suc, map, ◌<◌, slice_index_or, ◌≡◌, ◌∙◌, ℕ, ◌≤◌, List, [], inl, inr, Some, ap, sym, subst, length, arith}
+use Rattle.std.proofs.Common.{◌∷◌, zero, suc, map, ◌≡◌, ◌∙◌, ℕ, ◌≤◌, List, [], inl, inr, Some, ap, sym, refl, subst, length, arith}
 use Rattle.std.specs.Prelude.{slice_get}
-use Rattle.std.specs.List.{AllByRecursion}
-use Rattle.proto_tokens.specs.Token.{spelled, tokens_of}
+use Rattle.std.specs.Option.{option_map, unwrap_or}
+use Rattle.proto_tokens.specs.Token.{Spelled, spelled, tokens_of}
 use Rattle.proto_tokens.specs.declared.token.Token.{Token}
 use Rattle.proto_tokens.specs.Spelling.{IsTokenList, IsFault}
 use Rattle.proto_tokens.specs.declared.kind.Kind.{Kind}
-use Rattle.proto_tokens.specs.declared.kind.Kind.TheVariants.{Unexpected, UnexpectedEnd}
+use Rattle.proto_tokens.specs.declared.kind.Kind.TheVariants.{Unexpected}
 use Rattle.proto_tokens.specs.declared.place.Place.{Place}
 use Rattle.proto_tokens.specs.declared.token.Tokens.{Tokens}
-use Rattle.proto_syntax.specs.Fault.{IsTreeOf}
-use Rattle.proto_syntax.specs.Refusal.{IsRefusal as IsParseRefusal, no_memory, at_end, at_token}
-use Rattle.proto_syntax.specs.declared.error.ParseError.{ParseError}
-use Rattle.proto_syntax.specs.declared.error.ParseError.TheVariants as parse_error
+use Rattle.proto_tokens.proofs.Unique.{tokens_one}
+use Rattle.proto_syntax.specs.Fault.{IsTreeOf, IsFaultAt, IsKindOf, place_at}
 use Rattle.proto_syntax.specs.Trees.{file_tree}
 use Rattle.proto_syntax.specs.declared.tree.file.FileTree.{FileTree}
-use Rattle.schema_server.specs.Describe.{IsRefusal, TellsTokenFault}
+use Rattle.schema_server.specs.Describe.{IsFoundIn, IsGrammarFault, IsRefusal, TellsFault, place_of_token}
 use Rattle.schema_server.specs.Outside.{outside}
-use Rattle.schema_server.specs.Steps.{IsNamed, IsGrammarRefusal}
+use Rattle.schema_server.specs.Steps.{IsNamed, IsStepFault, IsGrammarRefusal, TellsGrammarFault}
 use Rattle.schema_server.specs.declared.compile_error.CompileError.{CompileError}
 use Rattle.schema_server.specs.declared.compile_error.CompileError.TheVariants as errors
 use Rattle.schema_server.proofs.Starts.{BeginWithin, tokens_within, outside_within}
+
+-- ---- faults of the tokens
 
 -- a fault within a text lies within the limit too
 fault_short : (bytes : ℕ) (s : List ℕ) (place : ℕ) (kind : Kind) → IsFault bytes s place kind → place ≤ length s → place ≤ bytes
@@ -38,47 +38,79 @@ token_refusal bytes depth name text place kind (errors.First fault) named is wit
 }
 token_refusal bytes depth name text place kind errors.NoMemory named is within = tt
 
-pub token_told : (name : List ℕ) (place : Place) (kind : Kind) (e : CompileError) (at : ℕ) (other : Kind) → IsNamed name 0 place kind e → (place.offset ≡ at) × (kind ≡ other) → TellsTokenFault at other e
+pub token_told : (name : List ℕ) (place : Place) (kind : Kind) (e : CompileError) (at : ℕ) (other : Kind) → IsNamed name 0 place kind e → (place.offset ≡ at) × (kind ≡ other) → TellsFault 0 at other e
 token_told name place kind (errors.First fault) at other named same = (named.2, ap (λ (p : Place). p.offset) named.3 ∙ same.0, named.4 ∙ same.1)
 token_told name place kind errors.NoMemory at other named same = tt
 
-pub grammar_refusal : (bytes depth : ℕ) (name text : List ℕ) (tokens : Tokens) (e : CompileError) → IsGrammarRefusal name tokens e → IsTokenList bytes text (tokens_of tokens) → tokens.end.offset ≡ length text → IsRefusal bytes depth name text e
+-- ---- where a token begins
+
+offset_of_token : (tokens : List Token) (k : ℕ) (end : Place) → (unwrap_or (option_map (λ (t : Token). t.span.start) (slice_get tokens k)) end).offset ≡ place_of_token (map spelled tokens) k end.offset
+offset_of_token [] zero end = refl
+offset_of_token [] (suc k) end = refl
+offset_of_token (t ∷ tokens) zero end = refl
+offset_of_token (t ∷ tokens) (suc k) end = offset_of_token tokens k end
+
+place_of : (tokens : Tokens) (k n : ℕ) (place : Place) → place ≡ place_at tokens k → tokens.end.offset ≡ n → place.offset ≡ place_of_token (tokens_of tokens) k n
+place_of tokens k n place at end = ap (λ (p : Place). p.offset) at ∙ offset_of_token tokens.items.items k tokens.end ∙ ap (place_of_token (tokens_of tokens) k) end
+
+token_within : (n : ℕ) (ts : List Spelled) (k : ℕ) → BeginWithin n ts → place_of_token ts k n ≤ n
+token_within n [] zero begin = omega arith
+token_within n [] (suc k) begin = omega arith
+token_within n (t ∷ ts) zero begin = begin.0
+token_within n (t ∷ ts) (suc k) begin = token_within n ts k begin.1
+
+-- ---- faults of the grammar, and what is not described
+
+step_found : (bytes depth : ℕ) (text : List ℕ) (tokens : Tokens) (place : Place) (kind : Kind) → IsStepFault depth tokens place kind → IsTokenList bytes text (tokens_of tokens) → tokens.end.offset ≡ length text → IsFoundIn bytes depth text 1 place.offset kind
+step_found bytes depth text tokens place kind (inl (k, fault, is_kind, at)) is end = inr (inl (refl, (tokens_of tokens, k, is, fault, is_kind, place_of tokens k (length text) place at end)))
+step_found bytes depth text tokens place kind (inr (file, tree, found, unexpected)) is end = inr (inr (refl, (file, (tokens_of tokens, is, tree), found), unexpected))
+
+step_within : (bytes depth : ℕ) (text : List ℕ) (tokens : Tokens) (place : Place) (kind : Kind) → IsStepFault depth tokens place kind → IsTokenList bytes text (tokens_of tokens) → tokens.end.offset ≡ length text → place.offset ≤ length text
+step_within bytes depth text tokens place kind (inl (k, fault, is_kind, at)) is end =
+    let within = token_within (length text) (tokens_of tokens) k (tokens_within bytes text (tokens_of tokens) is) in
+    subst (λ p. p ≤ length text) (sym (place_of tokens k (length text) place at end)) within
+step_within bytes depth text tokens place kind (inr (file, tree, found, unexpected)) is end =
+    outside_within (length text) file place.offset (subst (BeginWithin (length text)) (sym tree.tokens) (tokens_within bytes text (tokens_of tokens) is)) found
+
+pub grammar_refusal : (bytes depth : ℕ) (name text : List ℕ) (tokens : Tokens) (e : CompileError) → IsGrammarRefusal depth name tokens e → IsTokenList bytes text (tokens_of tokens) → tokens.end.offset ≡ length text → IsRefusal bytes depth name text e
 grammar_refusal bytes depth name text tokens (errors.First fault) refusal is end =
-    let within : fault.place.offset ≤ length text = refusal.4 (length text) (tokens_within bytes text (tokens_of tokens) is) (omega (arith, end)) in
+    let within = step_within bytes depth text tokens fault.place fault.kind refusal.3 is end in
     record {
       pass = refusal.0;
       file = refusal.1;
       within = within;
       short = omega (arith, within, is.short);
-      found = inr (refusal.2, tokens_of tokens, is, refusal.3);
+      found = subst (λ step. IsFoundIn bytes depth text step fault.place.offset fault.kind) (sym refusal.2) (step_found bytes depth text tokens fault.place fault.kind refusal.3 is end);
     }
 grammar_refusal bytes depth name text tokens errors.NoMemory refusal is end = tt
 
-pub outside_refusal : (depth : ℕ) (name : List ℕ) (tokens : Tokens) (file : FileTree) (place : Place) (e : CompileError) → IsNamed name 1 place Unexpected e → IsTreeOf depth (tokens_of tokens) (file_tree file) → slice_get (outside file) 0 ≡ Some place.offset → IsGrammarRefusal name tokens e
-outside_refusal depth name tokens file place (errors.First fault) named tree found = (
-  named.0,
-  named.1,
-  named.2,
-  inl named.4,
-  λ n begin end.
-      subst (λ (p : Place). p.offset ≤ n) (sym named.3) (outside_within n file place.offset (subst (BeginWithin n) (sym tree.tokens) begin) found),
-)
+-- what is not described, as the fault of this file
+pub outside_refusal : (depth : ℕ) (name : List ℕ) (tokens : Tokens) (file : FileTree) (place : Place) (e : CompileError) → IsNamed name 1 place Unexpected e → IsTreeOf depth (tokens_of tokens) (file_tree file) → slice_get (outside file) 0 ≡ Some place.offset → IsGrammarRefusal depth name tokens e
+outside_refusal depth name tokens file place (errors.First fault) named tree found =
+    (named.0, named.1, named.2, inr (file, tree, found ∙ ap (λ (p : Place). Some p.offset) (sym named.3), named.4))
 outside_refusal depth name tokens file place errors.NoMemory named tree found = tt
 
-token_at : (n : ℕ) (tokens : List Token) (k : ℕ) (t : Token) → k < length tokens → slice_index_or tokens k t ≡ t → AllByRecursion (λ u. u.start ≤ n) (map spelled tokens) → t.span.start.offset ≤ n
-token_at n [] k t within at begin = absurd (omega arith)
-token_at n (u ∷ tokens) zero t within at begin = let same : u.span.start.offset ≡ t.span.start.offset = ap (λ (v : Token). v.span.start.offset) at in omega (arith, begin.0, same)
-token_at n (u ∷ tokens) (suc k) t within at begin = token_at n tokens k t (omega arith) at begin.1
-
 -- what the parser refuses, as the fault of this file
-pub parse_refusal : (name : List ℕ) (tokens : Tokens) (place : Place) (kind : Kind) (e : CompileError) (refusal : ParseError) → IsNamed name 1 place kind e → IsParseRefusal tokens refusal → refusal ≡ parse_error.At place kind → IsGrammarRefusal name tokens e
-parse_refusal name tokens place kind errors.NoMemory refusal named is same = tt
-parse_refusal name tokens place kind (errors.First fault) _ named no_memory same = absurd (cc)
-parse_refusal name tokens place kind (errors.First fault) _ named at_end same =
-    let end : tokens.end ≡ fault.place = (let e : tokens.end ≡ place = cc in e ∙ sym named.3) in
-    let last : fault.kind ≡ UnexpectedEnd = (let e : UnexpectedEnd ≡ kind = cc in named.4 ∙ sym e) in
-    (named.0, named.1, named.2, inr last, λ n begin within. subst (λ (p : Place). p.offset ≤ n) end within)
-parse_refusal name tokens place kind (errors.First fault) _ named (at_token {t = t} found) same =
-    let start : t.span.start ≡ fault.place = (let e : t.span.start ≡ place = cc in e ∙ sym named.3) in
-    let unexpected : fault.kind ≡ Unexpected = (let e : Unexpected ≡ kind = cc in named.4 ∙ sym e) in
-    (named.0, named.1, named.2, inl unexpected, λ n begin within. subst (λ (p : Place). p.offset ≤ n) start (token_at n tokens.items.items found.0 t found.1 found.2 begin))
+pub parse_refusal : (depth : ℕ) (name : List ℕ) (tokens : Tokens) (place : Place) (kind : Kind) (e : CompileError) → IsNamed name 1 place kind e → (k : ℕ) × IsFaultAt depth (tokens_of tokens) k × IsKindOf (tokens_of tokens) k kind × (place ≡ place_at tokens k) → IsGrammarRefusal depth name tokens e
+parse_refusal depth name tokens place kind (errors.First fault) named (k, is, is_kind, at) =
+    (named.0, named.1, named.2, inl (k, is, subst (λ (found : Kind). IsKindOf (tokens_of tokens) k found) (sym named.4) is_kind, named.3 ∙ at))
+parse_refusal depth name tokens place kind errors.NoMemory named fault = tt
+
+pub parse_told : (name : List ℕ) (tokens : Tokens) (place : Place) (kind : Kind) (e : CompileError) (k : ℕ) (other : Kind) → IsNamed name 1 place kind e → (place ≡ place_at tokens k) × (kind ≡ other) → TellsGrammarFault tokens k other e
+parse_told name tokens place kind (errors.First fault) k other named same = (named.2, named.3 ∙ same.0, named.4 ∙ same.1)
+parse_told name tokens place kind errors.NoMemory k other named same = tt
+
+-- the fault of a text is one of the tokens that were found in it
+pub fault_of_tokens : (bytes depth : ℕ) (text : List ℕ) (tokens : Tokens) (place : ℕ) (kind : Kind) → IsTokenList bytes text (tokens_of tokens) → tokens.end.offset ≡ length text → IsGrammarFault bytes depth text place kind
+    → (k : ℕ) × IsFaultAt depth (tokens_of tokens) k × IsKindOf (tokens_of tokens) k kind × (place ≡ place_of_token (tokens_of tokens) k tokens.end.offset)
+fault_of_tokens bytes depth text tokens place kind is end (ts, k, spelled, fault, is_kind, at) =
+    let same : ts ≡ tokens_of tokens = tokens_one bytes text ts (tokens_of tokens) spelled is in (
+      k,
+      subst (λ us. IsFaultAt depth us k) same fault,
+      subst (λ us. IsKindOf us k kind) same is_kind,
+      at ∙ ap (λ us. place_of_token us k (length text)) same ∙ ap (place_of_token (tokens_of tokens) k) (sym end),
+    )
+
+pub grammar_told : (tokens : Tokens) (e : CompileError) (k place : ℕ) (kind : Kind) → TellsGrammarFault tokens k kind e → place ≡ place_of_token (tokens_of tokens) k tokens.end.offset → TellsFault 1 place kind e
+grammar_told tokens (errors.First fault) k place kind told at = (told.0, place_of tokens k tokens.end.offset fault.place told.1 refl ∙ sym at, told.2)
+grammar_told tokens errors.NoMemory k place kind told at = tt

@@ -5,11 +5,11 @@ ghost use Rattle.proto_tokens.specs.Limits.{limit_of};
 ghost use Rattle.proto_tokens.specs.Spelling.{IsFault};
 ghost use Rattle.proto_tokens.specs.Token.{tokens_of};
 ghost use Rattle.proto_tokens.specs.declared.kind.Kind.{Kind};
-ghost use Rattle.proto_syntax.specs.Fault.{IsTreeOf};
+ghost use Rattle.proto_syntax.specs.Fault.{IsTreeOf, IsFaultAt, IsKindOf};
 ghost use Rattle.proto_syntax.specs.Trees.{file_tree};
-ghost use Rattle.schema_server.specs.Describe.{IsDescribedBy, IsRefusal, TellsTokenFault};
+ghost use Rattle.schema_server.specs.Describe.{IsDescribedBy, IsGrammarFault, IsRefusal, TellsFault};
 ghost use Rattle.schema_server.specs.Outside.{outside};
-ghost use Rattle.schema_server.specs.Steps.{IsGrammarRefusal, IsNamed};
+ghost use Rattle.schema_server.specs.Steps.{IsGrammarRefusal, IsNamed, TellsGrammarFault};
 
 use crate::compile_error::CompileError;
 use crate::descriptor_bytes::file_desc_bytes;
@@ -51,7 +51,8 @@ fn described_tree<'s>(
     limits: &Limits,
 ) -> Result<FileTree<'s>, CompileError>
     ensures tree { IfOk result (λ file. IsTreeOf (limit_of limits.now Limit.Depth) (tokens_of tokens.now) (file_tree file) × (outside file ≡ [])) }
-    ensures refusal { IfErr result (IsGrammarRefusal name.now tokens.now) }
+    ensures refusal { IfErr result (IsGrammarRefusal (limit_of limits.now Limit.Depth) name.now tokens.now) }
+    ensures every_fault { (k : ℕ) (kind : Kind) → IsFaultAt (limit_of limits.now Limit.Depth) (tokens_of tokens.now) k → IsKindOf (tokens_of tokens.now) k kind → IsErrAnd result (TellsGrammarFault tokens.now k kind) }
 {
     let file = match parse(alloc, tokens, limits) {
         Ok(file) => file,
@@ -79,8 +80,9 @@ pub fn describe<R: AllocGlobal>(
     ensures described { IfOk result (λ bytes. IsDescribedBy (limit_of limits.now Limit.FileBytes) (limit_of limits.now Limit.Depth) name.now text.now bytes.items) }
     ensures refusal { IfErr result (IsRefusal (limit_of limits.now Limit.FileBytes) (limit_of limits.now Limit.Depth) name.now text.now) }
 
-    // A fault of the tokens is told, unless memory runs out.
-    ensures every_token_fault { (place : ℕ) (kind : Kind) → IsFault (limit_of limits.now Limit.FileBytes) text.now place kind → IsErrAnd result (TellsTokenFault place kind) }
+    // A fault of the tokens, and one of the grammar, is told, unless memory runs out.
+    ensures every_token_fault { (place : ℕ) (kind : Kind) → IsFault (limit_of limits.now Limit.FileBytes) text.now place kind → IsErrAnd result (TellsFault 0 place kind) }
+    ensures every_grammar_fault { (place : ℕ) (kind : Kind) → IsGrammarFault (limit_of limits.now Limit.FileBytes) (limit_of limits.now Limit.Depth) text.now place kind → IsErrAnd result (TellsFault 1 place kind) }
 {
     let alloc = rt.alloc();
     let tokens = match tokenize(alloc, text, limits) {

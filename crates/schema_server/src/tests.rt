@@ -111,6 +111,36 @@ fn faults(rt: HostRuntime) {
             "q.proto:1:14: BadEscape\n",
         ),
         (
+            "what is left out of the language",
+            "l.proto",
+            "syntax = \"proto3\"; extend A {}",
+            "l.proto:1:20: LeftOut\n",
+        ),
+        (
+            "a custom option",
+            "o.proto",
+            "syntax = \"proto3\"; option (x) = 1;",
+            "o.proto:1:27: CustomOption\n",
+        ),
+        (
+            "a statement of a file that is not described yet",
+            "p.proto",
+            "syntax = \"proto3\"; message A {} package p;",
+            "p.proto:1:33: Unexpected\n",
+        ),
+        (
+            "a label, which is not described yet",
+            "f.proto",
+            "syntax = \"proto3\"; message A { bool x = 1; optional int32 y = 2; }",
+            "f.proto:1:44: Unexpected\n",
+        ),
+        (
+            "options, which are not described yet",
+            "f.proto",
+            "syntax = \"proto3\"; message A { int32 x = 1 [deprecated = true]; }",
+            "f.proto:1:32: Unexpected\n",
+        ),
+        (
             "a comment without end, on a line of its own",
             "c.proto",
             "syntax = \"proto3\";\n\n /* x",

@@ -2,13 +2,13 @@
 
 ghost use Rattle.proto_syntax.specs.Grammar.{Many};
 ghost use Rattle.proto_syntax.specs.Reading.{ended, read};
-ghost use Rattle.proto_syntax.specs.Language.{file, message, statement, syntax};
-ghost use Rattle.proto_syntax.specs.Trees.{file_tree, row, statement_tree, syntax_tree};
+ghost use Rattle.proto_syntax.specs.Language.{file, message, statement, «package», import, syntax};
+ghost use Rattle.proto_syntax.specs.Trees.{file_tree, row, statement_tree, package_tree, import_tree, syntax_tree};
 ghost use Rattle.proto_syntax.specs.Gives.{Gives, spellings};
 
 use crate::parser::Parser;
 use crate::parser::stop::Stop;
-use crate::tree::{FileTree, Statement, Syntax};
+use crate::tree::{FileTree, Import, Package, Statement, Syntax};
 use proto_tokens::row::Row;
 
 impl<'s, 't> Parser<'s, 't> {
@@ -28,15 +28,66 @@ impl<'s, 't> Parser<'s, 't> {
         })
     }
 
+    #[tactic(auto, unfolding(crate::specs::Language::import))]
+    fn import(&mut self) -> Result<Import<'s>, Stop>
+        ensures { Gives import_tree result self.new.rest.now (read import (spellings self.old.rest.now)) }
+    {
+        let keyword = self.keyword("import")?;
+        let public = self.optional_keyword("public")?;
+        let path = self.string()?;
+        let semicolon = self.symbol(';')?;
+        Ok(Import {
+            keyword,
+            public,
+            path,
+            semicolon,
+        })
+    }
+
+    fn package(&mut self) -> Result<Package<'s>, Stop>
+        ensures { Gives package_tree result self.new.rest.now (read «package» (spellings self.old.rest.now)) }
+    {
+        let keyword = self.keyword("package")?;
+        let name = self.full_name()?;
+        let semicolon = self.symbol(';')?;
+        Ok(Package {
+            keyword,
+            name,
+            semicolon,
+        })
+    }
+
     /// A statement of a file.
+    #[tactic(auto, using(crate::proofs::Levels::begins_message, crate::proofs::Levels::begins_import, crate::proofs::Levels::begins_option, crate::proofs::Levels::begins_service))]
     fn statement(&mut self, depth: u64) -> Result<Statement<'s>, Stop>
         ensures { Gives statement_tree result self.new.rest.now (read (statement (message depth)) (spellings self.old.rest.now)) }
     {
-        if !self.at_keyword("message") {
-            return Err(Stop::Unexpected);
+        if self.at_keyword("import") {
+            let import = self.import()?;
+            return Ok(Statement::Import(import));
         }
-        let message = self.message(depth)?;
-        Ok(Statement::Message(message))
+        if self.at_keyword("package") {
+            let package = self.package()?;
+            return Ok(Statement::Package(package));
+        }
+        if self.at_keyword("option") {
+            let option = self.option()?;
+            return Ok(Statement::Option(option));
+        }
+        if self.at_keyword("message") {
+            let message = self.message(depth)?;
+            return Ok(Statement::Message(message));
+        }
+        if self.at_keyword("enum") {
+            let enumeration = self.enumeration()?;
+            return Ok(Statement::Enum(enumeration));
+        }
+        if self.at_keyword("service") {
+            let service = self.service()?;
+            return Ok(Statement::Service(service));
+        }
+        let span = self.symbol(';')?;
+        Ok(Statement::Empty(span))
     }
 
     /// The statements up to the end of the tokens.

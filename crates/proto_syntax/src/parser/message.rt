@@ -1,32 +1,88 @@
 //! Messages (proto3 language specification, "Message definition").
 
-ghost use Rattle.std.specs.Prelude.{ℕ};
 ghost use Rattle.std.specs.Str.{byte};
-ghost use Rattle.proto_syntax.specs.Grammar.{◌⨾◌, Many, Pair};
-ghost use Rattle.proto_syntax.specs.Reading.{read};
-ghost use Rattle.proto_syntax.specs.Language.{message, message_item, symbol};
+ghost use Rattle.proto_syntax.specs.Grammar.{◌⨾◌, Many, Pair, Left, Right};
+ghost use Rattle.proto_syntax.specs.Reading.{mapped, read};
+ghost use Rattle.proto_syntax.specs.Language.{message, message_item, map_or_field, symbol};
 ghost use Rattle.proto_syntax.specs.Trees.{message_item_tree, message_tree, row, symbol_tree};
 ghost use Rattle.proto_syntax.specs.Gives.{Gives, spellings};
 
 use crate::parser::Parser;
 use crate::parser::stop::Stop;
-use crate::tree::{Message, MessageItem};
+use crate::tree::{Field, FieldType, FullName, MapField, Message, MessageItem, TypeName};
 use proto_tokens::Span;
 use proto_tokens::row::Row;
 
 impl<'s, 't> Parser<'s, 't> {
+    /// A statement that begins with the word `map`: a map field, or a field whose type begins so.
+    #[tactic(auto, using(crate::proofs::Items::item_map, crate::proofs::Items::item_named), unfolding(crate::specs::Language::map_or_field, crate::specs::Language::map_type))]
+    fn map_or_field(&mut self) -> Result<MessageItem<'s>, Stop>
+        ensures { Gives message_item_tree result self.new.rest.now (mapped (λ x. Right (Right (Right (Right (Right (Left x)))))) (read map_or_field (spellings self.old.rest.now))) }
+    {
+        let first = self.word_name("map")?;
+        if self.at_symbol('<') {
+            let map_type = self.map_type()?;
+            let declarator = self.declarator()?;
+            return Ok(MessageItem::Map(MapField {
+                keyword: first.span,
+                map_type,
+                declarator,
+            }));
+        }
+        let rest = self.parts()?;
+        let declarator = self.declarator()?;
+        Ok(MessageItem::Field(Field {
+            label: None,
+            field_type: FieldType::Named(TypeName {
+                dot: None,
+                name: FullName {
+                    first,
+                    rest: Row::from_vec(rest),
+                },
+            }),
+            declarator,
+        }))
+    }
+
     /// A statement of a message.
+    #[cycle(message)]
+    #[tactic(auto, using(crate::proofs::Levels::begins_message, crate::proofs::Levels::begins_option, crate::proofs::Levels::begins_oneof, crate::proofs::Levels::begins_reserved, crate::proofs::Levels::begins_map, crate::proofs::Items::item_message, crate::proofs::Items::item_enum, crate::proofs::Items::item_option, crate::proofs::Items::item_oneof, crate::proofs::Items::item_reserved, crate::proofs::Items::item_empty))]
     fn message_item(&mut self, depth: u64) -> Result<MessageItem<'s>, Stop>
         ensures { Gives message_item_tree result self.new.rest.now (read (message_item (message depth)) (spellings self.old.rest.now)) }
     {
-        if !self.at_scalar() {
-            return Err(Stop::Unexpected);
+        if self.at_keyword("message") {
+            let message = self.message(depth)?;
+            return Ok(MessageItem::Message(message));
+        }
+        if self.at_keyword("enum") {
+            let enumeration = self.enumeration()?;
+            return Ok(MessageItem::Enum(enumeration));
+        }
+        if self.at_keyword("option") {
+            let option = self.option()?;
+            return Ok(MessageItem::Option(option));
+        }
+        if self.at_keyword("oneof") {
+            let oneof = self.oneof()?;
+            return Ok(MessageItem::Oneof(oneof));
+        }
+        if self.at_keyword("reserved") {
+            let reserved = self.reserved()?;
+            return Ok(MessageItem::Reserved(reserved));
+        }
+        if self.at_keyword("map") {
+            return self.map_or_field();
+        }
+        if self.at_symbol(';') {
+            let span = self.symbol(';')?;
+            return Ok(MessageItem::Empty(span));
         }
         let field = self.field()?;
         Ok(MessageItem::Field(field))
     }
 
     /// The statements of a message, and the brace that closes it.
+    #[cycle(message)]
     #[tactic(auto, using(crate::proofs::Loops::closes_none))]
     fn message_body(&mut self, depth: u64) -> Result<(Vec<MessageItem<'s>>, Span), Stop>
         ensures { Gives (λ p. Pair (row message_item_tree p.0.items) (symbol_tree (byte "}") p.1)) result self.new.rest.now (read (Many (message_item (message depth)) ⨾ symbol "}") (spellings self.old.rest.now)) }
@@ -41,12 +97,17 @@ impl<'s, 't> Parser<'s, 't> {
     }
 
     /// A message of at most that depth.
+    #[cycle(message)]
     #[tactic(auto, unfolding(crate::specs::Language::message))]
     pub(crate) fn message(&mut self, depth: u64) -> Result<Message<'s>, Stop>
         ensures { Gives message_tree result self.new.rest.now (read (message depth) (spellings self.old.rest.now)) }
     {
         if depth == 0 {
-            return Err(Stop::Unexpected);
+            return Err(if self.at_keyword("message") {
+                Stop::TooDeep
+            } else {
+                Stop::Unexpected
+            });
         }
         let keyword = self.keyword("message")?;
         let name = self.name()?;

@@ -10,6 +10,7 @@ use std::alloc::{AllocError, AllocFailed};
 pub enum Stop {
     NoMemory,
     Unexpected,
+    TooDeep,
 }
 
 impl From<AllocError> for Stop {

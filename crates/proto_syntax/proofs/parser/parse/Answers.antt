@@ -1,13 +1,8 @@
-use Rattle.std.proofs.Common.{sym}
-use Rattle.proto_syntax.specs.Trees.{file_tree}
-use Rattle.proto_syntax.specs.Refusal.{no_memory}
-use Rattle.proto_syntax.specs.Gives.{spellings}
-use Rattle.proto_syntax.proofs.Faults.{tree_found}
+use Rattle.proto_syntax.proofs.Unique.{of_every_tree, of_every_fault}
 use Rattle.proto_syntax.proofs.parser.parse.Goals as goal
 
-pub returns-in-Ok-clause-tree : goal.returns-in-Ok-clause-tree
-returns-in-Ok-clause-tree c =
-    rw (sym c.get.ensures.value, sym c.deref.ensures.value) (tree_found c.get.result (spellings c.deref.result.now) (spellings c.file.new.self.rest.now) (file_tree c.in-Ok.file) c.in-Ok.ensures)
+pub returns-clause-every_tree : goal.returns-clause-every_tree
+returns-clause-every_tree c = rw (← c.get.ensures.value) (of_every_tree c.get.result c.args.tokens.now c.first_answer.result c.first_answer.ensures)
 
-pub returns-in-Err-NoMemory-clause-place : goal.returns-in-Err-NoMemory-clause-place
-returns-in-Err-NoMemory-clause-place c = no_memory
+pub returns-clause-every_fault : goal.returns-clause-every_fault
+returns-clause-every_fault c = rw (← c.get.ensures.value) (of_every_fault c.get.result c.args.tokens.now c.first_answer.result c.first_answer.ensures)

@@ -1,0 +1,14 @@
+use Rattle.std.proofs.Common.{◌≡◌, length}
+use Rattle.proto_syntax.specs.Grammar.{Many, ◌⨾◌}
+use Rattle.proto_syntax.specs.Reading.{read}
+use Rattle.proto_syntax.specs.Trees.{service_item_tree}
+use Rattle.proto_syntax.specs.Gives.{spellings}
+use Rattle.proto_syntax.specs.Language.{symbol, service_item}
+use Rattle.proto_syntax.proofs.Loops.{Closes}
+use Rattle.proto_syntax.proofs.parser.Parser.service_body.Given as goal
+
+abbrev pub invariant-each : goal.invariant-each
+invariant-each l = Closes service_item_tree service_item (symbol "}") l.items.items (spellings l.self.rest.now) ≡ read (Many service_item ⨾ symbol "}") (spellings l.fn.self.rest.now)
+
+abbrev pub decreases-each : goal.decreases-each
+decreases-each l = length l.self.rest.now

@@ -1,0 +1,87 @@
+//! Names and types (proto3 language specification, "Identifiers" and "Fields").
+
+ghost use Rattle.proto_syntax.specs.Reading.{read};
+ghost use Rattle.proto_syntax.specs.Language.{part, parts, full, named_but, type_but};
+ghost use Rattle.proto_syntax.specs.Position.{excluded_words};
+ghost use Rattle.proto_syntax.specs.Trees.{part_tree, row, full_tree, named_tree, type_tree};
+ghost use Rattle.proto_syntax.specs.Gives.{Gives, spellings};
+
+use crate::parser::Parser;
+use crate::parser::position::Position;
+use crate::parser::stop::Stop;
+use crate::tree::{FieldType, FullName, NamePart, TypeName};
+use proto_tokens::row::Row;
+
+impl<'s, 't> Parser<'s, 't> {
+    /// A dot and the name behind it.
+    fn part(&mut self) -> Result<NamePart<'s>, Stop>
+        ensures { Gives part_tree result self.new.rest.now (read part (spellings self.old.rest.now)) }
+    {
+        let dot = self.symbol('.')?;
+        let name = self.name()?;
+        Ok(NamePart { dot, name })
+    }
+
+    /// The parts of a name behind its first, as long as a dot follows.
+    #[tactic(auto, using(crate::proofs::Loops::rows_none), unfolding(crate::specs::Language::parts))]
+    pub(crate) fn parts(&mut self) -> Result<Vec<NamePart<'s>>, Stop>
+        ensures { Gives (λ v. row part_tree v.items) result self.new.rest.now (read parts (spellings self.old.rest.now)) }
+    {
+        let mut parts = Vec::new(self.alloc);
+        'each: while self.at_symbol('.') {
+            let part = self.part()?;
+            parts.push(part)?;
+        }
+        Ok(parts)
+    }
+
+    /// A name with dots.
+    #[tactic(auto, unfolding(crate::specs::Language::full))]
+    pub(crate) fn full_name(&mut self) -> Result<FullName<'s>, Stop>
+        ensures { Gives full_tree result self.new.rest.now (read full (spellings self.old.rest.now)) }
+    {
+        let first = self.name()?;
+        let rest = self.parts()?;
+        Ok(FullName {
+            first,
+            rest: Row::from_vec(rest),
+        })
+    }
+
+    /// The name of a message or an enum.
+    #[tactic(auto, unfolding(crate::specs::Language::named_but))]
+    pub(crate) fn type_name(&mut self, position: Position) -> Result<TypeName<'s>, Stop>
+        ensures { Gives named_tree result self.new.rest.now (read (named_but (excluded_words position)) (spellings self.old.rest.now)) }
+    {
+        if self.at_symbol('.') {
+            let dot = self.symbol('.')?;
+            let name = self.full_name()?;
+            return Ok(TypeName {
+                dot: Some(dot),
+                name,
+            });
+        }
+        let first = self.type_word(position)?;
+        let rest = self.parts()?;
+        Ok(TypeName {
+            dot: None,
+            name: FullName {
+                first,
+                rest: Row::from_vec(rest),
+            },
+        })
+    }
+
+    /// The type of a field.
+    #[tactic(auto, unfolding(crate::specs::Language::type_but))]
+    pub(crate) fn field_type(&mut self, position: Position) -> Result<FieldType<'s>, Stop>
+        ensures { Gives type_tree result self.new.rest.now (read (type_but (excluded_words position)) (spellings self.old.rest.now)) }
+    {
+        if self.at_scalar() {
+            let (scalar, span) = self.scalar()?;
+            return Ok(FieldType::Scalar(scalar, span));
+        }
+        let name = self.type_name(position)?;
+        Ok(FieldType::Named(name))
+    }
+}

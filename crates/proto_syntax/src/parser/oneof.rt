@@ -1,0 +1,64 @@
+//! Oneofs (proto3 language specification, "Oneof and oneof field").
+
+ghost use Rattle.std.specs.Str.{byte};
+ghost use Rattle.proto_syntax.specs.Grammar.{◌⨾◌, Many, Pair};
+ghost use Rattle.proto_syntax.specs.Reading.{read};
+ghost use Rattle.proto_syntax.specs.Language.{symbol, oneof_item, oneof};
+ghost use Rattle.proto_syntax.specs.Trees.{row, symbol_tree, oneof_item_tree, oneof_tree};
+ghost use Rattle.proto_syntax.specs.Gives.{Gives, spellings};
+
+use crate::parser::Parser;
+use crate::parser::stop::Stop;
+use crate::tree::{Oneof, OneofItem};
+use proto_tokens::Span;
+use proto_tokens::row::Row;
+
+impl<'s, 't> Parser<'s, 't> {
+    /// A statement of a oneof.
+    #[tactic(auto, using(crate::proofs::Levels::begins_option))]
+    fn oneof_item(&mut self) -> Result<OneofItem<'s>, Stop>
+        ensures { Gives oneof_item_tree result self.new.rest.now (read oneof_item (spellings self.old.rest.now)) }
+    {
+        if self.at_keyword("option") {
+            let option = self.option()?;
+            return Ok(OneofItem::Option(option));
+        }
+        if self.at_symbol(';') {
+            let span = self.symbol(';')?;
+            return Ok(OneofItem::Empty(span));
+        }
+        let field = self.member()?;
+        Ok(OneofItem::Field(field))
+    }
+
+    /// The statements of a oneof, and the brace that closes it.
+    #[tactic(auto, using(crate::proofs::Loops::closes_none))]
+    fn oneof_body(&mut self) -> Result<(Vec<OneofItem<'s>>, Span), Stop>
+        ensures { Gives (λ p. Pair (row oneof_item_tree p.0.items) (symbol_tree (byte "}") p.1)) result self.new.rest.now (read (Many oneof_item ⨾ symbol "}") (spellings self.old.rest.now)) }
+    {
+        let mut items = Vec::new(self.alloc);
+        'each: while !self.at_symbol('}') {
+            let item = self.oneof_item()?;
+            items.push(item)?;
+        }
+        let close = self.symbol('}')?;
+        Ok((items, close))
+    }
+
+    #[tactic(auto, unfolding(crate::specs::Language::oneof))]
+    pub(crate) fn oneof(&mut self) -> Result<Oneof<'s>, Stop>
+        ensures { Gives oneof_tree result self.new.rest.now (read oneof (spellings self.old.rest.now)) }
+    {
+        let keyword = self.keyword("oneof")?;
+        let name = self.name()?;
+        let open_brace = self.symbol('{')?;
+        let (items, close_brace) = self.oneof_body()?;
+        Ok(Oneof {
+            keyword,
+            name,
+            open_brace,
+            items: Row::from_vec(items),
+            close_brace,
+        })
+    }
+}

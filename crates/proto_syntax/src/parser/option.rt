@@ -1,0 +1,105 @@
+//! Options (proto3 language specification, "Option").
+
+ghost use Rattle.proto_syntax.specs.Grammar.{Many, Optional};
+ghost use Rattle.proto_syntax.specs.Reading.{read};
+ghost use Rattle.proto_syntax.specs.Language.{list_of, next_of, setting, options, option};
+ghost use Rattle.proto_syntax.specs.Trees.{row, optional, next_tree, separated_tree, setting_tree, options_tree, option_tree};
+ghost use Rattle.proto_syntax.specs.Gives.{Gives, spellings};
+
+use crate::parser::Parser;
+use crate::parser::stop::Stop;
+use crate::tree::{Next, OptionStatement, Options, Separated, Setting};
+use proto_tokens::row::Row;
+
+impl<'s, 't> Parser<'s, 't> {
+    /// The name of an option and its value.
+    #[tactic(auto, unfolding(crate::specs::Language::setting))]
+    fn setting(&mut self) -> Result<Setting<'s>, Stop>
+        ensures { Gives setting_tree result self.new.rest.now (read setting (spellings self.old.rest.now)) }
+    {
+        let name = self.full_name()?;
+        let equals = self.symbol('=')?;
+        let value = self.constant()?;
+        Ok(Setting {
+            name,
+            equals,
+            value,
+        })
+    }
+
+    /// A comma and what stands behind it.
+    fn next_setting(&mut self) -> Result<Next<Setting<'s>>, Stop>
+        ensures { Gives (next_tree setting_tree) result self.new.rest.now (read (next_of setting) (spellings self.old.rest.now)) }
+    {
+        let comma = self.symbol(',')?;
+        let item = self.setting()?;
+        Ok(Next { comma, item })
+    }
+
+    /// All that follows with a comma before it.
+    #[tactic(auto, using(crate::proofs::Loops::rows_none))]
+    fn next_settings(&mut self) -> Result<Vec<Next<Setting<'s>>>, Stop>
+        ensures { Gives (λ v. row (next_tree setting_tree) v.items) result self.new.rest.now (read (Many (next_of setting)) (spellings self.old.rest.now)) }
+    {
+        let mut items = Vec::new(self.alloc);
+        'each: while self.at_symbol(',') {
+            let item = self.next_setting()?;
+            items.push(item)?;
+        }
+        Ok(items)
+    }
+
+    /// One or more, with commas between them.
+    fn settings(&mut self) -> Result<Separated<Setting<'s>>, Stop>
+        ensures { Gives (separated_tree setting_tree) result self.new.rest.now (read (list_of setting) (spellings self.old.rest.now)) }
+    {
+        let first = self.setting()?;
+        let rest = self.next_settings()?;
+        Ok(Separated {
+            first,
+            rest: Row::from_vec(rest),
+        })
+    }
+
+    /// Options in brackets.
+    #[tactic(auto, unfolding(crate::specs::Language::options))]
+    fn options(&mut self) -> Result<Options<'s>, Stop>
+        ensures { Gives options_tree result self.new.rest.now (read options (spellings self.old.rest.now)) }
+    {
+        let open_bracket = self.symbol('[')?;
+        let settings = self.settings()?;
+        let close_bracket = self.symbol(']')?;
+        Ok(Options {
+            open_bracket,
+            settings,
+            close_bracket,
+        })
+    }
+
+    /// Options in brackets, if there are any.
+    #[tactic(auto, unfolding(crate::specs::Language::options))]
+    pub(crate) fn optional_options(&mut self) -> Result<Option<Options<'s>>, Stop>
+        ensures { Gives (optional options_tree) result self.new.rest.now (read (Optional options) (spellings self.old.rest.now)) }
+    {
+        if self.at_symbol('[') {
+            let options = self.options()?;
+            return Ok(Some(options));
+        }
+        Ok(None)
+    }
+
+    /// An option statement.
+    #[tactic(auto, unfolding(crate::specs::Language::option))]
+    pub(crate) fn option(&mut self) -> Result<OptionStatement<'s>, Stop>
+        ensures { Gives option_tree result self.new.rest.now (read option (spellings self.old.rest.now)) }
+    {
+        let keyword = self.keyword("option")?;
+        let setting = self.setting()?;
+        let semicolon = self.symbol(';')?;
+        Ok(OptionStatement {
+            keyword,
+            setting,
+            semicolon,
+        })
+    }
+}

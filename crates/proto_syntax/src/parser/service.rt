@@ -1,0 +1,161 @@
+//! Services (proto3 language specification, "Service definition").
+
+ghost use Rattle.std.specs.Prelude.{[], ◌∷◌, codes};
+ghost use Rattle.std.specs.Str.{byte};
+ghost use Rattle.proto_syntax.specs.Grammar.{◌⨾◌, ◌∣◌, Many, Pair};
+ghost use Rattle.proto_syntax.specs.Reading.{read};
+ghost use Rattle.proto_syntax.specs.Language.{symbol, word, named_but, rpc_type, rpc_item, rpc_body, rpc, service_item, service};
+ghost use Rattle.proto_syntax.specs.Trees.{row, symbol_tree, streamed_tree, rpc_type_tree, rpc_item_tree, rpc_body_tree, rpc_tree, service_item_tree, service_tree};
+ghost use Rattle.proto_syntax.specs.Gives.{Gives, spellings};
+
+use crate::parser::Parser;
+use crate::parser::position::Position;
+use crate::parser::stop::Stop;
+use crate::tree::{Rpc, RpcBlock, RpcBody, RpcItem, RpcType, Service, ServiceItem, TypeName};
+use proto_tokens::Span;
+use proto_tokens::row::Row;
+
+impl<'s, 't> Parser<'s, 't> {
+    /// The name of a type behind the mark `stream`, or without it.
+    fn streamed_type(&mut self) -> Result<(Option<Span>, TypeName<'s>), Stop>
+        ensures { Gives (λ p. streamed_tree p.0 p.1) result self.new.rest.now (read ((word "stream" ⨾ named_but []) ∣ named_but (codes "stream" ∷ [])) (spellings self.old.rest.now)) }
+    {
+        if self.at_keyword("stream") {
+            let stream = self.keyword("stream")?;
+            let name = self.type_name(Position::Free)?;
+            return Ok((Some(stream), name));
+        }
+        let name = self.type_name(Position::Streamable)?;
+        Ok((None, name))
+    }
+
+    /// The type of a method's input or output.
+    #[tactic(auto, unfolding(crate::specs::Language::rpc_type))]
+    fn rpc_type(&mut self) -> Result<RpcType<'s>, Stop>
+        ensures { Gives rpc_type_tree result self.new.rest.now (read rpc_type (spellings self.old.rest.now)) }
+    {
+        let open_paren = self.symbol('(')?;
+        let (stream, name) = self.streamed_type()?;
+        let close_paren = self.symbol(')')?;
+        Ok(RpcType {
+            open_paren,
+            stream,
+            name,
+            close_paren,
+        })
+    }
+
+    /// A statement of a method.
+    #[tactic(auto, using(crate::proofs::Levels::begins_option))]
+    fn rpc_item(&mut self) -> Result<RpcItem<'s>, Stop>
+        ensures { Gives rpc_item_tree result self.new.rest.now (read rpc_item (spellings self.old.rest.now)) }
+    {
+        if self.at_keyword("option") {
+            let option = self.option()?;
+            return Ok(RpcItem::Option(option));
+        }
+        let span = self.symbol(';')?;
+        Ok(RpcItem::Empty(span))
+    }
+
+    /// The statements of a method, and the brace that closes it.
+    #[tactic(auto, using(crate::proofs::Loops::closes_none))]
+    fn rpc_items(&mut self) -> Result<(Vec<RpcItem<'s>>, Span), Stop>
+        ensures { Gives (λ p. Pair (row rpc_item_tree p.0.items) (symbol_tree (byte "}") p.1)) result self.new.rest.now (read (Many rpc_item ⨾ symbol "}") (spellings self.old.rest.now)) }
+    {
+        let mut items = Vec::new(self.alloc);
+        'each: while !self.at_symbol('}') {
+            let item = self.rpc_item()?;
+            items.push(item)?;
+        }
+        let close = self.symbol('}')?;
+        Ok((items, close))
+    }
+
+    /// What ends a method.
+    #[tactic(auto, unfolding(crate::specs::Language::rpc_body))]
+    fn rpc_body(&mut self) -> Result<RpcBody<'s>, Stop>
+        ensures { Gives rpc_body_tree result self.new.rest.now (read rpc_body (spellings self.old.rest.now)) }
+    {
+        if self.at_symbol(';') {
+            let span = self.symbol(';')?;
+            return Ok(RpcBody::Semicolon(span));
+        }
+        let open_brace = self.symbol('{')?;
+        let (items, close_brace) = self.rpc_items()?;
+        Ok(RpcBody::Block(RpcBlock {
+            open_brace,
+            items: Row::from_vec(items),
+            close_brace,
+        }))
+    }
+
+    /// A method of a service.
+    #[tactic(auto, unfolding(crate::specs::Language::rpc))]
+    fn rpc(&mut self) -> Result<Rpc<'s>, Stop>
+        ensures { Gives rpc_tree result self.new.rest.now (read rpc (spellings self.old.rest.now)) }
+    {
+        let keyword = self.keyword("rpc")?;
+        let name = self.name()?;
+        let input = self.rpc_type()?;
+        let returns = self.keyword("returns")?;
+        let output = self.rpc_type()?;
+        let body = self.rpc_body()?;
+        Ok(Rpc {
+            keyword,
+            name,
+            input,
+            returns,
+            output,
+            body,
+        })
+    }
+
+    /// A statement of a service.
+    #[tactic(auto, using(crate::proofs::Levels::begins_rpc, crate::proofs::Levels::begins_option))]
+    fn service_item(&mut self) -> Result<ServiceItem<'s>, Stop>
+        ensures { Gives service_item_tree result self.new.rest.now (read service_item (spellings self.old.rest.now)) }
+    {
+        if self.at_keyword("rpc") {
+            let rpc = self.rpc()?;
+            return Ok(ServiceItem::Rpc(rpc));
+        }
+        if self.at_keyword("option") {
+            let option = self.option()?;
+            return Ok(ServiceItem::Option(option));
+        }
+        let span = self.symbol(';')?;
+        Ok(ServiceItem::Empty(span))
+    }
+
+    /// The statements of a service, and the brace that closes it.
+    #[tactic(auto, using(crate::proofs::Loops::closes_none))]
+    fn service_body(&mut self) -> Result<(Vec<ServiceItem<'s>>, Span), Stop>
+        ensures { Gives (λ p. Pair (row service_item_tree p.0.items) (symbol_tree (byte "}") p.1)) result self.new.rest.now (read (Many service_item ⨾ symbol "}") (spellings self.old.rest.now)) }
+    {
+        let mut items = Vec::new(self.alloc);
+        'each: while !self.at_symbol('}') {
+            let item = self.service_item()?;
+            items.push(item)?;
+        }
+        let close = self.symbol('}')?;
+        Ok((items, close))
+    }
+
+    #[tactic(auto, unfolding(crate::specs::Language::service))]
+    pub(crate) fn service(&mut self) -> Result<Service<'s>, Stop>
+        ensures { Gives service_tree result self.new.rest.now (read service (spellings self.old.rest.now)) }
+    {
+        let keyword = self.keyword("service")?;
+        let name = self.name()?;
+        let open_brace = self.symbol('{')?;
+        let (items, close_brace) = self.service_body()?;
+        Ok(Service {
+            keyword,
+            name,
+            open_brace,
+            items: Row::from_vec(items),
+            close_brace,
+        })
+    }
+}

@@ -1,0 +1,289 @@
+//! Single tokens: tests of the next one, and methods that take it.
+
+ghost use Rattle.std.specs.Cow.{cow_str_bytes};
+ghost use Rattle.std.specs.Prelude.{◌≡◌, [], ◌∷◌, ◌++◌, IfOk, IsTrue, codes};
+ghost use Rattle.proto_tokens.specs.Token.{identifier, lexeme_of};
+ghost use Rattle.proto_syntax.specs.Grammar.{Symbol, OneOf, NoneOf, AnyNumber, AnyString, One, Optional, fits};
+ghost use Rattle.proto_syntax.specs.Reading.{read, read_one, next_fits};
+ghost use Rattle.proto_syntax.specs.Language.{scalar_words, key_words};
+ghost use Rattle.proto_syntax.specs.Position.{excluded_words};
+ghost use Rattle.proto_syntax.specs.Trees.{symbol_tree, word_tree, name_tree, number_tree, string_tree, optional, word_of_scalar, word_of_key};
+ghost use Rattle.proto_syntax.specs.Gives.{Gives, spellings};
+
+use crate::parser::Parser;
+use crate::parser::position::{Position, is_enum_statement_word, is_excluded, is_scalar};
+use crate::parser::stop::Stop;
+use crate::tree::{KeyType, Name, NumberLiteral, ScalarType, StringLiteral};
+use proto_tokens::text::Text;
+use proto_tokens::{Span, TokenKind};
+use std::alloc::AllocError;
+use std::borrow::CowStr;
+
+pub(crate) fn is_symbol(kind: &TokenKind, symbol: char) -> bool
+    ensures { result ≡ fits (Symbol symbol) (lexeme_of kind.now) }
+{
+    match kind {
+        TokenKind::Punctuation(found) => symbol == *found,
+        _ => false,
+    }
+}
+
+#[tactic(auto, using(crate::proofs::WordTests::fits_word))]
+pub(crate) fn is_keyword(kind: &TokenKind, word: &str) -> bool
+    ensures fits { result ≡ fits (OneOf (word.now ∷ [])) (lexeme_of kind.now) }
+    ensures same { IsTrue result → lexeme_of kind.now ≡ identifier word.now }
+{
+    match kind {
+        TokenKind::Identifier(name) => *name == word,
+        _ => false,
+    }
+}
+
+impl<'s, 't> Parser<'s, 't> {
+    /// Whether the next token is this symbol.
+    pub(crate) fn at_symbol(&self, symbol: char) -> bool
+        ensures { result ≡ next_fits (Symbol symbol ∷ []) (spellings self.now.rest.now) }
+    {
+        match self.rest.first() {
+            Some(token) => is_symbol(&token.kind, symbol),
+            None => false,
+        }
+    }
+
+    /// Whether the next token is this word.
+    pub(crate) fn at_keyword(&self, word: &str) -> bool
+        ensures { result ≡ next_fits (OneOf (word.now ∷ []) ∷ []) (spellings self.now.rest.now) }
+    {
+        match self.rest.first() {
+            Some(token) => is_keyword(&token.kind, word),
+            None => false,
+        }
+    }
+
+    /// Whether the next token is an identifier.
+    pub(crate) fn at_name(&self) -> bool
+        ensures { result ≡ next_fits (NoneOf [] ∷ []) (spellings self.now.rest.now) }
+    {
+        match self.rest.first() {
+            Some(token) => matches!(&token.kind, TokenKind::Identifier(_)),
+            None => false,
+        }
+    }
+
+    /// Whether the next token is a number.
+    pub(crate) fn at_number(&self) -> bool
+        ensures { result ≡ next_fits (AnyNumber ∷ []) (spellings self.now.rest.now) }
+    {
+        match self.rest.first() {
+            Some(token) => matches!(&token.kind, TokenKind::Number(_)),
+            None => false,
+        }
+    }
+
+    /// Whether the next token is a string literal.
+    pub(crate) fn at_string(&self) -> bool
+        ensures { result ≡ next_fits (AnyString ∷ []) (spellings self.now.rest.now) }
+    {
+        match self.rest.first() {
+            Some(token) => matches!(&token.kind, TokenKind::StringLiteral(_)),
+            None => false,
+        }
+    }
+
+    /// Whether the next token is the word of a scalar type.
+    pub(crate) fn at_scalar(&self) -> bool
+        ensures { result ≡ next_fits (OneOf scalar_words ∷ []) (spellings self.now.rest.now) }
+    {
+        match self.rest.first() {
+            Some(token) => match &token.kind {
+                TokenKind::Identifier(text) => is_scalar(text),
+                _ => false,
+            },
+            None => false,
+        }
+    }
+
+    pub(crate) fn symbol(&mut self, symbol: char) -> Result<Span, Stop>
+        ensures { Gives (symbol_tree symbol) result self.new.rest.now (read_one (Symbol symbol) (spellings self.old.rest.now)) }
+    {
+        match self.rest {
+            [token, rest @ ..] if is_symbol(&token.kind, symbol) => {
+                self.rest = rest;
+                Ok(token.span)
+            }
+            _ => Err(Stop::Unexpected),
+        }
+    }
+
+    /// This symbol, if it is the next token.
+    pub(crate) fn optional_symbol(&mut self, symbol: char) -> Result<Option<Span>, Stop>
+        ensures { Gives (optional (symbol_tree symbol)) result self.new.rest.now (read (Optional (One (Symbol symbol))) (spellings self.old.rest.now)) }
+    {
+        if self.at_symbol(symbol) {
+            let span = self.symbol(symbol)?;
+            return Ok(Some(span));
+        }
+        Ok(None)
+    }
+
+    pub(crate) fn keyword(&mut self, word: &str) -> Result<Span, Stop>
+        ensures { Gives (word_tree word.now) result self.new.rest.now (read_one (OneOf (word.now ∷ [])) (spellings self.old.rest.now)) }
+    {
+        match self.rest {
+            [token, rest @ ..] if is_keyword(&token.kind, word) => {
+                self.rest = rest;
+                Ok(token.span)
+            }
+            _ => Err(Stop::Unexpected),
+        }
+    }
+
+    /// This word, if it is the next token.
+    pub(crate) fn optional_keyword(&mut self, word: &str) -> Result<Option<Span>, Stop>
+        ensures { Gives (optional (word_tree word.now)) result self.new.rest.now (read (Optional (One (OneOf (word.now ∷ [])))) (spellings self.old.rest.now)) }
+    {
+        if self.at_keyword(word) {
+            let span = self.keyword(word)?;
+            return Ok(Some(span));
+        }
+        Ok(None)
+    }
+
+    pub(crate) fn number(&mut self) -> Result<NumberLiteral, Stop>
+        ensures { Gives number_tree result self.new.rest.now (read_one AnyNumber (spellings self.old.rest.now)) }
+    {
+        if let [token, rest @ ..] = self.rest
+            && let TokenKind::Number(value) = &token.kind
+        {
+            self.rest = rest;
+            return Ok(NumberLiteral {
+                value: *value,
+                span: token.span,
+            });
+        }
+        Err(Stop::Unexpected)
+    }
+
+    pub(crate) fn name(&mut self) -> Result<Name<'s>, Stop>
+        ensures { Gives name_tree result self.new.rest.now (read_one (NoneOf []) (spellings self.old.rest.now)) }
+    {
+        if let [token, rest @ ..] = self.rest
+            && let TokenKind::Identifier(text) = &token.kind
+        {
+            self.rest = rest;
+            return Ok(Name {
+                text: *text,
+                span: token.span,
+            });
+        }
+        Err(Stop::Unexpected)
+    }
+
+    /// This word, as a name.
+    #[tactic(auto, using(crate::proofs::WordTests::fits_word))]
+    pub(crate) fn word_name(&mut self, word: &str) -> Result<Name<'s>, Stop>
+        ensures gives { Gives name_tree result self.new.rest.now (read_one (OneOf (word.now ∷ [])) (spellings self.old.rest.now)) }
+        ensures text { IfOk result (λ name. name.text ≡ word.now) }
+    {
+        if let [token, rest @ ..] = self.rest
+            && let TokenKind::Identifier(text) = &token.kind
+            && *text == word
+        {
+            self.rest = rest;
+            return Ok(Name {
+                text: *text,
+                span: token.span,
+            });
+        }
+        Err(Stop::Unexpected)
+    }
+
+    /// The first word of the name of a type, without a leading dot.
+    pub(crate) fn type_word(&mut self, position: Position) -> Result<Name<'s>, Stop>
+        ensures { Gives name_tree result self.new.rest.now (read_one (NoneOf (scalar_words ++ excluded_words position)) (spellings self.old.rest.now)) }
+    {
+        if let [token, rest @ ..] = self.rest
+            && let TokenKind::Identifier(text) = &token.kind
+            && !is_excluded(text, position)
+        {
+            self.rest = rest;
+            return Ok(Name {
+                text: *text,
+                span: token.span,
+            });
+        }
+        Err(Stop::Unexpected)
+    }
+
+    /// The name of an enum's value.
+    pub(crate) fn value_name(&mut self) -> Result<Name<'s>, Stop>
+        ensures { Gives name_tree result self.new.rest.now (read_one (NoneOf (codes "option" ∷ codes "reserved" ∷ [])) (spellings self.old.rest.now)) }
+    {
+        if let [token, rest @ ..] = self.rest
+            && let TokenKind::Identifier(text) = &token.kind
+            && !is_enum_statement_word(text)
+        {
+            self.rest = rest;
+            return Ok(Name {
+                text: *text,
+                span: token.span,
+            });
+        }
+        Err(Stop::Unexpected)
+    }
+
+    /// The word of a scalar type.
+    pub(crate) fn scalar(&mut self) -> Result<(ScalarType, Span), Stop>
+        ensures { Gives (λ s. word_tree (word_of_scalar s.0) s.1) result self.new.rest.now (read_one (OneOf scalar_words) (spellings self.old.rest.now)) }
+    {
+        if let [token, rest @ ..] = self.rest
+            && let TokenKind::Identifier(text) = &token.kind
+            && let Some(scalar) = ScalarType::from_word(text)
+        {
+            self.rest = rest;
+            return Ok((scalar, token.span));
+        }
+        Err(Stop::Unexpected)
+    }
+
+    /// The word of the type of a map's key.
+    pub(crate) fn key(&mut self) -> Result<(KeyType, Span), Stop>
+        ensures { Gives (λ k. word_tree (word_of_key k.0) k.1) result self.new.rest.now (read_one (OneOf key_words) (spellings self.old.rest.now)) }
+    {
+        if let [token, rest @ ..] = self.rest
+            && let TokenKind::Identifier(text) = &token.kind
+            && let Some(key) = KeyType::from_word(text)
+        {
+            self.rest = rest;
+            return Ok((key, token.span));
+        }
+        Err(Stop::Unexpected)
+    }
+
+    /// One string literal.
+    pub(crate) fn string_literal(&mut self) -> Result<StringLiteral<'s>, Stop>
+        ensures { Gives string_tree result self.new.rest.now (read_one AnyString (spellings self.old.rest.now)) }
+    {
+        if let [token, rest @ ..] = self.rest
+            && let TokenKind::StringLiteral(value) = &token.kind
+        {
+            let value = text_of(value)?;
+            self.rest = rest;
+            return Ok(StringLiteral {
+                value,
+                span: token.span,
+            });
+        }
+        Err(Stop::Unexpected)
+    }
+}
+
+/// The value of a string literal: borrowed where the token borrows it, and else copied.
+fn text_of<'s>(value: &CowStr<'s>) -> Result<Text<'s>, AllocError>
+    ensures { IfOk result (λ text. text ≡ cow_str_bytes value.now) }
+{
+    match value {
+        CowStr::Borrowed(text) => Ok(Text::borrowed(*text)),
+        CowStr::Owned(text) => Ok(Text::owned(text.clone()?)),
+    }
+}
