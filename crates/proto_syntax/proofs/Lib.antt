@@ -14,3 +14,6 @@ pub mod Limits
 pub mod Faults
 pub mod Spellings
 pub mod Unique
+pub mod SameNames
+pub mod SameItems
+pub mod SameFiles

@@ -1,11 +1,11 @@
--- What a method of the parser promises.
+-- What a private method of the parser promises.
 use Rattle.std.specs.Prelude.{◌≡◌, true, false, List, map, Result, Ok, Err}
 use Rattle.proto_tokens.specs.declared.token.Token.{Token}
 use Rattle.proto_tokens.specs.Token.{Spelled, spelled}
 use Rattle.proto_syntax.specs.declared.parser.stop.Stop.{Stop}
 use Rattle.proto_syntax.specs.declared.parser.stop.Stop.TheVariants as stop
-use Rattle.proto_syntax.specs.Grammar.{Tree}
-use Rattle.proto_syntax.specs.Reading.{Outcome, Read, Stops}
+use Rattle.proto_syntax.specs.Grammar.{Grammar, Tree}
+use Rattle.proto_syntax.specs.Reading.{Outcome, Read, Stops, read}
 
 abbrev pub spellings : List Token → List Spelled
 spellings = map spelled
@@ -20,3 +20,7 @@ Fails stop.TooDeep rest o = o ≡ Stops true (spellings rest)
 abbrev pub Gives : {X : Type 0} → (X → Tree) → Result X Stop → List Token → Outcome → Type 0
 Gives tree (Ok x) rest o = o ≡ Read (tree x) (spellings rest)
 Gives tree (Err e) rest o = Fails e rest o
+
+-- A method took a tree of that grammar from the front of the tokens, or stopped at their fault.
+abbrev pub Reads : {X : Type 0} → (X → Tree) → Grammar → Result X Stop → List Token → List Token → Type 0
+Reads tree g result old new = Gives tree result new (read g (spellings old))

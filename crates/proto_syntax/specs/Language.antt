@@ -2,7 +2,8 @@
 --
 -- Above each rule it stands in EBNF: `{ x }` is any number of x, `[ x ]` is x or nothing. Where a choice would leave a
 -- list of tokens two trees, the classes of the tokens with which an alternative may begin are told apart, and a comment
--- says so. (Proto3 language specification, "Lexical Elements" to "Proto File".)
+-- says so. The order of the alternatives means nothing: no two of them begin with the same token. (Proto3 language
+-- specification, "Lexical Elements" to "Proto File".)
 use Rattle.std.specs.Prelude.{ℕ, zero, suc, List, [], ◌∷◌, ◌++◌, codes}
 use Rattle.std.specs.Str.{byte}
 use Prim.Native.String.{String}

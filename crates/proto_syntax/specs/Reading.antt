@@ -1,4 +1,4 @@
--- Reading by one token of look-ahead.
+-- Reading by one token of look-ahead: a device of the proofs, which no public contract names.
 use Rattle.std.specs.Prelude.{ℕ, zero, suc, Bool, true, false, cond, ◌&&◌, ◌||◌, not, List, [], ◌∷◌, ◌++◌, nat_eq, length}
 use Rattle.proto_tokens.specs.Token.{Lexeme, Spelled}
 use Rattle.proto_syntax.specs.Grammar.{Class, OneOf, NoneOf, AnyNumber, AnyString, Symbol, among, fits, Grammar, One, Nothing, ◌⨾◌, ◌∣◌, Many, Beyond, Tree, Leaf, Empty, Pair, Left, Right}

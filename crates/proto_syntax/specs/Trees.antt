@@ -97,6 +97,10 @@ before f (x ∷ xs) t = Pair (f x) (before f xs t)
 abbrev pub row : {A : Type 0} → (A → Tree) → List A → Tree
 row f xs = before f xs Empty
 
+-- the statements of a block, and the brace that closes it
+abbrev pub body_tree : {A : Type 0} → (A → Tree) → List A → Span → Tree
+body_tree f xs close_brace = Pair (row f xs) (symbol_tree (byte "}") close_brace)
+
 abbrev pub optional : {A : Type 0} → (A → Tree) → Option A → Tree
 optional f None = Right Empty
 optional f (Some x) = Left (f x)

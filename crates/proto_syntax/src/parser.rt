@@ -4,6 +4,7 @@ ghost use Rattle.std.specs.Prelude.{◌≡◌, ℕ, List, IfErr, IfOk, IsErrAnd,
 ghost use Rattle.proto_tokens.specs.Token.{Spelled, tokens_of};
 ghost use Rattle.proto_tokens.specs.Limits.{limit_of};
 ghost use Rattle.proto_tokens.specs.declared.kind.Kind.{Kind};
+ghost use Rattle.proto_syntax.specs.declared.tree.file.FileTree.{FileTree};
 ghost use Rattle.proto_syntax.specs.Grammar.{Tree};
 ghost use Rattle.proto_syntax.specs.Fault.{IsTreeOf, IsFaultAt, IsKindOf, IsFaultOf, TellsFault};
 ghost use Rattle.proto_syntax.specs.Trees.{file_tree};
@@ -72,8 +73,10 @@ pub fn parse<'s>(
     ensures fault { IfErr result (IsFaultOf (limit_of limits.now Limit.Depth) tokens.now) }
 
     // So tokens that have a tree give it, and others give their fault, unless memory runs out.
-    ensures every_tree { (x : Tree) → IsTreeOf (limit_of limits.now Limit.Depth) (tokens_of tokens.now) x → MatchResult result (λ file. file_tree file ≡ x) (λ e. e ≡ ParseError.NoMemory) }
-    ensures every_fault { (k : ℕ) (kind : Kind) → IsFaultAt (limit_of limits.now Limit.Depth) (tokens_of tokens.now) k → IsKindOf (tokens_of tokens.now) k kind → IsErrAnd result (TellsFault tokens.now k kind) }
+    ensures every_tree { (x : Tree) → IsTreeOf (limit_of limits.now Limit.Depth) (tokens_of tokens.now) x
+        → MatchResult result (λ file. file_tree file ≡ x) (λ e. e ≡ ParseError.NoMemory) }
+    ensures every_fault { (k : ℕ) (kind : Kind) → IsFaultAt (limit_of limits.now Limit.Depth) (tokens_of tokens.now) k
+        → IsKindOf (tokens_of tokens.now) k kind → IsErrAnd result (TellsFault tokens.now k kind) }
 {
     first_answer(alloc, tokens, limits.get(Limit::Depth))
 }
@@ -81,6 +84,12 @@ pub fn parse<'s>(
 /// A list of tokens has at most one tree.
 pub fn at_most_one_tree()
     ensures { (limit : ℕ) (ts : List Spelled) (x y : Tree) → IsTreeOf limit ts x → IsTreeOf limit ts y → x ≡ y }
+{}
+
+/// Files with the same tokens are the same.
+pub fn at_most_one_file()
+    ensures { (limit : ℕ) (ts : List Spelled) (f g : FileTree) → IsTreeOf limit ts (file_tree f)
+        → IsTreeOf limit ts (file_tree g) → f ≡ g }
 {}
 
 /// A list of tokens has at most one fault.

@@ -1,6 +1,6 @@
 use crate::tree::{FieldType, KeyType, MessageItem, Statement};
 use crate::{ParseError, parse};
-use proto_tokens::{Kind, Limit, Limits, tokenize};
+use proto_tokens::{Kind, Limit, Limits, Place, tokenize};
 use std::test::*;
 
 /// The place and the kind of a text's fault, or None where it is a file.
@@ -174,6 +174,14 @@ fn faults_of_the_syntax_statement(rt: HostRuntime) -> Result<(), Fail> {
         fault(&rt, "syntax = 'proto3' ", &limits)?,
         Some((18, Kind::UnexpectedEnd))
     );
+    Ok(())
+}
+
+#[test]
+fn printed(rt: HostRuntime) -> Result<(), Fail> {
+    let error = ParseError::At(Place { offset: 7 }, Kind::TooDeep);
+    let text = format!(in rt.alloc(); "{error}")?;
+    assert_eq!(rt; text.as_str(), "TooDeep at byte 7");
     Ok(())
 }
 

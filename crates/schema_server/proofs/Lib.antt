@@ -1,5 +1,6 @@
 mod FilterMaps
 mod FirstFound
 mod JsonNames
+mod OneAnswer
 mod Refusals
 mod Starts

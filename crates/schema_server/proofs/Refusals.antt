@@ -9,13 +9,12 @@ use Rattle.proto_tokens.specs.declared.kind.Kind.{Kind}
 use Rattle.proto_tokens.specs.declared.kind.Kind.TheVariants.{Unexpected}
 use Rattle.proto_tokens.specs.declared.place.Place.{Place}
 use Rattle.proto_tokens.specs.declared.token.Tokens.{Tokens}
-use Rattle.proto_tokens.proofs.Unique.{tokens_one}
 use Rattle.proto_syntax.specs.Fault.{IsTreeOf, IsFaultAt, IsKindOf, place_at}
 use Rattle.proto_syntax.specs.Trees.{file_tree}
 use Rattle.proto_syntax.specs.declared.tree.file.FileTree.{FileTree}
-use Rattle.schema_server.specs.Describe.{IsFoundIn, IsGrammarFault, IsRefusal, TellsFault, place_of_token}
+use Rattle.schema_server.specs.Describe.{IsFoundIn, IsRefusal, place_of_token}
 use Rattle.schema_server.specs.Outside.{outside}
-use Rattle.schema_server.specs.Steps.{IsNamed, IsStepFault, IsGrammarRefusal, TellsGrammarFault}
+use Rattle.schema_server.specs.Steps.{IsNamed, IsStepFault, IsGrammarRefusal}
 use Rattle.schema_server.specs.declared.compile_error.CompileError.{CompileError}
 use Rattle.schema_server.specs.declared.compile_error.CompileError.TheVariants as errors
 use Rattle.schema_server.proofs.Starts.{BeginWithin, tokens_within, outside_within}
@@ -37,10 +36,6 @@ token_refusal bytes depth name text place kind (errors.First fault) named is wit
   found = inl (named.2, subst (λ (p : Place). IsFault bytes text p.offset fault.kind) (sym named.3) (subst (λ (k : Kind). IsFault bytes text place.offset k) (sym named.4) is));
 }
 token_refusal bytes depth name text place kind errors.NoMemory named is within = tt
-
-pub token_told : (name : List ℕ) (place : Place) (kind : Kind) (e : CompileError) (at : ℕ) (other : Kind) → IsNamed name 0 place kind e → (place.offset ≡ at) × (kind ≡ other) → TellsFault 0 at other e
-token_told name place kind (errors.First fault) at other named same = (named.2, ap (λ (p : Place). p.offset) named.3 ∙ same.0, named.4 ∙ same.1)
-token_told name place kind errors.NoMemory at other named same = tt
 
 -- ---- where a token begins
 
@@ -95,22 +90,3 @@ pub parse_refusal : (depth : ℕ) (name : List ℕ) (tokens : Tokens) (place : P
 parse_refusal depth name tokens place kind (errors.First fault) named (k, is, is_kind, at) =
     (named.0, named.1, named.2, inl (k, is, subst (λ (found : Kind). IsKindOf (tokens_of tokens) k found) (sym named.4) is_kind, named.3 ∙ at))
 parse_refusal depth name tokens place kind errors.NoMemory named fault = tt
-
-pub parse_told : (name : List ℕ) (tokens : Tokens) (place : Place) (kind : Kind) (e : CompileError) (k : ℕ) (other : Kind) → IsNamed name 1 place kind e → (place ≡ place_at tokens k) × (kind ≡ other) → TellsGrammarFault tokens k other e
-parse_told name tokens place kind (errors.First fault) k other named same = (named.2, named.3 ∙ same.0, named.4 ∙ same.1)
-parse_told name tokens place kind errors.NoMemory k other named same = tt
-
--- the fault of a text is one of the tokens that were found in it
-pub fault_of_tokens : (bytes depth : ℕ) (text : List ℕ) (tokens : Tokens) (place : ℕ) (kind : Kind) → IsTokenList bytes text (tokens_of tokens) → tokens.end.offset ≡ length text → IsGrammarFault bytes depth text place kind
-    → (k : ℕ) × IsFaultAt depth (tokens_of tokens) k × IsKindOf (tokens_of tokens) k kind × (place ≡ place_of_token (tokens_of tokens) k tokens.end.offset)
-fault_of_tokens bytes depth text tokens place kind is end (ts, k, spelled, fault, is_kind, at) =
-    let same : ts ≡ tokens_of tokens = tokens_one bytes text ts (tokens_of tokens) spelled is in (
-      k,
-      subst (λ us. IsFaultAt depth us k) same fault,
-      subst (λ us. IsKindOf us k kind) same is_kind,
-      at ∙ ap (λ us. place_of_token us k (length text)) same ∙ ap (place_of_token (tokens_of tokens) k) (sym end),
-    )
-
-pub grammar_told : (tokens : Tokens) (e : CompileError) (k place : ℕ) (kind : Kind) → TellsGrammarFault tokens k kind e → place ≡ place_of_token (tokens_of tokens) k tokens.end.offset → TellsFault 1 place kind e
-grammar_told tokens (errors.First fault) k place kind told at = (told.0, place_of tokens k tokens.end.offset fault.place told.1 refl ∙ sym at, told.2)
-grammar_told tokens errors.NoMemory k place kind told at = tt

@@ -27,8 +27,3 @@ IsStepFault depth tokens place kind =
 abbrev pub IsGrammarRefusal : ℕ → List ℕ → Tokens → CompileError → Type 0
 IsGrammarRefusal depth name tokens (errors.First fault) = (fault.pass ≡ 1) × (string_bytes fault.file ≡ name) × (fault.step ≡ 1) × IsStepFault depth tokens fault.place fault.kind
 IsGrammarRefusal depth name tokens errors.NoMemory = Unit {0}
-
--- the error is for want of memory, or names this fault of the grammar
-abbrev pub TellsGrammarFault : Tokens → ℕ → Kind → CompileError → Type 0
-TellsGrammarFault tokens k kind (errors.First fault) = (fault.step ≡ 1) × (fault.place ≡ place_at tokens k) × (fault.kind ≡ kind)
-TellsGrammarFault tokens k kind errors.NoMemory = Unit {0}

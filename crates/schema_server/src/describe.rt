@@ -1,15 +1,14 @@
 //! Describing one source.
 
-ghost use Rattle.std.specs.Prelude.{◌≡◌, ℕ, IfOk, IfErr, IsErrAnd, []};
+ghost use Rattle.std.specs.Prelude.{◌≡◌, ℕ, List, IfOk, IfErr, IsErrAnd, MatchResult, []};
 ghost use Rattle.proto_tokens.specs.Limits.{limit_of};
-ghost use Rattle.proto_tokens.specs.Spelling.{IsFault};
 ghost use Rattle.proto_tokens.specs.Token.{tokens_of};
 ghost use Rattle.proto_tokens.specs.declared.kind.Kind.{Kind};
-ghost use Rattle.proto_syntax.specs.Fault.{IsTreeOf, IsFaultAt, IsKindOf};
+ghost use Rattle.proto_syntax.specs.Fault.{IsTreeOf};
 ghost use Rattle.proto_syntax.specs.Trees.{file_tree};
-ghost use Rattle.schema_server.specs.Describe.{IsDescribedBy, IsGrammarFault, IsRefusal, TellsFault};
+ghost use Rattle.schema_server.specs.Describe.{IsDescribedBy, IsFoundIn, IsRefusal, TellsFault};
 ghost use Rattle.schema_server.specs.Outside.{outside};
-ghost use Rattle.schema_server.specs.Steps.{IsGrammarRefusal, IsNamed, TellsGrammarFault};
+ghost use Rattle.schema_server.specs.Steps.{IsGrammarRefusal, IsNamed};
 
 use crate::compile_error::CompileError;
 use crate::descriptor_bytes::file_desc_bytes;
@@ -52,7 +51,6 @@ fn described_tree<'s>(
 ) -> Result<FileTree<'s>, CompileError>
     ensures tree { IfOk result (λ file. IsTreeOf (limit_of limits.now Limit.Depth) (tokens_of tokens.now) (file_tree file) × (outside file ≡ [])) }
     ensures refusal { IfErr result (IsGrammarRefusal (limit_of limits.now Limit.Depth) name.now tokens.now) }
-    ensures every_fault { (k : ℕ) (kind : Kind) → IsFaultAt (limit_of limits.now Limit.Depth) (tokens_of tokens.now) k → IsKindOf (tokens_of tokens.now) k kind → IsErrAnd result (TellsGrammarFault tokens.now k kind) }
 {
     let file = match parse(alloc, tokens, limits) {
         Ok(file) => file,
@@ -65,6 +63,28 @@ fn described_tree<'s>(
         Some(place) => Err(local_fault(alloc, name, GRAMMAR_STEP, place, Kind::Unexpected)),
         None => Ok(file),
     }
+}
+
+/// The descriptor of one source, or its fault.
+fn first_answer(
+    alloc: Global,
+    name: &str,
+    text: &[u8],
+    limits: &Limits,
+) -> Result<Vec<u8>, CompileError>
+    ensures { MatchResult result (λ bytes. IsDescribedBy (limit_of limits.now Limit.FileBytes) (limit_of limits.now Limit.Depth) name.now text.now bytes.items)
+        (IsRefusal (limit_of limits.now Limit.FileBytes) (limit_of limits.now Limit.Depth) name.now text.now) }
+{
+    let tokens = match tokenize(alloc, text, limits) {
+        Ok(tokens) => tokens,
+        Err(TokenError::NoMemory) => return Err(CompileError::NoMemory),
+        Err(TokenError::At(place, kind)) => {
+            return Err(local_fault(alloc, name, TOKEN_STEP, place, kind));
+        }
+    };
+    let file = described_tree(alloc, name, &tokens, limits)?;
+    let descriptor = lower(alloc, name, &file)?;
+    Ok(file_desc_bytes(alloc, &descriptor)?)
 }
 
 /// The bytes of the `FileDescriptorProto` of one source, which is a file of this name.
@@ -80,19 +100,11 @@ pub fn describe<R: AllocGlobal>(
     ensures described { IfOk result (λ bytes. IsDescribedBy (limit_of limits.now Limit.FileBytes) (limit_of limits.now Limit.Depth) name.now text.now bytes.items) }
     ensures refusal { IfErr result (IsRefusal (limit_of limits.now Limit.FileBytes) (limit_of limits.now Limit.Depth) name.now text.now) }
 
-    // A fault of the tokens, and one of the grammar, is told, unless memory runs out.
-    ensures every_token_fault { (place : ℕ) (kind : Kind) → IsFault (limit_of limits.now Limit.FileBytes) text.now place kind → IsErrAnd result (TellsFault 0 place kind) }
-    ensures every_grammar_fault { (place : ℕ) (kind : Kind) → IsGrammarFault (limit_of limits.now Limit.FileBytes) (limit_of limits.now Limit.Depth) text.now place kind → IsErrAnd result (TellsFault 1 place kind) }
+    // So a text with a descriptor gives it, and one with a fault tells it, unless memory runs out.
+    ensures every_descriptor { (descriptor : List ℕ) → IsDescribedBy (limit_of limits.now Limit.FileBytes) (limit_of limits.now Limit.Depth) name.now text.now descriptor
+        → MatchResult result (λ bytes. bytes.items ≡ descriptor) (λ e. e ≡ CompileError.NoMemory) }
+    ensures every_fault { (step place : ℕ) (kind : Kind) → IsFoundIn (limit_of limits.now Limit.FileBytes) (limit_of limits.now Limit.Depth) text.now step place kind
+        → IsErrAnd result (TellsFault step place kind) }
 {
-    let alloc = rt.alloc();
-    let tokens = match tokenize(alloc, text, limits) {
-        Ok(tokens) => tokens,
-        Err(TokenError::NoMemory) => return Err(CompileError::NoMemory),
-        Err(TokenError::At(place, kind)) => {
-            return Err(local_fault(alloc, name, TOKEN_STEP, place, kind));
-        }
-    };
-    let file = described_tree(alloc, name, &tokens, limits)?;
-    let descriptor = lower(alloc, name, &file)?;
-    Ok(file_desc_bytes(alloc, &descriptor)?)
+    first_answer(rt.alloc(), name, text, limits)
 }

@@ -4,7 +4,7 @@ ghost use Rattle.proto_syntax.specs.Grammar.{Many, Optional, ◌⨾◌, ◌∣�
 ghost use Rattle.proto_syntax.specs.Reading.{read};
 ghost use Rattle.proto_syntax.specs.Language.{word, signed, str, list_of, next_of, erange, ereserved};
 ghost use Rattle.proto_syntax.specs.Trees.{row, optional, next_tree, separated_tree, signed_tree, range_end_tree, range_tree, reserved_items_tree, reserved_tree};
-ghost use Rattle.proto_syntax.specs.Gives.{Gives, spellings};
+ghost use Rattle.proto_syntax.specs.Gives.{Reads};
 
 use crate::parser::Parser;
 use crate::parser::stop::Stop;
@@ -17,7 +17,7 @@ impl<'s, 't> Parser<'s, 't> {
     /// The end of a range, if there is one.
     #[tactic(auto, unfolding(crate::specs::Language::signed))]
     fn enum_range_end(&mut self) -> Result<Option<RangeEnd<SignedNumber>>, Stop>
-        ensures { Gives (optional (range_end_tree signed_tree)) result self.new.rest.now (read (Optional (word "to" ⨾ (signed ∣ word "max"))) (spellings self.old.rest.now)) }
+        ensures { Reads (optional (range_end_tree signed_tree)) (Optional (word "to" ⨾ (signed ∣ word "max"))) result self.old.rest.now self.new.rest.now }
     {
         if !self.at_keyword("to") {
             return Ok(None);
@@ -40,7 +40,7 @@ impl<'s, 't> Parser<'s, 't> {
     /// Numbers from the first to the last, or one number.
     #[tactic(auto, unfolding(crate::specs::Language::erange))]
     fn enum_range(&mut self) -> Result<Range<SignedNumber>, Stop>
-        ensures { Gives (range_tree signed_tree) result self.new.rest.now (read erange (spellings self.old.rest.now)) }
+        ensures { Reads (range_tree signed_tree) erange result self.old.rest.now self.new.rest.now }
     {
         let start = self.signed_number()?;
         let end = self.enum_range_end()?;
@@ -49,7 +49,7 @@ impl<'s, 't> Parser<'s, 't> {
 
     /// A comma and what stands behind it.
     fn next_enum_range(&mut self) -> Result<Next<Range<SignedNumber>>, Stop>
-        ensures { Gives (next_tree (range_tree signed_tree)) result self.new.rest.now (read (next_of erange) (spellings self.old.rest.now)) }
+        ensures { Reads (next_tree (range_tree signed_tree)) (next_of erange) result self.old.rest.now self.new.rest.now }
     {
         let comma = self.symbol(',')?;
         let item = self.enum_range()?;
@@ -59,7 +59,7 @@ impl<'s, 't> Parser<'s, 't> {
     /// All that follows with a comma before it.
     #[tactic(auto, using(crate::proofs::Loops::rows_none))]
     fn next_enum_ranges(&mut self) -> Result<Vec<Next<Range<SignedNumber>>>, Stop>
-        ensures { Gives (λ v. row (next_tree (range_tree signed_tree)) v.items) result self.new.rest.now (read (Many (next_of erange)) (spellings self.old.rest.now)) }
+        ensures { Reads (λ v. row (next_tree (range_tree signed_tree)) v.items) (Many (next_of erange)) result self.old.rest.now self.new.rest.now }
     {
         let mut items = Vec::new(self.alloc);
         'each: while self.at_symbol(',') {
@@ -71,7 +71,7 @@ impl<'s, 't> Parser<'s, 't> {
 
     /// One or more, with commas between them.
     fn enum_ranges(&mut self) -> Result<Separated<Range<SignedNumber>>, Stop>
-        ensures { Gives (separated_tree (range_tree signed_tree)) result self.new.rest.now (read (list_of erange) (spellings self.old.rest.now)) }
+        ensures { Reads (separated_tree (range_tree signed_tree)) (list_of erange) result self.old.rest.now self.new.rest.now }
     {
         let first = self.enum_range()?;
         let rest = self.next_enum_ranges()?;
@@ -84,7 +84,7 @@ impl<'s, 't> Parser<'s, 't> {
     /// What a `reserved` statement lists.
     #[tactic(auto, unfolding(crate::specs::Language::erange, crate::specs::Language::signed))]
     fn enum_reserved_items(&mut self) -> Result<ReservedItems<'s, SignedNumber>, Stop>
-        ensures { Gives (reserved_items_tree signed_tree) result self.new.rest.now (read (list_of erange ∣ list_of str) (spellings self.old.rest.now)) }
+        ensures { Reads (reserved_items_tree signed_tree) (list_of erange ∣ list_of str) result self.old.rest.now self.new.rest.now }
     {
         if self.at_symbol('-') || self.at_number() {
             let ranges = self.enum_ranges()?;
@@ -97,7 +97,7 @@ impl<'s, 't> Parser<'s, 't> {
     /// A `reserved` statement of an enum.
     #[tactic(auto, unfolding(crate::specs::Language::ereserved))]
     pub(crate) fn enum_reserved(&mut self) -> Result<Reserved<'s, SignedNumber>, Stop>
-        ensures { Gives (reserved_tree signed_tree) result self.new.rest.now (read ereserved (spellings self.old.rest.now)) }
+        ensures { Reads (reserved_tree signed_tree) ereserved result self.old.rest.now self.new.rest.now }
     {
         let keyword = self.keyword("reserved")?;
         let items = self.enum_reserved_items()?;

@@ -4,8 +4,8 @@ ghost use Rattle.std.specs.Str.{byte};
 ghost use Rattle.proto_syntax.specs.Grammar.{◌⨾◌, Many, Pair};
 ghost use Rattle.proto_syntax.specs.Reading.{read};
 ghost use Rattle.proto_syntax.specs.Language.{symbol, value, enum_item, enum};
-ghost use Rattle.proto_syntax.specs.Trees.{row, symbol_tree, value_tree, enum_item_tree, enum_tree};
-ghost use Rattle.proto_syntax.specs.Gives.{Gives, spellings};
+ghost use Rattle.proto_syntax.specs.Trees.{body_tree, value_tree, enum_item_tree, enum_tree};
+ghost use Rattle.proto_syntax.specs.Gives.{Reads};
 
 use crate::parser::Parser;
 use crate::parser::stop::Stop;
@@ -17,7 +17,7 @@ impl<'s, 't> Parser<'s, 't> {
     /// A value of an enum.
     #[tactic(auto, unfolding(crate::specs::Language::value))]
     fn enum_value(&mut self) -> Result<EnumValue<'s>, Stop>
-        ensures { Gives value_tree result self.new.rest.now (read value (spellings self.old.rest.now)) }
+        ensures { Reads value_tree value result self.old.rest.now self.new.rest.now }
     {
         let name = self.value_name()?;
         let equals = self.symbol('=')?;
@@ -36,7 +36,7 @@ impl<'s, 't> Parser<'s, 't> {
     /// A statement of an enum.
     #[tactic(auto, using(crate::proofs::Levels::begins_option, crate::proofs::Levels::begins_ereserved))]
     fn enum_item(&mut self) -> Result<EnumItem<'s>, Stop>
-        ensures { Gives enum_item_tree result self.new.rest.now (read enum_item (spellings self.old.rest.now)) }
+        ensures { Reads enum_item_tree enum_item result self.old.rest.now self.new.rest.now }
     {
         if self.at_keyword("option") {
             let option = self.option()?;
@@ -57,7 +57,7 @@ impl<'s, 't> Parser<'s, 't> {
     /// The statements of an enum, and the brace that closes it.
     #[tactic(auto, using(crate::proofs::Loops::closes_none))]
     fn enum_body(&mut self) -> Result<(Vec<EnumItem<'s>>, Span), Stop>
-        ensures { Gives (λ p. Pair (row enum_item_tree p.0.items) (symbol_tree (byte "}") p.1)) result self.new.rest.now (read (Many enum_item ⨾ symbol "}") (spellings self.old.rest.now)) }
+        ensures { Reads (λ p. body_tree enum_item_tree p.0.items p.1) (Many enum_item ⨾ symbol "}") result self.old.rest.now self.new.rest.now }
     {
         let mut items = Vec::new(self.alloc);
         'each: while !self.at_symbol('}') {
@@ -70,7 +70,7 @@ impl<'s, 't> Parser<'s, 't> {
 
     /// An enum.
     pub(crate) fn enumeration(&mut self) -> Result<Enum<'s>, Stop>
-        ensures { Gives enum_tree result self.new.rest.now (read enum (spellings self.old.rest.now)) }
+        ensures { Reads enum_tree enum result self.old.rest.now self.new.rest.now }
     {
         let keyword = self.keyword("enum")?;
         let name = self.name()?;

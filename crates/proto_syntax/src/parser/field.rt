@@ -3,7 +3,7 @@
 ghost use Rattle.proto_syntax.specs.Reading.{read};
 ghost use Rattle.proto_syntax.specs.Language.{declarator, label, field_head, field, map_type, member};
 ghost use Rattle.proto_syntax.specs.Trees.{declarator_tree, label_tree, field_head_tree, field_tree, map_type_tree, member_tree};
-ghost use Rattle.proto_syntax.specs.Gives.{Gives, spellings};
+ghost use Rattle.proto_syntax.specs.Gives.{Reads};
 
 use crate::parser::Parser;
 use crate::parser::position::Position;
@@ -14,7 +14,7 @@ impl<'s, 't> Parser<'s, 't> {
     /// What stands behind the type of a field.
     #[tactic(auto, unfolding(crate::specs::Language::declarator))]
     pub(crate) fn declarator(&mut self) -> Result<Declarator<'s>, Stop>
-        ensures { Gives declarator_tree result self.new.rest.now (read declarator (spellings self.old.rest.now)) }
+        ensures { Reads declarator_tree declarator result self.old.rest.now self.new.rest.now }
     {
         let name = self.name()?;
         let equals = self.symbol('=')?;
@@ -30,8 +30,9 @@ impl<'s, 't> Parser<'s, 't> {
         })
     }
 
+    /// The label of a field.
     fn label(&mut self) -> Result<Label, Stop>
-        ensures { Gives label_tree result self.new.rest.now (read label (spellings self.old.rest.now)) }
+        ensures { Reads label_tree label result self.old.rest.now self.new.rest.now }
     {
         if self.at_keyword("optional") {
             let span = self.keyword("optional")?;
@@ -44,7 +45,7 @@ impl<'s, 't> Parser<'s, 't> {
     /// The label and the type of a field.
     #[tactic(auto, unfolding(crate::specs::Language::field_head))]
     fn field_head(&mut self) -> Result<(Option<Label>, FieldType<'s>), Stop>
-        ensures { Gives (λ p. field_head_tree p.0 p.1) result self.new.rest.now (read field_head (spellings self.old.rest.now)) }
+        ensures { Reads (λ p. field_head_tree p.0 p.1) field_head result self.old.rest.now self.new.rest.now }
     {
         if self.at_keyword("optional") || self.at_keyword("repeated") {
             let label = self.label()?;
@@ -58,7 +59,7 @@ impl<'s, 't> Parser<'s, 't> {
     /// A field whose statement does not begin with the word `map`.
     #[tactic(auto, unfolding(crate::specs::Language::field))]
     pub(crate) fn field(&mut self) -> Result<Field<'s>, Stop>
-        ensures { Gives field_tree result self.new.rest.now (read field (spellings self.old.rest.now)) }
+        ensures { Reads field_tree field result self.old.rest.now self.new.rest.now }
     {
         let (label, field_type) = self.field_head()?;
         let declarator = self.declarator()?;
@@ -72,7 +73,7 @@ impl<'s, 't> Parser<'s, 't> {
     /// The types of a map, in angle brackets.
     #[tactic(auto, unfolding(crate::specs::Language::map_type))]
     pub(crate) fn map_type(&mut self) -> Result<MapType<'s>, Stop>
-        ensures { Gives map_type_tree result self.new.rest.now (read map_type (spellings self.old.rest.now)) }
+        ensures { Reads map_type_tree map_type result self.old.rest.now self.new.rest.now }
     {
         let open_angle = self.symbol('<')?;
         let (key, key_span) = self.key()?;
@@ -92,7 +93,7 @@ impl<'s, 't> Parser<'s, 't> {
     /// A field of a oneof.
     #[tactic(auto, unfolding(crate::specs::Language::member))]
     pub(crate) fn member(&mut self) -> Result<OneofField<'s>, Stop>
-        ensures { Gives member_tree result self.new.rest.now (read member (spellings self.old.rest.now)) }
+        ensures { Reads member_tree member result self.old.rest.now self.new.rest.now }
     {
         let field_type = self.field_type(Position::Member)?;
         let declarator = self.declarator()?;

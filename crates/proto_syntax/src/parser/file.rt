@@ -4,7 +4,7 @@ ghost use Rattle.proto_syntax.specs.Grammar.{Many};
 ghost use Rattle.proto_syntax.specs.Reading.{ended, read};
 ghost use Rattle.proto_syntax.specs.Language.{file, message, statement, «package», import, syntax};
 ghost use Rattle.proto_syntax.specs.Trees.{file_tree, row, statement_tree, package_tree, import_tree, syntax_tree};
-ghost use Rattle.proto_syntax.specs.Gives.{Gives, spellings};
+ghost use Rattle.proto_syntax.specs.Gives.{Gives, Reads, spellings};
 
 use crate::parser::Parser;
 use crate::parser::stop::Stop;
@@ -12,9 +12,10 @@ use crate::tree::{FileTree, Import, Package, Statement, Syntax};
 use proto_tokens::row::Row;
 
 impl<'s, 't> Parser<'s, 't> {
+    /// The `syntax` statement.
     #[tactic(auto, unfolding(crate::specs::Language::syntax))]
     fn syntax(&mut self) -> Result<Syntax<'s>, Stop>
-        ensures { Gives syntax_tree result self.new.rest.now (read syntax (spellings self.old.rest.now)) }
+        ensures { Reads syntax_tree syntax result self.old.rest.now self.new.rest.now }
     {
         let keyword = self.keyword("syntax")?;
         let equals = self.symbol('=')?;
@@ -28,9 +29,10 @@ impl<'s, 't> Parser<'s, 't> {
         })
     }
 
+    /// An `import` statement.
     #[tactic(auto, unfolding(crate::specs::Language::import))]
     fn import(&mut self) -> Result<Import<'s>, Stop>
-        ensures { Gives import_tree result self.new.rest.now (read import (spellings self.old.rest.now)) }
+        ensures { Reads import_tree import result self.old.rest.now self.new.rest.now }
     {
         let keyword = self.keyword("import")?;
         let public = self.optional_keyword("public")?;
@@ -44,8 +46,9 @@ impl<'s, 't> Parser<'s, 't> {
         })
     }
 
+    /// A `package` statement.
     fn package(&mut self) -> Result<Package<'s>, Stop>
-        ensures { Gives package_tree result self.new.rest.now (read «package» (spellings self.old.rest.now)) }
+        ensures { Reads package_tree «package» result self.old.rest.now self.new.rest.now }
     {
         let keyword = self.keyword("package")?;
         let name = self.full_name()?;
@@ -60,7 +63,7 @@ impl<'s, 't> Parser<'s, 't> {
     /// A statement of a file.
     #[tactic(auto, using(crate::proofs::Levels::begins_message, crate::proofs::Levels::begins_import, crate::proofs::Levels::begins_option, crate::proofs::Levels::begins_service))]
     fn statement(&mut self, depth: u64) -> Result<Statement<'s>, Stop>
-        ensures { Gives statement_tree result self.new.rest.now (read (statement (message depth)) (spellings self.old.rest.now)) }
+        ensures { Reads statement_tree (statement (message depth)) result self.old.rest.now self.new.rest.now }
     {
         if self.at_keyword("import") {
             let import = self.import()?;

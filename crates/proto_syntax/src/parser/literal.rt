@@ -4,7 +4,7 @@ ghost use Rattle.proto_syntax.specs.Grammar.{Many, Optional, ◌∣◌};
 ghost use Rattle.proto_syntax.specs.Reading.{read};
 ghost use Rattle.proto_syntax.specs.Language.{symbol, string_token, str, signed, constant_number, constant};
 ghost use Rattle.proto_syntax.specs.Trees.{row, optional, string_tree, str_tree, signed_tree, sign_tree, constant_number_tree, constant_tree};
-ghost use Rattle.proto_syntax.specs.Gives.{Gives, spellings};
+ghost use Rattle.proto_syntax.specs.Gives.{Reads};
 
 use crate::parser::Parser;
 use crate::parser::stop::Stop;
@@ -15,7 +15,7 @@ impl<'s, 't> Parser<'s, 't> {
     /// The string literals up to another token.
     #[tactic(auto, using(crate::proofs::Loops::rows_none))]
     fn strings(&mut self) -> Result<Vec<StringLiteral<'s>>, Stop>
-        ensures { Gives (λ v. row string_tree v.items) result self.new.rest.now (read (Many string_token) (spellings self.old.rest.now)) }
+        ensures { Reads (λ v. row string_tree v.items) (Many string_token) result self.old.rest.now self.new.rest.now }
     {
         let mut strings = Vec::new(self.alloc);
         'each: while self.at_string() {
@@ -28,7 +28,7 @@ impl<'s, 't> Parser<'s, 't> {
     /// A string, of one literal or more.
     #[tactic(auto, unfolding(crate::specs::Language::str))]
     pub(crate) fn string(&mut self) -> Result<StringValue<'s>, Stop>
-        ensures { Gives str_tree result self.new.rest.now (read str (spellings self.old.rest.now)) }
+        ensures { Reads str_tree str result self.old.rest.now self.new.rest.now }
     {
         let first = self.string_literal()?;
         let rest = self.strings()?;
@@ -41,7 +41,7 @@ impl<'s, 't> Parser<'s, 't> {
     /// A number with an optional minus.
     #[tactic(auto, unfolding(crate::specs::Language::signed))]
     pub(crate) fn signed_number(&mut self) -> Result<SignedNumber, Stop>
-        ensures { Gives signed_tree result self.new.rest.now (read signed (spellings self.old.rest.now)) }
+        ensures { Reads signed_tree signed result self.old.rest.now self.new.rest.now }
     {
         let minus = self.optional_symbol('-')?;
         let number = self.number()?;
@@ -50,7 +50,7 @@ impl<'s, 't> Parser<'s, 't> {
 
     /// The sign of a number, if there is one.
     fn sign(&mut self) -> Result<Option<Sign>, Stop>
-        ensures { Gives (optional sign_tree) result self.new.rest.now (read (Optional (symbol "-" ∣ symbol "+")) (spellings self.old.rest.now)) }
+        ensures { Reads (optional sign_tree) (Optional (symbol "-" ∣ symbol "+")) result self.old.rest.now self.new.rest.now }
     {
         if self.at_symbol('-') {
             let span = self.symbol('-')?;
@@ -66,7 +66,7 @@ impl<'s, 't> Parser<'s, 't> {
     /// A number with an optional sign.
     #[tactic(auto, unfolding(crate::specs::Language::constant_number))]
     fn constant_number(&mut self) -> Result<ConstantNumber, Stop>
-        ensures { Gives constant_number_tree result self.new.rest.now (read constant_number (spellings self.old.rest.now)) }
+        ensures { Reads constant_number_tree constant_number result self.old.rest.now self.new.rest.now }
     {
         let sign = self.sign()?;
         let number = self.number()?;
@@ -76,7 +76,7 @@ impl<'s, 't> Parser<'s, 't> {
     /// The value of an option.
     #[tactic(auto, unfolding(crate::specs::Language::constant, crate::specs::Language::full, crate::specs::Language::constant_number))]
     pub(crate) fn constant(&mut self) -> Result<Constant<'s>, Stop>
-        ensures { Gives constant_tree result self.new.rest.now (read constant (spellings self.old.rest.now)) }
+        ensures { Reads constant_tree constant result self.old.rest.now self.new.rest.now }
     {
         if self.at_name() {
             let name = self.full_name()?;

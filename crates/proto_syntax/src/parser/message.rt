@@ -4,8 +4,8 @@ ghost use Rattle.std.specs.Str.{byte};
 ghost use Rattle.proto_syntax.specs.Grammar.{◌⨾◌, Many, Pair, Left, Right};
 ghost use Rattle.proto_syntax.specs.Reading.{mapped, read};
 ghost use Rattle.proto_syntax.specs.Language.{message, message_item, map_or_field, symbol};
-ghost use Rattle.proto_syntax.specs.Trees.{message_item_tree, message_tree, row, symbol_tree};
-ghost use Rattle.proto_syntax.specs.Gives.{Gives, spellings};
+ghost use Rattle.proto_syntax.specs.Trees.{message_item_tree, message_tree, body_tree};
+ghost use Rattle.proto_syntax.specs.Gives.{Gives, Reads, spellings};
 
 use crate::parser::Parser;
 use crate::parser::stop::Stop;
@@ -48,7 +48,7 @@ impl<'s, 't> Parser<'s, 't> {
     #[cycle(message)]
     #[tactic(auto, using(crate::proofs::Levels::begins_message, crate::proofs::Levels::begins_option, crate::proofs::Levels::begins_oneof, crate::proofs::Levels::begins_reserved, crate::proofs::Levels::begins_map, crate::proofs::Items::item_message, crate::proofs::Items::item_enum, crate::proofs::Items::item_option, crate::proofs::Items::item_oneof, crate::proofs::Items::item_reserved, crate::proofs::Items::item_empty))]
     fn message_item(&mut self, depth: u64) -> Result<MessageItem<'s>, Stop>
-        ensures { Gives message_item_tree result self.new.rest.now (read (message_item (message depth)) (spellings self.old.rest.now)) }
+        ensures { Reads message_item_tree (message_item (message depth)) result self.old.rest.now self.new.rest.now }
     {
         if self.at_keyword("message") {
             let message = self.message(depth)?;
@@ -85,7 +85,7 @@ impl<'s, 't> Parser<'s, 't> {
     #[cycle(message)]
     #[tactic(auto, using(crate::proofs::Loops::closes_none))]
     fn message_body(&mut self, depth: u64) -> Result<(Vec<MessageItem<'s>>, Span), Stop>
-        ensures { Gives (λ p. Pair (row message_item_tree p.0.items) (symbol_tree (byte "}") p.1)) result self.new.rest.now (read (Many (message_item (message depth)) ⨾ symbol "}") (spellings self.old.rest.now)) }
+        ensures { Reads (λ p. body_tree message_item_tree p.0.items p.1) (Many (message_item (message depth)) ⨾ symbol "}") result self.old.rest.now self.new.rest.now }
     {
         let mut items = Vec::new(self.alloc);
         'each: while !self.at_symbol('}') {
@@ -100,7 +100,7 @@ impl<'s, 't> Parser<'s, 't> {
     #[cycle(message)]
     #[tactic(auto, unfolding(crate::specs::Language::message))]
     pub(crate) fn message(&mut self, depth: u64) -> Result<Message<'s>, Stop>
-        ensures { Gives message_tree result self.new.rest.now (read (message depth) (spellings self.old.rest.now)) }
+        ensures { Reads message_tree (message depth) result self.old.rest.now self.new.rest.now }
     {
         if depth == 0 {
             return Err(if self.at_keyword("message") {

@@ -4,7 +4,7 @@ ghost use Rattle.proto_syntax.specs.Reading.{read};
 ghost use Rattle.proto_syntax.specs.Language.{part, parts, full, named_but, type_but};
 ghost use Rattle.proto_syntax.specs.Position.{excluded_words};
 ghost use Rattle.proto_syntax.specs.Trees.{part_tree, row, full_tree, named_tree, type_tree};
-ghost use Rattle.proto_syntax.specs.Gives.{Gives, spellings};
+ghost use Rattle.proto_syntax.specs.Gives.{Reads};
 
 use crate::parser::Parser;
 use crate::parser::position::Position;
@@ -15,7 +15,7 @@ use proto_tokens::row::Row;
 impl<'s, 't> Parser<'s, 't> {
     /// A dot and the name behind it.
     fn part(&mut self) -> Result<NamePart<'s>, Stop>
-        ensures { Gives part_tree result self.new.rest.now (read part (spellings self.old.rest.now)) }
+        ensures { Reads part_tree part result self.old.rest.now self.new.rest.now }
     {
         let dot = self.symbol('.')?;
         let name = self.name()?;
@@ -25,7 +25,7 @@ impl<'s, 't> Parser<'s, 't> {
     /// The parts of a name behind its first, as long as a dot follows.
     #[tactic(auto, using(crate::proofs::Loops::rows_none), unfolding(crate::specs::Language::parts))]
     pub(crate) fn parts(&mut self) -> Result<Vec<NamePart<'s>>, Stop>
-        ensures { Gives (λ v. row part_tree v.items) result self.new.rest.now (read parts (spellings self.old.rest.now)) }
+        ensures { Reads (λ v. row part_tree v.items) parts result self.old.rest.now self.new.rest.now }
     {
         let mut parts = Vec::new(self.alloc);
         'each: while self.at_symbol('.') {
@@ -38,7 +38,7 @@ impl<'s, 't> Parser<'s, 't> {
     /// A name with dots.
     #[tactic(auto, unfolding(crate::specs::Language::full))]
     pub(crate) fn full_name(&mut self) -> Result<FullName<'s>, Stop>
-        ensures { Gives full_tree result self.new.rest.now (read full (spellings self.old.rest.now)) }
+        ensures { Reads full_tree full result self.old.rest.now self.new.rest.now }
     {
         let first = self.name()?;
         let rest = self.parts()?;
@@ -51,7 +51,7 @@ impl<'s, 't> Parser<'s, 't> {
     /// The name of a message or an enum.
     #[tactic(auto, unfolding(crate::specs::Language::named_but))]
     pub(crate) fn type_name(&mut self, position: Position) -> Result<TypeName<'s>, Stop>
-        ensures { Gives named_tree result self.new.rest.now (read (named_but (excluded_words position)) (spellings self.old.rest.now)) }
+        ensures { Reads named_tree (named_but (excluded_words position)) result self.old.rest.now self.new.rest.now }
     {
         if self.at_symbol('.') {
             let dot = self.symbol('.')?;
@@ -75,7 +75,7 @@ impl<'s, 't> Parser<'s, 't> {
     /// The type of a field.
     #[tactic(auto, unfolding(crate::specs::Language::type_but))]
     pub(crate) fn field_type(&mut self, position: Position) -> Result<FieldType<'s>, Stop>
-        ensures { Gives type_tree result self.new.rest.now (read (type_but (excluded_words position)) (spellings self.old.rest.now)) }
+        ensures { Reads type_tree (type_but (excluded_words position)) result self.old.rest.now self.new.rest.now }
     {
         if self.at_scalar() {
             let (scalar, span) = self.scalar()?;

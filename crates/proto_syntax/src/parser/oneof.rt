@@ -4,8 +4,8 @@ ghost use Rattle.std.specs.Str.{byte};
 ghost use Rattle.proto_syntax.specs.Grammar.{◌⨾◌, Many, Pair};
 ghost use Rattle.proto_syntax.specs.Reading.{read};
 ghost use Rattle.proto_syntax.specs.Language.{symbol, oneof_item, oneof};
-ghost use Rattle.proto_syntax.specs.Trees.{row, symbol_tree, oneof_item_tree, oneof_tree};
-ghost use Rattle.proto_syntax.specs.Gives.{Gives, spellings};
+ghost use Rattle.proto_syntax.specs.Trees.{body_tree, oneof_item_tree, oneof_tree};
+ghost use Rattle.proto_syntax.specs.Gives.{Reads};
 
 use crate::parser::Parser;
 use crate::parser::stop::Stop;
@@ -17,7 +17,7 @@ impl<'s, 't> Parser<'s, 't> {
     /// A statement of a oneof.
     #[tactic(auto, using(crate::proofs::Levels::begins_option))]
     fn oneof_item(&mut self) -> Result<OneofItem<'s>, Stop>
-        ensures { Gives oneof_item_tree result self.new.rest.now (read oneof_item (spellings self.old.rest.now)) }
+        ensures { Reads oneof_item_tree oneof_item result self.old.rest.now self.new.rest.now }
     {
         if self.at_keyword("option") {
             let option = self.option()?;
@@ -34,7 +34,7 @@ impl<'s, 't> Parser<'s, 't> {
     /// The statements of a oneof, and the brace that closes it.
     #[tactic(auto, using(crate::proofs::Loops::closes_none))]
     fn oneof_body(&mut self) -> Result<(Vec<OneofItem<'s>>, Span), Stop>
-        ensures { Gives (λ p. Pair (row oneof_item_tree p.0.items) (symbol_tree (byte "}") p.1)) result self.new.rest.now (read (Many oneof_item ⨾ symbol "}") (spellings self.old.rest.now)) }
+        ensures { Reads (λ p. body_tree oneof_item_tree p.0.items p.1) (Many oneof_item ⨾ symbol "}") result self.old.rest.now self.new.rest.now }
     {
         let mut items = Vec::new(self.alloc);
         'each: while !self.at_symbol('}') {
@@ -45,9 +45,10 @@ impl<'s, 't> Parser<'s, 't> {
         Ok((items, close))
     }
 
+    /// A oneof.
     #[tactic(auto, unfolding(crate::specs::Language::oneof))]
     pub(crate) fn oneof(&mut self) -> Result<Oneof<'s>, Stop>
-        ensures { Gives oneof_tree result self.new.rest.now (read oneof (spellings self.old.rest.now)) }
+        ensures { Reads oneof_tree oneof result self.old.rest.now self.new.rest.now }
     {
         let keyword = self.keyword("oneof")?;
         let name = self.name()?;

@@ -4,7 +4,7 @@ ghost use Rattle.proto_syntax.specs.Grammar.{Many, Optional};
 ghost use Rattle.proto_syntax.specs.Reading.{read};
 ghost use Rattle.proto_syntax.specs.Language.{list_of, next_of, setting, options, option};
 ghost use Rattle.proto_syntax.specs.Trees.{row, optional, next_tree, separated_tree, setting_tree, options_tree, option_tree};
-ghost use Rattle.proto_syntax.specs.Gives.{Gives, spellings};
+ghost use Rattle.proto_syntax.specs.Gives.{Reads};
 
 use crate::parser::Parser;
 use crate::parser::stop::Stop;
@@ -15,7 +15,7 @@ impl<'s, 't> Parser<'s, 't> {
     /// The name of an option and its value.
     #[tactic(auto, unfolding(crate::specs::Language::setting))]
     fn setting(&mut self) -> Result<Setting<'s>, Stop>
-        ensures { Gives setting_tree result self.new.rest.now (read setting (spellings self.old.rest.now)) }
+        ensures { Reads setting_tree setting result self.old.rest.now self.new.rest.now }
     {
         let name = self.full_name()?;
         let equals = self.symbol('=')?;
@@ -29,7 +29,7 @@ impl<'s, 't> Parser<'s, 't> {
 
     /// A comma and what stands behind it.
     fn next_setting(&mut self) -> Result<Next<Setting<'s>>, Stop>
-        ensures { Gives (next_tree setting_tree) result self.new.rest.now (read (next_of setting) (spellings self.old.rest.now)) }
+        ensures { Reads (next_tree setting_tree) (next_of setting) result self.old.rest.now self.new.rest.now }
     {
         let comma = self.symbol(',')?;
         let item = self.setting()?;
@@ -39,7 +39,7 @@ impl<'s, 't> Parser<'s, 't> {
     /// All that follows with a comma before it.
     #[tactic(auto, using(crate::proofs::Loops::rows_none))]
     fn next_settings(&mut self) -> Result<Vec<Next<Setting<'s>>>, Stop>
-        ensures { Gives (λ v. row (next_tree setting_tree) v.items) result self.new.rest.now (read (Many (next_of setting)) (spellings self.old.rest.now)) }
+        ensures { Reads (λ v. row (next_tree setting_tree) v.items) (Many (next_of setting)) result self.old.rest.now self.new.rest.now }
     {
         let mut items = Vec::new(self.alloc);
         'each: while self.at_symbol(',') {
@@ -51,7 +51,7 @@ impl<'s, 't> Parser<'s, 't> {
 
     /// One or more, with commas between them.
     fn settings(&mut self) -> Result<Separated<Setting<'s>>, Stop>
-        ensures { Gives (separated_tree setting_tree) result self.new.rest.now (read (list_of setting) (spellings self.old.rest.now)) }
+        ensures { Reads (separated_tree setting_tree) (list_of setting) result self.old.rest.now self.new.rest.now }
     {
         let first = self.setting()?;
         let rest = self.next_settings()?;
@@ -64,7 +64,7 @@ impl<'s, 't> Parser<'s, 't> {
     /// Options in brackets.
     #[tactic(auto, unfolding(crate::specs::Language::options))]
     fn options(&mut self) -> Result<Options<'s>, Stop>
-        ensures { Gives options_tree result self.new.rest.now (read options (spellings self.old.rest.now)) }
+        ensures { Reads options_tree options result self.old.rest.now self.new.rest.now }
     {
         let open_bracket = self.symbol('[')?;
         let settings = self.settings()?;
@@ -79,7 +79,7 @@ impl<'s, 't> Parser<'s, 't> {
     /// Options in brackets, if there are any.
     #[tactic(auto, unfolding(crate::specs::Language::options))]
     pub(crate) fn optional_options(&mut self) -> Result<Option<Options<'s>>, Stop>
-        ensures { Gives (optional options_tree) result self.new.rest.now (read (Optional options) (spellings self.old.rest.now)) }
+        ensures { Reads (optional options_tree) (Optional options) result self.old.rest.now self.new.rest.now }
     {
         if self.at_symbol('[') {
             let options = self.options()?;
@@ -91,7 +91,7 @@ impl<'s, 't> Parser<'s, 't> {
     /// An option statement.
     #[tactic(auto, unfolding(crate::specs::Language::option))]
     pub(crate) fn option(&mut self) -> Result<OptionStatement<'s>, Stop>
-        ensures { Gives option_tree result self.new.rest.now (read option (spellings self.old.rest.now)) }
+        ensures { Reads option_tree option result self.old.rest.now self.new.rest.now }
     {
         let keyword = self.keyword("option")?;
         let setting = self.setting()?;

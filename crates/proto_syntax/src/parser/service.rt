@@ -5,8 +5,8 @@ ghost use Rattle.std.specs.Str.{byte};
 ghost use Rattle.proto_syntax.specs.Grammar.{◌⨾◌, ◌∣◌, Many, Pair};
 ghost use Rattle.proto_syntax.specs.Reading.{read};
 ghost use Rattle.proto_syntax.specs.Language.{symbol, word, named_but, rpc_type, rpc_item, rpc_body, rpc, service_item, service};
-ghost use Rattle.proto_syntax.specs.Trees.{row, symbol_tree, streamed_tree, rpc_type_tree, rpc_item_tree, rpc_body_tree, rpc_tree, service_item_tree, service_tree};
-ghost use Rattle.proto_syntax.specs.Gives.{Gives, spellings};
+ghost use Rattle.proto_syntax.specs.Trees.{body_tree, streamed_tree, rpc_type_tree, rpc_item_tree, rpc_body_tree, rpc_tree, service_item_tree, service_tree};
+ghost use Rattle.proto_syntax.specs.Gives.{Reads};
 
 use crate::parser::Parser;
 use crate::parser::position::Position;
@@ -18,7 +18,7 @@ use proto_tokens::row::Row;
 impl<'s, 't> Parser<'s, 't> {
     /// The name of a type behind the mark `stream`, or without it.
     fn streamed_type(&mut self) -> Result<(Option<Span>, TypeName<'s>), Stop>
-        ensures { Gives (λ p. streamed_tree p.0 p.1) result self.new.rest.now (read ((word "stream" ⨾ named_but []) ∣ named_but (codes "stream" ∷ [])) (spellings self.old.rest.now)) }
+        ensures { Reads (λ p. streamed_tree p.0 p.1) ((word "stream" ⨾ named_but []) ∣ named_but (codes "stream" ∷ [])) result self.old.rest.now self.new.rest.now }
     {
         if self.at_keyword("stream") {
             let stream = self.keyword("stream")?;
@@ -32,7 +32,7 @@ impl<'s, 't> Parser<'s, 't> {
     /// The type of a method's input or output.
     #[tactic(auto, unfolding(crate::specs::Language::rpc_type))]
     fn rpc_type(&mut self) -> Result<RpcType<'s>, Stop>
-        ensures { Gives rpc_type_tree result self.new.rest.now (read rpc_type (spellings self.old.rest.now)) }
+        ensures { Reads rpc_type_tree rpc_type result self.old.rest.now self.new.rest.now }
     {
         let open_paren = self.symbol('(')?;
         let (stream, name) = self.streamed_type()?;
@@ -48,7 +48,7 @@ impl<'s, 't> Parser<'s, 't> {
     /// A statement of a method.
     #[tactic(auto, using(crate::proofs::Levels::begins_option))]
     fn rpc_item(&mut self) -> Result<RpcItem<'s>, Stop>
-        ensures { Gives rpc_item_tree result self.new.rest.now (read rpc_item (spellings self.old.rest.now)) }
+        ensures { Reads rpc_item_tree rpc_item result self.old.rest.now self.new.rest.now }
     {
         if self.at_keyword("option") {
             let option = self.option()?;
@@ -61,7 +61,7 @@ impl<'s, 't> Parser<'s, 't> {
     /// The statements of a method, and the brace that closes it.
     #[tactic(auto, using(crate::proofs::Loops::closes_none))]
     fn rpc_items(&mut self) -> Result<(Vec<RpcItem<'s>>, Span), Stop>
-        ensures { Gives (λ p. Pair (row rpc_item_tree p.0.items) (symbol_tree (byte "}") p.1)) result self.new.rest.now (read (Many rpc_item ⨾ symbol "}") (spellings self.old.rest.now)) }
+        ensures { Reads (λ p. body_tree rpc_item_tree p.0.items p.1) (Many rpc_item ⨾ symbol "}") result self.old.rest.now self.new.rest.now }
     {
         let mut items = Vec::new(self.alloc);
         'each: while !self.at_symbol('}') {
@@ -75,7 +75,7 @@ impl<'s, 't> Parser<'s, 't> {
     /// What ends a method.
     #[tactic(auto, unfolding(crate::specs::Language::rpc_body))]
     fn rpc_body(&mut self) -> Result<RpcBody<'s>, Stop>
-        ensures { Gives rpc_body_tree result self.new.rest.now (read rpc_body (spellings self.old.rest.now)) }
+        ensures { Reads rpc_body_tree rpc_body result self.old.rest.now self.new.rest.now }
     {
         if self.at_symbol(';') {
             let span = self.symbol(';')?;
@@ -93,7 +93,7 @@ impl<'s, 't> Parser<'s, 't> {
     /// A method of a service.
     #[tactic(auto, unfolding(crate::specs::Language::rpc))]
     fn rpc(&mut self) -> Result<Rpc<'s>, Stop>
-        ensures { Gives rpc_tree result self.new.rest.now (read rpc (spellings self.old.rest.now)) }
+        ensures { Reads rpc_tree rpc result self.old.rest.now self.new.rest.now }
     {
         let keyword = self.keyword("rpc")?;
         let name = self.name()?;
@@ -114,7 +114,7 @@ impl<'s, 't> Parser<'s, 't> {
     /// A statement of a service.
     #[tactic(auto, using(crate::proofs::Levels::begins_rpc, crate::proofs::Levels::begins_option))]
     fn service_item(&mut self) -> Result<ServiceItem<'s>, Stop>
-        ensures { Gives service_item_tree result self.new.rest.now (read service_item (spellings self.old.rest.now)) }
+        ensures { Reads service_item_tree service_item result self.old.rest.now self.new.rest.now }
     {
         if self.at_keyword("rpc") {
             let rpc = self.rpc()?;
@@ -131,7 +131,7 @@ impl<'s, 't> Parser<'s, 't> {
     /// The statements of a service, and the brace that closes it.
     #[tactic(auto, using(crate::proofs::Loops::closes_none))]
     fn service_body(&mut self) -> Result<(Vec<ServiceItem<'s>>, Span), Stop>
-        ensures { Gives (λ p. Pair (row service_item_tree p.0.items) (symbol_tree (byte "}") p.1)) result self.new.rest.now (read (Many service_item ⨾ symbol "}") (spellings self.old.rest.now)) }
+        ensures { Reads (λ p. body_tree service_item_tree p.0.items p.1) (Many service_item ⨾ symbol "}") result self.old.rest.now self.new.rest.now }
     {
         let mut items = Vec::new(self.alloc);
         'each: while !self.at_symbol('}') {
@@ -142,9 +142,10 @@ impl<'s, 't> Parser<'s, 't> {
         Ok((items, close))
     }
 
+    /// A service.
     #[tactic(auto, unfolding(crate::specs::Language::service))]
     pub(crate) fn service(&mut self) -> Result<Service<'s>, Stop>
-        ensures { Gives service_tree result self.new.rest.now (read service (spellings self.old.rest.now)) }
+        ensures { Reads service_tree service result self.old.rest.now self.new.rest.now }
     {
         let keyword = self.keyword("service")?;
         let name = self.name()?;

@@ -8,7 +8,7 @@ ghost use Rattle.proto_syntax.specs.Reading.{read, read_one, next_fits};
 ghost use Rattle.proto_syntax.specs.Language.{scalar_words, key_words};
 ghost use Rattle.proto_syntax.specs.Position.{excluded_words};
 ghost use Rattle.proto_syntax.specs.Trees.{symbol_tree, word_tree, name_tree, number_tree, string_tree, optional, word_of_scalar, word_of_key};
-ghost use Rattle.proto_syntax.specs.Gives.{Gives, spellings};
+ghost use Rattle.proto_syntax.specs.Gives.{Reads, spellings};
 
 use crate::parser::Parser;
 use crate::parser::position::{Position, is_enum_statement_word, is_excluded, is_scalar};
@@ -19,6 +19,7 @@ use proto_tokens::{Span, TokenKind};
 use std::alloc::AllocError;
 use std::borrow::CowStr;
 
+/// Whether a token is this symbol.
 pub(crate) fn is_symbol(kind: &TokenKind, symbol: char) -> bool
     ensures { result ≡ fits (Symbol symbol) (lexeme_of kind.now) }
 {
@@ -28,6 +29,7 @@ pub(crate) fn is_symbol(kind: &TokenKind, symbol: char) -> bool
     }
 }
 
+/// Whether a token is this word.
 #[tactic(auto, using(crate::proofs::WordTests::fits_word))]
 pub(crate) fn is_keyword(kind: &TokenKind, word: &str) -> bool
     ensures fits { result ≡ fits (OneOf (word.now ∷ [])) (lexeme_of kind.now) }
@@ -103,8 +105,9 @@ impl<'s, 't> Parser<'s, 't> {
         }
     }
 
+    /// This symbol.
     pub(crate) fn symbol(&mut self, symbol: char) -> Result<Span, Stop>
-        ensures { Gives (symbol_tree symbol) result self.new.rest.now (read_one (Symbol symbol) (spellings self.old.rest.now)) }
+        ensures { Reads (symbol_tree symbol) (One (Symbol symbol)) result self.old.rest.now self.new.rest.now }
     {
         match self.rest {
             [token, rest @ ..] if is_symbol(&token.kind, symbol) => {
@@ -117,7 +120,7 @@ impl<'s, 't> Parser<'s, 't> {
 
     /// This symbol, if it is the next token.
     pub(crate) fn optional_symbol(&mut self, symbol: char) -> Result<Option<Span>, Stop>
-        ensures { Gives (optional (symbol_tree symbol)) result self.new.rest.now (read (Optional (One (Symbol symbol))) (spellings self.old.rest.now)) }
+        ensures { Reads (optional (symbol_tree symbol)) (Optional (One (Symbol symbol))) result self.old.rest.now self.new.rest.now }
     {
         if self.at_symbol(symbol) {
             let span = self.symbol(symbol)?;
@@ -126,8 +129,9 @@ impl<'s, 't> Parser<'s, 't> {
         Ok(None)
     }
 
+    /// This word.
     pub(crate) fn keyword(&mut self, word: &str) -> Result<Span, Stop>
-        ensures { Gives (word_tree word.now) result self.new.rest.now (read_one (OneOf (word.now ∷ [])) (spellings self.old.rest.now)) }
+        ensures { Reads (word_tree word.now) (One (OneOf (word.now ∷ []))) result self.old.rest.now self.new.rest.now }
     {
         match self.rest {
             [token, rest @ ..] if is_keyword(&token.kind, word) => {
@@ -140,7 +144,7 @@ impl<'s, 't> Parser<'s, 't> {
 
     /// This word, if it is the next token.
     pub(crate) fn optional_keyword(&mut self, word: &str) -> Result<Option<Span>, Stop>
-        ensures { Gives (optional (word_tree word.now)) result self.new.rest.now (read (Optional (One (OneOf (word.now ∷ [])))) (spellings self.old.rest.now)) }
+        ensures { Reads (optional (word_tree word.now)) (Optional (One (OneOf (word.now ∷ [])))) result self.old.rest.now self.new.rest.now }
     {
         if self.at_keyword(word) {
             let span = self.keyword(word)?;
@@ -149,8 +153,9 @@ impl<'s, 't> Parser<'s, 't> {
         Ok(None)
     }
 
+    /// A number.
     pub(crate) fn number(&mut self) -> Result<NumberLiteral, Stop>
-        ensures { Gives number_tree result self.new.rest.now (read_one AnyNumber (spellings self.old.rest.now)) }
+        ensures { Reads number_tree (One AnyNumber) result self.old.rest.now self.new.rest.now }
     {
         if let [token, rest @ ..] = self.rest
             && let TokenKind::Number(value) = &token.kind
@@ -164,8 +169,9 @@ impl<'s, 't> Parser<'s, 't> {
         Err(Stop::Unexpected)
     }
 
+    /// An identifier.
     pub(crate) fn name(&mut self) -> Result<Name<'s>, Stop>
-        ensures { Gives name_tree result self.new.rest.now (read_one (NoneOf []) (spellings self.old.rest.now)) }
+        ensures { Reads name_tree (One (NoneOf [])) result self.old.rest.now self.new.rest.now }
     {
         if let [token, rest @ ..] = self.rest
             && let TokenKind::Identifier(text) = &token.kind
@@ -182,7 +188,7 @@ impl<'s, 't> Parser<'s, 't> {
     /// This word, as a name.
     #[tactic(auto, using(crate::proofs::WordTests::fits_word))]
     pub(crate) fn word_name(&mut self, word: &str) -> Result<Name<'s>, Stop>
-        ensures gives { Gives name_tree result self.new.rest.now (read_one (OneOf (word.now ∷ [])) (spellings self.old.rest.now)) }
+        ensures gives { Reads name_tree (One (OneOf (word.now ∷ []))) result self.old.rest.now self.new.rest.now }
         ensures text { IfOk result (λ name. name.text ≡ word.now) }
     {
         if let [token, rest @ ..] = self.rest
@@ -200,7 +206,7 @@ impl<'s, 't> Parser<'s, 't> {
 
     /// The first word of the name of a type, without a leading dot.
     pub(crate) fn type_word(&mut self, position: Position) -> Result<Name<'s>, Stop>
-        ensures { Gives name_tree result self.new.rest.now (read_one (NoneOf (scalar_words ++ excluded_words position)) (spellings self.old.rest.now)) }
+        ensures { Reads name_tree (One (NoneOf (scalar_words ++ excluded_words position))) result self.old.rest.now self.new.rest.now }
     {
         if let [token, rest @ ..] = self.rest
             && let TokenKind::Identifier(text) = &token.kind
@@ -217,7 +223,7 @@ impl<'s, 't> Parser<'s, 't> {
 
     /// The name of an enum's value.
     pub(crate) fn value_name(&mut self) -> Result<Name<'s>, Stop>
-        ensures { Gives name_tree result self.new.rest.now (read_one (NoneOf (codes "option" ∷ codes "reserved" ∷ [])) (spellings self.old.rest.now)) }
+        ensures { Reads name_tree (One (NoneOf (codes "option" ∷ codes "reserved" ∷ []))) result self.old.rest.now self.new.rest.now }
     {
         if let [token, rest @ ..] = self.rest
             && let TokenKind::Identifier(text) = &token.kind
@@ -234,7 +240,7 @@ impl<'s, 't> Parser<'s, 't> {
 
     /// The word of a scalar type.
     pub(crate) fn scalar(&mut self) -> Result<(ScalarType, Span), Stop>
-        ensures { Gives (λ s. word_tree (word_of_scalar s.0) s.1) result self.new.rest.now (read_one (OneOf scalar_words) (spellings self.old.rest.now)) }
+        ensures { Reads (λ s. word_tree (word_of_scalar s.0) s.1) (One (OneOf scalar_words)) result self.old.rest.now self.new.rest.now }
     {
         if let [token, rest @ ..] = self.rest
             && let TokenKind::Identifier(text) = &token.kind
@@ -248,7 +254,7 @@ impl<'s, 't> Parser<'s, 't> {
 
     /// The word of the type of a map's key.
     pub(crate) fn key(&mut self) -> Result<(KeyType, Span), Stop>
-        ensures { Gives (λ k. word_tree (word_of_key k.0) k.1) result self.new.rest.now (read_one (OneOf key_words) (spellings self.old.rest.now)) }
+        ensures { Reads (λ k. word_tree (word_of_key k.0) k.1) (One (OneOf key_words)) result self.old.rest.now self.new.rest.now }
     {
         if let [token, rest @ ..] = self.rest
             && let TokenKind::Identifier(text) = &token.kind
@@ -262,7 +268,7 @@ impl<'s, 't> Parser<'s, 't> {
 
     /// One string literal.
     pub(crate) fn string_literal(&mut self) -> Result<StringLiteral<'s>, Stop>
-        ensures { Gives string_tree result self.new.rest.now (read_one AnyString (spellings self.old.rest.now)) }
+        ensures { Reads string_tree (One AnyString) result self.old.rest.now self.new.rest.now }
     {
         if let [token, rest @ ..] = self.rest
             && let TokenKind::StringLiteral(value) = &token.kind
