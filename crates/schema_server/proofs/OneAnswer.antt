@@ -1,5 +1,5 @@
 -- A text has one answer: one descriptor, or one fault.
-use Rattle.std.proofs.Common.{◌≡◌, ◌∙◌, ℕ, List, [], inl, inr, Some, None, ap, sym, refl, subst, length, Result, Ok, Err}
+use Rattle.std.proofs.Common.{◌≡◌, ◌∙◌, ℕ, List, inl, inr, None, ap, sym, refl, subst, length, Result, Ok, Err}
 use Rattle.std.specs.Prelude.{slice_get, MatchResult, IsErrAnd, Vec}
 use Rattle.std.specs.declared.alloc.Global.{Global}
 use Rattle.proto_tokens.specs.declared.kind.Kind.{Kind}

@@ -1,5 +1,5 @@
 -- What describing one source answers.
-use Rattle.std.specs.Prelude.{◌≡◌, ℕ, ◌≤◌, List, [], ◌⊎◌, length, string_bytes, Option, Some, slice_get}
+use Rattle.std.specs.Prelude.{◌≡◌, ℕ, ◌≤◌, List, [], ◌⊎◌, length, string_bytes, Some, slice_get}
 use Rattle.std.specs.Option.{option_map, unwrap_or}
 use Rattle.proto_tokens.specs.Token.{Spelled}
 use Rattle.proto_tokens.specs.Spelling.{IsTokenList, IsFault}
