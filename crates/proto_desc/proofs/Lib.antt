@@ -1,0 +1,5 @@
+mod Nested
+mod NoneMade
+mod Raised
+mod Free
+mod Resolves

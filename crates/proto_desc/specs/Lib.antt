@@ -1,0 +1,5 @@
+pub mod Lowering
+pub mod Names
+pub mod Resolved
+pub mod Rules
+pub mod WholeNumber

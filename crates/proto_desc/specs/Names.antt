@@ -1,0 +1,49 @@
+-- Names that are made of the names of fields.
+use Rattle.std.specs.Prelude.{ℕ, zero, suc, Bool, List, [], ◌∷◌, ◌++◌, if◌then◌else◌, ◌==◌, codes, length, encode_utf8_all, String, ◌≡◌}
+use Rattle.std.specs.List.{list_any}
+use Rattle.std.specs.Str.{chars, bytes_eq}
+use Rattle.std.specs.Char.{to_ascii_uppercase}
+use Rattle.std.specs.BTreeSet.{BTreeSet, contains_text}
+use Rattle.std.specs.declared.alloc.Global.{Global}
+
+-- what becomes of a character, by the one before it: `_` is dropped, and a lower-case ASCII letter directly behind `_` is raised
+abbrev pub letter_behind : ℕ → ℕ → List ℕ
+letter_behind before c = if c == 95 then [] else ((if before == 95 then to_ascii_uppercase c else c) ∷ [])
+
+abbrev pub letters_behind : ℕ → List ℕ → List ℕ
+letters_behind before [] = []
+letters_behind before (c ∷ cs) = letter_behind before c ++ letters_behind c cs
+
+-- a name whose first character is taken as if it stood behind `first`
+abbrev pub raised : ℕ → List ℕ → List ℕ
+raised first name = encode_utf8_all (letters_behind first (chars name))
+
+-- nothing stands before the first character of a field's name, which is as if a blank did
+abbrev pub json_name_of : List ℕ → List ℕ
+json_name_of name = raised 32 name
+
+-- an entry's name begins as if `_` stood before it
+abbrev pub entry_name_of : List ℕ → List ℕ
+entry_name_of name = raised 95 name ++ codes "Entry"
+
+-- a field's name with `_` put in front, unless it begins with `_`
+abbrev pub with_underscore : List ℕ → List ℕ
+with_underscore [] = 95 ∷ []
+with_underscore (c ∷ cs) = if c == 95 then c ∷ cs else 95 ∷ c ∷ cs
+
+-- `X` is put in front of a name as long as it is taken, but `most` times at most
+abbrev pub first_free : (is_taken : List ℕ → Bool) → (most : ℕ) → List ℕ → List ℕ
+first_free is_taken zero name = name
+first_free is_taken (suc most) name = if is_taken name then first_free is_taken most (88 ∷ name) else name
+
+abbrev pub is_among : List (List ℕ) → List ℕ → Bool
+is_among taken name = list_any (λ t. bytes_eq t name) taken
+
+-- the name of the oneof that an `optional` field makes. A name that is taken is as long as one of the names that are, so
+-- that no more of them are met than there are
+abbrev pub oneof_name_of : List (List ℕ) → List ℕ → List ℕ
+oneof_name_of taken field = first_free (is_among taken) (length taken) (with_underscore field)
+
+-- a set whose members are these names
+pub record IsSetOf (names : List (List ℕ)) (set : BTreeSet (String Global)) : Type 0 where
+  pub members : (name : List ℕ) → contains_text set name ≡ is_among names name

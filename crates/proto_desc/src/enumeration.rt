@@ -1,0 +1,34 @@
+//! Enums (`EnumDescriptorProto`, `EnumValueDescriptorProto`).
+
+use crate::options::OptionDesc;
+use crate::whole_number::WholeNumber;
+use proto_tokens::Place;
+use proto_tokens::row::Row;
+use proto_tokens::text::Text;
+
+/// A value of an enum.
+#[derive(Debug, Drop)]
+pub struct ValueDesc<'s> {
+    pub name: Text<'s>,
+    pub place: Place,
+    pub number: WholeNumber,
+    pub options: Row<OptionDesc<'s>>,
+}
+
+/// Reserved numbers of an enum, from `start` to `end`; both are reserved.
+#[derive(Clone, Copy, Debug, PartialEq, Eq)]
+pub struct EnumReservedRange {
+    pub start: WholeNumber,
+    pub end: WholeNumber,
+}
+
+/// An enum.
+#[derive(Debug, Drop)]
+pub struct EnumDesc<'s> {
+    pub name: Text<'s>,
+    pub place: Place,
+    pub values: Row<ValueDesc<'s>>,
+    pub options: Row<OptionDesc<'s>>,
+    pub reserved_ranges: Row<EnumReservedRange>,
+    pub reserved_names: Row<Text<'s>>,
+}

@@ -1,0 +1,38 @@
+//! Fields (`FieldDescriptorProto`).
+
+use crate::options::OptionDesc;
+use crate::type_name::TypeReference;
+use proto_syntax::tree::ScalarType;
+use proto_tokens::Place;
+use proto_tokens::row::Row;
+use proto_tokens::text::Text;
+
+/// The label: a field without one in the source is optional, a map field is repeated.
+#[derive(Clone, Copy, Debug, PartialEq, Eq)]
+pub enum FieldLabel {
+    Optional,
+    Repeated,
+}
+
+/// The type of a field: a scalar type, or a message or an enum by its name.
+#[derive(Debug, Drop)]
+pub enum FieldKind<'s> {
+    Scalar(ScalarType),
+    Named(TypeReference<'s>),
+}
+
+/// A field, a map field or a member of a oneof.
+#[derive(Debug, Drop)]
+pub struct FieldDesc<'s> {
+    pub name: Text<'s>,
+    pub place: Place,
+    pub number: u64,
+    pub label: FieldLabel,
+    pub field_type: FieldKind<'s>,
+    /// The position of its oneof in the message, real or made.
+    pub oneof_index: Option<usize>,
+    /// The option `json_name`, or else the name that is made of the field's.
+    pub json_name: Text<'s>,
+    pub proto3_optional: bool,
+    pub options: Row<OptionDesc<'s>>,
+}

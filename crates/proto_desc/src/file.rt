@@ -1,0 +1,36 @@
+//! Files (`FileDescriptorProto`).
+
+use crate::enumeration::EnumDesc;
+use crate::message::MessageDesc;
+use crate::options::OptionDesc;
+use crate::service::ServiceDesc;
+use proto_tokens::Place;
+use proto_tokens::row::Row;
+use proto_tokens::text::Text;
+
+/// The package of a file: its parts with dots between them, at the first part.
+#[derive(Debug, Drop)]
+pub struct PackageDesc<'s> {
+    pub name: Text<'s>,
+    pub place: Place,
+}
+
+/// An import: the path that it names, at its first string.
+#[derive(Debug, Drop)]
+pub struct ImportDesc<'s> {
+    pub path: Text<'s>,
+    pub place: Place,
+    pub is_public: bool,
+}
+
+/// A file. Of several package statements the first counts.
+#[derive(Debug, Drop)]
+pub struct FileDesc<'s> {
+    pub name: Text<'s>,
+    pub package: Option<PackageDesc<'s>>,
+    pub imports: Row<ImportDesc<'s>>,
+    pub messages: Row<MessageDesc<'s>>,
+    pub enums: Row<EnumDesc<'s>>,
+    pub services: Row<ServiceDesc<'s>>,
+    pub options: Row<OptionDesc<'s>>,
+}

@@ -1,0 +1,28 @@
+//! Services (`ServiceDescriptorProto`, `MethodDescriptorProto`).
+
+use crate::options::OptionDesc;
+use crate::type_name::TypeReference;
+use proto_tokens::Place;
+use proto_tokens::row::Row;
+use proto_tokens::text::Text;
+
+/// A method of a service.
+#[derive(Debug, Drop)]
+pub struct MethodDesc<'s> {
+    pub name: Text<'s>,
+    pub place: Place,
+    pub input: TypeReference<'s>,
+    pub output: TypeReference<'s>,
+    pub options: Row<OptionDesc<'s>>,
+    pub client_streaming: bool,
+    pub server_streaming: bool,
+}
+
+/// A service.
+#[derive(Debug, Drop)]
+pub struct ServiceDesc<'s> {
+    pub name: Text<'s>,
+    pub place: Place,
+    pub methods: Row<MethodDesc<'s>>,
+    pub options: Row<OptionDesc<'s>>,
+}

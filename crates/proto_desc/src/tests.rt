@@ -1,0 +1,6 @@
+//! Names, lowering and resolution by examples.
+
+mod lowering;
+mod names;
+mod resolved;
+mod trees;

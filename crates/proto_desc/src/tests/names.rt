@@ -1,0 +1,56 @@
+//! Names that are made, by hand from the language guide's rules.
+
+use crate::{entry_name, json_name, oneof_name};
+use std::test::Fail;
+
+#[test]
+fn json_names(rt: HostRuntime) -> Result<(), Fail> {
+    let rows = [
+        ("a_b", "aB"),
+        ("_a", "A"),
+        ("a_1b", "a1b"),
+        ("Ab_", "Ab"),
+        ("a__b", "aB"),
+        ("a_B", "aB"),
+        ("Ab", "Ab"),
+        ("__", ""),
+    ];
+    for (name, json) in rows {
+        assert_eq!(rt; json_name(rt.alloc(), name)?.as_str(), json, "{name}");
+    }
+    Ok(())
+}
+
+#[test]
+fn entry_names(rt: HostRuntime) -> Result<(), Fail> {
+    let rows = [
+        ("my_map", "MyMapEntry"),
+        ("m", "MEntry"),
+        ("_m", "MEntry"),
+        ("M_1a", "M1aEntry"),
+        ("a_", "AEntry"),
+    ];
+    for (field, name) in rows {
+        assert_eq!(rt; entry_name(rt.alloc(), field)?.as_str(), name, "{field}");
+    }
+    Ok(())
+}
+
+#[test]
+fn oneof_names(rt: HostRuntime) -> Result<(), Fail> {
+    let rows: [(&str, &[&str], &str); 5] = [
+        ("a", &["a"], "_a"),
+        ("a", &["a", "_a"], "X_a"),
+        ("a", &["_a", "XX_a", "X_a", "a"], "XXX_a"),
+        ("_a", &[], "_a"),
+        ("_a", &["_a", "X_a"], "XX_a"),
+    ];
+    for (field, taken, name) in rows {
+        assert_eq!(rt;
+            oneof_name(rt.alloc(), field, taken)?.as_str(),
+            name,
+            "{field}"
+        );
+    }
+    Ok(())
+}

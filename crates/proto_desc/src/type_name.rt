@@ -1,0 +1,20 @@
+//! Names of types (`FieldDescriptorProto.type_name`, language guide, "Packages and Name Resolution").
+
+use proto_tokens::Place;
+use proto_tokens::text::Text;
+
+/// What a type name means.
+#[derive(Clone, Copy, Debug, PartialEq, Eq)]
+pub enum TypeKind {
+    Message,
+    Enum,
+}
+
+/// The name of a message or an enum.
+#[derive(Debug, Drop)]
+pub enum TypeReference<'s> {
+    /// As the source spells it, with its dots, at its first token.
+    Spelled { text: Text<'s>, place: Place },
+    /// The full name behind a leading dot.
+    Resolved { full_name: Text<'s>, kind: TypeKind },
+}
