@@ -1,5 +1,6 @@
+pub mod PlacesWithin
 mod Nested
 mod NoneMade
 mod Raised
 mod Free
-mod Resolves
+pub mod Resolves

@@ -8,6 +8,7 @@ pub mod field;
 pub mod file;
 mod lowering;
 pub mod message;
+pub mod name_kind;
 mod names;
 pub mod oneof;
 pub mod options;

@@ -3,4 +3,4 @@
 mod lowering;
 mod names;
 mod resolved;
-mod trees;
+mod shown;

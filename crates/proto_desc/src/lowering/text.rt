@@ -8,10 +8,13 @@ use proto_syntax::tree::{FullName, NamePart, StringValue, TypeName};
 use proto_tokens::text::Text;
 use std::alloc::{AllocError, Global};
 
-/// The value of strings side by side.
+/// The value of strings side by side, borrowed if one stands alone that is borrowed.
 pub(crate) fn joined<'s>(alloc: Global, value: &StringValue<'s>) -> Result<Text<'s>, AllocError>
     ensures { IfOk result (λ text. text ≡ joined value.now) }
 {
+    if value.rest.as_slice().is_empty() {
+        return value.first.value.try_clone(alloc);
+    }
     let mut text = String::from_str(alloc, value.first.value.as_str())?;
     for literal in value.rest.as_slice() {
         text.push_str(literal.value.as_str())?;
