@@ -1,1 +1,3 @@
 mod Varints
+mod Messages
+mod Parts

@@ -1,2 +1,3 @@
 pub mod Varint
 pub mod Field
+pub mod Descriptor

@@ -1,0 +1,92 @@
+//! Files (`FileDescriptorProto`).
+
+ghost use Rattle.std.specs.Prelude.{◌≡◌, ◌++◌, IfOk, OnOk, codes, true};
+ghost use Rattle.proto_desc.specs.Resolved.{file_resolved};
+ghost use Rattle.wire_bytes.specs.Descriptor.{file_desc_bytes, package_name, public_fields, text_field};
+ghost use Rattle.wire_bytes.specs.Field.{bytes_field};
+
+use crate::backward::{Backward, Payload};
+use crate::descriptor::options::prepend_options;
+use proto_desc::file::{FileDesc, ImportDesc, PackageDesc};
+use proto_tokens::row::Row;
+use std::alloc::{AllocError, Global};
+
+/// An import as a dependency is its path.
+impl<'s> Payload for ImportDesc<'s> {
+    ghost bytes = { λ import. import.path };
+
+    fn prepend_to(&self, out: &mut Backward) -> Result<(), AllocError> {
+        self.path.prepend_to(out)
+    }
+}
+
+fn prepend_package(out: &mut Backward, package: &Option<PackageDesc>) -> Result<(), AllocError>
+    ensures { OnOk result (out.new ≡ text_field 2 (package_name «package».now) ++ out.old) }
+{
+    match package {
+        Some(package) => out.prepend_field(2, &package.name),
+        None => Ok(()),
+    }
+}
+
+/// Writes the positions of the public imports among the imports.
+fn prepend_public(out: &mut Backward, imports: &Row<ImportDesc>) -> Result<(), AllocError>
+    ensures { OnOk result (out.new ≡ public_fields 0 imports.now ++ out.old) }
+{
+    let imports = imports.as_slice();
+    for position in (0..imports.len()).rev() {
+        if imports[position].is_public {
+            out.prepend_number(10, position as u64)?;
+        }
+    }
+    Ok(())
+}
+
+fn prepend_syntax(out: &mut Backward) -> Result<(), AllocError>
+    ensures { OnOk result (out.new ≡ bytes_field 12 (codes "proto3") ++ out.old) }
+{
+    out.prepend_field(12, &"proto3")
+}
+
+fn prepend_file(out: &mut Backward, file: &FileDesc) -> Result<(), AllocError>
+    ensures { OnOk result (out.new ≡ file_desc_bytes file.now ++ out.old) }
+{
+    prepend_syntax(out)?;
+    prepend_public(out, &file.imports)?;
+    prepend_options(out, 8, &file.options)?;
+    out.prepend_fields(6, &file.services)?;
+    out.prepend_fields(5, &file.enums)?;
+    out.prepend_fields(4, &file.messages)?;
+    out.prepend_fields(3, &file.imports)?;
+    prepend_package(out, &file.package)?;
+    out.prepend_field(1, &file.name)
+}
+
+/// Room for what one element takes, such as a field with two names of ten bytes.
+const ELEMENT_ROOM: usize = 40;
+
+/// About how many bytes a file takes, by how many messages, enums and services there are on top, and how many fields,
+/// values and methods these have. Where it falls short the buffer grows.
+fn expected_len(file: &FileDesc) -> usize {
+    let messages = file.messages.iter().map(|message| message.fields.len());
+    let enums = file.enums.iter().map(|declared| declared.values.len());
+    let services = file.services.iter().map(|service| service.methods.len());
+    messages
+        .chain(enums)
+        .chain(services)
+        .fold(1usize, |elements, inner| {
+            elements.saturating_add(inner).saturating_add(1)
+        })
+        .saturating_mul(ELEMENT_ROOM)
+}
+
+/// The bytes of a file's descriptor (`descriptor.proto`, `FileDescriptorProto`): its fields by rising number, and in it
+/// those of each message. All type names are resolved, as `proto_desc::is_resolved` tests. It fails only for want of memory.
+pub fn file_bytes(alloc: Global, file: &FileDesc) -> Result<Vec<u8>, AllocError>
+    requires { file_resolved file.now ≡ true }
+    ensures { IfOk result (λ bytes. bytes.items ≡ file_desc_bytes file.now) }
+{
+    let mut out = Backward::with_room(alloc, expected_len(file))?;
+    prepend_file(&mut out, file)?;
+    Ok(out.into_vec())
+}
