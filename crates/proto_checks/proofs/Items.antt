@@ -1,0 +1,78 @@
+-- The statements of messages, and the messages within them.
+use Rattle.std.proofs.Common.{◌≡◌, ◌∙◌, ap, refl, List, [], ◌∷◌, ◌++◌, false, inl, inr}
+use Rattle.std.specs.Prelude.{Option, flat_map}
+use mathlib.Core.Former.{Count}
+use Rattle.proto_syntax.specs.declared.tree.enumeration.Enum.{Enum}
+use Rattle.proto_syntax.specs.declared.tree.field.Field.{Field}
+use Rattle.proto_syntax.specs.declared.tree.map_field.MapField.{MapField}
+use Rattle.proto_syntax.specs.declared.tree.message.Message.{Message}
+use Rattle.proto_syntax.specs.declared.tree.message.MessageItem.{MessageItem, Message', Row_of-MessageItem, end_of-MessageItem, more_of-MessageItem, items-the_row-MessageItem, items_hidden-the_row-MessageItem-0}
+use Rattle.proto_syntax.specs.declared.tree.message.MessageItem.TheVariants as of
+use Rattle.proto_syntax.specs.declared.tree.oneof.Oneof.{Oneof}
+use Rattle.proto_desc.specs.declared.rules.Element.TheVariants as element
+use Rattle.proto_desc.specs.Lowering.Options.{message_setting}
+use Rattle.proto_checks.specs.Elements.{OneofBreaks, oneof_of, EnumBreaks, enum_of, BodyBreaks, ItemBreaks, bodies_of, bodies_row, bodies}
+use Rattle.proto_checks.specs.Least.{IsLeast, IsLesser}
+use Rattle.proto_checks.specs.Numbers.{FieldNumbersBreak}
+use Rattle.proto_checks.specs.Options.{optioned, optioned_plain, optioned_member, optioned_fields, FieldOptionsBreak, SettingsBreak}
+use Rattle.proto_checks.specs.Sets.{Each}
+use Rattle.proto_checks.specs.declared.spot.Spot.{Spot}
+use Rattle.proto_checks.proofs.Among.{among_of, least_single}
+use Rattle.proto_checks.proofs.Three.{first_of_three, last_of_three, two_of_three, each_three}
+use Rattle.proto_checks.proofs.Sets.{Either, least_either, least_same}
+
+-- statements of a message
+pub item_field : (f : Field) (r : Option Spot) → IsLeast (FieldOptionsBreak (optioned_plain f)) r → IsLeast (ItemBreaks (of.Field f)) r
+item_field f r h = first_of_three (Each (optioned_plain f ∷ []) FieldOptionsBreak) (Each [] OneofBreaks) (Each [] EnumBreaks) r (among_of OneofBreaks []) (among_of EnumBreaks []) (least_single FieldOptionsBreak (optioned_plain f) r h)
+
+pub item_map : (m : MapField) (r : Option Spot) → IsLeast (FieldOptionsBreak (optioned m.declarator false false)) r → IsLeast (ItemBreaks (of.Map m)) r
+item_map m r h = first_of_three (Each (optioned m.declarator false false ∷ []) FieldOptionsBreak) (Each [] OneofBreaks) (Each [] EnumBreaks) r (among_of OneofBreaks []) (among_of EnumBreaks []) (least_single FieldOptionsBreak (optioned m.declarator false false) r h)
+
+pub item_enum : (e : Enum) (r : Option Spot) → IsLeast (EnumBreaks e) r → IsLeast (ItemBreaks (of.Enum e)) r
+item_enum e r h = last_of_three (Each [] FieldOptionsBreak) (Each [] OneofBreaks) (Each (e ∷ []) EnumBreaks) r (among_of FieldOptionsBreak []) (among_of OneofBreaks []) (least_single EnumBreaks e r h)
+
+pub item_oneof : (o : Oneof) (a b r : Option Spot) → IsLeast (Each (flat_map optioned_member o.items) FieldOptionsBreak) a → IsLeast (OneofBreaks o) b → IsLesser a b r → IsLeast (ItemBreaks (of.Oneof o)) r
+item_oneof o a b r h k w = two_of_three (Each (flat_map optioned_member o.items) FieldOptionsBreak) (Each (o ∷ []) OneofBreaks) (Each [] EnumBreaks) r (among_of EnumBreaks [])
+    (least_either (Each (flat_map optioned_member o.items) FieldOptionsBreak) (Each (o ∷ []) OneofBreaks) a b r h (least_single OneofBreaks o b k) w)
+
+-- a message without those within it
+abbrev Alone : List MessageItem → Spot → Type 0
+Alone items = Either (FieldNumbersBreak items) (SettingsBreak element.Message (flat_map message_setting items))
+
+abbrev Elements : List MessageItem → Spot → Type 0
+Elements items = Either (Either (Each (flat_map optioned_fields items) FieldOptionsBreak) (Each (flat_map oneof_of items) OneofBreaks)) (Each (flat_map enum_of items) EnumBreaks)
+
+body_parts : (items : List MessageItem) (x : Spot) → BodyBreaks items x → Either (Alone items) (Elements items) x
+body_parts items x (BodyBreaks.numbers s) = inl (inl s)
+body_parts items x (BodyBreaks.options s) = inl (inr s)
+body_parts items x (BodyBreaks.field_options s) = inr (inl (inl s))
+body_parts items x (BodyBreaks.in_oneof s) = inr (inl (inr s))
+body_parts items x (BodyBreaks.in_enum s) = inr (inr s)
+
+parts_body : (items : List MessageItem) (x : Spot) → Either (Alone items) (Elements items) x → BodyBreaks items x
+parts_body items x (inl (inl s)) = BodyBreaks.numbers s
+parts_body items x (inl (inr s)) = BodyBreaks.options s
+parts_body items x (inr (inl (inl s))) = BodyBreaks.field_options s
+parts_body items x (inr (inl (inr s))) = BodyBreaks.in_oneof s
+parts_body items x (inr (inr s)) = BodyBreaks.in_enum s
+
+pub body_least : (items : List MessageItem) (a b p ab r : Option Spot) → IsLeast (FieldNumbersBreak items) a → IsLeast (SettingsBreak element.Message (flat_map message_setting items)) b → IsLeast (Each items ItemBreaks) p → IsLesser a b ab → IsLesser ab p r → IsLeast (BodyBreaks items) r
+body_least items a b p ab r h k m u w = least_same (Either (Alone items) (Elements items)) (BodyBreaks items) r (body_parts items) (parts_body items)
+    (least_either (Alone items) (Elements items) ab p r
+    (least_either (FieldNumbersBreak items) (SettingsBreak element.Message (flat_map message_setting items)) a b ab h k u)
+    (each_three FieldOptionsBreak OneofBreaks EnumBreaks optioned_fields oneof_of enum_of items p m) w)
+
+-- a message as a statement
+row_flat : (n : _) (row : Row_of-MessageItem n) → bodies_row row ≡ flat_map bodies_of (items-the_row-MessageItem n row)
+row_flat n end_of-MessageItem = refl
+row_flat n (more_of-MessageItem i rest) = ap (λ xs. bodies_of i ++ xs) (row_flat _ rest)
+
+abbrev row_of : MessageItem → (n : Count) × Row_of-MessageItem n
+row_of (Message' keyword name open_brace shape row close_brace) = (_, row)
+row_of _ = (_, end_of-MessageItem)
+
+pub nested_bodies : (m : Message) → bodies_of (of.Message m) ≡ bodies m.items
+nested_bodies m =
+    let row = row_of (of.Message m) in
+    ap (λ xs. items-the_row-MessageItem row.0 row.1 ∷ xs) (row_flat row.0 row.1)
+    ∙ ap (λ is. is ∷ flat_map bodies_of is) (items_hidden-the_row-MessageItem-0 m.items)

@@ -1,0 +1,92 @@
+-- Package statements: each but the first is one too many.
+use Rattle.std.proofs.Common.{◌≡◌, ◌∙◌, sym, ap, refl, subst, ℕ, zero, suc, ◌+◌, ◌<◌, ◌≤◌, Bool, true, List, [], ◌∷◌, ◌++◌, length, get_or, take, false, arith, inl, inr, ◌⊎◌}
+use Rattle.std.specs.Prelude.{Option, None, ◌↔◌, flat_map}
+use Rattle.std.proofs.lemmas.Bool.{cases_lt, false≢true}
+use Rattle.std.proofs.lemmas.List.{length-append, append-nil, take_all}
+use Rattle.proto_tokens.specs.declared.kind.Kind.TheVariants as kind
+use Rattle.proto_tokens.specs.declared.limits.Limits.{Limits}
+use Rattle.proto_syntax.specs.declared.tree.file.Package.{Package}
+use Rattle.proto_syntax.specs.declared.tree.file.Statement.{Statement}
+use Rattle.proto_checks.specs.Checks.{package_in, PackageTwice, parts_of, IsPartTooLong, IsWholeTooLong, PackageTooLong, Where}
+use Rattle.proto_checks.specs.Least.{IsLeast, IsLesser, spot}
+use Rattle.proto_checks.specs.Sets.{Each}
+use Rattle.proto_checks.specs.declared.spot.Spot.{Spot}
+use Rattle.proto_checks.proofs.Among.{taken, later_short}
+use Rattle.proto_checks.proofs.Sets.{Either, least_either, least_or, least_same}
+
+abbrev pub again : Package → Spot
+again p = spot p.keyword.start kind.PackageTwice
+
+-- what a loop over packages keeps
+pub record Repeated (ps : List Package) (is_named : Bool) (first : Option Spot) : Type 0 where
+  pub named : (is_named ≡ true) ↔ (0 < length ps)
+  pub least : IsLeast (PackageTwice ps) first
+
+stands_left : {X : Type 0} (xs ys : List X) (i : ℕ) (a : X) → i < length xs → get_or xs i a ≡ a → get_or (xs ++ ys) i a ≡ a
+stands_left [] ys i a within at = absurd (omega arith)
+stands_left (b ∷ rest) ys zero a within at = at
+stands_left (b ∷ rest) ys (suc i) a within at = stands_left rest ys i a (omega arith) at
+
+stands_back : {X : Type 0} (xs ys : List X) (i : ℕ) (a : X) → i < length xs → get_or (xs ++ ys) i a ≡ a → get_or xs i a ≡ a
+stands_back [] ys i a within at = absurd (omega arith)
+stands_back (b ∷ rest) ys zero a within at = at
+stands_back (b ∷ rest) ys (suc i) a within at = stands_back rest ys i a (omega arith) at
+
+last_is : {X : Type 0} (xs : List X) (p b : X) → get_or (xs ++ p ∷ []) (length xs) b ≡ p
+last_is [] p b = refl
+last_is (c ∷ rest) p b = last_is rest p b
+
+longer : {X : Type 0} (xs : List X) (p : X) → length (xs ++ p ∷ []) ≡ length xs + 1
+longer xs p = length-append xs (p ∷ [])
+
+old_pair : (ps : List Package) (p : Package) (x : Spot) → PackageTwice ps x → PackageTwice (ps ++ p ∷ []) x
+old_pair ps p x (i, j, a, b, before, s, t, u, e) =
+    (i, j, a, b, before, (omega (arith, s.0, longer ps p), stands_left ps (p ∷ []) i a s.0 s.1), (omega (arith, t.0, longer ps p), stands_left ps (p ∷ []) j b t.0 t.1), u, e)
+
+new_pair : (ps : List Package) (p : Package) (x : Spot) → 0 < length ps → x ≡ again p → PackageTwice (ps ++ p ∷ []) x
+new_pair [] p x some e = absurd (omega arith)
+new_pair (q ∷ qs) p x some e =
+    (0, length (q ∷ qs), q, p, some, (omega (arith, longer (q ∷ qs) p), refl), (omega (arith, longer (q ∷ qs) p), last_is (q ∷ qs) p p), tt, e)
+
+split_pair : (ps : List Package) (p : Package) (x : Spot) → PackageTwice (ps ++ p ∷ []) x → PackageTwice ps x ⊎ ((0 < length ps) × (x ≡ again p))
+split_pair ps p x (i, j, a, b, before, s, t, u, e) = elim (cases_lt j (length ps)) [
+  | inl old ↦ inl (i, j, a, b, before, (omega arith, stands_back ps (p ∷ []) i a (omega arith) s.1), (old, stands_back ps (p ∷ []) j b old t.1), u, e)
+  | inr last ↦ (
+      let here : j ≡ length ps = omega (arith, t.0, longer ps p) in
+      let same : b ≡ p = sym t.1 ∙ ap (λ k. get_or (ps ++ p ∷ []) k b) here ∙ last_is ps p b in
+      inr (omega arith, e ∙ ap again same))
+]
+
+pub repeated_more : (ps : List Package) (p : Package) (is_named : Bool) (a b r : Option Spot) → Repeated ps is_named a → IsLeast (Where (is_named ≡ true) (again p)) b → IsLesser a b r → Repeated (ps ++ p ∷ []) true r
+repeated_more ps p is_named a b r h k w = record {
+  named = (λ e. omega (arith, longer ps p), λ some. refl);
+  least = least_or (PackageTwice ps) (Where (is_named ≡ true) (again p)) (PackageTwice (ps ++ p ∷ [])) a b r
+      (λ x v. elim (split_pair ps p x v) [ inl u ↦ inl u | inr u ↦ inr (h.named.1 u.0, u.1) ])
+      (old_pair ps p)
+      (λ x v. new_pair ps p x (h.named.0 v.0) v.1)
+      h.least k w;
+}
+
+pub repeated_none : Repeated [] false None
+repeated_none = record {
+  named = (λ e. absurd (false≢true e), λ some. absurd (omega arith));
+  least = later_short [] (λ p q. Unit {0}) again (omega arith);
+}
+
+-- a loop over statements
+pub repeated_next : (ss : List Statement) (i : ℕ) (s : Statement) (p : Package) (is_named : Bool) (a b r : Option Spot) → i < length ss → s ≡ get_or ss i s → package_in s ≡ p ∷ [] → Repeated (flat_map package_in (take i ss)) is_named a → IsLeast (Where (is_named ≡ true) (again p)) b → IsLesser a b r → Repeated (flat_map package_in (take (i + 1) ss)) true r
+repeated_next ss i s p is_named a b r within at one h k w =
+    subst (λ ps. Repeated ps true r) (sym (taken package_in ss i s within at ∙ ap (λ z. flat_map package_in (take i ss) ++ z) one)) (repeated_more (flat_map package_in (take i ss)) p is_named a b r h k w)
+
+pub repeated_skip : (ss : List Statement) (i : ℕ) (s : Statement) (is_named : Bool) (a : Option Spot) → i < length ss → s ≡ get_or ss i s → package_in s ≡ [] → Repeated (flat_map package_in (take i ss)) is_named a → Repeated (flat_map package_in (take (i + 1) ss)) is_named a
+repeated_skip ss i s is_named a within at none h =
+    subst (λ ps. Repeated ps is_named a) (sym (taken package_in ss i s within at ∙ ap (λ z. flat_map package_in (take i ss) ++ z) none ∙ append-nil (flat_map package_in (take i ss)))) h
+
+pub repeated_all : (ss : List Statement) (i : ℕ) (is_named : Bool) (a : Option Spot) → length ss ≤ i → Repeated (flat_map package_in (take i ss)) is_named a → IsLeast (PackageTwice (flat_map package_in ss)) a
+repeated_all ss i is_named a end h = subst (λ ys. IsLeast (PackageTwice (flat_map package_in ys)) a) (take_all i ss end) h.least
+
+pub package_least : (limits : Limits) (p : Package) (a b r : Option Spot) → IsLeast (Each (parts_of p.name) (IsPartTooLong limits p.name.first.span.start)) a → IsLeast (IsWholeTooLong limits p.name.first.span.start p.name) b → IsLesser a b r → IsLeast (PackageTooLong limits p) r
+package_least limits p a b r h k w = least_same (Either (Each (parts_of p.name) (IsPartTooLong limits p.name.first.span.start)) (IsWholeTooLong limits p.name.first.span.start p.name)) (PackageTooLong limits p) r
+    (λ x v. elim v [ PackageTooLong.part s ↦ inl s | PackageTooLong.whole s ↦ inr s ])
+    (λ x v. elim v [ inl s ↦ PackageTooLong.part s | inr s ↦ PackageTooLong.whole s ])
+    (least_either (Each (parts_of p.name) (IsPartTooLong limits p.name.first.span.start)) (IsWholeTooLong limits p.name.first.span.start p.name) a b r h k w)

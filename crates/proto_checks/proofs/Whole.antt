@@ -1,0 +1,77 @@
+-- The rules of a file as unions of those that functions look at.
+use Rattle.std.proofs.Common.{List, [], ◌∷◌, ◌++◌, inl, inr}
+use Rattle.std.specs.Prelude.{Option, flat_map}
+use Rattle.proto_tokens.specs.declared.limits.Limits.{Limits}
+use Rattle.proto_syntax.specs.declared.tree.enumeration.Enum.{Enum}
+use Rattle.proto_syntax.specs.declared.tree.file.FileTree.{FileTree}
+use Rattle.proto_syntax.specs.declared.tree.file.Statement.{Statement}
+use Rattle.proto_syntax.specs.declared.tree.file.Statement.TheVariants as statement
+use Rattle.proto_syntax.specs.declared.tree.service.Service.{Service}
+use Rattle.proto_desc.specs.DeclaredNames.{declared_by_message, declared_by_enum, declared_by_service, declared_by, file_scope}
+use Rattle.proto_desc.specs.declared.file.FileDesc.{FileDesc}
+use Rattle.proto_checks.specs.Checks.{body_in, enum_in, service_in, HeadBreaks, StatementBreaks, NamesBreak, LengthsBreak, IsTooLong, FileBreaks}
+use Rattle.proto_checks.specs.Elements.{BodyBreaks, EnumBreaks, ServiceBreaks}
+use Rattle.proto_checks.specs.Least.{IsLeast, IsLesser}
+use Rattle.proto_checks.specs.Sets.{Each}
+use Rattle.proto_checks.specs.declared.spot.Spot.{Spot}
+use Rattle.proto_checks.proofs.Among.{among_of, least_single, least_append}
+use Rattle.proto_checks.proofs.Sets.{Either, least_either, least_same}
+use Rattle.proto_checks.proofs.Three.{second_of_three, last_of_three, each_three}
+
+pub statement_enum : (e : Enum) (r : Option Spot) → IsLeast (EnumBreaks e) r → IsLeast (StatementBreaks (statement.Enum e)) r
+statement_enum e r h = second_of_three (Each [] BodyBreaks) (Each (e ∷ []) EnumBreaks) (Each [] ServiceBreaks) r (among_of BodyBreaks []) (among_of ServiceBreaks []) (least_single EnumBreaks e r h)
+
+pub statement_service : (s : Service) (r : Option Spot) → IsLeast (ServiceBreaks s) r → IsLeast (StatementBreaks (statement.Service s)) r
+statement_service s r h = last_of_three (Each [] BodyBreaks) (Each [] EnumBreaks) (Each (s ∷ []) ServiceBreaks) r (among_of BodyBreaks []) (among_of EnumBreaks []) (least_single ServiceBreaks s r h)
+
+pub declared_least : (limits : Limits) (desc : FileDesc) (a b p ab r : Option Spot) →
+    IsLeast (Each (flat_map (λ m. declared_by_message m (file_scope desc.«package»)) desc.messages) (IsTooLong limits)) a →
+    IsLeast (Each (flat_map (declared_by_enum (file_scope desc.«package»)) desc.enums) (IsTooLong limits)) b →
+    IsLeast (Each (flat_map (declared_by_service (file_scope desc.«package»)) desc.services) (IsTooLong limits)) p →
+    IsLesser a b ab → IsLesser ab p r → IsLeast (Each (declared_by desc) (IsTooLong limits)) r
+declared_least limits desc a b p ab r h k m u w =
+    let scope = file_scope desc.«package» in
+    let messages = flat_map (λ m. declared_by_message m scope) desc.messages in
+    let enums = flat_map (declared_by_enum scope) desc.enums in
+    let services = flat_map (declared_by_service scope) desc.services in
+    least_append (IsTooLong limits) (messages ++ enums) services ab p r (least_append (IsTooLong limits) messages enums a b ab h k u) m w
+
+abbrev Elements : List Statement → Spot → Type 0
+Elements ss = Either (Either (Each (flat_map body_in ss) BodyBreaks) (Each (flat_map enum_in ss) EnumBreaks)) (Each (flat_map service_in ss) ServiceBreaks)
+
+abbrev Parts : Limits → FileTree → FileDesc → Spot → Type 0
+Parts limits tree desc = Either (Either (HeadBreaks tree desc) (Elements tree.statements)) (Either (NamesBreak desc) (LengthsBreak limits tree desc))
+
+file_parts : (limits : Limits) (tree : FileTree) (desc : FileDesc) (x : Spot) → FileBreaks limits tree desc x → Parts limits tree desc x
+file_parts limits tree desc x (FileBreaks.not_proto3 s) = inl (inl (inl (inl s)))
+file_parts limits tree desc x (FileBreaks.package_twice s) = inl (inl (inl (inr s)))
+file_parts limits tree desc x (FileBreaks.import_twice s) = inl (inl (inr (inl s)))
+file_parts limits tree desc x (FileBreaks.options s) = inl (inl (inr (inr s)))
+file_parts limits tree desc x (FileBreaks.in_message s) = inl (inr (inl (inl s)))
+file_parts limits tree desc x (FileBreaks.in_enum s) = inl (inr (inl (inr s)))
+file_parts limits tree desc x (FileBreaks.in_service s) = inl (inr (inr s))
+file_parts limits tree desc x (FileBreaks.message_names s) = inr (inl (inl s))
+file_parts limits tree desc x (FileBreaks.enum_names s) = inr (inl (inr s))
+file_parts limits tree desc x (FileBreaks.package_long s) = inr (inr (inl s))
+file_parts limits tree desc x (FileBreaks.name_long s) = inr (inr (inr s))
+
+parts_file : (limits : Limits) (tree : FileTree) (desc : FileDesc) (x : Spot) → Parts limits tree desc x → FileBreaks limits tree desc x
+parts_file limits tree desc x (inl (inl (inl (inl s)))) = FileBreaks.not_proto3 s
+parts_file limits tree desc x (inl (inl (inl (inr s)))) = FileBreaks.package_twice s
+parts_file limits tree desc x (inl (inl (inr (inl s)))) = FileBreaks.import_twice s
+parts_file limits tree desc x (inl (inl (inr (inr s)))) = FileBreaks.options s
+parts_file limits tree desc x (inl (inr (inl (inl s)))) = FileBreaks.in_message s
+parts_file limits tree desc x (inl (inr (inl (inr s)))) = FileBreaks.in_enum s
+parts_file limits tree desc x (inl (inr (inr s))) = FileBreaks.in_service s
+parts_file limits tree desc x (inr (inl (inl s))) = FileBreaks.message_names s
+parts_file limits tree desc x (inr (inl (inr s))) = FileBreaks.enum_names s
+parts_file limits tree desc x (inr (inr (inl s))) = FileBreaks.package_long s
+parts_file limits tree desc x (inr (inr (inr s))) = FileBreaks.name_long s
+
+pub file_least : (limits : Limits) (tree : FileTree) (desc : FileDesc) (a b p q ab pq r : Option Spot) → IsLeast (HeadBreaks tree desc) a → IsLeast (Each tree.statements StatementBreaks) b → IsLeast (NamesBreak desc) p → IsLeast (LengthsBreak limits tree desc) q → IsLesser a b ab → IsLesser p q pq → IsLesser ab pq r → IsLeast (FileBreaks limits tree desc) r
+file_least limits tree desc a b p q ab pq r h k m n u v w =
+    let elements = each_three BodyBreaks EnumBreaks ServiceBreaks body_in enum_in service_in tree.statements b k in
+    least_same (Parts limits tree desc) (FileBreaks limits tree desc) r (file_parts limits tree desc) (parts_file limits tree desc)
+    (least_either (Either (HeadBreaks tree desc) (Elements tree.statements)) (Either (NamesBreak desc) (LengthsBreak limits tree desc)) ab pq r
+    (least_either (HeadBreaks tree desc) (Elements tree.statements) a b ab h elements u)
+    (least_either (NamesBreak desc) (LengthsBreak limits tree desc) p q pq m n v) w)

@@ -1,0 +1,7 @@
+use Rattle.std.proofs.Common.{◌≡◌, take}
+use Rattle.std.specs.Prelude.{flat_map}
+use Rattle.proto_checks.specs.Gathered.{bounds_of}
+use Rattle.proto_checks.proofs.gathered.bounds_of.Given as goal
+
+abbrev pub invariant-loop-range : goal.invariant-loop-range
+invariant-loop-range g l = l.bounds.items ≡ flat_map bounds_of (take l.range-index l.listed)

@@ -1,0 +1,10 @@
+use Rattle.std.proofs.Common.{take, ◌∷◌}
+use Rattle.std.specs.Prelude.{flat_map}
+use Rattle.proto_checks.specs.Checks.{MessageNamesBreak, names_of}
+use Rattle.proto_checks.specs.Least.{IsLeast}
+use Rattle.proto_checks.specs.Sets.{Each}
+use Rattle.proto_checks.proofs.Named.{own_names}
+use Rattle.proto_checks.proofs.names.+message_names_fault.Given as goal
+
+abbrev pub invariant-loop-nested : goal.invariant-loop-nested
+invariant-loop-nested l = IsLeast (Each (own_names l.message ∷ flat_map names_of (take l.nested-index l.nested-items)) MessageNamesBreak) l.first

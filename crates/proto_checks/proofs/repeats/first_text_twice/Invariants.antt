@@ -1,0 +1,7 @@
+use Rattle.proto_checks.specs.Least.{spot}
+use Rattle.proto_checks.specs.Marks.{Marked}
+use Rattle.proto_checks.proofs.Sets.{Passed, text_cmp}
+use Rattle.proto_checks.proofs.repeats.first_text_twice.Given as goal
+
+abbrev pub invariant-loop-marked : goal.invariant-loop-marked
+invariant-loop-marked l = Passed text_cmp (λ k. k.now) (λ (a : Marked). a.text) (λ (a : Marked). spot a.place l.fn.kind) l.texts l.seen l.marked-index l.first

@@ -1,0 +1,157 @@
+-- The rules of a file that its own source can break.
+use Rattle.std.specs.Prelude.{◌≡◌, ◌≢◌, ℕ, ◌<◌, ◌⊎◌, List, [], ◌∷◌, map, flat_map, length, codes}
+use Rattle.proto_tokens.specs.Limits.{limit_of}
+use Rattle.proto_tokens.specs.declared.kind.Kind.{Kind}
+use Rattle.proto_tokens.specs.declared.kind.Kind.TheVariants as kind
+use Rattle.proto_tokens.specs.declared.limits.Limit.TheVariants as limit
+use Rattle.proto_tokens.specs.declared.limits.Limits.{Limits}
+use Rattle.proto_tokens.specs.declared.place.Place.{Place}
+use Rattle.proto_syntax.specs.declared.tree.enumeration.Enum.{Enum}
+use Rattle.proto_syntax.specs.declared.tree.file.FileTree.{FileTree}
+use Rattle.proto_syntax.specs.declared.tree.file.Package.{Package}
+use Rattle.proto_syntax.specs.declared.tree.file.Statement.{Statement}
+use Rattle.proto_syntax.specs.declared.tree.file.Statement.TheVariants as statement
+use Rattle.proto_syntax.specs.declared.tree.file.Syntax.{Syntax}
+use Rattle.proto_syntax.specs.declared.tree.message.MessageItem.{MessageItem}
+use Rattle.proto_syntax.specs.declared.tree.name.FullName.{FullName}
+use Rattle.proto_syntax.specs.declared.tree.name.NamePart.{NamePart}
+use Rattle.proto_syntax.specs.declared.tree.service.Service.{Service}
+use Rattle.proto_desc.specs.DeclaredNames.{Declared, full_name, declared_by}
+use Rattle.proto_desc.specs.declared.enumeration.EnumDesc.{EnumDesc}
+use Rattle.proto_desc.specs.declared.enumeration.ValueDesc.{ValueDesc}
+use Rattle.proto_desc.specs.declared.field.FieldDesc.{FieldDesc}
+use Rattle.proto_desc.specs.declared.file.FileDesc.{FileDesc}
+use Rattle.proto_desc.specs.declared.file.ImportDesc.{ImportDesc}
+use Rattle.proto_desc.specs.declared.message.MessageDesc.{MessageDesc}
+use Rattle.proto_desc.specs.declared.message.MessageDesc.TheOpen.{MessageDesc-F}
+use Rattle.proto_desc.specs.declared.message.MessageDesc.TheFolds.{fold-MessageDesc}
+use Rattle.proto_desc.specs.declared.rules.Element.TheVariants as element
+use Rattle.proto_desc.specs.Lowering.Options.{file_setting}
+use Rattle.proto_desc.specs.Lowering.Text.{dotted, joined}
+use Rattle.proto_checks.specs.Elements.{BodyBreaks, EnumBreaks, ServiceBreaks, bodies}
+use Rattle.proto_checks.specs.Least.{spot}
+use Rattle.proto_checks.specs.Marks.{Marked, TextTwice, ReservedNameUsed}
+use Rattle.proto_checks.specs.Options.{SettingsBreak}
+use Rattle.proto_checks.specs.Sets.{Each, Later}
+use Rattle.proto_checks.specs.declared.spot.Spot.{Spot}
+
+-- the syntax is named first
+abbrev pub NotProto3Syntax : Syntax → Spot → Type 0
+NotProto3Syntax s x = (joined s.version ≢ codes "proto3") × (x ≡ spot s.version.first.span.start kind.NotProto3Syntax)
+
+-- the one spot, where P holds
+abbrev pub Where : Type 0 → Spot → Spot → Type 0
+Where P s x = P × (x ≡ s)
+
+-- what stands at the top of a file
+abbrev pub package_in : Statement → List Package
+package_in (statement.Package p) = p ∷ []
+package_in s = []
+
+abbrev pub body_in : Statement → List (List MessageItem)
+body_in (statement.Message m) = bodies m.items
+body_in s = []
+
+abbrev pub enum_in : Statement → List Enum
+enum_in (statement.Enum e) = e ∷ []
+enum_in s = []
+
+abbrev pub service_in : Statement → List Service
+service_in (statement.Service s) = s ∷ []
+service_in s = []
+
+abbrev pub PackageTwice : List Package → Spot → Type 0
+PackageTwice ps = Later ps (λ p q. Unit {0}) (λ q. spot q.keyword.start kind.PackageTwice)
+
+abbrev pub import_mark : ImportDesc → Marked
+import_mark i = record { text = i.path; place = i.place }
+
+abbrev pub ImportTwice : List ImportDesc → Spot → Type 0
+ImportTwice is = TextTwice kind.ImportTwice (map import_mark is)
+
+-- names and full names
+abbrev pub IsTooLong : Limits → Declared → Spot → Type 0
+IsTooLong limits d x =
+    ((limit_of limits limit.NameBytes < length d.name) ⊎ (limit_of limits limit.FullNameBytes < length (full_name d)))
+    × (x ≡ spot d.place kind.NameTooLong)
+
+abbrev pub part_name : NamePart → List ℕ
+part_name p = p.name.text
+
+abbrev pub parts_of : FullName → List (List ℕ)
+parts_of n = n.first.text ∷ map part_name n.rest
+
+-- a package's parts, and the whole of it
+abbrev pub IsPartTooLong : Limits → Place → List ℕ → Spot → Type 0
+IsPartTooLong limits at part x = (limit_of limits limit.NameBytes < length part) × (x ≡ spot at kind.NameTooLong)
+
+abbrev pub IsWholeTooLong : Limits → Place → FullName → Spot → Type 0
+IsWholeTooLong limits at name x = (limit_of limits limit.FullNameBytes < length (dotted name)) × (x ≡ spot at kind.NameTooLong)
+
+pub data PackageTooLong (limits : Limits) (p : Package) (x : Spot) : Type 0 where
+  part : Each (parts_of p.name) (IsPartTooLong limits p.name.first.span.start) x → PackageTooLong limits p x
+  whole : IsWholeTooLong limits p.name.first.span.start p.name x → PackageTooLong limits p x
+
+-- the names of a message's fields, and of an enum's values
+abbrev pub json_mark : FieldDesc → Marked
+json_mark f = record { text = f.json_name; place = f.place }
+
+abbrev pub field_mark : FieldDesc → Marked
+field_mark f = record { text = f.name; place = f.place }
+
+abbrev pub value_mark : ValueDesc → Marked
+value_mark v = record { text = v.name; place = v.place }
+
+abbrev pub EnumNamesBreak : EnumDesc → Spot → Type 0
+EnumNamesBreak e = ReservedNameUsed e.reserved_names (map value_mark e.values)
+
+-- the names of one message, without those of the messages within it
+pub record MessageNames : Type 0 where
+  pub fields : List FieldDesc
+  pub reserved_names : List (List ℕ)
+  pub enums : List EnumDesc
+
+pub data MessageNamesBreak (m : MessageNames) (x : Spot) : Type 0 where
+  json_twice : TextTwice kind.JsonNameTwice (map json_mark m.fields) x → MessageNamesBreak m x
+  reserved : ReservedNameUsed m.reserved_names (map field_mark m.fields) x → MessageNamesBreak m x
+  in_enum : Each m.enums EnumNamesBreak x → MessageNamesBreak m x
+
+-- a message, and then those within it, at each depth
+abbrev pub names_step : MessageDesc-F (List MessageNames) → List MessageNames
+names_step m = record { fields = m.fields; reserved_names = m.reserved_names; enums = m.enums } ∷ flat_map (λ names. names) m.nested
+
+abbrev pub names_of : MessageDesc → List MessageNames
+names_of = fold-MessageDesc (List MessageNames) names_step
+
+-- the parts of those rules
+abbrev pub HeadBreaks : FileTree → FileDesc → Spot → Type 0
+HeadBreaks tree desc x =
+    (NotProto3Syntax tree.syntax x ⊎ PackageTwice (flat_map package_in tree.statements) x)
+    ⊎ (ImportTwice desc.imports x ⊎ SettingsBreak element.File (flat_map file_setting tree.statements) x)
+
+abbrev pub StatementBreaks : Statement → Spot → Type 0
+StatementBreaks s x = (Each (body_in s) BodyBreaks x ⊎ Each (enum_in s) EnumBreaks x) ⊎ Each (service_in s) ServiceBreaks x
+
+abbrev pub NamesBreak : FileDesc → Spot → Type 0
+NamesBreak desc x = Each (flat_map names_of desc.messages) MessageNamesBreak x ⊎ Each desc.enums EnumNamesBreak x
+
+abbrev pub LengthsBreak : Limits → FileTree → FileDesc → Spot → Type 0
+LengthsBreak limits tree desc x = Each (flat_map package_in tree.statements) (PackageTooLong limits) x ⊎ Each (declared_by desc) (IsTooLong limits) x
+
+-- a place and what is wrong there
+abbrev pub spot_of : Place × Kind → Spot
+spot_of fault = spot fault.0 fault.1
+
+-- the rules that a file breaks, by its tree and by the descriptor that the tree is lowered to
+pub data FileBreaks (limits : Limits) (tree : FileTree) (desc : FileDesc) (x : Spot) : Type 0 where
+  not_proto3 : NotProto3Syntax tree.syntax x → FileBreaks limits tree desc x
+  package_twice : PackageTwice (flat_map package_in tree.statements) x → FileBreaks limits tree desc x
+  import_twice : ImportTwice desc.imports x → FileBreaks limits tree desc x
+  options : SettingsBreak element.File (flat_map file_setting tree.statements) x → FileBreaks limits tree desc x
+  in_message : Each (flat_map body_in tree.statements) BodyBreaks x → FileBreaks limits tree desc x
+  in_enum : Each (flat_map enum_in tree.statements) EnumBreaks x → FileBreaks limits tree desc x
+  in_service : Each (flat_map service_in tree.statements) ServiceBreaks x → FileBreaks limits tree desc x
+  message_names : Each (flat_map names_of desc.messages) MessageNamesBreak x → FileBreaks limits tree desc x
+  enum_names : Each desc.enums EnumNamesBreak x → FileBreaks limits tree desc x
+  package_long : Each (flat_map package_in tree.statements) (PackageTooLong limits) x → FileBreaks limits tree desc x
+  name_long : Each (declared_by desc) (IsTooLong limits) x → FileBreaks limits tree desc x

@@ -1,0 +1,13 @@
+pub mod Least
+pub mod Sets
+pub mod Marks
+pub mod Covers
+pub mod Gathered
+pub mod Options
+pub mod Judged
+pub mod Numbers
+pub mod Breaks
+pub mod NameSets
+pub mod Elements
+pub mod Checks
+pub mod Lengths

@@ -1,0 +1,111 @@
+//! Rules on the statements of a message, and of the messages within it.
+
+ghost use Rattle.std.specs.Prelude.{◌≡◌, IfOk, flat_map};
+ghost use Rattle.proto_syntax.specs.declared.tree.message.MessageItem as message_item;
+ghost use Rattle.proto_checks.specs.Elements.{bodies, BodyBreaks, ItemBreaks};
+ghost use Rattle.proto_checks.specs.Least.{IsLeast};
+ghost use Rattle.proto_checks.specs.Options.{optioned_plain, optioned_in_oneof, optioned_member, FieldOptionsBreak};
+ghost use Rattle.proto_checks.specs.Sets.{Each};
+
+use crate::enumeration::enum_fault;
+use crate::field_options::{field_options_fault, is_packed_type, is_repeated, is_wide};
+use crate::numbers::first_field_number_fault;
+use crate::oneof::oneof_fault;
+use crate::options::settings_fault;
+use crate::settings::message_settings;
+use crate::spot::{Spot, lesser};
+use proto_syntax::tree::{Field, Message, MessageItem, Oneof, OneofField, OneofItem};
+use std::alloc::{AllocError, Global};
+
+fn field_fault(alloc: Global, field: &Field) -> Result<Option<Spot>, AllocError>
+    ensures { IfOk result (λ first. IsLeast (FieldOptionsBreak (optioned_plain field.now)) first) }
+{
+    let can_be_packed = is_repeated(&field.label) && is_packed_type(&field.field_type);
+    let is_wide_integer = is_wide(&field.field_type);
+    field_options_fault(alloc, &field.declarator, can_be_packed, is_wide_integer)
+}
+
+fn member_fault(alloc: Global, field: &OneofField) -> Result<Option<Spot>, AllocError>
+    ensures { IfOk result (λ first. IsLeast (FieldOptionsBreak (optioned_in_oneof field.now)) first) }
+{
+    field_options_fault(alloc, &field.declarator, false, is_wide(&field.field_type))
+}
+
+fn members_fault(alloc: Global, items: &[OneofItem]) -> Result<Option<Spot>, AllocError>
+    ensures { IfOk result (λ first. IsLeast (Each (flat_map optioned_member items.now) FieldOptionsBreak) first) }
+{
+    let mut first = None;
+    for item in items {
+        if let OneofItem::Field(field) = item {
+            first = lesser(first, member_fault(alloc, field)?);
+        }
+    }
+    Ok(first)
+}
+
+/// The first fault of a oneof or of its members.
+fn oneof_item_fault(alloc: Global, oneof: &Oneof) -> Result<Option<Spot>, AllocError>
+    ensures { IfOk result (λ first. IsLeast (ItemBreaks (message_item.Oneof oneof.now)) first) }
+{
+    let own = oneof_fault(alloc, oneof)?;
+    let members = members_fault(alloc, oneof.items.as_slice())?;
+    Ok(lesser(members, own))
+}
+
+fn item_fault(alloc: Global, item: &MessageItem) -> Result<Option<Spot>, AllocError>
+    ensures { IfOk result (λ first. IsLeast (ItemBreaks item.now) first) }
+{
+    match item {
+        MessageItem::Field(field) => field_fault(alloc, field),
+        MessageItem::Map(map) => field_options_fault(alloc, &map.declarator, false, false),
+        MessageItem::Oneof(oneof) => oneof_item_fault(alloc, oneof),
+        MessageItem::Enum(declared) => enum_fault(alloc, declared),
+        MessageItem::Message(_)
+        | MessageItem::Option(_)
+        | MessageItem::Reserved(_)
+        | MessageItem::Empty(_) => Ok(None),
+    }
+}
+
+fn items_fault(alloc: Global, items: &[MessageItem]) -> Result<Option<Spot>, AllocError>
+    ensures { IfOk result (λ first. IsLeast (Each items.now ItemBreaks) first) }
+{
+    let mut first = None;
+    for item in items {
+        first = lesser(first, item_fault(alloc, item)?);
+    }
+    Ok(first)
+}
+
+/// The first fault of the statements of a message, without those of the messages within it.
+fn body_fault(alloc: Global, items: &[MessageItem]) -> Result<Option<Spot>, AllocError>
+    ensures { IfOk result (λ first. IsLeast (BodyBreaks items.now) first) }
+{
+    let numbers = first_field_number_fault(alloc, items)?;
+    let settings = message_settings(alloc, items)?;
+    let own = settings_fault(alloc, &settings)?;
+    let elements = items_fault(alloc, items)?;
+    let alone = lesser(numbers, own);
+    Ok(lesser(alone, elements))
+}
+
+/// The first fault of the statements of a message and of the messages within it.
+pub(crate) fn message_fault(alloc: Global, message: &Message) -> Result<Option<Spot>, AllocError>
+    ensures { IfOk result (λ first. IsLeast (Each (bodies message.now.items) BodyBreaks) first) }
+{
+    let items = message.items.as_slice();
+    let mut first = body_fault(alloc, items)?;
+    for item in items {
+        match item {
+            MessageItem::Message(nested) => first = lesser(first, message_fault(alloc, nested)?),
+            MessageItem::Field(_) => {}
+            MessageItem::Map(_) => {}
+            MessageItem::Oneof(_) => {}
+            MessageItem::Option(_) => {}
+            MessageItem::Enum(_) => {}
+            MessageItem::Reserved(_) => {}
+            MessageItem::Empty(_) => {}
+        }
+    }
+    Ok(first)
+}

@@ -1,0 +1,69 @@
+//! Rules on enums (language guide, "Enumerations").
+
+ghost use Rattle.std.specs.Prelude.{◌≡◌, IfOk, flat_map};
+ghost use Rattle.std.specs.List.{list_any};
+ghost use Rattle.proto_checks.specs.Elements.{is_value, value_of_item, IsEmptyEnum, ValueBreaks, EnumBreaks};
+ghost use Rattle.proto_checks.specs.Least.{IsLeast};
+ghost use Rattle.proto_checks.specs.Sets.{Each};
+
+use crate::numbers::first_enum_number_fault;
+use crate::options::settings_fault;
+use crate::settings::{bracketed_settings, enum_settings};
+use crate::spot::{Spot, lesser};
+use proto_desc::rules::Element;
+use proto_syntax::tree::{Enum, EnumItem, EnumValue};
+use proto_tokens::Kind;
+use std::alloc::{AllocError, Global};
+
+fn has_value(items: &[EnumItem]) -> bool
+    ensures { result ≡ list_any is_value items.now }
+{
+    items.iter().any(|item| matches!(item, EnumItem::Value(_)))
+}
+
+fn empty_fault(declared: &Enum) -> Option<Spot>
+    ensures { IsLeast (IsEmptyEnum declared.now) result }
+{
+    if has_value(declared.items.as_slice()) {
+        None
+    } else {
+        Some(Spot {
+            place: declared.name.span.start,
+            kind: Kind::EnumEmpty,
+        })
+    }
+}
+
+fn value_fault(alloc: Global, value: &EnumValue) -> Result<Option<Spot>, AllocError>
+    ensures { IfOk result (λ first. IsLeast (ValueBreaks value.now) first) }
+{
+    let settings = bracketed_settings(alloc, Element::EnumValue, &value.options)?;
+    settings_fault(alloc, &settings)
+}
+
+fn values_fault(alloc: Global, items: &[EnumItem]) -> Result<Option<Spot>, AllocError>
+    ensures { IfOk result (λ first. IsLeast (Each (flat_map value_of_item items.now) ValueBreaks) first) }
+{
+    let mut first = None;
+    for item in items {
+        if let EnumItem::Value(value) = item {
+            first = lesser(first, value_fault(alloc, value)?);
+        }
+    }
+    Ok(first)
+}
+
+/// The first fault of an enum.
+pub(crate) fn enum_fault(alloc: Global, declared: &Enum) -> Result<Option<Spot>, AllocError>
+    ensures { IfOk result (λ first. IsLeast (EnumBreaks declared.now) first) }
+{
+    let items = declared.items.as_slice();
+    let empty = empty_fault(declared);
+    let numbers = first_enum_number_fault(alloc, items)?;
+    let settings = enum_settings(alloc, items)?;
+    let own = settings_fault(alloc, &settings)?;
+    let values = values_fault(alloc, items)?;
+    let alone = lesser(empty, numbers);
+    let optioned = lesser(own, values);
+    Ok(lesser(alone, optioned))
+}

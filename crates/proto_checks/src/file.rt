@@ -1,0 +1,185 @@
+//! All rules of a file (proto3 language specification, "Proto File").
+
+ghost use Rattle.std.specs.Prelude.{◌≡◌, IfOk, map, flat_map};
+ghost use Rattle.std.specs.Option.{option_map};
+ghost use Rattle.proto_desc.specs.DeclaredNames.{file_scope, declared_by};
+ghost use Rattle.proto_checks.specs.Checks.{NotProto3Syntax, ImportTwice, import_mark, HeadBreaks, StatementBreaks, NamesBreak, MessageNamesBreak, names_of, LengthsBreak, IsTooLong, FileBreaks, spot_of};
+ghost use Rattle.proto_checks.specs.Least.{IsLeast};
+ghost use Rattle.proto_checks.specs.Lengths.{capped};
+ghost use Rattle.proto_checks.specs.Sets.{Each};
+
+use crate::body::message_fault;
+use crate::enumeration::enum_fault;
+use crate::lengths::{enums_fault, messages_fault, services_fault};
+use crate::marks::MarkedText;
+use crate::names::{enum_names_fault, message_names_fault};
+use crate::options::settings_fault;
+use crate::package::{package_lengths_fault, package_twice};
+use crate::repeats::first_text_twice;
+use crate::service::service_fault;
+use crate::settings::file_settings;
+use crate::spot::{Spot, lesser};
+use crate::text::joined;
+use proto_desc::file::{FileDesc, ImportDesc, PackageDesc};
+use proto_desc::message::MessageDesc;
+use proto_syntax::tree::{FileTree, Statement, Syntax};
+use proto_tokens::{Kind, Limits, Place};
+use std::alloc::{AllocError, Global};
+
+fn syntax_fault(alloc: Global, syntax: &Syntax) -> Result<Option<Spot>, AllocError>
+    ensures { IfOk result (λ first. IsLeast (NotProto3Syntax syntax.now) first) }
+{
+    let version = joined(alloc, &syntax.version)?;
+    if version.as_str() == "proto3" {
+        return Ok(None);
+    }
+    Ok(Some(Spot {
+        place: syntax.version.first.span.start,
+        kind: Kind::NotProto3Syntax,
+    }))
+}
+
+fn import_paths<'t, 's>(
+    alloc: Global,
+    imports: &'t [ImportDesc<'s>],
+) -> Result<Vec<MarkedText<'t>>, AllocError>
+    ensures { IfOk result (λ paths. paths.items ≡ map import_mark imports.now) }
+{
+    let mut paths = Vec::new(alloc);
+    for import in imports {
+        paths.push(MarkedText {
+            text: import.path.as_str(),
+            place: import.place,
+        })?;
+    }
+    Ok(paths)
+}
+
+fn import_twice(alloc: Global, imports: &[ImportDesc]) -> Result<Option<Spot>, AllocError>
+    ensures { IfOk result (λ first. IsLeast (ImportTwice imports.now) first) }
+{
+    if imports.len() < 2 {
+        return Ok(None);
+    }
+    let paths = import_paths(alloc, imports)?;
+    first_text_twice(alloc, Kind::ImportTwice, &paths)
+}
+
+/// The first fault of the syntax, the packages, the imports and the options of a file.
+fn head_fault(alloc: Global, tree: &FileTree, desc: &FileDesc) -> Result<Option<Spot>, AllocError>
+    ensures { IfOk result (λ first. IsLeast (HeadBreaks tree.now desc.now) first) }
+{
+    let statements = tree.statements.as_slice();
+    let syntax = syntax_fault(alloc, &tree.syntax)?;
+    let package = package_twice(statements);
+    let import = import_twice(alloc, desc.imports.as_slice())?;
+    let settings = file_settings(alloc, statements)?;
+    let own = settings_fault(alloc, &settings)?;
+    let begun = lesser(syntax, package);
+    let rest = lesser(import, own);
+    Ok(lesser(begun, rest))
+}
+
+fn statement_fault(alloc: Global, statement: &Statement) -> Result<Option<Spot>, AllocError>
+    ensures { IfOk result (λ first. IsLeast (StatementBreaks statement.now) first) }
+{
+    match statement {
+        Statement::Message(message) => message_fault(alloc, message),
+        Statement::Enum(declared) => enum_fault(alloc, declared),
+        Statement::Service(service) => service_fault(alloc, service),
+        Statement::Import(_) | Statement::Package(_) | Statement::Option(_) | Statement::Empty(_) =>
+            Ok(None),
+    }
+}
+
+fn statements_fault(alloc: Global, statements: &[Statement]) -> Result<Option<Spot>, AllocError>
+    ensures { IfOk result (λ first. IsLeast (Each statements.now StatementBreaks) first) }
+{
+    let mut first = None;
+    for statement in statements {
+        first = lesser(first, statement_fault(alloc, statement)?);
+    }
+    Ok(first)
+}
+
+fn messages_names_fault(alloc: Global, messages: &[MessageDesc]) -> Result<Option<Spot>, AllocError>
+    ensures { IfOk result (λ first. IsLeast (Each (flat_map names_of messages.now) MessageNamesBreak) first) }
+{
+    let mut first = None;
+    for message in messages {
+        first = lesser(first, message_names_fault(alloc, message)?);
+    }
+    Ok(first)
+}
+
+fn names_fault(alloc: Global, desc: &FileDesc) -> Result<Option<Spot>, AllocError>
+    ensures { IfOk result (λ first. IsLeast (NamesBreak desc.now) first) }
+{
+    let messages = messages_names_fault(alloc, desc.messages.as_slice())?;
+    let enums = enum_names_fault(alloc, desc.enums.as_slice())?;
+    Ok(lesser(messages, enums))
+}
+
+/// The length of the scope of what stands at the top of a file.
+fn scope_len(declared: &Option<PackageDesc>) -> usize
+    ensures { result ≡ capped (file_scope declared.now) }
+{
+    match declared {
+        Some(package) => package.name.as_str().len(),
+        None => 0,
+    }
+}
+
+fn declared_lengths_fault(limits: &Limits, desc: &FileDesc) -> Option<Spot>
+    ensures { IsLeast (Each (declared_by desc.now) (IsTooLong limits.now)) result }
+{
+    let len = scope_len(&desc.package);
+    let messages = messages_fault(limits, len, desc.messages.as_slice());
+    let enums = enums_fault(limits, len, desc.enums.as_slice());
+    let services = services_fault(limits, len, desc.services.as_slice());
+    let types = lesser(messages, enums);
+    lesser(types, services)
+}
+
+fn lengths_fault(limits: &Limits, tree: &FileTree, desc: &FileDesc) -> Option<Spot>
+    ensures { IsLeast (LengthsBreak limits.now tree.now desc.now) result }
+{
+    let packages = package_lengths_fault(limits, tree.statements.as_slice());
+    let declared = declared_lengths_fault(limits, desc);
+    lesser(packages, declared)
+}
+
+fn file_fault(
+    alloc: Global,
+    tree: &FileTree,
+    desc: &FileDesc,
+    limits: &Limits,
+) -> Result<Option<Spot>, AllocError>
+    ensures { IfOk result (λ first. IsLeast (FileBreaks limits.now tree.now desc.now) first) }
+{
+    let head = head_fault(alloc, tree, desc)?;
+    let elements = statements_fault(alloc, tree.statements.as_slice())?;
+    let names = names_fault(alloc, desc)?;
+    let lengths = lengths_fault(limits, tree, desc);
+    let spelled = lesser(head, elements);
+    let described = lesser(names, lengths);
+    Ok(lesser(spelled, described))
+}
+
+/// The first rule that a file breaks, and the place where it does; of those at one place, the one of the least kind.
+/// `None` exactly where it breaks none. The descriptor is that of the tree, as `lower` gives it.
+///
+/// The rules are those that docs/LANGUAGE.md lists. Only memory can be refused.
+pub fn first_check_fault(
+    alloc: Global,
+    tree: &FileTree,
+    desc: &FileDesc,
+    limits: &Limits,
+) -> Result<Option<(Place, Kind)>, AllocError>
+    ensures { IfOk result (λ first. IsLeast (FileBreaks limits.now tree.now desc.now) (option_map spot_of first)) }
+{
+    match file_fault(alloc, tree, desc, limits)? {
+        Some(spot) => Ok(Some((spot.place, spot.kind))),
+        None => Ok(None),
+    }
+}

@@ -1,0 +1,114 @@
+//! The first rule that the numbers of a message's fields or of an enum's values break, or what is reserved there (language guide, "Assigning Field Numbers", "Reserved Fields", "Enumerations", "Reserved Values").
+
+ghost use Rattle.std.specs.Prelude.{IfOk, flat_map};
+ghost use Rattle.proto_desc.specs.Lowering.Options.{enum_setting, first_setting};
+ghost use Rattle.proto_desc.specs.declared.rules.OptionName.TheVariants.{AllowAlias};
+ghost use Rattle.proto_checks.specs.Breaks.{RangesBreak, ValueTwice};
+ghost use Rattle.proto_checks.specs.Least.{IsLeast};
+ghost use Rattle.proto_checks.specs.Numbers.{FirstNotZero, FieldNumbersBreak, EnumNumbersBreak};
+
+use crate::aliases::is_aliasing;
+use crate::bounds::{first_no_field_number, first_outside};
+use crate::gathered::{
+    FIELD_MAX, VALUE_MAX, VALUE_MIN, VALUE_ZERO, enum_bounds, enum_ranges, enum_ranges_listed,
+    field_numbers, message_bounds, message_ranges, message_ranges_listed, value_numbers,
+};
+use crate::marks::{MarkedNumber, MarkedRange};
+use crate::ranges::{first_backwards, first_overlap, first_reserved_number};
+use crate::repeats::first_number_twice;
+use crate::reserved_names::{enum_reserved_names, first_reserved_twice, message_reserved_names};
+use crate::spot::{Spot, lesser};
+use proto_syntax::tree::{EnumItem, MessageItem};
+use proto_tokens::Kind;
+use std::alloc::{AllocError, Global};
+
+fn first_range_fault(
+    alloc: Global,
+    ranges: &[MarkedRange],
+    numbers: &[MarkedNumber],
+) -> Result<Option<Spot>, AllocError>
+    ensures { IfOk result (λ first. IsLeast (RangesBreak ranges.now numbers.now) first) }
+{
+    let used = first_reserved_number(alloc, ranges, numbers)?;
+    let overlap = first_overlap(alloc, ranges)?;
+    let shared = lesser(used, overlap);
+    Ok(lesser(shared, first_backwards(ranges)))
+}
+
+/// The first rule on numbers that the statements of a message break.
+pub(crate) fn first_field_number_fault(
+    alloc: Global,
+    items: &[MessageItem],
+) -> Result<Option<Spot>, AllocError>
+    ensures { IfOk result (λ first. IsLeast (FieldNumbersBreak items.now) first) }
+{
+    let numbers = field_numbers(alloc, items)?;
+    let listed = message_ranges_listed(alloc, items)?;
+    let bounds = message_bounds(alloc, &listed)?;
+    let ranges = message_ranges(alloc, &listed)?;
+    let names = message_reserved_names(alloc, items)?;
+
+    let number = first_no_field_number(&numbers);
+    let twice = first_number_twice(alloc, Kind::FieldNumberTwice, &numbers)?;
+    let field_fault = lesser(number, twice);
+    let bound = first_outside(1, FIELD_MAX, Kind::FieldNumberRange, &bounds);
+    let range = first_range_fault(alloc, &ranges, &numbers)?;
+    let range_fault = lesser(bound, range);
+    let name = first_reserved_twice(alloc, &names)?;
+    let reserved_fault = lesser(range_fault, name);
+    Ok(lesser(field_fault, reserved_fault))
+}
+
+/// The first value, where it is not 0.
+fn first_not_zero(numbers: &[MarkedNumber]) -> Option<Spot>
+    ensures { IsLeast (FirstNotZero numbers.now) result }
+{
+    match numbers.first() {
+        Some(marked) if marked.number != VALUE_ZERO => Some(Spot {
+            place: marked.place,
+            kind: Kind::EnumFirstNotZero,
+        }),
+        _ => None,
+    }
+}
+
+/// The first value whose number an earlier one has, unless the enum allows it.
+fn first_value_twice(
+    alloc: Global,
+    items: &[EnumItem],
+    numbers: &[MarkedNumber],
+) -> Result<Option<Spot>, AllocError>
+    ensures { IfOk result (λ first. IsLeast (ValueTwice (first_setting AllowAlias (flat_map enum_setting items.now)) numbers.now) first) }
+{
+    let twice = first_number_twice(alloc, Kind::EnumNumberTwice, numbers)?;
+    if twice.is_some() && is_aliasing(items) {
+        return Ok(None);
+    }
+    Ok(twice)
+}
+
+/// The first rule on numbers that the statements of an enum break.
+pub(crate) fn first_enum_number_fault(
+    alloc: Global,
+    items: &[EnumItem],
+) -> Result<Option<Spot>, AllocError>
+    ensures { IfOk result (λ first. IsLeast (EnumNumbersBreak items.now) first) }
+{
+    let numbers = value_numbers(alloc, items)?;
+    let listed = enum_ranges_listed(alloc, items)?;
+    let bounds = enum_bounds(alloc, &listed)?;
+    let ranges = enum_ranges(alloc, &listed)?;
+    let names = enum_reserved_names(alloc, items)?;
+
+    let zero = first_not_zero(&numbers);
+    let number = first_outside(VALUE_MIN, VALUE_MAX, Kind::EnumNumberRange, &numbers);
+    let own = lesser(zero, number);
+    let twice = first_value_twice(alloc, items, &numbers)?;
+    let value_fault = lesser(own, twice);
+    let bound = first_outside(VALUE_MIN, VALUE_MAX, Kind::EnumNumberRange, &bounds);
+    let range = first_range_fault(alloc, &ranges, &numbers)?;
+    let range_fault = lesser(bound, range);
+    let name = first_reserved_twice(alloc, &names)?;
+    let reserved_fault = lesser(range_fault, name);
+    Ok(lesser(value_fault, reserved_fault))
+}

@@ -1,0 +1,42 @@
+//! Rules on oneofs (language guide, "Oneof").
+
+ghost use Rattle.std.specs.Prelude.{◌≡◌, IfOk};
+ghost use Rattle.std.specs.List.{list_any};
+ghost use Rattle.proto_checks.specs.Elements.{is_member, IsEmptyOneof, OneofBreaks};
+ghost use Rattle.proto_checks.specs.Least.{IsLeast};
+
+use crate::options::settings_fault;
+use crate::settings::oneof_settings;
+use crate::spot::{Spot, lesser};
+use proto_syntax::tree::{Oneof, OneofItem};
+use proto_tokens::Kind;
+use std::alloc::{AllocError, Global};
+
+fn has_member(items: &[OneofItem]) -> bool
+    ensures { result ≡ list_any is_member items.now }
+{
+    items.iter().any(|item| matches!(item, OneofItem::Field(_)))
+}
+
+fn empty_fault(oneof: &Oneof) -> Option<Spot>
+    ensures { IsLeast (IsEmptyOneof oneof.now) result }
+{
+    if has_member(oneof.items.as_slice()) {
+        None
+    } else {
+        Some(Spot {
+            place: oneof.name.span.start,
+            kind: Kind::OneofEmpty,
+        })
+    }
+}
+
+/// The first fault of a oneof, without those of its members.
+pub(crate) fn oneof_fault(alloc: Global, oneof: &Oneof) -> Result<Option<Spot>, AllocError>
+    ensures { IfOk result (λ first. IsLeast (OneofBreaks oneof.now) first) }
+{
+    let empty = empty_fault(oneof);
+    let settings = oneof_settings(alloc, oneof.items.as_slice())?;
+    let own = settings_fault(alloc, &settings)?;
+    Ok(lesser(empty, own))
+}

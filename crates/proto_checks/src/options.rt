@@ -1,0 +1,197 @@
+//! Rules on the options of an element (`descriptor.proto`, `FileOptions` to `MethodOptions`).
+
+ghost use Rattle.std.specs.Prelude.{◌≡◌, ◌↔◌, Some, IsTrue, IfOk, List, map};
+ghost use Rattle.std.specs.Option.{is_some};
+ghost use Rattle.proto_desc.specs.declared.options.OptionValue.TheVariants.{Number};
+ghost use Rattle.proto_desc.specs.declared.rules.ValueKind.TheVariants.{Bool};
+ghost use Rattle.proto_desc.specs.Lowering.Options.{is_setting, number_of, value_of};
+ghost use Rattle.proto_checks.specs.Least.{IsLeast};
+ghost use Rattle.proto_checks.specs.Options.{name_place, value_place, choice_of_value, SettingsBreak};
+ghost use Rattle.proto_checks.specs.Judged.{is_known, is_mistaken, setting_fault, judged, judged_name, IsFaultOf, JudgedTwice};
+ghost use Rattle.proto_checks.specs.Sets.{Each};
+ghost use Rattle.proto_desc.specs.declared.rules.Element.{Element};
+ghost use Rattle.proto_syntax.specs.declared.tree.option.Setting.{Setting};
+
+use crate::marks::MarkedText;
+use crate::repeats::first_text_twice;
+use crate::spot::{Spot, lesser};
+use crate::text::{dotted, simple_name};
+use proto_desc::rules::{Element, OptionName, ValueKind, rules};
+use proto_syntax::tree::{Constant, FullName, Setting, Sign};
+use proto_tokens::text::Text;
+use proto_tokens::{Kind, Place};
+use std::alloc::{AllocError, Global};
+
+/// Whether a setting is of this option.
+pub(crate) fn is_setting(setting: &Setting, name: OptionName) -> bool
+    ensures { result ≡ is_setting name setting.now }
+{
+    match simple_name(&setting.name) {
+        Some(word) => word == name.word(),
+        None => false,
+    }
+}
+
+fn number_of(kind: ValueKind, name: &FullName) -> Option<u64>
+    ensures { result ≡ number_of kind name.now }
+{
+    match simple_name(name) {
+        Some(word) => kind.choice_number(word),
+        None => None,
+    }
+}
+
+/// The number that a constant stands for, if it is a name.
+pub(crate) fn choice_of_value(kind: ValueKind, value: &Constant) -> Option<u64>
+    ensures { result ≡ choice_of_value kind value.now }
+{
+    match value {
+        Constant::Name(name) => number_of(kind, name),
+        _ => None,
+    }
+}
+
+/// Whether an option that takes this kind of values takes the constant.
+fn is_taken(kind: ValueKind, value: &Constant) -> bool
+    ensures { result ≡ is_some (value_of kind value.now) }
+{
+    match value {
+        Constant::String(_) => kind == ValueKind::Text,
+        Constant::Name(name) => number_of(kind, name).is_some(),
+        Constant::Number(_) => false,
+    }
+}
+
+/// Whether a constant is `true`.
+pub(crate) fn is_true(value: &Constant) -> bool
+    ensures { IsTrue result ↔ (value_of Bool value.now ≡ Some (Number 1)) }
+{
+    choice_of_value(ValueKind::Bool, value) == Some(1)
+}
+
+pub(crate) fn name_place(setting: &Setting) -> Place
+    ensures { result ≡ name_place setting.now }
+{
+    setting.name.first.span.start
+}
+
+fn value_place(value: &Constant) -> Place
+    ensures { result ≡ value_place value.now }
+{
+    match value {
+        Constant::Name(name) => name.first.span.start,
+        Constant::String(text) => text.first.span.start,
+        Constant::Number(number) => match number.sign {
+            Some(Sign::Minus(sign)) => sign.start,
+            Some(Sign::Plus(sign)) => sign.start,
+            None => number.number.span.start,
+        },
+    }
+}
+
+/// Whether the element has an option of the setting's name.
+fn is_known(element: Element, setting: &Setting) -> bool
+    ensures { result ≡ is_known element setting.now }
+{
+    rules(element)
+        .iter()
+        .any(|rule| is_setting(setting, rule.name))
+}
+
+/// Whether the element's option of the setting's name takes other values.
+fn is_mistaken(element: Element, setting: &Setting) -> bool
+    ensures { result ≡ is_mistaken element setting.now }
+{
+    rules(element).iter().any(|rule| is_setting(setting, rule.name)
+        && !is_taken(rule.kind, &setting.value))
+}
+
+/// What a setting breaks by itself.
+#[tactic(auto, unfolding(crate::specs::Judged::setting_fault))]
+fn setting_fault(element: Element, setting: &Setting) -> Option<Spot>
+    ensures { result ≡ setting_fault element setting.now }
+{
+    if !is_known(element, setting) {
+        Some(Spot {
+            place: name_place(setting),
+            kind: Kind::UnknownOption,
+        })
+    } else if is_mistaken(element, setting) {
+        Some(Spot {
+            place: value_place(&setting.value),
+            kind: Kind::BadOptionValue,
+        })
+    } else {
+        None
+    }
+}
+
+/// A setting, judged by itself.
+#[derive(Debug, Drop)]
+pub(crate) struct Judged<'s> {
+    name: Text<'s>,
+    place: Place,
+    fault: Option<Spot>,
+}
+
+/// A setting of the element, judged by itself.
+pub(crate) fn judge<'s>(
+    alloc: Global,
+    element: Element,
+    setting: &Setting<'s>,
+) -> Result<Judged<'s>, AllocError>
+    ensures { IfOk result (λ made. made ≡ judged element setting.now) }
+{
+    Ok(Judged {
+        name: dotted(alloc, &setting.name)?,
+        place: name_place(setting),
+        fault: setting_fault(element, setting),
+    })
+}
+
+fn names<'t, 's>(
+    alloc: Global,
+    settings: &'t [Judged<'s>],
+) -> Result<Vec<MarkedText<'t>>, AllocError>
+    ensures { IfOk result (λ names. names.items ≡ map judged_name settings.now) }
+{
+    let mut names = Vec::new(alloc);
+    for setting in settings {
+        names.push(MarkedText {
+            text: setting.name.as_str(),
+            place: setting.place,
+        })?;
+    }
+    Ok(names)
+}
+
+/// The first fault that a setting has by itself.
+fn own_fault(settings: &[Judged]) -> Option<Spot>
+    ensures { IsLeast (Each settings.now IsFaultOf) result }
+{
+    let mut first = None;
+    for setting in settings {
+        first = lesser(first, setting.fault);
+    }
+    first
+}
+
+/// The first setting of an option that is set before.
+fn option_twice(alloc: Global, settings: &[Judged]) -> Result<Option<Spot>, AllocError>
+    ensures { IfOk result (λ first. IsLeast (JudgedTwice settings.now) first) }
+{
+    if settings.len() < 2 {
+        return Ok(None);
+    }
+    let names = names(alloc, settings)?;
+    first_text_twice(alloc, Kind::OptionTwice, &names)
+}
+
+/// The first fault of an element's settings.
+pub(crate) fn settings_fault(alloc: Global, settings: &[Judged]) -> Result<Option<Spot>, AllocError>
+    ensures { IfOk result (λ first. (element : Element) → (given : List Setting) → settings.now ≡ map (judged element) given → IsLeast (SettingsBreak element given) first) }
+{
+    let own = own_fault(settings);
+    let twice = option_twice(alloc, settings)?;
+    Ok(lesser(own, twice))
+}

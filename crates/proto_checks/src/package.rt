@@ -1,0 +1,111 @@
+//! Rules on package statements: that there is one at most, and that its parts and its name are no longer than the limits allow.
+
+ghost use Rattle.std.specs.Prelude.{◌≡◌, true, flat_map};
+ghost use Rattle.proto_tokens.specs.declared.kind.Kind.TheVariants as kind;
+ghost use Rattle.proto_desc.specs.Lowering.Text.{dotted};
+ghost use Rattle.proto_checks.specs.Checks.{package_in, parts_of, IsPartTooLong, IsWholeTooLong, PackageTooLong, PackageTwice, Where};
+ghost use Rattle.proto_checks.specs.Least.{IsLeast, spot};
+ghost use Rattle.proto_checks.specs.Lengths.{capped};
+ghost use Rattle.proto_checks.specs.Sets.{Each};
+
+use crate::spot::{Spot, lesser};
+use proto_syntax::tree::{FullName, Package, Statement};
+use proto_tokens::{Kind, Limit, Limits, Place};
+
+fn again_fault(is_again: bool, declared: &Package) -> Option<Spot>
+    ensures { IsLeast (Where (is_again ≡ true) (spot declared.now.keyword.start kind.PackageTwice)) result }
+{
+    if is_again {
+        Some(Spot {
+            place: declared.keyword.start,
+            kind: Kind::PackageTwice,
+        })
+    } else {
+        None
+    }
+}
+
+/// The second package statement.
+pub(crate) fn package_twice(statements: &[Statement]) -> Option<Spot>
+    ensures { IsLeast (PackageTwice (flat_map package_in statements.now)) result }
+{
+    let mut first = None;
+    let mut is_named = false;
+    for statement in statements {
+        if let Statement::Package(package) = statement {
+            first = lesser(first, again_fault(is_named, package));
+            is_named = true;
+        }
+    }
+    first
+}
+
+/// The length of a name with its dots, up to the greatest that there is.
+fn dotted_len(name: &FullName) -> usize
+    ensures { result ≡ capped (dotted name.now) }
+{
+    let mut len = name.first.text.len();
+    for part in name.rest.as_slice() {
+        len = len.saturating_add(1).saturating_add(part.name.text.len());
+    }
+    len
+}
+
+fn part_fault(limits: &Limits, place: Place, part: &str) -> Option<Spot>
+    ensures { IsLeast (IsPartTooLong limits.now place part.now) result }
+{
+    if part.len() as u64 > limits.get(Limit::NameBytes) {
+        Some(Spot {
+            place,
+            kind: Kind::NameTooLong,
+        })
+    } else {
+        None
+    }
+}
+
+fn parts_fault(limits: &Limits, place: Place, name: &FullName) -> Option<Spot>
+    ensures { IsLeast (Each (parts_of name.now) (IsPartTooLong limits.now place)) result }
+{
+    let mut first = part_fault(limits, place, name.first.text);
+    for part in name.rest.as_slice() {
+        first = lesser(first, part_fault(limits, place, part.name.text));
+    }
+    first
+}
+
+fn whole_fault(limits: &Limits, place: Place, name: &FullName) -> Option<Spot>
+    ensures { IsLeast (IsWholeTooLong limits.now place name.now) result }
+{
+    if dotted_len(name) as u64 > limits.get(Limit::FullNameBytes) {
+        Some(Spot {
+            place,
+            kind: Kind::NameTooLong,
+        })
+    } else {
+        None
+    }
+}
+
+fn length_fault(limits: &Limits, declared: &Package) -> Option<Spot>
+    ensures { IsLeast (PackageTooLong limits.now declared.now) result }
+{
+    let name = &declared.name;
+    let place = name.first.span.start;
+    let parts = parts_fault(limits, place, name);
+    let whole = whole_fault(limits, place, name);
+    lesser(parts, whole)
+}
+
+/// The first package that is too long or has a part that is.
+pub(crate) fn package_lengths_fault(limits: &Limits, statements: &[Statement]) -> Option<Spot>
+    ensures { IsLeast (Each (flat_map package_in statements.now) (PackageTooLong limits.now)) result }
+{
+    let mut first = None;
+    for statement in statements {
+        if let Statement::Package(package) = statement {
+            first = lesser(first, length_fault(limits, package));
+        }
+    }
+    first
+}

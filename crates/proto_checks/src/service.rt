@@ -1,0 +1,52 @@
+//! Rules on services and methods.
+
+ghost use Rattle.std.specs.Prelude.{◌≡◌, IfOk, flat_map};
+ghost use Rattle.proto_desc.specs.Lowering.Services.{rpc_items};
+ghost use Rattle.proto_checks.specs.Elements.{rpc_of, RpcBreaks, ServiceBreaks};
+ghost use Rattle.proto_checks.specs.Least.{IsLeast};
+ghost use Rattle.proto_checks.specs.Sets.{Each};
+
+use crate::options::settings_fault;
+use crate::settings::{method_settings, service_settings};
+use crate::spot::{Spot, lesser};
+use proto_syntax::tree::{Rpc, RpcBody, RpcItem, Service, ServiceItem};
+use std::alloc::{AllocError, Global};
+
+fn rpc_items<'t, 's>(body: &'t RpcBody<'s>) -> &'t [RpcItem<'s>]
+    ensures { result.now ≡ rpc_items body.now }
+{
+    match body {
+        RpcBody::Semicolon(_) => &[],
+        RpcBody::Block(block) => block.items.as_slice(),
+    }
+}
+
+fn method_fault(alloc: Global, rpc: &Rpc) -> Result<Option<Spot>, AllocError>
+    ensures { IfOk result (λ first. IsLeast (RpcBreaks rpc.now) first) }
+{
+    let settings = method_settings(alloc, rpc_items(&rpc.body))?;
+    settings_fault(alloc, &settings)
+}
+
+fn methods_fault(alloc: Global, items: &[ServiceItem]) -> Result<Option<Spot>, AllocError>
+    ensures { IfOk result (λ first. IsLeast (Each (flat_map rpc_of items.now) RpcBreaks) first) }
+{
+    let mut first = None;
+    for item in items {
+        if let ServiceItem::Rpc(rpc) = item {
+            first = lesser(first, method_fault(alloc, rpc)?);
+        }
+    }
+    Ok(first)
+}
+
+/// The first fault of a service.
+pub(crate) fn service_fault(alloc: Global, service: &Service) -> Result<Option<Spot>, AllocError>
+    ensures { IfOk result (λ first. IsLeast (ServiceBreaks service.now) first) }
+{
+    let items = service.items.as_slice();
+    let settings = service_settings(alloc, items)?;
+    let own = settings_fault(alloc, &settings)?;
+    let methods = methods_fault(alloc, items)?;
+    Ok(lesser(own, methods))
+}
