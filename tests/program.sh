@@ -28,6 +28,8 @@ expect 0 0a07612e70726f746f22110a0141120c0a0178180120012805520178620670726f746f3
 expect 1 '' 'e.proto:1:1: UnexpectedEnd' '' describe e.proto
 expect 1 '' 'b.proto:1:38: Unexpected' "${P}message B { int32 = 1; }" describe b.proto
 expect 1 '' 'b.proto:1:14: BadEscape' 'syntax = "pro\\qto3";' describe b.proto
+expect 1 '' 'b.proto:1:42: FieldNumberRange' "${P}message B { int32 x = 19000; }" describe b.proto
+expect 1 '' 'b.proto:1:32: TypeNotFound' "${P}message B { X x = 1; }" describe b.proto
 expect 1 '' 'two.proto:2:3: UnclosedComment' "${P}\\n  /* x" describe two.proto
 
 # Devices that fail.

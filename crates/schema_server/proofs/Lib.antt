@@ -1,6 +1,4 @@
-mod FilterMaps
-mod FirstFound
-mod JsonNames
+mod Earlier
 mod OneAnswer
 mod Refusals
 mod Starts

@@ -1,23 +1,51 @@
 -- What the errors of describing say.
-use Rattle.std.proofs.Common.{◌∷◌, zero, suc, map, ◌≡◌, ◌∙◌, ℕ, ◌≤◌, List, [], inl, inr, Some, ap, sym, refl, subst, length, arith}
-use Rattle.std.specs.Prelude.{slice_get}
+use Rattle.std.proofs.Common.{◌∷◌, zero, suc, map, ◌≡◌, ◌∙◌, ℕ, ◌≤◌, List, [], inl, inr, Some, None, ap, sym, refl, subst, length, arith}
+use Rattle.std.specs.Prelude.{slice_get, false}
 use Rattle.std.specs.Option.{option_map, unwrap_or}
+use Rattle.proto_tokens.specs.Limits.{limit_of}
 use Rattle.proto_tokens.specs.Token.{Spelled, spelled, tokens_of}
+use Rattle.proto_tokens.specs.declared.limits.Limit.TheVariants as limit
+use Rattle.proto_tokens.specs.declared.limits.Limits.{Limits}
 use Rattle.proto_tokens.specs.declared.token.Token.{Token}
 use Rattle.proto_tokens.specs.Spelling.{IsTokenList, IsFault}
 use Rattle.proto_tokens.specs.declared.kind.Kind.{Kind}
-use Rattle.proto_tokens.specs.declared.kind.Kind.TheVariants.{Unexpected}
+use Rattle.proto_tokens.specs.declared.kind.Kind.TheVariants.{TypeNotFound}
 use Rattle.proto_tokens.specs.declared.place.Place.{Place}
 use Rattle.proto_tokens.specs.declared.token.Tokens.{Tokens}
 use Rattle.proto_syntax.specs.Fault.{IsTreeOf, IsFaultAt, IsKindOf, place_at}
 use Rattle.proto_syntax.specs.Trees.{file_tree}
 use Rattle.proto_syntax.specs.declared.tree.file.FileTree.{FileTree}
-use Rattle.schema_server.specs.Describe.{IsFoundIn, IsRefusal, place_of_token}
-use Rattle.schema_server.specs.Outside.{outside}
-use Rattle.schema_server.specs.Steps.{IsNamed, IsStepFault, IsGrammarRefusal}
+use Rattle.proto_desc.specs.Lowering.Files.{lowered}
+use Rattle.proto_desc.specs.Resolved.{file_resolved}
+use Rattle.proto_checks.specs.Checks.{FileBreaks}
+use Rattle.proto_checks.specs.Least.{IsLeast, spot}
+use Rattle.proto_checks.proofs.FileWithin.{breaks_within}
+use Rattle.schema_server.specs.Describe.{IsFoundIn, of_tokens, of_grammar, of_checks, of_types, IsFile, IsUnbroken, IsRefusal, place_of_token}
+use Rattle.schema_server.specs.Steps.{IsNamed}
+use Rattle.schema_server.specs.Unresolved.{first_spelled}
 use Rattle.schema_server.specs.declared.compile_error.CompileError.{CompileError}
 use Rattle.schema_server.specs.declared.compile_error.CompileError.TheVariants as errors
-use Rattle.schema_server.proofs.Starts.{BeginWithin, tokens_within, outside_within}
+use Rattle.schema_server.specs.declared.describe.Stage.{Stage}
+use Rattle.proto_desc.proofs.PlacesWithin.{BeginWithin}
+use Rattle.schema_server.proofs.Starts.{tokens_within, spelled_within}
+
+abbrev stage : ℕ → ℕ → Stage
+stage pass step = record { pass = pass; step = step }
+
+-- an error that names a fault of the text
+refusal_of : (limits : Limits) (name text : List ℕ) (pass step : ℕ) (place : Place) (kind : Kind) (e : CompileError)
+    → IsNamed name (stage pass step) place kind e → IsFoundIn limits name text pass step place.offset kind → place.offset ≤ length text → place.offset ≤ limit_of limits limit.FileBytes → IsRefusal limits name text e
+refusal_of limits name text pass step place kind (errors.First fault) (p, file, s, at, k) found within short = record {
+  file = file;
+  within = subst (λ (x : Place). x.offset ≤ length text) (sym at) within;
+  short = subst (λ (x : Place). x.offset ≤ limit_of limits limit.FileBytes) (sym at) short;
+  found =
+      subst (λ x. IsFoundIn limits name text x fault.step fault.place.offset fault.kind) (sym p)
+      (subst (λ x. IsFoundIn limits name text pass x fault.place.offset fault.kind) (sym s)
+      (subst (λ (x : Place). IsFoundIn limits name text pass step x.offset fault.kind) (sym at)
+      (subst (λ x. IsFoundIn limits name text pass step place.offset x) (sym k) found)));
+}
+refusal_of limits name text pass step place kind errors.NoMemory named found within short = tt
 
 -- ---- faults of the tokens
 
@@ -27,15 +55,9 @@ fault_short bytes s place kind (inl long) within = omega (arith, long.1)
 fault_short bytes s place kind (inr (inl bad)) within = omega (arith, bad.2)
 fault_short bytes s place kind (inr (inr fault)) within = omega (arith, fault.0)
 
-pub token_refusal : (bytes depth : ℕ) (name text : List ℕ) (place : Place) (kind : Kind) (e : CompileError) → IsNamed name 0 place kind e → IsFault bytes text place.offset kind → place.offset ≤ length text → IsRefusal bytes depth name text e
-token_refusal bytes depth name text place kind (errors.First fault) named is within = record {
-  pass = named.0;
-  file = named.1;
-  within = subst (λ (p : Place). p.offset ≤ length text) (sym named.3) within;
-  short = subst (λ (p : Place). p.offset ≤ bytes) (sym named.3) (fault_short bytes text place.offset kind is within);
-  found = inl (named.2, subst (λ (p : Place). IsFault bytes text p.offset fault.kind) (sym named.3) (subst (λ (k : Kind). IsFault bytes text place.offset k) (sym named.4) is));
-}
-token_refusal bytes depth name text place kind errors.NoMemory named is within = tt
+pub token_refusal : (limits : Limits) (name text : List ℕ) (place : Place) (kind : Kind) (e : CompileError) → IsNamed name (stage 1 0) place kind e → IsFault (limit_of limits limit.FileBytes) text place.offset kind → place.offset ≤ length text → IsRefusal limits name text e
+token_refusal limits name text place kind e named is within =
+    refusal_of limits name text 1 0 place kind e named (of_tokens refl refl is) within (fault_short _ text place.offset kind is within)
 
 -- ---- where a token begins
 
@@ -54,39 +76,34 @@ token_within n [] (suc k) begin = omega arith
 token_within n (t ∷ ts) zero begin = begin.0
 token_within n (t ∷ ts) (suc k) begin = token_within n ts k begin.1
 
--- ---- faults of the grammar, and what is not described
+-- ---- faults of the grammar
 
-step_found : (bytes depth : ℕ) (text : List ℕ) (tokens : Tokens) (place : Place) (kind : Kind) → IsStepFault depth tokens place kind → IsTokenList bytes text (tokens_of tokens) → tokens.end.offset ≡ length text → IsFoundIn bytes depth text 1 place.offset kind
-step_found bytes depth text tokens place kind (inl (k, fault, is_kind, at)) is end = inr (inl (refl, (tokens_of tokens, k, is, fault, is_kind, place_of tokens k (length text) place at end)))
-step_found bytes depth text tokens place kind (inr (file, tree, found, unexpected)) is end = inr (inr (refl, (file, (tokens_of tokens, is, tree), found), unexpected))
+pub grammar_refusal : (limits : Limits) (name text : List ℕ) (tokens : Tokens) (place : Place) (kind : Kind) (e : CompileError) → IsNamed name (stage 1 1) place kind e
+    → (k : ℕ) × IsFaultAt (limit_of limits limit.Depth) (tokens_of tokens) k × IsKindOf (tokens_of tokens) k kind × (place ≡ place_at tokens k)
+    → IsTokenList (limit_of limits limit.FileBytes) text (tokens_of tokens) → tokens.end.offset ≡ length text → IsRefusal limits name text e
+grammar_refusal limits name text tokens place kind e named (k, fault, is_kind, at) is end =
+    let here : place.offset ≡ place_of_token (tokens_of tokens) k (length text) = place_of tokens k (length text) place at end in
+    let within : place.offset ≤ length text = subst (λ p. p ≤ length text) (sym here) (token_within (length text) (tokens_of tokens) k (tokens_within _ text (tokens_of tokens) is)) in
+    refusal_of limits name text 1 1 place kind e named (of_grammar refl refl (tokens_of tokens, k, is, fault, is_kind, here)) within (omega (arith, within, is.short))
 
-step_within : (bytes depth : ℕ) (text : List ℕ) (tokens : Tokens) (place : Place) (kind : Kind) → IsStepFault depth tokens place kind → IsTokenList bytes text (tokens_of tokens) → tokens.end.offset ≡ length text → place.offset ≤ length text
-step_within bytes depth text tokens place kind (inl (k, fault, is_kind, at)) is end =
-    let within = token_within (length text) (tokens_of tokens) k (tokens_within bytes text (tokens_of tokens) is) in
-    subst (λ p. p ≤ length text) (sym (place_of tokens k (length text) place at end)) within
-step_within bytes depth text tokens place kind (inr (file, tree, found, unexpected)) is end =
-    outside_within (length text) file place.offset (subst (BeginWithin (length text)) (sym tree.tokens) (tokens_within bytes text (tokens_of tokens) is)) found
+-- ---- broken rules
 
-pub grammar_refusal : (bytes depth : ℕ) (name text : List ℕ) (tokens : Tokens) (e : CompileError) → IsGrammarRefusal depth name tokens e → IsTokenList bytes text (tokens_of tokens) → tokens.end.offset ≡ length text → IsRefusal bytes depth name text e
-grammar_refusal bytes depth name text tokens (errors.First fault) refusal is end =
-    let within = step_within bytes depth text tokens fault.place fault.kind refusal.3 is end in
-    record {
-      pass = refusal.0;
-      file = refusal.1;
-      within = within;
-      short = omega (arith, within, is.short);
-      found = subst (λ step. IsFoundIn bytes depth text step fault.place.offset fault.kind) (sym refusal.2) (step_found bytes depth text tokens fault.place fault.kind refusal.3 is end);
-    }
-grammar_refusal bytes depth name text tokens errors.NoMemory refusal is end = tt
+pub checks_refusal : (limits : Limits) (name text : List ℕ) (tokens : Tokens) (file : FileTree) (place : Place) (kind : Kind) (e : CompileError) → IsNamed name (stage 1 2) place kind e
+    → IsTreeOf (limit_of limits limit.Depth) (tokens_of tokens) (file_tree file) → IsTokenList (limit_of limits limit.FileBytes) text (tokens_of tokens)
+    → IsLeast (FileBreaks limits file (lowered name file)) (Some (spot place kind)) → IsRefusal limits name text e
+checks_refusal limits name text tokens file place kind e named tree is least =
+    let within : place.offset ≤ length text = breaks_within (length text) limits name file (spot place kind) (subst (BeginWithin (length text)) (sym tree.tokens) (tokens_within _ text (tokens_of tokens) is)) least.found in
+    refusal_of limits name text 1 2 place kind e named (of_checks refl refl (file, spot place kind, (tokens_of tokens, is, tree), least, refl, refl)) within (omega (arith, within, is.short))
 
--- what is not described, as the fault of this file
-pub outside_refusal : (depth : ℕ) (name : List ℕ) (tokens : Tokens) (file : FileTree) (place : Place) (e : CompileError) → IsNamed name 1 place Unexpected e → IsTreeOf depth (tokens_of tokens) (file_tree file) → slice_get (outside file) 0 ≡ Some place.offset → IsGrammarRefusal depth name tokens e
-outside_refusal depth name tokens file place (errors.First fault) named tree found =
-    (named.0, named.1, named.2, inr (file, tree, found ∙ ap (λ (p : Place). Some p.offset) (sym named.3), named.4))
-outside_refusal depth name tokens file place errors.NoMemory named tree found = tt
+-- no spot is the first
+pub unbroken_by : (limits : Limits) (name : List ℕ) (file : FileTree) → IsLeast (FileBreaks limits file (lowered name file)) None → IsUnbroken limits name file
+unbroken_by limits name file least x broken = least.least x broken
 
--- what the parser refuses, as the fault of this file
-pub parse_refusal : (depth : ℕ) (name : List ℕ) (tokens : Tokens) (place : Place) (kind : Kind) (e : CompileError) → IsNamed name 1 place kind e → (k : ℕ) × IsFaultAt depth (tokens_of tokens) k × IsKindOf (tokens_of tokens) k kind × (place ≡ place_at tokens k) → IsGrammarRefusal depth name tokens e
-parse_refusal depth name tokens place kind (errors.First fault) named (k, is, is_kind, at) =
-    (named.0, named.1, named.2, inl (k, is, subst (λ (found : Kind). IsKindOf (tokens_of tokens) k found) (sym named.4) is_kind, named.3 ∙ at))
-parse_refusal depth name tokens place kind errors.NoMemory named fault = tt
+-- ---- names that are not resolved
+
+pub types_refusal : (limits : Limits) (name text : List ℕ) (tokens : Tokens) (file : FileTree) (place : Place) (e : CompileError) → IsNamed name (stage 4 0) place TypeNotFound e
+    → IsTreeOf (limit_of limits limit.Depth) (tokens_of tokens) (file_tree file) → IsTokenList (limit_of limits limit.FileBytes) text (tokens_of tokens)
+    → IsUnbroken limits name file → file_resolved (lowered name file) ≡ false → first_spelled (lowered name file) ≡ Some place.offset → IsRefusal limits name text e
+types_refusal limits name text tokens file place e named tree is unbroken unresolved found =
+    let within : place.offset ≤ length text = spelled_within (length text) name file place.offset (subst (BeginWithin (length text)) (sym tree.tokens) (tokens_within _ text (tokens_of tokens) is)) found in
+    refusal_of limits name text 4 0 place TypeNotFound e named (of_types refl refl refl (file, (tokens_of tokens, is, tree), unbroken, unresolved, found)) within (omega (arith, within, is.short))

@@ -1,67 +1,47 @@
 //! Describing one source.
 
-ghost use Rattle.std.specs.Prelude.{◌≡◌, ℕ, List, IfOk, IfErr, IsErrAnd, MatchResult, []};
-ghost use Rattle.proto_tokens.specs.Limits.{limit_of};
-ghost use Rattle.proto_tokens.specs.Token.{tokens_of};
+ghost use Rattle.std.specs.Prelude.{◌≡◌, ℕ, List, IfOk, IfErr, IsErrAnd, MatchResult};
 ghost use Rattle.proto_tokens.specs.declared.kind.Kind.{Kind};
-ghost use Rattle.proto_syntax.specs.Fault.{IsTreeOf};
-ghost use Rattle.proto_syntax.specs.Trees.{file_tree};
 ghost use Rattle.schema_server.specs.Describe.{IsDescribedBy, IsFoundIn, IsRefusal, TellsFault};
-ghost use Rattle.schema_server.specs.Outside.{outside};
-ghost use Rattle.schema_server.specs.Steps.{IsGrammarRefusal, IsNamed};
+ghost use Rattle.schema_server.specs.Steps.{IsNamed};
 
 use crate::compile_error::CompileError;
-use crate::descriptor_bytes::file_desc_bytes;
-use crate::lowering::lower;
-use crate::outside::first_outside;
-use proto_syntax::tree::FileTree;
+use crate::unresolved::first_spelled;
+use proto_checks::first_check_fault;
+use proto_desc::lower;
 use proto_syntax::{ParseError, parse};
-use proto_tokens::{Fault, Kind, Limit, Limits, Place, TokenError, Tokens, tokenize};
+use proto_tokens::{Fault, Kind, Limits, Place, TokenError, tokenize};
 use std::alloc::{AllocGlobal, Global};
+use wire_bytes::file_bytes;
 
-/// The pass over each file by itself, and its first two steps.
-const LOCAL_PASS: u8 = 1;
+/// The pass and the step that find a fault, by the numbers that order faults.
+#[derive(Clone, Copy, Debug)]
+struct Stage {
+    pass: u8,
+    step: u8,
+}
 
-const TOKEN_STEP: u8 = 0;
+const TOKENS: Stage = Stage { pass: 1, step: 0 };
 
-const GRAMMAR_STEP: u8 = 1;
+const GRAMMAR: Stage = Stage { pass: 1, step: 1 };
+
+const CHECKS: Stage = Stage { pass: 1, step: 2 };
+
+const TYPES: Stage = Stage { pass: 4, step: 0 };
 
 /// The fault of a file, if there is memory for the file's name.
-fn local_fault(alloc: Global, name: &str, step: u8, place: Place, kind: Kind) -> CompileError
-    ensures { IsNamed name.now step place kind result }
+fn fault_of(alloc: Global, name: &str, stage: Stage, place: Place, kind: Kind) -> CompileError
+    ensures { IsNamed name.now stage place kind result }
 {
     match String::from_str(alloc, name) {
         Ok(file) => CompileError::First(Fault {
-            pass: LOCAL_PASS,
+            pass: stage.pass,
             file,
-            step,
+            step: stage.step,
             place,
             kind,
         }),
         Err(_) => CompileError::NoMemory,
-    }
-}
-
-/// The tree of a file whose statements are all described.
-fn described_tree<'s>(
-    alloc: Global,
-    name: &str,
-    tokens: &Tokens<'s>,
-    limits: &Limits,
-) -> Result<FileTree<'s>, CompileError>
-    ensures tree { IfOk result (λ file. IsTreeOf (limit_of limits.now Limit.Depth) (tokens_of tokens.now) (file_tree file) × (outside file ≡ [])) }
-    ensures refusal { IfErr result (IsGrammarRefusal (limit_of limits.now Limit.Depth) name.now tokens.now) }
-{
-    let file = match parse(alloc, tokens, limits) {
-        Ok(file) => file,
-        Err(ParseError::NoMemory) => return Err(CompileError::NoMemory),
-        Err(ParseError::At(place, kind)) => {
-            return Err(local_fault(alloc, name, GRAMMAR_STEP, place, kind));
-        }
-    };
-    match first_outside(&file) {
-        Some(place) => Err(local_fault(alloc, name, GRAMMAR_STEP, place, Kind::Unexpected)),
-        None => Ok(file),
     }
 }
 
@@ -72,39 +52,50 @@ fn first_answer(
     text: &[u8],
     limits: &Limits,
 ) -> Result<Vec<u8>, CompileError>
-    ensures { MatchResult result (λ bytes. IsDescribedBy (limit_of limits.now Limit.FileBytes) (limit_of limits.now Limit.Depth) name.now text.now bytes.items)
-        (IsRefusal (limit_of limits.now Limit.FileBytes) (limit_of limits.now Limit.Depth) name.now text.now) }
+    ensures { MatchResult result (λ bytes. IsDescribedBy limits.now name.now text.now bytes.items) (IsRefusal limits.now name.now text.now) }
 {
     let tokens = match tokenize(alloc, text, limits) {
         Ok(tokens) => tokens,
         Err(TokenError::NoMemory) => return Err(CompileError::NoMemory),
         Err(TokenError::At(place, kind)) => {
-            return Err(local_fault(alloc, name, TOKEN_STEP, place, kind));
+            return Err(fault_of(alloc, name, TOKENS, place, kind));
         }
     };
-    let file = described_tree(alloc, name, &tokens, limits)?;
+    let file = match parse(alloc, &tokens, limits) {
+        Ok(file) => file,
+        Err(ParseError::NoMemory) => return Err(CompileError::NoMemory),
+        Err(ParseError::At(place, kind)) => {
+            return Err(fault_of(alloc, name, GRAMMAR, place, kind));
+        }
+    };
     let descriptor = lower(alloc, name, &file)?;
-    Ok(file_desc_bytes(alloc, &descriptor)?)
+    if let Some((place, kind)) = first_check_fault(alloc, &file, &descriptor, limits)? {
+        return Err(fault_of(alloc, name, CHECKS, place, kind));
+    }
+    if let Some(place) = first_spelled(&descriptor) {
+        return Err(fault_of(alloc, name, TYPES, place, Kind::TypeNotFound));
+    }
+    Ok(file_bytes(alloc, &descriptor)?)
 }
 
 /// The bytes of the `FileDescriptorProto` of one source, which is a file of this name.
 ///
-/// `First` has the source's fault: the first one of its tokens, or one of its grammar. Until more is described, a
-/// statement that is neither a message nor a field of a scalar type without label and options is `Unexpected`.
+/// `First` has the source's fault: the first one of its tokens, or the one of its grammar, or the first rule that it
+/// breaks, or `TypeNotFound` at the first type name that is no scalar type's: such names are not resolved yet.
 pub fn describe<R: AllocGlobal>(
     rt: &R,
     name: &str,
     text: &[u8],
     limits: &Limits,
 ) -> Result<Vec<u8>, CompileError>
-    ensures described { IfOk result (λ bytes. IsDescribedBy (limit_of limits.now Limit.FileBytes) (limit_of limits.now Limit.Depth) name.now text.now bytes.items) }
-    ensures refusal { IfErr result (IsRefusal (limit_of limits.now Limit.FileBytes) (limit_of limits.now Limit.Depth) name.now text.now) }
+    ensures described { IfOk result (λ bytes. IsDescribedBy limits.now name.now text.now bytes.items) }
+    ensures refusal { IfErr result (IsRefusal limits.now name.now text.now) }
 
     // So a text with a descriptor gives it, and one with a fault tells it, unless memory runs out.
-    ensures every_descriptor { (descriptor : List ℕ) → IsDescribedBy (limit_of limits.now Limit.FileBytes) (limit_of limits.now Limit.Depth) name.now text.now descriptor
+    ensures every_descriptor { (descriptor : List ℕ) → IsDescribedBy limits.now name.now text.now descriptor
         → MatchResult result (λ bytes. bytes.items ≡ descriptor) (λ e. e ≡ CompileError.NoMemory) }
-    ensures every_fault { (step place : ℕ) (kind : Kind) → IsFoundIn (limit_of limits.now Limit.FileBytes) (limit_of limits.now Limit.Depth) text.now step place kind
-        → IsErrAnd result (TellsFault step place kind) }
+    ensures every_fault { (pass step place : ℕ) (kind : Kind) → IsFoundIn limits.now name.now text.now pass step place kind
+        → IsErrAnd result (TellsFault pass step place kind) }
 {
     first_answer(rt.alloc(), name, text, limits)
 }

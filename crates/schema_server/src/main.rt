@@ -4,14 +4,10 @@
 mod command_line;
 mod compile_error;
 mod describe;
-mod descriptor;
-mod descriptor_bytes;
-mod json_name;
-mod lowering;
-mod outside;
 mod program;
 #[cfg(test)]
 mod tests;
+mod unresolved;
 
 use std::process::ExitCode;
 use std::{env, io};
