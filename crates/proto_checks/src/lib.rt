@@ -27,6 +27,3 @@ pub mod spot;
 mod text;
 
 pub use file::first_check_fault;
-
-#[cfg(test)]
-mod tests;

@@ -1,6 +1,4 @@
-//! Names, lowering and resolution by examples.
+//! Names and resolution by examples.
 
-mod lowering;
 mod names;
 mod resolved;
-mod shown;

@@ -1,3 +1,2 @@
-mod Varints
 mod Messages
 mod Parts

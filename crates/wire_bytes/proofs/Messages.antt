@@ -4,7 +4,7 @@ use Rattle.std.specs.Prelude.{flat_map}
 use Rattle.proto_desc.specs.declared.message.MessageDesc.{MessageDesc}
 use Rattle.proto_desc.specs.declared.message.MessageDesc.TheViews.{out-MessageDesc}
 use Rattle.proto_desc.specs.declared.message.MessageDesc.TheFolds.{fold_out-MessageDesc}
-use Rattle.wire_bytes.specs.Field.{bytes_field}
+use Rattle.wire_format.specs.Field.{bytes_field}
 use Rattle.wire_bytes.specs.Descriptor.{field_desc_bytes, enum_desc_bytes, oneof_desc_bytes, range_bytes, options_field, message_options_bytes, message_step, message_desc_bytes}
 
 flat_map-map : {X Y A : Type 0} (f : Y → List A) (g : X → Y) (xs : List X) → flat_map f (map g xs) ≡ flat_map (λ x. f (g x)) xs

@@ -28,7 +28,7 @@ use Rattle.proto_desc.specs.declared.type_name.TypeKind.TheVariants as type_kind
 use Rattle.proto_desc.specs.declared.type_name.TypeReference.{TypeReference}
 use Rattle.proto_desc.specs.declared.type_name.TypeReference.TheVariants.{Spelled, Resolved}
 use Rattle.proto_desc.specs.declared.whole_number.WholeNumber.{WholeNumber}
-use Rattle.wire_bytes.specs.Field.{number_field, bytes_field}
+use Rattle.wire_format.specs.Field.{number_field, bytes_field}
 
 -- a flag, which is written where it is set
 abbrev pub flag_field : ℕ → Bool → List ℕ

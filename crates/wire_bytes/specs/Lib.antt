@@ -1,3 +1,1 @@
-pub mod Varint
-pub mod Field
 pub mod Descriptor

@@ -2,7 +2,7 @@
 //! value is known when its head is due, and no value is built apart from the whole.
 
 ghost use Rattle.std.specs.Prelude.{◌≡◌, ◌≤◌, ◌++◌, ◌∷◌, [], IfOk, OnErr, OnOk, drop, length, vec_len};
-ghost use Rattle.wire_bytes.specs.Varint.{varint_bytes};
+ghost use Rattle.wire_format.specs.Varint.{varint_bytes};
 
 mod field;
 

@@ -1,17 +1,17 @@
-//! Bytes of the Protocol Buffers wire format, and descriptors as such bytes.
+//! Descriptors as bytes of the wire format.
 //!
-//! The standards are the encoding guide of Protocol Buffers, "Base 128 Varints" and "Message Structure", and
-//! `descriptor.proto`.
+//! The standard is `descriptor.proto`. What the wire format itself is, with its writing and reading, is the crate
+//! `wire_format`, whose calls are calls of this crate too.
 #![tactic(auto)]
 
 mod backward;
 mod descriptor;
-mod field;
-mod varint;
 
 pub use descriptor::file_bytes;
-pub use field::{FieldValue, put_field};
-pub use varint::{put_varint, varint_is_shortest};
+pub use wire_format::{
+    Field, FieldValue, WireError, fields_are_unique, put_field, put_varint, read_fields,
+    varint_is_shortest,
+};
 
 #[cfg(test)]
 mod tests;

@@ -1,5 +1,3 @@
-//! Worked bytes, each call with ample memory.
+//! Worked bytes of descriptors that are made by hand.
 
-mod descriptors;
 mod named;
-mod wire;

@@ -2,8 +2,8 @@
 
 ghost use Rattle.std.specs.Prelude.{◌≡◌, ◌+◌, ◌-◌, ◌*◌, ◌≤◌, ◌++◌, List, OnOk, flat_map, length, ℕ};
 ghost use Rattle.wire_bytes.specs.Descriptor.{flag_field};
-ghost use Rattle.wire_bytes.specs.Field.{bytes_field, number_field};
-ghost use Rattle.wire_bytes.specs.Varint.{varint_bytes};
+ghost use Rattle.wire_format.specs.Field.{bytes_field, number_field};
+ghost use Rattle.wire_format.specs.Varint.{varint_bytes};
 
 use crate::backward::Backward;
 use proto_tokens::row::Row;

@@ -3,7 +3,7 @@
 ghost use Rattle.std.specs.Prelude.{◌≡◌, ◌++◌, IfOk, OnOk, codes, true};
 ghost use Rattle.proto_desc.specs.Resolved.{file_resolved};
 ghost use Rattle.wire_bytes.specs.Descriptor.{file_desc_bytes, package_name, public_fields, text_field};
-ghost use Rattle.wire_bytes.specs.Field.{bytes_field};
+ghost use Rattle.wire_format.specs.Field.{bytes_field};
 
 use crate::backward::{Backward, Payload};
 use crate::descriptor::options::prepend_options;

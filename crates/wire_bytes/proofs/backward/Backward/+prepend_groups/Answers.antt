@@ -1,6 +1,6 @@
 use Rattle.std.proofs.Common.{arith}
 use Rattle.std.proofs.lemmas.Grind.{common_steps}
-use Rattle.wire_bytes.proofs.Varints.{varint_bytes-small, varint_bytes-step}
+use Rattle.wire_format.proofs.Varints.{varint_bytes-small, varint_bytes-step}
 use Rattle.wire_bytes.proofs.backward.Backward.+prepend_groups.Goals as goal
 
 pub returns-then-value-lt128 : goal.returns-then-value-lt128

@@ -1,7 +1,7 @@
 use Rattle.std.proofs.Common.{◌≡◌, ◌++◌}
 use Rattle.std.specs.Prelude.{flat_map}
 use Rattle.std.specs.Slice.Iter.{iter_rest}
-use Rattle.wire_bytes.specs.Field.{bytes_field}
+use Rattle.wire_format.specs.Field.{bytes_field}
 use Rattle.wire_bytes.proofs.backward.Backward.prepend_fields.Given as goal
 
 abbrev pub invariant-loop-payload : goal.invariant-loop-payload

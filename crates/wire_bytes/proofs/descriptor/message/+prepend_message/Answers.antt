@@ -1,7 +1,7 @@
 use Rattle.std.proofs.Common.{refl}
 use Rattle.std.proofs.lemmas.Result.{IfOk-equal}
 use Rattle.wire_bytes.specs.Descriptor.{message_desc_bytes}
-use Rattle.wire_bytes.specs.Field.{bytes_field}
+use Rattle.wire_format.specs.Field.{bytes_field}
 use Rattle.wire_bytes.proofs.Messages.{message_desc_bytes_out, all_written}
 use Rattle.wire_bytes.proofs.Parts.{eight_parts}
 use Rattle.wire_bytes.proofs.descriptor.message.+prepend_message.Goals as goal

@@ -3,7 +3,7 @@ use Rattle.std.specs.Prelude.{flat_map}
 use Rattle.std.specs.Slice.Iter.{iter_rest}
 use Rattle.proto_desc.specs.declared.message.MessageDesc.{out-MessageDesc}
 use Rattle.wire_bytes.specs.Descriptor.{message_desc_bytes}
-use Rattle.wire_bytes.specs.Field.{bytes_field}
+use Rattle.wire_format.specs.Field.{bytes_field}
 use Rattle.wire_bytes.proofs.descriptor.message.+prepend_message.Given as goal
 
 abbrev pub invariant-loop-nested : goal.invariant-loop-nested

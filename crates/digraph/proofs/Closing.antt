@@ -1,0 +1,142 @@
+-- What the loops keep that gather lists.
+use Rattle.std.proofs.Common.{◌≡◌, ◌∙◌, sym, ℕ, ◌+◌, ◌<◌, ◌≤◌, List, [], ◌∷◌, ◌++◌, length, get_or, ap, refl, subst, arith, inl, inr, ◌⊎◌, lit<}
+use Rattle.std.specs.Prelude.{Bool, true, false, Contains, ◌↔◌}
+use Rattle.std.specs.List.Sorted.{IsPermutation, IsSorted}
+use Rattle.std.proofs.Math.ListN.{get_or-append}
+use Rattle.std.proofs.lemmas.Bool.{cases_lt}
+use Rattle.std.proofs.lemmas.Grind.{common_steps}
+use Rattle.std.proofs.lemmas.List.{get_or_push}
+use Rattle.std.specs.Cmp.{nat_eq_equiv}
+use Rattle.std.specs.List.{IsDistinct}
+use Rattle.std.specs.Ordering.{nat_cmp}
+use Rattle.std.proofs.lemmas.List.Sorted.{Contains-permutation, IsPermutation-sym, IsNonDecreasingBy-from_sort}
+use Rattle.std.proofs.lemmas.Map.Keys.{IsDistinct-IsPermutation, IsStrictlyIncreasing-from_distinct}
+use lib.Dec.{eqb}
+use Rattle.digraph.specs.Edges.{Graph, Edge, IsFalling, successors}
+use Rattle.digraph.specs.Leads.{Leads, here, through, IsReach, AreReaches, InLists, IsUnion, AreClosed}
+use Rattle.digraph.specs.Marks.{AreMarked, Among}
+use Rattle.digraph.proofs.Marking.{among_more, among_all}
+use Rattle.digraph.proofs.Visiting.{no_place, node_at}
+use Rattle.digraph.proofs.Searching.{one_only}
+use Rattle.digraph.proofs.Ways.{leads_trans, leads_le}
+
+-- c stands in the list of one of the first n nodes
+abbrev pub InFirst : List (List ℕ) → List ℕ → ℕ → ℕ → Type 0
+InFirst lists nodes n c = (b : ℕ) × Among nodes n b × Contains (get_or lists b []) c
+
+pub record Gathered (lists : List (List ℕ)) (nodes : List ℕ) (n : ℕ) (marks : List Bool) (marked : List ℕ) : Type 0 where
+  pub room : length lists ≤ length marks
+  pub inside : (k : ℕ) → k < length nodes → get_or nodes k 0 < length lists
+  pub are : AreMarked marks marked
+  pub gathered : (c : ℕ) → Contains marked c ↔ InFirst lists nodes n c
+
+pub gathered_none : (lists : List (List ℕ)) (nodes : List ℕ) (marks : List Bool) (marked : List ℕ) → length lists ≤ length marks → ((b : ℕ) → Contains nodes b → b < length lists) → AreMarked marks marked → marked ≡ [] → Gathered lists nodes 0 marks marked
+gathered_none lists nodes marks marked room inside are e = record {
+  room = room;
+  inside = λ k h. inside (get_or nodes k 0) (node_at nodes k h);
+  are = are;
+  gathered = λ c. (λ w. (let at = subst (λ (xs : List ℕ). Contains xs c) e w in absurd (no_place at.0 at.1)), λ w. absurd (no_place w.1.0 w.1.1));
+}
+
+first_more : (lists : List (List ℕ)) (nodes : List ℕ) (n c : ℕ) → InFirst lists nodes n c ⊎ Contains (get_or lists (get_or nodes n 0) []) c → InFirst lists nodes (n + 1) c
+first_more lists nodes n c (inl (b, w, r)) = (b, (among_more nodes n b).1 (inl w), r)
+first_more lists nodes n c (inr r) = (get_or nodes n 0, (among_more nodes n (get_or nodes n 0)).1 (inr refl), r)
+
+first_less : (lists : List (List ℕ)) (nodes : List ℕ) (n c : ℕ) → InFirst lists nodes (n + 1) c → InFirst lists nodes n c ⊎ Contains (get_or lists (get_or nodes n 0) []) c
+first_less lists nodes n c (b, w, r) = elim ((among_more nodes n b).0 w) [
+  | inl more ↦ inl (b, more, r)
+  | inr is ↦ inr (subst (λ (x : ℕ). Contains (get_or lists x []) c) (sym is) r)
+]
+
+pub gathered_more : (lists : List (List ℕ)) (nodes list : List ℕ) (n : ℕ) (marks new : List Bool) (marked ys : List ℕ) → list ≡ get_or lists (get_or nodes n 0) [] → length new ≡ length marks → AreMarked new ys → ((c : ℕ) → Contains ys c ↔ (Contains marked c ⊎ Contains list c)) → Gathered lists nodes n marks marked → Gathered lists nodes (n + 1) new ys
+gathered_more lists nodes list n marks new marked ys e len are added g =
+    let added' : (c : ℕ) → Contains ys c ↔ (Contains marked c ⊎ Contains (get_or lists (get_or nodes n 0) []) c) = subst (λ (xs : List ℕ). (c : ℕ) → Contains ys c ↔ (Contains marked c ⊎ Contains xs c)) e added in
+    record {
+      room = omega (arith, len, g.room);
+      inside = g.inside;
+      are = are;
+      gathered = λ c. (
+        λ w. first_more lists nodes n c (elim ((added' c).0 w) [ inl old ↦ inl ((g.gathered c).0 old) | inr is ↦ inr is ]),
+        λ w. (added' c).1 (elim (first_less lists nodes n c w) [ inl old ↦ inl ((g.gathered c).1 old) | inr is ↦ inr is ]),
+      );
+    }
+
+skipped : (lists : List (List ℕ)) (nodes : List ℕ) (n : ℕ) (marked : List ℕ) (c : ℕ) → AreClosed lists (length lists) → ((k : ℕ) → k < length nodes → get_or nodes k 0 < length lists) → n ≤ length nodes → ((c : ℕ) → Contains marked c ↔ InFirst lists nodes n c) → Contains marked (get_or nodes n 0) → InFirst lists nodes n c ⊎ Contains (get_or lists (get_or nodes n 0) []) c → Contains marked c
+skipped lists nodes n marked c closed inside h gathered found (inl old) = (gathered c).1 old
+skipped lists nodes n marked c closed inside h gathered found (inr is) =
+    let by = (gathered (get_or nodes n 0)).0 found in
+    let at = by.1 in
+    let below = inside at.0 (omega (arith, at.1, h)) in
+    (gathered c).1 (by.0, by.1, closed.closed by.0 (get_or nodes n 0) c (omega (arith, below, at.2)) by.2 is)
+
+pub gathered_skip : (lists : List (List ℕ)) (nodes : List ℕ) (n : ℕ) (marks new : List Bool) (marked ys : List ℕ) → AreClosed lists (length lists) → n < length nodes → get_or marks (get_or nodes n 0) false ≡ true → new ≡ marks → ys ≡ marked → Gathered lists nodes n marks marked → Gathered lists nodes (n + 1) new ys
+gathered_skip lists nodes n marks new marked ys closed h mark new_is ys_is g =
+    let below = g.inside n h in
+    let found : Contains marked (get_or nodes n 0) = (g.are.same (get_or nodes n 0)).0 (omega (arith, below, g.room), mark) in
+    rw (new_is, ys_is) (record {
+      room = g.room;
+      inside = g.inside;
+      are = g.are;
+      gathered = λ c. (λ w. first_more lists nodes n c (inl ((g.gathered c).0 w)), λ w. skipped lists nodes n marked c closed g.inside (omega arith) g.gathered found (first_less lists nodes n c w));
+    })
+
+pub gathered_all : (lists : List (List ℕ)) (nodes : List ℕ) (n : ℕ) (marks : List Bool) (marked : List ℕ) → n ≡ length nodes → Gathered lists nodes n marks marked → (c : ℕ) → Contains marked c ↔ InLists lists nodes c
+gathered_all lists nodes n marks marked e g c =
+    (λ w. (let by = (g.gathered c).0 w in (by.0, (among_all nodes n by.0 e).1 by.1, by.2)), λ w. (g.gathered c).1 (w.0, (among_all nodes n w.0 e).0 w.1, w.2))
+
+-- ---- lists, one after the other
+
+pub reach_closed : (g : Graph) (lists : List (List ℕ)) (n : ℕ) → IsFalling g → AreReaches g lists n → AreClosed lists n
+reach_closed g lists n falling all = record {
+  own = λ a h. ((all a h).members a).1 here;
+  within = λ a b h w. (let le = leads_le g b a falling (((all a h).members b).0 w) in omega (arith, le, h));
+  closed = λ a b c h w v. (
+      let ab = ((all a h).members b).0 w in
+      let le = leads_le g b a falling ab in
+      let bc = ((all b (omega (arith, le, h))).members c).0 v in
+      ((all a h).members c).1 (leads_trans (Edge g) b c a ab bc));
+}
+
+union_to : (g : Graph) (lists : List (List ℕ)) (a c : ℕ) → IsFalling g → AreReaches g lists a → InLists lists (successors g a) c ⊎ (a ≡ c) → Leads (Edge g) c a
+union_to g lists a c falling all (inl (b, edge, w)) = through a b edge (((all b (falling a b edge)).members c).0 w)
+union_to g lists a c falling all (inr e) = subst (λ (x : ℕ). Leads (Edge g) x a) e here
+
+union_from : (g : Graph) (lists : List (List ℕ)) (a c : ℕ) → IsFalling g → AreReaches g lists a → Leads (Edge g) c a → InLists lists (successors g a) c ⊎ (a ≡ c)
+union_from g lists _ c falling all here = inr refl
+union_from g lists _ c falling all (through a b edge more) = inl (b, edge, ((all b (falling a b edge)).members c).1 more)
+
+pub union_reach : (g : Graph) (lists : List (List ℕ)) (a : ℕ) (xs : List ℕ) → IsFalling g → AreReaches g lists a → IsUnion lists (successors g a) a xs → IsReach g a xs
+union_reach g lists a xs falling all u = record {
+  rises = u.rises;
+  members = λ c. (λ w. union_to g lists a c falling all ((u.members c).0 w), λ r. (u.members c).1 (union_from g lists a c falling all r));
+}
+
+push_case : (P : ℕ → List ℕ → Type 0) (lists : List (List ℕ)) (xs : List ℕ) (n : ℕ) → length lists ≡ n → ((a : ℕ) → a < n → P a (get_or lists a [])) → P n xs → (a : ℕ) → a < n + 1 → (a < n) ⊎ (n ≤ a) → P a (get_or (lists ++ xs ∷ []) a [])
+push_case P lists xs n len all last a h (inl less) = subst (P a) (sym (get_or-append lists (xs ∷ []) [] a (omega arith))) (all a less)
+push_case P lists xs n len all last a h (inr over) =
+    let at : a ≡ n = omega arith in
+    subst (P a) (sym (get_or_push lists xs [] a (omega (arith, len, at)))) (subst (λ (k : ℕ). P k xs) (sym at) last)
+
+-- what holds of each list holds with one more
+pub each_push : (P : ℕ → List ℕ → Type 0) (lists new : List (List ℕ)) (xs : List ℕ) (n : ℕ) → new ≡ lists ++ xs ∷ [] → length lists ≡ n → ((a : ℕ) → a < n → P a (get_or lists a [])) → P n xs → (a : ℕ) → a < n + 1 → P a (get_or new a [])
+each_push P lists new xs n e len all last a h = subst (λ (ls : List (List ℕ)). P a (get_or ls a [])) (sym e) (push_case P lists xs n len all last a h (cases_lt a n))
+
+pub length_push : (lists new : List (List ℕ)) (xs : List ℕ) (n : ℕ) → new ≡ lists ++ xs ∷ [] → length lists ≡ n → length new ≡ n + 1
+length_push lists new xs n e len = let more : length (lists ++ xs ∷ []) ≡ length lists + 1 = grind (arith, common_steps) in ap length e ∙ more ∙ omega (arith, len)
+
+union_members_to : (lists : List (List ℕ)) (nodes : List ℕ) (a c : ℕ) (gathered : List ℕ) → ((c : ℕ) → Contains gathered c ↔ InLists lists nodes c) → Contains gathered c ⊎ Contains (a ∷ []) c → InLists lists nodes c ⊎ (a ≡ c)
+union_members_to lists nodes a c gathered g (inl w) = inl ((g c).0 w)
+union_members_to lists nodes a c gathered g (inr w) = inr (one_only a c w)
+
+union_members_from : (lists : List (List ℕ)) (nodes : List ℕ) (a c : ℕ) (gathered : List ℕ) → ((c : ℕ) → Contains gathered c ↔ InLists lists nodes c) → InLists lists nodes c ⊎ (a ≡ c) → Contains gathered c ⊎ Contains (a ∷ []) c
+union_members_from lists nodes a c gathered g (inl w) = inl ((g c).1 w)
+union_members_from lists nodes a c gathered g (inr e) = inr (0, lit< tt, e)
+
+pub union_sorted : (lists : List (List ℕ)) (nodes : List ℕ) (a : ℕ) (gathered found sorted : List ℕ) → ((c : ℕ) → Contains gathered c ↔ InLists lists nodes c) → ((c : ℕ) → Contains found c ↔ (Contains gathered c ⊎ Contains (a ∷ []) c)) → IsDistinct eqb found → IsPermutation found sorted → IsSorted nat_cmp sorted → IsUnion lists nodes a sorted
+union_sorted lists nodes a gathered found sorted g added once moved up = record {
+  rises = IsStrictlyIncreasing-from_distinct sorted (IsNonDecreasingBy-from_sort (λ x. x) sorted up) (IsDistinct-IsPermutation eqb nat_eq_equiv.symm found sorted moved once);
+  members = λ c. (
+    λ w. union_members_to lists nodes a c gathered g ((added c).0 (Contains-permutation sorted found c (IsPermutation-sym found sorted moved) w)),
+    λ w. Contains-permutation found sorted c moved ((added c).1 (union_members_from lists nodes a c gathered g w)),
+  );
+}

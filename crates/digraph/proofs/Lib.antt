@@ -1,0 +1,12 @@
+pub mod Closing
+pub mod Levels
+pub mod Marking
+pub mod Renumbering
+pub mod Rising
+pub mod Rounding
+pub mod Rows
+pub mod Searching
+pub mod Sharing
+pub mod Stuck
+pub mod Visiting
+pub mod Ways

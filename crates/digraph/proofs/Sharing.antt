@@ -1,0 +1,57 @@
+-- Ranges of a list that only grows.
+use Rattle.std.proofs.Common.{◌≡◌, ℕ, ◌+◌, ◌≤◌, List, [], ◌∷◌, ◌++◌, length, drop, refl, arith, length-append, length-drop}
+use Rattle.std.specs.Prelude.{Result, Ok, Err, OnErr, true}
+use Rattle.std.specs.Cmp.Lexicographic.{pointwise}
+use Rattle.std.proofs.lemmas.Bool.{and_parts, eqb-true}
+use Rattle.std.proofs.lemmas.List.{take-append-le, drop-append-le, map-append, take_all}
+use lib.Dec.{eqb}
+use Rattle.digraph.specs.Marks.{IsFrontOf}
+use Rattle.digraph.specs.Ranges.{range_of, ranges_of, AreWithin, Holds}
+
+pub within_more : (n m : ℕ) (rs : List (ℕ × ℕ)) → n ≤ m → AreWithin n rs → AreWithin m rs
+within_more n m [] h w = tt
+within_more n m (r ∷ rs) h w = (omega (arith, w.0), within_more n m rs h w.1)
+
+range_kept : (old more : List ℕ) (r : ℕ × ℕ) → r.0 + r.1 ≤ length old → range_of (old ++ more) r ≡ range_of old r
+range_kept old more r h =
+    let inside : r.0 ≤ length old = omega arith in
+    let room : r.1 ≤ length (drop r.0 old) = rw (length-drop r.0 old) (omega arith) in
+    rw (drop-append-le r.0 old more inside, take-append-le r.1 (drop r.0 old) more room) refl
+
+ranges_kept : (old more : List ℕ) (rs : List (ℕ × ℕ)) → AreWithin (length old) rs → ranges_of (old ++ more) rs ≡ ranges_of old rs
+ranges_kept old more [] w = refl
+ranges_kept old more (r ∷ rs) w = rw (range_kept old more r w.0, ranges_kept old more rs w.1) refl
+
+pub view_kept : (old new : List ℕ) (rs ss : List (ℕ × ℕ)) → IsFrontOf old new → ss ≡ rs → AreWithin (length old) rs → ranges_of new ss ≡ ranges_of old rs
+view_kept old new rs ss front e w = rw (front.1, e) (ranges_kept old front.0 rs w)
+
+pub length_kept : (old new : List ℕ) → IsFrontOf old new → length old ≤ length new
+length_kept old new front = rw front.1 (rw (length-append old front.0) (omega arith))
+
+pub view_pushed : (old new : List ℕ) (rs ss : List (ℕ × ℕ)) (start : ℕ) (list : List ℕ) → IsFrontOf old new → Holds new start list → ss ≡ rs ++ (start, length list) ∷ [] → AreWithin (length old) rs → ranges_of new ss ≡ ranges_of old rs ++ list ∷ []
+view_pushed old new rs ss start list front holds e w =
+    let last : range_of new (start, length list) ≡ list = rw holds.0 (take_all (length list) list (omega arith)) in
+    rw (e, map-append) (rw (view_kept old new rs rs front refl w, last) refl)
+
+all_push : (n : ℕ) (rs : List (ℕ × ℕ)) (r : ℕ × ℕ) → AreWithin n rs → r.0 + r.1 ≤ n → AreWithin n (rs ++ r ∷ [])
+all_push n [] r w h = (h, tt)
+all_push n (x ∷ rs) r w h = (w.0, all_push n rs r w.1 h)
+
+pub within_pushed : (old new : List ℕ) (rs ss : List (ℕ × ℕ)) (start : ℕ) (list : List ℕ) → IsFrontOf old new → Holds new start list → ss ≡ rs ++ (start, length list) ∷ [] → AreWithin (length old) rs → AreWithin (length new) ss
+within_pushed old new rs ss start list front holds e w = rw e (all_push (length new) rs (start, length list) (within_more (length old) (length new) rs (length_kept old new front) w) (omega (arith, holds.1)))
+
+pub same_numbers : (xs ys : List ℕ) → pointwise eqb xs ys ≡ true → xs ≡ ys
+same_numbers [] [] e = refl
+same_numbers [] (y ∷ ys) e = cc
+same_numbers (x ∷ xs) [] e = cc
+same_numbers (x ∷ xs) (y ∷ ys) e = let both = and_parts (eqb x y) (pointwise eqb xs ys) e in let rest = same_numbers xs ys both.1 in let first = eqb-true x y both.0 in cc
+
+-- a list goes on where the places end
+pub goes_on : (places new front list : List ℕ) (last k : ℕ) → front ≡ drop k places → k + length front ≡ length places → list ≡ front ++ last ∷ [] → new ≡ places ++ last ∷ [] → Holds new k list
+goes_on places new front list last k e len whole pushed =
+    let inside : k ≤ length places = omega arith in
+    (rw (pushed, whole, drop-append-le k places (last ∷ []) inside, e) refl, rw (pushed, whole) (rw (length-append places (last ∷ []), length-append front (last ∷ [])) (omega arith)))
+
+pub always_on_err : {A E : Type 0} (r : Result A E) (P : Type 0) → P → OnErr r P
+always_on_err (Ok a) P p = tt
+always_on_err (Err e) P p = p

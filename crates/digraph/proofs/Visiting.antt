@@ -1,0 +1,140 @@
+-- What the loops keep that mark nodes and take marks away.
+use Rattle.std.proofs.Common.{◌≡◌, ◌≢◌, ◌∙◌, sym, ℕ, ◌+◌, ◌<◌, List, [], ◌∷◌, ◌++◌, length, get_or, ap, refl, subst, arith, inl, inr, ◌⊎◌, append_assoc, append-nil, get_or-set_same, get_or-set_other}
+use Rattle.std.specs.Prelude.{Bool, true, false, Contains, ◌↔◌}
+use Rattle.std.specs.List.{IsDistinct, list_any}
+use Rattle.std.proofs.Math.ListN.{set, length-set}
+use Rattle.std.proofs.lemmas.Bool.{true≢false, eqb-true, cases_eq}
+use Rattle.std.proofs.lemmas.List.Elements.{Contains-push, Contains-push_cases, Contains-append_left}
+use Rattle.std.proofs.lemmas.Map.Views.{Contains-from_any}
+use Rattle.std.specs.Cmp.{nat_eq_equiv}
+use Rattle.std.proofs.lemmas.Map.Keys.{IsDistinct-push}
+use lib.Dec.{eqb}
+use Rattle.digraph.specs.Marks.{IsMarked, AreMarked, Among, IsFrontOf, NoneMarked}
+use Rattle.digraph.proofs.Marking.{among_more, among_all, mark_one, joined_step, joined_end}
+
+pub no_place : (k : ℕ) → k < 0 → ⊥
+no_place k h = omega arith
+
+-- ---- marking
+
+-- what a loop over nodes keeps, of the marked ones before it
+pub record Visited (old nodes : List ℕ) (n : ℕ) (marks : List Bool) (marked : List ℕ) : Type 0 where
+  pub room : (k : ℕ) → k < length nodes → get_or nodes k 0 < length marks
+  pub are : AreMarked marks marked
+  pub front : IsFrontOf old marked
+  pub added : (c : ℕ) → Contains marked c ↔ (Contains old c ⊎ Among nodes n c)
+
+not_any : (xs : List ℕ) (x : ℕ) (b : Bool) → list_any (eqb x) xs ≡ b → (Contains xs x → ⊥) → list_any (eqb x) xs ≡ false
+not_any xs x false e out = e
+not_any xs x true e out = absurd (out (Contains-from_any (λ a b h. eqb-true a b h) x xs e))
+
+distinct_push : (xs : List ℕ) (x : ℕ) → IsDistinct eqb xs → (Contains xs x → ⊥) → IsDistinct eqb (xs ++ x ∷ [])
+distinct_push xs x d out = IsDistinct-push nat_eq_equiv xs x d (not_any xs x (list_any (eqb x) xs) refl out)
+
+push_from : (xs : List ℕ) (p c : ℕ) → Contains xs c ⊎ (p ≡ c) → Contains (xs ++ p ∷ []) c
+push_from xs p c (inl h) = Contains-append_left xs (p ∷ []) c h
+push_from xs p c (inr e) = subst (Contains (xs ++ p ∷ [])) e (Contains-push xs p)
+
+pub push_iff : (xs : List ℕ) (p c : ℕ) → Contains (xs ++ p ∷ []) c ↔ (Contains xs c ⊎ (p ≡ c))
+push_iff xs p c = (Contains-push_cases xs p c, push_from xs p c)
+
+either_to : {A B C : Type 0} → (A → B) → (A ⊎ C) → (B ⊎ C)
+either_to f (inl a) = inl (f a)
+either_to f (inr c) = inr c
+
+-- the marks and the marked nodes after one more
+marked_push : (marks : List Bool) (marked : List ℕ) (p : ℕ) → p < length marks → (Contains marked p → ⊥) → AreMarked marks marked → AreMarked (set marks p true) (marked ++ p ∷ [])
+marked_push marks marked p h fresh q = record {
+  same = λ c. (
+    λ m. push_from marked p c (either_to (q.same c).0 ((mark_one marks p c h).0 m)),
+    λ w. (mark_one marks p c h).1 (either_to (q.same c).1 (Contains-push_cases marked p c w)),
+  );
+  once = distinct_push marked p q.once fresh;
+}
+
+pub visited_push : (old nodes : List ℕ) (n : ℕ) (marks new : List Bool) (marked ys : List ℕ) → n < length nodes → get_or marks (get_or nodes n 0) false ≡ false → new ≡ set marks (get_or nodes n 0) true → ys ≡ marked ++ get_or nodes n 0 ∷ [] → Visited old nodes n marks marked → Visited old nodes (n + 1) new ys
+visited_push old nodes n marks new marked ys h out new_is ys_is v =
+    let p = get_or nodes n 0 in
+    let below : p < length marks = v.room n h in
+    let fresh : Contains marked p → ⊥ = λ w. true≢false (sym ((v.are.same p).1 w).1 ∙ out) in
+    rw (new_is, ys_is) (record {
+      room = λ k inside. (let old_room = v.room k inside in omega (arith, old_room, length-set marks p true));
+      are = marked_push marks marked p below fresh v.are;
+      front = (v.front.0 ++ p ∷ [], ap (λ xs. xs ++ p ∷ []) v.front.1 ∙ append_assoc old v.front.0 (p ∷ []));
+      added = λ c. joined_step (push_iff marked p c) (v.added c) (among_more nodes n c);
+    })
+
+skip_to : (old nodes : List ℕ) (n c : ℕ) → Contains old c ⊎ Among nodes n c → Contains old c ⊎ Among nodes (n + 1) c
+skip_to old nodes n c (inl h) = inl h
+skip_to old nodes n c (inr h) = inr ((among_more nodes n c).1 (inl h))
+
+skip_last : (old nodes marked : List ℕ) (n c : ℕ) → Contains marked (get_or nodes n 0) → (Contains old c ⊎ Among nodes n c → Contains marked c) → Among nodes n c ⊎ (get_or nodes n 0 ≡ c) → Contains marked c
+skip_last old nodes marked n c found f (inl h) = f (inr h)
+skip_last old nodes marked n c found f (inr e) = subst (Contains marked) e found
+
+skip_from : (old nodes marked : List ℕ) (n c : ℕ) → Contains marked (get_or nodes n 0) → (Contains old c ⊎ Among nodes n c → Contains marked c) → Contains old c ⊎ Among nodes (n + 1) c → Contains marked c
+skip_from old nodes marked n c found f (inl h) = f (inl h)
+skip_from old nodes marked n c found f (inr h) = skip_last old nodes marked n c found f ((among_more nodes n c).0 h)
+
+pub visited_skip : (old nodes : List ℕ) (n : ℕ) (marks new : List Bool) (marked ys : List ℕ) → n < length nodes → get_or marks (get_or nodes n 0) false ≡ true → new ≡ marks → ys ≡ marked → Visited old nodes n marks marked → Visited old nodes (n + 1) new ys
+visited_skip old nodes n marks new marked ys h inside new_is ys_is v =
+    let found : Contains marked (get_or nodes n 0) = (v.are.same (get_or nodes n 0)).0 (v.room n h, inside) in
+    rw (new_is, ys_is) (record {
+      room = v.room;
+      are = v.are;
+      front = v.front;
+      added = λ c. (λ w. skip_to old nodes n c ((v.added c).0 w), skip_from old nodes marked n c found (v.added c).1);
+    })
+
+none_at : (nodes : List ℕ) (c : ℕ) → Among nodes 0 c → ⊥
+none_at nodes c (k, h, e) = no_place k h
+
+none_from : (old nodes : List ℕ) (c : ℕ) → Contains old c ⊎ Among nodes 0 c → Contains old c
+none_from old nodes c (inl h) = h
+none_from old nodes c (inr h) = absurd (none_at nodes c h)
+
+-- a node that a list has
+pub node_at : (xs : List ℕ) (k : ℕ) → k < length xs → Contains xs (get_or xs k 0)
+node_at xs k h = (among_all xs (length xs) (get_or xs k 0) refl).1 (k, h, refl)
+
+pub visited_none : (old nodes : List ℕ) (marks : List Bool) → ((c : ℕ) → Contains nodes c → c < length marks) → AreMarked marks old → Visited old nodes 0 marks old
+visited_none old nodes marks room are = record {
+  room = λ k h. room (get_or nodes k 0) (node_at nodes k h);
+  are = are;
+  front = ([], sym (append-nil old));
+  added = λ c. (λ w. inl w, λ w. none_from old nodes c w);
+}
+
+pub visited_all : (old nodes : List ℕ) (n : ℕ) (marks : List Bool) (marked : List ℕ) → n ≡ length nodes → Visited old nodes n marks marked → (c : ℕ) → Contains marked c ↔ (Contains old c ⊎ Contains nodes c)
+visited_all old nodes n marks marked e v c = joined_end (v.added c) (among_all nodes n c e)
+
+-- ---- taking marks away
+
+-- what a loop over the marked nodes keeps
+pub record Cleared (nodes : List ℕ) (n : ℕ) (marks : List Bool) : Type 0 where
+  pub room : (k : ℕ) → k < length nodes → get_or nodes k 0 < length marks
+  pub left : (c : ℕ) → IsMarked marks c → Contains nodes c × (Among nodes n c → ⊥)
+
+pub cleared_none : (nodes : List ℕ) (marks : List Bool) → AreMarked marks nodes → Cleared nodes 0 marks
+cleared_none nodes marks are = record {
+  room = λ k h. ((are.same (get_or nodes k 0)).1 (node_at nodes k h)).0;
+  left = λ c m. ((are.same c).0 m, none_at nodes c);
+}
+
+cleared_other : (nodes : List ℕ) (n : ℕ) (marks : List Bool) (c : ℕ) → Cleared nodes n marks → (c ≡ get_or nodes n 0) ⊎ (c ≢ get_or nodes n 0) → get_or nodes n 0 < length marks → IsMarked (set marks (get_or nodes n 0) false) c → Contains nodes c × (Among nodes (n + 1) c → ⊥)
+cleared_other nodes n marks c v (inl same) h (below, t) =
+    absurd (true≢false (sym t ∙ ap (λ i. get_or (set marks (get_or nodes n 0) false) i false) same ∙ get_or-set_same marks (get_or nodes n 0) false false h))
+cleared_other nodes n marks c v (inr other) h (below, t) =
+    let p = get_or nodes n 0 in
+    let under : c < length marks = omega (arith, below, length-set marks p false) in
+    let old = v.left c (under, sym (get_or-set_other marks p c false false other) ∙ t) in
+    (old.0, λ w. (elim ((among_more nodes n c).0 w) [ inl more ↦ old.1 more | inr is ↦ other (sym is) ]))
+
+pub cleared_more : (nodes : List ℕ) (n : ℕ) (marks new : List Bool) → n < length nodes → new ≡ set marks (get_or nodes n 0) false → Cleared nodes n marks → Cleared nodes (n + 1) new
+cleared_more nodes n marks new h new_is v = rw new_is (record {
+  room = λ k inside. (let old_room = v.room k inside in omega (arith, old_room, length-set marks (get_or nodes n 0) false));
+  left = λ c. cleared_other nodes n marks c v (cases_eq c (get_or nodes n 0)) (v.room n h);
+})
+
+pub cleared_all : (nodes : List ℕ) (n : ℕ) (marks : List Bool) → n ≡ length nodes → Cleared nodes n marks → NoneMarked marks
+cleared_all nodes n marks e v c m = let old = v.left c m in old.1 ((among_all nodes n c e).0 old.0)

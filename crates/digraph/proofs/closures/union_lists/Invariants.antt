@@ -1,0 +1,13 @@
+use Rattle.std.proofs.Common.{◌≡◌, length}
+use Rattle.digraph.specs.Edges.{graph_of}
+use Rattle.digraph.specs.Leads.{AreUnions}
+use Rattle.digraph.specs.Marks.{NoneMarked}
+use Rattle.digraph.proofs.closures.union_lists.Given as goal
+
+abbrev pub invariant-loop-own : goal.invariant-loop-own
+invariant-loop-own l = record {
+  room : length l.marks.items ≡ length l.graph;
+  none : NoneMarked l.marks.items;
+  size : length l.unions ≡ l.own;
+  unions : AreUnions l.lists (graph_of l.graph) l.unions l.own;
+}

@@ -1,0 +1,9 @@
+use Rattle.std.proofs.Common.{◌-◌, length}
+use Rattle.digraph.specs.Rounds.{IsPassed}
+use Rattle.digraph.proofs.ranks.pass.Given as goal
+
+abbrev pub invariant-loop-count : goal.invariant-loop-count
+invariant-loop-count l = IsPassed l.marks l.successors l.count
+
+abbrev pub decreases-loop-count : goal.decreases-loop-count
+decreases-loop-count l = length l.successors - l.count

@@ -1,0 +1,5 @@
+use Rattle.digraph.proofs.Rounding.{Settled}
+use Rattle.digraph.proofs.ranks.settle.Given as goal
+
+abbrev pub invariant-loop-node : goal.invariant-loop-node
+invariant-loop-node l = Settled l.nodes l.rank l.initial.marks l.initial.ranks l.node-index l.marks l.ranks

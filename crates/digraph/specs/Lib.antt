@@ -1,0 +1,7 @@
+pub mod Edges
+pub mod Leads
+pub mod Marks
+pub mod Ranges
+pub mod Ranks
+pub mod Renumbered
+pub mod Rounds

@@ -1,0 +1,91 @@
+//! What each node leads to, where every edge goes to a smaller node.
+
+ghost use Rattle.std.specs.Prelude.{◌≡◌, ◌↔◌, ℕ, ◌<◌, ◌≤◌, [], length, Contains, IfOk, OnOk};
+ghost use Rattle.digraph.specs.Edges.{IsFalling, IsWithin, graph_of, successors};
+ghost use Rattle.digraph.specs.Leads.{AreClosed, AreReaches, AreUnions, InLists, IsUnion};
+ghost use Rattle.digraph.specs.Marks.{AreMarked, NoneMarked};
+
+use crate::lists::Lists;
+use crate::marks::{clear, unmarked, visit};
+use crate::search::row;
+use std::alloc::{AllocError, Global};
+
+/// Marks what stands in the lists of nodes. The list of a node that is marked is in those before it.
+fn gather(
+    lists: &Lists,
+    nodes: &[usize],
+    marks: &mut [bool],
+    marked: &mut Vec<usize>,
+) -> Result<(), AllocError>
+    requires room { length lists.now ≤ length marks.old }
+    requires nodes { (b : ℕ) → Contains nodes.now b → b < length lists.now }
+    requires closed { AreClosed lists.now (length lists.now) }
+    requires marked { AreMarked marks.old marked.old.items }
+    requires empty { marked.old.items ≡ [] }
+    ensures marked { OnOk result (AreMarked marks.new marked.new.items) }
+    ensures gathered { OnOk result ((c : ℕ) → Contains marked.new.items c ↔ InLists lists.now nodes.now c) }
+{
+    for node in nodes {
+        if !marks[*node] {
+            visit(lists.get(*node), marks, marked)?;
+        }
+    }
+    Ok(())
+}
+
+/// A node with what stands in the lists of others, in rising order. No node is marked before or afterwards.
+fn union_of(
+    alloc: Global,
+    lists: &Lists,
+    nodes: &[usize],
+    own: usize,
+    marks: &mut [bool],
+) -> Result<Vec<usize>, AllocError>
+    requires own { own < length marks.old }
+    requires room { length lists.now ≤ length marks.old }
+    requires nodes { (b : ℕ) → Contains nodes.now b → b < length lists.now }
+    requires closed { AreClosed lists.now (length lists.now) }
+    requires none { NoneMarked marks.old }
+    ensures union { IfOk result (λ union. IsUnion lists.now nodes.now own union.items) }
+    ensures none { OnOk result (NoneMarked marks.new) }
+{
+    let mut union = Vec::new(alloc);
+    gather(lists, nodes, marks, &mut union)?;
+    let own = [own];
+    visit(&own, marks, &mut union)?;
+    clear(&union, marks);
+    union.sort_unstable();
+    Ok(union)
+}
+
+/// What each node leads to, itself among it, in rising order.
+pub fn reach_lists(alloc: Global, graph: &[Vec<usize>]) -> Result<Lists, AllocError>
+    requires { IsFalling (graph_of graph.now) }
+    ensures size { IfOk result (λ lists. length lists ≡ length graph.now) }
+    ensures reaches { IfOk result (λ lists. AreReaches (graph_of graph.now) lists (length graph.now)) }
+{
+    let mut marks = unmarked(alloc, graph.len())?;
+    let mut lists = Lists::new(alloc);
+    for own in 0..graph.len() {
+        let list = union_of(alloc, &lists, row(graph, own), own, &mut marks)?;
+        lists.push(&list)?;
+    }
+    Ok(lists)
+}
+
+/// For each node of a graph itself, and what stands in the lists of its successors, in rising order.
+pub fn union_lists(alloc: Global, lists: &Lists, graph: &[Vec<usize>]) -> Result<Lists, AllocError>
+    requires size { length lists.now ≡ length graph.now }
+    requires within { IsWithin (graph_of graph.now) (length graph.now) }
+    requires closed { AreClosed lists.now (length lists.now) }
+    ensures size { IfOk result (λ unions. length unions ≡ length graph.now) }
+    ensures unions { IfOk result (λ unions. AreUnions lists.now (graph_of graph.now) unions (length graph.now)) }
+{
+    let mut marks = unmarked(alloc, graph.len())?;
+    let mut unions = Lists::new(alloc);
+    for own in 0..graph.len() {
+        let union = union_of(alloc, lists, row(graph, own), own, &mut marks)?;
+        unions.push(&union)?;
+    }
+    Ok(unions)
+}

@@ -1,8 +1,0 @@
-//! The rules by examples.
-
-mod names;
-mod numbers;
-mod options;
-mod rules;
-mod source;
-mod whole;

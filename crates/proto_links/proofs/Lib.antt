@@ -1,0 +1,5 @@
+mod Faulting
+mod Named
+mod Positions
+mod Search
+mod Targeting

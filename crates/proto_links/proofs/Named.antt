@@ -1,0 +1,119 @@
+-- Laws of files in the order of their names.
+use Rattle.std.proofs.Common.{◌≡◌, ◌≢◌, ◌∙◌, sym, ℕ, zero, suc, ◌+◌, ◌-◌, ◌<◌, ◌≤◌, List, [], ◌∷◌, length, get_or, ap, refl, subst, arith, inl, inr, ◌⊎◌, Ordering, Less, Equal, Greater}
+use Rattle.std.specs.Prelude.{Bool, true, false, ◌↔◌}
+use Rattle.std.specs.Cmp.Lexicographic.{slice_cmp}
+use Rattle.std.specs.List.Sorted.{IsSortedByKey}
+use Rattle.std.specs.Ordering.{nat_cmp, ordering_reverse, is_lt}
+use Rattle.std.proofs.lemmas.Bool.{cases_eq, cases_lt}
+use Rattle.std.proofs.lemmas.Cmp.{nat_list_cmp_total}
+use Rattle.std.proofs.lemmas.Map.Lookups.{exact_bytes}
+use Rattle.std.proofs.lemmas.List.{get_or-map}
+use Rattle.proto_desc.specs.declared.file.FileDesc.{FileDesc}
+use Rattle.proto_links.specs.Imports.{name_of, name_at, AreInNameOrder, IsNamed}
+
+pub no_place : (k : ℕ) → k < 0 → ⊥
+no_place k h = omega arith
+
+less_itself : (o : Ordering) → o ≡ ordering_reverse o → o ≡ Less → ⊥
+less_itself Less h k = cc
+less_itself Equal h k = cc
+less_itself Greater h k = cc
+
+not_less_itself : (xs : List ℕ) → slice_cmp nat_cmp xs xs ≡ Less → ⊥
+not_less_itself xs = less_itself (slice_cmp nat_cmp xs xs) (nat_list_cmp_total.antisymm xs xs)
+
+-- names at a distance
+names_by : (files : List FileDesc) → AreInNameOrder files → (i d : ℕ) → i + suc d < length files → slice_cmp nat_cmp (name_at files i) (name_at files (i + suc d)) ≡ Less
+names_by files order i zero h = order i h
+names_by files order i (suc d) h =
+    let step : slice_cmp nat_cmp (name_at files (i + suc d)) (name_at files (i + suc d + 1)) ≡ Less = order (i + suc d) (omega arith) in
+    let at : i + suc d + 1 ≡ i + suc (suc d) = omega arith in
+    subst (λ k. slice_cmp nat_cmp (name_at files i) (name_at files k) ≡ Less) at
+    (nat_list_cmp_total.trans (name_at files i) (name_at files (i + suc d)) (name_at files (i + suc d + 1)) (names_by files order i d (omega arith)) step)
+
+names_far : (files : List FileDesc) → AreInNameOrder files → (i j : ℕ) → i < j → j < length files → slice_cmp nat_cmp (name_at files i) (name_at files j) ≡ Less
+names_far files order i j h inside =
+    let split : i + suc (j - i - 1) ≡ j = omega arith in
+    subst (λ k. slice_cmp nat_cmp (name_at files i) (name_at files k) ≡ Less) split (names_by files order i (j - i - 1) (omega arith))
+
+names_differ : (files : List FileDesc) → AreInNameOrder files → (i j : ℕ) → i < j → j < length files → name_at files i ≢ name_at files j
+names_differ files order i j h inside e =
+    not_less_itself (name_at files j) (subst (λ xs. slice_cmp nat_cmp xs (name_at files j) ≡ Less) e (names_far files order i j h inside))
+
+unique_case : (files : List FileDesc) (name : List ℕ) → AreInNameOrder files → (b c : ℕ) → IsNamed files name b → IsNamed files name c → (b ≡ c) ⊎ (b ≡ c → ⊥) → (b < c) ⊎ (c ≤ b) → b ≡ c
+unique_case files name order b c nb nc (inl same) h = same
+unique_case files name order b c nb nc (inr other) (inl less) = absurd (names_differ files order b c less nc.0 (nb.1 ∙ sym nc.1))
+unique_case files name order b c nb nc (inr other) (inr over) = absurd (names_differ files order c b (omega (arith, over, other)) nb.0 (nc.1 ∙ sym nb.1))
+
+-- at most one file has a name
+pub named_once : (files : List FileDesc) (name : List ℕ) → AreInNameOrder files → (b c : ℕ) → IsNamed files name b → IsNamed files name c → b ≡ c
+named_once files name order b c nb nc = unique_case files name order b c nb nc (cases_eq b c) (cases_lt b c)
+
+pub name_is : (files : List FileDesc) (k : ℕ) (d : FileDesc) → k < length files → name_at files k ≡ name_of (get_or files k d)
+name_is files k d h = get_or-map name_of files k d [] h
+
+not_after : (o : Ordering) → o ≡ Less → is_lt (ordering_reverse o) ≡ false
+not_after o h = cc
+
+-- the order that a search asks for
+pub sorted_names : (files : List FileDesc) → AreInNameOrder files → IsSortedByKey name_of (slice_cmp nat_cmp) files
+sorted_names files order k d low h =
+    let inside : k + 1 < length files = omega arith in
+    let less : slice_cmp nat_cmp (name_of (get_or files k d)) (name_of (get_or files (k + 1) d)) ≡ Less =
+    subst (λ xs. slice_cmp nat_cmp xs (name_of (get_or files (k + 1) d)) ≡ Less) (name_is files k d (omega arith))
+    (subst (λ ys. slice_cmp nat_cmp (name_at files k) ys ≡ Less) (name_is files (k + 1) d inside) (order k inside)) in
+    ap is_lt (nat_list_cmp_total.antisymm (name_of (get_or files (k + 1) d)) (name_of (get_or files k d))) ∙ not_after (slice_cmp nat_cmp (name_of (get_or files k d)) (name_of (get_or files (k + 1) d))) less
+
+order_case : (files : List FileDesc) (n : ℕ) → slice_cmp nat_cmp (name_at files (n - 1)) (name_at files n) ≡ Less → 0 < n → ((k : ℕ) → k + 1 < n → slice_cmp nat_cmp (name_at files k) (name_at files (k + 1)) ≡ Less) → (k : ℕ) → k + 1 < n + 1 → (k + 1 < n) ⊎ (n ≤ k + 1) → slice_cmp nat_cmp (name_at files k) (name_at files (k + 1)) ≡ Less
+order_case files n last some old k h (inl less) = old k less
+order_case files n last some old k h (inr over) =
+    let first : n - 1 ≡ k = omega arith in
+    let second : n ≡ k + 1 = omega arith in
+    subst (λ j. slice_cmp nat_cmp (name_at files k) (name_at files j) ≡ Less) second (subst (λ i. slice_cmp nat_cmp (name_at files i) (name_at files n) ≡ Less) first last)
+
+-- one more pair of neighbours
+pub order_more : (files : List FileDesc) (n : ℕ) → slice_cmp nat_cmp (name_at files (n - 1)) (name_at files n) ≡ Less → 0 < n → ((k : ℕ) → k + 1 < n → slice_cmp nat_cmp (name_at files k) (name_at files (k + 1)) ≡ Less) → (k : ℕ) → k + 1 < n + 1 → slice_cmp nat_cmp (name_at files k) (name_at files (k + 1)) ≡ Less
+order_more files n last some old k h = order_case files n last some old k h (cases_lt (k + 1) n)
+
+-- names of neighbours as an index gives them
+pub pair_names : (files : List FileDesc) (n : ℕ) (f g : FileDesc) → 0 < n → n < length files → f ≡ get_or files (n - 1) f → g ≡ get_or files n g → (slice_cmp nat_cmp (name_of f) (name_of g) ≡ Less) ↔ (slice_cmp nat_cmp (name_at files (n - 1)) (name_at files n) ≡ Less)
+pair_names files n f g some h ef eg =
+    let first : name_at files (n - 1) ≡ name_of f = name_is files (n - 1) f (omega arith) ∙ ap name_of (sym ef) in
+    let second : name_at files n ≡ name_of g = name_is files n g h ∙ ap name_of (sym eg) in (
+      λ less. subst (λ xs. slice_cmp nat_cmp xs (name_at files n) ≡ Less) (sym first) (subst (λ ys. slice_cmp nat_cmp (name_of f) ys ≡ Less) (sym second) less),
+      λ less. subst (λ xs. slice_cmp nat_cmp xs (name_of g) ≡ Less) first (subst (λ ys. slice_cmp nat_cmp (name_at files (n - 1)) ys ≡ Less) second less),
+    )
+
+pub last_pair : (files : List FileDesc) (n : ℕ) → 0 < n → n < length files → AreInNameOrder files → slice_cmp nat_cmp (name_at files (n - 1)) (name_at files n) ≡ Less
+last_pair files n some h order =
+    let at : n - 1 + 1 ≡ n = omega arith in
+    subst (λ k. slice_cmp nat_cmp (name_at files (n - 1)) (name_at files k) ≡ Less) at (order (n - 1) (omega arith))
+
+pub not_true : (b : Bool) → b ≡ false → b ≡ true → ⊥
+not_true b h k = cc
+
+-- ---- what a search finds
+
+pub found_name : (files : List FileDesc) (k : ℕ) (name : List ℕ) → k < length files → ((d : FileDesc) → slice_cmp nat_cmp (name_of (get_or files k d)) name ≡ Equal) → IsNamed files name k
+found_name [] k name h found = absurd (no_place k h)
+found_name (f ∷ fs) k name h found = (h, name_is (f ∷ fs) k f h ∙ exact_bytes _ _ (found f))
+
+reverse_same : (o : Ordering) → o ≡ ordering_reverse o → o ≡ Equal
+reverse_same Less h = cc
+reverse_same Equal h = refl
+reverse_same Greater h = cc
+
+less_not_equal : (o : Ordering) → o ≡ Less → o ≡ Equal → ⊥
+less_not_equal o h k = cc
+
+greater_not_equal : (o : Ordering) → o ≡ Greater → o ≡ Equal → ⊥
+greater_not_equal o h k = cc
+
+equal_itself : (xs ys : List ℕ) → xs ≡ ys → slice_cmp nat_cmp xs ys ≡ Equal
+equal_itself xs ys e = subst (λ zs. slice_cmp nat_cmp xs zs ≡ Equal) e (reverse_same _ (nat_list_cmp_total.antisymm xs xs))
+
+pub no_name : (files : List FileDesc) (at : ℕ) (name : List ℕ) → ((k : ℕ) (d : FileDesc) → 0 ≤ k → k < at → slice_cmp nat_cmp (name_of (get_or files k d)) name ≡ Less) → ((k : ℕ) (d : FileDesc) → at ≤ k → k < length files → slice_cmp nat_cmp (name_of (get_or files k d)) name ≡ Greater) → (b : ℕ) → IsNamed files name b → ⊥
+no_name [] at name left right b (h, same) = no_place b h
+no_name (f ∷ fs) at name left right b (h, same) =
+    let equal = equal_itself (name_of (get_or (f ∷ fs) b f)) name (sym (name_is (f ∷ fs) b f h) ∙ same) in
+    elim (cases_lt b at) [ inl less ↦ less_not_equal _ (left b f (omega arith) less) equal | inr over ↦ greater_not_equal _ (right b f over h) equal ]

@@ -1,0 +1,4 @@
+pub mod Graphs
+pub mod Imports
+pub mod Linked
+pub mod Visible

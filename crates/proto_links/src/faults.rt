@@ -1,0 +1,94 @@
+//! The first bad import.
+
+ghost use Rattle.std.specs.Prelude.{◌≡◌, ◌↔◌, ℕ, ◌<◌, IfOk, MatchOption, length, Contains};
+ghost use Rattle.digraph.specs.Edges.{graph_of};
+ghost use Rattle.digraph.specs.Marks.{IsMarked};
+ghost use Rattle.proto_desc.specs.declared.file.ImportDesc.{ImportDesc};
+ghost use Rattle.proto_links.specs.Graphs.{IsFirstWrong, IsGraph, IsLesser};
+ghost use Rattle.proto_links.specs.Imports.{AreInNameOrder, IsFirstBad, IsWrong, NoneBad, Reaches, imports_at};
+ghost use Rattle.proto_tokens.specs.declared.kind.Kind.{Kind};
+
+use crate::order::file_named;
+use digraph::{predecessors, reached};
+use proto_desc::file::{FileDesc, ImportDesc};
+use proto_tokens::{Kind, Place};
+use std::alloc::{AllocError, Global};
+
+/// What is wrong with an import of a file, and where. The order is that of the fields.
+#[derive(Clone, Copy, PartialEq, Eq, PartialOrd, Ord)]
+pub(crate) struct Wrong {
+    pub(crate) place: Place,
+    pub(crate) kind: Kind,
+}
+
+/// What is wrong with an import of a file, where the files that reach it are marked.
+fn fault_of(files: &[FileDesc], file: usize, import: &ImportDesc, reaching: &[bool]) -> Option<Kind>
+    requires order { AreInNameOrder files.now }
+    requires room { length reaching.now ≡ length files.now }
+    requires reaching { (b : ℕ) → IsMarked reaching.now b ↔ Reaches files.now b file }
+    ensures { MatchOption result ((k : Kind) → IsWrong files.now file import.now k → ⊥) (λ kind. IsWrong files.now file import.now kind × ((k : Kind) → IsWrong files.now file import.now k → k ≡ kind)) }
+{
+    match file_named(files, import.path.as_str()) {
+        None => Some(Kind::ImportMissing),
+        Some(target) => {
+            if reaching[target] {
+                Some(Kind::ImportCycle)
+            } else {
+                None
+            }
+        }
+    }
+}
+
+/// The earlier of what is known and one more.
+fn lesser(first: Option<Wrong>, wrong: Wrong) -> Wrong
+    ensures { IsLesser first wrong result }
+{
+    match first {
+        Some(first) => first.min(wrong),
+        None => wrong,
+    }
+}
+
+/// The first bad import of a file, where the files that reach it are marked.
+fn first_wrong(
+    files: &[FileDesc],
+    file: usize,
+    imports: &[ImportDesc],
+    reaching: &[bool],
+) -> Option<Wrong>
+    requires order { AreInNameOrder files.now }
+    requires room { length reaching.now ≡ length files.now }
+    requires reaching { (b : ℕ) → IsMarked reaching.now b ↔ Reaches files.now b file }
+    ensures { IsFirstWrong files.now file imports.now result }
+{
+    let mut first = None;
+    for import in imports {
+        if let Some(kind) = fault_of(files, file, import, reaching) {
+            let place = import.place;
+            first = Some(lesser(first, Wrong { place, kind }));
+        }
+    }
+    first
+}
+
+/// The first bad import of all files.
+pub(crate) fn first_bad(
+    alloc: Global,
+    files: &[FileDesc],
+    imports: &[Vec<usize>],
+) -> Result<Option<(usize, Wrong)>, AllocError>
+    requires order { AreInNameOrder files.now }
+    requires graph { IsGraph files.now (graph_of imports.now) }
+    ensures { IfOk result (λ bad. MatchOption bad (NoneBad files.now) (λ bad. IsFirstBad files.now bad.0 bad.1.place bad.1.kind)) }
+{
+    let turned = predecessors(alloc, imports)?;
+    for file in 0..files.len() {
+        let reaching = reached(alloc, &turned, file)?;
+        let first = first_wrong(files, file, files[file].imports.as_slice(), &reaching);
+        if let Some(wrong) = first {
+            return Ok(Some((file, wrong)));
+        }
+    }
+    Ok(None)
+}

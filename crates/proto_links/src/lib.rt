@@ -1,0 +1,14 @@
+//! Imports: which file reaches and sees which, and the order of a set of files.
+//!
+//! The standard is the proto3 language guide, "Importing Definitions".
+#![tactic(auto)]
+
+mod faults;
+mod graph;
+mod linking;
+mod links;
+mod order;
+
+pub use linking::{LinkError, link};
+pub use links::{FileId, Links};
+pub use order::in_name_order;

@@ -1,0 +1,78 @@
+//! Files whose imports are found.
+
+ghost use Rattle.std.specs.Prelude.{◌≡◌, ◌<◌};
+ghost use Rattle.proto_links.specs.Linked.{count_of, rank_of, reach_of, sees};
+
+use digraph::{Lists, Ranking};
+use std::marker::Model;
+
+/// A file, by its place in the list of files.
+pub type FileId = usize;
+
+/// The files that each file reaches and sees, and the order of a set of files. Contracts see it as these things, by the
+/// places of files in the list that was linked.
+#[derive(Debug, Drop)]
+pub struct Links {
+    pub(crate) ranking: Ranking,
+    /// The position of each file in set order.
+    pub(crate) positions: Vec<usize>,
+    /// The files that the file at a position reaches, in set order.
+    pub(crate) reach: Lists,
+    /// The positions of the files that the file at a position sees, in rising order.
+    pub(crate) seen: Lists,
+}
+
+impl Model for Links {
+    ghost use Rattle.proto_links.specs.Linked.{Linked, IsSound};
+
+    ghost Value = { Linked };
+
+    ghost view = { λ links. record { ranks = links.ranking.ranks.items; set_order = links.ranking.order.items; positions = links.positions.items; reach = links.reach; seen = links.seen } };
+
+    ghost invariant = { λ links. IsSound (record { ranks = links.ranking.ranks.items; set_order = links.ranking.order.items; positions = links.positions.items; reach = links.reach; seen = links.seen }) };
+}
+
+impl Links {
+    /// How many files there are.
+    pub fn count(&self) -> usize
+        ensures { result ≡ count_of self.now }
+    {
+        self.ranking.ranks.len()
+    }
+
+    /// A file's rank: 0 where it imports nothing, else one more than the greatest rank that it imports.
+    pub fn rank(&self, file: FileId) -> usize
+        requires { file < count_of self.now }
+        ensures { result ≡ rank_of self.now file }
+    {
+        self.ranking.ranks[file]
+    }
+
+    /// The files by rank, and by name where ranks are the same.
+    pub fn set_order(&self) -> &[FileId]
+        ensures { result.now ≡ self.now.set_order }
+    {
+        self.ranking.order.as_slice()
+    }
+
+    /// The files that a file reaches by imports, in set order: itself is the last.
+    pub fn reach(&self, file: FileId) -> &[FileId]
+        requires { file < count_of self.now }
+        ensures { result.now ≡ reach_of self.now file }
+    {
+        self.reach.get(self.positions[file])
+    }
+
+    /// Whether a file sees another one (language guide, "Importing Definitions"): itself, what it imports, and what the
+    /// files that it sees import publicly.
+    pub fn sees(&self, file: FileId, other: FileId) -> bool
+        requires file { file < count_of self.now }
+        requires other { other < count_of self.now }
+        ensures { result ≡ sees self.now file other }
+    {
+        self.seen
+            .get(self.positions[file])
+            .binary_search(&self.positions[other])
+            .is_ok()
+    }
+}

@@ -1,0 +1,4 @@
+pub mod Frames
+pub mod FramesSteps
+pub mod Request
+pub mod RequestSteps

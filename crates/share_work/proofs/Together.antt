@@ -1,0 +1,69 @@
+-- What all seats hold together.
+use Rattle.std.proofs.Common.{◌≡◌, ℕ, zero, suc, ◌+◌, ◌*◌, ◌/◌, ◌%◌, ◌<◌, inl, inr, List, [], ◌∷◌, take, drop, length, refl, sym, ap, subst, ◌∙◌, arith, slice_get, Some}
+use Rattle.std.proofs.lemmas.Option.{slice_get_within}
+use Rattle.std.proofs.lemmas.Nat.{mod_below, div-add-mod'}
+use Rattle.share_work.specs.Shares.{AddsSome, SeatsGain, SeatsHave, SomeHolds, HoldWithin, HoldTogether}
+use Rattle.share_work.proofs.PieceRows.{get_drop, take_get}
+
+get_take : {X : Type 0} (n : ℕ) (xs : List X) (o : ℕ) → o < n → slice_get (take n xs) o ≡ slice_get xs o
+get_take zero xs o h = absurd (omega arith)
+get_take (suc n) [] o h = refl
+get_take (suc n) (x ∷ xs) zero h = refl
+get_take (suc n) (x ∷ xs) (suc o) h = get_take n xs o (omega arith)
+
+get_there : {X : Type 0} (xs : List X) (j : ℕ) → j < length xs → (x : X) × (slice_get xs j ≡ Some x)
+get_there [] j h = absurd (omega arith)
+get_there (x ∷ xs) zero h = (x, refl)
+get_there (x ∷ xs) (suc j) h = get_there xs j (omega arith)
+
+module _ {S T : Type 0} (holds : S → ℕ → ℕ → Type 0) (adds : ℕ → T → ℕ → ℕ → Type 0) (workers cut : ℕ) (items : List T) (old new : List S) where
+  -- what a seat holds it held before, or an item adds it
+  pub held_within : SeatsGain holds adds workers cut items 0 old new → HoldWithin holds adds items old new
+  held_within gain x n h =
+      let within = slice_get_within new h.0 h.1 h.2 in
+      let len = gain.len in
+      let was = get_there old h.0 (omega arith) in
+      elim ((gain.each h.0 was.0 h.1 was.1 h.2).within x n h.3) [
+        | inl b ↦ inl (h.0, was.0, was.1, b)
+        | inr a ↦
+            let p : ℕ = (0 + h.0 + a.0 * workers) * cut in
+            let at : slice_get items (p + a.1.0) ≡ Some a.1.1 = sym (get_drop p items a.1.0) ∙ take_get cut (drop p items) a.1.0 a.1.1 a.1.2 in
+            let P : ℕ → Type 0 = λ q. adds q a.1.1 x n in
+            let same : p + a.1.0 ≡ 0 + (p + a.1.0) = omega arith in
+            inr (p + a.1.0, a.1.1, at, subst P same a.1.3)
+      ]
+
+  -- what an item adds, one of the seats holds
+  added_held : 0 < workers → 0 < cut → length new ≡ workers → SeatsHave holds adds workers cut items 0 new → (x n : ℕ) → AddsSome adds 0 items x n → SomeHolds holds new x n
+  added_held some_workers some_items len have x n a =
+      let i : ℕ = a.0 in let piece : ℕ = i / cut in let w : ℕ = piece % workers in let k : ℕ = piece / workers in let o : ℕ = i % cut in
+      let small : w < workers = mod_below piece workers some_workers in
+      let inside : o < cut = mod_below i cut some_items in
+      let p : ℕ = (0 + w + k * workers) * cut in
+      let whole : 0 + w + k * workers ≡ piece = let e = div-add-mod' piece workers in omega arith in
+      let at : p + o ≡ i = ap (λ q. q * cut + o) whole ∙ div-add-mod' i cut in
+      let seat = get_there new w (omega arith) in
+      let P : ℕ → Type 0 = λ q. slice_get items q ≡ Some a.1 in
+      let got : slice_get (take cut (drop p items)) o ≡ Some a.1 = get_take cut (drop p items) o inside ∙ get_drop p items o ∙ subst P (sym at) a.2 in
+      let Q : ℕ → Type 0 = λ q. adds q a.1 x n in
+      let place : 0 + i ≡ p + o = omega arith in
+      (w, seat.0, seat.1, (have.each w seat.0 seat.1).gained x n (k, (o, a.1, got, subst Q place a.3)))
+
+  -- what a seat held it still holds
+  held_kept : SeatsGain holds adds workers cut items 0 old new → (x n : ℕ) → SomeHolds holds old x n → SomeHolds holds new x n
+  held_kept gain x n h =
+      let within = slice_get_within old h.0 h.1 h.2 in
+      let len = gain.len in
+      let now = get_there new h.0 (omega arith) in
+      (h.0, now.0, now.1, (gain.each h.0 h.1 now.0 h.2 now.1).kept x n h.3)
+
+  pub held_together : 0 < workers → 0 < cut → length old ≡ workers → SeatsGain holds adds workers cut items 0 old new
+      → SeatsHave holds adds workers cut items 0 new → HoldTogether holds adds items old new
+  held_together some_workers some_items many gain have x n =
+      let len = gain.len in (
+        held_within gain x n,
+        λ h. elim h [
+          | inl was ↦ held_kept gain x n was
+          | inr added ↦ added_held some_workers some_items (omega arith) have x n added
+        ],
+      )

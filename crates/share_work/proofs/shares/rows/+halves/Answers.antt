@@ -1,0 +1,64 @@
+use Rattle.std.proofs.Common.{rules, ◌≡◌, ◌+◌, length, refl, sym, ap, get_or, [], ◌∷◌, subst}
+use Rattle.std.proofs.lemmas.Result.{IfOk-at_ok}
+use Rattle.share_work.specs.Shares.{SeatsGain}
+use Rattle.share_work.proofs.PieceRows.{rows_joined, IfOk-then, one_member, one_gains, one_has, one_row, gains_joined, haves_joined, OnOk-both}
+use Rattle.share_work.proofs.shares.rows.+halves.Goals as goal
+
+pub both_halves-returns-clause-rows : goal.both_halves-returns-clause-rows
+both_halves-returns-clause-rows g t c =
+    let gives = g.W.Work.gives c.args.job.now.work.now in
+    let job = c.args.job.now in
+    let first = IfOk-at_ok _ c.in_ok-first.was c.join_mut-first.ensures.0.met.1.4 in
+    let second = IfOk-at_ok _ c.in_ok-second.was c.join_mut-first.ensures.1.met.1.4 in
+    let both = rows_joined gives (λ v. v.items) (λ r. r.items) job.plan.workers job.plan.cut job.items.now c.args.from (length c.args.low.now)
+    (c.args.from + length c.args.low.now) (length c.args.high.now) c.in_ok-first.field-0.items c.in_ok-second.field-0.items refl first second in
+    IfOk-then c.joined_rows.result _ _ c.joined_rows.ensures (λ rows is. rw is both)
+
+pub rows_from-returns-in_err-row_of-clause-gains : goal.rows_from-returns-in_err-row_of-clause-gains
+rows_from-returns-in_err-row_of-clause-gains g t c =
+    let one = one_member c.args.seats.now c.if-seats-eq1.true in
+    let seat = get_or c.args.seats.now 0 c.index-seats-0.result in
+    let was : one.0 ≡ seat = sym (ap (λ l. get_or l 0 c.index-seats-0.result) one.1) in
+    let gains = one_gains (g.W.Work.holds c.args.job.now.work.now) (g.W.Work.adds c.args.job.now.work.now) c.args.job.now.plan.workers c.args.job.now.plan.cut c.args.job.now.items.now c.args.from seat c.row_of.new.seat
+    record { kept = c.in_err-row_of.ensures.kept; within = c.in_err-row_of.ensures.within } in
+    rw one.1 (subst (λ x. SeatsGain (g.W.Work.holds c.args.job.now.work.now) (g.W.Work.adds c.args.job.now.work.now) c.args.job.now.plan.workers c.args.job.now.plan.cut c.args.job.now.items.now c.args.from (x ∷ []) (c.row_of.new.seat ∷ [])) (sym was) gains)
+
+pub rows_from-returns-in_err-push_back-clause-gains : goal.rows_from-returns-in_err-push_back-clause-gains
+rows_from-returns-in_err-push_back-clause-gains g t c =
+    let one = one_member c.args.seats.now c.if-seats-eq1.true in
+    let seat = get_or c.args.seats.now 0 c.index-seats-0.result in
+    let was : one.0 ≡ seat = sym (ap (λ l. get_or l 0 c.index-seats-0.result) one.1) in
+    let gains = one_gains (g.W.Work.holds c.args.job.now.work.now) (g.W.Work.adds c.args.job.now.work.now) c.args.job.now.plan.workers c.args.job.now.plan.cut c.args.job.now.items.now c.args.from seat c.row_of.new.seat
+    record { kept = c.in_ok-row_of.ensures.kept; within = c.in_ok-row_of.ensures.within } in
+    rw one.1 (subst (λ x. SeatsGain (g.W.Work.holds c.args.job.now.work.now) (g.W.Work.adds c.args.job.now.work.now) c.args.job.now.plan.workers c.args.job.now.plan.cut c.args.job.now.items.now c.args.from (x ∷ []) (c.row_of.new.seat ∷ [])) (sym was) gains)
+
+pub rows_from-returns-then-seats-eq1-clause-gains : goal.rows_from-returns-then-seats-eq1-clause-gains
+rows_from-returns-then-seats-eq1-clause-gains g t c =
+    let one = one_member c.args.seats.now c.if-seats-eq1.true in
+    let seat = get_or c.args.seats.now 0 c.index-seats-0.result in
+    let was : one.0 ≡ seat = sym (ap (λ l. get_or l 0 c.index-seats-0.result) one.1) in
+    let gains = one_gains (g.W.Work.holds c.args.job.now.work.now) (g.W.Work.adds c.args.job.now.work.now) c.args.job.now.plan.workers c.args.job.now.plan.cut c.args.job.now.items.now c.args.from seat c.row_of.new.seat
+    record { kept = c.in_ok-row_of.ensures.kept; within = c.in_ok-row_of.ensures.within } in
+    rw one.1 (subst (λ x. SeatsGain (g.W.Work.holds c.args.job.now.work.now) (g.W.Work.adds c.args.job.now.work.now) c.args.job.now.plan.workers c.args.job.now.plan.cut c.args.job.now.items.now c.args.from (x ∷ []) (c.row_of.new.seat ∷ [])) (sym was) gains)
+
+pub rows_from-returns-then-seats-eq1-clause-have : goal.rows_from-returns-then-seats-eq1-clause-have
+rows_from-returns-then-seats-eq1-clause-have g t c =
+    let one = one_member c.args.seats.now c.if-seats-eq1.true in
+    rw one.1 (one_has (g.W.Work.holds c.args.job.now.work.now) (g.W.Work.adds c.args.job.now.work.now) c.args.job.now.plan.workers c.args.job.now.plan.cut c.args.job.now.items.now c.args.from c.row_of.new.seat record { gained = c.in_ok-row_of.ensures.gained })
+
+pub rows_from-returns-then-seats-eq1-clause-rows : goal.rows_from-returns-then-seats-eq1-clause-rows
+rows_from-returns-then-seats-eq1-clause-rows g t c =
+    rw (c.in_ok-push_back.ensures.items, c.new-rows.ensures.items, c.if-seats-eq1.true)
+    (one_row (g.W.Work.gives c.args.job.now.work.now) (λ v. v.items) (λ r. r.items) c.args.job.now.plan.workers c.args.job.now.plan.cut c.args.job.now.items.now
+    c.args.from c.in_ok-row_of.field-0 c.in_ok-row_of.ensures.row)
+
+pub rows_from-returns-clause-gains : goal.rows_from-returns-clause-gains
+rows_from-returns-clause-gains g t c =
+    rw c.split_at_mut-low.ensures.value
+    (gains_joined (g.W.Work.holds c.args.job.now.work.now) (g.W.Work.adds c.args.job.now.work.now) c.args.job.now.plan.workers c.args.job.now.plan.cut c.args.job.now.items.now c.args.from _ _ _ _ _ refl c.both_halves.ensures.gains_low c.both_halves.ensures.gains_high)
+
+pub rows_from-returns-clause-have : goal.rows_from-returns-clause-have
+rows_from-returns-clause-have g t c =
+    OnOk-both c.both_halves.result _ _ _ c.both_halves.ensures.have_low c.both_halves.ensures.have_high
+    (λ low high. haves_joined (g.W.Work.holds c.args.job.now.work.now) (g.W.Work.adds c.args.job.now.work.now) c.args.job.now.plan.workers c.args.job.now.plan.cut c.args.job.now.items.now
+    c.args.from _ c.split_at_mut-low.result.0.now [] c.both_halves.new.low c.both_halves.new.high refl (search rules) low high)

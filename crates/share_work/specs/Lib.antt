@@ -1,0 +1,10 @@
+pub mod Shares
+pub mod WorkerRows
+pub mod Posts
+pub mod Views
+pub mod Rule
+pub mod Order
+pub mod Reach
+pub mod Marks
+pub mod MarkRule
+pub mod SmallReach

@@ -1,0 +1,45 @@
+//! How items are cut into pieces, and pieces are shared among workers.
+
+ghost use Rattle.std.specs.Prelude.{◌≡◌, ◌<◌, ◌≤◌, ◌↔◌, IsSome, IfSome};
+
+/// A number of workers, 1 to 64, and how many items one piece has, 1 to 4,096.
+///
+/// Piece `p` has the items from `p * cut` up to `(p + 1) * cut`, as far as there are items. Worker `w` works on the pieces
+/// whose number leaves `w` by division by the number of workers, in rising order.
+#[derive(Clone, Copy, Debug)]
+pub struct Plan {
+    workers: u32,
+    cut: u32,
+    ghost some_workers: { 0 < workers },
+    ghost few_workers: { workers ≤ 64 },
+    ghost some_items: { 0 < cut },
+    ghost few_items: { cut ≤ 4096 },
+}
+
+impl Plan {
+    /// A plan of 1 to 64 workers and a cut of 1 to 4,096 items, else `None`.
+    pub fn new(workers: u32, cut: u32) -> Option<Plan>
+        ensures within { IsSome result ↔ ((1 ≤ workers) × (workers ≤ 64) × (1 ≤ cut) × (cut ≤ 4_096)) }
+        ensures plan { IfSome result (λ p. (p.workers ≡ workers) × (p.cut ≡ cut)) }
+    {
+        if (1..=64).contains(&workers) && (1..=4_096).contains(&cut) {
+            Some(Plan { workers, cut })
+        } else {
+            None
+        }
+    }
+
+    /// How many workers there are.
+    pub fn workers(&self) -> u32
+        ensures { result ≡ self.now.workers }
+    {
+        self.workers
+    }
+
+    /// How many items a piece has.
+    pub fn cut(&self) -> u32
+        ensures { result ≡ self.now.cut }
+    {
+        self.cut
+    }
+}

@@ -1,0 +1,11 @@
+//! Sources, and what the layers say of them.
+
+mod descriptors;
+mod lowering;
+mod names;
+mod numbers;
+mod options;
+mod rules;
+mod shown;
+mod source;
+mod whole;

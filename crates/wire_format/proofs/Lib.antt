@@ -1,0 +1,4 @@
+pub mod ReadingFields
+pub mod ReadingRows
+pub mod ReadingVarints
+pub mod Varints

@@ -1,0 +1,12 @@
+use Rattle.std.proofs.Common.{◌≡◌, ℕ, List, ◌++◌}
+use Rattle.wire_format.specs.Varint.{varint_bytes}
+use Rattle.wire_format.proofs.varint.push_varint.Given as goal
+
+abbrev pub invariant-loop-rest : goal.invariant-loop-rest
+invariant-loop-rest l = record {
+  whole : l.out.items ++ varint_bytes l.rest ≡ l.fn.out.items ++ varint_bytes l.value;
+  front : (front : List ℕ) × (l.out.items ≡ l.fn.out.items ++ front);
+}
+
+abbrev pub decreases-loop-rest : goal.decreases-loop-rest
+decreases-loop-rest l = l.rest

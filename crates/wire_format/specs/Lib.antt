@@ -1,0 +1,4 @@
+pub mod Field
+pub mod Reading
+pub mod ReadingSteps
+pub mod Varint

@@ -1,0 +1,50 @@
+//! Fields: a tag, which has the field's number and the wire type of its value, and the value.
+
+ghost use Rattle.std.specs.Prelude.{◌≡◌, ℕ, ◌++◌, OnOk, OnErr, List};
+ghost use Rattle.wire_format.specs.Field.{field_bytes};
+
+use crate::varint::push_varint;
+use std::alloc::AllocError;
+
+/// What a field holds.
+#[derive(Clone, Copy, Debug)]
+pub enum FieldValue<'a> {
+    /// Wire type 0.
+    Varint(u64),
+    /// Wire type 2: text, bytes or a message.
+    Delimited(&'a [u8]),
+}
+
+/// Appends a field. Where there is no memory, the front of one may be appended.
+fn push_field(out: &mut Vec<u8>, number: u32, value: &FieldValue) -> Result<(), AllocError>
+    ensures appended { OnOk result (out.new.items ≡ out.old.items ++ field_bytes number value.now) }
+    ensures front { OnErr result ((front : List ℕ) × (out.new.items ≡ out.old.items ++ front)) }
+{
+    match value {
+        FieldValue::Varint(value) => {
+            push_varint(out, u64::from(number) * 8)?;
+            push_varint(out, *value)
+        }
+        FieldValue::Delimited(bytes) => {
+            push_varint(out, u64::from(number) * 8 + 2)?;
+            push_varint(out, bytes.len() as u64)?;
+            out.extend_from_slice(bytes)
+        }
+    }
+}
+
+/// Appends a field (encoding guide, "Message Structure" and "Length-Delimited Records"). A number above
+/// 536,870,911 is written as any other, though no message can declare it.
+///
+/// Where there is no memory, `out` stays as it was.
+pub fn put_field(out: &mut Vec<u8>, number: u32, value: &FieldValue) -> Result<(), AllocError>
+    ensures appended { OnOk result (out.new.items ≡ out.old.items ++ field_bytes number value.now) }
+    ensures unchanged { OnErr result (out.new.items ≡ out.old.items) }
+{
+    let start = out.len();
+    let pushed = push_field(out, number, value);
+    if pushed.is_err() {
+        out.truncate(start);
+    }
+    pushed
+}

@@ -1,0 +1,15 @@
+//! The wire format of Protocol Buffers: varints and fields, written and read.
+//!
+//! The standard is the encoding guide of Protocol Buffers, "Base 128 Varints" and "Message Structure".
+#![tactic(auto)]
+
+mod field;
+mod reading;
+mod varint;
+
+pub use field::{FieldValue, put_field};
+pub use reading::{Field, WireError, fields_are_unique, read_fields};
+pub use varint::{put_varint, varint_is_shortest};
+
+#[cfg(test)]
+mod tests;

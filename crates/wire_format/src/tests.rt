@@ -1,0 +1,4 @@
+//! Worked bytes, each call with ample memory.
+
+mod reading;
+mod wire;
