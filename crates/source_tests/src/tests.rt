@@ -1,6 +1,7 @@
 //! Sources, and what the layers say of them.
 
 mod descriptors;
+mod links;
 mod lowering;
 mod names;
 mod numbers;
