@@ -11,11 +11,7 @@ use std::test::Fail;
 /// A file of a row: its name, and its statements behind `syntax = "proto3"; `.
 type Source = (&'static str, &'static str);
 
-fn lowered<'s>(
-    alloc: Global,
-    name: &'s str,
-    text: &'s str,
-) -> Result<FileDesc<'s>, Fail> {
+fn lowered<'s>(alloc: Global, name: &'s str, text: &'s str) -> Result<FileDesc<'s>, Fail> {
     let limits = Limits::standard();
     let tokens = tokenize(alloc, text.as_bytes(), &limits)?;
     Ok(lower(alloc, name, &parse(alloc, &tokens, &limits)?)?)
@@ -45,7 +41,9 @@ fn shown(alloc: Global, links: &Links) -> Result<String, Fail> {
             }
         }
         let seen = numbers(alloc, &seen)?;
-        text.push_str(format!(in alloc; "; {file}: rank {rank}, reaches {reach}, sees {seen}")?.as_str())?;
+        text.push_str(format!(in alloc;
+            "; {file}: rank {rank}, reaches {reach}, sees {seen}"
+        )?.as_str())?;
     }
     Ok(text)
 }
@@ -193,7 +191,11 @@ static ROWS: [Row; 13] = [
 fn rows(rt: HostRuntime) -> Result<(), Fail> {
     for row in &ROWS {
         let title = row.title;
-        assert_eq!(rt; answer(rt.alloc(), row.files)?.as_str(), row.answer, "{title}");
+        assert_eq!(rt;
+            answer(rt.alloc(), row.files)?.as_str(),
+            row.answer,
+            "{title}"
+        );
     }
     Ok(())
 }
