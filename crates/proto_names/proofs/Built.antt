@@ -1,0 +1,66 @@
+-- What the index of files holds.
+use Rattle.std.proofs.Common.{◌≡◌, ◌∙◌, sym, ℕ, ◌+◌, ◌<◌, List, [], ◌∷◌, length, get_or, map, ap, refl, arith, inl, inr}
+use Rattle.std.specs.Prelude.{Contains, IsPermutation, Option, None, Some, MatchOption}
+use Rattle.std.proofs.lemmas.List.{get_or-map, length-map}
+use Rattle.std.proofs.lemmas.List.Elements.{Contains-append_cases}
+use Rattle.std.proofs.lemmas.List.Sorted.{Contains-permutation, IsPermutation-sym}
+use Rattle.proto_desc.specs.DeclaredNames.{declared_by}
+use Rattle.proto_desc.specs.declared.file.FileDesc.{FileDesc}
+use Rattle.proto_desc.specs.declared.file.PackageDesc.{PackageDesc}
+use Rattle.proto_names.specs.Occurrences.{Occurrence, IsTwice, NoneTwice, IsFirstTwice, declared_occurrence, package_occurrence, package_occurrences, occurrences_of, occurrences_from, occurrences}
+use Rattle.proto_names.specs.Scopes.{fronts}
+
+-- ---- the files of occurrences
+
+first_in : {X : Type 0} (xs : List X) (k : ℕ) → k < length xs → X
+first_in [] k h = absurd (omega (arith, h))
+first_in (x ∷ xs) k h = x
+
+-- what a function of one file makes
+made_in : {X : Type 0} (f : X → Occurrence) (file : ℕ) → ((x : X) → (f x).file ≡ file) → (xs : List X) (o : Occurrence) → Contains (map f xs) o → o.file ≡ file
+made_in f file same xs o (k, inside, is) =
+    let l = length-map xs f in
+    let low : k < length xs = omega (arith, l, inside) in
+    let d = first_in xs k low in
+    ap (λ (x : Occurrence). x.file) (sym is ∙ get_or-map f xs k d o low) ∙ same (get_or xs k d)
+
+packages_in : (file : ℕ) (declared : Option PackageDesc) (o : Occurrence) → Contains (package_occurrences file declared) o → o.file ≡ file
+packages_in file None o (k, inside, is) = absurd (omega (arith, inside))
+packages_in file (Some p) o within = made_in (package_occurrence file p.place) file (λ x. refl) (fronts p.name) o within
+
+one_file : (file : ℕ) (f : FileDesc) (o : Occurrence) → Contains (occurrences_of file f) o → o.file ≡ file
+one_file file f o within = elim (Contains-append_cases (package_occurrences file f.«package») (map (declared_occurrence file) (declared_by f)) o within) [
+  | inl packed ↦ packages_in file f.«package» o packed
+  | inr declared ↦ made_in (declared_occurrence file) file (λ x. refl) (declared_by f) o declared
+]
+
+below_from : (first : ℕ) (files : List FileDesc) (o : Occurrence) → Contains (occurrences_from first files) o → o.file < first + length files
+below_from first [] o (k, inside, is) = absurd (omega (arith, inside))
+below_from first (f ∷ files) o within = elim (Contains-append_cases (occurrences_of first f) (occurrences_from (first + 1) files) o within) [
+  | inl here ↦ (let same = one_file first f o here in omega (arith, same))
+  | inr later ↦ (let below = below_from (first + 1) files o later in omega (arith, below))
+]
+
+-- each occurrence is of one of the files
+pub below_files : (files : List FileDesc) (os : List Occurrence) → IsPermutation (occurrences files) os → (o : Occurrence) → Contains os o → o.file < length files
+below_files files os same o within =
+    let below = below_from 0 files o (Contains-permutation os (occurrences files) o (IsPermutation-sym (occurrences files) os same) within) in
+    omega (arith, below)
+
+-- ---- in another order
+
+twice_moved : (xs ys : List Occurrence) → IsPermutation xs ys → (b : Occurrence) → IsTwice xs b → IsTwice ys b
+twice_moved xs ys same b (here, a, there, clash) = (Contains-permutation xs ys b same here, a, Contains-permutation xs ys a same there, clash)
+
+pub none_moved : (xs ys : List Occurrence) → IsPermutation xs ys → NoneTwice ys → NoneTwice xs
+none_moved xs ys same none b twice = none b (twice_moved xs ys same b twice)
+
+pub first_moved : (xs ys : List Occurrence) (file : ℕ) (place : _) → IsPermutation xs ys → IsFirstTwice ys file place → IsFirstTwice xs file place
+first_moved xs ys file place same first = record {
+  found = (first.found.0, twice_moved ys xs (IsPermutation-sym xs ys same) first.found.0 first.found.1, first.found.2, first.found.3);
+  least = λ b twice. first.least b (twice_moved xs ys same b twice);
+}
+
+pub not_some : {X : Type 0} {A : Type 0} (B : X → Type 0) (r : Option X) → ((x : X) → r ≡ Some x → ⊥) → MatchOption r A B → A
+not_some B None h a = a
+not_some B (Some x) h b = absurd (h x refl)

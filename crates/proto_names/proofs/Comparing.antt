@@ -1,0 +1,56 @@
+-- How a text compares with a name in a scope.
+use Rattle.std.proofs.Common.{◌≡◌, ◌≢◌, ◌∙◌, sym, ℕ, ◌<◌, ◌≤◌, List, [], ◌∷◌, ◌++◌, length, ap, refl, arith, Ordering, Less, Equal, Greater}
+use Rattle.std.specs.Cmp.Lexicographic.{slice_cmp}
+use Rattle.std.specs.Ordering.{nat_cmp, ordering_then}
+use Rattle.proto_desc.specs.DeclaredNames.{scoped}
+
+then_then : (o p q : Ordering) → ordering_then o (ordering_then p q) ≡ ordering_then (ordering_then o p) q
+then_then Less p q = refl
+then_then Equal p q = refl
+then_then Greater p q = refl
+
+pub then_unequal : (o p : Ordering) → o ≢ Equal → ordering_then o p ≡ o
+then_unequal Less p h = refl
+then_unequal Equal p h = absurd (h refl)
+then_unequal Greater p h = refl
+
+pub scoped_some : (scope name : List ℕ) → 0 < length scope → scoped scope name ≡ scope ++ 46 ∷ name
+scoped_some [] name h = absurd (omega (arith, h))
+scoped_some (c ∷ cs) name h = refl
+
+pub scoped_none : (scope name : List ℕ) → length scope ≡ 0 → scoped scope name ≡ name
+scoped_none [] name h = refl
+scoped_none (c ∷ cs) name h = absurd (omega (arith, h))
+
+short_all : (text scope name : List ℕ) → length text ≤ length scope → slice_cmp nat_cmp text (scope ++ 46 ∷ name) ≡ ordering_then (slice_cmp nat_cmp text scope) Less
+short_all [] [] name h = refl
+short_all [] (s ∷ ss) name h = refl
+short_all (x ∷ xs) [] name h = absurd (omega (arith, h))
+short_all (x ∷ xs) (s ∷ ss) name h =
+    ap (ordering_then (nat_cmp x s)) (short_all xs ss name (omega (arith, h))) ∙ then_then (nat_cmp x s) (slice_cmp nat_cmp xs ss) Less
+
+-- a text that is no longer than the scope
+pub short : (text scope name : List ℕ) → 0 < length scope → length text ≤ length scope → ordering_then (slice_cmp nat_cmp text scope) Less ≡ slice_cmp nat_cmp text (scoped scope name)
+short text scope name some h = rw (scoped_some scope name some) (sym (short_all text scope name h))
+
+pub both : (front scope rest more : List ℕ) → length front ≡ length scope → slice_cmp nat_cmp (front ++ rest) (scope ++ more) ≡ ordering_then (slice_cmp nat_cmp front scope) (slice_cmp nat_cmp rest more)
+both [] [] rest more h = refl
+both [] (s ∷ ss) rest more h = absurd (omega (arith, h))
+both (x ∷ xs) [] rest more h = absurd (omega (arith, h))
+both (x ∷ xs) (s ∷ ss) rest more h =
+    ap (ordering_then (nat_cmp x s)) (both xs ss rest more (omega (arith, h))) ∙ then_then (nat_cmp x s) (slice_cmp nat_cmp xs ss) (slice_cmp nat_cmp rest more)
+
+-- a text whose front is as long as the scope
+pub long : (text front scope name rest : List ℕ) → 0 < length scope → text ≡ front ++ rest → length front ≡ length scope
+    → slice_cmp nat_cmp text (scoped scope name) ≡ ordering_then (slice_cmp nat_cmp front scope) (slice_cmp nat_cmp rest (46 ∷ name))
+long text front scope name rest some is h = rw (is, scoped_some scope name some) (both front scope rest (46 ∷ name) h)
+
+pub long_equal : (text front scope name rest : List ℕ) (o r : Ordering) → 0 < length scope → text ≡ front ++ rest → length front ≡ length scope
+    → o ≡ slice_cmp nat_cmp front scope → o ≡ Equal → r ≡ slice_cmp nat_cmp rest (46 ∷ name) → r ≡ slice_cmp nat_cmp text (scoped scope name)
+long_equal text front scope name rest o r some is h compared equal behind =
+    behind ∙ ap (λ p. ordering_then p (slice_cmp nat_cmp rest (46 ∷ name))) (sym equal ∙ compared) ∙ sym (long text front scope name rest some is h)
+
+pub long_unequal : (text front scope name rest : List ℕ) (o : Ordering) → 0 < length scope → text ≡ front ++ rest → length front ≡ length scope
+    → o ≡ slice_cmp nat_cmp front scope → o ≢ Equal → o ≡ slice_cmp nat_cmp text (scoped scope name)
+long_unequal text front scope name rest o some is h compared unequal =
+    sym (then_unequal o (slice_cmp nat_cmp rest (46 ∷ name)) unequal) ∙ ap (λ p. ordering_then p (slice_cmp nat_cmp rest (46 ∷ name))) compared ∙ sym (long text front scope name rest some is h)

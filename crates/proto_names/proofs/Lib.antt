@@ -1,0 +1,11 @@
+mod Around
+mod Built
+mod Collecting
+mod Comparing
+mod Fronts
+mod Looking
+mod Meaning
+mod Occurring
+mod Ordered
+mod Repeating
+mod Searching

@@ -1,0 +1,104 @@
+-- Occurrences in order.
+use Rattle.std.proofs.Common.{◌≡◌, ◌∙◌, sym, ℕ, ◌<◌, ◌≤◌, List, length, ap, refl, arith, inl, inr, ◌⊎◌, cond, Ordering, Less, Equal, Greater, Bool, true, false}
+use Rattle.std.specs.Prelude.{Contains, nat_lt, ◌==◌}
+use Rattle.std.specs.Cmp.Lexicographic.{slice_cmp}
+use Rattle.std.specs.Cmp.{IsTotalOrder}
+use Rattle.std.specs.Ordering.{nat_cmp, is_lt, ordering_then, ordering_reverse}
+use Rattle.std.proofs.lemmas.Bool.{true≢false, ltb-false, eqb-true, eqb-false}
+use Rattle.std.proofs.lemmas.Cmp.{nat_cmp_total, nat_list_cmp_total, then_total, on_total, tied_itself}
+use Rattle.std.proofs.lemmas.List.{get_or_default}
+use Rattle.std.proofs.lemmas.List.MinMax.{ranks_by}
+use Rattle.std.proofs.lemmas.List.Sorted.{sorted_far}
+use Rattle.std.proofs.lemmas.Map.Lookups.{exact_bytes}
+use Rattle.proto_names.specs.Index.{AreInNameOrder}
+use Rattle.proto_names.specs.Occurrences.{Occurrence, IsEarlier}
+use Rattle.proto_names.specs.Order.{occurrence_cmp, AreInOrder}
+use Rattle.proto_names.specs.Runs.{at, blank}
+
+occurrence_total : IsTotalOrder occurrence_cmp
+occurrence_total = then_total (on_total (λ o. o.name) nat_list_cmp_total) (then_total (on_total (λ o. o.file) nat_cmp_total) (on_total (λ o. o.place.offset) nat_cmp_total))
+
+in_order : (os : List Occurrence) → AreInOrder os → (i j : ℕ) → i ≤ j → j < length os → is_lt (occurrence_cmp (at os j) (at os i)) ≡ false
+in_order os up i j h below = sorted_far (λ x y. is_lt (occurrence_cmp x y)) (ranks_by occurrence_total (λ o. o)) os up i j blank h below
+
+-- ---- what the order says
+
+first_not : (o p : Ordering) → is_lt (ordering_then o p) ≡ false → is_lt o ≡ false
+first_not Less p h = h
+first_not Equal p h = refl
+first_not Greater p h = refl
+
+-- by name, file and place is by name
+pub order_names : (os : List Occurrence) → AreInOrder os → AreInNameOrder os
+order_names os up k d low inside = first_not _ _ (up k d low inside)
+
+nat_case : (x y : ℕ) (o : Ordering) (b c : Bool) → nat_lt x y ≡ b → (x == y) ≡ c → is_lt (ordering_then (cond b Less (cond c Equal Greater)) o) ≡ false → (y < x) ⊎ ((x ≡ y) × (is_lt o ≡ false))
+nat_case x y o true c e f h = absurd (true≢false h)
+nat_case x y o false true e f h = inr (eqb-true x y f, h)
+nat_case x y o false false e f h = let over = ltb-false x y e in let other = eqb-false x y f in inl (omega (arith, over, other))
+
+nat_not_less : (x y : ℕ) (o : Ordering) → is_lt (ordering_then (nat_cmp x y) o) ≡ false → (y < x) ⊎ ((x ≡ y) × (is_lt o ≡ false))
+nat_not_less x y o h = nat_case x y o (nat_lt x y) (x == y) refl refl h
+
+last_case : (x y : ℕ) (b c : Bool) → nat_lt x y ≡ b → (x == y) ≡ c → is_lt (cond b Less (cond c Equal Greater)) ≡ false → y ≤ x
+last_case x y true c e f h = absurd (true≢false h)
+last_case x y false c e f h = ltb-false x y e
+
+-- a is no later than b
+abbrev pub Leads : Occurrence → Occurrence → Type 0
+Leads a b = (a.file < b.file) ⊎ ((a.file ≡ b.file) × (a.place.offset ≤ b.place.offset))
+
+pair_order : (a b : Occurrence) → is_lt (occurrence_cmp b a) ≡ false → a.name ≡ b.name → Leads a b
+pair_order a b h e =
+    let equal : slice_cmp nat_cmp b.name a.name ≡ Equal = rw e (tied_itself nat_list_cmp_total b.name) in
+    let h' = rw equal at h in
+    elim (nat_not_less b.file a.file (nat_cmp b.place.offset a.place.offset) h') [
+      | inl less ↦ inl less
+      | inr w ↦ inr (sym w.0, last_case b.place.offset a.place.offset (nat_lt b.place.offset a.place.offset) (b.place.offset == a.place.offset) refl refl w.1)
+    ]
+
+pub places_in_order : (os : List Occurrence) → AreInOrder os → (i j : ℕ) → i ≤ j → j < length os → (at os i).name ≡ (at os j).name → Leads (at os i) (at os j)
+places_in_order os up i j h below e = pair_order (at os i) (at os j) (in_order os up i j h below) e
+
+equal_case : (o r : Ordering) → r ≡ ordering_reverse o → (o ≡ Less → ⊥) → (r ≡ Less → ⊥) → o ≡ Equal
+equal_case Less r e h k = absurd (h refl)
+equal_case Equal r e h k = refl
+equal_case Greater r e h k = absurd (k e)
+
+not_less : (o : Ordering) → is_lt o ≡ false → o ≡ Less → ⊥
+not_less o h e = true≢false (ap is_lt (sym e) ∙ h)
+
+-- what stands between two occurrences of one name has that name
+name_between : (a b c : Occurrence) → is_lt (occurrence_cmp b a) ≡ false → is_lt (occurrence_cmp c b) ≡ false → a.name ≡ c.name → a.name ≡ b.name
+name_between a b c h k e =
+    let h' = not_less _ (first_not (slice_cmp nat_cmp b.name a.name) _ h) in
+    let k' : slice_cmp nat_cmp a.name b.name ≡ Less → ⊥ = λ w. not_less _ (first_not (slice_cmp nat_cmp c.name b.name) _ k) (rw (← e) w) in
+    exact_bytes a.name b.name (equal_case (slice_cmp nat_cmp a.name b.name) (slice_cmp nat_cmp b.name a.name) (nat_list_cmp_total.antisymm b.name a.name) k' h')
+
+pub names_between : (os : List Occurrence) → AreInOrder os → (i j k : ℕ) → i ≤ j → j ≤ k → k < length os → (at os i).name ≡ (at os k).name → (at os i).name ≡ (at os j).name
+names_between os up i j k h g below e = name_between (at os i) (at os j) (at os k) (in_order os up i j h (omega arith)) (in_order os up j k g below) e
+
+-- ---- earlier, and no later
+
+pub leads_earlier : (a b c : Occurrence) → Leads a b → IsEarlier b.file b.place c.file c.place → IsEarlier a.file a.place c.file c.place
+leads_earlier a b c (inl h) (inl k) = inl (omega arith)
+leads_earlier a b c (inl h) (inr k) = inl (omega (arith, k.0))
+leads_earlier a b c (inr h) (inl k) = inl (omega (arith, h.0))
+leads_earlier a b c (inr h) (inr k) = inr (h.0 ∙ k.0, omega (arith, h.1, k.1))
+
+pub not_both : (a b : Occurrence) → Leads a b → IsEarlier b.file b.place a.file a.place → ⊥
+not_both a b (inl h) (inl k) = omega arith
+not_both a b (inl h) (inr k) = omega (arith, k.0)
+not_both a b (inr h) (inl k) = omega (arith, h.0)
+not_both a b (inr h) (inr k) = omega (arith, h.1, k.1)
+
+pub leads_itself : (a : Occurrence) → Leads a a
+leads_itself a = inr (refl, omega arith)
+
+-- ---- what stands at a place
+
+pub stands : (os : List Occurrence) (k : ℕ) → k < length os → Contains os (at os k)
+stands os k h = (k, h, get_or_default os k (at os k) blank h)
+
+pub place_of : (os : List Occurrence) (o : Occurrence) → Contains os o → (k : ℕ) × (k < length os) × (at os k ≡ o)
+place_of os o (k, inside, is) = (k, inside, get_or_default os k blank o inside ∙ is)

@@ -1,0 +1,117 @@
+-- Halving among entries in the order of their names.
+use Rattle.std.proofs.Common.{◌≡◌, ◌≢◌, ◌∙◌, sym, ℕ, ◌+◌, ◌-◌, ◌<◌, ◌≤◌, List, length, take, drop, get_or, ap, refl, subst, arith, inl, inr, Ordering, Less, Equal, Greater, true, false}
+use Rattle.std.specs.Prelude.{Contains, IsSortedByKey, ◌↔◌}
+use Rattle.std.specs.Cmp.Lexicographic.{slice_cmp}
+use Rattle.std.specs.List.Sorted.{IsPartitionedBy, IsPartitionPoint, IsNonDecreasingBy}
+use Rattle.std.specs.Ordering.{nat_cmp, is_lt, is_eq, ordering_index, ordering_reverse}
+use Rattle.std.proofs.lemmas.Bool.{cases_lt, true≢false}
+use Rattle.std.proofs.lemmas.Cmp.{nat_list_cmp_total}
+use Rattle.std.proofs.lemmas.List.Sorted.{searchable_from_sorted}
+use Rattle.std.proofs.lemmas.List.{get_or-drop, get_or-take, length-drop, length-take}
+use Rattle.std.proofs.lemmas.Map.Lookups.{exact_bytes}
+use Rattle.proto_names.specs.Entries.{entry_name}
+use Rattle.proto_names.specs.declared.entries.Entry.{Entry}
+
+reverse_same : (o : Ordering) → o ≡ ordering_reverse o → o ≡ Equal
+reverse_same Less h = cc
+reverse_same Equal h = refl
+reverse_same Greater h = cc
+
+-- a text is equal to itself, and what is equal is the same
+pub itself_equal : (xs ys : List ℕ) → xs ≡ ys → slice_cmp nat_cmp xs ys ≡ Equal
+itself_equal xs ys e = rw (← e) (reverse_same _ (nat_list_cmp_total.antisymm xs xs))
+
+lt_index : (o p : Ordering) → ordering_index o ≤ ordering_index p → is_lt p ≡ true → is_lt o ≡ true
+lt_index Less p h t = refl
+lt_index Equal Less h t = absurd (omega (arith, h))
+lt_index Equal Equal h t = absurd (true≢false (sym t))
+lt_index Equal Greater h t = absurd (true≢false (sym t))
+lt_index Greater Less h t = absurd (omega (arith, h))
+lt_index Greater Equal h t = absurd (true≢false (sym t))
+lt_index Greater Greater h t = absurd (true≢false (sym t))
+
+eq_index : (o p : Ordering) → ordering_index o ≤ ordering_index p → (o ≢ Less) → is_eq p ≡ true → is_eq o ≡ true
+eq_index Less p h n t = absurd (n refl)
+eq_index Equal p h n t = refl
+eq_index Greater Less h n t = absurd (true≢false (sym t))
+eq_index Greater Equal h n t = absurd (omega (arith, h))
+eq_index Greater Greater h n t = absurd (true≢false (sym t))
+
+pub lt_less : (o : Ordering) → is_lt o ≡ true → o ≡ Less
+lt_less Less h = refl
+lt_less Equal h = absurd (true≢false (sym h))
+lt_less Greater h = absurd (true≢false (sym h))
+
+pub not_lt_less : (o : Ordering) → is_lt o ≡ false → o ≢ Less
+not_lt_less o h e = true≢false (ap is_lt (sym e) ∙ h)
+
+pub eq_equal : (o : Ordering) → is_eq o ≡ true → o ≡ Equal
+eq_equal Less h = absurd (true≢false (sym h))
+eq_equal Equal h = refl
+eq_equal Greater h = absurd (true≢false (sym h))
+
+pub not_eq_equal : (o : Ordering) → is_eq o ≡ false → o ≢ Equal
+not_eq_equal o h e = true≢false (ap is_eq (sym e) ∙ h)
+
+module _ (es : List Entry) (target : List ℕ) (up : IsSortedByKey entry_name (slice_cmp nat_cmp) es) where
+  rises : IsNonDecreasingBy (λ e. ordering_index (slice_cmp nat_cmp (entry_name e) target)) es
+  rises = searchable_from_sorted nat_list_cmp_total entry_name es target up
+
+  pub parted_less : IsPartitionedBy (λ e. is_lt (slice_cmp nat_cmp (entry_name e) target)) es
+  parted_less i j d h inside t = lt_index _ _ (rises i j d h inside) t
+
+  pub parted_equal : ((k : ℕ) (d : Entry) → k < length es → slice_cmp nat_cmp (entry_name (get_or es k d)) target ≢ Less) → IsPartitionedBy (λ e. is_eq (slice_cmp nat_cmp (entry_name e) target)) es
+  parted_equal behind i j d h inside t = eq_index _ _ (rises i j d h inside) (behind i d (omega arith)) t
+
+pub less_point : (es : List Entry) (target : List ℕ) (n : ℕ) → IsPartitionPoint (λ e. is_lt (slice_cmp nat_cmp (entry_name e) target) ≡ true) (λ e. is_lt (slice_cmp nat_cmp (entry_name e) target) ≡ false) es n
+    → IsPartitionPoint (λ e. slice_cmp nat_cmp (entry_name e) target ≡ Less) (λ e. slice_cmp nat_cmp (entry_name e) target ≢ Less) es n
+less_point es target n p = (λ k d a b. lt_less _ (p.0 k d a b), λ k d a b. not_lt_less _ (p.1 k d a b))
+
+pub equal_point : (es : List Entry) (target : List ℕ) (n : ℕ) → IsPartitionPoint (λ e. is_eq (slice_cmp nat_cmp (entry_name e) target) ≡ true) (λ e. is_eq (slice_cmp nat_cmp (entry_name e) target) ≡ false) es n
+    → IsPartitionPoint (λ e. entry_name e ≡ target) (λ e. entry_name e ≢ target) es n
+equal_point es target n p = (λ k d a b. exact_bytes _ _ (eq_equal _ (p.0 k d a b)), λ k d a b e. not_eq_equal _ (p.1 k d a b) (itself_equal _ _ e))
+
+-- what is behind a place is in order too
+pub drop_sorted : (es : List Entry) (n : ℕ) → n ≤ length es → IsSortedByKey entry_name (slice_cmp nat_cmp) es → IsSortedByKey entry_name (slice_cmp nat_cmp) (drop n es)
+drop_sorted es n h up k d low inside =
+    let room : n + k + 1 < length es = (let l = length-drop n es in omega (arith, l, inside)) in
+    let at : n + (k + 1) ≡ n + k + 1 = omega arith in
+    rw (get_or-drop n es (k + 1) d, get_or-drop n es k d, at) (up (n + k) d (omega arith) room)
+
+pub drop_behind : (es : List Entry) (target : List ℕ) (n : ℕ) → n ≤ length es → IsPartitionPoint (λ e. slice_cmp nat_cmp (entry_name e) target ≡ Less) (λ e. slice_cmp nat_cmp (entry_name e) target ≢ Less) es n
+    → (k : ℕ) (d : Entry) → k < length (drop n es) → slice_cmp nat_cmp (entry_name (get_or (drop n es) k d)) target ≢ Less
+drop_behind es target n h p k d inside =
+    let l = length-drop n es in
+    subst (λ (e : Entry). slice_cmp nat_cmp (entry_name e) target ≢ Less) (sym (get_or-drop n es k d)) (p.1 (n + k) d (omega arith) (omega (arith, l, inside)))
+
+-- the run of a name
+module _ (es : List Entry) (target : List ℕ) (n m : ℕ) (h : n ≤ length es) (g : m ≤ length (drop n es))
+    (before : IsPartitionPoint (λ e. slice_cmp nat_cmp (entry_name e) target ≡ Less) (λ e. slice_cmp nat_cmp (entry_name e) target ≢ Less) es n)
+    (same : IsPartitionPoint (λ e. entry_name e ≡ target) (λ e. entry_name e ≢ target) (drop n es) m) where
+  run_found : (e : Entry) → Contains (take m (drop n es)) e → Contains es e × (entry_name e ≡ target)
+  run_found e (k, inside, is) =
+      let l = length-take m (drop n es) in
+      let l' = length-drop n es in
+      let low : k < m = omega (arith, l, inside) in
+      let at : get_or (drop n es) k e ≡ e = sym (get_or-take m (drop n es) k e low) ∙ is in
+      ((n + k, omega (arith, l', low, g), sym (get_or-drop n es k e) ∙ at), subst (λ (x : Entry). entry_name x ≡ target) at (same.0 k e (omega arith) low))
+
+  run_all : (e : Entry) → Contains es e → entry_name e ≡ target → Contains (take m (drop n es)) e
+  run_all e (j, inside, is) name = elim (cases_lt j n) [
+    | inl less ↦ absurd (cc_less (subst (λ (x : Entry). slice_cmp nat_cmp (entry_name x) target ≡ Less) is (before.0 j e (omega arith) less)) (itself_equal (entry_name e) target name))
+    | inr over ↦ (
+        let l = length-take m (drop n es) in
+        let l' = length-drop n es in
+        let at : n + (j - n) ≡ j = omega arith in
+        let is' : get_or (drop n es) (j - n) e ≡ e = get_or-drop n es (j - n) e ∙ ap (λ i. get_or es i e) at ∙ is in
+        elim (cases_lt (j - n) m) [
+          | inl low ↦ (j - n, omega (arith, l, low, g), get_or-take m (drop n es) (j - n) e low ∙ is')
+          | inr high ↦ absurd (same.1 (j - n) e high (omega (arith, l', inside, over)) (ap entry_name is' ∙ name))
+        ])
+  ]
+    where
+      cc_less : {o : Ordering} → o ≡ Less → o ≡ Equal → ⊥
+      cc_less a b = cc
+
+  pub run_is : (e : Entry) → Contains (take m (drop n es)) e ↔ (Contains es e × (entry_name e ≡ target))
+  run_is e = (run_found e, λ w. run_all e w.0 w.1)

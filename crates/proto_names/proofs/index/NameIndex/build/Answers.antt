@@ -1,0 +1,39 @@
+use Rattle.std.proofs.Common.{◌≡◌, ◌∙◌, ap, refl}
+use Rattle.proto_names.specs.Index.{services_of}
+use Rattle.proto_names.specs.Occurrences.{occurrences}
+use Rattle.proto_names.proofs.Built.{below_files, none_moved, first_moved, not_some}
+use Rattle.proto_names.proofs.Ordered.{order_names}
+use Rattle.proto_names.proofs.index.NameIndex.build.Goals as goal
+
+pub returns-in-Some-first_twice-clause-twice : goal.returns-in-Some-first_twice-clause-twice
+returns-in-Some-first_twice-clause-twice g c file place e =
+    let collected = rw c.in-Some.is at c.in_ok-entries.ensures.all in
+    let within = rw c.in-Some.is at c.in_ok-entries.ensures.within in
+    let all = rw collected at c.in_ok-sort.ensures.all in
+    let first = rw c.as_slice.ensures at c.in-Some-first_twice.ensures in
+    let same_file : c.in-Some-first_twice.spot.file ≡ file = cc in
+    let same_place : c.in-Some-first_twice.spot.place ≡ place = cc in
+    record { within = rw (collected, c.get.ensures.value) at within; twice = rw (← same_file, ← same_place) (first_moved (occurrences c.args.files.now) c.sort.new.self c.in-Some-first_twice.spot.file c.in-Some-first_twice.spot.place all first) }
+
+pub invariant_of-result : goal.invariant_of-result
+invariant_of-result g c =
+    let collected = rw c.in-Some.is at c.in_ok-entries.ensures.all in
+    let all = rw collected at c.in_ok-sort.ensures.all in
+    record {
+      inside = below_files c.args.files.now c.sort.new.self all;
+      order = order_names c.sort.new.self c.in_ok-sort.ensures.order;
+      services = c.in_ok-services.ensures ∙ ap services_of c.as_slice-2.ensures;
+    }
+
+pub returns-clause-indexed : goal.returns-clause-indexed
+returns-clause-indexed g c =
+    let collected = rw c.in-Some.is at c.in_ok-entries.ensures.all in
+    let within = rw c.in-Some.is at c.in_ok-entries.ensures.within in
+    let all = rw collected at c.in_ok-sort.ensures.all in
+    let none = rw c.as_slice.ensures at (not_some _ c.first_twice.result c.in_default-first_twice.not-Some c.first_twice.ensures) in
+    record {
+      files = refl;
+      within = rw (collected, c.get.ensures.value) at within;
+      once = none_moved (occurrences c.args.files.now) c.sort.new.self all none;
+      all = all;
+    }

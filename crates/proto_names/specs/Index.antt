@@ -1,0 +1,57 @@
+-- The index of the names of files.
+use Rattle.std.specs.Prelude.{◌≡◌, ℕ, ◌<◌, ◌≤◌, List, length, map, filter, Bool, true, false, Option, None, Some, Contains, IsPermutation, IsSortedByKey}
+use Rattle.std.specs.Cmp.Lexicographic.{slice_cmp}
+use Rattle.std.specs.Ordering.{nat_cmp}
+use Rattle.proto_desc.specs.declared.file.FileDesc.{FileDesc}
+use Rattle.proto_desc.specs.declared.name_kind.NameKind.{NameKind}
+use Rattle.proto_desc.specs.declared.name_kind.NameKind.TheVariants as kind
+use Rattle.proto_tokens.specs.Limits.{limit_of}
+use Rattle.proto_tokens.specs.declared.limits.Limit.TheVariants as limit
+use Rattle.proto_tokens.specs.declared.limits.Limits.{Limits}
+use Rattle.proto_tokens.specs.declared.place.Place.{Place}
+use Rattle.proto_names.specs.Occurrences.{Occurrence, occurrences, NoneTwice, IsFirstTwice}
+
+-- what occurs in so many files, and the names of the services among it
+pub record Index : Type 0 where
+  pub files : ℕ
+  pub occurrences : List Occurrence
+  pub services : List (List ℕ)
+
+abbrev pub name_of : Occurrence → List ℕ
+name_of o = o.name
+
+abbrev pub is_service_kind : Option NameKind → Bool
+is_service_kind None = false
+is_service_kind (Some kind.Message) = false
+is_service_kind (Some kind.Field) = false
+is_service_kind (Some kind.Oneof) = false
+is_service_kind (Some kind.Enum) = false
+is_service_kind (Some kind.Value) = false
+is_service_kind (Some kind.Service) = true
+is_service_kind (Some kind.Method) = false
+
+abbrev pub services_of : List Occurrence → List (List ℕ)
+services_of os = map name_of (filter (λ o. is_service_kind o.kind) os)
+
+-- in the order of the names, byte by byte
+abbrev pub AreInNameOrder : List Occurrence → Type 0
+AreInNameOrder os = IsSortedByKey name_of (slice_cmp nat_cmp) os
+
+-- each occurrence is of one of the files, and they are in the order of the names
+pub record IsSound (index : Index) : Type 0 where
+  pub inside : (o : Occurrence) → Contains index.occurrences o → o.file < index.files
+  pub order : AreInNameOrder index.occurrences
+  pub services : index.services ≡ services_of index.occurrences
+
+-- ---- what the index of files is
+
+pub record Indexes (descs : List FileDesc) (limits : Limits) (index : Index) : Type 0 where
+  pub files : index.files ≡ length descs
+  pub within : length (occurrences descs) ≤ limit_of limits limit.Names
+  pub once : NoneTwice (occurrences descs)
+  pub all : IsPermutation (occurrences descs) index.occurrences
+
+-- the first occurrence that repeats a name, of no more than the limit
+pub record IsRepeated (descs : List FileDesc) (limits : Limits) (file : ℕ) (place : Place) : Type 0 where
+  pub within : length (occurrences descs) ≤ limit_of limits limit.Names
+  pub twice : IsFirstTwice (occurrences descs) file place

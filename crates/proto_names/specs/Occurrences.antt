@@ -1,0 +1,66 @@
+-- The occurrences of full names in files. A file is named by its place in the list of files.
+use Rattle.std.specs.Prelude.{◌≡◌, ◌⊎◌, ℕ, ◌+◌, ◌<◌, List, [], ◌∷◌, ◌++◌, map, Option, None, Some, Contains}
+use Rattle.proto_desc.specs.DeclaredNames.{Declared, full_name, declared_by}
+use Rattle.proto_desc.specs.declared.file.FileDesc.{FileDesc}
+use Rattle.proto_desc.specs.declared.file.PackageDesc.{PackageDesc}
+use Rattle.proto_desc.specs.declared.name_kind.NameKind.{NameKind}
+use Rattle.proto_names.specs.Scopes.{fronts}
+use Rattle.proto_tokens.specs.declared.place.Place.{Place}
+
+-- a full name in a file: a package, which has no kind of element, or an element that the file declares
+pub record Occurrence : Type 0 where
+  pub name : List ℕ
+  pub file : ℕ
+  pub place : Place
+  pub kind : Option NameKind
+
+abbrev pub declared_occurrence : ℕ → Declared → Occurrence
+declared_occurrence file d = record { name = full_name d; file = file; place = d.place; kind = Some d.kind }
+
+abbrev pub package_occurrence : ℕ → Place → List ℕ → Occurrence
+package_occurrence file place front = record { name = front; file = file; place = place; kind = None }
+
+-- a package occurs by every front of its name
+abbrev pub package_occurrences : ℕ → Option PackageDesc → List Occurrence
+package_occurrences file None = []
+package_occurrences file (Some p) = map (package_occurrence file p.place) (fronts p.name)
+
+-- ---- all that occurs
+
+abbrev pub occurrences_of : ℕ → FileDesc → List Occurrence
+occurrences_of file f = package_occurrences file f.«package» ++ map (declared_occurrence file) (declared_by f)
+
+-- those of files of which the first has this place
+abbrev pub occurrences_from : ℕ → List FileDesc → List Occurrence
+occurrences_from first [] = []
+occurrences_from first (f ∷ fs) = occurrences_of first f ++ occurrences_from (first + 1) fs
+
+abbrev pub occurrences : List FileDesc → List Occurrence
+occurrences = occurrences_from 0
+
+-- ---- names that occur twice
+
+-- by file, then by place
+abbrev pub IsEarlier : ℕ → Place → ℕ → Place → Type 0
+IsEarlier a p b q = (a < b) ⊎ ((a ≡ b) × (p.offset < q.offset))
+
+abbrev pub IsPackage : Occurrence → Type 0
+IsPackage o = o.kind ≡ None
+
+-- two occurrences of one name, the first earlier, not both packages
+pub record Clash (a b : Occurrence) : Type 0 where
+  pub same : a.name ≡ b.name
+  pub earlier : IsEarlier a.file a.place b.file b.place
+  pub not_packages : IsPackage a → IsPackage b → ⊥
+
+-- an occurrence that has an earlier one of its name
+abbrev pub IsTwice : List Occurrence → Occurrence → Type 0
+IsTwice os b = Contains os b × (a : Occurrence) × Contains os a × Clash a b
+
+abbrev pub NoneTwice : List Occurrence → Type 0
+NoneTwice os = (b : Occurrence) → IsTwice os b → ⊥
+
+-- the first of the occurrences that have earlier ones
+pub record IsFirstTwice (os : List Occurrence) (file : ℕ) (place : Place) : Type 0 where
+  pub found : (b : Occurrence) × IsTwice os b × (b.file ≡ file) × (b.place ≡ place)
+  pub least : (b : Occurrence) → IsTwice os b → IsEarlier b.file b.place file place → ⊥

@@ -1,0 +1,30 @@
+-- Occurrences in the order of their names, and among one name by file and place.
+use Rattle.std.specs.Prelude.{◌≡◌, ◌⊎◌, ◌<◌, ◌≤◌, List, Option, None, Some, IsSorted}
+use Rattle.std.specs.declared.cmp.Ordering.{Ordering}
+use Rattle.std.specs.Cmp.Lexicographic.{slice_cmp}
+use Rattle.std.specs.Ordering.{nat_cmp, ordering_then}
+use Rattle.proto_names.specs.Occurrences.{Occurrence}
+use Rattle.proto_names.specs.declared.entries.Spot.{Spot}
+
+abbrev pub occurrence_cmp : Occurrence → Occurrence → Ordering
+occurrence_cmp a b = ordering_then (slice_cmp nat_cmp a.name b.name) (ordering_then (nat_cmp a.file b.file) (nat_cmp a.place.offset b.place.offset))
+
+abbrev pub AreInOrder : List Occurrence → Type 0
+AreInOrder os = IsSorted occurrence_cmp os
+
+-- by file, then by place
+abbrev pub NoLater : Spot → Spot → Type 0
+NoLater a b = (a.file < b.file) ⊎ ((a.file ≡ b.file) × (a.place.offset ≤ b.place.offset))
+
+abbrev pub spot_of : Occurrence → Spot
+spot_of o = record { file = o.file; place = o.place }
+
+abbrev pub Bounds : Option Spot → Spot → Type 0
+Bounds None x = ⊥
+Bounds (Some a) x = NoLater a x
+
+-- the earlier of what is known and one more
+pub record IsLesser (known : Option Spot) (spot first : Spot) : Type 0 where
+  pub one : (known ≡ Some first) ⊎ (spot ≡ first)
+  pub left : (x : Spot) → Bounds known x → NoLater first x
+  pub right : (x : Spot) → NoLater spot x → NoLater first x

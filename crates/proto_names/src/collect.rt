@@ -1,0 +1,304 @@
+//! The occurrences of names in files, as a walk over the files finds them.
+
+ghost use Rattle.std.specs.Prelude.{◌≡◌, ◌<◌, ◌≤◌, ◌++◌, map, flat_map, length, IfNone, IfOk, IfSome, OnOk};
+ghost use Rattle.proto_desc.specs.DeclaredNames.{declared_field, declared_oneof, declared_value, declared_method, declared_by_enum, declared_by_message, declared_by_service, declared_in};
+ghost use Rattle.proto_names.specs.Entries.{occurrence};
+ghost use Rattle.proto_names.specs.Occurrences.{declared_occurrence, package_occurrence, package_occurrences, occurrences_of, occurrences};
+ghost use Rattle.proto_names.specs.Scopes.{fronts};
+
+use crate::entries::{Entries, Entry, Spot, name_in};
+use crate::scope::shorter_front;
+use proto_desc::enumeration::{EnumDesc, ValueDesc};
+use proto_desc::field::FieldDesc;
+use proto_desc::file::{FileDesc, PackageDesc};
+use proto_desc::message::MessageDesc;
+use proto_desc::name_kind::NameKind;
+use proto_desc::oneof::OneofDesc;
+use proto_desc::service::{MethodDesc, ServiceDesc};
+use proto_links::FileId;
+use proto_tokens::Place;
+use std::alloc::{AllocError, Global};
+
+/// The entry of a name that is declared in a scope.
+fn declared_entry(
+    alloc: Global,
+    file: FileId,
+    scope: &str,
+    name: &str,
+    place: Place,
+    kind: NameKind,
+) -> Result<Entry, AllocError>
+    ensures { IfOk result (λ entry. occurrence entry ≡ declared_occurrence file (record { scope = scope.now; name = name.now; kind = kind; place = place })) }
+{
+    Ok(Entry {
+        name: name_in(alloc, scope, name)?,
+        spot: Spot { file, place },
+        kind: Some(kind),
+    })
+}
+
+fn put_fields(
+    alloc: Global,
+    entries: &mut Entries,
+    file: FileId,
+    scope: &str,
+    fields: &[FieldDesc],
+) -> Result<(), AllocError>
+    ensures { OnOk result (entries.new ≡ entries.old ++ map (declared_occurrence file) (map (declared_field scope.now) fields.now)) }
+{
+    for field in fields {
+        let name = field.name.as_str();
+        let entry = declared_entry(alloc, file, scope, name, field.place, NameKind::Field)?;
+        entries.push(entry)?;
+    }
+    Ok(())
+}
+
+fn put_oneofs(
+    alloc: Global,
+    entries: &mut Entries,
+    file: FileId,
+    scope: &str,
+    oneofs: &[OneofDesc],
+) -> Result<(), AllocError>
+    ensures { OnOk result (entries.new ≡ entries.old ++ map (declared_occurrence file) (map (declared_oneof scope.now) oneofs.now)) }
+{
+    for oneof in oneofs {
+        let name = oneof.name.as_str();
+        let entry = declared_entry(alloc, file, scope, name, oneof.place, NameKind::Oneof)?;
+        entries.push(entry)?;
+    }
+    Ok(())
+}
+
+fn put_values(
+    alloc: Global,
+    entries: &mut Entries,
+    file: FileId,
+    scope: &str,
+    values: &[ValueDesc],
+) -> Result<(), AllocError>
+    ensures { OnOk result (entries.new ≡ entries.old ++ map (declared_occurrence file) (map (declared_value scope.now) values.now)) }
+{
+    for value in values {
+        let name = value.name.as_str();
+        let entry = declared_entry(alloc, file, scope, name, value.place, NameKind::Value)?;
+        entries.push(entry)?;
+    }
+    Ok(())
+}
+
+fn put_methods(
+    alloc: Global,
+    entries: &mut Entries,
+    file: FileId,
+    scope: &str,
+    methods: &[MethodDesc],
+) -> Result<(), AllocError>
+    ensures { OnOk result (entries.new ≡ entries.old ++ map (declared_occurrence file) (map (declared_method scope.now) methods.now)) }
+{
+    for method in methods {
+        let name = method.name.as_str();
+        let entry = declared_entry(alloc, file, scope, name, method.place, NameKind::Method)?;
+        entries.push(entry)?;
+    }
+    Ok(())
+}
+
+/// Puts an enum and its values, which stand in the scope of the enum.
+fn put_enum(
+    alloc: Global,
+    entries: &mut Entries,
+    file: FileId,
+    scope: &str,
+    declared: &EnumDesc,
+) -> Result<(), AllocError>
+    ensures { OnOk result (entries.new ≡ entries.old ++ map (declared_occurrence file) (declared_by_enum scope.now declared.now)) }
+{
+    let name = declared.name.as_str();
+    let entry = declared_entry(alloc, file, scope, name, declared.place, NameKind::Enum)?;
+    entries.push(entry)?;
+    put_values(alloc, entries, file, scope, declared.values.as_slice())
+}
+
+fn put_enums(
+    alloc: Global,
+    entries: &mut Entries,
+    file: FileId,
+    scope: &str,
+    enums: &[EnumDesc],
+) -> Result<(), AllocError>
+    ensures { OnOk result (entries.new ≡ entries.old ++ map (declared_occurrence file) (flat_map (declared_by_enum scope.now) enums.now)) }
+{
+    for declared in enums {
+        put_enum(alloc, entries, file, scope, declared)?;
+    }
+    Ok(())
+}
+
+/// Puts a service and its methods, which stand in the service.
+fn put_service(
+    alloc: Global,
+    entries: &mut Entries,
+    file: FileId,
+    scope: &str,
+    service: &ServiceDesc,
+) -> Result<(), AllocError>
+    ensures { OnOk result (entries.new ≡ entries.old ++ map (declared_occurrence file) (declared_by_service scope.now service.now)) }
+{
+    let name = service.name.as_str();
+    let entry = declared_entry(alloc, file, scope, name, service.place, NameKind::Service)?;
+    entries.push(entry)?;
+    let full = name_in(alloc, scope, name)?;
+    put_methods(
+        alloc,
+        entries,
+        file,
+        full.as_str(),
+        service.methods.as_slice(),
+    )
+}
+
+fn put_services(
+    alloc: Global,
+    entries: &mut Entries,
+    file: FileId,
+    scope: &str,
+    services: &[ServiceDesc],
+) -> Result<(), AllocError>
+    ensures { OnOk result (entries.new ≡ entries.old ++ map (declared_occurrence file) (flat_map (declared_by_service scope.now) services.now)) }
+{
+    for service in services {
+        put_service(alloc, entries, file, scope, service)?;
+    }
+    Ok(())
+}
+
+/// Puts a message and all that stands in it.
+fn put_message(
+    alloc: Global,
+    entries: &mut Entries,
+    file: FileId,
+    scope: &str,
+    message: &MessageDesc,
+) -> Result<(), AllocError>
+    ensures { OnOk result (entries.new ≡ entries.old ++ map (declared_occurrence file) (declared_by_message message.now scope.now)) }
+{
+    let name = message.name.as_str();
+    let entry = declared_entry(alloc, file, scope, name, message.place, NameKind::Message)?;
+    entries.push(entry)?;
+    let full = name_in(alloc, scope, name)?;
+    let inside = full.as_str();
+    put_fields(alloc, entries, file, inside, message.fields.as_slice())?;
+    put_oneofs(alloc, entries, file, inside, message.oneofs.as_slice())?;
+    put_enums(alloc, entries, file, inside, message.enums.as_slice())?;
+    for nested in message.nested.as_slice() {
+        put_message(alloc, entries, file, inside, nested)?;
+    }
+    Ok(())
+}
+
+fn put_messages(
+    alloc: Global,
+    entries: &mut Entries,
+    file: FileId,
+    scope: &str,
+    messages: &[MessageDesc],
+) -> Result<(), AllocError>
+    ensures { OnOk result (entries.new ≡ entries.old ++ map (declared_occurrence file) (flat_map (λ m. declared_by_message m scope.now) messages.now)) }
+{
+    for message in messages {
+        put_message(alloc, entries, file, scope, message)?;
+    }
+    Ok(())
+}
+
+/// Puts a package's name and its fronts, from the longest on.
+fn put_fronts(
+    alloc: Global,
+    entries: &mut Entries,
+    file: FileId,
+    place: Place,
+    name: &str,
+) -> Result<(), AllocError>
+    ensures { OnOk result (entries.new ≡ entries.old ++ map (package_occurrence file place) (fronts name.now)) }
+{
+    let mut front = name;
+    loop {
+        entries.push(Entry {
+            name: String::from_str(alloc, front)?,
+            spot: Spot { file, place },
+            kind: None,
+        })?;
+        match shorter_front(front) {
+            Some(shorter) => front = shorter,
+            None => return Ok(()),
+        }
+    }
+}
+
+fn put_package(
+    alloc: Global,
+    entries: &mut Entries,
+    file: FileId,
+    package: &Option<PackageDesc>,
+) -> Result<(), AllocError>
+    ensures { OnOk result (entries.new ≡ entries.old ++ package_occurrences file «package».now) }
+{
+    match package {
+        Some(package) => put_fronts(alloc, entries, file, package.place, package.name.as_str()),
+        None => Ok(()),
+    }
+}
+
+/// Puts what a file declares, but for its package.
+fn put_declared(
+    alloc: Global,
+    entries: &mut Entries,
+    file: FileId,
+    scope: &str,
+    desc: &FileDesc,
+) -> Result<(), AllocError>
+    ensures { OnOk result (entries.new ≡ entries.old ++ map (declared_occurrence file) (declared_in scope.now desc.now)) }
+{
+    put_messages(alloc, entries, file, scope, desc.messages.as_slice())?;
+    put_enums(alloc, entries, file, scope, desc.enums.as_slice())?;
+    put_services(alloc, entries, file, scope, desc.services.as_slice())
+}
+
+fn put_file(
+    alloc: Global,
+    entries: &mut Entries,
+    file: FileId,
+    desc: &FileDesc,
+) -> Result<(), AllocError>
+    ensures { OnOk result (entries.new ≡ entries.old ++ occurrences_of file desc.now) }
+{
+    put_package(alloc, entries, file, &desc.package)?;
+    let scope = match &desc.package {
+        Some(package) => package.name.as_str(),
+        None => "",
+    };
+    put_declared(alloc, entries, file, scope, desc)
+}
+
+/// The occurrences in files, or none where they are more than the limit. They are counted after
+/// each file, so memory holds no more than the limit and those of one file.
+pub(crate) fn collect(
+    alloc: Global,
+    files: &[FileDesc],
+    limit: u64,
+) -> Result<Option<Entries>, AllocError>
+    ensures all { IfOk result (λ o. IfSome o (λ entries. entries ≡ occurrences files.now)) }
+    ensures within { IfOk result (λ o. IfSome o (λ entries. length entries ≤ limit)) }
+    ensures many { IfOk result (λ o. IfNone o (limit < length (occurrences files.now))) }
+{
+    let mut entries = Entries::new(alloc);
+    for (file, desc) in files.iter().enumerate() {
+        put_file(alloc, &mut entries, file, desc)?;
+        if entries.len() as u64 > limit {
+            return Ok(None);
+        }
+    }
+    Ok(Some(entries))
+}

@@ -1,0 +1,184 @@
+//! The entries of an index: the occurrences of full names.
+
+ghost use Rattle.std.specs.Prelude.{◌≡◌, ◌≢◌, ◌↔◌, ℕ, ◌<◌, ◌≤◌, ◌++◌, ◌∷◌, [], List, map, length, IfOk, OnOk, All, IsPermutation, string_bytes, Contains, IsSortedByKey};
+ghost use Rattle.std.specs.Cmp.Lexicographic.{slice_cmp};
+ghost use Rattle.std.specs.List.Sorted.{IsPartitionPoint};
+ghost use Rattle.std.specs.Ordering.{nat_cmp, is_lt, is_eq};
+ghost use Rattle.std.specs.declared.cmp.Ordering.TheVariants.{Less};
+ghost use Rattle.proto_desc.specs.DeclaredNames.{scoped};
+ghost use Rattle.proto_names.specs.Entries.{entry_name, occurrence};
+ghost use Rattle.proto_names.specs.Index.{AreInNameOrder};
+ghost use Rattle.proto_names.specs.Order.{AreInOrder};
+ghost use Rattle.proto_names.specs.Occurrences.{Occurrence};
+ghost use Rattle.proto_names.specs.declared.entries.Entry.{Entry};
+
+use proto_desc::name_kind::NameKind;
+use proto_links::FileId;
+use proto_tokens::Place;
+use rayon::prelude::*;
+use std::alloc::{AllocError, Global};
+use std::cmp::Ordering;
+use std::marker::Model;
+use std::thread::Threads;
+
+/// A place in one of the files. The order is that of the fields.
+#[derive(Clone, Copy, Debug, PartialEq, Eq, PartialOrd, Ord)]
+pub(crate) struct Spot {
+    pub(crate) file: FileId,
+    pub(crate) place: Place,
+}
+
+/// A full name in a file. The order is that of the fields.
+#[derive(Debug, Drop, PartialEq, Eq, PartialOrd, Ord)]
+pub(crate) struct Entry {
+    pub(crate) name: String,
+    pub(crate) spot: Spot,
+    /// What the name is declared for; none where it is a package.
+    pub(crate) kind: Option<NameKind>,
+}
+
+/// Entries. Contracts see them as the occurrences that they stand for.
+#[derive(Debug, Drop)]
+pub(crate) struct Entries {
+    entries: Vec<Entry>,
+}
+
+impl Model for Entries {
+    ghost use Rattle.std.specs.Prelude.{List, map};
+    ghost use Rattle.proto_names.specs.Entries.{occurrence};
+    ghost use Rattle.proto_names.specs.Order.{AreInOrder};
+    ghost use Rattle.proto_names.specs.Occurrences.{Occurrence};
+    ghost use Rattle.proto_names.specs.declared.entries.Entry.{Entry};
+
+    ghost Value = { List Occurrence };
+
+    ghost view = { λ es. map occurrence es.entries.items };
+}
+
+impl Entries {
+    /// No entries, which take no memory.
+    pub(crate) fn new(alloc: Global) -> Entries
+        ensures { result ≡ [] }
+    {
+        Entries {
+            entries: Vec::new(alloc),
+        }
+    }
+
+    /// Puts an entry behind the others.
+    pub(crate) fn push(&mut self, entry: Entry) -> Result<(), AllocError>
+        ensures { OnOk result (self.new ≡ self.old ++ occurrence entry ∷ []) }
+    {
+        Ok(self.entries.push(entry)?)
+    }
+
+    /// How many entries there are.
+    pub(crate) fn len(&self) -> usize
+        ensures { result ≡ length self.now }
+    {
+        self.entries.len()
+    }
+
+    /// The entries in their order.
+    pub(crate) fn as_slice(&self) -> &[Entry]
+        ensures { map occurrence result.now ≡ self.now }
+    {
+        self.entries.as_slice()
+    }
+
+    /// Sorts the entries by name, and those of one name by file and place.
+    pub(crate) fn sort<R>(&mut self, rt: &R, alloc: Global) -> Result<(), AllocError>
+    where
+        R: Threads + Sync,
+        ensures all { OnOk result (IsPermutation self.old self.new) }
+        ensures order { OnOk result (AreInOrder self.new) }
+    {
+        par_sort(rt, alloc, &mut self.entries)
+    }
+
+    /// The entries of the name in a scope.
+    pub(crate) fn named(&self, scope: &str, name: &str) -> &[Entry]
+        requires { AreInNameOrder self.now }
+        ensures found { (o : Occurrence) → Contains (map occurrence result.now) o → Contains self.now o × (o.name ≡ scoped scope.now name.now) }
+        ensures all { (o : Occurrence) → Contains self.now o → o.name ≡ scoped scope.now name.now → Contains (map occurrence result.now) o }
+    {
+        entries_named(self.entries.as_slice(), scope, name)
+    }
+}
+
+/// A name in a scope; the scope of what stands in no package is empty.
+pub(crate) fn name_in(alloc: Global, scope: &str, name: &str) -> Result<String, AllocError>
+    ensures { IfOk result (λ full. string_bytes full ≡ scoped scope.now name.now) }
+{
+    let mut full = String::from_str(alloc, scope)?;
+    if !scope.is_empty() {
+        full.push_str(".")?;
+    }
+    full.push_str(name)?;
+    Ok(full)
+}
+
+/// The order of what stands behind a scope, and a dot with a name behind it.
+fn compare_behind(rest: &[u8], name: &str) -> Ordering
+    ensures { result ≡ slice_cmp nat_cmp rest.now (46 ∷ name.now) }
+{
+    match rest {
+        [] => Ordering::Less,
+        [b'.', last @ ..] => last.cmp(name.as_bytes()),
+        [byte, ..] => byte.cmp(&b'.'),
+    }
+}
+
+/// The order of a full name and the name in a scope, which is not built.
+pub(crate) fn compare(full: &str, scope: &str, name: &str) -> Ordering
+    ensures { result ≡ slice_cmp nat_cmp full.now (scoped scope.now name.now) }
+{
+    if scope.is_empty() {
+        return full.cmp(name);
+    }
+    let full = full.as_bytes();
+    if full.len() <= scope.len() {
+        return full.cmp(scope.as_bytes()).then(Ordering::Less);
+    }
+    let (front, rest) = full.split_at(scope.len());
+    match front.cmp(scope.as_bytes()) {
+        Ordering::Equal => compare_behind(rest, name),
+        unequal => unequal,
+    }
+}
+
+/// How many entries come before the name in a scope.
+fn count_before(entries: &[Entry], scope: &str, name: &str) -> usize
+    requires { IsSortedByKey entry_name (slice_cmp nat_cmp) entries.now }
+    ensures bound { result ≤ length entries.now }
+    ensures point { IsPartitionPoint (λ e. slice_cmp nat_cmp (entry_name e) (scoped scope.now name.now) ≡ Less) (λ e. slice_cmp nat_cmp (entry_name e) (scoped scope.now name.now) ≢ Less) entries.now result }
+{
+    entries.partition_point(
+        |entry: &Entry| -> bool
+            ensures { result ≡ is_lt (slice_cmp nat_cmp (entry_name entry.now) (scoped scope.entry.now name.entry.now)) }
+        { compare(entry.name.as_str(), scope, name).is_lt() },
+    )
+}
+
+/// How many of the entries have the name in a scope, where none comes before it.
+fn count_named(entries: &[Entry], scope: &str, name: &str) -> usize
+    requires order { IsSortedByKey entry_name (slice_cmp nat_cmp) entries.now }
+    requires behind { All (λ e. slice_cmp nat_cmp (entry_name e) (scoped scope.now name.now) ≢ Less) entries.now }
+    ensures bound { result ≤ length entries.now }
+    ensures point { IsPartitionPoint (λ e. entry_name e ≡ scoped scope.now name.now) (λ e. entry_name e ≢ scoped scope.now name.now) entries.now result }
+{
+    entries.partition_point(
+        |entry: &Entry| -> bool
+            ensures { result ≡ is_eq (slice_cmp nat_cmp (entry_name entry.now) (scoped scope.entry.now name.entry.now)) }
+        { compare(entry.name.as_str(), scope, name).is_eq() },
+    )
+}
+
+/// The entries of the name in a scope, by halving.
+fn entries_named<'e>(entries: &'e [Entry], scope: &str, name: &str) -> &'e [Entry]
+    requires { IsSortedByKey entry_name (slice_cmp nat_cmp) entries.now }
+    ensures { (e : Entry) → Contains result.now e ↔ (Contains entries.now e × (entry_name e ≡ scoped scope.now name.now)) }
+{
+    let behind = &entries[count_before(entries, scope, name)..];
+    &behind[..count_named(behind, scope, name)]
+}

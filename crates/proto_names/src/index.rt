@@ -1,0 +1,147 @@
+//! The index of the names of files.
+
+ghost use Rattle.std.specs.Prelude.{◌≡◌, ◌≢◌, ◌↔◌, ℕ, ◌<◌, List, map, Err, IfOk, MatchOption, None, Some, Contains, string_bytes, length, IsSorted};
+ghost use Rattle.std.specs.Cmp.Lexicographic.{slice_cmp};
+ghost use Rattle.std.specs.Ordering.{nat_cmp};
+ghost use Rattle.proto_desc.specs.DeclaredNames.{scoped};
+ghost use Rattle.proto_names.specs.Entries.{occurrence};
+ghost use Rattle.proto_names.specs.Index.{Indexes, IsRepeated, is_service_kind, services_of};
+ghost use Rattle.proto_names.specs.declared.index.Defined.{Defined};
+ghost use Rattle.proto_names.specs.Occurrences.{Occurrence, IsPackage, occurrences};
+ghost use Rattle.proto_names.specs.declared.index.NameError.TheVariants as errors;
+ghost use Rattle.proto_tokens.specs.Limits.{limit_of};
+ghost use Rattle.proto_tokens.specs.declared.limits.Limit.TheVariants as limit;
+ghost use Rattle.proto_tokens.specs.declared.place.Place.{Place};
+
+use crate::collect::collect;
+use crate::entries::{Entries, Entry};
+use crate::twice::first_twice;
+use proto_desc::file::FileDesc;
+use proto_desc::name_kind::NameKind;
+use proto_links::FileId;
+use proto_tokens::{Limit, Limits, Place};
+use std::alloc::{AllocError, AllocGlobal, Global};
+use std::marker::Model;
+use std::thread::Threads;
+use thiserror::Error;
+
+/// Why files have no index.
+#[derive(Debug, Drop, Error)]
+pub enum NameError {
+    /// The first occurrence with an earlier one of its name, by file, then by place.
+    #[error("a name that occurs twice")]
+    At(FileId, Place),
+    /// More occurrences than the limit.
+    #[error("too many names")]
+    TooMany,
+    #[error("out of memory")]
+    NoMemory,
+}
+
+impl From<AllocError> for NameError {
+    ghost from_gives = { λ _ e. e ≡ errors.NoMemory };
+
+    fn from(_error: AllocError) -> NameError {
+        NameError::NoMemory
+    }
+}
+
+/// Whether an entry is a service's.
+fn is_service(entry: &Entry) -> bool
+    ensures { result ≡ is_service_kind entry.now.kind }
+{
+    matches!(entry.kind, Some(NameKind::Service))
+}
+
+/// The names of the services among entries, in their order.
+fn service_names(alloc: Global, entries: &[Entry]) -> Result<Vec<String>, AllocError>
+    ensures { IfOk result (λ names. map string_bytes names.items ≡ services_of (map occurrence entries.now)) }
+{
+    let mut names = Vec::new(alloc);
+    for entry in entries {
+        if is_service(entry) {
+            names.push(String::from_str(alloc, entry.name.as_str())?)?;
+        }
+    }
+    Ok(names)
+}
+
+/// What a full name is declared for, and the file that declares it.
+#[derive(Clone, Copy, Debug, PartialEq, Eq)]
+pub struct Defined {
+    pub kind: NameKind,
+    pub file: FileId,
+}
+
+/// The occurrences of names in files. Contracts see it as these, in the order of the names.
+#[derive(Debug, Drop)]
+pub struct NameIndex {
+    pub(crate) files: usize,
+    pub(crate) entries: Entries,
+    /// The names of the services, in byte order.
+    pub(crate) services: Vec<String>,
+}
+
+impl Model for NameIndex {
+    ghost use Rattle.std.specs.Prelude.{map, string_bytes};
+    ghost use Rattle.proto_names.specs.Index.{Index, IsSound};
+
+    ghost Value = { Index };
+
+    ghost view = { λ index. record { files = index.files; occurrences = index.entries; services = map string_bytes index.services.items } };
+
+    ghost invariant = { λ index. IsSound (record { files = index.files; occurrences = index.entries; services = map string_bytes index.services.items }) };
+}
+
+impl NameIndex {
+    /// Finds what occurs in files: what they declare, with map entries and made oneofs, and their packages by every
+    /// prefix.
+    ///
+    /// `TooMany` where more occurs than the limit of names, else `At` the first occurrence, by file and place, that has
+    /// an earlier one of its name, where not both are packages. `NoMemory` comes only where the allocator had none.
+    pub fn build<R>(rt: &R, files: &[FileDesc], limits: &Limits) -> Result<NameIndex, NameError>
+    where
+        R: Threads + AllocGlobal + Sync,
+        ensures indexed { IfOk result (Indexes files.now limits.now) }
+        ensures twice { (file : ℕ) (place : Place) → result ≡ Err (errors.At file place) → IsRepeated files.now limits.now file place }
+        ensures many { result ≡ Err errors.TooMany → limit_of limits.now limit.Names < length (occurrences files.now) }
+    {
+        let alloc = rt.alloc();
+        let Some(mut entries) = collect(alloc, files, limits.get(Limit::Names))? else {
+            return Err(NameError::TooMany);
+        };
+        entries.sort(rt, alloc)?;
+        if let Some(spot) = first_twice(entries.as_slice()) {
+            return Err(NameError::At(spot.file, spot.place));
+        }
+        let services = service_names(alloc, entries.as_slice())?;
+        let files = files.len();
+        Ok(NameIndex {
+            files,
+            entries,
+            services,
+        })
+    }
+
+    /// What a full name is declared for. A package is declared for nothing.
+    pub fn find(&self, name: &str) -> Option<Defined>
+        ensures none { result ≡ None → (o : Occurrence) → Contains self.now.occurrences o → o.name ≡ name.now → IsPackage o }
+        ensures found { (d : Defined) → result ≡ Some d → (o : Occurrence) × Contains self.now.occurrences o × (o.name ≡ name.now) × (o.kind ≡ Some d.kind) × (o.file ≡ d.file) }
+    {
+        for entry in self.entries.named("", name) {
+            if let Some(kind) = entry.kind {
+                let file = entry.spot.file;
+                return Some(Defined { kind, file });
+            }
+        }
+        None
+    }
+
+    /// The full names of all services, in byte order.
+    pub fn services(&self) -> &[String]
+        ensures services { map string_bytes result.now ≡ services_of self.now.occurrences }
+        ensures order { IsSorted (slice_cmp nat_cmp) (map string_bytes result.now) }
+    {
+        self.services.as_slice()
+    }
+}

@@ -1,0 +1,14 @@
+//! Names: what occurs in a set of files, and what a spelled name means.
+//!
+//! The standard is the proto3 language guide, "Packages and Name Resolution".
+#![tactic(auto)]
+
+mod collect;
+mod entries;
+mod index;
+mod resolve;
+mod scope;
+mod twice;
+
+pub use index::{Defined, NameError, NameIndex};
+pub use resolve::{ResolveError, Resolved, Want};
