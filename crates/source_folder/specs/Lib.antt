@@ -1,0 +1,6 @@
+pub mod Faults
+pub mod Folder
+pub mod Kinds
+pub mod Ordered
+pub mod Paths
+pub mod Walking
