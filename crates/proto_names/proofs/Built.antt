@@ -34,7 +34,7 @@ one_file file f o within = elim (Contains-append_cases (package_occurrences file
   | inr declared ↦ made_in (declared_occurrence file) file (λ x. refl) (declared_by f) o declared
 ]
 
-below_from : (first : ℕ) (files : List FileDesc) (o : Occurrence) → Contains (occurrences_from first files) o → o.file < first + length files
+pub below_from : (first : ℕ) (files : List FileDesc) (o : Occurrence) → Contains (occurrences_from first files) o → o.file < first + length files
 below_from first [] o (k, inside, is) = absurd (omega (arith, inside))
 below_from first (f ∷ files) o within = elim (Contains-append_cases (occurrences_of first f) (occurrences_from (first + 1) files) o within) [
   | inl here ↦ (let same = one_file first f o here in omega (arith, same))

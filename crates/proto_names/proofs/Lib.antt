@@ -1,11 +1,11 @@
-mod Around
-mod Built
-mod Collecting
-mod Comparing
-mod Fronts
-mod Looking
-mod Meaning
-mod Occurring
-mod Ordered
-mod Repeating
-mod Searching
+pub mod Around
+pub mod Built
+pub mod Collecting
+pub mod Comparing
+pub mod Fronts
+pub mod Looking
+pub mod Meaning
+pub mod Occurring
+pub mod Ordered
+pub mod Repeating
+pub mod Searching

@@ -1,0 +1,4 @@
+pub mod Judging
+pub mod Refusing
+pub mod Sorting
+pub mod Zipping

@@ -1,0 +1,5 @@
+pub mod Analysed
+pub mod Faults
+pub mod Local
+pub mod Sources
+pub mod Steps

@@ -1,0 +1,67 @@
+//! Why sources have no descriptors.
+
+ghost use Rattle.std.specs.Prelude.{◌≡◌};
+ghost use Rattle.proto_compile.specs.Faults.{Tells};
+ghost use Rattle.proto_compile.specs.declared.error.CompileError.TheVariants.{NoMemory};
+
+use proto_tokens::{Fault, Kind, Place};
+use std::alloc::{AllocError, AllocFailed, Global};
+use thiserror::Error;
+
+/// Why sources have no descriptors: their first fault, or no memory.
+#[derive(Debug, Drop, Error)]
+pub enum CompileError {
+    #[error("the sources have a fault")]
+    First(Fault),
+    #[error("out of memory")]
+    NoMemory,
+}
+
+impl From<AllocError> for CompileError {
+    ghost from_gives = { λ _ e. e ≡ NoMemory };
+
+    fn from(_error: AllocError) -> CompileError {
+        CompileError::NoMemory
+    }
+}
+
+impl<T: Drop> From<AllocFailed<T>> for CompileError {
+    ghost from_gives = { λ _ e. e ≡ NoMemory };
+
+    fn from(_error: AllocFailed<T>) -> CompileError {
+        CompileError::NoMemory
+    }
+}
+
+/// The first byte of a source, where faults of a whole file stand.
+pub(crate) const START: Place = Place { offset: 0 };
+
+/// The error of a fault, if there is memory for the file's name.
+pub(crate) fn refusal_of_step(
+    alloc: Global,
+    pass: u8,
+    file: &str,
+    step: u8,
+    place: Place,
+    kind: Kind,
+) -> CompileError
+    ensures { Tells pass file.now step place kind result }
+{
+    match String::from_str(alloc, file) {
+        Ok(file) => CompileError::First(Fault {
+            pass,
+            file,
+            step,
+            place,
+            kind,
+        }),
+        Err(_) => CompileError::NoMemory,
+    }
+}
+
+/// The error of a fault that a pass of one step finds.
+pub(crate) fn refusal(alloc: Global, pass: u8, file: &str, place: Place, kind: Kind) -> CompileError
+    ensures { Tells pass file.now 0 place kind result }
+{
+    refusal_of_step(alloc, pass, file, 0, place, kind)
+}
