@@ -12,7 +12,7 @@ pub struct Spot {
 }
 
 /// The earlier of two faults, where there are any.
-pub(crate) fn lesser(a: Option<Spot>, b: Option<Spot>) -> Option<Spot>
+pub fn lesser(a: Option<Spot>, b: Option<Spot>) -> Option<Spot>
     ensures { IsLesser a b result }
 {
     match (a, b) {

@@ -107,7 +107,7 @@ impl Entries {
 }
 
 /// A name in a scope; the scope of what stands in no package is empty.
-pub(crate) fn name_in(alloc: Global, scope: &str, name: &str) -> Result<String, AllocError>
+pub fn name_in(alloc: Global, scope: &str, name: &str) -> Result<String, AllocError>
     ensures { IfOk result (λ full. string_bytes full ≡ scoped scope.now name.now) }
 {
     let mut full = String::from_str(alloc, scope)?;

@@ -10,5 +10,6 @@ mod resolve;
 mod scope;
 mod twice;
 
+pub use entries::name_in;
 pub use index::{Defined, NameError, NameIndex};
 pub use resolve::{ResolveError, Resolved, Want};

@@ -1,0 +1,3 @@
+mod Meanings
+mod Walking
+mod Trees

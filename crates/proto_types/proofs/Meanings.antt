@@ -1,0 +1,111 @@
+-- The faults of one reference, by what its name means.
+use Rattle.std.proofs.Common.{◌≡◌, ◌∙◌, sym, ℕ, List, ◌∷◌, ap, refl, subst, inl, inr}
+use Rattle.std.specs.Prelude.{Option, Some, None, Result, Ok, Err, IfOk}
+use Rattle.proto_tokens.specs.declared.kind.Kind.TheVariants as kind
+use Rattle.proto_tokens.specs.declared.place.Place.{Place}
+use Rattle.proto_desc.specs.DeclaredNames.{scoped}
+use Rattle.proto_desc.specs.declared.name_kind.NameKind.{NameKind}
+use Rattle.proto_desc.specs.declared.name_kind.NameKind.TheVariants as name_kind
+use Rattle.proto_desc.specs.declared.options.OptionDesc.{OptionDesc}
+use Rattle.proto_checks.specs.Least.{IsLeast, spot}
+use Rattle.proto_checks.specs.Sets.{Each}
+use Rattle.proto_checks.specs.declared.spot.Spot.{Spot}
+use Rattle.proto_checks.proofs.Among.{least_single}
+use Rattle.proto_checks.proofs.Sets.{least_none, least_same, least_one}
+use Rattle.proto_names.specs.Occurrences.{Occurrence}
+use Rattle.proto_names.specs.Resolution.{IsType, Means, Resolves, ResolvesNowhere}
+use Rattle.proto_names.specs.Resolution.IsType.{message, enumeration}
+use Rattle.proto_names.specs.declared.resolve.Want.{Want}
+use Rattle.proto_names.specs.declared.resolve.Want.TheVariants as want
+use Rattle.proto_names.proofs.Meaning.{innermost_same}
+use Rattle.proto_types.specs.References.{Reference, ReferenceBreaks}
+use Rattle.proto_desc.specs.declared.type_name.TypeReference.{TypeReference}
+use Rattle.proto_desc.specs.declared.type_name.TypeReference.TheVariants.{Spelled, Resolved}
+use Rattle.proto_types.specs.Steps.{IsPackedFault, IsWalkedType, SetsPacked, type_kind_of}
+use Rattle.proto_types.specs.Typed.{named_by}
+
+-- a spelled name means one full name
+means_one : (os : List Occurrence) (Seen : ℕ → Type 0) (scope spelled a b : List ℕ) → Means os Seen scope spelled a → Means os Seen scope spelled b → a ≡ b
+means_one os Seen scope spelled a b (inl e) (inl f) = cc
+means_one os Seen scope spelled a b (inl e) (inr w) = absurd (w.0 a e)
+means_one os Seen scope spelled a b (inr v) (inl f) = absurd (v.0 b f)
+means_one os Seen scope spelled a b (inr v) (inr w) = v.3 ∙ ap (λ c. scoped c spelled) (innermost_same os Seen scope spelled v.1 w.1 v.2 w.2) ∙ sym w.3
+
+-- a name of a message names no enum
+type_apart : (os : List Occurrence) (Seen : ℕ → Type 0) (full : List ℕ) (k l : NameKind) → IsType os Seen full k → IsType os Seen full l → k ≡ name_kind.Message → l ≡ name_kind.Enum → ⊥
+type_apart os Seen full k l (message seen) (message other) e f = cc
+type_apart os Seen full k l (message seen) (enumeration other none) e f = none seen
+type_apart os Seen full k l (enumeration seen none) t e f = cc
+
+pub apart : (os : List Occurrence) (Seen : ℕ → Type 0) (scope spelled a b : List ℕ) → Resolves os Seen scope spelled a name_kind.Message → Resolves os Seen scope spelled b name_kind.Enum → ⊥
+apart os Seen scope spelled a b h k = type_apart os Seen b name_kind.Message name_kind.Enum (subst (λ full. IsType os Seen full name_kind.Message) (means_one os Seen scope spelled a b h.means k.means) h.type) k.type refl refl
+
+-- what a name of a type is declared for
+pub kind_named : (os : List Occurrence) (Seen : ℕ → Type 0) (full : List ℕ) (k : NameKind) → IsType os Seen full k → named_by (type_kind_of k) ≡ k
+kind_named os Seen full k (message seen) = refl
+kind_named os Seen full k (enumeration seen none) = refl
+
+-- ---- of one reference
+
+pub not_found : (os : List Occurrence) (Seen : ℕ → Type 0) (r : Reference) → ResolvesNowhere os Seen r.scope r.text → IsLeast (ReferenceBreaks os Seen r) (Some (spot r.place kind.TypeNotFound))
+not_found os Seen r none = least_same (λ x. x ≡ spot r.place kind.TypeNotFound) (ReferenceBreaks os Seen r) (Some (spot r.place kind.TypeNotFound))
+    (λ x w. elim w [
+      | inl found ↦ found.1
+      | inr (inl enum) ↦ absurd (none enum.1.0 name_kind.Enum enum.1.1)
+      | inr (inr packed) ↦ absurd (none packed.0.0 name_kind.Message packed.0.1)
+    ])
+    (λ x e. inl (none, e))
+    (least_one (spot r.place kind.TypeNotFound))
+
+pub not_message : (os : List Occurrence) (Seen : ℕ → Type 0) (r : Reference) (full : List ℕ) → r.wanted ≡ want.MessageOnly → Resolves os Seen r.scope r.text full name_kind.Enum → IsLeast (ReferenceBreaks os Seen r) (Some (spot r.place kind.TypeNotMessage))
+not_message os Seen r full only found = least_same (λ x. x ≡ spot r.place kind.TypeNotMessage) (ReferenceBreaks os Seen r) (Some (spot r.place kind.TypeNotMessage))
+    (λ x w. elim w [
+      | inl none ↦ absurd (none.0 full name_kind.Enum found)
+      | inr (inl enum) ↦ enum.2
+      | inr (inr packed) ↦ absurd (apart os Seen r.scope r.text packed.0.0 full packed.0.1 found)
+    ])
+    (λ x e. inr (inl (only, (full, found), e)))
+    (least_one (spot r.place kind.TypeNotMessage))
+
+pub found_enum : (os : List Occurrence) (Seen : ℕ → Type 0) (r : Reference) (full : List ℕ) → (r.wanted ≡ want.MessageOnly → ⊥) → Resolves os Seen r.scope r.text full name_kind.Enum → IsLeast (ReferenceBreaks os Seen r) None
+found_enum os Seen r full any found = least_none (ReferenceBreaks os Seen r)
+    (λ x w. elim w [
+      | inl none ↦ none.0 full name_kind.Enum found
+      | inr (inl enum) ↦ any enum.0
+      | inr (inr packed) ↦ apart os Seen r.scope r.text packed.0.0 full packed.0.1 found
+    ])
+
+pub found_message : (os : List Occurrence) (Seen : ℕ → Type 0) (r : Reference) (full : List ℕ) (first : Option Spot) → Resolves os Seen r.scope r.text full name_kind.Message → IsLeast (Each r.options SetsPacked) first → IsLeast (ReferenceBreaks os Seen r) first
+found_message os Seen r full first found least = least_same (Each r.options SetsPacked) (ReferenceBreaks os Seen r) first
+    (λ x w. elim w [
+      | inl none ↦ absurd (none.0 full name_kind.Message found)
+      | inr (inl enum) ↦ absurd (apart os Seen r.scope r.text full enum.1.0 found enum.1.1)
+      | inr (inr packed) ↦ (packed.2.0, packed.1, (packed.2.1, packed.2.2), (packed.3, packed.4))
+    ])
+    (λ x w. inr (inr ((full, found), w.1, (w.0, w.2.0, w.2.1), w.3.0, w.3.1)))
+    least
+
+resolved_least : (os : List Occurrence) (Seen : ℕ → Type 0) (r : Reference) (full : List ℕ) (k : NameKind) (fault : Option Spot) → Resolves os Seen r.scope r.text full k → IsType os Seen full k → (r.wanted ≡ want.MessageOnly → k ≡ name_kind.Message) → IsPackedFault (type_kind_of k) r.options fault → IsLeast (ReferenceBreaks os Seen r) fault
+resolved_least os Seen r full k fault found (message seen) only packed = found_message os Seen r full fault found packed
+resolved_least os Seen r full k fault found (enumeration seen none) only packed = rw packed (found_enum os Seen r full (λ e. let bad : name_kind.Enum ≡ name_kind.Message = only e in absurd (cc)) found)
+
+-- ---- what is made of one reference
+
+abbrev pub spelled : List ℕ → List ℕ → Place → Want → List OptionDesc → Reference
+spelled scope text place wanted options = record { scope = scope; text = text; place = place; wanted = wanted; options = options }
+
+pub unresolved_walked : (os : List Occurrence) (Seen : ℕ → Type 0) (scope text : List ℕ) (place : Place) (wanted : Want) (options : List OptionDesc) (g : TypeReference) (s : Spot) (fault : Option Spot) → fault ≡ Some s → IsLeast (ReferenceBreaks os Seen (spelled scope text place wanted options)) (Some s) → IsWalkedType os Seen scope wanted options (Spelled text place) g fault
+unresolved_walked os Seen scope text place wanted options g s fault e h = record {
+  least = rw e (least_single (ReferenceBreaks os Seen) (spelled scope text place wanted options) (Some s) h);
+  made = λ none. let bad : None ≡ Some s = sym none ∙ e in absurd (cc);
+}
+
+pub resolved_walked : (os : List Occurrence) (Seen : ℕ → Type 0) (scope text : List ℕ) (place : Place) (wanted : Want) (options : List OptionDesc) (full : List ℕ) (k : NameKind) (g : TypeReference) (fault : Option Spot) → Resolves os Seen scope text full k → (wanted ≡ want.MessageOnly → k ≡ name_kind.Message) → g ≡ Resolved (46 ∷ full) (type_kind_of k) → IsPackedFault (type_kind_of k) options fault → IsWalkedType os Seen scope wanted options (Spelled text place) g fault
+resolved_walked os Seen scope text place wanted options full k g fault found only made packed = record {
+  least = least_single (ReferenceBreaks os Seen) (spelled scope text place wanted options) fault (resolved_least os Seen (spelled scope text place wanted options) full k fault found found.type only packed);
+  made = λ none. (full, type_kind_of k, rw (kind_named os Seen full k found.type) found, made);
+}
+
+pub if_ok_both : {T E : Type 0} {P Q R : T → Type 0} (r : Result T E) → IfOk r P → IfOk r Q → ((x : T) → P x → Q x → R x) → IfOk r R
+if_ok_both (Ok x) p q turn = turn x p q
+if_ok_both (Err e) p q turn = tt

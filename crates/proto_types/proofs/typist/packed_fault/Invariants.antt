@@ -1,0 +1,7 @@
+use Rattle.proto_checks.specs.Least.{IsLeast}
+use Rattle.proto_checks.proofs.Sets.{EachTo}
+use Rattle.proto_types.specs.Steps.{SetsPacked}
+use Rattle.proto_types.proofs.typist.packed_fault.Given as goal
+
+abbrev pub invariant-loop-option : goal.invariant-loop-option
+invariant-loop-option l = IsLeast (EachTo l.options l.option-index SetsPacked) l.first
