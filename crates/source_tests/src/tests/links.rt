@@ -1,21 +1,9 @@
 //! Imports of several files: what is missing or cyclic, ranks, set order, and what each file reaches and sees.
 
-use proto_desc::file::FileDesc;
-use proto_desc::lower;
+use crate::tests::sources::{Source, files_of, lowered, texts_of};
 use proto_links::{LinkError, Links, in_name_order, link};
-use proto_syntax::parse;
-use proto_tokens::{Limits, tokenize};
 use std::alloc::Global;
 use std::test::Fail;
-
-/// A file of a row: its name, and its statements behind `syntax = "proto3"; `.
-type Source = (&'static str, &'static str);
-
-fn lowered<'s>(alloc: Global, name: &'s str, text: &'s str) -> Result<FileDesc<'s>, Fail> {
-    let limits = Limits::standard();
-    let tokens = tokenize(alloc, text.as_bytes(), &limits)?;
-    Ok(lower(alloc, name, &parse(alloc, &tokens, &limits)?)?)
-}
 
 /// The files of a list of numbers, as `1 0`.
 fn numbers(alloc: Global, files: &[usize]) -> Result<String, Fail> {
@@ -50,14 +38,8 @@ fn shown(alloc: Global, links: &Links) -> Result<String, Fail> {
 
 /// The links of sources in the order of their names, or the file, the place and the kind of the first bad import.
 fn answer(alloc: Global, sources: &[Source]) -> Result<String, Fail> {
-    let mut texts = Vec::new(alloc);
-    for (_, statements) in sources {
-        texts.push(format!(in alloc; "syntax = \"proto3\"; {statements}")?)?;
-    }
-    let mut files = Vec::new(alloc);
-    for ((name, _), text) in sources.iter().zip(&texts) {
-        files.push(lowered(alloc, name, text.as_str())?)?;
-    }
+    let texts = texts_of(alloc, sources)?;
+    let files = files_of(alloc, sources, &texts)?;
     if !in_name_order(&files) {
         return Err("files out of order".into());
     }
