@@ -12,3 +12,6 @@ mod source;
 pub use analysis::{Analysis, analyse};
 pub use error::CompileError;
 pub use source::Source;
+
+#[cfg(test)]
+mod tests;
