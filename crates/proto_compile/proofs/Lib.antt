@@ -1,4 +1,5 @@
 pub mod Judging
 pub mod Refusing
 pub mod Sorting
+pub mod Typing
 pub mod Zipping

@@ -14,7 +14,8 @@ use Rattle.proto_compile.specs.declared.local.LocalError.TheVariants as local
 use Rattle.proto_compile.specs.declared.source.Source.{Source}
 use Rattle.proto_tokens.specs.declared.kind.Kind.{Kind}
 use Rattle.proto_tokens.specs.declared.place.Place.{Place}
-use Rattle.proto_compile.specs.Faults.{IsFirstFault, IsRefusal, SourceDescribes, Stands, Tells, in_file}
+use Rattle.proto_compile.specs.Descriptions.{SourceDescribes}
+use Rattle.proto_compile.specs.Faults.{IsFirstFault, IsRefusal, Stands, Tells, in_file}
 use Rattle.proto_compile.specs.declared.error.CompileError.{CompileError}
 use Rattle.proto_compile.specs.declared.error.CompileError.TheVariants as errors
 

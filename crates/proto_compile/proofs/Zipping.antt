@@ -14,7 +14,7 @@ use Rattle.proto_names.proofs.Built.{below_from}
 use Rattle.proto_tokens.specs.declared.kind.Kind.{Kind}
 use Rattle.proto_tokens.specs.declared.place.Place.{Place}
 use Rattle.proto_tokens.specs.declared.limits.Limits.{Limits}
-use Rattle.proto_compile.specs.Faults.{SourceDescribes}
+use Rattle.proto_compile.specs.Descriptions.{SourceDescribes}
 use Rattle.proto_compile.specs.Sources.{AreByName, name_at, name_of}
 use Rattle.proto_compile.specs.declared.source.Source.{Source}
 
@@ -28,7 +28,7 @@ zip_end R (a ∷ xs) (b ∷ ys) x y all r = (all.0, zip_end R xs ys x y all.1 r)
 pub zip_more : {X Y : Type 0} (R : X → Y → Type 0) (xs : List X) (k : ℕ) (x : X) (ys : List Y) (y : Y) → k < length xs → x ≡ get_or xs k x → AllZip R (take k xs) ys → R x y → AllZip R (take (k + 1) xs) (ys ++ y ∷ [])
 zip_more R xs k x ys y h is all r = rw (take_more xs k x h) (subst (λ z. AllZip R (take k xs ++ z ∷ []) (ys ++ y ∷ [])) is (zip_end R (take k xs) ys x y all r))
 
-same_names : (limits : Limits) (files : List Source) (descs : List FileDesc) → AllZip (SourceDescribes limits) files descs → map imports.name_of descs ≡ map name_of files
+pub same_names : (limits : Limits) (files : List Source) (descs : List FileDesc) → AllZip (SourceDescribes limits) files descs → map imports.name_of descs ≡ map name_of files
 same_names limits [] [] all = refl
 same_names limits [] (d ∷ descs) all = absurd all
 same_names limits (s ∷ files) [] all = absurd all
@@ -71,3 +71,6 @@ desc_name descs k d h = get_or-map imports.name_of descs k d [] h
 -- one more of each, read with any default
 pub zip_next : {X Y : Type 0} (R : X → Y → Type 0) (xs : List X) (k : ℕ) (d : X) (ys : List Y) (y : Y) → k < length xs → AllZip R (take k xs) ys → R (get_or xs k d) y → AllZip R (take (k + 1) xs) (ys ++ y ∷ [])
 zip_next R xs k d ys y h all r = zip_more R xs k (get_or xs k d) ys y h (get_or_default xs k d (get_or xs k d) h) all r
+
+pub same_length : (limits : Limits) (files : List Source) (descs : List FileDesc) → AllZip (SourceDescribes limits) files descs → length files ≡ length descs
+same_length limits files descs all = sym (length-map files name_of) ∙ ap length (sym (same_names limits files descs all)) ∙ length-map descs imports.name_of

@@ -1,13 +1,40 @@
--- What the passes up to names find of sources without a fault.
-use Rattle.std.specs.Prelude.{List}
+-- What the passes up to types find of sources without a fault.
+use Rattle.std.specs.Prelude.{◌≡◌, ℕ, ◌+◌, List, [], ◌∷◌}
 use Rattle.proto_tokens.specs.declared.limits.Limits.{Limits}
 use Rattle.proto_desc.specs.declared.file.FileDesc.{FileDesc}
+use Rattle.proto_checks.specs.declared.spot.Spot.{Spot}
 use Rattle.proto_links.specs.Linked.{Linked, AreLinked}
 use Rattle.proto_names.specs.Index.{Index, Indexes}
-use Rattle.proto_compile.specs.Faults.{Describe}
+use Rattle.proto_names.specs.Resolution.{SeenBy}
+use Rattle.proto_types.specs.References.{TypesBreak}
+use Rattle.proto_types.specs.Typed.{IsTypedFile}
+use Rattle.proto_compile.specs.Descriptions.{Describe}
 use Rattle.proto_compile.specs.declared.source.Source.{Source}
 
-pub record IsAnalysed (limits : Limits) (sources : List Source) (descs : List FileDesc) (links : Linked) (index : Index) : Type 0 where
-  pub described : Describe limits sources descs
+-- descriptors with their links, and the index of their names
+pub record IsAnalysed (limits : Limits) (sources files : List Source) (descs : List FileDesc) (links : Linked) (index : Index) : Type 0 where
+  pub described : Describe limits sources files descs
   pub linked : AreLinked descs links
   pub indexed : Indexes descs limits index
+
+-- what is wrong with the types of the file at a place
+abbrev pub TypesBreakAt : Linked → Index → ℕ → FileDesc → Spot → Type 0
+TypesBreakAt links index a desc = TypesBreak index.occurrences (SeenBy links a) desc
+
+-- the descriptor of the file at a place breaks no rule of types, and this is what it is with its types resolved
+pub record TypesAt (links : Linked) (index : Index) (a : ℕ) (desc typed : FileDesc) : Type 0 where
+  pub whole : (x : Spot) → TypesBreakAt links index a desc x → ⊥
+  pub resolved : IsTypedFile index.occurrences (SeenBy links a) desc typed
+
+-- the same for files of which the first stands at a place
+abbrev pub AreTypedFrom : Linked → Index → ℕ → List FileDesc → List FileDesc → Type 0
+AreTypedFrom links index a [] [] = Unit {0}
+AreTypedFrom links index a [] (g ∷ gs) = ⊥
+AreTypedFrom links index a (f ∷ fs) [] = ⊥
+AreTypedFrom links index a (f ∷ fs) (g ∷ gs) = TypesAt links index a f g × AreTypedFrom links index (a + 1) fs gs
+
+-- sources without a fault of these passes, with their descriptors resolved
+pub record AreResolved (limits : Limits) (sources files : List Source) (typed : List FileDesc) (links : Linked) (index : Index) : Type 0 where
+  pub descs : List FileDesc
+  pub analysed : IsAnalysed limits sources files descs links index
+  pub each : AreTypedFrom links index 0 descs typed

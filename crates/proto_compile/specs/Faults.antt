@@ -1,6 +1,6 @@
 -- The first fault of sources. A later pass is judged only where every file has passed all earlier ones; within a pass the first is the least by file name,
 -- step, place and the number of its kind.
-use Rattle.std.specs.Prelude.{◌≡◌, ℕ, ◌<◌, ◌≤◌, List, [], length, take, string_bytes, slice_index_or}
+use Rattle.std.specs.Prelude.{◌≡◌, ℕ, ◌<◌, ◌≤◌, List, [], length, take, string_bytes, slice_index_or, Some}
 use Rattle.std.specs.List.{AllZip}
 use Rattle.proto_tokens.specs.Limits.{limit_of}
 use Rattle.proto_tokens.specs.declared.kind.Kind.{Kind}
@@ -10,10 +10,13 @@ use Rattle.proto_tokens.specs.declared.limits.Limits.{Limits}
 use Rattle.proto_tokens.specs.declared.place.Place.{Place}
 use Rattle.proto_desc.specs.declared.file.FileDesc.{FileDesc}
 use Rattle.proto_links.specs.Imports as imports
-use Rattle.proto_links.specs.Linked.{AreLinked}
-use Rattle.proto_names.specs.Index.{Indexes, IsRepeated}
+use Rattle.proto_links.specs.Linked.{Linked}
+use Rattle.proto_checks.specs.Least.{IsLeast, spot}
+use Rattle.proto_names.specs.Index.{Index, IsRepeated}
 use Rattle.proto_names.specs.Occurrences.{occurrences}
-use Rattle.proto_compile.specs.Local.{Describes, IsLocalFault}
+use Rattle.proto_compile.specs.Analysed.{AreTypedFrom, IsAnalysed, TypesBreakAt}
+use Rattle.proto_compile.specs.Descriptions.{Describe, SourceDescribes}
+use Rattle.proto_compile.specs.Local.{IsLocalFault}
 use Rattle.proto_compile.specs.Sources.{AreByName, AreSorted, IsFirstRepeated, name_at, name_of, text_of}
 use Rattle.proto_compile.specs.declared.error.CompileError.{CompileError}
 use Rattle.proto_compile.specs.declared.error.CompileError.TheVariants as errors
@@ -26,16 +29,8 @@ start = record { offset = 0 }
 abbrev pub Stands : List Source → ℕ → Source → Type 0
 Stands files k s = (k < length files) × (slice_index_or files k s ≡ s)
 
--- a source is a file without a fault of its own, and this is what it describes
-abbrev pub SourceDescribes : Limits → Source → FileDesc → Type 0
-SourceDescribes limits s desc = Describes limits (name_of s) (text_of s) desc
-
--- what the sources describe, in the order of their names, where none has a fault of its own
-pub record Describe (limits : Limits) (sources : List Source) (descs : List FileDesc) : Type 0 where
-  pub few : length sources ≤ limit_of limits limit.Files
-  pub files : List Source
-  pub by_name : AreByName sources files
-  pub each : AllZip (SourceDescribes limits) files descs
+abbrev pub StandsDesc : List FileDesc → ℕ → FileDesc → Type 0
+StandsDesc descs k desc = (k < length descs) × (slice_index_or descs k desc ≡ desc)
 
 -- the first fault, by its pass, file, step, place and kind
 pub data IsFirstFault (limits : Limits) (sources : List Source) : (pass : ℕ) (file : List ℕ) (step : ℕ) (place : Place) (kind : Kind) → Type 0 where
@@ -43,9 +38,11 @@ pub data IsFirstFault (limits : Limits) (sources : List Source) : (pass : ℕ) (
   file_name_twice : (files : List Source) (k : ℕ) → length sources ≤ limit_of limits limit.Files → AreSorted sources files → IsFirstRepeated files k → IsFirstFault limits sources 0 (name_at files k) 0 start kind.FileNameTwice
   in_file : (files : List Source) (descs : List FileDesc) (k : ℕ) (s : Source) (step : ℕ) (place : Place) (what : Kind) → length sources ≤ limit_of limits limit.Files → AreByName sources files
       → AllZip (SourceDescribes limits) (take k files) descs → Stands files k s → IsLocalFault limits (name_of s) (text_of s) step place what → IsFirstFault limits sources 1 (name_of s) step place what
-  in_imports : (descs : List FileDesc) (a : ℕ) (place : Place) (what : Kind) → Describe limits sources descs → imports.IsFirstBad descs a place what → IsFirstFault limits sources 2 (imports.name_at descs a) 0 place what
-  too_many_names : (descs : List FileDesc) → Describe limits sources descs → imports.NoneBad descs → limit_of limits limit.Names < length (occurrences descs) → IsFirstFault limits sources 3 [] 0 start kind.TooManyNames
-  name_twice : (descs : List FileDesc) (a : ℕ) (place : Place) → Describe limits sources descs → imports.NoneBad descs → IsRepeated descs limits a place → IsFirstFault limits sources 3 (imports.name_at descs a) 0 place kind.NameTwice
+  in_imports : (files : List Source) (descs : List FileDesc) (a : ℕ) (place : Place) (what : Kind) → Describe limits sources files descs → imports.IsFirstBad descs a place what → IsFirstFault limits sources 2 (imports.name_at descs a) 0 place what
+  too_many_names : (files : List Source) (descs : List FileDesc) → Describe limits sources files descs → imports.NoneBad descs → limit_of limits limit.Names < length (occurrences descs) → IsFirstFault limits sources 3 [] 0 start kind.TooManyNames
+  name_twice : (files : List Source) (descs : List FileDesc) (a : ℕ) (place : Place) → Describe limits sources files descs → imports.NoneBad descs → IsRepeated descs limits a place → IsFirstFault limits sources 3 (imports.name_at descs a) 0 place kind.NameTwice
+  in_types : (files : List Source) (descs done : List FileDesc) (links : Linked) (index : Index) (a : ℕ) (desc : FileDesc) (place : Place) (what : Kind) → IsAnalysed limits sources files descs links index
+      → AreTypedFrom links index 0 (take a descs) done → StandsDesc descs a desc → IsLeast (TypesBreakAt links index a desc) (Some (spot place what)) → IsFirstFault limits sources 4 (imports.name_at descs a) 0 place what
 
 -- the error is for want of memory, or names a fault that is so
 abbrev pub IsRefusal : (ℕ → List ℕ → ℕ → Place → Kind → Type 0) → CompileError → Type 0

@@ -3,7 +3,8 @@
 ghost use Rattle.std.specs.Prelude.{◌≡◌, ℕ, List, IfOk, IfErr};
 ghost use Rattle.proto_compile.specs.Analysed.{IsAnalysed};
 ghost use Rattle.proto_compile.specs.Steps.{TellsLocal};
-ghost use Rattle.proto_compile.specs.Faults.{Describe, IsFirstFault, IsRefusal};
+ghost use Rattle.proto_compile.specs.Descriptions.{Describe};
+ghost use Rattle.proto_compile.specs.Faults.{IsFirstFault, IsRefusal};
 ghost use Rattle.proto_links.specs.Imports.{AreInNameOrder, NoneBad};
 ghost use Rattle.proto_links.specs.Linked.{AreLinked};
 ghost use Rattle.proto_names.specs.Index.{Indexes};
@@ -28,9 +29,10 @@ const IMPORTS: u8 = 2;
 
 const NAMES: u8 = 3;
 
-/// What sources describe, in the order of their names, with their links and the index of their names.
+/// Sources in the order of their names, with what they describe, the links of that and the index of its names.
 #[derive(Debug, Drop)]
 pub struct Analysis<'s> {
+    pub files: Vec<Source<'s>>,
     pub descs: Vec<FileDesc<'s>>,
     pub links: Links,
     pub index: NameIndex,
@@ -48,13 +50,13 @@ fn local_refusal(alloc: Global, file: &str, error: LocalError) -> CompileError
     }
 }
 
-/// What the sources describe, one after another in the order of their names.
+/// The sources in the order of their names, with what they describe, one after another.
 fn all_described<'s>(
     alloc: Global,
     sources: &[Source<'s>],
     limits: &Limits,
-) -> Result<Vec<FileDesc<'s>>, CompileError>
-    ensures described { IfOk result (λ descs. Describe limits.now sources.now descs.items) }
+) -> Result<(Vec<Source<'s>>, Vec<FileDesc<'s>>), CompileError>
+    ensures described { IfOk result (λ r. Describe limits.now sources.now r.0.items r.1.items) }
     ensures first { IfErr result (IsRefusal (IsFirstFault limits.now sources.now)) }
 {
     let files = by_name(alloc, sources, limits)?;
@@ -65,14 +67,14 @@ fn all_described<'s>(
             Err(error) => return Err(local_refusal(alloc, source.name, error)),
         }
     }
-    Ok(descs)
+    Ok((files, descs))
 }
 
 /// The links of what sources describe.
 fn linked(alloc: Global, descs: &[FileDesc]) -> Result<Links, CompileError>
     requires { AreInNameOrder descs.now }
     ensures linked { IfOk result (AreLinked descs.now) }
-    ensures first { (limits : Limits) (sources : List Source) → Describe limits sources descs.now → IfErr result (IsRefusal (IsFirstFault limits sources)) }
+    ensures first { (limits : Limits) (sources files : List Source) → Describe limits sources files descs.now → IfErr result (IsRefusal (IsFirstFault limits sources)) }
 {
     match link(alloc, descs) {
         Ok(links) => Ok(links),
@@ -90,7 +92,7 @@ where
     R: Threads + AllocGlobal + Sync,
     requires { NoneBad descs.now }
     ensures indexed { IfOk result (Indexes descs.now limits.now) }
-    ensures first { (sources : List Source) → Describe limits.now sources descs.now → IfErr result (IsRefusal (IsFirstFault limits.now sources)) }
+    ensures first { (sources files : List Source) → Describe limits.now sources files descs.now → IfErr result (IsRefusal (IsFirstFault limits.now sources)) }
 {
     let alloc = rt.alloc();
     match NameIndex::build(rt, descs, limits) {
@@ -105,24 +107,21 @@ where
 }
 
 /// Judges sources by themselves, their imports and their names, one file after another.
-///
-/// `First` has the first fault of these passes: the least by pass, file name, step, place and the number of its kind,
-/// where a later pass is judged only if every file has passed the earlier ones. `NoMemory` comes only where the
-/// allocator had none.
-pub fn analyse<'s, R>(
+pub(crate) fn named<'s, R>(
     rt: &R,
     sources: &[Source<'s>],
     limits: &Limits,
 ) -> Result<Analysis<'s>, CompileError>
 where
     R: Threads + AllocGlobal + Sync,
-    ensures analysed { IfOk result (λ a. IsAnalysed limits.now sources.now a.descs.items a.links a.index) }
+    ensures analysed { IfOk result (λ a. IsAnalysed limits.now sources.now a.files.items a.descs.items a.links a.index) }
     ensures first { IfErr result (IsRefusal (IsFirstFault limits.now sources.now)) }
 {
-    let descs = all_described(rt.alloc(), sources, limits)?;
+    let (files, descs) = all_described(rt.alloc(), sources, limits)?;
     let links = linked(rt.alloc(), &descs)?;
     let index = indexed(rt, &descs, limits)?;
     Ok(Analysis {
+        files,
         descs,
         links,
         index,

@@ -8,10 +8,12 @@ mod error;
 mod local;
 mod order;
 mod source;
+mod types;
 
-pub use analysis::{Analysis, analyse};
+pub use analysis::Analysis;
 pub use error::CompileError;
 pub use source::Source;
+pub use types::analyse;
 
 #[cfg(test)]
 mod tests;

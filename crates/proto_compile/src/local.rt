@@ -1,7 +1,7 @@
 //! What each source is by itself: its tokens, its grammar, and the rules that one file can break.
 
 ghost use Rattle.std.specs.Prelude.{◌≡◌, ℕ, Err, IfOk};
-ghost use Rattle.proto_compile.specs.Faults.{SourceDescribes};
+ghost use Rattle.proto_compile.specs.Descriptions.{SourceDescribes};
 ghost use Rattle.proto_compile.specs.Local.{IsLocalFault};
 ghost use Rattle.proto_compile.specs.Sources.{name_of, text_of};
 ghost use Rattle.proto_compile.specs.declared.local.LocalError.TheVariants as errors;

@@ -45,7 +45,7 @@ struct Row {
     answer: &'static str,
 }
 
-static ROWS: [Row; 20] = [
+static ROWS: [Row; 25] = [
     Row {
         title: "no files",
         files: &[],
@@ -216,6 +216,48 @@ static ROWS: [Row; 20] = [
         files: &[("a.proto", r#"syntax = "proto3"; message A {} message A {}"#)],
         lowered: Some((Limit::Names, 1)),
         answer: "pass 3, file [], step 0, at 0: TooManyNames",
+    },
+    Row {
+        title: "a type that no file has",
+        files: &[("a.proto", r#"syntax = "proto3"; message A { X x = 1; }"#)],
+        lowered: None,
+        answer: "pass 4, file [a.proto], step 0, at 31: TypeNotFound",
+    },
+    Row {
+        title: "a type whose first part the inner scope decides",
+        files: &[(
+            "a.proto",
+            r#"syntax = "proto3"; package a.b; message a { a.b.C x = 1; } message C {}"#,
+        )],
+        lowered: None,
+        answer: "pass 4, file [a.proto], step 0, at 44: TypeNotFound",
+    },
+    Row {
+        title: "a type behind a dot",
+        files: &[(
+            "a.proto",
+            r#"syntax = "proto3"; package a.b; message a { .a.b.C x = 1; } message C {}"#,
+        )],
+        lowered: None,
+        answer: "described: a.proto",
+    },
+    Row {
+        title: "an enum as a method's type",
+        files: &[(
+            "a.proto",
+            r#"syntax = "proto3"; enum E { Z = 0; } service S { rpc R(E) returns (E); }"#,
+        )],
+        lowered: None,
+        answer: "pass 4, file [a.proto], step 0, at 55: TypeNotMessage",
+    },
+    Row {
+        title: "a packed field of messages",
+        files: &[(
+            "a.proto",
+            r#"syntax = "proto3"; message A { repeated A x = 1 [packed = true]; }"#,
+        )],
+        lowered: None,
+        answer: "pass 4, file [a.proto], step 0, at 49: PackedOnMessage",
     },
 ];
 

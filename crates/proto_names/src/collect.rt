@@ -105,7 +105,7 @@ fn put_methods(
     Ok(())
 }
 
-/// Puts an enum and its values, which stand in the scope of the enum.
+/// Puts an enum and its values, which stand beside the enum, in its scope.
 fn put_enum(
     alloc: Global,
     entries: &mut Entries,

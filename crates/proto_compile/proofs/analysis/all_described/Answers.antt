@@ -1,7 +1,7 @@
 use Rattle.std.proofs.Common.{◌≡◌, sym, ap, arith, get_or, take, subst, length, ◌+◌}
 use Rattle.std.specs.Prelude.{Err, List}
 use Rattle.std.specs.List.{AllZip}
-use Rattle.proto_compile.specs.Faults.{SourceDescribes}
+use Rattle.proto_compile.specs.Descriptions.{SourceDescribes}
 use Rattle.proto_compile.specs.declared.source.Source.{Source}
 use Rattle.proto_compile.proofs.Refusing.{refused_locally, stands_at}
 use Rattle.proto_compile.proofs.Zipping.{zip_next}
