@@ -30,7 +30,45 @@ expect 1 '' 'b.proto:1:38: Unexpected' "${P}message B { int32 = 1; }" describe b
 expect 1 '' 'b.proto:1:14: BadEscape' 'syntax = "pro\\qto3";' describe b.proto
 expect 1 '' 'b.proto:1:42: FieldNumberRange' "${P}message B { int32 x = 19000; }" describe b.proto
 expect 1 '' 'b.proto:1:32: TypeNotFound' "${P}message B { X x = 1; }" describe b.proto
+expect 1 '' 'b.proto:1:50: PackedOnMessage' "${P}message A { repeated A x = 1 [packed = true]; }" describe b.proto
+expect 1 '' 'b.proto:1:41: NameTwice' "${P}message A {} message A {}" describe b.proto
 expect 1 '' 'two.proto:2:3: UnclosedComment' "${P}\\n  /* x" describe two.proto
+
+# A folder of sources.
+sources=$folder/sources
+mkdir -p "$sources/p"
+printf '%simport "p/b.proto"; message A { p.B b = 1; }' "$P" >"$sources/a.proto"
+printf '%spackage p; message B {}' "$P" >"$sources/p/b.proto"
+for plan in '' '--workers 1 --cut 1' '--workers 2 --cut 1' '--workers 64 --cut 4096'; do
+    # shellcheck disable=SC2086
+    if ! ./schema_server compile --root "$sources" $plan >"$folder/set" 2>"$folder/faults" || [ -s "$folder/faults" ]; then
+        echo "compile $plan: $(cat "$folder/faults")"
+        failures=$((failures + 1))
+    fi
+    got=$(od -An -v -tx1 "$folder/set" | tr -d ' \n')
+    if [ "$got" != 0a1b0a09702f622e70726f746f12017022030a0142620670726f746f330a350a07612e70726f746f1a09702f622e70726f746f22170a014112120a016218012001280b32042e702e42520162620670726f746f33 ]; then
+        echo "compile $plan: $got"
+        failures=$((failures + 1))
+    fi
+done
+expect 2 '' "$(./schema_server compile --root . --workers 65 2>&1)" '' compile --root . --workers 65
+expect 3 '' 'device: folder' '' compile --root "$folder/none"
+ln -s nowhere "$sources/c.proto"
+expect 3 '' 'device: folder' '' compile --root "$sources"
+rm "$sources/c.proto"
+printf '%simport "p/c.proto";' "$P" >"$sources/p/d.proto"
+expect 1 '' 'p/d.proto:1:27: ImportMissing' '' compile --root "$sources"
+./schema_server compile --root "$sources/../sources/p" >"$folder/output" 2>"$folder/faults"
+if [ "$?" != 1 ] || [ -s "$folder/output" ] || [ "$(cat "$folder/faults")" != 'd.proto:1:27: ImportMissing' ]; then
+    echo "a folder within: $(cat "$folder/faults")"
+    failures=$((failures + 1))
+fi
+rm "$sources/p/d.proto"
+./schema_server compile --root "$sources" >/dev/full 2>"$folder/faults"
+if [ "$?" != 3 ] || [ "$(cat "$folder/faults")" != 'device: output' ]; then
+    echo "a full device: $(cat "$folder/faults")"
+    failures=$((failures + 1))
+fi
 
 # Devices that fail.
 printf '%smessage A { int32 x = 1; }' "$P" | ./schema_server describe a.proto >/dev/full 2>"$folder/faults"

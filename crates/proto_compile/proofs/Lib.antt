@@ -1,5 +1,24 @@
+pub mod Answering
+pub mod Checks
+pub mod DescPlaces
+pub mod EarlyChecks
 pub mod Judging
+pub mod LateChecks
+pub mod LocalPlaces
+pub mod Making
+pub mod MessagePlaces
+pub mod OneAnswer
+pub mod OneCompilation
+pub mod OneLocal
+pub mod OneOrder
+pub mod OneTyping
+pub mod Placing
 pub mod Refusing
+pub mod Rising
+pub mod Serving
+pub mod Setting
 pub mod Sorting
+mod Tabling
 pub mod Typing
+pub mod Writing
 pub mod Zipping

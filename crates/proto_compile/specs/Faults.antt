@@ -1,6 +1,6 @@
 -- The first fault of sources. A later pass is judged only where every file has passed all earlier ones; within a pass the first is the least by file name,
 -- step, place and the number of its kind.
-use Rattle.std.specs.Prelude.{◌≡◌, ℕ, ◌<◌, ◌≤◌, List, [], length, take, string_bytes, slice_index_or, Some}
+use Rattle.std.specs.Prelude.{◌≡◌, ◌⊎◌, ℕ, ◌<◌, ◌≤◌, List, [], length, take, string_bytes, slice_index_or, Some, All, Contains}
 use Rattle.std.specs.List.{AllZip}
 use Rattle.proto_tokens.specs.Limits.{limit_of}
 use Rattle.proto_tokens.specs.declared.kind.Kind.{Kind}
@@ -14,7 +14,9 @@ use Rattle.proto_links.specs.Linked.{Linked}
 use Rattle.proto_checks.specs.Least.{IsLeast, spot}
 use Rattle.proto_names.specs.Index.{Index, IsRepeated}
 use Rattle.proto_names.specs.Occurrences.{occurrences}
-use Rattle.proto_compile.specs.Analysed.{AreTypedFrom, IsAnalysed, TypesBreakAt}
+use Rattle.wire_bytes.specs.Descriptor.{file_desc_bytes}
+use Rattle.proto_compile.specs.Analysed.{AreResolved, AreTypedFrom, IsAnalysed, TypesBreakAt}
+use Rattle.proto_compile.specs.Compilation.{Compilation, IsShort, IsWritten, set_of}
 use Rattle.proto_compile.specs.Descriptions.{Describe, SourceDescribes}
 use Rattle.proto_compile.specs.Local.{IsLocalFault}
 use Rattle.proto_compile.specs.Sources.{AreByName, AreSorted, IsFirstRepeated, name_at, name_of, text_of}
@@ -43,6 +45,9 @@ pub data IsFirstFault (limits : Limits) (sources : List Source) : (pass : ℕ) (
   name_twice : (files : List Source) (descs : List FileDesc) (a : ℕ) (place : Place) → Describe limits sources files descs → imports.NoneBad descs → IsRepeated descs limits a place → IsFirstFault limits sources 3 (imports.name_at descs a) 0 place kind.NameTwice
   in_types : (files : List Source) (descs done : List FileDesc) (links : Linked) (index : Index) (a : ℕ) (desc : FileDesc) (place : Place) (what : Kind) → IsAnalysed limits sources files descs links index
       → AreTypedFrom links index 0 (take a descs) done → StandsDesc descs a desc → IsLeast (TypesBreakAt links index a desc) (Some (spot place what)) → IsFirstFault limits sources 4 (imports.name_at descs a) 0 place what
+  descriptor_too_long : (files : List Source) (descs : List FileDesc) (links : Linked) (index : Index) (a : ℕ) (desc : FileDesc) → AreResolved limits sources files descs links index
+      → All (IsShort limits) (take a descs) → StandsDesc descs a desc → limit_of limits limit.DescriptorBytes < length (file_desc_bytes desc) → IsFirstFault limits sources 5 (imports.name_at descs a) 0 start kind.DescriptorTooLong
+  set_too_long : (c : Compilation) → IsWritten limits sources c → limit_of limits limit.SetBytes < length (set_of c.files c.links) → IsFirstFault limits sources 6 [] 0 start kind.SetTooLong
 
 -- the error is for want of memory, or names a fault that is so
 abbrev pub IsRefusal : (ℕ → List ℕ → ℕ → Place → Kind → Type 0) → CompileError → Type 0
@@ -53,3 +58,11 @@ IsRefusal P errors.NoMemory = Unit {0}
 abbrev pub Tells : ℕ → List ℕ → ℕ → Place → Kind → CompileError → Type 0
 Tells pass file step place kind (errors.First fault) = (fault.pass ≡ pass) × (string_bytes fault.file ≡ file) × (fault.step ≡ step) × (fault.place ≡ place) × (fault.kind ≡ kind)
 Tells pass file step place kind errors.NoMemory = Unit {0}
+
+-- ---- where faults stand
+
+-- a fault's file is one of the sources, unless the fault is one of the whole list; its place lies within the text of its file
+pub record IsPlaced (limits : Limits) (sources : List Source) (file : List ℕ) (place : Place) : Type 0 where
+  pub of_source : (file ≡ []) ⊎ ((s : Source) × Contains sources s × (name_of s ≡ file))
+  pub within : (s : Source) → Contains sources s → name_of s ≡ file → place.offset ≤ length (text_of s)
+  pub short : place.offset ≤ limit_of limits limit.FileBytes

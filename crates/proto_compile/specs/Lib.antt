@@ -1,4 +1,5 @@
 pub mod Analysed
+pub mod Compilation
 pub mod Descriptions
 pub mod Faults
 pub mod Local

@@ -19,10 +19,14 @@ pub record AreSorted (sources files : List Source) : Type 0 where
   pub all : IsPermutation sources files
   pub rises : (k : ℕ) → k + 1 < length files → slice_cmp nat_cmp (name_at files k) (name_at files (k + 1)) ≢ Greater
 
+-- each name comes before the next one, byte by byte
+abbrev pub NamesRise : List Source → Type 0
+NamesRise files = (k : ℕ) → k + 1 < length files → slice_cmp nat_cmp (name_at files k) (name_at files (k + 1)) ≡ Less
+
 -- the same sources, each before those of greater names
 pub record AreByName (sources files : List Source) : Type 0 where
   pub all : IsPermutation sources files
-  pub rises : (k : ℕ) → k + 1 < length files → slice_cmp nat_cmp (name_at files k) (name_at files (k + 1)) ≡ Less
+  pub rises : NamesRise files
 
 -- of sorted sources, the first of which the next one has the name
 pub record IsFirstRepeated (files : List Source) (k : ℕ) : Type 0 where

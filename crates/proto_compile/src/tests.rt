@@ -1,31 +1,44 @@
-//! Lists of sources and what is found of them: the first fault of each pass, and descriptors in the order of names.
+//! Lists of sources and what is found of them: the first fault of each pass, and the set of descriptors.
 
-use crate::{CompileError, Source, analyse};
+use crate::{CompileError, Compiled, Source, compile};
 use proto_tokens::{Limit, Limits};
-use std::alloc::AllocGlobal;
+use share_work::{NoGate, Plan};
 use std::test::Fail;
-use std::thread::Threads;
 
 /// The name of a file of a row, and its text.
 type File = (&'static str, &'static str);
 
-/// The names of the files that are described, or the first fault.
-fn answer<R>(rt: &R, files: &[File], limits: &Limits) -> Result<String, Fail>
-where
-    R: Threads + AllocGlobal + Sync,
-{
-    let alloc = rt.alloc();
-    let mut sources = Vec::new(alloc);
+fn sources_of<'s>(rt: &HostRuntime, files: &'s [File]) -> Result<Vec<Source<'s>>, Fail> {
+    let mut sources = Vec::new(rt.alloc());
     for (name, text) in files {
         let text = text.as_bytes();
         sources.push(Source { name, text })?;
     }
-    match analyse(rt, &sources, limits) {
-        Ok(analysis) => {
-            let mut names = String::from_str(alloc, "described:")?;
-            for desc in &analysis.descs {
-                let name = desc.name.as_str();
-                names.push_str(format!(in alloc; " {name}")?.as_str())?;
+    Ok(sources)
+}
+
+fn compiled(
+    rt: &HostRuntime,
+    files: &[File],
+    limits: &Limits,
+    plan: Plan,
+) -> Result<Result<Compiled, CompileError>, Fail> {
+    let sources = sources_of(rt, files)?;
+    Ok(compile(rt, &sources, limits, plan, &NoGate))
+}
+
+/// The names of the files in set order, or the first fault.
+fn answer(rt: &HostRuntime, files: &[File], limits: &Limits, plan: Plan) -> Result<String, Fail> {
+    let alloc = rt.alloc();
+    match compiled(rt, files, limits, plan)? {
+        Ok(compiled) => {
+            let mut names = String::from_str(alloc, "compiled:")?;
+            for file in compiled.links().set_order() {
+                for (name, _) in files {
+                    if compiled.file_id(name) == Some(*file) {
+                        names.push_str(format!(in alloc; " {name}")?.as_str())?;
+                    }
+                }
             }
             Ok(names)
         }
@@ -45,12 +58,12 @@ struct Row {
     answer: &'static str,
 }
 
-static ROWS: [Row; 25] = [
+static ROWS: [Row; 33] = [
     Row {
         title: "no files",
         files: &[],
         lowered: None,
-        answer: "described:",
+        answer: "compiled:",
     },
     Row {
         title: "files in another order than that of their names",
@@ -59,7 +72,7 @@ static ROWS: [Row; 25] = [
             ("a.proto", r#"syntax = "proto3"; import "b.proto";"#),
         ],
         lowered: None,
-        answer: "described: a.proto b.proto",
+        answer: "compiled: b.proto a.proto",
     },
     Row {
         title: "names in the order of their bytes",
@@ -69,7 +82,7 @@ static ROWS: [Row; 25] = [
             ("B.proto", r#"syntax = "proto3";"#),
         ],
         lowered: None,
-        answer: "described: B.proto a.proto a/b.proto",
+        answer: "compiled: B.proto a.proto a/b.proto",
     },
     Row {
         title: "as many files as there may be",
@@ -78,7 +91,7 @@ static ROWS: [Row; 25] = [
             ("b.proto", r#"syntax = "proto3";"#),
         ],
         lowered: Some((Limit::Files, 2)),
-        answer: "described: a.proto b.proto",
+        answer: "compiled: a.proto b.proto",
     },
     Row {
         title: "two files of one name",
@@ -200,7 +213,7 @@ static ROWS: [Row; 25] = [
             r#"syntax = "proto3"; message A { int32 x = 1; }"#,
         )],
         lowered: Some((Limit::Names, 2)),
-        answer: "described: a.proto",
+        answer: "compiled: a.proto",
     },
     Row {
         title: "too many names",
@@ -239,7 +252,7 @@ static ROWS: [Row; 25] = [
             r#"syntax = "proto3"; package a.b; message a { .a.b.C x = 1; } message C {}"#,
         )],
         lowered: None,
-        answer: "described: a.proto",
+        answer: "compiled: a.proto",
     },
     Row {
         title: "an enum as a method's type",
@@ -259,17 +272,156 @@ static ROWS: [Row; 25] = [
         lowered: None,
         answer: "pass 4, file [a.proto], step 0, at 49: PackedOnMessage",
     },
+    Row {
+        title: "a descriptor of as many bytes as there may be",
+        files: &[("a.proto", POINT)],
+        lowered: Some((Limit::DescriptorBytes, 36)),
+        answer: "compiled: a.proto",
+    },
+    Row {
+        title: "a descriptor of one byte more",
+        files: &[("a.proto", POINT)],
+        lowered: Some((Limit::DescriptorBytes, 35)),
+        answer: "pass 5, file [a.proto], step 0, at 0: DescriptorTooLong",
+    },
+    Row {
+        title: "two long descriptors, the first in set order the second by name",
+        files: &[
+            ("b.proto", r#"syntax = "proto3"; message B {}"#),
+            ("a.proto", r#"syntax = "proto3"; import "b.proto";"#),
+        ],
+        lowered: Some((Limit::DescriptorBytes, 1)),
+        answer: "pass 5, file [a.proto], step 0, at 0: DescriptorTooLong",
+    },
+    Row {
+        title: "a long descriptor, and an unknown type of a later file",
+        files: &[
+            ("a.proto", POINT),
+            ("b.proto", r#"syntax = "proto3"; message B { X x = 1; }"#),
+        ],
+        lowered: Some((Limit::DescriptorBytes, 35)),
+        answer: "pass 4, file [b.proto], step 0, at 31: TypeNotFound",
+    },
+    Row {
+        title: "a set of as many bytes as there may be",
+        files: &[("a.proto", POINT)],
+        lowered: Some((Limit::SetBytes, 38)),
+        answer: "compiled: a.proto",
+    },
+    Row {
+        title: "a set of one byte more",
+        files: &[("a.proto", POINT)],
+        lowered: Some((Limit::SetBytes, 37)),
+        answer: "pass 6, file [], step 0, at 0: SetTooLong",
+    },
+    Row {
+        title: "a type that is seen by public imports",
+        files: &SEEN,
+        lowered: None,
+        answer: "compiled: d.proto c.proto b.proto a.proto",
+    },
+    Row {
+        title: "a type that a private import of an import has",
+        files: &[
+            (
+                "a.proto",
+                r#"syntax = "proto3"; import "b.proto"; message A { D d = 1; }"#,
+            ),
+            ("b.proto", r#"syntax = "proto3"; import public "c.proto";"#),
+            ("c.proto", r#"syntax = "proto3"; import "d.proto";"#),
+            ("d.proto", r#"syntax = "proto3"; message D {}"#),
+        ],
+        lowered: None,
+        answer: "pass 4, file [a.proto], step 0, at 49: TypeNotFound",
+    },
+];
+
+/// A file whose descriptor has 36 bytes.
+const POINT: &str = r#"syntax = "proto3"; message A { int32 x = 1; }"#;
+
+/// Files whose set order is that of their names turned round.
+static SEEN: [File; 4] = [
+    (
+        "a.proto",
+        r#"syntax = "proto3"; import "b.proto"; message A { D d = 1; }"#,
+    ),
+    ("b.proto", r#"syntax = "proto3"; import public "c.proto";"#),
+    ("c.proto", r#"syntax = "proto3"; import public "d.proto";"#),
+    ("d.proto", r#"syntax = "proto3"; message D {}"#),
 ];
 
 #[test]
-fn first_faults(rt: HostRuntime) -> Result<(), Fail> {
+fn answers(rt: HostRuntime) -> Result<(), Fail> {
     for row in &ROWS {
         let limits = match row.lowered {
             Some((limit, value)) => Limits::standard().lowered(limit, value).ok_or("a limit")?,
             None => Limits::standard(),
         };
-        let found = answer(&rt, row.files, &limits)?;
-        assert_eq!(rt; found.as_str(), row.answer, "{}", row.title);
+        for (workers, cut) in [(1, 1), (2, 1), (64, 4_096)] {
+            let plan = Plan::new(workers, cut).ok_or("a plan")?;
+            let found = answer(&rt, row.files, &limits, plan)?;
+            assert_eq!(rt;
+                found.as_str(),
+                row.answer,
+                "{}, {workers} workers",
+                row.title
+            );
+        }
     }
+    Ok(())
+}
+
+#[test]
+fn one_file(rt: HostRuntime) -> Result<(), Fail> {
+    let limits = Limits::standard();
+    let compiled = compiled(&rt, &[("a.proto", POINT)], &limits, Plan::single())?
+        .ok()
+        .ok_or("a compilation")?;
+    let descriptor: &[u8] =
+        b"\x0a\x07a.proto\x22\x11\x0a\x01A\x12\x0c\x0a\x01x\x18\x01\x20\x01\x28\x05\x52\x01x\x62\x06proto3";
+    let set = compiled.set_bytes(rt.alloc())?;
+    assert_eq!(rt; &set[..2], b"\x0a\x24".as_slice());
+    assert_eq!(rt; &set[2..], descriptor);
+    assert_eq!(rt; compiled.bytes_of("a.proto"), Some(descriptor));
+    assert_eq!(rt; compiled.bytes_of("a"), None);
+    assert_eq!(rt; compiled.file_id("a.proto"), Some(0));
+    assert_eq!(rt; compiled.file_id(""), None);
+    assert_eq!(rt; compiled.bytes_at(0), descriptor);
+    assert_eq!(rt; compiled.links().count(), 1);
+    assert!(rt; compiled.names().find("A.x").is_some());
+    assert_eq!(rt; compiled.limits().get(Limit::SetBytes), 1_073_741_824);
+    Ok(())
+}
+
+#[test]
+fn several_files(rt: HostRuntime) -> Result<(), Fail> {
+    let limits = Limits::standard();
+    let compiled = compiled(&rt, &SEEN, &limits, Plan::single())?
+        .ok()
+        .ok_or("a compilation")?;
+    let descriptors: [(&str, &[u8]); 4] = [
+        ("d.proto", b"\x0a\x07d.proto\x22\x03\x0a\x01D\x62\x06proto3"),
+        (
+            "c.proto",
+            b"\x0a\x07c.proto\x1a\x07d.proto\x50\x00\x62\x06proto3",
+        ),
+        (
+            "b.proto",
+            b"\x0a\x07b.proto\x1a\x07c.proto\x50\x00\x62\x06proto3",
+        ),
+        (
+            "a.proto",
+            b"\x0a\x07a.proto\x1a\x07b.proto\x22\x15\x0a\x01A\x12\x10\x0a\x01d\x18\x01\x20\x01\x28\x0b\x32\x02.D\x52\x01d\x62\x06proto3",
+        ),
+    ];
+    let mut set = Vec::new(rt.alloc());
+    for (position, (name, descriptor)) in descriptors.iter().enumerate() {
+        assert_eq!(rt; compiled.file_id(name), Some(3 - position), "{name}");
+        assert_eq!(rt; compiled.bytes_of(name), Some(*descriptor), "{name}");
+        set.push(0x0A)?;
+        set.push(descriptor.len() as u8)?;
+        set.extend_from_slice(descriptor)?;
+    }
+    assert_eq!(rt; compiled.set_bytes(rt.alloc())?.as_slice(), set.as_slice());
     Ok(())
 }

@@ -1,6 +1,7 @@
 //! The pass over the types that files name.
 
-ghost use Rattle.std.specs.Prelude.{◌≡◌, ℕ, List, length, IfOk, IfErr};
+ghost use Rattle.std.specs.Prelude.{◌≡◌, ℕ, List, length, All, true, IfOk, IfErr};
+ghost use Rattle.proto_desc.specs.Resolved.{file_resolved};
 ghost use Rattle.proto_compile.specs.Analysed.{AreResolved, AreTypedFrom, IsAnalysed};
 ghost use Rattle.proto_compile.specs.Faults.{IsFirstFault, IsRefusal};
 ghost use Rattle.proto_compile.specs.Steps.{TellsType};
@@ -44,6 +45,7 @@ pub(crate) fn all_typed<'s>(
     requires links { count_of links.now ≡ length descs.items }
     requires index { index.now.files ≡ length descs.items }
     ensures typed { IfOk result (λ gs. AreTypedFrom links.now index.now 0 descs.entry.items gs.items) }
+    ensures whole { IfOk result (λ gs. All (λ desc. file_resolved desc ≡ true) gs.items) }
     ensures first { (limits : Limits) (sources : List Source) → IsAnalysed limits sources files.now descs.entry.items links.now index.now → IfErr result (IsRefusal (IsFirstFault limits sources)) }
 {
     let mut done = Vec::new(alloc);
@@ -71,6 +73,7 @@ pub fn analyse<'s, R>(
 where
     R: Threads + AllocGlobal + Sync,
     ensures resolved { IfOk result (λ a. AreResolved limits.now sources.now a.files.items a.descs.items a.links a.index) }
+    ensures whole { IfOk result (λ a. All (λ desc. file_resolved desc ≡ true) a.descs.items) }
     ensures first { IfErr result (IsRefusal (IsFirstFault limits.now sources.now)) }
 {
     let Analysis {

@@ -1,5 +1,7 @@
 mod Faulting
 mod Named
 mod Positions
+pub mod Rising
 mod Search
 mod Targeting
+pub mod Unique

@@ -5,10 +5,12 @@
 
 mod faults;
 mod graph;
+mod laws;
 mod linking;
 mod links;
 mod order;
 
+pub use laws::links_are_unique;
 pub use linking::{LinkError, link};
 pub use links::{FileId, Links};
 pub use order::in_name_order;

@@ -1,6 +1,7 @@
 pub mod Around
 pub mod Built
 pub mod Collecting
+pub mod Chaining
 pub mod Comparing
 pub mod Fronts
 pub mod Looking
@@ -9,3 +10,4 @@ pub mod Occurring
 pub mod Ordered
 pub mod Repeating
 pub mod Searching
+pub mod Unique

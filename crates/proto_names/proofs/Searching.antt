@@ -1,5 +1,5 @@
 -- Halving among entries in the order of their names.
-use Rattle.std.proofs.Common.{◌≡◌, ◌≢◌, ◌∙◌, sym, ℕ, ◌+◌, ◌-◌, ◌<◌, ◌≤◌, List, length, take, drop, get_or, ap, refl, subst, arith, inl, inr, Ordering, Less, Equal, Greater, true, false}
+use Rattle.std.proofs.Common.{◌≡◌, ◌≢◌, ◌∙◌, sym, ℕ, ◌+◌, ◌-◌, ◌<◌, ◌≤◌, List, [], length, map, take, drop, get_or, ap, refl, subst, arith, inl, inr, Ordering, Less, Equal, Greater, true, false}
 use Rattle.std.specs.Prelude.{Contains, IsSortedByKey, ◌↔◌}
 use Rattle.std.specs.Cmp.Lexicographic.{slice_cmp}
 use Rattle.std.specs.List.Sorted.{IsPartitionedBy, IsPartitionPoint, IsNonDecreasingBy}
@@ -7,9 +7,13 @@ use Rattle.std.specs.Ordering.{nat_cmp, is_lt, is_eq, ordering_index, ordering_r
 use Rattle.std.proofs.lemmas.Bool.{cases_lt, true≢false}
 use Rattle.std.proofs.lemmas.Cmp.{nat_list_cmp_total}
 use Rattle.std.proofs.lemmas.List.Sorted.{searchable_from_sorted}
-use Rattle.std.proofs.lemmas.List.{get_or-drop, get_or-take, length-drop, length-take}
+use Rattle.std.proofs.lemmas.List.{get_or-drop, get_or-take, length-drop, length-map, length-take}
 use Rattle.std.proofs.lemmas.Map.Lookups.{exact_bytes}
-use Rattle.proto_names.specs.Entries.{entry_name}
+use Rattle.proto_names.proofs.Repeating.{at_get}
+use Rattle.proto_names.specs.Chains.{IsStart, IsNowhere}
+use Rattle.proto_names.specs.Entries.{entry_name, occurrence}
+use Rattle.proto_names.specs.Occurrences.{Occurrence}
+use Rattle.proto_names.specs.Runs.{at}
 use Rattle.proto_names.specs.declared.entries.Entry.{Entry}
 
 reverse_same : (o : Ordering) → o ≡ ordering_reverse o → o ≡ Equal
@@ -42,9 +46,6 @@ lt_less Less h = refl
 lt_less Equal h = absurd (true≢false (sym h))
 lt_less Greater h = absurd (true≢false (sym h))
 
-pub not_lt_less : (o : Ordering) → is_lt o ≡ false → o ≢ Less
-not_lt_less o h e = true≢false (ap is_lt (sym e) ∙ h)
-
 pub eq_equal : (o : Ordering) → is_eq o ≡ true → o ≡ Equal
 eq_equal Less h = absurd (true≢false (sym h))
 eq_equal Equal h = refl
@@ -63,13 +64,73 @@ module _ (es : List Entry) (target : List ℕ) (up : IsSortedByKey entry_name (s
   pub parted_equal : ((k : ℕ) (d : Entry) → k < length es → slice_cmp nat_cmp (entry_name (get_or es k d)) target ≢ Less) → IsPartitionedBy (λ e. is_eq (slice_cmp nat_cmp (entry_name e) target)) es
   parted_equal behind i j d h inside t = eq_index _ _ (rises i j d h inside) (behind i d (omega arith)) t
 
-pub less_point : (es : List Entry) (target : List ℕ) (n : ℕ) → IsPartitionPoint (λ e. is_lt (slice_cmp nat_cmp (entry_name e) target) ≡ true) (λ e. is_lt (slice_cmp nat_cmp (entry_name e) target) ≡ false) es n
-    → IsPartitionPoint (λ e. slice_cmp nat_cmp (entry_name e) target ≡ Less) (λ e. slice_cmp nat_cmp (entry_name e) target ≢ Less) es n
-less_point es target n p = (λ k d a b. lt_less _ (p.0 k d a b), λ k d a b. not_lt_less _ (p.1 k d a b))
-
 pub equal_point : (es : List Entry) (target : List ℕ) (n : ℕ) → IsPartitionPoint (λ e. is_eq (slice_cmp nat_cmp (entry_name e) target) ≡ true) (λ e. is_eq (slice_cmp nat_cmp (entry_name e) target) ≡ false) es n
     → IsPartitionPoint (λ e. entry_name e ≡ target) (λ e. entry_name e ≢ target) es n
 equal_point es target n p = (λ k d a b. exact_bytes _ _ (eq_equal _ (p.0 k d a b)), λ k d a b e. not_eq_equal _ (p.1 k d a b) (itself_equal _ _ e))
+
+lower : (o p : Ordering) → ordering_index o ≤ ordering_index p → p ≡ Equal → o ≢ Equal → is_lt o ≡ true
+lower Less p h e n = refl
+lower Equal p h e n = absurd (n refl)
+lower Greater p h e n = let h' = rw e at h in absurd (omega (arith, h'))
+
+less_lt : (o : Ordering) → o ≡ Less → is_lt o ≡ true
+less_lt o e = ap is_lt e
+
+pub name_at : (es : List Entry) (k : ℕ) (d : Entry) → k < length es → (at (map occurrence es) k).name ≡ entry_name (get_or es k d)
+name_at es k d h = ap (λ (o : Occurrence). o.name) (at_get es k d h)
+
+-- where a name begins, all before it come before it
+module _ (es : List Entry) (target : List ℕ) (start : ℕ) (up : IsSortedByKey entry_name (slice_cmp nat_cmp) es) (is : IsStart (map occurrence es) target start) where
+  inside : start < length es
+  inside = let l = length-map es occurrence in let w = is.within in omega (arith, l, w)
+
+  equal : (d : Entry) → slice_cmp nat_cmp (entry_name (get_or es start d)) target ≡ Equal
+  equal d = itself_equal _ _ (sym (name_at es start d inside) ∙ is.named)
+
+  differs : (d : Entry) → 0 < start → slice_cmp nat_cmp (entry_name (get_or es (start - 1) d)) target ≢ Equal
+  differs d some e = is.begins some (name_at es (start - 1) d (let h = inside in omega (arith, h)) ∙ exact_bytes _ _ e ∙ sym is.named)
+
+  before : (k : ℕ) (d : Entry) → k < start → slice_cmp nat_cmp (entry_name (get_or es k d)) target ≡ Less
+  before k d h =
+      let in_ = inside in
+      let next : start - 1 ≤ start = omega arith in
+      let last = lower _ _ (rises es target up (start - 1) start d next in_) (equal d) (differs d (omega (arith, h))) in
+      lt_less _ (parted_less es target up k (start - 1) d (omega (arith, h)) (omega (arith, h, in_)) last)
+
+  behind : (k : ℕ) (d : Entry) → start ≤ k → k < length es → slice_cmp nat_cmp (entry_name (get_or es k d)) target ≢ Less
+  behind k d h below less = not_both (lt_less _ (parted_less es target up start k d h below (less_lt _ less))) (equal d)
+    where
+      not_both : {o : Ordering} → o ≡ Less → o ≡ Equal → ⊥
+      not_both a b = cc
+
+  pub start_point : IsPartitionPoint (λ e. slice_cmp nat_cmp (entry_name e) target ≡ Less) (λ e. slice_cmp nat_cmp (entry_name e) target ≢ Less) es start
+  start_point = (λ k d a b. before k d b, λ k d a b. behind k d a b)
+
+  pub start_below : start < length es
+  start_below = inside
+
+pub start_named : (es : List Entry) (target : List ℕ) (start : ℕ) → IsStart (map occurrence es) target start → start < length es → (d : Entry) → entry_name (get_or (drop start es) 0 d) ≡ target
+start_named es target start is below d =
+    let back : start + 0 ≡ start = omega arith in
+    ap entry_name (get_or-drop start es 0 d ∙ ap (λ k. get_or es k d) back) ∙ sym (name_at es start d below) ∙ is.named
+
+-- where the second has another name than the first, the first is alone
+pub one_point : (es : List Entry) (target : List ℕ) → IsSortedByKey entry_name (slice_cmp nat_cmp) es → ((k : ℕ) (d : Entry) → k < length es → slice_cmp nat_cmp (entry_name (get_or es k d)) target ≢ Less)
+    → ((d : Entry) → entry_name (get_or es 0 d) ≡ target) → ((d : Entry) → 1 < length es → entry_name (get_or es 1 d) ≢ target) → IsPartitionPoint (λ e. entry_name e ≡ target) (λ e. entry_name e ≢ target) es 1
+one_point es target up behind first second = (
+  λ k d a b. (let zeroth : 0 ≡ k = omega arith in subst (λ i. entry_name (get_or es i d) ≡ target) zeroth (first d)),
+  λ k d a b e. second d (omega (arith, a, b)) (exact_bytes _ _ (eq_equal _ (parted_equal es target up behind 1 k d a b (ap is_eq (itself_equal _ _ e))))),
+)
+
+no_entry : (e : Entry) → Contains {X = Entry} [] e → ⊥
+no_entry e (k, h, is) = omega (arith, h)
+
+-- of a name that stands nowhere there are no entries
+pub none_is : (es : List Entry) (target : List ℕ) → IsNowhere (map occurrence es) target → (e : Entry) → Contains {X = Entry} [] e ↔ (Contains es e × (entry_name e ≡ target))
+none_is es target none e = (
+  λ w. absurd (no_entry e w),
+  λ w. (let l = length-map es occurrence in absurd (none w.0.0 (omega (arith, l, w.0.1)) (name_at es w.0.0 e w.0.1 ∙ ap entry_name w.0.2 ∙ w.1))),
+)
 
 -- what is behind a place is in order too
 pub drop_sorted : (es : List Entry) (n : ℕ) → n ≤ length es → IsSortedByKey entry_name (slice_cmp nat_cmp) es → IsSortedByKey entry_name (slice_cmp nat_cmp) (drop n es)

@@ -1,4 +1,6 @@
+pub mod Chains
 pub mod Entries
+pub mod Hashes
 pub mod Index
 pub mod Occurrences
 pub mod Order

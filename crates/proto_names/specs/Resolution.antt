@@ -1,5 +1,5 @@
 -- What a spelled name means in a scope (language guide, "Packages and Name Resolution").
-use Rattle.std.specs.Prelude.{◌≡◌, ◌⊎◌, ℕ, ◌≤◌, List, ◌∷◌, length, take, Bool, true, false, IsTrue, Option, None, Some, Contains, MatchOption}
+use Rattle.std.specs.Prelude.{◌≡◌, ◌⊎◌, ◌↔◌, ℕ, ◌≤◌, List, ◌∷◌, length, take, Bool, true, false, IsTrue, Option, None, Some, Contains, MatchOption}
 use Rattle.std.specs.List.{position}
 use Rattle.proto_desc.specs.DeclaredNames.{scoped}
 use Rattle.proto_desc.specs.declared.name_kind.NameKind.{NameKind}
@@ -80,3 +80,11 @@ ResolvesNowhere os Seen scope spelled = (full : List ℕ) (what : NameKind) → 
 -- the files that a file sees
 abbrev pub SeenBy : Linked → ℕ → ℕ → Type 0
 SeenBy links file b = IsTrue (sees links file b)
+
+-- the same occurrences, as far as they are seen
+abbrev pub AreSeenAlike : List Occurrence → (ℕ → Type 0) → List Occurrence → (ℕ → Type 0) → Type 0
+AreSeenAlike os Seen ps Sees = (o : Occurrence) → (Contains os o × Seen o.file) ↔ (Contains ps o × Sees o.file)
+
+-- the files of which a test is true
+abbrev pub IsSeen : (ℕ → Bool) → ℕ → Type 0
+IsSeen sees b = IsTrue (sees b)

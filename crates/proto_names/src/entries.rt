@@ -1,16 +1,11 @@
 //! The entries of an index: the occurrences of full names.
 
-ghost use Rattle.std.specs.Prelude.{◌≡◌, ◌≢◌, ◌↔◌, ℕ, ◌<◌, ◌≤◌, ◌++◌, ◌∷◌, [], List, map, length, IfOk, OnOk, All, IsPermutation, string_bytes, Contains, IsSortedByKey};
+ghost use Rattle.std.specs.Prelude.{◌≡◌, ◌↔◌, ◌++◌, ◌∷◌, [], map, length, IfOk, IsTrue, OnOk, IsPermutation, string_bytes};
 ghost use Rattle.std.specs.Cmp.Lexicographic.{slice_cmp};
-ghost use Rattle.std.specs.List.Sorted.{IsPartitionPoint};
-ghost use Rattle.std.specs.Ordering.{nat_cmp, is_lt, is_eq};
-ghost use Rattle.std.specs.declared.cmp.Ordering.TheVariants.{Less};
+ghost use Rattle.std.specs.Ordering.{nat_cmp};
 ghost use Rattle.proto_desc.specs.DeclaredNames.{scoped};
 ghost use Rattle.proto_names.specs.Entries.{entry_name, occurrence};
-ghost use Rattle.proto_names.specs.Index.{AreInNameOrder};
 ghost use Rattle.proto_names.specs.Order.{AreInOrder};
-ghost use Rattle.proto_names.specs.Occurrences.{Occurrence};
-ghost use Rattle.proto_names.specs.declared.entries.Entry.{Entry};
 
 use proto_desc::name_kind::NameKind;
 use proto_links::FileId;
@@ -95,15 +90,6 @@ impl Entries {
     {
         par_sort(rt, alloc, &mut self.entries)
     }
-
-    /// The entries of the name in a scope.
-    pub(crate) fn named(&self, scope: &str, name: &str) -> &[Entry]
-        requires { AreInNameOrder self.now }
-        ensures found { (o : Occurrence) → Contains (map occurrence result.now) o → Contains self.now o × (o.name ≡ scoped scope.now name.now) }
-        ensures all { (o : Occurrence) → Contains self.now o → o.name ≡ scoped scope.now name.now → Contains (map occurrence result.now) o }
-    {
-        entries_named(self.entries.as_slice(), scope, name)
-    }
 }
 
 /// A name in a scope; the scope of what stands in no package is empty.
@@ -147,38 +133,9 @@ pub(crate) fn compare(full: &str, scope: &str, name: &str) -> Ordering
     }
 }
 
-/// How many entries come before the name in a scope.
-fn count_before(entries: &[Entry], scope: &str, name: &str) -> usize
-    requires { IsSortedByKey entry_name (slice_cmp nat_cmp) entries.now }
-    ensures bound { result ≤ length entries.now }
-    ensures point { IsPartitionPoint (λ e. slice_cmp nat_cmp (entry_name e) (scoped scope.now name.now) ≡ Less) (λ e. slice_cmp nat_cmp (entry_name e) (scoped scope.now name.now) ≢ Less) entries.now result }
+/// Whether an entry has the name in a scope.
+pub(crate) fn has_name(entry: &Entry, scope: &str, name: &str) -> bool
+    ensures { IsTrue result ↔ (entry_name entry.now ≡ scoped scope.now name.now) }
 {
-    entries.partition_point(
-        |entry: &Entry| -> bool
-            ensures { result ≡ is_lt (slice_cmp nat_cmp (entry_name entry.now) (scoped scope.entry.now name.entry.now)) }
-        { compare(entry.name.as_str(), scope, name).is_lt() },
-    )
-}
-
-/// How many of the entries have the name in a scope, where none comes before it.
-fn count_named(entries: &[Entry], scope: &str, name: &str) -> usize
-    requires order { IsSortedByKey entry_name (slice_cmp nat_cmp) entries.now }
-    requires behind { All (λ e. slice_cmp nat_cmp (entry_name e) (scoped scope.now name.now) ≢ Less) entries.now }
-    ensures bound { result ≤ length entries.now }
-    ensures point { IsPartitionPoint (λ e. entry_name e ≡ scoped scope.now name.now) (λ e. entry_name e ≢ scoped scope.now name.now) entries.now result }
-{
-    entries.partition_point(
-        |entry: &Entry| -> bool
-            ensures { result ≡ is_eq (slice_cmp nat_cmp (entry_name entry.now) (scoped scope.entry.now name.entry.now)) }
-        { compare(entry.name.as_str(), scope, name).is_eq() },
-    )
-}
-
-/// The entries of the name in a scope, by halving.
-fn entries_named<'e>(entries: &'e [Entry], scope: &str, name: &str) -> &'e [Entry]
-    requires { IsSortedByKey entry_name (slice_cmp nat_cmp) entries.now }
-    ensures { (e : Entry) → Contains result.now e ↔ (Contains entries.now e × (entry_name e ≡ scoped scope.now name.now)) }
-{
-    let behind = &entries[count_before(entries, scope, name)..];
-    &behind[..count_named(behind, scope, name)]
+    compare(entry.name.as_str(), scope, name).is_eq()
 }

@@ -14,7 +14,8 @@ ghost use Rattle.proto_tokens.specs.declared.limits.Limit.TheVariants as limit;
 ghost use Rattle.proto_tokens.specs.declared.place.Place.{Place};
 
 use crate::collect::collect;
-use crate::entries::{Entries, Entry};
+use crate::entries::Entry;
+use crate::table::EntryTable;
 use crate::twice::first_twice;
 use proto_desc::file::FileDesc;
 use proto_desc::name_kind::NameKind;
@@ -77,7 +78,7 @@ pub struct Defined {
 #[derive(Debug, Drop)]
 pub struct NameIndex {
     pub(crate) files: usize,
-    pub(crate) entries: Entries,
+    pub(crate) entries: EntryTable,
     /// The names of the services, in byte order.
     pub(crate) services: Vec<String>,
 }
@@ -115,6 +116,7 @@ impl NameIndex {
             return Err(NameError::At(spot.file, spot.place));
         }
         let services = service_names(alloc, entries.as_slice())?;
+        let entries = EntryTable::new(alloc, entries)?;
         let files = files.len();
         Ok(NameIndex {
             files,

@@ -1,11 +1,12 @@
 //! What a spelled name means in a scope, as a type.
 
-ghost use Rattle.std.specs.Prelude.{◌≡◌, ◌↔◌, ℕ, ◌<◌, List, Err, IfOk, IsTrue, MatchOption, string_bytes};
+ghost use Rattle.std.specs.Prelude.{◌≡◌, ◌↔◌, ℕ, ◌<◌, List, Bool, Err, IfOk, IsTrue, MatchOption, string_bytes};
 ghost use Rattle.proto_desc.specs.DeclaredNames.{scoped};
 ghost use Rattle.proto_desc.specs.declared.name_kind.NameKind.{NameKind};
 ghost use Rattle.proto_desc.specs.declared.name_kind.NameKind.TheVariants as kinds;
 ghost use Rattle.proto_links.specs.Linked.{count_of};
-ghost use Rattle.proto_names.specs.Resolution.{SeenBy, Decides, IsInnermost, IsType, Resolves, ResolvesNowhere, Visible};
+ghost use Rattle.proto_names.specs.Occurrences.{Occurrence};
+ghost use Rattle.proto_names.specs.Resolution.{AreSeenAlike, SeenBy, Decides, IsInnermost, IsSeen, IsType, Resolves, ResolvesNowhere, Visible};
 ghost use Rattle.proto_names.specs.Scopes.{IsCandidate};
 ghost use Rattle.proto_names.specs.Steps.{IsMeant, MeansNothing, fits};
 ghost use Rattle.proto_names.specs.declared.resolve.ResolveError.TheVariants as errors;
@@ -205,3 +206,12 @@ impl NameIndex {
         Ok(Resolved { full_name, kind })
     }
 }
+
+/// A spelled name means one thing in a scope: the same occurrences, as far as they are seen, give it one full name and
+/// one kind, whatever their order.
+pub fn resolution_is_unique()
+    ensures one { (os ps : List Occurrence) (seen sees : ℕ → Bool) (scope spelled full other : List ℕ) (what kind : NameKind) → AreSeenAlike os (IsSeen seen) ps (IsSeen sees)
+        → Resolves os (IsSeen seen) scope spelled full what → Resolves ps (IsSeen sees) scope spelled other kind → (full ≡ other) × (what ≡ kind) }
+    ensures same { (os ps : List Occurrence) (seen sees : ℕ → Bool) (scope spelled full : List ℕ) (what : NameKind) → AreSeenAlike os (IsSeen seen) ps (IsSeen sees)
+        → Resolves os (IsSeen seen) scope spelled full what → Resolves ps (IsSeen sees) scope spelled full what }
+{}

@@ -23,7 +23,7 @@ fn have_one_name(first: &Entry, second: &Entry) -> bool
 }
 
 /// Whether what stands at a place has the name of what stands before it.
-fn continues(entries: &[Entry], place: usize) -> bool
+pub(crate) fn continues(entries: &[Entry], place: usize) -> bool
     requires { place < length entries.now }
     ensures same { IsTrue result → (0 < place) × ((at (map occurrence entries.now) (place - 1)).name ≡ (at (map occurrence entries.now) place).name) }
     ensures other { result ≡ false → 0 < place → (at (map occurrence entries.now) (place - 1)).name ≢ (at (map occurrence entries.now) place).name }

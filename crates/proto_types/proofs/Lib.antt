@@ -1,3 +1,4 @@
 mod Meanings
 mod Walking
 mod Trees
+pub mod Unique

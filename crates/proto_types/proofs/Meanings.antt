@@ -1,9 +1,8 @@
 -- The faults of one reference, by what its name means.
-use Rattle.std.proofs.Common.{◌≡◌, ◌∙◌, sym, ℕ, List, ◌∷◌, ap, refl, subst, inl, inr}
+use Rattle.std.proofs.Common.{◌≡◌, ◌∙◌, sym, ℕ, List, ◌∷◌, refl, inl, inr}
 use Rattle.std.specs.Prelude.{Option, Some, None, Result, Ok, Err, IfOk}
 use Rattle.proto_tokens.specs.declared.kind.Kind.TheVariants as kind
 use Rattle.proto_tokens.specs.declared.place.Place.{Place}
-use Rattle.proto_desc.specs.DeclaredNames.{scoped}
 use Rattle.proto_desc.specs.declared.name_kind.NameKind.{NameKind}
 use Rattle.proto_desc.specs.declared.name_kind.NameKind.TheVariants as name_kind
 use Rattle.proto_desc.specs.declared.options.OptionDesc.{OptionDesc}
@@ -13,32 +12,20 @@ use Rattle.proto_checks.specs.declared.spot.Spot.{Spot}
 use Rattle.proto_checks.proofs.Among.{least_single}
 use Rattle.proto_checks.proofs.Sets.{least_none, least_same, least_one}
 use Rattle.proto_names.specs.Occurrences.{Occurrence}
-use Rattle.proto_names.specs.Resolution.{IsType, Means, Resolves, ResolvesNowhere}
+use Rattle.proto_names.specs.Resolution.{IsType, Resolves, ResolvesNowhere}
 use Rattle.proto_names.specs.Resolution.IsType.{message, enumeration}
 use Rattle.proto_names.specs.declared.resolve.Want.{Want}
 use Rattle.proto_names.specs.declared.resolve.Want.TheVariants as want
-use Rattle.proto_names.proofs.Meaning.{innermost_same}
+use Rattle.proto_names.proofs.Unique.{resolves_one}
 use Rattle.proto_types.specs.References.{Reference, ReferenceBreaks}
 use Rattle.proto_desc.specs.declared.type_name.TypeReference.{TypeReference}
 use Rattle.proto_desc.specs.declared.type_name.TypeReference.TheVariants.{Spelled, Resolved}
 use Rattle.proto_types.specs.Steps.{IsPackedFault, IsWalkedType, SetsPacked, type_kind_of}
 use Rattle.proto_types.specs.Typed.{named_by}
 
--- a spelled name means one full name
-means_one : (os : List Occurrence) (Seen : ℕ → Type 0) (scope spelled a b : List ℕ) → Means os Seen scope spelled a → Means os Seen scope spelled b → a ≡ b
-means_one os Seen scope spelled a b (inl e) (inl f) = cc
-means_one os Seen scope spelled a b (inl e) (inr w) = absurd (w.0 a e)
-means_one os Seen scope spelled a b (inr v) (inl f) = absurd (v.0 b f)
-means_one os Seen scope spelled a b (inr v) (inr w) = v.3 ∙ ap (λ c. scoped c spelled) (innermost_same os Seen scope spelled v.1 w.1 v.2 w.2) ∙ sym w.3
-
 -- a name of a message names no enum
-type_apart : (os : List Occurrence) (Seen : ℕ → Type 0) (full : List ℕ) (k l : NameKind) → IsType os Seen full k → IsType os Seen full l → k ≡ name_kind.Message → l ≡ name_kind.Enum → ⊥
-type_apart os Seen full k l (message seen) (message other) e f = cc
-type_apart os Seen full k l (message seen) (enumeration other none) e f = none seen
-type_apart os Seen full k l (enumeration seen none) t e f = cc
-
 pub apart : (os : List Occurrence) (Seen : ℕ → Type 0) (scope spelled a b : List ℕ) → Resolves os Seen scope spelled a name_kind.Message → Resolves os Seen scope spelled b name_kind.Enum → ⊥
-apart os Seen scope spelled a b h k = type_apart os Seen b name_kind.Message name_kind.Enum (subst (λ full. IsType os Seen full name_kind.Message) (means_one os Seen scope spelled a b h.means k.means) h.type) k.type refl refl
+apart os Seen scope spelled a b h k = let same : name_kind.Message ≡ name_kind.Enum = (resolves_one os Seen scope spelled a b name_kind.Message name_kind.Enum h k).1 in cc
 
 -- what a name of a type is declared for
 pub kind_named : (os : List Occurrence) (Seen : ℕ → Type 0) (full : List ℕ) (k : NameKind) → IsType os Seen full k → named_by (type_kind_of k) ≡ k

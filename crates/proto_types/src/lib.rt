@@ -6,4 +6,4 @@
 mod typing;
 mod typist;
 
-pub use typing::{TypeError, typed};
+pub use typing::{TypeError, typed, typing_is_unique};

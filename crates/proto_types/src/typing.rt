@@ -1,11 +1,13 @@
 //! Resolving the names of types in a file.
 
-ghost use Rattle.std.specs.Prelude.{◌≡◌, ℕ, ◌<◌, List, Err, IfOk, Some, true};
+ghost use Rattle.std.specs.Prelude.{◌≡◌, ℕ, ◌<◌, List, Bool, Err, IfOk, Some, true};
 ghost use Rattle.proto_checks.specs.Least.{IsLeast, spot};
 ghost use Rattle.proto_checks.specs.declared.spot.Spot.{Spot};
 ghost use Rattle.proto_desc.specs.Resolved.{file_resolved};
+ghost use Rattle.proto_desc.specs.declared.file.FileDesc.{FileDesc};
 ghost use Rattle.proto_links.specs.Linked.{count_of};
-ghost use Rattle.proto_names.specs.Resolution.{SeenBy};
+ghost use Rattle.proto_names.specs.Occurrences.{Occurrence};
+ghost use Rattle.proto_names.specs.Resolution.{AreSeenAlike, IsSeen, SeenBy};
 ghost use Rattle.proto_tokens.specs.declared.kind.Kind.{Kind};
 ghost use Rattle.proto_tokens.specs.declared.place.Place.{Place};
 ghost use Rattle.proto_types.specs.References.{TypesBreak};
@@ -68,3 +70,12 @@ pub fn typed<'s>(
         Some(fault) => Err(TypeError::At(fault.place, fault.kind)),
     }
 }
+
+/// A file with its types resolved is one file: the same occurrences, as far as they are seen, give one, and break the
+/// same rules.
+pub fn typing_is_unique()
+    ensures one { (os ps : List Occurrence) (seen sees : ℕ → Bool) (f g h : FileDesc) → AreSeenAlike os (IsSeen seen) ps (IsSeen sees)
+        → IsTypedFile os (IsSeen seen) f g → IsTypedFile ps (IsSeen sees) f h → g ≡ h }
+    ensures breaks { (os ps : List Occurrence) (seen sees : ℕ → Bool) (f : FileDesc) (x : Spot) → AreSeenAlike os (IsSeen seen) ps (IsSeen sees)
+        → TypesBreak os (IsSeen seen) f x → TypesBreak ps (IsSeen sees) f x }
+{}

@@ -1,4 +1,2 @@
-mod Earlier
+mod Describing
 mod OneAnswer
-mod Refusals
-mod Starts

@@ -1,3 +1,1 @@
 pub mod Describe
-pub mod Steps
-pub mod Unresolved

@@ -1,6 +1,7 @@
 //! The command line, read by `clap`.
 
-use clap::{Arg, Command, Error};
+use clap::{Arg, ArgMatches, Command, Error, value_parser};
+use share_work::Plan;
 use std::alloc::{AllocError, Global};
 
 /// What one run is to do.
@@ -8,6 +9,8 @@ use std::alloc::{AllocError, Global};
 pub(crate) enum Task<'a> {
     /// Describe the source on the input, under this file name.
     Describe { name: &'a str },
+    /// Compile the sources below a folder.
+    Compile { root: &'a str, plan: Plan },
 }
 
 fn describe_command<'a>(alloc: Global) -> Result<Command<'a>, AllocError> {
@@ -22,16 +25,63 @@ fn describe_command<'a>(alloc: Global) -> Result<Command<'a>, AllocError> {
         .arg(name)
 }
 
+fn root_argument<'a>(alloc: Global) -> Arg<'a> {
+    Arg::new(alloc, "root")
+        .long("root")
+        .value_name("DIR")
+        .required(true)
+        .help(
+            "the folder: every file below it that ends in .proto is a source, named by its path from there",
+        )
+}
+
+/// The command with the arguments that make a plan.
+fn with_plan<'a>(alloc: Global, command: Command<'a>) -> Result<Command<'a>, AllocError> {
+    let workers = Arg::new(alloc, "workers")
+        .long("workers")
+        .value_name("N")
+        .default_value("4")
+        .value_parser(value_parser!(u32).range(1..=64))
+        .help("how many workers share the work, 1 to 64");
+    let cut = Arg::new(alloc, "cut")
+        .long("cut")
+        .value_name("N")
+        .default_value("16")
+        .value_parser(value_parser!(u32).range(1..=4096))
+        .help("how many files a worker takes at a time, 1 to 4096");
+    command.arg(workers)?.arg(cut)
+}
+
+fn compile_command<'a>(alloc: Global) -> Result<Command<'a>, AllocError> {
+    let command = Command::new(alloc, "compile")
+        .about("Compiles the proto3 sources below a folder and writes their FileDescriptorSet")
+        .arg(root_argument(alloc))?;
+    with_plan(alloc, command)
+}
+
+/// The plan that the words ask for. The parser of the words lets no others through than there are plans.
+fn plan_of(matches: &ArgMatches<'_>) -> Plan {
+    let workers = matches.get_one::<u32>("workers").unwrap_or(1);
+    let cut = matches.get_one::<u32>("cut").unwrap_or(1);
+    Plan::new(workers, cut).unwrap_or(Plan::single())
+}
+
 /// The task that the words give, whose first is the program's name, or `clap`'s text for the user.
 pub(crate) fn task_of<'a>(alloc: Global, words: &'a [&'a str]) -> Result<Task<'a>, Error> {
     let command = Command::new(alloc, "schema_server")
         .about("A schema server for Protocol Buffers: compiles proto3 sources to descriptors")
         .subcommand_required(true)
-        .subcommand(describe_command(alloc)?)?;
+        .subcommand(describe_command(alloc)?)?
+        .subcommand(compile_command(alloc)?)?;
     let matches = command.try_get_matches_from(words)?;
-    let name = match matches.subcommand() {
-        Some((_, describe)) => describe.get_str("name").unwrap_or(""),
-        None => "",
-    };
-    Ok(Task::Describe { name })
+    Ok(match matches.subcommand() {
+        Some(("compile", compile)) => Task::Compile {
+            root: compile.get_str("root").unwrap_or(""),
+            plan: plan_of(compile),
+        },
+        Some((_, describe)) => Task::Describe {
+            name: describe.get_str("name").unwrap_or(""),
+        },
+        None => Task::Describe { name: "" },
+    })
 }

@@ -2,32 +2,41 @@
 #![tactic(auto)]
 
 mod command_line;
-mod compile_error;
+mod commands;
 mod describe;
+mod failure;
 mod program;
 #[cfg(test)]
 mod tests;
-mod unresolved;
 
+use std::alloc::{AllocError, Global};
 use std::process::ExitCode;
 use std::{env, io};
 
-fn status(rt: &HostRuntime) -> io::Result<u8> {
-    let words: Vec<String> = env::args(rt)?.collect(rt.alloc())?;
-    let mut views = Vec::new(rt.alloc());
-    for word in words.iter() {
-        views.push(word.as_str())?;
+fn all_words(rt: &HostRuntime) -> io::Result<Vec<String>> {
+    Ok(env::args(rt)?.collect(rt.alloc())?)
+}
+
+fn lent_words(alloc: Global, words: &[String]) -> Result<Vec<&str>, AllocError> {
+    let mut lent = Vec::with_capacity(alloc, words.len())?;
+    for word in words {
+        lent.push(word.as_str())?;
     }
-    Ok(program::run(rt, views.as_slice(), rt.stdin(), rt.stdout(), rt.stderr()))
+    Ok(lent)
+}
+
+/// Ends a run whose words could not be had: there was no memory for them.
+fn without_words(rt: &HostRuntime) -> ExitCode {
+    let _ = eprintln!(rt; "out of memory");
+    ExitCode::from(4)
 }
 
 fn main(rt: HostRuntime) -> ExitCode {
-    match status(&rt) {
-        Ok(status) => ExitCode::from(status),
-        // The words could not be had: there was no memory for them.
-        Err(_) => {
-            let _ = eprintln!(rt; "out of memory");
-            ExitCode::from(4)
-        }
-    }
+    let Ok(words) = all_words(&rt) else {
+        return without_words(&rt);
+    };
+    let Ok(lent) = lent_words(rt.alloc(), &words) else {
+        return without_words(&rt);
+    };
+    ExitCode::from(program::run(&rt, &lent, rt.stdin(), rt.stdout(), rt.stderr()))
 }

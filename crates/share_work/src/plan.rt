@@ -29,6 +29,13 @@ impl Plan {
         }
     }
 
+    /// One worker, which takes the items one by one.
+    pub fn single() -> Plan
+        ensures plan { (result.workers ≡ 1) × (result.cut ≡ 1) }
+    {
+        Plan { workers: 1, cut: 1 }
+    }
+
     /// How many workers there are.
     pub fn workers(&self) -> u32
         ensures { result ≡ self.now.workers }

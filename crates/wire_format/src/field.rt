@@ -1,9 +1,9 @@
 //! Fields: a tag, which has the field's number and the wire type of its value, and the value.
 
-ghost use Rattle.std.specs.Prelude.{◌≡◌, ℕ, ◌++◌, OnOk, OnErr, List};
+ghost use Rattle.std.specs.Prelude.{◌≡◌, ℕ, ◌+◌, ◌++◌, ◌<◌, ◌^◌, OnOk, OnErr, List, length};
 ghost use Rattle.wire_format.specs.Field.{field_bytes};
 
-use crate::varint::push_varint;
+use crate::varint::{push_varint, varint_len};
 use std::alloc::AllocError;
 
 /// What a field holds.
@@ -29,6 +29,22 @@ fn push_field(out: &mut Vec<u8>, number: u32, value: &FieldValue) -> Result<(), 
             push_varint(out, u64::from(number) * 8 + 2)?;
             push_varint(out, bytes.len() as u64)?;
             out.extend_from_slice(bytes)
+        }
+    }
+}
+
+/// How many bytes `put_field` appends.
+pub fn field_len(number: u32, value: &FieldValue) -> u64
+    ensures len { result ≡ length (field_bytes number value.now) }
+    ensures most { result < 2 ^ 63 + 20 }
+{
+    match value {
+        FieldValue::Varint(value) => {
+            (varint_len(u64::from(number) * 8) + varint_len(*value)) as u64
+        }
+        FieldValue::Delimited(bytes) => {
+            let head = varint_len(u64::from(number) * 8 + 2) + varint_len(bytes.len() as u64);
+            head as u64 + bytes.len() as u64
         }
     }
 }

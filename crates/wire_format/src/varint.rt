@@ -34,6 +34,20 @@ pub fn put_varint(out: &mut Vec<u8>, value: u64) -> Result<(), AllocError>
     pushed
 }
 
+/// How many bytes `put_varint` appends for a number: 1 to 10.
+pub fn varint_len(value: u64) -> usize
+    ensures len { result ≡ length (varint_bytes value) }
+    ensures most { result ≤ 10 }
+{
+    let mut rest = value;
+    let mut len = 1;
+    while rest > 127 {
+        len += 1;
+        rest /= 128;
+    }
+    len
+}
+
 /// What `put_varint` writes spells the number, in at most ten bytes, and nothing shorter spells it.
 pub fn varint_is_shortest()
     ensures spelled { (n : ℕ) → n < 2 ^ 64 → Spells (varint_bytes n) n }

@@ -1,7 +1,9 @@
-use Rattle.std.proofs.Common.{◌≡◌, ◌∙◌, sym, ap, arith, refl, subst, map-id, length, take, get_or, ◌<◌, ◌+◌, ◌++◌, ◌∷◌, [], ℕ, List}
+use Rattle.std.proofs.Common.{◌≡◌, ◌∙◌, sym, ap, arith, refl, subst, map-id, length, take, get_or, ◌<◌, ◌+◌, ◌++◌, ◌∷◌, [], ℕ, List, true}
 use Rattle.std.specs.Prelude.{Err}
+use Rattle.std.proofs.lemmas.List.Elements.{All-push}
 use Rattle.std.proofs.lemmas.Iterator.Adapters.{YieldsList-from_vec}
 use Rattle.std.proofs.lemmas.Iterator.Consumers.{YieldsList-so_far, YieldsList-turn}
+use Rattle.proto_desc.specs.Resolved.{file_resolved}
 use Rattle.proto_desc.specs.declared.file.FileDesc.{FileDesc}
 use Rattle.proto_compile.specs.Analysed.{AreTypedFrom, TypesAt}
 use Rattle.proto_compile.proofs.Sorting.{name_is}
@@ -20,6 +22,7 @@ loop-desc-preserved c =
     record {
       len = rw items (one_more c.loop-desc.done.items c.loop-desc.yielded c.in-Ok.desc c.in-Some.desc c.loop-desc.invariant.len);
       typed = rw items (typed_end c.args.links.now c.args.index.now 0 c.loop-desc.yielded c.loop-desc.done.items c.in-Some.desc c.in-Ok.desc c.loop-desc.invariant.typed (subst (λ k. TypesAt c.args.links.now c.args.index.now k c.in-Some.desc c.in-Ok.desc) at last));
+      whole = rw items (All-push (λ (desc : FileDesc). file_resolved desc ≡ true) c.loop-desc.done.items c.in-Ok.desc c.loop-desc.invariant.whole c.in-Ok.ensures.resolved);
     }
 
 pub returns-in-Err-clause-first : goal.returns-in-Err-clause-first

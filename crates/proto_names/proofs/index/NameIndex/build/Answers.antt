@@ -1,5 +1,7 @@
-use Rattle.std.proofs.Common.{◌≡◌, ◌∙◌, ap, refl}
-use Rattle.proto_names.specs.Index.{services_of}
+use Rattle.std.proofs.Common.{◌≡◌, ◌∙◌, sym, subst, ap, refl, arith}
+use Rattle.std.specs.Prelude.{IsPermutation}
+use Rattle.std.proofs.lemmas.List.Sorted.{length_permutation}
+use Rattle.proto_names.specs.Index.{AreInNameOrder, services_of}
 use Rattle.proto_names.specs.Occurrences.{occurrences}
 use Rattle.proto_names.proofs.Built.{below_files, none_moved, first_moved, not_some}
 use Rattle.proto_names.proofs.Ordered.{order_names}
@@ -15,14 +17,22 @@ returns-in-Some-first_twice-clause-twice g c file place e =
     let same_place : c.in-Some-first_twice.spot.place ≡ place = cc in
     record { within = rw (collected, c.get.ensures.value) at within; twice = rw (← same_file, ← same_place) (first_moved (occurrences c.args.files.now) c.sort.new.self c.in-Some-first_twice.spot.file c.in-Some-first_twice.spot.place all first) }
 
+pub new-requires : goal.new-requires
+new-requires g c =
+    let within = rw c.in-Some.is at c.in_ok-entries.ensures.within in
+    let all = c.in_ok-sort.ensures.all in
+    let same = length_permutation _ _ all in
+    omega (arith, within, c.get.ensures.within, same)
+
 pub invariant_of-result : goal.invariant_of-result
 invariant_of-result g c =
     let collected = rw c.in-Some.is at c.in_ok-entries.ensures.all in
-    let all = rw collected at c.in_ok-sort.ensures.all in
+    let kept = sym c.in_ok-entries-2.ensures in
+    let all = subst (IsPermutation (occurrences c.args.files.now)) kept (rw collected at c.in_ok-sort.ensures.all) in
     record {
-      inside = below_files c.args.files.now c.sort.new.self all;
-      order = order_names c.sort.new.self c.in_ok-sort.ensures.order;
-      services = c.in_ok-services.ensures ∙ ap services_of c.as_slice-2.ensures;
+      inside = below_files c.args.files.now c.in_ok-entries-2.entries all;
+      order = subst AreInNameOrder kept (order_names c.sort.new.self c.in_ok-sort.ensures.order);
+      services = c.in_ok-services.ensures ∙ ap services_of (c.as_slice-2.ensures ∙ kept);
     }
 
 pub returns-clause-indexed : goal.returns-clause-indexed
@@ -35,5 +45,5 @@ returns-clause-indexed g c =
       files = refl;
       within = rw (collected, c.get.ensures.value) at within;
       once = none_moved (occurrences c.args.files.now) c.sort.new.self all none;
-      all = all;
+      all = subst (IsPermutation (occurrences c.args.files.now)) (sym c.in_ok-entries-2.ensures) all;
     }

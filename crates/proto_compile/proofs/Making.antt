@@ -1,0 +1,80 @@
+-- What sources are compiled to.
+use Rattle.std.proofs.Common.{◌≡◌, ◌∙◌, sym, ap, refl, inl, inr, Bool, false, ℕ, suc, ◌+◌, ◌<◌, ◌≤◌, List, [], ◌∷◌, map, length, arith, All}
+use Rattle.std.specs.Prelude.{◌↔◌, Contains, IsTrue, Vec}
+use Rattle.std.specs.declared.alloc.Global.{Global}
+use Rattle.std.proofs.lemmas.Bool.{true≢false, cases_lt}
+use Rattle.std.proofs.lemmas.List.{length-map}
+use Rattle.proto_desc.specs.declared.file.FileDesc.{FileDesc}
+use Rattle.proto_links.specs.Linked.{Linked, count_of}
+use Rattle.proto_names.specs.Index.{Index, services_of}
+use Rattle.proto_tokens.specs.Limits.{limit_of}
+use Rattle.proto_tokens.specs.declared.limits.Limit.TheVariants as limit
+use Rattle.proto_tokens.specs.declared.limits.Limits.{Limits}
+use Rattle.wire_bytes.specs.Descriptor.{file_desc_bytes}
+use Rattle.proto_compile.specs.Analysed.{AreResolved, AreTypedFrom}
+use Rattle.proto_compile.specs.Compilation.{Compilation, CompiledFile, IsShort, IsSound, IsWritten, file_bytes, file_name, set_of}
+use Rattle.proto_compile.specs.Sources.{name_of}
+use Rattle.proto_compile.specs.Steps.{items_of}
+use Rattle.proto_compile.specs.declared.source.Source.{Source}
+use Rattle.proto_compile.proofs.Rising.{named_once}
+use Rattle.proto_compile.proofs.Serving.{index_few, index_short}
+use Rattle.proto_compile.proofs.Zipping.{same_length}
+
+abbrev pub compilation : Limits → List CompiledFile → Linked → Index → Compilation
+compilation limits files links index = record { files = files; links = links; index = index; limits = limits }
+
+-- one file for each source
+pub as_many : (sorted : List Source) (files : List CompiledFile) → map file_name files ≡ map name_of sorted → length files ≡ length sorted
+as_many sorted files names = let l = ap length names in let m = length-map files file_name in let k = length-map sorted name_of in omega (arith, l, m, k)
+
+-- one typed descriptor for each
+typed_length : (links : Linked) (index : Index) (a : ℕ) (descs typed : List FileDesc) → AreTypedFrom links index a descs typed → length descs ≡ length typed
+typed_length links index a [] [] all = refl
+typed_length links index a [] (g ∷ gs) all = absurd all
+typed_length links index a (f ∷ fs) [] all = absurd all
+typed_length links index a (f ∷ fs) (g ∷ gs) all = ap suc (typed_length links index (a + 1) fs gs all.1)
+
+-- what links and the index count, and what set order has
+pub counts : (limits : Limits) (sources sorted : List Source) (descs : List FileDesc) (links : Linked) (index : Index) (files : List CompiledFile) → AreResolved limits sources sorted descs links index → map file_name files ≡ map name_of sorted
+    → (count_of links ≡ length files) × (index.files ≡ length files) × ((a : ℕ) → Contains links.set_order a → a < length files)
+counts limits sources sorted descs links index files resolved names =
+    let is = resolved.analysed in
+    let size = same_length limits sorted resolved.descs is.described.each in
+    let many = as_many sorted files names in
+    let linked = is.linked.count in
+    let indexed = is.indexed.files in
+    (omega (arith, size, many, linked), omega (arith, size, many, indexed), λ a has. let below = (is.linked.order.every a).0 has in omega (arith, size, many, below))
+
+pub written : (limits : Limits) (sources sorted : List Source) (descs : List FileDesc) (links : Linked) (index : Index) (files : List CompiledFile) → AreResolved limits sources sorted descs links index → All (IsShort limits) descs
+    → map file_name files ≡ map name_of sorted → map file_bytes files ≡ map file_desc_bytes descs → IsWritten limits sources (compilation limits files links index)
+written limits sources sorted descs links index files resolved short names bytes =
+    record { sorted = sorted; descs = descs; resolved = resolved; short = short; names = names; bytes = bytes; same_limits = refl }
+
+pub sound : (limits : Limits) (sources : List Source) (files : List CompiledFile) (links : Linked) (index : Index) → IsWritten limits sources (compilation limits files links index) → index.services ≡ services_of index.occurrences
+    → length (set_of files links) ≤ limit_of limits limit.SetBytes → IsSound (compilation limits files links index)
+sound limits sources files links index is services within =
+    let analysed = is.resolved.analysed in
+    let counted = counts limits sources is.sorted is.descs links index files is.resolved is.names in
+    record {
+      linked = counted.0;
+      indexed = counted.1;
+      inside = counted.2;
+      once = named_once is.sorted files analysed.described.by_name.rises is.names;
+      within = within;
+      few_services = index_few limits is.resolved.descs index analysed.indexed services;
+      short_services = index_short limits is.sorted is.resolved.descs index analysed.described.each analysed.indexed services;
+    }
+
+-- as many sources as written descriptors
+pub written_length : (limits : Limits) (sources sorted : List Source) (descs : List FileDesc) (links : Linked) (index : Index) (all : List (Vec ℕ Global)) → AreResolved limits sources sorted descs links index → map items_of all ≡ map file_desc_bytes descs → length sorted ≡ length all
+written_length limits sources sorted descs links index all resolved bytes =
+    let size = same_length limits sorted resolved.descs resolved.analysed.described.each in
+    let typed = typed_length links index 0 resolved.descs descs resolved.each in
+    let l = ap length bytes in
+    let m = length-map all items_of in
+    let k = length-map descs file_desc_bytes in
+    omega (arith, size, typed, l, m, k)
+
+-- what a test of the length says where it fails
+pub too_long : (b : Bool) (n most : ℕ) → IsTrue b ↔ (n ≤ most) → b ≡ false → most < n
+too_long b n most is fails = elim (cases_lt most n) [ inl less ↦ less | inr within ↦ absurd (true≢false (sym (is.1 within) ∙ fails)) ]

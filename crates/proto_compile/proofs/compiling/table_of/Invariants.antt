@@ -1,0 +1,11 @@
+use Rattle.std.proofs.Common.{◌≡◌, length, map, take}
+use Rattle.proto_compile.specs.Compilation.{file_bytes, file_name}
+use Rattle.proto_compile.specs.Sources.{name_of}
+use Rattle.proto_compile.specs.Steps.{items_of}
+use Rattle.proto_compile.proofs.compiling.table_of.Given as goal
+
+abbrev pub invariant-loop-bytes : goal.invariant-loop-bytes
+invariant-loop-bytes l = record {
+  names : map file_name l.files ≡ take (length l.yielded) (map name_of l.sources);
+  bytes : map file_bytes l.files ≡ map items_of l.yielded;
+}

@@ -1,0 +1,90 @@
+//! What sources are compiled to.
+
+ghost use Rattle.std.specs.Prelude.{◌≡◌, ℕ, ◌<◌, IfOk, IfSome, MatchOption};
+ghost use Rattle.proto_compile.specs.Compilation.{IsNamed, bytes_at, set_of};
+ghost use Rattle.proto_links.specs.Linked.{count_of};
+
+use crate::set::set_bytes;
+use crate::table::FileTable;
+use proto_links::{FileId, Links};
+use proto_names::NameIndex;
+use proto_tokens::Limits;
+use std::alloc::{AllocError, Global};
+use std::marker::Model;
+
+/// The descriptors of a list of sources, with what answers about them. Contracts see it as its files in the order of their
+/// names, each with the bytes of its descriptor, their links, the index of their names, and the limits.
+#[derive(Debug, Drop)]
+pub struct Compiled {
+    pub(crate) files: FileTable,
+    pub(crate) links: Links,
+    pub(crate) index: NameIndex,
+    pub(crate) limits: Limits,
+}
+
+impl Model for Compiled {
+    ghost use Rattle.proto_compile.specs.Compilation.{Compilation, IsSound};
+
+    ghost Value = { Compilation };
+
+    ghost view = { λ compiled. record { files = compiled.files; links = compiled.links; index = compiled.index; limits = compiled.limits } };
+
+    ghost invariant = { λ compiled. IsSound (record { files = compiled.files; links = compiled.links; index = compiled.index; limits = compiled.limits }) };
+}
+
+impl Compiled {
+    /// The bytes of the `FileDescriptorSet` (`descriptor.proto`): each file's descriptor, by rank, and by name where ranks
+    /// are the same, so that a file comes behind what it imports. It fails only for want of memory.
+    pub fn set_bytes(&self, alloc: Global) -> Result<Vec<u8>, AllocError>
+        ensures { IfOk result (λ bytes. bytes.items ≡ set_of self.now.files self.now.links) }
+    {
+        set_bytes(alloc, &self.files, &self.links)
+    }
+
+    /// The position of the file of this name among all of them, in the order of names: its number in the links and in the
+    /// index.
+    pub fn file_id(&self, name: &str) -> Option<FileId>
+        ensures file { MatchOption result ((a : ℕ) → IsNamed self.now.files name.now a → ⊥) (IsNamed self.now.files name.now) }
+        ensures within { IfSome result (λ a. a < count_of self.now.links) }
+    {
+        self.files.position(name)
+    }
+
+    /// The bytes of the descriptor of the file at a position.
+    pub fn bytes_at(&self, file: FileId) -> &[u8]
+        requires { file < count_of self.now.links }
+        ensures { result.now ≡ bytes_at self.now.files file }
+    {
+        self.files.bytes(file)
+    }
+
+    /// The bytes of the descriptor (`descriptor.proto`, `FileDescriptorProto`) of the file of this name.
+    pub fn bytes_of(&self, name: &str) -> Option<&[u8]>
+        ensures { MatchOption result ((a : ℕ) → IsNamed self.now.files name.now a → ⊥)
+            (λ bytes. (a : ℕ) × IsNamed self.now.files name.now a × (bytes.now ≡ bytes_at self.now.files a)) }
+    {
+        let file = self.file_id(name)?;
+        Some(self.bytes_at(file))
+    }
+
+    /// Which file reaches and sees which, and the order of the set.
+    pub fn links(&self) -> &Links
+        ensures { result.now ≡ self.now.links }
+    {
+        &self.links
+    }
+
+    /// What the names of the files are declared for.
+    pub fn names(&self) -> &NameIndex
+        ensures { result.now ≡ self.now.index }
+    {
+        &self.index
+    }
+
+    /// The limits within which the sources were compiled.
+    pub fn limits(&self) -> &Limits
+        ensures { result.now ≡ self.now.limits }
+    {
+        &self.limits
+    }
+}

@@ -1,0 +1,101 @@
+//! Compiling a list of sources.
+
+ghost use Rattle.std.specs.Prelude.{◌≡◌, ℕ, List, IfOk, IfErr, IsErrAnd, MatchResult, length, map};
+ghost use Rattle.proto_compile.specs.Compilation.{Compilation, IsCompiled, file_bytes, file_name};
+ghost use Rattle.proto_compile.specs.Faults.{IsFirstFault, IsPlaced, IsRefusal, Tells};
+ghost use Rattle.proto_compile.specs.Sources.{NamesRise, name_of};
+ghost use Rattle.proto_compile.specs.Steps.{items_of};
+ghost use Rattle.proto_compile.specs.declared.error.CompileError.TheVariants as errors;
+ghost use Rattle.proto_tokens.specs.declared.kind.Kind.{Kind};
+ghost use Rattle.proto_tokens.specs.declared.place.Place.{Place};
+
+use crate::analysis::Analysis;
+use crate::compiled::Compiled;
+use crate::error::{CompileError, START, refusal};
+use crate::lengths::all_written;
+use crate::set::is_set_within;
+use crate::source::Source;
+use crate::table::FileTable;
+use crate::types::analyse;
+use proto_tokens::{Kind, Limit, Limits};
+use share_work::{Gate, Plan};
+use std::alloc::{AllocError, AllocGlobal, Global};
+use std::thread::Threads;
+
+/// The number of the pass over the set among those that order faults.
+const SET: u8 = 6;
+
+/// What sources are compiled to, or their first fault.
+fn first_answer<R>(rt: &R, sources: &[Source], limits: &Limits) -> Result<Compiled, CompileError>
+where
+    R: Threads + AllocGlobal + Sync,
+    ensures compiled { IfOk result (IsCompiled limits.now sources.now) }
+    ensures first { IfErr result (IsRefusal (IsFirstFault limits.now sources.now)) }
+{
+    let alloc = rt.alloc();
+    let Analysis {
+        files,
+        descs,
+        links,
+        index,
+    } = analyse(rt, sources, limits)?;
+    let written = all_written(alloc, &descs, limits)?;
+    let files = table_of(alloc, &files, written)?;
+    if !is_set_within(&files, &links, limits.get(Limit::SetBytes)) {
+        return Err(refusal(alloc, SET, "", START, Kind::SetTooLong));
+    }
+    Ok(Compiled {
+        files,
+        links,
+        index,
+        limits: *limits,
+    })
+}
+
+/// Compiles proto3 sources: each by itself, then their imports, names and types, and the bytes of their descriptors.
+///
+/// The sources may come in any order; the answer is the same. `First` has their first fault: the least by pass, file name,
+/// step, place and the number of its kind, where a later pass is judged only if every file has passed the earlier ones.
+/// Its place lies within the text of its file; a fault of the whole list has no file name, and stands at 0. `NoMemory` comes
+/// only where the allocator had none. What the plan and the gate are changes nothing of the answer.
+pub fn compile<R, G>(
+    rt: &R,
+    sources: &[Source],
+    limits: &Limits,
+    _plan: Plan,
+    _gate: &G,
+) -> Result<Compiled, CompileError>
+where
+    R: Threads + AllocGlobal + Sync,
+    G: Gate,
+    ensures compiled { IfOk result (IsCompiled limits.now sources.now) }
+    ensures first { IfErr result (IsRefusal (IsFirstFault limits.now sources.now)) }
+    ensures placed { IfErr result (IsRefusal (λ pass file step place kind. IsPlaced limits.now sources.now file place)) }
+
+    // So sources with a compilation give it, and those with a fault tell it, unless memory runs out.
+    ensures every_compilation { (c : Compilation) → IsCompiled limits.now sources.now c
+        → MatchResult result (λ r. (r.files ≡ c.files) × (r.links.set_order ≡ c.links.set_order)) (λ e. e ≡ errors.NoMemory) }
+    ensures every_fault { (pass : ℕ) (file : List ℕ) (step : ℕ) (place : Place) (kind : Kind) → IsFirstFault limits.now sources.now pass file step place kind
+        → IsErrAnd result (Tells pass file step place kind) }
+{
+    first_answer(rt, sources, limits)
+}
+
+/// The table of sources in the order of their names, with the bytes of what they describe.
+fn table_of(
+    alloc: Global,
+    sources: &[Source],
+    written: Vec<Vec<u8>>,
+) -> Result<FileTable, AllocError>
+    requires length { length sources.now ≡ length written.items }
+    requires names { NamesRise sources.now }
+    ensures names { IfOk result (λ files. map file_name files ≡ map name_of sources.now) }
+    ensures bytes { IfOk result (λ files. map file_bytes files ≡ map items_of written.items) }
+{
+    let mut files = FileTable::with_capacity(alloc, sources.len())?;
+    for bytes in written {
+        let file = files.len();
+        files.push(alloc, sources[file].name, bytes)?;
+    }
+    Ok(files)
+}

@@ -1,0 +1,16 @@
+//! Laws over the definitions.
+
+ghost use Rattle.std.specs.Prelude.{◌≡◌, ℕ, List};
+ghost use Rattle.proto_compile.specs.Compilation.{Compilation, IsCompiled};
+ghost use Rattle.proto_compile.specs.Faults.{IsFirstFault};
+ghost use Rattle.proto_compile.specs.declared.source.Source.{Source};
+ghost use Rattle.proto_tokens.specs.declared.kind.Kind.{Kind};
+ghost use Rattle.proto_tokens.specs.declared.limits.Limits.{Limits};
+ghost use Rattle.proto_tokens.specs.declared.place.Place.{Place};
+
+/// Sources have one answer: one list of files in one set order, or one first fault.
+pub fn compiling_is_unique()
+    ensures one_compilation { (limits : Limits) (sources : List Source) (c d : Compilation) → IsCompiled limits sources c → IsCompiled limits sources d → (c.files ≡ d.files) × (c.links.set_order ≡ d.links.set_order) }
+    ensures no_fault { (limits : Limits) (sources : List Source) (c : Compilation) (pass : ℕ) (file : List ℕ) (step : ℕ) (place : Place) (kind : Kind) → IsCompiled limits sources c → IsFirstFault limits sources pass file step place kind → ⊥ }
+    ensures one_fault { (limits : Limits) (sources : List Source) (p q : ℕ) (f g : List ℕ) (s t : ℕ) (x y : Place) (k l : Kind) → IsFirstFault limits sources p f s x k → IsFirstFault limits sources q g t y l → (p ≡ q) × (f ≡ g) × (s ≡ t) × (x ≡ y) × (k ≡ l) }
+{}

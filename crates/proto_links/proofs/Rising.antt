@@ -1,0 +1,75 @@
+-- Lists that rise by one order and have the same members are the same.
+use Rattle.std.proofs.Common.{◌≡◌, ◌∙◌, sym, ℕ, zero, suc, ◌+◌, ◌<◌, List, [], ◌∷◌, length, get_or, ap, refl, subst, arith, inl, inr, ◌⊎◌}
+use Rattle.std.specs.Prelude.{Contains}
+
+-- each comes before the next one
+abbrev pub Rises : {X : Type 0} → (X → X → Type 0) → List X → Type 0
+Rises R xs = (k : ℕ) (d : _) → k + 1 < length xs → R (get_or xs k d) (get_or xs (k + 1) d)
+
+-- nothing comes before itself
+pub record IsStrict {X : Type 0} (R : X → X → Type 0) : Type 0 where
+  pub never : (x : X) → R x x → ⊥
+  pub trans : (x y z : X) → R x y → R y z → R x z
+
+-- ---- members
+
+none_in : {X : Type 0} (x : X) → Contains {X = X} [] x → ⊥
+none_in x (k, inside, is) = omega (arith, inside)
+
+front : {X : Type 0} (x : X) (xs : List X) → Contains (x ∷ xs) x
+front x xs = (zero, omega arith, refl)
+
+behind : {X : Type 0} (x : X) (xs : List X) (z : X) → Contains xs z → Contains (x ∷ xs) z
+behind x xs z (k, inside, is) = (suc k, omega (arith, inside), is)
+
+front_or_behind : {X : Type 0} (x : X) (xs : List X) (z : X) → Contains (x ∷ xs) z → (x ≡ z) ⊎ Contains xs z
+front_or_behind x xs z (zero, inside, is) = inl is
+front_or_behind x xs z (suc k, inside, is) = inr (k, omega (arith, inside), is)
+
+-- ---- what stands behind comes later
+
+next_behind : {X : Type 0} (x : X) (xs : List X) (k : ℕ) (d : X) → get_or (x ∷ xs) (suc k + 1) d ≡ get_or xs (k + 1) d
+next_behind x xs k d = let at : suc k + 1 ≡ suc (k + 1) = omega arith in ap (λ i. get_or (x ∷ xs) i d) at
+
+pub rest_rises : {X : Type 0} (R : X → X → Type 0) (x : X) (xs : List X) → Rises R (x ∷ xs) → Rises R xs
+rest_rises R x xs up k d h = subst (R (get_or xs k d)) (next_behind x xs k d) (up (suc k) d (omega (arith, h)))
+
+pub first_two : {X : Type 0} (R : X → X → Type 0) (x y : X) (xs : List X) → Rises R (x ∷ y ∷ xs) → R x y
+first_two R x y xs up = up zero x (omega arith)
+
+-- a list rises without its second member
+skip : {X : Type 0} (R : X → X → Type 0) → IsStrict R → (x y : X) (xs : List X) → Rises R (x ∷ y ∷ xs) → Rises R (x ∷ xs)
+skip R strict x y [] up k d h = absurd (omega (arith, h))
+skip R strict x y (z ∷ xs) up zero d h = strict.trans x y z (first_two R x y (z ∷ xs) up) (first_two R y z xs (rest_rises R x (y ∷ z ∷ xs) up))
+skip R strict x y (z ∷ xs) up (suc k) d h =
+    let rest = rest_rises R y (z ∷ xs) (rest_rises R x (y ∷ z ∷ xs) up) k d (omega (arith, h)) in
+    subst (R (get_or (z ∷ xs) k d)) (sym (next_behind x (z ∷ xs) k d)) rest
+
+first_before : {X : Type 0} (R : X → X → Type 0) → IsStrict R → (x : X) (xs : List X) → Rises R (x ∷ xs) → (z : X) → Contains xs z → R x z
+first_before R strict x [] up z w = absurd (none_in z w)
+first_before R strict x (y ∷ xs) up z w = elim (front_or_behind y xs z w) [
+  | inl same ↦ subst (R x) same (first_two R x y xs up)
+  | inr later ↦ first_before R strict x xs (skip R strict x y xs up) z later
+]
+
+-- ---- one list
+
+same_first : {X : Type 0} (R : X → X → Type 0) → IsStrict R → (x y : X) (xs ys : List X) → Rises R (x ∷ xs) → Rises R (y ∷ ys) → (x ≡ y) ⊎ Contains xs y → (y ≡ x) ⊎ Contains ys x → x ≡ y
+same_first R strict x y xs ys up over (inl same) other = same
+same_first R strict x y xs ys up over (inr later) (inl same) = sym same
+same_first R strict x y xs ys up over (inr later) (inr after) = absurd (strict.never x (strict.trans x y x (first_before R strict x xs up y later) (first_before R strict y ys over x after)))
+
+same_rest : {X : Type 0} (R : X → X → Type 0) → IsStrict R → (x y : X) (xs ys : List X) → Rises R (x ∷ xs) → x ≡ y → ((z : X) → Contains (x ∷ xs) z → Contains (y ∷ ys) z) → (z : X) → Contains xs z → Contains ys z
+same_rest R strict x y xs ys up same to z w = elim (front_or_behind y ys z (to z (behind x xs z w))) [
+  | inl first ↦ absurd (strict.never x (subst (R x) (sym (same ∙ first)) (first_before R strict x xs up z w)))
+  | inr later ↦ later
+]
+
+pub one_rising : {X : Type 0} (R : X → X → Type 0) → IsStrict R → (xs ys : List X) → Rises R xs → Rises R ys → ((x : X) → Contains xs x → Contains ys x) → ((x : X) → Contains ys x → Contains xs x) → xs ≡ ys
+one_rising R strict [] [] up over to from = refl
+one_rising R strict [] (y ∷ ys) up over to from = absurd (none_in y (from y (front y ys)))
+one_rising R strict (x ∷ xs) [] up over to from = absurd (none_in x (to x (front x xs)))
+one_rising R strict (x ∷ xs) (y ∷ ys) up over to from =
+    let same : x ≡ y = same_first R strict x y xs ys up over (front_or_behind x xs y (from y (front y ys))) (front_or_behind y ys x (to x (front x xs))) in
+    let rest : xs ≡ ys = one_rising R strict xs ys (rest_rises R x xs up) (rest_rises R y ys over) (same_rest R strict x y xs ys up same to) (same_rest R strict y x ys xs over (sym same) from) in
+    ap (λ z. z ∷ xs) same ∙ ap (λ zs. y ∷ zs) rest

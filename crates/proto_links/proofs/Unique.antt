@@ -1,0 +1,106 @@
+-- Files have one set order, and one first bad import.
+use Rattle.std.proofs.Common.{◌≡◌, ◌∙◌, ℕ, zero, suc, ◌+◌, ◌<◌, ◌≤◌, List, length, get_or, ap, refl, subst, arith, inl, inr}
+use Rattle.std.specs.Prelude.{IsTrue}
+use Rattle.std.specs.Ordering.{nat_cmp, is_eq}
+use Rattle.std.proofs.lemmas.Cmp.{nat_cmp_total, tied_itself}
+use Rattle.std.proofs.lemmas.List.{get_or_default}
+use Rattle.std.proofs.lemmas.List.Elements.{Contains-get_or}
+use denote.Enum.Bare.{same_true}
+use Rattle.proto_desc.specs.declared.file.FileDesc.{FileDesc}
+use Rattle.proto_tokens.specs.Kind.{number_of}
+use Rattle.proto_tokens.specs.KindOrder.{one_number}
+use Rattle.proto_tokens.specs.contracts.kind.Kind.{the_type}
+use Rattle.proto_tokens.specs.declared.kind.Kind.{Kind}
+use Rattle.proto_tokens.specs.declared.place.Place.{Place}
+use Rattle.proto_links.specs.Imports.{IsFirstBad, IsNoLater, NoLater}
+use Rattle.proto_links.specs.Linked.{Linked, AreLinked, AreRanks, IsBefore, IsInSetOrder, IsSetOrder, rank_of, sees}
+use Rattle.proto_links.proofs.Rising.{IsStrict, Rises, one_rising}
+
+-- ---- ranks
+
+rank_le : (files : List FileDesc) (f g : ℕ → ℕ) → AreRanks files f → AreRanks files g → (rank a : ℕ) → a < length files → f a ≡ rank → f a ≤ g a
+rank_le files f g first second zero a h e = omega (arith, e)
+rank_le files f g first second (suc rank) a h e = elim (first.least a h) [
+  | inl none ↦ omega (arith, none, e)
+  | inr (b, i, more) ↦ (
+      let below = rank_le files f g first second rank b i.2.0 (omega (arith, more, e)) in
+      let above = second.above a b i in
+      omega (arith, below, above, more))
+]
+
+one_rank : (files : List FileDesc) (f g : ℕ → ℕ) → AreRanks files f → AreRanks files g → (a : ℕ) → a < length files → f a ≡ g a
+one_rank files f g first second a h =
+    let up = rank_le files f g first second (f a) a h refl in
+    let down = rank_le files g f second first (g a) a h refl in
+    omega (arith, up, down)
+
+-- ---- set order
+
+before_itself : (rank : ℕ → ℕ) (a : ℕ) → IsBefore rank a a → ⊥
+before_itself rank a (inl less) = omega (arith, less)
+before_itself rank a (inr same) = omega (arith, same.1)
+
+before_trans : (rank : ℕ → ℕ) (a b c : ℕ) → IsBefore rank a b → IsBefore rank b c → IsBefore rank a c
+before_trans rank a b c (inl less) (inl more) = inl (omega (arith, less, more))
+before_trans rank a b c (inl less) (inr more) = inl (omega (arith, less, more.0))
+before_trans rank a b c (inr less) (inl more) = inl (omega (arith, less.0, more))
+before_trans rank a b c (inr less) (inr more) = inr (omega (arith, less.0, more.0), omega (arith, less.1, more.1))
+
+before_strict : (rank : ℕ → ℕ) → IsStrict (IsBefore rank)
+before_strict rank = record { never = before_itself rank; trans = before_trans rank }
+
+same_before : (f g : ℕ → ℕ) (a b : ℕ) → f a ≡ g a → f b ≡ g b → IsBefore f a b → IsBefore g a b
+same_before f g a b ea eb (inl less) = inl (omega (arith, less, ea, eb))
+same_before f g a b ea eb (inr less) = inr (omega (arith, less.0, ea, eb), less.1)
+
+order_rises : (rank : ℕ → ℕ) (order : List ℕ) → IsInSetOrder rank order → Rises (IsBefore rank) order
+order_rises rank order up k d h =
+    subst (λ a. IsBefore rank a (get_or order (k + 1) d)) (get_or_default order k 0 d (omega (arith, h)))
+    (subst (IsBefore rank (get_or order k 0)) (get_or_default order (k + 1) 0 d h) (up k h))
+
+-- an order by ranks that are the same up to the count
+order_moved : (count : ℕ) (f g : ℕ → ℕ) (order : List ℕ) → ((a : ℕ) → a < count → f a ≡ g a) → IsSetOrder count f order → Rises (IsBefore g) order
+order_moved count f g order same o k d h =
+    let inside : k < length order = omega (arith, h) in
+    same_before f g (get_or order k d) (get_or order (k + 1) d)
+    (same (get_or order k d) ((o.every (get_or order k d)).0 (Contains-get_or order k d inside)))
+    (same (get_or order (k + 1) d) ((o.every (get_or order (k + 1) d)).0 (Contains-get_or order (k + 1) d h)))
+    (order_rises f order o.rises k d h)
+
+pub one_set_order : (files : List FileDesc) (links others : Linked) → AreLinked files links → AreLinked files others → links.set_order ≡ others.set_order
+one_set_order files links others first second =
+    let rank = rank_of others in
+    one_rising (IsBefore rank) (before_strict rank) links.set_order others.set_order
+    (order_moved (length files) (rank_of links) rank links.set_order (one_rank files (rank_of links) rank first.ranks second.ranks) first.order)
+    (order_rises rank others.set_order second.order.rises)
+    (λ a w. (second.order.every a).1 ((first.order.every a).0 w))
+    (λ a w. (first.order.every a).1 ((second.order.every a).0 w))
+
+-- ---- what a file sees
+
+pub sees_same : (files : List FileDesc) (links others : Linked) (a b : ℕ) → AreLinked files links → AreLinked files others → a < length files → b < length files → IsTrue (sees links a b) → IsTrue (sees others a b)
+sees_same files links others a b first second ha hb seen = (second.sees a b ha hb).1 ((first.sees a b ha hb).0 seen)
+
+-- ---- the first bad import
+
+pub same_kind : (a b : Kind) → number_of a ≡ number_of b → a ≡ b
+same_kind a b e = same_true the_type tt a b (one_number a b ∙ ap (λ n. is_eq (nat_cmp n (number_of b))) e ∙ ap is_eq (tied_itself nat_cmp_total (number_of b)))
+
+pub same_place : (p q : Place) → p.offset ≡ q.offset → p ≡ q
+same_place p q e = let place : ℕ → Place = λ n. record { offset = n } in ap place e
+
+-- of two places with kinds neither comes later, so they are one
+pub one_spot : (p q : Place) (k l : Kind) → NoLater p k q l → NoLater q l p k → (p ≡ q) × (k ≡ l)
+one_spot p q k l (inl before) (inl after) = absurd (omega (arith, before, after))
+one_spot p q k l (inl before) (inr after) = absurd (omega (arith, before, after.0))
+one_spot p q k l (inr before) (inl after) = absurd (omega (arith, before.0, after))
+one_spot p q k l (inr before) (inr after) = (same_place p q before.0, same_kind k l (omega (arith, before.1, after.1)))
+
+one_import : (a b : ℕ) (p q : Place) (k l : Kind) → IsNoLater a p k b q l → IsNoLater b q l a p k → (a ≡ b) × (p ≡ q) × (k ≡ l)
+one_import a b p q k l (inl before) (inl after) = absurd (omega (arith, before, after))
+one_import a b p q k l (inl before) (inr after) = absurd (omega (arith, before, after.0))
+one_import a b p q k l (inr before) (inl after) = absurd (omega (arith, before.0, after))
+one_import a b p q k l (inr before) (inr after) = let one = one_spot p q k l before.1 after.1 in (before.0, one.0, one.1)
+
+pub one_bad : (files : List FileDesc) (a b : ℕ) (place other : Place) (kind what : Kind) → IsFirstBad files a place kind → IsFirstBad files b other what → (a ≡ b) × (place ≡ other) × (kind ≡ what)
+one_bad files a b place other kind what first second = one_import a b place other kind what (first.least b other what second.bad) (second.least a place kind first.bad)

@@ -1,0 +1,7 @@
+use Rattle.std.proofs.Common.{◌≡◌, take}
+use Rattle.std.specs.List.{fold}
+use Rattle.proto_names.specs.Hashes.{hash_step}
+use Rattle.proto_names.proofs.hashing.with_text.Given as goal
+
+abbrev pub invariant-loop-byte : goal.invariant-loop-byte
+invariant-loop-byte l = (l.hash ≡ fold hash_step l.start (take l.byte-index l.byte-items))

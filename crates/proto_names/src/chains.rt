@@ -1,0 +1,88 @@
+//! Chains of entries, by which the entries of a name are found without a search: those that begin a name are chained by
+//! the slots of their names' hashes.
+
+ghost use Rattle.std.specs.Prelude.{◌≡◌, ◌↔◌, ◌<◌, ◌≤◌, map, length, IfOk, IsTrue, MatchOption};
+ghost use Rattle.proto_desc.specs.DeclaredNames.{scoped};
+ghost use Rattle.proto_names.specs.Chains.{AreChained, IsHead, IsNowhere, IsStart};
+ghost use Rattle.proto_names.specs.Entries.{entry_name, occurrence};
+ghost use Rattle.proto_names.specs.Hashes.{hash_of};
+
+use crate::entries::{Entry, has_name};
+use crate::hashing::hash_in;
+use crate::twice::continues;
+use std::alloc::{AllocError, Global};
+
+/// The hash of an entry's name, and what stands behind it in its chain: one more than a position, or 0 at the end.
+#[derive(Clone, Copy, Debug)]
+pub(crate) struct Link {
+    hash: u32,
+    next: u32,
+}
+
+/// The first of each slot's chain, as one more than its position or 0 for none, and a link for each entry.
+#[derive(Debug, Drop)]
+pub(crate) struct Chains {
+    slots: Vec<u32>,
+    links: Vec<Link>,
+}
+
+/// The first of a chain, once the entry at a position is put there. Only an entry that begins a name is, so that a
+/// chain stays short where many entries have one name.
+fn head(entries: &[Entry], position: usize, next: u32) -> u32
+    requires position { position < length entries.now }
+    requires many { length entries.now ≤ 1_048_576 }
+    ensures { IsHead (map occurrence entries.now) position next result }
+{
+    if continues(entries, position) {
+        next
+    } else {
+        position as u32 + 1
+    }
+}
+
+/// The chains of entries. There are more slots than entries, so that most chains have one entry or none.
+pub(crate) fn chained(alloc: Global, entries: &[Entry]) -> Result<Chains, AllocError>
+    requires { length entries.now ≤ 1_048_576 }
+    ensures { IfOk result (λ chains. AreChained (map occurrence entries.now) (length entries.now) chains.slots.items chains.links.items) }
+{
+    let count = 2 * entries.len() + 1;
+    let mut slots = vec![in alloc; 0; count]?;
+    let mut links = Vec::with_capacity(alloc, entries.len())?;
+    for (position, entry) in entries.iter().enumerate() {
+        let hash = hash_in("", entry.name.as_str());
+        let slot = hash as usize % count;
+        let next = slots[slot];
+        links.push(Link { hash, next })?;
+        slots[slot] = head(entries, position, next);
+    }
+    Ok(Chains { slots, links })
+}
+
+/// Whether an entry has the name in a scope, by their hashes first.
+fn is_match(entry: &Entry, link: Link, hash: u32, scope: &str, name: &str) -> bool
+    requires link { link.hash ≡ hash_of (entry_name entry.now) }
+    requires hash { hash ≡ hash_of (scoped scope.now name.now) }
+    ensures { IsTrue result ↔ (entry_name entry.now ≡ scoped scope.now name.now) }
+{
+    link.hash == hash && has_name(entry, scope, name)
+}
+
+impl Chains {
+    /// Where the entries of the name in a scope begin.
+    pub(crate) fn start_of(&self, entries: &[Entry], scope: &str, name: &str) -> Option<usize>
+        requires { AreChained (map occurrence entries.now) (length entries.now) self.now.slots.items self.now.links.items }
+        ensures { MatchOption result (IsNowhere (map occurrence entries.now) (scoped scope.now name.now)) (IsStart (map occurrence entries.now) (scoped scope.now name.now)) }
+    {
+        let hash = hash_in(scope, name);
+        let mut next = self.slots[hash as usize % self.slots.len()];
+        while next > 0 {
+            let position = next as usize - 1;
+            let link = self.links[position];
+            if is_match(&entries[position], link, hash, scope, name) {
+                return Some(position);
+            }
+            next = link.next;
+        }
+        None
+    }
+}
