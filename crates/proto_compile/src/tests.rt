@@ -3,13 +3,15 @@
 use crate::{CompileError, Compiled, Source, compile};
 use proto_tokens::{Limit, Limits};
 use share_work::{NoGate, Plan};
+use std::alloc::{AllocGlobal, Global};
 use std::test::Fail;
+use std::thread::Threads;
 
 /// The name of a file of a row, and its text.
 type File = (&'static str, &'static str);
 
-fn sources_of<'s>(rt: &HostRuntime, files: &'s [File]) -> Result<Vec<Source<'s>>, Fail> {
-    let mut sources = Vec::new(rt.alloc());
+fn sources_of<'s>(alloc: Global, files: &'s [File]) -> Result<Vec<Source<'s>>, Fail> {
+    let mut sources = Vec::new(alloc);
     for (name, text) in files {
         let text = text.as_bytes();
         sources.push(Source { name, text })?;
@@ -17,18 +19,24 @@ fn sources_of<'s>(rt: &HostRuntime, files: &'s [File]) -> Result<Vec<Source<'s>>
     Ok(sources)
 }
 
-fn compiled(
-    rt: &HostRuntime,
+fn compiled<R>(
+    rt: &R,
     files: &[File],
     limits: &Limits,
     plan: Plan,
-) -> Result<Result<Compiled, CompileError>, Fail> {
-    let sources = sources_of(rt, files)?;
+) -> Result<Result<Compiled, CompileError>, Fail>
+where
+    R: Threads + AllocGlobal + Sync,
+{
+    let sources = sources_of(rt.alloc(), files)?;
     Ok(compile(rt, &sources, limits, plan, &NoGate))
 }
 
 /// The names of the files in set order, or the first fault.
-fn answer(rt: &HostRuntime, files: &[File], limits: &Limits, plan: Plan) -> Result<String, Fail> {
+fn answer<R>(rt: &R, files: &[File], limits: &Limits, plan: Plan) -> Result<String, Fail>
+where
+    R: Threads + AllocGlobal + Sync,
+{
     let alloc = rt.alloc();
     match compiled(rt, files, limits, plan)? {
         Ok(compiled) => {
@@ -316,7 +324,15 @@ static ROWS: [Row; 33] = [
     },
     Row {
         title: "a type that is seen by public imports",
-        files: &SEEN,
+        files: &[
+            (
+                "a.proto",
+                r#"syntax = "proto3"; import "b.proto"; message A { D d = 1; }"#,
+            ),
+            ("b.proto", r#"syntax = "proto3"; import public "c.proto";"#),
+            ("c.proto", r#"syntax = "proto3"; import public "d.proto";"#),
+            ("d.proto", r#"syntax = "proto3"; message D {}"#),
+        ],
         lowered: None,
         answer: "compiled: d.proto c.proto b.proto a.proto",
     },

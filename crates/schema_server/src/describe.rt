@@ -17,8 +17,8 @@ use std::thread::Threads;
 fn first_answer<R>(rt: &R, source: Source, limits: &Limits) -> Result<Vec<u8>, CompileError>
 where
     R: Threads + AllocGlobal + Sync,
-    ensures described { IfOk result (λ bytes. IsDescribedBy limits.now source bytes.items) }
-    ensures first { IfErr result (IsRefusal (IsFirstFault limits.now (source ∷ []))) }
+    ensures described { IfOk result (λ bytes. IsDescribedBy limits.now source.entry bytes.items) }
+    ensures first { IfErr result (IsRefusal (IsFirstFault limits.now (source.entry ∷ []))) }
 {
     let compiled = compile(rt, &[source], limits, Plan::single(), &NoGate)?;
     let bytes = compiled.bytes_at(0);

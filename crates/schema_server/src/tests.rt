@@ -4,7 +4,10 @@ mod compile;
 mod describe;
 
 use crate::program::run;
+use std::alloc::AllocGlobal;
 use std::io::{self, Read, Write};
+use std::rt::Files;
+use std::thread::Threads;
 
 /// An input that fails.
 #[derive(Drop)]
@@ -38,7 +41,10 @@ struct Finished {
     faults: Vec<u8>,
 }
 
-fn ran(rt: &HostRuntime, words: &[&str], input: &[u8]) -> Finished {
+fn ran<R>(rt: &R, words: &[&str], input: &[u8]) -> Finished
+where
+    R: Threads + Files + AllocGlobal + Sync,
+{
     let mut output = Vec::new(rt.alloc());
     let mut faults = Vec::new(rt.alloc());
     let status = run(rt, words, input, &mut output, &mut faults);

@@ -1,19 +1,20 @@
 //! Folders of sources: their descriptor sets, or the first fault.
 
 use super::{BrokenOutput, Finished, ran, run};
+use std::alloc::AllocGlobal;
 use std::fs;
+use std::rt::Files;
 use std::test::Fail;
+use std::thread::Threads;
 
 /// The name of a file below the folder of a row, and its text.
 type File = (&'static str, &'static str);
 
 /// Makes a folder of files, and compiles it by these further words.
-fn compiled(
-    rt: &HostRuntime,
-    root: &str,
-    files: &[File],
-    words: &[&str],
-) -> Result<Finished, Fail> {
+fn compiled<R>(rt: &R, root: &str, files: &[File], words: &[&str]) -> Result<Finished, Fail>
+where
+    R: Threads + Files + AllocGlobal + Sync,
+{
     let _ = fs::remove_dir_all(rt, root);
     fs::create_dir(rt, root)?;
     for (name, text) in files {
@@ -21,7 +22,7 @@ fn compiled(
         if let Some((folder, _)) = path.rsplit_once('/') {
             fs::create_dir_all(rt, folder)?;
         }
-        fs::write(rt, path.as_str(), text)?;
+        fs::write(rt, path.as_str(), *text)?;
     }
     let mut all = vec![in rt.alloc(); "schema_server", "compile", "--root", root]?;
     all.extend_from_slice(words)?;

@@ -3,9 +3,15 @@
 use super::{Finished, POINT, ran};
 use crate::describe::describe;
 use proto_tokens::Limits;
+use std::alloc::AllocGlobal;
+use std::rt::Files;
 use std::test::Fail;
+use std::thread::Threads;
 
-fn described(rt: &HostRuntime, name: &str, source: &str) -> Finished {
+fn described<R>(rt: &R, name: &str, source: &str) -> Finished
+where
+    R: Threads + Files + AllocGlobal + Sync,
+{
     ran(rt, &["schema_server", "describe", name], source.as_bytes())
 }
 

@@ -1,6 +1,6 @@
 //! Worked bytes of the encoding guide.
 
-use crate::{FieldValue, put_field, put_varint};
+use crate::{FieldValue, field_len, put_field, put_varint, varint_len};
 use std::test::Fail;
 
 #[test]
@@ -27,6 +27,7 @@ fn varints(rt: HostRuntime) -> Result<(), Fail> {
         put_varint(&mut out, value)?;
         assert_eq!(rt; out[0], 0xAA, "{value}: what stood there");
         assert_eq!(rt; &out[1..], bytes, "{value}");
+        assert_eq!(rt; varint_len(value), bytes.len(), "{value}");
     }
     Ok(())
 }
@@ -43,5 +44,8 @@ fn fields(rt: HostRuntime) -> Result<(), Fail> {
         out.as_slice(),
         b"\x08\x96\x01\x12\x07testing\x82\x01\x00".as_slice()
     );
+    assert_eq!(rt; field_len(1, &FieldValue::Varint(150)), 3);
+    assert_eq!(rt; field_len(2, &FieldValue::Delimited(b"testing")), 9);
+    assert_eq!(rt; field_len(16, &FieldValue::Delimited(b"")), 3);
     Ok(())
 }
