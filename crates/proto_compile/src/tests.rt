@@ -1,7 +1,7 @@
 //! Lists of sources and what is found of them: the first fault of each pass, and the set of descriptors.
 
 use crate::{CompileError, Compiled, Source, compile};
-use proto_tokens::{Limit, Limits};
+use proto_tokens::{Fault, Limit, Limits};
 use share_work::{NoGate, Plan};
 use std::alloc::{AllocGlobal, Global};
 use std::test::Fail;
@@ -19,17 +19,24 @@ fn sources_of<'s>(alloc: Global, files: &'s [File]) -> Result<Vec<Source<'s>>, F
     Ok(sources)
 }
 
-fn compiled<R>(
-    rt: &R,
-    files: &[File],
-    limits: &Limits,
-    plan: Plan,
-) -> Result<Result<Compiled, CompileError>, Fail>
-where
-    R: Threads + AllocGlobal + Sync,
-{
-    let sources = sources_of(rt.alloc(), files)?;
-    Ok(compile(rt, &sources, limits, plan, &NoGate))
+/// The names of the files in set order.
+fn set_order(alloc: Global, compiled: &Compiled, files: &[File]) -> Result<String, Fail> {
+    let mut names = String::from_str(alloc, "compiled:")?;
+    for position in compiled.links().set_order() {
+        for (name, _) in files {
+            if compiled.file_id(name) == Some(*position) {
+                names.push_str(" ")?;
+                names.push_str(name)?;
+            }
+        }
+    }
+    Ok(names)
+}
+
+fn told(alloc: Global, fault: &Fault) -> Result<String, Fail> {
+    let (pass, step, place) = (fault.pass, fault.step, fault.place);
+    let (file, kind) = (fault.file.as_str(), fault.kind.name());
+    Ok(format!(in alloc; "pass {pass}, file [{file}], step {step}, at {place}: {kind}")?)
 }
 
 /// The names of the files in set order, or the first fault.
@@ -37,24 +44,10 @@ fn answer<R>(rt: &R, files: &[File], limits: &Limits, plan: Plan) -> Result<Stri
 where
     R: Threads + AllocGlobal + Sync,
 {
-    let alloc = rt.alloc();
-    match compiled(rt, files, limits, plan)? {
-        Ok(compiled) => {
-            let mut names = String::from_str(alloc, "compiled:")?;
-            for file in compiled.links().set_order() {
-                for (name, _) in files {
-                    if compiled.file_id(name) == Some(*file) {
-                        names.push_str(format!(in alloc; " {name}")?.as_str())?;
-                    }
-                }
-            }
-            Ok(names)
-        }
-        Err(CompileError::First(fault)) => {
-            let (pass, step, place) = (fault.pass, fault.step, fault.place);
-            let (file, kind) = (fault.file.as_str(), fault.kind.name());
-            Ok(format!(in alloc; "pass {pass}, file [{file}], step {step}, at {place}: {kind}")?)
-        }
+    let sources = sources_of(rt.alloc(), files)?;
+    match compile(rt, &sources, limits, plan, &NoGate) {
+        Ok(compiled) => set_order(rt.alloc(), &compiled, files),
+        Err(CompileError::First(fault)) => told(rt.alloc(), &fault),
         Err(CompileError::NoMemory) => Err("no memory".into()),
     }
 }
@@ -66,7 +59,7 @@ struct Row {
     answer: &'static str,
 }
 
-static ROWS: [Row; 33] = [
+static ROWS: [Row; 34] = [
     Row {
         title: "no files",
         files: &[],
@@ -171,6 +164,15 @@ static ROWS: [Row; 33] = [
         ],
         lowered: None,
         answer: "pass 1, file [a.proto], step 1, at 37: Unexpected",
+    },
+    Row {
+        title: "messages inside one another, beyond the depth",
+        files: &[(
+            "a.proto",
+            r#"syntax = "proto3"; message A { message B {} }"#,
+        )],
+        lowered: Some((Limit::Depth, 1)),
+        answer: "pass 1, file [a.proto], step 1, at 31: TooDeep",
     },
     Row {
         title: "a missing import, and a broken rule of a later file",
@@ -366,78 +368,117 @@ static SEEN: [File; 4] = [
     ("d.proto", r#"syntax = "proto3"; message D {}"#),
 ];
 
+/// A row's answer by a plan.
+fn row_answer<R>(rt: &R, row: &Row, plan: Plan) -> Result<String, Fail>
+where
+    R: Threads + AllocGlobal + Sync,
+{
+    let limits = match row.lowered {
+        Some((limit, value)) => Limits::standard().lowered(limit, value).ok_or("a limit")?,
+        None => Limits::standard(),
+    };
+    answer(rt, row.files, &limits, plan)
+}
+
 #[test]
 fn answers(rt: HostRuntime) -> Result<(), Fail> {
     for row in &ROWS {
-        let limits = match row.lowered {
-            Some((limit, value)) => Limits::standard().lowered(limit, value).ok_or("a limit")?,
-            None => Limits::standard(),
-        };
-        for (workers, cut) in [(1, 1), (2, 1), (64, 4_096)] {
-            let plan = Plan::new(workers, cut).ok_or("a plan")?;
-            let found = answer(&rt, row.files, &limits, plan)?;
-            assert_eq!(rt;
-                found.as_str(),
-                row.answer,
-                "{}, {workers} workers",
-                row.title
-            );
-        }
+        let found = row_answer(&rt, row, Plan::single())?;
+        assert_eq!(rt; found.as_str(), row.answer, "{}", row.title);
+        let found = row_answer(&rt, row, Plan::new(2, 1).ok_or("a plan")?)?;
+        assert_eq!(rt; found.as_str(), row.answer, "two workers: {}", row.title);
+        let found = row_answer(&rt, row, Plan::new(64, 4_096).ok_or("a plan")?)?;
+        assert_eq!(rt; found.as_str(), row.answer, "64 workers: {}", row.title);
     }
     Ok(())
 }
 
+/// A file of a compilation: its name, its position, and the bytes of its descriptor.
+type Described = (&'static str, usize, &'static [u8]);
+
+/// Whether a file has its position and its bytes.
+fn is_described(compiled: &Compiled, file: &Described) -> bool {
+    let (name, position, bytes) = *file;
+    match compiled.file_id(name) {
+        Some(found) => {
+            found == position
+                && compiled.bytes_at(found) == bytes
+                && compiled.bytes_of(name) == Some(bytes)
+        }
+        None => false,
+    }
+}
+
+/// Whether all files are so, one of another name is not known, and the links, the index and the limits are theirs.
+fn are_described(compiled: &Compiled, files: &[Described]) -> bool {
+    for file in files {
+        if !is_described(compiled, file) {
+            return false;
+        }
+    }
+    compiled.file_id("none").is_none()
+        && compiled.bytes_of("none").is_none()
+        && compiled.links().count() == files.len()
+        && compiled.names().find("A").is_some()
+        && compiled.limits().get(Limit::SetBytes) == 1_073_741_824
+}
+
+/// Whether files are compiled to these, and to this set.
+fn compiles_to<R>(rt: &R, files: &[File], wanted: &[Described], set: &[u8]) -> Result<bool, Fail>
+where
+    R: Threads + AllocGlobal + Sync,
+{
+    let sources = sources_of(rt.alloc(), files)?;
+    match compile(rt, &sources, &Limits::standard(), Plan::single(), &NoGate) {
+        Ok(compiled) => {
+            let written = compiled.set_bytes(rt.alloc())?;
+            Ok(are_described(&compiled, wanted) && written.as_slice() == set)
+        }
+        Err(_) => Ok(false),
+    }
+}
+
 #[test]
 fn one_file(rt: HostRuntime) -> Result<(), Fail> {
-    let limits = Limits::standard();
-    let compiled = compiled(&rt, &[("a.proto", POINT)], &limits, Plan::single())?
-        .ok()
-        .ok_or("a compilation")?;
-    let descriptor: &[u8] =
-        b"\x0a\x07a.proto\x22\x11\x0a\x01A\x12\x0c\x0a\x01x\x18\x01\x20\x01\x28\x05\x52\x01x\x62\x06proto3";
-    let set = compiled.set_bytes(rt.alloc())?;
-    assert_eq!(rt; &set[..2], b"\x0a\x24".as_slice());
-    assert_eq!(rt; &set[2..], descriptor);
-    assert_eq!(rt; compiled.bytes_of("a.proto"), Some(descriptor));
-    assert_eq!(rt; compiled.bytes_of("a"), None);
-    assert_eq!(rt; compiled.file_id("a.proto"), Some(0));
-    assert_eq!(rt; compiled.file_id(""), None);
-    assert_eq!(rt; compiled.bytes_at(0), descriptor);
-    assert_eq!(rt; compiled.links().count(), 1);
-    assert!(rt; compiled.names().find("A.x").is_some());
-    assert_eq!(rt; compiled.limits().get(Limit::SetBytes), 1_073_741_824);
+    let files = [(
+        "a.proto",
+        0,
+        b"\x0a\x07a.proto\x22\x11\x0a\x01A\x12\x0c\x0a\x01x\x18\x01\x20\x01\x28\x05\x52\x01x\x62\x06proto3".as_slice(),
+    )];
+    let set =
+        b"\x0a\x24\x0a\x07a.proto\x22\x11\x0a\x01A\x12\x0c\x0a\x01x\x18\x01\x20\x01\x28\x05\x52\x01x\x62\x06proto3";
+    assert!(rt; compiles_to(&rt, &[("a.proto", POINT)], &files, set)?);
     Ok(())
 }
 
 #[test]
 fn several_files(rt: HostRuntime) -> Result<(), Fail> {
-    let limits = Limits::standard();
-    let compiled = compiled(&rt, &SEEN, &limits, Plan::single())?
-        .ok()
-        .ok_or("a compilation")?;
-    let descriptors: [(&str, &[u8]); 4] = [
-        ("d.proto", b"\x0a\x07d.proto\x22\x03\x0a\x01D\x62\x06proto3"),
+    let files = [
+        (
+            "d.proto",
+            3,
+            b"\x0a\x07d.proto\x22\x03\x0a\x01D\x62\x06proto3".as_slice(),
+        ),
         (
             "c.proto",
-            b"\x0a\x07c.proto\x1a\x07d.proto\x50\x00\x62\x06proto3",
+            2,
+            b"\x0a\x07c.proto\x1a\x07d.proto\x50\x00\x62\x06proto3".as_slice(),
         ),
         (
             "b.proto",
-            b"\x0a\x07b.proto\x1a\x07c.proto\x50\x00\x62\x06proto3",
+            1,
+            b"\x0a\x07b.proto\x1a\x07c.proto\x50\x00\x62\x06proto3".as_slice(),
         ),
         (
             "a.proto",
-            b"\x0a\x07a.proto\x1a\x07b.proto\x22\x15\x0a\x01A\x12\x10\x0a\x01d\x18\x01\x20\x01\x28\x0b\x32\x02.D\x52\x01d\x62\x06proto3",
+            0,
+            b"\x0a\x07a.proto\x1a\x07b.proto\x22\x15\x0a\x01A\x12\x10\x0a\x01d\x18\x01\x20\x01\x28\x0b\x32\x02.D\x52\x01d\x62\x06proto3".as_slice(),
         ),
     ];
-    let mut set = Vec::new(rt.alloc());
-    for (position, (name, descriptor)) in descriptors.iter().enumerate() {
-        assert_eq!(rt; compiled.file_id(name), Some(3 - position), "{name}");
-        assert_eq!(rt; compiled.bytes_of(name), Some(*descriptor), "{name}");
-        set.push(0x0A)?;
-        set.push(descriptor.len() as u8)?;
-        set.extend_from_slice(descriptor)?;
-    }
-    assert_eq!(rt; compiled.set_bytes(rt.alloc())?.as_slice(), set.as_slice());
+    let set = b"\x0a\x16\x0a\x07d.proto\x22\x03\x0a\x01D\x62\x06proto3\
+        \x0a\x1c\x0a\x07c.proto\x1a\x07d.proto\x50\x00\x62\x06proto3\
+        \x0a\x1c\x0a\x07b.proto\x1a\x07c.proto\x50\x00\x62\x06proto3\
+        \x0a\x31\x0a\x07a.proto\x1a\x07b.proto\x22\x15\x0a\x01A\x12\x10\x0a\x01d\x18\x01\x20\x01\x28\x0b\x32\x02.D\x52\x01d\x62\x06proto3";
+    assert!(rt; compiles_to(&rt, &SEEN, &files, set)?);
     Ok(())
 }

@@ -26,9 +26,7 @@ fn descriptors(rt: HostRuntime) {
         (
             "a package, a label and an option",
             "syntax = \"proto3\"; message A { repeated int32 x = 1 [packed = false, deprecated = true]; } package p;",
-            "0a07612e70726f746f12017022170a014112120a016118012001280b\
-             32042e702e4152016162\
-             0670726f746f33\n",
+            "0a07612e70726f746f12017022170a014112120a0178180120032805420410001801520178620670726f746f33\n",
         ),
         (
             "no message",
