@@ -11,7 +11,12 @@ use std::thread::Threads;
 type File = (&'static str, &'static str);
 
 /// Makes a folder of files, and compiles it by these further words.
-fn compiled<R>(rt: &R, root: &str, files: &[File], words: &[&str]) -> Result<Finished, Fail>
+fn compiled<'w, R>(
+    rt: &R,
+    root: &'w str,
+    files: &[File],
+    words: &[&'w str],
+) -> Result<Finished, Fail>
 where
     R: Threads + Files + AllocGlobal + Sync,
 {
