@@ -9,8 +9,7 @@ cc -shared -fPIC -O1 -o "$folder/refuse.so" tests/refused_memory.c -ldl || exit 
 program=crates/schema_server/out/schema_server
 failures=0
 
-# sweep STATUS OUTPUT FAULTS INPUT WORD..: as without a refusal, or out of memory, at each allocation. The output is compared
-# as text, without zero bytes.
+# sweep STATUS OUTPUT FAULTS INPUT WORD..: as without a refusal, or out of memory, at each allocation.
 sweep() {
     local status=$1 output=$2 faults=$3 input=$4 at=1
     shift 4
@@ -18,7 +17,7 @@ sweep() {
         printf '%b' "$input" | REFUSE_AT=$at LD_PRELOAD="$folder/refuse.so" "$program" "$@" >"$folder/output" 2>"$folder/faults" 9>"$folder/refused"
         local got=$?
         local as_usual=0 no_memory=0
-        [ "$got" = "$status" ] && [ "$(tr -d '\0' <"$folder/output")" = "$output" ] && [ "$(cat "$folder/faults")" = "$faults" ] && as_usual=1
+        [ "$got" = "$status" ] && [ "$(cat "$folder/output")" = "$output" ] && [ "$(cat "$folder/faults")" = "$faults" ] && as_usual=1
         [ "$got" = 4 ] && [ ! -s "$folder/output" ] && [ "$(cat "$folder/faults")" = "out of memory" ] && no_memory=1
         if [ ! -s "$folder/refused" ]; then
             [ "$as_usual" = 1 ] && return
@@ -43,7 +42,9 @@ mkdir -p "$folder/sources/p" "$folder/bad"
 printf '%simport "p/b.proto"; message A { p.B b = 1; }' "$P" >"$folder/sources/a.proto"
 printf '%spackage p; message B {} service S { rpc R(B) returns (B); }' "$P" >"$folder/sources/p/b.proto"
 printf '%simport "b.proto";' "$P" >"$folder/bad/a.proto"
-set=$(./schema_server compile --root "$folder/sources" --workers 1 | tr -d '\0')
+# The set as protoc 3.21.12 writes it, which has no zero byte.
+digits=0a310a09702f622e70726f746f12017022030a014232140a0153120f0a015212042e702e421a042e702e42620670726f746f330a350a07612e70726f746f1a09702f622e70726f746f22170a014112120a016218012001280b32042e702e42520162620670726f746f33
+set=$(printf '%b' "$(sed 's/../\\x&/g' <<<"$digits")")
 sweep 0 "$set" '' '' compile --root "$folder/sources" --workers 1
 sweep 1 '' 'a.proto:1:27: ImportMissing' '' compile --root "$folder/bad" --workers 1
 [ "$failures" = 0 ]

@@ -6,11 +6,11 @@ cd "$(dirname "$(readlink -f "$0")")/.." || exit 2
 folder=$(mktemp -d) || exit 2
 trap 'rm -rf "$folder"' EXIT
 cc -shared -fPIC -O1 -o "$folder/refuse.so" tests/refused_memory.c -ldl || exit 2
-program=crates/share_speed/out/share_speed
+program=crates/bench_shares/out/bench_shares
 if [ ! -x "$program" ]; then
-    (cd crates/share_speed && rt run) >/dev/null 2>&1
+    (cd crates/bench_shares && rt run) >/dev/null 2>&1
 fi
-usual=$(cat crates/share_speed/stdout)
+usual=$(cat crates/bench_shares/stdout)
 failures=0
 
 # sweep NAME: refuses what the variable counts, one after the other, until there is nothing to refuse.

@@ -9,7 +9,7 @@ use std::marker::Model;
 
 /// Lists of numbers, by their places. A list that goes on where the one before it ends takes the room of one number
 /// more: a chain of lists, each with one number more than the last, takes the room of the longest.
-#[derive(Debug, Drop)]
+#[derive(Drop)]
 pub struct Lists {
     items: Vec<usize>,
     ranges: Vec<(usize, usize)>,

@@ -15,7 +15,7 @@ use crate::search::row;
 use std::alloc::{AllocError, Global};
 
 /// The rank of each node, and the nodes by rank and then by number.
-#[derive(Debug, Drop)]
+#[derive(Drop)]
 pub struct Ranking {
     pub ranks: Vec<usize>,
     pub order: Vec<usize>,

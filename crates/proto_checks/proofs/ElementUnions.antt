@@ -3,7 +3,7 @@ use Rattle.std.proofs.Common.{◌≡◌, sym, subst, refl, List, [], ◌∷◌, 
 use Rattle.std.proofs.lemmas.Bool.{true≢false, false≢true}
 use Rattle.std.specs.Prelude.{Option, Some, None, flat_map}
 use Rattle.std.specs.List.{list_any}
-use Rattle.proto_tokens.specs.declared.kind.Kind.TheVariants as kind
+use Rattle.proto_base.specs.declared.kind.Kind.TheVariants as kind
 use Rattle.proto_syntax.specs.declared.tree.enumeration.Enum.{Enum}
 use Rattle.proto_syntax.specs.declared.tree.enumeration.EnumItem.{EnumItem}
 use Rattle.proto_syntax.specs.declared.tree.enumeration.EnumItem.TheVariants as enum_item
@@ -14,16 +14,16 @@ use Rattle.proto_syntax.specs.declared.tree.oneof.OneofItem.TheVariants as oneof
 use Rattle.proto_syntax.specs.declared.tree.option.Options.{Options}
 use Rattle.proto_syntax.specs.declared.tree.service.Service.{Service}
 use Rattle.proto_desc.specs.declared.rules.Element.TheVariants as element
-use Rattle.proto_desc.specs.Lowering.Options.{bracketed, separated, enum_setting, service_setting}
+use Rattle.proto_lower.specs.Options.{bracketed, separated, enum_setting, service_setting}
 use Rattle.proto_checks.specs.Elements.{member_of, is_member, oneof_setting, IsEmptyOneof, OneofBreaks, value_of_item, is_value, IsEmptyEnum, ValueBreaks, EnumBreaks, rpc_of, RpcBreaks, ServiceBreaks}
 use Rattle.proto_checks.specs.Gathered.{value_numbers}
-use Rattle.proto_checks.specs.Least.{IsLeast, IsLesser, spot}
+use Rattle.proto_base.specs.Least.{IsLeast, IsLesser, spot}
 use Rattle.proto_checks.specs.Numbers.{EnumNumbersBreak}
 use Rattle.proto_checks.specs.Options.{SettingsBreak, IsWronglyPacked, IsWronglyTyped, IsWrongOnField, optioned, FieldOptionsBreak}
-use Rattle.proto_checks.specs.Sets.{Each}
-use Rattle.proto_checks.specs.declared.spot.Spot.{Spot}
-use Rattle.proto_checks.proofs.Among.{each_either}
-use Rattle.proto_checks.proofs.Sets.{Either, least_either, least_same, least_hit, least_miss}
+use Rattle.proto_base.specs.Sets.{Each}
+use Rattle.proto_base.specs.declared.spot.Spot.{Spot}
+use Rattle.proto_base.proofs.Among.{each_either}
+use Rattle.proto_base.proofs.Sets.{Either, least_either, least_same, least_hit, least_miss}
 
 -- fields
 pub field_least : (d : Declarator) (packed wide : Bool) (os : Options) (a b r : Option Spot) → d.options ≡ Some os → IsLeast (Each (separated os.settings) (IsWrongOnField packed wide)) a → IsLeast (SettingsBreak element.Field (bracketed d.options)) b → IsLesser a b r → IsLeast (FieldOptionsBreak (optioned d packed wide)) r

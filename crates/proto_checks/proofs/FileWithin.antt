@@ -4,9 +4,9 @@ use Rattle.std.specs.Prelude.{flat_map, Option, None, Some}
 use Rattle.std.specs.List.{AllByRecursion}
 use Rattle.std.specs.Str.{byte}
 use Rattle.std.proofs.lemmas.List.Folds.{flat_map-map}
-use Rattle.proto_tokens.specs.declared.kind.Kind.TheVariants as kind
-use Rattle.proto_tokens.specs.declared.limits.Limits.{Limits}
-use Rattle.proto_tokens.specs.declared.place.Span.{Span}
+use Rattle.proto_base.specs.declared.kind.Kind.TheVariants as kind
+use Rattle.proto_base.specs.declared.limits.Limits.{Limits}
+use Rattle.proto_base.specs.declared.place.Span.{Span}
 use Rattle.proto_syntax.specs.Grammar.{Tree}
 use Rattle.proto_syntax.specs.Name.{Identifier}
 use Rattle.proto_syntax.specs.Trees.{symbol_tree, row, enum_tree, message_item_tree, message_tree, service_tree, package_tree, syntax_tree, statement_tree, file_tree}
@@ -22,8 +22,8 @@ use Rattle.proto_syntax.specs.declared.tree.message.MessageItem.TheVariants as o
 use Rattle.proto_syntax.specs.declared.tree.service.Service.{Service}
 use Rattle.proto_syntax.proofs.Items.{item_message}
 use Rattle.proto_desc.specs.DeclaredNames.{Declared, scoped, declared_field, declared_oneof, declared_value, declared_by_enum, declared_inside, declared_step, declared_by_message, declared_method, declared_by_service, file_scope, declared_in, declared_by}
-use Rattle.proto_desc.specs.Lowering.Files.{lowered}
-use Rattle.proto_desc.specs.Lowering.Options.{file_setting}
+use Rattle.proto_lower.specs.Files.{lowered}
+use Rattle.proto_lower.specs.Options.{file_setting}
 use Rattle.proto_desc.specs.Places.{field_places, oneof_place, value_place, enum_places, message_places, method_places, service_places, package_places, import_place, places_of}
 use Rattle.proto_desc.specs.declared.enumeration.EnumDesc.{EnumDesc}
 use Rattle.proto_desc.specs.declared.enumeration.ValueDesc.{ValueDesc}
@@ -37,11 +37,11 @@ use Rattle.proto_desc.specs.declared.oneof.OneofDesc.{OneofDesc}
 use Rattle.proto_desc.specs.declared.rules.Element.TheVariants as element
 use Rattle.proto_desc.specs.declared.service.MethodDesc.{MethodDesc}
 use Rattle.proto_desc.specs.declared.service.ServiceDesc.{ServiceDesc}
-use Rattle.proto_desc.proofs.PlacesWithin.{Within, AtMost, front, rest, both, left_of, right_of, each_row, each_flat, each_map, each_weaker, ItemWithin, places_out, lowered_within}
+use Rattle.proto_lower.proofs.PlacesWithin.{Within, AtMost, front, rest, both, left_of, right_of, each_row, each_flat, each_map, each_weaker, ItemWithin, places_out, lowered_within}
 use Rattle.proto_checks.specs.Checks.{FileBreaks, package_in, body_in, enum_in, service_in, import_mark, IsTooLong, IsPartTooLong, PackageTooLong, parts_of, json_mark, field_mark, value_mark, EnumNamesBreak, MessageNames, MessageNamesBreak, names_step, names_of}
 use Rattle.proto_checks.specs.Elements.{BodyBreaks, EnumBreaks, ServiceBreaks, bodies, bodies_of, bodies_row}
 use Rattle.proto_checks.specs.Marks.{Marked}
-use Rattle.proto_checks.specs.declared.spot.Spot.{Spot}
+use Rattle.proto_base.specs.declared.spot.Spot.{Spot}
 use Rattle.proto_checks.proofs.Items.{nested_bodies}
 use Rattle.proto_checks.proofs.Spots.{Placed, SpotWithin, at_spot, each_within, later_within, TextsWithin, text_twice, name_used}
 use Rattle.proto_checks.proofs.Within.{given, SettingWithin, statement_within, settings_break, ItemsWithin, enum_breaks, body_breaks, service_breaks}

@@ -1,15 +1,15 @@
 -- Ranges in two halves, and what a cover says of them.
 use Rattle.std.proofs.Common.{◌≡◌, ℕ, ◌+◌, ◌<◌, ◌≤◌, List, [], ◌∷◌, ◌++◌, length, refl, subst, arith, inl, inr, ◌⊎◌, zero, suc}
 use Rattle.std.specs.Prelude.{Option, None}
-use Rattle.proto_checks.specs.declared.spot.Spot.{Spot}
+use Rattle.proto_base.specs.declared.spot.Spot.{Spot}
 use Rattle.proto_checks.specs.declared.covers.Interval.{Interval}
 use Rattle.proto_checks.specs.declared.marks.MarkedNumber.{MarkedNumber}
 use Rattle.proto_checks.specs.declared.marks.MarkedRange.{MarkedRange}
 use Rattle.proto_checks.specs.Covers.{IsCover, IsAcross, Reached}
-use Rattle.proto_checks.specs.Least.{IsLeast, IsLesser}
+use Rattle.proto_base.specs.Least.{IsLeast, IsLesser}
 use Rattle.proto_checks.specs.Marks.{Holds, Share, ReservedOverlap, ReservedNumberUsed}
-use Rattle.proto_checks.specs.Sets.{StandsAt, Each}
-use Rattle.proto_checks.proofs.Sets.{Either, least_either, least_same, least_none}
+use Rattle.proto_base.specs.Sets.{StandsAt, Each}
+use Rattle.proto_base.proofs.Sets.{Either, least_either, least_same, least_none}
 
 pub stands_split : {X : Type 0} (xs ys : List X) (i : ℕ) (a : X) → StandsAt (xs ++ ys) i a → ((i < length xs) × StandsAt xs i a) ⊎ ((j : ℕ) × (i ≡ length xs + j) × StandsAt ys j a)
 stands_split [] ys i a s = inr (i, omega arith, s)

@@ -3,10 +3,10 @@ use Rattle.std.proofs.Common.{ℕ, ◌+◌, List}
 use Rattle.std.specs.Prelude.{Option, Some, None}
 use Rattle.proto_checks.specs.declared.marks.MarkedNumber.{MarkedNumber}
 use Rattle.proto_checks.specs.declared.marks.MarkedRange.{MarkedRange}
-use Rattle.proto_checks.specs.declared.spot.Spot.{Spot}
-use Rattle.proto_checks.specs.Least.{IsLeast, IsLesser}
-use Rattle.proto_checks.specs.Sets.{StandsAt}
-use Rattle.proto_checks.proofs.Sets.{EachTo, Where, each_more, least_hit, least_miss, lesser_none}
+use Rattle.proto_base.specs.declared.spot.Spot.{Spot}
+use Rattle.proto_base.specs.Least.{IsLeast, IsLesser}
+use Rattle.proto_base.specs.Sets.{StandsAt}
+use Rattle.proto_base.proofs.Sets.{EachTo, Where, each_more, least_hit, least_miss, lesser_none}
 
 -- the spots of the elements at which P holds
 abbrev pub Hits : {X : Type 0} → (X → Type 0) → (X → Spot) → X → Spot → Type 0

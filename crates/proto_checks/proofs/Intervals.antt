@@ -8,10 +8,10 @@ use Rattle.std.proofs.lemmas.List.{get_or_default, take_more_set, drop-set-lt}
 use Rattle.std.proofs.lemmas.List.Elements.{Contains-append_left, Contains-push, Contains-push_cases}
 use Rattle.std.proofs.lemmas.List.Sorted.{Contains-permutation, IsPermutation-sym}
 use Rattle.proto_checks.specs.Covers.{interval_of, AreIntervals, RisesByStart, RisesByEnd, Reached, IsRaised, IsHeld, IsCover}
-use Rattle.proto_checks.specs.Sets.{StandsAt}
+use Rattle.proto_base.specs.Sets.{StandsAt}
 use Rattle.proto_checks.specs.declared.covers.Interval.{Interval}
 use Rattle.proto_checks.specs.declared.marks.MarkedRange.{MarkedRange}
-use Rattle.proto_checks.proofs.Sets.{one_at}
+use Rattle.proto_base.proofs.Sets.{one_at}
 
 -- the intervals are those of the first n ranges that hold a number
 abbrev pub IntervalsTo : List MarkedRange → ℕ → List Interval → Type 0

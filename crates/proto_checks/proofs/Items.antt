@@ -10,16 +10,16 @@ use Rattle.proto_syntax.specs.declared.tree.message.MessageItem.{MessageItem, Me
 use Rattle.proto_syntax.specs.declared.tree.message.MessageItem.TheVariants as of
 use Rattle.proto_syntax.specs.declared.tree.oneof.Oneof.{Oneof}
 use Rattle.proto_desc.specs.declared.rules.Element.TheVariants as element
-use Rattle.proto_desc.specs.Lowering.Options.{message_setting}
+use Rattle.proto_lower.specs.Options.{message_setting}
 use Rattle.proto_checks.specs.Elements.{OneofBreaks, oneof_of, EnumBreaks, enum_of, BodyBreaks, ItemBreaks, bodies_of, bodies_row, bodies}
-use Rattle.proto_checks.specs.Least.{IsLeast, IsLesser}
+use Rattle.proto_base.specs.Least.{IsLeast, IsLesser}
 use Rattle.proto_checks.specs.Numbers.{FieldNumbersBreak}
 use Rattle.proto_checks.specs.Options.{optioned, optioned_plain, optioned_member, optioned_fields, FieldOptionsBreak, SettingsBreak}
-use Rattle.proto_checks.specs.Sets.{Each}
-use Rattle.proto_checks.specs.declared.spot.Spot.{Spot}
-use Rattle.proto_checks.proofs.Among.{among_of, least_single}
+use Rattle.proto_base.specs.Sets.{Each}
+use Rattle.proto_base.specs.declared.spot.Spot.{Spot}
+use Rattle.proto_base.proofs.Among.{among_of, least_single}
 use Rattle.proto_checks.proofs.Three.{first_of_three, last_of_three, two_of_three, each_three}
-use Rattle.proto_checks.proofs.Sets.{Either, least_either, least_same}
+use Rattle.proto_base.proofs.Sets.{Either, least_either, least_same}
 
 -- statements of a message
 pub item_field : (f : Field) (r : Option Spot) → IsLeast (FieldOptionsBreak (optioned_plain f)) r → IsLeast (ItemBreaks (of.Field f)) r

@@ -1,4 +1,3 @@
-pub mod Among
 pub mod ElementUnions
 pub mod Halves
 pub mod Hits
@@ -10,7 +9,6 @@ pub mod Named
 pub mod NumberUnions
 pub mod Packages
 pub mod Rising
-pub mod Sets
 pub mod Settling
 pub mod Three
 pub mod Whole

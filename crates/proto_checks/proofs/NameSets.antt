@@ -7,10 +7,10 @@ use Rattle.std.proofs.lemmas.Bool.{false≢true}
 use Rattle.std.proofs.lemmas.List.{take_more}
 use Rattle.std.proofs.lemmas.List.Elements.{Contains-append_left, Contains-push, Contains-push_cases}
 use denote.Ref.{Bor}
-use Rattle.proto_checks.specs.Least.{IsLeast}
+use Rattle.proto_base.specs.Least.{IsLeast}
 use Rattle.proto_checks.specs.Marks.{Marked, ReservedNameUsed}
 use Rattle.proto_checks.specs.NameSets.{IsSetOf}
-use Rattle.proto_checks.proofs.Sets.{text_cmp, exact_text, least_none}
+use Rattle.proto_base.proofs.Sets.{text_cmp, exact_text, least_none}
 
 either_of : (b o : Bool) → cond b true o ≡ true → (b ≡ true) ⊎ (o ≡ true)
 either_of true o h = inl refl

@@ -2,18 +2,18 @@
 use Rattle.std.proofs.Common.{◌≡◌, ◌∙◌, ap, ℕ, List, ◌∷◌, ◌++◌, map, inl, inr}
 use Rattle.std.specs.Prelude.{Option, flat_map}
 use Rattle.std.proofs.lemmas.List.Folds.{flat_map-map}
-use Rattle.proto_tokens.specs.declared.kind.Kind.TheVariants as kind
+use Rattle.proto_base.specs.declared.kind.Kind.TheVariants as kind
 use Rattle.proto_desc.specs.DeclaredNames.{Declared, scoped, declared_field, declared_oneof, declared_by_enum, declared_by_message, declared_step}
 use Rattle.proto_desc.specs.declared.message.MessageDesc.{MessageDesc}
 use Rattle.proto_desc.specs.declared.message.MessageDesc.TheViews.{out-MessageDesc}
 use Rattle.proto_desc.specs.declared.message.MessageDesc.TheFolds.{fold_out-MessageDesc}
 use Rattle.proto_desc.specs.declared.name_kind.NameKind.TheVariants as name_kind
 use Rattle.proto_checks.specs.Checks.{json_mark, field_mark, EnumNamesBreak, MessageNames, MessageNamesBreak, names_step, names_of}
-use Rattle.proto_checks.specs.Least.{IsLeast, IsLesser}
+use Rattle.proto_base.specs.Least.{IsLeast, IsLesser}
 use Rattle.proto_checks.specs.Marks.{TextTwice, ReservedNameUsed}
-use Rattle.proto_checks.specs.Sets.{Each}
-use Rattle.proto_checks.specs.declared.spot.Spot.{Spot}
-use Rattle.proto_checks.proofs.Sets.{Either, least_either, least_same}
+use Rattle.proto_base.specs.Sets.{Each}
+use Rattle.proto_base.specs.declared.spot.Spot.{Spot}
+use Rattle.proto_base.proofs.Sets.{Either, least_either, least_same}
 
 -- the names of one message
 abbrev pub own_names : MessageDesc → MessageNames

@@ -1,23 +1,23 @@
 -- What breaks the rules on numbers, as a union of the rules.
 use Rattle.std.proofs.Common.{List, ◌+◌, ◌-◌, ◌^◌, inl, inr}
 use Rattle.std.specs.Prelude.{Option, flat_map}
-use Rattle.proto_tokens.specs.declared.kind.Kind.TheVariants as kind
+use Rattle.proto_base.specs.declared.kind.Kind.TheVariants as kind
 use Rattle.proto_syntax.specs.declared.tree.enumeration.EnumItem.{EnumItem}
 use Rattle.proto_syntax.specs.declared.tree.message.MessageItem.{MessageItem}
 use Rattle.proto_desc.specs.declared.rules.OptionName.TheVariants.{AllowAlias}
-use Rattle.proto_desc.specs.Lowering.Options.{enum_setting, first_setting}
+use Rattle.proto_lower.specs.Options.{enum_setting, first_setting}
 use Rattle.proto_checks.specs.Breaks as ranges
 use Rattle.proto_checks.specs.Breaks.{RangesBreak, ValueTwice}
 use Rattle.proto_checks.specs.Gathered.{field_numbers, message_ranges, message_bounds, message_reserved_names, value_numbers, enum_ranges, enum_bounds, enum_reserved_names}
-use Rattle.proto_checks.specs.Least.{IsLeast}
+use Rattle.proto_base.specs.Least.{IsLeast}
 use Rattle.proto_checks.specs.Marks.{NumberTwice, TextTwice, Outside, ReservedBackwards, ReservedNumberUsed, ReservedOverlap}
 use Rattle.proto_checks.specs.Numbers as rules
 use Rattle.proto_checks.specs.Numbers.{IsNoFieldNumber, FirstNotZero, FieldNumbersBreak, EnumNumbersBreak}
-use Rattle.proto_checks.specs.Sets.{Each}
+use Rattle.proto_base.specs.Sets.{Each}
 use Rattle.proto_checks.specs.declared.marks.MarkedNumber.{MarkedNumber}
 use Rattle.proto_checks.specs.declared.marks.MarkedRange.{MarkedRange}
-use Rattle.proto_checks.specs.declared.spot.Spot.{Spot}
-use Rattle.proto_checks.proofs.Sets.{Either, least_same}
+use Rattle.proto_base.specs.declared.spot.Spot.{Spot}
+use Rattle.proto_base.proofs.Sets.{Either, least_same}
 
 -- the rules on reserved ranges
 abbrev pub RangeRules : List MarkedRange → List MarkedNumber → Spot → Type 0

@@ -3,16 +3,16 @@ use Rattle.std.proofs.Common.{◌≡◌, ◌∙◌, sym, ap, refl, subst, ℕ, z
 use Rattle.std.specs.Prelude.{Option, None, ◌↔◌, flat_map}
 use Rattle.std.proofs.lemmas.Bool.{cases_lt, false≢true}
 use Rattle.std.proofs.lemmas.List.{length-append, append-nil, take_all}
-use Rattle.proto_tokens.specs.declared.kind.Kind.TheVariants as kind
-use Rattle.proto_tokens.specs.declared.limits.Limits.{Limits}
+use Rattle.proto_base.specs.declared.kind.Kind.TheVariants as kind
+use Rattle.proto_base.specs.declared.limits.Limits.{Limits}
 use Rattle.proto_syntax.specs.declared.tree.file.Package.{Package}
 use Rattle.proto_syntax.specs.declared.tree.file.Statement.{Statement}
 use Rattle.proto_checks.specs.Checks.{package_in, PackageTwice, parts_of, IsPartTooLong, IsWholeTooLong, PackageTooLong, Where}
-use Rattle.proto_checks.specs.Least.{IsLeast, IsLesser, spot}
-use Rattle.proto_checks.specs.Sets.{Each}
-use Rattle.proto_checks.specs.declared.spot.Spot.{Spot}
-use Rattle.proto_checks.proofs.Among.{taken, later_short}
-use Rattle.proto_checks.proofs.Sets.{Either, least_either, least_or, least_same}
+use Rattle.proto_base.specs.Least.{IsLeast, IsLesser, spot}
+use Rattle.proto_base.specs.Sets.{Each}
+use Rattle.proto_base.specs.declared.spot.Spot.{Spot}
+use Rattle.proto_base.proofs.Among.{taken, later_short}
+use Rattle.proto_base.proofs.Sets.{Either, least_either, least_or, least_same}
 
 abbrev pub again : Package → Spot
 again p = spot p.keyword.start kind.PackageTwice

@@ -4,19 +4,19 @@ use Rattle.std.proofs.lemmas.Bool.{true≢false, false≢true}
 use Rattle.std.specs.Prelude.{◌||◌, ◌&&◌, not, Option, Some, None, Contains}
 use Rattle.std.specs.List.{list_any}
 use Rattle.std.specs.Option.{is_some}
-use Rattle.proto_tokens.specs.declared.kind.Kind.TheVariants as kind
+use Rattle.proto_base.specs.declared.kind.Kind.TheVariants as kind
 use Rattle.proto_syntax.specs.declared.tree.option.Setting.{Setting}
 use Rattle.proto_desc.specs.declared.rules.Element.{Element}
-use Rattle.proto_desc.specs.Lowering.Options.{is_setting, value_of}
+use Rattle.proto_lower.specs.Options.{is_setting, value_of}
 use Rattle.proto_desc.specs.Rules.{rules_of}
-use Rattle.proto_checks.specs.Least.{IsLeast, IsLesser, spot}
+use Rattle.proto_base.specs.Least.{IsLeast, IsLesser, spot}
 use Rattle.proto_checks.specs.Options.{name_place, value_place, IsUnknown, IsMistaken, SettingBreaks, unknown, mistaken, OptionTwice, SettingsBreak}
 use Rattle.proto_checks.specs.Judged.{is_known, is_known_by, is_mistaken, is_mistaken_by, setting_fault, judged, IsFaultOf, JudgedTwice}
-use Rattle.proto_checks.specs.Sets.{Each}
+use Rattle.proto_base.specs.Sets.{Each}
 use Rattle.proto_checks.specs.declared.options.Judged.{Judged}
-use Rattle.proto_checks.specs.declared.spot.Spot.{Spot}
-use Rattle.proto_checks.proofs.Among.{each_on, later_map}
-use Rattle.proto_checks.proofs.Sets.{least_either}
+use Rattle.proto_base.specs.declared.spot.Spot.{Spot}
+use Rattle.proto_base.proofs.Among.{each_on, later_map}
+use Rattle.proto_base.proofs.Sets.{least_either}
 
 -- what a test of each element says
 or_left : (a b : Bool) → (a || b) ≡ false → a ≡ false

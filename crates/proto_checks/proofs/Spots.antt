@@ -1,14 +1,14 @@
 -- The spots of the rules on marks lie where the marks do.
 use Rattle.std.proofs.Common.{◌≡◌, ◌∙◌, sym, subst, ap, ℕ, zero, suc, ◌+◌, ◌<◌, ◌≤◌, List, [], ◌∷◌, length, get_or, arith, inl, inr}
 use Rattle.std.specs.List.{AllByRecursion}
-use Rattle.proto_tokens.specs.declared.kind.Kind.{Kind}
-use Rattle.proto_tokens.specs.declared.place.Place.{Place}
-use Rattle.proto_checks.specs.Least.{spot}
+use Rattle.proto_base.specs.declared.kind.Kind.{Kind}
+use Rattle.proto_base.specs.declared.place.Place.{Place}
+use Rattle.proto_base.specs.Least.{spot}
 use Rattle.proto_checks.specs.Marks.{Marked, NumberTwice, TextTwice, IsOutside, Outside, ReservedOverlap, IsBackwards, ReservedBackwards, IsReserved, ReservedNumberUsed, IsReservedName, ReservedNameUsed}
-use Rattle.proto_checks.specs.Sets.{StandsAt, Each, Later}
+use Rattle.proto_base.specs.Sets.{StandsAt, Each, Later}
 use Rattle.proto_checks.specs.declared.marks.MarkedNumber.{MarkedNumber}
 use Rattle.proto_checks.specs.declared.marks.MarkedRange.{MarkedRange}
-use Rattle.proto_checks.specs.declared.spot.Spot.{Spot}
+use Rattle.proto_base.specs.declared.spot.Spot.{Spot}
 
 abbrev pub Placed : ℕ → Place → Type 0
 Placed n p = p.offset ≤ n

@@ -1,11 +1,11 @@
 -- Elements of three kinds, each with its rule.
 use Rattle.std.proofs.Common.{List, inl, inr}
 use Rattle.std.specs.Prelude.{Option, flat_map}
-use Rattle.proto_checks.specs.Least.{IsLeast}
-use Rattle.proto_checks.specs.Sets.{Each}
-use Rattle.proto_checks.specs.declared.spot.Spot.{Spot}
-use Rattle.proto_checks.proofs.Among.{each_flat, flat_each}
-use Rattle.proto_checks.proofs.Sets.{Either, least_same}
+use Rattle.proto_base.specs.Least.{IsLeast}
+use Rattle.proto_base.specs.Sets.{Each}
+use Rattle.proto_base.specs.declared.spot.Spot.{Spot}
+use Rattle.proto_base.proofs.Among.{each_flat, flat_each}
+use Rattle.proto_base.proofs.Sets.{Either, least_same}
 
 -- a statement of one kind breaks no rule of another
 pub first_of_three : (A B C : Spot → Type 0) (r : Option Spot) → ((x : Spot) → B x → ⊥) → ((x : Spot) → C x → ⊥) → IsLeast A r → IsLeast (Either (Either A B) C) r

@@ -1,7 +1,7 @@
 -- The rules of a file as unions of those that functions look at.
 use Rattle.std.proofs.Common.{List, [], ◌∷◌, ◌++◌, inl, inr}
 use Rattle.std.specs.Prelude.{Option, flat_map}
-use Rattle.proto_tokens.specs.declared.limits.Limits.{Limits}
+use Rattle.proto_base.specs.declared.limits.Limits.{Limits}
 use Rattle.proto_syntax.specs.declared.tree.enumeration.Enum.{Enum}
 use Rattle.proto_syntax.specs.declared.tree.file.FileTree.{FileTree}
 use Rattle.proto_syntax.specs.declared.tree.file.Statement.{Statement}
@@ -11,11 +11,11 @@ use Rattle.proto_desc.specs.DeclaredNames.{declared_by_message, declared_by_enum
 use Rattle.proto_desc.specs.declared.file.FileDesc.{FileDesc}
 use Rattle.proto_checks.specs.Checks.{body_in, enum_in, service_in, HeadBreaks, StatementBreaks, NamesBreak, LengthsBreak, IsTooLong, FileBreaks}
 use Rattle.proto_checks.specs.Elements.{BodyBreaks, EnumBreaks, ServiceBreaks}
-use Rattle.proto_checks.specs.Least.{IsLeast, IsLesser}
-use Rattle.proto_checks.specs.Sets.{Each}
-use Rattle.proto_checks.specs.declared.spot.Spot.{Spot}
-use Rattle.proto_checks.proofs.Among.{among_of, least_single, least_append}
-use Rattle.proto_checks.proofs.Sets.{Either, least_either, least_same}
+use Rattle.proto_base.specs.Least.{IsLeast, IsLesser}
+use Rattle.proto_base.specs.Sets.{Each}
+use Rattle.proto_base.specs.declared.spot.Spot.{Spot}
+use Rattle.proto_base.proofs.Among.{among_of, least_single, least_append}
+use Rattle.proto_base.proofs.Sets.{Either, least_either, least_same}
 use Rattle.proto_checks.proofs.Three.{second_of_three, last_of_three, each_three}
 
 pub statement_enum : (e : Enum) (r : Option Spot) → IsLeast (EnumBreaks e) r → IsLeast (StatementBreaks (statement.Enum e)) r

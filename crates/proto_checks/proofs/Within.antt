@@ -3,8 +3,8 @@ use Rattle.std.proofs.Common.{◌≡◌, sym, subst, ℕ, ◌≤◌, List, [], �
 use Rattle.std.specs.Prelude.{flat_map, Option, None, Some, codes}
 use Rattle.std.specs.List.{AllByRecursion}
 use Rattle.std.specs.Str.{byte}
-use Rattle.proto_tokens.specs.declared.kind.Kind.TheVariants as kind
-use Rattle.proto_tokens.specs.declared.place.Span.{Span}
+use Rattle.proto_base.specs.declared.kind.Kind.TheVariants as kind
+use Rattle.proto_base.specs.declared.place.Span.{Span}
 use Rattle.proto_syntax.specs.Grammar.{Tree, Pair, Left, Right}
 use Rattle.proto_syntax.specs.Trees.{symbol_tree, full_tree, word_tree, row, next_tree, optional, separated_tree, str_tree, constant_tree, sign_tree, number_tree, signed_tree, setting_tree, options_tree, option_tree, range_tree, range_end_tree, bound_tree, reserved_items_tree, reserved_tree, type_tree, declarator_tree, member_tree, oneof_item_tree, oneof_tree, value_tree, enum_item_tree, enum_tree, map_type_tree, map_tree, message_item_tree, rpc_tree, rpc_type_tree, rpc_body_tree, rpc_item_tree, service_item_tree, service_tree}
 use Rattle.proto_syntax.specs.declared.tree.constant.Constant.{Constant}
@@ -47,18 +47,18 @@ use Rattle.proto_syntax.specs.declared.tree.service.ServiceItem.TheVariants as s
 use Rattle.proto_syntax.proofs.Items.{item_field, item_map, item_oneof, item_enum, item_option, item_reserved}
 use Rattle.proto_desc.specs.declared.rules.Element.{Element}
 use Rattle.proto_desc.specs.declared.rules.Element.TheVariants as element
-use Rattle.proto_desc.specs.Lowering.Options.{next_item, separated, bracketed, message_setting, enum_setting, service_setting, rpc_setting}
-use Rattle.proto_desc.specs.Lowering.Services.{rpc_items}
-use Rattle.proto_desc.proofs.PlacesWithin.{Within, front, rest, both, left_of, right_of, each_row, each_flat, each_map, each_weaker, ItemWithin, oneof_items_within, statement_field_within}
+use Rattle.proto_lower.specs.Options.{next_item, separated, bracketed, message_setting, enum_setting, service_setting, rpc_setting}
+use Rattle.proto_lower.specs.Services.{rpc_items}
+use Rattle.proto_lower.proofs.PlacesWithin.{Within, front, rest, both, left_of, right_of, each_row, each_flat, each_map, each_weaker, ItemWithin, oneof_items_within, statement_field_within}
 use Rattle.proto_checks.specs.Elements.{OneofBreaks, ValueBreaks, EnumBreaks, BodyBreaks, RpcBreaks, ServiceBreaks, oneof_setting, value_of_item, oneof_of, enum_of, rpc_of}
 use Rattle.proto_checks.specs.Gathered.{literal, declarator_number, member_number, field_number, field_numbers, ranges_listed, names_listed, reserved_name, message_ranges_listed, message_names_listed, end_bound, upper_bound_number, bounds_of, message_range, message_ranges, message_bounds, message_reserved_names, sign_place, signed_number, value_number, value_numbers, enum_ranges_listed, enum_names_listed, enum_range, enum_ranges, enum_bounds, enum_reserved_names}
 use Rattle.proto_checks.specs.Numbers.{FieldNumbersBreak, EnumNumbersBreak, IsNoFieldNumber}
 use Rattle.proto_checks.specs.Options.{name_place, value_place, SettingBreaks, SettingsBreak, OptionedField, optioned_member, optioned_fields, FieldOptionsBreak, IsWronglyPacked, IsWronglyTyped}
-use Rattle.proto_checks.specs.Sets.{StandsAt, Each}
+use Rattle.proto_base.specs.Sets.{StandsAt, Each}
 use Rattle.proto_checks.specs.Marks.{Marked}
 use Rattle.proto_checks.specs.declared.marks.MarkedNumber.{MarkedNumber}
 use Rattle.proto_checks.specs.declared.marks.MarkedRange.{MarkedRange}
-use Rattle.proto_checks.specs.declared.spot.Spot.{Spot}
+use Rattle.proto_base.specs.declared.spot.Spot.{Spot}
 use Rattle.proto_checks.proofs.Spots.{Placed, SpotWithin, at_spot, standing, each_within, later_within, NumbersWithin, RangesWithin, TextsWithin, number_twice, text_twice, outside, overlap, backwards, number_used}
 
 -- ---- lists

@@ -1,12 +1,12 @@
 -- Parts of what the numbers of a message or an enum break.
 use Rattle.std.specs.Prelude.{List, Option}
 use Rattle.proto_syntax.specs.declared.tree.option.Setting.{Setting}
-use Rattle.proto_tokens.specs.declared.kind.Kind.TheVariants as kind
+use Rattle.proto_base.specs.declared.kind.Kind.TheVariants as kind
 use Rattle.proto_checks.specs.Marks.{NumberTwice, ReservedBackwards, ReservedNumberUsed, ReservedOverlap}
 use Rattle.proto_checks.specs.Numbers.{IsAliasing}
 use Rattle.proto_checks.specs.declared.marks.MarkedNumber.{MarkedNumber}
 use Rattle.proto_checks.specs.declared.marks.MarkedRange.{MarkedRange}
-use Rattle.proto_checks.specs.declared.spot.Spot.{Spot}
+use Rattle.proto_base.specs.declared.spot.Spot.{Spot}
 
 -- reserved ranges, with the numbers that are in use beside them
 pub data RangesBreak (rs : List MarkedRange) (ns : List MarkedNumber) (x : Spot) : Type 0 where

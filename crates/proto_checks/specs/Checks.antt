@@ -1,11 +1,11 @@
 -- The rules of a file that its own source can break.
 use Rattle.std.specs.Prelude.{◌≡◌, ◌≢◌, ℕ, ◌<◌, ◌⊎◌, List, [], ◌∷◌, map, flat_map, length, codes}
-use Rattle.proto_tokens.specs.Limits.{limit_of}
-use Rattle.proto_tokens.specs.declared.kind.Kind.{Kind}
-use Rattle.proto_tokens.specs.declared.kind.Kind.TheVariants as kind
-use Rattle.proto_tokens.specs.declared.limits.Limit.TheVariants as limit
-use Rattle.proto_tokens.specs.declared.limits.Limits.{Limits}
-use Rattle.proto_tokens.specs.declared.place.Place.{Place}
+use Rattle.proto_base.specs.Limits.{limit_of}
+use Rattle.proto_base.specs.declared.kind.Kind.{Kind}
+use Rattle.proto_base.specs.declared.kind.Kind.TheVariants as kind
+use Rattle.proto_base.specs.declared.limits.Limit.TheVariants as limit
+use Rattle.proto_base.specs.declared.limits.Limits.{Limits}
+use Rattle.proto_base.specs.declared.place.Place.{Place}
 use Rattle.proto_syntax.specs.declared.tree.enumeration.Enum.{Enum}
 use Rattle.proto_syntax.specs.declared.tree.file.FileTree.{FileTree}
 use Rattle.proto_syntax.specs.declared.tree.file.Package.{Package}
@@ -26,14 +26,14 @@ use Rattle.proto_desc.specs.declared.message.MessageDesc.{MessageDesc}
 use Rattle.proto_desc.specs.declared.message.MessageDesc.TheOpen.{MessageDesc-F}
 use Rattle.proto_desc.specs.declared.message.MessageDesc.TheFolds.{fold-MessageDesc}
 use Rattle.proto_desc.specs.declared.rules.Element.TheVariants as element
-use Rattle.proto_desc.specs.Lowering.Options.{file_setting}
-use Rattle.proto_desc.specs.Lowering.Text.{dotted, joined}
+use Rattle.proto_lower.specs.Options.{file_setting}
+use Rattle.proto_lower.specs.Text.{dotted, joined}
 use Rattle.proto_checks.specs.Elements.{BodyBreaks, EnumBreaks, ServiceBreaks, bodies}
-use Rattle.proto_checks.specs.Least.{spot}
+use Rattle.proto_base.specs.Least.{spot}
 use Rattle.proto_checks.specs.Marks.{Marked, TextTwice, ReservedNameUsed}
 use Rattle.proto_checks.specs.Options.{SettingsBreak}
-use Rattle.proto_checks.specs.Sets.{Each, Later}
-use Rattle.proto_checks.specs.declared.spot.Spot.{Spot}
+use Rattle.proto_base.specs.Sets.{Each, Later}
+use Rattle.proto_base.specs.declared.spot.Spot.{Spot}
 
 -- the syntax is named first
 abbrev pub NotProto3Syntax : Syntax → Spot → Type 0

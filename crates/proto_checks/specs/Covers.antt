@@ -1,13 +1,13 @@
 -- Intervals of numbers in order, and the numbers that they reach.
 use Rattle.std.specs.Prelude.{◌≡◌, ℕ, ◌≤◌, ◌↔◌, List, Contains}
 use Rattle.std.specs.List.Sorted.{IsNonDecreasingBy}
-use Rattle.proto_tokens.specs.declared.kind.Kind.TheVariants as kind
-use Rattle.proto_checks.specs.Least.{spot}
+use Rattle.proto_base.specs.declared.kind.Kind.TheVariants as kind
+use Rattle.proto_base.specs.Least.{spot}
 use Rattle.proto_checks.specs.Marks.{Holds, Share}
-use Rattle.proto_checks.specs.Sets.{StandsAt}
+use Rattle.proto_base.specs.Sets.{StandsAt}
 use Rattle.proto_checks.specs.declared.covers.Interval.{Interval}
 use Rattle.proto_checks.specs.declared.marks.MarkedRange.{MarkedRange}
-use Rattle.proto_checks.specs.declared.spot.Spot.{Spot}
+use Rattle.proto_base.specs.declared.spot.Spot.{Spot}
 
 abbrev pub interval_of : MarkedRange → Interval
 interval_of r = record { start = r.start; end = r.end }

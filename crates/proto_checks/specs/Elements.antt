@@ -1,6 +1,6 @@
 -- The rules of the elements of a file.
 use Rattle.std.specs.Prelude.{◌≡◌, Bool, true, false, List, [], ◌∷◌, ◌++◌, flat_map, ◌⊎◌}
-use Rattle.proto_tokens.specs.declared.kind.Kind.TheVariants as kind
+use Rattle.proto_base.specs.declared.kind.Kind.TheVariants as kind
 use Rattle.proto_syntax.specs.declared.tree.enumeration.Enum.{Enum}
 use Rattle.proto_syntax.specs.declared.tree.enumeration.EnumItem.{EnumItem}
 use Rattle.proto_syntax.specs.declared.tree.enumeration.EnumItem.TheVariants as enum_item
@@ -17,14 +17,14 @@ use Rattle.proto_syntax.specs.declared.tree.service.Service.{Service}
 use Rattle.proto_syntax.specs.declared.tree.service.ServiceItem.{ServiceItem}
 use Rattle.proto_syntax.specs.declared.tree.service.ServiceItem.TheVariants as service_item
 use Rattle.proto_desc.specs.declared.rules.Element.TheVariants as element
-use Rattle.proto_desc.specs.Lowering.Options.{bracketed, message_setting, enum_setting, service_setting, rpc_setting}
-use Rattle.proto_desc.specs.Lowering.Services.{rpc_items}
+use Rattle.proto_lower.specs.Options.{bracketed, message_setting, enum_setting, service_setting, rpc_setting}
+use Rattle.proto_lower.specs.Services.{rpc_items}
 use Rattle.proto_checks.specs.Gathered.{value_numbers}
-use Rattle.proto_checks.specs.Least.{spot}
+use Rattle.proto_base.specs.Least.{spot}
 use Rattle.proto_checks.specs.Numbers.{FieldNumbersBreak, EnumNumbersBreak}
 use Rattle.proto_checks.specs.Options.{SettingsBreak, FieldOptionsBreak, optioned_fields}
-use Rattle.proto_checks.specs.Sets.{Each}
-use Rattle.proto_checks.specs.declared.spot.Spot.{Spot}
+use Rattle.proto_base.specs.Sets.{Each}
+use Rattle.proto_base.specs.declared.spot.Spot.{Spot}
 
 -- oneofs
 abbrev pub member_of : OneofItem → List OneofField

@@ -2,8 +2,8 @@
 --
 -- Numbers of an enum may be negative. They are counted here from -2 ^ 64 on, which is 0, so that their order is that of numbers without a sign.
 use Rattle.std.specs.Prelude.{ℕ, ◌+◌, ◌-◌, ◌^◌, List, [], ◌∷◌, map, flat_map, Option, Some, None}
-use Rattle.proto_tokens.specs.declared.place.Place.{Place}
-use Rattle.proto_tokens.specs.declared.place.Span.{Span}
+use Rattle.proto_base.specs.declared.place.Place.{Place}
+use Rattle.proto_base.specs.declared.place.Span.{Span}
 use Rattle.proto_syntax.specs.declared.tree.enumeration.EnumItem.{EnumItem}
 use Rattle.proto_syntax.specs.declared.tree.enumeration.EnumItem.TheVariants as enum_item
 use Rattle.proto_syntax.specs.declared.tree.field.Declarator.{Declarator}
@@ -20,8 +20,8 @@ use Rattle.proto_syntax.specs.declared.tree.reserved.ReservedItems.{ReservedItem
 use Rattle.proto_syntax.specs.declared.tree.reserved.ReservedItems.TheVariants as reserved_items
 use Rattle.proto_syntax.specs.declared.tree.reserved.UpperBound.{UpperBound}
 use Rattle.proto_syntax.specs.declared.tree.reserved.UpperBound.TheVariants as upper_bound
-use Rattle.proto_desc.specs.Lowering.Options.{separated}
-use Rattle.proto_desc.specs.Lowering.Text.{joined}
+use Rattle.proto_lower.specs.Options.{separated}
+use Rattle.proto_lower.specs.Text.{joined}
 use Rattle.proto_checks.specs.Marks.{Marked}
 use Rattle.proto_checks.specs.declared.marks.MarkedNumber.{MarkedNumber}
 use Rattle.proto_checks.specs.declared.marks.MarkedRange.{MarkedRange}

@@ -2,19 +2,19 @@
 use Rattle.std.specs.Prelude.{◌≡◌, Bool, ◌&&◌, not, List, Option, Some, None, if◌then◌else◌}
 use Rattle.std.specs.List.{list_any}
 use Rattle.std.specs.Option.{is_some}
-use Rattle.proto_tokens.specs.declared.kind.Kind.TheVariants as kind
+use Rattle.proto_base.specs.declared.kind.Kind.TheVariants as kind
 use Rattle.proto_syntax.specs.declared.tree.option.Setting.{Setting}
 use Rattle.proto_desc.specs.declared.rules.Element.{Element}
 use Rattle.proto_desc.specs.declared.rules.OptionRule.{OptionRule}
-use Rattle.proto_desc.specs.Lowering.Options.{is_setting, value_of}
-use Rattle.proto_desc.specs.Lowering.Text.{dotted}
+use Rattle.proto_lower.specs.Options.{is_setting, value_of}
+use Rattle.proto_lower.specs.Text.{dotted}
 use Rattle.proto_desc.specs.Rules.{rules_of}
-use Rattle.proto_checks.specs.Least.{spot}
+use Rattle.proto_base.specs.Least.{spot}
 use Rattle.proto_checks.specs.Marks.{Marked}
 use Rattle.proto_checks.specs.Options.{name_place, value_place}
-use Rattle.proto_checks.specs.Sets.{Later}
+use Rattle.proto_base.specs.Sets.{Later}
 use Rattle.proto_checks.specs.declared.options.Judged.{Judged}
-use Rattle.proto_checks.specs.declared.spot.Spot.{Spot}
+use Rattle.proto_base.specs.declared.spot.Spot.{Spot}
 
 abbrev pub is_known_by : Setting → OptionRule → Bool
 is_known_by s r = is_setting r.name s

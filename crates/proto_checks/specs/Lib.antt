@@ -1,5 +1,3 @@
-pub mod Least
-pub mod Sets
 pub mod Marks
 pub mod Covers
 pub mod Gathered

@@ -1,13 +1,13 @@
 -- Rules on numbers, texts and ranges of numbers, each with its place.
 use Rattle.std.specs.Prelude.{◌≡◌, ℕ, ◌<◌, ◌≤◌, List, Contains}
-use Rattle.proto_tokens.specs.declared.kind.Kind.{Kind}
-use Rattle.proto_tokens.specs.declared.kind.Kind.TheVariants as kind
-use Rattle.proto_tokens.specs.declared.place.Place.{Place}
-use Rattle.proto_checks.specs.Least.{spot}
-use Rattle.proto_checks.specs.Sets.{StandsAt, Each, Later}
+use Rattle.proto_base.specs.declared.kind.Kind.{Kind}
+use Rattle.proto_base.specs.declared.kind.Kind.TheVariants as kind
+use Rattle.proto_base.specs.declared.place.Place.{Place}
+use Rattle.proto_base.specs.Least.{spot}
+use Rattle.proto_base.specs.Sets.{StandsAt, Each, Later}
 use Rattle.proto_checks.specs.declared.marks.MarkedNumber.{MarkedNumber}
 use Rattle.proto_checks.specs.declared.marks.MarkedRange.{MarkedRange}
-use Rattle.proto_checks.specs.declared.spot.Spot.{Spot}
+use Rattle.proto_base.specs.declared.spot.Spot.{Spot}
 
 -- a text and where it stands
 pub record Marked : Type 0 where

@@ -1,19 +1,19 @@
 -- The rules on the numbers of a message's fields and of an enum's values, and on what is reserved.
 use Rattle.std.specs.Prelude.{◌≡◌, ◌≢◌, ℕ, ◌+◌, ◌-◌, ◌^◌, ◌≤◌, List, flat_map, Option, Some, None}
-use Rattle.proto_tokens.specs.declared.kind.Kind.TheVariants as kind
+use Rattle.proto_base.specs.declared.kind.Kind.TheVariants as kind
 use Rattle.proto_syntax.specs.declared.tree.enumeration.EnumItem.{EnumItem}
 use Rattle.proto_syntax.specs.declared.tree.message.MessageItem.{MessageItem}
 use Rattle.proto_syntax.specs.declared.tree.option.Setting.{Setting}
 use Rattle.proto_desc.specs.declared.options.OptionValue.TheVariants.{Number}
 use Rattle.proto_desc.specs.declared.rules.OptionName.TheVariants.{AllowAlias}
 use Rattle.proto_desc.specs.declared.rules.ValueKind.TheVariants as value_kind
-use Rattle.proto_desc.specs.Lowering.Options.{enum_setting, first_setting, value_of}
+use Rattle.proto_lower.specs.Options.{enum_setting, first_setting, value_of}
 use Rattle.proto_checks.specs.Gathered.{field_numbers, message_ranges, message_bounds, message_reserved_names, value_numbers, enum_ranges, enum_bounds, enum_reserved_names}
-use Rattle.proto_checks.specs.Least.{spot}
+use Rattle.proto_base.specs.Least.{spot}
 use Rattle.proto_checks.specs.Marks.{NumberTwice, TextTwice, Outside, ReservedOverlap, ReservedBackwards, ReservedNumberUsed}
-use Rattle.proto_checks.specs.Sets.{StandsAt, Each}
+use Rattle.proto_base.specs.Sets.{StandsAt, Each}
 use Rattle.proto_checks.specs.declared.marks.MarkedNumber.{MarkedNumber}
-use Rattle.proto_checks.specs.declared.spot.Spot.{Spot}
+use Rattle.proto_base.specs.declared.spot.Spot.{Spot}
 
 -- 1 to 536,870,911, but for 19,000 to 19,999
 abbrev pub IsFieldNumber : ℕ → Type 0

@@ -1,8 +1,8 @@
 -- Rules on the options of an element.
 use Rattle.std.specs.Prelude.{◌≡◌, ◌≢◌, ℕ, Bool, true, false, ◌&&◌, ◌⊎◌, List, [], ◌∷◌, flat_map, Option, Some, None, Contains}
-use Rattle.proto_tokens.specs.declared.kind.Kind.TheVariants as kind
-use Rattle.proto_tokens.specs.declared.place.Place.{Place}
-use Rattle.proto_tokens.specs.declared.place.Span.{Span}
+use Rattle.proto_base.specs.declared.kind.Kind.TheVariants as kind
+use Rattle.proto_base.specs.declared.place.Place.{Place}
+use Rattle.proto_base.specs.declared.place.Span.{Span}
 use Rattle.proto_syntax.specs.declared.tree.constant.Constant.{Constant}
 use Rattle.proto_syntax.specs.declared.tree.constant.Constant.TheVariants as constant
 use Rattle.proto_syntax.specs.declared.tree.constant.Sign.{Sign}
@@ -19,7 +19,7 @@ use Rattle.proto_syntax.specs.declared.tree.oneof.OneofField.{OneofField}
 use Rattle.proto_syntax.specs.declared.tree.oneof.OneofItem.{OneofItem}
 use Rattle.proto_syntax.specs.declared.tree.oneof.OneofItem.TheVariants as oneof_item
 use Rattle.proto_syntax.specs.declared.tree.option.Setting.{Setting}
-use Rattle.proto_syntax.specs.declared.tree.scalar.ScalarType.TheVariants as scalar
+use Rattle.proto_base.specs.declared.scalar_type.ScalarType.TheVariants as scalar
 use Rattle.proto_desc.specs.declared.options.OptionValue.TheVariants.{Number}
 use Rattle.proto_desc.specs.declared.rules.Element.{Element}
 use Rattle.proto_desc.specs.declared.rules.Element.TheVariants as element
@@ -27,12 +27,12 @@ use Rattle.proto_desc.specs.declared.rules.OptionName.TheVariants.{Packed, Jstyp
 use Rattle.proto_desc.specs.declared.rules.OptionRule.{OptionRule}
 use Rattle.proto_desc.specs.declared.rules.ValueKind.{ValueKind}
 use Rattle.proto_desc.specs.declared.rules.ValueKind.TheVariants as value_kind
-use Rattle.proto_desc.specs.Lowering.Options.{bracketed, is_setting, number_of, value_of}
-use Rattle.proto_desc.specs.Lowering.Text.{dotted}
+use Rattle.proto_lower.specs.Options.{bracketed, is_setting, number_of, value_of}
+use Rattle.proto_lower.specs.Text.{dotted}
 use Rattle.proto_desc.specs.Rules.{rules_of}
-use Rattle.proto_checks.specs.Least.{spot}
-use Rattle.proto_checks.specs.Sets.{Each, Later}
-use Rattle.proto_checks.specs.declared.spot.Spot.{Spot}
+use Rattle.proto_base.specs.Least.{spot}
+use Rattle.proto_base.specs.Sets.{Each, Later}
+use Rattle.proto_base.specs.declared.spot.Spot.{Spot}
 
 -- the first token of an option's name, and that of its value
 abbrev pub name_place : Setting → Place

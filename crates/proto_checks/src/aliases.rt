@@ -2,7 +2,7 @@
 
 ghost use Rattle.std.specs.Prelude.{◌≡◌, ◌↔◌, IsTrue, flat_map};
 ghost use Rattle.std.specs.Option.{option_copied};
-ghost use Rattle.proto_desc.specs.Lowering.Options.{enum_setting, first_setting};
+ghost use Rattle.proto_lower.specs.Options.{enum_setting, first_setting};
 ghost use Rattle.proto_desc.specs.declared.rules.OptionName.TheVariants.{AllowAlias};
 ghost use Rattle.proto_checks.specs.Numbers.{IsAliasing};
 

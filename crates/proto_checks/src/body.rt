@@ -3,9 +3,9 @@
 ghost use Rattle.std.specs.Prelude.{◌≡◌, IfOk, flat_map};
 ghost use Rattle.proto_syntax.specs.declared.tree.message.MessageItem as message_item;
 ghost use Rattle.proto_checks.specs.Elements.{bodies, BodyBreaks, ItemBreaks};
-ghost use Rattle.proto_checks.specs.Least.{IsLeast};
+ghost use Rattle.proto_base.specs.Least.{IsLeast};
 ghost use Rattle.proto_checks.specs.Options.{optioned_plain, optioned_in_oneof, optioned_member, FieldOptionsBreak};
-ghost use Rattle.proto_checks.specs.Sets.{Each};
+ghost use Rattle.proto_base.specs.Sets.{Each};
 
 use crate::enumeration::enum_fault;
 use crate::field_options::{field_options_fault, is_packed_type, is_repeated, is_wide};
@@ -13,7 +13,7 @@ use crate::numbers::first_field_number_fault;
 use crate::oneof::oneof_fault;
 use crate::options::settings_fault;
 use crate::settings::message_settings;
-use crate::spot::{Spot, lesser};
+use proto_base::{Spot, lesser};
 use proto_syntax::tree::{Field, Message, MessageItem, Oneof, OneofField, OneofItem};
 use std::alloc::{AllocError, Global};
 

@@ -1,14 +1,13 @@
 //! Numbers outside of those that may be.
 
 ghost use Rattle.std.specs.Prelude.{◌↔◌, IsTrue};
-ghost use Rattle.proto_checks.specs.Least.{IsLeast};
+ghost use Rattle.proto_base.specs.Least.{IsLeast};
 ghost use Rattle.proto_checks.specs.Marks.{Outside};
 ghost use Rattle.proto_checks.specs.Numbers.{IsFieldNumber, IsNoFieldNumber};
-ghost use Rattle.proto_checks.specs.Sets.{Each};
+ghost use Rattle.proto_base.specs.Sets.{Each};
 
 use crate::marks::MarkedNumber;
-use crate::spot::{Spot, lesser};
-use proto_tokens::Kind;
+use proto_base::{Kind, Spot, lesser};
 
 /// The first number below the least or above the greatest.
 pub(crate) fn first_outside(

@@ -7,7 +7,7 @@ use crate::marks::MarkedRange;
 use std::alloc::{AllocError, Global};
 
 /// The numbers from `start` to `end`, at least one.
-#[derive(Clone, Copy, Debug)]
+#[derive(Clone, Copy)]
 pub(crate) struct Interval {
     start: u128,
     end: u128,

@@ -3,16 +3,15 @@
 ghost use Rattle.std.specs.Prelude.{◌≡◌, IfOk, flat_map};
 ghost use Rattle.std.specs.List.{list_any};
 ghost use Rattle.proto_checks.specs.Elements.{is_value, value_of_item, IsEmptyEnum, ValueBreaks, EnumBreaks};
-ghost use Rattle.proto_checks.specs.Least.{IsLeast};
-ghost use Rattle.proto_checks.specs.Sets.{Each};
+ghost use Rattle.proto_base.specs.Least.{IsLeast};
+ghost use Rattle.proto_base.specs.Sets.{Each};
 
 use crate::numbers::first_enum_number_fault;
 use crate::options::settings_fault;
 use crate::settings::{bracketed_settings, enum_settings};
-use crate::spot::{Spot, lesser};
+use proto_base::{Kind, Spot, lesser};
 use proto_desc::rules::Element;
 use proto_syntax::tree::{Enum, EnumItem, EnumValue};
-use proto_tokens::Kind;
 use std::alloc::{AllocError, Global};
 
 fn has_value(items: &[EnumItem]) -> bool

@@ -4,9 +4,9 @@ ghost use Rattle.std.specs.Prelude.{◌≡◌, IfOk, map, flat_map};
 ghost use Rattle.std.specs.Option.{option_map};
 ghost use Rattle.proto_desc.specs.DeclaredNames.{file_scope, declared_by};
 ghost use Rattle.proto_checks.specs.Checks.{NotProto3Syntax, ImportTwice, import_mark, HeadBreaks, StatementBreaks, NamesBreak, MessageNamesBreak, names_of, LengthsBreak, IsTooLong, FileBreaks, spot_of};
-ghost use Rattle.proto_checks.specs.Least.{IsLeast};
+ghost use Rattle.proto_base.specs.Least.{IsLeast};
 ghost use Rattle.proto_checks.specs.Lengths.{capped};
-ghost use Rattle.proto_checks.specs.Sets.{Each};
+ghost use Rattle.proto_base.specs.Sets.{Each};
 
 use crate::body::message_fault;
 use crate::enumeration::enum_fault;
@@ -18,12 +18,11 @@ use crate::package::{package_lengths_fault, package_twice};
 use crate::repeats::first_text_twice;
 use crate::service::service_fault;
 use crate::settings::file_settings;
-use crate::spot::{Spot, lesser};
 use crate::text::joined;
+use proto_base::{Kind, Limits, Place, Spot, lesser};
 use proto_desc::file::{FileDesc, ImportDesc, PackageDesc};
 use proto_desc::message::MessageDesc;
 use proto_syntax::tree::{FileTree, Statement, Syntax};
-use proto_tokens::{Kind, Limits, Place};
 use std::alloc::{AllocError, Global};
 
 fn syntax_fault(alloc: Global, syntax: &Syntax) -> Result<Option<Spot>, AllocError>

@@ -4,10 +4,10 @@ ghost use Rattle.std.specs.Prelude.{◌≡◌, ◌++◌, IfOk, OnOk, map, flat_m
 ghost use Rattle.proto_checks.specs.Gathered.{literal, member_number, field_numbers, value_numbers, ranges_listed, bounds_of, message_ranges_listed, enum_ranges_listed, message_range, enum_range, counted, sign_place, signed_number};
 
 use crate::marks::{MarkedNumber, MarkedRange};
+use proto_base::{Place, Span};
 use proto_syntax::tree::{
     EnumItem, MessageItem, NumberLiteral, OneofItem, Range, ReservedItems, SignedNumber, UpperBound,
 };
-use proto_tokens::{Place, Span};
 use std::alloc::{AllocError, Global};
 
 /// The greatest number of a field, which `max` stands for in a message.

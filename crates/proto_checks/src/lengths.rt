@@ -3,17 +3,16 @@
 ghost use Rattle.std.specs.Prelude.{◌≡◌, ℕ, List, map, flat_map};
 ghost use Rattle.proto_desc.specs.DeclaredNames.{scoped, declared_field, declared_oneof, declared_value, declared_method, declared_by_enum, declared_by_message, declared_by_service};
 ghost use Rattle.proto_checks.specs.Checks.{IsTooLong};
-ghost use Rattle.proto_checks.specs.Least.{IsLeast};
+ghost use Rattle.proto_base.specs.Least.{IsLeast};
 ghost use Rattle.proto_checks.specs.Lengths.{capped, IsLongName, declared_inside_of};
-ghost use Rattle.proto_checks.specs.Sets.{Each};
+ghost use Rattle.proto_base.specs.Sets.{Each};
 
-use crate::spot::{Spot, lesser};
+use proto_base::{Kind, Limit, Limits, Place, Spot, lesser};
 use proto_desc::enumeration::{EnumDesc, ValueDesc};
 use proto_desc::field::FieldDesc;
 use proto_desc::message::MessageDesc;
 use proto_desc::oneof::OneofDesc;
 use proto_desc::service::{MethodDesc, ServiceDesc};
-use proto_tokens::{Kind, Limit, Limits, Place};
 
 /// The length of a name behind its scope, up to the greatest that there is.
 fn full_len(scope_len: usize, name: &str) -> usize

@@ -23,7 +23,6 @@ mod repeats;
 mod reserved_names;
 mod service;
 mod settings;
-pub mod spot;
 mod text;
 
 pub use file::first_check_fault;

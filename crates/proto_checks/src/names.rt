@@ -1,21 +1,20 @@
 //! Rules on the names of fields and of enum values: that JSON names differ, and that no reserved name is in use (language guide, "JSON Mapping", "Reserved Fields").
 
 ghost use Rattle.std.specs.Prelude.{◌≡◌, IfOk, map, flat_map};
-ghost use Rattle.proto_tokens.specs.declared.kind.Kind.TheVariants as kind;
+ghost use Rattle.proto_base.specs.declared.kind.Kind.TheVariants as kind;
 ghost use Rattle.proto_checks.specs.Checks.{json_mark, field_mark, value_mark, EnumNamesBreak, MessageNamesBreak, names_of};
-ghost use Rattle.proto_checks.specs.Least.{IsLeast};
+ghost use Rattle.proto_base.specs.Least.{IsLeast};
 ghost use Rattle.proto_checks.specs.Marks.{TextTwice, ReservedNameUsed};
-ghost use Rattle.proto_checks.specs.Sets.{Each};
+ghost use Rattle.proto_base.specs.Sets.{Each};
 
 use crate::marks::MarkedText;
 use crate::repeats::first_text_twice;
 use crate::reserved_names::first_reserved_name;
-use crate::spot::{Spot, lesser};
+use proto_base::text::Text;
+use proto_base::{Kind, Spot, lesser};
 use proto_desc::enumeration::{EnumDesc, ValueDesc};
 use proto_desc::field::FieldDesc;
 use proto_desc::message::MessageDesc;
-use proto_tokens::Kind;
-use proto_tokens::text::Text;
 use std::alloc::{AllocError, Global};
 
 fn json_names<'t, 's>(

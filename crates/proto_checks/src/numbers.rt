@@ -1,10 +1,10 @@
 //! The first rule that the numbers of a message's fields or of an enum's values break, or what is reserved there (language guide, "Assigning Field Numbers", "Reserved Fields", "Enumerations", "Reserved Values").
 
 ghost use Rattle.std.specs.Prelude.{IfOk, flat_map};
-ghost use Rattle.proto_desc.specs.Lowering.Options.{enum_setting, first_setting};
+ghost use Rattle.proto_lower.specs.Options.{enum_setting, first_setting};
 ghost use Rattle.proto_desc.specs.declared.rules.OptionName.TheVariants.{AllowAlias};
 ghost use Rattle.proto_checks.specs.Breaks.{RangesBreak, ValueTwice};
-ghost use Rattle.proto_checks.specs.Least.{IsLeast};
+ghost use Rattle.proto_base.specs.Least.{IsLeast};
 ghost use Rattle.proto_checks.specs.Numbers.{FirstNotZero, FieldNumbersBreak, EnumNumbersBreak};
 
 use crate::aliases::is_aliasing;
@@ -17,9 +17,8 @@ use crate::marks::{MarkedNumber, MarkedRange};
 use crate::ranges::{first_backwards, first_overlap, first_reserved_number};
 use crate::repeats::first_number_twice;
 use crate::reserved_names::{enum_reserved_names, first_reserved_twice, message_reserved_names};
-use crate::spot::{Spot, lesser};
+use proto_base::{Kind, Spot, lesser};
 use proto_syntax::tree::{EnumItem, MessageItem};
-use proto_tokens::Kind;
 use std::alloc::{AllocError, Global};
 
 fn first_range_fault(

@@ -3,13 +3,12 @@
 ghost use Rattle.std.specs.Prelude.{◌≡◌, IfOk};
 ghost use Rattle.std.specs.List.{list_any};
 ghost use Rattle.proto_checks.specs.Elements.{is_member, IsEmptyOneof, OneofBreaks};
-ghost use Rattle.proto_checks.specs.Least.{IsLeast};
+ghost use Rattle.proto_base.specs.Least.{IsLeast};
 
 use crate::options::settings_fault;
 use crate::settings::oneof_settings;
-use crate::spot::{Spot, lesser};
+use proto_base::{Kind, Spot, lesser};
 use proto_syntax::tree::{Oneof, OneofItem};
-use proto_tokens::Kind;
 use std::alloc::{AllocError, Global};
 
 fn has_member(items: &[OneofItem]) -> bool

@@ -4,22 +4,21 @@ ghost use Rattle.std.specs.Prelude.{◌≡◌, ◌↔◌, Some, IsTrue, IfOk, Li
 ghost use Rattle.std.specs.Option.{is_some};
 ghost use Rattle.proto_desc.specs.declared.options.OptionValue.TheVariants.{Number};
 ghost use Rattle.proto_desc.specs.declared.rules.ValueKind.TheVariants.{Bool};
-ghost use Rattle.proto_desc.specs.Lowering.Options.{is_setting, number_of, value_of};
-ghost use Rattle.proto_checks.specs.Least.{IsLeast};
+ghost use Rattle.proto_lower.specs.Options.{is_setting, number_of, value_of};
+ghost use Rattle.proto_base.specs.Least.{IsLeast};
 ghost use Rattle.proto_checks.specs.Options.{name_place, value_place, choice_of_value, SettingsBreak};
 ghost use Rattle.proto_checks.specs.Judged.{is_known, is_mistaken, setting_fault, judged, judged_name, IsFaultOf, JudgedTwice};
-ghost use Rattle.proto_checks.specs.Sets.{Each};
+ghost use Rattle.proto_base.specs.Sets.{Each};
 ghost use Rattle.proto_desc.specs.declared.rules.Element.{Element};
 ghost use Rattle.proto_syntax.specs.declared.tree.option.Setting.{Setting};
 
 use crate::marks::MarkedText;
 use crate::repeats::first_text_twice;
-use crate::spot::{Spot, lesser};
 use crate::text::{dotted, simple_name};
+use proto_base::text::Text;
+use proto_base::{Kind, Place, Spot, lesser};
 use proto_desc::rules::{Element, OptionName, ValueKind, rules};
 use proto_syntax::tree::{Constant, FullName, Setting, Sign};
-use proto_tokens::text::Text;
-use proto_tokens::{Kind, Place};
 use std::alloc::{AllocError, Global};
 
 /// Whether a setting is of this option.
@@ -127,7 +126,7 @@ fn setting_fault(element: Element, setting: &Setting) -> Option<Spot>
 }
 
 /// A setting, judged by itself.
-#[derive(Debug, Drop)]
+#[derive(Drop)]
 pub(crate) struct Judged<'s> {
     name: Text<'s>,
     place: Place,

@@ -2,14 +2,13 @@
 
 ghost use Rattle.std.specs.Prelude.{IfOk};
 ghost use Rattle.proto_checks.specs.Covers.{IsAcross};
-ghost use Rattle.proto_checks.specs.Least.{IsLeast};
+ghost use Rattle.proto_base.specs.Least.{IsLeast};
 ghost use Rattle.proto_checks.specs.Marks.{ReservedBackwards, ReservedNumberUsed, ReservedOverlap};
-ghost use Rattle.proto_checks.specs.Sets.{Each};
+ghost use Rattle.proto_base.specs.Sets.{Each};
 
 use crate::covers::{cover_of, is_reached};
 use crate::marks::{MarkedNumber, MarkedRange};
-use crate::spot::{Spot, lesser};
-use proto_tokens::Kind;
+use proto_base::{Kind, Spot, lesser};
 use std::alloc::{AllocError, Global};
 
 /// The first range whose end is below its start.

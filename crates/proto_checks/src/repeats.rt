@@ -1,12 +1,11 @@
 //! Numbers and texts that stand more than once in a list.
 
 ghost use Rattle.std.specs.Prelude.{IfOk};
-ghost use Rattle.proto_checks.specs.Least.{IsLeast};
+ghost use Rattle.proto_base.specs.Least.{IsLeast};
 ghost use Rattle.proto_checks.specs.Marks.{NumberTwice, TextTwice};
 
 use crate::marks::{MarkedNumber, MarkedText};
-use crate::spot::{Spot, lesser};
-use proto_tokens::Kind;
+use proto_base::{Kind, Spot, lesser};
 use std::alloc::{AllocError, Global};
 use std::collections::BTreeSet;
 

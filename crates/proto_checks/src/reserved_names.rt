@@ -1,26 +1,25 @@
 //! Reserved names: that none is reserved twice, and that none is in use.
 
 ghost use Rattle.std.specs.Prelude.{◌≡◌, ◌++◌, IfOk, OnOk, map, string_bytes};
-ghost use Rattle.proto_desc.specs.Lowering.Text.{joined};
-ghost use Rattle.proto_tokens.specs.declared.kind.Kind.TheVariants.{ReservedNameTwice};
+ghost use Rattle.proto_lower.specs.Text.{joined};
+ghost use Rattle.proto_base.specs.declared.kind.Kind.TheVariants.{ReservedNameTwice};
 ghost use Rattle.proto_checks.specs.Gathered.{names_listed, reserved_name, message_reserved_names, enum_reserved_names};
-ghost use Rattle.proto_checks.specs.Least.{IsLeast};
+ghost use Rattle.proto_base.specs.Least.{IsLeast};
 ghost use Rattle.proto_checks.specs.Marks.{TextTwice, ReservedNameUsed};
 ghost use Rattle.proto_checks.specs.NameSets.{IsSetOf};
 
 use crate::marks::MarkedText;
 use crate::repeats::first_text_twice;
-use crate::spot::{Spot, lesser};
 use crate::text::joined;
+use proto_base::text::Text;
+use proto_base::{Kind, Place, Spot, lesser};
 use proto_syntax::tree::{EnumItem, MessageItem, ReservedItems, StringValue};
-use proto_tokens::text::Text;
-use proto_tokens::{Kind, Place};
 use std::alloc::{AllocError, Global};
 use std::collections::BTreeSet;
 use std::marker::Model;
 
 /// A reserved name. It borrows the text of one literal, and owns that of more.
-#[derive(Debug, Drop)]
+#[derive(Drop)]
 pub(crate) struct ReservedName<'s> {
     text: Text<'s>,
     place: Place,

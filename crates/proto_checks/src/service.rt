@@ -1,14 +1,14 @@
 //! Rules on services and methods.
 
 ghost use Rattle.std.specs.Prelude.{◌≡◌, IfOk, flat_map};
-ghost use Rattle.proto_desc.specs.Lowering.Services.{rpc_items};
+ghost use Rattle.proto_lower.specs.Services.{rpc_items};
 ghost use Rattle.proto_checks.specs.Elements.{rpc_of, RpcBreaks, ServiceBreaks};
-ghost use Rattle.proto_checks.specs.Least.{IsLeast};
-ghost use Rattle.proto_checks.specs.Sets.{Each};
+ghost use Rattle.proto_base.specs.Least.{IsLeast};
+ghost use Rattle.proto_base.specs.Sets.{Each};
 
 use crate::options::settings_fault;
 use crate::settings::{method_settings, service_settings};
-use crate::spot::{Spot, lesser};
+use proto_base::{Spot, lesser};
 use proto_syntax::tree::{Rpc, RpcBody, RpcItem, Service, ServiceItem};
 use std::alloc::{AllocError, Global};
 

@@ -1,7 +1,7 @@
 //! The settings of an element, in source order, each judged by itself.
 
 ghost use Rattle.std.specs.Prelude.{◌≡◌, IfOk, map, flat_map};
-ghost use Rattle.proto_desc.specs.Lowering.Options.{bracketed, file_setting, message_setting, enum_setting, service_setting, rpc_setting};
+ghost use Rattle.proto_lower.specs.Options.{bracketed, file_setting, message_setting, enum_setting, service_setting, rpc_setting};
 ghost use Rattle.proto_desc.specs.declared.rules.Element.TheVariants as Element;
 ghost use Rattle.proto_checks.specs.Elements.{oneof_setting};
 ghost use Rattle.proto_checks.specs.Judged.{judged};

@@ -2,10 +2,10 @@
 
 ghost use Rattle.std.specs.Prelude.{◌≡◌, ◌++◌, IfOk, OnOk, flat_map, string_bytes};
 ghost use Rattle.std.specs.Option.{option_copied};
-ghost use Rattle.proto_desc.specs.Lowering.Text.{joined, part_text, dotted, simple_name};
+ghost use Rattle.proto_lower.specs.Text.{joined, part_text, dotted, simple_name};
 
+use proto_base::text::Text;
 use proto_syntax::tree::{FullName, NamePart, StringValue};
-use proto_tokens::text::Text;
 use std::alloc::{AllocError, Global};
 
 /// The identifier that a name of one part is.

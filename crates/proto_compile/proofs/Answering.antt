@@ -1,9 +1,9 @@
 -- What an answer says of every compilation and of every fault.
 use Rattle.std.proofs.Common.{◌≡◌, refl, sym, ℕ, List, Result, Ok, Err}
 use Rattle.std.specs.Prelude.{IfErr, IfOk, IsErrAnd, MatchResult, string_bytes}
-use Rattle.proto_tokens.specs.declared.kind.Kind.{Kind}
-use Rattle.proto_tokens.specs.declared.limits.Limits.{Limits}
-use Rattle.proto_tokens.specs.declared.place.Place.{Place}
+use Rattle.proto_base.specs.declared.kind.Kind.{Kind}
+use Rattle.proto_base.specs.declared.limits.Limits.{Limits}
+use Rattle.proto_base.specs.declared.place.Place.{Place}
 use Rattle.proto_compile.specs.Compilation.{Compilation, IsCompiled}
 use Rattle.proto_compile.specs.Faults.{IsFirstFault, IsPlaced, IsRefusal, Tells}
 use Rattle.proto_compile.specs.declared.error.CompileError.{CompileError}

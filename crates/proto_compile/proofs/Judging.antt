@@ -2,22 +2,22 @@
 use Rattle.std.proofs.Common.{◌∷◌, zero, suc, map, ◌≡◌, ◌∙◌, ℕ, List, [], Some, None, ap, sym, refl, subst, length}
 use Rattle.std.specs.Prelude.{slice_get, Result, Err}
 use Rattle.std.specs.Option.{option_map, unwrap_or}
-use Rattle.proto_tokens.specs.Limits.{limit_of}
+use Rattle.proto_base.specs.Limits.{limit_of}
 use Rattle.proto_tokens.specs.Token.{Spelled, spelled, tokens_of}
-use Rattle.proto_tokens.specs.declared.limits.Limit.TheVariants as limit
-use Rattle.proto_tokens.specs.declared.limits.Limits.{Limits}
+use Rattle.proto_base.specs.declared.limits.Limit.TheVariants as limit
+use Rattle.proto_base.specs.declared.limits.Limits.{Limits}
 use Rattle.proto_tokens.specs.declared.token.Token.{Token}
 use Rattle.proto_tokens.specs.Spelling.{IsTokenList, IsFault}
-use Rattle.proto_tokens.specs.declared.kind.Kind.{Kind}
-use Rattle.proto_tokens.specs.declared.place.Place.{Place}
+use Rattle.proto_base.specs.declared.kind.Kind.{Kind}
+use Rattle.proto_base.specs.declared.place.Place.{Place}
 use Rattle.proto_tokens.specs.declared.token.Tokens.{Tokens}
 use Rattle.proto_syntax.specs.Fault.{IsTreeOf, IsFaultAt, IsKindOf, place_at}
 use Rattle.proto_syntax.specs.Trees.{file_tree}
 use Rattle.proto_syntax.specs.declared.tree.file.FileTree.{FileTree}
-use Rattle.proto_desc.specs.Lowering.Files.{lowered}
+use Rattle.proto_lower.specs.Files.{lowered}
 use Rattle.proto_desc.specs.declared.file.FileDesc.{FileDesc}
 use Rattle.proto_checks.specs.Checks.{FileBreaks}
-use Rattle.proto_checks.specs.Least.{IsLeast, spot}
+use Rattle.proto_base.specs.Least.{IsLeast, spot}
 use Rattle.proto_compile.specs.Local.{IsLocalFault, of_tokens, of_grammar, of_checks, IsUnbroken, place_of_token}
 use Rattle.proto_compile.specs.declared.local.LocalError.{LocalError}
 use Rattle.proto_compile.specs.declared.local.LocalError.TheVariants as errors

@@ -5,21 +5,21 @@ use Rattle.std.specs.Cmp.Lexicographic.{same_text}
 use Rattle.std.specs.List.{starts_with}
 use Rattle.std.proofs.lemmas.List.{length-take}
 use Rattle.std.proofs.lemmas.Str.{utf8_valid_len_le}
-use Rattle.proto_tokens.specs.Limits.{limit_of}
+use Rattle.proto_base.specs.Limits.{limit_of}
 use Rattle.proto_tokens.specs.Piece.{IsPieceFault}
 use Rattle.proto_tokens.specs.Quoted.{IsStringFault}
 use Rattle.proto_tokens.specs.Spelling.{Piece, IsCutIntoPieces, IsFault, IsTokenList, mark_len, token_before, tokens_from}
 use Rattle.proto_tokens.specs.Token.{Spelled}
-use Rattle.proto_tokens.specs.declared.kind.Kind.{Kind}
-use Rattle.proto_tokens.specs.declared.limits.Limit.TheVariants as limit
-use Rattle.proto_tokens.specs.declared.limits.Limits.{Limits}
-use Rattle.proto_tokens.specs.declared.place.Place.{Place}
+use Rattle.proto_base.specs.declared.kind.Kind.{Kind}
+use Rattle.proto_base.specs.declared.limits.Limit.TheVariants as limit
+use Rattle.proto_base.specs.declared.limits.Limits.{Limits}
+use Rattle.proto_base.specs.declared.place.Place.{Place}
 use Rattle.proto_syntax.specs.Trees.{file_tree}
 use Rattle.proto_syntax.specs.declared.tree.file.FileTree.{FileTree}
 use Rattle.proto_desc.specs.Places.{places_of}
 use Rattle.proto_desc.specs.declared.file.FileDesc.{FileDesc}
-use Rattle.proto_desc.proofs.PlacesWithin.{AtMost, BeginWithin, Within, lowered_within}
-use Rattle.proto_checks.specs.Least.{spot}
+use Rattle.proto_lower.proofs.PlacesWithin.{AtMost, BeginWithin, Within, lowered_within}
+use Rattle.proto_base.specs.Least.{spot}
 use Rattle.proto_checks.proofs.FileWithin.{breaks_within}
 use Rattle.proto_compile.specs.Local.{Describes, IsFile, IsLocalFault, of_tokens, of_grammar, of_checks, place_of_token}
 

@@ -7,9 +7,9 @@ use Rattle.std.proofs.lemmas.List.{length-map}
 use Rattle.proto_desc.specs.declared.file.FileDesc.{FileDesc}
 use Rattle.proto_links.specs.Linked.{Linked, count_of}
 use Rattle.proto_names.specs.Index.{Index, services_of}
-use Rattle.proto_tokens.specs.Limits.{limit_of}
-use Rattle.proto_tokens.specs.declared.limits.Limit.TheVariants as limit
-use Rattle.proto_tokens.specs.declared.limits.Limits.{Limits}
+use Rattle.proto_base.specs.Limits.{limit_of}
+use Rattle.proto_base.specs.declared.limits.Limit.TheVariants as limit
+use Rattle.proto_base.specs.declared.limits.Limits.{Limits}
 use Rattle.wire_bytes.specs.Descriptor.{file_desc_bytes}
 use Rattle.proto_compile.specs.Analysed.{AreResolved, AreTypedFrom}
 use Rattle.proto_compile.specs.Compilation.{Compilation, CompiledFile, IsShort, IsSound, IsWritten, file_bytes, file_name, set_of}

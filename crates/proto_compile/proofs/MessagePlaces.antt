@@ -16,7 +16,7 @@ use Rattle.proto_desc.specs.declared.oneof.OneofDesc.{OneofDesc}
 use Rattle.proto_desc.specs.declared.options.OptionDesc.{OptionDesc}
 use Rattle.proto_desc.specs.declared.type_name.TypeReference.{TypeReference}
 use Rattle.proto_desc.specs.declared.type_name.TypeReference.TheVariants.{Spelled, Resolved}
-use Rattle.proto_desc.proofs.PlacesWithin.{AtMost, front, rest, both, each_map, each_weaker, places_out}
+use Rattle.proto_lower.proofs.PlacesWithin.{AtMost, front, rest, both, each_map, each_weaker, places_out}
 use Rattle.proto_checks.proofs.Named.{declared_before, declared_out, scope_in}
 use Rattle.proto_checks.proofs.Spots.{Placed}
 use Rattle.proto_checks.proofs.Within.{given}

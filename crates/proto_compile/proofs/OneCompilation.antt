@@ -8,9 +8,9 @@ use Rattle.proto_desc.specs.declared.file.FileDesc.{FileDesc}
 use Rattle.proto_links.proofs.Unique.{one_set_order}
 use Rattle.proto_links.specs.Linked.{Linked}
 use Rattle.proto_names.specs.Index.{Index}
-use Rattle.proto_tokens.specs.Limits.{limit_of}
-use Rattle.proto_tokens.specs.declared.limits.Limit.TheVariants as limit
-use Rattle.proto_tokens.specs.declared.limits.Limits.{Limits}
+use Rattle.proto_base.specs.Limits.{limit_of}
+use Rattle.proto_base.specs.declared.limits.Limit.TheVariants as limit
+use Rattle.proto_base.specs.declared.limits.Limits.{Limits}
 use Rattle.wire_bytes.specs.Descriptor.{file_desc_bytes}
 use Rattle.wire_format.specs.Field.{bytes_field}
 use Rattle.proto_compile.specs.Analysed.{AreResolved}

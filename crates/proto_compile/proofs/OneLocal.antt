@@ -1,11 +1,11 @@
 -- A source by itself is one thing: what it describes, or its one fault.
 use Rattle.std.proofs.Common.{◌≡◌, ◌∙◌, ℕ, List, Some, ap, sym, subst, length}
-use Rattle.proto_tokens.specs.Limits.{limit_of}
+use Rattle.proto_base.specs.Limits.{limit_of}
 use Rattle.proto_tokens.specs.Spelling.{IsFault}
-use Rattle.proto_tokens.specs.declared.kind.Kind.{Kind}
-use Rattle.proto_tokens.specs.declared.limits.Limit.TheVariants as limit
-use Rattle.proto_tokens.specs.declared.limits.Limits.{Limits}
-use Rattle.proto_tokens.specs.declared.place.Place.{Place}
+use Rattle.proto_base.specs.declared.kind.Kind.{Kind}
+use Rattle.proto_base.specs.declared.limits.Limit.TheVariants as limit
+use Rattle.proto_base.specs.declared.limits.Limits.{Limits}
+use Rattle.proto_base.specs.declared.place.Place.{Place}
 use Rattle.proto_tokens.proofs.Unique.{tokens_one, tokens_no_fault, file_fault_one}
 use Rattle.proto_syntax.specs.Fault.{IsTreeOf, IsFaultAt, IsKindOf}
 use Rattle.proto_syntax.specs.Trees.{file_tree}
@@ -14,10 +14,10 @@ use Rattle.proto_syntax.proofs.Faults.{only_tree}
 use Rattle.proto_syntax.proofs.Prefix.{one_fault}
 use Rattle.proto_syntax.proofs.Unique.{one_kind}
 use Rattle.proto_syntax.proofs.SameFiles.{same_file}
-use Rattle.proto_desc.specs.Lowering.Files.{lowered}
+use Rattle.proto_lower.specs.Files.{lowered}
 use Rattle.proto_desc.specs.declared.file.FileDesc.{FileDesc}
 use Rattle.proto_checks.specs.Checks.{FileBreaks}
-use Rattle.proto_checks.specs.Least.{IsLeast, spot}
+use Rattle.proto_base.specs.Least.{IsLeast, spot}
 use Rattle.proto_links.proofs.Unique.{one_spot, same_place}
 use Rattle.proto_compile.specs.Local.{Describes, IsBrokenAt, IsFile, IsGrammarFault, IsLocalFault, IsUnbroken, of_tokens, of_grammar, of_checks, place_of_token}
 

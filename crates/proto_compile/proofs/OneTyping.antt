@@ -4,8 +4,8 @@ use Rattle.std.specs.Prelude.{Contains, Some}
 use Rattle.std.specs.List.{AllZip}
 use Rattle.std.proofs.lemmas.Bool.{cases_order}
 use Rattle.std.proofs.lemmas.List.{get_or_default, get_or-take, length-take}
-use Rattle.proto_checks.specs.Least.{IsLeast, spot}
-use Rattle.proto_checks.specs.declared.spot.Spot.{Spot}
+use Rattle.proto_base.specs.Least.{IsLeast, spot}
+use Rattle.proto_base.specs.declared.spot.Spot.{Spot}
 use Rattle.proto_desc.specs.DeclaredNames.{file_scope}
 use Rattle.proto_desc.specs.declared.file.FileDesc.{FileDesc}
 use Rattle.proto_links.proofs.Unique.{one_spot, sees_same}
@@ -14,9 +14,9 @@ use Rattle.proto_names.proofs.Built.{below_files}
 use Rattle.proto_names.specs.Index.{Index, Indexes}
 use Rattle.proto_names.specs.Occurrences.{Occurrence, occurrences}
 use Rattle.proto_names.specs.Resolution.{AreSeenAlike, SeenBy}
-use Rattle.proto_tokens.specs.declared.kind.Kind.{Kind}
-use Rattle.proto_tokens.specs.declared.limits.Limits.{Limits}
-use Rattle.proto_tokens.specs.declared.place.Place.{Place}
+use Rattle.proto_base.specs.declared.kind.Kind.{Kind}
+use Rattle.proto_base.specs.declared.limits.Limits.{Limits}
+use Rattle.proto_base.specs.declared.place.Place.{Place}
 use Rattle.proto_types.proofs.Unique.{breaks_alike, file_same}
 use Rattle.proto_compile.specs.Analysed.{AreResolved, AreTypedFrom, IsAnalysed, TypesAt, TypesBreakAt}
 use Rattle.proto_compile.specs.Descriptions.{Describe, SourceDescribes}

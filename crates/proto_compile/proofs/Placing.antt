@@ -6,18 +6,18 @@ use Rattle.std.proofs.lemmas.Bool.{cases_eq, cases_lt}
 use Rattle.std.proofs.lemmas.List.{get_or-map, get_or_default, length-map}
 use Rattle.std.proofs.lemmas.List.Elements.{Contains-append_cases}
 use Rattle.std.proofs.lemmas.List.Sorted.{Contains-permutation, IsPermutation-sym}
-use Rattle.proto_tokens.specs.declared.kind.Kind.{Kind}
-use Rattle.proto_tokens.specs.declared.limits.Limits.{Limits}
-use Rattle.proto_tokens.specs.declared.place.Place.{Place}
+use Rattle.proto_base.specs.declared.kind.Kind.{Kind}
+use Rattle.proto_base.specs.declared.limits.Limits.{Limits}
+use Rattle.proto_base.specs.declared.place.Place.{Place}
 use Rattle.proto_desc.specs.Places.{places_of}
 use Rattle.proto_desc.specs.declared.file.FileDesc.{FileDesc}
 use Rattle.proto_desc.specs.declared.file.ImportDesc.{ImportDesc}
-use Rattle.proto_desc.proofs.PlacesWithin.{AtMost}
+use Rattle.proto_lower.proofs.PlacesWithin.{AtMost}
 use Rattle.proto_links.specs.Imports as imports
 use Rattle.proto_links.specs.Linked.{Linked}
-use Rattle.proto_checks.specs.Least.{spot}
-use Rattle.proto_checks.specs.Sets.{StandsAt}
-use Rattle.proto_checks.specs.declared.spot.Spot.{Spot}
+use Rattle.proto_base.specs.Least.{spot}
+use Rattle.proto_base.specs.Sets.{StandsAt}
+use Rattle.proto_base.specs.declared.spot.Spot.{Spot}
 use Rattle.proto_checks.proofs.Spots.{Placed, SpotWithin, at_spot, each_within, standing}
 use Rattle.proto_names.specs.Index.{Index, IsRepeated}
 use Rattle.proto_names.specs.Occurrences.{Occurrence, occurrences_of, occurrences_from}

@@ -2,9 +2,9 @@
 use Rattle.std.proofs.Common.{◌≡◌, ℕ, ◌<◌, ◌≤◌, List, length, take, get_or, refl}
 use Rattle.std.specs.List.{AllZip}
 use Rattle.std.proofs.lemmas.List.{get_or_default}
-use Rattle.proto_tokens.specs.Limits.{limit_of}
-use Rattle.proto_tokens.specs.declared.limits.Limit.TheVariants as limit
-use Rattle.proto_tokens.specs.declared.limits.Limits.{Limits}
+use Rattle.proto_base.specs.Limits.{limit_of}
+use Rattle.proto_base.specs.declared.limits.Limit.TheVariants as limit
+use Rattle.proto_base.specs.declared.limits.Limits.{Limits}
 use Rattle.proto_desc.specs.declared.file.FileDesc.{FileDesc}
 use Rattle.proto_compile.specs.Local.{IsLocalFault}
 use Rattle.proto_compile.specs.Sources.{AreByName, name_of, text_of}
@@ -12,8 +12,8 @@ use Rattle.proto_compile.specs.Steps.{TellsLocal}
 use Rattle.proto_compile.specs.declared.local.LocalError.{LocalError}
 use Rattle.proto_compile.specs.declared.local.LocalError.TheVariants as local
 use Rattle.proto_compile.specs.declared.source.Source.{Source}
-use Rattle.proto_tokens.specs.declared.kind.Kind.{Kind}
-use Rattle.proto_tokens.specs.declared.place.Place.{Place}
+use Rattle.proto_base.specs.declared.kind.Kind.{Kind}
+use Rattle.proto_base.specs.declared.place.Place.{Place}
 use Rattle.proto_compile.specs.Descriptions.{SourceDescribes}
 use Rattle.proto_compile.specs.Faults.{IsFirstFault, IsRefusal, Stands, Tells, in_file}
 use Rattle.proto_compile.specs.declared.error.CompileError.{CompileError}

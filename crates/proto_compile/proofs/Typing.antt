@@ -2,14 +2,14 @@
 use Rattle.std.proofs.Common.{◌≡◌, ◌∙◌, sym, ℕ, ◌+◌, ◌<◌, List, [], ◌∷◌, ◌++◌, length, take, get_or, ap, arith, refl, subst}
 use Rattle.std.specs.Prelude.{Some}
 use Rattle.std.proofs.lemmas.List.{length-append}
-use Rattle.proto_checks.specs.Least.{IsLeast, spot}
+use Rattle.proto_base.specs.Least.{IsLeast, spot}
 use Rattle.proto_desc.specs.declared.file.FileDesc.{FileDesc}
 use Rattle.proto_links.specs.Imports as imports
 use Rattle.proto_links.specs.Linked.{Linked}
 use Rattle.proto_names.specs.Index.{Index}
-use Rattle.proto_tokens.specs.declared.kind.Kind.{Kind}
-use Rattle.proto_tokens.specs.declared.limits.Limits.{Limits}
-use Rattle.proto_tokens.specs.declared.place.Place.{Place}
+use Rattle.proto_base.specs.declared.kind.Kind.{Kind}
+use Rattle.proto_base.specs.declared.limits.Limits.{Limits}
+use Rattle.proto_base.specs.declared.place.Place.{Place}
 use Rattle.proto_types.specs.declared.typing.TypeError.{TypeError}
 use Rattle.proto_types.specs.declared.typing.TypeError.TheVariants as types
 use Rattle.proto_compile.specs.Analysed.{AreTypedFrom, IsAnalysed, TypesAt, TypesBreakAt}

@@ -11,9 +11,9 @@ use Rattle.proto_links.specs.Imports as imports
 use Rattle.proto_desc.specs.declared.file.ImportDesc.{ImportDesc}
 use Rattle.proto_names.specs.Index.{IsRepeated}
 use Rattle.proto_names.proofs.Built.{below_from}
-use Rattle.proto_tokens.specs.declared.kind.Kind.{Kind}
-use Rattle.proto_tokens.specs.declared.place.Place.{Place}
-use Rattle.proto_tokens.specs.declared.limits.Limits.{Limits}
+use Rattle.proto_base.specs.declared.kind.Kind.{Kind}
+use Rattle.proto_base.specs.declared.place.Place.{Place}
+use Rattle.proto_base.specs.declared.limits.Limits.{Limits}
 use Rattle.proto_compile.specs.Descriptions.{SourceDescribes}
 use Rattle.proto_compile.specs.Sources.{AreByName, name_at, name_of}
 use Rattle.proto_compile.specs.declared.source.Source.{Source}

@@ -2,16 +2,16 @@
 -- step, place and the number of its kind.
 use Rattle.std.specs.Prelude.{◌≡◌, ◌⊎◌, ℕ, ◌<◌, ◌≤◌, List, [], length, take, string_bytes, slice_index_or, Some, All, Contains}
 use Rattle.std.specs.List.{AllZip}
-use Rattle.proto_tokens.specs.Limits.{limit_of}
-use Rattle.proto_tokens.specs.declared.kind.Kind.{Kind}
-use Rattle.proto_tokens.specs.declared.kind.Kind.TheVariants as kind
-use Rattle.proto_tokens.specs.declared.limits.Limit.TheVariants as limit
-use Rattle.proto_tokens.specs.declared.limits.Limits.{Limits}
-use Rattle.proto_tokens.specs.declared.place.Place.{Place}
+use Rattle.proto_base.specs.Limits.{limit_of}
+use Rattle.proto_base.specs.declared.kind.Kind.{Kind}
+use Rattle.proto_base.specs.declared.kind.Kind.TheVariants as kind
+use Rattle.proto_base.specs.declared.limits.Limit.TheVariants as limit
+use Rattle.proto_base.specs.declared.limits.Limits.{Limits}
+use Rattle.proto_base.specs.declared.place.Place.{Place}
 use Rattle.proto_desc.specs.declared.file.FileDesc.{FileDesc}
 use Rattle.proto_links.specs.Imports as imports
 use Rattle.proto_links.specs.Linked.{Linked}
-use Rattle.proto_checks.specs.Least.{IsLeast, spot}
+use Rattle.proto_base.specs.Least.{IsLeast, spot}
 use Rattle.proto_names.specs.Index.{Index, IsRepeated}
 use Rattle.proto_names.specs.Occurrences.{occurrences}
 use Rattle.wire_bytes.specs.Descriptor.{file_desc_bytes}

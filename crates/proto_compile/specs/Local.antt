@@ -1,21 +1,21 @@
 -- What one source is by itself.
 use Rattle.std.specs.Prelude.{◌≡◌, ℕ, List, length, slice_get, Some}
 use Rattle.std.specs.Option.{option_map, unwrap_or}
-use Rattle.proto_tokens.specs.Limits.{limit_of}
+use Rattle.proto_base.specs.Limits.{limit_of}
 use Rattle.proto_tokens.specs.Spelling.{IsTokenList, IsFault}
 use Rattle.proto_tokens.specs.Token.{Spelled}
-use Rattle.proto_tokens.specs.declared.kind.Kind.{Kind}
-use Rattle.proto_tokens.specs.declared.limits.Limit.TheVariants as limit
-use Rattle.proto_tokens.specs.declared.limits.Limits.{Limits}
-use Rattle.proto_tokens.specs.declared.place.Place.{Place}
+use Rattle.proto_base.specs.declared.kind.Kind.{Kind}
+use Rattle.proto_base.specs.declared.limits.Limit.TheVariants as limit
+use Rattle.proto_base.specs.declared.limits.Limits.{Limits}
+use Rattle.proto_base.specs.declared.place.Place.{Place}
 use Rattle.proto_syntax.specs.Fault.{IsTreeOf, IsFaultAt, IsKindOf}
 use Rattle.proto_syntax.specs.Trees.{file_tree}
 use Rattle.proto_syntax.specs.declared.tree.file.FileTree.{FileTree}
-use Rattle.proto_desc.specs.Lowering.Files.{lowered}
+use Rattle.proto_lower.specs.Files.{lowered}
 use Rattle.proto_desc.specs.declared.file.FileDesc.{FileDesc}
 use Rattle.proto_checks.specs.Checks.{FileBreaks}
-use Rattle.proto_checks.specs.Least.{IsLeast, spot}
-use Rattle.proto_checks.specs.declared.spot.Spot.{Spot}
+use Rattle.proto_base.specs.Least.{IsLeast, spot}
+use Rattle.proto_base.specs.declared.spot.Spot.{Spot}
 
 -- the text is a file within the limits, with this tree
 abbrev pub IsFile : Limits → List ℕ → FileTree → Type 0

@@ -9,16 +9,16 @@ ghost use Rattle.proto_links.specs.Imports.{AreInNameOrder, NoneBad};
 ghost use Rattle.proto_links.specs.Linked.{AreLinked};
 ghost use Rattle.proto_names.specs.Index.{Indexes};
 ghost use Rattle.proto_compile.specs.declared.source.Source.{Source};
-ghost use Rattle.proto_tokens.specs.declared.limits.Limits.{Limits};
+ghost use Rattle.proto_base.specs.declared.limits.Limits.{Limits};
 
 use crate::error::{CompileError, START, refusal, refusal_of_step};
 use crate::local::{LocalError, described};
 use crate::order::by_name;
 use crate::source::Source;
+use proto_base::{Kind, Limits};
 use proto_desc::file::FileDesc;
 use proto_links::{LinkError, Links, link};
 use proto_names::{NameError, NameIndex};
-use proto_tokens::{Kind, Limits};
 use std::alloc::{AllocGlobal, Global};
 use std::thread::Threads;
 
@@ -30,7 +30,7 @@ const IMPORTS: u8 = 2;
 const NAMES: u8 = 3;
 
 /// Sources in the order of their names, with what they describe, the links of that and the index of its names.
-#[derive(Debug, Drop)]
+#[derive(Drop)]
 pub struct Analysis<'s> {
     pub files: Vec<Source<'s>>,
     pub descs: Vec<FileDesc<'s>>,

@@ -6,15 +6,15 @@ ghost use Rattle.proto_links.specs.Linked.{count_of};
 
 use crate::set::set_bytes;
 use crate::table::FileTable;
+use proto_base::Limits;
 use proto_links::{FileId, Links};
 use proto_names::NameIndex;
-use proto_tokens::Limits;
 use std::alloc::{AllocError, Global};
 use std::marker::Model;
 
 /// The descriptors of a list of sources, with what answers about them. Contracts see it as its files in the order of their
 /// names, each with the bytes of its descriptor, their links, the index of their names, and the limits.
-#[derive(Debug, Drop)]
+#[derive(Drop)]
 pub struct Compiled {
     pub(crate) files: FileTable,
     pub(crate) links: Links,

@@ -6,8 +6,8 @@ ghost use Rattle.proto_compile.specs.Faults.{IsFirstFault, IsPlaced, IsRefusal, 
 ghost use Rattle.proto_compile.specs.Sources.{NamesRise, name_of};
 ghost use Rattle.proto_compile.specs.Steps.{items_of};
 ghost use Rattle.proto_compile.specs.declared.error.CompileError.TheVariants as errors;
-ghost use Rattle.proto_tokens.specs.declared.kind.Kind.{Kind};
-ghost use Rattle.proto_tokens.specs.declared.place.Place.{Place};
+ghost use Rattle.proto_base.specs.declared.kind.Kind.{Kind};
+ghost use Rattle.proto_base.specs.declared.place.Place.{Place};
 
 use crate::analysis::Analysis;
 use crate::compiled::Compiled;
@@ -17,7 +17,7 @@ use crate::set::is_set_within;
 use crate::source::Source;
 use crate::table::FileTable;
 use crate::types::analyse;
-use proto_tokens::{Kind, Limit, Limits};
+use proto_base::{Kind, Limit, Limits};
 use share_work::{Gate, Plan};
 use std::alloc::{AllocError, AllocGlobal, Global};
 use std::thread::Threads;

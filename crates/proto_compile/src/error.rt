@@ -4,7 +4,7 @@ ghost use Rattle.std.specs.Prelude.{◌≡◌};
 ghost use Rattle.proto_compile.specs.Faults.{Tells};
 ghost use Rattle.proto_compile.specs.declared.error.CompileError.TheVariants.{NoMemory};
 
-use proto_tokens::{Fault, Kind, Place};
+use proto_base::{Fault, Kind, Place};
 use std::alloc::{AllocError, AllocFailed, Global};
 use thiserror::Error;
 

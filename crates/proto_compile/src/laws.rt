@@ -4,9 +4,9 @@ ghost use Rattle.std.specs.Prelude.{◌≡◌, ℕ, List};
 ghost use Rattle.proto_compile.specs.Compilation.{Compilation, IsCompiled};
 ghost use Rattle.proto_compile.specs.Faults.{IsFirstFault};
 ghost use Rattle.proto_compile.specs.declared.source.Source.{Source};
-ghost use Rattle.proto_tokens.specs.declared.kind.Kind.{Kind};
-ghost use Rattle.proto_tokens.specs.declared.limits.Limits.{Limits};
-ghost use Rattle.proto_tokens.specs.declared.place.Place.{Place};
+ghost use Rattle.proto_base.specs.declared.kind.Kind.{Kind};
+ghost use Rattle.proto_base.specs.declared.limits.Limits.{Limits};
+ghost use Rattle.proto_base.specs.declared.place.Place.{Place};
 
 /// Sources have one answer: one list of files in one set order, or one first fault.
 pub fn compiling_is_unique()

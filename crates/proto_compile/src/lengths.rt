@@ -12,8 +12,8 @@ ghost use Rattle.proto_names.specs.Index.{Index};
 ghost use Rattle.wire_bytes.specs.Descriptor.{file_desc_bytes};
 
 use crate::error::{CompileError, START, refusal};
+use proto_base::{Kind, Limit, Limits};
 use proto_desc::file::FileDesc;
-use proto_tokens::{Kind, Limit, Limits};
 use std::alloc::Global;
 use wire_bytes::file_bytes;
 

@@ -23,6 +23,3 @@ pub use error::CompileError;
 pub use laws::compiling_is_unique;
 pub use source::Source;
 pub use types::analyse;
-
-#[cfg(test)]
-mod tests;

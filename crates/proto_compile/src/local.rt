@@ -5,15 +5,16 @@ ghost use Rattle.proto_compile.specs.Descriptions.{SourceDescribes};
 ghost use Rattle.proto_compile.specs.Local.{IsLocalFault};
 ghost use Rattle.proto_compile.specs.Sources.{name_of, text_of};
 ghost use Rattle.proto_compile.specs.declared.local.LocalError.TheVariants as errors;
-ghost use Rattle.proto_tokens.specs.declared.kind.Kind.{Kind};
-ghost use Rattle.proto_tokens.specs.declared.place.Place.{Place};
+ghost use Rattle.proto_base.specs.declared.kind.Kind.{Kind};
+ghost use Rattle.proto_base.specs.declared.place.Place.{Place};
 
 use crate::source::Source;
+use proto_base::{Kind, Limits, Place};
 use proto_checks::first_check_fault;
 use proto_desc::file::FileDesc;
-use proto_desc::lower;
+use proto_lower::lower;
 use proto_syntax::{ParseError, parse};
-use proto_tokens::{Kind, Limits, Place, TokenError, tokenize};
+use proto_tokens::{TokenError, tokenize};
 use std::alloc::{AllocError, Global};
 
 /// Why a source by itself describes nothing.

@@ -6,12 +6,12 @@ ghost use Rattle.std.specs.Ordering.{nat_cmp};
 ghost use Rattle.std.specs.declared.cmp.Ordering.TheVariants.{Less, Greater};
 ghost use Rattle.proto_compile.specs.Faults.{IsFirstFault, IsRefusal};
 ghost use Rattle.proto_compile.specs.Sources.{AreByName, AreSorted, IsFirstRepeated, name_at, name_of};
-ghost use Rattle.proto_tokens.specs.Limits.{limit_of};
-ghost use Rattle.proto_tokens.specs.declared.limits.Limit.TheVariants as limit;
+ghost use Rattle.proto_base.specs.Limits.{limit_of};
+ghost use Rattle.proto_base.specs.declared.limits.Limit.TheVariants as limit;
 
 use crate::error::{CompileError, START, refusal};
 use crate::source::Source;
-use proto_tokens::{Kind, Limit, Limits};
+use proto_base::{Kind, Limit, Limits};
 use std::alloc::{AllocError, Global};
 
 /// The sources by name; those of one name by their texts.

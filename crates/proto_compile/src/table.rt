@@ -10,7 +10,7 @@ use std::alloc::{AllocError, Global};
 use std::marker::Model;
 
 /// Files in the order in which they came. Contracts see it as the list of them.
-#[derive(Debug, Drop)]
+#[derive(Drop)]
 pub(crate) struct FileTable {
     /// The bytes of each file's descriptor, by its name.
     entries: IndexMap<String, Vec<u8>>,

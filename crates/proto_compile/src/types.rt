@@ -7,15 +7,15 @@ ghost use Rattle.proto_compile.specs.Faults.{IsFirstFault, IsRefusal};
 ghost use Rattle.proto_compile.specs.Steps.{TellsType};
 ghost use Rattle.proto_compile.specs.declared.source.Source.{Source};
 ghost use Rattle.proto_links.specs.Linked.{count_of};
-ghost use Rattle.proto_tokens.specs.declared.limits.Limits.{Limits};
+ghost use Rattle.proto_base.specs.declared.limits.Limits.{Limits};
 
 use crate::analysis::{Analysis, named};
 use crate::error::{CompileError, refusal};
 use crate::source::Source;
+use proto_base::Limits;
 use proto_desc::file::FileDesc;
 use proto_links::Links;
 use proto_names::NameIndex;
-use proto_tokens::Limits;
 use proto_types::{TypeError, typed};
 use std::alloc::{AllocGlobal, Global};
 use std::thread::Threads;

@@ -1,6 +1,1 @@
-pub mod PlacesWithin
-mod Nested
-mod NoneMade
-mod Raised
-mod Free
 pub mod Resolves

@@ -1,6 +1,6 @@
 -- The names that a descriptor declares, map entries and made oneofs among them, each in the scope in which it is declared.
 use Rattle.std.specs.Prelude.{ℕ, List, [], ◌∷◌, ◌++◌, map, flat_map, Option, None, Some}
-use Rattle.proto_tokens.specs.declared.place.Place.{Place}
+use Rattle.proto_base.specs.declared.place.Place.{Place}
 use Rattle.proto_desc.specs.declared.enumeration.EnumDesc.{EnumDesc}
 use Rattle.proto_desc.specs.declared.enumeration.ValueDesc.{ValueDesc}
 use Rattle.proto_desc.specs.declared.field.FieldDesc.{FieldDesc}

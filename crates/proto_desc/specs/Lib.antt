@@ -1,6 +1,4 @@
 pub mod DeclaredNames
-pub mod Lowering
-pub mod Names
 pub mod Places
 pub mod Resolved
 pub mod Rules

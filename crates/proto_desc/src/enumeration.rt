@@ -2,12 +2,12 @@
 
 use crate::options::OptionDesc;
 use crate::whole_number::WholeNumber;
-use proto_tokens::Place;
-use proto_tokens::row::Row;
-use proto_tokens::text::Text;
+use proto_base::Place;
+use proto_base::row::Row;
+use proto_base::text::Text;
 
 /// A value of an enum.
-#[derive(Debug, Drop)]
+#[derive(Drop)]
 pub struct ValueDesc<'s> {
     pub name: Text<'s>,
     pub place: Place,
@@ -16,14 +16,14 @@ pub struct ValueDesc<'s> {
 }
 
 /// Reserved numbers of an enum, from `start` to `end`; both are reserved.
-#[derive(Clone, Copy, Debug, PartialEq, Eq)]
+#[derive(Clone, Copy, PartialEq, Eq)]
 pub struct EnumReservedRange {
     pub start: WholeNumber,
     pub end: WholeNumber,
 }
 
 /// An enum.
-#[derive(Debug, Drop)]
+#[derive(Drop)]
 pub struct EnumDesc<'s> {
     pub name: Text<'s>,
     pub place: Place,

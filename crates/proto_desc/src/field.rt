@@ -2,27 +2,27 @@
 
 use crate::options::OptionDesc;
 use crate::type_name::TypeReference;
-use proto_syntax::tree::ScalarType;
-use proto_tokens::Place;
-use proto_tokens::row::Row;
-use proto_tokens::text::Text;
+use proto_base::Place;
+use proto_base::row::Row;
+use proto_base::scalar_type::ScalarType;
+use proto_base::text::Text;
 
 /// The label: a field without one in the source is optional, a map field is repeated.
-#[derive(Clone, Copy, Debug, PartialEq, Eq)]
+#[derive(Clone, Copy, PartialEq, Eq)]
 pub enum FieldLabel {
     Optional,
     Repeated,
 }
 
 /// The type of a field: a scalar type, or a message or an enum by its name.
-#[derive(Debug, Drop)]
+#[derive(Drop)]
 pub enum FieldKind<'s> {
     Scalar(ScalarType),
     Named(TypeReference<'s>),
 }
 
 /// A field, a map field or a member of a oneof.
-#[derive(Debug, Drop)]
+#[derive(Drop)]
 pub struct FieldDesc<'s> {
     pub name: Text<'s>,
     pub place: Place,

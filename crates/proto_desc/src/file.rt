@@ -4,19 +4,19 @@ use crate::enumeration::EnumDesc;
 use crate::message::MessageDesc;
 use crate::options::OptionDesc;
 use crate::service::ServiceDesc;
-use proto_tokens::Place;
-use proto_tokens::row::Row;
-use proto_tokens::text::Text;
+use proto_base::Place;
+use proto_base::row::Row;
+use proto_base::text::Text;
 
 /// The package of a file: its parts with dots between them, at the first part.
-#[derive(Debug, Drop)]
+#[derive(Drop)]
 pub struct PackageDesc<'s> {
     pub name: Text<'s>,
     pub place: Place,
 }
 
 /// An import: the path that it names, at its first string.
-#[derive(Debug, Drop)]
+#[derive(Drop)]
 pub struct ImportDesc<'s> {
     pub path: Text<'s>,
     pub place: Place,
@@ -24,7 +24,7 @@ pub struct ImportDesc<'s> {
 }
 
 /// A file. Of several package statements the first counts.
-#[derive(Debug, Drop)]
+#[derive(Drop)]
 pub struct FileDesc<'s> {
     pub name: Text<'s>,
     pub package: Option<PackageDesc<'s>>,

@@ -4,19 +4,19 @@ use crate::enumeration::EnumDesc;
 use crate::field::FieldDesc;
 use crate::oneof::OneofDesc;
 use crate::options::OptionDesc;
-use proto_tokens::Place;
-use proto_tokens::row::Row;
-use proto_tokens::text::Text;
+use proto_base::Place;
+use proto_base::row::Row;
+use proto_base::text::Text;
 
 /// Reserved field numbers, from `start` to `end`; both are reserved, as in the source.
-#[derive(Clone, Copy, Debug, PartialEq, Eq)]
+#[derive(Clone, Copy, PartialEq, Eq)]
 pub struct ReservedRange {
     pub start: u64,
     pub end: u64,
 }
 
 /// A message, or the entry that a map field makes, which stands at the field's name.
-#[derive(Debug, Drop)]
+#[derive(Drop)]
 pub struct MessageDesc<'s> {
     pub name: Text<'s>,
     pub place: Place,

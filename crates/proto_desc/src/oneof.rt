@@ -1,10 +1,10 @@
 //! Oneofs (`OneofDescriptorProto`).
 
-use proto_tokens::Place;
-use proto_tokens::text::Text;
+use proto_base::Place;
+use proto_base::text::Text;
 
 /// A oneof of the source, or the one that an `optional` field makes, which stands at the field's name.
-#[derive(Debug, Drop)]
+#[derive(Drop)]
 pub struct OneofDesc<'s> {
     pub name: Text<'s>,
     pub place: Place,

@@ -1,17 +1,17 @@
 //! Options of an element as its descriptor has them (`FileOptions` to `MethodOptions`).
 
-use proto_tokens::Place;
-use proto_tokens::text::Text;
+use proto_base::Place;
+use proto_base::text::Text;
 
 /// The value of an option: a string, or the number of a boolean or of a choice.
-#[derive(Debug, Drop)]
+#[derive(Drop)]
 pub enum OptionValue<'s> {
     Text(Text<'s>),
     Number(u64),
 }
 
 /// A setting that the element's message of options has, by its field number there, at the first token of its name.
-#[derive(Debug, Drop)]
+#[derive(Drop)]
 pub struct OptionDesc<'s> {
     pub number: u32,
     pub value: OptionValue<'s>,

@@ -5,7 +5,7 @@ ghost use Rattle.proto_desc.specs.Rules.{word_of, choice_number, rules_of};
 ghost use Rattle.proto_desc.specs.declared.rules.ValueKind.TheVariants.{Bool, OptimizeMode, JsType, IdempotencyLevel};
 
 /// An element that may have options. A member of a oneof and a map field are fields.
-#[derive(Clone, Copy, Debug, PartialEq, Eq)]
+#[derive(Clone, Copy, PartialEq, Eq)]
 pub enum Element {
     File,
     Message,
@@ -18,7 +18,7 @@ pub enum Element {
 }
 
 /// The name of an option.
-#[derive(Clone, Copy, Debug, PartialEq, Eq)]
+#[derive(Clone, Copy, PartialEq, Eq)]
 pub enum OptionName {
     JavaPackage,
     JavaOuterClassname,
@@ -42,7 +42,7 @@ pub enum OptionName {
 }
 
 /// What values an option takes: strings, or identifiers that stand for numbers.
-#[derive(Clone, Copy, Debug, PartialEq, Eq)]
+#[derive(Clone, Copy, PartialEq, Eq)]
 pub enum ValueKind {
     Text,
     Bool,
@@ -52,7 +52,7 @@ pub enum ValueKind {
 }
 
 /// An option of an element.
-#[derive(Clone, Copy, Debug, PartialEq, Eq)]
+#[derive(Clone, Copy, PartialEq, Eq)]
 pub struct OptionRule {
     pub name: OptionName,
     /// Its field number in the element's message of options. `json_name` has none: it is a field of the descriptor.

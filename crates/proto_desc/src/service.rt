@@ -2,12 +2,12 @@
 
 use crate::options::OptionDesc;
 use crate::type_name::TypeReference;
-use proto_tokens::Place;
-use proto_tokens::row::Row;
-use proto_tokens::text::Text;
+use proto_base::Place;
+use proto_base::row::Row;
+use proto_base::text::Text;
 
 /// A method of a service.
-#[derive(Debug, Drop)]
+#[derive(Drop)]
 pub struct MethodDesc<'s> {
     pub name: Text<'s>,
     pub place: Place,
@@ -19,7 +19,7 @@ pub struct MethodDesc<'s> {
 }
 
 /// A service.
-#[derive(Debug, Drop)]
+#[derive(Drop)]
 pub struct ServiceDesc<'s> {
     pub name: Text<'s>,
     pub place: Place,

@@ -1,17 +1,17 @@
 //! Names of types (`FieldDescriptorProto.type_name`, language guide, "Packages and Name Resolution").
 
-use proto_tokens::Place;
-use proto_tokens::text::Text;
+use proto_base::Place;
+use proto_base::text::Text;
 
 /// What a type name means.
-#[derive(Clone, Copy, Debug, PartialEq, Eq)]
+#[derive(Clone, Copy, PartialEq, Eq)]
 pub enum TypeKind {
     Message,
     Enum,
 }
 
 /// The name of a message or an enum.
-#[derive(Debug, Drop)]
+#[derive(Drop)]
 pub enum TypeReference<'s> {
     /// As the source spells it, with its dots, at its first token.
     Spelled { text: Text<'s>, place: Place },

@@ -4,7 +4,7 @@ ghost use Rattle.std.specs.Prelude.{◌≡◌};
 ghost use Rattle.proto_desc.specs.WholeNumber.{signed};
 
 /// A number from -(2^64 - 1) to 2^64 - 1. Zero is not negative.
-#[derive(Clone, Copy, Debug, PartialEq, Eq)]
+#[derive(Clone, Copy, PartialEq, Eq)]
 pub struct WholeNumber {
     pub is_negative: bool,
     pub magnitude: u64,

@@ -10,10 +10,10 @@ use Rattle.digraph.proofs.Rows.{edge_below}
 use Rattle.digraph.proofs.Ways.{leads_map, leads_turned}
 use Rattle.proto_desc.specs.declared.file.FileDesc.{FileDesc}
 use Rattle.proto_desc.specs.declared.file.ImportDesc.{ImportDesc}
-use Rattle.proto_tokens.specs.Kind.{number_of}
-use Rattle.proto_tokens.specs.declared.kind.Kind.{Kind}
-use Rattle.proto_tokens.specs.declared.kind.Kind.TheVariants as kind
-use Rattle.proto_tokens.specs.declared.place.Place.{Place}
+use Rattle.proto_base.specs.Kind.{number_of}
+use Rattle.proto_base.specs.declared.kind.Kind.{Kind}
+use Rattle.proto_base.specs.declared.kind.Kind.TheVariants as kind
+use Rattle.proto_base.specs.declared.place.Place.{Place}
 use Rattle.proto_links.specs.Graphs.{IsGraph, NoLaterThan, Bounds, IsLesser, IsWrongIn, IsFirstWrong}
 use Rattle.proto_links.specs.Imports.{AreInNameOrder, IsNamed, Imports, Reaches, IsWrong, missing, cyclic, IsBad, IsFirstBad, IsNoLater, NoneBad, imports_at}
 use Rattle.proto_links.specs.declared.faults.Wrong.{Wrong}

@@ -14,7 +14,7 @@ use Rattle.digraph.proofs.Renumbering.{before_far, map_members, renumbered_falls
 use Rattle.digraph.proofs.Ways.{leads_map, leads_last, leads_le}
 use Rattle.proto_desc.specs.declared.file.FileDesc.{FileDesc}
 use Rattle.proto_desc.specs.declared.file.ImportDesc.{ImportDesc}
-use Rattle.proto_tokens.specs.declared.kind.Kind.{Kind}
+use Rattle.proto_base.specs.declared.kind.Kind.{Kind}
 use Rattle.proto_links.specs.Graphs.{IsGraph, IsPublicGraph, HasMissing}
 use Rattle.proto_links.specs.Imports.{Imports, ImportsPublicly, Reaches, NoneBad, IsWrong, missing, cyclic, imports_at}
 use Rattle.proto_links.specs.Linked.{has, IsSound, AreLinked, IsBefore, IsSetOrder, AreRanks, IsReach}

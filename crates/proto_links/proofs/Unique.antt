@@ -7,11 +7,11 @@ use Rattle.std.proofs.lemmas.List.{get_or_default}
 use Rattle.std.proofs.lemmas.List.Elements.{Contains-get_or}
 use denote.Enum.Bare.{same_true}
 use Rattle.proto_desc.specs.declared.file.FileDesc.{FileDesc}
-use Rattle.proto_tokens.specs.Kind.{number_of}
-use Rattle.proto_tokens.specs.KindOrder.{one_number}
-use Rattle.proto_tokens.specs.contracts.kind.Kind.{the_type}
-use Rattle.proto_tokens.specs.declared.kind.Kind.{Kind}
-use Rattle.proto_tokens.specs.declared.place.Place.{Place}
+use Rattle.proto_base.specs.Kind.{number_of}
+use Rattle.proto_base.specs.KindOrder.{one_number}
+use Rattle.proto_base.specs.contracts.kind.Kind.{the_type}
+use Rattle.proto_base.specs.declared.kind.Kind.{Kind}
+use Rattle.proto_base.specs.declared.place.Place.{Place}
 use Rattle.proto_links.specs.Imports.{IsFirstBad, IsNoLater, NoLater}
 use Rattle.proto_links.specs.Linked.{Linked, AreLinked, AreRanks, IsBefore, IsInSetOrder, IsSetOrder, rank_of, sees}
 use Rattle.proto_links.proofs.Rising.{IsStrict, Rises, one_rising}

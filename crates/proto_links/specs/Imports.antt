@@ -6,10 +6,10 @@ use Rattle.std.specs.declared.cmp.Ordering.TheVariants.{Less}
 use Rattle.digraph.specs.Leads.{Leads}
 use Rattle.proto_desc.specs.declared.file.FileDesc.{FileDesc}
 use Rattle.proto_desc.specs.declared.file.ImportDesc.{ImportDesc}
-use Rattle.proto_tokens.specs.Kind.{number_of}
-use Rattle.proto_tokens.specs.declared.kind.Kind.{Kind}
-use Rattle.proto_tokens.specs.declared.kind.Kind.TheVariants as kind
-use Rattle.proto_tokens.specs.declared.place.Place.{Place}
+use Rattle.proto_base.specs.Kind.{number_of}
+use Rattle.proto_base.specs.declared.kind.Kind.{Kind}
+use Rattle.proto_base.specs.declared.kind.Kind.TheVariants as kind
+use Rattle.proto_base.specs.declared.place.Place.{Place}
 
 abbrev pub name_of : FileDesc → List ℕ
 name_of file = file.name

@@ -6,12 +6,12 @@ ghost use Rattle.digraph.specs.Marks.{IsMarked};
 ghost use Rattle.proto_desc.specs.declared.file.ImportDesc.{ImportDesc};
 ghost use Rattle.proto_links.specs.Graphs.{IsFirstWrong, IsGraph, IsLesser};
 ghost use Rattle.proto_links.specs.Imports.{AreInNameOrder, IsFirstBad, IsWrong, NoneBad, Reaches, imports_at};
-ghost use Rattle.proto_tokens.specs.declared.kind.Kind.{Kind};
+ghost use Rattle.proto_base.specs.declared.kind.Kind.{Kind};
 
 use crate::order::file_named;
 use digraph::{predecessors, reached};
+use proto_base::{Kind, Place};
 use proto_desc::file::{FileDesc, ImportDesc};
-use proto_tokens::{Kind, Place};
 use std::alloc::{AllocError, Global};
 
 /// What is wrong with an import of a file, and where. The order is that of the fields.

@@ -4,8 +4,8 @@ ghost use Rattle.std.specs.Prelude.{◌≡◌, ℕ, ◌<◌, List, length, IsTru
 ghost use Rattle.proto_desc.specs.declared.file.FileDesc.{FileDesc};
 ghost use Rattle.proto_links.specs.Imports.{IsFirstBad};
 ghost use Rattle.proto_links.specs.Linked.{AreLinked, Linked, sees};
-ghost use Rattle.proto_tokens.specs.declared.kind.Kind.{Kind};
-ghost use Rattle.proto_tokens.specs.declared.place.Place.{Place};
+ghost use Rattle.proto_base.specs.declared.kind.Kind.{Kind};
+ghost use Rattle.proto_base.specs.declared.place.Place.{Place};
 
 /// Files have one set order, and see the same files, however they are linked; and they have one first bad import.
 pub fn links_are_unique()

@@ -6,8 +6,8 @@ ghost use Rattle.digraph.specs.Ranks.{IsRankOrder, IsRanked};
 ghost use Rattle.proto_links.specs.Graphs.{IsGraph, IsPublicGraph};
 ghost use Rattle.proto_links.specs.Imports.{AreInNameOrder, IsFirstBad, NoneBad};
 ghost use Rattle.proto_links.specs.Linked.{AreLinked};
-ghost use Rattle.proto_tokens.specs.declared.kind.Kind.{Kind};
-ghost use Rattle.proto_tokens.specs.declared.place.Place.{Place};
+ghost use Rattle.proto_base.specs.declared.kind.Kind.{Kind};
+ghost use Rattle.proto_base.specs.declared.place.Place.{Place};
 ghost use Rattle.proto_links.specs.declared.linking.LinkError.TheVariants as errors;
 
 use crate::faults::first_bad;
@@ -16,8 +16,8 @@ use crate::links::{FileId, Links};
 use digraph::{
     Ranking, positions_of, rank_nodes, reach_lists, renumbered, union_lists, with_nodes,
 };
+use proto_base::{Kind, Place};
 use proto_desc::file::FileDesc;
-use proto_tokens::{Kind, Place};
 use std::alloc::{AllocError, Global};
 use thiserror::Error;
 

@@ -11,7 +11,7 @@ pub type FileId = usize;
 
 /// The files that each file reaches and sees, and the order of a set of files. Contracts see it as these things, by the
 /// places of files in the list that was linked.
-#[derive(Debug, Drop)]
+#[derive(Drop)]
 pub struct Links {
     pub(crate) ranking: Ranking,
     /// The position of each file in set order.

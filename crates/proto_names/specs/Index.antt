@@ -5,10 +5,10 @@ use Rattle.std.specs.Ordering.{nat_cmp}
 use Rattle.proto_desc.specs.declared.file.FileDesc.{FileDesc}
 use Rattle.proto_desc.specs.declared.name_kind.NameKind.{NameKind}
 use Rattle.proto_desc.specs.declared.name_kind.NameKind.TheVariants as kind
-use Rattle.proto_tokens.specs.Limits.{limit_of}
-use Rattle.proto_tokens.specs.declared.limits.Limit.TheVariants as limit
-use Rattle.proto_tokens.specs.declared.limits.Limits.{Limits}
-use Rattle.proto_tokens.specs.declared.place.Place.{Place}
+use Rattle.proto_base.specs.Limits.{limit_of}
+use Rattle.proto_base.specs.declared.limits.Limit.TheVariants as limit
+use Rattle.proto_base.specs.declared.limits.Limits.{Limits}
+use Rattle.proto_base.specs.declared.place.Place.{Place}
 use Rattle.proto_names.specs.Occurrences.{Occurrence, occurrences, NoneTwice, IsFirstTwice}
 
 -- what occurs in so many files, and the names of the services among it

@@ -5,7 +5,7 @@ use Rattle.proto_desc.specs.declared.file.FileDesc.{FileDesc}
 use Rattle.proto_desc.specs.declared.file.PackageDesc.{PackageDesc}
 use Rattle.proto_desc.specs.declared.name_kind.NameKind.{NameKind}
 use Rattle.proto_names.specs.Scopes.{fronts}
-use Rattle.proto_tokens.specs.declared.place.Place.{Place}
+use Rattle.proto_base.specs.declared.place.Place.{Place}
 
 -- a full name in a file: a package, which has no kind of element, or an element that the file declares
 pub record Occurrence : Type 0 where

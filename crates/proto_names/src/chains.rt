@@ -13,14 +13,14 @@ use crate::twice::continues;
 use std::alloc::{AllocError, Global};
 
 /// The hash of an entry's name, and what stands behind it in its chain: one more than a position, or 0 at the end.
-#[derive(Clone, Copy, Debug)]
+#[derive(Clone, Copy)]
 pub(crate) struct Link {
     hash: u32,
     next: u32,
 }
 
 /// The first of each slot's chain, as one more than its position or 0 for none, and a link for each entry.
-#[derive(Debug, Drop)]
+#[derive(Drop)]
 pub(crate) struct Chains {
     slots: Vec<u32>,
     links: Vec<Link>,

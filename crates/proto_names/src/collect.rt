@@ -8,6 +8,7 @@ ghost use Rattle.proto_names.specs.Scopes.{fronts};
 
 use crate::entries::{Entries, Entry, Spot, name_in};
 use crate::scope::shorter_front;
+use proto_base::Place;
 use proto_desc::enumeration::{EnumDesc, ValueDesc};
 use proto_desc::field::FieldDesc;
 use proto_desc::file::{FileDesc, PackageDesc};
@@ -16,7 +17,6 @@ use proto_desc::name_kind::NameKind;
 use proto_desc::oneof::OneofDesc;
 use proto_desc::service::{MethodDesc, ServiceDesc};
 use proto_links::FileId;
-use proto_tokens::Place;
 use std::alloc::{AllocError, Global};
 
 /// The entry of a name that is declared in a scope.

@@ -7,9 +7,9 @@ ghost use Rattle.proto_desc.specs.DeclaredNames.{scoped};
 ghost use Rattle.proto_names.specs.Entries.{entry_name, occurrence};
 ghost use Rattle.proto_names.specs.Order.{AreInOrder};
 
+use proto_base::Place;
 use proto_desc::name_kind::NameKind;
 use proto_links::FileId;
-use proto_tokens::Place;
 use rayon::prelude::*;
 use std::alloc::{AllocError, Global};
 use std::cmp::Ordering;
@@ -17,14 +17,14 @@ use std::marker::Model;
 use std::thread::Threads;
 
 /// A place in one of the files. The order is that of the fields.
-#[derive(Clone, Copy, Debug, PartialEq, Eq, PartialOrd, Ord)]
+#[derive(Clone, Copy, PartialEq, Eq, PartialOrd, Ord)]
 pub(crate) struct Spot {
     pub(crate) file: FileId,
     pub(crate) place: Place,
 }
 
 /// A full name in a file. The order is that of the fields.
-#[derive(Debug, Drop, PartialEq, Eq, PartialOrd, Ord)]
+#[derive(Drop, PartialEq, Eq, PartialOrd, Ord)]
 pub(crate) struct Entry {
     pub(crate) name: String,
     pub(crate) spot: Spot,
@@ -33,7 +33,7 @@ pub(crate) struct Entry {
 }
 
 /// Entries. Contracts see them as the occurrences that they stand for.
-#[derive(Debug, Drop)]
+#[derive(Drop)]
 pub(crate) struct Entries {
     entries: Vec<Entry>,
 }

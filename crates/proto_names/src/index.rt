@@ -9,18 +9,18 @@ ghost use Rattle.proto_names.specs.Index.{Indexes, IsRepeated, is_service_kind, 
 ghost use Rattle.proto_names.specs.declared.index.Defined.{Defined};
 ghost use Rattle.proto_names.specs.Occurrences.{Occurrence, IsPackage, occurrences};
 ghost use Rattle.proto_names.specs.declared.index.NameError.TheVariants as errors;
-ghost use Rattle.proto_tokens.specs.Limits.{limit_of};
-ghost use Rattle.proto_tokens.specs.declared.limits.Limit.TheVariants as limit;
-ghost use Rattle.proto_tokens.specs.declared.place.Place.{Place};
+ghost use Rattle.proto_base.specs.Limits.{limit_of};
+ghost use Rattle.proto_base.specs.declared.limits.Limit.TheVariants as limit;
+ghost use Rattle.proto_base.specs.declared.place.Place.{Place};
 
 use crate::collect::collect;
 use crate::entries::Entry;
 use crate::table::EntryTable;
 use crate::twice::first_twice;
+use proto_base::{Limit, Limits, Place};
 use proto_desc::file::FileDesc;
 use proto_desc::name_kind::NameKind;
 use proto_links::FileId;
-use proto_tokens::{Limit, Limits, Place};
 use std::alloc::{AllocError, AllocGlobal, Global};
 use std::marker::Model;
 use std::thread::Threads;
@@ -68,14 +68,14 @@ fn service_names(alloc: Global, entries: &[Entry]) -> Result<Vec<String>, AllocE
 }
 
 /// What a full name is declared for, and the file that declares it.
-#[derive(Clone, Copy, Debug, PartialEq, Eq)]
+#[derive(Clone, Copy, PartialEq, Eq)]
 pub struct Defined {
     pub kind: NameKind,
     pub file: FileId,
 }
 
 /// The occurrences of names in files. Contracts see it as these, in the order of the names.
-#[derive(Debug, Drop)]
+#[derive(Drop)]
 pub struct NameIndex {
     pub(crate) files: usize,
     pub(crate) entries: EntryTable,

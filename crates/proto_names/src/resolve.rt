@@ -21,7 +21,7 @@ use std::alloc::{AllocError, Global};
 use thiserror::Error;
 
 /// What a type may be.
-#[derive(Clone, Copy, Debug, PartialEq, Eq)]
+#[derive(Clone, Copy, PartialEq, Eq)]
 pub enum Want {
     AnyType,
     MessageOnly,
@@ -40,7 +40,7 @@ impl Want {
 }
 
 /// A type, by its full name.
-#[derive(Debug, Drop)]
+#[derive(Drop)]
 pub struct Resolved {
     pub full_name: String,
     pub kind: NameKind,

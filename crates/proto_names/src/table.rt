@@ -18,7 +18,7 @@ use std::alloc::{AllocError, Global};
 use std::marker::Model;
 
 /// Entries and their chains. Contracts see them as the occurrences that they stand for.
-#[derive(Debug, Drop)]
+#[derive(Drop)]
 pub(crate) struct EntryTable {
     entries: Entries,
     chains: Chains,

@@ -5,7 +5,7 @@ use Rattle.proto_tokens.specs.declared.token.Token.{Token}
 use Rattle.proto_syntax.specs.Gives.{spellings}
 use Rattle.std.proofs.Math.Seq.{take-append_seam, take-append-add}
 use Rattle.std.specs.Prelude.{slice_get}
-use Rattle.proto_tokens.specs.declared.kind.Kind.TheVariants.{TooDeep}
+use Rattle.proto_base.specs.declared.kind.Kind.TheVariants.{TooDeep}
 use Rattle.proto_tokens.specs.Token.{Spelled, spelled}
 use Rattle.proto_syntax.specs.Grammar.{Grammar, Tree, flatten, IsFront}
 use Rattle.proto_syntax.specs.Reading.{Outcome, Read, Stops, ended, read, decides}

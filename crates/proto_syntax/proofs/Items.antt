@@ -3,7 +3,7 @@ use Rattle.std.proofs.Common.{ℕ, Bool, true, false, cond, not, ◌||◌, ◌++
 use Rattle.std.specs.Prelude.{bytes_eq, codes, Option, Some, None}
 use Rattle.std.proofs.lemmas.Slice.Eq.{bytes_eq-Decides}
 use Rattle.proto_tokens.specs.Token.{Spelled}
-use Rattle.proto_tokens.specs.declared.place.Span.{Span}
+use Rattle.proto_base.specs.declared.place.Span.{Span}
 use Rattle.proto_syntax.specs.declared.tree.enumeration.Enum.{Enum}
 use Rattle.proto_syntax.specs.declared.tree.field.Declarator.{Declarator}
 use Rattle.proto_syntax.specs.declared.tree.field.Field.{Field}

@@ -2,7 +2,7 @@
 use Rattle.std.proofs.Common.{◌≡◌, Bool, true, false, cond, List, [], ◌∷◌, refl, sym, ◌∙◌, ap, subst, map}
 use Rattle.std.specs.Prelude.{Option, None, Some, bytes_eq, codes}
 use Rattle.std.specs.Str.{byte}
-use Rattle.proto_tokens.specs.declared.place.Span.{Span}
+use Rattle.proto_base.specs.declared.place.Span.{Span}
 use Rattle.proto_syntax.specs.Name.{Identifier}
 use Rattle.proto_syntax.specs.Grammar.{Tree, Pair, Left, Right}
 use Rattle.proto_syntax.specs.declared.tree.field.Declarator.{Declarator}

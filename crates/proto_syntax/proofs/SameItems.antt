@@ -2,7 +2,7 @@
 use Rattle.std.proofs.Common.{◌≡◌, refl, ap}
 use Rattle.std.specs.Prelude.{Option, None, Some, codes}
 use Rattle.std.specs.Str.{byte}
-use Rattle.proto_tokens.specs.declared.place.Span.{Span}
+use Rattle.proto_base.specs.declared.place.Span.{Span}
 use Rattle.proto_syntax.specs.Grammar.{Tree, Pair}
 use Rattle.proto_syntax.specs.declared.tree.constant.Constant.{Constant}
 use Rattle.proto_syntax.specs.declared.tree.constant.Constant.TheVariants as constant

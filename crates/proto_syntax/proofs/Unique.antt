@@ -3,7 +3,7 @@ use Rattle.std.proofs.Common.{◌≡◌, ℕ, ◌<◌, List, length, refl, ◌�
 use Rattle.std.specs.Prelude.{MatchResult, IsErrAnd}
 use Rattle.std.proofs.lemmas.Option.{slice_get_within}
 use Rattle.proto_tokens.specs.Token.{Spelled, tokens_of}
-use Rattle.proto_tokens.specs.declared.kind.Kind.{Kind}
+use Rattle.proto_base.specs.declared.kind.Kind.{Kind}
 use Rattle.proto_tokens.specs.declared.token.Tokens.{Tokens}
 use Rattle.proto_syntax.specs.declared.error.ParseError.{ParseError}
 use Rattle.proto_syntax.specs.declared.error.ParseError.TheVariants.{NoMemory, At}

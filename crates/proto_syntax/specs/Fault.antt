@@ -3,10 +3,10 @@ use Rattle.std.specs.Prelude.{◌≡◌, ℕ, ◌+◌, ◌-◌, ◌<◌, ◌≤�
 use Rattle.std.specs.Str.{byte}
 use Rattle.std.specs.Option.{option_map, unwrap_or}
 use Rattle.proto_tokens.specs.Token.{Lexeme, Spelled, tokens_of}
-use Rattle.proto_tokens.specs.declared.place.Place.{Place}
+use Rattle.proto_base.specs.declared.place.Place.{Place}
 use Rattle.proto_tokens.specs.declared.token.Tokens.{Tokens}
-use Rattle.proto_tokens.specs.declared.kind.Kind.{Kind}
-use Rattle.proto_tokens.specs.declared.kind.Kind.TheVariants.{UnexpectedEnd, TooDeep, CustomOption, LeftOut, Unexpected}
+use Rattle.proto_base.specs.declared.kind.Kind.{Kind}
+use Rattle.proto_base.specs.declared.kind.Kind.TheVariants.{UnexpectedEnd, TooDeep, CustomOption, LeftOut, Unexpected}
 use Rattle.proto_syntax.specs.declared.error.ParseError.{ParseError}
 use Rattle.proto_syntax.specs.declared.error.ParseError.TheVariants.{NoMemory, At}
 use Rattle.proto_syntax.specs.Grammar.{OneOf, Symbol, fits, Tree, flatten, IsTree, IsFront}

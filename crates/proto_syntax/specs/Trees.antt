@@ -2,7 +2,7 @@
 use Rattle.std.specs.Prelude.{ℕ, cond, bytes_eq, List, [], ◌∷◌, codes, Option, Some, None}
 use Rattle.std.specs.Str.{byte}
 use Rattle.proto_tokens.specs.Token.{Lexeme, identifier, number, string_literal, punctuation}
-use Rattle.proto_tokens.specs.declared.place.Span.{Span}
+use Rattle.proto_base.specs.declared.place.Span.{Span}
 use Rattle.proto_syntax.specs.Name.{Identifier}
 use Rattle.proto_syntax.specs.Grammar.{Tree, Leaf, Empty, Pair, Left, Right}
 use Rattle.proto_syntax.specs.declared.tree.constant.Constant.{Constant}
@@ -54,10 +54,10 @@ use Rattle.proto_syntax.specs.declared.tree.reserved.ReservedItems.{ReservedItem
 use Rattle.proto_syntax.specs.declared.tree.reserved.ReservedItems.TheVariants as reserved_items
 use Rattle.proto_syntax.specs.declared.tree.reserved.UpperBound.{UpperBound}
 use Rattle.proto_syntax.specs.declared.tree.reserved.UpperBound.TheVariants as upper_bound
-use Rattle.proto_syntax.specs.declared.tree.scalar.KeyType.{KeyType}
-use Rattle.proto_syntax.specs.declared.tree.scalar.KeyType.TheVariants as key
-use Rattle.proto_syntax.specs.declared.tree.scalar.ScalarType.{ScalarType}
-use Rattle.proto_syntax.specs.declared.tree.scalar.ScalarType.TheVariants as scalar
+use Rattle.proto_base.specs.declared.scalar_type.KeyType.{KeyType}
+use Rattle.proto_base.specs.declared.scalar_type.KeyType.TheVariants as key
+use Rattle.proto_base.specs.declared.scalar_type.ScalarType.{ScalarType}
+use Rattle.proto_base.specs.declared.scalar_type.ScalarType.TheVariants as scalar
 use Rattle.proto_syntax.specs.declared.tree.service.Rpc.{Rpc}
 use Rattle.proto_syntax.specs.declared.tree.service.RpcBlock.{RpcBlock}
 use Rattle.proto_syntax.specs.declared.tree.service.RpcBody.{RpcBody}

@@ -1,6 +1,6 @@
 //! Why tokens are no file.
 
-use proto_tokens::{Kind, Place};
+use proto_base::{Kind, Place};
 use thiserror::Error;
 
 /// Why tokens are no file: their first fault, or no memory for the tree.

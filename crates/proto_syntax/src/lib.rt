@@ -9,6 +9,3 @@ pub mod tree;
 
 pub use error::ParseError;
 pub use parser::{at_most_one_fault, at_most_one_file, at_most_one_tree, parse};
-
-#[cfg(test)]
-mod tests;

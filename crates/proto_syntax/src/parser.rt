@@ -2,8 +2,8 @@
 
 ghost use Rattle.std.specs.Prelude.{◌≡◌, ℕ, List, IfErr, IfOk, IsErrAnd, MatchResult};
 ghost use Rattle.proto_tokens.specs.Token.{Spelled, tokens_of};
-ghost use Rattle.proto_tokens.specs.Limits.{limit_of};
-ghost use Rattle.proto_tokens.specs.declared.kind.Kind.{Kind};
+ghost use Rattle.proto_base.specs.Limits.{limit_of};
+ghost use Rattle.proto_base.specs.declared.kind.Kind.{Kind};
 ghost use Rattle.proto_syntax.specs.declared.tree.file.FileTree.{FileTree};
 ghost use Rattle.proto_syntax.specs.Grammar.{Tree};
 ghost use Rattle.proto_syntax.specs.Fault.{IsTreeOf, IsFaultAt, IsKindOf, IsFaultOf, TellsFault};
@@ -21,6 +21,7 @@ mod oneof;
 mod option;
 mod position;
 mod reserved;
+mod scalar;
 mod service;
 mod stop;
 mod terminal;
@@ -28,7 +29,8 @@ mod terminal;
 use crate::error::ParseError;
 use crate::tree::FileTree;
 use fault::{kind_at, place_at};
-use proto_tokens::{Kind, Limit, Limits, Token, Tokens};
+use proto_base::{Kind, Limit, Limits};
+use proto_tokens::{Token, Tokens};
 use std::alloc::Global;
 use stop::Stop;
 

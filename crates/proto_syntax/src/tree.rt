@@ -14,7 +14,6 @@ mod name;
 mod oneof;
 mod option;
 mod reserved;
-mod scalar;
 mod service;
 
 pub use constant::{Constant, ConstantNumber, Sign};
@@ -29,5 +28,4 @@ pub use name::{FullName, Name, NamePart, TypeName};
 pub use oneof::{Oneof, OneofField, OneofItem};
 pub use option::{OptionStatement, Options, Setting};
 pub use reserved::{Range, RangeEnd, Reserved, ReservedItems, UpperBound};
-pub use scalar::{KeyType, ScalarType};
 pub use service::{Rpc, RpcBlock, RpcBody, RpcItem, RpcType, Service, ServiceItem};

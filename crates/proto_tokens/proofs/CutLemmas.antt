@@ -7,7 +7,7 @@ use Rattle.proto_tokens.specs.declared.token.Token.{Token}
 use Rattle.proto_tokens.specs.declared.token.TokenKind.{TokenKind}
 use Rattle.proto_tokens.specs.Cut.{IsCutInto}
 use Rattle.proto_tokens.specs.Quoted.{IsStringFault}
-use Rattle.proto_tokens.specs.declared.kind.Kind.{Kind}
+use Rattle.proto_base.specs.declared.kind.Kind.{Kind}
 use Rattle.proto_tokens.specs.Token.{Lexeme, Spelled, spelled, lexeme_of}
 use Rattle.proto_tokens.specs.Piece.{IsLongestPiece, IsPieceFault}
 use Rattle.proto_tokens.specs.Spelling.{Piece, IsCutIntoPieces, tokens_from, token_before, SpellsFrom, IsPlacedWithin, IsFaultOf, mark_len}

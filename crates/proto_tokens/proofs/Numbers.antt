@@ -9,8 +9,8 @@ use Rattle.std.proofs.lemmas.Bool.{false≢true}
 use Rattle.std.specs.Prelude.{◌↔◌, MatchOption, MatchResult}
 use Rattle.std.specs.Option.{ok_or}
 use Rattle.std.specs.Char.{is_digit}
-use Rattle.proto_tokens.specs.declared.kind.Kind.{Kind}
-use Rattle.proto_tokens.specs.declared.kind.Kind.TheVariants.{NumberTooBig}
+use Rattle.proto_base.specs.declared.kind.Kind.{Kind}
+use Rattle.proto_base.specs.declared.kind.Kind.TheVariants.{NumberTooBig}
 use Rattle.proto_tokens.specs.Numeral.{digits_value, Writes, IsNumeral}
 use Rattle.proto_tokens.specs.Steps.{IsNumeralFault}
 

@@ -14,8 +14,8 @@ use Rattle.proto_tokens.specs.Numeral.{Writes, IsNumeral}
 use Rattle.proto_tokens.specs.Quoted.{IsString}
 use Rattle.proto_tokens.specs.Token.{Lexeme, identifier, number, string_literal, punctuation}
 use Rattle.proto_tokens.specs.Piece.{IsPiece, IsLongestPiece, IsPieceFault, IsBadNumber, IsLineComment, IsBlockComment, HasNoClose}
-use Rattle.proto_tokens.specs.declared.kind.Kind.{Kind}
-use Rattle.proto_tokens.specs.declared.kind.Kind.TheVariants as kinds
+use Rattle.proto_base.specs.declared.kind.Kind.{Kind}
+use Rattle.proto_base.specs.declared.kind.Kind.TheVariants as kinds
 use Rattle.proto_tokens.specs.declared.token.TokenError.{TokenError}
 use Rattle.proto_tokens.specs.declared.token.TokenError.TheVariants as errors
 use Rattle.proto_tokens.specs.Steps.{IsNumeralFault, IsFirstClose, IsFaultAfter}

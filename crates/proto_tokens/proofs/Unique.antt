@@ -5,8 +5,8 @@ use Rattle.std.specs.Char.{is_digit, is_ascii_digit, is_ascii_graphic}
 use Rattle.std.proofs.lemmas.Bool.{both_ways, false_from_ne_true}
 use Rattle.std.proofs.lemmas.List.{length-append, get_or_at, get_or-append-add, take_all, drop_all, drop_more}
 use Rattle.std.specs.Str.{IsUtf8}
-use Rattle.proto_tokens.specs.declared.kind.Kind.{Kind}
-use Rattle.proto_tokens.specs.declared.kind.Kind.TheVariants as kinds
+use Rattle.proto_base.specs.declared.kind.Kind.{Kind}
+use Rattle.proto_base.specs.declared.kind.Kind.TheVariants as kinds
 use Rattle.std.proofs.lemmas.Bool.Decides.{nat_tests}
 use Rattle.std.proofs.lemmas.List.Elements.{All-head, All-get_or}
 use Rattle.proto_tokens.specs.Bytes.{begins, is_blank, is_quote, is_numeric, is_slash_or_star}

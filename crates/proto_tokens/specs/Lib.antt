@@ -1,7 +1,3 @@
-pub mod Limits
-pub mod Kind
-pub mod KindOrder
-pub mod Fault
 pub mod Bytes
 pub mod Numeral
 pub mod Escape
@@ -11,4 +7,3 @@ pub mod Token
 pub mod Piece
 pub mod Spelling
 pub mod Steps
-pub mod formers

@@ -3,8 +3,8 @@ use Rattle.std.specs.Prelude.{◌≡◌, ◌≢◌, ℕ, ◌+◌, ◌<◌, ◌�
 use Rattle.std.specs.List.{AllPass}
 use Rattle.std.specs.Str.{byte}
 use Rattle.std.specs.Char.{is_ascii_graphic, is_ascii_digit}
-use Rattle.proto_tokens.specs.declared.kind.Kind.{Kind}
-use Rattle.proto_tokens.specs.declared.kind.Kind.TheVariants.{BadByte, BadNumber, NumberTooBig, UnclosedComment}
+use Rattle.proto_base.specs.declared.kind.Kind.{Kind}
+use Rattle.proto_base.specs.declared.kind.Kind.TheVariants.{BadByte, BadNumber, NumberTooBig, UnclosedComment}
 use Rattle.proto_tokens.specs.Bytes.{is_blank, is_letter, is_word, is_numeric, is_punctuation, is_slash_or_star, is_in_line, begins}
 use Rattle.proto_tokens.specs.Token.{Lexeme, identifier, number, string_literal, punctuation}
 use Rattle.proto_tokens.specs.Numeral.{IsNumeral}

@@ -2,8 +2,8 @@
 use Rattle.std.specs.Prelude.{◌≡◌, ℕ, ◌+◌, ◌<◌, ◌≤◌, Bool, not, ◌||◌, ◌==◌, List, [], ◌∷◌, ◌⊎◌, length, drop, slice_index, IsTrue}
 use Rattle.std.specs.List.{flat_map}
 use Rattle.std.specs.Str.{IsUtf8, byte}
-use Rattle.proto_tokens.specs.declared.kind.Kind.{Kind}
-use Rattle.proto_tokens.specs.declared.kind.Kind.TheVariants.{BadByte, BadEscape, UnclosedString}
+use Rattle.proto_base.specs.declared.kind.Kind.{Kind}
+use Rattle.proto_base.specs.declared.kind.Kind.TheVariants.{BadByte, BadEscape, UnclosedString}
 use Rattle.proto_tokens.specs.Bytes.{is_quote}
 use Rattle.proto_tokens.specs.Escape.{Escaped, IsAllowedEscape, escaped_bytes}
 use Rattle.proto_tokens.specs.Cut.{IsCutInto}

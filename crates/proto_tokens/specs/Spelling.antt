@@ -3,8 +3,8 @@ use Rattle.std.specs.Prelude.{◌≡◌, ℕ, ◌+◌, ◌<◌, ◌≤◌, List,
 use Rattle.std.specs.List.{starts_with}
 use Rattle.std.specs.Str.{IsUtf8}
 use Rattle.std.specs.Str.Lossy.{utf8_valid_len}
-use Rattle.proto_tokens.specs.declared.kind.Kind.{Kind}
-use Rattle.proto_tokens.specs.declared.kind.Kind.TheVariants.{FileTooLong, NotUtf8}
+use Rattle.proto_base.specs.declared.kind.Kind.{Kind}
+use Rattle.proto_base.specs.declared.kind.Kind.TheVariants.{FileTooLong, NotUtf8}
 use Rattle.proto_tokens.specs.declared.token.TokenError.{TokenError}
 use Rattle.proto_tokens.specs.declared.token.TokenError.TheVariants as errors
 use Rattle.proto_tokens.specs.Cut.{IsCutInto}

@@ -7,7 +7,7 @@ ghost use Rattle.proto_tokens.specs.Bytes.{begins};
 ghost use Rattle.proto_tokens.specs.Numeral.{digits_value, Writes, IsNumeral};
 ghost use Rattle.proto_tokens.specs.Steps.{IsNumeralFault};
 
-use crate::kind::Kind;
+use proto_base::Kind;
 
 /// What the byte is worth as a digit; 36 if it is none.
 pub(crate) fn digit_value(byte: u8) -> u8

@@ -13,10 +13,10 @@ use crate::bytes::{
     blanks_len, bytes_behind, is_blank, is_letter, is_punctuation, is_quote, line_len, numeric_len,
     word_len,
 };
-use crate::kind::Kind;
 use crate::numeral::numeral_value;
 use crate::quoted::string;
 use crate::token::{TokenError, TokenKind, fault_at};
+use proto_base::Kind;
 use std::alloc::Global;
 
 /// The number at the front, and how many bytes it takes.

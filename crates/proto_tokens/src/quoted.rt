@@ -11,8 +11,8 @@ ghost use Rattle.proto_tokens.specs.Steps.{IsFaultAfter, IsClosed};
 
 use crate::bytes::bytes_behind;
 use crate::escape::{longest_escape, push_escaped};
-use crate::kind::Kind;
 use crate::token::{TokenError, fault_at};
+use proto_base::Kind;
 use std::alloc::Global;
 use std::borrow::CowStr;
 

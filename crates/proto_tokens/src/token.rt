@@ -3,28 +3,27 @@
 ghost use Rattle.std.specs.Prelude.{◌≡◌, ◌<◌, ◌^◌};
 ghost use Rattle.proto_tokens.specs.declared.token.TokenError.TheVariants as errors;
 
-use crate::kind::Kind;
-use crate::place::{Place, Span};
+use proto_base::{Kind, Place, Span};
 use std::alloc::{AllocError, AllocFailed};
 use std::borrow::CowStr;
 use thiserror::Error;
 
 /// A token, and the bytes of the source that it is.
-#[derive(Debug, Drop)]
+#[derive(Drop)]
 pub struct Token<'s> {
     pub kind: TokenKind<'s>,
     pub span: Span,
 }
 
 /// The tokens of a source in their order, and the place behind its last byte.
-#[derive(Debug, Drop)]
+#[derive(Drop)]
 pub struct Tokens<'s> {
     pub items: Vec<Token<'s>>,
     pub end: Place,
 }
 
 /// What a token is. Every keyword is an identifier.
-#[derive(Debug, Drop)]
+#[derive(Drop)]
 pub enum TokenKind<'s> {
     /// A letter or `_`, then letters, digits and `_`; borrowed from the source.
     Identifier(&'s str),

@@ -1,18 +1,16 @@
 //! Sources as lists of tokens.
 
 ghost use Rattle.std.specs.Prelude.{◌≡◌, ◌<◌, ◌≤◌, ◌^◌, ℕ, length, List, map, IfOk, IfErr, IsErrAnd, MatchResult};
-ghost use Rattle.proto_tokens.specs.Limits.{limit_of};
+ghost use Rattle.proto_base.specs.Limits.{limit_of};
 ghost use Rattle.proto_tokens.specs.Token.{Spelled, spelled, tokens_of};
 ghost use Rattle.proto_tokens.specs.Spelling.{IsPlacedWithin, mark_len, SpellsFrom, IsTokenList, IsFault, IsFaultOf, TellsFault};
 ghost use Rattle.proto_tokens.specs.Steps.{IsFaultFrom};
 ghost use Rattle.proto_tokens.specs.declared.token.TokenError.TheVariants as errors;
-ghost use Rattle.proto_tokens.specs.declared.kind.Kind.{Kind};
+ghost use Rattle.proto_base.specs.declared.kind.Kind.{Kind};
 
-use crate::kind::Kind;
-use crate::limits::{Limit, Limits};
 use crate::piece::piece_at;
-use crate::place::{Place, Span};
 use crate::token::{Token, TokenError, Tokens};
+use proto_base::{Kind, Limit, Limits, Place, Span};
 use std::alloc::Global;
 
 /// How many bytes the byte order mark at the front has, if there is one.

@@ -19,8 +19,8 @@ use Rattle.proto_desc.specs.declared.type_name.TypeReference.{TypeReference}
 use Rattle.proto_desc.specs.declared.type_name.TypeReference.TheVariants.{Spelled, Resolved}
 use Rattle.proto_names.specs.Occurrences.{Occurrence}
 use Rattle.proto_desc.proofs.Resolves.{message_resolved_out}
-use Rattle.proto_checks.specs.Sets.{Each}
-use Rattle.proto_checks.specs.declared.spot.Spot.{Spot}
+use Rattle.proto_base.specs.Sets.{Each}
+use Rattle.proto_base.specs.declared.spot.Spot.{Spot}
 use Rattle.proto_types.specs.Steps.{IsWalked, IsWalkedMessage}
 use Rattle.proto_types.specs.References.{Reference, ReferenceBreaks, field_scope, references_of_field, references_step, references_by_message}
 use Rattle.proto_types.specs.Typed.{IsTyped, IsTypedKind, IsTypedField, IsTypedMessage, AreTypedMessages, IsTypedMethod, IsTypedService, IsTypedIn}

@@ -5,11 +5,11 @@ use Rattle.std.proofs.lemmas.List.Concat.{flat_map-append}
 use Rattle.std.proofs.lemmas.List.Elements.{AllZip-push}
 use Rattle.std.specs.List.{AllZip}
 use Rattle.std.specs.Prelude.{Option, Some, None, flat_map}
-use Rattle.proto_checks.specs.declared.spot.Spot.{Spot}
-use Rattle.proto_checks.specs.Least.{IsLesser, Bounds}
-use Rattle.proto_checks.specs.Sets.{Each}
-use Rattle.proto_checks.proofs.Among.{least_nil, least_append}
-use Rattle.proto_checks.proofs.Sets.{at_most_itself}
+use Rattle.proto_base.specs.declared.spot.Spot.{Spot}
+use Rattle.proto_base.specs.Least.{IsLesser, Bounds}
+use Rattle.proto_base.specs.Sets.{Each}
+use Rattle.proto_base.proofs.Among.{least_nil, least_append}
+use Rattle.proto_base.proofs.Sets.{at_most_itself}
 use Rattle.proto_types.specs.Steps.{IsWalked}
 
 bounds_none : (a : Option Spot) → ((x : Spot) → Bounds a x → ⊥) → a ≡ None

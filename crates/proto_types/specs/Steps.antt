@@ -1,7 +1,7 @@
 -- What a walk over the names of types finds and makes.
 use Rattle.std.specs.Prelude.{◌≡◌, ℕ, List, flat_map, Option, None}
 use Rattle.std.specs.List.{AllZip}
-use Rattle.proto_tokens.specs.declared.kind.Kind.TheVariants as kind
+use Rattle.proto_base.specs.declared.kind.Kind.TheVariants as kind
 use Rattle.proto_desc.specs.declared.field.FieldDesc.{FieldDesc}
 use Rattle.proto_desc.specs.declared.field.FieldKind.{FieldKind}
 use Rattle.proto_desc.specs.declared.file.FileDesc.{FileDesc}
@@ -14,9 +14,9 @@ use Rattle.proto_desc.specs.declared.service.ServiceDesc.{ServiceDesc}
 use Rattle.proto_desc.specs.declared.type_name.TypeKind.{TypeKind}
 use Rattle.proto_desc.specs.declared.type_name.TypeKind.TheVariants as type_kind
 use Rattle.proto_desc.specs.declared.type_name.TypeReference.{TypeReference}
-use Rattle.proto_checks.specs.Least.{IsLeast, spot}
-use Rattle.proto_checks.specs.Sets.{Each}
-use Rattle.proto_checks.specs.declared.spot.Spot.{Spot}
+use Rattle.proto_base.specs.Least.{IsLeast, spot}
+use Rattle.proto_base.specs.Sets.{Each}
+use Rattle.proto_base.specs.declared.spot.Spot.{Spot}
 use Rattle.proto_names.specs.Occurrences.{Occurrence}
 use Rattle.proto_names.specs.declared.resolve.Want.{Want}
 use Rattle.proto_types.specs.References.{Reference, IsPacked, ReferenceBreaks, references_of_type, references_of_kind, references_of_field, references_by_message, references_of_method, references_of_service, references_in}

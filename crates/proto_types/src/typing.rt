@@ -1,24 +1,24 @@
 //! Resolving the names of types in a file.
 
 ghost use Rattle.std.specs.Prelude.{◌≡◌, ℕ, ◌<◌, List, Bool, Err, IfOk, Some, true};
-ghost use Rattle.proto_checks.specs.Least.{IsLeast, spot};
-ghost use Rattle.proto_checks.specs.declared.spot.Spot.{Spot};
+ghost use Rattle.proto_base.specs.Least.{IsLeast, spot};
+ghost use Rattle.proto_base.specs.declared.spot.Spot.{Spot};
 ghost use Rattle.proto_desc.specs.Resolved.{file_resolved};
 ghost use Rattle.proto_desc.specs.declared.file.FileDesc.{FileDesc};
 ghost use Rattle.proto_links.specs.Linked.{count_of};
 ghost use Rattle.proto_names.specs.Occurrences.{Occurrence};
 ghost use Rattle.proto_names.specs.Resolution.{AreSeenAlike, IsSeen, SeenBy};
-ghost use Rattle.proto_tokens.specs.declared.kind.Kind.{Kind};
-ghost use Rattle.proto_tokens.specs.declared.place.Place.{Place};
+ghost use Rattle.proto_base.specs.declared.kind.Kind.{Kind};
+ghost use Rattle.proto_base.specs.declared.place.Place.{Place};
 ghost use Rattle.proto_types.specs.References.{TypesBreak};
 ghost use Rattle.proto_types.specs.Typed.{IsTypedFile};
 ghost use Rattle.proto_types.specs.declared.typing.TypeError.TheVariants as errors;
 
 use crate::typist::Typist;
+use proto_base::{Kind, Place};
 use proto_desc::file::FileDesc;
 use proto_links::{FileId, Links};
 use proto_names::NameIndex;
-use proto_tokens::{Kind, Place};
 use std::alloc::{AllocError, Global};
 use thiserror::Error;
 

@@ -2,15 +2,17 @@
 //! goes on, so that the first fault by place is found.
 
 ghost use Rattle.std.specs.Prelude.{◌≡◌, ◌↔◌, IsTrue, ℕ, ◌<◌, ◌∷◌, [], List, IfOk, Some, string_bytes};
-ghost use Rattle.proto_checks.specs.Least.{IsLeast, spot};
-ghost use Rattle.proto_checks.specs.Sets.{Each};
+ghost use Rattle.proto_base.specs.Least.{IsLeast, spot};
+ghost use Rattle.proto_base.specs.Sets.{Each};
 ghost use Rattle.proto_desc.specs.DeclaredNames.{file_scope};
 ghost use Rattle.proto_links.specs.Linked.{count_of};
 ghost use Rattle.proto_names.specs.Resolution.{SeenBy};
 ghost use Rattle.proto_types.specs.References.{IsPacked};
 ghost use Rattle.proto_types.specs.Steps.{type_kind_of, SetsPacked, IsPackedFault, IsWalkedType, IsWalkedKind, IsWalkedField, AreWalkedFields, IsWalkedMessage, AreWalkedMessages, IsWalkedMethod, AreWalkedMethods, IsWalkedService, AreWalkedServices, IsWalkedIn};
 
-use proto_checks::spot::{Spot, lesser};
+use proto_base::row::Row;
+use proto_base::text::Text;
+use proto_base::{Kind, Place, Spot, lesser};
 use proto_desc::field::{FieldDesc, FieldKind};
 use proto_desc::file::{FileDesc, PackageDesc};
 use proto_desc::message::MessageDesc;
@@ -20,13 +22,10 @@ use proto_desc::service::{MethodDesc, ServiceDesc};
 use proto_desc::type_name::{TypeKind, TypeReference};
 use proto_links::{FileId, Links};
 use proto_names::{NameIndex, ResolveError, Resolved, Want, name_in};
-use proto_tokens::row::Row;
-use proto_tokens::text::Text;
-use proto_tokens::{Kind, Place};
 use std::alloc::{AllocError, Global};
 
 /// What is made of an item, and the first fault of the types in it.
-#[derive(Debug, Drop)]
+#[derive(Drop)]
 pub(crate) struct Walked<T> {
     pub(crate) item: T,
     pub(crate) fault: Option<Spot>,

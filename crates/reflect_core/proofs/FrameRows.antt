@@ -5,9 +5,9 @@ use Rattle.std.specs.Int.{w32, to_be_bytes, from_be_bytes}
 use Rattle.std.proofs.lemmas.Nat.{from_be_bytes-to_be_bytes_4, be_bytes_4}
 use Rattle.std.proofs.lemmas.Bool.{cases_lt, lt-ltb, le-ltb}
 use Rattle.std.proofs.lemmas.List.{take-append-drop, length-take-le}
-use Rattle.proto_tokens.specs.Limits.{limit_of}
-use Rattle.proto_tokens.specs.declared.limits.Limits.{Limits}
-use Rattle.proto_tokens.specs.declared.limits.Limit.TheVariants.{BodyBytes, MessageBytes, Requests}
+use Rattle.proto_base.specs.Limits.{limit_of}
+use Rattle.proto_base.specs.declared.limits.Limits.{Limits}
+use Rattle.proto_base.specs.declared.limits.Limit.TheVariants.{BodyBytes, MessageBytes, Requests}
 use Rattle.reflect_core.specs.declared.frames.Status.TheVariants.{InvalidArgument}
 use Rattle.reflect_core.specs.Request.{IsRequest}
 use Rattle.reflect_core.specs.FramesSteps.{IsCut, IsEnd}

@@ -2,9 +2,9 @@
 use Rattle.std.specs.Prelude.{◌≡◌, ℕ, ◌<◌, ◌≤◌, ◌==◌, not, nat_lt, List, [], ◌∷◌, ◌++◌, length, take, drop, All, if◌then◌else◌}
 use Rattle.std.specs.List.{flat_map}
 use Rattle.std.specs.Int.{w32, to_be_bytes, from_be_bytes}
-use Rattle.proto_tokens.specs.Limits.{limit_of}
-use Rattle.proto_tokens.specs.declared.limits.Limits.{Limits}
-use Rattle.proto_tokens.specs.declared.limits.Limit.TheVariants.{BodyBytes, MessageBytes, Requests}
+use Rattle.proto_base.specs.Limits.{limit_of}
+use Rattle.proto_base.specs.declared.limits.Limits.{Limits}
+use Rattle.proto_base.specs.declared.limits.Limit.TheVariants.{BodyBytes, MessageBytes, Requests}
 use Rattle.reflect_core.specs.declared.frames.Status.{Status}
 use Rattle.reflect_core.specs.declared.frames.Status.TheVariants as status
 use Rattle.reflect_core.specs.Request.{IsRequest}

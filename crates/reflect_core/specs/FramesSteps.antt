@@ -1,8 +1,8 @@
 -- Words for the contracts of the private functions that read frames. They are no part of their definition.
 use Rattle.std.specs.Prelude.{◌≡◌, ℕ, ◌<◌, ◌≤◌, List, ◌++◌, length}
-use Rattle.proto_tokens.specs.Limits.{limit_of}
-use Rattle.proto_tokens.specs.declared.limits.Limits.{Limits}
-use Rattle.proto_tokens.specs.declared.limits.Limit.TheVariants.{MessageBytes, Requests}
+use Rattle.proto_base.specs.Limits.{limit_of}
+use Rattle.proto_base.specs.declared.limits.Limits.{Limits}
+use Rattle.proto_base.specs.declared.limits.Limit.TheVariants.{MessageBytes, Requests}
 use Rattle.reflect_core.specs.declared.frames.Next as rust
 use Rattle.reflect_core.specs.declared.frames.Next.TheVariants.{Frame, End}
 use Rattle.reflect_core.specs.declared.frames.Status.{Status}

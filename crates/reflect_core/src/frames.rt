@@ -6,7 +6,7 @@ ghost use Rattle.reflect_core.specs.FramesSteps.{IsCut, IsEnd, IsNext};
 ghost use Rattle.reflect_core.specs.Request.{IsRequest};
 
 use crate::request::read_request;
-use proto_tokens::{Limit, Limits};
+use proto_base::{Limit, Limits};
 use std::alloc::{AllocError, Global};
 use wire_format::WireError;
 
@@ -35,7 +35,7 @@ impl Status {
 }
 
 /// The messages of a body that are requests, in order, and the number of the status that ends it.
-#[derive(Debug, Drop)]
+#[derive(Drop)]
 pub struct Frames<'b> {
     pub messages: Vec<&'b [u8]>,
     pub status: u8,

@@ -8,6 +8,3 @@ mod request;
 
 pub use frames::{Frames, frames_are_unique, read_frames};
 pub use request::{Ask, Request, read_request, requests_are_unique};
-
-#[cfg(test)]
-mod tests;

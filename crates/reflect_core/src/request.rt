@@ -11,14 +11,14 @@ use std::alloc::Global;
 use wire_format::{Field, FieldValue, WireError, read_fields};
 
 /// A request: the host that it names, empty where it names none, and what it asks for.
-#[derive(Clone, Copy, Debug)]
+#[derive(Clone, Copy)]
 pub struct Request<'b> {
     pub host: &'b str,
     pub ask: Ask<'b>,
 }
 
 /// The last member of the oneof `message_request`.
-#[derive(Clone, Copy, Debug)]
+#[derive(Clone, Copy)]
 pub enum Ask<'b> {
     /// The file with this name.
     FileByName(&'b str),
@@ -47,7 +47,7 @@ fn text(bytes: &[u8]) -> Result<&str, WireError>
     ensures utf8 { IfOk result (λ text. (text.now ≡ bytes.now) × IsUtf8 bytes.now) }
     ensures other { IfErr result (λ _. ¬ IsUtf8 bytes.now) }
 {
-    std::str::from_utf8(bytes).map_err(|_| WireError::Malformed)
+    std::str::from_utf8(bytes).ok().ok_or(WireError::Malformed)
 }
 
 /// Tests a field of an `ExtensionRequest`: its only string is `containing_type`.

@@ -1,42 +1,30 @@
 //! A schema server for Protocol Buffers.
 #![tactic(auto)]
 
-mod command_line;
-mod commands;
-mod describe;
-mod failure;
-mod program;
-#[cfg(test)]
-mod tests;
-
-use std::alloc::{AllocError, Global};
+use schema_program::run;
 use std::process::ExitCode;
 use std::{env, io};
 
-fn all_words(rt: &HostRuntime) -> io::Result<Vec<String>> {
+fn words_of(rt: &HostRuntime) -> io::Result<Vec<String>> {
     Ok(env::args(rt)?.collect(rt.alloc())?)
 }
 
-fn lent_words(alloc: Global, words: &[String]) -> Result<Vec<&str>, AllocError> {
-    let mut lent = Vec::with_capacity(alloc, words.len())?;
-    for word in words {
-        lent.push(word.as_str())?;
-    }
-    Ok(lent)
-}
-
-/// Ends a run whose words could not be had: there was no memory for them.
+/// Ends a run for whose words there is no memory.
 fn without_words(rt: &HostRuntime) -> ExitCode {
     let _ = eprintln!(rt; "out of memory");
     ExitCode::from(4)
 }
 
 fn main(rt: HostRuntime) -> ExitCode {
-    let Ok(words) = all_words(&rt) else {
+    let Ok(words) = words_of(&rt) else {
         return without_words(&rt);
     };
-    let Ok(lent) = lent_words(rt.alloc(), &words) else {
+    let Ok(lent) = words
+        .iter()
+        .map(String::as_str)
+        .collect::<Vec<&str>>(rt.alloc())
+    else {
         return without_words(&rt);
     };
-    ExitCode::from(program::run(&rt, &lent, rt.stdin(), rt.stdout(), rt.stderr()))
+    ExitCode::from(run(&rt, &lent, rt.stdin(), rt.stdout(), rt.stderr()))
 }

@@ -7,4 +7,3 @@ pub mod Order
 pub mod Reach
 pub mod Marks
 pub mod MarkRule
-pub mod SmallReach

@@ -8,7 +8,7 @@ pub trait Gate {
 }
 
 /// Lets every worker pass at once.
-#[derive(Clone, Copy, Debug)]
+#[derive(Clone, Copy)]
 pub struct NoGate;
 
 impl Gate for NoGate {

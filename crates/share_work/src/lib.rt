@@ -27,6 +27,3 @@ pub use reach::Reach;
 pub use shares::in_shares;
 pub use views::{Call, View};
 pub use work::Work;
-
-#[cfg(test)]
-mod tests;

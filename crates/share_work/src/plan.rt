@@ -6,7 +6,7 @@ ghost use Rattle.std.specs.Prelude.{◌≡◌, ◌<◌, ◌≤◌, ◌↔◌, Is
 ///
 /// Piece `p` has the items from `p * cut` up to `(p + 1) * cut`, as far as there are items. Worker `w` works on the pieces
 /// whose number leaves `w` by division by the number of workers, in rising order.
-#[derive(Clone, Copy, Debug)]
+#[derive(Clone, Copy)]
 pub struct Plan {
     workers: u32,
     cut: u32,

@@ -1,7 +1,7 @@
 //! Reading the sources of a folder.
 
 ghost use Rattle.std.specs.Prelude.{◌≡◌, ◌+◌, ◌≤◌, All, IfOk, IfSome, IsTrue, take, vec_len};
-ghost use Rattle.proto_tokens.specs.Limits.{limit_of};
+ghost use Rattle.proto_base.specs.Limits.{limit_of};
 ghost use Rattle.source_folder.specs.Folder.{name_of, names_of};
 ghost use Rattle.source_folder.specs.Paths.{AreRising, ends_in_proto};
 ghost use Rattle.source_folder.specs.Ordered.{paths_of};
@@ -10,14 +10,14 @@ use crate::fault::FolderFault;
 use crate::order::{have_twins, sort_by_path};
 use crate::paths::joined;
 use crate::walk::{Source, sources_below};
-use proto_tokens::{Limit, Limits};
+use proto_base::{Limit, Limits};
 use std::alloc::{AllocGlobal, Global};
 use std::fs::File;
 use std::io::Read;
 use std::rt::Files;
 
 /// A source of a folder: its path from the root, joined by `/`, and its bytes.
-#[derive(Debug, Drop)]
+#[derive(Drop)]
 pub struct NamedText {
     pub name: String,
     pub text: Vec<u8>,

@@ -9,6 +9,3 @@ mod walk;
 
 pub use fault::FolderFault;
 pub use folder::{NamedText, read_folder};
-
-#[cfg(test)]
-mod tests;

@@ -1,7 +1,7 @@
 -- The bytes of descriptors: the fields of each message of `descriptor.proto` by rising number, repeated ones in their order.
 use Rattle.std.specs.Prelude.{ℕ, ◌+◌, ◌-◌, ◌%◌, ◌^◌, Bool, true, false, List, [], ◌∷◌, ◌++◌, flat_map, Option, None, Some, codes}
-use Rattle.proto_syntax.specs.declared.tree.scalar.ScalarType.{ScalarType}
-use Rattle.proto_syntax.specs.declared.tree.scalar.ScalarType.TheVariants as scalar
+use Rattle.proto_base.specs.declared.scalar_type.ScalarType.{ScalarType}
+use Rattle.proto_base.specs.declared.scalar_type.ScalarType.TheVariants as scalar
 use Rattle.proto_desc.specs.declared.enumeration.EnumDesc.{EnumDesc}
 use Rattle.proto_desc.specs.declared.enumeration.EnumReservedRange.{EnumReservedRange}
 use Rattle.proto_desc.specs.declared.enumeration.ValueDesc.{ValueDesc}

@@ -12,6 +12,3 @@ pub use wire_format::{
     Field, FieldValue, WireError, fields_are_unique, put_field, put_varint, read_fields,
     varint_is_shortest,
 };
-
-#[cfg(test)]
-mod tests;

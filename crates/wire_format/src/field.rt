@@ -7,7 +7,7 @@ use crate::varint::{push_varint, varint_len};
 use std::alloc::AllocError;
 
 /// What a field holds.
-#[derive(Clone, Copy, Debug)]
+#[derive(Clone, Copy)]
 pub enum FieldValue<'a> {
     /// Wire type 0.
     Varint(u64),

@@ -10,6 +10,3 @@ mod varint;
 pub use field::{FieldValue, field_len, put_field};
 pub use reading::{Field, WireError, fields_are_unique, read_fields};
 pub use varint::{put_varint, varint_is_shortest, varint_len};
-
-#[cfg(test)]
-mod tests;

@@ -10,7 +10,7 @@ use std::alloc::{AllocFailed, Global};
 use thiserror::Error;
 
 /// A field that was read: its number, and a value of wire type 0 or 2.
-#[derive(Clone, Copy, Debug)]
+#[derive(Clone, Copy)]
 pub struct Field<'a> {
     pub number: u32,
     pub value: FieldValue<'a>,

@@ -11,7 +11,7 @@ use crate::parser::stop::Stop;
 use crate::tree::{
     Next, Range, RangeEnd, Reserved, ReservedItems, Separated, SignedNumber, UpperBound,
 };
-use proto_tokens::row::Row;
+use proto_base::row::Row;
 
 impl<'s, 't> Parser<'s, 't> {
     /// The end of a range, if there is one.

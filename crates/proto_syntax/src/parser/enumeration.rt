@@ -10,8 +10,8 @@ ghost use Rattle.proto_syntax.specs.Gives.{Reads};
 use crate::parser::Parser;
 use crate::parser::stop::Stop;
 use crate::tree::{Enum, EnumItem, EnumValue};
-use proto_tokens::Span;
-use proto_tokens::row::Row;
+use proto_base::Span;
+use proto_base::row::Row;
 
 impl<'s, 't> Parser<'s, 't> {
     /// A value of an enum.

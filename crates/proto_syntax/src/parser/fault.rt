@@ -8,7 +8,8 @@ ghost use Rattle.proto_syntax.specs.Fault as spec;
 ghost use Rattle.proto_syntax.specs.Gives.{spellings};
 
 use crate::parser::terminal::{is_keyword, is_symbol};
-use proto_tokens::{Kind, Place, Token, TokenKind, Tokens};
+use proto_base::{Kind, Place};
+use proto_tokens::{Token, TokenKind, Tokens};
 
 /// Whether `(` behind this token begins the name of a custom option.
 fn is_before_option_name(kind: &TokenKind) -> bool

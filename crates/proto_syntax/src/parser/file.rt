@@ -9,7 +9,7 @@ ghost use Rattle.proto_syntax.specs.Gives.{Gives, Reads, spellings};
 use crate::parser::Parser;
 use crate::parser::stop::Stop;
 use crate::tree::{FileTree, Import, Package, Statement, Syntax};
-use proto_tokens::row::Row;
+use proto_base::row::Row;
 
 impl<'s, 't> Parser<'s, 't> {
     /// The `syntax` statement.

@@ -10,7 +10,7 @@ use crate::parser::Parser;
 use crate::parser::position::Position;
 use crate::parser::stop::Stop;
 use crate::tree::{FieldType, FullName, NamePart, TypeName};
-use proto_tokens::row::Row;
+use proto_base::row::Row;
 
 impl<'s, 't> Parser<'s, 't> {
     /// A dot and the name behind it.

@@ -5,10 +5,10 @@ ghost use Rattle.proto_syntax.specs.Grammar.{among};
 ghost use Rattle.proto_syntax.specs.Language.{scalar_words, statement_words};
 ghost use Rattle.proto_syntax.specs.Position.{excluded_words};
 
-use crate::tree::ScalarType;
+use crate::parser::scalar::scalar_type;
 
 /// Where the name of a type stands.
-#[derive(Clone, Copy, Debug)]
+#[derive(Clone, Copy)]
 pub enum Position {
     /// At the start of a message's statement.
     Statement,
@@ -25,7 +25,7 @@ pub enum Position {
 pub fn is_scalar(text: &str) -> bool
     ensures { result ≡ among text.now scalar_words }
 {
-    ScalarType::from_word(text).is_some()
+    scalar_type(text).is_some()
 }
 
 /// Whether a statement of an enum that begins with this word is no value.

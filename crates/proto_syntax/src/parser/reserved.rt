@@ -12,7 +12,7 @@ use crate::tree::{
     Next, NumberLiteral, Range, RangeEnd, Reserved, ReservedItems, Separated, StringValue,
     UpperBound,
 };
-use proto_tokens::row::Row;
+use proto_base::row::Row;
 
 impl<'s, 't> Parser<'s, 't> {
     /// A comma and what stands behind it.

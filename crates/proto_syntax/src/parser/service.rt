@@ -12,8 +12,8 @@ use crate::parser::Parser;
 use crate::parser::position::Position;
 use crate::parser::stop::Stop;
 use crate::tree::{Rpc, RpcBlock, RpcBody, RpcItem, RpcType, Service, ServiceItem, TypeName};
-use proto_tokens::Span;
-use proto_tokens::row::Row;
+use proto_base::Span;
+use proto_base::row::Row;
 
 impl<'s, 't> Parser<'s, 't> {
     /// The name of a type behind the mark `stream`, or without it.

@@ -6,7 +6,7 @@ ghost use Rattle.proto_syntax.specs.declared.parser.stop.Stop.TheVariants.{NoMem
 use std::alloc::{AllocError, AllocFailed};
 
 /// Why the parser stopped, at the first token that it left.
-#[derive(Debug, Drop)]
+#[derive(Drop)]
 pub enum Stop {
     NoMemory,
     Unexpected,

@@ -12,10 +12,13 @@ ghost use Rattle.proto_syntax.specs.Gives.{Reads, spellings};
 
 use crate::parser::Parser;
 use crate::parser::position::{Position, is_enum_statement_word, is_excluded, is_scalar};
+use crate::parser::scalar::{key_type, scalar_type};
 use crate::parser::stop::Stop;
-use crate::tree::{KeyType, Name, NumberLiteral, ScalarType, StringLiteral};
-use proto_tokens::text::Text;
-use proto_tokens::{Span, TokenKind};
+use crate::tree::{Name, NumberLiteral, StringLiteral};
+use proto_base::Span;
+use proto_base::scalar_type::{KeyType, ScalarType};
+use proto_base::text::Text;
+use proto_tokens::TokenKind;
 use std::alloc::AllocError;
 use std::borrow::CowStr;
 
@@ -244,7 +247,7 @@ impl<'s, 't> Parser<'s, 't> {
     {
         if let [token, rest @ ..] = self.rest
             && let TokenKind::Identifier(text) = &token.kind
-            && let Some(scalar) = ScalarType::from_word(text)
+            && let Some(scalar) = scalar_type(text)
         {
             self.rest = rest;
             return Ok((scalar, token.span));
@@ -258,7 +261,7 @@ impl<'s, 't> Parser<'s, 't> {
     {
         if let [token, rest @ ..] = self.rest
             && let TokenKind::Identifier(text) = &token.kind
-            && let Some(key) = KeyType::from_word(text)
+            && let Some(key) = key_type(text)
         {
             self.rest = rest;
             return Ok((key, token.span));

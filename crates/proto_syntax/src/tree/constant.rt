@@ -2,24 +2,24 @@
 
 use crate::tree::literal::{NumberLiteral, StringValue};
 use crate::tree::name::FullName;
-use proto_tokens::Span;
+use proto_base::Span;
 
 /// The sign of a number.
-#[derive(Clone, Copy, Debug)]
+#[derive(Clone, Copy)]
 pub enum Sign {
     Minus(Span),
     Plus(Span),
 }
 
 /// An integer with an optional sign.
-#[derive(Clone, Copy, Debug)]
+#[derive(Clone, Copy)]
 pub struct ConstantNumber {
     pub sign: Option<Sign>,
     pub number: NumberLiteral,
 }
 
 /// The value of an option.
-#[derive(Debug, Drop)]
+#[derive(Drop)]
 pub enum Constant<'s> {
     Name(FullName<'s>),
     Number(ConstantNumber),

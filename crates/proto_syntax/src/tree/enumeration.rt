@@ -4,11 +4,11 @@ use crate::tree::literal::SignedNumber;
 use crate::tree::name::Name;
 use crate::tree::option::{OptionStatement, Options};
 use crate::tree::reserved::Reserved;
-use proto_tokens::Span;
-use proto_tokens::row::Row;
+use proto_base::Span;
+use proto_base::row::Row;
 
 /// A value of an enum.
-#[derive(Debug, Drop)]
+#[derive(Drop)]
 pub struct EnumValue<'s> {
     pub name: Name<'s>,
     pub equals: Span,
@@ -18,7 +18,7 @@ pub struct EnumValue<'s> {
 }
 
 /// A statement of an enum.
-#[derive(Debug, Drop)]
+#[derive(Drop)]
 pub enum EnumItem<'s> {
     Value(EnumValue<'s>),
     Option(OptionStatement<'s>),
@@ -27,7 +27,7 @@ pub enum EnumItem<'s> {
 }
 
 /// An enum.
-#[derive(Debug, Drop)]
+#[derive(Drop)]
 pub struct Enum<'s> {
     pub keyword: Span,
     pub name: Name<'s>,

@@ -3,25 +3,25 @@
 use crate::tree::literal::NumberLiteral;
 use crate::tree::name::{Name, TypeName};
 use crate::tree::option::Options;
-use crate::tree::scalar::ScalarType;
-use proto_tokens::Span;
+use proto_base::Span;
+use proto_base::scalar_type::ScalarType;
 
 /// The label of a field.
-#[derive(Clone, Copy, Debug)]
+#[derive(Clone, Copy)]
 pub enum Label {
     Optional(Span),
     Repeated(Span),
 }
 
 /// The type of a field or of a map's values.
-#[derive(Debug, Drop)]
+#[derive(Drop)]
 pub enum FieldType<'s> {
     Scalar(ScalarType, Span),
     Named(TypeName<'s>),
 }
 
 /// What stands behind the type of a field: its name, its number and its options.
-#[derive(Debug, Drop)]
+#[derive(Drop)]
 pub struct Declarator<'s> {
     pub name: Name<'s>,
     pub equals: Span,
@@ -31,7 +31,7 @@ pub struct Declarator<'s> {
 }
 
 /// A field of a message.
-#[derive(Debug, Drop)]
+#[derive(Drop)]
 pub struct Field<'s> {
     pub label: Option<Label>,
     pub field_type: FieldType<'s>,

@@ -6,11 +6,11 @@ use crate::tree::message::Message;
 use crate::tree::name::FullName;
 use crate::tree::option::OptionStatement;
 use crate::tree::service::Service;
-use proto_tokens::Span;
-use proto_tokens::row::Row;
+use proto_base::Span;
+use proto_base::row::Row;
 
 /// The `syntax` statement.
-#[derive(Debug, Drop)]
+#[derive(Drop)]
 pub struct Syntax<'s> {
     pub keyword: Span,
     pub equals: Span,
@@ -19,7 +19,7 @@ pub struct Syntax<'s> {
 }
 
 /// An `import` statement.
-#[derive(Debug, Drop)]
+#[derive(Drop)]
 pub struct Import<'s> {
     pub keyword: Span,
     pub public: Option<Span>,
@@ -28,7 +28,7 @@ pub struct Import<'s> {
 }
 
 /// A `package` statement.
-#[derive(Debug, Drop)]
+#[derive(Drop)]
 pub struct Package<'s> {
     pub keyword: Span,
     pub name: FullName<'s>,
@@ -36,7 +36,7 @@ pub struct Package<'s> {
 }
 
 /// A statement of a file.
-#[derive(Debug, Drop)]
+#[derive(Drop)]
 pub enum Statement<'s> {
     Import(Import<'s>),
     Package(Package<'s>),
@@ -48,7 +48,7 @@ pub enum Statement<'s> {
 }
 
 /// A file.
-#[derive(Debug, Drop)]
+#[derive(Drop)]
 pub struct FileTree<'s> {
     pub syntax: Syntax<'s>,
     pub statements: Row<Statement<'s>>,

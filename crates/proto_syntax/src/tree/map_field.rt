@@ -1,11 +1,11 @@
 //! Map fields (proto3 language specification, "Map field").
 
 use crate::tree::field::{Declarator, FieldType};
-use crate::tree::scalar::KeyType;
-use proto_tokens::Span;
+use proto_base::Span;
+use proto_base::scalar_type::KeyType;
 
 /// The types of a map's keys and values, in angle brackets.
-#[derive(Debug, Drop)]
+#[derive(Drop)]
 pub struct MapType<'s> {
     pub open_angle: Span,
     pub key: KeyType,
@@ -16,7 +16,7 @@ pub struct MapType<'s> {
 }
 
 /// A map field of a message.
-#[derive(Debug, Drop)]
+#[derive(Drop)]
 pub struct MapField<'s> {
     pub keyword: Span,
     pub map_type: MapType<'s>,

@@ -8,11 +8,11 @@ use crate::tree::name::Name;
 use crate::tree::oneof::Oneof;
 use crate::tree::option::OptionStatement;
 use crate::tree::reserved::Reserved;
-use proto_tokens::Span;
-use proto_tokens::row::Row;
+use proto_base::Span;
+use proto_base::row::Row;
 
 /// A statement of a message.
-#[derive(Debug, Drop)]
+#[derive(Drop)]
 #[cycle(tree)]
 pub enum MessageItem<'s> {
     Field(Field<'s>),
@@ -26,7 +26,7 @@ pub enum MessageItem<'s> {
 }
 
 /// A message.
-#[derive(Debug, Drop)]
+#[derive(Drop)]
 #[cycle(tree)]
 pub struct Message<'s> {
     pub keyword: Span,

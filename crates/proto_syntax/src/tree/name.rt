@@ -1,11 +1,11 @@
 //! Names (proto3 language specification, "Identifiers").
 
-use proto_tokens::Span;
-use proto_tokens::row::Row;
+use proto_base::Span;
+use proto_base::row::Row;
 use std::marker::Model;
 
 /// An identifier.
-#[derive(Debug, Drop)]
+#[derive(Drop)]
 pub struct Name<'s> {
     pub text: &'s str,
     pub span: Span,
@@ -20,21 +20,21 @@ impl<'s> Model for Name<'s> {
 }
 
 /// A dot and the name behind it.
-#[derive(Debug, Drop)]
+#[derive(Drop)]
 pub struct NamePart<'s> {
     pub dot: Span,
     pub name: Name<'s>,
 }
 
 /// A name with dots: `fullIdent`.
-#[derive(Debug, Drop)]
+#[derive(Drop)]
 pub struct FullName<'s> {
     pub first: Name<'s>,
     pub rest: Row<NamePart<'s>>,
 }
 
 /// The name of a message or an enum, which may begin with a dot: `messageType` and `enumType`.
-#[derive(Debug, Drop)]
+#[derive(Drop)]
 pub struct TypeName<'s> {
     pub dot: Option<Span>,
     pub name: FullName<'s>,

@@ -3,18 +3,18 @@
 use crate::tree::field::{Declarator, FieldType};
 use crate::tree::name::Name;
 use crate::tree::option::OptionStatement;
-use proto_tokens::Span;
-use proto_tokens::row::Row;
+use proto_base::Span;
+use proto_base::row::Row;
 
 /// A field of a oneof: a member.
-#[derive(Debug, Drop)]
+#[derive(Drop)]
 pub struct OneofField<'s> {
     pub field_type: FieldType<'s>,
     pub declarator: Declarator<'s>,
 }
 
 /// A statement of a oneof.
-#[derive(Debug, Drop)]
+#[derive(Drop)]
 pub enum OneofItem<'s> {
     Field(OneofField<'s>),
     Option(OptionStatement<'s>),
@@ -22,7 +22,7 @@ pub enum OneofItem<'s> {
 }
 
 /// A oneof of a message.
-#[derive(Debug, Drop)]
+#[derive(Drop)]
 pub struct Oneof<'s> {
     pub keyword: Span,
     pub name: Name<'s>,

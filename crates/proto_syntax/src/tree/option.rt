@@ -3,10 +3,10 @@
 use crate::tree::constant::Constant;
 use crate::tree::list::Separated;
 use crate::tree::name::FullName;
-use proto_tokens::Span;
+use proto_base::Span;
 
 /// The name of an option and its value.
-#[derive(Debug, Drop)]
+#[derive(Drop)]
 pub struct Setting<'s> {
     pub name: FullName<'s>,
     pub equals: Span,
@@ -14,7 +14,7 @@ pub struct Setting<'s> {
 }
 
 /// The options of a field or an enum value, in brackets.
-#[derive(Debug, Drop)]
+#[derive(Drop)]
 pub struct Options<'s> {
     pub open_bracket: Span,
     pub settings: Separated<Setting<'s>>,
@@ -22,7 +22,7 @@ pub struct Options<'s> {
 }
 
 /// An `option` statement.
-#[derive(Debug, Drop)]
+#[derive(Drop)]
 pub struct OptionStatement<'s> {
     pub keyword: Span,
     pub setting: Setting<'s>,

@@ -2,11 +2,11 @@
 
 use crate::tree::name::{Name, TypeName};
 use crate::tree::option::OptionStatement;
-use proto_tokens::Span;
-use proto_tokens::row::Row;
+use proto_base::Span;
+use proto_base::row::Row;
 
 /// The type of a method's input or output, in parentheses.
-#[derive(Debug, Drop)]
+#[derive(Drop)]
 pub struct RpcType<'s> {
     pub open_paren: Span,
     pub stream: Option<Span>,
@@ -15,14 +15,14 @@ pub struct RpcType<'s> {
 }
 
 /// A statement of a method.
-#[derive(Debug, Drop)]
+#[derive(Drop)]
 pub enum RpcItem<'s> {
     Option(OptionStatement<'s>),
     Empty(Span),
 }
 
 /// The statements of a method, in braces.
-#[derive(Debug, Drop)]
+#[derive(Drop)]
 pub struct RpcBlock<'s> {
     pub open_brace: Span,
     pub items: Row<RpcItem<'s>>,
@@ -30,14 +30,14 @@ pub struct RpcBlock<'s> {
 }
 
 /// What ends a method: a semicolon or a block.
-#[derive(Debug, Drop)]
+#[derive(Drop)]
 pub enum RpcBody<'s> {
     Semicolon(Span),
     Block(RpcBlock<'s>),
 }
 
 /// A method of a service.
-#[derive(Debug, Drop)]
+#[derive(Drop)]
 pub struct Rpc<'s> {
     pub keyword: Span,
     pub name: Name<'s>,
@@ -48,7 +48,7 @@ pub struct Rpc<'s> {
 }
 
 /// A statement of a service.
-#[derive(Debug, Drop)]
+#[derive(Drop)]
 pub enum ServiceItem<'s> {
     Rpc(Rpc<'s>),
     Option(OptionStatement<'s>),
@@ -56,7 +56,7 @@ pub enum ServiceItem<'s> {
 }
 
 /// A service.
-#[derive(Debug, Drop)]
+#[derive(Drop)]
 pub struct Service<'s> {
     pub keyword: Span,
     pub name: Name<'s>,

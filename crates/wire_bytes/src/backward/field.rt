@@ -6,8 +6,8 @@ ghost use Rattle.wire_format.specs.Field.{bytes_field, number_field};
 ghost use Rattle.wire_format.specs.Varint.{varint_bytes};
 
 use crate::backward::Backward;
-use proto_tokens::row::Row;
-use proto_tokens::text::Text;
+use proto_base::row::Row;
+use proto_base::text::Text;
 use std::alloc::AllocError;
 
 /// What stands behind the length in a field of wire type 2: a text or a message.
@@ -24,14 +24,6 @@ impl<'s> Payload for Text<'s> {
 
     fn prepend_to(&self, out: &mut Backward) -> Result<(), AllocError> {
         out.prepend_bytes(self.as_str().as_bytes())
-    }
-}
-
-impl<'s> Payload for &'s str {
-    ghost bytes = { λ text. text.now };
-
-    fn prepend_to(&self, out: &mut Backward) -> Result<(), AllocError> {
-        out.prepend_bytes(self.as_bytes())
     }
 }
 

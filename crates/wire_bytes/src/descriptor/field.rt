@@ -6,8 +6,8 @@ ghost use Rattle.wire_bytes.specs.Descriptor.{field_desc_bytes, index_field, fla
 use crate::backward::{Backward, Payload};
 use crate::descriptor::options::prepend_options;
 use crate::descriptor::type_name::{reference_number, reference_text};
+use proto_base::scalar_type::ScalarType;
 use proto_desc::field::{FieldDesc, FieldKind, FieldLabel};
-use proto_syntax::tree::ScalarType;
 use std::alloc::AllocError;
 
 fn label_number(label: FieldLabel) -> u64

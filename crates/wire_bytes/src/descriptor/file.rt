@@ -7,8 +7,9 @@ ghost use Rattle.wire_format.specs.Field.{bytes_field};
 
 use crate::backward::{Backward, Payload};
 use crate::descriptor::options::prepend_options;
+use proto_base::row::Row;
+use proto_base::text::Text;
 use proto_desc::file::{FileDesc, ImportDesc, PackageDesc};
-use proto_tokens::row::Row;
 use std::alloc::{AllocError, Global};
 
 /// An import as a dependency is its path.
@@ -45,7 +46,7 @@ fn prepend_public(out: &mut Backward, imports: &Row<ImportDesc>) -> Result<(), A
 fn prepend_syntax(out: &mut Backward) -> Result<(), AllocError>
     ensures { OnOk result (out.new ≡ bytes_field 12 (codes "proto3") ++ out.old) }
 {
-    out.prepend_field(12, &"proto3")
+    out.prepend_field(12, &Text::borrowed("proto3"))
 }
 
 fn prepend_file(out: &mut Backward, file: &FileDesc) -> Result<(), AllocError>
@@ -68,16 +69,23 @@ const ELEMENT_ROOM: usize = 40;
 /// About how many bytes a file takes, by how many messages, enums and services there are on top, and how many fields,
 /// values and methods these have. Where it falls short the buffer grows.
 fn expected_len(file: &FileDesc) -> usize {
-    let messages = file.messages.iter().map(|message| message.fields.len());
-    let enums = file.enums.iter().map(|declared| declared.values.len());
-    let services = file.services.iter().map(|service| service.methods.len());
-    messages
-        .chain(enums)
-        .chain(services)
-        .fold(1usize, |elements, inner| {
-            elements.saturating_add(inner).saturating_add(1)
-        })
-        .saturating_mul(ELEMENT_ROOM)
+    let mut elements = 1usize;
+    for message in file.messages.as_slice() {
+        elements = elements
+            .saturating_add(1)
+            .saturating_add(message.fields.len());
+    }
+    for declared in file.enums.as_slice() {
+        elements = elements
+            .saturating_add(1)
+            .saturating_add(declared.values.len());
+    }
+    for service in file.services.as_slice() {
+        elements = elements
+            .saturating_add(1)
+            .saturating_add(service.methods.len());
+    }
+    elements.saturating_mul(ELEMENT_ROOM)
 }
 
 /// The bytes of a file's descriptor (`descriptor.proto`, `FileDescriptorProto`): its fields by rising number, and in it

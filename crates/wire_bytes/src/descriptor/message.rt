@@ -5,10 +5,10 @@ ghost use Rattle.wire_bytes.specs.Descriptor.{message_desc_bytes, message_option
 
 use crate::backward::{Backward, Payload};
 use crate::descriptor::options::prepend_settings;
+use proto_base::row::Row;
 use proto_desc::message::{MessageDesc, ReservedRange};
 use proto_desc::oneof::OneofDesc;
 use proto_desc::options::OptionDesc;
-use proto_tokens::row::Row;
 use std::alloc::AllocError;
 
 impl<'s> Payload for OneofDesc<'s> {

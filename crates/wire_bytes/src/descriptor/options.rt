@@ -4,8 +4,8 @@ ghost use Rattle.std.specs.Prelude.{◌≡◌, ◌++◌, OnOk, flat_map};
 ghost use Rattle.wire_bytes.specs.Descriptor.{option_bytes, settings_field};
 
 use crate::backward::Backward;
+use proto_base::row::Row;
 use proto_desc::options::{OptionDesc, OptionValue};
-use proto_tokens::row::Row;
 use std::alloc::AllocError;
 
 fn prepend_setting(out: &mut Backward, option: &OptionDesc) -> Result<(), AllocError>

@@ -3,8 +3,8 @@
 ghost use Rattle.std.specs.Prelude.{◌≡◌};
 ghost use Rattle.wire_bytes.specs.Descriptor.{type_kind_number, reference_number, reference_text};
 
+use proto_base::text::Text;
 use proto_desc::type_name::{TypeKind, TypeReference};
-use proto_tokens::text::Text;
 
 fn kind_number(kind: TypeKind) -> u64
     ensures { result ≡ type_kind_number kind }

@@ -1,6 +1,6 @@
 use Rattle.std.proofs.Common.{◌≡◌, drop}
 use Rattle.std.specs.Prelude.{flat_map}
-use Rattle.proto_desc.specs.Lowering.Options.{first_setting, enum_setting}
+use Rattle.proto_lower.specs.Options.{first_setting, enum_setting}
 use Rattle.proto_desc.specs.declared.rules.OptionName.TheVariants.{AllowAlias}
 use Rattle.proto_checks.proofs.aliases.first_allow_alias.Given as goal
 

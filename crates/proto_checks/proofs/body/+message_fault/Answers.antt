@@ -1,8 +1,8 @@
 use Rattle.std.proofs.Common.{[], ◌∷◌, refl, arith}
 use Rattle.proto_checks.specs.Elements.{bodies_of, BodyBreaks}
-use Rattle.proto_checks.specs.Least.{IsLeast}
-use Rattle.proto_checks.specs.Sets.{Each}
-use Rattle.proto_checks.proofs.Among.{least_single, behind_more, behind_skip}
+use Rattle.proto_base.specs.Least.{IsLeast}
+use Rattle.proto_base.specs.Sets.{Each}
+use Rattle.proto_base.proofs.Among.{least_single, behind_more, behind_skip}
 use Rattle.proto_checks.proofs.Items.{nested_bodies}
 use Rattle.proto_checks.proofs.body.+message_fault.Goals as goal
 use Rattle.proto_checks.proofs.body.+message_fault.Goals.{in-Message+in_ok-message_fault-in-Message, in-Field, in-Map, in-Oneof, in-Option, in-Enum, in-Reserved, in-Empty}

@@ -1,4 +1,4 @@
-use Rattle.proto_checks.proofs.Among.{if_ok}
+use Rattle.proto_base.proofs.Among.{if_ok}
 use Rattle.proto_checks.proofs.Items.{item_field, item_map, item_enum}
 use Rattle.proto_checks.proofs.body.item_fault.Goals as goal
 

@@ -1,6 +1,6 @@
 use Rattle.proto_checks.specs.Elements.{ItemBreaks}
-use Rattle.proto_checks.specs.Least.{IsLeast}
-use Rattle.proto_checks.proofs.Sets.{EachTo}
+use Rattle.proto_base.specs.Least.{IsLeast}
+use Rattle.proto_base.proofs.Sets.{EachTo}
 use Rattle.proto_checks.proofs.body.items_fault.Given as goal
 
 abbrev pub invariant-loop-item : goal.invariant-loop-item

@@ -1,8 +1,8 @@
 use Rattle.std.proofs.Common.{◌≤◌, arith, get_or}
-use Rattle.proto_checks.specs.Least.{spot}
+use Rattle.proto_base.specs.Least.{spot}
 use Rattle.proto_checks.specs.Marks.{IsOutside}
 use Rattle.proto_checks.specs.declared.marks.MarkedNumber.{MarkedNumber}
-use Rattle.proto_checks.proofs.Sets.{item_at, each_all}
+use Rattle.proto_base.proofs.Sets.{item_at, each_all}
 use Rattle.proto_checks.proofs.Hits.{each_hit, each_miss, no_number}
 use Rattle.proto_checks.proofs.bounds.first_outside.Goals as goal
 use Rattle.proto_checks.proofs.bounds.first_outside.Goals.{then-marked-least, then-marked-least-via-then-marked-least, then-marked-least-via-else-marked-least+then-marked-greatest, else-marked-least+else-marked-greatest}

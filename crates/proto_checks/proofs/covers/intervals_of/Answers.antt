@@ -2,7 +2,7 @@ use Rattle.std.proofs.Common.{arith, get_or, rules}
 use Rattle.std.proofs.lemmas.List.Sorted.{IsNonDecreasingBy-from_sort_by_key}
 use Rattle.proto_checks.specs.declared.covers.Interval.{Interval}
 use Rattle.proto_checks.proofs.Hits.{no_range}
-use Rattle.proto_checks.proofs.Sets.{item_at}
+use Rattle.proto_base.proofs.Sets.{item_at}
 use Rattle.proto_checks.proofs.Intervals.{intervals_push, intervals_skip, intervals_all}
 use Rattle.proto_checks.proofs.covers.intervals_of.Goals as goal
 use Rattle.proto_checks.proofs.covers.intervals_of.Goals.{then-range+in_ok-push, else-range}

@@ -1,7 +1,7 @@
 use Rattle.std.proofs.Common.{◌∙◌}
 use Rattle.std.specs.Prelude.{flat_map}
 use Rattle.proto_desc.specs.declared.rules.Element.TheVariants as element
-use Rattle.proto_desc.specs.Lowering.Options.{enum_setting}
+use Rattle.proto_lower.specs.Options.{enum_setting}
 use Rattle.proto_checks.proofs.ElementUnions.{enum_least}
 use Rattle.proto_checks.proofs.enumeration.enum_fault.Goals as goal
 

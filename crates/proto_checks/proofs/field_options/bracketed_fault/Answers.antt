@@ -1,8 +1,8 @@
 use Rattle.std.proofs.Common.{sym, arith}
-use Rattle.proto_desc.specs.Lowering.Options.{next_item}
+use Rattle.proto_lower.specs.Options.{next_item}
 use Rattle.proto_checks.specs.Options.{IsWrongOnField}
-use Rattle.proto_checks.proofs.Among.{with_rest}
-use Rattle.proto_checks.proofs.Sets.{with_more}
+use Rattle.proto_base.proofs.Among.{with_rest}
+use Rattle.proto_base.proofs.Sets.{with_more}
 use Rattle.proto_checks.proofs.field_options.bracketed_fault.Goals as goal
 
 pub loop-next-preserved : goal.loop-next-preserved

@@ -1,6 +1,6 @@
-use Rattle.proto_checks.specs.Least.{IsLeast}
+use Rattle.proto_base.specs.Least.{IsLeast}
 use Rattle.proto_checks.specs.Options.{IsWrongOnField}
-use Rattle.proto_checks.proofs.Sets.{WithTo}
+use Rattle.proto_base.proofs.Sets.{WithTo}
 use Rattle.proto_checks.proofs.field_options.bracketed_fault.Given as goal
 
 abbrev pub invariant-loop-next : goal.invariant-loop-next

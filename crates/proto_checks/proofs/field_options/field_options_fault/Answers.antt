@@ -1,6 +1,6 @@
 use Rattle.std.proofs.Common.{◌∙◌}
 use Rattle.proto_desc.specs.declared.rules.Element.TheVariants as element
-use Rattle.proto_desc.specs.Lowering.Options.{bracketed}
+use Rattle.proto_lower.specs.Options.{bracketed}
 use Rattle.proto_checks.proofs.ElementUnions.{field_least}
 use Rattle.proto_checks.proofs.field_options.field_options_fault.Goals as goal
 

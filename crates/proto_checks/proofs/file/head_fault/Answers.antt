@@ -1,10 +1,10 @@
 use Rattle.std.proofs.Common.{◌∙◌}
 use Rattle.std.specs.Prelude.{flat_map}
 use Rattle.proto_desc.specs.declared.rules.Element.TheVariants as element
-use Rattle.proto_desc.specs.Lowering.Options.{file_setting}
+use Rattle.proto_lower.specs.Options.{file_setting}
 use Rattle.proto_checks.specs.Checks.{NotProto3Syntax, package_in, PackageTwice, ImportTwice}
 use Rattle.proto_checks.specs.Options.{SettingsBreak}
-use Rattle.proto_checks.proofs.Sets.{Either, least_either}
+use Rattle.proto_base.proofs.Sets.{Either, least_either}
 use Rattle.proto_checks.proofs.file.head_fault.Goals as goal
 
 pub returns : goal.returns

@@ -1,4 +1,4 @@
-use Rattle.proto_checks.proofs.Among.{if_ok}
+use Rattle.proto_base.proofs.Among.{if_ok}
 use Rattle.proto_checks.proofs.Whole.{statement_enum, statement_service}
 use Rattle.proto_checks.proofs.file.statement_fault.Goals as goal
 

@@ -1,8 +1,8 @@
 use Rattle.std.proofs.Common.{sym, arith}
 use Rattle.proto_desc.specs.DeclaredNames.{declared_method}
 use Rattle.proto_checks.specs.Checks.{IsTooLong}
-use Rattle.proto_checks.proofs.Among.{each_map}
-use Rattle.proto_checks.proofs.Sets.{each_more, each_all}
+use Rattle.proto_base.proofs.Among.{each_map}
+use Rattle.proto_base.proofs.Sets.{each_more, each_all}
 use Rattle.proto_checks.proofs.lengths.methods_fault.Goals as goal
 
 pub loop-method-preserved : goal.loop-method-preserved

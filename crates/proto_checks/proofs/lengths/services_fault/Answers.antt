@@ -1,7 +1,7 @@
 use Rattle.std.proofs.Common.{arith}
 use Rattle.proto_desc.specs.DeclaredNames.{declared_by_service}
 use Rattle.proto_checks.specs.Checks.{IsTooLong}
-use Rattle.proto_checks.proofs.Among.{flat_more, flat_all}
+use Rattle.proto_base.proofs.Among.{flat_more, flat_all}
 use Rattle.proto_checks.proofs.lengths.services_fault.Goals as goal
 
 pub loop-service-preserved : goal.loop-service-preserved

@@ -1,13 +1,13 @@
 use Rattle.std.proofs.Common.{◌+◌, ◌-◌, ◌^◌}
 use Rattle.std.specs.Prelude.{flat_map}
-use Rattle.proto_tokens.specs.declared.kind.Kind.TheVariants as kind
+use Rattle.proto_base.specs.declared.kind.Kind.TheVariants as kind
 use Rattle.proto_desc.specs.declared.rules.OptionName.TheVariants.{AllowAlias}
-use Rattle.proto_desc.specs.Lowering.Options.{enum_setting, first_setting}
+use Rattle.proto_lower.specs.Options.{enum_setting, first_setting}
 use Rattle.proto_checks.specs.Breaks.{RangesBreak, ValueTwice}
 use Rattle.proto_checks.specs.Gathered.{value_numbers, enum_ranges, enum_bounds, enum_reserved_names}
 use Rattle.proto_checks.specs.Marks.{TextTwice, Outside}
 use Rattle.proto_checks.specs.Numbers.{FirstNotZero}
-use Rattle.proto_checks.proofs.Sets.{least_either}
+use Rattle.proto_base.proofs.Sets.{least_either}
 use Rattle.proto_checks.proofs.NumberUnions.{enums_least}
 use Rattle.proto_checks.proofs.numbers.first_enum_number_fault.Goals as goal
 

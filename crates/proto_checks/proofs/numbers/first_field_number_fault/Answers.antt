@@ -1,10 +1,10 @@
-use Rattle.proto_tokens.specs.declared.kind.Kind.TheVariants as kind
+use Rattle.proto_base.specs.declared.kind.Kind.TheVariants as kind
 use Rattle.proto_checks.specs.Breaks.{RangesBreak}
 use Rattle.proto_checks.specs.Gathered.{field_numbers, message_ranges, message_bounds, message_reserved_names}
 use Rattle.proto_checks.specs.Marks.{NumberTwice, TextTwice, Outside}
 use Rattle.proto_checks.specs.Numbers.{IsNoFieldNumber}
-use Rattle.proto_checks.specs.Sets.{Each}
-use Rattle.proto_checks.proofs.Sets.{least_either}
+use Rattle.proto_base.specs.Sets.{Each}
+use Rattle.proto_base.proofs.Sets.{least_either}
 use Rattle.proto_checks.proofs.NumberUnions.{fields_least}
 use Rattle.proto_checks.proofs.numbers.first_field_number_fault.Goals as goal
 

@@ -1,5 +1,5 @@
 use Rattle.proto_checks.specs.Marks.{ReservedBackwards, ReservedNumberUsed, ReservedOverlap}
-use Rattle.proto_checks.proofs.Sets.{least_either}
+use Rattle.proto_base.proofs.Sets.{least_either}
 use Rattle.proto_checks.proofs.NumberUnions.{ranges_least}
 use Rattle.proto_checks.proofs.numbers.first_range_fault.Goals as goal
 

@@ -1,10 +1,10 @@
 use Rattle.std.proofs.Common.{◌≡◌, ◌∙◌, subst}
-use Rattle.proto_tokens.specs.declared.kind.Kind.TheVariants as kind
+use Rattle.proto_base.specs.declared.kind.Kind.TheVariants as kind
 use Rattle.proto_checks.specs.Judged.{judged_name}
-use Rattle.proto_checks.specs.Least.{IsLeast, spot}
+use Rattle.proto_base.specs.Least.{IsLeast, spot}
 use Rattle.proto_checks.specs.Marks.{Marked, TextTwice}
 use Rattle.proto_checks.specs.declared.options.Judged.{Judged}
-use Rattle.proto_checks.proofs.Among.{later_map, later_short, if_ok}
+use Rattle.proto_base.proofs.Among.{later_map, later_short, if_ok}
 use Rattle.proto_checks.proofs.options.option_twice.Goals as goal
 
 pub returns-then-settings-lt2 : goal.returns-then-settings-lt2

@@ -1,6 +1,6 @@
 use Rattle.proto_checks.specs.Checks.{IsPartTooLong, part_name}
-use Rattle.proto_checks.specs.Least.{IsLeast}
-use Rattle.proto_checks.proofs.Sets.{WithTo}
+use Rattle.proto_base.specs.Least.{IsLeast}
+use Rattle.proto_base.proofs.Sets.{WithTo}
 use Rattle.proto_checks.proofs.package.parts_fault.Given as goal
 
 abbrev pub invariant-loop-part : goal.invariant-loop-part

@@ -1,10 +1,10 @@
 use Rattle.std.proofs.Common.{arith, get_or, refl}
 use Rattle.std.proofs.lemmas.Bool.{false≢true}
-use Rattle.proto_tokens.specs.declared.kind.Kind.TheVariants as kind
+use Rattle.proto_base.specs.declared.kind.Kind.TheVariants as kind
 use Rattle.proto_checks.specs.Covers.{IsAcross}
-use Rattle.proto_checks.specs.Least.{spot}
+use Rattle.proto_base.specs.Least.{spot}
 use Rattle.proto_checks.specs.declared.marks.MarkedRange.{MarkedRange}
-use Rattle.proto_checks.proofs.Sets.{item_at, each_all}
+use Rattle.proto_base.proofs.Sets.{item_at, each_all}
 use Rattle.proto_checks.proofs.Hits.{each_hit, each_miss, no_range}
 use Rattle.proto_checks.proofs.Halves.{IsShared, shared_of, of_shared, bad_range}
 use Rattle.proto_checks.proofs.ranges.first_across.Goals as goal

@@ -1,10 +1,10 @@
 use Rattle.std.proofs.Common.{arith, get_or, refl}
 use Rattle.std.proofs.lemmas.Bool.{false≢true}
-use Rattle.proto_tokens.specs.declared.kind.Kind.TheVariants as kind
-use Rattle.proto_checks.specs.Least.{spot}
+use Rattle.proto_base.specs.declared.kind.Kind.TheVariants as kind
+use Rattle.proto_base.specs.Least.{spot}
 use Rattle.proto_checks.specs.Marks.{IsReserved}
 use Rattle.proto_checks.specs.declared.marks.MarkedNumber.{MarkedNumber}
-use Rattle.proto_checks.proofs.Sets.{item_at, each_all}
+use Rattle.proto_base.proofs.Sets.{item_at, each_all}
 use Rattle.proto_checks.proofs.Hits.{each_hit, each_miss, no_number}
 use Rattle.proto_checks.proofs.Halves.{IsUsed, used_of, of_used}
 use Rattle.proto_checks.proofs.ranges.first_reserved_number.Goals as goal

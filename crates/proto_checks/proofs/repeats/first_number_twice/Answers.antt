@@ -2,10 +2,10 @@ use Rattle.std.proofs.Common.{◌≡◌, ◌∙◌, sym, arith, refl, get_or, ru
 use Rattle.std.specs.Prelude.{nat_lt}
 use Rattle.std.specs.Ordering.{nat_cmp}
 use Rattle.std.proofs.lemmas.List.Sorted.{answers_always}
-use Rattle.proto_checks.specs.Least.{spot}
+use Rattle.proto_base.specs.Least.{spot}
 use Rattle.proto_checks.specs.declared.marks.MarkedNumber.{MarkedNumber}
 use Rattle.proto_checks.proofs.Hits.{no_number}
-use Rattle.proto_checks.proofs.Sets.{exact_number, later_all, passed_clash, passed_skip, not_false, not_true, item_at}
+use Rattle.proto_base.proofs.Sets.{exact_number, later_all, passed_clash, passed_skip, not_false, not_true, item_at}
 use Rattle.proto_checks.proofs.Rising.{rising_none, tested_rises, number_in}
 use Rattle.proto_checks.proofs.repeats.first_number_twice.Goals as goal
 use Rattle.proto_checks.proofs.repeats.first_number_twice.Goals.{then-not-branch, else-not-branch}

@@ -1,8 +1,8 @@
 use Rattle.std.proofs.Common.{◌≡◌, ◌∙◌, sym, arith, refl, subst}
-use Rattle.proto_checks.specs.Least.{spot}
+use Rattle.proto_base.specs.Least.{spot}
 use Rattle.proto_checks.specs.Marks.{Marked}
-use Rattle.proto_checks.specs.Sets.{StandsAt}
-use Rattle.proto_checks.proofs.Sets.{text_cmp, exact_text, later_all, passed_clash, passed_skip, not_false, not_true}
+use Rattle.proto_base.specs.Sets.{StandsAt}
+use Rattle.proto_base.proofs.Sets.{text_cmp, exact_text, later_all, passed_clash, passed_skip, not_false, not_true}
 use Rattle.proto_checks.proofs.repeats.first_text_twice.Goals as goal
 use Rattle.proto_checks.proofs.repeats.first_text_twice.Goals.{then-not-branch, else-not-branch}
 

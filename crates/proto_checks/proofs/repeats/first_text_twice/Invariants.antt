@@ -1,6 +1,6 @@
-use Rattle.proto_checks.specs.Least.{spot}
+use Rattle.proto_base.specs.Least.{spot}
 use Rattle.proto_checks.specs.Marks.{Marked}
-use Rattle.proto_checks.proofs.Sets.{Passed, text_cmp}
+use Rattle.proto_base.proofs.Sets.{Passed, text_cmp}
 use Rattle.proto_checks.proofs.repeats.first_text_twice.Given as goal
 
 abbrev pub invariant-loop-marked : goal.invariant-loop-marked

@@ -1,11 +1,11 @@
 use Rattle.std.proofs.Common.{◌∙◌, sym, subst, arith}
 use Rattle.std.specs.Prelude.{Contains}
 use Rattle.std.proofs.lemmas.Bool.{false≢true}
-use Rattle.proto_tokens.specs.declared.kind.Kind.TheVariants as kind
-use Rattle.proto_checks.specs.Least.{spot}
+use Rattle.proto_base.specs.declared.kind.Kind.TheVariants as kind
+use Rattle.proto_base.specs.Least.{spot}
 use Rattle.proto_checks.specs.Marks.{Marked, IsReservedName}
-use Rattle.proto_checks.specs.Sets.{StandsAt}
-use Rattle.proto_checks.proofs.Sets.{each_all}
+use Rattle.proto_base.specs.Sets.{StandsAt}
+use Rattle.proto_base.proofs.Sets.{each_all}
 use Rattle.proto_checks.proofs.Hits.{each_hit, each_miss}
 use Rattle.proto_checks.proofs.reserved_names.first_reserved_name.Goals as goal
 use Rattle.proto_checks.proofs.reserved_names.first_reserved_name.Goals.{then-contains, else-contains}

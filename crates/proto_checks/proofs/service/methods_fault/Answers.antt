@@ -1,9 +1,9 @@
 use Rattle.std.proofs.Common.{◌≡◌, [], arith}
 use Rattle.std.proofs.lemmas.Grind.{common_steps}
 use Rattle.proto_checks.specs.Elements.{rpc_of, RpcBreaks}
-use Rattle.proto_checks.specs.Least.{IsLeast}
-use Rattle.proto_checks.specs.Sets.{Each}
-use Rattle.proto_checks.proofs.Among.{least_single, flat_more, flat_skip}
+use Rattle.proto_base.specs.Least.{IsLeast}
+use Rattle.proto_base.specs.Sets.{Each}
+use Rattle.proto_base.proofs.Among.{least_single, flat_more, flat_skip}
 use Rattle.proto_checks.proofs.service.methods_fault.Goals as goal
 use Rattle.proto_checks.proofs.service.methods_fault.Goals.{in-Rpc+in_ok-method_fault, in_default}
 

@@ -1,7 +1,7 @@
 use Rattle.std.proofs.Common.{◌∙◌}
 use Rattle.std.specs.Prelude.{flat_map}
 use Rattle.proto_desc.specs.declared.rules.Element.TheVariants as element
-use Rattle.proto_desc.specs.Lowering.Options.{service_setting}
+use Rattle.proto_lower.specs.Options.{service_setting}
 use Rattle.proto_checks.proofs.ElementUnions.{service_least}
 use Rattle.proto_checks.proofs.service.service_fault.Goals as goal
 

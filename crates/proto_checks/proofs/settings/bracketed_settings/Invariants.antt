@@ -1,5 +1,5 @@
 use Rattle.std.proofs.Common.{◌≡◌, ◌++◌, take, map}
-use Rattle.proto_desc.specs.Lowering.Options.{next_item}
+use Rattle.proto_lower.specs.Options.{next_item}
 use Rattle.proto_checks.specs.Judged.{judged}
 use Rattle.proto_checks.proofs.settings.bracketed_settings.Given as goal
 

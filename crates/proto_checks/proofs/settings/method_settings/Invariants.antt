@@ -1,7 +1,7 @@
 use Rattle.std.proofs.Common.{◌≡◌, take, map}
 use Rattle.std.specs.Prelude.{flat_map}
 use Rattle.proto_desc.specs.declared.rules.Element.TheVariants as element
-use Rattle.proto_desc.specs.Lowering.Options.{rpc_setting}
+use Rattle.proto_lower.specs.Options.{rpc_setting}
 use Rattle.proto_checks.specs.Judged.{judged}
 use Rattle.proto_checks.proofs.settings.method_settings.Given as goal
 

@@ -1,6 +1,6 @@
 use Rattle.std.proofs.Common.{◌≡◌, ◌++◌, take}
 use Rattle.std.specs.Prelude.{flat_map, string_bytes}
-use Rattle.proto_desc.specs.Lowering.Text.{literal_text}
+use Rattle.proto_lower.specs.Text.{literal_text}
 use Rattle.proto_checks.proofs.text.joined.Given as goal
 
 abbrev pub invariant-loop-literal : goal.invariant-loop-literal

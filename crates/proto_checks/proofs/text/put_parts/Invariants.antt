@@ -1,6 +1,6 @@
 use Rattle.std.proofs.Common.{◌≡◌, ◌++◌, take}
 use Rattle.std.specs.Prelude.{flat_map, string_bytes}
-use Rattle.proto_desc.specs.Lowering.Text.{part_text}
+use Rattle.proto_lower.specs.Text.{part_text}
 use Rattle.proto_checks.proofs.text.put_parts.Given as goal
 
 abbrev pub invariant-loop-part : goal.invariant-loop-part

@@ -1,5 +1,5 @@
 use Rattle.std.proofs.Common.{◌≡◌, ◌∙◌, sym, ap, arith, rules, subst, map, length, [], List, ℕ}
-use Rattle.proto_tokens.specs.declared.kind.Kind.TheVariants as kind
+use Rattle.proto_base.specs.declared.kind.Kind.TheVariants as kind
 use Rattle.proto_compile.specs.Faults.{IsFirstFault, set_too_long, start}
 use Rattle.proto_compile.specs.Sources.{NamesRise}
 use Rattle.proto_compile.proofs.Making.{compilation, counts, sound, too_long, written, written_length}

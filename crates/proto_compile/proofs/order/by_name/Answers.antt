@@ -1,5 +1,5 @@
 use Rattle.std.proofs.Common.{◌≡◌, ◌∙◌, sym, ap, arith, subst, List, [], ℕ}
-use Rattle.proto_tokens.specs.declared.kind.Kind.TheVariants as kind
+use Rattle.proto_base.specs.declared.kind.Kind.TheVariants as kind
 use Rattle.proto_compile.specs.Faults.{IsFirstFault, start, too_many_files, file_name_twice}
 use Rattle.proto_compile.specs.Sources.{name_at, name_of}
 use Rattle.proto_compile.proofs.Refusing.{told}

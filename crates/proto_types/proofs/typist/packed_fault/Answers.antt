@@ -1,9 +1,9 @@
 use Rattle.std.proofs.Common.{arith, sym, ◌∙◌}
 use Rattle.std.proofs.lemmas.Bool.{false≢true}
 use Rattle.std.specs.Prelude.{Some, None}
-use Rattle.proto_tokens.specs.declared.kind.Kind.TheVariants as kind
-use Rattle.proto_checks.specs.Least.{spot}
-use Rattle.proto_checks.proofs.Sets.{each_more, each_all, least_hit, least_miss, lesser_none}
+use Rattle.proto_base.specs.declared.kind.Kind.TheVariants as kind
+use Rattle.proto_base.specs.Least.{spot}
+use Rattle.proto_base.proofs.Sets.{each_more, each_all, least_hit, least_miss, lesser_none}
 use Rattle.proto_types.specs.References.{IsPacked}
 use Rattle.proto_types.specs.Steps.{SetsPacked}
 use Rattle.proto_types.proofs.typist.packed_fault.Goals as goal

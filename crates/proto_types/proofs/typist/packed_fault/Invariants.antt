@@ -1,5 +1,5 @@
-use Rattle.proto_checks.specs.Least.{IsLeast}
-use Rattle.proto_checks.proofs.Sets.{EachTo}
+use Rattle.proto_base.specs.Least.{IsLeast}
+use Rattle.proto_base.proofs.Sets.{EachTo}
 use Rattle.proto_types.specs.Steps.{SetsPacked}
 use Rattle.proto_types.proofs.typist.packed_fault.Given as goal
 

@@ -1,7 +1,7 @@
 use Rattle.std.proofs.Common.{◌≡◌, ◌++◌, ◌≤◌, map, length, All}
 use Rattle.std.specs.List.{flat_map}
-use Rattle.proto_tokens.specs.Limits.{limit_of}
-use Rattle.proto_tokens.specs.declared.limits.Limit.TheVariants.{Requests}
+use Rattle.proto_base.specs.Limits.{limit_of}
+use Rattle.proto_base.specs.declared.limits.Limit.TheVariants.{Requests}
 use Rattle.reflect_core.specs.Frames.{frame, IsAllowed}
 use Rattle.reflect_core.proofs.frames.read_frames.Given as goal
 

@@ -1,6 +1,6 @@
 use Rattle.std.proofs.Common.{refl, string_bytes}
-use Rattle.proto_tokens.specs.declared.kind.Kind.TheVariants as kind
-use Rattle.proto_checks.specs.Least.{spot}
+use Rattle.proto_base.specs.declared.kind.Kind.TheVariants as kind
+use Rattle.proto_base.specs.Least.{spot}
 use Rattle.proto_names.specs.Resolution.{SeenBy}
 use Rattle.proto_types.proofs.Meanings.{if_ok_both, not_found, not_message, resolved_walked, spelled, unresolved_walked}
 use Rattle.proto_types.proofs.typist.Typist.spelled.Goals as goal

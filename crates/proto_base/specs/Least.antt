@@ -1,0 +1,29 @@
+-- The least of a set of spots: of places with what is wrong there.
+use Rattle.std.specs.Prelude.{◌≡◌, ◌<◌, ◌≤◌, ◌⊎◌, Option, Some, None, IfSome}
+use Rattle.proto_base.specs.Kind.{number_of}
+use Rattle.proto_base.specs.declared.kind.Kind.{Kind}
+use Rattle.proto_base.specs.declared.place.Place.{Place}
+use Rattle.proto_base.specs.declared.spot.Spot.{Spot}
+
+abbrev pub spot : Place → Kind → Spot
+spot p k = record { place = p; kind = k }
+
+-- by place, then by the kind's number
+abbrev pub AtMost : Spot → Spot → Type 0
+AtMost a b = (a.place.offset < b.place.offset) ⊎ ((a.place.offset ≡ b.place.offset) × (number_of a.kind ≤ number_of b.kind))
+
+-- there is one, and it comes no later than x
+abbrev pub Bounds : Option Spot → Spot → Type 0
+Bounds None x = ⊥
+Bounds (Some a) x = AtMost a x
+
+-- the least of a set, None only where it is empty
+pub record IsLeast (S : Spot → Type 0) (first : Option Spot) : Type 0 where
+  pub found : IfSome first S
+  pub least : (x : Spot) → S x → Bounds first x
+
+-- the lesser of two, where there are any
+pub record IsLesser (a b first : Option Spot) : Type 0 where
+  pub one : (first ≡ a) ⊎ (first ≡ b)
+  pub left : (x : Spot) → Bounds a x → Bounds first x
+  pub right : (x : Spot) → Bounds b x → Bounds first x

@@ -1,0 +1,24 @@
+//! What is wrong at a place, and which of two such faults comes first.
+
+ghost use Rattle.proto_base.specs.Least.{IsLesser};
+
+use crate::kind::Kind;
+use crate::place::Place;
+
+/// What is wrong, and where. The order is that of the fields.
+#[derive(Clone, Copy, PartialEq, Eq, PartialOrd, Ord)]
+pub struct Spot {
+    pub place: Place,
+    pub kind: Kind,
+}
+
+/// The earlier of two faults, where there are any.
+pub fn lesser(a: Option<Spot>, b: Option<Spot>) -> Option<Spot>
+    ensures { IsLesser a b result }
+{
+    match (a, b) {
+        (Some(x), Some(y)) => Some(x.min(y)),
+        (Some(x), None) => Some(x),
+        (None, other) => other,
+    }
+}

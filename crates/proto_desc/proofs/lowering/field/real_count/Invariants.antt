@@ -1,9 +1,0 @@
-use Rattle.std.proofs.Common.{◌≡◌, ◌+◌, ◌≤◌, drop}
-use Rattle.proto_desc.specs.Lowering.Fields.{real_count}
-use Rattle.proto_desc.proofs.lowering.field.real_count.Given as goal
-
-abbrev pub invariant-loop-item : goal.invariant-loop-item
-invariant-loop-item l = record {
-  sum : l.count + real_count (drop l.item-index l.items) ≡ real_count l.items;
-  most : l.count ≤ l.item-index;
-}

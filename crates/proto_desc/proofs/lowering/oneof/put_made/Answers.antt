@@ -1,7 +1,0 @@
-use Rattle.std.proofs.Common.{sym, ◌∙◌}
-use Rattle.proto_desc.specs.Lowering.Oneofs.{names_of_fields}
-use Rattle.proto_desc.proofs.NoneMade.{none_made}
-use Rattle.proto_desc.proofs.lowering.oneof.put_made.Goals as goal
-
-pub returns-then-not-has_optional : goal.returns-then-not-has_optional
-returns-then-not-has_optional c = sym (none_made (names_of_fields c.args.fields.now) c.args.oneofs.now.items c.args.fields.now (sym c.has_optional.ensures ∙ c.if-not-has_optional.true))

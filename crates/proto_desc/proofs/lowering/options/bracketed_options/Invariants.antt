@@ -1,7 +1,0 @@
-use Rattle.std.proofs.Common.{◌≡◌, take}
-use Rattle.std.specs.Prelude.{flat_map}
-use Rattle.proto_desc.specs.Lowering.Options.{option_under, bracketed}
-use Rattle.proto_desc.proofs.lowering.options.bracketed_options.Given as goal
-
-abbrev pub invariant-loop-rule : goal.invariant-loop-rule
-invariant-loop-rule l = l.set.items ≡ flat_map (option_under (bracketed l.options)) (take l.rule-index l.rule-items)

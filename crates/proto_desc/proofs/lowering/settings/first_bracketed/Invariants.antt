@@ -1,6 +1,0 @@
-use Rattle.std.proofs.Common.{◌≡◌, drop, map}
-use Rattle.proto_desc.specs.Lowering.Options.{first_setting, next_item}
-use Rattle.proto_desc.proofs.lowering.settings.first_bracketed.Given as goal
-
-abbrev pub invariant-loop-next : goal.invariant-loop-next
-invariant-loop-next l = first_setting l.name (map next_item (drop l.next-index l.next-items)) ≡ first_setting l.name (map next_item l.next-items)

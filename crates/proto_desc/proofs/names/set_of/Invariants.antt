@@ -1,6 +1,0 @@
-use Rattle.std.proofs.Common.{map, take}
-use Rattle.proto_desc.specs.Names.{IsSetOf}
-use Rattle.proto_desc.proofs.names.set_of.Given as goal
-
-abbrev pub invariant-loop-name : goal.invariant-loop-name
-invariant-loop-name l = IsSetOf (map (λ name. name.now) (take l.name-index l.names)) l.set

@@ -1,9 +1,0 @@
-pub mod Enums
-pub mod Fields
-pub mod Files
-pub mod Messages
-pub mod Oneofs
-pub mod Options
-pub mod Reserveds
-pub mod Services
-pub mod Text

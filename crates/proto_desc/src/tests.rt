@@ -1,4 +1,0 @@
-//! Names and resolution by examples.
-
-mod names;
-mod resolved;

@@ -1,0 +1,5 @@
+pub mod PlacesWithin
+mod Nested
+mod NoneMade
+mod Raised
+mod Free

@@ -1,0 +1,34 @@
+-- The nested messages that a message gives as a statement.
+use Rattle.std.proofs.Common.{◌≡◌, ◌∙◌, ap, sym, refl, List, [], ◌∷◌, ◌++◌, ℕ, ◌+◌, ◌<◌, length, take, get_or}
+use Rattle.std.proofs.lemmas.List.{take_more, append-nil}
+use Rattle.std.proofs.lemmas.List.Concat.{flat_map-append}
+use Rattle.std.specs.Prelude.{flat_map}
+use mathlib.Core.Former.{Count}
+use Rattle.proto_syntax.specs.declared.tree.message.Message.{Message}
+use Rattle.proto_syntax.specs.declared.tree.message.MessageItem.{MessageItem, Message', Row_of-MessageItem, end_of-MessageItem, more_of-MessageItem, items-the_row-MessageItem, items_hidden-the_row-MessageItem-0}
+use Rattle.proto_syntax.specs.declared.tree.message.MessageItem.TheVariants as of
+use Rattle.proto_lower.specs.Fields.{inner}
+use Rattle.proto_lower.specs.Messages.{message_of, nested_of, nested_row, lowered_message}
+
+row_flat : (full : List ℕ) (n : _) (row : Row_of-MessageItem n) → nested_row full row ≡ flat_map (nested_of full) (items-the_row-MessageItem n row)
+row_flat full n end_of-MessageItem = refl
+row_flat full n (more_of-MessageItem i rest) = ap (λ xs. nested_of full i ++ xs) (row_flat full _ rest)
+
+abbrev row_of : MessageItem → (n : Count) × Row_of-MessageItem n
+row_of (Message' keyword name open_brace shape row close_brace) = (_, row)
+row_of _ = (_, end_of-MessageItem)
+
+pub nested_message : (full : List ℕ) (m : Message) → nested_of full (of.Message m) ≡ lowered_message full m ∷ []
+nested_message full m =
+    let row = row_of (of.Message m) in
+    ap (λ xs. message_of (inner full m.name.text) m.name (items-the_row-MessageItem row.0 row.1) xs ∷ []) (row_flat (inner full m.name.text) row.0 row.1)
+    ∙ ap (λ is. message_of (inner full m.name.text) m.name is (flat_map (nested_of (inner full m.name.text)) is) ∷ []) (items_hidden-the_row-MessageItem-0 m.items)
+
+-- one more statement, and what it gives
+pub one_more : {X Y : Type 0} (f : X → List Y) (xs : List X) (i : ℕ) (x : X) (done new : List Y) → i < length xs → x ≡ get_or xs i x → done ≡ flat_map f (take i xs) → new ≡ f x → done ++ new ≡ flat_map f (take (i + 1) xs)
+one_more f xs i x done new within at so_far gives =
+    rw (so_far, gives) (ap (λ z. flat_map f (take i xs) ++ z) (sym (append-nil (f x)) ∙ ap (λ z. flat_map f (z ∷ [])) at)
+    ∙ sym (flat_map-append f (take i xs) (get_or xs i x ∷ [])) ∙ ap (flat_map f) (sym (take_more xs i x within)))
+
+pub none_more : {X Y : Type 0} (f : X → List Y) (xs : List X) (i : ℕ) (x : X) (done : List Y) → i < length xs → x ≡ get_or xs i x → done ≡ flat_map f (take i xs) → f x ≡ [] → done ≡ flat_map f (take (i + 1) xs)
+none_more f xs i x done within at so_far gives = sym (append-nil done) ∙ one_more f xs i x done [] within at so_far (sym gives)

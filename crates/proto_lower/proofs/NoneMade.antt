@@ -1,0 +1,14 @@
+-- Fields none of which is `optional` make no oneof.
+use Rattle.std.proofs.Common.{◌≡◌, ℕ, List, [], ◌∷◌, refl, false, arith}
+use Rattle.std.specs.List.{list_any}
+use Rattle.std.proofs.lemmas.Bool.Decides.{nat_tests}
+use Rattle.proto_desc.specs.declared.field.FieldDesc.{FieldDesc}
+use Rattle.proto_desc.specs.declared.oneof.OneofDesc.{OneofDesc}
+use Rattle.proto_lower.specs.Oneofs.{with_made}
+
+pub none_made : (names : List (List ℕ)) (so_far : List OneofDesc) (fs : List FieldDesc) → list_any (λ f. f.proto3_optional) fs ≡ false → with_made names so_far fs ≡ so_far
+none_made names so_far [] none = refl
+none_made names so_far (f ∷ fs) none =
+    let here : f.proto3_optional ≡ false = grind (arith, nat_tests) in
+    let rest : list_any (λ g. g.proto3_optional) fs ≡ false = grind (arith, nat_tests) in
+    rw here (none_made names so_far fs rest)

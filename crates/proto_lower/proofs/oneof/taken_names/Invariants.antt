@@ -1,0 +1,10 @@
+use Rattle.std.proofs.Common.{◌++◌, take}
+use Rattle.proto_lower.specs.Names.{IsSetOf}
+use Rattle.proto_lower.specs.Oneofs.{names_of_fields, names_of_oneofs}
+use Rattle.proto_lower.proofs.oneof.taken_names.Given as goal
+
+abbrev pub invariant-loop-field : goal.invariant-loop-field
+invariant-loop-field l = IsSetOf (names_of_fields (take l.field-index l.fields)) l.taken
+
+abbrev pub invariant-loop-oneof : goal.invariant-loop-oneof
+invariant-loop-oneof l = IsSetOf (names_of_fields l.fields ++ names_of_oneofs (take l.oneof-index l.oneofs)) l.taken

@@ -1,0 +1,10 @@
+pub mod Enums
+pub mod Fields
+pub mod Files
+pub mod Messages
+pub mod Names
+pub mod Oneofs
+pub mod Options
+pub mod Reserveds
+pub mod Services
+pub mod Text

@@ -1,0 +1,35 @@
+-- Oneofs: those of the source, and then those that `optional` fields make.
+use Rattle.std.specs.Prelude.{ℕ, Bool, List, [], ◌∷◌, ◌++◌, map, cond}
+use Rattle.proto_syntax.specs.Name.{Identifier}
+use Rattle.proto_syntax.specs.declared.tree.message.MessageItem.{MessageItem}
+use Rattle.proto_syntax.specs.declared.tree.message.MessageItem as message_item
+use Rattle.proto_desc.specs.declared.field.FieldDesc.{FieldDesc}
+use Rattle.proto_desc.specs.declared.oneof.OneofDesc.{OneofDesc}
+use Rattle.proto_lower.specs.Names.{oneof_name_of}
+
+abbrev pub real_named : Identifier → OneofDesc
+real_named n = record { name = n.text; place = n.span.start }
+
+-- the oneof that a statement of a message is
+abbrev pub real_of : MessageItem → List OneofDesc
+real_of (message_item.Oneof o) = real_named o.name ∷ []
+real_of i = []
+
+abbrev pub names_of_fields : List FieldDesc → List (List ℕ)
+names_of_fields fs = map (λ f. f.name) fs
+
+abbrev pub names_of_oneofs : List OneofDesc → List (List ℕ)
+names_of_oneofs os = map (λ o. o.name) os
+
+-- the oneof of a field, where these names are taken
+abbrev pub made_named : List (List ℕ) → FieldDesc → OneofDesc
+made_named taken f = record { name = oneof_name_of taken f.name; place = f.place }
+
+-- the oneofs so far and that of a field, if it is `optional`; the names of all fields and of the oneofs so far are taken
+abbrev pub with_one : List (List ℕ) → List OneofDesc → FieldDesc → Bool → List OneofDesc
+with_one names so_far f is_optional = cond is_optional (so_far ++ made_named (names ++ names_of_oneofs so_far) f ∷ []) so_far
+
+-- the oneofs so far and those of these fields, in their order
+abbrev pub with_made : (names : List (List ℕ)) → List OneofDesc → List FieldDesc → List OneofDesc
+with_made names so_far [] = so_far
+with_made names so_far (f ∷ fs) = with_made names (with_one names so_far f f.proto3_optional) fs

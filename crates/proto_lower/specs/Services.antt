@@ -1,0 +1,42 @@
+-- Services and methods.
+use Rattle.std.specs.Prelude.{List, [], ◌∷◌, flat_map}
+use Rattle.std.specs.Option.{is_some}
+use Rattle.proto_syntax.specs.declared.tree.service.Rpc.{Rpc}
+use Rattle.proto_syntax.specs.declared.tree.service.RpcBody.{RpcBody}
+use Rattle.proto_syntax.specs.declared.tree.service.RpcBody.TheVariants.{Semicolon, Block}
+use Rattle.proto_syntax.specs.declared.tree.service.RpcItem.{RpcItem}
+use Rattle.proto_syntax.specs.declared.tree.service.Service.{Service}
+use Rattle.proto_syntax.specs.declared.tree.service.ServiceItem.{ServiceItem}
+use Rattle.proto_syntax.specs.declared.tree.service.ServiceItem.TheVariants as service_item
+use Rattle.proto_desc.specs.declared.rules.Element.TheVariants as element
+use Rattle.proto_desc.specs.declared.service.MethodDesc.{MethodDesc}
+use Rattle.proto_desc.specs.declared.service.ServiceDesc.{ServiceDesc}
+use Rattle.proto_lower.specs.Fields.{reference_of}
+use Rattle.proto_lower.specs.Options.{rpc_setting, service_setting, options_of}
+
+abbrev pub rpc_items : RpcBody → List RpcItem
+rpc_items (Semicolon s) = []
+rpc_items (Block b) = b.items
+
+abbrev pub method_desc : Rpc → MethodDesc
+method_desc r = record {
+  name = r.name.text;
+  place = r.name.span.start;
+  input = reference_of r.input.name;
+  output = reference_of r.output.name;
+  options = options_of element.Method (flat_map rpc_setting (rpc_items r.body));
+  client_streaming = is_some r.input.stream;
+  server_streaming = is_some r.output.stream;
+}
+
+abbrev pub method_of : ServiceItem → List MethodDesc
+method_of (service_item.Rpc r) = method_desc r ∷ []
+method_of i = []
+
+abbrev pub lowered_service : Service → ServiceDesc
+lowered_service s = record {
+  name = s.name.text;
+  place = s.name.span.start;
+  methods = flat_map method_of s.items;
+  options = options_of element.Service (flat_map service_setting s.items);
+}

@@ -1,0 +1,176 @@
+//! Fields, map fields and members of oneofs (language guide, "Specifying Field Types", "Maps", "Oneof").
+
+ghost use Rattle.std.specs.Prelude.{◌≡◌, ◌++◌, ◌≤◌, IfOk, OnOk, flat_map, length, string_bytes};
+ghost use Rattle.proto_lower.specs.Fields.{described, label_of, is_optional, field_at, inner, map_described, member_of, real_count, fields_from};
+
+use crate::names::entry_name;
+use crate::options::{bracketed_options, field_json_name};
+use crate::type_name::field_kind;
+use proto_base::text::Text;
+use proto_desc::field::{FieldDesc, FieldKind, FieldLabel};
+use proto_desc::rules::Element;
+use proto_desc::type_name::{TypeKind, TypeReference};
+use proto_syntax::tree::{Declarator, Field, Label, MapField, MessageItem, OneofItem};
+use std::alloc::{AllocError, Global};
+
+fn described<'s>(
+    alloc: Global,
+    declarator: &Declarator<'s>,
+    label: FieldLabel,
+    field_type: FieldKind<'s>,
+    oneof_index: Option<usize>,
+    proto3_optional: bool,
+) -> Result<FieldDesc<'s>, AllocError>
+    ensures { IfOk result (λ field. field ≡ described declarator.now label field_type.entry oneof_index proto3_optional) }
+{
+    let name = declarator.name.text;
+    let json_name = field_json_name(alloc, name, &declarator.options)?;
+    let options = bracketed_options(alloc, Element::Field, &declarator.options)?;
+    Ok(FieldDesc {
+        name: Text::borrowed(name),
+        place: declarator.name.span.start,
+        number: declarator.number.value,
+        label,
+        field_type,
+        oneof_index,
+        json_name,
+        proto3_optional,
+        options,
+    })
+}
+
+fn label_of(label: &Option<Label>) -> FieldLabel
+    ensures { result ≡ label_of label.now }
+{
+    match label {
+        Some(Label::Repeated(_)) => FieldLabel::Repeated,
+        _ => FieldLabel::Optional,
+    }
+}
+
+fn is_optional(label: &Option<Label>) -> bool
+    ensures { result ≡ is_optional label.now }
+{
+    matches!(label, Some(Label::Optional(_)))
+}
+
+/// A field, which has a oneof of its own at the position `next_made` if it is `optional`.
+fn plain_field<'s>(
+    alloc: Global,
+    field: &Field<'s>,
+    next_made: usize,
+) -> Result<FieldDesc<'s>, AllocError>
+    ensures { IfOk result (λ made. made ≡ field_at next_made field.now) }
+{
+    let is_optional = is_optional(&field.label);
+    let oneof_index = if is_optional { Some(next_made) } else { None };
+    let field_type = field_kind(alloc, &field.field_type)?;
+    let label = label_of(&field.label);
+    described(
+        alloc,
+        &field.declarator,
+        label,
+        field_type,
+        oneof_index,
+        is_optional,
+    )
+}
+
+/// The full name, behind a leading dot, of what stands in the scope.
+pub(crate) fn inner_name(alloc: Global, scope: &str, name: &str) -> Result<String, AllocError>
+    ensures { IfOk result (λ full. string_bytes full ≡ inner scope.now name.now) }
+{
+    let mut full = String::from_str(alloc, scope)?;
+    full.push_str(".")?;
+    full.push_str(name)?;
+    Ok(full)
+}
+
+/// A map field of the message with this full name: a repeated field of its entry's type.
+fn map_field<'s>(alloc: Global, full: &str, map: &MapField<'s>) -> Result<FieldDesc<'s>, AllocError>
+    ensures { IfOk result (λ field. field ≡ map_described full.now map.now) }
+{
+    let entry = entry_name(alloc, map.declarator.name.text)?;
+    let full_name = Text::owned(inner_name(alloc, full, entry.as_str())?);
+    let kind = TypeKind::Message;
+    let field_type = FieldKind::Named(TypeReference::Resolved { full_name, kind });
+    described(
+        alloc,
+        &map.declarator,
+        FieldLabel::Repeated,
+        field_type,
+        None,
+        false,
+    )
+}
+
+/// Adds the members of the oneof at the position `number`.
+fn put_members<'s>(
+    alloc: Global,
+    out: &mut Vec<FieldDesc<'s>>,
+    items: &[OneofItem<'s>],
+    number: usize,
+) -> Result<(), AllocError>
+    ensures { OnOk result (out.new.items ≡ out.old.items ++ flat_map (member_of number) items.now) }
+{
+    for item in items {
+        if let OneofItem::Field(field) = item {
+            let field_type = field_kind(alloc, &field.field_type)?;
+            out.push(described(
+                alloc,
+                &field.declarator,
+                FieldLabel::Optional,
+                field_type,
+                Some(number),
+                false,
+            )?)?;
+        }
+    }
+    Ok(())
+}
+
+/// How many oneofs of the source there are.
+pub(crate) fn real_count(items: &[MessageItem]) -> usize
+    ensures value { result ≡ real_count items.now }
+    ensures most { result ≤ length items.now }
+{
+    let mut count = 0;
+    for item in items {
+        if matches!(item, MessageItem::Oneof(_)) {
+            count += 1;
+        }
+    }
+    count
+}
+
+/// The fields of the message with this full name and these statements, of which `real` are oneofs.
+pub(crate) fn fields<'s>(
+    alloc: Global,
+    full: &str,
+    items: &[MessageItem<'s>],
+    real: usize,
+) -> Result<Vec<FieldDesc<'s>>, AllocError>
+    requires { real ≤ length items.now }
+    ensures { IfOk result (λ fields. fields.items ≡ fields_from full.now 0 real items.now) }
+{
+    let mut out = Vec::new(alloc);
+    let mut next_real = 0;
+    let mut next_made = real;
+    for item in items {
+        match item {
+            MessageItem::Field(field) => {
+                out.push(plain_field(alloc, field, next_made)?)?;
+                if is_optional(&field.label) {
+                    next_made += 1;
+                }
+            }
+            MessageItem::Map(map) => out.push(map_field(alloc, full, map)?)?,
+            MessageItem::Oneof(oneof) => {
+                put_members(alloc, &mut out, oneof.items.as_slice(), next_real)?;
+                next_real += 1;
+            }
+            _ => {}
+        }
+    }
+    Ok(out)
+}

@@ -1,0 +1,20 @@
+//! From the tree of a file to its descriptor, and the names that it makes on the way.
+//!
+//! The standard is `descriptor.proto`, and the proto3 language guide for the names that are made.
+#![tactic(auto)]
+
+mod enumeration;
+mod field;
+mod file;
+mod message;
+mod names;
+mod oneof;
+mod options;
+mod reserved;
+mod service;
+mod settings;
+mod text;
+mod type_name;
+
+pub use file::lower;
+pub use names::{entry_name, json_name, oneof_name};

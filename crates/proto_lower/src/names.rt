@@ -1,0 +1,122 @@
+//! Names that are made of the names of fields (language guide, "JSON Mapping", "Maps"; `descriptor.proto`, `proto3_optional`).
+
+ghost use Rattle.std.specs.Prelude.{◌≡◌, ◌==◌, ℕ, IfOk, OnOk, string_bytes, map, false, List, [], ◌∷◌, ◌++◌};
+ghost use Rattle.std.specs.List.{list_any};
+ghost use Rattle.std.specs.Str.{chars};
+ghost use Rattle.std.specs.BTreeSet.{contains_text};
+ghost use Rattle.proto_lower.specs.Names.{raised, json_name_of, entry_name_of, oneof_name_of, first_free, with_underscore, is_among, IsSetOf};
+
+use proto_base::text::Text;
+use std::alloc::{AllocError, Global};
+use std::collections::BTreeSet;
+
+fn has_underscore(name: &str) -> bool
+    ensures { result ≡ list_any (λ c. c == 95) (chars name.now) }
+{
+    name.chars().any(|letter| letter == '_')
+}
+
+/// A name without its underscores, where a lower-case ASCII letter directly behind one is raised; the character `before` stands before the first.
+fn raised(alloc: Global, name: &str, first: char) -> Result<String, AllocError>
+    ensures { IfOk result (λ made. string_bytes made ≡ raised first name.now) }
+{
+    let mut made = String::new(alloc);
+    let mut before = first;
+    for letter in name.chars() {
+        if letter != '_' {
+            let upper = letter.to_ascii_uppercase();
+            made.push(if before == '_' { upper } else { letter })?;
+        }
+        before = letter;
+    }
+    Ok(made)
+}
+
+/// The JSON name of a field: underscores are dropped, and a lower-case ASCII letter directly behind one is raised.
+pub fn json_name(alloc: Global, name: &str) -> Result<String, AllocError>
+    ensures { IfOk result (λ json. string_bytes json ≡ json_name_of name.now) }
+{
+    raised(alloc, name, ' ')
+}
+
+/// The JSON name of a field, which borrows a name without underscores.
+pub(crate) fn json_text<'s>(alloc: Global, name: &'s str) -> Result<Text<'s>, AllocError>
+    ensures { IfOk result (λ json. json ≡ json_name_of name.now) }
+{
+    if !has_underscore(name) {
+        return Ok(Text::borrowed(name));
+    }
+    Ok(Text::owned(json_name(alloc, name)?))
+}
+
+/// The name of a map field's entry: underscores are dropped, a lower-case ASCII letter is raised at the start and directly behind an underscore, and `Entry` is added.
+pub fn entry_name(alloc: Global, field: &str) -> Result<String, AllocError>
+    ensures { IfOk result (λ name. string_bytes name ≡ entry_name_of field.now) }
+{
+    let mut name = raised(alloc, field, '_')?;
+    name.push_str("Entry")?;
+    Ok(name)
+}
+
+pub(crate) fn with_underscore(alloc: Global, field: &str) -> Result<String, AllocError>
+    ensures { IfOk result (λ name. string_bytes name ≡ with_underscore field.now) }
+{
+    if field.as_bytes().first() == Some(&b'_') {
+        return String::from_str(alloc, field);
+    }
+    let mut name = String::from_str(alloc, "_")?;
+    name.push_str(field)?;
+    Ok(name)
+}
+
+/// The first name that is not taken, of `name` and it with `X` in front once, twice and so on up to `most` times.
+pub(crate) fn first_free(
+    alloc: Global,
+    mut name: String,
+    taken: &BTreeSet<String>,
+    most: usize,
+) -> Result<String, AllocError>
+    ensures { IfOk result (λ free. string_bytes free ≡ first_free (contains_text taken.now) most (string_bytes name)) }
+{
+    for _ in 0..most {
+        if !taken.contains(name.as_str()) {
+            return Ok(name);
+        }
+        let mut longer = String::from_str(alloc, "X")?;
+        longer.push_str(name.as_str())?;
+        name = longer;
+    }
+    Ok(name)
+}
+
+/// Takes a name.
+pub(crate) fn take_name(
+    alloc: Global,
+    taken: &mut BTreeSet<String>,
+    name: &str,
+) -> Result<(), AllocError>
+    ensures { OnOk result ((names : List (List ℕ)) → IsSetOf names taken.old → IsSetOf (names ++ name.now ∷ []) taken.new) }
+{
+    taken.insert(String::from_str(alloc, name)?)?;
+    Ok(())
+}
+
+fn set_of(alloc: Global, names: &[&str]) -> Result<BTreeSet<String>, AllocError>
+    ensures { IfOk result (IsSetOf (map (λ name. name.now) names.now)) }
+{
+    let mut set = BTreeSet::new(alloc);
+    for name in names {
+        take_name(alloc, &mut set, name)?;
+    }
+    Ok(set)
+}
+
+/// The name of the oneof that an `optional` field makes: the field's name, with `_` in front unless it begins with `_`, and then with `X` in front as long as the name is among those that are taken.
+pub fn oneof_name(alloc: Global, field: &str, taken: &[&str]) -> Result<String, AllocError>
+    ensures value { IfOk result (λ name. string_bytes name ≡ oneof_name_of (map (λ t. t.now) taken.now) field.now) }
+    ensures free { IfOk result (λ name. is_among (map (λ t. t.now) taken.now) (string_bytes name) ≡ false) }
+{
+    let set = set_of(alloc, taken)?;
+    let start = with_underscore(alloc, field)?;
+    first_free(alloc, start, &set, taken.len())
+}

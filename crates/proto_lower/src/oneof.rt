@@ -1,0 +1,101 @@
+//! Oneofs: those of the source, and then those that `optional` fields make (`descriptor.proto`, `proto3_optional`).
+
+ghost use Rattle.std.specs.Prelude.{◌≡◌, ◌++◌, ℕ, List, IfOk, OnOk, flat_map, length};
+ghost use Rattle.std.specs.List.{list_any};
+ghost use Rattle.proto_lower.specs.Names.{IsSetOf};
+ghost use Rattle.proto_lower.specs.Oneofs.{real_named, real_of, names_of_fields, names_of_oneofs, made_named, with_made};
+
+use crate::names::{first_free, take_name, with_underscore};
+use proto_base::text::Text;
+use proto_desc::field::FieldDesc;
+use proto_desc::oneof::OneofDesc;
+use proto_syntax::tree::{MessageItem, Name};
+use std::alloc::{AllocError, Global};
+use std::collections::BTreeSet;
+
+fn real<'s>(name: &Name<'s>) -> OneofDesc<'s>
+    ensures { result ≡ real_named name.now }
+{
+    OneofDesc {
+        name: Text::borrowed(name.text),
+        place: name.span.start,
+    }
+}
+
+/// The oneofs of the source.
+pub(crate) fn real_oneofs<'s>(
+    alloc: Global,
+    items: &[MessageItem<'s>],
+) -> Result<Vec<OneofDesc<'s>>, AllocError>
+    ensures { IfOk result (λ oneofs. oneofs.items ≡ flat_map real_of items.now) }
+{
+    let mut oneofs = Vec::new(alloc);
+    for item in items {
+        if let MessageItem::Oneof(oneof) = item {
+            oneofs.push(real(&oneof.name))?;
+        }
+    }
+    Ok(oneofs)
+}
+
+/// The names that no oneof that is made may have at first.
+fn taken_names(
+    alloc: Global,
+    fields: &[FieldDesc],
+    oneofs: &[OneofDesc],
+) -> Result<BTreeSet<String>, AllocError>
+    ensures { IfOk result (IsSetOf (names_of_fields fields.now ++ names_of_oneofs oneofs.now)) }
+{
+    let mut taken = BTreeSet::new(alloc);
+    for field in fields {
+        take_name(alloc, &mut taken, field.name.as_str())?;
+    }
+    for oneof in oneofs {
+        take_name(alloc, &mut taken, oneof.name.as_str())?;
+    }
+    Ok(taken)
+}
+
+/// The oneof of an `optional` field, where `most` names are taken.
+fn made<'s>(
+    alloc: Global,
+    field: &FieldDesc<'s>,
+    taken: &BTreeSet<String>,
+    most: usize,
+) -> Result<OneofDesc<'s>, AllocError>
+    ensures { IfOk result (λ oneof. (names : List (List ℕ)) → IsSetOf names taken.now → most ≡ length names → oneof ≡ made_named names field.now) }
+{
+    let start = with_underscore(alloc, field.name.as_str())?;
+    Ok(OneofDesc {
+        name: Text::owned(first_free(alloc, start, taken, most)?),
+        place: field.place,
+    })
+}
+
+fn has_optional(fields: &[FieldDesc]) -> bool
+    ensures { result ≡ list_any (λ f. f.proto3_optional) fields.now }
+{
+    fields.iter().any(|field| field.proto3_optional)
+}
+
+/// Adds the oneofs that fields make. Only where a field makes one does it gather the names.
+pub(crate) fn put_made<'s>(
+    alloc: Global,
+    oneofs: &mut Vec<OneofDesc<'s>>,
+    fields: &[FieldDesc<'s>],
+) -> Result<(), AllocError>
+    ensures { OnOk result (oneofs.new.items ≡ with_made (names_of_fields fields.now) oneofs.old.items fields.now) }
+{
+    if !has_optional(fields) {
+        return Ok(());
+    }
+    let mut taken = taken_names(alloc, fields, oneofs.as_slice())?;
+    for field in fields {
+        if field.proto3_optional {
+            let oneof = made(alloc, field, &taken, fields.len() + oneofs.len())?;
+            take_name(alloc, &mut taken, oneof.name.as_str())?;
+            oneofs.push(oneof)?;
+        }
+    }
+    Ok(())
+}

@@ -1,0 +1,202 @@
+//! Options of an element (`descriptor.proto`, `FileOptions` to `MethodOptions`): of each option that the element may have, the first setting counts, and one whose value is of another kind sets nothing.
+
+ghost use Rattle.std.specs.Prelude.{◌≡◌, IfOk, flat_map, Some};
+ghost use Rattle.std.specs.Option.{option_copied};
+ghost use Rattle.proto_lower.specs.Options.{bracketed, file_setting, message_setting, enum_setting, service_setting, rpc_setting, number_of, value_of, option_by, options_of, json_name_by};
+ghost use Rattle.proto_desc.specs.declared.rules.Element.TheVariants as Element;
+
+use crate::names::json_text;
+use crate::settings::{
+    first_bracketed, first_of_enum, first_of_file, first_of_message, first_of_method,
+    first_of_service,
+};
+use crate::text::{joined, simple_name};
+use proto_base::row::Row;
+use proto_base::text::Text;
+use proto_desc::options::{OptionDesc, OptionValue};
+use proto_desc::rules::{Element, OptionName, OptionRule, ValueKind, rules};
+use proto_syntax::tree::{
+    Constant, EnumItem, FullName, MessageItem, Options, RpcItem, ServiceItem, Setting, Statement,
+};
+use std::alloc::{AllocError, Global};
+
+fn number_of(kind: ValueKind, name: &FullName) -> Option<u64>
+    ensures { result ≡ number_of kind name.now }
+{
+    match simple_name(name) {
+        Some(word) => kind.choice_number(word),
+        None => None,
+    }
+}
+
+fn value_of<'s>(
+    alloc: Global,
+    kind: ValueKind,
+    value: &Constant<'s>,
+) -> Result<Option<OptionValue<'s>>, AllocError>
+    ensures { IfOk result (λ found. found ≡ value_of kind value.now) }
+{
+    match value {
+        Constant::String(text) => match kind {
+            ValueKind::Text => Ok(Some(OptionValue::Text(joined(alloc, text)?))),
+            _ => Ok(None),
+        },
+        Constant::Name(name) => match number_of(kind, name) {
+            Some(number) => Ok(Some(OptionValue::Number(number))),
+            None => Ok(None),
+        },
+        Constant::Number(_) => Ok(None),
+    }
+}
+
+fn set_option<'s>(
+    alloc: Global,
+    number: u32,
+    kind: ValueKind,
+    setting: &Setting<'s>,
+) -> Result<Option<OptionDesc<'s>>, AllocError>
+    ensures { IfOk result (λ option. option ≡ option_by (Some number) kind (Some setting.now)) }
+{
+    match value_of(alloc, kind, &setting.value)? {
+        Some(value) => Ok(Some(OptionDesc {
+            number,
+            value,
+            place: setting.name.first.span.start,
+        })),
+        None => Ok(None),
+    }
+}
+
+/// What a rule's first setting gives.
+fn lower_option<'s>(
+    alloc: Global,
+    rule: &OptionRule,
+    setting: Option<&Setting<'s>>,
+) -> Result<Option<OptionDesc<'s>>, AllocError>
+    ensures { IfOk result (λ option. option ≡ option_by rule.now.number rule.now.kind (option_copied setting.entry)) }
+{
+    match (rule.number, setting) {
+        (Some(number), Some(setting)) => set_option(alloc, number, rule.kind, setting),
+        _ => Ok(None),
+    }
+}
+
+/// The JSON name of a field with these options: what `json_name` sets, or else the one that is made of its name.
+#[tactic(auto, unfolding(crate::specs::Options::json_name_by))]
+pub(crate) fn field_json_name<'s>(
+    alloc: Global,
+    name: &'s str,
+    options: &Option<Options<'s>>,
+) -> Result<Text<'s>, AllocError>
+    ensures { IfOk result (λ json. json ≡ json_name_by (bracketed options.now) name.now) }
+{
+    if let Some(setting) = first_bracketed(options, OptionName::JsonName) {
+        if let Constant::String(value) = &setting.value {
+            return joined(alloc, value);
+        }
+    }
+    json_text(alloc, name)
+}
+
+/// The options of a field or an enum value.
+#[tactic(auto, unfolding(crate::specs::Options::options_of))]
+pub(crate) fn bracketed_options<'s>(
+    alloc: Global,
+    element: Element,
+    options: &Option<Options<'s>>,
+) -> Result<Row<OptionDesc<'s>>, AllocError>
+    ensures { IfOk result (λ set. set ≡ options_of element (bracketed options.now)) }
+{
+    let mut set = Vec::new(alloc);
+    for rule in rules(element) {
+        if let Some(option) = lower_option(alloc, rule, first_bracketed(options, rule.name))? {
+            set.push(option)?;
+        }
+    }
+    Ok(Row::from_vec(set))
+}
+
+/// The options of a file.
+#[tactic(auto, unfolding(crate::specs::Options::options_of))]
+pub(crate) fn file_options<'s>(
+    alloc: Global,
+    items: &[Statement<'s>],
+) -> Result<Row<OptionDesc<'s>>, AllocError>
+    ensures { IfOk result (λ set. set ≡ options_of Element.File (flat_map file_setting items.now)) }
+{
+    let mut set = Vec::new(alloc);
+    for rule in rules(Element::File) {
+        if let Some(option) = lower_option(alloc, rule, first_of_file(items, rule.name))? {
+            set.push(option)?;
+        }
+    }
+    Ok(Row::from_vec(set))
+}
+
+/// The options of a message.
+#[tactic(auto, unfolding(crate::specs::Options::options_of))]
+pub(crate) fn message_options<'s>(
+    alloc: Global,
+    items: &[MessageItem<'s>],
+) -> Result<Row<OptionDesc<'s>>, AllocError>
+    ensures { IfOk result (λ set. set ≡ options_of Element.Message (flat_map message_setting items.now)) }
+{
+    let mut set = Vec::new(alloc);
+    for rule in rules(Element::Message) {
+        if let Some(option) = lower_option(alloc, rule, first_of_message(items, rule.name))? {
+            set.push(option)?;
+        }
+    }
+    Ok(Row::from_vec(set))
+}
+
+/// The options of an enum.
+#[tactic(auto, unfolding(crate::specs::Options::options_of))]
+pub(crate) fn enum_options<'s>(
+    alloc: Global,
+    items: &[EnumItem<'s>],
+) -> Result<Row<OptionDesc<'s>>, AllocError>
+    ensures { IfOk result (λ set. set ≡ options_of Element.Enum (flat_map enum_setting items.now)) }
+{
+    let mut set = Vec::new(alloc);
+    for rule in rules(Element::Enum) {
+        if let Some(option) = lower_option(alloc, rule, first_of_enum(items, rule.name))? {
+            set.push(option)?;
+        }
+    }
+    Ok(Row::from_vec(set))
+}
+
+/// The options of a service.
+#[tactic(auto, unfolding(crate::specs::Options::options_of))]
+pub(crate) fn service_options<'s>(
+    alloc: Global,
+    items: &[ServiceItem<'s>],
+) -> Result<Row<OptionDesc<'s>>, AllocError>
+    ensures { IfOk result (λ set. set ≡ options_of Element.Service (flat_map service_setting items.now)) }
+{
+    let mut set = Vec::new(alloc);
+    for rule in rules(Element::Service) {
+        if let Some(option) = lower_option(alloc, rule, first_of_service(items, rule.name))? {
+            set.push(option)?;
+        }
+    }
+    Ok(Row::from_vec(set))
+}
+
+/// The options of a method.
+#[tactic(auto, unfolding(crate::specs::Options::options_of))]
+pub(crate) fn method_options<'s>(
+    alloc: Global,
+    items: &[RpcItem<'s>],
+) -> Result<Row<OptionDesc<'s>>, AllocError>
+    ensures { IfOk result (λ set. set ≡ options_of Element.Method (flat_map rpc_setting items.now)) }
+{
+    let mut set = Vec::new(alloc);
+    for rule in rules(Element::Method) {
+        if let Some(option) = lower_option(alloc, rule, first_of_method(items, rule.name))? {
+            set.push(option)?;
+        }
+    }
+    Ok(Row::from_vec(set))
+}

@@ -1,0 +1,63 @@
+//! Services and methods (language guide, "Defining Services").
+
+ghost use Rattle.std.specs.Prelude.{◌≡◌, IfOk, flat_map};
+ghost use Rattle.proto_lower.specs.Services.{rpc_items, method_desc, method_of, lowered_service};
+
+use crate::options::{method_options, service_options};
+use crate::type_name::type_reference;
+use proto_base::row::Row;
+use proto_base::text::Text;
+use proto_desc::service::{MethodDesc, ServiceDesc};
+use proto_syntax::tree::{Rpc, RpcBody, RpcItem, Service, ServiceItem};
+use std::alloc::{AllocError, Global};
+
+fn rpc_items<'t, 's>(body: &'t RpcBody<'s>) -> &'t [RpcItem<'s>]
+    ensures { result.now ≡ rpc_items body.now }
+{
+    match body {
+        RpcBody::Semicolon(_) => &[],
+        RpcBody::Block(block) => block.items.as_slice(),
+    }
+}
+
+fn lower_method<'s>(alloc: Global, rpc: &Rpc<'s>) -> Result<MethodDesc<'s>, AllocError>
+    ensures { IfOk result (λ method. method ≡ method_desc rpc.now) }
+{
+    Ok(MethodDesc {
+        name: Text::borrowed(rpc.name.text),
+        place: rpc.name.span.start,
+        input: type_reference(alloc, &rpc.input.name)?,
+        output: type_reference(alloc, &rpc.output.name)?,
+        options: method_options(alloc, rpc_items(&rpc.body))?,
+        client_streaming: rpc.input.stream.is_some(),
+        server_streaming: rpc.output.stream.is_some(),
+    })
+}
+
+fn methods<'s>(alloc: Global, items: &[ServiceItem<'s>]) -> Result<Vec<MethodDesc<'s>>, AllocError>
+    ensures { IfOk result (λ methods. methods.items ≡ flat_map method_of items.now) }
+{
+    let mut methods = Vec::new(alloc);
+    for item in items {
+        if let ServiceItem::Rpc(rpc) = item {
+            methods.push(lower_method(alloc, rpc)?)?;
+        }
+    }
+    Ok(methods)
+}
+
+/// The descriptor of a service.
+pub(crate) fn lower_service<'s>(
+    alloc: Global,
+    service: &Service<'s>,
+) -> Result<ServiceDesc<'s>, AllocError>
+    ensures { IfOk result (λ made. made ≡ lowered_service service.now) }
+{
+    let items = service.items.as_slice();
+    Ok(ServiceDesc {
+        name: Text::borrowed(service.name.text),
+        place: service.name.span.start,
+        methods: Row::from_vec(methods(alloc, items)?),
+        options: service_options(alloc, items)?,
+    })
+}

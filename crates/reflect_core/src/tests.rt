@@ -1,4 +1,0 @@
-//! Requests and bodies by hand, each call with ample memory.
-
-mod frames;
-mod requests;

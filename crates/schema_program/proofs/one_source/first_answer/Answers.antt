@@ -1,0 +1,10 @@
+use Rattle.std.proofs.Common.{◌∙◌}
+use Rattle.schema_program.proofs.Describing.{described, is_linked}
+use Rattle.schema_program.proofs.one_source.first_answer.Goals as goal
+
+pub bytes_at-bytes-requires : goal.bytes_at-bytes-requires
+bytes_at-bytes-requires g c = is_linked c.args.limits.now c.args.source c.in_ok-compiled.compiled c.in_ok-compiled.ensures.compiled
+
+pub returns-clause-described : goal.returns-clause-described
+returns-clause-described g c =
+    described c.args.limits.now c.args.source c.in_ok-compiled.compiled c.in_ok-from_slice.field-0.items c.in_ok-compiled.ensures.compiled (c.in_ok-from_slice.ensures.items ∙ c.bytes_at-bytes.ensures)

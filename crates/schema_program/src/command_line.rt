@@ -1,0 +1,100 @@
+//! The command line, read by `clap`.
+
+use clap::error::ErrorKind;
+use clap::{Arg, ArgMatches, Command, Error, value_parser};
+use share_work::Plan;
+use std::alloc::{AllocError, Global};
+
+/// What one run is to do.
+#[derive(Drop)]
+pub(crate) enum Task<'a> {
+    /// Describe the source on the input, under this file name.
+    Describe { name: &'a str },
+    /// Compile the sources below a folder.
+    Compile { root: &'a str, plan: Plan },
+}
+
+fn describe_command<'a>(alloc: Global) -> Result<Command<'a>, AllocError> {
+    let name = Arg::new(alloc, "name")
+        .value_name("NAME")
+        .required(true)
+        .help("the name of the file, as an import would write it");
+    Command::new(alloc, "describe")
+        .about(
+            "Reads one proto3 source from standard input and prints its FileDescriptorProto in hexadecimal digits",
+        )
+        .arg(name)
+}
+
+fn root_argument<'a>(alloc: Global) -> Arg<'a> {
+    Arg::new(alloc, "root")
+        .long("root")
+        .value_name("DIR")
+        .required(true)
+        .help(
+            "the folder: every file below it that ends in .proto is a source, named by its path from there",
+        )
+}
+
+/// An argument of this name, a number from 1 to `most`.
+fn count_argument<'a>(
+    alloc: Global,
+    name: &'a str,
+    most: i64,
+    default: &'a str,
+    help: &'a str,
+) -> Arg<'a> {
+    Arg::new(alloc, name)
+        .long(name)
+        .value_name("N")
+        .default_value(default)
+        .value_parser(value_parser!(u32).range(1..=most))
+        .help(help)
+}
+
+/// The command with the arguments that make a plan.
+fn with_plan<'a>(alloc: Global, command: Command<'a>) -> Result<Command<'a>, AllocError> {
+    let workers_help = "how many workers share the work, 1 to 64";
+    let cut_help = "how many files a worker takes at a time, 1 to 4096";
+    command
+        .arg(count_argument(alloc, "workers", 64, "4", workers_help))?
+        .arg(count_argument(alloc, "cut", 4096, "16", cut_help))
+}
+
+fn compile_command<'a>(alloc: Global) -> Result<Command<'a>, AllocError> {
+    let command = Command::new(alloc, "compile")
+        .about("Compiles the proto3 sources below a folder and writes their FileDescriptorSet")
+        .arg(root_argument(alloc))?;
+    with_plan(alloc, command)
+}
+
+/// The plan that the words ask for. The parser of the words lets no others through than there are plans.
+fn plan_of(matches: &ArgMatches<'_>) -> Plan {
+    let workers = matches.get_one::<u32>("workers").unwrap_or(1);
+    let cut = matches.get_one::<u32>("cut").unwrap_or(1);
+    Plan::new(workers, cut).unwrap_or(Plan::single())
+}
+
+fn whole_command<'a>(alloc: Global) -> Result<Command<'a>, AllocError> {
+    Command::new(alloc, "schema_server")
+        .about("A schema server for Protocol Buffers: compiles proto3 sources to descriptors")
+        .subcommand_required(true)
+        .subcommand(describe_command(alloc)?)?
+        .subcommand(compile_command(alloc)?)
+}
+
+/// The task that the words give, whose first is the program's name, or `clap`'s text for the user.
+pub(crate) fn task_of<'a>(alloc: Global, words: &'a [&'a str]) -> Result<Task<'a>, Error> {
+    let mut command = whole_command(alloc)?;
+    let matches = command.try_get_matches_from_mut(words)?;
+    match matches.subcommand() {
+        Some(("describe", describe)) => Ok(Task::Describe {
+            name: describe.get_str("name").unwrap_or(""),
+        }),
+        Some(("compile", compile)) => Ok(Task::Compile {
+            root: compile.get_str("root").unwrap_or(""),
+            plan: plan_of(compile),
+        }),
+        _ => Err(command.error(ErrorKind::MissingSubcommand, "no command was given")?),
+    }
+}

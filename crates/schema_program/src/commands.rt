@@ -1,0 +1,96 @@
+//! The commands: what each reads, and what it writes.
+
+use crate::failure::{Failure, located};
+use crate::one_source::describe;
+use proto_base::{Limit, Limits};
+use proto_compile::{CompileError, Source, compile};
+use share_work::{NoGate, Plan};
+use source_folder::{NamedText, read_folder};
+use std::alloc::{AllocError, AllocGlobal, Global};
+use std::io::{self, Read, Write};
+use std::rt::Files;
+use std::thread::Threads;
+
+/// The whole of the input, or one byte more than a source may have.
+fn read_source<I: Read + Drop>(
+    alloc: Global,
+    input: I,
+    limits: &Limits,
+) -> Result<Vec<u8>, Failure> {
+    let mut source = Vec::new(alloc);
+    let mut limited = input.take(limits.get(Limit::FileBytes) + 1);
+    match limited.read_to_end(&mut source) {
+        Ok(_) => Ok(source),
+        Err(error) if error.kind() == io::ErrorKind::OutOfMemory => Err(Failure::NoMemory),
+        Err(_) => Err(Failure::Input),
+    }
+}
+
+fn write_line<O: Write>(output: &mut O, line: &str) -> Result<(), Failure> {
+    if writeln!(output, "{line}").is_err() || output.flush().is_err() {
+        return Err(Failure::Output);
+    }
+    Ok(())
+}
+
+fn write_bytes<O: Write>(output: &mut O, bytes: &[u8]) -> Result<(), Failure> {
+    if output.write_all(bytes).is_err() || output.flush().is_err() {
+        return Err(Failure::Output);
+    }
+    Ok(())
+}
+
+/// Describes the source on the input.
+pub(crate) fn run_describe<R, I, O>(
+    rt: &R,
+    name: &str,
+    input: I,
+    output: &mut O,
+) -> Result<(), Failure>
+where
+    R: Threads + AllocGlobal + Sync,
+    I: Read + Drop,
+    O: Write,
+{
+    let limits = Limits::standard();
+    let text = read_source(rt.alloc(), input, &limits)?;
+    let source = Source { name, text: &text };
+    match describe(rt, source.name, source.text, &limits) {
+        Ok(bytes) => write_line(output, hex::encode(rt.alloc(), bytes)?.as_str()),
+        Err(CompileError::NoMemory) => Err(Failure::NoMemory),
+        Err(CompileError::First(fault)) => Err(located(fault, &[source])),
+    }
+}
+
+/// The sources that are read texts.
+fn sources_of<'s>(alloc: Global, texts: &'s [NamedText]) -> Result<Vec<Source<'s>>, AllocError> {
+    let mut sources = Vec::with_capacity(alloc, texts.len())?;
+    for text in texts {
+        sources.push(Source {
+            name: text.name.as_str(),
+            text: text.text.as_slice(),
+        })?;
+    }
+    Ok(sources)
+}
+
+/// Compiles the sources below a folder.
+pub(crate) fn run_compile<R, O>(
+    rt: &R,
+    root: &str,
+    plan: Plan,
+    output: &mut O,
+) -> Result<(), Failure>
+where
+    R: Threads + Files + AllocGlobal + Sync,
+    O: Write,
+{
+    let limits = Limits::standard();
+    let texts = read_folder(rt, root, &limits)?;
+    let sources = sources_of(rt.alloc(), &texts)?;
+    match compile(rt, &sources, &limits, plan, &NoGate) {
+        Ok(compiled) => write_bytes(output, &compiled.set_bytes(rt.alloc())?),
+        Err(CompileError::NoMemory) => Err(Failure::NoMemory),
+        Err(CompileError::First(fault)) => Err(located(fault, &sources)),
+    }
+}

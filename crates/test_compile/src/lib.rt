@@ -1,0 +1,5 @@
+//! Tests of compiling lists of sources.
+#![tactic(auto)]
+
+#[cfg(test)]
+mod tests;

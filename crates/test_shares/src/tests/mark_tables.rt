@@ -1,0 +1,116 @@
+//! Marks over the reach of two files, of which file 0 reaches both and file 1 itself.
+
+ghost use Rattle.std.specs.Prelude.{◌≡◌, ◌<◌};
+ghost use Rattle.test_shares.specs.SmallReach.{two};
+
+use share_work::{MarkSeat, MarkTable, NONE, Reach};
+use std::test::Fail;
+use std::thread::{Threads, join_mut};
+
+#[derive(Drop)]
+struct Two;
+
+impl Reach for Two {
+    ghost use Rattle.std.specs.Prelude.{[], ◌∷◌};
+    ghost use Rattle.test_shares.specs.SmallReach.{two, two_within, two_short, two_reflexive, two_transitive};
+
+    ghost files = { λ _. 2 };
+
+    ghost list = { λ _. two };
+
+    fn count(&self) -> usize {
+        2
+    }
+
+    fn reached(&self, root: usize, k: usize) -> Option<usize> {
+        if root == 0 && k < 2 {
+            Some(k)
+        } else if root == 1 && k == 0 {
+            Some(1)
+        } else {
+            None
+        }
+    }
+
+    ghost within = { λ s r g h e. two_within r g e };
+
+    ghost short = { λ s r h. two_short r };
+
+    ghost reflexive = { λ s r h. two_reflexive r h };
+
+    ghost transitive = { λ s r g h a b c. two_transitive r g h b c };
+}
+
+/// Marks file 0.
+fn mark_first(table: &MarkTable<'_, Two>, seat: &mut MarkSeat, number: u64)
+    requires { (seat.old.table ≡ table.now.table) × (number < NONE) }
+    ensures { seat.new.table ≡ seat.old.table }
+{
+    table.mark(seat, 0, number);
+}
+
+/// Marks file 0 in two threads.
+fn mark_both<R: Threads>(
+    rt: &R,
+    table: &MarkTable<'_, Two>,
+    seat: &mut MarkSeat,
+    other: &mut MarkSeat,
+)
+    requires { (seat.old.table ≡ table.now.table) × (other.old.table ≡ table.now.table) }
+    ensures { (seat.new.table ≡ seat.old.table) × (other.new.table ≡ other.old.table) }
+{
+    let mut here = || -> ()
+        requires { seat.now.table ≡ table.now.table }
+        ensures { seat.exit.now.table ≡ seat.entry.now.table }
+    { mark_first(table, seat, 5) };
+    let mut there = || -> ()
+        requires { other.now.table ≡ table.now.table }
+        ensures { other.exit.now.table ≡ other.entry.now.table }
+    { mark_first(table, other, 3) };
+    join_mut(rt, &mut here, &mut there);
+}
+
+#[test]
+fn one_seat(rt: HostRuntime) -> Result<(), Fail> {
+    let reach = Two;
+    let (table, mut seat) = MarkTable::new(rt.alloc(), &reach)?;
+    let rows = [(0, 5, NONE), (0, 7, 5), (1, 3, 5), (0, 4, 5)];
+    for (root, number, found) in rows {
+        assert!(rt; root < 2 && number < NONE);
+        let answer = table.mark(&mut seat, root, number);
+        assert_eq!(rt; answer, found, "{root}, {number}");
+    }
+    let Ok(words) = table.close(seat) else {
+        panic!(rt; "not closed")
+    };
+    assert_eq!(rt; [words.get(0), words.get(1)], [4, 3]);
+    Ok(())
+}
+
+#[test]
+fn two_threads(rt: HostRuntime) -> Result<(), Fail> {
+    let reach = Two;
+    let (table, mut seat) = MarkTable::new(rt.alloc(), &reach)?;
+    let mut other = table.split(&mut seat, 1);
+    assert_eq!(rt; (seat.parts(), other.parts()), ((1 << 32) - 1, 1));
+    mark_both(&rt, &table, &mut seat, &mut other);
+    let Err((table, mut seat)) = table.close(seat) else {
+        panic!(rt; "closed before the join")
+    };
+    table.join(&mut seat, other);
+    let Ok(words) = table.close(seat) else {
+        panic!(rt; "not closed after the join")
+    };
+    assert_eq!(rt; [words.get(0), words.get(1)], [3, 3]);
+    Ok(())
+}
+
+/// A seat that is split off and dropped keeps the table open.
+#[test]
+fn dropped_seat(rt: HostRuntime) -> Result<(), Fail> {
+    let reach = Two;
+    let (table, mut seat) = MarkTable::new(rt.alloc(), &reach)?;
+    drop(table.split(&mut seat, 7));
+    assert!(rt; table.close(seat).is_err());
+    Ok(())
+}

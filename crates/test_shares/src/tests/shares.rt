@@ -1,0 +1,337 @@
+//! Works in shares: the order of the outs, each worker's items, threads that meet, and a work that is refused.
+
+ghost use Rattle.std.specs.Prelude.{⊤, ◌≡◌, ◌<◌, All, IfOk, IfSome, length};
+
+use share_work::{Gate, LeastSeat, LeastTable, NoGate, Plan, Work, in_shares};
+use std::alloc::{AllocError, AllocGlobal, Global};
+use std::process::Abort;
+use std::sync::atomic::{AtomicU64, Ordering};
+use std::test::Fail;
+use std::thread::Threads;
+
+/// How often a thread looks for the other before the test fails.
+const TURNS: u64 = 1_000_000_000;
+
+/// Gives each item, and keeps its place in the seat.
+struct Places;
+
+impl Work<u32> for Places {
+    type Out = u32;
+
+    type Seat = Vec<usize>;
+
+    ghost takes = { λ _ _ _. ⊤ };
+
+    ghost fits = { λ _ _. ⊤ };
+
+    ghost gives = { λ _ _ _ _. ⊤ };
+
+    ghost number = { λ _ _. 0 };
+
+    ghost holds = { λ _ _ _ _. ⊤ };
+
+    ghost adds = { λ _ _ _ _ _. ⊤ };
+
+    fn piece(
+        &self,
+        alloc: Global,
+        seat: &mut Vec<usize>,
+        first: usize,
+        items: &[u32],
+    ) -> Result<Vec<u32>, AllocError> {
+        for offset in 0..items.len() {
+            seat.push(first.wrapping_add(offset))?;
+        }
+        Vec::from_slice(alloc, items)
+    }
+}
+
+/// Counts the pieces that enter, and keeps a bit for each of the first 64 and the bits of the phases.
+#[derive(Drop)]
+struct Entries {
+    count: AtomicU64,
+    pieces: AtomicU64,
+    phases: AtomicU64,
+}
+
+impl Entries {
+    fn new() -> Entries {
+        Entries {
+            count: AtomicU64::new(0),
+            pieces: AtomicU64::new(0),
+            phases: AtomicU64::new(0),
+        }
+    }
+}
+
+impl Gate for Entries {
+    fn enter(&self, phase: u8, piece: u64) {
+        self.count.fetch_add(1, Ordering::SeqCst);
+        if piece < 64 {
+            self.pieces.fetch_or(1 << piece, Ordering::SeqCst);
+        }
+        self.phases.fetch_or(phase as u64, Ordering::SeqCst);
+    }
+}
+
+/// As many empty seats as the plan has workers.
+fn seats_of(alloc: Global, plan: Plan) -> Result<Vec<Vec<usize>>, AllocError>
+    ensures { IfOk result (λ v. length v.items ≡ plan.workers) }
+{
+    let mut seats = Vec::new(alloc);
+    for _worker in 0..plan.workers() {
+        seats.push(Vec::new(alloc))?;
+    }
+    Ok(seats)
+}
+
+/// Shares out that many items in phase 4, compares the outs with them, and gives each worker's places.
+fn shared<R: Threads + AllocGlobal + Abort + Sync>(
+    rt: &R,
+    workers: u32,
+    cut: u32,
+    count: u32,
+    gate: &Entries,
+) -> Result<Vec<Vec<usize>>, Fail> {
+    let plan = Plan::new(workers, cut).ok_or("a plan")?;
+    let mut items: Vec<u32> = Vec::new(rt.alloc());
+    for i in 0..count {
+        items.push(i.wrapping_mul(7))?;
+    }
+    let mut seats = seats_of(rt.alloc(), plan)?;
+    let outs = in_shares(
+        rt,
+        plan,
+        4,
+        gate,
+        items.as_slice(),
+        &Places,
+        seats.as_mut_slice(),
+    )?;
+    assert_eq!(rt; outs, items, "{workers} workers, cut {cut}, {count} items");
+    Ok(seats)
+}
+
+/// The outs come in the order of the items, and each piece enters the gate once.
+#[test]
+fn outs_in_order(rt: HostRuntime) -> Result<(), Fail> {
+    let rows = [
+        (1, 1, 1_000, 1_000),
+        (2, 1, 1_000, 1_000),
+        (3, 7, 1_000, 143),
+        (64, 16, 1_000, 63),
+        (64, 4_096, 1_000, 1),
+        (5, 1_000, 1_000, 1),
+        (3, 2, 0, 0),
+    ];
+    for (workers, cut, count, pieces) in rows {
+        let gate = Entries::new();
+        shared(&rt, workers, cut, count, &gate)?;
+        let entered = gate.count.load(Ordering::SeqCst);
+        assert_eq!(rt;
+            entered,
+            pieces,
+            "{workers} workers, cut {cut}, {count} items"
+        );
+    }
+    // Eleven items in pieces of two, for three workers: pieces 0 and 3, 1 and 4, 2 and 5.
+    let gate = Entries::new();
+    let seats = shared(&rt, 3, 2, 11, &gate)?;
+    let rows: [&[usize]; 3] = [&[0, 1, 6, 7], &[2, 3, 8, 9], &[4, 5, 10]];
+    assert_eq!(rt; seats.len(), rows.len());
+    for (seat, places) in seats.iter().zip(rows) {
+        assert_eq!(rt; seat.as_slice(), places);
+    }
+    assert_eq!(rt; gate.count.load(Ordering::SeqCst), 6);
+    assert_eq!(rt; gate.pieces.load(Ordering::SeqCst), 0b11_1111);
+    assert_eq!(rt; gate.phases.load(Ordering::SeqCst), 4);
+    Ok(())
+}
+
+/// Lets item 0 wait until item 1 has begun, either as the gate of their pieces or as the work.
+#[derive(Drop)]
+struct Meeting {
+    at_gate: bool,
+    begun: AtomicU64,
+    missed: AtomicU64,
+}
+
+impl Meeting {
+    fn new(at_gate: bool) -> Meeting {
+        Meeting {
+            at_gate,
+            begun: AtomicU64::new(0),
+            missed: AtomicU64::new(0),
+        }
+    }
+
+    fn come(&self, place: u64) {
+        if place == 1 {
+            self.begun.store(1, Ordering::SeqCst);
+        }
+        if place == 0 {
+            for _ in 0..TURNS {
+                if self.begun.load(Ordering::SeqCst) == 1 {
+                    return;
+                }
+            }
+            self.missed.store(1, Ordering::SeqCst);
+        }
+    }
+}
+
+impl Gate for Meeting {
+    fn enter(&self, _phase: u8, piece: u64) {
+        if self.at_gate {
+            self.come(piece);
+        }
+    }
+}
+
+impl Work<u32> for Meeting {
+    type Out = u32;
+
+    type Seat = Vec<usize>;
+
+    ghost takes = { λ _ _ _. ⊤ };
+
+    ghost fits = { λ _ _. ⊤ };
+
+    ghost gives = { λ _ _ _ _. ⊤ };
+
+    ghost number = { λ _ _. 0 };
+
+    ghost holds = { λ _ _ _ _. ⊤ };
+
+    ghost adds = { λ _ _ _ _ _. ⊤ };
+
+    fn piece(
+        &self,
+        alloc: Global,
+        _seat: &mut Vec<usize>,
+        first: usize,
+        items: &[u32],
+    ) -> Result<Vec<u32>, AllocError> {
+        if !self.at_gate {
+            self.come(first as u64);
+        }
+        Vec::from_slice(alloc, items)
+    }
+}
+
+/// The first of two items can end only where the other one's worker is at work beside it.
+#[test]
+fn workers_meet(rt: HostRuntime) -> Result<(), Fail> {
+    for at_gate in [false, true] {
+        let plan = Plan::new(2, 1).ok_or("a plan")?;
+        let mut seats = seats_of(rt.alloc(), plan)?;
+        let meeting = Meeting::new(at_gate);
+        let outs = in_shares(
+            &rt,
+            plan,
+            1,
+            &meeting,
+            &[5, 6],
+            &meeting,
+            seats.as_mut_slice(),
+        )?;
+        assert_eq!(rt; outs.as_slice(), [5, 6].as_slice());
+        assert_eq!(rt;
+            meeting.missed.load(Ordering::SeqCst),
+            0,
+            "at the gate: {at_gate}"
+        );
+    }
+    Ok(())
+}
+
+/// Posts numbers at word 0, and has no memory for one of them.
+#[derive(Drop)]
+struct Posting<'t> {
+    table: &'t LeastTable,
+    refused: u64,
+}
+
+impl Work<u64> for Posting<'_> {
+    ghost use Rattle.std.specs.Prelude.{⊤, ◌≡◌, ◌<◌, All, IfSome};
+    ghost use Rattle.share_work.specs.Posts.{NONE};
+
+    type Out = u64;
+
+    type Seat = LeastSeat;
+
+    ghost takes = { λ _ _ number. number < NONE };
+
+    ghost fits = { λ w s. (s.table ≡ w.table.now.table) × (0 < w.table.now.count) };
+
+    ghost gives = { λ _ _ _ _. ⊤ };
+
+    ghost number = { λ _ s. s.view.parts };
+
+    ghost holds = { λ _ _ _ _. ⊤ };
+
+    ghost adds = { λ _ _ _ _ _. ⊤ };
+
+    fn piece(
+        &self,
+        alloc: Global,
+        seat: &mut LeastSeat,
+        _first: usize,
+        items: &[u64],
+    ) -> Result<Vec<u64>, AllocError> {
+        for number in items {
+            if *number == self.refused {
+                return Err(AllocError);
+            }
+            self.table.post(seat, 0, *number);
+        }
+        Vec::from_slice(alloc, items)
+    }
+}
+
+/// All seats in one.
+fn join_seats(table: &LeastTable, seats: Vec<LeastSeat>) -> Option<LeastSeat>
+    requires { All (λ s. s.table ≡ table.now.table) seats.items }
+    ensures { IfSome result (λ s. s.table ≡ table.now.table) }
+{
+    let mut seats = seats;
+    let mut seat = seats.pop()?;
+    while let Some(other) = seats.pop() {
+        table.join(&mut seat, other);
+    }
+    Some(seat)
+}
+
+/// After a refusal the lent seats, joined, close their table.
+#[test]
+fn seats_after_a_refusal(rt: HostRuntime) -> Result<(), Fail> {
+    for (refused, least) in [(3, 5), (9, 3), (100, 3)] {
+        let plan = Plan::new(2, 1).ok_or("a plan")?;
+        let (table, mut seat) = LeastTable::new(rt.alloc(), 1)?;
+        let mut seats = Vec::new(rt.alloc());
+        seats.push(table.split(&mut seat, 1))?;
+        seats.push(seat)?;
+        let shared = &table;
+        let work = Posting {
+            table: shared,
+            refused,
+        };
+        assert_eq!(rt; seats.len(), plan.workers() as usize);
+        let outs = in_shares(
+            &rt,
+            plan,
+            1,
+            &NoGate,
+            &[9, 3, 5],
+            &work,
+            seats.as_mut_slice(),
+        );
+        assert_eq!(rt; outs.is_err(), refused < 100, "{refused}");
+        let seat = join_seats(shared, seats).ok_or("a seat")?;
+        let Ok(words) = table.close(seat) else {
+            panic!(rt; "{refused}: not closed")
+        };
+        assert_eq!(rt; words.get(0), least, "{refused}");
+    }
+    Ok(())
+}

@@ -1,0 +1,145 @@
+//! Places, kinds, limits and faults, and the list and the text of trees.
+
+use proto_base::row::Row;
+use proto_base::text::Text;
+use proto_base::{Fault, Kind, Limit, Limits, Place, line_column};
+use std::borrow::CowStr;
+use std::test::Fail;
+
+/// Texts, offsets in them, and the lines and columns there.
+static PLACES: [(&[u8], u32, (u32, u32)); 11] = [
+    (b"", 0, (1, 1)),
+    (b"ab", 0, (1, 1)),
+    (b"ab", 2, (1, 3)),
+    (b"a\nb", 1, (1, 2)),
+    (b"a\nb", 2, (2, 1)),
+    (b"a\nb", 3, (2, 2)),
+    (b"\n\n", 2, (3, 1)),
+    (b"a\r\nb", 2, (1, 3)),
+    (b"a\r\nb", 3, (2, 1)),
+    (b"\n\xC3\xA9x", 3, (2, 3)),
+    (b"\xEF\xBB\xBFa", 3, (1, 4)),
+];
+
+static KINDS: [(Kind, u8, &str); 14] = [
+    (Kind::NotUtf8, 1, "NotUtf8"),
+    (Kind::BadByte, 2, "BadByte"),
+    (Kind::FileTooLong, 8, "FileTooLong"),
+    (Kind::Unexpected, 10, "Unexpected"),
+    (Kind::UnexpectedEnd, 14, "UnexpectedEnd"),
+    (Kind::NotProto3Syntax, 20, "NotProto3Syntax"),
+    (Kind::ReservedBackwards, 32, "ReservedBackwards"),
+    (Kind::NameTooLong, 41, "NameTooLong"),
+    (Kind::ImportMissing, 50, "ImportMissing"),
+    (Kind::ImportCycle, 51, "ImportCycle"),
+    (Kind::NameTwice, 60, "NameTwice"),
+    (Kind::FileNameTwice, 63, "FileNameTwice"),
+    (Kind::TypeNotFound, 70, "TypeNotFound"),
+    (Kind::SetTooLong, 74, "SetTooLong"),
+];
+
+static LIMITS: [(Limit, u64); 11] = [
+    (Limit::FileBytes, 4_194_304),
+    (Limit::Files, 4_096),
+    (Limit::Depth, 32),
+    (Limit::NameBytes, 255),
+    (Limit::FullNameBytes, 1_023),
+    (Limit::Names, 1_048_576),
+    (Limit::DescriptorBytes, 16_777_216),
+    (Limit::SetBytes, 1_073_741_824),
+    (Limit::BodyBytes, 1_048_576),
+    (Limit::MessageBytes, 65_536),
+    (Limit::Requests, 16_384),
+];
+
+/// Faults in their order: pass, file, step, place, kind.
+static FAULTS: [(u8, &str, u8, u32, Kind); 11] = [
+    (0, "", 0, 0, Kind::TooManyFiles),
+    (0, "a", 0, 0, Kind::FileNameTwice),
+    (1, "Z", 2, 9, Kind::NameTooLong),
+    (1, "a", 0, 5, Kind::FileTooLong),
+    (1, "a", 1, 0, Kind::UnexpectedEnd),
+    (1, "a", 1, 3, Kind::Unexpected),
+    (1, "a", 1, 3, Kind::UnexpectedEnd),
+    (1, "a", 1, 4, Kind::Unexpected),
+    (1, "a.b", 0, 0, Kind::NotUtf8),
+    (1, "\u{e9}", 0, 0, Kind::NotUtf8),
+    (2, "", 0, 0, Kind::ImportMissing),
+];
+
+#[test]
+fn places_and_kinds(rt: HostRuntime) -> Result<(), Fail> {
+    for (text, offset, wanted) in &PLACES {
+        let place = Place { offset: *offset };
+        assert!(rt;
+            *offset as usize <= text.len() && *offset < 100,
+            "at {text:?}"
+        );
+        assert_eq!(rt; line_column(text, place), *wanted, "{offset} of {text:?}");
+    }
+    for (kind, number, name) in &KINDS {
+        assert_eq!(rt; kind.number(), *number, "{name}");
+        assert_eq!(rt; kind.name(), *name);
+        assert_eq!(rt; format!(in rt.alloc(); "{kind}")?.as_str(), *name);
+    }
+    Ok(())
+}
+
+#[test]
+fn limits(rt: HostRuntime) -> Result<(), Fail> {
+    let standard = Limits::standard();
+    for (limit, value) in &LIMITS {
+        let (limit, value) = (*limit, *value);
+        assert_eq!(rt; standard.get(limit), value, "{limit:?}");
+        let same = standard.lowered(limit, value).ok_or("a limit")?;
+        assert_eq!(rt; same.get(limit), value, "{limit:?}");
+        assert!(rt;
+            standard.lowered(limit, value.saturating_add(1)).is_none(),
+            "{limit:?}"
+        );
+        assert!(rt; standard.lowered(limit, 0).is_none(), "{limit:?}");
+        let lower = standard.lowered(limit, 1).ok_or("a limit")?;
+        assert_eq!(rt; lower.get(limit), 1, "{limit:?}");
+        assert!(rt; lower.lowered(limit, 2).is_none(), "{limit:?}");
+    }
+    Ok(())
+}
+
+#[test]
+fn order_of_faults(rt: HostRuntime) -> Result<(), Fail> {
+    let mut faults = Vec::new(rt.alloc());
+    for (pass, file, step, offset, kind) in &FAULTS {
+        faults.push(Fault {
+            pass: *pass,
+            file: String::from_str(rt.alloc(), file)?,
+            step: *step,
+            place: Place { offset: *offset },
+            kind: *kind,
+        })?;
+    }
+    for (i, earlier) in faults.iter().enumerate() {
+        for (j, later) in faults.iter().enumerate() {
+            assert_eq!(rt; earlier.order(later), i.cmp(&j), "{i} and {j}");
+        }
+    }
+    Ok(())
+}
+
+#[test]
+fn rows_and_texts(rt: HostRuntime) -> Result<(), Fail> {
+    let none: Row<u8> = Row::new(rt.alloc());
+    assert!(rt; none.is_empty());
+    let row = Row::from_vec([1, 2, 3].to_vec(rt.alloc())?);
+    assert_eq!(rt; row.len(), 3);
+    assert!(rt; !row.is_empty());
+    assert_eq!(rt; row.as_slice(), [1, 2, 3].as_slice());
+    assert_eq!(rt; row.iter().position(|item| *item == 2), Some(1));
+    assert_eq!(rt; row.into_vec().as_slice(), [1, 2, 3].as_slice());
+    let owned = Text::owned(String::from_str(rt.alloc(), "ab")?);
+    for (text, borrows) in [(Text::borrowed("ab"), true), (owned, false)] {
+        let copy = text.try_clone(rt.alloc())?;
+        assert_eq!(rt; copy.as_str(), "ab");
+        assert_eq!(rt; matches!(&copy.into_cow(), CowStr::Borrowed(_)), borrows);
+    }
+    Ok(())
+}

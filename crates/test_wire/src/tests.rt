@@ -1,0 +1,6 @@
+//! Worked bytes, each call with ample memory.
+
+mod descriptors;
+mod fields;
+mod frames;
+mod requests;

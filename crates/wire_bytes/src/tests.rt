@@ -1,3 +1,0 @@
-//! Worked bytes of descriptors that are made by hand.
-
-mod named;

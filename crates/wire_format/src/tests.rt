@@ -1,4 +1,0 @@
-//! Worked bytes, each call with ample memory.
-
-mod reading;
-mod wire;

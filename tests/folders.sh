@@ -1,0 +1,61 @@
+#!/usr/bin/env bash
+# Each folder of folders.txt compiled by the built program with every plan: its set, or its first fault.
+set -u
+cd "$(dirname "$(readlink -f "$0")")/.." || exit 2
+folder=$(mktemp -d) || exit 2
+trap 'rm -rf "$folder"' EXIT
+LC_ALL=C
+./schema_server --help >/dev/null || exit 1
+program=crates/schema_server/out/schema_server
+sources=$folder/sources
+rows=0
+failures=0
+line=0
+wanted=''
+
+# Compiles the folder that was read, if there is one.
+compile_folder() {
+    [ -d "$sources" ] || return
+    local status=0 set='' faults='' plan
+    case $wanted in
+        device) status=3 faults=$'device: folder\n' ;;
+        *:*:*) status=1 faults="${wanted%:*}: ${wanted##*:}"$'\n' ;;
+        *) set=$wanted ;;
+    esac
+    for plan in '' '--workers 1 --cut 1' '--workers 2 --cut 1' '--workers 64 --cut 4096'; do
+        rows=$((rows + 1))
+        # shellcheck disable=SC2086
+        "$program" compile --root "$sources" $plan >"$folder/set" 2>"$folder/faults"
+        local got=$? got_set got_faults
+        got_set=$(od -An -v -tx1 "$folder/set" | tr -d ' \n')
+        IFS= read -r -d '' got_faults <"$folder/faults"
+        if [ "$got" != "$status" ] || [ "$got_set" != "$set" ] || [ "$got_faults" != "$faults" ]; then
+            echo "tests/folders.txt, the folder before line $line, $plan: wanted $wanted"
+            echo "  status $got: $got_set $got_faults"
+            failures=$((failures + 1))
+        fi
+    done
+    rm -rf "$sources"
+}
+
+while read -r name source; do
+    line=$((line + 1))
+    case $name in
+        '#'*) ;;
+        '') compile_folder ;;
+        =)
+            wanted=$source
+            mkdir "$sources"
+            ;;
+        *)
+            printf -v path "$sources/%b" "$name"
+            mkdir -p "${path%/*}"
+            case $source in
+                '-> '*) ln -s "${source#-> }" "$path" ;;
+                *) printf '%b' "$source" >"$path" ;;
+            esac
+            ;;
+    esac
+done <tests/folders.txt
+compile_folder
+[ "$rows" -gt 0 ] && [ "$failures" = 0 ]
