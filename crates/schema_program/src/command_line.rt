@@ -76,11 +76,13 @@ fn plan_of(matches: &ArgMatches<'_>) -> Plan {
 }
 
 fn whole_command<'a>(alloc: Global) -> Result<Command<'a>, AllocError> {
+    let describe = describe_command(alloc)?;
+    let compile = compile_command(alloc)?;
     Command::new(alloc, "schema_server")
         .about("A schema server for Protocol Buffers: compiles proto3 sources to descriptors")
         .subcommand_required(true)
-        .subcommand(describe_command(alloc)?)?
-        .subcommand(compile_command(alloc)?)
+        .subcommand(describe)?
+        .subcommand(compile)
 }
 
 /// The task that the words give, whose first is the program's name, or `clap`'s text for the user.
