@@ -9,7 +9,7 @@ ghost use Rattle.proto_links.specs.Linked.{count_of};
 
 mod times;
 
-use anyhow::{anyhow, bail};
+use anyhow::bail;
 use proto_base::Limits;
 use proto_checks::first_check_fault;
 use proto_desc::file::FileDesc;
@@ -25,6 +25,7 @@ use source_folder::{NamedText, read_folder};
 use std::alloc::{AllocGlobal, Global};
 use std::env;
 use std::io::Read;
+use std::rt::Files;
 use std::thread::Threads;
 use std::time::{Clock, Duration, Instant};
 use times::Times;
@@ -38,6 +39,11 @@ struct Counts {
     reached: usize,
 }
 
+/// The time since a start. A clock that cannot be read counts nothing.
+fn since<R: Clock>(rt: &R, start: Instant) -> Duration {
+    start.elapsed(rt).unwrap_or(Duration::ZERO)
+}
+
 /// The descriptor of a source that breaks no rule of its own.
 fn described<'s, R: AllocGlobal + Clock>(
     rt: &R,
@@ -48,13 +54,13 @@ fn described<'s, R: AllocGlobal + Clock>(
     let limits = Limits::standard();
     let start = Instant::now(rt)?;
     let tokens = tokenize(alloc, source.text.as_slice(), &limits)?;
-    let tokens_end = start.elapsed(rt)?;
+    let tokens_end = since(rt, start);
     let tree = parse(alloc, &tokens, &limits)?;
-    let tree_end = start.elapsed(rt)?;
+    let tree_end = since(rt, start);
     let desc = lower(alloc, source.name.as_str(), &tree)?;
-    let desc_end = start.elapsed(rt)?;
+    let desc_end = since(rt, start);
     let fault = first_check_fault(alloc, &tree, &desc, &limits)?;
-    let checks_end = start.elapsed(rt)?;
+    let checks_end = since(rt, start);
     if let Some((place, kind)) = fault {
         let name = source.name.as_str();
         bail!("{name} at {place}: {kind}");
@@ -109,13 +115,13 @@ fn round<R: Threads + AllocGlobal + Clock + Sync>(
     }
     let start = Instant::now(rt)?;
     let links = link(rt.alloc(), &descs)?;
-    let links_end = start.elapsed(rt)?;
+    let links_end = since(rt, start);
     let index = NameIndex::build(rt, &descs, &Limits::standard())?;
-    let index_end = start.elapsed(rt)?;
+    let index_end = since(rt, start);
     let descs = resolved(rt.alloc(), &links, &index, descs)?;
-    let types_end = start.elapsed(rt)?;
+    let types_end = since(rt, start);
     let bytes = written(rt.alloc(), &descs)?;
-    times.add_common(links_end, index_end, types_end, start.elapsed(rt)?);
+    times.add_common(links_end, index_end, types_end, since(rt, start));
     let reached = if links.count() > 0 {
         links.reach(0).len()
     } else {
@@ -136,41 +142,50 @@ fn frames(rt: &HostRuntime, body: &[u8], rounds: u32) -> anyhow::Result<(usize, 
     for _ in 0..rounds {
         let start = Instant::now(rt)?;
         let frames = read_frames(rt.alloc(), body, &Limits::standard())?;
-        best = best.min(start.elapsed(rt)?);
+        best = best.min(since(rt, start));
         read = (frames.messages.len(), frames.status);
     }
     Ok((read.0, read.1, best))
 }
 
-fn main(rt: HostRuntime) -> anyhow::Result<()> {
-    let words: Vec<String> = env::args(&rt)?.collect(rt.alloc())?;
-    let root = words.get(1).ok_or_else(|| anyhow!("DIR ROUNDS"))?;
-    let rounds: u32 = words.get(2).ok_or_else(|| anyhow!("DIR ROUNDS"))?.parse()?;
-    let sources = read_folder(&rt, root.as_str(), &Limits::standard())?;
-    let mut body = Vec::new(rt.alloc());
-    rt.stdin().read_to_end(&mut body)?;
-    let (
-        Counts {
-            bytes,
-            names,
-            reached,
-        },
-        mut best,
-    ) = round(&rt, &sources)?;
+/// Measures the sources below a folder.
+fn measure_sources<R: Threads + Files + AllocGlobal + Clock + Sync>(
+    rt: &R,
+    root: &str,
+    rounds: u32,
+) -> anyhow::Result<(usize, usize, Counts, Times)> {
+    let sources = read_folder(rt, root, &Limits::standard())?;
+    let (counts, mut best) = round(rt, &sources)?;
     for _ in 1..rounds {
-        let (_, times) = round(&rt, &sources)?;
+        let (_, times) = round(rt, &sources)?;
         best = best.least(times);
     }
+    let mut size = 0_usize;
+    for source in &sources {
+        size = size.saturating_add(source.text.len());
+    }
+    Ok((sources.len(), size, counts, best))
+}
+
+fn main(rt: HostRuntime) -> anyhow::Result<()> {
+    let words: Vec<String> = env::args(&rt)?.collect(rt.alloc())?;
+    let [_, root, rounds] = words.as_slice() else {
+        bail!("DIR ROUNDS");
+    };
+    let rounds: u32 = rounds.parse()?;
+    let (files, size, counts, best) = measure_sources(&rt, root.as_str(), rounds)?;
+    let mut body = Vec::new(rt.alloc());
+    rt.stdin().read_to_end(&mut body)?;
     let (messages, status, frames) = frames(&rt, &body, rounds)?;
-    let files = sources.len();
-    println!(rt; "{files} files, {bytes} descriptor bytes, {names} services")?;
-    println!(rt; "the first file reaches {reached}")?;
-    println!(rt; "{messages} messages, status {status}")?;
-    let size = sources.iter().fold(
-        0_usize,
-        |size, source| size.saturating_add(source.text.len()),
-    );
-    eprintln!(rt; "{size} bytes of source, {} of a body", body.len())?;
+    let Counts {
+        bytes,
+        names,
+        reached,
+    } = counts;
+    println!(rt;
+        "{files} files, {bytes} descriptor bytes, {names} services\nthe first file reaches {reached}\n{messages} messages, status {status}"
+    )?;
+    eprintln!(rt; "{size} bytes of source")?;
     for (layer, time) in best.layers() {
         eprintln!(rt; "{layer}: {} us", time.as_micros())?;
     }

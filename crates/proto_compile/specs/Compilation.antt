@@ -71,3 +71,7 @@ pub record IsSound (c : Compilation) : Type 0 where
   pub within : length (set_of c.files c.links) ≤ limit_of c.limits limit.SetBytes
   pub few_services : length c.index.services ≤ limit_of c.limits limit.Names
   pub short_services : (name : List ℕ) → Contains c.index.services name → length name ≤ limit_of c.limits limit.FullNameBytes
+
+-- what some sources are compiled to
+abbrev pub IsOfSources : Compilation → Type 0
+IsOfSources c = (sources : List Source) × IsCompiled c.limits sources c

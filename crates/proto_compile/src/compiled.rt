@@ -1,7 +1,7 @@
 //! What sources are compiled to.
 
 ghost use Rattle.std.specs.Prelude.{◌≡◌, ℕ, ◌<◌, IfOk, IfSome, MatchOption};
-ghost use Rattle.proto_compile.specs.Compilation.{IsNamed, bytes_at, set_of};
+ghost use Rattle.proto_compile.specs.Compilation.{IsNamed, IsOfSources, bytes_at, set_of};
 ghost use Rattle.proto_links.specs.Linked.{count_of};
 
 use crate::set::set_bytes;
@@ -23,13 +23,14 @@ pub struct Compiled {
 }
 
 impl Model for Compiled {
-    ghost use Rattle.proto_compile.specs.Compilation.{Compilation, IsSound};
+    ghost use Rattle.proto_compile.specs.Compilation.{Compilation, IsOfSources, IsSound};
 
     ghost Value = { Compilation };
 
     ghost view = { λ compiled. record { files = compiled.files; links = compiled.links; index = compiled.index; limits = compiled.limits } };
 
-    ghost invariant = { λ compiled. IsSound (record { files = compiled.files; links = compiled.links; index = compiled.index; limits = compiled.limits }) };
+    ghost invariant = { λ compiled. IsSound (record { files = compiled.files; links = compiled.links; index = compiled.index; limits = compiled.limits })
+        × IsOfSources (record { files = compiled.files; links = compiled.links; index = compiled.index; limits = compiled.limits }) };
 }
 
 impl Compiled {
@@ -65,6 +66,13 @@ impl Compiled {
     {
         let file = self.file_id(name)?;
         Some(self.bytes_at(file))
+    }
+
+    /// A law: a compilation is what some sources are compiled to, within its limits.
+    pub fn is_of_sources(&self)
+        ensures { IsOfSources self.now }
+    {
+        let _ = &self.limits;
     }
 
     /// Which file reaches and sees which, and the order of the set.

@@ -62,7 +62,7 @@ order_is files g ranks order is r o = record {
 
 -- ---- what a file reaches
 
-leads_inside : (files : List FileDesc) (c a : ℕ) → a < length files → Leads (Imports files) c a → c < length files
+pub leads_inside : (files : List FileDesc) (c a : ℕ) → a < length files → Leads (Imports files) c a → c < length files
 leads_inside files c _ h here = h
 leads_inside files c _ h (through a b i more) = leads_inside files c b i.2.0 more
 
@@ -217,7 +217,7 @@ seen_from files g h ranks order positions rows public lists named public_lists s
     let lead = ways_from h order positions public m.placed size.4 (public_within files h m.is_public) m.public_are b d (omega (arith, hd, size.0)) (leads_map (ImportsPublicly files) (Edge h) (λ x y. (m.is_public.edges x y).1) b d way) in
     inl (get_or positions d 0, (m.rows_are.edges (get_or positions a 0) (get_or positions d 0) pa.0 pd.0).1 edge, ((l.public_reaches (get_or positions d 0) (omega (arith, pd.0, size.0))).members (get_or positions b 0)).1 lead)
 
-has_is : (x : ℕ) (xs : List ℕ) → IsTrue (has x xs) ↔ Contains xs x
+pub has_is : (x : ℕ) (xs : List ℕ) → IsTrue (has x xs) ↔ Contains xs x
 has_is x xs = (λ e. Contains-from_any (λ a b h. eqb-true a b h) x xs e, λ w. list_any-from_Contains nat_eq_equiv x xs w)
 
 pub linked_of : (files : List FileDesc) (g h : Graph) (ranks order positions : List ℕ) (rows public : Graph) (lists named public_lists seen : List (List ℕ)) → Made files g h ranks order positions rows public → Listed rows public order (length files) lists named public_lists seen → AreLinked files (record { ranks = ranks; set_order = order; positions = positions; reach = named; seen = seen })

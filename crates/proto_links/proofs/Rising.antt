@@ -13,22 +13,22 @@ pub record IsStrict {X : Type 0} (R : X → X → Type 0) : Type 0 where
 
 -- ---- members
 
-none_in : {X : Type 0} (x : X) → Contains {X = X} [] x → ⊥
+pub none_in : {X : Type 0} (x : X) → Contains {X = X} [] x → ⊥
 none_in x (k, inside, is) = omega (arith, inside)
 
-front : {X : Type 0} (x : X) (xs : List X) → Contains (x ∷ xs) x
+pub front : {X : Type 0} (x : X) (xs : List X) → Contains (x ∷ xs) x
 front x xs = (zero, omega arith, refl)
 
-behind : {X : Type 0} (x : X) (xs : List X) (z : X) → Contains xs z → Contains (x ∷ xs) z
+pub behind : {X : Type 0} (x : X) (xs : List X) (z : X) → Contains xs z → Contains (x ∷ xs) z
 behind x xs z (k, inside, is) = (suc k, omega (arith, inside), is)
 
-front_or_behind : {X : Type 0} (x : X) (xs : List X) (z : X) → Contains (x ∷ xs) z → (x ≡ z) ⊎ Contains xs z
+pub front_or_behind : {X : Type 0} (x : X) (xs : List X) (z : X) → Contains (x ∷ xs) z → (x ≡ z) ⊎ Contains xs z
 front_or_behind x xs z (zero, inside, is) = inl is
 front_or_behind x xs z (suc k, inside, is) = inr (k, omega (arith, inside), is)
 
 -- ---- what stands behind comes later
 
-next_behind : {X : Type 0} (x : X) (xs : List X) (k : ℕ) (d : X) → get_or (x ∷ xs) (suc k + 1) d ≡ get_or xs (k + 1) d
+pub next_behind : {X : Type 0} (x : X) (xs : List X) (k : ℕ) (d : X) → get_or (x ∷ xs) (suc k + 1) d ≡ get_or xs (k + 1) d
 next_behind x xs k d = let at : suc k + 1 ≡ suc (k + 1) = omega arith in ap (λ i. get_or (x ∷ xs) i d) at
 
 pub rest_rises : {X : Type 0} (R : X → X → Type 0) (x : X) (xs : List X) → Rises R (x ∷ xs) → Rises R xs
@@ -45,7 +45,7 @@ skip R strict x y (z ∷ xs) up (suc k) d h =
     let rest = rest_rises R y (z ∷ xs) (rest_rises R x (y ∷ z ∷ xs) up) k d (omega (arith, h)) in
     subst (R (get_or (z ∷ xs) k d)) (sym (next_behind x (z ∷ xs) k d)) rest
 
-first_before : {X : Type 0} (R : X → X → Type 0) → IsStrict R → (x : X) (xs : List X) → Rises R (x ∷ xs) → (z : X) → Contains xs z → R x z
+pub first_before : {X : Type 0} (R : X → X → Type 0) → IsStrict R → (x : X) (xs : List X) → Rises R (x ∷ xs) → (z : X) → Contains xs z → R x z
 first_before R strict x [] up z w = absurd (none_in z w)
 first_before R strict x (y ∷ xs) up z w = elim (front_or_behind y xs z w) [
   | inl same ↦ subst (R x) same (first_two R x y xs up)

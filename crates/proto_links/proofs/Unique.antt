@@ -46,14 +46,14 @@ before_trans rank a b c (inl less) (inr more) = inl (omega (arith, less, more.0)
 before_trans rank a b c (inr less) (inl more) = inl (omega (arith, less.0, more))
 before_trans rank a b c (inr less) (inr more) = inr (omega (arith, less.0, more.0), omega (arith, less.1, more.1))
 
-before_strict : (rank : ℕ → ℕ) → IsStrict (IsBefore rank)
+pub before_strict : (rank : ℕ → ℕ) → IsStrict (IsBefore rank)
 before_strict rank = record { never = before_itself rank; trans = before_trans rank }
 
 same_before : (f g : ℕ → ℕ) (a b : ℕ) → f a ≡ g a → f b ≡ g b → IsBefore f a b → IsBefore g a b
 same_before f g a b ea eb (inl less) = inl (omega (arith, less, ea, eb))
 same_before f g a b ea eb (inr less) = inr (omega (arith, less.0, ea, eb), less.1)
 
-order_rises : (rank : ℕ → ℕ) (order : List ℕ) → IsInSetOrder rank order → Rises (IsBefore rank) order
+pub order_rises : (rank : ℕ → ℕ) (order : List ℕ) → IsInSetOrder rank order → Rises (IsBefore rank) order
 order_rises rank order up k d h =
     subst (λ a. IsBefore rank a (get_or order (k + 1) d)) (get_or_default order k 0 d (omega (arith, h)))
     (subst (IsBefore rank (get_or order k 0)) (get_or_default order (k + 1) 0 d h) (up k h))

@@ -1,6 +1,6 @@
 -- Files whose imports are found, by their places in the list of files.
-use Rattle.std.specs.Prelude.{◌≡◌, ◌⊎◌, ◌↔◌, ℕ, ◌+◌, ◌<◌, List, [], length, Bool, IsTrue, Contains, slice_index_or, ◌==◌}
-use Rattle.std.specs.List.{list_any}
+use Rattle.std.specs.Prelude.{◌≡◌, ◌⊎◌, ◌↔◌, ℕ, ◌+◌, ◌<◌, List, [], length, filter, Bool, IsTrue, Contains, slice_index_or, ◌==◌}
+use Rattle.std.specs.List.{list_any, IsDistinct}
 use Rattle.std.specs.List.Sorted.{IsStrictlyIncreasing}
 use Rattle.proto_desc.specs.declared.file.FileDesc.{FileDesc}
 use Rattle.proto_links.specs.Imports.{Imports, Reaches, NoneBad}
@@ -74,3 +74,21 @@ pub record AreLinked (files : List FileDesc) (links : Linked) : Type 0 where
   pub order : IsSetOrder (length files) (rank_of links) links.set_order
   pub reach : (a : ℕ) → a < length files → IsReach files (rank_of links) a (reach_of links a)
   pub sees : (a b : ℕ) → a < length files → b < length files → IsTrue (sees links a b) ↔ Sees files a b
+
+-- the links of some files
+abbrev pub AreOfFiles : Linked → Type 0
+AreOfFiles links = (files : List FileDesc) × AreLinked files links
+
+-- ---- what is so of the links of any files
+
+-- a file reaches files alone, itself among them, and what those reach that it reaches; no file stands twice in a list; what a
+-- file reaches is a part of the set order, which has every file
+pub record AreReachesWhole (links : Linked) : Type 0 where
+  pub within : (a b : ℕ) → a < count_of links → Contains (reach_of links a) b → b < count_of links
+  pub itself : (a : ℕ) → a < count_of links → Contains (reach_of links a) a
+  pub closed : (a b c : ℕ) → a < count_of links → Contains (reach_of links a) b → Contains (reach_of links b) c → Contains (reach_of links a) c
+  pub once : (a : ℕ) → a < count_of links → IsDistinct ◌==◌ (reach_of links a)
+  pub part : (a : ℕ) → a < count_of links → reach_of links a ≡ filter (λ b. has b (reach_of links a)) links.set_order
+  pub every : (a : ℕ) → Contains links.set_order a ↔ (a < count_of links)
+  pub each_once : IsDistinct ◌==◌ links.set_order
+  pub size : length links.set_order ≡ count_of links

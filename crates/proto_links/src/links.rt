@@ -1,7 +1,7 @@
 //! Files whose imports are found.
 
 ghost use Rattle.std.specs.Prelude.{◌≡◌, ◌<◌};
-ghost use Rattle.proto_links.specs.Linked.{count_of, rank_of, reach_of, sees};
+ghost use Rattle.proto_links.specs.Linked.{AreReachesWhole, count_of, rank_of, reach_of, sees};
 
 use digraph::{Lists, Ranking};
 use std::marker::Model;
@@ -23,13 +23,14 @@ pub struct Links {
 }
 
 impl Model for Links {
-    ghost use Rattle.proto_links.specs.Linked.{Linked, IsSound};
+    ghost use Rattle.proto_links.specs.Linked.{AreOfFiles, IsSound, Linked};
 
     ghost Value = { Linked };
 
     ghost view = { λ links. record { ranks = links.ranking.ranks.items; set_order = links.ranking.order.items; positions = links.positions.items; reach = links.reach; seen = links.seen } };
 
-    ghost invariant = { λ links. IsSound (record { ranks = links.ranking.ranks.items; set_order = links.ranking.order.items; positions = links.positions.items; reach = links.reach; seen = links.seen }) };
+    ghost invariant = { λ links. IsSound (record { ranks = links.ranking.ranks.items; set_order = links.ranking.order.items; positions = links.positions.items; reach = links.reach; seen = links.seen })
+        × AreOfFiles (record { ranks = links.ranking.ranks.items; set_order = links.ranking.order.items; positions = links.positions.items; reach = links.reach; seen = links.seen }) };
 }
 
 impl Links {
@@ -61,6 +62,14 @@ impl Links {
         ensures { result.now ≡ reach_of self.now file }
     {
         self.reach.get(self.positions[file])
+    }
+
+    /// A law: whatever files are linked, each reaches files alone, itself among them, and what those reach that it reaches;
+    /// no list has a file twice, and what a file reaches is a part of the set order, which has every file.
+    pub fn reaches_are_whole(&self)
+        ensures { AreReachesWhole self.now }
+    {
+        let _ = &self.ranking;
     }
 
     /// Whether a file sees another one (language guide, "Importing Definitions"): itself, what it imports, and what the

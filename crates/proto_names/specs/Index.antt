@@ -9,7 +9,7 @@ use Rattle.proto_base.specs.Limits.{limit_of}
 use Rattle.proto_base.specs.declared.limits.Limit.TheVariants as limit
 use Rattle.proto_base.specs.declared.limits.Limits.{Limits}
 use Rattle.proto_base.specs.declared.place.Place.{Place}
-use Rattle.proto_names.specs.Occurrences.{Occurrence, occurrences, NoneTwice, IsFirstTwice}
+use Rattle.proto_names.specs.Occurrences.{Occurrence, IsPackage, occurrences, NoneTwice, IsFirstTwice}
 
 -- what occurs in so many files, and the names of the services among it
 pub record Index : Type 0 where
@@ -55,3 +55,11 @@ pub record Indexes (descs : List FileDesc) (limits : Limits) (index : Index) : T
 pub record IsRepeated (descs : List FileDesc) (limits : Limits) (file : ℕ) (place : Place) : Type 0 where
   pub within : length (occurrences descs) ≤ limit_of limits limit.Names
   pub twice : IsFirstTwice (occurrences descs) file place
+
+-- the index of some files
+abbrev pub IsOfFiles : Index → Type 0
+IsOfFiles index = (descs : List FileDesc) × (limits : Limits) × Indexes descs limits index
+
+-- what has the full name of an element stands where the element does: in one file, at one place
+abbrev pub AreDeclaredOnce : Index → Type 0
+AreDeclaredOnce index = (o p : Occurrence) → Contains index.occurrences o → Contains index.occurrences p → o.name ≡ p.name → (IsPackage o → ⊥) → (o.file ≡ p.file) × (o.place ≡ p.place)

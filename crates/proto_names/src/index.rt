@@ -5,7 +5,7 @@ ghost use Rattle.std.specs.Cmp.Lexicographic.{slice_cmp};
 ghost use Rattle.std.specs.Ordering.{nat_cmp};
 ghost use Rattle.proto_desc.specs.DeclaredNames.{scoped};
 ghost use Rattle.proto_names.specs.Entries.{occurrence};
-ghost use Rattle.proto_names.specs.Index.{Indexes, IsRepeated, is_service_kind, services_of};
+ghost use Rattle.proto_names.specs.Index.{AreDeclaredOnce, Indexes, IsRepeated, is_service_kind, services_of};
 ghost use Rattle.proto_names.specs.declared.index.Defined.{Defined};
 ghost use Rattle.proto_names.specs.Occurrences.{Occurrence, IsPackage, occurrences};
 ghost use Rattle.proto_names.specs.declared.index.NameError.TheVariants as errors;
@@ -85,13 +85,14 @@ pub struct NameIndex {
 
 impl Model for NameIndex {
     ghost use Rattle.std.specs.Prelude.{map, string_bytes};
-    ghost use Rattle.proto_names.specs.Index.{Index, IsSound};
+    ghost use Rattle.proto_names.specs.Index.{Index, IsOfFiles, IsSound};
 
     ghost Value = { Index };
 
     ghost view = { λ index. record { files = index.files; occurrences = index.entries; services = map string_bytes index.services.items } };
 
-    ghost invariant = { λ index. IsSound (record { files = index.files; occurrences = index.entries; services = map string_bytes index.services.items }) };
+    ghost invariant = { λ index. IsSound (record { files = index.files; occurrences = index.entries; services = map string_bytes index.services.items })
+        × IsOfFiles (record { files = index.files; occurrences = index.entries; services = map string_bytes index.services.items }) };
 }
 
 impl NameIndex {
@@ -137,6 +138,13 @@ impl NameIndex {
             }
         }
         None
+    }
+
+    /// A law: whatever files are indexed, what has the full name of an element stands in one file, at one place.
+    pub fn names_are_declared_once(&self)
+        ensures { AreDeclaredOnce self.now }
+    {
+        let _ = &self.files;
     }
 
     /// The full names of all services, in byte order.

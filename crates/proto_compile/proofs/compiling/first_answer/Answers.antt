@@ -33,7 +33,7 @@ invariant_of-result g c =
     let short = rw c.deref.ensures.value at c.in_ok-written.ensures.short in
     let bytes = rw c.deref.ensures.value at c.in_ok-written.ensures.bytes in
     let is = written c.args.limits.now c.args.sources.now c.in_ok-files.field-0.files.items c.in_ok-files.field-0.descs.items c.in_ok-files.field-0.links c.in_ok-files.field-0.index c.in_ok-files-2.files c.in_ok-files.ensures.resolved short names (c.in_ok-files-2.ensures.bytes ∙ bytes) in
-    sound c.args.limits.now c.args.sources.now c.in_ok-files-2.files c.in_ok-files.field-0.links c.in_ok-files.field-0.index is (rw (← c.index.view_is) c.index.invariant.services) (rw (← c.get.ensures.value) (c.is_set_within.ensures.0 c.if-not-is_set_within.false))
+    (sound c.args.limits.now c.args.sources.now c.in_ok-files-2.files c.in_ok-files.field-0.links c.in_ok-files.field-0.index is (rw (← c.index.view_is) c.index.invariant.0.services) (rw (← c.get.ensures.value) (c.is_set_within.ensures.0 c.if-not-is_set_within.false)), (c.args.sources.now, record { written = is; within = rw (← c.get.ensures.value) (c.is_set_within.ensures.0 c.if-not-is_set_within.false) }))
 
 pub returns-clause-compiled : goal.returns-clause-compiled
 returns-clause-compiled g c =

@@ -60,7 +60,7 @@ invariant_of-result c =
     let made = made_of c.args.files.now c.args.graph.now.imports.items c.args.graph.now.public_imports.items c.deref.result.now c.deref-4.result.now c.in_ok-rows.rows.items c.in_ok-public_rows.public_rows.items c.args.ranking.ranks.items c.args.ranking.order.items c.deref-2.result.now c.deref-5.result.now c.in_ok-positions.positions.items c.deref.ensures.value c.deref-2.ensures.value c.deref-4.ensures.value c.deref-5.ensures.value c.requires.none c.requires.imports c.requires.public c.requires.ranks c.requires.order c.in_ok-positions.ensures c.in_ok-rows.ensures c.in_ok-public_rows.ensures in
     let size = made_size c.args.files.now (graph_of c.args.graph.now.imports.items) (graph_of c.args.graph.now.public_imports.items) c.args.ranking.ranks.items c.args.ranking.order.items c.in_ok-positions.positions.items (graph_of c.in_ok-rows.rows.items) (graph_of c.in_ok-public_rows.public_rows.items) made in
     let listed = listed_of (length c.args.files.now) c.in_ok-rows.rows.items c.in_ok-public_rows.public_rows.items c.deref-7.result.now c.deref-9.result.now c.deref-10.result.now c.args.ranking.order.items c.deref-8.result.now c.in_ok-reach_lists.field-0 c.in_ok-reach.reach c.in_ok-reach_lists-2.field-0 c.in_ok-seen.seen c.deref-7.ensures.value c.deref-9.ensures.value c.deref-10.ensures.value c.deref-8.ensures.value (omega (arith, size.1, length_graph c.in_ok-rows.rows.items)) (omega (arith, size.2, length_graph c.in_ok-public_rows.public_rows.items)) c.in_ok-reach_lists.ensures.size c.in_ok-reach_lists.ensures.reaches c.in_ok-reach.ensures c.in_ok-reach_lists-2.ensures.reaches c.in_ok-seen.ensures.size c.in_ok-seen.ensures.unions in
-    sound_of c.args.files.now (graph_of c.args.graph.now.imports.items) (graph_of c.args.graph.now.public_imports.items) c.args.ranking.ranks.items c.args.ranking.order.items c.in_ok-positions.positions.items (graph_of c.in_ok-rows.rows.items) (graph_of c.in_ok-public_rows.public_rows.items) c.in_ok-reach_lists.field-0 c.in_ok-reach.reach c.in_ok-reach_lists-2.field-0 c.in_ok-seen.seen made listed
+    (sound_of c.args.files.now (graph_of c.args.graph.now.imports.items) (graph_of c.args.graph.now.public_imports.items) c.args.ranking.ranks.items c.args.ranking.order.items c.in_ok-positions.positions.items (graph_of c.in_ok-rows.rows.items) (graph_of c.in_ok-public_rows.public_rows.items) c.in_ok-reach_lists.field-0 c.in_ok-reach.reach c.in_ok-reach_lists-2.field-0 c.in_ok-seen.seen made listed, (c.args.files.now, linked_of c.args.files.now (graph_of c.args.graph.now.imports.items) (graph_of c.args.graph.now.public_imports.items) c.args.ranking.ranks.items c.args.ranking.order.items c.in_ok-positions.positions.items (graph_of c.in_ok-rows.rows.items) (graph_of c.in_ok-public_rows.public_rows.items) c.in_ok-reach_lists.field-0 c.in_ok-reach.reach c.in_ok-reach_lists-2.field-0 c.in_ok-seen.seen made listed))
 
 pub returns : goal.returns
 returns c =

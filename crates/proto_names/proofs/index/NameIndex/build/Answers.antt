@@ -29,11 +29,24 @@ invariant_of-result g c =
     let collected = rw c.in-Some.is at c.in_ok-entries.ensures.all in
     let kept = sym c.in_ok-entries-2.ensures in
     let all = subst (IsPermutation (occurrences c.args.files.now)) kept (rw collected at c.in_ok-sort.ensures.all) in
-    record {
-      inside = below_files c.args.files.now c.in_ok-entries-2.entries all;
-      order = subst AreInNameOrder kept (order_names c.sort.new.self c.in_ok-sort.ensures.order);
-      services = c.in_ok-services.ensures ∙ ap services_of (c.as_slice-2.ensures ∙ kept);
-    }
+    let within = rw c.in-Some.is at c.in_ok-entries.ensures.within in
+    let none = rw c.as_slice.ensures at (not_some _ c.first_twice.result c.in_default-first_twice.not-Some c.first_twice.ensures) in (
+      record {
+        inside = below_files c.args.files.now c.in_ok-entries-2.entries all;
+        order = subst AreInNameOrder kept (order_names c.sort.new.self c.in_ok-sort.ensures.order);
+        services = c.in_ok-services.ensures ∙ ap services_of (c.as_slice-2.ensures ∙ kept);
+      },
+      (
+        c.args.files.now,
+        c.args.limits.now,
+        record {
+          files = refl;
+          within = rw (collected, c.get.ensures.value) at within;
+          once = none_moved (occurrences c.args.files.now) c.sort.new.self (rw collected at c.in_ok-sort.ensures.all) none;
+          all = all;
+        },
+      ),
+    )
 
 pub returns-clause-indexed : goal.returns-clause-indexed
 returns-clause-indexed g c =

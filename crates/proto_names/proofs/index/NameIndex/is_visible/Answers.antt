@@ -16,7 +16,7 @@ sees-requires-clause-other c =
     let e = c.entry-item.result in
     let within : c.loop-entry.entry-index < length es = omega arith in
     let here = c.named-entry-items.ensures.found (occurrence e) (occurs_at es c.loop-entry.entry-index e (within, c.entry-item.is)) in
-    let inside = c.self.invariant.inside (occurrence e) here.0 in
+    let inside = c.self.invariant.0.inside (occurrence e) here.0 in
     let files = ap (λ (index : Index). index.files) c.self.view_is in
     omega (arith, inside, files, c.requires.links)
 
