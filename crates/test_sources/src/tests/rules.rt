@@ -21,9 +21,9 @@ fn fault(alloc: Global, text: &str, limits: &Limits) -> Result<String, Fail> {
     }
 }
 
-/// Statements behind `syntax = "proto3"; `, which is 19 bytes long, and their fault.
-static RULES: [(&str, &str); 180] = [
-    // Each rule.
+/// Statements behind `syntax = "proto3"; `, which is 19 bytes long, and their fault. tests/sources.txt has more of them.
+static RULES: [(&str, &str); 88] = [
+    // Each rule, broken.
     ("package a; package b;", "PackageTwice at 30"),
     ("package a; package a; package a;", "PackageTwice at 30"),
     (r#"import "a"; import "a";"#, "ImportTwice at 38"),
@@ -82,35 +82,6 @@ static RULES: [(&str, &str); 180] = [
     ),
     ("message A { oneof o {} }", "OneofEmpty at 37"),
     ("message A { oneof o { ; } }", "OneofEmpty at 37"),
-    // Each rule, kept.
-    ("", ""),
-    ("package a.b;", ""),
-    (r#"import "a"; import "b"; import "A";"#, ""),
-    (
-        "message A { int32 x = 1; int32 y = 2; message B { int32 x = 1; } }",
-        "",
-    ),
-    (
-        "message A { int32 x = 18999; int32 y = 20000; int32 z = 536870911; }",
-        "",
-    ),
-    ("message A { reserved 1, 3 to max; int32 x = 2; }", ""),
-    ("enum E { Z = 0; reserved -2 to -1, 1 to max; }", ""),
-    (
-        r#"message A { reserved "x"; int32 X = 1; message B { int32 x = 1; } }"#,
-        "",
-    ),
-    ("message A { reserved 1 to 3, 4; }", ""),
-    (r#"message A { reserved "x", "y"; reserved "X"; }"#, ""),
-    ("message A { reserved 3 to 3; }", ""),
-    (
-        "message A { int32 a_b = 1; int32 ab = 2; message B { int32 aB = 1; } }",
-        "",
-    ),
-    ("enum E { A = 0; }", ""),
-    ("enum E { A = -0; B = 2147483647; C = -2147483648; }", ""),
-    ("enum E { option allow_alias = true; A = 0; B = 0; }", ""),
-    ("message A { oneof o { int32 x = 1; } }", ""),
     // Of two faults the one at the lesser place, whichever rule it breaks, and at one place the lesser kind.
     (
         "message A { int32 x = 0; } option y = 1;",
@@ -150,46 +121,35 @@ static RULES: [(&str, &str); 180] = [
         "package a; service S { option x = 1; } package b;",
         "UnknownOption at 49",
     ),
-    // Numbers of fields.
-    ("message M { int32 a = 0; }", "FieldNumberRange at 41"),
-    ("message M { int32 a = 19000; }", "FieldNumberRange at 41"),
-    ("message M { int32 a = 19999; }", "FieldNumberRange at 41"),
+    // Rules that are kept.
+    ("", ""),
+    ("package a.b;", ""),
+    (r#"import "a"; import "b"; import "A";"#, ""),
     (
-        "message M { int32 a = 536870912; }",
-        "FieldNumberRange at 41",
+        "message A { int32 x = 1; int32 y = 2; message B { int32 x = 1; } }",
+        "",
     ),
     (
-        "message M { oneof o { int32 a = 0; } }",
-        "FieldNumberRange at 51",
+        "message A { int32 x = 18999; int32 y = 20000; int32 z = 536870911; }",
+        "",
     ),
+    ("message A { reserved 1, 3 to max; int32 x = 2; }", ""),
+    ("enum E { Z = 0; reserved -2 to -1, 1 to max; }", ""),
     (
-        "message M { map<int32, int32> a = 0; }",
-        "FieldNumberRange at 53",
+        r#"message A { reserved "x"; int32 X = 1; message B { int32 x = 1; } }"#,
+        "",
     ),
+    ("message A { reserved 1 to 3, 4; }", ""),
+    (r#"message A { reserved "x", "y"; reserved "X"; }"#, ""),
+    ("message A { reserved 3 to 3; }", ""),
     (
-        "message M { int32 a = 1; int32 b = 1; }",
-        "FieldNumberTwice at 54",
+        "message A { int32 a_b = 1; int32 ab = 2; message B { int32 aB = 1; } }",
+        "",
     ),
-    (
-        "message M { int32 a = 2; int32 b = 1; int32 c = 2; int32 d = 1; }",
-        "FieldNumberTwice at 67",
-    ),
-    (
-        "message M { int32 a = 1; oneof o { int32 b = 0x1; } }",
-        "FieldNumberTwice at 64",
-    ),
-    (
-        "message M { map<int32, int32> a = 3; int32 b = 3; }",
-        "FieldNumberTwice at 66",
-    ),
-    (
-        "message M { int32 a = 1; int32 b = 1; int32 c = 0; }",
-        "FieldNumberTwice at 54",
-    ),
-    (
-        "message M { int32 a = 0; int32 b = 1; int32 c = 1; }",
-        "FieldNumberRange at 41",
-    ),
+    ("enum E { A = 0; }", ""),
+    ("enum E { A = -0; B = 2147483647; C = -2147483648; }", ""),
+    ("enum E { option allow_alias = true; A = 0; B = 0; }", ""),
+    ("message A { oneof o { int32 x = 1; } }", ""),
     ("message M { int32 a = 1; int32 b = 18999; }", ""),
     ("message M { int32 a = 20000; int32 b = 536870911; }", ""),
     (
@@ -197,66 +157,6 @@ static RULES: [(&str, &str); 180] = [
         "",
     ),
     ("message M { int32 a = 1; message N { int32 a = 1; } }", ""),
-    // Reserved ranges and names of messages. A backwards range holds nothing.
-    ("message M { reserved 0; }", "FieldNumberRange at 40"),
-    (
-        "message M { reserved 1 to 536870912; }",
-        "FieldNumberRange at 45",
-    ),
-    (
-        "message M { int32 a = 4; reserved 2 to 4; }",
-        "ReservedNumberUsed at 41",
-    ),
-    (
-        "message M { reserved 20, 1, 5 to 9; int32 a = 7; }",
-        "ReservedNumberUsed at 65",
-    ),
-    (
-        "message M { reserved 2 to max; int32 a = 536870911; }",
-        "ReservedNumberUsed at 60",
-    ),
-    ("message M { reserved 1 to 3, 3; }", "ReservedOverlap at 48"),
-    (
-        "message M { reserved 7 to 9; reserved 1 to 7; }",
-        "ReservedOverlap at 57",
-    ),
-    (
-        "message M { reserved 1 to 9, 20, 5; }",
-        "ReservedOverlap at 52",
-    ),
-    (
-        "message M { reserved 5 to max, 536870911; }",
-        "ReservedOverlap at 50",
-    ),
-    ("message M { reserved 3 to 1; }", "ReservedBackwards at 40"),
-    (
-        "message M { int32 a = 2; reserved 5, 9 to 2; }",
-        "ReservedBackwards at 56",
-    ),
-    (
-        "message M { reserved 'x', 'x'; }",
-        "ReservedNameTwice at 45",
-    ),
-    (
-        r#"message M { reserved 'xy', 'x'; reserved 'x' "y"; }"#,
-        "ReservedNameTwice at 60",
-    ),
-    (
-        r#"message M { reserved 'x', 'y', '\x78'; }"#,
-        "ReservedNameTwice at 50",
-    ),
-    (
-        "message M { reserved 19000 to 19999; int32 a = 19000; }",
-        "FieldNumberRange at 66",
-    ),
-    (
-        "message M { reserved 5; int32 b = 4; int32 a = 5; int32 c = 4; }",
-        "ReservedNumberUsed at 66",
-    ),
-    (
-        "message M { reserved 536870912 to 3; }",
-        "FieldNumberRange at 40",
-    ),
     (
         "message M { reserved 2 to 4; int32 a = 5; int32 b = 1; }",
         "",
@@ -273,67 +173,8 @@ static RULES: [(&str, &str); 180] = [
         "message M { reserved 1; message N { int32 a = 1; reserved 'x'; } reserved 'x'; }",
         "",
     ),
-    // Numbers of the values of enums.
-    (
-        "enum E { option deprecated = true; A = -1; B = 0; }",
-        "EnumFirstNotZero at 58",
-    ),
-    (
-        "enum E { A = 0; B = 18446744073709551615; }",
-        "EnumNumberRange at 39",
-    ),
-    (
-        "enum E { A = 0; B = -18446744073709551615; }",
-        "EnumNumberRange at 39",
-    ),
-    ("enum E { A = 0; B = -0; }", "EnumNumberTwice at 39"),
-    (
-        "enum E { A = 0; B = -5; C = 5; D = -5; }",
-        "EnumNumberTwice at 54",
-    ),
-    (
-        "enum E { option allow_alias = false; A = 0; B = 0; }",
-        "EnumNumberTwice at 67",
-    ),
     ("enum E { ; A = 0; B = 2; C = 1; }", ""),
     ("enum E { A = 0; B = 0; option allow_alias = true; }", ""),
-    // Reserved ranges and names of enums.
-    (
-        "enum E { Z = 0; reserved 2147483648; }",
-        "EnumNumberRange at 44",
-    ),
-    (
-        "enum E { Z = 0; reserved 1 to 2147483648; }",
-        "EnumNumberRange at 49",
-    ),
-    (
-        "enum E { Z = 0; reserved -2147483649; }",
-        "EnumNumberRange at 44",
-    ),
-    (
-        "enum E { reserved -2 to max; Z = 0; }",
-        "ReservedNumberUsed at 52",
-    ),
-    (
-        "enum E { Z = 0; A = -3; reserved -5 to -3; }",
-        "ReservedNumberUsed at 39",
-    ),
-    (
-        "enum E { Z = 0; reserved -5 to -2, -2; }",
-        "ReservedOverlap at 54",
-    ),
-    (
-        "enum E { Z = 0; reserved 5 to max, 2147483647; }",
-        "ReservedOverlap at 54",
-    ),
-    (
-        "enum E { Z = 0; reserved -1 to -2; }",
-        "ReservedBackwards at 44",
-    ),
-    (
-        "enum E { Z = 0; reserved 'A', 'A'; }",
-        "ReservedNameTwice at 49",
-    ),
     (
         "enum E { Z = 0; reserved -2147483648 to -1, 2147483647; }",
         "",
@@ -341,128 +182,6 @@ static RULES: [(&str, &str); 180] = [
     ("enum E { Z = 0; reserved -5 to -2, -1; }", ""),
     ("enum E { Z = 0; A = 4; reserved 5 to max; }", ""),
     ("enum E { Z = 0; reserved 'A', 'B'; }", ""),
-    // Options that an element does not have.
-    ("option x = 1;", "UnknownOption at 26"),
-    ("option deprecated.x = true;", "UnknownOption at 26"),
-    ("option allow_alias = true;", "UnknownOption at 26"),
-    (
-        "message A { option allow_alias = true; }",
-        "UnknownOption at 38",
-    ),
-    (
-        "message A { oneof o { int32 x = 1; option deprecated = true; } }",
-        "UnknownOption at 61",
-    ),
-    (
-        "enum E { A = 0 [allow_alias = true]; }",
-        "UnknownOption at 35",
-    ),
-    (
-        "enum E { A = 0; option packed = true; }",
-        "UnknownOption at 42",
-    ),
-    (
-        "service S { option idempotency_level = IDEMPOTENT; }",
-        "UnknownOption at 38",
-    ),
-    (
-        "service S { rpc M(A) returns (A) { option x = 1; } }",
-        "UnknownOption at 61",
-    ),
-    (
-        "message A { map<int32, int32> x = 1 [x = 1]; }",
-        "UnknownOption at 56",
-    ),
-    (
-        "message A { oneof o { int32 x = 1 [x = 1]; } }",
-        "UnknownOption at 54",
-    ),
-    // Options given twice.
-    (
-        "option deprecated = true; option deprecated = true;",
-        "OptionTwice at 52",
-    ),
-    (
-        "option deprecated = true; message A {} option deprecated = false;",
-        "OptionTwice at 65",
-    ),
-    (
-        "message A { int32 x = 1 [deprecated = true, deprecated = true]; }",
-        "OptionTwice at 63",
-    ),
-    (
-        "service S { rpc M(A) returns (A) { option deprecated = true; option deprecated = true; } }",
-        "OptionTwice at 87",
-    ),
-    // Options with a value of another kind.
-    ("option go_package = 1;", "BadOptionValue at 39"),
-    ("option go_package = -1;", "BadOptionValue at 39"),
-    ("option go_package = + 1;", "BadOptionValue at 39"),
-    ("option go_package = true;", "BadOptionValue at 39"),
-    ("option deprecated = 1;", "BadOptionValue at 39"),
-    ("option deprecated = 'true';", "BadOptionValue at 39"),
-    ("option deprecated = True;", "BadOptionValue at 39"),
-    ("option deprecated = true.x;", "BadOptionValue at 39"),
-    ("option optimize_for = speed;", "BadOptionValue at 41"),
-    (
-        "message A { int32 x = 1 [jstype = JS_OTHER]; }",
-        "BadOptionValue at 53",
-    ),
-    (
-        "message A { int32 x = 1 [json_name = x]; }",
-        "BadOptionValue at 56",
-    ),
-    (
-        "enum E { A = 0 [deprecated = 'x']; }",
-        "BadOptionValue at 48",
-    ),
-    // `packed`.
-    (
-        "message A { int32 x = 1 [packed = true]; }",
-        "PackedOnWrongKind at 44",
-    ),
-    (
-        "message A { optional int32 x = 1 [packed = true]; }",
-        "PackedOnWrongKind at 53",
-    ),
-    (
-        "message A { repeated string x = 1 [packed = true]; }",
-        "PackedOnWrongKind at 54",
-    ),
-    (
-        "message A { repeated bytes x = 1 [deprecated = true, packed = true]; }",
-        "PackedOnWrongKind at 72",
-    ),
-    (
-        "message A { map<int32, int32> x = 1 [packed = true]; }",
-        "PackedOnWrongKind at 56",
-    ),
-    (
-        "message A { oneof o { int32 x = 1 [packed = true]; } }",
-        "PackedOnWrongKind at 54",
-    ),
-    // `jstype`.
-    (
-        "message A { int32 x = 1 [jstype = JS_STRING]; }",
-        "JstypeOnWrongKind at 44",
-    ),
-    (
-        "message A { repeated double x = 1 [jstype = JS_NUMBER]; }",
-        "JstypeOnWrongKind at 54",
-    ),
-    (
-        "message A { A x = 1 [jstype = JS_NUMBER]; }",
-        "JstypeOnWrongKind at 40",
-    ),
-    (
-        "message A { map<int64, int64> x = 1 [jstype = JS_STRING]; }",
-        "JstypeOnWrongKind at 56",
-    ),
-    (
-        "message A { oneof o { string x = 1 [jstype = JS_STRING]; } }",
-        "JstypeOnWrongKind at 55",
-    ),
-    // Options that are kept.
     (
         r#"option java_package = 'x' "y"; option go_package = "z";"#,
         "",
@@ -501,23 +220,6 @@ static RULES: [(&str, &str); 180] = [
         "service S { option deprecated = true; rpc M(A) returns (A) { option idempotency_level = IDEMPOTENT; } }",
         "",
     ),
-    // JSON names.
-    (
-        r#"message A { int32 a = 1 [json_name = "b"]; int32 b = 2; }"#,
-        "JsonNameTwice at 68",
-    ),
-    (
-        r#"message A { int32 a = 1 [json_name = "x"]; int32 b = 2 [json_name = "x"]; }"#,
-        "JsonNameTwice at 68",
-    ),
-    (
-        "message A { oneof o { int32 a_b = 1; } map<int32, int32> aB = 2; }",
-        "JsonNameTwice at 76",
-    ),
-    (
-        "message A { message B { int32 a_b = 1; int32 aB = 2; } }",
-        "JsonNameTwice at 64",
-    ),
     (
         r#"message A { int32 a_b = 1 [json_name = "x"]; int32 aB = 2; }"#,
         "",
@@ -527,31 +229,6 @@ static RULES: [(&str, &str); 180] = [
         "",
     ),
     ("message A { int32 a = 1; message B { int32 a = 1; } }", ""),
-    // Reserved names. Entries and made oneofs are no fields, and a oneof is none either.
-    (
-        r#"message A { map<int32, int32> foo = 1; reserved "foo"; }"#,
-        "ReservedNameUsed at 49",
-    ),
-    (
-        r#"message A { reserved "x"; oneof o { int32 x = 1; } }"#,
-        "ReservedNameUsed at 61",
-    ),
-    (
-        "message A { message B { reserved 'x' 'y'; int32 xy = 1; } }",
-        "ReservedNameUsed at 67",
-    ),
-    (
-        r#"enum E { A = 0; reserved "A"; }"#,
-        "ReservedNameUsed at 28",
-    ),
-    (
-        r#"message A { enum E { A = 0; reserved "A"; } }"#,
-        "ReservedNameUsed at 40",
-    ),
-    (
-        "message A { message B { enum E { reserved 'A'; A = 0; } } }",
-        "ReservedNameUsed at 66",
-    ),
     (
         r#"message A { map<int32, int32> foo = 1; reserved "FooEntry", "key"; }"#,
         "",
