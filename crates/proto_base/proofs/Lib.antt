@@ -1,2 +1,3 @@
 pub mod Among
 pub mod Sets
+pub mod Spots

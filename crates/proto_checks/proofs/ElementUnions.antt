@@ -4,15 +4,15 @@ use Rattle.std.proofs.lemmas.Bool.{true≢false, false≢true}
 use Rattle.std.specs.Prelude.{Option, Some, None, flat_map}
 use Rattle.std.specs.List.{list_any}
 use Rattle.proto_base.specs.declared.kind.Kind.TheVariants as kind
-use Rattle.proto_syntax.specs.declared.tree.enumeration.Enum.{Enum}
-use Rattle.proto_syntax.specs.declared.tree.enumeration.EnumItem.{EnumItem}
-use Rattle.proto_syntax.specs.declared.tree.enumeration.EnumItem.TheVariants as enum_item
-use Rattle.proto_syntax.specs.declared.tree.field.Declarator.{Declarator}
-use Rattle.proto_syntax.specs.declared.tree.oneof.Oneof.{Oneof}
-use Rattle.proto_syntax.specs.declared.tree.oneof.OneofItem.{OneofItem}
-use Rattle.proto_syntax.specs.declared.tree.oneof.OneofItem.TheVariants as oneof_item
-use Rattle.proto_syntax.specs.declared.tree.option.Options.{Options}
-use Rattle.proto_syntax.specs.declared.tree.service.Service.{Service}
+use Rattle.proto_tree.specs.declared.enumeration.Enum.{Enum}
+use Rattle.proto_tree.specs.declared.enumeration.EnumItem.{EnumItem}
+use Rattle.proto_tree.specs.declared.enumeration.EnumItem.TheVariants as enum_item
+use Rattle.proto_tree.specs.declared.field.Declarator.{Declarator}
+use Rattle.proto_tree.specs.declared.oneof.Oneof.{Oneof}
+use Rattle.proto_tree.specs.declared.oneof.OneofItem.{OneofItem}
+use Rattle.proto_tree.specs.declared.oneof.OneofItem.TheVariants as oneof_item
+use Rattle.proto_tree.specs.declared.option.Options.{Options}
+use Rattle.proto_tree.specs.declared.service.Service.{Service}
 use Rattle.proto_desc.specs.declared.rules.Element.TheVariants as element
 use Rattle.proto_lower.specs.Options.{bracketed, separated, enum_setting, service_setting}
 use Rattle.proto_checks.specs.Elements.{member_of, is_member, oneof_setting, IsEmptyOneof, OneofBreaks, value_of_item, is_value, IsEmptyEnum, ValueBreaks, EnumBreaks, rpc_of, RpcBreaks, ServiceBreaks}

@@ -2,13 +2,13 @@
 use Rattle.std.proofs.Common.{◌≡◌, ◌∙◌, ap, refl, List, [], ◌∷◌, ◌++◌, false, inl, inr}
 use Rattle.std.specs.Prelude.{Option, flat_map}
 use mathlib.Core.Former.{Count}
-use Rattle.proto_syntax.specs.declared.tree.enumeration.Enum.{Enum}
-use Rattle.proto_syntax.specs.declared.tree.field.Field.{Field}
-use Rattle.proto_syntax.specs.declared.tree.map_field.MapField.{MapField}
-use Rattle.proto_syntax.specs.declared.tree.message.Message.{Message}
-use Rattle.proto_syntax.specs.declared.tree.message.MessageItem.{MessageItem, Message', Row_of-MessageItem, end_of-MessageItem, more_of-MessageItem, items-the_row-MessageItem, items_hidden-the_row-MessageItem-0}
-use Rattle.proto_syntax.specs.declared.tree.message.MessageItem.TheVariants as of
-use Rattle.proto_syntax.specs.declared.tree.oneof.Oneof.{Oneof}
+use Rattle.proto_tree.specs.declared.enumeration.Enum.{Enum}
+use Rattle.proto_tree.specs.declared.field.Field.{Field}
+use Rattle.proto_tree.specs.declared.map_field.MapField.{MapField}
+use Rattle.proto_tree.specs.declared.message.Message.{Message}
+use Rattle.proto_tree.specs.declared.message.MessageItem.{MessageItem, Message', Row_of-MessageItem, end_of-MessageItem, more_of-MessageItem, items-the_row-MessageItem, items_hidden-the_row-MessageItem-0}
+use Rattle.proto_tree.specs.declared.message.MessageItem.TheVariants as of
+use Rattle.proto_tree.specs.declared.oneof.Oneof.{Oneof}
 use Rattle.proto_desc.specs.declared.rules.Element.TheVariants as element
 use Rattle.proto_lower.specs.Options.{message_setting}
 use Rattle.proto_checks.specs.Elements.{OneofBreaks, oneof_of, EnumBreaks, enum_of, BodyBreaks, ItemBreaks, bodies_of, bodies_row, bodies}

@@ -12,6 +12,3 @@ pub mod Rising
 pub mod Settling
 pub mod Three
 pub mod Whole
-pub mod Spots
-pub mod Within
-pub mod FileWithin

@@ -2,8 +2,8 @@
 use Rattle.std.proofs.Common.{List, ◌+◌, ◌-◌, ◌^◌, inl, inr}
 use Rattle.std.specs.Prelude.{Option, flat_map}
 use Rattle.proto_base.specs.declared.kind.Kind.TheVariants as kind
-use Rattle.proto_syntax.specs.declared.tree.enumeration.EnumItem.{EnumItem}
-use Rattle.proto_syntax.specs.declared.tree.message.MessageItem.{MessageItem}
+use Rattle.proto_tree.specs.declared.enumeration.EnumItem.{EnumItem}
+use Rattle.proto_tree.specs.declared.message.MessageItem.{MessageItem}
 use Rattle.proto_desc.specs.declared.rules.OptionName.TheVariants.{AllowAlias}
 use Rattle.proto_lower.specs.Options.{enum_setting, first_setting}
 use Rattle.proto_checks.specs.Breaks as ranges

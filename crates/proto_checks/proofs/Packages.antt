@@ -5,8 +5,8 @@ use Rattle.std.proofs.lemmas.Bool.{cases_lt, false≢true}
 use Rattle.std.proofs.lemmas.List.{length-append, append-nil, take_all}
 use Rattle.proto_base.specs.declared.kind.Kind.TheVariants as kind
 use Rattle.proto_base.specs.declared.limits.Limits.{Limits}
-use Rattle.proto_syntax.specs.declared.tree.file.Package.{Package}
-use Rattle.proto_syntax.specs.declared.tree.file.Statement.{Statement}
+use Rattle.proto_tree.specs.declared.file.Package.{Package}
+use Rattle.proto_tree.specs.declared.file.Statement.{Statement}
 use Rattle.proto_checks.specs.Checks.{package_in, PackageTwice, parts_of, IsPartTooLong, IsWholeTooLong, PackageTooLong, Where}
 use Rattle.proto_base.specs.Least.{IsLeast, IsLesser, spot}
 use Rattle.proto_base.specs.Sets.{Each}

@@ -5,7 +5,7 @@ use Rattle.std.specs.Prelude.{◌||◌, ◌&&◌, not, Option, Some, None, Conta
 use Rattle.std.specs.List.{list_any}
 use Rattle.std.specs.Option.{is_some}
 use Rattle.proto_base.specs.declared.kind.Kind.TheVariants as kind
-use Rattle.proto_syntax.specs.declared.tree.option.Setting.{Setting}
+use Rattle.proto_tree.specs.declared.option.Setting.{Setting}
 use Rattle.proto_desc.specs.declared.rules.Element.{Element}
 use Rattle.proto_lower.specs.Options.{is_setting, value_of}
 use Rattle.proto_desc.specs.Rules.{rules_of}

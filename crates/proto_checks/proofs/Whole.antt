@@ -2,11 +2,11 @@
 use Rattle.std.proofs.Common.{List, [], ◌∷◌, ◌++◌, inl, inr}
 use Rattle.std.specs.Prelude.{Option, flat_map}
 use Rattle.proto_base.specs.declared.limits.Limits.{Limits}
-use Rattle.proto_syntax.specs.declared.tree.enumeration.Enum.{Enum}
-use Rattle.proto_syntax.specs.declared.tree.file.FileTree.{FileTree}
-use Rattle.proto_syntax.specs.declared.tree.file.Statement.{Statement}
-use Rattle.proto_syntax.specs.declared.tree.file.Statement.TheVariants as statement
-use Rattle.proto_syntax.specs.declared.tree.service.Service.{Service}
+use Rattle.proto_tree.specs.declared.enumeration.Enum.{Enum}
+use Rattle.proto_tree.specs.declared.file.FileTree.{FileTree}
+use Rattle.proto_tree.specs.declared.file.Statement.{Statement}
+use Rattle.proto_tree.specs.declared.file.Statement.TheVariants as statement
+use Rattle.proto_tree.specs.declared.service.Service.{Service}
 use Rattle.proto_desc.specs.DeclaredNames.{declared_by_message, declared_by_enum, declared_by_service, declared_by, file_scope}
 use Rattle.proto_desc.specs.declared.file.FileDesc.{FileDesc}
 use Rattle.proto_checks.specs.Checks.{body_in, enum_in, service_in, HeadBreaks, StatementBreaks, NamesBreak, LengthsBreak, IsTooLong, FileBreaks}

@@ -1,6 +1,6 @@
 -- Parts of what the numbers of a message or an enum break.
 use Rattle.std.specs.Prelude.{List, Option}
-use Rattle.proto_syntax.specs.declared.tree.option.Setting.{Setting}
+use Rattle.proto_tree.specs.declared.option.Setting.{Setting}
 use Rattle.proto_base.specs.declared.kind.Kind.TheVariants as kind
 use Rattle.proto_checks.specs.Marks.{NumberTwice, ReservedBackwards, ReservedNumberUsed, ReservedOverlap}
 use Rattle.proto_checks.specs.Numbers.{IsAliasing}

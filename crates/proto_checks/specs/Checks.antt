@@ -6,16 +6,16 @@ use Rattle.proto_base.specs.declared.kind.Kind.TheVariants as kind
 use Rattle.proto_base.specs.declared.limits.Limit.TheVariants as limit
 use Rattle.proto_base.specs.declared.limits.Limits.{Limits}
 use Rattle.proto_base.specs.declared.place.Place.{Place}
-use Rattle.proto_syntax.specs.declared.tree.enumeration.Enum.{Enum}
-use Rattle.proto_syntax.specs.declared.tree.file.FileTree.{FileTree}
-use Rattle.proto_syntax.specs.declared.tree.file.Package.{Package}
-use Rattle.proto_syntax.specs.declared.tree.file.Statement.{Statement}
-use Rattle.proto_syntax.specs.declared.tree.file.Statement.TheVariants as statement
-use Rattle.proto_syntax.specs.declared.tree.file.Syntax.{Syntax}
-use Rattle.proto_syntax.specs.declared.tree.message.MessageItem.{MessageItem}
-use Rattle.proto_syntax.specs.declared.tree.name.FullName.{FullName}
-use Rattle.proto_syntax.specs.declared.tree.name.NamePart.{NamePart}
-use Rattle.proto_syntax.specs.declared.tree.service.Service.{Service}
+use Rattle.proto_tree.specs.declared.enumeration.Enum.{Enum}
+use Rattle.proto_tree.specs.declared.file.FileTree.{FileTree}
+use Rattle.proto_tree.specs.declared.file.Package.{Package}
+use Rattle.proto_tree.specs.declared.file.Statement.{Statement}
+use Rattle.proto_tree.specs.declared.file.Statement.TheVariants as statement
+use Rattle.proto_tree.specs.declared.file.Syntax.{Syntax}
+use Rattle.proto_tree.specs.declared.message.MessageItem.{MessageItem}
+use Rattle.proto_tree.specs.declared.name.FullName.{FullName}
+use Rattle.proto_tree.specs.declared.name.NamePart.{NamePart}
+use Rattle.proto_tree.specs.declared.service.Service.{Service}
 use Rattle.proto_desc.specs.DeclaredNames.{Declared, full_name, declared_by}
 use Rattle.proto_desc.specs.declared.enumeration.EnumDesc.{EnumDesc}
 use Rattle.proto_desc.specs.declared.enumeration.ValueDesc.{ValueDesc}
@@ -27,7 +27,7 @@ use Rattle.proto_desc.specs.declared.message.MessageDesc.TheOpen.{MessageDesc-F}
 use Rattle.proto_desc.specs.declared.message.MessageDesc.TheFolds.{fold-MessageDesc}
 use Rattle.proto_desc.specs.declared.rules.Element.TheVariants as element
 use Rattle.proto_lower.specs.Options.{file_setting}
-use Rattle.proto_lower.specs.Text.{dotted, joined}
+use Rattle.proto_tree.specs.Text.{dotted, joined}
 use Rattle.proto_checks.specs.Elements.{BodyBreaks, EnumBreaks, ServiceBreaks, bodies}
 use Rattle.proto_base.specs.Least.{spot}
 use Rattle.proto_checks.specs.Marks.{Marked, TextTwice, ReservedNameUsed}

@@ -1,21 +1,21 @@
 -- The rules of the elements of a file.
 use Rattle.std.specs.Prelude.{◌≡◌, Bool, true, false, List, [], ◌∷◌, ◌++◌, flat_map, ◌⊎◌}
 use Rattle.proto_base.specs.declared.kind.Kind.TheVariants as kind
-use Rattle.proto_syntax.specs.declared.tree.enumeration.Enum.{Enum}
-use Rattle.proto_syntax.specs.declared.tree.enumeration.EnumItem.{EnumItem}
-use Rattle.proto_syntax.specs.declared.tree.enumeration.EnumItem.TheVariants as enum_item
-use Rattle.proto_syntax.specs.declared.tree.enumeration.EnumValue.{EnumValue}
-use Rattle.proto_syntax.specs.declared.tree.message.MessageItem.{MessageItem, Row_of-MessageItem, end_of-MessageItem, more_of-MessageItem, items-the_row-MessageItem}
-use Rattle.proto_syntax.specs.declared.tree.message.MessageItem as message_item
-use Rattle.proto_syntax.specs.declared.tree.oneof.Oneof.{Oneof}
-use Rattle.proto_syntax.specs.declared.tree.oneof.OneofField.{OneofField}
-use Rattle.proto_syntax.specs.declared.tree.oneof.OneofItem.{OneofItem}
-use Rattle.proto_syntax.specs.declared.tree.oneof.OneofItem.TheVariants as oneof_item
-use Rattle.proto_syntax.specs.declared.tree.option.Setting.{Setting}
-use Rattle.proto_syntax.specs.declared.tree.service.Rpc.{Rpc}
-use Rattle.proto_syntax.specs.declared.tree.service.Service.{Service}
-use Rattle.proto_syntax.specs.declared.tree.service.ServiceItem.{ServiceItem}
-use Rattle.proto_syntax.specs.declared.tree.service.ServiceItem.TheVariants as service_item
+use Rattle.proto_tree.specs.declared.enumeration.Enum.{Enum}
+use Rattle.proto_tree.specs.declared.enumeration.EnumItem.{EnumItem}
+use Rattle.proto_tree.specs.declared.enumeration.EnumItem.TheVariants as enum_item
+use Rattle.proto_tree.specs.declared.enumeration.EnumValue.{EnumValue}
+use Rattle.proto_tree.specs.declared.message.MessageItem.{MessageItem, Row_of-MessageItem, end_of-MessageItem, more_of-MessageItem, items-the_row-MessageItem}
+use Rattle.proto_tree.specs.declared.message.MessageItem as message_item
+use Rattle.proto_tree.specs.declared.oneof.Oneof.{Oneof}
+use Rattle.proto_tree.specs.declared.oneof.OneofField.{OneofField}
+use Rattle.proto_tree.specs.declared.oneof.OneofItem.{OneofItem}
+use Rattle.proto_tree.specs.declared.oneof.OneofItem.TheVariants as oneof_item
+use Rattle.proto_tree.specs.declared.option.Setting.{Setting}
+use Rattle.proto_tree.specs.declared.service.Rpc.{Rpc}
+use Rattle.proto_tree.specs.declared.service.Service.{Service}
+use Rattle.proto_tree.specs.declared.service.ServiceItem.{ServiceItem}
+use Rattle.proto_tree.specs.declared.service.ServiceItem.TheVariants as service_item
 use Rattle.proto_desc.specs.declared.rules.Element.TheVariants as element
 use Rattle.proto_lower.specs.Options.{bracketed, message_setting, enum_setting, service_setting, rpc_setting}
 use Rattle.proto_lower.specs.Services.{rpc_items}

@@ -4,24 +4,24 @@
 use Rattle.std.specs.Prelude.{ℕ, ◌+◌, ◌-◌, ◌^◌, List, [], ◌∷◌, map, flat_map, Option, Some, None}
 use Rattle.proto_base.specs.declared.place.Place.{Place}
 use Rattle.proto_base.specs.declared.place.Span.{Span}
-use Rattle.proto_syntax.specs.declared.tree.enumeration.EnumItem.{EnumItem}
-use Rattle.proto_syntax.specs.declared.tree.enumeration.EnumItem.TheVariants as enum_item
-use Rattle.proto_syntax.specs.declared.tree.field.Declarator.{Declarator}
-use Rattle.proto_syntax.specs.declared.tree.literal.NumberLiteral.{NumberLiteral}
-use Rattle.proto_syntax.specs.declared.tree.literal.SignedNumber.{SignedNumber}
-use Rattle.proto_syntax.specs.declared.tree.literal.StringValue.{StringValue}
-use Rattle.proto_syntax.specs.declared.tree.message.MessageItem.{MessageItem}
-use Rattle.proto_syntax.specs.declared.tree.message.MessageItem as message_item
-use Rattle.proto_syntax.specs.declared.tree.oneof.OneofItem.{OneofItem}
-use Rattle.proto_syntax.specs.declared.tree.oneof.OneofItem.TheVariants as oneof_item
-use Rattle.proto_syntax.specs.declared.tree.reserved.Range.{Range}
-use Rattle.proto_syntax.specs.declared.tree.reserved.RangeEnd.{RangeEnd}
-use Rattle.proto_syntax.specs.declared.tree.reserved.ReservedItems.{ReservedItems}
-use Rattle.proto_syntax.specs.declared.tree.reserved.ReservedItems.TheVariants as reserved_items
-use Rattle.proto_syntax.specs.declared.tree.reserved.UpperBound.{UpperBound}
-use Rattle.proto_syntax.specs.declared.tree.reserved.UpperBound.TheVariants as upper_bound
+use Rattle.proto_tree.specs.declared.enumeration.EnumItem.{EnumItem}
+use Rattle.proto_tree.specs.declared.enumeration.EnumItem.TheVariants as enum_item
+use Rattle.proto_tree.specs.declared.field.Declarator.{Declarator}
+use Rattle.proto_tree.specs.declared.literal.NumberLiteral.{NumberLiteral}
+use Rattle.proto_tree.specs.declared.literal.SignedNumber.{SignedNumber}
+use Rattle.proto_tree.specs.declared.literal.StringValue.{StringValue}
+use Rattle.proto_tree.specs.declared.message.MessageItem.{MessageItem}
+use Rattle.proto_tree.specs.declared.message.MessageItem as message_item
+use Rattle.proto_tree.specs.declared.oneof.OneofItem.{OneofItem}
+use Rattle.proto_tree.specs.declared.oneof.OneofItem.TheVariants as oneof_item
+use Rattle.proto_tree.specs.declared.reserved.Range.{Range}
+use Rattle.proto_tree.specs.declared.reserved.RangeEnd.{RangeEnd}
+use Rattle.proto_tree.specs.declared.reserved.ReservedItems.{ReservedItems}
+use Rattle.proto_tree.specs.declared.reserved.ReservedItems.TheVariants as reserved_items
+use Rattle.proto_tree.specs.declared.reserved.UpperBound.{UpperBound}
+use Rattle.proto_tree.specs.declared.reserved.UpperBound.TheVariants as upper_bound
 use Rattle.proto_lower.specs.Options.{separated}
-use Rattle.proto_lower.specs.Text.{joined}
+use Rattle.proto_tree.specs.Text.{joined}
 use Rattle.proto_checks.specs.Marks.{Marked}
 use Rattle.proto_checks.specs.declared.marks.MarkedNumber.{MarkedNumber}
 use Rattle.proto_checks.specs.declared.marks.MarkedRange.{MarkedRange}

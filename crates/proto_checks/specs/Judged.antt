@@ -3,11 +3,11 @@ use Rattle.std.specs.Prelude.{◌≡◌, Bool, ◌&&◌, not, List, Option, Some
 use Rattle.std.specs.List.{list_any}
 use Rattle.std.specs.Option.{is_some}
 use Rattle.proto_base.specs.declared.kind.Kind.TheVariants as kind
-use Rattle.proto_syntax.specs.declared.tree.option.Setting.{Setting}
+use Rattle.proto_tree.specs.declared.option.Setting.{Setting}
 use Rattle.proto_desc.specs.declared.rules.Element.{Element}
 use Rattle.proto_desc.specs.declared.rules.OptionRule.{OptionRule}
 use Rattle.proto_lower.specs.Options.{is_setting, value_of}
-use Rattle.proto_lower.specs.Text.{dotted}
+use Rattle.proto_tree.specs.Text.{dotted}
 use Rattle.proto_desc.specs.Rules.{rules_of}
 use Rattle.proto_base.specs.Least.{spot}
 use Rattle.proto_checks.specs.Marks.{Marked}

@@ -1,9 +1,9 @@
 -- The rules on the numbers of a message's fields and of an enum's values, and on what is reserved.
 use Rattle.std.specs.Prelude.{◌≡◌, ◌≢◌, ℕ, ◌+◌, ◌-◌, ◌^◌, ◌≤◌, List, flat_map, Option, Some, None}
 use Rattle.proto_base.specs.declared.kind.Kind.TheVariants as kind
-use Rattle.proto_syntax.specs.declared.tree.enumeration.EnumItem.{EnumItem}
-use Rattle.proto_syntax.specs.declared.tree.message.MessageItem.{MessageItem}
-use Rattle.proto_syntax.specs.declared.tree.option.Setting.{Setting}
+use Rattle.proto_tree.specs.declared.enumeration.EnumItem.{EnumItem}
+use Rattle.proto_tree.specs.declared.message.MessageItem.{MessageItem}
+use Rattle.proto_tree.specs.declared.option.Setting.{Setting}
 use Rattle.proto_desc.specs.declared.options.OptionValue.TheVariants.{Number}
 use Rattle.proto_desc.specs.declared.rules.OptionName.TheVariants.{AllowAlias}
 use Rattle.proto_desc.specs.declared.rules.ValueKind.TheVariants as value_kind

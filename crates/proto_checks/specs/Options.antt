@@ -3,22 +3,22 @@ use Rattle.std.specs.Prelude.{◌≡◌, ◌≢◌, ℕ, Bool, true, false, ◌&
 use Rattle.proto_base.specs.declared.kind.Kind.TheVariants as kind
 use Rattle.proto_base.specs.declared.place.Place.{Place}
 use Rattle.proto_base.specs.declared.place.Span.{Span}
-use Rattle.proto_syntax.specs.declared.tree.constant.Constant.{Constant}
-use Rattle.proto_syntax.specs.declared.tree.constant.Constant.TheVariants as constant
-use Rattle.proto_syntax.specs.declared.tree.constant.Sign.{Sign}
-use Rattle.proto_syntax.specs.declared.tree.constant.Sign.TheVariants as sign
-use Rattle.proto_syntax.specs.declared.tree.field.Declarator.{Declarator}
-use Rattle.proto_syntax.specs.declared.tree.field.Field.{Field}
-use Rattle.proto_syntax.specs.declared.tree.field.FieldType.{FieldType}
-use Rattle.proto_syntax.specs.declared.tree.field.FieldType.TheVariants.{Scalar}
-use Rattle.proto_syntax.specs.declared.tree.field.Label.{Label}
-use Rattle.proto_syntax.specs.declared.tree.field.Label.TheVariants as label
-use Rattle.proto_syntax.specs.declared.tree.message.MessageItem.{MessageItem}
-use Rattle.proto_syntax.specs.declared.tree.message.MessageItem as message_item
-use Rattle.proto_syntax.specs.declared.tree.oneof.OneofField.{OneofField}
-use Rattle.proto_syntax.specs.declared.tree.oneof.OneofItem.{OneofItem}
-use Rattle.proto_syntax.specs.declared.tree.oneof.OneofItem.TheVariants as oneof_item
-use Rattle.proto_syntax.specs.declared.tree.option.Setting.{Setting}
+use Rattle.proto_tree.specs.declared.constant.Constant.{Constant}
+use Rattle.proto_tree.specs.declared.constant.Constant.TheVariants as constant
+use Rattle.proto_tree.specs.declared.constant.Sign.{Sign}
+use Rattle.proto_tree.specs.declared.constant.Sign.TheVariants as sign
+use Rattle.proto_tree.specs.declared.field.Declarator.{Declarator}
+use Rattle.proto_tree.specs.declared.field.Field.{Field}
+use Rattle.proto_tree.specs.declared.field.FieldType.{FieldType}
+use Rattle.proto_tree.specs.declared.field.FieldType.TheVariants.{Scalar}
+use Rattle.proto_tree.specs.declared.field.Label.{Label}
+use Rattle.proto_tree.specs.declared.field.Label.TheVariants as label
+use Rattle.proto_tree.specs.declared.message.MessageItem.{MessageItem}
+use Rattle.proto_tree.specs.declared.message.MessageItem as message_item
+use Rattle.proto_tree.specs.declared.oneof.OneofField.{OneofField}
+use Rattle.proto_tree.specs.declared.oneof.OneofItem.{OneofItem}
+use Rattle.proto_tree.specs.declared.oneof.OneofItem.TheVariants as oneof_item
+use Rattle.proto_tree.specs.declared.option.Setting.{Setting}
 use Rattle.proto_base.specs.declared.scalar_type.ScalarType.TheVariants as scalar
 use Rattle.proto_desc.specs.declared.options.OptionValue.TheVariants.{Number}
 use Rattle.proto_desc.specs.declared.rules.Element.{Element}
@@ -28,7 +28,7 @@ use Rattle.proto_desc.specs.declared.rules.OptionRule.{OptionRule}
 use Rattle.proto_desc.specs.declared.rules.ValueKind.{ValueKind}
 use Rattle.proto_desc.specs.declared.rules.ValueKind.TheVariants as value_kind
 use Rattle.proto_lower.specs.Options.{bracketed, is_setting, number_of, value_of}
-use Rattle.proto_lower.specs.Text.{dotted}
+use Rattle.proto_tree.specs.Text.{dotted}
 use Rattle.proto_desc.specs.Rules.{rules_of}
 use Rattle.proto_base.specs.Least.{spot}
 use Rattle.proto_base.specs.Sets.{Each, Later}

@@ -1,7 +1,7 @@
 //! Rules on the statements of a message, and of the messages within it.
 
 ghost use Rattle.std.specs.Prelude.{◌≡◌, IfOk, flat_map};
-ghost use Rattle.proto_syntax.specs.declared.tree.message.MessageItem as message_item;
+ghost use Rattle.proto_tree.specs.declared.message.MessageItem as message_item;
 ghost use Rattle.proto_checks.specs.Elements.{bodies, BodyBreaks, ItemBreaks};
 ghost use Rattle.proto_base.specs.Least.{IsLeast};
 ghost use Rattle.proto_checks.specs.Options.{optioned_plain, optioned_in_oneof, optioned_member, FieldOptionsBreak};
@@ -14,7 +14,7 @@ use crate::oneof::oneof_fault;
 use crate::options::settings_fault;
 use crate::settings::message_settings;
 use proto_base::{Spot, lesser};
-use proto_syntax::tree::{Field, Message, MessageItem, Oneof, OneofField, OneofItem};
+use proto_tree::{Field, Message, MessageItem, Oneof, OneofField, OneofItem};
 use std::alloc::{AllocError, Global};
 
 fn field_fault(alloc: Global, field: &Field) -> Result<Option<Spot>, AllocError>

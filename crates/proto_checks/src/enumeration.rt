@@ -11,7 +11,7 @@ use crate::options::settings_fault;
 use crate::settings::{bracketed_settings, enum_settings};
 use proto_base::{Kind, Spot, lesser};
 use proto_desc::rules::Element;
-use proto_syntax::tree::{Enum, EnumItem, EnumValue};
+use proto_tree::{Enum, EnumItem, EnumValue};
 use std::alloc::{AllocError, Global};
 
 fn has_value(items: &[EnumItem]) -> bool

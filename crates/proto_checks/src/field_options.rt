@@ -6,12 +6,13 @@ ghost use Rattle.proto_base.specs.Least.{IsLeast};
 ghost use Rattle.proto_checks.specs.Options.{is_packed_type, is_wide, is_repeated, IsWronglyPacked, IsOtherType, IsWronglyTyped, IsWrongOnField, FieldOptionsBreak, optioned};
 ghost use Rattle.proto_base.specs.Sets.{Each};
 
-use crate::options::{choice_of_value, is_setting, is_true, name_place, settings_fault};
+use crate::options::{choice_of_value, is_true, name_place, settings_fault};
 use crate::settings::bracketed_settings;
 use proto_base::scalar_type::ScalarType;
 use proto_base::{Kind, Spot, lesser};
 use proto_desc::rules::{Element, OptionName, ValueKind};
-use proto_syntax::tree::{Declarator, FieldType, Label, Options, Setting};
+use proto_lower::is_setting;
+use proto_tree::{Declarator, FieldType, Label, Options, Setting};
 use std::alloc::{AllocError, Global};
 
 /// Whether a repeated field of this type may be packed. Of a type by its name it is known where names are resolved.

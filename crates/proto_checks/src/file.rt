@@ -18,11 +18,11 @@ use crate::package::{package_lengths_fault, package_twice};
 use crate::repeats::first_text_twice;
 use crate::service::service_fault;
 use crate::settings::file_settings;
-use crate::text::joined;
 use proto_base::{Kind, Limits, Place, Spot, lesser};
 use proto_desc::file::{FileDesc, ImportDesc, PackageDesc};
 use proto_desc::message::MessageDesc;
-use proto_syntax::tree::{FileTree, Statement, Syntax};
+use proto_tree::text::joined;
+use proto_tree::{FileTree, Statement, Syntax};
 use std::alloc::{AllocError, Global};
 
 fn syntax_fault(alloc: Global, syntax: &Syntax) -> Result<Option<Spot>, AllocError>

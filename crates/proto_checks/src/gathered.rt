@@ -5,7 +5,7 @@ ghost use Rattle.proto_checks.specs.Gathered.{literal, member_number, field_numb
 
 use crate::marks::{MarkedNumber, MarkedRange};
 use proto_base::{Place, Span};
-use proto_syntax::tree::{
+use proto_tree::{
     EnumItem, MessageItem, NumberLiteral, OneofItem, Range, ReservedItems, SignedNumber, UpperBound,
 };
 use std::alloc::{AllocError, Global};

@@ -23,6 +23,6 @@ mod repeats;
 mod reserved_names;
 mod service;
 mod settings;
-mod text;
 
 pub use file::first_check_fault;
+pub use marks::{MarkedNumber, MarkedRange, MarkedText};

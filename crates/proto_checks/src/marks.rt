@@ -3,26 +3,26 @@
 use proto_base::Place;
 use std::marker::Model;
 
-/// A number. Those of an enum are counted from -2^64 on, so that all are numbers without a sign.
+/// A number, with the place at which it is at fault. Those of an enum are counted from -2^64 on, so that all are numbers without a sign.
 #[derive(Clone, Copy, PartialEq, Eq)]
-pub(crate) struct MarkedNumber {
-    pub(crate) number: u128,
-    pub(crate) place: Place,
+pub struct MarkedNumber {
+    pub number: u128,
+    pub place: Place,
 }
 
-/// The numbers from `start` to `end`, none where `end` is less.
+/// The numbers from `start` to `end`, none where `end` is less, with the place at which they are at fault.
 #[derive(Clone, Copy, PartialEq, Eq)]
-pub(crate) struct MarkedRange {
-    pub(crate) start: u128,
-    pub(crate) end: u128,
-    pub(crate) place: Place,
+pub struct MarkedRange {
+    pub start: u128,
+    pub end: u128,
+    pub place: Place,
 }
 
-/// A text.
+/// A text, with the place at which it is at fault.
 #[derive(Drop)]
-pub(crate) struct MarkedText<'a> {
-    pub(crate) text: &'a str,
-    pub(crate) place: Place,
+pub struct MarkedText<'a> {
+    pub text: &'a str,
+    pub place: Place,
 }
 
 impl<'a> Model for MarkedText<'a> {

@@ -18,7 +18,7 @@ use crate::ranges::{first_backwards, first_overlap, first_reserved_number};
 use crate::repeats::first_number_twice;
 use crate::reserved_names::{enum_reserved_names, first_reserved_twice, message_reserved_names};
 use proto_base::{Kind, Spot, lesser};
-use proto_syntax::tree::{EnumItem, MessageItem};
+use proto_tree::{EnumItem, MessageItem};
 use std::alloc::{AllocError, Global};
 
 fn first_range_fault(

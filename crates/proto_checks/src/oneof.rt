@@ -8,7 +8,7 @@ ghost use Rattle.proto_base.specs.Least.{IsLeast};
 use crate::options::settings_fault;
 use crate::settings::oneof_settings;
 use proto_base::{Kind, Spot, lesser};
-use proto_syntax::tree::{Oneof, OneofItem};
+use proto_tree::{Oneof, OneofItem};
 use std::alloc::{AllocError, Global};
 
 fn has_member(items: &[OneofItem]) -> bool

@@ -10,26 +10,17 @@ ghost use Rattle.proto_checks.specs.Options.{name_place, value_place, choice_of_
 ghost use Rattle.proto_checks.specs.Judged.{is_known, is_mistaken, setting_fault, judged, judged_name, IsFaultOf, JudgedTwice};
 ghost use Rattle.proto_base.specs.Sets.{Each};
 ghost use Rattle.proto_desc.specs.declared.rules.Element.{Element};
-ghost use Rattle.proto_syntax.specs.declared.tree.option.Setting.{Setting};
+ghost use Rattle.proto_tree.specs.declared.option.Setting.{Setting};
 
 use crate::marks::MarkedText;
 use crate::repeats::first_text_twice;
-use crate::text::{dotted, simple_name};
 use proto_base::text::Text;
 use proto_base::{Kind, Place, Spot, lesser};
-use proto_desc::rules::{Element, OptionName, ValueKind, rules};
-use proto_syntax::tree::{Constant, FullName, Setting, Sign};
+use proto_desc::rules::{Element, ValueKind, rules};
+use proto_lower::is_setting;
+use proto_tree::text::{dotted, simple_name};
+use proto_tree::{Constant, FullName, Setting, Sign};
 use std::alloc::{AllocError, Global};
-
-/// Whether a setting is of this option.
-pub(crate) fn is_setting(setting: &Setting, name: OptionName) -> bool
-    ensures { result ≡ is_setting name setting.now }
-{
-    match simple_name(&setting.name) {
-        Some(word) => word == name.word(),
-        None => false,
-    }
-}
 
 fn number_of(kind: ValueKind, name: &FullName) -> Option<u64>
     ensures { result ≡ number_of kind name.now }

@@ -1,7 +1,7 @@
 //! Reserved names: that none is reserved twice, and that none is in use.
 
 ghost use Rattle.std.specs.Prelude.{◌≡◌, ◌++◌, IfOk, OnOk, map, string_bytes};
-ghost use Rattle.proto_lower.specs.Text.{joined};
+ghost use Rattle.proto_tree.specs.Text.{joined};
 ghost use Rattle.proto_base.specs.declared.kind.Kind.TheVariants.{ReservedNameTwice};
 ghost use Rattle.proto_checks.specs.Gathered.{names_listed, reserved_name, message_reserved_names, enum_reserved_names};
 ghost use Rattle.proto_base.specs.Least.{IsLeast};
@@ -10,10 +10,10 @@ ghost use Rattle.proto_checks.specs.NameSets.{IsSetOf};
 
 use crate::marks::MarkedText;
 use crate::repeats::first_text_twice;
-use crate::text::joined;
 use proto_base::text::Text;
 use proto_base::{Kind, Place, Spot, lesser};
-use proto_syntax::tree::{EnumItem, MessageItem, ReservedItems, StringValue};
+use proto_tree::text::joined;
+use proto_tree::{EnumItem, MessageItem, ReservedItems, StringValue};
 use std::alloc::{AllocError, Global};
 use std::collections::BTreeSet;
 use std::marker::Model;

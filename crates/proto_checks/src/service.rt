@@ -9,7 +9,7 @@ ghost use Rattle.proto_base.specs.Sets.{Each};
 use crate::options::settings_fault;
 use crate::settings::{method_settings, service_settings};
 use proto_base::{Spot, lesser};
-use proto_syntax::tree::{Rpc, RpcBody, RpcItem, Service, ServiceItem};
+use proto_tree::{Rpc, RpcBody, RpcItem, Service, ServiceItem};
 use std::alloc::{AllocError, Global};
 
 fn rpc_items<'t, 's>(body: &'t RpcBody<'s>) -> &'t [RpcItem<'s>]

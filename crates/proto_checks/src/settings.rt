@@ -8,9 +8,7 @@ ghost use Rattle.proto_checks.specs.Judged.{judged};
 
 use crate::options::{Judged, judge};
 use proto_desc::rules::Element;
-use proto_syntax::tree::{
-    EnumItem, MessageItem, OneofItem, Options, RpcItem, ServiceItem, Statement,
-};
+use proto_tree::{EnumItem, MessageItem, OneofItem, Options, RpcItem, ServiceItem, Statement};
 use std::alloc::{AllocError, Global};
 
 /// Those of a file.

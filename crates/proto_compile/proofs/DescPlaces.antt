@@ -9,9 +9,10 @@ use Rattle.proto_desc.specs.declared.file.ImportDesc.{ImportDesc}
 use Rattle.proto_desc.specs.declared.file.PackageDesc.{PackageDesc}
 use Rattle.proto_desc.specs.declared.service.MethodDesc.{MethodDesc}
 use Rattle.proto_desc.specs.declared.service.ServiceDesc.{ServiceDesc}
-use Rattle.proto_lower.proofs.PlacesWithin.{AtMost, front, rest, both, each_map, each_weaker}
-use Rattle.proto_checks.proofs.Spots.{Placed}
-use Rattle.proto_checks.proofs.Within.{given}
+use Rattle.proto_file.specs.Places.{AtMost}
+use Rattle.proto_file.proofs.PlacesWithin.{front, rest, both, each_map, each_weaker}
+use Rattle.proto_file.proofs.Spots.{Placed}
+use Rattle.proto_file.proofs.Within.{given}
 use Rattle.proto_names.specs.Occurrences.{Occurrence, declared_occurrence, package_occurrence, package_occurrences, occurrences_of}
 use Rattle.proto_names.specs.Scopes.{fronts}
 use Rattle.proto_names.specs.declared.resolve.Want.TheVariants as want

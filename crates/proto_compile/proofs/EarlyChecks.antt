@@ -13,10 +13,10 @@ use Rattle.proto_base.specs.declared.limits.Limits.{Limits}
 use Rattle.proto_base.specs.declared.place.Place.{Place}
 use Rattle.proto_compile.specs.Descriptions.{Describe, SourceDescribes}
 use Rattle.proto_compile.specs.Faults.{Stands, start}
-use Rattle.proto_compile.specs.Local.{IsLocalFault}
+use Rattle.proto_file.specs.Local.{IsLocalFault}
 use Rattle.proto_compile.specs.Sources.{AreByName, AreSorted, IsFirstRepeated, name_at, name_of, text_of}
 use Rattle.proto_compile.specs.declared.source.Source.{Source}
-use Rattle.proto_compile.proofs.OneLocal.{no_local, one_local}
+use Rattle.proto_file.proofs.OneLocal.{no_local, one_local}
 use Rattle.proto_compile.proofs.OneOrder.{none_repeated, one_names, one_order, one_repeated, same_name_at}
 use Rattle.proto_compile.proofs.OneTyping.{one_description, standing_in, standing_one, zipped_at}
 use Rattle.proto_compile.proofs.Checks.{Check, IsExact, Told, told}

@@ -1,54 +1,101 @@
--- What is wrong with one source by itself.
-use Rattle.std.proofs.Common.{◌∷◌, zero, suc, map, ◌≡◌, ◌∙◌, ℕ, List, [], Some, None, ap, sym, refl, subst, length}
-use Rattle.std.specs.Prelude.{slice_get, Result, Err}
-use Rattle.std.specs.Option.{option_map, unwrap_or}
-use Rattle.proto_base.specs.Limits.{limit_of}
-use Rattle.proto_tokens.specs.Token.{Spelled, spelled, tokens_of}
-use Rattle.proto_base.specs.declared.limits.Limit.TheVariants as limit
-use Rattle.proto_base.specs.declared.limits.Limits.{Limits}
-use Rattle.proto_tokens.specs.declared.token.Token.{Token}
-use Rattle.proto_tokens.specs.Spelling.{IsTokenList, IsFault}
+-- What a pass finds in each file, judged: all of it without a fault, or the first fault.
+use Rattle.std.proofs.Common.{◌≡◌, ◌∙◌, sym, ap, refl, subst, ℕ, zero, suc, ◌+◌, ◌<◌, List, [], ◌∷◌, ◌++◌, length, take, get_or, map, arith}
+use Rattle.std.specs.List.{AllZip}
+use Rattle.std.proofs.lemmas.List.{get_or_default, length-take, map-append, take_more}
+use Rattle.std.specs.Prelude.{Result, Ok, Err, IfOk, IfErr}
 use Rattle.proto_base.specs.declared.kind.Kind.{Kind}
 use Rattle.proto_base.specs.declared.place.Place.{Place}
-use Rattle.proto_tokens.specs.declared.token.Tokens.{Tokens}
-use Rattle.proto_syntax.specs.Fault.{IsTreeOf, IsFaultAt, IsKindOf, place_at}
-use Rattle.proto_syntax.specs.Trees.{file_tree}
-use Rattle.proto_syntax.specs.declared.tree.file.FileTree.{FileTree}
-use Rattle.proto_lower.specs.Files.{lowered}
-use Rattle.proto_desc.specs.declared.file.FileDesc.{FileDesc}
-use Rattle.proto_checks.specs.Checks.{FileBreaks}
-use Rattle.proto_base.specs.Least.{IsLeast, spot}
-use Rattle.proto_compile.specs.Local.{IsLocalFault, of_tokens, of_grammar, of_checks, IsUnbroken, place_of_token}
-use Rattle.proto_compile.specs.declared.local.LocalError.{LocalError}
-use Rattle.proto_compile.specs.declared.local.LocalError.TheVariants as errors
+use Rattle.proto_file.specs.declared.error.FileError.{FileError}
+use Rattle.proto_file.specs.declared.error.FileError.TheVariants as fault
+use Rattle.proto_compile.specs.Analysed.{AllZipFrom}
+use Rattle.proto_compile.specs.Outcomes.{IsFirstBad, TellsFirst, TellsOfFile}
+use Rattle.proto_compile.specs.Sources.{name_at}
+use Rattle.proto_compile.specs.declared.error.CompileError.{CompileError}
+use Rattle.proto_compile.specs.declared.error.CompileError.TheVariants as errors
+use Rattle.proto_compile.specs.declared.source.Source.{Source}
 
--- a fault that an error has
-pub answered : (limits : Limits) (name text : List ℕ) (a : ℕ) (p : Place) (k : Kind) (step : ℕ) (place : Place) (kind : Kind) → IsLocalFault limits name text a p k
-    → (errors.At a p k ≡ errors.At step place kind) → IsLocalFault limits name text step place kind
-answered limits name text a p k step place kind fault e =
-    let same_step : a ≡ step = cc in
-    let same_place : p ≡ place = cc in
-    let same_kind : k ≡ kind = cc in
-    rw (← same_step, ← same_place, ← same_kind) fault
+pub zip_length : {X Y : Type 0} (R : ℕ → X → Y → Type 0) (a : ℕ) (xs : List X) (ys : List Y) → AllZipFrom R a xs ys → length xs ≡ length ys
+zip_length R a [] [] all = refl
+zip_length R a [] (y ∷ ys) all = absurd all
+zip_length R a (x ∷ xs) [] all = absurd all
+zip_length R a (x ∷ xs) (y ∷ ys) all = ap suc (zip_length R (a + 1) xs ys all.1)
 
-offset_of_token : (tokens : List Token) (k : ℕ) (end : Place) → (unwrap_or (option_map (λ (t : Token). t.span.start) (slice_get tokens k)) end).offset ≡ place_of_token (map spelled tokens) k end.offset
-offset_of_token [] zero end = refl
-offset_of_token [] (suc k) end = refl
-offset_of_token (t ∷ tokens) zero end = refl
-offset_of_token (t ∷ tokens) (suc k) end = offset_of_token tokens k end
+-- one more of each
+pub zip_from_end : {X Y : Type 0} (R : ℕ → X → Y → Type 0) (a : ℕ) (xs : List X) (ys : List Y) (x : X) (y : Y) → AllZipFrom R a xs ys → R (a + length xs) x y → AllZipFrom R a (xs ++ x ∷ []) (ys ++ y ∷ [])
+zip_from_end R a [] [] x y all last = let at : a + 0 ≡ a = omega arith in (subst (λ k. R k x y) at last, tt)
+zip_from_end R a [] (h ∷ ys) x y all last = absurd all
+zip_from_end R a (e ∷ xs) [] x y all last = absurd all
+zip_from_end R a (e ∷ xs) (h ∷ ys) x y all last =
+    let at : a + length (e ∷ xs) ≡ a + 1 + length xs = omega arith in
+    (all.0, zip_from_end R (a + 1) xs ys x y all.1 (subst (λ k. R k x y) at last))
 
-place_of : (tokens : Tokens) (k n : ℕ) (place : Place) → place ≡ place_at tokens k → tokens.end.offset ≡ n → place.offset ≡ place_of_token (tokens_of tokens) k n
-place_of tokens k n place at end = ap (λ (p : Place). p.offset) at ∙ offset_of_token tokens.items.items k tokens.end ∙ ap (place_of_token (tokens_of tokens) k) end
+-- the same of the first k of each
+pub zip_take : {X Y : Type 0} (R : ℕ → X → Y → Type 0) (a k : ℕ) (xs : List X) (ys : List Y) → AllZipFrom R a xs ys → AllZipFrom R a (take k xs) (take k ys)
+zip_take R a zero xs ys all = tt
+zip_take R a (suc k) [] [] all = tt
+zip_take R a (suc k) [] (y ∷ ys) all = absurd all
+zip_take R a (suc k) (x ∷ xs) [] all = absurd all
+zip_take R a (suc k) (x ∷ xs) (y ∷ ys) all = (all.0, zip_take R (a + 1) k xs ys all.1)
 
-pub grammar_fault : (limits : Limits) (name text : List ℕ) (tokens : Tokens) (place : Place) (kind : Kind)
-    → (k : ℕ) × IsFaultAt (limit_of limits limit.Depth) (tokens_of tokens) k × IsKindOf (tokens_of tokens) k kind × (place ≡ place_at tokens k)
-    → IsTokenList (limit_of limits limit.FileBytes) text (tokens_of tokens) → tokens.end.offset ≡ length text → IsLocalFault limits name text 1 place kind
-grammar_fault limits name text tokens place kind (k, fault, is_kind, at) is end = of_grammar refl (tokens_of tokens, k, is, fault, is_kind, place_of tokens k (length text) place at end)
+-- what stands at one position in both
+pub zip_at : {X Y : Type 0} (R : ℕ → X → Y → Type 0) (a k : ℕ) (xs : List X) (ys : List Y) (x : X) (y : Y) → k < length xs → AllZipFrom R a xs ys → R (a + k) (get_or xs k x) (get_or ys k y)
+zip_at R a k [] ys x y h all = absurd (omega (arith, h))
+zip_at R a k (e ∷ xs) [] x y h all = absurd all
+zip_at R a zero (e ∷ xs) (f ∷ ys) x y h all = let at : a ≡ a + 0 = omega arith in subst (λ k. R k e f) at all.0
+zip_at R a (suc k) (e ∷ xs) (f ∷ ys) x y h all = let at : a + 1 + k ≡ a + suc k = omega arith in subst (λ j. R j (get_or xs k x) (get_or ys k y)) at (zip_at R (a + 1) k xs ys x y (omega (arith, h)) all.1)
 
-pub check_fault : (limits : Limits) (name text : List ℕ) (tokens : Tokens) (file : FileTree) (place : Place) (kind : Kind)
-    → IsTreeOf (limit_of limits limit.Depth) (tokens_of tokens) (file_tree file) → IsTokenList (limit_of limits limit.FileBytes) text (tokens_of tokens)
-    → IsLeast (FileBreaks limits file (lowered name file)) (Some (spot place kind)) → IsLocalFault limits name text 2 place kind
-check_fault limits name text tokens file place kind tree is least = of_checks refl (file, (tokens_of tokens, is, tree), least)
+-- where no outcome is a fault
+pub zip_well : {X Y E : Type 0} (R : ℕ → X → Result Y E → Type 0) (a : ℕ) (xs : List X) (ys : List Y) → AllZipFrom R a xs (map Ok ys) → AllZipFrom (λ k x y. R k x (Ok y)) a xs ys
+zip_well R a [] [] all = tt
+zip_well R a [] (y ∷ ys) all = absurd all
+zip_well R a (x ∷ xs) [] all = absurd all
+zip_well R a (x ∷ xs) (y ∷ ys) all = (all.0, zip_well R (a + 1) xs ys all.1)
 
-pub unbroken_by : (limits : Limits) (name : List ℕ) (file : FileTree) → IsLeast (FileBreaks limits file (lowered name file)) None → IsUnbroken limits name file
-unbroken_by limits name file least x broken = least.least x broken
+pub zip_weaker : {X Y : Type 0} (R S : ℕ → X → Y → Type 0) (a : ℕ) (xs : List X) (ys : List Y) → ((k : ℕ) (x : X) (y : Y) → R k x y → S k x y) → AllZipFrom R a xs ys → AllZipFrom S a xs ys
+zip_weaker R S a [] [] h all = tt
+zip_weaker R S a [] (y ∷ ys) h all = absurd all
+zip_weaker R S a (x ∷ xs) [] h all = absurd all
+zip_weaker R S a (x ∷ xs) (y ∷ ys) h all = (h a x y all.0, zip_weaker R S (a + 1) xs ys h all.1)
+
+-- where positions do not matter
+pub zip_plain : {X Y : Type 0} (R : X → Y → Type 0) (a : ℕ) (xs : List X) (ys : List Y) → AllZipFrom (λ k. R) a xs ys → AllZip R xs ys
+zip_plain R a [] [] all = tt
+zip_plain R a [] (y ∷ ys) all = absurd all
+zip_plain R a (x ∷ xs) [] all = absurd all
+zip_plain R a (x ∷ xs) (y ∷ ys) all = (all.0, zip_plain R (a + 1) xs ys all.1)
+
+-- one more of each, where k of them are so related
+pub zip_from_next : {X Y : Type 0} (R : ℕ → X → Y → Type 0) (xs : List X) (k : ℕ) (x : X) (ys : List Y) (y : Y) → k < length xs → x ≡ get_or xs k x → AllZipFrom R 0 (take k xs) ys → R k x y
+    → AllZipFrom R 0 (take (k + 1) xs) (ys ++ y ∷ [])
+zip_from_next R xs k x ys y h is all last =
+    let at : k ≡ 0 + length (take k xs) = omega (arith, length-take k xs, h) in
+    rw (take_more xs k x h) (subst (λ z. AllZipFrom R 0 (take k xs ++ z ∷ []) (ys ++ y ∷ [])) is (zip_from_end R 0 (take k xs) ys x y all (subst (λ j. R j x y) at last)))
+
+-- the same, read with any default
+pub zip_from_at : {X Y : Type 0} (R : ℕ → X → Y → Type 0) (xs : List X) (k : ℕ) (d : X) (ys : List Y) (y : Y) → k < length xs → AllZipFrom R 0 (take k xs) ys → R k (get_or xs k d) y → AllZipFrom R 0 (take (k + 1) xs) (ys ++ y ∷ [])
+zip_from_at R xs k d ys y h all last = zip_from_next R xs k (get_or xs k d) ys y h (get_or_default xs k d (get_or xs k d) h) all last
+
+-- ---- results
+
+pub ok_map : {A E : Type 0} (P Q : A → Type 0) (r : Result A E) → ((a : A) → P a → Q a) → IfOk r P → IfOk r Q
+ok_map P Q (Ok a) h p = h a p
+ok_map P Q (Err e) h p = tt
+
+pub err_map : {A E : Type 0} (P Q : E → Type 0) (r : Result A E) → ((e : E) → P e → Q e) → IfErr r P → IfErr r Q
+err_map P Q (Ok a) h p = tt
+err_map P Q (Err e) h p = h e p
+
+-- ---- the first fault
+
+-- an error that names the fault of the file at k, before which no file has one
+pub told_first : {T : Type 0} (number : ℕ) (files : List Source) (outcomes : List (Result T FileError)) (k : ℕ) (ts : List T) (o : Result T FileError) (error : FileError) (e : CompileError)
+    → TellsOfFile number (name_at files k) error e → map Ok ts ≡ take k outcomes → k < length outcomes → o ≡ get_or outcomes k o → o ≡ Err error → TellsFirst number files outcomes e
+told_first number files outcomes k ts o (fault.At step place kind) (errors.First f) t well below at is =
+    let bad : get_or outcomes k (Err fault.NoMemory) ≡ Err (fault.At step place kind) = get_or_default outcomes k (Err fault.NoMemory) o below ∙ sym at ∙ is in
+    (k, t.0, t.1, record { well = (ts, sym well); below = below; bad = rw (t.2, t.3, t.4) bad })
+told_first number files outcomes k ts o (fault.At step place kind) errors.NoMemory t well below at is = tt
+told_first number files outcomes k ts o fault.NoMemory e t well below at is = rw t tt
+
+-- one more without a fault
+pub well_more : {T : Type 0} (ts : List T) (os : List (Result T FileError)) (x : T) (o : Result T FileError) → map Ok ts ≡ os → o ≡ Ok x → map Ok (ts ++ x ∷ []) ≡ os ++ o ∷ []
+well_more ts os x o so_far is = map-append Ok ts (x ∷ []) ∙ ap (λ (ps : List (Result _ FileError)). ps ++ Ok x ∷ []) so_far ∙ ap (λ (p : Result _ FileError). os ++ p ∷ []) (sym is)

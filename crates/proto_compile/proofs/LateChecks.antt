@@ -3,7 +3,7 @@ use Rattle.std.proofs.Common.{◌≡◌, ◌∙◌, sym, ℕ, ◌<◌, ◌≤◌
 use Rattle.std.specs.List.{All}
 use Rattle.std.proofs.lemmas.Bool.{cases_order}
 use Rattle.proto_desc.specs.declared.file.FileDesc.{FileDesc}
-use Rattle.proto_links.proofs.Unique.{same_place}
+use Rattle.proto_base.proofs.Spots.{same_place}
 use Rattle.proto_links.specs.Imports as imports
 use Rattle.proto_links.specs.Linked.{Linked}
 use Rattle.proto_names.specs.Index.{Index, IsRepeated}

@@ -4,12 +4,10 @@ pub mod DescPlaces
 pub mod EarlyChecks
 pub mod Judging
 pub mod LateChecks
-pub mod LocalPlaces
 pub mod Making
 pub mod MessagePlaces
 pub mod OneAnswer
 pub mod OneCompilation
-pub mod OneLocal
 pub mod OneOrder
 pub mod OneTyping
 pub mod Placing
@@ -20,5 +18,6 @@ pub mod Setting
 pub mod Sorting
 mod Tabling
 pub mod Typing
+pub mod Within
 pub mod Writing
 pub mod Zipping

@@ -1,19 +1,21 @@
 -- What sources are compiled to.
 use Rattle.std.proofs.Common.{◌≡◌, ◌∙◌, sym, ap, refl, inl, inr, Bool, false, ℕ, suc, ◌+◌, ◌<◌, ◌≤◌, List, [], ◌∷◌, map, length, arith, All}
+use Rattle.std.specs.List.{AllZip}
 use Rattle.std.specs.Prelude.{◌↔◌, Contains, IsTrue, Vec}
 use Rattle.std.specs.declared.alloc.Global.{Global}
 use Rattle.std.proofs.lemmas.Bool.{true≢false, cases_lt}
 use Rattle.std.proofs.lemmas.List.{length-map}
 use Rattle.proto_desc.specs.declared.file.FileDesc.{FileDesc}
-use Rattle.proto_links.specs.Linked.{Linked, count_of}
-use Rattle.proto_names.specs.Index.{Index, services_of}
+use Rattle.proto_links.specs.Linked.{AreLinked, Linked, count_of}
+use Rattle.proto_names.specs.Index.{Index, Indexes, services_of}
 use Rattle.proto_base.specs.Limits.{limit_of}
 use Rattle.proto_base.specs.declared.limits.Limit.TheVariants as limit
 use Rattle.proto_base.specs.declared.limits.Limits.{Limits}
 use Rattle.wire_bytes.specs.Descriptor.{file_desc_bytes}
-use Rattle.proto_compile.specs.Analysed.{AreResolved, AreTypedFrom}
+use Rattle.proto_compile.specs.Analysed.{AreResolved, AreTypedFrom, IsAnalysed}
 use Rattle.proto_compile.specs.Compilation.{Compilation, CompiledFile, IsShort, IsSound, IsWritten, file_bytes, file_name, set_of}
-use Rattle.proto_compile.specs.Sources.{name_of}
+use Rattle.proto_compile.specs.Descriptions.{SourceDescribes}
+use Rattle.proto_compile.specs.Sources.{AreByName, name_of}
 use Rattle.proto_compile.specs.Steps.{items_of}
 use Rattle.proto_compile.specs.declared.source.Source.{Source}
 use Rattle.proto_compile.proofs.Rising.{named_once}
@@ -23,12 +25,20 @@ use Rattle.proto_compile.proofs.Zipping.{same_length}
 abbrev pub compilation : Limits → List CompiledFile → Linked → Index → Compilation
 compilation limits files links index = record { files = files; links = links; index = index; limits = limits }
 
+-- what the passes up to names find, and those up to types
+pub analysed_of : (limits : Limits) (sources sorted : List Source) (descs : List FileDesc) (links : Linked) (index : Index) → length sources ≤ limit_of limits limit.Files → AreByName sources sorted → AllZip (SourceDescribes limits) sorted descs
+    → AreLinked descs links → Indexes descs limits index → IsAnalysed limits sources sorted descs links index
+analysed_of limits sources sorted descs links index few order each linked indexed = record { described = record { few = few; by_name = order; each = each }; linked = linked; indexed = indexed }
+
+pub resolved_of : (limits : Limits) (sources sorted : List Source) (descs typed : List FileDesc) (links : Linked) (index : Index) → IsAnalysed limits sources sorted descs links index → AreTypedFrom links index 0 descs typed → AreResolved limits sources sorted typed links index
+resolved_of limits sources sorted descs typed links index analysed each = record { descs = descs; analysed = analysed; each = each }
+
 -- one file for each source
 pub as_many : (sorted : List Source) (files : List CompiledFile) → map file_name files ≡ map name_of sorted → length files ≡ length sorted
 as_many sorted files names = let l = ap length names in let m = length-map files file_name in let k = length-map sorted name_of in omega (arith, l, m, k)
 
 -- one typed descriptor for each
-typed_length : (links : Linked) (index : Index) (a : ℕ) (descs typed : List FileDesc) → AreTypedFrom links index a descs typed → length descs ≡ length typed
+pub typed_length : (links : Linked) (index : Index) (a : ℕ) (descs typed : List FileDesc) → AreTypedFrom links index a descs typed → length descs ≡ length typed
 typed_length links index a [] [] all = refl
 typed_length links index a [] (g ∷ gs) all = absurd all
 typed_length links index a (f ∷ fs) [] all = absurd all

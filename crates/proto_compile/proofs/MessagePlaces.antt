@@ -16,10 +16,11 @@ use Rattle.proto_desc.specs.declared.oneof.OneofDesc.{OneofDesc}
 use Rattle.proto_desc.specs.declared.options.OptionDesc.{OptionDesc}
 use Rattle.proto_desc.specs.declared.type_name.TypeReference.{TypeReference}
 use Rattle.proto_desc.specs.declared.type_name.TypeReference.TheVariants.{Spelled, Resolved}
-use Rattle.proto_lower.proofs.PlacesWithin.{AtMost, front, rest, both, each_map, each_weaker, places_out}
+use Rattle.proto_file.specs.Places.{AtMost}
+use Rattle.proto_file.proofs.PlacesWithin.{front, rest, both, each_map, each_weaker, places_out}
 use Rattle.proto_checks.proofs.Named.{declared_before, declared_out, scope_in}
-use Rattle.proto_checks.proofs.Spots.{Placed}
-use Rattle.proto_checks.proofs.Within.{given}
+use Rattle.proto_file.proofs.Spots.{Placed}
+use Rattle.proto_file.proofs.Within.{given}
 use Rattle.proto_names.specs.declared.resolve.Want.{Want}
 use Rattle.proto_names.specs.declared.resolve.Want.TheVariants as want
 use Rattle.proto_types.specs.References.{Reference, references_of_type, references_of_kind, references_of_field, field_scope, references_step, references_by_message}

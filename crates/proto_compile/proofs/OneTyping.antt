@@ -8,7 +8,8 @@ use Rattle.proto_base.specs.Least.{IsLeast, spot}
 use Rattle.proto_base.specs.declared.spot.Spot.{Spot}
 use Rattle.proto_desc.specs.DeclaredNames.{file_scope}
 use Rattle.proto_desc.specs.declared.file.FileDesc.{FileDesc}
-use Rattle.proto_links.proofs.Unique.{one_spot, sees_same}
+use Rattle.proto_base.proofs.Spots.{one_spot}
+use Rattle.proto_links.proofs.Unique.{sees_same}
 use Rattle.proto_links.specs.Linked.{AreLinked, Linked}
 use Rattle.proto_names.proofs.Built.{below_files}
 use Rattle.proto_names.specs.Index.{Index, Indexes}
@@ -23,7 +24,7 @@ use Rattle.proto_compile.specs.Descriptions.{Describe, SourceDescribes}
 use Rattle.proto_compile.specs.Faults.{StandsDesc}
 use Rattle.proto_compile.specs.Sources.{name_of, text_of}
 use Rattle.proto_compile.specs.declared.source.Source.{Source}
-use Rattle.proto_compile.proofs.OneLocal.{one_descriptor}
+use Rattle.proto_file.proofs.OneLocal.{one_descriptor}
 use Rattle.proto_compile.proofs.OneOrder.{moved, one_order}
 
 -- ---- what stands at a place of a list

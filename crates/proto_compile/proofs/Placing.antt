@@ -12,13 +12,13 @@ use Rattle.proto_base.specs.declared.place.Place.{Place}
 use Rattle.proto_desc.specs.Places.{places_of}
 use Rattle.proto_desc.specs.declared.file.FileDesc.{FileDesc}
 use Rattle.proto_desc.specs.declared.file.ImportDesc.{ImportDesc}
-use Rattle.proto_lower.proofs.PlacesWithin.{AtMost}
+use Rattle.proto_file.specs.Places.{AtMost}
 use Rattle.proto_links.specs.Imports as imports
 use Rattle.proto_links.specs.Linked.{Linked}
 use Rattle.proto_base.specs.Least.{spot}
 use Rattle.proto_base.specs.Sets.{StandsAt}
 use Rattle.proto_base.specs.declared.spot.Spot.{Spot}
-use Rattle.proto_checks.proofs.Spots.{Placed, SpotWithin, at_spot, each_within, standing}
+use Rattle.proto_file.proofs.Spots.{Placed, SpotWithin, at_spot, each_within, standing}
 use Rattle.proto_names.specs.Index.{Index, IsRepeated}
 use Rattle.proto_names.specs.Occurrences.{Occurrence, occurrences_of, occurrences_from}
 use Rattle.proto_types.specs.References.{Reference, ReferenceBreaks, TypesBreak, references}
@@ -30,11 +30,11 @@ use Rattle.proto_compile.specs.declared.error.CompileError.{CompileError}
 use Rattle.proto_compile.specs.declared.error.CompileError.TheVariants as errors
 use Rattle.proto_compile.specs.declared.source.Source.{Source}
 use Rattle.proto_compile.proofs.DescPlaces.{OccurrenceAt, imports_at, occurrences_at, references_at}
-use Rattle.proto_compile.proofs.LocalPlaces.{IsInside, fault_inside, place_inside, places_within}
+use Rattle.proto_file.proofs.LocalPlaces.{IsInside, fault_inside, place_inside, places_within}
 use Rattle.proto_compile.proofs.MessagePlaces.{OptionAt, ReferenceAt}
 use Rattle.proto_compile.proofs.Rising.{names_differ}
 use Rattle.proto_compile.proofs.Sorting.{name_of_item}
-use Rattle.proto_compile.proofs.Zipping.{bad_within, same_length, same_names}
+use Rattle.proto_compile.proofs.Zipping.{bad_within, contains_second, same_length, same_names}
 
 -- ---- files by name
 
@@ -135,7 +135,7 @@ repeated_placed : (limits : Limits) (sources files : List Source) (descs : List 
     → IsPlaced limits sources (imports.name_at descs a) place
 repeated_placed limits sources files descs a place order all repeated =
     let (o, twice, in_a, at_place) = repeated.twice.found in
-    let (k, desc, at, here) = occurrence_in 0 descs o twice.0 in
+    let (k, desc, at, here) = occurrence_in 0 descs o (contains_second _ twice.0 o twice.1) in
     let (s, there, is) = described_at limits files descs all k desc at in
     let file = (occurrence_at (length (text_of s)) (0 + k) desc o here (places_within limits (name_of s) (text_of s) desc is)).0 in
     let same : k ≡ a = omega (arith, file, in_a) in

@@ -40,7 +40,7 @@ first_not Less p h = h
 first_not Equal p h = refl
 first_not Greater p h = refl
 
-first_of : (files : List Source) (k : ℕ) → k < length files → Source
+pub first_of : (files : List Source) (k : ℕ) → k < length files → Source
 first_of [] k h = absurd (omega (arith, h))
 first_of (s ∷ files) k h = s
 

@@ -1,44 +1,53 @@
 -- The pass over types.
-use Rattle.std.proofs.Common.{◌≡◌, ◌∙◌, sym, ℕ, ◌+◌, ◌<◌, List, [], ◌∷◌, ◌++◌, length, take, get_or, ap, arith, refl, subst}
-use Rattle.std.specs.Prelude.{Some}
-use Rattle.std.proofs.lemmas.List.{length-append}
+use Rattle.std.proofs.Common.{◌≡◌, ◌∙◌, sym, ℕ, ◌+◌, ◌<◌, List, [], ◌∷◌, length, map, take, get_or, ap, arith, subst, All, true}
+use Rattle.std.specs.Prelude.{Result, Ok, Err, Some}
+use Rattle.std.proofs.lemmas.List.{get_or_default}
 use Rattle.proto_base.specs.Least.{IsLeast, spot}
+use Rattle.proto_base.specs.declared.limits.Limits.{Limits}
+use Rattle.proto_desc.specs.Resolved.{file_resolved}
 use Rattle.proto_desc.specs.declared.file.FileDesc.{FileDesc}
+use Rattle.proto_file.specs.declared.error.FileError.{FileError}
+use Rattle.proto_file.specs.declared.error.FileError.TheVariants as local
 use Rattle.proto_links.specs.Imports as imports
 use Rattle.proto_links.specs.Linked.{Linked}
 use Rattle.proto_names.specs.Index.{Index}
-use Rattle.proto_base.specs.declared.kind.Kind.{Kind}
-use Rattle.proto_base.specs.declared.limits.Limits.{Limits}
-use Rattle.proto_base.specs.declared.place.Place.{Place}
-use Rattle.proto_types.specs.declared.typing.TypeError.{TypeError}
-use Rattle.proto_types.specs.declared.typing.TypeError.TheVariants as types
-use Rattle.proto_compile.specs.Analysed.{AreTypedFrom, IsAnalysed, TypesAt, TypesBreakAt}
-use Rattle.proto_compile.specs.Faults.{IsFirstFault, IsRefusal, StandsDesc, Tells, in_types}
+use Rattle.proto_compile.specs.Analysed.{AllZipFrom, AreTypedFrom, IsAnalysed, TypesAt, TypesBreakAt}
+use Rattle.proto_compile.specs.Faults.{IsFirstFault, IsRefusal, in_types}
+use Rattle.proto_compile.specs.Outcomes.{IsTyped, TellsFirst}
 use Rattle.proto_compile.specs.Sources.{name_at}
-use Rattle.proto_compile.specs.Steps.{TellsType}
 use Rattle.proto_compile.specs.declared.error.CompileError.{CompileError}
+use Rattle.proto_compile.specs.declared.error.CompileError.TheVariants as errors
 use Rattle.proto_compile.specs.declared.source.Source.{Source}
-use Rattle.proto_compile.proofs.Refusing.{told}
+use Rattle.proto_compile.proofs.Judging.{zip_at, zip_length, zip_take, zip_weaker, zip_well}
 use Rattle.proto_compile.proofs.Zipping.{same_names}
 
--- one more file
-pub typed_end : (links : Linked) (index : Index) (a : ℕ) (fs gs : List FileDesc) (f g : FileDesc) → AreTypedFrom links index a fs gs → TypesAt links index (a + length fs) f g → AreTypedFrom links index a (fs ++ f ∷ []) (gs ++ g ∷ [])
-typed_end links index a [] [] f g all last = let at : a + 0 ≡ a = omega arith in (subst (λ k. TypesAt links index k f g) at last, tt)
-typed_end links index a [] (h ∷ gs) f g all last = absurd all
-typed_end links index a (e ∷ fs) [] f g all last = absurd all
-typed_end links index a (e ∷ fs) (h ∷ gs) f g all last =
-    let at : a + length (e ∷ fs) ≡ a + 1 + length fs = omega arith in
-    (all.0, typed_end links index (a + 1) fs gs f g all.1 (subst (λ k. TypesAt links index k f g) at last))
+pub some_of : (descs : List FileDesc) (k : ℕ) → k < length descs → FileDesc
+some_of [] k h = absurd (omega (arith, h))
+some_of (d ∷ descs) k h = d
 
--- a file with a fault of its types, behind files without one
-pub refused_types : (limits : Limits) (sources files : List Source) (descs done : List FileDesc) (links : Linked) (index : Index) (a : ℕ) (desc : FileDesc) (error : TypeError) (e : CompileError) → IsAnalysed limits sources files descs links index
-    → AreTypedFrom links index 0 (take a descs) done → StandsDesc descs a desc → ((place : Place) (kind : Kind) → error ≡ types.At place kind → IsLeast (TypesBreakAt links index a desc) (Some (spot place kind)))
-    → TellsType (name_at files a) error e → IsRefusal (IsFirstFault limits sources) e
-refused_types limits sources files descs done links index a desc (types.At place kind) e analysed typed stands fault t =
-    let name : imports.name_at descs a ≡ name_at files a = ap (λ (ns : List (List ℕ)). get_or ns a []) (same_names limits files descs analysed.described.each) in
-    told (IsFirstFault limits sources) 4 (name_at files a) 0 place kind e t
-    (subst (λ (n : List ℕ). IsFirstFault limits sources 4 n 0 place kind) name (in_types files descs done links index a desc place kind analysed typed stands (fault place kind refl)))
-refused_types limits sources files descs done links index a desc types.NoMemory e analysed typed stands fault t = rw t tt
+-- where no file breaks a rule of types
+pub all_typed : (links : Linked) (index : Index) (a : ℕ) (descs typed : List FileDesc) → AllZipFrom (IsTyped links index) a descs (map Ok typed) → AreTypedFrom links index a descs typed
+all_typed links index a descs typed all =
+    zip_weaker (λ k x y. IsTyped links index k x (Ok y)) (TypesAt links index) a descs typed (λ k x y h. h.0) (zip_well (IsTyped links index) a descs typed all)
 
-pub one_more : {X Y : Type 0} (xs : List X) (ys : List Y) (x : X) (y : Y) → length xs ≡ length ys → length (xs ++ x ∷ []) ≡ length (ys ++ y ∷ [])
-one_more xs ys x y e = length-append xs (x ∷ []) ∙ ap (λ n. n + 1) e ∙ sym (length-append ys (y ∷ []))
+pub all_whole : (links : Linked) (index : Index) (descs typed : List FileDesc) → AllZipFrom (IsTyped links index) 0 descs (map Ok typed) → All (λ desc. file_resolved desc ≡ true) typed
+all_whole links index descs typed all k d h =
+    let each = zip_well (IsTyped links index) 0 descs typed all in
+    let size = zip_length (λ k x y. IsTyped links index k x (Ok y)) 0 descs typed each in
+    (zip_at (λ k x y. IsTyped links index k x (Ok y)) 0 k descs typed d d (omega (arith, size, h)) each).1
+
+-- the first fault of types
+pub refused_types : (limits : Limits) (sources files : List Source) (descs : List FileDesc) (links : Linked) (index : Index) (outcomes : List (Result FileDesc FileError)) (e : CompileError)
+    → IsAnalysed limits sources files descs links index → AllZipFrom (IsTyped links index) 0 descs outcomes → TellsFirst 4 files outcomes e → IsRefusal (IsFirstFault limits sources) e
+refused_types limits sources files descs links index outcomes (errors.First f) analysed all (k, pass, file, bad) =
+    let size = zip_length (IsTyped links index) 0 descs outcomes all in
+    let below : k < length descs = omega (arith, size, bad.below) in
+    let d : FileDesc = some_of descs k below in
+    let name : imports.name_at descs k ≡ name_at files k = ap (λ (ns : List (List ℕ)). get_or ns k []) (same_names limits files descs analysed.described.each) in
+    let so_far : AreTypedFrom links index 0 (take k descs) bad.well.0 = all_typed links index 0 (take k descs) bad.well.0
+    (subst (AllZipFrom (IsTyped links index) 0 (take k descs)) bad.well.1 (zip_take (IsTyped links index) 0 k descs outcomes all)) in
+    let fault : IsTyped links index (0 + k) (get_or descs k d) (Err (local.At f.step f.place f.kind)) = subst (IsTyped links index (0 + k) (get_or descs k d)) bad.bad (zip_at (IsTyped links index) 0 k descs outcomes d (Err local.NoMemory) below all) in
+    let at : 0 + k ≡ k = omega arith in
+    let least : IsLeast (TypesBreakAt links index k (get_or descs k d)) (Some (spot f.place f.kind)) = subst (λ j. IsLeast (TypesBreakAt links index j (get_or descs k d)) (Some (spot f.place f.kind))) at fault.1 in
+    rw (pass, file ∙ sym name, fault.0) (in_types files descs bad.well.0 links index k (get_or descs k d) f.place f.kind analysed so_far (below, get_or_default descs k (get_or descs k d) d below) least)
+refused_types limits sources files descs links index outcomes errors.NoMemory analysed all t = tt

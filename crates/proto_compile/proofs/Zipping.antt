@@ -9,7 +9,9 @@ use Rattle.std.proofs.lemmas.List.{take_more, get_or_past, get_or-map, get_or_de
 use Rattle.proto_desc.specs.declared.file.FileDesc.{FileDesc}
 use Rattle.proto_links.specs.Imports as imports
 use Rattle.proto_desc.specs.declared.file.ImportDesc.{ImportDesc}
+use Rattle.std.proofs.lemmas.Option.{get_or_from_slice_get, slice_get_within}
 use Rattle.proto_names.specs.Index.{IsRepeated}
+use Rattle.proto_names.specs.Occurrences.{ContainsBoth, Occurrence}
 use Rattle.proto_names.proofs.Built.{below_from}
 use Rattle.proto_base.specs.declared.kind.Kind.{Kind}
 use Rattle.proto_base.specs.declared.place.Place.{Place}
@@ -59,10 +61,14 @@ bad_within descs a place kind first = elim (cases_lt a (length descs)) [
     nothing_in : {X : Type 0} {x : X} → Contains [] x → ⊥
     nothing_in (k, inside, is) = omega (arith, inside)
 
+-- what occurs beside another
+pub contains_second : (os : List Occurrence) (a b : Occurrence) → ContainsBoth os a b → Contains os b
+contains_second os a b (i, j, other, first, second) = (j, slice_get_within os j b second, get_or_from_slice_get os j b b second)
+
 pub repeated_within : (limits : Limits) (descs : List FileDesc) (a : ℕ) (place : Place) → IsRepeated descs limits a place → a < length descs
 repeated_within limits descs a place twice =
     let f = twice.twice.found in
-    let below = below_from 0 descs f.0 f.1.0 in
+    let below = below_from 0 descs f.0 (contains_second _ f.1.0 f.0 f.1.1) in
     omega (arith, f.2, below)
 
 pub desc_name : (descs : List FileDesc) (k : ℕ) (d : FileDesc) → k < length descs → imports.name_at descs k ≡ imports.name_of (get_or descs k d)

@@ -26,12 +26,16 @@ pub record TypesAt (links : Linked) (index : Index) (a : ℕ) (desc typed : File
   pub whole : (x : Spot) → TypesBreakAt links index a desc x → ⊥
   pub resolved : IsTypedFile index.occurrences (SeenBy links a) desc typed
 
--- the same for files of which the first stands at a place
+-- what stands at one position in two lists is so related, where their first elements stand at a
+abbrev pub AllZipFrom : {X Y : Type 0} → (ℕ → X → Y → Type 0) → ℕ → List X → List Y → Type 0
+AllZipFrom R a [] [] = Unit {0}
+AllZipFrom R a [] (y ∷ ys) = ⊥
+AllZipFrom R a (x ∷ xs) [] = ⊥
+AllZipFrom R a (x ∷ xs) (y ∷ ys) = R a x y × AllZipFrom R (a + 1) xs ys
+
+-- the same for files of which the first stands at a position
 abbrev pub AreTypedFrom : Linked → Index → ℕ → List FileDesc → List FileDesc → Type 0
-AreTypedFrom links index a [] [] = Unit {0}
-AreTypedFrom links index a [] (g ∷ gs) = ⊥
-AreTypedFrom links index a (f ∷ fs) [] = ⊥
-AreTypedFrom links index a (f ∷ fs) (g ∷ gs) = TypesAt links index a f g × AreTypedFrom links index (a + 1) fs gs
+AreTypedFrom links index = AllZipFrom (TypesAt links index)
 
 -- sources without a fault of these passes, with their descriptors resolved
 pub record AreResolved (limits : Limits) (sources files : List Source) (typed : List FileDesc) (links : Linked) (index : Index) : Type 0 where

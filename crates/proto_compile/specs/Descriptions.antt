@@ -5,7 +5,7 @@ use Rattle.proto_base.specs.Limits.{limit_of}
 use Rattle.proto_base.specs.declared.limits.Limit.TheVariants as limit
 use Rattle.proto_base.specs.declared.limits.Limits.{Limits}
 use Rattle.proto_desc.specs.declared.file.FileDesc.{FileDesc}
-use Rattle.proto_compile.specs.Local.{Describes}
+use Rattle.proto_file.specs.Local.{Describes}
 use Rattle.proto_compile.specs.Sources.{AreByName, name_of, text_of}
 use Rattle.proto_compile.specs.declared.source.Source.{Source}
 

@@ -1,8 +1,9 @@
 //! What sources are compiled to.
 
-ghost use Rattle.std.specs.Prelude.{◌≡◌, ℕ, ◌<◌, IfOk, IfSome, MatchOption};
+ghost use Rattle.std.specs.Prelude.{◌≡◌, ℕ, ◌<◌, ◌≤◌, IfOk, IfSome, MatchOption, flat_map, length};
 ghost use Rattle.proto_compile.specs.Compilation.{IsNamed, IsOfSources, bytes_at, set_of};
-ghost use Rattle.proto_links.specs.Linked.{count_of};
+ghost use Rattle.proto_links.specs.Linked.{count_of, reach_of};
+ghost use Rattle.wire_format.specs.Field.{bytes_field};
 
 use crate::set::set_bytes;
 use crate::table::FileTable;
@@ -73,6 +74,16 @@ impl Compiled {
         ensures { IsOfSources self.now }
     {
         let _ = &self.limits;
+    }
+
+    /// A law: the bytes of a file as field 1, and those of all files that it reaches, are no longer than the set.
+    pub fn files_are_within_the_set(&self)
+        ensures file { (a : ℕ) → a < count_of self.now.links
+            → length (bytes_field 1 (bytes_at self.now.files a)) ≤ length (set_of self.now.files self.now.links) }
+        ensures reached { (a : ℕ) → a < count_of self.now.links
+            → length (flat_map (λ b. bytes_field 1 (bytes_at self.now.files b)) (reach_of self.now.links a)) ≤ length (set_of self.now.files self.now.links) }
+    {
+        self.is_of_sources();
     }
 
     /// Which file reaches and sees which, and the order of the set.

@@ -9,40 +9,40 @@ ghost use Rattle.proto_compile.specs.declared.error.CompileError.TheVariants as 
 ghost use Rattle.proto_base.specs.declared.kind.Kind.{Kind};
 ghost use Rattle.proto_base.specs.declared.place.Place.{Place};
 
-use crate::analysis::Analysis;
 use crate::compiled::Compiled;
 use crate::error::{CompileError, START, refusal};
-use crate::lengths::all_written;
+use crate::pass::Pass;
+use crate::pass::imports::link_all;
+use crate::pass::lengths::write_all;
+use crate::pass::list::files_by_name;
+use crate::pass::local::describe_all;
+use crate::pass::names::index_all;
+use crate::pass::types::resolve_all;
 use crate::set::is_set_within;
 use crate::source::Source;
 use crate::table::FileTable;
-use crate::types::analyse;
 use proto_base::{Kind, Limit, Limits};
 use share_work::{Gate, Plan};
 use std::alloc::{AllocError, AllocGlobal, Global};
 use std::thread::Threads;
 
-/// The number of the pass over the set among those that order faults.
-const SET: u8 = 6;
-
-/// What sources are compiled to, or their first fault.
-fn first_answer<R>(rt: &R, sources: &[Source], limits: &Limits) -> Result<Compiled, CompileError>
+/// What sources are compiled to, or their first fault: pass by pass, in the order of `Pass`.
+fn run_passes<R>(rt: &R, sources: &[Source], limits: &Limits) -> Result<Compiled, CompileError>
 where
     R: Threads + AllocGlobal + Sync,
     ensures compiled { IfOk result (IsCompiled limits.now sources.now) }
     ensures first { IfErr result (IsRefusal (IsFirstFault limits.now sources.now)) }
 {
     let alloc = rt.alloc();
-    let Analysis {
-        files,
-        descs,
-        links,
-        index,
-    } = analyse(rt, sources, limits)?;
-    let written = all_written(alloc, &descs, limits)?;
+    let files = files_by_name(alloc, sources, limits)?;
+    let descs = describe_all(alloc, &files, limits)?;
+    let links = link_all(alloc, &descs)?;
+    let index = index_all(rt, &descs, limits)?;
+    let descs = resolve_all(alloc, &files, &links, &index, descs)?;
+    let written = write_all(alloc, &files, &descs, limits)?;
     let files = table_of(alloc, &files, written)?;
     if !is_set_within(&files, &links, limits.get(Limit::SetBytes)) {
-        return Err(refusal(alloc, SET, "", START, Kind::SetTooLong));
+        return Err(refusal(alloc, Pass::Set, "", START, Kind::SetTooLong));
     }
     Ok(Compiled {
         files,
@@ -78,7 +78,7 @@ where
     ensures every_fault { (pass : ℕ) (file : List ℕ) (step : ℕ) (place : Place) (kind : Kind) → IsFirstFault limits.now sources.now pass file step place kind
         → IsErrAnd result (Tells pass file step place kind) }
 {
-    first_answer(rt, sources, limits)
+    run_passes(rt, sources, limits)
 }
 
 /// The table of sources in the order of their names, with the bytes of what they describe.

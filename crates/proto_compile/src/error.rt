@@ -2,8 +2,10 @@
 
 ghost use Rattle.std.specs.Prelude.{◌≡◌};
 ghost use Rattle.proto_compile.specs.Faults.{Tells};
+ghost use Rattle.proto_compile.specs.Passes.{number_of};
 ghost use Rattle.proto_compile.specs.declared.error.CompileError.TheVariants.{NoMemory};
 
+use crate::pass::Pass;
 use proto_base::{Fault, Kind, Place};
 use std::alloc::{AllocError, AllocFailed, Global};
 use thiserror::Error;
@@ -39,17 +41,17 @@ pub(crate) const START: Place = Place { offset: 0 };
 /// The error of a fault, if there is memory for the file's name.
 pub(crate) fn refusal_of_step(
     alloc: Global,
-    pass: u8,
+    pass: Pass,
     file: &str,
     step: u8,
     place: Place,
     kind: Kind,
 ) -> CompileError
-    ensures { Tells pass file.now step place kind result }
+    ensures { Tells (number_of pass) file.now step place kind result }
 {
     match String::from_str(alloc, file) {
         Ok(file) => CompileError::First(Fault {
-            pass,
+            pass: pass.number(),
             file,
             step,
             place,
@@ -60,8 +62,14 @@ pub(crate) fn refusal_of_step(
 }
 
 /// The error of a fault that a pass of one step finds.
-pub(crate) fn refusal(alloc: Global, pass: u8, file: &str, place: Place, kind: Kind) -> CompileError
-    ensures { Tells pass file.now 0 place kind result }
+pub(crate) fn refusal(
+    alloc: Global,
+    pass: Pass,
+    file: &str,
+    place: Place,
+    kind: Kind,
+) -> CompileError
+    ensures { Tells (number_of pass) file.now 0 place kind result }
 {
     refusal_of_step(alloc, pass, file, 0, place, kind)
 }

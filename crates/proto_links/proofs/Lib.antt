@@ -5,4 +5,4 @@ pub mod Rising
 mod Search
 mod Targeting
 pub mod Unique
-mod Whole
+pub mod Whole

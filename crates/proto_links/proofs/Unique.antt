@@ -1,18 +1,13 @@
 -- Files have one set order, and one first bad import.
-use Rattle.std.proofs.Common.{◌≡◌, ◌∙◌, ℕ, zero, suc, ◌+◌, ◌<◌, ◌≤◌, List, length, get_or, ap, refl, subst, arith, inl, inr}
+use Rattle.std.proofs.Common.{◌≡◌, ℕ, zero, suc, ◌+◌, ◌<◌, ◌≤◌, List, length, get_or, refl, subst, arith, inl, inr}
 use Rattle.std.specs.Prelude.{IsTrue}
-use Rattle.std.specs.Ordering.{nat_cmp, is_eq}
-use Rattle.std.proofs.lemmas.Cmp.{nat_cmp_total, tied_itself}
 use Rattle.std.proofs.lemmas.List.{get_or_default}
 use Rattle.std.proofs.lemmas.List.Elements.{Contains-get_or}
-use denote.Enum.Bare.{same_true}
 use Rattle.proto_desc.specs.declared.file.FileDesc.{FileDesc}
-use Rattle.proto_base.specs.Kind.{number_of}
-use Rattle.proto_base.specs.KindOrder.{one_number}
-use Rattle.proto_base.specs.contracts.kind.Kind.{the_type}
 use Rattle.proto_base.specs.declared.kind.Kind.{Kind}
 use Rattle.proto_base.specs.declared.place.Place.{Place}
-use Rattle.proto_links.specs.Imports.{IsFirstBad, IsNoLater, NoLater}
+use Rattle.proto_base.proofs.Spots.{one_spot}
+use Rattle.proto_links.specs.Imports.{IsFirstBad, IsNoLater}
 use Rattle.proto_links.specs.Linked.{Linked, AreLinked, AreRanks, IsBefore, IsInSetOrder, IsSetOrder, rank_of, sees}
 use Rattle.proto_links.proofs.Rising.{IsStrict, Rises, one_rising}
 
@@ -82,19 +77,6 @@ pub sees_same : (files : List FileDesc) (links others : Linked) (a b : ℕ) → 
 sees_same files links others a b first second ha hb seen = (second.sees a b ha hb).1 ((first.sees a b ha hb).0 seen)
 
 -- ---- the first bad import
-
-pub same_kind : (a b : Kind) → number_of a ≡ number_of b → a ≡ b
-same_kind a b e = same_true the_type tt a b (one_number a b ∙ ap (λ n. is_eq (nat_cmp n (number_of b))) e ∙ ap is_eq (tied_itself nat_cmp_total (number_of b)))
-
-pub same_place : (p q : Place) → p.offset ≡ q.offset → p ≡ q
-same_place p q e = let place : ℕ → Place = λ n. record { offset = n } in ap place e
-
--- of two places with kinds neither comes later, so they are one
-pub one_spot : (p q : Place) (k l : Kind) → NoLater p k q l → NoLater q l p k → (p ≡ q) × (k ≡ l)
-one_spot p q k l (inl before) (inl after) = absurd (omega (arith, before, after))
-one_spot p q k l (inl before) (inr after) = absurd (omega (arith, before, after.0))
-one_spot p q k l (inr before) (inl after) = absurd (omega (arith, before.0, after))
-one_spot p q k l (inr before) (inr after) = (same_place p q before.0, same_kind k l (omega (arith, before.1, after.1)))
 
 one_import : (a b : ℕ) (p q : Place) (k l : Kind) → IsNoLater a p k b q l → IsNoLater b q l a p k → (a ≡ b) × (p ≡ q) × (k ≡ l)
 one_import a b p q k l (inl before) (inl after) = absurd (omega (arith, before, after))

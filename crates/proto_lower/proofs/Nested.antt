@@ -4,9 +4,9 @@ use Rattle.std.proofs.lemmas.List.{take_more, append-nil}
 use Rattle.std.proofs.lemmas.List.Concat.{flat_map-append}
 use Rattle.std.specs.Prelude.{flat_map}
 use mathlib.Core.Former.{Count}
-use Rattle.proto_syntax.specs.declared.tree.message.Message.{Message}
-use Rattle.proto_syntax.specs.declared.tree.message.MessageItem.{MessageItem, Message', Row_of-MessageItem, end_of-MessageItem, more_of-MessageItem, items-the_row-MessageItem, items_hidden-the_row-MessageItem-0}
-use Rattle.proto_syntax.specs.declared.tree.message.MessageItem.TheVariants as of
+use Rattle.proto_tree.specs.declared.message.Message.{Message}
+use Rattle.proto_tree.specs.declared.message.MessageItem.{MessageItem, Message', Row_of-MessageItem, end_of-MessageItem, more_of-MessageItem, items-the_row-MessageItem, items_hidden-the_row-MessageItem-0}
+use Rattle.proto_tree.specs.declared.message.MessageItem.TheVariants as of
 use Rattle.proto_lower.specs.Fields.{inner}
 use Rattle.proto_lower.specs.Messages.{message_of, nested_of, nested_row, lowered_message}
 

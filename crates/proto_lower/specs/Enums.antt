@@ -1,9 +1,9 @@
 -- Enums.
 use Rattle.std.specs.Prelude.{List, [], ◌∷◌, flat_map}
-use Rattle.proto_syntax.specs.declared.tree.enumeration.Enum.{Enum}
-use Rattle.proto_syntax.specs.declared.tree.enumeration.EnumItem.{EnumItem}
-use Rattle.proto_syntax.specs.declared.tree.enumeration.EnumItem.TheVariants.{Value}
-use Rattle.proto_syntax.specs.declared.tree.enumeration.EnumValue.{EnumValue}
+use Rattle.proto_tree.specs.declared.enumeration.Enum.{Enum}
+use Rattle.proto_tree.specs.declared.enumeration.EnumItem.{EnumItem}
+use Rattle.proto_tree.specs.declared.enumeration.EnumItem.TheVariants.{Value}
+use Rattle.proto_tree.specs.declared.enumeration.EnumValue.{EnumValue}
 use Rattle.proto_desc.specs.declared.enumeration.EnumDesc.{EnumDesc}
 use Rattle.proto_desc.specs.declared.enumeration.ValueDesc.{ValueDesc}
 use Rattle.proto_desc.specs.declared.rules.Element.TheVariants as element

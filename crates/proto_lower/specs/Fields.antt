@@ -2,19 +2,19 @@
 use Rattle.std.specs.Prelude.{ℕ, ◌+◌, Bool, true, false, List, [], ◌∷◌, ◌++◌, flat_map, Option, Some, None}
 use Rattle.proto_base.specs.declared.place.Place.{Place}
 use Rattle.proto_base.specs.declared.place.Span.{Span}
-use Rattle.proto_syntax.specs.declared.tree.field.Declarator.{Declarator}
-use Rattle.proto_syntax.specs.declared.tree.field.Field.{Field}
-use Rattle.proto_syntax.specs.declared.tree.field.FieldType.{FieldType}
-use Rattle.proto_syntax.specs.declared.tree.field.FieldType.TheVariants as field_type
-use Rattle.proto_syntax.specs.declared.tree.field.Label.{Label}
-use Rattle.proto_syntax.specs.declared.tree.field.Label.TheVariants as label
-use Rattle.proto_syntax.specs.declared.tree.map_field.MapField.{MapField}
-use Rattle.proto_syntax.specs.declared.tree.message.MessageItem.{MessageItem}
-use Rattle.proto_syntax.specs.declared.tree.message.MessageItem as message_item
-use Rattle.proto_syntax.specs.declared.tree.name.FullName.{FullName}
-use Rattle.proto_syntax.specs.declared.tree.name.TypeName.{TypeName}
-use Rattle.proto_syntax.specs.declared.tree.oneof.OneofItem.{OneofItem}
-use Rattle.proto_syntax.specs.declared.tree.oneof.OneofItem.TheVariants as oneof_item
+use Rattle.proto_tree.specs.declared.field.Declarator.{Declarator}
+use Rattle.proto_tree.specs.declared.field.Field.{Field}
+use Rattle.proto_tree.specs.declared.field.FieldType.{FieldType}
+use Rattle.proto_tree.specs.declared.field.FieldType.TheVariants as field_type
+use Rattle.proto_tree.specs.declared.field.Label.{Label}
+use Rattle.proto_tree.specs.declared.field.Label.TheVariants as label
+use Rattle.proto_tree.specs.declared.map_field.MapField.{MapField}
+use Rattle.proto_tree.specs.declared.message.MessageItem.{MessageItem}
+use Rattle.proto_tree.specs.declared.message.MessageItem as message_item
+use Rattle.proto_tree.specs.declared.name.FullName.{FullName}
+use Rattle.proto_tree.specs.declared.name.TypeName.{TypeName}
+use Rattle.proto_tree.specs.declared.oneof.OneofItem.{OneofItem}
+use Rattle.proto_tree.specs.declared.oneof.OneofItem.TheVariants as oneof_item
 use Rattle.proto_base.specs.declared.scalar_type.KeyType.{KeyType}
 use Rattle.proto_base.specs.declared.scalar_type.KeyType.TheVariants as key
 use Rattle.proto_base.specs.declared.scalar_type.ScalarType.{ScalarType}
@@ -30,7 +30,7 @@ use Rattle.proto_desc.specs.declared.type_name.TypeReference.{TypeReference}
 use Rattle.proto_desc.specs.declared.type_name.TypeReference.TheVariants.{Spelled, Resolved}
 use Rattle.proto_lower.specs.Names.{entry_name_of}
 use Rattle.proto_lower.specs.Options.{bracketed, options_of, json_name_by}
-use Rattle.proto_lower.specs.Text.{spelled}
+use Rattle.proto_tree.specs.Text.{spelled}
 
 -- the first token of a type's name
 abbrev pub type_place : Option Span → FullName → Place

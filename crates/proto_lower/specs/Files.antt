@@ -1,11 +1,11 @@
 -- The descriptor of a file, by equations on the statements of its tree.
 use Rattle.std.specs.Prelude.{ℕ, List, [], ◌∷◌, flat_map, Option, Some, None}
 use Rattle.std.specs.Option.{option_map, is_some}
-use Rattle.proto_syntax.specs.declared.tree.file.FileTree.{FileTree}
-use Rattle.proto_syntax.specs.declared.tree.file.Import.{Import}
-use Rattle.proto_syntax.specs.declared.tree.file.Package.{Package}
-use Rattle.proto_syntax.specs.declared.tree.file.Statement.{Statement}
-use Rattle.proto_syntax.specs.declared.tree.file.Statement.TheVariants as statement
+use Rattle.proto_tree.specs.declared.file.FileTree.{FileTree}
+use Rattle.proto_tree.specs.declared.file.Import.{Import}
+use Rattle.proto_tree.specs.declared.file.Package.{Package}
+use Rattle.proto_tree.specs.declared.file.Statement.{Statement}
+use Rattle.proto_tree.specs.declared.file.Statement.TheVariants as statement
 use Rattle.proto_desc.specs.declared.enumeration.EnumDesc.{EnumDesc}
 use Rattle.proto_desc.specs.declared.file.FileDesc.{FileDesc}
 use Rattle.proto_desc.specs.declared.file.ImportDesc.{ImportDesc}
@@ -17,7 +17,7 @@ use Rattle.proto_lower.specs.Enums.{lowered_enum}
 use Rattle.proto_lower.specs.Messages.{lowered_message}
 use Rattle.proto_lower.specs.Options.{file_setting, options_of}
 use Rattle.proto_lower.specs.Services.{lowered_service}
-use Rattle.proto_lower.specs.Text.{dotted, joined}
+use Rattle.proto_tree.specs.Text.{dotted, joined}
 
 -- of several package statements the first counts
 abbrev pub first_package : List Statement → Option Package

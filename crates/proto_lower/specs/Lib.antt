@@ -7,4 +7,4 @@ pub mod Oneofs
 pub mod Options
 pub mod Reserveds
 pub mod Services
-pub mod Text
+pub mod Laws

@@ -1,11 +1,11 @@
 -- Messages and the entries that map fields make.
 use Rattle.std.specs.Prelude.{ℕ, true, false, List, [], ◌∷◌, ◌++◌, flat_map, None, codes}
 use Rattle.proto_base.specs.declared.place.Place.{Place}
-use Rattle.proto_syntax.specs.Name.{Identifier}
-use Rattle.proto_syntax.specs.declared.tree.map_field.MapField.{MapField}
-use Rattle.proto_syntax.specs.declared.tree.message.Message.{Message}
-use Rattle.proto_syntax.specs.declared.tree.message.MessageItem.{MessageItem, Row_of-MessageItem, end_of-MessageItem, more_of-MessageItem, items-the_row-MessageItem}
-use Rattle.proto_syntax.specs.declared.tree.message.MessageItem as message_item
+use Rattle.proto_tree.specs.Name.{Identifier}
+use Rattle.proto_tree.specs.declared.map_field.MapField.{MapField}
+use Rattle.proto_tree.specs.declared.message.Message.{Message}
+use Rattle.proto_tree.specs.declared.message.MessageItem.{MessageItem, Row_of-MessageItem, end_of-MessageItem, more_of-MessageItem, items-the_row-MessageItem}
+use Rattle.proto_tree.specs.declared.message.MessageItem as message_item
 use Rattle.proto_desc.specs.declared.enumeration.EnumDesc.{EnumDesc}
 use Rattle.proto_desc.specs.declared.field.FieldDesc.{FieldDesc}
 use Rattle.proto_desc.specs.declared.field.FieldKind.{FieldKind}

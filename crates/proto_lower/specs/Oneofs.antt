@@ -1,8 +1,8 @@
 -- Oneofs: those of the source, and then those that `optional` fields make.
 use Rattle.std.specs.Prelude.{ℕ, Bool, List, [], ◌∷◌, ◌++◌, map, cond}
-use Rattle.proto_syntax.specs.Name.{Identifier}
-use Rattle.proto_syntax.specs.declared.tree.message.MessageItem.{MessageItem}
-use Rattle.proto_syntax.specs.declared.tree.message.MessageItem as message_item
+use Rattle.proto_tree.specs.Name.{Identifier}
+use Rattle.proto_tree.specs.declared.message.MessageItem.{MessageItem}
+use Rattle.proto_tree.specs.declared.message.MessageItem as message_item
 use Rattle.proto_desc.specs.declared.field.FieldDesc.{FieldDesc}
 use Rattle.proto_desc.specs.declared.oneof.OneofDesc.{OneofDesc}
 use Rattle.proto_lower.specs.Names.{oneof_name_of}

@@ -1,23 +1,23 @@
 -- Options: of each that an element may have the first setting counts, and a value of another kind sets nothing.
 use Rattle.std.specs.Prelude.{ℕ, Bool, false, List, [], ◌∷◌, flat_map, map, Option, Some, None, bytes_eq, cond}
 use Rattle.std.specs.Option.{option_to_list, option_map}
-use Rattle.proto_syntax.specs.declared.tree.constant.Constant.{Constant}
-use Rattle.proto_syntax.specs.declared.tree.constant.Constant.TheVariants as constant
-use Rattle.proto_syntax.specs.declared.tree.enumeration.EnumItem.{EnumItem}
-use Rattle.proto_syntax.specs.declared.tree.enumeration.EnumItem.TheVariants as enum_item
-use Rattle.proto_syntax.specs.declared.tree.file.Statement.{Statement}
-use Rattle.proto_syntax.specs.declared.tree.file.Statement.TheVariants as statement
-use Rattle.proto_syntax.specs.declared.tree.list.Next.{Next}
-use Rattle.proto_syntax.specs.declared.tree.list.Separated.{Separated}
-use Rattle.proto_syntax.specs.declared.tree.message.MessageItem.{MessageItem}
-use Rattle.proto_syntax.specs.declared.tree.message.MessageItem as message_item
-use Rattle.proto_syntax.specs.declared.tree.name.FullName.{FullName}
-use Rattle.proto_syntax.specs.declared.tree.option.Options.{Options}
-use Rattle.proto_syntax.specs.declared.tree.option.Setting.{Setting}
-use Rattle.proto_syntax.specs.declared.tree.service.RpcItem.{RpcItem}
-use Rattle.proto_syntax.specs.declared.tree.service.RpcItem.TheVariants as rpc_item
-use Rattle.proto_syntax.specs.declared.tree.service.ServiceItem.{ServiceItem}
-use Rattle.proto_syntax.specs.declared.tree.service.ServiceItem.TheVariants as service_item
+use Rattle.proto_tree.specs.declared.constant.Constant.{Constant}
+use Rattle.proto_tree.specs.declared.constant.Constant.TheVariants as constant
+use Rattle.proto_tree.specs.declared.enumeration.EnumItem.{EnumItem}
+use Rattle.proto_tree.specs.declared.enumeration.EnumItem.TheVariants as enum_item
+use Rattle.proto_tree.specs.declared.file.Statement.{Statement}
+use Rattle.proto_tree.specs.declared.file.Statement.TheVariants as statement
+use Rattle.proto_tree.specs.declared.list.Next.{Next}
+use Rattle.proto_tree.specs.declared.list.Separated.{Separated}
+use Rattle.proto_tree.specs.declared.message.MessageItem.{MessageItem}
+use Rattle.proto_tree.specs.declared.message.MessageItem as message_item
+use Rattle.proto_tree.specs.declared.name.FullName.{FullName}
+use Rattle.proto_tree.specs.declared.option.Options.{Options}
+use Rattle.proto_tree.specs.declared.option.Setting.{Setting}
+use Rattle.proto_tree.specs.declared.service.RpcItem.{RpcItem}
+use Rattle.proto_tree.specs.declared.service.RpcItem.TheVariants as rpc_item
+use Rattle.proto_tree.specs.declared.service.ServiceItem.{ServiceItem}
+use Rattle.proto_tree.specs.declared.service.ServiceItem.TheVariants as service_item
 use Rattle.proto_desc.specs.declared.options.OptionDesc.{OptionDesc}
 use Rattle.proto_desc.specs.declared.options.OptionValue.{OptionValue}
 use Rattle.proto_desc.specs.declared.options.OptionValue.TheVariants.{Text, Number}
@@ -29,7 +29,7 @@ use Rattle.proto_desc.specs.declared.rules.ValueKind.{ValueKind}
 use Rattle.proto_desc.specs.declared.rules.ValueKind.TheVariants as kind
 use Rattle.proto_lower.specs.Names.{json_name_of}
 use Rattle.proto_desc.specs.Rules.{word_of, choice_number, rules_of}
-use Rattle.proto_lower.specs.Text.{joined, simple_name}
+use Rattle.proto_tree.specs.Text.{joined, simple_name}
 
 -- what stands with commas between
 abbrev pub next_item : {A : Type 0} → Next A → A

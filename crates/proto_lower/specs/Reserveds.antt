@@ -1,24 +1,24 @@
 -- Reserved numbers and names.
 use Rattle.std.specs.Prelude.{ℕ, false, List, [], map, Option, Some, None}
 use Rattle.std.specs.Option.{is_some}
-use Rattle.proto_syntax.specs.declared.tree.enumeration.EnumItem.{EnumItem}
-use Rattle.proto_syntax.specs.declared.tree.enumeration.EnumItem.TheVariants as enum_item
-use Rattle.proto_syntax.specs.declared.tree.literal.NumberLiteral.{NumberLiteral}
-use Rattle.proto_syntax.specs.declared.tree.literal.SignedNumber.{SignedNumber}
-use Rattle.proto_syntax.specs.declared.tree.message.MessageItem.{MessageItem}
-use Rattle.proto_syntax.specs.declared.tree.message.MessageItem as message_item
-use Rattle.proto_syntax.specs.declared.tree.reserved.Range.{Range}
-use Rattle.proto_syntax.specs.declared.tree.reserved.RangeEnd.{RangeEnd}
-use Rattle.proto_syntax.specs.declared.tree.reserved.ReservedItems.{ReservedItems}
-use Rattle.proto_syntax.specs.declared.tree.reserved.ReservedItems.TheVariants as reserved_items
-use Rattle.proto_syntax.specs.declared.tree.reserved.UpperBound.{UpperBound}
-use Rattle.proto_syntax.specs.declared.tree.reserved.UpperBound.TheVariants as upper_bound
+use Rattle.proto_tree.specs.declared.enumeration.EnumItem.{EnumItem}
+use Rattle.proto_tree.specs.declared.enumeration.EnumItem.TheVariants as enum_item
+use Rattle.proto_tree.specs.declared.literal.NumberLiteral.{NumberLiteral}
+use Rattle.proto_tree.specs.declared.literal.SignedNumber.{SignedNumber}
+use Rattle.proto_tree.specs.declared.message.MessageItem.{MessageItem}
+use Rattle.proto_tree.specs.declared.message.MessageItem as message_item
+use Rattle.proto_tree.specs.declared.reserved.Range.{Range}
+use Rattle.proto_tree.specs.declared.reserved.RangeEnd.{RangeEnd}
+use Rattle.proto_tree.specs.declared.reserved.ReservedItems.{ReservedItems}
+use Rattle.proto_tree.specs.declared.reserved.ReservedItems.TheVariants as reserved_items
+use Rattle.proto_tree.specs.declared.reserved.UpperBound.{UpperBound}
+use Rattle.proto_tree.specs.declared.reserved.UpperBound.TheVariants as upper_bound
 use Rattle.proto_desc.specs.declared.enumeration.EnumReservedRange.{EnumReservedRange}
 use Rattle.proto_desc.specs.declared.message.ReservedRange.{ReservedRange}
 use Rattle.proto_desc.specs.declared.whole_number.WholeNumber.{WholeNumber}
 use Rattle.proto_desc.specs.WholeNumber.{signed}
 use Rattle.proto_lower.specs.Options.{separated}
-use Rattle.proto_lower.specs.Text.{joined}
+use Rattle.proto_tree.specs.Text.{joined}
 
 abbrev pub bound_number : UpperBound NumberLiteral → ℕ
 bound_number (upper_bound.Number n) = n.value

@@ -1,13 +1,13 @@
 -- Services and methods.
 use Rattle.std.specs.Prelude.{List, [], ◌∷◌, flat_map}
 use Rattle.std.specs.Option.{is_some}
-use Rattle.proto_syntax.specs.declared.tree.service.Rpc.{Rpc}
-use Rattle.proto_syntax.specs.declared.tree.service.RpcBody.{RpcBody}
-use Rattle.proto_syntax.specs.declared.tree.service.RpcBody.TheVariants.{Semicolon, Block}
-use Rattle.proto_syntax.specs.declared.tree.service.RpcItem.{RpcItem}
-use Rattle.proto_syntax.specs.declared.tree.service.Service.{Service}
-use Rattle.proto_syntax.specs.declared.tree.service.ServiceItem.{ServiceItem}
-use Rattle.proto_syntax.specs.declared.tree.service.ServiceItem.TheVariants as service_item
+use Rattle.proto_tree.specs.declared.service.Rpc.{Rpc}
+use Rattle.proto_tree.specs.declared.service.RpcBody.{RpcBody}
+use Rattle.proto_tree.specs.declared.service.RpcBody.TheVariants.{Semicolon, Block}
+use Rattle.proto_tree.specs.declared.service.RpcItem.{RpcItem}
+use Rattle.proto_tree.specs.declared.service.Service.{Service}
+use Rattle.proto_tree.specs.declared.service.ServiceItem.{ServiceItem}
+use Rattle.proto_tree.specs.declared.service.ServiceItem.TheVariants as service_item
 use Rattle.proto_desc.specs.declared.rules.Element.TheVariants as element
 use Rattle.proto_desc.specs.declared.service.MethodDesc.{MethodDesc}
 use Rattle.proto_desc.specs.declared.service.ServiceDesc.{ServiceDesc}

@@ -9,7 +9,7 @@ use proto_base::row::Row;
 use proto_base::text::Text;
 use proto_desc::enumeration::{EnumDesc, ValueDesc};
 use proto_desc::rules::Element;
-use proto_syntax::tree::{Enum, EnumItem, EnumValue};
+use proto_tree::{Enum, EnumItem, EnumValue};
 use std::alloc::{AllocError, Global};
 
 fn lower_value<'s>(alloc: Global, value: &EnumValue<'s>) -> Result<ValueDesc<'s>, AllocError>

@@ -10,7 +10,7 @@ use proto_base::text::Text;
 use proto_desc::field::{FieldDesc, FieldKind, FieldLabel};
 use proto_desc::rules::Element;
 use proto_desc::type_name::{TypeKind, TypeReference};
-use proto_syntax::tree::{Declarator, Field, Label, MapField, MessageItem, OneofItem};
+use proto_tree::{Declarator, Field, Label, MapField, MessageItem, OneofItem};
 use std::alloc::{AllocError, Global};
 
 fn described<'s>(

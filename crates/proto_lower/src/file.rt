@@ -8,14 +8,14 @@ use crate::enumeration::lower_enum;
 use crate::message::lower_message;
 use crate::options::file_options;
 use crate::service::lower_service;
-use crate::text::{dotted, joined};
 use proto_base::row::Row;
 use proto_base::text::Text;
 use proto_desc::enumeration::EnumDesc;
 use proto_desc::file::{FileDesc, ImportDesc, PackageDesc};
 use proto_desc::message::MessageDesc;
 use proto_desc::service::ServiceDesc;
-use proto_syntax::tree::{FileTree, Import, Package, Statement};
+use proto_tree::text::{dotted, joined};
+use proto_tree::{FileTree, Import, Package, Statement};
 use std::alloc::{AllocError, Global};
 
 fn first_package<'t, 's>(statements: &'t [Statement<'s>]) -> Option<&'t Package<'s>>

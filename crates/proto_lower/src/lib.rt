@@ -6,6 +6,7 @@
 mod enumeration;
 mod field;
 mod file;
+mod laws;
 mod message;
 mod names;
 mod oneof;
@@ -13,8 +14,9 @@ mod options;
 mod reserved;
 mod service;
 mod settings;
-mod text;
 mod type_name;
 
 pub use file::lower;
+pub use laws::{oneof_index_is_its_own, optional_field_has_its_oneof, options_rise};
 pub use names::{entry_name, json_name, oneof_name};
+pub use settings::{first_of_enum, is_setting};

@@ -16,7 +16,7 @@ use proto_base::text::Text;
 use proto_desc::enumeration::EnumDesc;
 use proto_desc::field::{FieldDesc, FieldKind, FieldLabel};
 use proto_desc::message::MessageDesc;
-use proto_syntax::tree::{MapField, Message, MessageItem, Name};
+use proto_tree::{MapField, Message, MessageItem, Name};
 use std::alloc::{AllocError, Global};
 
 fn entry_field<'s>(

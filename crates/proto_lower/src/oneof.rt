@@ -9,7 +9,7 @@ use crate::names::{first_free, take_name, with_underscore};
 use proto_base::text::Text;
 use proto_desc::field::FieldDesc;
 use proto_desc::oneof::OneofDesc;
-use proto_syntax::tree::{MessageItem, Name};
+use proto_tree::{MessageItem, Name};
 use std::alloc::{AllocError, Global};
 use std::collections::BTreeSet;
 

@@ -10,12 +10,12 @@ use crate::settings::{
     first_bracketed, first_of_enum, first_of_file, first_of_message, first_of_method,
     first_of_service,
 };
-use crate::text::{joined, simple_name};
 use proto_base::row::Row;
 use proto_base::text::Text;
 use proto_desc::options::{OptionDesc, OptionValue};
 use proto_desc::rules::{Element, OptionName, OptionRule, ValueKind, rules};
-use proto_syntax::tree::{
+use proto_tree::text::{joined, simple_name};
+use proto_tree::{
     Constant, EnumItem, FullName, MessageItem, Options, RpcItem, ServiceItem, Setting, Statement,
 };
 use std::alloc::{AllocError, Global};

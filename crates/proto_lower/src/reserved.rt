@@ -3,12 +3,12 @@
 ghost use Rattle.std.specs.Prelude.{◌≡◌, ◌++◌, IfOk, OnOk, flat_map};
 ghost use Rattle.proto_lower.specs.Reserveds.{message_range, enum_range, number_of_literal, ranges_in, enum_ranges_in, names_in, message_ranges_of, message_names_of, enum_ranges_of, enum_names_of};
 
-use crate::text::joined;
 use proto_base::text::Text;
 use proto_desc::enumeration::EnumReservedRange;
 use proto_desc::message::ReservedRange;
 use proto_desc::whole_number::WholeNumber;
-use proto_syntax::tree::{
+use proto_tree::text::joined;
+use proto_tree::{
     EnumItem, MessageItem, NumberLiteral, Range, ReservedItems, SignedNumber, UpperBound,
 };
 use std::alloc::{AllocError, Global};

@@ -8,7 +8,7 @@ use crate::type_name::type_reference;
 use proto_base::row::Row;
 use proto_base::text::Text;
 use proto_desc::service::{MethodDesc, ServiceDesc};
-use proto_syntax::tree::{Rpc, RpcBody, RpcItem, Service, ServiceItem};
+use proto_tree::{Rpc, RpcBody, RpcItem, Service, ServiceItem};
 use std::alloc::{AllocError, Global};
 
 fn rpc_items<'t, 's>(body: &'t RpcBody<'s>) -> &'t [RpcItem<'s>]

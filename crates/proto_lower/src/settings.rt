@@ -4,13 +4,12 @@ ghost use Rattle.std.specs.Prelude.{◌≡◌, flat_map};
 ghost use Rattle.std.specs.Option.{option_copied};
 ghost use Rattle.proto_lower.specs.Options.{is_setting, first_setting, bracketed, file_setting, message_setting, enum_setting, service_setting, rpc_setting};
 
-use crate::text::simple_name;
 use proto_desc::rules::OptionName;
-use proto_syntax::tree::{
-    EnumItem, MessageItem, Options, RpcItem, ServiceItem, Setting, Statement,
-};
+use proto_tree::text::simple_name;
+use proto_tree::{EnumItem, MessageItem, Options, RpcItem, ServiceItem, Setting, Statement};
 
-fn is_setting(setting: &Setting, name: OptionName) -> bool
+/// Whether a setting is of this option; a name with dots is of none.
+pub fn is_setting(setting: &Setting, name: OptionName) -> bool
     ensures { result ≡ is_setting name setting.now }
 {
     match simple_name(&setting.name) {
@@ -75,10 +74,7 @@ pub(crate) fn first_of_message<'t, 's>(
 }
 
 /// The first among the statements of an enum.
-pub(crate) fn first_of_enum<'t, 's>(
-    items: &'t [EnumItem<'s>],
-    name: OptionName,
-) -> Option<&'t Setting<'s>>
+pub fn first_of_enum<'t, 's>(items: &'t [EnumItem<'s>], name: OptionName) -> Option<&'t Setting<'s>>
     ensures { option_copied result ≡ first_setting name (flat_map enum_setting items.now) }
 {
     for item in items {

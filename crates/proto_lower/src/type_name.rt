@@ -3,12 +3,12 @@
 ghost use Rattle.std.specs.Prelude.{◌≡◌, IfOk};
 ghost use Rattle.proto_lower.specs.Fields.{type_place, reference_of, kind_of, scalar_of_key};
 
-use crate::text::spelled;
 use proto_base::Place;
 use proto_base::scalar_type::{KeyType, ScalarType};
 use proto_desc::field::FieldKind;
 use proto_desc::type_name::TypeReference;
-use proto_syntax::tree::{FieldType, TypeName};
+use proto_tree::text::spelled;
+use proto_tree::{FieldType, TypeName};
 use std::alloc::{AllocError, Global};
 
 fn type_place(name: &TypeName) -> Place

@@ -9,6 +9,7 @@ use Rattle.proto_desc.specs.declared.file.FileDesc.{FileDesc}
 use Rattle.proto_desc.specs.declared.file.PackageDesc.{PackageDesc}
 use Rattle.proto_names.specs.Occurrences.{Occurrence, IsTwice, NoneTwice, IsFirstTwice, declared_occurrence, package_occurrence, package_occurrences, occurrences_of, occurrences_from, occurrences}
 use Rattle.proto_names.specs.Scopes.{fronts}
+use Rattle.proto_names.proofs.Apart.{ContainsBoth-permutation}
 
 -- ---- the files of occurrences
 
@@ -50,7 +51,7 @@ below_files files os same o within =
 -- ---- in another order
 
 twice_moved : (xs ys : List Occurrence) → IsPermutation xs ys → (b : Occurrence) → IsTwice xs b → IsTwice ys b
-twice_moved xs ys same b (here, a, there, clash) = (Contains-permutation xs ys b same here, a, Contains-permutation xs ys a same there, clash)
+twice_moved xs ys same b (a, both, clash) = (a, ContainsBoth-permutation xs ys a b same both, clash)
 
 pub none_moved : (xs ys : List Occurrence) → IsPermutation xs ys → NoneTwice ys → NoneTwice xs
 none_moved xs ys same none b twice = none b (twice_moved xs ys same b twice)

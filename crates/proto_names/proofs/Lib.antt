@@ -1,3 +1,4 @@
+pub mod Apart
 pub mod Around
 pub mod Built
 pub mod Collecting

@@ -1,41 +1,57 @@
--- What has the full name of an element stands where the element does.
-use Rattle.std.proofs.Common.{◌≡◌, sym, ℕ, ◌<◌, List, inl, inr, arith, ap}
-use Rattle.std.specs.Prelude.{Contains}
-use Rattle.std.proofs.lemmas.Bool.{cases_lt}
-use Rattle.std.proofs.lemmas.List.Sorted.{Contains-permutation, IsPermutation-sym}
+-- The full name of an element has one occurrence.
+use Rattle.std.proofs.Common.{◌≡◌, ◌∙◌, sym, ℕ, List, inl, inr, ◌⊎◌, arith, refl, ap}
+use Rattle.std.specs.Prelude.{Some, slice_get}
+use Rattle.std.proofs.lemmas.Bool.{cases_eq, cases_lt}
+use Rattle.std.proofs.lemmas.List.Sorted.{IsPermutation-sym}
+use Rattle.std.proofs.lemmas.Option.{same_Some, slice_get_read}
 use Rattle.proto_desc.specs.declared.file.FileDesc.{FileDesc}
 use Rattle.proto_base.specs.declared.limits.Limits.{Limits}
 use Rattle.proto_base.specs.declared.place.Place.{Place}
 use Rattle.proto_names.specs.Index.{AreDeclaredOnce, Index, Indexes}
 use Rattle.proto_names.specs.Occurrences.{IsEarlier, IsPackage, NoneTwice, Occurrence, occurrences}
+use Rattle.proto_names.proofs.Built.{none_moved}
 
--- neither comes earlier, so they stand at one place
-one_number : (a b : ℕ) → (a < b → ⊥) → (b < a → ⊥) → a ≡ b
-one_number a b up down = elim (cases_lt a b) [
-  | inl less ↦ absurd (up less)
-  | inr more ↦ elim (cases_lt b a) [ inl less ↦ absurd (down less) | inr least ↦ omega (arith, more, least) ]
+-- one of two is no later than the other
+one_no_later : (a b : ℕ) (p q : Place) → (IsEarlier a p b q → ⊥) ⊎ (IsEarlier b q a p → ⊥)
+one_no_later a b p q = elim (cases_lt a b) [
+  | inl less ↦ inr (λ earlier. (elim earlier [ inl more ↦ omega arith | inr w ↦ (let same = w.0 in omega arith) ]))
+  | inr over ↦ elim (cases_lt b a) [
+    | inl more ↦ inl (λ earlier. (elim earlier [ inl less ↦ omega arith | inr w ↦ (let same = w.0 in omega arith) ]))
+    | inr under ↦ elim (cases_lt p.offset q.offset) [
+      | inl before ↦ inr (λ earlier. (elim earlier [ inl more ↦ omega arith | inr w ↦ (let behind = w.1 in omega arith) ]))
+      | inr behind ↦ inl (λ earlier. (elim earlier [ inl less ↦ omega arith | inr w ↦ (let before = w.1 in omega arith) ]))
+    ]
+  ]
 ]
 
-same_place : (p q : Place) → p.offset ≡ q.offset → p ≡ q
-same_place p q e = let place : ℕ → Place = λ n. record { offset = n } in ap place e
-
-apart : (os : List Occurrence) (o p : Occurrence) → NoneTwice os → Contains os o → Contains os p → o.name ≡ p.name → (IsPackage o → IsPackage p → ⊥) → IsEarlier o.file o.place p.file p.place → ⊥
-apart os o p none here there same element earlier = none p (there, o, here, record { same = same; earlier = earlier; not_packages = element })
-
-once : (os : List Occurrence) (o p : Occurrence) → NoneTwice os → Contains os o → Contains os p → o.name ≡ p.name → (IsPackage o → ⊥) → (o.file ≡ p.file) × (o.place ≡ p.place)
-once os o p none here there same element =
-    let one : o.file ≡ p.file = one_number o.file p.file
-    (λ less. apart os o p none here there same (λ x y. element x) (inl less))
-    (λ less. apart os p o none there here (sym same) (λ x y. element y) (inl less)) in (
-      one,
-      same_place o.place p.place (one_number o.place.offset p.place.offset
-          (λ less. apart os o p none here there same (λ x y. element x) (inr (one, less)))
-          (λ less. apart os p o none there here (sym same) (λ x y. element y) (inr (sym one, less)))),
-    )
+-- two of one name, at two positions, would clash
+alone : (os : List Occurrence) (i j : ℕ) (o p : Occurrence) → NoneTwice os → slice_get os i ≡ Some o → slice_get os j ≡ Some p
+    → o.name ≡ p.name → (IsPackage o → ⊥) → i ≡ j
+alone os i j o p none first second same element = elim (cases_eq i j) [
+  | inl one ↦ one
+  | inr apart ↦ elim (one_no_later o.file p.file o.place p.place) [
+    | inl behind ↦ absurd (none o (
+      p,
+      (j, i, (λ e. apart (sym e)), second, first),
+      record { same = sym same; no_later = behind; not_packages = λ x y. element y },
+    ))
+    | inr before ↦ absurd (none p (
+      o,
+      (i, j, apart, first, second),
+      record { same = same; no_later = before; not_packages = λ x y. element x },
+    ))
+  ]
+]
 
 pub declared_once : (index : Index) (descs : List FileDesc) (limits : Limits) → Indexes descs limits index → AreDeclaredOnce index
-declared_once index descs limits is o p here there same element =
-    let back = IsPermutation-sym (occurrences descs) index.occurrences is.all in
-    once (occurrences descs) o p is.once
-    (Contains-permutation index.occurrences (occurrences descs) o back here)
-    (Contains-permutation index.occurrences (occurrences descs) p back there) same element
+declared_once index descs limits is =
+    let none : NoneTwice index.occurrences =
+    none_moved index.occurrences (occurrences descs) (IsPermutation-sym (occurrences descs) index.occurrences is.all) is.once in
+    record {
+      one = λ o p here there same element.
+          (let first = slice_get_read index.occurrences _ here.0 o refl here.1 (sym here.2) in
+          let second = slice_get_read index.occurrences _ there.0 p refl there.1 (sym there.2) in
+          let position = alone index.occurrences here.0 there.0 o p none first second same element in
+          same_Some o p (sym first ∙ ap (slice_get index.occurrences) position ∙ second));
+      once = λ i j o first second element. alone index.occurrences i j o o none first second refl element;
+    }

@@ -1,12 +1,11 @@
 -- Occurrences in order.
 use Rattle.std.proofs.Common.{◌≡◌, ◌∙◌, sym, ℕ, ◌<◌, ◌≤◌, List, length, ap, refl, arith, inl, inr, ◌⊎◌, cond, Ordering, Less, Equal, Greater, Bool, true, false}
-use Rattle.std.specs.Prelude.{Contains, nat_lt, ◌==◌}
+use Rattle.std.specs.Prelude.{nat_lt, ◌==◌}
 use Rattle.std.specs.Cmp.Lexicographic.{slice_cmp}
 use Rattle.std.specs.Cmp.{IsTotalOrder}
 use Rattle.std.specs.Ordering.{nat_cmp, is_lt, ordering_then, ordering_reverse}
 use Rattle.std.proofs.lemmas.Bool.{true≢false, ltb-false, eqb-true, eqb-false}
 use Rattle.std.proofs.lemmas.Cmp.{nat_cmp_total, nat_list_cmp_total, then_total, on_total, tied_itself}
-use Rattle.std.proofs.lemmas.List.{get_or_default}
 use Rattle.std.proofs.lemmas.List.MinMax.{ranks_by}
 use Rattle.std.proofs.lemmas.List.Sorted.{sorted_far}
 use Rattle.std.proofs.lemmas.Map.Lookups.{exact_bytes}
@@ -80,25 +79,11 @@ names_between os up i j k h g below e = name_between (at os i) (at os j) (at os 
 
 -- ---- earlier, and no later
 
-pub leads_earlier : (a b c : Occurrence) → Leads a b → IsEarlier b.file b.place c.file c.place → IsEarlier a.file a.place c.file c.place
-leads_earlier a b c (inl h) (inl k) = inl (omega arith)
-leads_earlier a b c (inl h) (inr k) = inl (omega (arith, k.0))
-leads_earlier a b c (inr h) (inl k) = inl (omega (arith, h.0))
-leads_earlier a b c (inr h) (inr k) = inr (h.0 ∙ k.0, omega (arith, h.1, k.1))
-
 pub not_both : (a b : Occurrence) → Leads a b → IsEarlier b.file b.place a.file a.place → ⊥
 not_both a b (inl h) (inl k) = omega arith
 not_both a b (inl h) (inr k) = omega (arith, k.0)
 not_both a b (inr h) (inl k) = omega (arith, h.0)
 not_both a b (inr h) (inr k) = omega (arith, h.1, k.1)
 
-pub leads_itself : (a : Occurrence) → Leads a a
-leads_itself a = inr (refl, omega arith)
-
--- ---- what stands at a place
-
-pub stands : (os : List Occurrence) (k : ℕ) → k < length os → Contains os (at os k)
-stands os k h = (k, h, get_or_default os k (at os k) blank h)
-
-pub place_of : (os : List Occurrence) (o : Occurrence) → Contains os o → (k : ℕ) × (k < length os) × (at os k ≡ o)
-place_of os o (k, inside, is) = (k, inside, get_or_default os k blank o inside ∙ is)
+pub not_itself : (a : Occurrence) → IsEarlier a.file a.place a.file a.place → ⊥
+not_itself a = not_both a a (inr (refl, omega arith))

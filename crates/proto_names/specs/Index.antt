@@ -1,5 +1,5 @@
 -- The index of the names of files.
-use Rattle.std.specs.Prelude.{◌≡◌, ℕ, ◌<◌, ◌≤◌, List, length, map, filter, Bool, true, false, Option, None, Some, Contains, IsPermutation, IsSortedByKey}
+use Rattle.std.specs.Prelude.{◌≡◌, ℕ, ◌<◌, ◌≤◌, List, length, map, filter, Bool, true, false, Option, None, Some, Contains, IsPermutation, IsSortedByKey, slice_get}
 use Rattle.std.specs.Cmp.Lexicographic.{slice_cmp}
 use Rattle.std.specs.Ordering.{nat_cmp}
 use Rattle.proto_desc.specs.declared.file.FileDesc.{FileDesc}
@@ -60,6 +60,9 @@ pub record IsRepeated (descs : List FileDesc) (limits : Limits) (file : ℕ) (pl
 abbrev pub IsOfFiles : Index → Type 0
 IsOfFiles index = (descs : List FileDesc) × (limits : Limits) × Indexes descs limits index
 
--- what has the full name of an element stands where the element does: in one file, at one place
-abbrev pub AreDeclaredOnce : Index → Type 0
-AreDeclaredOnce index = (o p : Occurrence) → Contains index.occurrences o → Contains index.occurrences p → o.name ≡ p.name → (IsPackage o → ⊥) → (o.file ≡ p.file) × (o.place ≡ p.place)
+-- the full name of an element has one occurrence, which stands once
+pub record AreDeclaredOnce (index : Index) : Type 0 where
+  pub one : (o p : Occurrence) → Contains index.occurrences o → Contains index.occurrences p
+      → o.name ≡ p.name → (IsPackage o → ⊥) → o ≡ p
+  pub once : (i j : ℕ) (o : Occurrence) → slice_get index.occurrences i ≡ Some o
+      → slice_get index.occurrences j ≡ Some o → (IsPackage o → ⊥) → i ≡ j

@@ -1,5 +1,5 @@
 -- The occurrences of full names in files. A file is named by its place in the list of files.
-use Rattle.std.specs.Prelude.{◌≡◌, ◌⊎◌, ℕ, ◌+◌, ◌<◌, List, [], ◌∷◌, ◌++◌, map, Option, None, Some, Contains}
+use Rattle.std.specs.Prelude.{◌≡◌, ◌≢◌, ◌⊎◌, ℕ, ◌+◌, ◌<◌, List, [], ◌∷◌, ◌++◌, map, Option, None, Some, slice_get}
 use Rattle.proto_desc.specs.DeclaredNames.{Declared, full_name, declared_by}
 use Rattle.proto_desc.specs.declared.file.FileDesc.{FileDesc}
 use Rattle.proto_desc.specs.declared.file.PackageDesc.{PackageDesc}
@@ -47,20 +47,24 @@ IsEarlier a p b q = (a < b) ⊎ ((a ≡ b) × (p.offset < q.offset))
 abbrev pub IsPackage : Occurrence → Type 0
 IsPackage o = o.kind ≡ None
 
--- two occurrences of one name, the first earlier, not both packages
+-- two occurrences of one name, the first no later, not both packages
 pub record Clash (a b : Occurrence) : Type 0 where
   pub same : a.name ≡ b.name
-  pub earlier : IsEarlier a.file a.place b.file b.place
+  pub no_later : IsEarlier b.file b.place a.file a.place → ⊥
   pub not_packages : IsPackage a → IsPackage b → ⊥
 
--- an occurrence that has an earlier one of its name
+-- both, at two positions
+abbrev pub ContainsBoth : List Occurrence → Occurrence → Occurrence → Type 0
+ContainsBoth os a b = (i : ℕ) × (j : ℕ) × (i ≢ j) × (slice_get os i ≡ Some a) × (slice_get os j ≡ Some b)
+
+-- an occurrence with another one of its name that comes no later
 abbrev pub IsTwice : List Occurrence → Occurrence → Type 0
-IsTwice os b = Contains os b × (a : Occurrence) × Contains os a × Clash a b
+IsTwice os b = (a : Occurrence) × ContainsBoth os a b × Clash a b
 
 abbrev pub NoneTwice : List Occurrence → Type 0
 NoneTwice os = (b : Occurrence) → IsTwice os b → ⊥
 
--- the first of the occurrences that have earlier ones
+-- the first of the occurrences that occur twice
 pub record IsFirstTwice (os : List Occurrence) (file : ℕ) (place : Place) : Type 0 where
   pub found : (b : Occurrence) × IsTwice os b × (b.file ≡ file) × (b.place ≡ place)
   pub least : (b : Occurrence) → IsTwice os b → IsEarlier b.file b.place file place → ⊥

@@ -29,7 +29,7 @@ use thiserror::Error;
 /// Why files have no index.
 #[derive(Debug, Drop, Error)]
 pub enum NameError {
-    /// The first occurrence with an earlier one of its name, by file, then by place.
+    /// The first occurrence with another one of its name that comes no later, by file, then by place.
     #[error("a name that occurs twice")]
     At(FileId, Place),
     /// More occurrences than the limit.
@@ -99,8 +99,9 @@ impl NameIndex {
     /// Finds what occurs in files: what they declare, with map entries and made oneofs, and their packages by every
     /// prefix.
     ///
-    /// `TooMany` where more occurs than the limit of names, else `At` the first occurrence, by file and place, that has
-    /// an earlier one of its name, where not both are packages. `NoMemory` comes only where the allocator had none.
+    /// `TooMany` where more occurs than the limit of names, else `At` the first occurrence, by file and place, with
+    /// another one of its name that comes no later, where not both are packages. `NoMemory` comes only where the
+    /// allocator had none.
     pub fn build<R>(rt: &R, files: &[FileDesc], limits: &Limits) -> Result<NameIndex, NameError>
     where
         R: Threads + AllocGlobal + Sync,
@@ -140,7 +141,7 @@ impl NameIndex {
         None
     }
 
-    /// A law: whatever files are indexed, what has the full name of an element stands in one file, at one place.
+    /// A law: whatever files are indexed, the full name of an element has one occurrence, which stands once.
     pub fn names_are_declared_once(&self)
         ensures { AreDeclaredOnce self.now }
     {

@@ -4,22 +4,22 @@ use Rattle.std.specs.Prelude.{bytes_eq, codes, Option, Some, None}
 use Rattle.std.proofs.lemmas.Slice.Eq.{bytes_eq-Decides}
 use Rattle.proto_tokens.specs.Token.{Spelled}
 use Rattle.proto_base.specs.declared.place.Span.{Span}
-use Rattle.proto_syntax.specs.declared.tree.enumeration.Enum.{Enum}
-use Rattle.proto_syntax.specs.declared.tree.field.Declarator.{Declarator}
-use Rattle.proto_syntax.specs.declared.tree.field.Field.{Field}
-use Rattle.proto_syntax.specs.declared.tree.field.FieldType.{FieldType}
-use Rattle.proto_syntax.specs.declared.tree.field.FieldType.TheVariants.{Scalar, Named}
-use Rattle.proto_syntax.specs.declared.tree.field.Label.{Label}
-use Rattle.proto_syntax.specs.declared.tree.literal.NumberLiteral.{NumberLiteral}
-use Rattle.proto_syntax.specs.declared.tree.map_field.MapField.{MapField}
-use Rattle.proto_syntax.specs.declared.tree.message.Message.{Message}
-use Rattle.proto_syntax.specs.declared.tree.message.MessageItem.TheVariants as of
-use Rattle.proto_syntax.specs.declared.tree.message.MessageItem.TheOpen as opened
-use Rattle.proto_syntax.specs.declared.tree.message.MessageItem.TheFolds.{fold-roll-MessageItem, fold-Message, fold_out-Message}
-use Rattle.proto_syntax.specs.declared.tree.name.FullName.{FullName}
-use Rattle.proto_syntax.specs.declared.tree.oneof.Oneof.{Oneof}
-use Rattle.proto_syntax.specs.declared.tree.option.OptionStatement.{OptionStatement}
-use Rattle.proto_syntax.specs.declared.tree.reserved.Reserved.{Reserved}
+use Rattle.proto_tree.specs.declared.enumeration.Enum.{Enum}
+use Rattle.proto_tree.specs.declared.field.Declarator.{Declarator}
+use Rattle.proto_tree.specs.declared.field.Field.{Field}
+use Rattle.proto_tree.specs.declared.field.FieldType.{FieldType}
+use Rattle.proto_tree.specs.declared.field.FieldType.TheVariants.{Scalar, Named}
+use Rattle.proto_tree.specs.declared.field.Label.{Label}
+use Rattle.proto_tree.specs.declared.literal.NumberLiteral.{NumberLiteral}
+use Rattle.proto_tree.specs.declared.map_field.MapField.{MapField}
+use Rattle.proto_tree.specs.declared.message.Message.{Message}
+use Rattle.proto_tree.specs.declared.message.MessageItem.TheVariants as of
+use Rattle.proto_tree.specs.declared.message.MessageItem.TheOpen as opened
+use Rattle.proto_tree.specs.declared.message.MessageItem.TheFolds.{fold-roll-MessageItem, fold-Message, fold_out-Message}
+use Rattle.proto_tree.specs.declared.name.FullName.{FullName}
+use Rattle.proto_tree.specs.declared.oneof.Oneof.{Oneof}
+use Rattle.proto_tree.specs.declared.option.OptionStatement.{OptionStatement}
+use Rattle.proto_tree.specs.declared.reserved.Reserved.{Reserved}
 use Rattle.proto_syntax.specs.Grammar.{among, IsTree, one, both, second, Tree, Pair, Left, Right}
 use Rattle.proto_syntax.specs.Language.{scalar_words, statement_words, named_but, type_but, field_head, field}
 use Rattle.proto_syntax.specs.Reading.{Read, read}

@@ -3,27 +3,27 @@ use Rattle.std.proofs.Common.{◌≡◌, Bool, true, false, cond, List, [], ◌�
 use Rattle.std.specs.Prelude.{Option, None, Some, bytes_eq, codes}
 use Rattle.std.specs.Str.{byte}
 use Rattle.proto_base.specs.declared.place.Span.{Span}
-use Rattle.proto_syntax.specs.Name.{Identifier}
+use Rattle.proto_tree.specs.Name.{Identifier}
 use Rattle.proto_syntax.specs.Grammar.{Tree, Pair, Left, Right}
-use Rattle.proto_syntax.specs.declared.tree.field.Declarator.{Declarator}
-use Rattle.proto_syntax.specs.declared.tree.field.Field.{Field}
-use Rattle.proto_syntax.specs.declared.tree.field.FieldType.{FieldType}
-use Rattle.proto_syntax.specs.declared.tree.field.Label.{Label}
-use Rattle.proto_syntax.specs.declared.tree.file.FileTree.{FileTree}
-use Rattle.proto_syntax.specs.declared.tree.file.Import.{Import}
-use Rattle.proto_syntax.specs.declared.tree.file.Package.{Package}
-use Rattle.proto_syntax.specs.declared.tree.file.Statement.{Statement}
-use Rattle.proto_syntax.specs.declared.tree.file.Syntax.{Syntax}
-use Rattle.proto_syntax.specs.declared.tree.map_field.MapField.{MapField}
-use Rattle.proto_syntax.specs.declared.tree.name.FullName.{FullName}
-use Rattle.proto_syntax.specs.declared.tree.field.FieldType.TheVariants.{Scalar, Named}
-use Rattle.proto_syntax.specs.declared.tree.file.Statement.TheVariants as statement
+use Rattle.proto_tree.specs.declared.field.Declarator.{Declarator}
+use Rattle.proto_tree.specs.declared.field.Field.{Field}
+use Rattle.proto_tree.specs.declared.field.FieldType.{FieldType}
+use Rattle.proto_tree.specs.declared.field.Label.{Label}
+use Rattle.proto_tree.specs.declared.file.FileTree.{FileTree}
+use Rattle.proto_tree.specs.declared.file.Import.{Import}
+use Rattle.proto_tree.specs.declared.file.Package.{Package}
+use Rattle.proto_tree.specs.declared.file.Statement.{Statement}
+use Rattle.proto_tree.specs.declared.file.Syntax.{Syntax}
+use Rattle.proto_tree.specs.declared.map_field.MapField.{MapField}
+use Rattle.proto_tree.specs.declared.name.FullName.{FullName}
+use Rattle.proto_tree.specs.declared.field.FieldType.TheVariants.{Scalar, Named}
+use Rattle.proto_tree.specs.declared.file.Statement.TheVariants as statement
 use Rattle.proto_syntax.specs.Trees.{symbol_tree, word_tree, name_tree, number_tree, row, part_tree, type_tree, option_tree, reserved_tree, enum_tree, declarator_tree, oneof_tree, map_tree, label_tree, field_head_tree, unlabelled_tree, field_statement_tree, item_step, message_step, message_item_tree, message_tree, package_tree, import_tree, syntax_tree, statement_tree, file_tree}
 use Rattle.proto_syntax.proofs.SameNames.{left_same, right_same, left_of, right_of, same_span, same_name, same_number, same_row, same_optional, same_str, same_full, same_type}
 use Rattle.proto_syntax.proofs.SameItems.{same_option, same_service, same_reserved, same_enum, same_declarator, same_oneof, same_map, same_label}
-use Rattle.proto_syntax.specs.declared.tree.message.Message.{Message, Message-F, roll-Message, ind-Message, map-Message}
-use Rattle.proto_syntax.specs.declared.tree.message.MessageItem.{MessageItem, MessageItem-F, out-MessageItem, roll-MessageItem, roll-out-MessageItem, fold-roll-MessageItem, map-MessageItem}
-use Rattle.proto_syntax.specs.declared.tree.message.MessageItem.TheOpen as opened
+use Rattle.proto_tree.specs.declared.message.Message.{Message, Message-F, roll-Message, ind-Message, map-Message}
+use Rattle.proto_tree.specs.declared.message.MessageItem.{MessageItem, MessageItem-F, out-MessageItem, roll-MessageItem, roll-out-MessageItem, fold-roll-MessageItem, map-MessageItem}
+use Rattle.proto_tree.specs.declared.message.MessageItem.TheOpen as opened
 use Rattle.proto_syntax.proofs.Items.{fold_message}
 
 -- a field, whichever rule has its statement

@@ -4,46 +4,46 @@ use Rattle.std.specs.Prelude.{Option, None, Some, codes}
 use Rattle.std.specs.Str.{byte}
 use Rattle.proto_base.specs.declared.place.Span.{Span}
 use Rattle.proto_syntax.specs.Grammar.{Tree, Pair}
-use Rattle.proto_syntax.specs.declared.tree.constant.Constant.{Constant}
-use Rattle.proto_syntax.specs.declared.tree.constant.Constant.TheVariants as constant
-use Rattle.proto_syntax.specs.declared.tree.constant.ConstantNumber.{ConstantNumber}
-use Rattle.proto_syntax.specs.declared.tree.constant.Sign.{Sign}
-use Rattle.proto_syntax.specs.declared.tree.constant.Sign.TheVariants as sign
-use Rattle.proto_syntax.specs.declared.tree.enumeration.Enum.{Enum}
-use Rattle.proto_syntax.specs.declared.tree.enumeration.EnumItem.{EnumItem}
-use Rattle.proto_syntax.specs.declared.tree.enumeration.EnumItem.TheVariants as enum_item
-use Rattle.proto_syntax.specs.declared.tree.enumeration.EnumValue.{EnumValue}
-use Rattle.proto_syntax.specs.declared.tree.field.Declarator.{Declarator}
-use Rattle.proto_syntax.specs.declared.tree.field.Label.{Label}
-use Rattle.proto_syntax.specs.declared.tree.field.Label.TheVariants as label
-use Rattle.proto_syntax.specs.declared.tree.literal.SignedNumber.{SignedNumber}
-use Rattle.proto_syntax.specs.declared.tree.map_field.MapField.{MapField}
-use Rattle.proto_syntax.specs.declared.tree.map_field.MapType.{MapType}
-use Rattle.proto_syntax.specs.declared.tree.name.TypeName.{TypeName}
-use Rattle.proto_syntax.specs.declared.tree.oneof.Oneof.{Oneof}
-use Rattle.proto_syntax.specs.declared.tree.oneof.OneofField.{OneofField}
-use Rattle.proto_syntax.specs.declared.tree.oneof.OneofItem.{OneofItem}
-use Rattle.proto_syntax.specs.declared.tree.oneof.OneofItem.TheVariants as oneof_item
-use Rattle.proto_syntax.specs.declared.tree.option.OptionStatement.{OptionStatement}
-use Rattle.proto_syntax.specs.declared.tree.option.Options.{Options}
-use Rattle.proto_syntax.specs.declared.tree.option.Setting.{Setting}
-use Rattle.proto_syntax.specs.declared.tree.reserved.Range.{Range}
-use Rattle.proto_syntax.specs.declared.tree.reserved.RangeEnd.{RangeEnd}
-use Rattle.proto_syntax.specs.declared.tree.reserved.Reserved.{Reserved}
-use Rattle.proto_syntax.specs.declared.tree.reserved.ReservedItems.{ReservedItems}
-use Rattle.proto_syntax.specs.declared.tree.reserved.ReservedItems.TheVariants as reserved_items
-use Rattle.proto_syntax.specs.declared.tree.reserved.UpperBound.{UpperBound}
-use Rattle.proto_syntax.specs.declared.tree.reserved.UpperBound.TheVariants as upper_bound
-use Rattle.proto_syntax.specs.declared.tree.service.Rpc.{Rpc}
-use Rattle.proto_syntax.specs.declared.tree.service.RpcBlock.{RpcBlock}
-use Rattle.proto_syntax.specs.declared.tree.service.RpcBody.{RpcBody}
-use Rattle.proto_syntax.specs.declared.tree.service.RpcBody.TheVariants as rpc_body
-use Rattle.proto_syntax.specs.declared.tree.service.RpcItem.{RpcItem}
-use Rattle.proto_syntax.specs.declared.tree.service.RpcItem.TheVariants as rpc_item
-use Rattle.proto_syntax.specs.declared.tree.service.RpcType.{RpcType}
-use Rattle.proto_syntax.specs.declared.tree.service.Service.{Service}
-use Rattle.proto_syntax.specs.declared.tree.service.ServiceItem.{ServiceItem}
-use Rattle.proto_syntax.specs.declared.tree.service.ServiceItem.TheVariants as service_item
+use Rattle.proto_tree.specs.declared.constant.Constant.{Constant}
+use Rattle.proto_tree.specs.declared.constant.Constant.TheVariants as constant
+use Rattle.proto_tree.specs.declared.constant.ConstantNumber.{ConstantNumber}
+use Rattle.proto_tree.specs.declared.constant.Sign.{Sign}
+use Rattle.proto_tree.specs.declared.constant.Sign.TheVariants as sign
+use Rattle.proto_tree.specs.declared.enumeration.Enum.{Enum}
+use Rattle.proto_tree.specs.declared.enumeration.EnumItem.{EnumItem}
+use Rattle.proto_tree.specs.declared.enumeration.EnumItem.TheVariants as enum_item
+use Rattle.proto_tree.specs.declared.enumeration.EnumValue.{EnumValue}
+use Rattle.proto_tree.specs.declared.field.Declarator.{Declarator}
+use Rattle.proto_tree.specs.declared.field.Label.{Label}
+use Rattle.proto_tree.specs.declared.field.Label.TheVariants as label
+use Rattle.proto_tree.specs.declared.literal.SignedNumber.{SignedNumber}
+use Rattle.proto_tree.specs.declared.map_field.MapField.{MapField}
+use Rattle.proto_tree.specs.declared.map_field.MapType.{MapType}
+use Rattle.proto_tree.specs.declared.name.TypeName.{TypeName}
+use Rattle.proto_tree.specs.declared.oneof.Oneof.{Oneof}
+use Rattle.proto_tree.specs.declared.oneof.OneofField.{OneofField}
+use Rattle.proto_tree.specs.declared.oneof.OneofItem.{OneofItem}
+use Rattle.proto_tree.specs.declared.oneof.OneofItem.TheVariants as oneof_item
+use Rattle.proto_tree.specs.declared.option.OptionStatement.{OptionStatement}
+use Rattle.proto_tree.specs.declared.option.Options.{Options}
+use Rattle.proto_tree.specs.declared.option.Setting.{Setting}
+use Rattle.proto_tree.specs.declared.reserved.Range.{Range}
+use Rattle.proto_tree.specs.declared.reserved.RangeEnd.{RangeEnd}
+use Rattle.proto_tree.specs.declared.reserved.Reserved.{Reserved}
+use Rattle.proto_tree.specs.declared.reserved.ReservedItems.{ReservedItems}
+use Rattle.proto_tree.specs.declared.reserved.ReservedItems.TheVariants as reserved_items
+use Rattle.proto_tree.specs.declared.reserved.UpperBound.{UpperBound}
+use Rattle.proto_tree.specs.declared.reserved.UpperBound.TheVariants as upper_bound
+use Rattle.proto_tree.specs.declared.service.Rpc.{Rpc}
+use Rattle.proto_tree.specs.declared.service.RpcBlock.{RpcBlock}
+use Rattle.proto_tree.specs.declared.service.RpcBody.{RpcBody}
+use Rattle.proto_tree.specs.declared.service.RpcBody.TheVariants as rpc_body
+use Rattle.proto_tree.specs.declared.service.RpcItem.{RpcItem}
+use Rattle.proto_tree.specs.declared.service.RpcItem.TheVariants as rpc_item
+use Rattle.proto_tree.specs.declared.service.RpcType.{RpcType}
+use Rattle.proto_tree.specs.declared.service.Service.{Service}
+use Rattle.proto_tree.specs.declared.service.ServiceItem.{ServiceItem}
+use Rattle.proto_tree.specs.declared.service.ServiceItem.TheVariants as service_item
 use Rattle.proto_syntax.specs.Trees.{symbol_tree, word_tree, str_tree, named_tree, signed_tree, sign_tree, constant_number_tree, constant_tree, setting_tree, options_tree, option_tree, streamed_tree, rpc_type_tree, rpc_item_tree, rpc_block_tree, rpc_body_tree, rpc_tree, service_item_tree, service_tree, bound_tree, range_end_tree, range_tree, reserved_items_tree, reserved_tree, value_tree, enum_item_tree, enum_tree, declarator_tree, member_tree, oneof_item_tree, oneof_tree, map_type_tree, map_tree, label_tree}
 use Rattle.proto_syntax.proofs.SameNames.{left_same, right_same, left_of, right_of, same_span, same_lexeme, same_identifier, same_name, same_number, same_row, same_optional, same_separated, same_str, same_full, same_named, same_key, same_type}
 

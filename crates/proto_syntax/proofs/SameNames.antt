@@ -4,22 +4,22 @@ use Rattle.std.specs.Prelude.{Option, None, Some, bytes_eq, codes}
 use Rattle.std.specs.Str.{byte}
 use Rattle.proto_tokens.specs.Token.{Lexeme, identifier, number, string_literal, Spelled}
 use Rattle.proto_base.specs.declared.place.Span.{Span}
-use Rattle.proto_syntax.specs.Name.{Identifier}
+use Rattle.proto_tree.specs.Name.{Identifier}
 use Rattle.proto_syntax.specs.Grammar.{Tree, Leaf, Pair, Left, Right}
-use Rattle.proto_syntax.specs.declared.tree.field.FieldType.{FieldType}
-use Rattle.proto_syntax.specs.declared.tree.list.Next.{Next}
-use Rattle.proto_syntax.specs.declared.tree.list.Separated.{Separated}
-use Rattle.proto_syntax.specs.declared.tree.literal.NumberLiteral.{NumberLiteral}
-use Rattle.proto_syntax.specs.declared.tree.literal.StringLiteral.{StringLiteral}
-use Rattle.proto_syntax.specs.declared.tree.literal.StringValue.{StringValue}
-use Rattle.proto_syntax.specs.declared.tree.name.FullName.{FullName}
-use Rattle.proto_syntax.specs.declared.tree.name.NamePart.{NamePart}
-use Rattle.proto_syntax.specs.declared.tree.name.TypeName.{TypeName}
+use Rattle.proto_tree.specs.declared.field.FieldType.{FieldType}
+use Rattle.proto_tree.specs.declared.list.Next.{Next}
+use Rattle.proto_tree.specs.declared.list.Separated.{Separated}
+use Rattle.proto_tree.specs.declared.literal.NumberLiteral.{NumberLiteral}
+use Rattle.proto_tree.specs.declared.literal.StringLiteral.{StringLiteral}
+use Rattle.proto_tree.specs.declared.literal.StringValue.{StringValue}
+use Rattle.proto_tree.specs.declared.name.FullName.{FullName}
+use Rattle.proto_tree.specs.declared.name.NamePart.{NamePart}
+use Rattle.proto_tree.specs.declared.name.TypeName.{TypeName}
 use Rattle.proto_base.specs.declared.scalar_type.KeyType.{KeyType}
 use Rattle.proto_base.specs.declared.scalar_type.KeyType.TheVariants as key
 use Rattle.proto_base.specs.declared.scalar_type.ScalarType.{ScalarType}
 use Rattle.proto_base.specs.declared.scalar_type.ScalarType.TheVariants as scalar
-use Rattle.proto_syntax.specs.declared.tree.field.FieldType.TheVariants.{Scalar, Named}
+use Rattle.proto_tree.specs.declared.field.FieldType.TheVariants.{Scalar, Named}
 use Rattle.proto_syntax.specs.Trees.{leaf, symbol_tree, word_tree, name_tree, number_tree, string_tree, row, optional, next_tree, separated_tree, str_tree, part_tree, full_tree, dotted_tree, named_tree, word_of_scalar, word_of_key, type_tree}
 
 pub leaf_of : Tree → Spelled → Spelled

@@ -7,7 +7,7 @@ use Rattle.proto_base.specs.declared.kind.Kind.{Kind}
 use Rattle.proto_tokens.specs.declared.token.Tokens.{Tokens}
 use Rattle.proto_syntax.specs.declared.error.ParseError.{ParseError}
 use Rattle.proto_syntax.specs.declared.error.ParseError.TheVariants.{NoMemory, At}
-use Rattle.proto_syntax.specs.declared.tree.file.FileTree.{FileTree}
+use Rattle.proto_tree.specs.declared.file.FileTree.{FileTree}
 use Rattle.proto_syntax.specs.Grammar.{Tree}
 use Rattle.proto_syntax.specs.Trees.{file_tree}
 use Rattle.proto_syntax.specs.Fault.{IsTreeOf, IsFaultAt, token_before, kind_of, place_at, IsKindOf, at_end, too_deep, other, IsFaultOf, TellsFault}

@@ -1,4 +1,3 @@
-pub mod Name
 pub mod Grammar
 pub mod Language
 pub mod Fault

@@ -3,71 +3,71 @@ use Rattle.std.specs.Prelude.{ℕ, cond, bytes_eq, List, [], ◌∷◌, codes, O
 use Rattle.std.specs.Str.{byte}
 use Rattle.proto_tokens.specs.Token.{Lexeme, identifier, number, string_literal, punctuation}
 use Rattle.proto_base.specs.declared.place.Span.{Span}
-use Rattle.proto_syntax.specs.Name.{Identifier}
+use Rattle.proto_tree.specs.Name.{Identifier}
 use Rattle.proto_syntax.specs.Grammar.{Tree, Leaf, Empty, Pair, Left, Right}
-use Rattle.proto_syntax.specs.declared.tree.constant.Constant.{Constant}
-use Rattle.proto_syntax.specs.declared.tree.constant.Constant.TheVariants as constant
-use Rattle.proto_syntax.specs.declared.tree.constant.ConstantNumber.{ConstantNumber}
-use Rattle.proto_syntax.specs.declared.tree.constant.Sign.{Sign}
-use Rattle.proto_syntax.specs.declared.tree.constant.Sign.TheVariants as sign
-use Rattle.proto_syntax.specs.declared.tree.enumeration.Enum.{Enum}
-use Rattle.proto_syntax.specs.declared.tree.enumeration.EnumItem.{EnumItem}
-use Rattle.proto_syntax.specs.declared.tree.enumeration.EnumItem.TheVariants as enum_item
-use Rattle.proto_syntax.specs.declared.tree.enumeration.EnumValue.{EnumValue}
-use Rattle.proto_syntax.specs.declared.tree.field.Declarator.{Declarator}
-use Rattle.proto_syntax.specs.declared.tree.field.Field.{Field}
-use Rattle.proto_syntax.specs.declared.tree.field.FieldType.{FieldType}
-use Rattle.proto_syntax.specs.declared.tree.field.FieldType.TheVariants.{Scalar, Named}
-use Rattle.proto_syntax.specs.declared.tree.field.Label.{Label}
-use Rattle.proto_syntax.specs.declared.tree.field.Label.TheVariants as label
-use Rattle.proto_syntax.specs.declared.tree.file.FileTree.{FileTree}
-use Rattle.proto_syntax.specs.declared.tree.file.Import.{Import}
-use Rattle.proto_syntax.specs.declared.tree.file.Package.{Package}
-use Rattle.proto_syntax.specs.declared.tree.file.Statement.{Statement}
-use Rattle.proto_syntax.specs.declared.tree.file.Statement.TheVariants as statement
-use Rattle.proto_syntax.specs.declared.tree.file.Syntax.{Syntax}
-use Rattle.proto_syntax.specs.declared.tree.list.Next.{Next}
-use Rattle.proto_syntax.specs.declared.tree.list.Separated.{Separated}
-use Rattle.proto_syntax.specs.declared.tree.literal.NumberLiteral.{NumberLiteral}
-use Rattle.proto_syntax.specs.declared.tree.literal.SignedNumber.{SignedNumber}
-use Rattle.proto_syntax.specs.declared.tree.literal.StringLiteral.{StringLiteral}
-use Rattle.proto_syntax.specs.declared.tree.literal.StringValue.{StringValue}
-use Rattle.proto_syntax.specs.declared.tree.map_field.MapField.{MapField}
-use Rattle.proto_syntax.specs.declared.tree.map_field.MapType.{MapType}
-use Rattle.proto_syntax.specs.declared.tree.message.Message.{Message, Message-F}
-use Rattle.proto_syntax.specs.declared.tree.message.MessageItem.{MessageItem, MessageItem-F, fold-MessageItem}
-use Rattle.proto_syntax.specs.declared.tree.message.MessageItem.TheOpen as message_item
-use Rattle.proto_syntax.specs.declared.tree.name.FullName.{FullName}
-use Rattle.proto_syntax.specs.declared.tree.name.NamePart.{NamePart}
-use Rattle.proto_syntax.specs.declared.tree.name.TypeName.{TypeName}
-use Rattle.proto_syntax.specs.declared.tree.oneof.Oneof.{Oneof}
-use Rattle.proto_syntax.specs.declared.tree.oneof.OneofField.{OneofField}
-use Rattle.proto_syntax.specs.declared.tree.oneof.OneofItem.{OneofItem}
-use Rattle.proto_syntax.specs.declared.tree.oneof.OneofItem.TheVariants as oneof_item
-use Rattle.proto_syntax.specs.declared.tree.option.OptionStatement.{OptionStatement}
-use Rattle.proto_syntax.specs.declared.tree.option.Options.{Options}
-use Rattle.proto_syntax.specs.declared.tree.option.Setting.{Setting}
-use Rattle.proto_syntax.specs.declared.tree.reserved.Range.{Range}
-use Rattle.proto_syntax.specs.declared.tree.reserved.RangeEnd.{RangeEnd}
-use Rattle.proto_syntax.specs.declared.tree.reserved.Reserved.{Reserved}
-use Rattle.proto_syntax.specs.declared.tree.reserved.ReservedItems.{ReservedItems}
-use Rattle.proto_syntax.specs.declared.tree.reserved.ReservedItems.TheVariants as reserved_items
-use Rattle.proto_syntax.specs.declared.tree.reserved.UpperBound.{UpperBound}
-use Rattle.proto_syntax.specs.declared.tree.reserved.UpperBound.TheVariants as upper_bound
+use Rattle.proto_tree.specs.declared.constant.Constant.{Constant}
+use Rattle.proto_tree.specs.declared.constant.Constant.TheVariants as constant
+use Rattle.proto_tree.specs.declared.constant.ConstantNumber.{ConstantNumber}
+use Rattle.proto_tree.specs.declared.constant.Sign.{Sign}
+use Rattle.proto_tree.specs.declared.constant.Sign.TheVariants as sign
+use Rattle.proto_tree.specs.declared.enumeration.Enum.{Enum}
+use Rattle.proto_tree.specs.declared.enumeration.EnumItem.{EnumItem}
+use Rattle.proto_tree.specs.declared.enumeration.EnumItem.TheVariants as enum_item
+use Rattle.proto_tree.specs.declared.enumeration.EnumValue.{EnumValue}
+use Rattle.proto_tree.specs.declared.field.Declarator.{Declarator}
+use Rattle.proto_tree.specs.declared.field.Field.{Field}
+use Rattle.proto_tree.specs.declared.field.FieldType.{FieldType}
+use Rattle.proto_tree.specs.declared.field.FieldType.TheVariants.{Scalar, Named}
+use Rattle.proto_tree.specs.declared.field.Label.{Label}
+use Rattle.proto_tree.specs.declared.field.Label.TheVariants as label
+use Rattle.proto_tree.specs.declared.file.FileTree.{FileTree}
+use Rattle.proto_tree.specs.declared.file.Import.{Import}
+use Rattle.proto_tree.specs.declared.file.Package.{Package}
+use Rattle.proto_tree.specs.declared.file.Statement.{Statement}
+use Rattle.proto_tree.specs.declared.file.Statement.TheVariants as statement
+use Rattle.proto_tree.specs.declared.file.Syntax.{Syntax}
+use Rattle.proto_tree.specs.declared.list.Next.{Next}
+use Rattle.proto_tree.specs.declared.list.Separated.{Separated}
+use Rattle.proto_tree.specs.declared.literal.NumberLiteral.{NumberLiteral}
+use Rattle.proto_tree.specs.declared.literal.SignedNumber.{SignedNumber}
+use Rattle.proto_tree.specs.declared.literal.StringLiteral.{StringLiteral}
+use Rattle.proto_tree.specs.declared.literal.StringValue.{StringValue}
+use Rattle.proto_tree.specs.declared.map_field.MapField.{MapField}
+use Rattle.proto_tree.specs.declared.map_field.MapType.{MapType}
+use Rattle.proto_tree.specs.declared.message.Message.{Message, Message-F}
+use Rattle.proto_tree.specs.declared.message.MessageItem.{MessageItem, MessageItem-F, fold-MessageItem}
+use Rattle.proto_tree.specs.declared.message.MessageItem.TheOpen as message_item
+use Rattle.proto_tree.specs.declared.name.FullName.{FullName}
+use Rattle.proto_tree.specs.declared.name.NamePart.{NamePart}
+use Rattle.proto_tree.specs.declared.name.TypeName.{TypeName}
+use Rattle.proto_tree.specs.declared.oneof.Oneof.{Oneof}
+use Rattle.proto_tree.specs.declared.oneof.OneofField.{OneofField}
+use Rattle.proto_tree.specs.declared.oneof.OneofItem.{OneofItem}
+use Rattle.proto_tree.specs.declared.oneof.OneofItem.TheVariants as oneof_item
+use Rattle.proto_tree.specs.declared.option.OptionStatement.{OptionStatement}
+use Rattle.proto_tree.specs.declared.option.Options.{Options}
+use Rattle.proto_tree.specs.declared.option.Setting.{Setting}
+use Rattle.proto_tree.specs.declared.reserved.Range.{Range}
+use Rattle.proto_tree.specs.declared.reserved.RangeEnd.{RangeEnd}
+use Rattle.proto_tree.specs.declared.reserved.Reserved.{Reserved}
+use Rattle.proto_tree.specs.declared.reserved.ReservedItems.{ReservedItems}
+use Rattle.proto_tree.specs.declared.reserved.ReservedItems.TheVariants as reserved_items
+use Rattle.proto_tree.specs.declared.reserved.UpperBound.{UpperBound}
+use Rattle.proto_tree.specs.declared.reserved.UpperBound.TheVariants as upper_bound
 use Rattle.proto_base.specs.declared.scalar_type.KeyType.{KeyType}
 use Rattle.proto_base.specs.declared.scalar_type.KeyType.TheVariants as key
 use Rattle.proto_base.specs.declared.scalar_type.ScalarType.{ScalarType}
 use Rattle.proto_base.specs.declared.scalar_type.ScalarType.TheVariants as scalar
-use Rattle.proto_syntax.specs.declared.tree.service.Rpc.{Rpc}
-use Rattle.proto_syntax.specs.declared.tree.service.RpcBlock.{RpcBlock}
-use Rattle.proto_syntax.specs.declared.tree.service.RpcBody.{RpcBody}
-use Rattle.proto_syntax.specs.declared.tree.service.RpcBody.TheVariants as rpc_body
-use Rattle.proto_syntax.specs.declared.tree.service.RpcItem.{RpcItem}
-use Rattle.proto_syntax.specs.declared.tree.service.RpcItem.TheVariants as rpc_item
-use Rattle.proto_syntax.specs.declared.tree.service.RpcType.{RpcType}
-use Rattle.proto_syntax.specs.declared.tree.service.Service.{Service}
-use Rattle.proto_syntax.specs.declared.tree.service.ServiceItem.{ServiceItem}
-use Rattle.proto_syntax.specs.declared.tree.service.ServiceItem.TheVariants as service_item
+use Rattle.proto_tree.specs.declared.service.Rpc.{Rpc}
+use Rattle.proto_tree.specs.declared.service.RpcBlock.{RpcBlock}
+use Rattle.proto_tree.specs.declared.service.RpcBody.{RpcBody}
+use Rattle.proto_tree.specs.declared.service.RpcBody.TheVariants as rpc_body
+use Rattle.proto_tree.specs.declared.service.RpcItem.{RpcItem}
+use Rattle.proto_tree.specs.declared.service.RpcItem.TheVariants as rpc_item
+use Rattle.proto_tree.specs.declared.service.RpcType.{RpcType}
+use Rattle.proto_tree.specs.declared.service.Service.{Service}
+use Rattle.proto_tree.specs.declared.service.ServiceItem.{ServiceItem}
+use Rattle.proto_tree.specs.declared.service.ServiceItem.TheVariants as service_item
 
 -- one token
 abbrev pub leaf : Lexeme → Span → Tree

@@ -5,7 +5,6 @@
 
 mod error;
 mod parser;
-pub mod tree;
 
 pub use error::ParseError;
 pub use parser::{at_most_one_fault, at_most_one_file, at_most_one_tree, parse};

@@ -4,7 +4,7 @@ ghost use Rattle.std.specs.Prelude.{◌≡◌, ℕ, List, IfErr, IfOk, IsErrAnd,
 ghost use Rattle.proto_tokens.specs.Token.{Spelled, tokens_of};
 ghost use Rattle.proto_base.specs.Limits.{limit_of};
 ghost use Rattle.proto_base.specs.declared.kind.Kind.{Kind};
-ghost use Rattle.proto_syntax.specs.declared.tree.file.FileTree.{FileTree};
+ghost use Rattle.proto_tree.specs.declared.file.FileTree.{FileTree};
 ghost use Rattle.proto_syntax.specs.Grammar.{Tree};
 ghost use Rattle.proto_syntax.specs.Fault.{IsTreeOf, IsFaultAt, IsKindOf, IsFaultOf, TellsFault};
 ghost use Rattle.proto_syntax.specs.Trees.{file_tree};
@@ -27,10 +27,10 @@ mod stop;
 mod terminal;
 
 use crate::error::ParseError;
-use crate::tree::FileTree;
 use fault::{kind_at, place_at};
 use proto_base::{Kind, Limit, Limits};
 use proto_tokens::{Token, Tokens};
+use proto_tree::FileTree;
 use std::alloc::Global;
 use stop::Stop;
 

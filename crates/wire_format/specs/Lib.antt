@@ -2,3 +2,4 @@ pub mod Field
 pub mod Reading
 pub mod ReadingSteps
 pub mod Varint
+pub mod Writing

@@ -1,6 +1,6 @@
 //! Fields: a tag, which has the field's number and the wire type of its value, and the value.
 
-ghost use Rattle.std.specs.Prelude.{◌≡◌, ℕ, ◌+◌, ◌++◌, ◌<◌, ◌^◌, OnOk, OnErr, List, length};
+ghost use Rattle.std.specs.Prelude.{◌≡◌, ℕ, ◌+◌, ◌++◌, ◌<◌, ◌^◌, OnOk, OnErr, List, length, vec_capacity, vec_len};
 ghost use Rattle.wire_format.specs.Field.{field_bytes};
 
 use crate::varint::{push_varint, varint_len};
@@ -19,6 +19,8 @@ pub enum FieldValue<'a> {
 fn push_field(out: &mut Vec<u8>, number: u32, value: &FieldValue) -> Result<(), AllocError>
     ensures appended { OnOk result (out.new.items ≡ out.old.items ++ field_bytes number value.now) }
     ensures front { OnErr result ((front : List ℕ) × (out.new.items ≡ out.old.items ++ front)) }
+    ensures full { OnErr result
+        (vec_capacity out.old < vec_len out.old + length (field_bytes number value.now)) }
 {
     match value {
         FieldValue::Varint(value) => {
@@ -52,10 +54,12 @@ pub fn field_len(number: u32, value: &FieldValue) -> u64
 /// Appends a field (encoding guide, "Message Structure" and "Length-Delimited Records"). A number above
 /// 536,870,911 is written as any other, though no message can declare it.
 ///
-/// Where there is no memory, `out` stays as it was.
+/// Where there is no memory, `out` stays as it was. Where its capacity suffices, none is needed.
 pub fn put_field(out: &mut Vec<u8>, number: u32, value: &FieldValue) -> Result<(), AllocError>
     ensures appended { OnOk result (out.new.items ≡ out.old.items ++ field_bytes number value.now) }
     ensures unchanged { OnErr result (out.new.items ≡ out.old.items) }
+    ensures full { OnErr result
+        (vec_capacity out.old < vec_len out.old + length (field_bytes number value.now)) }
 {
     let start = out.len();
     let pushed = push_field(out, number, value);

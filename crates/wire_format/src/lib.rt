@@ -8,5 +8,5 @@ mod reading;
 mod varint;
 
 pub use field::{FieldValue, field_len, put_field};
-pub use reading::{Field, WireError, fields_are_unique, read_fields};
+pub use reading::{Field, WireError, fields_are_unique, read_fields, written_fields_are_read};
 pub use varint::{put_varint, varint_is_shortest, varint_len};

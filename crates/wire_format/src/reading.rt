@@ -1,8 +1,11 @@
 //! Reading of a message's fields, each by its tag.
 
-ghost use Rattle.std.specs.Prelude.{◌≡◌, ℕ, ◌++◌, [], Err, IfOk, List, map, option_map};
-ghost use Rattle.wire_format.specs.Reading.{IsRow, IsSpelled, Spelled, Value, field_of, text_of};
+ghost use Rattle.std.specs.Prelude.{◌≡◌, ℕ, ◌++◌, [], All, Err, IfOk, List, map, option_map};
+ghost use Rattle.wire_format.specs.Field.{field_bytes};
+ghost use Rattle.wire_format.specs.Reading.{IsRow, IsSpelled, Spelled, Value, field_of, text_of, value_of};
 ghost use Rattle.wire_format.specs.ReadingSteps.{varint_within as varint_steps, split_off as split_steps, body_at as body_steps, field_at as field_steps};
+ghost use Rattle.wire_format.specs.Writing.{IsMessageField, entry_bytes, row_bytes};
+ghost use Rattle.wire_format.specs.declared.field.FieldValue as rust;
 ghost use Rattle.wire_format.specs.declared.reading.WireError.TheVariants as errors;
 
 use crate::field::FieldValue;
@@ -131,4 +134,19 @@ pub fn read_fields(alloc: Global, bytes: &[u8]) -> Result<Vec<Field<'_>>, WireEr
 pub fn fields_are_unique()
     ensures list { (bytes : List ℕ) (first second : List (ℕ × Value)) → IsRow bytes first → IsRow bytes second → first ≡ second }
     ensures field { (first second : Spelled) (rest : List ℕ) → IsSpelled first → IsSpelled second → text_of first ++ rest ≡ text_of second → rest ≡ [] }
+{}
+
+/// What is written is read again: the bytes of fields, one after the other, are a row of exactly
+/// these fields. So `read_fields` gives these and no others, in their order, and doesn't call the
+/// bytes malformed.
+pub fn written_fields_are_read()
+    // What `put_field` appends is the bytes of the field's number and its value.
+    ensures field { (number : ℕ) (value : rust.FieldValue)
+        → field_bytes number value ≡ entry_bytes (number, value_of value) }
+
+    // Such bytes, one field's after the other's, are a row of these fields, and of no others.
+    ensures row { (fields : List (ℕ × Value))
+        → All IsMessageField fields → IsRow (row_bytes fields) fields }
+    ensures only { (fields read : List (ℕ × Value))
+        → All IsMessageField fields → IsRow (row_bytes fields) read → read ≡ fields }
 {}

@@ -1,6 +1,6 @@
 //! Base 128 varints: seven bits of the number a byte, the low ones first, and 128 added to each byte but the last.
 
-ghost use Rattle.std.specs.Prelude.{◌≡◌, ℕ, ◌++◌, ◌<◌, ◌≤◌, ◌^◌, OnOk, OnErr, List, length};
+ghost use Rattle.std.specs.Prelude.{◌≡◌, ℕ, ◌+◌, ◌++◌, ◌<◌, ◌≤◌, ◌^◌, OnOk, OnErr, List, length, vec_capacity, vec_len};
 ghost use Rattle.wire_format.specs.Varint.{Spells, varint_bytes};
 
 use std::alloc::AllocError;
@@ -9,6 +9,9 @@ use std::alloc::AllocError;
 pub(crate) fn push_varint(out: &mut Vec<u8>, value: u64) -> Result<(), AllocError>
     ensures appended { OnOk result (out.new.items ≡ out.old.items ++ varint_bytes value) }
     ensures front { OnErr result ((front : List ℕ) × (out.new.items ≡ out.old.items ++ front)) }
+    ensures capacity { vec_capacity out.old ≤ vec_capacity out.new }
+    ensures full { OnErr result
+        (vec_capacity out.old < vec_len out.old + length (varint_bytes value)) }
 {
     let mut rest = value;
     while rest >= 128 {
@@ -21,10 +24,12 @@ pub(crate) fn push_varint(out: &mut Vec<u8>, value: u64) -> Result<(), AllocErro
 
 /// Appends the shortest varint of a number (encoding guide, "Base 128 Varints").
 ///
-/// Where there is no memory, `out` stays as it was.
+/// Where there is no memory, `out` stays as it was. Where its capacity suffices, none is needed.
 pub fn put_varint(out: &mut Vec<u8>, value: u64) -> Result<(), AllocError>
     ensures appended { OnOk result (out.new.items ≡ out.old.items ++ varint_bytes value) }
     ensures unchanged { OnErr result (out.new.items ≡ out.old.items) }
+    ensures full { OnErr result
+        (vec_capacity out.old < vec_len out.old + length (varint_bytes value)) }
 {
     let start = out.len();
     let pushed = push_varint(out, value);

@@ -8,10 +8,10 @@ ghost use Rattle.proto_syntax.specs.Gives.{Reads};
 
 use crate::parser::Parser;
 use crate::parser::stop::Stop;
-use crate::tree::{
+use proto_base::row::Row;
+use proto_tree::{
     Next, Range, RangeEnd, Reserved, ReservedItems, Separated, SignedNumber, UpperBound,
 };
-use proto_base::row::Row;
 
 impl<'s, 't> Parser<'s, 't> {
     /// The end of a range, if there is one.

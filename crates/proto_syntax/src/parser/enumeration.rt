@@ -9,9 +9,9 @@ ghost use Rattle.proto_syntax.specs.Gives.{Reads};
 
 use crate::parser::Parser;
 use crate::parser::stop::Stop;
-use crate::tree::{Enum, EnumItem, EnumValue};
 use proto_base::Span;
 use proto_base::row::Row;
+use proto_tree::{Enum, EnumItem, EnumValue};
 
 impl<'s, 't> Parser<'s, 't> {
     /// A value of an enum.

@@ -8,7 +8,7 @@ ghost use Rattle.proto_syntax.specs.Gives.{Reads};
 use crate::parser::Parser;
 use crate::parser::position::Position;
 use crate::parser::stop::Stop;
-use crate::tree::{Declarator, Field, FieldType, Label, MapType, OneofField};
+use proto_tree::{Declarator, Field, FieldType, Label, MapType, OneofField};
 
 impl<'s, 't> Parser<'s, 't> {
     /// What stands behind the type of a field.

@@ -8,8 +8,8 @@ ghost use Rattle.proto_syntax.specs.Gives.{Gives, Reads, spellings};
 
 use crate::parser::Parser;
 use crate::parser::stop::Stop;
-use crate::tree::{FileTree, Import, Package, Statement, Syntax};
 use proto_base::row::Row;
+use proto_tree::{FileTree, Import, Package, Statement, Syntax};
 
 impl<'s, 't> Parser<'s, 't> {
     /// The `syntax` statement.

@@ -8,8 +8,8 @@ ghost use Rattle.proto_syntax.specs.Gives.{Reads};
 
 use crate::parser::Parser;
 use crate::parser::stop::Stop;
-use crate::tree::{Constant, ConstantNumber, Sign, SignedNumber, StringLiteral, StringValue};
 use proto_base::row::Row;
+use proto_tree::{Constant, ConstantNumber, Sign, SignedNumber, StringLiteral, StringValue};
 
 impl<'s, 't> Parser<'s, 't> {
     /// The string literals up to another token.

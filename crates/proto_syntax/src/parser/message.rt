@@ -9,9 +9,9 @@ ghost use Rattle.proto_syntax.specs.Gives.{Gives, Reads, spellings};
 
 use crate::parser::Parser;
 use crate::parser::stop::Stop;
-use crate::tree::{Field, FieldType, FullName, MapField, Message, MessageItem, TypeName};
 use proto_base::Span;
 use proto_base::row::Row;
+use proto_tree::{Field, FieldType, FullName, MapField, Message, MessageItem, TypeName};
 
 impl<'s, 't> Parser<'s, 't> {
     /// A statement that begins with the word `map`: a map field, or a field whose type begins so.

@@ -9,8 +9,8 @@ ghost use Rattle.proto_syntax.specs.Gives.{Reads};
 use crate::parser::Parser;
 use crate::parser::position::Position;
 use crate::parser::stop::Stop;
-use crate::tree::{FieldType, FullName, NamePart, TypeName};
 use proto_base::row::Row;
+use proto_tree::{FieldType, FullName, NamePart, TypeName};
 
 impl<'s, 't> Parser<'s, 't> {
     /// A dot and the name behind it.

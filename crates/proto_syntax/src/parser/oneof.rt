@@ -9,9 +9,9 @@ ghost use Rattle.proto_syntax.specs.Gives.{Reads};
 
 use crate::parser::Parser;
 use crate::parser::stop::Stop;
-use crate::tree::{Oneof, OneofItem};
 use proto_base::Span;
 use proto_base::row::Row;
+use proto_tree::{Oneof, OneofItem};
 
 impl<'s, 't> Parser<'s, 't> {
     /// A statement of a oneof.

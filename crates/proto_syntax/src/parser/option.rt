@@ -8,8 +8,8 @@ ghost use Rattle.proto_syntax.specs.Gives.{Reads};
 
 use crate::parser::Parser;
 use crate::parser::stop::Stop;
-use crate::tree::{Next, OptionStatement, Options, Separated, Setting};
 use proto_base::row::Row;
+use proto_tree::{Next, OptionStatement, Options, Separated, Setting};
 
 impl<'s, 't> Parser<'s, 't> {
     /// The name of an option and its value.

@@ -8,11 +8,11 @@ ghost use Rattle.proto_syntax.specs.Gives.{Reads};
 
 use crate::parser::Parser;
 use crate::parser::stop::Stop;
-use crate::tree::{
+use proto_base::row::Row;
+use proto_tree::{
     Next, NumberLiteral, Range, RangeEnd, Reserved, ReservedItems, Separated, StringValue,
     UpperBound,
 };
-use proto_base::row::Row;
 
 impl<'s, 't> Parser<'s, 't> {
     /// A comma and what stands behind it.

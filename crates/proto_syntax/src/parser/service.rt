@@ -11,9 +11,9 @@ ghost use Rattle.proto_syntax.specs.Gives.{Reads};
 use crate::parser::Parser;
 use crate::parser::position::Position;
 use crate::parser::stop::Stop;
-use crate::tree::{Rpc, RpcBlock, RpcBody, RpcItem, RpcType, Service, ServiceItem, TypeName};
 use proto_base::Span;
 use proto_base::row::Row;
+use proto_tree::{Rpc, RpcBlock, RpcBody, RpcItem, RpcType, Service, ServiceItem, TypeName};
 
 impl<'s, 't> Parser<'s, 't> {
     /// The name of a type behind the mark `stream`, or without it.

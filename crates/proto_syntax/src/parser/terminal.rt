@@ -14,11 +14,11 @@ use crate::parser::Parser;
 use crate::parser::position::{Position, is_enum_statement_word, is_excluded, is_scalar};
 use crate::parser::scalar::{key_type, scalar_type};
 use crate::parser::stop::Stop;
-use crate::tree::{Name, NumberLiteral, StringLiteral};
 use proto_base::Span;
 use proto_base::scalar_type::{KeyType, ScalarType};
 use proto_base::text::Text;
 use proto_tokens::TokenKind;
+use proto_tree::{Name, NumberLiteral, StringLiteral};
 use std::alloc::AllocError;
 use std::borrow::CowStr;
 

@@ -1,6 +1,6 @@
 use Rattle.std.proofs.Common.{◌≡◌, ◌++◌, take}
 use Rattle.std.specs.Prelude.{flat_map}
-use Rattle.proto_lower.specs.Text.{part_text}
+use Rattle.proto_tree.specs.Text.{part_text}
 use Rattle.proto_checks.specs.Lengths.{capped}
 use Rattle.proto_checks.proofs.package.dotted_len.Given as goal
 

@@ -1,5 +1,5 @@
 use Rattle.std.proofs.Common.{ap}
-use Rattle.proto_syntax.specs.declared.tree.name.FullName.{FullName}
+use Rattle.proto_tree.specs.declared.name.FullName.{FullName}
 use Rattle.proto_checks.proofs.Packages.{package_least}
 use Rattle.proto_checks.proofs.package.length_fault.Goals as goal
 

@@ -1,5 +1,5 @@
 use Rattle.std.proofs.Common.{◌∙◌, ap, arith}
-use Rattle.proto_syntax.specs.declared.tree.name.FullName.{FullName}
+use Rattle.proto_tree.specs.declared.name.FullName.{FullName}
 use Rattle.proto_checks.specs.Checks.{IsPartTooLong, part_name}
 use Rattle.proto_base.proofs.Among.{with_rest}
 use Rattle.proto_checks.proofs.package.parts_fault.Goals as goal

@@ -1,6 +1,6 @@
 use Rattle.std.proofs.Common.{◌≡◌, ◌++◌, take, map}
 use Rattle.proto_lower.specs.Options.{next_item}
-use Rattle.proto_lower.specs.Text.{joined}
+use Rattle.proto_tree.specs.Text.{joined}
 use Rattle.proto_lower.proofs.reserved.put_names.Given as goal
 
 abbrev pub invariant-loop-next : goal.invariant-loop-next

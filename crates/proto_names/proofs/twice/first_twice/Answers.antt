@@ -4,7 +4,7 @@ use Rattle.std.proofs.lemmas.List.{length-map}
 use Rattle.proto_names.specs.Entries.{occurrence}
 use Rattle.proto_names.specs.Order.{spot_of}
 use Rattle.proto_names.specs.Runs.{IsRun}
-use Rattle.proto_names.proofs.Repeating.{at_get, passed_twice, passed_skip, passed_all}
+use Rattle.proto_names.proofs.Repeating.{at_get, repeats_twice, passed_twice, passed_skip, passed_all}
 use Rattle.proto_names.proofs.twice.first_twice.Goals as goal
 use Rattle.proto_names.proofs.twice.first_twice.Goals.{then-is_twice, else-is_twice}
 
@@ -12,11 +12,16 @@ pub loop-place-preserved : goal.loop-place-preserved
 loop-place-preserved c =
     let os = map occurrence c.args.entries.now in
     let n = c.loop-place.place in
+    let l = length-map c.args.entries.now occurrence in
     let at : n ≡ n + 1 - 1 = omega arith in
     record {
-      run = λ some. subst (λ k. IsRun os k (n + 1) c.run_with-run.result.start c.run_with-run.result.element) at c.run_with-run.ensures;
+      run = λ some. subst (λ k. IsRun os k (n + 1) c.run_with-run.result.start c.run_with-run.result.has_element) at c.run_with-run.ensures;
       passed = (elim c.if-is_twice.branch [
-        | then-is_twice w ↦ rw w.first-is (passed_twice os n c.loop-place.first (get_or c.args.entries.now n w.index-entries-place.result).spot w.lesser.result (ap spot_of (at_get c.args.entries.now n w.index-entries-place.result (omega arith))) (c.is_twice.ensures.0 w.if-is_twice.true) w.lesser.ensures c.loop-place.invariant.passed)
+        | then-is_twice w ↦
+            (let e = get_or c.args.entries.now n w.index-entries-place.result in
+            let spot = ap spot_of (at_get c.args.entries.now n w.index-entries-place.result (omega arith)) in
+            let twice = repeats_twice os n c.requires (omega (arith, l)) (c.is_twice.ensures.0 w.if-is_twice.true) in
+            rw w.first-is (passed_twice os n c.loop-place.first e.spot w.lesser.result spot twice w.lesser.ensures c.loop-place.invariant.passed))
         | else-is_twice w ↦ rw w.first-is (passed_skip os n c.loop-place.first (λ t. true≢false (sym (c.is_twice.ensures.1 t) ∙ w.if-is_twice.false)) c.loop-place.invariant.passed)
       ]);
     }

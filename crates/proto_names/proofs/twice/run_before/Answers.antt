@@ -7,7 +7,7 @@ use Rattle.proto_names.proofs.twice.run_before.Goals as goal
 pub returns-then-continues : goal.returns-then-continues
 returns-then-continues c =
     let w = c.continues.ensures.same c.if-continues.true in
-    run_same (map occurrence c.args.entries.now) (c.args.place - 1) c.args.place c.args.last.start c.args.last.element w.1 (c.requires.last w.0)
+    run_same (map occurrence c.args.entries.now) (c.args.place - 1) c.args.place c.args.last.start c.args.last.has_element w.1 (c.requires.last w.0)
 
 pub returns-else-continues : goal.returns-else-continues
 returns-else-continues c =

@@ -1,0 +1,65 @@
+-- Words of private contracts: what a pass finds in each file, and the first fault of it.
+use Rattle.std.specs.Prelude.{◌≡◌, ℕ, ◌+◌, ◌<◌, List, [], ◌∷◌, length, map, take, slice_index_or, Result, Ok, Err, Some, Vec, true}
+use Rattle.std.specs.declared.alloc.Global.{Global}
+use Rattle.proto_base.specs.Least.{IsLeast, spot}
+use Rattle.proto_base.specs.Limits.{limit_of}
+use Rattle.proto_base.specs.declared.kind.Kind.{Kind}
+use Rattle.proto_base.specs.declared.kind.Kind.TheVariants as kind
+use Rattle.proto_base.specs.declared.limits.Limit.TheVariants as limit
+use Rattle.proto_base.specs.declared.limits.Limits.{Limits}
+use Rattle.proto_base.specs.declared.place.Place.{Place}
+use Rattle.proto_desc.specs.Resolved.{file_resolved}
+use Rattle.proto_desc.specs.declared.file.FileDesc.{FileDesc}
+use Rattle.proto_file.specs.Local.{IsLocalFault}
+use Rattle.proto_file.specs.declared.error.FileError.{FileError}
+use Rattle.proto_file.specs.declared.error.FileError.TheVariants as fault
+use Rattle.proto_links.specs.Linked.{Linked}
+use Rattle.proto_names.specs.Index.{Index}
+use Rattle.wire_bytes.specs.Descriptor.{file_desc_bytes}
+use Rattle.proto_compile.specs.Analysed.{TypesAt, TypesBreakAt}
+use Rattle.proto_compile.specs.Compilation.{IsShort}
+use Rattle.proto_compile.specs.Descriptions.{SourceDescribes}
+use Rattle.proto_compile.specs.Faults.{IsRefusal, Tells, start}
+use Rattle.proto_compile.specs.Sources.{name_at, name_of, text_of}
+use Rattle.proto_compile.specs.declared.error.CompileError.{CompileError}
+use Rattle.proto_compile.specs.declared.error.CompileError.TheVariants as errors
+use Rattle.proto_compile.specs.declared.source.Source.{Source}
+
+-- ---- what a pass finds in one file
+
+-- what a source describes, or its first fault by itself
+abbrev pub IsDescribed : Limits → Source → Result FileDesc FileError → Type 0
+IsDescribed limits s (Ok desc) = SourceDescribes limits s desc
+IsDescribed limits s (Err (fault.At step place kind)) = IsLocalFault limits (name_of s) (text_of s) step place kind
+IsDescribed limits s (Err fault.NoMemory) = Unit {0}
+
+-- the descriptor of the file at a position with its types resolved, or the first rule of types that it breaks
+abbrev pub IsTyped : Linked → Index → ℕ → FileDesc → Result FileDesc FileError → Type 0
+IsTyped links index a desc (Ok typed) = TypesAt links index a desc typed × (file_resolved typed ≡ true)
+IsTyped links index a desc (Err (fault.At step place kind)) = (step ≡ 0) × IsLeast (TypesBreakAt links index a desc) (Some (spot place kind))
+IsTyped links index a desc (Err fault.NoMemory) = Unit {0}
+
+-- the bytes of a descriptor, or that there are too many
+abbrev pub IsWrittenShort : Limits → FileDesc → Result (Vec ℕ Global) FileError → Type 0
+IsWrittenShort limits desc (Ok bytes) = (bytes.items ≡ file_desc_bytes desc) × IsShort limits desc
+IsWrittenShort limits desc (Err (fault.At step place what)) =
+    (step ≡ 0) × (place ≡ start) × (what ≡ kind.DescriptorTooLong) × (limit_of limits limit.DescriptorBytes < length (file_desc_bytes desc))
+IsWrittenShort limits desc (Err fault.NoMemory) = Unit {0}
+
+-- ---- the first fault of a pass
+
+-- the error is for want of memory, or names this fault of a file of this name
+abbrev pub TellsOfFile : ℕ → List ℕ → FileError → CompileError → Type 0
+TellsOfFile pass file (fault.At step place what) e = Tells pass file step place what e
+TellsOfFile pass file fault.NoMemory e = e ≡ errors.NoMemory
+
+-- no file before this one has a fault, and this is its fault
+pub record IsFirstBad {T : Type 0} (outcomes : List (Result T FileError)) (k step : ℕ) (place : Place) (what : Kind) : Type 0 where
+  pub well : (ts : List T) × (take k outcomes ≡ map Ok ts)
+  pub below : k < length outcomes
+  pub bad : slice_index_or outcomes k (Err fault.NoMemory) ≡ Err (fault.At step place what)
+
+-- the error is for want of memory, or names the first fault that a pass of this number finds in files
+abbrev pub TellsFirst : {T : Type 0} → ℕ → List Source → List (Result T FileError) → CompileError → Type 0
+TellsFirst number files outcomes =
+    IsRefusal (λ pass file step place what. (k : ℕ) × (pass ≡ number) × (file ≡ name_at files k) × IsFirstBad outcomes k step place what)

@@ -1,0 +1,47 @@
+//! The passes over sources, in the order in which they are judged.
+
+pub(crate) mod imports;
+pub(crate) mod lengths;
+pub(crate) mod list;
+pub(crate) mod local;
+pub(crate) mod names;
+pub(crate) mod types;
+
+ghost use Rattle.std.specs.Prelude.{◌≡◌};
+ghost use Rattle.proto_compile.specs.Passes.{number_of};
+
+/// A pass over sources. A later one is judged only where every file has passed all earlier ones.
+#[derive(Clone, Copy)]
+pub(crate) enum Pass {
+    /// The list of sources: how many there are, and their names.
+    List,
+    /// Each source by itself: its tokens, its grammar, and the rules that one file can break.
+    Local,
+    /// The imports of the files.
+    Imports,
+    /// The names that the files declare.
+    Names,
+    /// The types that each file names.
+    Types,
+    /// The length of each file's descriptor.
+    Lengths,
+    /// The length of the set.
+    Set,
+}
+
+impl Pass {
+    /// Its number, by which faults are ordered.
+    pub(crate) fn number(self) -> u8
+        ensures { result ≡ number_of self }
+    {
+        match self {
+            Pass::List => 0,
+            Pass::Local => 1,
+            Pass::Imports => 2,
+            Pass::Names => 3,
+            Pass::Types => 4,
+            Pass::Lengths => 5,
+            Pass::Set => 6,
+        }
+    }
+}

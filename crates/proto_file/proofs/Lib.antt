@@ -1,0 +1,7 @@
+pub mod PlacesWithin
+pub mod Spots
+pub mod Within
+pub mod FileWithin
+pub mod LocalPlaces
+pub mod OneLocal
+pub mod Judging

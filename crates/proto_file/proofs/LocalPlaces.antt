@@ -1,0 +1,127 @@
+-- Where tokens begin and where a source's own faults stand: within its text.
+use Rattle.std.proofs.Common.{◌≡◌, sym, subst, ap, ℕ, zero, suc, ◌+◌, ◌≤◌, Bool, true, false, if◌then◌else◌, List, [], ◌∷◌, length, take, drop, Some, None, inl, inr, refl, arith, length-drop}
+use Rattle.std.specs.Prelude.{nat_eq}
+use Rattle.std.specs.Cmp.Lexicographic.{same_text}
+use Rattle.std.specs.List.{starts_with}
+use Rattle.std.proofs.lemmas.List.{length-take}
+use Rattle.std.proofs.lemmas.Str.{utf8_valid_len_le}
+use Rattle.proto_base.specs.Limits.{limit_of}
+use Rattle.proto_tokens.specs.Piece.{IsPieceFault}
+use Rattle.proto_tokens.specs.Quoted.{IsStringFault}
+use Rattle.proto_tokens.specs.Spelling.{Piece, IsCutIntoPieces, IsFault, IsTokenList, mark_len, token_before, tokens_from}
+use Rattle.proto_tokens.specs.Token.{Spelled}
+use Rattle.proto_base.specs.declared.kind.Kind.{Kind}
+use Rattle.proto_base.specs.declared.limits.Limit.TheVariants as limit
+use Rattle.proto_base.specs.declared.limits.Limits.{Limits}
+use Rattle.proto_base.specs.declared.place.Place.{Place}
+use Rattle.proto_syntax.specs.Trees.{file_tree}
+use Rattle.proto_tree.specs.declared.file.FileTree.{FileTree}
+use Rattle.proto_desc.specs.Places.{places_of}
+use Rattle.proto_desc.specs.declared.file.FileDesc.{FileDesc}
+use Rattle.proto_file.specs.Places.{AtMost}
+use Rattle.proto_file.proofs.PlacesWithin.{BeginWithin, Within, lowered_within}
+use Rattle.proto_base.specs.Least.{spot}
+use Rattle.proto_file.proofs.FileWithin.{breaks_within}
+use Rattle.proto_file.specs.Local.{Describes, IsFile, IsLocalFault, of_tokens, of_grammar, of_checks, place_of_token}
+
+-- ---- tokens
+
+cut_grows : (s : List ℕ) (from : ℕ) (ps : List Piece) (to : ℕ) → IsCutIntoPieces s from ps to → from ≤ to
+cut_grows s from [] to cut = omega (arith, cut)
+cut_grows s from (p ∷ ps) to cut = omega (arith, cut_grows s (from + p.len) ps to cut.1)
+
+pieces_begin : (s : List ℕ) (from : ℕ) (ps : List Piece) (to : ℕ) → IsCutIntoPieces s from ps to → BeginWithin to (tokens_from from ps)
+pieces_begin s from [] to cut = tt
+pieces_begin s from (p ∷ ps) to cut = elim p.is as (λ is. BeginWithin to (token_before is from (from + p.len) (tokens_from (from + p.len) ps))) [
+  | None ↦ pieces_begin s (from + p.len) ps to cut.1
+  | Some lexeme ↦ (cut_grows s from (p ∷ ps) to cut, pieces_begin s (from + p.len) ps to cut.1)
+]
+
+tokens_begin : (bytes : ℕ) (text : List ℕ) (ts : List Spelled) → IsTokenList bytes text ts → BeginWithin (length text) ts
+tokens_begin bytes text ts is = subst (BeginWithin (length text)) is.spelled_so.2 (pieces_begin text _ is.spelled_so.0 (length text) is.spelled_so.1)
+
+token_begins : (n : ℕ) (ts : List Spelled) (k : ℕ) → BeginWithin n ts → place_of_token ts k n ≤ n
+token_begins n [] zero begin = omega arith
+token_begins n [] (suc k) begin = omega arith
+token_begins n (t ∷ ts) zero begin = begin.0
+token_begins n (t ∷ ts) (suc k) begin = token_begins n ts k begin.1
+
+-- so do those of a file's tree
+tree_begins : (limits : Limits) (text : List ℕ) (file : FileTree) → IsFile limits text file → Within (length text) (file_tree file)
+tree_begins limits text file (ts, is, tree) = subst (BeginWithin (length text)) (sym tree.tokens) (tokens_begin _ text ts is)
+
+file_short : (limits : Limits) (text : List ℕ) (file : FileTree) → IsFile limits text file → length text ≤ limit_of limits limit.FileBytes
+file_short limits text file (ts, is, tree) = is.short
+
+-- ---- faults of tokens
+
+abbrev mark : List ℕ
+mark = 0xEF ∷ 0xBB ∷ 0xBF ∷ []
+
+mark_within : (s : List ℕ) → mark_len s ≤ length s
+mark_within s = by (starts_with nat_eq s mark) refl
+  where
+    by : (b : Bool) → b ≡ starts_with nat_eq s mark → (if b then 3 else 0) ≤ length s
+    by true e = omega (arith, ap length (same_text mark (take 3 s) e), length-take 3 s)
+    by false e = omega arith
+
+cut_within : (s : List ℕ) (from : ℕ) (ps : List Piece) (to : ℕ) → from ≤ length s → IsCutIntoPieces s from ps to → to ≤ length s
+cut_within s from [] to within cut = omega (arith, cut)
+cut_within s from (p ∷ ps) to within cut = cut_within s (from + p.len) ps to (omega (arith, cut.0.fits, length-drop from s)) cut.1
+
+string_fault_within : (s : List ℕ) (at : ℕ) (kind : Kind) → IsStringFault s at kind → at ≤ length s
+string_fault_within s at kind (quote, after, parts, end, opened, fault) =
+    let len : length s ≡ suc (length after) = ap length opened.begins_so in
+    elim fault [
+      | inl escape ↦ omega (arith, len, escape.1, escape.2.0)
+      | inr (inl value) ↦ omega (arith, value.1)
+      | inr (inr (inl zero_byte)) ↦ omega (arith, len, zero_byte.1, zero_byte.2.0)
+      | inr (inr (inr unclosed)) ↦ omega (arith, unclosed.1)
+    ]
+
+piece_fault_within : (s : List ℕ) (at : ℕ) (kind : Kind) → IsPieceFault s at kind → at ≤ length s
+piece_fault_within s at kind (inl bad) = omega (arith, bad.1)
+piece_fault_within s at kind (inr (inl bad)) = omega (arith, bad.1)
+piece_fault_within s at kind (inr (inr (inl big))) = omega (arith, big.1)
+piece_fault_within s at kind (inr (inr (inr (inl unclosed)))) = omega (arith, unclosed.1)
+piece_fault_within s at kind (inr (inr (inr (inr fault)))) = string_fault_within s at kind fault
+
+token_fault_within : (bytes : ℕ) (s : List ℕ) (place : ℕ) (kind : Kind) → IsFault bytes s place kind → place ≤ length s
+token_fault_within bytes s place kind (inl long) = omega (arith, long.1)
+token_fault_within bytes s place kind (inr (inl bad)) = omega (arith, bad.1, utf8_valid_len_le s)
+token_fault_within bytes s place kind (inr (inr (short, utf8, bad))) =
+    let (ps, to, at, cut, fault, is) = bad in
+    omega (arith, is, cut_within s (mark_len s) ps to (mark_within s) cut, piece_fault_within (drop to s) at kind fault, length-drop to s)
+
+-- that of a text that is too long stands at its start
+token_fault_short : (bytes : ℕ) (s : List ℕ) (place : ℕ) (kind : Kind) → IsFault bytes s place kind → place ≤ length s → place ≤ bytes
+token_fault_short bytes s place kind (inl long) within = omega (arith, long.1)
+token_fault_short bytes s place kind (inr (inl bad)) within = omega (arith, within, bad.2)
+token_fault_short bytes s place kind (inr (inr bad)) within = omega (arith, within, bad.0)
+
+-- ---- places of one source
+
+-- within the text, and within the limit of texts
+pub record IsInside (limits : Limits) (text : List ℕ) (place : Place) : Type 0 where
+  pub within : place.offset ≤ length text
+  pub short : place.offset ≤ limit_of limits limit.FileBytes
+
+inside_file : (limits : Limits) (text : List ℕ) (file : FileTree) (place : Place) → IsFile limits text file → place.offset ≤ length text → IsInside limits text place
+inside_file limits text file place is within = record { within = within; short = omega (arith, within, file_short limits text file is) }
+
+pub fault_inside : (limits : Limits) (name text : List ℕ) (step : ℕ) (place : Place) (kind : Kind) → IsLocalFault limits name text step place kind → IsInside limits text place
+fault_inside limits name text step place kind (of_tokens at_step fault) =
+    let within : place.offset ≤ length text = token_fault_within _ text place.offset kind fault in
+    record { within = within; short = token_fault_short _ text place.offset kind fault within }
+fault_inside limits name text step place kind (of_grammar at_step (ts, k, is, fault, is_kind, at)) =
+    let within : place.offset ≤ length text = subst (λ p. p ≤ length text) (sym at) (token_begins (length text) ts k (tokens_begin _ text ts is)) in
+    record { within = within; short = omega (arith, within, is.short) }
+fault_inside limits name text step place kind (of_checks at_step (file, is, least)) =
+    inside_file limits text file place is (breaks_within (length text) limits name file (spot place kind) (tree_begins limits text file is) least.found)
+
+-- all places of a descriptor are those of its text
+pub places_within : (limits : Limits) (name text : List ℕ) (desc : FileDesc) → Describes limits name text desc → AtMost (length text) (places_of desc)
+places_within limits name text desc (file, is, unbroken, same) = subst (λ d. AtMost (length text) (places_of d)) (sym same) (lowered_within (length text) name file (tree_begins limits text file is))
+
+pub place_inside : (limits : Limits) (name text : List ℕ) (desc : FileDesc) (place : Place) → Describes limits name text desc → place.offset ≤ length text → IsInside limits text place
+place_inside limits name text desc place (file, is, unbroken, same) within = inside_file limits text file place is within

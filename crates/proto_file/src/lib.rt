@@ -1,0 +1,12 @@
+//! One file by itself: from its text to what it describes, or to its first fault.
+//!
+//! The standard is the proto3 language specification and guide.
+#![tactic(auto)]
+
+mod description;
+mod error;
+mod laws;
+
+pub use description::describe;
+pub use error::FileError;
+pub use laws::{file_is_one_thing, places_lie_within};

@@ -1,0 +1,77 @@
+-- The options of an element rise by their number, as the rules do.
+use Rattle.std.proofs.Common.{◌≤◌, ◌<◌, ◌+◌, ◌++◌, ℕ, zero, suc, List, [], ◌∷◌, map, length, arith, rules, add-one}
+use Rattle.std.specs.Prelude.{⊤, Option, None, Some, flat_map, slice_index}
+use Rattle.std.specs.Option.{option_to_list, option_map}
+use Rattle.std.specs.List.Sorted.{IsStrictlyIncreasing}
+use Rattle.proto_tree.specs.declared.option.Setting.{Setting}
+use Rattle.proto_desc.specs.declared.options.OptionDesc.{OptionDesc}
+use Rattle.proto_desc.specs.declared.options.OptionValue.{OptionValue}
+use Rattle.proto_desc.specs.declared.rules.Element.{Element}
+use Rattle.proto_desc.specs.declared.rules.Element.TheVariants as element
+use Rattle.proto_desc.specs.declared.rules.OptionRule.{OptionRule}
+use Rattle.proto_desc.specs.declared.rules.ValueKind.{ValueKind}
+use Rattle.proto_desc.specs.Rules.{rules_of}
+use Rattle.proto_lower.specs.Options.{first_setting, value_of, option_at, option_by, option_under, options_of}
+
+-- each number is above the one before it, and the first at least `least`
+abbrev RisesFrom : (least : ℕ) → List ℕ → Type 0
+RisesFrom least [] = ⊤
+RisesFrom least (n ∷ ns) = (least ≤ n) × RisesFrom (n + 1) ns
+
+rises_below : (low least : ℕ) (ns : List ℕ) → low ≤ least → RisesFrom least ns → RisesFrom low ns
+rises_below low least [] below rises = tt
+rises_below low least (n ∷ ns) below rises = (omega (arith, below, rises.0), rises.1)
+
+rises_at : (least : ℕ) (ns : List ℕ) (k : ℕ) → RisesFrom least ns → suc k < length ns → slice_index ns k < slice_index ns (suc k)
+rises_at least [] k rises within = absurd (omega arith)
+rises_at least (n ∷ []) k rises within = absurd (omega arith)
+rises_at least (n ∷ m ∷ ns) zero rises within = omega (arith, rises.1.0)
+rises_at least (n ∷ m ∷ ns) (suc k) rises within = rises_at (n + 1) (m ∷ ns) k rises.1 (omega arith)
+
+-- the number of a rule's option, if it has one
+abbrev rule_number : OptionRule → List ℕ
+rule_number r = option_to_list r.number
+
+abbrev numbers : List OptionDesc → List ℕ
+numbers options = map (λ o. o.number) options
+
+-- an option in front of those with numbers above its own
+with_value : (least n : ℕ) (s : Setting) (value : Option OptionValue) (rest : List OptionDesc) → least ≤ n → RisesFrom (n + 1) (numbers rest)
+    → RisesFrom least (numbers (option_to_list (option_map (option_at n s) value) ++ rest))
+with_value least n s None rest at_least rises = rises_below least (n + 1) (numbers rest) (omega arith) rises
+with_value least n s (Some v) rest at_least rises = (at_least, rises)
+
+with_setting : (least n : ℕ) (kind : ValueKind) (found : Option Setting) (rest : List OptionDesc) → least ≤ n → RisesFrom (n + 1) (numbers rest)
+    → RisesFrom least (numbers (option_to_list (option_by (Some n) kind found) ++ rest))
+with_setting least n kind None rest at_least rises = rises_below least (n + 1) (numbers rest) (omega arith) rises
+with_setting least n kind (Some s) rest at_least rises = with_value least n s (value_of kind s.value) rest at_least rises
+
+with_number : (least : ℕ) (number : Option ℕ) (kind : ValueKind) (found : Option Setting) (rest : List OptionDesc) (after : List ℕ)
+    → ((m : ℕ) → RisesFrom m after → RisesFrom m (numbers rest)) → RisesFrom least (option_to_list number ++ after)
+    → RisesFrom least (numbers (option_to_list (option_by number kind found) ++ rest))
+with_number least None kind found rest after later rises = later least rises
+with_number least (Some n) kind found rest after later rises = with_setting least n kind found rest rises.0 (later (n + 1) rises.1)
+
+under_rules : (settings : List Setting) (rs : List OptionRule) (least : ℕ) → RisesFrom least (flat_map rule_number rs)
+    → RisesFrom least (numbers (flat_map (option_under settings) rs))
+under_rules settings [] least rises = tt
+under_rules settings (r ∷ rs) least rises =
+    with_number least r.number r.kind (first_setting r.name settings) (flat_map (option_under settings) rs)
+    (flat_map rule_number rs) (under_rules settings rs) rises
+
+-- the tables' numbers rise
+rules_rise : (e : Element) → RisesFrom 0 (flat_map rule_number (rules_of e))
+rules_rise element.File = search rules
+rules_rise element.Message = search rules
+rules_rise element.Field = search rules
+rules_rise element.Oneof = search rules
+rules_rise element.Enum = search rules
+rules_rise element.EnumValue = search rules
+rules_rise element.Service = search rules
+rules_rise element.Method = search rules
+
+pub options_of-rise : (e : Element) (settings : List Setting) → IsStrictlyIncreasing (map (λ o. o.number) (options_of e settings))
+unfolding options_of
+options_of-rise e settings = λ k within.
+    let rises : RisesFrom 0 (numbers (flat_map (option_under settings) (rules_of e))) = under_rules settings (rules_of e) 0 (rules_rise e) in
+    rw add-one (rises_at 0 (numbers (flat_map (option_under settings) (rules_of e))) k rises (omega (arith, within)))
