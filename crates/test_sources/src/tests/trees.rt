@@ -3,9 +3,9 @@
 use crate::tests::sources::behind_syntax;
 use proto_base::scalar_type::KeyType;
 use proto_base::{Kind, Limit, Limits, Place};
-use proto_tree::{FieldType, MessageItem, Statement};
 use proto_syntax::{ParseError, parse};
 use proto_tokens::tokenize;
+use proto_tree::{FieldType, MessageItem, Statement};
 use std::alloc::Global;
 use std::test::Fail;
 
