@@ -1,6 +1,6 @@
 -- What an answer says of every compilation and of every fault.
-use Rattle.std.proofs.Common.{◌≡◌, refl, sym, ℕ, List, Result, Ok, Err}
-use Rattle.std.specs.Prelude.{IfErr, IfOk, IsErrAnd, MatchResult, string_bytes}
+use Rattle.std.proofs.Common.{◌≡◌, refl, ℕ, List, Result, Ok, Err}
+use Rattle.std.specs.Prelude.{IfErr, IfOk, IsErrAnd, MatchResult}
 use Rattle.proto_base.specs.declared.kind.Kind.{Kind}
 use Rattle.proto_base.specs.declared.limits.Limits.{Limits}
 use Rattle.proto_base.specs.declared.place.Place.{Place}

@@ -3,12 +3,10 @@ use Rattle.std.proofs.Common.{◌≡◌, ◌∙◌, sym, ap, refl, subst, ℕ, z
 use Rattle.std.specs.List.{AllZip}
 use Rattle.std.proofs.lemmas.List.{get_or_default, length-take, map-append, take_more}
 use Rattle.std.specs.Prelude.{Result, Ok, Err, IfOk, IfErr}
-use Rattle.proto_base.specs.declared.kind.Kind.{Kind}
-use Rattle.proto_base.specs.declared.place.Place.{Place}
 use Rattle.proto_file.specs.declared.error.FileError.{FileError}
 use Rattle.proto_file.specs.declared.error.FileError.TheVariants as fault
 use Rattle.proto_compile.specs.Analysed.{AllZipFrom}
-use Rattle.proto_compile.specs.Outcomes.{IsFirstBad, TellsFirst, TellsOfFile}
+use Rattle.proto_compile.specs.Outcomes.{TellsFirst, TellsOfFile}
 use Rattle.proto_compile.specs.Sources.{name_at}
 use Rattle.proto_compile.specs.declared.error.CompileError.{CompileError}
 use Rattle.proto_compile.specs.declared.error.CompileError.TheVariants as errors

@@ -1,8 +1,8 @@
 -- What files have in the set, by its length.
-use Rattle.std.proofs.Common.{◌≡◌, ◌∙◌, sym, ap, subst, ℕ, zero, suc, ◌+◌, ◌<◌, ◌≤◌, Bool, true, false, List, [], ◌∷◌, ◌++◌, length, get_or, arith, refl}
+use Rattle.std.proofs.Common.{◌≡◌, sym, ap, subst, ℕ, zero, suc, ◌<◌, ◌≤◌, Bool, true, false, List, [], ◌∷◌, length, arith, refl}
 use Rattle.std.specs.Prelude.{Contains, filter, flat_map}
 use Rattle.std.proofs.lemmas.List.{length-append}
-use Rattle.proto_links.specs.Linked.{Linked, count_of, has, reach_of}
+use Rattle.proto_links.specs.Linked.{count_of, has, reach_of}
 use Rattle.proto_links.proofs.Whole.{whole_of}
 use Rattle.wire_format.specs.Field.{bytes_field}
 use Rattle.proto_compile.specs.Compilation.{Compilation, IsOfSources, bytes_at, set_of}

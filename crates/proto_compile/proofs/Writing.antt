@@ -3,9 +3,6 @@ use Rattle.std.proofs.Common.{◌≡◌, ◌∙◌, sym, ap, refl, subst, ℕ, z
 use Rattle.std.specs.Prelude.{Result, Ok, Err, Vec}
 use Rattle.std.specs.declared.alloc.Global.{Global}
 use Rattle.std.proofs.lemmas.List.{get_or_default}
-use Rattle.proto_base.specs.Limits.{limit_of}
-use Rattle.proto_base.specs.declared.kind.Kind.TheVariants as kind
-use Rattle.proto_base.specs.declared.limits.Limit.TheVariants as limit
 use Rattle.proto_base.specs.declared.limits.Limits.{Limits}
 use Rattle.proto_desc.specs.declared.file.FileDesc.{FileDesc}
 use Rattle.proto_file.specs.declared.error.FileError.{FileError}
@@ -16,14 +13,14 @@ use Rattle.proto_names.specs.Index.{Index}
 use Rattle.wire_bytes.specs.Descriptor.{file_desc_bytes}
 use Rattle.proto_compile.specs.Analysed.{AllZipFrom, AreResolved, AreTypedFrom}
 use Rattle.proto_compile.specs.Compilation.{IsShort}
-use Rattle.proto_compile.specs.Faults.{IsFirstFault, IsRefusal, descriptor_too_long, start}
+use Rattle.proto_compile.specs.Faults.{IsFirstFault, IsRefusal, descriptor_too_long}
 use Rattle.proto_compile.specs.Outcomes.{IsWrittenShort, TellsFirst}
 use Rattle.proto_compile.specs.Sources.{name_at, name_of}
 use Rattle.proto_compile.specs.Steps.{items_of}
 use Rattle.proto_compile.specs.declared.error.CompileError.{CompileError}
 use Rattle.proto_compile.specs.declared.error.CompileError.TheVariants as errors
 use Rattle.proto_compile.specs.declared.source.Source.{Source}
-use Rattle.proto_compile.proofs.Judging.{zip_at, zip_length, zip_take, zip_weaker, zip_well}
+use Rattle.proto_compile.proofs.Judging.{zip_at, zip_length, zip_take}
 use Rattle.proto_compile.proofs.Typing.{some_of}
 use Rattle.proto_compile.proofs.Zipping.{same_names}
 

@@ -1,5 +1,5 @@
 -- What the passes up to types find of sources without a fault.
-use Rattle.std.specs.Prelude.{◌≡◌, ℕ, ◌+◌, List, [], ◌∷◌}
+use Rattle.std.specs.Prelude.{ℕ, ◌+◌, List, [], ◌∷◌}
 use Rattle.proto_base.specs.declared.limits.Limits.{Limits}
 use Rattle.proto_desc.specs.declared.file.FileDesc.{FileDesc}
 use Rattle.proto_base.specs.declared.spot.Spot.{Spot}

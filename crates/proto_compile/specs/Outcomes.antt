@@ -1,5 +1,5 @@
 -- Words of private contracts: what a pass finds in each file, and the first fault of it.
-use Rattle.std.specs.Prelude.{◌≡◌, ℕ, ◌+◌, ◌<◌, List, [], ◌∷◌, length, map, take, slice_index_or, Result, Ok, Err, Some, Vec, true}
+use Rattle.std.specs.Prelude.{◌≡◌, ℕ, ◌<◌, List, length, map, take, slice_index_or, Result, Ok, Err, Some, Vec, true}
 use Rattle.std.specs.declared.alloc.Global.{Global}
 use Rattle.proto_base.specs.Least.{IsLeast, spot}
 use Rattle.proto_base.specs.Limits.{limit_of}

@@ -1,4 +1,3 @@
-use Rattle.std.proofs.Common.{rules}
 use Rattle.proto_compile.proofs.Answering.{every_compilation, every_fault, placed}
 use Rattle.proto_compile.proofs.compiling.compile.Goals as goal
 

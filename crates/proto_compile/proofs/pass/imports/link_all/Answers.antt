@@ -1,6 +1,5 @@
-use Rattle.std.proofs.Common.{◌≡◌, ◌∙◌, sym, ap, arith, subst, List, ℕ}
+use Rattle.std.proofs.Common.{◌∙◌, sym, ap, subst, List, ℕ}
 use Rattle.std.specs.Prelude.{Err}
-use Rattle.proto_links.specs.Imports as imports
 use Rattle.proto_compile.specs.Faults.{IsFirstFault, in_imports}
 use Rattle.proto_compile.proofs.Refusing.{told}
 use Rattle.proto_compile.proofs.Zipping.{desc_name, bad_within}

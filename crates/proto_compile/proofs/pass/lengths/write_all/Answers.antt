@@ -1,4 +1,4 @@
-use Rattle.std.proofs.Common.{◌≡◌, ◌∙◌, sym, subst, ℕ, List, map, All}
+use Rattle.std.proofs.Common.{◌≡◌, ◌∙◌, subst, ℕ, map, All}
 use Rattle.std.specs.Prelude.{Ok, Vec}
 use Rattle.std.specs.declared.alloc.Global.{Global}
 use Rattle.wire_bytes.specs.Descriptor.{file_desc_bytes}

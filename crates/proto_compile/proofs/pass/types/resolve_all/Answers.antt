@@ -1,4 +1,4 @@
-use Rattle.std.proofs.Common.{◌≡◌, ◌∙◌, sym, subst, List, map, All, true}
+use Rattle.std.proofs.Common.{◌≡◌, ◌∙◌, subst, map, All, true}
 use Rattle.std.specs.Prelude.{Ok, Vec}
 use Rattle.std.specs.declared.alloc.Global.{Global}
 use Rattle.proto_desc.specs.Resolved.{file_resolved}

@@ -1,4 +1,3 @@
-use Rattle.std.proofs.Common.{◌≡◌, length}
 use Rattle.proto_compile.specs.Analysed.{AllZipFrom}
 use Rattle.proto_compile.specs.Outcomes.{IsTyped}
 use Rattle.proto_compile.proofs.pass.types.resolve_each.Given as goal
