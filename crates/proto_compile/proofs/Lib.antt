@@ -2,8 +2,12 @@ pub mod Answering
 pub mod Checks
 pub mod DescPlaces
 pub mod EarlyChecks
+pub mod FaultOrder
 pub mod Judging
 pub mod LateChecks
+pub mod LeastEarly
+pub mod LeastFault
+pub mod LeastLate
 pub mod Making
 pub mod MessagePlaces
 pub mod OneAnswer

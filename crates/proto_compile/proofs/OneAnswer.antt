@@ -21,16 +21,16 @@ use Rattle.proto_compile.proofs.Checks.{AllExact, AllPass, Check, FirstOf, Told,
 
 -- ---- the checks in their order
 
-abbrev from_types : Limits → List Source → List Check
+abbrev pub from_types : Limits → List Source → List Check
 from_types limits sources = type_check limits sources ∷ length_check limits sources ∷ set_check limits sources ∷ []
 
-abbrev from_names : Limits → List Source → List Check
+abbrev pub from_names : Limits → List Source → List Check
 from_names limits sources = many_check limits sources ∷ twice_check limits sources ∷ from_types limits sources
 
-abbrev from_imports : Limits → List Source → List Check
+abbrev pub from_imports : Limits → List Source → List Check
 from_imports limits sources = import_check limits sources ∷ from_names limits sources
 
-abbrev all_checks : Limits → List Source → List Check
+abbrev pub all_checks : Limits → List Source → List Check
 all_checks limits sources = count_check limits sources ∷ order_check limits sources ∷ local_check limits sources ∷ from_imports limits sources
 
 types_exact : (limits : Limits) (sources : List Source) → AllExact (from_types limits sources)
@@ -55,7 +55,7 @@ analysed_then limits sources files descs links index x analysed later =
     linked_then limits sources files descs x analysed.described analysed.linked.whole
     (inr ((files, descs, analysed.described, analysed.indexed.within), inr ((files, descs, analysed.described, analysed.indexed.once), later)))
 
-first_of : (limits : Limits) (sources : List Source) (pass : ℕ) (file : List ℕ) (step : ℕ) (place : Place) (kind : Kind) → IsFirstFault limits sources pass file step place kind → FirstOf (all_checks limits sources) (told pass file step place kind)
+pub first_of : (limits : Limits) (sources : List Source) (pass : ℕ) (file : List ℕ) (step : ℕ) (place : Place) (kind : Kind) → IsFirstFault limits sources pass file step place kind → FirstOf (all_checks limits sources) (told pass file step place kind)
 first_of limits sources _ _ _ _ _ (too_many_files over) = inl (over, refl)
 first_of limits sources _ _ _ _ _ (file_name_twice files k few sorted repeated) = inr (few, inl (record { files = files; at = k; sorted = sorted; repeated = repeated; is = refl }))
 first_of limits sources _ _ _ _ _ (in_file files descs k s step place what few order described stands fault) =

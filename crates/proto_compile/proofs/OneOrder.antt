@@ -144,9 +144,12 @@ less_greater : (o : Ordering) → o ≡ Less → o ≢ Greater
 less_greater o less more = true≢false (sym (ap is_lt less) ∙ ap is_lt more)
 
 -- where names rise none is repeated
-pub none_repeated : (sources f g : List Source) (k : ℕ) → AreByName sources f → AreSorted sources g → IsFirstRepeated g k → ⊥
-none_repeated sources f g k order sorted twice =
+pub none_twice : (sources f g : List Source) (k : ℕ) → AreByName sources f → AreSorted sources g → k + 1 < length g → name_at g k ≡ name_at g (k + 1) → ⊥
+none_twice sources f g k order sorted below twice =
     let names : map name_of g ≡ map name_of f = one_names sources g f sorted (record { all = order.all; rises = λ j h. less_greater _ (order.rises j h) }) in
-    let room : k + 1 < length f = (let l = length-map f name_of in let m = length-map g name_of in let n = ap length names in let b = twice.below in omega (arith, b, l, m, n)) in
-    let same : name_at f k ≡ name_at f (k + 1) = pair_moved g f k names twice.same in
+    let room : k + 1 < length f = (let l = length-map f name_of in let m = length-map g name_of in let n = ap length names in omega (arith, below, l, m, n)) in
+    let same : name_at f k ≡ name_at f (k + 1) = pair_moved g f k names twice in
     less_itself (slice_cmp nat_cmp (name_at f k) (name_at f (k + 1))) (ap (slice_cmp nat_cmp (name_at f k)) (sym same) ∙ tied_itself nat_list_cmp_total (name_at f k)) (order.rises k room)
+
+pub none_repeated : (sources f g : List Source) (k : ℕ) → AreByName sources f → AreSorted sources g → IsFirstRepeated g k → ⊥
+none_repeated sources f g k order sorted twice = none_twice sources f g k order sorted twice.below twice.same

@@ -122,11 +122,11 @@ typed_at links index first (f ∷ fs) (g ∷ gs) all zero at desc e h is =
 typed_at links index first (f ∷ fs) (g ∷ gs) all (suc k) at desc e h is = typed_at links index (first + 1) fs gs all.1 k at desc (omega (arith, e)) (omega (arith, h)) is
 
 -- what is wrong with a file's types is so by each index
-break_moved : (descs : List FileDesc) (links others : Linked) (index other : Index) → AllSeeAlike descs links index others other → (a : ℕ) (desc : FileDesc) (x : Spot) → a < length descs → TypesBreakAt links index a desc x → TypesBreakAt others other a desc x
+pub break_moved : (descs : List FileDesc) (links others : Linked) (index other : Index) → AllSeeAlike descs links index others other → (a : ℕ) (desc : FileDesc) (x : Spot) → a < length descs → TypesBreakAt links index a desc x → TypesBreakAt others other a desc x
 break_moved descs links others index other alike a desc x h = breaks_alike index.occurrences other.occurrences (SeenBy links a) (SeenBy others a) (alike a h) desc x
 
 -- no file is wrong among files whose types are right
-no_break : (descs : List FileDesc) (links others : Linked) (index other : Index) → AllSeeAlike descs links index others other → (xs done : List FileDesc) (a : ℕ) (desc : FileDesc) (x : Spot) → a < length descs → StandsDesc xs a desc
+pub no_break : (descs : List FileDesc) (links others : Linked) (index other : Index) → AllSeeAlike descs links index others other → (xs done : List FileDesc) (a : ℕ) (desc : FileDesc) (x : Spot) → a < length descs → StandsDesc xs a desc
     → TypesBreakAt links index a desc x → AreTypedFrom others other 0 xs done → ⊥
 no_break descs links others index other alike xs done a desc x h stands breaks typed =
     let right = typed_at others other 0 xs done typed a a desc (omega arith) stands.0 stands.1 in

@@ -54,7 +54,7 @@ all_short limits descs all is k d h =
     short_at limits (get_or descs k d) (get_or (oks all) k none) each (well_at all k none (omega (arith, h, size, same)))
 
 -- types resolved, a descriptor has its name
-typed_names : (links : Linked) (index : Index) (a : ℕ) (descs typed : List FileDesc) → AreTypedFrom links index a descs typed → map imports.name_of typed ≡ map imports.name_of descs
+pub typed_names : (links : Linked) (index : Index) (a : ℕ) (descs typed : List FileDesc) → AreTypedFrom links index a descs typed → map imports.name_of typed ≡ map imports.name_of descs
 typed_names links index a [] [] all = refl
 typed_names links index a [] (g ∷ gs) all = absurd all
 typed_names links index a (f ∷ fs) [] all = absurd all

@@ -48,18 +48,20 @@ descs_in_order limits sources files descs order all k h =
 -- ---- files of faults
 
 -- an import stands in one of the files
-pub bad_within : (descs : List FileDesc) (a : ℕ) (place : Place) (kind : Kind) → imports.IsFirstBad descs a place kind → a < length descs
-bad_within descs a place kind first = elim (cases_lt a (length descs)) [
+pub bad_inside : (descs : List FileDesc) (a : ℕ) (place : Place) (kind : Kind) → imports.IsBad descs a place kind → a < length descs
+bad_inside descs a place kind bad = elim (cases_lt a (length descs)) [
   | inl less ↦ less
   | inr over ↦ (
       let l = length-map descs imports.imports_of in
       let none : imports.imports_at descs a ≡ [] = get_or_past (map imports.imports_of descs) a [] (omega (arith, l, over)) in
-      let within = first.bad.1 in
-      absurd (nothing_in (subst (λ (is : List ImportDesc). Contains is first.bad.0) none within)))
+      absurd (nothing_in (subst (λ (is : List ImportDesc). Contains is bad.0) none bad.1)))
 ]
   where
     nothing_in : {X : Type 0} {x : X} → Contains [] x → ⊥
     nothing_in (k, inside, is) = omega (arith, inside)
+
+pub bad_within : (descs : List FileDesc) (a : ℕ) (place : Place) (kind : Kind) → imports.IsFirstBad descs a place kind → a < length descs
+bad_within descs a place kind first = bad_inside descs a place kind first.bad
 
 -- what occurs beside another
 pub contains_second : (os : List Occurrence) (a b : Occurrence) → ContainsBoth os a b → Contains os b

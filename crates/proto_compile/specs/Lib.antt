@@ -6,3 +6,4 @@ pub mod Sources
 pub mod Steps
 pub mod Outcomes
 pub mod Passes
+pub mod FaultSet

@@ -16,5 +16,5 @@ mod table;
 pub use compiled::Compiled;
 pub use compiling::compile;
 pub use error::CompileError;
-pub use laws::compiling_is_unique;
+pub use laws::{compiling_is_unique, first_fault_is_least};
 pub use source::Source;

@@ -17,3 +17,4 @@ pub mod Unique
 pub mod SameNames
 pub mod SameItems
 pub mod SameFiles
+pub mod Placed

@@ -1,5 +1,5 @@
 -- What a list of tokens is: a file with its tree, or at which token it stops being the front of any file, and why.
-use Rattle.std.specs.Prelude.{◌≡◌, ℕ, ◌+◌, ◌-◌, ◌<◌, ◌≤◌, ◌==◌, Bool, false, ◌&&◌, ◌||◌, cond, if◌then◌else◌, List, [], ◌∷◌, length, take, codes, slice_get, Option, None, Some}
+use Rattle.std.specs.Prelude.{◌≡◌, ℕ, ◌+◌, ◌-◌, ◌<◌, ◌≤◌, ◌==◌, Bool, false, ◌&&◌, ◌||◌, cond, if◌then◌else◌, List, [], ◌∷◌, length, take, codes, slice_get, Option, None, Some, All}
 use Rattle.std.specs.Str.{byte}
 use Rattle.std.specs.Option.{option_map, unwrap_or}
 use Rattle.proto_tokens.specs.Token.{Lexeme, Spelled, tokens_of}
@@ -77,3 +77,13 @@ IsFaultOf limit tokens (At place kind) = (k : ℕ) × IsFaultAt limit (tokens_of
 abbrev pub TellsFault : Tokens → ℕ → Kind → ParseError → Type 0
 TellsFault tokens k kind NoMemory = Unit {0}
 TellsFault tokens k kind (At place told) = (place ≡ place_at tokens k) × (told ≡ kind)
+
+-- no token begins behind n, nor does the text end there
+pub record LieWithin (n : ℕ) (tokens : Tokens) : Type 0 where
+  pub begin : All (λ t. t.span.start.offset ≤ n) tokens.items.items
+  pub end : tokens.end.offset ≤ n
+
+-- the error is for want of memory, or names a place within n bytes
+abbrev pub IsPlacedWithin : ℕ → ParseError → Type 0
+IsPlacedWithin n NoMemory = Unit {0}
+IsPlacedWithin n (At place kind) = place.offset ≤ n

@@ -6,7 +6,7 @@ ghost use Rattle.proto_base.specs.Limits.{limit_of};
 ghost use Rattle.proto_base.specs.declared.kind.Kind.{Kind};
 ghost use Rattle.proto_tree.specs.declared.file.FileTree.{FileTree};
 ghost use Rattle.proto_syntax.specs.Grammar.{Tree};
-ghost use Rattle.proto_syntax.specs.Fault.{IsTreeOf, IsFaultAt, IsKindOf, IsFaultOf, TellsFault};
+ghost use Rattle.proto_syntax.specs.Fault.{IsTreeOf, IsFaultAt, IsKindOf, IsFaultOf, TellsFault, LieWithin, IsPlacedWithin};
 ghost use Rattle.proto_syntax.specs.Trees.{file_tree};
 
 mod enum_reserved;
@@ -73,6 +73,7 @@ pub fn parse<'s>(
 ) -> Result<FileTree<'s>, ParseError>
     ensures found { IfOk result (λ file. IsTreeOf (limit_of limits.now Limit.Depth) (tokens_of tokens.now) (file_tree file)) }
     ensures fault { IfErr result (IsFaultOf (limit_of limits.now Limit.Depth) tokens.now) }
+    ensures within { (n : ℕ) → LieWithin n tokens.now → IfErr result (IsPlacedWithin n) }
 
     // So tokens that have a tree give it, and others give their fault, unless memory runs out.
     ensures every_tree { (x : Tree) → IsTreeOf (limit_of limits.now Limit.Depth) (tokens_of tokens.now) x

@@ -1,0 +1,197 @@
+-- From names on, what a pass finds first is the least of what it finds.
+use Rattle.std.proofs.Common.{◌≡◌, ◌∙◌, sym, ℕ, ◌<◌, ◌≤◌, List, [], length, take, get_or, ap, refl, subst, arith, inl, inr}
+use Rattle.std.specs.Prelude.{Contains, Some}
+use Rattle.std.specs.List.{All}
+use Rattle.std.proofs.lemmas.Bool.{cases_order}
+use Rattle.std.proofs.lemmas.List.Elements.{All-contains}
+use Rattle.proto_base.specs.Least.{IsLeast, spot}
+use Rattle.proto_base.specs.Limits.{limit_of}
+use Rattle.proto_base.specs.declared.kind.Kind.{Kind}
+use Rattle.proto_base.specs.declared.kind.Kind.TheVariants as kind
+use Rattle.proto_base.specs.declared.limits.Limit.TheVariants as limit
+use Rattle.proto_base.specs.declared.limits.Limits.{Limits}
+use Rattle.proto_base.specs.declared.place.Place.{Place}
+use Rattle.proto_desc.specs.declared.file.FileDesc.{FileDesc}
+use Rattle.proto_links.specs.Imports as imports
+use Rattle.proto_links.specs.Linked.{Linked}
+use Rattle.proto_names.proofs.Built.{below_from}
+use Rattle.proto_names.specs.Index.{Index}
+use Rattle.proto_names.specs.Occurrences.{IsEarlier, IsFirstTwice, IsTwice, NoneTwice, Occurrence, occurrences}
+use Rattle.wire_bytes.specs.Descriptor.{file_desc_bytes}
+use Rattle.proto_compile.specs.Analysed.{AreResolved, AreTypedFrom, IsAnalysed, TypesBreakAt}
+use Rattle.proto_compile.specs.Compilation.{IsShort}
+use Rattle.proto_compile.specs.Descriptions.{Describe}
+use Rattle.proto_compile.specs.FaultSet.{IsNoLater, found_as}
+use Rattle.proto_compile.specs.Faults.{StandsDesc, start}
+use Rattle.proto_compile.specs.declared.source.Source.{Source}
+use Rattle.proto_compile.proofs.Checks.{Told, told}
+use Rattle.proto_compile.proofs.FaultOrder.{NoLater, same_later}
+use Rattle.proto_compile.proofs.LateChecks.{FindsBreak, FindsLong, FindsTwice, length_check, many_check, many_exact, set_check, set_exact, twice_check, type_check}
+use Rattle.proto_compile.proofs.LeastEarly.{Least, later_by_file}
+use Rattle.proto_compile.proofs.Making.{typed_length}
+use Rattle.proto_compile.proofs.OneCompilation.{IsFirstLong}
+use Rattle.proto_compile.proofs.OneTyping.{AllSeeAlike, IsFirstBreak, analysed_alike, analysed_moved, break_moved, no_break, one_description, one_resolved, standing_in, standing_one}
+use Rattle.proto_compile.proofs.Writing.{typed_names}
+use Rattle.proto_compile.proofs.Zipping.{contains_second}
+
+-- ---- names
+
+abbrev pub many_least : (limits : Limits) (sources : List Source) → Least (many_check limits sources)
+many_least limits sources = record {
+  Has = (many_check limits sources).Finds;
+  among = λ x found. found;
+  least = λ x y f g. same_later x y (f.is ∙ sym g.is);
+  never = (many_exact limits sources).never;
+}
+
+pub record HasTwice (limits : Limits) (sources : List Source) (x : Told) : Type 0 where
+  pub files : List Source
+  pub descs : List FileDesc
+  pub what : Occurrence
+  pub described : Describe limits sources files descs
+  pub twice : IsTwice (occurrences descs) what
+  pub is : x ≡ told 3 (imports.name_at descs what.file) 0 what.place kind.NameTwice
+
+pub twice_order : (os : List Occurrence) (a : ℕ) (p : Place) (o : Occurrence) → IsFirstTwice os a p → IsTwice os o → imports.IsNoLater a p kind.NameTwice o.file o.place kind.NameTwice
+twice_order os a p o first twice = elim (cases_order a o.file) [
+  | inl same ↦ elim (cases_order p.offset o.place.offset) [
+    | inl at ↦ inr (same, inr (at, omega arith))
+    | inr (inl less) ↦ inr (same, inl less)
+    | inr (inr over) ↦ absurd (first.least o twice (inr (sym same, over)))
+  ]
+  | inr (inl less) ↦ inl less
+  | inr (inr over) ↦ absurd (first.least o twice (inl over))
+]
+
+pub twice_within : (descs : List FileDesc) (o : Occurrence) → IsTwice (occurrences descs) o → o.file < length descs
+twice_within descs o twice = let below = below_from 0 descs o (contains_second _ twice.0 o twice.1) in omega (arith, below)
+
+abbrev pub twice_least : (limits : Limits) (sources : List Source) → Least (twice_check limits sources)
+twice_least limits sources = record {
+  Has = HasTwice limits sources;
+  among = λ x f. (
+      let found = f.repeated.twice.found in
+      let is : x ≡ told 3 (imports.name_at f.descs found.0.file) 0 found.0.place kind.NameTwice =
+      f.is ∙ ap (λ a. told 3 (imports.name_at f.descs a) 0 f.place kind.NameTwice) (sym found.2) ∙ ap (λ p. told 3 (imports.name_at f.descs found.0.file) 0 p kind.NameTwice) (sym found.3) in
+      record { files = f.files; descs = f.descs; what = found.0; described = f.described; twice = found.1; is = is });
+  least = λ x y f g. (
+      let same : g.descs ≡ f.descs = (one_description limits sources g.files f.files g.descs f.descs g.described f.described).1 in
+      let twice : IsTwice (occurrences f.descs) g.what = subst (λ (ds : List FileDesc). IsTwice (occurrences ds) g.what) same g.twice in
+      let order = later_by_file limits sources f.files f.descs 3 f.at g.what.file f.place g.what.place kind.NameTwice kind.NameTwice f.described (twice_within f.descs g.what twice) (twice_order (occurrences f.descs) f.at f.place g.what f.repeated.twice twice) in
+      let name : imports.name_at f.descs g.what.file ≡ imports.name_at g.descs g.what.file = ap (λ (ds : List FileDesc). imports.name_at ds g.what.file) (sym same) in
+      rw (f.is, g.is) (subst (λ (n : List ℕ). IsNoLater (found_as 3 (imports.name_at f.descs f.at) 0 f.place kind.NameTwice) (found_as 3 n 0 g.what.place kind.NameTwice)) name order));
+  never = λ y g pass. (
+      let same : pass.1 ≡ g.descs = (one_description limits sources pass.0 g.files pass.1 g.descs pass.2 g.described).1 in
+      let none : NoneTwice (occurrences g.descs) = subst (λ (ds : List FileDesc). NoneTwice (occurrences ds)) same pass.3 in
+      none g.what g.twice);
+}
+
+-- ---- types
+
+pub record HasBreak (limits : Limits) (sources : List Source) (x : Told) : Type 0 where
+  pub files : List Source
+  pub descs : List FileDesc
+  pub links : Linked
+  pub index : Index
+  pub at : ℕ
+  pub desc : FileDesc
+  pub place : Place
+  pub what : Kind
+  pub analysed : IsAnalysed limits sources files descs links index
+  pub stands : StandsDesc descs at desc
+  pub breaks : TypesBreakAt links index at desc (spot place what)
+  pub is : x ≡ told 4 (imports.name_at descs at) 0 place what
+
+pub break_here : (descs : List FileDesc) (links : Linked) (index : Index) (a b : ℕ) (desc : FileDesc) (p q : Place) (k l : Kind) (first : IsFirstBreak descs links index a p k) → a ≡ b → StandsDesc descs b desc
+    → TypesBreakAt links index b desc (spot q l) → imports.IsNoLater a p k b q l
+break_here descs links index a b desc p q k l first same stands breaks =
+    let here = subst (λ n. StandsDesc descs n desc) (sym same) stands in
+    let file : desc ≡ first.desc = standing_one descs a desc first.desc first.stands.0 here.1 first.stands.1 in
+    let moved : TypesBreakAt links index a first.desc (spot q l) =
+    subst (λ n. TypesBreakAt links index n first.desc (spot q l)) (sym same) (subst (λ (f : FileDesc). TypesBreakAt links index b f (spot q l)) file breaks) in
+    inr (same, first.least.least (spot q l) moved)
+
+pub break_order : (descs : List FileDesc) (links others : Linked) (index other : Index) → AllSeeAlike descs others other links index → (a b : ℕ) (desc : FileDesc) (p q : Place) (k l : Kind) (first : IsFirstBreak descs links index a p k) → StandsDesc descs b desc
+    → TypesBreakAt others other b desc (spot q l) → imports.IsNoLater a p k b q l
+break_order descs links others index other back a b desc p q k l first stands breaks = elim (cases_order a b) [
+  | inl same ↦ break_here descs links index a b desc p q k l first same stands (break_moved descs others links other index back b desc (spot q l) stands.0 breaks)
+  | inr (inl less) ↦ inl less
+  | inr (inr over) ↦ absurd (no_break descs others links other index back (take a descs) first.done b desc (spot q l) stands.0 (standing_in descs b a desc over stands.0 stands.1) breaks first.typed)
+]
+
+abbrev pub type_least : (limits : Limits) (sources : List Source) → Least (type_check limits sources)
+type_least limits sources = record {
+  Has = HasBreak limits sources;
+  among = λ x f. record { files = f.files; descs = f.descs; links = f.links; index = f.index; at = f.at; desc = f.first.desc; place = f.place; what = f.what; analysed = f.analysed; stands = f.first.stands; breaks = f.first.least.found; is = f.is };
+  least = λ x y f g. (
+      let same = one_description limits sources f.files g.files f.descs g.descs f.analysed.described g.analysed.described in
+      let also = analysed_moved limits sources f.files g.files f.descs g.descs g.links g.index same g.analysed in
+      let stands : StandsDesc f.descs g.at g.desc = subst (λ (ds : List FileDesc). StandsDesc ds g.at g.desc) (sym same.1) g.stands in
+      let back = analysed_alike limits sources f.files f.files f.descs g.links f.links g.index f.index also f.analysed in
+      let order = break_order f.descs f.links g.links f.index g.index back f.at g.at g.desc f.place g.place f.what g.what f.first stands g.breaks in
+      let later = later_by_file limits sources f.files f.descs 4 f.at g.at f.place g.place f.what g.what f.analysed.described stands.0 order in
+      let name : imports.name_at f.descs g.at ≡ imports.name_at g.descs g.at = ap (λ (ds : List FileDesc). imports.name_at ds g.at) same.1 in
+      rw (f.is, g.is) (subst (λ (n : List ℕ). IsNoLater (found_as 4 (imports.name_at f.descs f.at) 0 f.place f.what) (found_as 4 n 0 g.place g.what)) name later));
+  never = λ y g pass. (
+      let r = pass.4 in
+      let same = one_description limits sources g.files pass.0 g.descs r.descs g.analysed.described r.analysed.described in
+      let also = analysed_moved limits sources g.files pass.0 g.descs r.descs pass.2 pass.3 same r.analysed in
+      let typed : AreTypedFrom pass.2 pass.3 0 g.descs pass.1 = subst (λ (ds : List FileDesc). AreTypedFrom pass.2 pass.3 0 ds pass.1) (sym same.1) r.each in
+      let alike = analysed_alike limits sources g.files g.files g.descs g.links pass.2 g.index pass.3 g.analysed also in
+      no_break g.descs g.links pass.2 g.index pass.3 alike g.descs pass.1 g.at g.desc (spot g.place g.what) g.stands.0 g.stands g.breaks typed);
+}
+
+-- ---- lengths
+
+pub record HasLong (limits : Limits) (sources : List Source) (x : Told) : Type 0 where
+  pub files : List Source
+  pub typed : List FileDesc
+  pub links : Linked
+  pub index : Index
+  pub at : ℕ
+  pub desc : FileDesc
+  pub resolved : AreResolved limits sources files typed links index
+  pub stands : StandsDesc typed at desc
+  pub over : limit_of limits limit.DescriptorBytes < length (file_desc_bytes desc)
+  pub is : x ≡ told 5 (imports.name_at typed at) 0 start kind.DescriptorTooLong
+
+pub long_order : (limits : Limits) (descs : List FileDesc) (a b : ℕ) (desc : FileDesc) → IsFirstLong limits descs a → StandsDesc descs b desc → limit_of limits limit.DescriptorBytes < length (file_desc_bytes desc)
+    → imports.IsNoLater a start kind.DescriptorTooLong b start kind.DescriptorTooLong
+long_order limits descs a b desc first stands over = elim (cases_order a b) [
+  | inl same ↦ inr (same, inr (refl, omega arith))
+  | inr (inl less) ↦ inl less
+  | inr (inr behind) ↦ (
+      let within = standing_in descs b a desc behind stands.0 stands.1 in
+      let fits = All-contains (IsShort limits) (take a descs) desc first.short (b, within.0, within.1) in
+      absurd (omega (arith, fits, over)))
+]
+
+abbrev pub length_least : (limits : Limits) (sources : List Source) → Least (length_check limits sources)
+length_least limits sources = record {
+  Has = HasLong limits sources;
+  among = λ x f. record { files = f.files; typed = f.typed; links = f.links; index = f.index; at = f.at; desc = f.first.desc; resolved = f.resolved; stands = f.first.stands; over = f.first.over; is = f.is };
+  least = λ x y f g. (
+      let same : g.typed ≡ f.typed = (one_resolved limits sources g.files f.files g.typed f.typed g.links f.links g.index f.index g.resolved f.resolved).1 in
+      let stands : StandsDesc f.typed g.at g.desc = subst (λ (ds : List FileDesc). StandsDesc ds g.at g.desc) same g.stands in
+      let names = typed_names f.links f.index 0 f.resolved.descs f.typed f.resolved.each in
+      let size = typed_length f.links f.index 0 f.resolved.descs f.typed f.resolved.each in
+      let below = stands.0 in
+      let later = later_by_file limits sources f.files f.resolved.descs 5 f.at g.at start start kind.DescriptorTooLong kind.DescriptorTooLong f.resolved.analysed.described (omega (arith, below, size)) (long_order limits f.typed f.at g.at g.desc f.first stands g.over) in
+      let first : imports.name_at f.resolved.descs f.at ≡ imports.name_at f.typed f.at = ap (λ (ns : List (List ℕ)). get_or ns f.at []) (sym names) in
+      let second : imports.name_at f.resolved.descs g.at ≡ imports.name_at g.typed g.at = ap (λ (ns : List (List ℕ)). get_or ns g.at []) (sym names) ∙ ap (λ (ds : List FileDesc). imports.name_at ds g.at) (sym same) in
+      rw (f.is, g.is) (subst (λ (n : List ℕ). IsNoLater (found_as 5 n 0 start kind.DescriptorTooLong) (found_as 5 (imports.name_at g.typed g.at) 0 start kind.DescriptorTooLong)) first
+      (subst (λ (n : List ℕ). IsNoLater (found_as 5 (imports.name_at f.resolved.descs f.at) 0 start kind.DescriptorTooLong) (found_as 5 n 0 start kind.DescriptorTooLong)) second later)));
+  never = λ y g pass. (
+      let same : pass.1 ≡ g.typed = (one_resolved limits sources pass.0 g.files pass.1 g.typed pass.2 g.links pass.3 g.index pass.4 g.resolved).1 in
+      let fits = All-contains (IsShort limits) g.typed g.desc (subst (λ (ds : List FileDesc). All (IsShort limits) ds) same pass.5) (g.at, g.stands.0, g.stands.1) in
+      let over = g.over in
+      omega (arith, fits, over));
+}
+
+abbrev pub set_least : (limits : Limits) (sources : List Source) → Least (set_check limits sources)
+set_least limits sources = record {
+  Has = (set_check limits sources).Finds;
+  among = λ x found. found;
+  least = λ x y f g. same_later x y (f.is ∙ sym g.is);
+  never = (set_exact limits sources).never;
+}
