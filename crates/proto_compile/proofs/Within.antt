@@ -1,11 +1,14 @@
 -- What files have in the set, by its length.
-use Rattle.std.proofs.Common.{◌≡◌, sym, ap, subst, ℕ, zero, suc, ◌<◌, ◌≤◌, Bool, true, false, List, [], ◌∷◌, length, arith, refl}
+use Rattle.std.proofs.Common.{◌≡◌, sym, ap, subst, ℕ, zero, suc, ◌+◌, ◌<◌, ◌≤◌, Bool, true, false, List, [], ◌∷◌, length, get_or, map, Less, arith, refl}
 use Rattle.std.specs.Prelude.{Contains, filter, flat_map}
-use Rattle.std.proofs.lemmas.List.{length-append}
+use Rattle.std.proofs.lemmas.List.{length-append, length-map}
 use Rattle.proto_links.specs.Linked.{count_of, has, reach_of}
 use Rattle.proto_links.proofs.Whole.{whole_of}
 use Rattle.wire_format.specs.Field.{bytes_field}
-use Rattle.proto_compile.specs.Compilation.{Compilation, IsOfSources, bytes_at, set_of}
+use Rattle.std.specs.Cmp.Lexicographic.{slice_cmp}
+use Rattle.std.specs.Ordering.{nat_cmp}
+use Rattle.proto_compile.specs.Sources.{name_of}
+use Rattle.proto_compile.specs.Compilation.{Compilation, IsOfSources, bytes_at, file_name, set_of}
 
 -- one of many
 one_of : (f : ℕ → List ℕ) (xs : List ℕ) (a : ℕ) → Contains xs a → length (f a) ≤ length (flat_map f xs)
@@ -24,6 +27,16 @@ some_more f p x xs false e rest = let sum = length-append (f x) (flat_map f xs) 
 some_of : (f : ℕ → List ℕ) (p : ℕ → Bool) (xs : List ℕ) → length (flat_map f (filter p xs)) ≤ length (flat_map f xs)
 some_of f p [] = omega arith
 some_of f p (x ∷ xs) = some_more f p x xs (p x) refl (some_of f p xs)
+
+-- names rise as those of the sources do
+pub names_rise : (c : Compilation) → IsOfSources c → (k : ℕ) → k + 1 < length c.files → slice_cmp nat_cmp (get_or (map file_name c.files) k []) (get_or (map file_name c.files) (k + 1) []) ≡ Less
+names_rise c (sources, is) k h =
+    let written = is.written in
+    let names = written.names in
+    let l = length-map c.files file_name in
+    let m = length-map written.sorted name_of in
+    let n = ap length names in
+    subst (λ (ns : List (List ℕ)). slice_cmp nat_cmp (get_or ns k []) (get_or ns (k + 1) []) ≡ Less) (sym names) (written.resolved.analysed.described.by_name.rises k (omega (arith, h, l, m, n)))
 
 pub file_within : (c : Compilation) → IsOfSources c → (a : ℕ) → a < count_of c.links → length (bytes_field 1 (bytes_at c.files a)) ≤ length (set_of c.files c.links)
 file_within c (sources, is) a below =

@@ -1,7 +1,10 @@
 //! What sources are compiled to.
 
-ghost use Rattle.std.specs.Prelude.{◌≡◌, ℕ, ◌<◌, ◌≤◌, IfOk, IfSome, MatchOption, flat_map, length};
-ghost use Rattle.proto_compile.specs.Compilation.{IsNamed, IsOfSources, bytes_at, set_of};
+ghost use Rattle.std.specs.Prelude.{◌≡◌, ℕ, ◌+◌, ◌<◌, ◌≤◌, [], IfOk, IfSome, MatchOption, flat_map, length, map, slice_index_or};
+ghost use Rattle.std.specs.Cmp.Lexicographic.{slice_cmp};
+ghost use Rattle.std.specs.Ordering.{nat_cmp};
+ghost use Rattle.std.specs.declared.cmp.Ordering.TheVariants.{Less};
+ghost use Rattle.proto_compile.specs.Compilation.{IsNamed, IsOfSources, bytes_at, file_name, set_of};
 ghost use Rattle.proto_links.specs.Linked.{count_of, reach_of};
 ghost use Rattle.wire_format.specs.Field.{bytes_field};
 
@@ -82,6 +85,14 @@ impl Compiled {
             → length (bytes_field 1 (bytes_at self.now.files a)) ≤ length (set_of self.now.files self.now.links) }
         ensures reached { (a : ℕ) → a < count_of self.now.links
             → length (flat_map (λ b. bytes_field 1 (bytes_at self.now.files b)) (reach_of self.now.links a)) ≤ length (set_of self.now.files self.now.links) }
+    {
+        self.is_of_sources();
+    }
+
+    /// A law: the names of the files rise, byte by byte.
+    pub fn names_rise(&self)
+        ensures { (k : ℕ) → k + 1 < length self.now.files
+            → slice_cmp nat_cmp (slice_index_or (map file_name self.now.files) k []) (slice_index_or (map file_name self.now.files) (k + 1) []) ≡ Less }
     {
         self.is_of_sources();
     }
