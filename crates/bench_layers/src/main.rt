@@ -20,7 +20,7 @@ use proto_names::NameIndex;
 use proto_syntax::parse;
 use proto_tokens::tokenize;
 use proto_types::typed;
-use reflect_core::read_frames;
+use reflect_requests::read_frames;
 use source_folder::{NamedText, read_folder};
 use std::alloc::{AllocGlobal, Global};
 use std::env;

@@ -1,7 +1,7 @@
 //! Bodies of PROTOCOL-WEB.md and their statuses.
 
 use proto_base::{Limit, Limits};
-use reflect_core::read_frames;
+use reflect_requests::read_frames;
 use std::alloc::Global;
 use std::process::Abort;
 use std::test::Fail;

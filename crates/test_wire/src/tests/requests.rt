@@ -1,6 +1,6 @@
 //! Requests of `reflection.proto`, and messages that are none.
 
-use reflect_core::{Ask, read_request};
+use reflect_requests::{Ask, read_request};
 use std::alloc::Global;
 use std::test::Fail;
 use wire_format::WireError;

@@ -1,2 +1,0 @@
-pub mod FrameRows
-pub mod RequestRows

@@ -1,0 +1,3 @@
+pub mod FrameRows
+pub mod RequestRows
+pub mod StreamRows

@@ -1,0 +1,13 @@
+use denote.Shadow.{shadow}
+use denote.Text.{Utf8}
+use Rattle.std.proofs.Common.{drop, map}
+use Rattle.wire_format.specs.Reading.{field_of}
+use Rattle.reflect_requests.specs.Request.{ask_of}
+use Rattle.reflect_requests.proofs.RequestRows.{Decided}
+use Rattle.reflect_requests.proofs.request.read_request.Given as goal
+
+abbrev pub invariant-loop-field : goal.invariant-loop-field
+invariant-loop-field l = record {
+  decided : Decided (map field_of l.field-items) (map field_of (drop l.field-index l.field-items)) l.host (ask_of l.ask);
+  utf8 : shadow (Utf8 l.host);
+}

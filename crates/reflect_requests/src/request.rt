@@ -1,0 +1,134 @@
+//! Requests of a reflection stream: what a message asks for.
+
+ghost use Rattle.std.specs.Prelude.{◌≡◌, ℕ, Err, IfErr, IfOk, IsUtf8, List, OnErr, OnOk};
+ghost use Rattle.reflect_requests.specs.Request.{IsContainingTypeUtf8, IsExtensionRequest, IsWellFormed, ReadsRequest, ask_of};
+ghost use Rattle.reflect_requests.specs.Request as definition;
+ghost use Rattle.reflect_requests.specs.RequestSteps.{Says};
+ghost use Rattle.wire_format.specs.Reading.{field_of};
+ghost use Rattle.wire_format.specs.declared.reading.WireError.TheVariants as errors;
+
+use std::alloc::Global;
+use wire_format::{Field, FieldValue, WireError, read_fields};
+
+/// A request: the host that it names, empty where it names none, and what it asks for.
+#[derive(Clone, Copy)]
+pub struct Request<'b> {
+    pub host: &'b str,
+    pub ask: Ask<'b>,
+}
+
+/// The last member of the oneof `message_request`.
+#[derive(Clone, Copy)]
+pub enum Ask<'b> {
+    /// The file with this name.
+    FileByName(&'b str),
+    /// The file that declares this full name.
+    FileBySymbol(&'b str),
+    /// The file that declares an extension.
+    FileByExtension,
+    /// The numbers of the extensions of the message with this full name.
+    ExtensionNumbers(&'b str),
+    /// The full names of all services.
+    ListServices,
+    /// No member is set.
+    Nothing,
+}
+
+/// What one field of a request says.
+#[derive(Clone, Copy)]
+enum Part<'b> {
+    Host(&'b str),
+    Member(Ask<'b>),
+    Unknown,
+}
+
+/// The text of a string.
+fn text(bytes: &[u8]) -> Result<&str, WireError>
+    ensures utf8 { IfOk result (λ text. (text.now ≡ bytes.now) × IsUtf8 bytes.now) }
+    ensures other { IfErr result (λ _. ¬ IsUtf8 bytes.now) }
+{
+    std::str::from_utf8(bytes).ok().ok_or(WireError::Malformed)
+}
+
+/// Tests a field of an `ExtensionRequest`: its only string is `containing_type`.
+fn check_containing_type(field: &Field) -> Result<(), WireError>
+    ensures utf8 { OnOk result (IsContainingTypeUtf8 (field_of field.now)) }
+    ensures other { OnErr result (¬ IsContainingTypeUtf8 (field_of field.now)) }
+{
+    if let FieldValue::Delimited(bytes) = field.value {
+        if field.number == 1 {
+            text(bytes)?;
+        }
+    }
+    Ok(())
+}
+
+/// Tests an `ExtensionRequest`.
+fn check_extension(alloc: Global, message: &[u8]) -> Result<(), WireError>
+    ensures well_formed { OnOk result (IsExtensionRequest message.now) }
+    ensures malformed { result ≡ Err errors.Malformed → ¬ IsExtensionRequest message.now }
+{
+    let fields = read_fields(alloc, message)?;
+    for field in &fields {
+        check_containing_type(field)?;
+    }
+    Ok(())
+}
+
+/// What a field says, by its number in `ServerReflectionRequest`.
+fn part_of<'b>(alloc: Global, field: &Field<'b>) -> Result<Part<'b>, WireError>
+    ensures part { IfOk result (Says (field_of field.now)) }
+    ensures malformed { result ≡ Err errors.Malformed → ¬ IsWellFormed (field_of field.now) }
+{
+    let FieldValue::Delimited(bytes) = field.value else {
+        return Ok(Part::Unknown);
+    };
+    match field.number {
+        1 => Ok(Part::Host(text(bytes)?)),
+        3 => Ok(Part::Member(Ask::FileByName(text(bytes)?))),
+        4 => Ok(Part::Member(Ask::FileBySymbol(text(bytes)?))),
+        5 => {
+            check_extension(alloc, bytes)?;
+            Ok(Part::Member(Ask::FileByExtension))
+        }
+        6 => Ok(Part::Member(Ask::ExtensionNumbers(text(bytes)?))),
+        7 => {
+            text(bytes)?;
+            Ok(Part::Member(Ask::ListServices))
+        }
+        _ => Ok(Part::Unknown),
+    }
+}
+
+/// The request that a message spells (`reflection.proto`, `ServerReflectionRequest`). Of the hosts
+/// and of the members of the oneof the last counts. Fields of another number, or of another wire
+/// type than their number's, are skipped.
+///
+/// `Malformed` says that the message is no row of fields, that one of its strings isn't UTF-8, or
+/// that one of its requests for an extension is malformed. `NoMemory` comes only where the allocator
+/// had none.
+pub fn read_request<'b>(alloc: Global, message: &'b [u8]) -> Result<Request<'b>, WireError>
+    // What is read is what the message says.
+    ensures found { IfOk result (λ request. ReadsRequest message.now request.host.now (ask_of request.ask)) }
+
+    // A message is refused only where it is no request.
+    ensures malformed { result ≡ Err errors.Malformed → (host : List ℕ) (asked : definition.Ask) → ReadsRequest message.now host asked → ⊥ }
+{
+    let fields = read_fields(alloc, message)?;
+    let mut host = "";
+    let mut ask = Ask::Nothing;
+    for field in &fields {
+        match part_of(alloc, field)? {
+            Part::Host(text) => host = text,
+            Part::Member(member) => ask = member,
+            Part::Unknown => {}
+        }
+    }
+    Ok(Request { host, ask })
+}
+
+/// A message is at most one request.
+pub fn requests_are_unique()
+    ensures host { (message h k : List ℕ) (a b : definition.Ask) → ReadsRequest message h a → ReadsRequest message k b → h ≡ k }
+    ensures ask { (message h k : List ℕ) (a b : definition.Ask) → ReadsRequest message h a → ReadsRequest message k b → a ≡ b }
+{}
