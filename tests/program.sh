@@ -83,6 +83,21 @@ if [ "$got" != 1 ] || [ -s "$folder/output" ] || [ "$(cat "$folder/faults")" != 
     failed 'a root by another way' "$got"
 fi
 
+# Ten thousand optional fields, each with a made oneof: the search for free names asks a set, and takes no longer than that.
+{
+    printf 'syntax = "proto3"; message M { '
+    printf 'optional int32 field_%s = %s; ' $(for number in $(seq 10000); do echo "$number $number"; done)
+    printf '}'
+} >"$folder/many.proto"
+timeout 60 "$program" describe many.proto <"$folder/many.proto" >"$folder/output" 2>"$folder/faults"
+got=$?
+# The names of oneofs alone have an underscore in front: _field_1 to _field_10000.
+names=$(grep -o '5f6669656c645f' "$folder/output" | wc -l)
+if [ "$got" != 0 ] || [ -s "$folder/faults" ] || [ "$names" != 10000 ] ||
+    ! grep -q '5f6669656c645f3130303030620670726f746f33$' "$folder/output"; then
+    failed 'many optional fields' "$got"
+fi
+
 for example in examples/*.proto; do
     "$program" describe "$(basename "$example")" <"$example" >"$folder/output" 2>"$folder/faults"
     got=$?

@@ -4,7 +4,7 @@ ghost use Rattle.std.specs.Prelude.{◌≡◌, ℕ, ◌+◌, ◌<◌, ◌≤◌,
 ghost use Rattle.std.specs.Cmp.Lexicographic.{slice_cmp};
 ghost use Rattle.std.specs.Ordering.{nat_cmp};
 ghost use Rattle.std.specs.declared.cmp.Ordering.TheVariants.{Less};
-ghost use Rattle.proto_compile.specs.Compilation.{IsNamed, IsOfSources, bytes_at, file_name, set_of};
+ghost use Rattle.proto_compile.specs.Compilation.{IsNamed, IsOfSources, IsSound, bytes_at, file_name, set_of};
 ghost use Rattle.proto_links.specs.Linked.{count_of, reach_of};
 ghost use Rattle.wire_format.specs.Field.{bytes_field};
 
@@ -75,6 +75,14 @@ impl Compiled {
     /// A law: a compilation is what some sources are compiled to, within its limits.
     pub fn is_of_sources(&self)
         ensures { IsOfSources self.now }
+    {
+        let _ = &self.limits;
+    }
+
+    /// A law: the links and the index are of these files, of which no two have one name, and the set and the services are
+    /// within the limits.
+    pub fn is_sound(&self)
+        ensures { IsSound self.now }
     {
         let _ = &self.limits;
     }

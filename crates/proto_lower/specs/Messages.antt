@@ -12,6 +12,7 @@ use Rattle.proto_desc.specs.declared.field.FieldKind.{FieldKind}
 use Rattle.proto_desc.specs.declared.field.FieldKind.TheVariants.{Scalar}
 use Rattle.proto_desc.specs.declared.field.FieldLabel.TheVariants.{Optional}
 use Rattle.proto_desc.specs.declared.message.MessageDesc.{MessageDesc}
+use Rattle.proto_desc.specs.declared.oneof.OneofDesc.{OneofDesc}
 use Rattle.proto_desc.specs.declared.message.MessageDesc.TheViews.{roll-MessageDesc}
 use Rattle.proto_desc.specs.declared.rules.Element.TheVariants as element
 use Rattle.proto_lower.specs.Names.{entry_name_of}
@@ -35,13 +36,17 @@ entry_field text at n kind = record {
   options = [];
 }
 
+-- the fields of a map field's entry
+abbrev pub entry_fields : MapField → List FieldDesc
+entry_fields m = entry_field (codes "key") m.declarator.name.span.start 1 (Scalar (scalar_of_key m.map_type.key))
+    ∷ entry_field (codes "value") m.declarator.name.span.start 2 (kind_of m.map_type.value) ∷ []
+
 -- the entry of a map field, at the field's name
 abbrev pub entry_of : MapField → MessageDesc
 entry_of m = roll-MessageDesc (record {
   name = entry_name_of m.declarator.name.text;
   place = m.declarator.name.span.start;
-  fields = entry_field (codes "key") m.declarator.name.span.start 1 (Scalar (scalar_of_key m.map_type.key))
-      ∷ entry_field (codes "value") m.declarator.name.span.start 2 (kind_of m.map_type.value) ∷ [];
+  fields = entry_fields m;
   nested = [];
   enums = [];
   oneofs = [];
@@ -59,6 +64,10 @@ enum_of i = []
 abbrev pub all_fields : List ℕ → List MessageItem → List FieldDesc
 all_fields full is = fields_from full 0 (real_count is) is
 
+-- the oneofs of the message with this full name: those of the source, and then those that its fields make
+abbrev pub all_oneofs : List ℕ → List MessageItem → List OneofDesc
+all_oneofs full is = with_made (names_of_fields (all_fields full is)) (flat_map real_of is) (all_fields full is)
+
 -- the message of this full name, name and statements, with these nested messages
 abbrev pub message_of : List ℕ → Identifier → List MessageItem → List MessageDesc → MessageDesc
 message_of full name is inner_messages = roll-MessageDesc (record {
@@ -67,7 +76,7 @@ message_of full name is inner_messages = roll-MessageDesc (record {
   fields = all_fields full is;
   nested = inner_messages;
   enums = flat_map enum_of is;
-  oneofs = with_made (names_of_fields (all_fields full is)) (flat_map real_of is) (all_fields full is);
+  oneofs = all_oneofs full is;
   reserved_ranges = flat_map message_ranges_of is;
   reserved_names = flat_map message_names_of is;
   options = options_of element.Message (flat_map message_setting is);

@@ -23,8 +23,8 @@ fn lower_value<'s>(alloc: Global, value: &EnumValue<'s>) -> Result<ValueDesc<'s>
     })
 }
 
-fn values<'s>(alloc: Global, items: &[EnumItem<'s>]) -> Result<Vec<ValueDesc<'s>>, AllocError>
-    ensures { IfOk result (λ values. values.items ≡ flat_map value_of_item items.now) }
+fn values<'s>(alloc: Global, items: &[EnumItem<'s>]) -> Result<Row<ValueDesc<'s>>, AllocError>
+    ensures { IfOk result (λ values. values ≡ flat_map value_of_item items.now) }
 {
     let mut values = Vec::new(alloc);
     for item in items {
@@ -32,7 +32,7 @@ fn values<'s>(alloc: Global, items: &[EnumItem<'s>]) -> Result<Vec<ValueDesc<'s>
             values.push(lower_value(alloc, value)?)?;
         }
     }
-    Ok(values)
+    Ok(Row::from_vec(values))
 }
 
 /// The descriptor of an enum.
@@ -43,9 +43,9 @@ pub(crate) fn lower_enum<'s>(alloc: Global, declared: &Enum<'s>) -> Result<EnumD
     Ok(EnumDesc {
         name: Text::borrowed(declared.name.text),
         place: declared.name.span.start,
-        values: Row::from_vec(values(alloc, items)?),
+        values: values(alloc, items)?,
         options: enum_options(alloc, items)?,
-        reserved_ranges: Row::from_vec(enum_ranges(alloc, items)?),
-        reserved_names: Row::from_vec(enum_names(alloc, items)?),
+        reserved_ranges: enum_ranges(alloc, items)?,
+        reserved_names: enum_names(alloc, items)?,
     })
 }

@@ -6,6 +6,7 @@ ghost use Rattle.proto_lower.specs.Fields.{described, label_of, is_optional, fie
 use crate::names::entry_name;
 use crate::options::{bracketed_options, field_json_name};
 use crate::type_name::field_kind;
+use proto_base::row::Row;
 use proto_base::text::Text;
 use proto_desc::field::{FieldDesc, FieldKind, FieldLabel};
 use proto_desc::rules::Element;
@@ -149,9 +150,9 @@ pub(crate) fn fields<'s>(
     full: &str,
     items: &[MessageItem<'s>],
     real: usize,
-) -> Result<Vec<FieldDesc<'s>>, AllocError>
+) -> Result<Row<FieldDesc<'s>>, AllocError>
     requires { real ≤ length items.now }
-    ensures { IfOk result (λ fields. fields.items ≡ fields_from full.now 0 real items.now) }
+    ensures { IfOk result (λ fields. fields ≡ fields_from full.now 0 real items.now) }
 {
     let mut out = Vec::new(alloc);
     let mut next_real = 0;
@@ -172,5 +173,5 @@ pub(crate) fn fields<'s>(
             _ => {}
         }
     }
-    Ok(out)
+    Ok(Row::from_vec(out))
 }

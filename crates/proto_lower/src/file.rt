@@ -70,8 +70,8 @@ fn lower_import<'s>(alloc: Global, import: &Import<'s>) -> Result<ImportDesc<'s>
 fn imports<'s>(
     alloc: Global,
     statements: &[Statement<'s>],
-) -> Result<Vec<ImportDesc<'s>>, AllocError>
-    ensures { IfOk result (λ imports. imports.items ≡ flat_map import_of statements.now) }
+) -> Result<Row<ImportDesc<'s>>, AllocError>
+    ensures { IfOk result (λ imports. imports ≡ flat_map import_of statements.now) }
 {
     let mut imports = Vec::new(alloc);
     for statement in statements {
@@ -79,15 +79,16 @@ fn imports<'s>(
             imports.push(lower_import(alloc, import)?)?;
         }
     }
-    Ok(imports)
+    Ok(Row::from_vec(imports))
 }
 
+/// The messages, in this scope.
 fn messages<'s>(
     alloc: Global,
     scope: &str,
     statements: &[Statement<'s>],
-) -> Result<Vec<MessageDesc<'s>>, AllocError>
-    ensures { IfOk result (λ messages. messages.items ≡ flat_map (file_message scope.now) statements.now) }
+) -> Result<Row<MessageDesc<'s>>, AllocError>
+    ensures { IfOk result (λ messages. messages ≡ flat_map (file_message scope.now) statements.now) }
 {
     let mut messages = Vec::new(alloc);
     for statement in statements {
@@ -95,11 +96,23 @@ fn messages<'s>(
             messages.push(lower_message(alloc, scope, message)?)?;
         }
     }
-    Ok(messages)
+    Ok(Row::from_vec(messages))
 }
 
-fn enums<'s>(alloc: Global, statements: &[Statement<'s>]) -> Result<Vec<EnumDesc<'s>>, AllocError>
-    ensures { IfOk result (λ enums. enums.items ≡ flat_map file_enum statements.now) }
+/// The messages, in the scope of the file's package.
+fn packaged_messages<'s>(
+    alloc: Global,
+    declared: &Option<PackageDesc>,
+    statements: &[Statement<'s>],
+) -> Result<Row<MessageDesc<'s>>, AllocError>
+    ensures { IfOk result (λ messages. messages ≡ flat_map (file_message (package_scope declared.now)) statements.now) }
+{
+    let scope = package_scope(alloc, declared)?;
+    messages(alloc, scope.as_str(), statements)
+}
+
+fn enums<'s>(alloc: Global, statements: &[Statement<'s>]) -> Result<Row<EnumDesc<'s>>, AllocError>
+    ensures { IfOk result (λ enums. enums ≡ flat_map file_enum statements.now) }
 {
     let mut enums = Vec::new(alloc);
     for statement in statements {
@@ -107,14 +120,14 @@ fn enums<'s>(alloc: Global, statements: &[Statement<'s>]) -> Result<Vec<EnumDesc
             enums.push(lower_enum(alloc, declared)?)?;
         }
     }
-    Ok(enums)
+    Ok(Row::from_vec(enums))
 }
 
 fn services<'s>(
     alloc: Global,
     statements: &[Statement<'s>],
-) -> Result<Vec<ServiceDesc<'s>>, AllocError>
-    ensures { IfOk result (λ services. services.items ≡ flat_map file_service statements.now) }
+) -> Result<Row<ServiceDesc<'s>>, AllocError>
+    ensures { IfOk result (λ services. services ≡ flat_map file_service statements.now) }
 {
     let mut services = Vec::new(alloc);
     for statement in statements {
@@ -122,7 +135,35 @@ fn services<'s>(
             services.push(lower_service(alloc, service)?)?;
         }
     }
-    Ok(services)
+    Ok(Row::from_vec(services))
+}
+
+/// What the statements at the top of a file declare.
+#[derive(Drop)]
+struct Declared<'s> {
+    messages: Row<MessageDesc<'s>>,
+    enums: Row<EnumDesc<'s>>,
+    services: Row<ServiceDesc<'s>>,
+}
+
+/// What these statements declare, in the scope of the file's package.
+fn declarations<'s>(
+    alloc: Global,
+    package: &Option<PackageDesc>,
+    statements: &[Statement<'s>],
+) -> Result<Declared<'s>, AllocError>
+    ensures messages { IfOk result (λ declared. declared.messages ≡ flat_map (file_message (package_scope «package».now)) statements.now) }
+    ensures enums { IfOk result (λ declared. declared.enums ≡ flat_map file_enum statements.now) }
+    ensures services { IfOk result (λ declared. declared.services ≡ flat_map file_service statements.now) }
+{
+    let services = services(alloc, statements)?;
+    let enums = enums(alloc, statements)?;
+    let messages = packaged_messages(alloc, package, statements)?;
+    Ok(Declared {
+        messages,
+        enums,
+        services,
+    })
 }
 
 /// The descriptor of the file with this name: what its tree describes, whatever rules it breaks. It refuses nothing but for want of memory.
@@ -135,14 +176,16 @@ pub fn lower<'s>(
 {
     let statements = file.statements.as_slice();
     let package = lower_package(alloc, statements)?;
-    let scope = package_scope(alloc, &package)?;
+    let imports = imports(alloc, statements)?;
+    let options = file_options(alloc, statements)?;
+    let declared = declarations(alloc, &package, statements)?;
     Ok(FileDesc {
         name: Text::borrowed(name),
         package,
-        imports: Row::from_vec(imports(alloc, statements)?),
-        messages: Row::from_vec(messages(alloc, scope.as_str(), statements)?),
-        enums: Row::from_vec(enums(alloc, statements)?),
-        services: Row::from_vec(services(alloc, statements)?),
-        options: file_options(alloc, statements)?,
+        imports,
+        messages: declared.messages,
+        enums: declared.enums,
+        services: declared.services,
+        options,
     })
 }

@@ -1,14 +1,14 @@
 //! Messages and the entries that map fields make (language guide, "Nested Types", "Maps").
 
 ghost use Rattle.std.specs.Prelude.{◌≡◌, IfOk, flat_map};
-ghost use Rattle.proto_lower.specs.Messages.{entry_field, entry_of, enum_of, message_of, lowered_message};
+ghost use Rattle.proto_lower.specs.Messages.{entry_field, entry_fields, entry_of, enum_of, all_fields, all_oneofs, message_of, nested_of, lowered_message};
 
 use crate::enumeration::lower_enum;
 use crate::field::{fields, inner_name, real_count};
 use crate::names::entry_name;
-use crate::oneof::{put_made, real_oneofs};
+use crate::oneof::oneofs;
 use crate::options::message_options;
-use crate::reserved::{message_names, message_ranges};
+use crate::reserved::message_reserved;
 use crate::type_name::{field_kind, scalar_of_key};
 use proto_base::Place;
 use proto_base::row::Row;
@@ -16,6 +16,7 @@ use proto_base::text::Text;
 use proto_desc::enumeration::EnumDesc;
 use proto_desc::field::{FieldDesc, FieldKind, FieldLabel};
 use proto_desc::message::MessageDesc;
+use proto_desc::oneof::OneofDesc;
 use proto_tree::{MapField, Message, MessageItem, Name};
 use std::alloc::{AllocError, Global};
 
@@ -41,21 +42,30 @@ fn entry_field<'s>(
     }
 }
 
+/// The fields `key` and `value` of the entry of a map field.
+fn entry_fields<'s>(alloc: Global, map: &MapField<'s>) -> Result<Row<FieldDesc<'s>>, AllocError>
+    ensures { IfOk result (λ fields. fields ≡ entry_fields map.now) }
+{
+    let place = map.declarator.name.span.start;
+    let key = FieldKind::Scalar(scalar_of_key(map.map_type.key));
+    let value = field_kind(alloc, &map.map_type.value)?;
+    let fields = vec![in alloc;
+        entry_field(alloc, "key", place, 1, key),
+        entry_field(alloc, "value", place, 2, value),
+    ]?;
+    Ok(Row::from_vec(fields))
+}
+
 /// The entry of a map field.
 fn map_entry<'s>(alloc: Global, map: &MapField<'s>) -> Result<MessageDesc<'s>, AllocError>
     ensures { IfOk result (λ entry. entry ≡ entry_of map.now) }
 {
     let field = &map.declarator.name;
-    let place = field.span.start;
-    let key = FieldKind::Scalar(scalar_of_key(map.map_type.key));
-    let value = field_kind(alloc, &map.map_type.value)?;
-    let mut fields = Vec::new(alloc);
-    fields.push(entry_field(alloc, "key", place, 1, key))?;
-    fields.push(entry_field(alloc, "value", place, 2, value))?;
+    let name = entry_name(alloc, field.text)?;
     Ok(MessageDesc {
-        name: Text::owned(entry_name(alloc, field.text)?),
-        place,
-        fields: Row::from_vec(fields),
+        name: Text::owned(name),
+        place: field.span.start,
+        fields: entry_fields(alloc, map)?,
         nested: Row::new(alloc),
         enums: Row::new(alloc),
         oneofs: Row::new(alloc),
@@ -66,8 +76,8 @@ fn map_entry<'s>(alloc: Global, map: &MapField<'s>) -> Result<MessageDesc<'s>, A
     })
 }
 
-fn enums<'s>(alloc: Global, items: &[MessageItem<'s>]) -> Result<Vec<EnumDesc<'s>>, AllocError>
-    ensures { IfOk result (λ enums. enums.items ≡ flat_map enum_of items.now) }
+fn enums<'s>(alloc: Global, items: &[MessageItem<'s>]) -> Result<Row<EnumDesc<'s>>, AllocError>
+    ensures { IfOk result (λ enums. enums ≡ flat_map enum_of items.now) }
 {
     let mut enums = Vec::new(alloc);
     for item in items {
@@ -75,7 +85,28 @@ fn enums<'s>(alloc: Global, items: &[MessageItem<'s>]) -> Result<Vec<EnumDesc<'s
             enums.push(lower_enum(alloc, declared)?)?;
         }
     }
-    Ok(enums)
+    Ok(Row::from_vec(enums))
+}
+
+/// The fields of a message, and its oneofs: those of the source and those that its fields make.
+#[derive(Drop)]
+struct Members<'s> {
+    fields: Row<FieldDesc<'s>>,
+    oneofs: Row<OneofDesc<'s>>,
+}
+
+/// The members of the message with this full name and these statements.
+fn members_of<'s>(
+    alloc: Global,
+    full: &str,
+    items: &[MessageItem<'s>],
+) -> Result<Members<'s>, AllocError>
+    ensures fields { IfOk result (λ members. members.fields ≡ all_fields full.now items.now) }
+    ensures oneofs { IfOk result (λ members. members.oneofs ≡ all_oneofs full.now items.now) }
+{
+    let fields = fields(alloc, full, items, real_count(items))?;
+    let oneofs = oneofs(alloc, items, fields.as_slice())?;
+    Ok(Members { fields, oneofs })
 }
 
 /// The message of this full name, name and statements, with the descriptors of its nested messages.
@@ -84,28 +115,55 @@ fn message_of<'s>(
     full: &str,
     name: &Name<'s>,
     items: &[MessageItem<'s>],
-    nested: Vec<MessageDesc<'s>>,
+    nested: Row<MessageDesc<'s>>,
 ) -> Result<MessageDesc<'s>, AllocError>
-    ensures { IfOk result (λ message. message ≡ message_of full.now name.now items.now nested.entry.items) }
+    ensures { IfOk result (λ message. message ≡ message_of full.now name.now items.now nested.entry) }
 {
-    let fields = fields(alloc, full, items, real_count(items))?;
-    let mut oneofs = real_oneofs(alloc, items)?;
-    put_made(alloc, &mut oneofs, fields.as_slice())?;
+    let reserved = message_reserved(alloc, items)?;
+    let options = message_options(alloc, items)?;
+    let enums = enums(alloc, items)?;
+    let members = members_of(alloc, full, items)?;
     Ok(MessageDesc {
         name: Text::borrowed(name.text),
         place: name.span.start,
-        fields: Row::from_vec(fields),
-        nested: Row::from_vec(nested),
-        enums: Row::from_vec(enums(alloc, items)?),
-        oneofs: Row::from_vec(oneofs),
-        reserved_ranges: Row::from_vec(message_ranges(alloc, items)?),
-        reserved_names: Row::from_vec(message_names(alloc, items)?),
-        options: message_options(alloc, items)?,
+        fields: members.fields,
+        nested,
+        enums,
+        oneofs: members.oneofs,
+        reserved_ranges: reserved.ranges,
+        reserved_names: reserved.names,
+        options,
         is_map_entry: false,
     })
 }
 
+/// The messages that these statements of the message with this full name declare, and the entries of its map fields.
+#[cycle(messages)]
+fn nested_messages<'s>(
+    alloc: Global,
+    full: &str,
+    items: &[MessageItem<'s>],
+) -> Result<Row<MessageDesc<'s>>, AllocError>
+    ensures { IfOk result (λ nested. nested ≡ flat_map (nested_of full.now) items.now) }
+{
+    let mut nested = Vec::new(alloc);
+    for item in items {
+        match item {
+            MessageItem::Map(map) => nested.push(map_entry(alloc, map)?)?,
+            MessageItem::Message(inner) => nested.push(lower_message(alloc, full, inner)?)?,
+            MessageItem::Field(_) => {}
+            MessageItem::Oneof(_) => {}
+            MessageItem::Option(_) => {}
+            MessageItem::Enum(_) => {}
+            MessageItem::Reserved(_) => {}
+            MessageItem::Empty(_) => {}
+        }
+    }
+    Ok(Row::from_vec(nested))
+}
+
 /// The descriptor of a message in the scope: the full name, behind a leading dot, of what is around it.
+#[cycle(messages)]
 pub(crate) fn lower_message<'s>(
     alloc: Global,
     scope: &str,
@@ -115,20 +173,6 @@ pub(crate) fn lower_message<'s>(
 {
     let items = message.items.as_slice();
     let full = inner_name(alloc, scope, message.name.text)?;
-    let mut nested = Vec::new(alloc);
-    for item in items {
-        match item {
-            MessageItem::Map(map) => nested.push(map_entry(alloc, map)?)?,
-            MessageItem::Message(inner) => {
-                nested.push(lower_message(alloc, full.as_str(), inner)?)?;
-            }
-            MessageItem::Field(_) => {}
-            MessageItem::Oneof(_) => {}
-            MessageItem::Option(_) => {}
-            MessageItem::Enum(_) => {}
-            MessageItem::Reserved(_) => {}
-            MessageItem::Empty(_) => {}
-        }
-    }
+    let nested = nested_messages(alloc, full.as_str(), items)?;
     message_of(alloc, full.as_str(), &message.name, items, nested)
 }

@@ -6,6 +6,7 @@ ghost use Rattle.proto_lower.specs.Names.{IsSetOf};
 ghost use Rattle.proto_lower.specs.Oneofs.{real_named, real_of, names_of_fields, names_of_oneofs, made_named, with_made};
 
 use crate::names::{first_free, take_name, with_underscore};
+use proto_base::row::Row;
 use proto_base::text::Text;
 use proto_desc::field::FieldDesc;
 use proto_desc::oneof::OneofDesc;
@@ -23,7 +24,7 @@ fn real<'s>(name: &Name<'s>) -> OneofDesc<'s>
 }
 
 /// The oneofs of the source.
-pub(crate) fn real_oneofs<'s>(
+fn real_oneofs<'s>(
     alloc: Global,
     items: &[MessageItem<'s>],
 ) -> Result<Vec<OneofDesc<'s>>, AllocError>
@@ -79,7 +80,7 @@ fn has_optional(fields: &[FieldDesc]) -> bool
 }
 
 /// Adds the oneofs that fields make. Only where a field makes one does it gather the names.
-pub(crate) fn put_made<'s>(
+fn put_made<'s>(
     alloc: Global,
     oneofs: &mut Vec<OneofDesc<'s>>,
     fields: &[FieldDesc<'s>],
@@ -98,4 +99,17 @@ pub(crate) fn put_made<'s>(
         }
     }
     Ok(())
+}
+
+/// The oneofs of a message with these fields: those of the source, and behind them those that its fields make.
+pub(crate) fn oneofs<'s>(
+    alloc: Global,
+    items: &[MessageItem<'s>],
+    fields: &[FieldDesc<'s>],
+) -> Result<Row<OneofDesc<'s>>, AllocError>
+    ensures { IfOk result (λ oneofs. oneofs ≡ with_made (names_of_fields fields.now) (flat_map real_of items.now) fields.now) }
+{
+    let mut oneofs = real_oneofs(alloc, items)?;
+    put_made(alloc, &mut oneofs, fields)?;
+    Ok(Row::from_vec(oneofs))
 }

@@ -3,6 +3,7 @@
 ghost use Rattle.std.specs.Prelude.{◌≡◌, ◌++◌, IfOk, OnOk, flat_map};
 ghost use Rattle.proto_lower.specs.Reserveds.{message_range, enum_range, number_of_literal, ranges_in, enum_ranges_in, names_in, message_ranges_of, message_names_of, enum_ranges_of, enum_names_of};
 
+use proto_base::row::Row;
 use proto_base::text::Text;
 use proto_desc::enumeration::EnumReservedRange;
 use proto_desc::message::ReservedRange;
@@ -101,11 +102,8 @@ fn put_names<'s, N>(
 }
 
 /// The reserved ranges of a message.
-pub(crate) fn message_ranges(
-    alloc: Global,
-    items: &[MessageItem],
-) -> Result<Vec<ReservedRange>, AllocError>
-    ensures { IfOk result (λ ranges. ranges.items ≡ flat_map message_ranges_of items.now) }
+fn message_ranges(alloc: Global, items: &[MessageItem]) -> Result<Row<ReservedRange>, AllocError>
+    ensures { IfOk result (λ ranges. ranges ≡ flat_map message_ranges_of items.now) }
 {
     let mut ranges = Vec::new(alloc);
     for item in items {
@@ -113,15 +111,12 @@ pub(crate) fn message_ranges(
             put_ranges(&mut ranges, &reserved.items)?;
         }
     }
-    Ok(ranges)
+    Ok(Row::from_vec(ranges))
 }
 
 /// The reserved names of a message.
-pub(crate) fn message_names<'s>(
-    alloc: Global,
-    items: &[MessageItem<'s>],
-) -> Result<Vec<Text<'s>>, AllocError>
-    ensures { IfOk result (λ names. names.items ≡ flat_map message_names_of items.now) }
+fn message_names<'s>(alloc: Global, items: &[MessageItem<'s>]) -> Result<Row<Text<'s>>, AllocError>
+    ensures { IfOk result (λ names. names ≡ flat_map message_names_of items.now) }
 {
     let mut names = Vec::new(alloc);
     for item in items {
@@ -129,15 +124,35 @@ pub(crate) fn message_names<'s>(
             put_names(alloc, &mut names, &reserved.items)?;
         }
     }
-    Ok(names)
+    Ok(Row::from_vec(names))
+}
+
+/// What a message reserves.
+#[derive(Drop)]
+pub(crate) struct Reserved<'s> {
+    pub(crate) ranges: Row<ReservedRange>,
+    pub(crate) names: Row<Text<'s>>,
+}
+
+/// What the statements of a message reserve.
+pub(crate) fn message_reserved<'s>(
+    alloc: Global,
+    items: &[MessageItem<'s>],
+) -> Result<Reserved<'s>, AllocError>
+    ensures ranges { IfOk result (λ reserved. reserved.ranges ≡ flat_map message_ranges_of items.now) }
+    ensures names { IfOk result (λ reserved. reserved.names ≡ flat_map message_names_of items.now) }
+{
+    let ranges = message_ranges(alloc, items)?;
+    let names = message_names(alloc, items)?;
+    Ok(Reserved { ranges, names })
 }
 
 /// The reserved ranges of an enum.
 pub(crate) fn enum_ranges(
     alloc: Global,
     items: &[EnumItem],
-) -> Result<Vec<EnumReservedRange>, AllocError>
-    ensures { IfOk result (λ ranges. ranges.items ≡ flat_map enum_ranges_of items.now) }
+) -> Result<Row<EnumReservedRange>, AllocError>
+    ensures { IfOk result (λ ranges. ranges ≡ flat_map enum_ranges_of items.now) }
 {
     let mut ranges = Vec::new(alloc);
     for item in items {
@@ -145,15 +160,15 @@ pub(crate) fn enum_ranges(
             put_enum_ranges(&mut ranges, &reserved.items)?;
         }
     }
-    Ok(ranges)
+    Ok(Row::from_vec(ranges))
 }
 
 /// The reserved names of an enum.
 pub(crate) fn enum_names<'s>(
     alloc: Global,
     items: &[EnumItem<'s>],
-) -> Result<Vec<Text<'s>>, AllocError>
-    ensures { IfOk result (λ names. names.items ≡ flat_map enum_names_of items.now) }
+) -> Result<Row<Text<'s>>, AllocError>
+    ensures { IfOk result (λ names. names ≡ flat_map enum_names_of items.now) }
 {
     let mut names = Vec::new(alloc);
     for item in items {
@@ -161,5 +176,5 @@ pub(crate) fn enum_names<'s>(
             put_names(alloc, &mut names, &reserved.items)?;
         }
     }
-    Ok(names)
+    Ok(Row::from_vec(names))
 }

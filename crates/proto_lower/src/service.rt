@@ -34,8 +34,8 @@ fn lower_method<'s>(alloc: Global, rpc: &Rpc<'s>) -> Result<MethodDesc<'s>, Allo
     })
 }
 
-fn methods<'s>(alloc: Global, items: &[ServiceItem<'s>]) -> Result<Vec<MethodDesc<'s>>, AllocError>
-    ensures { IfOk result (λ methods. methods.items ≡ flat_map method_of items.now) }
+fn methods<'s>(alloc: Global, items: &[ServiceItem<'s>]) -> Result<Row<MethodDesc<'s>>, AllocError>
+    ensures { IfOk result (λ methods. methods ≡ flat_map method_of items.now) }
 {
     let mut methods = Vec::new(alloc);
     for item in items {
@@ -43,7 +43,7 @@ fn methods<'s>(alloc: Global, items: &[ServiceItem<'s>]) -> Result<Vec<MethodDes
             methods.push(lower_method(alloc, rpc)?)?;
         }
     }
-    Ok(methods)
+    Ok(Row::from_vec(methods))
 }
 
 /// The descriptor of a service.
@@ -57,7 +57,7 @@ pub(crate) fn lower_service<'s>(
     Ok(ServiceDesc {
         name: Text::borrowed(service.name.text),
         place: service.name.span.start,
-        methods: Row::from_vec(methods(alloc, items)?),
+        methods: methods(alloc, items)?,
         options: service_options(alloc, items)?,
     })
 }

@@ -1,6 +1,6 @@
 //! The index of the names of files.
 
-ghost use Rattle.std.specs.Prelude.{◌≡◌, ◌≢◌, ◌↔◌, ℕ, ◌<◌, List, map, Err, IfOk, MatchOption, None, Some, Contains, string_bytes, length, IsSorted};
+ghost use Rattle.std.specs.Prelude.{◌≡◌, ◌≢◌, ◌↔◌, ℕ, ◌<◌, List, map, Err, IfOk, IfSome, MatchOption, None, Some, Contains, string_bytes, length, IsSorted};
 ghost use Rattle.std.specs.Cmp.Lexicographic.{slice_cmp};
 ghost use Rattle.std.specs.Ordering.{nat_cmp};
 ghost use Rattle.proto_desc.specs.DeclaredNames.{scoped};
@@ -131,6 +131,7 @@ impl NameIndex {
     pub fn find(&self, name: &str) -> Option<Defined>
         ensures none { result ≡ None → (o : Occurrence) → Contains self.now.occurrences o → o.name ≡ name.now → IsPackage o }
         ensures found { (d : Defined) → result ≡ Some d → (o : Occurrence) × Contains self.now.occurrences o × (o.name ≡ name.now) × (o.kind ≡ Some d.kind) × (o.file ≡ d.file) }
+        ensures within { IfSome result (λ d. d.file < self.now.files) }
     {
         for entry in self.entries.named("", name) {
             if let Some(kind) = entry.kind {
@@ -150,6 +151,7 @@ impl NameIndex {
 
     /// The full names of all services, in byte order.
     pub fn services(&self) -> &[String]
+        ensures listed { map string_bytes result.now ≡ self.now.services }
         ensures services { map string_bytes result.now ≡ services_of self.now.occurrences }
         ensures order { IsSorted (slice_cmp nat_cmp) (map string_bytes result.now) }
     {

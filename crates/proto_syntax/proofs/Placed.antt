@@ -1,5 +1,5 @@
 -- A fault of the grammar stands where a token begins, or where the text ends.
-use Rattle.std.proofs.Common.{◌≡◌, sym, subst, ℕ, zero, suc, ◌<◌, ◌≤◌, List, [], ◌∷◌, length, get_or, arith, Ok, Err, Result}
+use Rattle.std.proofs.Common.{sym, subst, ℕ, zero, suc, ◌<◌, ◌≤◌, List, [], ◌∷◌, length, get_or, arith, Ok, Err, Result}
 use Rattle.std.specs.Prelude.{IfErr, MatchResult, slice_get}
 use Rattle.std.specs.Option.{option_map, unwrap_or}
 use Rattle.proto_base.specs.declared.place.Place.{Place}

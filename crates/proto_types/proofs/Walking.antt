@@ -1,5 +1,5 @@
 -- Walks over references, put together.
-use Rattle.std.proofs.Common.{◌≡◌, ◌∙◌, sym, List, [], ◌∷◌, ◌++◌, append_assoc, ap, refl, subst}
+use Rattle.std.proofs.Common.{◌≡◌, ◌∙◌, sym, List, [], ◌∷◌, ◌++◌, ap, refl, subst}
 use Rattle.std.proofs.lemmas.List.{append-nil}
 use Rattle.std.proofs.lemmas.List.Concat.{flat_map-append}
 use Rattle.std.proofs.lemmas.List.Elements.{AllZip-push}
@@ -46,12 +46,3 @@ pub walked_more : {X Y : Type 0} (S : Y → Spot → Type 0) (f : X → List Y) 
 walked_more S f R xs ys x y p q r h k w =
     subst (λ zs. IsWalked (Each zs S) (AllZip R (xs ++ x ∷ []) (ys ++ y ∷ [])) r) (sym (flat_push f xs x))
     (walked_both S (flat_map f xs) (f x) (AllZip R xs ys) (R x y) (AllZip R (xs ++ x ∷ []) (ys ++ y ∷ [])) p q r (λ old new. AllZip-push R xs ys x y old new) h k w)
-
--- behind references that are walked over
-pub behind_more : {X Y : Type 0} (S : Y → Spot → Type 0) (f : X → List Y) (R : X → X → Type 0) (before : List Y) (P : Type 0) (xs ys : List X) (x y : X) (p q r : Option Spot) → IsWalked (Each (before ++ flat_map f xs) S) (P × AllZip R xs ys) p → IsWalked (Each (f x) S) (R x y) q → IsLesser p q r → IsWalked (Each (before ++ flat_map f (xs ++ x ∷ [])) S) (P × AllZip R (xs ++ x ∷ []) (ys ++ y ∷ [])) r
-behind_more S f R before P xs ys x y p q r h k w =
-    subst (λ zs. IsWalked (Each zs S) (P × AllZip R (xs ++ x ∷ []) (ys ++ y ∷ [])) r) (append_assoc before (flat_map f xs) (f x) ∙ ap (λ zs. before ++ zs) (sym (flat_push f xs x)))
-    (walked_both S (before ++ flat_map f xs) (f x) (P × AllZip R xs ys) (R x y) (P × AllZip R (xs ++ x ∷ []) (ys ++ y ∷ [])) p q r (λ old new. (old.0, AllZip-push R xs ys x y old.1 new)) h k w)
-
-pub behind_none : {Y : Type 0} (S : Y → Spot → Type 0) (before : List Y) (P Q : Type 0) (p : Option Spot) → Q → IsWalked (Each before S) P p → IsWalked (Each (before ++ []) S) (P × Q) p
-behind_none S before P Q p made h = subst (λ zs. IsWalked (Each zs S) (P × Q) p) (sym (append-nil before)) (record { least = h.least; made = λ e. (h.made e, made) })

@@ -244,6 +244,7 @@ impl<'i> Typist<'i> {
     }
 
     /// A message in a scope, with all within it.
+    #[cycle(messages)]
     fn message<'s>(
         &self,
         scope: &str,
@@ -259,23 +260,18 @@ impl<'i> Typist<'i> {
             inner.as_str()
         };
         let fields = self.fields(searched, message.fields)?;
-        let mut done = Vec::with_capacity(self.alloc, message.nested.len())?;
-        let mut fault = fields.fault;
-        for nested in message.nested.into_vec() {
-            let walked = self.message(inner.as_str(), nested)?;
-            done.push(walked.item)?;
-            fault = lesser(fault, walked.fault);
-        }
+        let nested = self.messages(inner.as_str(), message.nested)?;
         Ok(Walked {
             item: MessageDesc {
                 fields: fields.item,
-                nested: Row::from_vec(done),
+                nested: nested.item,
                 ..message
             },
-            fault,
+            fault: lesser(fields.fault, nested.fault),
         })
     }
 
+    #[cycle(messages)]
     fn messages<'s>(
         &self,
         scope: &str,

@@ -1,5 +1,5 @@
 -- Facts on the row of one worker, and on the rows of some workers.
-use Rattle.std.proofs.Common.{◌≡◌, ℕ, zero, suc, ◌+◌, ◌-◌, ◌*◌, ◌/◌, ◌%◌, ◌<◌, ◌≤◌, ◌⊎◌, min, List, [], ◌∷◌, ◌++◌, length, take, drop, slice_get, Some, None, Result, Ok, Err, IfOk, OnOk, length-append, refl, sym, ap, ◌∙◌, subst, arith, inl, inr, rules}
+use Rattle.std.proofs.Common.{◌≡◌, ℕ, zero, suc, ◌+◌, ◌-◌, ◌*◌, ◌/◌, ◌%◌, ◌<◌, ◌≤◌, ◌⊎◌, min, List, [], ◌∷◌, ◌++◌, length, take, drop, slice_get, Some, None, Result, Ok, Err, IfOk, IsOkAnd, OnOk, length-append, refl, sym, ap, ◌∙◌, subst, arith, inl, inr, rules}
 use Rattle.std.specs.List.{slice_range}
 use Rattle.std.proofs.lemmas.List.{take_min, length-drop, length-take-le}
 use Rattle.std.proofs.lemmas.Option.{slice_get_within}
@@ -76,11 +76,6 @@ module _ {T O V R : Type 0} (gives : ℕ → T → O → Type 0) (outs_of : V �
           subst P same (b.each h.0 r h.2)
     ];
   }
-
--- what is known of the value of an `Ok` may be replaced by what follows from it
-pub IfOk-then : {X E : Type 0} (r : Result X E) (P Q : X → Type 0) → IfOk r P → ((x : X) → P x → Q x) → IfOk r Q
-IfOk-then (Ok x) P Q h f = f x h
-IfOk-then (Err e) P Q h f = h
 
 module _ {T O V : Type 0} (gives : ℕ → T → O → Type 0) (outs_of : V → List O) (workers cut : ℕ) (items : List T) where
   -- a row without its first piece
@@ -298,6 +293,25 @@ module _ {T O V R : Type 0} (gives : ℕ → T → O → Type 0) (outs_of : V �
         let same : w ≡ w + 0 = omega arith in
         subst Q y (subst W same h)
     one (suc j) b e = let bad : None ≡ Some b = e in absurd (search rules)
+
+-- where what stands on two results went well, both did
+pub OnOk-first : {A B C E : Type 0} (r : Result C E) (a : Result A E) (b : Result B E) (R : A → B → C → Type 0) (P : Type 0) → IfOk r (λ z. IsOkAnd a (λ x. IsOkAnd b (λ y. R x y z))) → OnOk a P → OnOk r P
+OnOk-first (Ok z) (Ok x) b R P h p = p
+OnOk-first (Ok z) (Err e) b R P h p = absurd h
+OnOk-first (Err e) a b R P h p = tt
+
+pub OnOk-second : {A B C E : Type 0} (r : Result C E) (a : Result A E) (b : Result B E) (R : A → B → C → Type 0) (P : Type 0) → IfOk r (λ z. IsOkAnd a (λ x. IsOkAnd b (λ y. R x y z))) → OnOk b P → OnOk r P
+OnOk-second (Ok z) (Ok x) (Ok y) R P h p = p
+OnOk-second (Ok z) (Ok x) (Err e) R P h p = absurd h
+OnOk-second (Ok z) (Err e) b R P h p = absurd h
+OnOk-second (Err e) a b R P h p = tt
+
+pub IfOk-both : {A B C E : Type 0} (r : Result C E) (a : Result A E) (b : Result B E) (R : A → B → C → Type 0) (P : A → Type 0) (Q : B → Type 0) (Z : C → Type 0) → IfOk r (λ z. IsOkAnd a (λ x. IsOkAnd b (λ y. R x y z))) → IfOk a P → IfOk b Q
+    → ((x : A) (y : B) (z : C) → R x y z → P x → Q y → Z z) → IfOk r Z
+IfOk-both (Ok z) (Ok x) (Ok y) R P Q Z h p q f = f x y z h p q
+IfOk-both (Ok z) (Ok x) (Err e) R P Q Z h p q f = absurd h
+IfOk-both (Ok z) (Err e) b R P Q Z h p q f = absurd h
+IfOk-both (Err e) a b R P Q Z h p q f = tt
 
 pub OnOk-both : {X E : Type 0} (r : Result X E) (P Q Z : Type 0) → OnOk r P → OnOk r Q → (P → Q → Z) → OnOk r Z
 OnOk-both (Ok x) P Q Z p q f = f p q

@@ -1,14 +1,7 @@
-//! Sources, and what the layers say of them.
+//! Worked examples: what is told of sources, of files and of lists of files.
 
 mod base;
-mod descriptors;
-mod links;
-mod lowering;
+mod files;
+mod lists;
 mod made_names;
-mod name_index;
-mod resolution;
-mod rules;
-mod shown;
-mod sources;
 mod tokens;
-mod trees;

@@ -1,4 +1,4 @@
-//! Tests of bytes: varints and fields, descriptors, requests and frames.
+//! Tests of bytes: varints and fields, requests and frames.
 #![tactic(auto)]
 
 #[cfg(test)]

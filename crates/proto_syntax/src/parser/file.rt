@@ -66,28 +66,22 @@ impl<'s, 't> Parser<'s, 't> {
         ensures { Reads statement_tree (statement (message depth)) result self.old.rest.now self.new.rest.now }
     {
         if self.at_keyword("import") {
-            let import = self.import()?;
-            return Ok(Statement::Import(import));
+            return self.import().map(Statement::Import);
         }
         if self.at_keyword("package") {
-            let package = self.package()?;
-            return Ok(Statement::Package(package));
+            return self.package().map(Statement::Package);
         }
         if self.at_keyword("option") {
-            let option = self.option()?;
-            return Ok(Statement::Option(option));
+            return self.option().map(Statement::Option);
         }
         if self.at_keyword("message") {
-            let message = self.message(depth)?;
-            return Ok(Statement::Message(message));
+            return self.message(depth).map(Statement::Message);
         }
         if self.at_keyword("enum") {
-            let enumeration = self.enumeration()?;
-            return Ok(Statement::Enum(enumeration));
+            return self.enumeration().map(Statement::Enum);
         }
         if self.at_keyword("service") {
-            let service = self.service()?;
-            return Ok(Statement::Service(service));
+            return self.service().map(Statement::Service);
         }
         let span = self.symbol(';')?;
         Ok(Statement::Empty(span))

@@ -51,24 +51,19 @@ impl<'s, 't> Parser<'s, 't> {
         ensures { Reads message_item_tree (message_item (message depth)) result self.old.rest.now self.new.rest.now }
     {
         if self.at_keyword("message") {
-            let message = self.message(depth)?;
-            return Ok(MessageItem::Message(message));
+            return self.message(depth).map(MessageItem::Message);
         }
         if self.at_keyword("enum") {
-            let enumeration = self.enumeration()?;
-            return Ok(MessageItem::Enum(enumeration));
+            return self.enumeration().map(MessageItem::Enum);
         }
         if self.at_keyword("option") {
-            let option = self.option()?;
-            return Ok(MessageItem::Option(option));
+            return self.option().map(MessageItem::Option);
         }
         if self.at_keyword("oneof") {
-            let oneof = self.oneof()?;
-            return Ok(MessageItem::Oneof(oneof));
+            return self.oneof().map(MessageItem::Oneof);
         }
         if self.at_keyword("reserved") {
-            let reserved = self.reserved()?;
-            return Ok(MessageItem::Reserved(reserved));
+            return self.reserved().map(MessageItem::Reserved);
         }
         if self.at_keyword("map") {
             return self.map_or_field();

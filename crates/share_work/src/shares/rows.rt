@@ -1,6 +1,6 @@
 //! Each worker's row of pieces.
 
-ghost use Rattle.std.specs.Prelude.{◌⊎◌, ◌≡◌, ℕ, ◌+◌, ◌*◌, ◌++◌, ◌<◌, ◌≤◌, All, length, IfOk, OnOk};
+ghost use Rattle.std.specs.Prelude.{◌⊎◌, ◌≡◌, ℕ, ◌+◌, ◌*◌, ◌++◌, ◌<◌, ◌≤◌, All, length, IfOk, IsOkAnd, OnOk};
 ghost use Rattle.std.specs.Thread.{IsSync, IsSend};
 ghost use Rattle.share_work.specs.Shares.{SeatsGain, SeatsHave, AddsInRow, KeepsNumbers, TakesAll};
 ghost use Rattle.share_work.specs.WorkerRows.{GivesRow, GivesRows};
@@ -143,17 +143,18 @@ where
             × IfOk result (λ rows. GivesRows (W.gives job.entry.now.work.now) (λ v. v.items) (λ r. r.items) job.entry.now.plan.workers job.entry.now.plan.cut job.entry.now.items.now up (length high.entry.now) rows.items) }
     { rows_from(rt, job, up, high) };
     let (first, second) = join_mut(rt, &mut front, &mut back);
-    joined_rows(first?, second?)
+    joined_rows(first, second)
 }
 
+/// The rows of both halves, unless memory ran out in one of them.
 fn joined_rows<O: Drop>(
-    low: VecDeque<Row<O>>,
-    high: VecDeque<Row<O>>,
+    low: Result<VecDeque<Row<O>>, AllocError>,
+    high: Result<VecDeque<Row<O>>, AllocError>,
 ) -> Result<VecDeque<Row<O>>, AllocError>
-    ensures { IfOk result (λ rows. rows.items ≡ low.items ++ high.items) }
+    ensures { IfOk result (λ rows. IsOkAnd low (λ low. IsOkAnd high (λ high. rows.items ≡ low.items ++ high.items))) }
 {
-    let mut low = low;
-    let mut high = high;
+    let mut low = low?;
+    let mut high = high?;
     low.append(&mut high)?;
     Ok(low)
 }

@@ -175,79 +175,85 @@ impl Files for Fake<'_> {
     }
 }
 
-/// Files of one name.
-fn files(name: &'static [u8], entries: u32) -> Folder {
-    Folder {
-        name,
-        entries,
-        hidden: None,
-        is_file: true,
-        broken: None,
+/// A name by a word for it: some are no UTF-8.
+fn name_of(word: &str) -> Option<&'static [u8]> {
+    match word {
+        "a" => Some(b"a"),
+        "a.txt" => Some(b"a.txt"),
+        "a.proto" => Some(b"a.proto"),
+        "bad" => Some(b"\xff"),
+        "bad.proto" => Some(b"\xff.proto"),
+        _ => None,
     }
 }
 
-/// An entry that the system doesn't describe.
-fn hidden(name: &'static [u8], error: Error) -> Folder {
-    let mut folder = files(name, 1);
-    folder.hidden = Some(error);
-    folder
+/// An error by its word: `system_memory` is where the system has no memory for itself.
+fn error_of(word: &str) -> Option<Error> {
+    match word {
+        "missing" => Some(Error::from(ErrorKind::NotFound)),
+        "behind_a_file" => Some(Error::from(ErrorKind::NotADirectory)),
+        "link_to_itself" => Some(Error::from(ErrorKind::FilesystemLoop)),
+        "denied" => Some(Error::from(ErrorKind::PermissionDenied)),
+        "system_memory" => Some(Error::from_raw_os_error(12)),
+        "no_memory" => Some(Error::from(AllocError)),
+        _ => None,
+    }
 }
 
-/// A source that can't be read to its end.
-fn broken(error: Error) -> Folder {
-    let mut folder = files(b"a.proto", 1);
-    folder.broken = Some(error);
-    folder
+/// A folder by the kind of its entries, their name, their count and an error, and what is read of it: `files`, an entry
+/// that the system does not describe (`hidden`), a source that cannot be read to its end (`broken`), or a `device`.
+fn row_of(line: &str) -> Option<(Folder, &str)> {
+    let mut fields = line.split('|');
+    let kind = fields.next()?;
+    let name = name_of(fields.next()?)?;
+    let entries = fields.next()?.parse().ok()?;
+    let error = error_of(fields.next()?);
+    let wanted = fields.next()?;
+    let folder = Folder {
+        name,
+        entries,
+        hidden: if kind == "hidden" { error } else { None },
+        is_file: kind != "device",
+        broken: if kind == "broken" { error } else { None },
+    };
+    Some((folder, wanted))
 }
 
-/// A device or a pipe.
-fn device(name: &'static [u8]) -> Folder {
-    let mut folder = files(name, 1);
-    folder.is_file = false;
-    folder
-}
+/// A folder that changes while it is listed may give an entry twice.
+static ROWS: &str = "\
+files|a.proto|1|none|a.proto=ab;\n\
+files|a|1|none|\n\
+files|a.proto|2|none|Listing\n\
+files|a|2|none|\n\
+files|bad.proto|1|none|Listing\n\
+files|bad|1|none|Listing\n\
+files|a|1048576|none|\n\
+files|a|1048577|none|Listing\n\
+hidden|a|1|missing|\n\
+hidden|a|1|behind_a_file|\n\
+hidden|a|1|link_to_itself|\n\
+hidden|a|1|denied|Listing\n\
+hidden|a|1|system_memory|Listing\n\
+hidden|a|1|no_memory|NoMemory\n\
+hidden|a.proto|1|missing|Reading\n\
+hidden|a.proto|1|behind_a_file|Reading\n\
+hidden|a.proto|1|link_to_itself|Reading\n\
+hidden|a.proto|1|denied|Reading\n\
+hidden|a.proto|1|system_memory|Reading\n\
+hidden|a.proto|1|no_memory|NoMemory\n\
+broken|a.proto|1|denied|Reading\n\
+broken|a.proto|1|system_memory|Reading\n\
+broken|a.proto|1|no_memory|NoMemory\n\
+device|a.proto|1|none|Reading\n\
+device|a.txt|1|none|";
 
 /// A build that isn't optimized takes some minutes for the rows of 1,048,576 entries.
 #[test]
 fn feigned_folders_are_read(rt: HostRuntime) -> Result<(), Fail> {
-    let missing = Error::from(ErrorKind::NotFound);
-    let behind_a_file = Error::from(ErrorKind::NotADirectory);
-    let link_to_itself = Error::from(ErrorKind::FilesystemLoop);
-    let denied = Error::from(ErrorKind::PermissionDenied);
-    // The system has no memory for itself.
-    let system_memory = Error::from_raw_os_error(12);
-    let no_memory = Error::from(AllocError);
-    let rows = [
-        (files(b"a.proto", 1), "a.proto=ab;"),
-        (files(b"a", 1), ""),
-        // A folder that changes while it is listed may give an entry twice.
-        (files(b"a.proto", 2), "Listing"),
-        (files(b"a", 2), ""),
-        (files(b"\xff.proto", 1), "Listing"),
-        (files(b"\xff", 1), "Listing"),
-        (files(b"a", 1_048_576), ""),
-        (files(b"a", 1_048_577), "Listing"),
-        (hidden(b"a", missing), ""),
-        (hidden(b"a", behind_a_file), ""),
-        (hidden(b"a", link_to_itself), ""),
-        (hidden(b"a", denied), "Listing"),
-        (hidden(b"a", system_memory), "Listing"),
-        (hidden(b"a", no_memory), "NoMemory"),
-        (hidden(b"a.proto", missing), "Reading"),
-        (hidden(b"a.proto", behind_a_file), "Reading"),
-        (hidden(b"a.proto", link_to_itself), "Reading"),
-        (hidden(b"a.proto", denied), "Reading"),
-        (hidden(b"a.proto", system_memory), "Reading"),
-        (hidden(b"a.proto", no_memory), "NoMemory"),
-        (broken(denied), "Reading"),
-        (broken(system_memory), "Reading"),
-        (broken(no_memory), "NoMemory"),
-        (device(b"a.proto"), "Reading"),
-        (device(b"a.txt"), ""),
-    ];
-    for (folder, wanted) in rows {
+    for line in ROWS.lines() {
+        let (folder, wanted) = row_of(line).ok_or("a row")?;
         let shown = read(&Fake { rt: &rt, folder }, "root", &Limits::standard())?;
-        assert_eq!(rt; shown.as_str(), wanted);
+        assert!(rt; shown.as_str() == wanted, "{line}: {shown}");
     }
     Ok(())
 }

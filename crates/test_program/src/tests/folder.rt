@@ -33,121 +33,100 @@ pub(super) fn read<R: Files + AllocGlobal>(
     Ok(shown)
 }
 
-/// What is put into a folder, by its path.
+/// What is done to folders: a `folder`, a `file` of a text or a `link` to a path is made there, or a root is `read` with
+/// so many bytes of a file at most, which gives this text.
 #[derive(Clone, Copy)]
-enum Entry {
-    Folder(&'static str),
-    File(&'static str, &'static str),
-    /// A link, and what it leads to.
-    Link(&'static str, &'static str),
+struct Step<'t> {
+    action: &'t str,
+    path: &'t str,
+    most: u64,
+    text: &'t str,
 }
 
-fn make<R: Files + AllocGlobal>(rt: &R, entries: &[Entry]) -> Result<(), Fail> {
-    for entry in entries {
-        match *entry {
-            Entry::Folder(path) => fs::create_dir_all(rt, path)?,
-            Entry::File(path, text) => fs::write(rt, path, text)?,
-            Entry::Link(path, to) => symlink(rt, to, path)?,
-        }
+fn step_of(line: &str) -> Option<Step<'_>> {
+    let mut fields = line.split('|');
+    let action = fields.next()?;
+    let path = fields.next()?;
+    let most = fields.next()?.parse().ok()?;
+    let text = fields.next()?;
+    Some(Step {
+        action,
+        path,
+        most,
+        text,
+    })
+}
+
+/// Takes a step, and says whether what is read is what is wanted.
+fn is_taken<R: Files + AllocGlobal>(rt: &R, step: Step) -> Result<bool, Fail> {
+    match step.action {
+        "folder" => fs::create_dir_all(rt, step.path)?,
+        "file" => fs::write(rt, step.path, step.text)?,
+        "link" => symlink(rt, step.text, step.path)?,
+        _ => return is_read(rt, step),
     }
-    Ok(())
+    Ok(true)
 }
 
-/// What is added to the folders of the rows before, a root that is read, the most bytes of a file, and what is read.
-type Reading = (&'static [Entry], &'static str, u64, &'static str);
+fn is_read<R: Files + AllocGlobal>(rt: &R, step: Step) -> Result<bool, Fail> {
+    let standard = Limits::standard();
+    let limits = standard
+        .lowered(Limit::FileBytes, step.most)
+        .ok_or("a limit")?;
+    let shown = read(rt, step.path, &limits)?;
+    Ok(shown.as_str() == step.text)
+}
 
-const STANDARD: u64 = 4_194_304;
-
-const TREE: &str =
-    ".proto=no stem;a.proto=before a slash;a/b/x.proto=deep;a/y.proto=;folder.proto/in.proto=inside;z.proto=last;";
-
-static READINGS: [Reading; 11] = [
-    (
-        &[
-            Entry::Folder("test_folder/tree/a/b"),
-            Entry::Folder("test_folder/tree/empty"),
-            Entry::Folder("test_folder/tree/folder.proto"),
-            Entry::File("test_folder/tree/z.proto", "last"),
-            Entry::File("test_folder/tree/a.proto", "before a slash"),
-            Entry::File("test_folder/tree/a/y.proto", ""),
-            Entry::File("test_folder/tree/a/b/x.proto", "deep"),
-            Entry::File("test_folder/tree/a/b/x.protos", "none"),
-            Entry::File("test_folder/tree/a/proto", "none"),
-            Entry::File("test_folder/tree/.proto", "no stem"),
-            Entry::File("test_folder/tree/B.PROTO", "none"),
-            Entry::File("test_folder/tree/folder.proto/in.proto", "inside"),
-            Entry::File("test_folder/tree/readme.md", "none"),
-        ],
-        "test_folder/tree",
-        STANDARD,
-        TREE,
-    ),
-    (&[], "test_folder/tree/", STANDARD, TREE),
-    (&[], "./test_folder/tree", STANDARD, TREE),
-    (
-        &[
-            Entry::Folder("test_folder/long"),
-            Entry::File("test_folder/long/3.proto", "abc"),
-            Entry::File("test_folder/long/4.proto", "abcd"),
-            Entry::File("test_folder/long/5.proto", "abcde"),
-            Entry::File("test_folder/long/6.proto", "abcdef"),
-        ],
-        "test_folder/long",
-        4,
-        "3.proto=abc;4.proto=abcd;5.proto=abcde;6.proto=abcde;",
-    ),
-    // A root is a folder that is there.
-    (&[], "", STANDARD, "Listing"),
-    (&[], "test_folder/none", STANDARD, "Listing"),
-    (&[], "test_folder/long/3.proto", STANDARD, "Listing"),
-    (
-        &[
-            Entry::Folder("test_folder/root"),
-            Entry::File("test_folder/root/a.proto", "a"),
-        ],
-        "test_folder/root",
-        STANDARD,
-        "a.proto=a;",
-    ),
-    // Links are followed.
-    (
-        &[
-            Entry::Folder("test_folder/links/in/to"),
-            Entry::File("test_folder/links/out", "text"),
-            Entry::File("test_folder/links/in/to/b.proto", "b"),
-            Entry::Link("test_folder/links/in/a.proto", "../out"),
-            Entry::Link("test_folder/links/in/folder", "to"),
-            Entry::Link("test_folder/links/in/lost", "nowhere"),
-            Entry::Link("test_folder/links/in/itself", "itself"),
-        ],
-        "test_folder/links/in",
-        STANDARD,
-        "a.proto=text;folder/b.proto=b;to/b.proto=b;",
-    ),
-    (
-        &[Entry::Link("test_folder/links/in/lost.proto", "nowhere")],
-        "test_folder/links/in",
-        STANDARD,
-        "Reading",
-    ),
-    // A cycle comes to its end, and what can't be listed comes before what can't be read.
-    (
-        &[Entry::Link("test_folder/links/in/to/up", "..")],
-        "test_folder/links/in",
-        STANDARD,
-        "Listing",
-    ),
-];
+/// A root is a folder that is there. Links are followed; a cycle of them comes to its end. What cannot be listed comes
+/// before what cannot be read.
+static STEPS: &str = "\
+folder|test_folder/tree/a/b|0|\n\
+folder|test_folder/tree/empty|0|\n\
+folder|test_folder/tree/folder.proto|0|\n\
+file|test_folder/tree/z.proto|0|last\n\
+file|test_folder/tree/a.proto|0|before a slash\n\
+file|test_folder/tree/a/y.proto|0|\n\
+file|test_folder/tree/a/b/x.proto|0|deep\n\
+file|test_folder/tree/a/b/x.protos|0|none\n\
+file|test_folder/tree/a/proto|0|none\n\
+file|test_folder/tree/.proto|0|no stem\n\
+file|test_folder/tree/B.PROTO|0|none\n\
+file|test_folder/tree/folder.proto/in.proto|0|inside\n\
+file|test_folder/tree/readme.md|0|none\n\
+read|test_folder/tree|4194304|.proto=no stem;a.proto=before a slash;a/b/x.proto=deep;a/y.proto=;folder.proto/in.proto=inside;z.proto=last;\n\
+read|test_folder/tree/|4194304|.proto=no stem;a.proto=before a slash;a/b/x.proto=deep;a/y.proto=;folder.proto/in.proto=inside;z.proto=last;\n\
+read|./test_folder/tree|4194304|.proto=no stem;a.proto=before a slash;a/b/x.proto=deep;a/y.proto=;folder.proto/in.proto=inside;z.proto=last;\n\
+folder|test_folder/long|0|\n\
+file|test_folder/long/3.proto|0|abc\n\
+file|test_folder/long/4.proto|0|abcd\n\
+file|test_folder/long/5.proto|0|abcde\n\
+file|test_folder/long/6.proto|0|abcdef\n\
+read|test_folder/long|4|3.proto=abc;4.proto=abcd;5.proto=abcde;6.proto=abcde;\n\
+read||4194304|Listing\n\
+read|test_folder/none|4194304|Listing\n\
+read|test_folder/long/3.proto|4194304|Listing\n\
+folder|test_folder/root|0|\n\
+file|test_folder/root/a.proto|0|a\n\
+read|test_folder/root|4194304|a.proto=a;\n\
+folder|test_folder/links/in/to|0|\n\
+file|test_folder/links/out|0|text\n\
+file|test_folder/links/in/to/b.proto|0|b\n\
+link|test_folder/links/in/a.proto|0|../out\n\
+link|test_folder/links/in/folder|0|to\n\
+link|test_folder/links/in/lost|0|nowhere\n\
+link|test_folder/links/in/itself|0|itself\n\
+read|test_folder/links/in|4194304|a.proto=text;folder/b.proto=b;to/b.proto=b;\n\
+link|test_folder/links/in/lost.proto|0|nowhere\n\
+read|test_folder/links/in|4194304|Reading\n\
+link|test_folder/links/in/to/up|0|..\n\
+read|test_folder/links/in|4194304|Listing";
 
 #[test]
 fn folders_are_read(rt: HostRuntime) -> Result<(), Fail> {
     let _ = fs::remove_dir_all(&rt, "test_folder");
-    for (entries, root, most, wanted) in READINGS {
-        make(&rt, entries)?;
-        let limits = Limits::standard()
-            .lowered(Limit::FileBytes, most)
-            .ok_or("a limit")?;
-        assert_eq!(rt; read(&rt, root, &limits)?.as_str(), wanted, "{root}");
+    for line in STEPS.lines() {
+        let step = step_of(line).ok_or("a step")?;
+        assert!(rt; is_taken(&rt, step)?, "{line}");
     }
     fs::remove_dir_all(&rt, "test_folder")?;
     Ok(())
@@ -173,7 +152,8 @@ fn a_folder_is_at_most_64_folders_deep(rt: HostRuntime) -> Result<(), Fail> {
     let shown = read(&rt, root, &Limits::standard())?;
     assert!(rt; shown.ends_with("d/d/f.proto=text;"));
     fs::create_dir_all(&rt, deep_path(&rt, root, 65)?.as_str())?;
-    assert_eq!(rt; read(&rt, root, &Limits::standard())?.as_str(), "Listing");
+    let shown = read(&rt, root, &Limits::standard())?;
+    assert!(rt; shown.as_str() == "Listing");
     fs::remove_dir_all(&rt, root)?;
     Ok(())
 }

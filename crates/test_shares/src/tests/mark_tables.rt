@@ -74,16 +74,17 @@ fn mark_both<R: Threads>(
 fn one_seat(rt: HostRuntime) -> Result<(), Fail> {
     let reach = Two;
     let (table, mut seat) = MarkTable::new(rt.alloc(), &reach)?;
-    let rows = [(0, 5, NONE), (0, 7, 5), (1, 3, 5), (0, 4, 5)];
-    for (root, number, found) in rows {
-        assert!(rt; root < 2 && number < NONE);
-        let answer = table.mark(&mut seat, root, number);
-        assert_eq!(rt; answer, found, "{root}, {number}");
-    }
+    let answers = [
+        table.mark(&mut seat, 0, 5),
+        table.mark(&mut seat, 0, 7),
+        table.mark(&mut seat, 1, 3),
+        table.mark(&mut seat, 0, 4),
+    ];
+    assert!(rt; answers == [NONE, 5, 5, 5]);
     let Ok(words) = table.close(seat) else {
         panic!(rt; "not closed")
     };
-    assert_eq!(rt; [words.get(0), words.get(1)], [4, 3]);
+    assert!(rt; words.get(0) == 4 && words.get(1) == 3);
     Ok(())
 }
 
@@ -92,7 +93,7 @@ fn two_threads(rt: HostRuntime) -> Result<(), Fail> {
     let reach = Two;
     let (table, mut seat) = MarkTable::new(rt.alloc(), &reach)?;
     let mut other = table.split(&mut seat, 1);
-    assert_eq!(rt; (seat.parts(), other.parts()), ((1 << 32) - 1, 1));
+    assert!(rt; seat.parts() == (1 << 32) - 1 && other.parts() == 1);
     mark_both(&rt, &table, &mut seat, &mut other);
     let Err((table, mut seat)) = table.close(seat) else {
         panic!(rt; "closed before the join")
@@ -101,7 +102,7 @@ fn two_threads(rt: HostRuntime) -> Result<(), Fail> {
     let Ok(words) = table.close(seat) else {
         panic!(rt; "not closed after the join")
     };
-    assert_eq!(rt; [words.get(0), words.get(1)], [3, 3]);
+    assert!(rt; words.get(0) == 3 && words.get(1) == 3);
     Ok(())
 }
 

@@ -12,13 +12,13 @@ use std::thread::Threads;
 /// How often a thread looks for the other before the test fails.
 const TURNS: u64 = 1_000_000_000;
 
-/// Gives each item, and keeps its place in the seat.
+/// Gives each item, and puts its place behind the digits of the seat, to the base 16.
 struct Places;
 
 impl Work<u32> for Places {
     type Out = u32;
 
-    type Seat = Vec<usize>;
+    type Seat = u64;
 
     ghost takes = { λ _ _ _. ⊤ };
 
@@ -35,12 +35,12 @@ impl Work<u32> for Places {
     fn piece(
         &self,
         alloc: Global,
-        seat: &mut Vec<usize>,
+        seat: &mut u64,
         first: usize,
         items: &[u32],
     ) -> Result<Vec<u32>, AllocError> {
         for offset in 0..items.len() {
-            seat.push(first.wrapping_add(offset))?;
+            *seat = (*seat << 4) | (first.wrapping_add(offset) as u64 & 15);
         }
         Vec::from_slice(alloc, items)
     }
@@ -74,17 +74,6 @@ impl Gate for Entries {
     }
 }
 
-/// As many empty seats as the plan has workers.
-fn seats_of(alloc: Global, plan: Plan) -> Result<Vec<Vec<usize>>, AllocError>
-    ensures { IfOk result (λ v. length v.items ≡ plan.workers) }
-{
-    let mut seats = Vec::new(alloc);
-    for _worker in 0..plan.workers() {
-        seats.push(Vec::new(alloc))?;
-    }
-    Ok(seats)
-}
-
 /// Shares out that many items in phase 4, compares the outs with them, and gives each worker's places.
 fn shared<R: Threads + AllocGlobal + Abort + Sync>(
     rt: &R,
@@ -92,13 +81,13 @@ fn shared<R: Threads + AllocGlobal + Abort + Sync>(
     cut: u32,
     count: u32,
     gate: &Entries,
-) -> Result<Vec<Vec<usize>>, Fail> {
+) -> Result<Vec<u64>, Fail> {
     let plan = Plan::new(workers, cut).ok_or("a plan")?;
     let mut items: Vec<u32> = Vec::new(rt.alloc());
     for i in 0..count {
         items.push(i.wrapping_mul(7))?;
     }
-    let mut seats = seats_of(rt.alloc(), plan)?;
+    let mut seats = Vec::from_elem(rt.alloc(), 1, plan.workers() as usize)?;
     let outs = in_shares(
         rt,
         plan,
@@ -112,39 +101,42 @@ fn shared<R: Threads + AllocGlobal + Abort + Sync>(
     Ok(seats)
 }
 
+/// Workers, a cut and a count of items, and the pieces that these are.
+static PIECES: [(u32, u32, u32, u64); 7] = [
+    (1, 1, 1_000, 1_000),
+    (2, 1, 1_000, 1_000),
+    (3, 7, 1_000, 143),
+    (64, 16, 1_000, 63),
+    (64, 4_096, 1_000, 1),
+    (5, 1_000, 1_000, 1),
+    (3, 2, 0, 0),
+];
+
 /// The outs come in the order of the items, and each piece enters the gate once.
 #[test]
 fn outs_in_order(rt: HostRuntime) -> Result<(), Fail> {
-    let rows = [
-        (1, 1, 1_000, 1_000),
-        (2, 1, 1_000, 1_000),
-        (3, 7, 1_000, 143),
-        (64, 16, 1_000, 63),
-        (64, 4_096, 1_000, 1),
-        (5, 1_000, 1_000, 1),
-        (3, 2, 0, 0),
-    ];
-    for (workers, cut, count, pieces) in rows {
+    for (workers, cut, count, pieces) in &PIECES {
         let gate = Entries::new();
-        shared(&rt, workers, cut, count, &gate)?;
+        shared(&rt, *workers, *cut, *count, &gate)?;
         let entered = gate.count.load(Ordering::SeqCst);
-        assert_eq!(rt;
-            entered,
-            pieces,
-            "{workers} workers, cut {cut}, {count} items"
+        assert!(rt;
+            entered == *pieces,
+            "{workers} workers, cut {cut}, {count} items: {entered}"
         );
     }
-    // Eleven items in pieces of two, for three workers: pieces 0 and 3, 1 and 4, 2 and 5.
+    Ok(())
+}
+
+/// Eleven items in pieces of two, for three workers: pieces 0 and 3, 1 and 4, 2 and 5.
+#[test]
+fn items_of_workers(rt: HostRuntime) -> Result<(), Fail> {
     let gate = Entries::new();
     let seats = shared(&rt, 3, 2, 11, &gate)?;
-    let rows: [&[usize]; 3] = [&[0, 1, 6, 7], &[2, 3, 8, 9], &[4, 5, 10]];
-    assert_eq!(rt; seats.len(), rows.len());
-    for (seat, places) in seats.iter().zip(rows) {
-        assert_eq!(rt; seat.as_slice(), places);
-    }
-    assert_eq!(rt; gate.count.load(Ordering::SeqCst), 6);
-    assert_eq!(rt; gate.pieces.load(Ordering::SeqCst), 0b11_1111);
-    assert_eq!(rt; gate.phases.load(Ordering::SeqCst), 4);
+    assert!(rt; seats.as_slice() == [0x1_0167, 0x1_2389, 0x145A].as_slice());
+    let entered = gate.count.load(Ordering::SeqCst);
+    let pieces = gate.pieces.load(Ordering::SeqCst);
+    let phases = gate.phases.load(Ordering::SeqCst);
+    assert!(rt; entered == 6 && pieces == 0b11_1111 && phases == 4);
     Ok(())
 }
 
@@ -191,7 +183,7 @@ impl Gate for Meeting {
 impl Work<u32> for Meeting {
     type Out = u32;
 
-    type Seat = Vec<usize>;
+    type Seat = u64;
 
     ghost takes = { λ _ _ _. ⊤ };
 
@@ -208,7 +200,7 @@ impl Work<u32> for Meeting {
     fn piece(
         &self,
         alloc: Global,
-        _seat: &mut Vec<usize>,
+        _seat: &mut u64,
         first: usize,
         items: &[u32],
     ) -> Result<Vec<u32>, AllocError> {
@@ -224,7 +216,7 @@ impl Work<u32> for Meeting {
 fn workers_meet(rt: HostRuntime) -> Result<(), Fail> {
     for at_gate in [false, true] {
         let plan = Plan::new(2, 1).ok_or("a plan")?;
-        let mut seats = seats_of(rt.alloc(), plan)?;
+        let mut seats = Vec::from_elem(rt.alloc(), 1, plan.workers() as usize)?;
         let meeting = Meeting::new(at_gate);
         let outs = in_shares(
             &rt,
@@ -235,12 +227,9 @@ fn workers_meet(rt: HostRuntime) -> Result<(), Fail> {
             &meeting,
             seats.as_mut_slice(),
         )?;
-        assert_eq!(rt; outs.as_slice(), [5, 6].as_slice());
-        assert_eq!(rt;
-            meeting.missed.load(Ordering::SeqCst),
-            0,
-            "at the gate: {at_gate}"
-        );
+        let missed = meeting.missed.load(Ordering::SeqCst);
+        let is_met = outs.as_slice() == [5, 6].as_slice() && missed == 0;
+        assert!(rt; is_met, "at the gate: {at_gate}");
     }
     Ok(())
 }
@@ -302,10 +291,14 @@ fn join_seats(table: &LeastTable, seats: Vec<LeastSeat>) -> Option<LeastSeat>
     Some(seat)
 }
 
+/// The number that is refused, and the least of the others.
+static REFUSED: [(u64, u64); 3] = [(3, 5), (9, 3), (100, 3)];
+
 /// After a refusal the lent seats, joined, close their table.
 #[test]
 fn seats_after_a_refusal(rt: HostRuntime) -> Result<(), Fail> {
-    for (refused, least) in [(3, 5), (9, 3), (100, 3)] {
+    for (refused, least) in &REFUSED {
+        let (refused, least) = (*refused, *least);
         let plan = Plan::new(2, 1).ok_or("a plan")?;
         let (table, mut seat) = LeastTable::new(rt.alloc(), 1)?;
         let mut seats = Vec::new(rt.alloc());
@@ -326,12 +319,12 @@ fn seats_after_a_refusal(rt: HostRuntime) -> Result<(), Fail> {
             &work,
             seats.as_mut_slice(),
         );
-        assert_eq!(rt; outs.is_err(), refused < 100, "{refused}");
+        assert!(rt; outs.is_err() == (refused < 100), "{refused}");
         let seat = join_seats(shared, seats).ok_or("a seat")?;
         let Ok(words) = table.close(seat) else {
             panic!(rt; "{refused}: not closed")
         };
-        assert_eq!(rt; words.get(0), least, "{refused}");
+        assert!(rt; words.get(0) == least, "{refused}");
     }
     Ok(())
 }

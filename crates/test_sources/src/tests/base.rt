@@ -3,6 +3,7 @@
 use proto_base::row::Row;
 use proto_base::text::Text;
 use proto_base::{Fault, Kind, Limit, Limits, Place, line_column};
+use std::alloc::{AllocError, Global};
 use std::borrow::CowStr;
 use std::test::Fail;
 
@@ -69,38 +70,41 @@ static FAULTS: [(u8, &str, u8, u32, Kind); 11] = [
 
 #[test]
 fn places_and_kinds(rt: HostRuntime) -> Result<(), Fail> {
-    for (text, offset, wanted) in &PLACES {
-        let place = Place { offset: *offset };
-        assert!(rt;
-            *offset as usize <= text.len() && *offset < 100,
-            "at {text:?}"
-        );
-        assert_eq!(rt; line_column(text, place), *wanted, "{offset} of {text:?}");
+    for (row, (text, offset, wanted)) in PLACES.iter().enumerate() {
+        if *offset as usize > text.len() || *offset >= 100 {
+            return Err("a place outside its text".into());
+        }
+        let found = line_column(text, Place { offset: *offset });
+        assert!(rt; found == *wanted, "place {row}");
     }
     for (kind, number, name) in &KINDS {
-        assert_eq!(rt; kind.number(), *number, "{name}");
-        assert_eq!(rt; kind.name(), *name);
-        assert_eq!(rt; format!(in rt.alloc(); "{kind}")?.as_str(), *name);
+        let shown = format!(in rt.alloc(); "{kind}")?;
+        let is_named = kind.name() == *name && shown.as_str() == *name;
+        assert!(rt; is_named && kind.number() == *number, "{name}: {shown}");
     }
     Ok(())
 }
 
+/// Whether this is a limit's standard value, and it is lowered to nothing above it and not to 0.
+fn is_standard(limit: Limit, value: u64) -> bool {
+    let standard = Limits::standard();
+    let same = standard.lowered(limit, value);
+    let (Some(same), Some(least)) = (same, standard.lowered(limit, 1)) else {
+        return false;
+    };
+    let above = standard.lowered(limit, value.saturating_add(1));
+    standard.get(limit) == value
+        && same.get(limit) == value
+        && above.is_none()
+        && standard.lowered(limit, 0).is_none()
+        && least.get(limit) == 1
+        && least.lowered(limit, 2).is_none()
+}
+
 #[test]
 fn limits(rt: HostRuntime) -> Result<(), Fail> {
-    let standard = Limits::standard();
     for (limit, value) in &LIMITS {
-        let (limit, value) = (*limit, *value);
-        assert_eq!(rt; standard.get(limit), value, "{limit:?}");
-        let same = standard.lowered(limit, value).ok_or("a limit")?;
-        assert_eq!(rt; same.get(limit), value, "{limit:?}");
-        assert!(rt;
-            standard.lowered(limit, value.saturating_add(1)).is_none(),
-            "{limit:?}"
-        );
-        assert!(rt; standard.lowered(limit, 0).is_none(), "{limit:?}");
-        let lower = standard.lowered(limit, 1).ok_or("a limit")?;
-        assert_eq!(rt; lower.get(limit), 1, "{limit:?}");
-        assert!(rt; lower.lowered(limit, 2).is_none(), "{limit:?}");
+        assert!(rt; is_standard(*limit, *value), "{limit:?}");
     }
     Ok(())
 }
@@ -119,27 +123,34 @@ fn order_of_faults(rt: HostRuntime) -> Result<(), Fail> {
     }
     for (i, earlier) in faults.iter().enumerate() {
         for (j, later) in faults.iter().enumerate() {
-            assert_eq!(rt; earlier.order(later), i.cmp(&j), "{i} and {j}");
+            assert!(rt; earlier.order(later) == i.cmp(&j), "{i} and {j}");
         }
     }
     Ok(())
 }
 
+/// Whether a copy of a text is `ab`, and is borrowed as the text is.
+fn is_copied(alloc: Global, text: &Text, borrows: bool) -> Result<bool, AllocError> {
+    let copy = text.try_clone(alloc)?;
+    let is_same = copy.as_str() == "ab";
+    Ok(is_same && matches!(&copy.into_cow(), CowStr::Borrowed(_)) == borrows)
+}
+
 #[test]
-fn rows_and_texts(rt: HostRuntime) -> Result<(), Fail> {
-    let none: Row<u8> = Row::new(rt.alloc());
-    assert!(rt; none.is_empty());
-    let row = Row::from_vec([1, 2, 3].to_vec(rt.alloc())?);
-    assert_eq!(rt; row.len(), 3);
-    assert!(rt; !row.is_empty());
-    assert_eq!(rt; row.as_slice(), [1, 2, 3].as_slice());
-    assert_eq!(rt; row.iter().position(|item| *item == 2), Some(1));
-    assert_eq!(rt; row.into_vec().as_slice(), [1, 2, 3].as_slice());
+fn texts(rt: HostRuntime) -> Result<(), Fail> {
+    assert!(rt; is_copied(rt.alloc(), &Text::borrowed("ab"), true)?);
     let owned = Text::owned(String::from_str(rt.alloc(), "ab")?);
-    for (text, borrows) in [(Text::borrowed("ab"), true), (owned, false)] {
-        let copy = text.try_clone(rt.alloc())?;
-        assert_eq!(rt; copy.as_str(), "ab");
-        assert_eq!(rt; matches!(&copy.into_cow(), CowStr::Borrowed(_)), borrows);
-    }
+    assert!(rt; is_copied(rt.alloc(), &owned, false)?);
+    Ok(())
+}
+
+#[test]
+fn rows(rt: HostRuntime) -> Result<(), Fail> {
+    let none: Row<u8> = Row::new(rt.alloc());
+    let row = Row::from_vec([1, 2, 3].to_vec(rt.alloc())?);
+    let place = row.iter().position(|item| *item == 2);
+    assert!(rt; none.is_empty() && !row.is_empty() && row.len() == 3 && place == Some(1));
+    assert!(rt; row.as_slice() == [1, 2, 3].as_slice());
+    assert!(rt; row.into_vec().as_slice() == [1, 2, 3].as_slice());
     Ok(())
 }

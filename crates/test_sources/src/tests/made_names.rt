@@ -3,41 +3,36 @@
 use proto_lower::{entry_name, json_name, oneof_name};
 use std::test::Fail;
 
+/// Names of fields, and their JSON names.
+static JSON_NAMES: &str = "a_b=aB _a=A a_1b=a1b Ab_=Ab a__b=aB a_B=aB Ab=Ab __=";
+
+/// Names of map fields, and of their entries.
+static ENTRIES: &str = "my_map=MyMapEntry m=MEntry _m=MEntry M_1a=M1aEntry a_=AEntry";
+
+/// Names of fields, the names that are taken, and the names of their oneofs.
+static ONEOFS: [(&str, &[&str], &str); 5] = [
+    ("a", &["a"], "_a"),
+    ("a", &["a", "_a"], "X_a"),
+    ("a", &["_a", "XX_a", "X_a", "a"], "XXX_a"),
+    ("_a", &[], "_a"),
+    ("_a", &["_a", "X_a"], "XX_a"),
+];
+
 #[test]
 fn made_names(rt: HostRuntime) -> Result<(), Fail> {
-    let json_names = [
-        ("a_b", "aB"),
-        ("_a", "A"),
-        ("a_1b", "a1b"),
-        ("Ab_", "Ab"),
-        ("a__b", "aB"),
-        ("a_B", "aB"),
-        ("Ab", "Ab"),
-        ("__", ""),
-    ];
-    for (name, json) in json_names {
-        assert_eq!(rt; json_name(rt.alloc(), name)?.as_str(), json, "{name}");
+    for row in JSON_NAMES.split(' ') {
+        let (name, wanted) = row.split_once('=').ok_or("a row")?;
+        let made = json_name(rt.alloc(), name)?;
+        assert!(rt; made.as_str() == wanted, "{row}: {made}");
     }
-    let entries = [
-        ("my_map", "MyMapEntry"),
-        ("m", "MEntry"),
-        ("_m", "MEntry"),
-        ("M_1a", "M1aEntry"),
-        ("a_", "AEntry"),
-    ];
-    for (field, name) in entries {
-        assert_eq!(rt; entry_name(rt.alloc(), field)?.as_str(), name, "{field}");
+    for row in ENTRIES.split(' ') {
+        let (name, wanted) = row.split_once('=').ok_or("a row")?;
+        let made = entry_name(rt.alloc(), name)?;
+        assert!(rt; made.as_str() == wanted, "{row}: {made}");
     }
-    let oneofs: [(&str, &[&str], &str); 5] = [
-        ("a", &["a"], "_a"),
-        ("a", &["a", "_a"], "X_a"),
-        ("a", &["_a", "XX_a", "X_a", "a"], "XXX_a"),
-        ("_a", &[], "_a"),
-        ("_a", &["_a", "X_a"], "XX_a"),
-    ];
-    for (field, taken, name) in oneofs {
-        let made = oneof_name(rt.alloc(), field, taken)?;
-        assert_eq!(rt; made.as_str(), name, "{field}");
+    for (name, taken, wanted) in &ONEOFS {
+        let made = oneof_name(rt.alloc(), name, taken)?;
+        assert!(rt; made.as_str() == *wanted, "{name}: {made}");
     }
     Ok(())
 }

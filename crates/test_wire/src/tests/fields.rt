@@ -7,7 +7,7 @@ use wire_format::{
 };
 
 /// Numbers, and their varints.
-const VARINTS: [(u64, &[u8]); 9] = [
+static VARINTS: [(u64, &[u8]); 9] = [
     (0, b"\x00"),
     (1, b"\x01"),
     (127, b"\x7F"),
@@ -26,7 +26,7 @@ const VARINTS: [(u64, &[u8]); 9] = [
 ];
 
 /// Messages, and their fields in one line.
-const MESSAGES: [(&[u8], &str); 34] = [
+static MESSAGES: [(&[u8], &str); 34] = [
     (b"", ""),
     (b"\x08\x96\x01", "1=150;"),
     (b"\x12\x07testing", "2=[116, 101, 115, 116, 105, 110, 103];"),
@@ -77,32 +77,39 @@ const MESSAGES: [(&[u8], &str); 34] = [
     (b"\x08\x01\x0B", "malformed"),
 ];
 
+/// Fields by their numbers, and what they are written as.
+static FIELDS: [(u32, FieldValue<'static>, &[u8]); 3] = [
+    (1, FieldValue::Varint(150), b"\x08\x96\x01"),
+    (2, FieldValue::Delimited(b"testing"), b"\x12\x07testing"),
+    (16, FieldValue::Delimited(b""), b"\x82\x01\x00"),
+];
+
+/// What writing a number adds to a buffer that holds a byte.
 #[test]
-fn written(rt: HostRuntime) -> Result<(), Fail> {
-    for (value, bytes) in VARINTS {
+fn varints_written(rt: HostRuntime) -> Result<(), Fail> {
+    for (value, bytes) in &VARINTS {
         let mut out = vec![in rt.alloc(); 0xAA]?;
-        put_varint(&mut out, value)?;
-        assert_eq!(rt;
-            out.as_slice().split_first(),
-            Some((&0xAA, bytes)),
+        put_varint(&mut out, *value)?;
+        let added = out.as_slice().strip_prefix(b"\xAA".as_slice());
+        assert!(rt;
+            added == Some(*bytes) && varint_len(*value) == bytes.len(),
             "{value}"
         );
-        assert_eq!(rt; varint_len(value), bytes.len(), "{value}");
     }
-    let fields: [(u32, FieldValue, &[u8]); 3] = [
-        (1, FieldValue::Varint(150), b"\x08\x96\x01"),
-        (2, FieldValue::Delimited(b"testing"), b"\x12\x07testing"),
-        (16, FieldValue::Delimited(b""), b"\x82\x01\x00"),
-    ];
-    for (number, value, bytes) in fields {
+    Ok(())
+}
+
+#[test]
+fn fields_written(rt: HostRuntime) -> Result<(), Fail> {
+    for (number, value, bytes) in &FIELDS {
         let mut out = vec![in rt.alloc(); 0xAA]?;
-        put_field(&mut out, number, &value)?;
-        assert_eq!(rt;
-            out.as_slice().split_first(),
-            Some((&0xAA, bytes)),
+        put_field(&mut out, *number, value)?;
+        let added = out.as_slice().strip_prefix(b"\xAA".as_slice());
+        let len = field_len(*number, value);
+        assert!(rt;
+            added == Some(*bytes) && len == bytes.len() as u64,
             "{number}"
         );
-        assert_eq!(rt; field_len(number, &value), bytes.len() as u64, "{number}");
     }
     Ok(())
 }
@@ -128,9 +135,9 @@ fn answer(alloc: Global, bytes: &[u8]) -> Result<String, Fail> {
 
 #[test]
 fn read(rt: HostRuntime) -> Result<(), Fail> {
-    for (bytes, want) in MESSAGES {
+    for (bytes, want) in &MESSAGES {
         let got = answer(rt.alloc(), bytes)?;
-        assert_eq!(rt; got.as_str(), want, "at {bytes:?}");
+        assert_eq!(rt; got.as_str(), *want, "at {bytes:?}");
     }
     Ok(())
 }

@@ -19,7 +19,7 @@ const THREE: &[u8] =
     b"\x00\x00\x00\x00\x09\x1A\x07a.proto\x00\x00\x00\x00\x00\x00\x00\x00\x00\x04\x0A\x02hi";
 
 /// Bodies under the standard limits, and the status and the messages of each.
-const BODIES: [(&[u8], &str); 17] = [
+static BODIES: [(&[u8], &str); 17] = [
     (b"", "0"),
     (
         b"\x00\x00\x00\x00\x09\x1A\x07a.proto\x00\x00\x00\x00\x09\x1A\x07b.proto\x00\x00\x00\x00\x09\x1A\x07a.proto",
@@ -61,7 +61,7 @@ const BODIES: [(&[u8], &str); 17] = [
 ];
 
 /// Bodies under one lower limit.
-const LIMITED: [(Limit, u64, &[u8], &str); 9] = [
+static LIMITED: [(Limit, u64, &[u8], &str); 9] = [
     (Limit::MessageBytes, 9, ONE, "0<\x1A\x07a.proto>"),
     (Limit::MessageBytes, 8, ONE, "8"),
     (Limit::MessageBytes, 8, CUT, "8"),
@@ -79,7 +79,7 @@ const LIMITED: [(Limit, u64, &[u8], &str); 9] = [
 ];
 
 /// How many zeros a body is: the number of its messages, all empty, and its status.
-const ZEROS: [(usize, usize, u8); 5] = [
+static ZEROS: [(usize, usize, u8); 5] = [
     (81_920, 16_384, 0),
     (81_921, 16_384, 8),
     (1_048_575, 16_384, 8),
@@ -118,13 +118,20 @@ fn expect(
 #[test]
 fn bodies(rt: HostRuntime) -> Result<(), Fail> {
     let standard = Limits::standard();
-    for (body, want) in BODIES {
+    for (body, want) in &BODIES {
         expect(&rt, rt.alloc(), body, &standard, want)?;
     }
-    for (limit, value, body, want) in LIMITED {
-        let limits = standard.lowered(limit, value).ok_or("a limit")?;
+    for (limit, value, body, want) in &LIMITED {
+        let limits = standard.lowered(*limit, *value).ok_or("a limit")?;
         expect(&rt, rt.alloc(), body, &limits, want)?;
     }
+    Ok(())
+}
+
+/// Each first byte, and a body cut after each of its bytes.
+#[test]
+fn cut_bodies(rt: HostRuntime) -> Result<(), Fail> {
+    let standard = Limits::standard();
     for flag in 0..=255_u8 {
         let want = if flag == 1 { "12" } else { "13" };
         expect(&rt, rt.alloc(), &[flag], &standard, want)?;
@@ -146,12 +153,11 @@ fn bodies(rt: HostRuntime) -> Result<(), Fail> {
 
 #[test]
 fn long_bodies(rt: HostRuntime) -> Result<(), Fail> {
-    for (len, count, status) in ZEROS {
-        let body = vec![in rt.alloc(); 0; len]?;
+    for (len, count, status) in &ZEROS {
+        let body = vec![in rt.alloc(); 0; *len]?;
         let frames = read_frames(rt.alloc(), &body, &Limits::standard())?;
-        assert_eq!(rt;
-            (frames.messages.len(), frames.status),
-            (count, status),
+        assert!(rt;
+            frames.messages.len() == *count && frames.status == *status,
             "{len}"
         );
     }

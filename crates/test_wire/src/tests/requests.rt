@@ -6,7 +6,7 @@ use std::test::Fail;
 use wire_format::WireError;
 
 /// Messages, and the host and the ask of each.
-const MESSAGES: [(&[u8], &str); 35] = [
+static MESSAGES: [(&[u8], &str); 35] = [
     (b"", r#""" Nothing"#),
     (b"\x0A\x01h", r#""h" Nothing"#),
     (b"\x1A\x07a.proto", r#""" FileByName("a.proto")"#),
@@ -77,9 +77,9 @@ fn answer(alloc: Global, message: &[u8]) -> Result<String, Fail> {
 
 #[test]
 fn requests(rt: HostRuntime) -> Result<(), Fail> {
-    for (message, want) in MESSAGES {
+    for (message, want) in &MESSAGES {
         let got = answer(rt.alloc(), message)?;
-        assert_eq!(rt; got.as_str(), want, "at {message:?}");
+        assert_eq!(rt; got.as_str(), *want, "at {message:?}");
     }
     Ok(())
 }

@@ -1,4 +1,4 @@
-use Rattle.std.proofs.Common.{◌∙◌, sym, ap, arith, subst}
+use Rattle.std.proofs.Common.{◌∙◌, ◌<◌, sym, ap, arith, subst}
 use Rattle.std.specs.Prelude.{Contains, Some}
 use Rattle.proto_names.specs.Entries.{occurrence}
 use Rattle.proto_names.specs.Index.{Index}
@@ -14,3 +14,10 @@ returns-in-Some-clause-found c d e =
 
 pub returns-clause-none : goal.returns-clause-none
 returns-clause-none c e o within name = all_packages c.named-entry-items.result.now c.loop-entry.entry-index (omega arith) c.loop-entry.invariant o (c.named-entry-items.ensures.all o (subst (λ (index : Index). Contains index.occurrences o) (sym c.self.view_is) within) name)
+
+pub returns-in-Some-clause-within : goal.returns-in-Some-clause-within
+returns-in-Some-clause-within c =
+    let entry = c.entry-item.result in
+    let w = c.named-entry-items.ensures.found (occurrence entry) (occurs c.named-entry-items.result.now entry (c.loop-entry.entry-index, omega arith, sym c.entry-item.is)) in
+    let inside = c.self.invariant.0.inside (occurrence entry) w.0 in
+    subst (λ (index : Index). entry.spot.file < index.files) c.self.view_is inside

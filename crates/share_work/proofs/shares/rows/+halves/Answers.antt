@@ -1,18 +1,36 @@
-use Rattle.std.proofs.Common.{rules, ◌≡◌, ◌+◌, length, refl, sym, ap, get_or, [], ◌∷◌, subst}
-use Rattle.std.proofs.lemmas.Result.{IfOk-at_ok}
-use Rattle.share_work.specs.Shares.{SeatsGain}
-use Rattle.share_work.proofs.PieceRows.{rows_joined, IfOk-then, one_member, one_gains, one_has, one_row, gains_joined, haves_joined, OnOk-both}
+use Rattle.std.proofs.Common.{rules, OnOk, ◌≡◌, ◌+◌, length, refl, sym, ap, get_or, [], ◌∷◌, ◌++◌, subst}
+use Rattle.share_work.specs.Shares.{SeatsGain, SeatsHave}
+use Rattle.share_work.specs.WorkerRows.{GivesRows}
+use Rattle.share_work.proofs.PieceRows.{rows_joined, OnOk-first, OnOk-second, IfOk-both, one_member, one_gains, one_has, one_row, gains_joined, haves_joined, OnOk-both}
 use Rattle.share_work.proofs.shares.rows.+halves.Goals as goal
+
+pub both_halves-returns-clause-have_low : goal.both_halves-returns-clause-have_low
+both_halves-returns-clause-have_low g t c =
+    let job = c.args.job.now in
+    let have : OnOk c.joined_rows.result (SeatsHave (g.W.Work.holds job.work.now) (g.W.Work.adds job.work.now) job.plan.workers job.plan.cut job.items.now c.args.from c.join_mut-first.new.f.3.now) =
+    OnOk-first c.joined_rows.result c.join_mut-first.result.0 c.join_mut-first.result.1 (λ low high rows. rows.items ≡ low.items ++ high.items) _ c.joined_rows.ensures c.join_mut-first.ensures.0.met.1.3 in
+    search (rules, have)
+
+pub both_halves-returns-clause-have_high : goal.both_halves-returns-clause-have_high
+both_halves-returns-clause-have_high g t c =
+    let job = c.args.job.now in
+    let have : OnOk c.joined_rows.result (SeatsHave (g.W.Work.holds job.work.now) (g.W.Work.adds job.work.now) job.plan.workers job.plan.cut job.items.now (c.args.from + length c.args.low.now) c.join_mut-first.new.g.3.now) =
+    OnOk-second c.joined_rows.result c.join_mut-first.result.0 c.join_mut-first.result.1 (λ low high rows. rows.items ≡ low.items ++ high.items) _ c.joined_rows.ensures c.join_mut-first.ensures.1.met.1.3 in
+    search (rules, have)
 
 pub both_halves-returns-clause-rows : goal.both_halves-returns-clause-rows
 both_halves-returns-clause-rows g t c =
     let gives = g.W.Work.gives c.args.job.now.work.now in
     let job = c.args.job.now in
-    let first = IfOk-at_ok _ c.in_ok-first.was c.join_mut-first.ensures.0.met.1.4 in
-    let second = IfOk-at_ok _ c.in_ok-second.was c.join_mut-first.ensures.1.met.1.4 in
-    let both = rows_joined gives (λ v. v.items) (λ r. r.items) job.plan.workers job.plan.cut job.items.now c.args.from (length c.args.low.now)
-    (c.args.from + length c.args.low.now) (length c.args.high.now) c.in_ok-first.field-0.items c.in_ok-second.field-0.items refl first second in
-    IfOk-then c.joined_rows.result _ _ c.joined_rows.ensures (λ rows is. rw is both)
+    let from = c.args.from in
+    let low = c.args.low.now in
+    let high = c.args.high.now in
+    IfOk-both c.joined_rows.result c.join_mut-first.result.0 c.join_mut-first.result.1 (λ low high rows. rows.items ≡ low.items ++ high.items)
+    (λ rows. GivesRows gives (λ v. v.items) (λ r. r.items) job.plan.workers job.plan.cut job.items.now from (length low) rows.items)
+    (λ rows. GivesRows gives (λ v. v.items) (λ r. r.items) job.plan.workers job.plan.cut job.items.now (from + length low) (length high) rows.items)
+    (λ rows. GivesRows gives (λ v. v.items) (λ r. r.items) job.plan.workers job.plan.cut job.items.now from (length low + length high) rows.items)
+    c.joined_rows.ensures c.join_mut-first.ensures.0.met.1.4 c.join_mut-first.ensures.1.met.1.4
+    (λ ls hs rs is first second. rw is (rows_joined gives (λ v. v.items) (λ r. r.items) job.plan.workers job.plan.cut job.items.now from (length low) (from + length low) (length high) ls.items hs.items refl first second))
 
 pub rows_from-returns-in_err-row_of-clause-gains : goal.rows_from-returns-in_err-row_of-clause-gains
 rows_from-returns-in_err-row_of-clause-gains g t c =

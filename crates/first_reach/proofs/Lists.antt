@@ -1,0 +1,106 @@
+-- Members of lists, tested by a Bool.
+use Rattle.std.proofs.Common.{◌≡◌, ℕ, zero, suc, ◌<◌, ◌⊎◌, inl, inr, ◌||◌, ◌&&◌, not, Bool, true, false, cond, Option, Some, None, List, [], ◌∷◌, filter, refl, sym, ap, ◌∙◌, arith, rules, eq-eqb, eqb-true, eqb, slice_get, length, ◌≤◌, All, subst}
+use Rattle.std.proofs.lemmas.Option.{slice_get_within, slice_get_cases, get_or_from_slice_get}
+use Rattle.std.specs.Prelude.{◌==◌}
+use Rattle.share_work.specs.Reach.{Reaches}
+use Rattle.share_work.proofs.Sums.{SomePass-any}
+use Rattle.std.specs.List.{list_any}
+use Rattle.first_reach.specs.Carried.{has, root_first, reached}
+
+pub or_left : (a b : Bool) → a ≡ true → (a || b) ≡ true
+or_left a b e = ap (λ x. x || b) e
+
+pub or_right : (a b : Bool) → b ≡ true → (a || b) ≡ true
+or_right true b e = refl
+or_right false b e = e
+
+pub or_cases : (a b : Bool) → (a || b) ≡ true → (a ≡ true) ⊎ (b ≡ true)
+or_cases true b e = inl refl
+or_cases false b e = inr e
+
+pub get_there : {X : Type 0} (xs : List X) (j : ℕ) → j < length xs → (x : X) × (slice_get xs j ≡ Some x)
+get_there [] j h = absurd (omega arith)
+get_there (x ∷ xs) zero h = (x, refl)
+get_there (x ∷ xs) (suc j) h = get_there xs j (omega arith)
+
+pub any_get : {X : Type 0} (p : X → Bool) (xs : List X) → list_any p xs ≡ true → (j : ℕ) × (x : X) × (slice_get xs j ≡ Some x) × (p x ≡ true)
+any_get p [] h = let bad : false ≡ true = h in cc
+any_get p (x ∷ xs) h = elim (or_cases (p x) (list_any p xs) h) [
+  | inl e ↦ (0, x, refl, e)
+  | inr k ↦ let r = any_get p xs k in (suc r.0, r.1, r.2, r.3)
+]
+
+pub get_any : {X : Type 0} (p : X → Bool) (xs : List X) (j : ℕ) (x : X) → slice_get xs j ≡ Some x → p x ≡ true → list_any p xs ≡ true
+get_any p [] j x e h = let bad : None ≡ Some x = e in absurd (search rules)
+get_any p (y ∷ xs) zero x e h = let same : y ≡ x = cc in or_left (p y) (list_any p xs) (ap p same ∙ h)
+get_any p (y ∷ xs) (suc j) x e h = or_right (p y) (list_any p xs) (get_any p xs j x e h)
+
+-- two tests that agree on the members keep the same
+pub filter_on : (p q : ℕ → Bool) (xs : List ℕ) → ((x : ℕ) → has x xs ≡ true → p x ≡ q x) → filter p xs ≡ filter q xs
+filter_on p q [] h = refl
+filter_on p q (x ∷ xs) h =
+    let here : p x ≡ q x = h x (ap (λ b. b || has x xs) (eq-eqb x x refl)) in
+    let rest : filter p xs ≡ filter q xs = filter_on p q xs (λ y e. h y (or_right (eqb x y) (has y xs) e)) in
+    λ i. cond (here i) (x ∷ rest i) (rest i)
+
+pub filter_filter : (p q : ℕ → Bool) (xs : List ℕ) → filter p (filter q xs) ≡ filter (λ x. q x && p x) xs
+filter_filter p q [] = refl
+filter_filter p q (x ∷ xs) = pick (q x) (filter q xs) ∙ (let ih = filter_filter p q xs in λ i. cond (q x && p x) (x ∷ ih i) (ih i)) where
+  pick : (b : Bool) (ys : List ℕ) → filter p (cond b (x ∷ ys) ys) ≡ cond (b && p x) (x ∷ filter p ys) (filter p ys)
+  pick true ys = refl
+  pick false ys = refl
+
+-- a test that no member passes keeps none
+pub filter_none : (p : ℕ → Bool) (xs : List ℕ) → ((x : ℕ) → has x xs ≡ true → p x ≡ false) → filter p xs ≡ []
+filter_none p xs h = filter_on p (λ _. false) xs h ∙ none xs where
+  none : (ys : List ℕ) → filter (λ _. false) ys ≡ []
+  none [] = refl
+  none (y ∷ ys) = none ys
+
+has_cond : (b : Bool) (x g : ℕ) (xs : List ℕ) → has g (cond b (x ∷ xs) xs) ≡ ((b && eqb x g) || has g xs)
+has_cond true x g xs = refl
+has_cond false x g xs = refl
+
+bools : (a b e h : Bool) → (e ≡ true → a ≡ b) → ((a && e) || (h && b)) ≡ ((e || h) && b)
+bools true true true true k = refl
+bools true true true false k = refl
+bools true true false h k = refl
+bools true false true h k = let bad : true ≡ false = k refl in cc
+bools true false false h k = refl
+bools false true true h k = let bad : false ≡ true = k refl in cc
+bools false true false h k = refl
+bools false false true true k = refl
+bools false false true false k = refl
+bools false false false h k = refl
+
+pub has_filter : (p : ℕ → Bool) (g : ℕ) (xs : List ℕ) → has g (filter p xs) ≡ (has g xs && p g)
+has_filter p g [] = refl
+has_filter p g (x ∷ xs) =
+    has_cond (p x) x g (filter p xs) ∙ ap (λ b. (p x && eqb x g) || b) (has_filter p g xs)
+    ∙ bools (p x) (p g) (eqb x g) (has g xs) (λ e. ap p (eqb-true x g e))
+
+-- root_first has the files that the root reaches
+pub has_root_first : (reach : ℕ → List ℕ) (root : Option ℕ) → ((r : ℕ) → root ≡ Some r → has r (reach r) ≡ true) → (g : ℕ)
+    → has g (root_first reach root) ≡ has g (reached reach root)
+has_root_first reach None own g = refl
+has_root_first reach (Some r) own g =
+    ap (λ b. eqb r g || b) (has_filter (λ h. not (eqb h r)) g (reach r)) ∙ pick (eqb r g) (eqb g r) (has g (reach r))
+    (λ e. ap (λ x. has x (reach r)) (sym (eqb-true r g e)) ∙ own r refl) (λ e. eq-eqb r g (sym (eqb-true g r e))) where
+      pick : (a b h : Bool) → (a ≡ true → h ≡ true) → (b ≡ true → a ≡ true) → (a || (h && not b)) ≡ h
+      pick true b h k l = sym (k refl)
+      pick false true h k l = let bad : false ≡ true = l refl in cc
+      pick false false true k l = refl
+      pick false false false k l = refl
+
+pub all_get : {X : Type 0} (P : X → Type 0) (xs : List X) (j : ℕ) (x : X) → All P xs → slice_get xs j ≡ Some x → P x
+all_get P xs j x h e = subst P (get_or_from_slice_get xs j x x e) (h j x (slice_get_within xs j x e))
+
+pub none_past : {X : Type 0} (xs : List X) (k : ℕ) → slice_get xs k ≡ None → length xs ≤ k
+none_past xs k e = elim (slice_get_cases xs k).1 [
+  | inl here ↦ let bad : Some here.0 ≡ None = sym here.2 ∙ e in cc
+  | inr past ↦ past.0
+]
+
+-- a file of the list is one that the root reaches
+pub reaches_at : (list : ℕ → List ℕ) (r k g : ℕ) → slice_get (list r) k ≡ Some g → Reaches list r g
+reaches_at list r k g at = (SomePass-any (λ h. h == g) (list r)).1 (get_any (λ h. h == g) (list r) k g at (eq-eqb g g refl))

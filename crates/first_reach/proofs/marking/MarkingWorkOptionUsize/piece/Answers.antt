@@ -1,0 +1,29 @@
+use Rattle.std.proofs.Common.{ℕ, ap, ◌∙◌, Option, Some, None}
+use Rattle.std.proofs.lemmas.Option.{slice_get-get_or}
+use Rattle.share_work.specs.Marks.{MarkSeatValue}
+use Rattle.first_reach.proofs.Marks.{marks_root, marks_none}
+use Rattle.first_reach.proofs.marking.MarkingWorkOptionUsize.piece.Goals as goal
+use Rattle.first_reach.proofs.marking.MarkingWorkOptionUsize.piece.Goals.{in-Some, in_default}
+
+pub loop-k-preserved : goal.loop-k-preserved
+loop-k-preserved g c =
+    let reach = g.F.Reach.list c.args.self.now.table.now.reach in
+    let items = c.args.items.now in let k : ℕ = c.loop-k.k in
+    let inv = c.loop-k.invariant in
+    let at = slice_get-get_or items k None c.loop-k-test.true in
+    elim c.match-root.branch [
+      | in-Some w ↦
+          let is = w.seat-is ∙ w.mark.ensures.calls.2 in (
+            ap (λ (s : MarkSeatValue). s.table) is ∙ inv.0,
+            ap (λ (s : MarkSeatValue). s.view.least.parts) is ∙ inv.1,
+            marks_root reach c.args.first k w.in-Some.root items c.args.seat.now c.loop-k.seat c.match-root.seat
+                (at ∙ ap (λ (x : Option ℕ). Some x) w.in-Some.is) (ap (λ (s : MarkSeatValue). s.view.marks) is) inv.2,
+          )
+      | in_default w ↦
+          let same = w.seat-is in (
+            ap (λ (s : MarkSeatValue). s.table) same ∙ inv.0,
+            ap (λ (s : MarkSeatValue). s.view.least.parts) same ∙ inv.1,
+            marks_none reach c.args.first k items c.args.seat.now c.loop-k.seat c.match-root.seat (at ∙ ap (λ (x : Option ℕ). Some x) w.in_default.is) same
+                inv.2,
+          )
+    ]

@@ -1,0 +1,5 @@
+pub mod Carried
+pub mod First
+pub mod Seats
+pub mod Reply
+pub mod Laws

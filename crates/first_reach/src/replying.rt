@@ -1,0 +1,92 @@
+//! Each reply by itself, from the first root that reaches each file.
+
+ghost use Rattle.std.specs.Prelude.{Some, ◌≡◌, ◌<◌, ◌++◌, IfOk, OnOk, length};
+ghost use Rattle.first_reach.specs.Reply.{reply_at, others_at, RootIsFirstToo};
+
+use crate::mode::Mode;
+use share_work::{Least, Reach, Work};
+use std::alloc::{AllocError, Global};
+
+/// Lists the files of each reply.
+#[derive(Drop)]
+pub(crate) struct Replying<'a, F: Reach> {
+    pub(crate) reach: &'a F,
+    pub(crate) least: &'a Least,
+    pub(crate) mode: Mode,
+}
+
+impl<F: Reach> Work<Option<usize>> for Replying<'_, F> {
+    ghost use Rattle.std.specs.Prelude.{⊤, ◌≡◌, ◌<◌, length};
+    ghost use Rattle.std.specs.Option.{ForSome};
+    ghost use Rattle.share_work.specs.Posts.{NONE};
+    ghost use Rattle.first_reach.specs.Reply.{reply_at, RootIsFirstToo};
+
+    type Out = Vec<usize>;
+
+    type Seat = ();
+
+    ghost takes = { λ w i root. (i < NONE) × ForSome root (λ r. (r < F.files w.reach.now) × RootIsFirstToo (F.list w.reach.now) w.least.now i r) };
+
+    ghost fits = { λ w _. length w.least.now ≡ F.files w.reach.now };
+
+    ghost gives = { λ w i root out. out.items ≡ reply_at w.mode (F.list w.reach.now) w.least.now i root };
+
+    ghost number = { λ _ _. 0 };
+
+    ghost holds = { λ _ _ _ _. ⊤ };
+
+    ghost adds = { λ _ _ _ _ _. ⊤ };
+
+    fn piece(
+        &self,
+        alloc: Global,
+        seat: &mut (),
+        first: usize,
+        items: &[Option<usize>],
+    ) -> Result<Vec<Vec<usize>>, AllocError> {
+        let mut outs = Vec::new(alloc);
+        for (k, root) in items.iter().enumerate() {
+            let files = match root {
+                Some(root) => self.reply(alloc, *root, (first + k) as u64)?,
+                None => Vec::new(alloc),
+            };
+            outs.push(files)?;
+        }
+        Ok(outs)
+    }
+}
+
+impl<F: Reach> Replying<'_, F> {
+    /// The files that the reply at a place carries. Where its root was reached before, all that the root reaches was,
+    /// so that the list needn't be read.
+    fn reply(&self, alloc: Global, root: usize, place: u64) -> Result<Vec<usize>, AllocError>
+        requires count { length self.now.least.now ≡ F.files self.now.reach.now }
+        requires root { (root < F.files self.now.reach.now) × RootIsFirstToo (F.list self.now.reach.now) self.now.least.now place root }
+        ensures { IfOk result (λ v. v.items ≡ reply_at self.now.mode (F.list self.now.reach.now) self.now.least.now place (Some root)) }
+    {
+        let mut files = Vec::new(alloc);
+        if self.least.get(root) == place {
+            files.push(root)?;
+            self.add_others(&mut files, root, place)?;
+        } else if let Mode::Repeat = self.mode {
+            files.push(root)?;
+        }
+        Ok(files)
+    }
+
+    /// Adds the files but the root that the root at the place is the first to reach.
+    fn add_others(&self, files: &mut Vec<usize>, root: usize, place: u64) -> Result<(), AllocError>
+        requires count { length self.now.least.now ≡ F.files self.now.reach.now }
+        requires root { root < F.files self.now.reach.now }
+        ensures { OnOk result (files.new.items ≡ files.old.items ++ others_at self.now.least.now place root (F.list self.now.reach.now root)) }
+    {
+        let mut k = 0;
+        while let Some(file) = self.reach.reached(root, k) {
+            if file != root && self.least.get(file) == place {
+                files.push(file)?;
+            }
+            k += 1;
+        }
+        Ok(())
+    }
+}

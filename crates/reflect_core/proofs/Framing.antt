@@ -1,0 +1,22 @@
+-- What is pushed, piece by piece.
+use Rattle.std.proofs.Common.{◌≡◌, ◌∙◌, ℕ, List, [], ◌∷◌, ◌++◌, ap, append_assoc}
+use Rattle.std.specs.Prelude.{if◌then◌else◌}
+use Rattle.std.specs.Result.{IfOk, OnOk, is_ok}
+use Rattle.std.specs.declared.result.Result.{Result}
+use Rattle.std.specs.declared.result.Result.TheVariants.{Ok, Err}
+
+pub frame_pushed : (out a b c head message : List ℕ) (flag : ℕ) → a ≡ out ++ flag ∷ [] → b ≡ a ++ head → c ≡ b ++ message → c ≡ out ++ flag ∷ (head ++ message)
+frame_pushed out a b c head message flag first second third =
+    third ∙ ap (λ l. l ++ message) (second ∙ ap (λ l. l ++ head) first) ∙ append_assoc (out ++ flag ∷ []) head message ∙ append_assoc out (flag ∷ []) (head ++ message)
+
+pub on_ok : {A E : Type 0} (r : Result A E) (now before after : List ℕ) → now ≡ (if is_ok r then after else before) → OnOk r (now ≡ after)
+on_ok (Ok x) now before after e = e
+on_ok (Err x) now before after e = tt
+
+pub on_ok_then : {A E P Q : Type 0} (r : Result A E) → OnOk r P → (P → Q) → OnOk r Q
+on_ok_then (Ok x) p f = f p
+on_ok_then (Err x) p f = tt
+
+pub if_ok_then : {A E : Type 0} {P Q : A → Type 0} (r : Result A E) → IfOk r P → ((x : A) → P x → Q x) → IfOk r Q
+if_ok_then (Ok x) p f = f x p
+if_ok_then (Err x) p f = tt

@@ -1,0 +1,12 @@
+mod Declaring
+mod Reaching
+mod AskedRows
+mod Constants
+mod Few
+mod ReplyParts
+mod ReadBounds
+mod Carrying
+mod Short
+mod Framing
+mod RepliesMore
+mod AnsweringBody

@@ -1,0 +1,13 @@
+use Rattle.std.proofs.Common.{◌≡◌, map, take, All}
+use Rattle.std.specs.List.{AllZip}
+use Rattle.proto_links.specs.Linked.{count_of}
+use Rattle.reflect_core.specs.Response.{IsAsked, root}
+use Rattle.reflect_core.specs.ResponseSteps.{IsRootWithin, asked_of}
+use Rattle.reflect_requests.specs.Frames.{bytes_of}
+use Rattle.reflect_core.proofs.asked.asked_in.Given as goal
+
+abbrev pub invariant-loop-message : goal.invariant-loop-message
+invariant-loop-message l = record {
+  asked : AllZip (IsAsked l.compiled) (map bytes_of (take l.message-index l.messages)) (map asked_of l.asked.items);
+  within : All (λ a. IsRootWithin (count_of l.compiled.links) (root (asked_of a))) l.asked.items;
+}

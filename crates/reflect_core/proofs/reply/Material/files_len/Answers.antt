@@ -1,0 +1,18 @@
+use Rattle.std.proofs.Common.{◌≡◌, ◌∙◌, sym, ap, arith, length, get_or, ℕ, List}
+use Rattle.std.specs.Prelude.{flat_map}
+use Rattle.std.proofs.lemmas.List.Elements.{Contains-get_or}
+use Rattle.std.proofs.lemmas.List.Folds.{length-flat_map-take}
+use Rattle.wire_format.specs.Field.{bytes_field}
+use Rattle.proto_compile.specs.Compilation.{bytes_at}
+use Rattle.reflect_core.proofs.reply.Material.files_len.Goals as goal
+
+pub bytes_at-requires : goal.bytes_at-requires
+bytes_at-requires c = c.requires.inside _ (Contains-get_or c.args.files.now c.loop-file.file-index 0 (omega arith))
+
+pub overflow_add-len : goal.overflow_add-len
+overflow_add-len c =
+    let field = λ (a : ℕ). bytes_field 1 (bytes_at c.args.self.now.compiled.now.files a) in
+    let part = length-flat_map-take field c.args.files.now c.loop-file.file-index 0 (omega arith) in
+    let here : c.field_len-len.result ≡ length (field (get_or c.args.files.now c.loop-file.file-index 0)) = c.field_len-len.ensures.len ∙ ap (λ (b : List ℕ). length (bytes_field 1 b)) c.bytes_at.ensures in
+    let inv = c.loop-file.invariant in let short = c.requires.short in
+    omega (arith, part, here, inv, short)

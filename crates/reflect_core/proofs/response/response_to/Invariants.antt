@@ -1,0 +1,9 @@
+use Rattle.std.proofs.Common.{◌≡◌, map, take}
+use Rattle.std.specs.Prelude.{flat_map}
+use Rattle.reflect_core.specs.Response.{replies_to}
+use Rattle.reflect_core.specs.ResponseSteps.{asked_of, files_of}
+use Rattle.reflect_requests.specs.Frames.{frame}
+use Rattle.reflect_core.proofs.response.response_to.Given as goal
+
+abbrev pub invariant-loop-place : goal.invariant-loop-place
+invariant-loop-place l = l.out.items ≡ flat_map (frame 0) (replies_to l.fn.material.compiled.now (map asked_of (take l.place l.asked)) (map files_of (take l.place l.carried)))

@@ -1,0 +1,7 @@
+use Rattle.std.proofs.Common.{◌≡◌, ℕ, ◌<◌, get_or}
+use Rattle.reflect_core.specs.Answer.{answer_of, services}
+use Rattle.reflect_core.specs.declared.asked.Asked as rust
+use Rattle.reflect_core.proofs.response.services_for.Given as goal
+
+abbrev pub invariant-loop-request : goal.invariant-loop-request
+invariant-loop-request l = (k : ℕ) (a : rust.Asked) → k < l.request-index → answer_of (get_or l.asked k a).answer ≡ services → ⊥

@@ -1,0 +1,50 @@
+-- What answers a request of a reflection stream, by `reflection.proto` of `grpc.reflection.v1`.
+use Rattle.std.specs.Prelude.{◌≡◌, ℕ, List, Option, Some, None, Contains}
+use Rattle.proto_compile.specs.Compilation.{Compilation, IsNamed}
+use Rattle.proto_desc.specs.declared.name_kind.NameKind.TheVariants as kind
+use Rattle.proto_names.specs.Occurrences.{Occurrence, IsPackage}
+use Rattle.reflect_core.specs.declared.answer.Answer as rust
+use Rattle.reflect_core.specs.declared.answer.Answer.TheVariants as answers
+use Rattle.reflect_requests.specs.Request.{Ask, file_by_name, file_by_symbol, file_by_extension, extension_numbers, list_services, nothing}
+
+-- what answers a request: a file with what it reaches, the extensions of a message, of which proto3 declares none, the services, or an error
+pub data Answer : Type 0 where
+  file : ℕ → Answer
+  no_extensions : List ℕ → Answer
+  services : Answer
+  not_found : Answer
+  empty_request : Answer
+
+-- an element, which is no package, has this full name
+pub record Declares (c : Compilation) (name : List ℕ) (o : Occurrence) : Type 0 where
+  pub declared : Contains c.index.occurrences o
+  pub named : o.name ≡ name
+  pub element : IsPackage o → ⊥
+
+-- the answer to an ask
+pub data IsAnswer (c : Compilation) : Ask → Answer → Type 0 where
+  named : (name : List ℕ) (a : ℕ) → IsNamed c.files name a → IsAnswer c (file_by_name name) (file a)
+  not_named : (name : List ℕ) → ((a : ℕ) → IsNamed c.files name a → ⊥) → IsAnswer c (file_by_name name) not_found
+  declared : (name : List ℕ) (o : Occurrence) → Declares c name o → IsAnswer c (file_by_symbol name) (file o.file)
+  not_declared : (name : List ℕ) → ((o : Occurrence) → Declares c name o → ⊥) → IsAnswer c (file_by_symbol name) not_found
+  no_extension : IsAnswer c file_by_extension not_found
+  message : (name : List ℕ) (o : Occurrence) → Declares c name o → o.kind ≡ Some kind.Message → IsAnswer c (extension_numbers name) (no_extensions name)
+  no_message : (name : List ℕ) → ((o : Occurrence) → Declares c name o → o.kind ≡ Some kind.Message → ⊥) → IsAnswer c (extension_numbers name) not_found
+  listed : IsAnswer c list_services services
+  nothing_asked : IsAnswer c nothing empty_request
+
+-- the file that a request is answered with
+abbrev pub root_of : Answer → Option ℕ
+root_of (file a) = Some a
+root_of (no_extensions name) = None
+root_of services = None
+root_of not_found = None
+root_of empty_request = None
+
+-- an answer of the program
+abbrev pub answer_of : rust.Answer → Answer
+answer_of (answers.File a) = file a
+answer_of (answers.NoExtensions name) = no_extensions name.now
+answer_of answers.Services = services
+answer_of answers.NotFound = not_found
+answer_of answers.EmptyRequest = empty_request

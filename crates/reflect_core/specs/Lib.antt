@@ -1,0 +1,4 @@
+pub mod Answer
+pub mod Reply
+pub mod Response
+pub mod ResponseSteps

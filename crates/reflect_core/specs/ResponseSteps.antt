@@ -1,0 +1,56 @@
+-- Words for the contracts of the private functions that answer a body. They are no part of its definition.
+use Rattle.std.specs.Prelude.{◌≡◌, ℕ, ◌<◌, ◌≤◌, ◌^◌, List, length, slice_index_or, Option, Contains, Vec}
+use Rattle.std.specs.Option.{ForSome}
+use Rattle.std.specs.declared.alloc.Global.{Global}
+use Rattle.proto_compile.specs.Compilation.{Compilation, IsSound, set_of}
+use Rattle.proto_links.specs.Linked.{AreReachesWhole, Linked, count_of, reach_of}
+use Rattle.reflect_core.specs.Answer as answers
+use Rattle.reflect_core.specs.Answer.{Answer, answer_of}
+use Rattle.reflect_core.specs.Reply.{Asked, contents_of, files_bytes, reply, services_bytes}
+use Rattle.reflect_core.specs.declared.asked.Asked as rust
+use Rattle.share_work.specs.Reach.{Reaches}
+
+-- a request of the program
+abbrev pub asked_of : rust.Asked → Asked
+asked_of asked = record { message = asked.message.now; host = asked.host.now; answer = answer_of asked.answer }
+
+-- a file is one of so many
+abbrev pub IsRootWithin : ℕ → Option ℕ → Type 0
+IsRootWithin count root = ForSome root (λ a. a < count)
+
+-- what a table of marks asks of the files that files reach
+pub record IsReach (links : Linked) : Type 0 where
+  pub within : (a b : ℕ) → a < count_of links → Reaches (reach_of links) a b → b < count_of links
+  pub short : (a : ℕ) → a < count_of links → length (reach_of links a) < 18446744073709551615
+  pub reflexive : (a : ℕ) → a < count_of links → Reaches (reach_of links) a a
+  pub transitive : (a b c : ℕ) → a < count_of links → Reaches (reach_of links) a b → Reaches (reach_of links) b c → Reaches (reach_of links) a c
+
+-- the services are at hand where the answer is of them, its files are of the compilation, and what it holds has room in a reply
+pub record HasContents (c : Compilation) (services : List ℕ) (answer : Answer) (files : List ℕ) : Type 0 where
+  pub listed : answer ≡ answers.services → services ≡ services_bytes c
+  pub inside : (a : ℕ) → Contains files a → a < count_of c.links
+  pub short : length (contents_of c files answer) < 2 ^ 32
+
+-- the same of a reply, which has room in a frame
+pub record IsReplyable (c : Compilation) (services : List ℕ) (asked : Asked) (files : List ℕ) : Type 0 where
+  pub listed : asked.answer ≡ answers.services → services ≡ services_bytes c
+  pub inside : (a : ℕ) → Contains files a → a < count_of c.links
+  pub short : length (reply c asked files) < 2 ^ 32
+
+-- each of some requests of the program, with the files of its reply
+pub record AreReplyable (c : Compilation) (services : List ℕ) (asked : List rust.Asked) (carried : List (Vec ℕ Global)) : Type 0 where
+  pub size : length carried ≡ length asked
+  pub each : (k : ℕ) (a : rust.Asked) (files : Vec ℕ Global) → k < length asked → IsReplyable c services (asked_of (slice_index_or asked k a)) (slice_index_or carried k files).items
+
+-- the bytes are those of the services, where one of the requests asks for them
+abbrev pub AreServicesFor : Compilation → List rust.Asked → List ℕ → Type 0
+AreServicesFor c asked bytes = (k : ℕ) (a : rust.Asked) → k < length asked → (asked_of (slice_index_or asked k a)).answer ≡ answers.services → bytes ≡ services_bytes c
+
+abbrev pub files_of : Vec ℕ Global → List ℕ
+files_of files = files.items
+
+-- what is so of every compilation, by which its replies have room in frames
+pub record HoldsReplies (c : Compilation) : Type 0 where
+  pub sound : IsSound c
+  pub whole : AreReachesWhole c.links
+  pub reached : (a : ℕ) → a < count_of c.links → length (files_bytes c (reach_of c.links a)) ≤ length (set_of c.files c.links)

@@ -1,0 +1,19 @@
+//! Answering a reflection stream over gRPC-Web: from the bytes of a request body to those of the response.
+//!
+//! The standards are gRPC's PROTOCOL-WEB.md and `reflection.proto` of `grpc.reflection.v1`. How a body is read is said by the
+//! crate `reflect_requests`, and which files go with which reply by `first_reach`, whose calls are calls of this crate too.
+#![tactic(auto)]
+
+mod answer;
+mod asked;
+mod body;
+mod file_reach;
+mod reply;
+mod response;
+
+pub use body::answer_body;
+pub use first_reach::Mode;
+pub use reflect_requests::{
+    Ask, Frames, Message, Request, Stream, frames_are_unique, read_frames, read_request,
+    read_stream, requests_are_unique,
+};

@@ -1,0 +1,141 @@
+//! Files by themselves: what they describe, under the standard limits and under lower ones.
+
+use proto_base::{Limit, Limits};
+use proto_desc::file::FileDesc;
+use proto_desc::is_resolved;
+use proto_desc::options::{OptionDesc, OptionValue};
+use proto_file::{FileError, describe};
+use std::alloc::{AllocError, Global};
+use std::borrow::CowStr;
+use std::test::Fail;
+
+/// Whether the value of the first option, if there is one, is a text that is the source's own.
+fn lends(alloc: Global, options: &[OptionDesc]) -> Result<bool, AllocError> {
+    let Some(option) = options.first() else {
+        return Ok(false);
+    };
+    let OptionValue::Text(text) = &option.value else {
+        return Ok(false);
+    };
+    let text = text.try_clone(alloc)?.into_cow();
+    Ok(matches!(&text, CowStr::Borrowed(_)))
+}
+
+/// What is told of a descriptor: whether each name of a type is resolved, and whether the first option is lent.
+fn told(alloc: Global, file: &FileDesc) -> Result<String, AllocError> {
+    let resolved = if is_resolved(file) {
+        ""
+    } else {
+        ", with names"
+    };
+    let lent = if lends(alloc, file.options.as_slice())? {
+        ", lent"
+    } else {
+        ""
+    };
+    format!(in alloc; "a file{resolved}{lent}")
+}
+
+/// What is told of the file that a text is, or the kind and the place of its fault, as `NameTooLong at 27`.
+fn judged(alloc: Global, text: &str, limits: &Limits) -> Result<String, AllocError> {
+    match describe(alloc, "a.proto", text.as_bytes(), limits) {
+        Ok(file) => told(alloc, &file),
+        Err(FileError::At(_, place, kind)) => format!(in alloc; "{kind} at {place}"),
+        Err(FileError::NoMemory) => Err(AllocError),
+    }
+}
+
+/// Sources, and what is told of them: whether each name of a type is resolved, at each depth (that of a map field is from
+/// the start), and whether the value of an option is the source's own, as one string without escapes is.
+static ROWS: &str =
+    r##"syntax = "proto3"; message A { bool x = 1; message B { int32 y = 1; } } -> a file
+syntax = "proto3"; message A { message B { map<int32, int32> m = 1; } } -> a file
+syntax = "proto3"; message A { message B { E e = 1; } int32 x = 1; } -> a file, with names
+syntax = "proto3"; message A { map<int32, E> m = 1; } -> a file, with names
+syntax = "proto3"; service S {} -> a file
+syntax = "proto3"; service S { rpc R(A) returns (A); } -> a file, with names
+syntax = "proto3"; option java_package = "j"; -> a file, lent
+syntax = "proto3"; option java_package = "j" "k"; -> a file
+syntax = "proto3"; option java_package = "\x6A"; -> a file
+"##;
+
+#[test]
+fn described(rt: HostRuntime) -> Result<(), Fail> {
+    let standard = Limits::standard();
+    for row in ROWS.lines() {
+        let (text, wanted) = row.split_once(" -> ").ok_or("a row")?;
+        let found = judged(rt.alloc(), text, &standard)?;
+        assert!(rt; found.as_str() == wanted, "{row}: {found}");
+    }
+    Ok(())
+}
+
+/// A limit, the least that suffices for a source, and its fault under one less.
+#[derive(Clone, Copy)]
+struct LimitRow<'t> {
+    limit: Limit,
+    least: u64,
+    fault: &'t str,
+    text: &'t str,
+}
+
+fn row_of(line: &str) -> Option<LimitRow<'_>> {
+    let mut fields = line.split('|');
+    let limit = match fields.next()? {
+        "NameBytes" => Limit::NameBytes,
+        "FullNameBytes" => Limit::FullNameBytes,
+        "Depth" => Limit::Depth,
+        _ => return None,
+    };
+    let least = fields.next()?.parse().ok()?;
+    let fault = fields.next()?;
+    let text = fields.next()?;
+    Some(LimitRow {
+        limit,
+        least,
+        fault,
+        text,
+    })
+}
+
+/// The names of limits, the least that suffices, the fault under one less, and the source.
+static LIMIT_ROWS: &str = r##"NameBytes|3|NameTooLong at 27|syntax = "proto3"; message Abc {}
+NameBytes|8|NameTooLong at 49|syntax = "proto3"; message A { map<int32, int32> foo = 1; }
+NameBytes|3|NameTooLong at 46|syntax = "proto3"; message A { optional int32 ab = 1; }
+NameBytes|3|NameTooLong at 37|syntax = "proto3"; message A { int32 abc = 1; }
+NameBytes|3|NameTooLong at 37|syntax = "proto3"; message A { oneof abc { int32 x = 1; } }
+NameBytes|3|NameTooLong at 51|syntax = "proto3"; message A { message B { message Abc {} } }
+NameBytes|3|NameTooLong at 28|syntax = "proto3"; enum E { ABC = 0; }
+NameBytes|3|NameTooLong at 36|syntax = "proto3"; message A { enum Abc { A = 0; } }
+NameBytes|3|NameTooLong at 27|syntax = "proto3"; service Abc { rpc M(A) returns (A); }
+NameBytes|3|NameTooLong at 35|syntax = "proto3"; service S { rpc Abc(A) returns (A); }
+NameBytes|3|NameTooLong at 27|syntax = "proto3"; package ab.abc.d;
+NameBytes|3|NameTooLong at 27|syntax = "proto3"; package abc;
+FullNameBytes|6|NameTooLong at 27|syntax = "proto3"; package ab.abc;
+FullNameBytes|6|NameTooLong at 51|syntax = "proto3"; package ab; message A { message B {} }
+FullNameBytes|6|NameTooLong at 40|syntax = "proto3"; package ab; enum E { Zed = 0; }
+FullNameBytes|5|NameTooLong at 40|syntax = "proto3"; message A { enum E { Zed = 0; } }
+FullNameBytes|4|NameTooLong at 35|syntax = "proto3"; service S { rpc Ab(A) returns (A); }
+FullNameBytes|14|NameTooLong at 49|syntax = "proto3"; message A { map<int32, int32> a = 1; }
+FullNameBytes|5|NameTooLong at 46|syntax = "proto3"; message A { optional int32 ab = 1; }
+FullNameBytes|4|NameTooLong at 27|syntax = "proto3"; message Abcd {}
+Depth|1|no limit|syntax = 'proto3'; message A {}
+Depth|2|TooDeep at 31|syntax = 'proto3'; message A { message B {} }
+"##;
+
+#[test]
+fn limited(rt: HostRuntime) -> Result<(), Fail> {
+    let standard = Limits::standard();
+    for line in LIMIT_ROWS.lines() {
+        let row = row_of(line).ok_or("a row")?;
+        let enough = standard.lowered(row.limit, row.least).ok_or("a limit")?;
+        let found = judged(rt.alloc(), row.text, &enough)?;
+        assert!(rt; found.starts_with("a file"), "{line}: {found}");
+        // No limit is 0.
+        if let Some(little) = standard.lowered(row.limit, row.least.saturating_sub(1)) {
+            let found = judged(rt.alloc(), row.text, &little)?;
+            assert!(rt; found.as_str() == row.fault, "{line}: {found}");
+        }
+    }
+    Ok(())
+}
