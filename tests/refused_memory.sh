@@ -1,5 +1,6 @@
 #!/usr/bin/env bash
-# Each allocation of the program refused in turn: it ends with 4 and `out of memory`, or as if nothing had been refused.
+# Each allocation of the program refused in turn: it ends with 4 and `out of memory`, or as if nothing had been refused. A
+# refused start of a thread changes nothing.
 set -u
 cd "$(dirname "$(readlink -f "$0")")/.." || exit 2
 folder=$(mktemp -d) || exit 2
@@ -9,16 +10,18 @@ cc -shared -fPIC -O1 -o "$folder/refuse.so" tests/refused_memory.c -ldl || exit 
 program=crates/schema_server/out/schema_server
 failures=0
 
-# sweep STATUS OUTPUT FAULTS INPUT WORD..: as without a refusal, or out of memory, at each allocation.
+# sweep WHAT STATUS OUTPUT FAULTS INPUT WORD..: as without a refusal, or out of memory, at each allocation (REFUSE_AT); at each
+# start of a thread (REFUSE_THREAD_AT) as without a refusal. OUTPUT and INPUT are written with printf's escapes.
 sweep() {
-    local status=$1 output=$2 faults=$3 input=$4 at=1
-    shift 4
-    while [ "$at" -le 2000 ]; do
-        printf '%b' "$input" | REFUSE_AT=$at LD_PRELOAD="$folder/refuse.so" "$program" "$@" >"$folder/output" 2>"$folder/faults" 9>"$folder/refused"
+    local what=$1 status=$2 faults=$4 input=$5 at=1
+    printf '%b' "$3" >"$folder/wanted"
+    shift 5
+    while [ "$at" -le 3000 ]; do
+        printf '%b' "$input" | env "$what=$at" LD_PRELOAD="$folder/refuse.so" "$program" "$@" >"$folder/output" 2>"$folder/faults" 9>"$folder/refused"
         local got=$?
         local as_usual=0 no_memory=0
-        [ "$got" = "$status" ] && [ "$(cat "$folder/output")" = "$output" ] && [ "$(cat "$folder/faults")" = "$faults" ] && as_usual=1
-        [ "$got" = 4 ] && [ ! -s "$folder/output" ] && [ "$(cat "$folder/faults")" = "out of memory" ] && no_memory=1
+        [ "$got" = "$status" ] && cmp -s "$folder/wanted" "$folder/output" && [ "$(cat "$folder/faults")" = "$faults" ] && as_usual=1
+        [ "$what" = REFUSE_AT ] && [ "$got" = 4 ] && [ ! -s "$folder/output" ] && [ "$(cat "$folder/faults")" = "out of memory" ] && no_memory=1
         if [ ! -s "$folder/refused" ]; then
             [ "$as_usual" = 1 ] && return
             echo "$*: without a refusal: status $got, $(cat "$folder/faults")"
@@ -26,25 +29,32 @@ sweep() {
             return
         fi
         if [ "$as_usual" = 0 ] && [ "$no_memory" = 0 ]; then
-            echo "$*: allocation $at refused: status $got, output '$(cat "$folder/output")', faults '$(cat "$folder/faults")'"
+            echo "$*: $what=$at: status $got, $(wc -c <"$folder/output") bytes of output, faults '$(cat "$folder/faults")'"
             failures=$((failures + 1))
         fi
         at=$((at + 1))
     done
-    echo "$*: no end after 2,000 allocations"
+    echo "$*: no end after 3,000"
     failures=$((failures + 1))
 }
 
 P='syntax = "proto3"; '
-sweep 0 0a07612e70726f746f22110a0141120c0a0178180120012805520178620670726f746f33 '' "${P}message A { int32 x = 1; }" describe a.proto
-sweep 1 '' 'e.proto:1:1: UnexpectedEnd' '' describe e.proto
+sweep REFUSE_AT 0 '0a07612e70726f746f22110a0141120c0a0178180120012805520178620670726f746f33\n' '' "${P}message A { int32 x = 1; }" describe a.proto
+sweep REFUSE_AT 1 '' 'e.proto:1:1: UnexpectedEnd' '' describe e.proto
 mkdir -p "$folder/sources/p" "$folder/bad"
 printf '%simport "p/b.proto"; message A { p.B b = 1; }' "$P" >"$folder/sources/a.proto"
 printf '%spackage p; message B {} service S { rpc R(B) returns (B); }' "$P" >"$folder/sources/p/b.proto"
 printf '%simport "b.proto";' "$P" >"$folder/bad/a.proto"
-# The set as protoc 3.21.12 writes it, which has no zero byte.
+# The set as protoc 3.21.12 writes it.
 digits=0a310a09702f622e70726f746f12017022030a014232140a0153120f0a015212042e702e421a042e702e42620670726f746f330a350a07612e70726f746f1a09702f622e70726f746f22170a014112120a016218012001280b32042e702e42520162620670726f746f33
-set=$(printf '%b' "$(sed 's/../\\x&/g' <<<"$digits")")
-sweep 0 "$set" '' '' compile --root "$folder/sources" --workers 1
-sweep 1 '' 'a.proto:1:27: ImportMissing' '' compile --root "$folder/bad" --workers 1
+sweep REFUSE_AT 0 "$(sed 's/../\\x&/g' <<<"$digits")" '' '' compile --root "$folder/sources" --workers 1
+sweep REFUSE_AT 1 '' 'a.proto:1:27: ImportMissing' '' compile --root "$folder/bad" --workers 1
+# Two requests for the services, whose replies have no file.
+body='\0\0\0\0\02:\0\0\0\0\0\02:\0'
+reply='\0\0\0\0\015\022\02:\x002\07\n\05\n\03p.S'
+for words in '--workers 1' '--workers 2 --cut 1'; do
+    # shellcheck disable=SC2086 # the words are several
+    sweep REFUSE_AT 0 "$reply$reply"'\0200\0\0\0\017grpc-status:0\r\n' '' "$body" answer --root "$folder/sources" $words
+done
+sweep REFUSE_THREAD_AT 0 "$reply$reply"'\0200\0\0\0\017grpc-status:0\r\n' '' "$body" answer --root "$folder/sources" --workers 2 --cut 1
 [ "$failures" = 0 ]

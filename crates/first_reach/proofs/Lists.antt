@@ -6,6 +6,9 @@ use Rattle.share_work.specs.Reach.{Reaches}
 use Rattle.share_work.proofs.Sums.{SomePass-any}
 use Rattle.std.specs.List.{list_any}
 use Rattle.first_reach.specs.Carried.{has, root_first, reached}
+use Rattle.std.specs.Result.{IfOk}
+use Rattle.std.specs.declared.result.Result.{Result}
+use Rattle.std.specs.declared.result.Result.TheVariants.{Ok, Err}
 
 pub or_left : (a b : Bool) → a ≡ true → (a || b) ≡ true
 or_left a b e = ap (λ x. x || b) e
@@ -104,3 +107,8 @@ none_past xs k e = elim (slice_get_cases xs k).1 [
 -- a file of the list is one that the root reaches
 pub reaches_at : (list : ℕ → List ℕ) (r k g : ℕ) → slice_get (list r) k ≡ Some g → Reaches list r g
 reaches_at list r k g at = (SomePass-any (λ h. h == g) (list r)).1 (get_any (λ h. h == g) (list r) k g at (eq-eqb g g refl))
+
+-- what an answer is, by what is known of it
+pub if_ok_then : {X E : Type 0} {P Q : X → Type 0} (r : Result X E) → IfOk r P → ((x : X) → P x → Q x) → IfOk r Q
+if_ok_then (Ok x) h f = f x h
+if_ok_then (Err e) h f = tt

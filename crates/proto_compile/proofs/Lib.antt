@@ -1,3 +1,4 @@
+pub mod Alike
 pub mod Answering
 pub mod Checks
 pub mod DescPlaces

@@ -45,7 +45,7 @@ one_order sources f g first second =
 
 -- ---- sorted names
 
-abbrev IsNoLater : List ℕ → List ℕ → Type 0
+abbrev pub IsNoLater : List ℕ → List ℕ → Type 0
 IsNoLater x y = slice_cmp nat_cmp x y ≢ Greater
 
 abbrev is_later : List ℕ → List ℕ → Bool
@@ -95,7 +95,7 @@ itself_not_later : (x : List ℕ) → is_later x x ≡ false
 itself_not_later x = ap is_gt (tied_itself nat_list_cmp_total x)
 
 -- names that each sum counts alike
-one_sorted : (xs ys : List (List ℕ)) → Rises IsNoLater xs → Rises IsNoLater ys → ((f : List ℕ → ℕ) → sum_by f xs ≡ sum_by f ys) → xs ≡ ys
+pub one_sorted : (xs ys : List (List ℕ)) → Rises IsNoLater xs → Rises IsNoLater ys → ((f : List ℕ → ℕ) → sum_by f xs ≡ sum_by f ys) → xs ≡ ys
 one_sorted [] [] up over alike = refl
 one_sorted [] (y ∷ ys) up over alike = let one = alike (λ z. 1) in let e = sum_by-cons (λ z. 1) y ys in absurd (omega (arith, one, e))
 one_sorted (x ∷ xs) [] up over alike = let one = alike (λ z. 1) in let e = sum_by-cons (λ z. 1) x xs in absurd (omega (arith, one, e))

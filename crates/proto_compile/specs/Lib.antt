@@ -1,3 +1,4 @@
+pub mod Alike
 pub mod Analysed
 pub mod Compilation
 pub mod Descriptions

@@ -8,7 +8,7 @@ pub mod Fronts
 pub mod Looking
 pub mod Meaning
 pub mod Occurring
-mod Once
+pub mod Once
 pub mod Ordered
 pub mod Repeating
 pub mod Searching

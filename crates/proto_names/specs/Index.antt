@@ -45,11 +45,13 @@ pub record IsSound (index : Index) : Type 0 where
 
 -- ---- what the index of files is
 
+-- all that occurs in files, in the order of names, where it is no more than the limit and no name occurs twice
 pub record Indexes (descs : List FileDesc) (limits : Limits) (index : Index) : Type 0 where
   pub files : index.files ≡ length descs
   pub within : length (occurrences descs) ≤ limit_of limits limit.Names
   pub once : NoneTwice (occurrences descs)
   pub all : IsPermutation (occurrences descs) index.occurrences
+  pub sound : IsSound index
 
 -- the first occurrence that repeats a name, of no more than the limit
 pub record IsRepeated (descs : List FileDesc) (limits : Limits) (file : ℕ) (place : Place) : Type 0 where

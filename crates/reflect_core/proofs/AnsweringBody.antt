@@ -1,8 +1,7 @@
 -- What the steps of an answer give, as the response to a body.
-use Rattle.std.proofs.Common.{◌≡◌, ◌∙◌, ℕ, zero, suc, ◌+◌, ◌<◌, ◌≤◌, List, [], ◌∷◌, ◌++◌, length, map, get_or, sym, ap, subst, arith, refl, All, Bool, filter, inl, inr}
+use Rattle.std.proofs.Common.{◌≡◌, ◌∙◌, ℕ, zero, suc, ◌<◌, ◌≤◌, List, [], ◌∷◌, ◌++◌, length, map, get_or, sym, ap, subst, arith, refl, All, Bool, filter, inl, inr}
 use Rattle.std.specs.Prelude.{Option, Some, None, flat_map, Contains, slice_get, Vec}
 use Rattle.std.specs.List.{AllZip}
-use Rattle.std.specs.Option.{ForSome}
 use Rattle.std.specs.declared.alloc.Global.{Global}
 use Rattle.std.proofs.lemmas.List.{length-map}
 use Rattle.std.proofs.lemmas.List.Elements.{All-contains}
@@ -12,17 +11,15 @@ use Rattle.first_reach.specs.declared.mode.Mode.{Mode}
 use Rattle.first_reach.proofs.Replies.{carried_length}
 use Rattle.proto_base.specs.Limits.{limit_of}
 use Rattle.proto_base.specs.declared.limits.Limit.TheVariants as limit
-use Rattle.proto_compile.specs.Compilation.{Compilation, IsSound, bytes_at, set_of}
+use Rattle.proto_compile.specs.Compilation.{Compilation, bytes_at}
 use Rattle.wire_format.specs.Field.{bytes_field}
-use Rattle.proto_links.specs.Linked.{Linked, AreReachesWhole, count_of, reach_of}
+use Rattle.proto_links.specs.Linked.{count_of, reach_of}
 use Rattle.reflect_requests.specs.Frames.{IsAllowed, ReadsBody, frame}
-use Rattle.reflect_core.specs.Answer as answers
-use Rattle.reflect_core.specs.Answer.{Answer, root_of}
-use Rattle.reflect_core.specs.Reply.{Asked, files_bytes, services_bytes, reply}
+use Rattle.reflect_core.specs.Reply.{files_bytes}
 use Rattle.reflect_core.specs.Response.{IsAsked, IsResponse, replies_to, root, trailer}
-use Rattle.reflect_core.specs.ResponseSteps.{HoldsReplies, AreReplyable, AreServicesFor, IsReplyable, IsRootWithin, asked_of, files_of}
+use Rattle.reflect_core.specs.ResponseSteps.{HoldsReplies, AreReplyable, AreServicesFor, IsRootWithin, asked_of, files_of}
 use Rattle.reflect_core.specs.declared.asked.Asked as rust
-use Rattle.reflect_core.proofs.Carrying.{kept_of, carried_short, carried_inside, of_filter}
+use Rattle.reflect_core.proofs.Carrying.{kept_of, carried_short, carried_inside}
 use Rattle.reflect_core.proofs.ReadBounds.{read_bounds}
 use Rattle.reflect_core.proofs.Short.{answer_bound, reply_short}
 

@@ -1,9 +1,9 @@
 -- The files of a reply: files of the compilation, and no more bytes than the set.
-use Rattle.std.proofs.Common.{◌≡◌, ◌∙◌, ℕ, zero, suc, ◌+◌, ◌<◌, ◌≤◌, List, [], ◌∷◌, ◌++◌, length, sym, ap, subst, arith, length-append, refl, Bool, true, false, not, eqb, eqb-true, eq-eqb, cond, filter, get_or}
-use Rattle.std.specs.Prelude.{Option, Some, None, flat_map, Contains, slice_get}
+use Rattle.std.proofs.Common.{◌≡◌, ◌∙◌, ℕ, zero, suc, ◌+◌, ◌≤◌, List, [], ◌∷◌, ◌++◌, length, sym, ap, subst, arith, length-append, refl, Bool, true, false, not, eqb, eqb-true, eq-eqb, cond, filter}
+use Rattle.std.specs.Prelude.{Option, Some, flat_map, Contains, slice_get}
 use Rattle.std.proofs.lemmas.Bool.{false≢true}
 use Rattle.std.proofs.lemmas.Option.{none-some}
-use Rattle.first_reach.specs.Carried.{carried, carried_from, has, reached, repeats, root_first}
+use Rattle.first_reach.specs.Carried.{carried_from, reached, root_first}
 use Rattle.first_reach.specs.declared.mode.Mode.{Mode}
 
 pub record IsKept (reach : ℕ → List ℕ) (roots : List (Option ℕ)) (k : ℕ) (files : List ℕ) : Type 0 where

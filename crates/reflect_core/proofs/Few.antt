@@ -1,5 +1,5 @@
 -- A compilation has no more files than the limit.
-use Rattle.std.proofs.Common.{◌≡◌, ℕ, ◌<◌, ◌≤◌, length, arith}
+use Rattle.std.proofs.Common.{◌≤◌, arith}
 use Rattle.std.proofs.lemmas.List.Sorted.{length_permutation}
 use Rattle.std.proofs.lemmas.Slice.Zip.{AllZip-long}
 use Rattle.proto_base.specs.Limits.{limit_of}

@@ -1,7 +1,7 @@
 -- What is pushed, piece by piece.
 use Rattle.std.proofs.Common.{◌≡◌, ◌∙◌, ℕ, List, [], ◌∷◌, ◌++◌, ap, append_assoc}
 use Rattle.std.specs.Prelude.{if◌then◌else◌}
-use Rattle.std.specs.Result.{IfOk, OnOk, is_ok}
+use Rattle.std.specs.Result.{OnOk, is_ok}
 use Rattle.std.specs.declared.result.Result.{Result}
 use Rattle.std.specs.declared.result.Result.TheVariants.{Ok, Err}
 
@@ -16,7 +16,3 @@ on_ok (Err x) now before after e = tt
 pub on_ok_then : {A E P Q : Type 0} (r : Result A E) → OnOk r P → (P → Q) → OnOk r Q
 on_ok_then (Ok x) p f = f p
 on_ok_then (Err x) p f = tt
-
-pub if_ok_then : {A E : Type 0} {P Q : A → Type 0} (r : Result A E) → IfOk r P → ((x : A) → P x → Q x) → IfOk r Q
-if_ok_then (Ok x) p f = f x p
-if_ok_then (Err x) p f = tt

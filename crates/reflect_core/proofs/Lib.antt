@@ -10,3 +10,4 @@ mod Short
 mod Framing
 mod RepliesMore
 mod AnsweringBody
+pub mod OneResponse

@@ -1,9 +1,8 @@
 -- The files that a file reaches, as a table of marks asks for them.
-use Rattle.std.proofs.Common.{◌≡◌, ℕ, zero, suc, ◌+◌, ◌<◌, ◌≤◌, ◌||◌, Bool, true, false, List, [], ◌∷◌, length, refl, sym, ap, subst, ◌∙◌, arith, eqb, eq-eqb, eqb-true, get_or, filter, cond}
+use Rattle.std.proofs.Common.{◌≡◌, ℕ, zero, suc, ◌<◌, ◌≤◌, ◌||◌, Bool, true, false, List, [], ◌∷◌, length, refl, sym, ap, arith, eqb, eq-eqb, eqb-true, get_or, filter, cond}
 use Rattle.std.specs.Prelude.{Contains}
 use Rattle.std.specs.List.{list_any}
 use Rattle.std.proofs.lemmas.Bool.{false≢true}
-use Rattle.std.proofs.lemmas.List.Elements.{Contains-get_or}
 use Rattle.share_work.specs.Reach.{Reaches}
 use Rattle.share_work.proofs.Sums.{SomePass-any}
 use Rattle.proto_links.specs.Linked.{Linked, AreReachesWhole, count_of, reach_of, has}

@@ -1,9 +1,9 @@
 -- What a message names is no longer than the message.
-use Rattle.std.proofs.Common.{◌≡◌, ◌∙◌, ℕ, ◌+◌, ◌≤◌, List, [], ◌∷◌, ◌++◌, length, sym, ap, subst, arith, length-append, refl, Bool, true, false, nat_eq}
+use Rattle.std.proofs.Common.{◌≡◌, ◌∙◌, ℕ, ◌≤◌, List, [], ◌∷◌, ◌++◌, length, sym, ap, subst, arith, length-append, refl, Bool, true, false, nat_eq}
 use Rattle.std.specs.Prelude.{Option, Some, None, flat_map, if◌then◌else◌}
 use Rattle.std.proofs.lemmas.Option.{none-some}
 use Rattle.std.specs.List.{filter_map}
-use Rattle.wire_format.specs.Reading.{Value, number, bytes, Spelled, Body, varint_body, eight_bytes, delimited, four_bytes, body_text, text_of, entry_by, entry_of, IsRow}
+use Rattle.wire_format.specs.Reading.{Value, number, bytes, Spelled, Body, varint_body, eight_bytes, delimited, four_bytes, body_text, text_of, entry_of}
 use Rattle.reflect_requests.specs.Request.{Ask, file_by_name, file_by_symbol, file_by_extension, extension_numbers, list_services, nothing, last_of, host_of, member_of, ReadsRequest}
 
 abbrev pub value_len : ℕ × Value → ℕ

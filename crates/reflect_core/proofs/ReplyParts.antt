@@ -1,5 +1,5 @@
 -- How long a reply is, part by part.
-use Rattle.std.proofs.Common.{◌≡◌, ◌∙◌, ℕ, ◌+◌, ◌*◌, ◌++◌, List, length, ap, sym, arith, length-append}
+use Rattle.std.proofs.Common.{◌≡◌, ℕ, ◌+◌, ◌*◌, ◌++◌, List, length, arith, length-append}
 use Rattle.proto_compile.specs.Compilation.{Compilation}
 use Rattle.reflect_core.specs.Reply.{Asked, host_field, member_of, contents_of, reply}
 use Rattle.wire_format.specs.Field.{bytes_field}

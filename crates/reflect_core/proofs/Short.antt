@@ -1,15 +1,11 @@
 -- Replies have room in a frame.
-use Rattle.std.proofs.Common.{◌≡◌, ◌∙◌, ℕ, zero, suc, ◌+◌, ◌*◌, ◌<◌, ◌≤◌, List, [], ◌∷◌, ◌++◌, length, sym, ap, subst, arith, length-append, refl}
-use Rattle.std.specs.Prelude.{Option, Some, None, flat_map, Contains}
-use Rattle.proto_base.specs.Limits.{limit_of}
-use Rattle.proto_base.specs.declared.limits.Limit.TheVariants as limit
-use Rattle.proto_compile.specs.Compilation.{Compilation, IsSound, bytes_at, set_of}
-use Rattle.proto_links.specs.Linked.{count_of, reach_of, AreReachesWhole}
+use Rattle.std.proofs.Common.{◌≡◌, ℕ, suc, ◌+◌, ◌*◌, ◌<◌, ◌≤◌, List, [], ◌∷◌, length, ap, arith, length-append, refl}
+use Rattle.std.specs.Prelude.{flat_map, Contains}
+use Rattle.proto_compile.specs.Compilation.{Compilation, IsSound}
 use Rattle.wire_format.specs.Field.{bytes_field}
-use Rattle.wire_format.specs.Varint.{varint_bytes}
 use Rattle.wire_format.proofs.Varints.{varint_short}
 use Rattle.reflect_requests.specs.Request.{Ask}
-use Rattle.reflect_core.specs.Answer.{Answer, IsAnswer, file, no_extensions, services, not_found, empty_request, root_of, named, not_named, declared, not_declared, no_extension, message, no_message, listed, nothing_asked}
+use Rattle.reflect_core.specs.Answer.{Answer, IsAnswer, file, no_extensions, services, not_found, empty_request, named, not_named, declared, not_declared, no_extension, message, no_message, listed, nothing_asked}
 use Rattle.reflect_core.specs.Reply.{Asked, contents_of, files_bytes, services_bytes, host_field, member_of, reply}
 use Rattle.reflect_core.proofs.Constants.{not_found_is, empty_request_is}
 use Rattle.reflect_core.proofs.ReadBounds.{ask_size}

@@ -8,11 +8,13 @@ mod answer;
 mod asked;
 mod body;
 mod file_reach;
+mod laws;
 mod reply;
 mod response;
 
 pub use body::answer_body;
 pub use first_reach::Mode;
+pub use laws::responses_are_unique;
 pub use reflect_requests::{
     Ask, Frames, Message, Request, Stream, frames_are_unique, read_frames, read_request,
     read_stream, requests_are_unique,

@@ -1,2 +1,3 @@
 mod Describing
+mod EveryAnswer
 mod OneAnswer

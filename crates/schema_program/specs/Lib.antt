@@ -1,1 +1,2 @@
 pub mod Describe
+pub mod Headline

@@ -1,7 +1,8 @@
 //! The command line, read by `clap`.
 
 use clap::error::ErrorKind;
-use clap::{Arg, ArgMatches, Command, Error, value_parser};
+use clap::{Arg, ArgAction, ArgMatches, Command, Error, value_parser};
+use reflect_core::Mode;
 use share_work::Plan;
 use std::alloc::{AllocError, Global};
 
@@ -12,6 +13,12 @@ pub(crate) enum Task<'a> {
     Describe { name: &'a str },
     /// Compile the sources below a folder.
     Compile { root: &'a str, plan: Plan },
+    /// Answer the request body on the input, over the sources below a folder.
+    Answer {
+        root: &'a str,
+        plan: Plan,
+        mode: Mode,
+    },
 }
 
 fn describe_command<'a>(alloc: Global) -> Result<Command<'a>, AllocError> {
@@ -68,6 +75,31 @@ fn compile_command<'a>(alloc: Global) -> Result<Command<'a>, AllocError> {
     with_plan(alloc, command)
 }
 
+fn repeat_argument<'a>(alloc: Global) -> Arg<'a> {
+    Arg::new(alloc, "repeat")
+        .long("repeat")
+        .action(ArgAction::SetTrue)
+        .help("send the file that answers with each reply, also where an earlier one carried it")
+}
+
+fn answer_command<'a>(alloc: Global) -> Result<Command<'a>, AllocError> {
+    let command = Command::new(alloc, "answer")
+        .about(
+            "Reads the request body of a gRPC-Web reflection stream from standard input and writes the response body",
+        )
+        .arg(root_argument(alloc))?
+        .arg(repeat_argument(alloc))?;
+    with_plan(alloc, command)
+}
+
+fn mode_of(matches: &ArgMatches<'_>) -> Mode {
+    if matches.get_flag("repeat") {
+        Mode::Repeat
+    } else {
+        Mode::Once
+    }
+}
+
 /// The plan that the words ask for. The parser of the words lets no others through than there are plans.
 fn plan_of(matches: &ArgMatches<'_>) -> Plan {
     let workers = matches.get_one::<u32>("workers").unwrap_or(1);
@@ -78,11 +110,15 @@ fn plan_of(matches: &ArgMatches<'_>) -> Plan {
 fn whole_command<'a>(alloc: Global) -> Result<Command<'a>, AllocError> {
     let describe = describe_command(alloc)?;
     let compile = compile_command(alloc)?;
+    let answer = answer_command(alloc)?;
     Command::new(alloc, "schema_server")
-        .about("A schema server for Protocol Buffers: compiles proto3 sources to descriptors")
+        .about(
+            "A schema server for Protocol Buffers: compiles proto3 sources to descriptors and answers reflection",
+        )
         .subcommand_required(true)
         .subcommand(describe)?
-        .subcommand(compile)
+        .subcommand(compile)?
+        .subcommand(answer)
 }
 
 /// The task that the words give, whose first is the program's name, or `clap`'s text for the user.
@@ -96,6 +132,11 @@ pub(crate) fn task_of<'a>(alloc: Global, words: &'a [&'a str]) -> Result<Task<'a
         Some(("compile", compile)) => Ok(Task::Compile {
             root: compile.get_str("root").unwrap_or(""),
             plan: plan_of(compile),
+        }),
+        Some(("answer", answer)) => Ok(Task::Answer {
+            root: answer.get_str("root").unwrap_or(""),
+            plan: plan_of(answer),
+            mode: mode_of(answer),
         }),
         _ => Err(command.error(ErrorKind::MissingSubcommand, "no command was given")?),
     }

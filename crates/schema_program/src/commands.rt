@@ -1,9 +1,11 @@
 //! The commands: what each reads, and what it writes.
 
 use crate::failure::{Failure, located};
+use crate::headline::{response_to_sources, set_of_sources};
 use crate::one_source::describe;
 use proto_base::{Limit, Limits};
-use proto_compile::{CompileError, Source, compile};
+use proto_compile::{CompileError, Source};
+use reflect_core::Mode;
 use share_work::{NoGate, Plan};
 use source_folder::{NamedText, read_folder};
 use std::alloc::{AllocError, AllocGlobal, Global};
@@ -11,16 +13,17 @@ use std::io::{self, Read, Write};
 use std::rt::Files;
 use std::thread::Threads;
 
-/// The whole of the input, or one byte more than a source may have.
-fn read_source<I: Read + Drop>(
+/// The whole of the input, or one byte more than the limit lets it have.
+fn read_input<I: Read + Drop>(
     alloc: Global,
     input: I,
     limits: &Limits,
+    limit: Limit,
 ) -> Result<Vec<u8>, Failure> {
-    let mut source = Vec::new(alloc);
-    let mut limited = input.take(limits.get(Limit::FileBytes) + 1);
-    match limited.read_to_end(&mut source) {
-        Ok(_) => Ok(source),
+    let mut bytes = Vec::new(alloc);
+    let mut limited = input.take(limits.get(limit) + 1);
+    match limited.read_to_end(&mut bytes) {
+        Ok(_) => Ok(bytes),
         Err(error) if error.kind() == io::ErrorKind::OutOfMemory => Err(Failure::NoMemory),
         Err(_) => Err(Failure::Input),
     }
@@ -53,7 +56,7 @@ where
     O: Write,
 {
     let limits = Limits::standard();
-    let text = read_source(rt.alloc(), input, &limits)?;
+    let text = read_input(rt.alloc(), input, &limits, Limit::FileBytes)?;
     let source = Source { name, text: &text };
     match describe(rt, source.name, source.text, &limits) {
         Ok(bytes) => write_line(output, hex::encode(rt.alloc(), bytes)?.as_str()),
@@ -88,8 +91,40 @@ where
     let limits = Limits::standard();
     let texts = read_folder(rt, root, &limits)?;
     let sources = sources_of(rt.alloc(), &texts)?;
-    match compile(rt, &sources, &limits, plan, &NoGate) {
-        Ok(compiled) => write_bytes(output, &compiled.set_bytes(rt.alloc())?),
+    match set_of_sources(rt, &sources, &limits, plan, &NoGate) {
+        Ok(set) => write_bytes(output, &set),
+        Err(CompileError::NoMemory) => Err(Failure::NoMemory),
+        Err(CompileError::First(fault)) => Err(located(fault, &sources)),
+    }
+}
+
+/// Answers the request body on the input over the sources below a folder. A fault of the sources comes before one of the input,
+/// which is answered as an empty body and not written.
+pub(crate) fn run_answer<R, I, O>(
+    rt: &R,
+    root: &str,
+    plan: Plan,
+    mode: Mode,
+    input: I,
+    output: &mut O,
+) -> Result<(), Failure>
+where
+    R: Threads + Files + AllocGlobal + Sync,
+    I: Read + Drop,
+    O: Write,
+{
+    let limits = Limits::standard();
+    let texts = read_folder(rt, root, &limits)?;
+    let sources = sources_of(rt.alloc(), &texts)?;
+    let (body, failure) = match read_input(rt.alloc(), input, &limits, Limit::BodyBytes) {
+        Ok(body) => (body, None),
+        Err(failure) => (Vec::new(rt.alloc()), Some(failure)),
+    };
+    match response_to_sources(rt, &sources, &limits, plan, &NoGate, mode, &body) {
+        Ok(response) => match failure {
+            None => write_bytes(output, &response),
+            Some(failure) => Err(failure),
+        },
         Err(CompileError::NoMemory) => Err(Failure::NoMemory),
         Err(CompileError::First(fault)) => Err(located(fault, &sources)),
     }

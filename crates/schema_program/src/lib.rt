@@ -4,8 +4,10 @@
 mod command_line;
 mod commands;
 mod failure;
+mod headline;
 mod one_source;
 mod program;
 
+pub use headline::{response_to_sources, set_of_sources};
 pub use one_source::describe;
 pub use program::run;

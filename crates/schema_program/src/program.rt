@@ -3,7 +3,7 @@
 ghost use Rattle.std.specs.Prelude.{◌≤◌};
 
 use crate::command_line::{Task, task_of};
-use crate::commands::{run_compile, run_describe};
+use crate::commands::{run_answer, run_compile, run_describe};
 use crate::failure::{Failure, Status};
 use clap::Error;
 use clap::error::ErrorKind;
@@ -52,6 +52,7 @@ where
         Err(error) => return explain(error, &mut output, &mut faults) as u8,
         Ok(Task::Describe { name }) => run_describe(rt, name, input, &mut output),
         Ok(Task::Compile { root, plan }) => run_compile(rt, root, plan, &mut output),
+        Ok(Task::Answer { root, plan, mode }) => run_answer(rt, root, plan, mode, input, &mut output),
     };
     let status = match done {
         Ok(()) => Status::Done,

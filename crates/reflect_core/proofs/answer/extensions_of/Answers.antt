@@ -1,4 +1,4 @@
-use Rattle.std.proofs.Common.{◌≡◌, ℕ, List, Some, sym, ap, ◌∙◌}
+use Rattle.std.proofs.Common.{◌≡◌, Some, sym, ap, ◌∙◌}
 use Rattle.std.proofs.lemmas.Bool.{false≢true}
 use Rattle.proto_desc.specs.declared.name_kind.NameKind.TheVariants.{Message}
 use Rattle.proto_desc.specs.declared.name_kind.NameKind.{NameKind}

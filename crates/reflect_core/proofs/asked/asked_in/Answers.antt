@@ -1,4 +1,4 @@
-use Rattle.std.proofs.Common.{◌≡◌, ◌+◌, ◌++◌, List, [], ◌∷◌, map, take, All, sym, subst, arith, refl}
+use Rattle.std.proofs.Common.{◌+◌, List, map, take, All, sym, subst, arith, refl}
 use Rattle.std.specs.List.{AllZip}
 use Rattle.std.proofs.lemmas.List.Elements.{All-push, All-get_or}
 use Rattle.proto_links.specs.Linked.{count_of}
@@ -6,7 +6,6 @@ use Rattle.reflect_core.specs.Response.{IsAsked, root}
 use Rattle.reflect_core.specs.ResponseSteps.{IsRootWithin, asked_of}
 use Rattle.reflect_core.specs.declared.asked.Asked as rust
 use Rattle.reflect_requests.specs.Frames.{Reads, bytes_of}
-use Rattle.reflect_requests.specs.Request.{ask_of}
 use Rattle.reflect_core.proofs.AskedRows.{zip_more}
 use Rattle.reflect_core.proofs.asked.asked_in.Goals as goal
 

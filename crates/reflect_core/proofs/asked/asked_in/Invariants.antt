@@ -1,4 +1,4 @@
-use Rattle.std.proofs.Common.{◌≡◌, map, take, All}
+use Rattle.std.proofs.Common.{map, take, All}
 use Rattle.std.specs.List.{AllZip}
 use Rattle.proto_links.specs.Linked.{count_of}
 use Rattle.reflect_core.specs.Response.{IsAsked, root}

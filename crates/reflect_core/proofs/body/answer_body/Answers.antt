@@ -1,14 +1,12 @@
-use Rattle.std.proofs.Common.{◌≡◌, ◌∙◌, ◌++◌, ℕ, List, Option, ap, map, sym, subst, All}
-use Rattle.std.specs.Prelude.{flat_map, Vec}
+use Rattle.std.proofs.Common.{◌≡◌, ◌∙◌, ◌++◌, ap, map, sym, subst, All}
+use Rattle.std.specs.Prelude.{flat_map}
 use Rattle.std.specs.List.{AllZip}
-use Rattle.std.specs.declared.alloc.Global.{Global}
+use Rattle.first_reach.proofs.Lists.{if_ok_then}
 use Rattle.first_reach.specs.Carried.{carried}
 use Rattle.proto_links.specs.Linked.{Linked, count_of, reach_of}
 use Rattle.reflect_requests.specs.Frames.{ReadsBody, bytes_of, frame}
 use Rattle.reflect_core.specs.Response.{IsAsked, root, replies_to, trailer}
 use Rattle.reflect_core.specs.ResponseSteps.{AreReplyable, AreServicesFor, IsRootWithin, asked_of, files_of}
-use Rattle.reflect_core.specs.declared.asked.Asked as rust
-use Rattle.reflect_core.proofs.Framing.{if_ok_then}
 use Rattle.reflect_core.proofs.AnsweringBody.{roots_within, replyable, allowed_of, answered}
 use Rattle.reflect_core.proofs.body.answer_body.Goals as goal
 

@@ -1,4 +1,4 @@
-use Rattle.std.proofs.Common.{◌≡◌, ◌∙◌, ap, List, ℕ}
+use Rattle.std.proofs.Common.{◌∙◌, ap, List, ℕ}
 use Rattle.std.specs.Prelude.{flat_map, map, string_bytes}
 use Rattle.std.proofs.lemmas.List.{take_all}
 use Rattle.proto_names.specs.Index.{Index}

@@ -1,4 +1,4 @@
-use Rattle.std.proofs.Common.{◌≡◌, ◌∙◌, List, ℕ, sym, ap, subst, arith}
+use Rattle.std.proofs.Common.{◌∙◌, ap, arith}
 use Rattle.reflect_core.specs.ResponseSteps.{files_of}
 use Rattle.reflect_core.proofs.RepliesMore.{frames_more, replyable_at}
 use Rattle.reflect_core.proofs.response.response_to.Goals as goal

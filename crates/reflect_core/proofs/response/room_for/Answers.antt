@@ -1,5 +1,3 @@
-use Rattle.std.proofs.Common.{◌≡◌, ◌∙◌, List, ℕ, sym, ap, subst}
-use Rattle.reflect_core.specs.ResponseSteps.{files_of}
 use Rattle.reflect_core.proofs.RepliesMore.{replyable_at}
 use Rattle.reflect_core.proofs.response.room_for.Goals as goal
 

@@ -44,6 +44,11 @@ invariant_of-result g c =
           within = rw (collected, c.get.ensures.value) at within;
           once = none_moved (occurrences c.args.files.now) c.sort.new.self (rw collected at c.in_ok-sort.ensures.all) none;
           all = all;
+          sound = record {
+            inside = below_files c.args.files.now c.in_ok-entries-2.entries all;
+            order = subst AreInNameOrder kept (order_names c.sort.new.self c.in_ok-sort.ensures.order);
+            services = c.in_ok-services.ensures ∙ ap services_of (c.as_slice-2.ensures ∙ kept);
+          };
         },
       ),
     )
@@ -53,10 +58,17 @@ returns-clause-indexed g c =
     let collected = rw c.in-Some.is at c.in_ok-entries.ensures.all in
     let within = rw c.in-Some.is at c.in_ok-entries.ensures.within in
     let all = rw collected at c.in_ok-sort.ensures.all in
+    let kept = sym c.in_ok-entries-2.ensures in
+    let moved = subst (IsPermutation (occurrences c.args.files.now)) kept all in
     let none = rw c.as_slice.ensures at (not_some _ c.first_twice.result c.in_default-first_twice.not-Some c.first_twice.ensures) in
     record {
       files = refl;
       within = rw (collected, c.get.ensures.value) at within;
       once = none_moved (occurrences c.args.files.now) c.sort.new.self all none;
-      all = subst (IsPermutation (occurrences c.args.files.now)) (sym c.in_ok-entries-2.ensures) all;
+      all = moved;
+      sound = record {
+        inside = below_files c.args.files.now c.in_ok-entries-2.entries moved;
+        order = subst AreInNameOrder kept (order_names c.sort.new.self c.in_ok-sort.ensures.order);
+        services = c.in_ok-services.ensures ∙ ap services_of (c.as_slice-2.ensures ∙ kept);
+      };
     }

@@ -1,4 +1,4 @@
-use Rattle.std.proofs.Common.{◌≡◌, ◌<◌, arith, ap}
+use Rattle.std.proofs.Common.{arith, ap}
 use Rattle.proto_links.specs.Linked.{Linked, count_of}
 use Rattle.reflect_core.proofs.Few.{few_files}
 use Rattle.reflect_core.proofs.Reaching.{reach_is}

@@ -1,0 +1,46 @@
+//! Sources, and the responses to bodies over them.
+
+use proto_base::Limits;
+use proto_compile::{Source, compile};
+use reflect_core::{Mode, answer_body};
+use share_work::{Gate, NoGate, Plan};
+use std::alloc::AllocGlobal;
+use std::test::Fail;
+use std::thread::Threads;
+
+/// The first and the third import the second, which declares a service.
+pub(super) static THREE_FILES: [(&str, &str); 3] = [
+    ("a.proto", "syntax = \"proto3\"; import \"b.proto\";"),
+    ("b.proto", "syntax = \"proto3\"; package p; service S {}"),
+    ("c.proto", "syntax = \"proto3\"; import \"b.proto\";"),
+];
+
+/// One message with a field.
+pub(super) static ONE_FILE: [(&str, &str); 1] = [(
+    "a.proto",
+    "syntax = \"proto3\"; message A { int32 x = 1; }",
+)];
+
+/// The response to a body over files, in hexadecimal digits.
+pub(super) fn response<R, G>(
+    rt: &R,
+    files: &[(&str, &str)],
+    limits: &Limits,
+    plan: Plan,
+    gate: &G,
+    mode: Mode,
+    body: &[u8],
+) -> Result<String, Fail>
+where
+    R: Threads + AllocGlobal + Sync,
+    G: Gate + Sync,
+{
+    let mut sources = Vec::new(rt.alloc());
+    for (name, text) in files {
+        let text = text.as_bytes();
+        sources.push(Source { name, text })?;
+    }
+    let compiled = compile(rt, &sources, limits, Plan::single(), &NoGate)?;
+    let bytes = answer_body(rt, &compiled, plan, gate, mode, body)?;
+    Ok(hex::encode(rt.alloc(), bytes)?)
+}

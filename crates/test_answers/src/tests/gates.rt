@@ -1,0 +1,60 @@
+//! Workers that are held until another has come.
+
+use super::fixtures::{THREE_FILES, response};
+use proto_base::Limits;
+use reflect_core::Mode;
+use share_work::{Gate, NoGate, Plan};
+use std::process::Abort;
+use std::sync::atomic::{AtomicU64, Ordering};
+use std::test::Fail;
+
+/// How often the worker of piece 0 looks for that of piece 1 before the test fails.
+const TURNS: u64 = 1_000_000_000;
+
+/// Requests for two files.
+const BODY: &[u8] = b"\x00\x00\x00\x00\x09\x1A\x07a.proto\x00\x00\x00\x00\x09\x1A\x07b.proto";
+
+/// Holds piece 0 of a phase until piece 1 has entered.
+#[derive(Drop)]
+struct Held {
+    phase: u8,
+    entered: AtomicU64,
+    missed: AtomicU64,
+}
+
+impl Gate for Held {
+    fn enter(&self, phase: u8, piece: u64) {
+        if phase != self.phase {
+            return;
+        }
+        if piece == 1 {
+            self.entered.store(1, Ordering::SeqCst);
+            return;
+        }
+        for _turn in 0..TURNS {
+            if self.entered.load(Ordering::SeqCst) == 1 {
+                return;
+            }
+        }
+        self.missed.store(1, Ordering::SeqCst);
+    }
+}
+
+/// Marks and replies are each made by two workers at once, and the response is that of one.
+#[test]
+fn workers_meet(rt: HostRuntime) -> Result<(), Fail> {
+    let limits = Limits::standard();
+    let plan = Plan::new(2, 1).ok_or("a plan")?;
+    let alone = response(&rt, &THREE_FILES, &limits, Plan::single(), &NoGate, Mode::Once, BODY)?;
+    for phase in 4..6 {
+        let gate = Held {
+            phase,
+            entered: AtomicU64::new(0),
+            missed: AtomicU64::new(0),
+        };
+        let found = response(&rt, &THREE_FILES, &limits, plan, &gate, Mode::Once, BODY)?;
+        assert!(rt; found == alone, "phase {phase}: {found}");
+        assert!(rt; gate.missed.load(Ordering::SeqCst) == 0, "phase {phase}: nobody came");
+    }
+    Ok(())
+}

@@ -1,0 +1,107 @@
+#!/usr/bin/env bash
+# `answer` through the built program: a stream over examples/ whose replies protoc decodes, by several plans, and the order of
+# faults. What each reply's bytes are is tested in crates/test_answers.
+set -u
+cd "$(dirname "$(readlink -f "$0")")/.." || exit 2
+folder=$(mktemp -d) || exit 2
+trap 'rm -rf "$folder"' EXIT
+LC_ALL=C
+./schema_server --help >/dev/null || exit 1
+program=crates/schema_server/out/schema_server
+failures=0
+
+fail() {
+    echo "tests/answers.sh: $1"
+    failures=$((failures + 1))
+}
+
+# A frame with a request of one field: its number, and its text.
+frame() {
+    local size=${#2}
+    printf "\\x00\\x00\\x00\\x00\\x$(printf %02x $((size + 2)))\\x$(printf %02x $(($1 * 8 + 2)))\\x$(printf %02x "$size")%s" "$2"
+}
+
+# Services, every file in set order, a symbol, and what is not there.
+{
+    frame 7 ''
+    while IFS= read -r name; do
+        frame 3 "$name"
+    done <tests/examples/order
+    frame 4 shop.orders.Order
+    frame 3 nowhere.proto
+} >"$folder/request"
+files=$(wc -l <tests/examples/order)
+
+"$program" answer --root examples --workers 1 --cut 1 <"$folder/request" >"$folder/response" || fail 'no response'
+for plan in '2 1' '3 2' '64 4096'; do
+    read -r workers cut <<<"$plan"
+    "$program" answer --root examples --workers "$workers" --cut "$cut" <"$folder/request" | cmp - "$folder/response" \
+        || fail "another response with $workers workers, cut $cut"
+done
+
+cc -O1 -o "$folder/split_frames" tests/split_frames.c || exit 2
+mkdir "$folder/replies" || exit 2
+"$folder/split_frames" "$folder/replies" <"$folder/response" >"$folder/trailers" || fail 'the response is no row of frames'
+printf 'grpc-status:0\r\n' | cmp - "$folder/trailers" || fail 'other trailers'
+[ "$(find "$folder/replies" -type f | wc -l)" = $((files + 3)) ] || fail 'not a reply for each request'
+
+# In set order each file is new and its imports were sent, so the replies hold the set, file by file.
+"$program" compile --root examples >"$folder/set" || fail 'no set'
+if command -v protoc >/dev/null; then
+    decoded() {
+        protoc --proto_path=tests --decode=grpc.reflection.v1.ServerReflectionResponse reflection.proto <"$folder/replies/$1"
+    }
+    number=1
+    while [ "$number" -le $((files + 3)) ]; do
+        decoded "$number" >"$folder/text$number" || fail "protoc does not decode reply $number"
+        number=$((number + 1))
+    done
+    grep -h '^service ' -r examples | wc -l >"$folder/wanted"
+    grep -c 'name:' "$folder/text1" | cmp - "$folder/wanted" || fail 'not as many services as the sources declare'
+    number=2
+    while [ "$number" -le $((files + 1)) ]; do
+        [ "$(grep -c 'file_descriptor_proto:' "$folder/text$number")" = 1 ] || fail "reply $number has not one file"
+        sed -n 's/^  file_descriptor_proto: /file: /p' "$folder/text$number"
+        number=$((number + 1))
+    done >"$folder/sent"
+    protoc --decode_raw <"$folder/set" >/dev/null || fail 'protoc does not read the set'
+    printf 'syntax = "proto3"; message Set { repeated bytes file = 1; }' >"$folder/set.proto"
+    protoc --proto_path="$folder" --decode=Set set.proto <"$folder/set" | cmp - "$folder/sent" || fail 'other files than those of the set'
+    grep -q 'file_descriptor_response {' "$folder/text$((files + 2))" || fail 'no file for a symbol'
+    grep -q 'error_message: "not found"' "$folder/text$((files + 3))" || fail 'a file that is not there'
+else
+    echo 'tests/answers.sh: protoc is not installed, so no reply was decoded'
+fi
+
+# With --repeat the file that answers goes again.
+{
+    frame 3 point.proto
+    frame 3 point.proto
+} >"$folder/twice"
+once=$("$program" answer --root examples <"$folder/twice" | wc -c)
+again=$("$program" answer --root examples --repeat <"$folder/twice" | wc -c)
+[ "$again" -gt "$once" ] || fail '--repeat sends no file again'
+
+# A body over its limit has no requests.
+head -c 1048577 /dev/zero | "$program" answer --root examples | od -An -v -tx1 | tr -d ' \n' >"$folder/got"
+printf '800000000f677270632d7374617475733a380d0a' | cmp - "$folder/got" || fail 'a body over the limit'
+
+# Faults: of the folder, of the sources, of the input, of the output.
+told() {
+    local status=$1 line=$2
+    shift 2
+    "$@" >"$folder/output" 2>"$folder/faults"
+    local got=$?
+    [ "$got" = "$status" ] && [ "$(cat "$folder/faults")" = "$line" ] && [ ! -s "$folder/output" ] || fail "$line: status $got, $(cat "$folder/faults")"
+}
+mkdir "$folder/broken" || exit 2
+printf 'syntax = "proto3"; message A { X x = 1; }' >"$folder/broken/a.proto"
+told 3 'device: folder' "$program" answer --root "$folder/nowhere" <"$folder/request"
+told 1 'a.proto:1:32: TypeNotFound' "$program" answer --root "$folder/broken" <"$folder"
+told 3 'device: input' "$program" answer --root examples <"$folder"
+"$program" answer --root examples <"$folder/request" >/dev/full 2>"$folder/faults"
+[ "$?" = 3 ] && [ "$(cat "$folder/faults")" = 'device: output' ] || fail 'an output that takes nothing'
+"$program" answer </dev/null >/dev/null 2>&1
+[ "$?" = 2 ] || fail 'a command line without a root'
+
+[ "$failures" = 0 ]
