@@ -1,26 +1,24 @@
 -- What sources are compiled to, asked in any way.
-use Rattle.std.proofs.Common.{◌≡◌, ◌≢◌, ◌∙◌, sym, ℕ, zero, suc, ◌+◌, ◌<◌, List, [], ◌∷◌, length, get_or, map, ap, refl, subst, arith, Bool, true, false, ◌||◌, filter, cond, eqb, eq-eqb, eqb-true, Ordering, Less, Equal, Greater}
-use Rattle.std.specs.Prelude.{Contains, IsPermutation, IsSorted}
+use Rattle.std.proofs.Common.{◌≡◌, ◌≢◌, ◌∙◌, sym, ℕ, zero, suc, ◌+◌, ◌<◌, List, [], ◌∷◌, length, get_or, map, ap, refl, arith, Bool, true, false, ◌||◌, filter, cond, eqb, eq-eqb, eqb-true, Ordering, Less, Equal, Greater}
+use Rattle.std.specs.Prelude.{Contains, IsSorted}
 use Rattle.std.specs.Cmp.Lexicographic.{slice_cmp}
-use Rattle.std.specs.List.{list_any, sum_by}
+use Rattle.std.specs.List.{sum_by}
 use Rattle.std.specs.Ordering.{nat_cmp, is_lt, ordering_reverse}
 use Rattle.std.proofs.lemmas.Bool.{true≢false, false≢true}
 use Rattle.std.proofs.lemmas.Cmp.{nat_list_cmp_total}
 use Rattle.std.proofs.lemmas.List.{length-map}
-use Rattle.std.proofs.lemmas.List.Sorted.{Contains-permutation, sum_by-IsPermutation}
+use Rattle.std.proofs.lemmas.List.Sorted.{sum_by-IsPermutation}
 use Rattle.std.proofs.lemmas.List.Sums.{sum_by-cons}
 use Rattle.std.proofs.lemmas.Slice.Zip.{AllZip-long}
 use Rattle.proto_base.specs.declared.limits.Limits.{Limits}
 use Rattle.proto_desc.specs.declared.file.FileDesc.{FileDesc}
-use Rattle.proto_links.specs.Imports.{Reaches}
-use Rattle.proto_links.specs.Linked.{AreLinked, IsReach, Linked, count_of, has, reach_of}
+use Rattle.proto_links.specs.Linked.{AreLinked, Linked, has, reach_of}
 use Rattle.proto_links.proofs.Rising.{Rises}
 use Rattle.proto_links.proofs.Whole.{whole_of}
 use Rattle.proto_names.specs.Index.{Index, Indexes, is_service_kind, name_of, services_of}
 use Rattle.proto_names.specs.Occurrences.{Occurrence, occurrences}
 use Rattle.proto_names.proofs.Occurring.{services_sorted}
 use Rattle.proto_compile.specs.Alike.{AreAlike}
-use Rattle.proto_compile.specs.Analysed.{IsAnalysed}
 use Rattle.proto_compile.specs.Compilation.{Compilation, IsCompiled, file_name}
 use Rattle.proto_compile.specs.Descriptions.{SourceDescribes}
 use Rattle.proto_compile.specs.Sources as sources_of
@@ -56,16 +54,16 @@ not_greater o Greater same h more = (let e : Less ≡ Greater = sym same ∙ mor
 names_rise : (names : List (List ℕ)) → IsSorted (slice_cmp nat_cmp) names → Rises IsNoLater names
 names_rise names up k d h =
     not_greater (slice_cmp nat_cmp (get_or names k d) (get_or names (k + 1) d)) (slice_cmp nat_cmp (get_or names (k + 1) d) (get_or names k d))
-      (nat_list_cmp_total.antisymm (get_or names k d) (get_or names (k + 1) d)) (up k d (omega arith) h)
+    (nat_list_cmp_total.antisymm (get_or names k d) (get_or names (k + 1) d)) (up k d (omega arith) h)
 
 one_services : (descs : List FileDesc) (limits : Limits) (index other : Index) → Indexes descs limits index → Indexes descs limits other → index.services ≡ other.services
 one_services descs limits index other first second =
     first.sound.services
     ∙ one_sorted (services_of index.occurrences) (services_of other.occurrences)
-        (names_rise (services_of index.occurrences) (services_sorted index.occurrences first.sound.order))
-        (names_rise (services_of other.occurrences) (services_sorted other.occurrences second.sound.order))
-        (λ f. counted_services f index.occurrences ∙ sum_by-IsPermutation (counted f) (occurrences descs) index.occurrences first.all
-          ∙ sym (sum_by-IsPermutation (counted f) (occurrences descs) other.occurrences second.all) ∙ sym (counted_services f other.occurrences))
+    (names_rise (services_of index.occurrences) (services_sorted index.occurrences first.sound.order))
+    (names_rise (services_of other.occurrences) (services_sorted other.occurrences second.sound.order))
+    (λ f. counted_services f index.occurrences ∙ sum_by-IsPermutation (counted f) (occurrences descs) index.occurrences first.all
+    ∙ sym (sum_by-IsPermutation (counted f) (occurrences descs) other.occurrences second.all) ∙ sym (counted_services f other.occurrences))
     ∙ sym second.sound.services
 
 -- ---- what files reach
@@ -111,7 +109,7 @@ one_reach descs links others first second order a below =
     let count = first.count in let other_count = second.count in
     (whole_of descs links first).part a (omega (arith, below, count))
     ∙ filter_alike (λ b. has b (reach_of links a)) (λ b. has b (reach_of others a)) links.set_order
-        (λ b. has_alike b (reach_of links a) (reach_of others a) (λ w. (theirs.members b).1 ((mine.members b).0 w)) (λ w. (mine.members b).1 ((theirs.members b).0 w)))
+    (λ b. has_alike b (reach_of links a) (reach_of others a) (λ w. (theirs.members b).1 ((mine.members b).0 w)) (λ w. (mine.members b).1 ((theirs.members b).0 w)))
     ∙ ap (filter (λ b. has b (reach_of others a))) order
     ∙ sym ((whole_of descs others second).part a (omega (arith, below, other_count)))
 

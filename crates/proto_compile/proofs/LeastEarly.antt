@@ -1,17 +1,13 @@
 -- Up to imports, what a pass finds first is the least of what it finds.
-use Rattle.std.proofs.Common.{◌≡◌, ◌≢◌, ◌∙◌, sym, ℕ, zero, suc, ◌+◌, ◌-◌, ◌<◌, ◌≤◌, List, [], ◌∷◌, length, take, map, get_or, ap, refl, subst, arith, inl, inr, ◌⊎◌, Ordering, Less, Equal, Greater}
+use Rattle.std.proofs.Common.{◌≡◌, ◌≢◌, ◌∙◌, sym, ℕ, zero, suc, ◌+◌, ◌-◌, ◌<◌, ◌≤◌, List, [], ◌∷◌, length, take, ap, refl, subst, arith, inl, inr, ◌⊎◌, Ordering, Less, Equal, Greater}
 use Rattle.std.specs.Prelude.{false}
 use Rattle.std.specs.List.{AllZip}
 use Rattle.std.specs.Cmp.Lexicographic.{slice_cmp}
 use Rattle.std.specs.Ordering.{nat_cmp, is_gt}
 use Rattle.std.proofs.lemmas.Bool.{cases_order, true≢false}
 use Rattle.std.proofs.lemmas.Cmp.{nat_list_cmp_total, tied_itself, upto}
-use Rattle.std.proofs.lemmas.List.{length-map}
-use Rattle.proto_base.specs.Least.{AtMost, spot}
-use Rattle.proto_base.specs.Limits.{limit_of}
 use Rattle.proto_base.specs.declared.kind.Kind.{Kind}
 use Rattle.proto_base.specs.declared.kind.Kind.TheVariants as kind
-use Rattle.proto_base.specs.declared.limits.Limit.TheVariants as limit
 use Rattle.proto_base.specs.declared.limits.Limits.{Limits}
 use Rattle.proto_base.specs.declared.place.Place.{Place}
 use Rattle.proto_desc.specs.declared.file.FileDesc.{FileDesc}
@@ -21,10 +17,10 @@ use Rattle.proto_links.specs.Imports as imports
 use Rattle.proto_compile.specs.Descriptions.{Describe, SourceDescribes}
 use Rattle.proto_compile.specs.FaultSet.{IsNoLater, found_as}
 use Rattle.proto_compile.specs.Faults.{Stands, start}
-use Rattle.proto_compile.specs.Sources.{AreByName, AreSorted, NamesRise, name_at, name_of, text_of}
+use Rattle.proto_compile.specs.Sources.{AreByName, AreSorted, name_at, name_of, text_of}
 use Rattle.proto_compile.specs.declared.source.Source.{Source}
 use Rattle.proto_compile.proofs.Checks.{Check, Told, told}
-use Rattle.proto_compile.proofs.EarlyChecks.{FindsImport, FindsLocal, FindsRepeated, count_check, import_check, local_check, order_check, same_told}
+use Rattle.proto_compile.proofs.EarlyChecks.{FindsLocal, FindsRepeated, count_check, import_check, local_check, order_check, same_told}
 use Rattle.proto_compile.proofs.FaultOrder.{NoLater, later_in_name, later_or_same_name, later_spot, same_later}
 use Rattle.proto_compile.proofs.OneOrder.{none_twice, one_names, one_order, same_name_at}
 use Rattle.proto_compile.proofs.OneTyping.{one_description, standing_in, standing_one, zipped_at}

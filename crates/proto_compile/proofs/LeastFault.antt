@@ -1,5 +1,5 @@
 -- The first fault of sources is the least of all of them.
-use Rattle.std.proofs.Common.{◌≡◌, ℕ, List, [], ◌∷◌, refl, subst, ◌⊎◌, inl, inr}
+use Rattle.std.proofs.Common.{◌≡◌, ℕ, List, [], ◌∷◌, refl, subst, inl, inr}
 use Rattle.proto_base.specs.declared.kind.Kind.{Kind}
 use Rattle.proto_base.specs.declared.kind.Kind.TheVariants as kind
 use Rattle.proto_base.specs.declared.limits.Limits.{Limits}
@@ -10,7 +10,7 @@ use Rattle.proto_links.specs.Linked.{Linked}
 use Rattle.proto_names.specs.Index.{Index}
 use Rattle.proto_compile.specs.Analysed.{IsAnalysed}
 use Rattle.proto_compile.specs.Descriptions.{Describe}
-use Rattle.proto_compile.specs.FaultSet.{IsLeastFault, IsNoLater, IsSomeFault, file_fault, found_as, import_fault, long_descriptor, long_set, many_files, many_names, repeated_file_name, repeated_name, type_fault}
+use Rattle.proto_compile.specs.FaultSet.{IsLeastFault, IsSomeFault, file_fault, import_fault, long_descriptor, long_set, many_files, many_names, repeated_file_name, repeated_name, type_fault}
 use Rattle.proto_compile.specs.Faults.{IsFirstFault, descriptor_too_long, file_name_twice, in_file, in_imports, in_types, name_twice, set_too_long, too_many_files, too_many_names}
 use Rattle.proto_compile.specs.declared.source.Source.{Source}
 use Rattle.proto_compile.proofs.Checks.{Check, FirstOf, Told, told}

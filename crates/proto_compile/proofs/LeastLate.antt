@@ -1,10 +1,9 @@
 -- From names on, what a pass finds first is the least of what it finds.
-use Rattle.std.proofs.Common.{◌≡◌, ◌∙◌, sym, ℕ, ◌<◌, ◌≤◌, List, [], length, take, get_or, ap, refl, subst, arith, inl, inr}
-use Rattle.std.specs.Prelude.{Contains, Some}
+use Rattle.std.proofs.Common.{◌≡◌, ◌∙◌, sym, ℕ, ◌<◌, List, [], length, take, get_or, ap, refl, subst, arith, inl, inr}
 use Rattle.std.specs.List.{All}
 use Rattle.std.proofs.lemmas.Bool.{cases_order}
 use Rattle.std.proofs.lemmas.List.Elements.{All-contains}
-use Rattle.proto_base.specs.Least.{IsLeast, spot}
+use Rattle.proto_base.specs.Least.{spot}
 use Rattle.proto_base.specs.Limits.{limit_of}
 use Rattle.proto_base.specs.declared.kind.Kind.{Kind}
 use Rattle.proto_base.specs.declared.kind.Kind.TheVariants as kind
@@ -16,7 +15,7 @@ use Rattle.proto_links.specs.Imports as imports
 use Rattle.proto_links.specs.Linked.{Linked}
 use Rattle.proto_names.proofs.Built.{below_from}
 use Rattle.proto_names.specs.Index.{Index}
-use Rattle.proto_names.specs.Occurrences.{IsEarlier, IsFirstTwice, IsTwice, NoneTwice, Occurrence, occurrences}
+use Rattle.proto_names.specs.Occurrences.{IsFirstTwice, IsTwice, NoneTwice, Occurrence, occurrences}
 use Rattle.wire_bytes.specs.Descriptor.{file_desc_bytes}
 use Rattle.proto_compile.specs.Analysed.{AreResolved, AreTypedFrom, IsAnalysed, TypesBreakAt}
 use Rattle.proto_compile.specs.Compilation.{IsShort}
@@ -25,8 +24,8 @@ use Rattle.proto_compile.specs.FaultSet.{IsNoLater, found_as}
 use Rattle.proto_compile.specs.Faults.{StandsDesc, start}
 use Rattle.proto_compile.specs.declared.source.Source.{Source}
 use Rattle.proto_compile.proofs.Checks.{Told, told}
-use Rattle.proto_compile.proofs.FaultOrder.{NoLater, same_later}
-use Rattle.proto_compile.proofs.LateChecks.{FindsBreak, FindsLong, FindsTwice, length_check, many_check, many_exact, set_check, set_exact, twice_check, type_check}
+use Rattle.proto_compile.proofs.FaultOrder.{same_later}
+use Rattle.proto_compile.proofs.LateChecks.{length_check, many_check, many_exact, set_check, set_exact, twice_check, type_check}
 use Rattle.proto_compile.proofs.LeastEarly.{Least, later_by_file}
 use Rattle.proto_compile.proofs.Making.{typed_length}
 use Rattle.proto_compile.proofs.OneCompilation.{IsFirstLong}

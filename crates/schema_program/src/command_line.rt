@@ -10,9 +10,14 @@ use std::alloc::{AllocError, Global};
 #[derive(Drop)]
 pub(crate) enum Task<'a> {
     /// Describe the source on the input, under this file name.
-    Describe { name: &'a str },
+    Describe {
+        name: &'a str,
+    },
     /// Compile the sources below a folder.
-    Compile { root: &'a str, plan: Plan },
+    Compile {
+        root: &'a str,
+        plan: Plan,
+    },
     /// Answer the request body on the input, over the sources below a folder.
     Answer {
         root: &'a str,

@@ -52,7 +52,14 @@ where
         Err(error) => return explain(error, &mut output, &mut faults) as u8,
         Ok(Task::Describe { name }) => run_describe(rt, name, input, &mut output),
         Ok(Task::Compile { root, plan }) => run_compile(rt, root, plan, &mut output),
-        Ok(Task::Answer { root, plan, mode }) => run_answer(rt, root, plan, mode, input, &mut output),
+        Ok(Task::Answer { root, plan, mode }) => run_answer(
+            rt,
+            root,
+            plan,
+            mode,
+            input,
+            &mut output,
+        ),
     };
     let status = match done {
         Ok(()) => Status::Done,

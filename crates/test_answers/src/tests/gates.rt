@@ -45,7 +45,15 @@ impl Gate for Held {
 fn workers_meet(rt: HostRuntime) -> Result<(), Fail> {
     let limits = Limits::standard();
     let plan = Plan::new(2, 1).ok_or("a plan")?;
-    let alone = response(&rt, &THREE_FILES, &limits, Plan::single(), &NoGate, Mode::Once, BODY)?;
+    let alone = response(
+        &rt,
+        &THREE_FILES,
+        &limits,
+        Plan::single(),
+        &NoGate,
+        Mode::Once,
+        BODY,
+    )?;
     for phase in 4..6 {
         let gate = Held {
             phase,
@@ -54,7 +62,10 @@ fn workers_meet(rt: HostRuntime) -> Result<(), Fail> {
         };
         let found = response(&rt, &THREE_FILES, &limits, plan, &gate, Mode::Once, BODY)?;
         assert!(rt; found == alone, "phase {phase}: {found}");
-        assert!(rt; gate.missed.load(Ordering::SeqCst) == 0, "phase {phase}: nobody came");
+        assert!(rt;
+            gate.missed.load(Ordering::SeqCst) == 0,
+            "phase {phase}: nobody came"
+        );
     }
     Ok(())
 }

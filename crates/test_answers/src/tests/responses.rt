@@ -81,8 +81,19 @@ fn responses(rt: HostRuntime) -> Result<(), Fail> {
         let body = hex::decode(rt.alloc(), body)?;
         for (workers, cut) in &PLANS {
             let plan = Plan::new(*workers, *cut).ok_or("a plan")?;
-            let found = response(&rt, files_of(files), &limits, plan, &NoGate, mode_of(mode), &body)?;
-            assert!(rt; found.as_str() == wanted, "{title}, {workers} workers: {found}");
+            let found = response(
+                &rt,
+                files_of(files),
+                &limits,
+                plan,
+                &NoGate,
+                mode_of(mode),
+                &body,
+            )?;
+            assert!(rt;
+                found.as_str() == wanted,
+                "{title}, {workers} workers: {found}"
+            );
         }
     }
     Ok(())
