@@ -73,14 +73,21 @@ else
     echo 'tests/answers.sh: protoc is not installed, so no reply was decoded'
 fi
 
-# With --repeat the file that answers goes again.
-{
-    frame 3 point.proto
-    frame 3 point.proto
-} >"$folder/twice"
-once=$("$program" answer --root examples <"$folder/twice" | wc -c)
-again=$("$program" answer --root examples --repeat <"$folder/twice" | wc -c)
-[ "$again" -gt "$once" ] || fail '--repeat sends no file again'
+# The rows of crates/test_answers under the standard limits: their files, their mode, and body and response in hexadecimal digits.
+mkdir "$folder/F" "$folder/M" || exit 2
+printf 'syntax = "proto3"; import "b.proto";' | tee "$folder/F/a.proto" >"$folder/F/c.proto"
+printf 'syntax = "proto3"; package p; service S {}' >"$folder/F/b.proto"
+printf 'syntax = "proto3"; message A { int32 x = 1; }' >"$folder/M/a.proto"
+rows=0
+while IFS='|' read -r sources mode _ title body wanted; do
+    rows=$((rows + 1))
+    repeat=()
+    [ "$mode" = repeat ] && repeat=(--repeat)
+    # shellcheck disable=SC2001 # two digits at a time
+    printf '%b' "$(sed 's/../\\x&/g' <<<"$body")" | "$program" answer --root "$folder/$sources" "${repeat[@]}" | od -An -v -tx1 | tr -d ' \n' >"$folder/got"
+    [ "$(cat "$folder/got")" = "$wanted" ] || fail "$title: $(cat "$folder/got")"
+done < <(sed -n 's/^    \([FM]|[a-z]*|-|.*\)$/\1/p' crates/test_answers/src/tests/responses.rt | sed 's/\\n\\$//; s/";$//')
+[ "$rows" -gt 20 ] || fail 'the rows were not found'
 
 # A body over its limit has no requests.
 head -c 1048577 /dev/zero | "$program" answer --root examples | od -An -v -tx1 | tr -d ' \n' >"$folder/got"
