@@ -3,18 +3,11 @@ use Rattle.std.proofs.Common.{◌≡◌, ℕ, zero, suc, ◌<◌, ◌≤◌, ◌
 use Rattle.std.specs.Prelude.{Contains}
 use Rattle.std.specs.List.{list_any}
 use Rattle.std.proofs.lemmas.Bool.{false≢true}
+use Rattle.first_reach.proofs.Lists.{or_left, or_right}
 use Rattle.share_work.specs.Reach.{Reaches}
 use Rattle.share_work.proofs.Sums.{SomePass-any}
 use Rattle.proto_links.specs.Linked.{Linked, AreReachesWhole, count_of, reach_of, has}
 use Rattle.reflect_core.specs.ResponseSteps.{IsReach}
-
-or_left : (a b : Bool) → a ≡ true → (a || b) ≡ true
-or_left true b e = refl
-or_left false b e = absurd (false≢true e)
-
-or_right : (a b : Bool) → b ≡ true → (a || b) ≡ true
-or_right true b e = refl
-or_right false b e = e
 
 any_at : (g : ℕ) (xs : List ℕ) (k d : ℕ) → k < length xs → get_or xs k d ≡ g → list_any (λ h. eqb h g) xs ≡ true
 any_at g [] k d below is = absurd (omega arith)
