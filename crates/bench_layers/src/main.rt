@@ -19,6 +19,7 @@ use proto_lower::lower;
 use proto_names::NameIndex;
 use proto_syntax::parse;
 use proto_tokens::tokenize;
+use proto_tree::FileTree;
 use proto_types::typed;
 use reflect_requests::read_frames;
 use source_folder::{NamedText, read_folder};
@@ -44,6 +45,20 @@ fn since<R: Clock>(rt: &R, start: Instant) -> Duration {
     start.elapsed(rt).unwrap_or(Duration::ZERO)
 }
 
+/// The tree of a source, and when its tokens and it were there.
+fn tree_of<'s, R: AllocGlobal + Clock>(
+    rt: &R,
+    source: &'s NamedText,
+    start: Instant,
+) -> anyhow::Result<(FileTree<'s>, Duration, Duration)> {
+    let alloc = rt.alloc();
+    let limits = Limits::standard();
+    let tokens = tokenize(alloc, source.text.as_slice(), &limits)?;
+    let tokens_end = since(rt, start);
+    let tree = parse(alloc, &tokens, &limits)?;
+    Ok((tree, tokens_end, since(rt, start)))
+}
+
 /// The descriptor of a source that breaks no rule of its own.
 fn described<'s, R: AllocGlobal + Clock>(
     rt: &R,
@@ -51,15 +66,11 @@ fn described<'s, R: AllocGlobal + Clock>(
     times: &mut Times,
 ) -> anyhow::Result<FileDesc<'s>> {
     let alloc = rt.alloc();
-    let limits = Limits::standard();
     let start = Instant::now(rt)?;
-    let tokens = tokenize(alloc, source.text.as_slice(), &limits)?;
-    let tokens_end = since(rt, start);
-    let tree = parse(alloc, &tokens, &limits)?;
-    let tree_end = since(rt, start);
+    let (tree, tokens_end, tree_end) = tree_of(rt, source, start)?;
     let desc = lower(alloc, source.name.as_str(), &tree)?;
     let desc_end = since(rt, start);
-    let fault = first_check_fault(alloc, &tree, &desc, &limits)?;
+    let fault = first_check_fault(alloc, &tree, &desc, &Limits::standard())?;
     let checks_end = since(rt, start);
     if let Some((place, kind)) = fault {
         let name = source.name.as_str();
@@ -67,6 +78,19 @@ fn described<'s, R: AllocGlobal + Clock>(
     }
     times.add_local(tokens_end, tree_end, desc_end, checks_end);
     Ok(desc)
+}
+
+/// The descriptors of sources.
+fn descriptors<'s, R: AllocGlobal + Clock>(
+    rt: &R,
+    sources: &'s [NamedText],
+    times: &mut Times,
+) -> anyhow::Result<Vec<FileDesc<'s>>> {
+    let mut descs = Vec::with_capacity(rt.alloc(), sources.len())?;
+    for source in sources {
+        descs.push(described(rt, source, times)?)?;
+    }
+    Ok(descs)
 }
 
 /// The descriptors with their types resolved.
@@ -100,16 +124,12 @@ fn written(alloc: Global, descs: &[FileDesc]) -> anyhow::Result<usize> {
     Ok(bytes)
 }
 
-/// One round over all sources.
-fn round<R: Threads + AllocGlobal + Clock + Sync>(
+/// What all files have together: links, an index, types, bytes.
+fn common<R: Threads + AllocGlobal + Clock + Sync>(
     rt: &R,
-    sources: &[NamedText],
-) -> anyhow::Result<(Counts, Times)> {
-    let mut times = Times::none();
-    let mut descs = Vec::with_capacity(rt.alloc(), sources.len())?;
-    for source in sources {
-        descs.push(described(rt, source, &mut times)?)?;
-    }
+    descs: Vec<FileDesc>,
+    times: &mut Times,
+) -> anyhow::Result<Counts> {
     if !in_name_order(&descs) {
         bail!("files that are not in the order of their names");
     }
@@ -127,11 +147,21 @@ fn round<R: Threads + AllocGlobal + Clock + Sync>(
     } else {
         0
     };
-    let counts = Counts {
+    Ok(Counts {
         bytes,
         names: index.services().len(),
         reached,
-    };
+    })
+}
+
+/// One round over all sources.
+fn round<R: Threads + AllocGlobal + Clock + Sync>(
+    rt: &R,
+    sources: &[NamedText],
+) -> anyhow::Result<(Counts, Times)> {
+    let mut times = Times::none();
+    let descs = descriptors(rt, sources, &mut times)?;
+    let counts = common(rt, descs, &mut times)?;
     Ok((counts, times))
 }
 
