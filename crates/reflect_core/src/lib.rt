@@ -19,3 +19,4 @@ pub use reflect_requests::{
     Ask, Frames, Message, Request, Stream, frames_are_unique, read_frames, read_request,
     read_stream, requests_are_unique,
 };
+pub use response::response_without_replies;

@@ -75,6 +75,15 @@ fn put_trailer(alloc: Global, out: &mut Vec<u8>, status: u8) -> Result<(), Alloc
     out.extend_from_slice(text.as_bytes())
 }
 
+/// The response of a stream that ends with this status (gRPC's statuscodes.md) before any reply.
+pub fn response_without_replies(alloc: Global, status: u8) -> Result<Vec<u8>, AllocError>
+    ensures { IfOk result (λ bytes. bytes.items ≡ frame 128 (trailer status)) }
+{
+    let mut out = Vec::new(alloc);
+    put_trailer(alloc, &mut out, status)?;
+    Ok(out)
+}
+
 /// The response to requests, of which each reply carries these files.
 pub(crate) fn response_to(
     alloc: Global,

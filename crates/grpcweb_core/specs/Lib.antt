@@ -1,0 +1,4 @@
+pub mod Counting
+pub mod Exchange
+pub mod Http
+pub mod Streams

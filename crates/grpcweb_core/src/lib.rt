@@ -1,0 +1,18 @@
+//! The mapping of a reflection stream to what carries it: a request over HTTP, or a reader and a writer.
+//!
+//! The standards are gRPC's PROTOCOL-WEB.md and RFC 9110. What a body is answered is said by the crate `reflect_core`, whose
+//! `Mode` is a type of this crate's calls too.
+#![tactic(auto)]
+
+mod content_type;
+mod counted;
+mod exchange;
+mod mapping;
+mod stream;
+mod target;
+
+pub use counted::Counted;
+pub use exchange::answer_io;
+pub use reflect_core::Mode;
+pub use mapping::{HttpAnswer, respond};
+pub use stream::{CountedRead, CountedWrite, IoFault};
