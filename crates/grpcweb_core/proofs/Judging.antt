@@ -62,8 +62,7 @@ name_long media name same = sym (length-map name to_ascii_lowercase) ∙ ap leng
 
 pub parts_of : (media text : List ℕ) → IsOfType media text → (length media ≤ length text) × (map to_ascii_lowercase (take (length media) text) ≡ map to_ascii_lowercase media) × IsBehindType (drop (length media) text)
 parts_of media text (name, behind, is, same, left) =
-    let long = name_long media name same in
-    (
+    let long = name_long media name same in (
       (let h = ap length is ∙ length-append name behind in omega (arith, h, long)),
       ap (λ l. map to_ascii_lowercase l) (ap (λ l. take (length media) l) is ∙ take_at name behind (length media) long) ∙ same,
       subst IsBehindType (sym (ap (λ l. drop (length media) l) is ∙ drop_at name behind (length media) long)) left,

@@ -26,7 +26,8 @@ fn is_of_type(content_type: &str, media: &str) -> bool
     ensures { IsTrue result ↔ IsOfType media.now content_type.now }
 {
     match content_type.as_bytes().split_at_checked(media.len()) {
-        Some((name, behind)) => name.eq_ignore_ascii_case(media.as_bytes()) && is_behind_type(behind),
+        Some((name, behind)) => name.eq_ignore_ascii_case(media.as_bytes())
+            && is_behind_type(behind),
         None => false,
     }
 }

@@ -2,7 +2,6 @@
 
 ghost use Rattle.std.specs.Prelude.{◌≡◌, ◌+◌, ◌-◌, ◌<◌, ◌≤◌, ◌^◌, length, take, IfOk};
 ghost use Rattle.grpcweb_core.specs.Exchange.{IsBodyRead, IsExchange, IsFewMore, IsFilled, IsHandedOn, room_of};
-
 ghost use Rattle.proto_base.specs.Limits.{limit_of};
 ghost use Rattle.proto_base.specs.declared.limits.Limit.TheVariants.{BodyBytes};
 
@@ -57,13 +56,17 @@ fn write_response<O: CountedWrite>(writer: &mut O, response: &[u8]) -> Result<()
     let mut written = 0;
     while written < response.len() {
         match writer.write(&response[written..]) {
-            Ok(0) | Err(_) => return Err(IoFault::WriteFault { written: written as u64 }),
+            Ok(0) | Err(_) => return Err(IoFault::WriteFault {
+                written: written as u64,
+            }),
             Ok(count) => written += count,
         }
     }
     match writer.flush() {
         Ok(()) => Ok(()),
-        Err(_) => Err(IoFault::WriteFault { written: written as u64 }),
+        Err(_) => Err(IoFault::WriteFault {
+            written: written as u64,
+        }),
     }
 }
 

@@ -13,6 +13,6 @@ mod target;
 
 pub use counted::Counted;
 pub use exchange::answer_io;
-pub use reflect_core::Mode;
 pub use mapping::{HttpAnswer, respond};
+pub use reflect_core::Mode;
 pub use stream::{CountedRead, CountedWrite, IoFault};

@@ -16,9 +16,7 @@ pub enum IoFault {
     ReadFault,
     /// A write or a flush failed, after this many bytes of the response.
     #[error("device: output")]
-    WriteFault {
-        written: u64,
-    },
+    WriteFault { written: u64 },
     /// Nothing was written.
     #[error("out of memory")]
     NoMemory,

@@ -27,6 +27,11 @@ fn is_target_of(target: &str, path: &str) -> bool
 pub(crate) fn is_reflection(target: &str) -> bool
     ensures { IsTrue result ↔ IsReflection target.now }
 {
-    is_target_of(target, "/grpc.reflection.v1.ServerReflection/ServerReflectionInfo")
-        || is_target_of(target, "/grpc.reflection.v1alpha.ServerReflection/ServerReflectionInfo")
+    is_target_of(
+        target,
+        "/grpc.reflection.v1.ServerReflection/ServerReflectionInfo",
+    ) || is_target_of(
+        target,
+        "/grpc.reflection.v1alpha.ServerReflection/ServerReflectionInfo",
+    )
 }

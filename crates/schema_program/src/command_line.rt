@@ -24,6 +24,15 @@ pub(crate) enum Task<'a> {
         plan: Plan,
         mode: Mode,
     },
+    /// Serve reflection over HTTP at an address and a port, over the sources below a folder.
+    Serve {
+        root: &'a str,
+        listen: &'a str,
+        plan: Plan,
+        mode: Mode,
+        /// How many connections are served; without a count there is no end.
+        connections: Option<u64>,
+    },
 }
 
 fn describe_command<'a>(alloc: Global) -> Result<Command<'a>, AllocError> {
@@ -97,6 +106,32 @@ fn answer_command<'a>(alloc: Global) -> Result<Command<'a>, AllocError> {
     with_plan(alloc, command)
 }
 
+fn listen_argument<'a>(alloc: Global) -> Arg<'a> {
+    Arg::new(alloc, "listen")
+        .long("listen")
+        .value_name("ADDR:PORT")
+        .required(true)
+        .help("the address and the port to listen at, as 127.0.0.1:8080; port 0 takes a free one")
+}
+
+fn connections_argument<'a>(alloc: Global) -> Arg<'a> {
+    Arg::new(alloc, "connections")
+        .long("connections")
+        .value_name("N")
+        .value_parser(value_parser!(u64))
+        .help("end after so many connections; without it the service goes on")
+}
+
+fn serve_command<'a>(alloc: Global) -> Result<Command<'a>, AllocError> {
+    let command = Command::new(alloc, "serve")
+        .about("Serves gRPC reflection as gRPC-Web over HTTP/1.1, one connection after the other")
+        .arg(root_argument(alloc))?
+        .arg(listen_argument(alloc))?
+        .arg(connections_argument(alloc))?
+        .arg(repeat_argument(alloc))?;
+    with_plan(alloc, command)
+}
+
 fn mode_of(matches: &ArgMatches<'_>) -> Mode {
     if matches.get_flag("repeat") {
         Mode::Repeat
@@ -116,6 +151,7 @@ fn whole_command<'a>(alloc: Global) -> Result<Command<'a>, AllocError> {
     let describe = describe_command(alloc)?;
     let compile = compile_command(alloc)?;
     let answer = answer_command(alloc)?;
+    let serve = serve_command(alloc)?;
     Command::new(alloc, "schema_server")
         .about(
             "A schema server for Protocol Buffers: compiles proto3 sources to descriptors and answers reflection",
@@ -123,7 +159,8 @@ fn whole_command<'a>(alloc: Global) -> Result<Command<'a>, AllocError> {
         .subcommand_required(true)
         .subcommand(describe)?
         .subcommand(compile)?
-        .subcommand(answer)
+        .subcommand(answer)?
+        .subcommand(serve)
 }
 
 /// The task that the words give, whose first is the program's name, or `clap`'s text for the user.
@@ -142,6 +179,13 @@ pub(crate) fn task_of<'a>(alloc: Global, words: &'a [&'a str]) -> Result<Task<'a
             root: answer.get_str("root").unwrap_or(""),
             plan: plan_of(answer),
             mode: mode_of(answer),
+        }),
+        Some(("serve", serve)) => Ok(Task::Serve {
+            root: serve.get_str("root").unwrap_or(""),
+            listen: serve.get_str("listen").unwrap_or(""),
+            plan: plan_of(serve),
+            mode: mode_of(serve),
+            connections: serve.get_one::<u64>("connections"),
         }),
         _ => Err(command.error(ErrorKind::MissingSubcommand, "no command was given")?),
     }

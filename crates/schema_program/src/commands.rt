@@ -1,17 +1,24 @@
 //! The commands: what each reads, and what it writes.
 
 use crate::failure::{Failure, located};
-use crate::headline::{response_to_sources, set_of_sources};
+use crate::headline::set_of_sources;
 use crate::one_source::describe;
+use grpcweb_core::{Counted, Mode, answer_io};
+use grpcweb_service::serve;
 use proto_base::{Limit, Limits};
-use proto_compile::{CompileError, Source};
-use reflect_core::Mode;
+use proto_compile::{CompileError, Compiled, Source, compile};
 use share_work::{NoGate, Plan};
 use source_folder::{NamedText, read_folder};
 use std::alloc::{AllocError, AllocGlobal, Global};
 use std::io::{self, Read, Write};
+use std::net::{Net, SocketAddr};
+use std::random::RandomSource;
 use std::rt::Files;
+use std::sync::{Arc, Wait};
 use std::thread::Threads;
+use std::time::Clock;
+use tokio::net::TcpListener;
+use tokio::runtime::Runtime;
 
 /// The whole of the input, or one byte more than the limit lets it have.
 fn read_input<I: Read + Drop>(
@@ -98,34 +105,84 @@ where
     }
 }
 
-/// Answers the request body on the input over the sources below a folder. A fault of the sources comes before one of the input,
-/// which is answered as an empty body and not written.
+/// What the sources below a folder are compiled to.
+fn compile_folder<R>(rt: &R, root: &str, limits: &Limits, plan: Plan) -> Result<Compiled, Failure>
+where
+    R: Threads + Files + AllocGlobal + Sync,
+{
+    let texts = read_folder(rt, root, limits)?;
+    let sources = sources_of(rt.alloc(), &texts)?;
+    match compile(rt, &sources, limits, plan, &NoGate) {
+        Ok(compiled) => Ok(compiled),
+        Err(CompileError::NoMemory) => Err(Failure::NoMemory),
+        Err(CompileError::First(fault)) => Err(located(fault, &sources)),
+    }
+}
+
+/// Answers the request body on the input over the sources below a folder.
 pub(crate) fn run_answer<R, I, O>(
     rt: &R,
     root: &str,
     plan: Plan,
     mode: Mode,
     input: I,
-    output: &mut O,
+    output: O,
 ) -> Result<(), Failure>
 where
     R: Threads + Files + AllocGlobal + Sync,
     I: Read + Drop,
+    O: Write + Drop,
+{
+    let compiled = compile_folder(rt, root, &Limits::standard(), plan)?;
+    let mut reader = Counted::new(input);
+    let mut writer = Counted::new(output);
+    answer_io(rt, &compiled, plan, &NoGate, mode, &mut reader, &mut writer)?;
+    Ok(())
+}
+
+/// A runtime, and a listener at this address and port.
+fn listen_at<R>(rt: &R, listen: &str) -> Result<(Runtime, TcpListener), Failure>
+where
+    R: Wait + Threads + Clock + RandomSource + AllocGlobal + Sync + Clone + Drop + Net,
+{
+    let address: SocketAddr = listen.parse().map_err(|_| Failure::Listen)?;
+    let runtime = Runtime::new(rt).map_err(|_| Failure::Listen)?;
+    let listener = TcpListener::bind(rt, address, runtime.handle().reactor()).map_err(
+        |_| Failure::Listen,
+    )?;
+    Ok((runtime, listener))
+}
+
+/// Serves reflection over the sources below a folder.
+pub(crate) fn run_serve<R, O>(
+    rt: &R,
+    root: &str,
+    listen: &str,
+    plan: Plan,
+    mode: Mode,
+    connections: Option<u64>,
+    output: &mut O,
+) -> Result<(), Failure>
+where
+    R: Wait + Threads + Files + Clock + RandomSource + AllocGlobal + Sync + Clone + Drop + Net,
     O: Write,
 {
-    let limits = Limits::standard();
-    let texts = read_folder(rt, root, &limits)?;
-    let sources = sources_of(rt.alloc(), &texts)?;
-    let (body, failure) = match read_input(rt.alloc(), input, &limits, Limit::BodyBytes) {
-        Ok(body) => (body, None),
-        Err(failure) => (Vec::new(rt.alloc()), Some(failure)),
-    };
-    match response_to_sources(rt, &sources, &limits, plan, &NoGate, mode, &body) {
-        Ok(response) => match failure {
-            None => write_bytes(output, &response),
-            Some(failure) => Err(failure),
-        },
-        Err(CompileError::NoMemory) => Err(Failure::NoMemory),
-        Err(CompileError::First(fault)) => Err(located(fault, &sources)),
+    let compiled = compile_folder(rt, root, &Limits::standard(), plan)?;
+    let shared = Arc::new(rt.alloc(), compiled)?;
+    let (mut runtime, listener) = listen_at(rt, listen)?;
+    let bound = listener.local_addr().map_err(|_| Failure::Listen)?;
+    if writeln!(output, "listening on {bound}").is_err() || output.flush().is_err() {
+        return Err(Failure::Output);
     }
+    serve(
+        rt,
+        &mut runtime,
+        listener,
+        shared,
+        plan,
+        NoGate,
+        mode,
+        connections,
+    )?;
+    Ok(())
 }

@@ -5,6 +5,8 @@ ghost use Rattle.proto_compile.specs.Sources.{name_of, text_of};
 ghost use Rattle.proto_compile.specs.declared.source.Source.{Source};
 ghost use Rattle.schema_program.specs.declared.failure.Failure.TheVariants as failures;
 
+use grpcweb_core::IoFault;
+use grpcweb_service::ServeFault;
 use proto_base::{Fault, Kind, line_column};
 use proto_compile::Source;
 use source_folder::FolderFault;
@@ -37,6 +39,10 @@ pub(crate) enum Failure {
     Output,
     #[error("device: folder")]
     Folder,
+    #[error("device: listen")]
+    Listen,
+    #[error("device: accept")]
+    Accept,
     #[error("out of memory")]
     NoMemory,
 }
@@ -45,7 +51,11 @@ impl Failure {
     pub(crate) fn status(&self) -> Status {
         match self {
             Failure::Source { .. } => Status::Fault,
-            Failure::Input | Failure::Output | Failure::Folder => Status::Device,
+            Failure::Input
+            | Failure::Output
+            | Failure::Folder
+            | Failure::Listen
+            | Failure::Accept => Status::Device,
             Failure::NoMemory => Status::NoMemory,
         }
     }
@@ -72,6 +82,25 @@ impl From<FolderFault> for Failure {
         match fault {
             FolderFault::Listing | FolderFault::Reading => Failure::Folder,
             FolderFault::NoMemory => Failure::NoMemory,
+        }
+    }
+}
+
+impl From<IoFault> for Failure {
+    fn from(fault: IoFault) -> Failure {
+        match fault {
+            IoFault::ReadFault => Failure::Input,
+            IoFault::WriteFault { .. } => Failure::Output,
+            IoFault::NoMemory => Failure::NoMemory,
+        }
+    }
+}
+
+impl From<ServeFault> for Failure {
+    fn from(fault: ServeFault) -> Failure {
+        match fault {
+            ServeFault::AcceptFault => Failure::Accept,
+            ServeFault::NoMemory => Failure::NoMemory,
         }
     }
 }

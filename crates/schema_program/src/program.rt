@@ -3,14 +3,18 @@
 ghost use Rattle.std.specs.Prelude.{◌≤◌};
 
 use crate::command_line::{Task, task_of};
-use crate::commands::{run_answer, run_compile, run_describe};
+use crate::commands::{run_answer, run_compile, run_describe, run_serve};
 use crate::failure::{Failure, Status};
 use clap::Error;
 use clap::error::ErrorKind;
 use std::alloc::AllocGlobal;
 use std::io::{Read, Write};
+use std::net::Net;
+use std::random::RandomSource;
 use std::rt::Files;
+use std::sync::Wait;
 use std::thread::Threads;
+use std::time::Clock;
 
 /// Prints what `clap` has to say: help on the output, and what is wrong with the words on the faults.
 fn explain<O: Write, E: Write>(error: Error, output: &mut O, faults: &mut E) -> Status {
@@ -40,7 +44,7 @@ fn report<E: Write>(failure: Failure, faults: &mut E) -> Status {
 /// the text of `clap`. What `faults` refuses is lost.
 pub fn run<R, I, O, E>(rt: &R, words: &[&str], input: I, output: O, faults: E) -> u8
 where
-    R: Threads + Files + AllocGlobal + Sync,
+    R: Wait + Threads + Files + Clock + RandomSource + AllocGlobal + Sync + Clone + Drop + Net,
     I: Read + Drop,
     O: Write + Drop,
     E: Write + Drop,
@@ -52,14 +56,16 @@ where
         Err(error) => return explain(error, &mut output, &mut faults) as u8,
         Ok(Task::Describe { name }) => run_describe(rt, name, input, &mut output),
         Ok(Task::Compile { root, plan }) => run_compile(rt, root, plan, &mut output),
-        Ok(Task::Answer { root, plan, mode }) => run_answer(
-            rt,
-            root,
-            plan,
-            mode,
-            input,
-            &mut output,
-        ),
+        Ok(Task::Answer { root, plan, mode }) => run_answer(rt, root, plan, mode, input, output),
+        Ok(
+            Task::Serve {
+                root,
+                listen,
+                plan,
+                mode,
+                connections,
+            },
+        ) => run_serve(rt, root, listen, plan, mode, connections, &mut output),
     };
     let status = match done {
         Ok(()) => Status::Done,

@@ -5,9 +5,13 @@ use proto_base::Limits;
 use schema_program::{describe, run};
 use std::alloc::AllocGlobal;
 use std::fs;
+use std::net::Net;
+use std::random::RandomSource;
 use std::rt::Files;
+use std::sync::Wait;
 use std::test::Fail;
 use std::thread::Threads;
+use std::time::Clock;
 
 /// What a run came to.
 #[derive(Drop)]
@@ -37,7 +41,7 @@ fn run_in<R>(
     faults_room: usize,
 ) -> Finished
 where
-    R: Threads + Files + AllocGlobal + Sync,
+    R: Wait + Threads + Files + Clock + RandomSource + AllocGlobal + Sync + Clone + Drop + Net,
 {
     let mut output = Output {
         bytes: Vec::new(rt.alloc()),
@@ -57,7 +61,7 @@ where
 
 fn described<R>(rt: &R, name: &str, source: &str) -> Finished
 where
-    R: Threads + Files + AllocGlobal + Sync,
+    R: Wait + Threads + Files + Clock + RandomSource + AllocGlobal + Sync + Clone + Drop + Net,
 {
     let words = ["schema_server", "describe", name];
     let bytes = source.as_bytes();

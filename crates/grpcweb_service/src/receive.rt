@@ -1,0 +1,98 @@
+//! Receiving a request: its head, and its body to the end or to one byte over the limit.
+
+ghost use Rattle.std.specs.Prelude.{◌≡◌};
+ghost use Rattle.hyper.specs.Incoming.{IncomingNeeds};
+
+use crate::fault::ConnectionFault;
+use bytes::Buf;
+use futures::task::{Context, Poll};
+use futures::{Future, ready};
+use http::request::Parts;
+use http_body::Body;
+use hyper::Request;
+use hyper::body::Incoming;
+use std::alloc::{AllocError, Global};
+
+/// A request whose body was read to its end, or to one byte over the limit.
+#[derive(Drop)]
+pub(crate) struct Received {
+    pub(crate) head: Parts,
+    pub(crate) body: Vec<u8>,
+}
+
+/// A request whose body comes in.
+#[derive(Drop)]
+pub(crate) struct Receiving<I> {
+    head: Option<Parts>,
+    incoming: Incoming<I>,
+    body: Option<Vec<u8>>,
+    /// One byte more than a body may have.
+    most: usize,
+}
+
+/// Receives a request whose body may have so many bytes.
+pub(crate) fn receive<I: Drop>(
+    alloc: Global,
+    request: Request<Incoming<I>>,
+    limit: usize,
+) -> Receiving<I> {
+    let (head, incoming) = request.into_parts();
+    Receiving {
+        head: Some(head),
+        incoming,
+        body: Some(Vec::new(alloc)),
+        most: limit.saturating_add(1),
+    }
+}
+
+/// Adds a piece to a body, but for what is over `most`.
+fn take_piece(body: &mut Vec<u8>, piece: &[u8], most: usize) -> Result<(), AllocError> {
+    let room = most.saturating_sub(body.len());
+    body.extend_from_slice(&piece[..room.min(piece.len())])
+}
+
+/// How many pieces one poll takes at most, so that a fast client leaves the runtime its turn.
+const PIECES: u32 = 128;
+
+impl<I> Receiving<I> {
+    fn is_full(&self) -> bool {
+        self.body
+            .as_ref()
+            .is_some_and(|body| body.len() >= self.most)
+    }
+
+    fn received(&mut self) -> Result<Received, ConnectionFault>
+        ensures { self.new.incoming ≡ self.old.incoming }
+    {
+        match (self.head.take(), self.body.take()) {
+            (Some(head), Some(body)) => Ok(Received { head, body }),
+            _ => Err(ConnectionFault::Body),
+        }
+    }
+}
+
+impl<I: Drop> Future for Receiving<I> {
+    type Output = Result<Received, ConnectionFault>;
+
+    ghost needs = { λ a. IncomingNeeds a.incoming };
+
+    fn poll(&mut self, cx: &mut Context<'_>) -> Poll<Result<Received, ConnectionFault>> {
+        for _ in 0..PIECES {
+            if self.is_full() {
+                return Poll::Ready(self.received());
+            }
+            match ready!(self.incoming.poll_frame(cx)) {
+                Some(Ok(frame)) => {
+                    if let (Some(piece), Some(body)) = (frame.data_ref(), &mut self.body) {
+                        if take_piece(body, piece.as_slice(), self.most).is_err() {
+                            return Poll::Ready(Err(ConnectionFault::NoMemory));
+                        }
+                    }
+                }
+                Some(Err(_)) => return Poll::Ready(Err(ConnectionFault::Body)),
+                None => return Poll::Ready(self.received()),
+            }
+        }
+        cx.yield_now()
+    }
+}

@@ -1,0 +1,106 @@
+#!/usr/bin/env python3
+"""Asks a schema server what services it knows, and builds messages of them without generated code.
+
+usage: reflect.py URL             the names of all services
+       reflect.py URL SERVICE     its methods, and of each a request message with sample values as JSON
+
+It needs Python's protobuf runtime and, once, the code of the reflection protocol itself:
+protoc -I tests --python_out=examples/clients tests/reflection.proto
+"""
+import struct
+import sys
+import urllib.request
+
+from google.protobuf import descriptor_pb2, descriptor_pool, json_format, message_factory
+
+import reflection_pb2 as reflection
+
+PATH = "/grpc.reflection.v1.ServerReflection/ServerReflectionInfo"
+
+
+def ask(url, *requests):
+    """The replies to requests, which are sent as one gRPC-Web stream of frames: a flag, a length, a message."""
+    body = b""
+    for request in requests:
+        message = request.SerializeToString()
+        body += struct.pack(">BI", 0, len(message)) + message
+    post = urllib.request.Request(url + PATH, body, {"content-type": "application/grpc-web+proto"})
+    with urllib.request.urlopen(post) as answer:
+        response = answer.read()
+    replies = []
+    while response:
+        flag, size = struct.unpack_from(">BI", response)
+        message, response = response[5 : 5 + size], response[5 + size :]
+        if flag & 0x80:
+            if message != b"grpc-status:0\r\n":
+                sys.exit(message.decode().strip())
+        else:
+            replies.append(reflection.ServerReflectionResponse.FromString(message))
+    for reply in replies:
+        if reply.HasField("error_response"):
+            sys.exit(f"error {reply.error_response.error_code}: {reply.error_response.error_message}")
+    return replies
+
+
+def services_of(url):
+    request = reflection.ServerReflectionRequest(list_services="")
+    return [service.name for service in ask(url, request)[0].list_services_response.service]
+
+
+def pool_of(url, symbol):
+    """A pool with the file that defines a symbol and all that it imports."""
+    request = reflection.ServerReflectionRequest(file_containing_symbol=symbol)
+    response = ask(url, request)[0].file_descriptor_response
+    files = [descriptor_pb2.FileDescriptorProto.FromString(file) for file in response.file_descriptor_proto]
+    waiting = {file.name: file for file in files}
+    pool = descriptor_pool.DescriptorPool()
+
+    def add(file):
+        for name in file.dependency:
+            if name in waiting:
+                add(waiting.pop(name))
+        pool.Add(file)
+
+    while waiting:
+        add(waiting.popitem()[1])
+    return pool
+
+
+def class_of(descriptor):
+    if hasattr(message_factory, "GetMessageClass"):
+        return message_factory.GetMessageClass(descriptor)
+    return message_factory.MessageFactory(descriptor.file.pool).GetPrototype(descriptor)
+
+
+def sample(message, depth=0):
+    """Gives each field that is not repeated and in no oneof a value: its name, its number, or a sample of its message."""
+    for field in message.DESCRIPTOR.fields:
+        if field.label == field.LABEL_REPEATED or field.containing_oneof:
+            continue
+        if field.cpp_type == field.CPPTYPE_MESSAGE:
+            if depth < 2:
+                sample(getattr(message, field.name), depth + 1)
+        elif field.cpp_type == field.CPPTYPE_STRING:
+            setattr(message, field.name, field.name.encode() if field.type == field.TYPE_BYTES else field.name)
+        elif field.cpp_type == field.CPPTYPE_ENUM:
+            setattr(message, field.name, field.enum_type.values[-1].number)
+        else:
+            setattr(message, field.name, field.number % 2)
+    return message
+
+
+def main(url, name=None):
+    if name is None:
+        print(*services_of(url), sep="\n")
+        return
+    for method in pool_of(url, name).FindServiceByName(name).methods:
+        print(f"{method.name}: {method.input_type.full_name} -> {method.output_type.full_name}")
+        request = sample(class_of(method.input_type)())
+        assert class_of(method.input_type).FromString(request.SerializeToString()) == request
+        print(" ", json_format.MessageToJson(request, indent=None))
+
+
+if __name__ == "__main__":
+    if len(sys.argv) not in (2, 3):
+        sys.exit(__doc__)
+    main(*sys.argv[1:])

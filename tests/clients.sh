@@ -1,0 +1,67 @@
+#!/usr/bin/env bash
+# examples/clients/reflect.py, a client over Python's protobuf runtime, against the service over examples/. Where the runtime
+# or protoc is not installed (packages python3-protobuf and protobuf-compiler) nothing is tested.
+set -u
+cd "$(dirname "$(readlink -f "$0")")/.." || exit 2
+python=
+for candidate in python3 /usr/bin/python3; do
+    if "$candidate" -c 'import google.protobuf.json_format' 2>/dev/null; then
+        python=$candidate
+    fi
+done
+if [ -z "$python" ] || ! command -v protoc >/dev/null; then
+    echo 'tests/clients.sh: python3-protobuf or protobuf-compiler is not installed, so no client was run'
+    exit 0
+fi
+folder=$(mktemp -d) || exit 2
+server=
+trap '[ -z "$server" ] || kill "$server" 2>/dev/null; rm -rf "$folder"' EXIT
+LC_ALL=C
+./schema_server --help >/dev/null || exit 1
+program=crates/schema_server/out/schema_server
+"$program" serve --root examples --listen 127.0.0.1:0 >"$folder/line" &
+server=$!
+turn=0
+until grep -q '^listening on ' "$folder/line"; do
+    turn=$((turn + 1))
+    [ "$turn" -lt 200 ] || exit 1
+    sleep 0.05
+done
+url=http://$(sed 's/listening on //' "$folder/line")
+protoc -I tests --python_out="$folder" tests/reflection.proto || exit 1
+failures=0
+
+# prints TITLE WORDS..: what the client prints is what stands on the input.
+prints() {
+    local title=$1
+    shift
+    cat >"$folder/wanted"
+    PYTHONPATH=$folder "$python" -B examples/clients/reflect.py "$url" "$@" >"$folder/got" 2>&1
+    # The request of PlaceOrder holds a whole order: that it was built and parsed is enough.
+    sed '/^PlaceOrder/ { n; d; }' "$folder/got" | diff "$folder/wanted" - || {
+        echo "tests/clients.sh: $title"
+        failures=$((failures + 1))
+    }
+}
+
+prints 'the services' <<'TEXT'
+shop.catalog.CatalogService
+shop.orders.OrderService
+shop.reports.v1.ReportService
+TEXT
+prints 'a service with its methods and messages' shop.orders.OrderService <<'TEXT'
+PlaceOrder: shop.orders.PlaceOrderRequest -> shop.orders.PlaceOrderResponse
+CancelOrder: shop.orders.CancelOrderRequest -> shop.orders.CancelOrderResponse
+  {"orderId": "order_id"}
+FollowOrder: shop.orders.FollowOrderRequest -> shop.orders.FollowOrderResponse
+  {"orderId": "order_id"}
+RecordScans: shop.orders.RecordScansRequest -> shop.orders.RecordScansResponse
+  {"orderId": "order_id"}
+Discuss: shop.orders.DiscussRequest -> shop.orders.DiscussResponse
+  {"orderId": "order_id", "text": "text"}
+TEXT
+prints 'a service that is not there' shop.Nowhere <<'TEXT'
+error 5: not found
+TEXT
+
+[ "$failures" = 0 ]

@@ -1,0 +1,173 @@
+#!/usr/bin/env bash
+# The HTTP service of the built program, with curl as its client: what requests are answered, clients that break off, and
+# thousands of requests in a row. Where curl is not installed nothing is tested.
+set -u
+cd "$(dirname "$(readlink -f "$0")")/.." || exit 2
+if ! command -v curl >/dev/null; then
+    echo 'tests/serve.sh: curl is not installed, so the service was not tested'
+    exit 0
+fi
+folder=$(mktemp -d) || exit 2
+server=
+trap '[ -z "$server" ] || kill "$server" 2>/dev/null; rm -rf "$folder"' EXIT
+LC_ALL=C
+./schema_server --help >/dev/null || exit 1
+program=crates/schema_server/out/schema_server
+failures=0
+
+fail() {
+    echo "tests/serve.sh: $1"
+    failures=$((failures + 1))
+}
+
+mkdir "$folder/F" || exit 2
+printf 'syntax = "proto3"; import "b.proto";' | tee "$folder/F/a.proto" >"$folder/F/c.proto"
+printf 'syntax = "proto3"; package p; service S {}' >"$folder/F/b.proto"
+
+# start WORDS..: starts the service at a free port and waits for its line; sets `server` and `url`.
+start() {
+    : >"$folder/line"
+    "$program" serve --root "$folder/F" --listen 127.0.0.1:0 "$@" >"$folder/line" 2>"$folder/faults" &
+    server=$!
+    local turn=0
+    until grep -q '^listening on 127\.0\.0\.1:[0-9]*$' "$folder/line"; do
+        turn=$((turn + 1))
+        if [ "$turn" = 200 ] || ! kill -0 "$server" 2>/dev/null; then
+            fail "no line: $(cat "$folder/line" "$folder/faults")"
+            exit 1
+        fi
+        sleep 0.05
+    done
+    port=$(sed 's/.*://' "$folder/line")
+    url=http://127.0.0.1:$port
+}
+
+bytes() {
+    printf "$(printf '%s' "$1" | tr -d ' ' | sed 's/../\\x&/g')"
+}
+
+v1=/grpc.reflection.v1.ServerReflection/ServerReflectionInfo
+v1alpha=/grpc.reflection.v1alpha.ServerReflection/ServerReflectionInfo
+v1beta=/grpc.reflection.v1beta.ServerReflection/ServerReflectionInfo
+web='content-type: application/grpc-web+proto'
+t0='80 00 00 00 0F 67 72 70 63 2D 73 74 61 74 75 73 3A 30 0D 0A'
+t8='80 00 00 00 0F 67 72 70 63 2D 73 74 61 74 75 73 3A 38 0D 0A'
+t12='80 00 00 00 10 67 72 70 63 2D 73 74 61 74 75 73 3A 31 32 0D 0A'
+a='0A 07 61 2E 70 72 6F 74 6F 1A 07 62 2E 70 72 6F 74 6F 62 06 70 72 6F 74 6F 33'
+b='0A 07 62 2E 70 72 6F 74 6F 12 01 70 32 03 0A 01 53 62 06 70 72 6F 74 6F 33'
+request_a='1A 07 61 2E 70 72 6F 74 6F'
+reply_a="00 00 00 00 44 12 09 $request_a 22 37 0A 1A $a 0A 19 $b"
+bytes "00 00 00 00 09 $request_a" >"$folder/request"
+bytes "00 00 00 00 09 $request_a 00 00 00 00 09 $request_a" >"$folder/twice"
+: >"$folder/nothing"
+
+# asks TITLE STATUS BYTES WORDS..: what curl with these words is answered.
+asks() {
+    local title=$1 status=$2 wanted=$3 got
+    shift 3
+    bytes "$wanted" >"$folder/wanted"
+    got=$(curl -s -S --max-time 20 -D "$folder/head" -o "$folder/got" -w '%{http_code}' "$@") || fail "$title: curl ended with $?"
+    [ "$got" = "$status" ] || fail "$title: status $got"
+    cmp "$folder/wanted" "$folder/got" || fail "$title: another body"
+    tr -d '\r' <"$folder/head" | grep -qix 'connection: close' || fail "$title: the connection is not said to close"
+}
+
+# The head of the last answer has this line.
+has() {
+    tr -d '\r' <"$folder/head" | grep -qix "$1" || fail "no line '$1'"
+}
+
+start
+asks 'a request' 200 "$reply_a $t0" -H "$web" --data-binary "@$folder/request" "$url$v1"
+has 'content-type: application/grpc-web+proto'
+[ "$(grep -ci '^content-type' "$folder/head")" = 1 ] || fail 'two content types'
+asks 'a request to v1alpha' 200 "$reply_a $t0" -H "$web" --data-binary "@$folder/request" "$url$v1alpha"
+asks 'a query' 200 "$reply_a $t0" -H "$web" --data-binary "@$folder/request" "$url$v1?x=/y"
+asks 'an empty body' 200 "$t0" -H "$web" --data-binary "@$folder/nothing" "$url$v1"
+asks 'a request twice' 200 "$reply_a 00 00 00 00 0D 12 09 $request_a 22 00 $t0" -H "$web" --data-binary "@$folder/twice" "$url$v1"
+asks 'v1beta' 200 "$t12" -H "$web" --data-binary "@$folder/request" "$url$v1beta"
+has 'content-type: application/grpc-web+proto'
+asks 'another path, and GET' 200 "$t12" "$url/x"
+asks 'GET' 405 '' "$url$v1"
+has 'allow: POST'
+asks 'a method of its own' 405 '' -X PRAISE "$url$v1"
+for type in 'application/grpc-web' 'Application/gRPC-Web+Proto' 'application/grpc-web; charset=x' 'application/grpc-web+proto 	;'; do
+    asks "$type" 200 "$t0" -H "content-type: $type" --data-binary "@$folder/nothing" "$url$v1"
+done
+for type in 'text/plain' 'application/grpc-web-text' 'application/grpc-web-text+proto' 'application/grpc' 'application/grpc-web+json' 'application/grpc-web,x'; do
+    asks "$type" 415 '' -H "content-type: $type" --data-binary "@$folder/nothing" "$url$v1"
+done
+asks 'no content type' 415 '' -H 'content-type:' --data-binary "@$folder/nothing" "$url$v1"
+asks 'a content type that is no text' 415 '' -H "$(printf 'content-type: application/grpc-web\xff')" --data-binary "@$folder/nothing" "$url$v1"
+asks 'the first of two content types' 200 "$t0" -H "$web" -H 'content-type: text/plain' --data-binary "@$folder/nothing" "$url$v1"
+asks '100-continue' 200 "$reply_a $t0" -H "$web" -H 'expect: 100-continue' --data-binary "@$folder/request" "$url$v1"
+has 'HTTP/1.1 100 Continue'
+asks 'a chunked body' 200 "$reply_a $t0" -H "$web" -H 'transfer-encoding: chunked' --data-binary "@$folder/request" "$url$v1"
+asks 'HTTP/1.0' 200 "$reply_a $t0" --http1.0 -H "$web" --data-binary "@$folder/request" "$url$v1"
+head -c 1048577 /dev/zero >"$folder/long"
+asks 'a body of one byte over the limit' 200 "$t8" -H "$web" --data-binary "@$folder/long" "$url$v1"
+asks 'the same in chunks' 200 "$t8" -H "$web" -H 'transfer-encoding: chunked' --data-binary "@$folder/long" "$url$v1"
+
+# Clients that break off.
+exec 3<>"/dev/tcp/127.0.0.1/$port" && printf 'POST %s HT' "$v1" >&3
+exec 3>&-
+exec 3<>"/dev/tcp/127.0.0.1/$port" && printf 'POST %s HTTP/1.1\r\nhost: h\r\n%s\r\ncontent-length: 14\r\n\r\nabc' "$v1" "$web" >&3
+exec 3>&-
+exec 3<>"/dev/tcp/127.0.0.1/$port" && printf 'no HTTP at all\r\n\r\n' >&3
+exec 3>&-
+asks 'a request after clients that broke off' 200 "$reply_a $t0" -H "$web" --data-binary "@$folder/request" "$url$v1"
+
+# Two thousand requests take no more memory than the first hundred.
+resident() {
+    awk '$1 == "VmRSS:" { print $2 }' "/proc/$server/status"
+}
+row() {
+    curl -s -S -H "$web" --data-binary "@$folder/request" -o "$folder/got" -w '%{http_code}\n' "$url$v1?[1-$1]" >"$folder/codes" || fail 'a row of requests broke off'
+    [ "$(grep -cx 200 "$folder/codes")" = "$1" ] || fail "not $1 answers"
+}
+row 100
+before=$(resident)
+row 2000
+after=$(resident)
+[ "$after" -le $((before + 512)) ] || fail "memory grew from $before kB to $after kB"
+kill "$server"
+wait "$server" 2>/dev/null
+
+# An end by a count of connections, broken ones among them.
+start --connections 3 --repeat
+exec 3<>"/dev/tcp/127.0.0.1/$port" && printf 'POST' >&3
+exec 3>&-
+asks 'a request twice in mode Repeat' 200 "$reply_a 00 00 00 00 29 12 09 $request_a 22 1C 0A 1A $a $t0" -H "$web" --data-binary "@$folder/twice" "$url$v1"
+asks 'GET' 405 '' "$url$v1"
+wait "$server" || fail "the service ended with $?"
+[ "$(wc -l <"$folder/line")" = 1 ] && [ ! -s "$folder/faults" ] || fail 'more was printed'
+start --connections 0
+wait "$server" || fail "the service without connections ended with $?"
+server=
+
+# ends STATUS LINE WORDS..: how the service with these words ends.
+ends() {
+    local status=$1 line=$2 got
+    shift 2
+    timeout 20 "$program" serve "$@" >"$folder/line" 2>"$folder/faults"
+    got=$?
+    [ "$got" = "$status" ] && [ ! -s "$folder/line" ] && grep -qF -e "$line" "$folder/faults" || fail "serve $*: status $got, $(cat "$folder/line" "$folder/faults")"
+}
+start
+ends 3 'device: listen' --root "$folder/F" --listen "127.0.0.1:$port"
+kill "$server"
+wait "$server" 2>/dev/null
+server=
+ends 3 'device: listen' --root "$folder/F" --listen localhost
+ends 3 'device: folder' --root "$folder/none" --listen localhost
+ends 2 '--listen' --root "$folder/F"
+ends 2 '--connections' --root "$folder/F" --listen 127.0.0.1:0 --connections many
+printf 'syntax = "proto2";' >"$folder/F/a.proto"
+ends 1 'a.proto:1:10: ' --root "$folder/F" --listen localhost
+"$program" serve --root "$folder" --listen 127.0.0.1:0 >/dev/full 2>"$folder/faults"
+[ "$?" = 1 ] || fail 'a fault of the sources comes before one of the output'
+rm "$folder/F/a.proto"
+"$program" serve --root "$folder/F" --listen 127.0.0.1:0 >/dev/full 2>"$folder/faults"
+[ "$?" = 3 ] && grep -qx 'device: output' "$folder/faults" || fail 'an output that fails'
+
+[ "$failures" = 0 ]
