@@ -58,8 +58,8 @@ abbrev pub framed : List ℕ → Answer
 framed body = record { status = 200; headers = (codes "content-type", codes "application/grpc-web+proto") ∷ []; body = body }
 
 -- trailers of the status 12, UNIMPLEMENTED, alone
-abbrev pub unimplemented : Answer
-unimplemented = framed (frame 128 (trailer 12))
+abbrev pub no_such_service : Answer
+no_such_service = framed (frame 128 (trailer 12))
 
 abbrev pub method_not_allowed : Answer
 method_not_allowed = record { status = 405; headers = (codes "allow", codes "POST") ∷ []; body = [] }
@@ -69,7 +69,7 @@ unsupported_media_type = record { status = 415; headers = []; body = [] }
 
 -- the answer to a request: its path is judged first, then its method, then its content type
 pub data IsAnswer (mode : Mode) (c : Compilation) (request : Request) : Answer → Type 0 where
-  elsewhere : (IsReflection request.target → ⊥) → IsAnswer mode c request unimplemented
+  elsewhere : (IsReflection request.target → ⊥) → IsAnswer mode c request no_such_service
   no_post : IsReflection request.target → request.method ≢ codes "POST" → IsAnswer mode c request method_not_allowed
   no_grpc_web : IsReflection request.target → request.method ≡ codes "POST" → (IsGrpcWebIfAny request.content_type → ⊥) → IsAnswer mode c request unsupported_media_type
   answered : (response : List ℕ) → IsReflection request.target → request.method ≡ codes "POST" → IsGrpcWebIfAny request.content_type → IsResponse mode c request.body response → IsAnswer mode c request (framed response)

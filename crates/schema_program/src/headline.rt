@@ -1,4 +1,4 @@
-//! The two calls that the program makes between reading and writing. Their contracts speak of sources, limits, mode and body
+//! The headline, as two calls. Their contracts speak of sources, limits, mode and body
 //! alone: no worker, no piece of work and no gate changes what they answer.
 
 ghost use Rattle.std.specs.Prelude.{◌≡◌, ℕ, List, IfOk, IfErr, IsErrAnd, MatchResult};
