@@ -21,6 +21,15 @@ if ! diff tests/examples/order "$folder/order"; then
     echo "the examples do not come in set order"
     failures=$((failures + 1))
 fi
+# By every plan the same bytes.
+for workers in 1 2 3 4 64; do
+    for cut in 1 2 16 4096; do
+        if ! ./schema_server compile --root examples --workers "$workers" --cut "$cut" | cmp - "$folder/set"; then
+            echo "$workers workers, cut $cut: another set"
+            failures=$((failures + 1))
+        fi
+    done
+done
 # The names for which bytes are stored, and the names that came.
 if ! diff <(cd tests/examples && find . -name '*.hex' -printf '%P\n' | sed 's/hex$/proto/' | LC_ALL=C sort) \
     <(LC_ALL=C sort "$folder/order"); then

@@ -47,7 +47,12 @@ printf '%spackage p; message B {} service S { rpc R(B) returns (B); }' "$P" >"$f
 printf '%simport "b.proto";' "$P" >"$folder/bad/a.proto"
 # The set as protoc 3.21.12 writes it.
 digits=0a310a09702f622e70726f746f12017022030a014232140a0153120f0a015212042e702e421a042e702e42620670726f746f330a350a07612e70726f746f1a09702f622e70726f746f22170a014112120a016218012001280b32042e702e42520162620670726f746f33
-sweep REFUSE_AT 0 "$(sed 's/../\\x&/g' <<<"$digits")" '' '' compile --root "$folder/sources" --workers 1
+set=$(sed 's/../\\x&/g' <<<"$digits")
+for words in '--workers 1' '--workers 2 --cut 1'; do
+    # shellcheck disable=SC2086 # the words are several
+    sweep REFUSE_AT 0 "$set" '' '' compile --root "$folder/sources" $words
+done
+sweep REFUSE_THREAD_AT 0 "$set" '' '' compile --root "$folder/sources" --workers 2 --cut 1
 sweep REFUSE_AT 1 '' 'a.proto:1:27: ImportMissing' '' compile --root "$folder/bad" --workers 1
 # Two requests for the services, whose replies have no file.
 body='\0\0\0\0\02:\0\0\0\0\0\02:\0'

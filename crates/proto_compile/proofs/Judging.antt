@@ -2,9 +2,11 @@
 use Rattle.std.proofs.Common.{◌≡◌, ◌∙◌, sym, ap, refl, subst, ℕ, zero, suc, ◌+◌, ◌<◌, List, [], ◌∷◌, ◌++◌, length, take, get_or, map, arith}
 use Rattle.std.specs.List.{AllZip}
 use Rattle.std.proofs.lemmas.List.{get_or_default, length-take, map-append, take_more}
+use Rattle.std.proofs.lemmas.Option.{get_or_from_slice_get, slice_get_within}
 use Rattle.std.specs.Prelude.{Result, Ok, Err, IfOk, IfErr}
 use Rattle.proto_file.specs.declared.error.FileError.{FileError}
 use Rattle.proto_file.specs.declared.error.FileError.TheVariants as fault
+use Rattle.share_work.specs.Shares.{GivesItems}
 use Rattle.proto_compile.specs.Analysed.{AllZipFrom}
 use Rattle.proto_compile.specs.Outcomes.{TellsFirst, TellsOfFile}
 use Rattle.proto_compile.specs.Sources.{name_at}
@@ -61,6 +63,26 @@ zip_plain R a [] [] all = tt
 zip_plain R a [] (y ∷ ys) all = absurd all
 zip_plain R a (x ∷ xs) [] all = absurd all
 zip_plain R a (x ∷ xs) (y ∷ ys) all = (all.0, zip_plain R (a + 1) xs ys all.1)
+
+-- what workers give for items in shares
+pub zip_of_gives : {X Y : Type 0} (R : ℕ → X → Y → Type 0) (a : ℕ) (xs : List X) (ys : List Y) → GivesItems R a xs ys → AllZipFrom R a xs ys
+zip_of_gives R a [] [] gives = tt
+zip_of_gives R a [] (y ∷ ys) gives = absurd (omega (arith, gives.0))
+zip_of_gives R a (x ∷ xs) [] gives = absurd (omega (arith, gives.0))
+zip_of_gives R a (x ∷ xs) (y ∷ ys) gives =
+    let first : a + 0 ≡ a = omega arith in
+    let same : length ys ≡ length xs = omega (arith, gives.0) in (
+      subst (λ k. R k x y) first (gives.1 0 x y refl refl),
+      zip_of_gives R (a + 1) xs ys
+          (same, λ i t o item out. let next : a + suc i ≡ a + 1 + i = omega arith in subst (λ k. R k t o) next (gives.1 (suc i) t o item out)),
+    )
+
+-- where positions do not matter
+pub gives_of_zip : {X Y : Type 0} (R : X → Y → Type 0) (first : ℕ) (xs : List X) (ys : List Y) → AllZipFrom (λ k. R) 0 xs ys → GivesItems (λ k. R) first xs ys
+gives_of_zip R first xs ys all = (
+  sym (zip_length (λ k. R) 0 xs ys all),
+  λ i x y item out. subst (R x) (get_or_from_slice_get ys i y y out) (subst (λ z. R z (get_or ys i y)) (get_or_from_slice_get xs i x x item) (zip_at (λ k. R) 0 i xs ys x y (slice_get_within xs i x item) all)),
+)
 
 -- one more of each, where k of them are so related
 pub zip_from_next : {X Y : Type 0} (R : ℕ → X → Y → Type 0) (xs : List X) (k : ℕ) (x : X) (ys : List Y) (y : Y) → k < length xs → x ≡ get_or xs k x → AllZipFrom R 0 (take k xs) ys → R k x y

@@ -21,25 +21,31 @@ use crate::pass::types::resolve_all;
 use crate::set::is_set_within;
 use crate::source::Source;
 use crate::table::FileTable;
+use crate::workers::Workers;
 use proto_base::{Kind, Limit, Limits};
 use share_work::{Gate, Plan};
 use std::alloc::{AllocError, AllocGlobal, Global};
 use std::thread::Threads;
 
 /// What sources are compiled to, or their first fault: pass by pass, in the order of `Pass`.
-fn run_passes<R>(rt: &R, sources: &[Source], limits: &Limits) -> Result<Compiled, CompileError>
+fn run_passes<R, G>(
+    workers: &Workers<'_, R, G>,
+    sources: &[Source],
+    limits: &Limits,
+) -> Result<Compiled, CompileError>
 where
     R: Threads + AllocGlobal + Sync,
+    G: Gate + Sync,
     ensures compiled { IfOk result (IsCompiled limits.now sources.now) }
     ensures first { IfErr result (IsRefusal (IsFirstFault limits.now sources.now)) }
 {
-    let alloc = rt.alloc();
+    let alloc = workers.rt.alloc();
     let files = files_by_name(alloc, sources, limits)?;
-    let descs = describe_all(alloc, &files, limits)?;
+    let descs = describe_all(workers, &files, limits)?;
     let links = link_all(alloc, &descs)?;
-    let index = index_all(rt, &descs, limits)?;
+    let index = index_all(workers.rt, &descs, limits)?;
     let descs = resolve_all(alloc, &files, &links, &index, descs)?;
-    let written = write_all(alloc, &files, &descs, limits)?;
+    let written = write_all(workers, &files, &descs, limits)?;
     let files = table_of(alloc, &files, written)?;
     if !is_set_within(&files, &links, limits.get(Limit::SetBytes)) {
         return Err(refusal(alloc, Pass::Set, "", START, Kind::SetTooLong));
@@ -57,17 +63,20 @@ where
 /// The sources may come in any order; the answer is the same. `First` has their first fault: the least by pass, file name,
 /// step, place and the number of its kind, where a later pass is judged only if every file has passed the earlier ones.
 /// Its place lies within the text of its file; a fault of the whole list has no file name, and stands at 0. `NoMemory` comes
-/// only where the allocator had none. What the plan and the gate are changes nothing of the answer.
+/// only where the allocator had none.
+///
+/// Workers share the files, in phase 1 of the gate each source by itself, and in phase 3 the bytes of the descriptors: what the
+/// plan and the gate are changes nothing of the answer.
 pub fn compile<R, G>(
     rt: &R,
     sources: &[Source],
     limits: &Limits,
-    _plan: Plan,
-    _gate: &G,
+    plan: Plan,
+    gate: &G,
 ) -> Result<Compiled, CompileError>
 where
     R: Threads + AllocGlobal + Sync,
-    G: Gate,
+    G: Gate + Sync,
     ensures compiled { IfOk result (IsCompiled limits.now sources.now) }
     ensures first { IfErr result (IsRefusal (IsFirstFault limits.now sources.now)) }
     ensures placed { IfErr result (IsRefusal (λ pass file step place kind. IsPlaced limits.now sources.now file place)) }
@@ -78,7 +87,7 @@ where
     ensures every_fault { (pass : ℕ) (file : List ℕ) (step : ℕ) (place : Place) (kind : Kind) → IsFirstFault limits.now sources.now pass file step place kind
         → IsErrAnd result (Tells pass file step place kind) }
 {
-    run_passes(rt, sources, limits)
+    run_passes(&Workers { rt, plan, gate }, sources, limits)
 }
 
 /// The table of sources in the order of their names, with the bytes of what they describe.

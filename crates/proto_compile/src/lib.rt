@@ -12,6 +12,7 @@ mod pass;
 mod set;
 mod source;
 mod table;
+mod workers;
 
 pub use compiled::Compiled;
 pub use compiling::compile;

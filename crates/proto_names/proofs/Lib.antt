@@ -12,4 +12,5 @@ pub mod Once
 pub mod Ordered
 pub mod Repeating
 pub mod Searching
+pub mod Unhashing
 pub mod Unique

@@ -24,14 +24,14 @@ AreOf os name es = (o : Occurrence) → Contains (map occurrence es) o → Conta
 abbrev pub AreAllOf : List Occurrence → List ℕ → List Entry → Type 0
 AreAllOf os name es = (o : Occurrence) → Contains os o → o.name ≡ name → Contains (map occurrence es) o
 
-pub occurs_at : (es : List Entry) (i : ℕ) (e : Entry) → IsAt es i e → Contains (map occurrence es) (occurrence e)
-occurs_at es i e at =
+pub contained_at : (es : List Entry) (i : ℕ) (e : Entry) → IsAt es i e → Contains (map occurrence es) (occurrence e)
+contained_at es i e at =
     (i, (let within : i < length es = at.0 in omega (arith, length-map es occurrence)), get_or-map occurrence es i e (occurrence e) at.0 ∙ ap occurrence (sym at.1))
 
-pub visible_at : (os : List Occurrence) (Seen : ℕ → Type 0) (accepts : Option NameKind → Bool) (name : List ℕ) (es : List Entry) (i : ℕ) (e : Entry) → AreOf os name es → IsAt es i e → IsTrue (accepts e.kind) → Seen e.spot.file → Visible os Seen accepts name
-visible_at os Seen accepts name es i e found at fitting seen =
-    let here = found (occurrence e) (occurs_at es i e at) in
-    (occurrence e, here.0, here.1, fitting, seen)
+pub visible_of : (os : List Occurrence) (Seen : ℕ → Type 0) (accepts : Option NameKind → Bool) (name : List ℕ) (es : List Entry) (e : Entry) → AreOf os name es → Contains (map occurrence es) (occurrence e) → IsTrue (accepts e.kind) × Seen e.spot.file → Visible os Seen accepts name
+visible_of os Seen accepts name es e found here fits =
+    let there = found (occurrence e) here in
+    (occurrence e, there.0, there.1, fits.0, fits.1)
 
 pub not_at : (Seen : ℕ → Type 0) (accepts : Option NameKind → Bool) (es : List Entry) (i : ℕ) (e : Entry) → IsAt es i e → (IsTrue (accepts e.kind) → Seen e.spot.file → ⊥) → IsNotAt accepts Seen es i
 not_at Seen accepts es i e at none o same fitting seen =

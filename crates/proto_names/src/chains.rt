@@ -8,7 +8,8 @@ ghost use Rattle.proto_names.specs.Entries.{entry_name, occurrence};
 ghost use Rattle.proto_names.specs.Hashes.{hash_of};
 
 use crate::entries::{Entry, has_name};
-use crate::hashing::hash_in;
+use crate::hashing::with_text;
+use crate::scope::Scope;
 use crate::twice::continues;
 use std::alloc::{AllocError, Global};
 
@@ -49,7 +50,7 @@ pub(crate) fn chained(alloc: Global, entries: &[Entry]) -> Result<Chains, AllocE
     let mut slots = vec![in alloc; 0; count]?;
     let mut links = Vec::with_capacity(alloc, entries.len())?;
     for (position, entry) in entries.iter().enumerate() {
-        let hash = hash_in("", entry.name.as_str());
+        let hash = with_text(0, entry.name.as_str());
         let slot = hash as usize % count;
         let next = slots[slot];
         links.push(Link { hash, next })?;
@@ -69,16 +70,16 @@ fn is_match(entry: &Entry, link: Link, hash: u32, scope: &str, name: &str) -> bo
 
 impl Chains {
     /// Where the entries of the name in a scope begin.
-    pub(crate) fn start_of(&self, entries: &[Entry], scope: &str, name: &str) -> Option<usize>
+    pub(crate) fn start_of(&self, entries: &[Entry], scope: Scope, name: &str) -> Option<usize>
         requires { AreChained (map occurrence entries.now) (length entries.now) self.now.slots.items self.now.links.items }
-        ensures { MatchOption result (IsNowhere (map occurrence entries.now) (scoped scope.now name.now)) (IsStart (map occurrence entries.now) (scoped scope.now name.now)) }
+        ensures { MatchOption result (IsNowhere (map occurrence entries.now) (scoped scope.entry.text.now name.now)) (IsStart (map occurrence entries.now) (scoped scope.entry.text.now name.now)) }
     {
-        let hash = hash_in(scope, name);
+        let hash = scope.hash_with(name);
         let mut next = self.slots[hash as usize % self.slots.len()];
         while next > 0 {
             let position = next as usize - 1;
             let link = self.links[position];
-            if is_match(&entries[position], link, hash, scope, name) {
+            if is_match(&entries[position], link, hash, scope.text, name) {
                 return Some(position);
             }
             next = link.next;

@@ -1,19 +1,18 @@
-//! Hashes of full names. The hash of the name in a scope needs no text of the full name.
+//! Hashes of full names: from the hash of a text come those of the texts with some bytes more behind it, or fewer.
 
-ghost use Rattle.std.specs.Prelude.{◌≡◌};
+ghost use Rattle.std.specs.Prelude.{◌≡◌, ℕ, ◌<◌, ◌++◌, List};
 ghost use Rattle.std.specs.List.{fold};
-ghost use Rattle.proto_desc.specs.DeclaredNames.{scoped};
 ghost use Rattle.proto_names.specs.Hashes.{hash_of, hash_step};
 
 /// A hash with a byte more.
-fn with_byte(hash: u32, byte: u8) -> u32
+pub(crate) fn with_byte(hash: u32, byte: u8) -> u32
     ensures { result ≡ hash_step hash byte }
 {
     ((hash as u64 * 16_777_619 + byte as u64) % 4_294_967_296) as u32
 }
 
 /// A hash with the bytes of a text more.
-fn with_text(start: u32, text: &str) -> u32
+pub(crate) fn with_text(start: u32, text: &str) -> u32
     ensures { result ≡ fold hash_step start text.now }
 {
     let mut hash = start;
@@ -23,14 +22,25 @@ fn with_text(start: u32, text: &str) -> u32
     hash
 }
 
-/// The hash of the name in a scope.
-pub(crate) fn hash_in(scope: &str, name: &str) -> u32
-    ensures { result ≡ hash_of (scoped scope.now name.now) }
+/// The inverse of the factor of `with_byte`, modulo 2^32.
+const INVERSE: u64 = 899_433_627;
+
+/// A hash before its last byte came.
+fn without_byte(hash: u32, byte: u8) -> u32
+    ensures { (before : ℕ) → before < 4294967296 → hash ≡ hash_step before byte → result ≡ before }
 {
-    let front = with_text(0, scope);
-    if scope.is_empty() {
-        with_text(front, name)
-    } else {
-        with_text(with_byte(front, b'.'), name)
+    ((hash as u64 + 4_294_967_296 - byte as u64) * INVERSE % 4_294_967_296) as u32
+}
+
+/// The hash of what stands before these bytes, from the hash of all.
+pub(crate) fn hash_before(whole: u32, bytes: &[u8]) -> u32
+    ensures { (front : List ℕ) → whole ≡ hash_of (front ++ bytes.now) → result ≡ hash_of front }
+{
+    let mut hash = whole;
+    let mut end = bytes.len();
+    while end > 0 {
+        end -= 1;
+        hash = without_byte(hash, bytes[end]);
     }
+    hash
 }

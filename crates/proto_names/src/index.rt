@@ -15,6 +15,7 @@ ghost use Rattle.proto_base.specs.declared.place.Place.{Place};
 
 use crate::collect::collect;
 use crate::entries::Entry;
+use crate::scope::Scope;
 use crate::table::EntryTable;
 use crate::twice::first_twice;
 use proto_base::{Limit, Limits, Place};
@@ -133,7 +134,7 @@ impl NameIndex {
         ensures found { (d : Defined) → result ≡ Some d → (o : Occurrence) × Contains self.now.occurrences o × (o.name ≡ name.now) × (o.kind ≡ Some d.kind) × (o.file ≡ d.file) }
         ensures within { IfSome result (λ d. d.file < self.now.files) }
     {
-        for entry in self.entries.named("", name) {
+        for entry in self.entries.named(Scope::top(), name) {
             if let Some(kind) = entry.kind {
                 let file = entry.spot.file;
                 return Some(Defined { kind, file });

@@ -1,10 +1,11 @@
 //! What a spelled name means in a scope, as a type.
 
-ghost use Rattle.std.specs.Prelude.{◌≡◌, ◌↔◌, ℕ, ◌<◌, List, Bool, Err, IfOk, IsTrue, MatchOption, string_bytes};
+ghost use Rattle.std.specs.Prelude.{◌≡◌, ◌↔◌, ℕ, ◌<◌, List, Bool, Err, IfOk, IfSome, IsTrue, MatchOption, Contains, map, string_bytes};
 ghost use Rattle.proto_desc.specs.DeclaredNames.{scoped};
 ghost use Rattle.proto_desc.specs.declared.name_kind.NameKind.{NameKind};
 ghost use Rattle.proto_desc.specs.declared.name_kind.NameKind.TheVariants as kinds;
 ghost use Rattle.proto_links.specs.Linked.{count_of};
+ghost use Rattle.proto_names.specs.Entries.{occurrence};
 ghost use Rattle.proto_names.specs.Occurrences.{Occurrence};
 ghost use Rattle.proto_names.specs.Resolution.{AreSeenAlike, SeenBy, Decides, IsInnermost, IsSeen, IsType, Resolves, ResolvesNowhere, Visible};
 ghost use Rattle.proto_names.specs.Scopes.{IsCandidate};
@@ -12,9 +13,9 @@ ghost use Rattle.proto_names.specs.Steps.{IsMeant, MeansNothing, fits};
 ghost use Rattle.proto_names.specs.declared.resolve.ResolveError.TheVariants as errors;
 ghost use Rattle.proto_names.specs.declared.resolve.Want.TheVariants as wants;
 
-use crate::entries::name_in;
+use crate::entries::{Entry, name_in};
 use crate::index::NameIndex;
-use crate::scope::parent;
+use crate::scope::Scope;
 use proto_desc::name_kind::NameKind;
 use proto_links::{FileId, Links};
 use std::alloc::{AllocError, Global};
@@ -89,15 +90,41 @@ impl Role {
     }
 }
 
+/// An entry in a file, found by halving: the entries of one name come in the order of their files.
+fn entry_in(entries: &[Entry], file: FileId) -> Option<&Entry>
+    ensures { IfSome result (λ entry. Contains (map occurrence entries.now) (occurrence entry.now)) }
+{
+    match entries.binary_search_by_key(&file, |entry: &Entry| entry.spot.file) {
+        Ok(at) => Some(&entries[at]),
+        Err(_) => None,
+    }
+}
+
+/// Whether an entry is of a kind that fits, and stands in a file that this one sees.
+fn is_seen(links: &Links, file: FileId, role: Role, entry: &Entry) -> bool
+    requires file { file < count_of links.now }
+    requires entry { entry.now.spot.file < count_of links.now }
+    ensures { IsTrue result ↔ (IsTrue (fits role entry.now.kind) × SeenBy links.now file entry.now.spot.file) }
+{
+    role.fits(entry.kind) && links.sees(file, entry.spot.file)
+}
+
 impl NameIndex {
     /// Whether a file sees the name in a scope, of a kind that fits.
-    fn is_visible(&self, links: &Links, file: FileId, role: Role, scope: &str, name: &str) -> bool
+    fn is_visible(&self, links: &Links, file: FileId, role: Role, scope: Scope, name: &str) -> bool
         requires links { count_of links.now ≡ self.now.files }
         requires file { file < self.now.files }
-        ensures { IsTrue result ↔ Visible self.now.occurrences (SeenBy links.now file) (fits role) (scoped scope.now name.now) }
+        ensures { IsTrue result ↔ Visible self.now.occurrences (SeenBy links.now file) (fits role) (scoped scope.entry.text.now name.now) }
     {
-        for entry in self.entries.named(scope, name) {
-            if role.fits(entry.kind) && links.sees(file, entry.spot.file) {
+        let entries = self.entries.named(scope, name);
+        // A package has an entry in each of its files, and is mostly the file's own.
+        if let Some(entry) = entry_in(entries, file) {
+            if is_seen(links, file, role, entry) {
+                return true;
+            }
+        }
+        for entry in entries {
+            if is_seen(links, file, role, entry) {
                 return true;
             }
         }
@@ -105,10 +132,10 @@ impl NameIndex {
     }
 
     /// Whether a scope decides what a spelled name means.
-    fn decides(&self, links: &Links, file: FileId, scope: &str, spelled: &str) -> bool
+    fn decides(&self, links: &Links, file: FileId, scope: Scope, spelled: &str) -> bool
         requires links { count_of links.now ≡ self.now.files }
         requires file { file < self.now.files }
-        ensures { IsTrue result ↔ Decides self.now.occurrences (SeenBy links.now file) scope.now spelled.now }
+        ensures { IsTrue result ↔ Decides self.now.occurrences (SeenBy links.now file) scope.entry.text.now spelled.now }
     {
         match spelled.split_once('.') {
             Some((first, _)) => self.is_visible(links, file, Role::Scope, scope, first),
@@ -123,17 +150,17 @@ impl NameIndex {
         file: FileId,
         scope: &'s str,
         spelled: &str,
-    ) -> Option<&'s str>
+    ) -> Option<Scope<'s>>
         requires links { count_of links.now ≡ self.now.files }
         requires file { file < self.now.files }
-        ensures { MatchOption result ((c : List ℕ) → IsCandidate c scope.now → Decides self.now.occurrences (SeenBy links.now file) c spelled.now → ⊥) (λ inner. IsInnermost self.now.occurrences (SeenBy links.now file) scope.now spelled.now inner.now) }
+        ensures { MatchOption result ((c : List ℕ) → IsCandidate c scope.now → Decides self.now.occurrences (SeenBy links.now file) c spelled.now → ⊥) (λ inner. IsInnermost self.now.occurrences (SeenBy links.now file) scope.now spelled.now inner.text.now) }
     {
-        let mut inner = scope;
+        let mut inner = Scope::new(scope);
         loop {
             if self.decides(links, file, inner, spelled) {
                 return Some(inner);
             }
-            match parent(inner) {
+            match inner.parent() {
                 Some(outer) => inner = outer,
                 None => return None,
             }
@@ -147,23 +174,23 @@ impl NameIndex {
         file: FileId,
         scope: &'s str,
         spelled: &'s str,
-    ) -> Option<(&'s str, &'s str)>
+    ) -> Option<(Scope<'s>, &'s str)>
         requires links { count_of links.now ≡ self.now.files }
         requires file { file < self.now.files }
-        ensures { MatchOption result (MeansNothing self.now.occurrences (SeenBy links.now file) scope.now spelled.now) (λ full. IsMeant self.now.occurrences (SeenBy links.now file) scope.now spelled.now (scoped full.0.now full.1.now)) }
+        ensures { MatchOption result (MeansNothing self.now.occurrences (SeenBy links.now file) scope.now spelled.now) (λ full. IsMeant self.now.occurrences (SeenBy links.now file) scope.now spelled.now (scoped full.0.text.now full.1.now)) }
     {
         if let Some(full) = spelled.strip_prefix('.') {
-            return Some(("", full));
+            return Some((Scope::top(), full));
         }
         let inner = self.innermost(links, file, scope, spelled)?;
         Some((inner, spelled))
     }
 
     /// The kind of the type of the name in a scope.
-    fn type_of(&self, links: &Links, file: FileId, scope: &str, name: &str) -> Option<NameKind>
+    fn type_of(&self, links: &Links, file: FileId, scope: Scope, name: &str) -> Option<NameKind>
         requires links { count_of links.now ≡ self.now.files }
         requires file { file < self.now.files }
-        ensures { MatchOption result ((kind : NameKind) → IsType self.now.occurrences (SeenBy links.now file) (scoped scope.now name.now) kind → ⊥) (IsType self.now.occurrences (SeenBy links.now file) (scoped scope.now name.now)) }
+        ensures { MatchOption result ((kind : NameKind) → IsType self.now.occurrences (SeenBy links.now file) (scoped scope.entry.text.now name.now) kind → ⊥) (IsType self.now.occurrences (SeenBy links.now file) (scoped scope.entry.text.now name.now)) }
     {
         if self.is_visible(links, file, Role::Message, scope, name) {
             Some(NameKind::Message)
@@ -202,7 +229,7 @@ impl NameIndex {
         if !want.allows(kind) {
             return Err(ResolveError::TypeNotMessage);
         }
-        let full_name = name_in(alloc, inner, name)?;
+        let full_name = name_in(alloc, inner.text, name)?;
         Ok(Resolved { full_name, kind })
     }
 }

@@ -1,7 +1,11 @@
 //! Scopes: texts of parts with dots between them.
 
 ghost use Rattle.std.specs.Prelude.{◌≡◌, ◌⊎◌, ℕ, ◌<◌, [], ◌∷◌, List, length, MatchOption};
+ghost use Rattle.proto_desc.specs.DeclaredNames.{scoped};
+ghost use Rattle.proto_names.specs.Hashes.{hash_of};
 ghost use Rattle.proto_names.specs.Scopes.{IsCandidate, fronts};
+
+use crate::hashing::{hash_before, with_byte, with_text};
 
 /// The longest front of a text that a dot follows, if there is a dot.
 pub(crate) fn shorter_front(text: &str) -> Option<&str>
@@ -11,8 +15,8 @@ pub(crate) fn shorter_front(text: &str) -> Option<&str>
     Some(&text[..dot])
 }
 
-/// The scope around this one.
-pub(crate) fn parent(scope: &str) -> Option<&str>
+/// The text of the scope around this one.
+fn parent(scope: &str) -> Option<&str>
     ensures { MatchOption result (scope.now ≡ []) (λ outer. IsCandidate outer.now scope.now × (length outer.now < length scope.now) × ((c : List ℕ) → IsCandidate c scope.now → (c ≡ scope.now) ⊎ IsCandidate c outer.now)) }
 {
     if scope.is_empty() {
@@ -21,5 +25,51 @@ pub(crate) fn parent(scope: &str) -> Option<&str>
     match scope.rfind('.') {
         Some(at) => Some(&scope[..at]),
         None => Some(""),
+    }
+}
+
+/// A scope, and the hash of its text.
+#[derive(Clone, Copy)]
+pub(crate) struct Scope<'s> {
+    pub(crate) text: &'s str,
+    hash: u32,
+    ghost hashed: { hash ≡ hash_of text.now },
+}
+
+impl<'s> Scope<'s> {
+    pub(crate) fn new(text: &'s str) -> Scope<'s>
+        ensures { result.text.now ≡ text.entry.now }
+    {
+        Scope {
+            text,
+            hash: with_text(0, text),
+        }
+    }
+
+    /// The scope of what stands in no package.
+    pub(crate) fn top() -> Scope<'static>
+        ensures { result.text.now ≡ [] }
+    {
+        Scope::new("")
+    }
+
+    /// The hash of the name in the scope.
+    pub(crate) fn hash_with(self, name: &str) -> u32
+        ensures { result ≡ hash_of (scoped self.entry.text.now name.now) }
+    {
+        if self.text.is_empty() {
+            with_text(self.hash, name)
+        } else {
+            with_text(with_byte(self.hash, b'.'), name)
+        }
+    }
+
+    /// The scope around this one, whose hash comes out of this one's.
+    pub(crate) fn parent(self) -> Option<Scope<'s>>
+        ensures { MatchOption result (self.entry.text.now ≡ []) (λ outer. IsCandidate outer.text.now self.entry.text.now × (length outer.text.now < length self.entry.text.now) × ((c : List ℕ) → IsCandidate c self.entry.text.now → (c ≡ self.entry.text.now) ⊎ IsCandidate c outer.text.now)) }
+    {
+        let text = parent(self.text)?;
+        let hash = hash_before(self.hash, &self.text.as_bytes()[text.len()..]);
+        Some(Scope { text, hash })
     }
 }

@@ -14,6 +14,7 @@ ghost use Rattle.proto_names.specs.declared.entries.Entry.{Entry};
 
 use crate::chains::{Chains, chained};
 use crate::entries::{Entries, Entry, compare, has_name};
+use crate::scope::Scope;
 use std::alloc::{AllocError, Global};
 use std::marker::Model;
 
@@ -47,10 +48,10 @@ impl EntryTable {
     }
 
     /// The entries of the name in a scope.
-    pub(crate) fn named(&self, scope: &str, name: &str) -> &[Entry]
+    pub(crate) fn named(&self, scope: Scope, name: &str) -> &[Entry]
         requires { AreInNameOrder self.now }
-        ensures found { (o : Occurrence) → Contains (map occurrence result.now) o → Contains self.now o × (o.name ≡ scoped scope.now name.now) }
-        ensures all { (o : Occurrence) → Contains self.now o → o.name ≡ scoped scope.now name.now → Contains (map occurrence result.now) o }
+        ensures found { (o : Occurrence) → Contains (map occurrence result.now) o → Contains self.now o × (o.name ≡ scoped scope.entry.text.now name.now) }
+        ensures all { (o : Occurrence) → Contains self.now o → o.name ≡ scoped scope.entry.text.now name.now → Contains (map occurrence result.now) o }
     {
         entries_named(self.entries.as_slice(), &self.chains, scope, name)
     }
@@ -87,15 +88,15 @@ fn run_length(entries: &[Entry], scope: &str, name: &str) -> usize
 }
 
 /// The entries of the name in a scope.
-fn entries_named<'e>(entries: &'e [Entry], chains: &Chains, scope: &str, name: &str) -> &'e [Entry]
+fn entries_named<'e>(entries: &'e [Entry], chains: &Chains, scope: Scope, name: &str) -> &'e [Entry]
     requires order { IsSortedByKey entry_name (slice_cmp nat_cmp) entries.now }
     requires chains { AreChained (map occurrence entries.now) (length entries.now) chains.now.slots.items chains.now.links.items }
-    ensures { (e : Entry) → Contains result.now e ↔ (Contains entries.now e × (entry_name e ≡ scoped scope.now name.now)) }
+    ensures { (e : Entry) → Contains result.now e ↔ (Contains entries.now e × (entry_name e ≡ scoped scope.entry.text.now name.now)) }
 {
     match chains.start_of(entries, scope, name) {
         Some(start) => {
             let behind = &entries[start..];
-            &behind[..run_length(behind, scope, name)]
+            &behind[..run_length(behind, scope.text, name)]
         }
         None => &[],
     }

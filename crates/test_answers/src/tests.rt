@@ -1,3 +1,5 @@
+mod exchange;
 mod fixtures;
 mod gates;
+mod http;
 mod responses;

@@ -1,7 +1,7 @@
 //! The pass over the lengths of descriptors.
 
 ghost use Rattle.std.specs.Prelude.{◌≡◌, List, length, map, true, All, IfOk, IfErr, OnOk};
-ghost use Rattle.proto_compile.specs.Analysed.{AllZipFrom, AreResolved};
+ghost use Rattle.proto_compile.specs.Analysed.{AreResolved};
 ghost use Rattle.proto_compile.specs.Compilation.{IsShort};
 ghost use Rattle.proto_compile.specs.Faults.{IsFirstFault, IsRefusal};
 ghost use Rattle.proto_compile.specs.Outcomes.{IsWrittenShort};
@@ -16,11 +16,17 @@ use crate::error::{CompileError, START};
 use crate::outcome::judge;
 use crate::pass::Pass;
 use crate::source::Source;
+use crate::workers::Workers;
 use proto_base::{Kind, Limit, Limits};
 use proto_desc::file::FileDesc;
 use proto_file::FileError;
-use std::alloc::{AllocError, Global};
+use share_work::{Gate, Work};
+use std::alloc::{AllocError, AllocGlobal, Global};
+use std::thread::Threads;
 use wire_bytes::file_bytes;
+
+/// The phase of this pass, as a gate is told it.
+const WRITING: u8 = 3;
 
 /// The bytes of a file's descriptor, if there are no more than the limit.
 fn write(alloc: Global, desc: &FileDesc, limits: &Limits) -> Result<Vec<u8>, FileError>
@@ -34,29 +40,58 @@ fn write(alloc: Global, desc: &FileDesc, limits: &Limits) -> Result<Vec<u8>, Fil
     Ok(bytes)
 }
 
-/// The bytes of each descriptor, if there are no more than the limit.
-fn write_each(
-    alloc: Global,
-    descs: &[FileDesc],
-    limits: &Limits,
-) -> Result<Vec<Result<Vec<u8>, FileError>>, AllocError>
-    requires { All (λ desc. file_resolved desc ≡ true) descs.now }
-    ensures { IfOk result (λ outcomes. AllZipFrom (λ k. IsWrittenShort limits.now) 0 descs.now outcomes.items) }
-{
-    let mut outcomes = Vec::with_capacity(alloc, descs.len())?;
-    for desc in descs {
-        outcomes.push(write(alloc, desc, limits))?;
+/// Writes descriptors, each by itself.
+#[derive(Drop)]
+struct Writing {
+    limits: Limits,
+}
+
+impl<'s> Work<FileDesc<'s>> for Writing {
+    ghost use Rattle.std.specs.Prelude.{⊤, ◌≡◌, true};
+    ghost use Rattle.proto_compile.specs.Outcomes.{IsWrittenShort};
+    ghost use Rattle.proto_desc.specs.Resolved.{file_resolved};
+
+    type Out = Result<Vec<u8>, FileError>;
+
+    type Seat = ();
+
+    ghost takes = { λ _ _ desc. file_resolved desc ≡ true };
+
+    ghost fits = { λ _ _. ⊤ };
+
+    ghost gives = { λ work _ desc outcome. IsWrittenShort work.limits desc outcome };
+
+    ghost number = { λ _ _. 0 };
+
+    ghost holds = { λ _ _ _ _. ⊤ };
+
+    ghost adds = { λ _ _ _ _ _. ⊤ };
+
+    fn piece(
+        &self,
+        alloc: Global,
+        _seat: &mut (),
+        _first: usize,
+        items: &[FileDesc<'s>],
+    ) -> Result<Vec<Result<Vec<u8>, FileError>>, AllocError> {
+        let mut outcomes = Vec::with_capacity(alloc, items.len())?;
+        for desc in items {
+            outcomes.push(write(alloc, desc, &self.limits))?;
+        }
+        Ok(outcomes)
     }
-    Ok(outcomes)
 }
 
 /// The bytes of the descriptors, of which none has more than the limit.
-pub(crate) fn write_all(
-    alloc: Global,
+pub(crate) fn write_all<R, G>(
+    workers: &Workers<'_, R, G>,
     files: &[Source],
     descs: &[FileDesc],
     limits: &Limits,
 ) -> Result<Vec<Vec<u8>>, CompileError>
+where
+    R: Threads + AllocGlobal + Sync,
+    G: Gate + Sync,
     requires files { length files.now ≡ length descs.now }
     requires resolved { All (λ desc. file_resolved desc ≡ true) descs.now }
     ensures bytes { IfOk result (λ all. map items_of all.items ≡ map file_desc_bytes descs.now) }
@@ -64,6 +99,7 @@ pub(crate) fn write_all(
     ensures first { (sources : List Source) (links : Linked) (index : Index) → AreResolved limits.now sources files.now descs.now links index
         → IfErr result (IsRefusal (IsFirstFault limits.now sources)) }
 {
-    let outcomes = write_each(alloc, descs, limits)?;
-    judge(alloc, Pass::Lengths, files, outcomes)
+    let work = Writing { limits: *limits };
+    let outcomes = workers.each(WRITING, descs, &work)?;
+    judge(workers.rt.alloc(), Pass::Lengths, files, outcomes)
 }

@@ -4,7 +4,6 @@ ghost use Rattle.std.specs.Prelude.{◌≤◌, List, IfOk, IfErr, length};
 ghost use Rattle.std.specs.List.{AllZip};
 ghost use Rattle.proto_base.specs.Limits.{limit_of};
 ghost use Rattle.proto_base.specs.declared.limits.Limit.TheVariants as limit;
-ghost use Rattle.proto_compile.specs.Analysed.{AllZipFrom};
 ghost use Rattle.proto_compile.specs.Descriptions.{SourceDescribes};
 ghost use Rattle.proto_compile.specs.Faults.{IsFirstFault, IsRefusal};
 ghost use Rattle.proto_compile.specs.Outcomes.{IsDescribed};
@@ -15,10 +14,16 @@ use crate::error::CompileError;
 use crate::outcome::judge;
 use crate::pass::Pass;
 use crate::source::Source;
+use crate::workers::Workers;
 use proto_base::Limits;
 use proto_desc::file::FileDesc;
 use proto_file::{FileError, describe};
-use std::alloc::{AllocError, Global};
+use share_work::{Gate, Work};
+use std::alloc::{AllocError, AllocGlobal, Global};
+use std::thread::Threads;
+
+/// The phase of this pass, as a gate is told it.
+const DESCRIBING: u8 = 1;
 
 /// What a source describes, or its first fault by itself.
 fn describe_one<'s>(
@@ -31,31 +36,61 @@ fn describe_one<'s>(
     describe(alloc, source.name, source.text, limits)
 }
 
-/// What each source describes, or its first fault by itself.
-fn describe_each<'s>(
-    alloc: Global,
-    files: &[Source<'s>],
-    limits: &Limits,
-) -> Result<Vec<Result<FileDesc<'s>, FileError>>, AllocError>
-    ensures { IfOk result (λ outcomes. AllZipFrom (λ k. IsDescribed limits.now) 0 files.now outcomes.items) }
-{
-    let mut outcomes = Vec::with_capacity(alloc, files.len())?;
-    for source in files {
-        outcomes.push(describe_one(alloc, source, limits))?;
+/// Describes sources, each by itself.
+#[derive(Drop)]
+struct Describing {
+    limits: Limits,
+}
+
+impl<'s> Work<Source<'s>> for Describing {
+    ghost use Rattle.std.specs.Prelude.{⊤};
+    ghost use Rattle.proto_compile.specs.Outcomes.{IsDescribed};
+
+    type Out = Result<FileDesc<'s>, FileError>;
+
+    type Seat = ();
+
+    ghost takes = { λ _ _ _. ⊤ };
+
+    ghost fits = { λ _ _. ⊤ };
+
+    ghost gives = { λ work _ source outcome. IsDescribed work.limits source outcome };
+
+    ghost number = { λ _ _. 0 };
+
+    ghost holds = { λ _ _ _ _. ⊤ };
+
+    ghost adds = { λ _ _ _ _ _. ⊤ };
+
+    fn piece(
+        &self,
+        alloc: Global,
+        _seat: &mut (),
+        _first: usize,
+        items: &[Source<'s>],
+    ) -> Result<Vec<Result<FileDesc<'s>, FileError>>, AllocError> {
+        let mut outcomes = Vec::with_capacity(alloc, items.len())?;
+        for source in items {
+            outcomes.push(describe_one(alloc, source, &self.limits))?;
+        }
+        Ok(outcomes)
     }
-    Ok(outcomes)
 }
 
 /// What sources describe, which stand in the order of their names.
-pub(crate) fn describe_all<'s>(
-    alloc: Global,
+pub(crate) fn describe_all<'s, R, G>(
+    workers: &Workers<'_, R, G>,
     files: &[Source<'s>],
     limits: &Limits,
 ) -> Result<Vec<FileDesc<'s>>, CompileError>
+where
+    R: Threads + AllocGlobal + Sync,
+    G: Gate + Sync,
     ensures described { IfOk result (λ descs. AllZip (SourceDescribes limits.now) files.now descs.items) }
     ensures first { (sources : List Source) → length sources ≤ limit_of limits.now limit.Files → AreByName sources files.now
         → IfErr result (IsRefusal (IsFirstFault limits.now sources)) }
 {
-    let outcomes = describe_each(alloc, files, limits)?;
-    judge(alloc, Pass::Local, files, outcomes)
+    let work = Describing { limits: *limits };
+    let outcomes = workers.each(DESCRIBING, files, &work)?;
+    judge(workers.rt.alloc(), Pass::Local, files, outcomes)
 }

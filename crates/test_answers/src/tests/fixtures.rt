@@ -1,7 +1,7 @@
 //! Sources, and the responses to bodies over them.
 
 use proto_base::Limits;
-use proto_compile::{Source, compile};
+use proto_compile::{Compiled, Source, compile};
 use reflect_core::{Mode, answer_body};
 use share_work::{Gate, NoGate, Plan};
 use std::alloc::AllocGlobal;
@@ -21,6 +21,35 @@ pub(super) static ONE_FILE: [(&str, &str); 1] = [(
     "syntax = \"proto3\"; message A { int32 x = 1; }",
 )];
 
+/// What files are compiled to.
+pub(super) fn compiled<R: Threads + AllocGlobal + Sync>(
+    rt: &R,
+    files: &[(&str, &str)],
+    limits: &Limits,
+) -> Result<Compiled, Fail> {
+    compiled_by(rt, files, limits, Plan::single(), &NoGate)
+}
+
+/// What files are compiled to by the workers of a plan.
+pub(super) fn compiled_by<R, G>(
+    rt: &R,
+    files: &[(&str, &str)],
+    limits: &Limits,
+    plan: Plan,
+    gate: &G,
+) -> Result<Compiled, Fail>
+where
+    R: Threads + AllocGlobal + Sync,
+    G: Gate + Sync,
+{
+    let mut sources = Vec::new(rt.alloc());
+    for (name, text) in files {
+        let text = text.as_bytes();
+        sources.push(Source { name, text })?;
+    }
+    Ok(compile(rt, &sources, limits, plan, gate)?)
+}
+
 /// The response to a body over files, in hexadecimal digits.
 pub(super) fn response<R, G>(
     rt: &R,
@@ -35,12 +64,7 @@ where
     R: Threads + AllocGlobal + Sync,
     G: Gate + Sync,
 {
-    let mut sources = Vec::new(rt.alloc());
-    for (name, text) in files {
-        let text = text.as_bytes();
-        sources.push(Source { name, text })?;
-    }
-    let compiled = compile(rt, &sources, limits, Plan::single(), &NoGate)?;
+    let compiled = compiled(rt, files, limits)?;
     let bytes = answer_body(rt, &compiled, plan, gate, mode, body)?;
     Ok(hex::encode(rt.alloc(), bytes)?)
 }

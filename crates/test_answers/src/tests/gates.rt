@@ -1,6 +1,6 @@
 //! Workers that are held until another has come.
 
-use super::fixtures::{THREE_FILES, response};
+use super::fixtures::{THREE_FILES, compiled_by, response};
 use proto_base::Limits;
 use reflect_core::Mode;
 use share_work::{Gate, NoGate, Plan};
@@ -40,6 +40,34 @@ impl Gate for Held {
     }
 }
 
+/// A gate that holds the pieces of a phase.
+fn held(phase: u8) -> Held {
+    Held {
+        phase,
+        entered: AtomicU64::new(0),
+        missed: AtomicU64::new(0),
+    }
+}
+
+/// Sources are described, and descriptors written, each by two workers at once, and the set is that of one.
+#[test]
+fn compilers_meet(rt: HostRuntime) -> Result<(), Fail> {
+    let limits = Limits::standard();
+    let plan = Plan::new(2, 1).ok_or("a plan")?;
+    let alone = compiled_by(&rt, &THREE_FILES, &limits, Plan::single(), &NoGate)?;
+    let set = alone.set_bytes(rt.alloc())?;
+    for phase in [1, 3] {
+        let gate = held(phase);
+        let found = compiled_by(&rt, &THREE_FILES, &limits, plan, &gate)?;
+        assert!(rt; found.set_bytes(rt.alloc())? == set, "phase {phase}");
+        assert!(rt;
+            gate.missed.load(Ordering::SeqCst) == 0,
+            "phase {phase}: nobody came"
+        );
+    }
+    Ok(())
+}
+
 /// Marks and replies are each made by two workers at once, and the response is that of one.
 #[test]
 fn workers_meet(rt: HostRuntime) -> Result<(), Fail> {
@@ -55,11 +83,7 @@ fn workers_meet(rt: HostRuntime) -> Result<(), Fail> {
         BODY,
     )?;
     for phase in 4..6 {
-        let gate = Held {
-            phase,
-            entered: AtomicU64::new(0),
-            missed: AtomicU64::new(0),
-        };
+        let gate = held(phase);
         let found = response(&rt, &THREE_FILES, &limits, plan, &gate, Mode::Once, BODY)?;
         assert!(rt; found == alone, "phase {phase}: {found}");
         assert!(rt;

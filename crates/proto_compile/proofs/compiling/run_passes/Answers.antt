@@ -38,7 +38,7 @@ resolve_all-requires-clause-files g c =
     rw c.deref-4.ensures.value (same_length c.args.limits.now c.in_ok-files.files.items c.in_ok-descs.descs.items each)
 
 pub write_all-requires-clause-files : goal.write_all-requires-clause-files
-write_all-requires-clause-files g c =
+write_all-requires-clause-files g c κs h =
     let each = rw c.deref.ensures.value at c.in_ok-descs.ensures.described in
     rw (c.deref-5.ensures.value, c.deref-6.ensures.value) (same_length c.args.limits.now c.in_ok-files.files.items c.in_ok-descs.descs.items each ∙ typed_length c.in_ok-links.links c.in_ok-index.index 0 c.in_ok-descs.descs.items c.in_ok-descs-2.descs.items c.in_ok-descs-2.ensures.typed)
 

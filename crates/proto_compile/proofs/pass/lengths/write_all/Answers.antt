@@ -1,4 +1,4 @@
-use Rattle.std.proofs.Common.{◌≡◌, ◌∙◌, subst, ℕ, map, All}
+use Rattle.std.proofs.Common.{◌≡◌, ◌∙◌, sym, subst, ℕ, map, All}
 use Rattle.std.specs.Prelude.{Ok, Vec}
 use Rattle.std.specs.declared.alloc.Global.{Global}
 use Rattle.wire_bytes.specs.Descriptor.{file_desc_bytes}
@@ -7,24 +7,27 @@ use Rattle.proto_compile.specs.Compilation.{IsShort}
 use Rattle.proto_compile.specs.Faults.{IsFirstFault, IsRefusal}
 use Rattle.proto_compile.specs.Outcomes.{IsWrittenShort, TellsFirst}
 use Rattle.proto_compile.specs.Steps.{items_of}
-use Rattle.proto_compile.proofs.Judging.{err_map, ok_map, zip_length}
+use Rattle.proto_compile.proofs.Judging.{err_map, ok_map, zip_of_gives}
 use Rattle.proto_compile.proofs.Writing.{all_bytes, all_short, refused_long}
 use Rattle.proto_compile.proofs.pass.lengths.write_all.Goals as goal
 
 pub judge-requires : goal.judge-requires
-judge-requires c = c.requires.files ∙ zip_length (λ k. IsWrittenShort c.args.limits.now) 0 c.args.descs.now c.in_ok-outcomes.outcomes.items c.in_ok-outcomes.ensures
+judge-requires g c = c.requires.files ∙ sym c.in_ok-outcomes.ensures.0
 
 pub returns-clause-bytes : goal.returns-clause-bytes
-returns-clause-bytes c =
+returns-clause-bytes g c =
+    let each = zip_of_gives (λ k. IsWrittenShort c.args.limits.now) 0 c.args.descs.now c.in_ok-outcomes.outcomes.items c.in_ok-outcomes.ensures in
     ok_map (λ (all : Vec (Vec ℕ Global) Global). c.in_ok-outcomes.outcomes.items ≡ map Ok all.items) (λ all. map items_of all.items ≡ map file_desc_bytes c.args.descs.now) c.judge.result
-    (λ all is. all_bytes c.args.limits.now 0 c.args.descs.now all.items (subst (AllZipFrom (λ k. IsWrittenShort c.args.limits.now) 0 c.args.descs.now) is c.in_ok-outcomes.ensures)) c.judge.ensures.well
+    (λ all is. all_bytes c.args.limits.now 0 c.args.descs.now all.items (subst (AllZipFrom (λ k. IsWrittenShort c.args.limits.now) 0 c.args.descs.now) is each)) c.judge.ensures.well
 
 pub returns-clause-short : goal.returns-clause-short
-returns-clause-short c =
+returns-clause-short g c =
+    let each = zip_of_gives (λ k. IsWrittenShort c.args.limits.now) 0 c.args.descs.now c.in_ok-outcomes.outcomes.items c.in_ok-outcomes.ensures in
     ok_map (λ (all : Vec (Vec ℕ Global) Global). c.in_ok-outcomes.outcomes.items ≡ map Ok all.items) (λ all. All (IsShort c.args.limits.now) c.args.descs.now) c.judge.result
-    (λ all is. all_short c.args.limits.now c.args.descs.now all.items (subst (AllZipFrom (λ k. IsWrittenShort c.args.limits.now) 0 c.args.descs.now) is c.in_ok-outcomes.ensures)) c.judge.ensures.well
+    (λ all is. all_short c.args.limits.now c.args.descs.now all.items (subst (AllZipFrom (λ k. IsWrittenShort c.args.limits.now) 0 c.args.descs.now) is each)) c.judge.ensures.well
 
 pub returns-clause-first : goal.returns-clause-first
-returns-clause-first c sources links index resolved =
+returns-clause-first g c sources links index resolved =
+    let each = zip_of_gives (λ k. IsWrittenShort c.args.limits.now) 0 c.args.descs.now c.in_ok-outcomes.outcomes.items c.in_ok-outcomes.ensures in
     err_map (TellsFirst 5 c.args.files.now c.in_ok-outcomes.outcomes.items) (IsRefusal (IsFirstFault c.args.limits.now sources)) c.judge.result
-    (λ e told. refused_long c.args.limits.now sources c.args.files.now c.args.descs.now links index c.in_ok-outcomes.outcomes.items e resolved c.in_ok-outcomes.ensures told) c.judge.ensures.first
+    (λ e told. refused_long c.args.limits.now sources c.args.files.now c.args.descs.now links index c.in_ok-outcomes.outcomes.items e resolved each told) c.judge.ensures.first

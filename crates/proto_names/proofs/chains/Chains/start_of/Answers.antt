@@ -10,13 +10,13 @@ use Rattle.proto_names.proofs.Repeating.{at_place}
 use Rattle.proto_names.proofs.chains.Chains.start_of.Goals as goal
 
 pub loop-next-init : goal.loop-next-init
-loop-next-init c = left_init (map occurrence c.args.entries.now) (length c.args.entries.now) c.args.self.now.slots.items c.args.self.now.links.items (scoped c.args.scope.now c.args.name.now) c.hash_in-hash.result c.len.result c.index-next.result.now
-    c.requires (sym (length-map c.args.entries.now occurrence)) c.hash_in-hash.ensures (omega (arith, c.len.ensures, c.args.self.now.slots.ok.0)) c.index-next.ensures
+loop-next-init c = left_init (map occurrence c.args.entries.now) (length c.args.entries.now) c.args.self.now.slots.items c.args.self.now.links.items (scoped c.args.scope.text.now c.args.name.now) c.hash_with-hash.result c.len.result c.index-next.result.now
+    c.requires (sym (length-map c.args.entries.now occurrence)) c.hash_with-hash.ensures (omega (arith, c.len.ensures, c.args.self.now.slots.ok.0)) c.index-next.ensures
 
 pub loop-next-preserved : goal.loop-next-preserved
 loop-next-preserved c =
     let es = c.args.entries.now in
-    let target = scoped c.args.scope.now c.args.name.now in
+    let target = scoped c.args.scope.text.now c.args.name.now in
     let whole = length-map es occurrence in
     let below = c.loop-next.invariant.within in
     let some : 0 < c.loop-next.next = omega arith in
@@ -25,4 +25,4 @@ loop-next-preserved c =
     left_step (map occurrence es) (length es) c.args.self.now.slots.items c.args.self.now.links.items target c.loop-next.next c.index-link.result.now c.requires (sym whole) some c.index-link.ensures other c.loop-next.invariant
 
 pub returns : goal.returns
-returns c = nowhere (map occurrence c.args.entries.now) (scoped c.args.scope.now c.args.name.now) (λ k h b. c.loop-next.invariant.others k (omega arith) h b)
+returns c = nowhere (map occurrence c.args.entries.now) (scoped c.args.scope.text.now c.args.name.now) (λ k h b. c.loop-next.invariant.others k (omega arith) h b)

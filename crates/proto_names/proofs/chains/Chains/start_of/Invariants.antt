@@ -5,7 +5,7 @@ use Rattle.proto_names.proofs.Chaining.{IsLeft}
 use Rattle.proto_names.proofs.chains.Chains.start_of.Given as goal
 
 abbrev pub invariant-loop-next : goal.invariant-loop-next
-invariant-loop-next l = IsLeft (map occurrence l.entries) (length l.self.slots.items) (scoped l.scope l.name) l.next
+invariant-loop-next l = IsLeft (map occurrence l.entries) (length l.self.slots.items) (scoped l.scope.text.now l.name) l.next
 
 abbrev pub decreases-loop-next : goal.decreases-loop-next
 decreases-loop-next l = l.next

@@ -1,4 +1,4 @@
-use Rattle.std.proofs.Common.{◌≡◌, List, ℕ, inl, inr, ◌⊎◌, subst, sym, ◌∙◌, rules}
+use Rattle.std.proofs.Common.{◌≡◌, List, ℕ, inl, inr, ◌⊎◌, subst, sym, ◌∙◌}
 use Rattle.proto_names.specs.Scopes.{IsCandidate}
 use Rattle.proto_names.specs.Resolution.{SeenBy, Decides}
 use Rattle.proto_names.proofs.Around.{candidate_trans}
@@ -7,10 +7,9 @@ use Rattle.proto_names.proofs.index.NameIndex.innermost.Goals as goal
 
 pub loop-inner-preserved : goal.loop-inner-preserved
 loop-inner-preserved c = record {
-  utf8 = search rules;
-  within = candidate_trans c.in-Some.outer.now c.loop-inner.inner.now c.args.scope.now c.in-Some.ensures.0 c.loop-inner.invariant.within;
+  within = candidate_trans c.in-Some.outer.text.now c.loop-inner.inner.text.now c.args.scope.now c.in-Some.ensures.0 c.loop-inner.invariant.within;
   left = λ d h k.
-      (let at : (d ≡ c.loop-inner.inner.now) ⊎ IsCandidate d c.in-Some.outer.now = c.in-Some.ensures.2 d (c.loop-inner.invariant.left d h k) in
+      (let at : (d ≡ c.loop-inner.inner.text.now) ⊎ IsCandidate d c.in-Some.outer.text.now = c.in-Some.ensures.2 d (c.loop-inner.invariant.left d h k) in
       elim at [
         | inl same ↦ absurd (not_true (sym c.if-decides.false ∙ c.decides.ensures.1 (subst (λ (x : List ℕ). Decides c.args.self.now.occurrences (SeenBy c.args.links.now c.args.file) x c.args.spelled.now) same k)))
         | inr inside ↦ inside

@@ -5,4 +5,4 @@ use Rattle.proto_names.specs.Steps.{fits}
 use Rattle.proto_names.proofs.index.NameIndex.is_visible.Given as goal
 
 abbrev pub invariant-loop-entry : goal.invariant-loop-entry
-invariant-loop-entry l = (k : ℕ) → k < l.entry-index → IsNotAt (fits l.role) (SeenBy l.links l.file) l.entry-items k
+invariant-loop-entry l = (k : ℕ) → k < l.entry-index → IsNotAt (fits l.role) (SeenBy l.links l.file) l.entries k

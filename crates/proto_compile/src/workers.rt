@@ -1,0 +1,49 @@
+//! The workers of a pass over files.
+
+ghost use Rattle.std.specs.Prelude.{IfOk};
+ghost use Rattle.share_work.specs.Shares.{GivesItems, TakesAll};
+
+use share_work::{Gate, Plan, Work, in_shares};
+use std::alloc::{AllocError, AllocGlobal};
+use std::thread::Threads;
+
+/// The workers of a plan, and the gate through which they go.
+#[derive(Drop)]
+pub(crate) struct Workers<'a, R, G> {
+    pub(crate) rt: &'a R,
+    pub(crate) plan: Plan,
+    pub(crate) gate: &'a G,
+}
+
+impl<R, G> Workers<'_, R, G>
+where
+    R: Threads + AllocGlobal + Sync,
+    G: Gate + Sync,
+{
+    /// What a work whose workers keep nothing gives for each item. The gate is told the phase.
+    pub(crate) fn each<T, W, O>(
+        &self,
+        phase: u8,
+        items: &[T],
+        work: &W,
+    ) -> Result<Vec<O>, AllocError>
+    where
+        T: Sync,
+        W: Work<T, Out = O, Seat = ()> + Sync,
+        O: Send + Drop,
+        requires fits { (seat : Unit {0}) → W.fits work.now seat }
+        requires takes { TakesAll (W.takes work.now) 0 items.now }
+        ensures { IfOk result (λ outs. GivesItems (W.gives work.now) 0 items.now outs.items) }
+    {
+        let mut seats = Vec::from_elem(self.rt.alloc(), (), self.plan.workers() as usize)?;
+        in_shares(
+            self.rt,
+            self.plan,
+            phase,
+            self.gate,
+            items,
+            work,
+            seats.as_mut_slice(),
+        )
+    }
+}

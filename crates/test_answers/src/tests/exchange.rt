@@ -1,0 +1,206 @@
+//! What goes from a reader to a writer, over devices that fail where they are told to.
+
+use super::fixtures::{THREE_FILES, compiled};
+use grpcweb_core::{Counted, IoFault, answer_io};
+use proto_base::{Limit, Limits};
+use proto_compile::Compiled;
+use reflect_core::Mode;
+use share_work::{NoGate, Plan};
+use std::alloc::AllocGlobal;
+use std::io::{self, Read, Write};
+use std::process::Abort;
+use std::test::Fail;
+use std::thread::Threads;
+
+/// A request for a file, whose response has 93 bytes.
+const BODY: &[u8] = b"\x00\x00\x00\x00\x09\x1A\x07a.proto";
+
+/// The length of that response.
+const LENGTH: u64 = 93;
+
+/// The response to a body over its limit.
+const TOO_LONG: &[u8] = b"\x80\x00\x00\x00\x0fgrpc-status:8\r\n";
+
+/// No call fails.
+const NEVER: u64 = 0;
+
+fn broken() -> io::Error {
+    io::Error::from(io::ErrorKind::BrokenPipe)
+}
+
+/// A reader that gives a few bytes a call, again and again where it is endless, and of which one call fails.
+#[derive(Drop)]
+struct Source {
+    left: &'static [u8],
+    is_endless: bool,
+    step: usize,
+    fails_at: u64,
+    calls: u64,
+}
+
+/// A writer that takes a few bytes a call, and of which one call fails, or takes nothing, or whose flush fails.
+#[derive(Drop)]
+struct Sink {
+    bytes: Vec<u8>,
+    step: usize,
+    fails_at: u64,
+    takes_none_at: u64,
+    flush_fails: bool,
+    calls: u64,
+}
+
+impl Read for Source {
+    fn read(&mut self, buffer: &mut [u8]) -> io::Result<usize> {
+        self.calls = self.calls.saturating_add(1);
+        if self.calls == self.fails_at {
+            return Err(broken());
+        }
+        let size = self.step.min(self.left.len()).min(buffer.len());
+        let (given, left) = self.left.split_at(size);
+        buffer[..size].copy_from_slice(given);
+        if !self.is_endless {
+            self.left = left;
+        }
+        Ok(size)
+    }
+}
+
+impl Write for Sink {
+    fn write(&mut self, buffer: &[u8]) -> io::Result<usize> {
+        self.calls = self.calls.saturating_add(1);
+        if self.calls == self.fails_at {
+            return Err(broken());
+        }
+        if self.calls == self.takes_none_at {
+            return Ok(0);
+        }
+        let size = self.step.min(buffer.len());
+        self.bytes.extend_from_slice(&buffer[..size])?;
+        Ok(size)
+    }
+
+    fn flush(&mut self) -> io::Result<()> {
+        if self.flush_fails {
+            return Err(broken());
+        }
+        Ok(())
+    }
+}
+
+/// A source of a body, by so many bytes a call.
+fn source(left: &'static [u8], step: usize, fails_at: u64) -> Source {
+    Source {
+        left,
+        is_endless: false,
+        step,
+        fails_at,
+        calls: 0,
+    }
+}
+
+/// A sink that takes so many bytes a call.
+fn sink<R: AllocGlobal>(rt: &R, step: usize) -> Sink {
+    Sink {
+        bytes: Vec::new(rt.alloc()),
+        step,
+        fails_at: NEVER,
+        takes_none_at: NEVER,
+        flush_fails: false,
+        calls: 0,
+    }
+}
+
+/// What an exchange ends with, and how many calls of the reader and of the writer have failed.
+fn exchanged<R: Threads + AllocGlobal + Sync>(
+    rt: &R,
+    compiled: &Compiled,
+    source: &mut Source,
+    sink: &mut Sink,
+) -> (Result<(), IoFault>, u64, u64) {
+    let mut reader = Counted::new(source);
+    let mut writer = Counted::new(sink);
+    let end = answer_io(
+        rt,
+        compiled,
+        Plan::single(),
+        &NoGate,
+        Mode::Once,
+        &mut reader,
+        &mut writer,
+    );
+    (end, reader.failures(), writer.failures())
+}
+
+/// The response of 93 bytes comes whole, however reader and writer cut their bytes.
+#[test]
+fn bytes_are_handed_on(rt: HostRuntime) -> Result<(), Fail> {
+    let compiled = compiled(&rt, &THREE_FILES, &Limits::standard())?;
+    let mut whole = sink(&rt, 4_096);
+    let mut all = source(BODY, 4_096, NEVER);
+    let ended = exchanged(&rt, &compiled, &mut all, &mut whole);
+    assert!(rt; ended == (Ok(()), 0, 0));
+    assert_eq!(rt; whole.bytes.len() as u64, LENGTH);
+    let mut pieces = sink(&rt, 7);
+    let mut single_bytes = source(BODY, 1, NEVER);
+    let ended = exchanged(&rt, &compiled, &mut single_bytes, &mut pieces);
+    assert!(rt; ended == (Ok(()), 0, 0));
+    assert!(rt; pieces.bytes == whole.bytes);
+    Ok(())
+}
+
+/// A reader that fails at some call leaves nothing written.
+#[test]
+fn readers_fail(rt: HostRuntime) -> Result<(), Fail> {
+    let compiled = compiled(&rt, &THREE_FILES, &Limits::standard())?;
+    for call in 1..16 {
+        let mut output = sink(&rt, 4_096);
+        let mut input = source(BODY, 1, call);
+        let ended = exchanged(&rt, &compiled, &mut input, &mut output);
+        assert!(rt; ended == (Err(IoFault::ReadFault), 1, 0), "call {call}");
+        assert!(rt; output.calls == 0, "call {call}");
+    }
+    Ok(())
+}
+
+/// A writer that fails has taken a prefix of the response, whose length is told.
+#[test]
+fn writers_fail(rt: HostRuntime) -> Result<(), Fail> {
+    let compiled = compiled(&rt, &THREE_FILES, &Limits::standard())?;
+    let failing = Sink {
+        fails_at: 3,
+        ..sink(&rt, 7)
+    };
+    let stuck = Sink {
+        takes_none_at: 1,
+        ..sink(&rt, 7)
+    };
+    let unflushed = Sink {
+        flush_fails: true,
+        ..sink(&rt, 4_096)
+    };
+    for (mut output, written) in vec![in rt.alloc(); (failing, 14), (stuck, 0), (unflushed, LENGTH)]?
+    {
+        let mut input = source(BODY, 4_096, NEVER);
+        let ended = exchanged(&rt, &compiled, &mut input, &mut output);
+        assert!(rt; ended == (Err(IoFault::WriteFault { written }), 0, 1), "{written} bytes");
+        assert!(rt; output.bytes.len() as u64 == written, "{written} bytes");
+    }
+    Ok(())
+}
+
+/// A reader without end is read to one byte over the limit of a body.
+#[test]
+fn endless_readers(rt: HostRuntime) -> Result<(), Fail> {
+    let limits = Limits::standard().lowered(Limit::BodyBytes, 13).ok_or("limits")?;
+    let compiled = compiled(&rt, &THREE_FILES, &limits)?;
+    let mut input = Source {
+        is_endless: true,
+        ..source(BODY, 1, NEVER)
+    };
+    let mut output = sink(&rt, 4_096);
+    let ended = exchanged(&rt, &compiled, &mut input, &mut output);
+    assert!(rt; ended == (Ok(()), 0, 0));
+    assert!(rt; input.calls <= 15, "{} reads", input.calls);
+    assert!(rt; output.bytes.as_slice() == TOO_LONG);
+    Ok(())
+}
