@@ -12,7 +12,7 @@ use share_work::{NoGate, Plan};
 use source_folder::read_folder;
 use std::alloc::AllocGlobal;
 use std::env;
-use std::io::Read;
+use std::io::{Eprint, Print, Read};
 use std::rt::Files;
 use std::thread::Threads;
 use std::time::{Clock, Duration, Instant};
@@ -73,6 +73,37 @@ fn copying<R: AllocGlobal + Clock>(
     Ok((best, sum))
 }
 
+/// Measures the response to a body, and prints what was measured.
+fn measure<R: Threads + AllocGlobal + Clock + Print + Eprint + Sync>(
+    rt: &R,
+    compiled: &Compiled,
+    plan: Plan,
+    body: &[u8],
+    rounds: u32,
+) -> anyhow::Result<()> {
+    let (answered, response) = answering(rt, compiled, plan, body, rounds)?;
+    let (copied, sum) = copying(rt, &response, rounds)?;
+    println!(rt; "{} bytes", response.len())?;
+    eprintln!(rt;
+        "answered in {} us, copied in {} us ({sum})",
+        answered.as_micros(),
+        copied.as_micros()
+    )?;
+    Ok(())
+}
+
+/// Measures the response to a body over the sources below a folder.
+fn measure_folder<R: Threads + Files + AllocGlobal + Clock + Print + Eprint + Sync>(
+    rt: &R,
+    root: &str,
+    plan: Plan,
+    body: &[u8],
+    rounds: u32,
+) -> anyhow::Result<()> {
+    let compiled = compiled(rt, root)?;
+    measure(rt, &compiled, plan, body, rounds)
+}
+
 fn main(rt: HostRuntime) -> anyhow::Result<()> {
     let words: Vec<String> = env::args(&rt)?.collect(rt.alloc())?;
     let [_, root, workers, rounds] = words.as_slice() else {
@@ -82,14 +113,5 @@ fn main(rt: HostRuntime) -> anyhow::Result<()> {
     let rounds: u32 = rounds.parse()?;
     let mut body = Vec::new(rt.alloc());
     rt.stdin().read_to_end(&mut body)?;
-    let compiled = compiled(&rt, root.as_str())?;
-    let (answered, response) = answering(&rt, &compiled, plan, &body, rounds)?;
-    let (copied, sum) = copying(&rt, &response, rounds)?;
-    println!(rt; "{} bytes", response.len())?;
-    eprintln!(rt;
-        "answered in {} us, copied in {} us ({sum})",
-        answered.as_micros(),
-        copied.as_micros()
-    )?;
-    Ok(())
+    measure_folder(&rt, root.as_str(), plan, &body, rounds)
 }

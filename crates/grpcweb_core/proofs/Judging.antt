@@ -1,11 +1,10 @@
 -- Targets and content types, as they are judged.
-use Rattle.std.proofs.Common.{◌≡◌, ◌∙◌, ◌↔◌, ℕ, zero, suc, ◌+◌, ◌<◌, ◌≤◌, List, [], ◌∷◌, ◌++◌, length, map, get_or, sym, ap, subst, arith, refl, inl, inr, All, true, false, true≢false, IsTrue, nat_eq}
+use Rattle.std.proofs.Common.{◌≡◌, ◌∙◌, ◌↔◌, ℕ, zero, suc, ◌<◌, ◌≤◌, List, [], ◌∷◌, ◌++◌, length, map, get_or, sym, ap, subst, arith, refl, inl, inr, All, true, false, true≢false, IsTrue, nat_eq}
 use Rattle.std.specs.Prelude.{take, drop}
 use Rattle.std.specs.Char.{to_ascii_lowercase}
 use Rattle.std.specs.Str.{bytes_eq}
-use Rattle.std.proofs.lemmas.List.{drop_at, take_at, take_more, take-append-drop, append-nil, length-append, length-map}
+use Rattle.std.proofs.lemmas.List.{drop_at, take_at, take-append-drop, append-nil, length-append, length-map}
 use Rattle.std.proofs.lemmas.Bool.{eqb-true}
-use Rattle.std.proofs.lemmas.List.Elements.{All-push}
 use Rattle.std.proofs.lemmas.Slice.Eq.{bytes_eq-Decides}
 use Rattle.first_reach.specs.declared.mode.Mode.{Mode}
 use Rattle.grpcweb_core.specs.Http.{Answer, IsAnswer, IsBehindType, IsBlank, IsEmptyOrBegins, IsOfType, IsTargetOf, Request}
@@ -53,9 +52,6 @@ is_behind text k d all below is = (take k text, drop k text, sym (take-append-dr
 pub all_blank : (text : List ℕ) → All IsBlank text → IsBehindType text
 all_blank text all = (text, [], sym (append-nil text), all, tt)
 
-pub of_type : (media text name behind : List ℕ) → text ≡ name ++ behind → map to_ascii_lowercase name ≡ map to_ascii_lowercase media → IsBehindType behind → IsOfType media text
-of_type media text name behind is same left = (name, behind, is, same, left)
-
 -- the name of a content type is as long as its media type
 pub name_long : (media name : List ℕ) → map to_ascii_lowercase name ≡ map to_ascii_lowercase media → length name ≡ length media
 name_long media name same = sym (length-map name to_ascii_lowercase) ∙ ap length same ∙ length-map media to_ascii_lowercase
@@ -72,9 +68,6 @@ parts_of media text (name, behind, is, same, left) =
 pub semicolon : (text : List ℕ) (k : ℕ) → All IsBlank (take k text) → k < length text → (IsBlank (get_or text k 0) → ⊥) → IsTrue (nat_eq (get_or text k 0) 59) ↔ IsBehindType text
 semicolon text k all below none =
     (λ same. is_behind text k 0 all below (eqb-true (get_or text k 0) 59 same), λ behind. subst (λ b. nat_eq b 59 ≡ true) (sym (behind_blanks text k 0 all below none behind)) refl)
-
-pub blank_more : (text : List ℕ) (k : ℕ) → All IsBlank (take k text) → k < length text → IsBlank (get_or text k 0) → All IsBlank (take (k + 1) text)
-blank_more text k all below blank = subst (All IsBlank) (sym (take_more text k 0 below)) (All-push IsBlank (take k text) (get_or text k 0) all blank)
 
 pub of_parts : (media text : List ℕ) (name behind : List ℕ) {shown : List ℕ} → text ≡ shown → name ≡ take (length media) shown → behind ≡ drop (length media) shown
     → map to_ascii_lowercase name ≡ map to_ascii_lowercase media → IsBehindType behind → IsOfType media text

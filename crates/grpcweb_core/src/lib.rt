@@ -7,12 +7,14 @@
 mod content_type;
 mod counted;
 mod exchange;
+mod laws;
 mod mapping;
 mod stream;
 mod target;
 
 pub use counted::Counted;
 pub use exchange::answer_io;
+pub use laws::answers_are_unique;
 pub use mapping::{HttpAnswer, respond};
 pub use reflect_core::Mode;
 pub use stream::{CountedRead, CountedWrite, IoFault};

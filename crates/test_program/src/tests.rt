@@ -4,3 +4,4 @@ mod devices;
 mod feigned_folder;
 mod folder;
 mod program;
+mod service;

@@ -30,7 +30,7 @@ fn broken() -> io::Error {
 
 /// A reader that gives a few bytes a call, again and again where it is endless, and of which one call fails.
 #[derive(Drop)]
-struct Source {
+struct Input {
     left: &'static [u8],
     is_endless: bool,
     step: usize,
@@ -40,7 +40,7 @@ struct Source {
 
 /// A writer that takes a few bytes a call, and of which one call fails, or takes nothing, or whose flush fails.
 #[derive(Drop)]
-struct Sink {
+struct Output {
     bytes: Vec<u8>,
     step: usize,
     fails_at: u64,
@@ -49,7 +49,7 @@ struct Sink {
     calls: u64,
 }
 
-impl Read for Source {
+impl Read for Input {
     fn read(&mut self, buffer: &mut [u8]) -> io::Result<usize> {
         self.calls = self.calls.saturating_add(1);
         if self.calls == self.fails_at {
@@ -65,7 +65,7 @@ impl Read for Source {
     }
 }
 
-impl Write for Sink {
+impl Write for Output {
     fn write(&mut self, buffer: &[u8]) -> io::Result<usize> {
         self.calls = self.calls.saturating_add(1);
         if self.calls == self.fails_at {
@@ -87,9 +87,9 @@ impl Write for Sink {
     }
 }
 
-/// A source of a body, by so many bytes a call.
-fn source(left: &'static [u8], step: usize, fails_at: u64) -> Source {
-    Source {
+/// An input of a body, by so many bytes a call.
+fn input_of(left: &'static [u8], step: usize, fails_at: u64) -> Input {
+    Input {
         left,
         is_endless: false,
         step,
@@ -98,9 +98,9 @@ fn source(left: &'static [u8], step: usize, fails_at: u64) -> Source {
     }
 }
 
-/// A sink that takes so many bytes a call.
-fn sink<R: AllocGlobal>(rt: &R, step: usize) -> Sink {
-    Sink {
+/// An output that takes so many bytes a call.
+fn output_by<R: AllocGlobal>(rt: &R, step: usize) -> Output {
+    Output {
         bytes: Vec::new(rt.alloc()),
         step,
         fails_at: NEVER,
@@ -114,11 +114,11 @@ fn sink<R: AllocGlobal>(rt: &R, step: usize) -> Sink {
 fn exchanged<R: Threads + AllocGlobal + Sync>(
     rt: &R,
     compiled: &Compiled,
-    source: &mut Source,
-    sink: &mut Sink,
+    input: &mut Input,
+    output: &mut Output,
 ) -> (Result<(), IoFault>, u64, u64) {
-    let mut reader = Counted::new(source);
-    let mut writer = Counted::new(sink);
+    let mut reader = Counted::new(input);
+    let mut writer = Counted::new(output);
     let end = answer_io(
         rt,
         compiled,
@@ -135,13 +135,13 @@ fn exchanged<R: Threads + AllocGlobal + Sync>(
 #[test]
 fn bytes_are_handed_on(rt: HostRuntime) -> Result<(), Fail> {
     let compiled = compiled(&rt, &THREE_FILES, &Limits::standard())?;
-    let mut whole = sink(&rt, 4_096);
-    let mut all = source(BODY, 4_096, NEVER);
+    let mut whole = output_by(&rt, 4_096);
+    let mut all = input_of(BODY, 4_096, NEVER);
     let ended = exchanged(&rt, &compiled, &mut all, &mut whole);
     assert!(rt; ended == (Ok(()), 0, 0));
     assert_eq!(rt; whole.bytes.len() as u64, LENGTH);
-    let mut pieces = sink(&rt, 7);
-    let mut single_bytes = source(BODY, 1, NEVER);
+    let mut pieces = output_by(&rt, 7);
+    let mut single_bytes = input_of(BODY, 1, NEVER);
     let ended = exchanged(&rt, &compiled, &mut single_bytes, &mut pieces);
     assert!(rt; ended == (Ok(()), 0, 0));
     assert!(rt; pieces.bytes == whole.bytes);
@@ -153,8 +153,8 @@ fn bytes_are_handed_on(rt: HostRuntime) -> Result<(), Fail> {
 fn readers_fail(rt: HostRuntime) -> Result<(), Fail> {
     let compiled = compiled(&rt, &THREE_FILES, &Limits::standard())?;
     for call in 1..16 {
-        let mut output = sink(&rt, 4_096);
-        let mut input = source(BODY, 1, call);
+        let mut output = output_by(&rt, 4_096);
+        let mut input = input_of(BODY, 1, call);
         let ended = exchanged(&rt, &compiled, &mut input, &mut output);
         assert!(rt; ended == (Err(IoFault::ReadFault), 1, 0), "call {call}");
         assert!(rt; output.calls == 0, "call {call}");
@@ -166,23 +166,29 @@ fn readers_fail(rt: HostRuntime) -> Result<(), Fail> {
 #[test]
 fn writers_fail(rt: HostRuntime) -> Result<(), Fail> {
     let compiled = compiled(&rt, &THREE_FILES, &Limits::standard())?;
-    let failing = Sink {
+    let failing = Output {
         fails_at: 3,
-        ..sink(&rt, 7)
+        ..output_by(&rt, 7)
     };
-    let stuck = Sink {
+    let stuck = Output {
         takes_none_at: 1,
-        ..sink(&rt, 7)
+        ..output_by(&rt, 7)
     };
-    let unflushed = Sink {
+    let unflushed = Output {
         flush_fails: true,
-        ..sink(&rt, 4_096)
+        ..output_by(&rt, 4_096)
     };
-    for (mut output, written) in vec![in rt.alloc(); (failing, 14), (stuck, 0), (unflushed, LENGTH)]?
-    {
-        let mut input = source(BODY, 4_096, NEVER);
+    for (mut output, written) in vec![in rt.alloc();
+        (failing, 14),
+        (stuck, 0),
+        (unflushed, LENGTH),
+    ]? {
+        let mut input = input_of(BODY, 4_096, NEVER);
         let ended = exchanged(&rt, &compiled, &mut input, &mut output);
-        assert!(rt; ended == (Err(IoFault::WriteFault { written }), 0, 1), "{written} bytes");
+        assert!(rt;
+            ended == (Err(IoFault::WriteFault { written }), 0, 1),
+            "{written} bytes"
+        );
         assert!(rt; output.bytes.len() as u64 == written, "{written} bytes");
     }
     Ok(())
@@ -191,13 +197,15 @@ fn writers_fail(rt: HostRuntime) -> Result<(), Fail> {
 /// A reader without end is read to one byte over the limit of a body.
 #[test]
 fn endless_readers(rt: HostRuntime) -> Result<(), Fail> {
-    let limits = Limits::standard().lowered(Limit::BodyBytes, 13).ok_or("limits")?;
+    let limits = Limits::standard()
+        .lowered(Limit::BodyBytes, 13)
+        .ok_or("limits")?;
     let compiled = compiled(&rt, &THREE_FILES, &limits)?;
-    let mut input = Source {
+    let mut input = Input {
         is_endless: true,
-        ..source(BODY, 1, NEVER)
+        ..input_of(BODY, 1, NEVER)
     };
-    let mut output = sink(&rt, 4_096);
+    let mut output = output_by(&rt, 4_096);
     let ended = exchanged(&rt, &compiled, &mut input, &mut output);
     assert!(rt; ended == (Ok(()), 0, 0));
     assert!(rt; input.calls <= 15, "{} reads", input.calls);

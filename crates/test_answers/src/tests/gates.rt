@@ -41,7 +41,7 @@ impl Gate for Held {
 }
 
 /// A gate that holds the pieces of a phase.
-fn held(phase: u8) -> Held {
+fn holding(phase: u8) -> Held {
     Held {
         phase,
         entered: AtomicU64::new(0),
@@ -57,7 +57,7 @@ fn compilers_meet(rt: HostRuntime) -> Result<(), Fail> {
     let alone = compiled_by(&rt, &THREE_FILES, &limits, Plan::single(), &NoGate)?;
     let set = alone.set_bytes(rt.alloc())?;
     for phase in [1, 3] {
-        let gate = held(phase);
+        let gate = holding(phase);
         let found = compiled_by(&rt, &THREE_FILES, &limits, plan, &gate)?;
         assert!(rt; found.set_bytes(rt.alloc())? == set, "phase {phase}");
         assert!(rt;
@@ -83,7 +83,7 @@ fn workers_meet(rt: HostRuntime) -> Result<(), Fail> {
         BODY,
     )?;
     for phase in 4..6 {
-        let gate = held(phase);
+        let gate = holding(phase);
         let found = response(&rt, &THREE_FILES, &limits, plan, &gate, Mode::Once, BODY)?;
         assert!(rt; found == alone, "phase {phase}: {found}");
         assert!(rt;

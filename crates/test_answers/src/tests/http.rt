@@ -29,6 +29,7 @@ static ROWS: &str = "\
     POST|/grpc.reflection.v1.serverreflection/ServerReflectionInfo|application/grpc-web||200 content-type: application/grpc-web+proto, 8000000010677270632d7374617475733a31320d0a";
 
 /// A row.
+#[derive(Drop)]
 struct Row<'a> {
     method: &'a str,
     target: &'a str,

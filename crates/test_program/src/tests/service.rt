@@ -4,6 +4,7 @@ use grpcweb_core::Mode;
 use grpcweb_service::serve;
 use proto_base::Limits;
 use proto_compile::{Compiled, Source, compile};
+use schema_program::response_to_sources;
 use share_work::{NoGate, Plan};
 use std::alloc::AllocGlobal;
 use std::io::{self, Read, Write};
@@ -16,16 +17,20 @@ use tokio::net::TcpListener;
 use tokio::runtime::Runtime;
 
 /// A request for a file that is there.
-static POST: &[u8] = b"POST /grpc.reflection.v1.ServerReflection/ServerReflectionInfo HTTP/1.1\r\nhost: h\r\ncontent-type: application/grpc-web+proto\r\ncontent-length: 14\r\n\r\n\x00\x00\x00\x00\x09\x1A\x07a.proto";
+static POST: &[u8] =
+    b"POST /grpc.reflection.v1.ServerReflection/ServerReflectionInfo HTTP/1.1\r\nhost: h\r\ncontent-type: application/grpc-web+proto\r\ncontent-length: 14\r\n\r\n\x00\x00\x00\x00\x09\x1A\x07a.proto";
 
 /// Its answer.
-static ANSWER: &[u8] = b"HTTP/1.1 200 OK\r\ncontent-type: application/grpc-web+proto\r\nconnection: close\r\ncontent-length: 65\r\n\r\n\x00\x00\x00\x00\x28\x12\x09\x1A\x07a.proto\x22\x1B\x0A\x19\x0A\x07a.proto\x12\x01p2\x03\x0A\x01Sb\x06proto3\x80\x00\x00\x00\x0Fgrpc-status:0\r\n";
+static ANSWER: &[u8] =
+    b"HTTP/1.1 200 OK\r\ncontent-type: application/grpc-web+proto\r\nconnection: close\r\ncontent-length: 65\r\n\r\n\x00\x00\x00\x00\x28\x12\x09\x1A\x07a.proto\x22\x1B\x0A\x19\x0A\x07a.proto\x12\x01p2\x03\x0A\x01Sb\x06proto3\x80\x00\x00\x00\x0Fgrpc-status:0\r\n";
 
 /// A request that is no `POST`.
-static GET: &[u8] = b"GET /grpc.reflection.v1.ServerReflection/ServerReflectionInfo HTTP/1.1\r\nhost: h\r\n\r\n";
+static GET: &[u8] =
+    b"GET /grpc.reflection.v1.ServerReflection/ServerReflectionInfo HTTP/1.1\r\nhost: h\r\n\r\n";
 
 /// Its answer.
-static NOT_ALLOWED: &[u8] = b"HTTP/1.1 405 Method Not Allowed\r\nallow: POST\r\nconnection: close\r\ncontent-length: 0\r\n\r\n";
+static NOT_ALLOWED: &[u8] =
+    b"HTTP/1.1 405 Method Not Allowed\r\nallow: POST\r\nconnection: close\r\ncontent-length: 0\r\n\r\n";
 
 /// Sends the first bytes of a request, and reads what is answered where that is all of it.
 fn ask<R: Net<Stream = TcpStream> + AllocGlobal>(
@@ -43,12 +48,22 @@ fn ask<R: Net<Stream = TcpStream> + AllocGlobal>(
     Ok(answer)
 }
 
-fn compiled<R: Threads + AllocGlobal + Sync>(rt: &R) -> Result<Compiled, Fail> {
-    let source = Source {
+/// A file with a service.
+fn source() -> Source<'static> {
+    Source {
         name: "a.proto",
         text: b"syntax = \"proto3\"; package p; service S {}",
-    };
-    Ok(compile(rt, &[source], &Limits::standard(), Plan::single(), &NoGate)?)
+    }
+}
+
+fn compiled<R: Threads + AllocGlobal + Sync>(rt: &R) -> Result<Compiled, Fail> {
+    Ok(compile(
+        rt,
+        &[source()],
+        &Limits::standard(),
+        Plan::single(),
+        &NoGate,
+    )?)
 }
 
 /// Clients that break off in the head or the body leave the next ones served.
@@ -61,7 +76,16 @@ fn connections_are_served(rt: HostRuntime) -> Result<(), Fail> {
     let plan = Plan::new(2, 1).ok_or("a plan")?;
     let (served, answers) = join(
         &rt,
-        || serve(&rt, &mut runtime, listener, compiled, plan, NoGate, Mode::Once, Some(5)),
+        || serve(
+            &rt,
+            &mut runtime,
+            listener,
+            compiled,
+            plan,
+            NoGate,
+            Mode::Once,
+            Some(5),
+        ),
         || -> io::Result<[Vec<u8>; 3]> {
             let first = ask(&rt, address, POST, POST.len())?;
             let second = ask(&rt, address, GET, GET.len())?;
@@ -76,5 +100,23 @@ fn connections_are_served(rt: HostRuntime) -> Result<(), Fail> {
     assert!(rt; first.as_slice() == ANSWER);
     assert!(rt; second.as_slice() == NOT_ALLOWED);
     assert!(rt; last.as_slice() == ANSWER);
+    Ok(())
+}
+
+/// The response to a body over sources is the one that the service sends.
+#[test]
+fn sources_have_a_response(rt: HostRuntime) -> Result<(), Fail> {
+    let (_, body) = POST.split_at(POST.len() - 14);
+    let response = response_to_sources(
+        &rt,
+        &[source()],
+        &Limits::standard(),
+        Plan::single(),
+        &NoGate,
+        Mode::Once,
+        body,
+    )?;
+    assert_eq!(rt; response.len(), 65);
+    assert!(rt; ANSWER.ends_with(&response));
     Ok(())
 }
