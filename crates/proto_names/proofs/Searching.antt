@@ -1,5 +1,5 @@
 -- Halving among entries in the order of their names.
-use Rattle.std.proofs.Common.{◌≡◌, ◌≢◌, ◌∙◌, sym, ℕ, ◌+◌, ◌-◌, ◌<◌, ◌≤◌, List, [], length, map, take, drop, get_or, ap, refl, subst, arith, inl, inr, Ordering, Less, Equal, Greater, true, false}
+use Rattle.std.proofs.Common.{◌≡◌, ◌≢◌, ◌∙◌, sym, ℕ, ◌+◌, ◌-◌, ◌<◌, ◌≤◌, List, [], ◌∷◌, length, map, take, drop, get_or, ap, refl, subst, arith, inl, inr, Ordering, Less, Equal, Greater, true, false}
 use Rattle.std.specs.Prelude.{Contains, IsSortedByKey, ◌↔◌}
 use Rattle.std.specs.Cmp.Lexicographic.{slice_cmp}
 use Rattle.std.specs.List.Sorted.{IsPartitionedBy, IsPartitionPoint, IsNonDecreasingBy}
@@ -7,7 +7,7 @@ use Rattle.std.specs.Ordering.{nat_cmp, is_lt, is_eq, ordering_index, ordering_r
 use Rattle.std.proofs.lemmas.Bool.{cases_lt, true≢false}
 use Rattle.std.proofs.lemmas.Cmp.{nat_list_cmp_total}
 use Rattle.std.proofs.lemmas.List.Sorted.{searchable_from_sorted}
-use Rattle.std.proofs.lemmas.List.{get_or-drop, get_or-take, length-drop, length-map, length-take}
+use Rattle.std.proofs.lemmas.List.{get_or-drop, get_or-take, get_or_default, length-drop, length-map, length-take}
 use Rattle.std.proofs.lemmas.Map.Lookups.{exact_bytes}
 use Rattle.proto_names.proofs.Repeating.{at_get}
 use Rattle.proto_names.specs.Chains.{IsStart, IsNowhere}
@@ -46,6 +46,9 @@ lt_less Less h = refl
 lt_less Equal h = absurd (true≢false (sym h))
 lt_less Greater h = absurd (true≢false (sym h))
 
+pub not_lt_less : (o : Ordering) → is_lt o ≡ false → o ≢ Less
+not_lt_less o h e = true≢false (ap is_lt (sym e) ∙ h)
+
 pub eq_equal : (o : Ordering) → is_eq o ≡ true → o ≡ Equal
 eq_equal Less h = absurd (true≢false (sym h))
 eq_equal Equal h = refl
@@ -64,6 +67,10 @@ module _ (es : List Entry) (target : List ℕ) (up : IsSortedByKey entry_name (s
   pub parted_equal : ((k : ℕ) (d : Entry) → k < length es → slice_cmp nat_cmp (entry_name (get_or es k d)) target ≢ Less) → IsPartitionedBy (λ e. is_eq (slice_cmp nat_cmp (entry_name e) target)) es
   parted_equal behind i j d h inside t = eq_index _ _ (rises i j d h inside) (behind i d (omega arith)) t
 
+pub less_point : (es : List Entry) (target : List ℕ) (n : ℕ) → IsPartitionPoint (λ e. is_lt (slice_cmp nat_cmp (entry_name e) target) ≡ true) (λ e. is_lt (slice_cmp nat_cmp (entry_name e) target) ≡ false) es n
+    → IsPartitionPoint (λ e. slice_cmp nat_cmp (entry_name e) target ≡ Less) (λ e. slice_cmp nat_cmp (entry_name e) target ≢ Less) es n
+less_point es target n p = (λ k d a b. lt_less _ (p.0 k d a b), λ k d a b. not_lt_less _ (p.1 k d a b))
+
 pub equal_point : (es : List Entry) (target : List ℕ) (n : ℕ) → IsPartitionPoint (λ e. is_eq (slice_cmp nat_cmp (entry_name e) target) ≡ true) (λ e. is_eq (slice_cmp nat_cmp (entry_name e) target) ≡ false) es n
     → IsPartitionPoint (λ e. entry_name e ≡ target) (λ e. entry_name e ≢ target) es n
 equal_point es target n p = (λ k d a b. exact_bytes _ _ (eq_equal _ (p.0 k d a b)), λ k d a b e. not_eq_equal _ (p.1 k d a b) (itself_equal _ _ e))
@@ -78,6 +85,25 @@ less_lt o e = ap is_lt e
 
 pub name_at : (es : List Entry) (k : ℕ) (d : Entry) → k < length es → (at (map occurrence es) k).name ≡ entry_name (get_or es k d)
 name_at es k d h = ap (λ (o : Occurrence). o.name) (at_get es k d h)
+
+not_both : {o : Ordering} → o ≡ Less → o ≡ Equal → ⊥
+not_both a b = cc
+
+-- where the first that does not come before a name has another one, none has it
+pub nowhere_is : (es : List Entry) (target : List ℕ) (n : ℕ) → IsSortedByKey entry_name (slice_cmp nat_cmp) es → IsPartitionPoint (λ e. slice_cmp nat_cmp (entry_name e) target ≡ Less) (λ e. slice_cmp nat_cmp (entry_name e) target ≢ Less) es n
+    → ((e : Entry) → n < length es → e ≡ get_or es n e → entry_name e ≢ target) → IsNowhere (map occurrence es) target
+nowhere_is [] target n up p other k within same = absurd (omega (arith, within))
+nowhere_is (d ∷ es) target n up p other k within same =
+    let all : List Entry = d ∷ es in
+    let below : k < length all = (let l = length-map all occurrence in omega (arith, l, within)) in
+    let equal_k : slice_cmp nat_cmp (entry_name (get_or all k d)) target ≡ Equal = itself_equal _ _ (sym (name_at all k d below) ∙ same) in
+    elim (cases_lt k n) [
+      | inl before ↦ not_both (p.0 k d (omega arith) before) equal_k
+      | inr behind ↦
+          let n_below : n < length all = omega (arith, behind, below) in
+          p.1 n d (omega arith) n_below
+          (lt_less _ (lower _ _ (rises all target up n k d behind below) equal_k (λ e. other (get_or all n d) n_below (get_or_default all n d (get_or all n d) n_below) (exact_bytes _ _ e))))
+    ]
 
 -- where a name begins, all before it come before it
 module _ (es : List Entry) (target : List ℕ) (start : ℕ) (up : IsSortedByKey entry_name (slice_cmp nat_cmp) es) (is : IsStart (map occurrence es) target start) where
@@ -99,9 +125,6 @@ module _ (es : List Entry) (target : List ℕ) (start : ℕ) (up : IsSortedByKey
 
   behind : (k : ℕ) (d : Entry) → start ≤ k → k < length es → slice_cmp nat_cmp (entry_name (get_or es k d)) target ≢ Less
   behind k d h below less = not_both (lt_less _ (parted_less es target up start k d h below (less_lt _ less))) (equal d)
-    where
-      not_both : {o : Ordering} → o ≡ Less → o ≡ Equal → ⊥
-      not_both a b = cc
 
   pub start_point : IsPartitionPoint (λ e. slice_cmp nat_cmp (entry_name e) target ≡ Less) (λ e. slice_cmp nat_cmp (entry_name e) target ≢ Less) es start
   start_point = (λ k d a b. before k d b, λ k d a b. behind k d a b)

@@ -1,5 +1,5 @@
 -- Hashes with a byte fewer.
-use Rattle.std.proofs.Common.{◌≡◌, ◌∙◌, sym, ap, refl, ℕ, zero, suc, ◌+◌, ◌-◌, ◌*◌, ◌%◌, ◌<◌, ◌≤◌, ◌++◌, ◌∷◌, List, [], length, take, get_or, arith, lit<}
+use Rattle.std.proofs.Common.{◌≡◌, ◌∙◌, sym, ap, refl, ℕ, ◌+◌, ◌-◌, ◌*◌, ◌%◌, ◌<◌, ◌≤◌, ◌++◌, ◌∷◌, List, [], length, take, get_or, arith, lit<}
 use Rattle.std.specs.List.{fold}
 use Rattle.std.proofs.Math.Nat.{add-mod_right, add-mul-mod_self_right, mod-add-mod, mod-eq_of_lt, mod-lt}
 use Rattle.std.proofs.lemmas.List.{take_more}

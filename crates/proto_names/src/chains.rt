@@ -1,13 +1,16 @@
 //! Chains of entries, by which the entries of a name are found without a search: those that begin a name are chained by
 //! the slots of their names' hashes.
 
-ghost use Rattle.std.specs.Prelude.{◌≡◌, ◌↔◌, ◌<◌, ◌≤◌, map, length, IfOk, IsTrue, MatchOption};
+ghost use Rattle.std.specs.Prelude.{◌≡◌, ◌↔◌, ◌<◌, ◌≤◌, map, length, IfOk, IsTrue, IsSortedByKey, MatchOption};
+ghost use Rattle.std.specs.Cmp.Lexicographic.{slice_cmp};
+ghost use Rattle.std.specs.Ordering.{nat_cmp};
 ghost use Rattle.proto_desc.specs.DeclaredNames.{scoped};
 ghost use Rattle.proto_names.specs.Chains.{AreChained, IsHead, IsNowhere, IsStart};
 ghost use Rattle.proto_names.specs.Entries.{entry_name, occurrence};
 ghost use Rattle.proto_names.specs.Hashes.{hash_of};
 
 use crate::entries::{Entry, has_name};
+use crate::halving::start_by_halving;
 use crate::hashing::with_text;
 use crate::scope::Scope;
 use crate::twice::continues;
@@ -68,15 +71,22 @@ fn is_match(entry: &Entry, link: Link, hash: u32, scope: &str, name: &str) -> bo
     link.hash == hash && has_name(entry, scope, name)
 }
 
+/// How many links of a chain are followed, so that no choice of names makes finding one slow.
+const MOST_LINKS: u32 = 16;
+
 impl Chains {
     /// Where the entries of the name in a scope begin.
     pub(crate) fn start_of(&self, entries: &[Entry], scope: Scope, name: &str) -> Option<usize>
-        requires { AreChained (map occurrence entries.now) (length entries.now) self.now.slots.items self.now.links.items }
+        requires order { IsSortedByKey entry_name (slice_cmp nat_cmp) entries.now }
+        requires chains { AreChained (map occurrence entries.now) (length entries.now) self.now.slots.items self.now.links.items }
         ensures { MatchOption result (IsNowhere (map occurrence entries.now) (scoped scope.entry.text.now name.now)) (IsStart (map occurrence entries.now) (scoped scope.entry.text.now name.now)) }
     {
         let hash = scope.hash_with(name);
         let mut next = self.slots[hash as usize % self.slots.len()];
-        while next > 0 {
+        for _link in 0..MOST_LINKS {
+            if next == 0 {
+                return None;
+            }
             let position = next as usize - 1;
             let link = self.links[position];
             if is_match(&entries[position], link, hash, scope.text, name) {
@@ -84,6 +94,6 @@ impl Chains {
             }
             next = link.next;
         }
-        None
+        start_by_halving(entries, scope.text, name)
     }
 }

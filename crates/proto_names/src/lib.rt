@@ -6,6 +6,7 @@
 mod chains;
 mod collect;
 mod entries;
+mod halving;
 mod hashing;
 mod index;
 mod resolve;

@@ -13,7 +13,8 @@ ghost use Rattle.proto_names.specs.Occurrences.{Occurrence};
 ghost use Rattle.proto_names.specs.declared.entries.Entry.{Entry};
 
 use crate::chains::{Chains, chained};
-use crate::entries::{Entries, Entry, compare, has_name};
+use crate::entries::{Entries, Entry, has_name};
+use crate::halving::count_named;
 use crate::scope::Scope;
 use std::alloc::{AllocError, Global};
 use std::marker::Model;
@@ -55,20 +56,6 @@ impl EntryTable {
     {
         entries_named(self.entries.as_slice(), &self.chains, scope, name)
     }
-}
-
-/// How many of the entries have the name in a scope, where none comes before it, by halving.
-fn count_named(entries: &[Entry], scope: &str, name: &str) -> usize
-    requires order { IsSortedByKey entry_name (slice_cmp nat_cmp) entries.now }
-    requires behind { All (λ e. slice_cmp nat_cmp (entry_name e) (scoped scope.now name.now) ≢ Less) entries.now }
-    ensures bound { result ≤ length entries.now }
-    ensures point { IsPartitionPoint (λ e. entry_name e ≡ scoped scope.now name.now) (λ e. entry_name e ≢ scoped scope.now name.now) entries.now result }
-{
-    entries.partition_point(
-        |entry: &Entry| -> bool
-            ensures { result ≡ is_eq (slice_cmp nat_cmp (entry_name entry.now) (scoped scope.entry.now name.entry.now)) }
-        { compare(entry.name.as_str(), scope, name).is_eq() },
-    )
 }
 
 /// How many of the entries have the name in a scope, where the first has it. Most names have one entry.

@@ -4,8 +4,5 @@ use Rattle.proto_names.specs.Entries.{occurrence}
 use Rattle.proto_names.proofs.Chaining.{IsLeft}
 use Rattle.proto_names.proofs.chains.Chains.start_of.Given as goal
 
-abbrev pub invariant-loop-next : goal.invariant-loop-next
-invariant-loop-next l = IsLeft (map occurrence l.entries) (length l.self.slots.items) (scoped l.scope.text.now l.name) l.next
-
-abbrev pub decreases-loop-next : goal.decreases-loop-next
-decreases-loop-next l = l.next
+abbrev pub invariant-loop-link : goal.invariant-loop-link
+invariant-loop-link l = IsLeft (map occurrence l.entries) (length l.self.slots.items) (scoped l.scope.text.now l.name) l.next

@@ -5,7 +5,7 @@ use Rattle.std.proofs.lemmas.List.Sorted.{IsPartitionPoint-from_clause}
 use Rattle.proto_desc.specs.DeclaredNames.{scoped}
 use Rattle.proto_names.specs.Entries.{entry_name}
 use Rattle.proto_names.proofs.Searching.{parted_equal, equal_point}
-use Rattle.proto_names.proofs.table.count_named.Goals as goal
+use Rattle.proto_names.proofs.halving.count_named.Goals as goal
 
 pub returns-clause-point : goal.returns-clause-point
 returns-clause-point c =
