@@ -13,21 +13,8 @@ if [ -z "$python" ] || ! command -v protoc >/dev/null; then
     echo 'tests/clients.sh: python3-protobuf or protobuf-compiler is not installed, so no client was run'
     exit 0
 fi
-folder=$(mktemp -d) || exit 2
-server=
-trap '[ -z "$server" ] || kill "$server" 2>/dev/null; rm -rf "$folder"' EXIT
-LC_ALL=C
-./schema_server --help >/dev/null || exit 1
-program=crates/schema_server/out/schema_server
-"$program" serve --root examples --listen 127.0.0.1:0 >"$folder/line" &
-server=$!
-turn=0
-until grep -q '^listening on ' "$folder/line"; do
-    turn=$((turn + 1))
-    [ "$turn" -lt 200 ] || exit 1
-    sleep 0.05
-done
-url=http://$(sed 's/listening on //' "$folder/line")
+. tests/serving.bash
+start --root examples
 protoc -I tests --python_out="$folder" tests/reflection.proto || exit 1
 failures=0
 

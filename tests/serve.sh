@@ -7,12 +7,7 @@ if ! command -v curl >/dev/null; then
     echo 'tests/serve.sh: curl is not installed, so the service was not tested'
     exit 0
 fi
-folder=$(mktemp -d) || exit 2
-server=
-trap '[ -z "$server" ] || kill "$server" 2>/dev/null; rm -rf "$folder"' EXIT
-LC_ALL=C
-./schema_server --help >/dev/null || exit 1
-program=crates/schema_server/out/schema_server
+. tests/serving.bash
 failures=0
 
 fail() {
@@ -23,24 +18,6 @@ fail() {
 mkdir "$folder/F" || exit 2
 printf 'syntax = "proto3"; import "b.proto";' | tee "$folder/F/a.proto" >"$folder/F/c.proto"
 printf 'syntax = "proto3"; package p; service S {}' >"$folder/F/b.proto"
-
-# start WORDS..: starts the service at a free port and waits for its line; sets `server` and `url`.
-start() {
-    : >"$folder/line"
-    "$program" serve --root "$folder/F" --listen 127.0.0.1:0 "$@" >"$folder/line" 2>"$folder/faults" &
-    server=$!
-    local turn=0
-    until grep -q '^listening on 127\.0\.0\.1:[0-9]*$' "$folder/line"; do
-        turn=$((turn + 1))
-        if [ "$turn" = 200 ] || ! kill -0 "$server" 2>/dev/null; then
-            fail "no line: $(cat "$folder/line" "$folder/faults")"
-            exit 1
-        fi
-        sleep 0.05
-    done
-    port=$(sed 's/.*://' "$folder/line")
-    url=http://127.0.0.1:$port
-}
 
 bytes() {
     printf "$(printf '%s' "$1" | tr -d ' ' | sed 's/../\\x&/g')"
@@ -77,7 +54,7 @@ has() {
     tr -d '\r' <"$folder/head" | grep -qix "$1" || fail "no line '$1'"
 }
 
-start
+start --root "$folder/F"
 asks 'a request' 200 "$reply_a $t0" -H "$web" --data-binary "@$folder/request" "$url$v1"
 has 'content-type: application/grpc-web+proto'
 [ "$(grep -ci '^content-type' "$folder/head")" = 1 ] || fail 'two content types'
@@ -118,9 +95,6 @@ exec 3>&-
 asks 'a request after clients that broke off' 200 "$reply_a $t0" -H "$web" --data-binary "@$folder/request" "$url$v1"
 
 # Two thousand requests take no more memory than the first hundred.
-resident() {
-    awk '$1 == "VmRSS:" { print $2 }' "/proc/$server/status"
-}
 row() {
     curl -s -S -H "$web" --data-binary "@$folder/request" -o "$folder/got" -w '%{http_code}\n' "$url$v1?[1-$1]" >"$folder/codes" || fail 'a row of requests broke off'
     [ "$(grep -cx 200 "$folder/codes")" = "$1" ] || fail "not $1 answers"
@@ -130,18 +104,17 @@ before=$(resident)
 row 2000
 after=$(resident)
 [ "$after" -le $((before + 512)) ] || fail "memory grew from $before kB to $after kB"
-kill "$server"
-wait "$server" 2>/dev/null
+stop
 
 # An end by a count of connections, broken ones among them.
-start --connections 3 --repeat
+start --root "$folder/F" --connections 3 --repeat
 exec 3<>"/dev/tcp/127.0.0.1/$port" && printf 'POST' >&3
 exec 3>&-
 asks 'a request twice in mode Repeat' 200 "$reply_a 00 00 00 00 29 12 09 $request_a 22 1C 0A 1A $a $t0" -H "$web" --data-binary "@$folder/twice" "$url$v1"
 asks 'GET' 405 '' "$url$v1"
 wait "$server" || fail "the service ended with $?"
 [ "$(wc -l <"$folder/line")" = 1 ] && [ ! -s "$folder/faults" ] || fail 'more was printed'
-start --connections 0
+start --root "$folder/F" --connections 0
 wait "$server" || fail "the service without connections ended with $?"
 server=
 
@@ -153,11 +126,9 @@ ends() {
     got=$?
     [ "$got" = "$status" ] && [ ! -s "$folder/line" ] && grep -qF -e "$line" "$folder/faults" || fail "serve $*: status $got, $(cat "$folder/line" "$folder/faults")"
 }
-start
+start --root "$folder/F"
 ends 3 'device: listen' --root "$folder/F" --listen "127.0.0.1:$port"
-kill "$server"
-wait "$server" 2>/dev/null
-server=
+stop
 ends 3 'device: listen' --root "$folder/F" --listen localhost
 ends 3 'device: folder' --root "$folder/none" --listen localhost
 ends 2 '--listen' --root "$folder/F"
