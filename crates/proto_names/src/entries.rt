@@ -96,7 +96,9 @@ impl Entries {
 pub fn name_in(alloc: Global, scope: &str, name: &str) -> Result<String, AllocError>
     ensures { IfOk result (λ full. string_bytes full ≡ scoped scope.now name.now) }
 {
-    let mut full = String::from_str(alloc, scope)?;
+    let room = scope.len().saturating_add(name.len()).saturating_add(1);
+    let mut full = String::with_capacity(alloc, room)?;
+    full.push_str(scope)?;
     if !scope.is_empty() {
         full.push_str(".")?;
     }

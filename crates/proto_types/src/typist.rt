@@ -72,7 +72,8 @@ fn packed_fault(options: &[OptionDesc]) -> Option<Spot>
 fn absolute(alloc: Global, full_name: &str) -> Result<String, AllocError>
     ensures { IfOk result (λ absolute. string_bytes absolute ≡ 46 ∷ full_name.now) }
 {
-    let mut absolute = String::from_str(alloc, ".")?;
+    let mut absolute = String::with_capacity(alloc, full_name.len().saturating_add(1))?;
+    absolute.push_str(".")?;
     absolute.push_str(full_name)?;
     Ok(absolute)
 }
