@@ -20,7 +20,7 @@ use proto_names::NameIndex;
 use proto_syntax::parse;
 use proto_tokens::tokenize;
 use proto_tree::FileTree;
-use proto_types::typed;
+use proto_types::{resolve_types, with_types};
 use reflect_requests::read_frames;
 use source_folder::{NamedText, read_folder};
 use std::alloc::{AllocGlobal, Global};
@@ -107,7 +107,8 @@ fn resolved<'s>(
         if file >= links.count() {
             bail!("a file without links");
         }
-        done.push(typed(alloc, index, links, file, desc)?)?;
+        let types = resolve_types(alloc, index, links, file, &desc)?;
+        done.push(with_types(alloc, desc, types)?)?;
     }
     Ok(done)
 }

@@ -84,6 +84,20 @@ gives_of_zip R first xs ys all = (
   λ i x y item out. subst (R x) (get_or_from_slice_get ys i y y out) (subst (λ z. R z (get_or ys i y)) (get_or_from_slice_get xs i x x item) (zip_at (λ k. R) 0 i xs ys x y (slice_get_within xs i x item) all)),
 )
 
+-- what is so related at each position is given
+pub gives_of_zip_from : {X Y : Type 0} (R : ℕ → X → Y → Type 0) (first : ℕ) (xs : List X) (ys : List Y) → AllZipFrom R first xs ys → GivesItems R first xs ys
+gives_of_zip_from R first xs ys all = (
+  sym (zip_length R first xs ys all),
+  λ i x y item out. subst (R (first + i) x) (get_or_from_slice_get ys i y y out) (subst (λ z. R (first + i) z (get_or ys i y)) (get_or_from_slice_get xs i x x item) (zip_at R first i xs ys x y (slice_get_within xs i x item) all)),
+)
+
+-- one more of each, the first of which stands at a
+pub zip_more_from : {X Y : Type 0} (R : ℕ → X → Y → Type 0) (a : ℕ) (xs : List X) (k : ℕ) (x : X) (ys : List Y) (y : Y) → k < length xs → x ≡ get_or xs k x → AllZipFrom R a (take k xs) ys → R (a + k) x y
+    → AllZipFrom R a (take (k + 1) xs) (ys ++ y ∷ [])
+zip_more_from R a xs k x ys y h is all last =
+    let at : a + k ≡ a + length (take k xs) = omega (arith, length-take k xs, h) in
+    rw (take_more xs k x h) (subst (λ z. AllZipFrom R a (take k xs ++ z ∷ []) (ys ++ y ∷ [])) is (zip_from_end R a (take k xs) ys x y all (subst (λ j. R j x y) at last)))
+
 -- one more of each, where k of them are so related
 pub zip_from_next : {X Y : Type 0} (R : ℕ → X → Y → Type 0) (xs : List X) (k : ℕ) (x : X) (ys : List Y) (y : Y) → k < length xs → x ≡ get_or xs k x → AllZipFrom R 0 (take k xs) ys → R k x y
     → AllZipFrom R 0 (take (k + 1) xs) (ys ++ y ∷ [])

@@ -89,7 +89,7 @@ some_of limits sources _ _ _ _ _ (name_twice files descs a place described none 
     let found = repeated.twice.found in
     subst (λ (i : ℕ). IsSomeFault limits sources 3 (imports.name_at descs i) 0 place kind.NameTwice) found.2
     (subst (λ (p : Place). IsSomeFault limits sources 3 (imports.name_at descs found.0.file) 0 p kind.NameTwice) found.3 (repeated_name files descs found.0 described none repeated.within found.1))
-some_of limits sources _ _ _ _ _ (in_types files descs done links index a desc place what analysed typed stands least) = type_fault files descs links index a desc place what analysed stands least.found
+some_of limits sources _ _ _ _ _ (in_types files descs links index a desc place what analysed before stands least) = type_fault files descs links index a desc place what analysed stands least.found
 some_of limits sources _ _ _ _ _ (descriptor_too_long files typed links index a desc resolved short stands over) = long_descriptor files typed links index a desc resolved stands over
 some_of limits sources _ _ _ _ _ (set_too_long c written over) = long_set c written over
 

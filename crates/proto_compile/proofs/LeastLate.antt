@@ -115,7 +115,7 @@ pub break_order : (descs : List FileDesc) (links others : Linked) (index other :
 break_order descs links others index other back a b desc p q k l first stands breaks = elim (cases_order a b) [
   | inl same ↦ break_here descs links index a b desc p q k l first same stands (break_moved descs others links other index back b desc (spot q l) stands.0 breaks)
   | inr (inl less) ↦ inl less
-  | inr (inr over) ↦ absurd (no_break descs others links other index back (take a descs) first.done b desc (spot q l) stands.0 (standing_in descs b a desc over stands.0 stands.1) breaks first.typed)
+  | inr (inr over) ↦ absurd (first.before b desc (spot q l) over stands (break_moved descs others links other index back b desc (spot q l) stands.0 breaks))
 ]
 
 abbrev pub type_least : (limits : Limits) (sources : List Source) → Least (type_check limits sources)

@@ -68,8 +68,8 @@ first_of limits sources _ _ _ _ _ (too_many_names files descs described none ove
     linked_then limits sources files descs _ described none (inl (record { files = files; descs = descs; described = described; over = over; is = refl }))
 first_of limits sources _ _ _ _ _ (name_twice files descs a place described none repeated) =
     linked_then limits sources files descs _ described none (inr ((files, descs, described, repeated.within), inl (record { files = files; descs = descs; at = a; place = place; described = described; repeated = repeated; is = refl })))
-first_of limits sources _ _ _ _ _ (in_types files descs done links index a desc place what analysed typed stands least) =
-    let first : IsFirstBreak descs links index a place what = record { done = done; typed = typed; desc = desc; stands = stands; least = least } in
+first_of limits sources _ _ _ _ _ (in_types files descs links index a desc place what analysed before stands least) =
+    let first : IsFirstBreak descs links index a place what = record { before = before; desc = desc; stands = stands; least = least } in
     analysed_then limits sources files descs links index _ analysed
     (inl (record { files = files; descs = descs; links = links; index = index; at = a; place = place; what = what; analysed = analysed; first = first; is = refl }))
 first_of limits sources _ _ _ _ _ (descriptor_too_long files typed links index a desc resolved short stands over) =

@@ -21,7 +21,7 @@ use Rattle.proto_base.specs.declared.place.Place.{Place}
 use Rattle.proto_types.proofs.Unique.{breaks_alike, file_same}
 use Rattle.proto_compile.specs.Analysed.{AreResolved, AreTypedFrom, IsAnalysed, TypesAt, TypesBreakAt}
 use Rattle.proto_compile.specs.Descriptions.{Describe, SourceDescribes}
-use Rattle.proto_compile.specs.Faults.{StandsDesc}
+use Rattle.proto_compile.specs.Faults.{NoneBreakBefore, StandsDesc}
 use Rattle.proto_compile.specs.Sources.{name_of, text_of}
 use Rattle.proto_compile.specs.declared.source.Source.{Source}
 use Rattle.proto_file.proofs.OneLocal.{one_descriptor}
@@ -141,16 +141,14 @@ same_break descs links others index other alike back a desc p q k l h first seco
 
 -- a file whose types are wrong, behind files whose types are right
 pub record IsFirstBreak (descs : List FileDesc) (links : Linked) (index : Index) (a : ℕ) (place : Place) (kind : Kind) : Type 0 where
-  pub done : List FileDesc
-  pub typed : AreTypedFrom links index 0 (take a descs) done
+  pub before : NoneBreakBefore links index descs a
   pub desc : FileDesc
   pub stands : StandsDesc descs a desc
   pub least : IsLeast (TypesBreakAt links index a desc) (Some (spot place kind))
 
 no_earlier_break : (descs : List FileDesc) (links others : Linked) (index other : Index) → AllSeeAlike descs links index others other → (a b : ℕ) (p q : Place) (k l : Kind) → a < b → IsFirstBreak descs links index a p k → IsFirstBreak descs others other b q l → ⊥
 no_earlier_break descs links others index other alike a b p q k l less first second =
-    let within = standing_in descs a b first.desc less first.stands.0 first.stands.1 in
-    no_break descs links others index other alike (take b descs) second.done a first.desc (spot p k) first.stands.0 within first.least.found second.typed
+    second.before a first.desc (spot p k) less first.stands (break_moved descs links others index other alike a first.desc (spot p k) first.stands.0 first.least.found)
 
 same_file_break : (descs : List FileDesc) (links others : Linked) (index other : Index) → AllSeeAlike descs links index others other → AllSeeAlike descs others other links index → (a b : ℕ) (p q : Place) (k l : Kind) → a ≡ b
     → IsFirstBreak descs links index a p k → IsFirstBreak descs others other b q l → (p ≡ q) × (k ≡ l)

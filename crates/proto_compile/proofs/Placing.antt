@@ -176,7 +176,7 @@ placed limits sources _ _ _ _ _ (in_imports files descs a place kind described f
     in_desc limits sources files descs a desc place described.by_name described.each at (bad_placed descs a desc place kind at first.bad)
 placed limits sources _ _ _ _ _ (too_many_names files descs described none many) = at_start limits sources [] (inl refl)
 placed limits sources _ _ _ _ _ (name_twice files descs a place described none repeated) = repeated_placed limits sources files descs a place described.by_name described.each repeated
-placed limits sources _ _ _ _ _ (in_types files descs done links index a desc place kind analysed so_far at least) =
+placed limits sources _ _ _ _ _ (in_types files descs links index a desc place kind analysed before at least) =
     in_desc limits sources files descs a desc place analysed.described.by_name analysed.described.each at (types_placed _ _ desc place kind least.found)
 placed limits sources _ _ _ _ _ (descriptor_too_long files typed links index a desc resolved short at long) =
     let described = resolved.analysed.described in

@@ -8,6 +8,7 @@ use Rattle.proto_base.specs.declared.kind.Kind.TheVariants as kind
 use Rattle.proto_base.specs.declared.limits.Limit.TheVariants as limit
 use Rattle.proto_base.specs.declared.limits.Limits.{Limits}
 use Rattle.proto_base.specs.declared.place.Place.{Place}
+use Rattle.proto_base.specs.declared.spot.Spot.{Spot}
 use Rattle.proto_desc.specs.declared.file.FileDesc.{FileDesc}
 use Rattle.proto_links.specs.Imports as imports
 use Rattle.proto_links.specs.Linked.{Linked}
@@ -15,7 +16,7 @@ use Rattle.proto_base.specs.Least.{IsLeast, spot}
 use Rattle.proto_names.specs.Index.{Index, IsRepeated}
 use Rattle.proto_names.specs.Occurrences.{occurrences}
 use Rattle.wire_bytes.specs.Descriptor.{file_desc_bytes}
-use Rattle.proto_compile.specs.Analysed.{AreResolved, AreTypedFrom, IsAnalysed, TypesBreakAt}
+use Rattle.proto_compile.specs.Analysed.{AreResolved, IsAnalysed, TypesBreakAt}
 use Rattle.proto_compile.specs.Compilation.{Compilation, IsShort, IsWritten, set_of}
 use Rattle.proto_compile.specs.Descriptions.{Describe, SourceDescribes}
 use Rattle.proto_file.specs.Local.{IsLocalFault}
@@ -34,6 +35,10 @@ Stands files k s = (k < length files) × (slice_index_or files k s ≡ s)
 abbrev pub StandsDesc : List FileDesc → ℕ → FileDesc → Type 0
 StandsDesc descs k desc = (k < length descs) × (slice_index_or descs k desc ≡ desc)
 
+-- no file before this one breaks a rule of types
+abbrev pub NoneBreakBefore : Linked → Index → List FileDesc → ℕ → Type 0
+NoneBreakBefore links index descs a = (b : ℕ) (desc : FileDesc) (x : Spot) → b < a → StandsDesc descs b desc → TypesBreakAt links index b desc x → ⊥
+
 -- the first fault, by its pass, file, step, place and kind
 pub data IsFirstFault (limits : Limits) (sources : List Source) : (pass : ℕ) (file : List ℕ) (step : ℕ) (place : Place) (kind : Kind) → Type 0 where
   too_many_files : limit_of limits limit.Files < length sources → IsFirstFault limits sources 0 [] 0 start kind.TooManyFiles
@@ -43,8 +48,8 @@ pub data IsFirstFault (limits : Limits) (sources : List Source) : (pass : ℕ) (
   in_imports : (files : List Source) (descs : List FileDesc) (a : ℕ) (place : Place) (what : Kind) → Describe limits sources files descs → imports.IsFirstBad descs a place what → IsFirstFault limits sources 2 (imports.name_at descs a) 0 place what
   too_many_names : (files : List Source) (descs : List FileDesc) → Describe limits sources files descs → imports.NoneBad descs → limit_of limits limit.Names < length (occurrences descs) → IsFirstFault limits sources 3 [] 0 start kind.TooManyNames
   name_twice : (files : List Source) (descs : List FileDesc) (a : ℕ) (place : Place) → Describe limits sources files descs → imports.NoneBad descs → IsRepeated descs limits a place → IsFirstFault limits sources 3 (imports.name_at descs a) 0 place kind.NameTwice
-  in_types : (files : List Source) (descs done : List FileDesc) (links : Linked) (index : Index) (a : ℕ) (desc : FileDesc) (place : Place) (what : Kind) → IsAnalysed limits sources files descs links index
-      → AreTypedFrom links index 0 (take a descs) done → StandsDesc descs a desc → IsLeast (TypesBreakAt links index a desc) (Some (spot place what)) → IsFirstFault limits sources 4 (imports.name_at descs a) 0 place what
+  in_types : (files : List Source) (descs : List FileDesc) (links : Linked) (index : Index) (a : ℕ) (desc : FileDesc) (place : Place) (what : Kind) → IsAnalysed limits sources files descs links index
+      → NoneBreakBefore links index descs a → StandsDesc descs a desc → IsLeast (TypesBreakAt links index a desc) (Some (spot place what)) → IsFirstFault limits sources 4 (imports.name_at descs a) 0 place what
   descriptor_too_long : (files : List Source) (descs : List FileDesc) (links : Linked) (index : Index) (a : ℕ) (desc : FileDesc) → AreResolved limits sources files descs links index
       → All (IsShort limits) (take a descs) → StandsDesc descs a desc → limit_of limits limit.DescriptorBytes < length (file_desc_bytes desc) → IsFirstFault limits sources 5 (imports.name_at descs a) 0 start kind.DescriptorTooLong
   set_too_long : (c : Compilation) → IsWritten limits sources c → limit_of limits limit.SetBytes < length (set_of c.files c.links) → IsFirstFault limits sources 6 [] 0 start kind.SetTooLong

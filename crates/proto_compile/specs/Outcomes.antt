@@ -1,8 +1,10 @@
 -- Words of private contracts: what a pass finds in each file, and the first fault of it.
 use Rattle.std.specs.Prelude.{◌≡◌, ℕ, ◌<◌, List, length, map, take, slice_index_or, Result, Ok, Err, Some, Vec, true}
+use Rattle.std.specs.List.{AllZip}
 use Rattle.std.specs.declared.alloc.Global.{Global}
 use Rattle.proto_base.specs.Least.{IsLeast, spot}
 use Rattle.proto_base.specs.Limits.{limit_of}
+use Rattle.proto_base.specs.declared.spot.Spot.{Spot}
 use Rattle.proto_base.specs.declared.kind.Kind.{Kind}
 use Rattle.proto_base.specs.declared.kind.Kind.TheVariants as kind
 use Rattle.proto_base.specs.declared.limits.Limit.TheVariants as limit
@@ -15,6 +17,10 @@ use Rattle.proto_file.specs.declared.error.FileError.{FileError}
 use Rattle.proto_file.specs.declared.error.FileError.TheVariants as fault
 use Rattle.proto_links.specs.Linked.{Linked}
 use Rattle.proto_names.specs.Index.{Index}
+use Rattle.proto_names.specs.Resolution.{SeenBy}
+use Rattle.proto_types.specs.References.{references}
+use Rattle.proto_types.specs.Typed.{Means}
+use Rattle.proto_types.specs.declared.meaning.NamedType.{NamedType}
 use Rattle.wire_bytes.specs.Descriptor.{file_desc_bytes}
 use Rattle.proto_compile.specs.Analysed.{TypesAt, TypesBreakAt}
 use Rattle.proto_compile.specs.Compilation.{IsShort}
@@ -27,17 +33,25 @@ use Rattle.proto_compile.specs.declared.source.Source.{Source}
 
 -- ---- what a pass finds in one file
 
+-- a file breaks no rule of types, and this is what its names of types mean
+abbrev pub AreTypesOf : Linked → Index → ℕ → FileDesc → Vec NamedType Global → Type 0
+AreTypesOf links index a desc types = ((x : Spot) → TypesBreakAt links index a desc x → ⊥) × AllZip (Means index.occurrences (SeenBy links a)) (references desc) types.items
+
+-- a descriptor with its types, all of them resolved
+abbrev pub IsTypedWhole : Linked → Index → ℕ → FileDesc → FileDesc → Type 0
+IsTypedWhole links index a desc typed = TypesAt links index a desc typed × (file_resolved typed ≡ true)
+
 -- what a source describes, or its first fault by itself
 abbrev pub IsDescribed : Limits → Source → Result FileDesc FileError → Type 0
 IsDescribed limits s (Ok desc) = SourceDescribes limits s desc
 IsDescribed limits s (Err (fault.At step place kind)) = IsLocalFault limits (name_of s) (text_of s) step place kind
 IsDescribed limits s (Err fault.NoMemory) = Unit {0}
 
--- the descriptor of the file at a position with its types resolved, or the first rule of types that it breaks
-abbrev pub IsTyped : Linked → Index → ℕ → FileDesc → Result FileDesc FileError → Type 0
-IsTyped links index a desc (Ok typed) = TypesAt links index a desc typed × (file_resolved typed ≡ true)
-IsTyped links index a desc (Err (fault.At step place kind)) = (step ≡ 0) × IsLeast (TypesBreakAt links index a desc) (Some (spot place kind))
-IsTyped links index a desc (Err fault.NoMemory) = Unit {0}
+-- what the names of types in the file at a position mean, or the first rule of types that it breaks
+abbrev pub IsResolved : Linked → Index → ℕ → FileDesc → Result (Vec NamedType Global) FileError → Type 0
+IsResolved links index a desc (Ok types) = AreTypesOf links index a desc types
+IsResolved links index a desc (Err (fault.At step place kind)) = (step ≡ 0) × IsLeast (TypesBreakAt links index a desc) (Some (spot place kind))
+IsResolved links index a desc (Err fault.NoMemory) = Unit {0}
 
 -- the bytes of a descriptor, or that there are too many
 abbrev pub IsWrittenShort : Limits → FileDesc → Result (Vec ℕ Global) FileError → Type 0

@@ -44,7 +44,7 @@ where
     let descs = describe_all(workers, &files, limits)?;
     let links = link_all(alloc, &descs)?;
     let index = index_all(workers.rt, &descs, limits)?;
-    let descs = resolve_all(alloc, &files, &links, &index, descs)?;
+    let descs = resolve_all(workers, &files, &links, &index, descs)?;
     let written = write_all(workers, &files, &descs, limits)?;
     let files = table_of(alloc, &files, written)?;
     if !is_set_within(&files, &links, limits.get(Limit::SetBytes)) {
@@ -65,8 +65,8 @@ where
 /// Its place lies within the text of its file; a fault of the whole list has no file name, and stands at 0. `NoMemory` comes
 /// only where the allocator had none.
 ///
-/// Workers share the files, in phase 1 of the gate each source by itself, and in phase 3 the bytes of the descriptors: what the
-/// plan and the gate are changes nothing of the answer.
+/// Workers share the files: in phase 1 of the gate each source by itself, in phase 2 the types that it names, and in phase 3 the
+/// bytes of its descriptor. What the plan and the gate are changes nothing of the answer.
 pub fn compile<R, G>(
     rt: &R,
     sources: &[Source],

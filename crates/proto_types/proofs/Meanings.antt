@@ -1,26 +1,22 @@
 -- The faults of one reference, by what its name means.
-use Rattle.std.proofs.Common.{◌≡◌, ◌∙◌, sym, ℕ, List, ◌∷◌, refl, inl, inr}
-use Rattle.std.specs.Prelude.{Option, Some, None, Result, Ok, Err, IfOk}
+use Rattle.std.proofs.Common.{◌≡◌, ℕ, List, refl, inl, inr}
+use Rattle.std.specs.Prelude.{Option, Some, None, Result, Ok, Err, IfOk, OnOk}
 use Rattle.proto_base.specs.declared.kind.Kind.TheVariants as kind
-use Rattle.proto_base.specs.declared.place.Place.{Place}
 use Rattle.proto_desc.specs.declared.name_kind.NameKind.{NameKind}
 use Rattle.proto_desc.specs.declared.name_kind.NameKind.TheVariants as name_kind
-use Rattle.proto_desc.specs.declared.options.OptionDesc.{OptionDesc}
 use Rattle.proto_base.specs.Least.{IsLeast, spot}
 use Rattle.proto_base.specs.Sets.{Each}
 use Rattle.proto_base.specs.declared.spot.Spot.{Spot}
-use Rattle.proto_base.proofs.Among.{least_single}
 use Rattle.proto_base.proofs.Sets.{least_none, least_same, least_one}
 use Rattle.proto_names.specs.Occurrences.{Occurrence}
 use Rattle.proto_names.specs.Resolution.{IsType, Resolves, ResolvesNowhere}
 use Rattle.proto_names.specs.Resolution.IsType.{message, enumeration}
-use Rattle.proto_names.specs.declared.resolve.Want.{Want}
 use Rattle.proto_names.specs.declared.resolve.Want.TheVariants as want
 use Rattle.proto_names.proofs.Unique.{resolves_one}
 use Rattle.proto_types.specs.References.{Reference, ReferenceBreaks}
-use Rattle.proto_desc.specs.declared.type_name.TypeReference.{TypeReference}
-use Rattle.proto_desc.specs.declared.type_name.TypeReference.TheVariants.{Spelled, Resolved}
-use Rattle.proto_types.specs.Steps.{IsPackedFault, IsWalkedType, SetsPacked, type_kind_of}
+use Rattle.proto_types.specs.Steps.{IsMeaning, IsNaming, IsPackedFault, SetsPacked, type_kind_of}
+use Rattle.proto_types.specs.declared.meaning.Meaning.{Meaning}
+use Rattle.proto_types.specs.declared.meaning.Meaning.TheVariants.{Named, Wrong}
 use Rattle.proto_types.specs.Typed.{named_by}
 
 -- a name of a message names no enum
@@ -76,23 +72,20 @@ resolved_least : (os : List Occurrence) (Seen : ℕ → Type 0) (r : Reference) 
 resolved_least os Seen r full k fault found (message seen) only packed = found_message os Seen r full fault found packed
 resolved_least os Seen r full k fault found (enumeration seen none) only packed = rw packed (found_enum os Seen r full (λ e. let bad : name_kind.Enum ≡ name_kind.Message = only e in absurd (cc)) found)
 
--- ---- what is made of one reference
+-- ---- what one name means
 
-abbrev pub spelled : List ℕ → List ℕ → Place → Want → List OptionDesc → Reference
-spelled scope text place wanted options = record { scope = scope; text = text; place = place; wanted = wanted; options = options }
+-- what is found of a full name is what a reference to it means
+pub naming_means : (os : List Occurrence) (Seen : ℕ → Type 0) (r : Reference) (full : List ℕ) (k : NameKind) (m : Meaning) → Resolves os Seen r.scope r.text full k → (r.wanted ≡ want.MessageOnly → k ≡ name_kind.Message) → IsNaming full (type_kind_of k) r.options m → IsMeaning os Seen r m
+naming_means os Seen r full k (Named t) found only naming = (
+  resolved_least os Seen r full k None found found.type only naming.0,
+  (full, rw naming.2 (rw (kind_named os Seen full k found.type) found), naming.1),
+)
+naming_means os Seen r full k (Wrong x) found only naming = resolved_least os Seen r full k (Some x) found found.type only naming
 
-pub unresolved_walked : (os : List Occurrence) (Seen : ℕ → Type 0) (scope text : List ℕ) (place : Place) (wanted : Want) (options : List OptionDesc) (g : TypeReference) (s : Spot) (fault : Option Spot) → fault ≡ Some s → IsLeast (ReferenceBreaks os Seen (spelled scope text place wanted options)) (Some s) → IsWalkedType os Seen scope wanted options (Spelled text place) g fault
-unresolved_walked os Seen scope text place wanted options g s fault e h = record {
-  least = rw e (least_single (ReferenceBreaks os Seen) (spelled scope text place wanted options) (Some s) h);
-  made = λ none. let bad : None ≡ Some s = sym none ∙ e in absurd (cc);
-}
+pub if_ok : {T E : Type 0} {P Q : T → Type 0} (r : Result T E) → IfOk r P → ((x : T) → P x → Q x) → IfOk r Q
+if_ok (Ok x) p turn = turn x p
+if_ok (Err e) p turn = tt
 
-pub resolved_walked : (os : List Occurrence) (Seen : ℕ → Type 0) (scope text : List ℕ) (place : Place) (wanted : Want) (options : List OptionDesc) (full : List ℕ) (k : NameKind) (g : TypeReference) (fault : Option Spot) → Resolves os Seen scope text full k → (wanted ≡ want.MessageOnly → k ≡ name_kind.Message) → g ≡ Resolved (46 ∷ full) (type_kind_of k) → IsPackedFault (type_kind_of k) options fault → IsWalkedType os Seen scope wanted options (Spelled text place) g fault
-resolved_walked os Seen scope text place wanted options full k g fault found only made packed = record {
-  least = least_single (ReferenceBreaks os Seen) (spelled scope text place wanted options) fault (resolved_least os Seen (spelled scope text place wanted options) full k fault found found.type only packed);
-  made = λ none. (full, type_kind_of k, rw (kind_named os Seen full k found.type) found, made);
-}
-
-pub if_ok_both : {T E : Type 0} {P Q R : T → Type 0} (r : Result T E) → IfOk r P → IfOk r Q → ((x : T) → P x → Q x → R x) → IfOk r R
-if_ok_both (Ok x) p q turn = turn x p q
-if_ok_both (Err e) p q turn = tt
+pub on_ok : {T E : Type 0} {P Q : Type 0} (r : Result T E) → OnOk r P → (P → Q) → OnOk r Q
+on_ok (Ok x) p turn = turn p
+on_ok (Err e) p turn = tt

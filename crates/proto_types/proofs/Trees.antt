@@ -1,8 +1,8 @@
--- Trees of messages that are walked over.
+-- Trees of messages.
 use Rattle.std.proofs.Common.{◌≡◌, ◌∙◌, ap, ℕ, List, [], ◌∷◌, ◌++◌, Bool, true, refl}
 use Rattle.std.proofs.lemmas.List.Folds.{flat_map-map}
 use Rattle.std.specs.List.{AllZip, list_all}
-use Rattle.std.specs.Prelude.{flat_map, ◌&&◌, Option}
+use Rattle.std.specs.Prelude.{flat_map, ◌&&◌}
 use Rattle.proto_desc.specs.DeclaredNames.{scoped}
 use Rattle.proto_desc.specs.Resolved.{reference_resolved, kind_resolved, field_resolved, fields_resolved, message_resolved, method_resolved, service_resolved, services_resolved, file_resolved}
 use Rattle.proto_desc.specs.declared.field.FieldDesc.{FieldDesc}
@@ -19,10 +19,7 @@ use Rattle.proto_desc.specs.declared.type_name.TypeReference.{TypeReference}
 use Rattle.proto_desc.specs.declared.type_name.TypeReference.TheVariants.{Spelled, Resolved}
 use Rattle.proto_names.specs.Occurrences.{Occurrence}
 use Rattle.proto_desc.proofs.Resolves.{message_resolved_out}
-use Rattle.proto_base.specs.Sets.{Each}
-use Rattle.proto_base.specs.declared.spot.Spot.{Spot}
-use Rattle.proto_types.specs.Steps.{IsWalked, IsWalkedMessage}
-use Rattle.proto_types.specs.References.{Reference, ReferenceBreaks, field_scope, references_of_field, references_step, references_by_message}
+use Rattle.proto_types.specs.References.{Reference, field_scope, references_of_field, references_step, references_by_message}
 use Rattle.proto_types.specs.Typed.{IsTyped, IsTypedKind, IsTypedField, IsTypedMessage, AreTypedMessages, IsTypedMethod, IsTypedService, IsTypedIn}
 use Rattle.proto_types.specs.Typed.IsTypedMessage.{message}
 use Rattle.proto_types.specs.Typed.AreTypedMessages.{none, more}
@@ -49,39 +46,6 @@ messages_typed os Seen scope (m ∷ ms) (g ∷ gs) h = more scope m g ms gs h.0 
 and_true : (a b : Bool) → a ≡ true → b ≡ true → (a && b) ≡ true
 and_true a b p q = rw (p, q) refl
 
--- a message is as another, but for the fields and the messages within it
-pub record IsTypedRest (m g : MessageDesc) : Type 0 where
-  pub same_name : (out-MessageDesc g).name ≡ (out-MessageDesc m).name
-  pub same_place : (out-MessageDesc g).place ≡ (out-MessageDesc m).place
-  pub same_enums : (out-MessageDesc g).enums ≡ (out-MessageDesc m).enums
-  pub same_oneofs : (out-MessageDesc g).oneofs ≡ (out-MessageDesc m).oneofs
-  pub same_ranges : (out-MessageDesc g).reserved_ranges ≡ (out-MessageDesc m).reserved_ranges
-  pub same_reserved : (out-MessageDesc g).reserved_names ≡ (out-MessageDesc m).reserved_names
-  pub same_options : (out-MessageDesc g).options ≡ (out-MessageDesc m).options
-  pub same_entry : (out-MessageDesc g).is_map_entry ≡ (out-MessageDesc m).is_map_entry
-
--- a message of which the fields and the messages within it are made
-pub message_walked : (os : List Occurrence) (Seen : ℕ → Type 0) (scope : List ℕ) (m g : MessageDesc) (first : Option Spot) → IsTypedRest m g
-    → IsWalked (Each (own_references m scope ++ flat_map (λ n. references_by_message n (scope_in m scope)) (out-MessageDesc m).nested) (ReferenceBreaks os Seen))
-    (AllZip (IsTypedField os Seen (field_scope scope (out-MessageDesc m))) (out-MessageDesc m).fields (out-MessageDesc g).fields × AllZip (IsTypedMessage os Seen (scope_in m scope)) (out-MessageDesc m).nested (out-MessageDesc g).nested) first
-    → IsWalkedMessage os Seen scope m g first
-message_walked os Seen scope m g first rest h = rw (references_out m scope) (record {
-  least = h.least;
-  made = λ none.
-      let made = h.made none in
-      message scope m g (record {
-        fields_typed = made.0;
-        same_name = rest.same_name;
-        same_place = rest.same_place;
-        same_enums = rest.same_enums;
-        same_oneofs = rest.same_oneofs;
-        same_ranges = rest.same_ranges;
-        same_reserved = rest.same_reserved;
-        same_options = rest.same_options;
-        same_entry = rest.same_entry;
-      }) (messages_typed os Seen (scope_in m scope) (out-MessageDesc m).nested (out-MessageDesc g).nested made.1);
-})
-
 abbrev pub remade : MessageDesc-F MessageDesc → List FieldDesc → List MessageDesc → MessageDesc-F MessageDesc
 remade m fields nested = record {
   name = m.name;
@@ -96,15 +60,15 @@ remade m fields nested = record {
   is_map_entry = m.is_map_entry;
 }
 
-pub remade_walked : (os : List Occurrence) (Seen : ℕ → Type 0) (scope : List ℕ) (m : MessageDesc) (x : MessageDesc-F MessageDesc) (fields : List FieldDesc) (nested : List MessageDesc) (first : Option Spot) → x ≡ remade (out-MessageDesc m) fields nested
-    → IsWalked (Each (own_references m scope ++ flat_map (λ n. references_by_message n (scope_in m scope)) (out-MessageDesc m).nested) (ReferenceBreaks os Seen))
-    (AllZip (IsTypedField os Seen (field_scope scope (out-MessageDesc m))) (out-MessageDesc m).fields fields × AllZip (IsTypedMessage os Seen (scope_in m scope)) (out-MessageDesc m).nested nested) first
-    → IsWalkedMessage os Seen scope m (roll-MessageDesc x) first
-remade_walked os Seen scope m x fields nested first e h =
+-- a message of which the fields and the messages within it are made
+pub remade_typed : (os : List Occurrence) (Seen : ℕ → Type 0) (scope : List ℕ) (m : MessageDesc) (x : MessageDesc-F MessageDesc) (fields : List FieldDesc) (nested : List MessageDesc) → x ≡ remade (out-MessageDesc m) fields nested
+    → AllZip (IsTypedField os Seen (field_scope scope (out-MessageDesc m))) (out-MessageDesc m).fields fields → AllZip (IsTypedMessage os Seen (scope_in m scope)) (out-MessageDesc m).nested nested → IsTypedMessage os Seen scope m (roll-MessageDesc x)
+remade_typed os Seen scope m x fields nested e own inside =
     let r : MessageDesc-F MessageDesc = remade (out-MessageDesc m) fields nested in
     let at : out-MessageDesc (roll-MessageDesc r) ≡ r = out-roll-MessageDesc r in
-    rw e (message_walked os Seen scope m (roll-MessageDesc r) first
+    rw e (message scope m (roll-MessageDesc r)
     (record {
+      fields_typed = rw at own;
       same_name = ap (λ (y : MessageDesc-F MessageDesc). y.name) at;
       same_place = ap (λ (y : MessageDesc-F MessageDesc). y.place) at;
       same_enums = ap (λ (y : MessageDesc-F MessageDesc). y.enums) at;
@@ -114,7 +78,7 @@ remade_walked os Seen scope m x fields nested first e h =
       same_options = ap (λ (y : MessageDesc-F MessageDesc). y.options) at;
       same_entry = ap (λ (y : MessageDesc-F MessageDesc). y.is_map_entry) at;
     })
-    (rw at h))
+    (rw at (messages_typed os Seen (scope_in m scope) (out-MessageDesc m).nested nested inside)))
 
 -- ---- what is typed is resolved
 

@@ -1,48 +1,110 @@
--- Walks over references, put together.
-use Rattle.std.proofs.Common.{◌≡◌, ◌∙◌, sym, List, [], ◌∷◌, ◌++◌, ap, refl, subst}
-use Rattle.std.proofs.lemmas.List.{append-nil}
+-- What walks over references find and put, one behind another.
+use Rattle.std.proofs.Common.{◌≡◌, ◌∙◌, sym, ℕ, ◌+◌, ◌<◌, List, [], ◌∷◌, ◌++◌, append_assoc, ap, get_or, length, refl, subst, take}
+use Rattle.std.proofs.lemmas.List.{append-nil, take_more}
 use Rattle.std.proofs.lemmas.List.Concat.{flat_map-append}
-use Rattle.std.proofs.lemmas.List.Elements.{AllZip-push}
 use Rattle.std.specs.List.{AllZip}
 use Rattle.std.specs.Prelude.{Option, Some, None, flat_map}
 use Rattle.proto_base.specs.declared.spot.Spot.{Spot}
 use Rattle.proto_base.specs.Least.{IsLesser, Bounds}
-use Rattle.proto_base.specs.Sets.{Each}
-use Rattle.proto_base.proofs.Among.{least_nil, least_append}
-use Rattle.proto_base.proofs.Sets.{at_most_itself}
-use Rattle.proto_types.specs.Steps.{IsWalked}
+use Rattle.proto_base.proofs.Among.{least_append, least_nil, least_single}
+use Rattle.proto_base.proofs.Sets.{at_most_itself, lesser_none}
+use Rattle.proto_names.specs.Occurrences.{Occurrence}
+use Rattle.proto_names.specs.Resolution.{IsSeen}
+use Rattle.proto_types.specs.References.{Reference, ReferenceBreaks}
+use Rattle.proto_types.specs.Steps.{Adds, AreFilled, AreFound, Finds, IsFilled, IsMeaning, Puts}
+use Rattle.proto_types.specs.Typed.{Means}
+use Rattle.proto_types.specs.declared.found.Found.{Found}
+use Rattle.proto_types.specs.declared.meaning.Meaning.{Meaning}
+use Rattle.proto_types.specs.declared.meaning.Meaning.TheVariants.{Named, Wrong}
+use Rattle.proto_types.specs.declared.meaning.NamedType.{NamedType}
+
+flat_push : {X Y : Type 0} (f : X → List Y) (xs : List X) (x : X) → flat_map f (xs ++ x ∷ []) ≡ flat_map f xs ++ f x
+flat_push f xs x = flat_map-append f xs (x ∷ []) ∙ ap (λ z. flat_map f xs ++ z) (append-nil (f x))
+
+zip_push : {X Y : Type 0} (R : X → Y → Type 0) (xs : List X) (ys : List Y) (x : X) (y : Y) → AllZip R xs ys → R x y → AllZip R (xs ++ x ∷ []) (ys ++ y ∷ [])
+zip_push R [] [] x y all last = (last, tt)
+zip_push R [] (z ∷ ys) x y all last = absurd all
+zip_push R (z ∷ xs) [] x y all last = absurd all
+zip_push R (z ∷ xs) (w ∷ ys) x y all last = (all.0, zip_push R xs ys x y all.1 last)
 
 bounds_none : (a : Option Spot) → ((x : Spot) → Bounds a x → ⊥) → a ≡ None
 bounds_none None h = refl
 bounds_none (Some s) h = absurd (h s (at_most_itself s))
 
--- where neither is, there is no lesser one
-lesser_left : (a b r : Option Spot) → IsLesser a b r → r ≡ None → a ≡ None
-lesser_left a b r w e = bounds_none a (λ x h. let k : Bounds None x = subst (λ o. Bounds o x) e (w.left x h) in k)
-
+-- a fault is not lost
 lesser_right : (a b r : Option Spot) → IsLesser a b r → r ≡ None → b ≡ None
 lesser_right a b r w e = bounds_none b (λ x h. let k : Bounds None x = subst (λ o. Bounds o x) e (w.right x h) in k)
 
--- two walks, one behind the other
-pub walked_both : {X : Type 0} (S : X → Spot → Type 0) (xs ys : List X) (P Q R : Type 0) (p q r : Option Spot) → (P → Q → R) → IsWalked (Each xs S) P p → IsWalked (Each ys S) Q q → IsLesser p q r → IsWalked (Each (xs ++ ys) S) R r
-walked_both S xs ys P Q R p q r join h k w = record {
-  least = least_append S xs ys p q r h.least k.least w;
-  made = λ e. join (h.made (lesser_left p q r w e)) (k.made (lesser_right p q r w e));
-}
+-- ---- what is found
 
--- a walk of which something else is made
-pub walked_as : (S : Spot → Type 0) (P Q : Type 0) (p : Option Spot) → (P → Q) → IsWalked S P p → IsWalked S Q p
-walked_as S P Q p turn h = record { least = h.least; made = λ e. turn (h.made e) }
+module _ (os : List Occurrence) (Seen : ℕ → Type 0) where
+  pub finds_nil : (found : Found) → Finds os Seen [] found found
+  finds_nil found before h = rw (append-nil before) h
 
--- nothing to walk over
-pub walked_nil : {X : Type 0} (S : X → Spot → Type 0) (P : Type 0) → P → IsWalked (Each [] S) P None
-walked_nil S P made = record { least = least_nil S; made = λ e. made }
+  pub finds_both : (rs qs : List Reference) (a b c : Found) → Finds os Seen rs a b → Finds os Seen qs b c → Finds os Seen (rs ++ qs) a c
+  finds_both rs qs a b c h k before old = subst (λ xs. AreFound os Seen xs c) (append_assoc before rs qs) (k (before ++ rs) (h before old))
 
--- a walk over one more item of a list
-flat_push : {X Y : Type 0} (f : X → List Y) (xs : List X) (x : X) → flat_map f (xs ++ x ∷ []) ≡ flat_map f xs ++ f x
-flat_push f xs x = flat_map-append f xs (x ∷ []) ∙ ap (λ z. flat_map f xs ++ z) (append-nil (f x))
+  -- a walk over one more item of a list
+  pub finds_more : {X : Type 0} (f : X → List Reference) (xs : List X) (k : ℕ) (x : X) (a b c : Found) → k < length xs → x ≡ get_or xs k x → Finds os Seen (flat_map f (take k xs)) a b
+      → Finds os Seen (f x) b c → Finds os Seen (flat_map f (take (k + 1) xs)) a c
+  finds_more f xs k x a b c below at so_far one =
+      let more : flat_map f (take (k + 1) xs) ≡ flat_map f (take k xs) ++ f x =
+      ap (flat_map f) (take_more xs k x below) ∙ flat_push f (take k xs) (get_or xs k x) ∙ ap (λ (y : _). flat_map f (take k xs) ++ f y) (sym at) in
+      rw more (finds_both (flat_map f (take k xs)) (f x) a b c so_far one)
 
-pub walked_more : {X Y : Type 0} (S : Y → Spot → Type 0) (f : X → List Y) (R : X → X → Type 0) (xs ys : List X) (x y : X) (p q r : Option Spot) → IsWalked (Each (flat_map f xs) S) (AllZip R xs ys) p → IsWalked (Each (f x) S) (R x y) q → IsLesser p q r → IsWalked (Each (flat_map f (xs ++ x ∷ [])) S) (AllZip R (xs ++ x ∷ []) (ys ++ y ∷ [])) r
-walked_more S f R xs ys x y p q r h k w =
-    subst (λ zs. IsWalked (Each zs S) (AllZip R (xs ++ x ∷ []) (ys ++ y ∷ [])) r) (sym (flat_push f xs x))
-    (walked_both S (flat_map f xs) (f x) (AllZip R xs ys) (R x y) (AllZip R (xs ++ x ∷ []) (ys ++ y ∷ [])) p q r (λ old new. AllZip-push R xs ys x y old new) h k w)
+  pub finds_one : (r : Reference) (m : Meaning) (old new : Found) → IsMeaning os Seen r m → Adds m old new → Finds os Seen (r ∷ []) old new
+  finds_one r (Named t) old new h adds before so_far = record {
+    least = rw adds.1 (least_append (ReferenceBreaks os Seen) before (r ∷ []) old.fault None old.fault so_far.least (least_single (ReferenceBreaks os Seen) r None h.0) (lesser_none old.fault));
+    means = λ none. rw adds.0 (zip_push (Means os Seen) before old.types.items r t (so_far.means (sym adds.1 ∙ none)) h.1);
+  }
+  finds_one r (Wrong x) old new h adds before so_far = record {
+    least = least_append (ReferenceBreaks os Seen) before (r ∷ []) old.fault (Some x) new.fault so_far.least (least_single (ReferenceBreaks os Seen) r (Some x) h) adds;
+    means = λ none. let bad : Some x ≡ None = lesser_right old.fault (Some x) new.fault adds none in absurd (cc);
+  }
+
+  -- all that is found, where nothing was before
+  pub found_all : (rs : List Reference) (old new : Found) → old.types.items ≡ [] → old.fault ≡ None → Finds os Seen rs old new → AreFound os Seen rs new
+  found_all rs old new types fault h = h [] (record { least = rw fault (least_nil (ReferenceBreaks os Seen)); means = λ none. rw types tt })
+
+  -- ---- what is put
+
+  -- what two lists mean, one behind the other
+  zip_split : (rs qs : List Reference) (types : List NamedType) → AllZip (Means os Seen) (rs ++ qs) types
+      → (ts : List NamedType) × (us : List NamedType) × (types ≡ ts ++ us) × AllZip (Means os Seen) rs ts × AllZip (Means os Seen) qs us
+  zip_split [] qs types all = ([], types, refl, tt, all)
+  zip_split (r ∷ rs) qs [] all = absurd all
+  zip_split (r ∷ rs) qs (t ∷ types) all =
+      let rest = zip_split rs qs types all.1 in
+      (t ∷ rest.0, rest.1, ap (λ (zs : List NamedType). t ∷ zs) rest.2, (all.0, rest.3), rest.4)
+
+  pub puts_nil : (Made : Type 0) (old : List NamedType) → Made → Puts os Seen [] Made old old
+  puts_nil Made old made [] rest all is = (is, made)
+  puts_nil Made old made (t ∷ types) rest all is = absurd all
+
+  pub puts_both : (rs qs : List Reference) (P Q R : Type 0) (a b c : List NamedType) → (P → Q → R) → Puts os Seen rs P a b → Puts os Seen qs Q b c → Puts os Seen (rs ++ qs) R a c
+  puts_both rs qs P Q R a b c join h k types rest all is =
+      let two = zip_split rs qs types all in
+      let first = h two.0 (two.1 ++ rest) two.3 (is ∙ ap (λ (zs : List NamedType). zs ++ rest) two.2 ∙ append_assoc two.0 two.1 rest) in
+      let second = k two.1 rest two.4 first.0 in
+      (second.0, join first.1 second.1)
+
+  -- the same types, of which something else is made
+  pub puts_as : (rs : List Reference) (P Q : Type 0) (a b : List NamedType) → (P → Q) → Puts os Seen rs P a b → Puts os Seen rs Q a b
+  puts_as rs P Q a b turn h types rest all is = let put = h types rest all is in (put.0, turn put.1)
+
+  -- one more item of a list
+  pub puts_more : {X : Type 0} (f : X → List Reference) (R : X → X → Type 0) (xs ys : List X) (x y : X) (a b c : List NamedType) → Puts os Seen (flat_map f xs) (AllZip R xs ys) a b → Puts os Seen (f x) (R x y) b c
+      → Puts os Seen (flat_map f (xs ++ x ∷ [])) (AllZip R (xs ++ x ∷ []) (ys ++ y ∷ [])) a c
+  puts_more f R xs ys x y a b c h k =
+      subst (λ zs. Puts os Seen zs (AllZip R (xs ++ x ∷ []) (ys ++ y ∷ [])) a c) (sym (flat_push f xs x))
+      (puts_both (flat_map f xs) (f x) (AllZip R xs ys) (R x y) (AllZip R (xs ++ x ∷ []) (ys ++ y ∷ [])) a b c (λ old new. zip_push R xs ys x y old new) h k)
+
+-- ---- what is filled
+
+pub filled_nil : {X : Type 0} (refs : List ℕ → X → List Reference) (Typed : List Occurrence → (ℕ → Type 0) → List ℕ → X → X → Type 0) (old : List NamedType) → AreFilled refs Typed [] [] old old
+filled_nil refs Typed old = record { puts = λ os seen scope. puts_nil os (IsSeen seen) (AllZip (Typed os (IsSeen seen) scope) [] []) old tt }
+
+pub filled_more : {X : Type 0} (refs : List ℕ → X → List Reference) (Typed : List Occurrence → (ℕ → Type 0) → List ℕ → X → X → Type 0) (xs ys : List X) (x y : X) (a b c : List NamedType) → AreFilled refs Typed xs ys a b
+    → IsFilled refs Typed x y b c → AreFilled refs Typed (xs ++ x ∷ []) (ys ++ y ∷ []) a c
+filled_more refs Typed xs ys x y a b c h k =
+    record { puts = λ os seen scope. puts_more os (IsSeen seen) (refs scope) (Typed os (IsSeen seen) scope) xs ys x y a b c (h.puts os seen scope) (k.puts os seen scope) }

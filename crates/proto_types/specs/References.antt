@@ -33,8 +33,11 @@ pub record Reference : Type 0 where
   pub wanted : Want
   pub options : List OptionDesc
 
+abbrev pub reference_to : List ℕ → List ℕ → Place → Want → List OptionDesc → Reference
+reference_to scope text place wanted options = record { scope = scope; text = text; place = place; wanted = wanted; options = options }
+
 abbrev pub references_of_type : List ℕ → Want → List OptionDesc → TypeReference → List Reference
-references_of_type scope wanted options (Spelled text place) = record { scope = scope; text = text; place = place; wanted = wanted; options = options } ∷ []
+references_of_type scope wanted options (Spelled text place) = reference_to scope text place wanted options ∷ []
 references_of_type scope wanted options (Resolved full_name what) = []
 
 abbrev pub references_of_kind : List ℕ → List OptionDesc → FieldKind → List Reference

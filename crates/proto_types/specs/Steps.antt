@@ -1,26 +1,23 @@
--- What a walk over the names of types finds and makes.
-use Rattle.std.specs.Prelude.{◌≡◌, ℕ, List, flat_map, Option, None}
+-- Words of private contracts: what a walk over the names of types finds, and what it puts.
+use Rattle.std.specs.Prelude.{◌≡◌, ℕ, Bool, List, [], ◌∷◌, ◌++◌, Option, None, Some, flat_map, string_bytes}
 use Rattle.std.specs.List.{AllZip}
 use Rattle.proto_base.specs.declared.kind.Kind.TheVariants as kind
-use Rattle.proto_desc.specs.declared.field.FieldDesc.{FieldDesc}
-use Rattle.proto_desc.specs.declared.field.FieldKind.{FieldKind}
-use Rattle.proto_desc.specs.declared.file.FileDesc.{FileDesc}
-use Rattle.proto_desc.specs.declared.message.MessageDesc.{MessageDesc}
 use Rattle.proto_desc.specs.declared.name_kind.NameKind.{NameKind}
 use Rattle.proto_desc.specs.declared.name_kind.NameKind.TheVariants as name_kind
 use Rattle.proto_desc.specs.declared.options.OptionDesc.{OptionDesc}
-use Rattle.proto_desc.specs.declared.service.MethodDesc.{MethodDesc}
-use Rattle.proto_desc.specs.declared.service.ServiceDesc.{ServiceDesc}
 use Rattle.proto_desc.specs.declared.type_name.TypeKind.{TypeKind}
 use Rattle.proto_desc.specs.declared.type_name.TypeKind.TheVariants as type_kind
-use Rattle.proto_desc.specs.declared.type_name.TypeReference.{TypeReference}
-use Rattle.proto_base.specs.Least.{IsLeast, spot}
+use Rattle.proto_base.specs.Least.{IsLeast, IsLesser, spot}
 use Rattle.proto_base.specs.Sets.{Each}
 use Rattle.proto_base.specs.declared.spot.Spot.{Spot}
 use Rattle.proto_names.specs.Occurrences.{Occurrence}
-use Rattle.proto_names.specs.declared.resolve.Want.{Want}
-use Rattle.proto_types.specs.References.{Reference, IsPacked, ReferenceBreaks, references_of_type, references_of_kind, references_of_field, references_by_message, references_of_method, references_of_service, references_in}
-use Rattle.proto_types.specs.Typed.{IsTyped, IsTypedKind, IsTypedField, IsTypedMessage, IsTypedMethod, IsTypedService, IsTypedIn}
+use Rattle.proto_names.specs.Resolution.{IsSeen}
+use Rattle.proto_types.specs.References.{Reference, IsPacked, ReferenceBreaks}
+use Rattle.proto_types.specs.Typed.{Means}
+use Rattle.proto_types.specs.declared.found.Found.{Found}
+use Rattle.proto_types.specs.declared.meaning.Meaning.{Meaning}
+use Rattle.proto_types.specs.declared.meaning.Meaning.TheVariants.{Named, Wrong}
+use Rattle.proto_types.specs.declared.meaning.NamedType.{NamedType}
 
 -- of the name of a message or an enum
 abbrev pub type_kind_of : NameKind → TypeKind
@@ -41,44 +38,38 @@ abbrev pub IsPackedFault : TypeKind → List OptionDesc → Option Spot → Type
 IsPackedFault type_kind.Message options fault = IsLeast (Each options SetsPacked) fault
 IsPackedFault type_kind.Enum options fault = fault ≡ None
 
--- the least of the faults, and where there is none, what was to be made
-pub record IsWalked (S : Spot → Type 0) (Made : Type 0) (fault : Option Spot) : Type 0 where
-  pub least : IsLeast S fault
-  pub made : fault ≡ None → Made
+-- what a full name of a type of this kind is found to be, as the type of a field with these options
+abbrev pub IsNaming : List ℕ → TypeKind → List OptionDesc → Meaning → Type 0
+IsNaming full what options (Named t) = IsPackedFault what options None × (string_bytes t.full_name ≡ 46 ∷ full) × (t.kind ≡ what)
+IsNaming full what options (Wrong x) = IsPackedFault what options (Some x)
 
--- some references, with what is made of them
-abbrev pub AreWalked : List Occurrence → (ℕ → Type 0) → List Reference → Type 0 → Option Spot → Type 0
-AreWalked os Seen rs Made fault = IsWalked (Each rs (ReferenceBreaks os Seen)) Made fault
+-- what one reference is found to be
+abbrev pub IsMeaning : List Occurrence → (ℕ → Type 0) → Reference → Meaning → Type 0
+IsMeaning os Seen r (Named t) = IsLeast (ReferenceBreaks os Seen r) None × Means os Seen r t
+IsMeaning os Seen r (Wrong x) = IsLeast (ReferenceBreaks os Seen r) (Some x)
 
-abbrev pub IsWalkedType : List Occurrence → (ℕ → Type 0) → List ℕ → Want → List OptionDesc → TypeReference → TypeReference → Option Spot → Type 0
-IsWalkedType os Seen scope wanted options r g = AreWalked os Seen (references_of_type scope wanted options r) (IsTyped os Seen scope r g)
+-- one more meaning
+abbrev pub Adds : Meaning → Found → Found → Type 0
+Adds (Named t) old new = (new.types.items ≡ old.types.items ++ t ∷ []) × (new.fault ≡ old.fault)
+Adds (Wrong x) old new = IsLesser old.fault (Some x) new.fault
 
-abbrev pub IsWalkedKind : List Occurrence → (ℕ → Type 0) → List ℕ → List OptionDesc → FieldKind → FieldKind → Option Spot → Type 0
-IsWalkedKind os Seen scope options k g = AreWalked os Seen (references_of_kind scope options k) (IsTypedKind os Seen scope k g)
+-- what is found of some references: the least of their faults, and where there is none, what they mean
+pub record AreFound (os : List Occurrence) (Seen : ℕ → Type 0) (rs : List Reference) (found : Found) : Type 0 where
+  pub least : IsLeast (Each rs (ReferenceBreaks os Seen)) found.fault
+  pub means : found.fault ≡ None → AllZip (Means os Seen) rs found.types.items
 
-abbrev pub IsWalkedField : List Occurrence → (ℕ → Type 0) → List ℕ → FieldDesc → FieldDesc → Option Spot → Type 0
-IsWalkedField os Seen scope f g = AreWalked os Seen (references_of_field scope f) (IsTypedField os Seen scope f g)
+-- some more references are found
+abbrev pub Finds : List Occurrence → (ℕ → Type 0) → List Reference → Found → Found → Type 0
+Finds os Seen rs old new = (before : List Reference) → AreFound os Seen before old → AreFound os Seen (before ++ rs) new
 
-abbrev pub AreWalkedFields : List Occurrence → (ℕ → Type 0) → List ℕ → List FieldDesc → List FieldDesc → Option Spot → Type 0
-AreWalkedFields os Seen scope fs gs = AreWalked os Seen (flat_map (references_of_field scope) fs) (AllZip (IsTypedField os Seen scope) fs gs)
+-- of types that begin with what some references mean, these are taken, and something is made
+abbrev pub Puts : List Occurrence → (ℕ → Type 0) → List Reference → Type 0 → List NamedType → List NamedType → Type 0
+Puts os Seen rs Made old new = (types rest : List NamedType) → AllZip (Means os Seen) rs types → old ≡ types ++ rest → (new ≡ rest) × Made
 
-abbrev pub IsWalkedMessage : List Occurrence → (ℕ → Type 0) → List ℕ → MessageDesc → MessageDesc → Option Spot → Type 0
-IsWalkedMessage os Seen scope m g = AreWalked os Seen (references_by_message m scope) (IsTypedMessage os Seen scope m g)
+-- of an item, what its references mean is put, and it is typed: in every scope, whatever is declared and seen
+pub record IsFilled {X : Type 0} (refs : List ℕ → X → List Reference) (Typed : List Occurrence → (ℕ → Type 0) → List ℕ → X → X → Type 0) (x y : X) (old new : List NamedType) : Type 0 where
+  pub puts : (os : List Occurrence) (seen : ℕ → Bool) (scope : List ℕ) → Puts os (IsSeen seen) (refs scope x) (Typed os (IsSeen seen) scope x y) old new
 
-abbrev pub AreWalkedMessages : List Occurrence → (ℕ → Type 0) → List ℕ → List MessageDesc → List MessageDesc → Option Spot → Type 0
-AreWalkedMessages os Seen scope ms gs = AreWalked os Seen (flat_map (λ m. references_by_message m scope) ms) (AllZip (IsTypedMessage os Seen scope) ms gs)
-
-abbrev pub IsWalkedMethod : List Occurrence → (ℕ → Type 0) → List ℕ → MethodDesc → MethodDesc → Option Spot → Type 0
-IsWalkedMethod os Seen scope m g = AreWalked os Seen (references_of_method scope m) (IsTypedMethod os Seen scope m g)
-
-abbrev pub AreWalkedMethods : List Occurrence → (ℕ → Type 0) → List ℕ → List MethodDesc → List MethodDesc → Option Spot → Type 0
-AreWalkedMethods os Seen scope ms gs = AreWalked os Seen (flat_map (references_of_method scope) ms) (AllZip (IsTypedMethod os Seen scope) ms gs)
-
-abbrev pub IsWalkedService : List Occurrence → (ℕ → Type 0) → List ℕ → ServiceDesc → ServiceDesc → Option Spot → Type 0
-IsWalkedService os Seen scope s g = AreWalked os Seen (references_of_service scope s) (IsTypedService os Seen scope s g)
-
-abbrev pub AreWalkedServices : List Occurrence → (ℕ → Type 0) → List ℕ → List ServiceDesc → List ServiceDesc → Option Spot → Type 0
-AreWalkedServices os Seen scope ss gs = AreWalked os Seen (flat_map (references_of_service scope) ss) (AllZip (IsTypedService os Seen scope) ss gs)
-
-abbrev pub IsWalkedIn : List Occurrence → (ℕ → Type 0) → List ℕ → FileDesc → FileDesc → Option Spot → Type 0
-IsWalkedIn os Seen scope f g = AreWalked os Seen (references_in scope f) (IsTypedIn os Seen scope f g)
+-- the same of each item of a list
+pub record AreFilled {X : Type 0} (refs : List ℕ → X → List Reference) (Typed : List Occurrence → (ℕ → Type 0) → List ℕ → X → X → Type 0) (xs ys : List X) (old new : List NamedType) : Type 0 where
+  pub puts : (os : List Occurrence) (seen : ℕ → Bool) (scope : List ℕ) → Puts os (IsSeen seen) (flat_map (refs scope) xs) (AllZip (Typed os (IsSeen seen) scope) xs ys) old new

@@ -1,5 +1,5 @@
 -- A file with each spelled name of a type resolved, and all else as it was.
-use Rattle.std.specs.Prelude.{◌≡◌, ℕ, List, [], ◌∷◌}
+use Rattle.std.specs.Prelude.{◌≡◌, ℕ, List, [], ◌∷◌, string_bytes}
 use Rattle.std.specs.List.{AllZip}
 use Rattle.proto_desc.specs.DeclaredNames.{scoped, file_scope}
 use Rattle.proto_desc.specs.declared.field.FieldDesc.{FieldDesc}
@@ -19,12 +19,17 @@ use Rattle.proto_desc.specs.declared.type_name.TypeReference.{TypeReference}
 use Rattle.proto_desc.specs.declared.type_name.TypeReference.TheVariants.{Spelled, Resolved}
 use Rattle.proto_names.specs.Occurrences.{Occurrence}
 use Rattle.proto_names.specs.Resolution.{Resolves}
-use Rattle.proto_types.specs.References.{field_scope}
+use Rattle.proto_types.specs.References.{Reference, field_scope}
+use Rattle.proto_types.specs.declared.meaning.NamedType.{NamedType}
 
 -- what a type's name is declared for
 abbrev pub named_by : TypeKind → NameKind
 named_by type_kind.Message = name_kind.Message
 named_by type_kind.Enum = name_kind.Enum
+
+-- a name in a file is that of this type
+abbrev pub Means : List Occurrence → (ℕ → Type 0) → Reference → NamedType → Type 0
+Means os Seen r t = (full : List ℕ) × Resolves os Seen r.scope r.text full (named_by t.kind) × (string_bytes t.full_name ≡ 46 ∷ full)
 
 -- a resolved name has its leading dot
 abbrev pub IsTyped : List Occurrence → (ℕ → Type 0) → List ℕ → TypeReference → TypeReference → Type 0

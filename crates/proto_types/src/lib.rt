@@ -3,7 +3,11 @@
 //! The standard is the proto3 language guide, "Packages and Name Resolution".
 #![tactic(auto)]
 
+mod filling;
+mod finder;
+mod found;
+mod meaning;
 mod typing;
-mod typist;
 
-pub use typing::{TypeError, typed, typing_is_unique};
+pub use meaning::NamedType;
+pub use typing::{TypeError, resolve_types, typing_is_unique, with_types};

@@ -1,6 +1,7 @@
 //! Resolving the names of types in a file.
 
-ghost use Rattle.std.specs.Prelude.{◌≡◌, ℕ, ◌<◌, List, Bool, Err, IfOk, Some, true};
+ghost use Rattle.std.specs.Prelude.{◌≡◌, ℕ, ◌<◌, List, Bool, Err, IfOk, OnOk, Some, true};
+ghost use Rattle.std.specs.List.{AllZip};
 ghost use Rattle.proto_base.specs.Least.{IsLeast, spot};
 ghost use Rattle.proto_base.specs.declared.spot.Spot.{Spot};
 ghost use Rattle.proto_desc.specs.Resolved.{file_resolved};
@@ -10,16 +11,20 @@ ghost use Rattle.proto_names.specs.Occurrences.{Occurrence};
 ghost use Rattle.proto_names.specs.Resolution.{AreSeenAlike, IsSeen, SeenBy};
 ghost use Rattle.proto_base.specs.declared.kind.Kind.{Kind};
 ghost use Rattle.proto_base.specs.declared.place.Place.{Place};
-ghost use Rattle.proto_types.specs.References.{TypesBreak};
-ghost use Rattle.proto_types.specs.Typed.{IsTypedFile};
+ghost use Rattle.proto_types.specs.References.{TypesBreak, references};
+ghost use Rattle.proto_types.specs.Typed.{IsTypedFile, Means};
 ghost use Rattle.proto_types.specs.declared.typing.TypeError.TheVariants as errors;
 
-use crate::typist::Typist;
+use crate::filling::fill_file;
+use crate::finder::Finder;
+use crate::found::Found;
+use crate::meaning::NamedType;
 use proto_base::{Kind, Place};
 use proto_desc::file::FileDesc;
 use proto_links::{FileId, Links};
 use proto_names::NameIndex;
 use std::alloc::{AllocError, Global};
+use std::collections::VecDeque;
 use thiserror::Error;
 
 /// Why the types of a file have no meaning.
@@ -40,35 +45,50 @@ impl From<AllocError> for TypeError {
     }
 }
 
-/// The file with each spelled name of a type resolved, among the names that the file sees.
+/// What each name of a type that a file spells means, in the order in which the file names them, among the names that the
+/// file sees.
 ///
 /// `At` is the first fault of the file's types, by place, then by the number of its kind: `TypeNotFound`, `TypeNotMessage`
 /// for a method's type that is an enum, or `PackedOnMessage`. `NoMemory` comes only where the allocator had none.
-pub fn typed<'s>(
+pub fn resolve_types(
     alloc: Global,
     index: &NameIndex,
     links: &Links,
     file: FileId,
-    desc: FileDesc<'s>,
-) -> Result<FileDesc<'s>, TypeError>
+    desc: &FileDesc,
+) -> Result<Vec<NamedType>, TypeError>
     requires links { count_of links.now ≡ index.now.files }
     requires file { file < index.now.files }
-    ensures typed { IfOk result (IsTypedFile index.now.occurrences (SeenBy links.now file) desc.entry) }
-    ensures resolved { IfOk result (λ g. file_resolved g ≡ true) }
-    ensures whole { IfOk result (λ g. (x : Spot) → TypesBreak index.now.occurrences (SeenBy links.now file) desc.entry x → ⊥) }
-    ensures first { (place : Place) (kind : Kind) → result ≡ Err (errors.At place kind) → IsLeast (TypesBreak index.now.occurrences (SeenBy links.now file) desc.entry) (Some (spot place kind)) }
+    ensures types { IfOk result (λ types. AllZip (Means index.now.occurrences (SeenBy links.now file)) (references desc.now) types.items) }
+    ensures whole { OnOk result ((x : Spot) → TypesBreak index.now.occurrences (SeenBy links.now file) desc.now x → ⊥) }
+    ensures first { (place : Place) (kind : Kind) → result ≡ Err (errors.At place kind) → IsLeast (TypesBreak index.now.occurrences (SeenBy links.now file) desc.now) (Some (spot place kind)) }
 {
-    let typist = Typist {
+    let finder = Finder {
         alloc,
         index,
         links,
         file,
     };
-    let walked = typist.file(desc)?;
-    match walked.fault {
-        None => Ok(walked.item),
+    let mut found = Found::new(alloc);
+    finder.file(desc, &mut found)?;
+    match found.fault {
+        None => Ok(found.types),
         Some(fault) => Err(TypeError::At(fault.place, fault.kind)),
     }
+}
+
+/// The file with what its names of types mean in their place, and all else as it was. It fails only for want of memory.
+pub fn with_types<'s>(
+    alloc: Global,
+    desc: FileDesc<'s>,
+    types: Vec<NamedType>,
+) -> Result<FileDesc<'s>, AllocError>
+    ensures typed { (os : List Occurrence) (seen : ℕ → Bool) → AllZip (Means os (IsSeen seen)) (references desc.entry) types.items
+        → IfOk result (IsTypedFile os (IsSeen seen) desc.entry) }
+    ensures resolved { (os : List Occurrence) (seen : ℕ → Bool) → AllZip (Means os (IsSeen seen)) (references desc.entry) types.items
+        → IfOk result (λ g. file_resolved g ≡ true) }
+{
+    fill_file(alloc, desc, &mut VecDeque::from(types))
 }
 
 /// A file with its types resolved is one file: the same occurrences, as far as they are seen, give one, and break the

@@ -4,68 +4,126 @@ ghost use Rattle.std.specs.Prelude.{◌≡◌, ◌<◌, List, length, All, IfOk,
 ghost use Rattle.proto_desc.specs.Resolved.{file_resolved};
 ghost use Rattle.proto_compile.specs.Analysed.{AllZipFrom, AreTypedFrom, IsAnalysed};
 ghost use Rattle.proto_compile.specs.Faults.{IsFirstFault, IsRefusal};
-ghost use Rattle.proto_compile.specs.Outcomes.{IsTyped};
+ghost use Rattle.proto_compile.specs.Outcomes.{AreTypesOf, IsResolved, IsTypedWhole};
 ghost use Rattle.proto_compile.specs.declared.source.Source.{Source};
-ghost use Rattle.proto_links.specs.Linked.{count_of};
+ghost use Rattle.proto_links.specs.Linked.{Linked, count_of};
+ghost use Rattle.proto_names.specs.Index.{Index};
 ghost use Rattle.proto_base.specs.declared.limits.Limits.{Limits};
 
 use crate::error::CompileError;
 use crate::outcome::judge;
 use crate::pass::Pass;
 use crate::source::Source;
+use crate::workers::Workers;
 use proto_desc::file::FileDesc;
 use proto_file::FileError;
 use proto_links::{FileId, Links};
 use proto_names::NameIndex;
-use proto_types::{TypeError, typed};
-use std::alloc::{AllocError, Global};
+use proto_types::{NamedType, TypeError, resolve_types, with_types};
+use share_work::{Gate, Work};
+use std::alloc::{AllocError, AllocGlobal, Global};
+use std::collections::VecDeque;
+use std::thread::Threads;
 
-/// The descriptor of the file at a position with its types resolved, or the first rule of types that it breaks.
-fn resolve<'s>(
+/// The phase of this pass, as a gate is told it.
+const RESOLVING: u8 = 2;
+
+/// What the names of types in the file at a position mean, or the first rule of types that it breaks.
+fn resolve(
     alloc: Global,
     links: &Links,
     index: &NameIndex,
     file: FileId,
-    desc: FileDesc<'s>,
-) -> Result<FileDesc<'s>, FileError>
+    desc: &FileDesc,
+) -> Result<Vec<NamedType>, FileError>
     requires links { file < count_of links.now }
     requires index { index.now.files ≡ count_of links.now }
-    ensures { IsTyped links.now index.now file desc.entry result }
+    ensures { IsResolved links.now index.now file desc.now result }
 {
-    match typed(alloc, index, links, file, desc) {
-        Ok(desc) => Ok(desc),
+    match resolve_types(alloc, index, links, file, desc) {
+        Ok(types) => Ok(types),
         Err(TypeError::At(place, kind)) => Err(FileError::At(0, place, kind)),
         Err(TypeError::NoMemory) => Err(FileError::NoMemory),
     }
 }
 
-/// Each descriptor with its types resolved, or the first rule of types that it breaks.
-fn resolve_each<'s>(
-    alloc: Global,
-    links: &Links,
-    index: &NameIndex,
-    descs: Vec<FileDesc<'s>>,
-) -> Result<Vec<Result<FileDesc<'s>, FileError>>, AllocError>
-    requires links { count_of links.now ≡ length descs.items }
-    requires index { index.now.files ≡ length descs.items }
-    ensures { IfOk result (λ outcomes. AllZipFrom (IsTyped links.now index.now) 0 descs.entry.items outcomes.items) }
-{
-    let mut outcomes = Vec::with_capacity(alloc, descs.len())?;
-    for desc in descs {
-        let file = outcomes.len();
-        outcomes.push(resolve(alloc, links, index, file, desc))?;
+/// Resolves the names of types in files, each by itself.
+#[derive(Drop)]
+struct Resolving<'a> {
+    links: &'a Links,
+    index: &'a NameIndex,
+    ghost indexed: { index.now.files ≡ count_of links.now },
+}
+
+impl<'s> Work<FileDesc<'s>> for Resolving<'_> {
+    ghost use Rattle.std.specs.Prelude.{⊤, ◌<◌, ◌^◌};
+    ghost use Rattle.proto_compile.specs.Outcomes.{IsResolved};
+    ghost use Rattle.proto_links.specs.Linked.{count_of};
+
+    type Out = Result<Vec<NamedType>, FileError>;
+
+    type Seat = ();
+
+    ghost takes = { λ work file _. (file < count_of work.links.now) × (file < 2 ^ 64) };
+
+    ghost fits = { λ _ _. ⊤ };
+
+    ghost gives = { λ work file desc outcome. IsResolved work.links.now work.index.now file desc outcome };
+
+    ghost number = { λ _ _. 0 };
+
+    ghost holds = { λ _ _ _ _. ⊤ };
+
+    ghost adds = { λ _ _ _ _ _. ⊤ };
+
+    fn piece(
+        &self,
+        alloc: Global,
+        _seat: &mut (),
+        first: usize,
+        items: &[FileDesc<'s>],
+    ) -> Result<Vec<Result<Vec<NamedType>, FileError>>, AllocError> {
+        let mut outcomes = Vec::with_capacity(alloc, items.len())?;
+        for (k, desc) in items.iter().enumerate() {
+            outcomes.push(resolve(alloc, self.links, self.index, first + k, desc))?;
+        }
+        Ok(outcomes)
     }
-    Ok(outcomes)
+}
+
+/// The descriptors with their types, of which there is one list for each.
+fn put_types<'s>(
+    alloc: Global,
+    descs: Vec<FileDesc<'s>>,
+    types: Vec<Vec<NamedType>>,
+) -> Result<Vec<FileDesc<'s>>, AllocError>
+    ensures { (links : Linked) (index : Index) → AllZipFrom (AreTypesOf links index) 0 descs.entry.items types.items
+        → IfOk result (λ typed. AllZipFrom (IsTypedWhole links index) 0 descs.entry.items typed.items) }
+{
+    let mut left = VecDeque::from(types);
+    let mut typed = Vec::with_capacity(alloc, descs.len())?;
+    for desc in descs {
+        let own = match left.pop_front() {
+            Some(own) => own,
+            None => Vec::new(alloc),
+        };
+        let filled = with_types(alloc, desc, own)?;
+        typed.push(filled)?;
+    }
+    Ok(typed)
 }
 
 /// The descriptors with their types resolved.
-pub(crate) fn resolve_all<'s>(
-    alloc: Global,
+pub(crate) fn resolve_all<'s, R, G>(
+    workers: &Workers<'_, R, G>,
     files: &[Source],
     links: &Links,
     index: &NameIndex,
     descs: Vec<FileDesc<'s>>,
 ) -> Result<Vec<FileDesc<'s>>, CompileError>
+where
+    R: Threads + AllocGlobal + Sync,
+    G: Gate + Sync,
     requires files { length files.now ≡ length descs.items }
     requires links { count_of links.now ≡ length descs.items }
     requires index { index.now.files ≡ length descs.items }
@@ -73,6 +131,10 @@ pub(crate) fn resolve_all<'s>(
     ensures whole { IfOk result (λ gs. All (λ desc. file_resolved desc ≡ true) gs.items) }
     ensures first { (limits : Limits) (sources : List Source) → IsAnalysed limits sources files.now descs.entry.items links.now index.now → IfErr result (IsRefusal (IsFirstFault limits sources)) }
 {
-    let outcomes = resolve_each(alloc, links, index, descs)?;
-    judge(alloc, Pass::Types, files, outcomes)
+    let alloc = workers.rt.alloc();
+    let work = Resolving { links, index };
+    let outcomes = workers.each(RESOLVING, descs.as_slice(), &work)?;
+    let types = judge(alloc, Pass::Types, files, outcomes)?;
+    let typed = put_types(alloc, descs, types)?;
+    Ok(typed)
 }

@@ -49,14 +49,14 @@ fn holding(phase: u8) -> Held {
     }
 }
 
-/// Sources are described, and descriptors written, each by two workers at once, and the set is that of one.
+/// Sources are described, types resolved and descriptors written, each by two workers at once, and the set is that of one.
 #[test]
 fn compilers_meet(rt: HostRuntime) -> Result<(), Fail> {
     let limits = Limits::standard();
     let plan = Plan::new(2, 1).ok_or("a plan")?;
     let alone = compiled_by(&rt, &THREE_FILES, &limits, Plan::single(), &NoGate)?;
     let set = alone.set_bytes(rt.alloc())?;
-    for phase in [1, 3] {
+    for phase in 1..4 {
         let gate = holding(phase);
         let found = compiled_by(&rt, &THREE_FILES, &limits, plan, &gate)?;
         assert!(rt; found.set_bytes(rt.alloc())? == set, "phase {phase}");

@@ -33,7 +33,7 @@ returns-in_err-index-clause-first g c =
     search (rules, refused)
 
 pub resolve_all-requires-clause-files : goal.resolve_all-requires-clause-files
-resolve_all-requires-clause-files g c =
+resolve_all-requires-clause-files g c κs h =
     let each = rw c.deref.ensures.value at c.in_ok-descs.ensures.described in
     rw c.deref-4.ensures.value (same_length c.args.limits.now c.in_ok-files.files.items c.in_ok-descs.descs.items each)
 

@@ -1,4 +1,4 @@
-use Rattle.std.proofs.Common.{arith, sym, subst, take, ◌+◌, ◌≡◌, List, length}
+use Rattle.std.proofs.Common.{arith, sym, subst, take, ◌+◌, ◌≡◌, List}
 use Rattle.std.proofs.lemmas.List.{take_all}
 use Rattle.proto_compile.specs.Analysed.{AllZipFrom}
 use Rattle.proto_compile.specs.Outcomes.{IsDescribed}

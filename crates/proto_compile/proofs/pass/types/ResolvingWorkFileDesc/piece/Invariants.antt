@@ -1,0 +1,7 @@
+use Rattle.std.proofs.Common.{take}
+use Rattle.proto_compile.specs.Analysed.{AllZipFrom}
+use Rattle.proto_compile.specs.Outcomes.{IsResolved}
+use Rattle.proto_compile.proofs.pass.types.ResolvingWorkFileDesc.piece.Given as goal
+
+abbrev pub invariant-loop-k : goal.invariant-loop-k
+invariant-loop-k l = AllZipFrom (IsResolved l.self.links.now l.self.index.now) l.first (take l.k l.items) l.outcomes.items

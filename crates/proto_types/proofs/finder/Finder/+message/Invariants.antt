@@ -1,0 +1,9 @@
+use Rattle.std.proofs.Common.{take}
+use Rattle.std.specs.Prelude.{flat_map}
+use Rattle.proto_names.specs.Resolution.{SeenBy}
+use Rattle.proto_types.specs.References.{references_by_message}
+use Rattle.proto_types.specs.Steps.{Finds}
+use Rattle.proto_types.proofs.finder.Finder.+message.Given as goal
+
+abbrev pub invariant-loop-nested : goal.invariant-loop-nested
+invariant-loop-nested l = Finds l.self.index.now.occurrences (SeenBy l.self.links.now l.self.file) (flat_map (λ n. references_by_message n l.inside) (take l.nested-index l.nested-items)) l.initial.found l.found

@@ -1,0 +1,204 @@
+//! The walk over a descriptor that finds what its names of types mean. It goes on behind a fault, so that the first one by
+//! place is found.
+
+ghost use Rattle.std.specs.Prelude.{◌≡◌, ◌<◌, flat_map, IfOk, OnOk};
+ghost use Rattle.proto_desc.specs.DeclaredNames.{file_scope};
+ghost use Rattle.proto_links.specs.Linked.{count_of};
+ghost use Rattle.proto_names.specs.Resolution.{SeenBy};
+ghost use Rattle.proto_types.specs.References.{reference_to, references_of_type, references_of_field, references_by_message, references_of_method, references_of_service, references};
+ghost use Rattle.proto_types.specs.Steps.{Finds, IsMeaning};
+
+use crate::found::Found;
+use crate::meaning::{Meaning, meaning_of};
+use proto_base::{Kind, Place, Spot};
+use proto_desc::field::{FieldDesc, FieldKind};
+use proto_desc::file::{FileDesc, PackageDesc};
+use proto_desc::message::MessageDesc;
+use proto_desc::options::OptionDesc;
+use proto_desc::service::{MethodDesc, ServiceDesc};
+use proto_desc::type_name::TypeReference;
+use proto_links::{FileId, Links};
+use proto_names::{NameIndex, ResolveError, Want, name_in};
+use std::alloc::{AllocError, Global};
+
+/// The scope of what stands at the top of a file.
+fn file_scope<'d>(declared: &'d Option<PackageDesc>) -> &'d str
+    ensures { result.now ≡ file_scope declared.now }
+{
+    match declared {
+        Some(package) => package.name.as_str(),
+        None => "",
+    }
+}
+
+/// A file whose names of types are looked up among the names of all files.
+#[derive(Drop)]
+pub(crate) struct Finder<'i> {
+    pub(crate) alloc: Global,
+    pub(crate) index: &'i NameIndex,
+    pub(crate) links: &'i Links,
+    pub(crate) file: FileId,
+    ghost linked: { count_of links.now ≡ index.now.files },
+    ghost known: { file < index.now.files },
+}
+
+impl<'i> Finder<'i> {
+    /// What a spelled name means in a scope, as the type of a field with these options, or of a method.
+    fn meaning(
+        &self,
+        scope: &str,
+        text: &str,
+        place: Place,
+        want: Want,
+        options: &[OptionDesc],
+    ) -> Result<Meaning, AllocError>
+        ensures { IfOk result (IsMeaning self.now.index.now.occurrences (SeenBy self.now.links.now self.now.file) (reference_to scope.now text.now place want options.now)) }
+    {
+        match self
+            .index
+            .resolve(self.alloc, self.links, self.file, scope, text, want)
+        {
+            Ok(found) => meaning_of(self.alloc, &found, options),
+            Err(ResolveError::TypeNotFound) => Ok(Meaning::Wrong(Spot {
+                place,
+                kind: Kind::TypeNotFound,
+            })),
+            Err(ResolveError::TypeNotMessage) => Ok(Meaning::Wrong(Spot {
+                place,
+                kind: Kind::TypeNotMessage,
+            })),
+            Err(ResolveError::NoMemory) => Err(AllocError),
+        }
+    }
+
+    /// The name of a type, in a scope.
+    fn reference(
+        &self,
+        scope: &str,
+        reference: &TypeReference,
+        want: Want,
+        options: &[OptionDesc],
+        found: &mut Found,
+    ) -> Result<(), AllocError>
+        ensures { OnOk result (Finds self.now.index.now.occurrences (SeenBy self.now.links.now self.now.file) (references_of_type scope.now want options.now reference.now) found.old found.new) }
+    {
+        match reference {
+            TypeReference::Spelled { text, place } => {
+                found.add(self.meaning(scope, text.as_str(), *place, want, options)?)
+            }
+            TypeReference::Resolved { .. } => Ok(()),
+        }
+    }
+
+    fn field(&self, scope: &str, field: &FieldDesc, found: &mut Found) -> Result<(), AllocError>
+        ensures { OnOk result (Finds self.now.index.now.occurrences (SeenBy self.now.links.now self.now.file) (references_of_field scope.now field.now) found.old found.new) }
+    {
+        match &field.field_type {
+            FieldKind::Scalar(_) => Ok(()),
+            FieldKind::Named(reference) => {
+                let options = field.options.as_slice();
+                self.reference(scope, reference, Want::AnyType, options, found)
+            }
+        }
+    }
+
+    fn fields(&self, scope: &str, fields: &[FieldDesc], found: &mut Found) -> Result<(), AllocError>
+        ensures { OnOk result (Finds self.now.index.now.occurrences (SeenBy self.now.links.now self.now.file) (flat_map (references_of_field scope.now) fields.now) found.old found.new) }
+    {
+        for field in fields {
+            self.field(scope, field, found)?;
+        }
+        Ok(())
+    }
+
+    /// A message in a scope, with all within it.
+    fn message(
+        &self,
+        scope: &str,
+        message: &MessageDesc,
+        found: &mut Found,
+    ) -> Result<(), AllocError>
+        ensures { OnOk result (Finds self.now.index.now.occurrences (SeenBy self.now.links.now self.now.file) (references_by_message message.now scope.now) found.old found.new) }
+    {
+        let inner = name_in(self.alloc, scope, message.name.as_str())?;
+        // What a map entry names is searched from where its map field stands.
+        let searched = if message.is_map_entry {
+            scope
+        } else {
+            inner.as_str()
+        };
+        self.fields(searched, message.fields.as_slice(), found)?;
+        let inside = inner.as_str();
+        for nested in message.nested.as_slice() {
+            self.message(inside, nested, found)?;
+        }
+        Ok(())
+    }
+
+    fn messages(
+        &self,
+        scope: &str,
+        messages: &[MessageDesc],
+        found: &mut Found,
+    ) -> Result<(), AllocError>
+        ensures { OnOk result (Finds self.now.index.now.occurrences (SeenBy self.now.links.now self.now.file) (flat_map (λ m. references_by_message m scope.now) messages.now) found.old found.new) }
+    {
+        for message in messages {
+            self.message(scope, message, found)?;
+        }
+        Ok(())
+    }
+
+    /// A method of the service of this full name.
+    fn method(
+        &self,
+        service: &str,
+        method: &MethodDesc,
+        found: &mut Found,
+    ) -> Result<(), AllocError>
+        ensures { OnOk result (Finds self.now.index.now.occurrences (SeenBy self.now.links.now self.now.file) (references_of_method service.now method.now) found.old found.new) }
+    {
+        self.reference(service, &method.input, Want::MessageOnly, &[], found)?;
+        self.reference(service, &method.output, Want::MessageOnly, &[], found)
+    }
+
+    /// A service in a scope.
+    fn service(
+        &self,
+        scope: &str,
+        service: &ServiceDesc,
+        found: &mut Found,
+    ) -> Result<(), AllocError>
+        ensures { OnOk result (Finds self.now.index.now.occurrences (SeenBy self.now.links.now self.now.file) (references_of_service scope.now service.now) found.old found.new) }
+    {
+        let full = name_in(self.alloc, scope, service.name.as_str())?;
+        let inside = full.as_str();
+        for method in service.methods.as_slice() {
+            self.method(inside, method, found)?;
+        }
+        Ok(())
+    }
+
+    fn services(
+        &self,
+        scope: &str,
+        services: &[ServiceDesc],
+        found: &mut Found,
+    ) -> Result<(), AllocError>
+        ensures { OnOk result (Finds self.now.index.now.occurrences (SeenBy self.now.links.now self.now.file) (flat_map (references_of_service scope.now) services.now) found.old found.new) }
+    {
+        for service in services {
+            self.service(scope, service, found)?;
+        }
+        Ok(())
+    }
+
+    /// A file, whose package is the scope of what stands at its top.
+    pub(crate) fn file(&self, file: &FileDesc, found: &mut Found) -> Result<(), AllocError>
+        ensures { OnOk result (Finds self.now.index.now.occurrences (SeenBy self.now.links.now self.now.file) (references file.now) found.old found.new) }
+    {
+        let scope = file_scope(&file.package);
+        self.messages(scope, file.messages.as_slice(), found)?;
+        self.services(scope, file.services.as_slice(), found)
+    }
+}

@@ -1,0 +1,99 @@
+//! What one name of a type means, or what is wrong with it.
+
+ghost use Rattle.std.specs.Prelude.{◌≡◌, ◌↔◌, IsTrue, ◌∷◌, IfOk, string_bytes};
+ghost use Rattle.proto_base.specs.Least.{IsLeast};
+ghost use Rattle.proto_base.specs.Sets.{Each};
+ghost use Rattle.proto_types.specs.References.{IsPacked};
+ghost use Rattle.proto_types.specs.Steps.{type_kind_of, SetsPacked, IsNaming};
+
+use proto_base::{Kind, Spot, lesser};
+use proto_desc::name_kind::NameKind;
+use proto_desc::options::{OptionDesc, OptionValue};
+use proto_desc::type_name::TypeKind;
+use proto_names::Resolved;
+use std::alloc::{AllocError, Global};
+
+/// A type that a file names.
+#[derive(Drop)]
+pub struct NamedType {
+    /// Its full name behind a leading dot.
+    pub full_name: String,
+    pub kind: TypeKind,
+}
+
+/// What a name of a type was found to be.
+#[derive(Drop)]
+pub(crate) enum Meaning {
+    Named(NamedType),
+    /// The first thing that is wrong with it.
+    Wrong(Spot),
+}
+
+/// A message, or else an enum.
+fn type_kind(kind: NameKind) -> TypeKind
+    ensures { result ≡ type_kind_of kind }
+{
+    match kind {
+        NameKind::Message => TypeKind::Message,
+        _ => TypeKind::Enum,
+    }
+}
+
+/// `packed`, field 2 of `FieldOptions`.
+const PACKED: u32 = 2;
+
+/// Whether an option is `packed = true`.
+fn is_packed(option: &OptionDesc) -> bool
+    ensures { IsTrue result ↔ IsPacked option.now }
+{
+    option.number == PACKED && matches!(option.value, OptionValue::Number(1))
+}
+
+/// The first option that sets `packed`, as a fault.
+fn packed_fault(options: &[OptionDesc]) -> Option<Spot>
+    ensures { IsLeast (Each options.now SetsPacked) result }
+{
+    let mut first = None;
+    for option in options {
+        if is_packed(option) {
+            let here = Some(Spot {
+                place: option.place,
+                kind: Kind::PackedOnMessage,
+            });
+            first = lesser(first, here);
+        }
+    }
+    first
+}
+
+/// A full name behind a leading dot.
+fn absolute(alloc: Global, full_name: &str) -> Result<String, AllocError>
+    ensures { IfOk result (λ absolute. string_bytes absolute ≡ 46 ∷ full_name.now) }
+{
+    let mut absolute = String::with_capacity(alloc, full_name.len().saturating_add(1))?;
+    absolute.push_str(".")?;
+    absolute.push_str(full_name)?;
+    Ok(absolute)
+}
+
+/// What a name was found to be, as the type of a field with these options.
+pub(crate) fn meaning_of(
+    alloc: Global,
+    found: &Resolved,
+    options: &[OptionDesc],
+) -> Result<Meaning, AllocError>
+    ensures { IfOk result (IsNaming (string_bytes found.now.full_name) (type_kind_of found.now.kind) options.now) }
+{
+    let kind = type_kind(found.kind);
+    let fault = match kind {
+        TypeKind::Message => packed_fault(options),
+        TypeKind::Enum => None,
+    };
+    match fault {
+        Some(fault) => Ok(Meaning::Wrong(fault)),
+        None => Ok(Meaning::Named(NamedType {
+            full_name: absolute(alloc, found.full_name.as_str())?,
+            kind,
+        })),
+    }
+}
