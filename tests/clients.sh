@@ -35,6 +35,8 @@ prints 'the services' <<'TEXT'
 shop.catalog.CatalogService
 shop.orders.OrderService
 shop.reports.v1.ReportService
+tour.Guide
+tour.Nobody
 TEXT
 prints 'a service with its methods and messages' shop.orders.OrderService <<'TEXT'
 PlaceOrder: shop.orders.PlaceOrderRequest -> shop.orders.PlaceOrderResponse

@@ -66,6 +66,25 @@ while read -r number title; do
     fi
 done <"$folder/titles"
 
+# `explain` prints the entries of docs/FAULTS.md but for what protoc says, sources and lines set in by four blanks.
+awk -v folder="$folder" '
+    /^### / { close(entry); entry = folder "/" substr($0, 5) ".entry"; print substr($0, 5) > entry; next }
+    /^## / { close(entry); entry = "" }
+    entry == "" { next }
+    /^```/ { inside = !inside; next }
+    !inside && /^protoc/ { next }
+    { line = inside && $0 != "" ? "    " $0 : $0 }
+    line == "" { blank = 1; next }
+    { if (blank) print "" > entry; blank = 0; print line > entry }
+' docs/FAULTS.md
+"$program" explain >"$folder/kinds" || fail "explain: status $?"
+sed 's/ .*//' "$folder/kinds" | diff <(sed -n 's/^### //p' docs/FAULTS.md) - || fail 'explain lists other kinds than the page'
+while read -r kind meaning; do
+    "$program" explain "$kind" >"$folder/explained" || fail "explain $kind: status $?"
+    diff "$folder/$kind.entry" "$folder/explained" || fail "explain $kind says something else than the page"
+    [ "$meaning" = "$(sed -n 3p "$folder/$kind.entry")" ] || fail "explain lists $kind with another meaning"
+done <"$folder/kinds"
+
 # The kinds of the program are those of the page, in their order.
 sed -n '/^pub enum Kind {/,/^}/s/^    \([A-Z][A-Za-z0-9]*\) = .*/\1/p' crates/proto_base/src/kind.rt | sort >"$folder/named"
 sed -n 's/^### //p' docs/FAULTS.md | sort | diff "$folder/named" - || fail 'other kinds than the program has'

@@ -39,6 +39,8 @@ a.proto compile --root . a.proto
 two compile --root . --workers two
 0 compile --root . --cut 0
 4097 compile --root . --cut 4097
+UnexpectedEnd explain Unexpectd
+--output compile --root . --output
 LINES
 
 # Help: a word of it, and the command line.
@@ -53,6 +55,7 @@ done <<'LINES'
 compile --help
 NAME describe --help
 --workers compile --help
+schema_server --version
 LINES
 
 # device NAME INPUT OUTPUT WORD..: a run that this device ends.
@@ -74,6 +77,49 @@ device output "$point" /dev/full --help
 device output "$point" /dev/full compile --root "$folder/sources"
 device folder "$point" "$folder/output" compile --root "$folder/none"
 device folder "$point" "$folder/output" compile --root "$point"
+
+# The version, with the kit that README names.
+kit=$(sed -n 's/^With the kit `\(.*\)`:$/\1/p' README.md)
+if [ "$("$program" --version)" != "schema_server 1.0.0, $kit" ]; then
+    failed "--version: $("$program" --version)" "$?"
+fi
+
+# A set that goes to a file: the bytes that the output would have, and nothing else, there or beside it.
+mkdir "$folder/written"
+set_file=$folder/written/set.pb
+"$program" compile --root examples >"$folder/set"
+for turn in new again; do
+    "$program" compile --root examples --output "$set_file" >"$folder/output" 2>"$folder/faults"
+    got=$?
+    if [ "$got" != 0 ] || [ -s "$folder/output" ] || [ -s "$folder/faults" ] || ! cmp "$set_file" "$folder/set" ||
+        [ "$(ls -A "$folder/written")" != set.pb ]; then
+        failed "compile --output, $turn" "$got"
+    fi
+    echo 'what stood there' >"$set_file"
+done
+# What stood there stays where the sources have a fault, and where the file cannot be written.
+echo 'syntax = "proto3"; message A {' >"$folder/sources/p/half.proto"
+"$program" compile --root "$folder/sources/p" --output "$set_file" >"$folder/output" 2>"$folder/faults"
+got=$?
+if [ "$got" != 1 ] || [ "$(cat "$set_file")" != 'what stood there' ] || [ "$(ls -A "$folder/written")" != set.pb ]; then
+    failed 'compile --output of a fault' "$got"
+fi
+rm "$folder/sources/p/half.proto"
+device output "$point" "$folder/output" compile --root examples --output "$folder/none/set.pb"
+device output "$point" "$folder/output" compile --root examples --output "$folder/written"
+(
+    ulimit -f 1
+    trap '' XFSZ
+    device output "$point" "$folder/output" compile --root examples --output "$set_file"
+    [ "$failures" = 0 ]
+) || failures=$((failures + 1))
+if [ "$(cat "$set_file")" != 'what stood there' ] || [ "$(ls -A "$folder/written")" != set.pb ]; then
+    failed 'compile --output where there is no room' "$?"
+fi
+# What is no file is written to where it stands.
+"$program" compile --root examples --output /dev/stdout >"$folder/output" 2>"$folder/faults" || failed '--output /dev/stdout' "$?"
+"$program" compile --root examples --output /dev/null || failed '--output /dev/null' "$?"
+[ -c /dev/null ] || failed '/dev/null is no device any more' 1
 
 # A root by another way to it.
 printf 'syntax = "proto3"; import "p/c.proto";' >"$folder/sources/p/d.proto"

@@ -16,7 +16,7 @@ sweep() {
     local what=$1 status=$2 faults=$4 input=$5 at=1
     printf '%b' "$3" >"$folder/wanted"
     shift 5
-    while [ "$at" -le 3000 ]; do
+    while [ "$at" -le 9000 ]; do
         printf '%b' "$input" | env "$what=$at" LD_PRELOAD="$folder/refuse.so" "$program" "$@" >"$folder/output" 2>"$folder/faults" 9>"$folder/refused"
         local got=$?
         local as_usual=0 no_memory=0
@@ -34,7 +34,7 @@ sweep() {
         fi
         at=$((at + 1))
     done
-    echo "$*: no end after 3,000"
+    echo "$*: no end after 9,000"
     failures=$((failures + 1))
 }
 
@@ -53,6 +53,14 @@ for words in '--workers 1' '--workers 2 --cut 1'; do
     sweep REFUSE_AT 0 "$set" '' '' compile --root "$folder/sources" $words
 done
 sweep REFUSE_THREAD_AT 0 "$set" '' '' compile --root "$folder/sources" --workers 2 --cut 1
+# Into a file: it is whole in the end, and stands alone in its folder.
+mkdir "$folder/written"
+sweep REFUSE_AT 0 '' '' '' compile --root "$folder/sources" --workers 1 --output "$folder/written/set.pb"
+if [ "$(ls -A "$folder/written")" != set.pb ] || ! printf '%b' "$set" | cmp - "$folder/written/set.pb"; then
+    echo "a set that goes to a file: $(ls -A "$folder/written")"
+    failures=$((failures + 1))
+fi
+sweep REFUSE_AT 0 "$(./schema_server explain TooDeep | sed 's/\\/\\\\/g')"'\n' '' '' explain TooDeep
 sweep REFUSE_AT 1 '' 'a.proto:1:27: ImportMissing' '' compile --root "$folder/bad" --workers 1
 # Two requests for the services, whose replies have no file.
 body='\0\0\0\0\02:\0\0\0\0\0\02:\0'
@@ -62,4 +70,16 @@ for words in '--workers 1' '--workers 2 --cut 1'; do
     sweep REFUSE_AT 0 "$reply$reply"'\0200\0\0\0\017grpc-status:0\r\n' '' "$body" answer --root "$folder/sources" $words
 done
 sweep REFUSE_THREAD_AT 0 "$reply$reply"'\0200\0\0\0\017grpc-status:0\r\n' '' "$body" answer --root "$folder/sources" --workers 2 --cut 1
+# The examples by four workers, and a body that asks for each of their files: the bytes are those of a run without a refusal,
+# which tests/examples.sh and tests/answers.sh show to be right.
+printf_bytes() {
+    od -An -v -tx1 "$1" | tr -d ' \n' | sed 's/../\\x&/g'
+}
+while IFS= read -r name; do
+    printf "\\x00\\x00\\x00\\x00\\x$(printf %02x $((${#name} + 2)))\\x1a\\x$(printf %02x ${#name})%s" "$name"
+done <tests/examples/order >"$folder/body"
+"$program" compile --root examples --workers 1 >"$folder/set"
+"$program" answer --root examples --workers 1 <"$folder/body" >"$folder/response"
+sweep REFUSE_AT 0 "$(printf_bytes "$folder/set")" '' '' compile --root examples --workers 4 --cut 1
+sweep REFUSE_AT 0 "$(printf_bytes "$folder/response")" '' "$(printf_bytes "$folder/body")" answer --root examples --workers 4 --cut 1
 [ "$failures" = 0 ]

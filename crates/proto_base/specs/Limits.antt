@@ -21,8 +21,8 @@ limit_of l limit.Requests = l.requests
 -- the greatest value of a limit
 abbrev pub standard_of : Limit → ℕ
 standard_of limit.FileBytes = 4194304
-standard_of limit.Files = 4096
-standard_of limit.Depth = 32
+standard_of limit.Files = 16384
+standard_of limit.Depth = 64
 standard_of limit.NameBytes = 255
 standard_of limit.FullNameBytes = 1023
 standard_of limit.Names = 1048576

@@ -44,8 +44,8 @@ pub struct Limits {
     message_bytes: u64,
     requests: u64,
     ghost file_bytes_bound: { file_bytes ≤ 4_194_304 },
-    ghost files_bound: { files ≤ 4_096 },
-    ghost depth_bound: { depth ≤ 32 },
+    ghost files_bound: { files ≤ 16_384 },
+    ghost depth_bound: { depth ≤ 64 },
     ghost name_bytes_bound: { name_bytes ≤ 255 },
     ghost full_name_bytes_bound: { full_name_bytes ≤ 1_023 },
     ghost names_bound: { names ≤ 1_048_576 },
@@ -66,8 +66,8 @@ impl Limits {
     {
         Limits {
             file_bytes: 4_194_304,
-            files: 4_096,
-            depth: 32,
+            files: 16_384,
+            depth: 64,
             name_bytes: 255,
             full_name_bytes: 1_023,
             names: 1_048_576,

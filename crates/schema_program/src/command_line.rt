@@ -17,6 +17,8 @@ pub(crate) enum Task<'a> {
     Compile {
         root: &'a str,
         plan: Plan,
+        /// The file that the set goes to; without one it goes to the output.
+        file: Option<&'a str>,
     },
     /// Answer the request body on the input, over the sources below a folder.
     Answer {
@@ -33,7 +35,14 @@ pub(crate) enum Task<'a> {
         /// How many connections are served; without a count there is no end.
         connections: Option<u64>,
     },
+    /// Explain a kind of fault, or list all kinds.
+    Explain {
+        kind: Option<&'a str>,
+    },
 }
+
+/// The version that `--version` prints: the program's, and the kit that proved it.
+static VERSION: &str = "1.0.0, rattle-kit-13b logic dac8208d650f15bf";
 
 fn describe_command<'a>(alloc: Global) -> Result<Command<'a>, AllocError> {
     let name = Arg::new(alloc, "name")
@@ -82,10 +91,20 @@ fn with_plan<'a>(alloc: Global, command: Command<'a>) -> Result<Command<'a>, All
         .arg(count_argument(alloc, "cut", 4096, "16", cut_help))
 }
 
+fn output_argument<'a>(alloc: Global) -> Arg<'a> {
+    Arg::new(alloc, "output")
+        .long("output")
+        .value_name("FILE")
+        .help(
+            "write the set to this file and not to standard output; the file stays as it was unless the whole set is written",
+        )
+}
+
 fn compile_command<'a>(alloc: Global) -> Result<Command<'a>, AllocError> {
     let command = Command::new(alloc, "compile")
         .about("Compiles the proto3 sources below a folder and writes their FileDescriptorSet")
-        .arg(root_argument(alloc))?;
+        .arg(root_argument(alloc))?
+        .arg(output_argument(alloc))?;
     with_plan(alloc, command)
 }
 
@@ -132,6 +151,16 @@ fn serve_command<'a>(alloc: Global) -> Result<Command<'a>, AllocError> {
     with_plan(alloc, command)
 }
 
+fn explain_command<'a>(alloc: Global, kinds: &'a [&'a str]) -> Result<Command<'a>, AllocError> {
+    let kind = Arg::new(alloc, "kind")
+        .value_name("KIND")
+        .value_parser(kinds)
+        .help("the kind of a fault, as it is printed behind its line and column; without it all kinds are listed");
+    Command::new(alloc, "explain")
+        .about("Prints what a kind of fault means, the smallest source that has it, and its cure")
+        .arg(kind)
+}
+
 fn mode_of(matches: &ArgMatches<'_>) -> Mode {
     if matches.get_flag("repeat") {
         Mode::Repeat
@@ -147,25 +176,33 @@ fn plan_of(matches: &ArgMatches<'_>) -> Plan {
     Plan::new(workers, cut).unwrap_or(Plan::single())
 }
 
-fn whole_command<'a>(alloc: Global) -> Result<Command<'a>, AllocError> {
+fn whole_command<'a>(alloc: Global, kinds: &'a [&'a str]) -> Result<Command<'a>, AllocError> {
     let describe = describe_command(alloc)?;
     let compile = compile_command(alloc)?;
     let answer = answer_command(alloc)?;
     let serve = serve_command(alloc)?;
+    let explain = explain_command(alloc, kinds)?;
     Command::new(alloc, "schema_server")
         .about(
             "A schema server for Protocol Buffers: compiles proto3 sources to descriptors and answers reflection",
         )
+        .version(VERSION)
         .subcommand_required(true)
         .subcommand(describe)?
         .subcommand(compile)?
         .subcommand(answer)?
-        .subcommand(serve)
+        .subcommand(serve)?
+        .subcommand(explain)
 }
 
-/// The task that the words give, whose first is the program's name, or `clap`'s text for the user.
-pub(crate) fn task_of<'a>(alloc: Global, words: &'a [&'a str]) -> Result<Task<'a>, Error> {
-    let mut command = whole_command(alloc)?;
+/// The task that the words give, whose first is the program's name, or `clap`'s text for the user. `kinds` are the names that
+/// can be explained.
+pub(crate) fn task_of<'a>(
+    alloc: Global,
+    words: &'a [&'a str],
+    kinds: &'a [&'a str],
+) -> Result<Task<'a>, Error> {
+    let mut command = whole_command(alloc, kinds)?;
     let matches = command.try_get_matches_from_mut(words)?;
     match matches.subcommand() {
         Some(("describe", describe)) => Ok(Task::Describe {
@@ -174,6 +211,7 @@ pub(crate) fn task_of<'a>(alloc: Global, words: &'a [&'a str]) -> Result<Task<'a
         Some(("compile", compile)) => Ok(Task::Compile {
             root: compile.get_str("root").unwrap_or(""),
             plan: plan_of(compile),
+            file: compile.get_str("output"),
         }),
         Some(("answer", answer)) => Ok(Task::Answer {
             root: answer.get_str("root").unwrap_or(""),
@@ -186,6 +224,9 @@ pub(crate) fn task_of<'a>(alloc: Global, words: &'a [&'a str]) -> Result<Task<'a
             plan: plan_of(serve),
             mode: mode_of(serve),
             connections: serve.get_one::<u64>("connections"),
+        }),
+        Some(("explain", explain)) => Ok(Task::Explain {
+            kind: explain.get_str("kind"),
         }),
         _ => Err(command.error(ErrorKind::MissingSubcommand, "no command was given")?),
     }

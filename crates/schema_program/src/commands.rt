@@ -1,8 +1,10 @@
 //! The commands: what each reads, and what it writes.
 
+use crate::explanation::{write_kind, write_kinds};
 use crate::failure::{Failure, located};
 use crate::headline::set_of_sources;
 use crate::one_source::describe;
+use crate::whole_file::write_whole;
 use grpcweb_core::{Counted, Mode, answer_io};
 use grpcweb_service::serve;
 use proto_base::{Limit, Limits};
@@ -84,22 +86,26 @@ fn sources_of<'s>(alloc: Global, texts: &'s [NamedText]) -> Result<Vec<Source<'s
     Ok(sources)
 }
 
-/// Compiles the sources below a folder.
+/// Compiles the sources below a folder, and writes the set to a file or, without one, to the output.
 pub(crate) fn run_compile<R, O>(
     rt: &R,
     root: &str,
     plan: Plan,
+    file: Option<&str>,
     output: &mut O,
 ) -> Result<(), Failure>
 where
-    R: Threads + Files + AllocGlobal + Sync,
+    R: Threads + Files + RandomSource + AllocGlobal + Sync,
     O: Write,
 {
     let limits = Limits::standard();
     let texts = read_folder(rt, root, &limits)?;
     let sources = sources_of(rt.alloc(), &texts)?;
     match set_of_sources(rt, &sources, &limits, plan, &NoGate) {
-        Ok(set) => write_bytes(output, &set),
+        Ok(set) => match file {
+            Some(path) => write_whole(rt, path, &set),
+            None => write_bytes(output, &set),
+        },
         Err(CompileError::NoMemory) => Err(Failure::NoMemory),
         Err(CompileError::First(fault)) => Err(located(fault, &sources)),
     }
@@ -185,4 +191,13 @@ where
         connections,
     )?;
     Ok(())
+}
+
+/// Explains a kind of fault, or lists all kinds.
+pub(crate) fn run_explain<O: Write>(kind: Option<&str>, output: &mut O) -> Result<(), Failure> {
+    let written = match kind {
+        Some(name) => write_kind(output, name),
+        None => write_kinds(output),
+    };
+    written.map_err(|_| Failure::Output)
 }

@@ -3,7 +3,8 @@
 ghost use Rattle.std.specs.Prelude.{◌≤◌};
 
 use crate::command_line::{Task, task_of};
-use crate::commands::{run_answer, run_compile, run_describe, run_serve};
+use crate::commands::{run_answer, run_compile, run_describe, run_explain, run_serve};
+use crate::explanation::kind_names;
 use crate::failure::{Failure, Status};
 use clap::Error;
 use clap::error::ErrorKind;
@@ -16,11 +17,11 @@ use std::sync::Wait;
 use std::thread::Threads;
 use std::time::Clock;
 
-/// Prints what `clap` has to say: help on the output, and what is wrong with the words on the faults.
-fn explain<O: Write, E: Write>(error: Error, output: &mut O, faults: &mut E) -> Status {
+/// Prints what `clap` has to say: help and the version on the output, and what is wrong with the words on the faults.
+fn print_usage<O: Write, E: Write>(error: Error, output: &mut O, faults: &mut E) -> Status {
     match error.kind() {
         ErrorKind::OutOfMemory => report(Failure::NoMemory, faults),
-        ErrorKind::DisplayHelp => {
+        ErrorKind::DisplayHelp | ErrorKind::DisplayVersion => {
             if write!(output, "{error}").is_err() || output.flush().is_err() {
                 return report(Failure::Output, faults);
             }
@@ -52,10 +53,14 @@ where
 {
     let mut output = output;
     let mut faults = faults;
-    let done = match task_of(rt.alloc(), words) {
-        Err(error) => return explain(error, &mut output, &mut faults) as u8,
+    let Ok(kinds) = kind_names(rt.alloc()) else {
+        return report(Failure::NoMemory, &mut faults) as u8;
+    };
+    let done = match task_of(rt.alloc(), words, &kinds) {
+        Err(error) => return print_usage(error, &mut output, &mut faults) as u8,
         Ok(Task::Describe { name }) => run_describe(rt, name, input, &mut output),
-        Ok(Task::Compile { root, plan }) => run_compile(rt, root, plan, &mut output),
+        Ok(Task::Compile { root, plan, file }) => run_compile(rt, root, plan, file, &mut output),
+        Ok(Task::Explain { kind }) => run_explain(kind, &mut output),
         Ok(Task::Answer { root, plan, mode }) => run_answer(rt, root, plan, mode, input, output),
         Ok(
             Task::Serve {

@@ -4,9 +4,11 @@ use super::fixtures::{THREE_FILES, compiled_by, response};
 use proto_base::Limits;
 use reflect_core::Mode;
 use share_work::{Gate, NoGate, Plan};
+use std::alloc::AllocGlobal;
 use std::process::Abort;
 use std::sync::atomic::{AtomicU64, Ordering};
 use std::test::Fail;
+use std::thread::Threads;
 
 /// How often the worker of piece 0 looks for that of piece 1 before the test fails.
 const TURNS: u64 = 1_000_000_000;
@@ -49,17 +51,25 @@ fn holding(phase: u8) -> Held {
     }
 }
 
+/// The set of the three files by the workers of a plan.
+fn set_by<R, G>(rt: &R, plan: Plan, gate: &G) -> Result<Vec<u8>, Fail>
+where
+    R: Threads + AllocGlobal + Sync,
+    G: Gate + Sync,
+{
+    let compiled = compiled_by(rt, &THREE_FILES, &Limits::standard(), plan, gate)?;
+    Ok(compiled.set_bytes(rt.alloc())?)
+}
+
 /// Sources are described, types resolved and descriptors written, each by two workers at once, and the set is that of one.
 #[test]
 fn compilers_meet(rt: HostRuntime) -> Result<(), Fail> {
-    let limits = Limits::standard();
     let plan = Plan::new(2, 1).ok_or("a plan")?;
-    let alone = compiled_by(&rt, &THREE_FILES, &limits, Plan::single(), &NoGate)?;
-    let set = alone.set_bytes(rt.alloc())?;
+    let alone = set_by(&rt, Plan::single(), &NoGate)?;
     for phase in 1..4 {
         let gate = holding(phase);
-        let found = compiled_by(&rt, &THREE_FILES, &limits, plan, &gate)?;
-        assert!(rt; found.set_bytes(rt.alloc())? == set, "phase {phase}");
+        let found = set_by(&rt, plan, &gate)?;
+        assert!(rt; found == alone, "phase {phase}");
         assert!(rt;
             gate.missed.load(Ordering::SeqCst) == 0,
             "phase {phase}: nobody came"

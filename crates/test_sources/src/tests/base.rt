@@ -41,8 +41,8 @@ static KINDS: [(Kind, u8, &str); 14] = [
 
 static LIMITS: [(Limit, u64); 11] = [
     (Limit::FileBytes, 4_194_304),
-    (Limit::Files, 4_096),
-    (Limit::Depth, 32),
+    (Limit::Files, 16_384),
+    (Limit::Depth, 64),
     (Limit::NameBytes, 255),
     (Limit::FullNameBytes, 1_023),
     (Limit::Names, 1_048_576),

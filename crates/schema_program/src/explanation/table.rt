@@ -1,0 +1,503 @@
+//! The explanation of each kind: what it means, where it stands, the smallest source that has it or the commands that write one,
+//! the line that is printed, and the cure. docs/FAULTS.md has the same words, and what protoc says of each source.
+
+use proto_base::Kind;
+
+/// All kinds, in the order of the passes that tell them.
+pub(super) static KINDS: [Kind; 46] = [
+    Kind::TooManyFiles,
+    Kind::FileNameTwice,
+    Kind::NotUtf8,
+    Kind::BadByte,
+    Kind::BadNumber,
+    Kind::NumberTooBig,
+    Kind::BadEscape,
+    Kind::UnclosedString,
+    Kind::UnclosedComment,
+    Kind::FileTooLong,
+    Kind::Unexpected,
+    Kind::CustomOption,
+    Kind::LeftOut,
+    Kind::TooDeep,
+    Kind::UnexpectedEnd,
+    Kind::NotProto3Syntax,
+    Kind::PackageTwice,
+    Kind::ImportTwice,
+    Kind::UnknownOption,
+    Kind::OptionTwice,
+    Kind::BadOptionValue,
+    Kind::FieldNumberRange,
+    Kind::FieldNumberTwice,
+    Kind::ReservedNumberUsed,
+    Kind::ReservedNameUsed,
+    Kind::ReservedOverlap,
+    Kind::ReservedNameTwice,
+    Kind::ReservedBackwards,
+    Kind::JsonNameTwice,
+    Kind::PackedOnWrongKind,
+    Kind::JstypeOnWrongKind,
+    Kind::EnumEmpty,
+    Kind::EnumFirstNotZero,
+    Kind::EnumNumberRange,
+    Kind::EnumNumberTwice,
+    Kind::OneofEmpty,
+    Kind::NameTooLong,
+    Kind::ImportMissing,
+    Kind::ImportCycle,
+    Kind::NameTwice,
+    Kind::TooManyNames,
+    Kind::TypeNotFound,
+    Kind::TypeNotMessage,
+    Kind::PackedOnMessage,
+    Kind::DescriptorTooLong,
+    Kind::SetTooLong,
+];
+
+/// What is said of a kind. The first line says what it means.
+pub(super) fn explanation_of(kind: Kind) -> &'static str {
+    match kind {
+        Kind::TooManyFiles => "There are more than 16,384 files below the root.
+
+Where: no file, and line 1, column 1.
+
+    for i in $(seq 16385); do : > $i.proto; done
+
+    :1:1: TooManyFiles
+
+Cure: Compile a folder further below.",
+        Kind::FileNameTwice => "Two sources have one name. A folder has no two such files: it is met only where sources come from elsewhere.
+
+Where: the start of the file.
+
+Cure: Give each source a name of its own.",
+        Kind::NotUtf8 => r#"The file holds bytes that are no UTF-8, at the first byte that belongs to no whole character. Comments and strings count.
+
+Where: that byte.
+
+    printf 'syntax = "proto3";\n// caf\351\n' > a.proto
+
+    a.proto:2:7: NotUtf8
+
+Cure: Save the file as UTF-8 (`iconv -f latin1 -t utf-8`)."#,
+        Kind::BadByte => r#"A byte outside comments and strings that begins no token: a control character, or one beyond ASCII.
+
+Where: that byte.
+
+    syntax = "proto3";
+    message é {}
+
+    a.proto:2:9: BadByte
+
+Cure: Names are ASCII letters, digits and `_`. An invisible character, such as a no-break space, is often what stands there."#,
+        Kind::BadNumber => r#"No digit stands behind `0x`, or a letter, a digit, `_` or `.` follows a number directly. Floating-point numbers are no tokens here.
+
+Where: the number's first digit.
+
+    syntax = "proto3";
+    message A { int32 x = 08; }
+
+    a.proto:2:23: BadNumber
+
+Cure: A number that begins with 0 is octal: write `8`. A default or an option with a floating-point value is not part of this language."#,
+        Kind::NumberTooBig => r#"A number is over 18,446,744,073,709,551,615.
+
+Where: the number's first digit.
+
+    syntax = "proto3";
+    message A { int32 x = 18446744073709551616; }
+
+    a.proto:2:23: NumberTooBig
+
+Cure: Field numbers go to 536,870,911, enum numbers to 2,147,483,647."#,
+        Kind::BadEscape => r#"A backslash in a string that begins no escape, or whose digits are missing or name no character.
+
+Where: the backslash, or the opening quote where each escape is one and the value of the whole string is no UTF-8.
+
+    syntax = "proto3";
+    option java_package = "a\q";
+
+    a.proto:2:25: BadEscape
+
+Cure: Write `\\` for a backslash. The escapes are those of the specification; a pair of surrogates is not taken as one character."#,
+        Kind::UnclosedString => r#"A string ends at the end of its line or of the file, without its quote.
+
+Where: its opening quote.
+
+    syntax = "proto3";
+    option java_package = "a;
+
+    a.proto:2:23: UnclosedString
+
+Cure: Close the quote on the same line. Adjacent strings join, so a long text can stand on several lines."#,
+        Kind::UnclosedComment => r#"A comment that `/*` begins has no `*/`.
+
+Where: its `/`.
+
+    syntax = "proto3";
+    /* message A {}
+
+    a.proto:2:1: UnclosedComment
+
+Cure: Close it. Comments do not nest: the first `*/` ends one."#,
+        Kind::FileTooLong => r#"The file has more than 4,194,304 bytes.
+
+Where: the start of the file.
+
+    { echo 'syntax = "proto3";'; head -c 4194304 /dev/zero | tr '\0' ' '; } > a.proto
+
+    a.proto:1:1: FileTooLong
+
+Cure: Split the file."#,
+        Kind::Unexpected => r#"This token cannot stand here.
+
+Where: that token.
+
+    syntax = "proto3";
+    message A { int32 x }
+
+    a.proto:2:21: Unexpected
+
+Cure: Look at what stands before it: most often a `;`, a `=` or a type is missing."#,
+        Kind::CustomOption => r#"An option's name begins with `(`: an option that somebody declared with `extend`. Custom options are left out of this language.
+
+Where: the `(`.
+
+    syntax = "proto3";
+    message A { option (mine) = 1; }
+
+    a.proto:2:20: CustomOption
+
+Cure: Keep such options in the sources of the tools that read them; they are not written to a descriptor here."#,
+        Kind::LeftOut => r#"A word of proto2 or of editions where it would begin a statement: `extend`, `extensions`, `group`, `required`, `weak`.
+
+Where: that word.
+
+    syntax = "proto3";
+    message A { required int32 x = 1; }
+
+    a.proto:2:13: LeftOut
+
+Cure: Leave out `required`; turn a `group` into a message and a field. Files of proto2 are for protoc."#,
+        Kind::TooDeep => r#"Messages stand in one another more than 64 deep.
+
+Where: the first token too deep.
+
+    { echo 'syntax = "proto3";'; for i in $(seq 65); do printf 'message A {'; done; } > a.proto
+
+    a.proto:2:705: TooDeep
+
+Cure: Move inner messages to the top, and name them from there."#,
+        Kind::UnexpectedEnd => r#"The file ends in the middle of a statement.
+
+Where: behind the last byte.
+
+    syntax = "proto3";
+    message A {
+
+    a.proto:3:1: UnexpectedEnd
+
+Cure: Close the last brace."#,
+        Kind::NotProto3Syntax => r#"The file names another syntax than proto3.
+
+Where: the syntax's string.
+
+    syntax = "proto2";
+
+    a.proto:1:10: NotProto3Syntax
+
+Cure: Write `syntax = "proto3";`, and mend what proto3 has no longer; or leave the file to protoc."#,
+        Kind::PackageTwice => r#"There is a second package statement.
+
+Where: the second `package`.
+
+    syntax = "proto3";
+    package a; package b;
+
+    a.proto:2:12: PackageTwice
+
+Cure: A file has one package."#,
+        Kind::ImportTwice => r#"An import that an earlier one equals.
+
+Where: the later import's string.
+
+    syntax = "proto3";
+    import "a"; import "a";
+
+    a.proto:2:20: ImportTwice
+
+Cure: Leave one of them out."#,
+        Kind::UnknownOption => r#"The element may not have an option of this name. The options of each element are listed in docs/LANGUAGE.md.
+
+Where: the first token of the option's name.
+
+    syntax = "proto3";
+    option x = 1;
+
+    a.proto:2:8: UnknownOption
+
+Cure: Look for a spelling mistake. Features and other options that no table has are left out."#,
+        Kind::OptionTwice => r#"The element set this option before.
+
+Where: the first token of the option's name.
+
+    syntax = "proto3";
+    option deprecated = true; option deprecated = true;
+
+    a.proto:2:34: OptionTwice
+
+Cure: Leave one of them out."#,
+        Kind::BadOptionValue => r#"The option takes a value of another kind: a string, a number, `true` or `false`, or one of its words.
+
+Where: the first token of the value.
+
+    syntax = "proto3";
+    option go_package = 1;
+
+    a.proto:2:21: BadOptionValue
+
+Cure: Look the option up in docs/LANGUAGE.md."#,
+        Kind::FieldNumberRange => r#"A field number or a bound of a reserved range that is not 1 to 536,870,911, or a field number from 19,000 to 19,999, which are kept for implementations.
+
+Where: the number.
+
+    syntax = "proto3";
+    message A { int32 x = 19000; }
+
+    a.proto:2:23: FieldNumberRange
+
+Cure: Take another number."#,
+        Kind::FieldNumberTwice => r#"An earlier field of the message has this number. Members of oneofs are fields of the message.
+
+Where: the later field's number.
+
+    syntax = "proto3";
+    message A { int32 x = 1; int32 y = 1; }
+
+    a.proto:2:36: FieldNumberTwice
+
+Cure: Give the new field a number that none had before."#,
+        Kind::ReservedNumberUsed => r#"The number of a field or of an enum's value is reserved.
+
+Where: the number, or its `-`.
+
+    syntax = "proto3";
+    message A { reserved 5; int32 x = 5; }
+
+    a.proto:2:35: ReservedNumberUsed
+
+Cure: Take another number: what was reserved was in use once, and old data may hold it."#,
+        Kind::ReservedNameUsed => r#"The name of a field or of an enum's value is reserved.
+
+Where: the name.
+
+    syntax = "proto3";
+    message A { reserved "x"; int32 x = 1; }
+
+    a.proto:2:33: ReservedNameUsed
+
+Cure: Take another name."#,
+        Kind::ReservedOverlap => r#"A reserved range shares a number with an earlier one.
+
+Where: the later range's first token.
+
+    syntax = "proto3";
+    message A { reserved 1 to 3, 3; }
+
+    a.proto:2:30: ReservedOverlap
+
+Cure: Make one range of both."#,
+        Kind::ReservedNameTwice => r#"A name is reserved twice.
+
+Where: the later name's string.
+
+    syntax = "proto3";
+    message A { reserved "x", "x"; }
+
+    a.proto:2:27: ReservedNameTwice
+
+Cure: Leave one of them out."#,
+        Kind::ReservedBackwards => r#"A reserved range ends before it begins.
+
+Where: the range's first token.
+
+    syntax = "proto3";
+    message A { reserved 3 to 1; }
+
+    a.proto:2:22: ReservedBackwards
+
+Cure: Exchange its bounds."#,
+        Kind::JsonNameTwice => r#"Two fields of a message have one name in JSON. `a_b` is `aB` there, unless `json_name` says something else.
+
+Where: the later field's name.
+
+    syntax = "proto3";
+    message A { int32 a_b = 1; int32 aB = 2; }
+
+    a.proto:2:34: JsonNameTwice
+
+Cure: Rename one of them, or give it a `json_name`."#,
+        Kind::PackedOnWrongKind => r#"`packed = true` on a field that is not repeated, is a string or bytes, or is a map.
+
+Where: the option's name.
+
+    syntax = "proto3";
+    message A { int32 x = 1 [packed = true]; }
+
+    a.proto:2:26: PackedOnWrongKind
+
+Cure: Leave the option out: repeated numbers are packed in proto3 anyway."#,
+        Kind::JstypeOnWrongKind => r#"`jstype` says string or number on a field whose type is no integer of 64 bits.
+
+Where: the option's name.
+
+    syntax = "proto3";
+    message A { int32 x = 1 [jstype = JS_STRING]; }
+
+    a.proto:2:26: JstypeOnWrongKind
+
+Cure: Leave the option out."#,
+        Kind::EnumEmpty => r#"An enum has no value.
+
+Where: the enum's name.
+
+    syntax = "proto3";
+    enum E {}
+
+    a.proto:2:6: EnumEmpty
+
+Cure: Give it a value of the number 0."#,
+        Kind::EnumFirstNotZero => r#"The first value of an enum is not 0, which a field has that is not set.
+
+Where: the number, or its `-`.
+
+    syntax = "proto3";
+    enum E { A = 1; }
+
+    a.proto:2:14: EnumFirstNotZero
+
+Cure: Begin with a value of the number 0, as `E_UNSPECIFIED = 0;`."#,
+        Kind::EnumNumberRange => r#"An enum's number or a bound of its reserved range that does not fit 32 bits with a sign.
+
+Where: the number, or its `-`.
+
+    syntax = "proto3";
+    enum E { A = 0; B = 2147483648; }
+
+    a.proto:2:21: EnumNumberRange
+
+Cure: Take another number."#,
+        Kind::EnumNumberTwice => r#"An earlier value has this number.
+
+Where: the later value's number, or its `-`.
+
+    syntax = "proto3";
+    enum E { A = 0; B = 0; }
+
+    a.proto:2:21: EnumNumberTwice
+
+Cure: Take another number, or write `option allow_alias = true;` in the enum."#,
+        Kind::OneofEmpty => r#"A oneof has no member.
+
+Where: the oneof's name.
+
+    syntax = "proto3";
+    message A { oneof o {} }
+
+    a.proto:2:19: OneofEmpty
+
+Cure: Give it a field, or leave it out."#,
+        Kind::NameTooLong => r#"A name has more than 255 bytes, or a full name, with its package and the messages around it, more than 1,023.
+
+Where: the name; for a made one its field's name; for a package its first part.
+
+    printf 'syntax = "proto3";\nmessage %s {}\n' "$(head -c 256 /dev/zero | tr '\0' a)" > a.proto
+
+    a.proto:2:9: NameTooLong
+
+Cure: Shorten it."#,
+        Kind::ImportMissing => r#"No file below the root has this name. A name is the path from the root, with `/`.
+
+Where: the import's string.
+
+    syntax = "proto3";
+    import "b.proto";
+
+    a.proto:2:8: ImportMissing
+
+Cure: Set `--root` to the folder from which imports are written. Nothing is bundled: copy google/protobuf/*.proto from an installed protobuf if you import it."#,
+        Kind::ImportCycle => r#"The file imports itself, or a file that reaches it.
+
+Where: the import's string.
+
+    printf 'syntax = "proto3";\nimport "b.proto";\n' > a.proto
+    printf 'syntax = "proto3";\nimport "a.proto";\n' > b.proto
+
+    a.proto:2:8: ImportCycle
+
+Cure: Move what both need to a third file."#,
+        Kind::NameTwice => r#"Another element of these files has this full name. Values of an enum are named beside it, not within it. A package may stand in many files; an element may not have a package's name.
+
+Where: the later name; for a made one its field's name; for a package its first part.
+
+    syntax = "proto3";
+    message A {}
+    message A {}
+
+    a.proto:3:9: NameTwice
+
+Cure: Rename one of them, or put it in another package; values of enums are often given the enum's name in front."#,
+        Kind::TooManyNames => r#"All files together declare more than 1,048,576 names.
+
+Where: no file, and line 1, column 1.
+
+    for f in 1 2 3 4 5 6 7 8; do
+        awk -v f=$f 'BEGIN { printf "syntax = \"proto3\"; enum E%d { option allow_alias = true;", f
+            for (i = 0; i < 131072; i++) printf "%c%d=0;", 96 + f, i; print "}" }' > $f.proto
+    done
+
+    :1:1: TooManyNames
+
+Cure: Compile fewer files at once."#,
+        Kind::TypeNotFound => r#"No message and no enum that this file sees has this name. A file sees itself, what it imports, and what these import publicly. Of a compound name the innermost scope that has its first part decides.
+
+Where: the type's first token.
+
+    syntax = "proto3";
+    message A { X x = 1; }
+
+    a.proto:2:13: TypeNotFound
+
+Cure: Import the file that declares it; write the name from its package on, or with a leading `.`, if a nearer scope has the first part."#,
+        Kind::TypeNotMessage => r#"The type of a method is an enum.
+
+Where: the type's first token.
+
+    syntax = "proto3";
+    enum E { Z = 0; }
+    service S { rpc R(E) returns (E); }
+
+    a.proto:3:19: TypeNotMessage
+
+Cure: Put the enum in a message."#,
+        Kind::PackedOnMessage => r#"`packed = true` on a field whose type is a message.
+
+Where: the option's name.
+
+    syntax = "proto3";
+    message A { repeated A x = 1 [packed = true]; }
+
+    a.proto:2:31: PackedOnMessage
+
+Cure: Leave the option out."#,
+        Kind::DescriptorTooLong => "The descriptor of one file has more than 16,777,216 bytes.
+
+Where: the start of the file.
+
+Cure: Split the file.",
+        Kind::SetTooLong => "The descriptors of all files have more than 1,073,741,824 bytes together.
+
+Where: no file, and line 1, column 1.
+
+Cure: Compile a folder further below.",
+    }
+}
