@@ -9,7 +9,11 @@ use Rattle.digraph.specs.Marks.{IsMarked, Among}
 
 pub among_more : (xs : List ℕ) (n c : ℕ) → Among xs (n + 1) c ↔ (Among xs n c ⊎ (get_or xs n 0 ≡ c))
 among_more xs n c = (
-  λ (k, below, is). (elim (cases_lt k n) [ inl under ↦ inl (k, under, is) | inr over ↦ (let same : k ≡ n = omega arith in inr (subst (λ (i : ℕ). get_or xs i 0 ≡ c) same is)) ]),
+  λ (k, below, is). (elim (cases_lt k n) [
+    | inl under ↦ inl (k, under, is)
+    | inr over ↦
+        (let same : k ≡ n = omega arith in inr (subst (λ (i : ℕ). get_or xs i 0 ≡ c) same is))
+  ]),
   λ h. elim h [ inl (k, below, is) ↦ (k, omega arith, is) | inr is ↦ (n, omega arith, is) ],
 )
 
@@ -17,8 +21,10 @@ default_same : (xs : List ℕ) (k c d : ℕ) → k < length xs → get_or xs k c
 default_same xs k c d h = grind (arith, common_steps)
 
 pub among_all : (xs : List ℕ) (n c : ℕ) → n ≡ length xs → Contains xs c ↔ Among xs n c
-among_all xs n c e =
-    (λ (k, below, is). (k, omega arith, default_same xs k 0 c below ∙ is), λ (k, below, is). (let under : k < length xs = omega arith in (k, under, default_same xs k c 0 under ∙ is)))
+among_all xs n c e = (
+  λ (k, below, is). (k, omega arith, default_same xs k 0 c below ∙ is),
+  λ (k, below, is). (let under : k < length xs = omega arith in (k, under, default_same xs k c 0 under ∙ is)),
+)
 
 at_mark : (marks : List Bool) (p c : ℕ) → p < length marks → p ≡ c → IsMarked (set marks p true) c
 at_mark marks p c h same = subst (λ (x : ℕ). IsMarked (set marks p true) x) same (omega (arith, length-set marks p true), get_or-set_same marks p true false h)

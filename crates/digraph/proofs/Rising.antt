@@ -17,7 +17,8 @@ rises_none k h = absurd (no_place (k + 1) h)
 member_at : (xs : List ℕ) (k : ℕ) → k < length xs → Contains xs (get_or xs k 0)
 member_at xs k h = (among_all xs (length xs) (get_or xs k 0) refl).1 (k, h, refl)
 
-rises_case : (xs : List ℕ) (p : ℕ) → IsStrictlyIncreasing xs → ((c : ℕ) → Contains xs c → c < p) → (k : ℕ) → k < length xs → (k + 1 < length xs) ⊎ (length xs ≤ k + 1) → get_or (xs ++ p ∷ []) k 0 < get_or (xs ++ p ∷ []) (k + 1) 0
+rises_case : (xs : List ℕ) (p : ℕ) → IsStrictlyIncreasing xs → ((c : ℕ) → Contains xs c → c < p) → (k : ℕ) → k < length xs
+    → (k + 1 < length xs) ⊎ (length xs ≤ k + 1) → get_or (xs ++ p ∷ []) k 0 < get_or (xs ++ p ∷ []) (k + 1) 0
 rises_case xs p up below k h (inl inside) = rw (get_or-append xs (p ∷ []) 0 k h, get_or-append xs (p ∷ []) 0 (k + 1) inside) (up k inside)
 rises_case xs p up below k h (inr last) =
     let under = below (get_or xs k 0) (member_at xs k h) in

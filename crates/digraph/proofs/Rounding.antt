@@ -18,10 +18,15 @@ use Rattle.digraph.proofs.Visiting.{no_place, node_at, push_iff}
 
 -- ---- one row
 
-pub passed_more : (marks : List Bool) (row : List ℕ) (n : ℕ) → n < length row → IsMarked marks (get_or row n 0) → IsPassed marks row n → IsPassed marks row (n + 1)
+pub passed_more : (marks : List Bool) (row : List ℕ) (n : ℕ) → n < length row → IsMarked marks (get_or row n 0) → IsPassed marks row n
+    → IsPassed marks row (n + 1)
 passed_more marks row n h marked p = record {
   inside = omega arith;
-  front = λ k below. (elim (cases_lt k n) [ inl under ↦ p.front k under | inr over ↦ (let same : n ≡ k = omega arith in subst (λ i. IsMarked marks (get_or row i 0)) same marked) ]);
+  front = λ k below. (elim (cases_lt k n) [
+    | inl under ↦ p.front k under
+    | inr over ↦
+        (let same : n ≡ k = omega arith in subst (λ i. IsMarked marks (get_or row i 0)) same marked)
+  ]);
 }
 
 -- a row that is passed whole
@@ -49,7 +54,8 @@ none_among : (old : List Bool) (nodes : List ℕ) (c : ℕ) → IsMarked old c �
 none_among old nodes c (inl m) = m
 none_among old nodes c (inr w) = absurd (no_place w.0 w.1)
 
-pub settled_none : (nodes : List ℕ) (rank : ℕ) (marks : List Bool) (ranks : List ℕ) → ((c : ℕ) → Contains nodes c → (c < length marks) × (c < length ranks)) → Settled nodes rank marks ranks 0 marks ranks
+pub settled_none : (nodes : List ℕ) (rank : ℕ) (marks : List Bool) (ranks : List ℕ) → ((c : ℕ) → Contains nodes c → (c < length marks) × (c < length ranks))
+    → Settled nodes rank marks ranks 0 marks ranks
 settled_none nodes rank marks ranks room = record {
   room = λ k h. room (get_or nodes k 0) (node_at nodes k h);
   marked = λ c. (λ m. inl m, none_among marks nodes c);
@@ -57,17 +63,22 @@ settled_none nodes rank marks ranks room = record {
   others = λ c out. refl;
 }
 
-ranked_case : (nodes : List ℕ) (rank n : ℕ) (ranks : List ℕ) (c : ℕ) → get_or nodes n 0 < length ranks → ((c : ℕ) → Among nodes n c → rank_in ranks c ≡ rank) → (c ≡ get_or nodes n 0) ⊎ (c ≢ get_or nodes n 0) → Among nodes (n + 1) c → rank_in (set ranks (get_or nodes n 0) rank) c ≡ rank
-ranked_case nodes rank n ranks c h old (inl same) w = ap (λ i. get_or (set ranks (get_or nodes n 0) rank) i 0) same ∙ get_or-set_same ranks (get_or nodes n 0) rank 0 h
+ranked_case : (nodes : List ℕ) (rank n : ℕ) (ranks : List ℕ) (c : ℕ) → get_or nodes n 0 < length ranks → ((c : ℕ) → Among nodes n c → rank_in ranks c ≡ rank)
+    → (c ≡ get_or nodes n 0) ⊎ (c ≢ get_or nodes n 0) → Among nodes (n + 1) c → rank_in (set ranks (get_or nodes n 0) rank) c ≡ rank
+ranked_case nodes rank n ranks c h old (inl same) w =
+    ap (λ i. get_or (set ranks (get_or nodes n 0) rank) i 0) same ∙ get_or-set_same ranks (get_or nodes n 0) rank 0 h
 ranked_case nodes rank n ranks c h old (inr other) w =
     get_or-set_other ranks (get_or nodes n 0) c rank 0 other ∙ elim ((among_more nodes n c).0 w) [ inl more ↦ old c more | inr is ↦ absurd (other (sym is)) ]
 
-others_case : (nodes : List ℕ) (rank n : ℕ) (ranks before : List ℕ) (c : ℕ) → ((c : ℕ) → (Among nodes n c → ⊥) → rank_in ranks c ≡ rank_in before c) → (Among nodes (n + 1) c → ⊥) → rank_in (set ranks (get_or nodes n 0) rank) c ≡ rank_in before c
+others_case : (nodes : List ℕ) (rank n : ℕ) (ranks before : List ℕ) (c : ℕ) → ((c : ℕ) → (Among nodes n c → ⊥) → rank_in ranks c ≡ rank_in before c)
+    → (Among nodes (n + 1) c → ⊥) → rank_in (set ranks (get_or nodes n 0) rank) c ≡ rank_in before c
 others_case nodes rank n ranks before c old out =
     let other : c ≢ get_or nodes n 0 = λ same. out ((among_more nodes n c).1 (inr (sym same))) in
     get_or-set_other ranks (get_or nodes n 0) c rank 0 other ∙ old c (λ w. out ((among_more nodes n c).1 (inl w)))
 
-pub settled_more : (nodes : List ℕ) (rank : ℕ) (old : List Bool) (before : List ℕ) (n : ℕ) (marks : List Bool) (ranks : List ℕ) → n < length nodes → Settled nodes rank old before n marks ranks → Settled nodes rank old before (n + 1) (set marks (get_or nodes n 0) true) (set ranks (get_or nodes n 0) rank)
+pub settled_more : (nodes : List ℕ) (rank : ℕ) (old : List Bool) (before : List ℕ) (n : ℕ) (marks : List Bool) (ranks : List ℕ) → n < length nodes
+    → Settled nodes rank old before n marks ranks → Settled nodes rank old before (n + 1) (set marks (get_or nodes n 0) true)
+    (set ranks (get_or nodes n 0) rank)
 settled_more nodes rank old before n marks ranks h s =
     let p = get_or nodes n 0 in
     record {
@@ -77,13 +88,16 @@ settled_more nodes rank old before n marks ranks h s =
       others = λ c. others_case nodes rank n ranks before c s.others;
     }
 
-pub settled_marks : (nodes : List ℕ) (rank : ℕ) (old : List Bool) (before : List ℕ) (n : ℕ) (marks : List Bool) (ranks : List ℕ) → n ≡ length nodes → Settled nodes rank old before n marks ranks → (c : ℕ) → IsMarked marks c ↔ (IsMarked old c ⊎ Contains nodes c)
+pub settled_marks : (nodes : List ℕ) (rank : ℕ) (old : List Bool) (before : List ℕ) (n : ℕ) (marks : List Bool) (ranks : List ℕ) → n ≡ length nodes
+    → Settled nodes rank old before n marks ranks → (c : ℕ) → IsMarked marks c ↔ (IsMarked old c ⊎ Contains nodes c)
 settled_marks nodes rank old before n marks ranks e s c = joined_end (s.marked c) (among_all nodes n c e)
 
-pub settled_ranks : (nodes : List ℕ) (rank : ℕ) (old : List Bool) (before : List ℕ) (n : ℕ) (marks : List Bool) (ranks : List ℕ) → n ≡ length nodes → Settled nodes rank old before n marks ranks → (c : ℕ) → Contains nodes c → rank_in ranks c ≡ rank
+pub settled_ranks : (nodes : List ℕ) (rank : ℕ) (old : List Bool) (before : List ℕ) (n : ℕ) (marks : List Bool) (ranks : List ℕ) → n ≡ length nodes
+    → Settled nodes rank old before n marks ranks → (c : ℕ) → Contains nodes c → rank_in ranks c ≡ rank
 settled_ranks nodes rank old before n marks ranks e s c w = s.ranked c ((among_all nodes n c e).0 w)
 
-pub settled_others : (nodes : List ℕ) (rank : ℕ) (old : List Bool) (before : List ℕ) (n : ℕ) (marks : List Bool) (ranks : List ℕ) → n ≡ length nodes → Settled nodes rank old before n marks ranks → (c : ℕ) → (Contains nodes c → ⊥) → rank_in ranks c ≡ rank_in before c
+pub settled_others : (nodes : List ℕ) (rank : ℕ) (old : List Bool) (before : List ℕ) (n : ℕ) (marks : List Bool) (ranks : List ℕ) → n ≡ length nodes
+    → Settled nodes rank old before n marks ranks → (c : ℕ) → (Contains nodes c → ⊥) → rank_in ranks c ≡ rank_in before c
 settled_others nodes rank old before n marks ranks e s c out = s.others c (λ w. out ((among_all nodes n c e).1 w))
 
 -- ---- every node waits
@@ -98,7 +112,8 @@ pub record Counted (ws : List Waiting) (n : ℕ) : Type 0 where
   pub unpassed : AllByRecursion (λ (w : Waiting). w.passed ≡ 0) ws
 
 pub counted_none : (ws : List Waiting) → ws ≡ [] → Counted ws 0
-counted_none ws e = rw e (record { size = refl; rises = rises_none; members = λ a. (λ w. absurd (no_place w.0 w.1), λ h. absurd (no_place a h)); unpassed = tt })
+counted_none ws e =
+    rw e (record { size = refl; rises = rises_none; members = λ a. (λ w. absurd (no_place w.0 w.1), λ h. absurd (no_place a h)); unpassed = tt })
 
 counted_members : (xs : List ℕ) (n a : ℕ) → ((a : ℕ) → Contains xs a ↔ (a < n)) → (a < n) ⊎ (n ≤ a) → Contains (xs ++ n ∷ []) a ↔ (a < n + 1)
 counted_members xs n a old cases = (
@@ -128,7 +143,15 @@ pub dealing_none : (g : Graph) (marks : List Bool) (nodes old : List ℕ) (later
 dealing_none g marks nodes old later e = rw e (record {
   ready = [];
   appended = sym (append-nil old);
-  dealt = record { ready_rises = rises_none; later_rises = rises_none; are_ready = λ a w. absurd (no_place w.0 w.1); are_later = λ a w. absurd (no_place w.0 w.1); all = λ a w. absurd (no_place w.0 w.1); count = refl };
+  dealt = record {
+    ready_rises = rises_none;
+    later_rises = rises_none;
+    are_ready = λ a w. absurd (no_place w.0 w.1);
+    are_later =
+        λ a w. absurd (no_place w.0 w.1);
+    all = λ a w. absurd (no_place w.0 w.1);
+    count = refl;
+  };
   passed = tt;
 })
 
@@ -138,31 +161,51 @@ among_next nodes n a w = (among_more nodes n a).1 (inl w)
 among_here : (nodes : List ℕ) (n a : ℕ) → get_or nodes n 0 ≡ a → Among nodes (n + 1) a
 among_here nodes n a e = (among_more nodes n a).1 (inr e)
 
-dealt_ready : (g : Graph) (marks : List Bool) (nodes : List ℕ) (n : ℕ) (ready later : List ℕ) → IsStrictlyIncreasing nodes → n < length nodes → AllMarked g marks (get_or nodes n 0) → IsDealt g marks nodes n ready later → IsDealt g marks nodes (n + 1) (ready ++ get_or nodes n 0 ∷ []) later
+dealt_ready : (g : Graph) (marks : List Bool) (nodes : List ℕ) (n : ℕ) (ready later : List ℕ) → IsStrictlyIncreasing nodes → n < length nodes
+    → AllMarked g marks (get_or nodes n 0) → IsDealt g marks nodes n ready later → IsDealt g marks nodes (n + 1) (ready ++ get_or nodes n 0 ∷ []) later
 dealt_ready g marks nodes n ready later up h marked d =
     let p = get_or nodes n 0 in
     record {
       ready_rises = rises_push ready p d.ready_rises (λ c w. among_below nodes n c up h (d.are_ready c w).0);
       later_rises = d.later_rises;
-      are_ready = λ a w. (elim ((push_iff ready p a).0 w) [ inl old ↦ (let was = d.are_ready a old in (among_next nodes n a was.0, was.1)) | inr is ↦ (among_here nodes n a is, subst (AllMarked g marks) is marked) ]);
+      are_ready = λ a w. (elim ((push_iff ready p a).0 w) [
+        | inl old ↦ (let was = d.are_ready a old in (among_next nodes n a was.0, was.1))
+        | inr is ↦
+            (among_here nodes n a is, subst (AllMarked g marks) is marked)
+      ]);
       are_later = λ a w. (let was = d.are_later a w in (among_next nodes n a was.0, was.1));
-      all = λ a w. (elim ((among_more nodes n a).0 w) [ inl old ↦ (elim (d.all a old) [ inl r ↦ inl ((push_iff ready p a).1 (inl r)) | inr l ↦ inr l ]) | inr is ↦ inl ((push_iff ready p a).1 (inr is)) ]);
+      all = λ a w. (elim ((among_more nodes n a).0 w) [
+        | inl old ↦
+            (elim (d.all a old) [ inl r ↦ inl ((push_iff ready p a).1 (inl r)) | inr l ↦ inr l ])
+        | inr is ↦ inl ((push_iff ready p a).1 (inr is))
+      ]);
       count = (let len : length (ready ++ p ∷ []) ≡ length ready + 1 = grind (arith, common_steps) in omega (arith, len, d.count));
     }
 
-dealt_later : (g : Graph) (marks : List Bool) (nodes : List ℕ) (n : ℕ) (ready later : List ℕ) → IsStrictlyIncreasing nodes → n < length nodes → HasUnmarked g marks (get_or nodes n 0) → IsDealt g marks nodes n ready later → IsDealt g marks nodes (n + 1) ready (later ++ get_or nodes n 0 ∷ [])
+dealt_later : (g : Graph) (marks : List Bool) (nodes : List ℕ) (n : ℕ) (ready later : List ℕ) → IsStrictlyIncreasing nodes → n < length nodes
+    → HasUnmarked g marks (get_or nodes n 0) → IsDealt g marks nodes n ready later → IsDealt g marks nodes (n + 1) ready (later ++ get_or nodes n 0 ∷ [])
 dealt_later g marks nodes n ready later up h out d =
     let p = get_or nodes n 0 in
     record {
       ready_rises = d.ready_rises;
       later_rises = rises_push later p d.later_rises (λ c w. among_below nodes n c up h (d.are_later c w).0);
       are_ready = λ a w. (let was = d.are_ready a w in (among_next nodes n a was.0, was.1));
-      are_later = λ a w. (elim ((push_iff later p a).0 w) [ inl old ↦ (let was = d.are_later a old in (among_next nodes n a was.0, was.1)) | inr is ↦ (among_here nodes n a is, subst (HasUnmarked g marks) is out) ]);
-      all = λ a w. (elim ((among_more nodes n a).0 w) [ inl old ↦ (elim (d.all a old) [ inl r ↦ inl r | inr l ↦ inr ((push_iff later p a).1 (inl l)) ]) | inr is ↦ inr ((push_iff later p a).1 (inr is)) ]);
+      are_later = λ a w. (elim ((push_iff later p a).0 w) [
+        | inl old ↦ (let was = d.are_later a old in (among_next nodes n a was.0, was.1))
+        | inr is ↦
+            (among_here nodes n a is, subst (HasUnmarked g marks) is out)
+      ]);
+      all = λ a w. (elim ((among_more nodes n a).0 w) [
+        | inl old ↦
+            (elim (d.all a old) [ inl r ↦ inl r | inr l ↦ inr ((push_iff later p a).1 (inl l)) ])
+        | inr is ↦ inr ((push_iff later p a).1 (inr is))
+      ]);
       count = (let len : length (later ++ p ∷ []) ≡ length later + 1 = grind (arith, common_steps) in omega (arith, len, d.count));
     }
 
-pub dealing_ready : (g : Graph) (marks : List Bool) (nodes old : List ℕ) (n : ℕ) (order new : List ℕ) (later now : List Waiting) → IsStrictlyIncreasing nodes → n < length nodes → AllMarked g marks (get_or nodes n 0) → new ≡ order ++ get_or nodes n 0 ∷ [] → now ≡ later → Dealing g marks nodes old n order later → Dealing g marks nodes old (n + 1) new now
+pub dealing_ready : (g : Graph) (marks : List Bool) (nodes old : List ℕ) (n : ℕ) (order new : List ℕ) (later now : List Waiting) → IsStrictlyIncreasing nodes
+    → n < length nodes → AllMarked g marks (get_or nodes n 0) → new ≡ order ++ get_or nodes n 0 ∷ [] → now ≡ later → Dealing g marks nodes old n order later
+    → Dealing g marks nodes old (n + 1) new now
 dealing_ready g marks nodes old n order new later now up h marked e same d = rw (e, same) (record {
   ready = d.ready ++ get_or nodes n 0 ∷ [];
   appended = ap (λ xs. xs ++ get_or nodes n 0 ∷ []) d.appended ∙ append_assoc old d.ready (get_or nodes n 0 ∷ []);
@@ -170,11 +213,15 @@ dealing_ready g marks nodes old n order new later now up h marked e same d = rw 
   passed = d.passed;
 })
 
-pub dealing_later : (g : Graph) (marks : List Bool) (nodes old : List ℕ) (n : ℕ) (order new : List ℕ) (later now : List Waiting) (w : Waiting) → IsStrictlyIncreasing nodes → n < length nodes → w.node ≡ get_or nodes n 0 → HasUnmarked g marks (get_or nodes n 0) → IsPassed marks (successors g w.node) w.passed → new ≡ order → now ≡ later ++ w ∷ [] → Dealing g marks nodes old n order later → Dealing g marks nodes old (n + 1) new now
+pub dealing_later : (g : Graph) (marks : List Bool) (nodes old : List ℕ) (n : ℕ) (order new : List ℕ) (later now : List Waiting) (w : Waiting)
+    → IsStrictlyIncreasing nodes → n < length nodes → w.node ≡ get_or nodes n 0 → HasUnmarked g marks (get_or nodes n 0)
+    → IsPassed marks (successors g w.node) w.passed → new ≡ order → now ≡ later ++ w ∷ [] → Dealing g marks nodes old n order later
+    → Dealing g marks nodes old (n + 1) new now
 dealing_later g marks nodes old n order new later now w up h node out passed same e d = rw (same, e) (record {
   ready = d.ready;
   appended = d.appended;
-  dealt = subst (IsDealt g marks nodes (n + 1) d.ready) (sym (nodes_push later w ∙ ap (λ k. nodes_of later ++ k ∷ []) node)) (dealt_later g marks nodes n d.ready (nodes_of later) up h out d.dealt);
+  dealt = subst (IsDealt g marks nodes (n + 1) d.ready) (sym (nodes_push later w ∙ ap (λ k. nodes_of later ++ k ∷ []) node))
+      (dealt_later g marks nodes n d.ready (nodes_of later) up h out d.dealt);
   passed = all_push (λ (x : Waiting). IsPassed marks (successors g x.node) x.passed) later w d.passed passed;
 })
 

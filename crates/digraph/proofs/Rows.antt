@@ -69,7 +69,8 @@ no_rows a b edge = let h = edge_below [] a b edge in omega (arith, h)
 pub empties_none : (rows : List (Vec ℕ Global)) → rows ≡ [] → Empties rows 0
 empties_none rows e = rw e (record { size = refl; empty = no_rows })
 
-one_empty : (rows : List (Vec ℕ Global)) (v : Vec ℕ Global) → v.items ≡ [] → ((a b : ℕ) → Edge (graph_of rows) a b → ⊥) → (a b : ℕ) → Edge (graph_of rows) a b ⊎ ((a ≡ length (graph_of rows)) × Contains v.items b) → ⊥
+one_empty : (rows : List (Vec ℕ Global)) (v : Vec ℕ Global) → v.items ≡ [] → ((a b : ℕ) → Edge (graph_of rows) a b → ⊥) → (a b : ℕ)
+    → Edge (graph_of rows) a b ⊎ ((a ≡ length (graph_of rows)) × Contains v.items b) → ⊥
 one_empty rows v e none a b (inl edge) = none a b edge
 one_empty rows v e none a b (inr (last, w)) = no_items b (subst (λ (ys : List ℕ). Contains ys b) e w)
 
@@ -79,7 +80,8 @@ graph_push rows v = map-append (λ (x : Vec ℕ Global). x.items) rows (v ∷ []
 pub empties_push : (rows new : List (Vec ℕ Global)) (n : ℕ) (v : Vec ℕ Global) → new ≡ rows ++ v ∷ [] → v.items ≡ [] → Empties rows n → Empties new (n + 1)
 empties_push rows new n v e items old = rw e (record {
   size = (let len : length (rows ++ v ∷ []) ≡ length rows + 1 = grind (arith, common_steps) in omega (arith, len, old.size));
-  empty = λ a b edge. one_empty rows v items old.empty a b ((edge_push (graph_of rows) v.items a b).0 (subst (λ (g : Graph). Edge g a b) (graph_push rows v) edge));
+  empty =
+      λ a b edge. one_empty rows v items old.empty a b ((edge_push (graph_of rows) v.items a b).0 (subst (λ (g : Graph). Edge g a b) (graph_push rows v) edge));
 })
 
 -- ---- a row gets one node more
@@ -87,9 +89,18 @@ empties_push rows new n v e items old = rw e (record {
 set_same : (g : Graph) (s node b a : ℕ) → s < length g → b ≡ s → Edge (set g s (successors g s ++ node ∷ [])) b a ↔ (Edge g b a ⊎ ((b ≡ s) × (node ≡ a)))
 set_same g s node b a h same =
     let row : successors (set g s (successors g s ++ node ∷ [])) b ≡ successors g b ++ node ∷ [] =
-    ap (λ i. get_or (set g s (successors g s ++ node ∷ [])) i []) same ∙ get_or-set_same g s (successors g s ++ node ∷ []) [] h ∙ ap (λ i. successors g i ++ node ∷ []) (sym same) in (
-      λ edge. (elim (Contains-push_cases (successors g b) node a (subst (λ (ys : List ℕ). Contains ys a) row edge)) [ inl old ↦ inl old | inr is ↦ inr (same, is) ]),
-      λ w. subst (λ (ys : List ℕ). Contains ys a) (sym row) (elim w [ inl old ↦ Contains-append_left (successors g b) (node ∷ []) a old | inr is ↦ subst (Contains (successors g b ++ node ∷ [])) is.1 (Contains-push (successors g b) node) ]),
+    ap (λ i. get_or (set g s (successors g s ++ node ∷ [])) i []) same ∙ get_or-set_same g s (successors g s ++ node ∷ []) [] h
+    ∙ ap (λ i. successors g i ++ node ∷ []) (sym same) in (
+      λ edge. (elim (Contains-push_cases (successors g b) node a (subst (λ (ys : List ℕ). Contains ys a) row edge)) [
+        | inl old ↦ inl old
+        | inr is ↦
+            inr (same, is)
+      ]),
+      λ w. subst (λ (ys : List ℕ). Contains ys a) (sym row) (elim w [
+        | inl old ↦ Contains-append_left (successors g b) (node ∷ []) a old
+        | inr is ↦
+            subst (Contains (successors g b ++ node ∷ [])) is.1 (Contains-push (successors g b) node)
+      ]),
     )
 
 set_other : (g : Graph) (s node b a : ℕ) → b ≢ s → Edge (set g s (successors g s ++ node ∷ [])) b a ↔ (Edge g b a ⊎ ((b ≡ s) × (node ≡ a)))
@@ -99,7 +110,8 @@ set_other g s node b a other =
       λ w. subst (λ (ys : List ℕ). Contains ys a) (sym row) (elim w [ inl old ↦ old | inr is ↦ absurd (other is.0) ]),
     )
 
-set_cases : (g : Graph) (s node b a : ℕ) → s < length g → (b ≡ s) ⊎ (b ≡ s → ⊥) → Edge (set g s (successors g s ++ node ∷ [])) b a ↔ (Edge g b a ⊎ ((b ≡ s) × (node ≡ a)))
+set_cases : (g : Graph) (s node b a : ℕ) → s < length g → (b ≡ s) ⊎ (b ≡ s → ⊥)
+    → Edge (set g s (successors g s ++ node ∷ [])) b a ↔ (Edge g b a ⊎ ((b ≡ s) × (node ≡ a)))
 set_cases g s node b a h (inl same) = set_same g s node b a h same
 set_cases g s node b a h (inr other) = set_other g s node b a other
 
@@ -113,11 +125,13 @@ pub length_graph : (rows : List (Vec ℕ Global)) → length (graph_of rows) ≡
 length_graph rows = grind (arith, common_steps)
 
 -- a node is pushed to a row
-pub row_pushed : (rows : List (Vec ℕ Global)) (s node : ℕ) (v w : Vec ℕ Global) → v ≡ get_or rows s v → s < length rows → w.items ≡ v.items ++ node ∷ [] → (b a : ℕ) → Edge (graph_of (set rows s w)) b a ↔ (Edge (graph_of rows) b a ⊎ ((b ≡ s) × (node ≡ a)))
+pub row_pushed : (rows : List (Vec ℕ Global)) (s node : ℕ) (v w : Vec ℕ Global) → v ≡ get_or rows s v → s < length rows → w.items ≡ v.items ++ node ∷ []
+    → (b a : ℕ) → Edge (graph_of (set rows s w)) b a ↔ (Edge (graph_of rows) b a ⊎ ((b ≡ s) × (node ≡ a)))
 row_pushed rows s node v w e h items b a =
     let g = graph_of rows in
     let inside : s < length g = omega (arith, h, length_graph rows) in
-    let same : graph_of (set rows s w) ≡ set g s (successors g s ++ node ∷ []) = graph_set rows s w ∙ ap (set g s) (items ∙ ap (λ xs. xs ++ node ∷ []) (row_items rows s v e h)) in
+    let same : graph_of (set rows s w) ≡ set g s (successors g s ++ node ∷ []) =
+    graph_set rows s w ∙ ap (set g s) (items ∙ ap (λ xs. xs ++ node ∷ []) (row_items rows s v e h)) in
     subst (λ (k : Graph). Edge k b a ↔ (Edge g b a ⊎ ((b ≡ s) × (node ≡ a)))) (sym same) (edge_set g s node b a inside)
 
 among_to : (nodes : List ℕ) (n node b a : ℕ) → (a ≡ node) × Among nodes (n + 1) b → ((a ≡ node) × Among nodes n b) ⊎ ((b ≡ get_or nodes n 0) × (node ≡ a))
@@ -136,24 +150,29 @@ none_turned : (nodes : List ℕ) (node : ℕ) (old : Graph) (b a : ℕ) → Edge
 none_turned nodes node old b a (inl edge) = edge
 none_turned nodes node old b a (inr (e, w)) = absurd (no_place w.0 w.1)
 
-pub turning_none : (nodes : List ℕ) (node : ℕ) (rows : List (Vec ℕ Global)) → ((b : ℕ) → Contains nodes b → b < length rows) → Turning nodes node (graph_of rows) 0 rows
+pub turning_none : (nodes : List ℕ) (node : ℕ) (rows : List (Vec ℕ Global)) → ((b : ℕ) → Contains nodes b → b < length rows)
+    → Turning nodes node (graph_of rows) 0 rows
 turning_none nodes node rows room = record {
   room = λ k h. room (get_or nodes k 0) (node_at nodes k h);
   edges = λ b a. (λ edge. inl edge, none_turned nodes node (graph_of rows) b a);
 }
 
-pub turning_more : (nodes : List ℕ) (node : ℕ) (old : Graph) (n : ℕ) (rows : List (Vec ℕ Global)) (v w : Vec ℕ Global) → n < length nodes → v ≡ get_or rows (get_or nodes n 0) v → w.items ≡ (get_or rows (get_or nodes n 0) v).items ++ node ∷ [] → Turning nodes node old n rows → Turning nodes node old (n + 1) (set rows (get_or nodes n 0) w)
+pub turning_more : (nodes : List ℕ) (node : ℕ) (old : Graph) (n : ℕ) (rows : List (Vec ℕ Global)) (v w : Vec ℕ Global) → n < length nodes
+    → v ≡ get_or rows (get_or nodes n 0) v → w.items ≡ (get_or rows (get_or nodes n 0) v).items ++ node ∷ [] → Turning nodes node old n rows
+    → Turning nodes node old (n + 1) (set rows (get_or nodes n 0) w)
 turning_more nodes node old n rows v w h e items t =
     let s = get_or nodes n 0 in
     record {
       room = λ k inside. (let room = t.room k inside in omega (arith, room, length-set rows s w));
-      edges = λ b a. joined_step (row_pushed rows s node v w e (t.room n h) (items ∙ ap (λ (x : Vec ℕ Global). x.items ++ node ∷ []) (sym e)) b a) (t.edges b a) (among_to nodes n node b a, among_from nodes n node b a);
+      edges = λ b a. joined_step (row_pushed rows s node v w e (t.room n h) (items ∙ ap (λ (x : Vec ℕ Global). x.items ++ node ∷ []) (sym e)) b a) (t.edges b a)
+          (among_to nodes n node b a, among_from nodes n node b a);
     }
 
 all_to : (nodes : List ℕ) (n node b a : ℕ) → n ≡ length nodes → ((a ≡ node) × Contains nodes b) ↔ ((a ≡ node) × Among nodes n b)
 all_to nodes n node b a h = (λ (e, w). (e, (among_all nodes n b h).0 w), λ (e, w). (e, (among_all nodes n b h).1 w))
 
-pub turning_all : (nodes : List ℕ) (node : ℕ) (old : Graph) (n : ℕ) (rows : List (Vec ℕ Global)) → n ≡ length nodes → Turning nodes node old n rows → (b a : ℕ) → Edge (graph_of rows) b a ↔ (Edge old b a ⊎ ((a ≡ node) × Contains nodes b))
+pub turning_all : (nodes : List ℕ) (node : ℕ) (old : Graph) (n : ℕ) (rows : List (Vec ℕ Global)) → n ≡ length nodes → Turning nodes node old n rows → (b a : ℕ)
+    → Edge (graph_of rows) b a ↔ (Edge old b a ⊎ ((a ≡ node) × Contains nodes b))
 turning_all nodes node old n rows h t b a = joined_end (t.edges b a) (all_to nodes n node b a h)
 
 -- what a loop keeps that turns the edges of one node after the other
@@ -172,7 +191,8 @@ turn_from : (g : Graph) (n b a : ℕ) (E : Type 0) → ((a < n) × Edge g a b �
 turn_from g n b a E f (inl h) (below, edge) = inl (f (h, edge))
 turn_from g n b a E f (inr h) (below, edge) = let is : a ≡ n = omega arith in inr (is, subst (λ (x : ℕ). Edge g x b) is edge)
 
-pub turned_more : (g : Graph) (n : ℕ) (rows new : List (Vec ℕ Global)) (nodes : List ℕ) → nodes ≡ successors g n → length new ≡ length rows → ((b a : ℕ) → Edge (graph_of new) b a ↔ (Edge (graph_of rows) b a ⊎ ((a ≡ n) × Contains nodes b))) → Turned g n rows → Turned g (n + 1) new
+pub turned_more : (g : Graph) (n : ℕ) (rows new : List (Vec ℕ Global)) (nodes : List ℕ) → nodes ≡ successors g n → length new ≡ length rows
+    → ((b a : ℕ) → Edge (graph_of new) b a ↔ (Edge (graph_of rows) b a ⊎ ((a ≡ n) × Contains nodes b))) → Turned g n rows → Turned g (n + 1) new
 turned_more g n rows new nodes e len step t =
     let step' : (b a : ℕ) → Edge (graph_of new) b a ↔ (Edge (graph_of rows) b a ⊎ ((a ≡ n) × Edge g n b)) =
     subst (λ (xs : List ℕ). (b a : ℕ) → Edge (graph_of new) b a ↔ (Edge (graph_of rows) b a ⊎ ((a ≡ n) × Contains xs b))) e step in

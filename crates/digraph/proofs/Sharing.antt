@@ -28,7 +28,8 @@ view_kept old new rs ss front e w = rw (front.1, e) (ranges_kept old front.0 rs 
 pub length_kept : (old new : List ℕ) → IsFrontOf old new → length old ≤ length new
 length_kept old new front = rw front.1 (rw (length-append old front.0) (omega arith))
 
-pub view_pushed : (old new : List ℕ) (rs ss : List (ℕ × ℕ)) (start : ℕ) (list : List ℕ) → IsFrontOf old new → Holds new start list → ss ≡ rs ++ (start, length list) ∷ [] → AreWithin (length old) rs → ranges_of new ss ≡ ranges_of old rs ++ list ∷ []
+pub view_pushed : (old new : List ℕ) (rs ss : List (ℕ × ℕ)) (start : ℕ) (list : List ℕ) → IsFrontOf old new → Holds new start list
+    → ss ≡ rs ++ (start, length list) ∷ [] → AreWithin (length old) rs → ranges_of new ss ≡ ranges_of old rs ++ list ∷ []
 view_pushed old new rs ss start list front holds e w =
     let last : range_of new (start, length list) ≡ list = rw holds.0 (take_all (length list) list (omega arith)) in
     rw (e, map-append) (rw (view_kept old new rs rs front refl w, last) refl)
@@ -37,20 +38,26 @@ all_push : (n : ℕ) (rs : List (ℕ × ℕ)) (r : ℕ × ℕ) → AreWithin n r
 all_push n [] r w h = (h, tt)
 all_push n (x ∷ rs) r w h = (w.0, all_push n rs r w.1 h)
 
-pub within_pushed : (old new : List ℕ) (rs ss : List (ℕ × ℕ)) (start : ℕ) (list : List ℕ) → IsFrontOf old new → Holds new start list → ss ≡ rs ++ (start, length list) ∷ [] → AreWithin (length old) rs → AreWithin (length new) ss
-within_pushed old new rs ss start list front holds e w = rw e (all_push (length new) rs (start, length list) (within_more (length old) (length new) rs (length_kept old new front) w) (omega (arith, holds.1)))
+pub within_pushed : (old new : List ℕ) (rs ss : List (ℕ × ℕ)) (start : ℕ) (list : List ℕ) → IsFrontOf old new → Holds new start list
+    → ss ≡ rs ++ (start, length list) ∷ [] → AreWithin (length old) rs → AreWithin (length new) ss
+within_pushed old new rs ss start list front holds e w =
+    rw e (all_push (length new) rs (start, length list) (within_more (length old) (length new) rs (length_kept old new front) w) (omega (arith, holds.1)))
 
 pub same_numbers : (xs ys : List ℕ) → pointwise eqb xs ys ≡ true → xs ≡ ys
 same_numbers [] [] e = refl
 same_numbers [] (y ∷ ys) e = cc
 same_numbers (x ∷ xs) [] e = cc
-same_numbers (x ∷ xs) (y ∷ ys) e = let both = and_parts (eqb x y) (pointwise eqb xs ys) e in let rest = same_numbers xs ys both.1 in let first = eqb-true x y both.0 in cc
+same_numbers (x ∷ xs) (y ∷ ys) e =
+    let both = and_parts (eqb x y) (pointwise eqb xs ys) e in let rest = same_numbers xs ys both.1 in let first = eqb-true x y both.0 in cc
 
 -- a list goes on where the places end
-pub goes_on : (places new front list : List ℕ) (last k : ℕ) → front ≡ drop k places → k + length front ≡ length places → list ≡ front ++ last ∷ [] → new ≡ places ++ last ∷ [] → Holds new k list
+pub goes_on : (places new front list : List ℕ) (last k : ℕ) → front ≡ drop k places → k + length front ≡ length places → list ≡ front ++ last ∷ []
+    → new ≡ places ++ last ∷ [] → Holds new k list
 goes_on places new front list last k e len whole pushed =
-    let inside : k ≤ length places = omega arith in
-    (rw (pushed, whole, drop-append-le k places (last ∷ []) inside, e) refl, rw (pushed, whole) (rw (length-append places (last ∷ []), length-append front (last ∷ [])) (omega arith)))
+    let inside : k ≤ length places = omega arith in (
+      rw (pushed, whole, drop-append-le k places (last ∷ []) inside, e) refl,
+      rw (pushed, whole) (rw (length-append places (last ∷ []), length-append front (last ∷ [])) (omega arith)),
+    )
 
 pub always_on_err : {A E : Type 0} (r : Result A E) (P : Type 0) → P → OnErr r P
 always_on_err (Ok a) P p = tt

@@ -43,7 +43,8 @@ either_to f (inl a) = inl (f a)
 either_to f (inr c) = inr c
 
 -- the marks and the marked nodes after one more
-marked_push : (marks : List Bool) (marked : List ℕ) (p : ℕ) → p < length marks → (Contains marked p → ⊥) → AreMarked marks marked → AreMarked (set marks p true) (marked ++ p ∷ [])
+marked_push : (marks : List Bool) (marked : List ℕ) (p : ℕ) → p < length marks → (Contains marked p → ⊥) → AreMarked marks marked
+    → AreMarked (set marks p true) (marked ++ p ∷ [])
 marked_push marks marked p h fresh q = record {
   same = λ c. (
     λ m. push_from marked p c (either_to (q.same c).0 ((mark_one marks p c h).0 m)),
@@ -52,7 +53,8 @@ marked_push marks marked p h fresh q = record {
   once = distinct_push marked p q.once fresh;
 }
 
-pub visited_push : (old nodes : List ℕ) (n : ℕ) (marks new : List Bool) (marked ys : List ℕ) → n < length nodes → get_or marks (get_or nodes n 0) false ≡ false → new ≡ set marks (get_or nodes n 0) true → ys ≡ marked ++ get_or nodes n 0 ∷ [] → Visited old nodes n marks marked → Visited old nodes (n + 1) new ys
+pub visited_push : (old nodes : List ℕ) (n : ℕ) (marks new : List Bool) (marked ys : List ℕ) → n < length nodes → get_or marks (get_or nodes n 0) false ≡ false
+    → new ≡ set marks (get_or nodes n 0) true → ys ≡ marked ++ get_or nodes n 0 ∷ [] → Visited old nodes n marks marked → Visited old nodes (n + 1) new ys
 visited_push old nodes n marks new marked ys h out new_is ys_is v =
     let p = get_or nodes n 0 in
     let below : p < length marks = v.room n h in
@@ -68,15 +70,18 @@ skip_to : (old nodes : List ℕ) (n c : ℕ) → Contains old c ⊎ Among nodes 
 skip_to old nodes n c (inl h) = inl h
 skip_to old nodes n c (inr h) = inr ((among_more nodes n c).1 (inl h))
 
-skip_last : (old nodes marked : List ℕ) (n c : ℕ) → Contains marked (get_or nodes n 0) → (Contains old c ⊎ Among nodes n c → Contains marked c) → Among nodes n c ⊎ (get_or nodes n 0 ≡ c) → Contains marked c
+skip_last : (old nodes marked : List ℕ) (n c : ℕ) → Contains marked (get_or nodes n 0) → (Contains old c ⊎ Among nodes n c → Contains marked c)
+    → Among nodes n c ⊎ (get_or nodes n 0 ≡ c) → Contains marked c
 skip_last old nodes marked n c found f (inl h) = f (inr h)
 skip_last old nodes marked n c found f (inr e) = subst (Contains marked) e found
 
-skip_from : (old nodes marked : List ℕ) (n c : ℕ) → Contains marked (get_or nodes n 0) → (Contains old c ⊎ Among nodes n c → Contains marked c) → Contains old c ⊎ Among nodes (n + 1) c → Contains marked c
+skip_from : (old nodes marked : List ℕ) (n c : ℕ) → Contains marked (get_or nodes n 0) → (Contains old c ⊎ Among nodes n c → Contains marked c)
+    → Contains old c ⊎ Among nodes (n + 1) c → Contains marked c
 skip_from old nodes marked n c found f (inl h) = f (inl h)
 skip_from old nodes marked n c found f (inr h) = skip_last old nodes marked n c found f ((among_more nodes n c).0 h)
 
-pub visited_skip : (old nodes : List ℕ) (n : ℕ) (marks new : List Bool) (marked ys : List ℕ) → n < length nodes → get_or marks (get_or nodes n 0) false ≡ true → new ≡ marks → ys ≡ marked → Visited old nodes n marks marked → Visited old nodes (n + 1) new ys
+pub visited_skip : (old nodes : List ℕ) (n : ℕ) (marks new : List Bool) (marked ys : List ℕ) → n < length nodes → get_or marks (get_or nodes n 0) false ≡ true
+    → new ≡ marks → ys ≡ marked → Visited old nodes n marks marked → Visited old nodes (n + 1) new ys
 visited_skip old nodes n marks new marked ys h inside new_is ys_is v =
     let found : Contains marked (get_or nodes n 0) = (v.are.same (get_or nodes n 0)).0 (v.room n h, inside) in
     rw (new_is, ys_is) (record {
@@ -97,7 +102,8 @@ none_from old nodes c (inr h) = absurd (none_at nodes c h)
 pub node_at : (xs : List ℕ) (k : ℕ) → k < length xs → Contains xs (get_or xs k 0)
 node_at xs k h = (among_all xs (length xs) (get_or xs k 0) refl).1 (k, h, refl)
 
-pub visited_none : (old nodes : List ℕ) (marks : List Bool) → ((c : ℕ) → Contains nodes c → c < length marks) → AreMarked marks old → Visited old nodes 0 marks old
+pub visited_none : (old nodes : List ℕ) (marks : List Bool) → ((c : ℕ) → Contains nodes c → c < length marks) → AreMarked marks old
+    → Visited old nodes 0 marks old
 visited_none old nodes marks room are = record {
   room = λ k h. room (get_or nodes k 0) (node_at nodes k h);
   are = are;
@@ -105,7 +111,8 @@ visited_none old nodes marks room are = record {
   added = λ c. (λ w. inl w, λ w. none_from old nodes c w);
 }
 
-pub visited_all : (old nodes : List ℕ) (n : ℕ) (marks : List Bool) (marked : List ℕ) → n ≡ length nodes → Visited old nodes n marks marked → (c : ℕ) → Contains marked c ↔ (Contains old c ⊎ Contains nodes c)
+pub visited_all : (old nodes : List ℕ) (n : ℕ) (marks : List Bool) (marked : List ℕ) → n ≡ length nodes → Visited old nodes n marks marked → (c : ℕ)
+    → Contains marked c ↔ (Contains old c ⊎ Contains nodes c)
 visited_all old nodes n marks marked e v c = joined_end (v.added c) (among_all nodes n c e)
 
 -- ---- taking marks away
@@ -121,7 +128,8 @@ cleared_none nodes marks are = record {
   left = λ c m. ((are.same c).0 m, none_at nodes c);
 }
 
-cleared_other : (nodes : List ℕ) (n : ℕ) (marks : List Bool) (c : ℕ) → Cleared nodes n marks → (c ≡ get_or nodes n 0) ⊎ (c ≢ get_or nodes n 0) → get_or nodes n 0 < length marks → IsMarked (set marks (get_or nodes n 0) false) c → Contains nodes c × (Among nodes (n + 1) c → ⊥)
+cleared_other : (nodes : List ℕ) (n : ℕ) (marks : List Bool) (c : ℕ) → Cleared nodes n marks → (c ≡ get_or nodes n 0) ⊎ (c ≢ get_or nodes n 0)
+    → get_or nodes n 0 < length marks → IsMarked (set marks (get_or nodes n 0) false) c → Contains nodes c × (Among nodes (n + 1) c → ⊥)
 cleared_other nodes n marks c v (inl same) h (below, t) =
     absurd (true≢false (sym t ∙ ap (λ i. get_or (set marks (get_or nodes n 0) false) i false) same ∙ get_or-set_same marks (get_or nodes n 0) false false h))
 cleared_other nodes n marks c v (inr other) h (below, t) =
@@ -130,7 +138,8 @@ cleared_other nodes n marks c v (inr other) h (below, t) =
     let old = v.left c (under, sym (get_or-set_other marks p c false false other) ∙ t) in
     (old.0, λ w. (elim ((among_more nodes n c).0 w) [ inl more ↦ old.1 more | inr is ↦ other (sym is) ]))
 
-pub cleared_more : (nodes : List ℕ) (n : ℕ) (marks new : List Bool) → n < length nodes → new ≡ set marks (get_or nodes n 0) false → Cleared nodes n marks → Cleared nodes (n + 1) new
+pub cleared_more : (nodes : List ℕ) (n : ℕ) (marks new : List Bool) → n < length nodes → new ≡ set marks (get_or nodes n 0) false → Cleared nodes n marks
+    → Cleared nodes (n + 1) new
 cleared_more nodes n marks new h new_is v = rw new_is (record {
   room = λ k inside. (let old_room = v.room k inside in omega (arith, old_room, length-set marks (get_or nodes n 0) false));
   left = λ c. cleared_other nodes n marks c v (cases_eq c (get_or nodes n 0)) (v.room n h);

@@ -38,4 +38,5 @@ AreUnions lists g unions n = (a : ℕ) → a < n → IsUnion lists (successors g
 pub record AreClosed (lists : List (List ℕ)) (n : ℕ) : Type 0 where
   pub own : (a : ℕ) → a < n → Contains (slice_index_or lists a []) a
   pub within : (a b : ℕ) → a < n → Contains (slice_index_or lists a []) b → b < n
-  pub closed : (a b c : ℕ) → a < n → Contains (slice_index_or lists a []) b → Contains (slice_index_or lists b []) c → Contains (slice_index_or lists a []) c
+  pub closed : (a b c : ℕ) → a < n → Contains (slice_index_or lists a []) b → Contains (slice_index_or lists b []) c
+      → Contains (slice_index_or lists a []) c

@@ -1,6 +1,7 @@
 //! What each node leads to, where every edge goes to a smaller node.
 
-ghost use Rattle.std.specs.Prelude.{◌≡◌, ◌↔◌, ℕ, ◌<◌, ◌≤◌, [], length, Contains, IfOk, OnOk};
+ghost use Rattle.std.specs.List.Sorted.{IsStrictlyIncreasing};
+ghost use Rattle.std.specs.Prelude.{◌≡◌, ◌↔◌, ℕ, ◌<◌, ◌≤◌, ◌++◌, ◌∷◌, [], length, slice_index_or, Contains, IfOk, OnOk};
 ghost use Rattle.digraph.specs.Edges.{IsFalling, IsWithin, graph_of, successors};
 ghost use Rattle.digraph.specs.Leads.{AreClosed, AreReaches, AreUnions, InLists, IsUnion};
 ghost use Rattle.digraph.specs.Marks.{AreMarked, NoneMarked};
@@ -23,7 +24,8 @@ fn gather(
     requires marked { AreMarked marks.old marked.old.items }
     requires empty { marked.old.items ≡ [] }
     ensures marked { OnOk result (AreMarked marks.new marked.new.items) }
-    ensures gathered { OnOk result ((c : ℕ) → Contains marked.new.items c ↔ InLists lists.now nodes.now c) }
+    ensures gathered { OnOk result ((c : ℕ)
+        → Contains marked.new.items c ↔ InLists lists.now nodes.now c) }
 {
     for node in nodes {
         if !marks[*node] {
@@ -58,16 +60,52 @@ fn union_of(
     Ok(union)
 }
 
+/// A list and a number behind it.
+fn extended(alloc: Global, list: &[usize], number: usize) -> Result<Vec<usize>, AllocError>
+    ensures { IfOk result (λ extended. extended.items ≡ list.now ++ number ∷ []) }
+{
+    let mut extended = Vec::with_capacity(alloc, list.len())?;
+    extended.extend_from_slice(list)?;
+    extended.push(number)?;
+    Ok(extended)
+}
+
+/// The union of a node with what stands in the lists of lower ones, which are below it. That of one list is the list and the
+/// node behind it, so that a chain of nodes takes no marks and is not sorted.
+fn union_above(
+    alloc: Global,
+    lists: &Lists,
+    nodes: &[usize],
+    own: usize,
+    marks: &mut [bool],
+) -> Result<Vec<usize>, AllocError>
+    requires own { own < length marks.old }
+    requires room { length lists.now ≤ length marks.old }
+    requires nodes { (b : ℕ) → Contains nodes.now b → b < length lists.now }
+    requires closed { AreClosed lists.now (length lists.now) }
+    requires rises { (b : ℕ) → b < length lists.now → IsStrictlyIncreasing (slice_index_or lists.now b []) }
+    requires below { (b c : ℕ) → b < length lists.now → Contains (slice_index_or lists.now b []) c → c < own }
+    requires none { NoneMarked marks.old }
+    ensures union { IfOk result (λ union. IsUnion lists.now nodes.now own union.items) }
+    ensures none { OnOk result (NoneMarked marks.new) }
+{
+    if let [node] = nodes {
+        return Ok(extended(alloc, lists.get(*node), own)?);
+    }
+    union_of(alloc, lists, nodes, own, marks)
+}
+
 /// What each node leads to, itself among it, in rising order.
 pub fn reach_lists(alloc: Global, graph: &[Vec<usize>]) -> Result<Lists, AllocError>
     requires { IsFalling (graph_of graph.now) }
     ensures size { IfOk result (λ lists. length lists ≡ length graph.now) }
-    ensures reaches { IfOk result (λ lists. AreReaches (graph_of graph.now) lists (length graph.now)) }
+    ensures reaches { IfOk result (λ lists. AreReaches (graph_of graph.now) lists
+        (length graph.now)) }
 {
     let mut marks = unmarked(alloc, graph.len())?;
     let mut lists = Lists::new(alloc);
     for own in 0..graph.len() {
-        let list = union_of(alloc, &lists, row(graph, own), own, &mut marks)?;
+        let list = union_above(alloc, &lists, row(graph, own), own, &mut marks)?;
         lists.push(&list)?;
     }
     Ok(lists)
@@ -79,7 +117,8 @@ pub fn union_lists(alloc: Global, lists: &Lists, graph: &[Vec<usize>]) -> Result
     requires within { IsWithin (graph_of graph.now) (length graph.now) }
     requires closed { AreClosed lists.now (length lists.now) }
     ensures size { IfOk result (λ unions. length unions ≡ length graph.now) }
-    ensures unions { IfOk result (λ unions. AreUnions lists.now (graph_of graph.now) unions (length graph.now)) }
+    ensures unions { IfOk result (λ unions. AreUnions lists.now (graph_of graph.now) unions
+        (length graph.now)) }
 {
     let mut marks = unmarked(alloc, graph.len())?;
     let mut unions = Lists::new(alloc);

@@ -23,7 +23,8 @@ pub(crate) fn visit(
     requires marked { AreMarked marks.old marked.old.items }
     ensures marked { OnOk result (AreMarked marks.new marked.new.items) }
     ensures front { OnOk result (IsFrontOf marked.old.items marked.new.items) }
-    ensures added { OnOk result ((c : ℕ) → Contains marked.new.items c ↔ (Contains marked.old.items c ⊎ Contains nodes.now c)) }
+    ensures added { OnOk result ((c : ℕ)
+        → Contains marked.new.items c ↔ (Contains marked.old.items c ⊎ Contains nodes.now c)) }
 {
     for node in nodes {
         if !marks[*node] {

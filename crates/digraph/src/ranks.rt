@@ -54,7 +54,10 @@ fn deal(
     requires nodes { (a : ℕ) → Contains (nodes_of waiting.now) a → a < length graph.now }
     requires rises { IsStrictlyIncreasing (nodes_of waiting.now) }
     requires passed { ArePassed (graph_of graph.now) marks.now waiting.now }
-    ensures dealt { IfOk result (λ later. (ready : List ℕ) × (order.new.items ≡ order.old.items ++ ready) × IsDealt (graph_of graph.now) marks.now (nodes_of waiting.now) (length waiting.now) ready (nodes_of later.items)) }
+    ensures dealt { IfOk result (λ later. (ready : List ℕ)
+        × (order.new.items ≡ order.old.items ++ ready)
+        × IsDealt (graph_of graph.now) marks.now (nodes_of waiting.now) (length waiting.now) ready
+        (nodes_of later.items)) }
     ensures passed { IfOk result (λ later. ArePassed (graph_of graph.now) marks.now later.items) }
 {
     let mut later = Vec::new(alloc);
@@ -73,10 +76,13 @@ fn deal(
 
 /// Gives nodes a rank, and marks them.
 fn settle(nodes: &[usize], rank: usize, marks: &mut [bool], ranks: &mut [usize])
-    requires room { (c : ℕ) → Contains nodes.now c → (c < length marks.old) × (c < length ranks.old) }
-    ensures marked { (c : ℕ) → IsMarked marks.new c ↔ (IsMarked marks.old c ⊎ Contains nodes.now c) }
+    requires room { (c : ℕ) → Contains nodes.now c
+        → (c < length marks.old) × (c < length ranks.old) }
+    ensures marked { (c : ℕ) → IsMarked marks.new c
+        ↔ (IsMarked marks.old c ⊎ Contains nodes.now c) }
     ensures ranked { (c : ℕ) → Contains nodes.now c → rank_in ranks.new c ≡ rank }
-    ensures others { (c : ℕ) → (Contains nodes.now c → ⊥) → rank_in ranks.new c ≡ rank_in ranks.old c }
+    ensures others { (c : ℕ) → (Contains nodes.now c → ⊥)
+        → rank_in ranks.new c ≡ rank_in ranks.old c }
 {
     for node in nodes {
         marks[*node] = true;
@@ -88,8 +94,10 @@ fn settle(nodes: &[usize], rank: usize, marks: &mut [bool], ranks: &mut [usize])
 fn all_waiting(alloc: Global, count: usize) -> Result<Vec<Waiting>, AllocError>
     ensures size { IfOk result (λ waiting. length waiting.items ≡ count) }
     ensures rises { IfOk result (λ waiting. IsStrictlyIncreasing (nodes_of waiting.items)) }
-    ensures members { IfOk result (λ waiting. (a : ℕ) → Contains (nodes_of waiting.items) a ↔ (a < count)) }
-    ensures passed { IfOk result (λ waiting. AllByRecursion (λ (w : Waiting). w.passed ≡ 0) waiting.items) }
+    ensures members { IfOk result (λ waiting. (a : ℕ)
+        → Contains (nodes_of waiting.items) a ↔ (a < count)) }
+    ensures passed { IfOk result (λ waiting. AllByRecursion (λ (w : Waiting). w.passed ≡ 0)
+        waiting.items) }
 {
     let mut waiting = Vec::new(alloc);
     for node in 0..count {
@@ -101,8 +109,10 @@ fn all_waiting(alloc: Global, count: usize) -> Result<Vec<Waiting>, AllocError>
 /// The ranks of the nodes, and the nodes by rank; None where a node can be left and come back to.
 pub fn rank_nodes(alloc: Global, graph: &[Vec<usize>]) -> Result<Option<Ranking>, AllocError>
     requires { IsWithin (graph_of graph.now) (length graph.now) }
-    ensures ranks { IfOk result (λ found. IfSome found (λ ranking. IsRanked (graph_of graph.now) ranking.ranks.items)) }
-    ensures order { IfOk result (λ found. IfSome found (λ ranking. IsRankOrder ranking.ranks.items ranking.order.items)) }
+    ensures ranks { IfOk result (λ found. IfSome found
+        (λ ranking. IsRanked (graph_of graph.now) ranking.ranks.items)) }
+    ensures order { IfOk result (λ found. IfSome found
+        (λ ranking. IsRankOrder ranking.ranks.items ranking.order.items)) }
     ensures none { IfOk result (λ found. IfNone found (HasNoCycle (graph_of graph.now) → ⊥)) }
 {
     let mut marks = unmarked(alloc, graph.len())?;

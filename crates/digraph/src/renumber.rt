@@ -31,7 +31,8 @@ fn positions_in(
     positions: &[usize],
 ) -> Result<Vec<usize>, AllocError>
     requires { (b : ℕ) → Contains nodes.now b → b < length positions.now }
-    ensures { IfOk result (λ row. row.items ≡ map (λ b. slice_index_or positions.now b 0) nodes.now) }
+    ensures { IfOk result (λ row. row.items
+        ≡ map (λ b. slice_index_or positions.now b 0) nodes.now) }
 {
     let mut row = Vec::with_capacity(alloc, nodes.len())?;
     for node in nodes {
@@ -47,7 +48,8 @@ fn falling_positions(
     positions: &[usize],
 ) -> Result<Vec<usize>, AllocError>
     requires { (b : ℕ) → Contains nodes.now b → b < length positions.now }
-    ensures { IfOk result (λ row. (j : ℕ) → Contains row.items j ↔ HasPosition positions.now nodes.now j) }
+    ensures { IfOk result (λ row. (j : ℕ)
+        → Contains row.items j ↔ HasPosition positions.now nodes.now j) }
 {
     let mut row = positions_in(alloc, nodes, positions)?;
     row.sort_unstable();
@@ -66,7 +68,8 @@ pub fn renumbered(
     requires positions { ArePositions order.now positions.now }
     requires size { length graph.now ≡ length order.now }
     requires within { IsWithin (graph_of graph.now) (length graph.now) }
-    ensures { IfOk result (λ rows. IsRenumbered (graph_of graph.now) order.now (graph_of rows.items)) }
+    ensures { IfOk result (λ rows. IsRenumbered (graph_of graph.now) order.now
+        (graph_of rows.items)) }
 {
     let mut rows = Vec::with_capacity(alloc, order.len())?;
     for node in order {
@@ -90,8 +93,10 @@ fn nodes_at(alloc: Global, list: &[usize], order: &[usize]) -> Result<Vec<usize>
 
 /// Lists of positions as lists of the nodes there.
 pub fn with_nodes(alloc: Global, lists: &Lists, order: &[usize]) -> Result<Lists, AllocError>
-    requires { (a k : ℕ) → a < length lists.now → Contains (slice_index_or lists.now a []) k → k < length order.now }
-    ensures { IfOk result (λ named. named ≡ map (λ (list : List ℕ). map (node_at order.now) list) lists.now) }
+    requires { (a k : ℕ) → a < length lists.now → Contains (slice_index_or lists.now a []) k
+        → k < length order.now }
+    ensures { IfOk result (λ named. named
+        ≡ map (λ (list : List ℕ). map (node_at order.now) list) lists.now) }
 {
     let mut named = Lists::new(alloc);
     for place in 0..lists.len() {

@@ -28,7 +28,8 @@ fn search(
     requires room { length marks.old ≡ length graph.now }
     requires none { NoneMarked marks.old }
     requires empty { found.old.items ≡ [] }
-    ensures { OnOk result ((c : ℕ) → IsMarked marks.new c ↔ Leads (Edge (graph_of graph.now)) c start) }
+    ensures { OnOk result ((c : ℕ) → IsMarked marks.new c
+        ↔ Leads (Edge (graph_of graph.now)) c start) }
 {
     let first = [start];
     visit(&first, marks, found)?;
@@ -46,7 +47,8 @@ pub fn reached(alloc: Global, graph: &[Vec<usize>], start: usize) -> Result<Vec<
     requires start { start < length graph.now }
     requires within { IsWithin (graph_of graph.now) (length graph.now) }
     ensures size { IfOk result (λ marks. length marks.items ≡ length graph.now) }
-    ensures marked { IfOk result (λ marks. (c : ℕ) → IsMarked marks.items c ↔ Leads (Edge (graph_of graph.now)) c start) }
+    ensures marked { IfOk result (λ marks. (c : ℕ)
+        → IsMarked marks.items c ↔ Leads (Edge (graph_of graph.now)) c start) }
 {
     let mut marks = unmarked(alloc, graph.len())?;
     let mut found = Vec::new(alloc);
@@ -69,7 +71,8 @@ fn empty_rows(alloc: Global, count: usize) -> Result<Vec<Vec<usize>>, AllocError
 /// Appends a node to the row of each of its successors.
 fn turn(nodes: &[usize], node: usize, rows: &mut [Vec<usize>]) -> Result<(), AllocError>
     requires room { (b : ℕ) → Contains nodes.now b → b < length rows.old }
-    ensures { OnOk result ((b a : ℕ) → Edge (graph_of rows.new) b a ↔ (Edge (graph_of rows.old) b a ⊎ ((a ≡ node) × Contains nodes.now b))) }
+    ensures { OnOk result ((b a : ℕ) → Edge (graph_of rows.new) b a
+        ↔ (Edge (graph_of rows.old) b a ⊎ ((a ≡ node) × Contains nodes.now b))) }
 {
     for successor in nodes {
         rows[*successor].push(node)?;
@@ -81,7 +84,8 @@ fn turn(nodes: &[usize], node: usize, rows: &mut [Vec<usize>]) -> Result<(), All
 pub fn predecessors(alloc: Global, graph: &[Vec<usize>]) -> Result<Vec<Vec<usize>>, AllocError>
     requires { IsWithin (graph_of graph.now) (length graph.now) }
     ensures size { IfOk result (λ rows. length rows.items ≡ length graph.now) }
-    ensures turned { IfOk result (λ rows. (b a : ℕ) → Edge (graph_of rows.items) b a ↔ Edge (graph_of graph.now) a b) }
+    ensures turned { IfOk result (λ rows. (b a : ℕ)
+        → Edge (graph_of rows.items) b a ↔ Edge (graph_of graph.now) a b) }
 {
     let mut rows = empty_rows(alloc, graph.len())?;
     for node in 0..graph.len() {

@@ -28,7 +28,8 @@ repeats Repeat (Some r) g = g == r
 abbrev pub carried_from : Mode → (ℕ → List ℕ) → List ℕ → List (Option ℕ) → List (List ℕ)
 carried_from mode reach sent [] = []
 carried_from mode reach sent (root ∷ roots) =
-    filter (λ g. repeats mode root g || not (has g sent)) (root_first reach root) ∷ carried_from mode reach (sent ++ reached reach root) roots
+    filter (λ g. repeats mode root g || not (has g sent)) (root_first reach root)
+    ∷ carried_from mode reach (sent ++ reached reach root) roots
 
 abbrev pub carried : Mode → (ℕ → List ℕ) → List (Option ℕ) → List (List ℕ)
 carried mode reach roots = carried_from mode reach [] roots

@@ -13,15 +13,19 @@ ReachThemselves reach roots = All (λ root. ForSome root (λ r. IsTrue (has r (r
 -- where no root is repeated, a reply carries a file exactly where its root is the first that reaches it
 abbrev pub CarriesFirsts : Type 0
 CarriesFirsts = (reach : ℕ → List ℕ) (roots : List (Option ℕ)) → length roots ≤ NONE → ReachThemselves reach roots
-    → (i g : ℕ) (files : List ℕ) → slice_get (carried Once reach roots) i ≡ Some files → IsTrue (has g files) ↔ (first_reach reach roots g ≡ i)
+    → (i g : ℕ) (files : List ℕ) → slice_get (carried Once reach roots) i ≡ Some files
+    → IsTrue (has g files) ↔ (first_reach reach roots g ≡ i)
 
--- where roots are repeated, a reply carries a file exactly where it is the root, or its root is the first that reaches it
+-- where roots are repeated, a reply carries a file exactly where it is the root, or its root is the first that reaches
+-- it
 abbrev pub RepeatCarriesRoots : Type 0
 RepeatCarriesRoots = (reach : ℕ → List ℕ) (roots : List (Option ℕ)) → length roots ≤ NONE → ReachThemselves reach roots
-    → (i g : ℕ) (root : Option ℕ) (files : List ℕ) → slice_get roots i ≡ Some root → slice_get (carried Repeat reach roots) i ≡ Some files
+    → (i g : ℕ) (root : Option ℕ) (files : List ℕ) → slice_get roots i ≡ Some root
+    → slice_get (carried Repeat reach roots) i ≡ Some files
     → IsTrue (has g files) ↔ ((root ≡ Some g) ⊎ (first_reach reach roots g ≡ i))
 
--- where each place is posted at exactly the files that its root reaches, the least number at a file is the place of the first root that reaches it
+-- where each place is posted at exactly the files that its root reaches, the least number at a file is the place of the
+-- first root that reaches it
 abbrev pub LeastIsFirst : Type 0
 LeastIsFirst = (reach : ℕ → List ℕ) (roots : List (Option ℕ)) → length roots ≤ NONE
     → (pairs : List (ℕ × ℕ)) → ((g n : ℕ) → IsTrue (posted g n pairs) ↔ RootReaches reach roots g n)

@@ -5,7 +5,8 @@ use Rattle.first_reach.specs.Carried.{has, root_first, repeats}
 
 -- what the reply at place i carries: of what its root reaches, all of which i is the first place, and what it repeats
 abbrev pub reply_at : Mode → (ℕ → List ℕ) → List ℕ → ℕ → Option ℕ → List ℕ
-reply_at mode reach first i root = filter (λ g. repeats mode root g || (slice_index first g == i)) (root_first reach root)
+reply_at mode reach first i root =
+    filter (λ g. repeats mode root g || (slice_index first g == i)) (root_first reach root)
 
 -- of these files those but the root of which i is the first place
 abbrev pub others_at : List ℕ → ℕ → ℕ → List ℕ → List ℕ

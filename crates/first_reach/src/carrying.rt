@@ -32,7 +32,8 @@ where
     G: Gate + Sync,
     F: Reach + Sync,
     requires { All (λ root. ForSome root (λ r. r < F.files reach.now)) roots.now }
-    ensures { IfOk result (λ lists. map (λ files. files.items) lists.items ≡ carried mode (F.list reach.now) roots.now) }
+    ensures { IfOk result (λ lists. map (λ files. files.items) lists.items
+        ≡ carried mode (F.list reach.now) roots.now) }
 {
     let least = firsts(rt, reach, plan, gate, roots)?;
     let work = Replying {

@@ -89,8 +89,10 @@ fn join_seats<F: Reach>(table: &MarkTable<'_, F>, seats: Vec<MarkSeat>) -> Optio
     requires { All (λ s. s.table ≡ table.now.table) seats.items }
     ensures some { MatchOption result (length seats.items ≡ 0) (λ s. 0 < length seats.items) }
     ensures table { IfSome result (λ s. s.table ≡ table.now.table) }
-    ensures parts { IfSome result (λ s. s.view.least.parts ≡ sum_by (λ t. t.view.least.parts) seats.items) }
-    ensures marks { IfSome result (λ s. (reach : ℕ → List ℕ) (g n : ℕ) → has_posted reach s g n ≡ list_any (λ t. has_posted reach t g n) seats.items) }
+    ensures parts { IfSome result (λ s. s.view.least.parts
+        ≡ sum_by (λ t. t.view.least.parts) seats.items) }
+    ensures marks { IfSome result (λ s. (reach : ℕ → List ℕ) (g n : ℕ)
+        → has_posted reach s g n ≡ list_any (λ t. has_posted reach t g n) seats.items) }
 {
     let mut seats = seats;
     let mut seat = seats.pop()?;
@@ -114,7 +116,8 @@ where
     F: Reach + Sync,
     requires { All (λ root. ForSome root (λ r. r < F.files reach.now)) roots.now }
     ensures count { IfOk result (λ l. length l ≡ F.files reach.now) }
-    ensures first { IfOk result (λ l. (g : ℕ) → g < F.files reach.now → slice_index l g ≡ first_reach (F.list reach.now) roots.now g) }
+    ensures first { IfOk result (λ l. (g : ℕ) → g < F.files reach.now
+        → slice_index l g ≡ first_reach (F.list reach.now) roots.now g) }
 {
     let (table, seat) = MarkTable::new(rt.alloc(), reach)?;
     let mut seats = split_seats(rt.alloc(), &table, seat, plan.workers())?;

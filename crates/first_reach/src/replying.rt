@@ -61,8 +61,11 @@ impl<F: Reach> Replying<'_, F> {
     /// so that the list needn't be read.
     fn reply(&self, alloc: Global, root: usize, place: u64) -> Result<Vec<usize>, AllocError>
         requires count { length self.now.least.now ≡ F.files self.now.reach.now }
-        requires root { (root < F.files self.now.reach.now) × RootIsFirstToo (F.list self.now.reach.now) self.now.least.now place root }
-        ensures { IfOk result (λ v. v.items ≡ reply_at self.now.mode (F.list self.now.reach.now) self.now.least.now place (Some root)) }
+        requires root { (root < F.files self.now.reach.now)
+            × RootIsFirstToo (F.list self.now.reach.now) self.now.least.now place root }
+        ensures { IfOk result (λ v. v.items
+            ≡ reply_at self.now.mode (F.list self.now.reach.now) self.now.least.now place
+            (Some root)) }
     {
         let mut files = Vec::new(alloc);
         if self.least.get(root) == place {
@@ -78,7 +81,8 @@ impl<F: Reach> Replying<'_, F> {
     fn add_others(&self, files: &mut Vec<usize>, root: usize, place: u64) -> Result<(), AllocError>
         requires count { length self.now.least.now ≡ F.files self.now.reach.now }
         requires root { root < F.files self.now.reach.now }
-        ensures { OnOk result (files.new.items ≡ files.old.items ++ others_at self.now.least.now place root (F.list self.now.reach.now root)) }
+        ensures { OnOk result (files.new.items ≡ files.old.items
+            ++ others_at self.now.least.now place root (F.list self.now.reach.now root)) }
     {
         let mut k = 0;
         while let Some(file) = self.reach.reached(root, k) {

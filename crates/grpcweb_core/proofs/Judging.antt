@@ -12,7 +12,8 @@ use Rattle.proto_compile.specs.Compilation.{Compilation}
 
 -- ---- targets
 
-pub of_path : (path target query : List ℕ) → take (length path) target ≡ path → query ≡ drop (length path) target → IsEmptyOrBegins 63 query → IsTargetOf path target
+pub of_path : (path target query : List ℕ) → take (length path) target ≡ path → query ≡ drop (length path) target → IsEmptyOrBegins 63 query
+    → IsTargetOf path target
 of_path path target query front rest begins =
     (query, sym (take-append-drop (length path) target) ∙ ap (λ l. l ++ drop (length path) target) front ∙ ap (λ l. path ++ l) (sym rest), begins)
 
@@ -31,7 +32,8 @@ blank_is b (inl space) is = absurd (omega (arith, space, is))
 blank_is b (inr tab) is = absurd (omega (arith, tab, is))
 
 -- behind blanks stands a semicolon, where what is behind a type leaves it as it is
-pub behind_blanks : (text : List ℕ) (k d : ℕ) → All IsBlank (take k text) → k < length text → (IsBlank (get_or text k d) → ⊥) → IsBehindType text → get_or text k d ≡ 59
+pub behind_blanks : (text : List ℕ) (k d : ℕ) → All IsBlank (take k text) → k < length text → (IsBlank (get_or text k d) → ⊥) → IsBehindType text
+    → get_or text k d ≡ 59
 behind_blanks [] k d all below none behind = absurd (omega (arith, below))
 behind_blanks (x ∷ xs) zero d all below none ([], parameters, is, blanks, begins) = subst (IsEmptyOrBegins 59) (sym is) begins
 behind_blanks (x ∷ xs) zero d all below none (y ∷ ys, parameters, is, blanks, begins) =
@@ -39,7 +41,8 @@ behind_blanks (x ∷ xs) zero d all below none (y ∷ ys, parameters, is, blanks
 behind_blanks (x ∷ xs) (suc k) d all below none ([], parameters, is, blanks, begins) =
     absurd (blank_is x (all 0 d (omega arith)) (subst (IsEmptyOrBegins 59) (sym is) begins))
 behind_blanks (x ∷ xs) (suc k) d all below none (y ∷ ys, parameters, is, blanks, begins) =
-    behind_blanks xs k d (λ j e h. all (suc j) e (omega (arith, h))) (omega (arith, below)) none (ys, parameters, ap (λ l. drop 1 l) is, (λ j e h. blanks (suc j) e (omega (arith, h))), begins)
+    behind_blanks xs k d (λ j e h. all (suc j) e (omega (arith, h))) (omega (arith, below)) none
+    (ys, parameters, ap (λ l. drop 1 l) is, (λ j e h. blanks (suc j) e (omega (arith, h))), begins)
 
 pub is_behind : (text : List ℕ) (k d : ℕ) → All IsBlank (take k text) → k < length text → get_or text k d ≡ 59 → IsBehindType text
 is_behind text k d all below is = (take k text, drop k text, sym (take-append-drop k text), all, begins text k below is)
@@ -56,7 +59,9 @@ all_blank text all = (text, [], sym (append-nil text), all, tt)
 pub name_long : (media name : List ℕ) → map to_ascii_lowercase name ≡ map to_ascii_lowercase media → length name ≡ length media
 name_long media name same = sym (length-map name to_ascii_lowercase) ∙ ap length same ∙ length-map media to_ascii_lowercase
 
-pub parts_of : (media text : List ℕ) → IsOfType media text → (length media ≤ length text) × (map to_ascii_lowercase (take (length media) text) ≡ map to_ascii_lowercase media) × IsBehindType (drop (length media) text)
+pub parts_of : (media text : List ℕ) → IsOfType media text
+    → (length media ≤ length text) × (map to_ascii_lowercase (take (length media) text) ≡ map to_ascii_lowercase media)
+    × IsBehindType (drop (length media) text)
 parts_of media text (name, behind, is, same, left) =
     let long = name_long media name same in (
       (let h = ap length is ∙ length-append name behind in omega (arith, h, long)),
@@ -65,14 +70,23 @@ parts_of media text (name, behind, is, same, left) =
     )
 
 -- a byte that is no blank, behind blanks, decides
-pub semicolon : (text : List ℕ) (k : ℕ) → All IsBlank (take k text) → k < length text → (IsBlank (get_or text k 0) → ⊥) → IsTrue (nat_eq (get_or text k 0) 59) ↔ IsBehindType text
-semicolon text k all below none =
-    (λ same. is_behind text k 0 all below (eqb-true (get_or text k 0) 59 same), λ behind. subst (λ b. nat_eq b 59 ≡ true) (sym (behind_blanks text k 0 all below none behind)) refl)
+pub semicolon : (text : List ℕ) (k : ℕ) → All IsBlank (take k text) → k < length text → (IsBlank (get_or text k 0) → ⊥)
+    → IsTrue (nat_eq (get_or text k 0) 59) ↔ IsBehindType text
+semicolon text k all below none = (
+  λ same. is_behind text k 0 all below (eqb-true (get_or text k 0) 59 same),
+  λ behind. subst (λ b. nat_eq b 59 ≡ true) (sym (behind_blanks text k 0 all below none behind)) refl,
+)
 
-pub of_parts : (media text : List ℕ) (name behind : List ℕ) {shown : List ℕ} → text ≡ shown → name ≡ take (length media) shown → behind ≡ drop (length media) shown
+pub of_parts : (media text : List ℕ) (name behind : List ℕ) {shown : List ℕ} → text ≡ shown → name ≡ take (length media) shown
+    → behind ≡ drop (length media) shown
     → map to_ascii_lowercase name ≡ map to_ascii_lowercase media → IsBehindType behind → IsOfType media text
-of_parts media text name behind {shown = shown} is front back same left =
-    (name, behind, is ∙ sym (take-append-drop (length media) shown) ∙ ap (λ l. l ++ drop (length media) shown) (sym front) ∙ ap (λ l. name ++ l) (sym back), same, left)
+of_parts media text name behind {shown = shown} is front back same left = (
+  name,
+  behind,
+  is ∙ sym (take-append-drop (length media) shown) ∙ ap (λ l. l ++ drop (length media) shown) (sym front) ∙ ap (λ l. name ++ l) (sym back),
+  same,
+  left,
+)
 
 -- an answer that is this one
 pub as_said : {mode : Mode} {c : Compilation} {request : Request} {a b : Answer} → a ≡ b → IsAnswer mode c request b → IsAnswer mode c request a

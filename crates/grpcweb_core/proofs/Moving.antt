@@ -75,21 +75,28 @@ long_front room sub filled within = length-append (take filled room) sub ∙ ap 
 
 front_of : (room sub : List ℕ) (filled n : ℕ) → filled ≤ length room → take (filled + n) (take filled room ++ sub) ≡ take filled room ++ take n sub
 front_of room sub filled n within =
-    subst (λ k. take (k + n) (take filled room ++ sub) ≡ take filled room ++ take n sub) (length-take-le filled room within) (take_of_two (take filled room) sub n)
+    subst (λ k. take (k + n) (take filled room ++ sub) ≡ take filled room ++ take n sub) (length-take-le filled room within)
+    (take_of_two (take filled room) sub n)
 
-pub read_more : {E : Type 0} (old now new : Reads) (room sub : List ℕ) (filled n : ℕ) → IsReading old now room filled → n ≤ length sub → 0 < n → IsReadOnce {E = E} now new (Ok n) sub → IsReading old new (take filled room ++ sub) (filled + n)
+pub read_more : {E : Type 0} (old now new : Reads) (room sub : List ℕ) (filled n : ℕ) → IsReading old now room filled → n ≤ length sub → 0 < n
+    → IsReadOnce {E = E} now new (Ok n) sub → IsReading old new (take filled room ++ sub) (filled + n)
 read_more old now new room sub filled n so short some once =
     record {
       within = (let h = long_front room sub filled so.within in omega (arith, h, short));
-      bytes = once.bytes ∙ ap (λ l. l ++ take n sub) so.bytes ∙ append_assoc old.bytes (take filled room) (take n sub) ∙ ap (λ l. old.bytes ++ l) (sym (front_of room sub filled n so.within));
-      calls = (let h = ap length once.calls ∙ length-append now.calls (record { room = length sub; given = Some n } ∷ []) in let k = so.calls in omega (arith, h, k, some));
+      bytes = once.bytes ∙ ap (λ l. l ++ take n sub) so.bytes ∙ append_assoc old.bytes (take filled room) (take n sub)
+          ∙ ap (λ l. old.bytes ++ l) (sym (front_of room sub filled n so.within));
+      calls = (let h = ap length once.calls ∙ length-append now.calls (record { room = length sub; given = Some n } ∷ []) in let k = so.calls in
+          omega (arith, h, k, some));
       failures = once.failures ∙ add_zero now.failures ∙ so.failures;
-      left = subst (λ l. Consumes old.left new.left l) (sym (front_of room sub filled n so.within)) (consumes_on old.left now.left new.left (take filled room) (take n sub) so.left once.left.0);
+      left = subst (λ l. Consumes old.left new.left l) (sym (front_of room sub filled n so.within))
+          (consumes_on old.left now.left new.left (take filled room) (take n sub) so.left once.left.0);
     }
 
-pub read_none : {E : Type 0} (old now new : Reads) (room sub : List ℕ) (filled : ℕ) → IsReading old now room filled → 0 < length sub → IsReadOnce {E = E} now new (Ok 0) sub → IsRead (length (take filled room ++ sub)) old new (take filled (take filled room ++ sub))
+pub read_none : {E : Type 0} (old now new : Reads) (room sub : List ℕ) (filled : ℕ) → IsReading old now room filled → 0 < length sub
+    → IsReadOnce {E = E} now new (Ok 0) sub → IsRead (length (take filled room ++ sub)) old new (take filled (take filled room ++ sub))
 read_none old now new room sub filled so some once =
-    let front = subst (λ k. take k (take filled room ++ sub) ≡ take filled room ++ []) (add_zero filled) (front_of room sub filled 0 so.within) ∙ append-nil (take filled room) in
+    let front = subst (λ k. take k (take filled room ++ sub) ≡ take filled room ++ []) (add_zero filled) (front_of room sub filled 0 so.within)
+    ∙ append-nil (take filled room) in
     record {
       given = once.bytes ∙ append-nil now.bytes ∙ so.bytes ∙ ap (λ l. old.bytes ++ l) (sym front);
       within = (let h = long_front room sub filled so.within in let k = ap length front ∙ length-take-le filled room so.within in omega (arith, h, k));
@@ -98,7 +105,8 @@ read_none old now new room sub filled so some once =
       left = subst (λ l. Consumes old.left new.left l) (sym front) (consumes_nothing old.left now.left new.left (take filled room) so.left once.left.0);
     }
 
-pub read_full : (old now : Reads) (room : List ℕ) (filled : ℕ) → IsReading old now room filled → length room ≤ filled → IsRead (length room) old now (take filled room)
+pub read_full : (old now : Reads) (room : List ℕ) (filled : ℕ) → IsReading old now room filled → length room ≤ filled
+    → IsRead (length room) old now (take filled room)
 read_full old now room filled so full =
     record {
       given = so.bytes;
@@ -108,17 +116,22 @@ read_full old now room filled so full =
       left = so.left;
     }
 
-pub refused_read : {E : Type 0} (old now new : Reads) (room sub : List ℕ) (filled : ℕ) (e : E) → IsReading old now room filled → IsReadOnce now new (Err e) sub → new.failures ≡ suc old.failures
+pub refused_read : {E : Type 0} (old now new : Reads) (room sub : List ℕ) (filled : ℕ) (e : E) → IsReading old now room filled → IsReadOnce now new (Err e) sub
+    → new.failures ≡ suc old.failures
 refused_read old now new room sub filled e so once = one_more once.failures so.failures
 
 -- any read is one more call
-pub one_call : {E : Type 0} (old now new : Reads) (room sub : List ℕ) (filled most : ℕ) (r : Result ℕ E) → IsReading old now room filled → filled < most → IsReadOnce now new r sub → length new.calls ≤ length old.calls + most
+pub one_call : {E : Type 0} (old now new : Reads) (room sub : List ℕ) (filled most : ℕ) (r : Result ℕ E) → IsReading old now room filled → filled < most
+    → IsReadOnce now new r sub → length new.calls ≤ length old.calls + most
 one_call old now new room sub filled most r so below once =
-    let h = ap length once.calls ∙ length-append now.calls (record { room = length sub; given = given r } ∷ []) in let k = so.calls in omega (arith, h, k, below)
+    let h =
+    ap length once.calls ∙ length-append now.calls (record { room = length sub; given = given r } ∷ []) in let k = so.calls in omega (arith, h, k, below)
 
 -- a room whose end was written anew
 pub put_end : (room sub : List ℕ) (filled : ℕ) → filled ≤ length room → put_mid filled (length room - filled) room sub ≡ take filled room ++ sub
-put_end room sub filled within = ap (λ l. take filled room ++ (sub ++ l)) (drop_all (length room - filled) (drop filled room) (let h = length-drop filled room in omega (arith, h))) ∙ ap (λ l. take filled room ++ l) (append-nil sub)
+put_end room sub filled within = ap (λ l. take filled room ++ (sub ++ l))
+    (drop_all (length room - filled) (drop filled room) (let h = length-drop filled room in omega (arith, h)))
+    ∙ ap (λ l. take filled room ++ l) (append-nil sub)
 
 -- ---- writing
 
@@ -137,38 +150,66 @@ back_of xs zero n = ap (λ k. take k xs) (zero_add n)
 back_of [] (suc k) n = ap (λ j. take j []) (suc_add k n) ∙ sym (take_all n [] (omega arith))
 back_of (x ∷ xs) (suc k) n = ap (λ j. take j (x ∷ xs)) (suc_add k n) ∙ ap (λ l. x ∷ l) (back_of xs k n)
 
-pub written_more : {E : Type 0} (old now new : Writes) (response : List ℕ) (written n : ℕ) → IsWriting old now response written → suc n ≤ length (drop written response) → IsWrittenOnce {E = E} now new (Ok (suc n)) (drop written response) → IsWriting old new response (written + suc n)
+pub written_more : {E : Type 0} (old now new : Writes) (response : List ℕ) (written n : ℕ) → IsWriting old now response written
+    → suc n ≤ length (drop written response) → IsWrittenOnce {E = E} now new (Ok (suc n)) (drop written response) → IsWriting old new response (written + suc n)
 written_more old now new response written n so short once =
     record {
       within = (let h = length-drop written response in let k = so.within in omega (arith, h, k, short));
-      taken = once.bytes ∙ ap (λ l. l ++ take (suc n) (drop written response)) so.taken ∙ append_assoc old.bytes (take written response) (take (suc n) (drop written response)) ∙ ap (λ l. old.bytes ++ l) (sym (back_of response written (suc n)));
+      taken = once.bytes ∙ ap (λ l. l ++ take (suc n) (drop written response)) so.taken
+          ∙ append_assoc old.bytes (take written response) (take (suc n) (drop written response))
+          ∙ ap (λ l. old.bytes ++ l) (sym (back_of response written (suc n)));
       failures = once.failures ∙ add_zero now.failures ∙ so.failures;
-      contents = subst (λ l. Appends old.contents new.contents l) (sym (back_of response written (suc n))) (appends_on old.contents now.contents new.contents (take written response) (take (suc n) (drop written response)) so.contents once.contents);
+      contents = subst (λ l. Appends old.contents new.contents l) (sym (back_of response written (suc n)))
+          (appends_on old.contents now.contents new.contents (take written response) (take (suc n) (drop written response)) so.contents once.contents);
     }
 
-pub written_some : {E : Type 0} (old now new : Writes) (response : List ℕ) (written n : ℕ) {rest : List ℕ} → IsWriting old now response written → 0 < n → rest ≡ drop written response → n ≤ length rest → IsWrittenOnce {E = E} now new (Ok n) rest → IsWriting old new response (written + n)
+pub written_some : {E : Type 0} (old now new : Writes) (response : List ℕ) (written n : ℕ) {rest : List ℕ} → IsWriting old now response written → 0 < n
+    → rest ≡ drop written response → n ≤ length rest → IsWrittenOnce {E = E} now new (Ok n) rest → IsWriting old new response (written + n)
 written_some old now new response written zero so some is short once = absurd (omega (arith, some))
 written_some {E = E} old now new response written (suc n) so some is short once =
     written_more old now new response written n so (subst (λ l. suc n ≤ length l) is short) (subst (λ l. IsWrittenOnce {E = E} now new (Ok (suc n)) l) is once)
 
-pub flushed : {A E : Type 0} (old now new : Writes) (response : List ℕ) (written : ℕ) (a : A) → IsWriting old now response written → length response ≤ written → IsFlushedOnce {A = A} {E = E} now new (Ok a) → IsWritten old new response
+pub flushed : {A E : Type 0} (old now new : Writes) (response : List ℕ) (written : ℕ) (a : A) → IsWriting old now response written → length response ≤ written
+    → IsFlushedOnce {A = A} {E = E} now new (Ok a) → IsWritten old new response
 flushed old now new response written a so whole once =
     let all = take_all written response whole in
     record {
       taken = once.bytes ∙ so.taken ∙ ap (λ l. old.bytes ++ l) all;
       flushed = once.unflushed;
       failures = once.failures ∙ add_zero now.failures ∙ so.failures;
-      contents = subst (λ l. Appends old.contents new.contents l) all (appends_kept old.contents now.contents new.contents (take written response) so.contents once.contents);
+      contents = subst (λ l. Appends old.contents new.contents l) all
+          (appends_kept old.contents now.contents new.contents (take written response) so.contents once.contents);
     }
 
-pub not_flushed : {A E : Type 0} (old now new : Writes) (response : List ℕ) (written : ℕ) (e : E) → IsWriting old now response written → IsFlushedOnce {A = A} {E = E} now new (Err e) → IsWrittenInPart old new response written
+pub not_flushed : {A E : Type 0} (old now new : Writes) (response : List ℕ) (written : ℕ) (e : E) → IsWriting old now response written
+    → IsFlushedOnce {A = A} {E = E} now new (Err e) → IsWrittenInPart old new response written
 not_flushed old now new response written e so once =
-    record { within = so.within; taken = once.bytes ∙ so.taken; failures = one_more once.failures so.failures; contents = appends_kept old.contents now.contents new.contents (take written response) so.contents once.contents }
+    record {
+      within = so.within;
+      taken = once.bytes ∙ so.taken;
+      failures = one_more once.failures so.failures;
+      contents =
+          appends_kept old.contents now.contents new.contents (take written response) so.contents once.contents;
+    }
 
-pub stuck_write : {E : Type 0} (old now new : Writes) (response : List ℕ) (written : ℕ) → IsWriting old now response written → IsWrittenOnce {E = E} now new (Ok 0) (drop written response) → IsWrittenInPart old new response written
+pub stuck_write : {E : Type 0} (old now new : Writes) (response : List ℕ) (written : ℕ) → IsWriting old now response written
+    → IsWrittenOnce {E = E} now new (Ok 0) (drop written response) → IsWrittenInPart old new response written
 stuck_write old now new response written so once =
-    record { within = so.within; taken = once.bytes ∙ append-nil now.bytes ∙ so.taken; failures = one_more once.failures so.failures; contents = appends_nothing old.contents now.contents new.contents (take written response) so.contents once.contents }
+    record {
+      within = so.within;
+      taken = once.bytes ∙ append-nil now.bytes ∙ so.taken;
+      failures = one_more once.failures so.failures;
+      contents =
+          appends_nothing old.contents now.contents new.contents (take written response) so.contents once.contents;
+    }
 
-pub refused_write : {E : Type 0} (old now new : Writes) (response : List ℕ) (written : ℕ) (e : E) → IsWriting old now response written → IsWrittenOnce now new (Err e) (drop written response) → IsWrittenInPart old new response written
+pub refused_write : {E : Type 0} (old now new : Writes) (response : List ℕ) (written : ℕ) (e : E) → IsWriting old now response written
+    → IsWrittenOnce now new (Err e) (drop written response) → IsWrittenInPart old new response written
 refused_write old now new response written e so once =
-    record { within = so.within; taken = once.bytes ∙ append-nil now.bytes ∙ so.taken; failures = one_more once.failures so.failures; contents = appends_kept old.contents now.contents new.contents (take written response) so.contents once.contents }
+    record {
+      within = so.within;
+      taken = once.bytes ∙ append-nil now.bytes ∙ so.taken;
+      failures = one_more once.failures so.failures;
+      contents =
+          appends_kept old.contents now.contents new.contents (take written response) so.contents once.contents;
+    }

@@ -7,7 +7,8 @@ use Rattle.proto_compile.specs.Compilation.{Compilation, IsCompiled}
 use Rattle.proto_compile.specs.declared.source.Source.{Source}
 use Rattle.reflect_core.proofs.OneResponse.{one_response}
 
-pub one_answer : (limits : Limits) (sources : List Source) (c d : Compilation) (mode : Mode) (request : Request) (a b : Answer) → IsCompiled limits sources c → IsCompiled limits sources d → IsAnswer mode c request a → IsAnswer mode d request b → a ≡ b
+pub one_answer : (limits : Limits) (sources : List Source) (c d : Compilation) (mode : Mode) (request : Request) (a b : Answer) → IsCompiled limits sources c
+    → IsCompiled limits sources d → IsAnswer mode c request a → IsAnswer mode d request b → a ≡ b
 one_answer limits sources c d mode request a b of too (elsewhere out) (elsewhere out') = refl
 one_answer limits sources c d mode request a b of too (elsewhere out) (no_post here method) = absurd (out here)
 one_answer limits sources c d mode request a b of too (elsewhere out) (no_grpc_web here method type) = absurd (out here)
@@ -23,4 +24,5 @@ one_answer limits sources c d mode request a b of too (no_grpc_web here post typ
 one_answer limits sources c d mode request a b of too (answered response here post type is) (elsewhere out) = absurd (out here)
 one_answer limits sources c d mode request a b of too (answered response here post type is) (no_post here' method) = absurd (method post)
 one_answer limits sources c d mode request a b of too (answered response here post type is) (no_grpc_web here' post' type') = absurd (type' type)
-one_answer limits sources c d mode request a b of too (answered response here post type is) (answered response' here' post' type' is') = ap framed (one_response limits sources c d mode request.body response response' of too is is')
+one_answer limits sources c d mode request a b of too (answered response here post type is) (answered response' here' post' type' is') =
+    ap framed (one_response limits sources c d mode request.body response response' of too is is')

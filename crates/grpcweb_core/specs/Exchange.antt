@@ -13,7 +13,8 @@ use Rattle.reflect_core.specs.Response.{IsResponse}
 
 -- the last call had room and gave nothing
 abbrev pub IsEnded : List Call → Type 0
-IsEnded calls = (earlier : List Call) × (last : Call) × (calls ≡ earlier ++ last ∷ []) × (0 < last.room) × (last.given ≡ Some 0)
+IsEnded calls =
+    (earlier : List Call) × (last : Call) × (calls ≡ earlier ++ last ∷ []) × (0 < last.room) × (last.given ≡ Some 0)
 
 -- these bytes were read: all that there were, or as many as there is room for
 pub record IsRead (room : ℕ) (old new : Reads) (bytes : List ℕ) : Type 0 where
@@ -44,10 +45,13 @@ room_of c = limit_of c.limits BodyBytes + 1
 -- what an exchange did, by how it ended
 abbrev pub IsExchange : {A : Type 0} → Mode → Compilation → Reads → Reads → Writes → Writes → Result A IoFault → Type 0
 IsExchange mode c reads reads' writes writes' (Ok a) =
-    (body response : List ℕ) × IsRead (room_of c) reads reads' body × IsResponse mode c body response × IsWritten writes writes' response
-IsExchange mode c reads reads' writes writes' (Err ReadFault) = (reads'.failures ≡ suc reads.failures) × (writes' ≡ writes)
+    (body response : List ℕ) × IsRead (room_of c) reads reads' body × IsResponse mode c body response
+    × IsWritten writes writes' response
+IsExchange mode c reads reads' writes writes' (Err ReadFault) =
+    (reads'.failures ≡ suc reads.failures) × (writes' ≡ writes)
 IsExchange mode c reads reads' writes writes' (Err (WriteFault written)) =
-    (body response : List ℕ) × IsRead (room_of c) reads reads' body × IsResponse mode c body response × IsWrittenInPart writes writes' response written
+    (body response : List ℕ) × IsRead (room_of c) reads reads' body × IsResponse mode c body response
+    × IsWrittenInPart writes writes' response written
 IsExchange mode c reads reads' writes writes' (Err NoMemory) = writes' ≡ writes
 
 -- at most so many calls more

@@ -28,11 +28,13 @@ IsBlank byte = (byte ≡ 32) ⊎ (byte ≡ 9)
 
 -- blanks, and then nothing or parameters
 abbrev pub IsBehindType : List ℕ → Type 0
-IsBehindType text = (blanks parameters : List ℕ) × (text ≡ blanks ++ parameters) × All IsBlank blanks × IsEmptyOrBegins 59 parameters
+IsBehindType text =
+    (blanks parameters : List ℕ) × (text ≡ blanks ++ parameters) × All IsBlank blanks × IsEmptyOrBegins 59 parameters
 
 -- a content type of this media type, in letters of any case
 abbrev pub IsOfType : List ℕ → List ℕ → Type 0
-IsOfType media text = (name behind : List ℕ) × (text ≡ name ++ behind) × (map to_ascii_lowercase name ≡ map to_ascii_lowercase media) × IsBehindType behind
+IsOfType media text = (name behind : List ℕ) × (text ≡ name ++ behind)
+    × (map to_ascii_lowercase name ≡ map to_ascii_lowercase media) × IsBehindType behind
 
 -- a content type of gRPC-Web in binary frames
 abbrev pub IsGrpcWeb : List ℕ → Type 0
@@ -55,7 +57,8 @@ pub record Answer : Type 0 where
 
 -- a response in frames
 abbrev pub framed : List ℕ → Answer
-framed body = record { status = 200; headers = (codes "content-type", codes "application/grpc-web+proto") ∷ []; body = body }
+framed body =
+    record { status = 200; headers = (codes "content-type", codes "application/grpc-web+proto") ∷ []; body = body }
 
 -- trailers of the status 12, UNIMPLEMENTED, alone
 abbrev pub no_such_service : Answer
@@ -71,9 +74,17 @@ unsupported_media_type = record { status = 415; headers = []; body = [] }
 pub data IsAnswer (mode : Mode) (c : Compilation) (request : Request) : Answer → Type 0 where
   elsewhere : (IsReflection request.target → ⊥) → IsAnswer mode c request no_such_service
   no_post : IsReflection request.target → request.method ≢ codes "POST" → IsAnswer mode c request method_not_allowed
-  no_grpc_web : IsReflection request.target → request.method ≡ codes "POST" → (IsGrpcWebIfAny request.content_type → ⊥) → IsAnswer mode c request unsupported_media_type
-  answered : (response : List ℕ) → IsReflection request.target → request.method ≡ codes "POST" → IsGrpcWebIfAny request.content_type → IsResponse mode c request.body response → IsAnswer mode c request (framed response)
+  no_grpc_web : IsReflection request.target → request.method ≡ codes "POST" → (IsGrpcWebIfAny request.content_type → ⊥)
+      → IsAnswer mode c request unsupported_media_type
+  answered : (response : List ℕ) → IsReflection request.target → request.method ≡ codes "POST"
+      → IsGrpcWebIfAny request.content_type → IsResponse mode c request.body response
+      → IsAnswer mode c request (framed response)
 
 -- an answer of the program
 abbrev pub answer_of : HttpAnswer → Answer
-answer_of answer = record { status = answer.status; headers = map (λ header. (header.0.now, header.1.now)) answer.headers.items; body = answer.body.items }
+answer_of answer = record {
+  status = answer.status;
+  headers =
+      map (λ header. (header.0.now, header.1.now)) answer.headers.items;
+  body = answer.body.items;
+}

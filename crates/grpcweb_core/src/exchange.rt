@@ -38,8 +38,10 @@ fn read_body<I: CountedRead>(
     limits: &Limits,
 ) -> Result<Vec<u8>, IoFault>
     requires { (I.reads reader.old).failures < 2 ^ 64 - 1 }
-    ensures body { IsBodyRead (limit_of limits.now BodyBytes + 1) (I.reads reader.old) (I.reads reader.new) result }
-    ensures few { IsFewMore (limit_of limits.now BodyBytes + 1) (I.reads reader.old) (I.reads reader.new) }
+    ensures body { IsBodyRead (limit_of limits.now BodyBytes + 1) (I.reads reader.old)
+        (I.reads reader.new) result }
+    ensures few { IsFewMore (limit_of limits.now BodyBytes + 1) (I.reads reader.old)
+        (I.reads reader.new) }
 {
     let most = limits.get(Limit::BodyBytes) as usize + 1;
     let mut body = vec![in alloc; 0u8; most]?;
@@ -91,7 +93,8 @@ where
     O: CountedWrite,
     requires reader_counts { (I.reads reader.old).failures < 2 ^ 64 - 1 }
     requires writer_counts { (O.writes writer.old).failures < 2 ^ 64 - 1 }
-    ensures exchange { IsExchange mode compiled.now (I.reads reader.old) (I.reads reader.new) (O.writes writer.old) (O.writes writer.new) result }
+    ensures exchange { IsExchange mode compiled.now (I.reads reader.old) (I.reads reader.new)
+        (O.writes writer.old) (O.writes writer.new) result }
 
     // No more reads than bytes that it may read.
     ensures reads { IsFewMore (room_of compiled.now) (I.reads reader.old) (I.reads reader.new) }

@@ -9,5 +9,8 @@ ghost use Rattle.proto_compile.specs.declared.source.Source.{Source};
 
 /// Sources give a request over HTTP one answer, however they are compiled.
 pub fn answers_are_unique()
-    ensures { (limits : Limits) (sources : List Source) (c d : Compilation) (mode : Mode) (request : Request) (a b : Answer) → IsCompiled limits sources c → IsCompiled limits sources d → IsAnswer mode c request a → IsAnswer mode d request b → a ≡ b }
+    ensures { (limits : Limits) (sources : List Source) (c d : Compilation) (mode : Mode)
+        (request : Request) (a b : Answer) → IsCompiled limits sources c
+        → IsCompiled limits sources d → IsAnswer mode c request a → IsAnswer mode d request b
+        → a ≡ b }
 {}

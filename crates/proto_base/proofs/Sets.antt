@@ -26,7 +26,8 @@ some_on S U None f h = tt
 some_on S U (Some x) f h = f x h
 
 -- U is the union of S and T
-pub least_or : (S T U : Spot → Type 0) (a b r : Option Spot) → ((x : Spot) → U x → S x ⊎ T x) → ((x : Spot) → S x → U x) → ((x : Spot) → T x → U x) → IsLeast S a → IsLeast T b → IsLesser a b r → IsLeast U r
+pub least_or : (S T U : Spot → Type 0) (a b r : Option Spot) → ((x : Spot) → U x → S x ⊎ T x) → ((x : Spot) → S x → U x) → ((x : Spot) → T x → U x)
+    → IsLeast S a → IsLeast T b → IsLesser a b r → IsLeast U r
 least_or S T U a b r split left right p q w = record {
   found = elim w.one [ inl e ↦ least_found U a r e (some_on S U a left p.found) | inr e ↦ least_found U b r e (some_on T U b right q.found) ];
   least = λ x u. elim (split x u) [ inl s ↦ w.left x (p.least x s) | inr t ↦ w.right x (q.least x t) ];
@@ -63,8 +64,10 @@ each_split xs S n a here x (i, b, below, there, s) = elim (cases_lt i n) [
   | inr last ↦ inr (subst (λ y. S y x) (one_at xs i n b a (omega arith) there here) s)
 ]
 
-pub each_more : {X : Type 0} (xs : List X) (S : X → Spot → Type 0) (n : ℕ) (a : X) (p q r : Option Spot) → StandsAt xs n a → IsLeast (EachTo xs n S) p → IsLeast (S a) q → IsLesser p q r → IsLeast (EachTo xs (n + 1) S) r
-each_more xs S n a p q r here h k w = least_or (EachTo xs n S) (S a) (EachTo xs (n + 1) S) p q r (each_split xs S n a here) (λ x v. (v.0, v.1, omega (arith, v.2), v.3, v.4)) (λ x s. (n, a, omega arith, here, s)) h k w
+pub each_more : {X : Type 0} (xs : List X) (S : X → Spot → Type 0) (n : ℕ) (a : X) (p q r : Option Spot) → StandsAt xs n a → IsLeast (EachTo xs n S) p
+    → IsLeast (S a) q → IsLesser p q r → IsLeast (EachTo xs (n + 1) S) r
+each_more xs S n a p q r here h k w = least_or (EachTo xs n S) (S a) (EachTo xs (n + 1) S) p q r (each_split xs S n a here)
+    (λ x v. (v.0, v.1, omega (arith, v.2), v.3, v.4)) (λ x s. (n, a, omega arith, here, s)) h k w
 
 pub each_all : {X : Type 0} (xs : List X) (S : X → Spot → Type 0) (n : ℕ) (r : Option Spot) → length xs ≤ n → IsLeast (EachTo xs n S) r → IsLeast (Each xs S) r
 each_all xs S n r end h = least_same (EachTo xs n S) (Each xs S) r (λ x v. (v.0, v.1, omega (arith, v.2.0), v.2, v.3)) (λ x v. (v.0, v.1, v.3, v.4)) h
@@ -80,7 +83,8 @@ HasEarlier {X} xs n R b = (i : ℕ) × (a : X) × (i < n) × StandsAt xs i a × 
 pub later_none : {X : Type 0} (xs : List X) (R : X → X → Type 0) (at : X → Spot) → IsLeast (LaterTo xs 0 R at) None
 later_none xs R at = least_none (LaterTo xs 0 R at) (λ x w. none_below w.1 w.5)
 
-later_split : {X : Type 0} (xs : List X) (R : X → X → Type 0) (at : X → Spot) (n : ℕ) (c : X) → StandsAt xs n c → (x : Spot) → LaterTo xs (n + 1) R at x → LaterTo xs n R at x ⊎ (HasEarlier xs n R c × (x ≡ at c))
+later_split : {X : Type 0} (xs : List X) (R : X → X → Type 0) (at : X → Spot) (n : ℕ) (c : X) → StandsAt xs n c → (x : Spot) → LaterTo xs (n + 1) R at x
+    → LaterTo xs n R at x ⊎ (HasEarlier xs n R c × (x ≡ at c))
 later_split xs R at n c here x (i, j, a, b, before, below, there, then, r, e) = elim (cases_lt j n) [
   | inl old ↦ inl (i, j, a, b, before, old, there, then, r, e)
   | inr last ↦ (let same : b ≡ c = one_at xs j n b c (omega arith) then here in
@@ -90,19 +94,22 @@ later_split xs R at n c here x (i, j, a, b, before, below, there, then, r, e) = 
 later_old : {X : Type 0} (xs : List X) (R : X → X → Type 0) (at : X → Spot) (n : ℕ) (x : Spot) → LaterTo xs n R at x → LaterTo xs (n + 1) R at x
 later_old xs R at n x (i, j, a, b, before, below, there, then, r, e) = (i, j, a, b, before, omega arith, there, then, r, e)
 
-pub later_clash : {X : Type 0} (xs : List X) (R : X → X → Type 0) (at : X → Spot) (n : ℕ) (c : X) (p r : Option Spot) → StandsAt xs n c → HasEarlier xs n R c → IsLeast (LaterTo xs n R at) p → IsLesser p (Some (at c)) r → IsLeast (LaterTo xs (n + 1) R at) r
+pub later_clash : {X : Type 0} (xs : List X) (R : X → X → Type 0) (at : X → Spot) (n : ℕ) (c : X) (p r : Option Spot) → StandsAt xs n c → HasEarlier xs n R c
+    → IsLeast (LaterTo xs n R at) p → IsLesser p (Some (at c)) r → IsLeast (LaterTo xs (n + 1) R at) r
 later_clash xs R at n c p r here early h w = least_or (LaterTo xs n R at) (λ x. x ≡ at c) (LaterTo xs (n + 1) R at) p (Some (at c)) r
     (λ x v. elim (later_split xs R at n c here x v) [ inl old ↦ inl old | inr new ↦ inr new.1 ])
     (later_old xs R at n)
     (λ x e. (early.0, n, early.1, c, early.2, omega arith, early.3, here, early.4, e))
     h (least_one (at c)) w
 
-pub later_skip : {X : Type 0} (xs : List X) (R : X → X → Type 0) (at : X → Spot) (n : ℕ) (c : X) (p : Option Spot) → StandsAt xs n c → (HasEarlier xs n R c → ⊥) → IsLeast (LaterTo xs n R at) p → IsLeast (LaterTo xs (n + 1) R at) p
+pub later_skip : {X : Type 0} (xs : List X) (R : X → X → Type 0) (at : X → Spot) (n : ℕ) (c : X) (p : Option Spot) → StandsAt xs n c → (HasEarlier xs n R c → ⊥)
+    → IsLeast (LaterTo xs n R at) p → IsLeast (LaterTo xs (n + 1) R at) p
 later_skip xs R at n c p here none h = least_same (LaterTo xs n R at) (LaterTo xs (n + 1) R at) p
     (λ x v. elim (later_split xs R at n c here x v) [ inl old ↦ old | inr new ↦ absurd (none new.0) ])
     (later_old xs R at n) h
 
-pub later_all : {X : Type 0} (xs : List X) (R : X → X → Type 0) (at : X → Spot) (n : ℕ) (r : Option Spot) → length xs ≤ n → IsLeast (LaterTo xs n R at) r → IsLeast (Later xs R at) r
+pub later_all : {X : Type 0} (xs : List X) (R : X → X → Type 0) (at : X → Spot) (n : ℕ) (r : Option Spot) → length xs ≤ n → IsLeast (LaterTo xs n R at) r
+    → IsLeast (Later xs R at) r
 later_all xs R at n r end h = least_same (LaterTo xs n R at) (Later xs R at) r
     (λ x v. (v.0, v.1, v.2, v.3, v.4, omega (arith, v.6.0), v.5, v.6, v.7, v.8))
     (λ x v. (v.0, v.1, v.2, v.3, v.4, v.6, v.7, v.8, v.9)) h
@@ -114,7 +121,8 @@ WithTo {X} B xs n S x = B x ⊎ EachTo xs n S x
 pub with_none : {X : Type 0} (B : Spot → Type 0) (xs : List X) (S : X → Spot → Type 0) (p : Option Spot) → IsLeast B p → IsLeast (WithTo B xs 0 S) p
 with_none B xs S p h = least_same B (WithTo B xs 0 S) p (λ x v. elim v [ inl b ↦ b | inr w ↦ absurd (none_below w.0 w.2) ]) (λ x b. inl b) h
 
-with_split : {X : Type 0} (B : Spot → Type 0) (xs : List X) (S : X → Spot → Type 0) (n : ℕ) (a : X) → StandsAt xs n a → (x : Spot) → WithTo B xs (n + 1) S x → WithTo B xs n S x ⊎ S a x
+with_split : {X : Type 0} (B : Spot → Type 0) (xs : List X) (S : X → Spot → Type 0) (n : ℕ) (a : X) → StandsAt xs n a → (x : Spot) → WithTo B xs (n + 1) S x
+    → WithTo B xs n S x ⊎ S a x
 with_split B xs S n a here x (inl b) = inl (inl b)
 with_split B xs S n a here x (inr w) = elim (each_split xs S n a here x w) [ inl old ↦ inl (inr old) | inr new ↦ inr new ]
 
@@ -122,8 +130,10 @@ with_old : {X : Type 0} (B : Spot → Type 0) (xs : List X) (S : X → Spot → 
 with_old B xs S n x (inl b) = inl b
 with_old B xs S n x (inr v) = inr (v.0, v.1, omega (arith, v.2), v.3, v.4)
 
-pub with_more : {X : Type 0} (B : Spot → Type 0) (xs : List X) (S : X → Spot → Type 0) (n : ℕ) (a : X) (p q r : Option Spot) → StandsAt xs n a → IsLeast (WithTo B xs n S) p → IsLeast (S a) q → IsLesser p q r → IsLeast (WithTo B xs (n + 1) S) r
-with_more B xs S n a p q r here h k w = least_or (WithTo B xs n S) (S a) (WithTo B xs (n + 1) S) p q r (with_split B xs S n a here) (with_old B xs S n) (λ x s. inr (n, a, omega arith, here, s)) h k w
+pub with_more : {X : Type 0} (B : Spot → Type 0) (xs : List X) (S : X → Spot → Type 0) (n : ℕ) (a : X) (p q r : Option Spot) → StandsAt xs n a
+    → IsLeast (WithTo B xs n S) p → IsLeast (S a) q → IsLesser p q r → IsLeast (WithTo B xs (n + 1) S) r
+with_more B xs S n a p q r here h k w = least_or (WithTo B xs n S) (S a) (WithTo B xs (n + 1) S) p q r (with_split B xs S n a here) (with_old B xs S n)
+    (λ x s. inr (n, a, omega arith, here, s)) h k w
 
 -- keys that compare equal are those with one value
 abbrev pub Exact : {K T : Type 0} → (K → K → Ordering) → (K → T) → Type 0
@@ -148,7 +158,8 @@ abbrev pub Seen : {X K T : Type 0} → (K → K → Ordering) → (K → T) → 
 Seen {X} {K} cmp show key xs s n = (q : K) → (contains cmp s q ≡ true) ↔ ((i : ℕ) × (a : X) × (i < n) × StandsAt xs i a × (key a ≡ show q))
 
 -- what a pass with a table keeps
-pub record Passed {X K T : Type 0} (cmp : K → K → Ordering) (show : K → T) (key : X → T) (at : X → Spot) (xs : List X) (s : BTreeSet K) (n : ℕ) (first : Option Spot) : Type 0 where
+pub record Passed {X K T : Type 0} (cmp : K → K → Ordering) (show : K → T) (key : X → T) (at : X → Spot) (xs : List X) (s : BTreeSet K) (n : ℕ)
+    (first : Option Spot) : Type 0 where
   pub least : IsLeast (LaterTo xs n (λ a b. key a ≡ key b) at) first
   pub seen : Seen cmp show key xs s n
 
@@ -164,10 +175,12 @@ cond_right : (b o : Bool) → o ≡ true → cond b true o ≡ true
 cond_right true o h = refl
 cond_right false o h = h
 
-pub seen_none : {X K T : Type 0} (cmp : K → K → Ordering) (show : K → T) (key : X → T) (xs : List X) (s : BTreeSet K) → ((q : K) → contains cmp s q ≡ false) → Seen cmp show key xs s 0
+pub seen_none : {X K T : Type 0} (cmp : K → K → Ordering) (show : K → T) (key : X → T) (xs : List X) (s : BTreeSet K) → ((q : K) → contains cmp s q ≡ false)
+    → Seen cmp show key xs s 0
 seen_none cmp show key xs s h q = (λ w. absurd (true≢false (sym w ∙ h q)), λ w. absurd (none_below w.0 w.2))
 
-seen_more : {X K T : Type 0} (cmp : K → K → Ordering) (show : K → T) (key : X → T) (xs : List X) (s t : BTreeSet K) (n : ℕ) (c : X) (k : K) → Exact cmp show → StandsAt xs n c → show k ≡ key c → Updates cmp s t k true → Seen cmp show key xs s n → Seen cmp show key xs t (n + 1)
+seen_more : {X K T : Type 0} (cmp : K → K → Ordering) (show : K → T) (key : X → T) (xs : List X) (s t : BTreeSet K) (n : ℕ) (c : X) (k : K) → Exact cmp show
+    → StandsAt xs n c → show k ≡ key c → Updates cmp s t k true → Seen cmp show key xs s n → Seen cmp show key xs t (n + 1)
 seen_more cmp show key xs s t n c k exact here e new seen q = (
   λ h. elim (cond_or (is_eq (cmp k q)) (contains cmp s q) (sym (new.0 q) ∙ h)) [
     | inl same ↦ (n, c, omega arith, here, sym e ∙ (exact k q).0 same)
@@ -179,7 +192,9 @@ seen_more cmp show key xs s t n c k exact here e new seen q = (
   ],
 )
 
-pub passed_clash : {X K T : Type 0} (cmp : K → K → Ordering) (show : K → T) (key : X → T) (at : X → Spot) (xs : List X) (s t : BTreeSet K) (n : ℕ) (c : X) (k : K) (p r : Option Spot) → Exact cmp show → StandsAt xs n c → show k ≡ key c → Updates cmp s t k true → contains cmp s k ≡ true → Passed cmp show key at xs s n p → IsLesser p (Some (at c)) r → Passed cmp show key at xs t (n + 1) r
+pub passed_clash : {X K T : Type 0} (cmp : K → K → Ordering) (show : K → T) (key : X → T) (at : X → Spot) (xs : List X) (s t : BTreeSet K) (n : ℕ) (c : X)
+    (k : K) (p r : Option Spot) → Exact cmp show → StandsAt xs n c → show k ≡ key c → Updates cmp s t k true → contains cmp s k ≡ true
+    → Passed cmp show key at xs s n p → IsLesser p (Some (at c)) r → Passed cmp show key at xs t (n + 1) r
 passed_clash cmp show key at xs s t n c k p r exact here e new old h w =
     let early = (h.seen k).0 old in
     record {
@@ -187,7 +202,9 @@ passed_clash cmp show key at xs s t n c k p r exact here e new old h w =
       seen = seen_more cmp show key xs s t n c k exact here e new h.seen;
     }
 
-pub passed_skip : {X K T : Type 0} (cmp : K → K → Ordering) (show : K → T) (key : X → T) (at : X → Spot) (xs : List X) (s t : BTreeSet K) (n : ℕ) (c : X) (k : K) (p : Option Spot) → Exact cmp show → StandsAt xs n c → show k ≡ key c → Updates cmp s t k true → contains cmp s k ≡ false → Passed cmp show key at xs s n p → Passed cmp show key at xs t (n + 1) p
+pub passed_skip : {X K T : Type 0} (cmp : K → K → Ordering) (show : K → T) (key : X → T) (at : X → Spot) (xs : List X) (s t : BTreeSet K) (n : ℕ) (c : X)
+    (k : K) (p : Option Spot) → Exact cmp show → StandsAt xs n c → show k ≡ key c → Updates cmp s t k true → contains cmp s k ≡ false
+    → Passed cmp show key at xs s n p → Passed cmp show key at xs t (n + 1) p
 passed_skip cmp show key at xs s t n c k p exact here e new fresh h =
     record {
       least = later_skip xs (λ a b. key a ≡ key b) at n c p here (λ w. true≢false (sym ((h.seen k).1 (w.0, w.1, w.2, w.3, w.4 ∙ sym e)) ∙ fresh)) h.least;

@@ -16,8 +16,17 @@ pub record Found : Type 0 where
 
 -- what a fault of the program is
 abbrev pub found : Fault → Found
-found f = record { pass = f.pass; file = string_bytes f.file; step = f.step; place = f.place.offset; number = number_of f.kind }
+found f = record {
+  pass = f.pass;
+  file = string_bytes f.file;
+  step = f.step;
+  place = f.place.offset;
+  number =
+      number_of f.kind;
+}
 
 -- by the pass, then by the file's name, byte for byte, then by the step, the place and the kind's number
 abbrev pub found_cmp : Found → Found → Ordering
-found_cmp a b = ordering_then (nat_cmp a.pass b.pass) (ordering_then (slice_cmp nat_cmp a.file b.file) (ordering_then (nat_cmp a.step b.step) (ordering_then (nat_cmp a.place b.place) (nat_cmp a.number b.number))))
+found_cmp a b = ordering_then (nat_cmp a.pass b.pass)
+    (ordering_then (slice_cmp nat_cmp a.file b.file)
+    (ordering_then (nat_cmp a.step b.step) (ordering_then (nat_cmp a.place b.place) (nat_cmp a.number b.number))))

@@ -12,9 +12,12 @@ use Rattle.proto_base.specs.contracts.kind.Kind.{the_type}
 use Rattle.proto_base.specs.Kind.{number_of}
 
 abbrev numbers : List ℤ
-numbers = pos 1 ∷ pos 2 ∷ pos 3 ∷ pos 4 ∷ pos 5 ∷ pos 6 ∷ pos 7 ∷ pos 8 ∷ pos 10 ∷ pos 11 ∷ pos 12 ∷ pos 13 ∷ pos 14 ∷ pos 20 ∷ pos 21 ∷ pos 22
-    ∷ pos 23 ∷ pos 24 ∷ pos 25 ∷ pos 26 ∷ pos 27 ∷ pos 28 ∷ pos 29 ∷ pos 30 ∷ pos 31 ∷ pos 32 ∷ pos 33 ∷ pos 34 ∷ pos 35 ∷ pos 36 ∷ pos 37 ∷ pos 38
-    ∷ pos 39 ∷ pos 40 ∷ pos 41 ∷ pos 50 ∷ pos 51 ∷ pos 60 ∷ pos 61 ∷ pos 62 ∷ pos 63 ∷ pos 70 ∷ pos 71 ∷ pos 72 ∷ pos 73 ∷ pos 74 ∷ []
+numbers = pos 1 ∷ pos 2 ∷ pos 3 ∷ pos 4 ∷ pos 5 ∷ pos 6 ∷ pos 7 ∷ pos 8 ∷ pos 10 ∷ pos 11 ∷ pos 12 ∷ pos 13 ∷ pos 14
+    ∷ pos 20 ∷ pos 21 ∷ pos 22
+    ∷ pos 23 ∷ pos 24 ∷ pos 25 ∷ pos 26 ∷ pos 27 ∷ pos 28 ∷ pos 29 ∷ pos 30 ∷ pos 31 ∷ pos 32 ∷ pos 33 ∷ pos 34 ∷ pos 35
+    ∷ pos 36 ∷ pos 37 ∷ pos 38
+    ∷ pos 39 ∷ pos 40 ∷ pos 41 ∷ pos 50 ∷ pos 51 ∷ pos 60 ∷ pos 61 ∷ pos 62 ∷ pos 63 ∷ pos 70 ∷ pos 71 ∷ pos 72 ∷ pos 73
+    ∷ pos 74 ∷ []
 
 numbered : (k : Kind) → slice_index_or numbers (tag_of the_type k) (pos 0) ≡ pos (number_of k)
 numbered NotUtf8 = refl

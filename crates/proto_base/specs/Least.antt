@@ -10,7 +10,8 @@ spot p k = record { place = p; kind = k }
 
 -- by place, then by the kind's number
 abbrev pub AtMost : Spot → Spot → Type 0
-AtMost a b = (a.place.offset < b.place.offset) ⊎ ((a.place.offset ≡ b.place.offset) × (number_of a.kind ≤ number_of b.kind))
+AtMost a b =
+    (a.place.offset < b.place.offset) ⊎ ((a.place.offset ≡ b.place.offset) × (number_of a.kind ≤ number_of b.kind))
 
 -- there is one, and it comes no later than x
 abbrev pub Bounds : Option Spot → Spot → Type 0

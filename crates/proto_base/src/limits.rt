@@ -103,7 +103,8 @@ impl Limits {
     pub fn lowered(self, limit: Limit, value: u64) -> Option<Limits>
         ensures some { IsSome result ↔ ((0 < value) × (value ≤ limit_of self limit)) }
         ensures value { IfSome result (λ limits. limit_of limits limit ≡ value) }
-        ensures others { IfSome result (λ limits. (other : Limit) → other ≢ limit → limit_of limits other ≡ limit_of self other) }
+        ensures others { IfSome result (λ limits. (other : Limit) → other ≢ limit
+            → limit_of limits other ≡ limit_of self other) }
     {
         if value == 0 || value > self.get(limit) {
             return None;

@@ -26,15 +26,20 @@ use Rattle.proto_base.proofs.Among.{each_either}
 use Rattle.proto_base.proofs.Sets.{Either, least_either, least_same, least_hit, least_miss}
 
 -- fields
-pub field_least : (d : Declarator) (packed wide : Bool) (os : Options) (a b r : Option Spot) → d.options ≡ Some os → IsLeast (Each (separated os.settings) (IsWrongOnField packed wide)) a → IsLeast (SettingsBreak element.Field (bracketed d.options)) b → IsLesser a b r → IsLeast (FieldOptionsBreak (optioned d packed wide)) r
+pub field_least : (d : Declarator) (packed wide : Bool) (os : Options) (a b r : Option Spot) → d.options ≡ Some os
+    → IsLeast (Each (separated os.settings) (IsWrongOnField packed wide)) a → IsLeast (SettingsBreak element.Field (bracketed d.options)) b → IsLesser a b r
+    → IsLeast (FieldOptionsBreak (optioned d packed wide)) r
 field_least d packed wide os a b r at h k w =
     let settings = bracketed d.options in
     let on_field : IsLeast (Either (Each settings (IsWronglyPacked packed)) (Each settings (IsWronglyTyped wide))) a =
-    each_either (IsWronglyPacked packed) (IsWronglyTyped wide) settings a (subst (λ o. IsLeast (Each (bracketed o) (IsWrongOnField packed wide)) a) (sym at) h) in
-    least_same (Either (Either (Each settings (IsWronglyPacked packed)) (Each settings (IsWronglyTyped wide))) (SettingsBreak element.Field settings)) (FieldOptionsBreak (optioned d packed wide)) r
+    each_either (IsWronglyPacked packed) (IsWronglyTyped wide) settings a
+    (subst (λ o. IsLeast (Each (bracketed o) (IsWrongOnField packed wide)) a) (sym at) h) in
+    least_same (Either (Either (Each settings (IsWronglyPacked packed)) (Each settings (IsWronglyTyped wide))) (SettingsBreak element.Field settings))
+    (FieldOptionsBreak (optioned d packed wide)) r
     (λ x v. elim v [ FieldOptionsBreak.settings s ↦ inr s | FieldOptionsBreak.packed s ↦ inl (inl s) | FieldOptionsBreak.jstype s ↦ inl (inr s) ])
     (λ x v. elim v [ inl s ↦ elim s [ inl t ↦ FieldOptionsBreak.packed t | inr t ↦ FieldOptionsBreak.jstype t ] | inr s ↦ FieldOptionsBreak.settings s ])
-    (least_either (Either (Each settings (IsWronglyPacked packed)) (Each settings (IsWronglyTyped wide))) (SettingsBreak element.Field settings) a b r on_field k w)
+    (least_either (Either (Each settings (IsWronglyPacked packed)) (Each settings (IsWronglyTyped wide))) (SettingsBreak element.Field settings) a b r on_field
+    k w)
 
 -- oneofs
 no_members : (is : List OneofItem) → list_any is_member is ≡ false → flat_map member_of is ≡ []
@@ -55,7 +60,8 @@ oneof_empty o none = least_hit (flat_map member_of o.items ≡ []) (spot o.name.
 pub oneof_filled : (o : Oneof) → list_any is_member o.items ≡ true → IsLeast (IsEmptyOneof o) None
 oneof_filled o some = least_miss (flat_map member_of o.items ≡ []) (spot o.name.span.start kind.OneofEmpty) (some_member o.items some)
 
-pub oneof_least : (o : Oneof) (a b r : Option Spot) → IsLeast (IsEmptyOneof o) a → IsLeast (SettingsBreak element.Oneof (flat_map oneof_setting o.items)) b → IsLesser a b r → IsLeast (OneofBreaks o) r
+pub oneof_least : (o : Oneof) (a b r : Option Spot) → IsLeast (IsEmptyOneof o) a → IsLeast (SettingsBreak element.Oneof (flat_map oneof_setting o.items)) b
+    → IsLesser a b r → IsLeast (OneofBreaks o) r
 oneof_least o a b r h k w = least_same (Either (IsEmptyOneof o) (SettingsBreak element.Oneof (flat_map oneof_setting o.items))) (OneofBreaks o) r
     (λ x v. elim v [ OneofBreaks.empty s ↦ inl s | OneofBreaks.options s ↦ inr s ])
     (λ x v. elim v [ inl s ↦ OneofBreaks.empty s | inr s ↦ OneofBreaks.options s ])
@@ -82,18 +88,33 @@ enum_empty e none = least_hit (value_numbers e.items ≡ []) (spot e.name.span.s
 pub enum_filled : (e : Enum) → list_any is_value e.items ≡ true → IsLeast (IsEmptyEnum e) None
 enum_filled e some = least_miss (value_numbers e.items ≡ []) (spot e.name.span.start kind.EnumEmpty) (some_value e.items some)
 
-pub enum_least : (e : Enum) (a b p q ab pq r : Option Spot) → IsLeast (IsEmptyEnum e) a → IsLeast (EnumNumbersBreak e.items) b → IsLeast (SettingsBreak element.Enum (flat_map enum_setting e.items)) p → IsLeast (Each (flat_map value_of_item e.items) ValueBreaks) q → IsLesser a b ab → IsLesser p q pq → IsLesser ab pq r → IsLeast (EnumBreaks e) r
+pub enum_least : (e : Enum) (a b p q ab pq r : Option Spot) → IsLeast (IsEmptyEnum e) a → IsLeast (EnumNumbersBreak e.items) b
+    → IsLeast (SettingsBreak element.Enum (flat_map enum_setting e.items)) p → IsLeast (Each (flat_map value_of_item e.items) ValueBreaks) q → IsLesser a b ab
+    → IsLesser p q pq → IsLesser ab pq r → IsLeast (EnumBreaks e) r
 enum_least e a b p q ab pq r h k m n u v w =
     let alone = Either (IsEmptyEnum e) (EnumNumbersBreak e.items) in
     let by_options = Either (SettingsBreak element.Enum (flat_map enum_setting e.items)) (Each (flat_map value_of_item e.items) ValueBreaks) in
     least_same (Either alone by_options) (EnumBreaks e) r
-    (λ x s. elim s [ EnumBreaks.empty t ↦ inl (inl t) | EnumBreaks.numbers t ↦ inl (inr t) | EnumBreaks.options t ↦ inr (inl t) | EnumBreaks.value_options t ↦ inr (inr t) ])
-    (λ x s. elim s [ inl t ↦ elim t [ inl y ↦ EnumBreaks.empty y | inr y ↦ EnumBreaks.numbers y ] | inr t ↦ elim t [ inl y ↦ EnumBreaks.options y | inr y ↦ EnumBreaks.value_options y ] ])
-    (least_either alone by_options ab pq r (least_either (IsEmptyEnum e) (EnumNumbersBreak e.items) a b ab h k u) (least_either (SettingsBreak element.Enum (flat_map enum_setting e.items)) (Each (flat_map value_of_item e.items) ValueBreaks) p q pq m n v) w)
+    (λ x s. elim s [
+      | EnumBreaks.empty t ↦ inl (inl t)
+      | EnumBreaks.numbers t ↦ inl (inr t)
+      | EnumBreaks.options t ↦ inr (inl t)
+      | EnumBreaks.value_options t ↦
+          inr (inr t)
+    ])
+    (λ x s. elim s [
+      | inl t ↦ elim t [ inl y ↦ EnumBreaks.empty y | inr y ↦ EnumBreaks.numbers y ]
+      | inr t ↦
+          elim t [ inl y ↦ EnumBreaks.options y | inr y ↦ EnumBreaks.value_options y ]
+    ])
+    (least_either alone by_options ab pq r (least_either (IsEmptyEnum e) (EnumNumbersBreak e.items) a b ab h k u)
+    (least_either (SettingsBreak element.Enum (flat_map enum_setting e.items)) (Each (flat_map value_of_item e.items) ValueBreaks) p q pq m n v) w)
 
 -- services
-pub service_least : (s : Service) (a b r : Option Spot) → IsLeast (SettingsBreak element.Service (flat_map service_setting s.items)) a → IsLeast (Each (flat_map rpc_of s.items) RpcBreaks) b → IsLesser a b r → IsLeast (ServiceBreaks s) r
-service_least s a b r h k w = least_same (Either (SettingsBreak element.Service (flat_map service_setting s.items)) (Each (flat_map rpc_of s.items) RpcBreaks)) (ServiceBreaks s) r
+pub service_least : (s : Service) (a b r : Option Spot) → IsLeast (SettingsBreak element.Service (flat_map service_setting s.items)) a
+    → IsLeast (Each (flat_map rpc_of s.items) RpcBreaks) b → IsLesser a b r → IsLeast (ServiceBreaks s) r
+service_least s a b r h k w =
+    least_same (Either (SettingsBreak element.Service (flat_map service_setting s.items)) (Each (flat_map rpc_of s.items) RpcBreaks)) (ServiceBreaks s) r
     (λ x v. elim v [ ServiceBreaks.options t ↦ inl t | ServiceBreaks.in_rpc t ↦ inr t ])
     (λ x v. elim v [ inl t ↦ ServiceBreaks.options t | inr t ↦ ServiceBreaks.in_rpc t ])
     (least_either (SettingsBreak element.Service (flat_map service_setting s.items)) (Each (flat_map rpc_of s.items) RpcBreaks) a b r h k w)

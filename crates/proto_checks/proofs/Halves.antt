@@ -11,7 +11,8 @@ use Rattle.proto_checks.specs.Marks.{Holds, Share, ReservedOverlap, ReservedNumb
 use Rattle.proto_base.specs.Sets.{StandsAt, Each}
 use Rattle.proto_base.proofs.Sets.{Either, least_either, least_same, least_none}
 
-pub stands_split : {X : Type 0} (xs ys : List X) (i : ℕ) (a : X) → StandsAt (xs ++ ys) i a → ((i < length xs) × StandsAt xs i a) ⊎ ((j : ℕ) × (i ≡ length xs + j) × StandsAt ys j a)
+pub stands_split : {X : Type 0} (xs ys : List X) (i : ℕ) (a : X) → StandsAt (xs ++ ys) i a
+    → ((i < length xs) × StandsAt xs i a) ⊎ ((j : ℕ) × (i ≡ length xs + j) × StandsAt ys j a)
 stands_split [] ys i a s = inr (i, omega arith, s)
 stands_split (x ∷ xs) ys zero a s = inl (omega arith, (omega arith, s.1))
 stands_split (x ∷ xs) ys (suc i) a s = let below = s.0 in elim (stands_split xs ys i a (omega arith, s.1)) [
@@ -47,11 +48,16 @@ halves_of xs ys x (i, j, a, b, before, there, then, r, e) = elim (stands_split x
 
 of_halves : (xs ys : List MarkedRange) (x : Spot) → Halves xs ys x → ReservedOverlap (xs ++ ys) x
 of_halves xs ys x (inl (inl (i, j, a, b, before, there, then, r, e))) = (i, j, a, b, before, stands_left xs ys i a there, stands_left xs ys j b then, r, e)
-of_halves xs ys x (inl (inr (i, j, a, b, before, there, then, r, e))) = (length xs + i, length xs + j, a, b, omega arith, stands_right xs ys i (length xs + i) a refl there, stands_right xs ys j (length xs + j) b refl then, r, e)
-of_halves xs ys x (inr (j, b, then, ((i, a, there, r), e))) = (i, length xs + j, a, b, omega (arith, there.0), stands_left xs ys i a there, stands_right xs ys j (length xs + j) b refl then, r, e)
+of_halves xs ys x (inl (inr (i, j, a, b, before, there, then, r, e))) =
+    (length xs + i, length xs + j, a, b, omega arith, stands_right xs ys i (length xs + i) a refl there, stands_right xs ys j (length xs + j) b refl then, r, e)
+of_halves xs ys x (inr (j, b, then, ((i, a, there, r), e))) =
+    (i, length xs + j, a, b, omega (arith, there.0), stands_left xs ys i a there, stands_right xs ys j (length xs + j) b refl then, r, e)
 
-pub halves_least : (xs ys zs : List MarkedRange) (a b p c r : Option Spot) → zs ≡ xs ++ ys → IsLeast (ReservedOverlap xs) a → IsLeast (ReservedOverlap ys) b → IsLesser a b p → IsLeast (Each ys (IsAcross xs)) c → IsLesser p c r → IsLeast (ReservedOverlap zs) r
-halves_least xs ys zs a b p c r e h k l m o = rw e (least_same (Halves xs ys) (ReservedOverlap (xs ++ ys)) r (halves_of xs ys) (of_halves xs ys) (least_either (Either (ReservedOverlap xs) (ReservedOverlap ys)) (Each ys (IsAcross xs)) p c r (least_either (ReservedOverlap xs) (ReservedOverlap ys) a b p h k l) m o))
+pub halves_least : (xs ys zs : List MarkedRange) (a b p c r : Option Spot) → zs ≡ xs ++ ys → IsLeast (ReservedOverlap xs) a → IsLeast (ReservedOverlap ys) b
+    → IsLesser a b p → IsLeast (Each ys (IsAcross xs)) c → IsLesser p c r → IsLeast (ReservedOverlap zs) r
+halves_least xs ys zs a b p c r e h k l m o = rw e (least_same (Halves xs ys) (ReservedOverlap (xs ++ ys)) r (halves_of xs ys) (of_halves xs ys)
+    (least_either (Either (ReservedOverlap xs) (ReservedOverlap ys)) (Each ys (IsAcross xs)) p c r
+    (least_either (ReservedOverlap xs) (ReservedOverlap ys) a b p h k l) m o))
 
 -- with no range no number is reserved
 pub unreserved_none : (rs : List MarkedRange) (ns : List MarkedNumber) → length rs ≡ 0 → IsLeast (ReservedNumberUsed rs ns) None
@@ -74,12 +80,14 @@ of_used rs cover n h (i, r, there, holds) = (h.reached n n (omega arith)).1 (i, 
 abbrev pub IsShared : List MarkedRange → MarkedRange → Type 0
 IsShared rs s = (i : ℕ) × (r : MarkedRange) × StandsAt rs i r × Share r s
 
-pub shared_of : (rs : List MarkedRange) (cover : List Interval) (s : MarkedRange) → IsCover rs cover → s.start ≤ s.end → Reached cover s.start s.end → IsShared rs s
+pub shared_of : (rs : List MarkedRange) (cover : List Interval) (s : MarkedRange) → IsCover rs cover → s.start ≤ s.end → Reached cover s.start s.end
+    → IsShared rs s
 shared_of rs cover s h up w =
     let (i, r, there, held) = (h.reached s.start s.end up).0 w in
     (i, r, there, (held.0, held.3, (held.1, held.2)))
 
-pub of_shared : (rs : List MarkedRange) (cover : List Interval) (s : MarkedRange) → IsCover rs cover → IsShared rs s → (s.start ≤ s.end) × Reached cover s.start s.end
+pub of_shared : (rs : List MarkedRange) (cover : List Interval) (s : MarkedRange) → IsCover rs cover → IsShared rs s
+    → (s.start ≤ s.end) × Reached cover s.start s.end
 of_shared rs cover s h (i, r, there, (n, holds, (c, d))) =
     let up : s.start ≤ s.end = omega arith in
     (up, (h.reached s.start s.end up).1 (i, r, there, (n, c, d, holds)))

@@ -17,7 +17,8 @@ use Rattle.proto_base.proofs.Sets.{one_at}
 abbrev pub IntervalsTo : List MarkedRange → ℕ → List Interval → Type 0
 IntervalsTo rs n xs = (a : Interval) → Contains xs a ↔ ((i : ℕ) × (r : MarkedRange) × (i < n) × StandsAt rs i r × (r.start ≤ r.end) × (a ≡ interval_of r))
 
-pub intervals_push : (rs : List MarkedRange) (n : ℕ) (xs : List Interval) (r : MarkedRange) → StandsAt rs n r → r.start ≤ r.end → IntervalsTo rs n xs → IntervalsTo rs (n + 1) (xs ++ interval_of r ∷ [])
+pub intervals_push : (rs : List MarkedRange) (n : ℕ) (xs : List Interval) (r : MarkedRange) → StandsAt rs n r → r.start ≤ r.end → IntervalsTo rs n xs
+    → IntervalsTo rs (n + 1) (xs ++ interval_of r ∷ [])
 intervals_push rs n xs r here full h a = (
   λ w. elim (Contains-push_cases xs (interval_of r) a w) [
     | inl old ↦ (let v = (h a).0 old in (v.0, v.1, omega (arith, v.2), v.3, v.4, v.5))
@@ -25,23 +26,27 @@ intervals_push rs n xs r here full h a = (
   ],
   λ v. elim (cases_lt v.0 n) [
     | inl old ↦ Contains-append_left xs (interval_of r ∷ []) a ((h a).1 (v.0, v.1, old, v.3, v.4, v.5))
-    | inr last ↦ subst (Contains (xs ++ interval_of r ∷ [])) (ap interval_of (one_at rs n v.0 r v.1 (omega (arith, v.2, last)) here v.3) ∙ sym v.5) (Contains-push xs (interval_of r))
+    | inr last ↦ subst (Contains (xs ++ interval_of r ∷ [])) (ap interval_of (one_at rs n v.0 r v.1 (omega (arith, v.2, last)) here v.3) ∙ sym v.5)
+        (Contains-push xs (interval_of r))
   ],
 )
 
 bad_full : (m n : ℕ) → n < m → m ≤ n → ⊥
 bad_full m n h k = omega arith
 
-pub intervals_skip : (rs : List MarkedRange) (n : ℕ) (xs : List Interval) (r : MarkedRange) → StandsAt rs n r → r.end < r.start → IntervalsTo rs n xs → IntervalsTo rs (n + 1) xs
+pub intervals_skip : (rs : List MarkedRange) (n : ℕ) (xs : List Interval) (r : MarkedRange) → StandsAt rs n r → r.end < r.start → IntervalsTo rs n xs
+    → IntervalsTo rs (n + 1) xs
 intervals_skip rs n xs r here back h a = (
   λ w. let v = (h a).0 w in (v.0, v.1, omega (arith, v.2), v.3, v.4, v.5),
   λ v. elim (cases_lt v.0 n) [
     | inl old ↦ (h a).1 (v.0, v.1, old, v.3, v.4, v.5)
-    | inr last ↦ absurd (bad_full r.start r.end back (subst (λ (s : MarkedRange). s.start ≤ s.end) (sym (one_at rs n v.0 r v.1 (omega (arith, v.2, last)) here v.3)) v.4))
+    | inr last ↦ absurd (bad_full r.start r.end back (subst (λ (s : MarkedRange). s.start ≤ s.end)
+        (sym (one_at rs n v.0 r v.1 (omega (arith, v.2, last)) here v.3)) v.4))
   ],
 )
 
-pub intervals_all : (rs : List MarkedRange) (n : ℕ) (xs sorted : List Interval) → length rs ≤ n → IntervalsTo rs n xs → IsPermutation xs sorted → AreIntervals rs sorted
+pub intervals_all : (rs : List MarkedRange) (n : ℕ) (xs sorted : List Interval) → length rs ≤ n → IntervalsTo rs n xs → IsPermutation xs sorted
+    → AreIntervals rs sorted
 intervals_all rs n xs sorted end h p a = (
   λ w. let v = (h a).0 (Contains-permutation sorted xs a (IsPermutation-sym xs sorted p) w) in (v.0, v.1, v.3, v.4, v.5),
   λ v. Contains-permutation xs sorted a p ((h a).1 (v.0, v.1, omega (arith, v.2.0), v.2, v.3, v.4)),
@@ -52,7 +57,9 @@ abbrev pub raised : ℕ → List Interval → List Interval
 raised top [] = []
 raised top (a ∷ rest) = record { start = a.start; end = max a.end top } ∷ raised (max a.end top) rest
 
-pub raised_at : (top : ℕ) (rest : List Interval) (k : ℕ) (d : Interval) → k < length rest → raised top (drop k rest) ≡ record { start = (get_or rest k d).start; end = max (get_or rest k d).end top } ∷ raised (max (get_or rest k d).end top) (drop (k + 1) rest)
+pub raised_at : (top : ℕ) (rest : List Interval) (k : ℕ) (d : Interval) → k < length rest
+    → raised top (drop k rest) ≡ record { start = (get_or rest k d).start; end = max (get_or rest k d).end top }
+    ∷ raised (max (get_or rest k d).end top) (drop (k + 1) rest)
 raised_at top rest k d h = rw (add-one, drop-cons rest k d) refl
 
 pub length-raised : (top : ℕ) (rest : List Interval) → length (raised top rest) ≡ length rest
@@ -67,9 +74,11 @@ raised_start top (a ∷ rest) (suc k) d e h = raised_start (max a.end top) rest 
 raised_top : (top : ℕ) (rest : List Interval) (k : ℕ) (d : Interval) → k < length rest → top ≤ (get_or (raised top rest) k d).end
 raised_top top [] k d h = absurd (omega arith)
 raised_top top (a ∷ rest) zero d h = let g : top ≤ max a.end top = omega arith in g
-raised_top top (a ∷ rest) (suc k) d h = let below = raised_top (max a.end top) rest k d (omega arith) in let g : top ≤ max a.end top = omega arith in omega (arith, below, g)
+raised_top top (a ∷ rest) (suc k) d h =
+    let below = raised_top (max a.end top) rest k d (omega arith) in let g : top ≤ max a.end top = omega arith in omega (arith, below, g)
 
-raised_rises : (top : ℕ) (rest : List Interval) (i j : ℕ) (d : Interval) → i ≤ j → j < length rest → (get_or (raised top rest) i d).end ≤ (get_or (raised top rest) j d).end
+raised_rises : (top : ℕ) (rest : List Interval) (i j : ℕ) (d : Interval) → i ≤ j → j < length rest
+    → (get_or (raised top rest) i d).end ≤ (get_or (raised top rest) j d).end
 raised_rises top [] i j d h k = absurd (omega arith)
 raised_rises top (a ∷ rest) zero zero d h k = omega arith
 raised_rises top (a ∷ rest) zero (suc j) d h k = raised_top (max a.end top) rest j d (omega arith)
@@ -82,9 +91,11 @@ raised_over top (a ∷ rest) zero d e h = let g : a.end ≤ max a.end top = omeg
 raised_over top (a ∷ rest) (suc k) d e h = raised_over (max a.end top) rest k d e (omega arith)
 
 -- what reaches n when raised is the start's top, or an interval up to there
-raised_back : (top : ℕ) (rest : List Interval) (k n : ℕ) (d e : Interval) → k < length rest → n ≤ (get_or (raised top rest) k d).end → (n ≤ top) ⊎ ((j : ℕ) × (j ≤ k) × (n ≤ (get_or rest j e).end))
+raised_back : (top : ℕ) (rest : List Interval) (k n : ℕ) (d e : Interval) → k < length rest → n ≤ (get_or (raised top rest) k d).end
+    → (n ≤ top) ⊎ ((j : ℕ) × (j ≤ k) × (n ≤ (get_or rest j e).end))
 raised_back top [] k n d e h w = absurd (omega arith)
-raised_back top (a ∷ rest) zero n d e h w = elim (cases_lt top n) [ inl over ↦ inr (0, omega arith, (let v : n ≤ max a.end top = w in omega arith)) | inr under ↦ inl under ]
+raised_back top (a ∷ rest) zero n d e h w =
+    elim (cases_lt top n) [ inl over ↦ inr (0, omega arith, (let v : n ≤ max a.end top = w in omega arith)) | inr under ↦ inl under ]
 raised_back top (a ∷ rest) (suc k) n d e h w = elim (raised_back (max a.end top) rest k n d e (omega arith) w) [
   | inl early ↦ (elim (cases_lt top n) [ inl over ↦ inr (0, omega arith, omega arith) | inr under ↦ inl under ])
   | inr v ↦ inr (suc v.0, omega (arith, v.1), v.2)
@@ -118,13 +129,16 @@ reached_back rest n m up (b, (k, below, is), low, high) =
 
 pub raised_is : (rest : List Interval) → RisesByStart rest → IsRaised rest (raised 0 rest)
 raised_is rest up = record {
-  starts = λ i j d h k. (let size = length-raised 0 rest in let inside : j < length rest = omega arith in let one = raised_start 0 rest i d d (omega arith) in let two = raised_start 0 rest j d d inside in let rises = up i j d h inside in omega arith);
+  starts = λ i j d h k. (let size = length-raised 0 rest in let inside : j < length rest = omega arith in let one = raised_start 0 rest i d d (omega arith) in
+      let two = raised_start 0 rest j d d inside in let rises = up i j d h inside in omega arith);
   ends = λ i j d h k. (let size = length-raised 0 rest in raised_rises 0 rest i j d h (omega arith));
   reached = λ n m. (reached_back rest n m up, reached_on rest n m);
 }
 
 -- one more interval raised in place
-pub raised_more : (xs all : List Interval) (k top : ℕ) (d : Interval) → k < length xs → take k xs ++ raised top (drop k xs) ≡ all → take (k + 1) (set xs k (record { start = (get_or xs k d).start; end = max (get_or xs k d).end top })) ++ raised (max (get_or xs k d).end top) (drop (k + 1) (set xs k (record { start = (get_or xs k d).start; end = max (get_or xs k d).end top }))) ≡ all
+pub raised_more : (xs all : List Interval) (k top : ℕ) (d : Interval) → k < length xs → take k xs ++ raised top (drop k xs) ≡ all
+    → take (k + 1) (set xs k (record { start = (get_or xs k d).start; end = max (get_or xs k d).end top }))
+    ++ raised (max (get_or xs k d).end top) (drop (k + 1) (set xs k (record { start = (get_or xs k d).start; end = max (get_or xs k d).end top }))) ≡ all
 raised_more xs all k top d h e =
     let a : Interval = record { start = (get_or xs k d).start; end = max (get_or xs k d).end top } in
     let whole = rw (raised_at top xs k d h) at e in
@@ -182,7 +196,8 @@ blank = record { start = 0; end = 0 }
 abbrev pub IsBegun : List Interval → (m begun : ℕ) → Type 0
 IsBegun cover m begun = IsPartitionPoint (λ (a : Interval). leb a.start m ≡ true) (λ (a : Interval). leb a.start m ≡ false) cover begun
 
-pub reached_last : (cover : List Interval) (n m begun : ℕ) (d : Interval) → RisesByEnd cover → begun ≤ length cover → IsBegun cover m begun → Reached cover n m → (0 < begun) × (n ≤ (get_or cover (begun - 1) d).end)
+pub reached_last : (cover : List Interval) (n m begun : ℕ) (d : Interval) → RisesByEnd cover → begun ≤ length cover → IsBegun cover m begun → Reached cover n m
+    → (0 < begun) × (n ≤ (get_or cover (begun - 1) d).end)
 reached_last cover n m begun d up within begins (a, (k, below, is), low, high) =
     let start : (get_or cover k a).start ≡ a.start = ap (λ (s : Interval). s.start) is in
     let end : (get_or cover k a).end ≡ a.end = ap (λ (s : Interval). s.end) is in
@@ -193,7 +208,12 @@ reached_last cover n m begun d up within begins (a, (k, below, is), low, high) =
       | inr more ↦ (let far = untested (get_or cover k a).start m (begins.1 k a more below) in absurd (omega arith))
     ]
 
-pub last_reached : (cover : List Interval) (n m begun : ℕ) (d : Interval) → begun ≤ length cover → IsBegun cover m begun → 0 < begun → n ≤ (get_or cover (begun - 1) d).end → Reached cover n m
+pub last_reached : (cover : List Interval) (n m begun : ℕ) (d : Interval) → begun ≤ length cover → IsBegun cover m begun → 0 < begun
+    → n ≤ (get_or cover (begun - 1) d).end → Reached cover n m
 last_reached cover n m begun d within begins some w =
-    let inside : begun - 1 < length cover = omega arith in
-    (get_or cover (begun - 1) d, (begun - 1, inside, get_or_default cover (begun - 1) (get_or cover (begun - 1) d) d inside), tested (get_or cover (begun - 1) d).start m (begins.0 (begun - 1) d (omega arith) (omega arith)), w)
+    let inside : begun - 1 < length cover = omega arith in (
+      get_or cover (begun - 1) d,
+      (begun - 1, inside, get_or_default cover (begun - 1) (get_or cover (begun - 1) d) d inside),
+      tested (get_or cover (begun - 1) d).start m (begins.0 (begun - 1) d (omega arith) (omega arith)),
+      w,
+    )

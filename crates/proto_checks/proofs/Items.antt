@@ -23,16 +23,21 @@ use Rattle.proto_base.proofs.Sets.{Either, least_either, least_same}
 
 -- statements of a message
 pub item_field : (f : Field) (r : Option Spot) → IsLeast (FieldOptionsBreak (optioned_plain f)) r → IsLeast (ItemBreaks (of.Field f)) r
-item_field f r h = first_of_three (Each (optioned_plain f ∷ []) FieldOptionsBreak) (Each [] OneofBreaks) (Each [] EnumBreaks) r (among_of OneofBreaks []) (among_of EnumBreaks []) (least_single FieldOptionsBreak (optioned_plain f) r h)
+item_field f r h = first_of_three (Each (optioned_plain f ∷ []) FieldOptionsBreak) (Each [] OneofBreaks) (Each [] EnumBreaks) r (among_of OneofBreaks [])
+    (among_of EnumBreaks []) (least_single FieldOptionsBreak (optioned_plain f) r h)
 
 pub item_map : (m : MapField) (r : Option Spot) → IsLeast (FieldOptionsBreak (optioned m.declarator false false)) r → IsLeast (ItemBreaks (of.Map m)) r
-item_map m r h = first_of_three (Each (optioned m.declarator false false ∷ []) FieldOptionsBreak) (Each [] OneofBreaks) (Each [] EnumBreaks) r (among_of OneofBreaks []) (among_of EnumBreaks []) (least_single FieldOptionsBreak (optioned m.declarator false false) r h)
+item_map m r h = first_of_three (Each (optioned m.declarator false false ∷ []) FieldOptionsBreak) (Each [] OneofBreaks) (Each [] EnumBreaks) r
+    (among_of OneofBreaks []) (among_of EnumBreaks []) (least_single FieldOptionsBreak (optioned m.declarator false false) r h)
 
 pub item_enum : (e : Enum) (r : Option Spot) → IsLeast (EnumBreaks e) r → IsLeast (ItemBreaks (of.Enum e)) r
-item_enum e r h = last_of_three (Each [] FieldOptionsBreak) (Each [] OneofBreaks) (Each (e ∷ []) EnumBreaks) r (among_of FieldOptionsBreak []) (among_of OneofBreaks []) (least_single EnumBreaks e r h)
+item_enum e r h = last_of_three (Each [] FieldOptionsBreak) (Each [] OneofBreaks) (Each (e ∷ []) EnumBreaks) r (among_of FieldOptionsBreak [])
+    (among_of OneofBreaks []) (least_single EnumBreaks e r h)
 
-pub item_oneof : (o : Oneof) (a b r : Option Spot) → IsLeast (Each (flat_map optioned_member o.items) FieldOptionsBreak) a → IsLeast (OneofBreaks o) b → IsLesser a b r → IsLeast (ItemBreaks (of.Oneof o)) r
-item_oneof o a b r h k w = two_of_three (Each (flat_map optioned_member o.items) FieldOptionsBreak) (Each (o ∷ []) OneofBreaks) (Each [] EnumBreaks) r (among_of EnumBreaks [])
+pub item_oneof : (o : Oneof) (a b r : Option Spot) → IsLeast (Each (flat_map optioned_member o.items) FieldOptionsBreak) a → IsLeast (OneofBreaks o) b
+    → IsLesser a b r → IsLeast (ItemBreaks (of.Oneof o)) r
+item_oneof o a b r h k w =
+    two_of_three (Each (flat_map optioned_member o.items) FieldOptionsBreak) (Each (o ∷ []) OneofBreaks) (Each [] EnumBreaks) r (among_of EnumBreaks [])
     (least_either (Each (flat_map optioned_member o.items) FieldOptionsBreak) (Each (o ∷ []) OneofBreaks) a b r h (least_single OneofBreaks o b k) w)
 
 -- a message without those within it
@@ -40,7 +45,8 @@ abbrev Alone : List MessageItem → Spot → Type 0
 Alone items = Either (FieldNumbersBreak items) (SettingsBreak element.Message (flat_map message_setting items))
 
 abbrev Elements : List MessageItem → Spot → Type 0
-Elements items = Either (Either (Each (flat_map optioned_fields items) FieldOptionsBreak) (Each (flat_map oneof_of items) OneofBreaks)) (Each (flat_map enum_of items) EnumBreaks)
+Elements items = Either (Either (Each (flat_map optioned_fields items) FieldOptionsBreak) (Each (flat_map oneof_of items) OneofBreaks))
+    (Each (flat_map enum_of items) EnumBreaks)
 
 body_parts : (items : List MessageItem) (x : Spot) → BodyBreaks items x → Either (Alone items) (Elements items) x
 body_parts items x (BodyBreaks.numbers s) = inl (inl s)
@@ -56,7 +62,9 @@ parts_body items x (inr (inl (inl s))) = BodyBreaks.field_options s
 parts_body items x (inr (inl (inr s))) = BodyBreaks.in_oneof s
 parts_body items x (inr (inr s)) = BodyBreaks.in_enum s
 
-pub body_least : (items : List MessageItem) (a b p ab r : Option Spot) → IsLeast (FieldNumbersBreak items) a → IsLeast (SettingsBreak element.Message (flat_map message_setting items)) b → IsLeast (Each items ItemBreaks) p → IsLesser a b ab → IsLesser ab p r → IsLeast (BodyBreaks items) r
+pub body_least : (items : List MessageItem) (a b p ab r : Option Spot) → IsLeast (FieldNumbersBreak items) a
+    → IsLeast (SettingsBreak element.Message (flat_map message_setting items)) b → IsLeast (Each items ItemBreaks) p → IsLesser a b ab → IsLesser ab p r
+    → IsLeast (BodyBreaks items) r
 body_least items a b p ab r h k m u w = least_same (Either (Alone items) (Elements items)) (BodyBreaks items) r (body_parts items) (parts_body items)
     (least_either (Alone items) (Elements items) ab p r
     (least_either (FieldNumbersBreak items) (SettingsBreak element.Message (flat_map message_setting items)) a b ab h k u)

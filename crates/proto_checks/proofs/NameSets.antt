@@ -24,7 +24,8 @@ of_second : (b o : Bool) → o ≡ true → cond b true o ≡ true
 of_second true o h = refl
 of_second false o h = h
 
-pub set_push : (names : List (List ℕ)) (s t : BTreeSet (Bor (List ℕ))) (k : Bor (List ℕ)) → Updates text_cmp s t k true → IsSetOf names s → IsSetOf (names ++ k.now ∷ []) t
+pub set_push : (names : List (List ℕ)) (s t : BTreeSet (Bor (List ℕ))) (k : Bor (List ℕ)) → Updates text_cmp s t k true → IsSetOf names s
+    → IsSetOf (names ++ k.now ∷ []) t
 set_push names s t k new set name =
     let q : Bor (List ℕ) = record k { now = name } in (
       λ h. elim (either_of (is_eq (text_cmp k q)) _ (sym (new.0 q) ∙ h)) [
@@ -37,7 +38,8 @@ set_push names s t k new set name =
       ],
     )
 
-pub set_more : (names : List (List ℕ)) (n : ℕ) (s t : BTreeSet (Bor (List ℕ))) (k : Bor (List ℕ)) → n < length names → k.now ≡ get_or names n k.now → Updates text_cmp s t k true → IsSetOf (take n names) s → IsSetOf (take (n + 1) names) t
+pub set_more : (names : List (List ℕ)) (n : ℕ) (s t : BTreeSet (Bor (List ℕ))) (k : Bor (List ℕ)) → n < length names → k.now ≡ get_or names n k.now
+    → Updates text_cmp s t k true → IsSetOf (take n names) s → IsSetOf (take (n + 1) names) t
 set_more names n s t k below is new set = rw (take_more names n k.now below, ← is) (set_push (take n names) s t k new set)
 
 -- of no name none is used

@@ -20,16 +20,20 @@ abbrev pub own_names : MessageDesc → MessageNames
 own_names m = record { fields = (out-MessageDesc m).fields; reserved_names = (out-MessageDesc m).reserved_names; enums = (out-MessageDesc m).enums }
 
 pub names_out : (m : MessageDesc) → names_of m ≡ own_names m ∷ flat_map names_of (out-MessageDesc m).nested
-names_out m = fold_out-MessageDesc (List MessageNames) names_step m ∙ ap (λ xs. own_names m ∷ xs) (flat_map-map (λ (names : List MessageNames). names) names_of (out-MessageDesc m).nested)
+names_out m = fold_out-MessageDesc (List MessageNames) names_step m
+    ∙ ap (λ xs. own_names m ∷ xs) (flat_map-map (λ (names : List MessageNames). names) names_of (out-MessageDesc m).nested)
 
 abbrev OfFields : MessageNames → Spot → Type 0
 OfFields m = Either (TextTwice kind.JsonNameTwice (map json_mark m.fields)) (ReservedNameUsed m.reserved_names (map field_mark m.fields))
 
-pub own_least : (m : MessageNames) (a b p ab r : Option Spot) → IsLeast (TextTwice kind.JsonNameTwice (map json_mark m.fields)) a → IsLeast (ReservedNameUsed m.reserved_names (map field_mark m.fields)) b → IsLeast (Each m.enums EnumNamesBreak) p → IsLesser a b ab → IsLesser ab p r → IsLeast (MessageNamesBreak m) r
+pub own_least : (m : MessageNames) (a b p ab r : Option Spot) → IsLeast (TextTwice kind.JsonNameTwice (map json_mark m.fields)) a
+    → IsLeast (ReservedNameUsed m.reserved_names (map field_mark m.fields)) b → IsLeast (Each m.enums EnumNamesBreak) p → IsLesser a b ab → IsLesser ab p r
+    → IsLeast (MessageNamesBreak m) r
 own_least m a b p ab r h k n u w = least_same (Either (OfFields m) (Each m.enums EnumNamesBreak)) (MessageNamesBreak m) r
     (λ x v. elim v [ MessageNamesBreak.json_twice s ↦ inl (inl s) | MessageNamesBreak.reserved s ↦ inl (inr s) | MessageNamesBreak.in_enum s ↦ inr s ])
     (λ x v. elim v [ inl s ↦ elim s [ inl t ↦ MessageNamesBreak.json_twice t | inr t ↦ MessageNamesBreak.reserved t ] | inr s ↦ MessageNamesBreak.in_enum s ])
-    (least_either (OfFields m) (Each m.enums EnumNamesBreak) ab p r (least_either (TextTwice kind.JsonNameTwice (map json_mark m.fields)) (ReservedNameUsed m.reserved_names (map field_mark m.fields)) a b ab h k u) n w)
+    (least_either (OfFields m) (Each m.enums EnumNamesBreak) ab p r
+    (least_either (TextTwice kind.JsonNameTwice (map json_mark m.fields)) (ReservedNameUsed m.reserved_names (map field_mark m.fields)) a b ab h k u) n w)
 
 -- what a message and those within it declare
 abbrev pub own_declared : MessageDesc → List ℕ → Declared
@@ -40,10 +44,13 @@ scope_in m scope = scoped scope (out-MessageDesc m).name
 
 abbrev pub declared_before : MessageDesc → List ℕ → List Declared
 declared_before m scope =
-    own_declared m scope ∷ (map (declared_field (scope_in m scope)) (out-MessageDesc m).fields ++ map (declared_oneof (scope_in m scope)) (out-MessageDesc m).oneofs
+    own_declared m scope ∷ (map (declared_field (scope_in m scope)) (out-MessageDesc m).fields
+    ++ map (declared_oneof (scope_in m scope)) (out-MessageDesc m).oneofs
     ++ flat_map (declared_by_enum (scope_in m scope)) (out-MessageDesc m).enums)
 
-pub declared_out : (m : MessageDesc) (scope : List ℕ) → declared_by_message m scope ≡ declared_before m scope ++ flat_map (λ n. declared_by_message n (scope_in m scope)) (out-MessageDesc m).nested
+pub declared_out : (m : MessageDesc) (scope : List ℕ) → declared_by_message m scope ≡ declared_before m scope
+    ++ flat_map (λ n. declared_by_message n (scope_in m scope)) (out-MessageDesc m).nested
 declared_out m scope =
     ap (λ (f : List ℕ → List Declared). f scope) (fold_out-MessageDesc (List ℕ → List Declared) declared_step m)
-    ∙ ap (λ xs. declared_before m scope ++ xs) (flat_map-map (λ (g : List ℕ → List Declared). g (scope_in m scope)) declared_by_message (out-MessageDesc m).nested)
+    ∙ ap (λ xs. declared_before m scope ++ xs) (flat_map-map (λ (g : List ℕ → List Declared). g (scope_in m scope)) declared_by_message
+    (out-MessageDesc m).nested)

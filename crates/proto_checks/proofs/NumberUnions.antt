@@ -41,7 +41,8 @@ abbrev pub FieldRules : List MessageItem → Spot → Type 0
 FieldRules is =
     Either
     (Either (Each (field_numbers is) IsNoFieldNumber) (NumberTwice kind.FieldNumberTwice (field_numbers is)))
-    (Either (Either (Outside 1 536870911 kind.FieldNumberRange (message_bounds is)) (RangesBreak (message_ranges is) (field_numbers is))) (TextTwice kind.ReservedNameTwice (message_reserved_names is)))
+    (Either (Either (Outside 1 536870911 kind.FieldNumberRange (message_bounds is)) (RangesBreak (message_ranges is) (field_numbers is)))
+    (TextTwice kind.ReservedNameTwice (message_reserved_names is)))
 
 field_rules : (is : List MessageItem) (x : Spot) → FieldNumbersBreak is x → FieldRules is x
 field_rules is x (rules.number_range w) = inl (inl w)
@@ -68,8 +69,10 @@ fields_least is a h = least_same (FieldRules is) (FieldNumbersBreak is) a (field
 abbrev pub EnumRules : List EnumItem → Spot → Type 0
 EnumRules is =
     Either
-    (Either (Either (FirstNotZero (value_numbers is)) (Outside (2 ^ 64 - 2147483648) (2 ^ 64 + 2147483647) kind.EnumNumberRange (value_numbers is))) (ValueTwice (first_setting AllowAlias (flat_map enum_setting is)) (value_numbers is)))
-    (Either (Either (Outside (2 ^ 64 - 2147483648) (2 ^ 64 + 2147483647) kind.EnumNumberRange (enum_bounds is)) (RangesBreak (enum_ranges is) (value_numbers is))) (TextTwice kind.ReservedNameTwice (enum_reserved_names is)))
+    (Either (Either (FirstNotZero (value_numbers is)) (Outside (2 ^ 64 - 2147483648) (2 ^ 64 + 2147483647) kind.EnumNumberRange (value_numbers is)))
+    (ValueTwice (first_setting AllowAlias (flat_map enum_setting is)) (value_numbers is)))
+    (Either (Either (Outside (2 ^ 64 - 2147483648) (2 ^ 64 + 2147483647) kind.EnumNumberRange (enum_bounds is))
+    (RangesBreak (enum_ranges is) (value_numbers is))) (TextTwice kind.ReservedNameTwice (enum_reserved_names is)))
 
 enum_rules : (is : List EnumItem) (x : Spot) → EnumNumbersBreak is x → EnumRules is x
 enum_rules is x (rules.first_not_zero w) = inl (inl (inl w))

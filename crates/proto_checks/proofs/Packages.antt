@@ -40,8 +40,17 @@ longer : {X : Type 0} (xs : List X) (p : X) → length (xs ++ p ∷ []) ≡ leng
 longer xs p = length-append xs (p ∷ [])
 
 old_pair : (ps : List Package) (p : Package) (x : Spot) → PackageTwice ps x → PackageTwice (ps ++ p ∷ []) x
-old_pair ps p x (i, j, a, b, before, s, t, u, e) =
-    (i, j, a, b, before, (omega (arith, s.0, longer ps p), stands_left ps (p ∷ []) i a s.0 s.1), (omega (arith, t.0, longer ps p), stands_left ps (p ∷ []) j b t.0 t.1), u, e)
+old_pair ps p x (i, j, a, b, before, s, t, u, e) = (
+  i,
+  j,
+  a,
+  b,
+  before,
+  (omega (arith, s.0, longer ps p), stands_left ps (p ∷ []) i a s.0 s.1),
+  (omega (arith, t.0, longer ps p), stands_left ps (p ∷ []) j b t.0 t.1),
+  u,
+  e,
+)
 
 new_pair : (ps : List Package) (p : Package) (x : Spot) → 0 < length ps → x ≡ again p → PackageTwice (ps ++ p ∷ []) x
 new_pair [] p x some e = absurd (omega arith)
@@ -57,7 +66,8 @@ split_pair ps p x (i, j, a, b, before, s, t, u, e) = elim (cases_lt j (length ps
       inr (omega arith, e ∙ ap again same))
 ]
 
-pub repeated_more : (ps : List Package) (p : Package) (is_named : Bool) (a b r : Option Spot) → Repeated ps is_named a → IsLeast (Where (is_named ≡ true) (again p)) b → IsLesser a b r → Repeated (ps ++ p ∷ []) true r
+pub repeated_more : (ps : List Package) (p : Package) (is_named : Bool) (a b r : Option Spot) → Repeated ps is_named a
+    → IsLeast (Where (is_named ≡ true) (again p)) b → IsLesser a b r → Repeated (ps ++ p ∷ []) true r
 repeated_more ps p is_named a b r h k w = record {
   named = (λ e. omega (arith, longer ps p), λ some. refl);
   least = least_or (PackageTwice ps) (Where (is_named ≡ true) (again p)) (PackageTwice (ps ++ p ∷ [])) a b r
@@ -74,19 +84,27 @@ repeated_none = record {
 }
 
 -- a loop over statements
-pub repeated_next : (ss : List Statement) (i : ℕ) (s : Statement) (p : Package) (is_named : Bool) (a b r : Option Spot) → i < length ss → s ≡ get_or ss i s → package_in s ≡ p ∷ [] → Repeated (flat_map package_in (take i ss)) is_named a → IsLeast (Where (is_named ≡ true) (again p)) b → IsLesser a b r → Repeated (flat_map package_in (take (i + 1) ss)) true r
+pub repeated_next : (ss : List Statement) (i : ℕ) (s : Statement) (p : Package) (is_named : Bool) (a b r : Option Spot) → i < length ss → s ≡ get_or ss i s
+    → package_in s ≡ p ∷ [] → Repeated (flat_map package_in (take i ss)) is_named a → IsLeast (Where (is_named ≡ true) (again p)) b → IsLesser a b r
+    → Repeated (flat_map package_in (take (i + 1) ss)) true r
 repeated_next ss i s p is_named a b r within at one h k w =
-    subst (λ ps. Repeated ps true r) (sym (taken package_in ss i s within at ∙ ap (λ z. flat_map package_in (take i ss) ++ z) one)) (repeated_more (flat_map package_in (take i ss)) p is_named a b r h k w)
+    subst (λ ps. Repeated ps true r) (sym (taken package_in ss i s within at ∙ ap (λ z. flat_map package_in (take i ss) ++ z) one))
+    (repeated_more (flat_map package_in (take i ss)) p is_named a b r h k w)
 
-pub repeated_skip : (ss : List Statement) (i : ℕ) (s : Statement) (is_named : Bool) (a : Option Spot) → i < length ss → s ≡ get_or ss i s → package_in s ≡ [] → Repeated (flat_map package_in (take i ss)) is_named a → Repeated (flat_map package_in (take (i + 1) ss)) is_named a
+pub repeated_skip : (ss : List Statement) (i : ℕ) (s : Statement) (is_named : Bool) (a : Option Spot) → i < length ss → s ≡ get_or ss i s → package_in s ≡ []
+    → Repeated (flat_map package_in (take i ss)) is_named a → Repeated (flat_map package_in (take (i + 1) ss)) is_named a
 repeated_skip ss i s is_named a within at none h =
-    subst (λ ps. Repeated ps is_named a) (sym (taken package_in ss i s within at ∙ ap (λ z. flat_map package_in (take i ss) ++ z) none ∙ append-nil (flat_map package_in (take i ss)))) h
+    subst (λ ps. Repeated ps is_named a) (sym (taken package_in ss i s within at ∙ ap (λ z. flat_map package_in (take i ss) ++ z) none
+    ∙ append-nil (flat_map package_in (take i ss)))) h
 
-pub repeated_all : (ss : List Statement) (i : ℕ) (is_named : Bool) (a : Option Spot) → length ss ≤ i → Repeated (flat_map package_in (take i ss)) is_named a → IsLeast (PackageTwice (flat_map package_in ss)) a
+pub repeated_all : (ss : List Statement) (i : ℕ) (is_named : Bool) (a : Option Spot) → length ss ≤ i → Repeated (flat_map package_in (take i ss)) is_named a
+    → IsLeast (PackageTwice (flat_map package_in ss)) a
 repeated_all ss i is_named a end h = subst (λ ys. IsLeast (PackageTwice (flat_map package_in ys)) a) (take_all i ss end) h.least
 
-pub package_least : (limits : Limits) (p : Package) (a b r : Option Spot) → IsLeast (Each (parts_of p.name) (IsPartTooLong limits p.name.first.span.start)) a → IsLeast (IsWholeTooLong limits p.name.first.span.start p.name) b → IsLesser a b r → IsLeast (PackageTooLong limits p) r
-package_least limits p a b r h k w = least_same (Either (Each (parts_of p.name) (IsPartTooLong limits p.name.first.span.start)) (IsWholeTooLong limits p.name.first.span.start p.name)) (PackageTooLong limits p) r
+pub package_least : (limits : Limits) (p : Package) (a b r : Option Spot) → IsLeast (Each (parts_of p.name) (IsPartTooLong limits p.name.first.span.start)) a
+    → IsLeast (IsWholeTooLong limits p.name.first.span.start p.name) b → IsLesser a b r → IsLeast (PackageTooLong limits p) r
+package_least limits p a b r h k w = least_same (Either (Each (parts_of p.name) (IsPartTooLong limits p.name.first.span.start))
+    (IsWholeTooLong limits p.name.first.span.start p.name)) (PackageTooLong limits p) r
     (λ x v. elim v [ PackageTooLong.part s ↦ inl s | PackageTooLong.whole s ↦ inr s ])
     (λ x v. elim v [ inl s ↦ PackageTooLong.part s | inr s ↦ PackageTooLong.whole s ])
     (least_either (Each (parts_of p.name) (IsPartTooLong limits p.name.first.span.start)) (IsWholeTooLong limits p.name.first.span.start p.name) a b r h k w)

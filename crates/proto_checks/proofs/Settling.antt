@@ -38,7 +38,8 @@ none_of p xs a none held = none_at p xs held.0 a none held.1 held.2
 held_next : {X : Type 0} (p : X → Bool) (y : X) (ys : List X) → (a : X) × Contains ys a × (p a ≡ true) → (a : X) × Contains (y ∷ ys) a × (p a ≡ true)
 held_next p y ys (a, held, passes) = (a, (suc held.0, omega (arith, held.1), held.2), passes)
 
-some_by : {X : Type 0} (p : X → Bool) (y : X) (ys : List X) (b : Bool) → p y ≡ b → (b || list_any p ys) ≡ true → (list_any p ys ≡ true → (a : X) × Contains ys a × (p a ≡ true)) → (a : X) × Contains (y ∷ ys) a × (p a ≡ true)
+some_by : {X : Type 0} (p : X → Bool) (y : X) (ys : List X) (b : Bool) → p y ≡ b → (b || list_any p ys) ≡ true
+    → (list_any p ys ≡ true → (a : X) × Contains ys a × (p a ≡ true)) → (a : X) × Contains (y ∷ ys) a × (p a ≡ true)
 some_by p y ys true passes any later = (y, (0, omega arith, refl), passes)
 some_by p y ys false passes any later = held_next p y ys (later any)
 
@@ -96,7 +97,8 @@ fault_unknown : (e : Element) (s : Setting) → is_known e s ≡ false → setti
 unfolding setting_fault
 fault_unknown e s h = rw h refl
 
-fault_mistaken : (e : Element) (s : Setting) → is_known e s ≡ true → is_mistaken e s ≡ true → setting_fault e s ≡ Some (spot (value_place s.value) kind.BadOptionValue)
+fault_mistaken : (e : Element) (s : Setting) → is_known e s ≡ true → is_mistaken e s ≡ true
+    → setting_fault e s ≡ Some (spot (value_place s.value) kind.BadOptionValue)
 unfolding setting_fault
 fault_mistaken e s h k = rw (h, k) refl
 
@@ -117,18 +119,21 @@ fault_of e s x (mistaken m at) = fault_mistaken e s (mistaken_known e s m) (mist
 same_spot : (a b : Spot) → Some a ≡ Some b → a ≡ b
 same_spot a b e = cc
 
-breaks_by : (e : Element) (s : Setting) (x : Spot) (known wrong : Bool) → is_known e s ≡ known → is_mistaken e s ≡ wrong → setting_fault e s ≡ Some x → SettingBreaks e s x
+breaks_by : (e : Element) (s : Setting) (x : Spot) (known wrong : Bool) → is_known e s ≡ known → is_mistaken e s ≡ wrong → setting_fault e s ≡ Some x
+    → SettingBreaks e s x
 breaks_by e s x false wrong h k f = unknown (unknown_by e s h) (same_spot x _ (sym f ∙ fault_unknown e s h))
 breaks_by e s x true true h k f = mistaken (mistaken_by e s k) (same_spot x _ (sym f ∙ fault_mistaken e s h k))
 breaks_by e s x true false h k f = absurd (let no : Some x ≡ None = sym f ∙ fault_none e s h k in cc)
 
 pub setting_least : (e : Element) (ss : List Setting) (r : Option Spot) → IsLeast (Each (map (judged e) ss) IsFaultOf) r → IsLeast (Each ss (SettingBreaks e)) r
-setting_least e ss r h = each_on (judged e) ss IsFaultOf (SettingBreaks e) r (λ s x f. breaks_by e s x (is_known e s) (is_mistaken e s) refl refl f) (fault_of e) h
+setting_least e ss r h =
+    each_on (judged e) ss IsFaultOf (SettingBreaks e) r (λ s x f. breaks_by e s x (is_known e s) (is_mistaken e s) refl refl f) (fault_of e) h
 
 pub twice_least : (e : Element) (ss : List Setting) (r : Option Spot) → IsLeast (JudgedTwice (map (judged e) ss)) r → IsLeast (OptionTwice ss) r
 twice_least e ss r h = later_map (λ (a b : Judged). a.name ≡ b.name) (λ b. spot b.place kind.OptionTwice) (judged e) ss r h
 
-pub judged_least : (js : List Judged) (a b r : Option Spot) → IsLeast (Each js IsFaultOf) a → IsLeast (JudgedTwice js) b → IsLesser a b r → (e : Element) (ss : List Setting) → js ≡ map (judged e) ss → IsLeast (SettingsBreak e ss) r
+pub judged_least : (js : List Judged) (a b r : Option Spot) → IsLeast (Each js IsFaultOf) a → IsLeast (JudgedTwice js) b → IsLesser a b r
+    → (e : Element) (ss : List Setting) → js ≡ map (judged e) ss → IsLeast (SettingsBreak e ss) r
 judged_least js a b r h k w e ss made =
     least_either (Each ss (SettingBreaks e)) (OptionTwice ss) a b r
     (setting_least e ss a (subst (λ ys. IsLeast (Each ys IsFaultOf) a) made h))

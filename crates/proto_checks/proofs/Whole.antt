@@ -19,10 +19,12 @@ use Rattle.proto_base.proofs.Sets.{Either, least_either, least_same}
 use Rattle.proto_checks.proofs.Three.{second_of_three, last_of_three, each_three}
 
 pub statement_enum : (e : Enum) (r : Option Spot) → IsLeast (EnumBreaks e) r → IsLeast (StatementBreaks (statement.Enum e)) r
-statement_enum e r h = second_of_three (Each [] BodyBreaks) (Each (e ∷ []) EnumBreaks) (Each [] ServiceBreaks) r (among_of BodyBreaks []) (among_of ServiceBreaks []) (least_single EnumBreaks e r h)
+statement_enum e r h = second_of_three (Each [] BodyBreaks) (Each (e ∷ []) EnumBreaks) (Each [] ServiceBreaks) r (among_of BodyBreaks [])
+    (among_of ServiceBreaks []) (least_single EnumBreaks e r h)
 
 pub statement_service : (s : Service) (r : Option Spot) → IsLeast (ServiceBreaks s) r → IsLeast (StatementBreaks (statement.Service s)) r
-statement_service s r h = last_of_three (Each [] BodyBreaks) (Each [] EnumBreaks) (Each (s ∷ []) ServiceBreaks) r (among_of BodyBreaks []) (among_of EnumBreaks []) (least_single ServiceBreaks s r h)
+statement_service s r h = last_of_three (Each [] BodyBreaks) (Each [] EnumBreaks) (Each (s ∷ []) ServiceBreaks) r (among_of BodyBreaks [])
+    (among_of EnumBreaks []) (least_single ServiceBreaks s r h)
 
 pub declared_least : (limits : Limits) (desc : FileDesc) (a b p ab r : Option Spot) →
     IsLeast (Each (flat_map (λ m. declared_by_message m (file_scope desc.«package»)) desc.messages) (IsTooLong limits)) a →
@@ -68,7 +70,9 @@ parts_file limits tree desc x (inr (inl (inr s))) = FileBreaks.enum_names s
 parts_file limits tree desc x (inr (inr (inl s))) = FileBreaks.package_long s
 parts_file limits tree desc x (inr (inr (inr s))) = FileBreaks.name_long s
 
-pub file_least : (limits : Limits) (tree : FileTree) (desc : FileDesc) (a b p q ab pq r : Option Spot) → IsLeast (HeadBreaks tree desc) a → IsLeast (Each tree.statements StatementBreaks) b → IsLeast (NamesBreak desc) p → IsLeast (LengthsBreak limits tree desc) q → IsLesser a b ab → IsLesser p q pq → IsLesser ab pq r → IsLeast (FileBreaks limits tree desc) r
+pub file_least : (limits : Limits) (tree : FileTree) (desc : FileDesc) (a b p q ab pq r : Option Spot) → IsLeast (HeadBreaks tree desc) a
+    → IsLeast (Each tree.statements StatementBreaks) b → IsLeast (NamesBreak desc) p → IsLeast (LengthsBreak limits tree desc) q → IsLesser a b ab
+    → IsLesser p q pq → IsLesser ab pq r → IsLeast (FileBreaks limits tree desc) r
 file_least limits tree desc a b p q ab pq r h k m n u v w =
     let elements = each_three BodyBreaks EnumBreaks ServiceBreaks body_in enum_in service_in tree.statements b k in
     least_same (Parts limits tree desc) (FileBreaks limits tree desc) r (file_parts limits tree desc) (parts_file limits tree desc)

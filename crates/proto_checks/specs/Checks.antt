@@ -86,7 +86,8 @@ abbrev pub IsPartTooLong : Limits → Place → List ℕ → Spot → Type 0
 IsPartTooLong limits at part x = (limit_of limits limit.NameBytes < length part) × (x ≡ spot at kind.NameTooLong)
 
 abbrev pub IsWholeTooLong : Limits → Place → FullName → Spot → Type 0
-IsWholeTooLong limits at name x = (limit_of limits limit.FullNameBytes < length (dotted name)) × (x ≡ spot at kind.NameTooLong)
+IsWholeTooLong limits at name x =
+    (limit_of limits limit.FullNameBytes < length (dotted name)) × (x ≡ spot at kind.NameTooLong)
 
 pub data PackageTooLong (limits : Limits) (p : Package) (x : Spot) : Type 0 where
   part : Each (parts_of p.name) (IsPartTooLong limits p.name.first.span.start) x → PackageTooLong limits p x
@@ -118,7 +119,8 @@ pub data MessageNamesBreak (m : MessageNames) (x : Spot) : Type 0 where
 
 -- a message, and then those within it, at each depth
 abbrev pub names_step : MessageDesc-F (List MessageNames) → List MessageNames
-names_step m = record { fields = m.fields; reserved_names = m.reserved_names; enums = m.enums } ∷ flat_map (λ names. names) m.nested
+names_step m = record { fields = m.fields; reserved_names = m.reserved_names; enums = m.enums }
+    ∷ flat_map (λ names. names) m.nested
 
 abbrev pub names_of : MessageDesc → List MessageNames
 names_of = fold-MessageDesc (List MessageNames) names_step
@@ -130,13 +132,15 @@ HeadBreaks tree desc x =
     ⊎ (ImportTwice desc.imports x ⊎ SettingsBreak element.File (flat_map file_setting tree.statements) x)
 
 abbrev pub StatementBreaks : Statement → Spot → Type 0
-StatementBreaks s x = (Each (body_in s) BodyBreaks x ⊎ Each (enum_in s) EnumBreaks x) ⊎ Each (service_in s) ServiceBreaks x
+StatementBreaks s x =
+    (Each (body_in s) BodyBreaks x ⊎ Each (enum_in s) EnumBreaks x) ⊎ Each (service_in s) ServiceBreaks x
 
 abbrev pub NamesBreak : FileDesc → Spot → Type 0
 NamesBreak desc x = Each (flat_map names_of desc.messages) MessageNamesBreak x ⊎ Each desc.enums EnumNamesBreak x
 
 abbrev pub LengthsBreak : Limits → FileTree → FileDesc → Spot → Type 0
-LengthsBreak limits tree desc x = Each (flat_map package_in tree.statements) (PackageTooLong limits) x ⊎ Each (declared_by desc) (IsTooLong limits) x
+LengthsBreak limits tree desc x =
+    Each (flat_map package_in tree.statements) (PackageTooLong limits) x ⊎ Each (declared_by desc) (IsTooLong limits) x
 
 -- a place and what is wrong there
 abbrev pub spot_of : Place × Kind → Spot

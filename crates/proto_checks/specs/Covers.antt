@@ -14,7 +14,8 @@ interval_of r = record { start = r.start; end = r.end }
 
 -- the intervals are the ranges that hold a number
 abbrev pub AreIntervals : List MarkedRange → List Interval → Type 0
-AreIntervals rs xs = (a : Interval) → Contains xs a ↔ ((i : ℕ) × (r : MarkedRange) × StandsAt rs i r × (r.start ≤ r.end) × (a ≡ interval_of r))
+AreIntervals rs xs = (a : Interval) → Contains xs a
+    ↔ ((i : ℕ) × (r : MarkedRange) × StandsAt rs i r × (r.start ≤ r.end) × (a ≡ interval_of r))
 
 abbrev pub RisesByStart : List Interval → Type 0
 RisesByStart = IsNonDecreasingBy (λ (a : Interval). a.start)

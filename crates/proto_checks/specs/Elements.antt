@@ -85,12 +85,14 @@ pub data BodyBreaks (items : List MessageItem) (x : Spot) : Type 0 where
 
 -- what a statement breaks by itself, unless it is a message or an option
 abbrev pub ItemBreaks : MessageItem → Spot → Type 0
-ItemBreaks i x = (Each (optioned_fields i) FieldOptionsBreak x ⊎ Each (oneof_of i) OneofBreaks x) ⊎ Each (enum_of i) EnumBreaks x
+ItemBreaks i x =
+    (Each (optioned_fields i) FieldOptionsBreak x ⊎ Each (oneof_of i) OneofBreaks x) ⊎ Each (enum_of i) EnumBreaks x
 
 -- the statements of the messages that a statement holds, at each depth: one list for each message
 abbrev mutual
   pub bodies_of : MessageItem → List (List MessageItem)
-  bodies_of (message_item.Message' keyword name open_brace shape is close_brace) = items-the_row-MessageItem _ is ∷ bodies_row is
+  bodies_of (message_item.Message' keyword name open_brace shape is close_brace) =
+      items-the_row-MessageItem _ is ∷ bodies_row is
   bodies_of (message_item.Map m) = []
   bodies_of (message_item.Field f) = []
   bodies_of (message_item.Oneof o) = []

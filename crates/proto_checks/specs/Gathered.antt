@@ -1,6 +1,7 @@
 -- The numbers, ranges and names of a message's or an enum's statements, with their places.
 --
--- Numbers of an enum may be negative. They are counted here from -2 ^ 64 on, which is 0, so that their order is that of numbers without a sign.
+-- Numbers of an enum may be negative. They are counted here from -2 ^ 64 on, which is 0, so that their order is that of
+-- numbers without a sign.
 use Rattle.std.specs.Prelude.{ℕ, ◌+◌, ◌-◌, ◌^◌, List, [], ◌∷◌, map, flat_map, Option, Some, None}
 use Rattle.proto_base.specs.declared.place.Place.{Place}
 use Rattle.proto_base.specs.declared.place.Span.{Span}

@@ -18,9 +18,11 @@ capped text = min (length text) (2 ^ 64 - 1)
 
 abbrev pub IsLongName : Limits → List ℕ → List ℕ → Place → Spot → Type 0
 IsLongName limits scope name place x =
-    ((limit_of limits limit.NameBytes < length name) ⊎ (limit_of limits limit.FullNameBytes < length (scoped scope name)))
+    ((limit_of limits limit.NameBytes < length name)
+    ⊎ (limit_of limits limit.FullNameBytes < length (scoped scope name)))
     × (x ≡ spot place kind.NameTooLong)
 
 -- what a message of this full name declares, but for the messages within it
 abbrev pub declared_inside_of : List ℕ → List FieldDesc → List OneofDesc → List EnumDesc → List Declared
-declared_inside_of full fields oneofs enums = map (declared_field full) fields ++ map (declared_oneof full) oneofs ++ flat_map (declared_by_enum full) enums
+declared_inside_of full fields oneofs enums =
+    map (declared_field full) fields ++ map (declared_oneof full) oneofs ++ flat_map (declared_by_enum full) enums

@@ -47,7 +47,8 @@ ReservedBackwards rs = Each rs IsBackwards
 
 -- a number that one of the ranges holds
 abbrev pub IsReserved : List MarkedRange → MarkedNumber → Spot → Type 0
-IsReserved rs n x = ((i : ℕ) × (r : MarkedRange) × StandsAt rs i r × Holds r n.number) × (x ≡ spot n.place kind.ReservedNumberUsed)
+IsReserved rs n x =
+    ((i : ℕ) × (r : MarkedRange) × StandsAt rs i r × Holds r n.number) × (x ≡ spot n.place kind.ReservedNumberUsed)
 
 abbrev pub ReservedNumberUsed : List MarkedRange → List MarkedNumber → Spot → Type 0
 ReservedNumberUsed rs ns = Each ns (IsReserved rs)

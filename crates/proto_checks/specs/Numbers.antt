@@ -38,14 +38,18 @@ IsAliasing None = ⊥
 IsAliasing (Some s) = value_of value_kind.Bool s.value ≡ Some (Number 1)
 
 abbrev pub FirstNotZero : List MarkedNumber → Spot → Type 0
-FirstNotZero ns x = (n : MarkedNumber) × StandsAt ns 0 n × (n.number ≢ 2 ^ 64) × (x ≡ spot n.place kind.EnumFirstNotZero)
+FirstNotZero ns x =
+    (n : MarkedNumber) × StandsAt ns 0 n × (n.number ≢ 2 ^ 64) × (x ≡ spot n.place kind.EnumFirstNotZero)
 
 -- the statements of one enum, whose numbers are counted from -2 ^ 64 on
 pub data EnumNumbersBreak (items : List EnumItem) (x : Spot) : Type 0 where
   first_not_zero : FirstNotZero (value_numbers items) x → EnumNumbersBreak items x
-  value_range : Outside (2 ^ 64 - 2147483648) (2 ^ 64 + 2147483647) kind.EnumNumberRange (value_numbers items) x → EnumNumbersBreak items x
-  bound_range : Outside (2 ^ 64 - 2147483648) (2 ^ 64 + 2147483647) kind.EnumNumberRange (enum_bounds items) x → EnumNumbersBreak items x
-  number_twice : (IsAliasing (first_setting AllowAlias (flat_map enum_setting items)) → ⊥) → NumberTwice kind.EnumNumberTwice (value_numbers items) x → EnumNumbersBreak items x
+  value_range : Outside (2 ^ 64 - 2147483648) (2 ^ 64 + 2147483647) kind.EnumNumberRange (value_numbers items) x
+      → EnumNumbersBreak items x
+  bound_range : Outside (2 ^ 64 - 2147483648) (2 ^ 64 + 2147483647) kind.EnumNumberRange (enum_bounds items) x
+      → EnumNumbersBreak items x
+  number_twice : (IsAliasing (first_setting AllowAlias (flat_map enum_setting items)) → ⊥)
+      → NumberTwice kind.EnumNumberTwice (value_numbers items) x → EnumNumbersBreak items x
   number_used : ReservedNumberUsed (enum_ranges items) (value_numbers items) x → EnumNumbersBreak items x
   overlap : ReservedOverlap (enum_ranges items) x → EnumNumbersBreak items x
   backwards : ReservedBackwards (enum_ranges items) x → EnumNumbersBreak items x

@@ -59,7 +59,8 @@ IsUnknown e s = (r : OptionRule) → Contains (rules_of e) r → is_setting r.na
 
 -- the option of this name takes other values
 abbrev pub IsMistaken : Element → Setting → Type 0
-IsMistaken e s = (r : OptionRule) × Contains (rules_of e) r × (is_setting r.name s ≡ true) × (value_of r.kind s.value ≡ None)
+IsMistaken e s =
+    (r : OptionRule) × Contains (rules_of e) r × (is_setting r.name s ≡ true) × (value_of r.kind s.value ≡ None)
 
 pub data SettingBreaks (e : Element) (s : Setting) (x : Spot) : Type 0 where
   unknown : IsUnknown e s → x ≡ spot (name_place s) kind.UnknownOption → SettingBreaks e s x
@@ -99,7 +100,8 @@ is_repeated (Some (label.Repeated s)) = true
 is_repeated l = false
 
 abbrev pub optioned : Declarator → Bool → Bool → OptionedField
-optioned d can_be_packed is_wide_integer = record { declarator = d; can_be_packed = can_be_packed; is_wide_integer = is_wide_integer }
+optioned d can_be_packed is_wide_integer =
+    record { declarator = d; can_be_packed = can_be_packed; is_wide_integer = is_wide_integer }
 
 abbrev pub optioned_plain : Field → OptionedField
 optioned_plain f = optioned f.declarator (is_repeated f.label && is_packed_type f.field_type) (is_wide f.field_type)
@@ -120,7 +122,8 @@ optioned_fields i = []
 -- `packed = true` on a field that is not packed
 abbrev pub IsWronglyPacked : Bool → Setting → Spot → Type 0
 IsWronglyPacked can_be_packed s x =
-    (can_be_packed ≡ false) × (is_setting Packed s ≡ true) × (value_of value_kind.Bool s.value ≡ Some (Number 1)) × (x ≡ spot (name_place s) kind.PackedOnWrongKind)
+    (can_be_packed ≡ false) × (is_setting Packed s ≡ true) × (value_of value_kind.Bool s.value ≡ Some (Number 1))
+    × (x ≡ spot (name_place s) kind.PackedOnWrongKind)
 
 abbrev pub IsOtherType : Constant → Type 0
 IsOtherType value = (n : ℕ) × (n ≢ 0) × (value_of value_kind.JsType value ≡ Some (Number n))
@@ -133,7 +136,8 @@ IsWronglyTyped is_wide_integer s x =
 
 -- what is wrong with a setting on a field alone
 abbrev pub IsWrongOnField : Bool → Bool → Setting → Spot → Type 0
-IsWrongOnField can_be_packed is_wide_integer s x = IsWronglyPacked can_be_packed s x ⊎ IsWronglyTyped is_wide_integer s x
+IsWrongOnField can_be_packed is_wide_integer s x =
+    IsWronglyPacked can_be_packed s x ⊎ IsWronglyTyped is_wide_integer s x
 
 pub data FieldOptionsBreak (f : OptionedField) (x : Spot) : Type 0 where
   settings : SettingsBreak element.Field (bracketed f.declarator.options) x → FieldOptionsBreak f x

@@ -12,7 +12,8 @@ use proto_tree::EnumItem;
 
 /// Whether the statements of an enum set `allow_alias = true`.
 pub(crate) fn is_aliasing(items: &[EnumItem]) -> bool
-    ensures { IsTrue result ↔ IsAliasing (first_setting AllowAlias (flat_map enum_setting items.now)) }
+    ensures { IsTrue result ↔ IsAliasing
+        (first_setting AllowAlias (flat_map enum_setting items.now)) }
 {
     match first_of_enum(items, OptionName::AllowAlias) {
         Some(setting) => is_true(&setting.value),

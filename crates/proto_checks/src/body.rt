@@ -26,13 +26,15 @@ fn field_fault(alloc: Global, field: &Field) -> Result<Option<Spot>, AllocError>
 }
 
 fn member_fault(alloc: Global, field: &OneofField) -> Result<Option<Spot>, AllocError>
-    ensures { IfOk result (λ first. IsLeast (FieldOptionsBreak (optioned_in_oneof field.now)) first) }
+    ensures { IfOk result (λ first. IsLeast (FieldOptionsBreak (optioned_in_oneof field.now))
+        first) }
 {
     field_options_fault(alloc, &field.declarator, false, is_wide(&field.field_type))
 }
 
 fn members_fault(alloc: Global, items: &[OneofItem]) -> Result<Option<Spot>, AllocError>
-    ensures { IfOk result (λ first. IsLeast (Each (flat_map optioned_member items.now) FieldOptionsBreak) first) }
+    ensures { IfOk result (λ first. IsLeast
+        (Each (flat_map optioned_member items.now) FieldOptionsBreak) first) }
 {
     let mut first = None;
     for item in items {

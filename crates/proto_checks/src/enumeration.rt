@@ -41,7 +41,8 @@ fn value_fault(alloc: Global, value: &EnumValue) -> Result<Option<Spot>, AllocEr
 }
 
 fn values_fault(alloc: Global, items: &[EnumItem]) -> Result<Option<Spot>, AllocError>
-    ensures { IfOk result (λ first. IsLeast (Each (flat_map value_of_item items.now) ValueBreaks) first) }
+    ensures { IfOk result (λ first. IsLeast (Each (flat_map value_of_item items.now) ValueBreaks)
+        first) }
 {
     let mut first = None;
     for item in items {

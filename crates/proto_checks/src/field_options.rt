@@ -97,7 +97,8 @@ fn field_setting_fault(
 }
 
 fn bracketed_fault(can_be_packed: bool, is_wide_integer: bool, options: &Options) -> Option<Spot>
-    ensures { IsLeast (Each (separated options.now.settings) (IsWrongOnField can_be_packed is_wide_integer)) result }
+    ensures { IsLeast (Each (separated options.now.settings)
+        (IsWrongOnField can_be_packed is_wide_integer)) result }
 {
     let settings = &options.settings;
     let mut first = field_setting_fault(can_be_packed, is_wide_integer, &settings.first);
@@ -115,7 +116,8 @@ pub(crate) fn field_options_fault(
     can_be_packed: bool,
     is_wide_integer: bool,
 ) -> Result<Option<Spot>, AllocError>
-    ensures { IfOk result (λ first. IsLeast (FieldOptionsBreak (optioned declarator.now can_be_packed is_wide_integer)) first) }
+    ensures { IfOk result (λ first. IsLeast
+        (FieldOptionsBreak (optioned declarator.now can_be_packed is_wide_integer)) first) }
 {
     let Some(options) = &declarator.options else {
         return Ok(None);

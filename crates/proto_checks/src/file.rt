@@ -102,7 +102,8 @@ fn statements_fault(alloc: Global, statements: &[Statement]) -> Result<Option<Sp
 }
 
 fn messages_names_fault(alloc: Global, messages: &[MessageDesc]) -> Result<Option<Spot>, AllocError>
-    ensures { IfOk result (λ first. IsLeast (Each (flat_map names_of messages.now) MessageNamesBreak) first) }
+    ensures { IfOk result (λ first. IsLeast
+        (Each (flat_map names_of messages.now) MessageNamesBreak) first) }
 {
     let mut first = None;
     for message in messages {
@@ -175,7 +176,8 @@ pub fn first_check_fault(
     desc: &FileDesc,
     limits: &Limits,
 ) -> Result<Option<(Place, Kind)>, AllocError>
-    ensures { IfOk result (λ first. IsLeast (FileBreaks limits.now tree.now desc.now) (option_map spot_of first)) }
+    ensures { IfOk result (λ first. IsLeast (FileBreaks limits.now tree.now desc.now)
+        (option_map spot_of first)) }
 {
     match file_fault(alloc, tree, desc, limits)? {
         Some(spot) => Ok(Some((spot.place, spot.kind))),

@@ -32,7 +32,8 @@ fn literal(number: NumberLiteral) -> MarkedNumber
 }
 
 fn put_members(numbers: &mut Vec<MarkedNumber>, items: &[OneofItem]) -> Result<(), AllocError>
-    ensures { OnOk result (numbers.new.items ≡ numbers.old.items ++ flat_map member_number items.now) }
+    ensures { OnOk result (numbers.new.items ≡ numbers.old.items
+        ++ flat_map member_number items.now) }
 {
     for item in items {
         if let OneofItem::Field(field) = item {
@@ -249,7 +250,8 @@ pub(crate) fn enum_bounds(
     alloc: Global,
     listed: &[Range<SignedNumber>],
 ) -> Result<Vec<MarkedNumber>, AllocError>
-    ensures { IfOk result (λ bounds. bounds.items ≡ map signed_number (flat_map bounds_of listed.now)) }
+    ensures { IfOk result (λ bounds. bounds.items
+        ≡ map signed_number (flat_map bounds_of listed.now)) }
 {
     bounds_of(alloc, listed)?
         .iter()

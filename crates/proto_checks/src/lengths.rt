@@ -16,7 +16,8 @@ use proto_desc::service::{MethodDesc, ServiceDesc};
 
 /// The length of a name behind its scope, up to the greatest that there is.
 fn full_len(scope_len: usize, name: &str) -> usize
-    ensures { (scope : List ℕ) → scope_len ≡ capped scope → result ≡ capped (scoped scope name.now) }
+    ensures { (scope : List ℕ) → scope_len ≡ capped scope
+        → result ≡ capped (scoped scope name.now) }
 {
     if scope_len == 0 {
         name.len()
@@ -26,7 +27,8 @@ fn full_len(scope_len: usize, name: &str) -> usize
 }
 
 fn name_fault(limits: &Limits, scope_len: usize, name: &str, place: Place) -> Option<Spot>
-    ensures { (scope : List ℕ) → scope_len ≡ capped scope → IsLeast (IsLongName limits.now scope name.now place) result }
+    ensures { (scope : List ℕ) → scope_len ≡ capped scope
+        → IsLeast (IsLongName limits.now scope name.now place) result }
 {
     let full = full_len(scope_len, name);
     let is_long = name.len() as u64 > limits.get(Limit::NameBytes);
@@ -41,7 +43,8 @@ fn name_fault(limits: &Limits, scope_len: usize, name: &str, place: Place) -> Op
 }
 
 fn fields_fault(limits: &Limits, scope_len: usize, fields: &[FieldDesc]) -> Option<Spot>
-    ensures { (scope : List ℕ) → scope_len ≡ capped scope → IsLeast (Each (map (declared_field scope) fields.now) (IsTooLong limits.now)) result }
+    ensures { (scope : List ℕ) → scope_len ≡ capped scope
+        → IsLeast (Each (map (declared_field scope) fields.now) (IsTooLong limits.now)) result }
 {
     let mut first = None;
     for field in fields {
@@ -52,7 +55,8 @@ fn fields_fault(limits: &Limits, scope_len: usize, fields: &[FieldDesc]) -> Opti
 }
 
 fn oneofs_fault(limits: &Limits, scope_len: usize, oneofs: &[OneofDesc]) -> Option<Spot>
-    ensures { (scope : List ℕ) → scope_len ≡ capped scope → IsLeast (Each (map (declared_oneof scope) oneofs.now) (IsTooLong limits.now)) result }
+    ensures { (scope : List ℕ) → scope_len ≡ capped scope
+        → IsLeast (Each (map (declared_oneof scope) oneofs.now) (IsTooLong limits.now)) result }
 {
     let mut first = None;
     for oneof in oneofs {
@@ -63,7 +67,8 @@ fn oneofs_fault(limits: &Limits, scope_len: usize, oneofs: &[OneofDesc]) -> Opti
 }
 
 fn values_fault(limits: &Limits, scope_len: usize, values: &[ValueDesc]) -> Option<Spot>
-    ensures { (scope : List ℕ) → scope_len ≡ capped scope → IsLeast (Each (map (declared_value scope) values.now) (IsTooLong limits.now)) result }
+    ensures { (scope : List ℕ) → scope_len ≡ capped scope
+        → IsLeast (Each (map (declared_value scope) values.now) (IsTooLong limits.now)) result }
 {
     let mut first = None;
     for value in values {
@@ -74,7 +79,8 @@ fn values_fault(limits: &Limits, scope_len: usize, values: &[ValueDesc]) -> Opti
 }
 
 fn methods_fault(limits: &Limits, scope_len: usize, methods: &[MethodDesc]) -> Option<Spot>
-    ensures { (scope : List ℕ) → scope_len ≡ capped scope → IsLeast (Each (map (declared_method scope) methods.now) (IsTooLong limits.now)) result }
+    ensures { (scope : List ℕ) → scope_len ≡ capped scope
+        → IsLeast (Each (map (declared_method scope) methods.now) (IsTooLong limits.now)) result }
 {
     let mut first = None;
     for method in methods {
@@ -85,7 +91,8 @@ fn methods_fault(limits: &Limits, scope_len: usize, methods: &[MethodDesc]) -> O
 }
 
 fn enum_fault(limits: &Limits, scope_len: usize, declared: &EnumDesc) -> Option<Spot>
-    ensures { (scope : List ℕ) → scope_len ≡ capped scope → IsLeast (Each (declared_by_enum scope declared.now) (IsTooLong limits.now)) result }
+    ensures { (scope : List ℕ) → scope_len ≡ capped scope
+        → IsLeast (Each (declared_by_enum scope declared.now) (IsTooLong limits.now)) result }
 {
     let own = name_fault(limits, scope_len, declared.name.as_str(), declared.place);
     let values = values_fault(limits, scope_len, declared.values.as_slice());
@@ -94,7 +101,9 @@ fn enum_fault(limits: &Limits, scope_len: usize, declared: &EnumDesc) -> Option<
 
 /// The first name that is too long of enums and their values.
 pub(crate) fn enums_fault(limits: &Limits, scope_len: usize, enums: &[EnumDesc]) -> Option<Spot>
-    ensures { (scope : List ℕ) → scope_len ≡ capped scope → IsLeast (Each (flat_map (declared_by_enum scope) enums.now) (IsTooLong limits.now)) result }
+    ensures { (scope : List ℕ) → scope_len ≡ capped scope
+        → IsLeast (Each (flat_map (declared_by_enum scope) enums.now) (IsTooLong limits.now))
+        result }
 {
     let mut first = None;
     for declared in enums {
@@ -104,7 +113,8 @@ pub(crate) fn enums_fault(limits: &Limits, scope_len: usize, enums: &[EnumDesc])
 }
 
 fn service_fault(limits: &Limits, scope_len: usize, service: &ServiceDesc) -> Option<Spot>
-    ensures { (scope : List ℕ) → scope_len ≡ capped scope → IsLeast (Each (declared_by_service scope service.now) (IsTooLong limits.now)) result }
+    ensures { (scope : List ℕ) → scope_len ≡ capped scope
+        → IsLeast (Each (declared_by_service scope service.now) (IsTooLong limits.now)) result }
 {
     let name = service.name.as_str();
     let own = name_fault(limits, scope_len, name, service.place);
@@ -119,7 +129,9 @@ pub(crate) fn services_fault(
     scope_len: usize,
     services: &[ServiceDesc],
 ) -> Option<Spot>
-    ensures { (scope : List ℕ) → scope_len ≡ capped scope → IsLeast (Each (flat_map (declared_by_service scope) services.now) (IsTooLong limits.now)) result }
+    ensures { (scope : List ℕ) → scope_len ≡ capped scope
+        → IsLeast (Each (flat_map (declared_by_service scope) services.now) (IsTooLong limits.now))
+        result }
 {
     let mut first = None;
     for service in services {
@@ -136,7 +148,9 @@ fn inside_fault(
     oneofs: &[OneofDesc],
     enums: &[EnumDesc],
 ) -> Option<Spot>
-    ensures { (scope : List ℕ) → scope_len ≡ capped scope → IsLeast (Each (declared_inside_of scope fields.now oneofs.now enums.now) (IsTooLong limits.now)) result }
+    ensures { (scope : List ℕ) → scope_len ≡ capped scope
+        → IsLeast (Each (declared_inside_of scope fields.now oneofs.now enums.now)
+        (IsTooLong limits.now)) result }
 {
     let field = fields_fault(limits, scope_len, fields);
     let oneof = oneofs_fault(limits, scope_len, oneofs);
@@ -147,7 +161,8 @@ fn inside_fault(
 
 /// The first name that is too long of a message and of all within it.
 fn message_fault(limits: &Limits, scope_len: usize, message: &MessageDesc) -> Option<Spot>
-    ensures { (scope : List ℕ) → scope_len ≡ capped scope → IsLeast (Each (declared_by_message message.now scope) (IsTooLong limits.now)) result }
+    ensures { (scope : List ℕ) → scope_len ≡ capped scope
+        → IsLeast (Each (declared_by_message message.now scope) (IsTooLong limits.now)) result }
 {
     let name = message.name.as_str();
     let len = full_len(scope_len, name);
@@ -168,7 +183,9 @@ pub(crate) fn messages_fault(
     scope_len: usize,
     messages: &[MessageDesc],
 ) -> Option<Spot>
-    ensures { (scope : List ℕ) → scope_len ≡ capped scope → IsLeast (Each (flat_map (λ m. declared_by_message m scope) messages.now) (IsTooLong limits.now)) result }
+    ensures { (scope : List ℕ) → scope_len ≡ capped scope
+        → IsLeast (Each (flat_map (λ m. declared_by_message m scope) messages.now)
+        (IsTooLong limits.now)) result }
 {
     let mut first = None;
     for message in messages {

@@ -66,7 +66,8 @@ fn value_names<'t, 's>(
 }
 
 fn json_name_twice(alloc: Global, fields: &[FieldDesc]) -> Result<Option<Spot>, AllocError>
-    ensures { IfOk result (λ first. IsLeast (TextTwice kind.JsonNameTwice (map json_mark fields.now)) first) }
+    ensures { IfOk result (λ first. IsLeast
+        (TextTwice kind.JsonNameTwice (map json_mark fields.now)) first) }
 {
     if fields.len() < 2 {
         return Ok(None);
@@ -80,7 +81,8 @@ fn reserved_field(
     reserved: &[Text],
     fields: &[FieldDesc],
 ) -> Result<Option<Spot>, AllocError>
-    ensures { IfOk result (λ first. IsLeast (ReservedNameUsed reserved.now (map field_mark fields.now)) first) }
+    ensures { IfOk result (λ first. IsLeast
+        (ReservedNameUsed reserved.now (map field_mark fields.now)) first) }
 {
     if reserved.is_empty() {
         return Ok(None);
@@ -94,7 +96,8 @@ fn reserved_value(
     reserved: &[Text],
     values: &[ValueDesc],
 ) -> Result<Option<Spot>, AllocError>
-    ensures { IfOk result (λ first. IsLeast (ReservedNameUsed reserved.now (map value_mark values.now)) first) }
+    ensures { IfOk result (λ first. IsLeast
+        (ReservedNameUsed reserved.now (map value_mark values.now)) first) }
 {
     if reserved.is_empty() {
         return Ok(None);
@@ -126,7 +129,13 @@ fn own_names_fault(
     reserved: &[Text],
     enums: &[EnumDesc],
 ) -> Result<Option<Spot>, AllocError>
-    ensures { IfOk result (λ first. IsLeast (MessageNamesBreak (record { fields = fields.now; reserved_names = reserved.now; enums = enums.now })) first) }
+    ensures { IfOk result (λ first. IsLeast
+        (MessageNamesBreak (record {
+          fields = fields.now;
+          reserved_names = reserved.now;
+          enums =
+              enums.now;
+        })) first) }
 {
     let json = json_name_twice(alloc, fields)?;
     let field = reserved_field(alloc, reserved, fields)?;

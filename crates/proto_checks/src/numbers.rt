@@ -77,7 +77,9 @@ fn first_value_twice(
     items: &[EnumItem],
     numbers: &[MarkedNumber],
 ) -> Result<Option<Spot>, AllocError>
-    ensures { IfOk result (λ first. IsLeast (ValueTwice (first_setting AllowAlias (flat_map enum_setting items.now)) numbers.now) first) }
+    ensures { IfOk result (λ first. IsLeast
+        (ValueTwice (first_setting AllowAlias (flat_map enum_setting items.now)) numbers.now)
+        first) }
 {
     let twice = first_number_twice(alloc, Kind::EnumNumberTwice, numbers)?;
     if twice.is_some() && is_aliasing(items) {

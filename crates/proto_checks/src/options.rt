@@ -179,7 +179,8 @@ fn option_twice(alloc: Global, settings: &[Judged]) -> Result<Option<Spot>, Allo
 
 /// The first fault of an element's settings.
 pub(crate) fn settings_fault(alloc: Global, settings: &[Judged]) -> Result<Option<Spot>, AllocError>
-    ensures { IfOk result (λ first. (element : Element) → (given : List Setting) → settings.now ≡ map (judged element) given → IsLeast (SettingsBreak element given) first) }
+    ensures { IfOk result (λ first. (element : Element) → (given : List Setting)
+        → settings.now ≡ map (judged element) given → IsLeast (SettingsBreak element given) first) }
 {
     let own = own_fault(settings);
     let twice = option_twice(alloc, settings)?;

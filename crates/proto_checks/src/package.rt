@@ -12,7 +12,8 @@ use proto_base::{Kind, Limit, Limits, Place, Spot, lesser};
 use proto_tree::{FullName, Package, Statement};
 
 fn again_fault(is_again: bool, declared: &Package) -> Option<Spot>
-    ensures { IsLeast (Where (is_again ≡ true) (spot declared.now.keyword.start kind.PackageTwice)) result }
+    ensures { IsLeast (Where (is_again ≡ true) (spot declared.now.keyword.start kind.PackageTwice))
+        result }
 {
     if is_again {
         Some(Spot {
@@ -98,7 +99,8 @@ fn length_fault(limits: &Limits, declared: &Package) -> Option<Spot>
 
 /// The first package that is too long or has a part that is.
 pub(crate) fn package_lengths_fault(limits: &Limits, statements: &[Statement]) -> Option<Spot>
-    ensures { IsLeast (Each (flat_map package_in statements.now) (PackageTooLong limits.now)) result }
+    ensures { IsLeast (Each (flat_map package_in statements.now) (PackageTooLong limits.now))
+        result }
 {
     let mut first = None;
     for statement in statements {

@@ -47,7 +47,8 @@ fn put_names<'s, N>(
     names: &mut Vec<ReservedName<'s>>,
     items: &ReservedItems<'s, N>,
 ) -> Result<(), AllocError>
-    ensures { OnOk result (names.new.items ≡ names.old.items ++ map reserved_name (names_listed items.now)) }
+    ensures { OnOk result (names.new.items ≡ names.old.items
+        ++ map reserved_name (names_listed items.now)) }
 {
     if let ReservedItems::Names(listed) = items {
         names.push(reserved_name(alloc, &listed.first)?)?;

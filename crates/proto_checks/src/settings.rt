@@ -16,7 +16,8 @@ pub(crate) fn file_settings<'s>(
     alloc: Global,
     items: &[Statement<'s>],
 ) -> Result<Vec<Judged<'s>>, AllocError>
-    ensures { IfOk result (λ settings. settings.items ≡ map (judged Element.File) (flat_map file_setting items.now)) }
+    ensures { IfOk result (λ settings. settings.items
+        ≡ map (judged Element.File) (flat_map file_setting items.now)) }
 {
     let mut settings = Vec::new(alloc);
     for item in items {
@@ -32,7 +33,8 @@ pub(crate) fn message_settings<'s>(
     alloc: Global,
     items: &[MessageItem<'s>],
 ) -> Result<Vec<Judged<'s>>, AllocError>
-    ensures { IfOk result (λ settings. settings.items ≡ map (judged Element.Message) (flat_map message_setting items.now)) }
+    ensures { IfOk result (λ settings. settings.items
+        ≡ map (judged Element.Message) (flat_map message_setting items.now)) }
 {
     let mut settings = Vec::new(alloc);
     for item in items {
@@ -48,7 +50,8 @@ pub(crate) fn oneof_settings<'s>(
     alloc: Global,
     items: &[OneofItem<'s>],
 ) -> Result<Vec<Judged<'s>>, AllocError>
-    ensures { IfOk result (λ settings. settings.items ≡ map (judged Element.Oneof) (flat_map oneof_setting items.now)) }
+    ensures { IfOk result (λ settings. settings.items
+        ≡ map (judged Element.Oneof) (flat_map oneof_setting items.now)) }
 {
     let mut settings = Vec::new(alloc);
     for item in items {
@@ -64,7 +67,8 @@ pub(crate) fn enum_settings<'s>(
     alloc: Global,
     items: &[EnumItem<'s>],
 ) -> Result<Vec<Judged<'s>>, AllocError>
-    ensures { IfOk result (λ settings. settings.items ≡ map (judged Element.Enum) (flat_map enum_setting items.now)) }
+    ensures { IfOk result (λ settings. settings.items
+        ≡ map (judged Element.Enum) (flat_map enum_setting items.now)) }
 {
     let mut settings = Vec::new(alloc);
     for item in items {
@@ -80,7 +84,8 @@ pub(crate) fn service_settings<'s>(
     alloc: Global,
     items: &[ServiceItem<'s>],
 ) -> Result<Vec<Judged<'s>>, AllocError>
-    ensures { IfOk result (λ settings. settings.items ≡ map (judged Element.Service) (flat_map service_setting items.now)) }
+    ensures { IfOk result (λ settings. settings.items
+        ≡ map (judged Element.Service) (flat_map service_setting items.now)) }
 {
     let mut settings = Vec::new(alloc);
     for item in items {
@@ -96,7 +101,8 @@ pub(crate) fn method_settings<'s>(
     alloc: Global,
     items: &[RpcItem<'s>],
 ) -> Result<Vec<Judged<'s>>, AllocError>
-    ensures { IfOk result (λ settings. settings.items ≡ map (judged Element.Method) (flat_map rpc_setting items.now)) }
+    ensures { IfOk result (λ settings. settings.items
+        ≡ map (judged Element.Method) (flat_map rpc_setting items.now)) }
 {
     let mut settings = Vec::new(alloc);
     for item in items {
@@ -113,7 +119,8 @@ pub(crate) fn bracketed_settings<'s>(
     element: Element,
     options: &Option<Options<'s>>,
 ) -> Result<Vec<Judged<'s>>, AllocError>
-    ensures { IfOk result (λ settings. settings.items ≡ map (judged element) (bracketed options.now)) }
+    ensures { IfOk result (λ settings. settings.items
+        ≡ map (judged element) (bracketed options.now)) }
 {
     let mut settings = Vec::new(alloc);
     let Some(list) = options else {

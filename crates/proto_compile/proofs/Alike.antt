@@ -34,7 +34,8 @@ abbrev counted : (List ℕ → ℕ) → Occurrence → ℕ
 counted f o = cond (is_service_kind o.kind) (f o.name) 0
 
 counted_step : (f : List ℕ → ℕ) (o : Occurrence) (os : List Occurrence) (b : Bool) → sum_by f (services_of os) ≡ sum_by (counted f) os
-    → sum_by f (map name_of (cond b (o ∷ filter (λ p. is_service_kind p.kind) os) (filter (λ p. is_service_kind p.kind) os))) ≡ cond b (f o.name) 0 + sum_by (counted f) os
+    → sum_by f (map name_of (cond b (o ∷ filter (λ p. is_service_kind p.kind) os) (filter (λ p. is_service_kind p.kind) os)))
+    ≡ cond b (f o.name) 0 + sum_by (counted f) os
 counted_step f o os true rest = sum_by-cons f o.name (services_of os) ∙ ap (λ n. f o.name + n) rest
 counted_step f o os false rest = let more : sum_by (counted f) os ≡ 0 + sum_by (counted f) os = omega arith in rest ∙ more
 
@@ -56,7 +57,8 @@ names_rise names up k d h =
     not_greater (slice_cmp nat_cmp (get_or names k d) (get_or names (k + 1) d)) (slice_cmp nat_cmp (get_or names (k + 1) d) (get_or names k d))
     (nat_list_cmp_total.antisymm (get_or names k d) (get_or names (k + 1) d)) (up k d (omega arith) h)
 
-one_services : (descs : List FileDesc) (limits : Limits) (index other : Index) → Indexes descs limits index → Indexes descs limits other → index.services ≡ other.services
+one_services : (descs : List FileDesc) (limits : Limits) (index other : Index) → Indexes descs limits index → Indexes descs limits other
+    → index.services ≡ other.services
 one_services descs limits index other first second =
     first.sound.services
     ∙ one_sorted (services_of index.occurrences) (services_of other.occurrences)
@@ -96,7 +98,8 @@ one_bool false false to back = refl
 
 has_alike : (g : ℕ) (xs ys : List ℕ) → (Contains xs g → Contains ys g) → (Contains ys g → Contains xs g) → has g xs ≡ has g ys
 has_alike g xs ys to back =
-    one_bool (has g xs) (has g ys) (λ h. let w = to (of_has g xs h) in has_at g ys w.0 g w.1 w.2) (λ h. let w = back (of_has g ys h) in has_at g xs w.0 g w.1 w.2)
+    one_bool (has g xs) (has g ys) (λ h. let w = to (of_has g xs h) in has_at g ys w.0 g w.1 w.2) (λ h. let w = back (of_has g ys h) in
+    has_at g xs w.0 g w.1 w.2)
 
 filter_alike : (p q : ℕ → Bool) (xs : List ℕ) → ((x : ℕ) → p x ≡ q x) → filter p xs ≡ filter q xs
 filter_alike p q [] same = refl
@@ -109,14 +112,16 @@ one_reach descs links others first second order a below =
     let count = first.count in let other_count = second.count in
     (whole_of descs links first).part a (omega (arith, below, count))
     ∙ filter_alike (λ b. has b (reach_of links a)) (λ b. has b (reach_of others a)) links.set_order
-    (λ b. has_alike b (reach_of links a) (reach_of others a) (λ w. (theirs.members b).1 ((mine.members b).0 w)) (λ w. (mine.members b).1 ((theirs.members b).0 w)))
+    (λ b. has_alike b (reach_of links a) (reach_of others a) (λ w. (theirs.members b).1 ((mine.members b).0 w))
+    (λ w. (mine.members b).1 ((theirs.members b).0 w)))
     ∙ ap (filter (λ b. has b (reach_of others a))) order
     ∙ sym ((whole_of descs others second).part a (omega (arith, below, other_count)))
 
 -- ---- compilations
 
 -- as many files as descriptors
-pub described_count : (limits : Limits) (sources : List Source) (c : Compilation) (w : IsCompiled limits sources c) → length c.files ≡ length w.written.resolved.descs
+pub described_count : (limits : Limits) (sources : List Source) (c : Compilation) (w : IsCompiled limits sources c)
+    → length c.files ≡ length w.written.resolved.descs
 described_count limits sources c w =
     let written = w.written in
     let names = ap (λ (l : List (List ℕ)). length l) written.names in
@@ -128,14 +133,18 @@ pub alike : (limits : Limits) (sources : List Source) (c d : Compilation) → Is
 alike limits sources c d first second =
     let one = one_written limits sources c d first.written second.written in
     let mine = first.written.resolved in let theirs = second.written.resolved in
-    let same = one_description limits sources first.written.sorted second.written.sorted mine.descs theirs.descs mine.analysed.described theirs.analysed.described in
+    let same =
+    one_description limits sources first.written.sorted second.written.sorted mine.descs theirs.descs mine.analysed.described theirs.analysed.described in
     let moved = analysed_moved limits sources first.written.sorted second.written.sorted mine.descs theirs.descs d.links d.index same theirs.analysed in
     let count = described_count limits sources c first in
     record {
       files = one.0;
       set_order = one.1;
       reach = λ a below. one_reach mine.descs c.links d.links mine.analysed.linked moved.linked one.1 a (omega (arith, below, count));
-      occurrences = λ o. (same_members mine.descs limits c.index d.index mine.analysed.indexed moved.indexed o, same_members mine.descs limits d.index c.index moved.indexed mine.analysed.indexed o);
+      occurrences = λ o. (
+        same_members mine.descs limits c.index d.index mine.analysed.indexed moved.indexed o,
+        same_members mine.descs limits d.index c.index moved.indexed mine.analysed.indexed o,
+      );
       services = one_services mine.descs limits c.index d.index mine.analysed.indexed moved.indexed;
       limits = first.written.same_limits ∙ sym second.written.same_limits;
     }

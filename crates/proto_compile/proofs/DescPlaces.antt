@@ -36,11 +36,13 @@ ServiceAt n s = AtMost n (service_places s)
 service_declares : (n : ℕ) (scope : List ℕ) (s : ServiceDesc) → ServiceAt n s → AllByRecursion (DeclaredAt n) (declared_by_service scope s)
 service_declares n scope s at = (
   at.0,
-  each_map (DeclaredAt n) (declared_method (scoped scope s.name)) s.methods (each_weaker (MethodAt n) (λ (m : MethodDesc). Placed n m.place) s.methods (λ m w. w.0) (each_places n method_places s.methods at.1)),
+  each_map (DeclaredAt n) (declared_method (scoped scope s.name)) s.methods
+      (each_weaker (MethodAt n) (λ (m : MethodDesc). Placed n m.place) s.methods (λ m w. w.0) (each_places n method_places s.methods at.1)),
 )
 
 service_refers : (n : ℕ) (scope : List ℕ) (s : ServiceDesc) → ServiceAt n s → AllByRecursion (ReferenceAt n) (references_of_service scope s)
-service_refers n scope s at = given (MethodAt n) (ReferenceAt n) (references_of_method (scoped scope s.name)) s.methods (method_at n (scoped scope s.name)) (each_places n method_places s.methods at.1)
+service_refers n scope s at = given (MethodAt n) (ReferenceAt n) (references_of_method (scoped scope s.name)) s.methods (method_at n (scoped scope s.name))
+    (each_places n method_places s.methods at.1)
 
 -- ---- files
 
@@ -54,15 +56,20 @@ record FileAt (n : ℕ) (d : FileDesc) : Type 0 where
 
 file_at : (n : ℕ) (d : FileDesc) → AtMost n (places_of d) → FileAt n d
 file_at n d at =
-    let upto_enums = front (λ p. p ≤ n) (package_places d.«package» ++ map import_place d.imports ++ flat_map message_places d.messages ++ flat_map enum_places d.enums) (flat_map service_places d.services) at in
-    let upto_messages = front (λ p. p ≤ n) (package_places d.«package» ++ map import_place d.imports ++ flat_map message_places d.messages) (flat_map enum_places d.enums) upto_enums in
+    let upto_enums = front (λ p. p ≤ n) (package_places d.«package» ++ map import_place d.imports ++ flat_map message_places d.messages
+    ++ flat_map enum_places d.enums) (flat_map service_places d.services) at in
+    let upto_messages = front (λ p. p ≤ n) (package_places d.«package» ++ map import_place d.imports ++ flat_map message_places d.messages)
+    (flat_map enum_places d.enums) upto_enums in
     let upto_imports = front (λ p. p ≤ n) (package_places d.«package» ++ map import_place d.imports) (flat_map message_places d.messages) upto_messages in
     record {
       package_at = front (λ p. p ≤ n) (package_places d.«package») (map import_place d.imports) upto_imports;
       imports = rest (λ p. p ≤ n) (package_places d.«package») (map import_place d.imports) upto_imports;
       messages = rest (λ p. p ≤ n) (package_places d.«package» ++ map import_place d.imports) (flat_map message_places d.messages) upto_messages;
-      enums = each_places n enum_places d.enums (rest (λ p. p ≤ n) (package_places d.«package» ++ map import_place d.imports ++ flat_map message_places d.messages) (flat_map enum_places d.enums) upto_enums);
-      services = each_places n service_places d.services (rest (λ p. p ≤ n) (package_places d.«package» ++ map import_place d.imports ++ flat_map message_places d.messages ++ flat_map enum_places d.enums) (flat_map service_places d.services) at);
+      enums = each_places n enum_places d.enums (rest (λ p. p ≤ n)
+          (package_places d.«package» ++ map import_place d.imports ++ flat_map message_places d.messages) (flat_map enum_places d.enums) upto_enums);
+      services = each_places n service_places d.services (rest (λ p. p ≤ n)
+          (package_places d.«package» ++ map import_place d.imports ++ flat_map message_places d.messages ++ flat_map enum_places d.enums)
+          (flat_map service_places d.services) at);
     }
 
 pub imports_at : (n : ℕ) (d : FileDesc) → AtMost n (places_of d) → AllByRecursion (λ (i : ImportDesc). Placed n i.place) d.imports
@@ -89,10 +96,13 @@ OccurrenceAt n file o = (o.file ≡ file) × Placed n o.place
 
 package_occurrences_at : (n file : ℕ) (p : Option PackageDesc) → AtMost n (package_places p) → AllByRecursion (OccurrenceAt n file) (package_occurrences file p)
 package_occurrences_at n file None at = tt
-package_occurrences_at n file (Some p) at = each_map (OccurrenceAt n file) (package_occurrence file p.place) (fronts p.name) (each_of (λ name. OccurrenceAt n file (package_occurrence file p.place name)) (λ name. (refl, at.0)) (fronts p.name))
+package_occurrences_at n file (Some p) at = each_map (OccurrenceAt n file) (package_occurrence file p.place) (fronts p.name)
+    (each_of (λ name. OccurrenceAt n file (package_occurrence file p.place name)) (λ name. (refl, at.0)) (fronts p.name))
 
 pub occurrences_at : (n file : ℕ) (d : FileDesc) → AtMost n (places_of d) → AllByRecursion (OccurrenceAt n file) (occurrences_of file d)
 occurrences_at n file d at =
     let own = file_at n d at in
-    both (OccurrenceAt n file) (package_occurrences file d.«package») (map (declared_occurrence file) (declared_by d)) (package_occurrences_at n file d.«package» own.package_at)
-    (each_map (OccurrenceAt n file) (declared_occurrence file) (declared_by d) (each_weaker (DeclaredAt n) (λ e. OccurrenceAt n file (declared_occurrence file e)) (declared_by d) (λ e w. (refl, w)) (declared_at n d own)))
+    both (OccurrenceAt n file) (package_occurrences file d.«package») (map (declared_occurrence file) (declared_by d))
+    (package_occurrences_at n file d.«package» own.package_at)
+    (each_map (OccurrenceAt n file) (declared_occurrence file) (declared_by d)
+    (each_weaker (DeclaredAt n) (λ e. OccurrenceAt n file (declared_occurrence file e)) (declared_by d) (λ e w. (refl, w)) (declared_at n d own)))

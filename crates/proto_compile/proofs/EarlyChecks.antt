@@ -76,28 +76,36 @@ pub record FindsLocal (limits : Limits) (sources : List Source) (x : Told) : Typ
   pub is : x ≡ told 1 (name_of source) step place what
 
 abbrev pub local_check : Limits → List Source → Check
-local_check limits sources = record { Finds = FindsLocal limits sources; passes = (files : List Source) × (descs : List FileDesc) × Describe limits sources files descs }
+local_check limits sources =
+    record { Finds = FindsLocal limits sources; passes = (files : List Source) × (descs : List FileDesc) × Describe limits sources files descs }
 
 -- a source with a fault is none of those that describe something
-no_fault_in : (limits : Limits) (files : List Source) (descs : List FileDesc) (k : ℕ) (s : Source) (step : ℕ) (place : Place) (what : Kind) → AllZip (SourceDescribes limits) files descs → Stands files k s
+no_fault_in : (limits : Limits) (files : List Source) (descs : List FileDesc) (k : ℕ) (s : Source) (step : ℕ) (place : Place) (what : Kind)
+    → AllZip (SourceDescribes limits) files descs → Stands files k s
     → IsLocalFault limits (name_of s) (text_of s) step place what → ⊥
 no_fault_in limits files descs k s step place what all stands fault =
     let described = zipped_at (SourceDescribes limits) files descs k s all stands.0 stands.1 in
     no_local limits (name_of s) (text_of s) described.0 step place what described.1 fault
 
-no_earlier : (limits : Limits) (sources : List Source) (x y : Told) (f : FindsLocal limits sources x) (g : FindsLocal limits sources y) → f.files ≡ g.files → f.at < g.at → ⊥
+no_earlier : (limits : Limits) (sources : List Source) (x y : Told) (f : FindsLocal limits sources x) (g : FindsLocal limits sources y) → f.files ≡ g.files
+    → f.at < g.at → ⊥
 no_earlier limits sources x y f g same less =
     let within = standing_in f.files f.at g.at f.source less f.stands.0 f.stands.1 in
-    let before : AllZip (SourceDescribes limits) (take g.at f.files) g.descs = subst (λ (xs : List Source). AllZip (SourceDescribes limits) (take g.at xs) g.descs) (sym same) g.before in
+    let before : AllZip (SourceDescribes limits) (take g.at f.files) g.descs =
+    subst (λ (xs : List Source). AllZip (SourceDescribes limits) (take g.at xs) g.descs) (sym same) g.before in
     no_fault_in limits (take g.at f.files) g.descs f.at f.source f.step f.place f.what before within f.fault
 
-same_source : (limits : Limits) (sources : List Source) (x y : Told) (f : FindsLocal limits sources x) (g : FindsLocal limits sources y) → f.files ≡ g.files → f.at ≡ g.at → x ≡ y
+same_source : (limits : Limits) (sources : List Source) (x y : Told) (f : FindsLocal limits sources x) (g : FindsLocal limits sources y) → f.files ≡ g.files
+    → f.at ≡ g.at → x ≡ y
 same_source limits sources x y f g same at =
-    let here : Stands f.files f.at g.source = subst (λ (xs : List Source). Stands xs f.at g.source) (sym same) (subst (λ k. Stands g.files k g.source) (sym at) g.stands) in
+    let here : Stands f.files f.at g.source =
+    subst (λ (xs : List Source). Stands xs f.at g.source) (sym same) (subst (λ k. Stands g.files k g.source) (sym at) g.stands) in
     let source : g.source ≡ f.source = standing_one f.files f.at g.source f.source f.stands.0 here.1 f.stands.1 in
-    let fault : IsLocalFault limits (name_of f.source) (text_of f.source) g.step g.place g.what = subst (λ (s : Source). IsLocalFault limits (name_of s) (text_of s) g.step g.place g.what) source g.fault in
+    let fault : IsLocalFault limits (name_of f.source) (text_of f.source) g.step g.place g.what =
+    subst (λ (s : Source). IsLocalFault limits (name_of s) (text_of s) g.step g.place g.what) source g.fault in
     let one = one_local limits (name_of f.source) (text_of f.source) f.step g.step f.place g.place f.what g.what f.fault fault in
-    f.is ∙ same_told 1 1 f.step g.step (name_of f.source) (name_of g.source) f.place g.place f.what g.what refl (ap name_of (sym source)) one.0 one.1 one.2 ∙ sym g.is
+    f.is ∙ same_told 1 1 f.step g.step (name_of f.source) (name_of g.source) f.place g.place f.what g.what refl (ap name_of (sym source)) one.0 one.1 one.2
+    ∙ sym g.is
 
 pub local_exact : (limits : Limits) (sources : List Source) → IsExact (local_check limits sources)
 local_exact limits sources = record {
@@ -110,7 +118,8 @@ local_exact limits sources = record {
       ]);
   never = λ x f pass. (
       let same = one_order sources f.files pass.0 f.by_name pass.2.by_name in
-      let all : AllZip (SourceDescribes limits) f.files pass.1 = subst (λ (xs : List Source). AllZip (SourceDescribes limits) xs pass.1) (sym same) pass.2.each in
+      let all : AllZip (SourceDescribes limits) f.files pass.1 =
+      subst (λ (xs : List Source). AllZip (SourceDescribes limits) xs pass.1) (sym same) pass.2.each in
       no_fault_in limits f.files pass.1 f.at f.source f.step f.place f.what all f.stands f.fault);
 }
 
@@ -127,7 +136,11 @@ pub record FindsImport (limits : Limits) (sources : List Source) (x : Told) : Ty
   pub is : x ≡ told 2 (imports.name_at descs at) 0 place what
 
 abbrev pub import_check : Limits → List Source → Check
-import_check limits sources = record { Finds = FindsImport limits sources; passes = (files : List Source) × (descs : List FileDesc) × Describe limits sources files descs × imports.NoneBad descs }
+import_check limits sources = record {
+  Finds = FindsImport limits sources;
+  passes =
+      (files : List Source) × (descs : List FileDesc) × Describe limits sources files descs × imports.NoneBad descs;
+}
 
 pub import_exact : (limits : Limits) (sources : List Source) → IsExact (import_check limits sources)
 import_exact limits sources = record {
@@ -135,8 +148,10 @@ import_exact limits sources = record {
       let same : f.descs ≡ g.descs = (one_description limits sources f.files g.files f.descs g.descs f.described g.described).1 in
       let bad : imports.IsFirstBad f.descs g.at g.place g.what = subst (λ (ds : List FileDesc). imports.IsFirstBad ds g.at g.place g.what) (sym same) g.bad in
       let one = one_bad f.descs f.at g.at f.place g.place f.what g.what f.bad bad in
-      let name : imports.name_at f.descs f.at ≡ imports.name_at g.descs g.at = ap (imports.name_at f.descs) one.0 ∙ ap (λ (ds : List FileDesc). imports.name_at ds g.at) same in
-      f.is ∙ same_told 2 2 0 0 (imports.name_at f.descs f.at) (imports.name_at g.descs g.at) f.place g.place f.what g.what refl name refl one.1 one.2 ∙ sym g.is);
+      let name : imports.name_at f.descs f.at ≡ imports.name_at g.descs g.at =
+      ap (imports.name_at f.descs) one.0 ∙ ap (λ (ds : List FileDesc). imports.name_at ds g.at) same in
+      f.is ∙ same_told 2 2 0 0 (imports.name_at f.descs f.at) (imports.name_at g.descs g.at) f.place g.place f.what g.what refl name refl one.1 one.2
+      ∙ sym g.is);
   never = λ x f pass. (
       let same : pass.1 ≡ f.descs = (one_description limits sources pass.0 f.files pass.1 f.descs pass.2 f.described).1 in
       let none : imports.NoneBad f.descs = subst imports.NoneBad same pass.3 in

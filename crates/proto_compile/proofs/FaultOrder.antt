@@ -68,20 +68,26 @@ nat_at_most m n h = elim (cases_order m n) [
 
 -- ---- which faults come no later
 
-pub later_in_name : (pass : ℕ) (f g : List ℕ) (s t : ℕ) (x y : Place) (k l : Kind) → slice_cmp nat_cmp f g ≡ Less → IsNoLater (found_as pass f s x k) (found_as pass g t y l)
+pub later_in_name : (pass : ℕ) (f g : List ℕ) (s t : ℕ) (x y : Place) (k l : Kind) → slice_cmp nat_cmp f g ≡ Less
+    → IsNoLater (found_as pass f s x k) (found_as pass g t y l)
 later_in_name pass f g s t x y k l less = then_not (nat_cmp pass pass) _ (same_nat pass) (then_less (slice_cmp nat_cmp f g) _ less)
 
-pub later_or_same_name : (pass : ℕ) (f g : List ℕ) (s : ℕ) (x : Place) (k : Kind) → slice_cmp nat_cmp f g ≢ Greater → IsNoLater (found_as pass f s x k) (found_as pass g s x k)
+pub later_or_same_name : (pass : ℕ) (f g : List ℕ) (s : ℕ) (x : Place) (k : Kind) → slice_cmp nat_cmp f g ≢ Greater
+    → IsNoLater (found_as pass f s x k) (found_as pass g s x k)
 later_or_same_name pass f g s x k order =
     then_not (nat_cmp pass pass) _ (same_nat pass)
-    (then_not (slice_cmp nat_cmp f g) _ order (then_not (nat_cmp s s) _ (same_nat s) (then_not (nat_cmp x.offset x.offset) _ (same_nat x.offset) (same_nat (number_of k)))))
+    (then_not (slice_cmp nat_cmp f g) _ order (then_not (nat_cmp s s) _ (same_nat s)
+    (then_not (nat_cmp x.offset x.offset) _ (same_nat x.offset) (same_nat (number_of k)))))
 
 spots : (x y : Place) (k l : Kind) → AtMost (spot x k) (spot y l) → ordering_then (nat_cmp x.offset y.offset) (nat_cmp (number_of k) (number_of l)) ≢ Greater
 spots x y k l (inl before) = then_less (nat_cmp x.offset y.offset) _ (nat_less x.offset y.offset before)
-spots x y k l (inr (same, most)) = then_not (nat_cmp x.offset y.offset) _ (nat_at_most x.offset y.offset (omega (arith, same))) (nat_at_most (number_of k) (number_of l) most)
+spots x y k l (inr (same, most)) =
+    then_not (nat_cmp x.offset y.offset) _ (nat_at_most x.offset y.offset (omega (arith, same))) (nat_at_most (number_of k) (number_of l) most)
 
-pub later_spot : (pass : ℕ) (f : List ℕ) (s : ℕ) (x y : Place) (k l : Kind) → AtMost (spot x k) (spot y l) → IsNoLater (found_as pass f s x k) (found_as pass f s y l)
-later_spot pass f s x y k l most = then_not (nat_cmp pass pass) _ (same_nat pass) (then_not (slice_cmp nat_cmp f f) _ (same_file f) (then_not (nat_cmp s s) _ (same_nat s) (spots x y k l most)))
+pub later_spot : (pass : ℕ) (f : List ℕ) (s : ℕ) (x y : Place) (k l : Kind) → AtMost (spot x k) (spot y l)
+    → IsNoLater (found_as pass f s x k) (found_as pass f s y l)
+later_spot pass f s x y k l most = then_not (nat_cmp pass pass) _ (same_nat pass)
+    (then_not (slice_cmp nat_cmp f f) _ (same_file f) (then_not (nat_cmp s s) _ (same_nat s) (spots x y k l most)))
 
 pub same_later : (x y : Told) → x ≡ y → NoLater x y
 same_later x y e = subst (NoLater x) e (later_or_same_name x.pass x.file x.file x.step x.place x.kind (same_file x.file))
@@ -98,11 +104,18 @@ tied_last Less b e h k = absurd (k e)
 tied_last Equal b e h k = refl
 tied_last Greater b e h k = absurd (h refl)
 
-pub one_fault : (p q : ℕ) (f g : List ℕ) (s t : ℕ) (x y : Place) (k l : Kind) → IsNoLater (found_as p f s x k) (found_as q g t y l) → IsNoLater (found_as q g t y l) (found_as p f s x k) → (p ≡ q) × (f ≡ g) × (s ≡ t) × (x ≡ y) × (k ≡ l)
+pub one_fault : (p q : ℕ) (f g : List ℕ) (s t : ℕ) (x y : Place) (k l : Kind) → IsNoLater (found_as p f s x k) (found_as q g t y l)
+    → IsNoLater (found_as q g t y l) (found_as p f s x k) → (p ≡ q) × (f ≡ g) × (s ≡ t) × (x ≡ y) × (k ≡ l)
 one_fault p q f g s t x y k l h i =
     let pass = tied (nat_cmp p q) (nat_cmp q p) _ _ (nat_cmp_total.antisymm q p) h i in
     let file = tied (slice_cmp nat_cmp f g) (slice_cmp nat_cmp g f) _ _ (nat_list_cmp_total.antisymm g f) pass.1 pass.2 in
     let step = tied (nat_cmp s t) (nat_cmp t s) _ _ (nat_cmp_total.antisymm t s) file.1 file.2 in
     let place = tied (nat_cmp x.offset y.offset) (nat_cmp y.offset x.offset) _ _ (nat_cmp_total.antisymm y.offset x.offset) step.1 step.2 in
-    let number = tied_last (nat_cmp (number_of k) (number_of l)) (nat_cmp (number_of l) (number_of k)) (nat_cmp_total.antisymm (number_of l) (number_of k)) place.1 place.2 in
-    (nat_exact p q pass.0, exact_bytes f g file.0, nat_exact s t step.0, same_place x y (nat_exact x.offset y.offset place.0), same_kind k l (nat_exact (number_of k) (number_of l) number))
+    let number = tied_last (nat_cmp (number_of k) (number_of l)) (nat_cmp (number_of l) (number_of k)) (nat_cmp_total.antisymm (number_of l) (number_of k))
+    place.1 place.2 in (
+      nat_exact p q pass.0,
+      exact_bytes f g file.0,
+      nat_exact s t step.0,
+      same_place x y (nat_exact x.offset y.offset place.0),
+      same_kind k l (nat_exact (number_of k) (number_of l) number),
+    )

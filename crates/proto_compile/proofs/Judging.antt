@@ -21,7 +21,8 @@ zip_length R a (x ∷ xs) [] all = absurd all
 zip_length R a (x ∷ xs) (y ∷ ys) all = ap suc (zip_length R (a + 1) xs ys all.1)
 
 -- one more of each
-pub zip_from_end : {X Y : Type 0} (R : ℕ → X → Y → Type 0) (a : ℕ) (xs : List X) (ys : List Y) (x : X) (y : Y) → AllZipFrom R a xs ys → R (a + length xs) x y → AllZipFrom R a (xs ++ x ∷ []) (ys ++ y ∷ [])
+pub zip_from_end : {X Y : Type 0} (R : ℕ → X → Y → Type 0) (a : ℕ) (xs : List X) (ys : List Y) (x : X) (y : Y) → AllZipFrom R a xs ys → R (a + length xs) x y
+    → AllZipFrom R a (xs ++ x ∷ []) (ys ++ y ∷ [])
 zip_from_end R a [] [] x y all last = let at : a + 0 ≡ a = omega arith in (subst (λ k. R k x y) at last, tt)
 zip_from_end R a [] (h ∷ ys) x y all last = absurd all
 zip_from_end R a (e ∷ xs) [] x y all last = absurd all
@@ -38,20 +39,24 @@ zip_take R a (suc k) (x ∷ xs) [] all = absurd all
 zip_take R a (suc k) (x ∷ xs) (y ∷ ys) all = (all.0, zip_take R (a + 1) k xs ys all.1)
 
 -- what stands at one position in both
-pub zip_at : {X Y : Type 0} (R : ℕ → X → Y → Type 0) (a k : ℕ) (xs : List X) (ys : List Y) (x : X) (y : Y) → k < length xs → AllZipFrom R a xs ys → R (a + k) (get_or xs k x) (get_or ys k y)
+pub zip_at : {X Y : Type 0} (R : ℕ → X → Y → Type 0) (a k : ℕ) (xs : List X) (ys : List Y) (x : X) (y : Y) → k < length xs → AllZipFrom R a xs ys
+    → R (a + k) (get_or xs k x) (get_or ys k y)
 zip_at R a k [] ys x y h all = absurd (omega (arith, h))
 zip_at R a k (e ∷ xs) [] x y h all = absurd all
 zip_at R a zero (e ∷ xs) (f ∷ ys) x y h all = let at : a ≡ a + 0 = omega arith in subst (λ k. R k e f) at all.0
-zip_at R a (suc k) (e ∷ xs) (f ∷ ys) x y h all = let at : a + 1 + k ≡ a + suc k = omega arith in subst (λ j. R j (get_or xs k x) (get_or ys k y)) at (zip_at R (a + 1) k xs ys x y (omega (arith, h)) all.1)
+zip_at R a (suc k) (e ∷ xs) (f ∷ ys) x y h all =
+    let at : a + 1 + k ≡ a + suc k = omega arith in subst (λ j. R j (get_or xs k x) (get_or ys k y)) at (zip_at R (a + 1) k xs ys x y (omega (arith, h)) all.1)
 
 -- where no outcome is a fault
-pub zip_well : {X Y E : Type 0} (R : ℕ → X → Result Y E → Type 0) (a : ℕ) (xs : List X) (ys : List Y) → AllZipFrom R a xs (map Ok ys) → AllZipFrom (λ k x y. R k x (Ok y)) a xs ys
+pub zip_well : {X Y E : Type 0} (R : ℕ → X → Result Y E → Type 0) (a : ℕ) (xs : List X) (ys : List Y) → AllZipFrom R a xs (map Ok ys)
+    → AllZipFrom (λ k x y. R k x (Ok y)) a xs ys
 zip_well R a [] [] all = tt
 zip_well R a [] (y ∷ ys) all = absurd all
 zip_well R a (x ∷ xs) [] all = absurd all
 zip_well R a (x ∷ xs) (y ∷ ys) all = (all.0, zip_well R (a + 1) xs ys all.1)
 
-pub zip_weaker : {X Y : Type 0} (R S : ℕ → X → Y → Type 0) (a : ℕ) (xs : List X) (ys : List Y) → ((k : ℕ) (x : X) (y : Y) → R k x y → S k x y) → AllZipFrom R a xs ys → AllZipFrom S a xs ys
+pub zip_weaker : {X Y : Type 0} (R S : ℕ → X → Y → Type 0) (a : ℕ) (xs : List X) (ys : List Y) → ((k : ℕ) (x : X) (y : Y) → R k x y → S k x y)
+    → AllZipFrom R a xs ys → AllZipFrom S a xs ys
 zip_weaker R S a [] [] h all = tt
 zip_weaker R S a [] (y ∷ ys) h all = absurd all
 zip_weaker R S a (x ∷ xs) [] h all = absurd all
@@ -81,32 +86,39 @@ zip_of_gives R a (x ∷ xs) (y ∷ ys) gives =
 pub gives_of_zip : {X Y : Type 0} (R : X → Y → Type 0) (first : ℕ) (xs : List X) (ys : List Y) → AllZipFrom (λ k. R) 0 xs ys → GivesItems (λ k. R) first xs ys
 gives_of_zip R first xs ys all = (
   sym (zip_length (λ k. R) 0 xs ys all),
-  λ i x y item out. subst (R x) (get_or_from_slice_get ys i y y out) (subst (λ z. R z (get_or ys i y)) (get_or_from_slice_get xs i x x item) (zip_at (λ k. R) 0 i xs ys x y (slice_get_within xs i x item) all)),
+  λ i x y item out. subst (R x) (get_or_from_slice_get ys i y y out)
+      (subst (λ z. R z (get_or ys i y)) (get_or_from_slice_get xs i x x item) (zip_at (λ k. R) 0 i xs ys x y (slice_get_within xs i x item) all)),
 )
 
 -- what is so related at each position is given
 pub gives_of_zip_from : {X Y : Type 0} (R : ℕ → X → Y → Type 0) (first : ℕ) (xs : List X) (ys : List Y) → AllZipFrom R first xs ys → GivesItems R first xs ys
 gives_of_zip_from R first xs ys all = (
   sym (zip_length R first xs ys all),
-  λ i x y item out. subst (R (first + i) x) (get_or_from_slice_get ys i y y out) (subst (λ z. R (first + i) z (get_or ys i y)) (get_or_from_slice_get xs i x x item) (zip_at R first i xs ys x y (slice_get_within xs i x item) all)),
+  λ i x y item out. subst (R (first + i) x) (get_or_from_slice_get ys i y y out)
+      (subst (λ z. R (first + i) z (get_or ys i y)) (get_or_from_slice_get xs i x x item) (zip_at R first i xs ys x y (slice_get_within xs i x item) all)),
 )
 
 -- one more of each, the first of which stands at a
-pub zip_more_from : {X Y : Type 0} (R : ℕ → X → Y → Type 0) (a : ℕ) (xs : List X) (k : ℕ) (x : X) (ys : List Y) (y : Y) → k < length xs → x ≡ get_or xs k x → AllZipFrom R a (take k xs) ys → R (a + k) x y
+pub zip_more_from : {X Y : Type 0} (R : ℕ → X → Y → Type 0) (a : ℕ) (xs : List X) (k : ℕ) (x : X) (ys : List Y) (y : Y) → k < length xs → x ≡ get_or xs k x
+    → AllZipFrom R a (take k xs) ys → R (a + k) x y
     → AllZipFrom R a (take (k + 1) xs) (ys ++ y ∷ [])
 zip_more_from R a xs k x ys y h is all last =
     let at : a + k ≡ a + length (take k xs) = omega (arith, length-take k xs, h) in
-    rw (take_more xs k x h) (subst (λ z. AllZipFrom R a (take k xs ++ z ∷ []) (ys ++ y ∷ [])) is (zip_from_end R a (take k xs) ys x y all (subst (λ j. R j x y) at last)))
+    rw (take_more xs k x h) (subst (λ z. AllZipFrom R a (take k xs ++ z ∷ []) (ys ++ y ∷ [])) is
+    (zip_from_end R a (take k xs) ys x y all (subst (λ j. R j x y) at last)))
 
 -- one more of each, where k of them are so related
-pub zip_from_next : {X Y : Type 0} (R : ℕ → X → Y → Type 0) (xs : List X) (k : ℕ) (x : X) (ys : List Y) (y : Y) → k < length xs → x ≡ get_or xs k x → AllZipFrom R 0 (take k xs) ys → R k x y
+pub zip_from_next : {X Y : Type 0} (R : ℕ → X → Y → Type 0) (xs : List X) (k : ℕ) (x : X) (ys : List Y) (y : Y) → k < length xs → x ≡ get_or xs k x
+    → AllZipFrom R 0 (take k xs) ys → R k x y
     → AllZipFrom R 0 (take (k + 1) xs) (ys ++ y ∷ [])
 zip_from_next R xs k x ys y h is all last =
     let at : k ≡ 0 + length (take k xs) = omega (arith, length-take k xs, h) in
-    rw (take_more xs k x h) (subst (λ z. AllZipFrom R 0 (take k xs ++ z ∷ []) (ys ++ y ∷ [])) is (zip_from_end R 0 (take k xs) ys x y all (subst (λ j. R j x y) at last)))
+    rw (take_more xs k x h) (subst (λ z. AllZipFrom R 0 (take k xs ++ z ∷ []) (ys ++ y ∷ [])) is
+    (zip_from_end R 0 (take k xs) ys x y all (subst (λ j. R j x y) at last)))
 
 -- the same, read with any default
-pub zip_from_at : {X Y : Type 0} (R : ℕ → X → Y → Type 0) (xs : List X) (k : ℕ) (d : X) (ys : List Y) (y : Y) → k < length xs → AllZipFrom R 0 (take k xs) ys → R k (get_or xs k d) y → AllZipFrom R 0 (take (k + 1) xs) (ys ++ y ∷ [])
+pub zip_from_at : {X Y : Type 0} (R : ℕ → X → Y → Type 0) (xs : List X) (k : ℕ) (d : X) (ys : List Y) (y : Y) → k < length xs → AllZipFrom R 0 (take k xs) ys
+    → R k (get_or xs k d) y → AllZipFrom R 0 (take (k + 1) xs) (ys ++ y ∷ [])
 zip_from_at R xs k d ys y h all last = zip_from_next R xs k (get_or xs k d) ys y h (get_or_default xs k d (get_or xs k d) h) all last
 
 -- ---- results
@@ -122,8 +134,10 @@ err_map P Q (Err e) h p = h e p
 -- ---- the first fault
 
 -- an error that names the fault of the file at k, before which no file has one
-pub told_first : {T : Type 0} (number : ℕ) (files : List Source) (outcomes : List (Result T FileError)) (k : ℕ) (ts : List T) (o : Result T FileError) (error : FileError) (e : CompileError)
-    → TellsOfFile number (name_at files k) error e → map Ok ts ≡ take k outcomes → k < length outcomes → o ≡ get_or outcomes k o → o ≡ Err error → TellsFirst number files outcomes e
+pub told_first : {T : Type 0} (number : ℕ) (files : List Source) (outcomes : List (Result T FileError)) (k : ℕ) (ts : List T) (o : Result T FileError)
+    (error : FileError) (e : CompileError)
+    → TellsOfFile number (name_at files k) error e → map Ok ts ≡ take k outcomes → k < length outcomes → o ≡ get_or outcomes k o → o ≡ Err error
+    → TellsFirst number files outcomes e
 told_first number files outcomes k ts o (fault.At step place kind) (errors.First f) t well below at is =
     let bad : get_or outcomes k (Err fault.NoMemory) ≡ Err (fault.At step place kind) = get_or_default outcomes k (Err fault.NoMemory) o below ∙ sym at ∙ is in
     (k, t.0, t.1, record { well = (ts, sym well); below = below; bad = rw (t.2, t.3, t.4) bad })
@@ -131,5 +145,7 @@ told_first number files outcomes k ts o (fault.At step place kind) errors.NoMemo
 told_first number files outcomes k ts o fault.NoMemory e t well below at is = rw t tt
 
 -- one more without a fault
-pub well_more : {T : Type 0} (ts : List T) (os : List (Result T FileError)) (x : T) (o : Result T FileError) → map Ok ts ≡ os → o ≡ Ok x → map Ok (ts ++ x ∷ []) ≡ os ++ o ∷ []
-well_more ts os x o so_far is = map-append Ok ts (x ∷ []) ∙ ap (λ (ps : List (Result _ FileError)). ps ++ Ok x ∷ []) so_far ∙ ap (λ (p : Result _ FileError). os ++ p ∷ []) (sym is)
+pub well_more : {T : Type 0} (ts : List T) (os : List (Result T FileError)) (x : T) (o : Result T FileError) → map Ok ts ≡ os → o ≡ Ok x
+    → map Ok (ts ++ x ∷ []) ≡ os ++ o ∷ []
+well_more ts os x o so_far is =
+    map-append Ok ts (x ∷ []) ∙ ap (λ (ps : List (Result _ FileError)). ps ++ Ok x ∷ []) so_far ∙ ap (λ (p : Result _ FileError). os ++ p ∷ []) (sym is)

@@ -38,7 +38,11 @@ pub record FindsMany (limits : Limits) (sources : List Source) (x : Told) : Type
   pub is : x ≡ told 3 [] 0 start kind.TooManyNames
 
 abbrev pub many_check : Limits → List Source → Check
-many_check limits sources = record { Finds = FindsMany limits sources; passes = (files : List Source) × (descs : List FileDesc) × Describe limits sources files descs × (length (occurrences descs) ≤ limit_of limits limit.Names) }
+many_check limits sources = record {
+  Finds = FindsMany limits sources;
+  passes =
+      (files : List Source) × (descs : List FileDesc) × Describe limits sources files descs × (length (occurrences descs) ≤ limit_of limits limit.Names);
+}
 
 pub many_exact : (limits : Limits) (sources : List Source) → IsExact (many_check limits sources)
 many_exact limits sources = record {
@@ -80,16 +84,22 @@ pub record FindsTwice (limits : Limits) (sources : List Source) (x : Told) : Typ
   pub is : x ≡ told 3 (imports.name_at descs at) 0 place kind.NameTwice
 
 abbrev pub twice_check : Limits → List Source → Check
-twice_check limits sources = record { Finds = FindsTwice limits sources; passes = (files : List Source) × (descs : List FileDesc) × Describe limits sources files descs × NoneTwice (occurrences descs) }
+twice_check limits sources = record {
+  Finds = FindsTwice limits sources;
+  passes =
+      (files : List Source) × (descs : List FileDesc) × Describe limits sources files descs × NoneTwice (occurrences descs);
+}
 
 pub twice_exact : (limits : Limits) (sources : List Source) → IsExact (twice_check limits sources)
 twice_exact limits sources = record {
   one = λ x y f g. (
       let same : f.descs ≡ g.descs = (one_description limits sources f.files g.files f.descs g.descs f.described g.described).1 in
-      let twice : IsFirstTwice (occurrences f.descs) g.at g.place = subst (λ (ds : List FileDesc). IsFirstTwice (occurrences ds) g.at g.place) (sym same) g.repeated.twice in
+      let twice : IsFirstTwice (occurrences f.descs) g.at g.place =
+      subst (λ (ds : List FileDesc). IsFirstTwice (occurrences ds) g.at g.place) (sym same) g.repeated.twice in
       let one = one_twice (occurrences f.descs) f.at g.at f.place g.place f.repeated.twice twice in
       let name = same_file_name f.descs g.descs f.at g.at same one.0 in
-      f.is ∙ same_told 3 3 0 0 (imports.name_at f.descs f.at) (imports.name_at g.descs g.at) f.place g.place kind.NameTwice kind.NameTwice refl name refl one.1 refl ∙ sym g.is);
+      f.is ∙ same_told 3 3 0 0 (imports.name_at f.descs f.at) (imports.name_at g.descs g.at) f.place g.place kind.NameTwice kind.NameTwice refl name refl one.1
+      refl ∙ sym g.is);
   never = λ x f pass. (
       let same : pass.1 ≡ f.descs = (one_description limits sources pass.0 f.files pass.1 f.descs pass.2 f.described).1 in
       let none : NoneTwice (occurrences f.descs) = subst (λ (ds : List FileDesc). NoneTwice (occurrences ds)) same pass.3 in
@@ -112,25 +122,32 @@ pub record FindsBreak (limits : Limits) (sources : List Source) (x : Told) : Typ
   pub is : x ≡ told 4 (imports.name_at descs at) 0 place what
 
 abbrev pub type_check : Limits → List Source → Check
-type_check limits sources = record { Finds = FindsBreak limits sources; passes = (files : List Source) × (typed : List FileDesc) × (links : Linked) × (index : Index) × AreResolved limits sources files typed links index }
+type_check limits sources = record {
+  Finds = FindsBreak limits sources;
+  passes =
+      (files : List Source) × (typed : List FileDesc) × (links : Linked) × (index : Index) × AreResolved limits sources files typed links index;
+}
 
 pub type_exact : (limits : Limits) (sources : List Source) → IsExact (type_check limits sources)
 type_exact limits sources = record {
   one = λ x y f g. (
       let same = one_description limits sources f.files g.files f.descs g.descs f.analysed.described g.analysed.described in
       let also = analysed_moved limits sources f.files g.files f.descs g.descs g.links g.index same g.analysed in
-      let first : IsFirstBreak f.descs g.links g.index g.at g.place g.what = subst (λ (ds : List FileDesc). IsFirstBreak ds g.links g.index g.at g.place g.what) (sym same.1) g.first in
+      let first : IsFirstBreak f.descs g.links g.index g.at g.place g.what =
+      subst (λ (ds : List FileDesc). IsFirstBreak ds g.links g.index g.at g.place g.what) (sym same.1) g.first in
       let alike = analysed_alike limits sources f.files f.files f.descs f.links g.links f.index g.index f.analysed also in
       let back = analysed_alike limits sources f.files f.files f.descs g.links f.links g.index f.index also f.analysed in
       let one = one_break f.descs f.links g.links f.index g.index alike back f.at g.at f.place g.place f.what g.what f.first first in
       let name = same_file_name f.descs g.descs f.at g.at same.1 one.0 in
-      f.is ∙ same_told 4 4 0 0 (imports.name_at f.descs f.at) (imports.name_at g.descs g.at) f.place g.place f.what g.what refl name refl one.1 one.2 ∙ sym g.is);
+      f.is ∙ same_told 4 4 0 0 (imports.name_at f.descs f.at) (imports.name_at g.descs g.at) f.place g.place f.what g.what refl name refl one.1 one.2
+      ∙ sym g.is);
   never = λ x f pass. (
       let r = pass.4 in
       let same = one_description limits sources f.files pass.0 f.descs r.descs f.analysed.described r.analysed.described in
       let also = analysed_moved limits sources f.files pass.0 f.descs r.descs pass.2 pass.3 same r.analysed in
       let typed : AreTypedFrom pass.2 pass.3 0 f.descs pass.1 = subst (λ (ds : List FileDesc). AreTypedFrom pass.2 pass.3 0 ds pass.1) (sym same.1) r.each in
-      none_break f.descs pass.1 f.links pass.2 f.index pass.3 (analysed_alike limits sources f.files f.files f.descs f.links pass.2 f.index pass.3 f.analysed also) f.at f.place f.what f.first typed);
+      none_break f.descs pass.1 f.links pass.2 f.index pass.3
+      (analysed_alike limits sources f.files f.files f.descs f.links pass.2 f.index pass.3 f.analysed also) f.at f.place f.what f.first typed);
 }
 
 -- ---- lengths
@@ -148,7 +165,8 @@ pub record FindsLong (limits : Limits) (sources : List Source) (x : Told) : Type
 abbrev pub length_check : Limits → List Source → Check
 length_check limits sources = record {
   Finds = FindsLong limits sources;
-  passes = (files : List Source) × (typed : List FileDesc) × (links : Linked) × (index : Index) × AreResolved limits sources files typed links index × All (IsShort limits) typed;
+  passes = (files : List Source) × (typed : List FileDesc) × (links : Linked) × (index : Index) × AreResolved limits sources files typed links index
+      × All (IsShort limits) typed;
 }
 
 pub length_exact : (limits : Limits) (sources : List Source) → IsExact (length_check limits sources)
@@ -170,13 +188,18 @@ pub record FindsLongSet (limits : Limits) (sources : List Source) (x : Told) : T
   pub is : x ≡ told 6 [] 0 start kind.SetTooLong
 
 abbrev pub set_check : Limits → List Source → Check
-set_check limits sources = record { Finds = FindsLongSet limits sources; passes = (c : Compilation) × IsWritten limits sources c × (length (set_of c.files c.links) ≤ limit_of limits limit.SetBytes) }
+set_check limits sources = record {
+  Finds = FindsLongSet limits sources;
+  passes =
+      (c : Compilation) × IsWritten limits sources c × (length (set_of c.files c.links) ≤ limit_of limits limit.SetBytes);
+}
 
 pub set_exact : (limits : Limits) (sources : List Source) → IsExact (set_check limits sources)
 set_exact limits sources = record {
   one = λ x y f g. f.is ∙ sym g.is;
   never = λ x f pass. (
-      let number : length (set_of f.compilation.files f.compilation.links) ≡ length (set_of pass.0.files pass.0.links) = ap length (one_set limits sources f.compilation pass.0 f.written pass.1) in
+      let number : length (set_of f.compilation.files f.compilation.links) ≡ length (set_of pass.0.files pass.0.links) =
+      ap length (one_set limits sources f.compilation pass.0 f.written pass.1) in
       let over = f.over in
       let few = pass.2 in
       omega (arith, over, few, number));

@@ -48,14 +48,17 @@ AnyOf (c ∷ cs) all x = all.0.Has x ⊎ (c.passes × AnyOf cs all.1 x)
 -- ---- names in their order
 
 -- of names that rise, any two
-pub rising : (name : ℕ → List ℕ) (n k m : ℕ) → ((j : ℕ) → j + 1 < n → slice_cmp nat_cmp (name j) (name (j + 1)) ≡ Less) → k + suc m < n → slice_cmp nat_cmp (name k) (name (k + suc m)) ≡ Less
+pub rising : (name : ℕ → List ℕ) (n k m : ℕ) → ((j : ℕ) → j + 1 < n → slice_cmp nat_cmp (name j) (name (j + 1)) ≡ Less) → k + suc m < n
+    → slice_cmp nat_cmp (name k) (name (k + suc m)) ≡ Less
 rising name n k zero up h = let at : k + 1 ≡ k + suc zero = omega arith in subst (λ j. slice_cmp nat_cmp (name k) (name j) ≡ Less) at (up k (omega (arith, h)))
 rising name n k (suc m) up h =
     let at : k + suc m + 1 ≡ k + suc (suc m) = omega arith in
     let before = rising name n k m up (omega (arith, h)) in
-    subst (λ j. slice_cmp nat_cmp (name k) (name j) ≡ Less) at (nat_list_cmp_total.trans (name k) (name (k + suc m)) (name (k + suc m + 1)) before (up (k + suc m) (omega (arith, h))))
+    subst (λ j. slice_cmp nat_cmp (name k) (name j) ≡ Less) at
+    (nat_list_cmp_total.trans (name k) (name (k + suc m)) (name (k + suc m + 1)) before (up (k + suc m) (omega (arith, h))))
 
-pub before_in_order : (name : ℕ → List ℕ) (n k j : ℕ) → ((i : ℕ) → i + 1 < n → slice_cmp nat_cmp (name i) (name (i + 1)) ≡ Less) → k < j → j < n → slice_cmp nat_cmp (name k) (name j) ≡ Less
+pub before_in_order : (name : ℕ → List ℕ) (n k j : ℕ) → ((i : ℕ) → i + 1 < n → slice_cmp nat_cmp (name i) (name (i + 1)) ≡ Less) → k < j → j < n
+    → slice_cmp nat_cmp (name k) (name j) ≡ Less
 before_in_order name n k j up less h =
     let at : k + suc (j - k - 1) ≡ j = omega (arith, less) in
     subst (λ i. slice_cmp nat_cmp (name k) (name i) ≡ Less) at (rising name n k (j - k - 1) up (omega (arith, less, h)))
@@ -69,14 +72,17 @@ pub is_later : (o : Ordering) → is_gt o ≡ false → o ≢ Greater
 is_later o h e = true≢false (sym (ap is_gt e) ∙ h)
 
 -- of sorted names, any two
-pub sorted_up : (name : ℕ → List ℕ) (n k m : ℕ) → ((j : ℕ) → j + 1 < n → slice_cmp nat_cmp (name j) (name (j + 1)) ≢ Greater) → k + m < n → is_gt (slice_cmp nat_cmp (name k) (name (k + m))) ≡ false
+pub sorted_up : (name : ℕ → List ℕ) (n k m : ℕ) → ((j : ℕ) → j + 1 < n → slice_cmp nat_cmp (name j) (name (j + 1)) ≢ Greater) → k + m < n
+    → is_gt (slice_cmp nat_cmp (name k) (name (k + m))) ≡ false
 sorted_up name n k zero up h =
     let at : k ≡ k + 0 = omega arith in
     subst (λ j. is_gt (slice_cmp nat_cmp (name k) (name j)) ≡ false) at (ap is_gt (tied_itself nat_list_cmp_total (name k)))
 sorted_up name n k (suc m) up h =
     let at : k + m + 1 ≡ k + suc m = omega arith in
     let before = sorted_up name n k m up (omega (arith, h)) in
-    subst (λ j. is_gt (slice_cmp nat_cmp (name k) (name j)) ≡ false) at (upto nat_list_cmp_total (name k) (name (k + m)) (name (k + m + 1)) before (not_later (slice_cmp nat_cmp (name (k + m)) (name (k + m + 1))) (up (k + m) (omega (arith, h)))))
+    subst (λ j. is_gt (slice_cmp nat_cmp (name k) (name j)) ≡ false) at
+    (upto nat_list_cmp_total (name k) (name (k + m)) (name (k + m + 1)) before
+    (not_later (slice_cmp nat_cmp (name (k + m)) (name (k + m + 1))) (up (k + m) (omega (arith, h)))))
 
 -- ---- the list of sources
 
@@ -101,14 +107,17 @@ no_earlier_name sources x y f g less =
     let names = one_names sources g.files f.files g.sorted f.sorted in
     f.repeated.first g.at less (sym (same_name_at g.files f.files g.at names) ∙ g.same ∙ same_name_at g.files f.files (g.at + 1) names)
 
-pub repeated_order : (sources : List Source) (x y : Told) (f : FindsRepeated sources x) (g : HasRepeated sources y) → f.at ≤ g.at → slice_cmp nat_cmp (name_at f.files f.at) (name_at g.files g.at) ≢ Greater
+pub repeated_order : (sources : List Source) (x y : Told) (f : FindsRepeated sources x) (g : HasRepeated sources y) → f.at ≤ g.at
+    → slice_cmp nat_cmp (name_at f.files f.at) (name_at g.files g.at) ≢ Greater
 repeated_order sources x y f g most =
     let names = one_names sources f.files g.files f.sorted g.sorted in
     let at : f.at + (g.at - f.at) ≡ g.at = omega (arith, most) in
     let below = g.below in
     let up = sorted_up (name_at g.files) (length g.files) f.at (g.at - f.at) g.sorted.rises (omega (arith, most, below)) in
-    let order : is_gt (slice_cmp nat_cmp (name_at g.files f.at) (name_at g.files g.at)) ≡ false = subst (λ j. is_gt (slice_cmp nat_cmp (name_at g.files f.at) (name_at g.files j)) ≡ false) at up in
-    subst (λ (n : List ℕ). slice_cmp nat_cmp n (name_at g.files g.at) ≢ Greater) (sym (same_name_at f.files g.files f.at names)) (is_later (slice_cmp nat_cmp (name_at g.files f.at) (name_at g.files g.at)) order)
+    let order : is_gt (slice_cmp nat_cmp (name_at g.files f.at) (name_at g.files g.at)) ≡ false =
+    subst (λ j. is_gt (slice_cmp nat_cmp (name_at g.files f.at) (name_at g.files j)) ≡ false) at up in
+    subst (λ (n : List ℕ). slice_cmp nat_cmp n (name_at g.files g.at) ≢ Greater) (sym (same_name_at f.files g.files f.at names))
+    (is_later (slice_cmp nat_cmp (name_at g.files f.at) (name_at g.files g.at)) order)
 
 pub repeated_later : (sources : List Source) (x y : Told) (f : FindsRepeated sources x) (g : HasRepeated sources y) → f.at ≤ g.at → NoLater x y
 repeated_later sources x y f g most =
@@ -141,34 +150,55 @@ pub record HasLocal (limits : Limits) (sources : List Source) (x : Told) : Type 
   pub is : x ≡ told 1 (name_of source) step place what
 
 abbrev pub local_of : (limits : Limits) (sources : List Source) (x : Told) → FindsLocal limits sources x → HasLocal limits sources x
-local_of limits sources x f = record { files = f.files; at = f.at; source = f.source; step = f.step; place = f.place; what = f.what; by_name = f.by_name; stands = f.stands; fault = f.fault; is = f.is }
+local_of limits sources x f = record {
+  files = f.files;
+  at = f.at;
+  source = f.source;
+  step = f.step;
+  place = f.place;
+  what = f.what;
+  by_name = f.by_name;
+  stands = f.stands;
+  fault = f.fault;
+  is = f.is;
+}
 
-pub none_local : (limits : Limits) (files : List Source) (descs : List FileDesc) (k : ℕ) (s : Source) (step : ℕ) (place : Place) (what : Kind) → AllZip (SourceDescribes limits) files descs → Stands files k s
+pub none_local : (limits : Limits) (files : List Source) (descs : List FileDesc) (k : ℕ) (s : Source) (step : ℕ) (place : Place) (what : Kind)
+    → AllZip (SourceDescribes limits) files descs → Stands files k s
     → IsLocalFault limits (name_of s) (text_of s) step place what → ⊥
 none_local limits files descs k s step place what all stands fault =
     let described = zipped_at (SourceDescribes limits) files descs k s all stands.0 stands.1 in
     no_local limits (name_of s) (text_of s) described.0 step place what described.1 fault
 
-pub local_before : (limits : Limits) (sources : List Source) (x y : Told) (f : FindsLocal limits sources x) (g : HasLocal limits sources y) → g.files ≡ f.files → g.at < f.at → ⊥
+pub local_before : (limits : Limits) (sources : List Source) (x y : Told) (f : FindsLocal limits sources x) (g : HasLocal limits sources y) → g.files ≡ f.files
+    → g.at < f.at → ⊥
 local_before limits sources x y f g same less =
     let stands : Stands f.files g.at g.source = subst (λ (xs : List Source). Stands xs g.at g.source) same g.stands in
-    none_local limits (take f.at f.files) f.descs g.at g.source g.step g.place g.what f.before (standing_in f.files g.at f.at g.source less stands.0 stands.1) g.fault
+    none_local limits (take f.at f.files) f.descs g.at g.source g.step g.place g.what f.before (standing_in f.files g.at f.at g.source less stands.0 stands.1)
+    g.fault
 
-pub local_here : (limits : Limits) (sources : List Source) (x y : Told) (f : FindsLocal limits sources x) (g : HasLocal limits sources y) → g.files ≡ f.files → f.at ≡ g.at → NoLater x y
+pub local_here : (limits : Limits) (sources : List Source) (x y : Told) (f : FindsLocal limits sources x) (g : HasLocal limits sources y) → g.files ≡ f.files
+    → f.at ≡ g.at → NoLater x y
 local_here limits sources x y f g same at =
-    let here : Stands f.files f.at g.source = subst (λ (xs : List Source). Stands xs f.at g.source) same (subst (λ k. Stands g.files k g.source) (sym at) g.stands) in
+    let here : Stands f.files f.at g.source =
+    subst (λ (xs : List Source). Stands xs f.at g.source) same (subst (λ k. Stands g.files k g.source) (sym at) g.stands) in
     let source : g.source ≡ f.source = standing_one f.files f.at g.source f.source f.stands.0 here.1 f.stands.1 in
-    let fault : IsLocalFault limits (name_of f.source) (text_of f.source) g.step g.place g.what = subst (λ (s : Source). IsLocalFault limits (name_of s) (text_of s) g.step g.place g.what) source g.fault in
+    let fault : IsLocalFault limits (name_of f.source) (text_of f.source) g.step g.place g.what =
+    subst (λ (s : Source). IsLocalFault limits (name_of s) (text_of s) g.step g.place g.what) source g.fault in
     let one = one_local limits (name_of f.source) (text_of f.source) f.step g.step f.place g.place f.what g.what f.fault fault in
-    same_later x y (f.is ∙ same_told 1 1 f.step g.step (name_of f.source) (name_of g.source) f.place g.place f.what g.what refl (ap name_of (sym source)) one.0 one.1 one.2 ∙ sym g.is)
+    same_later x y (f.is ∙ same_told 1 1 f.step g.step (name_of f.source) (name_of g.source) f.place g.place f.what g.what refl (ap name_of (sym source)) one.0
+    one.1 one.2 ∙ sym g.is)
 
-pub local_behind : (limits : Limits) (sources : List Source) (x y : Told) (f : FindsLocal limits sources x) (g : HasLocal limits sources y) → g.files ≡ f.files → f.at < g.at → NoLater x y
+pub local_behind : (limits : Limits) (sources : List Source) (x y : Told) (f : FindsLocal limits sources x) (g : HasLocal limits sources y) → g.files ≡ f.files
+    → f.at < g.at → NoLater x y
 local_behind limits sources x y f g same less =
     let stands : Stands f.files g.at g.source = subst (λ (xs : List Source). Stands xs g.at g.source) same g.stands in
     let order = before_in_order (name_at f.files) (length f.files) f.at g.at f.by_name.rises less stands.0 in
     let first : name_at f.files f.at ≡ name_of f.source = name_of_item f.files f.at f.source f.stands.0 (sym f.stands.1) in
     let second : name_at f.files g.at ≡ name_of g.source = name_of_item f.files g.at g.source stands.0 (sym stands.1) in
-    let names : slice_cmp nat_cmp (name_of f.source) (name_of g.source) ≡ Less = subst (λ (n : List ℕ). slice_cmp nat_cmp n (name_of g.source) ≡ Less) first (subst (λ (n : List ℕ). slice_cmp nat_cmp (name_at f.files f.at) n ≡ Less) second order) in
+    let names : slice_cmp nat_cmp (name_of f.source) (name_of g.source) ≡ Less =
+    subst (λ (n : List ℕ). slice_cmp nat_cmp n (name_of g.source) ≡ Less) first
+    (subst (λ (n : List ℕ). slice_cmp nat_cmp (name_at f.files f.at) n ≡ Less) second order) in
     rw (f.is, g.is) (later_in_name 1 (name_of f.source) (name_of g.source) f.step g.step f.place g.place f.what g.what names)
 
 abbrev pub local_least : (limits : Limits) (sources : List Source) → Least (local_check limits sources)
@@ -184,7 +214,8 @@ local_least limits sources = record {
       ]);
   never = λ y g pass. (
       let same = one_order sources g.files pass.0 g.by_name pass.2.by_name in
-      let all : AllZip (SourceDescribes limits) g.files pass.1 = subst (λ (xs : List Source). AllZip (SourceDescribes limits) xs pass.1) (sym same) pass.2.each in
+      let all : AllZip (SourceDescribes limits) g.files pass.1 =
+      subst (λ (xs : List Source). AllZip (SourceDescribes limits) xs pass.1) (sym same) pass.2.each in
       none_local limits g.files pass.1 g.at g.source g.step g.place g.what all g.stands g.fault);
 }
 
@@ -201,15 +232,20 @@ pub record HasImport (limits : Limits) (sources : List Source) (x : Told) : Type
   pub is : x ≡ told 2 (imports.name_at descs at) 0 place what
 
 -- names of files in their order
-pub names_before : (limits : Limits) (sources files : List Source) (descs : List FileDesc) (a b : ℕ) → Describe limits sources files descs → a < b → b < length descs → slice_cmp nat_cmp (imports.name_at descs a) (imports.name_at descs b) ≡ Less
-names_before limits sources files descs a b described less h = before_in_order (imports.name_at descs) (length descs) a b (descs_in_order limits sources files descs described.by_name described.each) less h
+pub names_before : (limits : Limits) (sources files : List Source) (descs : List FileDesc) (a b : ℕ) → Describe limits sources files descs → a < b
+    → b < length descs → slice_cmp nat_cmp (imports.name_at descs a) (imports.name_at descs b) ≡ Less
+names_before limits sources files descs a b described less h =
+    before_in_order (imports.name_at descs) (length descs) a b (descs_in_order limits sources files descs described.by_name described.each) less h
 
 -- faults of two files, by the order of the files
-pub later_by_file : (limits : Limits) (sources files : List Source) (descs : List FileDesc) (pass a b : ℕ) (p q : Place) (k l : Kind) → Describe limits sources files descs → b < length descs → imports.IsNoLater a p k b q l
+pub later_by_file : (limits : Limits) (sources files : List Source) (descs : List FileDesc) (pass a b : ℕ) (p q : Place) (k l : Kind)
+    → Describe limits sources files descs → b < length descs → imports.IsNoLater a p k b q l
     → IsNoLater (found_as pass (imports.name_at descs a) 0 p k) (found_as pass (imports.name_at descs b) 0 q l)
-later_by_file limits sources files descs pass a b p q k l described h (inl less) = later_in_name pass (imports.name_at descs a) (imports.name_at descs b) 0 0 p q k l (names_before limits sources files descs a b described less h)
+later_by_file limits sources files descs pass a b p q k l described h (inl less) =
+    later_in_name pass (imports.name_at descs a) (imports.name_at descs b) 0 0 p q k l (names_before limits sources files descs a b described less h)
 later_by_file limits sources files descs pass a b p q k l described h (inr (same, most)) =
-    subst (λ i. IsNoLater (found_as pass (imports.name_at descs a) 0 p k) (found_as pass (imports.name_at descs i) 0 q l)) same (later_spot pass (imports.name_at descs a) 0 p q k l most)
+    subst (λ i. IsNoLater (found_as pass (imports.name_at descs a) 0 p k) (found_as pass (imports.name_at descs i) 0 q l)) same
+    (later_spot pass (imports.name_at descs a) 0 p q k l most)
 
 abbrev pub import_least : (limits : Limits) (sources : List Source) → Least (import_check limits sources)
 import_least limits sources = record {
@@ -218,9 +254,11 @@ import_least limits sources = record {
   least = λ x y f g. (
       let same : g.descs ≡ f.descs = (one_description limits sources g.files f.files g.descs f.descs g.described f.described).1 in
       let bad : imports.IsBad f.descs g.at g.place g.what = subst (λ (ds : List FileDesc). imports.IsBad ds g.at g.place g.what) same g.bad in
-      let order = later_by_file limits sources f.files f.descs 2 f.at g.at f.place g.place f.what g.what f.described (bad_inside f.descs g.at g.place g.what bad) (f.bad.least g.at g.place g.what bad) in
+      let order = later_by_file limits sources f.files f.descs 2 f.at g.at f.place g.place f.what g.what f.described
+      (bad_inside f.descs g.at g.place g.what bad) (f.bad.least g.at g.place g.what bad) in
       let name : imports.name_at f.descs g.at ≡ imports.name_at g.descs g.at = ap (λ (ds : List FileDesc). imports.name_at ds g.at) (sym same) in
-      rw (f.is, g.is) (subst (λ (n : List ℕ). IsNoLater (found_as 2 (imports.name_at f.descs f.at) 0 f.place f.what) (found_as 2 n 0 g.place g.what)) name order));
+      rw (f.is, g.is) (subst (λ (n : List ℕ). IsNoLater (found_as 2 (imports.name_at f.descs f.at) 0 f.place f.what) (found_as 2 n 0 g.place g.what)) name
+      order));
   never = λ y g pass. (
       let same : pass.1 ≡ g.descs = (one_description limits sources pass.0 g.files pass.1 g.descs pass.2 g.described).1 in
       let none : imports.NoneBad g.descs = subst imports.NoneBad same pass.3 in

@@ -51,7 +51,8 @@ pub record HasTwice (limits : Limits) (sources : List Source) (x : Told) : Type 
   pub twice : IsTwice (occurrences descs) what
   pub is : x ≡ told 3 (imports.name_at descs what.file) 0 what.place kind.NameTwice
 
-pub twice_order : (os : List Occurrence) (a : ℕ) (p : Place) (o : Occurrence) → IsFirstTwice os a p → IsTwice os o → imports.IsNoLater a p kind.NameTwice o.file o.place kind.NameTwice
+pub twice_order : (os : List Occurrence) (a : ℕ) (p : Place) (o : Occurrence) → IsFirstTwice os a p → IsTwice os o
+    → imports.IsNoLater a p kind.NameTwice o.file o.place kind.NameTwice
 twice_order os a p o first twice = elim (cases_order a o.file) [
   | inl same ↦ elim (cases_order p.offset o.place.offset) [
     | inl at ↦ inr (same, inr (at, omega arith))
@@ -71,14 +72,18 @@ twice_least limits sources = record {
   among = λ x f. (
       let found = f.repeated.twice.found in
       let is : x ≡ told 3 (imports.name_at f.descs found.0.file) 0 found.0.place kind.NameTwice =
-      f.is ∙ ap (λ a. told 3 (imports.name_at f.descs a) 0 f.place kind.NameTwice) (sym found.2) ∙ ap (λ p. told 3 (imports.name_at f.descs found.0.file) 0 p kind.NameTwice) (sym found.3) in
+      f.is ∙ ap (λ a. told 3 (imports.name_at f.descs a) 0 f.place kind.NameTwice) (sym found.2)
+      ∙ ap (λ p. told 3 (imports.name_at f.descs found.0.file) 0 p kind.NameTwice) (sym found.3) in
       record { files = f.files; descs = f.descs; what = found.0; described = f.described; twice = found.1; is = is });
   least = λ x y f g. (
       let same : g.descs ≡ f.descs = (one_description limits sources g.files f.files g.descs f.descs g.described f.described).1 in
       let twice : IsTwice (occurrences f.descs) g.what = subst (λ (ds : List FileDesc). IsTwice (occurrences ds) g.what) same g.twice in
-      let order = later_by_file limits sources f.files f.descs 3 f.at g.what.file f.place g.what.place kind.NameTwice kind.NameTwice f.described (twice_within f.descs g.what twice) (twice_order (occurrences f.descs) f.at f.place g.what f.repeated.twice twice) in
-      let name : imports.name_at f.descs g.what.file ≡ imports.name_at g.descs g.what.file = ap (λ (ds : List FileDesc). imports.name_at ds g.what.file) (sym same) in
-      rw (f.is, g.is) (subst (λ (n : List ℕ). IsNoLater (found_as 3 (imports.name_at f.descs f.at) 0 f.place kind.NameTwice) (found_as 3 n 0 g.what.place kind.NameTwice)) name order));
+      let order = later_by_file limits sources f.files f.descs 3 f.at g.what.file f.place g.what.place kind.NameTwice kind.NameTwice f.described
+      (twice_within f.descs g.what twice) (twice_order (occurrences f.descs) f.at f.place g.what f.repeated.twice twice) in
+      let name : imports.name_at f.descs g.what.file ≡ imports.name_at g.descs g.what.file =
+      ap (λ (ds : List FileDesc). imports.name_at ds g.what.file) (sym same) in
+      rw (f.is, g.is) (subst (λ (n : List ℕ). IsNoLater (found_as 3 (imports.name_at f.descs f.at) 0 f.place kind.NameTwice)
+      (found_as 3 n 0 g.what.place kind.NameTwice)) name order));
   never = λ y g pass. (
       let same : pass.1 ≡ g.descs = (one_description limits sources pass.0 g.files pass.1 g.descs pass.2 g.described).1 in
       let none : NoneTwice (occurrences g.descs) = subst (λ (ds : List FileDesc). NoneTwice (occurrences ds)) same pass.3 in
@@ -101,7 +106,8 @@ pub record HasBreak (limits : Limits) (sources : List Source) (x : Told) : Type 
   pub breaks : TypesBreakAt links index at desc (spot place what)
   pub is : x ≡ told 4 (imports.name_at descs at) 0 place what
 
-pub break_here : (descs : List FileDesc) (links : Linked) (index : Index) (a b : ℕ) (desc : FileDesc) (p q : Place) (k l : Kind) (first : IsFirstBreak descs links index a p k) → a ≡ b → StandsDesc descs b desc
+pub break_here : (descs : List FileDesc) (links : Linked) (index : Index) (a b : ℕ) (desc : FileDesc) (p q : Place) (k l : Kind)
+    (first : IsFirstBreak descs links index a p k) → a ≡ b → StandsDesc descs b desc
     → TypesBreakAt links index b desc (spot q l) → imports.IsNoLater a p k b q l
 break_here descs links index a b desc p q k l first same stands breaks =
     let here = subst (λ n. StandsDesc descs n desc) (sym same) stands in
@@ -110,10 +116,12 @@ break_here descs links index a b desc p q k l first same stands breaks =
     subst (λ n. TypesBreakAt links index n first.desc (spot q l)) (sym same) (subst (λ (f : FileDesc). TypesBreakAt links index b f (spot q l)) file breaks) in
     inr (same, first.least.least (spot q l) moved)
 
-pub break_order : (descs : List FileDesc) (links others : Linked) (index other : Index) → AllSeeAlike descs others other links index → (a b : ℕ) (desc : FileDesc) (p q : Place) (k l : Kind) (first : IsFirstBreak descs links index a p k) → StandsDesc descs b desc
+pub break_order : (descs : List FileDesc) (links others : Linked) (index other : Index) → AllSeeAlike descs others other links index
+    → (a b : ℕ) (desc : FileDesc) (p q : Place) (k l : Kind) (first : IsFirstBreak descs links index a p k) → StandsDesc descs b desc
     → TypesBreakAt others other b desc (spot q l) → imports.IsNoLater a p k b q l
 break_order descs links others index other back a b desc p q k l first stands breaks = elim (cases_order a b) [
-  | inl same ↦ break_here descs links index a b desc p q k l first same stands (break_moved descs others links other index back b desc (spot q l) stands.0 breaks)
+  | inl same ↦ break_here descs links index a b desc p q k l first same stands
+      (break_moved descs others links other index back b desc (spot q l) stands.0 breaks)
   | inr (inl less) ↦ inl less
   | inr (inr over) ↦ absurd (first.before b desc (spot q l) over stands (break_moved descs others links other index back b desc (spot q l) stands.0 breaks))
 ]
@@ -121,7 +129,20 @@ break_order descs links others index other back a b desc p q k l first stands br
 abbrev pub type_least : (limits : Limits) (sources : List Source) → Least (type_check limits sources)
 type_least limits sources = record {
   Has = HasBreak limits sources;
-  among = λ x f. record { files = f.files; descs = f.descs; links = f.links; index = f.index; at = f.at; desc = f.first.desc; place = f.place; what = f.what; analysed = f.analysed; stands = f.first.stands; breaks = f.first.least.found; is = f.is };
+  among = λ x f. record {
+    files = f.files;
+    descs = f.descs;
+    links = f.links;
+    index = f.index;
+    at = f.at;
+    desc = f.first.desc;
+    place = f.place;
+    what = f.what;
+    analysed = f.analysed;
+    stands = f.first.stands;
+    breaks = f.first.least.found;
+    is = f.is;
+  };
   least = λ x y f g. (
       let same = one_description limits sources f.files g.files f.descs g.descs f.analysed.described g.analysed.described in
       let also = analysed_moved limits sources f.files g.files f.descs g.descs g.links g.index same g.analysed in
@@ -130,7 +151,8 @@ type_least limits sources = record {
       let order = break_order f.descs f.links g.links f.index g.index back f.at g.at g.desc f.place g.place f.what g.what f.first stands g.breaks in
       let later = later_by_file limits sources f.files f.descs 4 f.at g.at f.place g.place f.what g.what f.analysed.described stands.0 order in
       let name : imports.name_at f.descs g.at ≡ imports.name_at g.descs g.at = ap (λ (ds : List FileDesc). imports.name_at ds g.at) same.1 in
-      rw (f.is, g.is) (subst (λ (n : List ℕ). IsNoLater (found_as 4 (imports.name_at f.descs f.at) 0 f.place f.what) (found_as 4 n 0 g.place g.what)) name later));
+      rw (f.is, g.is) (subst (λ (n : List ℕ). IsNoLater (found_as 4 (imports.name_at f.descs f.at) 0 f.place f.what) (found_as 4 n 0 g.place g.what)) name
+      later));
   never = λ y g pass. (
       let r = pass.4 in
       let same = one_description limits sources g.files pass.0 g.descs r.descs g.analysed.described r.analysed.described in
@@ -154,7 +176,8 @@ pub record HasLong (limits : Limits) (sources : List Source) (x : Told) : Type 0
   pub over : limit_of limits limit.DescriptorBytes < length (file_desc_bytes desc)
   pub is : x ≡ told 5 (imports.name_at typed at) 0 start kind.DescriptorTooLong
 
-pub long_order : (limits : Limits) (descs : List FileDesc) (a b : ℕ) (desc : FileDesc) → IsFirstLong limits descs a → StandsDesc descs b desc → limit_of limits limit.DescriptorBytes < length (file_desc_bytes desc)
+pub long_order : (limits : Limits) (descs : List FileDesc) (a b : ℕ) (desc : FileDesc) → IsFirstLong limits descs a → StandsDesc descs b desc
+    → limit_of limits limit.DescriptorBytes < length (file_desc_bytes desc)
     → imports.IsNoLater a start kind.DescriptorTooLong b start kind.DescriptorTooLong
 long_order limits descs a b desc first stands over = elim (cases_order a b) [
   | inl same ↦ inr (same, inr (refl, omega arith))
@@ -168,21 +191,38 @@ long_order limits descs a b desc first stands over = elim (cases_order a b) [
 abbrev pub length_least : (limits : Limits) (sources : List Source) → Least (length_check limits sources)
 length_least limits sources = record {
   Has = HasLong limits sources;
-  among = λ x f. record { files = f.files; typed = f.typed; links = f.links; index = f.index; at = f.at; desc = f.first.desc; resolved = f.resolved; stands = f.first.stands; over = f.first.over; is = f.is };
+  among = λ x f. record {
+    files = f.files;
+    typed = f.typed;
+    links = f.links;
+    index = f.index;
+    at = f.at;
+    desc = f.first.desc;
+    resolved = f.resolved;
+    stands =
+        f.first.stands;
+    over = f.first.over;
+    is = f.is;
+  };
   least = λ x y f g. (
       let same : g.typed ≡ f.typed = (one_resolved limits sources g.files f.files g.typed f.typed g.links f.links g.index f.index g.resolved f.resolved).1 in
       let stands : StandsDesc f.typed g.at g.desc = subst (λ (ds : List FileDesc). StandsDesc ds g.at g.desc) same g.stands in
       let names = typed_names f.links f.index 0 f.resolved.descs f.typed f.resolved.each in
       let size = typed_length f.links f.index 0 f.resolved.descs f.typed f.resolved.each in
       let below = stands.0 in
-      let later = later_by_file limits sources f.files f.resolved.descs 5 f.at g.at start start kind.DescriptorTooLong kind.DescriptorTooLong f.resolved.analysed.described (omega (arith, below, size)) (long_order limits f.typed f.at g.at g.desc f.first stands g.over) in
+      let later = later_by_file limits sources f.files f.resolved.descs 5 f.at g.at start start kind.DescriptorTooLong kind.DescriptorTooLong
+      f.resolved.analysed.described (omega (arith, below, size)) (long_order limits f.typed f.at g.at g.desc f.first stands g.over) in
       let first : imports.name_at f.resolved.descs f.at ≡ imports.name_at f.typed f.at = ap (λ (ns : List (List ℕ)). get_or ns f.at []) (sym names) in
-      let second : imports.name_at f.resolved.descs g.at ≡ imports.name_at g.typed g.at = ap (λ (ns : List (List ℕ)). get_or ns g.at []) (sym names) ∙ ap (λ (ds : List FileDesc). imports.name_at ds g.at) (sym same) in
-      rw (f.is, g.is) (subst (λ (n : List ℕ). IsNoLater (found_as 5 n 0 start kind.DescriptorTooLong) (found_as 5 (imports.name_at g.typed g.at) 0 start kind.DescriptorTooLong)) first
-      (subst (λ (n : List ℕ). IsNoLater (found_as 5 (imports.name_at f.resolved.descs f.at) 0 start kind.DescriptorTooLong) (found_as 5 n 0 start kind.DescriptorTooLong)) second later)));
+      let second : imports.name_at f.resolved.descs g.at ≡ imports.name_at g.typed g.at =
+      ap (λ (ns : List (List ℕ)). get_or ns g.at []) (sym names) ∙ ap (λ (ds : List FileDesc). imports.name_at ds g.at) (sym same) in
+      rw (f.is, g.is) (subst (λ (n : List ℕ). IsNoLater (found_as 5 n 0 start kind.DescriptorTooLong)
+      (found_as 5 (imports.name_at g.typed g.at) 0 start kind.DescriptorTooLong)) first
+      (subst (λ (n : List ℕ). IsNoLater (found_as 5 (imports.name_at f.resolved.descs f.at) 0 start kind.DescriptorTooLong)
+      (found_as 5 n 0 start kind.DescriptorTooLong)) second later)));
   never = λ y g pass. (
       let same : pass.1 ≡ g.typed = (one_resolved limits sources pass.0 g.files pass.1 g.typed pass.2 g.links pass.3 g.index pass.4 g.resolved).1 in
-      let fits = All-contains (IsShort limits) g.typed g.desc (subst (λ (ds : List FileDesc). All (IsShort limits) ds) same pass.5) (g.at, g.stands.0, g.stands.1) in
+      let fits =
+      All-contains (IsShort limits) g.typed g.desc (subst (λ (ds : List FileDesc). All (IsShort limits) ds) same pass.5) (g.at, g.stands.0, g.stands.1) in
       let over = g.over in
       omega (arith, fits, over));
 }

@@ -26,11 +26,14 @@ abbrev pub compilation : Limits → List CompiledFile → Linked → Index → C
 compilation limits files links index = record { files = files; links = links; index = index; limits = limits }
 
 -- what the passes up to names find, and those up to types
-pub analysed_of : (limits : Limits) (sources sorted : List Source) (descs : List FileDesc) (links : Linked) (index : Index) → length sources ≤ limit_of limits limit.Files → AreByName sources sorted → AllZip (SourceDescribes limits) sorted descs
+pub analysed_of : (limits : Limits) (sources sorted : List Source) (descs : List FileDesc) (links : Linked) (index : Index)
+    → length sources ≤ limit_of limits limit.Files → AreByName sources sorted → AllZip (SourceDescribes limits) sorted descs
     → AreLinked descs links → Indexes descs limits index → IsAnalysed limits sources sorted descs links index
-analysed_of limits sources sorted descs links index few order each linked indexed = record { described = record { few = few; by_name = order; each = each }; linked = linked; indexed = indexed }
+analysed_of limits sources sorted descs links index few order each linked indexed =
+    record { described = record { few = few; by_name = order; each = each }; linked = linked; indexed = indexed }
 
-pub resolved_of : (limits : Limits) (sources sorted : List Source) (descs typed : List FileDesc) (links : Linked) (index : Index) → IsAnalysed limits sources sorted descs links index → AreTypedFrom links index 0 descs typed → AreResolved limits sources sorted typed links index
+pub resolved_of : (limits : Limits) (sources sorted : List Source) (descs typed : List FileDesc) (links : Linked) (index : Index)
+    → IsAnalysed limits sources sorted descs links index → AreTypedFrom links index 0 descs typed → AreResolved limits sources sorted typed links index
 resolved_of limits sources sorted descs typed links index analysed each = record { descs = descs; analysed = analysed; each = each }
 
 -- one file for each source
@@ -45,22 +48,30 @@ typed_length links index a (f ∷ fs) [] all = absurd all
 typed_length links index a (f ∷ fs) (g ∷ gs) all = ap suc (typed_length links index (a + 1) fs gs all.1)
 
 -- what links and the index count, and what set order has
-pub counts : (limits : Limits) (sources sorted : List Source) (descs : List FileDesc) (links : Linked) (index : Index) (files : List CompiledFile) → AreResolved limits sources sorted descs links index → map file_name files ≡ map name_of sorted
+pub counts : (limits : Limits) (sources sorted : List Source) (descs : List FileDesc) (links : Linked) (index : Index) (files : List CompiledFile)
+    → AreResolved limits sources sorted descs links index → map file_name files ≡ map name_of sorted
     → (count_of links ≡ length files) × (index.files ≡ length files) × ((a : ℕ) → Contains links.set_order a → a < length files)
 counts limits sources sorted descs links index files resolved names =
     let is = resolved.analysed in
     let size = same_length limits sorted resolved.descs is.described.each in
     let many = as_many sorted files names in
     let linked = is.linked.count in
-    let indexed = is.indexed.files in
-    (omega (arith, size, many, linked), omega (arith, size, many, indexed), λ a has. let below = (is.linked.order.every a).0 has in omega (arith, size, many, below))
+    let indexed = is.indexed.files in (
+      omega (arith, size, many, linked),
+      omega (arith, size, many, indexed),
+      λ a has. let below = (is.linked.order.every a).0 has in
+          omega (arith, size, many, below),
+    )
 
-pub written : (limits : Limits) (sources sorted : List Source) (descs : List FileDesc) (links : Linked) (index : Index) (files : List CompiledFile) → AreResolved limits sources sorted descs links index → All (IsShort limits) descs
-    → map file_name files ≡ map name_of sorted → map file_bytes files ≡ map file_desc_bytes descs → IsWritten limits sources (compilation limits files links index)
+pub written : (limits : Limits) (sources sorted : List Source) (descs : List FileDesc) (links : Linked) (index : Index) (files : List CompiledFile)
+    → AreResolved limits sources sorted descs links index → All (IsShort limits) descs
+    → map file_name files ≡ map name_of sorted → map file_bytes files ≡ map file_desc_bytes descs
+    → IsWritten limits sources (compilation limits files links index)
 written limits sources sorted descs links index files resolved short names bytes =
     record { sorted = sorted; descs = descs; resolved = resolved; short = short; names = names; bytes = bytes; same_limits = refl }
 
-pub sound : (limits : Limits) (sources : List Source) (files : List CompiledFile) (links : Linked) (index : Index) → IsWritten limits sources (compilation limits files links index) → index.services ≡ services_of index.occurrences
+pub sound : (limits : Limits) (sources : List Source) (files : List CompiledFile) (links : Linked) (index : Index)
+    → IsWritten limits sources (compilation limits files links index) → index.services ≡ services_of index.occurrences
     → length (set_of files links) ≤ limit_of limits limit.SetBytes → IsSound (compilation limits files links index)
 sound limits sources files links index is services within =
     let analysed = is.resolved.analysed in
@@ -76,7 +87,8 @@ sound limits sources files links index is services within =
     }
 
 -- as many sources as written descriptors
-pub written_length : (limits : Limits) (sources sorted : List Source) (descs : List FileDesc) (links : Linked) (index : Index) (all : List (Vec ℕ Global)) → AreResolved limits sources sorted descs links index → map items_of all ≡ map file_desc_bytes descs → length sorted ≡ length all
+pub written_length : (limits : Limits) (sources sorted : List Source) (descs : List FileDesc) (links : Linked) (index : Index) (all : List (Vec ℕ Global))
+    → AreResolved limits sources sorted descs links index → map items_of all ≡ map file_desc_bytes descs → length sorted ≡ length all
 written_length limits sources sorted descs links index all resolved bytes =
     let size = same_length limits sorted resolved.descs resolved.analysed.described.each in
     let typed = typed_length links index 0 resolved.descs descs resolved.each in

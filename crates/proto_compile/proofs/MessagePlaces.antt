@@ -37,7 +37,8 @@ each_place n place (x ∷ xs) at = (at.0, each_place n place xs at.1)
 
 pub each_places : {X : Type 0} (n : ℕ) (places : X → List ℕ) (xs : List X) → AtMost n (flat_map places xs) → AllByRecursion (λ x. AtMost n (places x)) xs
 each_places n places [] at = tt
-each_places n places (x ∷ xs) at = (front (λ p. p ≤ n) (places x) (flat_map places xs) at, each_places n places xs (rest (λ p. p ≤ n) (places x) (flat_map places xs) at))
+each_places n places (x ∷ xs) at =
+    (front (λ p. p ≤ n) (places x) (flat_map places xs) at, each_places n places xs (rest (λ p. p ≤ n) (places x) (flat_map places xs) at))
 
 -- ---- one name, one reference
 
@@ -58,11 +59,13 @@ AreAt n ds rs = AllByRecursion (DeclaredAt n) ds × AllByRecursion (ReferenceAt 
 two : (n : ℕ) (ds es : List Declared) (rs qs : List Reference) → AreAt n ds rs → AreAt n es qs → AreAt n (ds ++ es) (rs ++ qs)
 two n ds es rs qs x y = (both (DeclaredAt n) ds es x.0 y.0, both (ReferenceAt n) rs qs x.1 y.1)
 
-pub type_at : (n : ℕ) (scope : List ℕ) (wanted : Want) (options : List OptionDesc) (r : TypeReference) → AtMost n (reference_places r) → AllByRecursion (OptionAt n) options → AllByRecursion (ReferenceAt n) (references_of_type scope wanted options r)
+pub type_at : (n : ℕ) (scope : List ℕ) (wanted : Want) (options : List OptionDesc) (r : TypeReference) → AtMost n (reference_places r)
+    → AllByRecursion (OptionAt n) options → AllByRecursion (ReferenceAt n) (references_of_type scope wanted options r)
 type_at n scope wanted options (Spelled text place) at set = ((at.0, set), tt)
 type_at n scope wanted options (Resolved full_name what) at set = tt
 
-kind_at : (n : ℕ) (scope : List ℕ) (options : List OptionDesc) (k : FieldKind) → AtMost n (kind_places k) → AllByRecursion (OptionAt n) options → AllByRecursion (ReferenceAt n) (references_of_kind scope options k)
+kind_at : (n : ℕ) (scope : List ℕ) (options : List OptionDesc) (k : FieldKind) → AtMost n (kind_places k) → AllByRecursion (OptionAt n) options
+    → AllByRecursion (ReferenceAt n) (references_of_kind scope options k)
 kind_at n scope options (Scalar s) at set = tt
 kind_at n scope options (Named r) at set = type_at n scope want.AnyType options r at set
 
@@ -90,21 +93,27 @@ record OwnAt (n : ℕ) (m : MessageDesc-F MessageDesc) : Type 0 where
   enums : AllByRecursion (EnumAt n) m.enums
   nested : AtMost n (flat_map message_places m.nested)
 
-own_at : (n : ℕ) (m : MessageDesc-F MessageDesc) → AtMost n (m.place.offset ∷ (flat_map field_places m.fields ++ map oneof_place m.oneofs ++ flat_map enum_places m.enums ++ flat_map message_places m.nested)) → OwnAt n m
+own_at : (n : ℕ) (m : MessageDesc-F MessageDesc) → AtMost n
+    (m.place.offset ∷ (flat_map field_places m.fields ++ map oneof_place m.oneofs ++ flat_map enum_places m.enums ++ flat_map message_places m.nested))
+    → OwnAt n m
 own_at n m at =
-    let upto_enums = front (λ p. p ≤ n) (flat_map field_places m.fields ++ map oneof_place m.oneofs ++ flat_map enum_places m.enums) (flat_map message_places m.nested) at.1 in
+    let upto_enums = front (λ p. p ≤ n) (flat_map field_places m.fields ++ map oneof_place m.oneofs ++ flat_map enum_places m.enums)
+    (flat_map message_places m.nested) at.1 in
     let upto_oneofs = front (λ p. p ≤ n) (flat_map field_places m.fields ++ map oneof_place m.oneofs) (flat_map enum_places m.enums) upto_enums in
     record {
       place = at.0;
       fields = each_places n field_places m.fields (front (λ p. p ≤ n) (flat_map field_places m.fields) (map oneof_place m.oneofs) upto_oneofs);
       oneofs = each_place n oneof_place m.oneofs (rest (λ p. p ≤ n) (flat_map field_places m.fields) (map oneof_place m.oneofs) upto_oneofs);
-      enums = each_places n enum_places m.enums (rest (λ p. p ≤ n) (flat_map field_places m.fields ++ map oneof_place m.oneofs) (flat_map enum_places m.enums) upto_enums);
-      nested = rest (λ p. p ≤ n) (flat_map field_places m.fields ++ map oneof_place m.oneofs ++ flat_map enum_places m.enums) (flat_map message_places m.nested) at.1;
+      enums = each_places n enum_places m.enums (rest (λ p. p ≤ n) (flat_map field_places m.fields ++ map oneof_place m.oneofs) (flat_map enum_places m.enums)
+          upto_enums);
+      nested = rest (λ p. p ≤ n) (flat_map field_places m.fields ++ map oneof_place m.oneofs ++ flat_map enum_places m.enums) (flat_map message_places m.nested)
+          at.1;
     }
 
 own_declared_at : (n : ℕ) (scope : List ℕ) (m : MessageDesc) → OwnAt n (out-MessageDesc m) → AllByRecursion (DeclaredAt n) (declared_before m scope)
 own_declared_at n scope m own =
-    let fields = each_map (DeclaredAt n) (declared_field (scope_in m scope)) (out-MessageDesc m).fields (each_weaker (FieldAt n) (λ (f : FieldDesc). Placed n f.place) (out-MessageDesc m).fields (λ f at. at.0) own.fields) in
+    let fields = each_map (DeclaredAt n) (declared_field (scope_in m scope)) (out-MessageDesc m).fields
+    (each_weaker (FieldAt n) (λ (f : FieldDesc). Placed n f.place) (out-MessageDesc m).fields (λ f at. at.0) own.fields) in
     let oneofs = each_map (DeclaredAt n) (declared_oneof (scope_in m scope)) (out-MessageDesc m).oneofs own.oneofs in
     let enums = given (EnumAt n) (DeclaredAt n) (declared_by_enum (scope_in m scope)) (out-MessageDesc m).enums (enum_at n (scope_in m scope)) own.enums in
     (own.place, both (DeclaredAt n) _ _ (both (DeclaredAt n) _ _ fields oneofs) enums)
@@ -113,18 +122,22 @@ own_declared_at n scope m own =
 abbrev own_references : MessageDesc → List ℕ → List Reference
 own_references m scope = flat_map (references_of_field (field_scope scope (out-MessageDesc m))) (out-MessageDesc m).fields
 
-references_out : (m : MessageDesc) (scope : List ℕ) → references_by_message m scope ≡ own_references m scope ++ flat_map (λ n. references_by_message n (scope_in m scope)) (out-MessageDesc m).nested
+references_out : (m : MessageDesc) (scope : List ℕ) → references_by_message m scope ≡ own_references m scope
+    ++ flat_map (λ n. references_by_message n (scope_in m scope)) (out-MessageDesc m).nested
 references_out m scope =
     ap (λ (f : List ℕ → List Reference). f scope) (fold_out-MessageDesc (List ℕ → List Reference) references_step m)
-    ∙ ap (λ xs. own_references m scope ++ xs) (flat_map-map (λ (g : List ℕ → List Reference). g (scope_in m scope)) references_by_message (out-MessageDesc m).nested)
+    ∙ ap (λ xs. own_references m scope ++ xs) (flat_map-map (λ (g : List ℕ → List Reference). g (scope_in m scope)) references_by_message
+    (out-MessageDesc m).nested)
 
 abbrev pub MessageAt : ℕ → MessageDesc → Type 0
 MessageAt n m = AtMost n (message_places m) → (scope : List ℕ) → AreAt n (declared_by_message m scope) (references_by_message m scope)
 
-pub messages_at : (n : ℕ) (scope : List ℕ) (ms : List MessageDesc) → AllByRecursion (MessageAt n) ms → AtMost n (flat_map message_places ms) → AreAt n (flat_map (λ m. declared_by_message m scope) ms) (flat_map (λ m. references_by_message m scope) ms)
+pub messages_at : (n : ℕ) (scope : List ℕ) (ms : List MessageDesc) → AllByRecursion (MessageAt n) ms → AtMost n (flat_map message_places ms)
+    → AreAt n (flat_map (λ m. declared_by_message m scope) ms) (flat_map (λ m. references_by_message m scope) ms)
 messages_at n scope [] each at = (tt, tt)
 messages_at n scope (m ∷ ms) each at =
-    two n (declared_by_message m scope) (flat_map (λ m. declared_by_message m scope) ms) (references_by_message m scope) (flat_map (λ m. references_by_message m scope) ms)
+    two n (declared_by_message m scope) (flat_map (λ m. declared_by_message m scope) ms) (references_by_message m scope)
+    (flat_map (λ m. references_by_message m scope) ms)
     (each.0 (front (λ p. p ≤ n) (message_places m) (flat_map message_places ms) at) scope)
     (messages_at n scope ms each.1 (rest (λ p. p ≤ n) (message_places m) (flat_map message_places ms) at))
 
@@ -132,8 +145,10 @@ message_out : (n : ℕ) (m : MessageDesc) → AllByRecursion (MessageAt n) (out-
 message_out n m each at scope =
     let own = own_at n (out-MessageDesc m) (subst (AtMost n) (places_out m) at) in
     let nested = messages_at n (scope_in m scope) (out-MessageDesc m).nested each own.nested in
-    let references = given (FieldAt n) (ReferenceAt n) (references_of_field (field_scope scope (out-MessageDesc m))) (out-MessageDesc m).fields (field_at n (field_scope scope (out-MessageDesc m))) own.fields in (
-      subst (AllByRecursion (DeclaredAt n)) (sym (declared_out m scope)) (both (DeclaredAt n) (declared_before m scope) _ (own_declared_at n scope m own) nested.0),
+    let references = given (FieldAt n) (ReferenceAt n) (references_of_field (field_scope scope (out-MessageDesc m))) (out-MessageDesc m).fields
+    (field_at n (field_scope scope (out-MessageDesc m))) own.fields in (
+      subst (AllByRecursion (DeclaredAt n)) (sym (declared_out m scope))
+          (both (DeclaredAt n) (declared_before m scope) _ (own_declared_at n scope m own) nested.0),
       subst (AllByRecursion (ReferenceAt n)) (sym (references_out m scope)) (both (ReferenceAt n) (own_references m scope) _ references nested.1),
     )
 
@@ -143,9 +158,11 @@ Known n = (m : MessageDesc) × MessageAt n m
 known_at : (n : ℕ) (ys : List (Known n)) → AllByRecursion (MessageAt n) (map (λ e. e.0) ys)
 known_at n ys = each_map (MessageAt n) (λ (e : Known n). e.0) ys (each_of (λ (e : Known n). MessageAt n e.0) (λ e. e.1) ys)
 
-message_step : (n : ℕ) (x : MessageDesc-F MessageDesc) (y : MessageDesc-F (Known n)) → map-MessageDesc (Known n) MessageDesc (λ e. e.0) y ≡ x → MessageAt n (roll-MessageDesc x)
+message_step : (n : ℕ) (x : MessageDesc-F MessageDesc) (y : MessageDesc-F (Known n)) → map-MessageDesc (Known n) MessageDesc (λ e. e.0) y ≡ x
+    → MessageAt n (roll-MessageDesc x)
 message_step n x y e = message_out n (roll-MessageDesc x)
-    (subst (λ (m : MessageDesc-F MessageDesc). AllByRecursion (MessageAt n) m.nested) (sym (out-roll-MessageDesc x)) (subst (λ (m : MessageDesc-F MessageDesc). AllByRecursion (MessageAt n) m.nested) e (known_at n y.nested)))
+    (subst (λ (m : MessageDesc-F MessageDesc). AllByRecursion (MessageAt n) m.nested) (sym (out-roll-MessageDesc x))
+    (subst (λ (m : MessageDesc-F MessageDesc). AllByRecursion (MessageAt n) m.nested) e (known_at n y.nested)))
 
 pub message_at : (n : ℕ) (m : MessageDesc) → MessageAt n m
 message_at n = ind-MessageDesc (MessageAt n) (message_step n)

@@ -44,71 +44,155 @@ all_exact limits sources = (count_exact limits sources, (order_exact limits sour
 
 -- ---- what is found behind checks that pass
 
-described_then : (limits : Limits) (sources files : List Source) (descs : List FileDesc) (x : Told) → Describe limits sources files descs → FirstOf (from_imports limits sources) x → FirstOf (all_checks limits sources) x
+described_then : (limits : Limits) (sources files : List Source) (descs : List FileDesc) (x : Told) → Describe limits sources files descs
+    → FirstOf (from_imports limits sources) x → FirstOf (all_checks limits sources) x
 described_then limits sources files descs x described later = inr (described.few, inr ((files, described.by_name), inr ((files, descs, described), later)))
 
-linked_then : (limits : Limits) (sources files : List Source) (descs : List FileDesc) (x : Told) → Describe limits sources files descs → imports.NoneBad descs → FirstOf (from_names limits sources) x → FirstOf (all_checks limits sources) x
-linked_then limits sources files descs x described none later = described_then limits sources files descs x described (inr ((files, descs, described, none), later))
+linked_then : (limits : Limits) (sources files : List Source) (descs : List FileDesc) (x : Told) → Describe limits sources files descs → imports.NoneBad descs
+    → FirstOf (from_names limits sources) x → FirstOf (all_checks limits sources) x
+linked_then limits sources files descs x described none later =
+    described_then limits sources files descs x described (inr ((files, descs, described, none), later))
 
-analysed_then : (limits : Limits) (sources files : List Source) (descs : List FileDesc) (links : Linked) (index : Index) (x : Told) → IsAnalysed limits sources files descs links index → FirstOf (from_types limits sources) x → FirstOf (all_checks limits sources) x
+analysed_then : (limits : Limits) (sources files : List Source) (descs : List FileDesc) (links : Linked) (index : Index) (x : Told)
+    → IsAnalysed limits sources files descs links index → FirstOf (from_types limits sources) x → FirstOf (all_checks limits sources) x
 analysed_then limits sources files descs links index x analysed later =
     linked_then limits sources files descs x analysed.described analysed.linked.whole
     (inr ((files, descs, analysed.described, analysed.indexed.within), inr ((files, descs, analysed.described, analysed.indexed.once), later)))
 
-pub first_of : (limits : Limits) (sources : List Source) (pass : ℕ) (file : List ℕ) (step : ℕ) (place : Place) (kind : Kind) → IsFirstFault limits sources pass file step place kind → FirstOf (all_checks limits sources) (told pass file step place kind)
+pub first_of : (limits : Limits) (sources : List Source) (pass : ℕ) (file : List ℕ) (step : ℕ) (place : Place) (kind : Kind)
+    → IsFirstFault limits sources pass file step place kind → FirstOf (all_checks limits sources) (told pass file step place kind)
 first_of limits sources _ _ _ _ _ (too_many_files over) = inl (over, refl)
-first_of limits sources _ _ _ _ _ (file_name_twice files k few sorted repeated) = inr (few, inl (record { files = files; at = k; sorted = sorted; repeated = repeated; is = refl }))
+first_of limits sources _ _ _ _ _ (file_name_twice files k few sorted repeated) =
+    inr (few, inl (record { files = files; at = k; sorted = sorted; repeated = repeated; is = refl }))
 first_of limits sources _ _ _ _ _ (in_file files descs k s step place what few order described stands fault) =
     let found : FindsLocal limits sources (told 1 (name_of s) step place what) =
-    record { files = files; descs = descs; at = k; source = s; step = step; place = place; what = what; by_name = order; before = described; stands = stands; fault = fault; is = refl } in
+    record {
+      files = files;
+      descs = descs;
+      at = k;
+      source = s;
+      step = step;
+      place = place;
+      what = what;
+      by_name = order;
+      before = described;
+      stands = stands;
+      fault = fault;
+      is = refl;
+    } in
     inr (few, inr ((files, order), inl found))
 first_of limits sources _ _ _ _ _ (in_imports files descs a place what described bad) =
-    described_then limits sources files descs _ described (inl (record { files = files; descs = descs; at = a; place = place; what = what; described = described; bad = bad; is = refl }))
+    described_then limits sources files descs _ described (inl
+    (record { files = files; descs = descs; at = a; place = place; what = what; described = described; bad = bad; is = refl }))
 first_of limits sources _ _ _ _ _ (too_many_names files descs described none over) =
     linked_then limits sources files descs _ described none (inl (record { files = files; descs = descs; described = described; over = over; is = refl }))
 first_of limits sources _ _ _ _ _ (name_twice files descs a place described none repeated) =
-    linked_then limits sources files descs _ described none (inr ((files, descs, described, repeated.within), inl (record { files = files; descs = descs; at = a; place = place; described = described; repeated = repeated; is = refl })))
+    linked_then limits sources files descs _ described none
+    (inr (
+      (files, descs, described, repeated.within),
+      inl (record {
+        files = files;
+        descs = descs;
+        at = a;
+        place = place;
+        described = described;
+        repeated =
+            repeated;
+        is = refl;
+      }),
+    ))
 first_of limits sources _ _ _ _ _ (in_types files descs links index a desc place what analysed before stands least) =
     let first : IsFirstBreak descs links index a place what = record { before = before; desc = desc; stands = stands; least = least } in
     analysed_then limits sources files descs links index _ analysed
-    (inl (record { files = files; descs = descs; links = links; index = index; at = a; place = place; what = what; analysed = analysed; first = first; is = refl }))
+    (inl (record {
+      files = files;
+      descs = descs;
+      links = links;
+      index = index;
+      at = a;
+      place = place;
+      what = what;
+      analysed = analysed;
+      first = first;
+      is =
+          refl;
+    }))
 first_of limits sources _ _ _ _ _ (descriptor_too_long files typed links index a desc resolved short stands over) =
     let first : IsFirstLong limits typed a = record { short = short; desc = desc; stands = stands; over = over } in
     analysed_then limits sources files resolved.descs links index _ resolved.analysed
-    (inr ((files, typed, links, index, resolved), inl (record { files = files; typed = typed; links = links; index = index; at = a; resolved = resolved; first = first; is = refl })))
+    (inr (
+      (files, typed, links, index, resolved),
+      inl (record {
+        files = files;
+        typed = typed;
+        links = links;
+        index = index;
+        at = a;
+        resolved = resolved;
+        first =
+            first;
+        is = refl;
+      }),
+    ))
 first_of limits sources _ _ _ _ _ (set_too_long c written over) =
     let resolved = written.resolved in
     let types : (type_check limits sources).passes = (written.sorted, written.descs, c.links, c.index, resolved) in
     let lengths : (length_check limits sources).passes = (written.sorted, written.descs, c.links, c.index, resolved, written.short) in
-    analysed_then limits sources written.sorted resolved.descs c.links c.index _ resolved.analysed (inr (types, inr (lengths, inl (record { compilation = c; written = written; over = over; is = refl }))))
+    analysed_then limits sources written.sorted resolved.descs c.links c.index _ resolved.analysed
+    (inr (types, inr (lengths, inl (record { compilation = c; written = written; over = over; is = refl }))))
 
 -- ---- one answer
 
 types_pass : (limits : Limits) (sources : List Source) (c : Compilation) → IsCompiled limits sources c → AllPass (from_types limits sources)
 types_pass limits sources c compiled =
-    let written = compiled.written in
-    ((written.sorted, written.descs, c.links, c.index, written.resolved), ((written.sorted, written.descs, c.links, c.index, written.resolved, written.short), ((c, written, compiled.within), tt)))
+    let written = compiled.written in (
+      (written.sorted, written.descs, c.links, c.index, written.resolved),
+      ((written.sorted, written.descs, c.links, c.index, written.resolved, written.short), ((c, written, compiled.within), tt)),
+    )
 
-imports_pass : (limits : Limits) (sources files : List Source) (descs : List FileDesc) (links : Linked) (index : Index) → IsAnalysed limits sources files descs links index → AllPass (from_types limits sources) → AllPass (from_imports limits sources)
+imports_pass : (limits : Limits) (sources files : List Source) (descs : List FileDesc) (links : Linked) (index : Index)
+    → IsAnalysed limits sources files descs links index → AllPass (from_types limits sources) → AllPass (from_imports limits sources)
 imports_pass limits sources files descs links index analysed rest =
-    let described = analysed.described in
-    ((files, descs, described, analysed.linked.whole), ((files, descs, described, analysed.indexed.within), ((files, descs, described, analysed.indexed.once), rest)))
+    let described = analysed.described in (
+      (files, descs, described, analysed.linked.whole),
+      (
+        (files, descs, described, analysed.indexed.within),
+        ((files, descs, described, analysed.indexed.once), rest),
+      ),
+    )
 
 all_pass : (limits : Limits) (sources : List Source) (c : Compilation) → IsCompiled limits sources c → AllPass (all_checks limits sources)
 all_pass limits sources c compiled =
     let files = compiled.written.sorted in
     let resolved = compiled.written.resolved in
-    let described = resolved.analysed.described in
-    (described.few, ((files, described.by_name), ((files, resolved.descs, described), imports_pass limits sources files resolved.descs c.links c.index resolved.analysed (types_pass limits sources c compiled))))
+    let described = resolved.analysed.described in (
+      described.few,
+      (
+        (files, described.by_name),
+        (
+          (files, resolved.descs, described),
+          imports_pass limits sources files resolved.descs c.links c.index resolved.analysed (types_pass limits sources c compiled),
+        ),
+      ),
+    )
 
 -- sources that are compiled have no fault
-pub no_fault : (limits : Limits) (sources : List Source) (c : Compilation) (pass : ℕ) (file : List ℕ) (step : ℕ) (place : Place) (kind : Kind) → IsCompiled limits sources c → IsFirstFault limits sources pass file step place kind → ⊥
+pub no_fault : (limits : Limits) (sources : List Source) (c : Compilation) (pass : ℕ) (file : List ℕ) (step : ℕ) (place : Place) (kind : Kind)
+    → IsCompiled limits sources c → IsFirstFault limits sources pass file step place kind → ⊥
 no_fault limits sources c pass file step place kind compiled fault =
-    none_first (all_checks limits sources) (all_exact limits sources) (all_pass limits sources c compiled) (told pass file step place kind) (first_of limits sources pass file step place kind fault)
+    none_first (all_checks limits sources) (all_exact limits sources) (all_pass limits sources c compiled) (told pass file step place kind)
+    (first_of limits sources pass file step place kind fault)
 
 -- and others have one first fault
-pub one_fault : (limits : Limits) (sources : List Source) (p q : ℕ) (f g : List ℕ) (s t : ℕ) (x y : Place) (k l : Kind) → IsFirstFault limits sources p f s x k → IsFirstFault limits sources q g t y l → (p ≡ q) × (f ≡ g) × (s ≡ t) × (x ≡ y) × (k ≡ l)
+pub one_fault : (limits : Limits) (sources : List Source) (p q : ℕ) (f g : List ℕ) (s t : ℕ) (x y : Place) (k l : Kind) → IsFirstFault limits sources p f s x k
+    → IsFirstFault limits sources q g t y l → (p ≡ q) × (f ≡ g) × (s ≡ t) × (x ≡ y) × (k ≡ l)
 one_fault limits sources p q f g s t x y k l first second =
     let same : told p f s x k ≡ told q g t y l =
-    one_first (all_checks limits sources) (all_exact limits sources) (told p f s x k) (told q g t y l) (first_of limits sources p f s x k first) (first_of limits sources q g t y l second) in
-    (ap (λ (z : Told). z.pass) same, ap (λ (z : Told). z.file) same, ap (λ (z : Told). z.step) same, ap (λ (z : Told). z.place) same, ap (λ (z : Told). z.kind) same)
+    one_first (all_checks limits sources) (all_exact limits sources) (told p f s x k) (told q g t y l) (first_of limits sources p f s x k first)
+    (first_of limits sources q g t y l second) in (
+      ap (λ (z : Told). z.pass) same,
+      ap (λ (z : Told). z.file) same,
+      ap (λ (z : Told). z.step) same,
+      ap (λ (z : Told). z.place) same,
+      ap (λ (z : Told). z.kind) same,
+    )

@@ -43,30 +43,37 @@ one_list (f ∷ fs) (g ∷ gs) names bytes =
 -- ---- compilations
 
 -- the links of files that are resolved have one set order
-resolved_order : (limits : Limits) (sources f g : List Source) (ds es : List FileDesc) (links others : Linked) (index other : Index) → AreResolved limits sources f ds links index → AreResolved limits sources g es others other → links.set_order ≡ others.set_order
+resolved_order : (limits : Limits) (sources f g : List Source) (ds es : List FileDesc) (links others : Linked) (index other : Index)
+    → AreResolved limits sources f ds links index → AreResolved limits sources g es others other → links.set_order ≡ others.set_order
 resolved_order limits sources f g ds es links others index other first second =
     let same = one_description limits sources f g first.descs second.descs first.analysed.described second.analysed.described in
     let also = analysed_moved limits sources f g first.descs second.descs others other same second.analysed in
     one_set_order first.descs links others first.analysed.linked also.linked
 
-pub one_written : (limits : Limits) (sources : List Source) (c d : Compilation) → IsWritten limits sources c → IsWritten limits sources d → (c.files ≡ d.files) × (c.links.set_order ≡ d.links.set_order)
+pub one_written : (limits : Limits) (sources : List Source) (c d : Compilation) → IsWritten limits sources c → IsWritten limits sources d
+    → (c.files ≡ d.files) × (c.links.set_order ≡ d.links.set_order)
 one_written limits sources c d first second =
     let same = one_resolved limits sources first.sorted second.sorted first.descs second.descs c.links d.links c.index d.index first.resolved second.resolved in
     let names : map file_name c.files ≡ map file_name d.files = first.names ∙ ap (λ (xs : List Source). map name_of xs) same.0 ∙ sym second.names in
-    let bytes : map file_bytes c.files ≡ map file_bytes d.files = first.bytes ∙ ap (λ (xs : List FileDesc). map file_desc_bytes xs) same.1 ∙ sym second.bytes in
-    (one_list c.files d.files names bytes, resolved_order limits sources first.sorted second.sorted first.descs second.descs c.links d.links c.index d.index first.resolved second.resolved)
+    let bytes : map file_bytes c.files ≡ map file_bytes d.files = first.bytes ∙ ap (λ (xs : List FileDesc). map file_desc_bytes xs) same.1 ∙ sym second.bytes in (
+      one_list c.files d.files names bytes,
+      resolved_order limits sources first.sorted second.sorted first.descs second.descs c.links d.links c.index d.index
+          first.resolved second.resolved,
+    )
 
 set_in : List CompiledFile → List ℕ → List ℕ
 set_in files order = flat_map (λ a. bytes_field 1 (bytes_at files a)) order
 
 -- and one set
-pub one_set : (limits : Limits) (sources : List Source) (c d : Compilation) → IsWritten limits sources c → IsWritten limits sources d → set_of c.files c.links ≡ set_of d.files d.links
+pub one_set : (limits : Limits) (sources : List Source) (c d : Compilation) → IsWritten limits sources c → IsWritten limits sources d
+    → set_of c.files c.links ≡ set_of d.files d.links
 unfolding set_in
 one_set limits sources c d first second =
     let same = one_written limits sources c d first second in
     ap (λ (fs : List CompiledFile). set_in fs c.links.set_order) same.0 ∙ ap (set_in d.files) same.1
 
-pub one_compilation : (limits : Limits) (sources : List Source) (c d : Compilation) → IsCompiled limits sources c → IsCompiled limits sources d → (c.files ≡ d.files) × (c.links.set_order ≡ d.links.set_order)
+pub one_compilation : (limits : Limits) (sources : List Source) (c d : Compilation) → IsCompiled limits sources c → IsCompiled limits sources d
+    → (c.files ≡ d.files) × (c.links.set_order ≡ d.links.set_order)
 one_compilation limits sources c d first second = one_written limits sources c d first.written second.written
 
 -- ---- the first descriptor that is too long
@@ -78,7 +85,8 @@ pub record IsFirstLong (limits : Limits) (descs : List FileDesc) (a : ℕ) : Typ
   pub over : limit_of limits limit.DescriptorBytes < length (file_desc_bytes desc)
 
 pub no_long : (limits : Limits) (descs : List FileDesc) (a : ℕ) → IsFirstLong limits descs a → All (IsShort limits) descs → ⊥
-no_long limits descs a long short = let fits = All-contains (IsShort limits) descs long.desc short (a, long.stands.0, long.stands.1) in let over = long.over in omega (arith, fits, over)
+no_long limits descs a long short =
+    let fits = All-contains (IsShort limits) descs long.desc short (a, long.stands.0, long.stands.1) in let over = long.over in omega (arith, fits, over)
 
 no_earlier_long : (limits : Limits) (descs : List FileDesc) (a b : ℕ) → a < b → IsFirstLong limits descs a → All (IsShort limits) (take b descs) → ⊥
 no_earlier_long limits descs a b less long short =

@@ -41,7 +41,8 @@ moved xs ys zs first second x w = Contains-permutation xs zs x second (Contains-
 -- the sources have one order by name
 pub one_order : (sources f g : List Source) → AreByName sources f → AreByName sources g → f ≡ g
 one_order sources f g first second =
-    one_rising IsNameBefore names_strict f g (sources_rise f first.rises) (sources_rise g second.rises) (moved sources f g first.all second.all) (moved sources g f second.all first.all)
+    one_rising IsNameBefore names_strict f g (sources_rise f first.rises) (sources_rise g second.rises) (moved sources f g first.all second.all)
+    (moved sources g f second.all first.all)
 
 -- ---- sorted names
 
@@ -111,13 +112,16 @@ one_sorted (x ∷ xs) (y ∷ ys) up over alike =
 
 sum_of_names : (f : List ℕ → ℕ) (files : List Source) → sum_by f (map name_of files) ≡ sum_by (λ s. f (name_of s)) files
 sum_of_names f [] = refl
-sum_of_names f (s ∷ files) = sum_by-cons f (name_of s) (map name_of files) ∙ ap (λ n. f (name_of s) + n) (sum_of_names f files) ∙ sym (sum_by-cons (λ (t : Source). f (name_of t)) s files)
+sum_of_names f (s ∷ files) = sum_by-cons f (name_of s) (map name_of files) ∙ ap (λ n. f (name_of s) + n) (sum_of_names f files)
+    ∙ sym (sum_by-cons (λ (t : Source). f (name_of t)) s files)
 
-names_rise : (files : List Source) → ((k : ℕ) → k + 1 < length files → IsNoLater (name_at files k) (name_at files (k + 1))) → Rises IsNoLater (map name_of files)
+names_rise : (files : List Source) → ((k : ℕ) → k + 1 < length files → IsNoLater (name_at files k) (name_at files (k + 1)))
+    → Rises IsNoLater (map name_of files)
 names_rise files up k d h =
     let names = map name_of files in
     let room : k + 1 < length files = omega (arith, h, length-map files name_of) in
-    subst (λ n. IsNoLater n (get_or names (k + 1) d)) (get_or_default names k [] d (omega (arith, h))) (subst (IsNoLater (name_at files k)) (get_or_default names (k + 1) [] d h) (up k room))
+    subst (λ n. IsNoLater n (get_or names (k + 1) d)) (get_or_default names k [] d (omega (arith, h)))
+    (subst (IsNoLater (name_at files k)) (get_or_default names (k + 1) [] d h) (up k room))
 
 -- sorted sources have one list of names, also where names are the same
 pub one_names : (sources f g : List Source) → AreSorted sources f → AreSorted sources g → map name_of f ≡ map name_of g
@@ -149,7 +153,8 @@ none_twice sources f g k order sorted below twice =
     let names : map name_of g ≡ map name_of f = one_names sources g f sorted (record { all = order.all; rises = λ j h. less_greater _ (order.rises j h) }) in
     let room : k + 1 < length f = (let l = length-map f name_of in let m = length-map g name_of in let n = ap length names in omega (arith, below, l, m, n)) in
     let same : name_at f k ≡ name_at f (k + 1) = pair_moved g f k names twice in
-    less_itself (slice_cmp nat_cmp (name_at f k) (name_at f (k + 1))) (ap (slice_cmp nat_cmp (name_at f k)) (sym same) ∙ tied_itself nat_list_cmp_total (name_at f k)) (order.rises k room)
+    less_itself (slice_cmp nat_cmp (name_at f k) (name_at f (k + 1)))
+    (ap (slice_cmp nat_cmp (name_at f k)) (sym same) ∙ tied_itself nat_list_cmp_total (name_at f k)) (order.rises k room)
 
 pub none_repeated : (sources f g : List Source) (k : ℕ) → AreByName sources f → AreSorted sources g → IsFirstRepeated g k → ⊥
 none_repeated sources f g k order sorted twice = none_twice sources f g k order sorted twice.below twice.same

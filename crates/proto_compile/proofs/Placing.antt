@@ -63,10 +63,12 @@ one_named files rise j k s t js kt e = by (cases_eq j k) (cases_lt j k)
 
 -- ---- faults of a file
 
-at_start : (limits : Limits) (sources : List Source) (file : List ℕ) → (file ≡ []) ⊎ ((s : Source) × Contains sources s × (name_of s ≡ file)) → IsPlaced limits sources file start
+at_start : (limits : Limits) (sources : List Source) (file : List ℕ) → (file ≡ []) ⊎ ((s : Source) × Contains sources s × (name_of s ≡ file))
+    → IsPlaced limits sources file start
 at_start limits sources file of_source = record { of_source = of_source; within = λ s here named. omega arith; short = omega arith }
 
-in_source : (limits : Limits) (sources files : List Source) (k : ℕ) (s : Source) (file : List ℕ) (place : Place) → AreByName sources files → Stands files k s → name_of s ≡ file → IsInside limits (text_of s) place → IsPlaced limits sources file place
+in_source : (limits : Limits) (sources files : List Source) (k : ℕ) (s : Source) (file : List ℕ) (place : Place) → AreByName sources files → Stands files k s
+    → name_of s ≡ file → IsInside limits (text_of s) place → IsPlaced limits sources file place
 in_source limits sources files k s file place order at name inside = record {
   of_source = inr (s, is_source sources files k s order.all at, name);
   within = λ t here named.
@@ -76,14 +78,16 @@ in_source limits sources files k s file place order at name inside = record {
 }
 
 -- the start of the file of a position
-at_start_of : (limits : Limits) (sources files : List Source) (k : ℕ) (file : List ℕ) → IsPermutation sources files → k < length files → name_at files k ≡ file → IsPlaced limits sources file start
+at_start_of : (limits : Limits) (sources files : List Source) (k : ℕ) (file : List ℕ) → IsPermutation sources files → k < length files → name_at files k ≡ file
+    → IsPlaced limits sources file start
 at_start_of limits sources files k file same below name =
     let (s, at) = item_at files k below in
     at_start limits sources file (inr (s, is_source sources files k s same at, sym (name_is files k s at) ∙ name))
 
 -- ---- faults of a descriptor
 
-described_at : (limits : Limits) (files : List Source) (descs : List FileDesc) → AllZip (SourceDescribes limits) files descs → (a : ℕ) (desc : FileDesc) → StandsDesc descs a desc → (s : Source) × Stands files a s × SourceDescribes limits s desc
+described_at : (limits : Limits) (files : List Source) (descs : List FileDesc) → AllZip (SourceDescribes limits) files descs → (a : ℕ) (desc : FileDesc)
+    → StandsDesc descs a desc → (s : Source) × Stands files a s × SourceDescribes limits s desc
 described_at limits [] [] all a desc at = absurd (omega (arith, at.0))
 described_at limits [] (d ∷ descs) all a desc at = absurd all
 described_at limits (s ∷ files) [] all a desc at = absurd all
@@ -92,14 +96,16 @@ described_at limits (s ∷ files) (d ∷ descs) all (suc a) desc at =
     let (t, there, is) = described_at limits files descs all.1 a desc (omega (arith, at.0), at.1) in
     (t, (omega (arith, there.0), there.1), is)
 
-same_name : (limits : Limits) (files : List Source) (descs : List FileDesc) → AllZip (SourceDescribes limits) files descs → (a : ℕ) → name_at files a ≡ imports.name_at descs a
+same_name : (limits : Limits) (files : List Source) (descs : List FileDesc) → AllZip (SourceDescribes limits) files descs → (a : ℕ)
+    → name_at files a ≡ imports.name_at descs a
 same_name limits files descs all a = ap (λ (ns : List (List ℕ)). get_or ns a []) (sym (same_names limits files descs all))
 
 -- wherever the descriptor's places lie, this one does
 abbrev LiesWith : FileDesc → Place → Type 0
 LiesWith desc place = (n : ℕ) → AtMost n (places_of desc) → Placed n place
 
-in_desc : (limits : Limits) (sources files : List Source) (descs : List FileDesc) (a : ℕ) (desc : FileDesc) (place : Place) → AreByName sources files → AllZip (SourceDescribes limits) files descs
+in_desc : (limits : Limits) (sources files : List Source) (descs : List FileDesc) (a : ℕ) (desc : FileDesc) (place : Place) → AreByName sources files
+    → AllZip (SourceDescribes limits) files descs
     → StandsDesc descs a desc → LiesWith desc place → IsPlaced limits sources (imports.name_at descs a) place
 in_desc limits sources files descs a desc place order all at inside =
     let (s, there, is) = described_at limits files descs all a desc at in
@@ -111,14 +117,16 @@ in_desc limits sources files descs a desc place order all at inside =
 imports_are : (descs : List FileDesc) (a : ℕ) (desc : FileDesc) → StandsDesc descs a desc → imports.imports_at descs a ≡ desc.imports
 imports_are descs a desc at = get_or-map imports.imports_of descs a desc [] at.0 ∙ ap imports.imports_of at.1
 
-bad_placed : (descs : List FileDesc) (a : ℕ) (desc : FileDesc) (place : Place) (kind : Kind) → StandsDesc descs a desc → imports.IsBad descs a place kind → LiesWith desc place
+bad_placed : (descs : List FileDesc) (a : ℕ) (desc : FileDesc) (place : Place) (kind : Kind) → StandsDesc descs a desc → imports.IsBad descs a place kind
+    → LiesWith desc place
 bad_placed descs a desc place kind at (i, here, is, wrong) n all =
     let (k, below, there) = subst (λ (is : List ImportDesc). Contains is i) (imports_are descs a desc at) here in
     subst (Placed n) is (standing (λ (j : ImportDesc). Placed n j.place) desc.imports k i (imports_at n desc all) (below, there))
 
 -- ---- names
 
-occurrence_in : (first : ℕ) (descs : List FileDesc) (o : Occurrence) → Contains (occurrences_from first descs) o → (k : ℕ) × (desc : FileDesc) × StandsDesc descs k desc × Contains (occurrences_of (first + k) desc) o
+occurrence_in : (first : ℕ) (descs : List FileDesc) (o : Occurrence) → Contains (occurrences_from first descs) o
+    → (k : ℕ) × (desc : FileDesc) × StandsDesc descs k desc × Contains (occurrences_of (first + k) desc) o
 occurrence_in first [] o (j, inside, is) = absurd (omega (arith, inside))
 occurrence_in first (d ∷ descs) o here = elim (Contains-append_cases (occurrences_of first d) (occurrences_from (first + 1) descs) o here) [
   | inl own ↦ (let at : first ≡ first + 0 = omega arith in (0, d, (omega arith, refl), subst (λ m. Contains (occurrences_of m d) o) at own))
@@ -129,9 +137,11 @@ occurrence_in first (d ∷ descs) o here = elim (Contains-append_cases (occurren
 ]
 
 occurrence_at : (n file : ℕ) (desc : FileDesc) (o : Occurrence) → Contains (occurrences_of file desc) o → AtMost n (places_of desc) → OccurrenceAt n file o
-occurrence_at n file desc o (j, below, there) all = standing (OccurrenceAt n file) (occurrences_of file desc) j o (occurrences_at n file desc all) (below, there)
+occurrence_at n file desc o (j, below, there) all =
+    standing (OccurrenceAt n file) (occurrences_of file desc) j o (occurrences_at n file desc all) (below, there)
 
-repeated_placed : (limits : Limits) (sources files : List Source) (descs : List FileDesc) (a : ℕ) (place : Place) → AreByName sources files → AllZip (SourceDescribes limits) files descs → IsRepeated descs limits a place
+repeated_placed : (limits : Limits) (sources files : List Source) (descs : List FileDesc) (a : ℕ) (place : Place) → AreByName sources files
+    → AllZip (SourceDescribes limits) files descs → IsRepeated descs limits a place
     → IsPlaced limits sources (imports.name_at descs a) place
 repeated_placed limits sources files descs a place order all repeated =
     let (o, twice, in_a, at_place) = repeated.twice.found in
@@ -145,46 +155,58 @@ repeated_placed limits sources files descs a place order all repeated =
 
 -- ---- types
 
-reference_placed : (os : List Occurrence) (Seen : ℕ → Type 0) (n : ℕ) (x : Spot) (r : Reference) → ReferenceAt n r → ReferenceBreaks os Seen r x → SpotWithin n x
+reference_placed : (os : List Occurrence) (Seen : ℕ → Type 0) (n : ℕ) (x : Spot) (r : Reference) → ReferenceAt n r → ReferenceBreaks os Seen r x
+    → SpotWithin n x
 reference_placed os Seen n x r at (inl missing) = at_spot n r.place _ x at.0 missing.1
 reference_placed os Seen n x r at (inr (inl other)) = at_spot n r.place _ x at.0 other.2
-reference_placed os Seen n x r at (inr (inr (message, o, (k, below, there), packed, is))) = at_spot n o.place _ x (standing (OptionAt n) r.options k o at.1 (below, there)) is
+reference_placed os Seen n x r at (inr (inr (message, o, (k, below, there), packed, is))) =
+    at_spot n o.place _ x (standing (OptionAt n) r.options k o at.1 (below, there)) is
 
-types_placed : (os : List Occurrence) (Seen : ℕ → Type 0) (desc : FileDesc) (place : Place) (kind : Kind) → TypesBreak os Seen desc (spot place kind) → LiesWith desc place
+types_placed : (os : List Occurrence) (Seen : ℕ → Type 0) (desc : FileDesc) (place : Place) (kind : Kind) → TypesBreak os Seen desc (spot place kind)
+    → LiesWith desc place
 types_placed os Seen desc place kind broken n all =
-    each_within (ReferenceAt n) (ReferenceBreaks os Seen) n (references desc) (spot place kind) (references_at n desc all) (reference_placed os Seen n (spot place kind)) broken
+    each_within (ReferenceAt n) (ReferenceBreaks os Seen) n (references desc) (spot place kind) (references_at n desc all)
+    (reference_placed os Seen n (spot place kind)) broken
 
-typed_names : (links : Linked) (index : Index) (a : ℕ) (fs gs : List FileDesc) → AreTypedFrom links index a fs gs → map imports.name_of gs ≡ map imports.name_of fs
+typed_names : (links : Linked) (index : Index) (a : ℕ) (fs gs : List FileDesc) → AreTypedFrom links index a fs gs
+    → map imports.name_of gs ≡ map imports.name_of fs
 typed_names links index a [] [] all = refl
 typed_names links index a [] (g ∷ gs) all = absurd all
 typed_names links index a (f ∷ fs) [] all = absurd all
 typed_names links index a (f ∷ fs) (g ∷ gs) all =
-    ap (λ n. n ∷ map imports.name_of gs) (ap imports.name_of all.0.resolved.same) ∙ ap (λ ns. imports.name_of f ∷ ns) (typed_names links index (a + 1) fs gs all.1)
+    ap (λ n. n ∷ map imports.name_of gs) (ap imports.name_of all.0.resolved.same)
+    ∙ ap (λ ns. imports.name_of f ∷ ns) (typed_names links index (a + 1) fs gs all.1)
 
 typed_length : (links : Linked) (index : Index) (a : ℕ) (fs gs : List FileDesc) → AreTypedFrom links index a fs gs → length gs ≡ length fs
 typed_length links index a fs gs all = sym (length-map gs imports.name_of) ∙ ap length (typed_names links index a fs gs all) ∙ length-map fs imports.name_of
 
 -- ---- all faults
 
-pub placed : (limits : Limits) (sources : List Source) (pass : ℕ) (file : List ℕ) (step : ℕ) (place : Place) (kind : Kind) → IsFirstFault limits sources pass file step place kind → IsPlaced limits sources file place
+pub placed : (limits : Limits) (sources : List Source) (pass : ℕ) (file : List ℕ) (step : ℕ) (place : Place) (kind : Kind)
+    → IsFirstFault limits sources pass file step place kind → IsPlaced limits sources file place
 placed limits sources _ _ _ _ _ (too_many_files many) = at_start limits sources [] (inl refl)
-placed limits sources _ _ _ _ _ (file_name_twice files k few sorted first) = at_start_of limits sources files k (name_at files k) sorted.all (omega (arith, first.below)) refl
+placed limits sources _ _ _ _ _ (file_name_twice files k few sorted first) =
+    at_start_of limits sources files k (name_at files k) sorted.all (omega (arith, first.below)) refl
 placed limits sources _ _ _ _ _ (in_file files descs k s step place kind few order so_far at fault) =
     in_source limits sources files k s (name_of s) place order at refl (fault_inside limits (name_of s) (text_of s) step place kind fault)
 placed limits sources _ _ _ _ _ (in_imports files descs a place kind described first) =
     let (desc, at) = item_at descs a (bad_within descs a place kind first) in
     in_desc limits sources files descs a desc place described.by_name described.each at (bad_placed descs a desc place kind at first.bad)
 placed limits sources _ _ _ _ _ (too_many_names files descs described none many) = at_start limits sources [] (inl refl)
-placed limits sources _ _ _ _ _ (name_twice files descs a place described none repeated) = repeated_placed limits sources files descs a place described.by_name described.each repeated
+placed limits sources _ _ _ _ _ (name_twice files descs a place described none repeated) =
+    repeated_placed limits sources files descs a place described.by_name described.each repeated
 placed limits sources _ _ _ _ _ (in_types files descs links index a desc place kind analysed before at least) =
     in_desc limits sources files descs a desc place analysed.described.by_name analysed.described.each at (types_placed _ _ desc place kind least.found)
 placed limits sources _ _ _ _ _ (descriptor_too_long files typed links index a desc resolved short at long) =
     let described = resolved.analysed.described in
     let names = typed_names links index 0 resolved.descs typed resolved.each in
-    let below : a < length files = omega (arith, at.0, typed_length links index 0 resolved.descs typed resolved.each, same_length limits files resolved.descs described.each) in
-    at_start_of limits sources files a (imports.name_at typed a) described.by_name.all below (same_name limits files resolved.descs described.each a ∙ ap (λ (ns : List (List ℕ)). get_or ns a []) (sym names))
+    let below : a < length files =
+    omega (arith, at.0, typed_length links index 0 resolved.descs typed resolved.each, same_length limits files resolved.descs described.each) in
+    at_start_of limits sources files a (imports.name_at typed a) described.by_name.all below
+    (same_name limits files resolved.descs described.each a ∙ ap (λ (ns : List (List ℕ)). get_or ns a []) (sym names))
 placed limits sources _ _ _ _ _ (set_too_long c written long) = at_start limits sources [] (inl refl)
 
-pub refusal_placed : (limits : Limits) (sources : List Source) (e : CompileError) → IsRefusal (IsFirstFault limits sources) e → IsRefusal (λ pass file step place kind. IsPlaced limits sources file place) e
+pub refusal_placed : (limits : Limits) (sources : List Source) (e : CompileError) → IsRefusal (IsFirstFault limits sources) e
+    → IsRefusal (λ pass file step place kind. IsPlaced limits sources file place) e
 refusal_placed limits sources (errors.First fault) is = placed limits sources fault.pass (string_bytes fault.file) fault.step fault.place fault.kind is
 refusal_placed limits sources errors.NoMemory is = tt

@@ -21,7 +21,8 @@ not_less_itself : (xs : List ℕ) → slice_cmp nat_cmp xs xs ≡ Less → ⊥
 not_less_itself xs = less_itself (slice_cmp nat_cmp xs xs) (nat_list_cmp_total.antisymm xs xs)
 
 -- names at a distance
-names_by : (files : List Source) → NamesRise files → (i d : ℕ) → i + suc d < length files → slice_cmp nat_cmp (name_at files i) (name_at files (i + suc d)) ≡ Less
+names_by : (files : List Source) → NamesRise files → (i d : ℕ) → i + suc d < length files
+    → slice_cmp nat_cmp (name_at files i) (name_at files (i + suc d)) ≡ Less
 names_by files rise i zero h = rise i h
 names_by files rise i (suc d) h =
     let step : slice_cmp nat_cmp (name_at files (i + suc d)) (name_at files (i + suc d + 1)) ≡ Less = rise (i + suc d) (omega arith) in
@@ -37,13 +38,15 @@ names_differ files rise i j h inside e =
     not_less_itself (name_at files j) (subst (λ xs. slice_cmp nat_cmp xs (name_at files j) ≡ Less) e less)
 
 -- files named as the first sources are none of the next one's name
-pub fresh : (sources : List Source) (files : List CompiledFile) (n : ℕ) → NamesRise sources → n < length sources → length files ≡ n → map file_name files ≡ take n (map name_of sources) → (a : ℕ) → IsNamed files (name_at sources n) a → ⊥
+pub fresh : (sources : List Source) (files : List CompiledFile) (n : ℕ) → NamesRise sources → n < length sources → length files ≡ n
+    → map file_name files ≡ take n (map name_of sources) → (a : ℕ) → IsNamed files (name_at sources n) a → ⊥
 fresh sources files n rise h len names a (below, is) =
     let under : a < n = omega (arith, len, below) in
     names_differ sources rise a n under h (sym (get_or-take n (map name_of sources) a [] under) ∙ sym (ap (λ (ns : List (List ℕ)). get_or ns a []) names) ∙ is)
 
 -- one file has a name
-pub named_once : (sources : List Source) (files : List CompiledFile) → NamesRise sources → map file_name files ≡ map name_of sources → (name : List ℕ) (a b : ℕ) → IsNamed files name a → IsNamed files name b → a ≡ b
+pub named_once : (sources : List Source) (files : List CompiledFile) → NamesRise sources → map file_name files ≡ map name_of sources → (name : List ℕ) (a b : ℕ)
+    → IsNamed files name a → IsNamed files name b → a ≡ b
 named_once sources files rise names name a b na nb = by (cases_eq a b) (cases_lt a b)
   where
     inside : (c : ℕ) → c < length files → c < length sources
@@ -62,13 +65,17 @@ named_once sources files rise names name a b na nb = by (cases_eq a b) (cases_lt
 abbrev pub entry : List ℕ → List ℕ → CompiledFile
 entry name bytes = record { name = name; bytes = bytes }
 
-pub names_more : (sources : List Source) (files : List CompiledFile) (n : ℕ) (bytes : List ℕ) → map file_name files ≡ take n (map name_of sources) → n < length sources → map file_name (files ++ entry (name_at sources n) bytes ∷ []) ≡ take (n + 1) (map name_of sources)
+pub names_more : (sources : List Source) (files : List CompiledFile) (n : ℕ) (bytes : List ℕ) → map file_name files ≡ take n (map name_of sources)
+    → n < length sources → map file_name (files ++ entry (name_at sources n) bytes ∷ []) ≡ take (n + 1) (map name_of sources)
 names_more sources files n bytes names h =
     let l = length-map sources name_of in
-    map-append file_name files (entry (name_at sources n) bytes ∷ []) ∙ ap (λ (ns : List (List ℕ)). ns ++ name_at sources n ∷ []) names ∙ sym (take_more (map name_of sources) n [] (omega (arith, h, l)))
+    map-append file_name files (entry (name_at sources n) bytes ∷ []) ∙ ap (λ (ns : List (List ℕ)). ns ++ name_at sources n ∷ []) names
+    ∙ sym (take_more (map name_of sources) n [] (omega (arith, h, l)))
 
-pub bytes_more : (files : List CompiledFile) (yielded : List (Vec ℕ Global)) (name : List ℕ) (bytes : Vec ℕ Global) → map file_bytes files ≡ map items_of yielded → map file_bytes (files ++ entry name (items_of bytes) ∷ []) ≡ map items_of (yielded ++ bytes ∷ [])
-bytes_more files yielded name bytes all = map-append file_bytes files (entry name (items_of bytes) ∷ []) ∙ ap (λ (bs : List (List ℕ)). bs ++ items_of bytes ∷ []) all ∙ sym (map-append items_of yielded (bytes ∷ []))
+pub bytes_more : (files : List CompiledFile) (yielded : List (Vec ℕ Global)) (name : List ℕ) (bytes : Vec ℕ Global)
+    → map file_bytes files ≡ map items_of yielded → map file_bytes (files ++ entry name (items_of bytes) ∷ []) ≡ map items_of (yielded ++ bytes ∷ [])
+bytes_more files yielded name bytes all = map-append file_bytes files (entry name (items_of bytes) ∷ [])
+    ∙ ap (λ (bs : List (List ℕ)). bs ++ items_of bytes ∷ []) all ∙ sym (map-append items_of yielded (bytes ∷ []))
 
 -- as many files as items so far
 pub same_count : (files : List CompiledFile) (yielded : List (Vec ℕ Global)) → map file_bytes files ≡ map items_of yielded → length files ≡ length yielded

@@ -42,7 +42,9 @@ short_services : (n : ℕ) (os : List Occurrence) → AreShort n os → (name : 
 short_services n [] short name (k, below, is) = absurd (omega (arith, below))
 short_services n (o ∷ os) short name contains = by (is_service_kind o.kind) refl contains (short_services n os (short_rest n o os short) name)
   where
-    by : (b : Bool) → is_service_kind o.kind ≡ b → Contains (map name_of (cond b (o ∷ filter (λ p. is_service_kind p.kind) os) (filter (λ p. is_service_kind p.kind) os))) name → (Contains (services_of os) name → length name ≤ n) → length name ≤ n
+    by : (b : Bool) → is_service_kind o.kind ≡ b → Contains
+        (map name_of (cond b (o ∷ filter (λ p. is_service_kind p.kind) os) (filter (λ p. is_service_kind p.kind) os))) name
+        → (Contains (services_of os) name → length name ≤ n) → length name ≤ n
     by true service has rest = elim (in_cons (name_of o) (services_of os) name has) [
       | inl same ↦ subst (λ (xs : List ℕ). length xs ≤ n) same (short o (0, omega arith, refl) service)
       | inr more ↦ rest more
@@ -53,7 +55,8 @@ few_services : (os : List Occurrence) → length (services_of os) ≤ length os
 few_services [] = omega arith
 few_services (o ∷ os) = by (is_service_kind o.kind) (few_services os)
   where
-    by : (b : Bool) → length (services_of os) ≤ length os → length (map name_of (cond b (o ∷ filter (λ p. is_service_kind p.kind) os) (filter (λ p. is_service_kind p.kind) os))) ≤ suc (length os)
+    by : (b : Bool) → length (services_of os) ≤ length os → length
+        (map name_of (cond b (o ∷ filter (λ p. is_service_kind p.kind) os) (filter (λ p. is_service_kind p.kind) os))) ≤ suc (length os)
     by true rest = omega (arith, rest)
     by false rest = omega (arith, rest)
 
@@ -68,34 +71,46 @@ package_short n file (Some p) o has service =
 not_long : (a b : ℕ) → (a < b → ⊥) → b ≤ a
 not_long a b none = elim (cases_lt a b) [ inl less ↦ absurd (none less) | inr most ↦ most ]
 
-file_short : (limits : Limits) (a : ℕ) (s : Source) (desc : FileDesc) → SourceDescribes limits s desc → AreShort (limit_of limits limit.FullNameBytes) (occurrences_of a desc)
-file_short limits a s desc (file, is, unbroken, made) o has service = elim (Contains-append_cases (package_occurrences a desc.«package») (map (declared_occurrence a) (declared_by desc)) o has) [
-  | inl named ↦ package_short (limit_of limits limit.FullNameBytes) a desc.«package» o named service
-  | inr declared ↦ (
-      let d = in_map (declared_occurrence a) (declared_by desc) o declared in
-      let within = not_long (limit_of limits limit.FullNameBytes) (length (full_name d.0)) (λ long. unbroken (spot d.0.place kind.NameTooLong)
-      (name_long (d.1.0, d.0, subst (λ (f : FileDesc). (d.1.0 < length (declared_by f)) × (get_or (declared_by f) d.1.0 d.0 ≡ d.0)) made (d.1.1, d.1.2), (inr long, refl)))) in
-      subst (λ (x : Occurrence). length x.name ≤ limit_of limits limit.FullNameBytes) d.2 within)
-]
+file_short : (limits : Limits) (a : ℕ) (s : Source) (desc : FileDesc) → SourceDescribes limits s desc
+    → AreShort (limit_of limits limit.FullNameBytes) (occurrences_of a desc)
+file_short limits a s desc (file, is, unbroken, made) o has service =
+    elim (Contains-append_cases (package_occurrences a desc.«package») (map (declared_occurrence a) (declared_by desc)) o has) [
+      | inl named ↦ package_short (limit_of limits limit.FullNameBytes) a desc.«package» o named service
+      | inr declared ↦ (
+          let d = in_map (declared_occurrence a) (declared_by desc) o declared in
+          let within = not_long (limit_of limits limit.FullNameBytes) (length (full_name d.0)) (λ long. unbroken (spot d.0.place kind.NameTooLong)
+          (name_long (
+            d.1.0,
+            d.0,
+            subst (λ (f : FileDesc). (d.1.0 < length (declared_by f)) × (get_or (declared_by f) d.1.0 d.0 ≡ d.0)) made (d.1.1, d.1.2),
+            (inr long, refl),
+          ))) in
+          subst (λ (x : Occurrence). length x.name ≤ limit_of limits limit.FullNameBytes) d.2 within)
+    ]
 
-files_short : (limits : Limits) (a : ℕ) (files : List Source) (descs : List FileDesc) → AllZip (SourceDescribes limits) files descs → AreShort (limit_of limits limit.FullNameBytes) (occurrences_from a descs)
+files_short : (limits : Limits) (a : ℕ) (files : List Source) (descs : List FileDesc) → AllZip (SourceDescribes limits) files descs
+    → AreShort (limit_of limits limit.FullNameBytes) (occurrences_from a descs)
 files_short limits a files [] all o (k, below, is) service = absurd (omega (arith, below))
 files_short limits a [] (desc ∷ descs) all o has service = absurd all
-files_short limits a (s ∷ files) (desc ∷ descs) all o has service = elim (Contains-append_cases (occurrences_of a desc) (occurrences_from (a + 1) descs) o has) [
-  | inl first ↦ file_short limits a s desc all.0 o first service
-  | inr rest ↦ files_short limits (a + 1) files descs all.1 o rest service
-]
+files_short limits a (s ∷ files) (desc ∷ descs) all o has service =
+    elim (Contains-append_cases (occurrences_of a desc) (occurrences_from (a + 1) descs) o has) [
+      | inl first ↦ file_short limits a s desc all.0 o first service
+      | inr rest ↦ files_short limits (a + 1) files descs all.1 o rest service
+    ]
 
 -- ---- the services of an index
 
-pub index_short : (limits : Limits) (files : List Source) (descs : List FileDesc) (index : Index) → AllZip (SourceDescribes limits) files descs → Indexes descs limits index → index.services ≡ services_of index.occurrences
+pub index_short : (limits : Limits) (files : List Source) (descs : List FileDesc) (index : Index) → AllZip (SourceDescribes limits) files descs
+    → Indexes descs limits index → index.services ≡ services_of index.occurrences
     → (name : List ℕ) → Contains index.services name → length name ≤ limit_of limits limit.FullNameBytes
 index_short limits files descs index all is services name has =
     short_services (limit_of limits limit.FullNameBytes) index.occurrences
-    (λ o inside. files_short limits 0 files descs all o (Contains-permutation index.occurrences (occurrences descs) o (IsPermutation-sym (occurrences descs) index.occurrences is.all) inside))
+    (λ o inside. files_short limits 0 files descs all o (Contains-permutation index.occurrences (occurrences descs) o
+    (IsPermutation-sym (occurrences descs) index.occurrences is.all) inside))
     name (subst (λ (ns : List (List ℕ)). Contains ns name) services has)
 
-pub index_few : (limits : Limits) (descs : List FileDesc) (index : Index) → Indexes descs limits index → index.services ≡ services_of index.occurrences → length index.services ≤ limit_of limits limit.Names
+pub index_few : (limits : Limits) (descs : List FileDesc) (index : Index) → Indexes descs limits index → index.services ≡ services_of index.occurrences
+    → length index.services ≤ limit_of limits limit.Names
 index_few limits descs index is services =
     let few = few_services index.occurrences in
     let size = length_permutation (occurrences descs) index.occurrences is.all in

@@ -29,7 +29,8 @@ less_left Equal g e = absurd (e refl)
 less_left Greater g e = absurd (g refl)
 
 -- sorted names that differ rise
-pub strictly : (sources files : List Source) → AreSorted sources files → ((k : ℕ) → k + 1 < length files → name_at files k ≢ name_at files (k + 1)) → AreByName sources files
+pub strictly : (sources files : List Source) → AreSorted sources files → ((k : ℕ) → k + 1 < length files → name_at files k ≢ name_at files (k + 1))
+    → AreByName sources files
 strictly sources files sorted differ = record {
   all = sorted.all;
   rises = λ k h. less_left _ (sorted.rises k h) (λ e. differ k h (exact_bytes _ _ e));
@@ -45,18 +46,23 @@ first_of [] k h = absurd (omega (arith, h))
 first_of (s ∷ files) k h = s
 
 -- sources in an order that begins with the names
-pub sorted_names : (cmp : Source → Source → Ordering) (files : List Source) → ((a b : Source) → is_lt (cmp a b) ≡ false → is_lt (slice_cmp nat_cmp (name_of a) (name_of b)) ≡ false) → IsSorted cmp files
+pub sorted_names : (cmp : Source → Source → Ordering) (files : List Source)
+    → ((a b : Source) → is_lt (cmp a b) ≡ false → is_lt (slice_cmp nat_cmp (name_of a) (name_of b)) ≡ false) → IsSorted cmp files
     → (k : ℕ) → k + 1 < length files → slice_cmp nat_cmp (name_at files k) (name_at files (k + 1)) ≢ Greater
 sorted_names cmp files finer up k h =
     let d = first_of files (k + 1) h in
-    rw (name_is files k d (omega (arith, h)), name_is files (k + 1) d h) (not_greater (name_of (get_or files k d)) (name_of (get_or files (k + 1) d)) (finer (get_or files (k + 1) d) (get_or files k d) (up k d (omega arith) h)))
+    rw (name_is files k d (omega (arith, h)), name_is files (k + 1) d h)
+    (not_greater (name_of (get_or files k d)) (name_of (get_or files (k + 1) d))
+    (finer (get_or files (k + 1) d) (get_or files k d) (up k d (omega arith) h)))
 
 -- the first two neighbours of one name
-pub first_pair : (files : List Source) (n : ℕ) → 0 < n → n < length files → name_at files (n - 1) ≡ name_at files (n - 1 + 1) → ((j : ℕ) → j + 1 < n → name_at files j ≢ name_at files (j + 1)) → IsFirstRepeated files (n - 1)
+pub first_pair : (files : List Source) (n : ℕ) → 0 < n → n < length files → name_at files (n - 1) ≡ name_at files (n - 1 + 1)
+    → ((j : ℕ) → j + 1 < n → name_at files j ≢ name_at files (j + 1)) → IsFirstRepeated files (n - 1)
 first_pair files n some h same before = record { below = omega (arith, some, h); same = same; first = λ j below. before j (omega (arith, below, some)) }
 
 -- one more pair of neighbours that differ
-pub pairs_more : (files : List Source) (n : ℕ) → 0 < n → (name_at files (n - 1) ≡ name_at files (n - 1 + 1) → ⊥) → ((j : ℕ) → j + 1 < n → name_at files j ≢ name_at files (j + 1)) → (j : ℕ) → j + 1 < n + 1 → name_at files j ≢ name_at files (j + 1)
+pub pairs_more : (files : List Source) (n : ℕ) → 0 < n → (name_at files (n - 1) ≡ name_at files (n - 1 + 1) → ⊥)
+    → ((j : ℕ) → j + 1 < n → name_at files j ≢ name_at files (j + 1)) → (j : ℕ) → j + 1 < n + 1 → name_at files j ≢ name_at files (j + 1)
 pairs_more files n some other before j below = elim (cases_lt (j + 1) n) [
   | inl less ↦ before j less
   | inr over ↦ (let first : n - 1 ≡ j = omega (arith, over, below) in subst (λ i. name_at files i ≢ name_at files (i + 1)) first other)

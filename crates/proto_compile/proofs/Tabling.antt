@@ -36,7 +36,8 @@ pushed [] key value none = refl
 pushed (e ∷ es) key value none = by (string_eq key e.0) refl (pushed es key value (not_first (compiled_file e) (map compiled_file es) (string_bytes key) none))
   where
     by : (b : Bool) → string_eq key e.0 ≡ b → map compiled_file (insert_entry string_eq es key value) ≡ map compiled_file es ++ compiled_file (key, value) ∷ []
-        → map compiled_file (if b then (e.0, value) ∷ es else e ∷ insert_entry string_eq es key value) ≡ compiled_file e ∷ map compiled_file es ++ compiled_file (key, value) ∷ []
+        → map compiled_file (if b then (e.0, value) ∷ es else e ∷ insert_entry string_eq es key value) ≡ compiled_file e ∷ map compiled_file es
+        ++ compiled_file (key, value) ∷ []
     by true same rest = absurd (none 0 (omega arith, sym ((bytes_eq-Decides (string_bytes key) (string_bytes e.0)).0 same)))
     by false other rest = ap (λ fs. compiled_file e ∷ fs) rest
 
@@ -54,7 +55,8 @@ none_named [] name none a (below, is) = omega (arith, below)
 none_named (e ∷ es) name none a (below, is) =
     let keys = length-map (e ∷ es) key_of in
     let files = length-map (e ∷ es) compiled_file in
-    let past : length (keys_of (e ∷ es)) ≤ position_or_len (has_name name) (keys_of (e ∷ es)) = ltb-false _ _ (not_some (nat_lt (position_or_len (has_name name) (keys_of (e ∷ es))) (length (keys_of (e ∷ es)))) none) in
+    let past : length (keys_of (e ∷ es)) ≤ position_or_len (has_name name) (keys_of (e ∷ es)) =
+    ltb-false _ _ (not_some (nat_lt (position_or_len (has_name name) (keys_of (e ∷ es))) (length (keys_of (e ∷ es)))) none) in
     let fails = fails_before_first (has_name name) (keys_of (e ∷ es)) a e.0 (omega (arith, past, keys, files, below)) in
     let at = name_is (e ∷ es) a e (omega (arith, files, below)) in
     true≢false (sym ((bytes_eq-Decides name (string_bytes (get_or (keys_of (e ∷ es)) a e.0))).1 (sym is ∙ at)) ∙ fails)
@@ -72,7 +74,8 @@ one_named (e ∷ es) name a some =
     let below : a < length (e ∷ es) = omega (arith, keys, first.0) in
     (omega (arith, files, below), name_is (e ∷ es) a e below ∙ sym ((bytes_eq-Decides name (string_bytes (get_or (keys_of (e ∷ es)) a e.0))).0 first.1))
 
-pub positioned : (es : List Entry) (name : List ℕ) (o : Option ℕ) → o ≡ position (has_name name) (keys_of es) → MatchOption o ((a : ℕ) → IsNamed (map compiled_file es) name a → ⊥) (IsNamed (map compiled_file es) name)
+pub positioned : (es : List Entry) (name : List ℕ) (o : Option ℕ) → o ≡ position (has_name name) (keys_of es)
+    → MatchOption o ((a : ℕ) → IsNamed (map compiled_file es) name a → ⊥) (IsNamed (map compiled_file es) name)
 positioned es name None is = none_named es name (sym is)
 positioned es name (Some a) is = one_named es name a (sym is)
 

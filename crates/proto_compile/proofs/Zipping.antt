@@ -27,10 +27,12 @@ zip_end R (a ∷ xs) [] x y all r = absurd all
 zip_end R (a ∷ xs) (b ∷ ys) x y all r = (all.0, zip_end R xs ys x y all.1 r)
 
 -- one more of each
-pub zip_more : {X Y : Type 0} (R : X → Y → Type 0) (xs : List X) (k : ℕ) (x : X) (ys : List Y) (y : Y) → k < length xs → x ≡ get_or xs k x → AllZip R (take k xs) ys → R x y → AllZip R (take (k + 1) xs) (ys ++ y ∷ [])
+pub zip_more : {X Y : Type 0} (R : X → Y → Type 0) (xs : List X) (k : ℕ) (x : X) (ys : List Y) (y : Y) → k < length xs → x ≡ get_or xs k x
+    → AllZip R (take k xs) ys → R x y → AllZip R (take (k + 1) xs) (ys ++ y ∷ [])
 zip_more R xs k x ys y h is all r = rw (take_more xs k x h) (subst (λ z. AllZip R (take k xs ++ z ∷ []) (ys ++ y ∷ [])) is (zip_end R (take k xs) ys x y all r))
 
-pub same_names : (limits : Limits) (files : List Source) (descs : List FileDesc) → AllZip (SourceDescribes limits) files descs → map imports.name_of descs ≡ map name_of files
+pub same_names : (limits : Limits) (files : List Source) (descs : List FileDesc) → AllZip (SourceDescribes limits) files descs
+    → map imports.name_of descs ≡ map name_of files
 same_names limits [] [] all = refl
 same_names limits [] (d ∷ descs) all = absurd all
 same_names limits (s ∷ files) [] all = absurd all
@@ -39,10 +41,12 @@ same_names limits (s ∷ files) (d ∷ descs) all =
     ap (λ n. n ∷ map imports.name_of descs) name ∙ ap (λ ns. name_of s ∷ ns) (same_names limits files descs all.1)
 
 -- what is described is in the order of its names
-pub descs_in_order : (limits : Limits) (sources files : List Source) (descs : List FileDesc) → AreByName sources files → AllZip (SourceDescribes limits) files descs → imports.AreInNameOrder descs
+pub descs_in_order : (limits : Limits) (sources files : List Source) (descs : List FileDesc) → AreByName sources files
+    → AllZip (SourceDescribes limits) files descs → imports.AreInNameOrder descs
 descs_in_order limits sources files descs order all k h =
     let names = same_names limits files descs all in
-    let room : k + 1 < length files = (let l = length-map descs imports.name_of in let m = length-map files name_of in let n = ap length names in omega (arith, h, l, m, n)) in
+    let room : k + 1 < length files =
+    (let l = length-map descs imports.name_of in let m = length-map files name_of in let n = ap length names in omega (arith, h, l, m, n)) in
     subst (λ (ns : List (List ℕ)). slice_cmp nat_cmp (get_or ns k []) (get_or ns (k + 1) []) ≡ Less) (sym names) (order.rises k room)
 
 -- ---- files of faults
@@ -77,7 +81,8 @@ pub desc_name : (descs : List FileDesc) (k : ℕ) (d : FileDesc) → k < length 
 desc_name descs k d h = get_or-map imports.name_of descs k d [] h
 
 -- one more of each, read with any default
-pub zip_next : {X Y : Type 0} (R : X → Y → Type 0) (xs : List X) (k : ℕ) (d : X) (ys : List Y) (y : Y) → k < length xs → AllZip R (take k xs) ys → R (get_or xs k d) y → AllZip R (take (k + 1) xs) (ys ++ y ∷ [])
+pub zip_next : {X Y : Type 0} (R : X → Y → Type 0) (xs : List X) (k : ℕ) (d : X) (ys : List Y) (y : Y) → k < length xs → AllZip R (take k xs) ys
+    → R (get_or xs k d) y → AllZip R (take (k + 1) xs) (ys ++ y ∷ [])
 zip_next R xs k d ys y h all r = zip_more R xs k (get_or xs k d) ys y h (get_or_default xs k d (get_or xs k d) h) all r
 
 pub same_length : (limits : Limits) (files : List Source) (descs : List FileDesc) → AllZip (SourceDescribes limits) files descs → length files ≡ length descs

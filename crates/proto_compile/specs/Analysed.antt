@@ -12,7 +12,8 @@ use Rattle.proto_compile.specs.Descriptions.{Describe}
 use Rattle.proto_compile.specs.declared.source.Source.{Source}
 
 -- descriptors with their links, and the index of their names
-pub record IsAnalysed (limits : Limits) (sources files : List Source) (descs : List FileDesc) (links : Linked) (index : Index) : Type 0 where
+pub record IsAnalysed (limits : Limits) (sources files : List Source) (descs : List FileDesc) (links : Linked)
+    (index : Index) : Type 0 where
   pub described : Describe limits sources files descs
   pub linked : AreLinked descs links
   pub indexed : Indexes descs limits index
@@ -38,7 +39,8 @@ abbrev pub AreTypedFrom : Linked → Index → ℕ → List FileDesc → List Fi
 AreTypedFrom links index = AllZipFrom (TypesAt links index)
 
 -- sources without a fault of these passes, with their descriptors resolved
-pub record AreResolved (limits : Limits) (sources files : List Source) (typed : List FileDesc) (links : Linked) (index : Index) : Type 0 where
+pub record AreResolved (limits : Limits) (sources files : List Source) (typed : List FileDesc) (links : Linked)
+    (index : Index) : Type 0 where
   pub descs : List FileDesc
   pub analysed : IsAnalysed limits sources files descs links index
   pub each : AreTypedFrom links index 0 descs typed

@@ -70,7 +70,8 @@ pub record IsSound (c : Compilation) : Type 0 where
   pub once : (name : List ℕ) (a b : ℕ) → IsNamed c.files name a → IsNamed c.files name b → a ≡ b
   pub within : length (set_of c.files c.links) ≤ limit_of c.limits limit.SetBytes
   pub few_services : length c.index.services ≤ limit_of c.limits limit.Names
-  pub short_services : (name : List ℕ) → Contains c.index.services name → length name ≤ limit_of c.limits limit.FullNameBytes
+  pub short_services : (name : List ℕ) → Contains c.index.services name
+      → length name ≤ limit_of c.limits limit.FullNameBytes
 
 -- what some sources are compiled to
 abbrev pub IsOfSources : Compilation → Type 0

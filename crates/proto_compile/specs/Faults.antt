@@ -1,4 +1,5 @@
--- The first fault of sources. A later pass is judged only where every file has passed all earlier ones; within a pass the first is the least by file name,
+-- The first fault of sources. A later pass is judged only where every file has passed all earlier ones; within a pass
+-- the first is the least by file name,
 -- step, place and the number of its kind.
 use Rattle.std.specs.Prelude.{◌≡◌, ◌⊎◌, ℕ, ◌<◌, ◌≤◌, List, [], length, take, string_bytes, slice_index_or, Some, All, Contains}
 use Rattle.std.specs.List.{AllZip}
@@ -37,22 +38,44 @@ StandsDesc descs k desc = (k < length descs) × (slice_index_or descs k desc ≡
 
 -- no file before this one breaks a rule of types
 abbrev pub NoneBreakBefore : Linked → Index → List FileDesc → ℕ → Type 0
-NoneBreakBefore links index descs a = (b : ℕ) (desc : FileDesc) (x : Spot) → b < a → StandsDesc descs b desc → TypesBreakAt links index b desc x → ⊥
+NoneBreakBefore links index descs a =
+    (b : ℕ) (desc : FileDesc) (x : Spot) → b < a → StandsDesc descs b desc → TypesBreakAt links index b desc x → ⊥
 
 -- the first fault, by its pass, file, step, place and kind
-pub data IsFirstFault (limits : Limits) (sources : List Source) : (pass : ℕ) (file : List ℕ) (step : ℕ) (place : Place) (kind : Kind) → Type 0 where
-  too_many_files : limit_of limits limit.Files < length sources → IsFirstFault limits sources 0 [] 0 start kind.TooManyFiles
-  file_name_twice : (files : List Source) (k : ℕ) → length sources ≤ limit_of limits limit.Files → AreSorted sources files → IsFirstRepeated files k → IsFirstFault limits sources 0 (name_at files k) 0 start kind.FileNameTwice
-  in_file : (files : List Source) (descs : List FileDesc) (k : ℕ) (s : Source) (step : ℕ) (place : Place) (what : Kind) → length sources ≤ limit_of limits limit.Files → AreByName sources files
-      → AllZip (SourceDescribes limits) (take k files) descs → Stands files k s → IsLocalFault limits (name_of s) (text_of s) step place what → IsFirstFault limits sources 1 (name_of s) step place what
-  in_imports : (files : List Source) (descs : List FileDesc) (a : ℕ) (place : Place) (what : Kind) → Describe limits sources files descs → imports.IsFirstBad descs a place what → IsFirstFault limits sources 2 (imports.name_at descs a) 0 place what
-  too_many_names : (files : List Source) (descs : List FileDesc) → Describe limits sources files descs → imports.NoneBad descs → limit_of limits limit.Names < length (occurrences descs) → IsFirstFault limits sources 3 [] 0 start kind.TooManyNames
-  name_twice : (files : List Source) (descs : List FileDesc) (a : ℕ) (place : Place) → Describe limits sources files descs → imports.NoneBad descs → IsRepeated descs limits a place → IsFirstFault limits sources 3 (imports.name_at descs a) 0 place kind.NameTwice
-  in_types : (files : List Source) (descs : List FileDesc) (links : Linked) (index : Index) (a : ℕ) (desc : FileDesc) (place : Place) (what : Kind) → IsAnalysed limits sources files descs links index
-      → NoneBreakBefore links index descs a → StandsDesc descs a desc → IsLeast (TypesBreakAt links index a desc) (Some (spot place what)) → IsFirstFault limits sources 4 (imports.name_at descs a) 0 place what
-  descriptor_too_long : (files : List Source) (descs : List FileDesc) (links : Linked) (index : Index) (a : ℕ) (desc : FileDesc) → AreResolved limits sources files descs links index
-      → All (IsShort limits) (take a descs) → StandsDesc descs a desc → limit_of limits limit.DescriptorBytes < length (file_desc_bytes desc) → IsFirstFault limits sources 5 (imports.name_at descs a) 0 start kind.DescriptorTooLong
-  set_too_long : (c : Compilation) → IsWritten limits sources c → limit_of limits limit.SetBytes < length (set_of c.files c.links) → IsFirstFault limits sources 6 [] 0 start kind.SetTooLong
+pub data IsFirstFault (limits : Limits) (sources : List Source) : (pass : ℕ) (file : List ℕ) (step : ℕ) (place : Place)
+    (kind : Kind) → Type 0 where
+  too_many_files : limit_of limits limit.Files < length sources
+      → IsFirstFault limits sources 0 [] 0 start kind.TooManyFiles
+  file_name_twice : (files : List Source) (k : ℕ) → length sources ≤ limit_of limits limit.Files
+      → AreSorted sources files → IsFirstRepeated files k
+      → IsFirstFault limits sources 0 (name_at files k) 0 start kind.FileNameTwice
+  in_file : (files : List Source) (descs : List FileDesc) (k : ℕ) (s : Source) (step : ℕ) (place : Place) (what : Kind)
+      → length sources ≤ limit_of limits limit.Files → AreByName sources files
+      → AllZip (SourceDescribes limits) (take k files) descs → Stands files k s
+      → IsLocalFault limits (name_of s) (text_of s) step place what
+      → IsFirstFault limits sources 1 (name_of s) step place what
+  in_imports : (files : List Source) (descs : List FileDesc) (a : ℕ) (place : Place) (what : Kind)
+      → Describe limits sources files descs → imports.IsFirstBad descs a place what
+      → IsFirstFault limits sources 2 (imports.name_at descs a) 0 place what
+  too_many_names : (files : List Source) (descs : List FileDesc) → Describe limits sources files descs
+      → imports.NoneBad descs → limit_of limits limit.Names < length (occurrences descs)
+      → IsFirstFault limits sources 3 [] 0 start kind.TooManyNames
+  name_twice : (files : List Source) (descs : List FileDesc) (a : ℕ) (place : Place)
+      → Describe limits sources files descs → imports.NoneBad descs → IsRepeated descs limits a place
+      → IsFirstFault limits sources 3 (imports.name_at descs a) 0 place kind.NameTwice
+  in_types : (files : List Source) (descs : List FileDesc) (links : Linked) (index : Index) (a : ℕ) (desc : FileDesc)
+      (place : Place) (what : Kind) → IsAnalysed limits sources files descs links index
+      → NoneBreakBefore links index descs a → StandsDesc descs a desc
+      → IsLeast (TypesBreakAt links index a desc) (Some (spot place what))
+      → IsFirstFault limits sources 4 (imports.name_at descs a) 0 place what
+  descriptor_too_long : (files : List Source) (descs : List FileDesc) (links : Linked) (index : Index) (a : ℕ)
+      (desc : FileDesc) → AreResolved limits sources files descs links index
+      → All (IsShort limits) (take a descs) → StandsDesc descs a desc
+      → limit_of limits limit.DescriptorBytes < length (file_desc_bytes desc)
+      → IsFirstFault limits sources 5 (imports.name_at descs a) 0 start kind.DescriptorTooLong
+  set_too_long : (c : Compilation) → IsWritten limits sources c
+      → limit_of limits limit.SetBytes < length (set_of c.files c.links)
+      → IsFirstFault limits sources 6 [] 0 start kind.SetTooLong
 
 -- the error is for want of memory, or names a fault that is so
 abbrev pub IsRefusal : (ℕ → List ℕ → ℕ → Place → Kind → Type 0) → CompileError → Type 0
@@ -61,12 +84,15 @@ IsRefusal P errors.NoMemory = Unit {0}
 
 -- the error is for want of memory, or names this fault
 abbrev pub Tells : ℕ → List ℕ → ℕ → Place → Kind → CompileError → Type 0
-Tells pass file step place kind (errors.First fault) = (fault.pass ≡ pass) × (string_bytes fault.file ≡ file) × (fault.step ≡ step) × (fault.place ≡ place) × (fault.kind ≡ kind)
+Tells pass file step place kind (errors.First fault) =
+    (fault.pass ≡ pass) × (string_bytes fault.file ≡ file) × (fault.step ≡ step) × (fault.place ≡ place)
+    × (fault.kind ≡ kind)
 Tells pass file step place kind errors.NoMemory = Unit {0}
 
 -- ---- where faults stand
 
--- a fault's file is one of the sources, unless the fault is one of the whole list; its place lies within the text of its file
+-- a fault's file is one of the sources, unless the fault is one of the whole list; its place lies within the text of
+-- its file
 pub record IsPlaced (limits : Limits) (sources : List Source) (file : List ℕ) (place : Place) : Type 0 where
   pub of_source : (file ≡ []) ⊎ ((s : Source) × Contains sources s × (name_of s ≡ file))
   pub within : (s : Source) → Contains sources s → name_of s ≡ file → place.offset ≤ length (text_of s)

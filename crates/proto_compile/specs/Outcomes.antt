@@ -35,7 +35,8 @@ use Rattle.proto_compile.specs.declared.source.Source.{Source}
 
 -- a file breaks no rule of types, and this is what its names of types mean
 abbrev pub AreTypesOf : Linked → Index → ℕ → FileDesc → Vec NamedType Global → Type 0
-AreTypesOf links index a desc types = ((x : Spot) → TypesBreakAt links index a desc x → ⊥) × AllZip (Means index.occurrences (SeenBy links a)) (references desc) types.items
+AreTypesOf links index a desc types = ((x : Spot) → TypesBreakAt links index a desc x → ⊥)
+    × AllZip (Means index.occurrences (SeenBy links a)) (references desc) types.items
 
 -- a descriptor with its types, all of them resolved
 abbrev pub IsTypedWhole : Linked → Index → ℕ → FileDesc → FileDesc → Type 0
@@ -50,14 +51,16 @@ IsDescribed limits s (Err fault.NoMemory) = Unit {0}
 -- what the names of types in the file at a position mean, or the first rule of types that it breaks
 abbrev pub IsResolved : Linked → Index → ℕ → FileDesc → Result (Vec NamedType Global) FileError → Type 0
 IsResolved links index a desc (Ok types) = AreTypesOf links index a desc types
-IsResolved links index a desc (Err (fault.At step place kind)) = (step ≡ 0) × IsLeast (TypesBreakAt links index a desc) (Some (spot place kind))
+IsResolved links index a desc (Err (fault.At step place kind)) =
+    (step ≡ 0) × IsLeast (TypesBreakAt links index a desc) (Some (spot place kind))
 IsResolved links index a desc (Err fault.NoMemory) = Unit {0}
 
 -- the bytes of a descriptor, or that there are too many
 abbrev pub IsWrittenShort : Limits → FileDesc → Result (Vec ℕ Global) FileError → Type 0
 IsWrittenShort limits desc (Ok bytes) = (bytes.items ≡ file_desc_bytes desc) × IsShort limits desc
 IsWrittenShort limits desc (Err (fault.At step place what)) =
-    (step ≡ 0) × (place ≡ start) × (what ≡ kind.DescriptorTooLong) × (limit_of limits limit.DescriptorBytes < length (file_desc_bytes desc))
+    (step ≡ 0) × (place ≡ start) × (what ≡ kind.DescriptorTooLong)
+    × (limit_of limits limit.DescriptorBytes < length (file_desc_bytes desc))
 IsWrittenShort limits desc (Err fault.NoMemory) = Unit {0}
 
 -- ---- the first fault of a pass
@@ -68,7 +71,8 @@ TellsOfFile pass file (fault.At step place what) e = Tells pass file step place 
 TellsOfFile pass file fault.NoMemory e = e ≡ errors.NoMemory
 
 -- no file before this one has a fault, and this is its fault
-pub record IsFirstBad {T : Type 0} (outcomes : List (Result T FileError)) (k step : ℕ) (place : Place) (what : Kind) : Type 0 where
+pub record IsFirstBad {T : Type 0} (outcomes : List (Result T FileError)) (k step : ℕ) (place : Place)
+    (what : Kind) : Type 0 where
   pub well : (ts : List T) × (take k outcomes ≡ map Ok ts)
   pub below : k < length outcomes
   pub bad : slice_index_or outcomes k (Err fault.NoMemory) ≡ Err (fault.At step place what)
@@ -76,4 +80,5 @@ pub record IsFirstBad {T : Type 0} (outcomes : List (Result T FileError)) (k ste
 -- the error is for want of memory, or names the first fault that a pass of this number finds in files
 abbrev pub TellsFirst : {T : Type 0} → ℕ → List Source → List (Result T FileError) → CompileError → Type 0
 TellsFirst number files outcomes =
-    IsRefusal (λ pass file step place what. (k : ℕ) × (pass ≡ number) × (file ≡ name_at files k) × IsFirstBad outcomes k step place what)
+    IsRefusal (λ pass file step place what. (k : ℕ) × (pass ≡ number) × (file ≡ name_at files k)
+    × IsFirstBad outcomes k step place what)

@@ -34,7 +34,13 @@ impl Model for Compiled {
     ghost view = { λ compiled. record { files = compiled.files; links = compiled.links; index = compiled.index; limits = compiled.limits } };
 
     ghost invariant = { λ compiled. IsSound (record { files = compiled.files; links = compiled.links; index = compiled.index; limits = compiled.limits })
-        × IsOfSources (record { files = compiled.files; links = compiled.links; index = compiled.index; limits = compiled.limits }) };
+        × IsOfSources (record {
+          files = compiled.files;
+          links = compiled.links;
+          index =
+              compiled.index;
+          limits = compiled.limits;
+        }) };
 }
 
 impl Compiled {
@@ -49,7 +55,8 @@ impl Compiled {
     /// The position of the file of this name among all of them, in the order of names: its number in the links and in the
     /// index.
     pub fn file_id(&self, name: &str) -> Option<FileId>
-        ensures file { MatchOption result ((a : ℕ) → IsNamed self.now.files name.now a → ⊥) (IsNamed self.now.files name.now) }
+        ensures file { MatchOption result ((a : ℕ) → IsNamed self.now.files name.now a → ⊥)
+            (IsNamed self.now.files name.now) }
         ensures within { IfSome result (λ a. a < count_of self.now.links) }
     {
         self.files.position(name)
@@ -90,9 +97,11 @@ impl Compiled {
     /// A law: the bytes of a file as field 1, and those of all files that it reaches, are no longer than the set.
     pub fn files_are_within_the_set(&self)
         ensures file { (a : ℕ) → a < count_of self.now.links
-            → length (bytes_field 1 (bytes_at self.now.files a)) ≤ length (set_of self.now.files self.now.links) }
+            → length (bytes_field 1 (bytes_at self.now.files a))
+            ≤ length (set_of self.now.files self.now.links) }
         ensures reached { (a : ℕ) → a < count_of self.now.links
-            → length (flat_map (λ b. bytes_field 1 (bytes_at self.now.files b)) (reach_of self.now.links a)) ≤ length (set_of self.now.files self.now.links) }
+            → length (flat_map (λ b. bytes_field 1 (bytes_at self.now.files b))
+            (reach_of self.now.links a)) ≤ length (set_of self.now.files self.now.links) }
     {
         self.is_of_sources();
     }
@@ -100,7 +109,8 @@ impl Compiled {
     /// A law: the names of the files rise, byte by byte.
     pub fn names_rise(&self)
         ensures { (k : ℕ) → k + 1 < length self.now.files
-            → slice_cmp nat_cmp (slice_index_or (map file_name self.now.files) k []) (slice_index_or (map file_name self.now.files) (k + 1) []) ≡ Less }
+            → slice_cmp nat_cmp (slice_index_or (map file_name self.now.files) k [])
+            (slice_index_or (map file_name self.now.files) (k + 1) []) ≡ Less }
     {
         self.is_of_sources();
     }

@@ -79,12 +79,15 @@ where
     G: Gate + Sync,
     ensures compiled { IfOk result (IsCompiled limits.now sources.now) }
     ensures first { IfErr result (IsRefusal (IsFirstFault limits.now sources.now)) }
-    ensures placed { IfErr result (IsRefusal (λ pass file step place kind. IsPlaced limits.now sources.now file place)) }
+    ensures placed { IfErr result (IsRefusal
+        (λ pass file step place kind. IsPlaced limits.now sources.now file place)) }
 
     // So sources with a compilation give it, and those with a fault tell it, unless memory runs out.
     ensures every_compilation { (c : Compilation) → IsCompiled limits.now sources.now c
-        → MatchResult result (λ r. (r.files ≡ c.files) × (r.links.set_order ≡ c.links.set_order)) (λ e. e ≡ errors.NoMemory) }
-    ensures every_fault { (pass : ℕ) (file : List ℕ) (step : ℕ) (place : Place) (kind : Kind) → IsFirstFault limits.now sources.now pass file step place kind
+        → MatchResult result (λ r. (r.files ≡ c.files) × (r.links.set_order ≡ c.links.set_order))
+        (λ e. e ≡ errors.NoMemory) }
+    ensures every_fault { (pass : ℕ) (file : List ℕ) (step : ℕ) (place : Place) (kind : Kind)
+        → IsFirstFault limits.now sources.now pass file step place kind
         → IsErrAnd result (Tells pass file step place kind) }
 {
     run_passes(&Workers { rt, plan, gate }, sources, limits)

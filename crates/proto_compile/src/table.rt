@@ -50,7 +50,8 @@ impl FileTable {
         bytes: Vec<u8>,
     ) -> Result<(), AllocError>
         requires { (a : ℕ) → IsNamed self.old name.now a → ⊥ }
-        ensures { OnOk result (self.new ≡ self.old ++ record { name = name.now; bytes = bytes.items } ∷ []) }
+        ensures { OnOk result (self.new ≡ self.old
+            ++ record { name = name.now; bytes = bytes.items } ∷ []) }
     {
         self.entries.insert(String::from_str(alloc, name)?, bytes)?;
         Ok(())
@@ -58,7 +59,8 @@ impl FileTable {
 
     /// The position of the file of this name.
     pub(crate) fn position(&self, name: &str) -> Option<FileId>
-        ensures { MatchOption result ((a : ℕ) → IsNamed self.now name.now a → ⊥) (IsNamed self.now name.now) }
+        ensures { MatchOption result ((a : ℕ) → IsNamed self.now name.now a → ⊥)
+            (IsNamed self.now name.now) }
     {
         self.entries.get_index_of(name)
     }

@@ -1,4 +1,5 @@
--- The names that a descriptor declares, map entries and made oneofs among them, each in the scope in which it is declared.
+-- The names that a descriptor declares, map entries and made oneofs among them, each in the scope in which it is
+-- declared.
 use Rattle.std.specs.Prelude.{ℕ, List, [], ◌∷◌, ◌++◌, map, flat_map, Option, None, Some}
 use Rattle.proto_base.specs.declared.place.Place.{Place}
 use Rattle.proto_desc.specs.declared.enumeration.EnumDesc.{EnumDesc}
@@ -41,7 +42,8 @@ declared_value scope v = record { scope = scope; name = v.name; kind = kind.Valu
 
 -- an enum and its values, which are declared in the scope of the enum
 abbrev pub declared_by_enum : List ℕ → EnumDesc → List Declared
-declared_by_enum scope e = record { scope = scope; name = e.name; kind = kind.Enum; place = e.place } ∷ map (declared_value scope) e.values
+declared_by_enum scope e =
+    record { scope = scope; name = e.name; kind = kind.Enum; place = e.place } ∷ map (declared_value scope) e.values
 
 -- what stands in a message of this full name, with what each nested one declares by its scope
 abbrev pub declared_inside : List ℕ → MessageDesc-F (List ℕ → List Declared) → List Declared
@@ -50,7 +52,8 @@ declared_inside full m =
     ++ flat_map (λ nested. nested full) m.nested
 
 abbrev pub declared_step : MessageDesc-F (List ℕ → List Declared) → List ℕ → List Declared
-declared_step m scope = record { scope = scope; name = m.name; kind = kind.Message; place = m.place } ∷ declared_inside (scoped scope m.name) m
+declared_step m scope = record { scope = scope; name = m.name; kind = kind.Message; place = m.place }
+    ∷ declared_inside (scoped scope m.name) m
 
 abbrev pub declared_by_message : MessageDesc → List ℕ → List Declared
 declared_by_message = fold-MessageDesc (List ℕ → List Declared) declared_step
@@ -59,7 +62,8 @@ abbrev pub declared_method : List ℕ → MethodDesc → Declared
 declared_method scope m = record { scope = scope; name = m.name; kind = kind.Method; place = m.place }
 
 abbrev pub declared_by_service : List ℕ → ServiceDesc → List Declared
-declared_by_service scope s = record { scope = scope; name = s.name; kind = kind.Service; place = s.place } ∷ map (declared_method (scoped scope s.name)) s.methods
+declared_by_service scope s = record { scope = scope; name = s.name; kind = kind.Service; place = s.place }
+    ∷ map (declared_method (scoped scope s.name)) s.methods
 
 -- the scope of what stands at the top of a file
 abbrev pub file_scope : Option PackageDesc → List ℕ

@@ -43,7 +43,8 @@ enum_places e = e.place.offset ∷ map value_place e.values
 
 -- one message, with the places of each nested one in its place
 abbrev pub places_step : MessageDesc-F (List ℕ) → List ℕ
-places_step m = m.place.offset ∷ (flat_map field_places m.fields ++ map oneof_place m.oneofs ++ flat_map enum_places m.enums ++ flat_map (λ places. places) m.nested)
+places_step m = m.place.offset ∷ (flat_map field_places m.fields ++ map oneof_place m.oneofs
+    ++ flat_map enum_places m.enums ++ flat_map (λ places. places) m.nested)
 
 abbrev pub message_places : MessageDesc → List ℕ
 message_places = fold-MessageDesc (List ℕ) places_step
@@ -63,5 +64,6 @@ import_place i = i.place.offset
 
 abbrev pub places_of : FileDesc → List ℕ
 places_of f =
-    package_places f.«package» ++ map import_place f.imports ++ flat_map message_places f.messages ++ flat_map enum_places f.enums
+    package_places f.«package» ++ map import_place f.imports ++ flat_map message_places f.messages
+    ++ flat_map enum_places f.enums
     ++ flat_map service_places f.services

@@ -41,9 +41,12 @@ no_choice given = None
 abbrev pub choice_number : ValueKind → List ℕ → Option ℕ
 choice_number kind.Text = no_choice
 choice_number kind.Bool = choice (codes "false") 0 (choice (codes "true") 1 no_choice)
-choice_number kind.OptimizeMode = choice (codes "SPEED") 1 (choice (codes "CODE_SIZE") 2 (choice (codes "LITE_RUNTIME") 3 no_choice))
-choice_number kind.JsType = choice (codes "JS_NORMAL") 0 (choice (codes "JS_STRING") 1 (choice (codes "JS_NUMBER") 2 no_choice))
-choice_number kind.IdempotencyLevel = choice (codes "IDEMPOTENCY_UNKNOWN") 0 (choice (codes "NO_SIDE_EFFECTS") 1 (choice (codes "IDEMPOTENT") 2 no_choice))
+choice_number kind.OptimizeMode =
+    choice (codes "SPEED") 1 (choice (codes "CODE_SIZE") 2 (choice (codes "LITE_RUNTIME") 3 no_choice))
+choice_number kind.JsType =
+    choice (codes "JS_NORMAL") 0 (choice (codes "JS_STRING") 1 (choice (codes "JS_NUMBER") 2 no_choice))
+choice_number kind.IdempotencyLevel = choice (codes "IDEMPOTENCY_UNKNOWN") 0
+    (choice (codes "NO_SIDE_EFFECTS") 1 (choice (codes "IDEMPOTENT") 2 no_choice))
 
 abbrev pub rule : OptionName → Option ℕ → ValueKind → OptionRule
 rule name number takes = record { name = name; number = number; kind = takes }

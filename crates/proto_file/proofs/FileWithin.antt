@@ -59,7 +59,8 @@ LayerBodies n (opened.Message m) = MessageBodies n m
 LayerBodies n x = Unit {0}
 
 item_bodies : (n : ℕ) (x : MessageItem-F MessageItem Message) → LayerBodies n x → ItemBodies n (roll-MessageItem x)
-item_bodies n (opened.Message m) h = subst (ItemBodies n) (sym (of.rolls-Message m)) (λ all. subst (BodiesWithin n) (sym (nested_bodies m)) (h (subst (Within n) (item_message m) all)))
+item_bodies n (opened.Message m) h =
+    subst (ItemBodies n) (sym (of.rolls-Message m)) (λ all. subst (BodiesWithin n) (sym (nested_bodies m)) (h (subst (Within n) (item_message m) all)))
 item_bodies n (opened.Map a) h = subst (ItemBodies n) (sym (of.rolls-Map a)) (λ all. tt)
 item_bodies n (opened.Enum a) h = subst (ItemBodies n) (sym (of.rolls-Enum a)) (λ all. tt)
 item_bodies n (opened.Option a) h = subst (ItemBodies n) (sym (of.rolls-Option a)) (λ all. tt)
@@ -78,12 +79,15 @@ all_bodies : (n : ℕ) (xs : List (KnownItem n)) → ItemsWithin n (map (λ e. e
 all_bodies n [] all = tt
 all_bodies n (x ∷ xs) all = both (ItemsWithin n) (bodies_of x.0) (flat_map bodies_of (map (λ e. e.0) xs)) (x.1 all.0) (all_bodies n xs all.1)
 
-message_bodies : (n : ℕ) (k : Span) (name : Identifier) (o : Span) (xs : List (KnownItem n)) (c : Span) → MessageBodies n (record { keyword = k; name = name; open_brace = o; items = map (λ e. e.0) xs; close_brace = c })
+message_bodies : (n : ℕ) (k : Span) (name : Identifier) (o : Span) (xs : List (KnownItem n)) (c : Span)
+    → MessageBodies n (record { keyword = k; name = name; open_brace = o; items = map (λ e. e.0) xs; close_brace = c })
 message_bodies n k name o xs c all =
-    let items : ItemsWithin n (map (λ e. e.0) xs) = each_row (ItemWithin n) message_item_tree n (map (λ e. e.0) xs) (λ i w. w) (left_of n (row message_item_tree (map (λ e. e.0) xs)) (symbol_tree (byte "}") c) all.1.1.1) in
+    let items : ItemsWithin n (map (λ e. e.0) xs) = each_row (ItemWithin n) message_item_tree n (map (λ e. e.0) xs) (λ i w. w)
+    (left_of n (row message_item_tree (map (λ e. e.0) xs)) (symbol_tree (byte "}") c) all.1.1.1) in
     (items, all_bodies n xs items)
 
-bodies_item_step : (n : ℕ) (x : MessageItem-F MessageItem Message) (y : MessageItem-F (KnownItem n) (KnownMessage n)) → map-MessageItem (KnownItem n) (KnownMessage n) MessageItem Message (λ e. e.0) (λ e. e.0) y ≡ x → ItemBodies n (roll-MessageItem x)
+bodies_item_step : (n : ℕ) (x : MessageItem-F MessageItem Message) (y : MessageItem-F (KnownItem n) (KnownMessage n))
+    → map-MessageItem (KnownItem n) (KnownMessage n) MessageItem Message (λ e. e.0) (λ e. e.0) y ≡ x → ItemBodies n (roll-MessageItem x)
 bodies_item_step n x (opened.Message m) e = subst (λ z. ItemBodies n (roll-MessageItem z)) e (item_bodies n (opened.Message m.0) m.1)
 bodies_item_step n x (opened.Enum a) e = subst (λ z. ItemBodies n (roll-MessageItem z)) e (item_bodies n (opened.Enum a) tt)
 bodies_item_step n x (opened.Option a) e = subst (λ z. ItemBodies n (roll-MessageItem z)) e (item_bodies n (opened.Option a) tt)
@@ -93,7 +97,8 @@ bodies_item_step n x (opened.Map a) e = subst (λ z. ItemBodies n (roll-MessageI
 bodies_item_step n x (opened.Empty a) e = subst (λ z. ItemBodies n (roll-MessageItem z)) e (item_bodies n (opened.Empty a) tt)
 bodies_item_step n x (opened.Field a) e = subst (λ z. ItemBodies n (roll-MessageItem z)) e (item_bodies n (opened.Field a) tt)
 
-bodies_message_step : (n : ℕ) (x : Message-F MessageItem Message) (y : Message-F (KnownItem n) (KnownMessage n)) → map-Message (KnownItem n) (KnownMessage n) MessageItem Message (λ e. e.0) (λ e. e.0) y ≡ x → MessageBodies n (roll-Message x)
+bodies_message_step : (n : ℕ) (x : Message-F MessageItem Message) (y : Message-F (KnownItem n) (KnownMessage n))
+    → map-Message (KnownItem n) (KnownMessage n) MessageItem Message (λ e. e.0) (λ e. e.0) y ≡ x → MessageBodies n (roll-Message x)
 bodies_message_step n x y e = subst (λ z. MessageBodies n (roll-Message z)) e (message_bodies n y.keyword y.name y.open_brace y.items y.close_brace)
 
 bodies_within : (n : ℕ) (m : Message) → MessageBodies n m
@@ -110,13 +115,15 @@ each_place n place (x ∷ xs) all = (all.0, each_place n place xs all.1)
 
 each_places : {X : Type 0} (n : ℕ) (places : X → List ℕ) (xs : List X) → AtMost n (flat_map places xs) → AllByRecursion (λ x. AtMost n (places x)) xs
 each_places n places [] all = tt
-each_places n places (x ∷ xs) all = (front (λ p. p ≤ n) (places x) (flat_map places xs) all, each_places n places xs (rest (λ p. p ≤ n) (places x) (flat_map places xs) all))
+each_places n places (x ∷ xs) all =
+    (front (λ p. p ≤ n) (places x) (flat_map places xs) all, each_places n places xs (rest (λ p. p ≤ n) (places x) (flat_map places xs) all))
 
 abbrev EnumAt : ℕ → EnumDesc → Type 0
 EnumAt n e = AtMost n (enum_places e)
 
 enum_names_break : (n : ℕ) (x : Spot) (e : EnumDesc) → EnumAt n e → EnumNamesBreak e x → SpotWithin n x
-enum_names_break n x e all b = name_used n e.reserved_names (map value_mark e.values) x (marks_within n value_mark e.values (each_place n value_place e.values all.1)) b
+enum_names_break n x e all b =
+    name_used n e.reserved_names (map value_mark e.values) x (marks_within n value_mark e.values (each_place n value_place e.values all.1)) b
 
 abbrev NamesAt : ℕ → MessageNames → Type 0
 NamesAt n m = AllByRecursion (λ (f : FieldDesc). Placed n f.place) m.fields × AllByRecursion (EnumAt n) m.enums
@@ -145,62 +152,93 @@ own_places m = m.place.offset ∷ (flat_map field_places m.fields ++ map oneof_p
 
 own_at : (n : ℕ) (m : MessageDesc-F MessageDesc) → AtMost n (own_places m) → OwnAt n m
 own_at n m all =
-    let upto_enums = front (λ p. p ≤ n) (flat_map field_places m.fields ++ map oneof_place m.oneofs ++ flat_map enum_places m.enums) (flat_map message_places m.nested) all.1 in
+    let upto_enums = front (λ p. p ≤ n) (flat_map field_places m.fields ++ map oneof_place m.oneofs ++ flat_map enum_places m.enums)
+    (flat_map message_places m.nested) all.1 in
     let upto_oneofs = front (λ p. p ≤ n) (flat_map field_places m.fields ++ map oneof_place m.oneofs) (flat_map enum_places m.enums) upto_enums in
     record {
       place = all.0;
-      fields = each_weaker (λ f. AtMost n (field_places f)) (λ (f : FieldDesc). Placed n f.place) m.fields (λ f w. w.0) (each_places n field_places m.fields (front (λ p. p ≤ n) (flat_map field_places m.fields) (map oneof_place m.oneofs) upto_oneofs));
+      fields = each_weaker (λ f. AtMost n (field_places f)) (λ (f : FieldDesc). Placed n f.place) m.fields (λ f w. w.0)
+          (each_places n field_places m.fields (front (λ p. p ≤ n) (flat_map field_places m.fields) (map oneof_place m.oneofs) upto_oneofs));
       oneofs = each_place n oneof_place m.oneofs (rest (λ p. p ≤ n) (flat_map field_places m.fields) (map oneof_place m.oneofs) upto_oneofs);
-      enums = each_places n enum_places m.enums (rest (λ p. p ≤ n) (flat_map field_places m.fields ++ map oneof_place m.oneofs) (flat_map enum_places m.enums) upto_enums);
-      nested = rest (λ p. p ≤ n) (flat_map field_places m.fields ++ map oneof_place m.oneofs ++ flat_map enum_places m.enums) (flat_map message_places m.nested) all.1;
+      enums = each_places n enum_places m.enums (rest (λ p. p ≤ n) (flat_map field_places m.fields ++ map oneof_place m.oneofs) (flat_map enum_places m.enums)
+          upto_enums);
+      nested = rest (λ p. p ≤ n) (flat_map field_places m.fields ++ map oneof_place m.oneofs ++ flat_map enum_places m.enums) (flat_map message_places m.nested)
+          all.1;
     }
 
 -- the names of a message and what it declares, by induction on descriptors
 abbrev DescAt : ℕ → MessageDesc → Type 0
 DescAt n m = AtMost n (message_places m) → AllByRecursion (NamesAt n) (names_of m) × ((scope : List ℕ) → DeclaredAt n (declared_by_message m scope))
 
-names_out : (m : MessageDesc) → names_of m ≡ record { fields = (out-MessageDesc m).fields; reserved_names = (out-MessageDesc m).reserved_names; enums = (out-MessageDesc m).enums } ∷ flat_map names_of (out-MessageDesc m).nested
+names_out : (m : MessageDesc) → names_of m ≡ record {
+  fields = (out-MessageDesc m).fields;
+  reserved_names = (out-MessageDesc m).reserved_names;
+  enums =
+      (out-MessageDesc m).enums;
+} ∷ flat_map names_of (out-MessageDesc m).nested
 names_out m = fold_out-MessageDesc (List MessageNames) names_step m
-    ∙ ap (λ xs. record { fields = (out-MessageDesc m).fields; reserved_names = (out-MessageDesc m).reserved_names; enums = (out-MessageDesc m).enums } ∷ xs) (flat_map-map (λ (names : List MessageNames). names) names_of (out-MessageDesc m).nested)
+    ∙ ap (λ xs. record { fields = (out-MessageDesc m).fields; reserved_names = (out-MessageDesc m).reserved_names; enums = (out-MessageDesc m).enums } ∷ xs)
+    (flat_map-map (λ (names : List MessageNames). names) names_of (out-MessageDesc m).nested)
 
 abbrev declared_own : List ℕ → MessageDesc-F MessageDesc → List Declared
 declared_own scope m =
     record { scope = scope; name = m.name; kind = name_kind.Message; place = m.place }
-    ∷ (map (declared_field (scoped scope m.name)) m.fields ++ map (declared_oneof (scoped scope m.name)) m.oneofs ++ flat_map (declared_by_enum (scoped scope m.name)) m.enums
+    ∷ (map (declared_field (scoped scope m.name)) m.fields ++ map (declared_oneof (scoped scope m.name)) m.oneofs
+    ++ flat_map (declared_by_enum (scoped scope m.name)) m.enums
     ++ flat_map (λ nested. declared_by_message nested (scoped scope m.name)) m.nested)
 
 declared_out : (m : MessageDesc) (scope : List ℕ) → declared_by_message m scope ≡ declared_own scope (out-MessageDesc m)
 declared_out m scope =
     ap (λ (g : List ℕ → List Declared). g scope) (fold_out-MessageDesc (List ℕ → List Declared) declared_step m)
     ∙ ap (λ xs. record { scope = scope; name = (out-MessageDesc m).name; kind = name_kind.Message; place = (out-MessageDesc m).place }
-    ∷ (map (declared_field (scoped scope (out-MessageDesc m).name)) (out-MessageDesc m).fields ++ map (declared_oneof (scoped scope (out-MessageDesc m).name)) (out-MessageDesc m).oneofs ++ flat_map (declared_by_enum (scoped scope (out-MessageDesc m).name)) (out-MessageDesc m).enums ++ xs))
+    ∷ (map (declared_field (scoped scope (out-MessageDesc m).name)) (out-MessageDesc m).fields
+    ++ map (declared_oneof (scoped scope (out-MessageDesc m).name)) (out-MessageDesc m).oneofs
+    ++ flat_map (declared_by_enum (scoped scope (out-MessageDesc m).name)) (out-MessageDesc m).enums ++ xs))
     (flat_map-map (λ (g : List ℕ → List Declared). g (scoped scope (out-MessageDesc m).name)) declared_by_message (out-MessageDesc m).nested)
 
 abbrev Known : ℕ → Type 0
 Known n = (m : MessageDesc) × DescAt n m
 
-nested_names : (n : ℕ) (xs : List (Known n)) → AtMost n (flat_map message_places (map (λ e. e.0) xs)) → AllByRecursion (NamesAt n) (flat_map names_of (map (λ e. e.0) xs))
+nested_names : (n : ℕ) (xs : List (Known n)) → AtMost n (flat_map message_places (map (λ e. e.0) xs))
+    → AllByRecursion (NamesAt n) (flat_map names_of (map (λ e. e.0) xs))
 nested_names n [] all = tt
-nested_names n (x ∷ xs) all = both (NamesAt n) (names_of x.0) (flat_map names_of (map (λ e. e.0) xs)) (x.1 (front (λ p. p ≤ n) (message_places x.0) (flat_map message_places (map (λ e. e.0) xs)) all)).0 (nested_names n xs (rest (λ p. p ≤ n) (message_places x.0) (flat_map message_places (map (λ e. e.0) xs)) all))
+nested_names n (x ∷ xs) all = both (NamesAt n) (names_of x.0) (flat_map names_of (map (λ e. e.0) xs))
+    (x.1 (front (λ p. p ≤ n) (message_places x.0) (flat_map message_places (map (λ e. e.0) xs)) all)).0
+    (nested_names n xs (rest (λ p. p ≤ n) (message_places x.0) (flat_map message_places (map (λ e. e.0) xs)) all))
 
-nested_declared : (n : ℕ) (scope : List ℕ) (xs : List (Known n)) → AtMost n (flat_map message_places (map (λ e. e.0) xs)) → DeclaredAt n (flat_map (λ m. declared_by_message m scope) (map (λ e. e.0) xs))
+nested_declared : (n : ℕ) (scope : List ℕ) (xs : List (Known n)) → AtMost n (flat_map message_places (map (λ e. e.0) xs))
+    → DeclaredAt n (flat_map (λ m. declared_by_message m scope) (map (λ e. e.0) xs))
 nested_declared n scope [] all = tt
-nested_declared n scope (x ∷ xs) all = both (λ (d : Declared). Placed n d.place) (declared_by_message x.0 scope) (flat_map (λ m. declared_by_message m scope) (map (λ e. e.0) xs)) ((x.1 (front (λ p. p ≤ n) (message_places x.0) (flat_map message_places (map (λ e. e.0) xs)) all)).1 scope) (nested_declared n scope xs (rest (λ p. p ≤ n) (message_places x.0) (flat_map message_places (map (λ e. e.0) xs)) all))
+nested_declared n scope (x ∷ xs) all = both (λ (d : Declared). Placed n d.place) (declared_by_message x.0 scope)
+    (flat_map (λ m. declared_by_message m scope) (map (λ e. e.0) xs))
+    ((x.1 (front (λ p. p ≤ n) (message_places x.0) (flat_map message_places (map (λ e. e.0) xs)) all)).1 scope)
+    (nested_declared n scope xs (rest (λ p. p ≤ n) (message_places x.0) (flat_map message_places (map (λ e. e.0) xs)) all))
 
-declares : (n : ℕ) (scope : List ℕ) (m : MessageDesc-F MessageDesc) → OwnAt n m → DeclaredAt n (flat_map (λ nested. declared_by_message nested (scoped scope m.name)) m.nested) → DeclaredAt n (declared_own scope m)
+declares : (n : ℕ) (scope : List ℕ) (m : MessageDesc-F MessageDesc) → OwnAt n m
+    → DeclaredAt n (flat_map (λ nested. declared_by_message nested (scoped scope m.name)) m.nested) → DeclaredAt n (declared_own scope m)
 declares n scope m own nested =
     let fields = each_map (λ (d : Declared). Placed n d.place) (declared_field (scoped scope m.name)) m.fields own.fields in
     let oneofs = each_map (λ (d : Declared). Placed n d.place) (declared_oneof (scoped scope m.name)) m.oneofs own.oneofs in
-    let enums = given (EnumAt n) (λ (d : Declared). Placed n d.place) (declared_by_enum (scoped scope m.name)) m.enums (enum_declares n (scoped scope m.name)) own.enums in
-    (own.place, both (λ (d : Declared). Placed n d.place) _ _ (both (λ (d : Declared). Placed n d.place) _ _ (both (λ (d : Declared). Placed n d.place) _ _ fields oneofs) enums) nested)
+    let enums = given (EnumAt n) (λ (d : Declared). Placed n d.place) (declared_by_enum (scoped scope m.name)) m.enums (enum_declares n (scoped scope m.name))
+    own.enums in (
+      own.place,
+      both (λ (d : Declared). Placed n d.place) _ _
+          (both (λ (d : Declared). Placed n d.place) _ _ (both (λ (d : Declared). Placed n d.place) _ _ fields oneofs) enums) nested,
+    )
 
-desc_step : (n : ℕ) (x : MessageDesc-F MessageDesc) (y : MessageDesc-F (Known n)) → map-MessageDesc (Known n) MessageDesc (λ e. e.0) y ≡ x → DescAt n (roll-MessageDesc x)
+desc_step : (n : ℕ) (x : MessageDesc-F MessageDesc) (y : MessageDesc-F (Known n)) → map-MessageDesc (Known n) MessageDesc (λ e. e.0) y ≡ x
+    → DescAt n (roll-MessageDesc x)
 desc_step n x y e = subst (λ z. DescAt n (roll-MessageDesc z)) e (λ all.
-    let own : OwnAt n (map-MessageDesc (Known n) MessageDesc (λ e. e.0) y) = own_at n (map-MessageDesc (Known n) MessageDesc (λ e. e.0) y) (subst (λ m. AtMost n (own_places m)) (out-roll-MessageDesc (map-MessageDesc (Known n) MessageDesc (λ e. e.0) y)) (subst (AtMost n) (places_out (roll-MessageDesc (map-MessageDesc (Known n) MessageDesc (λ e. e.0) y))) all)) in (
+    let own : OwnAt n (map-MessageDesc (Known n) MessageDesc (λ e. e.0) y) =
+    own_at n (map-MessageDesc (Known n) MessageDesc (λ e. e.0) y)
+    (subst (λ m. AtMost n (own_places m)) (out-roll-MessageDesc (map-MessageDesc (Known n) MessageDesc (λ e. e.0) y))
+    (subst (AtMost n) (places_out (roll-MessageDesc (map-MessageDesc (Known n) MessageDesc (λ e. e.0) y))) all)) in (
       subst (AllByRecursion (NamesAt n)) (sym (names_out (roll-MessageDesc (map-MessageDesc (Known n) MessageDesc (λ e. e.0) y))
-          ∙ ap (λ (m : MessageDesc-F MessageDesc). record { fields = m.fields; reserved_names = m.reserved_names; enums = m.enums } ∷ flat_map names_of m.nested) (out-roll-MessageDesc (map-MessageDesc (Known n) MessageDesc (λ e. e.0) y))))
+          ∙ ap (λ (m : MessageDesc-F MessageDesc). record { fields = m.fields; reserved_names = m.reserved_names; enums = m.enums }
+          ∷ flat_map names_of m.nested) (out-roll-MessageDesc (map-MessageDesc (Known n) MessageDesc (λ e. e.0) y))))
           ((own.fields, own.enums), nested_names n y.nested own.nested),
-      λ scope. subst (DeclaredAt n) (sym (declared_out (roll-MessageDesc (map-MessageDesc (Known n) MessageDesc (λ e. e.0) y)) scope ∙ ap (declared_own scope) (out-roll-MessageDesc (map-MessageDesc (Known n) MessageDesc (λ e. e.0) y))))
+      λ scope. subst (DeclaredAt n) (sym (declared_out (roll-MessageDesc (map-MessageDesc (Known n) MessageDesc (λ e. e.0) y)) scope
+          ∙ ap (declared_own scope) (out-roll-MessageDesc (map-MessageDesc (Known n) MessageDesc (λ e. e.0) y))))
           (declares n scope (map-MessageDesc (Known n) MessageDesc (λ e. e.0) y) own (nested_declared n (scoped scope y.name) y.nested own.nested)),
     ))
 
@@ -211,7 +249,8 @@ service_declares : (n : ℕ) (scope : List ℕ) (s : ServiceDesc) → AtMost n (
 service_declares n scope s all = (
   all.0,
   each_map (λ (d : Declared). Placed n d.place) (declared_method (scoped scope s.name)) s.methods
-      (each_weaker (λ m. AtMost n (method_places m)) (λ (m : MethodDesc). Placed n m.place) s.methods (λ m w. w.0) (each_places n method_places s.methods all.1)),
+      (each_weaker (λ m. AtMost n (method_places m)) (λ (m : MethodDesc). Placed n m.place) s.methods (λ m w. w.0)
+      (each_places n method_places s.methods all.1)),
 )
 
 -- ---- files
@@ -240,7 +279,8 @@ file_setting_within n (statement.Option o) all = (statement_within n o all, tt)
 file_setting_within n s all = tt
 
 package_long : (n : ℕ) (limits : Limits) (x : Spot) (p : Package) → Within n (package_tree p) → PackageTooLong limits p x → SpotWithin n x
-package_long n limits x p all (PackageTooLong.part b) = each_within (λ part. Unit {0}) (IsPartTooLong limits p.name.first.span.start) n (parts_of p.name) x (every (parts_of p.name)) (λ part u s. at_spot n p.name.first.span.start _ x all.1.0 s.1) b
+package_long n limits x p all (PackageTooLong.part b) = each_within (λ part. Unit {0}) (IsPartTooLong limits p.name.first.span.start) n (parts_of p.name) x
+    (every (parts_of p.name)) (λ part u s. at_spot n p.name.first.span.start _ x all.1.0 s.1) b
   where
     every : (xs : List (List ℕ)) → AllByRecursion (λ part. Unit {0}) xs
     every [] = tt
@@ -256,43 +296,66 @@ record DescPlaces (n : ℕ) (d : FileDesc) : Type 0 where
 
 desc_places : (n : ℕ) (d : FileDesc) → AtMost n (places_of d) → DescPlaces n d
 desc_places n d all =
-    let upto_enums = front (λ p. p ≤ n) (package_places d.«package» ++ map import_place d.imports ++ flat_map message_places d.messages ++ flat_map enum_places d.enums) (flat_map service_places d.services) all in
-    let upto_messages = front (λ p. p ≤ n) (package_places d.«package» ++ map import_place d.imports ++ flat_map message_places d.messages) (flat_map enum_places d.enums) upto_enums in
+    let upto_enums = front (λ p. p ≤ n) (package_places d.«package» ++ map import_place d.imports ++ flat_map message_places d.messages
+    ++ flat_map enum_places d.enums) (flat_map service_places d.services) all in
+    let upto_messages = front (λ p. p ≤ n) (package_places d.«package» ++ map import_place d.imports ++ flat_map message_places d.messages)
+    (flat_map enum_places d.enums) upto_enums in
     let upto_imports = front (λ p. p ≤ n) (package_places d.«package» ++ map import_place d.imports) (flat_map message_places d.messages) upto_messages in
     record {
       imports = rest (λ p. p ≤ n) (package_places d.«package») (map import_place d.imports) upto_imports;
       messages = rest (λ p. p ≤ n) (package_places d.«package» ++ map import_place d.imports) (flat_map message_places d.messages) upto_messages;
-      enums = rest (λ p. p ≤ n) (package_places d.«package» ++ map import_place d.imports ++ flat_map message_places d.messages) (flat_map enum_places d.enums) upto_enums;
-      services = rest (λ p. p ≤ n) (package_places d.«package» ++ map import_place d.imports ++ flat_map message_places d.messages ++ flat_map enum_places d.enums) (flat_map service_places d.services) all;
+      enums = rest (λ p. p ≤ n) (package_places d.«package» ++ map import_place d.imports ++ flat_map message_places d.messages) (flat_map enum_places d.enums)
+          upto_enums;
+      services = rest (λ p. p ≤ n) (package_places d.«package» ++ map import_place d.imports ++ flat_map message_places d.messages
+          ++ flat_map enum_places d.enums) (flat_map service_places d.services) all;
     }
 
 declared_at : (n : ℕ) (d : FileDesc) → DescPlaces n d → DeclaredAt n (declared_by d)
 declared_at n d at =
-    let messages = given (λ m. AtMost n (message_places m)) (λ (x : Declared). Placed n x.place) (λ m. declared_by_message m (file_scope d.«package»)) d.messages (λ m w. (desc_at n m w).1 (file_scope d.«package»)) (each_places n message_places d.messages at.messages) in
-    let enums = given (EnumAt n) (λ (x : Declared). Placed n x.place) (declared_by_enum (file_scope d.«package»)) d.enums (enum_declares n (file_scope d.«package»)) (each_places n enum_places d.enums at.enums) in
-    let services = given (λ s. AtMost n (service_places s)) (λ (x : Declared). Placed n x.place) (declared_by_service (file_scope d.«package»)) d.services (service_declares n (file_scope d.«package»)) (each_places n service_places d.services at.services) in
+    let messages = given (λ m. AtMost n (message_places m)) (λ (x : Declared). Placed n x.place) (λ m. declared_by_message m (file_scope d.«package»))
+    d.messages (λ m w. (desc_at n m w).1 (file_scope d.«package»)) (each_places n message_places d.messages at.messages) in
+    let enums = given (EnumAt n) (λ (x : Declared). Placed n x.place) (declared_by_enum (file_scope d.«package»)) d.enums
+    (enum_declares n (file_scope d.«package»)) (each_places n enum_places d.enums at.enums) in
+    let services = given (λ s. AtMost n (service_places s)) (λ (x : Declared). Placed n x.place) (declared_by_service (file_scope d.«package»)) d.services
+    (service_declares n (file_scope d.«package»)) (each_places n service_places d.services at.services) in
     both (λ (x : Declared). Placed n x.place) _ _ (both (λ (x : Declared). Placed n x.place) _ _ messages enums) services
 
-pub breaks_within : (n : ℕ) (limits : Limits) (name : List ℕ) (tree : FileTree) (x : Spot) → Within n (file_tree tree) → FileBreaks limits tree (lowered name tree) x → SpotWithin n x
+pub breaks_within : (n : ℕ) (limits : Limits) (name : List ℕ) (tree : FileTree) (x : Spot) → Within n (file_tree tree)
+    → FileBreaks limits tree (lowered name tree) x → SpotWithin n x
 breaks_within n limits name tree x all broken = elim broken [
-  | FileBreaks.not_proto3 b ↦ at_spot n tree.syntax.version.first.span.start _ x (left_of n (syntax_tree tree.syntax) (row statement_tree tree.statements) all).1.1.0 b.1
-  | FileBreaks.package_twice b ↦ later_within _ (λ (p : Package). p.keyword.start) kind.PackageTwice n (flat_map package_in tree.statements) x (each_weaker (λ p. Within n (package_tree p)) (λ (p : Package). Placed n p.keyword.start) (flat_map package_in tree.statements) (λ p w. w.0) packages) b
-  | FileBreaks.import_twice b ↦ text_twice n _ (map import_mark (lowered name tree).imports) x (marks_within n import_mark (lowered name tree).imports (each_place n import_place (lowered name tree).imports desc.imports)) b
-  | FileBreaks.options b ↦ settings_break n element.File (flat_map file_setting tree.statements) x (given (StatementWithin n) (SettingWithin n) file_setting tree.statements (file_setting_within n) ss) b
-  | FileBreaks.in_message b ↦ each_within (ItemsWithin n) BodyBreaks n (flat_map body_in tree.statements) x (given (StatementWithin n) (ItemsWithin n) body_in tree.statements (body_in_within n) ss) (body_breaks n x) b
-  | FileBreaks.in_enum b ↦ each_within (λ e. Within n (enum_tree e)) EnumBreaks n (flat_map enum_in tree.statements) x (given (StatementWithin n) (λ e. Within n (enum_tree e)) enum_in tree.statements (enum_in_within n) ss) (enum_breaks n x) b
-  | FileBreaks.in_service b ↦ each_within (λ t. Within n (service_tree t)) ServiceBreaks n (flat_map service_in tree.statements) x (given (StatementWithin n) (λ t. Within n (service_tree t)) service_in tree.statements (service_in_within n) ss) (service_breaks n x) b
-  | FileBreaks.message_names b ↦ each_within (NamesAt n) MessageNamesBreak n (flat_map names_of (lowered name tree).messages) x (given (λ m. AtMost n (message_places m)) (NamesAt n) names_of (lowered name tree).messages (λ m w. (desc_at n m w).0) (each_places n message_places (lowered name tree).messages desc.messages)) (names_break n x) b
-  | FileBreaks.enum_names b ↦ each_within (EnumAt n) EnumNamesBreak n (lowered name tree).enums x (each_places n enum_places (lowered name tree).enums desc.enums) (enum_names_break n x) b
-  | FileBreaks.package_long b ↦ each_within (λ p. Within n (package_tree p)) (PackageTooLong limits) n (flat_map package_in tree.statements) x packages (package_long n limits x) b
-  | FileBreaks.name_long b ↦ each_within (λ (d : Declared). Placed n d.place) (IsTooLong limits) n (declared_by (lowered name tree)) x (declared_at n (lowered name tree) desc) (λ d within s. at_spot n d.place _ x within s.1) b
+  | FileBreaks.not_proto3 b ↦ at_spot n tree.syntax.version.first.span.start _ x
+      (left_of n (syntax_tree tree.syntax) (row statement_tree tree.statements) all).1.1.0 b.1
+  | FileBreaks.package_twice b ↦ later_within _ (λ (p : Package). p.keyword.start) kind.PackageTwice n (flat_map package_in tree.statements) x
+      (each_weaker (λ p. Within n (package_tree p)) (λ (p : Package). Placed n p.keyword.start) (flat_map package_in tree.statements) (λ p w. w.0) packages) b
+  | FileBreaks.import_twice b ↦ text_twice n _ (map import_mark (lowered name tree).imports) x
+      (marks_within n import_mark (lowered name tree).imports (each_place n import_place (lowered name tree).imports desc.imports)) b
+  | FileBreaks.options b ↦ settings_break n element.File (flat_map file_setting tree.statements) x
+      (given (StatementWithin n) (SettingWithin n) file_setting tree.statements (file_setting_within n) ss) b
+  | FileBreaks.in_message b ↦ each_within (ItemsWithin n) BodyBreaks n (flat_map body_in tree.statements) x
+      (given (StatementWithin n) (ItemsWithin n) body_in tree.statements (body_in_within n) ss) (body_breaks n x) b
+  | FileBreaks.in_enum b ↦ each_within (λ e. Within n (enum_tree e)) EnumBreaks n (flat_map enum_in tree.statements) x
+      (given (StatementWithin n) (λ e. Within n (enum_tree e)) enum_in tree.statements (enum_in_within n) ss) (enum_breaks n x) b
+  | FileBreaks.in_service b ↦ each_within (λ t. Within n (service_tree t)) ServiceBreaks n (flat_map service_in tree.statements) x
+      (given (StatementWithin n) (λ t. Within n (service_tree t)) service_in tree.statements (service_in_within n) ss) (service_breaks n x) b
+  | FileBreaks.message_names b ↦ each_within (NamesAt n) MessageNamesBreak n (flat_map names_of (lowered name tree).messages) x
+      (given (λ m. AtMost n (message_places m)) (NamesAt n) names_of (lowered name tree).messages (λ m w. (desc_at n m w).0)
+      (each_places n message_places (lowered name tree).messages desc.messages)) (names_break n x) b
+  | FileBreaks.enum_names b ↦ each_within (EnumAt n) EnumNamesBreak n (lowered name tree).enums x
+      (each_places n enum_places (lowered name tree).enums desc.enums) (enum_names_break n x) b
+  | FileBreaks.package_long b ↦ each_within (λ p. Within n (package_tree p)) (PackageTooLong limits) n (flat_map package_in tree.statements) x packages
+      (package_long n limits x) b
+  | FileBreaks.name_long b ↦ each_within (λ (d : Declared). Placed n d.place) (IsTooLong limits) n (declared_by (lowered name tree)) x
+      (declared_at n (lowered name tree) desc) (λ d within s. at_spot n d.place _ x within s.1) b
 ]
   where
     ss : AllByRecursion (StatementWithin n) tree.statements
-    ss = each_row (StatementWithin n) statement_tree n tree.statements (λ s w. w) (right_of n (syntax_tree tree.syntax) (row statement_tree tree.statements) all)
+    ss =
+        each_row (StatementWithin n) statement_tree n tree.statements (λ s w. w) (right_of n (syntax_tree tree.syntax) (row statement_tree tree.statements) all)
 
     packages : AllByRecursion (λ p. Within n (package_tree p)) (flat_map package_in tree.statements)
-    packages = given (StatementWithin n) (λ p. Within n (package_tree p)) package_in tree.statements (package_in_within n) (each_row (StatementWithin n) statement_tree n tree.statements (λ s w. w) (right_of n (syntax_tree tree.syntax) (row statement_tree tree.statements) all))
+    packages = given (StatementWithin n) (λ p. Within n (package_tree p)) package_in tree.statements (package_in_within n)
+        (each_row (StatementWithin n) statement_tree n tree.statements (λ s w. w)
+        (right_of n (syntax_tree tree.syntax) (row statement_tree tree.statements) all))
 
     desc : DescPlaces n (lowered name tree)
     desc = desc_places n (lowered name tree) (lowered_within n name tree all)

@@ -106,10 +106,12 @@ pub record IsInside (limits : Limits) (text : List ℕ) (place : Place) : Type 0
   pub within : place.offset ≤ length text
   pub short : place.offset ≤ limit_of limits limit.FileBytes
 
-inside_file : (limits : Limits) (text : List ℕ) (file : FileTree) (place : Place) → IsFile limits text file → place.offset ≤ length text → IsInside limits text place
+inside_file : (limits : Limits) (text : List ℕ) (file : FileTree) (place : Place) → IsFile limits text file → place.offset ≤ length text
+    → IsInside limits text place
 inside_file limits text file place is within = record { within = within; short = omega (arith, within, file_short limits text file is) }
 
-pub fault_inside : (limits : Limits) (name text : List ℕ) (step : ℕ) (place : Place) (kind : Kind) → IsLocalFault limits name text step place kind → IsInside limits text place
+pub fault_inside : (limits : Limits) (name text : List ℕ) (step : ℕ) (place : Place) (kind : Kind) → IsLocalFault limits name text step place kind
+    → IsInside limits text place
 fault_inside limits name text step place kind (of_tokens at_step fault) =
     let within : place.offset ≤ length text = token_fault_within _ text place.offset kind fault in
     record { within = within; short = token_fault_short _ text place.offset kind fault within }
@@ -121,7 +123,9 @@ fault_inside limits name text step place kind (of_checks at_step (file, is, leas
 
 -- all places of a descriptor are those of its text
 pub places_within : (limits : Limits) (name text : List ℕ) (desc : FileDesc) → Describes limits name text desc → AtMost (length text) (places_of desc)
-places_within limits name text desc (file, is, unbroken, same) = subst (λ d. AtMost (length text) (places_of d)) (sym same) (lowered_within (length text) name file (tree_begins limits text file is))
+places_within limits name text desc (file, is, unbroken, same) =
+    subst (λ d. AtMost (length text) (places_of d)) (sym same) (lowered_within (length text) name file (tree_begins limits text file is))
 
-pub place_inside : (limits : Limits) (name text : List ℕ) (desc : FileDesc) (place : Place) → Describes limits name text desc → place.offset ≤ length text → IsInside limits text place
+pub place_inside : (limits : Limits) (name text : List ℕ) (desc : FileDesc) (place : Place) → Describes limits name text desc → place.offset ≤ length text
+    → IsInside limits text place
 place_inside limits name text desc place (file, is, unbroken, same) within = inside_file limits text file place is within

@@ -117,7 +117,8 @@ pub each_row : {A : Type 0} (P : A → Type 0) (f : A → Tree) (n : ℕ) (xs : 
 each_row P f n [] h all = tt
 each_row P f n (x ∷ xs) h all = (h x (left_of n (f x) (row f xs) all), each_row P f n xs h (right_of n (f x) (row f xs) all))
 
-pub each_flat : {A B : Type 0} (P : B → Type 0) (g : A → List B) (xs : List A) → AllByRecursion (λ x. AllByRecursion P (g x)) xs → AllByRecursion P (flat_map g xs)
+pub each_flat : {A B : Type 0} (P : B → Type 0) (g : A → List B) (xs : List A) → AllByRecursion (λ x. AllByRecursion P (g x)) xs
+    → AllByRecursion P (flat_map g xs)
 each_flat P g [] all = tt
 each_flat P g (x ∷ xs) all = both P (g x) (flat_map g xs) all.0 (each_flat P g xs all.1)
 
@@ -141,14 +142,17 @@ pub separated_within : (n : ℕ) (ss : Separated Setting) → Within n (separate
 separated_within n ss all = (
   all.0,
   each_map (NameWithin n) next_item ss.rest
-      (each_row (λ (x : Next Setting). NameWithin n x.item) (next_tree setting_tree) n ss.rest (λ x h. h.1.0) (right_of n (setting_tree ss.first) (row (next_tree setting_tree) ss.rest) all)),
+      (each_row (λ (x : Next Setting). NameWithin n x.item) (next_tree setting_tree) n ss.rest (λ x h. h.1.0)
+      (right_of n (setting_tree ss.first) (row (next_tree setting_tree) ss.rest) all)),
 )
 
 pub bracketed_within : (n : ℕ) (o : Option Options) → Within n (optional options_tree o) → AllByRecursion (NameWithin n) (bracketed o)
 bracketed_within n None all = tt
-bracketed_within n (Some o) all = separated_within n o.settings (left_of n (separated_tree setting_tree o.settings) (symbol_tree (byte "]") o.close_bracket) all.1)
+bracketed_within n (Some o) all =
+    separated_within n o.settings (left_of n (separated_tree setting_tree o.settings) (symbol_tree (byte "]") o.close_bracket) all.1)
 
-first_within : (n : ℕ) (name : OptionName) (ss : List Setting) (s : Setting) → AllByRecursion (NameWithin n) ss → first_setting name ss ≡ Some s → NameWithin n s
+first_within : (n : ℕ) (name : OptionName) (ss : List Setting) (s : Setting) → AllByRecursion (NameWithin n) ss → first_setting name ss ≡ Some s
+    → NameWithin n s
 first_within n name [] s all e = cc
 first_within n name (x ∷ xs) s all e = by_cases (is_setting name x) e (λ h. first_within n name xs s all.1 h)
   where
@@ -159,7 +163,8 @@ first_within n name (x ∷ xs) s all e = by_cases (is_setting name x) e (λ h. f
 abbrev OptionWithin : ℕ → OptionDesc → Type 0
 OptionWithin n o = option_place o ≤ n
 
-by_within : (n : ℕ) (number : Option ℕ) (kind : ValueKind) (s : Option Setting) → ((x : Setting) → s ≡ Some x → NameWithin n x) → AllByRecursion (OptionWithin n) (option_to_list (option_by number kind s))
+by_within : (n : ℕ) (number : Option ℕ) (kind : ValueKind) (s : Option Setting) → ((x : Setting) → s ≡ Some x → NameWithin n x)
+    → AllByRecursion (OptionWithin n) (option_to_list (option_by number kind s))
 by_within n None kind s h = tt
 by_within n (Some number) kind None h = tt
 by_within n (Some number) kind (Some s) h = by_value (value_of kind s.value)
@@ -191,12 +196,14 @@ kind_within n (field_type.Named t) all = (dotted_within n t.dot t.name all, tt)
 abbrev FieldWithin : ℕ → FieldDesc → Type 0
 FieldWithin n f = AtMost n (field_places f)
 
-described_within : (n : ℕ) (d : Declarator) (label : FieldLabel) (kind : FieldKind) (oneof : Option ℕ) (is_optional : Bool) → Within n (declarator_tree d) → AtMost n (kind_places kind) → FieldWithin n (described d label kind oneof is_optional)
+described_within : (n : ℕ) (d : Declarator) (label : FieldLabel) (kind : FieldKind) (oneof : Option ℕ) (is_optional : Bool) → Within n (declarator_tree d)
+    → AtMost n (kind_places kind) → FieldWithin n (described d label kind oneof is_optional)
 described_within n d label kind oneof is_optional all of_kind = (
   all.0,
   both (λ x. x ≤ n) (kind_places kind) (map option_place (options_of element.Field (bracketed d.options))) of_kind
       (each_map (λ x. x ≤ n) option_place (options_of element.Field (bracketed d.options))
-      (options_within n element.Field (bracketed d.options) (bracketed_within n d.options (left_of n (optional options_tree d.options) (symbol_tree (byte ";") d.semicolon) all.1.1.1)))),
+      (options_within n element.Field (bracketed d.options) (bracketed_within n d.options
+      (left_of n (optional options_tree d.options) (symbol_tree (byte ";") d.semicolon) all.1.1.1)))),
 )
 
 -- a field as a statement, whichever rule has it
@@ -208,13 +215,18 @@ head_within n (Some (label.Repeated s)) t all = kind_within n t all.1
 abbrev pub TypeAndRest : ℕ → FieldType → Declarator → Type 0
 TypeAndRest n t d = AtMost n (kind_places (kind_of t)) × Within n (declarator_tree d)
 
-headed_within : (n : ℕ) (label : Option Label) (t : FieldType) (d : Declarator) → Within n (Pair (field_head_tree label t) (declarator_tree d)) → TypeAndRest n t d
-headed_within n label t d all = (head_within n label t (left_of n (field_head_tree label t) (declarator_tree d) all), right_of n (field_head_tree label t) (declarator_tree d) all)
+headed_within : (n : ℕ) (label : Option Label) (t : FieldType) (d : Declarator) → Within n (Pair (field_head_tree label t) (declarator_tree d))
+    → TypeAndRest n t d
+headed_within n label t d all =
+    (head_within n label t (left_of n (field_head_tree label t) (declarator_tree d) all), right_of n (field_head_tree label t) (declarator_tree d) all)
 
-unlabelled_within : (n : ℕ) (dot : Option Span) (name : FullName) (d : Declarator) → Within n (unlabelled_tree dot name d) → TypeAndRest n (field_type.Named (record { dot = dot; name = name })) d
+unlabelled_within : (n : ℕ) (dot : Option Span) (name : FullName) (d : Declarator) → Within n (unlabelled_tree dot name d)
+    → TypeAndRest n (field_type.Named (record { dot = dot; name = name })) d
 unlabelled_within n None name d all = by_cases (bytes_eq name.first.text (codes "map")) all
   where
-    by_cases : (b : Bool) → Within n (cond b (Left (Pair (name_tree name.first) (Pair (Right (row part_tree name.rest)) (declarator_tree d)))) (Right (Right (Pair (Right (Right (Right (full_tree name)))) (declarator_tree d))))) → TypeAndRest n (field_type.Named (record { dot = None; name = name })) d
+    by_cases : (b : Bool) → Within n (cond b (Left (Pair (name_tree name.first) (Pair (Right (row part_tree name.rest)) (declarator_tree d))))
+        (Right (Right (Pair (Right (Right (Right (full_tree name)))) (declarator_tree d)))))
+        → TypeAndRest n (field_type.Named (record { dot = None; name = name })) d
     by_cases true all' = ((all'.0, tt), right_of n (row part_tree name.rest) (declarator_tree d) all'.1)
     by_cases false all' = ((all'.0, tt), right_of n (full_tree name) (declarator_tree d) all')
 unlabelled_within n (Some dot) name d all = ((all.0, tt), right_of n (full_tree name) (declarator_tree d) all.1)
@@ -240,17 +252,24 @@ oneof_items_within n o all = left_of n (row oneof_item_tree o.items) (symbol_tre
 abbrev pub ItemWithin : ℕ → MessageItem → Type 0
 ItemWithin n i = Within n (message_item_tree i)
 
-fields_within : (n : ℕ) (full : List ℕ) (real made : ℕ) (is : List MessageItem) → AllByRecursion (ItemWithin n) is → AllByRecursion (FieldWithin n) (fields_from full real made is)
+fields_within : (n : ℕ) (full : List ℕ) (real made : ℕ) (is : List MessageItem) → AllByRecursion (ItemWithin n) is
+    → AllByRecursion (FieldWithin n) (fields_from full real made is)
 fields_within n full real made [] all = tt
 fields_within n full real made (message_item.Field f ∷ is) all =
-    let parts = statement_field_within n f.label f.field_type f.declarator (subst (Within n) (item_field f) all.0) in
-    (described_within n f.declarator (label_of f.label) (kind_of f.field_type) (made_index (is_optional f.label) made) (is_optional f.label) parts.1 parts.0, fields_within n full real (made + made_by (is_optional f.label)) is all.1)
+    let parts = statement_field_within n f.label f.field_type f.declarator (subst (Within n) (item_field f) all.0) in (
+      described_within n f.declarator (label_of f.label) (kind_of f.field_type) (made_index (is_optional f.label) made) (is_optional f.label) parts.1 parts.0,
+      fields_within n full real (made + made_by (is_optional f.label)) is all.1,
+    )
 fields_within n full real made (message_item.Map m ∷ is) all =
-    let tree : Within n (map_tree m) = subst (Within n) (item_map m) all.0 in
-    (described_within n m.declarator Repeated (Named (Resolved (inner full (entry_name_of m.declarator.name.text)) type_kind.Message)) None false (right_of n (Left (map_type_tree m.map_type)) (declarator_tree m.declarator) tree.1) tt, fields_within n full real made is all.1)
+    let tree : Within n (map_tree m) = subst (Within n) (item_map m) all.0 in (
+      described_within n m.declarator Repeated (Named (Resolved (inner full (entry_name_of m.declarator.name.text)) type_kind.Message)) None false
+          (right_of n (Left (map_type_tree m.map_type)) (declarator_tree m.declarator) tree.1) tt,
+      fields_within n full real made is all.1,
+    )
 fields_within n full real made (message_item.Oneof o ∷ is) all =
     both (FieldWithin n) (flat_map (member_of real) o.items) (fields_from full (real + 1) made is)
-    (each_flat (FieldWithin n) (member_of real) o.items (each_row (λ i. AllByRecursion (FieldWithin n) (member_of real i)) oneof_item_tree n o.items (member_within n real) (oneof_items_within n o (subst (Within n) (item_oneof o) all.0))))
+    (each_flat (FieldWithin n) (member_of real) o.items (each_row (λ i. AllByRecursion (FieldWithin n) (member_of real i)) oneof_item_tree n o.items
+    (member_within n real) (oneof_items_within n o (subst (Within n) (item_oneof o) all.0))))
     (fields_within n full (real + 1) made is all.1)
 fields_within n full real made (i ∷ is) all = fields_within n full real made is all.1
 
@@ -263,13 +282,16 @@ real_within : (n : ℕ) (i : MessageItem) → ItemWithin n i → AllByRecursion 
 real_within n (message_item.Oneof o) all = let tree : Within n (oneof_tree o) = subst (Within n) (item_oneof o) all in (tree.1.0, tt)
 real_within n i all = tt
 
-one_within : (n : ℕ) (names : List (List ℕ)) (so_far : List OneofDesc) (f : FieldDesc) (is_optional : Bool) → AllByRecursion (OneofWithin n) so_far → FieldWithin n f → AllByRecursion (OneofWithin n) (with_one names so_far f is_optional)
+one_within : (n : ℕ) (names : List (List ℕ)) (so_far : List OneofDesc) (f : FieldDesc) (is_optional : Bool) → AllByRecursion (OneofWithin n) so_far
+    → FieldWithin n f → AllByRecursion (OneofWithin n) (with_one names so_far f is_optional)
 one_within n names so_far f true made field = both (OneofWithin n) so_far _ made (field.0, tt)
 one_within n names so_far f false made field = made
 
-made_within : (n : ℕ) (names : List (List ℕ)) (so_far : List OneofDesc) (fs : List FieldDesc) → AllByRecursion (OneofWithin n) so_far → AllByRecursion (FieldWithin n) fs → AllByRecursion (OneofWithin n) (with_made names so_far fs)
+made_within : (n : ℕ) (names : List (List ℕ)) (so_far : List OneofDesc) (fs : List FieldDesc) → AllByRecursion (OneofWithin n) so_far
+    → AllByRecursion (FieldWithin n) fs → AllByRecursion (OneofWithin n) (with_made names so_far fs)
 made_within n names so_far [] made fields = made
-made_within n names so_far (f ∷ fs) made fields = made_within n names (with_one names so_far f f.proto3_optional) fs (one_within n names so_far f f.proto3_optional made fields.0) fields.1
+made_within n names so_far (f ∷ fs) made fields =
+    made_within n names (with_one names so_far f f.proto3_optional) fs (one_within n names so_far f f.proto3_optional made fields.0) fields.1
 
 value_within : (n : ℕ) (i : EnumItem) → Within n (enum_item_tree i) → AllByRecursion (λ v. value_place v ≤ n) (value_of_item i)
 value_within n (enum_item.Value v) all = (all.0, tt)
@@ -285,7 +307,8 @@ enum_within n e all = (
   all.1.0,
   each_map (λ x. x ≤ n) value_place (flat_map value_of_item e.items)
       (each_flat (λ v. value_place v ≤ n) value_of_item e.items
-      (each_row (λ i. AllByRecursion (λ v. value_place v ≤ n) (value_of_item i)) enum_item_tree n e.items (value_within n) (left_of n (row enum_item_tree e.items) (symbol_tree (byte "}") e.close_brace) all.1.1.1))),
+      (each_row (λ i. AllByRecursion (λ v. value_place v ≤ n) (value_of_item i)) enum_item_tree n e.items (value_within n)
+      (left_of n (row enum_item_tree e.items) (symbol_tree (byte "}") e.close_brace) all.1.1.1))),
 )
 
 enum_of_within : (n : ℕ) (i : MessageItem) → ItemWithin n i → AllByRecursion (EnumWithin n) (enum_of i)
@@ -298,12 +321,15 @@ abbrev DescWithin : ℕ → MessageDesc → Type 0
 DescWithin n m = AtMost n (message_places m)
 
 abbrev OwnWithin : ℕ → MessageDesc-F MessageDesc → Type 0
-OwnWithin n m = (m.place.offset ≤ n) × AllByRecursion (FieldWithin n) m.fields × AllByRecursion (OneofWithin n) m.oneofs × AllByRecursion (EnumWithin n) m.enums × AllByRecursion (DescWithin n) m.nested
+OwnWithin n m = (m.place.offset ≤ n) × AllByRecursion (FieldWithin n) m.fields × AllByRecursion (OneofWithin n) m.oneofs × AllByRecursion (EnumWithin n) m.enums
+    × AllByRecursion (DescWithin n) m.nested
 
 pub places_out : (m : MessageDesc) → message_places m
-    ≡ (out-MessageDesc m).place.offset ∷ (flat_map field_places (out-MessageDesc m).fields ++ map oneof_place (out-MessageDesc m).oneofs ++ flat_map enum_places (out-MessageDesc m).enums ++ flat_map message_places (out-MessageDesc m).nested)
+    ≡ (out-MessageDesc m).place.offset ∷ (flat_map field_places (out-MessageDesc m).fields ++ map oneof_place (out-MessageDesc m).oneofs
+    ++ flat_map enum_places (out-MessageDesc m).enums ++ flat_map message_places (out-MessageDesc m).nested)
 places_out m = fold_out-MessageDesc (List ℕ) places_step m
-    ∙ ap (λ xs. (out-MessageDesc m).place.offset ∷ (flat_map field_places (out-MessageDesc m).fields ++ map oneof_place (out-MessageDesc m).oneofs ++ flat_map enum_places (out-MessageDesc m).enums ++ xs)) (flat_map-map (λ (places : List ℕ). places) message_places (out-MessageDesc m).nested)
+    ∙ ap (λ xs. (out-MessageDesc m).place.offset ∷ (flat_map field_places (out-MessageDesc m).fields ++ map oneof_place (out-MessageDesc m).oneofs
+    ++ flat_map enum_places (out-MessageDesc m).enums ++ xs)) (flat_map-map (λ (places : List ℕ). places) message_places (out-MessageDesc m).nested)
 
 out_within : (n : ℕ) (m : MessageDesc) → OwnWithin n (out-MessageDesc m) → DescWithin n m
 out_within n m (place, fields, oneofs, enums, nested) =
@@ -320,7 +346,9 @@ desc_within n m own = out_within n (roll-MessageDesc m) (subst (OwnWithin n) (sy
 entry_within : (n : ℕ) (m : MapField) → Within n (map_tree m) → DescWithin n (entry_of m)
 entry_within n m all =
     let name : m.declarator.name.span.start.offset ≤ n = (right_of n (Left (map_type_tree m.map_type)) (declarator_tree m.declarator) all.1).0 in
-    let value : AtMost n (kind_places (kind_of m.map_type.value)) = kind_within n m.map_type.value (left_of n (type_tree m.map_type.value) (symbol_tree (byte ">") m.map_type.close_angle) (left_of n (Left (map_type_tree m.map_type)) (declarator_tree m.declarator) all.1).1.1.1) in
+    let value : AtMost n (kind_places (kind_of m.map_type.value)) =
+    kind_within n m.map_type.value (left_of n (type_tree m.map_type.value) (symbol_tree (byte ">") m.map_type.close_angle)
+    (left_of n (Left (map_type_tree m.map_type)) (declarator_tree m.declarator) all.1).1.1.1) in
     desc_within n _ (name, ((name, tt), ((name, both (λ x. x ≤ n) (kind_places (kind_of m.map_type.value)) [] value tt), tt)), tt, tt, tt)
 
 -- the nested messages of a statement, by induction on messages
@@ -335,7 +363,8 @@ LayerNested n (opened.Message m) = MessageNested n m
 LayerNested n x = Unit {0}
 
 item_nested : (n : ℕ) (x : MessageItem-F MessageItem Message) → LayerNested n x → ItemNested n (roll-MessageItem x)
-item_nested n (opened.Message m) h = subst (ItemNested n) (sym (of.rolls-Message m)) (λ all full. subst (AllByRecursion (DescWithin n)) (sym (nested_message full m)) (h (subst (Within n) (item_message m) all) full, tt))
+item_nested n (opened.Message m) h = subst (ItemNested n) (sym (of.rolls-Message m))
+    (λ all full. subst (AllByRecursion (DescWithin n)) (sym (nested_message full m)) (h (subst (Within n) (item_message m) all) full, tt))
 item_nested n (opened.Map m) h = subst (ItemNested n) (sym (of.rolls-Map m)) (λ all full. (entry_within n m (subst (Within n) (item_map m) all), tt))
 item_nested n (opened.Enum a) h = subst (ItemNested n) (sym (of.rolls-Enum a)) (λ all full. tt)
 item_nested n (opened.Option a) h = subst (ItemNested n) (sym (of.rolls-Option a)) (λ all full. tt)
@@ -350,28 +379,37 @@ KnownItem n = (i : MessageItem) × ItemNested n i
 abbrev KnownMessage : ℕ → Type 0
 KnownMessage n = (m : Message) × MessageNested n m
 
-all_nested : (n : ℕ) (full : List ℕ) (xs : List (KnownItem n)) → Within n (row message_item_tree (map (λ e. e.0) xs)) → AllByRecursion (DescWithin n) (flat_map (nested_of full) (map (λ e. e.0) xs))
+all_nested : (n : ℕ) (full : List ℕ) (xs : List (KnownItem n)) → Within n (row message_item_tree (map (λ e. e.0) xs))
+    → AllByRecursion (DescWithin n) (flat_map (nested_of full) (map (λ e. e.0) xs))
 all_nested n full [] all = tt
 all_nested n full (x ∷ xs) all =
-    both (DescWithin n) (nested_of full x.0) (flat_map (nested_of full) (map (λ e. e.0) xs)) (x.1 (left_of n (message_item_tree x.0) (row message_item_tree (map (λ e. e.0) xs)) all) full)
+    both (DescWithin n) (nested_of full x.0) (flat_map (nested_of full) (map (λ e. e.0) xs))
+    (x.1 (left_of n (message_item_tree x.0) (row message_item_tree (map (λ e. e.0) xs)) all) full)
     (all_nested n full xs (right_of n (message_item_tree x.0) (row message_item_tree (map (λ e. e.0) xs)) all))
 
-message_nested : (n : ℕ) (k : Span) (name : Identifier) (o : Span) (xs : List (KnownItem n)) (c : Span) → MessageNested n (record { keyword = k; name = name; open_brace = o; items = map (λ e. e.0) xs; close_brace = c })
+message_nested : (n : ℕ) (k : Span) (name : Identifier) (o : Span) (xs : List (KnownItem n)) (c : Span)
+    → MessageNested n (record { keyword = k; name = name; open_brace = o; items = map (λ e. e.0) xs; close_brace = c })
 message_nested n k name o xs c all scope =
     let items : List MessageItem = map (λ e. e.0) xs in
     let full : List ℕ = inner scope name.text in
-    let rows : Within n (row message_item_tree (map (λ e. e.0) xs)) = left_of n (row message_item_tree (map (λ e. e.0) xs)) (symbol_tree (byte "}") c) all.1.1.1 in
+    let rows : Within n (row message_item_tree (map (λ e. e.0) xs)) =
+    left_of n (row message_item_tree (map (λ e. e.0) xs)) (symbol_tree (byte "}") c) all.1.1.1 in
     let each : AllByRecursion (ItemWithin n) (map (λ e. e.0) xs) = each_row (ItemWithin n) message_item_tree n (map (λ e. e.0) xs) (λ i h. h) rows in
-    let fields : AllByRecursion (FieldWithin n) (all_fields (inner scope name.text) (map (λ e. e.0) xs)) = fields_within n (inner scope name.text) 0 (real_count (map (λ e. e.0) xs)) (map (λ e. e.0) xs) each in
+    let fields : AllByRecursion (FieldWithin n) (all_fields (inner scope name.text) (map (λ e. e.0) xs)) =
+    fields_within n (inner scope name.text) 0 (real_count (map (λ e. e.0) xs)) (map (λ e. e.0) xs) each in
     desc_within n _ (
       all.1.0,
       fields,
-      made_within n _ (flat_map real_of (map (λ e. e.0) xs)) (all_fields (inner scope name.text) (map (λ e. e.0) xs)) (each_flat (OneofWithin n) real_of (map (λ e. e.0) xs) (each_weaker (ItemWithin n) (λ i. AllByRecursion (OneofWithin n) (real_of i)) (map (λ e. e.0) xs) (real_within n) each)) fields,
-      each_flat (EnumWithin n) enum_of (map (λ e. e.0) xs) (each_weaker (ItemWithin n) (λ i. AllByRecursion (EnumWithin n) (enum_of i)) (map (λ e. e.0) xs) (enum_of_within n) each),
+      made_within n _ (flat_map real_of (map (λ e. e.0) xs)) (all_fields (inner scope name.text) (map (λ e. e.0) xs))
+          (each_flat (OneofWithin n) real_of (map (λ e. e.0) xs)
+          (each_weaker (ItemWithin n) (λ i. AllByRecursion (OneofWithin n) (real_of i)) (map (λ e. e.0) xs) (real_within n) each)) fields,
+      each_flat (EnumWithin n) enum_of (map (λ e. e.0) xs) (each_weaker (ItemWithin n) (λ i. AllByRecursion (EnumWithin n) (enum_of i)) (map (λ e. e.0) xs)
+          (enum_of_within n) each),
       all_nested n (inner scope name.text) xs rows,
     )
 
-nested_item_step : (n : ℕ) (x : MessageItem-F MessageItem Message) (y : MessageItem-F (KnownItem n) (KnownMessage n)) → map-MessageItem (KnownItem n) (KnownMessage n) MessageItem Message (λ e. e.0) (λ e. e.0) y ≡ x → ItemNested n (roll-MessageItem x)
+nested_item_step : (n : ℕ) (x : MessageItem-F MessageItem Message) (y : MessageItem-F (KnownItem n) (KnownMessage n))
+    → map-MessageItem (KnownItem n) (KnownMessage n) MessageItem Message (λ e. e.0) (λ e. e.0) y ≡ x → ItemNested n (roll-MessageItem x)
 nested_item_step n x (opened.Message m) e = subst (λ z. ItemNested n (roll-MessageItem z)) e (item_nested n (opened.Message m.0) m.1)
 nested_item_step n x (opened.Enum a) e = subst (λ z. ItemNested n (roll-MessageItem z)) e (item_nested n (opened.Enum a) tt)
 nested_item_step n x (opened.Option a) e = subst (λ z. ItemNested n (roll-MessageItem z)) e (item_nested n (opened.Option a) tt)
@@ -381,7 +419,8 @@ nested_item_step n x (opened.Map a) e = subst (λ z. ItemNested n (roll-MessageI
 nested_item_step n x (opened.Empty a) e = subst (λ z. ItemNested n (roll-MessageItem z)) e (item_nested n (opened.Empty a) tt)
 nested_item_step n x (opened.Field a) e = subst (λ z. ItemNested n (roll-MessageItem z)) e (item_nested n (opened.Field a) tt)
 
-nested_message_step : (n : ℕ) (x : Message-F MessageItem Message) (y : Message-F (KnownItem n) (KnownMessage n)) → map-Message (KnownItem n) (KnownMessage n) MessageItem Message (λ e. e.0) (λ e. e.0) y ≡ x → MessageNested n (roll-Message x)
+nested_message_step : (n : ℕ) (x : Message-F MessageItem Message) (y : Message-F (KnownItem n) (KnownMessage n))
+    → map-Message (KnownItem n) (KnownMessage n) MessageItem Message (λ e. e.0) (λ e. e.0) y ≡ x → MessageNested n (roll-Message x)
 nested_message_step n x y e = subst (λ z. MessageNested n (roll-Message z)) e (message_nested n y.keyword y.name y.open_brace y.items y.close_brace)
 
 message_within : (n : ℕ) (m : Message) → MessageNested n m
@@ -402,10 +441,12 @@ MethodWithin n m = AtMost n (method_places m)
 pub rpc_within : (n : ℕ) (r : Rpc) → Within n (rpc_tree r) → MethodWithin n (method_desc r)
 rpc_within n r all =
     let output_on : Tree = Pair (word_tree (codes "returns") r.returns) (Pair (rpc_type_tree r.output) (rpc_body_tree r.body)) in
-    let behind : Within n (Pair (word_tree (codes "returns") r.returns) (Pair (rpc_type_tree r.output) (rpc_body_tree r.body))) = right_of n (rpc_type_tree r.input) (Pair (word_tree (codes "returns") r.returns) (Pair (rpc_type_tree r.output) (rpc_body_tree r.body))) all.1.1 in (
+    let behind : Within n (Pair (word_tree (codes "returns") r.returns) (Pair (rpc_type_tree r.output) (rpc_body_tree r.body))) =
+    right_of n (rpc_type_tree r.input) (Pair (word_tree (codes "returns") r.returns) (Pair (rpc_type_tree r.output) (rpc_body_tree r.body))) all.1.1 in (
       all.1.0,
       both (λ x. x ≤ n) (reference_places (reference_of r.input.name)) (reference_places (reference_of r.output.name))
-          (rpc_type_within n r.input (left_of n (rpc_type_tree r.input) (Pair (word_tree (codes "returns") r.returns) (Pair (rpc_type_tree r.output) (rpc_body_tree r.body))) all.1.1))
+          (rpc_type_within n r.input (left_of n (rpc_type_tree r.input)
+          (Pair (word_tree (codes "returns") r.returns) (Pair (rpc_type_tree r.output) (rpc_body_tree r.body))) all.1.1))
           (rpc_type_within n r.output (left_of n (rpc_type_tree r.output) (rpc_body_tree r.body) behind.1)),
     )
 
@@ -422,7 +463,8 @@ service_within n s all = (
   all.1.0,
   each_flat (λ x. x ≤ n) method_places (flat_map method_of s.items)
       (each_flat (MethodWithin n) method_of s.items
-      (each_row (λ i. AllByRecursion (MethodWithin n) (method_of i)) service_item_tree n s.items (method_within n) (left_of n (row service_item_tree s.items) (symbol_tree (byte "}") s.close_brace) all.1.1.1))),
+      (each_row (λ i. AllByRecursion (MethodWithin n) (method_of i)) service_item_tree n s.items (method_within n)
+      (left_of n (row service_item_tree s.items) (symbol_tree (byte "}") s.close_brace) all.1.1.1))),
 )
 
 -- ---- files
@@ -440,7 +482,9 @@ package_within n (statement.Enum e ∷ ss) all = package_within n ss all.1
 package_within n (statement.Service s ∷ ss) all = package_within n ss all.1
 package_within n (statement.Empty s ∷ ss) all = package_within n ss all.1
 
-import_within : (n : ℕ) (public : Option Span) (path : StringValue) (semicolon : Span) → Within n (Pair (optional (word_tree (codes "public")) public) (Pair (str_tree path) (symbol_tree (byte ";") semicolon))) → path.first.span.start.offset ≤ n
+import_within : (n : ℕ) (public : Option Span) (path : StringValue) (semicolon : Span)
+    → Within n (Pair (optional (word_tree (codes "public")) public) (Pair (str_tree path) (symbol_tree (byte ";") semicolon)))
+    → path.first.span.start.offset ≤ n
 import_within n None path semicolon all = all.0
 import_within n (Some s) path semicolon all = all.1.0
 
@@ -461,15 +505,24 @@ file_service_within n (statement.Service s) all = (service_within n s all, tt)
 file_service_within n s all = tt
 
 -- what each statement of a file gives
-pub given : {X : Type 0} (n : ℕ) (P : X → Type 0) (f : Statement → List X) (ss : List Statement) → ((s : Statement) → StatementWithin n s → AllByRecursion P (f s)) → AllByRecursion (StatementWithin n) ss → AllByRecursion P (flat_map f ss)
+pub given : {X : Type 0} (n : ℕ) (P : X → Type 0) (f : Statement → List X) (ss : List Statement)
+    → ((s : Statement) → StatementWithin n s → AllByRecursion P (f s)) → AllByRecursion (StatementWithin n) ss → AllByRecursion P (flat_map f ss)
 given n P f ss h all = each_flat P f ss (each_weaker (StatementWithin n) (λ s. AllByRecursion P (f s)) ss h all)
 
 pub lowered_within : (n : ℕ) (name : List ℕ) (file : FileTree) → Within n (file_tree file) → AtMost n (places_of (lowered name file))
 lowered_within n name file all =
-    let ss : AllByRecursion (StatementWithin n) file.statements = each_row (StatementWithin n) statement_tree n file.statements (λ s h. h) (right_of n (syntax_tree file.syntax) (row statement_tree file.statements) all) in
+    let ss : AllByRecursion (StatementWithin n) file.statements =
+    each_row (StatementWithin n) statement_tree n file.statements (λ s h. h)
+    (right_of n (syntax_tree file.syntax) (row statement_tree file.statements) all) in
     let scope : List ℕ = package_scope (package_of file.statements) in
-    let of_imports : AtMost n (map import_place (flat_map import_of file.statements)) = each_map (λ x. x ≤ n) import_place _ (given n (λ i. import_place i ≤ n) import_of file.statements (import_of_within n) ss) in
-    let of_messages : AtMost n (flat_map message_places (flat_map (file_message (package_scope (package_of file.statements))) file.statements)) = each_flat (λ x. x ≤ n) message_places _ (given n (DescWithin n) (file_message (package_scope (package_of file.statements))) file.statements (file_message_within n (package_scope (package_of file.statements))) ss) in
-    let of_enums : AtMost n (flat_map enum_places (flat_map file_enum file.statements)) = each_flat (λ x. x ≤ n) enum_places _ (given n (EnumWithin n) file_enum file.statements (file_enum_within n) ss) in
-    let of_services : AtMost n (flat_map service_places (flat_map file_service file.statements)) = each_flat (λ x. x ≤ n) service_places _ (given n (ServiceWithin n) file_service file.statements (file_service_within n) ss) in
-    both (λ x. x ≤ n) _ _ (both (λ x. x ≤ n) _ _ (both (λ x. x ≤ n) _ _ (both (λ x. x ≤ n) _ _ (package_within n file.statements ss) of_imports) of_messages) of_enums) of_services
+    let of_imports : AtMost n (map import_place (flat_map import_of file.statements)) =
+    each_map (λ x. x ≤ n) import_place _ (given n (λ i. import_place i ≤ n) import_of file.statements (import_of_within n) ss) in
+    let of_messages : AtMost n (flat_map message_places (flat_map (file_message (package_scope (package_of file.statements))) file.statements)) =
+    each_flat (λ x. x ≤ n) message_places _ (given n (DescWithin n) (file_message (package_scope (package_of file.statements))) file.statements
+    (file_message_within n (package_scope (package_of file.statements))) ss) in
+    let of_enums : AtMost n (flat_map enum_places (flat_map file_enum file.statements)) =
+    each_flat (λ x. x ≤ n) enum_places _ (given n (EnumWithin n) file_enum file.statements (file_enum_within n) ss) in
+    let of_services : AtMost n (flat_map service_places (flat_map file_service file.statements)) =
+    each_flat (λ x. x ≤ n) service_places _ (given n (ServiceWithin n) file_service file.statements (file_service_within n) ss) in
+    both (λ x. x ≤ n) _ _ (both (λ x. x ≤ n) _ _ (both (λ x. x ≤ n) _ _ (both (λ x. x ≤ n) _ _ (package_within n file.statements ss) of_imports) of_messages)
+    of_enums) of_services

@@ -25,10 +25,12 @@ standing P [] i a all at = absurd (omega (arith, at.0))
 standing P (x ∷ xs) zero a all at = subst P at.1 all.0
 standing P (x ∷ xs) (suc i) a all at = standing P xs i a all.1 (omega (arith, at.0), at.1)
 
-pub each_within : {X : Type 0} (P : X → Type 0) (S : X → Spot → Type 0) (n : ℕ) (xs : List X) (x : Spot) → AllByRecursion P xs → ((a : X) → P a → S a x → SpotWithin n x) → Each xs S x → SpotWithin n x
+pub each_within : {X : Type 0} (P : X → Type 0) (S : X → Spot → Type 0) (n : ℕ) (xs : List X) (x : Spot) → AllByRecursion P xs
+    → ((a : X) → P a → S a x → SpotWithin n x) → Each xs S x → SpotWithin n x
 each_within P S n xs x all h (i, a, at, s) = h a (standing P xs i a all at) s
 
-pub later_within : {X : Type 0} (R : X → X → Type 0) (place : X → Place) (k : Kind) (n : ℕ) (xs : List X) (x : Spot) → AllByRecursion (λ a. Placed n (place a)) xs → Later xs R (λ a. spot (place a) k) x → SpotWithin n x
+pub later_within : {X : Type 0} (R : X → X → Type 0) (place : X → Place) (k : Kind) (n : ℕ) (xs : List X) (x : Spot)
+    → AllByRecursion (λ a. Placed n (place a)) xs → Later xs R (λ a. spot (place a) k) x → SpotWithin n x
 later_within R place k n xs x all (i, j, a, b, before, at, at', r, e) = at_spot n (place b) k x (standing (λ c. Placed n (place c)) xs j b all at') e
 
 abbrev pub NumbersWithin : ℕ → List MarkedNumber → Type 0
@@ -47,7 +49,8 @@ pub text_twice : (n : ℕ) (k : Kind) (ts : List Marked) (x : Spot) → TextsWit
 text_twice n k ts x all broken = later_within (λ a b. a.text ≡ b.text) (λ (t : Marked). t.place) k n ts x all broken
 
 pub outside : (n least greatest : ℕ) (k : Kind) (ns : List MarkedNumber) (x : Spot) → NumbersWithin n ns → Outside least greatest k ns x → SpotWithin n x
-outside n least greatest k ns x all broken = each_within (λ (m : MarkedNumber). Placed n m.place) (IsOutside least greatest k) n ns x all (λ m within s. at_spot n m.place k x within s.1) broken
+outside n least greatest k ns x all broken =
+    each_within (λ (m : MarkedNumber). Placed n m.place) (IsOutside least greatest k) n ns x all (λ m within s. at_spot n m.place k x within s.1) broken
 
 pub overlap : (n : ℕ) (rs : List MarkedRange) (x : Spot) → RangesWithin n rs → ReservedOverlap rs x → SpotWithin n x
 overlap n rs x all broken = later_within _ (λ (r : MarkedRange). r.place) _ n rs x all broken
@@ -56,7 +59,9 @@ pub backwards : (n : ℕ) (rs : List MarkedRange) (x : Spot) → RangesWithin n 
 backwards n rs x all broken = each_within (λ (r : MarkedRange). Placed n r.place) IsBackwards n rs x all (λ r within s. at_spot n r.place _ x within s.1) broken
 
 pub number_used : (n : ℕ) (rs : List MarkedRange) (ns : List MarkedNumber) (x : Spot) → NumbersWithin n ns → ReservedNumberUsed rs ns x → SpotWithin n x
-number_used n rs ns x all broken = each_within (λ (m : MarkedNumber). Placed n m.place) (IsReserved rs) n ns x all (λ m within s. at_spot n m.place _ x within s.1) broken
+number_used n rs ns x all broken =
+    each_within (λ (m : MarkedNumber). Placed n m.place) (IsReserved rs) n ns x all (λ m within s. at_spot n m.place _ x within s.1) broken
 
 pub name_used : (n : ℕ) (reserved : List (List ℕ)) (ts : List Marked) (x : Spot) → TextsWithin n ts → ReservedNameUsed reserved ts x → SpotWithin n x
-name_used n reserved ts x all broken = each_within (λ (t : Marked). Placed n t.place) (IsReservedName reserved) n ts x all (λ t within s. at_spot n t.place _ x within s.1) broken
+name_used n reserved ts x all broken =
+    each_within (λ (t : Marked). Placed n t.place) (IsReservedName reserved) n ts x all (λ t within s. at_spot n t.place _ x within s.1) broken

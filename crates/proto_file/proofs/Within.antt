@@ -62,13 +62,16 @@ use Rattle.proto_file.proofs.Spots.{Placed, SpotWithin, at_spot, standing, each_
 
 -- ---- lists
 
-pub given : {X Y : Type 0} (Q : X → Type 0) (P : Y → Type 0) (f : X → List Y) (xs : List X) → ((x : X) → Q x → AllByRecursion P (f x)) → AllByRecursion Q xs → AllByRecursion P (flat_map f xs)
+pub given : {X Y : Type 0} (Q : X → Type 0) (P : Y → Type 0) (f : X → List Y) (xs : List X) → ((x : X) → Q x → AllByRecursion P (f x)) → AllByRecursion Q xs
+    → AllByRecursion P (flat_map f xs)
 given Q P f xs h all = each_flat P f xs (each_weaker Q (λ x. AllByRecursion P (f x)) xs h all)
 
-separated_within : {A : Type 0} (P : A → Type 0) (f : A → Tree) (n : ℕ) (s : Separated A) → ((x : A) → Within n (f x) → P x) → Within n (separated_tree f s) → AllByRecursion P (separated s)
+separated_within : {A : Type 0} (P : A → Type 0) (f : A → Tree) (n : ℕ) (s : Separated A) → ((x : A) → Within n (f x) → P x) → Within n (separated_tree f s)
+    → AllByRecursion P (separated s)
 separated_within {A} P f n s h all = (
   h s.first (left_of n (f s.first) (row (next_tree f) s.rest) all),
-  each_map P next_item s.rest (each_row (λ (x : Next A). P x.item) (next_tree f) n s.rest (λ x w. h x.item w.1) (right_of n (f s.first) (row (next_tree f) s.rest) all)),
+  each_map P next_item s.rest (each_row (λ (x : Next A). P x.item) (next_tree f) n s.rest (λ x w. h x.item w.1)
+      (right_of n (f s.first) (row (next_tree f) s.rest) all)),
 )
 
 -- ---- options
@@ -76,7 +79,8 @@ separated_within {A} P f n s h all = (
 abbrev pub SettingWithin : ℕ → Setting → Type 0
 SettingWithin n s = Placed n (name_place s) × Placed n (value_place s.value)
 
-number_within : (n : ℕ) (s : Option Sign) (digits : NumberLiteral) → Within n (Pair (optional sign_tree s) (number_tree digits)) → Placed n (value_place (constant.Number (record { sign = s; number = digits })))
+number_within : (n : ℕ) (s : Option Sign) (digits : NumberLiteral) → Within n (Pair (optional sign_tree s) (number_tree digits))
+    → Placed n (value_place (constant.Number (record { sign = s; number = digits })))
 number_within n None digits all = all.0
 number_within n (Some (sign.Minus s)) digits all = all.0
 number_within n (Some (sign.Plus s)) digits all = all.0
@@ -95,7 +99,8 @@ statement_within n o all = setting_within n o.setting (left_of n (setting_tree o
 
 bracketed_within : (n : ℕ) (o : Option Options) → Within n (optional options_tree o) → AllByRecursion (SettingWithin n) (bracketed o)
 bracketed_within n None all = tt
-bracketed_within n (Some o) all = separated_within (SettingWithin n) setting_tree n o.settings (setting_within n) (left_of n (separated_tree setting_tree o.settings) (symbol_tree (byte "]") o.close_bracket) all.1)
+bracketed_within n (Some o) all = separated_within (SettingWithin n) setting_tree n o.settings (setting_within n)
+    (left_of n (separated_tree setting_tree o.settings) (symbol_tree (byte "]") o.close_bracket) all.1)
 
 setting_breaks : (n : ℕ) (e : Element) (x : Spot) (s : Setting) → SettingWithin n s → SettingBreaks e s x → SpotWithin n x
 setting_breaks n e x s within (SettingBreaks.unknown u at) = at_spot n (name_place s) _ x within.0 at
@@ -103,7 +108,8 @@ setting_breaks n e x s within (SettingBreaks.mistaken m at) = at_spot n (value_p
 
 pub settings_break : (n : ℕ) (e : Element) (ss : List Setting) (x : Spot) → AllByRecursion (SettingWithin n) ss → SettingsBreak e ss x → SpotWithin n x
 settings_break n e ss x all (inl broken) = each_within (SettingWithin n) (SettingBreaks e) n ss x all (λ s within b. setting_breaks n e x s within b) broken
-settings_break n e ss x all (inr broken) = later_within _ name_place kind.OptionTwice n ss x (each_weaker (SettingWithin n) (λ s. Placed n (name_place s)) ss (λ s within. within.0) all) broken
+settings_break n e ss x all (inr broken) =
+    later_within _ name_place kind.OptionTwice n ss x (each_weaker (SettingWithin n) (λ s. Placed n (name_place s)) ss (λ s within. within.0) all) broken
 
 -- ---- fields
 
@@ -115,8 +121,12 @@ options_within n d all = bracketed_within n d.options (left_of n (optional optio
 
 optioned_breaks : (n : ℕ) (x : Spot) (f : OptionedField) → OptionedWithin n f → FieldOptionsBreak f x → SpotWithin n x
 optioned_breaks n x f all (FieldOptionsBreak.settings broken) = settings_break n element.Field (bracketed f.declarator.options) x all broken
-optioned_breaks n x f all (FieldOptionsBreak.packed broken) = each_within (SettingWithin n) (IsWronglyPacked f.can_be_packed) n (bracketed f.declarator.options) x all (λ s within w. at_spot n (name_place s) _ x within.0 w.3) broken
-optioned_breaks n x f all (FieldOptionsBreak.jstype broken) = each_within (SettingWithin n) (IsWronglyTyped f.is_wide_integer) n (bracketed f.declarator.options) x all (λ s within w. at_spot n (name_place s) _ x within.0 w.3) broken
+optioned_breaks n x f all (FieldOptionsBreak.packed broken) =
+    each_within (SettingWithin n) (IsWronglyPacked f.can_be_packed) n (bracketed f.declarator.options) x all
+    (λ s within w. at_spot n (name_place s) _ x within.0 w.3) broken
+optioned_breaks n x f all (FieldOptionsBreak.jstype broken) =
+    each_within (SettingWithin n) (IsWronglyTyped f.is_wide_integer) n (bracketed f.declarator.options) x all
+    (λ s within w. at_spot n (name_place s) _ x within.0 w.3) broken
 
 -- the declarators of a message's fields
 member_tree_within : (n : ℕ) (o : Oneof) → Within n (oneof_tree o) → AllByRecursion (λ i. Within n (oneof_item_tree i)) o.items
@@ -128,9 +138,12 @@ optioned_member_within n (oneof_item.Option o) all = tt
 optioned_member_within n (oneof_item.Empty s) all = tt
 
 optioned_within : (n : ℕ) (i : MessageItem) → ItemWithin n i → AllByRecursion (OptionedWithin n) (optioned_fields i)
-optioned_within n (message_item.Field f) all = (options_within n f.declarator (statement_field_within n f.label f.field_type f.declarator (subst (Within n) (item_field f) all)).1, tt)
-optioned_within n (message_item.Map m) all = (options_within n m.declarator (right_of n (Left (map_type_tree m.map_type)) (declarator_tree m.declarator) (subst (Within n) (item_map m) all).1), tt)
-optioned_within n (message_item.Oneof o) all = given (λ i. Within n (oneof_item_tree i)) (OptionedWithin n) optioned_member o.items (optioned_member_within n) (member_tree_within n o (subst (Within n) (item_oneof o) all))
+optioned_within n (message_item.Field f) all =
+    (options_within n f.declarator (statement_field_within n f.label f.field_type f.declarator (subst (Within n) (item_field f) all)).1, tt)
+optioned_within n (message_item.Map m) all =
+    (options_within n m.declarator (right_of n (Left (map_type_tree m.map_type)) (declarator_tree m.declarator) (subst (Within n) (item_map m) all).1), tt)
+optioned_within n (message_item.Oneof o) all = given (λ i. Within n (oneof_item_tree i)) (OptionedWithin n) optioned_member o.items (optioned_member_within n)
+    (member_tree_within n o (subst (Within n) (item_oneof o) all))
 optioned_within n i all = tt
 
 member_number_within : (n : ℕ) (i : OneofItem) → Within n (oneof_item_tree i) → NumbersWithin n (member_number i)
@@ -139,9 +152,12 @@ member_number_within n (oneof_item.Option o) all = tt
 member_number_within n (oneof_item.Empty s) all = tt
 
 field_number_within : (n : ℕ) (i : MessageItem) → ItemWithin n i → NumbersWithin n (field_number i)
-field_number_within n (message_item.Field f) all = ((statement_field_within n f.label f.field_type f.declarator (subst (Within n) (item_field f) all)).1.1.1.0, tt)
-field_number_within n (message_item.Map m) all = ((right_of n (Left (map_type_tree m.map_type)) (declarator_tree m.declarator) (subst (Within n) (item_map m) all).1).1.1.0, tt)
-field_number_within n (message_item.Oneof o) all = given (λ i. Within n (oneof_item_tree i)) (λ (m : MarkedNumber). Placed n m.place) member_number o.items (member_number_within n) (member_tree_within n o (subst (Within n) (item_oneof o) all))
+field_number_within n (message_item.Field f) all =
+    ((statement_field_within n f.label f.field_type f.declarator (subst (Within n) (item_field f) all)).1.1.1.0, tt)
+field_number_within n (message_item.Map m) all =
+    ((right_of n (Left (map_type_tree m.map_type)) (declarator_tree m.declarator) (subst (Within n) (item_map m) all).1).1.1.0, tt)
+field_number_within n (message_item.Oneof o) all = given (λ i. Within n (oneof_item_tree i)) (λ (m : MarkedNumber). Placed n m.place) member_number o.items
+    (member_number_within n) (member_tree_within n o (subst (Within n) (item_oneof o) all))
 field_number_within n i all = tt
 
 -- ---- what is reserved
@@ -149,15 +165,18 @@ field_number_within n i all = tt
 reserved_items_within : {N : Type 0} (f : N → Tree) (n : ℕ) (r : Reserved N) → Within n (reserved_tree f r) → Within n (reserved_items_tree f r.items)
 reserved_items_within f n r all = left_of n (reserved_items_tree f r.items) (symbol_tree (byte ";") r.semicolon) all.1
 
-ranges_within : {N : Type 0} (f : N → Tree) (n : ℕ) (i : ReservedItems N) → Within n (reserved_items_tree f i) → AllByRecursion (λ r. Within n (range_tree f r)) (ranges_listed i)
+ranges_within : {N : Type 0} (f : N → Tree) (n : ℕ) (i : ReservedItems N) → Within n (reserved_items_tree f i)
+    → AllByRecursion (λ r. Within n (range_tree f r)) (ranges_listed i)
 ranges_within f n (reserved_items.Ranges s) all = separated_within (λ r. Within n (range_tree f r)) (range_tree f) n s (λ r w. w) all
 ranges_within f n (reserved_items.Names s) all = tt
 
-names_within : {N : Type 0} (f : N → Tree) (n : ℕ) (i : ReservedItems N) → Within n (reserved_items_tree f i) → AllByRecursion (λ (s : StringValue). Placed n s.first.span.start) (names_listed i)
+names_within : {N : Type 0} (f : N → Tree) (n : ℕ) (i : ReservedItems N) → Within n (reserved_items_tree f i)
+    → AllByRecursion (λ (s : StringValue). Placed n s.first.span.start) (names_listed i)
 names_within f n (reserved_items.Ranges s) all = tt
 names_within f n (reserved_items.Names s) all = separated_within (λ (s : StringValue). Placed n s.first.span.start) str_tree n s (λ s w. w.0) all
 
-end_within : {N : Type 0} (f : N → Tree) (n : ℕ) (e : Option (RangeEnd N)) → Within n (optional (range_end_tree f) e) → AllByRecursion (λ x. Within n (f x)) (end_bound e)
+end_within : {N : Type 0} (f : N → Tree) (n : ℕ) (e : Option (RangeEnd N)) → Within n (optional (range_end_tree f) e)
+    → AllByRecursion (λ x. Within n (f x)) (end_bound e)
 end_within {N} f n None all = tt
 end_within {N} f n (Some e) all = by_bound e.bound all.1
   where
@@ -166,40 +185,49 @@ end_within {N} f n (Some e) all = by_bound e.bound all.1
     by_bound (upper_bound.Max s) w = tt
 
 bounds_within : {N : Type 0} (f : N → Tree) (n : ℕ) (r : Range N) → Within n (range_tree f r) → AllByRecursion (λ x. Within n (f x)) (bounds_of r)
-bounds_within f n r all = (left_of n (f r.start) (optional (range_end_tree f) r.end) all, end_within f n r.end (right_of n (f r.start) (optional (range_end_tree f) r.end) all))
+bounds_within f n r all =
+    (left_of n (f r.start) (optional (range_end_tree f) r.end) all, end_within f n r.end (right_of n (f r.start) (optional (range_end_tree f) r.end) all))
 
 -- of a message
 message_ranges_within : (n : ℕ) (i : MessageItem) → ItemWithin n i → AllByRecursion (λ r. Within n (range_tree number_tree r)) (message_ranges_listed i)
-message_ranges_within n (message_item.Reserved r) all = ranges_within number_tree n r.items (reserved_items_within number_tree n r (subst (Within n) (item_reserved r) all))
+message_ranges_within n (message_item.Reserved r) all =
+    ranges_within number_tree n r.items (reserved_items_within number_tree n r (subst (Within n) (item_reserved r) all))
 message_ranges_within n i all = tt
 
 message_names_within : (n : ℕ) (i : MessageItem) → ItemWithin n i → AllByRecursion (λ (s : StringValue). Placed n s.first.span.start) (message_names_listed i)
-message_names_within n (message_item.Reserved r) all = names_within number_tree n r.items (reserved_items_within number_tree n r (subst (Within n) (item_reserved r) all))
+message_names_within n (message_item.Reserved r) all =
+    names_within number_tree n r.items (reserved_items_within number_tree n r (subst (Within n) (item_reserved r) all))
 message_names_within n i all = tt
 
 abbrev pub ItemsWithin : ℕ → List MessageItem → Type 0
 ItemsWithin n is = AllByRecursion (ItemWithin n) is
 
-listed_within : (n : ℕ) (is : List MessageItem) → ItemsWithin n is → AllByRecursion (λ r. Within n (range_tree number_tree r)) (flat_map message_ranges_listed is)
+listed_within : (n : ℕ) (is : List MessageItem) → ItemsWithin n is
+    → AllByRecursion (λ r. Within n (range_tree number_tree r)) (flat_map message_ranges_listed is)
 listed_within n is all = given (ItemWithin n) (λ r. Within n (range_tree number_tree r)) message_ranges_listed is (message_ranges_within n) all
 
 field_numbers_within : (n : ℕ) (is : List MessageItem) → ItemsWithin n is → NumbersWithin n (field_numbers is)
 field_numbers_within n is all = given (ItemWithin n) (λ (m : MarkedNumber). Placed n m.place) field_number is (field_number_within n) all
 
 all_ranges_within : (n : ℕ) (is : List MessageItem) → ItemsWithin n is → RangesWithin n (message_ranges is)
-all_ranges_within n is all = each_map (λ (r : MarkedRange). Placed n r.place) message_range (flat_map message_ranges_listed is) (each_weaker _ (λ r. Placed n r.start.span.start) (flat_map message_ranges_listed is) (λ r w. w.0) (listed_within n is all))
+all_ranges_within n is all = each_map (λ (r : MarkedRange). Placed n r.place) message_range (flat_map message_ranges_listed is)
+    (each_weaker _ (λ r. Placed n r.start.span.start) (flat_map message_ranges_listed is) (λ r w. w.0) (listed_within n is all))
 
 all_bounds_within : (n : ℕ) (is : List MessageItem) → ItemsWithin n is → NumbersWithin n (message_bounds is)
 all_bounds_within n is all =
     each_map (λ (m : MarkedNumber). Placed n m.place) literal (flat_map bounds_of (flat_map message_ranges_listed is))
     (given (λ r. Within n (range_tree number_tree r)) (λ (x : NumberLiteral). Placed n x.span.start) bounds_of (flat_map message_ranges_listed is)
-    (λ r w. each_weaker (λ x. Within n (number_tree x)) (λ (x : NumberLiteral). Placed n x.span.start) (bounds_of r) (λ x v. v.0) (bounds_within number_tree n r w)) (listed_within n is all))
+    (λ r w. each_weaker (λ x. Within n (number_tree x)) (λ (x : NumberLiteral). Placed n x.span.start) (bounds_of r) (λ x v. v.0)
+    (bounds_within number_tree n r w)) (listed_within n is all))
 
 all_names_within : (n : ℕ) (is : List MessageItem) → ItemsWithin n is → TextsWithin n (message_reserved_names is)
-all_names_within n is all = each_map (λ (t : Marked). Placed n t.place) reserved_name (flat_map message_names_listed is) (given (ItemWithin n) (λ (s : StringValue). Placed n s.first.span.start) message_names_listed is (message_names_within n) all)
+all_names_within n is all = each_map (λ (t : Marked). Placed n t.place) reserved_name (flat_map message_names_listed is)
+    (given (ItemWithin n) (λ (s : StringValue). Placed n s.first.span.start) message_names_listed is (message_names_within n) all)
 
 field_numbers_break : (n : ℕ) (is : List MessageItem) (x : Spot) → ItemsWithin n is → FieldNumbersBreak is x → SpotWithin n x
-field_numbers_break n is x all (FieldNumbersBreak.number_range b) = each_within (λ (m : MarkedNumber). Placed n m.place) IsNoFieldNumber n (field_numbers is) x (field_numbers_within n is all) (λ m within s. at_spot n m.place _ x within s.1) b
+field_numbers_break n is x all (FieldNumbersBreak.number_range b) =
+    each_within (λ (m : MarkedNumber). Placed n m.place) IsNoFieldNumber n (field_numbers is) x (field_numbers_within n is all)
+    (λ m within s. at_spot n m.place _ x within s.1) b
 field_numbers_break n is x all (FieldNumbersBreak.bound_range b) = outside n _ _ _ (message_bounds is) x (all_bounds_within n is all) b
 field_numbers_break n is x all (FieldNumbersBreak.number_twice b) = number_twice n _ (field_numbers is) x (field_numbers_within n is all) b
 field_numbers_break n is x all (FieldNumbersBreak.number_used b) = number_used n (message_ranges is) (field_numbers is) x (field_numbers_within n is all) b
@@ -214,7 +242,8 @@ EnumItemWithin n i = Within n (enum_item_tree i)
 abbrev EnumItemsWithin : ℕ → List EnumItem → Type 0
 EnumItemsWithin n is = AllByRecursion (EnumItemWithin n) is
 
-sign_within : (n : ℕ) (minus : Option Span) (digits : NumberLiteral) → Within n (Pair (optional (symbol_tree (byte "-")) minus) (number_tree digits)) → Placed n (sign_place minus digits.span)
+sign_within : (n : ℕ) (minus : Option Span) (digits : NumberLiteral) → Within n (Pair (optional (symbol_tree (byte "-")) minus) (number_tree digits))
+    → Placed n (sign_place minus digits.span)
 sign_within n None digits all = all.0
 sign_within n (Some s) digits all = all.0
 
@@ -222,7 +251,8 @@ signed_within : (n : ℕ) (s : SignedNumber) → Within n (signed_tree s) → Pl
 signed_within n s all = sign_within n s.minus s.number all
 
 value_number_within : (n : ℕ) (i : EnumItem) → EnumItemWithin n i → NumbersWithin n (value_number i)
-value_number_within n (enum_item.Value v) all = (signed_within n v.number (left_of n (signed_tree v.number) (Pair (optional options_tree v.options) (symbol_tree (byte ";") v.semicolon)) all.1.1), tt)
+value_number_within n (enum_item.Value v) all =
+    (signed_within n v.number (left_of n (signed_tree v.number) (Pair (optional options_tree v.options) (symbol_tree (byte ";") v.semicolon)) all.1.1), tt)
 value_number_within n (enum_item.Option o) all = tt
 value_number_within n (enum_item.Reserved r) all = tt
 value_number_within n (enum_item.Empty s) all = tt
@@ -239,7 +269,8 @@ enum_names_within n (enum_item.Value v) all = tt
 enum_names_within n (enum_item.Option o) all = tt
 enum_names_within n (enum_item.Empty s) all = tt
 
-enum_listed_within : (n : ℕ) (is : List EnumItem) → EnumItemsWithin n is → AllByRecursion (λ r. Within n (range_tree signed_tree r)) (flat_map enum_ranges_listed is)
+enum_listed_within : (n : ℕ) (is : List EnumItem) → EnumItemsWithin n is
+    → AllByRecursion (λ r. Within n (range_tree signed_tree r)) (flat_map enum_ranges_listed is)
 enum_listed_within n is all = given (EnumItemWithin n) (λ r. Within n (range_tree signed_tree r)) enum_ranges_listed is (enum_ranges_within n) all
 
 values_within : (n : ℕ) (is : List EnumItem) → EnumItemsWithin n is → NumbersWithin n (value_numbers is)
@@ -248,19 +279,24 @@ values_within n is all = given (EnumItemWithin n) (λ (m : MarkedNumber). Placed
 all_enum_ranges_within : (n : ℕ) (is : List EnumItem) → EnumItemsWithin n is → RangesWithin n (enum_ranges is)
 all_enum_ranges_within n is all =
     each_map (λ (r : MarkedRange). Placed n r.place) enum_range (flat_map enum_ranges_listed is)
-    (each_weaker _ (λ r. Placed n (sign_place r.start.minus r.start.number.span)) (flat_map enum_ranges_listed is) (λ r w. signed_within n r.start (left_of n (signed_tree r.start) (optional (range_end_tree signed_tree) r.end) w)) (enum_listed_within n is all))
+    (each_weaker _ (λ r. Placed n (sign_place r.start.minus r.start.number.span)) (flat_map enum_ranges_listed is)
+    (λ r w. signed_within n r.start (left_of n (signed_tree r.start) (optional (range_end_tree signed_tree) r.end) w)) (enum_listed_within n is all))
 
 all_enum_bounds_within : (n : ℕ) (is : List EnumItem) → EnumItemsWithin n is → NumbersWithin n (enum_bounds is)
 all_enum_bounds_within n is all =
     each_map (λ (m : MarkedNumber). Placed n m.place) signed_number (flat_map bounds_of (flat_map enum_ranges_listed is))
-    (given (λ r. Within n (range_tree signed_tree r)) (λ (x : SignedNumber). Placed n (sign_place x.minus x.number.span)) bounds_of (flat_map enum_ranges_listed is)
-    (λ r w. each_weaker (λ x. Within n (signed_tree x)) (λ (x : SignedNumber). Placed n (sign_place x.minus x.number.span)) (bounds_of r) (λ x v. signed_within n x v) (bounds_within signed_tree n r w)) (enum_listed_within n is all))
+    (given (λ r. Within n (range_tree signed_tree r)) (λ (x : SignedNumber). Placed n (sign_place x.minus x.number.span)) bounds_of
+    (flat_map enum_ranges_listed is)
+    (λ r w. each_weaker (λ x. Within n (signed_tree x)) (λ (x : SignedNumber). Placed n (sign_place x.minus x.number.span)) (bounds_of r)
+    (λ x v. signed_within n x v) (bounds_within signed_tree n r w)) (enum_listed_within n is all))
 
 all_enum_names_within : (n : ℕ) (is : List EnumItem) → EnumItemsWithin n is → TextsWithin n (enum_reserved_names is)
-all_enum_names_within n is all = each_map (λ (t : Marked). Placed n t.place) reserved_name (flat_map enum_names_listed is) (given (EnumItemWithin n) (λ (s : StringValue). Placed n s.first.span.start) enum_names_listed is (enum_names_within n) all)
+all_enum_names_within n is all = each_map (λ (t : Marked). Placed n t.place) reserved_name (flat_map enum_names_listed is)
+    (given (EnumItemWithin n) (λ (s : StringValue). Placed n s.first.span.start) enum_names_listed is (enum_names_within n) all)
 
 enum_numbers_break : (n : ℕ) (is : List EnumItem) (x : Spot) → EnumItemsWithin n is → EnumNumbersBreak is x → SpotWithin n x
-enum_numbers_break n is x all (EnumNumbersBreak.first_not_zero b) = at_spot n b.0.place _ x (standing (λ (m : MarkedNumber). Placed n m.place) (value_numbers is) 0 b.0 (values_within n is all) b.1) b.3
+enum_numbers_break n is x all (EnumNumbersBreak.first_not_zero b) =
+    at_spot n b.0.place _ x (standing (λ (m : MarkedNumber). Placed n m.place) (value_numbers is) 0 b.0 (values_within n is all) b.1) b.3
 enum_numbers_break n is x all (EnumNumbersBreak.value_range b) = outside n _ _ _ (value_numbers is) x (values_within n is all) b
 enum_numbers_break n is x all (EnumNumbersBreak.bound_range b) = outside n _ _ _ (enum_bounds is) x (all_enum_bounds_within n is all) b
 enum_numbers_break n is x all (EnumNumbersBreak.number_twice apart b) = number_twice n _ (value_numbers is) x (values_within n is all) b
@@ -281,21 +317,28 @@ abbrev ValueWithin : ℕ → EnumValue → Type 0
 ValueWithin n v = AllByRecursion (SettingWithin n) (bracketed v.options)
 
 value_options_within : (n : ℕ) (i : EnumItem) → EnumItemWithin n i → AllByRecursion (ValueWithin n) (value_of_item i)
-value_options_within n (enum_item.Value v) all =
-    (bracketed_within n v.options (left_of n (optional options_tree v.options) (symbol_tree (byte ";") v.semicolon) (right_of n (signed_tree v.number) (Pair (optional options_tree v.options) (symbol_tree (byte ";") v.semicolon)) all.1.1)), tt)
+value_options_within n (enum_item.Value v) all = (
+  bracketed_within n v.options (left_of n (optional options_tree v.options) (symbol_tree (byte ";") v.semicolon)
+      (right_of n (signed_tree v.number) (Pair (optional options_tree v.options) (symbol_tree (byte ";") v.semicolon)) all.1.1)),
+  tt,
+)
 value_options_within n (enum_item.Option o) all = tt
 value_options_within n (enum_item.Reserved r) all = tt
 value_options_within n (enum_item.Empty s) all = tt
 
 enum_items_within : (n : ℕ) (e : Enum) → Within n (enum_tree e) → EnumItemsWithin n e.items
-enum_items_within n e all = each_row (EnumItemWithin n) enum_item_tree n e.items (λ i w. w) (left_of n (row enum_item_tree e.items) (symbol_tree (byte "}") e.close_brace) all.1.1.1)
+enum_items_within n e all =
+    each_row (EnumItemWithin n) enum_item_tree n e.items (λ i w. w) (left_of n (row enum_item_tree e.items) (symbol_tree (byte "}") e.close_brace) all.1.1.1)
 
 pub enum_breaks : (n : ℕ) (x : Spot) (e : Enum) → Within n (enum_tree e) → EnumBreaks e x → SpotWithin n x
 enum_breaks n x e all (EnumBreaks.empty b) = at_spot n e.name.span.start _ x all.1.0 b.1
 enum_breaks n x e all (EnumBreaks.numbers b) = enum_numbers_break n e.items x (enum_items_within n e all) b
-enum_breaks n x e all (EnumBreaks.options b) = settings_break n element.Enum (flat_map enum_setting e.items) x (given (EnumItemWithin n) (SettingWithin n) enum_setting e.items (enum_setting_within n) (enum_items_within n e all)) b
+enum_breaks n x e all (EnumBreaks.options b) = settings_break n element.Enum (flat_map enum_setting e.items) x
+    (given (EnumItemWithin n) (SettingWithin n) enum_setting e.items (enum_setting_within n) (enum_items_within n e all)) b
 enum_breaks n x e all (EnumBreaks.value_options b) =
-    each_within (ValueWithin n) ValueBreaks n (flat_map value_of_item e.items) x (given (EnumItemWithin n) (ValueWithin n) value_of_item e.items (value_options_within n) (enum_items_within n e all)) (λ v within s. settings_break n element.EnumValue (bracketed v.options) x within s) b
+    each_within (ValueWithin n) ValueBreaks n (flat_map value_of_item e.items) x
+    (given (EnumItemWithin n) (ValueWithin n) value_of_item e.items (value_options_within n) (enum_items_within n e all))
+    (λ v within s. settings_break n element.EnumValue (bracketed v.options) x within s) b
 
 oneof_setting_within : (n : ℕ) (i : OneofItem) → Within n (oneof_item_tree i) → AllByRecursion (SettingWithin n) (oneof_setting i)
 oneof_setting_within n (oneof_item.Option o) all = (statement_within n o all, tt)
@@ -304,7 +347,8 @@ oneof_setting_within n (oneof_item.Empty s) all = tt
 
 oneof_breaks : (n : ℕ) (x : Spot) (o : Oneof) → Within n (oneof_tree o) → OneofBreaks o x → SpotWithin n x
 oneof_breaks n x o all (OneofBreaks.empty b) = at_spot n o.name.span.start _ x all.1.0 b.1
-oneof_breaks n x o all (OneofBreaks.options b) = settings_break n element.Oneof (flat_map oneof_setting o.items) x (given (λ i. Within n (oneof_item_tree i)) (SettingWithin n) oneof_setting o.items (oneof_setting_within n) (member_tree_within n o all)) b
+oneof_breaks n x o all (OneofBreaks.options b) = settings_break n element.Oneof (flat_map oneof_setting o.items) x
+    (given (λ i. Within n (oneof_item_tree i)) (SettingWithin n) oneof_setting o.items (oneof_setting_within n) (member_tree_within n o all)) b
 
 message_setting_within : (n : ℕ) (i : MessageItem) → ItemWithin n i → AllByRecursion (SettingWithin n) (message_setting i)
 message_setting_within n (message_item.Option o) all = (statement_within n o (subst (Within n) (item_option o) all), tt)
@@ -320,10 +364,14 @@ enum_of_within n i all = tt
 
 pub body_breaks : (n : ℕ) (x : Spot) (is : List MessageItem) → ItemsWithin n is → BodyBreaks is x → SpotWithin n x
 body_breaks n x is all (BodyBreaks.numbers b) = field_numbers_break n is x all b
-body_breaks n x is all (BodyBreaks.options b) = settings_break n element.Message (flat_map message_setting is) x (given (ItemWithin n) (SettingWithin n) message_setting is (message_setting_within n) all) b
-body_breaks n x is all (BodyBreaks.field_options b) = each_within (OptionedWithin n) FieldOptionsBreak n (flat_map optioned_fields is) x (given (ItemWithin n) (OptionedWithin n) optioned_fields is (optioned_within n) all) (optioned_breaks n x) b
-body_breaks n x is all (BodyBreaks.in_oneof b) = each_within (λ o. Within n (oneof_tree o)) OneofBreaks n (flat_map oneof_of is) x (given (ItemWithin n) (λ o. Within n (oneof_tree o)) oneof_of is (oneof_of_within n) all) (oneof_breaks n x) b
-body_breaks n x is all (BodyBreaks.in_enum b) = each_within (λ e. Within n (enum_tree e)) EnumBreaks n (flat_map enum_of is) x (given (ItemWithin n) (λ e. Within n (enum_tree e)) enum_of is (enum_of_within n) all) (enum_breaks n x) b
+body_breaks n x is all (BodyBreaks.options b) = settings_break n element.Message (flat_map message_setting is) x
+    (given (ItemWithin n) (SettingWithin n) message_setting is (message_setting_within n) all) b
+body_breaks n x is all (BodyBreaks.field_options b) = each_within (OptionedWithin n) FieldOptionsBreak n (flat_map optioned_fields is) x
+    (given (ItemWithin n) (OptionedWithin n) optioned_fields is (optioned_within n) all) (optioned_breaks n x) b
+body_breaks n x is all (BodyBreaks.in_oneof b) = each_within (λ o. Within n (oneof_tree o)) OneofBreaks n (flat_map oneof_of is) x
+    (given (ItemWithin n) (λ o. Within n (oneof_tree o)) oneof_of is (oneof_of_within n) all) (oneof_breaks n x) b
+body_breaks n x is all (BodyBreaks.in_enum b) = each_within (λ e. Within n (enum_tree e)) EnumBreaks n (flat_map enum_of is) x
+    (given (ItemWithin n) (λ e. Within n (enum_tree e)) enum_of is (enum_of_within n) all) (enum_breaks n x) b
 
 -- ---- services
 
@@ -334,7 +382,9 @@ rpc_item_setting_within n (rpc_item.Empty s) all = tt
 rpc_body_within : (n : ℕ) (b : RpcBody) → Within n (rpc_body_tree b) → AllByRecursion (SettingWithin n) (flat_map rpc_setting (rpc_items b))
 rpc_body_within n (rpc_body.Semicolon s) all = tt
 rpc_body_within n (rpc_body.Block b) all =
-    given (λ i. Within n (rpc_item_tree i)) (SettingWithin n) rpc_setting b.items (rpc_item_setting_within n) (each_row (λ i. Within n (rpc_item_tree i)) rpc_item_tree n b.items (λ i w. w) (left_of n (row rpc_item_tree b.items) (symbol_tree (byte "}") b.close_brace) all.1))
+    given (λ i. Within n (rpc_item_tree i)) (SettingWithin n) rpc_setting b.items (rpc_item_setting_within n)
+    (each_row (λ i. Within n (rpc_item_tree i)) rpc_item_tree n b.items (λ i w. w)
+    (left_of n (row rpc_item_tree b.items) (symbol_tree (byte "}") b.close_brace) all.1))
 
 abbrev RpcWithin : ℕ → Rpc → Type 0
 RpcWithin n r = AllByRecursion (SettingWithin n) (flat_map rpc_setting (rpc_items r.body))
@@ -354,8 +404,12 @@ service_setting_within n (service_item.Rpc r) all = tt
 service_setting_within n (service_item.Empty s) all = tt
 
 service_items_within : (n : ℕ) (s : Service) → Within n (service_tree s) → AllByRecursion (λ i. Within n (service_item_tree i)) s.items
-service_items_within n s all = each_row (λ i. Within n (service_item_tree i)) service_item_tree n s.items (λ i w. w) (left_of n (row service_item_tree s.items) (symbol_tree (byte "}") s.close_brace) all.1.1.1)
+service_items_within n s all = each_row (λ i. Within n (service_item_tree i)) service_item_tree n s.items (λ i w. w)
+    (left_of n (row service_item_tree s.items) (symbol_tree (byte "}") s.close_brace) all.1.1.1)
 
 pub service_breaks : (n : ℕ) (x : Spot) (s : Service) → Within n (service_tree s) → ServiceBreaks s x → SpotWithin n x
-service_breaks n x s all (ServiceBreaks.options b) = settings_break n element.Service (flat_map service_setting s.items) x (given (λ i. Within n (service_item_tree i)) (SettingWithin n) service_setting s.items (service_setting_within n) (service_items_within n s all)) b
-service_breaks n x s all (ServiceBreaks.in_rpc b) = each_within (RpcWithin n) RpcBreaks n (flat_map rpc_of s.items) x (given (λ i. Within n (service_item_tree i)) (RpcWithin n) rpc_of s.items (rpc_of_within n) (service_items_within n s all)) (λ r within t. settings_break n element.Method (flat_map rpc_setting (rpc_items r.body)) x within t) b
+service_breaks n x s all (ServiceBreaks.options b) = settings_break n element.Service (flat_map service_setting s.items) x
+    (given (λ i. Within n (service_item_tree i)) (SettingWithin n) service_setting s.items (service_setting_within n) (service_items_within n s all)) b
+service_breaks n x s all (ServiceBreaks.in_rpc b) = each_within (RpcWithin n) RpcBreaks n (flat_map rpc_of s.items) x
+    (given (λ i. Within n (service_item_tree i)) (RpcWithin n) rpc_of s.items (rpc_of_within n) (service_items_within n s all))
+    (λ r within t. settings_break n element.Method (flat_map rpc_setting (rpc_items r.body)) x within t) b

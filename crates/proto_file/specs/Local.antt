@@ -19,7 +19,8 @@ use Rattle.proto_base.specs.declared.spot.Spot.{Spot}
 
 -- the text is a file within the limits, with this tree
 abbrev pub IsFile : Limits → List ℕ → FileTree → Type 0
-IsFile limits text file = (ts : List Spelled) × IsTokenList (limit_of limits limit.FileBytes) text ts × IsTreeOf (limit_of limits limit.Depth) ts (file_tree file)
+IsFile limits text file = (ts : List Spelled) × IsTokenList (limit_of limits limit.FileBytes) text ts
+    × IsTreeOf (limit_of limits limit.Depth) ts (file_tree file)
 
 -- the file breaks no rule of the language that it alone can break
 abbrev pub IsUnbroken : Limits → List ℕ → FileTree → Type 0
@@ -27,7 +28,8 @@ IsUnbroken limits name file = (x : Spot) → FileBreaks limits file (lowered nam
 
 -- the text is a file that breaks no rule by itself, and this is what it describes
 abbrev pub Describes : Limits → (name text : List ℕ) → FileDesc → Type 0
-Describes limits name text desc = (file : FileTree) × IsFile limits text file × IsUnbroken limits name file × (desc ≡ lowered name file)
+Describes limits name text desc =
+    (file : FileTree) × IsFile limits text file × IsUnbroken limits name file × (desc ≡ lowered name file)
 
 -- where token k begins, or where the text ends if there is none
 abbrev pub place_of_token : List Spelled → ℕ → ℕ → ℕ
@@ -36,15 +38,18 @@ place_of_token ts k end = unwrap_or (option_map (λ t. t.start) (slice_get ts k)
 -- the tokens of the text are no file: this is the first that cannot stand where it stands, and why
 abbrev pub IsGrammarFault : Limits → List ℕ → ℕ → Kind → Type 0
 IsGrammarFault limits text place kind =
-    (ts : List Spelled) × (k : ℕ) × IsTokenList (limit_of limits limit.FileBytes) text ts × IsFaultAt (limit_of limits limit.Depth) ts k
+    (ts : List Spelled) × (k : ℕ) × IsTokenList (limit_of limits limit.FileBytes) text ts
+    × IsFaultAt (limit_of limits limit.Depth) ts k
     × IsKindOf ts k kind × (place ≡ place_of_token ts k (length text))
 
 -- the text is a file that breaks rules, of which this is the first
 abbrev pub IsBrokenAt : Limits → (name text : List ℕ) → Place → Kind → Type 0
-IsBrokenAt limits name text place kind = (file : FileTree) × IsFile limits text file × IsLeast (FileBreaks limits file (lowered name file)) (Some (spot place kind))
+IsBrokenAt limits name text place kind = (file : FileTree) × IsFile limits text file
+    × IsLeast (FileBreaks limits file (lowered name file)) (Some (spot place kind))
 
 -- the first fault of one source by itself: a later step is judged where there is none in the earlier ones
 pub data IsLocalFault (limits : Limits) (name text : List ℕ) (step : ℕ) (place : Place) (kind : Kind) : Type 0 where
-  of_tokens : step ≡ 0 → IsFault (limit_of limits limit.FileBytes) text place.offset kind → IsLocalFault limits name text step place kind
+  of_tokens : step ≡ 0 → IsFault (limit_of limits limit.FileBytes) text place.offset kind
+      → IsLocalFault limits name text step place kind
   of_grammar : step ≡ 1 → IsGrammarFault limits text place.offset kind → IsLocalFault limits name text step place kind
   of_checks : step ≡ 2 → IsBrokenAt limits name text place kind → IsLocalFault limits name text step place kind

@@ -29,7 +29,9 @@ const RULES: u8 = 2;
 /// The tree of a text, or its first fault of tokens or grammar.
 fn tree_of<'s>(alloc: Global, text: &'s [u8], limits: &Limits) -> Result<FileTree<'s>, FileError>
     ensures file { IfOk result (IsFile limits.now text.now) }
-    ensures first { (name : List ℕ) (step : ℕ) (place : Place) (kind : Kind) → result ≡ Err (errors.At step place kind) → IsLocalFault limits.now name text.now step place kind }
+    ensures first { (name : List ℕ) (step : ℕ) (place : Place) (kind : Kind)
+        → result ≡ Err (errors.At step place kind)
+        → IsLocalFault limits.now name text.now step place kind }
 {
     let tokens = match tokenize(alloc, text, limits) {
         Ok(tokens) => tokens,
@@ -51,8 +53,12 @@ fn judge<'s>(
     file: &FileTree<'s>,
     limits: &Limits,
 ) -> Result<FileDesc<'s>, FileError>
-    ensures described { IfOk result (λ desc. IsUnbroken limits.now name.now file.now × (desc ≡ lowered name.now file.now)) }
-    ensures first { (step : ℕ) (place : Place) (kind : Kind) → result ≡ Err (errors.At step place kind) → (step ≡ 2) × IsLeast (FileBreaks limits.now file.now (lowered name.now file.now)) (Some (spot place kind)) }
+    ensures described { IfOk result (λ desc. IsUnbroken limits.now name.now file.now
+        × (desc ≡ lowered name.now file.now)) }
+    ensures first { (step : ℕ) (place : Place) (kind : Kind)
+        → result ≡ Err (errors.At step place kind)
+        → (step ≡ 2) × IsLeast (FileBreaks limits.now file.now (lowered name.now file.now))
+        (Some (spot place kind)) }
 {
     let desc = lower(alloc, name, file)?;
     match first_check_fault(alloc, file, &desc, limits)? {
@@ -70,7 +76,9 @@ pub fn describe<'s>(
     limits: &Limits,
 ) -> Result<FileDesc<'s>, FileError>
     ensures described { IfOk result (Describes limits.now name.now text.now) }
-    ensures first { (step : ℕ) (place : Place) (kind : Kind) → result ≡ Err (errors.At step place kind) → IsLocalFault limits.now name.now text.now step place kind }
+    ensures first { (step : ℕ) (place : Place) (kind : Kind)
+        → result ≡ Err (errors.At step place kind)
+        → IsLocalFault limits.now name.now text.now step place kind }
 {
     let file = tree_of(alloc, text, limits)?;
     judge(alloc, name, &file, limits)

@@ -22,21 +22,25 @@ use Rattle.proto_links.proofs.Targeting.{importer_inside}
 
 -- ---- one import
 
-only_missing : (files : List FileDesc) (a : ℕ) (i : ImportDesc) → ((b : ℕ) → IsNamed files i.path b → ⊥) → (k : Kind) → IsWrong files a i k → k ≡ kind.ImportMissing
+only_missing : (files : List FileDesc) (a : ℕ) (i : ImportDesc) → ((b : ℕ) → IsNamed files i.path b → ⊥) → (k : Kind) → IsWrong files a i k
+    → k ≡ kind.ImportMissing
 only_missing files a i none _ (missing n) = refl
 only_missing files a i none _ (cyclic b n r) = absurd (none b n)
 
-pub missing_fault : (files : List FileDesc) (a : ℕ) (i : ImportDesc) → ((b : ℕ) → IsNamed files i.path b → ⊥) → IsWrong files a i kind.ImportMissing × ((k : Kind) → IsWrong files a i k → k ≡ kind.ImportMissing)
+pub missing_fault : (files : List FileDesc) (a : ℕ) (i : ImportDesc) → ((b : ℕ) → IsNamed files i.path b → ⊥)
+    → IsWrong files a i kind.ImportMissing × ((k : Kind) → IsWrong files a i k → k ≡ kind.ImportMissing)
 missing_fault files a i none = (missing none, only_missing files a i none)
 
 only_cyclic : (files : List FileDesc) (a : ℕ) (i : ImportDesc) (t : ℕ) → IsNamed files i.path t → (k : Kind) → IsWrong files a i k → k ≡ kind.ImportCycle
 only_cyclic files a i t n _ (missing none) = absurd (none t n)
 only_cyclic files a i t n _ (cyclic b m r) = refl
 
-pub cyclic_fault : (files : List FileDesc) (a : ℕ) (i : ImportDesc) (t : ℕ) → IsNamed files i.path t → Reaches files t a → IsWrong files a i kind.ImportCycle × ((k : Kind) → IsWrong files a i k → k ≡ kind.ImportCycle)
+pub cyclic_fault : (files : List FileDesc) (a : ℕ) (i : ImportDesc) (t : ℕ) → IsNamed files i.path t → Reaches files t a
+    → IsWrong files a i kind.ImportCycle × ((k : Kind) → IsWrong files a i k → k ≡ kind.ImportCycle)
 cyclic_fault files a i t n r = (cyclic t n r, only_cyclic files a i t n)
 
-pub no_fault : (files : List FileDesc) (a : ℕ) (i : ImportDesc) (t : ℕ) → AreInNameOrder files → IsNamed files i.path t → (Reaches files t a → ⊥) → (k : Kind) → IsWrong files a i k → ⊥
+pub no_fault : (files : List FileDesc) (a : ℕ) (i : ImportDesc) (t : ℕ) → AreInNameOrder files → IsNamed files i.path t → (Reaches files t a → ⊥) → (k : Kind)
+    → IsWrong files a i k → ⊥
 no_fault files a i t order n out _ (missing none) = none t n
 no_fault files a i t order n out _ (cyclic b m r) = out (subst (λ x. Reaches files x a) (named_once files i.path order b t m n) r)
 
@@ -48,7 +52,8 @@ none_in x w = no_place w.0 w.1
 pub first_none : (files : List FileDesc) (a : ℕ) → IsFirstWrong files a [] None
 first_none files a = record { found = tt; least = λ x w. absurd (none_in w.0 w.1) }
 
-wrong_cases : (files : List FileDesc) (a : ℕ) (xs : List ImportDesc) (i : ImportDesc) (x : Wrong) → IsWrongIn files a (xs ++ i ∷ []) x → IsWrongIn files a xs x ⊎ ((i.place ≡ x.place) × IsWrong files a i x.kind)
+wrong_cases : (files : List FileDesc) (a : ℕ) (xs : List ImportDesc) (i : ImportDesc) (x : Wrong) → IsWrongIn files a (xs ++ i ∷ []) x
+    → IsWrongIn files a xs x ⊎ ((i.place ≡ x.place) × IsWrong files a i x.kind)
 wrong_cases files a xs i x (j, w, at, wrong) = elim (Contains-push_cases xs i j w) [
   | inl old ↦ inl (j, old, at, wrong)
   | inr e ↦ inr (subst (λ (y : ImportDesc). (y.place ≡ x.place) × IsWrong files a y x.kind) (sym e) (at, wrong))
@@ -57,27 +62,37 @@ wrong_cases files a xs i x (j, w, at, wrong) = elim (Contains-push_cases xs i j 
 wrong_more : (files : List FileDesc) (a : ℕ) (xs : List ImportDesc) (i : ImportDesc) (x : Wrong) → IsWrongIn files a xs x → IsWrongIn files a (xs ++ i ∷ []) x
 wrong_more files a xs i x (j, w, at, wrong) = (j, Contains-append_left xs (i ∷ []) j w, at, wrong)
 
-found_more : (files : List FileDesc) (a : ℕ) (xs : List ImportDesc) (i : ImportDesc) (first : Option Wrong) → IfSome first (IsWrongIn files a xs) → IfSome first (IsWrongIn files a (xs ++ i ∷ []))
+found_more : (files : List FileDesc) (a : ℕ) (xs : List ImportDesc) (i : ImportDesc) (first : Option Wrong) → IfSome first (IsWrongIn files a xs)
+    → IfSome first (IsWrongIn files a (xs ++ i ∷ []))
 found_more files a xs i None f = tt
 found_more files a xs i (Some x) f = wrong_more files a xs i x f
 
-pub first_skip : (files : List FileDesc) (a : ℕ) (xs : List ImportDesc) (i : ImportDesc) (first : Option Wrong) → ((k : Kind) → IsWrong files a i k → ⊥) → IsFirstWrong files a xs first → IsFirstWrong files a (xs ++ i ∷ []) first
+pub first_skip : (files : List FileDesc) (a : ℕ) (xs : List ImportDesc) (i : ImportDesc) (first : Option Wrong) → ((k : Kind) → IsWrong files a i k → ⊥)
+    → IsFirstWrong files a xs first → IsFirstWrong files a (xs ++ i ∷ []) first
 first_skip files a xs i first none f = record {
   found = found_more files a xs i first f.found;
   least = λ x w. (elim (wrong_cases files a xs i x w) [ inl old ↦ f.least x old | inr new ↦ absurd (none x.kind new.1) ]);
 }
 
-one_found : (files : List FileDesc) (a : ℕ) (xs : List ImportDesc) (i : ImportDesc) (first : Option Wrong) (x : Wrong) → first ≡ Some x → IfSome first (IsWrongIn files a xs) → IsWrongIn files a xs x
+one_found : (files : List FileDesc) (a : ℕ) (xs : List ImportDesc) (i : ImportDesc) (first : Option Wrong) (x : Wrong) → first ≡ Some x
+    → IfSome first (IsWrongIn files a xs) → IsWrongIn files a xs x
 one_found files a xs i first x e f = subst (λ (o : Option Wrong). IfSome o (IsWrongIn files a xs)) e f
 
 same_place : (w x : Wrong) → w.place ≡ x.place → x.kind ≡ w.kind → NoLaterThan w x
 same_place w x at same = let o = ap (λ (p : Place). p.offset) at in let k = ap number_of same in inr (o, omega (arith, k))
 
-pub first_more : (files : List FileDesc) (a : ℕ) (xs : List ImportDesc) (i : ImportDesc) (first : Option Wrong) (k : Kind) (w r : Wrong) → w ≡ record { place = i.place; kind = k } → IsWrong files a i k × ((l : Kind) → IsWrong files a i l → l ≡ k) → IsLesser first w r → IsFirstWrong files a xs first → IsFirstWrong files a (xs ++ i ∷ []) (Some r)
+pub first_more : (files : List FileDesc) (a : ℕ) (xs : List ImportDesc) (i : ImportDesc) (first : Option Wrong) (k : Kind) (w r : Wrong)
+    → w ≡ record { place = i.place; kind = k } → IsWrong files a i k × ((l : Kind) → IsWrong files a i l → l ≡ k) → IsLesser first w r
+    → IsFirstWrong files a xs first → IsFirstWrong files a (xs ++ i ∷ []) (Some r)
 first_more files a xs i first k w r e (wrong, only) lesser f =
-    let mine : IsWrongIn files a (xs ++ i ∷ []) w = (i, Contains-push xs i, sym (ap (λ (x : Wrong). x.place) e), subst (IsWrong files a i) (sym (ap (λ (x : Wrong). x.kind) e)) wrong) in
+    let mine : IsWrongIn files a (xs ++ i ∷ []) w =
+    (i, Contains-push xs i, sym (ap (λ (x : Wrong). x.place) e), subst (IsWrong files a i) (sym (ap (λ (x : Wrong). x.kind) e)) wrong) in
     record {
-      found = elim lesser.one [ inl known ↦ wrong_more files a xs i r (one_found files a xs i first r known f.found) | inr same ↦ subst (IsWrongIn files a (xs ++ i ∷ [])) same mine ];
+      found = elim lesser.one [
+        | inl known ↦ wrong_more files a xs i r (one_found files a xs i first r known f.found)
+        | inr same ↦
+            subst (IsWrongIn files a (xs ++ i ∷ [])) same mine
+      ];
       least = λ x wx. (elim (wrong_cases files a xs i x wx) [
         | inl old ↦ lesser.left x (f.least x old)
         | inr new ↦ lesser.right x (same_place w x (ap (λ (y : Wrong). y.place) e ∙ new.0) (only x.kind new.1 ∙ sym (ap (λ (y : Wrong). y.kind) e)))
@@ -86,7 +101,8 @@ first_more files a xs i first k w r e (wrong, only) lesser f =
 
 -- ---- all files
 
-pub reaching_is : (files : List FileDesc) (g turned : Graph) (a : ℕ) → IsGraph files g → ((b c : ℕ) → Edge turned b c ↔ Edge g c b) → (b : ℕ) → Leads (Edge turned) b a ↔ Reaches files b a
+pub reaching_is : (files : List FileDesc) (g turned : Graph) (a : ℕ) → IsGraph files g → ((b c : ℕ) → Edge turned b c ↔ Edge g c b) → (b : ℕ)
+    → Leads (Edge turned) b a ↔ Reaches files b a
 reaching_is files g turned a is flipped b = (
   λ w. leads_map (Edge g) (Imports files) (λ x y. (is.edges x y).0) a b (leads_turned (Edge turned) (Edge g) (λ x y. (flipped x y).0) b a w),
   λ r. leads_turned (Edge g) (Edge turned) (λ x y. (flipped y x).1) a b (leads_map (Imports files) (Edge g) (λ x y. (is.edges x y).1) a b r),
@@ -102,27 +118,36 @@ pub record NoneBefore (files : List FileDesc) (n : ℕ) : Type 0 where
 pub none_start : (files : List FileDesc) → NoneBefore files 0
 none_start files = record { none = λ a p k h w. no_place a h }
 
-pub none_more : (files : List FileDesc) (n : ℕ) (imports : List ImportDesc) (first : Option Wrong) → imports ≡ imports_at files n → first ≡ None → IsFirstWrong files n imports first → NoneBefore files n → NoneBefore files (n + 1)
+pub none_more : (files : List FileDesc) (n : ℕ) (imports : List ImportDesc) (first : Option Wrong) → imports ≡ imports_at files n → first ≡ None
+    → IsFirstWrong files n imports first → NoneBefore files n → NoneBefore files (n + 1)
 none_more files n imports first e is f old = record {
   none = λ a p k h w. (elim (cases_lt a n) [
     | inl less ↦ old.none a p k less w
     | inr over ↦ (let at : a ≡ n = omega arith in
         let here = subst (λ m. IsBad files m p k) at w in
-        subst (λ (o : Option Wrong). Bounds o (record { place = p; kind = k })) is (f.least (record { place = p; kind = k }) (subst (λ (xs : List ImportDesc). IsWrongIn files n xs (record { place = p; kind = k })) (sym e) here)))
+        subst (λ (o : Option Wrong). Bounds o (record { place = p; kind = k })) is
+        (f.least (record { place = p; kind = k }) (subst (λ (xs : List ImportDesc). IsWrongIn files n xs (record { place = p; kind = k })) (sym e) here)))
   ]);
 }
 
 pub none_all : (files : List FileDesc) (n : ℕ) → length files ≤ n → NoneBefore files n → NoneBad files
 none_all files n h f a p k w = f.none a p k (let below = importer_inside files a w.0 w.1 in omega (arith, below, h)) w
 
-later_file : (files : List FileDesc) (n b : ℕ) (x : Wrong) (q : Place) (l : Kind) (imports : List ImportDesc) → imports ≡ imports_at files n → ((y : Wrong) → IsWrongIn files n imports y → NoLaterThan x y) → NoneBefore files n → IsBad files b q l → (b < n) ⊎ (n ≤ b) → IsNoLater n x.place x.kind b q l
+later_file : (files : List FileDesc) (n b : ℕ) (x : Wrong) (q : Place) (l : Kind) (imports : List ImportDesc) → imports ≡ imports_at files n
+    → ((y : Wrong) → IsWrongIn files n imports y → NoLaterThan x y) → NoneBefore files n → IsBad files b q l → (b < n) ⊎ (n ≤ b)
+    → IsNoLater n x.place x.kind b q l
 later_file files n b x q l imports e least old w (inl less) = absurd (old.none b q l less w)
 later_file files n b x q l imports e least old w (inr over) = elim (cases_eq n b) [
-  | inl same ↦ inr (same, least (record { place = q; kind = l }) (subst (λ (xs : List ImportDesc). IsWrongIn files n xs (record { place = q; kind = l })) (sym e) (subst (λ m. IsBad files m q l) (sym same) w)))
+  | inl same ↦ inr (
+    same,
+    least (record { place = q; kind = l })
+        (subst (λ (xs : List ImportDesc). IsWrongIn files n xs (record { place = q; kind = l })) (sym e) (subst (λ m. IsBad files m q l) (sym same) w)),
+  )
   | inr other ↦ inl (omega (arith, over, other))
 ]
 
-pub first_bad_is : (files : List FileDesc) (n : ℕ) (imports : List ImportDesc) (first : Option Wrong) (x : Wrong) → imports ≡ imports_at files n → first ≡ Some x → IsFirstWrong files n imports first → NoneBefore files n → IsFirstBad files n x.place x.kind
+pub first_bad_is : (files : List FileDesc) (n : ℕ) (imports : List ImportDesc) (first : Option Wrong) (x : Wrong) → imports ≡ imports_at files n
+    → first ≡ Some x → IsFirstWrong files n imports first → NoneBefore files n → IsFirstBad files n x.place x.kind
 first_bad_is files n imports first x e is f old =
     let found = subst (λ (o : Option Wrong). IfSome o (IsWrongIn files n imports)) is f.found in
     let least : (y : Wrong) → IsWrongIn files n imports y → NoLaterThan x y = λ y w. subst (λ (o : Option Wrong). Bounds o y) is (f.least y w) in
@@ -132,7 +157,9 @@ first_bad_is files n imports first x e is f old =
     }
 
 -- the marks of a search over the turned edges are at the files that reach the one
-pub marks_are : (files : List FileDesc) (g : Graph) (turned rows : List (Vec ℕ Global)) (a : ℕ) (marks reaching : List Bool) → IsGraph files g → ((b c : ℕ) → Edge (graph_of turned) b c ↔ Edge g c b) → rows ≡ turned → reaching ≡ marks → ((b : ℕ) → IsMarked marks b ↔ Leads (Edge (graph_of rows)) b a) → (b : ℕ) → IsMarked reaching b ↔ Reaches files b a
+pub marks_are : (files : List FileDesc) (g : Graph) (turned rows : List (Vec ℕ Global)) (a : ℕ) (marks reaching : List Bool) → IsGraph files g
+    → ((b c : ℕ) → Edge (graph_of turned) b c ↔ Edge g c b) → rows ≡ turned → reaching ≡ marks → ((b : ℕ) → IsMarked marks b ↔ Leads (Edge (graph_of rows)) b a)
+    → (b : ℕ) → IsMarked reaching b ↔ Reaches files b a
 marks_are files g turned rows a marks reaching is flipped er em marked b =
     let at = reaching_is files g (graph_of turned) a is flipped b in
     let mark = subst (λ (rs : List (Vec ℕ Global)). IsMarked marks b ↔ Leads (Edge (graph_of rs)) b a) er (marked b) in

@@ -23,7 +23,8 @@ not_less_itself : (xs : List ℕ) → slice_cmp nat_cmp xs xs ≡ Less → ⊥
 not_less_itself xs = less_itself (slice_cmp nat_cmp xs xs) (nat_list_cmp_total.antisymm xs xs)
 
 -- names at a distance
-names_by : (files : List FileDesc) → AreInNameOrder files → (i d : ℕ) → i + suc d < length files → slice_cmp nat_cmp (name_at files i) (name_at files (i + suc d)) ≡ Less
+names_by : (files : List FileDesc) → AreInNameOrder files → (i d : ℕ) → i + suc d < length files
+    → slice_cmp nat_cmp (name_at files i) (name_at files (i + suc d)) ≡ Less
 names_by files order i zero h = order i h
 names_by files order i (suc d) h =
     let step : slice_cmp nat_cmp (name_at files (i + suc d)) (name_at files (i + suc d + 1)) ≡ Less = order (i + suc d) (omega arith) in
@@ -40,7 +41,8 @@ names_differ : (files : List FileDesc) → AreInNameOrder files → (i j : ℕ) 
 names_differ files order i j h inside e =
     not_less_itself (name_at files j) (subst (λ xs. slice_cmp nat_cmp xs (name_at files j) ≡ Less) e (names_far files order i j h inside))
 
-unique_case : (files : List FileDesc) (name : List ℕ) → AreInNameOrder files → (b c : ℕ) → IsNamed files name b → IsNamed files name c → (b ≡ c) ⊎ (b ≡ c → ⊥) → (b < c) ⊎ (c ≤ b) → b ≡ c
+unique_case : (files : List FileDesc) (name : List ℕ) → AreInNameOrder files → (b c : ℕ) → IsNamed files name b → IsNamed files name c → (b ≡ c) ⊎ (b ≡ c → ⊥)
+    → (b < c) ⊎ (c ≤ b) → b ≡ c
 unique_case files name order b c nb nc (inl same) h = same
 unique_case files name order b c nb nc (inr other) (inl less) = absurd (names_differ files order b c less nc.0 (nb.1 ∙ sym nc.1))
 unique_case files name order b c nb nc (inr other) (inr over) = absurd (names_differ files order c b (omega (arith, over, other)) nb.0 (nc.1 ∙ sym nb.1))
@@ -62,21 +64,28 @@ sorted_names files order k d low h =
     let less : slice_cmp nat_cmp (name_of (get_or files k d)) (name_of (get_or files (k + 1) d)) ≡ Less =
     subst (λ xs. slice_cmp nat_cmp xs (name_of (get_or files (k + 1) d)) ≡ Less) (name_is files k d (omega arith))
     (subst (λ ys. slice_cmp nat_cmp (name_at files k) ys ≡ Less) (name_is files (k + 1) d inside) (order k inside)) in
-    ap is_lt (nat_list_cmp_total.antisymm (name_of (get_or files (k + 1) d)) (name_of (get_or files k d))) ∙ not_after (slice_cmp nat_cmp (name_of (get_or files k d)) (name_of (get_or files (k + 1) d))) less
+    ap is_lt (nat_list_cmp_total.antisymm (name_of (get_or files (k + 1) d)) (name_of (get_or files k d)))
+    ∙ not_after (slice_cmp nat_cmp (name_of (get_or files k d)) (name_of (get_or files (k + 1) d))) less
 
-order_case : (files : List FileDesc) (n : ℕ) → slice_cmp nat_cmp (name_at files (n - 1)) (name_at files n) ≡ Less → 0 < n → ((k : ℕ) → k + 1 < n → slice_cmp nat_cmp (name_at files k) (name_at files (k + 1)) ≡ Less) → (k : ℕ) → k + 1 < n + 1 → (k + 1 < n) ⊎ (n ≤ k + 1) → slice_cmp nat_cmp (name_at files k) (name_at files (k + 1)) ≡ Less
+order_case : (files : List FileDesc) (n : ℕ) → slice_cmp nat_cmp (name_at files (n - 1)) (name_at files n) ≡ Less → 0 < n
+    → ((k : ℕ) → k + 1 < n → slice_cmp nat_cmp (name_at files k) (name_at files (k + 1)) ≡ Less) → (k : ℕ) → k + 1 < n + 1 → (k + 1 < n) ⊎ (n ≤ k + 1)
+    → slice_cmp nat_cmp (name_at files k) (name_at files (k + 1)) ≡ Less
 order_case files n last some old k h (inl less) = old k less
 order_case files n last some old k h (inr over) =
     let first : n - 1 ≡ k = omega arith in
     let second : n ≡ k + 1 = omega arith in
-    subst (λ j. slice_cmp nat_cmp (name_at files k) (name_at files j) ≡ Less) second (subst (λ i. slice_cmp nat_cmp (name_at files i) (name_at files n) ≡ Less) first last)
+    subst (λ j. slice_cmp nat_cmp (name_at files k) (name_at files j) ≡ Less) second
+    (subst (λ i. slice_cmp nat_cmp (name_at files i) (name_at files n) ≡ Less) first last)
 
 -- one more pair of neighbours
-pub order_more : (files : List FileDesc) (n : ℕ) → slice_cmp nat_cmp (name_at files (n - 1)) (name_at files n) ≡ Less → 0 < n → ((k : ℕ) → k + 1 < n → slice_cmp nat_cmp (name_at files k) (name_at files (k + 1)) ≡ Less) → (k : ℕ) → k + 1 < n + 1 → slice_cmp nat_cmp (name_at files k) (name_at files (k + 1)) ≡ Less
+pub order_more : (files : List FileDesc) (n : ℕ) → slice_cmp nat_cmp (name_at files (n - 1)) (name_at files n) ≡ Less → 0 < n
+    → ((k : ℕ) → k + 1 < n → slice_cmp nat_cmp (name_at files k) (name_at files (k + 1)) ≡ Less) → (k : ℕ) → k + 1 < n + 1
+    → slice_cmp nat_cmp (name_at files k) (name_at files (k + 1)) ≡ Less
 order_more files n last some old k h = order_case files n last some old k h (cases_lt (k + 1) n)
 
 -- names of neighbours as an index gives them
-pub pair_names : (files : List FileDesc) (n : ℕ) (f g : FileDesc) → 0 < n → n < length files → f ≡ get_or files (n - 1) f → g ≡ get_or files n g → (slice_cmp nat_cmp (name_of f) (name_of g) ≡ Less) ↔ (slice_cmp nat_cmp (name_at files (n - 1)) (name_at files n) ≡ Less)
+pub pair_names : (files : List FileDesc) (n : ℕ) (f g : FileDesc) → 0 < n → n < length files → f ≡ get_or files (n - 1) f → g ≡ get_or files n g
+    → (slice_cmp nat_cmp (name_of f) (name_of g) ≡ Less) ↔ (slice_cmp nat_cmp (name_at files (n - 1)) (name_at files n) ≡ Less)
 pair_names files n f g some h ef eg =
     let first : name_at files (n - 1) ≡ name_of f = name_is files (n - 1) f (omega arith) ∙ ap name_of (sym ef) in
     let second : name_at files n ≡ name_of g = name_is files n g h ∙ ap name_of (sym eg) in (
@@ -84,7 +93,8 @@ pair_names files n f g some h ef eg =
       λ less. subst (λ xs. slice_cmp nat_cmp xs (name_of g) ≡ Less) first (subst (λ ys. slice_cmp nat_cmp (name_at files (n - 1)) ys ≡ Less) second less),
     )
 
-pub last_pair : (files : List FileDesc) (n : ℕ) → 0 < n → n < length files → AreInNameOrder files → slice_cmp nat_cmp (name_at files (n - 1)) (name_at files n) ≡ Less
+pub last_pair : (files : List FileDesc) (n : ℕ) → 0 < n → n < length files → AreInNameOrder files
+    → slice_cmp nat_cmp (name_at files (n - 1)) (name_at files n) ≡ Less
 last_pair files n some h order =
     let at : n - 1 + 1 ≡ n = omega arith in
     subst (λ k. slice_cmp nat_cmp (name_at files (n - 1)) (name_at files k) ≡ Less) at (order (n - 1) (omega arith))
@@ -94,7 +104,8 @@ not_true b h k = cc
 
 -- ---- what a search finds
 
-pub found_name : (files : List FileDesc) (k : ℕ) (name : List ℕ) → k < length files → ((d : FileDesc) → slice_cmp nat_cmp (name_of (get_or files k d)) name ≡ Equal) → IsNamed files name k
+pub found_name : (files : List FileDesc) (k : ℕ) (name : List ℕ) → k < length files
+    → ((d : FileDesc) → slice_cmp nat_cmp (name_of (get_or files k d)) name ≡ Equal) → IsNamed files name k
 found_name [] k name h found = absurd (no_place k h)
 found_name (f ∷ fs) k name h found = (h, name_is (f ∷ fs) k f h ∙ exact_bytes _ _ (found f))
 
@@ -112,7 +123,9 @@ greater_not_equal o h k = cc
 equal_itself : (xs ys : List ℕ) → xs ≡ ys → slice_cmp nat_cmp xs ys ≡ Equal
 equal_itself xs ys e = subst (λ zs. slice_cmp nat_cmp xs zs ≡ Equal) e (reverse_same _ (nat_list_cmp_total.antisymm xs xs))
 
-pub no_name : (files : List FileDesc) (at : ℕ) (name : List ℕ) → ((k : ℕ) (d : FileDesc) → 0 ≤ k → k < at → slice_cmp nat_cmp (name_of (get_or files k d)) name ≡ Less) → ((k : ℕ) (d : FileDesc) → at ≤ k → k < length files → slice_cmp nat_cmp (name_of (get_or files k d)) name ≡ Greater) → (b : ℕ) → IsNamed files name b → ⊥
+pub no_name : (files : List FileDesc) (at : ℕ) (name : List ℕ)
+    → ((k : ℕ) (d : FileDesc) → 0 ≤ k → k < at → slice_cmp nat_cmp (name_of (get_or files k d)) name ≡ Less)
+    → ((k : ℕ) (d : FileDesc) → at ≤ k → k < length files → slice_cmp nat_cmp (name_of (get_or files k d)) name ≡ Greater) → (b : ℕ) → IsNamed files name b → ⊥
 no_name [] at name left right b (h, same) = no_place b h
 no_name (f ∷ fs) at name left right b (h, same) =
     let equal = equal_itself (name_of (get_or (f ∷ fs) b f)) name (sym (name_is (f ∷ fs) b f h) ∙ same) in

@@ -32,7 +32,8 @@ absent xs x i left right w =
       | inr over ↦ (let above = right at.0 over at.1 in omega (arith, above, at.2))
     ]
 
-answer : (xs : List ℕ) (x : ℕ) (r : Result ℕ ℕ) → MatchResult r (λ i. (i < length xs) × (get_or xs i 0 ≡ x)) (λ i. (i ≤ length xs) × ((k : ℕ) → k < i → get_or xs k 0 < x) × ((k : ℕ) → i ≤ k → k < length xs → x < get_or xs k 0)) → is_ok r ≡ has x xs
+answer : (xs : List ℕ) (x : ℕ) (r : Result ℕ ℕ) → MatchResult r (λ i. (i < length xs) × (get_or xs i 0 ≡ x))
+    (λ i. (i ≤ length xs) × ((k : ℕ) → k < i → get_or xs k 0 < x) × ((k : ℕ) → i ≤ k → k < length xs → x < get_or xs k 0)) → is_ok r ≡ has x xs
 answer xs x (Ok i) (h, is) = sym (list_any-from_Contains nat_eq_equiv x xs ((among_all xs (length xs) x refl).1 (i, h, is)))
 answer xs x (Err i) (h, left, right) = sym (not_any xs x (list_any (eqb x) xs) refl (absent xs x i left right))
 

@@ -26,19 +26,26 @@ flip f = (f.1, f.0)
 
 -- ---- one import more
 
-targets_more : (files : List FileDesc) (xs : List ImportDesc) (i : ImportDesc) (b : ℕ) → Targets files (xs ++ i ∷ []) b ↔ (Targets files xs b ⊎ IsNamed files i.path b)
+targets_more : (files : List FileDesc) (xs : List ImportDesc) (i : ImportDesc) (b : ℕ)
+    → Targets files (xs ++ i ∷ []) b ↔ (Targets files xs b ⊎ IsNamed files i.path b)
 targets_more files xs i b = (
   λ (j, w, n). (elim (Contains-push_cases xs i j w) [ inl old ↦ inl (j, old, n) | inr e ↦ inr (subst (λ (x : ImportDesc). IsNamed files x.path b) (sym e) n) ]),
   λ w. (elim w [ inl old ↦ (old.0, Contains-append_left xs (i ∷ []) old.0 old.1, old.2) | inr n ↦ (i, Contains-push xs i, n) ]),
 )
 
-public_more : (files : List FileDesc) (xs : List ImportDesc) (i : ImportDesc) (b : ℕ) → PublicTargets files (xs ++ i ∷ []) b ↔ (PublicTargets files xs b ⊎ (IsTrue i.is_public × IsNamed files i.path b))
+public_more : (files : List FileDesc) (xs : List ImportDesc) (i : ImportDesc) (b : ℕ)
+    → PublicTargets files (xs ++ i ∷ []) b ↔ (PublicTargets files xs b ⊎ (IsTrue i.is_public × IsNamed files i.path b))
 public_more files xs i b = (
-  λ (j, w, p, n). (elim (Contains-push_cases xs i j w) [ inl old ↦ inl (j, old, p, n) | inr e ↦ inr (subst (λ (x : ImportDesc). IsTrue x.is_public × IsNamed files x.path b) (sym e) (p, n)) ]),
+  λ (j, w, p, n). (elim (Contains-push_cases xs i j w) [
+    | inl old ↦ inl (j, old, p, n)
+    | inr e ↦
+        inr (subst (λ (x : ImportDesc). IsTrue x.is_public × IsNamed files x.path b) (sym e) (p, n))
+  ]),
   λ w. (elim w [ inl old ↦ (old.0, Contains-append_left xs (i ∷ []) old.0 old.1, old.2, old.3) | inr n ↦ (i, Contains-push xs i, n.0, n.1) ]),
 )
 
-missing_more : (files : List FileDesc) (xs : List ImportDesc) (i : ImportDesc) → HasMissing files (xs ++ i ∷ []) → HasMissing files xs ⊎ ((b : ℕ) → IsNamed files i.path b → ⊥)
+missing_more : (files : List FileDesc) (xs : List ImportDesc) (i : ImportDesc) → HasMissing files (xs ++ i ∷ [])
+    → HasMissing files xs ⊎ ((b : ℕ) → IsNamed files i.path b → ⊥)
 missing_more files xs i (j, w, none) = elim (Contains-push_cases xs i j w) [
   | inl old ↦ inl (j, old, none)
   | inr e ↦ inr (subst (λ (x : ImportDesc). (b : ℕ) → IsNamed files x.path b → ⊥) (sym e) none)
@@ -68,10 +75,13 @@ targeting_none files all public ea ep = rw (ea, ep) (record {
 named_is : (files : List FileDesc) (i : ImportDesc) (t b : ℕ) → AreInNameOrder files → IsNamed files i.path t → (t ≡ b) ↔ IsNamed files i.path b
 named_is files i t b order n = (λ e. subst (IsNamed files i.path) e n, λ m. named_once files i.path order t b n m)
 
-public_is : (files : List FileDesc) (i : ImportDesc) (t b : ℕ) → AreInNameOrder files → IsNamed files i.path t → IsTrue i.is_public → (t ≡ b) ↔ (IsTrue i.is_public × IsNamed files i.path b)
+public_is : (files : List FileDesc) (i : ImportDesc) (t b : ℕ) → AreInNameOrder files → IsNamed files i.path t → IsTrue i.is_public
+    → (t ≡ b) ↔ (IsTrue i.is_public × IsNamed files i.path b)
 public_is files i t b order n p = (λ e. (p, subst (IsNamed files i.path) e n), λ m. named_once files i.path order t b n m.1)
 
-pub targeting_public : (files : List FileDesc) (xs : List ImportDesc) (i : ImportDesc) (t : ℕ) (all public new_all new_public : List ℕ) (whole : Bool) → AreInNameOrder files → IsNamed files i.path t → IsTrue i.is_public → new_all ≡ all ++ t ∷ [] → new_public ≡ public ++ t ∷ [] → Targeting files xs all public whole → Targeting files (xs ++ i ∷ []) new_all new_public whole
+pub targeting_public : (files : List FileDesc) (xs : List ImportDesc) (i : ImportDesc) (t : ℕ) (all public new_all new_public : List ℕ) (whole : Bool)
+    → AreInNameOrder files → IsNamed files i.path t → IsTrue i.is_public → new_all ≡ all ++ t ∷ [] → new_public ≡ public ++ t ∷ []
+    → Targeting files xs all public whole → Targeting files (xs ++ i ∷ []) new_all new_public whole
 targeting_public files xs i t all public new_all new_public whole order n p ea ep r = rw (ea, ep) (record {
   all_are = λ b. iff (push_iff all t b) (iff (either (r.all_are b) (named_is files i t b order n)) (flip (targets_more files xs i b)));
   public_are = λ b. iff (push_iff public t b) (iff (either (r.public_are b) (public_is files i t b order n p)) (flip (public_more files xs i b)));
@@ -82,7 +92,9 @@ targeting_public files xs i t all public new_all new_public whole order n p ea e
 not_public : (files : List FileDesc) (i : ImportDesc) (b : ℕ) (A : Type 0) → i.is_public ≡ false → A ↔ (A ⊎ (IsTrue i.is_public × IsNamed files i.path b))
 not_public files i b A e = (λ a. inl a, λ w. (elim w [ inl a ↦ a | inr m ↦ absurd (false≢true (sym e ∙ m.0)) ]))
 
-pub targeting_private : (files : List FileDesc) (xs : List ImportDesc) (i : ImportDesc) (t : ℕ) (all public new_all new_public : List ℕ) (whole : Bool) → AreInNameOrder files → IsNamed files i.path t → i.is_public ≡ false → new_all ≡ all ++ t ∷ [] → new_public ≡ public → Targeting files xs all public whole → Targeting files (xs ++ i ∷ []) new_all new_public whole
+pub targeting_private : (files : List FileDesc) (xs : List ImportDesc) (i : ImportDesc) (t : ℕ) (all public new_all new_public : List ℕ) (whole : Bool)
+    → AreInNameOrder files → IsNamed files i.path t → i.is_public ≡ false → new_all ≡ all ++ t ∷ [] → new_public ≡ public → Targeting files xs all public whole
+    → Targeting files (xs ++ i ∷ []) new_all new_public whole
 targeting_private files xs i t all public new_all new_public whole order n p ea ep r = rw (ea, ep) (record {
   all_are = λ b. iff (push_iff all t b) (iff (either (r.all_are b) (named_is files i t b order n)) (flip (targets_more files xs i b)));
   public_are = λ b. iff (r.public_are b) (iff (not_public files i b (PublicTargets files xs b) p) (flip (public_more files xs i b)));
@@ -93,10 +105,13 @@ targeting_private files xs i t all public new_all new_public whole order n p ea 
 no_target : (files : List FileDesc) (i : ImportDesc) (b : ℕ) (A : Type 0) → ((b : ℕ) → IsNamed files i.path b → ⊥) → A ↔ (A ⊎ IsNamed files i.path b)
 no_target files i b A none = (λ a. inl a, λ w. (elim w [ inl a ↦ a | inr n ↦ absurd (none b n) ]))
 
-no_public : (files : List FileDesc) (i : ImportDesc) (b : ℕ) (A : Type 0) → ((b : ℕ) → IsNamed files i.path b → ⊥) → A ↔ (A ⊎ (IsTrue i.is_public × IsNamed files i.path b))
+no_public : (files : List FileDesc) (i : ImportDesc) (b : ℕ) (A : Type 0) → ((b : ℕ) → IsNamed files i.path b → ⊥)
+    → A ↔ (A ⊎ (IsTrue i.is_public × IsNamed files i.path b))
 no_public files i b A none = (λ a. inl a, λ w. (elim w [ inl a ↦ a | inr m ↦ absurd (none b m.1) ]))
 
-pub targeting_missing : (files : List FileDesc) (xs : List ImportDesc) (i : ImportDesc) (all public new_all new_public : List ℕ) (whole now : Bool) → ((b : ℕ) → IsNamed files i.path b → ⊥) → new_all ≡ all → new_public ≡ public → now ≡ false → Targeting files xs all public whole → Targeting files (xs ++ i ∷ []) new_all new_public now
+pub targeting_missing : (files : List FileDesc) (xs : List ImportDesc) (i : ImportDesc) (all public new_all new_public : List ℕ) (whole now : Bool)
+    → ((b : ℕ) → IsNamed files i.path b → ⊥) → new_all ≡ all → new_public ≡ public → now ≡ false → Targeting files xs all public whole
+    → Targeting files (xs ++ i ∷ []) new_all new_public now
 targeting_missing files xs i all public new_all new_public whole now none ea ep e r = rw (ea, ep, e) (record {
   all_are = λ b. iff (r.all_are b) (iff (no_target files i b (Targets files xs b) none) (flip (targets_more files xs i b)));
   public_are = λ b. iff (r.public_are b) (iff (no_public files i b (PublicTargets files xs b) none) (flip (public_more files xs i b)));
@@ -114,18 +129,22 @@ pub record Rows (P : ℕ → ℕ → Type 0) (n : ℕ) (g : Graph) : Type 0 wher
 pub rows_none : (P : ℕ → ℕ → Type 0) (g : Graph) → g ≡ [] → Rows P 0 g
 rows_none P g e = rw e (record { size = refl; edges = λ a b. (λ edge. absurd (no_place a (edge_below [] a b edge)), λ w. absurd (no_place a w.0)) })
 
-rows_to : (P : ℕ → ℕ → Type 0) (n a b : ℕ) (E : Type 0) (row : List ℕ) → (E → (a < n) × P a b) → (Contains row b → P n b) → E ⊎ ((a ≡ n) × Contains row b) → (a < n + 1) × P a b
+rows_to : (P : ℕ → ℕ → Type 0) (n a b : ℕ) (E : Type 0) (row : List ℕ) → (E → (a < n) × P a b) → (Contains row b → P n b) → E ⊎ ((a ≡ n) × Contains row b)
+    → (a < n + 1) × P a b
 rows_to P n a b E row f h (inl e) = let w = f e in (omega (arith, w.0), w.1)
 rows_to P n a b E row f h (inr (e, w)) = (omega arith, subst (λ k. P k b) (sym e) (h w))
 
-rows_from : (P : ℕ → ℕ → Type 0) (n a b : ℕ) (E : Type 0) (row : List ℕ) → ((a < n) × P a b → E) → (P n b → Contains row b) → (a < n) ⊎ (n ≤ a) → (a < n + 1) × P a b → E ⊎ ((a ≡ n) × Contains row b)
+rows_from : (P : ℕ → ℕ → Type 0) (n a b : ℕ) (E : Type 0) (row : List ℕ) → ((a < n) × P a b → E) → (P n b → Contains row b) → (a < n) ⊎ (n ≤ a)
+    → (a < n + 1) × P a b → E ⊎ ((a ≡ n) × Contains row b)
 rows_from P n a b E row f h (inl less) w = inl (f (less, w.1))
 rows_from P n a b E row f h (inr over) w = let e : a ≡ n = omega (arith, w.0, over) in inr (e, h (subst (λ k. P k b) e w.1))
 
-pub rows_more : (P : ℕ → ℕ → Type 0) (n : ℕ) (g new : Graph) (row : List ℕ) → new ≡ g ++ row ∷ [] → ((b : ℕ) → Contains row b ↔ P n b) → Rows P n g → Rows P (n + 1) new
+pub rows_more : (P : ℕ → ℕ → Type 0) (n : ℕ) (g new : Graph) (row : List ℕ) → new ≡ g ++ row ∷ [] → ((b : ℕ) → Contains row b ↔ P n b) → Rows P n g
+    → Rows P (n + 1) new
 rows_more P n g new row e members r =
     let push : (a b : ℕ) → Edge new a b ↔ (Edge g a b ⊎ ((a ≡ n) × Contains row b)) =
-    λ a b. subst (λ (h : Graph). Edge h a b ↔ (Edge g a b ⊎ ((a ≡ n) × Contains row b))) (sym e) (subst (λ m. Edge (g ++ row ∷ []) a b ↔ (Edge g a b ⊎ ((a ≡ m) × Contains row b))) r.size (edge_push g row a b)) in
+    λ a b. subst (λ (h : Graph). Edge h a b ↔ (Edge g a b ⊎ ((a ≡ n) × Contains row b))) (sym e)
+    (subst (λ m. Edge (g ++ row ∷ []) a b ↔ (Edge g a b ⊎ ((a ≡ m) × Contains row b))) r.size (edge_push g row a b)) in
     record {
       size = (let more : length (g ++ row ∷ []) ≡ length g + 1 = grind (arith, common_steps) in ap length e ∙ more ∙ omega (arith, r.size));
       edges = λ a b. (
@@ -166,33 +185,47 @@ graphing_none files imports public ei ep = record {
   lacking = λ e. absurd (true≢false e);
 }
 
-found_more : (files : List FileDesc) (n : ℕ) (xs : List ImportDesc) → xs ≡ imports_at files n → ((a : ℕ) → a < n → HasMissing files (imports_at files a) → ⊥) → (HasMissing files xs → ⊥) → (a : ℕ) → a < n + 1 → HasMissing files (imports_at files a) → ⊥
+found_more : (files : List FileDesc) (n : ℕ) (xs : List ImportDesc) → xs ≡ imports_at files n → ((a : ℕ) → a < n → HasMissing files (imports_at files a) → ⊥)
+    → (HasMissing files xs → ⊥) → (a : ℕ) → a < n + 1 → HasMissing files (imports_at files a) → ⊥
 found_more files n xs e old last a h m = elim (cases_lt a n) [
   | inl less ↦ old a less m
   | inr over ↦ (let at : a ≡ n = omega arith in last (subst (HasMissing files) (sym e) (subst (λ k. HasMissing files (imports_at files k)) at m)))
 ]
 
-pub graphing_more : (files : List FileDesc) (n : ℕ) (imports public new_imports new_public : List (Vec ℕ Global)) (whole part now : Bool) (xs : List ImportDesc) (all some : List ℕ) → xs ≡ imports_at files n → graph_of new_imports ≡ graph_of imports ++ all ∷ [] → graph_of new_public ≡ graph_of public ++ some ∷ [] → (IsTrue now → IsTrue whole × IsTrue part) → ((b : ℕ) → Contains all b ↔ Targets files xs b) → ((b : ℕ) → Contains some b ↔ PublicTargets files xs b) → (IsTrue part → HasMissing files xs → ⊥) → (now ≡ false → (whole ≡ false) ⊎ (part ≡ false)) → (part ≡ false → HasMissing files xs) → Graphing files n imports public whole → Graphing files (n + 1) new_imports new_public now
+pub graphing_more : (files : List FileDesc) (n : ℕ) (imports public new_imports new_public : List (Vec ℕ Global)) (whole part now : Bool) (xs : List ImportDesc)
+    (all some : List ℕ) → xs ≡ imports_at files n → graph_of new_imports ≡ graph_of imports ++ all ∷ [] → graph_of new_public ≡ graph_of public ++ some ∷ []
+    → (IsTrue now → IsTrue whole × IsTrue part) → ((b : ℕ) → Contains all b ↔ Targets files xs b) → ((b : ℕ) → Contains some b ↔ PublicTargets files xs b)
+    → (IsTrue part → HasMissing files xs → ⊥) → (now ≡ false → (whole ≡ false) ⊎ (part ≡ false)) → (part ≡ false → HasMissing files xs)
+    → Graphing files n imports public whole → Graphing files (n + 1) new_imports new_public now
 graphing_more files n imports public new_imports new_public whole part now xs all some e ei ep both are_all are_public found either_part lacking g = record {
-  all_rows = rows_more (Imports files) n (graph_of imports) (graph_of new_imports) all ei (subst (λ (ys : List ImportDesc). (b : ℕ) → Contains all b ↔ Targets files ys b) e are_all) g.all_rows;
-  public_rows = rows_more (ImportsPublicly files) n (graph_of public) (graph_of new_public) some ep (subst (λ (ys : List ImportDesc). (b : ℕ) → Contains some b ↔ PublicTargets files ys b) e are_public) g.public_rows;
+  all_rows = rows_more (Imports files) n (graph_of imports) (graph_of new_imports) all ei
+      (subst (λ (ys : List ImportDesc). (b : ℕ) → Contains all b ↔ Targets files ys b) e are_all) g.all_rows;
+  public_rows = rows_more (ImportsPublicly files) n (graph_of public) (graph_of new_public) some ep
+      (subst (λ (ys : List ImportDesc). (b : ℕ) → Contains some b ↔ PublicTargets files ys b) e are_public) g.public_rows;
   found = λ t. found_more files n xs e (g.found (both t).0) (found (both t).1);
   lacking = λ f. (elim (either_part f) [ inl old ↦ g.lacking old | inr new ↦ (n, subst (HasMissing files) e (lacking new)) ]);
 }
 
-pub graphing_all : (files : List FileDesc) (n : ℕ) (imports public : List (Vec ℕ Global)) (whole : Bool) → n ≡ length files → Graphing files n imports public whole → IsGraph files (graph_of imports)
+pub graphing_all : (files : List FileDesc) (n : ℕ) (imports public : List (Vec ℕ Global)) (whole : Bool) → n ≡ length files
+    → Graphing files n imports public whole → IsGraph files (graph_of imports)
 graphing_all files n imports public whole e g = record {
   size = g.all_rows.size ∙ e;
-  edges = λ a b. (λ edge. ((g.all_rows.edges a b).0 edge).1, λ i. (g.all_rows.edges a b).1 ((let h = importer_inside files a i.0 i.1 in omega (arith, h, e)), i));
+  edges =
+      λ a b. (λ edge. ((g.all_rows.edges a b).0 edge).1, λ i. (g.all_rows.edges a b).1 ((let h = importer_inside files a i.0 i.1 in omega (arith, h, e)), i));
 }
 
-pub graphing_public : (files : List FileDesc) (n : ℕ) (imports public : List (Vec ℕ Global)) (whole : Bool) → n ≡ length files → Graphing files n imports public whole → IsPublicGraph files (graph_of public)
+pub graphing_public : (files : List FileDesc) (n : ℕ) (imports public : List (Vec ℕ Global)) (whole : Bool) → n ≡ length files
+    → Graphing files n imports public whole → IsPublicGraph files (graph_of public)
 graphing_public files n imports public whole e g = record {
   size = g.public_rows.size ∙ e;
-  edges = λ a b. (λ edge. ((g.public_rows.edges a b).0 edge).1, λ i. (g.public_rows.edges a b).1 ((let h = importer_inside files a i.0 i.1 in omega (arith, h, e)), i));
+  edges = λ a b. (
+    λ edge. ((g.public_rows.edges a b).0 edge).1,
+    λ i. (g.public_rows.edges a b).1 ((let h = importer_inside files a i.0 i.1 in omega (arith, h, e)), i),
+  );
 }
 
-pub graphing_found : (files : List FileDesc) (n : ℕ) (imports public : List (Vec ℕ Global)) (whole : Bool) → n ≡ length files → Graphing files n imports public whole → IsTrue whole → (a : ℕ) → HasMissing files (imports_at files a) → ⊥
+pub graphing_found : (files : List FileDesc) (n : ℕ) (imports public : List (Vec ℕ Global)) (whole : Bool) → n ≡ length files
+    → Graphing files n imports public whole → IsTrue whole → (a : ℕ) → HasMissing files (imports_at files a) → ⊥
 graphing_found files n imports public whole e g t a m = g.found t a (let h = importer_inside files a m.0 m.1 in omega (arith, h, e)) m
 
 pub whole_prefix : {X : Type 0} (xs : List X) (n : ℕ) → n ≡ length xs → take n xs ≡ xs

@@ -73,7 +73,8 @@ one_set_order files links others first second =
 
 -- ---- what a file sees
 
-pub sees_same : (files : List FileDesc) (links others : Linked) (a b : ℕ) → AreLinked files links → AreLinked files others → a < length files → b < length files → IsTrue (sees links a b) → IsTrue (sees others a b)
+pub sees_same : (files : List FileDesc) (links others : Linked) (a b : ℕ) → AreLinked files links → AreLinked files others → a < length files → b < length files
+    → IsTrue (sees links a b) → IsTrue (sees others a b)
 sees_same files links others a b first second ha hb seen = (second.sees a b ha hb).1 ((first.sees a b ha hb).0 seen)
 
 -- ---- the first bad import
@@ -84,5 +85,7 @@ one_import a b p q k l (inl before) (inr after) = absurd (omega (arith, before, 
 one_import a b p q k l (inr before) (inl after) = absurd (omega (arith, before.0, after))
 one_import a b p q k l (inr before) (inr after) = let one = one_spot p q k l before.1 after.1 in (before.0, one.0, one.1)
 
-pub one_bad : (files : List FileDesc) (a b : ℕ) (place other : Place) (kind what : Kind) → IsFirstBad files a place kind → IsFirstBad files b other what → (a ≡ b) × (place ≡ other) × (kind ≡ what)
-one_bad files a b place other kind what first second = one_import a b place other kind what (first.least b other what second.bad) (second.least a place kind first.bad)
+pub one_bad : (files : List FileDesc) (a b : ℕ) (place other : Place) (kind what : Kind) → IsFirstBad files a place kind → IsFirstBad files b other what
+    → (a ≡ b) × (place ≡ other) × (kind ≡ what)
+one_bad files a b place other kind what first second =
+    one_import a b place other kind what (first.least b other what second.bad) (second.least a place kind first.bad)

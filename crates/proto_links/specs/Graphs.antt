@@ -38,6 +38,7 @@ abbrev pub IsWrongIn : List FileDesc → ℕ → List ImportDesc → Wrong → T
 IsWrongIn files a imports x = (i : ImportDesc) × Contains imports i × (i.place ≡ x.place) × IsWrong files a i x.kind
 
 -- the first that is wrong among the imports of a list, None only where none is
-pub record IsFirstWrong (files : List FileDesc) (a : ℕ) (imports : List ImportDesc) (first : Option Wrong) : Type 0 where
+pub record IsFirstWrong (files : List FileDesc) (a : ℕ) (imports : List ImportDesc)
+    (first : Option Wrong) : Type 0 where
   pub found : IfSome first (IsWrongIn files a imports)
   pub least : (x : Wrong) → IsWrongIn files a imports x → Bounds first x

@@ -25,7 +25,8 @@ imports_at files a = slice_index_or (map imports_of files) a []
 
 -- each name comes before the next one, byte by byte
 abbrev pub AreInNameOrder : List FileDesc → Type 0
-AreInNameOrder files = (k : ℕ) → k + 1 < length files → slice_cmp nat_cmp (name_at files k) (name_at files (k + 1)) ≡ Less
+AreInNameOrder files =
+    (k : ℕ) → k + 1 < length files → slice_cmp nat_cmp (name_at files k) (name_at files (k + 1)) ≡ Less
 
 -- b is the file of this name
 abbrev pub IsNamed : List FileDesc → List ℕ → ℕ → Type 0
@@ -57,7 +58,8 @@ pub data IsWrong (files : List FileDesc) (a : ℕ) (i : ImportDesc) : Kind → T
 
 -- an import of the file a, at this place, with this fault
 abbrev pub IsBad : List FileDesc → ℕ → Place → Kind → Type 0
-IsBad files a place kind = (i : ImportDesc) × Contains (imports_at files a) i × (i.place ≡ place) × IsWrong files a i kind
+IsBad files a place kind =
+    (i : ImportDesc) × Contains (imports_at files a) i × (i.place ≡ place) × IsWrong files a i kind
 
 -- by place, then by the kind's number
 abbrev pub NoLater : Place → Kind → Place → Kind → Type 0

@@ -6,7 +6,8 @@ use Rattle.proto_desc.specs.declared.file.FileDesc.{FileDesc}
 use Rattle.proto_links.specs.Imports.{Imports, Reaches, NoneBad}
 use Rattle.proto_links.specs.Visible.{Sees}
 
--- Each file has a position in set order. Lists of files stand by the positions of their files; those of what a file sees have positions.
+-- Each file has a position in set order. Lists of files stand by the positions of their files; those of what a file
+-- sees have positions.
 pub record Linked : Type 0 where
   pub ranks : List ℕ
   pub set_order : List ℕ
@@ -81,12 +82,14 @@ AreOfFiles links = (files : List FileDesc) × AreLinked files links
 
 -- ---- what is so of the links of any files
 
--- a file reaches files alone, itself among them, and what those reach that it reaches; no file stands twice in a list; what a
+-- a file reaches files alone, itself among them, and what those reach that it reaches; no file stands twice in a list;
+-- what a
 -- file reaches is a part of the set order, which has every file
 pub record AreReachesWhole (links : Linked) : Type 0 where
   pub within : (a b : ℕ) → a < count_of links → Contains (reach_of links a) b → b < count_of links
   pub itself : (a : ℕ) → a < count_of links → Contains (reach_of links a) a
-  pub closed : (a b c : ℕ) → a < count_of links → Contains (reach_of links a) b → Contains (reach_of links b) c → Contains (reach_of links a) c
+  pub closed : (a b c : ℕ) → a < count_of links → Contains (reach_of links a) b → Contains (reach_of links b) c
+      → Contains (reach_of links a) c
   pub once : (a : ℕ) → a < count_of links → IsDistinct ◌==◌ (reach_of links a)
   pub part : (a : ℕ) → a < count_of links → reach_of links a ≡ filter (λ b. has b (reach_of links a)) links.set_order
   pub every : (a : ℕ) → Contains links.set_order a ↔ (a < count_of links)

@@ -26,7 +26,9 @@ fn fault_of(files: &[FileDesc], file: usize, import: &ImportDesc, reaching: &[bo
     requires order { AreInNameOrder files.now }
     requires room { length reaching.now ≡ length files.now }
     requires reaching { (b : ℕ) → IsMarked reaching.now b ↔ Reaches files.now b file }
-    ensures { MatchOption result ((k : Kind) → IsWrong files.now file import.now k → ⊥) (λ kind. IsWrong files.now file import.now kind × ((k : Kind) → IsWrong files.now file import.now k → k ≡ kind)) }
+    ensures { MatchOption result ((k : Kind) → IsWrong files.now file import.now k → ⊥)
+        (λ kind. IsWrong files.now file import.now kind
+        × ((k : Kind) → IsWrong files.now file import.now k → k ≡ kind)) }
 {
     match file_named(files, import.path.as_str()) {
         None => Some(Kind::ImportMissing),
@@ -80,7 +82,8 @@ pub(crate) fn first_bad(
 ) -> Result<Option<(usize, Wrong)>, AllocError>
     requires order { AreInNameOrder files.now }
     requires graph { IsGraph files.now (graph_of imports.now) }
-    ensures { IfOk result (λ bad. MatchOption bad (NoneBad files.now) (λ bad. IsFirstBad files.now bad.0 bad.1.place bad.1.kind)) }
+    ensures { IfOk result (λ bad. MatchOption bad (NoneBad files.now)
+        (λ bad. IsFirstBad files.now bad.0 bad.1.place bad.1.kind)) }
 {
     let turned = predecessors(alloc, imports)?;
     for file in 0..files.len() {

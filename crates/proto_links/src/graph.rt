@@ -21,10 +21,14 @@ struct Named {
 /// What the imports of one file name.
 fn targets(alloc: Global, files: &[FileDesc], imports: &[ImportDesc]) -> Result<Named, AllocError>
     requires { AreInNameOrder files.now }
-    ensures all { IfOk result (λ targets. (b : ℕ) → Contains targets.all.items b ↔ Targets files.now imports.now b) }
-    ensures public { IfOk result (λ targets. (b : ℕ) → Contains targets.public.items b ↔ PublicTargets files.now imports.now b) }
-    ensures whole { IfOk result (λ targets. IsTrue targets.is_whole → HasMissing files.now imports.now → ⊥) }
-    ensures part { IfOk result (λ targets. targets.is_whole ≡ false → HasMissing files.now imports.now) }
+    ensures all { IfOk result (λ targets. (b : ℕ)
+        → Contains targets.all.items b ↔ Targets files.now imports.now b) }
+    ensures public { IfOk result (λ targets. (b : ℕ)
+        → Contains targets.public.items b ↔ PublicTargets files.now imports.now b) }
+    ensures whole { IfOk result (λ targets. IsTrue targets.is_whole
+        → HasMissing files.now imports.now → ⊥) }
+    ensures part { IfOk result (λ targets. targets.is_whole ≡ false
+        → HasMissing files.now imports.now) }
 {
     let mut all = Vec::new(alloc);
     let mut public = Vec::new(alloc);
@@ -60,9 +64,12 @@ pub(crate) struct Graph {
 pub(crate) fn import_graph(alloc: Global, files: &[FileDesc]) -> Result<Graph, AllocError>
     requires { AreInNameOrder files.now }
     ensures imports { IfOk result (λ graph. IsGraph files.now (graph_of graph.imports.items)) }
-    ensures public { IfOk result (λ graph. IsPublicGraph files.now (graph_of graph.public_imports.items)) }
-    ensures whole { IfOk result (λ graph. IsTrue graph.is_whole → (a : ℕ) → HasMissing files.now (imports_at files.now a) → ⊥) }
-    ensures part { IfOk result (λ graph. graph.is_whole ≡ false → (a : ℕ) × HasMissing files.now (imports_at files.now a)) }
+    ensures public { IfOk result (λ graph. IsPublicGraph files.now
+        (graph_of graph.public_imports.items)) }
+    ensures whole { IfOk result (λ graph. IsTrue graph.is_whole → (a : ℕ)
+        → HasMissing files.now (imports_at files.now a) → ⊥) }
+    ensures part { IfOk result (λ graph. graph.is_whole ≡ false
+        → (a : ℕ) × HasMissing files.now (imports_at files.now a)) }
 {
     let mut imports = Vec::new(alloc);
     let mut public_imports = Vec::new(alloc);

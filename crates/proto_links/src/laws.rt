@@ -9,7 +9,12 @@ ghost use Rattle.proto_base.specs.declared.place.Place.{Place};
 
 /// Files have one set order, and see the same files, however they are linked; and they have one first bad import.
 pub fn links_are_unique()
-    ensures order { (files : List FileDesc) (links others : Linked) → AreLinked files links → AreLinked files others → links.set_order ≡ others.set_order }
-    ensures sees { (files : List FileDesc) (links others : Linked) (a b : ℕ) → AreLinked files links → AreLinked files others → a < length files → b < length files → IsTrue (sees links a b) → IsTrue (sees others a b) }
-    ensures bad { (files : List FileDesc) (a b : ℕ) (place other : Place) (kind what : Kind) → IsFirstBad files a place kind → IsFirstBad files b other what → (a ≡ b) × (place ≡ other) × (kind ≡ what) }
+    ensures order { (files : List FileDesc) (links others : Linked) → AreLinked files links
+        → AreLinked files others → links.set_order ≡ others.set_order }
+    ensures sees { (files : List FileDesc) (links others : Linked) (a b : ℕ) → AreLinked files links
+        → AreLinked files others → a < length files → b < length files → IsTrue (sees links a b)
+        → IsTrue (sees others a b) }
+    ensures bad { (files : List FileDesc) (a b : ℕ) (place other : Place) (kind what : Kind)
+        → IsFirstBad files a place kind → IsFirstBad files b other what
+        → (a ≡ b) × (place ≡ other) × (kind ≡ what) }
 {}

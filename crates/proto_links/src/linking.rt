@@ -40,7 +40,7 @@ impl From<AllocError> for LinkError {
 }
 
 /// The links of files whose imports name files, by the ranks of the files.
-fn linked(
+fn link_files(
     alloc: Global,
     files: &[FileDesc],
     graph: &Graph,
@@ -75,12 +75,13 @@ fn linked(
 pub fn link(alloc: Global, files: &[FileDesc]) -> Result<Links, LinkError>
     requires { AreInNameOrder files.now }
     ensures linked { IfOk result (AreLinked files.now) }
-    ensures bad { (file : ℕ) (place : Place) (kind : Kind) → result ≡ Err (errors.At file place kind) → IsFirstBad files.now file place kind }
+    ensures bad { (file : ℕ) (place : Place) (kind : Kind)
+        → result ≡ Err (errors.At file place kind) → IsFirstBad files.now file place kind }
 {
     let graph = import_graph(alloc, files)?;
     if let Some(ranking) = rank_nodes(alloc, &graph.imports)? {
         if graph.is_whole {
-            return Ok(linked(alloc, files, &graph, ranking)?);
+            return Ok(link_files(alloc, files, &graph, ranking)?);
         }
     }
     match first_bad(alloc, files, &graph.imports)? {

@@ -30,7 +30,15 @@ impl Model for Links {
     ghost view = { λ links. record { ranks = links.ranking.ranks.items; set_order = links.ranking.order.items; positions = links.positions.items; reach = links.reach; seen = links.seen } };
 
     ghost invariant = { λ links. IsSound (record { ranks = links.ranking.ranks.items; set_order = links.ranking.order.items; positions = links.positions.items; reach = links.reach; seen = links.seen })
-        × AreOfFiles (record { ranks = links.ranking.ranks.items; set_order = links.ranking.order.items; positions = links.positions.items; reach = links.reach; seen = links.seen }) };
+        × AreOfFiles (record {
+          ranks = links.ranking.ranks.items;
+          set_order =
+              links.ranking.order.items;
+          positions = links.positions.items;
+          reach = links.reach;
+          seen =
+              links.seen;
+        }) };
 }
 
 impl Links {

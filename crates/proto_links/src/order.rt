@@ -31,7 +31,8 @@ pub fn in_name_order(files: &[FileDesc]) -> bool
 /// The file of this name, by halving.
 pub(crate) fn file_named(files: &[FileDesc], name: &str) -> Option<usize>
     requires { AreInNameOrder files.now }
-    ensures { MatchOption result ((b : ℕ) → IsNamed files.now name.now b → ⊥) (IsNamed files.now name.now) }
+    ensures { MatchOption result ((b : ℕ) → IsNamed files.now name.now b → ⊥)
+        (IsNamed files.now name.now) }
 {
     match files.binary_search_by(
         |file: &FileDesc| -> Ordering

@@ -29,9 +29,12 @@ or_by false false = refl
 among_more : (names : List (List ℕ)) (one name : List ℕ) → is_among (names ++ one ∷ []) name ≡ (is_among names name || bytes_eq one name)
 among_more names one name = list_any-append (λ t. bytes_eq t name) names (one ∷ []) ∙ ap (λ b. is_among names name || b) (or_false (bytes_eq one name))
 
-pub taken_more : (names : List (List ℕ)) (one : List ℕ) (key : String Global) (old new : BTreeSet (String Global)) → string_bytes key ≡ one → sorted.Updates string_cmp old new key true → IsSetOf names old → IsSetOf (names ++ one ∷ []) new
+pub taken_more : (names : List (List ℕ)) (one : List ℕ) (key : String Global) (old new : BTreeSet (String Global)) → string_bytes key ≡ one
+    → sorted.Updates string_cmp old new key true → IsSetOf names old → IsSetOf (names ++ one ∷ []) new
 taken_more names one key old new same updates members = record {
-  members = λ name. btree_set_updates_text one old new true (subst (λ (bs : List ℕ). sorted.UpdatesBy string_cmp (λ k. slice_cmp nat_cmp bs (string_bytes k)) old new true) same updates) name ∙ rw (members.members name) (or_by (bytes_eq one name) (is_among names name)) ∙ sym (among_more names one name);
+  members = λ name. btree_set_updates_text one old new true
+      (subst (λ (bs : List ℕ). sorted.UpdatesBy string_cmp (λ k. slice_cmp nat_cmp bs (string_bytes k)) old new true) same updates) name
+      ∙ rw (members.members name) (or_by (bytes_eq one name) (is_among names name)) ∙ sym (among_more names one name);
 }
 
 -- tests that agree find the same name
@@ -52,7 +55,8 @@ longer_all : (n : ℕ) (ts : List (List ℕ)) → longer n ts ≤ length ts
 longer_all n [] = omega arith
 longer_all n (t ∷ ts) = let rest = longer_all n ts in grind (arith, nat_tests)
 
-past_by : (name t : List ℕ) (ts : List (List ℕ)) (b : Bool) → bytes_eq t name ≡ b → (b || is_among ts name) ≡ true → (is_among ts name ≡ true → longer (length name + 1) ts < longer (length name) ts) → longer (length name + 1) (t ∷ ts) < longer (length name) (t ∷ ts)
+past_by : (name t : List ℕ) (ts : List (List ℕ)) (b : Bool) → bytes_eq t name ≡ b → (b || is_among ts name) ≡ true
+    → (is_among ts name ≡ true → longer (length name + 1) ts < longer (length name) ts) → longer (length name + 1) (t ∷ ts) < longer (length name) (t ∷ ts)
 past_by name t ts true same among later =
     let at : length t ≡ length name = ap length ((bytes_eq-Decides t name).0 same) in
     let rest = longer_more (length name) ts in
@@ -67,15 +71,18 @@ false_by : (b : Bool) → (b ≡ true → ⊥) → b ≡ false
 false_by true none = absurd (none refl)
 false_by false none = refl
 
-free_by : (taken : List (List ℕ)) (most : ℕ) (name : List ℕ) (b : Bool) → is_among taken name ≡ b → (b ≡ true → is_among taken (first_free (is_among taken) most (88 ∷ name)) ≡ false) → is_among taken (first_free (is_among taken) (suc most) name) ≡ false
+free_by : (taken : List (List ℕ)) (most : ℕ) (name : List ℕ) (b : Bool) → is_among taken name ≡ b
+    → (b ≡ true → is_among taken (first_free (is_among taken) most (88 ∷ name)) ≡ false) → is_among taken (first_free (is_among taken) (suc most) name) ≡ false
 free_by taken most name true met later = rw met (later refl)
 free_by taken most name false met later = rw met met
 
 -- as many names as are taken are enough to meet one that is not
-free_after : (taken : List (List ℕ)) (most : ℕ) (name : List ℕ) → longer (length name) taken ≤ most → is_among taken (first_free (is_among taken) most name) ≡ false
+free_after : (taken : List (List ℕ)) (most : ℕ) (name : List ℕ) → longer (length name) taken ≤ most
+    → is_among taken (first_free (is_among taken) most name) ≡ false
 free_after taken zero name enough = false_by (is_among taken name) (λ met. let fewer = longer_past name taken met in omega (arith, fewer, enough))
 free_after taken (suc most) name enough =
-    free_by taken most name (is_among taken name) refl (λ met. free_after taken most (88 ∷ name) (let fewer = longer_past name taken met in let long : length (88 ∷ name) ≡ length name + 1 = omega arith in rw long (omega (arith, fewer, enough))))
+    free_by taken most name (is_among taken name) refl (λ met. free_after taken most (88 ∷ name) (let fewer = longer_past name taken met in
+    let long : length (88 ∷ name) ≡ length name + 1 = omega arith in rw long (omega (arith, fewer, enough))))
 
 pub free_is_free : (taken : List (List ℕ)) (name : List ℕ) → is_among taken (first_free (is_among taken) (length taken) name) ≡ false
 free_is_free taken name = free_after taken (length taken) name (longer_all (length name) taken)
@@ -85,7 +92,8 @@ pub free_stops : (test : List ℕ → Bool) (left : ℕ) (name : List ℕ) → t
 free_stops test zero name free = refl
 free_stops test (suc left) name free = rw free refl
 
-pub free_goes : (test : List ℕ → Bool) (left : ℕ) (name longer : List ℕ) → test name ≡ true → longer ≡ 88 ∷ name → first_free test (suc left) name ≡ first_free test left longer
+pub free_goes : (test : List ℕ → Bool) (left : ℕ) (name longer : List ℕ) → test name ≡ true → longer ≡ 88 ∷ name
+    → first_free test (suc left) name ≡ first_free test left longer
 free_goes test left name longer met made = rw (met, made) refl
 
 pub if_ok : {T E : Type 0} {P Q : T → Type 0} (r : Result T E) → IfOk r P → ((x : T) → P x → Q x) → IfOk r Q
@@ -93,7 +101,8 @@ if_ok (Ok x) fact turn = turn x fact
 if_ok (Err e) fact turn = tt
 
 -- a search by a set of the names that are taken
-pub found_by_set : (taken : List (List ℕ)) (set : BTreeSet (String Global)) (most : ℕ) (start begin found : List ℕ) → IsSetOf taken set → most ≡ length taken → start ≡ begin → found ≡ first_free (contains_text set) most start → found ≡ first_free (is_among taken) (length taken) begin
+pub found_by_set : (taken : List (List ℕ)) (set : BTreeSet (String Global)) (most : ℕ) (start begin found : List ℕ) → IsSetOf taken set → most ≡ length taken
+    → start ≡ begin → found ≡ first_free (contains_text set) most start → found ≡ first_free (is_among taken) (length taken) begin
 found_by_set taken set most start begin found members same same_start by_set =
     by_set ∙ free_same (contains_text set) (is_among taken) most start members.members
     ∙ ap (λ (n : ℕ). first_free (is_among taken) n start) same ∙ ap (first_free (is_among taken) (length taken)) same_start

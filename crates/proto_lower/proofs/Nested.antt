@@ -22,13 +22,16 @@ pub nested_message : (full : List ℕ) (m : Message) → nested_of full (of.Mess
 nested_message full m =
     let row = row_of (of.Message m) in
     ap (λ xs. message_of (inner full m.name.text) m.name (items-the_row-MessageItem row.0 row.1) xs ∷ []) (row_flat (inner full m.name.text) row.0 row.1)
-    ∙ ap (λ is. message_of (inner full m.name.text) m.name is (flat_map (nested_of (inner full m.name.text)) is) ∷ []) (items_hidden-the_row-MessageItem-0 m.items)
+    ∙ ap (λ is. message_of (inner full m.name.text) m.name is (flat_map (nested_of (inner full m.name.text)) is) ∷ [])
+    (items_hidden-the_row-MessageItem-0 m.items)
 
 -- one more statement, and what it gives
-pub one_more : {X Y : Type 0} (f : X → List Y) (xs : List X) (i : ℕ) (x : X) (done new : List Y) → i < length xs → x ≡ get_or xs i x → done ≡ flat_map f (take i xs) → new ≡ f x → done ++ new ≡ flat_map f (take (i + 1) xs)
+pub one_more : {X Y : Type 0} (f : X → List Y) (xs : List X) (i : ℕ) (x : X) (done new : List Y) → i < length xs → x ≡ get_or xs i x
+    → done ≡ flat_map f (take i xs) → new ≡ f x → done ++ new ≡ flat_map f (take (i + 1) xs)
 one_more f xs i x done new within at so_far gives =
     rw (so_far, gives) (ap (λ z. flat_map f (take i xs) ++ z) (sym (append-nil (f x)) ∙ ap (λ z. flat_map f (z ∷ [])) at)
     ∙ sym (flat_map-append f (take i xs) (get_or xs i x ∷ [])) ∙ ap (flat_map f) (sym (take_more xs i x within)))
 
-pub none_more : {X Y : Type 0} (f : X → List Y) (xs : List X) (i : ℕ) (x : X) (done : List Y) → i < length xs → x ≡ get_or xs i x → done ≡ flat_map f (take i xs) → f x ≡ [] → done ≡ flat_map f (take (i + 1) xs)
+pub none_more : {X Y : Type 0} (f : X → List Y) (xs : List X) (i : ℕ) (x : X) (done : List Y) → i < length xs → x ≡ get_or xs i x
+    → done ≡ flat_map f (take i xs) → f x ≡ [] → done ≡ flat_map f (take (i + 1) xs)
 none_more f xs i x done within at so_far gives = sym (append-nil done) ∙ one_more f xs i x done [] within at so_far (sym gives)

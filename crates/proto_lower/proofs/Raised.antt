@@ -28,14 +28,22 @@ pub record IsSoFar (made : List ℕ) (before : ℕ) (rest name : List ℕ) (firs
 pub so_far_start : (name : List ℕ) (first : ℕ) → IsUtf8 name → IsSoFar [] first name name first
 so_far_start name first utf8 = record { letters = chars name; spelled = encodes-chars name utf8; whole = refl }
 
-pub so_far_dropped : (made : List ℕ) (before : ℕ) (rest name : List ℕ) (first c : ℕ) (more : List ℕ) → IsSoFar made before rest name first → rest ≡ encode_utf8 c ++ more → c ≡ 95 → IsSoFar made c more name first
+pub so_far_dropped : (made : List ℕ) (before : ℕ) (rest name : List ℕ) (first c : ℕ) (more : List ℕ) → IsSoFar made before rest name first
+    → rest ≡ encode_utf8 c ++ more → c ≡ 95 → IsSoFar made c more name first
 so_far_dropped made before rest name first c more so_far next underscore =
     let split = cons_from_encodes so_far.letters more c (so_far.spelled ∙ next) in
     let test : (c == 95) ≡ true = grind (arith, nat_tests) in
     let dropped : letters_behind before (c ∷ split.0) ≡ letters_behind c split.0 = rw test refl in
-    record { letters = split.0; spelled = split.2; whole = ap (λ (ls : List ℕ). made ++ encode_utf8_all ls) (sym dropped ∙ ap (letters_behind before) (sym split.1)) ∙ so_far.whole }
+    record {
+      letters = split.0;
+      spelled = split.2;
+      whole = ap (λ (ls : List ℕ). made ++ encode_utf8_all ls)
+          (sym dropped ∙ ap (letters_behind before) (sym split.1)) ∙ so_far.whole;
+    }
 
-pub so_far_pushed : (made : List ℕ) (before : ℕ) (rest name : List ℕ) (first c d : ℕ) (pushed more : List ℕ) → IsSoFar made before rest name first → rest ≡ encode_utf8 c ++ more → (c == 95) ≡ false → d ≡ (if before == 95 then to_ascii_uppercase c else c) → pushed ≡ made ++ encode_utf8 d → IsSoFar pushed c more name first
+pub so_far_pushed : (made : List ℕ) (before : ℕ) (rest name : List ℕ) (first c d : ℕ) (pushed more : List ℕ) → IsSoFar made before rest name first
+    → rest ≡ encode_utf8 c ++ more → (c == 95) ≡ false → d ≡ (if before == 95 then to_ascii_uppercase c else c) → pushed ≡ made ++ encode_utf8 d
+    → IsSoFar pushed c more name first
 so_far_pushed made before rest name first c d pushed more so_far next test raised_by pushed_is =
     let split = cons_from_encodes so_far.letters more c (so_far.spelled ∙ next) in
     let kept : letters_behind before (c ∷ split.0) ≡ d ∷ letters_behind c split.0 = rw (test, raised_by) refl in
@@ -47,11 +55,13 @@ so_far_pushed made before rest name first c d pushed more so_far next test raise
           ∙ ap (λ (ls : List ℕ). made ++ encode_utf8_all ls) (sym kept ∙ ap (letters_behind before) (sym split.1)) ∙ so_far.whole;
     }
 
-pub raised_as : (before c pushed : ℕ) → ((before ≡ 95) × (pushed ≡ to_ascii_uppercase c)) ⊎ ((before ≢ 95) × (pushed ≡ c)) → pushed ≡ (if before == 95 then to_ascii_uppercase c else c)
+pub raised_as : (before c pushed : ℕ) → ((before ≡ 95) × (pushed ≡ to_ascii_uppercase c)) ⊎ ((before ≢ 95) × (pushed ≡ c))
+    → pushed ≡ (if before == 95 then to_ascii_uppercase c else c)
 raised_as before c pushed (inl case) = let test : (before == 95) ≡ true = grind (arith, nat_tests) in rw test case.1
 raised_as before c pushed (inr case) = let test : (before == 95) ≡ false = grind (arith, nat_tests) in rw test case.1
 
-pub so_far_end : (made : List ℕ) (before : ℕ) (rest name : List ℕ) (first : ℕ) → IsSoFar made before rest name first → length rest ≡ 0 → made ≡ raised first name
+pub so_far_end : (made : List ℕ) (before : ℕ) (rest name : List ℕ) (first : ℕ) → IsSoFar made before rest name first → length rest ≡ 0
+    → made ≡ raised first name
 so_far_end made before [] name first so_far done =
     let none : so_far.letters ≡ [] = encodes_same so_far.letters [] so_far.spelled in
     sym (append-nil made) ∙ ap (λ (ls : List ℕ). made ++ encode_utf8_all (letters_behind before ls)) (sym none) ∙ so_far.whole

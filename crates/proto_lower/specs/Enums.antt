@@ -11,7 +11,13 @@ use Rattle.proto_lower.specs.Options.{bracketed, enum_setting, options_of}
 use Rattle.proto_lower.specs.Reserveds.{number_of_literal, enum_ranges_of, enum_names_of}
 
 abbrev pub value_desc : EnumValue → ValueDesc
-value_desc v = record { name = v.name.text; place = v.name.span.start; number = number_of_literal v.number; options = options_of element.EnumValue (bracketed v.options) }
+value_desc v = record {
+  name = v.name.text;
+  place = v.name.span.start;
+  number = number_of_literal v.number;
+  options =
+      options_of element.EnumValue (bracketed v.options);
+}
 
 abbrev pub value_of_item : EnumItem → List ValueDesc
 value_of_item (Value v) = value_desc v ∷ []

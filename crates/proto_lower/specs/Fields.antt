@@ -86,7 +86,8 @@ made_index false next = None
 
 -- a field, where the next oneof that an `optional` field makes has the position `next`
 abbrev pub field_at : ℕ → Field → FieldDesc
-field_at next f = described f.declarator (label_of f.label) (kind_of f.field_type) (made_index (is_optional f.label) next) (is_optional f.label)
+field_at next f = described f.declarator (label_of f.label) (kind_of f.field_type)
+    (made_index (is_optional f.label) next) (is_optional f.label)
 
 -- the full name, behind a leading dot, of what stands in the scope
 abbrev pub inner : List ℕ → List ℕ → List ℕ
@@ -94,7 +95,8 @@ inner scope name = scope ++ 46 ∷ name
 
 -- a map field of the message with this full name
 abbrev pub map_described : List ℕ → MapField → FieldDesc
-map_described full m = described m.declarator Repeated (Named (Resolved (inner full (entry_name_of m.declarator.name.text)) type_kind.Message)) None false
+map_described full m = described m.declarator Repeated
+    (Named (Resolved (inner full (entry_name_of m.declarator.name.text)) type_kind.Message)) None false
 
 -- what a statement of the oneof at this position gives
 abbrev pub member_of : ℕ → OneofItem → List FieldDesc
@@ -111,10 +113,13 @@ real_count [] = 0
 real_count (message_item.Oneof o ∷ is) = real_count is + 1
 real_count (i ∷ is) = real_count is
 
--- the fields of statements, in their order, where the next oneof of the source has the position `real`, and the next that is made `made`
+-- the fields of statements, in their order, where the next oneof of the source has the position `real`, and the next
+-- that is made `made`
 abbrev pub fields_from : (full : List ℕ) → (real made : ℕ) → List MessageItem → List FieldDesc
 fields_from full real made [] = []
-fields_from full real made (message_item.Field f ∷ is) = field_at made f ∷ fields_from full real (made + made_by (is_optional f.label)) is
+fields_from full real made (message_item.Field f ∷ is) =
+    field_at made f ∷ fields_from full real (made + made_by (is_optional f.label)) is
 fields_from full real made (message_item.Map m ∷ is) = map_described full m ∷ fields_from full real made is
-fields_from full real made (message_item.Oneof o ∷ is) = flat_map (member_of real) o.items ++ fields_from full (real + 1) made is
+fields_from full real made (message_item.Oneof o ∷ is) =
+    flat_map (member_of real) o.items ++ fields_from full (real + 1) made is
 fields_from full real made (i ∷ is) = fields_from full real made is

@@ -87,7 +87,8 @@ message_of full name is inner_messages = roll-MessageDesc (record {
 abbrev mutual
   pub nested_of : List ℕ → MessageItem → List MessageDesc
   nested_of full (message_item.Message' keyword name open_brace shape is close_brace) =
-      message_of (inner full name.text) name (items-the_row-MessageItem _ is) (nested_row (inner full name.text) is) ∷ []
+      message_of (inner full name.text) name (items-the_row-MessageItem _ is) (nested_row (inner full name.text) is)
+      ∷ []
   nested_of full (message_item.Map m) = entry_of m ∷ []
   nested_of full (message_item.Field f) = []
   nested_of full (message_item.Oneof o) = []
@@ -102,4 +103,5 @@ abbrev mutual
 
 -- the descriptor of a message in the scope
 abbrev pub lowered_message : List ℕ → Message → MessageDesc
-lowered_message scope m = message_of (inner scope m.name.text) m.name m.items (flat_map (nested_of (inner scope m.name.text)) m.items)
+lowered_message scope m =
+    message_of (inner scope m.name.text) m.name m.items (flat_map (nested_of (inner scope m.name.text)) m.items)

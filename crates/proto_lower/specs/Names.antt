@@ -6,7 +6,8 @@ use Rattle.std.specs.Char.{to_ascii_uppercase}
 use Rattle.std.specs.BTreeSet.{BTreeSet, contains_text}
 use Rattle.std.specs.declared.alloc.Global.{Global}
 
--- what becomes of a character, by the one before it: `_` is dropped, and a lower-case ASCII letter directly behind `_` is raised
+-- what becomes of a character, by the one before it: `_` is dropped, and a lower-case ASCII letter directly behind `_`
+-- is raised
 abbrev pub letter_behind : ℕ → ℕ → List ℕ
 letter_behind before c = if c == 95 then [] else ((if before == 95 then to_ascii_uppercase c else c) ∷ [])
 
@@ -39,7 +40,8 @@ first_free is_taken (suc most) name = if is_taken name then first_free is_taken 
 abbrev pub is_among : List (List ℕ) → List ℕ → Bool
 is_among taken name = list_any (λ t. bytes_eq t name) taken
 
--- the name of the oneof that an `optional` field makes. A name that is taken is as long as one of the names that are, so
+-- the name of the oneof that an `optional` field makes. A name that is taken is as long as one of the names that are,
+-- so
 -- that no more of them are met than there are
 abbrev pub oneof_name_of : List (List ℕ) → List ℕ → List ℕ
 oneof_name_of taken field = first_free (is_among taken) (length taken) (with_underscore field)

@@ -25,9 +25,11 @@ names_of_oneofs os = map (λ o. o.name) os
 abbrev pub made_named : List (List ℕ) → FieldDesc → OneofDesc
 made_named taken f = record { name = oneof_name_of taken f.name; place = f.place }
 
--- the oneofs so far and that of a field, if it is `optional`; the names of all fields and of the oneofs so far are taken
+-- the oneofs so far and that of a field, if it is `optional`; the names of all fields and of the oneofs so far are
+-- taken
 abbrev pub with_one : List (List ℕ) → List OneofDesc → FieldDesc → Bool → List OneofDesc
-with_one names so_far f is_optional = cond is_optional (so_far ++ made_named (names ++ names_of_oneofs so_far) f ∷ []) so_far
+with_one names so_far f is_optional =
+    cond is_optional (so_far ++ made_named (names ++ names_of_oneofs so_far) f ∷ []) so_far
 
 -- the oneofs so far and those of these fields, in their order
 abbrev pub with_made : (names : List (List ℕ)) → List OneofDesc → List FieldDesc → List OneofDesc

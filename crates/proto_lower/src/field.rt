@@ -22,7 +22,8 @@ fn described<'s>(
     oneof_index: Option<usize>,
     proto3_optional: bool,
 ) -> Result<FieldDesc<'s>, AllocError>
-    ensures { IfOk result (λ field. field ≡ described declarator.now label field_type.entry oneof_index proto3_optional) }
+    ensures { IfOk result (λ field. field
+        ≡ described declarator.now label field_type.entry oneof_index proto3_optional) }
 {
     let name = declarator.name.text;
     let json_name = field_json_name(alloc, name, &declarator.options)?;

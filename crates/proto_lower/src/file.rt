@@ -34,7 +34,8 @@ fn lower_package<'s>(
     alloc: Global,
     statements: &[Statement<'s>],
 ) -> Result<Option<PackageDesc<'s>>, AllocError>
-    ensures { IfOk result (λ found. found ≡ option_map package_desc (first_package statements.now)) }
+    ensures { IfOk result (λ found. found
+        ≡ option_map package_desc (first_package statements.now)) }
 {
     match first_package(statements) {
         Some(package) => Ok(Some(PackageDesc {
@@ -88,7 +89,8 @@ fn messages<'s>(
     scope: &str,
     statements: &[Statement<'s>],
 ) -> Result<Row<MessageDesc<'s>>, AllocError>
-    ensures { IfOk result (λ messages. messages ≡ flat_map (file_message scope.now) statements.now) }
+    ensures { IfOk result (λ messages. messages
+        ≡ flat_map (file_message scope.now) statements.now) }
 {
     let mut messages = Vec::new(alloc);
     for statement in statements {
@@ -105,7 +107,8 @@ fn packaged_messages<'s>(
     declared: &Option<PackageDesc>,
     statements: &[Statement<'s>],
 ) -> Result<Row<MessageDesc<'s>>, AllocError>
-    ensures { IfOk result (λ messages. messages ≡ flat_map (file_message (package_scope declared.now)) statements.now) }
+    ensures { IfOk result (λ messages. messages
+        ≡ flat_map (file_message (package_scope declared.now)) statements.now) }
 {
     let scope = package_scope(alloc, declared)?;
     messages(alloc, scope.as_str(), statements)
@@ -152,9 +155,11 @@ fn declarations<'s>(
     package: &Option<PackageDesc>,
     statements: &[Statement<'s>],
 ) -> Result<Declared<'s>, AllocError>
-    ensures messages { IfOk result (λ declared. declared.messages ≡ flat_map (file_message (package_scope «package».now)) statements.now) }
+    ensures messages { IfOk result (λ declared. declared.messages
+        ≡ flat_map (file_message (package_scope «package».now)) statements.now) }
     ensures enums { IfOk result (λ declared. declared.enums ≡ flat_map file_enum statements.now) }
-    ensures services { IfOk result (λ declared. declared.services ≡ flat_map file_service statements.now) }
+    ensures services { IfOk result (λ declared. declared.services
+        ≡ flat_map file_service statements.now) }
 {
     let services = services(alloc, statements)?;
     let enums = enums(alloc, statements)?;

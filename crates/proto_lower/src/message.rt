@@ -117,7 +117,8 @@ fn message_of<'s>(
     items: &[MessageItem<'s>],
     nested: Row<MessageDesc<'s>>,
 ) -> Result<MessageDesc<'s>, AllocError>
-    ensures { IfOk result (λ message. message ≡ message_of full.now name.now items.now nested.entry) }
+    ensures { IfOk result (λ message. message
+        ≡ message_of full.now name.now items.now nested.entry) }
 {
     let reserved = message_reserved(alloc, items)?;
     let options = message_options(alloc, items)?;

@@ -76,7 +76,8 @@ pub(crate) fn first_free(
     taken: &BTreeSet<String>,
     most: usize,
 ) -> Result<String, AllocError>
-    ensures { IfOk result (λ free. string_bytes free ≡ first_free (contains_text taken.now) most (string_bytes name)) }
+    ensures { IfOk result (λ free. string_bytes free
+        ≡ first_free (contains_text taken.now) most (string_bytes name)) }
 {
     for _ in 0..most {
         if !taken.contains(name.as_str()) {
@@ -95,7 +96,8 @@ pub(crate) fn take_name(
     taken: &mut BTreeSet<String>,
     name: &str,
 ) -> Result<(), AllocError>
-    ensures { OnOk result ((names : List (List ℕ)) → IsSetOf names taken.old → IsSetOf (names ++ name.now ∷ []) taken.new) }
+    ensures { OnOk result ((names : List (List ℕ)) → IsSetOf names taken.old
+        → IsSetOf (names ++ name.now ∷ []) taken.new) }
 {
     taken.insert(String::from_str(alloc, name)?)?;
     Ok(())
@@ -113,8 +115,10 @@ fn set_of(alloc: Global, names: &[&str]) -> Result<BTreeSet<String>, AllocError>
 
 /// The name of the oneof that an `optional` field makes: the field's name, with `_` in front unless it begins with `_`, and then with `X` in front as long as the name is among those that are taken.
 pub fn oneof_name(alloc: Global, field: &str, taken: &[&str]) -> Result<String, AllocError>
-    ensures value { IfOk result (λ name. string_bytes name ≡ oneof_name_of (map (λ t. t.now) taken.now) field.now) }
-    ensures free { IfOk result (λ name. is_among (map (λ t. t.now) taken.now) (string_bytes name) ≡ false) }
+    ensures value { IfOk result (λ name. string_bytes name
+        ≡ oneof_name_of (map (λ t. t.now) taken.now) field.now) }
+    ensures free { IfOk result (λ name. is_among (map (λ t. t.now) taken.now) (string_bytes name)
+        ≡ false) }
 {
     let set = set_of(alloc, taken)?;
     let start = with_underscore(alloc, field)?;

@@ -64,7 +64,8 @@ fn made<'s>(
     taken: &BTreeSet<String>,
     most: usize,
 ) -> Result<OneofDesc<'s>, AllocError>
-    ensures { IfOk result (λ oneof. (names : List (List ℕ)) → IsSetOf names taken.now → most ≡ length names → oneof ≡ made_named names field.now) }
+    ensures { IfOk result (λ oneof. (names : List (List ℕ)) → IsSetOf names taken.now
+        → most ≡ length names → oneof ≡ made_named names field.now) }
 {
     let start = with_underscore(alloc, field.name.as_str())?;
     Ok(OneofDesc {
@@ -85,7 +86,8 @@ fn put_made<'s>(
     oneofs: &mut Vec<OneofDesc<'s>>,
     fields: &[FieldDesc<'s>],
 ) -> Result<(), AllocError>
-    ensures { OnOk result (oneofs.new.items ≡ with_made (names_of_fields fields.now) oneofs.old.items fields.now) }
+    ensures { OnOk result (oneofs.new.items
+        ≡ with_made (names_of_fields fields.now) oneofs.old.items fields.now) }
 {
     if !has_optional(fields) {
         return Ok(());
@@ -107,7 +109,8 @@ pub(crate) fn oneofs<'s>(
     items: &[MessageItem<'s>],
     fields: &[FieldDesc<'s>],
 ) -> Result<Row<OneofDesc<'s>>, AllocError>
-    ensures { IfOk result (λ oneofs. oneofs ≡ with_made (names_of_fields fields.now) (flat_map real_of items.now) fields.now) }
+    ensures { IfOk result (λ oneofs. oneofs
+        ≡ with_made (names_of_fields fields.now) (flat_map real_of items.now) fields.now) }
 {
     let mut oneofs = real_oneofs(alloc, items)?;
     put_made(alloc, &mut oneofs, fields)?;

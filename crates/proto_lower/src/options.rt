@@ -73,7 +73,8 @@ fn lower_option<'s>(
     rule: &OptionRule,
     setting: Option<&Setting<'s>>,
 ) -> Result<Option<OptionDesc<'s>>, AllocError>
-    ensures { IfOk result (λ option. option ≡ option_by rule.now.number rule.now.kind (option_copied setting.entry)) }
+    ensures { IfOk result (λ option. option
+        ≡ option_by rule.now.number rule.now.kind (option_copied setting.entry)) }
 {
     match (rule.number, setting) {
         (Some(number), Some(setting)) => set_option(alloc, number, rule.kind, setting),
@@ -139,7 +140,8 @@ pub(crate) fn message_options<'s>(
     alloc: Global,
     items: &[MessageItem<'s>],
 ) -> Result<Row<OptionDesc<'s>>, AllocError>
-    ensures { IfOk result (λ set. set ≡ options_of Element.Message (flat_map message_setting items.now)) }
+    ensures { IfOk result (λ set. set ≡ options_of Element.Message
+        (flat_map message_setting items.now)) }
 {
     let mut set = Vec::new(alloc);
     for rule in rules(Element::Message) {
@@ -173,7 +175,8 @@ pub(crate) fn service_options<'s>(
     alloc: Global,
     items: &[ServiceItem<'s>],
 ) -> Result<Row<OptionDesc<'s>>, AllocError>
-    ensures { IfOk result (λ set. set ≡ options_of Element.Service (flat_map service_setting items.now)) }
+    ensures { IfOk result (λ set. set ≡ options_of Element.Service
+        (flat_map service_setting items.now)) }
 {
     let mut set = Vec::new(alloc);
     for rule in rules(Element::Service) {
@@ -190,7 +193,8 @@ pub(crate) fn method_options<'s>(
     alloc: Global,
     items: &[RpcItem<'s>],
 ) -> Result<Row<OptionDesc<'s>>, AllocError>
-    ensures { IfOk result (λ set. set ≡ options_of Element.Method (flat_map rpc_setting items.now)) }
+    ensures { IfOk result (λ set. set ≡ options_of Element.Method
+        (flat_map rpc_setting items.now)) }
 {
     let mut set = Vec::new(alloc);
     for rule in rules(Element::Method) {

@@ -139,7 +139,8 @@ pub(crate) fn message_reserved<'s>(
     alloc: Global,
     items: &[MessageItem<'s>],
 ) -> Result<Reserved<'s>, AllocError>
-    ensures ranges { IfOk result (λ reserved. reserved.ranges ≡ flat_map message_ranges_of items.now) }
+    ensures ranges { IfOk result (λ reserved. reserved.ranges
+        ≡ flat_map message_ranges_of items.now) }
     ensures names { IfOk result (λ reserved. reserved.names ≡ flat_map message_names_of items.now) }
 {
     let ranges = message_ranges(alloc, items)?;

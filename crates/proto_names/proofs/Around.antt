@@ -62,7 +62,8 @@ candidate_trans a b s (inl e) k = inl e
 candidate_trans a b s (inr (inl e)) k = rw e k
 candidate_trans a b s (inr (inr (rest, e))) (inl f) = absurd (no_room a rest (sym e ∙ f))
 candidate_trans a b s (inr (inr (rest, e))) (inr (inl f)) = inr (inr (rest, sym f ∙ e))
-candidate_trans a b s (inr (inr (rest, e))) (inr (inr (more, f))) = inr (inr (rest ++ 46 ∷ more, f ∙ ap (λ x. x ++ 46 ∷ more) e ∙ append_assoc a (46 ∷ rest) (46 ∷ more)))
+candidate_trans a b s (inr (inr (rest, e))) (inr (inr (more, f))) =
+    inr (inr (rest ++ 46 ∷ more, f ∙ ap (λ x. x ++ 46 ∷ more) e ∙ append_assoc a (46 ∷ rest) (46 ∷ more)))
 
 -- candidates of one length are one
 pub candidates_same : (a b s : List ℕ) → IsCandidate a s → IsCandidate b s → length a ≡ length b → a ≡ b

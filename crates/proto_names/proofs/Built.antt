@@ -43,7 +43,8 @@ below_from first (f ∷ files) o within = elim (Contains-append_cases (occurrenc
 ]
 
 -- each occurrence is of one of the files
-pub below_files : (files : List FileDesc) (os : List Occurrence) → IsPermutation (occurrences files) os → (o : Occurrence) → Contains os o → o.file < length files
+pub below_files : (files : List FileDesc) (os : List Occurrence) → IsPermutation (occurrences files) os → (o : Occurrence) → Contains os o
+    → o.file < length files
 below_files files os same o within =
     let below = below_from 0 files o (Contains-permutation os (occurrences files) o (IsPermutation-sym (occurrences files) os same) within) in
     omega (arith, below)

@@ -27,7 +27,8 @@ none_last os count slot next e = record {
   last = λ k h g. absurd (omega (arith, g));
 }
 
-pub chaining_none : (os : List Occurrence) (count : ℕ) (slots : List ℕ) (links : List Link) → length slots ≡ count → 0 < count → ((s : ℕ) → s < count → get_or slots s 0 ≡ 0) → links ≡ [] → Chaining os count 0 slots links
+pub chaining_none : (os : List Occurrence) (count : ℕ) (slots : List ℕ) (links : List Link) → length slots ≡ count → 0 < count
+    → ((s : ℕ) → s < count → get_or slots s 0 ≡ 0) → links ≡ [] → Chaining os count 0 slots links
 chaining_none os count slots links size room zeros e = record {
   size = size;
   room = room;
@@ -53,7 +54,8 @@ last_other os count n slot next other old = record {
 }
 
 -- the chain of its slot
-last_head : (os : List Occurrence) (count n next head : ℕ) → IsHead os n next head → IsLast os count n (slot_of os count n) next → IsLast os count (n + 1) (slot_of os count n) head
+last_head : (os : List Occurrence) (count n next head : ℕ) → IsHead os n next head → IsLast os count n (slot_of os count n) next
+    → IsLast os count (n + 1) (slot_of os count n) head
 last_head os count n next head (inl (begins, is)) old =
     let back : n ≡ head - 1 = omega (arith, is) in
     record {
@@ -88,7 +90,8 @@ module _ (os : List Occurrence) (n : ℕ) (slots : List ℕ) (links : List Link)
       subst (λ i. IsLast os (length slots) (n + 1) i (get_or (set slots here head) i 0)) same
       (subst (IsLast os (length slots) (n + 1) here) (sym (get_or-set_same slots here head 0 below)) (last_head os (length slots) n link.next head is found))
   heads_case s h (inr other) =
-      subst (IsLast os (length slots) (n + 1) s) (sym (get_or-set_other slots here s head 0 (λ e. other (sym e)))) (last_other os (length slots) n s (get_or slots s 0) other (old.heads s h))
+      subst (IsLast os (length slots) (n + 1) s) (sym (get_or-set_other slots here s head 0 (λ e. other (sym e))))
+      (last_other os (length slots) n s (get_or slots s 0) other (old.heads s h))
 
   link_before : (k : ℕ) → k < n → link_at (links ++ link ∷ []) k ≡ link_at links k
   link_before k h = let size = old.size in get_or-append links (link ∷ []) _ k (omega (arith, h, size))
@@ -103,7 +106,8 @@ module _ (os : List Occurrence) (n : ℕ) (slots : List ℕ) (links : List Link)
       ap (λ (l : Link). l.hash) (link_last k same) ∙ hash ∙ ap (λ i. hash_of (at os i).name) (sym same)
 
   nexts_case : (k : ℕ) → k < n + 1 → (k < n) ⊎ (n ≤ k) → IsLast os (length slots) k (slot_of os (length slots) k) (link_at (links ++ link ∷ []) k).next
-  nexts_case k h (inl less) = subst (λ (l : Link). IsLast os (length slots) k (slot_of os (length slots) k) l.next) (sym (link_before k less)) (old.nexts k less)
+  nexts_case k h (inl less) =
+      subst (λ (l : Link). IsLast os (length slots) k (slot_of os (length slots) k) l.next) (sym (link_before k less)) (old.nexts k less)
   nexts_case k h (inr over) =
       let same : n ≡ k = omega (arith, h, over) in
       subst (λ (l : Link). IsLast os (length slots) k (slot_of os (length slots) k) l.next) (sym (link_last k (sym same)))
@@ -120,7 +124,8 @@ module _ (os : List Occurrence) (n : ℕ) (slots : List ℕ) (links : List Link)
         nexts = λ k h. subst (λ c. IsLast os c k (slot_of os c k) (link_at (links ++ link ∷ []) k).next) (sym len) (nexts_case k h (cases_lt k n));
       }
 
-pub chaining_more : (os : List Occurrence) (count n slot head : ℕ) (slots new : List ℕ) (links all : List Link) (link : Link) → link.hash ≡ hash_of (at os n).name → slot ≡ link.hash % count → link.next ≡ get_or slots slot 0 → IsHead os n link.next head
+pub chaining_more : (os : List Occurrence) (count n slot head : ℕ) (slots new : List ℕ) (links all : List Link) (link : Link)
+    → link.hash ≡ hash_of (at os n).name → slot ≡ link.hash % count → link.next ≡ get_or slots slot 0 → IsHead os n link.next head
     → new ≡ set slots slot head → all ≡ links ++ link ∷ [] → Chaining os count n slots links → Chaining os count (n + 1) new all
 chaining_more os count n slot head slots new links all link hash place next is set_to pushed old =
     let size = old.size in
@@ -144,7 +149,8 @@ pub record IsLeft (os : List Occurrence) (count : ℕ) (name : List ℕ) (next :
 other_slot : (os : List Occurrence) (count : ℕ) (name : List ℕ) (k : ℕ) → slot_of os count k ≢ hash_of name % count → (at os k).name ≢ name
 other_slot os count name k other e = other (ap (λ n. hash_of n % count) e)
 
-pub left_first : (os : List Occurrence) (count : ℕ) (name : List ℕ) (next : ℕ) → IsLast os count (length os) (hash_of name % count) next → IsLeft os count name next
+pub left_first : (os : List Occurrence) (count : ℕ) (name : List ℕ) (next : ℕ) → IsLast os count (length os) (hash_of name % count) next
+    → IsLeft os count name next
 left_first os count name next first = record {
   within = first.within;
   begins = first.begins;
@@ -152,7 +158,8 @@ left_first os count name next first = record {
   others = λ k h g b. other_slot os count name k (first.last k h g b);
 }
 
-pub left_next : (os : List Occurrence) (count : ℕ) (name : List ℕ) (k after : ℕ) → (at os k).name ≢ name → IsLast os count k (slot_of os count k) after → IsLeft os count name (k + 1) → IsLeft os count name after
+pub left_next : (os : List Occurrence) (count : ℕ) (name : List ℕ) (k after : ℕ) → (at os k).name ≢ name → IsLast os count k (slot_of os count k) after
+    → IsLeft os count name (k + 1) → IsLeft os count name after
 left_next os count name k after other step old =
     let w = step.within in
     let below = old.within in
@@ -179,7 +186,8 @@ nowhere os name none (suc k) h =
     let back : suc k - 1 ≡ k = omega arith in
     λ e. none (suc k) h (λ some same. before (ap (λ i. (at os i).name) (sym back) ∙ same ∙ e)) e
 
-pub left_init : (os : List Occurrence) (n : ℕ) (slots : List ℕ) (links : List Link) (name : List ℕ) (hash count next : ℕ) → AreChained os n slots links → n ≡ length os → hash ≡ hash_of name → count ≡ length slots → next ≡ get_or slots (hash % count) next
+pub left_init : (os : List Occurrence) (n : ℕ) (slots : List ℕ) (links : List Link) (name : List ℕ) (hash count next : ℕ) → AreChained os n slots links
+    → n ≡ length os → hash ≡ hash_of name → count ≡ length slots → next ≡ get_or slots (hash % count) next
     → IsLeft os (length slots) name next
 left_init os n slots links name hash count next chains whole is size at_slot =
     let slot = hash_of name % length slots in
@@ -189,7 +197,8 @@ left_init os n slots links name hash count next chains whole is size at_slot =
     let first : IsLast os (length slots) n slot next = subst (IsLast os (length slots) n slot) (sym head) (chains.heads slot below) in
     left_first os (length slots) name next (subst (λ m. IsLast os (length slots) m slot next) whole first)
 
-pub left_step : (os : List Occurrence) (n : ℕ) (slots : List ℕ) (links : List Link) (name : List ℕ) (next : ℕ) (link : Link) → AreChained os n slots links → n ≡ length os → 0 < next → link ≡ get_or links (next - 1) link → (at os (next - 1)).name ≢ name
+pub left_step : (os : List Occurrence) (n : ℕ) (slots : List ℕ) (links : List Link) (name : List ℕ) (next : ℕ) (link : Link) → AreChained os n slots links
+    → n ≡ length os → 0 < next → link ≡ get_or links (next - 1) link → (at os (next - 1)).name ≢ name
     → IsLeft os (length slots) name next → IsLeft os (length slots) name link.next
 left_step os n slots links name next link chains whole some is other old =
     let k = next - 1 in
@@ -197,6 +206,7 @@ left_step os n slots links name next link chains whole some is other old =
     let size = chains.size in
     let below : k < n = omega (arith, some, w, whole) in
     let same : link ≡ link_at links k = is ∙ get_or_default links k link unlinked (omega (arith, below, size)) in
-    let step : IsLast os (length slots) k (slot_of os (length slots) k) link.next = subst (λ (l : Link). IsLast os (length slots) k (slot_of os (length slots) k) l.next) (sym same) (chains.nexts k below) in
+    let step : IsLast os (length slots) k (slot_of os (length slots) k) link.next =
+    subst (λ (l : Link). IsLast os (length slots) k (slot_of os (length slots) k) l.next) (sym same) (chains.nexts k below) in
     let up : next ≡ k + 1 = omega (arith, some) in
     left_next os (length slots) name k link.next other step (subst (IsLeft os (length slots) name) up old)

@@ -23,22 +23,27 @@ declared_before m scope =
     ∷ (map (declared_field (scope_in m scope)) (out-MessageDesc m).fields ++ map (declared_oneof (scope_in m scope)) (out-MessageDesc m).oneofs
     ++ flat_map (declared_by_enum (scope_in m scope)) (out-MessageDesc m).enums)
 
-pub declared_out : (m : MessageDesc) (scope : List ℕ) → declared_by_message m scope ≡ declared_before m scope ++ flat_map (λ n. declared_by_message n (scope_in m scope)) (out-MessageDesc m).nested
+pub declared_out : (m : MessageDesc) (scope : List ℕ) → declared_by_message m scope ≡ declared_before m scope
+    ++ flat_map (λ n. declared_by_message n (scope_in m scope)) (out-MessageDesc m).nested
 declared_out m scope =
     ap (λ (f : List ℕ → List Declared). f scope) (fold_out-MessageDesc (List ℕ → List Declared) declared_step m)
-    ∙ ap (λ xs. declared_before m scope ++ xs) (flat_map-map (λ (g : List ℕ → List Declared). g (scope_in m scope)) declared_by_message (out-MessageDesc m).nested)
+    ∙ ap (λ xs. declared_before m scope ++ xs) (flat_map-map (λ (g : List ℕ → List Declared). g (scope_in m scope)) declared_by_message
+    (out-MessageDesc m).nested)
 
 -- ---- files
 
-pub occurrences_from-append : (first : ℕ) (xs ys : List FileDesc) → occurrences_from first (xs ++ ys) ≡ occurrences_from first xs ++ occurrences_from (first + length xs) ys
+pub occurrences_from-append : (first : ℕ) (xs ys : List FileDesc)
+    → occurrences_from first (xs ++ ys) ≡ occurrences_from first xs ++ occurrences_from (first + length xs) ys
 occurrences_from-append first [] ys = ap (λ n. occurrences_from n ys) (omega arith)
 occurrences_from-append first (x ∷ xs) ys =
     let behind : first + 1 + length xs ≡ first + suc (length xs) = omega arith in
-    ap (λ os. occurrences_of first x ++ os) (occurrences_from-append (first + 1) xs ys ∙ ap (λ n. occurrences_from (first + 1) xs ++ occurrences_from n ys) behind)
+    ap (λ os. occurrences_of first x ++ os) (occurrences_from-append (first + 1) xs ys
+    ∙ ap (λ n. occurrences_from (first + 1) xs ++ occurrences_from n ys) behind)
     ∙ sym (append_assoc (occurrences_of first x) (occurrences_from (first + 1) xs) (occurrences_from (first + suc (length xs)) ys))
 
 -- those of one more file
-pub occurrences_more : (files : List FileDesc) (k : ℕ) (f : FileDesc) (now next : List Occurrence) → k < length files → f ≡ get_or files k f → now ≡ occurrences (take k files) → next ≡ now ++ occurrences_of k f → next ≡ occurrences (take (k + 1) files)
+pub occurrences_more : (files : List FileDesc) (k : ℕ) (f : FileDesc) (now next : List Occurrence) → k < length files → f ≡ get_or files k f
+    → now ≡ occurrences (take k files) → next ≡ now ++ occurrences_of k f → next ≡ occurrences (take (k + 1) files)
 occurrences_more files k f now next within at so_far put =
     let place : 0 + length (take k files) ≡ k = grind (arith, common_steps) in
     let last : occurrences_from (0 + length (take k files)) (get_or files k f ∷ []) ≡ occurrences_of k f = rw (place, ← at) (append-nil (occurrences_of k f)) in
@@ -47,5 +52,6 @@ occurrences_more files k f now next within at so_far put =
 -- the first files have no more than all
 pub occurrences_front : (files : List FileDesc) (k : ℕ) → length (occurrences (take k files)) ≤ length (occurrences files)
 occurrences_front files k =
-    let whole : occurrences files ≡ occurrences (take k files) ++ occurrences_from (0 + length (take k files)) (drop k files) = ap occurrences (sym (take-append-drop k files)) ∙ occurrences_from-append 0 (take k files) (drop k files) in
+    let whole : occurrences files ≡ occurrences (take k files) ++ occurrences_from (0 + length (take k files)) (drop k files) =
+    ap occurrences (sym (take-append-drop k files)) ∙ occurrences_from-append 0 (take k files) (drop k files) in
     rw whole (grind (arith, common_steps))

@@ -22,7 +22,8 @@ pub scoped_none : (scope name : List ℕ) → length scope ≡ 0 → scoped scop
 scoped_none [] name h = refl
 scoped_none (c ∷ cs) name h = absurd (omega (arith, h))
 
-short_all : (text scope name : List ℕ) → length text ≤ length scope → slice_cmp nat_cmp text (scope ++ 46 ∷ name) ≡ ordering_then (slice_cmp nat_cmp text scope) Less
+short_all : (text scope name : List ℕ) → length text ≤ length scope
+    → slice_cmp nat_cmp text (scope ++ 46 ∷ name) ≡ ordering_then (slice_cmp nat_cmp text scope) Less
 short_all [] [] name h = refl
 short_all [] (s ∷ ss) name h = refl
 short_all (x ∷ xs) [] name h = absurd (omega (arith, h))
@@ -30,10 +31,12 @@ short_all (x ∷ xs) (s ∷ ss) name h =
     ap (ordering_then (nat_cmp x s)) (short_all xs ss name (omega (arith, h))) ∙ then_then (nat_cmp x s) (slice_cmp nat_cmp xs ss) Less
 
 -- a text that is no longer than the scope
-pub short : (text scope name : List ℕ) → 0 < length scope → length text ≤ length scope → ordering_then (slice_cmp nat_cmp text scope) Less ≡ slice_cmp nat_cmp text (scoped scope name)
+pub short : (text scope name : List ℕ) → 0 < length scope → length text ≤ length scope
+    → ordering_then (slice_cmp nat_cmp text scope) Less ≡ slice_cmp nat_cmp text (scoped scope name)
 short text scope name some h = rw (scoped_some scope name some) (sym (short_all text scope name h))
 
-pub both : (front scope rest more : List ℕ) → length front ≡ length scope → slice_cmp nat_cmp (front ++ rest) (scope ++ more) ≡ ordering_then (slice_cmp nat_cmp front scope) (slice_cmp nat_cmp rest more)
+pub both : (front scope rest more : List ℕ) → length front ≡ length scope
+    → slice_cmp nat_cmp (front ++ rest) (scope ++ more) ≡ ordering_then (slice_cmp nat_cmp front scope) (slice_cmp nat_cmp rest more)
 both [] [] rest more h = refl
 both [] (s ∷ ss) rest more h = absurd (omega (arith, h))
 both (x ∷ xs) [] rest more h = absurd (omega (arith, h))
@@ -53,4 +56,5 @@ long_equal text front scope name rest o r some is h compared equal behind =
 pub long_unequal : (text front scope name rest : List ℕ) (o : Ordering) → 0 < length scope → text ≡ front ++ rest → length front ≡ length scope
     → o ≡ slice_cmp nat_cmp front scope → o ≢ Equal → o ≡ slice_cmp nat_cmp text (scoped scope name)
 long_unequal text front scope name rest o some is h compared unequal =
-    sym (then_unequal o (slice_cmp nat_cmp rest (46 ∷ name)) unequal) ∙ ap (λ p. ordering_then p (slice_cmp nat_cmp rest (46 ∷ name))) compared ∙ sym (long text front scope name rest some is h)
+    sym (then_unequal o (slice_cmp nat_cmp rest (46 ∷ name)) unequal) ∙ ap (λ p. ordering_then p (slice_cmp nat_cmp rest (46 ∷ name))) compared
+    ∙ sym (long text front scope name rest some is h)

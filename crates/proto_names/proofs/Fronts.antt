@@ -25,8 +25,10 @@ fronts_dotted [] t none = rw (fronts_plain t none) refl
 fronts_dotted (b ∷ a) t none = rw (fronts_dotted a t none) refl
 
 -- the fronts of a text that has its last dot at k
-pub fronts_at_dot : (s : List ℕ) (k : ℕ) → k < length s → get_or s k 0 ≡ 46 → ((i : ℕ) → k < i → i < length s → get_or s i 0 ≢ 46) → fronts s ≡ s ∷ fronts (take k s)
+pub fronts_at_dot : (s : List ℕ) (k : ℕ) → k < length s → get_or s k 0 ≡ 46 → ((i : ℕ) → k < i → i < length s → get_or s i 0 ≢ 46)
+    → fronts s ≡ s ∷ fronts (take k s)
 fronts_at_dot s k within dot none =
     let whole : s ≡ take k s ++ 46 ∷ drop (suc k) s = subst (λ (b : ℕ). s ≡ take k s ++ b ∷ drop (suc k) s) dot (split_at s k 0 within) in
-    let rest : NoDot (drop (suc k) s) = λ i below. rw (get_or-drop (suc k) s i 0) (none (suc k + i) (omega arith) (let inside : i < length s - suc k = rw (length-drop (suc k) s) at below in omega arith)) in
+    let rest : NoDot (drop (suc k) s) = λ i below. rw (get_or-drop (suc k) s i 0)
+    (none (suc k + i) (omega arith) (let inside : i < length s - suc k = rw (length-drop (suc k) s) at below in omega arith)) in
     subst (λ (x : List ℕ). fronts x ≡ x ∷ fronts (take k s)) (sym whole) (fronts_dotted (take k s) (drop (suc k) s) rest)

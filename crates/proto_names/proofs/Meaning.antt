@@ -12,13 +12,15 @@ pub not_true : IsTrue false → ⊥
 not_true h = cc
 
 -- the innermost scope is one
-pub innermost_same : (os : List Occurrence) (Seen : ℕ → Type 0) (scope spelled a b : List ℕ) → IsInnermost os Seen scope spelled a → IsInnermost os Seen scope spelled b → a ≡ b
+pub innermost_same : (os : List Occurrence) (Seen : ℕ → Type 0) (scope spelled a b : List ℕ) → IsInnermost os Seen scope spelled a
+    → IsInnermost os Seen scope spelled b → a ≡ b
 innermost_same os Seen scope spelled a b h k =
     let one = h.longest b k.candidate k.decides in
     let other = k.longest a h.candidate h.decides in
     candidates_same a b scope h.candidate k.candidate (omega arith)
 
-pub meant_innermost : (os : List Occurrence) (Seen : ℕ → Type 0) (scope spelled c : List ℕ) → ((rest : List ℕ) → IsAbsolute spelled rest → ⊥) → IsInnermost os Seen scope spelled c → IsMeant os Seen scope spelled (scoped c spelled)
+pub meant_innermost : (os : List Occurrence) (Seen : ℕ → Type 0) (scope spelled c : List ℕ) → ((rest : List ℕ) → IsAbsolute spelled rest → ⊥)
+    → IsInnermost os Seen scope spelled c → IsMeant os Seen scope spelled (scoped c spelled)
 meant_innermost os Seen scope spelled c relative inner = record {
   means = inr (relative, c, inner, refl);
   only = λ other means. elim means [
@@ -27,7 +29,8 @@ meant_innermost os Seen scope spelled c relative inner = record {
   ];
 }
 
-pub means_nothing : (os : List Occurrence) (Seen : ℕ → Type 0) (scope spelled : List ℕ) → ((rest : List ℕ) → IsAbsolute spelled rest → ⊥) → ((c : List ℕ) → IsCandidate c scope → Decides os Seen c spelled → ⊥) → MeansNothing os Seen scope spelled
+pub means_nothing : (os : List Occurrence) (Seen : ℕ → Type 0) (scope spelled : List ℕ) → ((rest : List ℕ) → IsAbsolute spelled rest → ⊥)
+    → ((c : List ℕ) → IsCandidate c scope → Decides os Seen c spelled → ⊥) → MeansNothing os Seen scope spelled
 means_nothing os Seen scope spelled relative none full means = elim means [
   | inl e ↦ absurd (relative full e)
   | inr inside ↦ none inside.1 inside.2.candidate inside.2.decides

@@ -55,7 +55,9 @@ without_more Equal Greater q h = refl
 without_more Greater p q h = refl
 
 -- a sort of entries by name, file, place and more sorts their occurrences
-pub sorted_occurrences : (cmp : Entry → Entry → Ordering) (es : List Entry) → ((a b : Entry) → is_lt (cmp a b) ≡ false → is_lt (occurrence_cmp (occurrence a) (occurrence b)) ≡ false) → IsSorted cmp es → AreInOrder (map occurrence es)
+pub sorted_occurrences : (cmp : Entry → Entry → Ordering) (es : List Entry)
+    → ((a b : Entry) → is_lt (cmp a b) ≡ false → is_lt (occurrence_cmp (occurrence a) (occurrence b)) ≡ false) → IsSorted cmp es
+    → AreInOrder (map occurrence es)
 sorted_occurrences cmp es finer up k d low inside =
     let l = length-map es occurrence in
     let room : k + 1 < length es = omega (arith, l, inside) in
@@ -77,7 +79,8 @@ named_all es run target found o within name =
     subst (Contains (map occurrence run)) w.2 (occurs run w.0 ((found w.0).1 (w.1, ap name_of w.2 ∙ name)))
 
 -- entries that are all packages stand for packages
-pub all_packages : (es : List Entry) (n : ℕ) → length es ≤ n → ((k : ℕ) (d : Entry) → k < n → k < length es → (get_or es k d).kind ≡ None) → (o : Occurrence) → Contains (map occurrence es) o → IsPackage o
+pub all_packages : (es : List Entry) (n : ℕ) → length es ≤ n → ((k : ℕ) (d : Entry) → k < n → k < length es → (get_or es k d).kind ≡ None) → (o : Occurrence)
+    → Contains (map occurrence es) o → IsPackage o
 all_packages es n whole none o within =
     let w = entry_of es o within in
     let at = w.1 in
@@ -101,7 +104,8 @@ on_ok_of (Err e) b = tt
 pub services_sorted : (os : List Occurrence) → AreInNameOrder os → IsSorted (slice_cmp nat_cmp) (services_of os)
 services_sorted os up k d low inside =
     let kept : List Occurrence = filter (λ o. is_service_kind o.kind) os in
-    let sorted : AreInNameOrder kept = IsSortedBy-filter (λ x y. is_lt (slice_cmp nat_cmp (name_of x) (name_of y))) (ranks_by nat_list_cmp_total name_of) (λ o. is_service_kind o.kind) os up in
+    let sorted : AreInNameOrder kept = IsSortedBy-filter (λ x y. is_lt (slice_cmp nat_cmp (name_of x) (name_of y))) (ranks_by nat_list_cmp_total name_of)
+    (λ o. is_service_kind o.kind) os up in
     let l = length-map kept name_of in
     let room : k + 1 < length kept = omega (arith, l, inside) in
     let first : get_or (map name_of kept) k d ≡ name_of (get_or kept k blank) = get_or-map name_of kept k blank d (omega arith) in

@@ -15,7 +15,8 @@ use Rattle.proto_names.specs.Order.{occurrence_cmp, AreInOrder}
 use Rattle.proto_names.specs.Runs.{at, blank}
 
 occurrence_total : IsTotalOrder occurrence_cmp
-occurrence_total = then_total (on_total (λ o. o.name) nat_list_cmp_total) (then_total (on_total (λ o. o.file) nat_cmp_total) (on_total (λ o. o.place.offset) nat_cmp_total))
+occurrence_total =
+    then_total (on_total (λ o. o.name) nat_list_cmp_total) (then_total (on_total (λ o. o.file) nat_cmp_total) (on_total (λ o. o.place.offset) nat_cmp_total))
 
 in_order : (os : List Occurrence) → AreInOrder os → (i j : ℕ) → i ≤ j → j < length os → is_lt (occurrence_cmp (at os j) (at os i)) ≡ false
 in_order os up i j h below = sorted_far (λ x y. is_lt (occurrence_cmp x y)) (ranks_by occurrence_total (λ o. o)) os up i j blank h below
@@ -31,7 +32,8 @@ first_not Greater p h = refl
 pub order_names : (os : List Occurrence) → AreInOrder os → AreInNameOrder os
 order_names os up k d low inside = first_not _ _ (up k d low inside)
 
-nat_case : (x y : ℕ) (o : Ordering) (b c : Bool) → nat_lt x y ≡ b → (x == y) ≡ c → is_lt (ordering_then (cond b Less (cond c Equal Greater)) o) ≡ false → (y < x) ⊎ ((x ≡ y) × (is_lt o ≡ false))
+nat_case : (x y : ℕ) (o : Ordering) (b c : Bool) → nat_lt x y ≡ b → (x == y) ≡ c → is_lt (ordering_then (cond b Less (cond c Equal Greater)) o) ≡ false
+    → (y < x) ⊎ ((x ≡ y) × (is_lt o ≡ false))
 nat_case x y o true c e f h = absurd (true≢false h)
 nat_case x y o false true e f h = inr (eqb-true x y f, h)
 nat_case x y o false false e f h = let over = ltb-false x y e in let other = eqb-false x y f in inl (omega (arith, over, other))
@@ -74,7 +76,8 @@ name_between a b c h k e =
     let k' : slice_cmp nat_cmp a.name b.name ≡ Less → ⊥ = λ w. not_less _ (first_not (slice_cmp nat_cmp c.name b.name) _ k) (rw (← e) w) in
     exact_bytes a.name b.name (equal_case (slice_cmp nat_cmp a.name b.name) (slice_cmp nat_cmp b.name a.name) (nat_list_cmp_total.antisymm b.name a.name) k' h')
 
-pub names_between : (os : List Occurrence) → AreInOrder os → (i j k : ℕ) → i ≤ j → j ≤ k → k < length os → (at os i).name ≡ (at os k).name → (at os i).name ≡ (at os j).name
+pub names_between : (os : List Occurrence) → AreInOrder os → (i j k : ℕ) → i ≤ j → j ≤ k → k < length os → (at os i).name ≡ (at os k).name
+    → (at os i).name ≡ (at os j).name
 names_between os up i j k h g below e = name_between (at os i) (at os j) (at os k) (in_order os up i j h (omega arith)) (in_order os up j k g below) e
 
 -- ---- earlier, and no later

@@ -21,11 +21,15 @@ at_place es k e h is = get_or-map occurrence es k e blank h ∙ ap occurrence (s
 pub at_get : (es : List Entry) (k : ℕ) (d : Entry) → k < length es → at (map occurrence es) k ≡ occurrence (get_or es k d)
 at_get es k d h = get_or-map occurrence es k d blank h
 
-pub names_same : (es : List Entry) (j k : ℕ) (d e : Entry) → j < length es → k < length es → d ≡ get_or es j d → e ≡ get_or es k e → entry_name d ≡ entry_name e → (at (map occurrence es) j).name ≡ (at (map occurrence es) k).name
-names_same es j k d e h g at_d at_e same = ap (λ (o : Occurrence). o.name) (at_place es j d h at_d) ∙ same ∙ ap (λ (o : Occurrence). o.name) (sym (at_place es k e g at_e))
+pub names_same : (es : List Entry) (j k : ℕ) (d e : Entry) → j < length es → k < length es → d ≡ get_or es j d → e ≡ get_or es k e → entry_name d ≡ entry_name e
+    → (at (map occurrence es) j).name ≡ (at (map occurrence es) k).name
+names_same es j k d e h g at_d at_e same =
+    ap (λ (o : Occurrence). o.name) (at_place es j d h at_d) ∙ same ∙ ap (λ (o : Occurrence). o.name) (sym (at_place es k e g at_e))
 
-pub names_same_back : (es : List Entry) (j k : ℕ) (d e : Entry) → j < length es → k < length es → d ≡ get_or es j d → e ≡ get_or es k e → (at (map occurrence es) j).name ≡ (at (map occurrence es) k).name → entry_name d ≡ entry_name e
-names_same_back es j k d e h g at_d at_e same = ap (λ (o : Occurrence). o.name) (sym (at_place es j d h at_d)) ∙ same ∙ ap (λ (o : Occurrence). o.name) (at_place es k e g at_e)
+pub names_same_back : (es : List Entry) (j k : ℕ) (d e : Entry) → j < length es → k < length es → d ≡ get_or es j d → e ≡ get_or es k e
+    → (at (map occurrence es) j).name ≡ (at (map occurrence es) k).name → entry_name d ≡ entry_name e
+names_same_back es j k d e h g at_d at_e same =
+    ap (λ (o : Occurrence). o.name) (sym (at_place es j d h at_d)) ∙ same ∙ ap (λ (o : Occurrence). o.name) (at_place es k e g at_e)
 
 -- ---- runs
 
@@ -155,17 +159,21 @@ pub record Passed (os : List Occurrence) (n : ℕ) (first : Option Spot) : Type 
 pub passed_none : (os : List Occurrence) → Passed os 0 None
 passed_none os = record { found = tt; least = λ k h. absurd (omega (arith, h)) }
 
-lesser_found : (os : List Occurrence) (known : Option Spot) (b : Occurrence) (spot first : Spot) → IsTwice os b → spot_of b ≡ spot → IfSome known (λ s. (b : Occurrence) × IsTwice os b × (b.file ≡ s.file) × (b.place ≡ s.place)) → (known ≡ Some first) ⊎ (spot ≡ first)
+lesser_found : (os : List Occurrence) (known : Option Spot) (b : Occurrence) (spot first : Spot) → IsTwice os b → spot_of b ≡ spot
+    → IfSome known (λ s. (b : Occurrence) × IsTwice os b × (b.file ≡ s.file) × (b.place ≡ s.place)) → (known ≡ Some first) ⊎ (spot ≡ first)
     → (b : Occurrence) × IsTwice os b × (b.file ≡ first.file) × (b.place ≡ first.place)
 lesser_found os known b spot first twice is old (inl e) = rw e at old
 lesser_found os known b spot first twice is old (inr e) = (b, twice, ap (λ (s : Spot). s.file) (is ∙ e), ap (λ (s : Spot). s.place) (is ∙ e))
 
-pub passed_twice : (os : List Occurrence) (n : ℕ) (known : Option Spot) (spot first : Spot) → spot_of (at os n) ≡ spot → IsTwice os (at os n) → IsLesser known spot first → Passed os n known → Passed os (n + 1) (Some first)
+pub passed_twice : (os : List Occurrence) (n : ℕ) (known : Option Spot) (spot first : Spot) → spot_of (at os n) ≡ spot → IsTwice os (at os n)
+    → IsLesser known spot first → Passed os n known → Passed os (n + 1) (Some first)
 passed_twice os n known spot first is twice lesser passed = record {
   found = lesser_found os known (at os n) spot first twice is passed.found lesser.one;
   least = λ k h w. (elim (cases_lt k n) [
     | inl less ↦ lesser.left (spot_of (at os k)) (passed.least k less w)
-    | inr over ↦ (let last : k ≡ n = omega (arith, over, h) in lesser.right (spot_of (at os k)) (subst (λ (s : Spot). NoLater s (spot_of (at os k))) (ap (λ j. spot_of (at os j)) last ∙ is) (inr (refl, omega arith))))
+    | inr over ↦ (let last : k ≡ n = omega (arith, over, h) in
+        lesser.right (spot_of (at os k)) (subst (λ (s : Spot). NoLater s (spot_of (at os k))) (ap (λ j. spot_of (at os j)) last ∙ is)
+        (inr (refl, omega arith))))
   ]);
 }
 
@@ -184,7 +192,8 @@ earlier_bound b s t (inl h) (inr k) = inl (omega (arith, k.0))
 earlier_bound b s t (inr h) (inl k) = inl (omega (arith, h.0))
 earlier_bound b s t (inr h) (inr k) = inr (h.0 ∙ k.0, omega (arith, h.1, k.1))
 
-pub passed_all : (os : List Occurrence) (n : ℕ) (known : Option Spot) → length os ≤ n → Passed os n known → MatchOption known (NoneTwice os) (λ s. IsFirstTwice os s.file s.place)
+pub passed_all : (os : List Occurrence) (n : ℕ) (known : Option Spot) → length os ≤ n → Passed os n known
+    → MatchOption known (NoneTwice os) (λ s. IsFirstTwice os s.file s.place)
 passed_all os n None whole passed = λ b twice. (let w = twice_repeats os b twice in let h = w.1 in passed.least w.0 (omega (arith, whole, h)) w.2)
 passed_all os n (Some s) whole passed = record {
   found = passed.found;

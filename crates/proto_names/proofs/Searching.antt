@@ -64,14 +64,17 @@ module _ (es : List Entry) (target : List ℕ) (up : IsSortedByKey entry_name (s
   pub parted_less : IsPartitionedBy (λ e. is_lt (slice_cmp nat_cmp (entry_name e) target)) es
   parted_less i j d h inside t = lt_index _ _ (rises i j d h inside) t
 
-  pub parted_equal : ((k : ℕ) (d : Entry) → k < length es → slice_cmp nat_cmp (entry_name (get_or es k d)) target ≢ Less) → IsPartitionedBy (λ e. is_eq (slice_cmp nat_cmp (entry_name e) target)) es
+  pub parted_equal : ((k : ℕ) (d : Entry) → k < length es → slice_cmp nat_cmp (entry_name (get_or es k d)) target ≢ Less)
+      → IsPartitionedBy (λ e. is_eq (slice_cmp nat_cmp (entry_name e) target)) es
   parted_equal behind i j d h inside t = eq_index _ _ (rises i j d h inside) (behind i d (omega arith)) t
 
-pub less_point : (es : List Entry) (target : List ℕ) (n : ℕ) → IsPartitionPoint (λ e. is_lt (slice_cmp nat_cmp (entry_name e) target) ≡ true) (λ e. is_lt (slice_cmp nat_cmp (entry_name e) target) ≡ false) es n
+pub less_point : (es : List Entry) (target : List ℕ) (n : ℕ)
+    → IsPartitionPoint (λ e. is_lt (slice_cmp nat_cmp (entry_name e) target) ≡ true) (λ e. is_lt (slice_cmp nat_cmp (entry_name e) target) ≡ false) es n
     → IsPartitionPoint (λ e. slice_cmp nat_cmp (entry_name e) target ≡ Less) (λ e. slice_cmp nat_cmp (entry_name e) target ≢ Less) es n
 less_point es target n p = (λ k d a b. lt_less _ (p.0 k d a b), λ k d a b. not_lt_less _ (p.1 k d a b))
 
-pub equal_point : (es : List Entry) (target : List ℕ) (n : ℕ) → IsPartitionPoint (λ e. is_eq (slice_cmp nat_cmp (entry_name e) target) ≡ true) (λ e. is_eq (slice_cmp nat_cmp (entry_name e) target) ≡ false) es n
+pub equal_point : (es : List Entry) (target : List ℕ) (n : ℕ)
+    → IsPartitionPoint (λ e. is_eq (slice_cmp nat_cmp (entry_name e) target) ≡ true) (λ e. is_eq (slice_cmp nat_cmp (entry_name e) target) ≡ false) es n
     → IsPartitionPoint (λ e. entry_name e ≡ target) (λ e. entry_name e ≢ target) es n
 equal_point es target n p = (λ k d a b. exact_bytes _ _ (eq_equal _ (p.0 k d a b)), λ k d a b e. not_eq_equal _ (p.1 k d a b) (itself_equal _ _ e))
 
@@ -90,7 +93,8 @@ not_both : {o : Ordering} → o ≡ Less → o ≡ Equal → ⊥
 not_both a b = cc
 
 -- where the first that does not come before a name has another one, none has it
-pub nowhere_is : (es : List Entry) (target : List ℕ) (n : ℕ) → IsSortedByKey entry_name (slice_cmp nat_cmp) es → IsPartitionPoint (λ e. slice_cmp nat_cmp (entry_name e) target ≡ Less) (λ e. slice_cmp nat_cmp (entry_name e) target ≢ Less) es n
+pub nowhere_is : (es : List Entry) (target : List ℕ) (n : ℕ) → IsSortedByKey entry_name (slice_cmp nat_cmp) es
+    → IsPartitionPoint (λ e. slice_cmp nat_cmp (entry_name e) target ≡ Less) (λ e. slice_cmp nat_cmp (entry_name e) target ≢ Less) es n
     → ((e : Entry) → n < length es → e ≡ get_or es n e → entry_name e ≢ target) → IsNowhere (map occurrence es) target
 nowhere_is [] target n up p other k within same = absurd (omega (arith, within))
 nowhere_is (d ∷ es) target n up p other k within same =
@@ -102,11 +106,13 @@ nowhere_is (d ∷ es) target n up p other k within same =
       | inr behind ↦
           let n_below : n < length all = omega (arith, behind, below) in
           p.1 n d (omega arith) n_below
-          (lt_less _ (lower _ _ (rises all target up n k d behind below) equal_k (λ e. other (get_or all n d) n_below (get_or_default all n d (get_or all n d) n_below) (exact_bytes _ _ e))))
+          (lt_less _ (lower _ _ (rises all target up n k d behind below) equal_k
+          (λ e. other (get_or all n d) n_below (get_or_default all n d (get_or all n d) n_below) (exact_bytes _ _ e))))
     ]
 
 -- where a name begins, all before it come before it
-module _ (es : List Entry) (target : List ℕ) (start : ℕ) (up : IsSortedByKey entry_name (slice_cmp nat_cmp) es) (is : IsStart (map occurrence es) target start) where
+module _ (es : List Entry) (target : List ℕ) (start : ℕ) (up : IsSortedByKey entry_name (slice_cmp nat_cmp) es)
+    (is : IsStart (map occurrence es) target start) where
   inside : start < length es
   inside = let l = length-map es occurrence in let w = is.within in omega (arith, l, w)
 
@@ -132,14 +138,17 @@ module _ (es : List Entry) (target : List ℕ) (start : ℕ) (up : IsSortedByKey
   pub start_below : start < length es
   start_below = inside
 
-pub start_named : (es : List Entry) (target : List ℕ) (start : ℕ) → IsStart (map occurrence es) target start → start < length es → (d : Entry) → entry_name (get_or (drop start es) 0 d) ≡ target
+pub start_named : (es : List Entry) (target : List ℕ) (start : ℕ) → IsStart (map occurrence es) target start → start < length es → (d : Entry)
+    → entry_name (get_or (drop start es) 0 d) ≡ target
 start_named es target start is below d =
     let back : start + 0 ≡ start = omega arith in
     ap entry_name (get_or-drop start es 0 d ∙ ap (λ k. get_or es k d) back) ∙ sym (name_at es start d below) ∙ is.named
 
 -- where the second has another name than the first, the first is alone
-pub one_point : (es : List Entry) (target : List ℕ) → IsSortedByKey entry_name (slice_cmp nat_cmp) es → ((k : ℕ) (d : Entry) → k < length es → slice_cmp nat_cmp (entry_name (get_or es k d)) target ≢ Less)
-    → ((d : Entry) → entry_name (get_or es 0 d) ≡ target) → ((d : Entry) → 1 < length es → entry_name (get_or es 1 d) ≢ target) → IsPartitionPoint (λ e. entry_name e ≡ target) (λ e. entry_name e ≢ target) es 1
+pub one_point : (es : List Entry) (target : List ℕ) → IsSortedByKey entry_name (slice_cmp nat_cmp) es
+    → ((k : ℕ) (d : Entry) → k < length es → slice_cmp nat_cmp (entry_name (get_or es k d)) target ≢ Less)
+    → ((d : Entry) → entry_name (get_or es 0 d) ≡ target) → ((d : Entry) → 1 < length es → entry_name (get_or es 1 d) ≢ target)
+    → IsPartitionPoint (λ e. entry_name e ≡ target) (λ e. entry_name e ≢ target) es 1
 one_point es target up behind first second = (
   λ k d a b. (let zeroth : 0 ≡ k = omega arith in subst (λ i. entry_name (get_or es i d) ≡ target) zeroth (first d)),
   λ k d a b e. second d (omega (arith, a, b)) (exact_bytes _ _ (eq_equal _ (parted_equal es target up behind 1 k d a b (ap is_eq (itself_equal _ _ e))))),
@@ -149,20 +158,23 @@ no_entry : (e : Entry) → Contains {X = Entry} [] e → ⊥
 no_entry e (k, h, is) = omega (arith, h)
 
 -- of a name that stands nowhere there are no entries
-pub none_is : (es : List Entry) (target : List ℕ) → IsNowhere (map occurrence es) target → (e : Entry) → Contains {X = Entry} [] e ↔ (Contains es e × (entry_name e ≡ target))
+pub none_is : (es : List Entry) (target : List ℕ) → IsNowhere (map occurrence es) target → (e : Entry)
+    → Contains {X = Entry} [] e ↔ (Contains es e × (entry_name e ≡ target))
 none_is es target none e = (
   λ w. absurd (no_entry e w),
   λ w. (let l = length-map es occurrence in absurd (none w.0.0 (omega (arith, l, w.0.1)) (name_at es w.0.0 e w.0.1 ∙ ap entry_name w.0.2 ∙ w.1))),
 )
 
 -- what is behind a place is in order too
-pub drop_sorted : (es : List Entry) (n : ℕ) → n ≤ length es → IsSortedByKey entry_name (slice_cmp nat_cmp) es → IsSortedByKey entry_name (slice_cmp nat_cmp) (drop n es)
+pub drop_sorted : (es : List Entry) (n : ℕ) → n ≤ length es → IsSortedByKey entry_name (slice_cmp nat_cmp) es
+    → IsSortedByKey entry_name (slice_cmp nat_cmp) (drop n es)
 drop_sorted es n h up k d low inside =
     let room : n + k + 1 < length es = (let l = length-drop n es in omega (arith, l, inside)) in
     let at : n + (k + 1) ≡ n + k + 1 = omega arith in
     rw (get_or-drop n es (k + 1) d, get_or-drop n es k d, at) (up (n + k) d (omega arith) room)
 
-pub drop_behind : (es : List Entry) (target : List ℕ) (n : ℕ) → n ≤ length es → IsPartitionPoint (λ e. slice_cmp nat_cmp (entry_name e) target ≡ Less) (λ e. slice_cmp nat_cmp (entry_name e) target ≢ Less) es n
+pub drop_behind : (es : List Entry) (target : List ℕ) (n : ℕ) → n ≤ length es
+    → IsPartitionPoint (λ e. slice_cmp nat_cmp (entry_name e) target ≡ Less) (λ e. slice_cmp nat_cmp (entry_name e) target ≢ Less) es n
     → (k : ℕ) (d : Entry) → k < length (drop n es) → slice_cmp nat_cmp (entry_name (get_or (drop n es) k d)) target ≢ Less
 drop_behind es target n h p k d inside =
     let l = length-drop n es in
@@ -182,7 +194,8 @@ module _ (es : List Entry) (target : List ℕ) (n m : ℕ) (h : n ≤ length es)
 
   run_all : (e : Entry) → Contains es e → entry_name e ≡ target → Contains (take m (drop n es)) e
   run_all e (j, inside, is) name = elim (cases_lt j n) [
-    | inl less ↦ absurd (cc_less (subst (λ (x : Entry). slice_cmp nat_cmp (entry_name x) target ≡ Less) is (before.0 j e (omega arith) less)) (itself_equal (entry_name e) target name))
+    | inl less ↦ absurd (cc_less (subst (λ (x : Entry). slice_cmp nat_cmp (entry_name x) target ≡ Less) is (before.0 j e (omega arith) less))
+        (itself_equal (entry_name e) target name))
     | inr over ↦ (
         let l = length-take m (drop n es) in
         let l' = length-drop n es in

@@ -18,7 +18,8 @@ pub record IsStart (os : List Occurrence) (name : List ℕ) (start : ℕ) : Type
 abbrev pub IsNowhere : List Occurrence → List ℕ → Type 0
 IsNowhere os name = (k : ℕ) → k < length os → (at os k).name ≢ name
 
--- ---- chains. Each holds what begins a name, from the last on; a position is written as one more than it is, and none as 0
+-- ---- chains. Each holds what begins a name, from the last on; a position is written as one more than it is, and none
+-- as 0
 
 abbrev pub slot_of : List Occurrence → ℕ → ℕ → ℕ
 slot_of os count k = hash_of (at os k).name % count

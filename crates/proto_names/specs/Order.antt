@@ -7,7 +7,8 @@ use Rattle.proto_names.specs.Occurrences.{Occurrence}
 use Rattle.proto_names.specs.declared.entries.Spot.{Spot}
 
 abbrev pub occurrence_cmp : Occurrence → Occurrence → Ordering
-occurrence_cmp a b = ordering_then (slice_cmp nat_cmp a.name b.name) (ordering_then (nat_cmp a.file b.file) (nat_cmp a.place.offset b.place.offset))
+occurrence_cmp a b = ordering_then (slice_cmp nat_cmp a.name b.name)
+    (ordering_then (nat_cmp a.file b.file) (nat_cmp a.place.offset b.place.offset))
 
 abbrev pub AreInOrder : List Occurrence → Type 0
 AreInOrder os = IsSorted occurrence_cmp os

@@ -42,12 +42,14 @@ is_scope (Some kind.Method) = false
 
 -- an occurrence of this name, of such a kind, in a file that is seen
 abbrev pub Visible : List Occurrence → (ℕ → Type 0) → (Option NameKind → Bool) → List ℕ → Type 0
-Visible os Seen accepts name = (o : Occurrence) × Contains os o × (o.name ≡ name) × IsTrue (accepts o.kind) × Seen o.file
+Visible os Seen accepts name =
+    (o : Occurrence) × Contains os o × (o.name ≡ name) × IsTrue (accepts o.kind) × Seen o.file
 
 -- a scope decides what a spelled name means: all of it is a type there, or of a compound name the first part is a scope
 abbrev pub Decides : List Occurrence → (ℕ → Type 0) → List ℕ → List ℕ → Type 0
 Decides os Seen c spelled =
-    MatchOption (position is_dot spelled) (Visible os Seen is_type (scoped c spelled)) (λ k. Visible os Seen is_scope (scoped c (take k spelled)))
+    MatchOption (position is_dot spelled) (Visible os Seen is_type (scoped c spelled))
+    (λ k. Visible os Seen is_scope (scoped c (take k spelled)))
 
 -- the longest of the scopes around a name that decides
 pub record IsInnermost (os : List Occurrence) (Seen : ℕ → Type 0) (scope spelled c : List ℕ) : Type 0 where
@@ -58,11 +60,13 @@ pub record IsInnermost (os : List Occurrence) (Seen : ℕ → Type 0) (scope spe
 abbrev pub IsAbsolute : List ℕ → List ℕ → Type 0
 IsAbsolute spelled full = spelled ≡ 46 ∷ full
 
--- the full name that a spelled one means in a scope: what stands behind a leading dot, else the name in the innermost scope that decides
+-- the full name that a spelled one means in a scope: what stands behind a leading dot, else the name in the innermost
+-- scope that decides
 abbrev pub Means : List Occurrence → (ℕ → Type 0) → List ℕ → List ℕ → List ℕ → Type 0
 Means os Seen scope spelled full =
     IsAbsolute spelled full
-    ⊎ (((rest : List ℕ) → IsAbsolute spelled rest → ⊥) × (c : List ℕ) × IsInnermost os Seen scope spelled c × (full ≡ scoped c spelled))
+    ⊎ (((rest : List ℕ) → IsAbsolute spelled rest → ⊥) × (c : List ℕ) × IsInnermost os Seen scope spelled c
+    × (full ≡ scoped c spelled))
 
 -- the type of a full name
 pub data IsType (os : List Occurrence) (Seen : ℕ → Type 0) (full : List ℕ) : NameKind → Type 0 where
@@ -70,7 +74,8 @@ pub data IsType (os : List Occurrence) (Seen : ℕ → Type 0) (full : List ℕ)
   enumeration : Visible os Seen is_type full → (Visible os Seen is_message full → ⊥) → IsType os Seen full kind.Enum
 
 -- a spelled name resolves to this full name of this kind
-pub record Resolves (os : List Occurrence) (Seen : ℕ → Type 0) (scope spelled full : List ℕ) (what : NameKind) : Type 0 where
+pub record Resolves (os : List Occurrence) (Seen : ℕ → Type 0) (scope spelled full : List ℕ)
+    (what : NameKind) : Type 0 where
   pub means : Means os Seen scope spelled full
   pub type : IsType os Seen full what
 

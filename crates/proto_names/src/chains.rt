@@ -47,7 +47,8 @@ fn head(entries: &[Entry], position: usize, next: u32) -> u32
 /// The chains of entries. There are more slots than entries, so that most chains have one entry or none.
 pub(crate) fn chained(alloc: Global, entries: &[Entry]) -> Result<Chains, AllocError>
     requires { length entries.now ≤ 1_048_576 }
-    ensures { IfOk result (λ chains. AreChained (map occurrence entries.now) (length entries.now) chains.slots.items chains.links.items) }
+    ensures { IfOk result (λ chains. AreChained (map occurrence entries.now) (length entries.now)
+        chains.slots.items chains.links.items) }
 {
     let count = 2 * entries.len() + 1;
     let mut slots = vec![in alloc; 0; count]?;
@@ -78,8 +79,11 @@ impl Chains {
     /// Where the entries of the name in a scope begin.
     pub(crate) fn start_of(&self, entries: &[Entry], scope: Scope, name: &str) -> Option<usize>
         requires order { IsSortedByKey entry_name (slice_cmp nat_cmp) entries.now }
-        requires chains { AreChained (map occurrence entries.now) (length entries.now) self.now.slots.items self.now.links.items }
-        ensures { MatchOption result (IsNowhere (map occurrence entries.now) (scoped scope.entry.text.now name.now)) (IsStart (map occurrence entries.now) (scoped scope.entry.text.now name.now)) }
+        requires chains { AreChained (map occurrence entries.now) (length entries.now)
+            self.now.slots.items self.now.links.items }
+        ensures { MatchOption result (IsNowhere (map occurrence entries.now)
+            (scoped scope.entry.text.now name.now))
+            (IsStart (map occurrence entries.now) (scoped scope.entry.text.now name.now)) }
     {
         let hash = scope.hash_with(name);
         let mut next = self.slots[hash as usize % self.slots.len()];

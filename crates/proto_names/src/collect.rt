@@ -28,7 +28,13 @@ fn declared_entry(
     place: Place,
     kind: NameKind,
 ) -> Result<Entry, AllocError>
-    ensures { IfOk result (λ entry. occurrence entry ≡ declared_occurrence file (record { scope = scope.now; name = name.now; kind = kind; place = place })) }
+    ensures { IfOk result (λ entry. occurrence entry
+        ≡ declared_occurrence file (record {
+          scope = scope.now;
+          name = name.now;
+          kind = kind;
+          place = place;
+        })) }
 {
     Ok(Entry {
         name: name_in(alloc, scope, name)?,
@@ -44,7 +50,8 @@ fn put_fields(
     scope: &str,
     fields: &[FieldDesc],
 ) -> Result<(), AllocError>
-    ensures { OnOk result (entries.new ≡ entries.old ++ map (declared_occurrence file) (map (declared_field scope.now) fields.now)) }
+    ensures { OnOk result (entries.new ≡ entries.old
+        ++ map (declared_occurrence file) (map (declared_field scope.now) fields.now)) }
 {
     for field in fields {
         let name = field.name.as_str();
@@ -61,7 +68,8 @@ fn put_oneofs(
     scope: &str,
     oneofs: &[OneofDesc],
 ) -> Result<(), AllocError>
-    ensures { OnOk result (entries.new ≡ entries.old ++ map (declared_occurrence file) (map (declared_oneof scope.now) oneofs.now)) }
+    ensures { OnOk result (entries.new ≡ entries.old
+        ++ map (declared_occurrence file) (map (declared_oneof scope.now) oneofs.now)) }
 {
     for oneof in oneofs {
         let name = oneof.name.as_str();
@@ -78,7 +86,8 @@ fn put_values(
     scope: &str,
     values: &[ValueDesc],
 ) -> Result<(), AllocError>
-    ensures { OnOk result (entries.new ≡ entries.old ++ map (declared_occurrence file) (map (declared_value scope.now) values.now)) }
+    ensures { OnOk result (entries.new ≡ entries.old
+        ++ map (declared_occurrence file) (map (declared_value scope.now) values.now)) }
 {
     for value in values {
         let name = value.name.as_str();
@@ -95,7 +104,8 @@ fn put_methods(
     scope: &str,
     methods: &[MethodDesc],
 ) -> Result<(), AllocError>
-    ensures { OnOk result (entries.new ≡ entries.old ++ map (declared_occurrence file) (map (declared_method scope.now) methods.now)) }
+    ensures { OnOk result (entries.new ≡ entries.old
+        ++ map (declared_occurrence file) (map (declared_method scope.now) methods.now)) }
 {
     for method in methods {
         let name = method.name.as_str();
@@ -113,7 +123,8 @@ fn put_enum(
     scope: &str,
     declared: &EnumDesc,
 ) -> Result<(), AllocError>
-    ensures { OnOk result (entries.new ≡ entries.old ++ map (declared_occurrence file) (declared_by_enum scope.now declared.now)) }
+    ensures { OnOk result (entries.new ≡ entries.old
+        ++ map (declared_occurrence file) (declared_by_enum scope.now declared.now)) }
 {
     let name = declared.name.as_str();
     let entry = declared_entry(alloc, file, scope, name, declared.place, NameKind::Enum)?;
@@ -128,7 +139,8 @@ fn put_enums(
     scope: &str,
     enums: &[EnumDesc],
 ) -> Result<(), AllocError>
-    ensures { OnOk result (entries.new ≡ entries.old ++ map (declared_occurrence file) (flat_map (declared_by_enum scope.now) enums.now)) }
+    ensures { OnOk result (entries.new ≡ entries.old
+        ++ map (declared_occurrence file) (flat_map (declared_by_enum scope.now) enums.now)) }
 {
     for declared in enums {
         put_enum(alloc, entries, file, scope, declared)?;
@@ -144,7 +156,8 @@ fn put_service(
     scope: &str,
     service: &ServiceDesc,
 ) -> Result<(), AllocError>
-    ensures { OnOk result (entries.new ≡ entries.old ++ map (declared_occurrence file) (declared_by_service scope.now service.now)) }
+    ensures { OnOk result (entries.new ≡ entries.old
+        ++ map (declared_occurrence file) (declared_by_service scope.now service.now)) }
 {
     let name = service.name.as_str();
     let entry = declared_entry(alloc, file, scope, name, service.place, NameKind::Service)?;
@@ -166,7 +179,8 @@ fn put_services(
     scope: &str,
     services: &[ServiceDesc],
 ) -> Result<(), AllocError>
-    ensures { OnOk result (entries.new ≡ entries.old ++ map (declared_occurrence file) (flat_map (declared_by_service scope.now) services.now)) }
+    ensures { OnOk result (entries.new ≡ entries.old
+        ++ map (declared_occurrence file) (flat_map (declared_by_service scope.now) services.now)) }
 {
     for service in services {
         put_service(alloc, entries, file, scope, service)?;
@@ -182,7 +196,8 @@ fn put_message(
     scope: &str,
     message: &MessageDesc,
 ) -> Result<(), AllocError>
-    ensures { OnOk result (entries.new ≡ entries.old ++ map (declared_occurrence file) (declared_by_message message.now scope.now)) }
+    ensures { OnOk result (entries.new ≡ entries.old
+        ++ map (declared_occurrence file) (declared_by_message message.now scope.now)) }
 {
     let name = message.name.as_str();
     let entry = declared_entry(alloc, file, scope, name, message.place, NameKind::Message)?;
@@ -205,7 +220,9 @@ fn put_messages(
     scope: &str,
     messages: &[MessageDesc],
 ) -> Result<(), AllocError>
-    ensures { OnOk result (entries.new ≡ entries.old ++ map (declared_occurrence file) (flat_map (λ m. declared_by_message m scope.now) messages.now)) }
+    ensures { OnOk result (entries.new ≡ entries.old
+        ++ map (declared_occurrence file)
+        (flat_map (λ m. declared_by_message m scope.now) messages.now)) }
 {
     for message in messages {
         put_message(alloc, entries, file, scope, message)?;
@@ -221,7 +238,8 @@ fn put_fronts(
     place: Place,
     name: &str,
 ) -> Result<(), AllocError>
-    ensures { OnOk result (entries.new ≡ entries.old ++ map (package_occurrence file place) (fronts name.now)) }
+    ensures { OnOk result (entries.new ≡ entries.old
+        ++ map (package_occurrence file place) (fronts name.now)) }
 {
     let mut front = name;
     loop {
@@ -259,7 +277,8 @@ fn put_declared(
     scope: &str,
     desc: &FileDesc,
 ) -> Result<(), AllocError>
-    ensures { OnOk result (entries.new ≡ entries.old ++ map (declared_occurrence file) (declared_in scope.now desc.now)) }
+    ensures { OnOk result (entries.new ≡ entries.old
+        ++ map (declared_occurrence file) (declared_in scope.now desc.now)) }
 {
     put_messages(alloc, entries, file, scope, desc.messages.as_slice())?;
     put_enums(alloc, entries, file, scope, desc.enums.as_slice())?;

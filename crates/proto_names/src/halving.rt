@@ -15,11 +15,15 @@ use crate::entries::{Entry, compare, has_name};
 fn count_before(entries: &[Entry], scope: &str, name: &str) -> usize
     requires { IsSortedByKey entry_name (slice_cmp nat_cmp) entries.now }
     ensures bound { result ≤ length entries.now }
-    ensures point { IsPartitionPoint (λ e. slice_cmp nat_cmp (entry_name e) (scoped scope.now name.now) ≡ Less) (λ e. slice_cmp nat_cmp (entry_name e) (scoped scope.now name.now) ≢ Less) entries.now result }
+    ensures point { IsPartitionPoint (λ e. slice_cmp nat_cmp (entry_name e)
+        (scoped scope.now name.now) ≡ Less)
+        (λ e. slice_cmp nat_cmp (entry_name e) (scoped scope.now name.now) ≢ Less) entries.now
+        result }
 {
     entries.partition_point(
         |entry: &Entry| -> bool
-            ensures { result ≡ is_lt (slice_cmp nat_cmp (entry_name entry.now) (scoped scope.entry.now name.entry.now)) }
+            ensures { result ≡ is_lt (slice_cmp nat_cmp (entry_name entry.now)
+                (scoped scope.entry.now name.entry.now)) }
         { compare(entry.name.as_str(), scope, name).is_lt() },
     )
 }
@@ -27,7 +31,9 @@ fn count_before(entries: &[Entry], scope: &str, name: &str) -> usize
 /// Where the entries of the name in a scope begin.
 pub(crate) fn start_by_halving(entries: &[Entry], scope: &str, name: &str) -> Option<usize>
     requires { IsSortedByKey entry_name (slice_cmp nat_cmp) entries.now }
-    ensures { MatchOption result (IsNowhere (map occurrence entries.now) (scoped scope.now name.now)) (IsStart (map occurrence entries.now) (scoped scope.now name.now)) }
+    ensures { MatchOption result (IsNowhere (map occurrence entries.now)
+        (scoped scope.now name.now)) (IsStart (map occurrence entries.now)
+        (scoped scope.now name.now)) }
 {
     let start = count_before(entries, scope, name);
     if start < entries.len() && has_name(&entries[start], scope, name) {
@@ -40,13 +46,16 @@ pub(crate) fn start_by_halving(entries: &[Entry], scope: &str, name: &str) -> Op
 /// How many of the entries have the name in a scope, where none comes before it, by halving.
 pub(crate) fn count_named(entries: &[Entry], scope: &str, name: &str) -> usize
     requires order { IsSortedByKey entry_name (slice_cmp nat_cmp) entries.now }
-    requires behind { All (λ e. slice_cmp nat_cmp (entry_name e) (scoped scope.now name.now) ≢ Less) entries.now }
+    requires behind { All (λ e. slice_cmp nat_cmp (entry_name e) (scoped scope.now name.now) ≢ Less)
+        entries.now }
     ensures bound { result ≤ length entries.now }
-    ensures point { IsPartitionPoint (λ e. entry_name e ≡ scoped scope.now name.now) (λ e. entry_name e ≢ scoped scope.now name.now) entries.now result }
+    ensures point { IsPartitionPoint (λ e. entry_name e ≡ scoped scope.now name.now)
+        (λ e. entry_name e ≢ scoped scope.now name.now) entries.now result }
 {
     entries.partition_point(
         |entry: &Entry| -> bool
-            ensures { result ≡ is_eq (slice_cmp nat_cmp (entry_name entry.now) (scoped scope.entry.now name.entry.now)) }
+            ensures { result ≡ is_eq (slice_cmp nat_cmp (entry_name entry.now)
+                (scoped scope.entry.now name.entry.now)) }
         { compare(entry.name.as_str(), scope, name).is_eq() },
     )
 }

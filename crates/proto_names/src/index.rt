@@ -57,7 +57,8 @@ fn is_service(entry: &Entry) -> bool
 
 /// The names of the services among entries, in their order.
 fn service_names(alloc: Global, entries: &[Entry]) -> Result<Vec<String>, AllocError>
-    ensures { IfOk result (λ names. map string_bytes names.items ≡ services_of (map occurrence entries.now)) }
+    ensures { IfOk result (λ names. map string_bytes names.items
+        ≡ services_of (map occurrence entries.now)) }
 {
     let mut names = Vec::new(alloc);
     for entry in entries {
@@ -93,7 +94,12 @@ impl Model for NameIndex {
     ghost view = { λ index. record { files = index.files; occurrences = index.entries; services = map string_bytes index.services.items } };
 
     ghost invariant = { λ index. IsSound (record { files = index.files; occurrences = index.entries; services = map string_bytes index.services.items })
-        × IsOfFiles (record { files = index.files; occurrences = index.entries; services = map string_bytes index.services.items }) };
+        × IsOfFiles (record {
+          files = index.files;
+          occurrences = index.entries;
+          services =
+              map string_bytes index.services.items;
+        }) };
 }
 
 impl NameIndex {
@@ -107,8 +113,10 @@ impl NameIndex {
     where
         R: Threads + AllocGlobal + Sync,
         ensures indexed { IfOk result (Indexes files.now limits.now) }
-        ensures twice { (file : ℕ) (place : Place) → result ≡ Err (errors.At file place) → IsRepeated files.now limits.now file place }
-        ensures many { result ≡ Err errors.TooMany → limit_of limits.now limit.Names < length (occurrences files.now) }
+        ensures twice { (file : ℕ) (place : Place) → result ≡ Err (errors.At file place)
+            → IsRepeated files.now limits.now file place }
+        ensures many { result ≡ Err errors.TooMany
+            → limit_of limits.now limit.Names < length (occurrences files.now) }
     {
         let alloc = rt.alloc();
         let Some(mut entries) = collect(alloc, files, limits.get(Limit::Names))? else {
@@ -130,8 +138,11 @@ impl NameIndex {
 
     /// What a full name is declared for. A package is declared for nothing.
     pub fn find(&self, name: &str) -> Option<Defined>
-        ensures none { result ≡ None → (o : Occurrence) → Contains self.now.occurrences o → o.name ≡ name.now → IsPackage o }
-        ensures found { (d : Defined) → result ≡ Some d → (o : Occurrence) × Contains self.now.occurrences o × (o.name ≡ name.now) × (o.kind ≡ Some d.kind) × (o.file ≡ d.file) }
+        ensures none { result ≡ None → (o : Occurrence) → Contains self.now.occurrences o
+            → o.name ≡ name.now → IsPackage o }
+        ensures found { (d : Defined) → result ≡ Some d
+            → (o : Occurrence) × Contains self.now.occurrences o × (o.name ≡ name.now)
+            × (o.kind ≡ Some d.kind) × (o.file ≡ d.file) }
         ensures within { IfSome result (λ d. d.file < self.now.files) }
     {
         for entry in self.entries.named(Scope::top(), name) {

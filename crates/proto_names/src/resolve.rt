@@ -92,7 +92,8 @@ impl Role {
 
 /// An entry in a file, found by halving: the entries of one name come in the order of their files.
 fn entry_in(entries: &[Entry], file: FileId) -> Option<&Entry>
-    ensures { IfSome result (λ entry. Contains (map occurrence entries.now) (occurrence entry.now)) }
+    ensures { IfSome result (λ entry. Contains (map occurrence entries.now)
+        (occurrence entry.now)) }
 {
     match entries.binary_search_by_key(&file, |entry: &Entry| entry.spot.file) {
         Ok(at) => Some(&entries[at]),
@@ -104,7 +105,8 @@ fn entry_in(entries: &[Entry], file: FileId) -> Option<&Entry>
 fn is_seen(links: &Links, file: FileId, role: Role, entry: &Entry) -> bool
     requires file { file < count_of links.now }
     requires entry { entry.now.spot.file < count_of links.now }
-    ensures { IsTrue result ↔ (IsTrue (fits role entry.now.kind) × SeenBy links.now file entry.now.spot.file) }
+    ensures { IsTrue result ↔ (IsTrue (fits role entry.now.kind)
+        × SeenBy links.now file entry.now.spot.file) }
 {
     role.fits(entry.kind) && links.sees(file, entry.spot.file)
 }
@@ -114,7 +116,8 @@ impl NameIndex {
     fn is_visible(&self, links: &Links, file: FileId, role: Role, scope: Scope, name: &str) -> bool
         requires links { count_of links.now ≡ self.now.files }
         requires file { file < self.now.files }
-        ensures { IsTrue result ↔ Visible self.now.occurrences (SeenBy links.now file) (fits role) (scoped scope.entry.text.now name.now) }
+        ensures { IsTrue result ↔ Visible self.now.occurrences (SeenBy links.now file) (fits role)
+            (scoped scope.entry.text.now name.now) }
     {
         let entries = self.entries.named(scope, name);
         // A package has an entry in each of its files, and is mostly the file's own.
@@ -135,7 +138,8 @@ impl NameIndex {
     fn decides(&self, links: &Links, file: FileId, scope: Scope, spelled: &str) -> bool
         requires links { count_of links.now ≡ self.now.files }
         requires file { file < self.now.files }
-        ensures { IsTrue result ↔ Decides self.now.occurrences (SeenBy links.now file) scope.entry.text.now spelled.now }
+        ensures { IsTrue result ↔ Decides self.now.occurrences (SeenBy links.now file)
+            scope.entry.text.now spelled.now }
     {
         match spelled.split_once('.') {
             Some((first, _)) => self.is_visible(links, file, Role::Scope, scope, first),
@@ -153,7 +157,10 @@ impl NameIndex {
     ) -> Option<Scope<'s>>
         requires links { count_of links.now ≡ self.now.files }
         requires file { file < self.now.files }
-        ensures { MatchOption result ((c : List ℕ) → IsCandidate c scope.now → Decides self.now.occurrences (SeenBy links.now file) c spelled.now → ⊥) (λ inner. IsInnermost self.now.occurrences (SeenBy links.now file) scope.now spelled.now inner.text.now) }
+        ensures { MatchOption result ((c : List ℕ) → IsCandidate c scope.now
+            → Decides self.now.occurrences (SeenBy links.now file) c spelled.now → ⊥)
+            (λ inner. IsInnermost self.now.occurrences (SeenBy links.now file) scope.now spelled.now
+            inner.text.now) }
     {
         let mut inner = Scope::new(scope);
         loop {
@@ -177,7 +184,9 @@ impl NameIndex {
     ) -> Option<(Scope<'s>, &'s str)>
         requires links { count_of links.now ≡ self.now.files }
         requires file { file < self.now.files }
-        ensures { MatchOption result (MeansNothing self.now.occurrences (SeenBy links.now file) scope.now spelled.now) (λ full. IsMeant self.now.occurrences (SeenBy links.now file) scope.now spelled.now (scoped full.0.text.now full.1.now)) }
+        ensures { MatchOption result (MeansNothing self.now.occurrences (SeenBy links.now file)
+            scope.now spelled.now) (λ full. IsMeant self.now.occurrences (SeenBy links.now file)
+            scope.now spelled.now (scoped full.0.text.now full.1.now)) }
     {
         if let Some(full) = spelled.strip_prefix('.') {
             return Some((Scope::top(), full));
@@ -190,7 +199,11 @@ impl NameIndex {
     fn type_of(&self, links: &Links, file: FileId, scope: Scope, name: &str) -> Option<NameKind>
         requires links { count_of links.now ≡ self.now.files }
         requires file { file < self.now.files }
-        ensures { MatchOption result ((kind : NameKind) → IsType self.now.occurrences (SeenBy links.now file) (scoped scope.entry.text.now name.now) kind → ⊥) (IsType self.now.occurrences (SeenBy links.now file) (scoped scope.entry.text.now name.now)) }
+        ensures { MatchOption result ((kind : NameKind)
+            → IsType self.now.occurrences (SeenBy links.now file)
+            (scoped scope.entry.text.now name.now) kind → ⊥)
+            (IsType self.now.occurrences (SeenBy links.now file)
+            (scoped scope.entry.text.now name.now)) }
     {
         if self.is_visible(links, file, Role::Message, scope, name) {
             Some(NameKind::Message)
@@ -215,10 +228,15 @@ impl NameIndex {
     ) -> Result<Resolved, ResolveError>
         requires links { count_of links.now ≡ self.now.files }
         requires file { file < self.now.files }
-        ensures found { IfOk result (λ r. Resolves self.now.occurrences (SeenBy links.now file) scope.now spelled.now (string_bytes r.full_name) r.kind) }
+        ensures found { IfOk result (λ r. Resolves self.now.occurrences (SeenBy links.now file)
+            scope.now spelled.now (string_bytes r.full_name) r.kind) }
         ensures wanted { IfOk result (λ r. want ≡ wants.MessageOnly → r.kind ≡ kinds.Message) }
-        ensures not_found { result ≡ Err errors.TypeNotFound → ResolvesNowhere self.now.occurrences (SeenBy links.now file) scope.now spelled.now }
-        ensures not_message { result ≡ Err errors.TypeNotMessage → (want ≡ wants.MessageOnly) × ((full : List ℕ) × Resolves self.now.occurrences (SeenBy links.now file) scope.now spelled.now full kinds.Enum) }
+        ensures not_found { result ≡ Err errors.TypeNotFound
+            → ResolvesNowhere self.now.occurrences (SeenBy links.now file) scope.now spelled.now }
+        ensures not_message { result ≡ Err errors.TypeNotMessage
+            → (want ≡ wants.MessageOnly) × ((full : List ℕ)
+            × Resolves self.now.occurrences (SeenBy links.now file) scope.now spelled.now full
+            kinds.Enum) }
     {
         let Some((inner, name)) = self.meant(links, file, scope, spelled) else {
             return Err(ResolveError::TypeNotFound);
@@ -237,8 +255,13 @@ impl NameIndex {
 /// A spelled name means one thing in a scope: the same occurrences, as far as they are seen, give it one full name and
 /// one kind, whatever their order.
 pub fn resolution_is_unique()
-    ensures one { (os ps : List Occurrence) (seen sees : ℕ → Bool) (scope spelled full other : List ℕ) (what kind : NameKind) → AreSeenAlike os (IsSeen seen) ps (IsSeen sees)
-        → Resolves os (IsSeen seen) scope spelled full what → Resolves ps (IsSeen sees) scope spelled other kind → (full ≡ other) × (what ≡ kind) }
-    ensures same { (os ps : List Occurrence) (seen sees : ℕ → Bool) (scope spelled full : List ℕ) (what : NameKind) → AreSeenAlike os (IsSeen seen) ps (IsSeen sees)
-        → Resolves os (IsSeen seen) scope spelled full what → Resolves ps (IsSeen sees) scope spelled full what }
+    ensures one { (os ps : List Occurrence) (seen sees : ℕ → Bool)
+        (scope spelled full other : List ℕ) (what kind : NameKind)
+        → AreSeenAlike os (IsSeen seen) ps (IsSeen sees)
+        → Resolves os (IsSeen seen) scope spelled full what
+        → Resolves ps (IsSeen sees) scope spelled other kind → (full ≡ other) × (what ≡ kind) }
+    ensures same { (os ps : List Occurrence) (seen sees : ℕ → Bool) (scope spelled full : List ℕ)
+        (what : NameKind) → AreSeenAlike os (IsSeen seen) ps (IsSeen sees)
+        → Resolves os (IsSeen seen) scope spelled full what
+        → Resolves ps (IsSeen sees) scope spelled full what }
 {}

@@ -9,7 +9,9 @@ use crate::hashing::{hash_before, with_byte, with_text};
 
 /// The longest front of a text that a dot follows, if there is a dot.
 pub(crate) fn shorter_front(text: &str) -> Option<&str>
-    ensures { MatchOption result (fronts text.now ≡ text.now ∷ []) (λ front. (fronts text.now ≡ text.now ∷ fronts front.now) × (length front.now < length text.now)) }
+    ensures { MatchOption result (fronts text.now ≡ text.now ∷ [])
+        (λ front. (fronts text.now ≡ text.now ∷ fronts front.now)
+        × (length front.now < length text.now)) }
 {
     let dot = text.rfind('.')?;
     Some(&text[..dot])
@@ -17,7 +19,9 @@ pub(crate) fn shorter_front(text: &str) -> Option<&str>
 
 /// The text of the scope around this one.
 fn parent(scope: &str) -> Option<&str>
-    ensures { MatchOption result (scope.now ≡ []) (λ outer. IsCandidate outer.now scope.now × (length outer.now < length scope.now) × ((c : List ℕ) → IsCandidate c scope.now → (c ≡ scope.now) ⊎ IsCandidate c outer.now)) }
+    ensures { MatchOption result (scope.now ≡ [])
+        (λ outer. IsCandidate outer.now scope.now × (length outer.now < length scope.now)
+        × ((c : List ℕ) → IsCandidate c scope.now → (c ≡ scope.now) ⊎ IsCandidate c outer.now)) }
 {
     if scope.is_empty() {
         return None;
@@ -66,7 +70,11 @@ impl<'s> Scope<'s> {
 
     /// The scope around this one, whose hash comes out of this one's.
     pub(crate) fn parent(self) -> Option<Scope<'s>>
-        ensures { MatchOption result (self.entry.text.now ≡ []) (λ outer. IsCandidate outer.text.now self.entry.text.now × (length outer.text.now < length self.entry.text.now) × ((c : List ℕ) → IsCandidate c self.entry.text.now → (c ≡ self.entry.text.now) ⊎ IsCandidate c outer.text.now)) }
+        ensures { MatchOption result (self.entry.text.now ≡ [])
+            (λ outer. IsCandidate outer.text.now self.entry.text.now
+            × (length outer.text.now < length self.entry.text.now)
+            × ((c : List ℕ) → IsCandidate c self.entry.text.now
+            → (c ≡ self.entry.text.now) ⊎ IsCandidate c outer.text.now)) }
     {
         let text = parent(self.text)?;
         let hash = hash_before(self.hash, &self.text.as_bytes()[text.len()..]);

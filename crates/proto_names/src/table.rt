@@ -51,8 +51,11 @@ impl EntryTable {
     /// The entries of the name in a scope.
     pub(crate) fn named(&self, scope: Scope, name: &str) -> &[Entry]
         requires { AreInNameOrder self.now }
-        ensures found { (o : Occurrence) → Contains (map occurrence result.now) o → Contains self.now o × (o.name ≡ scoped scope.entry.text.now name.now) }
-        ensures all { (o : Occurrence) → Contains self.now o → o.name ≡ scoped scope.entry.text.now name.now → Contains (map occurrence result.now) o }
+        ensures found { (o : Occurrence) → Contains (map occurrence result.now) o
+            → Contains self.now o × (o.name ≡ scoped scope.entry.text.now name.now) }
+        ensures all { (o : Occurrence) → Contains self.now o
+            → o.name ≡ scoped scope.entry.text.now name.now
+            → Contains (map occurrence result.now) o }
     {
         entries_named(self.entries.as_slice(), &self.chains, scope, name)
     }
@@ -61,11 +64,14 @@ impl EntryTable {
 /// How many of the entries have the name in a scope, where the first has it. Most names have one entry.
 fn run_length(entries: &[Entry], scope: &str, name: &str) -> usize
     requires order { IsSortedByKey entry_name (slice_cmp nat_cmp) entries.now }
-    requires behind { All (λ e. slice_cmp nat_cmp (entry_name e) (scoped scope.now name.now) ≢ Less) entries.now }
+    requires behind { All (λ e. slice_cmp nat_cmp (entry_name e) (scoped scope.now name.now) ≢ Less)
+        entries.now }
     requires some { 0 < length entries.now }
-    requires first { (d : Entry) → entry_name (slice_index_or entries.now 0 d) ≡ scoped scope.now name.now }
+    requires first { (d : Entry) → entry_name (slice_index_or entries.now 0 d)
+        ≡ scoped scope.now name.now }
     ensures bound { result ≤ length entries.now }
-    ensures point { IsPartitionPoint (λ e. entry_name e ≡ scoped scope.now name.now) (λ e. entry_name e ≢ scoped scope.now name.now) entries.now result }
+    ensures point { IsPartitionPoint (λ e. entry_name e ≡ scoped scope.now name.now)
+        (λ e. entry_name e ≢ scoped scope.now name.now) entries.now result }
 {
     if entries.len() > 1 && has_name(&entries[1], scope, name) {
         count_named(entries, scope, name)
@@ -77,8 +83,10 @@ fn run_length(entries: &[Entry], scope: &str, name: &str) -> usize
 /// The entries of the name in a scope.
 fn entries_named<'e>(entries: &'e [Entry], chains: &Chains, scope: Scope, name: &str) -> &'e [Entry]
     requires order { IsSortedByKey entry_name (slice_cmp nat_cmp) entries.now }
-    requires chains { AreChained (map occurrence entries.now) (length entries.now) chains.now.slots.items chains.now.links.items }
-    ensures { (e : Entry) → Contains result.now e ↔ (Contains entries.now e × (entry_name e ≡ scoped scope.entry.text.now name.now)) }
+    requires chains { AreChained (map occurrence entries.now) (length entries.now)
+        chains.now.slots.items chains.now.links.items }
+    ensures { (e : Entry) → Contains result.now e
+        ↔ (Contains entries.now e × (entry_name e ≡ scoped scope.entry.text.now name.now)) }
 {
     match chains.start_of(entries, scope, name) {
         Some(start) => {

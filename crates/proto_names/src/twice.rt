@@ -25,8 +25,12 @@ fn have_one_name(first: &Entry, second: &Entry) -> bool
 /// Whether what stands at a place has the name of what stands before it.
 pub(crate) fn continues(entries: &[Entry], place: usize) -> bool
     requires { place < length entries.now }
-    ensures same { IsTrue result → (0 < place) × ((at (map occurrence entries.now) (place - 1)).name ≡ (at (map occurrence entries.now) place).name) }
-    ensures other { result ≡ false → 0 < place → (at (map occurrence entries.now) (place - 1)).name ≢ (at (map occurrence entries.now) place).name }
+    ensures same { IsTrue result → (0 < place)
+        × ((at (map occurrence entries.now) (place - 1)).name
+        ≡ (at (map occurrence entries.now) place).name) }
+    ensures other { result ≡ false → 0 < place
+        → (at (map occurrence entries.now) (place - 1)).name
+        ≢ (at (map occurrence entries.now) place).name }
 {
     place > 0 && have_one_name(&entries[place - 1], &entries[place])
 }
@@ -35,7 +39,8 @@ pub(crate) fn continues(entries: &[Entry], place: usize) -> bool
 fn run_before(entries: &[Entry], last: Run, place: usize) -> Run
     requires order { AreInOrder (map occurrence entries.now) }
     requires place { place < length entries.now }
-    requires last { 0 < place → IsRun (map occurrence entries.now) (place - 1) place last.start last.has_element }
+    requires last { 0 < place → IsRun (map occurrence entries.now) (place - 1) place last.start
+        last.has_element }
     ensures { IsRun (map occurrence entries.now) place place result.start result.has_element }
 {
     if continues(entries, place) {
@@ -86,7 +91,8 @@ fn lesser(first: Option<Spot>, spot: Spot) -> Spot
 /// The first occurrence with another one of its name that comes no later, of entries in order.
 pub(crate) fn first_twice(entries: &[Entry]) -> Option<Spot>
     requires { AreInOrder (map occurrence entries.now) }
-    ensures { MatchOption result (NoneTwice (map occurrence entries.now)) (λ spot. IsFirstTwice (map occurrence entries.now) spot.file spot.place) }
+    ensures { MatchOption result (NoneTwice (map occurrence entries.now))
+        (λ spot. IsFirstTwice (map occurrence entries.now) spot.file spot.place) }
 {
     let mut first = None;
     let mut run = Run {

@@ -35,7 +35,8 @@ any_right (c ∷ cs) ds w h = or_true_right (fits c w) (fits_any (cs ++ ds) w) (
 
 pub not_any_left : (cs ds : List Class) (w : Lexeme) → fits_any (cs ++ ds) w ≡ false → fits_any cs w ≡ false
 not_any_left [] ds w h = refl
-not_any_left (c ∷ cs) ds w h = or_none (fits c w) (fits_any cs w) (or_false_left (fits c w) (fits_any (cs ++ ds) w) h) (not_any_left cs ds w (or_false_right (fits c w) (fits_any (cs ++ ds) w) h))
+not_any_left (c ∷ cs) ds w h = or_none (fits c w) (fits_any cs w) (or_false_left (fits c w) (fits_any (cs ++ ds) w) h)
+    (not_any_left cs ds w (or_false_right (fits c w) (fits_any (cs ++ ds) w) h))
 
 pub not_any_right : (cs ds : List Class) (w : Lexeme) → fits_any (cs ++ ds) w ≡ false → fits_any ds w ≡ false
 not_any_right [] ds w h = h
@@ -51,7 +52,8 @@ next_right cs ds (t ∷ ts) h = not_any_right cs ds t.lexeme h
 
 from_all_means : (c : Class) (ds : List Class) (w : Lexeme) → apart_from_all c ds ≡ true → fits c w ≡ true → fits_any ds w ≡ false
 from_all_means c [] w h i = refl
-from_all_means c (d ∷ ds) w h i = or_none (fits d w) (fits_any ds w) (apart_means c d w (and_left (apart c d) (apart_from_all c ds) h) i) (from_all_means c ds w (and_right (apart c d) (apart_from_all c ds) h) i)
+from_all_means c (d ∷ ds) w h i = or_none (fits d w) (fits_any ds w) (apart_means c d w (and_left (apart c d) (apart_from_all c ds) h) i)
+    (from_all_means c ds w (and_right (apart c d) (apart_from_all c ds) h) i)
 
 all_means : (cs ds : List Class) (w : Lexeme) → all_apart cs ds ≡ true → fits_any cs w ≡ true → fits_any ds w ≡ false
 all_means [] ds w h i = cc

@@ -7,15 +7,20 @@ use Rattle.proto_syntax.proofs.Apart.{and_left, and_right, not_true}
 use Rattle.proto_syntax.proofs.Begins.{Starts, tree_starts, next_left, next_right, apart_other}
 
 -- what follows a part goes on with none of cs
-pub follows : (cs : List Class) (b : Grammar) (vs us : List Spelled) → Starts b vs → all_apart cs (begins b) ≡ true → (can_be_empty b ≡ true → next_fits cs us ≡ false) → next_fits cs (vs ++ us) ≡ false
+pub follows : (cs : List Class) (b : Grammar) (vs us : List Spelled) → Starts b vs → all_apart cs (begins b) ≡ true
+    → (can_be_empty b ≡ true → next_fits cs us ≡ false) → next_fits cs (vs ++ us) ≡ false
 follows cs b [] us s h e = e s
 follows cs b (t ∷ vs) us s h e = apart_other cs (begins b) t.lexeme h s
 
-goes_on_left : (a b : Grammar) (us : List Spelled) → next_fits (goes_on b ++ cond (can_be_empty b) (goes_on a) []) us ≡ false → can_be_empty b ≡ true → next_fits (goes_on a) us ≡ false
-goes_on_left a b us h e = let k : next_fits (cond (can_be_empty b) (goes_on a) []) us ≡ false = next_right (goes_on b) (cond (can_be_empty b) (goes_on a) []) us h in rw e at k
+goes_on_left : (a b : Grammar) (us : List Spelled) → next_fits (goes_on b ++ cond (can_be_empty b) (goes_on a) []) us ≡ false → can_be_empty b ≡ true
+    → next_fits (goes_on a) us ≡ false
+goes_on_left a b us h e =
+    let k : next_fits (cond (can_be_empty b) (goes_on a) []) us ≡ false = next_right (goes_on b) (cond (can_be_empty b) (goes_on a) []) us h in rw e at k
 
-begins_follows : (a b : Grammar) (us : List Spelled) → next_fits ((goes_on a ++ goes_on b) ++ cond (can_be_empty b) (begins a) []) us ≡ false → can_be_empty b ≡ true → next_fits (begins a) us ≡ false
-begins_follows a b us h e = let k : next_fits (cond (can_be_empty b) (begins a) []) us ≡ false = next_right (goes_on a ++ goes_on b) (cond (can_be_empty b) (begins a) []) us h in rw e at k
+begins_follows : (a b : Grammar) (us : List Spelled) → next_fits ((goes_on a ++ goes_on b) ++ cond (can_be_empty b) (begins a) []) us ≡ false
+    → can_be_empty b ≡ true → next_fits (begins a) us ≡ false
+begins_follows a b us h e = let k : next_fits (cond (can_be_empty b) (begins a) []) us ≡ false =
+    next_right (goes_on a ++ goes_on b) (cond (can_be_empty b) (begins a) []) us h in rw e at k
 
 -- a part that is not empty begins with its first token
 pub starts_next : (a : Grammar) (vs us : List Spelled) → Starts a vs → can_be_empty a ≡ false → next_fits (begins a) (vs ++ us) ≡ true
@@ -28,27 +33,32 @@ Complete g = (x : Tree) → IsTree g x → decides g ≡ true → (us : List Spe
 one_complete : (c : Class) (t : Spelled) (us : List Spelled) → fits c t.lexeme ≡ true → read_one c (t ∷ us) ≡ Read (Leaf t) us
 one_complete c t us h = rw h refl
 
-seq_complete : (a b : Grammar) (x y : Tree) (us vs ws : List Spelled) → us ≡ flatten x ++ vs → read a (flatten x ++ vs) ≡ Read x vs → read b vs ≡ Read y ws → read (a ⨾ b) us ≡ Read (Pair x y) ws
+seq_complete : (a b : Grammar) (x y : Tree) (us vs ws : List Spelled) → us ≡ flatten x ++ vs → read a (flatten x ++ vs) ≡ Read x vs → read b vs ≡ Read y ws
+    → read (a ⨾ b) us ≡ Read (Pair x y) ws
 seq_complete a b x y us vs ws e h i = rw (e, h, i) refl
 
 choice_first : (a b : Grammar) (x : Tree) (us vs : List Spelled) → next_fits (begins a) us ≡ true → read a us ≡ Read x vs → read (a ∣ b) us ≡ Read (Left x) vs
 choice_first a b x us vs e h = rw (e, h) refl
 
-choice_second : (a b : Grammar) (x : Tree) (us vs : List Spelled) → next_fits (begins a) us ≡ false → read b us ≡ Read x vs → read (a ∣ b) us ≡ Read (Right x) vs
+choice_second : (a b : Grammar) (x : Tree) (us vs : List Spelled) → next_fits (begins a) us ≡ false → read b us ≡ Read x vs
+    → read (a ∣ b) us ≡ Read (Right x) vs
 choice_second a b x us vs e h = rw (e, h) refl
 
 many_end : (a : Grammar) (n : ℕ) (us : List Spelled) → next_fits (begins a) us ≡ false → read_many (read a) (begins a) n us ≡ Read Empty us
 many_end a zero us h = refl
 many_end a (suc n) us h = rw h refl
 
-many_turn : (a : Grammar) (x y : Tree) (n : ℕ) (us vs ws : List Spelled) → next_fits (begins a) us ≡ true → read a us ≡ Read x vs → read_many (read a) (begins a) n vs ≡ Read y ws → read_many (read a) (begins a) (suc n) us ≡ Read (Pair x y) ws
+many_turn : (a : Grammar) (x y : Tree) (n : ℕ) (us vs ws : List Spelled) → next_fits (begins a) us ≡ true → read a us ≡ Read x vs
+    → read_many (read a) (begins a) n vs ≡ Read y ws → read_many (read a) (begins a) (suc n) us ≡ Read (Pair x y) ws
 many_turn a x y n us vs ws e h i = rw (e, h, i) refl
 
 pub not_empty_longer : (a : Grammar) (vs us : List Spelled) → Starts a vs → can_be_empty a ≡ false → length us < length (vs ++ us)
 not_empty_longer a [] us s h = cc
 not_empty_longer a (t ∷ vs) us s h = omega (arith, length-append vs us)
 
-many_complete : (a : Grammar) → Complete a → decides a ≡ true → can_be_empty a ≡ false → all_apart (goes_on a) (begins a) ≡ true → (n : ℕ) (x : Tree) → IsTree (Many a) x → (us : List Spelled) → length (flatten x ++ us) ≤ n → next_fits (begins a ++ goes_on a) us ≡ false → read_many (read a) (begins a) n (flatten x ++ us) ≡ Read x us
+many_complete : (a : Grammar) → Complete a → decides a ≡ true → can_be_empty a ≡ false → all_apart (goes_on a) (begins a) ≡ true → (n : ℕ) (x : Tree)
+    → IsTree (Many a) x → (us : List Spelled) → length (flatten x ++ us) ≤ n → next_fits (begins a ++ goes_on a) us ≡ false
+    → read_many (read a) (begins a) n (flatten x ++ us) ≡ Read x us
 many_complete a ih d e p n _ none us l h = many_end a n us (next_left (begins a) (goes_on a) us h)
 many_complete a ih d e p zero _ (more {x = x} {y = y} ix iy) us l h =
     let k : length (flatten y ++ us) < length (flatten x ++ (flatten y ++ us)) = not_empty_longer a (flatten x) (flatten y ++ us) (tree_starts ix) e in
@@ -56,7 +66,8 @@ many_complete a ih d e p zero _ (more {x = x} {y = y} ix iy) us l h =
 many_complete a ih d e p (suc n) _ (more {x = x} {y = y} ix iy) us l h =
     let k : length (flatten y ++ us) < length (flatten x ++ (flatten y ++ us)) = not_empty_longer a (flatten x) (flatten y ++ us) (tree_starts ix) e in
     let m : length (flatten x ++ (flatten y ++ us)) ≤ suc n = rw append_assoc at l in
-    let q : next_fits (goes_on a) (flatten y ++ us) ≡ false = follows (goes_on a) (Many a) (flatten y) us (tree_starts iy) p (λ z. next_right (begins a) (goes_on a) us h) in
+    let q : next_fits (goes_on a) (flatten y ++ us) ≡ false =
+    follows (goes_on a) (Many a) (flatten y) us (tree_starts iy) p (λ z. next_right (begins a) (goes_on a) us h) in
     subst (λ ts. read_many (read a) (begins a) (suc n) ts ≡ Read (Pair x y) us) (sym (append_assoc (flatten x) (flatten y) us))
     (many_turn a x y n (flatten x ++ (flatten y ++ us)) (flatten y ++ us) us (starts_next a (flatten x) (flatten y ++ us) (tree_starts ix) e)
     (ih x ix d (flatten y ++ us) q) (many_complete a ih d e p n y iy us (omega arith) h))
@@ -67,12 +78,15 @@ complete Nothing _ nothing d us n = refl
 complete (a ⨾ b) _ (both {x = x} {y = y} ix iy) d us n =
     seq_complete a b x y ((flatten x ++ flatten y) ++ us) (flatten y ++ us) us (append_assoc (flatten x) (flatten y) us)
     (complete a x ix (and_left (decides a) (decides b && all_apart (goes_on a) (begins b)) d) (flatten y ++ us)
-    (follows (goes_on a) b (flatten y) us (tree_starts iy) (and_right (decides b) (all_apart (goes_on a) (begins b)) (and_right (decides a) (decides b && all_apart (goes_on a) (begins b)) d)) (goes_on_left a b us n)))
-    (complete b y iy (and_left (decides b) (all_apart (goes_on a) (begins b)) (and_right (decides a) (decides b && all_apart (goes_on a) (begins b)) d)) us (next_left (goes_on b) (cond (can_be_empty b) (goes_on a) []) us n))
+    (follows (goes_on a) b (flatten y) us (tree_starts iy) (and_right (decides b) (all_apart (goes_on a) (begins b))
+    (and_right (decides a) (decides b && all_apart (goes_on a) (begins b)) d)) (goes_on_left a b us n)))
+    (complete b y iy (and_left (decides b) (all_apart (goes_on a) (begins b)) (and_right (decides a) (decides b && all_apart (goes_on a) (begins b)) d)) us
+    (next_left (goes_on b) (cond (can_be_empty b) (goes_on a) []) us n))
 complete (a ∣ b) _ (first {x = x} ix) d us n =
     let r = and_right (decides a) (decides b && (not (can_be_empty a) && all_apart (begins a) (begins b))) d in
     let s = and_right (decides b) (not (can_be_empty a) && all_apart (begins a) (begins b)) r in
-    choice_first a b x (flatten x ++ us) us (starts_next a (flatten x) us (tree_starts ix) (not_true (can_be_empty a) (and_left (not (can_be_empty a)) (all_apart (begins a) (begins b)) s)))
+    choice_first a b x (flatten x ++ us) us (starts_next a (flatten x) us (tree_starts ix)
+    (not_true (can_be_empty a) (and_left (not (can_be_empty a)) (all_apart (begins a) (begins b)) s)))
     (complete a x ix (and_left (decides a) (decides b && (not (can_be_empty a) && all_apart (begins a) (begins b))) d) us
     (next_left (goes_on a) (goes_on b) us (next_left (goes_on a ++ goes_on b) (cond (can_be_empty b) (begins a) []) us n)))
 complete (a ∣ b) _ (second {x = x} ix) d us n =

@@ -18,7 +18,8 @@ use Rattle.proto_syntax.proofs.Deeper.{deeper_front, GoesOn, Sees, sees}
 use Rattle.proto_syntax.proofs.Limits.{above, file_deeper, file_deeper_other}
 
 -- a token that is left after a tree is the fault too
-left_over : (g : Grammar) (ts : List Spelled) (x : Tree) (t : Spelled) (vs : List Spelled) → decides g ≡ true → read g ts ≡ Read x (t ∷ vs) → IsFault g ts (t ∷ vs)
+left_over : (g : Grammar) (ts : List Spelled) (x : Tree) (t : Spelled) (vs : List Spelled) → decides g ≡ true → read g ts ≡ Read x (t ∷ vs)
+    → IsFault g ts (t ∷ vs)
 left_over g ts x t vs h e =
     let s = read_found g ts x (t ∷ vs) e in
     record { before = flatten x; parts = s.1; front = tree_front s.0; no_further = λ u ws q f. no_more u ws q f s.1 }
@@ -31,7 +32,8 @@ left_over g ts x t vs h e =
         let c : length (t ∷ vs) ≡ length (u ∷ ws) = ap length q in
         omega arith
 
-ended_fault : (g : Grammar) (ts : List Spelled) (b : Bool) (us : List Spelled) → decides g ≡ true → (o : Outcome) → read g ts ≡ o → ended o ≡ Stops b us → IsFault g ts us
+ended_fault : (g : Grammar) (ts : List Spelled) (b : Bool) (us : List Spelled) → decides g ≡ true → (o : Outcome) → read g ts ≡ o → ended o ≡ Stops b us
+    → IsFault g ts us
 ended_fault g ts b us h (Read x []) e q = cc
 ended_fault g ts b us h (Read x (t ∷ vs)) e q = let p : t ∷ vs ≡ us = cc in subst (IsFault g ts) p (left_over g ts x t vs h e)
 ended_fault g ts b us h (Stops d vs) e q = let p : vs ≡ us = cc in subst (IsFault g ts) p (fault_found g ts d vs h e)
@@ -41,7 +43,8 @@ take_front before us ts k e l =
     let n : k ≡ length before = omega (arith, ap length e, length-append before us) in
     rw (n, e) (take-append_seam before us)
 
-take_more : (before : List Spelled) (t : Spelled) (us ts : List Spelled) (k : ℕ) → ts ≡ before ++ (t ∷ us) → k + length (t ∷ us) ≡ length ts → take (k + 1) ts ≡ before ++ (t ∷ [])
+take_more : (before : List Spelled) (t : Spelled) (us ts : List Spelled) (k : ℕ) → ts ≡ before ++ (t ∷ us) → k + length (t ∷ us) ≡ length ts
+    → take (k + 1) ts ≡ before ++ (t ∷ [])
 take_more before t us ts k e l =
     let n : k ≡ length before = omega (arith, ap length e, length-append before (t ∷ us)) in
     rw (n, e) (take-append-add before (t ∷ us) 1)
@@ -55,12 +58,14 @@ module _ (limit : ℕ) (ts us : List Spelled) (b : Bool) (k : ℕ) (e : ended (r
   no_front_here [] q h f = let n : 0 ≡ length us = ap length q in omega arith
   no_front_here (t ∷ vs) q h f =
       let p = the_fault.parts in
-      let m : take (k + 1) ts ≡ the_fault.before ++ (t ∷ []) = take_more the_fault.before t vs ts k (p ∙ ap (λ z. the_fault.before ++ z) (sym q)) (ap (λ z. k + length z) q ∙ l) in
+      let m : take (k + 1) ts ≡ the_fault.before ++ (t ∷ []) =
+      take_more the_fault.before t vs ts k (p ∙ ap (λ z. the_fault.before ++ z) (sym q)) (ap (λ z. k + length z) q ∙ l) in
       the_fault.no_further t vs (sym q) (subst (IsFront (file limit)) m f)
 
   no_file_here : (x : Tree) → IsTreeOf limit ts x → ⊥
   no_file_here x h =
-      let r : read (file limit) ts ≡ Read x [] = subst (λ z. read (file limit) z ≡ Read x []) h.tokens (read_again (file limit) x (file_decides limit) h.tree) in
+      let r : read (file limit) ts ≡ Read x [] =
+      subst (λ z. read (file limit) z ≡ Read x []) h.tokens (read_again (file limit) x (file_decides limit) h.tree) in
       let q : ended (read (file limit) ts) ≡ Read x [] = ap ended r in cc
 
   pub fault_at : IsFaultAt limit ts k
@@ -93,7 +98,8 @@ get_front before us ts k e l =
     let n : k ≡ length before = omega (arith, ap length e, length-append before us) in
     rw (n, e) (slice_get_front before us)
 
-kind_front : (limit : ℕ) (ts us : List Spelled) (k : ℕ) → ended (read (file limit) ts) ≡ Stops false us → k + length us ≡ length ts → (vs : List Spelled) → us ≡ vs → slice_get ts k ≡ slice_get vs 0 → IsKindOf ts k (kind_here (token_before ts k) (slice_get vs 0))
+kind_front : (limit : ℕ) (ts us : List Spelled) (k : ℕ) → ended (read (file limit) ts) ≡ Stops false us → k + length us ≡ length ts → (vs : List Spelled)
+    → us ≡ vs → slice_get ts k ≡ slice_get vs 0 → IsKindOf ts k (kind_here (token_before ts k) (slice_get vs 0))
 kind_front limit ts us k e l [] q d = at_end (let n : length us ≡ 0 = ap length q in omega arith)
 kind_front limit ts us k e l (t ∷ vs) q d =
     other d
@@ -102,7 +108,8 @@ kind_front limit ts us k e l (t ∷ vs) q d =
     let s = ended_sees (file (above limit n)) ts us (read (file limit) ts) (read (file (above limit n)) ts) (sees (file_deeper limit n) ts) e in
     (fault_at (above limit n) ts us false k s l).no_front h (deeper_front (file_deeper_other limit n) f))
 
-pub kind_found : (limit : ℕ) (ts us : List Spelled) (k : ℕ) → ended (read (file limit) ts) ≡ Stops false us → k + length us ≡ length ts → IsKindOf ts k (kind_at ts k)
+pub kind_found : (limit : ℕ) (ts us : List Spelled) (k : ℕ) → ended (read (file limit) ts) ≡ Stops false us → k + length us ≡ length ts
+    → IsKindOf ts k (kind_at ts k)
 kind_found limit ts us k e l =
     let g = get_front (the_fault limit ts us false k e l).before us ts k (the_fault limit ts us false k e l).parts l in
     subst (λ o. IsKindOf ts k (kind_here (token_before ts k) o)) (sym g) (kind_front limit ts us k e l us refl g)
@@ -123,12 +130,14 @@ fewer_than limit ts us b e =
 counted : (ts us : List Token) → length us ≤ length ts → (length ts - length us) + length (spellings us) ≡ length (spellings ts)
 counted ts us h = omega (arith, length-map us spelled, length-map ts spelled)
 
-pub unexpected_at : (limit : ℕ) (ts us : List Token) → ended (read (file limit) (spellings ts)) ≡ Stops false (spellings us) → IsFaultAt limit (spellings ts) (length ts - length us) × IsKindOf (spellings ts) (length ts - length us) (kind_at (spellings ts) (length ts - length us))
+pub unexpected_at : (limit : ℕ) (ts us : List Token) → ended (read (file limit) (spellings ts)) ≡ Stops false (spellings us)
+    → IsFaultAt limit (spellings ts) (length ts - length us) × IsKindOf (spellings ts) (length ts - length us) (kind_at (spellings ts) (length ts - length us))
 unexpected_at limit ts us e =
     let l = counted ts us (fewer_than limit ts us false e) in
     (fault_at limit (spellings ts) (spellings us) false (length ts - length us) e l, kind_found limit (spellings ts) (spellings us) (length ts - length us) e l)
 
-pub too_deep_at : (limit : ℕ) (ts us : List Token) → ended (read (file limit) (spellings ts)) ≡ Stops true (spellings us) → IsFaultAt limit (spellings ts) (length ts - length us) × IsKindOf (spellings ts) (length ts - length us) TooDeep
+pub too_deep_at : (limit : ℕ) (ts us : List Token) → ended (read (file limit) (spellings ts)) ≡ Stops true (spellings us)
+    → IsFaultAt limit (spellings ts) (length ts - length us) × IsKindOf (spellings ts) (length ts - length us) TooDeep
 too_deep_at limit ts us e =
     let l = counted ts us (fewer_than limit ts us true e) in
     (fault_at limit (spellings ts) (spellings us) true (length ts - length us) e l, kind_deep limit (spellings ts) (spellings us) (length ts - length us) e l)

@@ -52,25 +52,35 @@ pub item_field : (f : Field) → message_item_tree (of.Field f) ≡ Right (Right
 item_field f = ap message_item_tree (sym (of.rolls-Field f)) ∙ fold-roll-MessageItem Tree Tree item_step message_step (opened.Field f)
 
 pub fold_message : (m : Message) → fold-Message Tree Tree item_step message_step m ≡ message_tree m
-fold_message m = fold_out-Message Tree Tree item_step message_step m ∙ ap (λ r. block_tree (codes "message") m.keyword m.name m.open_brace r m.close_brace) (trees_row_map message_item_tree m.items)
+fold_message m = fold_out-Message Tree Tree item_step message_step m
+    ∙ ap (λ r. block_tree (codes "message") m.keyword m.name m.open_brace r m.close_brace) (trees_row_map message_item_tree m.items)
 
 pub item_message : (m : Message) → message_item_tree (of.Message m) ≡ Left (message_tree m)
-item_message m = ap message_item_tree (sym (of.rolls-Message m)) ∙ fold-roll-MessageItem Tree Tree item_step message_step (opened.Message m) ∙ ap Left (fold_message m)
+item_message m =
+    ap message_item_tree (sym (of.rolls-Message m)) ∙ fold-roll-MessageItem Tree Tree item_step message_step (opened.Message m) ∙ ap Left (fold_message m)
 
 -- a field whose type begins with the word `map`
-named_map : (n : FullName) (d : Declarator) → n.first.text ≡ codes "map" → unlabelled_tree None n d ≡ Left (Pair (name_tree n.first) (Pair (Right (row part_tree n.rest)) (declarator_tree d)))
-named_map n d e = by_cases (bytes_eq n.first.text (codes "map")) ((bytes_eq-Decides n.first.text (codes "map")).1 e) (Left (Pair (name_tree n.first) (Pair (Right (row part_tree n.rest)) (declarator_tree d)))) (Right (Right (Pair (Right (Right (Right (full_tree n)))) (declarator_tree d))))
+named_map : (n : FullName) (d : Declarator) → n.first.text ≡ codes "map"
+    → unlabelled_tree None n d ≡ Left (Pair (name_tree n.first) (Pair (Right (row part_tree n.rest)) (declarator_tree d)))
+named_map n d e = by_cases (bytes_eq n.first.text (codes "map")) ((bytes_eq-Decides n.first.text (codes "map")).1 e)
+    (Left (Pair (name_tree n.first) (Pair (Right (row part_tree n.rest)) (declarator_tree d))))
+    (Right (Right (Pair (Right (Right (Right (full_tree n)))) (declarator_tree d))))
   where
     by_cases : (b : Bool) → b ≡ true → (x y : Tree) → cond b x y ≡ x
     by_cases true h x y = refl
     by_cases false h x y = cc
 
-pub item_named : (n : FullName) (d : Declarator) → n.first.text ≡ codes "map" → message_item_tree (of.Field (record { label = None; field_type = Named (record { dot = None; name = n }); declarator = d })) ≡ Right (Right (Right (Right (Right (Left (Pair (name_tree n.first) (Pair (Right (row part_tree n.rest)) (declarator_tree d))))))))
-item_named n d e = item_field (record { label = None; field_type = Named (record { dot = None; name = n }); declarator = d }) ∙ ap (λ x. Right (Right (Right (Right (Right x))))) (named_map n d e)
+pub item_named : (n : FullName) (d : Declarator) → n.first.text ≡ codes "map"
+    → message_item_tree (of.Field (record { label = None; field_type = Named (record { dot = None; name = n }); declarator = d }))
+    ≡ Right (Right (Right (Right (Right (Left (Pair (name_tree n.first) (Pair (Right (row part_tree n.rest)) (declarator_tree d))))))))
+item_named n d e = item_field (record { label = None; field_type = Named (record { dot = None; name = n }); declarator = d })
+    ∙ ap (λ x. Right (Right (Right (Right (Right x))))) (named_map n d e)
 
 -- and one whose type does not
-not_named : (n : FullName) (d : Declarator) → bytes_eq n.first.text (codes "map") ≡ false → unlabelled_tree None n d ≡ Right (Right (Pair (Right (Right (Right (full_tree n)))) (declarator_tree d)))
-not_named n d e = by_cases (bytes_eq n.first.text (codes "map")) e (Left (Pair (name_tree n.first) (Pair (Right (row part_tree n.rest)) (declarator_tree d)))) (Right (Right (Pair (Right (Right (Right (full_tree n)))) (declarator_tree d))))
+not_named : (n : FullName) (d : Declarator) → bytes_eq n.first.text (codes "map") ≡ false
+    → unlabelled_tree None n d ≡ Right (Right (Pair (Right (Right (Right (full_tree n)))) (declarator_tree d)))
+not_named n d e = by_cases (bytes_eq n.first.text (codes "map")) e (Left (Pair (name_tree n.first) (Pair (Right (row part_tree n.rest)) (declarator_tree d))))
+    (Right (Right (Pair (Right (Right (Right (full_tree n)))) (declarator_tree d))))
   where
     by_cases : (b : Bool) → b ≡ false → (x y : Tree) → cond b x y ≡ y
     by_cases true h x y = cc
@@ -91,12 +101,14 @@ not_among_right w (u ∷ us) vs h = not_among_right w us vs (not_or_right (bytes
 not_map : (w : List ℕ) → not (among w (scalar_words ++ (codes "map" ∷ statement_words))) ≡ true → bytes_eq w (codes "map") ≡ false
 not_map w h = not_or_left (bytes_eq w (codes "map")) (among w statement_words) (not_among_right w scalar_words (codes "map" ∷ statement_words) h)
 
-unlabelled_of : (dot : Option Span) (n : FullName) (d : Declarator) → IsTree field_head (field_head_tree None (Named (record { dot = dot; name = n }))) → unlabelled_tree dot n d ≡ Right (Right (Pair (field_head_tree None (Named (record { dot = dot; name = n }))) (declarator_tree d)))
+unlabelled_of : (dot : Option Span) (n : FullName) (d : Declarator) → IsTree field_head (field_head_tree None (Named (record { dot = dot; name = n })))
+    → unlabelled_tree dot n d ≡ Right (Right (Pair (field_head_tree None (Named (record { dot = dot; name = n }))) (declarator_tree d)))
 unfolding field_head type_but named_but
 unlabelled_of None n d (second (second (second (both (one h) i)))) = not_named n d (not_map n.first.text h)
 unlabelled_of (Some dot) n d i = refl
 
-statement_of : (l : Option Label) (t : FieldType) (d : Declarator) → IsTree field_head (field_head_tree l t) → field_statement_tree l t d ≡ Right (Right (Pair (field_head_tree l t) (declarator_tree d)))
+statement_of : (l : Option Label) (t : FieldType) (d : Declarator) → IsTree field_head (field_head_tree l t)
+    → field_statement_tree l t d ≡ Right (Right (Pair (field_head_tree l t) (declarator_tree d)))
 statement_of None (Named n) d i = unlabelled_of n.dot n.name d i
 statement_of None (Scalar s span) d i = refl
 statement_of (Some l) t d i = refl
@@ -106,5 +118,6 @@ unfolding field
 field_of f (both i j) = statement_of f.label f.field_type f.declarator i
 
 -- a field, where the rule of fields has it
-pub item_other : (f : Field) (ts us : List Spelled) → read field ts ≡ Read (field_tree f) us → message_item_tree (of.Field f) ≡ Right (Right (Right (Right (Right (Right (Right (field_tree f)))))))
+pub item_other : (f : Field) (ts us : List Spelled) → read field ts ≡ Read (field_tree f) us
+    → message_item_tree (of.Field f) ≡ Right (Right (Right (Right (Right (Right (Right (field_tree f)))))))
 item_other f ts us e = item_field f ∙ ap (λ x. Right (Right (Right (Right (Right x))))) (field_of f (read_found field ts (field_tree f) us e).0)

@@ -16,13 +16,21 @@ pub record IsLevel (m : Grammar) : Type 0 where
   pub decided : decides m ≡ true
 
 pub item_decides : (m : Grammar) → IsLevel m → decides (message_item m) ≡ true
-unfolding str parts full named_but type_but signed constant_number constant setting options option erange ereserved value range reserved declarator member oneof map_type map_or_field field_head field
+unfolding str parts full named_but type_but signed constant_number constant setting options option erange ereserved value range reserved declarator member oneof
+    map_type map_or_field field_head field
 item_decides m h = rw (h.begins_so, h.has_tokens, h.decided) refl
 
 pub level : (depth : ℕ) → IsLevel (message depth)
-unfolding str parts full named_but type_but signed constant_number constant setting options option erange ereserved value range reserved declarator member oneof map_type map_or_field field_head field message
+unfolding str parts full named_but type_but signed constant_number constant setting options option erange ereserved value range reserved declarator member oneof
+    map_type map_or_field field_head field message
 level zero = record { begins_so = refl; ends_so = refl; has_tokens = refl; decided = refl }
-level (suc depth) = let h = level depth in record { begins_so = refl; ends_so = refl; has_tokens = refl; decided = rw (h.begins_so, h.has_tokens, h.decided, h.ends_so) (refl {a = true}) }
+level (suc depth) = let h = level depth in record {
+  begins_so = refl;
+  ends_so = refl;
+  has_tokens = refl;
+  decided =
+      rw (h.begins_so, h.has_tokens, h.decided, h.ends_so) (refl {a = true});
+}
 
 pub begins_message : (depth : ℕ) → begins (message depth) ≡ OneOf (codes "message" ∷ []) ∷ []
 begins_message depth = (level depth).begins_so
@@ -36,7 +44,8 @@ unfolding parts full named_but type_but option reserved oneof map_or_field field
 item_apart m h = rw h.begins_so refl
 
 -- an item does not begin with the symbol that closes the message
-pub item_closed : (m : Grammar) → IsLevel m → (ts : List Spelled) → next_fits (Symbol (byte "}") ∷ []) ts ≡ true → next_fits (begins (message_item m)) ts ≡ false
+pub item_closed : (m : Grammar) → IsLevel m → (ts : List Spelled) → next_fits (Symbol (byte "}") ∷ []) ts ≡ true
+    → next_fits (begins (message_item m)) ts ≡ false
 item_closed m h [] e = refl
 item_closed m h (t ∷ ts) e = apart_other (begins (message_item m)) (Symbol (byte "}") ∷ []) t.lexeme (item_apart m h) e
 
@@ -49,7 +58,8 @@ unfolding option service import
 statement_not_empty m h = rw h.has_tokens refl
 
 pub file_decides : (depth : ℕ) → decides (file depth) ≡ true
-unfolding str parts full named_but type_but signed constant_number constant setting options option rpc_type rpc_body rpc service erange ereserved value import syntax file
+unfolding str parts full named_but type_but signed constant_number constant setting options option rpc_type rpc_body rpc service erange ereserved value import
+    syntax file
 file_decides depth = let h = level depth in rw (h.begins_so, h.has_tokens, h.decided, h.ends_so) (refl {a = true})
 
 pub begins_option : begins option ≡ OneOf (codes "option" ∷ []) ∷ []
@@ -69,8 +79,13 @@ unfolding map_or_field
 begins_map = refl
 
 -- behind no word of another statement, a statement is read as a field
-pub item_at_field : (m : Grammar) → IsLevel m → (ts us : List Spelled) (x : Tree) → next_fits (OneOf (codes "message" ∷ []) ∷ []) ts ≡ false → next_fits (OneOf (codes "enum" ∷ []) ∷ []) ts ≡ false → next_fits (OneOf (codes "option" ∷ []) ∷ []) ts ≡ false → next_fits (OneOf (codes "oneof" ∷ []) ∷ []) ts ≡ false → next_fits (OneOf (codes "reserved" ∷ []) ∷ []) ts ≡ false → next_fits (OneOf (codes "map" ∷ []) ∷ []) ts ≡ false → next_fits (Symbol (byte ";") ∷ []) ts ≡ false → read field ts ≡ Read x us → read (message_item m) ts ≡ Read (Right (Right (Right (Right (Right (Right (Right x))))))) us
-item_at_field m h ts us x e1 e2 e3 e4 e5 e6 e7 r = rw (h.begins_so, e1, e2, begins_option, e3, begins_oneof, e4, begins_reserved, e5, begins_map, e6, e7, r) refl
+pub item_at_field : (m : Grammar) → IsLevel m → (ts us : List Spelled) (x : Tree) → next_fits (OneOf (codes "message" ∷ []) ∷ []) ts ≡ false
+    → next_fits (OneOf (codes "enum" ∷ []) ∷ []) ts ≡ false → next_fits (OneOf (codes "option" ∷ []) ∷ []) ts ≡ false
+    → next_fits (OneOf (codes "oneof" ∷ []) ∷ []) ts ≡ false → next_fits (OneOf (codes "reserved" ∷ []) ∷ []) ts ≡ false
+    → next_fits (OneOf (codes "map" ∷ []) ∷ []) ts ≡ false → next_fits (Symbol (byte ";") ∷ []) ts ≡ false → read field ts ≡ Read x us
+    → read (message_item m) ts ≡ Read (Right (Right (Right (Right (Right (Right (Right x))))))) us
+item_at_field m h ts us x e1 e2 e3 e4 e5 e6 e7 r =
+    rw (h.begins_so, e1, e2, begins_option, e3, begins_oneof, e4, begins_reserved, e5, begins_map, e6, e7, r) refl
 
 pub begins_ereserved : begins ereserved ≡ OneOf (codes "reserved" ∷ []) ∷ []
 unfolding ereserved
@@ -89,7 +104,8 @@ unfolding service
 begins_service = refl
 
 -- what does not begin with the symbol that closes a block
-closed : (g : Grammar) → all_apart (begins g) (Symbol (byte "}") ∷ []) ≡ true → (ts : List Spelled) → next_fits (Symbol (byte "}") ∷ []) ts ≡ true → next_fits (begins g) ts ≡ false
+closed : (g : Grammar) → all_apart (begins g) (Symbol (byte "}") ∷ []) ≡ true → (ts : List Spelled) → next_fits (Symbol (byte "}") ∷ []) ts ≡ true
+    → next_fits (begins g) ts ≡ false
 closed g h [] e = refl
 closed g h (t ∷ ts) e = apart_other (begins g) (Symbol (byte "}") ∷ []) t.lexeme h e
 

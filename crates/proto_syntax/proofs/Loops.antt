@@ -19,7 +19,9 @@ shorter g x ts us h e =
     subst (λ ws. length us < length ws) (sym s.1) (not_empty_longer g (flatten x) us (tree_starts s.0) h)
 
 -- how far the counter goes doesn't matter, if it goes far enough
-same_after : (g : Grammar) (m n : ℕ) (ts : List Spelled) → (o : Outcome) → read g ts ≡ o → ((x : Tree) (us : List Spelled) → read g ts ≡ Read x us → read_many (read g) (begins g) m us ≡ read_many (read g) (begins g) n us) → after o (λ x us. mapped (Pair x) (read_many (read g) (begins g) m us)) ≡ after o (λ x us. mapped (Pair x) (read_many (read g) (begins g) n us))
+same_after : (g : Grammar) (m n : ℕ) (ts : List Spelled) → (o : Outcome) → read g ts ≡ o
+    → ((x : Tree) (us : List Spelled) → read g ts ≡ Read x us → read_many (read g) (begins g) m us ≡ read_many (read g) (begins g) n us)
+    → after o (λ x us. mapped (Pair x) (read_many (read g) (begins g) m us)) ≡ after o (λ x us. mapped (Pair x) (read_many (read g) (begins g) n us))
 same_after g m n ts (Read x us) e h = ap (mapped (Pair x)) (h x us e)
 same_after g m n ts (Stops d us) e h = refl
 
@@ -27,17 +29,21 @@ same_turn : (z : Bool) (o o' p : Outcome) → (z ≡ true → o ≡ o') → cond
 same_turn true o o' p h = h refl
 same_turn false o o' p h = refl
 
-same_many : (g : Grammar) → can_be_empty g ≡ false → (m n : ℕ) (ts : List Spelled) → length ts ≤ m → length ts ≤ n → read_many (read g) (begins g) m ts ≡ read_many (read g) (begins g) n ts
+same_many : (g : Grammar) → can_be_empty g ≡ false → (m n : ℕ) (ts : List Spelled) → length ts ≤ m → length ts ≤ n
+    → read_many (read g) (begins g) m ts ≡ read_many (read g) (begins g) n ts
 same_many g h zero zero ts i j = refl
 same_many g h zero (suc n) [] i j = refl
 same_many g h zero (suc n) (t ∷ ts) i j = absurd (omega arith)
 same_many g h (suc m) zero [] i j = refl
 same_many g h (suc m) zero (t ∷ ts) i j = absurd (omega arith)
 same_many g h (suc m) (suc n) ts i j =
-    same_turn (next_fits (begins g) ts) (after (read g ts) (λ x us. mapped (Pair x) (read_many (read g) (begins g) m us))) (after (read g ts) (λ x us. mapped (Pair x) (read_many (read g) (begins g) n us))) (Read Empty ts)
-    (λ _. same_after g m n ts (read g ts) refl (λ x us e. let k : length us < length ts = shorter g x ts us h e in same_many g h m n us (omega arith) (omega arith)))
+    same_turn (next_fits (begins g) ts) (after (read g ts) (λ x us. mapped (Pair x) (read_many (read g) (begins g) m us)))
+    (after (read g ts) (λ x us. mapped (Pair x) (read_many (read g) (begins g) n us))) (Read Empty ts)
+    (λ _. same_after g m n ts (read g ts) refl (λ x us e. let k : length us < length ts = shorter g x ts us h e in
+    same_many g h m n us (omega arith) (omega arith)))
 
-pub many_more : (g : Grammar) (x : Tree) (ts us : List Spelled) → can_be_empty g ≡ false → next_fits (begins g) ts ≡ true → read g ts ≡ Read x us → read (Many g) ts ≡ mapped (Pair x) (read (Many g) us)
+pub many_more : (g : Grammar) (x : Tree) (ts us : List Spelled) → can_be_empty g ≡ false → next_fits (begins g) ts ≡ true → read g ts ≡ Read x us
+    → read (Many g) ts ≡ mapped (Pair x) (read (Many g) us)
 many_more g x [] us h e i = cc
 many_more g x (t ∷ ts) us h e i =
     let k : length us < length (t ∷ ts) = shorter g x (t ∷ ts) us h i in
@@ -55,7 +61,8 @@ before_push : {A : Type 0} → (f : A → Tree) (xs : List A) (x : A) (t : Tree)
 before_push f [] x t = refl
 before_push f (y ∷ xs) x t = ap (Pair (f y)) (before_push f xs x t)
 
-mapped_push : {A : Type 0} → (f : A → Tree) (xs : List A) (x : A) (o : Outcome) → mapped (before f (xs ++ (x ∷ []))) o ≡ mapped (before f xs) (mapped (Pair (f x)) o)
+mapped_push : {A : Type 0} → (f : A → Tree) (xs : List A) (x : A) (o : Outcome)
+    → mapped (before f (xs ++ (x ∷ []))) o ≡ mapped (before f xs) (mapped (Pair (f x)) o)
 mapped_push f xs x (Read t us) = ap (λ z. Read z us) (before_push f xs x t)
 mapped_push f xs x (Stops d us) = refl
 
@@ -63,13 +70,16 @@ mapped_push f xs x (Stops d us) = refl
 abbrev pub Rows : {A : Type 0} → (A → Tree) → Grammar → List A → List Spelled → Outcome
 Rows f g xs ts = mapped (before f xs) (read (Many g) ts)
 
-pub rows_more : {A : Type 0} → (f : A → Tree) (g : Grammar) (xs : List A) (x : A) (ts us : List Spelled) (o : Outcome) → can_be_empty g ≡ false → next_fits (begins g) ts ≡ true → read g ts ≡ Read (f x) us → Rows f g xs ts ≡ o → Rows f g (xs ++ (x ∷ [])) us ≡ o
+pub rows_more : {A : Type 0} → (f : A → Tree) (g : Grammar) (xs : List A) (x : A) (ts us : List Spelled) (o : Outcome) → can_be_empty g ≡ false
+    → next_fits (begins g) ts ≡ true → read g ts ≡ Read (f x) us → Rows f g xs ts ≡ o → Rows f g (xs ++ (x ∷ [])) us ≡ o
 rows_more f g xs x ts us o h e i k = mapped_push f xs x (read (Many g) us) ∙ ap (mapped (before f xs)) (sym (many_more g (f x) ts us h e i)) ∙ k
 
-pub rows_stop : {A : Type 0} → (f : A → Tree) (g : Grammar) (xs : List A) (d : Bool) (ts us : List Spelled) (o : Outcome) → next_fits (begins g) ts ≡ true → read g ts ≡ Stops d us → Rows f g xs ts ≡ o → o ≡ Stops d us
+pub rows_stop : {A : Type 0} → (f : A → Tree) (g : Grammar) (xs : List A) (d : Bool) (ts us : List Spelled) (o : Outcome) → next_fits (begins g) ts ≡ true
+    → read g ts ≡ Stops d us → Rows f g xs ts ≡ o → o ≡ Stops d us
 rows_stop f g xs d ts us o e i k = sym k ∙ ap (mapped (before f xs)) (many_stops g d ts us e i)
 
-pub rows_end : {A : Type 0} → (f : A → Tree) (g : Grammar) (xs : List A) (ts : List Spelled) (o : Outcome) → next_fits (begins g) ts ≡ false → Rows f g xs ts ≡ o → o ≡ Read (before f xs Empty) ts
+pub rows_end : {A : Type 0} → (f : A → Tree) (g : Grammar) (xs : List A) (ts : List Spelled) (o : Outcome) → next_fits (begins g) ts ≡ false
+    → Rows f g xs ts ≡ o → o ≡ Read (before f xs Empty) ts
 rows_end f g xs ts o e k = sym k ∙ ap (mapped (before f xs)) (many_ends g ts e)
 
 pub rows_none : {A : Type 0} → (f : A → Tree) (g : Grammar) (ts : List Spelled) → Rows f g [] ts ≡ read (Many g) ts
@@ -81,7 +91,8 @@ rows_none f g ts = by_cases (read (Many g) ts)
 
 -- the same of the tokens of the code
 pub fewer_left : (g : Grammar) (x : Tree) (ts us : List Token) → can_be_empty g ≡ false → read g (spellings ts) ≡ Read x (spellings us) → length us < length ts
-fewer_left g x ts us h e = let k : length (spellings us) < length (spellings ts) = shorter g x (spellings ts) (spellings us) h e in omega (arith, length-map us spelled, length-map ts spelled)
+fewer_left g x ts us h e = let k : length (spellings us) < length (spellings ts) =
+    shorter g x (spellings ts) (spellings us) h e in omega (arith, length-map us spelled, length-map ts spelled)
 
 -- A token with which a part does not begin is left: by a part that can be empty, with nothing read, and by another as its fault.
 abbrev pub Passes : Grammar → List Spelled → Type 0
@@ -109,7 +120,8 @@ seq_skips a b x y ts h i = rw (h, i) refl
 seq_stops : (a b : Grammar) (d : Bool) (ts us : List Spelled) → read a ts ≡ Stops d us → read (a ⨾ b) ts ≡ Stops d us
 seq_stops a b d ts us h = rw h refl
 
-seq_stops_later : (a b : Grammar) (x : Tree) (d : Bool) (ts us vs : List Spelled) → read a ts ≡ Read x us → read b us ≡ Stops d vs → read (a ⨾ b) ts ≡ Stops d vs
+seq_stops_later : (a b : Grammar) (x : Tree) (d : Bool) (ts us vs : List Spelled) → read a ts ≡ Read x us → read b us ≡ Stops d vs
+    → read (a ⨾ b) ts ≡ Stops d vs
 seq_stops_later a b x d ts us vs h i = rw (h, i) refl
 
 right_skips : (a b : Grammar) (y : Tree) (ts : List Spelled) → next_fits (begins a) ts ≡ false → read b ts ≡ Read y ts → read (a ∣ b) ts ≡ Read (Right y) ts
@@ -122,7 +134,8 @@ and_cases : (a b : Bool) → (a && b) ≡ false → (a ≡ false) ⊎ ((a ≡ tr
 and_cases true b h = inr (refl, h)
 and_cases false b h = inl refl
 
-seq_passes : (a b : Grammar) (ts : List Spelled) → next_fits (begins a ++ cond (can_be_empty a) (begins b) []) ts ≡ false → Passes a ts → (next_fits (begins b) ts ≡ false → Passes b ts) → Passes (a ⨾ b) ts
+seq_passes : (a b : Grammar) (ts : List Spelled) → next_fits (begins a ++ cond (can_be_empty a) (begins b) []) ts ≡ false → Passes a ts
+    → (next_fits (begins b) ts ≡ false → Passes b ts) → Passes (a ⨾ b) ts
 seq_passes a b ts h p q = (
   λ e. let ea = and_left (can_be_empty a) (can_be_empty b) e in
       let eb = and_right (can_be_empty a) (can_be_empty b) e in
@@ -148,12 +161,14 @@ pub passes : (g : Grammar) → decides g ≡ true → (ts : List Spelled) → ne
 passes (One c) d ts h = (λ e. cc, λ _. one_passes c ts h)
 passes Nothing d ts h = (λ _. (Empty, refl), λ e. cc)
 passes (a ⨾ b) d ts h =
-    seq_passes a b ts h (passes a (and_left (decides a) (decides b && all_apart (goes_on a) (begins b)) d) ts (next_left (begins a) (cond (can_be_empty a) (begins b) []) ts h))
+    seq_passes a b ts h (passes a (and_left (decides a) (decides b && all_apart (goes_on a) (begins b)) d) ts
+    (next_left (begins a) (cond (can_be_empty a) (begins b) []) ts h))
     (λ k. passes b (and_left (decides b) (all_apart (goes_on a) (begins b)) (and_right (decides a) (decides b && all_apart (goes_on a) (begins b)) d)) ts k)
 passes (a ∣ b) d ts h =
     let r = and_right (decides a) (decides b && (not (can_be_empty a) && all_apart (begins a) (begins b))) d in
     let s = and_right (decides b) (not (can_be_empty a) && all_apart (begins a) (begins b)) r in
-    choice_passes a b ts (not_true (can_be_empty a) (and_left (not (can_be_empty a)) (all_apart (begins a) (begins b)) s)) (next_left (begins a) (begins b) ts h)
+    choice_passes a b ts (not_true (can_be_empty a) (and_left (not (can_be_empty a)) (all_apart (begins a) (begins b)) s))
+    (next_left (begins a) (begins b) ts h)
     (passes b (and_left (decides b) (not (can_be_empty a) && all_apart (begins a) (begins b)) r) ts (next_right (begins a) (begins b) ts h))
 passes (Many a) d ts h = (λ _. (Empty, many_ends a ts h), λ e. cc)
 passes (Beyond c) d ts h = (λ e. cc, λ _. beyond_passes c ts h)
@@ -169,30 +184,37 @@ pub closes_none : {A : Type 0} → (f : A → Tree) (g c : Grammar) (ts : List S
 closes_none f g c ts = after_ap (Rows f g [] ts) (read (Many g) ts) c (rows_none f g ts)
 
 -- a token that is read begins the part
-read_begins : (g : Grammar) (x : Tree) (ts us : List Spelled) → decides g ≡ true → can_be_empty g ≡ false → read g ts ≡ Read x us → next_fits (begins g) ts ≡ true
+read_begins : (g : Grammar) (x : Tree) (ts us : List Spelled) → decides g ≡ true → can_be_empty g ≡ false → read g ts ≡ Read x us
+    → next_fits (begins g) ts ≡ true
 read_begins g x ts us d h e = by_cases (next_fits (begins g) ts) refl
   where
     by_cases : (z : Bool) → next_fits (begins g) ts ≡ z → z ≡ true
     by_cases true i = refl
     by_cases false i = let k : read g ts ≡ Stops false ts = (passes g d ts i).1 h in cc
 
-pub closes_more : {A : Type 0} → (f : A → Tree) (g c : Grammar) (xs : List A) (x : A) (ts us : List Spelled) (o : Outcome) → decides g ≡ true → can_be_empty g ≡ false → read g ts ≡ Read (f x) us → Closes f g c xs ts ≡ o → Closes f g c (xs ++ (x ∷ [])) us ≡ o
-closes_more f g c xs x ts us o d h i k = after_ap (Rows f g (xs ++ (x ∷ [])) us) (Rows f g xs ts) c (rows_more f g xs x ts us (Rows f g xs ts) h (read_begins g (f x) ts us d h i) i refl) ∙ k
+pub closes_more : {A : Type 0} → (f : A → Tree) (g c : Grammar) (xs : List A) (x : A) (ts us : List Spelled) (o : Outcome) → decides g ≡ true
+    → can_be_empty g ≡ false → read g ts ≡ Read (f x) us → Closes f g c xs ts ≡ o → Closes f g c (xs ++ (x ∷ [])) us ≡ o
+closes_more f g c xs x ts us o d h i k =
+    after_ap (Rows f g (xs ++ (x ∷ [])) us) (Rows f g xs ts) c (rows_more f g xs x ts us (Rows f g xs ts) h (read_begins g (f x) ts us d h i) i refl) ∙ k
 
-closes_at : {A : Type 0} → (f : A → Tree) (g c : Grammar) (xs : List A) (ts : List Spelled) → next_fits (begins g) ts ≡ false → Closes f g c xs ts ≡ mapped (Pair (before f xs Empty)) (read c ts)
+closes_at : {A : Type 0} → (f : A → Tree) (g c : Grammar) (xs : List A) (ts : List Spelled) → next_fits (begins g) ts ≡ false
+    → Closes f g c xs ts ≡ mapped (Pair (before f xs Empty)) (read c ts)
 closes_at f g c xs ts e = after_ap (Rows f g xs ts) (Read (before f xs Empty) ts) c (rows_end f g xs ts (Rows f g xs ts) e refl)
 
-pub closes_stop : {A : Type 0} → (f : A → Tree) (g c : Grammar) (xs : List A) (d : Bool) (ts us : List Spelled) (o : Outcome) → decides g ≡ true → can_be_empty g ≡ false → read c ts ≡ Stops false ts → read g ts ≡ Stops d us → Closes f g c xs ts ≡ o → o ≡ Stops d us
+pub closes_stop : {A : Type 0} → (f : A → Tree) (g c : Grammar) (xs : List A) (d : Bool) (ts us : List Spelled) (o : Outcome) → decides g ≡ true
+    → can_be_empty g ≡ false → read c ts ≡ Stops false ts → read g ts ≡ Stops d us → Closes f g c xs ts ≡ o → o ≡ Stops d us
 closes_stop f g c xs d ts us o dg h j i k = by_cases (next_fits (begins g) ts) refl
   where
     by_cases : (z : Bool) → next_fits (begins g) ts ≡ z → o ≡ Stops d us
     by_cases true e = sym k ∙ after_ap (Rows f g xs ts) (Stops d us) c (rows_stop f g xs d ts us (Rows f g xs ts) e i refl)
     by_cases false e = sym k ∙ closes_at f g c xs ts e ∙ ap (mapped (Pair (before f xs Empty))) j ∙ sym ((passes g dg ts e).1 h) ∙ i
 
-pub closes_end : {A : Type 0} → (f : A → Tree) (g c : Grammar) (xs : List A) (y : Tree) (ts us : List Spelled) (o : Outcome) → next_fits (begins g) ts ≡ false → read c ts ≡ Read y us → Closes f g c xs ts ≡ o → o ≡ Read (Pair (before f xs Empty) y) us
+pub closes_end : {A : Type 0} → (f : A → Tree) (g c : Grammar) (xs : List A) (y : Tree) (ts us : List Spelled) (o : Outcome) → next_fits (begins g) ts ≡ false
+    → read c ts ≡ Read y us → Closes f g c xs ts ≡ o → o ≡ Read (Pair (before f xs Empty) y) us
 closes_end f g c xs y ts us o e i k = sym k ∙ closes_at f g c xs ts e ∙ ap (mapped (Pair (before f xs Empty))) i
 
-pub closes_ends : {A : Type 0} → (f : A → Tree) (g c : Grammar) (xs : List A) (d : Bool) (ts us : List Spelled) (o : Outcome) → next_fits (begins g) ts ≡ false → read c ts ≡ Stops d us → Closes f g c xs ts ≡ o → o ≡ Stops d us
+pub closes_ends : {A : Type 0} → (f : A → Tree) (g c : Grammar) (xs : List A) (d : Bool) (ts us : List Spelled) (o : Outcome) → next_fits (begins g) ts ≡ false
+    → read c ts ≡ Stops d us → Closes f g c xs ts ≡ o → o ≡ Stops d us
 closes_ends f g c xs d ts us o e i k = sym k ∙ closes_at f g c xs ts e ∙ ap (mapped (Pair (before f xs Empty))) i
 
 pub ended_mapped : (f : Tree → Tree) (o : Outcome) → ended (mapped f o) ≡ mapped f (ended o)
@@ -207,10 +229,12 @@ Ends f g xs ts = ended (Rows f g xs ts)
 pub ends_none : {A : Type 0} → (f : A → Tree) (g : Grammar) (ts : List Spelled) → Ends f g [] ts ≡ ended (read (Many g) ts)
 ends_none f g ts = ap ended (rows_none f g ts)
 
-pub ends_more : {A : Type 0} → (f : A → Tree) (g : Grammar) (xs : List A) (x : A) (ts us : List Spelled) (o : Outcome) → decides g ≡ true → can_be_empty g ≡ false → read g ts ≡ Read (f x) us → Ends f g xs ts ≡ o → Ends f g (xs ++ (x ∷ [])) us ≡ o
+pub ends_more : {A : Type 0} → (f : A → Tree) (g : Grammar) (xs : List A) (x : A) (ts us : List Spelled) (o : Outcome) → decides g ≡ true
+    → can_be_empty g ≡ false → read g ts ≡ Read (f x) us → Ends f g xs ts ≡ o → Ends f g (xs ++ (x ∷ [])) us ≡ o
 ends_more f g xs x ts us o d h i k = ap ended (rows_more f g xs x ts us (Rows f g xs ts) h (read_begins g (f x) ts us d h i) i refl) ∙ k
 
-pub ends_stop : {A : Type 0} → (f : A → Tree) (g : Grammar) (xs : List A) (d : Bool) (t : Spelled) (ts us : List Spelled) (o : Outcome) → decides g ≡ true → can_be_empty g ≡ false → read g (t ∷ ts) ≡ Stops d us → Ends f g xs (t ∷ ts) ≡ o → o ≡ Stops d us
+pub ends_stop : {A : Type 0} → (f : A → Tree) (g : Grammar) (xs : List A) (d : Bool) (t : Spelled) (ts us : List Spelled) (o : Outcome) → decides g ≡ true
+    → can_be_empty g ≡ false → read g (t ∷ ts) ≡ Stops d us → Ends f g xs (t ∷ ts) ≡ o → o ≡ Stops d us
 ends_stop f g xs d t ts us o dg h i k = by_cases (next_fits (begins g) (t ∷ ts)) refl
   where
     by_cases : (z : Bool) → next_fits (begins g) (t ∷ ts) ≡ z → o ≡ Stops d us

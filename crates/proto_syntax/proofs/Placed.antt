@@ -12,14 +12,17 @@ use Rattle.proto_syntax.specs.Trees.{file_tree}
 use Rattle.proto_syntax.specs.declared.error.ParseError.{ParseError}
 use Rattle.proto_syntax.specs.declared.error.ParseError.TheVariants.{NoMemory, At}
 
-start_within : (n : ℕ) (tokens : List Token) (end : Place) (k : ℕ) → ((j : ℕ) (d : Token) → j < length tokens → (get_or tokens j d).span.start.offset ≤ n) → end.offset ≤ n
+start_within : (n : ℕ) (tokens : List Token) (end : Place) (k : ℕ) → ((j : ℕ) (d : Token) → j < length tokens → (get_or tokens j d).span.start.offset ≤ n)
+    → end.offset ≤ n
     → (unwrap_or (option_map (λ (t : Token). t.span.start) (slice_get tokens k)) end).offset ≤ n
 start_within n [] end zero begin last = last
 start_within n [] end (suc k) begin last = last
 start_within n (t ∷ tokens) end zero begin last = begin 0 t (omega arith)
 start_within n (t ∷ tokens) end (suc k) begin last = start_within n tokens end k (λ j d h. begin (suc j) d (omega (arith, h))) last
 
-pub fault_within : (n depth : ℕ) (tokens : Tokens) (r : Result FileTree ParseError) → LieWithin n tokens → MatchResult r (λ file. IsTreeOf depth (tokens_of tokens) (file_tree file)) (IsFaultOf depth tokens) → IfErr r (IsPlacedWithin n)
+pub fault_within : (n depth : ℕ) (tokens : Tokens) (r : Result FileTree ParseError) → LieWithin n tokens
+    → MatchResult r (λ file. IsTreeOf depth (tokens_of tokens) (file_tree file)) (IsFaultOf depth tokens) → IfErr r (IsPlacedWithin n)
 fault_within n depth tokens (Ok file) within answer = tt
 fault_within n depth tokens (Err NoMemory) within answer = tt
-fault_within n depth tokens (Err (At place kind)) within (k, fault, is_kind, at) = subst (λ (p : Place). p.offset ≤ n) (sym at) (start_within n tokens.items.items tokens.end k within.begin within.end)
+fault_within n depth tokens (Err (At place kind)) within (k, fault, is_kind, at) =
+    subst (λ (p : Place). p.offset ≤ n) (sym at) (start_within n tokens.items.items tokens.end k within.begin within.end)

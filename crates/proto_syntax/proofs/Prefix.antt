@@ -36,17 +36,22 @@ one_prefix c t h [] b e = empty
 one_prefix c t h (u ∷ []) b e = let p : t ≡ u = cc in subst (λ z. IsFront (One c) (z ∷ [])) p (token h)
 one_prefix c t h (u ∷ v ∷ a) b e = cc
 
-past_prefix : (g h : Grammar) → Closed g → Closed h → (x : Tree) (us : List Spelled) → IsTree g x → IsFront h us → (a b : List Spelled) → Cuts (flatten x) us a b → IsFront (g ⨾ h) a
+past_prefix : (g h : Grammar) → Closed g → Closed h → (x : Tree) (us : List Spelled) → IsTree g x → IsFront h us → (a b : List Spelled)
+    → Cuts (flatten x) us a b → IsFront (g ⨾ h) a
 past_prefix g h p q x us ix f a b (inl (c, e)) = within (p (flatten x) (tree_front ix) a c e)
 past_prefix g h p q x us ix f a b (inr (c, e, k)) = past ix (q us f c b k) e
 
-more_prefix : (g : Grammar) → Closed g → (x y : Tree) → IsTree g x → (us : List Spelled) (a b : List Spelled) → ((c d : List Spelled) → flatten y ++ us ≡ c ++ d → IsFront (Many g) c) → Cuts (flatten x) (flatten y ++ us) a b → IsFront (Many g) a
+more_prefix : (g : Grammar) → Closed g → (x y : Tree) → IsTree g x → (us : List Spelled) (a b : List Spelled)
+    → ((c d : List Spelled) → flatten y ++ us ≡ c ++ d → IsFront (Many g) c) → Cuts (flatten x) (flatten y ++ us) a b → IsFront (Many g) a
 more_prefix g p x y ix us a b h (inl (c, k)) = items none (p (flatten x) (tree_front ix) a c k) refl
 more_prefix g p x y ix us a b h (inr (c, k, l)) = subst (IsFront (Many g)) (sym k) (item_then g x c ix (h c b l))
 
-items_prefix : (g : Grammar) → Closed g → (x : Tree) → IsTree (Many g) x → (us : List Spelled) → IsFront g us → (a b : List Spelled) → flatten x ++ us ≡ a ++ b → IsFront (Many g) a
+items_prefix : (g : Grammar) → Closed g → (x : Tree) → IsTree (Many g) x → (us : List Spelled) → IsFront g us → (a b : List Spelled) → flatten x ++ us ≡ a ++ b
+    → IsFront (Many g) a
 items_prefix g p _ none us f a b e = items none (p us f a b e) refl
-items_prefix g p _ (more {x = x} {y = y} ix iy) us f a b e = more_prefix g p x y ix us a b (λ c d. items_prefix g p y iy us f c d) (cuts (flatten x) (flatten y ++ us) a b (sym (append_assoc (flatten x) (flatten y) us) ∙ e))
+items_prefix g p _ (more {x = x} {y = y} ix iy) us f a b e =
+    more_prefix g p x y ix us a b (λ c d. items_prefix g p y iy us f c d)
+    (cuts (flatten x) (flatten y ++ us) a b (sym (append_assoc (flatten x) (flatten y) us) ∙ e))
 
 pub closed : (g : Grammar) → Closed g
 closed g _ empty a b e = empty_prefix g a b e

@@ -32,15 +32,18 @@ as_field (Left (Pair w (Pair (Right r) d))) = Pair (Right (Right (Right (Pair w 
 as_field (Right (Right t)) = t
 as_field t = t
 
-as_field_statement : (l : Option Label) (t : FieldType) (d : Declarator) → as_field (field_statement_tree l t d) ≡ Pair (field_head_tree l t) (declarator_tree d)
+as_field_statement : (l : Option Label) (t : FieldType) (d : Declarator)
+    → as_field (field_statement_tree l t d) ≡ Pair (field_head_tree l t) (declarator_tree d)
 unfolding as_field
 as_field_statement None (Named n) d = unlabelled n.dot n.name
   where
-    by_cases : (b : Bool) (w r : Tree) → as_field (cond b (Left (Pair w (Pair (Right r) (declarator_tree d)))) (Right (Right (Pair (Right (Right (Right (Pair w r)))) (declarator_tree d))))) ≡ Pair (Right (Right (Right (Pair w r)))) (declarator_tree d)
+    by_cases : (b : Bool) (w r : Tree) → as_field (cond b (Left (Pair w (Pair (Right r) (declarator_tree d))))
+        (Right (Right (Pair (Right (Right (Right (Pair w r)))) (declarator_tree d))))) ≡ Pair (Right (Right (Right (Pair w r)))) (declarator_tree d)
     by_cases true w r = refl
     by_cases false w r = refl
 
-    unlabelled : (dot : Option Span) (m : FullName) → as_field (unlabelled_tree dot m d) ≡ Pair (field_head_tree None (Named (record { dot = dot; name = m }))) (declarator_tree d)
+    unlabelled : (dot : Option Span) (m : FullName) → as_field (unlabelled_tree dot m d)
+        ≡ Pair (field_head_tree None (Named (record { dot = dot; name = m }))) (declarator_tree d)
     unlabelled None m = by_cases (bytes_eq m.first.text (codes "map")) (name_tree m.first) (row part_tree m.rest)
     unlabelled (Some dot) m = refl
 as_field_statement None (Scalar s span) d = refl
@@ -56,7 +59,9 @@ same_field_head (Some l) None t u e = cc
 
 same_field : (x y : Field) → field_statement_tree x.label x.field_type x.declarator ≡ field_statement_tree y.label y.field_type y.declarator → x ≡ y
 same_field x y e =
-    let p : Pair (field_head_tree x.label x.field_type) (declarator_tree x.declarator) ≡ Pair (field_head_tree y.label y.field_type) (declarator_tree y.declarator) = sym (as_field_statement x.label x.field_type x.declarator) ∙ ap as_field e ∙ as_field_statement y.label y.field_type y.declarator in
+    let p : Pair (field_head_tree x.label x.field_type) (declarator_tree x.declarator)
+    ≡ Pair (field_head_tree y.label y.field_type) (declarator_tree y.declarator) =
+    sym (as_field_statement x.label x.field_type x.declarator) ∙ ap as_field e ∙ as_field_statement y.label y.field_type y.declarator in
     let head = same_field_head x.label y.label x.field_type y.field_type (left_same p) in
     let label_same : x.label ≡ y.label = head.0 in
     let type_same : x.field_type ≡ y.field_type = head.1 in
@@ -66,11 +71,13 @@ same_field x y e =
 -- a field is no map and no empty statement
 field_no_map : (f : Field) (m : MapField) → field_statement_tree f.label f.field_type f.declarator ≡ Left (map_tree m) → ⊥
 unfolding as_field
-field_no_map f m e = let p : Pair (field_head_tree f.label f.field_type) (declarator_tree f.declarator) ≡ Left (map_tree m) = sym (as_field_statement f.label f.field_type f.declarator) ∙ ap as_field e in cc
+field_no_map f m e = let p : Pair (field_head_tree f.label f.field_type) (declarator_tree f.declarator) ≡ Left (map_tree m) =
+    sym (as_field_statement f.label f.field_type f.declarator) ∙ ap as_field e in cc
 
 field_not_empty : (f : Field) (s : Span) → field_statement_tree f.label f.field_type f.declarator ≡ Right (Left (symbol_tree (byte ";") s)) → ⊥
 unfolding as_field
-field_not_empty f s e = let p : Pair (field_head_tree f.label f.field_type) (declarator_tree f.declarator) ≡ Right (Left (symbol_tree (byte ";") s)) = sym (as_field_statement f.label f.field_type f.declarator) ∙ ap as_field e in cc
+field_not_empty f s e = let p : Pair (field_head_tree f.label f.field_type) (declarator_tree f.declarator) ≡ Right (Left (symbol_tree (byte ";") s)) =
+    sym (as_field_statement f.label f.field_type f.declarator) ∙ ap as_field e in cc
 
 -- The statements of a message: by induction, from the statements of the messages in it.
 abbrev ItemSame : MessageItem → Type 0
@@ -121,10 +128,12 @@ same_layer x y h e = cc
 
 item_same : (x : MessageItem-F MessageItem Message) → LayerSame x → ItemSame (roll-MessageItem x)
 item_same x h j e =
-    ap roll-MessageItem (same_layer x (out-MessageItem j) h (sym (layer x) ∙ e ∙ ap message_item_tree (sym (roll-out-MessageItem j)) ∙ layer (out-MessageItem j)))
+    ap roll-MessageItem (same_layer x (out-MessageItem j) h
+    (sym (layer x) ∙ e ∙ ap message_item_tree (sym (roll-out-MessageItem j)) ∙ layer (out-MessageItem j)))
     ∙ roll-out-MessageItem j
 
-same_items : (xs : List ((i : MessageItem) × ItemSame i)) (ys : List MessageItem) → row message_item_tree (map (λ e. e.0) xs) ≡ row message_item_tree ys → map (λ e. e.0) xs ≡ ys
+same_items : (xs : List ((i : MessageItem) × ItemSame i)) (ys : List MessageItem) → row message_item_tree (map (λ e. e.0) xs) ≡ row message_item_tree ys
+    → map (λ e. e.0) xs ≡ ys
 same_items [] [] e = refl
 same_items [] (y ∷ ys) e = cc
 same_items (x ∷ xs) [] e = cc
@@ -133,7 +142,8 @@ same_items (x ∷ xs) (y ∷ ys) e =
     let rest_same : map (λ e. e.0) xs ≡ ys = same_items xs ys (right_same e) in
     λ i. first_same i ∷ rest_same i
 
-message_same : (k : Span) (n : Identifier) (o : Span) (xs : List ((i : MessageItem) × ItemSame i)) (c : Span) → MessageSame (record { keyword = k; name = n; open_brace = o; items = map (λ e. e.0) xs; close_brace = c })
+message_same : (k : Span) (n : Identifier) (o : Span) (xs : List ((i : MessageItem) × ItemSame i)) (c : Span)
+    → MessageSame (record { keyword = k; name = n; open_brace = o; items = map (λ e. e.0) xs; close_brace = c })
 message_same k n o xs c m e =
     let keyword_same : k ≡ m.keyword = same_span k m.keyword (left_same e) in
     let name_same : n ≡ m.name = same_name n m.name (left_same (right_same e)) in
@@ -142,7 +152,9 @@ message_same k n o xs c m e =
     let close_same : c ≡ m.close_brace = same_span c m.close_brace (right_same (right_same (right_same (right_same e)))) in
     λ i. record { keyword = keyword_same i; name = name_same i; open_brace = open_same i; items = items_same i; close_brace = close_same i }
 
-same_item_step : (x : MessageItem-F MessageItem Message) (y : MessageItem-F ((i : MessageItem) × ItemSame i) ((m : Message) × MessageSame m)) → map-MessageItem ((i : MessageItem) × ItemSame i) ((m : Message) × MessageSame m) MessageItem Message (λ e. e.0) (λ e. e.0) y ≡ x → ItemSame (roll-MessageItem x)
+same_item_step : (x : MessageItem-F MessageItem Message) (y : MessageItem-F ((i : MessageItem) × ItemSame i) ((m : Message) × MessageSame m))
+    → map-MessageItem ((i : MessageItem) × ItemSame i) ((m : Message) × MessageSame m) MessageItem Message (λ e. e.0) (λ e. e.0) y ≡ x
+    → ItemSame (roll-MessageItem x)
 same_item_step x (opened.Message m) e = subst (λ z. ItemSame (roll-MessageItem z)) e (item_same (opened.Message m.0) m.1)
 same_item_step x (opened.Enum a) e = subst (λ z. ItemSame (roll-MessageItem z)) e (item_same (opened.Enum a) tt)
 same_item_step x (opened.Option a) e = subst (λ z. ItemSame (roll-MessageItem z)) e (item_same (opened.Option a) tt)
@@ -152,7 +164,9 @@ same_item_step x (opened.Map a) e = subst (λ z. ItemSame (roll-MessageItem z)) 
 same_item_step x (opened.Empty a) e = subst (λ z. ItemSame (roll-MessageItem z)) e (item_same (opened.Empty a) tt)
 same_item_step x (opened.Field a) e = subst (λ z. ItemSame (roll-MessageItem z)) e (item_same (opened.Field a) tt)
 
-same_message_step : (x : Message-F MessageItem Message) (y : Message-F ((i : MessageItem) × ItemSame i) ((m : Message) × MessageSame m)) → map-Message ((i : MessageItem) × ItemSame i) ((m : Message) × MessageSame m) MessageItem Message (λ e. e.0) (λ e. e.0) y ≡ x → MessageSame (roll-Message x)
+same_message_step : (x : Message-F MessageItem Message) (y : Message-F ((i : MessageItem) × ItemSame i) ((m : Message) × MessageSame m))
+    → map-Message ((i : MessageItem) × ItemSame i) ((m : Message) × MessageSame m) MessageItem Message (λ e. e.0) (λ e. e.0) y ≡ x
+    → MessageSame (roll-Message x)
 same_message_step x y e = subst (λ z. MessageSame (roll-Message z)) e (message_same y.keyword y.name y.open_brace y.items y.close_brace)
 
 same_message : (m : Message) → MessageSame m
@@ -187,8 +201,10 @@ same_statement (statement.Package a) (statement.Package b) e = ap statement.Pack
 same_statement (statement.Option a) (statement.Option b) e = ap statement.Option (same_option a b (left_of (right_of (right_of e))))
 same_statement (statement.Message a) (statement.Message b) e = ap statement.Message (same_message a b (left_of (right_of (right_of (right_of e)))))
 same_statement (statement.Enum a) (statement.Enum b) e = ap statement.Enum (same_enum a b (left_of (right_of (right_of (right_of (right_of e))))))
-same_statement (statement.Service a) (statement.Service b) e = ap statement.Service (same_service a b (left_of (right_of (right_of (right_of (right_of (right_of e)))))))
-same_statement (statement.Empty a) (statement.Empty b) e = ap statement.Empty (same_span a b (right_of (right_of (right_of (right_of (right_of (right_of e)))))))
+same_statement (statement.Service a) (statement.Service b) e =
+    ap statement.Service (same_service a b (left_of (right_of (right_of (right_of (right_of (right_of e)))))))
+same_statement (statement.Empty a) (statement.Empty b) e =
+    ap statement.Empty (same_span a b (right_of (right_of (right_of (right_of (right_of (right_of e)))))))
 same_statement x y e = cc
 
 pub same_file : (x y : FileTree) → file_tree x ≡ file_tree y → x ≡ y

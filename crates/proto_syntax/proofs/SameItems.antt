@@ -167,8 +167,10 @@ same_range f h x y e =
     let end_same : x.end ≡ y.end = same_optional (range_end_tree f) (same_range_end f h) x.end y.end (right_same e) in
     λ i. record { start = start_same i; end = end_same i }
 
-pub same_reserved_items : {N : Type 0} (f : N → Tree) (h : (x y : N) → f x ≡ f y → x ≡ y) (x y : ReservedItems N) → reserved_items_tree f x ≡ reserved_items_tree f y → x ≡ y
-same_reserved_items f h (reserved_items.Ranges a) (reserved_items.Ranges b) e = ap reserved_items.Ranges (same_separated (range_tree f) (same_range f h) a b (left_of e))
+pub same_reserved_items : {N : Type 0} (f : N → Tree) (h : (x y : N) → f x ≡ f y → x ≡ y) (x y : ReservedItems N)
+    → reserved_items_tree f x ≡ reserved_items_tree f y → x ≡ y
+same_reserved_items f h (reserved_items.Ranges a) (reserved_items.Ranges b) e =
+    ap reserved_items.Ranges (same_separated (range_tree f) (same_range f h) a b (left_of e))
 same_reserved_items f h (reserved_items.Names a) (reserved_items.Names b) e = ap reserved_items.Names (same_separated str_tree same_str a b (right_of e))
 same_reserved_items f h x y e = cc
 
@@ -184,7 +186,8 @@ same_value x y e =
     let name_same : x.name ≡ y.name = same_name x.name y.name (left_same e) in
     let equals_same : x.equals ≡ y.equals = same_span x.equals y.equals (left_same (right_same e)) in
     let number_same : x.number ≡ y.number = same_signed x.number y.number (left_same (right_same (right_same e))) in
-    let options_same : x.options ≡ y.options = same_optional options_tree same_options x.options y.options (left_same (right_same (right_same (right_same e)))) in
+    let options_same : x.options ≡ y.options =
+    same_optional options_tree same_options x.options y.options (left_same (right_same (right_same (right_same e)))) in
     let semicolon_same : x.semicolon ≡ y.semicolon = same_span x.semicolon y.semicolon (right_same (right_same (right_same (right_same e)))) in
     λ i. record { name = name_same i; equals = equals_same i; number = number_same i; options = options_same i; semicolon = semicolon_same i }
 
@@ -209,7 +212,8 @@ same_declarator x y e =
     let name_same : x.name ≡ y.name = same_name x.name y.name (left_same e) in
     let equals_same : x.equals ≡ y.equals = same_span x.equals y.equals (left_same (right_same e)) in
     let number_same : x.number ≡ y.number = same_number x.number y.number (left_same (right_same (right_same e))) in
-    let options_same : x.options ≡ y.options = same_optional options_tree same_options x.options y.options (left_same (right_same (right_same (right_same e)))) in
+    let options_same : x.options ≡ y.options =
+    same_optional options_tree same_options x.options y.options (left_same (right_same (right_same (right_same e)))) in
     let semicolon_same : x.semicolon ≡ y.semicolon = same_span x.semicolon y.semicolon (right_same (right_same (right_same (right_same e)))) in
     λ i. record { name = name_same i; equals = equals_same i; number = number_same i; options = options_same i; semicolon = semicolon_same i }
 
@@ -243,7 +247,15 @@ same_map_type x y e =
     let comma_same : x.comma ≡ y.comma = same_span x.comma y.comma (left_same (right_same (right_same e))) in
     let value_same : x.value ≡ y.value = same_type x.value y.value (left_same (right_same (right_same (right_same e)))) in
     let close_same : x.close_angle ≡ y.close_angle = same_span x.close_angle y.close_angle (right_same (right_same (right_same (right_same e)))) in
-    λ i. record { open_angle = open_same i; key = key_same i; key_span = key_span_same i; comma = comma_same i; value = value_same i; close_angle = close_same i }
+    λ i. record {
+      open_angle = open_same i;
+      key = key_same i;
+      key_span = key_span_same i;
+      comma = comma_same i;
+      value = value_same i;
+      close_angle =
+          close_same i;
+    }
 
 pub same_map : (x y : MapField) → map_tree x ≡ map_tree y → x ≡ y
 same_map x y e =

@@ -9,15 +9,18 @@ abbrev pub Sound : Grammar → List Spelled → Outcome → Type 0
 Sound g ts (Read x us) = IsTree g x × (ts ≡ flatten x ++ us)
 Sound g ts (Stops d us) = (fs : List Spelled) × (ts ≡ fs ++ us) × IsFront g fs
 
-one_sound : (c : Class) (t : Spelled) (ts : List Spelled) (b : Bool) → fits c t.lexeme ≡ b → Sound (One c) (t ∷ ts) (cond b (Read (Leaf t) ts) (Stops false (t ∷ ts)))
+one_sound : (c : Class) (t : Spelled) (ts : List Spelled) (b : Bool) → fits c t.lexeme ≡ b
+    → Sound (One c) (t ∷ ts) (cond b (Read (Leaf t) ts) (Stops false (t ∷ ts)))
 one_sound c t ts true e = (one e, refl)
 one_sound c t ts false e = ([], refl, empty)
 
-second_sound : (a b : Grammar) (x : Tree) (ts us : List Spelled) → IsTree a x → ts ≡ flatten x ++ us → (o : Outcome) → Sound b us o → Sound (a ⨾ b) ts (mapped (Pair x) o)
+second_sound : (a b : Grammar) (x : Tree) (ts us : List Spelled) → IsTree a x → ts ≡ flatten x ++ us → (o : Outcome) → Sound b us o
+    → Sound (a ⨾ b) ts (mapped (Pair x) o)
 second_sound a b x ts us ix e (Read y vs) (iy, e') = (both ix iy, rw (e, e') (sym (append_assoc (flatten x) (flatten y) vs)))
 second_sound a b x ts us ix e (Stops d vs) (fs, e', f) = (flatten x ++ fs, rw (e, e') (sym (append_assoc (flatten x) fs vs)), past ix f refl)
 
-seq_sound : (a b : Grammar) (ts : List Spelled) (o : Outcome) → Sound a ts o → ((us : List Spelled) → Sound b us (read b us)) → Sound (a ⨾ b) ts (after o (λ x us. mapped (Pair x) (read b us)))
+seq_sound : (a b : Grammar) (ts : List Spelled) (o : Outcome) → Sound a ts o → ((us : List Spelled) → Sound b us (read b us))
+    → Sound (a ⨾ b) ts (after o (λ x us. mapped (Pair x) (read b us)))
 seq_sound a b ts (Read x us) (ix, e) h = second_sound a b x ts us ix e (read b us) (h us)
 seq_sound a b ts (Stops d us) (fs, e, f) h = (fs, e, within f)
 
@@ -29,7 +32,8 @@ right_sound : (a b : Grammar) (ts : List Spelled) (o : Outcome) → Sound b ts o
 right_sound a b ts (Read x us) (ix, e) = (second ix, e)
 right_sound a b ts (Stops d us) (fs, e, f) = (fs, e, of_second f)
 
-choice_sound : (a b : Grammar) (ts : List Spelled) (z : Bool) → Sound a ts (read a ts) → Sound b ts (read b ts) → Sound (a ∣ b) ts (cond z (mapped Left (read a ts)) (mapped Right (read b ts)))
+choice_sound : (a b : Grammar) (ts : List Spelled) (z : Bool) → Sound a ts (read a ts) → Sound b ts (read b ts)
+    → Sound (a ∣ b) ts (cond z (mapped Left (read a ts)) (mapped Right (read b ts)))
 choice_sound a b ts true ha hb = left_sound a b ts (read a ts) ha
 choice_sound a b ts false ha hb = right_sound a b ts (read b ts) hb
 
@@ -37,11 +41,13 @@ after_item : (a : Grammar) (x : Tree) (fs : List Spelled) → IsTree a x → IsF
 after_item a x fs ix empty = items (more ix none) empty (sym (append-nil (flatten x ++ [])))
 after_item a x fs ix (items {x = y} {us = ws} iy f' q) = items (more ix iy) f' (rw q (sym (append_assoc (flatten x) (flatten y) ws)))
 
-rest_sound : (a : Grammar) (x : Tree) (ts us : List Spelled) → IsTree a x → ts ≡ flatten x ++ us → (o : Outcome) → Sound (Many a) us o → Sound (Many a) ts (mapped (Pair x) o)
+rest_sound : (a : Grammar) (x : Tree) (ts us : List Spelled) → IsTree a x → ts ≡ flatten x ++ us → (o : Outcome) → Sound (Many a) us o
+    → Sound (Many a) ts (mapped (Pair x) o)
 rest_sound a x ts us ix e (Read y vs) (iy, e') = (more ix iy, rw (e, e') (sym (append_assoc (flatten x) (flatten y) vs)))
 rest_sound a x ts us ix e (Stops d vs) (fs, e', f) = (flatten x ++ fs, rw (e, e') (sym (append_assoc (flatten x) fs vs)), after_item a x fs ix f)
 
-item_sound : (a : Grammar) (ts : List Spelled) (o : Outcome) → Sound a ts o → (next : List Spelled → Outcome) → ((us : List Spelled) → Sound (Many a) us (next us)) → Sound (Many a) ts (after o (λ x us. mapped (Pair x) (next us)))
+item_sound : (a : Grammar) (ts : List Spelled) (o : Outcome) → Sound a ts o → (next : List Spelled → Outcome)
+    → ((us : List Spelled) → Sound (Many a) us (next us)) → Sound (Many a) ts (after o (λ x us. mapped (Pair x) (next us)))
 item_sound a ts (Read x us) (ix, e) next h = rest_sound a x ts us ix e (next us) (h us)
 item_sound a ts (Stops d us) (fs, e, f) next h = (fs, e, items none f refl)
 
@@ -49,9 +55,11 @@ turn_sound : (a : Grammar) (ts : List Spelled) (z : Bool) (o : Outcome) → Soun
 turn_sound a ts true o h = h
 turn_sound a ts false o h = (none, refl)
 
-pub many_sound : (a : Grammar) (h : (ts : List Spelled) → Sound a ts (read a ts)) (n : ℕ) (ts : List Spelled) → Sound (Many a) ts (read_many (read a) (begins a) n ts)
+pub many_sound : (a : Grammar) (h : (ts : List Spelled) → Sound a ts (read a ts)) (n : ℕ) (ts : List Spelled)
+    → Sound (Many a) ts (read_many (read a) (begins a) n ts)
 many_sound a h zero ts = (none, refl)
-many_sound a h (suc n) ts = turn_sound a ts (next_fits (begins a) ts) (after (read a ts) (λ x us. mapped (Pair x) (read_many (read a) (begins a) n us))) (item_sound a ts (read a ts) (h ts) (read_many (read a) (begins a) n) (many_sound a h n))
+many_sound a h (suc n) ts = turn_sound a ts (next_fits (begins a) ts) (after (read a ts) (λ x us. mapped (Pair x) (read_many (read a) (begins a) n us)))
+    (item_sound a ts (read a ts) (h ts) (read_many (read a) (begins a) n) (many_sound a h n))
 
 pub sound : (g : Grammar) (ts : List Spelled) → Sound g ts (read g ts)
 sound (One c) [] = ([], refl, empty)

@@ -25,13 +25,17 @@ one_kind ts k _ _ (other {t = t} f g) (at_end e) = let l : k < length ts = slice
 one_kind ts k _ _ (other f g) (too_deep l h) = absurd (g h)
 one_kind ts k _ _ (other {t = t} e g) (other {t = u} f h) = let p : t ≡ u = cc in ap (kind_of (token_before ts k)) p
 
-pub of_every_tree : (limit : ℕ) (tokens : Tokens) (result : Result FileTree ParseError) → MatchResult result (λ file. IsTreeOf limit (tokens_of tokens) (file_tree file)) (IsFaultOf limit tokens) → (x : Tree) → IsTreeOf limit (tokens_of tokens) x
+pub of_every_tree : (limit : ℕ) (tokens : Tokens) (result : Result FileTree ParseError)
+    → MatchResult result (λ file. IsTreeOf limit (tokens_of tokens) (file_tree file)) (IsFaultOf limit tokens) → (x : Tree)
+    → IsTreeOf limit (tokens_of tokens) x
     → MatchResult result (λ file. file_tree file ≡ x) (λ e. e ≡ NoMemory)
 of_every_tree limit tokens (Ok file) right x is = only_tree limit (tokens_of tokens) (file_tree file) x right is
 of_every_tree limit tokens (Err (At place kind)) (k, fault, is_kind, at) x is = absurd (fault.no_file x is)
 of_every_tree limit tokens (Err NoMemory) right x is = refl
 
-pub of_every_fault : (limit : ℕ) (tokens : Tokens) (result : Result FileTree ParseError) → MatchResult result (λ file. IsTreeOf limit (tokens_of tokens) (file_tree file)) (IsFaultOf limit tokens) → (k : ℕ) (kind : Kind) → IsFaultAt limit (tokens_of tokens) k → IsKindOf (tokens_of tokens) k kind
+pub of_every_fault : (limit : ℕ) (tokens : Tokens) (result : Result FileTree ParseError)
+    → MatchResult result (λ file. IsTreeOf limit (tokens_of tokens) (file_tree file)) (IsFaultOf limit tokens) → (k : ℕ) (kind : Kind)
+    → IsFaultAt limit (tokens_of tokens) k → IsKindOf (tokens_of tokens) k kind
     → IsErrAnd result (TellsFault tokens k kind)
 of_every_fault limit tokens (Ok file) right k kind fault is_kind = fault.no_file (file_tree file) right
 of_every_fault limit tokens (Err (At place there)) (j, fault', is_kind', at) k kind fault is_kind =

@@ -35,7 +35,8 @@ token_before ts k = if k == 0 then None else slice_get ts (k - 1)
 
 -- a token behind which `(` begins the name of a custom option
 abbrev pub is_before_option_name : Lexeme → Bool
-is_before_option_name w = fits (OneOf (codes "option" ∷ [])) w || (fits (Symbol (byte "[")) w || fits (Symbol (byte ",")) w)
+is_before_option_name w =
+    fits (OneOf (codes "option" ∷ [])) w || (fits (Symbol (byte "[")) w || fits (Symbol (byte ",")) w)
 
 abbrev pub opens_custom_option : Option Spelled → Spelled → Bool
 opens_custom_option None t = false
@@ -47,14 +48,16 @@ left_out_words = codes "extend" ∷ codes "extensions" ∷ codes "required" ∷ 
 
 -- the kind of a fault at this token, where it is not the depth
 abbrev pub kind_of : Option Spelled → Spelled → Kind
-kind_of before t = cond (opens_custom_option before t) CustomOption (cond (fits (OneOf left_out_words) t.lexeme) LeftOut Unexpected)
+kind_of before t =
+    cond (opens_custom_option before t) CustomOption (cond (fits (OneOf left_out_words) t.lexeme) LeftOut Unexpected)
 
 -- The kind of the fault at token k: no token is left; without the limit of depth the grammar could go on with it; else
 -- by the token and the one before it.
 pub data IsKindOf (ts : List Spelled) (k : ℕ) : Kind → Type 0 where
   at_end : k ≡ length ts → IsKindOf ts k UnexpectedEnd
   too_deep : k < length ts → GoesDeeper ts k → IsKindOf ts k TooDeep
-  other : {t : Spelled} → slice_get ts k ≡ Some t → (GoesDeeper ts k → ⊥) → IsKindOf ts k (kind_of (token_before ts k) t)
+  other : {t : Spelled} → slice_get ts k ≡ Some t → (GoesDeeper ts k → ⊥)
+      → IsKindOf ts k (kind_of (token_before ts k) t)
 
 -- the kind that the token at k shows, where it is not the depth
 abbrev pub kind_here : Option Spelled → Option Spelled → Kind
@@ -71,7 +74,8 @@ place_at tokens k = unwrap_or (option_map (λ t. t.span.start) (slice_get tokens
 -- the error tells the fault of these tokens, unless memory ran out
 abbrev pub IsFaultOf : ℕ → Tokens → ParseError → Type 0
 IsFaultOf limit tokens NoMemory = Unit {0}
-IsFaultOf limit tokens (At place kind) = (k : ℕ) × IsFaultAt limit (tokens_of tokens) k × IsKindOf (tokens_of tokens) k kind × (place ≡ place_at tokens k)
+IsFaultOf limit tokens (At place kind) =
+    (k : ℕ) × IsFaultAt limit (tokens_of tokens) k × IsKindOf (tokens_of tokens) k kind × (place ≡ place_at tokens k)
 
 -- the error is for want of memory, or tells that fault
 abbrev pub TellsFault : Tokens → ℕ → Kind → ParseError → Type 0

@@ -74,9 +74,11 @@ pub data IsFront : Grammar → List Spelled → Type 0 where
   token : {c : Class} {t : Spelled} → fits c t.lexeme ≡ true → IsFront (One c) (t ∷ [])
   -- of a sequence, a front of its first part, or that part whole and a front of the rest
   within : {a b : Grammar} {ts : List Spelled} → IsFront a ts → IsFront (a ⨾ b) ts
-  past : {a b : Grammar} {x : Tree} {us ts : List Spelled} → IsTree a x → IsFront b us → ts ≡ flatten x ++ us → IsFront (a ⨾ b) ts
+  past : {a b : Grammar} {x : Tree} {us ts : List Spelled} → IsTree a x → IsFront b us → ts ≡ flatten x ++ us
+      → IsFront (a ⨾ b) ts
   -- of a choice, a front of one of the parts
   of_first : {a b : Grammar} {ts : List Spelled} → IsFront a ts → IsFront (a ∣ b) ts
   of_second : {a b : Grammar} {ts : List Spelled} → IsFront b ts → IsFront (a ∣ b) ts
   -- of a repetition, whole items and a front of one
-  items : {a : Grammar} {x : Tree} {us ts : List Spelled} → IsTree (Many a) x → IsFront a us → ts ≡ flatten x ++ us → IsFront (Many a) ts
+  items : {a : Grammar} {x : Tree} {us ts : List Spelled} → IsTree (Many a) x → IsFront a us → ts ≡ flatten x ++ us
+      → IsFront (Many a) ts

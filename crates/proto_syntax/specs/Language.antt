@@ -39,8 +39,10 @@ list_of item = item ⨾ Many (next_of item)
 --          fixed32 fixed64 sfixed32 sfixed64 bool string bytes
 abbrev pub scalar_words : List (List ℕ)
 scalar_words =
-    codes "double" ∷ codes "float" ∷ codes "int32" ∷ codes "int64" ∷ codes "uint32" ∷ codes "uint64" ∷ codes "sint32" ∷ codes "sint64"
-    ∷ codes "fixed32" ∷ codes "fixed64" ∷ codes "sfixed32" ∷ codes "sfixed64" ∷ codes "bool" ∷ codes "string" ∷ codes "bytes" ∷ []
+    codes "double" ∷ codes "float" ∷ codes "int32" ∷ codes "int64" ∷ codes "uint32" ∷ codes "uint64" ∷ codes "sint32"
+    ∷ codes "sint64"
+    ∷ codes "fixed32" ∷ codes "fixed64" ∷ codes "sfixed32" ∷ codes "sfixed64" ∷ codes "bool" ∷ codes "string"
+    ∷ codes "bytes" ∷ []
 
 abbrev pub scalar : Grammar
 scalar = One (OneOf scalar_words)
@@ -85,7 +87,8 @@ type_but ws = scalar ∣ named_but ws
 -- A statement of a message or a oneof that begins with one of these words does not begin with a type.
 abbrev pub statement_words : List (List ℕ)
 statement_words =
-    codes "message" ∷ codes "enum" ∷ codes "option" ∷ codes "oneof" ∷ codes "reserved" ∷ codes "extend" ∷ codes "extensions"
+    codes "message" ∷ codes "enum" ∷ codes "option" ∷ codes "oneof" ∷ codes "reserved" ∷ codes "extend"
+    ∷ codes "extensions"
     ∷ codes "optional" ∷ codes "repeated" ∷ codes "required" ∷ codes "group" ∷ []
 
 -- signed = [ "-" ] number
@@ -211,7 +214,8 @@ field = field_head ⨾ declarator
 -- message = "message" ident "{" { field | map | oneof | option | message | enum
 --                                 | reserved | ";" } "}"
 --
--- A message may hold messages down to the limit of depth: `message d` is one of at most d levels, and none has no level.
+-- A message may hold messages down to the limit of depth: `message d` is one of at most d levels, and none has no
+-- level.
 abbrev pub message_item : Grammar → Grammar
 message_item inner = inner ∣ enum ∣ option ∣ oneof ∣ reserved ∣ map_or_field ∣ symbol ";" ∣ field
 

@@ -51,7 +51,8 @@ read_beyond c (t ∷ ts) = Stops (fits c t.lexeme) (t ∷ ts)
 
 abbrev pub read_many : (List Spelled → Outcome) → List Class → ℕ → List Spelled → Outcome
 read_many step cs zero ts = Read Empty ts
-read_many step cs (suc n) ts = cond (next_fits cs ts) (after (step ts) (λ x us. mapped (Pair x) (read_many step cs n us))) (Read Empty ts)
+read_many step cs (suc n) ts =
+    cond (next_fits cs ts) (after (step ts) (λ x us. mapped (Pair x) (read_many step cs n us))) (Read Empty ts)
 
 abbrev pub read : Grammar → List Spelled → Outcome
 read (One c) ts = read_one c ts

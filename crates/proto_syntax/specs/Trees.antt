@@ -183,29 +183,34 @@ abbrev pub setting_tree : Setting → Tree
 setting_tree s = Pair (full_tree s.name) (Pair (symbol_tree (byte "=") s.equals) (constant_tree s.value))
 
 abbrev pub options_tree : Options → Tree
-options_tree o = Pair (symbol_tree (byte "[") o.open_bracket) (Pair (separated_tree setting_tree o.settings) (symbol_tree (byte "]") o.close_bracket))
+options_tree o = Pair (symbol_tree (byte "[") o.open_bracket)
+    (Pair (separated_tree setting_tree o.settings) (symbol_tree (byte "]") o.close_bracket))
 
 abbrev pub option_tree : OptionStatement → Tree
-option_tree o = Pair (word_tree (codes "option") o.keyword) (Pair (setting_tree o.setting) (symbol_tree (byte ";") o.semicolon))
+option_tree o =
+    Pair (word_tree (codes "option") o.keyword) (Pair (setting_tree o.setting) (symbol_tree (byte ";") o.semicolon))
 
 -- `word name { items }`
 abbrev pub block_tree : List ℕ → Span → Identifier → Span → Tree → Span → Tree
 block_tree word keyword name open_brace items close_brace =
-    Pair (word_tree word keyword) (Pair (name_tree name) (Pair (symbol_tree (byte "{") open_brace) (Pair items (symbol_tree (byte "}") close_brace))))
+    Pair (word_tree word keyword) (Pair (name_tree name)
+    (Pair (symbol_tree (byte "{") open_brace) (Pair items (symbol_tree (byte "}") close_brace))))
 
 abbrev pub streamed_tree : Option Span → TypeName → Tree
 streamed_tree None n = Right (named_tree n)
 streamed_tree (Some stream) n = Left (Pair (word_tree (codes "stream") stream) (named_tree n))
 
 abbrev pub rpc_type_tree : RpcType → Tree
-rpc_type_tree t = Pair (symbol_tree (byte "(") t.open_paren) (Pair (streamed_tree t.stream t.name) (symbol_tree (byte ")") t.close_paren))
+rpc_type_tree t = Pair (symbol_tree (byte "(") t.open_paren)
+    (Pair (streamed_tree t.stream t.name) (symbol_tree (byte ")") t.close_paren))
 
 abbrev pub rpc_item_tree : RpcItem → Tree
 rpc_item_tree (rpc_item.Option o) = Left (option_tree o)
 rpc_item_tree (rpc_item.Empty s) = Right (symbol_tree (byte ";") s)
 
 abbrev pub rpc_block_tree : RpcBlock → Tree
-rpc_block_tree b = Pair (symbol_tree (byte "{") b.open_brace) (Pair (row rpc_item_tree b.items) (symbol_tree (byte "}") b.close_brace))
+rpc_block_tree b =
+    Pair (symbol_tree (byte "{") b.open_brace) (Pair (row rpc_item_tree b.items) (symbol_tree (byte "}") b.close_brace))
 
 abbrev pub rpc_body_tree : RpcBody → Tree
 rpc_body_tree (rpc_body.Semicolon s) = Left (symbol_tree (byte ";") s)
@@ -225,7 +230,8 @@ service_item_tree (service_item.Option o) = Right (Left (option_tree o))
 service_item_tree (service_item.Empty s) = Right (Right (symbol_tree (byte ";") s))
 
 abbrev pub service_tree : Service → Tree
-service_tree s = block_tree (codes "service") s.keyword s.name s.open_brace (row service_item_tree s.items) s.close_brace
+service_tree s =
+    block_tree (codes "service") s.keyword s.name s.open_brace (row service_item_tree s.items) s.close_brace
 
 abbrev pub bound_tree : {N : Type 0} → (N → Tree) → UpperBound N → Tree
 bound_tree f (upper_bound.Number n) = Left (f n)
@@ -242,7 +248,8 @@ reserved_items_tree f (reserved_items.Ranges s) = Left (separated_tree (range_tr
 reserved_items_tree f (reserved_items.Names s) = Right (separated_tree str_tree s)
 
 abbrev pub reserved_tree : {N : Type 0} → (N → Tree) → Reserved N → Tree
-reserved_tree f r = Pair (word_tree (codes "reserved") r.keyword) (Pair (reserved_items_tree f r.items) (symbol_tree (byte ";") r.semicolon))
+reserved_tree f r = Pair (word_tree (codes "reserved") r.keyword)
+    (Pair (reserved_items_tree f r.items) (symbol_tree (byte ";") r.semicolon))
 
 abbrev pub value_tree : EnumValue → Tree
 value_tree v =
@@ -286,7 +293,8 @@ map_type_tree m =
     (Pair (type_tree m.value) (symbol_tree (byte ">") m.close_angle))))
 
 abbrev pub map_tree : MapField → Tree
-map_tree m = Pair (word_tree (codes "map") m.keyword) (Pair (Left (map_type_tree m.map_type)) (declarator_tree m.declarator))
+map_tree m =
+    Pair (word_tree (codes "map") m.keyword) (Pair (Left (map_type_tree m.map_type)) (declarator_tree m.declarator))
 
 abbrev pub label_tree : Label → Tree
 label_tree (label.Optional s) = Left (word_tree (codes "optional") s)
@@ -320,7 +328,8 @@ item_step (message_item.Oneof o) = Right (Right (Right (Left (oneof_tree o))))
 item_step (message_item.Reserved r) = Right (Right (Right (Right (Left (reserved_tree number_tree r)))))
 item_step (message_item.Map m) = Right (Right (Right (Right (Right (Left (map_tree m))))))
 item_step (message_item.Empty s) = Right (Right (Right (Right (Right (Right (Left (symbol_tree (byte ";") s)))))))
-item_step (message_item.Field f) = Right (Right (Right (Right (Right (field_statement_tree f.label f.field_type f.declarator)))))
+item_step (message_item.Field f) =
+    Right (Right (Right (Right (Right (field_statement_tree f.label f.field_type f.declarator)))))
 
 abbrev pub trees_row : List Tree → Tree
 trees_row [] = Empty
@@ -333,10 +342,12 @@ abbrev pub message_item_tree : MessageItem → Tree
 message_item_tree = fold-MessageItem Tree Tree item_step message_step
 
 abbrev pub message_tree : Message → Tree
-message_tree m = block_tree (codes "message") m.keyword m.name m.open_brace (row message_item_tree m.items) m.close_brace
+message_tree m =
+    block_tree (codes "message") m.keyword m.name m.open_brace (row message_item_tree m.items) m.close_brace
 
 abbrev pub package_tree : Package → Tree
-package_tree p = Pair (word_tree (codes "package") p.keyword) (Pair (full_tree p.name) (symbol_tree (byte ";") p.semicolon))
+package_tree p =
+    Pair (word_tree (codes "package") p.keyword) (Pair (full_tree p.name) (symbol_tree (byte ";") p.semicolon))
 
 abbrev pub import_tree : Import → Tree
 import_tree i =

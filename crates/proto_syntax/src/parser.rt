@@ -47,7 +47,8 @@ fn first_answer<'s>(
     tokens: &Tokens<'s>,
     depth: u64,
 ) -> Result<FileTree<'s>, ParseError>
-    ensures { MatchResult result (λ file. IsTreeOf depth (tokens_of tokens.now) (file_tree file)) (IsFaultOf depth tokens.now) }
+    ensures { MatchResult result (λ file. IsTreeOf depth (tokens_of tokens.now) (file_tree file))
+        (IsFaultOf depth tokens.now) }
 {
     let items = tokens.items.as_slice();
     let mut parser = Parser { alloc, rest: items };
@@ -71,14 +72,17 @@ pub fn parse<'s>(
     tokens: &Tokens<'s>,
     limits: &Limits,
 ) -> Result<FileTree<'s>, ParseError>
-    ensures found { IfOk result (λ file. IsTreeOf (limit_of limits.now Limit.Depth) (tokens_of tokens.now) (file_tree file)) }
+    ensures found { IfOk result (λ file. IsTreeOf (limit_of limits.now Limit.Depth)
+        (tokens_of tokens.now) (file_tree file)) }
     ensures fault { IfErr result (IsFaultOf (limit_of limits.now Limit.Depth) tokens.now) }
     ensures within { (n : ℕ) → LieWithin n tokens.now → IfErr result (IsPlacedWithin n) }
 
     // So tokens that have a tree give it, and others give their fault, unless memory runs out.
-    ensures every_tree { (x : Tree) → IsTreeOf (limit_of limits.now Limit.Depth) (tokens_of tokens.now) x
+    ensures every_tree { (x : Tree) → IsTreeOf (limit_of limits.now Limit.Depth)
+        (tokens_of tokens.now) x
         → MatchResult result (λ file. file_tree file ≡ x) (λ e. e ≡ ParseError.NoMemory) }
-    ensures every_fault { (k : ℕ) (kind : Kind) → IsFaultAt (limit_of limits.now Limit.Depth) (tokens_of tokens.now) k
+    ensures every_fault { (k : ℕ) (kind : Kind)
+        → IsFaultAt (limit_of limits.now Limit.Depth) (tokens_of tokens.now) k
         → IsKindOf (tokens_of tokens.now) k kind → IsErrAnd result (TellsFault tokens.now k kind) }
 {
     first_answer(alloc, tokens, limits.get(Limit::Depth))
@@ -86,7 +90,8 @@ pub fn parse<'s>(
 
 /// A list of tokens has at most one tree.
 pub fn at_most_one_tree()
-    ensures { (limit : ℕ) (ts : List Spelled) (x y : Tree) → IsTreeOf limit ts x → IsTreeOf limit ts y → x ≡ y }
+    ensures { (limit : ℕ) (ts : List Spelled) (x y : Tree) → IsTreeOf limit ts x
+        → IsTreeOf limit ts y → x ≡ y }
 {}
 
 /// Files with the same tokens are the same.
@@ -97,5 +102,6 @@ pub fn at_most_one_file()
 
 /// A list of tokens has at most one fault.
 pub fn at_most_one_fault()
-    ensures { (limit : ℕ) (ts : List Spelled) (j k : ℕ) → IsFaultAt limit ts j → IsFaultAt limit ts k → j ≡ k }
+    ensures { (limit : ℕ) (ts : List Spelled) (j k : ℕ) → IsFaultAt limit ts j
+        → IsFaultAt limit ts k → j ≡ k }
 {}

@@ -26,23 +26,28 @@ pub record IsCutUpTo (s : List ℕ) (start at : ℕ) (ts : List Spelled) : Type 
 pub piece_nonempty : (s : List ℕ) (n : ℕ) (piece : Option Lexeme) → IsLongestPiece s n piece → 0 < n
 piece_nonempty s n piece is = omega (arith, (starts s n piece is.piece_is).0, length-take-le n s is.fits)
 
-pub cut_more : {P : Type 0} (IsPart : List ℕ → P → Type 0) (len : P → ℕ) (s : List ℕ) (from : ℕ) (ps : List P) (to : ℕ) (p : P) → IsCutInto IsPart len s from ps to → IsPart (drop to s) p → IsCutInto IsPart len s from (ps ++ p ∷ []) (to + len p)
+pub cut_more : {P : Type 0} (IsPart : List ℕ → P → Type 0) (len : P → ℕ) (s : List ℕ) (from : ℕ) (ps : List P) (to : ℕ) (p : P)
+    → IsCutInto IsPart len s from ps to → IsPart (drop to s) p → IsCutInto IsPart len s from (ps ++ p ∷ []) (to + len p)
 cut_more IsPart len s from [] to p cut is = (subst (λ (i : ℕ). IsPart (drop i s) p) (sym cut) is, ap (λ i. i + len p) cut)
 cut_more IsPart len s from (q ∷ ps) to p cut is = (cut.0, cut_more IsPart len s (from + len q) ps to p cut.1 is)
 
-token_before-append : (piece : Option Lexeme) (start end : ℕ) (ts us : List Spelled) → token_before piece start end (ts ++ us) ≡ token_before piece start end ts ++ us
+token_before-append : (piece : Option Lexeme) (start end : ℕ) (ts us : List Spelled)
+    → token_before piece start end (ts ++ us) ≡ token_before piece start end ts ++ us
 token_before-append None start end ts us = refl
 token_before-append (Some lexeme) start end ts us = refl
 
-tokens_more : (s : List ℕ) (from : ℕ) (ps : List Piece) (to : ℕ) (p : Piece) → IsCutIntoPieces s from ps to → tokens_from from (ps ++ p ∷ []) ≡ tokens_from from ps ++ token_before p.is to (to + p.len) []
+tokens_more : (s : List ℕ) (from : ℕ) (ps : List Piece) (to : ℕ) (p : Piece) → IsCutIntoPieces s from ps to
+    → tokens_from from (ps ++ p ∷ []) ≡ tokens_from from ps ++ token_before p.is to (to + p.len) []
 tokens_more s from [] to p cut = ap (λ i. token_before p.is i (i + p.len) []) cut
 tokens_more s from (q ∷ ps) to p cut =
-    ap (token_before q.is from (from + q.len)) (tokens_more s (from + q.len) ps to p cut.1) ∙ token_before-append q.is from (from + q.len) (tokens_from (from + q.len) ps) (token_before p.is to (to + p.len) [])
+    ap (token_before q.is from (from + q.len)) (tokens_more s (from + q.len) ps to p cut.1)
+    ∙ token_before-append q.is from (from + q.len) (tokens_from (from + q.len) ps) (token_before p.is to (to + p.len) [])
 
 pub cut_start : (s : List ℕ) (start : ℕ) → start ≤ length s → IsCutUpTo s start start []
 cut_start s start within = record { within = within; pieces = []; cut = refl; tokens = refl }
 
-cut_on : (s : List ℕ) (start at n : ℕ) (piece : Option Lexeme) (ts : List Spelled) → IsCutUpTo s start at ts → IsLongestPiece (drop at s) n piece → IsCutUpTo s start (at + n) (ts ++ token_before piece at (at + n) [])
+cut_on : (s : List ℕ) (start at n : ℕ) (piece : Option Lexeme) (ts : List Spelled) → IsCutUpTo s start at ts → IsLongestPiece (drop at s) n piece
+    → IsCutUpTo s start (at + n) (ts ++ token_before piece at (at + n) [])
 cut_on s start at n piece ts so_far is =
     let p : Piece = record { len = n; is = piece } in
     record {
@@ -55,7 +60,8 @@ cut_on s start at n piece ts so_far is =
 pub cut_gap : (s : List ℕ) (start at n : ℕ) (ts : List Spelled) → IsCutUpTo s start at ts → IsLongestPiece (drop at s) n None → IsCutUpTo s start (at + n) ts
 cut_gap s start at n ts so_far is = subst (λ us. IsCutUpTo s start (at + n) us) (append-nil ts) (cut_on s start at n None ts so_far is)
 
-pub cut_token : (s : List ℕ) (start at n : ℕ) (lexeme : Lexeme) (ts : List Spelled) → IsCutUpTo s start at ts → IsLongestPiece (drop at s) n (Some lexeme) → IsCutUpTo s start (at + n) (ts ++ record { start = at; end = at + n; lexeme = lexeme } ∷ [])
+pub cut_token : (s : List ℕ) (start at n : ℕ) (lexeme : Lexeme) (ts : List Spelled) → IsCutUpTo s start at ts → IsLongestPiece (drop at s) n (Some lexeme)
+    → IsCutUpTo s start (at + n) (ts ++ record { start = at; end = at + n; lexeme = lexeme } ∷ [])
 cut_token s start at n lexeme ts so_far is = cut_on s start at n (Some lexeme) ts so_far is
 
 pub cut_all : (s : List ℕ) (start at : ℕ) (ts : List Spelled) → IsCutUpTo s start at ts → length s ≤ at → SpellsFrom s start ts
@@ -63,15 +69,19 @@ cut_all s start at ts so_far le =
     let same : at ≡ length s = omega (arith, so_far.within) in
     (so_far.pieces, subst (IsCutIntoPieces s start so_far.pieces) same so_far.cut, so_far.tokens)
 
-pub cut_fault : (s : List ℕ) (start at : ℕ) (ts : List Spelled) (e : TokenError) → IsCutUpTo s start at ts → IsFaultAfter (drop at s) at e → IsFaultFrom s start e
+pub cut_fault : (s : List ℕ) (start at : ℕ) (ts : List Spelled) (e : TokenError) → IsCutUpTo s start at ts → IsFaultAfter (drop at s) at e
+    → IsFaultFrom s start e
 cut_fault s start at ts (errors.At place kind) so_far fault = (so_far.pieces, at, fault.0, so_far.cut, fault.1, fault.2)
 cut_fault s start at ts errors.NoMemory so_far fault = tt
 
-pub gap_passed : (s : List ℕ) (start at n : ℕ) (ts : List Spelled) (kind : Option TokenKind) → IsCutUpTo s start at ts → IsLongestPiece (drop at s) n (option_map lexeme_of kind) → kind ≡ None → IsCutUpTo s start (at + n) ts
+pub gap_passed : (s : List ℕ) (start at n : ℕ) (ts : List Spelled) (kind : Option TokenKind) → IsCutUpTo s start at ts
+    → IsLongestPiece (drop at s) n (option_map lexeme_of kind) → kind ≡ None → IsCutUpTo s start (at + n) ts
 gap_passed s start at n ts kind so_far is none = cut_gap s start at n ts so_far (subst (λ k. IsLongestPiece (drop at s) n (option_map lexeme_of k)) none is)
 
-pub token_pushed : (s : List ℕ) (start at n : ℕ) (items more : List Token) (kind : Option TokenKind) (k : TokenKind) → IsCutUpTo s start at (map spelled items) → IsLongestPiece (drop at s) n (option_map lexeme_of kind) → kind ≡ Some k
-    → more ≡ items ++ record { kind = k; span = record { start = record { offset = at }; end = record { offset = at + n } } } ∷ [] → IsCutUpTo s start (at + n) (map spelled more)
+pub token_pushed : (s : List ℕ) (start at n : ℕ) (items more : List Token) (kind : Option TokenKind) (k : TokenKind) → IsCutUpTo s start at (map spelled items)
+    → IsLongestPiece (drop at s) n (option_map lexeme_of kind) → kind ≡ Some k
+    → more ≡ items ++ record { kind = k; span = record { start = record { offset = at }; end = record { offset = at + n } } } ∷ []
+    → IsCutUpTo s start (at + n) (map spelled more)
 token_pushed s start at n items more kind k so_far is some more_is =
     let t : Token = record { kind = k; span = record { start = record { offset = at }; end = record { offset = at + n } } } in
     let made : map spelled more ≡ map spelled items ++ spelled t ∷ [] = ap (map spelled) more_is ∙ map_push spelled items t in
@@ -82,8 +92,10 @@ fault_of limit s (errors.At place kind) short utf8 fault = inr (inr (short, utf8
 fault_of limit s errors.NoMemory short utf8 fault = tt
 
 -- what the cutting answers of a fault is the text's fault, where the text is short and UTF-8
-pub fault_answer : (limit : ℕ) (s source : List ℕ) (mark : ℕ) (e : TokenError) → length s ≤ limit → IsUtf8 s → source ≡ s → mark ≡ mark_len s → IsFaultFrom source mark e → IsFaultOf limit s e
-fault_answer limit s source mark e short utf8 same mark_is fault = fault_of limit s e short utf8 (rw (← mark_is) (subst (λ (l : List ℕ). IsFaultFrom l mark e) same fault))
+pub fault_answer : (limit : ℕ) (s source : List ℕ) (mark : ℕ) (e : TokenError) → length s ≤ limit → IsUtf8 s → source ≡ s → mark ≡ mark_len s
+    → IsFaultFrom source mark e → IsFaultOf limit s e
+fault_answer limit s source mark e short utf8 same mark_is fault =
+    fault_of limit s e short utf8 (rw (← mark_is) (subst (λ (l : List ℕ). IsFaultFrom l mark e) same fault))
 
 -- ---- places
 

@@ -31,9 +31,11 @@ escape_begins bs (character n) unicode = rw unicode.2 (omega arith, refl)
 pub record EscapesByDigits (s digits : List ℕ) (head most base : ℕ) : Type 0 where
   pub long : length s ≡ head + length digits
   pub into : (j n : ℕ) → 0 < j → j ≤ most → j ≤ length digits → Writes base (take j digits) n → IsEscape (take (head + j) s) (byte n)
-  pub out : (k : ℕ) (e : Escaped) → k ≤ length s → IsEscape (take k s) e → (j : ℕ) × (n : ℕ) × (k ≡ head + j) × (0 < j) × (j ≤ most) × (e ≡ byte n) × Writes base (take j digits) n
+  pub out : (k : ℕ) (e : Escaped) → k ≤ length s → IsEscape (take k s) e
+      → (j : ℕ) × (n : ℕ) × (k ≡ head + j) × (0 < j) × (j ≤ most) × (e ≡ byte n) × Writes base (take j digits) n
 
-module _ (s digits : List ℕ) (head most base : ℕ) (by : EscapesByDigits s digits head most base) (m : ℕ) (m_is : m ≡ prefix_len (λ d. is_digit d base) (take most digits)) where
+module _ (s digits : List ℕ) (head most base : ℕ) (by : EscapesByDigits s digits head most base) (m : ℕ)
+    (m_is : m ≡ prefix_len (λ d. is_digit d base) (take most digits)) where
   m_fits : (m ≤ most) × (m ≤ length digits)
   m_fits =
       let le = prefix_len-le-length (λ d. is_digit d base) (take most digits) in
@@ -70,7 +72,8 @@ module _ (s digits : List ℕ) (head most base : ℕ) (by : EscapesByDigits s di
       let le = no_more o.0 o.1 o.4 within o.6 in
       let m_bounds = m_fits in
       let pos : 0 < m = omega (arith, o.3) in
-      let whole : o.0 < m → ⊥ = λ lt. longest.longest (head + m) (byte (digits_value base (take m digits))) (omega (arith, o.2)) (omega (arith, by.long)) (by.into m (digits_value base (take m digits)) pos m_bounds.0 m_bounds.1 all_written) in
+      let whole : o.0 < m → ⊥ = λ lt. longest.longest (head + m) (byte (digits_value base (take m digits))) (omega (arith, o.2)) (omega (arith, by.long))
+      (by.into m (digits_value base (take m digits)) pos m_bounds.0 m_bounds.1 all_written) in
       let same : o.0 ≡ m = omega (arith, whole, le) in
       let value : o.1 ≡ digits_value base (take m digits) = o.6.value ∙ ap (λ j. digits_value base (take j digits)) same in
       let small : o.1 < 256 = subst IsAllowed o.5 allowed.1 in
@@ -89,7 +92,8 @@ module _ (digits : List ℕ) (begins_so : begins (λ d. is_digit d 8) digits ≡
       let first = begins_first (λ d. is_digit d 8) digits begins_so in
       ap (λ d. is_digit d 8) (ap (λ (l : List ℕ). get_or l 0 0) (sym e) ∙ get_or-take k digits 0 0 pos) ∙ first.1
 
-  pub octal_out : (bs : List ℕ) (e : Escaped) (k : ℕ) → bs ≡ take k digits → IsEscape (92 ∷ bs) e → 0 < k → (n : ℕ) × (length bs ≤ 3) × (e ≡ byte n) × Writes 8 bs n
+  pub octal_out : (bs : List ℕ) (e : Escaped) (k : ℕ) → bs ≡ take k digits → IsEscape (92 ∷ bs) e → 0 < k
+      → (n : ℕ) × (length bs ≤ 3) × (e ≡ byte n) × Writes 8 bs n
   octal_out bs (byte n) k bs_is (inl simple) pos =
       let alone : bs ≡ simple.0 ∷ [] = let e : 92 ∷ bs ≡ 92 ∷ simple.0 ∷ [] = simple.1 in cc in
       absurd (no_simple_digit simple.0 n (first_digit k pos simple.0 [] (sym bs_is ∙ alone)) simple.2)
@@ -114,7 +118,8 @@ module _ (digits : List ℕ) (begins_so : begins (λ d. is_digit d 8) digits ≡
     out = out;
   }
     where
-      out : (k : ℕ) (e : Escaped) → k ≤ length (92 ∷ digits) → IsEscape (take k (92 ∷ digits)) e → (j : ℕ) × (n : ℕ) × (k ≡ 1 + j) × (0 < j) × (j ≤ 3) × (e ≡ byte n) × Writes 8 (take j digits) n
+      out : (k : ℕ) (e : Escaped) → k ≤ length (92 ∷ digits) → IsEscape (take k (92 ∷ digits)) e
+          → (j : ℕ) × (n : ℕ) × (k ≡ 1 + j) × (0 < j) × (j ≤ 3) × (e ≡ byte n) × Writes 8 (take j digits) n
       out zero e within is = absurd (omega (arith, escape_two [] e is))
       out (suc j) e within is =
           let two = escape_two (92 ∷ take j digits) e is in
@@ -137,18 +142,31 @@ module _ (x : ℕ) (form : (x ≡ 120) ⊎ (x ≡ 88)) (digits : List ℕ) where
       (n, omega (arith, ap length same, hex.4), omega (arith, ap length same, hex.5), refl, rw same hex.6)
   hex_out bs (character n) unicode =
       let same : x ≡ unicode.0 = let e : 92 ∷ x ∷ bs ≡ 92 ∷ unicode.0 ∷ unicode.1 = unicode.2 in cc in
-      absurd (elim form [ inl e ↦ elim unicode.3 [ inl u ↦ omega (arith, u.0) | inr u ↦ omega (arith, u.0) ] | inr e ↦ elim unicode.3 [ inl u ↦ omega (arith, u.0) | inr u ↦ omega (arith, u.0) ] ])
+      absurd (elim form [
+        | inl e ↦ elim unicode.3 [ inl u ↦ omega (arith, u.0) | inr u ↦ omega (arith, u.0) ]
+        | inr e ↦
+            elim unicode.3 [ inl u ↦ omega (arith, u.0) | inr u ↦ omega (arith, u.0) ]
+      ])
 
   pub hex_by_digits : EscapesByDigits (92 ∷ x ∷ digits) digits 2 2 16
   hex_by_digits = record {
     long = omega arith;
     into = λ j n pos at_most within writes.
         let same : 2 + j ≡ suc (suc j) = omega arith in
-        rw same (inr (inr (x, take j digits, refl, form, omega (arith, length-take-le j digits within), omega (arith, length-take-le j digits within), writes)));
+        rw same (inr (inr (
+          x,
+          take j digits,
+          refl,
+          form,
+          omega (arith, length-take-le j digits within),
+          omega (arith, length-take-le j digits within),
+          writes,
+        )));
     out = out;
   }
     where
-      out : (k : ℕ) (e : Escaped) → k ≤ length (92 ∷ x ∷ digits) → IsEscape (take k (92 ∷ x ∷ digits)) e → (j : ℕ) × (n : ℕ) × (k ≡ 2 + j) × (0 < j) × (j ≤ 2) × (e ≡ byte n) × Writes 16 (take j digits) n
+      out : (k : ℕ) (e : Escaped) → k ≤ length (92 ∷ x ∷ digits) → IsEscape (take k (92 ∷ x ∷ digits)) e
+          → (j : ℕ) × (n : ℕ) × (k ≡ 2 + j) × (0 < j) × (j ≤ 2) × (e ≡ byte n) × Writes 16 (take j digits) n
       out zero e within is = absurd (omega (arith, escape_two [] e is))
       out (suc zero) e within is = absurd (omega (arith, escape_two (92 ∷ []) e is))
       out (suc (suc j)) e within is =
@@ -175,10 +193,15 @@ module _ (u count : ℕ) (form : ((u ≡ 117) × (count ≡ 4)) ⊎ ((u ≡ 85) 
   unicode_out bs (character n) unicode =
       let first : u ≡ unicode.0 = let e : 92 ∷ u ∷ bs ≡ 92 ∷ unicode.0 ∷ unicode.1 = unicode.2 in cc in
       let same : bs ≡ unicode.1 = let e : 92 ∷ u ∷ bs ≡ 92 ∷ unicode.0 ∷ unicode.1 = unicode.2 in cc in
-      let len : length unicode.1 ≡ count = elim form [ inl f ↦ elim unicode.3 [ inl g ↦ omega (arith, f, g) | inr g ↦ omega (arith, f, g) ] | inr f ↦ elim unicode.3 [ inl g ↦ omega (arith, f, g) | inr g ↦ omega (arith, f, g) ] ] in
+      let len : length unicode.1 ≡ count = elim form [
+        | inl f ↦ elim unicode.3 [ inl g ↦ omega (arith, f, g) | inr g ↦ omega (arith, f, g) ]
+        | inr f ↦
+            elim unicode.3 [ inl g ↦ omega (arith, f, g) | inr g ↦ omega (arith, f, g) ]
+      ] in
       (n, ap length same ∙ len, refl, rw same unicode.4)
 
-  unicode_at : (k : ℕ) (e : Escaped) → k ≤ length (92 ∷ u ∷ digits) → IsEscape (take k (92 ∷ u ∷ digits)) e → (n : ℕ) × (k ≡ count + 2) × (e ≡ character n) × Writes 16 (take count digits) n
+  unicode_at : (k : ℕ) (e : Escaped) → k ≤ length (92 ∷ u ∷ digits) → IsEscape (take k (92 ∷ u ∷ digits)) e
+      → (n : ℕ) × (k ≡ count + 2) × (e ≡ character n) × Writes 16 (take count digits) n
   unicode_at zero e within is = absurd (omega (arith, escape_two [] e is))
   unicode_at (suc zero) e within is = absurd (omega (arith, escape_two (92 ∷ []) e is))
   unicode_at (suc (suc j)) e within is =
@@ -186,11 +209,13 @@ module _ (u count : ℕ) (form : ((u ≡ 117) × (count ≡ 4)) ⊎ ((u ≡ 85) 
       let same : j ≡ count = omega (arith, length-take-le j digits (omega arith), o.1) in
       (o.0, omega arith, o.2, subst (λ i. Writes 16 (take i digits) o.0) same o.3)
 
-  pub character_found : (n : ℕ) → count ≤ length digits → Writes 16 (take count digits) n → IsScalar n → IsAllowedEscape (92 ∷ u ∷ digits) (count + 2) (character n)
+  pub character_found : (n : ℕ) → count ≤ length digits → Writes 16 (take count digits) n → IsScalar n
+      → IsAllowedEscape (92 ∷ u ∷ digits) (count + 2) (character n)
   character_found n within writes scalar =
       let two : count + 2 ≡ suc (suc count) = omega arith in
       let len = length-take-le count digits within in
-      let sizes : ((u ≡ 117) × (length (take count digits) ≡ 4)) ⊎ ((u ≡ 85) × (length (take count digits) ≡ 8)) = elim form [ inl f ↦ inl (f.0, omega (arith, f.1, len)) | inr f ↦ inr (f.0, omega (arith, f.1, len)) ] in (
+      let sizes : ((u ≡ 117) × (length (take count digits) ≡ 4)) ⊎ ((u ≡ 85) × (length (take count digits) ≡ 8)) =
+      elim form [ inl f ↦ inl (f.0, omega (arith, f.1, len)) | inr f ↦ inr (f.0, omega (arith, f.1, len)) ] in (
         record {
           fits = omega arith;
           escape_is = rw two (u, take count digits, refl, sizes, writes);
@@ -215,7 +240,8 @@ module _ (c : ℕ) (rest : List ℕ) (no_digit : is_digit c 8 ≡ false) (no_x :
       (n, ap length nothing, refl, ap simple_escape same ∙ simple.2)
   simple_out bs (byte n) (inr (inl octal)) =
       let same : c ∷ bs ≡ octal.0 = let e : 92 ∷ c ∷ bs ≡ 92 ∷ octal.0 = octal.1 in cc in
-      absurd (both_ways (is_digit c 8) no_digit (All-head (λ d. is_digit d 8 ≡ true) c bs (subst (λ (l : List ℕ). AllPass (λ d. is_digit d 8) l) (sym same) octal.4.digits_of_base)))
+      absurd (both_ways (is_digit c 8) no_digit (All-head (λ d. is_digit d 8 ≡ true) c bs
+      (subst (λ (l : List ℕ). AllPass (λ d. is_digit d 8) l) (sym same) octal.4.digits_of_base)))
   simple_out bs (byte n) (inr (inr hex)) =
       let same : c ≡ hex.0 = let e : 92 ∷ c ∷ bs ≡ 92 ∷ hex.0 ∷ hex.1 = hex.2 in cc in
       absurd (elim hex.3 [ inl x ↦ no_x (same ∙ x) | inr x ↦ no_X (same ∙ x) ])
@@ -223,7 +249,8 @@ module _ (c : ℕ) (rest : List ℕ) (no_digit : is_digit c 8 ≡ false) (no_x :
       let same : c ≡ unicode.0 = let e : 92 ∷ c ∷ bs ≡ 92 ∷ unicode.0 ∷ unicode.1 = unicode.2 in cc in
       absurd (elim unicode.3 [ inl g ↦ no_u (same ∙ g.0) | inr g ↦ no_U (same ∙ g.0) ])
 
-  simple_at : (k : ℕ) (e : Escaped) → k ≤ length (92 ∷ c ∷ rest) → IsEscape (take k (92 ∷ c ∷ rest)) e → (n : ℕ) × (k ≡ 2) × (e ≡ byte n) × (simple_escape c ≡ Some n)
+  simple_at : (k : ℕ) (e : Escaped) → k ≤ length (92 ∷ c ∷ rest) → IsEscape (take k (92 ∷ c ∷ rest)) e
+      → (n : ℕ) × (k ≡ 2) × (e ≡ byte n) × (simple_escape c ≡ Some n)
   simple_at zero e within is = absurd (omega (arith, escape_two [] e is))
   simple_at (suc zero) e within is = absurd (omega (arith, escape_two (92 ∷ []) e is))
   simple_at (suc (suc j)) e within is =
@@ -250,7 +277,8 @@ nothing_behind n e allowed =
     let two = escape_two (take n (92 ∷ [])) e allowed.0.escape_is in
     omega (arith, allowed.0.fits, length-take-le {A = ℕ} n (92 ∷ []) allowed.0.fits)
 
-pub digits_begin : (digits : List ℕ) (most m : ℕ) → begins (λ d. is_digit d 8) digits ≡ true → 0 < most → m ≡ prefix_len (λ d. is_digit d 8) (take most digits) → 0 < m
+pub digits_begin : (digits : List ℕ) (most m : ℕ) → begins (λ d. is_digit d 8) digits ≡ true → 0 < most → m ≡ prefix_len (λ d. is_digit d 8) (take most digits)
+    → 0 < m
 digits_begin digits zero m e pos m_is = absurd (omega arith)
 digits_begin [] (suc most) m e pos m_is = absurd cc
 digits_begin (d ∷ digits) (suc most) m e pos m_is = omega (arith, m_is, run_nonempty (λ d. is_digit d 8) (d ∷ take most digits) e)
@@ -267,7 +295,8 @@ no_octal : (c : ℕ) → (c < 48) ⊎ (56 ≤ c) → is_digit c 8 ≡ false
 no_octal c (inl below) = grind (arith, nat_tests)
 no_octal c (inr above) = grind (arith, nat_tests)
 
-pub simple_behind : (after : List ℕ) (c n : ℕ) → Some c ≡ slice_get after 0 → IsSimpleForm c → Some n ≡ simple_escape c → n < 256 → IsAllowedEscape (92 ∷ after) 2 (byte n)
+pub simple_behind : (after : List ℕ) (c n : ℕ) → Some c ≡ slice_get after 0 → IsSimpleForm c → Some n ≡ simple_escape c → n < 256
+    → IsAllowedEscape (92 ∷ after) 2 (byte n)
 simple_behind [] c n at form simple small = absurd cc
 simple_behind (b ∷ after) c n at form simple small =
     let same : c ≡ b = cc in

@@ -40,8 +40,13 @@ digits_numeric base ds n small w = All-weaker (λ d. is_digit d base ≡ true) (
 pub numeral_numeric : (bs : List ℕ) (n : ℕ) → IsNumeral bs n → AllPass is_numeric bs × (begins is_ascii_digit bs ≡ true)
 numeral_numeric bs n (inl hex) =
     let x_numeric : is_numeric hex.0 ≡ true = elim hex.3 [ inl e ↦ ap is_numeric e | inr e ↦ ap is_numeric e ] in
-    rw hex.2 (All-cons (λ d. is_numeric d ≡ true) 48 (hex.0 ∷ hex.1) refl (All-cons (λ d. is_numeric d ≡ true) hex.0 hex.1 x_numeric (digits_numeric 16 hex.1 n (omega arith) hex.5)), refl)
-numeral_numeric bs n (inr (inl octal)) = rw octal.1 (All-cons (λ d. is_numeric d ≡ true) 48 octal.0 refl (digits_numeric 8 octal.0 n (omega arith) octal.2), refl)
+    rw hex.2 (
+      All-cons (λ d. is_numeric d ≡ true) 48 (hex.0 ∷ hex.1) refl
+          (All-cons (λ d. is_numeric d ≡ true) hex.0 hex.1 x_numeric (digits_numeric 16 hex.1 n (omega arith) hex.5)),
+      refl,
+    )
+numeral_numeric bs n (inr (inl octal)) =
+    rw octal.1 (All-cons (λ d. is_numeric d ≡ true) 48 octal.0 refl (digits_numeric 8 octal.0 n (omega arith) octal.2), refl)
 numeral_numeric bs n (inr (inr decimal)) =
     let first : begins is_ascii_digit bs ≡ true = rw decimal.2 (let low = decimal.3.0 in let high = decimal.3.1 in grind (arith, nat_tests)) in
     (digits_numeric 10 bs n (omega arith) decimal.4, first)
@@ -112,7 +117,8 @@ blank_alone b (Some (number n)) e f = absurd (grind (arith, nat_tests))
 blank_alone b (Some (string_literal value)) e f = absurd (grind (arith, nat_tests))
 blank_alone b (Some (punctuation c)) e f = absurd (grind (arith, nat_tests))
 
-pub punctuation_alone : (b : ℕ) (piece : Option Lexeme) → is_punctuation b ≡ true → Starts piece b → ((piece ≡ None) × (b ≡ 47)) ⊎ ((c : ℕ) × (piece ≡ Some (punctuation c)))
+pub punctuation_alone : (b : ℕ) (piece : Option Lexeme) → is_punctuation b ≡ true → Starts piece b
+    → ((piece ≡ None) × (b ≡ 47)) ⊎ ((c : ℕ) × (piece ≡ Some (punctuation c)))
 punctuation_alone b None e (inl f) = absurd (grind (arith, nat_tests))
 punctuation_alone b None e (inr f) = inl (refl, f)
 punctuation_alone b (Some (identifier name)) e f = absurd (grind (arith, nat_tests))
@@ -127,7 +133,8 @@ first_alone (b ∷ s) long = refl
 -- a comment begins with `/`
 no_comment : (s : List ℕ) (k : ℕ) → 0 < k → is_blank (get_or s 0 0) ≡ true → IsLineComment (take k s) ⊎ IsBlockComment (take k s) → ⊥
 no_comment s k pos blank comment =
-    let first : get_or (take k s) 0 0 ≡ 47 = elim comment [ inl line ↦ ap (λ (l : List ℕ). get_or l 0 0) line.1 | inr block ↦ ap (λ (l : List ℕ). get_or l 0 0) block.1 ] in
+    let first : get_or (take k s) 0 0 ≡ 47 =
+    elim comment [ inl line ↦ ap (λ (l : List ℕ). get_or l 0 0) line.1 | inr block ↦ ap (λ (l : List ℕ). get_or l 0 0) block.1 ] in
     both_ways (is_blank (get_or s 0 0)) (ap is_blank (sym (get_or-take k s 0 0 pos) ∙ first)) blank
 
 -- a `/` that neither `/` nor `*` follows begins no comment
@@ -149,7 +156,8 @@ module _ (s : List ℕ) where
       let word : is_word (get_or s 0 0) ≡ true = let f = first.1 in grind (arith, nat_tests) in
       let pos = run_nonempty is_word s (begins_from is_word s first.0 word) in
       let fits = prefix_len-le-length is_word s in
-      let begins_so = begins_from is_letter (take (prefix_len is_word s) s) (omega (arith, length-take-le (prefix_len is_word s) s fits)) (ap is_letter (get_or-take (prefix_len is_word s) s 0 0 pos) ∙ first.1) in
+      let begins_so = begins_from is_letter (take (prefix_len is_word s) s) (omega (arith, length-take-le (prefix_len is_word s) s fits))
+      (ap is_letter (get_or-take (prefix_len is_word s) s 0 0 pos) ∙ first.1) in
       record {
         fits = fits;
         piece_is = ((begins_so, run_passes is_word s), refl);
@@ -202,9 +210,11 @@ module _ (s : List ℕ) where
 
   pub number_fault : (kind : Kind) → begins is_ascii_digit s ≡ true → IsNumeralFault (take (prefix_len is_numeric s) s) kind → IsPieceFault s 0 kind
   number_fault kind e (inl bad) = inr (inl (bad.0, refl, bad_number e bad.1))
-  number_fault kind e (inr big) = inr (inr (inl (big.0, refl, (prefix_len is_numeric s, big.1, prefix_len-le-length is_numeric s, big.2, run_stops is_numeric s, big.3))))
+  number_fault kind e (inr big) =
+      inr (inr (inl (big.0, refl, (prefix_len is_numeric s, big.1, prefix_len-le-length is_numeric s, big.2, run_stops is_numeric s, big.3))))
 
-  pub longest_punctuation : (b : ℕ) → begins is_punctuation s ≡ true → b ≡ get_or s 0 0 → (b ≡ 47 → begins is_slash_or_star (drop 1 s) ≡ false) → IsLongestPiece s 1 (Some (punctuation b))
+  pub longest_punctuation : (b : ℕ) → begins is_punctuation s ≡ true → b ≡ get_or s 0 0 → (b ≡ 47 → begins is_slash_or_star (drop 1 s) ≡ false)
+      → IsLongestPiece s 1 (Some (punctuation b))
   longest_punctuation b e b_is alone =
       let first = begins_first is_punctuation s e in
       record {
@@ -213,7 +223,8 @@ module _ (s : List ℕ) where
         longest = λ k other lt within is.
             elim (punctuation_alone (get_or s 0 0) other first.1 (starts s k other is).2) [
               | inl none ↦ lone_slash s k lt within none.1 (alone (b_is ∙ none.1)) (subst (IsPiece s k) none.0 is)
-              | inr same ↦ let is' = subst (IsPiece s k) same.1 is in let one : length (take k s) ≡ 1 = ap length is'.0 in omega (arith, length-take-le k s within)
+              | inr same ↦ let is' =
+                  subst (IsPiece s k) same.1 is in let one : length (take k s) ≡ 1 = ap length is'.0 in omega (arith, length-take-le k s within)
             ];
       }
 
@@ -227,13 +238,15 @@ module _ (body : List ℕ) where
     longest = longest;
   }
     where
-      longest : (k : ℕ) (other : Option Lexeme) → suc (suc (prefix_len is_in_line body)) < k → k ≤ length (47 ∷ 47 ∷ body) → IsPiece (47 ∷ 47 ∷ body) k other → ⊥
+      longest : (k : ℕ) (other : Option Lexeme) → suc (suc (prefix_len is_in_line body)) < k → k ≤ length (47 ∷ 47 ∷ body) → IsPiece (47 ∷ 47 ∷ body) k other
+          → ⊥
       longest zero other lt within is = omega arith
       longest (suc zero) other lt within is = omega arith
       longest (suc (suc k)) other lt within is =
           elim (slash_alone 47 other refl (starts (47 ∷ 47 ∷ body) (suc (suc k)) other is).2) [
             | inl none ↦ in_line k (omega arith) (omega arith) (subst (IsPiece (47 ∷ 47 ∷ body) (suc (suc k))) none is)
-            | inr same ↦ let is' = subst (IsPiece (47 ∷ 47 ∷ body) (suc (suc k))) same.1 is in absurd (let e : 47 ∷ 47 ∷ take k body ≡ same.0 ∷ [] = is'.0 in cc)
+            | inr same ↦ let is' =
+                subst (IsPiece (47 ∷ 47 ∷ body) (suc (suc k))) same.1 is in absurd (let e : 47 ∷ 47 ∷ take k body ≡ same.0 ∷ [] = is'.0 in cc)
           ]
         where
           in_line : (k : ℕ) → prefix_len is_in_line body < k → k ≤ length body → IsPiece (47 ∷ 47 ∷ body) (suc (suc k)) None → ⊥
@@ -241,7 +254,8 @@ module _ (body : List ℕ) where
           in_line k lt within (inr (inl line)) =
               let same : line.0 ≡ take k body = let e : 47 ∷ 47 ∷ take k body ≡ 47 ∷ 47 ∷ line.0 = line.1 in cc in
               omega (arith, run_longest is_in_line body k within (subst (λ (l : List ℕ). AllPass is_in_line l) same line.2))
-          in_line k lt within (inr (inr block)) = let second : get_or (47 ∷ 47 ∷ take k body) 1 0 ≡ 42 = ap (λ (l : List ℕ). get_or l 1 0) block.1 in absurd (omega arith)
+          in_line k lt within (inr (inr block)) =
+              let second : get_or (47 ∷ 47 ∷ take k body) 1 0 ≡ 42 = ap (λ (l : List ℕ). get_or l 1 0) block.1 in absurd (omega arith)
 
 module _ (rest : List ℕ) (m : ℕ) (close : IsFirstClose rest m) where
   close_ends : take (suc (suc m)) rest ≡ take m rest ++ 42 ∷ 47 ∷ []
@@ -265,13 +279,16 @@ module _ (rest : List ℕ) (m : ℕ) (close : IsFirstClose rest m) where
   no_longer_block k body lt within e none =
       let fits = close.fits in
       let len : k ≡ length body + 2 = sym (length-take-le k rest within) ∙ ap length e ∙ length-append body (42 ∷ 47 ∷ []) in
-      let star : get_or body m 0 ≡ 42 = sym (get_or_append_left body (42 ∷ 47 ∷ []) 0 m (omega arith)) ∙ ap (λ (l : List ℕ). get_or l m 0) (sym e) ∙ get_or-take k rest m 0 (omega arith) ∙ close.star in
+      let star : get_or body m 0 ≡ 42 = sym (get_or_append_left body (42 ∷ 47 ∷ []) 0 m (omega arith)) ∙ ap (λ (l : List ℕ). get_or l m 0) (sym e)
+      ∙ get_or-take k rest m 0 (omega arith) ∙ close.star in
       elim (cases_lt (m + 1) (length body)) [
-        | inl in_body ↦ none m star (sym (get_or_append_left body (42 ∷ 47 ∷ []) 0 (m + 1) in_body) ∙ ap (λ (l : List ℕ). get_or l (m + 1) 0) (sym e) ∙ get_or-take k rest (m + 1) 0 (omega arith) ∙ close.slash)
+        | inl in_body ↦ none m star (sym (get_or_append_left body (42 ∷ 47 ∷ []) 0 (m + 1) in_body) ∙ ap (λ (l : List ℕ). get_or l (m + 1) 0) (sym e)
+            ∙ get_or-take k rest (m + 1) 0 (omega arith) ∙ close.slash)
         | inr past ↦
             let here : length body ≡ m + 1 = omega arith in
             let star_again : get_or (body ++ 42 ∷ 47 ∷ []) (m + 1) 0 ≡ 42 = get_or_at body 42 (47 ∷ []) 0 (m + 1) here in
-            let slash : get_or (body ++ 42 ∷ 47 ∷ []) (m + 1) 0 ≡ 47 = ap (λ (l : List ℕ). get_or l (m + 1) 0) (sym e) ∙ get_or-take k rest (m + 1) 0 (omega arith) ∙ close.slash in
+            let slash : get_or (body ++ 42 ∷ 47 ∷ []) (m + 1) 0 ≡ 47 =
+            ap (λ (l : List ℕ). get_or l (m + 1) 0) (sym e) ∙ get_or-take k rest (m + 1) 0 (omega arith) ∙ close.slash in
             absurd (omega arith)
       ]
 
@@ -288,12 +305,14 @@ module _ (rest : List ℕ) (m : ℕ) (close : IsFirstClose rest m) where
       longest (suc (suc k)) other lt within is =
           elim (slash_alone 47 other refl (starts (47 ∷ 42 ∷ rest) (suc (suc k)) other is).2) [
             | inl none ↦ in_block k (omega arith) (omega arith) (subst (IsPiece (47 ∷ 42 ∷ rest) (suc (suc k))) none is)
-            | inr same ↦ let is' = subst (IsPiece (47 ∷ 42 ∷ rest) (suc (suc k))) same.1 is in absurd (let e : 47 ∷ 42 ∷ take k rest ≡ same.0 ∷ [] = is'.0 in cc)
+            | inr same ↦ let is' =
+                subst (IsPiece (47 ∷ 42 ∷ rest) (suc (suc k))) same.1 is in absurd (let e : 47 ∷ 42 ∷ take k rest ≡ same.0 ∷ [] = is'.0 in cc)
           ]
         where
           in_block : (k : ℕ) → suc (suc m) < k → k ≤ length rest → IsPiece (47 ∷ 42 ∷ rest) (suc (suc k)) None → ⊥
           in_block k lt within (inl blanks) = both_ways (is_blank 47) refl (All-get_or (λ b. is_blank b ≡ true) (47 ∷ 42 ∷ take k rest) 0 0 blanks.0 blanks.1)
-          in_block k lt within (inr (inl line)) = let second : get_or (47 ∷ 42 ∷ take k rest) 1 0 ≡ 47 = ap (λ (l : List ℕ). get_or l 1 0) line.1 in absurd (omega arith)
+          in_block k lt within (inr (inl line)) =
+              let second : get_or (47 ∷ 42 ∷ take k rest) 1 0 ≡ 47 = ap (λ (l : List ℕ). get_or l 1 0) line.1 in absurd (omega arith)
           in_block k lt within (inr (inr block)) =
               let same : take k rest ≡ block.0 ++ 42 ∷ 47 ∷ [] = let e : 47 ∷ 42 ∷ take k rest ≡ 47 ∷ 42 ∷ (block.0 ++ 42 ∷ 47 ∷ []) = block.1 in cc in
               no_longer_block k block.0 lt within same block.2
@@ -305,14 +324,16 @@ identifier_fits source at e =
     let first = (begins_first is_letter (drop at source) e).0 in
     omega (arith, prefix_len-le-length is_word (drop at source), length-drop at source)
 
-pub identifier_boundary : (source : List ℕ) (at : ℕ) → IsUtf8 source → begins is_letter (drop at source) ≡ true → IsCharBoundary source (at + prefix_len is_word (drop at source))
+pub identifier_boundary : (source : List ℕ) (at : ℕ) → IsUtf8 source → begins is_letter (drop at source) ≡ true
+    → IsCharBoundary source (at + prefix_len is_word (drop at source))
 identifier_boundary source at utf8 e =
     let s = drop at source in
     let n = prefix_len is_word s in
     let first = begins_first is_letter s e in
     let pos : 0 < n = run_nonempty is_word s (begins_from is_word s first.0 (let f = first.1 in grind (arith, nat_tests))) in
     let fits = identifier_fits source at e in
-    let last : is_word (get_or source (at + (n - 1)) 0) ≡ true = ap is_word (sym (get_or-drop at source (n - 1) 0)) ∙ prefix_len_passes is_word s (n - 1) 0 (omega arith) in
+    let last : is_word (get_or source (at + (n - 1)) 0) ≡ true =
+    ap is_word (sym (get_or-drop at source (n - 1) 0)) ∙ prefix_len_passes is_word s (n - 1) 0 (omega arith) in
     let ascii : get_or source (at + (n - 1)) 0 < 128 = grind (arith, nat_tests) in
     let after = IsCharBoundary-after_ascii source (at + (n - 1)) utf8 (omega arith) ascii in
     let same : at + (n - 1) + 1 ≡ at + n = omega arith in
@@ -328,16 +349,20 @@ at_two (a ∷ b ∷ s) long = refl
 two_more : (s : List ℕ) (a b : ℕ) → 2 ≤ length s → get_or s 0 0 ≡ a → get_or s 1 0 ≡ b → s ≡ a ∷ b ∷ take (length s - 2) (drop 2 s)
 two_more s a b long first second = at_two s long ∙ rw (first, second) (ap (λ (l : List ℕ). a ∷ b ∷ l) (sym (take_rest s 2)))
 
-pub line_found : (s : List ℕ) (n : ℕ) → 2 ≤ length s → get_or s 0 0 ≡ 47 → get_or s 1 0 ≡ 47 → n ≡ prefix_len is_in_line (take (length s - 2) (drop 2 s)) → IsLongestPiece s (n + 2) None
+pub line_found : (s : List ℕ) (n : ℕ) → 2 ≤ length s → get_or s 0 0 ≡ 47 → get_or s 1 0 ≡ 47 → n ≡ prefix_len is_in_line (take (length s - 2) (drop 2 s))
+    → IsLongestPiece s (n + 2) None
 line_found s n long first second n_is =
     let body = take (length s - 2) (drop 2 s) in
     let same : n + 2 ≡ suc (suc (prefix_len is_in_line body)) = omega (arith, n_is) in
-    rw same (subst (λ (l : List ℕ). IsLongestPiece l (suc (suc (prefix_len is_in_line body))) None) (sym (two_more s 47 47 long first second)) (longest_line body))
+    rw same (subst (λ (l : List ℕ). IsLongestPiece l (suc (suc (prefix_len is_in_line body))) None) (sym (two_more s 47 47 long first second))
+    (longest_line body))
 
-pub block_found : (s : List ℕ) (m : ℕ) → 2 ≤ length s → get_or s 0 0 ≡ 47 → get_or s 1 0 ≡ 42 → IsFirstClose (take (length s - 2) (drop 2 s)) m → IsLongestPiece s (m + 4) None
+pub block_found : (s : List ℕ) (m : ℕ) → 2 ≤ length s → get_or s 0 0 ≡ 47 → get_or s 1 0 ≡ 42 → IsFirstClose (take (length s - 2) (drop 2 s)) m
+    → IsLongestPiece s (m + 4) None
 block_found s m long first second close =
     let same : m + 4 ≡ suc (suc (suc (suc m))) = omega arith in
-    rw same (subst (λ (l : List ℕ). IsLongestPiece l (suc (suc (suc (suc m)))) None) (sym (two_more s 47 42 long first second)) (longest_block (take (length s - 2) (drop 2 s)) m close))
+    rw same (subst (λ (l : List ℕ). IsLongestPiece l (suc (suc (suc (suc m)))) None) (sym (two_more s 47 42 long first second))
+    (longest_block (take (length s - 2) (drop 2 s)) m close))
 
 -- a byte that no `/` or `*` follows
 pub alone_short : (s : List ℕ) → length s < 2 → begins is_slash_or_star (drop 1 s) ≡ false
@@ -350,14 +375,17 @@ alone_other [] long no_slash no_star = absurd (omega arith)
 alone_other (a ∷ []) long no_slash no_star = absurd (omega arith)
 alone_other (a ∷ b ∷ s) long no_slash no_star = grind (arith, nat_tests)
 
-pub fault_here : (s rest : List ℕ) (at : ℕ) (kind : Kind) (e : TokenError) → rest ≡ s → IsPieceFault rest 0 kind → e ≡ errors.At (record { offset = at }) kind → IsFaultAfter s at e
+pub fault_here : (s rest : List ℕ) (at : ℕ) (kind : Kind) (e : TokenError) → rest ≡ s → IsPieceFault rest 0 kind → e ≡ errors.At (record { offset = at }) kind
+    → IsFaultAfter s at e
 fault_here s rest at kind e same fault e_is = rw e_is (0, subst (λ (l : List ℕ). IsPieceFault l 0 kind) same fault, sym (add-zero at))
 
 -- no piece begins with any other byte
-pub bad_byte : (s : List ℕ) → 0 < length s → is_blank (get_or s 0 0) ≡ false → is_letter (get_or s 0 0) ≡ false → is_ascii_digit (get_or s 0 0) ≡ false → is_quote (get_or s 0 0) ≡ false → is_punctuation (get_or s 0 0) ≡ false → IsPieceFault s 0 kinds.BadByte
+pub bad_byte : (s : List ℕ) → 0 < length s → is_blank (get_or s 0 0) ≡ false → is_letter (get_or s 0 0) ≡ false → is_ascii_digit (get_or s 0 0) ≡ false
+    → is_quote (get_or s 0 0) ≡ false → is_punctuation (get_or s 0 0) ≡ false → IsPieceFault s 0 kinds.BadByte
 bad_byte s long blank letter digit quote mark = inl (refl, refl, (long, blank, grind (arith, nat_tests)))
 
-pub found_identifier : (s name : List ℕ) → begins is_letter s ≡ true → name ≡ take (prefix_len is_word s) s → IsLongestPiece s (length name) (Some (identifier name))
+pub found_identifier : (s name : List ℕ) → begins is_letter s ≡ true → name ≡ take (prefix_len is_word s) s
+    → IsLongestPiece s (length name) (Some (identifier name))
 found_identifier s name e name_is =
     let len : length name ≡ prefix_len is_word s = ap length name_is ∙ length-take-le (prefix_len is_word s) s (prefix_len-le-length is_word s) in
     rw (len, name_is) (longest_identifier s e)

@@ -40,16 +40,20 @@ numeral_one bs m n (inl a) (inl b) =
 numeral_one bs m n (inl a) (inr (inl b)) =
     let same : a.0 ∷ a.1 ≡ b.0 = let e : 48 ∷ a.0 ∷ a.1 ≡ 48 ∷ b.0 = sym a.2 ∙ b.1 in cc in
     absurd (x_no_digit a.0 a.1 b.0 n a.3 same b.2)
-numeral_one bs m n (inl a) (inr (inr b)) = let first : 48 ≡ b.0 = let e : 48 ∷ a.0 ∷ a.1 ≡ b.0 ∷ b.1 = sym a.2 ∙ b.2 in cc in absurd (omega (arith, b.3.0, first))
+numeral_one bs m n (inl a) (inr (inr b)) =
+    let first : 48 ≡ b.0 = let e : 48 ∷ a.0 ∷ a.1 ≡ b.0 ∷ b.1 = sym a.2 ∙ b.2 in cc in absurd (omega (arith, b.3.0, first))
 numeral_one bs m n (inr (inl a)) (inl b) =
     let same : b.0 ∷ b.1 ≡ a.0 = let e : 48 ∷ b.0 ∷ b.1 ≡ 48 ∷ a.0 = sym b.2 ∙ a.1 in cc in
     absurd (x_no_digit b.0 b.1 a.0 m b.3 same a.2)
 numeral_one bs m n (inr (inl a)) (inr (inl b)) =
     let same : a.0 ≡ b.0 = let e : 48 ∷ a.0 ≡ 48 ∷ b.0 = sym a.1 ∙ b.1 in cc in
     a.2.value ∙ ap (digits_value 8) same ∙ sym b.2.value
-numeral_one bs m n (inr (inl a)) (inr (inr b)) = let first : 48 ≡ b.0 = let e : 48 ∷ a.0 ≡ b.0 ∷ b.1 = sym a.1 ∙ b.2 in cc in absurd (omega (arith, b.3.0, first))
-numeral_one bs m n (inr (inr a)) (inl b) = let first : 48 ≡ a.0 = let e : 48 ∷ b.0 ∷ b.1 ≡ a.0 ∷ a.1 = sym b.2 ∙ a.2 in cc in absurd (omega (arith, a.3.0, first))
-numeral_one bs m n (inr (inr a)) (inr (inl b)) = let first : 48 ≡ a.0 = let e : 48 ∷ b.0 ≡ a.0 ∷ a.1 = sym b.1 ∙ a.2 in cc in absurd (omega (arith, a.3.0, first))
+numeral_one bs m n (inr (inl a)) (inr (inr b)) =
+    let first : 48 ≡ b.0 = let e : 48 ∷ a.0 ≡ b.0 ∷ b.1 = sym a.1 ∙ b.2 in cc in absurd (omega (arith, b.3.0, first))
+numeral_one bs m n (inr (inr a)) (inl b) =
+    let first : 48 ≡ a.0 = let e : 48 ∷ b.0 ∷ b.1 ≡ a.0 ∷ a.1 = sym b.2 ∙ a.2 in cc in absurd (omega (arith, a.3.0, first))
+numeral_one bs m n (inr (inr a)) (inr (inl b)) =
+    let first : 48 ≡ a.0 = let e : 48 ∷ b.0 ≡ a.0 ∷ a.1 = sym b.1 ∙ a.2 in cc in absurd (omega (arith, a.3.0, first))
 numeral_one bs m n (inr (inr a)) (inr (inr b)) = a.4.value ∙ sym b.4.value
 
 -- ---- escapes
@@ -77,7 +81,8 @@ escape_one bs (byte m) e (inl simple) other =
 escape_one bs (byte m) e (inr (inl octal)) other =
     let digits = octal.0 in
     let all : digits ≡ take (length digits) digits = sym (take_all (length digits) digits (omega arith)) in
-    let o = octal_out digits (octal_begins digits m octal.2 octal.4) digits e (length digits) all (subst (λ (l : List ℕ). IsEscape l e) octal.1 other) octal.2 in
+    let o =
+    octal_out digits (octal_begins digits m octal.2 octal.4) digits e (length digits) all (subst (λ (l : List ℕ). IsEscape l e) octal.1 other) octal.2 in
     let value : m ≡ o.0 = octal.4.value ∙ sym o.3.value in
     ap byte value ∙ sym o.2
 escape_one bs (byte m) e (inr (inr hex)) other =
@@ -85,14 +90,16 @@ escape_one bs (byte m) e (inr (inr hex)) other =
     let value : m ≡ o.0 = hex.6.value ∙ sym o.4.value in
     ap byte value ∙ sym o.3
 escape_one bs (character m) e unicode other =
-    let o = unicode_out unicode.0 (length unicode.1) (elim unicode.3 [ inl f ↦ inl (f.0, f.1) | inr f ↦ inr (f.0, f.1) ]) [] unicode.1 e (subst (λ (l : List ℕ). IsEscape l e) unicode.2 other) in
+    let o = unicode_out unicode.0 (length unicode.1) (elim unicode.3 [ inl f ↦ inl (f.0, f.1) | inr f ↦ inr (f.0, f.1) ]) [] unicode.1 e
+    (subst (λ (l : List ℕ). IsEscape l e) unicode.2 other) in
     let value : m ≡ o.0 = unicode.4.value ∙ sym o.3.value in
     ap character value ∙ sym o.2
 
 -- ---- cuttings
 
 -- where one part at most stands at a place, a text has one cutting that can't go on
-pub cut_one : {P : Type 0} (IsPart : List ℕ → P → Type 0) (len : P → ℕ) → ((s : List ℕ) (p q : P) → IsPart s p → IsPart s q → p ≡ q) → (s : List ℕ) (from : ℕ) (ps qs : List P) (m n : ℕ) → IsCutInto IsPart len s from ps m → IsCutInto IsPart len s from qs n
+pub cut_one : {P : Type 0} (IsPart : List ℕ → P → Type 0) (len : P → ℕ) → ((s : List ℕ) (p q : P) → IsPart s p → IsPart s q → p ≡ q)
+    → (s : List ℕ) (from : ℕ) (ps qs : List P) (m n : ℕ) → IsCutInto IsPart len s from ps m → IsCutInto IsPart len s from qs n
     → ((p : P) → IsPart (drop m s) p → ⊥) → ((p : P) → IsPart (drop n s) p → ⊥) → (ps ≡ qs) × (m ≡ n)
 cut_one IsPart len one s from [] [] m n a b no_m no_n = (refl, sym a ∙ b)
 cut_one IsPart len one s from [] (q ∷ qs) m n a b no_m no_n = absurd (no_m q (subst (λ (i : ℕ). IsPart (drop i s) q) a b.0))
@@ -122,20 +129,24 @@ part_one quote s p q (inr a) (inr b) =
 
 -- ---- strings
 
-opened_one : (s : List ℕ) (q r : ℕ) (a b : List ℕ) (ps qs : List Part) (m n : ℕ) → IsOpened s q a ps m → IsOpened s r b qs n → ((p : Part) → IsPart q (drop m a) p → ⊥) → ((p : Part) → IsPart r (drop n b) p → ⊥)
+opened_one : (s : List ℕ) (q r : ℕ) (a b : List ℕ) (ps qs : List Part) (m n : ℕ) → IsOpened s q a ps m → IsOpened s r b qs n
+    → ((p : Part) → IsPart q (drop m a) p → ⊥) → ((p : Part) → IsPart r (drop n b) p → ⊥)
     → (q ≡ r) × (a ≡ b) × (ps ≡ qs) × (m ≡ n)
 opened_one s q r a b ps qs m n x y no_m no_n =
     let same : q ∷ a ≡ r ∷ b = sym x.begins_so ∙ y.begins_so in
     let quote : q ≡ r = cc in
     let after : a ≡ b = cc in
-    let cut : IsCutInto (IsPart q) (λ p. p.len) a 0 qs n = subst (λ (c : ℕ). IsCutInto (IsPart c) (λ p. p.len) a 0 qs n) (sym quote) (subst (λ (l : List ℕ). IsCutInto (IsPart r) (λ p. p.len) l 0 qs n) (sym after) y.cut) in
-    let no_n' : (p : Part) → IsPart q (drop n a) p → ⊥ = λ p is. no_n p (subst (λ (c : ℕ). IsPart c (drop n b) p) quote (subst (λ (l : List ℕ). IsPart q (drop n l) p) after is)) in
+    let cut : IsCutInto (IsPart q) (λ p. p.len) a 0 qs n = subst (λ (c : ℕ). IsCutInto (IsPart c) (λ p. p.len) a 0 qs n) (sym quote)
+    (subst (λ (l : List ℕ). IsCutInto (IsPart r) (λ p. p.len) l 0 qs n) (sym after) y.cut) in
+    let no_n' : (p : Part) → IsPart q (drop n a) p → ⊥ =
+    λ p is. no_n p (subst (λ (c : ℕ). IsPart c (drop n b) p) quote (subst (λ (l : List ℕ). IsPart q (drop n l) p) after is)) in
     let one = cut_one (IsPart q) (λ p. p.len) (part_one q) a 0 ps qs m n x.cut cut no_m no_n' in
     (quote, after, one.0, one.1)
 
 string_one : (s : List ℕ) (m n : ℕ) (v w : List ℕ) → IsString s m v → IsString s n w → v ≡ w
 string_one s m n v w a b =
-    let one = opened_one s a.0 b.0 a.1 b.1 a.2 b.2 a.3 b.3 a.4 b.4 (no_part_at_quote a.0 a.1 a.3 a.4.quote_is a.5) (no_part_at_quote b.0 b.1 b.3 b.4.quote_is b.5) in
+    let one =
+    opened_one s a.0 b.0 a.1 b.1 a.2 b.2 a.3 b.3 a.4 b.4 (no_part_at_quote a.0 a.1 a.3 a.4.quote_is a.5) (no_part_at_quote b.0 b.1 b.3 b.4.quote_is b.5) in
     a.7 ∙ ap value_of one.2 ∙ sym b.7
 
 no_part_at_end : (quote : ℕ) (after : List ℕ) (end : ℕ) (p : Part) → length after ≤ end → IsPart quote (drop end after) p → ⊥
@@ -144,43 +155,71 @@ no_part_at_end quote after end p le (inr escape) =
     let long = (escape_begins (take p.len (drop end after)) escape.0 escape.1.0.escape_is).0 in
     omega (arith, long, length-take-le p.len (drop end after) escape.1.0.fits, escape.1.0.fits, ap length (drop_all end after le))
 
-no_part_at_byte : (quote : ℕ) (after : List ℕ) (end b : ℕ) → HasByteAt after end b → is_plain quote b ≡ false → (b ≡ 92 → ⊥) → (p : Part) → IsPart quote (drop end after) p → ⊥
+no_part_at_byte : (quote : ℕ) (after : List ℕ) (end b : ℕ) → HasByteAt after end b → is_plain quote b ≡ false → (b ≡ 92 → ⊥) → (p : Part)
+    → IsPart quote (drop end after) p → ⊥
 no_part_at_byte quote after end b here not_plain no_backslash p is =
-    no_part quote (drop end after) (get_or after end 0) (drop (end + 1) after) (drop_more after end 0 here.0) (ap (is_plain quote) here.1 ∙ not_plain) (λ e. absurd (no_backslash (sym here.1 ∙ e))) p is
+    no_part quote (drop end after) (get_or after end 0) (drop (end + 1) after) (drop_more after end 0 here.0) (ap (is_plain quote) here.1 ∙ not_plain)
+    (λ e. absurd (no_backslash (sym here.1 ∙ e))) p is
 
 -- where a string's fault lies no part stands
-no_part_at_fault : (quote : ℕ) (after : List ℕ) (parts : List Part) (end at : ℕ) (kind : Kind) → is_quote quote ≡ true → IsPartFault quote after parts end at kind → (p : Part) → IsPart quote (drop end after) p → ⊥
+no_part_at_fault : (quote : ℕ) (after : List ℕ) (parts : List Part) (end at : ℕ) (kind : Kind) → is_quote quote ≡ true
+    → IsPartFault quote after parts end at kind → (p : Part) → IsPart quote (drop end after) p → ⊥
 no_part_at_fault quote after parts end at kind quote_is (inl escape) p is = escape.3 p is
 no_part_at_fault quote after parts end at kind quote_is (inr (inl closed)) p is = no_part_at_quote quote after end quote_is closed.2 p is
-no_part_at_fault quote after parts end at kind quote_is (inr (inr (inl zero_byte))) p is = no_part_at_byte quote after end 0 zero_byte.2 (grind (arith, nat_tests)) (λ e. omega arith) p is
+no_part_at_fault quote after parts end at kind quote_is (inr (inr (inl zero_byte))) p is =
+    no_part_at_byte quote after end 0 zero_byte.2 (grind (arith, nat_tests)) (λ e. omega arith) p is
 no_part_at_fault quote after parts end at kind quote_is (inr (inr (inr open_))) p is =
-    elim open_.2 [ inl ends ↦ no_part_at_end quote after end p (omega arith) is | inr line ↦ no_part_at_byte quote after end 10 line (grind (arith, nat_tests)) (λ e. omega arith) p is ]
+    elim open_.2 [
+      | inl ends ↦ no_part_at_end quote after end p (omega arith) is
+      | inr line ↦
+          no_part_at_byte quote after end 10 line (grind (arith, nat_tests)) (λ e. omega arith) p is
+    ]
 
 -- the byte where a fault lies is not the closing quote, or else the value is no text
-not_closed : (quote : ℕ) (after : List ℕ) (parts : List Part) (end at : ℕ) (kind : Kind) → is_quote quote ≡ true → IsPartFault quote after parts end at kind → HasByteAt after end quote → IsUtf8 (value_of parts) → ⊥
+not_closed : (quote : ℕ) (after : List ℕ) (parts : List Part) (end at : ℕ) (kind : Kind) → is_quote quote ≡ true → IsPartFault quote after parts end at kind
+    → HasByteAt after end quote → IsUtf8 (value_of parts) → ⊥
 not_closed quote after parts end at kind quote_is (inl escape) closes utf8 = let e : quote ≡ 92 = sym closes.1 ∙ escape.2.1 in grind (arith, nat_tests)
 not_closed quote after parts end at kind quote_is (inr (inl closed)) closes utf8 = closed.3 utf8
-not_closed quote after parts end at kind quote_is (inr (inr (inl zero_byte))) closes utf8 = let e : quote ≡ 0 = sym closes.1 ∙ zero_byte.2.1 in grind (arith, nat_tests)
+not_closed quote after parts end at kind quote_is (inr (inr (inl zero_byte))) closes utf8 =
+    let e : quote ≡ 0 = sym closes.1 ∙ zero_byte.2.1 in grind (arith, nat_tests)
 not_closed quote after parts end at kind quote_is (inr (inr (inr open_))) closes utf8 =
     elim open_.2 [ inl ends ↦ omega (arith, closes.0) | inr line ↦ (let e : quote ≡ 10 = sym closes.1 ∙ line.1 in grind (arith, nat_tests)) ]
 
 -- a string with a fault is no string
 no_string : (s : List ℕ) (n at : ℕ) (v : List ℕ) (kind : Kind) → IsString s n v → IsStringFault s at kind → ⊥
 no_string s n at v kind a b =
-    let one = opened_one s a.0 b.0 a.1 b.1 a.2 b.2 a.3 b.3 a.4 b.4 (no_part_at_quote a.0 a.1 a.3 a.4.quote_is a.5) (no_part_at_fault b.0 b.1 b.2 b.3 at kind b.4.quote_is b.5) in
-    let closes : HasByteAt b.1 b.3 b.0 = subst (λ (q : ℕ). HasByteAt b.1 b.3 q) one.0 (subst (λ (i : ℕ). HasByteAt b.1 i a.0) one.3 (subst (λ (l : List ℕ). HasByteAt l a.3 a.0) one.1 a.5)) in
+    let one = opened_one s a.0 b.0 a.1 b.1 a.2 b.2 a.3 b.3 a.4 b.4 (no_part_at_quote a.0 a.1 a.3 a.4.quote_is a.5)
+    (no_part_at_fault b.0 b.1 b.2 b.3 at kind b.4.quote_is b.5) in
+    let closes : HasByteAt b.1 b.3 b.0 =
+    subst (λ (q : ℕ). HasByteAt b.1 b.3 q) one.0 (subst (λ (i : ℕ). HasByteAt b.1 i a.0) one.3 (subst (λ (l : List ℕ). HasByteAt l a.3 a.0) one.1 a.5)) in
     not_closed b.0 b.1 b.2 b.3 at kind b.4.quote_is b.5 closes (subst IsUtf8 (a.7 ∙ ap value_of one.2) a.8)
 
 -- ---- pieces
 
 none_one : (s : List ℕ) (n : ℕ) (w : Option Lexeme) → IsPiece s n None → IsPiece s n w → w ≡ None
 none_one s n None a b = refl
-none_one s n (Some (identifier name)) a b = absurd (elim (starts s n None a).2 [ inl blank ↦ (let f = (starts s n (Some (identifier name)) b).2 in grind (arith, nat_tests)) | inr slash ↦ (let f = (starts s n (Some (identifier name)) b).2 in grind (arith, nat_tests)) ])
-none_one s n (Some (number v)) a b = absurd (elim (starts s n None a).2 [ inl blank ↦ (let f = (starts s n (Some (number v)) b).2 in grind (arith, nat_tests)) | inr slash ↦ (let f = (starts s n (Some (number v)) b).2 in grind (arith, nat_tests)) ])
-none_one s n (Some (string_literal v)) a b = absurd (elim (starts s n None a).2 [ inl blank ↦ (let f = (starts s n (Some (string_literal v)) b).2 in grind (arith, nat_tests)) | inr slash ↦ (let f = (starts s n (Some (string_literal v)) b).2 in grind (arith, nat_tests)) ])
+none_one s n (Some (identifier name)) a b = absurd (elim (starts s n None a).2 [
+  | inl blank ↦
+      (let f = (starts s n (Some (identifier name)) b).2 in grind (arith, nat_tests))
+  | inr slash ↦
+      (let f = (starts s n (Some (identifier name)) b).2 in grind (arith, nat_tests))
+])
+none_one s n (Some (number v)) a b = absurd (elim (starts s n None a).2 [
+  | inl blank ↦
+      (let f = (starts s n (Some (number v)) b).2 in grind (arith, nat_tests))
+  | inr slash ↦
+      (let f = (starts s n (Some (number v)) b).2 in grind (arith, nat_tests))
+])
+none_one s n (Some (string_literal v)) a b = absurd (elim (starts s n None a).2 [
+  | inl blank ↦
+      (let f = (starts s n (Some (string_literal v)) b).2 in grind (arith, nat_tests))
+  | inr slash ↦
+      (let f = (starts s n (Some (string_literal v)) b).2 in grind (arith, nat_tests))
+])
 none_one s n (Some (punctuation c)) (inl blanks) b = absurd (elim (starts s n None (inl blanks)).2 [
   | inl blank ↦ (let f = (starts s n (Some (punctuation c)) b).2 in grind (arith, nat_tests))
-  | inr slash ↦ (let f = All-get_or (λ b. is_blank b ≡ true) (take n s) 0 0 blanks.0 blanks.1 in let g : is_blank c ≡ true = sym (ap (λ (l : List ℕ). is_blank (get_or l 0 0)) b.0) ∙ f in let h = b.1 in grind (arith, nat_tests))
+  | inr slash ↦ (let f = All-get_or (λ b. is_blank b ≡ true) (take n s) 0 0 blanks.0 blanks.1 in let g : is_blank c ≡ true =
+      sym (ap (λ (l : List ℕ). is_blank (get_or l 0 0)) b.0) ∙ f in let h = b.1 in grind (arith, nat_tests))
 ])
 none_one s n (Some (punctuation c)) (inr (inl line)) b = let e : 47 ∷ 47 ∷ line.0 ≡ c ∷ [] = sym line.1 ∙ b.0 in absurd cc
 none_one s n (Some (punctuation c)) (inr (inr block)) b = let e : 47 ∷ 42 ∷ (block.0 ++ 42 ∷ 47 ∷ []) ≡ c ∷ [] = sym block.1 ∙ b.0 in absurd cc
@@ -202,7 +241,8 @@ piece_one s n (Some (string_literal v)) w a b =
 piece_one s n (Some (punctuation c)) w a b =
     elim (punctuation_alone (get_or s 0 0) w (starts s n (Some (punctuation c)) a).2 (starts s n w b).2) [
       | inl none ↦ none_one s n (Some (punctuation c)) (subst (IsPiece s n) none.0 b) a ∙ sym none.0
-      | inr same ↦ let b' = subst (IsPiece s n) same.1 b in let e : c ∷ [] ≡ same.0 ∷ [] = sym a.0 ∙ b'.0 in let f : c ≡ same.0 = cc in ap (λ (x : ℕ). Some (punctuation x)) f ∙ sym same.1
+      | inr same ↦ let b' = subst (IsPiece s n) same.1 b in let e : c ∷ [] ≡ same.0 ∷ [] =
+          sym a.0 ∙ b'.0 in let f : c ≡ same.0 = cc in ap (λ (x : ℕ). Some (punctuation x)) f ∙ sym same.1
     ]
 
 same_piece : (p q : Piece) → p.len ≡ q.len → p.is ≡ q.is → p ≡ q
@@ -225,7 +265,8 @@ no_piece_at_end s p is = omega (arith, (starts (drop (length s) s) p.len p.is is
 -- a text spells one list of tokens
 pub spelling_one : (s : List ℕ) (from : ℕ) (ts us : List Spelled) → SpellsFrom s from ts → SpellsFrom s from us → ts ≡ us
 spelling_one s from ts us a b =
-    let one = cut_one (λ rest (p : Piece). IsLongestPiece rest p.len p.is) (λ p. p.len) longest_one s from a.0 b.0 (length s) (length s) a.1 b.1 (no_piece_at_end s) (no_piece_at_end s) in
+    let one = cut_one (λ rest (p : Piece). IsLongestPiece rest p.len p.is) (λ p. p.len) longest_one s from a.0 b.0 (length s) (length s) a.1 b.1
+    (no_piece_at_end s) (no_piece_at_end s) in
     sym a.2 ∙ ap (tokens_from from) one.0 ∙ b.2
 
 -- ---- faults of strings
@@ -234,9 +275,11 @@ spelling_one s from ts us a b =
 abbrev PartFaultCase : ℕ → List ℕ → ℕ → ℕ → Kind → Type 0
 PartFaultCase quote after end at kind =
     (HasByteAt after end 92 × (kind ≡ kinds.BadEscape) × (at ≡ end + 1)) ⊎ ((HasByteAt after end quote × (kind ≡ kinds.BadEscape) × (at ≡ 0))
-    ⊎ ((HasByteAt after end 0 × (kind ≡ kinds.BadByte) × (at ≡ end + 1)) ⊎ (((b : ℕ) → HasByteAt after end b → b ≡ 10) × (kind ≡ kinds.UnclosedString) × (at ≡ 0))))
+    ⊎ ((HasByteAt after end 0 × (kind ≡ kinds.BadByte) × (at ≡ end + 1))
+    ⊎ (((b : ℕ) → HasByteAt after end b → b ≡ 10) × (kind ≡ kinds.UnclosedString) × (at ≡ 0))))
 
-part_fault_case : (quote : ℕ) (after : List ℕ) (parts : List Part) (end at : ℕ) (kind : Kind) → IsPartFault quote after parts end at kind → PartFaultCase quote after end at kind
+part_fault_case : (quote : ℕ) (after : List ℕ) (parts : List Part) (end at : ℕ) (kind : Kind) → IsPartFault quote after parts end at kind
+    → PartFaultCase quote after end at kind
 part_fault_case quote after parts end at kind (inl escape) = inl (escape.2, escape.0, escape.1)
 part_fault_case quote after parts end at kind (inr (inl closed)) = inr (inl (closed.2, closed.0, closed.1))
 part_fault_case quote after parts end at kind (inr (inr (inl zero_byte))) = inr (inr (inl (zero_byte.2, zero_byte.0, zero_byte.1)))
@@ -249,7 +292,8 @@ same_byte after end b c x y = sym x.1 ∙ y.1
 quote_other : (quote b : ℕ) → is_quote quote ≡ true → quote ≡ b → is_quote b ≡ false → ⊥
 quote_other quote b e same other = both_ways (is_quote b) other (sym (ap is_quote same) ∙ e)
 
-part_fault_one : (quote : ℕ) (after : List ℕ) (end m n : ℕ) (j k : Kind) → is_quote quote ≡ true → PartFaultCase quote after end m j → PartFaultCase quote after end n k → (m ≡ n) × (j ≡ k)
+part_fault_one : (quote : ℕ) (after : List ℕ) (end m n : ℕ) (j k : Kind) → is_quote quote ≡ true → PartFaultCase quote after end m j
+    → PartFaultCase quote after end n k → (m ≡ n) × (j ≡ k)
 part_fault_one quote after end m n j k q (inl a) (inl b) = (a.2 ∙ sym b.2, a.1 ∙ sym b.1)
 part_fault_one quote after end m n j k q (inl a) (inr (inl b)) = absurd (quote_other quote 92 q (same_byte after end quote 92 b.0 a.0) refl)
 part_fault_one quote after end m n j k q (inl a) (inr (inr (inl b))) = let e = same_byte after end 92 0 a.0 b.0 in absurd (omega arith)
@@ -269,9 +313,12 @@ part_fault_one quote after end m n j k q (inr (inr (inr a))) (inr (inr (inr b)))
 
 string_fault_one : (s : List ℕ) (m n : ℕ) (j k : Kind) → IsStringFault s m j → IsStringFault s n k → (m ≡ n) × (j ≡ k)
 string_fault_one s m n j k a b =
-    let one = opened_one s a.0 b.0 a.1 b.1 a.2 b.2 a.3 b.3 a.4 b.4 (no_part_at_fault a.0 a.1 a.2 a.3 m j a.4.quote_is a.5) (no_part_at_fault b.0 b.1 b.2 b.3 n k b.4.quote_is b.5) in
+    let one = opened_one s a.0 b.0 a.1 b.1 a.2 b.2 a.3 b.3 a.4 b.4 (no_part_at_fault a.0 a.1 a.2 a.3 m j a.4.quote_is a.5)
+    (no_part_at_fault b.0 b.1 b.2 b.3 n k b.4.quote_is b.5) in
     let case_a = part_fault_case a.0 a.1 a.2 a.3 m j a.5 in
-    let case_b : PartFaultCase a.0 a.1 a.3 n k = subst (λ (q : ℕ). PartFaultCase q a.1 a.3 n k) (sym one.0) (subst (λ (l : List ℕ). PartFaultCase b.0 l a.3 n k) (sym one.1) (subst (λ (i : ℕ). PartFaultCase b.0 b.1 i n k) (sym one.3) (part_fault_case b.0 b.1 b.2 b.3 n k b.5))) in
+    let case_b : PartFaultCase a.0 a.1 a.3 n k = subst (λ (q : ℕ). PartFaultCase q a.1 a.3 n k) (sym one.0)
+    (subst (λ (l : List ℕ). PartFaultCase b.0 l a.3 n k) (sym one.1)
+    (subst (λ (i : ℕ). PartFaultCase b.0 b.1 i n k) (sym one.3) (part_fault_case b.0 b.1 b.2 b.3 n k b.5))) in
     part_fault_one a.0 a.1 a.3 m n j k a.4.quote_is case_a case_b
 
 -- ---- faults of pieces
@@ -279,8 +326,11 @@ string_fault_one s m n j k a b =
 -- what decides the fault of a piece that can't be made
 abbrev PieceFaultCase : List ℕ → ℕ → Kind → Type 0
 PieceFaultCase s at kind =
-    ((is_blank (get_or s 0 0) ≡ false) × (is_ascii_graphic (get_or s 0 0) ≡ false) × (kind ≡ kinds.BadByte) × (at ≡ 0)) ⊎ (((is_ascii_digit (get_or s 0 0) ≡ true) × IsBadNumber s × (kind ≡ kinds.BadNumber) × (at ≡ 0))
-    ⊎ (((is_ascii_digit (get_or s 0 0) ≡ true) × IsTooBig s × (kind ≡ kinds.NumberTooBig) × (at ≡ 0)) ⊎ (((rest : List ℕ) × (s ≡ 47 ∷ 42 ∷ rest) × HasNoClose rest × (kind ≡ kinds.UnclosedComment) × (at ≡ 0)) ⊎ ((is_quote (get_or s 0 0) ≡ true) × IsStringFault s at kind))))
+    ((is_blank (get_or s 0 0) ≡ false) × (is_ascii_graphic (get_or s 0 0) ≡ false) × (kind ≡ kinds.BadByte) × (at ≡ 0))
+    ⊎ (((is_ascii_digit (get_or s 0 0) ≡ true) × IsBadNumber s × (kind ≡ kinds.BadNumber) × (at ≡ 0))
+    ⊎ (((is_ascii_digit (get_or s 0 0) ≡ true) × IsTooBig s × (kind ≡ kinds.NumberTooBig) × (at ≡ 0))
+    ⊎ (((rest : List ℕ) × (s ≡ 47 ∷ 42 ∷ rest) × HasNoClose rest × (kind ≡ kinds.UnclosedComment) × (at ≡ 0))
+    ⊎ ((is_quote (get_or s 0 0) ≡ true) × IsStringFault s at kind))))
 
 fault_quote : (s : List ℕ) (at : ℕ) (kind : Kind) → IsStringFault s at kind → is_quote (get_or s 0 0) ≡ true
 fault_quote s at kind fault = ap (λ (l : List ℕ). is_quote (get_or l 0 0)) fault.4.begins_so ∙ fault.4.quote_is
@@ -339,7 +389,13 @@ no_lone_slash rest (suc (suc n)) c within is = let e : 47 ∷ 42 ∷ take n rest
 fault_long : (s : List ℕ) (at : ℕ) (kind : Kind) → IsPieceFault s at kind → s ≡ [] → ⊥
 fault_long s at kind (inl bad) empty = omega (arith, bad.2.0, ap length empty)
 fault_long s at kind (inr (inl bad)) empty = omega (arith, (begins_first is_ascii_digit s bad.2.0).0, ap length empty)
-fault_long s at kind (inr (inr (inl big))) empty = omega (arith, (begins_first is_ascii_digit (take big.2.0 s) (numeral_numeric (take big.2.0 s) big.2.1 big.2.3).1).0, length-take-le big.2.0 s big.2.2, big.2.2, ap length empty)
+fault_long s at kind (inr (inr (inl big))) empty = omega (
+  arith,
+  (begins_first is_ascii_digit (take big.2.0 s) (numeral_numeric (take big.2.0 s) big.2.1 big.2.3).1).0,
+  length-take-le big.2.0 s big.2.2,
+  big.2.2,
+  ap length empty,
+)
 fault_long s at kind (inr (inr (inr (inl open_)))) empty = let e : 0 ≡ suc (suc (length open_.2.0)) = ap length (sym empty ∙ open_.2.1) in omega arith
 fault_long s at kind (inr (inr (inr (inr fault)))) empty = let e : 0 ≡ suc (length fault.1) = ap length (sym empty ∙ fault.4.begins_so) in omega arith
 
@@ -390,7 +446,9 @@ no_small_number s n v within big is =
     omega (arith, big.5, value, is.1)
 
 no_comment_open : (rest : List ℕ) (n : ℕ) (w : Option Lexeme) → HasNoClose rest → n ≤ length (47 ∷ 42 ∷ rest) → IsPiece (47 ∷ 42 ∷ rest) n w → w ≡ None → ⊥
-no_comment_open rest n None none within (inl blanks) e = let first = (starts (47 ∷ 42 ∷ rest) n None (inl blanks)).0 in both_ways (is_blank 47) refl (sym (ap is_blank (get_or-take n (47 ∷ 42 ∷ rest) 0 0 first)) ∙ All-get_or (λ b. is_blank b ≡ true) (take n (47 ∷ 42 ∷ rest)) 0 0 blanks.0 blanks.1)
+no_comment_open rest n None none within (inl blanks) e = let first = (starts (47 ∷ 42 ∷ rest) n None (inl blanks)).0 in
+    both_ways (is_blank 47) refl (sym (ap is_blank (get_or-take n (47 ∷ 42 ∷ rest) 0 0 first))
+    ∙ All-get_or (λ b. is_blank b ≡ true) (take n (47 ∷ 42 ∷ rest)) 0 0 blanks.0 blanks.1)
 no_comment_open rest n None none within (inr (inl line)) e =
     let len : n ≡ length line.0 + 2 = sym (length-take-le n (47 ∷ 42 ∷ rest) within) ∙ ap length line.1 ∙ omega arith in
     let second : get_or (take n (47 ∷ 42 ∷ rest)) 1 0 ≡ 47 = ap (λ (l : List ℕ). get_or l 1 0) line.1 in
@@ -400,7 +458,8 @@ no_comment_open rest n None none within (inr (inr block)) e =
     let body = block.0 in
     let len : n ≡ suc (suc (length (body ++ 42 ∷ 47 ∷ []))) = sym (length-take-le n (47 ∷ 42 ∷ rest) within) ∙ ap length block.1 in
     let size = length-append body (42 ∷ 47 ∷ []) in
-    let at : (i : ℕ) → i < length body + 2 → get_or rest i 0 ≡ get_or (body ++ 42 ∷ 47 ∷ []) i 0 = λ i lt. sym (get_or-take n (47 ∷ 42 ∷ rest) (suc (suc i)) 0 (omega arith)) ∙ ap (λ (l : List ℕ). get_or l (suc (suc i)) 0) block.1 in
+    let at : (i : ℕ) → i < length body + 2 → get_or rest i 0 ≡ get_or (body ++ 42 ∷ 47 ∷ []) i 0 =
+    λ i lt. sym (get_or-take n (47 ∷ 42 ∷ rest) (suc (suc i)) 0 (omega arith)) ∙ ap (λ (l : List ℕ). get_or l (suc (suc i)) 0) block.1 in
     let star : get_or rest (length body) 0 ≡ 42 = at (length body) (omega arith) ∙ get_or_at body 42 (47 ∷ []) 0 (length body) refl in
     let slash : get_or rest (length body + 1) 0 ≡ 47 = at (length body + 1) (omega arith) ∙ get_or-append-add body (42 ∷ 47 ∷ []) 1 0 in
     none (length body) star slash
@@ -434,13 +493,15 @@ no_piece_at_fault s at kind p fault is = no_piece_in_case s at kind p.len p.is i
 
 pub no_spelling : (s : List ℕ) (from place : ℕ) (kind : Kind) (ts : List Spelled) → SpellsFrom s from ts → HasPieceFault s from place kind → ⊥
 no_spelling s from place kind ts a b =
-    let one = cut_one (λ rest (p : Piece). IsLongestPiece rest p.len p.is) (λ p. p.len) longest_one s from a.0 b.0 (length s) b.1 a.1 b.3 (no_piece_at_end s) (λ p. no_piece_at_fault (drop b.1 s) b.2 kind p b.4) in
+    let one = cut_one (λ rest (p : Piece). IsLongestPiece rest p.len p.is) (λ p. p.len) longest_one s from a.0 b.0 (length s) b.1 a.1 b.3 (no_piece_at_end s)
+    (λ p. no_piece_at_fault (drop b.1 s) b.2 kind p b.4) in
     let nothing : drop b.1 s ≡ [] = drop_all b.1 s (omega (arith, one.1)) in
     fault_long (drop b.1 s) b.2 kind b.4 nothing
 
 pub fault_one : (s : List ℕ) (from m n : ℕ) (j k : Kind) → HasPieceFault s from m j → HasPieceFault s from n k → (m ≡ n) × (j ≡ k)
 fault_one s from m n j k a b =
-    let one = cut_one (λ rest (p : Piece). IsLongestPiece rest p.len p.is) (λ p. p.len) longest_one s from a.0 b.0 a.1 b.1 a.3 b.3 (λ p. no_piece_at_fault (drop a.1 s) a.2 j p a.4) (λ p. no_piece_at_fault (drop b.1 s) b.2 k p b.4) in
+    let one = cut_one (λ rest (p : Piece). IsLongestPiece rest p.len p.is) (λ p. p.len) longest_one s from a.0 b.0 a.1 b.1 a.3 b.3
+    (λ p. no_piece_at_fault (drop a.1 s) a.2 j p a.4) (λ p. no_piece_at_fault (drop b.1 s) b.2 k p b.4) in
     let same = piece_fault_one (drop a.1 s) a.2 b.2 j k a.4 (subst (λ (i : ℕ). IsPieceFault (drop i s) b.2 k) (sym one.1) b.4) in
     (a.5 ∙ (λ i. one.1 i + same.0 i) ∙ sym b.5, same.1)
 
@@ -467,13 +528,16 @@ file_fault_one limit s m n j k (inr (inr a)) (inr (inr b)) = fault_one s (mark_l
 
 -- what an answer that is right says of every spelling and of every fault
 
-pub of_every_spelling : (limit : ℕ) (s : List ℕ) (result : Result Tokens TokenError) → MatchResult result (λ tokens. IsTokenList limit s (tokens_of tokens)) (IsFaultOf limit s) → (ts : List Spelled) → IsTokenList limit s ts
+pub of_every_spelling : (limit : ℕ) (s : List ℕ) (result : Result Tokens TokenError)
+    → MatchResult result (λ tokens. IsTokenList limit s (tokens_of tokens)) (IsFaultOf limit s) → (ts : List Spelled) → IsTokenList limit s ts
     → MatchResult result (λ tokens. tokens_of tokens ≡ ts) (λ e. e ≡ errors.NoMemory)
 of_every_spelling limit s (Ok tokens) right ts is = tokens_one limit s (tokens_of tokens) ts right is
 of_every_spelling limit s (Err (errors.At place kind)) right ts is = absurd (tokens_no_fault limit s ts place.offset kind is right)
 of_every_spelling limit s (Err errors.NoMemory) right ts is = refl
 
-pub of_every_fault : (limit : ℕ) (s : List ℕ) (result : Result Tokens TokenError) → MatchResult result (λ tokens. IsTokenList limit s (tokens_of tokens)) (IsFaultOf limit s) → (place : ℕ) (kind : Kind) → IsFault limit s place kind → IsErrAnd result (TellsFault place kind)
+pub of_every_fault : (limit : ℕ) (s : List ℕ) (result : Result Tokens TokenError)
+    → MatchResult result (λ tokens. IsTokenList limit s (tokens_of tokens)) (IsFaultOf limit s) → (place : ℕ) (kind : Kind) → IsFault limit s place kind
+    → IsErrAnd result (TellsFault place kind)
 of_every_fault limit s (Ok tokens) right place kind fault = tokens_no_fault limit s (tokens_of tokens) place kind right fault
 of_every_fault limit s (Err (errors.At there other)) right place kind fault = file_fault_one limit s there.offset place other kind right fault
 of_every_fault limit s (Err errors.NoMemory) right place kind fault = tt

@@ -9,7 +9,8 @@ pub data Escaped : Type 0 where
   byte : ℕ → Escaped
   character : ℕ → Escaped
 
--- the byte that `\a`, `\b`, `\f`, `\n`, `\r`, `\t`, `\v`, `\\`, `\'`, `\"` or `\?` stands for, by what follows the backslash
+-- the byte that `\a`, `\b`, `\f`, `\n`, `\r`, `\t`, `\v`, `\\`, `\'`, `\"` or `\?` stands for, by what follows the
+-- backslash
 abbrev pub simple_escape : ℕ → Option ℕ
 simple_escape c =
     if c == ascii "a" then Some 7
@@ -28,15 +29,18 @@ IsSimpleEscape bs n = (c : ℕ) × (bs ≡ ascii "\\" ∷ c ∷ []) × (simple_e
 
 -- a backslash, and one to three octal digits
 abbrev pub IsOctalEscape : List ℕ → ℕ → Type 0
-IsOctalEscape bs n = (digits : List ℕ) × (bs ≡ ascii "\\" ∷ digits) × (0 < length digits) × (length digits ≤ 3) × Writes 8 digits n
+IsOctalEscape bs n =
+    (digits : List ℕ) × (bs ≡ ascii "\\" ∷ digits) × (0 < length digits) × (length digits ≤ 3) × Writes 8 digits n
 
 -- `\x` or `\X`, and one or two hexadecimal digits
 abbrev pub IsHexEscape : List ℕ → ℕ → Type 0
-IsHexEscape bs n = (x : ℕ) × (digits : List ℕ) × (bs ≡ ascii "\\" ∷ x ∷ digits) × ((x ≡ ascii "x") ⊎ (x ≡ ascii "X")) × (0 < length digits) × (length digits ≤ 2) × Writes 16 digits n
+IsHexEscape bs n = (x : ℕ) × (digits : List ℕ) × (bs ≡ ascii "\\" ∷ x ∷ digits) × ((x ≡ ascii "x") ⊎ (x ≡ ascii "X"))
+    × (0 < length digits) × (length digits ≤ 2) × Writes 16 digits n
 
 -- `\u` and four hexadecimal digits, or `\U` and eight
 abbrev pub IsUnicodeEscape : List ℕ → ℕ → Type 0
-IsUnicodeEscape bs n = (u : ℕ) × (digits : List ℕ) × (bs ≡ ascii "\\" ∷ u ∷ digits) × (((u ≡ ascii "u") × (length digits ≡ 4)) ⊎ ((u ≡ ascii "U") × (length digits ≡ 8))) × Writes 16 digits n
+IsUnicodeEscape bs n = (u : ℕ) × (digits : List ℕ) × (bs ≡ ascii "\\" ∷ u ∷ digits)
+    × (((u ≡ ascii "u") × (length digits ≡ 4)) ⊎ ((u ≡ ascii "U") × (length digits ≡ 8))) × Writes 16 digits n
 
 -- the bytes have the form of an escape, whatever its value
 abbrev pub IsEscape : List ℕ → Escaped → Type 0

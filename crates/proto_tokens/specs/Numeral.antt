@@ -16,7 +16,8 @@ pub record Writes (base : ℕ) (digits : List ℕ) (n : ℕ) : Type 0 where
 
 -- a hexadecimal literal: `0x` or `0X`, and one digit or more
 abbrev pub IsHexadecimal : List ℕ → ℕ → Type 0
-IsHexadecimal bs n = (x : ℕ) × (digits : List ℕ) × (bs ≡ byte "0" ∷ x ∷ digits) × ((x ≡ byte "x") ⊎ (x ≡ byte "X")) × (0 < length digits) × Writes 16 digits n
+IsHexadecimal bs n = (x : ℕ) × (digits : List ℕ) × (bs ≡ byte "0" ∷ x ∷ digits) × ((x ≡ byte "x") ⊎ (x ≡ byte "X"))
+    × (0 < length digits) × Writes 16 digits n
 
 -- an octal literal: `0`, and any number of digits, none too
 abbrev pub IsOctal : List ℕ → ℕ → Type 0
@@ -24,7 +25,8 @@ IsOctal bs n = (digits : List ℕ) × (bs ≡ byte "0" ∷ digits) × Writes 8 d
 
 -- a decimal literal: digits, of which the first is 1 to 9
 abbrev pub IsDecimal : List ℕ → ℕ → Type 0
-IsDecimal bs n = (first : ℕ) × (digits : List ℕ) × (bs ≡ first ∷ digits) × IsInRange (byte "1") (byte "9") first × Writes 10 bs n
+IsDecimal bs n =
+    (first : ℕ) × (digits : List ℕ) × (bs ≡ first ∷ digits) × IsInRange (byte "1") (byte "9") first × Writes 10 bs n
 
 -- the bytes are an integer literal of this value, however great
 abbrev pub IsNumeral : List ℕ → ℕ → Type 0

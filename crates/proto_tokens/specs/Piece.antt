@@ -30,13 +30,16 @@ IsBlockComment bs = (body : List ℕ) × (bs ≡ codes "/*" ++ (body ++ codes "*
 abbrev pub IsIdentifier : List ℕ → Type 0
 IsIdentifier bs = IsTrue (begins is_letter bs) × AllPass is_word bs
 
--- The first n bytes of the text are blanks or a comment, or this token. A number is none where a letter, a digit, `_` or `.` follows it, and a `/` is none where it begins a comment.
+-- The first n bytes of the text are blanks or a comment, or this token. A number is none where a letter, a digit, `_`
+-- or `.` follows it, and a `/` is none where it begins a comment.
 abbrev pub IsPiece : List ℕ → ℕ → Option Lexeme → Type 0
 IsPiece s n None = IsBlanks (take n s) ⊎ (IsLineComment (take n s) ⊎ IsBlockComment (take n s))
 IsPiece s n (Some (identifier name)) = IsIdentifier (take n s) × (name ≡ take n s)
-IsPiece s n (Some (number value)) = IsNumeral (take n s) value × (value < 2 ^ 64) × IsFalse (begins is_numeric (drop n s))
+IsPiece s n (Some (number value)) =
+    IsNumeral (take n s) value × (value < 2 ^ 64) × IsFalse (begins is_numeric (drop n s))
 IsPiece s n (Some (string_literal value)) = IsString s n value
-IsPiece s n (Some (punctuation b)) = (take n s ≡ b ∷ []) × IsTrue (is_punctuation b) × (b ≡ byte "/" → IsFalse (begins is_slash_or_star (drop n s)))
+IsPiece s n (Some (punctuation b)) =
+    (take n s ≡ b ∷ []) × IsTrue (is_punctuation b) × (b ≡ byte "/" → IsFalse (begins is_slash_or_star (drop n s)))
 
 -- the first n bytes of the text are a piece, and no more of them are
 pub record IsLongestPiece (s : List ℕ) (n : ℕ) (piece : Option Lexeme) : Type 0 where
@@ -46,11 +49,13 @@ pub record IsLongestPiece (s : List ℕ) (n : ℕ) (piece : Option Lexeme) : Typ
 
 -- a digit begins the text, and each integer literal at its front is followed by a letter, a digit, `_` or `.`
 abbrev pub IsBadNumber : List ℕ → Type 0
-IsBadNumber s = IsTrue (begins is_ascii_digit s) × ((k n : ℕ) → k ≤ length s → IsNumeral (take k s) n → IsTrue (begins is_numeric (drop k s)))
+IsBadNumber s = IsTrue (begins is_ascii_digit s)
+    × ((k n : ℕ) → k ≤ length s → IsNumeral (take k s) n → IsTrue (begins is_numeric (drop k s)))
 
 -- an integer literal that none of these follows begins the text, and its value is over 2^64 - 1
 abbrev pub IsTooBig : List ℕ → Type 0
-IsTooBig s = (k : ℕ) × (n : ℕ) × (k ≤ length s) × IsNumeral (take k s) n × IsFalse (begins is_numeric (drop k s)) × (2 ^ 64 ≤ n)
+IsTooBig s =
+    (k : ℕ) × (n : ℕ) × (k ≤ length s) × IsNumeral (take k s) n × IsFalse (begins is_numeric (drop k s)) × (2 ^ 64 ≤ n)
 
 -- `/*` begins the text, and no `*/` follows
 abbrev pub IsUnclosedComment : List ℕ → Type 0

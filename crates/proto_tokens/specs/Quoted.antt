@@ -19,7 +19,8 @@ is_plain quote b = not (b == quote || (b == byte "\\" || (b == 10 || b == 0)))
 
 -- the part at the front of the text: a plain byte, which stands for itself, or the longest escape
 abbrev pub IsPart : ℕ → List ℕ → Part → Type 0
-IsPart quote s p = ((b : ℕ) × (rest : List ℕ) × (s ≡ b ∷ rest) × IsTrue (is_plain quote b) × (p.len ≡ 1) × (p.value ≡ b ∷ []))
+IsPart quote s p =
+    ((b : ℕ) × (rest : List ℕ) × (s ≡ b ∷ rest) × IsTrue (is_plain quote b) × (p.len ≡ 1) × (p.value ≡ b ∷ []))
     ⊎ ((e : Escaped) × IsAllowedEscape s p.len e × (p.value ≡ escaped_bytes e))
 
 -- what the parts stand for, one after the other
@@ -30,25 +31,31 @@ value_of ps = flat_map (λ p. p.value) ps
 abbrev pub HasByteAt : List ℕ → ℕ → ℕ → Type 0
 HasByteAt s i b = (i < length s) × (slice_index s i ≡ b)
 
--- The text begins with a quote, and what follows it is cut into parts up to a place, which counts from the byte after the quote.
+-- The text begins with a quote, and what follows it is cut into parts up to a place, which counts from the byte after
+-- the quote.
 pub record IsOpened (s : List ℕ) (quote : ℕ) (after : List ℕ) (parts : List Part) (end : ℕ) : Type 0 where
   pub begins_so : s ≡ quote ∷ after
   pub quote_is : IsTrue (is_quote quote)
   pub cut : IsCutInto (IsPart quote) (λ p. p.len) after 0 parts end
   pub within : end ≤ length after
 
--- The first n bytes of the text are a string literal: behind its parts stands the quote again, and their value is UTF-8.
+-- The first n bytes of the text are a string literal: behind its parts stands the quote again, and their value is
+-- UTF-8.
 abbrev pub IsString : List ℕ → ℕ → List ℕ → Type 0
-IsString s n value = (quote : ℕ) × (after : List ℕ) × (parts : List Part) × (end : ℕ) × IsOpened s quote after parts end × HasByteAt after end quote × (n ≡ end + 2) × (value ≡ value_of parts) × IsUtf8 value
+IsString s n value = (quote : ℕ) × (after : List ℕ) × (parts : List Part) × (end : ℕ) × IsOpened s quote after parts end
+    × HasByteAt after end quote × (n ≡ end + 2) × (value ≡ value_of parts) × IsUtf8 value
 
--- What is wrong where the parts end, with the fault's place from the opening quote on: a backslash that begins no part, a value that is no UTF-8, a zero byte, or the end of the text or of the line.
+-- What is wrong where the parts end, with the fault's place from the opening quote on: a backslash that begins no part,
+-- a value that is no UTF-8, a zero byte, or the end of the text or of the line.
 abbrev pub IsPartFault : ℕ → List ℕ → List Part → ℕ → ℕ → Kind → Type 0
 IsPartFault quote after parts end at kind =
-    ((kind ≡ BadEscape) × (at ≡ end + 1) × HasByteAt after end (byte "\\") × ((p : Part) → IsPart quote (drop end after) p → ⊥))
+    ((kind ≡ BadEscape) × (at ≡ end + 1) × HasByteAt after end (byte "\\")
+    × ((p : Part) → IsPart quote (drop end after) p → ⊥))
     ⊎ (((kind ≡ BadEscape) × (at ≡ 0) × HasByteAt after end quote × (IsUtf8 (value_of parts) → ⊥))
     ⊎ (((kind ≡ BadByte) × (at ≡ end + 1) × HasByteAt after end 0)
     ⊎ ((kind ≡ UnclosedString) × (at ≡ 0) × ((end ≡ length after) ⊎ HasByteAt after end 10))))
 
 -- A quote begins the text, and this is wrong with the string literal that it opens.
 abbrev pub IsStringFault : List ℕ → ℕ → Kind → Type 0
-IsStringFault s at kind = (quote : ℕ) × (after : List ℕ) × (parts : List Part) × (end : ℕ) × IsOpened s quote after parts end × IsPartFault quote after parts end at kind
+IsStringFault s at kind = (quote : ℕ) × (after : List ℕ) × (parts : List Part) × (end : ℕ)
+    × IsOpened s quote after parts end × IsPartFault quote after parts end at kind

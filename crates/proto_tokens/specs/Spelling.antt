@@ -40,7 +40,8 @@ SpellsFrom s from ts = (ps : List Piece) × IsCutIntoPieces s from ps (length s)
 
 -- From a place on the text is cut as far as pieces stand, and what follows begins with this fault.
 abbrev pub HasPieceFault : List ℕ → ℕ → ℕ → Kind → Type 0
-HasPieceFault s from place kind = (ps : List Piece) × (to : ℕ) × (at : ℕ) × IsCutIntoPieces s from ps to × IsPieceFault (drop to s) at kind × (place ≡ to + at)
+HasPieceFault s from place kind = (ps : List Piece) × (to : ℕ) × (at : ℕ) × IsCutIntoPieces s from ps to
+    × IsPieceFault (drop to s) at kind × (place ≡ to + at)
 
 -- the text, of at most limit bytes and all UTF-8, spells these tokens behind its byte order mark
 pub record IsTokenList (limit : ℕ) (s : List ℕ) (ts : List Spelled) : Type 0 where
@@ -48,7 +49,8 @@ pub record IsTokenList (limit : ℕ) (s : List ℕ) (ts : List Spelled) : Type 0
   pub utf8 : IsUtf8 s
   pub spelled_so : SpellsFrom s (mark_len s) ts
 
--- The text's first fault is of this kind, at this place: a text that is too long, then one that is no UTF-8, then the first from left to right.
+-- The text's first fault is of this kind, at this place: a text that is too long, then one that is no UTF-8, then the
+-- first from left to right.
 abbrev pub IsFault : ℕ → List ℕ → ℕ → Kind → Type 0
 IsFault limit s place kind =
     ((kind ≡ FileTooLong) × (place ≡ 0) × (limit < length s))

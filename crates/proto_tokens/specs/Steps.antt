@@ -15,7 +15,8 @@ use Rattle.proto_tokens.specs.Spelling.{HasPieceFault}
 
 -- what is wrong with bytes that are no integer literal, or one of too great a value
 abbrev pub IsNumeralFault : List ℕ → Kind → Type 0
-IsNumeralFault bs kind = ((kind ≡ BadNumber) × ((n : ℕ) → IsNumeral bs n → ⊥)) ⊎ ((kind ≡ NumberTooBig) × (n : ℕ) × IsNumeral bs n × (2 ^ 64 ≤ n))
+IsNumeralFault bs kind = ((kind ≡ BadNumber) × ((n : ℕ) → IsNumeral bs n → ⊥))
+    ⊎ ((kind ≡ NumberTooBig) × (n : ℕ) × IsNumeral bs n × (2 ^ 64 ≤ n))
 
 -- where the first `*/` stands
 pub record IsFirstClose (bs : List ℕ) (at : ℕ) : Type 0 where
@@ -35,7 +36,8 @@ escaped_of (escape.Character c) = character c
 
 -- behind the opening quote the string literal with this value closes at a place
 abbrev pub IsClosed : ℕ → List ℕ → List ℕ → ℕ → Type 0
-IsClosed quote after value end = (parts : List Part) × IsOpened (quote ∷ after) quote after parts end × HasByteAt after end quote × (value ≡ value_of parts)
+IsClosed quote after value end = (parts : List Part) × IsOpened (quote ∷ after) quote after parts end
+    × HasByteAt after end quote × (value ≡ value_of parts)
 
 -- the error tells a fault of the piece that begins a text which stands at a place, or want of memory
 abbrev pub IsFaultAfter : List ℕ → ℕ → TokenError → Type 0

@@ -6,7 +6,8 @@ use Rattle.proto_tokens.specs.declared.token.Tokens.{Tokens}
 use Rattle.proto_tokens.specs.declared.token.TokenKind.{TokenKind}
 use Rattle.proto_tokens.specs.declared.token.TokenKind.TheVariants as token
 
--- an identifier by its bytes, a number by its value, a string literal by the bytes of its value, a punctuation by its byte
+-- an identifier by its bytes, a number by its value, a string literal by the bytes of its value, a punctuation by its
+-- byte
 pub data Lexeme : Type 0 where
   identifier : List ℕ → Lexeme
   number : ℕ → Lexeme

@@ -51,7 +51,8 @@ fn digits_len(base: u8, bytes: &[u8], most: usize) -> usize
 /// The byte that the digits write, if they write one.
 fn byte_value(base: u8, digits: &[u8]) -> Option<u8>
     requires { 0 < base }
-    ensures { MatchOption result (256 ≤ digits_value base digits.now) (λ byte. byte ≡ digits_value base digits.now) }
+    ensures { MatchOption result (256 ≤ digits_value base digits.now)
+        (λ byte. byte ≡ digits_value base digits.now) }
 {
     u8::try_from(digits_value(base, digits)?).ok()
 }
@@ -59,7 +60,8 @@ fn byte_value(base: u8, digits: &[u8]) -> Option<u8>
 /// The character whose number the digits write, if they write one's.
 fn character_value(base: u8, digits: &[u8]) -> Option<char>
     requires { 0 < base }
-    ensures { MatchOption result (¬ (IsScalar (digits_value base digits.now))) (λ c. (c ≡ digits_value base digits.now) × IsScalar c) }
+    ensures { MatchOption result (¬ (IsScalar (digits_value base digits.now)))
+        (λ c. (c ≡ digits_value base digits.now) × IsScalar c) }
 {
     let code = u32::try_from(digits_value(base, digits)?).ok()?;
     char::from_u32(code)
@@ -68,7 +70,8 @@ fn character_value(base: u8, digits: &[u8]) -> Option<char>
 /// The octal escape whose digits these bytes begin with, and its length.
 fn octal_escape(digits: &[u8]) -> Option<(Escaped, usize)>
     requires { IsTrue (begins (λ d. is_digit d 8) digits.now) }
-    ensures { MatchOption result (HasNoEscape (92 ∷ digits.now)) (λ found. IsAllowedEscape (92 ∷ digits.now) found.1 (escaped_of found.0)) }
+    ensures { MatchOption result (HasNoEscape (92 ∷ digits.now))
+        (λ found. IsAllowedEscape (92 ∷ digits.now) found.1 (escaped_of found.0)) }
 {
     let len = digits_len(8, digits, 3);
     let byte = byte_value(8, &digits[..len])?;
@@ -78,7 +81,8 @@ fn octal_escape(digits: &[u8]) -> Option<(Escaped, usize)>
 /// The hexadecimal escape of this form whose digits these bytes begin with, and its length.
 fn hex_escape(form: u8, digits: &[u8]) -> Option<(Escaped, usize)>
     requires { (form ≡ 120) ⊎ (form ≡ 88) }
-    ensures { MatchOption result (HasNoEscape (92 ∷ form ∷ digits.now)) (λ found. IsAllowedEscape (92 ∷ form ∷ digits.now) found.1 (escaped_of found.0)) }
+    ensures { MatchOption result (HasNoEscape (92 ∷ form ∷ digits.now))
+        (λ found. IsAllowedEscape (92 ∷ form ∷ digits.now) found.1 (escaped_of found.0)) }
 {
     let len = digits_len(16, digits, 2);
     if len == 0 {
@@ -91,7 +95,8 @@ fn hex_escape(form: u8, digits: &[u8]) -> Option<(Escaped, usize)>
 /// The escape of this form of a character, by the first `count` digits.
 fn character_escape(form: u8, digits: &[u8], count: usize) -> Option<(Escaped, usize)>
     requires { ((form ≡ 117) × (count ≡ 4)) ⊎ ((form ≡ 85) × (count ≡ 8)) }
-    ensures { MatchOption result (HasNoEscape (92 ∷ form ∷ digits.now)) (λ found. IsAllowedEscape (92 ∷ form ∷ digits.now) found.1 (escaped_of found.0)) }
+    ensures { MatchOption result (HasNoEscape (92 ∷ form ∷ digits.now))
+        (λ found. IsAllowedEscape (92 ∷ form ∷ digits.now) found.1 (escaped_of found.0)) }
 {
     if digits.len() < count {
         return None;
@@ -106,7 +111,8 @@ fn character_escape(form: u8, digits: &[u8], count: usize) -> Option<(Escaped, u
 
 /// The longest escape that these bytes make behind a backslash and its length, if its value is allowed.
 pub(crate) fn longest_escape(after: &[u8]) -> Option<(Escaped, usize)>
-    ensures { MatchOption result (HasNoEscape (92 ∷ after.now)) (λ found. IsAllowedEscape (92 ∷ after.now) found.1 (escaped_of found.0)) }
+    ensures { MatchOption result (HasNoEscape (92 ∷ after.now))
+        (λ found. IsAllowedEscape (92 ∷ after.now) found.1 (escaped_of found.0)) }
 {
     let form = *after.first()?;
     let digits = &after[1..];
@@ -121,7 +127,8 @@ pub(crate) fn longest_escape(after: &[u8]) -> Option<(Escaped, usize)>
 
 /// Adds the bytes that an escape stands for.
 pub(crate) fn push_escaped(value: &mut Vec<u8>, escaped: Escaped) -> Result<(), AllocError>
-    ensures { OnOk result (value.new.items ≡ value.old.items ++ escaped_bytes (escaped_of escaped)) }
+    ensures { OnOk result (value.new.items ≡ value.old.items
+        ++ escaped_bytes (escaped_of escaped)) }
 {
     match escaped {
         Escaped::Byte(byte) => value.push(byte)?,

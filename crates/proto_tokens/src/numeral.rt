@@ -30,7 +30,8 @@ pub(crate) fn are_digits(base: u8, digits: &[u8]) -> bool
 /// The number that the digits write, unless it is too big.
 pub(crate) fn digits_value(base: u8, digits: &[u8]) -> Option<u64>
     requires { 0 < base }
-    ensures { MatchOption result (2 ^ 64 ≤ digits_value base digits.now) (λ n. n ≡ digits_value base digits.now) }
+    ensures { MatchOption result (2 ^ 64 ≤ digits_value base digits.now)
+        (λ n. n ≡ digits_value base digits.now) }
 {
     let mut value = 0u64;
     for digit in digits {

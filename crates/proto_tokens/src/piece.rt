@@ -22,7 +22,8 @@ use std::alloc::Global;
 /// The number at the front, and how many bytes it takes.
 fn number(rest: &[u8]) -> Result<(u64, usize), Kind>
     requires { IsTrue (spec.begins is_ascii_digit rest.now) }
-    ensures { MatchResult result (λ found. IsLongestPiece rest.now found.1 (Some (number found.0))) (IsPieceFault rest.now 0) }
+    ensures { MatchResult result (λ found. IsLongestPiece rest.now found.1 (Some (number found.0)))
+        (IsPieceFault rest.now 0) }
 {
     let len = numeric_len(rest);
     let value = numeral_value(&rest[..len])?;
@@ -54,7 +55,8 @@ fn bytes_from(source: &str, at: usize) -> &[u8]
 fn identifier<'s>(source: &'s str, at: usize) -> &'s str
     requires within { at ≤ length source.now }
     requires letter { IsTrue (spec.begins spec.is_letter (drop at source.now)) }
-    ensures { result.now ≡ take (prefix_len spec.is_word (drop at source.now)) (drop at source.now) }
+    ensures { result.now ≡ take (prefix_len spec.is_word (drop at source.now))
+        (drop at source.now) }
 {
     let end = at + word_len(bytes_from(source, at));
     &source[at..end]
@@ -63,7 +65,8 @@ fn identifier<'s>(source: &'s str, at: usize) -> &'s str
 /// The comment or the punctuation at the front, and how many bytes it takes.
 fn comment_or_punctuation(rest: &[u8]) -> Result<(Option<char>, usize), Kind>
     requires { IsTrue (spec.begins spec.is_punctuation rest.now) }
-    ensures { MatchResult result (λ found. IsLongestPiece rest.now found.1 (option_map punctuation found.0)) (IsPieceFault rest.now 0) }
+    ensures { MatchResult result (λ found. IsLongestPiece rest.now found.1
+        (option_map punctuation found.0)) (IsPieceFault rest.now 0) }
 {
     match rest {
         [b'/', b'/', line @ ..] => Ok((None, line_len(line) + 2)),
@@ -83,7 +86,8 @@ pub(crate) fn piece_at<'s>(
 ) -> Result<(Option<TokenKind<'s>>, usize), TokenError>
     requires within { at < length source.now }
     requires short { length source.now < 2 ^ 32 }
-    ensures { MatchResult result (λ found. IsLongestPiece (drop at source.now) found.1 (option_map lexeme_of found.0)) (IsFaultAfter (drop at source.now) at) }
+    ensures { MatchResult result (λ found. IsLongestPiece (drop at source.now) found.1
+        (option_map lexeme_of found.0)) (IsFaultAfter (drop at source.now) at) }
 {
     let rest = bytes_from(source, at);
     let first = rest[0];

@@ -42,7 +42,8 @@ fn string_value(
 ) -> Result<(Vec<u8>, usize), TokenError>
     requires quote { IsTrue (is_quote quote) }
     requires short { at + length after.now + 1 < 2 ^ 32 }
-    ensures { MatchResult result (λ found. IsClosed quote after.now found.0.items found.1) (IsFaultAfter (quote ∷ after.now) at) }
+    ensures { MatchResult result (λ found. IsClosed quote after.now found.0.items found.1)
+        (IsFaultAfter (quote ∷ after.now) at) }
 {
     let mut value = Vec::new(alloc);
     let mut end = 0;
@@ -82,7 +83,8 @@ pub(crate) fn string<'s>(
     requires quote { IsTrue (begins is_quote (drop at source.now)) }
     requires within { at < length source.now }
     requires short { length source.now < 2 ^ 32 }
-    ensures { MatchResult result (λ found. IsLongestPiece (drop at source.now) found.1 (Some (string_literal (cow_str_bytes found.0)))) (IsFaultAfter (drop at source.now) at) }
+    ensures { MatchResult result (λ found. IsLongestPiece (drop at source.now) found.1
+        (Some (string_literal (cow_str_bytes found.0)))) (IsFaultAfter (drop at source.now) at) }
 {
     let bytes = source.as_bytes();
     let quote = bytes[at];

@@ -33,7 +33,8 @@ fn tokens_from<'s>(
 ) -> Result<Vec<Token<'s>>, TokenError>
     requires within { start ≤ length source.now }
     requires short { length source.now < 2 ^ 32 }
-    ensures { MatchResult result (λ tokens. SpellsFrom source.now start (map spelled tokens.items)) (IsFaultFrom source.now start) }
+    ensures { MatchResult result (λ tokens. SpellsFrom source.now start (map spelled tokens.items))
+        (IsFaultFrom source.now start) }
 {
     let mut tokens = Vec::new(alloc);
     let mut at = start;
@@ -56,7 +57,8 @@ fn tokens_from<'s>(
 
 /// The tokens of a text of at most `limit` bytes, or the first fault.
 fn first_answer<'s>(alloc: Global, text: &'s [u8], limit: u32) -> Result<Tokens<'s>, TokenError>
-    ensures tokens { MatchResult result (λ tokens. IsTokenList limit text.now (tokens_of tokens)) (IsFaultOf limit text.now) }
+    ensures tokens { MatchResult result (λ tokens. IsTokenList limit text.now (tokens_of tokens))
+        (IsFaultOf limit text.now) }
     ensures end { IfOk result (λ tokens. tokens.end.offset ≡ length text.now) }
     ensures within { IfErr result (IsPlacedWithin (length text.now)) }
 {
@@ -92,14 +94,19 @@ pub fn tokenize<'s>(
     text: &'s [u8],
     limits: &Limits,
 ) -> Result<Tokens<'s>, TokenError>
-    ensures tokens { IfOk result (λ tokens. IsTokenList (limit_of limits.now Limit.FileBytes) text.now (tokens_of tokens)) }
+    ensures tokens { IfOk result (λ tokens. IsTokenList (limit_of limits.now Limit.FileBytes)
+        text.now (tokens_of tokens)) }
     ensures end { IfOk result (λ tokens. tokens.end.offset ≡ length text.now) }
     ensures within { IfErr result (IsPlacedWithin (length text.now)) }
     ensures fault { IfErr result (IsFaultOf (limit_of limits.now Limit.FileBytes) text.now) }
 
     // So a text that spells tokens gives these, and one with a fault gives it, unless memory runs out.
-    ensures every_spelling { (ts : List Spelled) → IsTokenList (limit_of limits.now Limit.FileBytes) text.now ts → MatchResult result (λ tokens. tokens_of tokens ≡ ts) (λ e. e ≡ TokenError.NoMemory) }
-    ensures every_fault { (place : ℕ) (kind : Kind) → IsFault (limit_of limits.now Limit.FileBytes) text.now place kind → IsErrAnd result (TellsFault place kind) }
+    ensures every_spelling { (ts : List Spelled)
+        → IsTokenList (limit_of limits.now Limit.FileBytes) text.now ts
+        → MatchResult result (λ tokens. tokens_of tokens ≡ ts) (λ e. e ≡ TokenError.NoMemory) }
+    ensures every_fault { (place : ℕ) (kind : Kind)
+        → IsFault (limit_of limits.now Limit.FileBytes) text.now place kind
+        → IsErrAnd result (TellsFault place kind) }
 {
     first_answer(alloc, text, limits.get(Limit::FileBytes) as u32)
 }

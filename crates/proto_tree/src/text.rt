@@ -24,7 +24,8 @@ pub fn joined<'s>(alloc: Global, value: &StringValue<'s>) -> Result<Text<'s>, Al
 }
 
 fn put_parts(text: &mut String, parts: &[NamePart]) -> Result<(), AllocError>
-    ensures { OnOk result (string_bytes text.new ≡ string_bytes text.old ++ flat_map part_text parts.now) }
+    ensures { OnOk result (string_bytes text.new ≡ string_bytes text.old
+        ++ flat_map part_text parts.now) }
 {
     for part in parts {
         text.push_str(".")?;

@@ -32,12 +32,15 @@ scope_in m scope = scoped scope (out-MessageDesc m).name
 abbrev pub own_references : MessageDesc → List ℕ → List Reference
 own_references m scope = flat_map (references_of_field (field_scope scope (out-MessageDesc m))) (out-MessageDesc m).fields
 
-pub references_out : (m : MessageDesc) (scope : List ℕ) → references_by_message m scope ≡ own_references m scope ++ flat_map (λ n. references_by_message n (scope_in m scope)) (out-MessageDesc m).nested
+pub references_out : (m : MessageDesc) (scope : List ℕ) → references_by_message m scope ≡ own_references m scope
+    ++ flat_map (λ n. references_by_message n (scope_in m scope)) (out-MessageDesc m).nested
 references_out m scope =
     ap (λ (f : List ℕ → List Reference). f scope) (fold_out-MessageDesc (List ℕ → List Reference) references_step m)
-    ∙ ap (λ xs. own_references m scope ++ xs) (flat_map-map (λ (g : List ℕ → List Reference). g (scope_in m scope)) references_by_message (out-MessageDesc m).nested)
+    ∙ ap (λ xs. own_references m scope ++ xs) (flat_map-map (λ (g : List ℕ → List Reference). g (scope_in m scope)) references_by_message
+    (out-MessageDesc m).nested)
 
-pub messages_typed : (os : List Occurrence) (Seen : ℕ → Type 0) (scope : List ℕ) (ms gs : List MessageDesc) → AllZip (IsTypedMessage os Seen scope) ms gs → AreTypedMessages os Seen scope ms gs
+pub messages_typed : (os : List Occurrence) (Seen : ℕ → Type 0) (scope : List ℕ) (ms gs : List MessageDesc) → AllZip (IsTypedMessage os Seen scope) ms gs
+    → AreTypedMessages os Seen scope ms gs
 messages_typed os Seen scope [] [] h = none scope
 messages_typed os Seen scope [] (g ∷ gs) h = absurd h
 messages_typed os Seen scope (m ∷ ms) [] h = absurd h
@@ -61,8 +64,10 @@ remade m fields nested = record {
 }
 
 -- a message of which the fields and the messages within it are made
-pub remade_typed : (os : List Occurrence) (Seen : ℕ → Type 0) (scope : List ℕ) (m : MessageDesc) (x : MessageDesc-F MessageDesc) (fields : List FieldDesc) (nested : List MessageDesc) → x ≡ remade (out-MessageDesc m) fields nested
-    → AllZip (IsTypedField os Seen (field_scope scope (out-MessageDesc m))) (out-MessageDesc m).fields fields → AllZip (IsTypedMessage os Seen (scope_in m scope)) (out-MessageDesc m).nested nested → IsTypedMessage os Seen scope m (roll-MessageDesc x)
+pub remade_typed : (os : List Occurrence) (Seen : ℕ → Type 0) (scope : List ℕ) (m : MessageDesc) (x : MessageDesc-F MessageDesc) (fields : List FieldDesc)
+    (nested : List MessageDesc) → x ≡ remade (out-MessageDesc m) fields nested
+    → AllZip (IsTypedField os Seen (field_scope scope (out-MessageDesc m))) (out-MessageDesc m).fields fields
+    → AllZip (IsTypedMessage os Seen (scope_in m scope)) (out-MessageDesc m).nested nested → IsTypedMessage os Seen scope m (roll-MessageDesc x)
 remade_typed os Seen scope m x fields nested e own inside =
     let r : MessageDesc-F MessageDesc = remade (out-MessageDesc m) fields nested in
     let at : out-MessageDesc (roll-MessageDesc r) ≡ r = out-roll-MessageDesc r in
@@ -94,7 +99,8 @@ field_typed : (os : List Occurrence) (Seen : ℕ → Type 0) (scope : List ℕ) 
 field_typed os Seen scope f g h = rw h.2 (kind_typed os Seen scope f.field_type h.0 h.1)
 
 method_typed : (os : List Occurrence) (Seen : ℕ → Type 0) (scope : List ℕ) (m g : MethodDesc) → IsTypedMethod os Seen scope m g → method_resolved g ≡ true
-method_typed os Seen scope m g h = and_true (reference_resolved g.input) (reference_resolved g.output) (reference_typed os Seen scope m.input g.input h.input_typed) (reference_typed os Seen scope m.output g.output h.output_typed)
+method_typed os Seen scope m g h = and_true (reference_resolved g.input) (reference_resolved g.output)
+    (reference_typed os Seen scope m.input g.input h.input_typed) (reference_typed os Seen scope m.output g.output h.output_typed)
 
 -- all of a list, where each is what another is typed as
 zip_all : {X : Type 0} (R : X → X → Type 0) (p : X → Bool) → ((x y : X) → R x y → p y ≡ true) → (xs ys : List X) → AllZip R xs ys → list_all p ys ≡ true
@@ -104,17 +110,22 @@ zip_all R p turn (x ∷ xs) [] h = absurd h
 zip_all R p turn (x ∷ xs) (y ∷ ys) h = and_true (p y) (list_all p ys) (turn x y h.0) (zip_all R p turn xs ys h.1)
 
 service_typed : (os : List Occurrence) (Seen : ℕ → Type 0) (scope : List ℕ) (s g : ServiceDesc) → IsTypedService os Seen scope s g → service_resolved g ≡ true
-service_typed os Seen scope s g h = zip_all (IsTypedMethod os Seen (scoped scope s.name)) method_resolved (method_typed os Seen (scoped scope s.name)) s.methods g.methods h.methods_typed
+service_typed os Seen scope s g h =
+    zip_all (IsTypedMethod os Seen (scoped scope s.name)) method_resolved (method_typed os Seen (scoped scope s.name)) s.methods g.methods h.methods_typed
 
 mutual
   message_typed : (os : List Occurrence) (Seen : ℕ → Type 0) (scope : List ℕ) (m g : MessageDesc) → IsTypedMessage os Seen scope m g → message_resolved g ≡ true
-  message_typed os Seen scope m g (message s n o body nested) = message_resolved_out g ∙ and_true (fields_resolved (out-MessageDesc g).fields) (list_all message_resolved (out-MessageDesc g).nested)
-      (zip_all (IsTypedField os Seen (field_scope scope (out-MessageDesc m))) field_resolved (field_typed os Seen (field_scope scope (out-MessageDesc m))) (out-MessageDesc m).fields (out-MessageDesc g).fields body.fields_typed)
+  message_typed os Seen scope m g (message s n o body nested) =
+      message_resolved_out g ∙ and_true (fields_resolved (out-MessageDesc g).fields) (list_all message_resolved (out-MessageDesc g).nested)
+      (zip_all (IsTypedField os Seen (field_scope scope (out-MessageDesc m))) field_resolved (field_typed os Seen (field_scope scope (out-MessageDesc m)))
+      (out-MessageDesc m).fields (out-MessageDesc g).fields body.fields_typed)
       (all_typed os Seen (scope_in m scope) (out-MessageDesc m).nested (out-MessageDesc g).nested nested)
 
-  all_typed : (os : List Occurrence) (Seen : ℕ → Type 0) (scope : List ℕ) (ms gs : List MessageDesc) → AreTypedMessages os Seen scope ms gs → list_all message_resolved gs ≡ true
+  all_typed : (os : List Occurrence) (Seen : ℕ → Type 0) (scope : List ℕ) (ms gs : List MessageDesc) → AreTypedMessages os Seen scope ms gs
+      → list_all message_resolved gs ≡ true
   all_typed os Seen scope ms gs (none s) = refl
-  all_typed os Seen scope ms gs (more s m g rest made one others) = and_true (message_resolved g) (list_all message_resolved made) (message_typed os Seen scope m g one) (all_typed os Seen scope rest made others)
+  all_typed os Seen scope ms gs (more s m g rest made one others) =
+      and_true (message_resolved g) (list_all message_resolved made) (message_typed os Seen scope m g one) (all_typed os Seen scope rest made others)
 
 pub typed_resolved : (os : List Occurrence) (Seen : ℕ → Type 0) (scope : List ℕ) (f g : FileDesc) → IsTypedIn os Seen scope f g → file_resolved g ≡ true
 typed_resolved os Seen scope f g h = and_true (list_all message_resolved g.messages) (services_resolved g.services)

@@ -45,7 +45,8 @@ module _ (os : List Occurrence) (Seen : ℕ → Type 0) where
   finds_both rs qs a b c h k before old = subst (λ xs. AreFound os Seen xs c) (append_assoc before rs qs) (k (before ++ rs) (h before old))
 
   -- a walk over one more item of a list
-  pub finds_more : {X : Type 0} (f : X → List Reference) (xs : List X) (k : ℕ) (x : X) (a b c : Found) → k < length xs → x ≡ get_or xs k x → Finds os Seen (flat_map f (take k xs)) a b
+  pub finds_more : {X : Type 0} (f : X → List Reference) (xs : List X) (k : ℕ) (x : X) (a b c : Found) → k < length xs → x ≡ get_or xs k x
+      → Finds os Seen (flat_map f (take k xs)) a b
       → Finds os Seen (f x) b c → Finds os Seen (flat_map f (take (k + 1) xs)) a c
   finds_more f xs k x a b c below at so_far one =
       let more : flat_map f (take (k + 1) xs) ≡ flat_map f (take k xs) ++ f x =
@@ -54,11 +55,13 @@ module _ (os : List Occurrence) (Seen : ℕ → Type 0) where
 
   pub finds_one : (r : Reference) (m : Meaning) (old new : Found) → IsMeaning os Seen r m → Adds m old new → Finds os Seen (r ∷ []) old new
   finds_one r (Named t) old new h adds before so_far = record {
-    least = rw adds.1 (least_append (ReferenceBreaks os Seen) before (r ∷ []) old.fault None old.fault so_far.least (least_single (ReferenceBreaks os Seen) r None h.0) (lesser_none old.fault));
+    least = rw adds.1 (least_append (ReferenceBreaks os Seen) before (r ∷ []) old.fault None old.fault so_far.least
+        (least_single (ReferenceBreaks os Seen) r None h.0) (lesser_none old.fault));
     means = λ none. rw adds.0 (zip_push (Means os Seen) before old.types.items r t (so_far.means (sym adds.1 ∙ none)) h.1);
   }
   finds_one r (Wrong x) old new h adds before so_far = record {
-    least = least_append (ReferenceBreaks os Seen) before (r ∷ []) old.fault (Some x) new.fault so_far.least (least_single (ReferenceBreaks os Seen) r (Some x) h) adds;
+    least = least_append (ReferenceBreaks os Seen) before (r ∷ []) old.fault (Some x) new.fault so_far.least
+        (least_single (ReferenceBreaks os Seen) r (Some x) h) adds;
     means = λ none. let bad : Some x ≡ None = lesser_right old.fault (Some x) new.fault adds none in absurd (cc);
   }
 
@@ -81,7 +84,8 @@ module _ (os : List Occurrence) (Seen : ℕ → Type 0) where
   puts_nil Made old made [] rest all is = (is, made)
   puts_nil Made old made (t ∷ types) rest all is = absurd all
 
-  pub puts_both : (rs qs : List Reference) (P Q R : Type 0) (a b c : List NamedType) → (P → Q → R) → Puts os Seen rs P a b → Puts os Seen qs Q b c → Puts os Seen (rs ++ qs) R a c
+  pub puts_both : (rs qs : List Reference) (P Q R : Type 0) (a b c : List NamedType) → (P → Q → R) → Puts os Seen rs P a b → Puts os Seen qs Q b c
+      → Puts os Seen (rs ++ qs) R a c
   puts_both rs qs P Q R a b c join h k types rest all is =
       let two = zip_split rs qs types all in
       let first = h two.0 (two.1 ++ rest) two.3 (is ∙ ap (λ (zs : List NamedType). zs ++ rest) two.2 ∙ append_assoc two.0 two.1 rest) in
@@ -93,7 +97,8 @@ module _ (os : List Occurrence) (Seen : ℕ → Type 0) where
   puts_as rs P Q a b turn h types rest all is = let put = h types rest all is in (put.0, turn put.1)
 
   -- one more item of a list
-  pub puts_more : {X : Type 0} (f : X → List Reference) (R : X → X → Type 0) (xs ys : List X) (x y : X) (a b c : List NamedType) → Puts os Seen (flat_map f xs) (AllZip R xs ys) a b → Puts os Seen (f x) (R x y) b c
+  pub puts_more : {X : Type 0} (f : X → List Reference) (R : X → X → Type 0) (xs ys : List X) (x y : X) (a b c : List NamedType)
+      → Puts os Seen (flat_map f xs) (AllZip R xs ys) a b → Puts os Seen (f x) (R x y) b c
       → Puts os Seen (flat_map f (xs ++ x ∷ [])) (AllZip R (xs ++ x ∷ []) (ys ++ y ∷ [])) a c
   puts_more f R xs ys x y a b c h k =
       subst (λ zs. Puts os Seen zs (AllZip R (xs ++ x ∷ []) (ys ++ y ∷ [])) a c) (sym (flat_push f xs x))
@@ -101,10 +106,15 @@ module _ (os : List Occurrence) (Seen : ℕ → Type 0) where
 
 -- ---- what is filled
 
-pub filled_nil : {X : Type 0} (refs : List ℕ → X → List Reference) (Typed : List Occurrence → (ℕ → Type 0) → List ℕ → X → X → Type 0) (old : List NamedType) → AreFilled refs Typed [] [] old old
+pub filled_nil : {X : Type 0} (refs : List ℕ → X → List Reference) (Typed : List Occurrence → (ℕ → Type 0) → List ℕ → X → X → Type 0) (old : List NamedType)
+    → AreFilled refs Typed [] [] old old
 filled_nil refs Typed old = record { puts = λ os seen scope. puts_nil os (IsSeen seen) (AllZip (Typed os (IsSeen seen) scope) [] []) old tt }
 
-pub filled_more : {X : Type 0} (refs : List ℕ → X → List Reference) (Typed : List Occurrence → (ℕ → Type 0) → List ℕ → X → X → Type 0) (xs ys : List X) (x y : X) (a b c : List NamedType) → AreFilled refs Typed xs ys a b
+pub filled_more : {X : Type 0} (refs : List ℕ → X → List Reference) (Typed : List Occurrence → (ℕ → Type 0) → List ℕ → X → X → Type 0) (xs ys : List X)
+    (x y : X) (a b c : List NamedType) → AreFilled refs Typed xs ys a b
     → IsFilled refs Typed x y b c → AreFilled refs Typed (xs ++ x ∷ []) (ys ++ y ∷ []) a c
 filled_more refs Typed xs ys x y a b c h k =
-    record { puts = λ os seen scope. puts_more os (IsSeen seen) (refs scope) (Typed os (IsSeen seen) scope) xs ys x y a b c (h.puts os seen scope) (k.puts os seen scope) }
+    record {
+      puts = λ os seen scope. puts_more os (IsSeen seen) (refs scope) (Typed os (IsSeen seen) scope) xs ys x y a b c (h.puts os seen scope)
+          (k.puts os seen scope);
+    }

@@ -25,7 +25,8 @@ use Rattle.proto_names.specs.Resolution.{Resolves, ResolvesNowhere}
 use Rattle.proto_names.specs.declared.resolve.Want.{Want}
 use Rattle.proto_names.specs.declared.resolve.Want.TheVariants as want
 
--- a spelled name of a type, in the scope from which it is searched outwards, with the options of the field that it types
+-- a spelled name of a type, in the scope from which it is searched outwards, with the options of the field that it
+-- types
 pub record Reference : Type 0 where
   pub scope : List ℕ
   pub text : List ℕ
@@ -34,7 +35,8 @@ pub record Reference : Type 0 where
   pub options : List OptionDesc
 
 abbrev pub reference_to : List ℕ → List ℕ → Place → Want → List OptionDesc → Reference
-reference_to scope text place wanted options = record { scope = scope; text = text; place = place; wanted = wanted; options = options }
+reference_to scope text place wanted options =
+    record { scope = scope; text = text; place = place; wanted = wanted; options = options }
 
 abbrev pub references_of_type : List ℕ → Want → List OptionDesc → TypeReference → List Reference
 references_of_type scope wanted options (Spelled text place) = reference_to scope text place wanted options ∷ []
@@ -47,25 +49,29 @@ references_of_kind scope options (Named r) = references_of_type scope want.AnyTy
 abbrev pub references_of_field : List ℕ → FieldDesc → List Reference
 references_of_field scope f = references_of_kind scope f.options f.field_type
 
--- the scope from which the types of a message's fields are searched: of a map entry the one around it, where the map field stands
+-- the scope from which the types of a message's fields are searched: of a map entry the one around it, where the map
+-- field stands
 abbrev pub field_scope : {X : Type 0} → List ℕ → MessageDesc-F X → List ℕ
 field_scope scope m = if m.is_map_entry then scope else scoped scope m.name
 
 abbrev pub references_step : MessageDesc-F (List ℕ → List Reference) → List ℕ → List Reference
-references_step m scope = flat_map (references_of_field (field_scope scope m)) m.fields ++ flat_map (λ nested. nested (scoped scope m.name)) m.nested
+references_step m scope = flat_map (references_of_field (field_scope scope m)) m.fields
+    ++ flat_map (λ nested. nested (scoped scope m.name)) m.nested
 
 abbrev pub references_by_message : MessageDesc → List ℕ → List Reference
 references_by_message = fold-MessageDesc (List ℕ → List Reference) references_step
 
 -- a method's types are messages
 abbrev pub references_of_method : List ℕ → MethodDesc → List Reference
-references_of_method scope m = references_of_type scope want.MessageOnly [] m.input ++ references_of_type scope want.MessageOnly [] m.output
+references_of_method scope m =
+    references_of_type scope want.MessageOnly [] m.input ++ references_of_type scope want.MessageOnly [] m.output
 
 abbrev pub references_of_service : List ℕ → ServiceDesc → List Reference
 references_of_service scope s = flat_map (references_of_method (scoped scope s.name)) s.methods
 
 abbrev pub references_in : List ℕ → FileDesc → List Reference
-references_in scope f = flat_map (λ m. references_by_message m scope) f.messages ++ flat_map (references_of_service scope) f.services
+references_in scope f =
+    flat_map (λ m. references_by_message m scope) f.messages ++ flat_map (references_of_service scope) f.services
 
 abbrev pub references : FileDesc → List Reference
 references f = references_in (file_scope f.«package») f
@@ -76,7 +82,8 @@ abbrev pub TypeNotFound : List Occurrence → (ℕ → Type 0) → Reference →
 TypeNotFound os Seen r x = ResolvesNowhere os Seen r.scope r.text × (x ≡ spot r.place kind.TypeNotFound)
 
 abbrev pub TypeNotMessage : List Occurrence → (ℕ → Type 0) → Reference → Spot → Type 0
-TypeNotMessage os Seen r x = (r.wanted ≡ want.MessageOnly) × ((full : List ℕ) × Resolves os Seen r.scope r.text full name_kind.Enum) × (x ≡ spot r.place kind.TypeNotMessage)
+TypeNotMessage os Seen r x = (r.wanted ≡ want.MessageOnly)
+    × ((full : List ℕ) × Resolves os Seen r.scope r.text full name_kind.Enum) × (x ≡ spot r.place kind.TypeNotMessage)
 
 -- `packed`, field 2 of `FieldOptions`, is set
 abbrev pub IsPacked : OptionDesc → Type 0
@@ -84,7 +91,8 @@ IsPacked o = (o.number ≡ 2) × (o.value ≡ value.Number 1)
 
 abbrev pub PackedOnMessage : List Occurrence → (ℕ → Type 0) → Reference → Spot → Type 0
 PackedOnMessage os Seen r x =
-    ((full : List ℕ) × Resolves os Seen r.scope r.text full name_kind.Message) × (o : OptionDesc) × Contains r.options o × IsPacked o
+    ((full : List ℕ) × Resolves os Seen r.scope r.text full name_kind.Message) × (o : OptionDesc) × Contains r.options o
+    × IsPacked o
     × (x ≡ spot o.place kind.PackedOnMessage)
 
 abbrev pub ReferenceBreaks : List Occurrence → (ℕ → Type 0) → Reference → Spot → Type 0

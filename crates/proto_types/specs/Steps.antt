@@ -40,7 +40,8 @@ IsPackedFault type_kind.Enum options fault = fault ≡ None
 
 -- what a full name of a type of this kind is found to be, as the type of a field with these options
 abbrev pub IsNaming : List ℕ → TypeKind → List OptionDesc → Meaning → Type 0
-IsNaming full what options (Named t) = IsPackedFault what options None × (string_bytes t.full_name ≡ 46 ∷ full) × (t.kind ≡ what)
+IsNaming full what options (Named t) =
+    IsPackedFault what options None × (string_bytes t.full_name ≡ 46 ∷ full) × (t.kind ≡ what)
 IsNaming full what options (Wrong x) = IsPackedFault what options (Some x)
 
 -- what one reference is found to be
@@ -64,12 +65,17 @@ Finds os Seen rs old new = (before : List Reference) → AreFound os Seen before
 
 -- of types that begin with what some references mean, these are taken, and something is made
 abbrev pub Puts : List Occurrence → (ℕ → Type 0) → List Reference → Type 0 → List NamedType → List NamedType → Type 0
-Puts os Seen rs Made old new = (types rest : List NamedType) → AllZip (Means os Seen) rs types → old ≡ types ++ rest → (new ≡ rest) × Made
+Puts os Seen rs Made old new =
+    (types rest : List NamedType) → AllZip (Means os Seen) rs types → old ≡ types ++ rest → (new ≡ rest) × Made
 
 -- of an item, what its references mean is put, and it is typed: in every scope, whatever is declared and seen
-pub record IsFilled {X : Type 0} (refs : List ℕ → X → List Reference) (Typed : List Occurrence → (ℕ → Type 0) → List ℕ → X → X → Type 0) (x y : X) (old new : List NamedType) : Type 0 where
-  pub puts : (os : List Occurrence) (seen : ℕ → Bool) (scope : List ℕ) → Puts os (IsSeen seen) (refs scope x) (Typed os (IsSeen seen) scope x y) old new
+pub record IsFilled {X : Type 0} (refs : List ℕ → X → List Reference) (Typed : List Occurrence → (ℕ → Type 0) → List ℕ
+    → X → X → Type 0) (x y : X) (old new : List NamedType) : Type 0 where
+  pub puts : (os : List Occurrence) (seen : ℕ → Bool) (scope : List ℕ)
+      → Puts os (IsSeen seen) (refs scope x) (Typed os (IsSeen seen) scope x y) old new
 
 -- the same of each item of a list
-pub record AreFilled {X : Type 0} (refs : List ℕ → X → List Reference) (Typed : List Occurrence → (ℕ → Type 0) → List ℕ → X → X → Type 0) (xs ys : List X) (old new : List NamedType) : Type 0 where
-  pub puts : (os : List Occurrence) (seen : ℕ → Bool) (scope : List ℕ) → Puts os (IsSeen seen) (flat_map (refs scope) xs) (AllZip (Typed os (IsSeen seen) scope) xs ys) old new
+pub record AreFilled {X : Type 0} (refs : List ℕ → X → List Reference) (Typed : List Occurrence → (ℕ → Type 0) → List ℕ
+    → X → X → Type 0) (xs ys : List X) (old new : List NamedType) : Type 0 where
+  pub puts : (os : List Occurrence) (seen : ℕ → Bool) (scope : List ℕ)
+      → Puts os (IsSeen seen) (flat_map (refs scope) xs) (AllZip (Typed os (IsSeen seen) scope) xs ys) old new

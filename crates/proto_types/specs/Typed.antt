@@ -29,11 +29,14 @@ named_by type_kind.Enum = name_kind.Enum
 
 -- a name in a file is that of this type
 abbrev pub Means : List Occurrence → (ℕ → Type 0) → Reference → NamedType → Type 0
-Means os Seen r t = (full : List ℕ) × Resolves os Seen r.scope r.text full (named_by t.kind) × (string_bytes t.full_name ≡ 46 ∷ full)
+Means os Seen r t =
+    (full : List ℕ) × Resolves os Seen r.scope r.text full (named_by t.kind) × (string_bytes t.full_name ≡ 46 ∷ full)
 
 -- a resolved name has its leading dot
 abbrev pub IsTyped : List Occurrence → (ℕ → Type 0) → List ℕ → TypeReference → TypeReference → Type 0
-IsTyped os Seen scope (Spelled text place) g = (full : List ℕ) × (what : TypeKind) × Resolves os Seen scope text full (named_by what) × (g ≡ Resolved (46 ∷ full) what)
+IsTyped os Seen scope (Spelled text place) g =
+    (full : List ℕ) × (what : TypeKind) × Resolves os Seen scope text full (named_by what)
+    × (g ≡ Resolved (46 ∷ full) what)
 IsTyped os Seen scope (Resolved full_name what) g = g ≡ Resolved full_name what
 
 abbrev pub IsTypedKind : List Occurrence → (ℕ → Type 0) → List ℕ → FieldKind → FieldKind → Type 0
@@ -41,13 +44,24 @@ IsTypedKind os Seen scope (Scalar s) g = g ≡ Scalar s
 IsTypedKind os Seen scope (Named r) g = (t : TypeReference) × IsTyped os Seen scope r t × (g ≡ Named t)
 
 abbrev pub with_type : FieldDesc → FieldKind → FieldDesc
-with_type f t = record { name = f.name; place = f.place; number = f.number; label = f.label; field_type = t; oneof_index = f.oneof_index; json_name = f.json_name; proto3_optional = f.proto3_optional; options = f.options }
+with_type f t = record {
+  name = f.name;
+  place = f.place;
+  number = f.number;
+  label = f.label;
+  field_type = t;
+  oneof_index = f.oneof_index;
+  json_name = f.json_name;
+  proto3_optional = f.proto3_optional;
+  options = f.options;
+}
 
 abbrev pub IsTypedField : List Occurrence → (ℕ → Type 0) → List ℕ → FieldDesc → FieldDesc → Type 0
 IsTypedField os Seen scope f g = (t : FieldKind) × IsTypedKind os Seen scope f.field_type t × (g ≡ with_type f t)
 
 -- one message, but for the messages within it
-pub record IsTypedBody (os : List Occurrence) (Seen : ℕ → Type 0) (scope : List ℕ) (m g : MessageDesc-F MessageDesc) : Type 0 where
+pub record IsTypedBody (os : List Occurrence) (Seen : ℕ → Type 0) (scope : List ℕ)
+    (m g : MessageDesc-F MessageDesc) : Type 0 where
   pub fields_typed : AllZip (IsTypedField os Seen (field_scope scope m)) m.fields g.fields
   pub same_name : g.name ≡ m.name
   pub same_place : g.place ≡ m.place
@@ -62,17 +76,28 @@ mutual
   -- a message in a scope, with its nested ones in its own
   pub data IsTypedMessage (os : List Occurrence) (Seen : ℕ → Type 0) : List ℕ → MessageDesc → MessageDesc → Type 0 where
     message : (scope : List ℕ) (m g : MessageDesc) → IsTypedBody os Seen scope (out-MessageDesc m) (out-MessageDesc g)
-        → AreTypedMessages os Seen (scoped scope (out-MessageDesc m).name) (out-MessageDesc m).nested (out-MessageDesc g).nested → IsTypedMessage os Seen scope m g
+        → AreTypedMessages os Seen (scoped scope (out-MessageDesc m).name) (out-MessageDesc m).nested
+        (out-MessageDesc g).nested → IsTypedMessage os Seen scope m g
 
   -- messages of one scope
-  pub data AreTypedMessages (os : List Occurrence) (Seen : ℕ → Type 0) : List ℕ → List MessageDesc → List MessageDesc → Type 0 where
+  pub data AreTypedMessages (os : List Occurrence) (Seen : ℕ → Type 0) : List ℕ → List MessageDesc → List MessageDesc
+      → Type 0 where
     none : (scope : List ℕ) → AreTypedMessages os Seen scope [] []
-    more : (scope : List ℕ) (m g : MessageDesc) (ms gs : List MessageDesc) → IsTypedMessage os Seen scope m g → AreTypedMessages os Seen scope ms gs → AreTypedMessages os Seen scope (m ∷ ms) (g ∷ gs)
+    more : (scope : List ℕ) (m g : MessageDesc) (ms gs : List MessageDesc) → IsTypedMessage os Seen scope m g
+        → AreTypedMessages os Seen scope ms gs → AreTypedMessages os Seen scope (m ∷ ms) (g ∷ gs)
 
 pub record IsTypedMethod (os : List Occurrence) (Seen : ℕ → Type 0) (scope : List ℕ) (m g : MethodDesc) : Type 0 where
   pub input_typed : IsTyped os Seen scope m.input g.input
   pub output_typed : IsTyped os Seen scope m.output g.output
-  pub same : g ≡ record { name = m.name; place = m.place; input = g.input; output = g.output; options = m.options; client_streaming = m.client_streaming; server_streaming = m.server_streaming }
+  pub same : g ≡ record {
+    name = m.name;
+    place = m.place;
+    input = g.input;
+    output = g.output;
+    options = m.options;
+    client_streaming = m.client_streaming;
+    server_streaming = m.server_streaming;
+  }
 
 pub record IsTypedService (os : List Occurrence) (Seen : ℕ → Type 0) (scope : List ℕ) (s g : ServiceDesc) : Type 0 where
   pub methods_typed : AllZip (IsTypedMethod os Seen (scoped scope s.name)) s.methods g.methods
@@ -81,7 +106,16 @@ pub record IsTypedService (os : List Occurrence) (Seen : ℕ → Type 0) (scope 
 pub record IsTypedIn (os : List Occurrence) (Seen : ℕ → Type 0) (scope : List ℕ) (f g : FileDesc) : Type 0 where
   pub messages_typed : AreTypedMessages os Seen scope f.messages g.messages
   pub services_typed : AllZip (IsTypedService os Seen scope) f.services g.services
-  pub same : g ≡ record { name = f.name; «package» = f.«package»; imports = f.imports; messages = g.messages; enums = f.enums; services = g.services; options = f.options }
+  pub same : g ≡ record {
+    name = f.name;
+    «package» = f.«package»;
+    imports = f.imports;
+    messages = g.messages;
+    enums =
+        f.enums;
+    services = g.services;
+    options = f.options;
+  }
 
 abbrev pub IsTypedFile : List Occurrence → (ℕ → Type 0) → FileDesc → FileDesc → Type 0
 IsTypedFile os Seen f g = IsTypedIn os Seen (file_scope f.«package») f g

@@ -23,7 +23,9 @@ fn fill_reference<'s>(
     reference: TypeReference<'s>,
     types: &mut VecDeque<NamedType>,
 ) -> TypeReference<'s>
-    ensures { (want : Want) (options : List OptionDesc) → IsFilled (λ scope. references_of_type scope want options) IsTyped reference.entry result types.old.items types.new.items }
+    ensures { (want : Want) (options : List OptionDesc)
+        → IsFilled (λ scope. references_of_type scope want options) IsTyped reference.entry result
+        types.old.items types.new.items }
 {
     match reference {
         TypeReference::Spelled { text, place } => match types.pop_front() {
@@ -38,7 +40,9 @@ fn fill_reference<'s>(
 }
 
 fn fill_kind<'s>(kind: FieldKind<'s>, types: &mut VecDeque<NamedType>) -> FieldKind<'s>
-    ensures { (options : List OptionDesc) → IsFilled (λ scope. references_of_kind scope options) IsTypedKind kind.entry result types.old.items types.new.items }
+    ensures { (options : List OptionDesc)
+        → IsFilled (λ scope. references_of_kind scope options) IsTypedKind kind.entry result
+        types.old.items types.new.items }
 {
     match kind {
         FieldKind::Scalar(scalar) => FieldKind::Scalar(scalar),
@@ -47,7 +51,8 @@ fn fill_kind<'s>(kind: FieldKind<'s>, types: &mut VecDeque<NamedType>) -> FieldK
 }
 
 fn fill_field<'s>(field: FieldDesc<'s>, types: &mut VecDeque<NamedType>) -> FieldDesc<'s>
-    ensures { IsFilled references_of_field IsTypedField field.entry result types.old.items types.new.items }
+    ensures { IsFilled references_of_field IsTypedField field.entry result types.old.items
+        types.new.items }
 {
     FieldDesc {
         field_type: fill_kind(field.field_type, types),
@@ -60,7 +65,8 @@ fn fill_fields<'s>(
     fields: Row<FieldDesc<'s>>,
     types: &mut VecDeque<NamedType>,
 ) -> Result<Row<FieldDesc<'s>>, AllocError>
-    ensures { IfOk result (λ filled. AreFilled references_of_field IsTypedField fields.entry filled types.old.items types.new.items) }
+    ensures { IfOk result (λ filled. AreFilled references_of_field IsTypedField fields.entry filled
+        types.old.items types.new.items) }
 {
     let mut done = Vec::with_capacity(alloc, fields.len())?;
     for field in fields.into_vec() {
@@ -77,7 +83,8 @@ fn fill_message<'s>(
     message: MessageDesc<'s>,
     types: &mut VecDeque<NamedType>,
 ) -> Result<MessageDesc<'s>, AllocError>
-    ensures { IfOk result (λ filled. IsFilled (λ scope m. references_by_message m scope) IsTypedMessage message.entry filled types.old.items types.new.items) }
+    ensures { IfOk result (λ filled. IsFilled (λ scope m. references_by_message m scope)
+        IsTypedMessage message.entry filled types.old.items types.new.items) }
 {
     let fields = fill_fields(alloc, message.fields, types)?;
     let nested = fill_messages(alloc, message.nested, types)?;
@@ -94,7 +101,8 @@ fn fill_messages<'s>(
     messages: Row<MessageDesc<'s>>,
     types: &mut VecDeque<NamedType>,
 ) -> Result<Row<MessageDesc<'s>>, AllocError>
-    ensures { IfOk result (λ filled. AreFilled (λ scope m. references_by_message m scope) IsTypedMessage messages.entry filled types.old.items types.new.items) }
+    ensures { IfOk result (λ filled. AreFilled (λ scope m. references_by_message m scope)
+        IsTypedMessage messages.entry filled types.old.items types.new.items) }
 {
     let mut done = Vec::with_capacity(alloc, messages.len())?;
     for message in messages.into_vec() {
@@ -105,7 +113,8 @@ fn fill_messages<'s>(
 }
 
 fn fill_method<'s>(method: MethodDesc<'s>, types: &mut VecDeque<NamedType>) -> MethodDesc<'s>
-    ensures { IsFilled references_of_method IsTypedMethod method.entry result types.old.items types.new.items }
+    ensures { IsFilled references_of_method IsTypedMethod method.entry result types.old.items
+        types.new.items }
 {
     let input = fill_reference(method.input, types);
     let output = fill_reference(method.output, types);
@@ -121,7 +130,8 @@ fn fill_methods<'s>(
     methods: Row<MethodDesc<'s>>,
     types: &mut VecDeque<NamedType>,
 ) -> Result<Row<MethodDesc<'s>>, AllocError>
-    ensures { IfOk result (λ filled. AreFilled references_of_method IsTypedMethod methods.entry filled types.old.items types.new.items) }
+    ensures { IfOk result (λ filled. AreFilled references_of_method IsTypedMethod methods.entry
+        filled types.old.items types.new.items) }
 {
     let mut done = Vec::with_capacity(alloc, methods.len())?;
     for method in methods.into_vec() {
@@ -136,7 +146,8 @@ fn fill_service<'s>(
     service: ServiceDesc<'s>,
     types: &mut VecDeque<NamedType>,
 ) -> Result<ServiceDesc<'s>, AllocError>
-    ensures { IfOk result (λ filled. IsFilled references_of_service IsTypedService service.entry filled types.old.items types.new.items) }
+    ensures { IfOk result (λ filled. IsFilled references_of_service IsTypedService service.entry
+        filled types.old.items types.new.items) }
 {
     let methods = fill_methods(alloc, service.methods, types)?;
     Ok(ServiceDesc { methods, ..service })
@@ -147,7 +158,8 @@ fn fill_services<'s>(
     services: Row<ServiceDesc<'s>>,
     types: &mut VecDeque<NamedType>,
 ) -> Result<Row<ServiceDesc<'s>>, AllocError>
-    ensures { IfOk result (λ filled. AreFilled references_of_service IsTypedService services.entry filled types.old.items types.new.items) }
+    ensures { IfOk result (λ filled. AreFilled references_of_service IsTypedService services.entry
+        filled types.old.items types.new.items) }
 {
     let mut done = Vec::with_capacity(alloc, services.len())?;
     for service in services.into_vec() {
@@ -163,7 +175,8 @@ pub(crate) fn fill_file<'s>(
     file: FileDesc<'s>,
     types: &mut VecDeque<NamedType>,
 ) -> Result<FileDesc<'s>, AllocError>
-    ensures { IfOk result (λ filled. IsFilled references_in IsTypedIn file.entry filled types.old.items types.new.items) }
+    ensures { IfOk result (λ filled. IsFilled references_in IsTypedIn file.entry filled
+        types.old.items types.new.items) }
 {
     let messages = fill_messages(alloc, file.messages, types)?;
     let services = fill_services(alloc, file.services, types)?;

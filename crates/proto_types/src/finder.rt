@@ -52,7 +52,9 @@ impl<'i> Finder<'i> {
         want: Want,
         options: &[OptionDesc],
     ) -> Result<Meaning, AllocError>
-        ensures { IfOk result (IsMeaning self.now.index.now.occurrences (SeenBy self.now.links.now self.now.file) (reference_to scope.now text.now place want options.now)) }
+        ensures { IfOk result (IsMeaning self.now.index.now.occurrences
+            (SeenBy self.now.links.now self.now.file)
+            (reference_to scope.now text.now place want options.now)) }
     {
         match self
             .index
@@ -80,7 +82,9 @@ impl<'i> Finder<'i> {
         options: &[OptionDesc],
         found: &mut Found,
     ) -> Result<(), AllocError>
-        ensures { OnOk result (Finds self.now.index.now.occurrences (SeenBy self.now.links.now self.now.file) (references_of_type scope.now want options.now reference.now) found.old found.new) }
+        ensures { OnOk result (Finds self.now.index.now.occurrences
+            (SeenBy self.now.links.now self.now.file)
+            (references_of_type scope.now want options.now reference.now) found.old found.new) }
     {
         match reference {
             TypeReference::Spelled { text, place } => {
@@ -91,7 +95,9 @@ impl<'i> Finder<'i> {
     }
 
     fn field(&self, scope: &str, field: &FieldDesc, found: &mut Found) -> Result<(), AllocError>
-        ensures { OnOk result (Finds self.now.index.now.occurrences (SeenBy self.now.links.now self.now.file) (references_of_field scope.now field.now) found.old found.new) }
+        ensures { OnOk result (Finds self.now.index.now.occurrences
+            (SeenBy self.now.links.now self.now.file) (references_of_field scope.now field.now)
+            found.old found.new) }
     {
         match &field.field_type {
             FieldKind::Scalar(_) => Ok(()),
@@ -103,7 +109,9 @@ impl<'i> Finder<'i> {
     }
 
     fn fields(&self, scope: &str, fields: &[FieldDesc], found: &mut Found) -> Result<(), AllocError>
-        ensures { OnOk result (Finds self.now.index.now.occurrences (SeenBy self.now.links.now self.now.file) (flat_map (references_of_field scope.now) fields.now) found.old found.new) }
+        ensures { OnOk result (Finds self.now.index.now.occurrences
+            (SeenBy self.now.links.now self.now.file)
+            (flat_map (references_of_field scope.now) fields.now) found.old found.new) }
     {
         for field in fields {
             self.field(scope, field, found)?;
@@ -118,7 +126,9 @@ impl<'i> Finder<'i> {
         message: &MessageDesc,
         found: &mut Found,
     ) -> Result<(), AllocError>
-        ensures { OnOk result (Finds self.now.index.now.occurrences (SeenBy self.now.links.now self.now.file) (references_by_message message.now scope.now) found.old found.new) }
+        ensures { OnOk result (Finds self.now.index.now.occurrences
+            (SeenBy self.now.links.now self.now.file) (references_by_message message.now scope.now)
+            found.old found.new) }
     {
         let inner = name_in(self.alloc, scope, message.name.as_str())?;
         // What a map entry names is searched from where its map field stands.
@@ -141,7 +151,9 @@ impl<'i> Finder<'i> {
         messages: &[MessageDesc],
         found: &mut Found,
     ) -> Result<(), AllocError>
-        ensures { OnOk result (Finds self.now.index.now.occurrences (SeenBy self.now.links.now self.now.file) (flat_map (λ m. references_by_message m scope.now) messages.now) found.old found.new) }
+        ensures { OnOk result (Finds self.now.index.now.occurrences
+            (SeenBy self.now.links.now self.now.file)
+            (flat_map (λ m. references_by_message m scope.now) messages.now) found.old found.new) }
     {
         for message in messages {
             self.message(scope, message, found)?;
@@ -156,7 +168,9 @@ impl<'i> Finder<'i> {
         method: &MethodDesc,
         found: &mut Found,
     ) -> Result<(), AllocError>
-        ensures { OnOk result (Finds self.now.index.now.occurrences (SeenBy self.now.links.now self.now.file) (references_of_method service.now method.now) found.old found.new) }
+        ensures { OnOk result (Finds self.now.index.now.occurrences
+            (SeenBy self.now.links.now self.now.file) (references_of_method service.now method.now)
+            found.old found.new) }
     {
         self.reference(service, &method.input, Want::MessageOnly, &[], found)?;
         self.reference(service, &method.output, Want::MessageOnly, &[], found)
@@ -169,7 +183,9 @@ impl<'i> Finder<'i> {
         service: &ServiceDesc,
         found: &mut Found,
     ) -> Result<(), AllocError>
-        ensures { OnOk result (Finds self.now.index.now.occurrences (SeenBy self.now.links.now self.now.file) (references_of_service scope.now service.now) found.old found.new) }
+        ensures { OnOk result (Finds self.now.index.now.occurrences
+            (SeenBy self.now.links.now self.now.file) (references_of_service scope.now service.now)
+            found.old found.new) }
     {
         let full = name_in(self.alloc, scope, service.name.as_str())?;
         let inside = full.as_str();
@@ -185,7 +201,9 @@ impl<'i> Finder<'i> {
         services: &[ServiceDesc],
         found: &mut Found,
     ) -> Result<(), AllocError>
-        ensures { OnOk result (Finds self.now.index.now.occurrences (SeenBy self.now.links.now self.now.file) (flat_map (references_of_service scope.now) services.now) found.old found.new) }
+        ensures { OnOk result (Finds self.now.index.now.occurrences
+            (SeenBy self.now.links.now self.now.file)
+            (flat_map (references_of_service scope.now) services.now) found.old found.new) }
     {
         for service in services {
             self.service(scope, service, found)?;
@@ -195,7 +213,8 @@ impl<'i> Finder<'i> {
 
     /// A file, whose package is the scope of what stands at its top.
     pub(crate) fn file(&self, file: &FileDesc, found: &mut Found) -> Result<(), AllocError>
-        ensures { OnOk result (Finds self.now.index.now.occurrences (SeenBy self.now.links.now self.now.file) (references file.now) found.old found.new) }
+        ensures { OnOk result (Finds self.now.index.now.occurrences
+            (SeenBy self.now.links.now self.now.file) (references file.now) found.old found.new) }
     {
         let scope = file_scope(&file.package);
         self.messages(scope, file.messages.as_slice(), found)?;

@@ -82,7 +82,8 @@ pub(crate) fn meaning_of(
     found: &Resolved,
     options: &[OptionDesc],
 ) -> Result<Meaning, AllocError>
-    ensures { IfOk result (IsNaming (string_bytes found.now.full_name) (type_kind_of found.now.kind) options.now) }
+    ensures { IfOk result (IsNaming (string_bytes found.now.full_name) (type_kind_of found.now.kind)
+        options.now) }
 {
     let kind = type_kind(found.kind);
     let fault = match kind {

@@ -59,9 +59,13 @@ pub fn resolve_types(
 ) -> Result<Vec<NamedType>, TypeError>
     requires links { count_of links.now ≡ index.now.files }
     requires file { file < index.now.files }
-    ensures types { IfOk result (λ types. AllZip (Means index.now.occurrences (SeenBy links.now file)) (references desc.now) types.items) }
-    ensures whole { OnOk result ((x : Spot) → TypesBreak index.now.occurrences (SeenBy links.now file) desc.now x → ⊥) }
-    ensures first { (place : Place) (kind : Kind) → result ≡ Err (errors.At place kind) → IsLeast (TypesBreak index.now.occurrences (SeenBy links.now file) desc.now) (Some (spot place kind)) }
+    ensures types { IfOk result (λ types. AllZip
+        (Means index.now.occurrences (SeenBy links.now file)) (references desc.now) types.items) }
+    ensures whole { OnOk result ((x : Spot)
+        → TypesBreak index.now.occurrences (SeenBy links.now file) desc.now x → ⊥) }
+    ensures first { (place : Place) (kind : Kind) → result ≡ Err (errors.At place kind)
+        → IsLeast (TypesBreak index.now.occurrences (SeenBy links.now file) desc.now)
+        (Some (spot place kind)) }
 {
     let finder = Finder {
         alloc,
@@ -83,9 +87,11 @@ pub fn with_types<'s>(
     desc: FileDesc<'s>,
     types: Vec<NamedType>,
 ) -> Result<FileDesc<'s>, AllocError>
-    ensures typed { (os : List Occurrence) (seen : ℕ → Bool) → AllZip (Means os (IsSeen seen)) (references desc.entry) types.items
+    ensures typed { (os : List Occurrence) (seen : ℕ → Bool)
+        → AllZip (Means os (IsSeen seen)) (references desc.entry) types.items
         → IfOk result (IsTypedFile os (IsSeen seen) desc.entry) }
-    ensures resolved { (os : List Occurrence) (seen : ℕ → Bool) → AllZip (Means os (IsSeen seen)) (references desc.entry) types.items
+    ensures resolved { (os : List Occurrence) (seen : ℕ → Bool)
+        → AllZip (Means os (IsSeen seen)) (references desc.entry) types.items
         → IfOk result (λ g. file_resolved g ≡ true) }
 {
     fill_file(alloc, desc, &mut VecDeque::from(types))
@@ -94,8 +100,10 @@ pub fn with_types<'s>(
 /// A file with its types resolved is one file: the same occurrences, as far as they are seen, give one, and break the
 /// same rules.
 pub fn typing_is_unique()
-    ensures one { (os ps : List Occurrence) (seen sees : ℕ → Bool) (f g h : FileDesc) → AreSeenAlike os (IsSeen seen) ps (IsSeen sees)
+    ensures one { (os ps : List Occurrence) (seen sees : ℕ → Bool) (f g h : FileDesc)
+        → AreSeenAlike os (IsSeen seen) ps (IsSeen sees)
         → IsTypedFile os (IsSeen seen) f g → IsTypedFile ps (IsSeen sees) f h → g ≡ h }
-    ensures breaks { (os ps : List Occurrence) (seen sees : ℕ → Bool) (f : FileDesc) (x : Spot) → AreSeenAlike os (IsSeen seen) ps (IsSeen sees)
+    ensures breaks { (os ps : List Occurrence) (seen sees : ℕ → Bool) (f : FileDesc) (x : Spot)
+        → AreSeenAlike os (IsSeen seen) ps (IsSeen sees)
         → TypesBreak os (IsSeen seen) f x → TypesBreak ps (IsSeen sees) f x }
 {}

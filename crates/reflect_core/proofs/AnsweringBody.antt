@@ -23,14 +23,16 @@ use Rattle.reflect_core.proofs.Carrying.{kept_of, carried_short, carried_inside}
 use Rattle.reflect_core.proofs.ReadBounds.{read_bounds}
 use Rattle.reflect_core.proofs.Short.{answer_bound, reply_short}
 
-root_at : (count : ℕ) (xs : List rust.Asked) → All (λ a. IsRootWithin count (root (asked_of a))) xs → (k : ℕ) (d : Option ℕ) → k < length (map root (map asked_of xs))
+root_at : (count : ℕ) (xs : List rust.Asked) → All (λ a. IsRootWithin count (root (asked_of a))) xs → (k : ℕ) (d : Option ℕ)
+    → k < length (map root (map asked_of xs))
     → IsRootWithin count (get_or (map root (map asked_of xs)) k d)
 root_at count [] all k d below = absurd (omega arith)
 root_at count (x ∷ xs) all zero d below = all 0 x (omega arith)
 root_at count (x ∷ xs) all (suc k) d below = root_at count xs (λ j e h. all (suc j) e (omega arith)) k d (omega arith)
 
 -- roots that are files, of requests whose roots are
-pub roots_within : (count : ℕ) (xs : List rust.Asked) (roots : List (Option ℕ)) → roots ≡ map root (map asked_of xs) → All (λ a. IsRootWithin count (root (asked_of a))) xs → All (IsRootWithin count) roots
+pub roots_within : (count : ℕ) (xs : List rust.Asked) (roots : List (Option ℕ)) → roots ≡ map root (map asked_of xs)
+    → All (λ a. IsRootWithin count (root (asked_of a))) xs → All (IsRootWithin count) roots
 roots_within count xs roots is all = subst (All (IsRootWithin count)) (sym is) (root_at count xs all)
 
 -- the request at a place, and what is known of it
@@ -39,7 +41,8 @@ record IsAskedAt (c : Compilation) (messages : List (List ℕ)) (xs : List rust.
   pub listed : Contains messages message
   pub asked : IsAsked c message (asked_of (get_or xs k a))
 
-asked_at : (c : Compilation) (messages : List (List ℕ)) (xs : List rust.Asked) (k : ℕ) (a : rust.Asked) → AllZip (IsAsked c) messages (map asked_of xs) → k < length xs → IsAskedAt c messages xs k a
+asked_at : (c : Compilation) (messages : List (List ℕ)) (xs : List rust.Asked) (k : ℕ) (a : rust.Asked) → AllZip (IsAsked c) messages (map asked_of xs)
+    → k < length xs → IsAskedAt c messages xs k a
 asked_at c [] [] k a all below = absurd (omega arith)
 asked_at c (m ∷ ms) [] k a all below = absurd all
 asked_at c [] (x ∷ xs) k a all below = absurd all
@@ -75,7 +78,8 @@ module _ (c : Compilation) (holds : HoldsReplies c) where
       let own = holds.whole.itself r below in
       record {
         inside = λ a w. holds.whole.within r a below (carried_inside kept (reach_of c.links) r a own w);
-        short = (let most = carried_short (λ a. bytes_field 1 (bytes_at c.files a)) kept (reach_of c.links) r own in let set = holds.reached r below in let limit = holds.sound.within in let bound = c.limits.set_bytes_bound in
+        short = (let most = carried_short (λ a. bytes_field 1 (bytes_at c.files a)) kept (reach_of c.links) r own in let set = holds.reached r below in
+            let limit = holds.sound.within in let bound = c.limits.set_bytes_bound in
             omega (arith, most, set, limit, bound));
       }
 
@@ -84,7 +88,8 @@ module _ (c : Compilation) (holds : HoldsReplies c) where
       → map files_of ys ≡ carried mode (reach_of c.links) (map root (map asked_of xs)) → AreServicesFor c xs services → AreReplyable c services xs ys
   replyable messages xs ys services mode allowed asked within lists listed =
       let long = carried_length mode (reach_of c.links) [] (map root (map asked_of xs)) in
-      let size : length ys ≡ length xs = sym (length-map ys files_of) ∙ ap (λ (l : List (List ℕ)). length l) lists ∙ long ∙ length-map (map asked_of xs) root ∙ length-map xs asked_of in
+      let size : length ys ≡ length xs =
+      sym (length-map ys files_of) ∙ ap (λ (l : List (List ℕ)). length l) lists ∙ long ∙ length-map (map asked_of xs) root ∙ length-map xs asked_of in
       record {
         size = size;
         each = λ k a f below.
@@ -95,25 +100,30 @@ module _ (c : Compilation) (holds : HoldsReplies c) where
             let same = ap (λ (l : List ℕ). length l) here.asked.same in
             let name = answer_bound c here.asked.ask _ here.asked.answered in
             let host = bounds.short_host in let ask = bounds.short_ask in
-            let carried_here = kept_of mode (reach_of c.links) [] (map root (map asked_of xs)) k (get_or ys k f).items (ap (λ l. slice_get l k) (sym lists) ∙ files_at ys k f (omega (arith, size, below))) in
+            let carried_here = kept_of mode (reach_of c.links) [] (map root (map asked_of xs)) k (get_or ys k f).items
+            (ap (λ l. slice_get l k) (sym lists) ∙ files_at ys k f (omega (arith, size, below))) in
             let root_here : root (asked_of (get_or xs k a)) ≡ carried_here.root = some_is (sym (root_is xs k a below) ∙ carried_here.at) in
-            let good = subst (AreGood c) (sym carried_here.is) (good_from carried_here.kept carried_here.root (subst (IsRootWithin (count_of c.links)) root_here (within k a below))) in
+            let good = subst (AreGood c) (sym carried_here.is) (good_from carried_here.kept carried_here.root
+            (subst (IsRootWithin (count_of c.links)) root_here (within k a below))) in
             record {
               listed = listed k a below;
               inside = good.inside;
-              short = reply_short c (asked_of (get_or xs k a)) (get_or ys k f).items holds.sound (omega (arith, most, short, same)) (omega (arith, host, same)) (omega (arith, name, ask, same)) good.short;
+              short = reply_short c (asked_of (get_or xs k a)) (get_or ys k f).items holds.sound (omega (arith, most, short, same)) (omega (arith, host, same))
+                  (omega (arith, name, ask, same)) good.short;
             };
       }
 
 -- the messages of a body are allowed
-pub allowed_of : (c : Compilation) (body : List ℕ) (messages : List (List ℕ)) (status : ℕ) → ReadsBody c.limits body messages status → All (IsAllowed c.limits) messages
+pub allowed_of : (c : Compilation) (body : List ℕ) (messages : List (List ℕ)) (status : ℕ) → ReadsBody c.limits body messages status
+    → All (IsAllowed c.limits) messages
 allowed_of c body messages status reads = elim (cases_lt (limit_of c.limits limit.BodyBytes) (length body)) [
   | inl over ↦ subst (All (IsAllowed c.limits)) (sym (reads.over over).0) (λ k d below. absurd (omega arith))
   | inr within ↦ (reads.within within).1.allowed
 ]
 
 -- the response that is spelled so
-pub answered : (mode : Mode) (c : Compilation) (body bytes : List ℕ) (messages : List (List ℕ)) (status : ℕ) (xs : List rust.Asked) (ys : List (Vec ℕ Global)) → ReadsBody c.limits body messages status
+pub answered : (mode : Mode) (c : Compilation) (body bytes : List ℕ) (messages : List (List ℕ)) (status : ℕ) (xs : List rust.Asked) (ys : List (Vec ℕ Global))
+    → ReadsBody c.limits body messages status
     → AllZip (IsAsked c) messages (map asked_of xs) → map files_of ys ≡ carried mode (reach_of c.links) (map root (map asked_of xs))
     → bytes ≡ flat_map (frame 0) (replies_to c (map asked_of xs) (map files_of ys)) ++ frame 128 (trailer status) → IsResponse mode c body bytes
 answered mode c body bytes messages status xs ys reads asked lists is = record {

@@ -14,4 +14,5 @@ pub zip_more : {A B X Y : Type 0} (R : X → Y → Type 0) (f : A → X) (g : B 
 zip_more R f g xs bs k d b below before here =
     let longer = ap (map f) (take_more xs k d below) ∙ map-append f (take k xs) (get_or xs k d ∷ []) in
     let more = map-append g bs (b ∷ []) in
-    subst (λ zs. AllZip R zs (map g (bs ++ b ∷ []))) (sym longer) (subst (λ ys. AllZip R (map f (take k xs) ++ f (get_or xs k d) ∷ []) ys) (sym more) (zip_push R _ _ _ _ before here))
+    subst (λ zs. AllZip R zs (map g (bs ++ b ∷ []))) (sym longer)
+    (subst (λ ys. AllZip R (map f (take k xs) ++ f (get_or xs k d) ∷ []) ys) (sym more) (zip_push R _ _ _ _ before here))

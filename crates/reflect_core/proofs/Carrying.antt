@@ -12,7 +12,8 @@ pub record IsKept (reach : ℕ → List ℕ) (roots : List (Option ℕ)) (k : �
   pub kept : ℕ → Bool
   pub is : files ≡ filter kept (root_first reach root)
 
-pub kept_of : (mode : Mode) (reach : ℕ → List ℕ) (sent : List ℕ) (roots : List (Option ℕ)) (k : ℕ) (files : List ℕ) → slice_get (carried_from mode reach sent roots) k ≡ Some files → IsKept reach roots k files
+pub kept_of : (mode : Mode) (reach : ℕ → List ℕ) (sent : List ℕ) (roots : List (Option ℕ)) (k : ℕ) (files : List ℕ)
+    → slice_get (carried_from mode reach sent roots) k ≡ Some files → IsKept reach roots k files
 kept_of mode reach sent [] k files e = absurd (none-some files e)
 kept_of mode reach sent (root ∷ roots) zero files e = record { root = root; at = refl; kept = _; is = sym (some_is e) } where
   some_is : {x y : List ℕ} → Some x ≡ Some y → x ≡ y
@@ -28,7 +29,8 @@ unpush : (x a : ℕ) (xs : List ℕ) → Contains (x ∷ xs) a → (P : Type 0) 
 unpush x a xs (zero, below, is) P here rest = here is
 unpush x a xs (suc k, below, is) P here rest = rest (k, omega (arith, below), is)
 
-of_filter_step : (p : ℕ → Bool) (x a : ℕ) (xs : List ℕ) (b : Bool) → (Contains (filter p xs) a → Contains xs a) → Contains (cond b (x ∷ filter p xs) (filter p xs)) a → Contains (x ∷ xs) a
+of_filter_step : (p : ℕ → Bool) (x a : ℕ) (xs : List ℕ) (b : Bool) → (Contains (filter p xs) a → Contains xs a)
+    → Contains (cond b (x ∷ filter p xs) (filter p xs)) a → Contains (x ∷ xs) a
 of_filter_step p x a xs true rest v = unpush x a (filter p xs) v (Contains (x ∷ xs) a) (λ e. (0, omega arith, e)) (λ u. there x a xs (rest u))
 of_filter_step p x a xs false rest v = there x a xs (rest v)
 
@@ -43,7 +45,8 @@ module _ (f : ℕ → List ℕ) where
   sum_of : (x : ℕ) (xs : List ℕ) → length (flat_map f (x ∷ xs)) ≡ length (f x) + length (flat_map f xs)
   sum_of x xs = length-append (f x) (flat_map f xs)
 
-  kept_step : (p : ℕ → Bool) (x : ℕ) (xs : List ℕ) (b : Bool) → length (flat_map f (filter p xs)) ≤ length (flat_map f xs) → length (flat_map f (cond b (x ∷ filter p xs) (filter p xs))) ≤ length (flat_map f (x ∷ xs))
+  kept_step : (p : ℕ → Bool) (x : ℕ) (xs : List ℕ) (b : Bool) → length (flat_map f (filter p xs)) ≤ length (flat_map f xs)
+      → length (flat_map f (cond b (x ∷ filter p xs) (filter p xs))) ≤ length (flat_map f (x ∷ xs))
   kept_step p x xs true rest = let a = sum_of x (filter p xs) in let b = sum_of x xs in omega (arith, a, b, rest)
   kept_step p x xs false rest = let b = sum_of x xs in omega (arith, b, rest)
 
@@ -51,7 +54,8 @@ module _ (f : ℕ → List ℕ) where
   kept_short p [] = omega arith
   kept_short p (x ∷ xs) = kept_step p x xs (p x) (kept_short p xs)
 
-  moved_step : (r x : ℕ) (xs : List ℕ) (b : Bool) → b ≡ eqb x r → Contains (x ∷ xs) r → (Contains xs r → length (f r) + length (flat_map f (filter (λ g. not (eqb g r)) xs)) ≤ length (flat_map f xs))
+  moved_step : (r x : ℕ) (xs : List ℕ) (b : Bool) → b ≡ eqb x r → Contains (x ∷ xs) r
+      → (Contains xs r → length (f r) + length (flat_map f (filter (λ g. not (eqb g r)) xs)) ≤ length (flat_map f xs))
       → length (f r) + length (flat_map f (cond (not b) (x ∷ filter (λ g. not (eqb g r)) xs) (filter (λ g. not (eqb g r)) xs))) ≤ length (flat_map f (x ∷ xs))
   moved_step r x xs true e w rest =
       let same = ap (λ y. length (f y)) (eqb-true x r (sym e)) in
@@ -65,13 +69,15 @@ module _ (f : ℕ → List ℕ) where
   moved_short r (x ∷ xs) w = moved_step r x xs (eqb x r) refl w (moved_short r xs)
 
   -- what a reply carries is no longer than what its root reaches
-  pub carried_short : (p : ℕ → Bool) (reach : ℕ → List ℕ) (r : ℕ) → Contains (reach r) r → length (flat_map f (filter p (root_first reach (Some r)))) ≤ length (flat_map f (reach r))
+  pub carried_short : (p : ℕ → Bool) (reach : ℕ → List ℕ) (r : ℕ) → Contains (reach r) r
+      → length (flat_map f (filter p (root_first reach (Some r)))) ≤ length (flat_map f (reach r))
   carried_short p reach r own =
       let others = filter (λ g. not (eqb g r)) (reach r) in
       let some = kept_short p (r ∷ others) in let sum = sum_of r others in let moved = moved_short r (reach r) own in omega (arith, some, sum, moved)
 
 -- what a reply carries is reached by its root
-pub carried_inside : (p : ℕ → Bool) (reach : ℕ → List ℕ) (r a : ℕ) → Contains (reach r) r → Contains (filter p (root_first reach (Some r))) a → Contains (reach r) a
+pub carried_inside : (p : ℕ → Bool) (reach : ℕ → List ℕ) (r a : ℕ) → Contains (reach r) r → Contains (filter p (root_first reach (Some r))) a
+    → Contains (reach r) a
 carried_inside p reach r a own w =
     unpush r a (filter (λ g. not (eqb g r)) (reach r)) (of_filter p a (r ∷ filter (λ g. not (eqb g r)) (reach r)) w) _
     (λ here. subst (λ b. Contains (reach r) b) here own) (λ later. of_filter (λ g. not (eqb g r)) a (reach r) later)

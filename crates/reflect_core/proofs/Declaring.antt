@@ -32,7 +32,8 @@ pub none_is : (c : Compilation) (index : Index) (name : List ℕ) → index ≡ 
 none_is c index name is all o d = d.element (all o (subst (λ (x : Index). Contains x.occurrences o) (sym is) d.declared) d.named)
 
 -- two elements of one name are one
-pub one_is : (c : Compilation) (index : Index) (name : List ℕ) → index ≡ c.index → AreDeclaredOnce index → (o p : Occurrence) → Declares c name o → Declares c name p → o ≡ p
+pub one_is : (c : Compilation) (index : Index) (name : List ℕ) → index ≡ c.index → AreDeclaredOnce index → (o p : Occurrence) → Declares c name o
+    → Declares c name p → o ≡ p
 one_is c index name is once o p d e =
     once.one o p (subst (λ (x : Index). Contains x.occurrences o) (sym is) d.declared) (subst (λ (x : Index). Contains x.occurrences p) (sym is) e.declared)
     (d.named ∙ sym e.named) d.element

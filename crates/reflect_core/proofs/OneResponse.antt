@@ -29,10 +29,12 @@ use Rattle.reflect_core.specs.Response.{IsAsked, IsResponse, replies, replies_to
 -- what an answer is, by its ask
 abbrev Means : Compilation → Ask → Answer → Type 0
 Means c (file_by_name name) x = ((a : ℕ) × IsNamed c.files name a × (x ≡ answers.file a)) ⊎ (((a : ℕ) → IsNamed c.files name a → ⊥) × (x ≡ answers.not_found))
-Means c (file_by_symbol name) x = ((o : Occurrence) × Declares c name o × (x ≡ answers.file o.file)) ⊎ (((o : Occurrence) → Declares c name o → ⊥) × (x ≡ answers.not_found))
+Means c (file_by_symbol name) x =
+    ((o : Occurrence) × Declares c name o × (x ≡ answers.file o.file)) ⊎ (((o : Occurrence) → Declares c name o → ⊥) × (x ≡ answers.not_found))
 Means c file_by_extension x = x ≡ answers.not_found
 Means c (extension_numbers name) x =
-    ((o : Occurrence) × Declares c name o × (o.kind ≡ Some kind.Message) × (x ≡ answers.no_extensions name)) ⊎ (((o : Occurrence) → Declares c name o → o.kind ≡ Some kind.Message → ⊥) × (x ≡ answers.not_found))
+    ((o : Occurrence) × Declares c name o × (o.kind ≡ Some kind.Message) × (x ≡ answers.no_extensions name))
+    ⊎ (((o : Occurrence) → Declares c name o → o.kind ≡ Some kind.Message → ⊥) × (x ≡ answers.not_found))
 Means c list_services x = x ≡ answers.services
 Means c nothing x = x ≡ answers.empty_request
 
@@ -113,7 +115,8 @@ module _ (c d : Compilation) (is : IsOne c d) where
       let same = first.same ∙ sym second.same in
       let host = one_host message x.host y.host first.ask second.ask first.reads second.reads in
       let ask = one_ask message x.host y.host first.ask second.ask first.reads second.reads in
-      let answer = one_meaning second.ask x.answer y.answer (means c second.ask x.answer (subst (λ a. IsAnswer c a x.answer) ask first.answered)) (means d second.ask y.answer second.answered) in
+      let answer = one_meaning second.ask x.answer y.answer (means c second.ask x.answer (subst (λ a. IsAnswer c a x.answer) ask first.answered))
+      (means d second.ask y.answer second.answered) in
       λ i. record { message = same i; host = host i; answer = answer i }
 
   all_asked : (messages : List (List ℕ)) (xs ys : List Asked) → AllZip (IsAsked c) messages xs → AllZip (IsAsked d) messages ys → xs ≡ ys
@@ -128,7 +131,13 @@ module _ (c d : Compilation) (is : IsOne c d) where
   -- ---- one list of replies
 
   reply_alike : (asked : Asked) (files : List ℕ) → reply c asked files ≡ reply d asked files
-  reply_alike asked files = λ i. reply (record { files = is.same.files i; links = c.links; index = record { files = c.index.files; occurrences = c.index.occurrences; services = is.same.services i }; limits = c.limits }) asked files
+  reply_alike asked files = λ i. reply (record {
+    files = is.same.files i;
+    links = c.links;
+    index =
+        record { files = c.index.files; occurrences = c.index.occurrences; services = is.same.services i };
+    limits = c.limits;
+  }) asked files
 
   replies_alike : (asked : List Asked) (lists : List (List ℕ)) → replies_to c asked lists ≡ replies_to d asked lists
   replies_alike [] lists = refl
@@ -142,7 +151,8 @@ module _ (c d : Compilation) (is : IsOne c d) where
     | inr f ↦ absurd (no_root r (sym (ap root_of f.1) ∙ at))
   ]
   root_inside (file_by_symbol name) x r meaning at = elim meaning [
-    | inl f ↦ (let same : f.0.file ≡ r = some_root f.0.file r (sym (ap root_of f.2) ∙ at) in let below = is.inside f.0 f.1.declared in omega (arith, same, below))
+    | inl f ↦ (let same : f.0.file ≡ r = some_root f.0.file r (sym (ap root_of f.2) ∙ at) in let below = is.inside f.0 f.1.declared in
+        omega (arith, same, below))
     | inr f ↦ absurd (no_root r (sym (ap root_of f.1) ∙ at))
   ]
   root_inside file_by_extension x r meaning at = absurd (no_root r (sym (ap root_of meaning) ∙ at))
@@ -176,7 +186,8 @@ module _ (c d : Compilation) (is : IsOne c d) where
   one_response_of : (mode : Mode) (body a b : List ℕ) → IsResponse mode c body a → IsResponse mode d body b → a ≡ b
   one_response_of mode body a b x y =
       let bound = c.limits.message_bytes_bound in
-      let read = one_reading c.limits (omega (arith, bound)) body x.messages y.messages x.status y.status x.read (subst (λ l. ReadsBody l body y.messages y.status) (sym is.same.limits) y.read) in
+      let read = one_reading c.limits (omega (arith, bound)) body x.messages y.messages x.status y.status x.read
+      (subst (λ l. ReadsBody l body y.messages y.status) (sym is.same.limits) y.read) in
       let asked = all_asked x.messages x.asked y.asked x.requests (subst (λ ms. AllZip (IsAsked d) ms y.asked) (sym read.0) y.requests) in
       let all : replies mode c x.asked ≡ replies mode d y.asked =
       ap (replies_to c x.asked) (carried_alike mode [] x.messages x.asked x.requests)
@@ -199,6 +210,7 @@ is_one limits sources c d first second =
       inside = λ o w. let below = indexed.sound.inside o w in let files = indexed.files in omega (arith, below, files, count);
     }
 
-pub one_response : (limits : Limits) (sources : List Source) (c d : Compilation) (mode : Mode) (body a b : List ℕ) → IsCompiled limits sources c → IsCompiled limits sources d
+pub one_response : (limits : Limits) (sources : List Source) (c d : Compilation) (mode : Mode) (body a b : List ℕ) → IsCompiled limits sources c
+    → IsCompiled limits sources d
     → IsResponse mode c body a → IsResponse mode d body b → a ≡ b
 one_response limits sources c d mode body a b first second = one_response_of c d (is_one limits sources c d first second) mode body a b

@@ -45,5 +45,6 @@ reach_is links whole few = record {
       let few_left = filter_shorter (λ b. has b (reach_of links a)) links.set_order in
       let size = whole.size in omega (arith, part, few_left, size, few);
   reflexive = λ a h. contains_reaches (reach_of links) a a (whole.itself a h);
-  transitive = λ a b d h r s. contains_reaches (reach_of links) a d (whole.closed a b d h (reaches_contains (reach_of links) a b r) (reaches_contains (reach_of links) b d s));
+  transitive = λ a b d h r s. contains_reaches (reach_of links) a d
+      (whole.closed a b d h (reaches_contains (reach_of links) a b r) (reaches_contains (reach_of links) b d s));
 }

@@ -14,18 +14,21 @@ module _ {A : Type 0} (size : A → ℕ) (f : ℕ × Value → Option A) (most :
   last_step : (e : ℕ × Value) (x : A) (row : List Spelled) (o : Option A) → o ≡ f e → value_len e ≤ most → size x ≤ most
       → ((y : A) → size y ≤ most → size (last_of y (filter_map f (filter_map entry_of row))) ≤ most)
       → size (last_of x (filter_map f (e ∷ filter_map entry_of row))) ≤ most
-  last_step e x row None is short here rest = subst (λ (l : List A). size (last_of x l) ≤ most) (sym (skip e (filter_map entry_of row) (sym is))) (rest x here) where
-    skip : (e : ℕ × Value) (es : List (ℕ × Value)) → f e ≡ None → filter_map f (e ∷ es) ≡ filter_map f es
-    skip e es n = rw n refl
+  last_step e x row None is short here rest =
+      subst (λ (l : List A). size (last_of x l) ≤ most) (sym (skip e (filter_map entry_of row) (sym is))) (rest x here) where
+        skip : (e : ℕ × Value) (es : List (ℕ × Value)) → f e ≡ None → filter_map f (e ∷ es) ≡ filter_map f es
+        skip e es n = rw n refl
   last_step e x row (Some a) is short here rest =
-      subst (λ (l : List A). size (last_of x l) ≤ most) (sym (keep e (filter_map entry_of row) (sym is))) (rest a (let h = bound e a (sym is) in omega (arith, h, short))) where
+      subst (λ (l : List A). size (last_of x l) ≤ most) (sym (keep e (filter_map entry_of row) (sym is)))
+      (rest a (let h = bound e a (sym is) in omega (arith, h, short))) where
         keep : (e : ℕ × Value) (es : List (ℕ × Value)) → f e ≡ Some a → filter_map f (e ∷ es) ≡ a ∷ filter_map f es
         keep e es n = rw n refl
 
   last_go : (s : Spelled) (row : List Spelled) (x : A) → size x ≤ most → length (text_of s ++ flat_map text_of row) ≤ most
       → ((y : A) → size y ≤ most → size (last_of y (filter_map f (filter_map entry_of row))) ≤ most)
       → (b : Body) → s.body ≡ b → size (last_of x (filter_map f (filter_map entry_of (s ∷ row)))) ≤ most
-  last_go s row x here long rest (varint_body text value) is = rw is (last_step (s.number, number value) x row (f (s.number, number value)) refl (omega arith) here rest)
+  last_go s row x here long rest (varint_body text value) is =
+      rw is (last_step (s.number, number value) x row (f (s.number, number value)) refl (omega arith) here rest)
   last_go s row x here long rest (eight_bytes text) is = rw is (rest x here)
   last_go s row x here long rest (delimited count contents) is =
       let split = length-append (text_of s) (flat_map text_of row) in
@@ -34,7 +37,8 @@ module _ {A : Type 0} (size : A → ℕ) (f : ℕ × Value → Option A) (most :
       rw is (last_step (s.number, bytes contents) x row (f (s.number, bytes contents)) refl (omega (arith, long, split, own, len)) here rest)
   last_go s row x here long rest (four_bytes text) is = rw is (rest x here)
 
-  pub last_within : (row : List Spelled) (x : A) → size x ≤ most → length (flat_map text_of row) ≤ most → size (last_of x (filter_map f (filter_map entry_of row))) ≤ most
+  pub last_within : (row : List Spelled) (x : A) → size x ≤ most → length (flat_map text_of row) ≤ most
+      → size (last_of x (filter_map f (filter_map entry_of row))) ≤ most
   last_within [] x here long = here
   last_within (s ∷ row) x here long =
       let split = length-append (text_of s) (flat_map text_of row) in
@@ -87,6 +91,8 @@ read_bounds message host asked reads =
     let hosts = reads.host_is ∙ ap (λ fs. last_of [] (filter_map host_of fs)) reads.row.3 in
     let asks = reads.asked_is ∙ ap (λ fs. last_of nothing (filter_map member_of fs)) reads.row.3 in
     record {
-      short_host = subst (λ (l : List ℕ). length l ≤ length message) (sym hosts) (last_within (λ (l : List ℕ). length l) host_of (length message) host_bound row [] (omega arith) (omega (arith, whole)));
-      short_ask = subst (λ a. ask_size a ≤ length message) (sym asks) (last_within ask_size member_of (length message) member_bound row nothing (omega arith) (omega (arith, whole)));
+      short_host = subst (λ (l : List ℕ). length l ≤ length message) (sym hosts)
+          (last_within (λ (l : List ℕ). length l) host_of (length message) host_bound row [] (omega arith) (omega (arith, whole)));
+      short_ask = subst (λ a. ask_size a ≤ length message) (sym asks)
+          (last_within ask_size member_of (length message) member_bound row nothing (omega arith) (omega (arith, whole)));
     }

@@ -21,7 +21,8 @@ replies_more c zero (x ∷ xs) (y ∷ ys) a f below short = refl
 replies_more c (suc k) (x ∷ xs) (y ∷ ys) a f below short =
     ap (λ l. reply c (asked_of x) (files_of y) ∷ l) (replies_more c k xs ys a f (omega arith) (omega arith))
 
-pub frames_more : (c : Compilation) (k : ℕ) (xs : List rust.Asked) (ys : List (Vec ℕ Global)) (a : rust.Asked) (files out new : List ℕ) (f : Vec ℕ Global) → k < length xs → k < length ys
+pub frames_more : (c : Compilation) (k : ℕ) (xs : List rust.Asked) (ys : List (Vec ℕ Global)) (a : rust.Asked) (files out new : List ℕ) (f : Vec ℕ Global)
+    → k < length xs → k < length ys
     → files ≡ files_of (get_or ys k f) → out ≡ flat_map (frame 0) (front c k xs ys) → new ≡ out ++ frame 0 (reply c (asked_of (get_or xs k a)) files)
     → new ≡ flat_map (frame 0) (front c (k + 1) xs ys)
 frames_more c k xs ys a files out new f below short same before is =
@@ -33,7 +34,8 @@ frames_more c k xs ys a files out new f below short same before is =
     ∙ ap (λ l. flat_map (frame 0) l) (sym (replies_more c k xs ys a f below short))
     ∙ ap (λ n. flat_map (frame 0) (front c n xs ys)) next
 
-pub replyable_at : (c : Compilation) (services : List ℕ) (xs : List rust.Asked) (ys : List (Vec ℕ Global)) (k : ℕ) (a : rust.Asked) (f : Vec ℕ Global) (files : List ℕ) → AreReplyable c services xs ys
+pub replyable_at : (c : Compilation) (services : List ℕ) (xs : List rust.Asked) (ys : List (Vec ℕ Global)) (k : ℕ) (a : rust.Asked) (f : Vec ℕ Global)
+    (files : List ℕ) → AreReplyable c services xs ys
     → k < length xs → files ≡ f.items → f ≡ get_or ys k f → IsReplyable c services (asked_of (get_or xs k a)) files
 replyable_at c services xs ys k a f files all below value is =
     subst (λ (l : List ℕ). IsReplyable c services (asked_of (get_or xs k a)) l) (sym (value ∙ ap files_of is)) (all.each k a f below)

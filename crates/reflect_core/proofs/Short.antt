@@ -18,7 +18,8 @@ field_short n bytes =
 abbrev pub service : List ℕ → List ℕ
 service name = bytes_field 1 (bytes_field 1 name)
 
-list_short : (most : ℕ) (names : List (List ℕ)) → ((name : List ℕ) → Contains names name → length name ≤ most) → length (flat_map service names) ≤ (40 + most) * length names
+list_short : (most : ℕ) (names : List (List ℕ)) → ((name : List ℕ) → Contains names name → length name ≤ most)
+    → length (flat_map service names) ≤ (40 + most) * length names
 list_short most [] all = omega arith
 list_short most (name ∷ names) all =
     let sum = length-append (service name) (flat_map service names) in
@@ -30,7 +31,8 @@ list_short most (name ∷ names) all =
 
 pub services_short : (c : Compilation) → IsSound c → length (services_bytes c) ≤ 1114636288
 services_short c sound =
-    let list = list_short 1023 c.index.services (λ name w. let h = sound.short_services name w in let most = c.limits.full_name_bytes_bound in omega (arith, h, most)) in
+    let list = list_short 1023 c.index.services (λ name w. let h = sound.short_services name w in let most = c.limits.full_name_bytes_bound in
+    omega (arith, h, most)) in
     let few = sound.few_services in let most = c.limits.names_bound in
     omega (arith, list, few, most)
 
@@ -53,7 +55,8 @@ answer_bound c ask answer (no_message name none) = omega arith
 answer_bound c ask answer listed = omega arith
 answer_bound c ask answer nothing_asked = omega arith
 
-contents_short : (c : Compilation) (files : List ℕ) (answer : Answer) → IsSound c → length (files_bytes c files) ≤ 1073741824 → answer_size answer ≤ 65536 → length (contents_of c files answer) ≤ 1114636288
+contents_short : (c : Compilation) (files : List ℕ) (answer : Answer) → IsSound c → length (files_bytes c files) ≤ 1073741824 → answer_size answer ≤ 65536
+    → length (contents_of c files answer) ≤ 1114636288
 contents_short c files (file a) sound short size = omega (arith, short)
 contents_short c files (no_extensions name) sound short size = let f = field_short 1 name in omega (arith, f, size)
 contents_short c files services sound short size = services_short c sound
@@ -64,7 +67,8 @@ host_short : (host : List ℕ) → length (host_field host) ≤ 20 + length host
 host_short [] = omega arith
 host_short (x ∷ xs) = field_short 1 (x ∷ xs)
 
-pub reply_short : (c : Compilation) (asked : Asked) (files : List ℕ) → IsSound c → length asked.message ≤ 65536 → length asked.host ≤ length asked.message → answer_size asked.answer ≤ length asked.message
+pub reply_short : (c : Compilation) (asked : Asked) (files : List ℕ) → IsSound c → length asked.message ≤ 65536 → length asked.host ≤ length asked.message
+    → answer_size asked.answer ≤ length asked.message
     → length (files_bytes c files) ≤ 1073741824 → length (reply c asked files) < 4294967296
 reply_short c asked files sound small host size short =
     let parts = reply_length c asked files in

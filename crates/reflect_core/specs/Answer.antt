@@ -7,7 +7,8 @@ use Rattle.reflect_core.specs.declared.answer.Answer as rust
 use Rattle.reflect_core.specs.declared.answer.Answer.TheVariants as answers
 use Rattle.reflect_requests.specs.Request.{Ask, file_by_name, file_by_symbol, file_by_extension, extension_numbers, list_services, nothing}
 
--- what answers a request: a file with what it reaches, the extensions of a message, of which proto3 declares none, the services, or an error
+-- what answers a request: a file with what it reaches, the extensions of a message, of which proto3 declares none, the
+-- services, or an error
 pub data Answer : Type 0 where
   file : ℕ → Answer
   no_extensions : List ℕ → Answer
@@ -26,10 +27,13 @@ pub data IsAnswer (c : Compilation) : Ask → Answer → Type 0 where
   named : (name : List ℕ) (a : ℕ) → IsNamed c.files name a → IsAnswer c (file_by_name name) (file a)
   not_named : (name : List ℕ) → ((a : ℕ) → IsNamed c.files name a → ⊥) → IsAnswer c (file_by_name name) not_found
   declared : (name : List ℕ) (o : Occurrence) → Declares c name o → IsAnswer c (file_by_symbol name) (file o.file)
-  not_declared : (name : List ℕ) → ((o : Occurrence) → Declares c name o → ⊥) → IsAnswer c (file_by_symbol name) not_found
+  not_declared : (name : List ℕ) → ((o : Occurrence) → Declares c name o → ⊥)
+      → IsAnswer c (file_by_symbol name) not_found
   no_extension : IsAnswer c file_by_extension not_found
-  message : (name : List ℕ) (o : Occurrence) → Declares c name o → o.kind ≡ Some kind.Message → IsAnswer c (extension_numbers name) (no_extensions name)
-  no_message : (name : List ℕ) → ((o : Occurrence) → Declares c name o → o.kind ≡ Some kind.Message → ⊥) → IsAnswer c (extension_numbers name) not_found
+  message : (name : List ℕ) (o : Occurrence) → Declares c name o → o.kind ≡ Some kind.Message
+      → IsAnswer c (extension_numbers name) (no_extensions name)
+  no_message : (name : List ℕ) → ((o : Occurrence) → Declares c name o → o.kind ≡ Some kind.Message → ⊥)
+      → IsAnswer c (extension_numbers name) not_found
   listed : IsAnswer c list_services services
   nothing_asked : IsAnswer c nothing empty_request
 

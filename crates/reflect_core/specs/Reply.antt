@@ -27,7 +27,8 @@ services_bytes c = flat_map (λ name. bytes_field 1 (bytes_field 1 name)) c.inde
 abbrev pub error_bytes : ℕ → List ℕ → List ℕ
 error_bytes code message = number_field 1 code ++ bytes_field 2 message
 
--- the member of the oneof `message_response` that holds the answer: `file_descriptor_response` = 4, `all_extension_numbers_response` = 5,
+-- the member of the oneof `message_response` that holds the answer: `file_descriptor_response` = 4,
+-- `all_extension_numbers_response` = 5,
 -- `list_services_response` = 6, `error_response` = 7
 abbrev pub member_of : Answer → ℕ
 member_of (file a) = 4
@@ -36,7 +37,8 @@ member_of services = 6
 member_of not_found = 7
 member_of empty_request = 7
 
--- What the member holds. Of an `ExtensionNumberResponse` it is `base_type_name` = 1 alone; the codes are gRPC's NOT_FOUND and INVALID_ARGUMENT.
+-- What the member holds. Of an `ExtensionNumberResponse` it is `base_type_name` = 1 alone; the codes are gRPC's
+-- NOT_FOUND and INVALID_ARGUMENT.
 abbrev pub contents_of : Compilation → List ℕ → Answer → List ℕ
 contents_of c files (file a) = files_bytes c files
 contents_of c files (no_extensions name) = bytes_field 1 name
@@ -46,4 +48,5 @@ contents_of c files empty_request = error_bytes 3 (codes "empty request")
 
 -- a reply that carries these files: `original_request` = 2 is the message as it came
 abbrev pub reply : Compilation → Asked → List ℕ → List ℕ
-reply c asked files = host_field asked.host ++ bytes_field 2 asked.message ++ bytes_field (member_of asked.answer) (contents_of c files asked.answer)
+reply c asked files = host_field asked.host ++ bytes_field 2 asked.message
+    ++ bytes_field (member_of asked.answer) (contents_of c files asked.answer)

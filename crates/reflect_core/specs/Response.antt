@@ -1,4 +1,5 @@
--- The response to a request body: the replies in the order of the requests, each as if it came after those before it, and the trailer.
+-- The response to a request body: the replies in the order of the requests, each as if it came after those before it,
+-- and the trailer.
 use Rattle.std.specs.Prelude.{◌≡◌, ℕ, List, [], ◌∷◌, ◌++◌, map, flat_map, codes, decimal, Option}
 use Rattle.std.specs.List.{AllZip}
 use Rattle.first_reach.specs.Carried.{carried}

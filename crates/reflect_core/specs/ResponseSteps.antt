@@ -23,9 +23,11 @@ pub record IsReach (links : Linked) : Type 0 where
   pub within : (a b : ℕ) → a < count_of links → Reaches (reach_of links) a b → b < count_of links
   pub short : (a : ℕ) → a < count_of links → length (reach_of links a) < 18446744073709551615
   pub reflexive : (a : ℕ) → a < count_of links → Reaches (reach_of links) a a
-  pub transitive : (a b c : ℕ) → a < count_of links → Reaches (reach_of links) a b → Reaches (reach_of links) b c → Reaches (reach_of links) a c
+  pub transitive : (a b c : ℕ) → a < count_of links → Reaches (reach_of links) a b → Reaches (reach_of links) b c
+      → Reaches (reach_of links) a c
 
--- the services are at hand where the answer is of them, its files are of the compilation, and what it holds has room in a reply
+-- the services are at hand where the answer is of them, its files are of the compilation, and what it holds has room in
+-- a reply
 pub record HasContents (c : Compilation) (services : List ℕ) (answer : Answer) (files : List ℕ) : Type 0 where
   pub listed : answer ≡ answers.services → services ≡ services_bytes c
   pub inside : (a : ℕ) → Contains files a → a < count_of c.links
@@ -38,13 +40,16 @@ pub record IsReplyable (c : Compilation) (services : List ℕ) (asked : Asked) (
   pub short : length (reply c asked files) < 2 ^ 32
 
 -- each of some requests of the program, with the files of its reply
-pub record AreReplyable (c : Compilation) (services : List ℕ) (asked : List rust.Asked) (carried : List (Vec ℕ Global)) : Type 0 where
+pub record AreReplyable (c : Compilation) (services : List ℕ) (asked : List rust.Asked)
+    (carried : List (Vec ℕ Global)) : Type 0 where
   pub size : length carried ≡ length asked
-  pub each : (k : ℕ) (a : rust.Asked) (files : Vec ℕ Global) → k < length asked → IsReplyable c services (asked_of (slice_index_or asked k a)) (slice_index_or carried k files).items
+  pub each : (k : ℕ) (a : rust.Asked) (files : Vec ℕ Global) → k < length asked
+      → IsReplyable c services (asked_of (slice_index_or asked k a)) (slice_index_or carried k files).items
 
 -- the bytes are those of the services, where one of the requests asks for them
 abbrev pub AreServicesFor : Compilation → List rust.Asked → List ℕ → Type 0
-AreServicesFor c asked bytes = (k : ℕ) (a : rust.Asked) → k < length asked → (asked_of (slice_index_or asked k a)).answer ≡ answers.services → bytes ≡ services_bytes c
+AreServicesFor c asked bytes = (k : ℕ) (a : rust.Asked) → k < length asked
+    → (asked_of (slice_index_or asked k a)).answer ≡ answers.services → bytes ≡ services_bytes c
 
 abbrev pub files_of : Vec ℕ Global → List ℕ
 files_of files = files.items
@@ -53,4 +58,5 @@ files_of files = files.items
 pub record HoldsReplies (c : Compilation) : Type 0 where
   pub sound : IsSound c
   pub whole : AreReachesWhole c.links
-  pub reached : (a : ℕ) → a < count_of c.links → length (files_bytes c (reach_of c.links a)) ≤ length (set_of c.files c.links)
+  pub reached : (a : ℕ) → a < count_of c.links
+      → length (files_bytes c (reach_of c.links a)) ≤ length (set_of c.files c.links)

@@ -41,8 +41,10 @@ pub(crate) fn asked_in<'b>(
     messages: &[Message<'b>],
 ) -> Result<Vec<Asked<'b>>, AllocError>
     requires { All Reads messages.now }
-    ensures asked { IfOk result (λ asked. AllZip (IsAsked compiled.now) (map bytes_of messages.now) (map asked_of asked.items)) }
-    ensures within { IfOk result (λ asked. All (λ a. IsRootWithin (count_of compiled.now.links) (root (asked_of a))) asked.items) }
+    ensures asked { IfOk result (λ asked. AllZip (IsAsked compiled.now) (map bytes_of messages.now)
+        (map asked_of asked.items)) }
+    ensures within { IfOk result (λ asked. All
+        (λ a. IsRootWithin (count_of compiled.now.links) (root (asked_of a))) asked.items) }
 {
     let mut asked = Vec::with_capacity(alloc, messages.len())?;
     for message in messages {

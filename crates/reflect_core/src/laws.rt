@@ -9,5 +9,7 @@ ghost use Rattle.reflect_core.specs.Response.{IsResponse};
 
 /// Sources give a body one response, however they are compiled.
 pub fn responses_are_unique()
-    ensures { (limits : Limits) (sources : List Source) (c d : Compilation) (mode : Mode) (body a b : List ℕ) → IsCompiled limits sources c → IsCompiled limits sources d → IsResponse mode c body a → IsResponse mode d body b → a ≡ b }
+    ensures { (limits : Limits) (sources : List Source) (c d : Compilation) (mode : Mode)
+        (body a b : List ℕ) → IsCompiled limits sources c → IsCompiled limits sources d
+        → IsResponse mode c body a → IsResponse mode d body b → a ≡ b }
 {}

@@ -31,7 +31,8 @@ pub(crate) struct Material<'a> {
 impl Material<'_> {
     /// How long the descriptors of files are as a `FileDescriptorResponse`.
     fn files_len(&self, files: &[FileId]) -> u64
-        requires inside { (a : ℕ) → Contains files.now a → a < count_of self.now.compiled.now.links }
+        requires inside { (a : ℕ) → Contains files.now a
+            → a < count_of self.now.compiled.now.links }
         requires short { length (files_bytes self.now.compiled.now files.now) < 2 ^ 32 }
         ensures { result ≡ length (files_bytes self.now.compiled.now files.now) }
     {
@@ -43,8 +44,10 @@ impl Material<'_> {
     }
 
     fn put_files(&self, out: &mut Vec<u8>, files: &[FileId]) -> Result<(), AllocError>
-        requires inside { (a : ℕ) → Contains files.now a → a < count_of self.now.compiled.now.links }
-        ensures { OnOk result (out.new.items ≡ out.old.items ++ files_bytes self.now.compiled.now files.now) }
+        requires inside { (a : ℕ) → Contains files.now a
+            → a < count_of self.now.compiled.now.links }
+        ensures { OnOk result (out.new.items ≡ out.old.items
+            ++ files_bytes self.now.compiled.now files.now) }
     {
         for file in files {
             put_field(
@@ -58,8 +61,10 @@ impl Material<'_> {
 
     /// How long what an answer holds is.
     fn contents_len(&self, answer: Answer, files: &[FileId]) -> u64
-        requires { HasContents self.now.compiled.now self.now.services.now (answer_of answer) files.now }
-        ensures { result ≡ length (contents_of self.now.compiled.now files.now (answer_of answer.entry)) }
+        requires { HasContents self.now.compiled.now self.now.services.now (answer_of answer)
+            files.now }
+        ensures { result ≡ length (contents_of self.now.compiled.now files.now
+            (answer_of answer.entry)) }
     {
         match answer {
             Answer::File(_) => self.files_len(files),
@@ -76,8 +81,10 @@ impl Material<'_> {
         answer: Answer,
         files: &[FileId],
     ) -> Result<(), AllocError>
-        requires { HasContents self.now.compiled.now self.now.services.now (answer_of answer) files.now }
-        ensures { OnOk result (out.new.items ≡ out.old.items ++ contents_of self.now.compiled.now files.now (answer_of answer.entry)) }
+        requires { HasContents self.now.compiled.now self.now.services.now (answer_of answer)
+            files.now }
+        ensures { OnOk result (out.new.items ≡ out.old.items
+            ++ contents_of self.now.compiled.now files.now (answer_of answer.entry)) }
     {
         match answer {
             Answer::File(_) => self.put_files(out, files),
@@ -92,7 +99,8 @@ impl Material<'_> {
 
     /// How many bytes the reply to a request has that carries these files.
     pub(crate) fn reply_len(&self, asked: &Asked, files: &[FileId]) -> u64
-        requires { IsReplyable self.now.compiled.now self.now.services.now (asked_of asked.now) files.now }
+        requires { IsReplyable self.now.compiled.now self.now.services.now (asked_of asked.now)
+            files.now }
         ensures { result ≡ length (reply self.now.compiled.now (asked_of asked.now) files.now) }
     {
         let contents = self.contents_len(asked.answer, files);
@@ -108,8 +116,10 @@ impl Material<'_> {
         asked: &Asked,
         files: &[FileId],
     ) -> Result<(), AllocError>
-        requires { IsReplyable self.now.compiled.now self.now.services.now (asked_of asked.now) files.now }
-        ensures { OnOk result (out.new.items ≡ out.old.items ++ reply self.now.compiled.now (asked_of asked.now) files.now) }
+        requires { IsReplyable self.now.compiled.now self.now.services.now (asked_of asked.now)
+            files.now }
+        ensures { OnOk result (out.new.items ≡ out.old.items
+            ++ reply self.now.compiled.now (asked_of asked.now) files.now) }
     {
         put_host(out, asked.host)?;
         put_field(out, 2, &FieldValue::Delimited(asked.message))?;
@@ -125,8 +135,10 @@ impl Material<'_> {
         asked: &Asked,
         files: &[FileId],
     ) -> Result<(), AllocError>
-        requires { IsReplyable self.now.compiled.now self.now.services.now (asked_of asked.now) files.now }
-        ensures { OnOk result (out.new.items ≡ out.old.items ++ frame 0 (reply self.now.compiled.now (asked_of asked.now) files.now)) }
+        requires { IsReplyable self.now.compiled.now self.now.services.now (asked_of asked.now)
+            files.now }
+        ensures { OnOk result (out.new.items ≡ out.old.items
+            ++ frame 0 (reply self.now.compiled.now (asked_of asked.now) files.now)) }
     {
         let len = self.reply_len(asked, files) as u32;
         out.push(0)?;

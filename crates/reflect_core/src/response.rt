@@ -93,7 +93,9 @@ pub(crate) fn response_to(
     status: u8,
 ) -> Result<Vec<u8>, AllocError>
     requires { AreReplyable material.compiled.now material.services.now asked.now carried.now }
-    ensures { IfOk result (λ bytes. bytes.items ≡ flat_map (frame 0) (replies_to material.entry.compiled.now (map asked_of asked.now) (map files_of carried.now)) ++ frame 128 (trailer status)) }
+    ensures { IfOk result (λ bytes. bytes.items
+        ≡ flat_map (frame 0) (replies_to material.entry.compiled.now (map asked_of asked.now)
+        (map files_of carried.now)) ++ frame 128 (trailer status)) }
 {
     let room = room_for(material, asked, carried);
     let mut out = Vec::with_capacity(alloc, usize::try_from(room).unwrap_or(usize::MAX))?;

@@ -37,28 +37,34 @@ left_next P xs x rest here left = record { ahead = λ all. left.ahead (here, all
 pub left_none : {X : Type 0} (P : X → Type 0) (xs : List X) → Left P xs [] → AllByRecursion P xs
 left_none P xs left = left.ahead tt
 
-pub left_here : {X Y : Type 0} (P : Y → Type 0) (view : X → Y) (all : List Y) (xs : List X) (i : ℕ) (d : X) → i < length xs → Left P all (map view (drop i xs)) → AllByRecursion P all → P (view (get_or xs i d))
+pub left_here : {X Y : Type 0} (P : Y → Type 0) (view : X → Y) (all : List Y) (xs : List X) (i : ℕ) (d : X) → i < length xs → Left P all (map view (drop i xs))
+    → AllByRecursion P all → P (view (get_or xs i d))
 left_here P view all xs i d within left whole =
-    let rest : AllByRecursion P (map view (get_or xs i d ∷ drop (i + 1) xs)) = subst (λ ys. AllByRecursion P (map view ys)) (drop_more xs i d within) (left.back whole) in
+    let rest : AllByRecursion P (map view (get_or xs i d ∷ drop (i + 1) xs)) =
+    subst (λ ys. AllByRecursion P (map view ys)) (drop_more xs i d within) (left.back whole) in
     rest.0
 
 -- ---- requests for an extension
 
-pub extension_is : (message : List ℕ) (fields : List (ℕ × Value)) → IsRow message fields → IsExtensionRequest message → AllByRecursion IsContainingTypeUtf8 fields
+pub extension_is : (message : List ℕ) (fields : List (ℕ × Value)) → IsRow message fields → IsExtensionRequest message
+    → AllByRecursion IsContainingTypeUtf8 fields
 extension_is message fields row request = subst (AllByRecursion IsContainingTypeUtf8) (one_list message request.fields fields request.row row) request.known
 
 -- ---- requests
 
-pub request_is : (message host : List ℕ) (asked : Ask) (fields : List (ℕ × Value)) → IsRow message fields → ReadsRequest message host asked → AllByRecursion IsWellFormed fields
+pub request_is : (message host : List ℕ) (asked : Ask) (fields : List (ℕ × Value)) → IsRow message fields → ReadsRequest message host asked
+    → AllByRecursion IsWellFormed fields
 request_is message host asked fields row request = subst (AllByRecursion IsWellFormed) (one_list message request.fields fields request.row row) request.known
 
 pub one_host : (message h k : List ℕ) (a b : Ask) → ReadsRequest message h a → ReadsRequest message k b → h ≡ k
 one_host message h k a b first second =
-    first.host_is ∙ ap (λ fields. last_of [] (filter_map host_of fields)) (one_list message first.fields second.fields first.row second.row) ∙ sym second.host_is
+    first.host_is ∙ ap (λ fields. last_of [] (filter_map host_of fields)) (one_list message first.fields second.fields first.row second.row)
+    ∙ sym second.host_is
 
 pub one_ask : (message h k : List ℕ) (a b : Ask) → ReadsRequest message h a → ReadsRequest message k b → a ≡ b
 one_ask message h k a b first second =
-    first.asked_is ∙ ap (λ fields. last_of nothing (filter_map member_of fields)) (one_list message first.fields second.fields first.row second.row) ∙ sym second.asked_is
+    first.asked_is ∙ ap (λ fields. last_of nothing (filter_map member_of fields)) (one_list message first.fields second.fields first.row second.row)
+    ∙ sym second.asked_is
 
 -- behind some fields: those that are left decide the host and the ask
 pub record Decided (fields rest : List (ℕ × Value)) (host : List ℕ) (asked : Ask) : Type 0 where
@@ -69,19 +75,26 @@ pub record Decided (fields rest : List (ℕ × Value)) (host : List ℕ) (asked 
 pub decided_first : (fields : List (ℕ × Value)) → Decided fields fields [] nothing
 decided_first fields = record { known = left_first IsWellFormed fields; host_is = refl; asked_is = refl }
 
-decided_cons : (fields rest : List (ℕ × Value)) (field : ℕ × Value) (part : Part) (host : List ℕ) (asked : Ask) → Says field part → Decided fields (field ∷ rest) host asked → Decided fields rest (next_or host (host_in part)) (next_or asked (member_in part))
+decided_cons : (fields rest : List (ℕ × Value)) (field : ℕ × Value) (part : Part) (host : List ℕ) (asked : Ask) → Says field part
+    → Decided fields (field ∷ rest) host asked → Decided fields rest (next_or host (host_in part)) (next_or asked (member_in part))
 decided_cons fields rest field part host asked says decided = record {
   known = left_next IsWellFormed fields field rest says.known decided.known;
-  host_is = ap (λ o. last_of (next_or host o) (filter_map host_of rest)) says.host ∙ sym (last_cons host (host_of field) (filter_map host_of rest)) ∙ decided.host_is;
-  asked_is = ap (λ o. last_of (next_or asked o) (filter_map member_of rest)) says.member ∙ sym (last_cons asked (member_of field) (filter_map member_of rest)) ∙ decided.asked_is;
+  host_is =
+      ap (λ o. last_of (next_or host o) (filter_map host_of rest)) says.host ∙ sym (last_cons host (host_of field) (filter_map host_of rest)) ∙ decided.host_is;
+  asked_is = ap (λ o. last_of (next_or asked o) (filter_map member_of rest)) says.member ∙ sym (last_cons asked (member_of field) (filter_map member_of rest))
+      ∙ decided.asked_is;
 }
 
-pub decided_next : (fields : List (ℕ × Value)) (items : List Field) (i : ℕ) (d : Field) (part : Part) (host : List ℕ) (asked : Ask) → i < length items → Says (field_of (get_or items i d)) part
-    → Decided fields (map field_of (drop i items)) host asked → Decided fields (map field_of (drop (i + 1) items)) (next_or host (host_in part)) (next_or asked (member_in part))
+pub decided_next : (fields : List (ℕ × Value)) (items : List Field) (i : ℕ) (d : Field) (part : Part) (host : List ℕ) (asked : Ask) → i < length items
+    → Says (field_of (get_or items i d)) part
+    → Decided fields (map field_of (drop i items)) host asked
+    → Decided fields (map field_of (drop (i + 1) items)) (next_or host (host_in part)) (next_or asked (member_in part))
 decided_next fields items i d part host asked within says decided =
-    decided_cons fields (map field_of (drop (i + 1) items)) (field_of (get_or items i d)) part host asked says (subst (λ xs. Decided fields (map field_of xs) host asked) (drop_more items i d within) decided)
+    decided_cons fields (map field_of (drop (i + 1) items)) (field_of (get_or items i d)) part host asked says
+    (subst (λ xs. Decided fields (map field_of xs) host asked) (drop_more items i d within) decided)
 
-pub decided_last : (message : List ℕ) (fields : List (ℕ × Value)) (items : List Field) (i : ℕ) (host : List ℕ) (asked : Ask) → IsRow message fields → length items ≤ i → Decided fields (map field_of (drop i items)) host asked → ReadsRequest message host asked
+pub decided_last : (message : List ℕ) (fields : List (ℕ × Value)) (items : List Field) (i : ℕ) (host : List ℕ) (asked : Ask) → IsRow message fields
+    → length items ≤ i → Decided fields (map field_of (drop i items)) host asked → ReadsRequest message host asked
 decided_last message fields items i host asked row end decided =
     let all : Decided fields [] host asked = subst (λ xs. Decided fields (map field_of xs) host asked) (drop_of_length-le items end) decided in
     record { fields = fields; row = row; known = left_none IsWellFormed fields all.known; host_is = all.host_is; asked_is = all.asked_is }

@@ -9,10 +9,12 @@ use Rattle.reflect_requests.specs.Frames.{frame, bytes_of}
 pub longer : (xs : List Message) (m : Message) → map bytes_of (xs ++ m ∷ []) ≡ map bytes_of xs ++ bytes_of m ∷ []
 longer xs m = map-append bytes_of xs (m ∷ [])
 
-pub row_longer : (body rest after : List ℕ) (xs : List Message) (m : Message) → body ≡ flat_map (frame 0) (map bytes_of xs) ++ rest → rest ≡ frame 0 (bytes_of m) ++ after
+pub row_longer : (body rest after : List ℕ) (xs : List Message) (m : Message) → body ≡ flat_map (frame 0) (map bytes_of xs) ++ rest
+    → rest ≡ frame 0 (bytes_of m) ++ after
     → body ≡ flat_map (frame 0) (map bytes_of (xs ++ m ∷ [])) ++ after
 row_longer body rest after xs m is cut =
     let front = flat_map (frame 0) (map bytes_of xs) in
     let last : flat_map (frame 0) (map bytes_of (xs ++ m ∷ [])) ≡ front ++ frame 0 (bytes_of m) =
-    ap (λ l. flat_map (frame 0) l) (longer xs m) ∙ flat_map-append (frame 0) (map bytes_of xs) (bytes_of m ∷ []) ∙ ap (λ l. front ++ l) (append-nil (frame 0 (bytes_of m))) in
+    ap (λ l. flat_map (frame 0) l) (longer xs m) ∙ flat_map-append (frame 0) (map bytes_of xs) (bytes_of m ∷ [])
+    ∙ ap (λ l. front ++ l) (append-nil (frame 0 (bytes_of m))) in
     is ∙ ap (λ l. front ++ l) cut ∙ sym (append_assoc front (frame 0 (bytes_of m)) after) ∙ ap (λ l. l ++ after) (sym last)

@@ -32,9 +32,11 @@ pub record IsFrames (limits : Limits) (body : List ℕ) (messages : List (List �
   pub row : body ≡ flat_map (frame 0) messages ++ rest
   pub allowed : All (IsAllowed limits) messages
   pub few : length messages ≤ limit_of limits Requests
-  pub longest : length messages < limit_of limits Requests → (message after : List ℕ) → IsAllowed limits message → rest ≡ frame 0 message ++ after → ⊥
+  pub longest : length messages < limit_of limits Requests → (message after : List ℕ) → IsAllowed limits message
+      → rest ≡ frame 0 message ++ after → ⊥
 
--- Behind a flag of 0: fewer than four bytes of length are a cut frame, a length over the limit is too much, a message of fewer bytes than its length is cut. What is left is a message that is no request.
+-- Behind a flag of 0: fewer than four bytes of length are a cut frame, a length over the limit is too much, a message
+-- of fewer bytes than its length is cut. What is left is a message that is no request.
 abbrev pub status_of_size : Limits → List ℕ → ℕ
 status_of_size limits more =
     if nat_lt (length more) 4 then 13
@@ -42,7 +44,8 @@ status_of_size limits more =
     else if nat_lt (length (drop 4 more)) (from_be_bytes w32 (take 4 more)) then 13
     else 3
 
--- The status of a body, by its rest and the number of frames before it: no rest is the end, a frame beyond the limit is too much, a flag of 1 says compressed, and no other flag but 0 is known.
+-- The status of a body, by its rest and the number of frames before it: no rest is the end, a frame beyond the limit is
+-- too much, a flag of 1 says compressed, and no other flag but 0 is known.
 abbrev pub status_of : Limits → ℕ → List ℕ → ℕ
 status_of limits count [] = 0
 status_of limits count (flag ∷ more) =
@@ -54,7 +57,8 @@ status_of limits count (flag ∷ more) =
 -- the messages and the status of a body
 pub record ReadsBody (limits : Limits) (body : List ℕ) (messages : List (List ℕ)) (status : ℕ) : Type 0 where
   pub over : limit_of limits BodyBytes < length body → (messages ≡ []) × (status ≡ 8)
-  pub within : length body ≤ limit_of limits BodyBytes → (rest : List ℕ) × IsFrames limits body messages rest × (status ≡ status_of limits (length messages) rest)
+  pub within : length body ≤ limit_of limits BodyBytes
+      → (rest : List ℕ) × IsFrames limits body messages rest × (status ≡ status_of limits (length messages) rest)
 
 -- the bytes of a message of the program, and that its request is what they say
 abbrev pub bytes_of : Message → List ℕ
@@ -65,8 +69,10 @@ Reads message = ReadsRequest message.bytes.now message.request.host.now (ask_of 
 
 -- a body has one row of frames and one rest
 abbrev pub HasOneRow : Limits → Type 0
-HasOneRow limits = (body : List ℕ) (ms ns : List (List ℕ)) (a b : List ℕ) → IsFrames limits body ms a → IsFrames limits body ns b → (ms ≡ ns) × (a ≡ b)
+HasOneRow limits = (body : List ℕ) (ms ns : List (List ℕ)) (a b : List ℕ) → IsFrames limits body ms a
+    → IsFrames limits body ns b → (ms ≡ ns) × (a ≡ b)
 
 -- a body has one list of messages and one status
 abbrev pub HasOneReading : Limits → Type 0
-HasOneReading limits = (body : List ℕ) (ms ns : List (List ℕ)) (s t : ℕ) → ReadsBody limits body ms s → ReadsBody limits body ns t → (ms ≡ ns) × (s ≡ t)
+HasOneReading limits = (body : List ℕ) (ms ns : List (List ℕ)) (s t : ℕ) → ReadsBody limits body ms s
+    → ReadsBody limits body ns t → (ms ≡ ns) × (s ≡ t)

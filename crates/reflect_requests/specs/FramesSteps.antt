@@ -17,9 +17,11 @@ pub record IsCut (limits : Limits) (count : ℕ) (rest message after : List ℕ)
 -- behind `count` frames what is left begins with no frame of a request, and has this status
 pub record IsEnd (limits : Limits) (count : ℕ) (rest : List ℕ) (status : Status) : Type 0 where
   pub status_is : status_number status ≡ status_of limits count rest
-  pub none : count < limit_of limits Requests → (message after : List ℕ) → IsAllowed limits message → rest ≡ frame 0 message ++ after → ⊥
+  pub none : count < limit_of limits Requests → (message after : List ℕ) → IsAllowed limits message
+      → rest ≡ frame 0 message ++ after → ⊥
 
 -- what stands at the front of what is left
 abbrev pub IsNext : Limits → ℕ → List ℕ → rust.Next → Type 0
-IsNext limits count rest (Frame message after) = IsCut limits count rest message.bytes.now after.now × IsAllowed limits message.bytes.now × Reads message
+IsNext limits count rest (Frame message after) =
+    IsCut limits count rest message.bytes.now after.now × IsAllowed limits message.bytes.now × Reads message
 IsNext limits count rest (End status) = IsEnd limits count rest status

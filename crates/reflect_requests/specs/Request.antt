@@ -30,7 +30,8 @@ member_of (n, bytes text) =
     else if n == 7 then Some list_services
     else None
 
--- the string `containing_type` of a request for an extension is UTF-8; with another wire type its number counts as unknown
+-- the string `containing_type` of a request for an extension is UTF-8; with another wire type its number counts as
+-- unknown
 abbrev pub IsContainingTypeUtf8 : ℕ × Value → Type 0
 IsContainingTypeUtf8 (n, number value) = Unit {0}
 IsContainingTypeUtf8 (n, bytes text) = n ≡ 1 → IsUtf8 text
@@ -45,7 +46,8 @@ pub record IsExtensionRequest (message : List ℕ) : Type 0 where
 abbrev pub is_string : ℕ → Bool
 is_string n = n == 1 || n == 3 || n == 4 || n == 6 || n == 7
 
--- a string is UTF-8, and a field 5 is a well-formed request for an extension; with another wire type their numbers count as unknown
+-- a string is UTF-8, and a field 5 is a well-formed request for an extension; with another wire type their numbers
+-- count as unknown
 abbrev pub IsWellFormed : ℕ × Value → Type 0
 IsWellFormed (n, number value) = Unit {0}
 IsWellFormed (n, bytes text) = (IsTrue (is_string n) → IsUtf8 text) × (n ≡ 5 → IsExtensionRequest text)

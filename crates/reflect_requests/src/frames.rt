@@ -71,7 +71,8 @@ fn frame_at<'b>(
     count: usize,
     rest: &'b [u8],
 ) -> Result<(&'b [u8], &'b [u8]), Status>
-    ensures { MatchResult result (λ cut. IsCut limits.now count rest.now cut.0.now cut.1.now) (IsEnd limits.now count rest.now) }
+    ensures { MatchResult result (λ cut. IsCut limits.now count rest.now cut.0.now cut.1.now)
+        (IsEnd limits.now count rest.now) }
 {
     let Some((flag, more)) = rest.split_first() else {
         return Err(Status::Ok);
@@ -99,7 +100,8 @@ fn frame_at<'b>(
 
 /// The request that a message spells, and `None` where it is none.
 fn request_of<'b>(alloc: Global, message: &'b [u8]) -> Result<Option<Request<'b>>, AllocError>
-    ensures { IfOk result (λ answer. MatchOption answer (IsRequest message.now → ⊥) (λ request. ReadsRequest message.now request.host.now (ask_of request.ask))) }
+    ensures { IfOk result (λ answer. MatchOption answer (IsRequest message.now → ⊥)
+        (λ request. ReadsRequest message.now request.host.now (ask_of request.ask))) }
 {
     match read_request(alloc, message) {
         Ok(request) => Ok(Some(request)),
@@ -137,7 +139,8 @@ pub fn read_stream<'b>(
     body: &'b [u8],
     limits: &Limits,
 ) -> Result<Stream<'b>, AllocError>
-    ensures body { IfOk result (λ stream. ReadsBody limits.now body.now (map bytes_of stream.messages.items) stream.status) }
+    ensures body { IfOk result (λ stream. ReadsBody limits.now body.now
+        (map bytes_of stream.messages.items) stream.status) }
     ensures requests { IfOk result (λ stream. All Reads stream.messages.items) }
 {
     let mut messages = Vec::new(alloc);
@@ -170,7 +173,8 @@ pub fn read_frames<'b>(
     body: &'b [u8],
     limits: &Limits,
 ) -> Result<Frames<'b>, AllocError>
-    ensures { IfOk result (λ frames. ReadsBody limits.now body.now (map (λ message. message.now) frames.messages.items) frames.status) }
+    ensures { IfOk result (λ frames. ReadsBody limits.now body.now
+        (map (λ message. message.now) frames.messages.items) frames.status) }
 {
     let stream = read_stream(alloc, body, limits)?;
     let mut messages = Vec::with_capacity(alloc, stream.messages.len())?;

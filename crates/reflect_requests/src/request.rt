@@ -109,10 +109,12 @@ fn part_of<'b>(alloc: Global, field: &Field<'b>) -> Result<Part<'b>, WireError>
 /// had none.
 pub fn read_request<'b>(alloc: Global, message: &'b [u8]) -> Result<Request<'b>, WireError>
     // What is read is what the message says.
-    ensures found { IfOk result (λ request. ReadsRequest message.now request.host.now (ask_of request.ask)) }
+    ensures found { IfOk result (λ request. ReadsRequest message.now request.host.now
+        (ask_of request.ask)) }
 
     // A message is refused only where it is no request.
-    ensures malformed { result ≡ Err errors.Malformed → (host : List ℕ) (asked : definition.Ask) → ReadsRequest message.now host asked → ⊥ }
+    ensures malformed { result ≡ Err errors.Malformed → (host : List ℕ) (asked : definition.Ask)
+        → ReadsRequest message.now host asked → ⊥ }
 {
     let fields = read_fields(alloc, message)?;
     let mut host = "";
@@ -129,6 +131,8 @@ pub fn read_request<'b>(alloc: Global, message: &'b [u8]) -> Result<Request<'b>,
 
 /// A message is at most one request.
 pub fn requests_are_unique()
-    ensures host { (message h k : List ℕ) (a b : definition.Ask) → ReadsRequest message h a → ReadsRequest message k b → h ≡ k }
-    ensures ask { (message h k : List ℕ) (a b : definition.Ask) → ReadsRequest message h a → ReadsRequest message k b → a ≡ b }
+    ensures host { (message h k : List ℕ) (a b : definition.Ask) → ReadsRequest message h a
+        → ReadsRequest message k b → h ≡ k }
+    ensures ask { (message h k : List ℕ) (a b : definition.Ask) → ReadsRequest message h a
+        → ReadsRequest message k b → a ≡ b }
 {}

@@ -39,5 +39,6 @@ is_linked limits s c is =
     let named = first_file limits s c is in
     omega (arith, counted.0, named.0)
 
-pub described : (limits : Limits) (s : Source) (c : Compilation) (bytes : List ℕ) → IsCompiled limits (s ∷ []) c → bytes ≡ bytes_at c.files 0 → IsDescribedBy limits s bytes
+pub described : (limits : Limits) (s : Source) (c : Compilation) (bytes : List ℕ) → IsCompiled limits (s ∷ []) c → bytes ≡ bytes_at c.files 0
+    → IsDescribedBy limits s bytes
 described limits s c bytes is at = (c, is, 0, first_file limits s c is, at)

@@ -20,14 +20,17 @@ placed limits sources (Err e) first = refusal_placed limits sources e first
 
 -- P is what compiled sources give, and they give one thing
 module _ (limits : Limits) (sources : List Source) (P : List ℕ → Type 0) (compiled : (a : List ℕ) → P a → (c : Compilation) × IsCompiled limits sources c) where
-  pub every_answer : ((a b : List ℕ) → P a → P b → a ≡ b) → (r : Result (Vec ℕ Global) CompileError) → IfOk r (λ bytes. P bytes.items) → IfErr r (IsRefusal (IsFirstFault limits sources))
+  pub every_answer : ((a b : List ℕ) → P a → P b → a ≡ b) → (r : Result (Vec ℕ Global) CompileError) → IfOk r (λ bytes. P bytes.items)
+      → IfErr r (IsRefusal (IsFirstFault limits sources))
       → (answer : List ℕ) → P answer → MatchResult r (λ bytes. bytes.items ≡ answer) (λ e. e ≡ errors.NoMemory)
   every_answer one (Ok bytes) gives first answer is = one bytes.items answer gives is
   every_answer one (Err (errors.First fault)) gives first answer is = let w = compiled answer is in absurd (no_fault limits sources w.0 _ _ _ _ _ w.1 first)
   every_answer one (Err errors.NoMemory) gives first answer is = refl
 
   pub every_fault : (r : Result (Vec ℕ Global) CompileError) → IfOk r (λ bytes. P bytes.items) → IfErr r (IsRefusal (IsFirstFault limits sources))
-      → (pass : ℕ) (file : List ℕ) (step : ℕ) (place : Place) (kind : Kind) → IsFirstFault limits sources pass file step place kind → IsErrAnd r (Tells pass file step place kind)
-  every_fault (Ok bytes) gives first pass file step place kind fault = let w = compiled bytes.items gives in absurd (no_fault limits sources w.0 pass file step place kind w.1 fault)
+      → (pass : ℕ) (file : List ℕ) (step : ℕ) (place : Place) (kind : Kind) → IsFirstFault limits sources pass file step place kind
+      → IsErrAnd r (Tells pass file step place kind)
+  every_fault (Ok bytes) gives first pass file step place kind fault =
+      let w = compiled bytes.items gives in absurd (no_fault limits sources w.0 pass file step place kind w.1 fault)
   every_fault (Err (errors.First found)) gives first pass file step place kind fault = one_fault limits sources _ pass _ file _ step _ place _ kind first fault
   every_fault (Err errors.NoMemory) gives first pass file step place kind fault = tt

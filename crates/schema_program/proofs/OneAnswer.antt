@@ -25,7 +25,8 @@ one_set limits sources a b (c, is, at) (d, is', at') =
     let same = one_compilation limits sources c d is is' in
     at ∙ (λ i. flat_map (λ f. bytes_field 1 (bytes_at (same.0 i) f)) (same.1 i)) ∙ sym at'
 
-pub one_response_of : (mode : Mode) (limits : Limits) (sources : List Source) (body a b : List ℕ) → IsResponseOf mode limits sources body a → IsResponseOf mode limits sources body b → a ≡ b
+pub one_response_of : (mode : Mode) (limits : Limits) (sources : List Source) (body a b : List ℕ) → IsResponseOf mode limits sources body a
+    → IsResponseOf mode limits sources body b → a ≡ b
 one_response_of mode limits sources body a b (c, is, at) (d, is', at') = one_response limits sources c d mode body a b is is' at at'
 
 -- what is given is of sources that are compiled
@@ -35,5 +36,6 @@ described_from limits s a w = (w.0, w.1)
 pub set_from : (limits : Limits) (sources : List Source) (a : List ℕ) → IsSetOf limits sources a → (c : Compilation) × IsCompiled limits sources c
 set_from limits sources a w = (w.0, w.1)
 
-pub response_from : (mode : Mode) (limits : Limits) (sources : List Source) (body a : List ℕ) → IsResponseOf mode limits sources body a → (c : Compilation) × IsCompiled limits sources c
+pub response_from : (mode : Mode) (limits : Limits) (sources : List Source) (body a : List ℕ) → IsResponseOf mode limits sources body a
+    → (c : Compilation) × IsCompiled limits sources c
 response_from mode limits sources body a w = (w.0, w.1)

@@ -8,4 +8,5 @@ use Rattle.proto_base.specs.declared.limits.Limits.{Limits}
 -- the source by itself is compiled, and these are the bytes of the file of its name
 abbrev pub IsDescribedBy : Limits → Source → List ℕ → Type 0
 IsDescribedBy limits source bytes =
-    (c : Compilation) × IsCompiled limits (source ∷ []) c × (a : ℕ) × IsNamed c.files (name_of source) a × (bytes ≡ bytes_at c.files a)
+    (c : Compilation) × IsCompiled limits (source ∷ []) c × (a : ℕ) × IsNamed c.files (name_of source) a
+    × (bytes ≡ bytes_at c.files a)

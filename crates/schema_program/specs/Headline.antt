@@ -12,4 +12,5 @@ IsSetOf limits sources bytes = (c : Compilation) × IsCompiled limits sources c 
 
 -- the response to a body over sources
 abbrev pub IsResponseOf : Mode → Limits → List Source → List ℕ → List ℕ → Type 0
-IsResponseOf mode limits sources body bytes = (c : Compilation) × IsCompiled limits sources c × IsResponse mode c body bytes
+IsResponseOf mode limits sources body bytes =
+    (c : Compilation) × IsCompiled limits sources c × IsResponse mode c body bytes

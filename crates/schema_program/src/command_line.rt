@@ -155,7 +155,9 @@ fn explain_command<'a>(alloc: Global, kinds: &'a [&'a str]) -> Result<Command<'a
     let kind = Arg::new(alloc, "kind")
         .value_name("KIND")
         .value_parser(kinds)
-        .help("the kind of a fault, as it is printed behind its line and column; without it all kinds are listed");
+        .help(
+            "the kind of a fault, as it is printed behind its line and column; without it all kinds are listed",
+        );
     Command::new(alloc, "explain")
         .about("Prints what a kind of fault means, the smallest source that has it, and its cure")
         .arg(kind)

@@ -47,7 +47,8 @@ fn first_response<R, G>(
 where
     R: Threads + AllocGlobal + Sync,
     G: Gate + Sync,
-    ensures response { IfOk result (λ bytes. IsResponseOf mode limits.now sources.now body.now bytes.items) }
+    ensures response { IfOk result (λ bytes. IsResponseOf mode limits.now sources.now body.now
+        bytes.items) }
     ensures first { IfErr result (IsRefusal (IsFirstFault limits.now sources.now)) }
 {
     let compiled = compile(rt, sources, limits, plan, gate)?;
@@ -70,11 +71,14 @@ where
     G: Gate + Sync,
     ensures set { IfOk result (λ bytes. IsSetOf limits.now sources.now bytes.items) }
     ensures first { IfErr result (IsRefusal (IsFirstFault limits.now sources.now)) }
-    ensures placed { IfErr result (IsRefusal (λ pass file step place kind. IsPlaced limits.now sources.now file place)) }
+    ensures placed { IfErr result (IsRefusal
+        (λ pass file step place kind. IsPlaced limits.now sources.now file place)) }
 
     // So sources with a set give it, and those with a fault tell it, unless memory runs out.
-    ensures every_set { (set : List ℕ) → IsSetOf limits.now sources.now set → MatchResult result (λ bytes. bytes.items ≡ set) (λ e. e ≡ errors.NoMemory) }
-    ensures every_fault { (pass : ℕ) (file : List ℕ) (step : ℕ) (place : Place) (kind : Kind) → IsFirstFault limits.now sources.now pass file step place kind
+    ensures every_set { (set : List ℕ) → IsSetOf limits.now sources.now set
+        → MatchResult result (λ bytes. bytes.items ≡ set) (λ e. e ≡ errors.NoMemory) }
+    ensures every_fault { (pass : ℕ) (file : List ℕ) (step : ℕ) (place : Place) (kind : Kind)
+        → IsFirstFault limits.now sources.now pass file step place kind
         → IsErrAnd result (Tells pass file step place kind) }
 {
     first_set(rt, sources, limits, plan, gate)
@@ -96,13 +100,18 @@ pub fn response_to_sources<R, G>(
 where
     R: Threads + AllocGlobal + Sync,
     G: Gate + Sync,
-    ensures response { IfOk result (λ bytes. IsResponseOf mode limits.now sources.now body.now bytes.items) }
+    ensures response { IfOk result (λ bytes. IsResponseOf mode limits.now sources.now body.now
+        bytes.items) }
     ensures first { IfErr result (IsRefusal (IsFirstFault limits.now sources.now)) }
-    ensures placed { IfErr result (IsRefusal (λ pass file step place kind. IsPlaced limits.now sources.now file place)) }
+    ensures placed { IfErr result (IsRefusal
+        (λ pass file step place kind. IsPlaced limits.now sources.now file place)) }
 
     // So sources without a fault give the response, and those with one tell it, unless memory runs out.
-    ensures every_response { (response : List ℕ) → IsResponseOf mode limits.now sources.now body.now response → MatchResult result (λ bytes. bytes.items ≡ response) (λ e. e ≡ errors.NoMemory) }
-    ensures every_fault { (pass : ℕ) (file : List ℕ) (step : ℕ) (place : Place) (kind : Kind) → IsFirstFault limits.now sources.now pass file step place kind
+    ensures every_response { (response : List ℕ)
+        → IsResponseOf mode limits.now sources.now body.now response
+        → MatchResult result (λ bytes. bytes.items ≡ response) (λ e. e ≡ errors.NoMemory) }
+    ensures every_fault { (pass : ℕ) (file : List ℕ) (step : ℕ) (place : Place) (kind : Kind)
+        → IsFirstFault limits.now sources.now pass file step place kind
         → IsErrAnd result (Tells pass file step place kind) }
 {
     first_response(rt, sources, limits, plan, gate, mode, body)

@@ -38,14 +38,21 @@ pub fn describe<R>(
 ) -> Result<Vec<u8>, CompileError>
 where
     R: Threads + AllocGlobal + Sync,
-    ensures described { IfOk result (λ bytes. IsDescribedBy limits.now (record { name = name.entry; text = text.entry }) bytes.items) }
-    ensures first { IfErr result (IsRefusal (IsFirstFault limits.now (record { name = name.entry; text = text.entry } ∷ []))) }
-    ensures placed { IfErr result (IsRefusal (λ pass file step place kind. IsPlaced limits.now (record { name = name.entry; text = text.entry } ∷ []) file place)) }
+    ensures described { IfOk result (λ bytes. IsDescribedBy limits.now
+        (record { name = name.entry; text = text.entry }) bytes.items) }
+    ensures first { IfErr result (IsRefusal
+        (IsFirstFault limits.now (record { name = name.entry; text = text.entry } ∷ []))) }
+    ensures placed { IfErr result (IsRefusal
+        (λ pass file step place kind. IsPlaced limits.now
+        (record { name = name.entry; text = text.entry } ∷ []) file place)) }
 
     // So a source with a descriptor gives it, and one with a fault tells it, unless memory runs out.
-    ensures every_descriptor { (descriptor : List ℕ) → IsDescribedBy limits.now (record { name = name.entry; text = text.entry }) descriptor
+    ensures every_descriptor { (descriptor : List ℕ)
+        → IsDescribedBy limits.now (record { name = name.entry; text = text.entry }) descriptor
         → MatchResult result (λ bytes. bytes.items ≡ descriptor) (λ e. e ≡ errors.NoMemory) }
-    ensures every_fault { (pass : ℕ) (file : List ℕ) (step : ℕ) (place : Place) (kind : Kind) → IsFirstFault limits.now (record { name = name.entry; text = text.entry } ∷ []) pass file step place kind
+    ensures every_fault { (pass : ℕ) (file : List ℕ) (step : ℕ) (place : Place) (kind : Kind)
+        → IsFirstFault limits.now (record { name = name.entry; text = text.entry } ∷ []) pass file
+        step place kind
         → IsErrAnd result (Tells pass file step place kind) }
 {
     first_answer(rt, Source { name, text }, limits)

@@ -27,7 +27,8 @@ least_at-above w m [] top each = top
 least_at-above w m (p ∷ ps) top each =
     let ih = least_at-above w m ps top (λ x h. each x (SomePass-later (is_pair w x) p ps h)) in
     ⊎_elim
-    (λ (e : p.0 ≡ w). let here : m ≤ p.1 = each p.1 (SomePass-here (is_pair w p.1) p ps (and_from (eqb p.0 w) (eqb p.1 p.1) (eq-eqb p.0 w e) (eq-eqb p.1 p.1 refl))) in
+    (λ (e : p.0 ≡ w). let here : m ≤ p.1 = each p.1 (SomePass-here (is_pair w p.1) p ps
+    (and_from (eqb p.0 w) (eqb p.1 p.1) (eq-eqb p.0 w e) (eq-eqb p.1 p.1 refl))) in
     omega (arith, least_here w p ps e))
     (λ (n : p.0 ≡ w → ⊥). omega (arith, least_else w p ps n)) (cases_eq p.0 w)
 
@@ -51,7 +52,8 @@ least_at-reached w (c ∷ cs) =
     ⊎_elim
     (λ (e : c.word ≡ w). ⊎_elim
     (λ (lt : c.number < m). let q : c.number ≡ k = omega (arith, least_here w p ps e) in
-    subst P q (inr (SomePass-here (posts w c.number) c cs (and_from (eqb c.word w) (eqb c.number c.number) (eq-eqb c.word w e) (eq-eqb c.number c.number refl)))))
+    subst P q (inr (SomePass-here (posts w c.number) c cs (and_from (eqb c.word w) (eqb c.number c.number) (eq-eqb c.word w e)
+    (eq-eqb c.number c.number refl)))))
     (λ (ge : m ≤ c.number). let q : m ≡ k = omega (arith, least_here w p ps e) in subst P q rest)
     (cases_lt c.number m))
     (λ (n : c.word ≡ w → ⊥). subst P (sym (least_else w p ps n)) rest) (cases_eq c.word w)
@@ -117,7 +119,8 @@ IsLegal-post w n xs lt l = λ v. let m : ℕ = least_at w (posts_of xs) in let c
       let a = and_parts (finds v x d) (is_falling d) r.1 in let b = and_parts (eqb d.word v) (eqb d.found x) a.0 in
       let falls : d.number < d.found = ltb-true d.number d.found a.1 in let found : d.found ≡ x = eqb-true d.found x b.1 in
       let at_w : eqb d.word w ≡ true = eq-eqb d.word w (eqb-true d.word v b.0 ∙ sym same_w) in
-      let low : m ≤ d.number = least_at-below w d.number xs (r.2 (posts w d.number) (and_from (eqb d.word w) (eqb d.number d.number) at_w (eq-eqb d.number d.number refl))) in
+      let low : m ≤ d.number =
+      least_at-below w d.number xs (r.2 (posts w d.number) (and_from (eqb d.word w) (eqb d.number d.number) at_w (eq-eqb d.number d.number refl))) in
       absurd (omega arith))
       (λ (none : count_by (falls_from v x) xs ≤ 0). omega (arith, count_by-cons_yes (falls_from v x) c xs e))
       (cases_lt 0 (count_by (falls_from v x) xs)))

@@ -63,22 +63,26 @@ module _ (list : ℕ → List ℕ) where
       (λ (k : SomePass (is_pair r x) ms). let ih = marked_from ms r g x k reach in omega arith)
       (SomePass-cons (is_pair r x) m ms h)
 
-  pub marked_to : (marks : List (ℕ × ℕ)) (g x : ℕ) → SomePass (is_pair g x) (marked_posts list marks) → (r : ℕ) × SomePass (is_pair r x) marks × Reaches list r g
+  pub marked_to : (marks : List (ℕ × ℕ)) (g x : ℕ) → SomePass (is_pair g x) (marked_posts list marks)
+      → (r : ℕ) × SomePass (is_pair r x) marks × Reaches list r g
   marked_to [] g x h = absurd (omega arith)
   marked_to (m ∷ ms) g x h = let front : List (ℕ × ℕ) = at_each m.1 (list m.0) in
       ⊎_elim
-      (λ (k : SomePass (is_pair g x) front). let t = each_to m.1 (list m.0) g x k in (m.0, SomePass-here (is_pair m.0 x) m ms (pair_from m.0 x m refl t.0), t.1))
+      (λ (k : SomePass (is_pair g x) front). let t = each_to m.1 (list m.0) g x k in
+      (m.0, SomePass-here (is_pair m.0 x) m ms (pair_from m.0 x m refl t.0), t.1))
       (λ (k : SomePass (is_pair g x) (marked_posts list ms)). let t = marked_to ms g x k in (t.0, SomePass-later (is_pair t.0 x) m ms t.1, t.2))
       (SomePass-append (is_pair g x) front (marked_posts list ms) h)
 
   -- more marks have more posts
-  marked_more : (ms ns : List (ℕ × ℕ)) → ((r x : ℕ) → SomePass (is_pair r x) ms → SomePass (is_pair r x) ns) → (g x : ℕ) → SomePass (is_pair g x) (marked_posts list ms) → SomePass (is_pair g x) (marked_posts list ns)
+  marked_more : (ms ns : List (ℕ × ℕ)) → ((r x : ℕ) → SomePass (is_pair r x) ms → SomePass (is_pair r x) ns) → (g x : ℕ)
+      → SomePass (is_pair g x) (marked_posts list ms) → SomePass (is_pair g x) (marked_posts list ns)
   marked_more ms ns more g x h = let t = marked_to ms g x h in marked_from ns t.0 g x (more t.0 x t.1) t.2
 
 abbrev pub EmptyIfSpent : List MarkView → Type 0
 EmptyIfSpent views = (id : ℕ) (v : MarkView) → get_elem? views id ≡ some v → v.least.parts ≡ 0 → (v.marks ≡ []) × (v.debt ≡ None)
 
-empty_set : (views : List MarkView) (id : ℕ) (w : MarkView) → (w.least.parts ≡ 0 → (w.marks ≡ []) × (w.debt ≡ None)) → EmptyIfSpent views → EmptyIfSpent (set views id w)
+empty_set : (views : List MarkView) (id : ℕ) (w : MarkView) → (w.least.parts ≡ 0 → (w.marks ≡ []) × (w.debt ≡ None)) → EmptyIfSpent views
+    → EmptyIfSpent (set views id w)
 empty_set views id w mine old j u e = ⊎_elim
     (λ (x : (j ≡ id) × (w ≡ u)). subst (λ (y : MarkView). y.least.parts ≡ 0 → (y.marks ≡ []) × (y.debt ≡ None)) x.1 mine)
     (λ (x : (j ≢ id) × (get_elem? views j ≡ some u)). old j u x.1)
@@ -86,13 +90,17 @@ empty_set views id w mine old j u e = ⊎_elim
 
 module _ (views : List MarkView) (id : ℕ) (v : MarkView) (at : get_elem? views id ≡ some v) where
   marks_set : (w : MarkView) (h : ℕ × ℕ → ℕ) → sum_by h (all_marks (set views id w)) + sum_by h v.marks ≡ sum_by h (all_marks views) + sum_by h w.marks
-  marks_set w h = let f : MarkView → List (ℕ × ℕ) = λ u. u.marks in omega (arith, sum_by-flat_map h f (set views id w), sum_by-flat_map h f views, sum_by-at_set (λ (u : MarkView). sum_by h (f u)) views id v w at)
+  marks_set w h = let f : MarkView → List (ℕ × ℕ) = λ u. u.marks in
+      omega (arith, sum_by-flat_map h f (set views id w), sum_by-flat_map h f views, sum_by-at_set (λ (u : MarkView). sum_by h (f u)) views id v w at)
 
-  owed_set : (list : ℕ → List ℕ) (w : MarkView) (h : ℕ × ℕ → ℕ) → sum_by h (all_owed list (set views id w)) + sum_by h (owed_of list v) ≡ sum_by h (all_owed list views) + sum_by h (owed_of list w)
-  owed_set list w h = let f : MarkView → List (ℕ × ℕ) = λ u. owed_of list u in omega (arith, sum_by-flat_map h f (set views id w), sum_by-flat_map h f views, sum_by-at_set (λ (u : MarkView). sum_by h (f u)) views id v w at)
+  owed_set : (list : ℕ → List ℕ) (w : MarkView) (h : ℕ × ℕ → ℕ)
+      → sum_by h (all_owed list (set views id w)) + sum_by h (owed_of list v) ≡ sum_by h (all_owed list views) + sum_by h (owed_of list w)
+  owed_set list w h = let f : MarkView → List (ℕ × ℕ) = λ u. owed_of list u in
+      omega (arith, sum_by-flat_map h f (set views id w), sum_by-flat_map h f views, sum_by-at_set (λ (u : MarkView). sum_by h (f u)) views id v w at)
 
   -- a post of the new calls is an old one or the new call
-  posted_set : (w : MarkView) (c : Call) → w.least ≡ with_call v.least c → (g x : ℕ) → SomePass (posts g x) (all_calls (all_views (set views id w))) → (posts g x c ≡ true) ⊎ SomePass (posts g x) (all_calls (all_views views))
+  posted_set : (w : MarkView) (c : Call) → w.least ≡ with_call v.least c → (g x : ℕ) → SomePass (posts g x) (all_calls (all_views (set views id w)))
+      → (posts g x c ≡ true) ⊎ SomePass (posts g x) (all_calls (all_views views))
   posted_set w c is g x h =
       let f : Call → ℕ = λ d. cond (posts g x d) 1 0 in
       let a = calls_set (all_views views) id v.least (at_view views id v at) (with_call v.least c) f in
@@ -124,25 +132,35 @@ module _ (words : List ℕ) (g n : ℕ) (inside : g + 1 < length words) where
   word_else h ne = let n' : h + 1 ≢ g + 1 = λ (e : h + 1 ≡ g + 1). ne (omega arith) in rw get_or-set_other refl
 
   word_falls : (h : ℕ) → slice_index after (h + 1) ≤ slice_index words (h + 1)
-  word_falls h = ⊎_elim (λ (e : h ≡ g). let P : ℕ → Type 0 = λ y. slice_index after (y + 1) ≤ slice_index words (y + 1) in let here : P g = omega (arith, word_here) in subst P (sym e) here)
+  word_falls h = ⊎_elim (λ (e : h ≡ g). let P : ℕ → Type 0 = λ y. slice_index after (y + 1) ≤ slice_index words (y + 1) in let here : P g =
+      omega (arith, word_here) in subst P (sym e) here)
       (λ (ne : h ≡ g → ⊥). omega (arith, word_else h ne)) (cases_eq h g)
 
   -- it fell to n, or stayed
   word_cases : (h : ℕ) → ((h ≡ g) × (n < slice_index words (g + 1)) × (slice_index after (h + 1) ≡ n)) ⊎ (slice_index after (h + 1) ≡ slice_index words (h + 1))
   word_cases h = ⊎_elim
       (λ (e : h ≡ g). ⊎_elim
-      (λ (lt : n < slice_index words (g + 1)). inl (e, lt, (let P : ℕ → Type 0 = λ y. slice_index after (y + 1) ≡ n in let here : P g = omega (arith, word_here) in subst P (sym e) here)))
-      (λ (ge : slice_index words (g + 1) ≤ n). inr (let P : ℕ → Type 0 = λ y. slice_index after (y + 1) ≡ slice_index words (y + 1) in let here : P g = omega (arith, word_here) in subst P (sym e) here))
+      (λ (lt : n < slice_index words (g + 1)). inl (
+        e,
+        lt,
+        (let P : ℕ → Type 0 = λ y. slice_index after (y + 1) ≡ n in let here : P g =
+            omega (arith, word_here) in subst P (sym e) here),
+      ))
+      (λ (ge : slice_index words (g + 1) ≤ n). inr (let P : ℕ → Type 0 = λ y. slice_index after (y + 1) ≡ slice_index words (y + 1) in let here : P g =
+      omega (arith, word_here) in subst P (sym e) here))
       (cases_lt n (slice_index words (g + 1))))
       (λ (ne : h ≡ g → ⊥). inr (word_else h ne)) (cases_eq h g)
 
-module _ (count : ℕ) (list : ℕ → List ℕ) (words : List ℕ) (views : List MarkView) (id : ℕ) (v : MarkView) (at : get_elem? views id ≡ some v) (some_part : 0 < v.least.parts) (k : IsMarked count list words views) where
+module _ (count : ℕ) (list : ℕ → List ℕ) (words : List ℕ) (views : List MarkView) (id : ℕ) (v : MarkView) (at : get_elem? views id ≡ some v)
+    (some_part : 0 < v.least.parts) (k : IsMarked count list words views) where
   -- the least table's part of a post
   kept_post : (w : MarkView) (g n : ℕ) → g < count → n < NONE → w.least ≡ with_call v.least (call g (slice_index words (g + 1)) n)
       → IsKept count (set words (g + 1) (min (slice_index words (g + 1)) n)) (all_views (set views id w))
   kept_post w g n inside lt is = let m : ℕ = slice_index words (g + 1) in
-      let now : IsKept count (set words (g + 1) (min m n)) (set (all_views views) id (with_call v.least (call g m n))) = IsKept-post count words (all_views views) id v.least (at_view views id v at) some_part k.kept g inside n lt in
-      subst (λ (l : List View). IsKept count (set words (g + 1) (min m n)) l) (ap (λ (u : View). set (all_views views) id u) (sym is) ∙ sym (map-set views id w)) now
+      let now : IsKept count (set words (g + 1) (min m n)) (set (all_views views) id (with_call v.least (call g m n))) =
+      IsKept-post count words (all_views views) id v.least (at_view views id v at) some_part k.kept g inside n lt in
+      subst (λ (l : List View). IsKept count (set words (g + 1) (min m n)) l)
+      (ap (λ (u : View). set (all_views views) id u) (sym is) ∙ sym (map-set views id w)) now
 
   parts_of : (w : MarkView) (c : Call) → w.least ≡ with_call v.least c → w.least.parts ≡ v.least.parts
   parts_of w c is = ap (λ (u : View). u.parts) is
@@ -158,8 +176,10 @@ module _ (count : ℕ) (list : ℕ → List ℕ) (words : List ℕ) (views : Lis
       let h : ℕ × ℕ → ℕ = λ p. cond (is_pair s x p) 1 0 in omega (arith, marks_set views id v at w h, sum_by-cons h (r, n) v.marks) in
       let more : (s x : ℕ) → SomePass (is_pair s x) ms → SomePass (is_pair s x) ms' = λ s x h. omega (arith, mark s x) in
       let new : SomePass (is_pair r n) ms' = omega (arith, mark r n, one_when (is_pair r n (r, n)) (pair_from r n (r, n) refl refl)) in
-      let owe : (g x : ℕ) → count_by (is_pair g x) (all_owed list (set views id w)) ≡ count_by (is_pair g x) (all_owed list views) + count_by (is_pair g x) ow = λ g x.
-      let h : ℕ × ℕ → ℕ = λ p. cond (is_pair g x p) 1 0 in omega (arith, owed_set views id v at list w h, ap (λ (o : Option Debt). sum_by h (owed_by list o)) none, ap (λ (l : List (ℕ × ℕ)). sum_by h l) ow_is) in
+      let owe : (g x : ℕ) → count_by (is_pair g x) (all_owed list (set views id w)) ≡ count_by (is_pair g x) (all_owed list views) + count_by (is_pair g x) ow =
+      λ g x.
+      let h : ℕ × ℕ → ℕ = λ p. cond (is_pair g x p) 1 0 in omega
+      (arith, owed_set views id v at list w h, ap (λ (o : Option Debt). sum_by h (owed_by list o)) none, ap (λ (l : List (ℕ × ℕ)). sum_by h l) ow_is) in
       record {
         kept = kept_post w r n inside lt refl;
         posted = λ g x h. ⊎_elim
@@ -188,7 +208,8 @@ module _ (count : ℕ) (list : ℕ → List ℕ) (words : List ℕ) (views : Lis
             inr (n, omega (arith, owe g n), omega (arith, e.2)))
             (λ (e : slice_index words' (s + 1) ≡ slice_index words (s + 1)). ⊎_elim
             (λ le. inl (omega (arith, word_falls words r n room g)))
-            (λ (o : (x : ℕ) × SomePass (is_pair g x) (all_owed list views) × (x ≤ slice_index words (s + 1))). inr (o.0, omega (arith, owe g o.0, o.1), omega (arith, o.2)))
+            (λ (o : (x : ℕ) × SomePass (is_pair g x) (all_owed list views) × (x ≤ slice_index words (s + 1))). inr
+            (o.0, omega (arith, owe g o.0, o.1), omega (arith, o.2)))
             (k.spread s g in_s reach (omega arith)))
             (word_cases words r n room s);
         empty = empty_set views id w (λ (z : w.least.parts ≡ 0). absurd (omega arith)) k.empty;
@@ -201,14 +222,23 @@ module _ (count : ℕ) (list : ℕ → List ℕ) (words : List ℕ) (views : Lis
       let m : ℕ = slice_index words (g + 1) in let c : Call = call g m n in let w : MarkView = with_paid last g m n v in
       let ms : List (ℕ × ℕ) = all_marks views in let ms' : List (ℕ × ℕ) = all_marks (set views id w) in
       let room : g + 1 < length words = omega (arith, k.kept.size) in let words' : List ℕ = after words g n room in
-      let mark : (s x : ℕ) → count_by (is_pair s x) ms' ≡ count_by (is_pair s x) ms = λ s x. let h : ℕ × ℕ → ℕ = λ p. cond (is_pair s x p) 1 0 in omega (arith, marks_set views id v at w h) in
+      let mark : (s x : ℕ) → count_by (is_pair s x) ms' ≡ count_by (is_pair s x) ms =
+      λ s x. let h : ℕ × ℕ → ℕ = λ p. cond (is_pair s x p) 1 0 in omega (arith, marks_set views id v at w h) in
       let more : (s x : ℕ) → SomePass (is_pair s x) ms → SomePass (is_pair s x) ms' = λ s x h. omega (arith, mark s x) in
-      let owe : (a x : ℕ) → count_by (is_pair a x) (all_owed list (set views id w)) + cond (is_pair a x (g, n)) 1 0 ≡ count_by (is_pair a x) (all_owed list views) = λ a x.
-      let h : ℕ × ℕ → ℕ = λ p. cond (is_pair a x p) 1 0 in omega (arith, owed_set views id v at list w h, ap (λ (l : List (ℕ × ℕ)). sum_by h l) is, ap (λ (l : List (ℕ × ℕ)). sum_by h l) rest_is, sum_by-cons h (g, n) rest) in
+      let owe : (a x : ℕ) → count_by (is_pair a x) (all_owed list (set views id w)) + cond (is_pair a x (g, n)) 1 0
+      ≡ count_by (is_pair a x) (all_owed list views) = λ a x.
+      let h : ℕ × ℕ → ℕ = λ p. cond (is_pair a x p) 1 0 in omega (
+        arith,
+        owed_set views id v at list w h,
+        ap (λ (l : List (ℕ × ℕ)). sum_by h l) is,
+        ap (λ (l : List (ℕ × ℕ)). sum_by h l) rest_is,
+        sum_by-cons h (g, n) rest,
+      ) in
       let was_owed : SomePass (is_pair g n) (all_owed list views) = omega (arith, owe g n, one_when (is_pair g n (g, n)) (pair_from g n (g, n) refl refl)) in
       let of = marked_to list ms g n (k.owed g n was_owed) in let root : ℕ = of.0 in let its = k.marks root n of.1 in
       -- what was owed still is, or it was this
-      let still : (a x : ℕ) → SomePass (is_pair a x) (all_owed list views) → SomePass (is_pair a x) (all_owed list (set views id w)) ⊎ ((g ≡ a) × (n ≡ x)) = λ a x h.
+      let still : (a x : ℕ) → SomePass (is_pair a x) (all_owed list views) → SomePass (is_pair a x) (all_owed list (set views id w)) ⊎ ((g ≡ a) × (n ≡ x)) =
+      λ a x h.
       ⊎_elim (λ (e : is_pair a x (g, n) ≡ true). inr (pair_is a x (g, n) e))
       (λ (e : is_pair a x (g, n) ≡ false). inl (omega (arith, owe a x, zero_if (is_pair a x (g, n)) e)))
       (cases_Bool (is_pair a x (g, n))) in
@@ -257,7 +287,8 @@ module _ (count : ℕ) (list : ℕ → List ℕ) (words : List ℕ) (views : Lis
   IsMarked-views views' kept calls marks owed empty =
       let ms : List (ℕ × ℕ) = all_marks views in let ms' : List (ℕ × ℕ) = all_marks views' in
       let mark : (s x : ℕ) → count_by (is_pair s x) ms' ≡ count_by (is_pair s x) ms = λ s x. marks (λ p. cond (is_pair s x p) 1 0) in
-      let owe : (s x : ℕ) → count_by (is_pair s x) (all_owed list views') ≡ count_by (is_pair s x) (all_owed list views) = λ s x. owed (λ p. cond (is_pair s x p) 1 0) in
+      let owe : (s x : ℕ) → count_by (is_pair s x) (all_owed list views') ≡ count_by (is_pair s x) (all_owed list views) =
+      λ s x. owed (λ p. cond (is_pair s x p) 1 0) in
       let more : (s x : ℕ) → SomePass (is_pair s x) ms → SomePass (is_pair s x) ms' = λ s x h. omega (arith, mark s x) in
       record {
         kept = kept;
@@ -265,7 +296,8 @@ module _ (count : ℕ) (list : ℕ → List ℕ) (words : List ℕ) (views : Lis
         owed = λ g x h. marked_more list ms ms' more g x (k.owed g x (omega (arith, owe g x)));
         marks = λ s x h. k.marks s x (omega (arith, mark s x));
         spread = λ s g in_s reach less. ⊎_elim (λ le. inl le)
-            (λ (o : (x : ℕ) × SomePass (is_pair g x) (all_owed list views) × (x ≤ slice_index words (s + 1))). inr (o.0, omega (arith, o.1, owe g o.0), o.2)) (k.spread s g in_s reach less);
+            (λ (o : (x : ℕ) × SomePass (is_pair g x) (all_owed list views) × (x ≤ slice_index words (s + 1))). inr (o.0, omega (arith, o.1, owe g o.0), o.2))
+            (k.spread s g in_s reach less);
         empty = empty;
       }
 
@@ -273,22 +305,38 @@ map-last : (views : List MarkView) (r : MarkView) → all_views (views ++ r ∷ 
 map-last [] r = refl
 map-last (x ∷ xs) r = ap (λ (l : List View). x.least ∷ l) (map-last xs r)
 
-module _ (count : ℕ) (list : ℕ → List ℕ) (words : List ℕ) (views : List MarkView) (id : ℕ) (v : MarkView) (at : get_elem? views id ≡ some v) (some_part : 0 < v.least.parts) (k : IsMarked count list words views) (none : v.debt ≡ None) where
+module _ (count : ℕ) (list : ℕ → List ℕ) (words : List ℕ) (views : List MarkView) (id : ℕ) (v : MarkView) (at : get_elem? views id ≡ some v)
+    (some_part : 0 < v.least.parts) (k : IsMarked count list words views) (none : v.debt ≡ None) where
   pub IsMarked-split : (j : ℕ) → 0 < j → j < v.least.parts → IsMarked count list words (set views id (mark_left j v) ++ mark_right j v ∷ [])
   IsMarked-split j pos lt =
-      let l : MarkView = mark_left j v in let r : MarkView = mark_right j v in let vs : List MarkView = set views id l in let views' : List MarkView = vs ++ r ∷ [] in
+      let l : MarkView =
+      mark_left j v in let r : MarkView = mark_right j v in let vs : List MarkView = set views id l in let views' : List MarkView = vs ++ r ∷ [] in
       let old : List View = all_views views in
-      let path : set old id l.least ++ r.least ∷ [] ≡ all_views views' = ap (λ (u : List View). u ++ r.least ∷ []) (sym (map-set views id l)) ∙ sym (map-last vs r) in
+      let path : set old id l.least ++ r.least ∷ [] ≡ all_views views' =
+      ap (λ (u : List View). u ++ r.least ∷ []) (sym (map-set views id l)) ∙ sym (map-last vs r) in
       IsMarked-views count list words views id v at some_part k views'
       (subst (λ (u : List View). IsKept count words u) path (IsKept-split count words old id v.least (at_view views id v at) some_part k.kept j pos lt))
       (λ g x h. let f : Call → ℕ = λ c. cond (posts g x c) 1 0 in let calls : View → List Call = λ u. u.calls in let us : List View = set old id l.least in
       let P : List View → Type 0 = λ u. SomePass (posts g x) (all_calls u) in
       let h' : P (us ++ r.least ∷ []) = subst P (sym path) h in
-      omega (arith, calls_set old id v.least (at_view views id v at) l.least f, sum_by-flat_map f calls (us ++ r.least ∷ []), sum_by-flat_map f calls us, sum_by_push (λ (u : View). sum_by f (calls u)) us r.least))
+      omega (
+        arith,
+        calls_set old id v.least (at_view views id v at) l.least f,
+        sum_by-flat_map f calls (us ++ r.least ∷ []),
+        sum_by-flat_map f calls us,
+        sum_by_push (λ (u : View). sum_by f (calls u)) us r.least,
+      ))
       (λ h. let f : MarkView → List (ℕ × ℕ) = λ u. u.marks in
       omega (arith, marks_set views id v at l h, sum_by-flat_map h f views', sum_by-flat_map h f vs, sum_by_push (λ (u : MarkView). sum_by h (f u)) vs r))
       (λ h. let f : MarkView → List (ℕ × ℕ) = λ u. owed_of list u in
-      omega (arith, owed_set views id v at list l h, ap (λ (y : Option Debt). sum_by h (owed_by list y)) none, sum_by-flat_map h f views', sum_by-flat_map h f vs, sum_by_push (λ (u : MarkView). sum_by h (f u)) vs r))
+      omega (
+        arith,
+        owed_set views id v at list l h,
+        ap (λ (y : Option Debt). sum_by h (owed_by list y)) none,
+        sum_by-flat_map h f views',
+        sum_by-flat_map h f vs,
+        sum_by_push (λ (u : MarkView). sum_by h (f u)) vs r,
+      ))
       (λ i u e z. ⊎_elim (λ (x : get_elem? vs i ≡ some u). empty_set views id l (λ (b : l.least.parts ≡ 0). absurd (omega arith)) k.empty i u x z)
       (λ (x : r ≡ u). let b : j ≡ u.least.parts = ap (λ (y : MarkView). y.least.parts) x in absurd (omega arith)) (at_snoc vs r u i e))
 
@@ -297,16 +345,30 @@ module _ (count : ℕ) (list : ℕ → List ℕ) (words : List ℕ) (views : Lis
   IsMarked-join other w none' at' apart =
       let b : MarkView = mark_both v w in let vs : List MarkView = set views id b in let views' : List MarkView = set vs other mark_spent in
       let old : List View = all_views views in let us : List View = set old id b.least in
-      let path : set us other spent ≡ all_views views' = ap (λ (u : List View). set u other spent) (sym (map-set views id b)) ∙ sym (map-set vs other mark_spent) in
-      let at_w : get_elem? us other ≡ some w.least = subst (λ (u : List View). get_elem? u other ≡ some w.least) (map-set views id b) (at_view vs other w at') in
+      let path : set us other spent ≡ all_views views' =
+      ap (λ (u : List View). set u other spent) (sym (map-set views id b)) ∙ sym (map-set vs other mark_spent) in
+      let at_w : get_elem? us other ≡ some w.least =
+      subst (λ (u : List View). get_elem? u other ≡ some w.least) (map-set views id b) (at_view vs other w at') in
       IsMarked-views count list words views id v at some_part k views'
-      (subst (λ (u : List View). IsKept count words u) path (IsKept-join count words old id v.least (at_view views id v at) some_part k.kept other w.least at_w))
+      (subst (λ (u : List View). IsKept count words u) path (IsKept-join count words old id v.least (at_view views id v at) some_part k.kept other w.least
+      at_w))
       (λ g x h. let f : Call → ℕ = λ c. cond (posts g x c) 1 0 in
       let P : List View → Type 0 = λ u. SomePass (posts g x) (all_calls u) in
       let h' : P (set us other spent) = subst P (sym path) h in
-      omega (arith, calls_set old id v.least (at_view views id v at) b.least f, calls_set us other w.least at_w spent f, sum_by-append f v.least.calls w.least.calls))
+      omega (
+        arith,
+        calls_set old id v.least (at_view views id v at) b.least f,
+        calls_set us other w.least at_w spent f,
+        sum_by-append f v.least.calls w.least.calls,
+      ))
       (λ h. omega (arith, marks_set views id v at b h, marks_set vs other w at' mark_spent h, sum_by-append h v.marks w.marks))
-      (λ h. omega (arith, owed_set views id v at list b h, owed_set vs other w at' list mark_spent h, ap (λ (y : Option Debt). sum_by h (owed_by list y)) none, ap (λ (y : Option Debt). sum_by h (owed_by list y)) none'))
+      (λ h. omega (
+        arith,
+        owed_set views id v at list b h,
+        owed_set vs other w at' list mark_spent h,
+        ap (λ (y : Option Debt). sum_by h (owed_by list y)) none,
+        ap (λ (y : Option Debt). sum_by h (owed_by list y)) none',
+      ))
       (empty_set vs other mark_spent (λ z. (refl, refl)) (empty_set views id b (λ (z : b.least.parts ≡ 0). absurd (omega arith)) k.empty))
 
 abbrev pub mark_holds : ℕ → (ℕ → List ℕ) → State (Unit {0}) MarkView → Type 0
@@ -322,14 +384,20 @@ set_found (x ∷ xs) (suc i) = ap (λ (l : List ℕ). x ∷ l) (set_found xs i)
 
 module _ (count : ℕ) (list : ℕ → List ℕ) (slots id : ℕ) (v : MarkView) (cs : List (ℕ × Unit {0})) (pos : 0 < v.least.parts) where
   pub root_allows : ((r : ℕ) → r < count → Reaches list r r) → v.debt ≡ None → (r n : ℕ) → r < count → n < NONE
-      → Allows (mark_holds count list) slots id (v, cs) (r + 1) (λ x. min x n) (λ found after. (found ≤ known (r + 1 - 1) v.least) × (after ≡ (with_root (r + 1 - 1) found n v, cs)))
+      → Allows (mark_holds count list) slots id (v, cs) (r + 1) (λ x. min x n)
+      (λ found after. (found ≤ known (r + 1 - 1) v.least) × (after ≡ (with_root (r + 1 - 1) found n v, cs)))
   root_allows refl_ none r n inside lt s k homes at small =
       let m : ℕ = slice_index s.words (r + 1) in (
         with_root (r + 1 - 1) m n v,
         keeps,
         tt,
-        subst (λ (y : ℕ). IsMarked count list (set s.words (r + 1) (min m n)) (set s.views id (with_root y m n v))) (back r) (IsMarked-root count list s.words s.views id v at pos k refl_ none r n inside lt),
-        (subst (λ (y : ℕ). m ≤ known y v.least) (back r) (held-le-known count s.words (all_views s.views) id v.least (at_view s.views id v at) pos k.kept r inside), refl),
+        subst (λ (y : ℕ). IsMarked count list (set s.words (r + 1) (min m n)) (set s.views id (with_root y m n v))) (back r)
+            (IsMarked-root count list s.words s.views id v at pos k refl_ none r n inside lt),
+        (
+          subst (λ (y : ℕ). m ≤ known y v.least) (back r) (held-le-known count s.words (all_views s.views) id v.least (at_view s.views id v at) pos k.kept r
+              inside),
+          refl,
+        ),
       )
 
   pub paid_allows : ((r g h : ℕ) → r < count → Reaches list r g → Reaches list g h → Reaches list r h)
@@ -340,7 +408,8 @@ module _ (count : ℕ) (list : ℕ → List ℕ) (slots id : ℕ) (v : MarkView)
         with_paid last (g + 1 - 1) m n v,
         keeps,
         tt,
-        subst (λ (y : ℕ). IsMarked count list (set s.words (g + 1) (min m n)) (set s.views id (with_paid last y m n v))) (back g) (IsMarked-paid count list s.words s.views id v at pos k trans last g n rest is rest_is inside),
+        subst (λ (y : ℕ). IsMarked count list (set s.words (g + 1) (min m n)) (set s.views id (with_paid last y m n v))) (back g)
+            (IsMarked-paid count list s.words s.views id v at pos k trans last g n rest is rest_is inside),
         refl,
       )
 
@@ -356,14 +425,17 @@ module _ (count : ℕ) (list : ℕ → List ℕ) (slots id : ℕ) (v : MarkView)
         (omega (arith, sum_by-at (λ (u : View). u.parts) (all_views s.views) id v.least (at_view s.views id v at), k.kept.parts), refl),
       )
 
-pub mark_splits : (count : ℕ) (list : ℕ → List ℕ) (id j : ℕ) (v : MarkView) → v.debt ≡ None → 0 < j → j < v.least.parts → Splits (mark_holds count list) id v (mark_left j v) (mark_right j v)
+pub mark_splits : (count : ℕ) (list : ℕ → List ℕ) (id j : ℕ) (v : MarkView) → v.debt ≡ None → 0 < j → j < v.least.parts
+    → Splits (mark_holds count list) id v (mark_left j v) (mark_right j v)
 mark_splits count list id j v none pos lt s k at = IsMarked-split count list s.words s.views id v at (omega arith) k none j pos lt
 
-pub mark_joins : (count : ℕ) (list : ℕ → List ℕ) (id : ℕ) (v : MarkView) (other : ℕ) (w : MarkView) → 0 < v.least.parts → v.debt ≡ None → w.debt ≡ None → Joins (mark_holds count list) id v other w (mark_both v w) mark_spent
+pub mark_joins : (count : ℕ) (list : ℕ → List ℕ) (id : ℕ) (v : MarkView) (other : ℕ) (w : MarkView) → 0 < v.least.parts → v.debt ≡ None → w.debt ≡ None
+    → Joins (mark_holds count list) id v other w (mark_both v w) mark_spent
 mark_joins count list id v other w pos none none' s k at apart at' = IsMarked-join count list s.words s.views id v at pos k none other w none' at' apart
 
 -- where one view has all the parts, the others have no marks and owe nothing
-none_left : (list : ℕ → List ℕ) (views : List MarkView) → EmptyIfSpent views → sum_by (λ (u : View). u.parts) (all_views views) ≡ 0 → (all_marks views ≡ []) × (all_owed list views ≡ [])
+none_left : (list : ℕ → List ℕ) (views : List MarkView) → EmptyIfSpent views → sum_by (λ (u : View). u.parts) (all_views views) ≡ 0
+    → (all_marks views ≡ []) × (all_owed list views ≡ [])
 none_left list [] empty e = (refl, refl)
 none_left list (u ∷ us) empty e =
     let parts = sum_by-cons (λ (u : View). u.parts) u.least (all_views us) in
@@ -371,14 +443,16 @@ none_left list (u ∷ us) empty e =
     let rest = none_left list us (λ id w at. empty (suc id) w at) (omega arith) in
     ((λ i. here.0 i ++ rest.0 i), λ i. owed_by list (here.1 i) ++ rest.1 i)
 
-only_one : (list : ℕ → List ℕ) (views : List MarkView) (id : ℕ) (v : MarkView) → get_elem? views id ≡ some v → EmptyIfSpent views → sum_by (λ (u : View). u.parts) (all_views views) ≡ v.least.parts → (all_marks views ≡ v.marks) × (all_owed list views ≡ owed_of list v)
+only_one : (list : ℕ → List ℕ) (views : List MarkView) (id : ℕ) (v : MarkView) → get_elem? views id ≡ some v → EmptyIfSpent views
+    → sum_by (λ (u : View). u.parts) (all_views views) ≡ v.least.parts → (all_marks views ≡ v.marks) × (all_owed list views ≡ owed_of list v)
 only_one list [] id v at empty e = absurd (some-ne-none v (sym at))
 only_one list (u ∷ us) zero v at empty e =
     let same = some-injective u v at in let parts = sum_by-cons (λ (u : View). u.parts) u.least (all_views us) in
     let rest = none_left list us (λ id w a. empty (suc id) w a) (omega (arith, ap (λ (y : MarkView). y.least.parts) same)) in
     ((λ i. (same i).marks ++ rest.0 i) ∙ append-nil v.marks, (λ i. owed_of list (same i) ++ rest.1 i) ∙ append-nil (owed_of list v))
 only_one list (u ∷ us) (suc id) v at empty e =
-    let parts = sum_by-cons (λ (u : View). u.parts) u.least (all_views us) in let mine = sum_by-at (λ (u : View). u.parts) (all_views us) id v.least (at_view us id v at) in
+    let parts = sum_by-cons (λ (u : View). u.parts) u.least (all_views us) in let mine =
+    sum_by-at (λ (u : View). u.parts) (all_views us) id v.least (at_view us id v at) in
     let here = empty 0 u refl (omega arith) in
     let rest = only_one list us id v at (λ j w a. empty (suc j) w a) (omega arith) in
     ((λ i. here.0 i ++ rest.0 i), λ i. owed_by list (here.1 i) ++ rest.1 i)
@@ -403,7 +477,13 @@ pub mark_closes : (count : ℕ) (list : ℕ → List ℕ) (id : ℕ) (v : MarkVi
 mark_closes count list id v ws xs all none f =
     let s = f.0 in let k : IsMarked count list s.words s.views = f.1.0 in
     let only = only_one list s.views id v f.1.1 k.empty (omega (arith, k.kept.parts)) in
-    let base = closes count id v.least ws xs all (record { words = s.words; homes = s.homes; views = all_views s.views }, (k.kept, at_view s.views id v f.1.1), f.2, f.3, f.4) in
+    let base = closes count id v.least ws xs all (
+      record { words = s.words; homes = s.homes; views = all_views s.views },
+      (k.kept, at_view s.views id v f.1.1),
+      f.2,
+      f.3,
+      f.4,
+    ) in
     record {
       size = base.size;
       least = λ w inside.
@@ -413,13 +493,15 @@ mark_closes count list id v ws xs all none f =
           let cs : List Call = all_calls (all_views s.views) in
           let is : it ≡ least_at w (posts_of cs) = k.kept.least w inside in
           let low : least_at w ps ≤ it = ⊎_elim (λ (e : least_at w (posts_of cs) ≡ NONE). omega (arith, least_at-le-NONE w ps))
-          (λ (h : SomePass (posts w (least_at w (posts_of cs))) cs). omega (arith, pairs_below w (least_at w (posts_of cs)) ps (k.posted w (least_at w (posts_of cs)) h)))
+          (λ (h : SomePass (posts w (least_at w (posts_of cs))) cs). omega
+          (arith, pairs_below w (least_at w (posts_of cs)) ps (k.posted w (least_at w (posts_of cs)) h)))
           (least_at-reached w cs) in
           let high : it ≤ least_at w ps = least_at-above w it ps (omega (arith, least_at-le-NONE w (posts_of cs))) (λ x h.
           let t = marked_to list (all_marks s.views) w x h in let m = k.marks t.0 x t.1 in
           ⊎_elim (λ le. omega (arith, m.2))
           (λ (o : (y : ℕ) × SomePass (is_pair w y) (all_owed list s.views) × (y ≤ slice_index s.words (t.0 + 1))).
-          let P : List (ℕ × ℕ) → Type 0 = λ l. SomePass (is_pair w o.0) l in let no : P [] = subst P (only.1 ∙ ap (λ (y : Option Debt). owed_by list y) none) o.1 in absurd (omega arith))
+          let P : List (ℕ × ℕ) → Type 0 =
+          λ l. SomePass (is_pair w o.0) l in let no : P [] = subst P (only.1 ∙ ap (λ (y : Option Debt). owed_by list y) none) o.1 in absurd (omega arith))
           (k.spread t.0 w m.0 t.2 (omega (arith, m.1, m.2)))) in
           omega (arith, word, low, high, ap (λ (l : List (ℕ × ℕ)). least_at w (marked_posts list l)) only.0);
       posted = base.least;
@@ -428,7 +510,8 @@ mark_closes count list id v ws xs all none f =
     }
 
 -- the least depends on the set of the pairs alone, for callers who see a seat's posts as a set
-pub least_at-members : (w : ℕ) (ps qs : List (ℕ × ℕ)) → ((x : ℕ) → SomePass (is_pair w x) ps → SomePass (is_pair w x) qs) → ((x : ℕ) → SomePass (is_pair w x) qs → SomePass (is_pair w x) ps) → least_at w ps ≡ least_at w qs
+pub least_at-members : (w : ℕ) (ps qs : List (ℕ × ℕ)) → ((x : ℕ) → SomePass (is_pair w x) ps → SomePass (is_pair w x) qs)
+    → ((x : ℕ) → SomePass (is_pair w x) qs → SomePass (is_pair w x) ps) → least_at w ps ≡ least_at w qs
 least_at-members w ps qs there here =
     let a : least_at w ps ≤ least_at w qs = least_at-above w (least_at w ps) qs (least_at-le-NONE w ps) (λ x h. pairs_below w x ps (here x h)) in
     let b : least_at w qs ≤ least_at w ps = least_at-above w (least_at w qs) ps (least_at-le-NONE w qs) (λ x h. pairs_below w x qs (there x h)) in

@@ -146,7 +146,8 @@ module _ {T O V R : Type 0} (gives : ℕ → T → O → Type 0) (outs_of : V �
       | inr there ↦ last j q there
     ];
   } where
-    last : (j : ℕ) (q : R) → (i : ℕ) × (j ≡ length rest + i) × (slice_get (r' ∷ []) i ≡ Some q) → GivesRow gives outs_of workers cut items (p + 1 + j) (parts_of q)
+    last : (j : ℕ) (q : R) → (i : ℕ) × (j ≡ length rest + i) × (slice_get (r' ∷ []) i ≡ Some q)
+        → GivesRow gives outs_of workers cut items (p + 1 + j) (parts_of q)
     last j q (zero, at, e) =
         let tail = row_tail gives outs_of workers cut items p y (parts_of r')
         (let Q : List V → Type 0 = λ l. GivesRow gives outs_of workers cut items p l in
@@ -295,18 +296,21 @@ module _ {T O V R : Type 0} (gives : ℕ → T → O → Type 0) (outs_of : V �
     one (suc j) b e = let bad : None ≡ Some b = e in absurd (search rules)
 
 -- where what stands on two results went well, both did
-pub OnOk-first : {A B C E : Type 0} (r : Result C E) (a : Result A E) (b : Result B E) (R : A → B → C → Type 0) (P : Type 0) → IfOk r (λ z. IsOkAnd a (λ x. IsOkAnd b (λ y. R x y z))) → OnOk a P → OnOk r P
+pub OnOk-first : {A B C E : Type 0} (r : Result C E) (a : Result A E) (b : Result B E) (R : A → B → C → Type 0) (P : Type 0)
+    → IfOk r (λ z. IsOkAnd a (λ x. IsOkAnd b (λ y. R x y z))) → OnOk a P → OnOk r P
 OnOk-first (Ok z) (Ok x) b R P h p = p
 OnOk-first (Ok z) (Err e) b R P h p = absurd h
 OnOk-first (Err e) a b R P h p = tt
 
-pub OnOk-second : {A B C E : Type 0} (r : Result C E) (a : Result A E) (b : Result B E) (R : A → B → C → Type 0) (P : Type 0) → IfOk r (λ z. IsOkAnd a (λ x. IsOkAnd b (λ y. R x y z))) → OnOk b P → OnOk r P
+pub OnOk-second : {A B C E : Type 0} (r : Result C E) (a : Result A E) (b : Result B E) (R : A → B → C → Type 0) (P : Type 0)
+    → IfOk r (λ z. IsOkAnd a (λ x. IsOkAnd b (λ y. R x y z))) → OnOk b P → OnOk r P
 OnOk-second (Ok z) (Ok x) (Ok y) R P h p = p
 OnOk-second (Ok z) (Ok x) (Err e) R P h p = absurd h
 OnOk-second (Ok z) (Err e) b R P h p = absurd h
 OnOk-second (Err e) a b R P h p = tt
 
-pub IfOk-both : {A B C E : Type 0} (r : Result C E) (a : Result A E) (b : Result B E) (R : A → B → C → Type 0) (P : A → Type 0) (Q : B → Type 0) (Z : C → Type 0) → IfOk r (λ z. IsOkAnd a (λ x. IsOkAnd b (λ y. R x y z))) → IfOk a P → IfOk b Q
+pub IfOk-both : {A B C E : Type 0} (r : Result C E) (a : Result A E) (b : Result B E) (R : A → B → C → Type 0) (P : A → Type 0) (Q : B → Type 0) (Z : C
+    → Type 0) → IfOk r (λ z. IsOkAnd a (λ x. IsOkAnd b (λ y. R x y z))) → IfOk a P → IfOk b Q
     → ((x : A) (y : B) (z : C) → R x y z → P x → Q y → Z z) → IfOk r Z
 IfOk-both (Ok z) (Ok x) (Ok y) R P Q Z h p q f = f x y z h p q
 IfOk-both (Ok z) (Ok x) (Err e) R P Q Z h p q f = absurd h
@@ -329,7 +333,8 @@ take_get (suc n) (x ∷ xs) zero t e = e
 take_get (suc n) (x ∷ xs) (suc o) t e = take_get n xs o t e
 
 -- what is taken of all items is taken of a piece
-pub takes_part : {T : Type 0} (takes : ℕ → T → Type 0) (items part : List T) (first c : ℕ) → part ≡ take c (drop first items) → TakesAll takes 0 items → TakesAll takes first part
+pub takes_part : {T : Type 0} (takes : ℕ → T → Type 0) (items part : List T) (first c : ℕ) → part ≡ take c (drop first items) → TakesAll takes 0 items
+    → TakesAll takes first part
 takes_part takes items part first c is all i t e =
     let at : slice_get items (first + i) ≡ Some t = sym (get_drop first items i) ∙ take_get c (drop first items) i t (ap (λ l. slice_get l i) (sym is) ∙ e) in
     let P : ℕ → Type 0 = λ k. takes k t in let same : 0 + (first + i) ≡ first + i = omega arith in subst P same (all (first + i) t at)

@@ -40,7 +40,8 @@ none_elsewhere w (c ∷ cs) =
     (λ (f : (c.word == w) ≡ false). subst P (sym f) ih) (cases_Bool (c.word == w))
 
 -- a test that passes only at w passes as often among the calls at w
-kept_count : (w : ℕ) (p : Call → Bool) → ((c : Call) → (c.word ≡ w → ⊥) → p c ≡ false) → (cs : List Call) → count_by p (filter (λ c. c.word == w) cs) ≡ count_by p cs
+kept_count : (w : ℕ) (p : Call → Bool) → ((c : Call) → (c.word ≡ w → ⊥) → p c ≡ false) → (cs : List Call)
+    → count_by p (filter (λ c. c.word == w) cs) ≡ count_by p cs
 kept_count w p only [] = refl
 kept_count w p only (c ∷ cs) =
     let ih = kept_count w p only cs in let rest : List Call = filter (λ c. c.word == w) cs in
@@ -79,7 +80,8 @@ module _ (w m : ℕ) (c : Call) (cs : List Call) (at_w : c.word ≡ w) (pairs : 
   first_finds : c.found ≡ m
   first_finds = ⊎_elim (λ e. e)
       (λ (k : SomePass (falls_to w c.found) (c ∷ cs)). ⊎_elim
-      (λ (e : falls_to w c.found c ≡ true). let t = and_parts (posts w c.found c) (is_falling c) e in let u = and_parts (eqb c.word w) (eqb c.number c.found) t.0 in
+      (λ (e : falls_to w c.found c ≡ true). let t = and_parts (posts w c.found c) (is_falling c) e in let u =
+      and_parts (eqb c.word w) (eqb c.number c.found) t.0 in
       absurd (omega (arith, ltb-true c.number c.found t.1, eqb-true c.number c.found u.1)))
       (λ (j : SomePass (falls_to w c.found) cs). let r = at_later c cs pairs (falls_to w c.found) j in let d : Call = r.0 in
       let t = and_parts (posts w c.found d) (is_falling d) r.1 in let u = and_parts (eqb d.word w) (eqb d.number c.found) t.0 in
@@ -111,7 +113,8 @@ finds_least w m (c ∷ cs) at pairs linked = (
   finds_least w (min m c.number) cs at.1 (pairs_rest c cs pairs) (next_linked w m c cs at.0 pairs linked),
 )
 
-each_finds : (w m : ℕ) (ys : List Call) → m ≤ NONE → AllAt w ys → Finds m ys → (i : ℕ) (d : Call) → i < length ys → (get_or ys i d).found ≡ min m (least_at w (posts_of (take i ys)))
+each_finds : (w m : ℕ) (ys : List Call) → m ≤ NONE → AllAt w ys → Finds m ys → (i : ℕ) (d : Call) → i < length ys
+    → (get_or ys i d).found ≡ min m (least_at w (posts_of (take i ys)))
 each_finds w m [] top at f i d h = absurd (omega arith)
 each_finds w m (c ∷ cs) top at f zero d h = omega (arith, f.0)
 each_finds w m (c ∷ cs) top at f (suc i) d h =
@@ -122,13 +125,18 @@ pub replays : (w : ℕ) (calls : List Call) → IsLegalAt w calls → (ys : List
 replays w calls l ys o =
     let zs : List Call = filter (λ c. c.word == w) calls in
     let at : AllAt w ys = all_at w ys (sym (o.same (λ c. cond (elsewhere w c) 1 0)) ∙ none_elsewhere w calls) in
-    let only : (p : Call → Bool) → ((c : Call) → (c.word ≡ w → ⊥) → p c ≡ false) → count_by p ys ≡ count_by p calls = λ p f. sym (o.same (λ c. cond (p c) 1 0)) ∙ kept_count w p f calls in
+    let only : (p : Call → Bool) → ((c : Call) → (c.word ≡ w → ⊥) → p c ≡ false) → count_by p ys ≡ count_by p calls =
+    λ p f. sym (o.same (λ c. cond (p c) 1 0)) ∙ kept_count w p f calls in
     let linked : LinkedFrom w NONE ys = λ x h.
     let here = only (finds w x) (λ c n. and_left (eqb c.word w) (eqb c.found x) (ne_eqb c.word w n)) in
     let falls = only (falls_to w x) (λ c n. and_left (posts w x c) (is_falling c) (and_left (eqb c.word w) (eqb c.number x) (ne_eqb c.word w n))) in
     let was : SomePass (finds w x) calls = omega arith in
     ⊎_elim (λ a. inl a) (λ (b : SomePass (falls_to w x) calls). inr (omega arith)) (l.linked x was) in
-    λ i d h. omega (arith, each_finds w NONE ys (omega arith) at (finds_least w NONE ys at o.falling_last linked) i d h, least_at-le-NONE w (posts_of (take i ys)))
+    λ i d h. omega (
+      arith,
+      each_finds w NONE ys (omega arith) at (finds_least w NONE ys at o.falling_last linked) i d h,
+      least_at-le-NONE w (posts_of (take i ys)),
+    )
 
 -- the order: a call stands before those that found less, and one that didn't fall before those that found as much
 abbrev comes_before : Call → Call → Bool
@@ -179,7 +187,8 @@ all_follow c d [] f g = tt
 all_follow c d (e ∷ es) f g = (follows_on c d e f g.0, all_follow c d es f g.1)
 
 -- where no two falling calls found the same, the one that doesn't come before follows
-after_follows : (w : ℕ) (c d : Call) → c.word ≡ w → d.word ≡ w → comes_before c d ≡ false → ((is_falling c ≡ true) → (is_falling d ≡ true) → d.found ≡ c.found → ⊥) → MayFollow d c
+after_follows : (w : ℕ) (c d : Call) → c.word ≡ w → d.word ≡ w → comes_before c d ≡ false
+    → ((is_falling c ≡ true) → (is_falling d ≡ true) → d.found ≡ c.found → ⊥) → MayFollow d c
 after_follows w c d cw dw f apart =
     let p = or_parts (ltb d.found c.found) ((d.found == c.found) && not (is_falling c)) f in let le = ltb-false d.found c.found p.0 in
     ⊎_elim (λ (lt : c.found < d.found). inl lt)
@@ -188,7 +197,8 @@ after_follows w c d cw dw f apart =
       sym same,
       ⊎_elim
           (λ (t : is_falling d ≡ true). ⊎_elim (λ (u : is_falling c ≡ true). absurd (apart u t same))
-          (λ (u : is_falling c ≡ false). absurd (true≢false (sym (and_from (d.found == c.found) (not (is_falling c)) (eq-eqb d.found c.found same) (ap not u)) ∙ p.1)))
+          (λ (u : is_falling c ≡ false). absurd (true≢false (sym (and_from (d.found == c.found) (not (is_falling c)) (eq-eqb d.found c.found same) (ap not u))
+          ∙ p.1)))
           (cases_Bool (is_falling c)))
           (λ e. e) (cases_Bool (is_falling d)),
     ))
@@ -212,10 +222,13 @@ in_order_place w c (d ∷ ds) cw at once o =
     (λ (u : comes_before c d ≡ false).
     let apart : (is_falling c ≡ true) → (is_falling d ≡ true) → d.found ≡ c.found → ⊥ = λ a b e.
     let x : ℕ = c.found in
-    let one : falls_from w x c ≡ true = and_from (finds w x c) (is_falling c) (and_from (eqb c.word w) (eqb c.found x) (eq-eqb c.word w cw) (eq-eqb c.found x refl)) a in
-    let two : falls_from w x d ≡ true = and_from (finds w x d) (is_falling d) (and_from (eqb d.word w) (eqb d.found x) (eq-eqb d.word w at.0) (eq-eqb d.found x e)) b in
+    let one : falls_from w x c ≡ true =
+    and_from (finds w x c) (is_falling c) (and_from (eqb c.word w) (eqb c.found x) (eq-eqb c.word w cw) (eq-eqb c.found x refl)) a in
+    let two : falls_from w x d ≡ true =
+    and_from (finds w x d) (is_falling d) (and_from (eqb d.word w) (eqb d.found x) (eq-eqb d.word w at.0) (eq-eqb d.found x e)) b in
     absurd (omega (arith, count_by-cons_yes (falls_from w x) c (d ∷ ds) one, count_by-cons_yes (falls_from w x) d ds two, once x)) in
-    let less : Once w (c ∷ ds) = λ x. omega (arith, once x, count_by-cons (falls_from w x) c (d ∷ ds), count_by-cons (falls_from w x) d ds, count_by-cons (falls_from w x) c ds) in
+    let less : Once w (c ∷ ds) =
+    λ x. omega (arith, once x, count_by-cons (falls_from w x) c (d ∷ ds), count_by-cons (falls_from w x) d ds, count_by-cons (falls_from w x) c ds) in
     subst P (sym u) (follow_place d c ds (after_follows w c d cw at.0 u apart) o.0, in_order_place w c ds cw at.1 less o.1))
     (cases_Bool (comes_before c d))
 
@@ -226,7 +239,9 @@ in_order_ordered w (c ∷ cs) at once =
     let rest : Once w cs = λ x. omega (arith, once x, count_by-cons (falls_from w x) c cs) in
     let same : (p : Call → Bool) → count_by p ys ≡ count_by p cs = λ p. sum_by-ordered (λ c. cond (p c) 1 0) cs in
     let none : count_by (elsewhere w) cs ≡ 0 = nowhere w cs at.1 in
-    in_order_place w c ys at.0 (all_at w ys (same (elsewhere w) ∙ none)) (λ x. omega (arith, once x, same (falls_from w x), count_by-cons (falls_from w x) c ys, count_by-cons (falls_from w x) c cs)) (in_order_ordered w cs at.1 rest)
+    in_order_place w c ys at.0 (all_at w ys (same (elsewhere w) ∙ none))
+    (λ x. omega (arith, once x, same (falls_from w x), count_by-cons (falls_from w x) c ys, count_by-cons (falls_from w x) c cs))
+    (in_order_ordered w cs at.1 rest)
 
 each_at : (c : Call) (cs : List Call) (j : ℕ) (d : Call) → j < length cs → EachFollows c cs → MayFollow c (get_or cs j d)
 each_at c [] j d h f = absurd (omega arith)
@@ -243,7 +258,12 @@ pairs_from (c ∷ cs) o (suc i) (suc j) d a b = pairs_from cs o.1 i j d (omega a
 pub calls_replay : CallsReplay
 calls_replay w calls l =
     let zs : List Call = filter (λ c. c.word == w) calls in
-    let once : Once w zs = λ x. omega (arith, kept_count w (falls_from w x) (λ c n. and_left (finds w x c) (is_falling c) (and_left (eqb c.word w) (eqb c.found x) (ne_eqb c.word w n))) calls, l.once x) in (
+    let once : Once w zs = λ x. omega (
+      arith,
+      kept_count w (falls_from w x)
+          (λ c n. and_left (finds w x c) (is_falling c) (and_left (eqb c.word w) (eqb c.found x) (ne_eqb c.word w n))) calls,
+      l.once x,
+    ) in (
       (
         ordered zs,
         record {

@@ -22,29 +22,34 @@ SomePass-append p xs ys h = one_positive (count_by p xs) (count_by p ys) (omega 
 falls_posts : (w x : ℕ) (calls : List Call) → SomePass (falls_to w x) calls → SomePass (posts w x) calls
 falls_posts w x calls h = let r = picked (falls_to w x) calls h in r.2 (posts w x) (and_parts (posts w x r.0) (is_falling r.0) r.1).0
 
-pairs_calls : (w x : ℕ) (calls : List Call) → SomePass (is_pair w x) (flat_map (λ (c : Call). (c.word, c.found) ∷ (c.word, c.number) ∷ []) calls) → SomePass (finds w x) calls ⊎ SomePass (posts w x) calls
+pairs_calls : (w x : ℕ) (calls : List Call) → SomePass (is_pair w x) (flat_map (λ (c : Call). (c.word, c.found) ∷ (c.word, c.number) ∷ []) calls)
+    → SomePass (finds w x) calls ⊎ SomePass (posts w x) calls
 pairs_calls w x [] h = absurd (omega arith)
 pairs_calls w x (c ∷ cs) h =
     let rest : List (ℕ × ℕ) = flat_map (λ (c : Call). (c.word, c.found) ∷ (c.word, c.number) ∷ []) cs in
     let f : ℕ × ℕ = (c.word, c.found) in let n : ℕ × ℕ = (c.word, c.number) in
     ⊎_elim (λ (e : finds w x c ≡ true). inl (SomePass-here (finds w x) c cs e))
     (λ (k : SomePass (is_pair w x) (n ∷ rest)). ⊎_elim (λ (e : posts w x c ≡ true). inr (SomePass-here (posts w x) c cs e))
-    (λ (j : SomePass (is_pair w x) rest). ⊎_elim (λ a. inl (SomePass-later (finds w x) c cs a)) (λ b. inr (SomePass-later (posts w x) c cs b)) (pairs_calls w x cs j))
+    (λ (j : SomePass (is_pair w x) rest). ⊎_elim (λ a. inl (SomePass-later (finds w x) c cs a)) (λ b. inr (SomePass-later (posts w x) c cs b))
+    (pairs_calls w x cs j))
     (SomePass-cons (is_pair w x) n rest k))
     (SomePass-cons (is_pair w x) f (n ∷ rest) h)
 
 module _ (views : List View) (id : ℕ) (v : View) (at : get_elem? views id ≡ some v) where
   in_all : (p : Call → Bool) → SomePass p v.calls → SomePass p (all_calls views)
-  in_all p h = let g : Call → ℕ = λ c. cond (p c) 1 0 in omega (arith, sum_by-flat_map g (λ (u : View). u.calls) views, sum_by-at (λ (u : View). sum_by g u.calls) views id v at)
+  in_all p h = let g : Call → ℕ =
+      λ c. cond (p c) 1 0 in omega (arith, sum_by-flat_map g (λ (u : View). u.calls) views, sum_by-at (λ (u : View). sum_by g u.calls) views id v at)
 
   in_told : (p : ℕ × ℕ → Bool) → SomePass p v.told → SomePass p (all_told views)
-  in_told p h = let g : ℕ × ℕ → ℕ = λ c. cond (p c) 1 0 in omega (arith, sum_by-flat_map g (λ (u : View). u.told) views, sum_by-at (λ (u : View). sum_by g u.told) views id v at)
+  in_told p h = let g : ℕ × ℕ → ℕ =
+      λ c. cond (p c) 1 0 in omega (arith, sum_by-flat_map g (λ (u : View). u.told) views, sum_by-at (λ (u : View). sum_by g u.told) views id v at)
 
   -- what a seat found, posted or was told is NONE or posted
   pairs_posted : IsLegal (all_calls views) → IsPosted (all_told views) (all_calls views) → IsPosted (pairs_of v) (all_calls views)
   pairs_posted l t w x h =
       ⊎_elim
-      (λ k. ⊎_elim (λ (f : SomePass (finds w x) v.calls). ⊎_elim (λ a. inl a) (λ b. inr (falls_posts w x (all_calls views) b)) ((l w).linked x (in_all (finds w x) f)))
+      (λ k. ⊎_elim (λ (f : SomePass (finds w x) v.calls). ⊎_elim (λ a. inl a) (λ b. inr (falls_posts w x (all_calls views) b))
+      ((l w).linked x (in_all (finds w x) f)))
       (λ (f : SomePass (posts w x) v.calls). inr (in_all (posts w x) f)) (pairs_calls w x v.calls k))
       (λ (k : SomePass (is_pair w x) v.told). t w x (in_told (is_pair w x) k))
       (SomePass-append (is_pair w x) (flat_map (λ (c : Call). (c.word, c.found) ∷ (c.word, c.number) ∷ []) v.calls) v.told h)
@@ -52,14 +57,17 @@ module _ (views : List View) (id : ℕ) (v : View) (at : get_elem? views id ≡ 
   least-le-known : (w : ℕ) → IsLegal (all_calls views) → IsPosted (all_told views) (all_calls views) → least_at w (posts_of (all_calls views)) ≤ known w v
   least-le-known w l t = let m : ℕ = least_at w (posts_of (all_calls views)) in
       least_at-above w m (pairs_of v) (least_at-le-NONE w (posts_of (all_calls views)))
-      (λ x h. ⊎_elim (λ (e : x ≡ NONE). omega (arith, least_at-le-NONE w (posts_of (all_calls views)))) (λ (k : SomePass (posts w x) (all_calls views)). least_at-below w x (all_calls views) k) (pairs_posted l t w x h))
+      (λ x h. ⊎_elim (λ (e : x ≡ NONE). omega (arith, least_at-le-NONE w (posts_of (all_calls views))))
+      (λ (k : SomePass (posts w x) (all_calls views)). least_at-below w x (all_calls views) k) (pairs_posted l t w x h))
 
   -- a view in its place
   pub calls_set : (w : View) (h : Call → ℕ) → sum_by h (all_calls (set views id w)) + sum_by h v.calls ≡ sum_by h (all_calls views) + sum_by h w.calls
-  calls_set w h = let f : View → List Call = λ u. u.calls in omega (arith, sum_by-flat_map h f (set views id w), sum_by-flat_map h f views, sum_by-at_set (λ (u : View). sum_by h (f u)) views id v w at)
+  calls_set w h = let f : View → List Call = λ u. u.calls in
+      omega (arith, sum_by-flat_map h f (set views id w), sum_by-flat_map h f views, sum_by-at_set (λ (u : View). sum_by h (f u)) views id v w at)
 
   pub told_set : (w : View) (h : ℕ × ℕ → ℕ) → sum_by h (all_told (set views id w)) + sum_by h v.told ≡ sum_by h (all_told views) + sum_by h w.told
-  told_set w h = let f : View → List (ℕ × ℕ) = λ u. u.told in omega (arith, sum_by-flat_map h f (set views id w), sum_by-flat_map h f views, sum_by-at_set (λ (u : View). sum_by h (f u)) views id v w at)
+  told_set w h = let f : View → List (ℕ × ℕ) = λ u. u.told in
+      omega (arith, sum_by-flat_map h f (set views id w), sum_by-flat_map h f views, sum_by-at_set (λ (u : View). sum_by h (f u)) views id v w at)
 
   parts_set : (w : View) → sum_by (λ (u : View). u.parts) (set views id w) + v.parts ≡ sum_by (λ (u : View). u.parts) views + w.parts
   parts_set w = sum_by-at_set (λ (u : View). u.parts) views id v w at
@@ -73,7 +81,8 @@ spent_set views id w mine old j u e = ⊎_elim
     (λ (x : (j ≢ id) × (get_elem? views j ≡ some u)). old j u x.1)
     (at_set views id j w u e)
 
-module _ (count : ℕ) (words : List ℕ) (views : List View) (id : ℕ) (v : View) (at : get_elem? views id ≡ some v) (some_part : 0 < v.parts) (k : IsKept count words views) where
+module _ (count : ℕ) (words : List ℕ) (views : List View) (id : ℕ) (v : View) (at : get_elem? views id ≡ some v) (some_part : 0 < v.parts)
+    (k : IsKept count words views) where
   parts_kept : (w : View) → w.parts ≡ v.parts → sum_by (λ (u : View). u.parts) (set views id w) ≡ 2 ^ 32
   parts_kept w e = omega (arith, parts_set views id v at w, k.parts)
 
@@ -81,7 +90,8 @@ module _ (count : ℕ) (words : List ℕ) (views : List View) (id : ℕ) (v : Vi
   spent_kept w e = spent_set views id w (λ (z : w.parts ≡ 0). absurd (omega arith)) k.spent
 
   -- no post is made, and each of the told pairs is posted
-  pub IsKept-views : (views' : List View) → ((h : Call → ℕ) → sum_by h (all_calls views) ≡ sum_by h (all_calls views')) → IsPosted (all_told views') (all_calls views)
+  pub IsKept-views : (views' : List View) → ((h : Call → ℕ) → sum_by h (all_calls views) ≡ sum_by h (all_calls views'))
+      → IsPosted (all_told views') (all_calls views)
       → sum_by (λ (u : View). u.parts) views' ≡ 2 ^ 32 → SpentIsEmpty views' → IsKept count words views'
   IsKept-views views' same posted parts empty = record {
     size = k.size;
@@ -113,7 +123,8 @@ module _ (count : ℕ) (words : List ℕ) (views : List View) (id : ℕ) (v : Vi
               (λ (e : u ≡ w).
               let room : w + 1 < length words = omega (arith, k.size) in
               let P : ℕ → Type 0 = λ y. slice_index words' (y + 1) ≡ least_at y (posts_of (c ∷ xs)) in
-              let here : P w = (rw get_or-set_same (let q : min m n ≡ min n (least_at w (posts_of xs)) = omega arith in q ∙ sym (least_here w (w, n) (posts_of xs) refl))) in
+              let here : P w =
+              (rw get_or-set_same (let q : min m n ≡ min n (least_at w (posts_of xs)) = omega arith in q ∙ sym (least_here w (w, n) (posts_of xs) refl))) in
               subst P (sym e) here ∙ least_at-same u (c ∷ xs) ys same)
               (λ (n' : u ≡ w → ⊥).
               let ne : u + 1 ≢ w + 1 = λ (e : u + 1 ≡ w + 1). n' (omega arith) in
@@ -147,7 +158,8 @@ module _ (count : ℕ) (words : List ℕ) (views : List View) (id : ℕ) (v : Vi
         subst (λ (z : ℕ). P u z) (eqb-true m x t.1) q)
         (λ (none : SomePass (is_pair u x) []). absurd (omega arith))
         (SomePass-cons (is_pair u x) (w, m) [] new))
-        (one_positive (count_by (is_pair u x) (all_told views)) (count_by (is_pair u x) ((w, m) ∷ [])) (omega (arith, a, sum_by-cons g (w, m) v.told, sum_by-cons g (w, m) []))))
+        (one_positive (count_by (is_pair u x) (all_told views)) (count_by (is_pair u x) ((w, m) ∷ []))
+        (omega (arith, a, sum_by-cons g (w, m) v.told, sum_by-cons g (w, m) []))))
         (parts_kept v' refl) (spent_kept v' refl)
 
   pub IsKept-split : (j : ℕ) → 0 < j → j < v.parts → IsKept count words (set views id (left_of j v) ++ right_of j v ∷ [])
@@ -166,7 +178,8 @@ module _ (count : ℕ) (words : List ℕ) (views : List View) (id : ℕ) (v : Vi
       (λ i u e z. ⊎_elim (λ (x : get_elem? vs i ≡ some u). spent_set views id l (λ (b : l.parts ≡ 0). absurd (omega arith)) k.spent i u x z)
       (λ (x : r ≡ u). let b : j ≡ u.parts = ap (λ (y : View). y.parts) x in absurd (omega arith)) (at_snoc vs r u i e))
 
-  pub IsKept-join : (other : ℕ) (w : View) → get_elem? (set views id (both_of v w)) other ≡ some w → IsKept count words (set (set views id (both_of v w)) other spent)
+  pub IsKept-join : (other : ℕ) (w : View) → get_elem? (set views id (both_of v w)) other ≡ some w
+      → IsKept count words (set (set views id (both_of v w)) other spent)
   IsKept-join other w at' =
       let b : View = both_of v w in let vs : List View = set views id b in let views' : List View = set vs other spent in
       IsKept-views views'
@@ -183,13 +196,15 @@ back : (w : ℕ) → w ≡ w + 1 - 1
 back w = omega arith
 
 pub post_allows : (count slots id : ℕ) (v : View) (cs : List (ℕ × Unit {0})) (w n : ℕ) → 0 < v.parts → w < count → n < NONE
-    → Allows (holds count) slots id (v, cs) (w + 1) (λ x. min x n) (λ found after. (found ≤ known (w + 1 - 1) v) × (after ≡ (with_call v (call (w + 1 - 1) found n), cs)))
+    → Allows (holds count) slots id (v, cs) (w + 1) (λ x. min x n)
+    (λ found after. (found ≤ known (w + 1 - 1) v) × (after ≡ (with_call v (call (w + 1 - 1) found n), cs)))
 post_allows count slots id v cs w n pos inside lt s k homes at small =
     let m : ℕ = slice_index s.words (w + 1) in (
       with_call v (call (w + 1 - 1) m n),
       keeps,
       tt,
-      subst (λ (y : ℕ). IsKept count (set s.words (w + 1) (min m n)) (set s.views id (with_call v (call y m n)))) (back w) (IsKept-post count s.words s.views id v at pos k w inside n lt),
+      subst (λ (y : ℕ). IsKept count (set s.words (w + 1) (min m n)) (set s.views id (with_call v (call y m n)))) (back w)
+          (IsKept-post count s.words s.views id v at pos k w inside n lt),
       (subst (λ (y : ℕ). m ≤ known y v) (back w) (held-le-known count s.words s.views id v at pos k w inside), refl),
     )
 
@@ -202,7 +217,9 @@ pub look_allows : (count slots id : ℕ) (v : View) (cs : List (ℕ × Unit {0})
     → Allows (holds count) slots id (v, cs) (w + 1) (λ x. x) (λ found after. (found ≤ known (w + 1 - 1) v) × (after ≡ (with_told v (w + 1 - 1) found, cs)))
 look_allows count slots id v cs w pos inside s k homes at small =
     let m : ℕ = slice_index s.words (w + 1) in
-    let now : IsKept count (set s.words (w + 1) m) (set s.views id (with_told v w m)) = subst (λ (l : List ℕ). IsKept count l (set s.views id (with_told v w m))) (set_found s.words (w + 1)) (IsKept-look count s.words s.views id v at pos k w inside) in (
+    let now : IsKept count (set s.words (w + 1) m) (set s.views id (with_told v w m)) =
+    subst (λ (l : List ℕ). IsKept count l (set s.views id (with_told v w m))) (set_found s.words (w + 1))
+    (IsKept-look count s.words s.views id v at pos k w inside) in (
       with_told v (w + 1 - 1) m,
       keeps,
       tt,
@@ -210,7 +227,8 @@ look_allows count slots id v cs w pos inside s k homes at small =
       (subst (λ (y : ℕ). m ≤ known y v) (back w) (held-le-known count s.words s.views id v at pos k w inside), refl),
     )
 
-pub count_allows : (count slots id : ℕ) (v : View) (cs : List (ℕ × Unit {0})) → Allows (holds count) slots id (v, cs) 0 (λ x. x) (λ found after. (v.parts ≤ 2 ^ 32) × (after ≡ (v, cs)))
+pub count_allows : (count slots id : ℕ) (v : View) (cs : List (ℕ × Unit {0}))
+    → Allows (holds count) slots id (v, cs) 0 (λ x. x) (λ found after. (v.parts ≤ 2 ^ 32) × (after ≡ (v, cs)))
 count_allows count slots id v cs s k homes at small =
     let m : ℕ = slice_index s.words 0 in
     let words : IsKept count (set s.words 0 m) s.views = subst (λ (l : List ℕ). IsKept count l s.views) (set_found s.words 0) k in (
@@ -236,7 +254,8 @@ none_left (u ∷ us) empty e =
     let rest = none_left us (λ id w at. empty (suc id) w at) (omega arith) in
     ((λ i. here.0 i ++ rest.0 i), λ i. here.1 i ++ rest.1 i)
 
-only_one : (views : List View) (id : ℕ) (v : View) → get_elem? views id ≡ some v → SpentIsEmpty views → sum_by (λ (u : View). u.parts) views ≡ v.parts → (all_calls views ≡ v.calls) × (all_told views ≡ v.told)
+only_one : (views : List View) (id : ℕ) (v : View) → get_elem? views id ≡ some v → SpentIsEmpty views → sum_by (λ (u : View). u.parts) views ≡ v.parts
+    → (all_calls views ≡ v.calls) × (all_told views ≡ v.told)
 only_one [] id v at empty e = absurd (some-ne-none v (sym at))
 only_one (u ∷ us) zero v at empty e =
     let same = some-injective u v at in let parts = sum_by-cons (λ (u : View). u.parts) u us in
@@ -260,7 +279,8 @@ closes count id v ws xs all f =
     let s = f.0 in let k : IsKept count s.words s.views = f.1.0 in
     let only = only_one s.views id v f.1.1 k.spent (omega (arith, k.parts)) in
     let ws_is : s.words ≡ ws = f.2 in
-    let P : List ℕ → List Call → List (ℕ × ℕ) → Type 0 = λ l c t. (length l ≡ count + 1) × ((w : ℕ) → w < count → slice_index l (w + 1) ≡ least_at w (posts_of c)) × IsLegal c × IsPosted t c in
+    let P : List ℕ → List Call → List (ℕ × ℕ) → Type 0 =
+    λ l c t. (length l ≡ count + 1) × ((w : ℕ) → w < count → slice_index l (w + 1) ≡ least_at w (posts_of c)) × IsLegal c × IsPosted t c in
     let was : P s.words (all_calls s.views) (all_told s.views) = (k.size, k.least, k.legal, k.told) in
     let now : P ws v.calls v.told = subst (λ (y : List ℕ × List Call × List (ℕ × ℕ)). P y.0 y.1 y.2) (λ i. (ws_is i, only.0 i, only.1 i)) was in
     record { size = now.0; least = now.1; legal = now.2; told = now.3 }

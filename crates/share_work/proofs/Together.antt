@@ -34,7 +34,8 @@ module _ {S T : Type 0} (holds : S → ℕ → ℕ → Type 0) (adds : ℕ → T
       ]
 
   -- what an item adds, one of the seats holds
-  added_held : 0 < workers → 0 < cut → length new ≡ workers → SeatsHave holds adds workers cut items 0 new → (x n : ℕ) → AddsSome adds 0 items x n → SomeHolds holds new x n
+  added_held : 0 < workers → 0 < cut → length new ≡ workers → SeatsHave holds adds workers cut items 0 new → (x n : ℕ) → AddsSome adds 0 items x n
+      → SomeHolds holds new x n
   added_held some_workers some_items len have x n a =
       let i : ℕ = a.0 in let piece : ℕ = i / cut in let w : ℕ = piece % workers in let k : ℕ = piece / workers in let o : ℕ = i % cut in
       let small : w < workers = mod_below piece workers some_workers in

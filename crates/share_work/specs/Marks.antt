@@ -37,7 +37,8 @@ owed_of list v = owed_by list v.debt
 
 -- The root's post ends the mark where it found no more than the number. Else the number is owed at each file.
 abbrev pub with_root : ℕ → ℕ → ℕ → MarkView → MarkView
-with_root r found n v = mark_view (with_call v.least (call r found n)) ((r, n) ∷ v.marks) (if nat_lt n found then Some (make_debt r n 0) else None)
+with_root r found n v = mark_view (with_call v.least (call r found n)) ((r, n) ∷ v.marks) (if nat_lt n found then
+    Some (make_debt r n 0) else None)
 
 -- the next place of the debt, which ends at the last one
 abbrev pub next_debt : Bool → Option Debt → Option Debt
@@ -88,4 +89,5 @@ pub record MarkTableValue (R : Type 0) : Type 0 where
   pub reach : R
 
 abbrev pub mark_table_code : {R : Type 0} → Coded R → Coded (MarkTableValue R)
-mark_table_code {R} c = code_by (TableId × R) (coded× table_id_coded c) (λ (b : MarkTableValue R). (b.table, b.reach)) (λ p. record { table = p.0; reach = p.1 }) (λ _. refl)
+mark_table_code {R} c = code_by (TableId × R) (coded× table_id_coded c) (λ (b : MarkTableValue R). (b.table, b.reach))
+    (λ p. record { table = p.0; reach = p.1 }) (λ _. refl)

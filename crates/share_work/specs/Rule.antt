@@ -35,7 +35,8 @@ falls_to w x c = posts w x c && is_falling c
 abbrev pub SomePass : {A : Type 0} → (A → Bool) → List A → Type 0
 SomePass p xs = 0 < count_by p xs
 
--- at the word each number is under NONE, no two falling calls found the same number, and each call found NONE or the number of a
+-- at the word each number is under NONE, no two falling calls found the same number, and each call found NONE or the
+-- number of a
 -- falling call
 pub record IsLegalAt (w : ℕ) (calls : List Call) : Type 0 where
   pub under : (x : ℕ) → SomePass (posts w x) calls → x < NONE
@@ -49,8 +50,10 @@ IsLegal calls = (w : ℕ) → IsLegalAt w calls
 abbrev pub IsPosted : List (ℕ × ℕ) → List Call → Type 0
 IsPosted told calls = (w x : ℕ) → SomePass (is_pair w x) told → (x ≡ NONE) ⊎ SomePass (posts w x) calls
 
--- Word 0 is the seat word, and word w of the callers is word w + 1. Each word is the least number posted there in any view; the
--- calls of all views are legal; each told number is NONE or was posted; the parts add up to 2 ^ 32, and a view without parts is spent.
+-- Word 0 is the seat word, and word w of the callers is word w + 1. Each word is the least number posted there in any
+-- view; the
+-- calls of all views are legal; each told number is NONE or was posted; the parts add up to 2 ^ 32, and a view without
+-- parts is spent.
 pub record IsKept (count : ℕ) (words : List ℕ) (views : List View) : Type 0 where
   pub size : length words ≡ count + 1
   pub seat_word : slice_index words 0 ≡ 0

@@ -1,7 +1,8 @@
 -- What workers take, give and add for the items of a list.
 use Rattle.std.specs.Prelude.{map, ◌↔◌, ◌⊎◌, ◌≡◌, ℕ, ◌+◌, ◌*◌, List, length, take, drop, slice_get, Some}
 
--- outs has one member for each item, each as `gives` says of the item's place and the item; first is the place of the first item
+-- outs has one member for each item, each as `gives` says of the item's place and the item; first is the place of the
+-- first item
 abbrev pub GivesItems : {T O : Type 0} → (ℕ → T → O → Type 0) → ℕ → List T → List O → Type 0
 GivesItems {T} {O} gives first items outs =
     (length outs ≡ length items)
@@ -23,10 +24,12 @@ module _ {T : Type 0} (adds : ℕ → T → ℕ → ℕ → Type 0) where
 
   -- one of the items of the pieces w, w + workers and so on does
   abbrev pub AddsInRow : ℕ → ℕ → List T → ℕ → ℕ → ℕ → Type 0
-  AddsInRow workers cut items w x n = (k : ℕ) × AddsSome ((w + k * workers) * cut) (take cut (drop ((w + k * workers) * cut) items)) x n
+  AddsInRow workers cut items w x n =
+      (k : ℕ) × AddsSome ((w + k * workers) * cut) (take cut (drop ((w + k * workers) * cut) items)) x n
 
 -- what seats gain
-module _ {S T : Type 0} (holds : S → ℕ → ℕ → Type 0) (adds : ℕ → T → ℕ → ℕ → Type 0) (workers cut : ℕ) (items : List T) where
+module _ {S T : Type 0} (holds : S → ℕ → ℕ → Type 0) (adds : ℕ → T → ℕ → ℕ → Type 0) (workers cut : ℕ)
+    (items : List T) where
   -- the seat of worker w gains nothing but the sets of its items
   pub record SeatGains (w : ℕ) (old new : S) : Type 0 where
     pub kept : (x n : ℕ) → holds old x n → holds new x n

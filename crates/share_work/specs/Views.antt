@@ -39,7 +39,8 @@ with_call v c = make_view v.parts (v.calls ++ c ∷ []) v.told
 abbrev pub with_told : View → ℕ → ℕ → View
 with_told v w x = make_view v.parts v.calls ((w, x) ∷ v.told)
 
--- a split of k parts: the splitter keeps its calls and what it was told, and the new seat is told what the splitter knows
+-- a split of k parts: the splitter keeps its calls and what it was told, and the new seat is told what the splitter
+-- knows
 abbrev pub left_of : ℕ → View → View
 left_of k v = make_view (v.parts - k) v.calls v.told
 

@@ -37,9 +37,12 @@ pub(crate) fn words_at_close<V, K, P: TableRule<(), V, K>>(
     mut spare: Vec<u64>,
     seat: Seat<(), V>,
 ) -> Least
-    requires { (seat.table_id ≡ table.shared.table_id) × (table.shared.table_id.words ≡ vec_len spare + 1) × (table.shared.table_id.slots ≡ 0) }
+    requires { (seat.table_id ≡ table.shared.table_id)
+        × (table.shared.table_id.words ≡ vec_len spare + 1) × (table.shared.table_id.slots ≡ 0) }
     ensures count { length result ≡ vec_len spare }
-    ensures words { (ws : List ℕ) × ((xs : List (Unit {0})) × (Final (Seen (P.holds table.shared.key) seat.id seat.me.0) ws xs × ((w : ℕ) → w < vec_len spare → slice_index result w ≡ slice_index ws (w + 1)))) }
+    ensures words { (ws : List ℕ) × ((xs : List (Unit {0}))
+        × (Final (Seen (P.holds table.shared.key) seat.id seat.me.0) ws xs
+        × ((w : ℕ) → w < vec_len spare → slice_index result w ≡ slice_index ws (w + 1)))) }
 {
     let closed = table.close_with(seat);
     for i in 0..spare.len() {

@@ -76,7 +76,8 @@ impl LeastTable {
     pub fn post(&self, seat: &mut LeastSeat, word: usize, number: u64) -> u64
         requires { (seat.old.table ≡ self.now.table) × (word < self.now.count) × (number < NONE) }
         ensures known { result ≤ known word seat.old.view }
-        ensures call { seat.new ≡ seat_value seat.old.table (with_call seat.old.view (call word result number)) }
+        ensures call { seat.new ≡ seat_value seat.old.table
+            (with_call seat.old.view (call word result number)) }
     {
         self.table
             .shared
@@ -93,7 +94,8 @@ impl LeastTable {
     }
 
     fn split_by<G: Given>(&self, seat: &mut LeastSeat, parts: u64) -> LeastSeat
-        requires { (seat.old.table ≡ self.now.table) × (parts ≡ G.parts) × (0 < parts) × (parts < seat.old.view.parts) }
+        requires { (seat.old.table ≡ self.now.table) × (parts ≡ G.parts) × (0 < parts)
+            × (parts < seat.old.view.parts) }
         ensures old { seat.new ≡ seat_value seat.old.table (left_of parts seat.old.view) }
         ensures new { result ≡ seat_value seat.old.table (right_of parts seat.old.view) }
     {
@@ -134,7 +136,8 @@ impl LeastTable {
         ensures refused { IsErr result ↔ (seat.view.parts < 2 ^ 32) }
         ensures back { IfErr result (λ r. (r.0 ≡ self) × (r.1 ≡ seat)) }
         ensures count { IfOk result (λ l. length l ≡ self.count) }
-        ensures least { IfOk result (λ l. (w : ℕ) → w < self.count → slice_index l w ≡ least_at w (posts_of seat.view.calls)) }
+        ensures least { IfOk result (λ l. (w : ℕ) → w < self.count
+            → slice_index l w ≡ least_at w (posts_of seat.view.calls)) }
         ensures legal { OnOk result (IsLegal seat.view.calls) }
         ensures told { OnOk result (IsPosted seat.view.told seat.view.calls) }
     {

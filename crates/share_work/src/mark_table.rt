@@ -64,7 +64,8 @@ impl Model for MarkSeat {
 impl<'r, R: Reach> MarkTable<'r, R> {
     /// A table with a word for each file, all `NONE`, and its first seat, which has all 2^32 parts.
     pub fn new(alloc: Global, reach: &'r R) -> Result<(MarkTable<'r, R>, MarkSeat), AllocError>
-        ensures { IfOk result (λ r. (r.0.reach ≡ reach.entry.now) × (r.1 ≡ mark_seat_value r.0.table mark_whole)) }
+        ensures { IfOk result (λ r. (r.0.reach ≡ reach.entry.now)
+            × (r.1 ≡ mark_seat_value r.0.table mark_whole)) }
     {
         let count = reach.count();
         let spare = Vec::from_elem(alloc, NONE, count)?;
@@ -83,10 +84,12 @@ impl<'r, R: Reach> MarkTable<'r, R> {
 
     /// Posts a mark's number at its root.
     fn post_root(&self, seat: &mut Seat<(), MarkView>, root: usize, number: u64) -> u64
-        requires seat { (seat.old.table_id ≡ self.now.table) × (0 < seat.old.me.0.least.parts) × (seat.old.me.0.debt ≡ None) }
+        requires seat { (seat.old.table_id ≡ self.now.table) × (0 < seat.old.me.0.least.parts)
+            × (seat.old.me.0.debt ≡ None) }
         requires mark { (root < R.files self.now.reach) × (number < NONE) }
         ensures known { result ≤ known root seat.old.me.0.least }
-        ensures seat { (seat.new.table_id ≡ seat.old.table_id) × (seat.new.me ≡ (with_root root result number seat.old.me.0, seat.old.me.1)) }
+        ensures seat { (seat.new.table_id ≡ seat.old.table_id)
+            × (seat.new.me ≡ (with_root root result number seat.old.me.0, seat.old.me.1)) }
     {
         self.table
             .shared
@@ -102,9 +105,17 @@ impl<'r, R: Reach> MarkTable<'r, R> {
         place: usize,
         file: usize,
     )
-        requires seat { (seat.old.table_id ≡ self.now.table) × (0 < seat.old.me.0.least.parts) × (root < R.files self.now.reach) }
-        requires debt { (seat.old.me.0.debt ≡ Some (make_debt root number place)) × (slice_get (R.list self.now.reach root) place ≡ Some file) × (G.last ≡ (place + 1 == length (R.list self.now.reach root))) }
-        ensures { (seat.new.table_id ≡ seat.old.table_id) × ((found : ℕ) × (seat.new.me ≡ (with_calls seat.old.me.0 (call file found number ∷ []) (debt_at root number (place + 1) (R.list self.now.reach root)), seat.old.me.1))) }
+        requires seat { (seat.old.table_id ≡ self.now.table) × (0 < seat.old.me.0.least.parts)
+            × (root < R.files self.now.reach) }
+        requires debt { (seat.old.me.0.debt ≡ Some (make_debt root number place))
+            × (slice_get (R.list self.now.reach root) place ≡ Some file)
+            × (G.last ≡ (place + 1 == length (R.list self.now.reach root))) }
+        ensures { (seat.new.table_id ≡ seat.old.table_id)
+            × ((found : ℕ) × (seat.new.me ≡ (
+              with_calls seat.old.me.0 (call file found number ∷ [])
+                  (debt_at root number (place + 1) (R.list self.now.reach root)),
+              seat.old.me.1,
+            ))) }
     {
         self.table
             .shared
@@ -113,9 +124,13 @@ impl<'r, R: Reach> MarkTable<'r, R> {
 
     /// Posts the number at each file that the root reaches.
     fn pay(&self, seat: &mut Seat<(), MarkView>, root: usize, number: u64)
-        requires seat { (seat.old.table_id ≡ self.now.table) × (0 < seat.old.me.0.least.parts) × (root < R.files self.now.reach) }
+        requires seat { (seat.old.table_id ≡ self.now.table) × (0 < seat.old.me.0.least.parts)
+            × (root < R.files self.now.reach) }
         requires debt { seat.old.me.0.debt ≡ Some (make_debt root number 0) }
-        ensures { (later : List Call) × (posts_of later ≡ at_each number (R.list self.now.reach root)) × (seat.new.me ≡ (with_calls seat.old.me.0 later None, seat.old.me.1)) × (seat.new.table_id ≡ seat.old.table_id) }
+        ensures { (later : List Call) × (posts_of later
+            ≡ at_each number (R.list self.now.reach root))
+            × (seat.new.me ≡ (with_calls seat.old.me.0 later None, seat.old.me.1))
+            × (seat.new.table_id ≡ seat.old.table_id) }
     {
         let mut k = 0;
         while let Some(file) = self.reach.reached(root, k) {
@@ -130,7 +145,11 @@ impl<'r, R: Reach> MarkTable<'r, R> {
         requires seat { seat.old.table ≡ self.now.table }
         requires mark { (root < R.files self.now.reach) × (number < NONE) }
         ensures known { result ≤ known root seat.old.view.least }
-        ensures calls { (later : List Call) × (posts_of later ≡ (if nat_lt number result then at_each number (R.list self.now.reach root) else [])) × (seat.new ≡ mark_seat_value seat.old.table (with_mark seat.old.view (root, number) (call root result number ∷ later))) }
+        ensures calls { (later : List Call)
+            × (posts_of later ≡ (if nat_lt number result then
+            at_each number (R.list self.now.reach root) else []))
+            × (seat.new ≡ mark_seat_value seat.old.table
+            (with_mark seat.old.view (root, number) (call root result number ∷ later))) }
     {
         let found = self.post_root(&mut seat.seat, root, number);
         if number < found {
@@ -140,7 +159,8 @@ impl<'r, R: Reach> MarkTable<'r, R> {
     }
 
     fn split_by<G: MarkGiven>(&self, seat: &mut MarkSeat, parts: u64) -> MarkSeat
-        requires { (seat.old.table ≡ self.now.table) × (parts ≡ G.parts) × (0 < parts) × (parts < seat.old.view.least.parts) }
+        requires { (seat.old.table ≡ self.now.table) × (parts ≡ G.parts) × (0 < parts)
+            × (parts < seat.old.view.least.parts) }
         ensures old { seat.new ≡ mark_seat_value seat.old.table (mark_left parts seat.old.view) }
         ensures new { result ≡ mark_seat_value seat.old.table (mark_right parts seat.old.view) }
     {
@@ -151,7 +171,8 @@ impl<'r, R: Reach> MarkTable<'r, R> {
 
     /// Moves parts to a new seat, which has no calls and no marks, and is told what this one knows.
     pub fn split(&self, seat: &mut MarkSeat, parts: u64) -> MarkSeat
-        requires { (seat.old.table ≡ self.now.table) × (0 < parts) × (parts < seat.old.view.least.parts) }
+        requires { (seat.old.table ≡ self.now.table) × (0 < parts)
+            × (parts < seat.old.view.least.parts) }
         ensures old { seat.new ≡ mark_seat_value seat.old.table (mark_left parts seat.old.view) }
         ensures new { result ≡ mark_seat_value seat.old.table (mark_right parts seat.old.view) }
     {
@@ -183,8 +204,11 @@ impl<'r, R: Reach> MarkTable<'r, R> {
         ensures refused { IsErr result ↔ (seat.view.least.parts < 2 ^ 32) }
         ensures back { IfErr result (λ r. (r.0 ≡ self.entry) × (r.1 ≡ seat)) }
         ensures count { IfOk result (λ l. length l ≡ R.files self.entry.reach) }
-        ensures least { IfOk result (λ l. (w : ℕ) → w < R.files self.entry.reach → slice_index l w ≡ least_at w (marked_posts (R.list self.entry.reach) seat.view.marks)) }
-        ensures posted { IfOk result (λ l. (w : ℕ) → w < R.files self.entry.reach → slice_index l w ≡ least_at w (posts_of seat.view.least.calls)) }
+        ensures least { IfOk result (λ l. (w : ℕ) → w < R.files self.entry.reach
+            → slice_index l w ≡ least_at w (marked_posts (R.list self.entry.reach)
+            seat.view.marks)) }
+        ensures posted { IfOk result (λ l. (w : ℕ) → w < R.files self.entry.reach
+            → slice_index l w ≡ least_at w (posts_of seat.view.least.calls)) }
         ensures legal { OnOk result (IsLegal seat.view.least.calls) }
         ensures told { OnOk result (IsPosted seat.view.least.told seat.view.least.calls) }
     {

@@ -19,7 +19,8 @@ pub struct Plan {
 impl Plan {
     /// A plan of 1 to 64 workers and a cut of 1 to 4,096 items, else `None`.
     pub fn new(workers: u32, cut: u32) -> Option<Plan>
-        ensures within { IsSome result ↔ ((1 ≤ workers) × (workers ≤ 64) × (1 ≤ cut) × (cut ≤ 4_096)) }
+        ensures within { IsSome result ↔ ((1 ≤ workers) × (workers ≤ 64) × (1 ≤ cut)
+            × (cut ≤ 4_096)) }
         ensures plan { IfSome result (λ p. (p.workers ≡ workers) × (p.cut ≡ cut)) }
     {
         if (1..=64).contains(&workers) && (1..=4_096).contains(&cut) {

@@ -54,11 +54,14 @@ where
     requires takes { TakesAll (W.takes work.now) 0 items.now }
     ensures fit { All (W.fits work.now) seats.new }
     ensures numbers { KeepsNumbers (W.number work.now) seats.old seats.new }
-    ensures gains { SeatsGain (W.holds work.now) (W.adds work.now) plan.workers plan.cut items.now 0 seats.old seats.new }
-    ensures have { OnOk result (SeatsHave (W.holds work.now) (W.adds work.now) plan.workers plan.cut items.now 0 seats.new) }
+    ensures gains { SeatsGain (W.holds work.now) (W.adds work.now) plan.workers plan.cut items.now 0
+        seats.old seats.new }
+    ensures have { OnOk result (SeatsHave (W.holds work.now) (W.adds work.now) plan.workers plan.cut
+        items.now 0 seats.new) }
     // What the seats hold together: nothing but what they held and what the items add, and on success all of it.
     ensures within { HoldWithin (W.holds work.now) (W.adds work.now) items.now seats.old seats.new }
-    ensures together { OnOk result (HoldTogether (W.holds work.now) (W.adds work.now) items.now seats.old seats.new) }
+    ensures together { OnOk result (HoldTogether (W.holds work.now) (W.adds work.now) items.now
+        seats.old seats.new) }
     ensures outs { IfOk result (λ v. GivesItems (W.gives work.now) 0 items.now v.items) }
 {
     if items.is_empty() {

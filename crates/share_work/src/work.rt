@@ -48,7 +48,9 @@ pub trait Work<T> {
         ensures fits { fits self.now seat.new }
         ensures number { number self.now seat.new ≡ number self.now seat.old }
         ensures kept { (x n : ℕ) → holds self.now seat.old x n → holds self.now seat.new x n }
-        ensures within { (x n : ℕ) → holds self.now seat.new x n → holds self.now seat.old x n ⊎ AddsSome (adds self.now) first items.now x n }
-        ensures gained { OnOk result ((x n : ℕ) → AddsSome (adds self.now) first items.now x n → holds self.now seat.new x n) }
+        ensures within { (x n : ℕ) → holds self.now seat.new x n
+            → holds self.now seat.old x n ⊎ AddsSome (adds self.now) first items.now x n }
+        ensures gained { OnOk result ((x n : ℕ) → AddsSome (adds self.now) first items.now x n
+            → holds self.now seat.new x n) }
         ensures outs { IfOk result (λ v. GivesItems (gives self.now) first items.now v.items) };
 }

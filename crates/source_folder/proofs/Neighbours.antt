@@ -15,17 +15,21 @@ path_is : (sources : List Source) (k : ℕ) (d : Source) → k < length sources 
 path_is sources k d h = get_or-map path_of sources k d [] h
 
 -- two neighbours with one path
-pub twins_at : (sources : List Source) (n : ℕ) (f g : Source) → 0 < n → n < length sources → pointwise nat_eq (path_of (get_or sources (n - 1) f)) (path_of (get_or sources n g)) ≡ true → HaveTwins sources
+pub twins_at : (sources : List Source) (n : ℕ) (f g : Source) → 0 < n → n < length sources
+    → pointwise nat_eq (path_of (get_or sources (n - 1) f)) (path_of (get_or sources n g)) ≡ true → HaveTwins sources
 twins_at sources n f g some h same =
     let next : n ≡ n - 1 + 1 = omega arith in
     (n - 1, omega arith, path_is sources (n - 1) f (omega arith) ∙ (bytes_decides _ _).0 same ∙ sym (path_is sources n g h) ∙ ap (path_at sources) next)
 
 -- two neighbours with two paths
-pub apart_at : (sources : List Source) (n : ℕ) (f g : Source) → 0 < n → n < length sources → pointwise nat_eq (path_of (get_or sources (n - 1) f)) (path_of (get_or sources n g)) ≡ false → path_at sources (n - 1) ≡ path_at sources n → ⊥
+pub apart_at : (sources : List Source) (n : ℕ) (f g : Source) → 0 < n → n < length sources
+    → pointwise nat_eq (path_of (get_or sources (n - 1) f)) (path_of (get_or sources n g)) ≡ false → path_at sources (n - 1) ≡ path_at sources n → ⊥
 apart_at sources n f g some h other same =
     false≢true (sym other ∙ (bytes_decides _ _).1 (sym (path_is sources (n - 1) f (omega arith)) ∙ same ∙ path_is sources n g h))
 
-apart_case : (sources : List Source) (n : ℕ) → (path_at sources (n - 1) ≡ path_at sources n → ⊥) → 0 < n → ((k : ℕ) → k + 1 < n → path_at sources k ≡ path_at sources (k + 1) → ⊥) → (k : ℕ) → k + 1 < n + 1 → (k + 1 < n) ⊎ (n ≤ k + 1) → path_at sources k ≡ path_at sources (k + 1) → ⊥
+apart_case : (sources : List Source) (n : ℕ) → (path_at sources (n - 1) ≡ path_at sources n → ⊥) → 0 < n
+    → ((k : ℕ) → k + 1 < n → path_at sources k ≡ path_at sources (k + 1) → ⊥) → (k : ℕ) → k + 1 < n + 1 → (k + 1 < n) ⊎ (n ≤ k + 1)
+    → path_at sources k ≡ path_at sources (k + 1) → ⊥
 apart_case sources n last some old k h (inl less) = old k less
 apart_case sources n last some old k h (inr over) = λ same.
     let first : n - 1 ≡ k = omega arith in
@@ -33,7 +37,8 @@ apart_case sources n last some old k h (inr over) = λ same.
     last (ap (path_at sources) first ∙ same ∙ ap (path_at sources) second)
 
 -- one more pair of neighbours
-pub apart_more : (sources : List Source) (n : ℕ) → (path_at sources (n - 1) ≡ path_at sources n → ⊥) → 0 < n → ((k : ℕ) → k + 1 < n → path_at sources k ≡ path_at sources (k + 1) → ⊥) → (k : ℕ) → k + 1 < n + 1 → path_at sources k ≡ path_at sources (k + 1) → ⊥
+pub apart_more : (sources : List Source) (n : ℕ) → (path_at sources (n - 1) ≡ path_at sources n → ⊥) → 0 < n
+    → ((k : ℕ) → k + 1 < n → path_at sources k ≡ path_at sources (k + 1) → ⊥) → (k : ℕ) → k + 1 < n + 1 → path_at sources k ≡ path_at sources (k + 1) → ⊥
 apart_more sources n last some old k h = apart_case sources n last some old k h (cases_lt (k + 1) n)
 
 less_from : (forth back : Ordering) → forth ≡ ordering_reverse back → is_lt back ≡ false → (back ≡ Equal → ⊥) → forth ≡ Less
@@ -41,7 +46,8 @@ less_from forth Less turned low apart = absurd (false≢true (sym low))
 less_from forth Equal turned low apart = absurd (apart refl)
 less_from forth Greater turned low apart = turned
 
-rising_at : (sources : List Source) (d : Source) → AreInPathOrder sources → (HaveTwins sources → ⊥) → (k : ℕ) → k + 1 < length sources → slice_cmp nat_cmp (path_at sources k) (path_at sources (k + 1)) ≡ Less
+rising_at : (sources : List Source) (d : Source) → AreInPathOrder sources → (HaveTwins sources → ⊥) → (k : ℕ) → k + 1 < length sources
+    → slice_cmp nat_cmp (path_at sources k) (path_at sources (k + 1)) ≡ Less
 rising_at sources d order apart k h =
     let first = path_is sources k d (omega arith) in
     let second = path_is sources (k + 1) d h in

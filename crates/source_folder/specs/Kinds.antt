@@ -17,10 +17,12 @@ pub record IsKind (metadata : Metadata) (k : Kind) : Type 0 where
   pub file : IsFile (file_type metadata) → k ≡ kind.File (metadata_len metadata)
   pub other : (IsDir (file_type metadata) → ⊥) → (IsFile (file_type metadata) → ⊥) → k ≡ kind.Unreadable
 
--- the kind of what the system can't describe: what is not there, also behind a file, and a link that leads to itself can't be read
+-- the kind of what the system can't describe: what is not there, also behind a file, and a link that leads to itself
+-- can't be read
 pub record IsKindBehind (error : Error) (answer : Result Kind FolderFault) : Type 0 where
   pub memory : LacksMemory error → answer ≡ Err faults.NoMemory
   pub missing : error_kind error ≡ NotFound → answer ≡ Ok kind.Unreadable
   pub blocked : error_kind error ≡ NotADirectory → answer ≡ Ok kind.Unreadable
   pub looping : error_kind error ≡ FilesystemLoop → answer ≡ Ok kind.Unreadable
-  pub unknown : (LacksMemory error → ⊥) → error_kind error ≢ NotFound → error_kind error ≢ NotADirectory → error_kind error ≢ FilesystemLoop → answer ≡ Ok kind.Unknown
+  pub unknown : (LacksMemory error → ⊥) → error_kind error ≢ NotFound → error_kind error ≢ NotADirectory
+      → error_kind error ≢ FilesystemLoop → answer ≡ Ok kind.Unknown

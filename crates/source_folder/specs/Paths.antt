@@ -11,7 +11,8 @@ ends_in_proto name = ends_with nat_eq name (codes ".proto")
 
 -- each name comes before the next one, byte by byte
 abbrev pub AreRising : List (List ℕ) → Type 0
-AreRising names = (k : ℕ) → k + 1 < length names → slice_cmp nat_cmp (slice_index_or names k []) (slice_index_or names (k + 1) []) ≡ Less
+AreRising names = (k : ℕ) → k + 1 < length names
+    → slice_cmp nat_cmp (slice_index_or names k []) (slice_index_or names (k + 1) []) ≡ Less
 
 -- a path and a name below it, with a slash between the two unless one is empty
 abbrev pub joined_path : List ℕ → List ℕ → List ℕ

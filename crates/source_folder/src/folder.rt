@@ -31,7 +31,8 @@ fn first_bytes<I: Read + Drop>(
     most: u32,
 ) -> Result<Vec<u8>, FolderFault>
     ensures bounded { IfOk result (λ bytes. vec_len bytes ≤ most) }
-    ensures front { IfOk result (λ bytes. IfSome (I.remaining input) (λ all. bytes.items ≡ take most all)) }
+    ensures front { IfOk result (λ bytes. IfSome (I.remaining input)
+        (λ all. bytes.items ≡ take most all)) }
 {
     // A byte more than the size, so that the end is met without more memory.
     let room = size.min(u64::from(most)) as usize + 1;
@@ -53,7 +54,8 @@ fn read_sources<R: Files + AllocGlobal>(
     most: u32,
 ) -> Result<Vec<NamedText>, FolderFault>
     ensures names { IfOk result (λ texts. names_of texts.items ≡ paths_of sources.items) }
-    ensures proto { IfOk result (λ texts. All (λ t. IsTrue (ends_in_proto (name_of t))) texts.items) }
+    ensures proto { IfOk result (λ texts. All (λ t. IsTrue (ends_in_proto (name_of t)))
+        texts.items) }
     ensures bounded { IfOk result (λ texts. All (λ t. vec_len t.text ≤ most) texts.items) }
 {
     let alloc = rt.alloc();
@@ -93,9 +95,11 @@ pub fn read_folder<R: Files + AllocGlobal>(
     limits: &Limits,
 ) -> Result<Vec<NamedText>, FolderFault>
     ensures order { IfOk result (λ texts. AreRising (names_of texts.items)) }
-    ensures proto { IfOk result (λ texts. All (λ t. IsTrue (ends_in_proto (name_of t))) texts.items) }
+    ensures proto { IfOk result (λ texts. All (λ t. IsTrue (ends_in_proto (name_of t)))
+        texts.items) }
     ensures few { IfOk result (λ texts. vec_len texts ≤ 1_048_576) }
-    ensures bounded { IfOk result (λ texts. All (λ t. vec_len t.text ≤ limit_of limits.now Limit.FileBytes + 1) texts.items) }
+    ensures bounded { IfOk result (λ texts. All
+        (λ t. vec_len t.text ≤ limit_of limits.now Limit.FileBytes + 1) texts.items) }
 {
     let mut sources = sources_below(rt, root)?;
     sort_by_path(&mut sources);

@@ -114,7 +114,8 @@ impl Walk {
     fn take_in(&mut self, path: String, depth: u32, kind: Kind) -> Result<(), FolderFault>
         requires { depth ≤ 64 }
         ensures ok { OnOk result (TakesIn (string_bytes path) depth kind self.old self.new) }
-        ensures refused { (result ≡ Err faults.Listing) ↔ IsTrue (is_refused self.old.entries_left (string_bytes path) depth kind) }
+        ensures refused { (result ≡ Err faults.Listing)
+            ↔ IsTrue (is_refused self.old.entries_left (string_bytes path) depth kind) }
     {
         if self.entries_left == 0 {
             return Err(FolderFault::Listing);

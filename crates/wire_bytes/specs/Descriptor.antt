@@ -1,4 +1,5 @@
--- The bytes of descriptors: the fields of each message of `descriptor.proto` by rising number, repeated ones in their order.
+-- The bytes of descriptors: the fields of each message of `descriptor.proto` by rising number, repeated ones in their
+-- order.
 use Rattle.std.specs.Prelude.{ℕ, ◌+◌, ◌-◌, ◌%◌, ◌^◌, Bool, true, false, List, [], ◌∷◌, ◌++◌, flat_map, Option, None, Some, codes}
 use Rattle.proto_base.specs.declared.scalar_type.ScalarType.{ScalarType}
 use Rattle.proto_base.specs.declared.scalar_type.ScalarType.TheVariants as scalar
@@ -114,8 +115,10 @@ label_number Repeated = 3
 -- name 1, number 3, label 4, type 5, type_name 6, options 8, oneof_index 9, json_name 10, proto3_optional 17
 abbrev pub field_desc_bytes : FieldDesc → List ℕ
 field_desc_bytes f =
-    bytes_field 1 f.name ++ number_field 3 f.number ++ number_field 4 (label_number f.label) ++ number_field 5 (type_number f.field_type)
-    ++ text_field 6 (type_name f.field_type) ++ settings_field 8 f.options ++ index_field 9 f.oneof_index ++ bytes_field 10 f.json_name
+    bytes_field 1 f.name ++ number_field 3 f.number ++ number_field 4 (label_number f.label)
+    ++ number_field 5 (type_number f.field_type)
+    ++ text_field 6 (type_name f.field_type) ++ settings_field 8 f.options ++ index_field 9 f.oneof_index
+    ++ bytes_field 10 f.json_name
     ++ flag_field 17 f.proto3_optional
 
 -- name 1
@@ -148,9 +151,12 @@ message_options_bytes os is_map_entry = flat_map option_bytes os ++ flag_field 7
 -- name 1, field 2, nested_type 3, enum_type 4, options 7, oneof_decl 8, reserved_range 9, reserved_name 10
 abbrev pub message_step : MessageDesc-F (List ℕ) → List ℕ
 message_step m =
-    bytes_field 1 m.name ++ flat_map (λ f. bytes_field 2 (field_desc_bytes f)) m.fields ++ flat_map (bytes_field 3) m.nested
-    ++ flat_map (λ e. bytes_field 4 (enum_desc_bytes e)) m.enums ++ options_field 7 (message_options_bytes m.options m.is_map_entry)
-    ++ flat_map (λ o. bytes_field 8 (oneof_desc_bytes o)) m.oneofs ++ flat_map (λ r. bytes_field 9 (range_bytes r)) m.reserved_ranges
+    bytes_field 1 m.name ++ flat_map (λ f. bytes_field 2 (field_desc_bytes f)) m.fields
+    ++ flat_map (bytes_field 3) m.nested
+    ++ flat_map (λ e. bytes_field 4 (enum_desc_bytes e)) m.enums
+    ++ options_field 7 (message_options_bytes m.options m.is_map_entry)
+    ++ flat_map (λ o. bytes_field 8 (oneof_desc_bytes o)) m.oneofs
+    ++ flat_map (λ r. bytes_field 9 (range_bytes r)) m.reserved_ranges
     ++ flat_map (bytes_field 10) m.reserved_names
 
 abbrev pub message_desc_bytes : MessageDesc → List ℕ
@@ -159,12 +165,14 @@ message_desc_bytes = fold-MessageDesc (List ℕ) message_step
 -- name 1, input_type 2, output_type 3, options 4, client_streaming 5, server_streaming 6
 abbrev pub method_desc_bytes : MethodDesc → List ℕ
 method_desc_bytes m =
-    bytes_field 1 m.name ++ bytes_field 2 (reference_text m.input) ++ bytes_field 3 (reference_text m.output) ++ settings_field 4 m.options
+    bytes_field 1 m.name ++ bytes_field 2 (reference_text m.input) ++ bytes_field 3 (reference_text m.output)
+    ++ settings_field 4 m.options
     ++ flag_field 5 m.client_streaming ++ flag_field 6 m.server_streaming
 
 -- name 1, method 2, options 3
 abbrev pub service_desc_bytes : ServiceDesc → List ℕ
-service_desc_bytes s = bytes_field 1 s.name ++ flat_map (λ m. bytes_field 2 (method_desc_bytes m)) s.methods ++ settings_field 3 s.options
+service_desc_bytes s =
+    bytes_field 1 s.name ++ flat_map (λ m. bytes_field 2 (method_desc_bytes m)) s.methods ++ settings_field 3 s.options
 
 abbrev pub package_name : Option PackageDesc → Option (List ℕ)
 package_name None = None
@@ -183,6 +191,8 @@ public_fields position (i ∷ is) = public_field i.is_public position ++ public_
 abbrev pub file_desc_bytes : FileDesc → List ℕ
 file_desc_bytes f =
     bytes_field 1 f.name ++ text_field 2 (package_name f.package) ++ flat_map (λ i. bytes_field 3 i.path) f.imports
-    ++ flat_map (λ m. bytes_field 4 (message_desc_bytes m)) f.messages ++ flat_map (λ e. bytes_field 5 (enum_desc_bytes e)) f.enums
-    ++ flat_map (λ s. bytes_field 6 (service_desc_bytes s)) f.services ++ settings_field 8 f.options ++ public_fields 0 f.imports
+    ++ flat_map (λ m. bytes_field 4 (message_desc_bytes m)) f.messages
+    ++ flat_map (λ e. bytes_field 5 (enum_desc_bytes e)) f.enums
+    ++ flat_map (λ s. bytes_field 6 (service_desc_bytes s)) f.services ++ settings_field 8 f.options
+    ++ public_fields 0 f.imports
     ++ bytes_field 12 (codes "proto3")

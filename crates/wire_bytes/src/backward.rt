@@ -36,7 +36,8 @@ fn widened(bytes: &mut Vec<u8>, room: usize, needed: usize) -> Result<usize, All
     requires { room ≤ vec_len bytes.old }
     ensures enough { IfOk result (λ wider. needed ≤ wider) }
     ensures within { IfOk result (λ wider. wider ≤ vec_len bytes.new) }
-    ensures written { IfOk result (λ wider. drop wider bytes.new.items ≡ drop room bytes.old.items) }
+    ensures written { IfOk result (λ wider. drop wider bytes.new.items
+        ≡ drop room bytes.old.items) }
     ensures err { OnErr result (vec_len bytes.new ≡ vec_len bytes.old) }
 {
     let len = bytes.len();

@@ -28,7 +28,8 @@ split_again n front rest e =
 body_again : (b : Body) (n : ℕ) (rest : List ℕ) → IsBody b → body_at (wire_type b) n (body_text b ++ rest) ≡ Some (entry_by n b, rest)
 body_again (varint_body t v) n rest h = rw (varint_again 10 t v rest h.spelled h.short h.fits) refl
 body_again (eight_bytes t) n rest h = rw (split_again 8 t rest h) refl
-body_again (delimited s c) n rest h = rw (append_assoc, varint_again 10 s (length c) (c ++ rest) h.spelled h.short h.fits, split_again (length c) c rest refl) refl
+body_again (delimited s c) n rest h =
+    rw (append_assoc, varint_again 10 s (length c) (c ++ rest) h.spelled h.short h.fits, split_again (length c) c rest refl) refl
 body_again (four_bytes t) n rest h = rw (split_again 4 t rest h) refl
 
 pub field_again : (s : Spelled) (rest : List ℕ) → IsSpelled s → field_at (text_of s ++ rest) ≡ Some (entry_of s, rest)
@@ -38,7 +39,14 @@ field_again s rest h =
     let number_is = tag_number s.number (wire_type s.body) w in
     let kind_is = tag_kind s.number (wire_type s.body) w in
     let some : s.number ≢ 0 = omega (arith, h.positive) in
-    rw (append_assoc, varint_again 10 s.tag (s.number * 8 + wire_type s.body) (body_text s.body ++ rest) h.tag.spelled h.tag.short h.tag.fits, lt-ltb (s.number * 8 + wire_type s.body) (2 ^ 32) h.small, number_is, ne_eqb s.number 0 some, kind_is) (body_again s.body s.number rest h.body)
+    rw (
+      append_assoc,
+      varint_again 10 s.tag (s.number * 8 + wire_type s.body) (body_text s.body ++ rest) h.tag.spelled h.tag.short h.tag.fits,
+      lt-ltb (s.number * 8 + wire_type s.body) (2 ^ 32) h.small,
+      number_is,
+      ne_eqb s.number 0 some,
+      kind_is,
+    ) (body_again s.body s.number rest h.body)
 
 -- ---- what is read is spelled so
 
@@ -53,7 +61,8 @@ split_takes : (n : ℕ) (text : List ℕ) (y : List ℕ × List ℕ) → split_o
 split_takes n text y e = elim (chosen (nat_lt (length text) n) None (Some (take n text, drop n text)) y e) [
   | inl w ↦ absurd (none_some y w.1)
   | inr w ↦ (let long = ltb-false (length text) n w.0 in
-      subst (λ (z : List ℕ × List ℕ). (length z.0 ≡ n) × (text ≡ z.0 ++ z.1)) (some_inj (take n text, drop n text) y w.1) (length-take-le n text long, sym (take-append-drop n text)))
+      subst (λ (z : List ℕ × List ℕ). (length z.0 ≡ n) × (text ≡ z.0 ++ z.1)) (some_inj (take n text, drop n text) y w.1)
+      (length-take-le n text long, sym (take-append-drop n text)))
 ]
 
 bound : {A B : Type 0} (f : A → Option B) (o : Option A) (y : B) → option_and_then f o ≡ Some y → (x : A) × (o ≡ Some x) × (f x ≡ Some y)
@@ -67,11 +76,19 @@ Read = Option (ℕ × Value) × List ℕ
 abbrev pub some_read : Read → Option Read
 some_read r = Some r
 
-varint_taken : (n : ℕ) (text : List ℕ) (y : Read) → IsBytes text → option_and_then (λ x. Some (Some (n, number x.0), x.1)) (varint_within 10 text) ≡ Some y → BodyTaken 0 n text y.0 y.1
+varint_taken : (n : ℕ) (text : List ℕ) (y : Read) → IsBytes text → option_and_then (λ x. Some (Some (n, number x.0), x.1)) (varint_within 10 text) ≡ Some y
+    → BodyTaken 0 n text y.0 y.1
 varint_taken n text y h e =
     let x = bound (λ (x : ℕ × List ℕ). some_read (Some (n, number x.0), x.1)) (varint_within 10 text) y e in
     let taken = varint_takes 10 text x.0 h x.1 in
-    let one : BodyTaken 0 n text (Some (n, number x.0.0)) x.0.1 = record { body = varint_body taken.front x.0.0; kind_is = refl; ok = record { spelled = taken.spelled; short = taken.short; fits = taken.fits }; entry_is = refl; split = taken.split } in
+    let one : BodyTaken 0 n text (Some (n, number x.0.0)) x.0.1 =
+    record {
+      body = varint_body taken.front x.0.0;
+      kind_is = refl;
+      ok = record { spelled = taken.spelled; short = taken.short; fits = taken.fits };
+      entry_is = refl;
+      split = taken.split;
+    } in
     subst (λ (z : Read). BodyTaken 0 n text z.0 z.1) (some_inj (Some (n, number x.0.0), x.0.1) y x.2) one
 
 eight_taken : (n : ℕ) (text : List ℕ) (y : Read) → option_and_then (λ x. Some (None, x.1)) (split_off 8 text) ≡ Some y → BodyTaken 1 n text y.0 y.1
@@ -88,7 +105,9 @@ four_taken n text y e =
     let one : BodyTaken 5 n text None x.0.1 = record { body = four_bytes x.0.0; kind_is = refl; ok = taken.0; entry_is = refl; split = taken.1 } in
     subst (λ (z : Read). BodyTaken 5 n text z.0 z.1) (some_inj (None, x.0.1) y x.2) one
 
-delimited_taken : (n : ℕ) (text : List ℕ) (y : Read) → IsBytes text → option_and_then (λ x. option_and_then (λ y. Some (Some (n, bytes y.0), y.1)) (split_off x.0 x.1)) (varint_within 10 text) ≡ Some y → BodyTaken 2 n text y.0 y.1
+delimited_taken : (n : ℕ) (text : List ℕ) (y : Read) → IsBytes text
+    → option_and_then (λ x. option_and_then (λ y. Some (Some (n, bytes y.0), y.1)) (split_off x.0 x.1)) (varint_within 10 text) ≡ Some y
+    → BodyTaken 2 n text y.0 y.1
 delimited_taken n text y h e =
     let x = bound (λ (x : ℕ × List ℕ). option_and_then (λ y. some_read (Some (n, bytes y.0), y.1)) (split_off x.0 x.1)) (varint_within 10 text) y e in
     let size = varint_takes 10 text x.0 h x.1 in
@@ -131,7 +150,8 @@ pub rest_of_bytes : (front rest : List ℕ) → IsBytes (front ++ rest) → IsBy
 rest_of_bytes [] rest h = h
 rest_of_bytes (b ∷ bs) rest h = rest_of_bytes bs rest (rest_bytes b (bs ++ rest) h)
 
-field_made : {t : ℕ} {rest : List ℕ} (text : List ℕ) (y : Read) → Taken 10 text t rest → t < 2 ^ 32 → (t / 8 ≡ 0 → ⊥) → BodyTaken (t % 8) (t / 8) rest y.0 y.1 → FieldTaken text y.0 y.1
+field_made : {t : ℕ} {rest : List ℕ} (text : List ℕ) (y : Read) → Taken 10 text t rest → t < 2 ^ 32 → (t / 8 ≡ 0 → ⊥) → BodyTaken (t % 8) (t / 8) rest y.0 y.1
+    → FieldTaken text y.0 y.1
 field_made {t} {rest} text y tag small some body =
     let whole : (t / 8) * 8 + wire_type body.body ≡ t = rw body.kind_is (omega arith) in
     record {
@@ -149,12 +169,14 @@ field_made {t} {rest} text y tag small some body =
 pub field_takes : (text : List ℕ) (y : Read) → IsBytes text → field_at text ≡ Some y → FieldTaken text y.0 y.1
 unfolding field_at
 field_takes text y h e =
-    let x = bound (λ (x : ℕ × List ℕ). if nat_lt x.0 (2 ^ 32) then (if x.0 / 8 == 0 then None else body_at (x.0 % 8) (x.0 / 8) x.1) else None) (varint_within 10 text) y e in
+    let x = bound (λ (x : ℕ × List ℕ). if nat_lt x.0 (2 ^ 32) then (if x.0 / 8 == 0 then None else body_at (x.0 % 8) (x.0 / 8) x.1) else None)
+    (varint_within 10 text) y e in
     let tag = varint_takes 10 text x.0 h x.1 in
     elim (chosen (nat_lt x.0.0 (2 ^ 32)) _ _ y x.2) [
       | inl w ↦ elim (chosen (x.0.0 / 8 == 0) _ _ y w.1) [
         | inl v ↦ absurd (none_some y v.1)
-        | inr v ↦ field_made text y tag (ltb-true x.0.0 (2 ^ 32) w.0) (eqb-false (x.0.0 / 8) 0 v.0) (body_takes (x.0.0 % 8) (x.0.0 / 8) x.0.1 y (rest_of_bytes tag.front x.0.1 (subst IsBytes tag.split h)) v.1)
+        | inr v ↦ field_made text y tag (ltb-true x.0.0 (2 ^ 32) w.0) (eqb-false (x.0.0 / 8) 0 v.0)
+            (body_takes (x.0.0 % 8) (x.0.0 / 8) x.0.1 y (rest_of_bytes tag.front x.0.1 (subst IsBytes tag.split h)) v.1)
       ]
       | inr w ↦ absurd (none_some y w.1)
     ]

@@ -12,7 +12,8 @@ use Rattle.wire_format.proofs.ReadingFields.{Read, some_read, FieldTaken, field_
 pub row_none : IsRow [] []
 row_none = ([], tt, refl, refl)
 
-pub row_ahead_some : (text : List ℕ) (e : ℕ × Value) (rest : List ℕ) (fs : List (ℕ × Value)) → FieldTaken text (Some e) rest → IsRow rest fs → IsRow text (e ∷ fs)
+pub row_ahead_some : (text : List ℕ) (e : ℕ × Value) (rest : List ℕ) (fs : List (ℕ × Value)) → FieldTaken text (Some e) rest → IsRow rest fs
+    → IsRow text (e ∷ fs)
 row_ahead_some text e rest fs taken (row, ok, split, is) =
     (taken.field ∷ row, (taken.ok, ok), taken.split ∙ ap (λ xs. text_of taken.field ++ xs) split, rw (taken.entry_is, is) refl)
 
@@ -35,7 +36,8 @@ empty_short text e h = let none = rw e at h in omega (arith, none)
 
 pub row_stop : (text : List ℕ) (fs : List (ℕ × Value)) → 0 < length text → field_at text ≡ None → IsRow text fs → ⊥
 row_stop text fs h e ([], ok, split, is) = empty_short text split h
-row_stop text fs h e (s ∷ row, ok, split, is) = none_some (entry_of s, flat_map text_of row) (sym e ∙ ap field_at split ∙ field_again s (flat_map text_of row) ok.0)
+row_stop text fs h e (s ∷ row, ok, split, is) =
+    none_some (entry_of s, flat_map text_of row) (sym e ∙ ap field_at split ∙ field_again s (flat_map text_of row) ok.0)
 
 spells_some : (xs : List ℕ) (n : ℕ) → Spells xs n → 0 < length xs
 spells_some [] n s = absurd s
@@ -59,7 +61,8 @@ kept_first whole done e h = rw e (record { within = h; ahead = λ fs row. row; b
 within_rest : (text : List ℕ) (e : Option (ℕ × Value)) (rest : List ℕ) → FieldTaken text e rest → IsBytes text → IsBytes rest
 within_rest text e rest taken h = rest_of_bytes (text_of taken.field) rest (subst IsBytes taken.split h)
 
-pub kept_some : (whole rest others : List ℕ) (done : List (ℕ × Value)) (e : ℕ × Value) → field_at rest ≡ some_read (Some e, others) → Kept whole rest done → Kept whole others (done ++ e ∷ [])
+pub kept_some : (whole rest others : List ℕ) (done : List (ℕ × Value)) (e : ℕ × Value) → field_at rest ≡ some_read (Some e, others) → Kept whole rest done
+    → Kept whole others (done ++ e ∷ [])
 kept_some whole rest others done e read kept =
     let taken : FieldTaken rest (Some e) others = field_takes rest (Some e, others) kept.within read in
     record {
@@ -68,7 +71,8 @@ kept_some whole rest others done e read kept =
       back = λ fs row. row_back rest (Some e, others) (kept.back fs row).0 read (kept.back fs row).1;
     }
 
-pub kept_none : (whole rest others : List ℕ) (done : List (ℕ × Value)) → field_at rest ≡ some_read (None, others) → Kept whole rest done → Kept whole others done
+pub kept_none : (whole rest others : List ℕ) (done : List (ℕ × Value)) → field_at rest ≡ some_read (None, others) → Kept whole rest done
+    → Kept whole others done
 kept_none whole rest others done read kept =
     let taken : FieldTaken rest None others = field_takes rest (None, others) kept.within read in
     record {
@@ -91,12 +95,15 @@ nil_of_length [] e = refl
 nil_of_length (x ∷ xs) e = absurd (none_fit (length xs) (omega arith))
 
 -- one row of bytes, one list
-pub row_one : (row others : List Spelled) → AllByRecursion IsSpelled row → AllByRecursion IsSpelled others → flat_map text_of row ≡ flat_map text_of others → filter_map entry_of row ≡ filter_map entry_of others
+pub row_one : (row others : List Spelled) → AllByRecursion IsSpelled row → AllByRecursion IsSpelled others → flat_map text_of row ≡ flat_map text_of others
+    → filter_map entry_of row ≡ filter_map entry_of others
 row_one [] [] h k e = refl
 row_one [] (t ∷ ts) h k e = absurd (none_some (entry_of t, flat_map text_of ts) (sym field_at_none ∙ ap field_at e ∙ field_again t (flat_map text_of ts) k.0))
-row_one (s ∷ ss) [] h k e = absurd (none_some (entry_of s, flat_map text_of ss) (sym field_at_none ∙ ap field_at (sym e) ∙ field_again s (flat_map text_of ss) h.0))
+row_one (s ∷ ss) [] h k e =
+    absurd (none_some (entry_of s, flat_map text_of ss) (sym field_at_none ∙ ap field_at (sym e) ∙ field_again s (flat_map text_of ss) h.0))
 row_one (s ∷ ss) (t ∷ ts) h k e =
-    let both = some_inj (entry_of s, flat_map text_of ss) (entry_of t, flat_map text_of ts) (sym (field_again s (flat_map text_of ss) h.0) ∙ ap field_at e ∙ field_again t (flat_map text_of ts) k.0) in
+    let both = some_inj (entry_of s, flat_map text_of ss) (entry_of t, flat_map text_of ts)
+    (sym (field_again s (flat_map text_of ss) h.0) ∙ ap field_at e ∙ field_again t (flat_map text_of ts) k.0) in
     let rest = row_one ss ts h.1 k.1 (ap (λ (z : Read). z.1) both) in
     rw (ap (λ (z : Read). z.0) both, rest) refl
 

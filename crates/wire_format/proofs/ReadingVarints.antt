@@ -33,7 +33,8 @@ pub chosen : {A : Type 0} (b : Bool) (x y : Option A) (z : A) → cond b x y ≡
 chosen true x y z e = inl (refl, e)
 chosen false x y z e = inr (refl, e)
 
-joined_some : (b : ℕ) (o : Option (ℕ × List ℕ)) (y : ℕ × List ℕ) → joined b o ≡ Some y → (x : ℕ × List ℕ) × (o ≡ Some x) × (b - 128 + 128 * x.0 < 2 ^ 64) × ((b - 128 + 128 * x.0, x.1) ≡ y)
+joined_some : (b : ℕ) (o : Option (ℕ × List ℕ)) (y : ℕ × List ℕ) → joined b o ≡ Some y
+    → (x : ℕ × List ℕ) × (o ≡ Some x) × (b - 128 + 128 * x.0 < 2 ^ 64) × ((b - 128 + 128 * x.0, x.1) ≡ y)
 joined_some b None y e = absurd (none_some y e)
 joined_some b (Some x) y e = elim (chosen (nat_lt (b - 128 + 128 * x.0) (2 ^ 64)) (Some (b - 128 + 128 * x.0, x.1)) None y e) [
   | inl w ↦ (x, refl, ltb-true _ _ w.0, cc)
@@ -63,7 +64,8 @@ varint_takes (suc k) (b ∷ bs) y h e = elim (chosen (nat_lt b 128) (Some (b, bs
 pub none_fit : (n : ℕ) → suc n ≤ 0 → ⊥
 none_fit n h = omega arith
 
-pub varint_again : (k : ℕ) (front : List ℕ) (n : ℕ) (rest : List ℕ) → Spells front n → length front ≤ k → n < 2 ^ 64 → varint_within k (front ++ rest) ≡ Some (n, rest)
+pub varint_again : (k : ℕ) (front : List ℕ) (n : ℕ) (rest : List ℕ) → Spells front n → length front ≤ k → n < 2 ^ 64
+    → varint_within k (front ++ rest) ≡ Some (n, rest)
 varint_again k [] n rest s h f = absurd s
 varint_again zero (b ∷ bs) n rest s h f = absurd (none_fit (length bs) h)
 varint_again (suc k) (b ∷ []) n rest s h f = rw (lt-ltb b 128 s.0, s.1) refl

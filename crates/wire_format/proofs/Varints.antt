@@ -7,7 +7,8 @@ use borrow.Author.Tests.{ltb-true, ltb-false}
 use Rattle.wire_format.specs.Varint.{Spells, groups, varint_bytes}
 
 small_rest : (k n : ℕ) → n < 128 ^ suc (suc k) → n / 128 < 128 ^ suc k
-small_rest k n h = (div-lt_iff_lt-mul {k = 128} {x = n} {y = 128 ^ suc k} (lit< tt)).1 (let e : 128 ^ suc (suc k) ≡ 128 ^ suc k * 128 = grind arith in omega (arith, h, e))
+small_rest k n h =
+    (div-lt_iff_lt-mul {k = 128} {x = n} {y = 128 ^ suc k} (lit< tt)).1 (let e : 128 ^ suc (suc k) ≡ 128 ^ suc k * 128 = grind arith in omega (arith, h, e))
 
 groups-small : (k n : ℕ) → n < 128 → groups k n ≡ n ∷ []
 unfolding groups
@@ -24,7 +25,8 @@ groups-more zero n h = let small : n < 128 = omega (arith, h) in groups-small 0 
 groups-more (suc k) n h = let more : n / 128 < 128 ^ suc k → groups k (n / 128) ≡ groups (suc k) (n / 128) = groups-more k (n / 128) in
     let split : (b : Bool) → nat_lt n 128 ≡ b → groups (suc k) n ≡ groups (suc (suc k)) n = elim [
       | true ↦ λ e. let small = ltb-true n 128 e in groups-small (suc k) n small ∙ sym (groups-small (suc (suc k)) n small)
-      | false ↦ λ e. let large = ltb-false n 128 e in groups-large k n large ∙ ap (λ r. (n % 128 + 128) ∷ r) (more (small_rest k n h)) ∙ sym (groups-large (suc k) n large)
+      | false ↦ λ e. let large =
+          ltb-false n 128 e in groups-large k n large ∙ ap (λ r. (n % 128 + 128) ∷ r) (more (small_rest k n h)) ∙ sym (groups-large (suc k) n large)
     ] in split (nat_lt n 128) refl
 
 pub varint_bytes-small : (n : ℕ) → n < 128 → varint_bytes n ≡ n ∷ []
@@ -48,7 +50,8 @@ groups_spelled (suc k) n h =
     let split : (b : Bool) → nat_lt n 128 ≡ b → Spells (groups (suc k) n) n = elim [
       | true ↦ λ e. let small : n < 128 = ltb-true n 128 e in rw (groups-small (suc k) n small) (small, refl)
       | false ↦ λ e. let large : 128 ≤ n = ltb-false n 128 e in
-          rw (groups-large k n large) (spells_more (n % 128 + 128) (n / 128) n (groups k (n / 128)) (omega arith) (omega arith) (omega arith) (groups_spelled k (n / 128) (small_rest k n h)))
+          rw (groups-large k n large) (spells_more (n % 128 + 128) (n / 128) n (groups k (n / 128)) (omega arith) (omega arith) (omega arith)
+          (groups_spelled k (n / 128) (small_rest k n h)))
     ] in split (nat_lt n 128) refl
 
 groups_short : (k n : ℕ) → length (groups k n) ≤ suc k

@@ -11,7 +11,8 @@ pub data Value : Type 0 where
   number : ℕ → Value
   bytes : List ℕ → Value
 
--- A varint that is read. Longer spellings than needed count, of at most ten bytes. Below 2 ^ 64 says that a tenth byte is at most 1.
+-- A varint that is read. Longer spellings than needed count, of at most ten bytes. Below 2 ^ 64 says that a tenth byte
+-- is at most 1.
 pub record IsVarint (text : List ℕ) (n : ℕ) : Type 0 where
   pub spelled : Spells text n
   pub short : length text ≤ 10
@@ -71,7 +72,8 @@ entry_of field = entry_by field.number field.body
 
 -- bytes that are a row of spelled fields, and the list of numbers and values that these hold
 abbrev pub IsRow : List ℕ → List (ℕ × Value) → Type 0
-IsRow text fields = (row : List Spelled) × AllByRecursion IsSpelled row × (text ≡ flat_map text_of row) × (fields ≡ filter_map entry_of row)
+IsRow text fields = (row : List Spelled) × AllByRecursion IsSpelled row × (text ≡ flat_map text_of row)
+    × (fields ≡ filter_map entry_of row)
 
 -- ---- fields of the program
 

@@ -22,10 +22,12 @@ abbrev pub body_at : ℕ → ℕ → List ℕ → Option (Option (ℕ × Value) 
 body_at kind n text =
     if kind == 0 then option_and_then (λ x. Some (Some (n, number x.0), x.1)) (varint_within 10 text)
     else if kind == 1 then option_and_then (λ x. Some (None, x.1)) (split_off 8 text)
-    else if kind == 2 then option_and_then (λ x. option_and_then (λ y. Some (Some (n, bytes y.0), y.1)) (split_off x.0 x.1)) (varint_within 10 text)
+    else if kind == 2 then option_and_then (λ x. option_and_then (λ y. Some (Some (n, bytes y.0), y.1))
+    (split_off x.0 x.1)) (varint_within 10 text)
     else if kind == 5 then option_and_then (λ x. Some (None, x.1)) (split_off 4 text)
     else None
 
 -- the field at the front, and the bytes behind it
 unfoldable pub field_at : List ℕ → Option (Option (ℕ × Value) × List ℕ)
-field_at text = option_and_then (λ x. if nat_lt x.0 (2 ^ 32) then (if x.0 / 8 == 0 then None else body_at (x.0 % 8) (x.0 / 8) x.1) else None) (varint_within 10 text)
+field_at text = option_and_then (λ x. if nat_lt x.0 (2 ^ 32) then
+    (if x.0 / 8 == 0 then None else body_at (x.0 % 8) (x.0 / 8) x.1) else None) (varint_within 10 text)

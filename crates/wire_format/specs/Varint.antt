@@ -1,7 +1,8 @@
 -- Base 128 varints.
 use Rattle.std.specs.Prelude.{◌≡◌, ℕ, ◌+◌, ◌*◌, ◌/◌, ◌%◌, ◌<◌, ◌≤◌, List, [], ◌∷◌, if◌then◌else◌, nat_lt, zero, suc}
 
--- What bytes spell a number: seven bits a byte, the low ones first, 128 added to each byte but the last. Longer spellings than needed count.
+-- What bytes spell a number: seven bits a byte, the low ones first, 128 added to each byte but the last. Longer
+-- spellings than needed count.
 abbrev pub Spells : List ℕ → ℕ → Type 0
 Spells [] n = ⊥
 Spells (b ∷ []) n = (b < 128) × (n ≡ b)

@@ -65,7 +65,8 @@ fn split_off(bytes: &[u8], size: u64) -> Option<(&[u8], &[u8])>
 
 /// The value at the front, by its wire type, and the bytes behind it. Groups have none.
 fn body_at(wire_type: u8, number: u32, bytes: &[u8]) -> Option<(Option<Field<'_>>, &[u8])>
-    ensures { option_map (λ x. (option_map field_of x.0, x.1.now)) result ≡ body_steps wire_type number bytes.now }
+    ensures { option_map (λ x. (option_map field_of x.0, x.1.now)) result
+        ≡ body_steps wire_type number bytes.now }
 {
     match wire_type {
         0 => {
@@ -116,7 +117,8 @@ pub fn read_fields(alloc: Global, bytes: &[u8]) -> Result<Vec<Field<'_>>, WireEr
     ensures found { IfOk result (λ fields. IsRow bytes.now (map field_of fields.items)) }
 
     // Bytes are refused only where they spell no list of fields.
-    ensures malformed { result ≡ Err errors.Malformed → (fields : List (ℕ × Value)) → IsRow bytes.now fields → ⊥ }
+    ensures malformed { result ≡ Err errors.Malformed → (fields : List (ℕ × Value))
+        → IsRow bytes.now fields → ⊥ }
 {
     let mut fields = Vec::new(alloc);
     let mut rest = bytes;
@@ -132,8 +134,10 @@ pub fn read_fields(alloc: Global, bytes: &[u8]) -> Result<Vec<Field<'_>>, WireEr
 
 /// Bytes spell at most one list of fields, and no spelling of a field begins another one.
 pub fn fields_are_unique()
-    ensures list { (bytes : List ℕ) (first second : List (ℕ × Value)) → IsRow bytes first → IsRow bytes second → first ≡ second }
-    ensures field { (first second : Spelled) (rest : List ℕ) → IsSpelled first → IsSpelled second → text_of first ++ rest ≡ text_of second → rest ≡ [] }
+    ensures list { (bytes : List ℕ) (first second : List (ℕ × Value)) → IsRow bytes first
+        → IsRow bytes second → first ≡ second }
+    ensures field { (first second : Spelled) (rest : List ℕ) → IsSpelled first → IsSpelled second
+        → text_of first ++ rest ≡ text_of second → rest ≡ [] }
 {}
 
 /// What is written is read again: the bytes of fields, one after the other, are a row of exactly

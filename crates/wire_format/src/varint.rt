@@ -57,5 +57,6 @@ pub fn varint_len(value: u64) -> usize
 pub fn varint_is_shortest()
     ensures spelled { (n : ℕ) → n < 2 ^ 64 → Spells (varint_bytes n) n }
     ensures short { (n : ℕ) → n < 2 ^ 64 → length (varint_bytes n) ≤ 10 }
-    ensures shortest { (n : ℕ) (bytes : List ℕ) → n < 2 ^ 64 → Spells bytes n → length (varint_bytes n) ≤ length bytes }
+    ensures shortest { (n : ℕ) (bytes : List ℕ) → n < 2 ^ 64 → Spells bytes n
+        → length (varint_bytes n) ≤ length bytes }
 {}

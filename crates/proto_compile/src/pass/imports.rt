@@ -18,7 +18,9 @@ use std::alloc::Global;
 pub(crate) fn link_all(alloc: Global, descs: &[FileDesc]) -> Result<Links, CompileError>
     requires { AreInNameOrder descs.now }
     ensures linked { IfOk result (AreLinked descs.now) }
-    ensures first { (limits : Limits) (sources files : List Source) → Describe limits sources files descs.now → IfErr result (IsRefusal (IsFirstFault limits sources)) }
+    ensures first { (limits : Limits) (sources files : List Source)
+        → Describe limits sources files descs.now
+        → IfErr result (IsRefusal (IsFirstFault limits sources)) }
 {
     match link(alloc, descs) {
         Ok(links) => Ok(links),

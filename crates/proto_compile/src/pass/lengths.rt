@@ -96,7 +96,8 @@ where
     requires resolved { All (λ desc. file_resolved desc ≡ true) descs.now }
     ensures bytes { IfOk result (λ all. map items_of all.items ≡ map file_desc_bytes descs.now) }
     ensures short { OnOk result (All (IsShort limits.now) descs.now) }
-    ensures first { (sources : List Source) (links : Linked) (index : Index) → AreResolved limits.now sources files.now descs.now links index
+    ensures first { (sources : List Source) (links : Linked) (index : Index)
+        → AreResolved limits.now sources files.now descs.now links index
         → IfErr result (IsRefusal (IsFirstFault limits.now sources)) }
 {
     let work = Writing { limits: *limits };

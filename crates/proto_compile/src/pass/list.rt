@@ -41,7 +41,8 @@ fn have_one_name(first: &Source, second: &Source) -> bool
 
 /// The first of sorted sources of which the next one has the name.
 fn first_repeated(files: &[Source]) -> Option<usize>
-    ensures { MatchOption result ((k : ℕ) → k + 1 < length files.now → name_at files.now k ≢ name_at files.now (k + 1)) (IsFirstRepeated files.now) }
+    ensures { MatchOption result ((k : ℕ) → k + 1 < length files.now
+        → name_at files.now k ≢ name_at files.now (k + 1)) (IsFirstRepeated files.now) }
 {
     for next in 1..files.len() {
         if is_repeated(files, next - 1) {

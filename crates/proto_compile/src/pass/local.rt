@@ -86,8 +86,10 @@ pub(crate) fn describe_all<'s, R, G>(
 where
     R: Threads + AllocGlobal + Sync,
     G: Gate + Sync,
-    ensures described { IfOk result (λ descs. AllZip (SourceDescribes limits.now) files.now descs.items) }
-    ensures first { (sources : List Source) → length sources ≤ limit_of limits.now limit.Files → AreByName sources files.now
+    ensures described { IfOk result (λ descs. AllZip (SourceDescribes limits.now) files.now
+        descs.items) }
+    ensures first { (sources : List Source) → length sources ≤ limit_of limits.now limit.Files
+        → AreByName sources files.now
         → IfErr result (IsRefusal (IsFirstFault limits.now sources)) }
 {
     let work = Describing { limits: *limits };

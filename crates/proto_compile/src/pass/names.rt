@@ -25,7 +25,8 @@ where
     R: Threads + AllocGlobal + Sync,
     requires { NoneBad descs.now }
     ensures indexed { IfOk result (Indexes descs.now limits.now) }
-    ensures first { (sources files : List Source) → Describe limits.now sources files descs.now → IfErr result (IsRefusal (IsFirstFault limits.now sources)) }
+    ensures first { (sources files : List Source) → Describe limits.now sources files descs.now
+        → IfErr result (IsRefusal (IsFirstFault limits.now sources)) }
 {
     let alloc = rt.alloc();
     match NameIndex::build(rt, descs, limits) {

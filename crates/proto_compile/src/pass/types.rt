@@ -97,8 +97,10 @@ fn put_types<'s>(
     descs: Vec<FileDesc<'s>>,
     types: Vec<Vec<NamedType>>,
 ) -> Result<Vec<FileDesc<'s>>, AllocError>
-    ensures { (links : Linked) (index : Index) → AllZipFrom (AreTypesOf links index) 0 descs.entry.items types.items
-        → IfOk result (λ typed. AllZipFrom (IsTypedWhole links index) 0 descs.entry.items typed.items) }
+    ensures { (links : Linked) (index : Index)
+        → AllZipFrom (AreTypesOf links index) 0 descs.entry.items types.items
+        → IfOk result (λ typed. AllZipFrom (IsTypedWhole links index) 0 descs.entry.items
+        typed.items) }
 {
     let mut left = VecDeque::from(types);
     let mut typed = Vec::with_capacity(alloc, descs.len())?;
@@ -127,9 +129,12 @@ where
     requires files { length files.now ≡ length descs.items }
     requires links { count_of links.now ≡ length descs.items }
     requires index { index.now.files ≡ length descs.items }
-    ensures typed { IfOk result (λ gs. AreTypedFrom links.now index.now 0 descs.entry.items gs.items) }
+    ensures typed { IfOk result (λ gs. AreTypedFrom links.now index.now 0 descs.entry.items
+        gs.items) }
     ensures whole { IfOk result (λ gs. All (λ desc. file_resolved desc ≡ true) gs.items) }
-    ensures first { (limits : Limits) (sources : List Source) → IsAnalysed limits sources files.now descs.entry.items links.now index.now → IfErr result (IsRefusal (IsFirstFault limits sources)) }
+    ensures first { (limits : Limits) (sources : List Source)
+        → IsAnalysed limits sources files.now descs.entry.items links.now index.now
+        → IfErr result (IsRefusal (IsFirstFault limits sources)) }
 {
     let alloc = workers.rt.alloc();
     let work = Resolving { links, index };

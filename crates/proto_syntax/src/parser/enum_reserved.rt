@@ -17,7 +17,9 @@ impl<'s, 't> Parser<'s, 't> {
     /// The end of a range, if there is one.
     #[tactic(auto, unfolding(crate::specs::Language::signed))]
     fn enum_range_end(&mut self) -> Result<Option<RangeEnd<SignedNumber>>, Stop>
-        ensures { Reads (optional (range_end_tree signed_tree)) (Optional (word "to" ⨾ (signed ∣ word "max"))) result self.old.rest.now self.new.rest.now }
+        ensures { Reads (optional (range_end_tree signed_tree))
+            (Optional (word "to" ⨾ (signed ∣ word "max"))) result self.old.rest.now
+            self.new.rest.now }
     {
         if !self.at_keyword("to") {
             return Ok(None);
@@ -49,7 +51,8 @@ impl<'s, 't> Parser<'s, 't> {
 
     /// A comma and what stands behind it.
     fn next_enum_range(&mut self) -> Result<Next<Range<SignedNumber>>, Stop>
-        ensures { Reads (next_tree (range_tree signed_tree)) (next_of erange) result self.old.rest.now self.new.rest.now }
+        ensures { Reads (next_tree (range_tree signed_tree)) (next_of erange) result
+            self.old.rest.now self.new.rest.now }
     {
         let comma = self.symbol(',')?;
         let item = self.enum_range()?;
@@ -59,7 +62,8 @@ impl<'s, 't> Parser<'s, 't> {
     /// All that follows with a comma before it.
     #[tactic(auto, using(crate::proofs::Loops::rows_none))]
     fn next_enum_ranges(&mut self) -> Result<Vec<Next<Range<SignedNumber>>>, Stop>
-        ensures { Reads (λ v. row (next_tree (range_tree signed_tree)) v.items) (Many (next_of erange)) result self.old.rest.now self.new.rest.now }
+        ensures { Reads (λ v. row (next_tree (range_tree signed_tree)) v.items)
+            (Many (next_of erange)) result self.old.rest.now self.new.rest.now }
     {
         let mut items = Vec::new(self.alloc);
         'each: while self.at_symbol(',') {
@@ -71,7 +75,8 @@ impl<'s, 't> Parser<'s, 't> {
 
     /// One or more, with commas between them.
     fn enum_ranges(&mut self) -> Result<Separated<Range<SignedNumber>>, Stop>
-        ensures { Reads (separated_tree (range_tree signed_tree)) (list_of erange) result self.old.rest.now self.new.rest.now }
+        ensures { Reads (separated_tree (range_tree signed_tree)) (list_of erange) result
+            self.old.rest.now self.new.rest.now }
     {
         let first = self.enum_range()?;
         let rest = self.next_enum_ranges()?;
@@ -84,7 +89,8 @@ impl<'s, 't> Parser<'s, 't> {
     /// What a `reserved` statement lists.
     #[tactic(auto, unfolding(crate::specs::Language::erange, crate::specs::Language::signed))]
     fn enum_reserved_items(&mut self) -> Result<ReservedItems<'s, SignedNumber>, Stop>
-        ensures { Reads (reserved_items_tree signed_tree) (list_of erange ∣ list_of str) result self.old.rest.now self.new.rest.now }
+        ensures { Reads (reserved_items_tree signed_tree) (list_of erange ∣ list_of str) result
+            self.old.rest.now self.new.rest.now }
     {
         if self.at_symbol('-') || self.at_number() {
             let ranges = self.enum_ranges()?;
@@ -97,7 +103,8 @@ impl<'s, 't> Parser<'s, 't> {
     /// A `reserved` statement of an enum.
     #[tactic(auto, unfolding(crate::specs::Language::ereserved))]
     pub(crate) fn enum_reserved(&mut self) -> Result<Reserved<'s, SignedNumber>, Stop>
-        ensures { Reads (reserved_tree signed_tree) ereserved result self.old.rest.now self.new.rest.now }
+        ensures { Reads (reserved_tree signed_tree) ereserved result self.old.rest.now
+            self.new.rest.now }
     {
         let keyword = self.keyword("reserved")?;
         let items = self.enum_reserved_items()?;

@@ -57,7 +57,8 @@ impl<'s, 't> Parser<'s, 't> {
     /// The statements of an enum, and the brace that closes it.
     #[tactic(auto, using(crate::proofs::Loops::closes_none))]
     fn enum_body(&mut self) -> Result<(Vec<EnumItem<'s>>, Span), Stop>
-        ensures { Reads (λ p. body_tree enum_item_tree p.0.items p.1) (Many enum_item ⨾ symbol "}") result self.old.rest.now self.new.rest.now }
+        ensures { Reads (λ p. body_tree enum_item_tree p.0.items p.1) (Many enum_item ⨾ symbol "}")
+            result self.old.rest.now self.new.rest.now }
     {
         let mut items = Vec::new(self.alloc);
         'each: while !self.at_symbol('}') {

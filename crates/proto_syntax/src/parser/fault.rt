@@ -33,7 +33,8 @@ fn is_left_out(kind: &TokenKind) -> bool
 
 /// The kind of a fault at a token behind another, where it is not the depth.
 fn kind_of(before: Option<&Token>, token: &Token) -> Kind
-    ensures { result ≡ spec.kind_of (option_map (λ t. spelled t.now) before.entry) (spelled token.now) }
+    ensures { result ≡ spec.kind_of (option_map (λ t. spelled t.now) before.entry)
+        (spelled token.now) }
 {
     let is_custom = match before {
         Some(before) => is_before_option_name(&before.kind) && is_symbol(&token.kind, '('),
@@ -51,7 +52,8 @@ fn kind_of(before: Option<&Token>, token: &Token) -> Kind
 /// The token before the one with this index.
 #[tactic(auto, using(crate::proofs::Spellings::spelling_at))]
 fn token_before<'a, 's>(tokens: &'a [Token<'s>], index: usize) -> Option<&'a Token<'s>>
-    ensures { option_map (λ t. spelled t.now) result ≡ spec.token_before (spellings tokens.now) index }
+    ensures { option_map (λ t. spelled t.now) result
+        ≡ spec.token_before (spellings tokens.now) index }
 {
     if index == 0 {
         return None;

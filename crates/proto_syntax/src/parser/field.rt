@@ -45,7 +45,8 @@ impl<'s, 't> Parser<'s, 't> {
     /// The label and the type of a field.
     #[tactic(auto, unfolding(crate::specs::Language::field_head))]
     fn field_head(&mut self) -> Result<(Option<Label>, FieldType<'s>), Stop>
-        ensures { Reads (λ p. field_head_tree p.0 p.1) field_head result self.old.rest.now self.new.rest.now }
+        ensures { Reads (λ p. field_head_tree p.0 p.1) field_head result self.old.rest.now
+            self.new.rest.now }
     {
         if self.at_keyword("optional") || self.at_keyword("repeated") {
             let label = self.label()?;

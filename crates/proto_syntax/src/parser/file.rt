@@ -63,7 +63,8 @@ impl<'s, 't> Parser<'s, 't> {
     /// A statement of a file.
     #[tactic(auto, using(crate::proofs::Levels::begins_message, crate::proofs::Levels::begins_import, crate::proofs::Levels::begins_option, crate::proofs::Levels::begins_service))]
     fn statement(&mut self, depth: u64) -> Result<Statement<'s>, Stop>
-        ensures { Reads statement_tree (statement (message depth)) result self.old.rest.now self.new.rest.now }
+        ensures { Reads statement_tree (statement (message depth)) result self.old.rest.now
+            self.new.rest.now }
     {
         if self.at_keyword("import") {
             return self.import().map(Statement::Import);
@@ -90,7 +91,8 @@ impl<'s, 't> Parser<'s, 't> {
     /// The statements up to the end of the tokens.
     #[tactic(auto, using(crate::proofs::Loops::ends_none))]
     fn statements(&mut self, depth: u64) -> Result<Vec<Statement<'s>>, Stop>
-        ensures { Gives (λ v. row statement_tree v.items) result self.new.rest.now (ended (read (Many (statement (message depth))) (spellings self.old.rest.now))) }
+        ensures { Gives (λ v. row statement_tree v.items) result self.new.rest.now
+            (ended (read (Many (statement (message depth))) (spellings self.old.rest.now))) }
     {
         let mut statements = Vec::new(self.alloc);
         'each: while !self.rest.is_empty() {
@@ -103,7 +105,8 @@ impl<'s, 't> Parser<'s, 't> {
     /// A file, whose messages have at most that depth.
     #[tactic(auto, using(crate::proofs::Loops::ended_mapped), unfolding(crate::specs::Language::file))]
     pub(crate) fn file(&mut self, depth: u64) -> Result<FileTree<'s>, Stop>
-        ensures { Gives file_tree result self.new.rest.now (ended (read (file depth) (spellings self.old.rest.now))) }
+        ensures { Gives file_tree result self.new.rest.now
+            (ended (read (file depth) (spellings self.old.rest.now))) }
     {
         let syntax = self.syntax()?;
         let statements = self.statements(depth)?;

@@ -15,7 +15,8 @@ impl<'s, 't> Parser<'s, 't> {
     /// The string literals up to another token.
     #[tactic(auto, using(crate::proofs::Loops::rows_none))]
     fn strings(&mut self) -> Result<Vec<StringLiteral<'s>>, Stop>
-        ensures { Reads (λ v. row string_tree v.items) (Many string_token) result self.old.rest.now self.new.rest.now }
+        ensures { Reads (λ v. row string_tree v.items) (Many string_token) result self.old.rest.now
+            self.new.rest.now }
     {
         let mut strings = Vec::new(self.alloc);
         'each: while self.at_string() {
@@ -50,7 +51,8 @@ impl<'s, 't> Parser<'s, 't> {
 
     /// The sign of a number, if there is one.
     fn sign(&mut self) -> Result<Option<Sign>, Stop>
-        ensures { Reads (optional sign_tree) (Optional (symbol "-" ∣ symbol "+")) result self.old.rest.now self.new.rest.now }
+        ensures { Reads (optional sign_tree) (Optional (symbol "-" ∣ symbol "+")) result
+            self.old.rest.now self.new.rest.now }
     {
         if self.at_symbol('-') {
             let span = self.symbol('-')?;
@@ -66,7 +68,8 @@ impl<'s, 't> Parser<'s, 't> {
     /// A number with an optional sign.
     #[tactic(auto, unfolding(crate::specs::Language::constant_number))]
     fn constant_number(&mut self) -> Result<ConstantNumber, Stop>
-        ensures { Reads constant_number_tree constant_number result self.old.rest.now self.new.rest.now }
+        ensures { Reads constant_number_tree constant_number result self.old.rest.now
+            self.new.rest.now }
     {
         let sign = self.sign()?;
         let number = self.number()?;

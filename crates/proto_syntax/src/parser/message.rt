@@ -17,7 +17,9 @@ impl<'s, 't> Parser<'s, 't> {
     /// A statement that begins with the word `map`: a map field, or a field whose type begins so.
     #[tactic(auto, using(crate::proofs::Items::item_map, crate::proofs::Items::item_named), unfolding(crate::specs::Language::map_or_field, crate::specs::Language::map_type))]
     fn map_or_field(&mut self) -> Result<MessageItem<'s>, Stop>
-        ensures { Gives message_item_tree result self.new.rest.now (mapped (λ x. Right (Right (Right (Right (Right (Left x)))))) (read map_or_field (spellings self.old.rest.now))) }
+        ensures { Gives message_item_tree result self.new.rest.now
+            (mapped (λ x. Right (Right (Right (Right (Right (Left x))))))
+            (read map_or_field (spellings self.old.rest.now))) }
     {
         let first = self.word_name("map")?;
         if self.at_symbol('<') {
@@ -48,7 +50,8 @@ impl<'s, 't> Parser<'s, 't> {
     #[cycle(message)]
     #[tactic(auto, using(crate::proofs::Levels::begins_message, crate::proofs::Levels::begins_option, crate::proofs::Levels::begins_oneof, crate::proofs::Levels::begins_reserved, crate::proofs::Levels::begins_map, crate::proofs::Items::item_message, crate::proofs::Items::item_enum, crate::proofs::Items::item_option, crate::proofs::Items::item_oneof, crate::proofs::Items::item_reserved, crate::proofs::Items::item_empty))]
     fn message_item(&mut self, depth: u64) -> Result<MessageItem<'s>, Stop>
-        ensures { Reads message_item_tree (message_item (message depth)) result self.old.rest.now self.new.rest.now }
+        ensures { Reads message_item_tree (message_item (message depth)) result self.old.rest.now
+            self.new.rest.now }
     {
         if self.at_keyword("message") {
             return self.message(depth).map(MessageItem::Message);
@@ -80,7 +83,9 @@ impl<'s, 't> Parser<'s, 't> {
     #[cycle(message)]
     #[tactic(auto, using(crate::proofs::Loops::closes_none))]
     fn message_body(&mut self, depth: u64) -> Result<(Vec<MessageItem<'s>>, Span), Stop>
-        ensures { Reads (λ p. body_tree message_item_tree p.0.items p.1) (Many (message_item (message depth)) ⨾ symbol "}") result self.old.rest.now self.new.rest.now }
+        ensures { Reads (λ p. body_tree message_item_tree p.0.items p.1)
+            (Many (message_item (message depth)) ⨾ symbol "}") result self.old.rest.now
+            self.new.rest.now }
     {
         let mut items = Vec::new(self.alloc);
         'each: while !self.at_symbol('}') {

@@ -25,7 +25,8 @@ impl<'s, 't> Parser<'s, 't> {
     /// The parts of a name behind its first, as long as a dot follows.
     #[tactic(auto, using(crate::proofs::Loops::rows_none), unfolding(crate::specs::Language::parts))]
     pub(crate) fn parts(&mut self) -> Result<Vec<NamePart<'s>>, Stop>
-        ensures { Reads (λ v. row part_tree v.items) parts result self.old.rest.now self.new.rest.now }
+        ensures { Reads (λ v. row part_tree v.items) parts result self.old.rest.now
+            self.new.rest.now }
     {
         let mut parts = Vec::new(self.alloc);
         'each: while self.at_symbol('.') {
@@ -51,7 +52,8 @@ impl<'s, 't> Parser<'s, 't> {
     /// The name of a message or an enum.
     #[tactic(auto, unfolding(crate::specs::Language::named_but))]
     pub(crate) fn type_name(&mut self, position: Position) -> Result<TypeName<'s>, Stop>
-        ensures { Reads named_tree (named_but (excluded_words position)) result self.old.rest.now self.new.rest.now }
+        ensures { Reads named_tree (named_but (excluded_words position)) result self.old.rest.now
+            self.new.rest.now }
     {
         if self.at_symbol('.') {
             let dot = self.symbol('.')?;
@@ -75,7 +77,8 @@ impl<'s, 't> Parser<'s, 't> {
     /// The type of a field.
     #[tactic(auto, unfolding(crate::specs::Language::type_but))]
     pub(crate) fn field_type(&mut self, position: Position) -> Result<FieldType<'s>, Stop>
-        ensures { Reads type_tree (type_but (excluded_words position)) result self.old.rest.now self.new.rest.now }
+        ensures { Reads type_tree (type_but (excluded_words position)) result self.old.rest.now
+            self.new.rest.now }
     {
         if self.at_scalar() {
             let (scalar, span) = self.scalar()?;

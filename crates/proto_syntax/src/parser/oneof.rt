@@ -34,7 +34,8 @@ impl<'s, 't> Parser<'s, 't> {
     /// The statements of a oneof, and the brace that closes it.
     #[tactic(auto, using(crate::proofs::Loops::closes_none))]
     fn oneof_body(&mut self) -> Result<(Vec<OneofItem<'s>>, Span), Stop>
-        ensures { Reads (λ p. body_tree oneof_item_tree p.0.items p.1) (Many oneof_item ⨾ symbol "}") result self.old.rest.now self.new.rest.now }
+        ensures { Reads (λ p. body_tree oneof_item_tree p.0.items p.1)
+            (Many oneof_item ⨾ symbol "}") result self.old.rest.now self.new.rest.now }
     {
         let mut items = Vec::new(self.alloc);
         'each: while !self.at_symbol('}') {

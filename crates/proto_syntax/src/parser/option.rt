@@ -29,7 +29,8 @@ impl<'s, 't> Parser<'s, 't> {
 
     /// A comma and what stands behind it.
     fn next_setting(&mut self) -> Result<Next<Setting<'s>>, Stop>
-        ensures { Reads (next_tree setting_tree) (next_of setting) result self.old.rest.now self.new.rest.now }
+        ensures { Reads (next_tree setting_tree) (next_of setting) result self.old.rest.now
+            self.new.rest.now }
     {
         let comma = self.symbol(',')?;
         let item = self.setting()?;
@@ -39,7 +40,8 @@ impl<'s, 't> Parser<'s, 't> {
     /// All that follows with a comma before it.
     #[tactic(auto, using(crate::proofs::Loops::rows_none))]
     fn next_settings(&mut self) -> Result<Vec<Next<Setting<'s>>>, Stop>
-        ensures { Reads (λ v. row (next_tree setting_tree) v.items) (Many (next_of setting)) result self.old.rest.now self.new.rest.now }
+        ensures { Reads (λ v. row (next_tree setting_tree) v.items) (Many (next_of setting)) result
+            self.old.rest.now self.new.rest.now }
     {
         let mut items = Vec::new(self.alloc);
         'each: while self.at_symbol(',') {
@@ -51,7 +53,8 @@ impl<'s, 't> Parser<'s, 't> {
 
     /// One or more, with commas between them.
     fn settings(&mut self) -> Result<Separated<Setting<'s>>, Stop>
-        ensures { Reads (separated_tree setting_tree) (list_of setting) result self.old.rest.now self.new.rest.now }
+        ensures { Reads (separated_tree setting_tree) (list_of setting) result self.old.rest.now
+            self.new.rest.now }
     {
         let first = self.setting()?;
         let rest = self.next_settings()?;
@@ -79,7 +82,8 @@ impl<'s, 't> Parser<'s, 't> {
     /// Options in brackets, if there are any.
     #[tactic(auto, unfolding(crate::specs::Language::options))]
     pub(crate) fn optional_options(&mut self) -> Result<Option<Options<'s>>, Stop>
-        ensures { Reads (optional options_tree) (Optional options) result self.old.rest.now self.new.rest.now }
+        ensures { Reads (optional options_tree) (Optional options) result self.old.rest.now
+            self.new.rest.now }
     {
         if self.at_symbol('[') {
             let options = self.options()?;

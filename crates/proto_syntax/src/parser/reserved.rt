@@ -17,7 +17,8 @@ use proto_tree::{
 impl<'s, 't> Parser<'s, 't> {
     /// A comma and what stands behind it.
     fn next_string(&mut self) -> Result<Next<StringValue<'s>>, Stop>
-        ensures { Reads (next_tree str_tree) (next_of str) result self.old.rest.now self.new.rest.now }
+        ensures { Reads (next_tree str_tree) (next_of str) result self.old.rest.now
+            self.new.rest.now }
     {
         let comma = self.symbol(',')?;
         let item = self.string()?;
@@ -27,7 +28,8 @@ impl<'s, 't> Parser<'s, 't> {
     /// All that follows with a comma before it.
     #[tactic(auto, using(crate::proofs::Loops::rows_none))]
     fn next_strings(&mut self) -> Result<Vec<Next<StringValue<'s>>>, Stop>
-        ensures { Reads (λ v. row (next_tree str_tree) v.items) (Many (next_of str)) result self.old.rest.now self.new.rest.now }
+        ensures { Reads (λ v. row (next_tree str_tree) v.items) (Many (next_of str)) result
+            self.old.rest.now self.new.rest.now }
     {
         let mut items = Vec::new(self.alloc);
         'each: while self.at_symbol(',') {
@@ -39,7 +41,8 @@ impl<'s, 't> Parser<'s, 't> {
 
     /// One or more, with commas between them.
     pub(crate) fn string_list(&mut self) -> Result<Separated<StringValue<'s>>, Stop>
-        ensures { Reads (separated_tree str_tree) (list_of str) result self.old.rest.now self.new.rest.now }
+        ensures { Reads (separated_tree str_tree) (list_of str) result self.old.rest.now
+            self.new.rest.now }
     {
         let first = self.string()?;
         let rest = self.next_strings()?;
@@ -51,7 +54,9 @@ impl<'s, 't> Parser<'s, 't> {
 
     /// The end of a range, if there is one.
     fn range_end(&mut self) -> Result<Option<RangeEnd<NumberLiteral>>, Stop>
-        ensures { Reads (optional (range_end_tree number_tree)) (Optional (word "to" ⨾ (number ∣ word "max"))) result self.old.rest.now self.new.rest.now }
+        ensures { Reads (optional (range_end_tree number_tree))
+            (Optional (word "to" ⨾ (number ∣ word "max"))) result self.old.rest.now
+            self.new.rest.now }
     {
         if !self.at_keyword("to") {
             return Ok(None);
@@ -83,7 +88,8 @@ impl<'s, 't> Parser<'s, 't> {
 
     /// A comma and what stands behind it.
     fn next_range(&mut self) -> Result<Next<Range<NumberLiteral>>, Stop>
-        ensures { Reads (next_tree (range_tree number_tree)) (next_of range) result self.old.rest.now self.new.rest.now }
+        ensures { Reads (next_tree (range_tree number_tree)) (next_of range) result
+            self.old.rest.now self.new.rest.now }
     {
         let comma = self.symbol(',')?;
         let item = self.range()?;
@@ -93,7 +99,8 @@ impl<'s, 't> Parser<'s, 't> {
     /// All that follows with a comma before it.
     #[tactic(auto, using(crate::proofs::Loops::rows_none))]
     fn next_ranges(&mut self) -> Result<Vec<Next<Range<NumberLiteral>>>, Stop>
-        ensures { Reads (λ v. row (next_tree (range_tree number_tree)) v.items) (Many (next_of range)) result self.old.rest.now self.new.rest.now }
+        ensures { Reads (λ v. row (next_tree (range_tree number_tree)) v.items)
+            (Many (next_of range)) result self.old.rest.now self.new.rest.now }
     {
         let mut items = Vec::new(self.alloc);
         'each: while self.at_symbol(',') {
@@ -105,7 +112,8 @@ impl<'s, 't> Parser<'s, 't> {
 
     /// One or more, with commas between them.
     fn ranges(&mut self) -> Result<Separated<Range<NumberLiteral>>, Stop>
-        ensures { Reads (separated_tree (range_tree number_tree)) (list_of range) result self.old.rest.now self.new.rest.now }
+        ensures { Reads (separated_tree (range_tree number_tree)) (list_of range) result
+            self.old.rest.now self.new.rest.now }
     {
         let first = self.range()?;
         let rest = self.next_ranges()?;
@@ -118,7 +126,8 @@ impl<'s, 't> Parser<'s, 't> {
     /// What a `reserved` statement lists.
     #[tactic(auto, unfolding(crate::specs::Language::range))]
     fn reserved_items(&mut self) -> Result<ReservedItems<'s, NumberLiteral>, Stop>
-        ensures { Reads (reserved_items_tree number_tree) (list_of range ∣ list_of str) result self.old.rest.now self.new.rest.now }
+        ensures { Reads (reserved_items_tree number_tree) (list_of range ∣ list_of str) result
+            self.old.rest.now self.new.rest.now }
     {
         if self.at_number() {
             let ranges = self.ranges()?;
@@ -131,7 +140,8 @@ impl<'s, 't> Parser<'s, 't> {
     /// A `reserved` statement of a message.
     #[tactic(auto, unfolding(crate::specs::Language::reserved))]
     pub(crate) fn reserved(&mut self) -> Result<Reserved<'s, NumberLiteral>, Stop>
-        ensures { Reads (reserved_tree number_tree) reserved result self.old.rest.now self.new.rest.now }
+        ensures { Reads (reserved_tree number_tree) reserved result self.old.rest.now
+            self.new.rest.now }
     {
         let keyword = self.keyword("reserved")?;
         let items = self.reserved_items()?;

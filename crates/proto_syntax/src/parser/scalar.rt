@@ -9,7 +9,8 @@ use proto_base::scalar_type::{KeyType, ScalarType};
 
 /// The scalar type with this word.
 pub(crate) fn scalar_type(word: &str) -> Option<ScalarType>
-    ensures { MatchOption result (among word.now scalar_words ≡ false) (λ scalar. word_of_scalar scalar ≡ word.now) }
+    ensures { MatchOption result (among word.now scalar_words ≡ false)
+        (λ scalar. word_of_scalar scalar ≡ word.now) }
 {
     match word {
         "double" => Some(ScalarType::Double),
@@ -33,7 +34,8 @@ pub(crate) fn scalar_type(word: &str) -> Option<ScalarType>
 
 /// The type of a map's key with this word.
 pub(crate) fn key_type(word: &str) -> Option<KeyType>
-    ensures { MatchOption result (among word.now key_words ≡ false) (λ key. word_of_key key ≡ word.now) }
+    ensures { MatchOption result (among word.now key_words ≡ false)
+        (λ key. word_of_key key ≡ word.now) }
 {
     match word {
         "int32" => Some(KeyType::Int32),

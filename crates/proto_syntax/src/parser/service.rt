@@ -18,7 +18,9 @@ use proto_tree::{Rpc, RpcBlock, RpcBody, RpcItem, RpcType, Service, ServiceItem,
 impl<'s, 't> Parser<'s, 't> {
     /// The name of a type behind the mark `stream`, or without it.
     fn streamed_type(&mut self) -> Result<(Option<Span>, TypeName<'s>), Stop>
-        ensures { Reads (λ p. streamed_tree p.0 p.1) ((word "stream" ⨾ named_but []) ∣ named_but (codes "stream" ∷ [])) result self.old.rest.now self.new.rest.now }
+        ensures { Reads (λ p. streamed_tree p.0 p.1)
+            ((word "stream" ⨾ named_but []) ∣ named_but (codes "stream" ∷ [])) result
+            self.old.rest.now self.new.rest.now }
     {
         if self.at_keyword("stream") {
             let stream = self.keyword("stream")?;
@@ -61,7 +63,8 @@ impl<'s, 't> Parser<'s, 't> {
     /// The statements of a method, and the brace that closes it.
     #[tactic(auto, using(crate::proofs::Loops::closes_none))]
     fn rpc_items(&mut self) -> Result<(Vec<RpcItem<'s>>, Span), Stop>
-        ensures { Reads (λ p. body_tree rpc_item_tree p.0.items p.1) (Many rpc_item ⨾ symbol "}") result self.old.rest.now self.new.rest.now }
+        ensures { Reads (λ p. body_tree rpc_item_tree p.0.items p.1) (Many rpc_item ⨾ symbol "}")
+            result self.old.rest.now self.new.rest.now }
     {
         let mut items = Vec::new(self.alloc);
         'each: while !self.at_symbol('}') {
@@ -131,7 +134,8 @@ impl<'s, 't> Parser<'s, 't> {
     /// The statements of a service, and the brace that closes it.
     #[tactic(auto, using(crate::proofs::Loops::closes_none))]
     fn service_body(&mut self) -> Result<(Vec<ServiceItem<'s>>, Span), Stop>
-        ensures { Reads (λ p. body_tree service_item_tree p.0.items p.1) (Many service_item ⨾ symbol "}") result self.old.rest.now self.new.rest.now }
+        ensures { Reads (λ p. body_tree service_item_tree p.0.items p.1)
+            (Many service_item ⨾ symbol "}") result self.old.rest.now self.new.rest.now }
     {
         let mut items = Vec::new(self.alloc);
         'each: while !self.at_symbol('}') {

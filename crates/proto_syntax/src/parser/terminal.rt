@@ -110,7 +110,8 @@ impl<'s, 't> Parser<'s, 't> {
 
     /// This symbol.
     pub(crate) fn symbol(&mut self, symbol: char) -> Result<Span, Stop>
-        ensures { Reads (symbol_tree symbol) (One (Symbol symbol)) result self.old.rest.now self.new.rest.now }
+        ensures { Reads (symbol_tree symbol) (One (Symbol symbol)) result self.old.rest.now
+            self.new.rest.now }
     {
         match self.rest {
             [token, rest @ ..] if is_symbol(&token.kind, symbol) => {
@@ -123,7 +124,8 @@ impl<'s, 't> Parser<'s, 't> {
 
     /// This symbol, if it is the next token.
     pub(crate) fn optional_symbol(&mut self, symbol: char) -> Result<Option<Span>, Stop>
-        ensures { Reads (optional (symbol_tree symbol)) (Optional (One (Symbol symbol))) result self.old.rest.now self.new.rest.now }
+        ensures { Reads (optional (symbol_tree symbol)) (Optional (One (Symbol symbol))) result
+            self.old.rest.now self.new.rest.now }
     {
         if self.at_symbol(symbol) {
             let span = self.symbol(symbol)?;
@@ -134,7 +136,8 @@ impl<'s, 't> Parser<'s, 't> {
 
     /// This word.
     pub(crate) fn keyword(&mut self, word: &str) -> Result<Span, Stop>
-        ensures { Reads (word_tree word.now) (One (OneOf (word.now ∷ []))) result self.old.rest.now self.new.rest.now }
+        ensures { Reads (word_tree word.now) (One (OneOf (word.now ∷ []))) result self.old.rest.now
+            self.new.rest.now }
     {
         match self.rest {
             [token, rest @ ..] if is_keyword(&token.kind, word) => {
@@ -147,7 +150,8 @@ impl<'s, 't> Parser<'s, 't> {
 
     /// This word, if it is the next token.
     pub(crate) fn optional_keyword(&mut self, word: &str) -> Result<Option<Span>, Stop>
-        ensures { Reads (optional (word_tree word.now)) (Optional (One (OneOf (word.now ∷ [])))) result self.old.rest.now self.new.rest.now }
+        ensures { Reads (optional (word_tree word.now)) (Optional (One (OneOf (word.now ∷ []))))
+            result self.old.rest.now self.new.rest.now }
     {
         if self.at_keyword(word) {
             let span = self.keyword(word)?;
@@ -191,7 +195,8 @@ impl<'s, 't> Parser<'s, 't> {
     /// This word, as a name.
     #[tactic(auto, using(crate::proofs::WordTests::fits_word))]
     pub(crate) fn word_name(&mut self, word: &str) -> Result<Name<'s>, Stop>
-        ensures gives { Reads name_tree (One (OneOf (word.now ∷ []))) result self.old.rest.now self.new.rest.now }
+        ensures gives { Reads name_tree (One (OneOf (word.now ∷ []))) result self.old.rest.now
+            self.new.rest.now }
         ensures text { IfOk result (λ name. name.text ≡ word.now) }
     {
         if let [token, rest @ ..] = self.rest
@@ -209,7 +214,8 @@ impl<'s, 't> Parser<'s, 't> {
 
     /// The first word of the name of a type, without a leading dot.
     pub(crate) fn type_word(&mut self, position: Position) -> Result<Name<'s>, Stop>
-        ensures { Reads name_tree (One (NoneOf (scalar_words ++ excluded_words position))) result self.old.rest.now self.new.rest.now }
+        ensures { Reads name_tree (One (NoneOf (scalar_words ++ excluded_words position))) result
+            self.old.rest.now self.new.rest.now }
     {
         if let [token, rest @ ..] = self.rest
             && let TokenKind::Identifier(text) = &token.kind
@@ -226,7 +232,8 @@ impl<'s, 't> Parser<'s, 't> {
 
     /// The name of an enum's value.
     pub(crate) fn value_name(&mut self) -> Result<Name<'s>, Stop>
-        ensures { Reads name_tree (One (NoneOf (codes "option" ∷ codes "reserved" ∷ []))) result self.old.rest.now self.new.rest.now }
+        ensures { Reads name_tree (One (NoneOf (codes "option" ∷ codes "reserved" ∷ []))) result
+            self.old.rest.now self.new.rest.now }
     {
         if let [token, rest @ ..] = self.rest
             && let TokenKind::Identifier(text) = &token.kind
@@ -243,7 +250,8 @@ impl<'s, 't> Parser<'s, 't> {
 
     /// The word of a scalar type.
     pub(crate) fn scalar(&mut self) -> Result<(ScalarType, Span), Stop>
-        ensures { Reads (λ s. word_tree (word_of_scalar s.0) s.1) (One (OneOf scalar_words)) result self.old.rest.now self.new.rest.now }
+        ensures { Reads (λ s. word_tree (word_of_scalar s.0) s.1) (One (OneOf scalar_words)) result
+            self.old.rest.now self.new.rest.now }
     {
         if let [token, rest @ ..] = self.rest
             && let TokenKind::Identifier(text) = &token.kind
@@ -257,7 +265,8 @@ impl<'s, 't> Parser<'s, 't> {
 
     /// The word of the type of a map's key.
     pub(crate) fn key(&mut self) -> Result<(KeyType, Span), Stop>
-        ensures { Reads (λ k. word_tree (word_of_key k.0) k.1) (One (OneOf key_words)) result self.old.rest.now self.new.rest.now }
+        ensures { Reads (λ k. word_tree (word_of_key k.0) k.1) (One (OneOf key_words)) result
+            self.old.rest.now self.new.rest.now }
     {
         if let [token, rest @ ..] = self.rest
             && let TokenKind::Identifier(text) = &token.kind

@@ -65,12 +65,14 @@ Where: no file, and line 1, column 1.
     :1:1: TooManyFiles
 
 Cure: Compile a folder further below.",
-        Kind::FileNameTwice => "Two sources have one name. A folder has no two such files: it is met only where sources come from elsewhere.
+        Kind::FileNameTwice =>
+            "Two sources have one name. A folder has no two such files: it is met only where sources come from elsewhere.
 
 Where: the start of the file.
 
 Cure: Give each source a name of its own.",
-        Kind::NotUtf8 => r#"The file holds bytes that are no UTF-8, at the first byte that belongs to no whole character. Comments and strings count.
+        Kind::NotUtf8 =>
+            r#"The file holds bytes that are no UTF-8, at the first byte that belongs to no whole character. Comments and strings count.
 
 Where: that byte.
 
@@ -79,7 +81,8 @@ Where: that byte.
     a.proto:2:7: NotUtf8
 
 Cure: Save the file as UTF-8 (`iconv -f latin1 -t utf-8`)."#,
-        Kind::BadByte => r#"A byte outside comments and strings that begins no token: a control character, or one beyond ASCII.
+        Kind::BadByte =>
+            r#"A byte outside comments and strings that begins no token: a control character, or one beyond ASCII.
 
 Where: that byte.
 
@@ -89,7 +92,8 @@ Where: that byte.
     a.proto:2:9: BadByte
 
 Cure: Names are ASCII letters, digits and `_`. An invisible character, such as a no-break space, is often what stands there."#,
-        Kind::BadNumber => r#"No digit stands behind `0x`, or a letter, a digit, `_` or `.` follows a number directly. Floating-point numbers are no tokens here.
+        Kind::BadNumber =>
+            r#"No digit stands behind `0x`, or a letter, a digit, `_` or `.` follows a number directly. Floating-point numbers are no tokens here.
 
 Where: the number's first digit.
 
@@ -109,7 +113,8 @@ Where: the number's first digit.
     a.proto:2:23: NumberTooBig
 
 Cure: Field numbers go to 536,870,911, enum numbers to 2,147,483,647."#,
-        Kind::BadEscape => r#"A backslash in a string that begins no escape, or whose digits are missing or name no character.
+        Kind::BadEscape =>
+            r#"A backslash in a string that begins no escape, or whose digits are missing or name no character.
 
 Where: the backslash, or the opening quote where each escape is one and the value of the whole string is no UTF-8.
 
@@ -119,7 +124,8 @@ Where: the backslash, or the opening quote where each escape is one and the valu
     a.proto:2:25: BadEscape
 
 Cure: Write `\\` for a backslash. The escapes are those of the specification; a pair of surrogates is not taken as one character."#,
-        Kind::UnclosedString => r#"A string ends at the end of its line or of the file, without its quote.
+        Kind::UnclosedString =>
+            r#"A string ends at the end of its line or of the file, without its quote.
 
 Where: its opening quote.
 
@@ -158,7 +164,8 @@ Where: that token.
     a.proto:2:21: Unexpected
 
 Cure: Look at what stands before it: most often a `;`, a `=` or a type is missing."#,
-        Kind::CustomOption => r#"An option's name begins with `(`: an option that somebody declared with `extend`. Custom options are left out of this language.
+        Kind::CustomOption =>
+            r#"An option's name begins with `(`: an option that somebody declared with `extend`. Custom options are left out of this language.
 
 Where: the `(`.
 
@@ -168,7 +175,8 @@ Where: the `(`.
     a.proto:2:20: CustomOption
 
 Cure: Keep such options in the sources of the tools that read them; they are not written to a descriptor here."#,
-        Kind::LeftOut => r#"A word of proto2 or of editions where it would begin a statement: `extend`, `extensions`, `group`, `required`, `weak`.
+        Kind::LeftOut =>
+            r#"A word of proto2 or of editions where it would begin a statement: `extend`, `extensions`, `group`, `required`, `weak`.
 
 Where: that word.
 
@@ -226,7 +234,8 @@ Where: the later import's string.
     a.proto:2:20: ImportTwice
 
 Cure: Leave one of them out."#,
-        Kind::UnknownOption => r#"The element may not have an option of this name. The options of each element are listed in docs/LANGUAGE.md.
+        Kind::UnknownOption =>
+            r#"The element may not have an option of this name. The options of each element are listed in docs/LANGUAGE.md.
 
 Where: the first token of the option's name.
 
@@ -246,7 +255,8 @@ Where: the first token of the option's name.
     a.proto:2:34: OptionTwice
 
 Cure: Leave one of them out."#,
-        Kind::BadOptionValue => r#"The option takes a value of another kind: a string, a number, `true` or `false`, or one of its words.
+        Kind::BadOptionValue =>
+            r#"The option takes a value of another kind: a string, a number, `true` or `false`, or one of its words.
 
 Where: the first token of the value.
 
@@ -256,7 +266,8 @@ Where: the first token of the value.
     a.proto:2:21: BadOptionValue
 
 Cure: Look the option up in docs/LANGUAGE.md."#,
-        Kind::FieldNumberRange => r#"A field number or a bound of a reserved range that is not 1 to 536,870,911, or a field number from 19,000 to 19,999, which are kept for implementations.
+        Kind::FieldNumberRange =>
+            r#"A field number or a bound of a reserved range that is not 1 to 536,870,911, or a field number from 19,000 to 19,999, which are kept for implementations.
 
 Where: the number.
 
@@ -266,7 +277,8 @@ Where: the number.
     a.proto:2:23: FieldNumberRange
 
 Cure: Take another number."#,
-        Kind::FieldNumberTwice => r#"An earlier field of the message has this number. Members of oneofs are fields of the message.
+        Kind::FieldNumberTwice =>
+            r#"An earlier field of the message has this number. Members of oneofs are fields of the message.
 
 Where: the later field's number.
 
@@ -326,7 +338,8 @@ Where: the range's first token.
     a.proto:2:22: ReservedBackwards
 
 Cure: Exchange its bounds."#,
-        Kind::JsonNameTwice => r#"Two fields of a message have one name in JSON. `a_b` is `aB` there, unless `json_name` says something else.
+        Kind::JsonNameTwice =>
+            r#"Two fields of a message have one name in JSON. `a_b` is `aB` there, unless `json_name` says something else.
 
 Where: the later field's name.
 
@@ -336,7 +349,8 @@ Where: the later field's name.
     a.proto:2:34: JsonNameTwice
 
 Cure: Rename one of them, or give it a `json_name`."#,
-        Kind::PackedOnWrongKind => r#"`packed = true` on a field that is not repeated, is a string or bytes, or is a map.
+        Kind::PackedOnWrongKind =>
+            r#"`packed = true` on a field that is not repeated, is a string or bytes, or is a map.
 
 Where: the option's name.
 
@@ -346,7 +360,8 @@ Where: the option's name.
     a.proto:2:26: PackedOnWrongKind
 
 Cure: Leave the option out: repeated numbers are packed in proto3 anyway."#,
-        Kind::JstypeOnWrongKind => r#"`jstype` says string or number on a field whose type is no integer of 64 bits.
+        Kind::JstypeOnWrongKind =>
+            r#"`jstype` says string or number on a field whose type is no integer of 64 bits.
 
 Where: the option's name.
 
@@ -366,7 +381,8 @@ Where: the enum's name.
     a.proto:2:6: EnumEmpty
 
 Cure: Give it a value of the number 0."#,
-        Kind::EnumFirstNotZero => r#"The first value of an enum is not 0, which a field has that is not set.
+        Kind::EnumFirstNotZero =>
+            r#"The first value of an enum is not 0, which a field has that is not set.
 
 Where: the number, or its `-`.
 
@@ -376,7 +392,8 @@ Where: the number, or its `-`.
     a.proto:2:14: EnumFirstNotZero
 
 Cure: Begin with a value of the number 0, as `E_UNSPECIFIED = 0;`."#,
-        Kind::EnumNumberRange => r#"An enum's number or a bound of its reserved range that does not fit 32 bits with a sign.
+        Kind::EnumNumberRange =>
+            r#"An enum's number or a bound of its reserved range that does not fit 32 bits with a sign.
 
 Where: the number, or its `-`.
 
@@ -406,7 +423,8 @@ Where: the oneof's name.
     a.proto:2:19: OneofEmpty
 
 Cure: Give it a field, or leave it out."#,
-        Kind::NameTooLong => r#"A name has more than 255 bytes, or a full name, with its package and the messages around it, more than 1,023.
+        Kind::NameTooLong =>
+            r#"A name has more than 255 bytes, or a full name, with its package and the messages around it, more than 1,023.
 
 Where: the name; for a made one its field's name; for a package its first part.
 
@@ -415,7 +433,8 @@ Where: the name; for a made one its field's name; for a package its first part.
     a.proto:2:9: NameTooLong
 
 Cure: Shorten it."#,
-        Kind::ImportMissing => r#"No file below the root has this name. A name is the path from the root, with `/`.
+        Kind::ImportMissing =>
+            r#"No file below the root has this name. A name is the path from the root, with `/`.
 
 Where: the import's string.
 
@@ -435,7 +454,8 @@ Where: the import's string.
     a.proto:2:8: ImportCycle
 
 Cure: Move what both need to a third file."#,
-        Kind::NameTwice => r#"Another element of these files has this full name. Values of an enum are named beside it, not within it. A package may stand in many files; an element may not have a package's name.
+        Kind::NameTwice =>
+            r#"Another element of these files has this full name. Values of an enum are named beside it, not within it. A package may stand in many files; an element may not have a package's name.
 
 Where: the later name; for a made one its field's name; for a package its first part.
 
@@ -458,7 +478,8 @@ Where: no file, and line 1, column 1.
     :1:1: TooManyNames
 
 Cure: Compile fewer files at once."#,
-        Kind::TypeNotFound => r#"No message and no enum that this file sees has this name. A file sees itself, what it imports, and what these import publicly. Of a compound name the innermost scope that has its first part decides.
+        Kind::TypeNotFound =>
+            r#"No message and no enum that this file sees has this name. A file sees itself, what it imports, and what these import publicly. Of a compound name the innermost scope that has its first part decides.
 
 Where: the type's first token.
 
@@ -494,7 +515,8 @@ Cure: Leave the option out."#,
 Where: the start of the file.
 
 Cure: Split the file.",
-        Kind::SetTooLong => "The descriptors of all files have more than 1,073,741,824 bytes together.
+        Kind::SetTooLong =>
+            "The descriptors of all files have more than 1,073,741,824 bytes together.
 
 Where: no file, and line 1, column 1.
 

@@ -30,9 +30,13 @@ where
     requires takes { TakesAll (W.takes job.now.work.now) 0 job.now.items.now }
     ensures fit { All (W.fits job.now.work.now) seats.new }
     ensures numbers { KeepsNumbers (W.number job.now.work.now) seats.old seats.new }
-    ensures gains { SeatsGain (W.holds job.now.work.now) (W.adds job.now.work.now) job.now.plan.workers job.now.plan.cut job.now.items.now 0 seats.old seats.new }
-    ensures have { OnOk result (SeatsHave (W.holds job.now.work.now) (W.adds job.now.work.now) job.now.plan.workers job.now.plan.cut job.now.items.now 0 seats.new) }
-    ensures rows { IfOk result (λ rows. GivesRows (W.gives job.now.work.now) (λ v. v.items) (λ r. r.items) job.now.plan.workers job.now.plan.cut job.now.items.now 0 job.now.plan.workers rows.items) }
+    ensures gains { SeatsGain (W.holds job.now.work.now) (W.adds job.now.work.now)
+        job.now.plan.workers job.now.plan.cut job.now.items.now 0 seats.old seats.new }
+    ensures have { OnOk result (SeatsHave (W.holds job.now.work.now) (W.adds job.now.work.now)
+        job.now.plan.workers job.now.plan.cut job.now.items.now 0 seats.new) }
+    ensures rows { IfOk result (λ rows. GivesRows (W.gives job.now.work.now) (λ v. v.items)
+        (λ r. r.items) job.now.plan.workers job.now.plan.cut job.now.items.now 0
+        job.now.plan.workers rows.items) }
 {
     let pieces = job.items.len().div_ceil(job.plan.cut() as usize);
     let busy = pieces.min(seats.len());
@@ -48,9 +52,13 @@ fn with_idle_rows<G, T, W: Work<T, Out = O>, O: Drop>(
     busy: usize,
 ) -> Result<VecDeque<Row<O>>, AllocError>
     requires busy { busy ≤ job.now.plan.workers }
-    requires idle { busy < job.now.plan.workers → length job.now.items.now ≤ busy * job.now.plan.cut }
-    requires rows { GivesRows (W.gives job.now.work.now) (λ v. v.items) (λ r. r.items) job.now.plan.workers job.now.plan.cut job.now.items.now 0 busy rows.items }
-    ensures rows { IfOk result (λ rows. GivesRows (W.gives job.now.work.now) (λ v. v.items) (λ r. r.items) job.now.plan.workers job.now.plan.cut job.now.items.now 0 job.now.plan.workers rows.items) }
+    requires idle { busy < job.now.plan.workers
+        → length job.now.items.now ≤ busy * job.now.plan.cut }
+    requires rows { GivesRows (W.gives job.now.work.now) (λ v. v.items) (λ r. r.items)
+        job.now.plan.workers job.now.plan.cut job.now.items.now 0 busy rows.items }
+    ensures rows { IfOk result (λ rows. GivesRows (W.gives job.now.work.now) (λ v. v.items)
+        (λ r. r.items) job.now.plan.workers job.now.plan.cut job.now.items.now 0
+        job.now.plan.workers rows.items) }
 {
     let mut rows = rows;
     for _worker in busy..job.plan.workers() as usize {
@@ -80,9 +88,13 @@ where
     requires takes { TakesAll (W.takes job.now.work.now) 0 job.now.items.now }
     ensures fit { All (W.fits job.now.work.now) seats.new }
     ensures numbers { KeepsNumbers (W.number job.now.work.now) seats.old seats.new }
-    ensures gains { SeatsGain (W.holds job.now.work.now) (W.adds job.now.work.now) job.now.plan.workers job.now.plan.cut job.now.items.now from seats.old seats.new }
-    ensures have { OnOk result (SeatsHave (W.holds job.now.work.now) (W.adds job.now.work.now) job.now.plan.workers job.now.plan.cut job.now.items.now from seats.new) }
-    ensures rows { IfOk result (λ rows. GivesRows (W.gives job.now.work.now) (λ v. v.items) (λ r. r.items) job.now.plan.workers job.now.plan.cut job.now.items.now from (length seats.old) rows.items) }
+    ensures gains { SeatsGain (W.holds job.now.work.now) (W.adds job.now.work.now)
+        job.now.plan.workers job.now.plan.cut job.now.items.now from seats.old seats.new }
+    ensures have { OnOk result (SeatsHave (W.holds job.now.work.now) (W.adds job.now.work.now)
+        job.now.plan.workers job.now.plan.cut job.now.items.now from seats.new) }
+    ensures rows { IfOk result (λ rows. GivesRows (W.gives job.now.work.now) (λ v. v.items)
+        (λ r. r.items) job.now.plan.workers job.now.plan.cut job.now.items.now from
+        (length seats.old) rows.items) }
 {
     if seats.len() == 1 {
         let mut rows = VecDeque::new(job.alloc);
@@ -119,28 +131,55 @@ where
     ensures fit_high { All (W.fits job.now.work.now) high.new }
     ensures numbers_low { KeepsNumbers (W.number job.now.work.now) low.old low.new }
     ensures numbers_high { KeepsNumbers (W.number job.now.work.now) high.old high.new }
-    ensures gains_low { SeatsGain (W.holds job.now.work.now) (W.adds job.now.work.now) job.now.plan.workers job.now.plan.cut job.now.items.now from low.old low.new }
-    ensures gains_high { SeatsGain (W.holds job.now.work.now) (W.adds job.now.work.now) job.now.plan.workers job.now.plan.cut job.now.items.now (from + length low.old) high.old high.new }
-    ensures have_low { OnOk result (SeatsHave (W.holds job.now.work.now) (W.adds job.now.work.now) job.now.plan.workers job.now.plan.cut job.now.items.now from low.new) }
-    ensures have_high { OnOk result (SeatsHave (W.holds job.now.work.now) (W.adds job.now.work.now) job.now.plan.workers job.now.plan.cut job.now.items.now (from + length low.old) high.new) }
-    ensures rows { IfOk result (λ rows. GivesRows (W.gives job.now.work.now) (λ v. v.items) (λ r. r.items) job.now.plan.workers job.now.plan.cut job.now.items.now from (length low.old + length high.old) rows.items) }
+    ensures gains_low { SeatsGain (W.holds job.now.work.now) (W.adds job.now.work.now)
+        job.now.plan.workers job.now.plan.cut job.now.items.now from low.old low.new }
+    ensures gains_high { SeatsGain (W.holds job.now.work.now) (W.adds job.now.work.now)
+        job.now.plan.workers job.now.plan.cut job.now.items.now (from + length low.old) high.old
+        high.new }
+    ensures have_low { OnOk result (SeatsHave (W.holds job.now.work.now) (W.adds job.now.work.now)
+        job.now.plan.workers job.now.plan.cut job.now.items.now from low.new) }
+    ensures have_high { OnOk result (SeatsHave (W.holds job.now.work.now) (W.adds job.now.work.now)
+        job.now.plan.workers job.now.plan.cut job.now.items.now (from + length low.old) high.new) }
+    ensures rows { IfOk result (λ rows. GivesRows (W.gives job.now.work.now) (λ v. v.items)
+        (λ r. r.items) job.now.plan.workers job.now.plan.cut job.now.items.now from
+        (length low.old + length high.old) rows.items) }
 {
     let up = from + low.len();
     let mut front = || -> Result<VecDeque<Row<O>>, AllocError>
-        requires { IsSync R.row × IsSync G.row × IsSync T.row × IsSync W.row × IsSend O.row × IsSend S.row
-            × (0 < length low.now) × (from + length low.now ≤ job.now.plan.workers) × All (W.fits job.now.work.now) low.now × TakesAll (W.takes job.now.work.now) 0 job.now.items.now }
-        ensures { All (W.fits job.entry.now.work.now) low.exit.now × KeepsNumbers (W.number job.entry.now.work.now) low.entry.now low.exit.now
-            × SeatsGain (W.holds job.entry.now.work.now) (W.adds job.entry.now.work.now) job.entry.now.plan.workers job.entry.now.plan.cut job.entry.now.items.now from low.entry.now low.exit.now
-            × OnOk result (SeatsHave (W.holds job.entry.now.work.now) (W.adds job.entry.now.work.now) job.entry.now.plan.workers job.entry.now.plan.cut job.entry.now.items.now from low.exit.now)
-            × IfOk result (λ rows. GivesRows (W.gives job.entry.now.work.now) (λ v. v.items) (λ r. r.items) job.entry.now.plan.workers job.entry.now.plan.cut job.entry.now.items.now from (length low.entry.now) rows.items) }
+        requires { IsSync R.row × IsSync G.row × IsSync T.row × IsSync W.row × IsSend O.row
+            × IsSend S.row
+            × (0 < length low.now) × (from + length low.now ≤ job.now.plan.workers)
+            × All (W.fits job.now.work.now) low.now
+            × TakesAll (W.takes job.now.work.now) 0 job.now.items.now }
+        ensures { All (W.fits job.entry.now.work.now) low.exit.now
+            × KeepsNumbers (W.number job.entry.now.work.now) low.entry.now low.exit.now
+            × SeatsGain (W.holds job.entry.now.work.now) (W.adds job.entry.now.work.now)
+            job.entry.now.plan.workers job.entry.now.plan.cut job.entry.now.items.now from
+            low.entry.now low.exit.now
+            × OnOk result (SeatsHave (W.holds job.entry.now.work.now)
+            (W.adds job.entry.now.work.now) job.entry.now.plan.workers job.entry.now.plan.cut
+            job.entry.now.items.now from low.exit.now)
+            × IfOk result (λ rows. GivesRows (W.gives job.entry.now.work.now) (λ v. v.items)
+            (λ r. r.items) job.entry.now.plan.workers job.entry.now.plan.cut job.entry.now.items.now
+            from (length low.entry.now) rows.items) }
     { rows_from(rt, job, from, low) };
     let mut back = || -> Result<VecDeque<Row<O>>, AllocError>
-        requires { IsSync R.row × IsSync G.row × IsSync T.row × IsSync W.row × IsSend O.row × IsSend S.row
-            × (0 < length high.now) × (up + length high.now ≤ job.now.plan.workers) × All (W.fits job.now.work.now) high.now × TakesAll (W.takes job.now.work.now) 0 job.now.items.now }
-        ensures { All (W.fits job.entry.now.work.now) high.exit.now × KeepsNumbers (W.number job.entry.now.work.now) high.entry.now high.exit.now
-            × SeatsGain (W.holds job.entry.now.work.now) (W.adds job.entry.now.work.now) job.entry.now.plan.workers job.entry.now.plan.cut job.entry.now.items.now up high.entry.now high.exit.now
-            × OnOk result (SeatsHave (W.holds job.entry.now.work.now) (W.adds job.entry.now.work.now) job.entry.now.plan.workers job.entry.now.plan.cut job.entry.now.items.now up high.exit.now)
-            × IfOk result (λ rows. GivesRows (W.gives job.entry.now.work.now) (λ v. v.items) (λ r. r.items) job.entry.now.plan.workers job.entry.now.plan.cut job.entry.now.items.now up (length high.entry.now) rows.items) }
+        requires { IsSync R.row × IsSync G.row × IsSync T.row × IsSync W.row × IsSend O.row
+            × IsSend S.row
+            × (0 < length high.now) × (up + length high.now ≤ job.now.plan.workers)
+            × All (W.fits job.now.work.now) high.now
+            × TakesAll (W.takes job.now.work.now) 0 job.now.items.now }
+        ensures { All (W.fits job.entry.now.work.now) high.exit.now
+            × KeepsNumbers (W.number job.entry.now.work.now) high.entry.now high.exit.now
+            × SeatsGain (W.holds job.entry.now.work.now) (W.adds job.entry.now.work.now)
+            job.entry.now.plan.workers job.entry.now.plan.cut job.entry.now.items.now up
+            high.entry.now high.exit.now
+            × OnOk result (SeatsHave (W.holds job.entry.now.work.now)
+            (W.adds job.entry.now.work.now) job.entry.now.plan.workers job.entry.now.plan.cut
+            job.entry.now.items.now up high.exit.now)
+            × IfOk result (λ rows. GivesRows (W.gives job.entry.now.work.now) (λ v. v.items)
+            (λ r. r.items) job.entry.now.plan.workers job.entry.now.plan.cut job.entry.now.items.now
+            up (length high.entry.now) rows.items) }
     { rows_from(rt, job, up, high) };
     let (first, second) = join_mut(rt, &mut front, &mut back);
     joined_rows(first, second)
@@ -151,7 +190,8 @@ fn joined_rows<O: Drop>(
     low: Result<VecDeque<Row<O>>, AllocError>,
     high: Result<VecDeque<Row<O>>, AllocError>,
 ) -> Result<VecDeque<Row<O>>, AllocError>
-    ensures { IfOk result (λ rows. IsOkAnd low (λ low. IsOkAnd high (λ high. rows.items ≡ low.items ++ high.items))) }
+    ensures { IfOk result (λ rows. IsOkAnd low
+        (λ low. IsOkAnd high (λ high. rows.items ≡ low.items ++ high.items))) }
 {
     let mut low = low?;
     let mut high = high?;
@@ -170,10 +210,17 @@ fn row_of<G: Gate, T, W: Work<T, Out = O, Seat = S>, O: Drop, S>(
     requires takes { TakesAll (W.takes job.now.work.now) 0 job.now.items.now }
     ensures fits { W.fits job.now.work.now seat.new }
     ensures number { W.number job.now.work.now seat.new ≡ W.number job.now.work.now seat.old }
-    ensures kept { (x n : ℕ) → W.holds job.now.work.now seat.old x n → W.holds job.now.work.now seat.new x n }
-    ensures within { (x n : ℕ) → W.holds job.now.work.now seat.new x n → W.holds job.now.work.now seat.old x n ⊎ AddsInRow (W.adds job.now.work.now) job.now.plan.workers job.now.plan.cut job.now.items.now worker x n }
-    ensures gained { OnOk result ((x n : ℕ) → AddsInRow (W.adds job.now.work.now) job.now.plan.workers job.now.plan.cut job.now.items.now worker x n → W.holds job.now.work.now seat.new x n) }
-    ensures row { IfOk result (λ row. GivesRow (W.gives job.now.work.now) (λ v. v.items) job.now.plan.workers job.now.plan.cut job.now.items.now worker row.items) }
+    ensures kept { (x n : ℕ) → W.holds job.now.work.now seat.old x n
+        → W.holds job.now.work.now seat.new x n }
+    ensures within { (x n : ℕ) → W.holds job.now.work.now seat.new x n
+        → W.holds job.now.work.now seat.old x n
+        ⊎ AddsInRow (W.adds job.now.work.now) job.now.plan.workers job.now.plan.cut
+        job.now.items.now worker x n }
+    ensures gained { OnOk result ((x n : ℕ)
+        → AddsInRow (W.adds job.now.work.now) job.now.plan.workers job.now.plan.cut
+        job.now.items.now worker x n → W.holds job.now.work.now seat.new x n) }
+    ensures row { IfOk result (λ row. GivesRow (W.gives job.now.work.now) (λ v. v.items)
+        job.now.plan.workers job.now.plan.cut job.now.items.now worker row.items) }
 {
     let mut row = VecDeque::new(job.alloc);
     let items = job.items;

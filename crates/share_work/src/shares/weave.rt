@@ -14,7 +14,8 @@ pub(super) fn woven<G, T, W: Work<T, Out = O>, O: Drop>(
     job: &Job<'_, G, T, W>,
     rows: VecDeque<Row<O>>,
 ) -> Result<Vec<O>, AllocError>
-    requires { GivesRows (W.gives job.now.work.now) (λ v. v.items) (λ r. r.items) job.now.plan.workers job.now.plan.cut job.now.items.now 0 job.now.plan.workers rows.items }
+    requires { GivesRows (W.gives job.now.work.now) (λ v. v.items) (λ r. r.items)
+        job.now.plan.workers job.now.plan.cut job.now.items.now 0 job.now.plan.workers rows.items }
     ensures { IfOk result (λ v. GivesItems (W.gives job.now.work.now) 0 job.now.items.now v.items) }
 {
     let mut rows = rows;

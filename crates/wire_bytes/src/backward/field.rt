@@ -49,7 +49,8 @@ impl Backward {
     /// Writes the tag and the length of a field of wire type 2 whose payload is written: all but the last `end` bytes.
     pub(crate) fn prepend_head(&mut self, number: u32, end: usize) -> Result<(), AllocError>
         requires { end ≤ length self.old }
-        ensures { OnOk result (self.new ≡ varint_bytes (number * 8 + 2) ++ varint_bytes (length self.old - end) ++ self.old) }
+        ensures { OnOk result (self.new ≡ varint_bytes (number * 8 + 2)
+            ++ varint_bytes (length self.old - end) ++ self.old) }
     {
         let len = self.len() - end;
         self.prepend_varint(len as u64)?;
@@ -75,7 +76,8 @@ impl Backward {
         number: u32,
         payloads: &Row<P>,
     ) -> Result<(), AllocError>
-        ensures { OnOk result (self.new ≡ flat_map (λ p. bytes_field number (P.bytes p)) payloads.now ++ self.old) }
+        ensures { OnOk result (self.new ≡ flat_map (λ p. bytes_field number (P.bytes p))
+            payloads.now ++ self.old) }
     {
         for payload in payloads.iter().rev() {
             self.prepend_field(number, payload)?;

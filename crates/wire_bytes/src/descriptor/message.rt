@@ -35,7 +35,8 @@ fn prepend_message_options(
     options: &Row<OptionDesc>,
     is_map_entry: bool,
 ) -> Result<(), AllocError>
-    ensures { OnOk result (out.new ≡ options_field 7 (message_options_bytes options.now is_map_entry) ++ out.old) }
+    ensures { OnOk result (out.new ≡ options_field 7
+        (message_options_bytes options.now is_map_entry) ++ out.old) }
 {
     let end = out.len();
     out.prepend_flag(7, is_map_entry)?;

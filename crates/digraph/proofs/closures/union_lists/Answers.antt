@@ -19,10 +19,12 @@ loop-own-preserved c =
     let own = c.loop-own.own in
     let room : length c.union_of.new.marks ≡ length c.loop-own.marks.items = omega (arith, c.deref_mut.ensures.len) in
     let same = written c.union_of.new.marks c.loop-own.marks.items c.loop-own.marks.len c.loop-own.marks.ok.0 room in
-    let union : IsUnion lists (successors g own) own c.in_ok-union.union.items = subst (λ (xs : List ℕ). IsUnion lists xs own c.in_ok-union.union.items) c.row.ensures c.in_ok-union.ensures.union in
+    let union : IsUnion lists (successors g own) own c.in_ok-union.union.items =
+    subst (λ (xs : List ℕ). IsUnion lists xs own c.in_ok-union.union.items) c.row.ensures c.in_ok-union.ensures.union in
     record {
       room = ap length same ∙ room ∙ c.loop-own.invariant.room;
       none = subst NoneMarked (sym same) c.in_ok-union.ensures.none;
       size = length_push c.loop-own.unions c.push.new.self c.deref.result.now own c.in_ok-push.ensures.appended c.loop-own.invariant.size;
-      unions = each_push (λ a xs. IsUnion lists (successors g a) a xs) c.loop-own.unions c.push.new.self c.deref.result.now own c.in_ok-push.ensures.appended c.loop-own.invariant.size c.loop-own.invariant.unions (subst (IsUnion lists (successors g own) own) (sym c.deref.ensures.value) union);
+      unions = each_push (λ a xs. IsUnion lists (successors g a) a xs) c.loop-own.unions c.push.new.self c.deref.result.now own c.in_ok-push.ensures.appended
+          c.loop-own.invariant.size c.loop-own.invariant.unions (subst (IsUnion lists (successors g own) own) (sym c.deref.ensures.value) union);
     }

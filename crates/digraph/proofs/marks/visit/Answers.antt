@@ -8,9 +8,14 @@ loop-node-init c = visited_none c.args.marked.now.items c.args.nodes.now c.args.
 
 pub loop-node-preserved : goal.loop-node-preserved
 loop-node-preserved c = elim c.if-not-marks-node.branch [
-  | then-not-marks-node+in_ok-push w ↦ visited_push c.args.marked.now.items c.args.nodes.now c.loop-node.node-index c.loop-node.marks c.if-not-marks-node.marks c.loop-node.marked.items c.if-not-marks-node.marked.items (omega arith) w.if-not-marks-node.true w.marks-is (ap (λ (v : Vec ℕ Global). v.items) w.marked-is ∙ w.in_ok-push.ensures.items) c.loop-node.invariant
-  | else-not-marks-node w ↦ visited_skip c.args.marked.now.items c.args.nodes.now c.loop-node.node-index c.loop-node.marks c.if-not-marks-node.marks c.loop-node.marked.items c.if-not-marks-node.marked.items (omega arith) w.if-not-marks-node.false w.marks-is (ap (λ (v : Vec ℕ Global). v.items) w.marked-is) c.loop-node.invariant
+  | then-not-marks-node+in_ok-push w ↦ visited_push c.args.marked.now.items c.args.nodes.now c.loop-node.node-index c.loop-node.marks c.if-not-marks-node.marks
+      c.loop-node.marked.items c.if-not-marks-node.marked.items (omega arith) w.if-not-marks-node.true w.marks-is
+      (ap (λ (v : Vec ℕ Global). v.items) w.marked-is ∙ w.in_ok-push.ensures.items) c.loop-node.invariant
+  | else-not-marks-node w ↦ visited_skip c.args.marked.now.items c.args.nodes.now c.loop-node.node-index c.loop-node.marks c.if-not-marks-node.marks
+      c.loop-node.marked.items c.if-not-marks-node.marked.items (omega arith) w.if-not-marks-node.false w.marks-is
+      (ap (λ (v : Vec ℕ Global). v.items) w.marked-is) c.loop-node.invariant
 ]
 
 pub returns-clause-added : goal.returns-clause-added
-returns-clause-added c = visited_all c.args.marked.now.items c.args.nodes.now c.loop-node.node-index c.loop-node.marks c.loop-node.marked.items (omega arith) c.loop-node.invariant
+returns-clause-added c =
+    visited_all c.args.marked.now.items c.args.nodes.now c.loop-node.node-index c.loop-node.marks c.loop-node.marked.items (omega arith) c.loop-node.invariant

@@ -7,5 +7,6 @@ pub loop-written-preserved : goal.loop-written-preserved
 loop-written-preserved g c =
     let writes = g.O.CountedWrite.writes in
     let some = c.in-Ok.count-is in
-    written_some (writes c.args.writer.now) (writes c.loop-written.writer) (writes c.write.new.self) c.args.response.now c.loop-written.written c.in-Ok.count c.loop-written.invariant (omega (arith, some))
+    written_some (writes c.args.writer.now) (writes c.loop-written.writer) (writes c.write.new.self) c.args.response.now c.loop-written.written c.in-Ok.count
+    c.loop-written.invariant (omega (arith, some))
     (take_rest c.args.response.now c.loop-written.written) c.in-Ok.ensures.bound c.in-Ok.ensures.once

@@ -7,7 +7,8 @@ use Rattle.grpcweb_core.proofs.mapping.respond.Goals as goal
 pub returns-then-not-is_reflection : goal.returns-then-not-is_reflection
 returns-then-not-is_reflection g c =
     if_ok_then c.in_frames.result c.in_frames.ensures (λ answer is.
-    as_said (is ∙ ap framed c.in_ok-response_without_replies.ensures) (elsewhere (λ known. true≢false (sym (c.is_reflection.ensures.1 known) ∙ c.if-not-is_reflection.true))))
+    as_said (is ∙ ap framed c.in_ok-response_without_replies.ensures)
+    (elsewhere (λ known. true≢false (sym (c.is_reflection.ensures.1 known) ∙ c.if-not-is_reflection.true))))
 
 pub returns-then-not-is_post : goal.returns-then-not-is_post
 returns-then-not-is_post g c =

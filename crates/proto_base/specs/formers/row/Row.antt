@@ -39,30 +39,37 @@ pub the_items_listed : (X : Type 0) (d : List X) → listed _ (children (the_for
 the_items_listed X d = list-listed X d
 
 abbrev fields : Former {0}
-fields = via (vec.the_former this G.Global) (λ X. Inside X) (λ X a. a.items) (λ X v. record { items = v }) (λ X a. refl) (λ X v. refl)
+fields = via (vec.the_former this G.Global) (λ X. Inside X) (λ X a. a.items) (λ X v. record { items = v }) (λ X a. refl)
+    (λ X v. refl)
 
 module _ (R S : RattleType) (h : R.Denot → S.Denot) where
   pub the_places : Alike R S h → Alike (C.the_row R) (C.the_row S) ((the_former this).map R.Denot S.Denot h)
-  the_places a = view_places fields (list this) (λ X. view X) (λ X Y k u. refl) (λ X u. refl) R.Denot S.Denot h (C.the_row R).coded (C.the_row S).coded
+  the_places a = view_places fields (list this) (λ X. view X) (λ X Y k u. refl) (λ X u. refl) R.Denot S.Denot h
+      (C.the_row R).coded (C.the_row S).coded
       (invariant R.Denot) (invariant S.Denot) (λ u p q. refl) (λ u p q. refl) (λ u e. tt) (λ u e. tt)
       (over (I.the_row R)) (over (I.the_row S))
-      (struct_places (I.the_type R) (I.the_type S) (vec.mapped h, tt) _ (λ d. refl) refl (laid _ _ _ (vec.the_places Global.the_row Ghosts.ghosts R S h a), tt))
+      (struct_places (I.the_type R) (I.the_type S) (vec.mapped h, tt) _ (λ d. refl) refl
+      (laid _ _ _ (vec.the_places Global.the_row Ghosts.ghosts R S h a), tt))
 
   pub the_codes_placed : Recodes R S h → Recodes (C.the_row R) (C.the_row S) ((the_former this).map R.Denot S.Denot h)
   the_codes_placed e d = sym (code_map R.coded.code S.coded.code h (λ x. sym (e x)) d)
 
 module _ (R : RattleType) (k : Known R) where
   abbrev inside : Known (I.the_row R)
-  inside = declared_known (I.the_type R) (vec.the_facts R Global.the_row Ghosts.ghosts k (nothing_known Global.the_row), tt)
+  inside =
+      declared_known (I.the_type R) (vec.the_facts R Global.the_row Ghosts.ghosts k (nothing_known Global.the_row), tt)
 
-  shown : (d : List R.Denot) → Behind (I.the_row R) inside (List R.Denot) (C.the_row R).coded (C.the_view R) (C.the_invariant R) d → All k.Fact d
+  shown : (d : List R.Denot) → Behind (I.the_row R) inside (List R.Denot) (C.the_row R).coded (C.the_view R)
+      (C.the_invariant R) d → All k.Fact d
   shown d w = subst (All k.Fact) w.1.0 w.2.0
 
   pub known_owned : (d : List R.Denot) (vs : List Val) → Says ((C.the_row R).own_val d vs) (All k.Fact d)
-  known_owned d vs = Says-map _ (shown d) (view_owned (I.the_row R) inside (List R.Denot) (C.the_row R).coded (C.the_view R) (C.the_invariant R) d vs)
+  known_owned d vs = Says-map _ (shown d) (view_owned (I.the_row R) inside (List R.Denot) (C.the_row R).coded
+      (C.the_view R) (C.the_invariant R) d vs)
 
   pub known_shared : (d : List R.Denot) (b o : ℕ) (κ : Lft) → Says ((C.the_row R).shr_at d b o κ) (All k.Fact d)
-  known_shared d b o κ = Says-map _ (shown d) (view_shared (I.the_row R) inside (List R.Denot) (C.the_row R).coded (C.the_view R) (C.the_invariant R) d b o κ)
+  known_shared d b o κ = Says-map _ (shown d)
+      (view_shared (I.the_row R) inside (List R.Denot) (C.the_row R).coded (C.the_view R) (C.the_invariant R) d b o κ)
 
   abbrev pub the_facts : Known (C.the_row R)
   the_facts = record { Fact = All k.Fact; owned = known_owned; shared = known_shared }

@@ -20,8 +20,10 @@ loop-marked-preserved c =
         | then-marked-least-via-then-marked-least v ↦ (λ h. let below = v.if-marked-least.true in omega (arith, h.0))
         | then-marked-least-via-else-marked-least+then-marked-greatest v ↦ (λ h. let above = v.if-marked-greatest.true in omega (arith, h.1))
       ]) c.loop-marked.invariant w.lesser-first.ensures)
-      | else-marked-least+else-marked-greatest w ↦ rw w.first-is (each_miss ns P at n here c.loop-marked.first stands (λ out. out (w.if-marked-least.false, w.if-marked-greatest.false)) c.loop-marked.invariant)
+      | else-marked-least+else-marked-greatest w ↦ rw w.first-is
+          (each_miss ns P at n here c.loop-marked.first stands (λ out. out (w.if-marked-least.false, w.if-marked-greatest.false)) c.loop-marked.invariant)
     ]
 
 pub returns : goal.returns
-returns c = each_all c.args.numbers.now (IsOutside c.args.least c.args.greatest c.args.kind) c.loop-marked.marked-index c.loop-marked.first (omega arith) c.loop-marked.invariant
+returns c = each_all c.args.numbers.now (IsOutside c.args.least c.args.greatest c.args.kind) c.loop-marked.marked-index c.loop-marked.first (omega arith)
+    c.loop-marked.invariant

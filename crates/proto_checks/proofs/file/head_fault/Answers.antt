@@ -13,8 +13,13 @@ returns c =
     let desc = c.args.desc.now in
     let packages = rw c.as_slice-statements.ensures at c.package_twice-package.ensures in
     let imports = rw c.as_slice.ensures at c.in_ok-import.ensures in
-    let settings = rw c.as_slice-statements.ensures at (c.in_ok-own.ensures element.File (flat_map file_setting c.as_slice-statements.result.now) (c.deref.ensures.value ∙ c.in_ok-settings.ensures)) in
-    least_either (Either (NotProto3Syntax tree.syntax) (PackageTwice (flat_map package_in tree.statements))) (Either (ImportTwice desc.imports) (SettingsBreak element.File (flat_map file_setting tree.statements))) c.lesser-begun.result c.lesser-rest.result c.lesser.result
-    (least_either (NotProto3Syntax tree.syntax) (PackageTwice (flat_map package_in tree.statements)) c.in_ok-syntax.syntax c.package_twice-package.result c.lesser-begun.result c.in_ok-syntax.ensures packages c.lesser-begun.ensures)
-    (least_either (ImportTwice desc.imports) (SettingsBreak element.File (flat_map file_setting tree.statements)) c.in_ok-import.import c.in_ok-own.own c.lesser-rest.result imports settings c.lesser-rest.ensures)
+    let settings = rw c.as_slice-statements.ensures at (c.in_ok-own.ensures element.File (flat_map file_setting c.as_slice-statements.result.now)
+    (c.deref.ensures.value ∙ c.in_ok-settings.ensures)) in
+    least_either (Either (NotProto3Syntax tree.syntax) (PackageTwice (flat_map package_in tree.statements)))
+    (Either (ImportTwice desc.imports) (SettingsBreak element.File (flat_map file_setting tree.statements))) c.lesser-begun.result c.lesser-rest.result
+    c.lesser.result
+    (least_either (NotProto3Syntax tree.syntax) (PackageTwice (flat_map package_in tree.statements)) c.in_ok-syntax.syntax c.package_twice-package.result
+    c.lesser-begun.result c.in_ok-syntax.ensures packages c.lesser-begun.ensures)
+    (least_either (ImportTwice desc.imports) (SettingsBreak element.File (flat_map file_setting tree.statements)) c.in_ok-import.import c.in_ok-own.own
+    c.lesser-rest.result imports settings c.lesser-rest.ensures)
     c.lesser.ensures

@@ -8,7 +8,10 @@ use Rattle.proto_checks.proofs.lengths.fields_fault.Goals as goal
 pub loop-field-preserved : goal.loop-field-preserved
 loop-field-preserved c = λ scope at.
     let here = rw c.as_str.ensures at (c.name_fault-here.ensures scope at) in
-    each_more c.args.fields.now (λ a. IsTooLong c.args.limits.now (declared_field scope a)) c.loop-field.field-index c.field-item.result c.loop-field.first c.name_fault-here.result c.lesser-first.result (omega arith, sym c.field-item.is) (c.loop-field.invariant scope at) here c.lesser-first.ensures
+    each_more c.args.fields.now (λ a. IsTooLong c.args.limits.now (declared_field scope a)) c.loop-field.field-index c.field-item.result c.loop-field.first
+    c.name_fault-here.result c.lesser-first.result (omega arith, sym c.field-item.is) (c.loop-field.invariant scope at) here c.lesser-first.ensures
 
 pub returns : goal.returns
-returns c = λ scope at. each_map (IsTooLong c.args.limits.now) (declared_field scope) c.args.fields.now c.loop-field.first (each_all c.args.fields.now (λ a. IsTooLong c.args.limits.now (declared_field scope a)) c.loop-field.field-index c.loop-field.first (omega arith) (c.loop-field.invariant scope at))
+returns c = λ scope at. each_map (IsTooLong c.args.limits.now) (declared_field scope) c.args.fields.now c.loop-field.first
+    (each_all c.args.fields.now (λ a. IsTooLong c.args.limits.now (declared_field scope a)) c.loop-field.field-index c.loop-field.first (omega arith)
+    (c.loop-field.invariant scope at))

@@ -23,8 +23,10 @@ returns c =
     let bound = rw (c.deref-6.ensures.value, bounds) at c.first_outside-bound.ensures in
     let range = rw (c.deref-7.ensures.value, c.deref-8.ensures.value, ranges, c.in_ok-numbers.ensures) at c.in_ok-range.ensures in
     let name = rw (c.deref-9.ensures.value, c.in_ok-names.ensures) at c.in_ok-name.ensures in
-    let value = least_either (FirstNotZero numbers) (Outside (2 ^ 64 - 2147483648) (2 ^ 64 + 2147483647) kind.EnumNumberRange numbers) _ _ _ zero number c.lesser-own.ensures in
+    let value = least_either (FirstNotZero numbers) (Outside (2 ^ 64 - 2147483648) (2 ^ 64 + 2147483647) kind.EnumNumberRange numbers) _ _ _ zero number
+    c.lesser-own.ensures in
     let declared = least_either _ (ValueTwice (first_setting AllowAlias (flat_map enum_setting is)) numbers) _ _ _ value twice c.lesser-value_fault.ensures in
-    let inside = least_either (Outside (2 ^ 64 - 2147483648) (2 ^ 64 + 2147483647) kind.EnumNumberRange (enum_bounds is)) (RangesBreak (enum_ranges is) numbers) _ _ _ bound range c.lesser-range_fault.ensures in
+    let inside = least_either (Outside (2 ^ 64 - 2147483648) (2 ^ 64 + 2147483647) kind.EnumNumberRange (enum_bounds is)) (RangesBreak (enum_ranges is) numbers)
+    _ _ _ bound range c.lesser-range_fault.ensures in
     let reserved = least_either _ (TextTwice kind.ReservedNameTwice (enum_reserved_names is)) _ _ _ inside name c.lesser-reserved_fault.ensures in
     enums_least is c.lesser.result (least_either _ _ _ _ _ declared reserved c.lesser.ensures)

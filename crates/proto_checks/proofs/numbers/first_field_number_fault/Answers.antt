@@ -18,7 +18,9 @@ returns c =
     let bound = rw (c.deref-5.ensures.value, bounds) at c.first_outside-bound.ensures in
     let range = rw (c.deref-6.ensures.value, c.deref-7.ensures.value, ranges, c.in_ok-numbers.ensures) at c.in_ok-range.ensures in
     let name = rw (c.deref-8.ensures.value, c.in_ok-names.ensures) at c.in_ok-name.ensures in
-    let declared = least_either (Each (field_numbers is) IsNoFieldNumber) (NumberTwice kind.FieldNumberTwice (field_numbers is)) _ _ _ number twice c.lesser-field_fault.ensures in
-    let inside = least_either (Outside 1 536870911 kind.FieldNumberRange (message_bounds is)) (RangesBreak (message_ranges is) (field_numbers is)) _ _ _ bound range c.lesser-range_fault.ensures in
+    let declared = least_either (Each (field_numbers is) IsNoFieldNumber) (NumberTwice kind.FieldNumberTwice (field_numbers is)) _ _ _ number twice
+    c.lesser-field_fault.ensures in
+    let inside = least_either (Outside 1 536870911 kind.FieldNumberRange (message_bounds is)) (RangesBreak (message_ranges is) (field_numbers is)) _ _ _ bound
+    range c.lesser-range_fault.ensures in
     let reserved = least_either _ (TextTwice kind.ReservedNameTwice (message_reserved_names is)) _ _ _ inside name c.lesser-reserved_fault.ensures in
     fields_least is c.lesser.result (least_either _ _ _ _ _ declared reserved c.lesser.ensures)

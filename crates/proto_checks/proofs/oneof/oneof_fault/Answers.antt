@@ -8,4 +8,5 @@ use Rattle.proto_checks.proofs.oneof.oneof_fault.Goals as goal
 pub returns : goal.returns
 returns c =
     let settings = c.in_ok-own.ensures element.Oneof (flat_map oneof_setting c.as_slice.result.now) (c.deref.ensures.value ∙ c.in_ok-settings.ensures) in
-    oneof_least c.args.oneof.now c.empty_fault-empty.result c.in_ok-own.own c.lesser.result c.empty_fault-empty.ensures (rw c.as_slice.ensures at settings) c.lesser.ensures
+    oneof_least c.args.oneof.now c.empty_fault-empty.result c.in_ok-own.own c.lesser.result c.empty_fault-empty.ensures (rw c.as_slice.ensures at settings)
+    c.lesser.ensures

@@ -21,8 +21,12 @@ loop-marked-preserved c =
     let at = λ (a : MarkedNumber). spot a.place kind.ReservedNumberUsed in
     let cover = c.in_ok-cover.cover.items in
     elim c.if-is_reached.branch [
-      | then-is_reached w ↦ (let told = rw c.deref.ensures.value at w.if-is_reached.ensures in rw w.first-is (each_hit ns P at n here c.loop-marked.first w.lesser-first.result stands (used_of rs cover here.number c.in_ok-cover.ensures (told.0 refl)) c.loop-marked.invariant w.lesser-first.ensures))
-      | else-is_reached w ↦ (let told = rw c.deref.ensures.value at w.if-is_reached.ensures in rw w.first-is (each_miss ns P at n here c.loop-marked.first stands (λ used. false≢true (told.1 (of_used rs cover here.number c.in_ok-cover.ensures used))) c.loop-marked.invariant))
+      | then-is_reached w ↦ (let told = rw c.deref.ensures.value at w.if-is_reached.ensures in
+          rw w.first-is (each_hit ns P at n here c.loop-marked.first w.lesser-first.result stands
+          (used_of rs cover here.number c.in_ok-cover.ensures (told.0 refl)) c.loop-marked.invariant w.lesser-first.ensures))
+      | else-is_reached w ↦ (let told = rw c.deref.ensures.value at w.if-is_reached.ensures in
+          rw w.first-is (each_miss ns P at n here c.loop-marked.first stands
+          (λ used. false≢true (told.1 (of_used rs cover here.number c.in_ok-cover.ensures used))) c.loop-marked.invariant))
     ]
 
 pub returns : goal.returns

@@ -11,7 +11,9 @@ use Rattle.proto_checks.proofs.repeats.first_number_twice.Goals as goal
 use Rattle.proto_checks.proofs.repeats.first_number_twice.Goals.{then-not-branch, else-not-branch}
 
 pub returns-then-is_sorted_by : goal.returns-then-is_sorted_by
-returns-then-is_sorted_by c = rising_none c.args.kind c.args.numbers.now (tested_rises c.args.numbers.now (c.if-is_sorted_by.ensures.cases (λ (a b : MarkedNumber). nat_lt a.number b.number) (answers_always _ _ _ (λ f a r g called. search rules))))
+returns-then-is_sorted_by c = rising_none c.args.kind c.args.numbers.now
+    (tested_rises c.args.numbers.now (c.if-is_sorted_by.ensures.cases (λ (a b : MarkedNumber). nat_lt a.number b.number)
+    (answers_always _ _ _ (λ f a r g called. search rules))))
 
 pub loop-marked-preserved : goal.loop-marked-preserved
 loop-marked-preserved c =
@@ -21,9 +23,14 @@ loop-marked-preserved c =
     let at = λ (a : MarkedNumber). spot a.place c.args.kind in
     let stands = item_at ns n no_number (omega arith) in
     elim c.if-not-branch.branch [
-      | then-not-branch w ↦ rw w.first-is (passed_clash nat_cmp (λ k. k) number_in at ns c.loop-marked.seen c.insert.new.self n here here.number c.loop-marked.first w.lesser-first.result exact_number stands refl c.in_ok-insert.ensures.updates (not_false _ (sym c.in_ok-insert.ensures.added ∙ w.if-not-branch.true)) c.loop-marked.invariant w.lesser-first.ensures)
-      | else-not-branch w ↦ rw w.first-is (passed_skip nat_cmp (λ k. k) number_in at ns c.loop-marked.seen c.insert.new.self n here here.number c.loop-marked.first exact_number stands refl c.in_ok-insert.ensures.updates (not_true _ (sym c.in_ok-insert.ensures.added ∙ w.if-not-branch.false)) c.loop-marked.invariant)
+      | then-not-branch w ↦ rw w.first-is (passed_clash nat_cmp (λ k. k) number_in at ns c.loop-marked.seen c.insert.new.self n here here.number
+          c.loop-marked.first w.lesser-first.result exact_number stands refl c.in_ok-insert.ensures.updates
+          (not_false _ (sym c.in_ok-insert.ensures.added ∙ w.if-not-branch.true)) c.loop-marked.invariant w.lesser-first.ensures)
+      | else-not-branch w ↦ rw w.first-is (passed_skip nat_cmp (λ k. k) number_in at ns c.loop-marked.seen c.insert.new.self n here here.number
+          c.loop-marked.first exact_number stands refl c.in_ok-insert.ensures.updates (not_true _ (sym c.in_ok-insert.ensures.added ∙ w.if-not-branch.false))
+          c.loop-marked.invariant)
     ]
 
 pub returns : goal.returns
-returns c = later_all c.args.numbers.now (λ (a b : MarkedNumber). a.number ≡ b.number) (λ (b : MarkedNumber). spot b.place c.args.kind) c.loop-marked.marked-index c.loop-marked.first (omega arith) c.loop-marked.invariant.least
+returns c = later_all c.args.numbers.now (λ (a b : MarkedNumber). a.number ≡ b.number) (λ (b : MarkedNumber). spot b.place c.args.kind)
+    c.loop-marked.marked-index c.loop-marked.first (omega arith) c.loop-marked.invariant.least

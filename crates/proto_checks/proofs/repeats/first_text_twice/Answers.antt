@@ -16,9 +16,13 @@ loop-marked-preserved c =
     let text_of = λ (a : Marked). a.text in
     let stands : StandsAt ts n here = subst (StandsAt ts n) (sym c.marked.view_is) (omega arith, sym c.marked-item.is) in
     elim c.if-not-branch.branch [
-      | then-not-branch w ↦ rw w.first-is (passed_clash text_cmp (λ k. k.now) text_of at ts c.loop-marked.seen c.insert.new.self n here key c.loop-marked.first w.lesser-first.result exact_text stands refl c.in_ok-insert.ensures.updates (not_false _ (sym c.in_ok-insert.ensures.added ∙ w.if-not-branch.true)) c.loop-marked.invariant w.lesser-first.ensures)
-      | else-not-branch w ↦ rw w.first-is (passed_skip text_cmp (λ k. k.now) text_of at ts c.loop-marked.seen c.insert.new.self n here key c.loop-marked.first exact_text stands refl c.in_ok-insert.ensures.updates (not_true _ (sym c.in_ok-insert.ensures.added ∙ w.if-not-branch.false)) c.loop-marked.invariant)
+      | then-not-branch w ↦ rw w.first-is (passed_clash text_cmp (λ k. k.now) text_of at ts c.loop-marked.seen c.insert.new.self n here key c.loop-marked.first
+          w.lesser-first.result exact_text stands refl c.in_ok-insert.ensures.updates (not_false _ (sym c.in_ok-insert.ensures.added ∙ w.if-not-branch.true))
+          c.loop-marked.invariant w.lesser-first.ensures)
+      | else-not-branch w ↦ rw w.first-is (passed_skip text_cmp (λ k. k.now) text_of at ts c.loop-marked.seen c.insert.new.self n here key c.loop-marked.first
+          exact_text stands refl c.in_ok-insert.ensures.updates (not_true _ (sym c.in_ok-insert.ensures.added ∙ w.if-not-branch.false)) c.loop-marked.invariant)
     ]
 
 pub returns : goal.returns
-returns c = later_all c.args.texts.now (λ (a b : Marked). a.text ≡ b.text) (λ (b : Marked). spot b.place c.args.kind) c.loop-marked.marked-index c.loop-marked.first (omega arith) c.loop-marked.invariant.least
+returns c = later_all c.args.texts.now (λ (a b : Marked). a.text ≡ b.text) (λ (b : Marked). spot b.place c.args.kind) c.loop-marked.marked-index
+    c.loop-marked.first (omega arith) c.loop-marked.invariant.least

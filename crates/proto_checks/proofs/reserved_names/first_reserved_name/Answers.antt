@@ -21,8 +21,10 @@ loop-marked-preserved c =
     let at = λ (a : Marked). spot a.place kind.ReservedNameUsed in
     let told = c.in_ok-names.ensures here.text in
     elim c.if-contains.branch [
-      | then-contains w ↦ rw w.first-is (each_hit ts P at n here c.loop-marked.first w.lesser-first.result stands (told.0 (sym c.contains.ensures ∙ w.if-contains.true)) c.loop-marked.invariant w.lesser-first.ensures)
-      | else-contains w ↦ rw w.first-is (each_miss ts P at n here c.loop-marked.first stands (λ named. false≢true (sym w.if-contains.false ∙ c.contains.ensures ∙ told.1 named)) c.loop-marked.invariant)
+      | then-contains w ↦ rw w.first-is (each_hit ts P at n here c.loop-marked.first w.lesser-first.result stands
+          (told.0 (sym c.contains.ensures ∙ w.if-contains.true)) c.loop-marked.invariant w.lesser-first.ensures)
+      | else-contains w ↦ rw w.first-is (each_miss ts P at n here c.loop-marked.first stands
+          (λ named. false≢true (sym w.if-contains.false ∙ c.contains.ensures ∙ told.1 named)) c.loop-marked.invariant)
     ]
 
 pub returns : goal.returns

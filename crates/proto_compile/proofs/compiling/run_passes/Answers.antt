@@ -13,12 +13,14 @@ use Rattle.proto_compile.proofs.compiling.run_passes.Goals as goal
 pub link_all-requires : goal.link_all-requires
 link_all-requires g c =
     let each = rw c.deref.ensures.value at c.in_ok-descs.ensures.described in
-    rw c.deref-2.ensures.value (descs_in_order c.args.limits.now c.args.sources.now c.in_ok-files.files.items c.in_ok-descs.descs.items c.in_ok-files.ensures.files each)
+    rw c.deref-2.ensures.value (descs_in_order c.args.limits.now c.args.sources.now c.in_ok-files.files.items c.in_ok-descs.descs.items
+    c.in_ok-files.ensures.files each)
 
 pub returns-in_err-links-clause-first : goal.returns-in_err-links-clause-first
 returns-in_err-links-clause-first g c =
     let each = rw c.deref.ensures.value at c.in_ok-descs.ensures.described in
-    let described : Describe c.args.limits.now c.args.sources.now c.in_ok-files.files.items c.in_ok-descs.descs.items = record { few = c.in_ok-files.ensures.few; by_name = c.in_ok-files.ensures.files; each = each } in
+    let described : Describe c.args.limits.now c.args.sources.now c.in_ok-files.files.items c.in_ok-descs.descs.items =
+    record { few = c.in_ok-files.ensures.few; by_name = c.in_ok-files.ensures.files; each = each } in
     let refused = (rw c.deref-2.ensures.value at c.in_err-links.ensures.first) c.args.limits.now c.args.sources.now c.in_ok-files.files.items described in
     search (rules, refused)
 
@@ -28,7 +30,8 @@ index_all-requires-after_bounds g c κs h = rw c.deref-3.ensures.value (rw c.der
 pub returns-in_err-index-clause-first : goal.returns-in_err-index-clause-first
 returns-in_err-index-clause-first g c =
     let each = rw c.deref.ensures.value at c.in_ok-descs.ensures.described in
-    let described : Describe c.args.limits.now c.args.sources.now c.in_ok-files.files.items c.in_ok-descs.descs.items = record { few = c.in_ok-files.ensures.few; by_name = c.in_ok-files.ensures.files; each = each } in
+    let described : Describe c.args.limits.now c.args.sources.now c.in_ok-files.files.items c.in_ok-descs.descs.items =
+    record { few = c.in_ok-files.ensures.few; by_name = c.in_ok-files.ensures.files; each = each } in
     let refused = (rw c.deref-3.ensures.value at c.in_err-index.ensures.first) c.args.sources.now c.in_ok-files.files.items described in
     search (rules, refused)
 
@@ -40,16 +43,20 @@ resolve_all-requires-clause-files g c κs h =
 pub write_all-requires-clause-files : goal.write_all-requires-clause-files
 write_all-requires-clause-files g c κs h =
     let each = rw c.deref.ensures.value at c.in_ok-descs.ensures.described in
-    rw (c.deref-5.ensures.value, c.deref-6.ensures.value) (same_length c.args.limits.now c.in_ok-files.files.items c.in_ok-descs.descs.items each ∙ typed_length c.in_ok-links.links c.in_ok-index.index 0 c.in_ok-descs.descs.items c.in_ok-descs-2.descs.items c.in_ok-descs-2.ensures.typed)
+    rw (c.deref-5.ensures.value, c.deref-6.ensures.value) (same_length c.args.limits.now c.in_ok-files.files.items c.in_ok-descs.descs.items each
+    ∙ typed_length c.in_ok-links.links c.in_ok-index.index 0 c.in_ok-descs.descs.items c.in_ok-descs-2.descs.items c.in_ok-descs-2.ensures.typed)
 
 pub returns-in_err-written-clause-first : goal.returns-in_err-written-clause-first
 returns-in_err-written-clause-first g c =
     let each = rw c.deref.ensures.value at c.in_ok-descs.ensures.described in
     let linked = rw c.deref-2.ensures.value at c.in_ok-links.ensures.linked in
     let indexed = rw c.deref-3.ensures.value at c.in_ok-index.ensures.indexed in
-    let analysed = analysed_of c.args.limits.now c.args.sources.now c.in_ok-files.files.items c.in_ok-descs.descs.items c.in_ok-links.links c.in_ok-index.index c.in_ok-files.ensures.few c.in_ok-files.ensures.files each linked indexed in
-    let resolved = resolved_of c.args.limits.now c.args.sources.now c.in_ok-files.files.items c.in_ok-descs.descs.items c.in_ok-descs-2.descs.items c.in_ok-links.links c.in_ok-index.index analysed c.in_ok-descs-2.ensures.typed in
-    let refused = (rw (c.deref-5.ensures.value, c.deref-6.ensures.value) at c.in_err-written.ensures.first) c.args.sources.now c.in_ok-links.links c.in_ok-index.index resolved in
+    let analysed = analysed_of c.args.limits.now c.args.sources.now c.in_ok-files.files.items c.in_ok-descs.descs.items c.in_ok-links.links c.in_ok-index.index
+    c.in_ok-files.ensures.few c.in_ok-files.ensures.files each linked indexed in
+    let resolved = resolved_of c.args.limits.now c.args.sources.now c.in_ok-files.files.items c.in_ok-descs.descs.items c.in_ok-descs-2.descs.items
+    c.in_ok-links.links c.in_ok-index.index analysed c.in_ok-descs-2.ensures.typed in
+    let refused = (rw (c.deref-5.ensures.value, c.deref-6.ensures.value) at c.in_err-written.ensures.first) c.args.sources.now c.in_ok-links.links
+    c.in_ok-index.index resolved in
     search (rules, refused)
 
 pub table_of-requires-clause-length : goal.table_of-requires-clause-length
@@ -57,32 +64,41 @@ table_of-requires-clause-length g c =
     let each = rw c.deref.ensures.value at c.in_ok-descs.ensures.described in
     let linked = rw c.deref-2.ensures.value at c.in_ok-links.ensures.linked in
     let indexed = rw c.deref-3.ensures.value at c.in_ok-index.ensures.indexed in
-    let analysed = analysed_of c.args.limits.now c.args.sources.now c.in_ok-files.files.items c.in_ok-descs.descs.items c.in_ok-links.links c.in_ok-index.index c.in_ok-files.ensures.few c.in_ok-files.ensures.files each linked indexed in
-    let resolved = resolved_of c.args.limits.now c.args.sources.now c.in_ok-files.files.items c.in_ok-descs.descs.items c.in_ok-descs-2.descs.items c.in_ok-links.links c.in_ok-index.index analysed c.in_ok-descs-2.ensures.typed in
+    let analysed = analysed_of c.args.limits.now c.args.sources.now c.in_ok-files.files.items c.in_ok-descs.descs.items c.in_ok-links.links c.in_ok-index.index
+    c.in_ok-files.ensures.few c.in_ok-files.ensures.files each linked indexed in
+    let resolved = resolved_of c.args.limits.now c.args.sources.now c.in_ok-files.files.items c.in_ok-descs.descs.items c.in_ok-descs-2.descs.items
+    c.in_ok-links.links c.in_ok-index.index analysed c.in_ok-descs-2.ensures.typed in
     let bytes = rw c.deref-6.ensures.value at c.in_ok-written.ensures.bytes in
-    rw c.deref-7.ensures.value (written_length c.args.limits.now c.args.sources.now c.in_ok-files.files.items c.in_ok-descs-2.descs.items c.in_ok-links.links c.in_ok-index.index c.in_ok-written.written.items resolved bytes)
+    rw c.deref-7.ensures.value (written_length c.args.limits.now c.args.sources.now c.in_ok-files.files.items c.in_ok-descs-2.descs.items c.in_ok-links.links
+    c.in_ok-index.index c.in_ok-written.written.items resolved bytes)
 
 pub is_set_within-requires-clause-inside : goal.is_set_within-requires-clause-inside
 is_set_within-requires-clause-inside g c =
     let each = rw c.deref.ensures.value at c.in_ok-descs.ensures.described in
     let linked = rw c.deref-2.ensures.value at c.in_ok-links.ensures.linked in
     let indexed = rw c.deref-3.ensures.value at c.in_ok-index.ensures.indexed in
-    let analysed = analysed_of c.args.limits.now c.args.sources.now c.in_ok-files.files.items c.in_ok-descs.descs.items c.in_ok-links.links c.in_ok-index.index c.in_ok-files.ensures.few c.in_ok-files.ensures.files each linked indexed in
-    let resolved = resolved_of c.args.limits.now c.args.sources.now c.in_ok-files.files.items c.in_ok-descs.descs.items c.in_ok-descs-2.descs.items c.in_ok-links.links c.in_ok-index.index analysed c.in_ok-descs-2.ensures.typed in
+    let analysed = analysed_of c.args.limits.now c.args.sources.now c.in_ok-files.files.items c.in_ok-descs.descs.items c.in_ok-links.links c.in_ok-index.index
+    c.in_ok-files.ensures.few c.in_ok-files.ensures.files each linked indexed in
+    let resolved = resolved_of c.args.limits.now c.args.sources.now c.in_ok-files.files.items c.in_ok-descs.descs.items c.in_ok-descs-2.descs.items
+    c.in_ok-links.links c.in_ok-index.index analysed c.in_ok-descs-2.ensures.typed in
     let names = rw c.deref-7.ensures.value at c.in_ok-files-2.ensures.names in
-    (counts c.args.limits.now c.args.sources.now c.in_ok-files.files.items c.in_ok-descs-2.descs.items c.in_ok-links.links c.in_ok-index.index c.in_ok-files-2.files resolved names).2
+    (counts c.args.limits.now c.args.sources.now c.in_ok-files.files.items c.in_ok-descs-2.descs.items c.in_ok-links.links c.in_ok-index.index
+    c.in_ok-files-2.files resolved names).2
 
 pub returns-then-not-is_set_within-clause-first : goal.returns-then-not-is_set_within-clause-first
 returns-then-not-is_set_within-clause-first g c =
     let each = rw c.deref.ensures.value at c.in_ok-descs.ensures.described in
     let linked = rw c.deref-2.ensures.value at c.in_ok-links.ensures.linked in
     let indexed = rw c.deref-3.ensures.value at c.in_ok-index.ensures.indexed in
-    let analysed = analysed_of c.args.limits.now c.args.sources.now c.in_ok-files.files.items c.in_ok-descs.descs.items c.in_ok-links.links c.in_ok-index.index c.in_ok-files.ensures.few c.in_ok-files.ensures.files each linked indexed in
-    let resolved = resolved_of c.args.limits.now c.args.sources.now c.in_ok-files.files.items c.in_ok-descs.descs.items c.in_ok-descs-2.descs.items c.in_ok-links.links c.in_ok-index.index analysed c.in_ok-descs-2.ensures.typed in
+    let analysed = analysed_of c.args.limits.now c.args.sources.now c.in_ok-files.files.items c.in_ok-descs.descs.items c.in_ok-links.links c.in_ok-index.index
+    c.in_ok-files.ensures.few c.in_ok-files.ensures.files each linked indexed in
+    let resolved = resolved_of c.args.limits.now c.args.sources.now c.in_ok-files.files.items c.in_ok-descs.descs.items c.in_ok-descs-2.descs.items
+    c.in_ok-links.links c.in_ok-index.index analysed c.in_ok-descs-2.ensures.typed in
     let names = rw c.deref-7.ensures.value at c.in_ok-files-2.ensures.names in
     let short = rw c.deref-6.ensures.value at c.in_ok-written.ensures.short in
     let bytes = rw c.deref-6.ensures.value at c.in_ok-written.ensures.bytes in
-    let is = written c.args.limits.now c.args.sources.now c.in_ok-files.files.items c.in_ok-descs-2.descs.items c.in_ok-links.links c.in_ok-index.index c.in_ok-files-2.files resolved short names (c.in_ok-files-2.ensures.bytes ∙ bytes) in
+    let is = written c.args.limits.now c.args.sources.now c.in_ok-files.files.items c.in_ok-descs-2.descs.items c.in_ok-links.links c.in_ok-index.index
+    c.in_ok-files-2.files resolved short names (c.in_ok-files-2.ensures.bytes ∙ bytes) in
     let long = too_long c.is_set_within.result _ c.get.result c.is_set_within.ensures c.if-not-is_set_within.true in
     told (IsFirstFault c.args.limits.now c.args.sources.now) 6 [] 0 start kind.SetTooLong c.refusal.result c.refusal.ensures
     (set_too_long (compilation c.args.limits.now c.in_ok-files-2.files c.in_ok-links.links c.in_ok-index.index) is (rw (← c.get.ensures.value) long))
@@ -92,25 +108,36 @@ invariant_of-result g c =
     let each = rw c.deref.ensures.value at c.in_ok-descs.ensures.described in
     let linked = rw c.deref-2.ensures.value at c.in_ok-links.ensures.linked in
     let indexed = rw c.deref-3.ensures.value at c.in_ok-index.ensures.indexed in
-    let analysed = analysed_of c.args.limits.now c.args.sources.now c.in_ok-files.files.items c.in_ok-descs.descs.items c.in_ok-links.links c.in_ok-index.index c.in_ok-files.ensures.few c.in_ok-files.ensures.files each linked indexed in
-    let resolved = resolved_of c.args.limits.now c.args.sources.now c.in_ok-files.files.items c.in_ok-descs.descs.items c.in_ok-descs-2.descs.items c.in_ok-links.links c.in_ok-index.index analysed c.in_ok-descs-2.ensures.typed in
+    let analysed = analysed_of c.args.limits.now c.args.sources.now c.in_ok-files.files.items c.in_ok-descs.descs.items c.in_ok-links.links c.in_ok-index.index
+    c.in_ok-files.ensures.few c.in_ok-files.ensures.files each linked indexed in
+    let resolved = resolved_of c.args.limits.now c.args.sources.now c.in_ok-files.files.items c.in_ok-descs.descs.items c.in_ok-descs-2.descs.items
+    c.in_ok-links.links c.in_ok-index.index analysed c.in_ok-descs-2.ensures.typed in
     let names = rw c.deref-7.ensures.value at c.in_ok-files-2.ensures.names in
     let short = rw c.deref-6.ensures.value at c.in_ok-written.ensures.short in
     let bytes = rw c.deref-6.ensures.value at c.in_ok-written.ensures.bytes in
-    let is = written c.args.limits.now c.args.sources.now c.in_ok-files.files.items c.in_ok-descs-2.descs.items c.in_ok-links.links c.in_ok-index.index c.in_ok-files-2.files resolved short names (c.in_ok-files-2.ensures.bytes ∙ bytes) in
-    let within : length (set_of c.in_ok-files-2.files c.in_ok-links.links) ≤ limit_of c.args.limits.now limit.SetBytes = rw (← c.get.ensures.value) (c.is_set_within.ensures.0 c.if-not-is_set_within.false) in
-    (sound c.args.limits.now c.args.sources.now c.in_ok-files-2.files c.in_ok-links.links c.in_ok-index.index is (rw (← c.index.view_is) c.index.invariant.0.services) within, (c.args.sources.now, record { written = is; within = within }))
+    let is = written c.args.limits.now c.args.sources.now c.in_ok-files.files.items c.in_ok-descs-2.descs.items c.in_ok-links.links c.in_ok-index.index
+    c.in_ok-files-2.files resolved short names (c.in_ok-files-2.ensures.bytes ∙ bytes) in
+    let within : length (set_of c.in_ok-files-2.files c.in_ok-links.links) ≤ limit_of c.args.limits.now limit.SetBytes =
+    rw (← c.get.ensures.value) (c.is_set_within.ensures.0 c.if-not-is_set_within.false) in (
+      sound c.args.limits.now c.args.sources.now c.in_ok-files-2.files c.in_ok-links.links c.in_ok-index.index is
+          (rw (← c.index.view_is) c.index.invariant.0.services) within,
+      (c.args.sources.now, record { written = is; within = within }),
+    )
 
 pub returns-clause-compiled : goal.returns-clause-compiled
 returns-clause-compiled g c =
     let each = rw c.deref.ensures.value at c.in_ok-descs.ensures.described in
     let linked = rw c.deref-2.ensures.value at c.in_ok-links.ensures.linked in
     let indexed = rw c.deref-3.ensures.value at c.in_ok-index.ensures.indexed in
-    let analysed = analysed_of c.args.limits.now c.args.sources.now c.in_ok-files.files.items c.in_ok-descs.descs.items c.in_ok-links.links c.in_ok-index.index c.in_ok-files.ensures.few c.in_ok-files.ensures.files each linked indexed in
-    let resolved = resolved_of c.args.limits.now c.args.sources.now c.in_ok-files.files.items c.in_ok-descs.descs.items c.in_ok-descs-2.descs.items c.in_ok-links.links c.in_ok-index.index analysed c.in_ok-descs-2.ensures.typed in
+    let analysed = analysed_of c.args.limits.now c.args.sources.now c.in_ok-files.files.items c.in_ok-descs.descs.items c.in_ok-links.links c.in_ok-index.index
+    c.in_ok-files.ensures.few c.in_ok-files.ensures.files each linked indexed in
+    let resolved = resolved_of c.args.limits.now c.args.sources.now c.in_ok-files.files.items c.in_ok-descs.descs.items c.in_ok-descs-2.descs.items
+    c.in_ok-links.links c.in_ok-index.index analysed c.in_ok-descs-2.ensures.typed in
     let names = rw c.deref-7.ensures.value at c.in_ok-files-2.ensures.names in
     let short = rw c.deref-6.ensures.value at c.in_ok-written.ensures.short in
     let bytes = rw c.deref-6.ensures.value at c.in_ok-written.ensures.bytes in
-    let is = written c.args.limits.now c.args.sources.now c.in_ok-files.files.items c.in_ok-descs-2.descs.items c.in_ok-links.links c.in_ok-index.index c.in_ok-files-2.files resolved short names (c.in_ok-files-2.ensures.bytes ∙ bytes) in
-    let within : length (set_of c.in_ok-files-2.files c.in_ok-links.links) ≤ limit_of c.args.limits.now limit.SetBytes = rw (← c.get.ensures.value) (c.is_set_within.ensures.0 c.if-not-is_set_within.false) in
+    let is = written c.args.limits.now c.args.sources.now c.in_ok-files.files.items c.in_ok-descs-2.descs.items c.in_ok-links.links c.in_ok-index.index
+    c.in_ok-files-2.files resolved short names (c.in_ok-files-2.ensures.bytes ∙ bytes) in
+    let within : length (set_of c.in_ok-files-2.files c.in_ok-links.links) ≤ limit_of c.args.limits.now limit.SetBytes =
+    rw (← c.get.ensures.value) (c.is_set_within.ensures.0 c.if-not-is_set_within.false) in
     record { written = is; within = within }

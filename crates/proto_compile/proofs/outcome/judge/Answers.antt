@@ -10,19 +10,25 @@ use Rattle.proto_compile.proofs.Sorting.{name_is}
 use Rattle.proto_compile.proofs.outcome.judge.Goals as goal
 
 pub loop-outcome-preserved : goal.loop-outcome-preserved
-loop-outcome-preserved g c = rw c.in_ok-push-in-Ok.ensures.items (well_more c.loop-outcome.all.items c.loop-outcome.yielded c.in-Ok.value c.in-Some.outcome c.loop-outcome.invariant c.in-Ok.is)
+loop-outcome-preserved g c = rw c.in_ok-push-in-Ok.ensures.items
+    (well_more c.loop-outcome.all.items c.loop-outcome.yielded c.in-Ok.value c.in-Some.outcome c.loop-outcome.invariant c.in-Ok.is)
 
 pub returns-in-Err-clause-first : goal.returns-in-Err-clause-first
 returns-in-Err-clause-first g c =
     let gives = c.into_iter-outcome-iterator.ensures.into_iter_gives in
     let all = YieldsList-from_vec c.args.outcomes.items gives.0 (omega (arith, gives.1)) in
-    let so_far : c.loop-outcome.yielded ≡ take (length c.loop-outcome.yielded) c.args.outcomes.items = sym (map-id c.loop-outcome.yielded) ∙ YieldsList-so_far all c.loop-outcome.yielded c.loop-outcome.outcome-iterator c.loop-outcome.yielded_by in
-    let turn = YieldsList-turn all c.loop-outcome.yielded c.loop-outcome.outcome-iterator c.loop-outcome.yielded_by c.next.result c.next.new.self c.in-Some.outcome c.in-Some.is c.next.ensures.steps in
-    let at : c.len-in-Err.result ≡ length c.loop-outcome.yielded = c.len-in-Err.ensures ∙ c.loop-outcome.all.ok.0 ∙ sym (length-map c.loop-outcome.all.items Ok) ∙ ap length c.loop-outcome.invariant in
+    let so_far : c.loop-outcome.yielded ≡ take (length c.loop-outcome.yielded) c.args.outcomes.items =
+    sym (map-id c.loop-outcome.yielded) ∙ YieldsList-so_far all c.loop-outcome.yielded c.loop-outcome.outcome-iterator c.loop-outcome.yielded_by in
+    let turn = YieldsList-turn all c.loop-outcome.yielded c.loop-outcome.outcome-iterator c.loop-outcome.yielded_by c.next.result c.next.new.self
+    c.in-Some.outcome c.in-Some.is c.next.ensures.steps in
+    let at : c.len-in-Err.result ≡ length c.loop-outcome.yielded =
+    c.len-in-Err.ensures ∙ c.loop-outcome.all.ok.0 ∙ sym (length-map c.loop-outcome.all.items Ok) ∙ ap length c.loop-outcome.invariant in
     let is : c.in-Some.outcome ≡ Err c.in-Err.error = c.in-Err.is in
     let below : c.len-in-Err.result < length c.args.outcomes.items = omega (arith, at, turn.0) in
     let within : c.len-in-Err.result < length c.args.files.now = omega (arith, below, c.requires) in
-    told_first (number_of c.args.pass) c.args.files.now c.args.outcomes.items c.len-in-Err.result c.loop-outcome.all.items c.in-Some.outcome c.in-Err.error c.refusal_of_file.result
-    (subst (λ (n : List ℕ). TellsOfFile (number_of c.args.pass) n c.in-Err.error c.refusal_of_file.result) (sym (name_is c.args.files.now c.len-in-Err.result _ within)) c.refusal_of_file.ensures)
+    told_first (number_of c.args.pass) c.args.files.now c.args.outcomes.items c.len-in-Err.result c.loop-outcome.all.items c.in-Some.outcome c.in-Err.error
+    c.refusal_of_file.result
+    (subst (λ (n : List ℕ). TellsOfFile (number_of c.args.pass) n c.in-Err.error c.refusal_of_file.result)
+    (sym (name_is c.args.files.now c.len-in-Err.result _ within)) c.refusal_of_file.ensures)
     (c.loop-outcome.invariant ∙ so_far ∙ ap (λ (k : ℕ). take k c.args.outcomes.items) (sym at)) below
     (turn.1 ∙ ap (λ (k : ℕ). get_or c.args.outcomes.items k c.in-Some.outcome) (sym at)) is

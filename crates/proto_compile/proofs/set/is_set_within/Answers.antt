@@ -9,12 +9,15 @@ use Rattle.proto_compile.proofs.set.is_set_within.Goals as goal
 
 pub bytes-requires : goal.bytes-requires
 bytes-requires c =
-    c.requires.inside _ (subst (λ (xs : List ℕ). Contains xs (get_or c.set_order-file-items.result.now c.loop-file.file-index 0)) c.set_order-file-items.ensures (item_at c.set_order-file-items.result.now c.loop-file.file-index 0 (omega arith)))
+    c.requires.inside _ (subst (λ (xs : List ℕ). Contains xs (get_or c.set_order-file-items.result.now c.loop-file.file-index 0)) c.set_order-file-items.ensures
+    (item_at c.set_order-file-items.result.now c.loop-file.file-index 0 (omega arith)))
 
 pub returns-then-length-most : goal.returns-then-length-most
 returns-then-length-most c =
     let field = λ (a : ℕ). bytes_field 1 (bytes_at c.args.files.now a) in
     let part = length-flat_map-take field c.set_order-file-items.result.now c.loop-file.file-index 0 (omega arith) in
-    let here : c.field_len-length.result ≡ length (bytes_field 1 (bytes_at c.args.files.now (get_or c.set_order-file-items.result.now c.loop-file.file-index 0))) = c.field_len-length.ensures.len ∙ ap (λ (b : List ℕ). length (bytes_field 1 b)) c.bytes.ensures in
+    let here : c.field_len-length.result ≡ length (bytes_field 1
+    (bytes_at c.args.files.now (get_or c.set_order-file-items.result.now c.loop-file.file-index 0))) =
+    c.field_len-length.ensures.len ∙ ap (λ (b : List ℕ). length (bytes_field 1 b)) c.bytes.ensures in
     let whole = ap (λ (xs : List ℕ). length (flat_map field xs)) c.set_order-file-items.ensures in
     (λ t. absurd (true≢false (sym t)), λ within. absurd (omega (arith, within, part, here, whole, c.loop-file.invariant.so_far, c.if-length-most.true)))

@@ -5,4 +5,5 @@ use Rattle.proto_compile.proofs.set.set_bytes.Goals as goal
 
 pub bytes-requires : goal.bytes-requires
 bytes-requires c =
-    c.requires _ (subst (λ (xs : List ℕ). Contains xs (get_or c.set_order-file-items.result.now c.loop-file.file-index 0)) c.set_order-file-items.ensures (item_at c.set_order-file-items.result.now c.loop-file.file-index 0 (omega arith)))
+    c.requires _ (subst (λ (xs : List ℕ). Contains xs (get_or c.set_order-file-items.result.now c.loop-file.file-index 0)) c.set_order-file-items.ensures
+    (item_at c.set_order-file-items.result.now c.loop-file.file-index 0 (omega arith)))

@@ -14,11 +14,15 @@ loop-import-preserved c =
     let i = c.import-item.result in
     let inside : k < length imports = omega arith in
     let next : k + 1 ≡ suc k = omega arith in
-    let step : take (k + 1) imports ≡ take k imports ++ i ∷ [] = ap (λ n. take n imports) next ∙ take-suc imports k i inside ∙ ap (λ (x : ImportDesc). take k imports ++ x ∷ []) (sym c.import-item.is) in
+    let step : take (k + 1) imports ≡ take k imports ++ i ∷ [] =
+    ap (λ n. take n imports) next ∙ take-suc imports k i inside ∙ ap (λ (x : ImportDesc). take k imports ++ x ∷ []) (sym c.import-item.is) in
     rw step (elim c.match-fault_of.branch [
-      | in-Some w ↦ rw w.first-is (first_more c.args.files.now c.args.file (take k imports) i c.loop-import.first w.in-Some.kind _ w.lesser.result refl w.in-Some.ensures w.lesser.ensures c.loop-import.invariant)
-      | in_default w ↦ rw w.first-is (first_skip c.args.files.now c.args.file (take k imports) i c.loop-import.first w.in_default.ensures c.loop-import.invariant)
+      | in-Some w ↦ rw w.first-is (first_more c.args.files.now c.args.file (take k imports) i c.loop-import.first w.in-Some.kind _ w.lesser.result refl
+          w.in-Some.ensures w.lesser.ensures c.loop-import.invariant)
+      | in_default w ↦ rw w.first-is (first_skip c.args.files.now c.args.file (take k imports) i c.loop-import.first w.in_default.ensures
+          c.loop-import.invariant)
     ])
 
 pub returns : goal.returns
-returns c = subst (λ xs. IsFirstWrong c.args.files.now c.args.file xs c.loop-import.first) (whole_prefix c.args.imports.now c.loop-import.import-index (omega arith)) c.loop-import.invariant
+returns c = subst (λ xs. IsFirstWrong c.args.files.now c.args.file xs c.loop-import.first)
+    (whole_prefix c.args.imports.now c.loop-import.import-index (omega arith)) c.loop-import.invariant

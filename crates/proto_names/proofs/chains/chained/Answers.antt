@@ -16,13 +16,18 @@ loop-position-preserved c =
     let n = c.loop-position.position in
     let count = 2 * length es + 1 in
     let slot = c.with_text-hash.result % count in
-    let here : at (map occurrence es) n ≡ occurrence c.index-entries-position.result = at_place es n c.index-entries-position.result (omega arith) c.index-entries-position.is in
+    let here : at (map occurrence es) n ≡ occurrence c.index-entries-position.result =
+    at_place es n c.index-entries-position.result (omega arith) c.index-entries-position.is in
     let below : slot < count = mod_below c.with_text-hash.result count (omega arith) in
-    let next = c.index-next.ensures ∙ get_or_default c.loop-position.slots.items slot c.index-next.result.now 0 (omega (arith, below, c.loop-position.invariant.size)) in
-    chaining_more (map occurrence es) count n slot c.head.result c.loop-position.slots.items _ c.loop-position.links.items c.push.new.self.items (record { hash = c.with_text-hash.result; next = c.index-next.result.now })
-    (c.with_text-hash.ensures ∙ ap hash_of (c.as_str.ensures.value ∙ ap (λ (o : Occurrence). o.name) (sym here))) refl next c.head.ensures refl c.in_ok-push.ensures.items c.loop-position.invariant
+    let next = c.index-next.ensures ∙ get_or_default c.loop-position.slots.items slot c.index-next.result.now 0
+    (omega (arith, below, c.loop-position.invariant.size)) in
+    chaining_more (map occurrence es) count n slot c.head.result c.loop-position.slots.items _ c.loop-position.links.items c.push.new.self.items
+    (record { hash = c.with_text-hash.result; next = c.index-next.result.now })
+    (c.with_text-hash.ensures ∙ ap hash_of (c.as_str.ensures.value ∙ ap (λ (o : Occurrence). o.name) (sym here))) refl next c.head.ensures refl
+    c.in_ok-push.ensures.items c.loop-position.invariant
 
 pub returns : goal.returns
 returns c =
     let whole : c.loop-position.position ≡ length c.args.entries.now = omega arith in
-    subst (λ n. AreChained (map occurrence c.args.entries.now) n c.loop-position.slots.items c.loop-position.links.items) whole c.loop-position.invariant.chained
+    subst (λ n. AreChained (map occurrence c.args.entries.now) n c.loop-position.slots.items c.loop-position.links.items) whole
+    c.loop-position.invariant.chained

@@ -11,4 +11,5 @@ pub returns-clause-point : goal.returns-clause-point
 returns-clause-point c =
     let target = scoped c.args.scope.now c.args.name.now in
     less_point c.args.entries.now target c.partition_point.result
-    (IsPartitionPoint-from_clause (λ e. is_lt (slice_cmp nat_cmp (entry_name e) target)) c.args.entries.now c.partition_point.result c.partition_point.ensures.partitioned (parted_less c.args.entries.now target c.requires) (λ a r f called. search rules))
+    (IsPartitionPoint-from_clause (λ e. is_lt (slice_cmp nat_cmp (entry_name e) target)) c.args.entries.now c.partition_point.result
+    c.partition_point.ensures.partitioned (parted_less c.args.entries.now target c.requires) (λ a r f called. search rules))

@@ -14,6 +14,7 @@ returns-else-start-entries c =
     nowhere_is es (scoped c.args.scope.now c.args.name.now) start c.requires c.count_before-start.ensures.point
     (λ e below is same. elim c.else-start-entries.branch [
       | else-start-entries-via-then-start-entries+else-has_name w ↦
-          not_true (sym w.if-has_name.false ∙ w.has_name.ensures.1 (ap entry_name (w.index-entries-start.is ∙ get_or_default es start _ e below ∙ sym is) ∙ same))
+          not_true (sym w.if-has_name.false ∙ w.has_name.ensures.1
+          (ap entry_name (w.index-entries-start.is ∙ get_or_default es start _ e below ∙ sym is) ∙ same))
       | else-start-entries-via-else-start-entries w ↦ (let past = w.if-start-entries.false in absurd (omega (arith, past, below)))
     ])

@@ -10,7 +10,11 @@ returns-in-Some c =
     let k = c.in-Some.at in
     let found = rw c.in-Some.is at (rfind_char 46 s c.rfind.result c.rfind.ensures.cases (lit< tt)) in
     let front : c.range.result.now ≡ take k s = grind (arith, common_steps) in
-    rw front (candidate_before_dot s k found.0 found.1, (let below : k < length s = found.0 in grind (arith, common_steps)), λ d h. candidates_at_dot s d k found.0 found.2 h)
+    rw front (
+      candidate_before_dot s k found.0 found.1,
+      (let below : k < length s = found.0 in grind (arith, common_steps)),
+      λ d h. candidates_at_dot s d k found.0 found.2 h,
+    )
 
 pub returns-in-None : goal.returns-in-None
 returns-in-None c =

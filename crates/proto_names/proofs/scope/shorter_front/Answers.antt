@@ -14,4 +14,5 @@ returns c =
     rw front (fronts_at_dot text dot below found.1 found.2, grind (arith, common_steps))
 
 pub returns-in_err-dot : goal.returns-in_err-dot
-returns-in_err-dot c = rw c.from_residual.ensures (fronts_plain c.args.text.now (rw c.in_err-dot.was at (rfind_char 46 c.args.text.now c.rfind.result c.rfind.ensures.cases (lit< tt))))
+returns-in_err-dot c = rw c.from_residual.ensures (fronts_plain c.args.text.now
+    (rw c.in_err-dot.was at (rfind_char 46 c.args.text.now c.rfind.result c.rfind.ensures.cases (lit< tt))))

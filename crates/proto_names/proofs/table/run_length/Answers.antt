@@ -13,7 +13,9 @@ returns-else-entries-gt1-clause-point c =
     let es = c.args.entries.now in
     let target = scoped c.args.scope.now c.args.name.now in
     let other : (d : Entry) → 1 < length es → entry_name (get_or es 1 d) ≢ target = elim c.else-entries-gt1.branch [
-      | else-entries-gt1-via-then-entries-gt1+else-has_name w ↦ (λ d h e. true≢false (sym (w.has_name.ensures.1 (ap entry_name (w.index-entries-1.is ∙ get_or_default es 1 w.index-entries-1.result d h) ∙ e)) ∙ w.if-has_name.false))
+      | else-entries-gt1-via-then-entries-gt1+else-has_name w ↦
+          (λ d h e. true≢false (sym (w.has_name.ensures.1 (ap entry_name (w.index-entries-1.is ∙ get_or_default es 1 w.index-entries-1.result d h) ∙ e))
+          ∙ w.if-has_name.false))
       | else-entries-gt1-via-else-entries-gt1 w ↦ (λ d h. absurd (omega (arith, h)))
     ] in
     one_point es target c.requires.order c.requires.behind c.requires.first other

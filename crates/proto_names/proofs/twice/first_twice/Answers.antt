@@ -22,7 +22,8 @@ loop-place-preserved c =
             let spot = ap spot_of (at_get c.args.entries.now n w.index-entries-place.result (omega arith)) in
             let twice = repeats_twice os n c.requires (omega (arith, l)) (c.is_twice.ensures.0 w.if-is_twice.true) in
             rw w.first-is (passed_twice os n c.loop-place.first e.spot w.lesser.result spot twice w.lesser.ensures c.loop-place.invariant.passed))
-        | else-is_twice w ↦ rw w.first-is (passed_skip os n c.loop-place.first (λ t. true≢false (sym (c.is_twice.ensures.1 t) ∙ w.if-is_twice.false)) c.loop-place.invariant.passed)
+        | else-is_twice w ↦ rw w.first-is (passed_skip os n c.loop-place.first (λ t. true≢false (sym (c.is_twice.ensures.1 t) ∙ w.if-is_twice.false))
+            c.loop-place.invariant.passed)
       ]);
     }
 

@@ -12,4 +12,5 @@ returns-then-continues c =
 pub returns-else-continues : goal.returns-else-continues
 returns-else-continues c =
     let l = length-map c.args.entries.now occurrence in
-    run_new (map occurrence c.args.entries.now) c.args.place c.requires.order (omega (arith, l, c.requires.place)) (c.continues.ensures.other c.if-continues.false)
+    run_new (map occurrence c.args.entries.now) c.args.place c.requires.order (omega (arith, l, c.requires.place))
+    (c.continues.ensures.other c.if-continues.false)

@@ -8,7 +8,8 @@ use Rattle.proto_tokens.proofs.piece.piece_at.Goals as goal
 pub returns-then-is_blank : goal.returns-then-is_blank
 returns-then-is_blank c =
     let begins_so = begins_from is_blank c.bytes_from-rest.result.now (omega arith) (sym c.if-is_blank.ensures) in
-    subst (λ (s : List ℕ). IsLongestPiece s c.blanks_len.result None) c.bytes_from-rest.ensures.rest (rw c.blanks_len.ensures.run (longest_blanks c.bytes_from-rest.result.now begins_so))
+    subst (λ (s : List ℕ). IsLongestPiece s c.blanks_len.result None) c.bytes_from-rest.ensures.rest
+    (rw c.blanks_len.ensures.run (longest_blanks c.bytes_from-rest.result.now begins_so))
 
 pub returns-then-is_letter : goal.returns-then-is_letter
 returns-then-is_letter c =
@@ -21,7 +22,10 @@ pub returns-in-Err : goal.returns-in-Err
 returns-in-Err c = fault_here _ _ c.args.at c.in-Err.kind _ c.bytes_from-rest.ensures.rest c.in-Err.ensures c.fault_at.ensures
 
 pub returns-in-Err-comment_or_punctuation : goal.returns-in-Err-comment_or_punctuation
-returns-in-Err-comment_or_punctuation c = fault_here _ _ c.args.at c.in-Err-comment_or_punctuation.kind _ c.bytes_from-rest.ensures.rest c.in-Err-comment_or_punctuation.ensures c.fault_at-in-Err-comment_or_punctuation.ensures
+returns-in-Err-comment_or_punctuation c = fault_here _ _ c.args.at c.in-Err-comment_or_punctuation.kind _ c.bytes_from-rest.ensures.rest
+    c.in-Err-comment_or_punctuation.ensures c.fault_at-in-Err-comment_or_punctuation.ensures
 
 pub returns : goal.returns
-returns c = fault_here _ _ c.args.at _ _ c.bytes_from-rest.ensures.rest (bad_byte c.bytes_from-rest.result.now (omega arith) (sym c.if-is_blank.ensures) (sym c.if-is_letter.ensures) (sym c.if-is_ascii_digit.ensures.value) (sym c.if-is_quote.ensures) (sym c.if-is_punctuation.ensures)) c.fault_at-2.ensures
+returns c = fault_here _ _ c.args.at _ _ c.bytes_from-rest.ensures.rest
+    (bad_byte c.bytes_from-rest.result.now (omega arith) (sym c.if-is_blank.ensures) (sym c.if-is_letter.ensures) (sym c.if-is_ascii_digit.ensures.value)
+    (sym c.if-is_quote.ensures) (sym c.if-is_punctuation.ensures)) c.fault_at-2.ensures

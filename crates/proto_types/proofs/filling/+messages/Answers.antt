@@ -18,7 +18,8 @@ fill_message-returns t c =
       puts = λ os seen scope.
           rw (references_out m scope)
           (puts_both os (IsSeen seen) (own_references m scope) (flat_map (λ n. references_by_message n (scope_in m scope)) (out-MessageDesc m).nested)
-          (AllZip (IsTypedField os (IsSeen seen) (field_scope scope (out-MessageDesc m))) (out-MessageDesc m).fields fields) (AllZip (IsTypedMessage os (IsSeen seen) (scope_in m scope)) (out-MessageDesc m).nested nested) _
+          (AllZip (IsTypedField os (IsSeen seen) (field_scope scope (out-MessageDesc m))) (out-MessageDesc m).fields fields)
+          (AllZip (IsTypedMessage os (IsSeen seen) (scope_in m scope)) (out-MessageDesc m).nested nested) _
           c.args.types.now.items c.fill_fields.new.types.items c.fill_messages.new.types.items
           (remade_typed os (IsSeen seen) scope m _ fields nested (simp out-roll-MessageDesc))
           (c.in_ok-fields.ensures.puts os seen (field_scope scope (out-MessageDesc m))) (inside.puts os seen (scope_in m scope)));
@@ -27,4 +28,5 @@ fill_message-returns t c =
 pub fill_messages-loop-message-preserved : goal.fill_messages-loop-message-preserved
 fill_messages-loop-message-preserved t c =
     rw c.in_ok-push.ensures.items
-    (filled_more (λ scope m. references_by_message m scope) IsTypedMessage c.loop-message.yielded c.loop-message.done.items c.in-Some.message c.in_ok-filled.filled c.args.types.now.items c.loop-message.types.items c.fill_message.new.types.items c.loop-message.invariant c.in_ok-filled.ensures)
+    (filled_more (λ scope m. references_by_message m scope) IsTypedMessage c.loop-message.yielded c.loop-message.done.items c.in-Some.message
+    c.in_ok-filled.filled c.args.types.now.items c.loop-message.types.items c.fill_message.new.types.items c.loop-message.invariant c.in_ok-filled.ensures)

@@ -11,6 +11,7 @@ returns c =
     let typed = c.fill_kind.result in
     record {
       puts = λ os seen scope.
-          puts_as os (IsSeen seen) (references_of_field scope f) (IsTypedKind os (IsSeen seen) scope f.field_type typed) (IsTypedField os (IsSeen seen) scope f (with_type f typed)) c.args.types.now.items c.fill_kind.new.types.items
+          puts_as os (IsSeen seen) (references_of_field scope f) (IsTypedKind os (IsSeen seen) scope f.field_type typed)
+          (IsTypedField os (IsSeen seen) scope f (with_type f typed)) c.args.types.now.items c.fill_kind.new.types.items
           (λ h. (typed, h, refl)) ((c.fill_kind.ensures f.options).puts os seen scope);
     }

@@ -6,4 +6,5 @@ use Rattle.proto_types.proofs.filling.fill_fields.Goals as goal
 pub loop-field-preserved : goal.loop-field-preserved
 loop-field-preserved c =
     rw c.in_ok-push.ensures.items
-    (filled_more references_of_field IsTypedField c.loop-field.yielded c.loop-field.done.items c.in-Some.field c.fill_field-filled.result c.args.types.now.items c.loop-field.types.items c.fill_field-filled.new.types.items c.loop-field.invariant c.fill_field-filled.ensures)
+    (filled_more references_of_field IsTypedField c.loop-field.yielded c.loop-field.done.items c.in-Some.field c.fill_field-filled.result c.args.types.now.items
+    c.loop-field.types.items c.fill_field-filled.new.types.items c.loop-field.invariant c.fill_field-filled.ensures)

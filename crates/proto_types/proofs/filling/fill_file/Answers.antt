@@ -17,7 +17,15 @@ returns c =
       puts = λ os seen scope.
           puts_both os (IsSeen seen) (flat_map (λ m. references_by_message m scope) f.messages) (flat_map (references_of_service scope) f.services)
           (AllZip (IsTypedMessage os (IsSeen seen) scope) f.messages messages) (AllZip (IsTypedService os (IsSeen seen) scope) f.services services)
-          (IsTypedIn os (IsSeen seen) scope f (record { name = f.name; «package» = f.«package»; imports = f.imports; messages = messages; enums = f.enums; services = services; options = f.options }))
+          (IsTypedIn os (IsSeen seen) scope f (record {
+            name = f.name;
+            «package» = f.«package»;
+            imports = f.imports;
+            messages = messages;
+            enums = f.enums;
+            services = services;
+            options = f.options;
+          }))
           c.args.types.now.items c.fill_messages.new.types.items c.fill_services.new.types.items
           (λ ms ss. record { messages_typed = messages_typed os (IsSeen seen) scope f.messages messages ms; services_typed = ss; same = refl })
           (c.in_ok-messages.ensures.puts os seen scope) (c.in_ok-services.ensures.puts os seen scope);

@@ -16,7 +16,15 @@ returns c =
       puts = λ os seen scope.
           puts_both os (IsSeen seen) (references_of_type scope want.MessageOnly [] m.input) (references_of_type scope want.MessageOnly [] m.output)
           (IsTyped os (IsSeen seen) scope m.input input) (IsTyped os (IsSeen seen) scope m.output output)
-          (IsTypedMethod os (IsSeen seen) scope m (record { name = m.name; place = m.place; input = input; output = output; options = m.options; client_streaming = m.client_streaming; server_streaming = m.server_streaming }))
+          (IsTypedMethod os (IsSeen seen) scope m (record {
+            name = m.name;
+            place = m.place;
+            input = input;
+            output = output;
+            options = m.options;
+            client_streaming = m.client_streaming;
+            server_streaming = m.server_streaming;
+          }))
           c.args.types.now.items after c.fill_reference-output.new.types.items
           (λ h k. record { input_typed = h; output_typed = k; same = refl })
           ((c.fill_reference-input.ensures want.MessageOnly []).puts os seen scope) ((c.fill_reference-output.ensures want.MessageOnly []).puts os seen scope);

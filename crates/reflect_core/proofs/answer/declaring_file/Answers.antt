@@ -6,7 +6,8 @@ use Rattle.reflect_core.proofs.answer.declaring_file.Goals as goal
 
 pub returns-in-Some-clause-answer : goal.returns-in-Some-clause-answer
 returns-in-Some-clause-answer c =
-    let w = found_is c.args.compiled.now c.names.result.now c.args.symbol.now c.in-Some.defined c.names.ensures (c.find.ensures.found c.in-Some.defined c.in-Some.is) in
+    let w = found_is c.args.compiled.now c.names.result.now c.args.symbol.now c.in-Some.defined c.names.ensures
+    (c.find.ensures.found c.in-Some.defined c.in-Some.is) in
     subst (λ (a : ℕ). IsAnswer c.args.compiled.now (file_by_symbol c.args.symbol.now) (file a)) w.same_file (declared c.args.symbol.now w.occurrence w.declares)
 
 pub returns-in-None-clause-answer : goal.returns-in-None-clause-answer

@@ -10,7 +10,8 @@ use Rattle.reflect_core.proofs.answer.extensions_of.Goals.{in_default-via-in-Som
 
 pub returns-in-Some-clause-answer : goal.returns-in-Some-clause-answer
 returns-in-Some-clause-answer c =
-    let w = found_is c.args.compiled.now c.names-2.result.now c.args.name.now c.in-Some.defined c.names-2.ensures (c.find.ensures.found c.in-Some.defined c.in-Some.is) in
+    let w = found_is c.args.compiled.now c.names-2.result.now c.args.name.now c.in-Some.defined c.names-2.ensures
+    (c.find.ensures.found c.in-Some.defined c.in-Some.is) in
     message c.args.name.now w.occurrence w.declares (w.kind ∙ ap Some (c.is_message.ensures.0 c.if-is_message.true))
 
 kind_of : {k l : NameKind} → Some k ≡ Some l → k ≡ l

@@ -6,4 +6,5 @@ use Rattle.reflect_requests.specs.Frames.{frame}
 use Rattle.reflect_core.proofs.response.response_to.Given as goal
 
 abbrev pub invariant-loop-place : goal.invariant-loop-place
-invariant-loop-place l = l.out.items ≡ flat_map (frame 0) (replies_to l.fn.material.compiled.now (map asked_of (take l.place l.asked)) (map files_of (take l.place l.carried)))
+invariant-loop-place l =
+    l.out.items ≡ flat_map (frame 0) (replies_to l.fn.material.compiled.now (map asked_of (take l.place l.asked)) (map files_of (take l.place l.carried)))

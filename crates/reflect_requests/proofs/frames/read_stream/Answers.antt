@@ -16,9 +16,11 @@ loop-messages-preserved c =
     let pushed = sym c.in_ok-push-in-Frame.ensures.items in
     let inv = c.loop-messages.invariant in
     record {
-      row = subst (λ (xs : List Message). c.args.body.now ≡ flat_map (frame 0) (map bytes_of xs) ++ c.in-Frame.after.now) pushed (row_longer c.args.body.now c.loop-messages.rest.now c.in-Frame.after.now old m inv.row next.0.row);
+      row = subst (λ (xs : List Message). c.args.body.now ≡ flat_map (frame 0) (map bytes_of xs) ++ c.in-Frame.after.now) pushed
+          (row_longer c.args.body.now c.loop-messages.rest.now c.in-Frame.after.now old m inv.row next.0.row);
       allowed = subst (λ (xs : List Message). All (IsAllowed c.args.limits.now) (map bytes_of xs)) pushed
-          (subst (λ xs. All (IsAllowed c.args.limits.now) xs) (sym (longer old m)) (All-push (IsAllowed c.args.limits.now) (map bytes_of old) (bytes_of m) inv.allowed next.1));
+          (subst (λ xs. All (IsAllowed c.args.limits.now) xs) (sym (longer old m))
+          (All-push (IsAllowed c.args.limits.now) (map bytes_of old) (bytes_of m) inv.allowed next.1));
       few = let room = next.0.room in let len = c.in_ok-push-in-Frame.ensures.len in omega arith;
       requests = subst (λ (xs : List Message). All Reads xs) pushed (All-push Reads old m inv.requests next.2);
     }
@@ -33,7 +35,14 @@ returns-in-End-clause-body c =
       over = λ h. absurd (let no = c.if-body-get.false in let is = c.get.ensures.value in omega (arith, h, no, is));
       within = λ h. (
         c.loop-messages.rest.now,
-        record { row = inv.row; allowed = inv.allowed; few = omega (arith, count, inv.few); longest = λ room. next.none (let len = c.len.ensures in omega (arith, room, count, len)) },
-        c.number-in-End.ensures ∙ next.status_is ∙ ap (λ k. status_of c.args.limits.now k c.loop-messages.rest.now) (let len = c.len.ensures in let same : c.len.result ≡ length (map bytes_of old) = omega (arith, len, count) in same),
+        record {
+          row = inv.row;
+          allowed = inv.allowed;
+          few = omega (arith, count, inv.few);
+          longest =
+              λ room. next.none (let len = c.len.ensures in omega (arith, room, count, len));
+        },
+        c.number-in-End.ensures ∙ next.status_is ∙ ap (λ k. status_of c.args.limits.now k c.loop-messages.rest.now) (let len = c.len.ensures in
+            let same : c.len.result ≡ length (map bytes_of old) = omega (arith, len, count) in same),
       );
     }

@@ -4,11 +4,13 @@ use Rattle.share_work.proofs.shares.in_shares.Goals as goal
 
 pub returns-in_err-rows-clause-within : goal.returns-in_err-rows-clause-within
 returns-in_err-rows-clause-within g c =
-    held_within (g.W.Work.holds c.args.work.now) (g.W.Work.adds c.args.work.now) c.args.plan.workers c.args.plan.cut c.args.items.now _ _ c.in_err-rows.ensures.gains
+    held_within (g.W.Work.holds c.args.work.now) (g.W.Work.adds c.args.work.now) c.args.plan.workers c.args.plan.cut c.args.items.now _ _
+    c.in_err-rows.ensures.gains
 
 pub returns-clause-within : goal.returns-clause-within
 returns-clause-within g c =
-    held_within (g.W.Work.holds c.args.work.now) (g.W.Work.adds c.args.work.now) c.args.plan.workers c.args.plan.cut c.args.items.now _ _ c.in_ok-rows.ensures.gains
+    held_within (g.W.Work.holds c.args.work.now) (g.W.Work.adds c.args.work.now) c.args.plan.workers c.args.plan.cut c.args.items.now _ _
+    c.in_ok-rows.ensures.gains
 
 pub returns-clause-together : goal.returns-clause-together
 returns-clause-together g c =

@@ -9,5 +9,6 @@ returns-then-eq c =
 pub loop-next-preserved : goal.loop-next-preserved
 loop-next-preserved c = record {
   some = omega arith;
-  apart = apart_more c.args.sources.now c.loop-next.next (apart_at c.args.sources.now c.loop-next.next _ _ c.loop-next.invariant.some (omega arith) (sym c.eq.ensures ∙ c.if-eq.false)) c.loop-next.invariant.some c.loop-next.invariant.apart;
+  apart = apart_more c.args.sources.now c.loop-next.next (apart_at c.args.sources.now c.loop-next.next _ _ c.loop-next.invariant.some (omega arith)
+      (sym c.eq.ensures ∙ c.if-eq.false)) c.loop-next.invariant.some c.loop-next.invariant.apart;
 }

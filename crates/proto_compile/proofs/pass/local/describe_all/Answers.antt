@@ -16,7 +16,8 @@ judge-requires g c = sym c.in_ok-outcomes.ensures.0
 pub returns-clause-described : goal.returns-clause-described
 returns-clause-described g c =
     let each = zip_of_gives (λ k. IsDescribed c.args.limits.now) 0 c.args.files.now c.in_ok-outcomes.outcomes.items c.in_ok-outcomes.ensures in
-    ok_map (λ (descs : Vec FileDesc Global). c.in_ok-outcomes.outcomes.items ≡ map Ok descs.items) (λ descs. AllZip (SourceDescribes c.args.limits.now) c.args.files.now descs.items) c.judge.result
+    ok_map (λ (descs : Vec FileDesc Global). c.in_ok-outcomes.outcomes.items ≡ map Ok descs.items)
+    (λ descs. AllZip (SourceDescribes c.args.limits.now) c.args.files.now descs.items) c.judge.result
     (λ descs is. all_described c.args.limits.now c.args.files.now c.in_ok-outcomes.outcomes.items descs.items each is) c.judge.ensures.well
 
 pub returns-clause-first : goal.returns-clause-first

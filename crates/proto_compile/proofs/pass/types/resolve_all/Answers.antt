@@ -12,7 +12,8 @@ returns-in_err-types-clause-first g c limits sources analysed =
     let descs = c.args.descs.items in
     let given = rw c.as_slice.ensures.value at c.in_ok-outcomes.ensures in
     let each = zip_of_gives (IsResolved links index) 0 descs c.in_ok-outcomes.outcomes.items given in
-    let refused = refused_types limits sources c.args.files.now descs links index c.in_ok-outcomes.outcomes.items c.in_err-types.field-0.0 analysed each c.in_err-types.ensures.first in
+    let refused = refused_types limits sources c.args.files.now descs links index c.in_ok-outcomes.outcomes.items c.in_err-types.field-0.0 analysed each
+    c.in_err-types.ensures.first in
     search (rules, refused)
 
 pub returns-clause-typed : goal.returns-clause-typed

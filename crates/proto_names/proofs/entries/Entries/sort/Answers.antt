@@ -13,10 +13,14 @@ pub returns-clause-all : goal.returns-clause-all
 returns-clause-all g c =
     let len : length c.par_sort.new.s ≡ length c.self.inside.entries.items = c.par_sort.ensures.len ∙ ap length c.deref_mut.ensures.value in
     let same = written c.par_sort.new.s c.self.inside.entries.items c.self.inside.entries.len c.self.inside.entries.ok.0 len in
-    rw (← c.self.view_is, same) (on_ok_of c.par_sort.result (IsPermutation-map occurrence c.self.inside.entries.items c.par_sort.new.s (rw c.deref_mut.ensures.value at c.par_sort.ensures.permutation)))
+    rw (← c.self.view_is, same) (on_ok_of c.par_sort.result
+    (IsPermutation-map occurrence c.self.inside.entries.items c.par_sort.new.s (rw c.deref_mut.ensures.value at c.par_sort.ensures.permutation)))
 
 pub returns-clause-order : goal.returns-clause-order
 returns-clause-order g c =
     let len : length c.par_sort.new.s ≡ length c.self.inside.entries.items = c.par_sort.ensures.len ∙ ap length c.deref_mut.ensures.value in
     let same = written c.par_sort.new.s c.self.inside.entries.items c.self.inside.entries.len c.self.inside.entries.ok.0 len in
-    on_ok c.par_sort.result (λ up. rw same (sorted_occurrences _ c.par_sort.new.s (λ a b. without_more (slice_cmp nat_cmp (entry_name a) (entry_name b)) (ordering_then (nat_cmp a.spot.file b.spot.file) (nat_cmp a.spot.place.offset b.spot.place.offset)) (option_cmp (kind_order.cmp-value).it a.kind b.kind)) up)) c.par_sort.ensures.sorted
+    on_ok c.par_sort.result (λ up. rw same (sorted_occurrences _ c.par_sort.new.s
+    (λ a b. without_more (slice_cmp nat_cmp (entry_name a) (entry_name b))
+    (ordering_then (nat_cmp a.spot.file b.spot.file) (nat_cmp a.spot.place.offset b.spot.place.offset))
+    (option_cmp (kind_order.cmp-value).it a.kind b.kind)) up)) c.par_sort.ensures.sorted

@@ -15,7 +15,12 @@ returns-in-Some-first_twice-clause-twice g c file place e =
     let first = rw c.as_slice.ensures at c.in-Some-first_twice.ensures in
     let same_file : c.in-Some-first_twice.spot.file ≡ file = cc in
     let same_place : c.in-Some-first_twice.spot.place ≡ place = cc in
-    record { within = rw (collected, c.get.ensures.value) at within; twice = rw (← same_file, ← same_place) (first_moved (occurrences c.args.files.now) c.sort.new.self c.in-Some-first_twice.spot.file c.in-Some-first_twice.spot.place all first) }
+    record {
+      within = rw (collected, c.get.ensures.value) at within;
+      twice =
+          rw (← same_file, ← same_place) (first_moved (occurrences c.args.files.now) c.sort.new.self c.in-Some-first_twice.spot.file
+          c.in-Some-first_twice.spot.place all first);
+    }
 
 pub new-requires : goal.new-requires
 new-requires g c =

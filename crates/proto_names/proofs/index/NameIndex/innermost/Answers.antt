@@ -11,7 +11,8 @@ loop-inner-preserved c = record {
   left = λ d h k.
       (let at : (d ≡ c.loop-inner.inner.text.now) ⊎ IsCandidate d c.in-Some.outer.text.now = c.in-Some.ensures.2 d (c.loop-inner.invariant.left d h k) in
       elim at [
-        | inl same ↦ absurd (not_true (sym c.if-decides.false ∙ c.decides.ensures.1 (subst (λ (x : List ℕ). Decides c.args.self.now.occurrences (SeenBy c.args.links.now c.args.file) x c.args.spelled.now) same k)))
+        | inl same ↦ absurd (not_true (sym c.if-decides.false ∙ c.decides.ensures.1
+            (subst (λ (x : List ℕ). Decides c.args.self.now.occurrences (SeenBy c.args.links.now c.args.file) x c.args.spelled.now) same k)))
         | inr inside ↦ inside
       ]);
 }

@@ -17,8 +17,10 @@ is_seen-requires-clause-entry c =
 
 pub returns-then-is_seen : goal.returns-then-is_seen
 returns-then-is_seen c = (
-  λ t. subst (λ (index : Index). Visible index.occurrences (SeenBy c.args.links.now c.args.file) (fits c.args.role) (scoped c.args.scope.text.now c.args.name.now)) c.self.view_is
-      (visible_of c.self.inside.entries (SeenBy c.args.links.now c.args.file) (fits c.args.role) (scoped c.args.scope.text.now c.args.name.now) c.named-entries.result.now c.in-Some.entry.now c.named-entries.ensures.found
+  λ t. subst (λ (index : Index). Visible index.occurrences (SeenBy c.args.links.now c.args.file) (fits c.args.role)
+      (scoped c.args.scope.text.now c.args.name.now)) c.self.view_is
+      (visible_of c.self.inside.entries (SeenBy c.args.links.now c.args.file) (fits c.args.role) (scoped c.args.scope.text.now c.args.name.now)
+      c.named-entries.result.now c.in-Some.entry.now c.named-entries.ensures.found
       (rw c.in-Some.is at c.entry_in.ensures) (c.is_seen.ensures.0 c.if-is_seen.true)),
   λ v. refl,
 )
@@ -37,8 +39,10 @@ returns-then-is_seen-2 c =
     let es = c.named-entries.result.now in
     let e = c.entry-item.result in
     let within : c.loop-entry.entry-index < length es = omega arith in (
-      λ t. subst (λ (index : Index). Visible index.occurrences (SeenBy c.args.links.now c.args.file) (fits c.args.role) (scoped c.args.scope.text.now c.args.name.now)) c.self.view_is
-          (visible_of c.self.inside.entries (SeenBy c.args.links.now c.args.file) (fits c.args.role) (scoped c.args.scope.text.now c.args.name.now) es e c.named-entries.ensures.found
+      λ t. subst (λ (index : Index). Visible index.occurrences (SeenBy c.args.links.now c.args.file) (fits c.args.role)
+          (scoped c.args.scope.text.now c.args.name.now)) c.self.view_is
+          (visible_of c.self.inside.entries (SeenBy c.args.links.now c.args.file) (fits c.args.role) (scoped c.args.scope.text.now c.args.name.now) es e
+          c.named-entries.ensures.found
           (contained_at es c.loop-entry.entry-index e (within, c.entry-item.is)) (c.is_seen-in-loop-entry.ensures.0 c.if-is_seen-2.true)),
       λ v. refl,
     )
@@ -47,12 +51,15 @@ pub loop-entry-preserved : goal.loop-entry-preserved
 loop-entry-preserved c =
     let es = c.named-entries.result.now in
     let within : c.loop-entry.entry-index < length es = omega arith in
-    below_more _ _ c.loop-entry.invariant (not_at (SeenBy c.args.links.now c.args.file) (fits c.args.role) es c.loop-entry.entry-index c.entry-item.result (within, c.entry-item.is)
+    below_more _ _ c.loop-entry.invariant (not_at (SeenBy c.args.links.now c.args.file) (fits c.args.role) es c.loop-entry.entry-index c.entry-item.result
+    (within, c.entry-item.is)
     (λ fitting seen. not_true (sym c.if-is_seen-2.false ∙ c.is_seen-in-loop-entry.ensures.1 (fitting, seen))))
 
 pub returns : goal.returns
 returns c = (
   λ t. absurd (not_true t),
-  λ v. absurd (not_visible c.self.inside.entries (SeenBy c.args.links.now c.args.file) (fits c.args.role) (scoped c.args.scope.text.now c.args.name.now) c.named-entries.result.now c.loop-entry.entry-index c.named-entries.ensures.all (omega arith) c.loop-entry.invariant
-      (subst (λ (index : Index). Visible index.occurrences (SeenBy c.args.links.now c.args.file) (fits c.args.role) (scoped c.args.scope.text.now c.args.name.now)) (sym c.self.view_is) v)),
+  λ v. absurd (not_visible c.self.inside.entries (SeenBy c.args.links.now c.args.file) (fits c.args.role) (scoped c.args.scope.text.now c.args.name.now)
+      c.named-entries.result.now c.loop-entry.entry-index c.named-entries.ensures.all (omega arith) c.loop-entry.invariant
+      (subst (λ (index : Index). Visible index.occurrences (SeenBy c.args.links.now c.args.file) (fits c.args.role)
+      (scoped c.args.scope.text.now c.args.name.now)) (sym c.self.view_is) v)),
 )

@@ -14,10 +14,12 @@ pub returns-clause-found : goal.returns-clause-found
 returns-clause-found c =
     let target = scoped c.args.scope.text.now c.args.name.now in
     let run = map occurrence c.entries_named.result.now in
-    subst (λ (os : List Occurrence). (o : Occurrence) → Contains run o → Contains os o × (o.name ≡ target)) (c.as_slice.ensures ∙ c.self.view_is) (named_found c.as_slice.result.now c.entries_named.result.now target c.entries_named.ensures)
+    subst (λ (os : List Occurrence). (o : Occurrence) → Contains run o → Contains os o × (o.name ≡ target)) (c.as_slice.ensures ∙ c.self.view_is)
+    (named_found c.as_slice.result.now c.entries_named.result.now target c.entries_named.ensures)
 
 pub returns-clause-all : goal.returns-clause-all
 returns-clause-all c =
     let target = scoped c.args.scope.text.now c.args.name.now in
     let run = map occurrence c.entries_named.result.now in
-    subst (λ (os : List Occurrence). (o : Occurrence) → Contains os o → o.name ≡ target → Contains run o) (c.as_slice.ensures ∙ c.self.view_is) (named_all c.as_slice.result.now c.entries_named.result.now target c.entries_named.ensures)
+    subst (λ (os : List Occurrence). (o : Occurrence) → Contains os o → o.name ≡ target → Contains run o) (c.as_slice.ensures ∙ c.self.view_is)
+    (named_all c.as_slice.result.now c.entries_named.result.now target c.entries_named.ensures)

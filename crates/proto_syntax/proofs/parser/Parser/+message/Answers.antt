@@ -13,29 +13,40 @@ use Rattle.proto_syntax.proofs.Loops.{closes_more, closes_end, fewer_left, one_p
 use Rattle.proto_syntax.proofs.parser.Parser.+message.Goals as goal
 
 pub message_body-each-smaller : goal.message_body-each-smaller
-message_body-each-smaller t c = fewer_left (message_item (message c.args.depth)) (message_item_tree c.in_ok-item.item) c.each.self.rest.now c.message_item.new.self.rest.now (item_not_empty _ (level c.args.depth)) c.in_ok-item.ensures
+message_body-each-smaller t c = fewer_left (message_item (message c.args.depth)) (message_item_tree c.in_ok-item.item) c.each.self.rest.now
+    c.message_item.new.self.rest.now (item_not_empty _ (level c.args.depth)) c.in_ok-item.ensures
 
 pub message_body-each-preserved : goal.message_body-each-preserved
 message_body-each-preserved t c =
     rw c.in_ok-push.ensures.items
-    (closes_more message_item_tree (message_item (message c.args.depth)) (symbol "}") c.each.items.items c.in_ok-item.item (spellings c.each.self.rest.now) (spellings c.message_item.new.self.rest.now) (read (Many (message_item (message c.args.depth)) ⨾ symbol "}") (spellings c.args.self.now.rest.now))
+    (closes_more message_item_tree (message_item (message c.args.depth)) (symbol "}") c.each.items.items c.in_ok-item.item (spellings c.each.self.rest.now)
+    (spellings c.message_item.new.self.rest.now) (read (Many (message_item (message c.args.depth)) ⨾ symbol "}") (spellings c.args.self.now.rest.now))
     (item_decides _ (level c.args.depth)) (item_not_empty _ (level c.args.depth)) c.in_ok-item.ensures c.each.invariant)
 
 pub message_body-returns-in_err-item : goal.message_body-returns-in_err-item
 message_body-returns-in_err-item t c =
     let p = err_from_is_err_and c.from_residual.result c.from_residual.ensures.1 in
     rw (p.1, p.2)
-    (closes_fails message_item_tree (message_item (message c.args.depth)) (symbol "}") c.each.items.items (spellings c.each.self.rest.now) c.message_item.new.self.rest.now c.in_err-item.field-0.0 (read (Many (message_item (message c.args.depth)) ⨾ symbol "}") (spellings c.args.self.now.rest.now))
-    (item_decides _ (level c.args.depth)) (item_not_empty _ (level c.args.depth)) (one_passes (Symbol (byte "}")) (spellings c.each.self.rest.now) (sym c.at_symbol.ensures ∙ c.each-test.true)) c.in_err-item.ensures c.each.invariant)
+    (closes_fails message_item_tree (message_item (message c.args.depth)) (symbol "}") c.each.items.items (spellings c.each.self.rest.now)
+    c.message_item.new.self.rest.now c.in_err-item.field-0.0
+    (read (Many (message_item (message c.args.depth)) ⨾ symbol "}") (spellings c.args.self.now.rest.now))
+    (item_decides _ (level c.args.depth)) (item_not_empty _ (level c.args.depth))
+    (one_passes (Symbol (byte "}")) (spellings c.each.self.rest.now) (sym c.at_symbol.ensures ∙ c.each-test.true)) c.in_err-item.ensures c.each.invariant)
 
 pub message_body-returns : goal.message_body-returns
 message_body-returns t c =
-    closes_end message_item_tree (message_item (message c.args.depth)) (symbol "}") c.each.items.items (symbol_tree (byte "}") c.in_ok-close.close) (spellings c.each.self.rest.now) (spellings c.symbol.new.self.rest.now) (read (Many (message_item (message c.args.depth)) ⨾ symbol "}") (spellings c.args.self.now.rest.now))
+    closes_end message_item_tree (message_item (message c.args.depth)) (symbol "}") c.each.items.items (symbol_tree (byte "}") c.in_ok-close.close)
+    (spellings c.each.self.rest.now) (spellings c.symbol.new.self.rest.now)
+    (read (Many (message_item (message c.args.depth)) ⨾ symbol "}") (spellings c.args.self.now.rest.now))
     (item_closed _ (level c.args.depth) (spellings c.each.self.rest.now) (sym c.at_symbol.ensures ∙ c.each-test.false)) c.in_ok-close.ensures c.each.invariant
 
 pub message_item-returns : goal.message_item-returns
 message_item-returns t c =
-    item_at_field (message c.args.depth) (level c.args.depth) (spellings c.args.self.now.rest.now) (spellings c.field.new.self.rest.now) (field_tree c.in_ok-field.field)
-    (sym c.at_keyword.ensures ∙ c.if-at_keyword.false) (sym c.at_keyword-2.ensures ∙ c.if-at_keyword-2.false) (sym c.at_keyword-3.ensures ∙ c.if-at_keyword-3.false) (sym c.at_keyword-4.ensures ∙ c.if-at_keyword-4.false)
-    (sym c.at_keyword-5.ensures ∙ c.if-at_keyword-5.false) (sym c.at_keyword-6.ensures ∙ c.if-at_keyword-6.false) (sym c.at_symbol.ensures ∙ c.if-at_symbol.false) c.in_ok-field.ensures
-    ∙ ap (λ x. Read x (spellings c.field.new.self.rest.now)) (sym (item_other c.in_ok-field.field (spellings c.args.self.now.rest.now) (spellings c.field.new.self.rest.now) c.in_ok-field.ensures))
+    item_at_field (message c.args.depth) (level c.args.depth) (spellings c.args.self.now.rest.now) (spellings c.field.new.self.rest.now)
+    (field_tree c.in_ok-field.field)
+    (sym c.at_keyword.ensures ∙ c.if-at_keyword.false) (sym c.at_keyword-2.ensures ∙ c.if-at_keyword-2.false)
+    (sym c.at_keyword-3.ensures ∙ c.if-at_keyword-3.false) (sym c.at_keyword-4.ensures ∙ c.if-at_keyword-4.false)
+    (sym c.at_keyword-5.ensures ∙ c.if-at_keyword-5.false) (sym c.at_keyword-6.ensures ∙ c.if-at_keyword-6.false)
+    (sym c.at_symbol.ensures ∙ c.if-at_symbol.false) c.in_ok-field.ensures
+    ∙ ap (λ x. Read x (spellings c.field.new.self.rest.now))
+    (sym (item_other c.in_ok-field.field (spellings c.args.self.now.rest.now) (spellings c.field.new.self.rest.now) c.in_ok-field.ensures))

@@ -10,8 +10,10 @@ use Rattle.proto_syntax.proofs.parser.Parser.next_enum_ranges.Goals as goal
 pub each-preserved : goal.each-preserved
 each-preserved c =
     rw c.in_ok-push.ensures.items
-    (rows_more (next_tree (range_tree signed_tree)) (next_of erange) c.each.items.items c.in_ok-item.item (spellings c.each.self.rest.now) (spellings c.next_enum_range.new.self.rest.now) (read (Many (next_of erange)) (spellings c.args.self.now.rest.now))
+    (rows_more (next_tree (range_tree signed_tree)) (next_of erange) c.each.items.items c.in_ok-item.item (spellings c.each.self.rest.now)
+    (spellings c.next_enum_range.new.self.rest.now) (read (Many (next_of erange)) (spellings c.args.self.now.rest.now))
     refl (sym c.at_symbol.ensures ∙ c.each-test.true) c.in_ok-item.ensures c.each.invariant)
 
 pub each-smaller : goal.each-smaller
-each-smaller c = fewer_left (next_of erange) (next_tree (range_tree signed_tree) c.in_ok-item.item) c.each.self.rest.now c.next_enum_range.new.self.rest.now refl c.in_ok-item.ensures
+each-smaller c = fewer_left (next_of erange) (next_tree (range_tree signed_tree) c.in_ok-item.item) c.each.self.rest.now c.next_enum_range.new.self.rest.now
+    refl c.in_ok-item.ensures

@@ -8,7 +8,8 @@ use Rattle.proto_syntax.proofs.Loops.{Rows}
 use Rattle.proto_syntax.proofs.parser.Parser.next_ranges.Given as goal
 
 abbrev pub invariant-each : goal.invariant-each
-invariant-each l = Rows (next_tree (range_tree number_tree)) (next_of range) l.items.items (spellings l.self.rest.now) ≡ read (Many (next_of range)) (spellings l.initial.self.rest.now)
+invariant-each l = Rows (next_tree (range_tree number_tree)) (next_of range) l.items.items (spellings l.self.rest.now)
+    ≡ read (Many (next_of range)) (spellings l.initial.self.rest.now)
 
 abbrev pub decreases-each : goal.decreases-each
 decreases-each l = length l.self.rest.now

@@ -10,7 +10,8 @@ use Rattle.proto_syntax.proofs.parser.Parser.next_strings.Goals as goal
 pub each-preserved : goal.each-preserved
 each-preserved c =
     rw c.in_ok-push.ensures.items
-    (rows_more (next_tree str_tree) (next_of str) c.each.items.items c.in_ok-item.item (spellings c.each.self.rest.now) (spellings c.next_string.new.self.rest.now) (read (Many (next_of str)) (spellings c.args.self.now.rest.now))
+    (rows_more (next_tree str_tree) (next_of str) c.each.items.items c.in_ok-item.item (spellings c.each.self.rest.now)
+    (spellings c.next_string.new.self.rest.now) (read (Many (next_of str)) (spellings c.args.self.now.rest.now))
     refl (sym c.at_symbol.ensures ∙ c.each-test.true) c.in_ok-item.ensures c.each.invariant)
 
 pub each-smaller : goal.each-smaller

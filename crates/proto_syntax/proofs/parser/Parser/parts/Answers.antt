@@ -9,7 +9,8 @@ use Rattle.proto_syntax.proofs.parser.Parser.parts.Goals as goal
 pub each-preserved : goal.each-preserved
 each-preserved c =
     rw c.in_ok-push.ensures.items
-    (rows_more part_tree part c.each.parts.items c.in_ok-part.part (spellings c.each.self.rest.now) (spellings c.part.new.self.rest.now) (read parts (spellings c.args.self.now.rest.now))
+    (rows_more part_tree part c.each.parts.items c.in_ok-part.part (spellings c.each.self.rest.now) (spellings c.part.new.self.rest.now)
+    (read parts (spellings c.args.self.now.rest.now))
     refl (sym c.at_symbol.ensures ∙ c.each-test.true) c.in_ok-part.ensures c.each.invariant)
 
 pub each-smaller : goal.each-smaller

@@ -10,7 +10,8 @@ use Rattle.proto_syntax.proofs.parser.Parser.strings.Goals as goal
 pub each-preserved : goal.each-preserved
 each-preserved c =
     rw c.in_ok-push.ensures.items
-    (rows_more string_tree string_token c.each.strings.items c.in_ok-string.string (spellings c.each.self.rest.now) (spellings c.string_literal.new.self.rest.now) (read (Many string_token) (spellings c.args.self.now.rest.now))
+    (rows_more string_tree string_token c.each.strings.items c.in_ok-string.string (spellings c.each.self.rest.now)
+    (spellings c.string_literal.new.self.rest.now) (read (Many string_token) (spellings c.args.self.now.rest.now))
     refl (sym c.at_string.ensures ∙ c.each-test.true) c.in_ok-string.ensures c.each.invariant)
 
 pub each-smaller : goal.each-smaller

@@ -24,5 +24,6 @@ returns t c =
     let own = rw (searched, c.as_slice.ensures) at c.in_ok-fields.ensures in
     let inside = rw (all, c.as_slice-nested-items.ensures, inner) at c.loop-nested.invariant in
     rw (references_out m scope)
-    (finds_both self.index.now.occurrences (SeenBy self.links.now self.file) (own_references m scope) (flat_map (λ n. references_by_message n (scope_in m scope)) (out-MessageDesc m).nested)
+    (finds_both self.index.now.occurrences (SeenBy self.links.now self.file) (own_references m scope)
+    (flat_map (λ n. references_by_message n (scope_in m scope)) (out-MessageDesc m).nested)
     c.args.found.now c.fields.new.found c.loop-nested.found own inside)

@@ -6,4 +6,5 @@ use Rattle.proto_types.specs.Steps.{Finds}
 use Rattle.proto_types.proofs.finder.Finder.fields.Given as goal
 
 abbrev pub invariant-loop-field : goal.invariant-loop-field
-invariant-loop-field l = Finds l.self.index.now.occurrences (SeenBy l.self.links.now l.self.file) (flat_map (references_of_field l.scope) (take l.field-index l.fields)) l.initial.found l.found
+invariant-loop-field l = Finds l.self.index.now.occurrences (SeenBy l.self.links.now l.self.file)
+    (flat_map (references_of_field l.scope) (take l.field-index l.fields)) l.initial.found l.found

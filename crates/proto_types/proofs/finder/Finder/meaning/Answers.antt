@@ -9,7 +9,8 @@ returns-in-Ok c =
     let self = c.args.self.now in
     let a = c.args in
     if_ok c.meaning_of.result c.meaning_of.ensures
-    (λ m naming. naming_means self.index.now.occurrences (SeenBy self.links.now self.file) (reference_to a.scope.now a.text.now a.place a.want a.options.now) (string_bytes c.in-Ok.found.full_name) c.in-Ok.found.kind m c.in-Ok.ensures.found c.in-Ok.ensures.wanted naming)
+    (λ m naming. naming_means self.index.now.occurrences (SeenBy self.links.now self.file) (reference_to a.scope.now a.text.now a.place a.want a.options.now)
+    (string_bytes c.in-Ok.found.full_name) c.in-Ok.found.kind m c.in-Ok.ensures.found c.in-Ok.ensures.wanted naming)
 
 pub returns-in-Err-TypeNotFound : goal.returns-in-Err-TypeNotFound
 returns-in-Err-TypeNotFound c =
@@ -23,4 +24,5 @@ returns-in-Err-TypeNotMessage c =
     let self = c.args.self.now in
     let a = c.args in
     let found = c.resolve.ensures.not_message (rw (c.in-Err-TypeNotMessage.is, c.in-Err-TypeNotMessage.field-0-is) refl) in
-    not_message self.index.now.occurrences (SeenBy self.links.now self.file) (reference_to a.scope.now a.text.now a.place a.want a.options.now) found.1.0 found.0 found.1.1
+    not_message self.index.now.occurrences (SeenBy self.links.now self.file) (reference_to a.scope.now a.text.now a.place a.want a.options.now) found.1.0
+    found.0 found.1.1

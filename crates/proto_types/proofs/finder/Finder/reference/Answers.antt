@@ -12,4 +12,5 @@ returns-in_ok-meaning-in-Spelled c =
     let meaning = rw c.as_str.ensures at c.in_ok-meaning-in-Spelled.ensures in
     rw s.is
     (on_ok c.add.result c.add.ensures
-    (λ adds. finds_one self.index.now.occurrences (SeenBy self.links.now self.file) (reference_to a.scope.now s.text s.place a.want a.options.now) c.in_ok-meaning-in-Spelled.field-0 a.found.now c.add.new.self meaning adds))
+    (λ adds. finds_one self.index.now.occurrences (SeenBy self.links.now self.file) (reference_to a.scope.now s.text s.place a.want a.options.now)
+    c.in_ok-meaning-in-Spelled.field-0 a.found.now c.add.new.self meaning adds))

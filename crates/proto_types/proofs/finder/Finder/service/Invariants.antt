@@ -6,4 +6,5 @@ use Rattle.proto_types.specs.Steps.{Finds}
 use Rattle.proto_types.proofs.finder.Finder.service.Given as goal
 
 abbrev pub invariant-loop-method : goal.invariant-loop-method
-invariant-loop-method l = Finds l.self.index.now.occurrences (SeenBy l.self.links.now l.self.file) (flat_map (references_of_method l.inside) (take l.method-index l.method-items)) l.initial.found l.found
+invariant-loop-method l = Finds l.self.index.now.occurrences (SeenBy l.self.links.now l.self.file)
+    (flat_map (references_of_method l.inside) (take l.method-index l.method-items)) l.initial.found l.found

@@ -6,8 +6,12 @@ use Rattle.share_work.proofs.Paying.{get_some, some_length, paying_none, debt_no
 use Rattle.share_work.proofs.mark_table.MarkTable.pay.Goals as goal
 
 pub loop-file-init : goal.loop-file-init
-loop-file-init g c = let list = g.R.Reach.list c.args.self.now.reach in
-    (refl, refl, paying_none _ _ _ (list c.args.root) (some_length (list c.args.root) c.args.root (g.met.R.Reach.reflexive c.args.self.now.reach c.args.root c.requires.seat.2)) c.requires.debt)
+loop-file-init g c = let list = g.R.Reach.list c.args.self.now.reach in (
+  refl,
+  refl,
+  paying_none _ _ _ (list c.args.root) (some_length (list c.args.root) c.args.root
+      (g.met.R.Reach.reflexive c.args.self.now.reach c.args.root c.requires.seat.2)) c.requires.debt,
+)
 
 pub pay_one-requires : goal.pay_one-requires
 pay_one-requires g c =

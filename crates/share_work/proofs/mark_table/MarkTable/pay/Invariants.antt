@@ -7,7 +7,8 @@ ghosts-pay_one g a = record { last = (a.place + 1) == length (g.R.Reach.list a.s
 
 abbrev pub invariant-loop-file : goal.invariant-loop-file
 invariant-loop-file g l =
-    (l.seat.table_id ≡ l.initial.seat.table_id) × (l.seat.me.1 ≡ l.initial.seat.me.1) × IsPaying l.initial.seat.me.0 l.seat.me.0 l.root l.number l.k (g.R.Reach.list l.self.reach l.root)
+    (l.seat.table_id ≡ l.initial.seat.table_id) × (l.seat.me.1 ≡ l.initial.seat.me.1)
+    × IsPaying l.initial.seat.me.0 l.seat.me.0 l.root l.number l.k (g.R.Reach.list l.self.reach l.root)
 
 abbrev pub decreases-loop-file : goal.decreases-loop-file
 decreases-loop-file g l = length (g.R.Reach.list l.self.reach l.root) - l.k

@@ -29,16 +29,19 @@ fetch_min-requires g c =
     let in_key : root < g.R.Reach.files key = subst (λ (y : g.row.R.Denot). root < g.R.Reach.files y) (sym key_is) c.requires.seat.2 in
     let inside : file < g.R.Reach.files key = g.met.R.Reach.within key root file in_key here.3 in
     let s = c.args.seat.now in let n : ℕ = c.args.number in let list : ℕ → List ℕ = g.R.Reach.list key in
-    let last : g.G.Paid.last ≡ (k + 1 == length (list root)) = c.requires.debt.2 ∙ ap (λ (y : g.row.R.Denot). k + 1 == length (g.R.Reach.list y root)) (sym key_is) in (
+    let last : g.G.Paid.last ≡ (k + 1 == length (list root)) =
+    c.requires.debt.2 ∙ ap (λ (y : g.row.R.Denot). k + 1 == length (g.R.Reach.list y root)) (sym key_is) in (
       c.requires.seat.0 ∙ sym two,
       omega (arith, inside, c.self.invariant.0),
       paid_allows (g.R.Reach.files key) list _ s.id s.me.0 s.me.1 c.requires.seat.1 (g.met.R.Reach.transitive key) g.G.Paid.last file n _
-          (owed_here list s.me.0 root n k file c.requires.debt.0 at_key) (owed_next list s.me.0 root n k file g.G.Paid.last c.requires.debt.0 at_key last) inside,
+          (owed_here list s.me.0 root n k file c.requires.debt.0 at_key) (owed_next list s.me.0 root n k file g.G.Paid.last c.requires.debt.0 at_key last)
+          inside,
     )
 
 pub returns : goal.returns
 returns g c =
     let s = c.args.seat.now in let me = c.fetch_min.ensures.2 in let k : ℕ = c.args.place in
-    let view = paid_is c.args.root c.args.number k c.args.file c.fetch_min.result (g.R.Reach.list c.args.self.now.reach c.args.root) s.me.0 c.fetch_min.new.seat.me.0 g.G.Paid.last c.requires.debt.0 c.requires.debt.2
+    let view = paid_is c.args.root c.args.number k c.args.file c.fetch_min.result (g.R.Reach.list c.args.self.now.reach c.args.root) s.me.0
+    c.fetch_min.new.seat.me.0 g.G.Paid.last c.requires.debt.0 c.requires.debt.2
     (ap (λ (y : Me (Unit {0}) MarkView). y.0) me) in
     (c.fetch_min.ensures.0, (c.fetch_min.result, (λ i. (view i, (ap (λ (y : Me (Unit {0}) MarkView). y.1) me) i))))

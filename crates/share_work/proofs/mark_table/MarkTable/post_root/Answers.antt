@@ -11,5 +11,6 @@ fetch_min-requires g c =
     let inside : c.args.root < g.R.Reach.files key = subst (λ (y : g.row.R.Denot). c.args.root < g.R.Reach.files y) (sym key_is) c.requires.mark.0 in (
       c.requires.seat.0 ∙ sym two,
       omega arith,
-      root_allows (g.R.Reach.files key) (g.R.Reach.list key) _ s.id s.me.0 s.me.1 c.requires.seat.1 (g.met.R.Reach.reflexive key) c.requires.seat.2 c.args.root c.args.number inside c.requires.mark.1,
+      root_allows (g.R.Reach.files key) (g.R.Reach.list key) _ s.id s.me.0 s.me.1 c.requires.seat.1 (g.met.R.Reach.reflexive key) c.requires.seat.2 c.args.root
+          c.args.number inside c.requires.mark.1,
     )

@@ -7,15 +7,19 @@ use Rattle.share_work.proofs.shares.rows.+halves.Goals as goal
 pub both_halves-returns-clause-have_low : goal.both_halves-returns-clause-have_low
 both_halves-returns-clause-have_low g t c =
     let job = c.args.job.now in
-    let have : OnOk c.joined_rows.result (SeatsHave (g.W.Work.holds job.work.now) (g.W.Work.adds job.work.now) job.plan.workers job.plan.cut job.items.now c.args.from c.join_mut-first.new.f.3.now) =
-    OnOk-first c.joined_rows.result c.join_mut-first.result.0 c.join_mut-first.result.1 (λ low high rows. rows.items ≡ low.items ++ high.items) _ c.joined_rows.ensures c.join_mut-first.ensures.0.met.1.3 in
+    let have : OnOk c.joined_rows.result (SeatsHave (g.W.Work.holds job.work.now) (g.W.Work.adds job.work.now) job.plan.workers job.plan.cut job.items.now
+    c.args.from c.join_mut-first.new.f.3.now) =
+    OnOk-first c.joined_rows.result c.join_mut-first.result.0 c.join_mut-first.result.1 (λ low high rows. rows.items ≡ low.items ++ high.items) _
+    c.joined_rows.ensures c.join_mut-first.ensures.0.met.1.3 in
     search (rules, have)
 
 pub both_halves-returns-clause-have_high : goal.both_halves-returns-clause-have_high
 both_halves-returns-clause-have_high g t c =
     let job = c.args.job.now in
-    let have : OnOk c.joined_rows.result (SeatsHave (g.W.Work.holds job.work.now) (g.W.Work.adds job.work.now) job.plan.workers job.plan.cut job.items.now (c.args.from + length c.args.low.now) c.join_mut-first.new.g.3.now) =
-    OnOk-second c.joined_rows.result c.join_mut-first.result.0 c.join_mut-first.result.1 (λ low high rows. rows.items ≡ low.items ++ high.items) _ c.joined_rows.ensures c.join_mut-first.ensures.1.met.1.3 in
+    let have : OnOk c.joined_rows.result (SeatsHave (g.W.Work.holds job.work.now) (g.W.Work.adds job.work.now) job.plan.workers job.plan.cut job.items.now
+    (c.args.from + length c.args.low.now) c.join_mut-first.new.g.3.now) =
+    OnOk-second c.joined_rows.result c.join_mut-first.result.0 c.join_mut-first.result.1 (λ low high rows. rows.items ≡ low.items ++ high.items) _
+    c.joined_rows.ensures c.join_mut-first.ensures.1.met.1.3 in
     search (rules, have)
 
 pub both_halves-returns-clause-rows : goal.both_halves-returns-clause-rows
@@ -30,39 +34,47 @@ both_halves-returns-clause-rows g t c =
     (λ rows. GivesRows gives (λ v. v.items) (λ r. r.items) job.plan.workers job.plan.cut job.items.now (from + length low) (length high) rows.items)
     (λ rows. GivesRows gives (λ v. v.items) (λ r. r.items) job.plan.workers job.plan.cut job.items.now from (length low + length high) rows.items)
     c.joined_rows.ensures c.join_mut-first.ensures.0.met.1.4 c.join_mut-first.ensures.1.met.1.4
-    (λ ls hs rs is first second. rw is (rows_joined gives (λ v. v.items) (λ r. r.items) job.plan.workers job.plan.cut job.items.now from (length low) (from + length low) (length high) ls.items hs.items refl first second))
+    (λ ls hs rs is first second. rw is (rows_joined gives (λ v. v.items) (λ r. r.items) job.plan.workers job.plan.cut job.items.now from (length low)
+    (from + length low) (length high) ls.items hs.items refl first second))
 
 pub rows_from-returns-in_err-row_of-clause-gains : goal.rows_from-returns-in_err-row_of-clause-gains
 rows_from-returns-in_err-row_of-clause-gains g t c =
     let one = one_member c.args.seats.now c.if-seats-eq1.true in
     let seat = get_or c.args.seats.now 0 c.index-seats-0.result in
     let was : one.0 ≡ seat = sym (ap (λ l. get_or l 0 c.index-seats-0.result) one.1) in
-    let gains = one_gains (g.W.Work.holds c.args.job.now.work.now) (g.W.Work.adds c.args.job.now.work.now) c.args.job.now.plan.workers c.args.job.now.plan.cut c.args.job.now.items.now c.args.from seat c.row_of.new.seat
+    let gains = one_gains (g.W.Work.holds c.args.job.now.work.now) (g.W.Work.adds c.args.job.now.work.now) c.args.job.now.plan.workers c.args.job.now.plan.cut
+    c.args.job.now.items.now c.args.from seat c.row_of.new.seat
     record { kept = c.in_err-row_of.ensures.kept; within = c.in_err-row_of.ensures.within } in
-    rw one.1 (subst (λ x. SeatsGain (g.W.Work.holds c.args.job.now.work.now) (g.W.Work.adds c.args.job.now.work.now) c.args.job.now.plan.workers c.args.job.now.plan.cut c.args.job.now.items.now c.args.from (x ∷ []) (c.row_of.new.seat ∷ [])) (sym was) gains)
+    rw one.1 (subst (λ x. SeatsGain (g.W.Work.holds c.args.job.now.work.now) (g.W.Work.adds c.args.job.now.work.now) c.args.job.now.plan.workers
+    c.args.job.now.plan.cut c.args.job.now.items.now c.args.from (x ∷ []) (c.row_of.new.seat ∷ [])) (sym was) gains)
 
 pub rows_from-returns-in_err-push_back-clause-gains : goal.rows_from-returns-in_err-push_back-clause-gains
 rows_from-returns-in_err-push_back-clause-gains g t c =
     let one = one_member c.args.seats.now c.if-seats-eq1.true in
     let seat = get_or c.args.seats.now 0 c.index-seats-0.result in
     let was : one.0 ≡ seat = sym (ap (λ l. get_or l 0 c.index-seats-0.result) one.1) in
-    let gains = one_gains (g.W.Work.holds c.args.job.now.work.now) (g.W.Work.adds c.args.job.now.work.now) c.args.job.now.plan.workers c.args.job.now.plan.cut c.args.job.now.items.now c.args.from seat c.row_of.new.seat
+    let gains = one_gains (g.W.Work.holds c.args.job.now.work.now) (g.W.Work.adds c.args.job.now.work.now) c.args.job.now.plan.workers c.args.job.now.plan.cut
+    c.args.job.now.items.now c.args.from seat c.row_of.new.seat
     record { kept = c.in_ok-row_of.ensures.kept; within = c.in_ok-row_of.ensures.within } in
-    rw one.1 (subst (λ x. SeatsGain (g.W.Work.holds c.args.job.now.work.now) (g.W.Work.adds c.args.job.now.work.now) c.args.job.now.plan.workers c.args.job.now.plan.cut c.args.job.now.items.now c.args.from (x ∷ []) (c.row_of.new.seat ∷ [])) (sym was) gains)
+    rw one.1 (subst (λ x. SeatsGain (g.W.Work.holds c.args.job.now.work.now) (g.W.Work.adds c.args.job.now.work.now) c.args.job.now.plan.workers
+    c.args.job.now.plan.cut c.args.job.now.items.now c.args.from (x ∷ []) (c.row_of.new.seat ∷ [])) (sym was) gains)
 
 pub rows_from-returns-then-seats-eq1-clause-gains : goal.rows_from-returns-then-seats-eq1-clause-gains
 rows_from-returns-then-seats-eq1-clause-gains g t c =
     let one = one_member c.args.seats.now c.if-seats-eq1.true in
     let seat = get_or c.args.seats.now 0 c.index-seats-0.result in
     let was : one.0 ≡ seat = sym (ap (λ l. get_or l 0 c.index-seats-0.result) one.1) in
-    let gains = one_gains (g.W.Work.holds c.args.job.now.work.now) (g.W.Work.adds c.args.job.now.work.now) c.args.job.now.plan.workers c.args.job.now.plan.cut c.args.job.now.items.now c.args.from seat c.row_of.new.seat
+    let gains = one_gains (g.W.Work.holds c.args.job.now.work.now) (g.W.Work.adds c.args.job.now.work.now) c.args.job.now.plan.workers c.args.job.now.plan.cut
+    c.args.job.now.items.now c.args.from seat c.row_of.new.seat
     record { kept = c.in_ok-row_of.ensures.kept; within = c.in_ok-row_of.ensures.within } in
-    rw one.1 (subst (λ x. SeatsGain (g.W.Work.holds c.args.job.now.work.now) (g.W.Work.adds c.args.job.now.work.now) c.args.job.now.plan.workers c.args.job.now.plan.cut c.args.job.now.items.now c.args.from (x ∷ []) (c.row_of.new.seat ∷ [])) (sym was) gains)
+    rw one.1 (subst (λ x. SeatsGain (g.W.Work.holds c.args.job.now.work.now) (g.W.Work.adds c.args.job.now.work.now) c.args.job.now.plan.workers
+    c.args.job.now.plan.cut c.args.job.now.items.now c.args.from (x ∷ []) (c.row_of.new.seat ∷ [])) (sym was) gains)
 
 pub rows_from-returns-then-seats-eq1-clause-have : goal.rows_from-returns-then-seats-eq1-clause-have
 rows_from-returns-then-seats-eq1-clause-have g t c =
     let one = one_member c.args.seats.now c.if-seats-eq1.true in
-    rw one.1 (one_has (g.W.Work.holds c.args.job.now.work.now) (g.W.Work.adds c.args.job.now.work.now) c.args.job.now.plan.workers c.args.job.now.plan.cut c.args.job.now.items.now c.args.from c.row_of.new.seat record { gained = c.in_ok-row_of.ensures.gained })
+    rw one.1 (one_has (g.W.Work.holds c.args.job.now.work.now) (g.W.Work.adds c.args.job.now.work.now) c.args.job.now.plan.workers c.args.job.now.plan.cut
+    c.args.job.now.items.now c.args.from c.row_of.new.seat record { gained = c.in_ok-row_of.ensures.gained })
 
 pub rows_from-returns-then-seats-eq1-clause-rows : goal.rows_from-returns-then-seats-eq1-clause-rows
 rows_from-returns-then-seats-eq1-clause-rows g t c =
@@ -73,10 +85,12 @@ rows_from-returns-then-seats-eq1-clause-rows g t c =
 pub rows_from-returns-clause-gains : goal.rows_from-returns-clause-gains
 rows_from-returns-clause-gains g t c =
     rw c.split_at_mut-low.ensures.value
-    (gains_joined (g.W.Work.holds c.args.job.now.work.now) (g.W.Work.adds c.args.job.now.work.now) c.args.job.now.plan.workers c.args.job.now.plan.cut c.args.job.now.items.now c.args.from _ _ _ _ _ refl c.both_halves.ensures.gains_low c.both_halves.ensures.gains_high)
+    (gains_joined (g.W.Work.holds c.args.job.now.work.now) (g.W.Work.adds c.args.job.now.work.now) c.args.job.now.plan.workers c.args.job.now.plan.cut
+    c.args.job.now.items.now c.args.from _ _ _ _ _ refl c.both_halves.ensures.gains_low c.both_halves.ensures.gains_high)
 
 pub rows_from-returns-clause-have : goal.rows_from-returns-clause-have
 rows_from-returns-clause-have g t c =
     OnOk-both c.both_halves.result _ _ _ c.both_halves.ensures.have_low c.both_halves.ensures.have_high
-    (λ low high. haves_joined (g.W.Work.holds c.args.job.now.work.now) (g.W.Work.adds c.args.job.now.work.now) c.args.job.now.plan.workers c.args.job.now.plan.cut c.args.job.now.items.now
+    (λ low high. haves_joined (g.W.Work.holds c.args.job.now.work.now) (g.W.Work.adds c.args.job.now.work.now) c.args.job.now.plan.workers
+    c.args.job.now.plan.cut c.args.job.now.items.now
     c.args.from _ c.split_at_mut-low.result.0.now [] c.both_halves.new.low c.both_halves.new.high refl (search rules) low high)

@@ -11,7 +11,8 @@ module _ {T S : Type 0} (holds : S → ℕ → ℕ → Type 0) (adds : ℕ → T
   within_more : ((x n : ℕ) → holds old x n → holds entry x n ⊎ AddsInRow adds workers cut items w x n)
       → ((x n : ℕ) → holds new x n → holds old x n ⊎ AddsSome adds first part x n)
       → (x n : ℕ) → holds new x n → holds entry x n ⊎ AddsInRow adds workers cut items w x n
-  within_more before step x n h = elim (step x n h) [ inl there ↦ before x n there | inr added ↦ inr (adds_piece adds workers cut items w len first part at is x n added) ]
+  within_more before step x n h =
+      elim (step x n h) [ inl there ↦ before x n there | inr added ↦ inr (adds_piece adds workers cut items w len first part at is x n added) ]
 
   gained_more : ((x n k : ℕ) → k < len → AddsSome adds ((w + k * workers) * cut) (take cut (drop ((w + k * workers) * cut) items)) x n → holds old x n)
       → ((x n : ℕ) → holds old x n → holds new x n) → ((x n : ℕ) → AddsSome adds first part x n → holds new x n)
@@ -26,16 +27,20 @@ returns-in_err-push_back-clause-within g c =
     let inv = c.loop-first.invariant in
     let C = c.cut-cut.result in let items = c.args.job.now.items.now in
     rw (← inv.0, ← inv.1)
-    (within_more (g.W.Work.holds c.args.job.now.work.now) (g.W.Work.adds c.args.job.now.work.now) c.workers-workers.result C items c.args.worker _ c.loop-first.first _
-    inv.3 (rw c.min-count.ensures (range_piece items c.loop-first.first C)) c.args.seat.now c.loop-first.seat c.piece.new.seat inv.9 c.in_ok-outs.ensures.within)
+    (within_more (g.W.Work.holds c.args.job.now.work.now) (g.W.Work.adds c.args.job.now.work.now) c.workers-workers.result C items c.args.worker _
+    c.loop-first.first _
+    inv.3 (rw c.min-count.ensures (range_piece items c.loop-first.first C)) c.args.seat.now c.loop-first.seat c.piece.new.seat inv.9
+    c.in_ok-outs.ensures.within)
 
 pub returns-then-items-first-clause-within : goal.returns-then-items-first-clause-within
 returns-then-items-first-clause-within g c =
     let inv = c.loop-first.invariant in
     let C = c.cut-cut.result in let items = c.args.job.now.items.now in
     rw (← inv.0, ← inv.1)
-    (within_more (g.W.Work.holds c.args.job.now.work.now) (g.W.Work.adds c.args.job.now.work.now) c.workers-workers.result C items c.args.worker _ c.loop-first.first _
-    inv.3 (rw c.min-count.ensures (range_piece items c.loop-first.first C)) c.args.seat.now c.loop-first.seat c.piece.new.seat inv.9 c.in_ok-outs.ensures.within)
+    (within_more (g.W.Work.holds c.args.job.now.work.now) (g.W.Work.adds c.args.job.now.work.now) c.workers-workers.result C items c.args.worker _
+    c.loop-first.first _
+    inv.3 (rw c.min-count.ensures (range_piece items c.loop-first.first C)) c.args.seat.now c.loop-first.seat c.piece.new.seat inv.9
+    c.in_ok-outs.ensures.within)
 
 pub returns-then-items-first-clause-gained : goal.returns-then-items-first-clause-gained
 returns-then-items-first-clause-gained g c =
@@ -108,7 +113,8 @@ loop-first-preserved g c =
       c.in_ok-outs.ensures.number ∙ inv.7,
       λ x n h. c.in_ok-outs.ensures.kept x n (inv.8 x n h),
       within_more holds adds W C items c.args.worker (length row) c.loop-first.first _
-          inv.3 (rw c.min-count.ensures (range_piece items c.loop-first.first C)) c.args.seat.now c.loop-first.seat c.piece.new.seat inv.9 c.in_ok-outs.ensures.within,
+          inv.3 (rw c.min-count.ensures (range_piece items c.loop-first.first C)) c.args.seat.now c.loop-first.seat c.piece.new.seat inv.9
+          c.in_ok-outs.ensures.within,
       rw longer (gained_more holds adds W C items c.args.worker (length row) c.loop-first.first _
           inv.3 (rw c.min-count.ensures (range_piece items c.loop-first.first C)) c.args.seat.now c.loop-first.seat c.piece.new.seat
           inv.10 c.in_ok-outs.ensures.kept c.in_ok-outs.ensures.gained),
@@ -117,4 +123,5 @@ loop-first-preserved g c =
 pub piece-requires-clause-takes : goal.piece-requires-clause-takes
 piece-requires-clause-takes g c =
     let C = c.cut-cut.result in let items = c.args.job.now.items.now in
-    takes_part (g.W.Work.takes c.args.job.now.work.now) items _ c.loop-first.first C (rw c.min-count.ensures (range_piece items c.loop-first.first C)) c.requires.takes
+    takes_part (g.W.Work.takes c.args.job.now.work.now) items _ c.loop-first.first C (rw c.min-count.ensures (range_piece items c.loop-first.first C))
+    c.requires.takes

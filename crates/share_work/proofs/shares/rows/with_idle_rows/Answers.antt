@@ -14,6 +14,7 @@ loop-worker-preserved g c =
       omega arith,
       omega arith,
       rw c.in_ok-push_back.ensures.items
-          (rows_idle (g.W.Work.gives job.work.now) (λ v. v.items) (λ r. r.items) job.plan.workers job.plan.cut job.items.now 0 c.loop-worker._worker c.loop-worker.rows.items c.new.result
+          (rows_idle (g.W.Work.gives job.work.now) (λ v. v.items) (λ r. r.items) job.plan.workers job.plan.cut job.items.now 0 c.loop-worker._worker
+          c.loop-worker.rows.items c.new.result
           c.new.ensures.items (rw (← from_none) past) inv.2),
     )

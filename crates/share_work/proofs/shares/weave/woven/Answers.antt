@@ -19,9 +19,11 @@ pub unreachable-requires-in_default-pop_front : goal.unreachable-requires-in_def
 unreachable-requires-in_default-pop_front g c =
     let job = c.args.job.now in
     let inside : c.loop-piece._piece * job.plan.cut < length job.items.now =
-    piece_inside (length job.items.now) job.plan.cut c.loop-piece._piece job.plan.some_items (rw (← c.cut.ensures, ← c.div_ceil-piece-end.ensures) c.loop-piece-test.true) in
+    piece_inside (length job.items.now) job.plan.cut c.loop-piece._piece job.plan.some_items
+    (rw (← c.cut.ensures, ← c.div_ceil-piece-end.ensures) c.loop-piece-test.true) in
     let first : slice_get c.loop-piece.rows.items 0 ≡ Some c.in-Some.row = rw c.in-Some.ensures.items refl in
-    let whole = (c.loop-piece.invariant.0.each 0 c.in-Some.row first).whole 0 (let e : (c.loop-piece._piece + 0 + 0 * job.plan.workers) * job.plan.cut ≡ c.loop-piece._piece * job.plan.cut = grind arith in rw e inside) in
+    let whole = (c.loop-piece.invariant.0.each 0 c.in-Some.row first).whole 0
+    (let e : (c.loop-piece._piece + 0 + 0 * job.plan.workers) * job.plan.cut ≡ c.loop-piece._piece * job.plan.cut = grind arith in rw e inside) in
     search rules
 
 pub loop-piece-preserved : goal.loop-piece-preserved
@@ -35,7 +37,8 @@ loop-piece-preserved g c =
     let P : ℕ → Type 0 = λ n. GivesPiece gives job.plan.cut job.items.now n c.in-Some-pop_front.part.items in
     let rows = rw c.in-Some.ensures.items at c.loop-piece.invariant.0 in (
       rw c.in_ok-push_back.ensures.items
-          (rows_turned gives (λ v. v.items) (λ r. r.items) job.plan.workers job.plan.cut job.items.now p c.in-Some.row _ _ c.in-Some-pop_front.part rows c.in-Some-pop_front.ensures.items),
+          (rows_turned gives (λ v. v.items) (λ r. r.items) job.plan.workers job.plan.cut job.items.now p c.in-Some.row _ _ c.in-Some-pop_front.part rows
+          c.in-Some-pop_front.ensures.items),
       rw c.in_ok-append.ensures.items (one_piece_more gives job.plan.cut job.items.now p c.loop-piece.all.items _ c.loop-piece.invariant.1 (subst P same part)),
     )
 

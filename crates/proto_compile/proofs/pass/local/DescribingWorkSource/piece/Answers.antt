@@ -7,11 +7,14 @@ use Rattle.proto_compile.proofs.Judging.{gives_of_zip, zip_from_at}
 use Rattle.proto_compile.proofs.pass.local.DescribingWorkSource.piece.Goals as goal
 
 pub loop-source-preserved : goal.loop-source-preserved
-loop-source-preserved c = subst (AllZipFrom (λ k. IsDescribed c.args.self.now.limits) 0 (take (c.loop-source.source-index + 1) c.args.items.now)) (sym c.in_ok-push.ensures.items)
-    (zip_from_at (λ k. IsDescribed c.args.self.now.limits) c.args.items.now c.loop-source.source-index _ c.loop-source.outcomes.items c.describe_one.result (omega arith) c.loop-source.invariant c.describe_one.ensures)
+loop-source-preserved c =
+    subst (AllZipFrom (λ k. IsDescribed c.args.self.now.limits) 0 (take (c.loop-source.source-index + 1) c.args.items.now)) (sym c.in_ok-push.ensures.items)
+    (zip_from_at (λ k. IsDescribed c.args.self.now.limits) c.args.items.now c.loop-source.source-index _ c.loop-source.outcomes.items c.describe_one.result
+    (omega arith) c.loop-source.invariant c.describe_one.ensures)
 
 pub returns-clause-outs : goal.returns-clause-outs
 returns-clause-outs c =
     let whole : take c.loop-source.source-index c.args.items.now ≡ c.args.items.now = take_all c.loop-source.source-index c.args.items.now (omega arith) in
     gives_of_zip (IsDescribed c.args.self.now.limits) c.args._first c.args.items.now c.loop-source.outcomes.items
-    (subst (λ (sources : List Source). AllZipFrom (λ k. IsDescribed c.args.self.now.limits) 0 sources c.loop-source.outcomes.items) whole c.loop-source.invariant)
+    (subst (λ (sources : List Source). AllZipFrom (λ k. IsDescribed c.args.self.now.limits) 0 sources c.loop-source.outcomes.items) whole
+    c.loop-source.invariant)

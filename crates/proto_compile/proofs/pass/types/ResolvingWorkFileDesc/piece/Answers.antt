@@ -8,19 +8,22 @@ use Rattle.proto_compile.proofs.pass.types.ResolvingWorkFileDesc.piece.Goals as 
 
 pub overflow_add-first : goal.overflow_add-first
 overflow_add-first c =
-    let here = c.requires.takes c.loop-k.k c.index-items-k.result (slice_get_read c.args.items.now _ c.loop-k.k c.index-items-k.result refl (omega arith) c.index-items-k.is) in
+    let here = c.requires.takes c.loop-k.k c.index-items-k.result
+    (slice_get_read c.args.items.now _ c.loop-k.k c.index-items-k.result refl (omega arith) c.index-items-k.is) in
     omega (arith, here.1)
 
 pub resolve-requires-clause-links : goal.resolve-requires-clause-links
 resolve-requires-clause-links c =
-    let here = c.requires.takes c.loop-k.k c.index-items-k.result (slice_get_read c.args.items.now _ c.loop-k.k c.index-items-k.result refl (omega arith) c.index-items-k.is) in
+    let here = c.requires.takes c.loop-k.k c.index-items-k.result
+    (slice_get_read c.args.items.now _ c.loop-k.k c.index-items-k.result refl (omega arith) c.index-items-k.is) in
     here.0
 
 pub loop-k-preserved : goal.loop-k-preserved
 loop-k-preserved c =
     let self = c.args.self.now in
     subst (AllZipFrom (IsResolved self.links.now self.index.now) c.args.first (take (c.loop-k.k + 1) c.args.items.now)) (sym c.in_ok-push.ensures.items)
-    (zip_more_from (IsResolved self.links.now self.index.now) c.args.first c.args.items.now c.loop-k.k c.index-items-k.result c.loop-k.outcomes.items c.resolve.result (omega arith) c.index-items-k.is c.loop-k.invariant c.resolve.ensures)
+    (zip_more_from (IsResolved self.links.now self.index.now) c.args.first c.args.items.now c.loop-k.k c.index-items-k.result c.loop-k.outcomes.items
+    c.resolve.result (omega arith) c.index-items-k.is c.loop-k.invariant c.resolve.ensures)
 
 pub returns-clause-outs : goal.returns-clause-outs
 returns-clause-outs c =
