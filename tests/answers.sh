@@ -89,10 +89,6 @@ while IFS='|' read -r sources mode _ title body wanted; do
 done < <(sed -n 's/^    \([FM]|[a-z]*|-|.*\)$/\1/p' crates/test_answers/src/tests/responses.rt | sed 's/\\n\\$//; s/";$//')
 [ "$rows" -gt 20 ] || fail 'the rows were not found'
 
-# A body over its limit has no requests.
-head -c 1048577 /dev/zero | "$program" answer --root examples | od -An -v -tx1 | tr -d ' \n' >"$folder/got"
-printf '800000000f677270632d7374617475733a380d0a' | cmp - "$folder/got" || fail 'a body over the limit'
-
 # Faults: of the folder, of the sources, of the input, of the output.
 told() {
     local status=$1 line=$2
