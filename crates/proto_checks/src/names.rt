@@ -133,8 +133,7 @@ fn own_names_fault(
         (MessageNamesBreak (record {
           fields = fields.now;
           reserved_names = reserved.now;
-          enums =
-              enums.now;
+          enums = enums.now;
         })) first) }
 {
     let json = json_name_twice(alloc, fields)?;

@@ -37,8 +37,7 @@ impl Model for Compiled {
         × IsOfSources (record {
           files = compiled.files;
           links = compiled.links;
-          index =
-              compiled.index;
+          index = compiled.index;
           limits = compiled.limits;
         }) };
 }

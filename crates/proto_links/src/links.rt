@@ -32,12 +32,10 @@ impl Model for Links {
     ghost invariant = { λ links. IsSound (record { ranks = links.ranking.ranks.items; set_order = links.ranking.order.items; positions = links.positions.items; reach = links.reach; seen = links.seen })
         × AreOfFiles (record {
           ranks = links.ranking.ranks.items;
-          set_order =
-              links.ranking.order.items;
+          set_order = links.ranking.order.items;
           positions = links.positions.items;
           reach = links.reach;
-          seen =
-              links.seen;
+          seen = links.seen;
         }) };
 }
 

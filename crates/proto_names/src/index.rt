@@ -97,8 +97,7 @@ impl Model for NameIndex {
         × IsOfFiles (record {
           files = index.files;
           occurrences = index.entries;
-          services =
-              map string_bytes index.services.items;
+          services = map string_bytes index.services.items;
         }) };
 }
 
