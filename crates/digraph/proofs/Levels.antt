@@ -1,166 +1,171 @@
 -- What the rounds keep that find the ranks.
-use Rattle.std.proofs.Common.{◌≡◌, ◌∙◌, sym, ℕ, zero, suc, ◌+◌, ◌-◌, ◌<◌, ◌≤◌, List, [], ◌++◌, length, take, drop, get_or, ap, refl, subst, arith, inl, inr, ◌⊎◌, length-append}
-use Rattle.std.specs.Prelude.{Bool, true, false, Contains, ◌↔◌}
-use Rattle.std.specs.List.{AllByRecursion}
+use Rattle.std.proofs.Common.{◌≡◌, ◌∙◌, sym, ℕ, zero, suc, ◌+◌, ◌-◌, ◌<◌, ◌≤◌, List, [], ◌∷◌, ◌++◌, length, get_or, ap, refl, subst, arith, inl, inr, ◌⊎◌, length-append}
+use Rattle.std.specs.Prelude.{Bool, true, false, replicate, Contains, ◌↔◌}
+use Rattle.std.specs.Cmp.{nat_eq_equiv}
+use Rattle.std.specs.List.{IsDistinct, list_any}
 use Rattle.std.specs.List.Sorted.{IsStrictlyIncreasing}
 use Rattle.std.proofs.Math.ListN.{get_or-append}
-use Rattle.std.proofs.Math.Seq.{get_or-append_right, drop-append_seam, take-length}
-use Rattle.std.proofs.lemmas.Bool.{cases_lt, false≢true}
+use Rattle.std.proofs.Math.Seq.{get_or-append_right}
+use Rattle.std.proofs.lemmas.Bool.{cases_lt, eqb-true, ne_eqb}
 use Rattle.std.proofs.lemmas.Grind.{common_steps}
 use Rattle.std.proofs.lemmas.List.Elements.{Contains-append_cases, Contains-append_left, Contains-append_right}
+use Rattle.std.proofs.lemmas.Map.Keys.{IsDistinct-from_apart}
+use Rattle.std.proofs.lemmas.Map.Steps.{length-le_from_distinct_below, le-length_from_below}
+use Rattle.std.proofs.lemmas.Map.Views.{Contains-from_any, list_any-from_Contains}
+use lib.Dec.{eqb}
 use Rattle.digraph.specs.Edges.{Graph, Edge, IsWithin, successors}
 use Rattle.digraph.specs.Leads.{HasNoCycle}
 use Rattle.digraph.specs.Marks.{IsMarked, NoneMarked}
 use Rattle.digraph.specs.Ranks.{rank_in, IsBefore, IsRanked, IsRankOrder}
-use Rattle.digraph.specs.Rounds.{nodes_of, IsPassed, ArePassed, IsDealt}
-use Rattle.digraph.specs.declared.ranks.Waiting.{Waiting}
-use Rattle.digraph.proofs.Marking.{among_all}
-use Rattle.digraph.proofs.Rising.{all_map}
-use Rattle.digraph.proofs.Rows.{edge_below}
+use Rattle.digraph.specs.Rounds.{ArePassed, AllMarked, GoesInto}
+use Rattle.digraph.proofs.Marking.{default_same}
+use Rattle.digraph.proofs.Rounding.{mark_cases, row_cases, passed_none}
+use Rattle.digraph.proofs.Rows.{edge_below, no_items}
 use Rattle.digraph.proofs.Stuck.{none_stuck}
-use Rattle.digraph.proofs.Visiting.{no_place, node_at}
+use Rattle.digraph.proofs.Visiting.{no_place, node_at, push_iff, distinct_push}
 
-pub record Levels (g : Graph) (marks : List Bool) (ranks order : List ℕ) (ws : List Waiting) (r : ℕ) : Type 0 where
-  pub room : length marks ≡ length g
-  pub size : length ranks ≡ length g
-  pub known : (a : ℕ) → IsMarked marks a ↔ Contains order a
-  pub waiting : (a : ℕ) → Contains (nodes_of ws) a ↔ ((a < length g) × (IsMarked marks a → ⊥))
-  pub rises : IsStrictlyIncreasing (nodes_of ws)
-  pub passed : ArePassed g marks ws
-  pub few : r ≤ length order
-  pub count : length order + length ws ≡ length g
-  pub above : (a b : ℕ) → IsMarked marks a → Edge g a b → IsMarked marks b × (rank_in ranks b < rank_in ranks a)
-  pub least : (a : ℕ) → IsMarked marks a → (rank_in ranks a ≡ 0) ⊎ ((b : ℕ) × Edge g a b × (rank_in ranks a ≡ rank_in ranks b + 1))
-  pub below : (a : ℕ) → IsMarked marks a → rank_in ranks a < r
-  pub late : (a : ℕ) → a < length g → (IsMarked marks a → ⊥) → (r ≡ 0) ⊎ ((b : ℕ) × Edge g a b × (IsMarked marks b → rank_in ranks b + 1 ≡ r))
-  pub ordered : (k : ℕ) → k + 1 < length order → IsBefore ranks (get_or order k 0) (get_or order (k + 1) 0)
+-- what the loop over the rounds has
+pub record Stage : Type 0 where
+  pub marks : List Bool
+  pub ranks : List ℕ
+  pub order : List ℕ
+  pub ready : List ℕ
+  pub passed : List ℕ
+  pub round : ℕ
 
-pub length_nodes : (ws : List Waiting) → length (nodes_of ws) ≡ length ws
-length_nodes ws = grind (arith, common_steps)
+-- a node that gets a rank next
+abbrev pub IsReady : Graph → List Bool → ℕ → Type 0
+IsReady g marks a = (a < length g) × (IsMarked marks a → ⊥) × AllMarked g marks a
 
-tail_is : (order ready new_order : List ℕ) (first size : ℕ) → new_order ≡ order ++ ready → first ≡ length order → size ≡ length ready
-    → take size (drop first new_order) ≡ ready
-tail_is order ready new_order first size e at whole = ap (λ k. take size (drop k new_order)) at ∙ ap (λ xs. take size (drop (length order) xs)) e
-    ∙ ap (take size) (drop-append_seam order ready) ∙ ap (λ k. take k ready) whole ∙ take-length ready
-
-some_ready : (ready order whole first : ℕ) → whole ≡ order + ready → first ≡ order → (whole ≡ first → ⊥) → 0 < ready
-some_ready zero order whole first sum at grown = absurd (grown (omega (arith, sum, at)))
-some_ready (suc n) order whole first sum at grown = omega arith
+pub record Levels (g : Graph) (s : Stage) : Type 0 where
+  pub room : length s.marks ≡ length g
+  pub size : length s.ranks ≡ length g
+  pub known : (a : ℕ) → IsMarked s.marks a ↔ Contains s.order a
+  pub rises : IsStrictlyIncreasing s.ready
+  pub ready : (a : ℕ) → Contains s.ready a ↔ IsReady g s.marks a
+  pub passed : ArePassed g s.marks s.passed
+  pub few : s.round ≤ length s.order
+  pub above : (a b : ℕ) → IsMarked s.marks a → Edge g a b → IsMarked s.marks b × (rank_in s.ranks b < rank_in s.ranks a)
+  pub least : (a : ℕ) → IsMarked s.marks a
+      → (rank_in s.ranks a ≡ 0) ⊎ ((b : ℕ) × Edge g a b × (rank_in s.ranks a ≡ rank_in s.ranks b + 1))
+  pub below : (a : ℕ) → IsMarked s.marks a → rank_in s.ranks a < s.round
+  pub late : (a : ℕ) → Contains s.ready a → (s.round ≡ 0) ⊎ ((b : ℕ) × Edge g a b × (s.round ≡ rank_in s.ranks b + 1))
+  pub ordered : (k : ℕ) → k + 1 < length s.order → IsBefore s.ranks (get_or s.order k 0) (get_or s.order (k + 1) 0)
 
 -- ---- before the first round
 
 no_marks : (marks : List Bool) → NoneMarked marks → (a : ℕ) → IsMarked marks a ↔ Contains [] a
-no_marks marks none a = (λ m. absurd (none a m), λ w. absurd (no_place w.0 w.1))
+no_marks marks none a = (λ m. absurd (none a m), λ w. absurd (no_items a w))
 
-unpassed : (g : Graph) (marks : List Bool) (ws : List Waiting) → AllByRecursion (λ (w : Waiting). w.passed ≡ 0) ws → ArePassed g marks ws
-unpassed g marks ws none = all_map (λ (w : Waiting). w.passed ≡ 0) (λ (w : Waiting). IsPassed marks (successors g w.node) w.passed)
-    (λ w e. record { inside = omega (arith, e); front = λ k h. absurd (no_place k (omega (arith, h, e))) }) ws none
+empty_from : (xs : List ℕ) → ((c : ℕ) → Contains xs c → ⊥) → xs ≡ []
+empty_from [] none = refl
+empty_from (x ∷ xs) none = absurd (none x (0, omega arith, refl))
 
-pub levels_start : (g : Graph) (marks : List Bool) (ranks order : List ℕ) (ws : List Waiting) → length marks ≡ length g → length ranks ≡ length g
-    → NoneMarked marks → order ≡ [] → length ws ≡ length g → IsStrictlyIncreasing (nodes_of ws) → ((a : ℕ) → Contains (nodes_of ws) a ↔ (a < length g))
-    → AllByRecursion (λ (w : Waiting). w.passed ≡ 0) ws → Levels g marks ranks order ws 0
-levels_start g marks ranks order ws room size none empty len rises members passed = rw empty (record {
+leaf_ready : (g : Graph) (marks : List Bool) (leaves : List ℕ) → NoneMarked marks
+    → ((a : ℕ) → Contains leaves a ↔ ((a < length g) × (successors g a ≡ []))) → (a : ℕ) → Contains leaves a ↔ IsReady g marks a
+leaf_ready g marks leaves none members a = (
+  λ w. (let leaf = (members a).0 w in
+      (leaf.0, none a, λ b edge. absurd (no_items b (subst (λ (xs : List ℕ). Contains xs b) leaf.1 edge)))),
+  λ w. (members a).1 (w.0, empty_from (successors g a) (λ b edge. none b (w.2 b edge))),
+)
+
+zero_at : (n a : ℕ) → get_or {A = ℕ} (replicate n 0) a 0 ≡ 0
+zero_at zero a = grind (arith, common_steps)
+zero_at (suc n) zero = refl
+zero_at (suc n) (suc a) = zero_at n a
+
+pub all_zero : (xs : List ℕ) (n : ℕ) → xs ≡ replicate n 0 → (a : ℕ) → get_or xs a 0 ≡ 0
+all_zero xs n e a = ap (λ ys. get_or ys a 0) e ∙ zero_at n a
+
+pub levels_start : (g : Graph) (marks : List Bool) (ranks order ready passed : List ℕ) → length marks ≡ length g → length ranks ≡ length g
+    → NoneMarked marks → order ≡ [] → IsStrictlyIncreasing ready → ((a : ℕ) → Contains ready a ↔ ((a < length g) × (successors g a ≡ [])))
+    → length passed ≡ length g → ((a : ℕ) → get_or passed a 0 ≡ 0)
+    → Levels g (record { marks = marks; ranks = ranks; order = order; ready = ready; passed = passed; round = 0 })
+levels_start g marks ranks order ready passed room size none empty rises members long zeros = rw empty (record {
   room = room;
   size = size;
   known = no_marks marks none;
-  waiting = λ a. (λ w. ((members a).0 w, none a), λ w. (members a).1 w.0);
   rises = rises;
-  passed = unpassed g marks ws passed;
+  ready = leaf_ready g marks ready none members;
+  passed = passed_none g marks passed long zeros;
   few = omega arith;
-  count = omega (arith, len);
   above = λ a b m. absurd (none a m);
   least = λ a m. absurd (none a m);
   below = λ a m. absurd (none a m);
-  late = λ a h out. inl refl;
+  late = λ a w. inl refl;
   ordered = λ k h. absurd (no_place (k + 1) h);
 })
 
 -- ---- a round
 
--- what a round found, and what was written then
-pub record Round (g : Graph) (marks new_marks : List Bool) (ranks new_ranks order new_order : List ℕ) (ws later : List Waiting) (r : ℕ) : Type 0 where
-  pub ready : List ℕ
-  pub appended : new_order ≡ order ++ ready
-  pub dealt : IsDealt g marks (nodes_of ws) (length ws) ready (nodes_of later)
-  pub passed : ArePassed g marks later
-  pub some : 0 < length ready
-  pub marks_size : length new_marks ≡ length marks
-  pub ranks_size : length new_ranks ≡ length ranks
-  pub marked : (c : ℕ) → IsMarked new_marks c ↔ (IsMarked marks c ⊎ Contains ready c)
-  pub ranked : (c : ℕ) → Contains ready c → rank_in new_ranks c ≡ r
-  pub others : (c : ℕ) → (Contains ready c → ⊥) → rank_in new_ranks c ≡ rank_in ranks c
+-- what a round writes, from s to t
+pub record Round (g : Graph) (s t : Stage) : Type 0 where
+  pub next : t.round ≡ s.round + 1
+  pub some : 0 < length s.ready
+  pub appended : t.order ≡ s.order ++ s.ready
+  pub marks_size : length t.marks ≡ length s.marks
+  pub ranks_size : length t.ranks ≡ length s.ranks
+  pub marked : (c : ℕ) → IsMarked t.marks c ↔ (IsMarked s.marks c ⊎ Contains s.ready c)
+  pub ranked : (c : ℕ) → Contains s.ready c → rank_in t.ranks c ≡ s.round
+  pub others : (c : ℕ) → (Contains s.ready c → ⊥) → rank_in t.ranks c ≡ rank_in s.ranks c
+  pub passed : ArePassed g t.marks t.passed
+  pub rises : IsStrictlyIncreasing t.ready
+  pub members : (a : ℕ) → Contains t.ready a ↔ (GoesInto g s.ready a × AllMarked g t.marks a)
 
-ready_waits : (g : Graph) (marks : List Bool) (ranks order : List ℕ) (ws : List Waiting) (r : ℕ) (ready later : List ℕ) → Levels g marks ranks order ws r
-    → IsDealt g marks (nodes_of ws) (length ws) ready later → (a : ℕ) → Contains ready a → (a < length g) × (IsMarked marks a → ⊥)
-ready_waits g marks ranks order ws r ready later l d a w =
-    (l.waiting a).0 ((among_all (nodes_of ws) (length ws) a (sym (length_nodes ws))).1 (d.are_ready a w).0)
+kept : (g : Graph) (s t : Stage) → Levels g s → Round g s t → (a : ℕ) → IsMarked s.marks a → rank_in t.ranks a ≡ rank_in s.ranks a
+kept g s t l r a m = r.others a (λ w. ((l.ready a).0 w).1 m)
 
-later_waits : (g : Graph) (marks : List Bool) (ranks order : List ℕ) (ws : List Waiting) (r : ℕ) (ready later : List ℕ) → Levels g marks ranks order ws r
-    → IsDealt g marks (nodes_of ws) (length ws) ready later → (a : ℕ) → Contains later a → (a < length g) × (IsMarked marks a → ⊥)
-later_waits g marks ranks order ws r ready later l d a w =
-    (l.waiting a).0 ((among_all (nodes_of ws) (length ws) a (sym (length_nodes ws))).1 (d.are_later a w).0)
+above_next : (g : Graph) (s t : Stage) → Levels g s → Round g s t → (a b : ℕ) → IsMarked s.marks a ⊎ Contains s.ready a → Edge g a b
+    → IsMarked t.marks b × (rank_in t.ranks b < rank_in t.ranks a)
+above_next g s t l r a b (inl m) edge =
+    let was = l.above a b m edge in ((r.marked b).1 (inl was.0), omega (arith, was.1, kept g s t l r a m, kept g s t l r b was.0))
+above_next g s t l r a b (inr w) edge =
+    let mark = ((l.ready a).0 w).2 b edge in ((r.marked b).1 (inl mark), omega (arith, l.below b mark, kept g s t l r b mark, r.ranked a w))
 
-waits_dealt : (g : Graph) (marks : List Bool) (ranks order : List ℕ) (ws : List Waiting) (r : ℕ) (ready later : List ℕ) → Levels g marks ranks order ws r
-    → IsDealt g marks (nodes_of ws) (length ws) ready later → (a : ℕ) → a < length g → (IsMarked marks a → ⊥) → Contains ready a ⊎ Contains later a
-waits_dealt g marks ranks order ws r ready later l d a h out =
-    d.all a ((among_all (nodes_of ws) (length ws) a (sym (length_nodes ws))).0 ((l.waiting a).1 (h, out)))
+least_next : (g : Graph) (s t : Stage) → Levels g s → Round g s t → (a : ℕ) → IsMarked s.marks a ⊎ Contains s.ready a
+    → (rank_in t.ranks a ≡ 0) ⊎ ((b : ℕ) × Edge g a b × (rank_in t.ranks a ≡ rank_in t.ranks b + 1))
+least_next g s t l r a (inl m) = elim (l.least a m) [
+  | inl e ↦ inl (kept g s t l r a m ∙ e)
+  | inr found ↦ (let mark = (l.above a found.0 m found.1).0 in
+      inr (found.0, found.1, omega (arith, kept g s t l r a m, kept g s t l r found.0 mark, found.2)))
+]
+least_next g s t l r a (inr w) = elim (l.late a w) [
+  | inl e ↦ inl (r.ranked a w ∙ e)
+  | inr found ↦ (let mark = ((l.ready a).0 w).2 found.0 found.1 in
+      inr (found.0, found.1, omega (arith, r.ranked a w, kept g s t l r found.0 mark, found.2)))
+]
 
-pub kept : (g : Graph) (marks new_marks : List Bool) (ranks new_ranks order new_order : List ℕ) (ws later : List Waiting) (r : ℕ)
-    → Levels g marks ranks order ws r → Round g marks new_marks ranks new_ranks order new_order ws later r → (a : ℕ) → IsMarked marks a
-    → rank_in new_ranks a ≡ rank_in ranks a
-kept g marks new_marks ranks new_ranks order new_order ws later r l s a m =
-    s.others a (λ w. (ready_waits g marks ranks order ws r s.ready (nodes_of later) l s.dealt a w).1 m)
+below_next : (g : Graph) (s t : Stage) → Levels g s → Round g s t → (a : ℕ) → IsMarked s.marks a ⊎ Contains s.ready a → rank_in t.ranks a < t.round
+below_next g s t l r a (inl m) = omega (arith, l.below a m, kept g s t l r a m, r.next)
+below_next g s t l r a (inr w) = omega (arith, r.ranked a w, r.next)
 
-above_next : (g : Graph) (marks new_marks : List Bool) (ranks new_ranks order new_order : List ℕ) (ws later : List Waiting) (r : ℕ)
-    → Levels g marks ranks order ws r → (s : Round g marks new_marks ranks new_ranks order new_order ws later r) → (a b : ℕ)
-    → IsMarked marks a ⊎ Contains s.ready a → Edge g a b → IsMarked new_marks b × (rank_in new_ranks b < rank_in new_ranks a)
-above_next g marks new_marks ranks new_ranks order new_order ws later r l s a b (inl m) edge =
-    let was = l.above a b m edge in
-    let same_a = kept g marks new_marks ranks new_ranks order new_order ws later r l s a m in
-    let same_b = kept g marks new_marks ranks new_ranks order new_order ws later r l s b was.0 in
-    ((s.marked b).1 (inl was.0), omega (arith, was.1, same_a, same_b))
-above_next g marks new_marks ranks new_ranks order new_order ws later r l s a b (inr w) edge =
-    let mark = (s.dealt.are_ready a w).1 b edge in
-    let small = l.below b mark in
-    let same_b = kept g marks new_marks ranks new_ranks order new_order ws later r l s b mark in
-    ((s.marked b).1 (inl mark), omega (arith, small, same_b, s.ranked a w))
+late_next : (g : Graph) (s t : Stage) → Round g s t → (a : ℕ) → Contains t.ready a
+    → (t.round ≡ 0) ⊎ ((b : ℕ) × Edge g a b × (t.round ≡ rank_in t.ranks b + 1))
+late_next g s t r a w = let into = ((r.members a).0 w).0 in inr (into.0, into.2, omega (arith, r.next, r.ranked into.0 into.1))
 
-least_next : (g : Graph) (marks new_marks : List Bool) (ranks new_ranks order new_order : List ℕ) (ws later : List Waiting) (r : ℕ)
-    → Levels g marks ranks order ws r → (s : Round g marks new_marks ranks new_ranks order new_order ws later r) → (a : ℕ)
-    → IsMarked marks a ⊎ Contains s.ready a → (rank_in new_ranks a ≡ 0) ⊎ ((b : ℕ) × Edge g a b × (rank_in new_ranks a ≡ rank_in new_ranks b + 1))
-least_next g marks new_marks ranks new_ranks order new_order ws later r l s a (inl m) =
-    let same_a = kept g marks new_marks ranks new_ranks order new_order ws later r l s a m in
-    elim (l.least a m) [
-      | inl e ↦ inl (same_a ∙ e)
-      | inr found ↦ (let mark = (l.above a found.0 m found.1).0 in
-          let same_b = kept g marks new_marks ranks new_ranks order new_order ws later r l s found.0 mark in
-          inr (found.0, found.1, omega (arith, same_a, same_b, found.2)))
-    ]
-least_next g marks new_marks ranks new_ranks order new_order ws later r l s a (inr w) =
-    let waits = ready_waits g marks ranks order ws r s.ready (nodes_of later) l s.dealt a w in
-    elim (l.late a waits.0 waits.1) [
-      | inl e ↦ inl (s.ranked a w ∙ e)
-      | inr found ↦ (let mark = (s.dealt.are_ready a w).1 found.0 found.1 in
-          let same_b = kept g marks new_marks ranks new_ranks order new_order ws later r l s found.0 mark in
-          inr (found.0, found.1, omega (arith, s.ranked a w, same_b, found.2 mark)))
-    ]
+-- a node with an edge to one that was ready had no rank, and was not ready itself
+ready_to : (g : Graph) (s t : Stage) → Levels g s → Round g s t → (a : ℕ) → Contains t.ready a → IsReady g t.marks a
+ready_to g s t l r a w =
+    let is = (r.members a).0 w in
+    let into = is.0 in
+    let out : IsMarked s.marks into.0 → ⊥ = ((l.ready into.0).0 into.1).1 in (
+      edge_below g a into.0 into.2,
+      λ m. (elim ((r.marked a).0 m) [
+        | inl old ↦ out (l.above a into.0 old into.2).0
+        | inr ready ↦ out (((l.ready a).0 ready).2 into.0 into.2)
+      ]),
+      is.1,
+    )
 
-below_next : (g : Graph) (marks new_marks : List Bool) (ranks new_ranks order new_order : List ℕ) (ws later : List Waiting) (r : ℕ)
-    → Levels g marks ranks order ws r → (s : Round g marks new_marks ranks new_ranks order new_order ws later r) → (a : ℕ)
-    → IsMarked marks a ⊎ Contains s.ready a → rank_in new_ranks a < r + 1
-below_next g marks new_marks ranks new_ranks order new_order ws later r l s a (inl m) =
-    let small = l.below a m in let same = kept g marks new_marks ranks new_ranks order new_order ws later r l s a m in omega (arith, small, same)
-below_next g marks new_marks ranks new_ranks order new_order ws later r l s a (inr w) = omega (arith, s.ranked a w)
-
-late_next : (g : Graph) (marks new_marks : List Bool) (ranks new_ranks order new_order : List ℕ) (ws later : List Waiting) (r : ℕ)
-    → Levels g marks ranks order ws r → (s : Round g marks new_marks ranks new_ranks order new_order ws later r) → (a : ℕ) → (IsMarked new_marks a → ⊥)
-    → Contains s.ready a ⊎ Contains (nodes_of later) a → (r + 1 ≡ 0) ⊎ ((b : ℕ) × Edge g a b × (IsMarked new_marks b → rank_in new_ranks b + 1 ≡ r + 1))
-late_next g marks new_marks ranks new_ranks order new_order ws later r l s a out (inl w) = absurd (out ((s.marked a).1 (inr w)))
-late_next g marks new_marks ranks new_ranks order new_order ws later r l s a out (inr w) =
-    let found = (s.dealt.are_later a w).1 in
-    inr (found.0, found.1, λ m. (elim ((s.marked found.0).0 m) [ inl old ↦ absurd (found.2 old) | inr ready ↦ ap (λ k. k + 1) (s.ranked found.0 ready) ]))
-
--- ---- the order after a round
+-- a node that is ready now and was not before has an edge to one that was
+ready_from : (g : Graph) (s t : Stage) → Levels g s → Round g s t → (a : ℕ) → IsReady g t.marks a → Contains t.ready a
+ready_from g s t l r a (h, out, all) = elim (row_cases g s.marks a) [
+  | inl before ↦ absurd (out ((r.marked a).1 (inr ((l.ready a).1 (h, (λ m. out ((r.marked a).1 (inl m))), before)))))
+  | inr found ↦ elim ((r.marked found.0).0 (all found.0 found.1)) [
+    | inl old ↦ absurd (found.2 old)
+    | inr ready ↦ (r.members a).1 ((found.0, ready, found.1), all)
+  ]
+]
 
 order_left : (order ready : List ℕ) (k : ℕ) → k < length order → get_or (order ++ ready) k 0 ≡ get_or order k 0
 order_left order ready k h = get_or-append order ready 0 k h
@@ -173,208 +178,195 @@ before_same : (ranks new_ranks : List ℕ) (a b : ℕ) → rank_in new_ranks a �
 before_same ranks new_ranks a b ea eb (inl less) = inl (omega (arith, less, ea, eb))
 before_same ranks new_ranks a b ea eb (inr (same, less)) = inr (ea ∙ same ∙ sym eb, less)
 
-ordered_case : (g : Graph) (marks new_marks : List Bool) (ranks new_ranks order new_order : List ℕ) (ws later : List Waiting) (r : ℕ)
-    → Levels g marks ranks order ws r → (s : Round g marks new_marks ranks new_ranks order new_order ws later r) → (k : ℕ)
-    → k + 1 < length order + length s.ready → (k + 1 < length order) ⊎ (length order ≤ k + 1) → (k < length order) ⊎ (length order ≤ k)
-    → IsBefore new_ranks (get_or (order ++ s.ready) k 0) (get_or (order ++ s.ready) (k + 1) 0)
-ordered_case g marks new_marks ranks new_ranks order new_order ws later r l s k h (inl inside) near =
-    let at : k < length order = omega arith in
-    let first =
-    kept g marks new_marks ranks new_ranks order new_order ws later r l s (get_or order k 0) ((l.known (get_or order k 0)).1 (node_at order k at)) in
-    let second = kept g marks new_marks ranks new_ranks order new_order ws later r l s (get_or order (k + 1) 0)
-    ((l.known (get_or order (k + 1) 0)).1 (node_at order (k + 1) inside)) in
-    rw (order_left order s.ready k at, order_left order s.ready (k + 1) inside)
-    (before_same ranks new_ranks (get_or order k 0) (get_or order (k + 1) 0) first second (l.ordered k inside))
-ordered_case g marks new_marks ranks new_ranks order new_order ws later r l s k h (inr over) (inl at) =
-    let mark = (l.known (get_or order k 0)).1 (node_at order k at) in
-    let same = kept g marks new_marks ranks new_ranks order new_order ws later r l s (get_or order k 0) mark in
-    let small = l.below (get_or order k 0) mark in
-    let place : k + 1 - length order < length s.ready = omega arith in
-    let rank = s.ranked (get_or s.ready (k + 1 - length order) 0) (node_at s.ready (k + 1 - length order) place) in
-    rw (order_left order s.ready k at, order_right order s.ready (k + 1) over) (inl (omega (arith, same, small, rank)))
-ordered_case g marks new_marks ranks new_ranks order new_order ws later r l s k h (inr over) (inr at) =
-    let i : ℕ = k - length order in
-    let place : k - length order + 1 < length s.ready = omega arith in
-    let next : k + 1 - length order ≡ k - length order + 1 = omega arith in
-    let first = s.ranked (get_or s.ready (k - length order) 0) (node_at s.ready (k - length order) (omega arith)) in
-    let second = s.ranked (get_or s.ready (k - length order + 1) 0) (node_at s.ready (k - length order + 1) place) in
-    rw (order_right order s.ready k at, order_right order s.ready (k + 1) over ∙ ap (λ j. get_or s.ready j 0) next)
-    (inr (first ∙ sym second, s.dealt.ready_rises (k - length order) place))
+ordered_case : (g : Graph) (s t : Stage) → Levels g s → Round g s t → (k : ℕ) → k + 1 < length s.order + length s.ready
+    → (k + 1 < length s.order) ⊎ (length s.order ≤ k + 1) → (k < length s.order) ⊎ (length s.order ≤ k)
+    → IsBefore t.ranks (get_or (s.order ++ s.ready) k 0) (get_or (s.order ++ s.ready) (k + 1) 0)
+ordered_case g s t l r k h (inl inside) near =
+    let at : k < length s.order = omega arith in
+    let first = kept g s t l r (get_or s.order k 0) ((l.known (get_or s.order k 0)).1 (node_at s.order k at)) in
+    let second = kept g s t l r (get_or s.order (k + 1) 0) ((l.known (get_or s.order (k + 1) 0)).1 (node_at s.order (k + 1) inside)) in
+    rw (order_left s.order s.ready k at, order_left s.order s.ready (k + 1) inside)
+    (before_same s.ranks t.ranks (get_or s.order k 0) (get_or s.order (k + 1) 0) first second (l.ordered k inside))
+ordered_case g s t l r k h (inr over) (inl at) =
+    let mark = (l.known (get_or s.order k 0)).1 (node_at s.order k at) in
+    let same = kept g s t l r (get_or s.order k 0) mark in
+    let small = l.below (get_or s.order k 0) mark in
+    let place : k + 1 - length s.order < length s.ready = omega arith in
+    let rank = r.ranked (get_or s.ready (k + 1 - length s.order) 0) (node_at s.ready (k + 1 - length s.order) place) in
+    rw (order_left s.order s.ready k at, order_right s.order s.ready (k + 1) over) (inl (omega (arith, same, small, rank)))
+ordered_case g s t l r k h (inr over) (inr at) =
+    let place : k - length s.order + 1 < length s.ready = omega arith in
+    let next : k + 1 - length s.order ≡ k - length s.order + 1 = omega arith in
+    let first = r.ranked (get_or s.ready (k - length s.order) 0) (node_at s.ready (k - length s.order) (omega arith)) in
+    let second = r.ranked (get_or s.ready (k - length s.order + 1) 0) (node_at s.ready (k - length s.order + 1) place) in
+    rw (order_right s.order s.ready k at, order_right s.order s.ready (k + 1) over ∙ ap (λ j. get_or s.ready j 0) next)
+    (inr (first ∙ sym second, l.rises (k - length s.order) place))
 
-known_next : (order ready : List ℕ) (a : ℕ) (M : Type 0) → M ↔ Contains order a → (M ⊎ Contains ready a) ↔ Contains (order ++ ready) a
-known_next order ready a M known = (
-  λ w. (elim w [ inl m ↦ Contains-append_left order ready a (known.0 m) | inr r ↦ Contains-append_right order ready a r ]),
-  λ w. (elim (Contains-append_cases order ready a w) [ inl old ↦ inl (known.1 old) | inr r ↦ inr r ]),
-)
+ordered_next : (g : Graph) (s t : Stage) → Levels g s → Round g s t → (k : ℕ) → k + 1 < length t.order
+    → IsBefore t.ranks (get_or t.order k 0) (get_or t.order (k + 1) 0)
+ordered_next g s t l r k h =
+    let long : length t.order ≡ length s.order + length s.ready = ap length r.appended ∙ length-append s.order s.ready in
+    subst (λ (xs : List ℕ). IsBefore t.ranks (get_or xs k 0) (get_or xs (k + 1) 0)) (sym r.appended)
+    (ordered_case g s t l r k (omega (arith, h, long)) (cases_lt (k + 1) (length s.order)) (cases_lt k (length s.order)))
 
-joined : {A B C : Type 0} → A ↔ B → B ↔ C → A ↔ C
-joined f h = (λ a. h.0 (f.0 a), λ c. f.1 (h.1 c))
+known_to : (g : Graph) (s t : Stage) → Levels g s → Round g s t → (a : ℕ) → IsMarked s.marks a ⊎ Contains s.ready a → Contains t.order a
+known_to g s t l r a w = subst (λ (xs : List ℕ). Contains xs a) (sym r.appended) (elim w [
+  | inl m ↦ Contains-append_left s.order s.ready a ((l.known a).0 m)
+  | inr ready ↦ Contains-append_right s.order s.ready a ready
+])
 
-waiting_to : (g : Graph) (marks new_marks : List Bool) (ranks new_ranks order new_order : List ℕ) (ws later : List Waiting) (r : ℕ)
-    → Levels g marks ranks order ws r → Round g marks new_marks ranks new_ranks order new_order ws later r → (a : ℕ) → Contains (nodes_of later) a
-    → (a < length g) × (IsMarked new_marks a → ⊥)
-waiting_to g marks new_marks ranks new_ranks order new_order ws later r l s a w =
-    let waits = later_waits g marks ranks order ws r s.ready (nodes_of later) l s.dealt a w in
-    let found = (s.dealt.are_later a w).1 in
-    (waits.0, λ m. (elim ((s.marked a).0 m) [ inl old ↦ waits.1 old | inr ready ↦ found.2 ((s.dealt.are_ready a ready).1 found.0 found.1) ]))
+known_from : (g : Graph) (s t : Stage) → Levels g s → Round g s t → (a : ℕ) → Contains t.order a → IsMarked s.marks a ⊎ Contains s.ready a
+known_from g s t l r a w = elim (Contains-append_cases s.order s.ready a (subst (λ (xs : List ℕ). Contains xs a) r.appended w)) [
+  | inl old ↦ inl ((l.known a).1 old)
+  | inr ready ↦ inr ready
+]
 
-waiting_from : (g : Graph) (marks new_marks : List Bool) (ranks new_ranks order new_order : List ℕ) (ws later : List Waiting) (r : ℕ)
-    → Levels g marks ranks order ws r → Round g marks new_marks ranks new_ranks order new_order ws later r → (a : ℕ)
-    → (a < length g) × (IsMarked new_marks a → ⊥) → Contains (nodes_of later) a
-waiting_from g marks new_marks ranks new_ranks order new_order ws later r l s a (h, out) =
-    elim (waits_dealt g marks ranks order ws r s.ready (nodes_of later) l s.dealt a h (λ m. out ((s.marked a).1 (inl m)))) [
-      | inl ready ↦ absurd (out ((s.marked a).1 (inr ready)))
-      | inr late ↦ late
-    ]
+pub levels_next : (g : Graph) (s t : Stage) → Levels g s → Round g s t → Levels g t
+levels_next g s t l r = record {
+  room = r.marks_size ∙ l.room;
+  size = r.ranks_size ∙ l.size;
+  known = λ a. (λ m. known_to g s t l r a ((r.marked a).0 m), λ w. (r.marked a).1 (known_from g s t l r a w));
+  rises = r.rises;
+  ready = λ a. (ready_to g s t l r a, ready_from g s t l r a);
+  passed = r.passed;
+  few = (let long : length t.order ≡ length s.order + length s.ready = ap length r.appended ∙ length-append s.order s.ready in
+      omega (arith, l.few, r.some, r.next, long));
+  above = λ a b m. above_next g s t l r a b ((r.marked a).0 m);
+  least = λ a m. least_next g s t l r a ((r.marked a).0 m);
+  below = λ a m. below_next g s t l r a ((r.marked a).0 m);
+  late = late_next g s t r;
+  ordered = ordered_next g s t l r;
+}
 
-passed_grows : (g : Graph) (marks new : List Bool) → ((c : ℕ) → IsMarked marks c → IsMarked new c) → (ws : List Waiting) → ArePassed g marks ws
-    → ArePassed g new ws
-passed_grows g marks new f ws =
-    all_map (λ (w : Waiting). IsPassed marks (successors g w.node) w.passed) (λ (w : Waiting). IsPassed new (successors g w.node) w.passed)
-    (λ w p. record { inside = p.inside; front = λ k h. f (get_or (successors g w.node) k 0) (p.front k h) }) ws
+-- ---- no node stands twice in the order
 
-pub levels_next : (g : Graph) (marks new_marks : List Bool) (ranks new_ranks order new_order : List ℕ) (ws later : List Waiting) (r : ℕ)
-    → Levels g marks ranks order ws r → Round g marks new_marks ranks new_ranks order new_order ws later r
-    → Levels g new_marks new_ranks new_order later (r + 1)
-levels_next g marks new_marks ranks new_ranks order new_order ws later r l s = rw s.appended (record {
-  room = s.marks_size ∙ l.room;
-  size = s.ranks_size ∙ l.size;
-  known = λ a. joined (s.marked a) (known_next order s.ready a (IsMarked marks a) (l.known a));
-  waiting = λ a. (
-    waiting_to g marks new_marks ranks new_ranks order new_order ws later r l s a,
-    waiting_from g marks new_marks ranks new_ranks order new_order ws later r l s a,
-  );
-  rises = s.dealt.later_rises;
-  passed = passed_grows g marks new_marks (λ c m. (s.marked c).1 (inl m)) later s.passed;
-  few = omega (arith, l.few, s.some, length-append order s.ready);
-  count = omega (arith, l.count, s.dealt.count, length-append order s.ready, length_nodes later);
-  above = λ a b m. above_next g marks new_marks ranks new_ranks order new_order ws later r l s a b ((s.marked a).0 m);
-  least = λ a m. least_next g marks new_marks ranks new_ranks order new_order ws later r l s a ((s.marked a).0 m);
-  below = λ a m. below_next g marks new_marks ranks new_ranks order new_order ws later r l s a ((s.marked a).0 m);
-  late = λ a h out. late_next g marks new_marks ranks new_ranks order new_order ws later r l s a out
-      (waits_dealt g marks ranks order ws r s.ready (nodes_of later) l s.dealt a h (λ m. out ((s.marked a).1 (inl m))));
-  ordered = λ k h. ordered_case g marks new_marks ranks new_ranks order new_order ws later r l s k (omega (arith, h, length-append order s.ready))
-      (cases_lt (k + 1) (length order)) (cases_lt k (length order));
-})
+before_trans : (ranks : List ℕ) (a b c : ℕ) → IsBefore ranks a b → IsBefore ranks b c → IsBefore ranks a c
+before_trans ranks a b c (inl x) (inl y) = inl (omega arith)
+before_trans ranks a b c (inl x) (inr y) = inl (omega (arith, y.0))
+before_trans ranks a b c (inr x) (inl y) = inl (omega (arith, x.0))
+before_trans ranks a b c (inr x) (inr y) = inr (x.0 ∙ y.0, omega (arith, x.1, y.1))
+
+before_other : (ranks : List ℕ) (a b : ℕ) → IsBefore ranks a b → a ≡ b → ⊥
+before_other ranks a b (inl less) e = (let same = ap (rank_in ranks) e in omega (arith, less, same))
+before_other ranks a b (inr (same, less)) e = omega (arith, less, e)
+
+before_by : (g : Graph) (s : Stage) → Levels g s → (i d : ℕ) → i + suc d < length s.order → IsBefore s.ranks (get_or s.order i 0) (get_or s.order (i + suc d) 0)
+before_by g s l i zero h = l.ordered i h
+before_by g s l i (suc d) h =
+    before_trans s.ranks (get_or s.order i 0) (get_or s.order (i + suc d) 0) (get_or s.order (i + suc (suc d)) 0) (before_by g s l i d (omega arith))
+    (subst (λ j. IsBefore s.ranks (get_or s.order (i + suc d) 0) (get_or s.order j 0)) (omega arith) (l.ordered (i + suc d) (omega arith)))
+
+apart : (g : Graph) (s : Stage) → Levels g s → (i j d : ℕ) → i < j → j < length s.order → eqb (get_or s.order i d) (get_or s.order j d) ≡ false
+apart g s l i j d less inside =
+    let split : i + suc (j - i - 1) ≡ j = omega arith in
+    let before : IsBefore s.ranks (get_or s.order i 0) (get_or s.order j 0) =
+    subst (λ k. IsBefore s.ranks (get_or s.order i 0) (get_or s.order k 0)) split (before_by g s l i (j - i - 1) (omega arith)) in
+    let first : get_or s.order i d ≡ get_or s.order i 0 = default_same s.order i d 0 (omega arith) in
+    let second : get_or s.order j d ≡ get_or s.order j 0 = default_same s.order j d 0 inside in
+    ne_eqb (get_or s.order i d) (get_or s.order j d)
+    (λ e. before_other s.ranks (get_or s.order i 0) (get_or s.order j 0) before (sym first ∙ e ∙ second))
+
+order_distinct : (g : Graph) (s : Stage) → Levels g s → IsDistinct eqb s.order
+order_distinct g s l = IsDistinct-from_apart eqb s.order (apart g s l)
+
+found_in : (xs : List ℕ) (q : ℕ) → list_any (eqb q) xs ≡ true → Contains xs q
+found_in xs q e = Contains-from_any (λ a b h. eqb-true a b h) q xs e
+
+in_order : (g : Graph) (s : Stage) → Levels g s → (q : ℕ) → Contains s.order q → q < length g
+in_order g s l q w = let m = (l.known q).1 w in omega (arith, m.0, l.room)
+
+order_short : (g : Graph) (s : Stage) → Levels g s → length s.order ≤ length g
+order_short g s l = length-le_from_distinct_below s.order (length g) (order_distinct g s l) (λ q e. in_order g s l q (found_in s.order q e))
+
+with_another : (g : Graph) (s : Stage) → Levels g s → (a q : ℕ) → a < length g → Contains s.order q ⊎ (a ≡ q) → q < length g
+with_another g s l a q h (inl old) = in_order g s l q old
+with_another g s l a q h (inr is) = omega arith
+
+-- where a node has no mark, the order has not all of them
+pub order_shorter : (g : Graph) (s : Stage) → Levels g s → (a : ℕ) → a < length g → (IsMarked s.marks a → ⊥) → length s.order < length g
+order_shorter g s l a h out =
+    let more = s.order ++ a ∷ [] in
+    let once = distinct_push s.order a (order_distinct g s l) (λ w. out ((l.known a).1 w)) in
+    let size : length (s.order ++ a ∷ []) ≡ length s.order + 1 = grind (arith, common_steps) in
+    let short = length-le_from_distinct_below (s.order ++ a ∷ []) (length g) once
+    (λ q e. with_another g s l a q h ((push_iff s.order a q).0 (found_in (s.order ++ a ∷ []) q e))) in
+    omega (arith, short, size)
+
+-- so a round that finds a node leaves fewer
+pub round_shorter : (g : Graph) (s : Stage) → Levels g s → 0 < length s.ready → length s.order < length g
+round_shorter g s l some =
+    let is = (l.ready (get_or s.ready 0 0)).0 (node_at s.ready 0 some) in order_shorter g s l (get_or s.ready 0 0) is.0 is.1
+
+-- what gets a rank is a node
+pub ready_below : (g : Graph) (s : Stage) → Levels g s → (a : ℕ) → Contains s.ready a → a < length g
+ready_below g s l a w = ((l.ready a).0 w).0
 
 -- ---- after the last round
 
-mark_cases : (marks : List Bool) (a : ℕ) → a < length marks → (b : Bool) → get_or marks a false ≡ b → IsMarked marks a ⊎ (IsMarked marks a → ⊥)
-mark_cases marks a h true e = inl (h, e)
-mark_cases marks a h false e = inr (λ m. false≢true (sym e ∙ m.1))
+every_case : (g : Graph) (s : Stage) → Levels g s → length g ≤ length s.order → (a : ℕ) → a < length g
+    → IsMarked s.marks a ⊎ (IsMarked s.marks a → ⊥) → IsMarked s.marks a
+every_case g s l whole a h (inl m) = m
+every_case g s l whole a h (inr out) = absurd (let short = order_shorter g s l a h out in no_place 0 (omega arith))
 
-all_known : (g : Graph) (marks : List Bool) (ranks order : List ℕ) (ws : List Waiting) (r : ℕ) → length ws ≡ 0 → Levels g marks ranks order ws r → (a : ℕ)
-    → a < length g → IsMarked marks a ⊎ (IsMarked marks a → ⊥) → IsMarked marks a
-all_known g marks ranks order ws r e l a h (inl m) = m
-all_known g marks ranks order ws r e l a h (inr out) = let w = (l.waiting a).1 (h, out) in absurd (no_place w.0 (omega (arith, w.1, e, length_nodes ws)))
+every : (g : Graph) (s : Stage) → Levels g s → length g ≤ length s.order → (a : ℕ) → a < length g → IsMarked s.marks a
+every g s l whole a h = every_case g s l whole a h (mark_cases s.marks a)
 
-pub every : (g : Graph) (marks : List Bool) (ranks order : List ℕ) (ws : List Waiting) (r : ℕ) → length ws ≡ 0 → Levels g marks ranks order ws r → (a : ℕ)
-    → a < length g → IsMarked marks a
-every g marks ranks order ws r e l a h = all_known g marks ranks order ws r e l a h (mark_cases marks a (omega (arith, h, l.room)) (get_or marks a false) refl)
-
-pub levels_ranked : (g : Graph) (marks : List Bool) (ranks order : List ℕ) (ws : List Waiting) (r : ℕ) → length ws ≡ 0 → Levels g marks ranks order ws r
-    → IsRanked g ranks
-levels_ranked g marks ranks order ws r e l = record {
+pub levels_ranked : (g : Graph) (s : Stage) → Levels g s → length g ≤ length s.order → IsRanked g s.ranks
+levels_ranked g s l whole = record {
   size = l.size;
-  above = λ a b edge. (l.above a b (every g marks ranks order ws r e l a (edge_below g a b edge)) edge).1;
-  least = λ a h. l.least a (every g marks ranks order ws r e l a h);
+  above = λ a b edge. (l.above a b (every g s l whole a (edge_below g a b edge)) edge).1;
+  least = λ a h. l.least a (every g s l whole a h);
 }
 
-pub levels_order : (g : Graph) (marks : List Bool) (ranks order : List ℕ) (ws : List Waiting) (r : ℕ) → length ws ≡ 0 → Levels g marks ranks order ws r
-    → IsRankOrder ranks order
-levels_order g marks ranks order ws r e l = record {
-  size = omega (arith, l.count, l.size, e);
+pub levels_order : (g : Graph) (s : Stage) → Levels g s → length g ≤ length s.order → IsRankOrder s.ranks s.order
+levels_order g s l whole = record {
+  size = (let short = order_short g s l in omega (arith, short, whole, l.size));
   rises = l.ordered;
   whole = λ a. (
-    λ w. (let m = (l.known a).1 w in omega (arith, m.0, l.room, l.size)),
-    λ h. (l.known a).0 (every g marks ranks order ws r e l a (omega (arith, h, l.size))),
+    λ w. (let h = in_order g s l a w in omega (arith, h, l.size)),
+    λ h. (l.known a).0 (every g s l whole a (omega (arith, h, l.size))),
   );
 }
 
-stuck_at : (g : Graph) (marks : List Bool) (ranks order : List ℕ) (ws : List Waiting) (r : ℕ) (ready later : List ℕ) → IsWithin g (length g) → length ready ≡ 0
-    → Levels g marks ranks order ws r → IsDealt g marks (nodes_of ws) (length ws) ready later → (a : ℕ) → Contains ready a ⊎ Contains later a
-    → (b : ℕ) × Edge g a b × Contains (nodes_of ws) b
-stuck_at g marks ranks order ws r ready later within none l d a (inl is) = absurd (no_place is.0 (omega (arith, is.1, none)))
-stuck_at g marks ranks order ws r ready later within none l d a (inr is) =
-    let found = (d.are_later a is).1 in (found.0, found.1, (l.waiting found.0).1 (within a found.0 found.1, found.2))
+stuck_at : (g : Graph) (s : Stage) → IsWithin g (length g) → Levels g s → length s.ready ≡ 0 → (a : ℕ) → (a < length g) × (IsMarked s.marks a → ⊥)
+    → (a < length g) × (b : ℕ) × Edge g a b × ((b < length g) × (IsMarked s.marks b → ⊥))
+stuck_at g s within l none a (h, out) = elim (row_cases g s.marks a) [
+  | inl all ↦ (let w = (l.ready a).1 (h, out, all) in absurd (no_place w.0 (omega (arith, w.1, none))))
+  | inr found ↦ (h, found.0, found.1, (within a found.0 found.1, found.2))
+]
 
--- a round that finds no node leaves a cycle
-pub levels_stuck : (g : Graph) (marks : List Bool) (ranks order : List ℕ) (ws : List Waiting) (r : ℕ) (ready later : List ℕ) → IsWithin g (length g)
-    → 0 < length ws → length ready ≡ 0 → Levels g marks ranks order ws r → IsDealt g marks (nodes_of ws) (length ws) ready later → HasNoCycle g → ⊥
-levels_stuck g marks ranks order ws r ready later within some none l d acyclic =
-    none_stuck g (length g) (λ a. Contains (nodes_of ws) a)
-    (λ a w. (let next = stuck_at g marks ranks order ws r ready later within none l d a
-    (d.all a ((among_all (nodes_of ws) (length ws) a (sym (length_nodes ws))).0 w)) in
-    (((l.waiting a).0 w).0, next.0, next.1, next.2)))
-    acyclic (get_or (nodes_of ws) 0 0) (node_at (nodes_of ws) 0 (omega (arith, some, length_nodes ws)))
+-- a node that no round found leads into a cycle
+pub levels_stuck : (g : Graph) (s : Stage) → IsWithin g (length g) → Levels g s → length s.ready ≡ 0 → length s.order < length g → HasNoCycle g → ⊥
+levels_stuck g s within l none short acyclic =
+    let free = none_stuck g (length g) (λ a. (a < length g) × (IsMarked s.marks a → ⊥)) (stuck_at g s within l none) acyclic in
+    let long = le-length_from_below s.order (length g) (λ q h. list_any-from_Contains nat_eq_equiv q s.order ((l.known q).0 (elim (mark_cases s.marks q) [
+      | inl m ↦ m
+      | inr out ↦ absurd (free q (h, out))
+    ]))) in
+    no_place 0 (omega (arith, long, short))
 
 -- ---- the round as the code has it: the slices that it is given are the lists
 
-pub record Given (g : Graph) (seen : List Bool) (order new_order : List ℕ) (waits later : List Waiting) : Type 0 where
-  pub ready : List ℕ
-  pub appended : new_order ≡ order ++ ready
-  pub dealt : IsDealt g seen (nodes_of waits) (length waits) ready (nodes_of later)
-
-abbrev pub Dealt : Graph → List Bool → List ℕ → List ℕ → List Waiting → List Waiting → Type 0
-Dealt g seen order new_order waits later =
-    (ready : List ℕ) × (new_order ≡ order ++ ready) × IsDealt g seen (nodes_of waits) (length waits) ready (nodes_of later)
-
-given_of : (g : Graph) (marks seen : List Bool) (order new_order : List ℕ) (ws waits later : List Waiting) → seen ≡ marks → waits ≡ ws
-    → Dealt g seen order new_order waits later → Given g marks order new_order ws later
-given_of g marks seen order new_order ws waits later es ew (ready, appended, dealt) = record {
-  ready = ready;
-  appended = appended;
-  dealt = subst (λ (m : List Bool). IsDealt g m (nodes_of ws) (length ws) ready (nodes_of later)) es
-      (subst (λ (w : List Waiting). IsDealt g seen (nodes_of w) (length w) ready (nodes_of later)) ew dealt);
-}
-
-same_nodes : (g : Graph) (marks : List Bool) (order new_order slice nodes : List ℕ) (ws later : List Waiting) (first size : ℕ) → slice ≡ new_order
-    → first ≡ length order → nodes ≡ take size (drop first slice) → size ≡ length slice - first → (d : Given g marks order new_order ws later) → nodes ≡ d.ready
-same_nodes g marks order new_order slice nodes ws later first size same at are whole d =
-    let lengths : length new_order ≡ length order + length d.ready = ap length d.appended ∙ length-append order d.ready in
-    let long : length slice ≡ length new_order = ap length same in
-    are ∙ ap (λ (xs : List ℕ). take size (drop first xs)) same
-    ∙ tail_is order d.ready new_order first size d.appended at (omega (arith, whole, lengths, long, at))
-
-pub round_of : (g : Graph) (marks seen old_marks new_marks : List Bool) (ranks old_ranks new_ranks order new_order slice nodes : List ℕ)
-    (ws waits later : List Waiting) (r first size : ℕ) → seen ≡ marks → old_marks ≡ marks → old_ranks ≡ ranks → waits ≡ ws → slice ≡ new_order
-    → Dealt g seen order new_order waits later → ArePassed g seen later → first ≡ length order → nodes ≡ take size (drop first slice)
-    → size ≡ length slice - first → (length new_order ≡ first → ⊥) → length new_marks ≡ length marks → length new_ranks ≡ length ranks
-    → ((c : ℕ) → IsMarked new_marks c ↔ (IsMarked old_marks c ⊎ Contains nodes c)) → ((c : ℕ) → Contains nodes c → rank_in new_ranks c ≡ r)
-    → ((c : ℕ) → (Contains nodes c → ⊥) → rank_in new_ranks c ≡ rank_in old_ranks c) → Round g marks new_marks ranks new_ranks order new_order ws later r
-round_of g marks seen old_marks new_marks ranks old_ranks new_ranks order new_order slice nodes ws waits later r first size es em er ew esl dealt passed at are
-    whole grown marks_size ranks_size marked ranked others =
-    let d = given_of g marks seen order new_order ws waits later es ew dealt in
-    let lengths : length new_order ≡ length order + length d.ready = ap length d.appended ∙ length-append order d.ready in
-    let same : nodes ≡ d.ready = same_nodes g marks order new_order slice nodes ws later first size esl at are whole d in
-    record {
-      ready = d.ready;
-      appended = d.appended;
-      dealt = d.dealt;
-      passed = subst (λ (m : List Bool). ArePassed g m later) es passed;
-      some = some_ready (length d.ready) (length order) (length new_order) first lengths at grown;
+pub round_of : (g : Graph) (s t : Stage) (old_marks seen : List Bool) (old_ranks nodes new settled : List ℕ) → old_marks ≡ s.marks → seen ≡ t.marks
+    → old_ranks ≡ s.ranks → nodes ≡ s.ready → new ≡ s.ready → settled ≡ s.ready → t.round ≡ s.round + 1 → 0 < length s.ready → t.order ≡ s.order ++ new
+    → length t.marks ≡ length s.marks → length t.ranks ≡ length s.ranks
+    → ((c : ℕ) → IsMarked t.marks c ↔ (IsMarked old_marks c ⊎ Contains nodes c)) → ((c : ℕ) → Contains nodes c → rank_in t.ranks c ≡ s.round)
+    → ((c : ℕ) → (Contains nodes c → ⊥) → rank_in t.ranks c ≡ rank_in old_ranks c) → ArePassed g seen t.passed → IsStrictlyIncreasing t.ready
+    → ((a : ℕ) → Contains t.ready a ↔ (GoesInto g settled a × AllMarked g seen a)) → Round g s t
+round_of g s t old_marks seen old_ranks nodes new settled em es er en ew et next some appended marks_size ranks_size marked ranked others passed rises
+    members = record {
+      next = next;
+      some = some;
+      appended = appended ∙ ap (λ xs. s.order ++ xs) ew;
       marks_size = marks_size;
       ranks_size = ranks_size;
-      marked = subst (λ (xs : List ℕ). (c : ℕ) → IsMarked new_marks c ↔ (IsMarked marks c ⊎ Contains xs c)) same
-          (subst (λ (m : List Bool). (c : ℕ) → IsMarked new_marks c ↔ (IsMarked m c ⊎ Contains nodes c)) em marked);
-      ranked = subst (λ (xs : List ℕ). (c : ℕ) → Contains xs c → rank_in new_ranks c ≡ r) same ranked;
-      others = subst (λ (xs : List ℕ). (c : ℕ) → (Contains xs c → ⊥) → rank_in new_ranks c ≡ rank_in ranks c) same
-          (subst (λ (rs : List ℕ). (c : ℕ) → (Contains nodes c → ⊥) → rank_in new_ranks c ≡ rank_in rs c) er others);
+      marked = subst (λ (xs : List ℕ). (c : ℕ) → IsMarked t.marks c ↔ (IsMarked s.marks c ⊎ Contains xs c)) en
+          (subst (λ (m : List Bool). (c : ℕ) → IsMarked t.marks c ↔ (IsMarked m c ⊎ Contains nodes c)) em marked);
+      ranked = subst (λ (xs : List ℕ). (c : ℕ) → Contains xs c → rank_in t.ranks c ≡ s.round) en ranked;
+      others = subst (λ (xs : List ℕ). (c : ℕ) → (Contains xs c → ⊥) → rank_in t.ranks c ≡ rank_in s.ranks c) en
+          (subst (λ (rs : List ℕ). (c : ℕ) → (Contains nodes c → ⊥) → rank_in t.ranks c ≡ rank_in rs c) er others);
+      passed = subst (λ (m : List Bool). ArePassed g m t.passed) es passed;
+      rises = rises;
+      members = subst (λ (xs : List ℕ). (a : ℕ) → Contains t.ready a ↔ (GoesInto g xs a × AllMarked g t.marks a)) et
+          (subst (λ (m : List Bool). (a : ℕ) → Contains t.ready a ↔ (GoesInto g settled a × AllMarked g m a)) es members);
     }
-
--- what is appended has room
-pub ready_room : (g : Graph) (marks seen : List Bool) (ranks order new_order slice nodes : List ℕ) (ws waits later : List Waiting) (r first size : ℕ)
-    → seen ≡ marks → waits ≡ ws → slice ≡ new_order → Levels g marks ranks order ws r → Dealt g seen order new_order waits later → first ≡ length order
-    → nodes ≡ take size (drop first slice) → size ≡ length slice - first → (c : ℕ) → Contains nodes c → c < length g
-ready_room g marks seen ranks order new_order slice nodes ws waits later r first size es ew esl l dealt at are whole c w =
-    let d = given_of g marks seen order new_order ws waits later es ew dealt in
-    let same : nodes ≡ d.ready = same_nodes g marks order new_order slice nodes ws later first size esl at are whole d in
-    (ready_waits g marks ranks order ws r d.ready (nodes_of later) l d.dealt c (subst (λ (xs : List ℕ). Contains xs c) same w)).0
-
-pub stuck_round : (g : Graph) (marks seen : List Bool) (ranks order new_order : List ℕ) (ws waits later : List Waiting) (r : ℕ) → seen ≡ marks → waits ≡ ws
-    → IsWithin g (length g) → 0 < length ws → length new_order ≡ length order → Levels g marks ranks order ws r → Dealt g seen order new_order waits later
-    → HasNoCycle g → ⊥
-stuck_round g marks seen ranks order new_order ws waits later r es ew within some none l dealt acyclic =
-    let d = given_of g marks seen order new_order ws waits later es ew dealt in
-    let lengths : length new_order ≡ length order + length d.ready = ap length d.appended ∙ length-append order d.ready in
-    levels_stuck g marks ranks order ws r d.ready (nodes_of later) within some (omega (arith, lengths, none)) l d.dealt acyclic

@@ -1,6 +1,7 @@
 pub mod Closing
 pub mod Levels
 pub mod Marking
+pub mod Naming
 pub mod Renumbering
 pub mod Rising
 pub mod Rounding

@@ -17,7 +17,7 @@ among_more xs n c = (
   λ h. elim h [ inl (k, below, is) ↦ (k, omega arith, is) | inr is ↦ (n, omega arith, is) ],
 )
 
-default_same : (xs : List ℕ) (k c d : ℕ) → k < length xs → get_or xs k c ≡ get_or xs k d
+pub default_same : (xs : List ℕ) (k c d : ℕ) → k < length xs → get_or xs k c ≡ get_or xs k d
 default_same xs k c d h = grind (arith, common_steps)
 
 pub among_all : (xs : List ℕ) (n c : ℕ) → n ≡ length xs → Contains xs c ↔ Among xs n c

@@ -1,13 +1,12 @@
 -- Lists of rising numbers.
 use Rattle.std.proofs.Common.{◌≡◌, ℕ, zero, suc, ◌+◌, ◌-◌, ◌<◌, ◌≤◌, List, [], ◌∷◌, ◌++◌, length, get_or, ap, refl, subst, arith, inl, inr, ◌⊎◌}
-use Rattle.std.specs.Prelude.{Contains}
-use Rattle.std.specs.List.{AllByRecursion}
+use Rattle.std.specs.Prelude.{Contains, Some}
+use Rattle.std.specs.List.{AllByRecursion, slice_get}
 use Rattle.std.specs.List.Sorted.{IsStrictlyIncreasing}
 use Rattle.std.proofs.Math.ListN.{get_or-append}
 use Rattle.std.proofs.lemmas.Bool.{cases_lt}
 use Rattle.std.proofs.lemmas.Grind.{common_steps}
 use Rattle.std.proofs.lemmas.List.{get_or_push}
-use Rattle.digraph.specs.Marks.{Among}
 use Rattle.digraph.proofs.Marking.{among_all}
 use Rattle.digraph.proofs.Visiting.{no_place}
 
@@ -44,9 +43,22 @@ rises_far xs up i j h inside =
     let split : i + suc (j - i - 1) ≡ j = omega arith in
     subst (λ k. get_or xs i 0 < get_or xs k 0) split (rises_by xs up i (j - i - 1) (omega arith))
 
--- what stands among the first n is below what stands there
-pub among_below : (xs : List ℕ) (n c : ℕ) → IsStrictlyIncreasing xs → n < length xs → Among xs n c → c < get_or xs n 0
-among_below xs n c up h (k, below, is) = let less = rises_far xs up k n below h in omega (arith, less, is)
+last_case : (xs : List ℕ) → IsStrictlyIncreasing xs → (number k : ℕ) → k < length xs → get_or xs (length xs - 1) 0 < number
+    → (k < length xs - 1) ⊎ (length xs - 1 ≤ k) → get_or xs k 0 < number
+last_case xs up number k h below (inl before) = let less = rises_far xs up k (length xs - 1) before (omega arith) in omega (arith, less, below)
+last_case xs up number k h below (inr last) = subst (λ (i : ℕ). get_or xs i 0 < number) (omega arith) below
+
+-- where the last is below a number, all are
+pub below_last : (xs : List ℕ) → IsStrictlyIncreasing xs → (number c : ℕ) → get_or xs (length xs - 1) 0 < number → Contains xs c → c < number
+below_last xs up number c below w =
+    let at = (among_all xs (length xs) c refl).0 w in
+    let less = last_case xs up number at.0 at.1 below (cases_lt at.0 (length xs - 1)) in
+    omega (arith, less, at.2)
+
+pub got : (xs : List ℕ) (k x : ℕ) → Some x ≡ slice_get xs k → get_or xs k 0 ≡ x
+got [] k x e = cc
+got (y ∷ xs) zero x e = cc
+got (y ∷ xs) (suc k) x e = got xs k x e
 
 -- ---- what holds of each
 

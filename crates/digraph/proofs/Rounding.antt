@@ -1,19 +1,15 @@
 -- What the loops of a round keep.
-use Rattle.std.proofs.Common.{◌≡◌, ◌≢◌, ◌∙◌, sym, ℕ, ◌+◌, ◌<◌, ◌≤◌, List, [], ◌∷◌, ◌++◌, length, get_or, ap, refl, subst, arith, inl, inr, ◌⊎◌, append_assoc, append-nil, get_or-set_same, get_or-set_other}
-use Rattle.std.specs.Prelude.{Bool, true, Contains, ◌↔◌}
-use Rattle.std.specs.List.{AllByRecursion}
+use Rattle.std.proofs.Common.{◌≡◌, ◌≢◌, ◌∙◌, sym, ℕ, zero, suc, ◌+◌, ◌<◌, ◌≤◌, List, [], ◌∷◌, ◌++◌, length, get_or, ap, refl, subst, arith, inl, inr, ◌⊎◌, get_or-set_same, get_or-set_other}
+use Rattle.std.specs.Prelude.{Bool, true, false, Contains, ◌↔◌}
 use Rattle.std.specs.List.Sorted.{IsStrictlyIncreasing}
 use Rattle.std.proofs.Math.ListN.{set, length-set}
-use Rattle.std.proofs.lemmas.Bool.{cases_eq, cases_lt}
-use Rattle.std.proofs.lemmas.Grind.{common_steps}
-use Rattle.std.proofs.lemmas.List.{map-append, get_or-map}
-use Rattle.digraph.specs.Edges.{Graph, successors}
+use Rattle.std.proofs.lemmas.Bool.{cases_eq, cases_lt, false≢true}
+use Rattle.digraph.specs.Edges.{Graph, Edge, successors}
 use Rattle.digraph.specs.Marks.{IsMarked, Among}
 use Rattle.digraph.specs.Ranks.{rank_in}
-use Rattle.digraph.specs.Rounds.{nodes_of, IsPassed, ArePassed, Stops, AllMarked, HasUnmarked, IsDealt}
-use Rattle.digraph.specs.declared.ranks.Waiting.{Waiting}
+use Rattle.digraph.specs.Rounds.{IsPassed, ArePassed, Stops, AllMarked, GoesInto}
 use Rattle.digraph.proofs.Marking.{among_more, among_all, mark_one, joined_step, joined_end}
-use Rattle.digraph.proofs.Rising.{rises_none, rises_push, among_below, all_push}
+use Rattle.digraph.proofs.Rising.{rises_none, rises_push}
 use Rattle.digraph.proofs.Visiting.{no_place, node_at, push_iff}
 
 -- ---- one row
@@ -35,12 +31,53 @@ passed_all g marks a n whole p b edge =
     let at = (among_all (successors g a) n b whole).0 edge in
     subst (IsMarked marks) at.2 (p.front at.0 at.1)
 
-stopped_case : (g : Graph) (marks : List Bool) (a n : ℕ) → (n ≡ length (successors g a) → ⊥) → Stops marks (successors g a) n → HasUnmarked g marks a
-stopped_case g marks a n part (inl whole) = absurd (part whole)
-stopped_case g marks a n part (inr (h, out)) = (get_or (successors g a) n 0, node_at (successors g a) n h, out)
+-- an edge goes from a to a node without a mark
+abbrev pub HasUnmarked : Graph → List Bool → ℕ → Type 0
+HasUnmarked g marks a = (b : ℕ) × Edge g a b × (IsMarked marks b → ⊥)
 
-pub stopped : (g : Graph) (marks : List Bool) (a n : ℕ) → (n ≡ length (successors g a) → ⊥) → Stops marks (successors g a) n → HasUnmarked g marks a
-stopped g marks a n part stops = stopped_case g marks a n part stops
+unmarked_at : (g : Graph) (marks : List Bool) (a n : ℕ) → (n ≡ length (successors g a) → ⊥) → Stops marks (successors g a) n → HasUnmarked g marks a
+unmarked_at g marks a n part (inl whole) = absurd (part whole)
+unmarked_at g marks a n part (inr (h, out)) = (get_or (successors g a) n 0, node_at (successors g a) n h, out)
+
+-- a row that is not passed whole
+pub stopped : (g : Graph) (marks : List Bool) (a n : ℕ) → (n ≡ length (successors g a) → ⊥) → Stops marks (successors g a) n → AllMarked g marks a → ⊥
+stopped g marks a n part stops all = let at = unmarked_at g marks a n part stops in at.2 (all at.0 at.1)
+
+known_mark : (marks : List Bool) (a : ℕ) → a < length marks → (b : Bool) → get_or marks a false ≡ b → IsMarked marks a ⊎ (IsMarked marks a → ⊥)
+known_mark marks a h true e = inl (h, e)
+known_mark marks a h false e = inr (λ m. false≢true (sym e ∙ m.1))
+
+inside_cases : (marks : List Bool) (a : ℕ) → (a < length marks) ⊎ (length marks ≤ a) → IsMarked marks a ⊎ (IsMarked marks a → ⊥)
+inside_cases marks a (inl h) = known_mark marks a h (get_or marks a false) refl
+inside_cases marks a (inr h) = inr (λ m. no_place 0 (omega (arith, h, m.0)))
+
+pub mark_cases : (marks : List Bool) (a : ℕ) → IsMarked marks a ⊎ (IsMarked marks a → ⊥)
+mark_cases marks a = inside_cases marks a (cases_lt a (length marks))
+
+front_more : (marks : List Bool) (xs : List ℕ) (n : ℕ) → IsMarked marks (get_or xs n 0) → ((c : ℕ) → Among xs n c → IsMarked marks c) → (c : ℕ)
+    → Among xs (n + 1) c → IsMarked marks c
+front_more marks xs n here all c w = elim ((among_more xs n c).0 w) [ inl more ↦ all c more | inr is ↦ subst (IsMarked marks) is here ]
+
+-- the first n are marked, or one of the nodes is not
+front_cases : (marks : List Bool) (xs : List ℕ) (n : ℕ) → n ≤ length xs
+    → ((c : ℕ) → Among xs n c → IsMarked marks c) ⊎ ((c : ℕ) × Contains xs c × (IsMarked marks c → ⊥))
+front_cases marks xs zero h = inl (λ c w. absurd (no_place w.0 w.1))
+front_cases marks xs (suc n) h = elim (front_cases marks xs n (omega arith)) [
+  | inl all ↦ elim (mark_cases marks (get_or xs n 0)) [
+    | inl here ↦ inl (λ c w. front_more marks xs n here all c (subst (λ (k : ℕ). Among xs k c) (omega arith) w))
+    | inr out ↦ inr (get_or xs n 0, node_at xs n (omega arith), out)
+  ]
+  | inr found ↦ inr found
+]
+
+-- all successors are marked, or one is not
+pub row_cases : (g : Graph) (marks : List Bool) (a : ℕ) → AllMarked g marks a ⊎ HasUnmarked g marks a
+row_cases g marks a =
+    let row = successors g a in
+    elim (front_cases marks row (length row) (omega arith)) [
+      | inl all ↦ inl (λ b edge. all b ((among_all row (length row) b refl).0 edge))
+      | inr found ↦ inr found
+    ]
 
 -- ---- nodes that get a rank
 
@@ -100,130 +137,195 @@ pub settled_others : (nodes : List ℕ) (rank : ℕ) (old : List Bool) (before :
     → Settled nodes rank old before n marks ranks → (c : ℕ) → (Contains nodes c → ⊥) → rank_in ranks c ≡ rank_in before c
 settled_others nodes rank old before n marks ranks e s c out = s.others c (λ w. out ((among_all nodes n c e).1 w))
 
--- ---- every node waits
+-- ---- what is passed
 
-pub nodes_push : (ws : List Waiting) (w : Waiting) → nodes_of (ws ++ w ∷ []) ≡ nodes_of ws ++ w.node ∷ []
-nodes_push ws w = map-append (λ (x : Waiting). x.node) ws (w ∷ [])
+pub passed_none : (g : Graph) (marks : List Bool) (passed : List ℕ) → length passed ≡ length g → ((a : ℕ) → get_or passed a 0 ≡ 0) → ArePassed g marks passed
+passed_none g marks passed size zeros = record {
+  size = size;
+  each = λ a. record { inside = omega (arith, zeros a); front = λ k h. absurd (no_place k (omega (arith, h, zeros a))) };
+}
 
-pub record Counted (ws : List Waiting) (n : ℕ) : Type 0 where
-  pub size : length ws ≡ n
-  pub rises : IsStrictlyIncreasing (nodes_of ws)
-  pub members : (a : ℕ) → Contains (nodes_of ws) a ↔ (a < n)
-  pub unpassed : AllByRecursion (λ (w : Waiting). w.passed ≡ 0) ws
+-- marks that are added take nothing away
+pub passed_grows : (g : Graph) (marks new : List Bool) (passed : List ℕ) → ((c : ℕ) → IsMarked marks c → IsMarked new c) → ArePassed g marks passed
+    → ArePassed g new passed
+passed_grows g marks new passed f p = record {
+  size = p.size;
+  each = λ a. record { inside = (p.each a).inside; front = λ k h. f (get_or (successors g a) k 0) ((p.each a).front k h) };
+}
 
-pub counted_none : (ws : List Waiting) → ws ≡ [] → Counted ws 0
-counted_none ws e =
-    rw e (record { size = refl; rises = rises_none; members = λ a. (λ w. absurd (no_place w.0 w.1), λ h. absurd (no_place a h)); unpassed = tt })
+set_case : (g : Graph) (marks : List Bool) (passed : List ℕ) (p n a : ℕ) → p < length passed → IsPassed marks (successors g p) n → ArePassed g marks passed
+    → (a ≡ p) ⊎ (a ≢ p) → IsPassed marks (successors g a) (get_or (set passed p n) a 0)
+set_case g marks passed p n a h row old (inl same) = subst (λ (i : ℕ). IsPassed marks (successors g i) (get_or (set passed p n) i 0)) (sym same)
+    (subst (IsPassed marks (successors g p)) (sym (get_or-set_same passed p n 0 h)) row)
+set_case g marks passed p n a h row old (inr other) =
+    subst (IsPassed marks (successors g a)) (sym (get_or-set_other passed p a n 0 other)) (old.each a)
 
-counted_members : (xs : List ℕ) (n a : ℕ) → ((a : ℕ) → Contains xs a ↔ (a < n)) → (a < n) ⊎ (n ≤ a) → Contains (xs ++ n ∷ []) a ↔ (a < n + 1)
-counted_members xs n a old cases = (
-  λ w. (elim ((push_iff xs n a).0 w) [ inl more ↦ (let less = (old a).0 more in omega arith) | inr is ↦ omega arith ]),
-  λ h. (push_iff xs n a).1 (elim cases [ inl less ↦ inl ((old a).1 less) | inr over ↦ inr (omega arith) ]),
+pub passed_set : (g : Graph) (marks : List Bool) (passed : List ℕ) (p n : ℕ) → p < length passed → IsPassed marks (successors g p) n → ArePassed g marks passed
+    → ArePassed g marks (set passed p n)
+passed_set g marks passed p n h row old = record {
+  size = length-set passed p n ∙ old.size;
+  each = λ a. set_case g marks passed p n a h row old (cases_eq a p);
+}
+
+-- ---- the nodes that are ready among some
+
+pub record Appending (g : Graph) (marks : List Bool) (nodes old : List ℕ) (n : ℕ) (passed ready : List ℕ) : Type 0 where
+  pub room : (k : ℕ) → k < length nodes → get_or nodes k 0 < length passed
+  pub are : ArePassed g marks passed
+  pub added : (a : ℕ) → Contains ready a ↔ (Contains old a ⊎ (Among nodes n a × AllMarked g marks a))
+
+none_ready : (g : Graph) (marks : List Bool) (nodes old : List ℕ) (a : ℕ) → Contains old a ⊎ (Among nodes 0 a × AllMarked g marks a) → Contains old a
+none_ready g marks nodes old a (inl w) = w
+none_ready g marks nodes old a (inr w) = absurd (no_place w.0.0 w.0.1)
+
+pub appending_none : (g : Graph) (marks : List Bool) (nodes old passed : List ℕ) → ((a : ℕ) → Contains nodes a → a < length g) → ArePassed g marks passed
+    → Appending g marks nodes old 0 passed old
+appending_none g marks nodes old passed room are = record {
+  room = λ k h. (let below = room (get_or nodes k 0) (node_at nodes k h) in omega (arith, below, are.size));
+  are = are;
+  added = λ a. (λ w. inl w, none_ready g marks nodes old a);
+}
+
+ready_to : (g : Graph) (marks : List Bool) (nodes : List ℕ) (n a : ℕ) → AllMarked g marks (get_or nodes n 0) → Among nodes (n + 1) a × AllMarked g marks a
+    → (Among nodes n a × AllMarked g marks a) ⊎ (get_or nodes n 0 ≡ a)
+ready_to g marks nodes n a all (w, m) = elim ((among_more nodes n a).0 w) [ inl more ↦ inl (more, m) | inr is ↦ inr is ]
+
+ready_from : (g : Graph) (marks : List Bool) (nodes : List ℕ) (n a : ℕ) → AllMarked g marks (get_or nodes n 0)
+    → (Among nodes n a × AllMarked g marks a) ⊎ (get_or nodes n 0 ≡ a) → Among nodes (n + 1) a × AllMarked g marks a
+ready_from g marks nodes n a all (inl (w, m)) = ((among_more nodes n a).1 (inl w), m)
+ready_from g marks nodes n a all (inr is) = ((among_more nodes n a).1 (inr is), subst (AllMarked g marks) is all)
+
+pub appending_push : (g : Graph) (marks : List Bool) (nodes old : List ℕ) (n k : ℕ) (passed new ready ys : List ℕ) → n < length nodes
+    → IsPassed marks (successors g (get_or nodes n 0)) k → AllMarked g marks (get_or nodes n 0) → new ≡ set passed (get_or nodes n 0) k
+    → ys ≡ ready ++ get_or nodes n 0 ∷ [] → Appending g marks nodes old n passed ready → Appending g marks nodes old (n + 1) new ys
+appending_push g marks nodes old n k passed new ready ys h row all new_is ys_is v =
+    let p = get_or nodes n 0 in
+    rw (new_is, ys_is) (record {
+      room = λ j inside. (let room = v.room j inside in omega (arith, room, length-set passed p k));
+      are = passed_set g marks passed p k (v.room n h) row v.are;
+      added = λ a. joined_step (push_iff ready p a) (v.added a) (ready_to g marks nodes n a all, ready_from g marks nodes n a all);
+    })
+
+later_to : (g : Graph) (marks : List Bool) (nodes : List ℕ) (n a : ℕ) → (AllMarked g marks (get_or nodes n 0) → ⊥) → Among nodes (n + 1) a × AllMarked g marks a
+    → Among nodes n a × AllMarked g marks a
+later_to g marks nodes n a part (w, m) =
+    elim ((among_more nodes n a).0 w) [ inl more ↦ (more, m) | inr is ↦ absurd (part (subst (AllMarked g marks) (sym is) m)) ]
+
+pub appending_skip : (g : Graph) (marks : List Bool) (nodes old : List ℕ) (n k : ℕ) (passed new ready ys : List ℕ) → n < length nodes
+    → IsPassed marks (successors g (get_or nodes n 0)) k → (AllMarked g marks (get_or nodes n 0) → ⊥) → new ≡ set passed (get_or nodes n 0) k → ys ≡ ready
+    → Appending g marks nodes old n passed ready → Appending g marks nodes old (n + 1) new ys
+appending_skip g marks nodes old n k passed new ready ys h row part new_is ys_is v =
+    let p = get_or nodes n 0 in
+    rw (new_is, ys_is) (record {
+      room = λ j inside. (let room = v.room j inside in omega (arith, room, length-set passed p k));
+      are = passed_set g marks passed p k (v.room n h) row v.are;
+      added = λ a. joined_end (v.added a) (later_to g marks nodes n a part, λ w. ((among_more nodes n a).1 (inl w.0), w.1));
+    })
+
+pub appending_all : (g : Graph) (marks : List Bool) (nodes old : List ℕ) (n : ℕ) (passed ready : List ℕ) → n ≡ length nodes
+    → Appending g marks nodes old n passed ready → (a : ℕ) → Contains ready a ↔ (Contains old a ⊎ (Contains nodes a × AllMarked g marks a))
+appending_all g marks nodes old n passed ready e v a =
+    let same = among_all nodes n a e in joined_end (v.added a) (λ w. (same.0 w.0, w.1), λ w. (same.1 w.0, w.1))
+
+-- ---- the nodes that are ready next
+
+-- a has an edge to one of the first n nodes
+abbrev pub GoesAmong : Graph → List ℕ → ℕ → ℕ → Type 0
+GoesAmong g nodes n a = (b : ℕ) × Among nodes n b × Edge g a b
+
+pub record Collecting (g : Graph) (marks : List Bool) (nodes : List ℕ) (n : ℕ) (passed ready : List ℕ) : Type 0 where
+  pub are : ArePassed g marks passed
+  pub found : (a : ℕ) → Contains ready a ↔ (GoesAmong g nodes n a × AllMarked g marks a)
+
+pub collecting_none : (g : Graph) (marks : List Bool) (nodes passed ready : List ℕ) → ready ≡ [] → ArePassed g marks passed
+    → Collecting g marks nodes 0 passed ready
+collecting_none g marks nodes passed ready e are = rw e (record {
+  are = are;
+  found = λ a. (λ w. absurd (no_place w.0 w.1), λ w. absurd (no_place w.0.1.0 w.0.1.1));
+})
+
+collected_to : (g : Graph) (marks : List Bool) (nodes : List ℕ) (n a : ℕ)
+    → (GoesAmong g nodes n a × AllMarked g marks a) ⊎ (Edge g a (get_or nodes n 0) × AllMarked g marks a) → GoesAmong g nodes (n + 1) a × AllMarked g marks a
+collected_to g marks nodes n a (inl ((b, w, edge), m)) = ((b, (among_more nodes n b).1 (inl w), edge), m)
+collected_to g marks nodes n a (inr (edge, m)) = ((get_or nodes n 0, (among_more nodes n (get_or nodes n 0)).1 (inr refl), edge), m)
+
+collected_from : (g : Graph) (marks : List Bool) (nodes : List ℕ) (n a : ℕ) → GoesAmong g nodes (n + 1) a × AllMarked g marks a
+    → (GoesAmong g nodes n a × AllMarked g marks a) ⊎ (Edge g a (get_or nodes n 0) × AllMarked g marks a)
+collected_from g marks nodes n a ((b, w, edge), m) = elim ((among_more nodes n b).0 w) [
+  | inl more ↦ inl ((b, more, edge), m)
+  | inr is ↦ inr (subst (Edge g a) (sym is) edge, m)
+]
+
+pub collecting_more : (g turned : Graph) (marks : List Bool) (nodes row : List ℕ) (n : ℕ) (passed new ready ys : List ℕ)
+    → ((b a : ℕ) → Edge turned b a ↔ Edge g a b) → row ≡ successors turned (get_or nodes n 0) → ArePassed g marks new
+    → ((a : ℕ) → Contains ys a ↔ (Contains ready a ⊎ (Contains row a × AllMarked g marks a))) → Collecting g marks nodes n passed ready
+    → Collecting g marks nodes (n + 1) new ys
+collecting_more g turned marks nodes row n passed new ready ys back e are added v =
+    let p = get_or nodes n 0 in
+    let step : (a : ℕ) → Contains ys a ↔ (Contains ready a ⊎ (Edge turned p a × AllMarked g marks a)) =
+    subst (λ (xs : List ℕ). (a : ℕ) → Contains ys a ↔ (Contains ready a ⊎ (Contains xs a × AllMarked g marks a))) e added in
+    record {
+      are = are;
+      found = λ a. (
+        λ w. collected_to g marks nodes n a (elim ((step a).0 w) [
+          | inl old ↦ inl ((v.found a).0 old)
+          | inr is ↦ inr ((back p a).0 is.0, is.1)
+        ]),
+        λ w. (step a).1 (elim (collected_from g marks nodes n a w) [
+          | inl old ↦ inl ((v.found a).1 old)
+          | inr is ↦ inr ((back p a).1 is.0, is.1)
+        ]),
+      );
+    }
+
+pub collecting_all : (g : Graph) (marks : List Bool) (nodes : List ℕ) (n : ℕ) (passed ready : List ℕ) → n ≡ length nodes
+    → Collecting g marks nodes n passed ready → (a : ℕ) → Contains ready a ↔ (GoesInto g nodes a × AllMarked g marks a)
+collecting_all g marks nodes n passed ready e v a = (
+  λ w. (let at = (v.found a).0 w in ((at.0.0, (among_all nodes n at.0.0 e).1 at.0.1, at.0.2), at.1)),
+  λ w. (v.found a).1 ((w.0.0, (among_all nodes n w.0.0 e).0 w.0.1, w.0.2), w.1),
 )
 
-pub counted_push : (ws new : List Waiting) (n : ℕ) (w : Waiting) → new ≡ ws ++ w ∷ [] → w.node ≡ n → w.passed ≡ 0 → Counted ws n → Counted new (n + 1)
-counted_push ws new n w e node passed c =
-    let nodes : nodes_of new ≡ nodes_of ws ++ n ∷ [] = ap nodes_of e ∙ nodes_push ws w ∙ ap (λ k. nodes_of ws ++ k ∷ []) node in
-    record {
-      size = (let len : length (ws ++ w ∷ []) ≡ length ws + 1 = grind (arith, common_steps) in ap length e ∙ len ∙ omega (arith, c.size));
-      rises = subst IsStrictlyIncreasing (sym nodes) (rises_push (nodes_of ws) n c.rises (λ a. (c.members a).0));
-      members = λ a. subst (λ (xs : List ℕ). Contains xs a ↔ (a < n + 1)) (sym nodes) (counted_members (nodes_of ws) n a c.members (cases_lt a n));
-      unpassed = subst (AllByRecursion (λ (w : Waiting). w.passed ≡ 0)) (sym e) (all_push (λ (w : Waiting). w.passed ≡ 0) ws w c.unpassed passed);
-    }
+-- ---- the nodes without a successor
 
--- ---- a round
+abbrev pub IsLeaf : Graph → ℕ → Type 0
+IsLeaf g a = successors g a ≡ []
 
-pub record Dealing (g : Graph) (marks : List Bool) (nodes : List ℕ) (old : List ℕ) (n : ℕ) (order : List ℕ) (later : List Waiting) : Type 0 where
-  pub ready : List ℕ
-  pub appended : order ≡ old ++ ready
-  pub dealt : IsDealt g marks nodes n ready (nodes_of later)
-  pub passed : ArePassed g marks later
+pub empty_row : (xs row : List ℕ) → xs ≡ row → length xs ≡ 0 → row ≡ []
+empty_row [] row e h = sym e
+empty_row (x ∷ xs) row e h = absurd (omega arith)
 
-pub dealing_none : (g : Graph) (marks : List Bool) (nodes old : List ℕ) (later : List Waiting) → later ≡ [] → Dealing g marks nodes old 0 old later
-dealing_none g marks nodes old later e = rw e (record {
-  ready = [];
-  appended = sym (append-nil old);
-  dealt = record {
-    ready_rises = rises_none;
-    later_rises = rises_none;
-    are_ready = λ a w. absurd (no_place w.0 w.1);
-    are_later =
-        λ a w. absurd (no_place w.0 w.1);
-    all = λ a w. absurd (no_place w.0 w.1);
-    count = refl;
-  };
-  passed = tt;
+pub inner_row : (xs row : List ℕ) → xs ≡ row → 0 < length xs → row ≡ [] → ⊥
+inner_row xs row e h empty = no_place 0 (subst (λ (ys : List ℕ). 0 < length ys) (e ∙ empty) h)
+
+pub record Leaves (g : Graph) (n : ℕ) (leaves : List ℕ) : Type 0 where
+  pub rises : IsStrictlyIncreasing leaves
+  pub members : (a : ℕ) → Contains leaves a ↔ ((a < n) × IsLeaf g a)
+
+pub leaves_none : (g : Graph) (leaves : List ℕ) → leaves ≡ [] → Leaves g 0 leaves
+leaves_none g leaves e = rw e (record { rises = rises_none; members = λ a. (λ w. absurd (no_place w.0 w.1), λ w. absurd (no_place a w.0)) })
+
+leaf_to : (g : Graph) (n a : ℕ) → IsLeaf g n → ((a < n) × IsLeaf g a) ⊎ (n ≡ a) → (a < n + 1) × IsLeaf g a
+leaf_to g n a leaf (inl (h, w)) = (omega arith, w)
+leaf_to g n a leaf (inr is) = (omega arith, subst (IsLeaf g) is leaf)
+
+below_cases : (n a : ℕ) → a < n + 1 → (a < n) ⊎ (n ≤ a) → (a < n) ⊎ (n ≡ a)
+below_cases n a h (inl less) = inl less
+below_cases n a h (inr over) = inr (omega arith)
+
+pub leaves_push : (g : Graph) (n : ℕ) (leaves ys : List ℕ) → IsLeaf g n → ys ≡ leaves ++ n ∷ [] → Leaves g n leaves → Leaves g (n + 1) ys
+leaves_push g n leaves ys leaf e v = rw e (record {
+  rises = rises_push leaves n v.rises (λ a w. ((v.members a).0 w).0);
+  members = λ a. (
+    λ w. leaf_to g n a leaf (elim ((push_iff leaves n a).0 w) [ inl old ↦ inl ((v.members a).0 old) | inr is ↦ inr is ]),
+    λ w. (push_iff leaves n a).1 (elim (below_cases n a w.0 (cases_lt a n)) [ inl less ↦ inl ((v.members a).1 (less, w.1)) | inr is ↦ inr is ]),
+  );
 })
 
-among_next : (nodes : List ℕ) (n a : ℕ) → Among nodes n a → Among nodes (n + 1) a
-among_next nodes n a w = (among_more nodes n a).1 (inl w)
-
-among_here : (nodes : List ℕ) (n a : ℕ) → get_or nodes n 0 ≡ a → Among nodes (n + 1) a
-among_here nodes n a e = (among_more nodes n a).1 (inr e)
-
-dealt_ready : (g : Graph) (marks : List Bool) (nodes : List ℕ) (n : ℕ) (ready later : List ℕ) → IsStrictlyIncreasing nodes → n < length nodes
-    → AllMarked g marks (get_or nodes n 0) → IsDealt g marks nodes n ready later → IsDealt g marks nodes (n + 1) (ready ++ get_or nodes n 0 ∷ []) later
-dealt_ready g marks nodes n ready later up h marked d =
-    let p = get_or nodes n 0 in
-    record {
-      ready_rises = rises_push ready p d.ready_rises (λ c w. among_below nodes n c up h (d.are_ready c w).0);
-      later_rises = d.later_rises;
-      are_ready = λ a w. (elim ((push_iff ready p a).0 w) [
-        | inl old ↦ (let was = d.are_ready a old in (among_next nodes n a was.0, was.1))
-        | inr is ↦
-            (among_here nodes n a is, subst (AllMarked g marks) is marked)
-      ]);
-      are_later = λ a w. (let was = d.are_later a w in (among_next nodes n a was.0, was.1));
-      all = λ a w. (elim ((among_more nodes n a).0 w) [
-        | inl old ↦
-            (elim (d.all a old) [ inl r ↦ inl ((push_iff ready p a).1 (inl r)) | inr l ↦ inr l ])
-        | inr is ↦ inl ((push_iff ready p a).1 (inr is))
-      ]);
-      count = (let len : length (ready ++ p ∷ []) ≡ length ready + 1 = grind (arith, common_steps) in omega (arith, len, d.count));
-    }
-
-dealt_later : (g : Graph) (marks : List Bool) (nodes : List ℕ) (n : ℕ) (ready later : List ℕ) → IsStrictlyIncreasing nodes → n < length nodes
-    → HasUnmarked g marks (get_or nodes n 0) → IsDealt g marks nodes n ready later → IsDealt g marks nodes (n + 1) ready (later ++ get_or nodes n 0 ∷ [])
-dealt_later g marks nodes n ready later up h out d =
-    let p = get_or nodes n 0 in
-    record {
-      ready_rises = d.ready_rises;
-      later_rises = rises_push later p d.later_rises (λ c w. among_below nodes n c up h (d.are_later c w).0);
-      are_ready = λ a w. (let was = d.are_ready a w in (among_next nodes n a was.0, was.1));
-      are_later = λ a w. (elim ((push_iff later p a).0 w) [
-        | inl old ↦ (let was = d.are_later a old in (among_next nodes n a was.0, was.1))
-        | inr is ↦
-            (among_here nodes n a is, subst (HasUnmarked g marks) is out)
-      ]);
-      all = λ a w. (elim ((among_more nodes n a).0 w) [
-        | inl old ↦
-            (elim (d.all a old) [ inl r ↦ inl r | inr l ↦ inr ((push_iff later p a).1 (inl l)) ])
-        | inr is ↦ inr ((push_iff later p a).1 (inr is))
-      ]);
-      count = (let len : length (later ++ p ∷ []) ≡ length later + 1 = grind (arith, common_steps) in omega (arith, len, d.count));
-    }
-
-pub dealing_ready : (g : Graph) (marks : List Bool) (nodes old : List ℕ) (n : ℕ) (order new : List ℕ) (later now : List Waiting) → IsStrictlyIncreasing nodes
-    → n < length nodes → AllMarked g marks (get_or nodes n 0) → new ≡ order ++ get_or nodes n 0 ∷ [] → now ≡ later → Dealing g marks nodes old n order later
-    → Dealing g marks nodes old (n + 1) new now
-dealing_ready g marks nodes old n order new later now up h marked e same d = rw (e, same) (record {
-  ready = d.ready ++ get_or nodes n 0 ∷ [];
-  appended = ap (λ xs. xs ++ get_or nodes n 0 ∷ []) d.appended ∙ append_assoc old d.ready (get_or nodes n 0 ∷ []);
-  dealt = dealt_ready g marks nodes n d.ready (nodes_of later) up h marked d.dealt;
-  passed = d.passed;
+pub leaves_skip : (g : Graph) (n : ℕ) (leaves ys : List ℕ) → (IsLeaf g n → ⊥) → ys ≡ leaves → Leaves g n leaves → Leaves g (n + 1) ys
+leaves_skip g n leaves ys inner e v = rw e (record {
+  rises = v.rises;
+  members = λ a. (
+    λ w. (let old = (v.members a).0 w in (omega (arith, old.0), old.1)),
+    λ w. (v.members a).1 (elim (below_cases n a w.0 (cases_lt a n)) [ inl less ↦ (less, w.1) | inr is ↦ absurd (inner (subst (IsLeaf g) (sym is) w.1)) ]),
+  );
 })
-
-pub dealing_later : (g : Graph) (marks : List Bool) (nodes old : List ℕ) (n : ℕ) (order new : List ℕ) (later now : List Waiting) (w : Waiting)
-    → IsStrictlyIncreasing nodes → n < length nodes → w.node ≡ get_or nodes n 0 → HasUnmarked g marks (get_or nodes n 0)
-    → IsPassed marks (successors g w.node) w.passed → new ≡ order → now ≡ later ++ w ∷ [] → Dealing g marks nodes old n order later
-    → Dealing g marks nodes old (n + 1) new now
-dealing_later g marks nodes old n order new later now w up h node out passed same e d = rw (same, e) (record {
-  ready = d.ready;
-  appended = d.appended;
-  dealt = subst (IsDealt g marks nodes (n + 1) d.ready) (sym (nodes_push later w ∙ ap (λ k. nodes_of later ++ k ∷ []) node))
-      (dealt_later g marks nodes n d.ready (nodes_of later) up h out d.dealt);
-  passed = all_push (λ (x : Waiting). IsPassed marks (successors g x.node) x.passed) later w d.passed passed;
-})
-
-pub node_of : (ws : List Waiting) (k : ℕ) (d : Waiting) → k < length ws → get_or (nodes_of ws) k 0 ≡ (get_or ws k d).node
-node_of ws k d h = get_or-map (λ (w : Waiting). w.node) ws k d 0 h

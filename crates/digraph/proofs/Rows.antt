@@ -15,7 +15,7 @@ use Rattle.digraph.proofs.Marking.{among_more, among_all, joined_step, joined_en
 pub row_items : (rows : List (Vec ℕ Global)) (k : ℕ) (v : Vec ℕ Global) → v ≡ get_or rows k v → k < length rows → v.items ≡ successors (graph_of rows) k
 row_items rows k v e h = ap (λ (x : Vec ℕ Global). x.items) e ∙ sym (get_or-map (λ (x : Vec ℕ Global). x.items) rows k v [] h)
 
-no_items : (b : ℕ) → Contains {X = ℕ} [] b → ⊥
+pub no_items : (b : ℕ) → Contains {X = ℕ} [] b → ⊥
 no_items b (k, h, e) = omega arith
 
 pub row_beyond : (g : Graph) (a : ℕ) → length g ≤ a → successors g a ≡ []

@@ -1,12 +1,14 @@
 -- Ranges of a list that only grows.
-use Rattle.std.proofs.Common.{◌≡◌, ℕ, ◌+◌, ◌≤◌, List, [], ◌∷◌, ◌++◌, length, drop, refl, arith, length-append, length-drop}
+use Rattle.std.proofs.Common.{◌≡◌, ℕ, ◌+◌, ◌<◌, ◌≤◌, List, [], ◌∷◌, ◌++◌, length, take, drop, get_or, ap, sym, subst, ◌∙◌, refl, arith, length-append, length-drop}
 use Rattle.std.specs.Prelude.{Result, Ok, Err, OnErr, true}
 use Rattle.std.specs.Cmp.Lexicographic.{pointwise}
 use Rattle.std.proofs.lemmas.Bool.{and_parts, eqb-true}
-use Rattle.std.proofs.lemmas.List.{take-append-le, drop-append-le, map-append, take_all}
+use Rattle.std.proofs.lemmas.List.{take-append-le, drop-append-le, map-append, take_all, get_or-map, length-take-le}
+use Rattle.std.proofs.lemmas.Grind.{common_steps}
 use lib.Dec.{eqb}
 use Rattle.digraph.specs.Marks.{IsFrontOf}
 use Rattle.digraph.specs.Ranges.{range_of, ranges_of, AreWithin, Holds}
+use Rattle.digraph.proofs.Rising.{all_at}
 
 pub within_more : (n m : ℕ) (rs : List (ℕ × ℕ)) → n ≤ m → AreWithin n rs → AreWithin m rs
 within_more n m [] h w = tt
@@ -58,6 +60,28 @@ goes_on places new front list last k e len whole pushed =
       rw (pushed, whole, drop-append-le k places (last ∷ []) inside, e) refl,
       rw (pushed, whole) (rw (length-append places (last ∷ []), length-append front (last ∷ [])) (omega arith)),
     )
+
+-- the list at k, by its range
+pub list_at : (items : List ℕ) (rs : List (ℕ × ℕ)) (lists : List (List ℕ)) (k : ℕ) (r : ℕ × ℕ) → ranges_of items rs ≡ lists → r ≡ get_or rs k r
+    → k < length lists → range_of items r ≡ get_or lists k []
+list_at items rs lists k r e at h =
+    let size : length (ranges_of items rs) ≡ length rs = grind (arith, common_steps) in
+    let same = ap length e in
+    ap (range_of items) at ∙ sym (get_or-map (range_of items) rs k r [] (omega (arith, h, size, same))) ∙ ap (λ ls. get_or ls k []) e
+
+pub range_inside : (items : List ℕ) (rs : List (ℕ × ℕ)) (lists : List (List ℕ)) (k : ℕ) (r : ℕ × ℕ) → ranges_of items rs ≡ lists → r ≡ get_or rs k r
+    → k < length lists → AreWithin (length items) rs → r.0 + r.1 ≤ length items
+range_inside items rs lists k r e at h w =
+    let size : length (ranges_of items rs) ≡ length rs = grind (arith, common_steps) in
+    let same = ap length e in
+    subst (λ (q : ℕ × ℕ). q.0 + q.1 ≤ length items) (sym at) (all_at (λ (q : ℕ × ℕ). q.0 + q.1 ≤ length items) rs k r w (omega (arith, h, size, same)))
+
+-- a range and a number behind it
+pub extended_length : (items : List ℕ) (r : ℕ × ℕ) (number : ℕ) → r.0 + r.1 ≤ length items → r.1 + 1 ≡ length (range_of items r ++ number ∷ [])
+extended_length items r number h =
+    let room : r.1 ≤ length (drop r.0 items) = rw (length-drop r.0 items) (omega arith) in
+    let size : length (take r.1 (drop r.0 items)) ≡ r.1 = length-take-le r.1 (drop r.0 items) room in
+    rw (length-append (range_of items r) (number ∷ []), size) refl
 
 pub always_on_err : {A E : Type 0} (r : Result A E) (P : Type 0) → P → OnErr r P
 always_on_err (Ok a) P p = tt

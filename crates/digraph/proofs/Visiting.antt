@@ -28,7 +28,7 @@ not_any : (xs : List ℕ) (x : ℕ) (b : Bool) → list_any (eqb x) xs ≡ b →
 not_any xs x false e out = e
 not_any xs x true e out = absurd (out (Contains-from_any (λ a b h. eqb-true a b h) x xs e))
 
-distinct_push : (xs : List ℕ) (x : ℕ) → IsDistinct eqb xs → (Contains xs x → ⊥) → IsDistinct eqb (xs ++ x ∷ [])
+pub distinct_push : (xs : List ℕ) (x : ℕ) → IsDistinct eqb xs → (Contains xs x → ⊥) → IsDistinct eqb (xs ++ x ∷ [])
 distinct_push xs x d out = IsDistinct-push nat_eq_equiv xs x d (not_any xs x (list_any (eqb x) xs) refl out)
 
 push_from : (xs : List ℕ) (p c : ℕ) → Contains xs c ⊎ (p ≡ c) → Contains (xs ++ p ∷ []) c

@@ -1,7 +1,7 @@
 //! What each node leads to, where every edge goes to a smaller node.
 
 ghost use Rattle.std.specs.List.Sorted.{IsStrictlyIncreasing};
-ghost use Rattle.std.specs.Prelude.{◌≡◌, ◌↔◌, ℕ, ◌<◌, ◌≤◌, ◌++◌, ◌∷◌, [], length, slice_index_or, Contains, IfOk, OnOk};
+ghost use Rattle.std.specs.Prelude.{◌≡◌, ◌↔◌, List, ℕ, ◌<◌, ◌≤◌, ◌++◌, ◌∷◌, [], length, slice_index_or, Contains, IfOk, IsTrue, OnOk};
 ghost use Rattle.digraph.specs.Edges.{IsFalling, IsWithin, graph_of, successors};
 ghost use Rattle.digraph.specs.Leads.{AreClosed, AreReaches, AreUnions, InLists, IsUnion};
 ghost use Rattle.digraph.specs.Marks.{AreMarked, NoneMarked};
@@ -60,39 +60,31 @@ fn union_of(
     Ok(union)
 }
 
-/// A list and a number behind it.
-fn extended(alloc: Global, list: &[usize], number: usize) -> Result<Vec<usize>, AllocError>
-    ensures { IfOk result (λ extended. extended.items ≡ list.now ++ number ∷ []) }
-{
-    let mut extended = Vec::with_capacity(alloc, list.len())?;
-    extended.extend_from_slice(list)?;
-    extended.push(number)?;
-    Ok(extended)
-}
-
-/// The union of a node with what stands in the lists of lower ones, which are below it. That of one list is the list and the
-/// node behind it, so that a chain of nodes takes no marks and is not sorted.
-fn union_above(
+/// Appends the union of a node with what stands in the lists of lower ones, which are below it. That of one list is the
+/// list and the node behind it, so that a chain of nodes takes constant time for each.
+fn push_union(
     alloc: Global,
-    lists: &Lists,
+    lists: &mut Lists,
     nodes: &[usize],
     own: usize,
     marks: &mut [bool],
-) -> Result<Vec<usize>, AllocError>
+) -> Result<(), AllocError>
     requires own { own < length marks.old }
-    requires room { length lists.now ≤ length marks.old }
-    requires nodes { (b : ℕ) → Contains nodes.now b → b < length lists.now }
-    requires closed { AreClosed lists.now (length lists.now) }
-    requires rises { (b : ℕ) → b < length lists.now → IsStrictlyIncreasing (slice_index_or lists.now b []) }
-    requires below { (b c : ℕ) → b < length lists.now → Contains (slice_index_or lists.now b []) c → c < own }
+    requires room { length lists.old ≤ length marks.old }
+    requires nodes { (b : ℕ) → Contains nodes.now b → b < length lists.old }
+    requires closed { AreClosed lists.old (length lists.old) }
+    requires rises { (b : ℕ) → b < length lists.old → IsStrictlyIncreasing (slice_index_or lists.old b []) }
+    requires below { (b c : ℕ) → b < length lists.old → Contains (slice_index_or lists.old b []) c → c < own }
     requires none { NoneMarked marks.old }
-    ensures union { IfOk result (λ union. IsUnion lists.now nodes.now own union.items) }
+    ensures union { OnOk result ((union : List ℕ) × (lists.new ≡ lists.old ++ union ∷ [])
+        × IsUnion lists.old nodes.now own union) }
     ensures none { OnOk result (NoneMarked marks.new) }
 {
     if let [node] = nodes {
-        return Ok(extended(alloc, lists.get(*node), own)?);
+        return lists.push_extended(*node, own);
     }
-    union_of(alloc, lists, nodes, own, marks)
+    let union = union_of(alloc, lists, nodes, own, marks)?;
+    lists.push(&union)
 }
 
 /// What each node leads to, itself among it, in rising order.
@@ -105,10 +97,57 @@ pub fn reach_lists(alloc: Global, graph: &[Vec<usize>]) -> Result<Lists, AllocEr
     let mut marks = unmarked(alloc, graph.len())?;
     let mut lists = Lists::new(alloc);
     for own in 0..graph.len() {
-        let list = union_above(alloc, &lists, row(graph, own), own, &mut marks)?;
-        lists.push(&list)?;
+        push_union(alloc, &mut lists, row(graph, own), own, &mut marks)?;
     }
     Ok(lists)
+}
+
+/// Whether a list of rising numbers has only numbers below this one.
+fn ends_below(list: &[usize], number: usize) -> bool
+    requires { IsStrictlyIncreasing list.now }
+    ensures { IsTrue result → (c : ℕ) → Contains list.now c → c < number }
+{
+    match list.last() {
+        Some(last) => *last < number,
+        None => true,
+    }
+}
+
+/// A list and a number behind it.
+fn extended(alloc: Global, list: &[usize], number: usize) -> Result<Vec<usize>, AllocError>
+    ensures { IfOk result (λ extended. extended.items ≡ list.now ++ number ∷ []) }
+{
+    let mut extended = Vec::with_capacity(alloc, list.len() + 1)?;
+    extended.extend_from_slice(list)?;
+    extended.push(number)?;
+    Ok(extended)
+}
+
+/// The union of a node with what stands in the lists of others. That of one list which ends below the node is the list and
+/// the node behind it, so that a chain of nodes takes no marks and is not sorted.
+fn union_with(
+    alloc: Global,
+    lists: &Lists,
+    nodes: &[usize],
+    own: usize,
+    marks: &mut [bool],
+) -> Result<Vec<usize>, AllocError>
+    requires own { own < length marks.old }
+    requires room { length lists.now ≤ length marks.old }
+    requires nodes { (b : ℕ) → Contains nodes.now b → b < length lists.now }
+    requires closed { AreClosed lists.now (length lists.now) }
+    requires rises { (b : ℕ) → b < length lists.now → IsStrictlyIncreasing (slice_index_or lists.now b []) }
+    requires none { NoneMarked marks.old }
+    ensures union { IfOk result (λ union. IsUnion lists.now nodes.now own union.items) }
+    ensures none { OnOk result (NoneMarked marks.new) }
+{
+    if let [node] = nodes {
+        let list = lists.get(*node);
+        if ends_below(list, own) {
+            return extended(alloc, list, own);
+        }
+    }
+    union_of(alloc, lists, nodes, own, marks)
 }
 
 /// For each node of a graph itself, and what stands in the lists of its successors, in rising order.
@@ -116,6 +155,7 @@ pub fn union_lists(alloc: Global, lists: &Lists, graph: &[Vec<usize>]) -> Result
     requires size { length lists.now ≡ length graph.now }
     requires within { IsWithin (graph_of graph.now) (length graph.now) }
     requires closed { AreClosed lists.now (length lists.now) }
+    requires rises { (b : ℕ) → b < length lists.now → IsStrictlyIncreasing (slice_index_or lists.now b []) }
     ensures size { IfOk result (λ unions. length unions ≡ length graph.now) }
     ensures unions { IfOk result (λ unions. AreUnions lists.now (graph_of graph.now) unions
         (length graph.now)) }
@@ -123,7 +163,7 @@ pub fn union_lists(alloc: Global, lists: &Lists, graph: &[Vec<usize>]) -> Result
     let mut marks = unmarked(alloc, graph.len())?;
     let mut unions = Lists::new(alloc);
     for own in 0..graph.len() {
-        let union = union_of(alloc, lists, row(graph, own), own, &mut marks)?;
+        let union = union_with(alloc, lists, row(graph, own), own, &mut marks)?;
         unions.push(&union)?;
     }
     Ok(unions)

@@ -1,17 +1,18 @@
 //! Ranks of nodes, in rounds: round `r` finds the nodes of rank `r`.
+//!
+//! A node is ready once the last of its successors has a rank, so a round looks only at the predecessors of the nodes
+//! that the round before has found. Each edge is passed once: the rounds are linear in nodes and edges.
 
-ghost use Rattle.std.specs.Prelude.{◌≡◌, ◌⊎◌, ◌↔◌, ℕ, ◌+◌, ◌<◌, ◌≤◌, ◌++◌, [], List, length, Contains, IfOk, IfSome, IfNone, slice_index_or};
-ghost use Rattle.std.specs.List.{AllByRecursion};
+ghost use Rattle.std.specs.Prelude.{◌≡◌, ◌⊎◌, ◌↔◌, ℕ, ◌<◌, [], length, Contains, IfOk, IfSome, IfNone, OnOk};
 ghost use Rattle.std.specs.List.Sorted.{IsStrictlyIncreasing};
-ghost use Rattle.digraph.specs.Edges.{IsWithin, graph_of, successors};
+ghost use Rattle.digraph.specs.Edges.{Edge, IsWithin, graph_of, successors};
 ghost use Rattle.digraph.specs.Leads.{HasNoCycle};
-ghost use Rattle.digraph.specs.Marks.{IsMarked, NoneMarked};
+ghost use Rattle.digraph.specs.Marks.{IsMarked};
 ghost use Rattle.digraph.specs.Ranks.{IsRanked, IsRankOrder, rank_in};
-ghost use Rattle.digraph.specs.declared.ranks.Waiting.{Waiting};
-ghost use Rattle.digraph.specs.Rounds.{ArePassed, IsDealt, IsPassed, Stops, nodes_of};
+ghost use Rattle.digraph.specs.Rounds.{AllMarked, ArePassed, GoesInto, IsPassed, Stops};
 
 use crate::marks::unmarked;
-use crate::search::row;
+use crate::search::{predecessors, row};
 use std::alloc::{AllocError, Global};
 
 /// The rank of each node, and the nodes by rank and then by number.
@@ -19,13 +20,6 @@ use std::alloc::{AllocError, Global};
 pub struct Ranking {
     pub ranks: Vec<usize>,
     pub order: Vec<usize>,
-}
-
-/// A node without a rank, and how many successors at the front of its row are known to have one.
-#[derive(Clone, Copy)]
-struct Waiting {
-    node: usize,
-    passed: usize,
 }
 
 /// How many successors at the front of a row are marked, where `passed` of them are.
@@ -42,36 +36,78 @@ fn pass(successors: &[usize], marks: &[bool], passed: usize) -> usize
     count
 }
 
-/// Appends to `order` the nodes all of whose successors are marked; the others go on waiting.
-fn deal(
-    alloc: Global,
+/// Appends to `ready` those of the nodes whose successors are all marked. `passed` has for each node how many successors
+/// at the front of its row are known to be marked.
+fn append_ready(
     graph: &[Vec<usize>],
     marks: &[bool],
-    waiting: &[Waiting],
-    order: &mut Vec<usize>,
-) -> Result<Vec<Waiting>, AllocError>
+    nodes: &[usize],
+    passed: &mut [usize],
+    ready: &mut Vec<usize>,
+) -> Result<(), AllocError>
     requires within { IsWithin (graph_of graph.now) (length marks.now) }
-    requires nodes { (a : ℕ) → Contains (nodes_of waiting.now) a → a < length graph.now }
-    requires rises { IsStrictlyIncreasing (nodes_of waiting.now) }
-    requires passed { ArePassed (graph_of graph.now) marks.now waiting.now }
-    ensures dealt { IfOk result (λ later. (ready : List ℕ)
-        × (order.new.items ≡ order.old.items ++ ready)
-        × IsDealt (graph_of graph.now) marks.now (nodes_of waiting.now) (length waiting.now) ready
-        (nodes_of later.items)) }
-    ensures passed { IfOk result (λ later. ArePassed (graph_of graph.now) marks.now later.items) }
+    requires nodes { (a : ℕ) → Contains nodes.now a → a < length graph.now }
+    requires passed { ArePassed (graph_of graph.now) marks.now passed.old }
+    ensures passed { OnOk result (ArePassed (graph_of graph.now) marks.now passed.new) }
+    ensures ready { OnOk result ((a : ℕ) → Contains ready.new.items a
+        ↔ (Contains ready.old.items a
+        ⊎ (Contains nodes.now a × AllMarked (graph_of graph.now) marks.now a))) }
 {
-    let mut later = Vec::new(alloc);
-    for entry in waiting {
-        let node = entry.node;
-        let successors = row(graph, node);
-        let passed = pass(successors, marks, entry.passed);
-        if passed == successors.len() {
-            order.push(node)?;
-        } else {
-            later.push(Waiting { node, passed })?;
+    for node in nodes {
+        let successors = row(graph, *node);
+        let count = pass(successors, marks, passed[*node]);
+        passed[*node] = count;
+        if count == successors.len() {
+            ready.push(*node)?;
         }
     }
-    Ok(later)
+    Ok(())
+}
+
+/// The nodes with a successor among `settled` and all successors marked, in rising order. `turned` is the graph with its
+/// edges turned round.
+fn next_ready(
+    alloc: Global,
+    graph: &[Vec<usize>],
+    turned: &[Vec<usize>],
+    marks: &[bool],
+    settled: &[usize],
+    passed: &mut [usize],
+) -> Result<Vec<usize>, AllocError>
+    requires within { IsWithin (graph_of graph.now) (length marks.now) }
+    requires turned { (b a : ℕ)
+        → Edge (graph_of turned.now) b a ↔ Edge (graph_of graph.now) a b }
+    requires settled { (b : ℕ) → Contains settled.now b → b < length turned.now }
+    requires passed { ArePassed (graph_of graph.now) marks.now passed.old }
+    ensures passed { OnOk result (ArePassed (graph_of graph.now) marks.now passed.new) }
+    ensures rises { IfOk result (λ ready. IsStrictlyIncreasing ready.items) }
+    ensures members { IfOk result (λ ready. (a : ℕ) → Contains ready.items a
+        ↔ (GoesInto (graph_of graph.now) settled.now a
+        × AllMarked (graph_of graph.now) marks.now a)) }
+{
+    let mut ready = Vec::new(alloc);
+    for node in settled {
+        append_ready(graph, marks, row(turned, *node), passed, &mut ready)?;
+    }
+    // A node stands there once for each of its edges to `settled`.
+    ready.sort_unstable();
+    ready.dedup();
+    Ok(ready)
+}
+
+/// The nodes without a successor, in rising order.
+fn leaves(alloc: Global, graph: &[Vec<usize>]) -> Result<Vec<usize>, AllocError>
+    ensures rises { IfOk result (λ leaves. IsStrictlyIncreasing leaves.items) }
+    ensures members { IfOk result (λ leaves. (a : ℕ) → Contains leaves.items a
+        ↔ ((a < length graph.now) × (successors (graph_of graph.now) a ≡ []))) }
+{
+    let mut leaves = Vec::new(alloc);
+    for node in 0..graph.len() {
+        if row(graph, node).is_empty() {
+            leaves.push(node)?;
+        }
+    }
+    Ok(leaves)
 }
 
 /// Gives nodes a rank, and marks them.
@@ -90,22 +126,6 @@ fn settle(nodes: &[usize], rank: usize, marks: &mut [bool], ranks: &mut [usize])
     }
 }
 
-/// Every node, with nothing passed.
-fn all_waiting(alloc: Global, count: usize) -> Result<Vec<Waiting>, AllocError>
-    ensures size { IfOk result (λ waiting. length waiting.items ≡ count) }
-    ensures rises { IfOk result (λ waiting. IsStrictlyIncreasing (nodes_of waiting.items)) }
-    ensures members { IfOk result (λ waiting. (a : ℕ)
-        → Contains (nodes_of waiting.items) a ↔ (a < count)) }
-    ensures passed { IfOk result (λ waiting. AllByRecursion (λ (w : Waiting). w.passed ≡ 0)
-        waiting.items) }
-{
-    let mut waiting = Vec::new(alloc);
-    for node in 0..count {
-        waiting.push(Waiting { node, passed: 0 })?;
-    }
-    Ok(waiting)
-}
-
 /// The ranks of the nodes, and the nodes by rank; None where a node can be left and come back to.
 pub fn rank_nodes(alloc: Global, graph: &[Vec<usize>]) -> Result<Option<Ranking>, AllocError>
     requires { IsWithin (graph_of graph.now) (length graph.now) }
@@ -115,19 +135,21 @@ pub fn rank_nodes(alloc: Global, graph: &[Vec<usize>]) -> Result<Option<Ranking>
         (λ ranking. IsRankOrder ranking.ranks.items ranking.order.items)) }
     ensures none { IfOk result (λ found. IfNone found (HasNoCycle (graph_of graph.now) → ⊥)) }
 {
+    let turned = predecessors(alloc, graph)?;
     let mut marks = unmarked(alloc, graph.len())?;
     let mut ranks = vec![in alloc; 0; graph.len()]?;
+    let mut passed = vec![in alloc; 0; graph.len()]?;
     let mut order = Vec::new(alloc);
-    let mut waiting = all_waiting(alloc, graph.len())?;
+    let mut ready = leaves(alloc, graph)?;
     let mut rank = 0;
-    while !waiting.is_empty() {
-        let first = order.len();
-        waiting = deal(alloc, graph, &marks, &waiting, &mut order)?;
-        if order.len() == first {
-            return Ok(None);
-        }
-        settle(&order[first..], rank, &mut marks, &mut ranks);
+    while !ready.is_empty() {
+        settle(&ready, rank, &mut marks, &mut ranks);
+        order.extend_from_slice(&ready)?;
+        ready = next_ready(alloc, graph, &turned, &marks, &ready, &mut passed)?;
         rank += 1;
+    }
+    if order.len() < graph.len() {
+        return Ok(None);
     }
     Ok(Some(Ranking { ranks, order }))
 }

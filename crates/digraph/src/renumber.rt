@@ -79,18 +79,6 @@ pub fn renumbered(
     Ok(rows)
 }
 
-/// The nodes at positions.
-fn nodes_at(alloc: Global, list: &[usize], order: &[usize]) -> Result<Vec<usize>, AllocError>
-    requires { (k : ℕ) → Contains list.now k → k < length order.now }
-    ensures { IfOk result (λ nodes. nodes.items ≡ map (node_at order.now) list.now) }
-{
-    let mut nodes = Vec::with_capacity(alloc, list.len())?;
-    for position in list {
-        nodes.push(order[*position])?;
-    }
-    Ok(nodes)
-}
-
 /// Lists of positions as lists of the nodes there.
 pub fn with_nodes(alloc: Global, lists: &Lists, order: &[usize]) -> Result<Lists, AllocError>
     requires { (a k : ℕ) → a < length lists.now → Contains (slice_index_or lists.now a []) k
@@ -98,10 +86,5 @@ pub fn with_nodes(alloc: Global, lists: &Lists, order: &[usize]) -> Result<Lists
     ensures { IfOk result (λ named. named
         ≡ map (λ (list : List ℕ). map (node_at order.now) list) lists.now) }
 {
-    let mut named = Lists::new(alloc);
-    for place in 0..lists.len() {
-        let nodes = nodes_at(alloc, lists.get(place), order)?;
-        named.push(&nodes)?;
-    }
-    Ok(named)
+    lists.named(alloc, order)
 }

@@ -61,7 +61,7 @@ impl<I> Receiving<I> {
             .is_some_and(|body| body.len() >= self.most)
     }
 
-    fn received(&mut self) -> Result<Received, ConnectionFault>
+    fn take_request(&mut self) -> Result<Received, ConnectionFault>
         ensures { self.new.incoming ≡ self.old.incoming }
     {
         match (self.head.take(), self.body.take()) {
@@ -79,7 +79,7 @@ impl<I: Drop> Future for Receiving<I> {
     fn poll(&mut self, cx: &mut Context<'_>) -> Poll<Result<Received, ConnectionFault>> {
         for _ in 0..PIECES {
             if self.is_full() {
-                return Poll::Ready(self.received());
+                return Poll::Ready(self.take_request());
             }
             match ready!(self.incoming.poll_frame(cx)) {
                 Some(Ok(frame)) => {
@@ -90,7 +90,7 @@ impl<I: Drop> Future for Receiving<I> {
                     }
                 }
                 Some(Err(_)) => return Poll::Ready(Err(ConnectionFault::Body)),
-                None => return Poll::Ready(self.received()),
+                None => return Poll::Ready(self.take_request()),
             }
         }
         cx.yield_now()

@@ -1,7 +1,8 @@
 //! What the layers of the compiler all speak of: limits, places, kinds of fault and faults, the scalar
-//! types, and the list and the text that trees hold.
+//! types, and the list, the text and the pointer that trees hold.
 #![tactic(auto)]
 
+pub mod boxed;
 mod fault;
 mod kind;
 mod limits;

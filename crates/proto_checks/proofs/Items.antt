@@ -1,12 +1,14 @@
 -- The statements of messages, and the messages within them.
-use Rattle.std.proofs.Common.{◌≡◌, ◌∙◌, ap, refl, List, [], ◌∷◌, ◌++◌, false, inl, inr}
+use Rattle.std.proofs.Common.{◌≡◌, ◌∙◌, ap, sym, refl, List, [], ◌∷◌, ◌++◌, false, inl, inr}
+use Rattle.std.proofs.lemmas.List.{append-nil}
 use Rattle.std.specs.Prelude.{Option, flat_map}
-use mathlib.Core.Former.{Count}
+use mathlib.Core.Former.{this, arity, Count}
 use Rattle.proto_tree.specs.declared.enumeration.Enum.{Enum}
 use Rattle.proto_tree.specs.declared.field.Field.{Field}
 use Rattle.proto_tree.specs.declared.map_field.MapField.{MapField}
+use Rattle.proto_base.specs.formers.boxed.Boxed.{the_former}
 use Rattle.proto_tree.specs.declared.message.Message.{Message}
-use Rattle.proto_tree.specs.declared.message.MessageItem.{MessageItem, Message', Row_of-MessageItem, end_of-MessageItem, more_of-MessageItem, items-the_row-MessageItem, items_hidden-the_row-MessageItem-0}
+use Rattle.proto_tree.specs.declared.message.MessageItem.{MessageItem, Message', Row_of-MessageItem, end_of-MessageItem, more_of-MessageItem, Row_of-Message, end_of-Message, more_of-Message, items-the_row-MessageItem, items-the_row-Message, items_shown-the_row-MessageItem-0, items_hidden-the_row-Message-1}
 use Rattle.proto_tree.specs.declared.message.MessageItem.TheVariants as of
 use Rattle.proto_tree.specs.declared.oneof.Oneof.{Oneof}
 use Rattle.proto_desc.specs.declared.rules.Element.TheVariants as element
@@ -75,12 +77,18 @@ row_flat : (n : _) (row : Row_of-MessageItem n) → bodies_row row ≡ flat_map 
 row_flat n end_of-MessageItem = refl
 row_flat n (more_of-MessageItem i rest) = ap (λ xs. bodies_of i ++ xs) (row_flat _ rest)
 
-abbrev row_of : MessageItem → (n : Count) × Row_of-MessageItem n
-row_of (Message' keyword name open_brace shape row close_brace) = (_, row)
-row_of _ = (_, end_of-MessageItem)
+bodies_boxed : (boxed : (the_former this).Shape) (row : Row_of-Message (arity (the_former this) boxed))
+    → bodies_of (Message' boxed row) ≡ flat_map (λ m. bodies m.items) (items-the_row-Message _ row)
+bodies_boxed boxed (more_of-Message keyword name open_brace shape is close_brace end_of-Message) =
+    ap (λ xs. items-the_row-MessageItem _ is ∷ xs) (row_flat _ is)
+    ∙ ap (λ is. is ∷ flat_map bodies_of is) (sym (items_shown-the_row-MessageItem-0 shape is))
+    ∙ sym (append-nil (bodies _))
+
+abbrev row_of : MessageItem → (n : Count) × Row_of-Message n
+row_of (Message' boxed row) = (_, row)
+row_of _ = (_, end_of-Message)
 
 pub nested_bodies : (m : Message) → bodies_of (of.Message m) ≡ bodies m.items
 nested_bodies m =
-    let row = row_of (of.Message m) in
-    ap (λ xs. items-the_row-MessageItem row.0 row.1 ∷ xs) (row_flat row.0 row.1)
-    ∙ ap (λ is. is ∷ flat_map bodies_of is) (items_hidden-the_row-MessageItem-0 m.items)
+    bodies_boxed _ (row_of (of.Message m)).1 ∙ ap (flat_map (λ m. bodies m.items)) (items_hidden-the_row-Message-1 m)
+    ∙ append-nil (bodies m.items)

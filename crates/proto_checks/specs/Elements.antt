@@ -5,7 +5,7 @@ use Rattle.proto_tree.specs.declared.enumeration.Enum.{Enum}
 use Rattle.proto_tree.specs.declared.enumeration.EnumItem.{EnumItem}
 use Rattle.proto_tree.specs.declared.enumeration.EnumItem.TheVariants as enum_item
 use Rattle.proto_tree.specs.declared.enumeration.EnumValue.{EnumValue}
-use Rattle.proto_tree.specs.declared.message.MessageItem.{MessageItem, Row_of-MessageItem, end_of-MessageItem, more_of-MessageItem, items-the_row-MessageItem}
+use Rattle.proto_tree.specs.declared.message.MessageItem.{MessageItem, Row_of-MessageItem, end_of-MessageItem, more_of-MessageItem, end_of-Message, more_of-Message, items-the_row-MessageItem}
 use Rattle.proto_tree.specs.declared.message.MessageItem as message_item
 use Rattle.proto_tree.specs.declared.oneof.Oneof.{Oneof}
 use Rattle.proto_tree.specs.declared.oneof.OneofField.{OneofField}
@@ -17,7 +17,7 @@ use Rattle.proto_tree.specs.declared.service.Service.{Service}
 use Rattle.proto_tree.specs.declared.service.ServiceItem.{ServiceItem}
 use Rattle.proto_tree.specs.declared.service.ServiceItem.TheVariants as service_item
 use Rattle.proto_desc.specs.declared.rules.Element.TheVariants as element
-use Rattle.proto_lower.specs.Options.{bracketed, message_setting, enum_setting, service_setting, rpc_setting}
+use Rattle.proto_lower.specs.Options.{bracketed, message_setting, oneof_setting, enum_setting, service_setting, rpc_setting}
 use Rattle.proto_lower.specs.Services.{rpc_items}
 use Rattle.proto_checks.specs.Gathered.{value_numbers}
 use Rattle.proto_base.specs.Least.{spot}
@@ -30,10 +30,6 @@ use Rattle.proto_base.specs.declared.spot.Spot.{Spot}
 abbrev pub member_of : OneofItem → List OneofField
 member_of (oneof_item.Field f) = f ∷ []
 member_of i = []
-
-abbrev pub oneof_setting : OneofItem → List Setting
-oneof_setting (oneof_item.Option o) = o.setting ∷ []
-oneof_setting i = []
 
 abbrev pub is_member : OneofItem → Bool
 is_member (oneof_item.Field f) = true
@@ -91,7 +87,7 @@ ItemBreaks i x =
 -- the statements of the messages that a statement holds, at each depth: one list for each message
 abbrev mutual
   pub bodies_of : MessageItem → List (List MessageItem)
-  bodies_of (message_item.Message' keyword name open_brace shape is close_brace) =
+  bodies_of (message_item.Message' boxed (more_of-Message keyword name open_brace shape is close_brace end_of-Message)) =
       items-the_row-MessageItem _ is ∷ bodies_row is
   bodies_of (message_item.Map m) = []
   bodies_of (message_item.Field f) = []

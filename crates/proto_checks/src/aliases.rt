@@ -7,7 +7,7 @@ ghost use Rattle.proto_checks.specs.Numbers.{IsAliasing};
 
 use crate::options::is_true;
 use proto_desc::rules::OptionName;
-use proto_lower::first_of_enum;
+use proto_lower::first_setting;
 use proto_tree::EnumItem;
 
 /// Whether the statements of an enum set `allow_alias = true`.
@@ -15,7 +15,7 @@ pub(crate) fn is_aliasing(items: &[EnumItem]) -> bool
     ensures { IsTrue result ↔ IsAliasing
         (first_setting AllowAlias (flat_map enum_setting items.now)) }
 {
-    match first_of_enum(items, OptionName::AllowAlias) {
+    match first_setting(items, OptionName::AllowAlias) {
         Some(setting) => is_true(&setting.value),
         None => false,
     }

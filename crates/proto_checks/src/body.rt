@@ -12,8 +12,9 @@ use crate::field_options::{field_options_fault, is_packed_type, is_repeated, is_
 use crate::numbers::first_field_number_fault;
 use crate::oneof::oneof_fault;
 use crate::options::settings_fault;
-use crate::settings::message_settings;
+use crate::settings::settings_of;
 use proto_base::{Spot, lesser};
+use proto_desc::rules::Element;
 use proto_tree::{Field, Message, MessageItem, Oneof, OneofField, OneofItem};
 use std::alloc::{AllocError, Global};
 
@@ -39,7 +40,7 @@ fn members_fault(alloc: Global, items: &[OneofItem]) -> Result<Option<Spot>, All
     let mut first = None;
     for item in items {
         if let OneofItem::Field(field) = item {
-            first = lesser(first, member_fault(alloc, field)?);
+            first = lesser(first, member_fault(alloc, field.get())?);
         }
     }
     Ok(first)
@@ -58,10 +59,10 @@ fn item_fault(alloc: Global, item: &MessageItem) -> Result<Option<Spot>, AllocEr
     ensures { IfOk result (λ first. IsLeast (ItemBreaks item.now) first) }
 {
     match item {
-        MessageItem::Field(field) => field_fault(alloc, field),
-        MessageItem::Map(map) => field_options_fault(alloc, &map.declarator, false, false),
-        MessageItem::Oneof(oneof) => oneof_item_fault(alloc, oneof),
-        MessageItem::Enum(declared) => enum_fault(alloc, declared),
+        MessageItem::Field(field) => field_fault(alloc, field.get()),
+        MessageItem::Map(map) => { field_options_fault(alloc, &map.get().declarator, false, false) }
+        MessageItem::Oneof(oneof) => oneof_item_fault(alloc, oneof.get()),
+        MessageItem::Enum(declared) => enum_fault(alloc, declared.get()),
         MessageItem::Message(_)
         | MessageItem::Option(_)
         | MessageItem::Reserved(_)
@@ -84,7 +85,7 @@ fn body_fault(alloc: Global, items: &[MessageItem]) -> Result<Option<Spot>, Allo
     ensures { IfOk result (λ first. IsLeast (BodyBreaks items.now) first) }
 {
     let numbers = first_field_number_fault(alloc, items)?;
-    let settings = message_settings(alloc, items)?;
+    let settings = settings_of(alloc, Element::Message, items)?;
     let own = settings_fault(alloc, &settings)?;
     let elements = items_fault(alloc, items)?;
     let alone = lesser(numbers, own);
@@ -99,7 +100,9 @@ pub(crate) fn message_fault(alloc: Global, message: &Message) -> Result<Option<S
     let mut first = body_fault(alloc, items)?;
     for item in items {
         match item {
-            MessageItem::Message(nested) => first = lesser(first, message_fault(alloc, nested)?),
+            MessageItem::Message(nested) => {
+                first = lesser(first, message_fault(alloc, nested.get())?);
+            }
             MessageItem::Field(_) => {}
             MessageItem::Map(_) => {}
             MessageItem::Oneof(_) => {}

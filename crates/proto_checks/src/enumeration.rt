@@ -8,7 +8,7 @@ ghost use Rattle.proto_base.specs.Sets.{Each};
 
 use crate::numbers::first_enum_number_fault;
 use crate::options::settings_fault;
-use crate::settings::{bracketed_settings, enum_settings};
+use crate::settings::{bracketed_settings, settings_of};
 use proto_base::{Kind, Spot, lesser};
 use proto_desc::rules::Element;
 use proto_tree::{Enum, EnumItem, EnumValue};
@@ -47,7 +47,7 @@ fn values_fault(alloc: Global, items: &[EnumItem]) -> Result<Option<Spot>, Alloc
     let mut first = None;
     for item in items {
         if let EnumItem::Value(value) = item {
-            first = lesser(first, value_fault(alloc, value)?);
+            first = lesser(first, value_fault(alloc, value.get())?);
         }
     }
     Ok(first)
@@ -60,7 +60,7 @@ pub(crate) fn enum_fault(alloc: Global, declared: &Enum) -> Result<Option<Spot>,
     let items = declared.items.as_slice();
     let empty = empty_fault(declared);
     let numbers = first_enum_number_fault(alloc, items)?;
-    let settings = enum_settings(alloc, items)?;
+    let settings = settings_of(alloc, Element::Enum, items)?;
     let own = settings_fault(alloc, &settings)?;
     let values = values_fault(alloc, items)?;
     let alone = lesser(empty, numbers);

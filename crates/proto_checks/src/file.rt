@@ -17,10 +17,11 @@ use crate::options::settings_fault;
 use crate::package::{package_lengths_fault, package_twice};
 use crate::repeats::first_text_twice;
 use crate::service::service_fault;
-use crate::settings::file_settings;
+use crate::settings::settings_of;
 use proto_base::{Kind, Limits, Place, Spot, lesser};
 use proto_desc::file::{FileDesc, ImportDesc, PackageDesc};
 use proto_desc::message::MessageDesc;
+use proto_desc::rules::Element;
 use proto_tree::text::joined;
 use proto_tree::{FileTree, Statement, Syntax};
 use std::alloc::{AllocError, Global};
@@ -72,7 +73,7 @@ fn head_fault(alloc: Global, tree: &FileTree, desc: &FileDesc) -> Result<Option<
     let syntax = syntax_fault(alloc, &tree.syntax)?;
     let package = package_twice(statements);
     let import = import_twice(alloc, desc.imports.as_slice())?;
-    let settings = file_settings(alloc, statements)?;
+    let settings = settings_of(alloc, Element::File, statements)?;
     let own = settings_fault(alloc, &settings)?;
     let begun = lesser(syntax, package);
     let rest = lesser(import, own);
@@ -83,9 +84,9 @@ fn statement_fault(alloc: Global, statement: &Statement) -> Result<Option<Spot>,
     ensures { IfOk result (λ first. IsLeast (StatementBreaks statement.now) first) }
 {
     match statement {
-        Statement::Message(message) => message_fault(alloc, message),
-        Statement::Enum(declared) => enum_fault(alloc, declared),
-        Statement::Service(service) => service_fault(alloc, service),
+        Statement::Message(message) => message_fault(alloc, message.get()),
+        Statement::Enum(declared) => enum_fault(alloc, declared.get()),
+        Statement::Service(service) => service_fault(alloc, service.get()),
         Statement::Import(_) | Statement::Package(_) | Statement::Option(_) | Statement::Empty(_) =>
             Ok(None),
     }

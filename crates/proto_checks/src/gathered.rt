@@ -37,7 +37,7 @@ fn put_members(numbers: &mut Vec<MarkedNumber>, items: &[OneofItem]) -> Result<(
 {
     for item in items {
         if let OneofItem::Field(field) = item {
-            numbers.push(literal(field.declarator.number))?;
+            numbers.push(literal(field.get().declarator.number))?;
         }
     }
     Ok(())
@@ -53,9 +53,9 @@ pub(crate) fn field_numbers(
     let mut numbers = Vec::new(alloc);
     for item in items {
         match item {
-            MessageItem::Field(field) => numbers.push(literal(field.declarator.number))?,
-            MessageItem::Map(map) => numbers.push(literal(map.declarator.number))?,
-            MessageItem::Oneof(oneof) => put_members(&mut numbers, oneof.items.as_slice())?,
+            MessageItem::Field(field) => numbers.push(literal(field.get().declarator.number))?,
+            MessageItem::Map(map) => numbers.push(literal(map.get().declarator.number))?,
+            MessageItem::Oneof(oneof) => put_members(&mut numbers, oneof.get().items.as_slice())?,
             _ => {}
         }
     }
@@ -87,7 +87,7 @@ pub(crate) fn message_ranges_listed(
     let mut ranges = Vec::new(alloc);
     for item in items {
         if let MessageItem::Reserved(reserved) = item {
-            put_ranges(&mut ranges, &reserved.items)?;
+            put_ranges(&mut ranges, &reserved.get().items)?;
         }
     }
     Ok(ranges)
@@ -191,7 +191,7 @@ pub(crate) fn value_numbers(
     let mut numbers = Vec::new(alloc);
     for item in items {
         if let EnumItem::Value(value) = item {
-            numbers.push(signed_number(value.number))?;
+            numbers.push(signed_number(value.get().number))?;
         }
     }
     Ok(numbers)
@@ -207,7 +207,7 @@ pub(crate) fn enum_ranges_listed(
     let mut ranges = Vec::new(alloc);
     for item in items {
         if let EnumItem::Reserved(reserved) = item {
-            put_ranges(&mut ranges, &reserved.items)?;
+            put_ranges(&mut ranges, &reserved.get().items)?;
         }
     }
     Ok(ranges)

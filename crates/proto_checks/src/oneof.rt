@@ -6,8 +6,9 @@ ghost use Rattle.proto_checks.specs.Elements.{is_member, IsEmptyOneof, OneofBrea
 ghost use Rattle.proto_base.specs.Least.{IsLeast};
 
 use crate::options::settings_fault;
-use crate::settings::oneof_settings;
+use crate::settings::settings_of;
 use proto_base::{Kind, Spot, lesser};
+use proto_desc::rules::Element;
 use proto_tree::{Oneof, OneofItem};
 use std::alloc::{AllocError, Global};
 
@@ -35,7 +36,7 @@ pub(crate) fn oneof_fault(alloc: Global, oneof: &Oneof) -> Result<Option<Spot>, 
     ensures { IfOk result (λ first. IsLeast (OneofBreaks oneof.now) first) }
 {
     let empty = empty_fault(oneof);
-    let settings = oneof_settings(alloc, oneof.items.as_slice())?;
+    let settings = settings_of(alloc, Element::Oneof, oneof.items.as_slice())?;
     let own = settings_fault(alloc, &settings)?;
     Ok(lesser(empty, own))
 }

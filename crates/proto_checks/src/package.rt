@@ -33,7 +33,7 @@ pub(crate) fn package_twice(statements: &[Statement]) -> Option<Spot>
     let mut is_named = false;
     for statement in statements {
         if let Statement::Package(package) = statement {
-            first = lesser(first, again_fault(is_named, package));
+            first = lesser(first, again_fault(is_named, package.get()));
             is_named = true;
         }
     }
@@ -105,7 +105,7 @@ pub(crate) fn package_lengths_fault(limits: &Limits, statements: &[Statement]) -
     let mut first = None;
     for statement in statements {
         if let Statement::Package(package) = statement {
-            first = lesser(first, length_fault(limits, package));
+            first = lesser(first, length_fault(limits, package.get()));
         }
     }
     first

@@ -69,7 +69,7 @@ pub(crate) fn message_reserved_names<'s>(
     let mut names = Vec::new(alloc);
     for item in items {
         if let MessageItem::Reserved(reserved) = item {
-            put_names(alloc, &mut names, &reserved.items)?;
+            put_names(alloc, &mut names, &reserved.get().items)?;
         }
     }
     Ok(names)
@@ -85,7 +85,7 @@ pub(crate) fn enum_reserved_names<'s>(
     let mut names = Vec::new(alloc);
     for item in items {
         if let EnumItem::Reserved(reserved) = item {
-            put_names(alloc, &mut names, &reserved.items)?;
+            put_names(alloc, &mut names, &reserved.get().items)?;
         }
     }
     Ok(names)

@@ -7,8 +7,9 @@ ghost use Rattle.proto_base.specs.Least.{IsLeast};
 ghost use Rattle.proto_base.specs.Sets.{Each};
 
 use crate::options::settings_fault;
-use crate::settings::{method_settings, service_settings};
+use crate::settings::settings_of;
 use proto_base::{Spot, lesser};
+use proto_desc::rules::Element;
 use proto_tree::{Rpc, RpcBody, RpcItem, Service, ServiceItem};
 use std::alloc::{AllocError, Global};
 
@@ -24,7 +25,7 @@ fn rpc_items<'t, 's>(body: &'t RpcBody<'s>) -> &'t [RpcItem<'s>]
 fn method_fault(alloc: Global, rpc: &Rpc) -> Result<Option<Spot>, AllocError>
     ensures { IfOk result (λ first. IsLeast (RpcBreaks rpc.now) first) }
 {
-    let settings = method_settings(alloc, rpc_items(&rpc.body))?;
+    let settings = settings_of(alloc, Element::Method, rpc_items(&rpc.body))?;
     settings_fault(alloc, &settings)
 }
 
@@ -34,7 +35,7 @@ fn methods_fault(alloc: Global, items: &[ServiceItem]) -> Result<Option<Spot>, A
     let mut first = None;
     for item in items {
         if let ServiceItem::Rpc(rpc) = item {
-            first = lesser(first, method_fault(alloc, rpc)?);
+            first = lesser(first, method_fault(alloc, rpc.get())?);
         }
     }
     Ok(first)
@@ -45,7 +46,7 @@ pub(crate) fn service_fault(alloc: Global, service: &Service) -> Result<Option<S
     ensures { IfOk result (λ first. IsLeast (ServiceBreaks service.now) first) }
 {
     let items = service.items.as_slice();
-    let settings = service_settings(alloc, items)?;
+    let settings = settings_of(alloc, Element::Service, items)?;
     let own = settings_fault(alloc, &settings)?;
     let methods = methods_fault(alloc, items)?;
     Ok(lesser(own, methods))

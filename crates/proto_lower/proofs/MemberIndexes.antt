@@ -23,7 +23,7 @@ flat_map-real_of (message_item.Oneof o ∷ is) = ap (λ os. real_named o.name �
 flat_map-real_of (message_item.Field f ∷ is) = flat_map-real_of is
 flat_map-real_of (message_item.Map m ∷ is) = flat_map-real_of is
 flat_map-real_of (message_item.Option o ∷ is) = flat_map-real_of is
-flat_map-real_of (message_item.Message' keyword name open_brace shape row close_brace ∷ is) = flat_map-real_of is
+flat_map-real_of (message_item.Message' boxed message ∷ is) = flat_map-real_of is
 flat_map-real_of (message_item.Enum e ∷ is) = flat_map-real_of is
 flat_map-real_of (message_item.Reserved r ∷ is) = flat_map-real_of is
 flat_map-real_of (message_item.Empty s ∷ is) = flat_map-real_of is
@@ -40,7 +40,7 @@ length-oneof_of (message_item.Oneof o ∷ is) = omega (arith, length-oneof_of is
 length-oneof_of (message_item.Field f ∷ is) = length-oneof_of is
 length-oneof_of (message_item.Map m ∷ is) = length-oneof_of is
 length-oneof_of (message_item.Option o ∷ is) = length-oneof_of is
-length-oneof_of (message_item.Message' keyword name open_brace shape row close_brace ∷ is) = length-oneof_of is
+length-oneof_of (message_item.Message' boxed message ∷ is) = length-oneof_of is
 length-oneof_of (message_item.Enum e ∷ is) = length-oneof_of is
 length-oneof_of (message_item.Reserved r ∷ is) = length-oneof_of is
 length-oneof_of (message_item.Empty s ∷ is) = length-oneof_of is
@@ -82,7 +82,7 @@ none-from full k real next (message_item.Oneof o ∷ is) before below =
     other-members k real o.items (fields_from full (real + 1) next is) (apart_above real k before)
     ∙ none-from full k (real + 1) next is (omega (arith, before)) below
 none-from full k real next (message_item.Option o ∷ is) before below = none-from full k real next is before below
-none-from full k real next (message_item.Message' keyword name open_brace shape row close_brace ∷ is) before below = none-from full k real next is before below
+none-from full k real next (message_item.Message' boxed message ∷ is) before below = none-from full k real next is before below
 none-from full k real next (message_item.Enum e ∷ is) before below = none-from full k real next is before below
 none-from full k real next (message_item.Reserved r ∷ is) before below = none-from full k real next is before below
 none-from full k real next (message_item.Empty s ∷ is) before below = none-from full k real next is before below
@@ -106,7 +106,7 @@ members-from full real next (suc j) k (message_item.Oneof p ∷ is) o at below s
     other-members k real p.items (fields_from full (real + 1) next is) (apart real k (omega (arith, at)))
     ∙ members-from full (real + 1) next j k is o (omega (arith, at)) below stands
 members-from full real next j k (message_item.Option p ∷ is) o at below stands = members-from full real next j k is o at below stands
-members-from full real next j k (message_item.Message' keyword name open_brace shape row close_brace ∷ is) o at below stands =
+members-from full real next j k (message_item.Message' boxed message ∷ is) o at below stands =
     members-from full real next j k is o at below stands
 members-from full real next j k (message_item.Enum e ∷ is) o at below stands = members-from full real next j k is o at below stands
 members-from full real next j k (message_item.Reserved r ∷ is) o at below stands = members-from full real next j k is o at below stands

@@ -3,9 +3,10 @@ use Rattle.std.proofs.Common.{◌≡◌, ◌∙◌, ap, sym, refl, List, [], ◌
 use Rattle.std.proofs.lemmas.List.{take_more, append-nil}
 use Rattle.std.proofs.lemmas.List.Concat.{flat_map-append}
 use Rattle.std.specs.Prelude.{flat_map}
-use mathlib.Core.Former.{Count}
+use mathlib.Core.Former.{this, arity, Count}
+use Rattle.proto_base.specs.formers.boxed.Boxed.{the_former}
 use Rattle.proto_tree.specs.declared.message.Message.{Message}
-use Rattle.proto_tree.specs.declared.message.MessageItem.{MessageItem, Message', Row_of-MessageItem, end_of-MessageItem, more_of-MessageItem, items-the_row-MessageItem, items_hidden-the_row-MessageItem-0}
+use Rattle.proto_tree.specs.declared.message.MessageItem.{MessageItem, Message', Row_of-MessageItem, end_of-MessageItem, more_of-MessageItem, Row_of-Message, end_of-Message, more_of-Message, items-the_row-MessageItem, items-the_row-Message, items_shown-the_row-MessageItem-0, items_hidden-the_row-Message-1}
 use Rattle.proto_tree.specs.declared.message.MessageItem.TheVariants as of
 use Rattle.proto_lower.specs.Fields.{inner}
 use Rattle.proto_lower.specs.Messages.{message_of, nested_of, nested_row, lowered_message}
@@ -14,16 +15,20 @@ row_flat : (full : List ℕ) (n : _) (row : Row_of-MessageItem n) → nested_row
 row_flat full n end_of-MessageItem = refl
 row_flat full n (more_of-MessageItem i rest) = ap (λ xs. nested_of full i ++ xs) (row_flat full _ rest)
 
-abbrev row_of : MessageItem → (n : Count) × Row_of-MessageItem n
-row_of (Message' keyword name open_brace shape row close_brace) = (_, row)
-row_of _ = (_, end_of-MessageItem)
+nested_boxed : (full : List ℕ) (boxed : (the_former this).Shape) (row : Row_of-Message (arity (the_former this) boxed))
+    → nested_of full (Message' boxed row) ≡ flat_map (λ m. lowered_message full m ∷ []) (items-the_row-Message _ row)
+nested_boxed full boxed (more_of-Message keyword name open_brace shape is close_brace end_of-Message) =
+    ap (λ xs. message_of (inner full name.text) name (items-the_row-MessageItem _ is) xs ∷ []) (row_flat (inner full name.text) _ is)
+    ∙ ap (λ is. message_of (inner full name.text) name is (flat_map (nested_of (inner full name.text)) is) ∷ [])
+    (sym (items_shown-the_row-MessageItem-0 shape is))
+
+abbrev row_of : MessageItem → (n : Count) × Row_of-Message n
+row_of (Message' boxed row) = (_, row)
+row_of _ = (_, end_of-Message)
 
 pub nested_message : (full : List ℕ) (m : Message) → nested_of full (of.Message m) ≡ lowered_message full m ∷ []
 nested_message full m =
-    let row = row_of (of.Message m) in
-    ap (λ xs. message_of (inner full m.name.text) m.name (items-the_row-MessageItem row.0 row.1) xs ∷ []) (row_flat (inner full m.name.text) row.0 row.1)
-    ∙ ap (λ is. message_of (inner full m.name.text) m.name is (flat_map (nested_of (inner full m.name.text)) is) ∷ [])
-    (items_hidden-the_row-MessageItem-0 m.items)
+    nested_boxed full _ (row_of (of.Message m)).1 ∙ ap (flat_map (λ m. lowered_message full m ∷ [])) (items_hidden-the_row-Message-1 m)
 
 -- one more statement, and what it gives
 pub one_more : {X Y : Type 0} (f : X → List Y) (xs : List X) (i : ℕ) (x : X) (done new : List Y) → i < length xs → x ≡ get_or xs i x

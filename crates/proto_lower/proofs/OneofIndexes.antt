@@ -57,7 +57,7 @@ fields-indexed full least real next (message_item.Oneof o ∷ is) within =
     members-indexed least next real o.items (fields_from full (real + 1) next is) (omega (arith, within))
     (fields-indexed full least (real + 1) next is (omega (arith, within)))
 fields-indexed full least real next (message_item.Option o ∷ is) within = fields-indexed full least real next is within
-fields-indexed full least real next (message_item.Message' keyword name open_brace shape row close_brace ∷ is) within =
+fields-indexed full least real next (message_item.Message' boxed message ∷ is) within =
     fields-indexed full least real next is within
 fields-indexed full least real next (message_item.Enum e ∷ is) within = fields-indexed full least real next is within
 fields-indexed full least real next (message_item.Reserved r ∷ is) within = fields-indexed full least real next is within

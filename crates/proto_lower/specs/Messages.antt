@@ -4,7 +4,7 @@ use Rattle.proto_base.specs.declared.place.Place.{Place}
 use Rattle.proto_tree.specs.Name.{Identifier}
 use Rattle.proto_tree.specs.declared.map_field.MapField.{MapField}
 use Rattle.proto_tree.specs.declared.message.Message.{Message}
-use Rattle.proto_tree.specs.declared.message.MessageItem.{MessageItem, Row_of-MessageItem, end_of-MessageItem, more_of-MessageItem, items-the_row-MessageItem}
+use Rattle.proto_tree.specs.declared.message.MessageItem.{MessageItem, Row_of-MessageItem, end_of-MessageItem, more_of-MessageItem, end_of-Message, more_of-Message, items-the_row-MessageItem}
 use Rattle.proto_tree.specs.declared.message.MessageItem as message_item
 use Rattle.proto_desc.specs.declared.enumeration.EnumDesc.{EnumDesc}
 use Rattle.proto_desc.specs.declared.field.FieldDesc.{FieldDesc}
@@ -86,7 +86,7 @@ message_of full name is inner_messages = roll-MessageDesc (record {
 -- the nested messages that a statement of the message with this full name gives, and those that statements give
 abbrev mutual
   pub nested_of : List ℕ → MessageItem → List MessageDesc
-  nested_of full (message_item.Message' keyword name open_brace shape is close_brace) =
+  nested_of full (message_item.Message' boxed (more_of-Message keyword name open_brace shape is close_brace end_of-Message)) =
       message_of (inner full name.text) name (items-the_row-MessageItem _ is) (nested_row (inner full name.text) is)
       ∷ []
   nested_of full (message_item.Map m) = entry_of m ∷ []

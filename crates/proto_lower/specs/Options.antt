@@ -12,6 +12,8 @@ use Rattle.proto_tree.specs.declared.list.Separated.{Separated}
 use Rattle.proto_tree.specs.declared.message.MessageItem.{MessageItem}
 use Rattle.proto_tree.specs.declared.message.MessageItem as message_item
 use Rattle.proto_tree.specs.declared.name.FullName.{FullName}
+use Rattle.proto_tree.specs.declared.oneof.OneofItem.{OneofItem}
+use Rattle.proto_tree.specs.declared.oneof.OneofItem.TheVariants as oneof_item
 use Rattle.proto_tree.specs.declared.option.Options.{Options}
 use Rattle.proto_tree.specs.declared.option.Setting.{Setting}
 use Rattle.proto_tree.specs.declared.service.RpcItem.{RpcItem}
@@ -51,6 +53,10 @@ file_setting s = []
 abbrev pub message_setting : MessageItem → List Setting
 message_setting (message_item.Option o) = o.setting ∷ []
 message_setting i = []
+
+abbrev pub oneof_setting : OneofItem → List Setting
+oneof_setting (oneof_item.Option o) = o.setting ∷ []
+oneof_setting i = []
 
 abbrev pub enum_setting : EnumItem → List Setting
 enum_setting (enum_item.Option o) = o.setting ∷ []

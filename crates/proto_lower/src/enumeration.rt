@@ -3,7 +3,7 @@
 ghost use Rattle.std.specs.Prelude.{◌≡◌, IfOk, flat_map};
 ghost use Rattle.proto_lower.specs.Enums.{value_desc, value_of_item, lowered_enum};
 
-use crate::options::{bracketed_options, enum_options};
+use crate::options::{bracketed_options, options_of};
 use crate::reserved::{enum_names, enum_ranges, number_of_literal};
 use proto_base::row::Row;
 use proto_base::text::Text;
@@ -29,7 +29,7 @@ fn values<'s>(alloc: Global, items: &[EnumItem<'s>]) -> Result<Row<ValueDesc<'s>
     let mut values = Vec::new(alloc);
     for item in items {
         if let EnumItem::Value(value) = item {
-            values.push(lower_value(alloc, value)?)?;
+            values.push(lower_value(alloc, value.get())?)?;
         }
     }
     Ok(Row::from_vec(values))
@@ -44,7 +44,7 @@ pub(crate) fn lower_enum<'s>(alloc: Global, declared: &Enum<'s>) -> Result<EnumD
         name: Text::borrowed(declared.name.text),
         place: declared.name.span.start,
         values: values(alloc, items)?,
-        options: enum_options(alloc, items)?,
+        options: options_of(alloc, Element::Enum, items)?,
         reserved_ranges: enum_ranges(alloc, items)?,
         reserved_names: enum_names(alloc, items)?,
     })

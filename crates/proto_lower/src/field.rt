@@ -117,6 +117,7 @@ fn put_members<'s>(
 {
     for item in items {
         if let OneofItem::Field(field) = item {
+            let field = field.get();
             let field_type = field_kind(alloc, &field.field_type)?;
             out.push(described(
                 alloc,
@@ -161,14 +162,15 @@ pub(crate) fn fields<'s>(
     for item in items {
         match item {
             MessageItem::Field(field) => {
+                let field = field.get();
                 out.push(plain_field(alloc, field, next_made)?)?;
                 if is_optional(&field.label) {
                     next_made += 1;
                 }
             }
-            MessageItem::Map(map) => out.push(map_field(alloc, full, map)?)?,
+            MessageItem::Map(map) => out.push(map_field(alloc, full, map.get())?)?,
             MessageItem::Oneof(oneof) => {
-                put_members(alloc, &mut out, oneof.items.as_slice(), next_real)?;
+                put_members(alloc, &mut out, oneof.get().items.as_slice(), next_real)?;
                 next_real += 1;
             }
             _ => {}

@@ -6,13 +6,14 @@ ghost use Rattle.proto_lower.specs.Files.{first_package, package_desc, package_s
 
 use crate::enumeration::lower_enum;
 use crate::message::lower_message;
-use crate::options::file_options;
+use crate::options::options_of;
 use crate::service::lower_service;
 use proto_base::row::Row;
 use proto_base::text::Text;
 use proto_desc::enumeration::EnumDesc;
 use proto_desc::file::{FileDesc, ImportDesc, PackageDesc};
 use proto_desc::message::MessageDesc;
+use proto_desc::rules::Element;
 use proto_desc::service::ServiceDesc;
 use proto_tree::text::{dotted, joined};
 use proto_tree::{FileTree, Import, Package, Statement};
@@ -23,7 +24,7 @@ fn first_package<'t, 's>(statements: &'t [Statement<'s>]) -> Option<&'t Package<
 {
     for statement in statements {
         if let Statement::Package(package) = statement {
-            return Some(package);
+            return Some(package.get());
         }
     }
     None
@@ -77,7 +78,7 @@ fn imports<'s>(
     let mut imports = Vec::new(alloc);
     for statement in statements {
         if let Statement::Import(import) = statement {
-            imports.push(lower_import(alloc, import)?)?;
+            imports.push(lower_import(alloc, import.get())?)?;
         }
     }
     Ok(Row::from_vec(imports))
@@ -95,7 +96,7 @@ fn messages<'s>(
     let mut messages = Vec::new(alloc);
     for statement in statements {
         if let Statement::Message(message) = statement {
-            messages.push(lower_message(alloc, scope, message)?)?;
+            messages.push(lower_message(alloc, scope, message.get())?)?;
         }
     }
     Ok(Row::from_vec(messages))
@@ -120,7 +121,7 @@ fn enums<'s>(alloc: Global, statements: &[Statement<'s>]) -> Result<Row<EnumDesc
     let mut enums = Vec::new(alloc);
     for statement in statements {
         if let Statement::Enum(declared) = statement {
-            enums.push(lower_enum(alloc, declared)?)?;
+            enums.push(lower_enum(alloc, declared.get())?)?;
         }
     }
     Ok(Row::from_vec(enums))
@@ -135,7 +136,7 @@ fn services<'s>(
     let mut services = Vec::new(alloc);
     for statement in statements {
         if let Statement::Service(service) = statement {
-            services.push(lower_service(alloc, service)?)?;
+            services.push(lower_service(alloc, service.get())?)?;
         }
     }
     Ok(Row::from_vec(services))
@@ -182,7 +183,7 @@ pub fn lower<'s>(
     let statements = file.statements.as_slice();
     let package = lower_package(alloc, statements)?;
     let imports = imports(alloc, statements)?;
-    let options = file_options(alloc, statements)?;
+    let options = options_of(alloc, Element::File, statements)?;
     let declared = declarations(alloc, &package, statements)?;
     Ok(FileDesc {
         name: Text::borrowed(name),

@@ -7,7 +7,7 @@ use crate::enumeration::lower_enum;
 use crate::field::{fields, inner_name, real_count};
 use crate::names::entry_name;
 use crate::oneof::oneofs;
-use crate::options::message_options;
+use crate::options::options_of;
 use crate::reserved::message_reserved;
 use crate::type_name::{field_kind, scalar_of_key};
 use proto_base::Place;
@@ -17,6 +17,7 @@ use proto_desc::enumeration::EnumDesc;
 use proto_desc::field::{FieldDesc, FieldKind, FieldLabel};
 use proto_desc::message::MessageDesc;
 use proto_desc::oneof::OneofDesc;
+use proto_desc::rules::Element;
 use proto_tree::{MapField, Message, MessageItem, Name};
 use std::alloc::{AllocError, Global};
 
@@ -82,7 +83,7 @@ fn enums<'s>(alloc: Global, items: &[MessageItem<'s>]) -> Result<Row<EnumDesc<'s
     let mut enums = Vec::new(alloc);
     for item in items {
         if let MessageItem::Enum(declared) = item {
-            enums.push(lower_enum(alloc, declared)?)?;
+            enums.push(lower_enum(alloc, declared.get())?)?;
         }
     }
     Ok(Row::from_vec(enums))
@@ -121,7 +122,7 @@ fn message_of<'s>(
         ≡ message_of full.now name.now items.now nested.entry) }
 {
     let reserved = message_reserved(alloc, items)?;
-    let options = message_options(alloc, items)?;
+    let options = options_of(alloc, Element::Message, items)?;
     let enums = enums(alloc, items)?;
     let members = members_of(alloc, full, items)?;
     Ok(MessageDesc {
@@ -150,8 +151,10 @@ fn nested_messages<'s>(
     let mut nested = Vec::new(alloc);
     for item in items {
         match item {
-            MessageItem::Map(map) => nested.push(map_entry(alloc, map)?)?,
-            MessageItem::Message(inner) => nested.push(lower_message(alloc, full, inner)?)?,
+            MessageItem::Map(map) => nested.push(map_entry(alloc, map.get())?)?,
+            MessageItem::Message(inner) => {
+                nested.push(lower_message(alloc, full, inner.get())?)?;
+            }
             MessageItem::Field(_) => {}
             MessageItem::Oneof(_) => {}
             MessageItem::Option(_) => {}

@@ -33,7 +33,7 @@ fn real_oneofs<'s>(
     let mut oneofs = Vec::new(alloc);
     for item in items {
         if let MessageItem::Oneof(oneof) = item {
-            oneofs.push(real(&oneof.name))?;
+            oneofs.push(real(&oneof.get().name))?;
         }
     }
     Ok(oneofs)

@@ -2,22 +2,16 @@
 
 ghost use Rattle.std.specs.Prelude.{◌≡◌, IfOk, flat_map, Some};
 ghost use Rattle.std.specs.Option.{option_copied};
-ghost use Rattle.proto_lower.specs.Options.{bracketed, file_setting, message_setting, enum_setting, service_setting, rpc_setting, number_of, value_of, option_by, options_of, json_name_by};
-ghost use Rattle.proto_desc.specs.declared.rules.Element.TheVariants as Element;
+ghost use Rattle.proto_lower.specs.Options.{bracketed, number_of, value_of, option_by, options_of, json_name_by};
 
 use crate::names::json_text;
-use crate::settings::{
-    first_bracketed, first_of_enum, first_of_file, first_of_message, first_of_method,
-    first_of_service,
-};
+use crate::settings::{Item, first_bracketed, first_setting};
 use proto_base::row::Row;
 use proto_base::text::Text;
 use proto_desc::options::{OptionDesc, OptionValue};
 use proto_desc::rules::{Element, OptionName, OptionRule, ValueKind, rules};
 use proto_tree::text::{joined, simple_name};
-use proto_tree::{
-    Constant, EnumItem, FullName, MessageItem, Options, RpcItem, ServiceItem, Setting, Statement,
-};
+use proto_tree::{Constant, FullName, Options, Setting};
 use std::alloc::{AllocError, Global};
 
 fn number_of(kind: ValueKind, name: &FullName) -> Option<u64>
@@ -117,88 +111,18 @@ pub(crate) fn bracketed_options<'s>(
     Ok(Row::from_vec(set))
 }
 
-/// The options of a file.
+/// The options that the statements of an element set.
 #[tactic(auto, unfolding(crate::specs::Options::options_of))]
-pub(crate) fn file_options<'s>(
+pub(crate) fn options_of<'s, I: Item<'s>>(
     alloc: Global,
-    items: &[Statement<'s>],
+    element: Element,
+    items: &[I],
 ) -> Result<Row<OptionDesc<'s>>, AllocError>
-    ensures { IfOk result (λ set. set ≡ options_of Element.File (flat_map file_setting items.now)) }
+    ensures { IfOk result (λ set. set ≡ options_of element (flat_map I.setting_of items.now)) }
 {
     let mut set = Vec::new(alloc);
-    for rule in rules(Element::File) {
-        if let Some(option) = lower_option(alloc, rule, first_of_file(items, rule.name))? {
-            set.push(option)?;
-        }
-    }
-    Ok(Row::from_vec(set))
-}
-
-/// The options of a message.
-#[tactic(auto, unfolding(crate::specs::Options::options_of))]
-pub(crate) fn message_options<'s>(
-    alloc: Global,
-    items: &[MessageItem<'s>],
-) -> Result<Row<OptionDesc<'s>>, AllocError>
-    ensures { IfOk result (λ set. set ≡ options_of Element.Message
-        (flat_map message_setting items.now)) }
-{
-    let mut set = Vec::new(alloc);
-    for rule in rules(Element::Message) {
-        if let Some(option) = lower_option(alloc, rule, first_of_message(items, rule.name))? {
-            set.push(option)?;
-        }
-    }
-    Ok(Row::from_vec(set))
-}
-
-/// The options of an enum.
-#[tactic(auto, unfolding(crate::specs::Options::options_of))]
-pub(crate) fn enum_options<'s>(
-    alloc: Global,
-    items: &[EnumItem<'s>],
-) -> Result<Row<OptionDesc<'s>>, AllocError>
-    ensures { IfOk result (λ set. set ≡ options_of Element.Enum (flat_map enum_setting items.now)) }
-{
-    let mut set = Vec::new(alloc);
-    for rule in rules(Element::Enum) {
-        if let Some(option) = lower_option(alloc, rule, first_of_enum(items, rule.name))? {
-            set.push(option)?;
-        }
-    }
-    Ok(Row::from_vec(set))
-}
-
-/// The options of a service.
-#[tactic(auto, unfolding(crate::specs::Options::options_of))]
-pub(crate) fn service_options<'s>(
-    alloc: Global,
-    items: &[ServiceItem<'s>],
-) -> Result<Row<OptionDesc<'s>>, AllocError>
-    ensures { IfOk result (λ set. set ≡ options_of Element.Service
-        (flat_map service_setting items.now)) }
-{
-    let mut set = Vec::new(alloc);
-    for rule in rules(Element::Service) {
-        if let Some(option) = lower_option(alloc, rule, first_of_service(items, rule.name))? {
-            set.push(option)?;
-        }
-    }
-    Ok(Row::from_vec(set))
-}
-
-/// The options of a method.
-#[tactic(auto, unfolding(crate::specs::Options::options_of))]
-pub(crate) fn method_options<'s>(
-    alloc: Global,
-    items: &[RpcItem<'s>],
-) -> Result<Row<OptionDesc<'s>>, AllocError>
-    ensures { IfOk result (λ set. set ≡ options_of Element.Method
-        (flat_map rpc_setting items.now)) }
-{
-    let mut set = Vec::new(alloc);
-    for rule in rules(Element::Method) {
-        if let Some(option) = lower_option(alloc, rule, first_of_method(items, rule.name))? {
+    for rule in rules(element) {
+        if let Some(option) = lower_option(alloc, rule, first_setting(items, rule.name))? {
             set.push(option)?;
         }
     }

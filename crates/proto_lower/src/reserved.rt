@@ -108,7 +108,7 @@ fn message_ranges(alloc: Global, items: &[MessageItem]) -> Result<Row<ReservedRa
     let mut ranges = Vec::new(alloc);
     for item in items {
         if let MessageItem::Reserved(reserved) = item {
-            put_ranges(&mut ranges, &reserved.items)?;
+            put_ranges(&mut ranges, &reserved.get().items)?;
         }
     }
     Ok(Row::from_vec(ranges))
@@ -121,7 +121,7 @@ fn message_names<'s>(alloc: Global, items: &[MessageItem<'s>]) -> Result<Row<Tex
     let mut names = Vec::new(alloc);
     for item in items {
         if let MessageItem::Reserved(reserved) = item {
-            put_names(alloc, &mut names, &reserved.items)?;
+            put_names(alloc, &mut names, &reserved.get().items)?;
         }
     }
     Ok(Row::from_vec(names))
@@ -158,7 +158,7 @@ pub(crate) fn enum_ranges(
     let mut ranges = Vec::new(alloc);
     for item in items {
         if let EnumItem::Reserved(reserved) = item {
-            put_enum_ranges(&mut ranges, &reserved.items)?;
+            put_enum_ranges(&mut ranges, &reserved.get().items)?;
         }
     }
     Ok(Row::from_vec(ranges))
@@ -174,7 +174,7 @@ pub(crate) fn enum_names<'s>(
     let mut names = Vec::new(alloc);
     for item in items {
         if let EnumItem::Reserved(reserved) = item {
-            put_names(alloc, &mut names, &reserved.items)?;
+            put_names(alloc, &mut names, &reserved.get().items)?;
         }
     }
     Ok(Row::from_vec(names))

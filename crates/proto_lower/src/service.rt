@@ -3,10 +3,11 @@
 ghost use Rattle.std.specs.Prelude.{◌≡◌, IfOk, flat_map};
 ghost use Rattle.proto_lower.specs.Services.{rpc_items, method_desc, method_of, lowered_service};
 
-use crate::options::{method_options, service_options};
+use crate::options::options_of;
 use crate::type_name::type_reference;
 use proto_base::row::Row;
 use proto_base::text::Text;
+use proto_desc::rules::Element;
 use proto_desc::service::{MethodDesc, ServiceDesc};
 use proto_tree::{Rpc, RpcBody, RpcItem, Service, ServiceItem};
 use std::alloc::{AllocError, Global};
@@ -28,7 +29,7 @@ fn lower_method<'s>(alloc: Global, rpc: &Rpc<'s>) -> Result<MethodDesc<'s>, Allo
         place: rpc.name.span.start,
         input: type_reference(alloc, &rpc.input.name)?,
         output: type_reference(alloc, &rpc.output.name)?,
-        options: method_options(alloc, rpc_items(&rpc.body))?,
+        options: options_of(alloc, Element::Method, rpc_items(&rpc.body))?,
         client_streaming: rpc.input.stream.is_some(),
         server_streaming: rpc.output.stream.is_some(),
     })
@@ -40,7 +41,7 @@ fn methods<'s>(alloc: Global, items: &[ServiceItem<'s>]) -> Result<Row<MethodDes
     let mut methods = Vec::new(alloc);
     for item in items {
         if let ServiceItem::Rpc(rpc) = item {
-            methods.push(lower_method(alloc, rpc)?)?;
+            methods.push(lower_method(alloc, rpc.get())?)?;
         }
     }
     Ok(Row::from_vec(methods))
@@ -58,6 +59,6 @@ pub(crate) fn lower_service<'s>(
         name: Text::borrowed(service.name.text),
         place: service.name.span.start,
         methods: methods(alloc, items)?,
-        options: service_options(alloc, items)?,
+        options: options_of(alloc, Element::Service, items)?,
     })
 }

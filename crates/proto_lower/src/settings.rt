@@ -1,12 +1,93 @@
-//! The first setting of an option among those of an element, in source order.
+//! The settings that the statements of an element make, and the first one of an option.
 
 ghost use Rattle.std.specs.Prelude.{◌≡◌, flat_map};
-ghost use Rattle.std.specs.Option.{option_copied};
-ghost use Rattle.proto_lower.specs.Options.{is_setting, first_setting, bracketed, file_setting, message_setting, enum_setting, service_setting, rpc_setting};
+ghost use Rattle.std.specs.Option.{option_copied, option_to_list};
+ghost use Rattle.proto_lower.specs.Options.{is_setting, first_setting, bracketed, file_setting, message_setting, oneof_setting, enum_setting, service_setting, rpc_setting};
 
 use proto_desc::rules::OptionName;
 use proto_tree::text::simple_name;
-use proto_tree::{EnumItem, MessageItem, Options, RpcItem, ServiceItem, Setting, Statement};
+use proto_tree::{
+    EnumItem, MessageItem, OneofItem, Options, RpcItem, ServiceItem, Setting, Statement,
+};
+
+/// A statement of an element, which may be an option.
+pub trait Item<'s> {
+    ghost use Rattle.std.specs.Prelude.{List};
+    ghost use Rattle.proto_tree.specs.declared.option.Setting.{Setting};
+
+    /// The settings that it makes: one, or none.
+    ghost setting_of: { Self → List Setting };
+
+    /// What it sets, where it is an option.
+    fn setting(&self) -> Option<&Setting<'s>>
+        ensures { setting_of self.now ≡ option_to_list (option_copied result) };
+}
+
+impl<'s> Item<'s> for Statement<'s> {
+    ghost setting_of = { file_setting };
+
+    fn setting(&self) -> Option<&Setting<'s>> {
+        match self {
+            Statement::Option(option) => Some(&option.get().setting),
+            _ => None,
+        }
+    }
+}
+
+impl<'s> Item<'s> for MessageItem<'s> {
+    ghost setting_of = { message_setting };
+
+    fn setting(&self) -> Option<&Setting<'s>> {
+        match self {
+            MessageItem::Option(option) => Some(&option.get().setting),
+            _ => None,
+        }
+    }
+}
+
+impl<'s> Item<'s> for OneofItem<'s> {
+    ghost setting_of = { oneof_setting };
+
+    fn setting(&self) -> Option<&Setting<'s>> {
+        match self {
+            OneofItem::Option(option) => Some(&option.get().setting),
+            _ => None,
+        }
+    }
+}
+
+impl<'s> Item<'s> for EnumItem<'s> {
+    ghost setting_of = { enum_setting };
+
+    fn setting(&self) -> Option<&Setting<'s>> {
+        match self {
+            EnumItem::Option(option) => Some(&option.get().setting),
+            _ => None,
+        }
+    }
+}
+
+impl<'s> Item<'s> for ServiceItem<'s> {
+    ghost setting_of = { service_setting };
+
+    fn setting(&self) -> Option<&Setting<'s>> {
+        match self {
+            ServiceItem::Option(option) => Some(&option.get().setting),
+            _ => None,
+        }
+    }
+}
+
+impl<'s> Item<'s> for RpcItem<'s> {
+    ghost setting_of = { rpc_setting };
+
+    fn setting(&self) -> Option<&Setting<'s>> {
+        match self {
+            RpcItem::Option(option) => Some(&option.get().setting),
+            _ => None,
+        }
+    }
+}
 
 /// Whether a setting is of this option; a name with dots is of none.
 pub fn is_setting(setting: &Setting, name: OptionName) -> bool
@@ -39,82 +120,17 @@ pub(crate) fn first_bracketed<'t, 's>(
     None
 }
 
-/// The first among the statements of a file.
-pub(crate) fn first_of_file<'t, 's>(
-    items: &'t [Statement<'s>],
+/// The first among these statements.
+pub fn first_setting<'t, 's, I: Item<'s>>(
+    items: &'t [I],
     name: OptionName,
 ) -> Option<&'t Setting<'s>>
-    ensures { option_copied result ≡ first_setting name (flat_map file_setting items.now) }
+    ensures { option_copied result ≡ first_setting name (flat_map I.setting_of items.now) }
 {
     for item in items {
-        if let Statement::Option(option) = item {
-            if is_setting(&option.setting, name) {
-                return Some(&option.setting);
-            }
-        }
-    }
-    None
-}
-
-/// The first among the statements of a message.
-pub(crate) fn first_of_message<'t, 's>(
-    items: &'t [MessageItem<'s>],
-    name: OptionName,
-) -> Option<&'t Setting<'s>>
-    ensures { option_copied result ≡ first_setting name (flat_map message_setting items.now) }
-{
-    for item in items {
-        if let MessageItem::Option(option) = item {
-            if is_setting(&option.setting, name) {
-                return Some(&option.setting);
-            }
-        }
-    }
-    None
-}
-
-/// The first among the statements of an enum.
-pub fn first_of_enum<'t, 's>(items: &'t [EnumItem<'s>], name: OptionName) -> Option<&'t Setting<'s>>
-    ensures { option_copied result ≡ first_setting name (flat_map enum_setting items.now) }
-{
-    for item in items {
-        if let EnumItem::Option(option) = item {
-            if is_setting(&option.setting, name) {
-                return Some(&option.setting);
-            }
-        }
-    }
-    None
-}
-
-/// The first among the statements of a service.
-pub(crate) fn first_of_service<'t, 's>(
-    items: &'t [ServiceItem<'s>],
-    name: OptionName,
-) -> Option<&'t Setting<'s>>
-    ensures { option_copied result ≡ first_setting name (flat_map service_setting items.now) }
-{
-    for item in items {
-        if let ServiceItem::Option(option) = item {
-            if is_setting(&option.setting, name) {
-                return Some(&option.setting);
-            }
-        }
-    }
-    None
-}
-
-/// The first among the statements of a method.
-pub(crate) fn first_of_method<'t, 's>(
-    items: &'t [RpcItem<'s>],
-    name: OptionName,
-) -> Option<&'t Setting<'s>>
-    ensures { option_copied result ≡ first_setting name (flat_map rpc_setting items.now) }
-{
-    for item in items {
-        if let RpcItem::Option(option) = item {
-            if is_setting(&option.setting, name) {
-                return Some(&option.setting);
+        if let Some(setting) = item.setting() {
+            if is_setting(setting, name) {
+                return Some(setting);
             }
         }
     }

@@ -45,7 +45,7 @@ fn head(entries: &[Entry], position: usize, next: u32) -> u32
 }
 
 /// The chains of entries. There are more slots than entries, so that most chains have one entry or none.
-pub(crate) fn chained(alloc: Global, entries: &[Entry]) -> Result<Chains, AllocError>
+pub(crate) fn chain_entries(alloc: Global, entries: &[Entry]) -> Result<Chains, AllocError>
     requires { length entries.now ≤ 1_048_576 }
     ensures { IfOk result (λ chains. AreChained (map occurrence entries.now) (length entries.now)
         chains.slots.items chains.links.items) }

@@ -12,7 +12,7 @@ ghost use Rattle.proto_names.specs.Index.{AreInNameOrder};
 ghost use Rattle.proto_names.specs.Occurrences.{Occurrence};
 ghost use Rattle.proto_names.specs.declared.entries.Entry.{Entry};
 
-use crate::chains::{Chains, chained};
+use crate::chains::{Chains, chain_entries};
 use crate::entries::{Entries, Entry, has_name};
 use crate::halving::count_named;
 use crate::scope::Scope;
@@ -44,7 +44,7 @@ impl EntryTable {
         requires { length entries ≤ 1_048_576 }
         ensures { IfOk result (λ table. table ≡ entries) }
     {
-        let chains = chained(alloc, entries.as_slice())?;
+        let chains = chain_entries(alloc, entries.as_slice())?;
         Ok(EntryTable { entries, chains })
     }
 

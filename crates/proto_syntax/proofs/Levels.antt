@@ -3,7 +3,7 @@ use Rattle.std.proofs.Common.{◌≡◌, ℕ, zero, suc, true, false, List, [], 
 use Rattle.std.specs.Prelude.{codes}
 use Rattle.std.specs.Str.{byte}
 use Rattle.proto_tokens.specs.Token.{Spelled}
-use Rattle.proto_syntax.specs.Grammar.{Tree, Right, OneOf, Symbol, Grammar}
+use Rattle.proto_syntax.specs.Grammar.{Tree, Left, Right, OneOf, Symbol, Grammar}
 use Rattle.proto_syntax.specs.Reading.{read, Read, next_fits, all_apart, begins, goes_on, can_be_empty, decides}
 use Rattle.proto_syntax.specs.Language.{str, parts, full, named_but, type_but, signed, constant_number, constant, setting, options, option, rpc_type, rpc_item, rpc_body, rpc, service_item, service, erange, ereserved, value, enum_item, range, reserved, declarator, member, oneof_item, oneof, map_type, map_or_field, field_head, field, message_item, message, import, syntax, statement, file}
 use Rattle.proto_syntax.proofs.Begins.{apart_other}
@@ -102,6 +102,12 @@ begins_import = refl
 pub begins_service : begins service ≡ OneOf (codes "service" ∷ []) ∷ []
 unfolding service
 begins_service = refl
+
+-- at the word `option`, a statement of a file is read as one
+pub statement_at_option : (m : Grammar) → (ts us : List Spelled) (x : Tree) → next_fits (OneOf (codes "import" ∷ []) ∷ []) ts ≡ false
+    → next_fits (OneOf (codes "package" ∷ []) ∷ []) ts ≡ false → next_fits (OneOf (codes "option" ∷ []) ∷ []) ts ≡ true
+    → read option ts ≡ Read x us → read (statement m) ts ≡ Read (Right (Right (Left x))) us
+statement_at_option m ts us x e1 e2 e3 r = rw (begins_import, e1, e2, begins_option, e3, r) refl
 
 -- what does not begin with the symbol that closes a block
 closed : (g : Grammar) → all_apart (begins g) (Symbol (byte "}") ∷ []) ≡ true → (ts : List Spelled) → next_fits (Symbol (byte "}") ∷ []) ts ≡ true

@@ -5,6 +5,7 @@ use crate::name::Name;
 use crate::option::{OptionStatement, Options};
 use crate::reserved::Reserved;
 use proto_base::Span;
+use proto_base::boxed::Boxed;
 use proto_base::row::Row;
 
 /// A value of an enum.
@@ -20,9 +21,9 @@ pub struct EnumValue<'s> {
 /// A statement of an enum.
 #[derive(Drop)]
 pub enum EnumItem<'s> {
-    Value(EnumValue<'s>),
-    Option(OptionStatement<'s>),
-    Reserved(Reserved<'s, SignedNumber>),
+    Value(Boxed<EnumValue<'s>>),
+    Option(Boxed<OptionStatement<'s>>),
+    Reserved(Boxed<Reserved<'s, SignedNumber>>),
     Empty(Span),
 }
 

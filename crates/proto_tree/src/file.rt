@@ -7,6 +7,7 @@ use crate::name::FullName;
 use crate::option::OptionStatement;
 use crate::service::Service;
 use proto_base::Span;
+use proto_base::boxed::Boxed;
 use proto_base::row::Row;
 
 /// The `syntax` statement.
@@ -38,12 +39,12 @@ pub struct Package<'s> {
 /// A statement of a file.
 #[derive(Drop)]
 pub enum Statement<'s> {
-    Import(Import<'s>),
-    Package(Package<'s>),
-    Option(OptionStatement<'s>),
-    Message(Message<'s>),
-    Enum(Enum<'s>),
-    Service(Service<'s>),
+    Import(Boxed<Import<'s>>),
+    Package(Boxed<Package<'s>>),
+    Option(Boxed<OptionStatement<'s>>),
+    Message(Boxed<Message<'s>>),
+    Enum(Boxed<Enum<'s>>),
+    Service(Boxed<Service<'s>>),
     Empty(Span),
 }
 

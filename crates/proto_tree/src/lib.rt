@@ -1,6 +1,8 @@
 //! The syntax tree of a file: one type for each element of the language, with the span of every token.
 //!
 //! Proto3 language specification, "Lexical Elements" to "Proto File".
+//!
+//! Statements stand behind pointers: a list of statements has for each the room of the smallest, a semicolon.
 #![tactic(auto)]
 
 mod constant;

@@ -9,19 +9,20 @@ use crate::oneof::Oneof;
 use crate::option::OptionStatement;
 use crate::reserved::Reserved;
 use proto_base::Span;
+use proto_base::boxed::Boxed;
 use proto_base::row::Row;
 
 /// A statement of a message.
 #[derive(Drop)]
 #[cycle(tree)]
 pub enum MessageItem<'s> {
-    Field(Field<'s>),
-    Map(MapField<'s>),
-    Oneof(Oneof<'s>),
-    Option(OptionStatement<'s>),
-    Message(Message<'s>),
-    Enum(Enum<'s>),
-    Reserved(Reserved<'s, NumberLiteral>),
+    Field(Boxed<Field<'s>>),
+    Map(Boxed<MapField<'s>>),
+    Oneof(Boxed<Oneof<'s>>),
+    Option(Boxed<OptionStatement<'s>>),
+    Message(Boxed<Message<'s>>),
+    Enum(Boxed<Enum<'s>>),
+    Reserved(Boxed<Reserved<'s, NumberLiteral>>),
     Empty(Span),
 }
 

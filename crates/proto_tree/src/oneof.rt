@@ -4,6 +4,7 @@ use crate::field::{Declarator, FieldType};
 use crate::name::Name;
 use crate::option::OptionStatement;
 use proto_base::Span;
+use proto_base::boxed::Boxed;
 use proto_base::row::Row;
 
 /// A field of a oneof: a member.
@@ -16,8 +17,8 @@ pub struct OneofField<'s> {
 /// A statement of a oneof.
 #[derive(Drop)]
 pub enum OneofItem<'s> {
-    Field(OneofField<'s>),
-    Option(OptionStatement<'s>),
+    Field(Boxed<OneofField<'s>>),
+    Option(Boxed<OptionStatement<'s>>),
     Empty(Span),
 }
 

@@ -3,6 +3,7 @@
 use crate::name::{Name, TypeName};
 use crate::option::OptionStatement;
 use proto_base::Span;
+use proto_base::boxed::Boxed;
 use proto_base::row::Row;
 
 /// The type of a method's input or output, in parentheses.
@@ -17,7 +18,7 @@ pub struct RpcType<'s> {
 /// A statement of a method.
 #[derive(Drop)]
 pub enum RpcItem<'s> {
-    Option(OptionStatement<'s>),
+    Option(Boxed<OptionStatement<'s>>),
     Empty(Span),
 }
 
@@ -50,8 +51,8 @@ pub struct Rpc<'s> {
 /// A statement of a service.
 #[derive(Drop)]
 pub enum ServiceItem<'s> {
-    Rpc(Rpc<'s>),
-    Option(OptionStatement<'s>),
+    Rpc(Boxed<Rpc<'s>>),
+    Option(Boxed<OptionStatement<'s>>),
     Empty(Span),
 }
 

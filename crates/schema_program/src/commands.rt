@@ -1,7 +1,7 @@
 //! The commands: what each reads, and what it writes.
 
 use crate::explanation::{write_kind, write_kinds};
-use crate::failure::{Failure, located};
+use crate::failure::{Failure, locate};
 use crate::headline::set_of_sources;
 use crate::one_source::describe;
 use crate::whole_file::write_whole;
@@ -70,7 +70,7 @@ where
     match describe(rt, source.name, source.text, &limits) {
         Ok(bytes) => write_line(output, hex::encode(rt.alloc(), bytes)?.as_str()),
         Err(CompileError::NoMemory) => Err(Failure::NoMemory),
-        Err(CompileError::First(fault)) => Err(located(fault, &[source])),
+        Err(CompileError::First(fault)) => Err(locate(fault, &[source])),
     }
 }
 
@@ -107,7 +107,7 @@ where
             None => write_bytes(output, &set),
         },
         Err(CompileError::NoMemory) => Err(Failure::NoMemory),
-        Err(CompileError::First(fault)) => Err(located(fault, &sources)),
+        Err(CompileError::First(fault)) => Err(locate(fault, &sources)),
     }
 }
 
@@ -121,7 +121,7 @@ where
     match compile(rt, &sources, limits, plan, &NoGate) {
         Ok(compiled) => Ok(compiled),
         Err(CompileError::NoMemory) => Err(Failure::NoMemory),
-        Err(CompileError::First(fault)) => Err(located(fault, &sources)),
+        Err(CompileError::First(fault)) => Err(locate(fault, &sources)),
     }
 }
 

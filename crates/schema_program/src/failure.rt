@@ -106,7 +106,7 @@ impl From<ServeFault> for Failure {
 }
 
 /// A fault with its line and column in the text of its file. A fault of the list of sources has no file, and stands at 1, 1.
-pub(crate) fn located(fault: Fault, sources: &[Source]) -> Failure
+pub(crate) fn locate(fault: Fault, sources: &[Source]) -> Failure
     requires within { (source : Source) → Contains sources.now source
         → name_of source ≡ string_bytes fault.file → fault.place.offset ≤ length (text_of source) }
     requires short { fault.place.offset < 2 ^ 32 - 1 }

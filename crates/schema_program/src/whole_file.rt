@@ -22,7 +22,7 @@ where
 }
 
 /// The path of the file that a path leads to by links.
-fn followed<R>(rt: &R, path: &str) -> Result<PathBuf, Failure>
+fn follow_links<R>(rt: &R, path: &str) -> Result<PathBuf, Failure>
 where
     R: Files + AllocGlobal,
 {
@@ -66,7 +66,7 @@ where
     R: Files + RandomSource + AllocGlobal,
 {
     match fs::metadata(rt, path) {
-        Ok(found) if found.is_file() => replace(rt, followed(rt, path)?.as_str(), bytes),
+        Ok(found) if found.is_file() => replace(rt, follow_links(rt, path)?.as_str(), bytes),
         Ok(found) if !found.is_dir() => {
             write_device(rt, path, bytes).map_err(|_| Failure::Output)
         }

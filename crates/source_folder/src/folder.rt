@@ -8,7 +8,7 @@ ghost use Rattle.source_folder.specs.Ordered.{paths_of};
 
 use crate::fault::FolderFault;
 use crate::order::{have_twins, sort_by_path};
-use crate::paths::joined;
+use crate::paths::join_path;
 use crate::walk::{Source, sources_below};
 use proto_base::{Limit, Limits};
 use std::alloc::{AllocGlobal, Global};
@@ -64,7 +64,7 @@ fn read_sources<R: Files + AllocGlobal>(
         let Some(size) = source.size else {
             return Err(FolderFault::Reading);
         };
-        let path = joined(alloc, root, source.path.as_str())?;
+        let path = join_path(alloc, root, source.path.as_str())?;
         let file = File::open(rt, path.as_str()).map_err(FolderFault::reading)?;
         let text = first_bytes(alloc, file, size, most)?;
         texts.push(NamedText {

@@ -7,7 +7,7 @@ ghost use Rattle.source_folder.specs.Paths.{joined_path};
 use std::alloc::{AllocError, Global};
 
 /// A path and what is named below it. An empty one adds nothing.
-pub(crate) fn joined(alloc: Global, path: &str, name: &str) -> Result<String, AllocError>
+pub(crate) fn join_path(alloc: Global, path: &str, name: &str) -> Result<String, AllocError>
     ensures { IfOk result (λ joined. string_bytes joined ≡ joined_path path.now name.now) }
 {
     let mut joined = String::from_str(alloc, path)?;

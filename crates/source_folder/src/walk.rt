@@ -4,7 +4,7 @@ ghost use Rattle.std.specs.Prelude.{◌≡◌, ◌↔◌, ◌≤◌, Err, IfOk, 
 ghost use Rattle.source_folder.specs.Paths.{ends_in_proto};
 
 use crate::fault::{FolderFault, is_no_memory};
-use crate::paths::{is_proto, joined};
+use crate::paths::{is_proto, join_path};
 use std::alloc::{AllocGlobal, Global};
 use std::fs::{self, Metadata};
 use std::io;
@@ -150,10 +150,10 @@ impl Walk {
         ensures counted { OnOk result (most_sources self.new ≤ most_sources self.old) }
     {
         let alloc = rt.alloc();
-        let place = joined(alloc, root, folder.path.as_str())?;
+        let place = join_path(alloc, root, folder.path.as_str())?;
         for entry in fs::read_dir(&rt, place.as_str()).map_err(FolderFault::listing)? {
             let entry = entry.map_err(FolderFault::listing)?;
-            let path = joined(alloc, folder.path.as_str(), entry.file_name())?;
+            let path = join_path(alloc, folder.path.as_str(), entry.file_name())?;
             let kind = match fs::metadata(rt, entry.path()) {
                 Ok(metadata) => Kind::of(&metadata),
                 Err(error) => Kind::behind(&error)?,

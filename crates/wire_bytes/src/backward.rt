@@ -32,7 +32,7 @@ impl Model for Backward {
 /// Makes the free room of a buffer at least this long, by doubling the buffer, and gives its length.
 #[cold]
 #[inline(never)]
-fn widened(bytes: &mut Vec<u8>, room: usize, needed: usize) -> Result<usize, AllocError>
+fn widen(bytes: &mut Vec<u8>, room: usize, needed: usize) -> Result<usize, AllocError>
     requires { room ≤ vec_len bytes.old }
     ensures enough { IfOk result (λ wider. needed ≤ wider) }
     ensures within { IfOk result (λ wider. wider ≤ vec_len bytes.new) }
@@ -71,7 +71,7 @@ impl Backward {
         ensures { OnOk result (self.new ≡ byte ∷ self.old) }
     {
         if self.room == 0 {
-            self.room = widened(&mut self.bytes, self.room, 1)?;
+            self.room = widen(&mut self.bytes, self.room, 1)?;
         }
         self.room -= 1;
         self.bytes[self.room] = byte;
@@ -83,7 +83,7 @@ impl Backward {
         ensures { OnOk result (self.new ≡ bytes.now ++ self.old) }
     {
         if self.room < bytes.len() {
-            self.room = widened(&mut self.bytes, self.room, bytes.len())?;
+            self.room = widen(&mut self.bytes, self.room, bytes.len())?;
         }
         let end = self.room;
         self.room -= bytes.len();

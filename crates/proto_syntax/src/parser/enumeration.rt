@@ -10,6 +10,7 @@ ghost use Rattle.proto_syntax.specs.Gives.{Reads};
 use crate::parser::Parser;
 use crate::parser::stop::Stop;
 use proto_base::Span;
+use proto_base::boxed::Boxed;
 use proto_base::row::Row;
 use proto_tree::{Enum, EnumItem, EnumValue};
 
@@ -40,18 +41,18 @@ impl<'s, 't> Parser<'s, 't> {
     {
         if self.at_keyword("option") {
             let option = self.option()?;
-            return Ok(EnumItem::Option(option));
+            return Ok(EnumItem::Option(Boxed::new(self.alloc, option)?));
         }
         if self.at_keyword("reserved") {
             let reserved = self.enum_reserved()?;
-            return Ok(EnumItem::Reserved(reserved));
+            return Ok(EnumItem::Reserved(Boxed::new(self.alloc, reserved)?));
         }
         if self.at_symbol(';') {
             let span = self.symbol(';')?;
             return Ok(EnumItem::Empty(span));
         }
         let value = self.enum_value()?;
-        Ok(EnumItem::Value(value))
+        Ok(EnumItem::Value(Boxed::new(self.alloc, value)?))
     }
 
     /// The statements of an enum, and the brace that closes it.

@@ -8,6 +8,7 @@ ghost use Rattle.proto_syntax.specs.Gives.{Gives, Reads, spellings};
 
 use crate::parser::Parser;
 use crate::parser::stop::Stop;
+use proto_base::boxed::Boxed;
 use proto_base::row::Row;
 use proto_tree::{FileTree, Import, Package, Statement, Syntax};
 
@@ -67,22 +68,28 @@ impl<'s, 't> Parser<'s, 't> {
             self.new.rest.now }
     {
         if self.at_keyword("import") {
-            return self.import().map(Statement::Import);
+            let import = self.import()?;
+            return Ok(Statement::Import(Boxed::new(self.alloc, import)?));
         }
         if self.at_keyword("package") {
-            return self.package().map(Statement::Package);
+            let package = self.package()?;
+            return Ok(Statement::Package(Boxed::new(self.alloc, package)?));
         }
         if self.at_keyword("option") {
-            return self.option().map(Statement::Option);
+            let option = self.option()?;
+            return Ok(Statement::Option(Boxed::new(self.alloc, option)?));
         }
         if self.at_keyword("message") {
-            return self.message(depth).map(Statement::Message);
+            let message = self.message(depth)?;
+            return Ok(Statement::Message(Boxed::new(self.alloc, message)?));
         }
         if self.at_keyword("enum") {
-            return self.enumeration().map(Statement::Enum);
+            let declared = self.enumeration()?;
+            return Ok(Statement::Enum(Boxed::new(self.alloc, declared)?));
         }
         if self.at_keyword("service") {
-            return self.service().map(Statement::Service);
+            let service = self.service()?;
+            return Ok(Statement::Service(Boxed::new(self.alloc, service)?));
         }
         let span = self.symbol(';')?;
         Ok(Statement::Empty(span))

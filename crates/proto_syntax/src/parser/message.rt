@@ -10,6 +10,7 @@ ghost use Rattle.proto_syntax.specs.Gives.{Gives, Reads, spellings};
 use crate::parser::Parser;
 use crate::parser::stop::Stop;
 use proto_base::Span;
+use proto_base::boxed::Boxed;
 use proto_base::row::Row;
 use proto_tree::{Field, FieldType, FullName, MapField, Message, MessageItem, TypeName};
 
@@ -25,25 +26,25 @@ impl<'s, 't> Parser<'s, 't> {
         if self.at_symbol('<') {
             let map_type = self.map_type()?;
             let declarator = self.declarator()?;
-            return Ok(MessageItem::Map(MapField {
+            let map = MapField {
                 keyword: first.span,
                 map_type,
                 declarator,
-            }));
+            };
+            return Ok(MessageItem::Map(Boxed::new(self.alloc, map)?));
         }
         let rest = self.parts()?;
         let declarator = self.declarator()?;
-        Ok(MessageItem::Field(Field {
+        let name = FullName {
+            first,
+            rest: Row::from_vec(rest),
+        };
+        let field = Field {
             label: None,
-            field_type: FieldType::Named(TypeName {
-                dot: None,
-                name: FullName {
-                    first,
-                    rest: Row::from_vec(rest),
-                },
-            }),
+            field_type: FieldType::Named(TypeName { dot: None, name }),
             declarator,
-        }))
+        };
+        Ok(MessageItem::Field(Boxed::new(self.alloc, field)?))
     }
 
     /// A statement of a message.
@@ -54,19 +55,24 @@ impl<'s, 't> Parser<'s, 't> {
             self.new.rest.now }
     {
         if self.at_keyword("message") {
-            return self.message(depth).map(MessageItem::Message);
+            let nested = self.message(depth)?;
+            return Ok(MessageItem::Message(Boxed::new(self.alloc, nested)?));
         }
         if self.at_keyword("enum") {
-            return self.enumeration().map(MessageItem::Enum);
+            let declared = self.enumeration()?;
+            return Ok(MessageItem::Enum(Boxed::new(self.alloc, declared)?));
         }
         if self.at_keyword("option") {
-            return self.option().map(MessageItem::Option);
+            let option = self.option()?;
+            return Ok(MessageItem::Option(Boxed::new(self.alloc, option)?));
         }
         if self.at_keyword("oneof") {
-            return self.oneof().map(MessageItem::Oneof);
+            let oneof = self.oneof()?;
+            return Ok(MessageItem::Oneof(Boxed::new(self.alloc, oneof)?));
         }
         if self.at_keyword("reserved") {
-            return self.reserved().map(MessageItem::Reserved);
+            let reserved = self.reserved()?;
+            return Ok(MessageItem::Reserved(Boxed::new(self.alloc, reserved)?));
         }
         if self.at_keyword("map") {
             return self.map_or_field();
@@ -76,7 +82,7 @@ impl<'s, 't> Parser<'s, 't> {
             return Ok(MessageItem::Empty(span));
         }
         let field = self.field()?;
-        Ok(MessageItem::Field(field))
+        Ok(MessageItem::Field(Boxed::new(self.alloc, field)?))
     }
 
     /// The statements of a message, and the brace that closes it.

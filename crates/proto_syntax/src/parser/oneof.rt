@@ -10,6 +10,7 @@ ghost use Rattle.proto_syntax.specs.Gives.{Reads};
 use crate::parser::Parser;
 use crate::parser::stop::Stop;
 use proto_base::Span;
+use proto_base::boxed::Boxed;
 use proto_base::row::Row;
 use proto_tree::{Oneof, OneofItem};
 
@@ -21,14 +22,14 @@ impl<'s, 't> Parser<'s, 't> {
     {
         if self.at_keyword("option") {
             let option = self.option()?;
-            return Ok(OneofItem::Option(option));
+            return Ok(OneofItem::Option(Boxed::new(self.alloc, option)?));
         }
         if self.at_symbol(';') {
             let span = self.symbol(';')?;
             return Ok(OneofItem::Empty(span));
         }
         let field = self.member()?;
-        Ok(OneofItem::Field(field))
+        Ok(OneofItem::Field(Boxed::new(self.alloc, field)?))
     }
 
     /// The statements of a oneof, and the brace that closes it.

@@ -12,6 +12,7 @@ use crate::parser::Parser;
 use crate::parser::position::Position;
 use crate::parser::stop::Stop;
 use proto_base::Span;
+use proto_base::boxed::Boxed;
 use proto_base::row::Row;
 use proto_tree::{Rpc, RpcBlock, RpcBody, RpcItem, RpcType, Service, ServiceItem, TypeName};
 
@@ -54,7 +55,7 @@ impl<'s, 't> Parser<'s, 't> {
     {
         if self.at_keyword("option") {
             let option = self.option()?;
-            return Ok(RpcItem::Option(option));
+            return Ok(RpcItem::Option(Boxed::new(self.alloc, option)?));
         }
         let span = self.symbol(';')?;
         Ok(RpcItem::Empty(span))
@@ -121,11 +122,11 @@ impl<'s, 't> Parser<'s, 't> {
     {
         if self.at_keyword("rpc") {
             let rpc = self.rpc()?;
-            return Ok(ServiceItem::Rpc(rpc));
+            return Ok(ServiceItem::Rpc(Boxed::new(self.alloc, rpc)?));
         }
         if self.at_keyword("option") {
             let option = self.option()?;
-            return Ok(ServiceItem::Option(option));
+            return Ok(ServiceItem::Option(Boxed::new(self.alloc, option)?));
         }
         let span = self.symbol(';')?;
         Ok(ServiceItem::Empty(span))

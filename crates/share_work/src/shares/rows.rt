@@ -182,11 +182,11 @@ where
             up (length high.entry.now) rows.items) }
     { rows_from(rt, job, up, high) };
     let (first, second) = join_mut(rt, &mut front, &mut back);
-    joined_rows(first, second)
+    join_rows(first, second)
 }
 
 /// The rows of both halves, unless memory ran out in one of them.
-fn joined_rows<O: Drop>(
+fn join_rows<O: Drop>(
     low: Result<VecDeque<Row<O>>, AllocError>,
     high: Result<VecDeque<Row<O>>, AllocError>,
 ) -> Result<VecDeque<Row<O>>, AllocError>

@@ -7,8 +7,8 @@ use Rattle.digraph.proofs.Closing.{each_push, length_push}
 use Rattle.digraph.proofs.Rows.{written}
 use Rattle.digraph.proofs.closures.union_lists.Goals as goal
 
-pub union_of-requires-clause-nodes : goal.union_of-requires-clause-nodes
-union_of-requires-clause-nodes c b w =
+pub union_with-requires-clause-nodes : goal.union_with-requires-clause-nodes
+union_with-requires-clause-nodes c b w =
     let below = c.requires.within c.loop-own.own b (subst (λ (xs : List ℕ). Contains xs b) c.row.ensures w) in
     omega (arith, below, c.requires.size)
 
@@ -17,8 +17,8 @@ loop-own-preserved c =
     let g = graph_of c.args.graph.now in
     let lists = c.args.lists.now in
     let own = c.loop-own.own in
-    let room : length c.union_of.new.marks ≡ length c.loop-own.marks.items = omega (arith, c.deref_mut.ensures.len) in
-    let same = written c.union_of.new.marks c.loop-own.marks.items c.loop-own.marks.len c.loop-own.marks.ok.0 room in
+    let room : length c.union_with.new.marks ≡ length c.loop-own.marks.items = omega (arith, c.deref_mut.ensures.len) in
+    let same = written c.union_with.new.marks c.loop-own.marks.items c.loop-own.marks.len c.loop-own.marks.ok.0 room in
     let union : IsUnion lists (successors g own) own c.in_ok-union.union.items =
     subst (λ (xs : List ℕ). IsUnion lists xs own c.in_ok-union.union.items) c.row.ensures c.in_ok-union.ensures.union in
     record {

@@ -11,7 +11,7 @@ pub loop-item-preserved : goal.loop-item-preserved
 loop-item-preserved c = elim c.match-item.branch [
   | in-Field+in_ok-member_fault w ↦ (
       let here : IsLeast (Each (optioned_member c.item-item.result) FieldOptionsBreak) w.in_ok-member_fault.field-0 =
-      rw w.in-Field.is (least_single FieldOptionsBreak _ w.in_ok-member_fault.field-0 w.in_ok-member_fault.ensures) in
+      rw w.in-Field.is (least_single FieldOptionsBreak _ w.in_ok-member_fault.field-0 (rw w.get.ensures at w.in_ok-member_fault.ensures)) in
       rw w.first-is (flat_more FieldOptionsBreak optioned_member c.args.items.now c.loop-item.item-index c.item-item.result c.loop-item.first
       w.in_ok-member_fault.field-0 w.lesser-first.result (omega arith) c.item-item.is c.loop-item.invariant here w.lesser-first.ensures))
   | in_default w ↦ (

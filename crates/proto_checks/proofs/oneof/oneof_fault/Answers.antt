@@ -1,7 +1,7 @@
 use Rattle.std.proofs.Common.{◌∙◌}
+use Rattle.proto_lower.specs.Options.{oneof_setting}
 use Rattle.std.specs.Prelude.{flat_map}
 use Rattle.proto_desc.specs.declared.rules.Element.TheVariants as element
-use Rattle.proto_checks.specs.Elements.{oneof_setting}
 use Rattle.proto_checks.proofs.ElementUnions.{oneof_least}
 use Rattle.proto_checks.proofs.oneof.oneof_fault.Goals as goal
 

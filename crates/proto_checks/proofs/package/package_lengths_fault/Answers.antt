@@ -11,7 +11,7 @@ pub loop-statement-preserved : goal.loop-statement-preserved
 loop-statement-preserved c = elim c.match-statement.branch [
   | in-Package w ↦ (
       let here : IsLeast (Each (package_in c.statement-item.result) (PackageTooLong c.args.limits.now)) w.length_fault.result =
-      rw w.in-Package.is (least_single (PackageTooLong c.args.limits.now) _ w.length_fault.result w.length_fault.ensures) in
+      rw w.in-Package.is (least_single (PackageTooLong c.args.limits.now) _ w.length_fault.result (rw w.get.ensures at w.length_fault.ensures)) in
       rw w.first-is (flat_more (PackageTooLong c.args.limits.now) package_in c.args.statements.now c.loop-statement.statement-index c.statement-item.result
       c.loop-statement.first w.length_fault.result w.lesser-first.result (omega arith) c.statement-item.is c.loop-statement.invariant here
       w.lesser-first.ensures))

@@ -14,7 +14,7 @@ loop-statement-preserved c =
     elim c.match-statement.branch [
       | in-Package w ↦ rw (w.first-is, w.is_named-is) (repeated_next ss c.loop-statement.statement-index c.statement-item.result w.in-Package.«package»
           c.loop-statement.is_named c.loop-statement.first w.again_fault.result w.lesser-first.result (omega arith) c.statement-item.is
-          (rw w.in-Package.is refl) c.loop-statement.invariant w.again_fault.ensures w.lesser-first.ensures)
+          (rw w.in-Package.is refl) c.loop-statement.invariant (rw w.get.ensures at w.again_fault.ensures) w.lesser-first.ensures)
       | in_default w ↦ (
           let none : package_in c.statement-item.result ≡ [] = grind (arith, common_steps) in
           rw (w.first-is, w.is_named-is) (repeated_skip ss c.loop-statement.statement-index c.statement-item.result c.loop-statement.is_named

@@ -155,3 +155,6 @@ returns c =
     linked_of c.args.files.now (graph_of c.args.graph.now.imports.items) (graph_of c.args.graph.now.public_imports.items) c.args.ranking.ranks.items
     c.args.ranking.order.items c.in_ok-positions.positions.items (graph_of c.in_ok-rows.rows.items) (graph_of c.in_ok-public_rows.public_rows.items)
     c.in_ok-reach_lists.field-0 c.in_ok-reach.reach c.in_ok-reach_lists-2.field-0 c.in_ok-seen.seen made listed
+
+pub union_lists-requires-clause-rises : goal.union_lists-requires-clause-rises
+union_lists-requires-clause-rises c b h = (c.in_ok-reach_lists-2.ensures.reaches b (omega (arith, h, c.in_ok-reach_lists-2.ensures.size))).rises

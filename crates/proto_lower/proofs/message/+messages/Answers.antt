@@ -9,11 +9,11 @@ nested_messages-loop-item-preserved t c = elim c.match-item.branch [
   | nested_messages-in-Map+in_ok-map_entry-in-Map+in_ok-push-in-Map w ↦ rw (w.nested-is, w.in_ok-push-in-Map.ensures.items)
       (one_more (nested_of c.args.full.now) c.args.items.now c.loop-item.item-index c.item-item.result c.loop-item.nested.items _ (omega arith) c.item-item.is
       c.loop-item.invariant
-      (rw (w.in-Map.is, w.in_ok-map_entry-in-Map.ensures) refl))
+      (rw (w.in-Map.is, w.in_ok-map_entry-in-Map.ensures, w.get.ensures) refl))
   | nested_messages-in-Message+in_ok-lower_message-in-Message+in_ok-push-in-Message w ↦ rw (w.nested-is, w.in_ok-push-in-Message.ensures.items)
       (one_more (nested_of c.args.full.now) c.args.items.now c.loop-item.item-index c.item-item.result c.loop-item.nested.items _ (omega arith) c.item-item.is
       c.loop-item.invariant
-      (rw (w.in-Message.is, w.in_ok-lower_message-in-Message.ensures) (sym (nested_message c.args.full.now w.in-Message.inner))))
+      (rw (w.in-Message.is, w.in_ok-lower_message-in-Message.ensures, w.get-in-Message.ensures) (sym (nested_message c.args.full.now w.in-Message.inner))))
   | nested_messages-in-Field w ↦ rw w.nested-is (none_more (nested_of c.args.full.now) c.args.items.now c.loop-item.item-index c.item-item.result
       c.loop-item.nested.items (omega arith) c.item-item.is c.loop-item.invariant (rw w.in-Field.is refl))
   | nested_messages-in-Oneof w ↦ rw w.nested-is (none_more (nested_of c.args.full.now) c.args.items.now c.loop-item.item-index c.item-item.result

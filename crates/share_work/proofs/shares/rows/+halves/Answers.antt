@@ -7,19 +7,19 @@ use Rattle.share_work.proofs.shares.rows.+halves.Goals as goal
 pub both_halves-returns-clause-have_low : goal.both_halves-returns-clause-have_low
 both_halves-returns-clause-have_low g t c =
     let job = c.args.job.now in
-    let have : OnOk c.joined_rows.result (SeatsHave (g.W.Work.holds job.work.now) (g.W.Work.adds job.work.now) job.plan.workers job.plan.cut job.items.now
+    let have : OnOk c.join_rows.result (SeatsHave (g.W.Work.holds job.work.now) (g.W.Work.adds job.work.now) job.plan.workers job.plan.cut job.items.now
     c.args.from c.join_mut-first.new.f.3.now) =
-    OnOk-first c.joined_rows.result c.join_mut-first.result.0 c.join_mut-first.result.1 (λ low high rows. rows.items ≡ low.items ++ high.items) _
-    c.joined_rows.ensures c.join_mut-first.ensures.0.met.1.3 in
+    OnOk-first c.join_rows.result c.join_mut-first.result.0 c.join_mut-first.result.1 (λ low high rows. rows.items ≡ low.items ++ high.items) _
+    c.join_rows.ensures c.join_mut-first.ensures.0.met.1.3 in
     search (rules, have)
 
 pub both_halves-returns-clause-have_high : goal.both_halves-returns-clause-have_high
 both_halves-returns-clause-have_high g t c =
     let job = c.args.job.now in
-    let have : OnOk c.joined_rows.result (SeatsHave (g.W.Work.holds job.work.now) (g.W.Work.adds job.work.now) job.plan.workers job.plan.cut job.items.now
+    let have : OnOk c.join_rows.result (SeatsHave (g.W.Work.holds job.work.now) (g.W.Work.adds job.work.now) job.plan.workers job.plan.cut job.items.now
     (c.args.from + length c.args.low.now) c.join_mut-first.new.g.3.now) =
-    OnOk-second c.joined_rows.result c.join_mut-first.result.0 c.join_mut-first.result.1 (λ low high rows. rows.items ≡ low.items ++ high.items) _
-    c.joined_rows.ensures c.join_mut-first.ensures.1.met.1.3 in
+    OnOk-second c.join_rows.result c.join_mut-first.result.0 c.join_mut-first.result.1 (λ low high rows. rows.items ≡ low.items ++ high.items) _
+    c.join_rows.ensures c.join_mut-first.ensures.1.met.1.3 in
     search (rules, have)
 
 pub both_halves-returns-clause-rows : goal.both_halves-returns-clause-rows
@@ -29,11 +29,11 @@ both_halves-returns-clause-rows g t c =
     let from = c.args.from in
     let low = c.args.low.now in
     let high = c.args.high.now in
-    IfOk-both c.joined_rows.result c.join_mut-first.result.0 c.join_mut-first.result.1 (λ low high rows. rows.items ≡ low.items ++ high.items)
+    IfOk-both c.join_rows.result c.join_mut-first.result.0 c.join_mut-first.result.1 (λ low high rows. rows.items ≡ low.items ++ high.items)
     (λ rows. GivesRows gives (λ v. v.items) (λ r. r.items) job.plan.workers job.plan.cut job.items.now from (length low) rows.items)
     (λ rows. GivesRows gives (λ v. v.items) (λ r. r.items) job.plan.workers job.plan.cut job.items.now (from + length low) (length high) rows.items)
     (λ rows. GivesRows gives (λ v. v.items) (λ r. r.items) job.plan.workers job.plan.cut job.items.now from (length low + length high) rows.items)
-    c.joined_rows.ensures c.join_mut-first.ensures.0.met.1.4 c.join_mut-first.ensures.1.met.1.4
+    c.join_rows.ensures c.join_mut-first.ensures.0.met.1.4 c.join_mut-first.ensures.1.met.1.4
     (λ ls hs rs is first second. rw is (rows_joined gives (λ v. v.items) (λ r. r.items) job.plan.workers job.plan.cut job.items.now from (length low)
     (from + length low) (length high) ls.items hs.items refl first second))
 

@@ -1,7 +1,0 @@
-use Rattle.std.proofs.Common.{◌≡◌, drop}
-use Rattle.std.specs.Prelude.{flat_map}
-use Rattle.proto_lower.specs.Options.{first_setting, rpc_setting}
-use Rattle.proto_lower.proofs.settings.first_of_method.Given as goal
-
-abbrev pub invariant-loop-item : goal.invariant-loop-item
-invariant-loop-item l = first_setting l.name (flat_map rpc_setting (drop l.item-index l.items)) ≡ first_setting l.name (flat_map rpc_setting l.items)
