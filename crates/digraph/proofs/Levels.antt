@@ -19,6 +19,7 @@ use Rattle.digraph.specs.Marks.{IsMarked, NoneMarked}
 use Rattle.digraph.specs.Ranks.{rank_in, IsBefore, IsRanked, IsRankOrder}
 use Rattle.digraph.specs.Rounds.{ArePassed, AllMarked, GoesInto}
 use Rattle.digraph.proofs.Marking.{default_same}
+use Rattle.digraph.proofs.Renumbering.{before_trans}
 use Rattle.digraph.proofs.Rounding.{mark_cases, row_cases, passed_none}
 use Rattle.digraph.proofs.Rows.{edge_below, no_items}
 use Rattle.digraph.proofs.Stuck.{none_stuck}
@@ -239,12 +240,6 @@ levels_next g s t l r = record {
 }
 
 -- ---- no node stands twice in the order
-
-before_trans : (ranks : List ℕ) (a b c : ℕ) → IsBefore ranks a b → IsBefore ranks b c → IsBefore ranks a c
-before_trans ranks a b c (inl x) (inl y) = inl (omega arith)
-before_trans ranks a b c (inl x) (inr y) = inl (omega (arith, y.0))
-before_trans ranks a b c (inr x) (inl y) = inl (omega (arith, x.0))
-before_trans ranks a b c (inr x) (inr y) = inr (x.0 ∙ y.0, omega (arith, x.1, y.1))
 
 before_other : (ranks : List ℕ) (a b : ℕ) → IsBefore ranks a b → a ≡ b → ⊥
 before_other ranks a b (inl less) e = (let same = ap (rank_in ranks) e in omega (arith, less, same))

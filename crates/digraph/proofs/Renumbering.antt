@@ -17,7 +17,7 @@ use Rattle.digraph.proofs.Visiting.{no_place, node_at as member_at}
 
 -- ---- an order by rank
 
-before_trans : (ranks : List ℕ) (a b c : ℕ) → IsBefore ranks a b → IsBefore ranks b c → IsBefore ranks a c
+pub before_trans : (ranks : List ℕ) (a b c : ℕ) → IsBefore ranks a b → IsBefore ranks b c → IsBefore ranks a c
 before_trans ranks a b c (inl x) (inl y) = inl (omega arith)
 before_trans ranks a b c (inl x) (inr (e, y)) = inl (omega arith)
 before_trans ranks a b c (inr (e, x)) (inl y) = inl (omega arith)

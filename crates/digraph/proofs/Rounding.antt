@@ -14,17 +14,6 @@ use Rattle.digraph.proofs.Visiting.{no_place, node_at, push_iff}
 
 -- ---- one row
 
-pub passed_more : (marks : List Bool) (row : List ℕ) (n : ℕ) → n < length row → IsMarked marks (get_or row n 0) → IsPassed marks row n
-    → IsPassed marks row (n + 1)
-passed_more marks row n h marked p = record {
-  inside = omega arith;
-  front = λ k below. (elim (cases_lt k n) [
-    | inl under ↦ p.front k under
-    | inr over ↦
-        (let same : n ≡ k = omega arith in subst (λ i. IsMarked marks (get_or row i 0)) same marked)
-  ]);
-}
-
 -- a row that is passed whole
 pub passed_all : (g : Graph) (marks : List Bool) (a n : ℕ) → n ≡ length (successors g a) → IsPassed marks (successors g a) n → AllMarked g marks a
 passed_all g marks a n whole p b edge =

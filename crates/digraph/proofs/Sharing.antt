@@ -8,7 +8,7 @@ use Rattle.std.proofs.lemmas.Grind.{common_steps}
 use lib.Dec.{eqb}
 use Rattle.digraph.specs.Marks.{IsFrontOf}
 use Rattle.digraph.specs.Ranges.{range_of, ranges_of, AreWithin, Holds}
-use Rattle.digraph.proofs.Rising.{all_at}
+use Rattle.digraph.proofs.Rising.{all_at, all_push}
 
 pub within_more : (n m : ℕ) (rs : List (ℕ × ℕ)) → n ≤ m → AreWithin n rs → AreWithin m rs
 within_more n m [] h w = tt
@@ -36,14 +36,10 @@ view_pushed old new rs ss start list front holds e w =
     let last : range_of new (start, length list) ≡ list = rw holds.0 (take_all (length list) list (omega arith)) in
     rw (e, map-append) (rw (view_kept old new rs rs front refl w, last) refl)
 
-all_push : (n : ℕ) (rs : List (ℕ × ℕ)) (r : ℕ × ℕ) → AreWithin n rs → r.0 + r.1 ≤ n → AreWithin n (rs ++ r ∷ [])
-all_push n [] r w h = (h, tt)
-all_push n (x ∷ rs) r w h = (w.0, all_push n rs r w.1 h)
-
 pub within_pushed : (old new : List ℕ) (rs ss : List (ℕ × ℕ)) (start : ℕ) (list : List ℕ) → IsFrontOf old new → Holds new start list
     → ss ≡ rs ++ (start, length list) ∷ [] → AreWithin (length old) rs → AreWithin (length new) ss
 within_pushed old new rs ss start list front holds e w =
-    rw e (all_push (length new) rs (start, length list) (within_more (length old) (length new) rs (length_kept old new front) w) (omega (arith, holds.1)))
+    rw e (all_push (λ (range : ℕ × ℕ). range.0 + range.1 ≤ length new) rs (start, length list) (within_more (length old) (length new) rs (length_kept old new front) w) (omega (arith, holds.1)))
 
 pub same_numbers : (xs ys : List ℕ) → pointwise eqb xs ys ≡ true → xs ≡ ys
 same_numbers [] [] e = refl

@@ -7,7 +7,7 @@ ghost use Rattle.digraph.specs.Leads.{AreClosed, AreReaches, AreUnions, InLists,
 ghost use Rattle.digraph.specs.Marks.{AreMarked, NoneMarked};
 
 use crate::lists::Lists;
-use crate::marks::{clear, unmarked, visit};
+use crate::marks::{clear, no_marks, visit};
 use crate::search::row;
 use std::alloc::{AllocError, Global};
 
@@ -61,7 +61,7 @@ fn union_of(
 }
 
 /// Appends the union of a node with what stands in the lists of lower ones, which are below it. That of one list is the
-/// list and the node behind it, so that a chain of nodes takes constant time for each.
+/// list and the node behind it, so that a node of a chain takes constant time.
 fn push_union(
     alloc: Global,
     lists: &mut Lists,
@@ -73,8 +73,10 @@ fn push_union(
     requires room { length lists.old ≤ length marks.old }
     requires nodes { (b : ℕ) → Contains nodes.now b → b < length lists.old }
     requires closed { AreClosed lists.old (length lists.old) }
-    requires rises { (b : ℕ) → b < length lists.old → IsStrictlyIncreasing (slice_index_or lists.old b []) }
-    requires below { (b c : ℕ) → b < length lists.old → Contains (slice_index_or lists.old b []) c → c < own }
+    requires rises { (b : ℕ) → b < length lists.old
+        → IsStrictlyIncreasing (slice_index_or lists.old b []) }
+    requires below { (b c : ℕ) → b < length lists.old
+        → Contains (slice_index_or lists.old b []) c → c < own }
     requires none { NoneMarked marks.old }
     ensures union { OnOk result ((union : List ℕ) × (lists.new ≡ lists.old ++ union ∷ [])
         × IsUnion lists.old nodes.now own union) }
@@ -94,7 +96,7 @@ pub fn reach_lists(alloc: Global, graph: &[Vec<usize>]) -> Result<Lists, AllocEr
     ensures reaches { IfOk result (λ lists. AreReaches (graph_of graph.now) lists
         (length graph.now)) }
 {
-    let mut marks = unmarked(alloc, graph.len())?;
+    let mut marks = no_marks(alloc, graph.len())?;
     let mut lists = Lists::new(alloc);
     for own in 0..graph.len() {
         push_union(alloc, &mut lists, row(graph, own), own, &mut marks)?;
@@ -114,7 +116,7 @@ fn ends_below(list: &[usize], number: usize) -> bool
 }
 
 /// A list and a number behind it.
-fn extended(alloc: Global, list: &[usize], number: usize) -> Result<Vec<usize>, AllocError>
+fn append_number(alloc: Global, list: &[usize], number: usize) -> Result<Vec<usize>, AllocError>
     ensures { IfOk result (λ extended. extended.items ≡ list.now ++ number ∷ []) }
 {
     let mut extended = Vec::with_capacity(alloc, list.len() + 1)?;
@@ -123,8 +125,8 @@ fn extended(alloc: Global, list: &[usize], number: usize) -> Result<Vec<usize>, 
     Ok(extended)
 }
 
-/// The union of a node with what stands in the lists of others. That of one list which ends below the node is the list and
-/// the node behind it, so that a chain of nodes takes no marks and is not sorted.
+/// The union of a node with what stands in the lists of others. That of one list that ends below the node is the list
+/// and the node behind it, so that a chain of nodes is neither marked nor sorted.
 fn union_with(
     alloc: Global,
     lists: &Lists,
@@ -136,7 +138,8 @@ fn union_with(
     requires room { length lists.now ≤ length marks.old }
     requires nodes { (b : ℕ) → Contains nodes.now b → b < length lists.now }
     requires closed { AreClosed lists.now (length lists.now) }
-    requires rises { (b : ℕ) → b < length lists.now → IsStrictlyIncreasing (slice_index_or lists.now b []) }
+    requires rises { (b : ℕ) → b < length lists.now
+        → IsStrictlyIncreasing (slice_index_or lists.now b []) }
     requires none { NoneMarked marks.old }
     ensures union { IfOk result (λ union. IsUnion lists.now nodes.now own union.items) }
     ensures none { OnOk result (NoneMarked marks.new) }
@@ -144,7 +147,7 @@ fn union_with(
     if let [node] = nodes {
         let list = lists.get(*node);
         if ends_below(list, own) {
-            return extended(alloc, list, own);
+            return append_number(alloc, list, own);
         }
     }
     union_of(alloc, lists, nodes, own, marks)
@@ -155,12 +158,13 @@ pub fn union_lists(alloc: Global, lists: &Lists, graph: &[Vec<usize>]) -> Result
     requires size { length lists.now ≡ length graph.now }
     requires within { IsWithin (graph_of graph.now) (length graph.now) }
     requires closed { AreClosed lists.now (length lists.now) }
-    requires rises { (b : ℕ) → b < length lists.now → IsStrictlyIncreasing (slice_index_or lists.now b []) }
+    requires rises { (b : ℕ) → b < length lists.now
+        → IsStrictlyIncreasing (slice_index_or lists.now b []) }
     ensures size { IfOk result (λ unions. length unions ≡ length graph.now) }
     ensures unions { IfOk result (λ unions. AreUnions lists.now (graph_of graph.now) unions
         (length graph.now)) }
 {
-    let mut marks = unmarked(alloc, graph.len())?;
+    let mut marks = no_marks(alloc, graph.len())?;
     let mut unions = Lists::new(alloc);
     for own in 0..graph.len() {
         let union = union_with(alloc, lists, row(graph, own), own, &mut marks)?;

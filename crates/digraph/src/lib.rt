@@ -13,5 +13,5 @@ mod search;
 pub use closures::{reach_lists, union_lists};
 pub use lists::Lists;
 pub use ranks::{Ranking, rank_nodes};
-pub use renumber::{positions_of, renumbered, with_nodes};
-pub use search::{predecessors, reached};
+pub use renumber::{positions_of, renumber_rows, with_nodes};
+pub use search::{mark_reached, predecessors};

@@ -71,8 +71,8 @@ impl Lists {
         Ok(())
     }
 
-    /// Appends the list at a place with a number behind it, in constant time where that list ends the items. Where there is
-    /// no memory, the lists stay as they were.
+    /// Appends the list at a place with a number behind it, in constant time where that list ends the items. Where there
+    /// is no memory, the lists stay as they were.
     pub(crate) fn push_extended(&mut self, place: usize, number: usize) -> Result<(), AllocError>
         requires { place < length self.old }
         ensures appended { OnOk result (self.new
@@ -86,7 +86,7 @@ impl Lists {
     }
 
     /// The lists with the name of each number in its place. What the lists share is named once.
-    pub(crate) fn named(&self, alloc: Global, names: &[usize]) -> Result<Lists, AllocError>
+    pub(crate) fn with_names(&self, alloc: Global, names: &[usize]) -> Result<Lists, AllocError>
         requires { (a k : ℕ) → a < length self.now → Contains (slice_index_or self.now a []) k
             → k < length names.now }
         ensures { IfOk result (λ named. named

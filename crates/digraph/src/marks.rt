@@ -6,7 +6,7 @@ ghost use Rattle.digraph.specs.Marks.{AreMarked, IsFrontOf, NoneMarked};
 use std::alloc::{AllocError, Global};
 
 /// A list of nodes without a mark.
-pub(crate) fn unmarked(alloc: Global, count: usize) -> Result<Vec<bool>, AllocError>
+pub(crate) fn no_marks(alloc: Global, count: usize) -> Result<Vec<bool>, AllocError>
     ensures size { IfOk result (λ marks. length marks.items ≡ count) }
     ensures none { IfOk result (λ marks. NoneMarked marks.items) }
 {

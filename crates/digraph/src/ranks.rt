@@ -11,7 +11,7 @@ ghost use Rattle.digraph.specs.Marks.{IsMarked};
 ghost use Rattle.digraph.specs.Ranks.{IsRanked, IsRankOrder, rank_in};
 ghost use Rattle.digraph.specs.Rounds.{AllMarked, ArePassed, GoesInto, IsPassed, Stops};
 
-use crate::marks::unmarked;
+use crate::marks::no_marks;
 use crate::search::{predecessors, row};
 use std::alloc::{AllocError, Global};
 
@@ -36,7 +36,7 @@ fn pass(successors: &[usize], marks: &[bool], passed: usize) -> usize
     count
 }
 
-/// Appends to `ready` those of the nodes whose successors are all marked. `passed` has for each node how many successors
+/// Appends to `ready` those of the nodes whose successors are all marked. For each node `passed` has how many successors
 /// at the front of its row are known to be marked.
 fn append_ready(
     graph: &[Vec<usize>],
@@ -64,8 +64,8 @@ fn append_ready(
     Ok(())
 }
 
-/// The nodes with a successor among `settled` and all successors marked, in rising order. `turned` is the graph with its
-/// edges turned round.
+/// The nodes with a successor among `settled` and all successors marked, in rising order. `turned` is the graph with
+/// its edges turned round.
 fn next_ready(
     alloc: Global,
     graph: &[Vec<usize>],
@@ -136,7 +136,7 @@ pub fn rank_nodes(alloc: Global, graph: &[Vec<usize>]) -> Result<Option<Ranking>
     ensures none { IfOk result (λ found. IfNone found (HasNoCycle (graph_of graph.now) → ⊥)) }
 {
     let turned = predecessors(alloc, graph)?;
-    let mut marks = unmarked(alloc, graph.len())?;
+    let mut marks = no_marks(alloc, graph.len())?;
     let mut ranks = vec![in alloc; 0; graph.len()]?;
     let mut passed = vec![in alloc; 0; graph.len()]?;
     let mut order = Vec::new(alloc);

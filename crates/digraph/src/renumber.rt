@@ -59,7 +59,7 @@ fn falling_positions(
 
 /// The same edges between positions. A row has the greatest position first: of the lists of a row's nodes the longest
 /// come first then, and most others stand in them.
-pub fn renumbered(
+pub fn renumber_rows(
     alloc: Global,
     graph: &[Vec<usize>],
     order: &[usize],
@@ -86,5 +86,5 @@ pub fn with_nodes(alloc: Global, lists: &Lists, order: &[usize]) -> Result<Lists
     ensures { IfOk result (λ named. named
         ≡ map (λ (list : List ℕ). map (node_at order.now) list) lists.now) }
 {
-    lists.named(alloc, order)
+    lists.with_names(alloc, order)
 }

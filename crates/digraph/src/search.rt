@@ -5,7 +5,7 @@ ghost use Rattle.digraph.specs.Edges.{Edge, IsWithin, graph_of, successors};
 ghost use Rattle.digraph.specs.Leads.{Leads};
 ghost use Rattle.digraph.specs.Marks.{AreMarked, IsMarked, NoneMarked};
 
-use crate::marks::{unmarked, visit};
+use crate::marks::{no_marks, visit};
 use std::alloc::{AllocError, Global};
 
 /// The successors of a node.
@@ -43,14 +43,18 @@ fn search(
 }
 
 /// A mark at each node that `start` leads to, itself among them.
-pub fn reached(alloc: Global, graph: &[Vec<usize>], start: usize) -> Result<Vec<bool>, AllocError>
+pub fn mark_reached(
+    alloc: Global,
+    graph: &[Vec<usize>],
+    start: usize,
+) -> Result<Vec<bool>, AllocError>
     requires start { start < length graph.now }
     requires within { IsWithin (graph_of graph.now) (length graph.now) }
     ensures size { IfOk result (λ marks. length marks.items ≡ length graph.now) }
     ensures marked { IfOk result (λ marks. (c : ℕ)
         → IsMarked marks.items c ↔ Leads (Edge (graph_of graph.now)) c start) }
 {
-    let mut marks = unmarked(alloc, graph.len())?;
+    let mut marks = no_marks(alloc, graph.len())?;
     let mut found = Vec::new(alloc);
     search(graph, start, &mut marks, &mut found)?;
     Ok(marks)

@@ -1,18 +1,19 @@
 //! That no name and no full name is longer than the limits allow. Full names are measured and never built.
 
 ghost use Rattle.std.specs.Prelude.{◌≡◌, ℕ, List, map, flat_map};
-ghost use Rattle.proto_desc.specs.DeclaredNames.{scoped, declared_field, declared_oneof, declared_value, declared_method, declared_by_enum, declared_by_message, declared_by_service};
+ghost use Rattle.proto_desc.specs.DeclaredNames.{scoped, declared_by_enum, declared_by_message, declared_by_service};
 ghost use Rattle.proto_checks.specs.Checks.{IsTooLong};
 ghost use Rattle.proto_base.specs.Least.{IsLeast};
 ghost use Rattle.proto_checks.specs.Lengths.{capped, IsLongName, declared_inside_of};
 ghost use Rattle.proto_base.specs.Sets.{Each};
 
 use proto_base::{Kind, Limit, Limits, Place, Spot, lesser};
-use proto_desc::enumeration::{EnumDesc, ValueDesc};
+use proto_desc::Declares;
+use proto_desc::enumeration::EnumDesc;
 use proto_desc::field::FieldDesc;
 use proto_desc::message::MessageDesc;
 use proto_desc::oneof::OneofDesc;
-use proto_desc::service::{MethodDesc, ServiceDesc};
+use proto_desc::service::ServiceDesc;
 
 /// The length of a name behind its scope, up to the greatest that there is.
 fn full_len(scope_len: usize, name: &str) -> usize
@@ -42,49 +43,15 @@ fn name_fault(limits: &Limits, scope_len: usize, name: &str, place: Place) -> Op
     }
 }
 
-fn fields_fault(limits: &Limits, scope_len: usize, fields: &[FieldDesc]) -> Option<Spot>
+/// The first name that is too long of elements that declare their own names alone.
+fn members_fault<D: Declares>(limits: &Limits, scope_len: usize, members: &[D]) -> Option<Spot>
     ensures { (scope : List ℕ) → scope_len ≡ capped scope
-        → IsLeast (Each (map (declared_field scope) fields.now) (IsTooLong limits.now)) result }
+        → IsLeast (Each (map (D.declared scope) members.now) (IsTooLong limits.now)) result }
 {
     let mut first = None;
-    for field in fields {
-        let here = name_fault(limits, scope_len, field.name.as_str(), field.place);
-        first = lesser(first, here);
-    }
-    first
-}
-
-fn oneofs_fault(limits: &Limits, scope_len: usize, oneofs: &[OneofDesc]) -> Option<Spot>
-    ensures { (scope : List ℕ) → scope_len ≡ capped scope
-        → IsLeast (Each (map (declared_oneof scope) oneofs.now) (IsTooLong limits.now)) result }
-{
-    let mut first = None;
-    for oneof in oneofs {
-        let here = name_fault(limits, scope_len, oneof.name.as_str(), oneof.place);
-        first = lesser(first, here);
-    }
-    first
-}
-
-fn values_fault(limits: &Limits, scope_len: usize, values: &[ValueDesc]) -> Option<Spot>
-    ensures { (scope : List ℕ) → scope_len ≡ capped scope
-        → IsLeast (Each (map (declared_value scope) values.now) (IsTooLong limits.now)) result }
-{
-    let mut first = None;
-    for value in values {
-        let here = name_fault(limits, scope_len, value.name.as_str(), value.place);
-        first = lesser(first, here);
-    }
-    first
-}
-
-fn methods_fault(limits: &Limits, scope_len: usize, methods: &[MethodDesc]) -> Option<Spot>
-    ensures { (scope : List ℕ) → scope_len ≡ capped scope
-        → IsLeast (Each (map (declared_method scope) methods.now) (IsTooLong limits.now)) result }
-{
-    let mut first = None;
-    for method in methods {
-        let here = name_fault(limits, scope_len, method.name.as_str(), method.place);
+    for member in members {
+        let declared = member.declared_name();
+        let here = name_fault(limits, scope_len, declared.name, declared.place);
         first = lesser(first, here);
     }
     first
@@ -95,7 +62,7 @@ fn enum_fault(limits: &Limits, scope_len: usize, declared: &EnumDesc) -> Option<
         → IsLeast (Each (declared_by_enum scope declared.now) (IsTooLong limits.now)) result }
 {
     let own = name_fault(limits, scope_len, declared.name.as_str(), declared.place);
-    let values = values_fault(limits, scope_len, declared.values.as_slice());
+    let values = members_fault(limits, scope_len, declared.values.as_slice());
     lesser(own, values)
 }
 
@@ -119,7 +86,7 @@ fn service_fault(limits: &Limits, scope_len: usize, service: &ServiceDesc) -> Op
     let name = service.name.as_str();
     let own = name_fault(limits, scope_len, name, service.place);
     let len = full_len(scope_len, name);
-    let methods = methods_fault(limits, len, service.methods.as_slice());
+    let methods = members_fault(limits, len, service.methods.as_slice());
     lesser(own, methods)
 }
 
@@ -152,8 +119,8 @@ fn inside_fault(
         → IsLeast (Each (declared_inside_of scope fields.now oneofs.now enums.now)
         (IsTooLong limits.now)) result }
 {
-    let field = fields_fault(limits, scope_len, fields);
-    let oneof = oneofs_fault(limits, scope_len, oneofs);
+    let field = members_fault(limits, scope_len, fields);
+    let oneof = members_fault(limits, scope_len, oneofs);
     let declared = enums_fault(limits, scope_len, enums);
     let member = lesser(field, oneof);
     lesser(member, declared)

@@ -3,6 +3,7 @@
 //! The standard is `descriptor.proto`.
 #![tactic(auto)]
 
+mod declared_name;
 pub mod enumeration;
 pub mod field;
 pub mod file;
@@ -16,4 +17,5 @@ pub mod service;
 pub mod type_name;
 pub mod whole_number;
 
+pub use declared_name::{DeclaredName, Declares};
 pub use resolved::is_resolved;

@@ -1,6 +1,7 @@
 mod Faulting
 mod Named
 mod Positions
+mod Reaching
 pub mod Rising
 mod Search
 mod Targeting

@@ -1,350 +1,284 @@
--- What the lists of positions say of files.
-use Rattle.std.proofs.Common.{◌≡◌, ◌∙◌, sym, ℕ, ◌+◌, ◌<◌, ◌≤◌, List, [], length, map, get_or, ap, refl, subst, arith, inl, inr, ◌⊎◌, Vec, Global}
+-- Files by their positions in set order, and what lists of positions say of files.
+use Rattle.std.proofs.Common.{◌≡◌, ◌∙◌, sym, ℕ, ◌+◌, ◌<◌, List, [], length, map, get_or, ap, subst, arith, inl, inr, ◌⊎◌, Vec, Global}
 use Rattle.std.specs.Prelude.{Contains, ◌↔◌, IsTrue}
-use Rattle.std.proofs.lemmas.Grind.{common_steps}
-use Rattle.std.proofs.lemmas.List.{get_or-map}
 use Rattle.std.specs.Cmp.{nat_eq_equiv}
 use Rattle.std.proofs.lemmas.Bool.{eqb-true}
+use Rattle.std.proofs.lemmas.Grind.{common_steps}
+use Rattle.std.proofs.lemmas.List.{get_or-map}
 use Rattle.std.proofs.lemmas.Map.Views.{Contains-from_any, list_any-from_Contains}
 use Rattle.digraph.specs.Edges.{Graph, Edge, IsFalling, IsWithin, successors, graph_of}
-use Rattle.digraph.specs.Leads.{Leads, here, through, IsReach as IsReachList, AreReaches, InLists, AreUnions, HasNoCycle}
-use Rattle.digraph.specs.Ranks.{rank_in, IsRanked, IsRankOrder}
-use Rattle.digraph.specs.Renumbered.{node_at, ArePositions, IsRenumbered}
+use Rattle.digraph.specs.Leads.{Leads, IsReach as IsReachList, AreReaches, InLists}
+use Rattle.digraph.specs.Ranks.{rank_in}
+use Rattle.digraph.specs.Renumbered.{node_at}
+use Rattle.digraph.specs.declared.ranks.Ranking.{Ranking}
 use Rattle.digraph.proofs.Renumbering.{before_far, map_members, renumbered_falls, ways_to, ways_from}
-use Rattle.digraph.proofs.Ways.{leads_map, leads_last, leads_le}
+use Rattle.digraph.proofs.Rows.{edge_below, length_graph}
+use Rattle.digraph.proofs.Ways.{leads_map, leads_le}
 use Rattle.proto_desc.specs.declared.file.FileDesc.{FileDesc}
-use Rattle.proto_desc.specs.declared.file.ImportDesc.{ImportDesc}
-use Rattle.proto_base.specs.declared.kind.Kind.{Kind}
-use Rattle.proto_links.specs.Graphs.{IsGraph, IsPublicGraph, HasMissing}
-use Rattle.proto_links.specs.Imports.{Imports, ImportsPublicly, Reaches, NoneBad, IsWrong, missing, cyclic, imports_at}
-use Rattle.proto_links.specs.Linked.{has, IsSound, AreLinked, IsBefore, IsSetOrder, AreRanks, IsReach}
-use Rattle.proto_links.specs.Visible.{Sees, itself, imported, re_exported}
+use Rattle.proto_links.specs.Graphs.{IsGraph, IsPublicGraph}
+use Rattle.proto_links.specs.Imports.{Imports, ImportsPublicly, Reaches}
+use Rattle.proto_links.specs.Linked.{Linked, has, IsSound, AreLinked, IsSetOrder, AreRanks, IsReach}
+use Rattle.proto_links.specs.Positioned.{ArePositioned, AreFilesReached, ArePositionsSeen, AreRanked, file_imports, file_public_imports, import_rows, public_rows}
+use Rattle.proto_links.specs.Visible.{Sees}
+use Rattle.proto_links.specs.declared.graph.Graph.{Graph as ImportGraph}
+use Rattle.proto_links.specs.declared.positioned.Positioned.{Positioned}
+use Rattle.proto_links.proofs.Reaching.{public_imports, leads_inside, SeesBy, sees_is}
 
 -- ---- graphs of files
 
-pub graph_within : (files : List FileDesc) (g : Graph) → IsGraph files g → IsWithin g (length g)
-graph_within files g is a b edge = let named = ((is.edges a b).0 edge).2 in omega (arith, named.0, is.size)
+pub graph_within : {files : List FileDesc} {g : Graph} → IsGraph files g → IsWithin g (length g)
+graph_within is a b edge = let named = ((is.edges a b).0 edge).2 in omega (arith, named.0, is.size)
 
-pub public_within : (files : List FileDesc) (g : Graph) → IsPublicGraph files g → IsWithin g (length g)
-public_within files g is a b edge = let named = ((is.edges a b).0 edge).3 in omega (arith, named.0, is.size)
+pub public_within : {files : List FileDesc} {g : Graph} → IsPublicGraph files g → IsWithin g (length g)
+public_within is a b edge = let named = ((is.edges a b).0 edge).3 in omega (arith, named.0, is.size)
 
-pub public_imports : (files : List FileDesc) (a b : ℕ) → ImportsPublicly files a b → Imports files a b
-public_imports files a b (i, w, p, n) = (i, w, n)
+pub rows_within : (rows : List (Vec ℕ Global)) → IsWithin (graph_of rows) (length (graph_of rows)) → IsWithin (graph_of rows) (length rows)
+rows_within rows within = subst (IsWithin (graph_of rows)) (length_graph rows) within
 
-pub public_sub : (files : List FileDesc) (g h : Graph) → IsGraph files g → IsPublicGraph files h → (a b : ℕ) → Edge h a b → Edge g a b
-public_sub files g h is pub' a b edge = (is.edges a b).1 (public_imports files a b ((pub'.edges a b).0 edge))
+-- falling edges go to rows
+pub falling_within : (rows : List (Vec ℕ Global)) → IsFalling (graph_of rows) → IsWithin (graph_of rows) (length rows)
+falling_within rows falls a b edge =
+    let less = falls a b edge in let inside = edge_below (graph_of rows) a b edge in omega (arith, less, inside, length_graph rows)
 
--- ---- what is kept
-
+-- a list has only positions
 pub positions_below : (g : Graph) (lists : List (List ℕ)) (n : ℕ) → IsFalling g → AreReaches g lists n → (a k : ℕ) → a < n → Contains (get_or lists a []) k
     → k < n
-positions_below g lists n falling all a k h w = let le = leads_le g k a falling (((all a h).members k).0 w) in omega (arith, le, h)
+positions_below g lists n falls all a k h w = let le = leads_le g k a falls (((all a h).members k).0 w) in omega (arith, le, h)
 
--- the list of a position, by nodes
-pub named_list : (order : List ℕ) (lists named : List (List ℕ)) (k : ℕ) → named ≡ map (λ (list : List ℕ). map (node_at order) list) lists → k < length lists
-    → get_or named k [] ≡ map (node_at order) (get_or lists k [])
-named_list order lists named k e h = ap (λ (ls : List (List ℕ)). get_or ls k []) e ∙ get_or-map (λ (list : List ℕ). map (node_at order) list) lists k [] [] h
+-- ---- words
 
-pub named_length : (order : List ℕ) (lists named : List (List ℕ)) → named ≡ map (λ (list : List ℕ). map (node_at order) list) lists
-    → length named ≡ length lists
-named_length order lists named e =
-    let len : length (map (λ (list : List ℕ). map (node_at order) list) lists) ≡ length lists = grind (arith, common_steps) in ap length e ∙ len
+abbrev rank_of : Ranking → ℕ → ℕ
+rank_of ranking = rank_in ranking.ranks.items
 
--- ---- ranks and order
+abbrev file_at : Ranking → ℕ → ℕ
+file_at ranking = node_at ranking.order.items
 
-pub ranks_are : (files : List FileDesc) (g : Graph) (ranks : List ℕ) → IsGraph files g → IsRanked g ranks → AreRanks files (rank_in ranks)
-ranks_are files g ranks is r = record {
-  above = λ a b i. r.above a b ((is.edges a b).1 i);
-  least = λ a h. (elim (r.least a (omega (arith, h, is.size))) [ inl zero ↦ inl zero | inr found ↦ inr (found.0, (is.edges a found.0).0 found.1, found.2) ]);
+abbrev position_of : Positioned → ℕ → ℕ
+position_of positioned a = get_or positioned.positions.items a 0
+
+-- a list of a file that a imports has b, or a is b; all by positions
+abbrev IsListed : Positioned → List (List ℕ) → ℕ → ℕ → Type 0
+IsListed positioned lists a b =
+    InLists lists (successors (import_rows positioned) (position_of positioned a)) (position_of positioned b)
+    ⊎ (position_of positioned a ≡ position_of positioned b)
+
+abbrev links_of : Ranking → Positioned → List (List ℕ) → List (List ℕ) → Linked
+links_of ranking positioned reach seen = record {
+  ranks = ranking.ranks.items;
+  set_order = ranking.order.items;
+  positions = positioned.positions.items;
+  reach = reach;
+  seen = seen;
 }
 
-pub order_is : (files : List FileDesc) (g : Graph) (ranks order : List ℕ) → IsGraph files g → IsRanked g ranks → IsRankOrder ranks order
-    → IsSetOrder (length files) (rank_in ranks) order
-order_is files g ranks order is r o = record {
-  rises = o.rises;
-  every = λ a. (λ w. (let h = (o.whole a).0 w in omega (arith, h, r.size, is.size)), λ h. (o.whole a).1 (omega (arith, h, r.size, is.size)));
-}
+-- ---- lists
 
--- ---- what a file reaches
-
-pub leads_inside : (files : List FileDesc) (c a : ℕ) → a < length files → Leads (Imports files) c a → c < length files
-leads_inside files c _ h here = h
-leads_inside files c _ h (through a b i more) = leads_inside files c b i.2.0 more
-
--- what links are made from
-pub record Made (files : List FileDesc) (g h : Graph) (ranks order positions : List ℕ) (rows public : Graph) : Type 0 where
-  pub is_graph : IsGraph files g
-  pub is_public : IsPublicGraph files h
-  pub ranked : IsRanked g ranks
-  pub ordered : IsRankOrder ranks order
-  pub placed : ArePositions order positions
-  pub rows_are : IsRenumbered g order rows
-  pub public_are : IsRenumbered h order public
-  pub whole : NoneBad files
-
-pub made_size : (files : List FileDesc) (g h : Graph) (ranks order positions : List ℕ) (rows public : Graph) → Made files g h ranks order positions rows public
-    → (length order ≡ length files) × (length rows ≡ length files) × (length public ≡ length files) × (length g ≡ length order) × (length h ≡ length order)
-made_size files g h ranks order positions rows public m =
-    let order_size : length order ≡ length files = omega (arith, m.ordered.size, m.ranked.size, m.is_graph.size) in (
-      order_size,
-      omega (arith, order_size, m.rows_are.size),
-      omega (arith, order_size, m.public_are.size),
-      omega (arith, order_size, m.is_graph.size),
-      omega (arith, order_size, m.is_public.size),
-    )
-
-pub rows_fall : (files : List FileDesc) (g h : Graph) (ranks order positions : List ℕ) (rows public : Graph) → Made files g h ranks order positions rows public
-    → IsFalling rows
-rows_fall files g h ranks order positions rows public m = renumbered_falls g g ranks order rows m.ranked m.ordered (λ a b e. e) m.rows_are
-
-pub public_falls : (files : List FileDesc) (g h : Graph) (ranks order positions : List ℕ) (rows public : Graph)
-    → Made files g h ranks order positions rows public → IsFalling public
-public_falls files g h ranks order positions rows public m =
-    renumbered_falls g h ranks order public m.ranked m.ordered (public_sub files g h m.is_graph m.is_public) m.public_are
-
-reach_to : (files : List FileDesc) (g h : Graph) (ranks order positions : List ℕ) (rows public : Graph) (a c : ℕ) (list : List ℕ)
-    → Made files g h ranks order positions rows public → a < length files → IsReachList rows (get_or positions a 0) list → Contains (map (node_at order) list) c
-    → Reaches files a c
-reach_to files g h ranks order positions rows public a c list m inside is w =
-    let size = made_size files g h ranks order positions rows public m in
-    let at = m.placed.node a (omega (arith, inside, size.0)) in
-    let k = (map_members (node_at order) list c).0 w in
-    let way : Leads (Edge g) (node_at order k.0) (node_at order (get_or positions a 0)) =
-    ways_to g order rows m.rows_are k.0 (get_or positions a 0) ((is.members k.0).0 k.1) in
-    leads_map (Edge g) (Imports files) (λ x y. (m.is_graph.edges x y).0) c a
-    (subst (λ x. Leads (Edge g) c x) at.1 (subst (λ x. Leads (Edge g) x (node_at order (get_or positions a 0))) k.2 way))
-
-reach_from : (files : List FileDesc) (g h : Graph) (ranks order positions : List ℕ) (rows public : Graph) (a c : ℕ) (list : List ℕ)
-    → Made files g h ranks order positions rows public → a < length files → IsReachList rows (get_or positions a 0) list → Reaches files a c
-    → Contains (map (node_at order) list) c
-reach_from files g h ranks order positions rows public a c list m inside is r =
-    let size = made_size files g h ranks order positions rows public m in
-    let c_inside = leads_inside files c a inside r in
-    let at = m.placed.node c (omega (arith, c_inside, size.0)) in
-    let way = ways_from g order positions rows m.placed size.3 (graph_within files g m.is_graph) m.rows_are c a (omega (arith, inside, size.0))
-    (leads_map (Imports files) (Edge g) (λ x y. (m.is_graph.edges x y).1) c a r) in
-    (map_members (node_at order) list c).1 (get_or positions c 0, (is.members (get_or positions c 0)).1 way, at.1)
-
-map_at : (order list : List ℕ) (k : ℕ) → k < length list → get_or (map (node_at order) list) k 0 ≡ node_at order (get_or list k 0)
-map_at order list k h = get_or-map (node_at order) list k 0 0 h
+map_at : (f : ℕ → ℕ) (list : List ℕ) (k : ℕ) → k < length list → get_or (map f list) k 0 ≡ f (get_or list k 0)
+map_at f list k h = get_or-map f list k 0 0 h
 
 same_at : (xs : List ℕ) (k : ℕ) → k < length xs → get_or xs k (get_or xs k 0) ≡ get_or xs k 0
 same_at xs k h = grind (arith, common_steps)
 
-length_map : (order list : List ℕ) → length (map (node_at order) list) ≡ length list
-length_map order list = grind (arith, common_steps)
+length_map : (f : ℕ → ℕ) (list : List ℕ) → length (map f list) ≡ length list
+length_map f list = grind (arith, common_steps)
 
-pub reach_is : (files : List FileDesc) (g h : Graph) (ranks order positions : List ℕ) (rows public : Graph) (a : ℕ) (list : List ℕ)
-    → Made files g h ranks order positions rows public → a < length files → ((k : ℕ) → Contains list k → k < length order)
-    → IsReachList rows (get_or positions a 0) list → IsReach files (rank_in ranks) a (map (node_at order) list)
-reach_is files g h ranks order positions rows public a list m inside below is = record {
-  members = λ c. (
-    reach_to files g h ranks order positions rows public a c list m inside is,
-    reach_from files g h ranks order positions rows public a c list m inside is,
-  );
-  rises = λ k more. (
-      let next : k + 1 < length list = omega (arith, more, length_map order list) in
-      let far = before_far ranks order m.ordered (get_or list k 0) (get_or list (k + 1) 0) (is.rises k next)
-      (below (get_or list (k + 1) 0) (k + 1, next, same_at list (k + 1) next)) in
-      subst (λ x. IsBefore (rank_in ranks) x (get_or (map (node_at order) list) (k + 1) 0)) (sym (map_at order list k (omega (arith, next))))
-      (subst (λ y. IsBefore (rank_in ranks) (node_at order (get_or list k 0)) y) (sym (map_at order list (k + 1) next)) far));
-}
-
--- ---- what a file sees
-
--- itself, and what its imports lead to by public imports
-abbrev pub SeesBy : List FileDesc → ℕ → ℕ → Type 0
-SeesBy files a b = (a ≡ b) ⊎ ((d : ℕ) × Imports files a d × Leads (ImportsPublicly files) b d)
-
-public_reaches : (files : List FileDesc) (b d : ℕ) → Leads (ImportsPublicly files) b d → Reaches files d b
-public_reaches files b d = leads_map (ImportsPublicly files) (Imports files) (public_imports files) b d
-
--- where no import is cyclic, no import leads back
-no_way_back : (files : List FileDesc) (a d : ℕ) → NoneBad files → Imports files a d → Reaches files d a → ⊥
-no_way_back files a d none (i, w, n) r = none a i.place _ (i, w, refl, cyclic d n r)
-
-sees_more : (files : List FileDesc) (a b c : ℕ) → SeesBy files a b → (b ≡ a → ⊥) → ImportsPublicly files b c → SeesBy files a c
-sees_more files a b c (inl same) other p = absurd (other (sym same))
-sees_more files a b c (inr (d, i, way)) other p = inr (d, i, leads_last (ImportsPublicly files) b c d way p)
-
-sees_to : (files : List FileDesc) (a : ℕ) (b : ℕ) → Sees files a b → SeesBy files a b
-sees_to files a _ itself = inl refl
-sees_to files a _ (imported b i) = inr (b, i, here)
-sees_to files a _ (re_exported b c s other p) = sees_more files a b c (sees_to files a b s) other p
-
-sees_on : (files : List FileDesc) (a d b : ℕ) → NoneBad files → Imports files a d → (e : ℕ) → Reaches files d e → Sees files a e
-    → Leads (ImportsPublicly files) b e → Sees files a b
-sees_on files a d b none i _ r s here = s
-sees_on files a d b none i _ r s (through e f p more) =
-    sees_on files a d b none i f (leads_last (Imports files) e f d r (public_imports files e f p))
-    (re_exported e f s (λ same. no_way_back files a d none i (subst (λ x. Reaches files d x) same r)) p) more
-
-sees_from : (files : List FileDesc) (a b : ℕ) → NoneBad files → SeesBy files a b → Sees files a b
-sees_from files a b none (inl same) = subst (Sees files a) same itself
-sees_from files a b none (inr (d, i, way)) = sees_on files a d b none i d here (imported d i) way
-
--- ---- from what the calls answer
-
-pub made_of : (files : List FileDesc) (imports public given given_public rows public_rows : List (Vec ℕ Global)) (ranks order first second positions : List ℕ)
-    → given ≡ imports → first ≡ order → given_public ≡ public → second ≡ order → NoneBad files → IsGraph files (graph_of imports)
-    → IsPublicGraph files (graph_of public) → IsRanked (graph_of imports) ranks → IsRankOrder ranks order → ArePositions order positions
-    → IsRenumbered (graph_of given) first (graph_of rows) → IsRenumbered (graph_of given_public) second (graph_of public_rows)
-    → Made files (graph_of imports) (graph_of public) ranks order positions (graph_of rows) (graph_of public_rows)
-made_of files imports public given given_public rows public_rows ranks order first second positions eg ef ep es whole is is_public ranked ordered placed
-    rows_are public_are = record {
-      is_graph = is;
-      is_public = is_public;
-      ranked = ranked;
-      ordered = ordered;
-      placed = placed;
-      whole = whole;
-      rows_are = subst (λ (o : List ℕ). IsRenumbered (graph_of imports) o (graph_of rows)) ef
-          (subst (λ (g : List (Vec ℕ Global)). IsRenumbered (graph_of g) first (graph_of rows)) eg rows_are);
-      public_are = subst (λ (o : List ℕ). IsRenumbered (graph_of public) o (graph_of public_rows)) es
-          (subst (λ (g : List (Vec ℕ Global)). IsRenumbered (graph_of g) second (graph_of public_rows)) ep public_are);
-    }
-
--- the lists that links keep
-pub record Listed (rows public : Graph) (order : List ℕ) (n : ℕ) (lists named public_lists seen : List (List ℕ)) : Type 0 where
-  pub size : length lists ≡ n
-  pub reaches : AreReaches rows lists n
-  pub named_are : named ≡ map (λ (list : List ℕ). map (node_at order) list) lists
-  pub public_reaches : AreReaches public public_lists n
-  pub seen_size : length seen ≡ n
-  pub unions : AreUnions public_lists rows seen n
-
-pub sound_of : (files : List FileDesc) (g h : Graph) (ranks order positions : List ℕ) (rows public : Graph) (lists named public_lists seen : List (List ℕ))
-    → Made files g h ranks order positions rows public → Listed rows public order (length files) lists named public_lists seen
-    → IsSound (record { ranks = ranks; set_order = order; positions = positions; reach = named; seen = seen })
-sound_of files g h ranks order positions rows public lists named public_lists seen m l =
-    let size = made_size files g h ranks order positions rows public m in
-    let count : length ranks ≡ length files = omega (arith, size.0, m.ordered.size) in
-    record {
-      size = omega (arith, m.placed.size, m.ordered.size);
-      reach_inside = λ a less. (let at = m.placed.node a (omega (arith, less, m.ordered.size)) in let len = named_length order lists named l.named_are in
-          omega (arith, at.0, size.0, l.size, len));
-      seen_inside = λ a less. (let at = m.placed.node a (omega (arith, less, m.ordered.size)) in omega (arith, at.0, size.0, l.seen_size));
-      rises =
-          λ a less. (let at = m.placed.node a (omega (arith, less, m.ordered.size)) in (l.unions (get_or positions a 0) (omega (arith, at.0, size.0))).rises);
-    }
-
-seen_to : (files : List FileDesc) (g h : Graph) (ranks order positions : List ℕ) (rows public : Graph) (lists named public_lists seen : List (List ℕ))
-    → Made files g h ranks order positions rows public → Listed rows public order (length files) lists named public_lists seen → (a b : ℕ) → a < length files
-    → b < length files → InLists public_lists (successors rows (get_or positions a 0)) (get_or positions b 0) ⊎ (get_or positions a 0 ≡ get_or positions b 0)
-    → SeesBy files a b
-seen_to files g h ranks order positions rows public lists named public_lists seen m l a b ha hb (inl (k, edge, w)) =
-    let size = made_size files g h ranks order positions rows public m in
-    let pa = m.placed.node a (omega (arith, ha, size.0)) in
-    let pb = m.placed.node b (omega (arith, hb, size.0)) in
-    let below = m.rows_are.within (get_or positions a 0) k edge in
-    let real = (m.rows_are.edges (get_or positions a 0) k pa.0 below).0 edge in
-    let way = ways_to h order public m.public_are (get_or positions b 0) k
-    (((l.public_reaches k (omega (arith, below, size.0))).members (get_or positions b 0)).0 w) in
-    inr (
-      node_at order k,
-      (m.is_graph.edges a (node_at order k)).0 (subst (λ x. Edge g x (node_at order k)) pa.1 real),
-      leads_map (Edge h) (ImportsPublicly files) (λ x y. (m.is_public.edges x y).0) b (node_at order k)
-          (subst (λ x. Leads (Edge h) x (node_at order k)) pb.1 way),
-    )
-seen_to files g h ranks order positions rows public lists named public_lists seen m l a b ha hb (inr e) =
-    let size = made_size files g h ranks order positions rows public m in
-    let pa = m.placed.node a (omega (arith, ha, size.0)) in
-    let pb = m.placed.node b (omega (arith, hb, size.0)) in
-    inl (sym pa.1 ∙ ap (node_at order) e ∙ pb.1)
-
-seen_from : (files : List FileDesc) (g h : Graph) (ranks order positions : List ℕ) (rows public : Graph) (lists named public_lists seen : List (List ℕ))
-    → Made files g h ranks order positions rows public → Listed rows public order (length files) lists named public_lists seen → (a b : ℕ) → a < length files
-    → b < length files → SeesBy files a b → InLists public_lists (successors rows (get_or positions a 0)) (get_or positions b 0)
-    ⊎ (get_or positions a 0 ≡ get_or positions b 0)
-seen_from files g h ranks order positions rows public lists named public_lists seen m l a b ha hb (inl same) = inr (ap (λ x. get_or positions x 0) same)
-seen_from files g h ranks order positions rows public lists named public_lists seen m l a b ha hb (inr (d, i, way)) =
-    let size = made_size files g h ranks order positions rows public m in
-    let hd : d < length files = i.2.0 in
-    let pa = m.placed.node a (omega (arith, ha, size.0)) in
-    let pd = m.placed.node d (omega (arith, hd, size.0)) in
-    let edge : Edge g (node_at order (get_or positions a 0)) (node_at order (get_or positions d 0)) =
-    subst (λ x. Edge g x (node_at order (get_or positions d 0))) (sym pa.1) (subst (Edge g a) (sym pd.1) ((m.is_graph.edges a d).1 i)) in
-    let lead = ways_from h order positions public m.placed size.4 (public_within files h m.is_public) m.public_are b d (omega (arith, hd, size.0))
-    (leads_map (ImportsPublicly files) (Edge h) (λ x y. (m.is_public.edges x y).1) b d way) in
-    inl (
-      get_or positions d 0,
-      (m.rows_are.edges (get_or positions a 0) (get_or positions d 0) pa.0 pd.0).1 edge,
-      ((l.public_reaches (get_or positions d 0) (omega (arith, pd.0, size.0))).members (get_or positions b 0)).1 lead,
-    )
-
+-- `has` is membership
 pub has_is : (x : ℕ) (xs : List ℕ) → IsTrue (has x xs) ↔ Contains xs x
 has_is x xs = (λ e. Contains-from_any (λ a b h. eqb-true a b h) x xs e, λ w. list_any-from_Contains nat_eq_equiv x xs w)
 
-pub linked_of : (files : List FileDesc) (g h : Graph) (ranks order positions : List ℕ) (rows public : Graph) (lists named public_lists seen : List (List ℕ))
-    → Made files g h ranks order positions rows public → Listed rows public order (length files) lists named public_lists seen
-    → AreLinked files (record { ranks = ranks; set_order = order; positions = positions; reach = named; seen = seen })
-linked_of files g h ranks order positions rows public lists named public_lists seen m l =
-    let size = made_size files g h ranks order positions rows public m in
-    record {
-      whole = m.whole;
-      count = omega (arith, size.0, m.ordered.size);
-      ranks = ranks_are files g ranks m.is_graph m.ranked;
-      order = order_is files g ranks order m.is_graph m.ranked m.ordered;
-      reach = λ a inside. (
-          let at = m.placed.node a (omega (arith, inside, size.0)) in
-          let k = get_or positions a 0 in
-          let less : k < length files = omega (arith, at.0, size.0) in
-          let is = reach_is files g h ranks order positions rows public a (get_or lists k []) m inside
-          (λ j w. (let below = positions_below rows lists (length files) (rows_fall files g h ranks order positions rows public m) l.reaches k j less w in
-          omega (arith, below, size.0))) (l.reaches k less) in
-          subst (IsReach files (rank_in ranks) a) (sym (named_list order lists named k l.named_are (omega (arith, less, l.size)))) is);
-      sees = λ a b ha hb. (
-          let at = m.placed.node a (omega (arith, ha, size.0)) in
-          let k = get_or positions a 0 in
-          let union = l.unions k (omega (arith, at.0, size.0)) in (
-            λ t. sees_from files a b m.whole (seen_to files g h ranks order positions rows public lists named public_lists seen m l a b ha hb
-                ((union.members (get_or positions b 0)).0 ((has_is (get_or positions b 0) (get_or seen k [])).0 t))),
-            λ s. (has_is (get_or positions b 0) (get_or seen k [])).1
-                ((union.members (get_or positions b 0)).1 (seen_from files g h ranks order positions rows public lists named public_lists seen m l a b ha hb
-                (sees_to files a b s))),
-          ));
-    }
+-- ---- ranks and order
 
-pub listed_of : (n : ℕ) (rows public first second third : List (Vec ℕ Global)) (order nodes : List ℕ) (lists named public_lists seen : List (List ℕ))
-    → first ≡ rows → second ≡ public → third ≡ rows → nodes ≡ order → length rows ≡ n → length public ≡ n → length lists ≡ length first
-    → AreReaches (graph_of first) lists (length first) → named ≡ map (λ (list : List ℕ). map (node_at nodes) list) lists
-    → AreReaches (graph_of second) public_lists (length second) → length seen ≡ length third → AreUnions public_lists (graph_of third) seen (length third)
-    → Listed (graph_of rows) (graph_of public) order n lists named public_lists seen
-listed_of n rows public first second third order nodes lists named public_lists seen ea eb ec eo rn pn size reaches named_are public_reaches seen_size unions =
-    record {
-      size = omega (arith, size, ap length ea, rn);
-      reaches = subst (AreReaches (graph_of rows) lists) rn (subst (λ (rs : List (Vec ℕ Global)). AreReaches (graph_of rs) lists (length rs)) ea reaches);
-      named_are = subst (λ (o : List ℕ). named ≡ map (λ (list : List ℕ). map (node_at o) list) lists) eo named_are;
-      public_reaches = subst (AreReaches (graph_of public) public_lists) pn
-          (subst (λ (rs : List (Vec ℕ Global)). AreReaches (graph_of rs) public_lists (length rs)) eb public_reaches);
-      seen_size = omega (arith, seen_size, ap length ec, rn);
-      unions = subst (AreUnions public_lists (graph_of rows) seen) rn
-          (subst (λ (rs : List (Vec ℕ Global)). AreUnions public_lists (graph_of rs) seen (length rs)) ec unions);
-    }
+module _ {files : List FileDesc} {graph : ImportGraph} {ranking : Ranking} (r : AreRanked files graph ranking) where
+  order_size : length ranking.order.items ≡ length files
+  order_size = omega (arith, r.order.size, r.ranks.size, r.imports.size)
 
--- ---- files without a bad import
+  ranks_are : AreRanks files (rank_of ranking)
+  ranks_are = record {
+    above = λ a b i. r.ranks.above a b ((r.imports.edges a b).1 i);
+    least = λ a h. (elim (r.ranks.least a (omega (arith, h, r.imports.size))) [
+      | inl zero ↦ inl zero
+      | inr (b, edge, more) ↦ inr (b, (r.imports.edges a b).0 edge, more)
+    ]);
+  }
 
-rank_falls : (files : List FileDesc) (g : Graph) (ranks : List ℕ) → IsGraph files g → IsRanked g ranks → (c a : ℕ) → Reaches files a c
-    → rank_in ranks c ≤ rank_in ranks a
-rank_falls files g ranks is r c _ here = omega arith
-rank_falls files g ranks is r c _ (through a b i more) =
-    let less = r.above a b ((is.edges a b).1 i) in let rest = rank_falls files g ranks is r c b more in omega (arith, less, rest)
+  order_is : IsSetOrder (length files) (rank_of ranking) ranking.order.items
+  order_is = record {
+    rises = r.order.rises;
+    every = λ a. (
+      λ w. (let h = (r.order.whole a).0 w in omega (arith, h, r.order.size, order_size)),
+      λ h. (r.order.whole a).1 (omega (arith, h, r.order.size, order_size)),
+    );
+  }
 
-not_wrong : (files : List FileDesc) (g : Graph) (ranks : List ℕ) → IsGraph files g → IsRanked g ranks → ((a : ℕ) → HasMissing files (imports_at files a) → ⊥)
-    → (a : ℕ) (i : ImportDesc) → Contains (imports_at files a) i → (k : Kind) → IsWrong files a i k → ⊥
-not_wrong files g ranks is r whole a i w _ (missing none) = whole a (i, w, none)
-not_wrong files g ranks is r whole a i w _ (cyclic b n reach) =
-    let less = r.above a b ((is.edges a b).1 (i, w, n)) in
-    let back = rank_falls files g ranks is r a b reach in
-    omega (arith, less, back)
+-- ---- files and positions
 
-pub none_bad : (files : List FileDesc) (g : Graph) (ranks : List ℕ) → IsGraph files g → IsRanked g ranks → ((a : ℕ) → HasMissing files (imports_at files a) → ⊥)
-    → NoneBad files
-none_bad files g ranks is r whole a p k (i, w, at, wrong) = not_wrong files g ranks is r whole a i w k wrong
+module _ {files : List FileDesc} {graph : ImportGraph} {ranking : Ranking} {positioned : Positioned} (m : ArePositioned files graph ranking positioned) where
+  pub rows_size : length positioned.imports.items ≡ length ranking.order.items
+  rows_size = omega (arith, m.imports.size, length_graph positioned.imports.items)
 
-pub no_cycle : (files : List FileDesc) (g : Graph) → IsGraph files g → NoneBad files → HasNoCycle g
-no_cycle files g is none a b edge way =
-    no_way_back files a b none ((is.edges a b).0 edge) (leads_map (Edge g) (Imports files) (λ x y. (is.edges x y).0) a b way)
+  pub public_size : length positioned.public_imports.items ≡ length positioned.imports.items
+  public_size = omega (arith, rows_size, m.public_imports.size, length_graph positioned.public_imports.items)
 
-pub none_missing : (files : List FileDesc) → NoneBad files → (a : ℕ) → HasMissing files (imports_at files a) → ⊥
-none_missing files none a (i, w, n) = none a i.place _ (i, w, refl, missing n)
+  -- imports go to lower positions
+  pub rows_fall : IsFalling (import_rows positioned)
+  rows_fall =
+      let g = file_imports graph in
+      renumbered_falls g g ranking.ranks.items ranking.order.items (import_rows positioned) m.ranked.ranks m.ranked.order (λ a b edge. edge) m.imports
+
+  pub public_falls : IsFalling (public_rows positioned)
+  public_falls =
+      let sub : (a b : ℕ) → Edge (file_public_imports graph) a b → Edge (file_imports graph) a b =
+      λ a b edge. (m.ranked.imports.edges a b).1 (public_imports files a b ((m.ranked.public_imports.edges a b).0 edge)) in
+      renumbered_falls (file_imports graph) (file_public_imports graph) ranking.ranks.items ranking.order.items (public_rows positioned)
+      m.ranked.ranks m.ranked.order sub m.public_imports
+
+  -- each file has a position, and is the file there
+  position_below : (a : ℕ) → a < length files → position_of positioned a < length positioned.imports.items
+  position_below a h = let at = m.positions.node a (omega (arith, h, order_size m.ranked)) in omega (arith, at.0, rows_size)
+
+  file_there : (a : ℕ) → a < length files → file_at ranking (position_of positioned a) ≡ a
+  file_there a h = (m.positions.node a (omega (arith, h, order_size m.ranked))).1
+
+  -- ---- ways between positions, and between files
+
+  edge_to : (k j : ℕ) → Edge (import_rows positioned) k j → Imports files (file_at ranking k) (file_at ranking j)
+  edge_to k j edge =
+      let inside = edge_below (import_rows positioned) k j edge in
+      let real = (m.imports.edges k j (omega (arith, inside, m.imports.size)) (m.imports.within k j edge)).0 edge in
+      (m.ranked.imports.edges (file_at ranking k) (file_at ranking j)).0 real
+
+  edge_from : (a b : ℕ) → a < length files → Imports files a b → Edge (import_rows positioned) (position_of positioned a) (position_of positioned b)
+  edge_from a b h i =
+      let k = position_of positioned a in
+      let j = position_of positioned b in
+      let hk = position_below a h in
+      let hj = position_below b i.2.0 in
+      (m.imports.edges k j (omega (arith, hk, rows_size)) (omega (arith, hj, rows_size))).1
+      (rw (file_there a h, file_there b i.2.0) ((m.ranked.imports.edges a b).1 i))
+
+  way_to : (k j : ℕ) → Leads (Edge (import_rows positioned)) k j → Reaches files (file_at ranking j) (file_at ranking k)
+  way_to k j way =
+      leads_map (Edge (file_imports graph)) (Imports files) (λ x y. (m.ranked.imports.edges x y).0) (file_at ranking k) (file_at ranking j)
+      (ways_to (file_imports graph) ranking.order.items (import_rows positioned) m.imports k j way)
+
+  way_from : (a c : ℕ) → a < length files → Reaches files a c
+      → Leads (Edge (import_rows positioned)) (position_of positioned c) (position_of positioned a)
+  way_from a c h way =
+      ways_from (file_imports graph) ranking.order.items positioned.positions.items (import_rows positioned) m.positions
+      (omega (arith, m.ranked.imports.size, order_size m.ranked)) (graph_within m.ranked.imports) m.imports c a (omega (arith, h, order_size m.ranked))
+      (leads_map (Imports files) (Edge (file_imports graph)) (λ x y. (m.ranked.imports.edges x y).1) c a way)
+
+  public_way_to : (k j : ℕ) → Leads (Edge (public_rows positioned)) k j → Leads (ImportsPublicly files) (file_at ranking k) (file_at ranking j)
+  public_way_to k j way =
+      leads_map (Edge (file_public_imports graph)) (ImportsPublicly files) (λ x y. (m.ranked.public_imports.edges x y).0) (file_at ranking k)
+      (file_at ranking j) (ways_to (file_public_imports graph) ranking.order.items (public_rows positioned) m.public_imports k j way)
+
+  public_way_from : (a c : ℕ) → a < length files → Leads (ImportsPublicly files) c a
+      → Leads (Edge (public_rows positioned)) (position_of positioned c) (position_of positioned a)
+  public_way_from a c h way =
+      ways_from (file_public_imports graph) ranking.order.items positioned.positions.items (public_rows positioned) m.positions
+      (omega (arith, m.ranked.public_imports.size, order_size m.ranked)) (public_within m.ranked.public_imports) m.public_imports c a
+      (omega (arith, h, order_size m.ranked))
+      (leads_map (ImportsPublicly files) (Edge (file_public_imports graph)) (λ x y. (m.ranked.public_imports.edges x y).1) c a way)
+
+  -- ---- what a file reaches
+
+  reach_members : (a c : ℕ) (list : List ℕ) → a < length files → IsReachList (import_rows positioned) (position_of positioned a) list
+      → Contains (map (file_at ranking) list) c ↔ Reaches files a c
+  reach_members a c list h is = (
+    λ w. (let (k, inside, at) = (map_members (file_at ranking) list c).0 w in
+        subst (λ x. Reaches files x c) (file_there a h) (subst (Reaches files (file_at ranking (position_of positioned a))) at
+        (way_to k (position_of positioned a) ((is.members k).0 inside)))),
+    λ way. (map_members (file_at ranking) list c).1 (
+      position_of positioned c,
+      (is.members (position_of positioned c)).1 (way_from a c h way),
+      file_there c (leads_inside files c a h way),
+    ),
+  )
+
+  reach_is : (a : ℕ) (list : List ℕ) → a < length files → IsReachList (import_rows positioned) (position_of positioned a) list
+      → IsReach files (rank_of ranking) a (map (file_at ranking) list)
+  reach_is a list h is = record {
+    members = λ c. reach_members a c list h is;
+    rises = λ k more. (
+        let next : k + 1 < length list = omega (arith, more, length_map (file_at ranking) list) in
+        let last = get_or list (k + 1) 0 in
+        let below = leads_le (import_rows positioned) last (position_of positioned a) rows_fall
+        ((is.members last).0 (k + 1, next, same_at list (k + 1) next)) in
+        let inside = position_below a h in
+        let far = before_far ranking.ranks.items ranking.order.items m.ranked.order (get_or list k 0) last (is.rises k next)
+        (omega (arith, below, inside, rows_size)) in
+        rw (map_at (file_at ranking) list k (omega (arith, next)), map_at (file_at ranking) list (k + 1) next) far);
+  }
+
+  -- ---- what a file sees
+
+  module _ {seen : List (List ℕ)} (s : ArePositionsSeen positioned seen) where
+    seen_to : (a b : ℕ) → a < length files → b < length files → IsListed positioned s.lists a b → SeesBy files a b
+    seen_to a b ha hb (inl (k, edge, w)) =
+        let j = position_of positioned b in
+        let inside : k < length positioned.imports.items =
+        (let below = m.imports.within (position_of positioned a) k edge in omega (arith, below, rows_size)) in
+        let way = public_way_to j k (((s.reaches k inside).members j).0 w) in
+        inr (
+          file_at ranking k,
+          subst (λ x. Imports files x (file_at ranking k)) (file_there a ha) (edge_to (position_of positioned a) k edge),
+          subst (λ x. Leads (ImportsPublicly files) x (file_at ranking k)) (file_there b hb) way,
+        )
+    seen_to a b ha hb (inr same) = inl (sym (file_there a ha) ∙ ap (file_at ranking) same ∙ file_there b hb)
+
+    seen_from : (a b : ℕ) → a < length files → SeesBy files a b → IsListed positioned s.lists a b
+    seen_from a b ha (inl same) = inr (ap (position_of positioned) same)
+    seen_from a b ha (inr (d, i, way)) =
+        let k = position_of positioned d in
+        let j = position_of positioned b in
+        inl (k, edge_from a d ha i, ((s.reaches k (position_below d i.2.0)).members j).1 (public_way_from d b i.2.0 way))
+
+    seen_is : (a b : ℕ) → a < length files → b < length files
+        → IsTrue (has (position_of positioned b) (get_or seen (position_of positioned a) [])) ↔ Sees files a b
+    seen_is a b ha hb =
+        let j = position_of positioned b in
+        let list = get_or seen (position_of positioned a) [] in
+        let union = s.unions (position_of positioned a) (position_below a ha) in
+        let sees = sees_is files m.ranked.none_bad a b in (
+          λ t. sees.0 (seen_to a b ha hb ((union.members j).0 ((has_is j list).0 t))),
+          λ w. (has_is j list).1 ((union.members j).1 (seen_from a b ha (sees.1 w))),
+        )
+
+-- ---- the links
+
+named_list : (f : ℕ → ℕ) (lists named : List (List ℕ)) (k : ℕ) → named ≡ map (λ (list : List ℕ). map f list) lists → k < length lists
+    → get_or named k [] ≡ map f (get_or lists k [])
+named_list f lists named k e h = ap (λ (ls : List (List ℕ)). get_or ls k []) e ∙ get_or-map (λ (list : List ℕ). map f list) lists k [] [] h
+
+named_length : (f : ℕ → ℕ) (lists named : List (List ℕ)) → named ≡ map (λ (list : List ℕ). map f list) lists → length named ≡ length lists
+named_length f lists named e = let len : length (map (λ (list : List ℕ). map f list) lists) ≡ length lists = grind (arith, common_steps) in ap length e ∙ len
+
+module _ {files : List FileDesc} {graph : ImportGraph} {ranking : Ranking} {positioned : Positioned} {reach seen : List (List ℕ)}
+    (m : ArePositioned files graph ranking positioned) (r : AreFilesReached ranking positioned reach) (s : ArePositionsSeen positioned seen) where
+  ranks_size : length ranking.ranks.items ≡ length files
+  ranks_size = omega (arith, m.ranked.order.size, order_size m.ranked)
+
+  pub sound_of : IsSound (links_of ranking positioned reach seen)
+  sound_of = record {
+    size = omega (arith, m.positions.size, m.ranked.order.size);
+    reach_inside = λ a h. (
+        let inside = position_below m a (omega (arith, h, ranks_size)) in
+        omega (arith, inside, r.size, named_length (file_at ranking) r.lists reach r.named));
+    seen_inside = λ a h. (let inside = position_below m a (omega (arith, h, ranks_size)) in omega (arith, inside, s.size));
+    rises = λ a h. (s.unions (position_of positioned a) (position_below m a (omega (arith, h, ranks_size)))).rises;
+  }
+
+  pub linked_of : AreLinked files (links_of ranking positioned reach seen)
+  linked_of = record {
+    whole = m.ranked.none_bad;
+    count = ranks_size;
+    ranks = ranks_are m.ranked;
+    order = order_is m.ranked;
+    reach = λ a h. (
+        let k = position_of positioned a in
+        let inside = position_below m a h in
+        subst (IsReach files (rank_of ranking) a) (sym (named_list (file_at ranking) r.lists reach k r.named (omega (arith, inside, r.size))))
+        (reach_is m a (get_or r.lists k []) h (r.reaches k inside)));
+    sees = seen_is m s;
+  }

@@ -1,4 +1,5 @@
 pub mod Graphs
 pub mod Imports
 pub mod Linked
+pub mod Positioned
 pub mod Visible

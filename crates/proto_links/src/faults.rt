@@ -9,7 +9,7 @@ ghost use Rattle.proto_links.specs.Imports.{AreInNameOrder, IsFirstBad, IsWrong,
 ghost use Rattle.proto_base.specs.declared.kind.Kind.{Kind};
 
 use crate::order::file_named;
-use digraph::{predecessors, reached};
+use digraph::{mark_reached, predecessors};
 use proto_base::{Kind, Place};
 use proto_desc::file::{FileDesc, ImportDesc};
 use std::alloc::{AllocError, Global};
@@ -87,7 +87,7 @@ pub(crate) fn first_bad(
 {
     let turned = predecessors(alloc, imports)?;
     for file in 0..files.len() {
-        let reaching = reached(alloc, &turned, file)?;
+        let reaching = mark_reached(alloc, &turned, file)?;
         let first = first_wrong(files, file, files[file].imports.as_slice(), &reaching);
         if let Some(wrong) = first {
             return Ok(Some((file, wrong)));

@@ -9,6 +9,7 @@ mod laws;
 mod linking;
 mod links;
 mod order;
+mod positioned;
 
 pub use laws::links_are_unique;
 pub use linking::{LinkError, link};

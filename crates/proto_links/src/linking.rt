@@ -1,11 +1,9 @@
 //! Linking: finding each import's file, and what is wrong with the imports.
 
 ghost use Rattle.std.specs.Prelude.{◌≡◌, ℕ, Err, IfOk};
-ghost use Rattle.digraph.specs.Edges.{graph_of};
-ghost use Rattle.digraph.specs.Ranks.{IsRankOrder, IsRanked};
-ghost use Rattle.proto_links.specs.Graphs.{IsGraph, IsPublicGraph};
-ghost use Rattle.proto_links.specs.Imports.{AreInNameOrder, IsFirstBad, NoneBad};
+ghost use Rattle.proto_links.specs.Imports.{AreInNameOrder, IsFirstBad};
 ghost use Rattle.proto_links.specs.Linked.{AreLinked};
+ghost use Rattle.proto_links.specs.Positioned.{AreRanked};
 ghost use Rattle.proto_base.specs.declared.kind.Kind.{Kind};
 ghost use Rattle.proto_base.specs.declared.place.Place.{Place};
 ghost use Rattle.proto_links.specs.declared.linking.LinkError.TheVariants as errors;
@@ -13,9 +11,8 @@ ghost use Rattle.proto_links.specs.declared.linking.LinkError.TheVariants as err
 use crate::faults::first_bad;
 use crate::graph::{Graph, import_graph};
 use crate::links::{FileId, Links};
-use digraph::{
-    Ranking, positions_of, rank_nodes, reach_lists, renumbered, union_lists, with_nodes,
-};
+use crate::positioned::{by_positions, files_reached, positions_seen};
+use digraph::{Ranking, rank_nodes};
 use proto_base::{Kind, Place};
 use proto_desc::file::FileDesc;
 use std::alloc::{AllocError, Global};
@@ -46,21 +43,15 @@ fn link_files(
     graph: &Graph,
     ranking: Ranking,
 ) -> Result<Links, AllocError>
-    requires none { NoneBad files.now }
-    requires imports { IsGraph files.now (graph_of graph.now.imports.items) }
-    requires public { IsPublicGraph files.now (graph_of graph.now.public_imports.items) }
-    requires ranks { IsRanked (graph_of graph.now.imports.items) ranking.ranks.items }
-    requires order { IsRankOrder ranking.ranks.items ranking.order.items }
+    requires { AreRanked files.now graph.now ranking }
     ensures { IfOk result (AreLinked files.now) }
 {
-    let positions = positions_of(alloc, &ranking)?;
-    let rows = renumbered(alloc, &graph.imports, &ranking.order, &positions)?;
-    let public_rows = renumbered(alloc, &graph.public_imports, &ranking.order, &positions)?;
-    let reach = with_nodes(alloc, &reach_lists(alloc, &rows)?, &ranking.order)?;
-    let seen = union_lists(alloc, &reach_lists(alloc, &public_rows)?, &rows)?;
+    let positioned = by_positions(alloc, files, graph, &ranking)?;
+    let reach = files_reached(alloc, &positioned, &ranking)?;
+    let seen = positions_seen(alloc, &positioned)?;
     Ok(Links {
         ranking,
-        positions,
+        positions: positioned.positions,
         reach,
         seen,
     })

@@ -1,7 +1,7 @@
 //! The occurrences of names in files, as a walk over the files finds them.
 
 ghost use Rattle.std.specs.Prelude.{◌≡◌, ◌<◌, ◌≤◌, ◌++◌, map, flat_map, length, IfNone, IfOk, IfSome, OnOk};
-ghost use Rattle.proto_desc.specs.DeclaredNames.{declared_field, declared_oneof, declared_value, declared_method, declared_by_enum, declared_by_message, declared_by_service, declared_in};
+ghost use Rattle.proto_desc.specs.DeclaredNames.{declared_by_enum, declared_by_message, declared_by_service, declared_in};
 ghost use Rattle.proto_names.specs.Entries.{occurrence};
 ghost use Rattle.proto_names.specs.Occurrences.{declared_occurrence, package_occurrence, package_occurrences, occurrences_of, occurrences};
 ghost use Rattle.proto_names.specs.Scopes.{fronts};
@@ -9,13 +9,12 @@ ghost use Rattle.proto_names.specs.Scopes.{fronts};
 use crate::entries::{Entries, Entry, Spot, name_in};
 use crate::scope::shorter_front;
 use proto_base::Place;
-use proto_desc::enumeration::{EnumDesc, ValueDesc};
-use proto_desc::field::FieldDesc;
+use proto_desc::enumeration::EnumDesc;
 use proto_desc::file::{FileDesc, PackageDesc};
 use proto_desc::message::MessageDesc;
 use proto_desc::name_kind::NameKind;
-use proto_desc::oneof::OneofDesc;
-use proto_desc::service::{MethodDesc, ServiceDesc};
+use proto_desc::service::ServiceDesc;
+use proto_desc::{DeclaredName, Declares};
 use proto_links::FileId;
 use std::alloc::{AllocError, Global};
 
@@ -43,74 +42,20 @@ fn declared_entry(
     })
 }
 
-fn put_fields(
+/// Puts elements that declare their own names alone.
+fn put_members<D: Declares>(
     alloc: Global,
     entries: &mut Entries,
     file: FileId,
     scope: &str,
-    fields: &[FieldDesc],
+    members: &[D],
 ) -> Result<(), AllocError>
     ensures { OnOk result (entries.new ≡ entries.old
-        ++ map (declared_occurrence file) (map (declared_field scope.now) fields.now)) }
+        ++ map (declared_occurrence file) (map (D.declared scope.now) members.now)) }
 {
-    for field in fields {
-        let name = field.name.as_str();
-        let entry = declared_entry(alloc, file, scope, name, field.place, NameKind::Field)?;
-        entries.push(entry)?;
-    }
-    Ok(())
-}
-
-fn put_oneofs(
-    alloc: Global,
-    entries: &mut Entries,
-    file: FileId,
-    scope: &str,
-    oneofs: &[OneofDesc],
-) -> Result<(), AllocError>
-    ensures { OnOk result (entries.new ≡ entries.old
-        ++ map (declared_occurrence file) (map (declared_oneof scope.now) oneofs.now)) }
-{
-    for oneof in oneofs {
-        let name = oneof.name.as_str();
-        let entry = declared_entry(alloc, file, scope, name, oneof.place, NameKind::Oneof)?;
-        entries.push(entry)?;
-    }
-    Ok(())
-}
-
-fn put_values(
-    alloc: Global,
-    entries: &mut Entries,
-    file: FileId,
-    scope: &str,
-    values: &[ValueDesc],
-) -> Result<(), AllocError>
-    ensures { OnOk result (entries.new ≡ entries.old
-        ++ map (declared_occurrence file) (map (declared_value scope.now) values.now)) }
-{
-    for value in values {
-        let name = value.name.as_str();
-        let entry = declared_entry(alloc, file, scope, name, value.place, NameKind::Value)?;
-        entries.push(entry)?;
-    }
-    Ok(())
-}
-
-fn put_methods(
-    alloc: Global,
-    entries: &mut Entries,
-    file: FileId,
-    scope: &str,
-    methods: &[MethodDesc],
-) -> Result<(), AllocError>
-    ensures { OnOk result (entries.new ≡ entries.old
-        ++ map (declared_occurrence file) (map (declared_method scope.now) methods.now)) }
-{
-    for method in methods {
-        let name = method.name.as_str();
-        let entry = declared_entry(alloc, file, scope, name, method.place, NameKind::Method)?;
-        entries.push(entry)?;
+    for member in members {
+        let DeclaredName { name, place, kind } = member.declared_name();
+        entries.push(declared_entry(alloc, file, scope, name, place, kind)?)?;
     }
     Ok(())
 }
@@ -129,7 +74,7 @@ fn put_enum(
     let name = declared.name.as_str();
     let entry = declared_entry(alloc, file, scope, name, declared.place, NameKind::Enum)?;
     entries.push(entry)?;
-    put_values(alloc, entries, file, scope, declared.values.as_slice())
+    put_members(alloc, entries, file, scope, declared.values.as_slice())
 }
 
 fn put_enums(
@@ -163,7 +108,7 @@ fn put_service(
     let entry = declared_entry(alloc, file, scope, name, service.place, NameKind::Service)?;
     entries.push(entry)?;
     let full = name_in(alloc, scope, name)?;
-    put_methods(
+    put_members(
         alloc,
         entries,
         file,
@@ -204,8 +149,8 @@ fn put_message(
     entries.push(entry)?;
     let full = name_in(alloc, scope, name)?;
     let inside = full.as_str();
-    put_fields(alloc, entries, file, inside, message.fields.as_slice())?;
-    put_oneofs(alloc, entries, file, inside, message.oneofs.as_slice())?;
+    put_members(alloc, entries, file, inside, message.fields.as_slice())?;
+    put_members(alloc, entries, file, inside, message.oneofs.as_slice())?;
     put_enums(alloc, entries, file, inside, message.enums.as_slice())?;
     for nested in message.nested.as_slice() {
         put_message(alloc, entries, file, inside, nested)?;

@@ -166,25 +166,26 @@ fn readers_fail(rt: HostRuntime) -> Result<(), Fail> {
 #[test]
 fn writers_fail(rt: HostRuntime) -> Result<(), Fail> {
     let compiled = compiled(&rt, &THREE_FILES, &Limits::standard())?;
-    let failing = Output {
+    let mut failing = Output {
         fails_at: 3,
         ..output_by(&rt, 7)
     };
-    let stuck = Output {
+    let mut stuck = Output {
         takes_none_at: 1,
         ..output_by(&rt, 7)
     };
-    let unflushed = Output {
+    let mut unflushed = Output {
         flush_fails: true,
         ..output_by(&rt, 4_096)
     };
-    for (mut output, written) in vec![in rt.alloc();
-        (failing, 14),
-        (stuck, 0),
-        (unflushed, LENGTH),
-    ]? {
+    let outputs = [
+        (&mut failing, 14),
+        (&mut stuck, 0),
+        (&mut unflushed, LENGTH),
+    ];
+    for (output, written) in outputs {
         let mut input = input_of(BODY, 4_096, NEVER);
-        let ended = exchanged(&rt, &compiled, &mut input, &mut output);
+        let ended = exchanged(&rt, &compiled, &mut input, output);
         assert!(rt;
             ended == (Err(IoFault::WriteFault { written }), 0, 1),
             "{written} bytes"

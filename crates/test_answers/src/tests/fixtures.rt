@@ -1,4 +1,4 @@
-//! Sources, and the responses to bodies over them.
+//! Sources, the responses to bodies over them, and the columns of rows.
 
 use proto_base::Limits;
 use proto_compile::{Compiled, Source, compile};
@@ -67,4 +67,9 @@ where
     let compiled = compiled(rt, files, limits)?;
     let bytes = answer_body(rt, &compiled, plan, gate, mode, body)?;
     Ok(hex::encode(rt.alloc(), bytes)?)
+}
+
+/// The first column of a row, and those behind it.
+pub(super) fn column(row: &str) -> Result<(&str, &str), Fail> {
+    Ok(row.split_once("|").ok_or("a column")?)
 }

@@ -1,6 +1,6 @@
 //! What requests over HTTP are answered, in the order in which path, method and content type are judged.
 
-use super::fixtures::{THREE_FILES, compiled};
+use super::fixtures::{THREE_FILES, column, compiled};
 use grpcweb_core::{HttpAnswer, respond};
 use proto_base::Limits;
 use reflect_core::Mode;
@@ -28,25 +28,12 @@ static ROWS: &str = "\
     POST|/grpc.reflection.v1.ServerReflection/ServerReflectionInfo/|application/grpc-web||200 content-type: application/grpc-web+proto, 8000000010677270632d7374617475733a31320d0a\n\
     POST|/grpc.reflection.v1.serverreflection/ServerReflectionInfo|application/grpc-web||200 content-type: application/grpc-web+proto, 8000000010677270632d7374617475733a31320d0a";
 
-/// A row.
-#[derive(Drop)]
-struct Row<'a> {
-    method: &'a str,
-    target: &'a str,
-    content_type: Option<&'a str>,
-    body: &'a str,
-    wanted: &'a str,
-}
-
-fn row_of(line: &str) -> Option<Row<'_>> {
-    let mut columns = line.split('|');
-    Some(Row {
-        method: columns.next()?,
-        target: columns.next()?,
-        content_type: columns.next().filter(|text| *text != "-"),
-        body: columns.next()?,
-        wanted: columns.next()?,
-    })
+/// A content type, or none.
+fn content_type_of(column: &str) -> Option<&str> {
+    match column {
+        "-" => None,
+        text => Some(text),
+    }
 }
 
 /// An answer as a row has it.
@@ -65,21 +52,24 @@ fn http_answers(rt: HostRuntime) -> Result<(), Fail> {
     let plan = Plan::new(2, 1).ok_or("a plan")?;
     let compiled = compiled(&rt, &THREE_FILES, &Limits::standard())?;
     for line in ROWS.split("\n") {
-        let row = row_of(line).ok_or("a row")?;
-        let body = hex::decode(rt.alloc(), row.body)?;
+        let (method, row) = column(line)?;
+        let (target, row) = column(row)?;
+        let (content_type, row) = column(row)?;
+        let (body, wanted) = column(row)?;
+        let body = hex::decode(rt.alloc(), body)?;
         let answer = respond(
             &rt,
             &compiled,
             plan,
             &NoGate,
             Mode::Once,
-            row.method,
-            row.target,
-            row.content_type,
+            method,
+            target,
+            content_type_of(content_type),
             &body,
         )?;
         let found = printed(rt.alloc(), answer)?;
-        assert!(rt; found.as_str() == row.wanted, "{line}: {found}");
+        assert!(rt; found.as_str() == wanted, "{line}: {found}");
     }
     Ok(())
 }

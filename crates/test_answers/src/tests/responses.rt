@@ -1,6 +1,6 @@
 //! Request bodies and their responses, byte by byte, by the fields of `reflection.proto` and the frames of PROTOCOL-WEB.md.
 
-use super::fixtures::{ONE_FILE, THREE_FILES, response};
+use super::fixtures::{ONE_FILE, THREE_FILES, column, response};
 use proto_base::{Limit, Limits};
 use reflect_core::Mode;
 use share_work::{NoGate, Plan};
@@ -61,11 +61,6 @@ fn limits_of(name: &str) -> Option<Limits> {
         "body=13" => standard.lowered(Limit::BodyBytes, 13),
         _ => Some(standard),
     }
-}
-
-/// The first column of a row, and those behind it.
-fn column(row: &str) -> Result<(&str, &str), Fail> {
-    Ok(row.split_once("|").ok_or("a column")?)
 }
 
 /// Each row has the same response by every plan.

@@ -15,6 +15,6 @@ returns-then-ends_below-clause-union c =
     let inside = c.requires.nodes node (node_at c.args.nodes.now 0 (omega (arith, c.in-len1.len_at_least))) in
     let below : (x : ℕ) → Contains (get_or lists node []) x → x < c.args.own =
     subst (λ (xs : List ℕ). (x : ℕ) → Contains xs x → x < c.args.own) c.get-list.ensures (c.ends_below.ensures c.if-ends_below.true) in
-    IfOk-weaker c.extended.result _ _ (λ union is. union_of_one lists c.args.nodes.now node c.args.own union.items
+    IfOk-weaker c.append_number.result _ _ (λ union is. union_of_one lists c.args.nodes.now node c.args.own union.items
     (one_long c.args.nodes.now c.in-len1.len_at_least c.in-len1.len_below) (is ∙ ap (λ (xs : List ℕ). xs ++ c.args.own ∷ []) c.get-list.ensures)
-    (c.requires.rises node inside) below) c.extended.ensures
+    (c.requires.rises node inside) below) c.append_number.ensures

@@ -41,13 +41,14 @@ loop-node-preserved c =
     elim c.if-count-successors.branch [
       | then-count-successors+in_ok-push w ↦ (
           let whole : count ≡ length (successors g node) = omega (arith, size, w.if-count-successors.true) in
-          appending_push g marks nodes c.args.ready.now.items k count c.loop-node.passed _ c.loop-node.ready.items c.if-count-successors.ready.items (omega arith)
-          passed (passed_all g marks node count whole passed) refl (ap (λ (v : Vec ℕ Global). v.items) w.ready-is ∙ w.in_ok-push.ensures.items)
-          c.loop-node.invariant)
+          appending_push g marks nodes c.args.ready.now.items k count c.loop-node.passed _ c.loop-node.ready.items
+          c.if-count-successors.ready.items (omega arith) passed (passed_all g marks node count whole passed) refl
+          (ap (λ (v : Vec ℕ Global). v.items) w.ready-is ∙ w.in_ok-push.ensures.items) c.loop-node.invariant)
       | else-count-successors w ↦ (
           let part : count ≡ length (successors g node) → ⊥ = λ e. omega (arith, size, e, w.if-count-successors.false) in
-          appending_skip g marks nodes c.args.ready.now.items k count c.loop-node.passed _ c.loop-node.ready.items c.if-count-successors.ready.items (omega arith)
-          passed (stopped g marks node count part stops) refl (ap (λ (v : Vec ℕ Global). v.items) w.ready-is) c.loop-node.invariant)
+          appending_skip g marks nodes c.args.ready.now.items k count c.loop-node.passed _ c.loop-node.ready.items
+          c.if-count-successors.ready.items (omega arith) passed (stopped g marks node count part stops) refl
+          (ap (λ (v : Vec ℕ Global). v.items) w.ready-is) c.loop-node.invariant)
     ]
 
 pub returns-clause-ready : goal.returns-clause-ready

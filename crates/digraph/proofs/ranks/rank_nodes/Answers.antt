@@ -42,7 +42,8 @@ next_ready-requires-clause-turned c = subst (λ (rows : List (Vec ℕ Global)). 
 
 pub next_ready-requires-clause-settled : goal.next_ready-requires-clause-settled
 next_ready-requires-clause-settled c b w =
-    let below = ready_below (graph_of c.args.graph.now) _ c.loop-alloc.invariant b (subst (λ (xs : List ℕ). Contains xs b) c.deref-in-loop-alloc-4.ensures.value w) in
+    let below = ready_below (graph_of c.args.graph.now) _ c.loop-alloc.invariant b
+    (subst (λ (xs : List ℕ). Contains xs b) c.deref-in-loop-alloc-4.ensures.value w) in
     omega (arith, below, c.deref-in-loop-alloc-2.ensures.len, c.in_ok-turned.ensures.size, c.in_ok-turned.turned.ok.0, length_graph c.args.graph.now)
 
 pub next_ready-requires-clause-passed : goal.next_ready-requires-clause-passed

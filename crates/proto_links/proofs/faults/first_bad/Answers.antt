@@ -9,8 +9,8 @@ pub predecessors-requires : goal.predecessors-requires
 predecessors-requires c a b edge =
     let named = ((c.requires.graph.edges a b).0 edge).2 in omega (arith, named.0, c.requires.graph.size, length_graph c.args.imports.now)
 
-pub reached-requires-clause-within : goal.reached-requires-clause-within
-reached-requires-clause-within c a b edge =
+pub mark_reached-requires-clause-within : goal.mark_reached-requires-clause-within
+mark_reached-requires-clause-within c a b edge =
     let within = turned_within (graph_of c.args.imports.now) (graph_of c.in_ok-turned.turned.items)
     (omega (arith, c.in_ok-turned.ensures.size, length_graph c.args.imports.now, length_graph c.in_ok-turned.turned.items)) c.in_ok-turned.ensures.turned a
     b (subst (λ (rows : List (Vec ℕ Global)). Edge (graph_of rows) a b) c.deref.ensures.value edge) in

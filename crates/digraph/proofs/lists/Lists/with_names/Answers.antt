@@ -1,7 +1,7 @@
 use Rattle.std.proofs.Common.{◌∙◌, ap, ℕ, List, ◌++◌, map}
 use Rattle.digraph.specs.Ranges.{ranges_of, name_of}
 use Rattle.digraph.proofs.Naming.{view_named}
-use Rattle.digraph.proofs.lists.Lists.named.Goals as goal
+use Rattle.digraph.proofs.lists.Lists.with_names.Goals as goal
 
 pub returns : goal.returns
 returns c =

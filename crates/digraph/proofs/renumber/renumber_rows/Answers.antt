@@ -3,7 +3,7 @@ use Rattle.std.specs.Prelude.{Contains}
 use Rattle.digraph.specs.Edges.{graph_of}
 use Rattle.digraph.proofs.Renumbering.{rowed_more, rowed_all}
 use Rattle.digraph.proofs.Rows.{graph_push, length_graph}
-use Rattle.digraph.proofs.renumber.renumbered.Goals as goal
+use Rattle.digraph.proofs.renumber.renumber_rows.Goals as goal
 
 pub falling_positions-requires : goal.falling_positions-requires
 falling_positions-requires c b w =
