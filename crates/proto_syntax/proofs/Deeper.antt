@@ -59,9 +59,6 @@ Sees g ts (Read x us) o = o ≡ Read x us
 Sees g ts (Stops false us) o = o ≡ Stops false us
 Sees g ts (Stops true us) o = GoesOn g ts us
 
-record_front : (g : Grammar) (ts us us' : List Spelled) → us ≡ us' → GoesOn g ts us → GoesOn g ts us'
-record_front g ts us us' e h = subst (GoesOn g ts) e h
-
 one_sees : (c : Class) (ts : List Spelled) → Sees (One c) ts (read_one c ts) (read_one c ts)
 one_sees c [] = refl
 one_sees c (t ∷ ts) = by_cases (fits c t.lexeme)

@@ -5,16 +5,16 @@ use Rattle.proto_tokens.specs.Token.{Spelled, spelled}
 use Rattle.proto_tokens.specs.declared.token.Token.{Token}
 use Rattle.proto_syntax.specs.declared.parser.stop.Stop.{Stop}
 use Rattle.proto_syntax.specs.declared.parser.stop.Stop.TheVariants as stop
-use Rattle.proto_syntax.specs.Grammar.{Grammar, Tree}
+use Rattle.proto_syntax.specs.Grammar.{Grammar, ◌⨾◌, Many, Tree}
 use Rattle.proto_syntax.specs.Reading.{Outcome, Stops, read, can_be_empty, decides}
 use Rattle.proto_syntax.specs.Gives.{Fails, spellings}
 use Rattle.proto_syntax.proofs.Loops.{Closes, closes_stop, Ends, ends_stop}
 
 pub closes_fails : {A : Type 0} → (f : A → Tree) (g c : Grammar) (xs : List A) (ts : List Spelled) (rest : List Token) (e : Stop) (o : Outcome)
-    → decides g ≡ true → can_be_empty g ≡ false → read c ts ≡ Stops false ts → Fails e rest (read g ts) → Closes f g c xs ts ≡ o → Fails e rest o
-closes_fails f g c xs ts rest stop.NoMemory o d h j i k = tt
-closes_fails f g c xs ts rest stop.Unexpected o d h j i k = closes_stop f g c xs false ts (spellings rest) o d h j i k
-closes_fails f g c xs ts rest stop.TooDeep o d h j i k = closes_stop f g c xs true ts (spellings rest) o d h j i k
+    → decides (Many g ⨾ c) ≡ true → read c ts ≡ Stops false ts → Fails e rest (read g ts) → Closes f g c xs ts ≡ o → Fails e rest o
+closes_fails f g c xs ts rest stop.NoMemory o d j i k = tt
+closes_fails f g c xs ts rest stop.Unexpected o d j i k = closes_stop f g c xs false ts (spellings rest) o d j i k
+closes_fails f g c xs ts rest stop.TooDeep o d j i k = closes_stop f g c xs true ts (spellings rest) o d j i k
 
 pub ends_fails : {A : Type 0} → (f : A → Tree) (g : Grammar) (xs : List A) (ts : List Token) (rest : List Token) (e : Stop) (o : Outcome) → decides g ≡ true
     → can_be_empty g ≡ false → (length ts == 0) ≡ false → Fails e rest (read g (spellings ts)) → Ends f g xs (spellings ts) ≡ o → Fails e rest o

@@ -8,7 +8,7 @@ use Rattle.proto_tokens.specs.declared.token.Token.{Token}
 use Rattle.proto_syntax.specs.Gives.{spellings}
 use Rattle.proto_syntax.specs.Trees.{before}
 use Rattle.proto_syntax.proofs.Apart.{and_left, and_right, not_true}
-use Rattle.proto_syntax.proofs.Begins.{tree_starts, next_left, next_right}
+use Rattle.proto_syntax.proofs.Begins.{apart_other, tree_starts, next_left, next_right}
 use Rattle.proto_syntax.proofs.Complete.{not_empty_longer}
 use Rattle.proto_syntax.proofs.Reach.{read_found}
 
@@ -173,6 +173,25 @@ passes (a ∣ b) d ts h =
 passes (Many a) d ts h = (λ _. (Empty, many_ends a ts h), λ e. cc)
 passes (Beyond c) d ts h = (λ e. cc, λ _. beyond_passes c ts h)
 
+-- One token of look-ahead that decides a block decides each item, and tells an item from what closes the block.
+pub items_decide : (g c : Grammar) → decides (Many g ⨾ c) ≡ true → decides g ≡ true
+items_decide g c d =
+    and_left (decides g) (not (can_be_empty g) && all_apart (goes_on g) (begins g))
+    (and_left (decides (Many g)) (decides c && all_apart (begins g ++ goes_on g) (begins c)) d)
+
+pub items_not_empty : (g c : Grammar) → decides (Many g ⨾ c) ≡ true → can_be_empty g ≡ false
+items_not_empty g c d =
+    not_true (can_be_empty g) (and_left (not (can_be_empty g)) (all_apart (goes_on g) (begins g))
+    (and_right (decides g) (not (can_be_empty g) && all_apart (goes_on g) (begins g))
+    (and_left (decides (Many g)) (decides c && all_apart (begins g ++ goes_on g) (begins c)) d)))
+
+pub items_closed : (g c : Grammar) → decides (Many g ⨾ c) ≡ true → (ts : List Spelled) → next_fits (begins c) ts ≡ true → next_fits (begins g) ts ≡ false
+items_closed g c d [] e = refl
+items_closed g c d (t ∷ ts) e =
+    next_left (begins g) (goes_on g) (t ∷ ts) (apart_other (begins g ++ goes_on g) (begins c) t.lexeme
+    (and_right (decides c) (all_apart (begins g ++ goes_on g) (begins c))
+    (and_right (decides (Many g)) (decides c && all_apart (begins g ++ goes_on g) (begins c)) d)) e)
+
 -- Items up to a sign that closes them, of which those of xs are read.
 abbrev pub Closes : {A : Type 0} → (A → Tree) → Grammar → Grammar → List A → List Spelled → Outcome
 Closes f g c xs ts = after (Rows f g xs ts) (λ x us. mapped (Pair x) (read c us))
@@ -192,30 +211,30 @@ read_begins g x ts us d h e = by_cases (next_fits (begins g) ts) refl
     by_cases true i = refl
     by_cases false i = let k : read g ts ≡ Stops false ts = (passes g d ts i).1 h in cc
 
-pub closes_more : {A : Type 0} → (f : A → Tree) (g c : Grammar) (xs : List A) (x : A) (ts us : List Spelled) (o : Outcome) → decides g ≡ true
-    → can_be_empty g ≡ false → read g ts ≡ Read (f x) us → Closes f g c xs ts ≡ o → Closes f g c (xs ++ (x ∷ [])) us ≡ o
-closes_more f g c xs x ts us o d h i k =
-    after_ap (Rows f g (xs ++ (x ∷ [])) us) (Rows f g xs ts) c (rows_more f g xs x ts us (Rows f g xs ts) h (read_begins g (f x) ts us d h i) i refl) ∙ k
+pub closes_more : {A : Type 0} → (f : A → Tree) (g c : Grammar) (xs : List A) (x : A) (ts us : List Spelled) (o : Outcome) → decides (Many g ⨾ c) ≡ true
+    → read g ts ≡ Read (f x) us → Closes f g c xs ts ≡ o → Closes f g c (xs ++ (x ∷ [])) us ≡ o
+closes_more f g c xs x ts us o d i k =
+    let h = items_not_empty g c d in
+    after_ap (Rows f g (xs ++ (x ∷ [])) us) (Rows f g xs ts) c
+    (rows_more f g xs x ts us (Rows f g xs ts) h (read_begins g (f x) ts us (items_decide g c d) h i) i refl)
+    ∙ k
 
 closes_at : {A : Type 0} → (f : A → Tree) (g c : Grammar) (xs : List A) (ts : List Spelled) → next_fits (begins g) ts ≡ false
     → Closes f g c xs ts ≡ mapped (Pair (before f xs Empty)) (read c ts)
 closes_at f g c xs ts e = after_ap (Rows f g xs ts) (Read (before f xs Empty) ts) c (rows_end f g xs ts (Rows f g xs ts) e refl)
 
-pub closes_stop : {A : Type 0} → (f : A → Tree) (g c : Grammar) (xs : List A) (d : Bool) (ts us : List Spelled) (o : Outcome) → decides g ≡ true
-    → can_be_empty g ≡ false → read c ts ≡ Stops false ts → read g ts ≡ Stops d us → Closes f g c xs ts ≡ o → o ≡ Stops d us
-closes_stop f g c xs d ts us o dg h j i k = by_cases (next_fits (begins g) ts) refl
+pub closes_stop : {A : Type 0} → (f : A → Tree) (g c : Grammar) (xs : List A) (b : Bool) (ts us : List Spelled) (o : Outcome) → decides (Many g ⨾ c) ≡ true
+    → read c ts ≡ Stops false ts → read g ts ≡ Stops b us → Closes f g c xs ts ≡ o → o ≡ Stops b us
+closes_stop f g c xs b ts us o d j i k = by_cases (next_fits (begins g) ts) refl
   where
-    by_cases : (z : Bool) → next_fits (begins g) ts ≡ z → o ≡ Stops d us
-    by_cases true e = sym k ∙ after_ap (Rows f g xs ts) (Stops d us) c (rows_stop f g xs d ts us (Rows f g xs ts) e i refl)
-    by_cases false e = sym k ∙ closes_at f g c xs ts e ∙ ap (mapped (Pair (before f xs Empty))) j ∙ sym ((passes g dg ts e).1 h) ∙ i
+    by_cases : (z : Bool) → next_fits (begins g) ts ≡ z → o ≡ Stops b us
+    by_cases true e = sym k ∙ after_ap (Rows f g xs ts) (Stops b us) c (rows_stop f g xs b ts us (Rows f g xs ts) e i refl)
+    by_cases false e = sym k ∙ closes_at f g c xs ts e ∙ ap (mapped (Pair (before f xs Empty))) j
+        ∙ sym ((passes g (items_decide g c d) ts e).1 (items_not_empty g c d)) ∙ i
 
-pub closes_end : {A : Type 0} → (f : A → Tree) (g c : Grammar) (xs : List A) (y : Tree) (ts us : List Spelled) (o : Outcome) → next_fits (begins g) ts ≡ false
-    → read c ts ≡ Read y us → Closes f g c xs ts ≡ o → o ≡ Read (Pair (before f xs Empty) y) us
-closes_end f g c xs y ts us o e i k = sym k ∙ closes_at f g c xs ts e ∙ ap (mapped (Pair (before f xs Empty))) i
-
-pub closes_ends : {A : Type 0} → (f : A → Tree) (g c : Grammar) (xs : List A) (d : Bool) (ts us : List Spelled) (o : Outcome) → next_fits (begins g) ts ≡ false
-    → read c ts ≡ Stops d us → Closes f g c xs ts ≡ o → o ≡ Stops d us
-closes_ends f g c xs d ts us o e i k = sym k ∙ closes_at f g c xs ts e ∙ ap (mapped (Pair (before f xs Empty))) i
+pub closes_end : {A : Type 0} → (f : A → Tree) (g c : Grammar) (xs : List A) (y : Tree) (ts us : List Spelled) (o : Outcome) → decides (Many g ⨾ c) ≡ true
+    → next_fits (begins c) ts ≡ true → read c ts ≡ Read y us → Closes f g c xs ts ≡ o → o ≡ Read (Pair (before f xs Empty) y) us
+closes_end f g c xs y ts us o d e i k = sym k ∙ closes_at f g c xs ts (items_closed g c d ts e) ∙ ap (mapped (Pair (before f xs Empty))) i
 
 pub ended_mapped : (f : Tree → Tree) (o : Outcome) → ended (mapped f o) ≡ mapped f (ended o)
 ended_mapped f (Read x []) = refl

@@ -22,10 +22,6 @@ use Rattle.proto_base.specs.declared.scalar_type.ScalarType.TheVariants as scala
 use Rattle.proto_tree.specs.declared.field.FieldType.TheVariants.{Scalar, Named}
 use Rattle.proto_syntax.specs.Trees.{leaf, symbol_tree, word_tree, name_tree, number_tree, string_tree, row, optional, next_tree, separated_tree, str_tree, part_tree, full_tree, dotted_tree, named_tree, word_of_scalar, word_of_key, type_tree}
 
-pub leaf_of : Tree → Spelled → Spelled
-leaf_of (Leaf t) d = t
-leaf_of _ d = d
-
 pub leaf_same : {s t : Spelled} → Leaf s ≡ Leaf t → s ≡ t
 leaf_same e = cc
 

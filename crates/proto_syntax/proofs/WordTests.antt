@@ -1,9 +1,9 @@
 -- Tests of a token against a word.
-use Rattle.std.proofs.Common.{◌≡◌, ◌||◌, ℕ, Bool, true, false, List, [], ◌∷◌, ◌++◌, refl, ap, inl, inr}
+use Rattle.std.proofs.Common.{◌≡◌, ℕ, true, false, List, [], ◌∷◌, ap, inl, inr}
 use Rattle.std.specs.Prelude.{bytes_eq}
 use Rattle.std.proofs.lemmas.Slice.Eq.{bytes_eq-Decides}
 use Rattle.proto_tokens.specs.Token.{Lexeme, identifier, number, string_literal, punctuation}
-use Rattle.proto_syntax.specs.Grammar.{OneOf, among, fits}
+use Rattle.proto_syntax.specs.Grammar.{OneOf, fits}
 use Rattle.proto_syntax.proofs.Apart.{or_cases}
 
 -- a token that fits a word is that word
@@ -12,12 +12,3 @@ fits_word (identifier u) text h = elim (or_cases (bytes_eq u text) false h) [ in
 fits_word (number n) text h = cc
 fits_word (string_literal s) text h = cc
 fits_word (punctuation b) text h = cc
-
--- a word among two lists is among one of them
-pub among_both : (w : List ℕ) (us vs : List (List ℕ)) → among w (us ++ vs) ≡ (among w us || among w vs)
-among_both w [] vs = refl
-among_both w (u ∷ us) vs = rw (among_both w us vs) (or_assoc (bytes_eq w u) (among w us) (among w vs))
-  where
-    or_assoc : (a b c : Bool) → (a || (b || c)) ≡ ((a || b) || c)
-    or_assoc true b c = refl
-    or_assoc false b c = refl

@@ -1,18 +1,16 @@
 //! Enums (proto3 language specification, "Enum definition").
 
-ghost use Rattle.std.specs.Str.{byte};
-ghost use Rattle.proto_syntax.specs.Grammar.{◌⨾◌, Many, Pair};
 ghost use Rattle.proto_syntax.specs.Reading.{read};
-ghost use Rattle.proto_syntax.specs.Language.{symbol, value, enum_item, enum};
-ghost use Rattle.proto_syntax.specs.Trees.{body_tree, value_tree, enum_item_tree, enum_tree};
+ghost use Rattle.proto_syntax.specs.Language.{value, enum_item, enum};
+ghost use Rattle.proto_syntax.specs.Trees.{value_tree, enum_item_tree, enum_tree};
 ghost use Rattle.proto_syntax.specs.Gives.{Reads};
 
 use crate::parser::Parser;
+use crate::parser::rule::Parse;
 use crate::parser::stop::Stop;
-use proto_base::Span;
 use proto_base::boxed::Boxed;
 use proto_base::row::Row;
-use proto_tree::{Enum, EnumItem, EnumValue};
+use proto_tree::{Enum, EnumItem, EnumValue, SignedNumber};
 
 impl<'s, 't> Parser<'s, 't> {
     /// A value of an enum.
@@ -22,7 +20,7 @@ impl<'s, 't> Parser<'s, 't> {
     {
         let name = self.value_name()?;
         let equals = self.symbol('=')?;
-        let number = self.signed_number()?;
+        let number = SignedNumber::parse(self)?;
         let options = self.optional_options()?;
         let semicolon = self.symbol(';')?;
         Ok(EnumValue {
@@ -34,50 +32,15 @@ impl<'s, 't> Parser<'s, 't> {
         })
     }
 
-    /// A statement of an enum.
-    #[tactic(auto, using(crate::proofs::Levels::begins_option, crate::proofs::Levels::begins_ereserved))]
-    fn enum_item(&mut self) -> Result<EnumItem<'s>, Stop>
-        ensures { Reads enum_item_tree enum_item result self.old.rest.now self.new.rest.now }
-    {
-        if self.at_keyword("option") {
-            let option = self.option()?;
-            return Ok(EnumItem::Option(Boxed::new(self.alloc, option)?));
-        }
-        if self.at_keyword("reserved") {
-            let reserved = self.enum_reserved()?;
-            return Ok(EnumItem::Reserved(Boxed::new(self.alloc, reserved)?));
-        }
-        if self.at_symbol(';') {
-            let span = self.symbol(';')?;
-            return Ok(EnumItem::Empty(span));
-        }
-        let value = self.enum_value()?;
-        Ok(EnumItem::Value(Boxed::new(self.alloc, value)?))
-    }
-
-    /// The statements of an enum, and the brace that closes it.
-    #[tactic(auto, using(crate::proofs::Loops::closes_none))]
-    fn enum_body(&mut self) -> Result<(Vec<EnumItem<'s>>, Span), Stop>
-        ensures { Reads (λ p. body_tree enum_item_tree p.0.items p.1) (Many enum_item ⨾ symbol "}")
-            result self.old.rest.now self.new.rest.now }
-    {
-        let mut items = Vec::new(self.alloc);
-        'each: while !self.at_symbol('}') {
-            let item = self.enum_item()?;
-            items.push(item)?;
-        }
-        let close = self.symbol('}')?;
-        Ok((items, close))
-    }
-
     /// An enum.
+    #[tactic(auto, using(crate::proofs::Levels::enum_block))]
     pub(crate) fn enumeration(&mut self) -> Result<Enum<'s>, Stop>
         ensures { Reads enum_tree enum result self.old.rest.now self.new.rest.now }
     {
         let keyword = self.keyword("enum")?;
         let name = self.name()?;
         let open_brace = self.symbol('{')?;
-        let (items, close_brace) = self.enum_body()?;
+        let (items, close_brace) = self.block_items()?;
         Ok(Enum {
             keyword,
             name,
@@ -85,5 +48,29 @@ impl<'s, 't> Parser<'s, 't> {
             items: Row::from_vec(items),
             close_brace,
         })
+    }
+}
+
+impl<'s> Parse<'s> for EnumItem<'s> {
+    ghost rule = { enum_item };
+
+    ghost tree = { enum_item_tree };
+
+    #[tactic(auto, using(crate::proofs::Levels::begins_option, crate::proofs::Levels::signed_has_token), unfolding(crate::specs::Language::ereserved, crate::specs::Language::erange))]
+    fn parse(parser: &mut Parser<'s, '_>) -> Result<Self, Stop> {
+        if parser.at_keyword("option") {
+            let option = parser.option()?;
+            return Ok(EnumItem::Option(Boxed::new(parser.alloc, option)?));
+        }
+        if parser.at_keyword("reserved") {
+            let reserved = parser.reserved()?;
+            return Ok(EnumItem::Reserved(Boxed::new(parser.alloc, reserved)?));
+        }
+        if parser.at_symbol(';') {
+            let span = parser.symbol(';')?;
+            return Ok(EnumItem::Empty(span));
+        }
+        let value = parser.enum_value()?;
+        Ok(EnumItem::Value(Boxed::new(parser.alloc, value)?))
     }
 }

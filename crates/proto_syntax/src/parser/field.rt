@@ -7,8 +7,9 @@ ghost use Rattle.proto_syntax.specs.Gives.{Reads};
 
 use crate::parser::Parser;
 use crate::parser::position::Position;
+use crate::parser::rule::Parse;
 use crate::parser::stop::Stop;
-use proto_tree::{Declarator, Field, FieldType, Label, MapType, OneofField};
+use proto_tree::{Declarator, Field, FieldType, Label, MapType, NumberLiteral, OneofField};
 
 impl<'s, 't> Parser<'s, 't> {
     /// What stands behind the type of a field.
@@ -18,7 +19,7 @@ impl<'s, 't> Parser<'s, 't> {
     {
         let name = self.name()?;
         let equals = self.symbol('=')?;
-        let number = self.number()?;
+        let number = NumberLiteral::parse(self)?;
         let options = self.optional_options()?;
         let semicolon = self.symbol(';')?;
         Ok(Declarator {

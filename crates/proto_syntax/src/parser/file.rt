@@ -7,10 +7,11 @@ ghost use Rattle.proto_syntax.specs.Trees.{file_tree, row, statement_tree, packa
 ghost use Rattle.proto_syntax.specs.Gives.{Gives, Reads, spellings};
 
 use crate::parser::Parser;
+use crate::parser::rule::Parse;
 use crate::parser::stop::Stop;
 use proto_base::boxed::Boxed;
 use proto_base::row::Row;
-use proto_tree::{FileTree, Import, Package, Statement, Syntax};
+use proto_tree::{FileTree, Import, Package, Statement, StringValue, Syntax};
 
 impl<'s, 't> Parser<'s, 't> {
     /// The `syntax` statement.
@@ -20,7 +21,7 @@ impl<'s, 't> Parser<'s, 't> {
     {
         let keyword = self.keyword("syntax")?;
         let equals = self.symbol('=')?;
-        let version = self.string()?;
+        let version = StringValue::parse(self)?;
         let semicolon = self.symbol(';')?;
         Ok(Syntax {
             keyword,
@@ -37,7 +38,7 @@ impl<'s, 't> Parser<'s, 't> {
     {
         let keyword = self.keyword("import")?;
         let public = self.optional_keyword("public")?;
-        let path = self.string()?;
+        let path = StringValue::parse(self)?;
         let semicolon = self.symbol(';')?;
         Ok(Import {
             keyword,

@@ -16,7 +16,7 @@ use proto_tree::{Field, FieldType, FullName, MapField, Message, MessageItem, Typ
 
 impl<'s, 't> Parser<'s, 't> {
     /// A statement that begins with the word `map`: a map field, or a field whose type begins so.
-    #[tactic(auto, using(crate::proofs::Items::item_map, crate::proofs::Items::item_named), unfolding(crate::specs::Language::map_or_field, crate::specs::Language::map_type))]
+    #[tactic(auto, using(crate::proofs::Items::item_map, crate::proofs::Items::item_named), unfolding(crate::specs::Language::map_or_field, crate::specs::Language::map_type, crate::specs::Language::parts))]
     fn map_or_field(&mut self) -> Result<MessageItem<'s>, Stop>
         ensures { Gives message_item_tree result self.new.rest.now
             (mapped (λ x. Right (Right (Right (Right (Right (Left x))))))
@@ -33,7 +33,7 @@ impl<'s, 't> Parser<'s, 't> {
             };
             return Ok(MessageItem::Map(Boxed::new(self.alloc, map)?));
         }
-        let rest = self.parts()?;
+        let rest = self.many()?;
         let declarator = self.declarator()?;
         let name = FullName {
             first,
@@ -49,7 +49,7 @@ impl<'s, 't> Parser<'s, 't> {
 
     /// A statement of a message.
     #[cycle(message)]
-    #[tactic(auto, using(crate::proofs::Levels::begins_message, crate::proofs::Levels::begins_option, crate::proofs::Levels::begins_oneof, crate::proofs::Levels::begins_reserved, crate::proofs::Levels::begins_map, crate::proofs::Items::item_message, crate::proofs::Items::item_enum, crate::proofs::Items::item_option, crate::proofs::Items::item_oneof, crate::proofs::Items::item_reserved, crate::proofs::Items::item_empty))]
+    #[tactic(auto, using(crate::proofs::Levels::begins_message, crate::proofs::Levels::begins_option, crate::proofs::Levels::begins_oneof, crate::proofs::Levels::begins_map, crate::proofs::Items::item_message, crate::proofs::Items::item_enum, crate::proofs::Items::item_option, crate::proofs::Items::item_oneof, crate::proofs::Items::item_reserved, crate::proofs::Items::item_empty), unfolding(crate::specs::Language::reserved, crate::specs::Language::range))]
     fn message_item(&mut self, depth: u64) -> Result<MessageItem<'s>, Stop>
         ensures { Reads message_item_tree (message_item (message depth)) result self.old.rest.now
             self.new.rest.now }

@@ -1,76 +1,24 @@
 //! Options (proto3 language specification, "Option").
 
-ghost use Rattle.proto_syntax.specs.Grammar.{Many, Optional};
+ghost use Rattle.proto_syntax.specs.Grammar.{Optional};
 ghost use Rattle.proto_syntax.specs.Reading.{read};
-ghost use Rattle.proto_syntax.specs.Language.{list_of, next_of, setting, options, option};
-ghost use Rattle.proto_syntax.specs.Trees.{row, optional, next_tree, separated_tree, setting_tree, options_tree, option_tree};
+ghost use Rattle.proto_syntax.specs.Language.{setting, options, option};
+ghost use Rattle.proto_syntax.specs.Trees.{optional, setting_tree, options_tree, option_tree};
 ghost use Rattle.proto_syntax.specs.Gives.{Reads};
 
 use crate::parser::Parser;
+use crate::parser::rule::Parse;
 use crate::parser::stop::Stop;
-use proto_base::row::Row;
-use proto_tree::{Next, OptionStatement, Options, Separated, Setting};
+use proto_tree::{OptionStatement, Options, Setting};
 
 impl<'s, 't> Parser<'s, 't> {
-    /// The name of an option and its value.
-    #[tactic(auto, unfolding(crate::specs::Language::setting))]
-    fn setting(&mut self) -> Result<Setting<'s>, Stop>
-        ensures { Reads setting_tree setting result self.old.rest.now self.new.rest.now }
-    {
-        let name = self.full_name()?;
-        let equals = self.symbol('=')?;
-        let value = self.constant()?;
-        Ok(Setting {
-            name,
-            equals,
-            value,
-        })
-    }
-
-    /// A comma and what stands behind it.
-    fn next_setting(&mut self) -> Result<Next<Setting<'s>>, Stop>
-        ensures { Reads (next_tree setting_tree) (next_of setting) result self.old.rest.now
-            self.new.rest.now }
-    {
-        let comma = self.symbol(',')?;
-        let item = self.setting()?;
-        Ok(Next { comma, item })
-    }
-
-    /// All that follows with a comma before it.
-    #[tactic(auto, using(crate::proofs::Loops::rows_none))]
-    fn next_settings(&mut self) -> Result<Vec<Next<Setting<'s>>>, Stop>
-        ensures { Reads (λ v. row (next_tree setting_tree) v.items) (Many (next_of setting)) result
-            self.old.rest.now self.new.rest.now }
-    {
-        let mut items = Vec::new(self.alloc);
-        'each: while self.at_symbol(',') {
-            let item = self.next_setting()?;
-            items.push(item)?;
-        }
-        Ok(items)
-    }
-
-    /// One or more, with commas between them.
-    fn settings(&mut self) -> Result<Separated<Setting<'s>>, Stop>
-        ensures { Reads (separated_tree setting_tree) (list_of setting) result self.old.rest.now
-            self.new.rest.now }
-    {
-        let first = self.setting()?;
-        let rest = self.next_settings()?;
-        Ok(Separated {
-            first,
-            rest: Row::from_vec(rest),
-        })
-    }
-
     /// Options in brackets.
     #[tactic(auto, unfolding(crate::specs::Language::options))]
     fn options(&mut self) -> Result<Options<'s>, Stop>
         ensures { Reads options_tree options result self.old.rest.now self.new.rest.now }
     {
         let open_bracket = self.symbol('[')?;
-        let settings = self.settings()?;
+        let settings = self.separated()?;
         let close_bracket = self.symbol(']')?;
         Ok(Options {
             open_bracket,
@@ -98,12 +46,30 @@ impl<'s, 't> Parser<'s, 't> {
         ensures { Reads option_tree option result self.old.rest.now self.new.rest.now }
     {
         let keyword = self.keyword("option")?;
-        let setting = self.setting()?;
+        let setting = Setting::parse(self)?;
         let semicolon = self.symbol(';')?;
         Ok(OptionStatement {
             keyword,
             setting,
             semicolon,
+        })
+    }
+}
+
+impl<'s> Parse<'s> for Setting<'s> {
+    ghost rule = { setting };
+
+    ghost tree = { setting_tree };
+
+    #[tactic(auto, unfolding(crate::specs::Language::setting))]
+    fn parse(parser: &mut Parser<'s, '_>) -> Result<Self, Stop> {
+        let name = parser.full_name()?;
+        let equals = parser.symbol('=')?;
+        let value = parser.constant()?;
+        Ok(Setting {
+            name,
+            equals,
+            value,
         })
     }
 }

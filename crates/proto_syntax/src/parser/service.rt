@@ -1,15 +1,15 @@
 //! Services (proto3 language specification, "Service definition").
 
 ghost use Rattle.std.specs.Prelude.{[], ◌∷◌, codes};
-ghost use Rattle.std.specs.Str.{byte};
-ghost use Rattle.proto_syntax.specs.Grammar.{◌⨾◌, ◌∣◌, Many, Pair};
+ghost use Rattle.proto_syntax.specs.Grammar.{◌⨾◌, ◌∣◌};
 ghost use Rattle.proto_syntax.specs.Reading.{read};
-ghost use Rattle.proto_syntax.specs.Language.{symbol, word, named_but, rpc_type, rpc_item, rpc_body, rpc, service_item, service};
-ghost use Rattle.proto_syntax.specs.Trees.{body_tree, streamed_tree, rpc_type_tree, rpc_item_tree, rpc_body_tree, rpc_tree, service_item_tree, service_tree};
+ghost use Rattle.proto_syntax.specs.Language.{word, named_but, rpc_type, rpc_item, rpc_body, rpc, service_item, service};
+ghost use Rattle.proto_syntax.specs.Trees.{streamed_tree, rpc_type_tree, rpc_item_tree, rpc_body_tree, rpc_tree, service_item_tree, service_tree};
 ghost use Rattle.proto_syntax.specs.Gives.{Reads};
 
 use crate::parser::Parser;
 use crate::parser::position::Position;
+use crate::parser::rule::Parse;
 use crate::parser::stop::Stop;
 use proto_base::Span;
 use proto_base::boxed::Boxed;
@@ -48,36 +48,8 @@ impl<'s, 't> Parser<'s, 't> {
         })
     }
 
-    /// A statement of a method.
-    #[tactic(auto, using(crate::proofs::Levels::begins_option))]
-    fn rpc_item(&mut self) -> Result<RpcItem<'s>, Stop>
-        ensures { Reads rpc_item_tree rpc_item result self.old.rest.now self.new.rest.now }
-    {
-        if self.at_keyword("option") {
-            let option = self.option()?;
-            return Ok(RpcItem::Option(Boxed::new(self.alloc, option)?));
-        }
-        let span = self.symbol(';')?;
-        Ok(RpcItem::Empty(span))
-    }
-
-    /// The statements of a method, and the brace that closes it.
-    #[tactic(auto, using(crate::proofs::Loops::closes_none))]
-    fn rpc_items(&mut self) -> Result<(Vec<RpcItem<'s>>, Span), Stop>
-        ensures { Reads (λ p. body_tree rpc_item_tree p.0.items p.1) (Many rpc_item ⨾ symbol "}")
-            result self.old.rest.now self.new.rest.now }
-    {
-        let mut items = Vec::new(self.alloc);
-        'each: while !self.at_symbol('}') {
-            let item = self.rpc_item()?;
-            items.push(item)?;
-        }
-        let close = self.symbol('}')?;
-        Ok((items, close))
-    }
-
     /// What ends a method.
-    #[tactic(auto, unfolding(crate::specs::Language::rpc_body))]
+    #[tactic(auto, using(crate::proofs::Levels::rpc_block), unfolding(crate::specs::Language::rpc_body))]
     fn rpc_body(&mut self) -> Result<RpcBody<'s>, Stop>
         ensures { Reads rpc_body_tree rpc_body result self.old.rest.now self.new.rest.now }
     {
@@ -86,7 +58,7 @@ impl<'s, 't> Parser<'s, 't> {
             return Ok(RpcBody::Semicolon(span));
         }
         let open_brace = self.symbol('{')?;
-        let (items, close_brace) = self.rpc_items()?;
+        let (items, close_brace) = self.block_items()?;
         Ok(RpcBody::Block(RpcBlock {
             open_brace,
             items: Row::from_vec(items),
@@ -115,47 +87,15 @@ impl<'s, 't> Parser<'s, 't> {
         })
     }
 
-    /// A statement of a service.
-    #[tactic(auto, using(crate::proofs::Levels::begins_rpc, crate::proofs::Levels::begins_option))]
-    fn service_item(&mut self) -> Result<ServiceItem<'s>, Stop>
-        ensures { Reads service_item_tree service_item result self.old.rest.now self.new.rest.now }
-    {
-        if self.at_keyword("rpc") {
-            let rpc = self.rpc()?;
-            return Ok(ServiceItem::Rpc(Boxed::new(self.alloc, rpc)?));
-        }
-        if self.at_keyword("option") {
-            let option = self.option()?;
-            return Ok(ServiceItem::Option(Boxed::new(self.alloc, option)?));
-        }
-        let span = self.symbol(';')?;
-        Ok(ServiceItem::Empty(span))
-    }
-
-    /// The statements of a service, and the brace that closes it.
-    #[tactic(auto, using(crate::proofs::Loops::closes_none))]
-    fn service_body(&mut self) -> Result<(Vec<ServiceItem<'s>>, Span), Stop>
-        ensures { Reads (λ p. body_tree service_item_tree p.0.items p.1)
-            (Many service_item ⨾ symbol "}") result self.old.rest.now self.new.rest.now }
-    {
-        let mut items = Vec::new(self.alloc);
-        'each: while !self.at_symbol('}') {
-            let item = self.service_item()?;
-            items.push(item)?;
-        }
-        let close = self.symbol('}')?;
-        Ok((items, close))
-    }
-
     /// A service.
-    #[tactic(auto, unfolding(crate::specs::Language::service))]
+    #[tactic(auto, using(crate::proofs::Levels::service_block), unfolding(crate::specs::Language::service))]
     pub(crate) fn service(&mut self) -> Result<Service<'s>, Stop>
         ensures { Reads service_tree service result self.old.rest.now self.new.rest.now }
     {
         let keyword = self.keyword("service")?;
         let name = self.name()?;
         let open_brace = self.symbol('{')?;
-        let (items, close_brace) = self.service_body()?;
+        let (items, close_brace) = self.block_items()?;
         Ok(Service {
             keyword,
             name,
@@ -163,5 +103,41 @@ impl<'s, 't> Parser<'s, 't> {
             items: Row::from_vec(items),
             close_brace,
         })
+    }
+}
+
+impl<'s> Parse<'s> for ServiceItem<'s> {
+    ghost rule = { service_item };
+
+    ghost tree = { service_item_tree };
+
+    #[tactic(auto, using(crate::proofs::Levels::begins_rpc, crate::proofs::Levels::begins_option))]
+    fn parse(parser: &mut Parser<'s, '_>) -> Result<Self, Stop> {
+        if parser.at_keyword("rpc") {
+            let rpc = parser.rpc()?;
+            return Ok(ServiceItem::Rpc(Boxed::new(parser.alloc, rpc)?));
+        }
+        if parser.at_keyword("option") {
+            let option = parser.option()?;
+            return Ok(ServiceItem::Option(Boxed::new(parser.alloc, option)?));
+        }
+        let span = parser.symbol(';')?;
+        Ok(ServiceItem::Empty(span))
+    }
+}
+
+impl<'s> Parse<'s> for RpcItem<'s> {
+    ghost rule = { rpc_item };
+
+    ghost tree = { rpc_item_tree };
+
+    #[tactic(auto, using(crate::proofs::Levels::begins_option))]
+    fn parse(parser: &mut Parser<'s, '_>) -> Result<Self, Stop> {
+        if parser.at_keyword("option") {
+            let option = parser.option()?;
+            return Ok(RpcItem::Option(Boxed::new(parser.alloc, option)?));
+        }
+        let span = parser.symbol(';')?;
+        Ok(RpcItem::Empty(span))
     }
 }

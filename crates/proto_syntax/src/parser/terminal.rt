@@ -3,15 +3,16 @@
 ghost use Rattle.std.specs.Cow.{cow_str_bytes};
 ghost use Rattle.std.specs.Prelude.{◌≡◌, [], ◌∷◌, ◌++◌, IfOk, IsTrue, codes};
 ghost use Rattle.proto_tokens.specs.Token.{identifier, lexeme_of};
-ghost use Rattle.proto_syntax.specs.Grammar.{Symbol, OneOf, NoneOf, AnyNumber, AnyString, One, Optional, fits};
+ghost use Rattle.proto_syntax.specs.Grammar.{Symbol, OneOf, NoneOf, One, Optional, fits};
 ghost use Rattle.proto_syntax.specs.Reading.{read, read_one, next_fits};
-ghost use Rattle.proto_syntax.specs.Language.{scalar_words, key_words};
+ghost use Rattle.proto_syntax.specs.Language.{number, string_token, scalar_words, key_words};
 ghost use Rattle.proto_syntax.specs.Position.{excluded_words};
 ghost use Rattle.proto_syntax.specs.Trees.{symbol_tree, word_tree, name_tree, number_tree, string_tree, optional, word_of_scalar, word_of_key};
 ghost use Rattle.proto_syntax.specs.Gives.{Reads, spellings};
 
 use crate::parser::Parser;
 use crate::parser::position::{Position, is_enum_statement_word, is_excluded, is_scalar};
+use crate::parser::rule::{Parse, Peek};
 use crate::parser::scalar::{key_type, scalar_type};
 use crate::parser::stop::Stop;
 use proto_base::Span;
@@ -71,26 +72,6 @@ impl<'s, 't> Parser<'s, 't> {
     {
         match self.rest.first() {
             Some(token) => matches!(&token.kind, TokenKind::Identifier(_)),
-            None => false,
-        }
-    }
-
-    /// Whether the next token is a number.
-    pub(crate) fn at_number(&self) -> bool
-        ensures { result ≡ next_fits (AnyNumber ∷ []) (spellings self.now.rest.now) }
-    {
-        match self.rest.first() {
-            Some(token) => matches!(&token.kind, TokenKind::Number(_)),
-            None => false,
-        }
-    }
-
-    /// Whether the next token is a string literal.
-    pub(crate) fn at_string(&self) -> bool
-        ensures { result ≡ next_fits (AnyString ∷ []) (spellings self.now.rest.now) }
-    {
-        match self.rest.first() {
-            Some(token) => matches!(&token.kind, TokenKind::StringLiteral(_)),
             None => false,
         }
     }
@@ -158,22 +139,6 @@ impl<'s, 't> Parser<'s, 't> {
             return Ok(Some(span));
         }
         Ok(None)
-    }
-
-    /// A number.
-    pub(crate) fn number(&mut self) -> Result<NumberLiteral, Stop>
-        ensures { Reads number_tree (One AnyNumber) result self.old.rest.now self.new.rest.now }
-    {
-        if let [token, rest @ ..] = self.rest
-            && let TokenKind::Number(value) = &token.kind
-        {
-            self.rest = rest;
-            return Ok(NumberLiteral {
-                value: *value,
-                span: token.span,
-            });
-        }
-        Err(Stop::Unexpected)
     }
 
     /// An identifier.
@@ -277,22 +242,62 @@ impl<'s, 't> Parser<'s, 't> {
         }
         Err(Stop::Unexpected)
     }
+}
 
-    /// One string literal.
-    pub(crate) fn string_literal(&mut self) -> Result<StringLiteral<'s>, Stop>
-        ensures { Reads string_tree (One AnyString) result self.old.rest.now self.new.rest.now }
-    {
-        if let [token, rest @ ..] = self.rest
+impl<'s> Parse<'s> for NumberLiteral {
+    ghost rule = { number };
+
+    ghost tree = { number_tree };
+
+    fn parse(parser: &mut Parser<'s, '_>) -> Result<Self, Stop> {
+        if let [token, rest @ ..] = parser.rest
+            && let TokenKind::Number(value) = &token.kind
+        {
+            parser.rest = rest;
+            return Ok(NumberLiteral {
+                value: *value,
+                span: token.span,
+            });
+        }
+        Err(Stop::Unexpected)
+    }
+}
+
+impl<'s> Peek<'s> for NumberLiteral {
+    fn is_next(parser: &Parser<'s, '_>) -> bool {
+        match parser.rest.first() {
+            Some(token) => matches!(&token.kind, TokenKind::Number(_)),
+            None => false,
+        }
+    }
+}
+
+impl<'s> Parse<'s> for StringLiteral<'s> {
+    ghost rule = { string_token };
+
+    ghost tree = { string_tree };
+
+    fn parse(parser: &mut Parser<'s, '_>) -> Result<Self, Stop> {
+        if let [token, rest @ ..] = parser.rest
             && let TokenKind::StringLiteral(value) = &token.kind
         {
             let value = text_of(value)?;
-            self.rest = rest;
+            parser.rest = rest;
             return Ok(StringLiteral {
                 value,
                 span: token.span,
             });
         }
         Err(Stop::Unexpected)
+    }
+}
+
+impl<'s> Peek<'s> for StringLiteral<'s> {
+    fn is_next(parser: &Parser<'s, '_>) -> bool {
+        match parser.rest.first() {
+            Some(token) => matches!(&token.kind, TokenKind::StringLiteral(_)),
+            None => false,
+        }
     }
 }
 

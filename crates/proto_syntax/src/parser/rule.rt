@@ -1,0 +1,31 @@
+//! Types that stand for a rule of the grammar.
+
+use crate::parser::Parser;
+use crate::parser::stop::Stop;
+
+/// What a rule of the grammar is read to.
+pub(crate) trait Parse<'s>: Sized + Drop {
+    ghost use Rattle.proto_syntax.specs.Grammar.{Grammar, Tree};
+    ghost use Rattle.proto_syntax.specs.Gives.{Reads};
+
+    /// The rule.
+    ghost rule: { Grammar };
+
+    /// The tree that a value stands for.
+    ghost tree: { Self → Tree };
+
+    /// What the next tokens are, by the rule.
+    fn parse(parser: &mut Parser<'s, '_>) -> Result<Self, Stop>
+        ensures { Reads tree rule result parser.old.rest.now parser.new.rest.now };
+}
+
+/// What one token of look-ahead tells from what else may stand there.
+pub(crate) trait Peek<'s>: Parse<'s> {
+    ghost use Rattle.std.specs.Prelude.{◌≡◌};
+    ghost use Rattle.proto_syntax.specs.Reading.{begins, next_fits};
+    ghost use Rattle.proto_syntax.specs.Gives.{spellings};
+
+    /// Whether the next token begins one.
+    fn is_next(parser: &Parser<'s, '_>) -> bool
+        ensures { result ≡ next_fits (begins Self.rule) (spellings parser.now.rest.now) };
+}
