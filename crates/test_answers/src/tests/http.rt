@@ -28,12 +28,28 @@ static ROWS: &str = "\
     POST|/grpc.reflection.v1.ServerReflection/ServerReflectionInfo/|application/grpc-web||200 content-type: application/grpc-web+proto, 8000000010677270632d7374617475733a31320d0a\n\
     POST|/grpc.reflection.v1.serverreflection/ServerReflectionInfo|application/grpc-web||200 content-type: application/grpc-web+proto, 8000000010677270632d7374617475733a31320d0a";
 
-/// A content type, or none.
-fn content_type_of(column: &str) -> Option<&str> {
-    match column {
-        "-" => None,
-        text => Some(text),
-    }
+/// A row.
+#[derive(Clone, Copy)]
+struct Row<'a> {
+    method: &'a str,
+    target: &'a str,
+    content_type: Option<&'a str>,
+    body: &'a str,
+    wanted: &'a str,
+}
+
+fn row_of(line: &str) -> Result<Row<'_>, Fail> {
+    let (method, line) = column(line)?;
+    let (target, line) = column(line)?;
+    let (content_type, line) = column(line)?;
+    let (body, wanted) = column(line)?;
+    Ok(Row {
+        method,
+        target,
+        content_type: Some(content_type).filter(|text| *text != "-"),
+        body,
+        wanted,
+    })
 }
 
 /// An answer as a row has it.
@@ -52,24 +68,21 @@ fn http_answers(rt: HostRuntime) -> Result<(), Fail> {
     let plan = Plan::new(2, 1).ok_or("a plan")?;
     let compiled = compiled(&rt, &THREE_FILES, &Limits::standard())?;
     for line in ROWS.split("\n") {
-        let (method, row) = column(line)?;
-        let (target, row) = column(row)?;
-        let (content_type, row) = column(row)?;
-        let (body, wanted) = column(row)?;
-        let body = hex::decode(rt.alloc(), body)?;
+        let row = row_of(line)?;
+        let body = hex::decode(rt.alloc(), row.body)?;
         let answer = respond(
             &rt,
             &compiled,
             plan,
             &NoGate,
             Mode::Once,
-            method,
-            target,
-            content_type_of(content_type),
+            row.method,
+            row.target,
+            row.content_type,
             &body,
         )?;
         let found = printed(rt.alloc(), answer)?;
-        assert!(rt; found.as_str() == wanted, "{line}: {found}");
+        assert!(rt; found.as_str() == row.wanted, "{line}: {found}");
     }
     Ok(())
 }
