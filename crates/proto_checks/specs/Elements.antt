@@ -11,7 +11,6 @@ use Rattle.proto_tree.specs.declared.oneof.Oneof.{Oneof}
 use Rattle.proto_tree.specs.declared.oneof.OneofField.{OneofField}
 use Rattle.proto_tree.specs.declared.oneof.OneofItem.{OneofItem}
 use Rattle.proto_tree.specs.declared.oneof.OneofItem.TheVariants as oneof_item
-use Rattle.proto_tree.specs.declared.option.Setting.{Setting}
 use Rattle.proto_tree.specs.declared.service.Rpc.{Rpc}
 use Rattle.proto_tree.specs.declared.service.Service.{Service}
 use Rattle.proto_tree.specs.declared.service.ServiceItem.{ServiceItem}
