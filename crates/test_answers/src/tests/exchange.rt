@@ -166,26 +166,25 @@ fn readers_fail(rt: HostRuntime) -> Result<(), Fail> {
 #[test]
 fn writers_fail(rt: HostRuntime) -> Result<(), Fail> {
     let compiled = compiled(&rt, &THREE_FILES, &Limits::standard())?;
-    let mut failing = Output {
+    let failing = Output {
         fails_at: 3,
         ..output_by(&rt, 7)
     };
-    let mut stuck = Output {
+    let stuck = Output {
         takes_none_at: 1,
         ..output_by(&rt, 7)
     };
-    let mut unflushed = Output {
+    let unflushed = Output {
         flush_fails: true,
         ..output_by(&rt, 4_096)
     };
-    let outputs = [
-        (&mut failing, 14),
-        (&mut stuck, 0),
-        (&mut unflushed, LENGTH),
-    ];
-    for (output, written) in outputs {
+    for (mut output, written) in vec![in rt.alloc();
+        (failing, 14),
+        (stuck, 0),
+        (unflushed, LENGTH),
+    ]? {
         let mut input = input_of(BODY, 4_096, NEVER);
-        let ended = exchanged(&rt, &compiled, &mut input, output);
+        let ended = exchanged(&rt, &compiled, &mut input, &mut output);
         assert!(rt;
             ended == (Err(IoFault::WriteFault { written }), 0, 1),
             "{written} bytes"
