@@ -39,7 +39,8 @@ view_pushed old new rs ss start list front holds e w =
 pub within_pushed : (old new : List ℕ) (rs ss : List (ℕ × ℕ)) (start : ℕ) (list : List ℕ) → IsFrontOf old new → Holds new start list
     → ss ≡ rs ++ (start, length list) ∷ [] → AreWithin (length old) rs → AreWithin (length new) ss
 within_pushed old new rs ss start list front holds e w =
-    rw e (all_push (λ (range : ℕ × ℕ). range.0 + range.1 ≤ length new) rs (start, length list) (within_more (length old) (length new) rs (length_kept old new front) w) (omega (arith, holds.1)))
+    rw e (all_push (λ (range : ℕ × ℕ). range.0 + range.1 ≤ length new) rs (start, length list)
+    (within_more (length old) (length new) rs (length_kept old new front) w) (omega (arith, holds.1)))
 
 pub same_numbers : (xs ys : List ℕ) → pointwise eqb xs ys ≡ true → xs ≡ ys
 same_numbers [] [] e = refl

@@ -3,7 +3,11 @@ use Rattle.proto_checks.proofs.Whole.{statement_enum, statement_service}
 use Rattle.proto_checks.proofs.file.statement_fault.Goals as goal
 
 pub returns-in-Enum : goal.returns-in-Enum
-returns-in-Enum c = if_ok c.enum_fault.result (rw c.get-in-Enum.ensures at c.enum_fault.ensures) (λ first h. rw c.in-Enum.is (statement_enum c.in-Enum.declared first h))
+returns-in-Enum c =
+    if_ok c.enum_fault.result (rw c.get-in-Enum.ensures at c.enum_fault.ensures)
+    (λ first h. rw c.in-Enum.is (statement_enum c.in-Enum.declared first h))
 
 pub returns-in-Service : goal.returns-in-Service
-returns-in-Service c = if_ok c.service_fault.result (rw c.get-in-Service.ensures at c.service_fault.ensures) (λ first h. rw c.in-Service.is (statement_service c.in-Service.service first h))
+returns-in-Service c =
+    if_ok c.service_fault.result (rw c.get-in-Service.ensures at c.service_fault.ensures)
+    (λ first h. rw c.in-Service.is (statement_service c.in-Service.service first h))

@@ -4,4 +4,6 @@ use Rattle.proto_lower.specs.Options.{first_setting}
 use Rattle.proto_lower.proofs.settings.first_setting.Given as goal
 
 abbrev pub invariant-loop-item : goal.invariant-loop-item
-invariant-loop-item g l = first_setting l.name (flat_map g.I.Item.setting_of (drop l.item-index l.items)) ≡ first_setting l.name (flat_map g.I.Item.setting_of l.items)
+invariant-loop-item g l =
+    first_setting l.name (flat_map g.I.Item.setting_of (drop l.item-index l.items))
+    ≡ first_setting l.name (flat_map g.I.Item.setting_of l.items)
