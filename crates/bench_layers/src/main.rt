@@ -11,15 +11,12 @@ mod times;
 
 use anyhow::bail;
 use proto_base::Limits;
-use proto_checks::first_check_fault;
 use proto_desc::file::FileDesc;
 use proto_desc::is_resolved;
+use proto_file::{FileError, describe};
 use proto_links::{Links, in_name_order, link};
-use proto_lower::lower;
 use proto_names::NameIndex;
-use proto_syntax::parse;
 use proto_tokens::tokenize;
-use proto_tree::FileTree;
 use proto_types::{resolve_types, with_types};
 use reflect_requests::read_frames;
 use source_folder::{NamedText, read_folder};
@@ -45,39 +42,34 @@ fn since<R: Clock>(rt: &R, start: Instant) -> Duration {
     start.elapsed(rt).unwrap_or(Duration::ZERO)
 }
 
-/// The tree of a source, and when its tokens and it were there.
-fn tree_of<'s, R: AllocGlobal + Clock>(
-    rt: &R,
-    source: &'s NamedText,
-    start: Instant,
-) -> anyhow::Result<(FileTree<'s>, Duration, Duration)> {
-    let alloc = rt.alloc();
-    let limits = Limits::standard();
-    let tokens = tokenize(alloc, source.text.as_slice(), &limits)?;
-    let tokens_end = since(rt, start);
-    let tree = parse(alloc, &tokens, &limits)?;
-    Ok((tree, tokens_end, since(rt, start)))
-}
-
-/// The descriptor of a source that breaks no rule of its own.
+/// What a source describes that breaks no rule of its own.
 fn described<'s, R: AllocGlobal + Clock>(
     rt: &R,
     source: &'s NamedText,
     times: &mut Times,
 ) -> anyhow::Result<FileDesc<'s>> {
     let alloc = rt.alloc();
+    let name = source.name.as_str();
     let start = Instant::now(rt)?;
-    let (tree, tokens_end, tree_end) = tree_of(rt, source, start)?;
-    let desc = lower(alloc, source.name.as_str(), &tree)?;
-    let desc_end = since(rt, start);
-    let fault = first_check_fault(alloc, &tree, &desc, &Limits::standard())?;
-    let checks_end = since(rt, start);
-    if let Some((place, kind)) = fault {
-        let name = source.name.as_str();
-        bail!("{name} at {place}: {kind}");
-    }
-    times.add_local(tokens_end, tree_end, desc_end, checks_end);
+    let desc = match describe(alloc, name, source.text.as_slice(), &Limits::standard()) {
+        Ok(desc) => desc,
+        Err(FileError::At(_, place, kind)) => bail!("{name} at {place}: {kind}"),
+        Err(FileError::NoMemory) => bail!("out of memory"),
+    };
+    times.add_described(since(rt, start));
     Ok(desc)
+}
+
+/// Cuts a source into its tokens.
+fn cut<R: AllocGlobal + Clock>(
+    rt: &R,
+    source: &NamedText,
+    times: &mut Times,
+) -> anyhow::Result<()> {
+    let start = Instant::now(rt)?;
+    tokenize(rt.alloc(), source.text.as_slice(), &Limits::standard())?;
+    times.add_tokens(since(rt, start));
+    Ok(())
 }
 
 /// The descriptors of sources.
@@ -88,6 +80,7 @@ fn descriptors<'s, R: AllocGlobal + Clock>(
 ) -> anyhow::Result<Vec<FileDesc<'s>>> {
     let mut descs = Vec::with_capacity(rt.alloc(), sources.len())?;
     for source in sources {
+        cut(rt, source, times)?;
         descs.push(described(rt, source, times)?)?;
     }
     Ok(descs)

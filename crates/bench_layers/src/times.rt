@@ -6,9 +6,7 @@ use std::time::Duration;
 #[derive(Clone, Copy)]
 pub(crate) struct Times {
     tokens: Duration,
-    trees: Duration,
     descriptors: Duration,
-    checks: Duration,
     links: Duration,
     index: Duration,
     types: Duration,
@@ -19,9 +17,7 @@ impl Times {
     pub(crate) fn none() -> Times {
         Times {
             tokens: Duration::ZERO,
-            trees: Duration::ZERO,
             descriptors: Duration::ZERO,
-            checks: Duration::ZERO,
             links: Duration::ZERO,
             index: Duration::ZERO,
             types: Duration::ZERO,
@@ -29,22 +25,12 @@ impl Times {
         }
     }
 
-    /// Adds the layers of one source, by the times at which they end.
-    pub(crate) fn add_local(
-        &mut self,
-        tokens: Duration,
-        tree: Duration,
-        descriptor: Duration,
-        checks: Duration,
-    ) {
-        self.tokens = self.tokens.saturating_add(tokens);
-        self.trees = self.trees.saturating_add(tree.saturating_sub(tokens));
-        self.descriptors = self
-            .descriptors
-            .saturating_add(descriptor.saturating_sub(tree));
-        self.checks = self
-            .checks
-            .saturating_add(checks.saturating_sub(descriptor));
+    pub(crate) fn add_tokens(&mut self, time: Duration) {
+        self.tokens = self.tokens.saturating_add(time);
+    }
+
+    pub(crate) fn add_described(&mut self, time: Duration) {
+        self.descriptors = self.descriptors.saturating_add(time);
     }
 
     /// Adds the layers over all sources, by the times at which they end.
@@ -65,9 +51,7 @@ impl Times {
     pub(crate) fn least(self, other: Times) -> Times {
         Times {
             tokens: self.tokens.min(other.tokens),
-            trees: self.trees.min(other.trees),
             descriptors: self.descriptors.min(other.descriptors),
-            checks: self.checks.min(other.checks),
             links: self.links.min(other.links),
             index: self.index.min(other.index),
             types: self.types.min(other.types),
@@ -76,15 +60,13 @@ impl Times {
     }
 
     /// Each layer's call with its time, in the order in which they run.
-    pub(crate) fn layers(&self) -> [(&'static str, Duration); 8] {
+    pub(crate) fn layers(&self) -> [(&'static str, Duration); 6] {
         [
             ("tokenize", self.tokens),
-            ("parse", self.trees),
-            ("lower", self.descriptors),
-            ("first_check_fault", self.checks),
+            ("describe, its tokens too", self.descriptors),
             ("link", self.links),
             ("NameIndex::build", self.index),
-            ("typed", self.types),
+            ("resolve_types, with_types", self.types),
             ("file_bytes", self.bytes),
         ]
     }

@@ -17,7 +17,7 @@ use Rattle.digraph.specs.Edges.{Graph, Edge, IsFalling, successors}
 use Rattle.digraph.specs.Leads.{Leads, here, through, IsReach, AreReaches, InLists, IsUnion, AreClosed}
 use Rattle.digraph.specs.Marks.{AreMarked, Among}
 use Rattle.digraph.proofs.Marking.{among_more, among_all}
-use Rattle.digraph.proofs.Visiting.{no_place, node_at}
+use Rattle.digraph.proofs.Visiting.{no_position, node_at}
 use Rattle.digraph.proofs.Rising.{rises_push}
 use Rattle.digraph.proofs.Searching.{one_only}
 use Rattle.digraph.proofs.Ways.{leads_trans, leads_le}
@@ -38,7 +38,7 @@ gathered_none lists nodes marks marked room inside are e = record {
   room = room;
   inside = λ k h. inside (get_or nodes k 0) (node_at nodes k h);
   are = are;
-  gathered = λ c. (λ w. (let at = subst (λ (xs : List ℕ). Contains xs c) e w in absurd (no_place at.0 at.1)), λ w. absurd (no_place w.1.0 w.1.1));
+  gathered = λ c. (λ w. (let at = subst (λ (xs : List ℕ). Contains xs c) e w in absurd (no_position at.0 at.1)), λ w. absurd (no_position w.1.0 w.1.1));
 }
 
 first_more : (lists : List (List ℕ)) (nodes : List ℕ) (n c : ℕ) → InFirst lists nodes n c ⊎ Contains (get_or lists (get_or nodes n 0) []) c

@@ -23,7 +23,7 @@ use Rattle.digraph.proofs.Renumbering.{before_trans}
 use Rattle.digraph.proofs.Rounding.{mark_cases, row_cases, passed_none}
 use Rattle.digraph.proofs.Rows.{edge_below, no_items}
 use Rattle.digraph.proofs.Stuck.{none_stuck}
-use Rattle.digraph.proofs.Visiting.{no_place, node_at, push_iff, distinct_push}
+use Rattle.digraph.proofs.Visiting.{no_position, node_at, push_iff, distinct_push}
 
 -- what the loop over the rounds has
 pub record Stage : Type 0 where
@@ -94,7 +94,7 @@ levels_start g marks ranks order ready passed room size none empty rises members
   least = λ a m. absurd (none a m);
   below = λ a m. absurd (none a m);
   late = λ a w. inl refl;
-  ordered = λ k h. absurd (no_place (k + 1) h);
+  ordered = λ k h. absurd (no_position (k + 1) h);
 })
 
 -- ---- a round
@@ -192,16 +192,16 @@ ordered_case g s t l r k h (inr over) (inl at) =
     let mark = (l.known (get_or s.order k 0)).1 (node_at s.order k at) in
     let same = kept g s t l r (get_or s.order k 0) mark in
     let small = l.below (get_or s.order k 0) mark in
-    let place : k + 1 - length s.order < length s.ready = omega arith in
-    let rank = r.ranked (get_or s.ready (k + 1 - length s.order) 0) (node_at s.ready (k + 1 - length s.order) place) in
+    let position : k + 1 - length s.order < length s.ready = omega arith in
+    let rank = r.ranked (get_or s.ready (k + 1 - length s.order) 0) (node_at s.ready (k + 1 - length s.order) position) in
     rw (order_left s.order s.ready k at, order_right s.order s.ready (k + 1) over) (inl (omega (arith, same, small, rank)))
 ordered_case g s t l r k h (inr over) (inr at) =
-    let place : k - length s.order + 1 < length s.ready = omega arith in
+    let position : k - length s.order + 1 < length s.ready = omega arith in
     let next : k + 1 - length s.order ≡ k - length s.order + 1 = omega arith in
     let first = r.ranked (get_or s.ready (k - length s.order) 0) (node_at s.ready (k - length s.order) (omega arith)) in
-    let second = r.ranked (get_or s.ready (k - length s.order + 1) 0) (node_at s.ready (k - length s.order + 1) place) in
+    let second = r.ranked (get_or s.ready (k - length s.order + 1) 0) (node_at s.ready (k - length s.order + 1) position) in
     rw (order_right s.order s.ready k at, order_right s.order s.ready (k + 1) over ∙ ap (λ j. get_or s.ready j 0) next)
-    (inr (first ∙ sym second, l.rises (k - length s.order) place))
+    (inr (first ∙ sym second, l.rises (k - length s.order) position))
 
 ordered_next : (g : Graph) (s t : Stage) → Levels g s → Round g s t → (k : ℕ) → k + 1 < length t.order
     → IsBefore t.ranks (get_or t.order k 0) (get_or t.order (k + 1) 0)
@@ -301,7 +301,7 @@ ready_below g s l a w = ((l.ready a).0 w).0
 every_case : (g : Graph) (s : Stage) → Levels g s → length g ≤ length s.order → (a : ℕ) → a < length g
     → IsMarked s.marks a ⊎ (IsMarked s.marks a → ⊥) → IsMarked s.marks a
 every_case g s l whole a h (inl m) = m
-every_case g s l whole a h (inr out) = absurd (let short = order_shorter g s l a h out in no_place 0 (omega arith))
+every_case g s l whole a h (inr out) = absurd (let short = order_shorter g s l a h out in no_position 0 (omega arith))
 
 every : (g : Graph) (s : Stage) → Levels g s → length g ≤ length s.order → (a : ℕ) → a < length g → IsMarked s.marks a
 every g s l whole a h = every_case g s l whole a h (mark_cases s.marks a)
@@ -326,7 +326,7 @@ levels_order g s l whole = record {
 stuck_at : (g : Graph) (s : Stage) → IsWithin g (length g) → Levels g s → length s.ready ≡ 0 → (a : ℕ) → (a < length g) × (IsMarked s.marks a → ⊥)
     → (a < length g) × (b : ℕ) × Edge g a b × ((b < length g) × (IsMarked s.marks b → ⊥))
 stuck_at g s within l none a (h, out) = elim (row_cases g s.marks a) [
-  | inl all ↦ (let w = (l.ready a).1 (h, out, all) in absurd (no_place w.0 (omega (arith, w.1, none))))
+  | inl all ↦ (let w = (l.ready a).1 (h, out, all) in absurd (no_position w.0 (omega (arith, w.1, none))))
   | inr found ↦ (h, found.0, found.1, (within a found.0 found.1, found.2))
 ]
 
@@ -338,7 +338,7 @@ levels_stuck g s within l none short acyclic =
       | inl m ↦ m
       | inr out ↦ absurd (free q (h, out))
     ]))) in
-    no_place 0 (omega (arith, long, short))
+    no_position 0 (omega (arith, long, short))
 
 -- ---- the round as the code has it: the slices that it is given are the lists
 

@@ -13,7 +13,7 @@ use Rattle.digraph.specs.Ranks.{rank_in, IsBefore, IsRanked, IsRankOrder}
 use Rattle.digraph.specs.Renumbered.{node_at, ArePositions, HasPosition, IsRenumbered}
 use Rattle.digraph.proofs.Marking.{among_all}
 use Rattle.digraph.proofs.Rows.{edge_below, edge_push}
-use Rattle.digraph.proofs.Visiting.{no_place, node_at as member_at}
+use Rattle.digraph.proofs.Visiting.{no_position, node_at as member_at}
 
 -- ---- an order by rank
 
@@ -49,7 +49,7 @@ pub record Placed (order : List ℕ) (n : ℕ) (positions : List ℕ) : Type 0 w
   pub placed : (k : ℕ) → k < n → get_or positions (node_at order k) 0 ≡ k
 
 pub placed_none : (order positions : List ℕ) → length positions ≡ length order → Placed order 0 positions
-placed_none order positions size = record { size = size; placed = λ k h. absurd (no_place k h) }
+placed_none order positions size = record { size = size; placed = λ k h. absurd (no_position k h) }
 
 pub inside_order : (ranks order : List ℕ) → IsRankOrder ranks order → (k : ℕ) → k < length order → node_at order k < length order
 inside_order ranks order o k h = let below = (o.whole (node_at order k)).0 (member_at order k h) in omega (arith, below, o.size)
@@ -107,7 +107,7 @@ pub record Rowed (g : Graph) (order positions : List ℕ) (n : ℕ) (rows : Grap
 
 pub rowed_none : (g : Graph) (order positions : List ℕ) (rows : Graph) → rows ≡ [] → Rowed g order positions 0 rows
 rowed_none g order positions rows e =
-    rw e (record { size = refl; rowed = λ k j. (λ edge. (let h = edge_below [] k j edge in absurd (no_place k h)), λ w. absurd (no_place k w.0)) })
+    rw e (record { size = refl; rowed = λ k j. (λ edge. (let h = edge_below [] k j edge in absurd (no_position k h)), λ w. absurd (no_position k w.0)) })
 
 rowed_to : (g : Graph) (order positions : List ℕ) (n k j : ℕ) (E : Type 0) (row : List ℕ)
     → (E → (k < n) × HasPosition positions (successors g (node_at order k)) j) → (Contains row j → HasPosition positions (successors g (node_at order n)) j)

@@ -8,10 +8,10 @@ use Rattle.std.proofs.lemmas.Bool.{cases_lt}
 use Rattle.std.proofs.lemmas.Grind.{common_steps}
 use Rattle.std.proofs.lemmas.List.{get_or_push}
 use Rattle.digraph.proofs.Marking.{among_all}
-use Rattle.digraph.proofs.Visiting.{no_place}
+use Rattle.digraph.proofs.Visiting.{no_position}
 
 pub rises_none : IsStrictlyIncreasing []
-rises_none k h = absurd (no_place (k + 1) h)
+rises_none k h = absurd (no_position (k + 1) h)
 
 member_at : (xs : List ℕ) (k : ℕ) → k < length xs → Contains xs (get_or xs k 0)
 member_at xs k h = (among_all xs (length xs) (get_or xs k 0) refl).1 (k, h, refl)
@@ -67,7 +67,7 @@ all_push P [] x w p = (p, tt)
 all_push P (y ∷ xs) x w p = (w.0, all_push P xs x w.1 p)
 
 pub all_at : {X : Type 0} (P : X → Type 0) (xs : List X) (k : ℕ) (d : X) → AllByRecursion P xs → k < length xs → P (get_or xs k d)
-all_at P [] k d w h = absurd (no_place k h)
+all_at P [] k d w h = absurd (no_position k h)
 all_at P (x ∷ xs) zero d w h = w.0
 all_at P (x ∷ xs) (suc k) d w h = all_at P xs k d w.1 (omega arith)
 

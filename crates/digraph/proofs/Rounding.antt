@@ -10,7 +10,7 @@ use Rattle.digraph.specs.Ranks.{rank_in}
 use Rattle.digraph.specs.Rounds.{IsPassed, ArePassed, Stops, AllMarked, GoesInto}
 use Rattle.digraph.proofs.Marking.{among_more, among_all, mark_one, joined_step, joined_end}
 use Rattle.digraph.proofs.Rising.{rises_none, rises_push}
-use Rattle.digraph.proofs.Visiting.{no_place, node_at, push_iff}
+use Rattle.digraph.proofs.Visiting.{no_position, node_at, push_iff}
 
 -- ---- one row
 
@@ -38,7 +38,7 @@ known_mark marks a h false e = inr (λ m. false≢true (sym e ∙ m.1))
 
 inside_cases : (marks : List Bool) (a : ℕ) → (a < length marks) ⊎ (length marks ≤ a) → IsMarked marks a ⊎ (IsMarked marks a → ⊥)
 inside_cases marks a (inl h) = known_mark marks a h (get_or marks a false) refl
-inside_cases marks a (inr h) = inr (λ m. no_place 0 (omega (arith, h, m.0)))
+inside_cases marks a (inr h) = inr (λ m. no_position 0 (omega (arith, h, m.0)))
 
 pub mark_cases : (marks : List Bool) (a : ℕ) → IsMarked marks a ⊎ (IsMarked marks a → ⊥)
 mark_cases marks a = inside_cases marks a (cases_lt a (length marks))
@@ -50,7 +50,7 @@ front_more marks xs n here all c w = elim ((among_more xs n c).0 w) [ inl more �
 -- the first n are marked, or one of the nodes is not
 front_cases : (marks : List Bool) (xs : List ℕ) (n : ℕ) → n ≤ length xs
     → ((c : ℕ) → Among xs n c → IsMarked marks c) ⊎ ((c : ℕ) × Contains xs c × (IsMarked marks c → ⊥))
-front_cases marks xs zero h = inl (λ c w. absurd (no_place w.0 w.1))
+front_cases marks xs zero h = inl (λ c w. absurd (no_position w.0 w.1))
 front_cases marks xs (suc n) h = elim (front_cases marks xs n (omega arith)) [
   | inl all ↦ elim (mark_cases marks (get_or xs n 0)) [
     | inl here ↦ inl (λ c w. front_more marks xs n here all c (subst (λ (k : ℕ). Among xs k c) (omega arith) w))
@@ -78,14 +78,14 @@ pub record Settled (nodes : List ℕ) (rank : ℕ) (old : List Bool) (before : L
 
 none_among : (old : List Bool) (nodes : List ℕ) (c : ℕ) → IsMarked old c ⊎ Among nodes 0 c → IsMarked old c
 none_among old nodes c (inl m) = m
-none_among old nodes c (inr w) = absurd (no_place w.0 w.1)
+none_among old nodes c (inr w) = absurd (no_position w.0 w.1)
 
 pub settled_none : (nodes : List ℕ) (rank : ℕ) (marks : List Bool) (ranks : List ℕ) → ((c : ℕ) → Contains nodes c → (c < length marks) × (c < length ranks))
     → Settled nodes rank marks ranks 0 marks ranks
 settled_none nodes rank marks ranks room = record {
   room = λ k h. room (get_or nodes k 0) (node_at nodes k h);
   marked = λ c. (λ m. inl m, none_among marks nodes c);
-  ranked = λ c w. absurd (no_place w.0 w.1);
+  ranked = λ c w. absurd (no_position w.0 w.1);
   others = λ c out. refl;
 }
 
@@ -131,7 +131,7 @@ settled_others nodes rank old before n marks ranks e s c out = s.others c (λ w.
 pub passed_none : (g : Graph) (marks : List Bool) (passed : List ℕ) → length passed ≡ length g → ((a : ℕ) → get_or passed a 0 ≡ 0) → ArePassed g marks passed
 passed_none g marks passed size zeros = record {
   size = size;
-  each = λ a. record { inside = omega (arith, zeros a); front = λ k h. absurd (no_place k (omega (arith, h, zeros a))) };
+  each = λ a. record { inside = omega (arith, zeros a); front = λ k h. absurd (no_position k (omega (arith, h, zeros a))) };
 }
 
 -- marks that are added take nothing away
@@ -165,7 +165,7 @@ pub record Appending (g : Graph) (marks : List Bool) (nodes old : List ℕ) (n :
 
 none_ready : (g : Graph) (marks : List Bool) (nodes old : List ℕ) (a : ℕ) → Contains old a ⊎ (Among nodes 0 a × AllMarked g marks a) → Contains old a
 none_ready g marks nodes old a (inl w) = w
-none_ready g marks nodes old a (inr w) = absurd (no_place w.0.0 w.0.1)
+none_ready g marks nodes old a (inr w) = absurd (no_position w.0.0 w.0.1)
 
 pub appending_none : (g : Graph) (marks : List Bool) (nodes old passed : List ℕ) → ((a : ℕ) → Contains nodes a → a < length g) → ArePassed g marks passed
     → Appending g marks nodes old 0 passed old
@@ -230,7 +230,7 @@ pub collecting_none : (g : Graph) (marks : List Bool) (nodes passed ready : List
     → Collecting g marks nodes 0 passed ready
 collecting_none g marks nodes passed ready e are = rw e (record {
   are = are;
-  found = λ a. (λ w. absurd (no_place w.0 w.1), λ w. absurd (no_place w.0.1.0 w.0.1.1));
+  found = λ a. (λ w. absurd (no_position w.0 w.1), λ w. absurd (no_position w.0.1.0 w.0.1.1));
 })
 
 collected_to : (g : Graph) (marks : List Bool) (nodes : List ℕ) (n a : ℕ)
@@ -284,14 +284,14 @@ empty_row [] row e h = sym e
 empty_row (x ∷ xs) row e h = absurd (omega arith)
 
 pub inner_row : (xs row : List ℕ) → xs ≡ row → 0 < length xs → row ≡ [] → ⊥
-inner_row xs row e h empty = no_place 0 (subst (λ (ys : List ℕ). 0 < length ys) (e ∙ empty) h)
+inner_row xs row e h empty = no_position 0 (subst (λ (ys : List ℕ). 0 < length ys) (e ∙ empty) h)
 
 pub record Leaves (g : Graph) (n : ℕ) (leaves : List ℕ) : Type 0 where
   pub rises : IsStrictlyIncreasing leaves
   pub members : (a : ℕ) → Contains leaves a ↔ ((a < n) × IsLeaf g a)
 
 pub leaves_none : (g : Graph) (leaves : List ℕ) → leaves ≡ [] → Leaves g 0 leaves
-leaves_none g leaves e = rw e (record { rises = rises_none; members = λ a. (λ w. absurd (no_place w.0 w.1), λ w. absurd (no_place a w.0)) })
+leaves_none g leaves e = rw e (record { rises = rises_none; members = λ a. (λ w. absurd (no_position w.0 w.1), λ w. absurd (no_position a w.0)) })
 
 leaf_to : (g : Graph) (n a : ℕ) → IsLeaf g n → ((a < n) × IsLeaf g a) ⊎ (n ≡ a) → (a < n + 1) × IsLeaf g a
 leaf_to g n a leaf (inl (h, w)) = (omega arith, w)

@@ -9,7 +9,7 @@ use Rattle.std.proofs.lemmas.List.Elements.{Contains-push, Contains-push_cases, 
 use Rattle.std.proofs.lemmas.Grind.{common_steps}
 use Rattle.digraph.specs.Edges.{Graph, graph_of, successors, Edge}
 use Rattle.digraph.specs.Marks.{Among}
-use Rattle.digraph.proofs.Visiting.{no_place, node_at}
+use Rattle.digraph.proofs.Visiting.{no_position, node_at}
 use Rattle.digraph.proofs.Marking.{among_more, among_all, joined_step, joined_end}
 
 pub row_items : (rows : List (Vec ℕ Global)) (k : ℕ) (v : Vec ℕ Global) → v ≡ get_or rows k v → k < length rows → v.items ≡ successors (graph_of rows) k
@@ -148,7 +148,7 @@ pub record Turning (nodes : List ℕ) (node : ℕ) (old : Graph) (n : ℕ) (rows
 
 none_turned : (nodes : List ℕ) (node : ℕ) (old : Graph) (b a : ℕ) → Edge old b a ⊎ ((a ≡ node) × Among nodes 0 b) → Edge old b a
 none_turned nodes node old b a (inl edge) = edge
-none_turned nodes node old b a (inr (e, w)) = absurd (no_place w.0 w.1)
+none_turned nodes node old b a (inr (e, w)) = absurd (no_position w.0 w.1)
 
 pub turning_none : (nodes : List ℕ) (node : ℕ) (rows : List (Vec ℕ Global)) → ((b : ℕ) → Contains nodes b → b < length rows)
     → Turning nodes node (graph_of rows) 0 rows
@@ -181,7 +181,7 @@ pub record Turned (g : Graph) (n : ℕ) (rows : List (Vec ℕ Global)) : Type 0 
   pub edges : (b a : ℕ) → Edge (graph_of rows) b a ↔ ((a < n) × Edge g a b)
 
 pub turned_none : (g : Graph) (rows : List (Vec ℕ Global)) → length rows ≡ length g → ((b a : ℕ) → Edge (graph_of rows) b a → ⊥) → Turned g 0 rows
-turned_none g rows size empty = record { size = size; edges = λ b a. (λ edge. absurd (empty b a edge), λ w. absurd (no_place a w.0)) }
+turned_none g rows size empty = record { size = size; edges = λ b a. (λ edge. absurd (empty b a edge), λ w. absurd (no_position a w.0)) }
 
 turn_to : (g : Graph) (n b a : ℕ) (E : Type 0) → (E → (a < n) × Edge g a b) → E ⊎ ((a ≡ n) × Edge g n b) → (a < n + 1) × Edge g a b
 turn_to g n b a E f (inl e) = let w = f e in (omega (arith, w.0), w.1)

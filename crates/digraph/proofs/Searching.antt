@@ -11,7 +11,7 @@ use Rattle.digraph.specs.Edges.{Graph, Edge, successors}
 use Rattle.digraph.specs.Leads.{Leads, here, through}
 use Rattle.digraph.specs.Marks.{IsMarked, AreMarked, IsFrontOf, NoneMarked}
 use Rattle.digraph.proofs.Marking.{among_all}
-use Rattle.digraph.proofs.Visiting.{no_place, node_at}
+use Rattle.digraph.proofs.Visiting.{no_position, node_at}
 use Rattle.digraph.proofs.Ways.{leads_last}
 
 IsDistinct_none : IsDistinct eqb []
@@ -19,7 +19,7 @@ unfolding IsDistinct
 IsDistinct_none = tt
 
 no_member : (xs : List ℕ) (c : ℕ) → xs ≡ [] → Contains xs c → ⊥
-no_member xs c e w = let here' = subst (λ (ys : List ℕ). Contains ys c) e w in no_place here'.0 here'.1
+no_member xs c e w = let here' = subst (λ (ys : List ℕ). Contains ys c) e w in no_position here'.0 here'.1
 
 -- no node is marked, and none is in the list
 pub none_are : (marks : List Bool) (nodes : List ℕ) → NoneMarked marks → nodes ≡ [] → AreMarked marks nodes
@@ -46,7 +46,7 @@ found_short g n start marks found next r =
 
 pub one_only : (s c : ℕ) → Contains (s ∷ []) c → s ≡ c
 one_only s c (zero, h, e) = e
-one_only s c (suc k, h, e) = absurd (no_place k (omega arith))
+one_only s c (suc k, h, e) = absurd (no_position k (omega arith))
 
 start_sound : (g : Graph) (start c : ℕ) (old : List ℕ) → old ≡ [] → Contains old c ⊎ Contains (start ∷ []) c → Leads (Edge g) c start
 start_sound g start c old e (inl h) = absurd (no_member old c e h)
@@ -59,7 +59,7 @@ searching_start g n start old marks found e room are added = record {
   are = are;
   first = (added start).1 (inr (0, lit< tt, refl));
   sound = λ c w. start_sound g start c old e ((added c).0 w);
-  done = λ k b h w. absurd (no_place k h);
+  done = λ k b h w. absurd (no_position k h);
 }
 
 next_sound : (g : Graph) (start q c : ℕ) (found : List ℕ) → ((x : ℕ) → Contains found x → Leads (Edge g) x start) → Contains found q

@@ -49,13 +49,13 @@ same_numbers (x ∷ xs) [] e = cc
 same_numbers (x ∷ xs) (y ∷ ys) e =
     let both = and_parts (eqb x y) (pointwise eqb xs ys) e in let rest = same_numbers xs ys both.1 in let first = eqb-true x y both.0 in cc
 
--- a list goes on where the places end
-pub goes_on : (places new front list : List ℕ) (last k : ℕ) → front ≡ drop k places → k + length front ≡ length places → list ≡ front ++ last ∷ []
-    → new ≡ places ++ last ∷ [] → Holds new k list
-goes_on places new front list last k e len whole pushed =
-    let inside : k ≤ length places = omega arith in (
-      rw (pushed, whole, drop-append-le k places (last ∷ []) inside, e) refl,
-      rw (pushed, whole) (rw (length-append places (last ∷ []), length-append front (last ∷ [])) (omega arith)),
+-- a list goes on where the positions end
+pub goes_on : (positions new front list : List ℕ) (last k : ℕ) → front ≡ drop k positions → k + length front ≡ length positions → list ≡ front ++ last ∷ []
+    → new ≡ positions ++ last ∷ [] → Holds new k list
+goes_on positions new front list last k e len whole pushed =
+    let inside : k ≤ length positions = omega arith in (
+      rw (pushed, whole, drop-append-le k positions (last ∷ []) inside, e) refl,
+      rw (pushed, whole) (rw (length-append positions (last ∷ []), length-append front (last ∷ [])) (omega arith)),
     )
 
 -- the list at k, by its range

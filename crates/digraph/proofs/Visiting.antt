@@ -12,8 +12,8 @@ use lib.Dec.{eqb}
 use Rattle.digraph.specs.Marks.{IsMarked, AreMarked, Among, IsFrontOf, NoneMarked}
 use Rattle.digraph.proofs.Marking.{among_more, among_all, mark_one, joined_step, joined_end}
 
-pub no_place : (k : ℕ) → k < 0 → ⊥
-no_place k h = omega arith
+pub no_position : (k : ℕ) → k < 0 → ⊥
+no_position k h = omega arith
 
 -- ---- marking
 
@@ -92,7 +92,7 @@ visited_skip old nodes n marks new marked ys h inside new_is ys_is v =
     })
 
 none_at : (nodes : List ℕ) (c : ℕ) → Among nodes 0 c → ⊥
-none_at nodes c (k, h, e) = no_place k h
+none_at nodes c (k, h, e) = no_position k h
 
 none_from : (old nodes : List ℕ) (c : ℕ) → Contains old c ⊎ Among nodes 0 c → Contains old c
 none_from old nodes c (inl h) = h

@@ -8,7 +8,7 @@ ghost use Rattle.digraph.specs.Renumbered.{node_at};
 use std::alloc::{AllocError, Global};
 use std::marker::Model;
 
-/// Lists of numbers, by their places. A list that goes on where the one before it ends takes the room of one number
+/// Lists of numbers, by their positions. A list that goes on where the one before it ends takes the room of one number
 /// more: a chain of lists, each with one number more than the last, takes the room of the longest.
 #[derive(Drop)]
 pub struct Lists {
@@ -52,12 +52,12 @@ impl Lists {
         self.ranges.is_empty()
     }
 
-    /// The list at a place.
-    pub fn get(&self, place: usize) -> &[usize]
-        requires { place < length self.now }
-        ensures { result.now ≡ slice_index_or self.now place [] }
+    /// The list at a position.
+    pub fn get(&self, position: usize) -> &[usize]
+        requires { position < length self.now }
+        ensures { result.now ≡ slice_index_or self.now position [] }
     {
-        let (start, size) = self.ranges[place];
+        let (start, size) = self.ranges[position];
         &self.items[start..start + size]
     }
 
@@ -71,21 +71,21 @@ impl Lists {
         Ok(())
     }
 
-    /// Appends the list at a place with a number behind it, in constant time where that list ends the items. Where there
+    /// Appends the list at a position with a number behind it, in constant time where that list ends the items. Where there
     /// is no memory, the lists stay as they were.
-    pub(crate) fn push_extended(&mut self, place: usize, number: usize) -> Result<(), AllocError>
-        requires { place < length self.old }
+    pub(crate) fn push_extended(&mut self, position: usize, number: usize) -> Result<(), AllocError>
+        requires { position < length self.old }
         ensures appended { OnOk result (self.new
-            ≡ self.old ++ (slice_index_or self.old place [] ++ number ∷ []) ∷ []) }
+            ≡ self.old ++ (slice_index_or self.old position [] ++ number ∷ []) ∷ []) }
         ensures unchanged { OnErr result (self.new ≡ self.old) }
     {
-        let (start, size) = self.ranges[place];
+        let (start, size) = self.ranges[position];
         let start = put_extended(&mut self.items, start, size, number)?;
         self.ranges.push((start, size + 1))?;
         Ok(())
     }
 
-    /// The lists with the name of each number in its place. What the lists share is named once.
+    /// The lists with the name of each number in its position. What the lists share is named once.
     pub(crate) fn with_names(&self, alloc: Global, names: &[usize]) -> Result<Lists, AllocError>
         requires { (a k : ℕ) → a < length self.now → Contains (slice_index_or self.now a []) k
             → k < length names.now }

@@ -74,7 +74,7 @@ module _ (files : ℕ) (list : ℕ → List ℕ)
       map_same items outs (carried mode list roots) (gives.0 ∙ sym (carried_length mode list [] roots)) (λ i out reply eo er.
       let inside = slice_get_within outs i out eo in let len = gives.0 in
       let root = get_there roots i (omega arith) in
-      let place : 0 + i ≡ i = omega arith in
+      let position : 0 + i ≡ i = omega arith in
       let both : Some (reply_at mode list least i root.0) ≡ Some reply = sym (reply_same mode i root.0 root.1) ∙ er in
       let same : reply_at mode list least i root.0 ≡ reply = cc in
-      gives.1 i root.0 out root.1 eo ∙ ap (λ n. reply_at mode list least n root.0) place ∙ same)
+      gives.1 i root.0 out root.1 eo ∙ ap (λ n. reply_at mode list least n root.0) position ∙ same)

@@ -58,7 +58,7 @@ parts mode reach first i r =
       once Once g b = refl
       once Repeat g b = pick (eqb g r) b
 
--- where the root at place i is the first to reach its own file
+-- where the root at position i is the first to reach its own file
 pub reply_first : (mode : Mode) (reach : ℕ → List ℕ) (first : List ℕ) (i r : ℕ) → slice_index first r ≡ i
     → reply_at mode reach first i (Some r) ≡ r ∷ others_at first i r (reach r)
 reply_first mode reach first i r is =

@@ -50,9 +50,9 @@ replies_are mode reach (r ∷ roots) sent i (suc k) root own e =
 pub reply_is : (mode : Mode) (reach : ℕ → List ℕ) (roots : List (Option ℕ)) (i : ℕ) (root : Option ℕ) → Own reach roots → slice_get roots i ≡ Some root
     → slice_get (carried mode reach roots) i ≡ Some (filter (λ g. repeats mode root g || eqb (first_reach reach roots g) i) (root_first reach root))
 reply_is mode reach roots i root own e =
-    let place : 0 + i ≡ i = omega arith in
+    let position : 0 + i ≡ i = omega arith in
     replies_are mode reach roots [] 0 i root own e
-    ∙ ap (λ n. Some (filter (λ g. repeats mode root g || eqb (first_reach reach roots g) n) (root_first reach root))) place
+    ∙ ap (λ n. Some (filter (λ g. repeats mode root g || eqb (first_reach reach roots g) n) (root_first reach root))) position
 
 pub carried_length : (mode : Mode) (reach : ℕ → List ℕ) (sent : List ℕ) (roots : List (Option ℕ)) → length (carried_from mode reach sent roots) ≡ length roots
 carried_length mode reach sent [] = refl

@@ -3,7 +3,7 @@ use Rattle.std.specs.Prelude.{◌≡◌, ℕ, ◌+◌, Option, Some, List, [], �
 use Rattle.share_work.specs.Posts.{NONE}
 use Rattle.first_reach.specs.Carried.{has, reached}
 
--- the place of the first root that reaches the file, where the first of these has place i; or NONE
+-- the position of the first root that reaches the file, where the first of these has position i; or NONE
 abbrev pub first_from : (ℕ → List ℕ) → ℕ → List (Option ℕ) → ℕ → ℕ
 first_from reach i [] g = NONE
 first_from reach i (root ∷ roots) g = if has g (reached reach root) then i else first_from reach (i + 1) roots g
@@ -11,6 +11,6 @@ first_from reach i (root ∷ roots) g = if has g (reached reach root) then i els
 abbrev pub first_reach : (ℕ → List ℕ) → List (Option ℕ) → ℕ → ℕ
 first_reach reach roots g = first_from reach 0 roots g
 
--- the root at place n reaches g
+-- the root at position n reaches g
 abbrev pub RootReaches : (ℕ → List ℕ) → List (Option ℕ) → ℕ → ℕ → Type 0
 RootReaches reach roots g n = (root : Option ℕ) × (slice_get roots n ≡ Some root) × IsTrue (has g (reached reach root))

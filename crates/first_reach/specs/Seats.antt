@@ -8,6 +8,6 @@ use Rattle.first_reach.specs.Carried.{has, reached}
 abbrev pub has_posted : (ℕ → List ℕ) → MarkSeatValue → ℕ → ℕ → Bool
 has_posted reach s g n = posted g n (marked_posts reach s.view.marks)
 
--- the mark of the root at place i posts n at g
+-- the mark of the root at position i posts n at g
 abbrev pub Posts : (ℕ → List ℕ) → ℕ → Option ℕ → ℕ → ℕ → Type 0
 Posts reach i root g n = (n ≡ i) × IsTrue (has g (reached reach root))

@@ -12,7 +12,7 @@ pub fn repeat_carries_roots()
     ensures { RepeatCarriesRoots }
 {}
 
-/// The least number at a file at which the roots that reach it posted their places is the place of the first of them.
+/// The least number at a file at which the roots that reach it posted their positions is the position of the first of them.
 pub fn least_is_first()
     ensures { LeastIsFirst }
 {}

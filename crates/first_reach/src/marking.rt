@@ -14,7 +14,7 @@ use std::thread::Threads;
 /// The phase of the marks, as a gate is told it.
 const MARKING: u8 = 4;
 
-/// Marks each root with its place.
+/// Marks each root with its position.
 #[derive(Drop)]
 struct Marking<'a, F: Reach> {
     table: &'a MarkTable<'a, F>,
@@ -102,7 +102,7 @@ fn join_seats<F: Reach>(table: &MarkTable<'_, F>, seats: Vec<MarkSeat>) -> Optio
     Some(seat)
 }
 
-/// The place of the first root that reaches each file, or `NONE`.
+/// The position of the first root that reaches each file, or `NONE`.
 pub(crate) fn firsts<R, G, F>(
     rt: &R,
     reach: &F,

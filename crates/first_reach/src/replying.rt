@@ -57,36 +57,41 @@ impl<F: Reach> Work<Option<usize>> for Replying<'_, F> {
 }
 
 impl<F: Reach> Replying<'_, F> {
-    /// The files that the reply at a place carries. Where its root was reached before, all that the root reaches was,
+    /// The files that the reply at a position carries. Where its root was reached before, all that the root reaches was,
     /// so that the list needn't be read.
-    fn reply(&self, alloc: Global, root: usize, place: u64) -> Result<Vec<usize>, AllocError>
+    fn reply(&self, alloc: Global, root: usize, position: u64) -> Result<Vec<usize>, AllocError>
         requires count { length self.now.least.now ≡ F.files self.now.reach.now }
         requires root { (root < F.files self.now.reach.now)
-            × RootIsFirstToo (F.list self.now.reach.now) self.now.least.now place root }
+            × RootIsFirstToo (F.list self.now.reach.now) self.now.least.now position root }
         ensures { IfOk result (λ v. v.items
-            ≡ reply_at self.now.mode (F.list self.now.reach.now) self.now.least.now place
+            ≡ reply_at self.now.mode (F.list self.now.reach.now) self.now.least.now position
             (Some root)) }
     {
         let mut files = Vec::new(alloc);
-        if self.least.get(root) == place {
+        if self.least.get(root) == position {
             files.push(root)?;
-            self.add_others(&mut files, root, place)?;
+            self.add_others(&mut files, root, position)?;
         } else if let Mode::Repeat = self.mode {
             files.push(root)?;
         }
         Ok(files)
     }
 
-    /// Adds the files but the root that the root at the place is the first to reach.
-    fn add_others(&self, files: &mut Vec<usize>, root: usize, place: u64) -> Result<(), AllocError>
+    /// Adds the files but the root that the root at the position is the first to reach.
+    fn add_others(
+        &self,
+        files: &mut Vec<usize>,
+        root: usize,
+        position: u64,
+    ) -> Result<(), AllocError>
         requires count { length self.now.least.now ≡ F.files self.now.reach.now }
         requires root { root < F.files self.now.reach.now }
         ensures { OnOk result (files.new.items ≡ files.old.items
-            ++ others_at self.now.least.now place root (F.list self.now.reach.now root)) }
+            ++ others_at self.now.least.now position root (F.list self.now.reach.now root)) }
     {
         let mut k = 0;
         while let Some(file) = self.reach.reached(root, k) {
-            if file != root && self.least.get(file) == place {
+            if file != root && self.least.get(file) == position {
                 files.push(file)?;
             }
             k += 1;

@@ -1,6 +1,6 @@
 -- What sources are compiled to, asked in any way.
 use Rattle.std.proofs.Common.{◌≡◌, ◌≢◌, ◌∙◌, sym, ℕ, zero, suc, ◌+◌, ◌<◌, List, [], ◌∷◌, length, get_or, map, ap, refl, arith, Bool, true, false, ◌||◌, filter, cond, eqb, eq-eqb, eqb-true, Ordering, Less, Equal, Greater}
-use Rattle.std.specs.Prelude.{Contains, IsSorted}
+use Rattle.std.specs.Prelude.{Contains, IsPermutation, IsSorted}
 use Rattle.std.specs.Cmp.Lexicographic.{slice_cmp}
 use Rattle.std.specs.List.{sum_by}
 use Rattle.std.specs.Ordering.{nat_cmp, is_lt, ordering_reverse}
@@ -17,7 +17,6 @@ use Rattle.proto_links.proofs.Rising.{Rises}
 use Rattle.proto_links.proofs.Whole.{whole_of}
 use Rattle.proto_names.specs.Index.{Index, Indexes, is_service_kind, name_of, services_of}
 use Rattle.proto_names.specs.Occurrences.{Occurrence, occurrences}
-use Rattle.proto_names.proofs.Occurring.{services_sorted}
 use Rattle.proto_compile.specs.Alike.{AreAlike}
 use Rattle.proto_compile.specs.Compilation.{Compilation, IsCompiled, file_name}
 use Rattle.proto_compile.specs.Descriptions.{SourceDescribes}
@@ -57,16 +56,17 @@ names_rise names up k d h =
     not_greater (slice_cmp nat_cmp (get_or names k d) (get_or names (k + 1) d)) (slice_cmp nat_cmp (get_or names (k + 1) d) (get_or names k d))
     (nat_list_cmp_total.antisymm (get_or names k d) (get_or names (k + 1) d)) (up k d (omega arith) h)
 
+all_services : (f : List ℕ → ℕ) (index : Index) → IsPermutation (services_of index.occurrences) index.services
+    → sum_by (counted f) index.occurrences ≡ sum_by f index.services
+all_services f index all =
+    sym (counted_services f index.occurrences) ∙ sym (sum_by-IsPermutation f (services_of index.occurrences) index.services all)
+
 one_services : (descs : List FileDesc) (limits : Limits) (index other : Index) → Indexes descs limits index → Indexes descs limits other
     → index.services ≡ other.services
 one_services descs limits index other first second =
-    first.sound.services
-    ∙ one_sorted (services_of index.occurrences) (services_of other.occurrences)
-    (names_rise (services_of index.occurrences) (services_sorted index.occurrences first.sound.order))
-    (names_rise (services_of other.occurrences) (services_sorted other.occurrences second.sound.order))
-    (λ f. counted_services f index.occurrences ∙ sum_by-IsPermutation (counted f) (occurrences descs) index.occurrences first.all
-    ∙ sym (sum_by-IsPermutation (counted f) (occurrences descs) other.occurrences second.all) ∙ sym (counted_services f other.occurrences))
-    ∙ sym second.sound.services
+    one_sorted index.services other.services (names_rise index.services first.sound.order) (names_rise other.services second.sound.order)
+    (λ f. sym (all_services f index first.sound.services) ∙ sum_by-IsPermutation (counted f) (occurrences descs) index.occurrences first.all
+    ∙ sym (sum_by-IsPermutation (counted f) (occurrences descs) other.occurrences second.all) ∙ all_services f other second.sound.services)
 
 -- ---- what files reach
 

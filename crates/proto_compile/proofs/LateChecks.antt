@@ -24,7 +24,7 @@ use Rattle.proto_compile.proofs.OneCompilation.{IsFirstLong, no_long, one_long, 
 use Rattle.proto_compile.proofs.OneTyping.{IsFirstBreak, analysed_alike, analysed_moved, none_break, one_break, one_description, one_resolved}
 use Rattle.proto_compile.proofs.Checks.{Check, IsExact, Told, told}
 
--- the name of a file at a place of one of two lists that are the same
+-- the name of a file at a position of one of two lists that are the same
 same_file_name : (ds es : List FileDesc) (a b : ℕ) → ds ≡ es → a ≡ b → imports.name_at ds a ≡ imports.name_at es b
 same_file_name ds es a b same at = ap (imports.name_at ds) at ∙ ap (λ (xs : List FileDesc). imports.name_at xs b) same
 

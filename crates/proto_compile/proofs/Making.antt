@@ -1,7 +1,7 @@
 -- What sources are compiled to.
 use Rattle.std.proofs.Common.{◌≡◌, ◌∙◌, sym, ap, refl, inl, inr, Bool, false, ℕ, suc, ◌+◌, ◌<◌, ◌≤◌, List, [], ◌∷◌, map, length, arith, All}
 use Rattle.std.specs.List.{AllZip}
-use Rattle.std.specs.Prelude.{◌↔◌, Contains, IsTrue, Vec}
+use Rattle.std.specs.Prelude.{◌↔◌, Contains, IsPermutation, IsTrue, Vec}
 use Rattle.std.specs.declared.alloc.Global.{Global}
 use Rattle.std.proofs.lemmas.Bool.{true≢false, cases_lt}
 use Rattle.std.proofs.lemmas.List.{length-map}
@@ -71,7 +71,7 @@ written limits sources sorted descs links index files resolved short names bytes
     record { sorted = sorted; descs = descs; resolved = resolved; short = short; names = names; bytes = bytes; same_limits = refl }
 
 pub sound : (limits : Limits) (sources : List Source) (files : List CompiledFile) (links : Linked) (index : Index)
-    → IsWritten limits sources (compilation limits files links index) → index.services ≡ services_of index.occurrences
+    → IsWritten limits sources (compilation limits files links index) → IsPermutation (services_of index.occurrences) index.services
     → length (set_of files links) ≤ limit_of limits limit.SetBytes → IsSound (compilation limits files links index)
 sound limits sources files links index is services within =
     let analysed = is.resolved.analysed in

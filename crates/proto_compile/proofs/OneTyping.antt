@@ -27,7 +27,7 @@ use Rattle.proto_compile.specs.declared.source.Source.{Source}
 use Rattle.proto_file.proofs.OneLocal.{one_descriptor}
 use Rattle.proto_compile.proofs.OneOrder.{moved, one_order}
 
--- ---- what stands at a place of a list
+-- ---- what stands at a position of a list
 
 pub standing_one : {X : Type 0} (xs : List X) (k : ℕ) (x y : X) → k < length xs → get_or xs k x ≡ x → get_or xs k y ≡ y → x ≡ y
 standing_one xs k x y h at also = sym at ∙ get_or_default xs k x y h ∙ also

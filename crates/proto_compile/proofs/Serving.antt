@@ -1,6 +1,6 @@
 -- The names of services: no more than the names of the files, and none longer than a full name may be.
 use Rattle.std.proofs.Common.{◌≡◌, ◌∙◌, sym, ap, subst, refl, ℕ, zero, suc, ◌+◌, ◌<◌, ◌≤◌, Bool, true, false, cond, ◌⊎◌, inl, inr, List, [], ◌∷◌, map, length, get_or, Option, Some, None, arith}
-use Rattle.std.specs.Prelude.{Contains, IsTrue, filter}
+use Rattle.std.specs.Prelude.{Contains, IsPermutation, IsTrue, filter}
 use Rattle.std.specs.List.{AllZip}
 use Rattle.std.proofs.lemmas.Bool.{true≢false, cases_lt}
 use Rattle.std.proofs.lemmas.List.Elements.{Contains-append_cases}
@@ -101,18 +101,19 @@ files_short limits a (s ∷ files) (desc ∷ descs) all o has service =
 -- ---- the services of an index
 
 pub index_short : (limits : Limits) (files : List Source) (descs : List FileDesc) (index : Index) → AllZip (SourceDescribes limits) files descs
-    → Indexes descs limits index → index.services ≡ services_of index.occurrences
+    → Indexes descs limits index → IsPermutation (services_of index.occurrences) index.services
     → (name : List ℕ) → Contains index.services name → length name ≤ limit_of limits limit.FullNameBytes
 index_short limits files descs index all is services name has =
     short_services (limit_of limits limit.FullNameBytes) index.occurrences
     (λ o inside. files_short limits 0 files descs all o (Contains-permutation index.occurrences (occurrences descs) o
     (IsPermutation-sym (occurrences descs) index.occurrences is.all) inside))
-    name (subst (λ (ns : List (List ℕ)). Contains ns name) services has)
+    name (Contains-permutation index.services (services_of index.occurrences) name
+    (IsPermutation-sym (services_of index.occurrences) index.services services) has)
 
-pub index_few : (limits : Limits) (descs : List FileDesc) (index : Index) → Indexes descs limits index → index.services ≡ services_of index.occurrences
+pub index_few : (limits : Limits) (descs : List FileDesc) (index : Index) → Indexes descs limits index → IsPermutation (services_of index.occurrences) index.services
     → length index.services ≤ limit_of limits limit.Names
 index_few limits descs index is services =
     let few = few_services index.occurrences in
     let size = length_permutation (occurrences descs) index.occurrences is.all in
-    let same = ap length services in
+    let same = length_permutation (services_of index.occurrences) index.services services in
     omega (arith, few, size, same, is.within)

@@ -18,11 +18,11 @@ pub record IsAnalysed (limits : Limits) (sources files : List Source) (descs : L
   pub linked : AreLinked descs links
   pub indexed : Indexes descs limits index
 
--- what is wrong with the types of the file at a place
+-- what is wrong with the types of the file at a position
 abbrev pub TypesBreakAt : Linked → Index → ℕ → FileDesc → Spot → Type 0
 TypesBreakAt links index a desc = TypesBreak index.occurrences (SeenBy links a) desc
 
--- the descriptor of the file at a place breaks no rule of types, and this is what it is with its types resolved
+-- the descriptor of the file at a position breaks no rule of types, and this is what it is with its types resolved
 pub record TypesAt (links : Linked) (index : Index) (a : ℕ) (desc typed : FileDesc) : Type 0 where
   pub whole : (x : Spot) → TypesBreakAt links index a desc x → ⊥
   pub resolved : IsTypedFile index.occurrences (SeenBy links a) desc typed

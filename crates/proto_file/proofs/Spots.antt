@@ -19,7 +19,7 @@ SpotWithin n x = Placed n x.place
 pub at_spot : (n : ℕ) (p : Place) (k : Kind) (x : Spot) → Placed n p → x ≡ spot p k → SpotWithin n x
 at_spot n p k x within e = subst (SpotWithin n) (sym e) within
 
--- what holds of all holds of what stands at a place
+-- what holds of all holds of what stands at a position
 pub standing : {X : Type 0} (P : X → Type 0) (xs : List X) (i : ℕ) (a : X) → AllByRecursion P xs → StandsAt xs i a → P a
 standing P [] i a all at = absurd (omega (arith, at.0))
 standing P (x ∷ xs) zero a all at = subst P at.1 all.0

@@ -17,7 +17,7 @@ use Rattle.proto_base.specs.declared.place.Place.{Place}
 use Rattle.proto_links.specs.Graphs.{IsGraph, NoLaterThan, Bounds, IsLesser, IsWrongIn, IsFirstWrong}
 use Rattle.proto_links.specs.Imports.{AreInNameOrder, IsNamed, Imports, Reaches, IsWrong, missing, cyclic, IsBad, IsFirstBad, IsNoLater, NoneBad, imports_at}
 use Rattle.proto_links.specs.declared.faults.Wrong.{Wrong}
-use Rattle.proto_links.proofs.Named.{named_once, no_place}
+use Rattle.proto_links.proofs.Named.{named_once, no_position}
 use Rattle.proto_links.proofs.Targeting.{importer_inside}
 
 -- ---- one import
@@ -47,7 +47,7 @@ no_fault files a i t order n out _ (cyclic b m r) = out (subst (λ x. Reaches fi
 -- ---- the imports of a file
 
 none_in : {X : Type 0} (x : X) → Contains {X = X} [] x → ⊥
-none_in x w = no_place w.0 w.1
+none_in x w = no_position w.0 w.1
 
 pub first_none : (files : List FileDesc) (a : ℕ) → IsFirstWrong files a [] None
 first_none files a = record { found = tt; least = λ x w. absurd (none_in w.0 w.1) }
@@ -116,7 +116,7 @@ pub record NoneBefore (files : List FileDesc) (n : ℕ) : Type 0 where
   pub none : (a : ℕ) (p : Place) (k : Kind) → a < n → IsBad files a p k → ⊥
 
 pub none_start : (files : List FileDesc) → NoneBefore files 0
-none_start files = record { none = λ a p k h w. no_place a h }
+none_start files = record { none = λ a p k h w. no_position a h }
 
 pub none_more : (files : List FileDesc) (n : ℕ) (imports : List ImportDesc) (first : Option Wrong) → imports ≡ imports_at files n → first ≡ None
     → IsFirstWrong files n imports first → NoneBefore files n → NoneBefore files (n + 1)

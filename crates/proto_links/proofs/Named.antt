@@ -11,8 +11,8 @@ use Rattle.std.proofs.lemmas.List.{get_or-map}
 use Rattle.proto_desc.specs.declared.file.FileDesc.{FileDesc}
 use Rattle.proto_links.specs.Imports.{name_of, name_at, AreInNameOrder, IsNamed}
 
-pub no_place : (k : ℕ) → k < 0 → ⊥
-no_place k h = omega arith
+pub no_position : (k : ℕ) → k < 0 → ⊥
+no_position k h = omega arith
 
 less_itself : (o : Ordering) → o ≡ ordering_reverse o → o ≡ Less → ⊥
 less_itself Less h k = cc
@@ -106,7 +106,7 @@ not_true b h k = cc
 
 pub found_name : (files : List FileDesc) (k : ℕ) (name : List ℕ) → k < length files
     → ((d : FileDesc) → slice_cmp nat_cmp (name_of (get_or files k d)) name ≡ Equal) → IsNamed files name k
-found_name [] k name h found = absurd (no_place k h)
+found_name [] k name h found = absurd (no_position k h)
 found_name (f ∷ fs) k name h found = (h, name_is (f ∷ fs) k f h ∙ exact_bytes _ _ (found f))
 
 reverse_same : (o : Ordering) → o ≡ ordering_reverse o → o ≡ Equal
@@ -126,7 +126,7 @@ equal_itself xs ys e = subst (λ zs. slice_cmp nat_cmp xs zs ≡ Equal) e (rever
 pub no_name : (files : List FileDesc) (at : ℕ) (name : List ℕ)
     → ((k : ℕ) (d : FileDesc) → 0 ≤ k → k < at → slice_cmp nat_cmp (name_of (get_or files k d)) name ≡ Less)
     → ((k : ℕ) (d : FileDesc) → at ≤ k → k < length files → slice_cmp nat_cmp (name_of (get_or files k d)) name ≡ Greater) → (b : ℕ) → IsNamed files name b → ⊥
-no_name [] at name left right b (h, same) = no_place b h
+no_name [] at name left right b (h, same) = no_position b h
 no_name (f ∷ fs) at name left right b (h, same) =
     let equal = equal_itself (name_of (get_or (f ∷ fs) b f)) name (sym (name_is (f ∷ fs) b f h) ∙ same) in
     elim (cases_lt b at) [ inl less ↦ less_not_equal _ (left b f (omega arith) less) equal | inr over ↦ greater_not_equal _ (right b f over h) equal ]

@@ -8,7 +8,7 @@ use Rattle.std.proofs.lemmas.List.{get_or-map, get_or_past}
 use Rattle.std.proofs.lemmas.List.Elements.{Contains-push, Contains-push_cases, Contains-append_left}
 use Rattle.digraph.specs.Edges.{Graph, Edge, graph_of}
 use Rattle.digraph.proofs.Rows.{edge_push, edge_below}
-use Rattle.digraph.proofs.Visiting.{push_iff, no_place}
+use Rattle.digraph.proofs.Visiting.{push_iff, no_position}
 use Rattle.proto_desc.specs.declared.file.FileDesc.{FileDesc}
 use Rattle.proto_desc.specs.declared.file.ImportDesc.{ImportDesc}
 use Rattle.proto_links.specs.Graphs.{HasMissing, IsGraph, IsPublicGraph}
@@ -62,7 +62,7 @@ pub record Targeting (files : List FileDesc) (xs : List ImportDesc) (all public 
   pub lacking : whole ≡ false → HasMissing files xs
 
 none_in : {X : Type 0} (x : X) → Contains {X = X} [] x → ⊥
-none_in x w = no_place w.0 w.1
+none_in x w = no_position w.0 w.1
 
 pub targeting_none : (files : List FileDesc) (all public : List ℕ) → all ≡ [] → public ≡ [] → Targeting files [] all public true
 targeting_none files all public ea ep = rw (ea, ep) (record {
@@ -127,7 +127,7 @@ pub record Rows (P : ℕ → ℕ → Type 0) (n : ℕ) (g : Graph) : Type 0 wher
   pub edges : (a b : ℕ) → Edge g a b ↔ ((a < n) × P a b)
 
 pub rows_none : (P : ℕ → ℕ → Type 0) (g : Graph) → g ≡ [] → Rows P 0 g
-rows_none P g e = rw e (record { size = refl; edges = λ a b. (λ edge. absurd (no_place a (edge_below [] a b edge)), λ w. absurd (no_place a w.0)) })
+rows_none P g e = rw e (record { size = refl; edges = λ a b. (λ edge. absurd (no_position a (edge_below [] a b edge)), λ w. absurd (no_position a w.0)) })
 
 rows_to : (P : ℕ → ℕ → Type 0) (n a b : ℕ) (E : Type 0) (row : List ℕ) → (E → (a < n) × P a b) → (Contains row b → P n b) → E ⊎ ((a ≡ n) × Contains row b)
     → (a < n + 1) × P a b
@@ -181,7 +181,7 @@ pub graphing_none : (files : List FileDesc) (imports public : List (Vec ℕ Glob
 graphing_none files imports public ei ep = record {
   all_rows = rows_none (Imports files) (graph_of imports) (ap graph_of ei);
   public_rows = rows_none (ImportsPublicly files) (graph_of public) (ap graph_of ep);
-  found = λ t a h. absurd (no_place a h);
+  found = λ t a h. absurd (no_position a h);
   lacking = λ e. absurd (true≢false e);
 }
 

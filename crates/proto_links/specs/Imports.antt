@@ -1,4 +1,4 @@
--- Which file imports which, and what is wrong with an import. A file is named by its place in the list of files.
+-- Which file imports which, and what is wrong with an import. A file is named by its position in the list of files.
 use Rattle.std.specs.Prelude.{◌≡◌, ◌⊎◌, ℕ, ◌+◌, ◌<◌, ◌≤◌, List, [], length, map, slice_index_or, Contains, IsTrue}
 use Rattle.std.specs.Cmp.Lexicographic.{slice_cmp}
 use Rattle.std.specs.Ordering.{nat_cmp}

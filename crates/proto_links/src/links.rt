@@ -6,7 +6,7 @@ ghost use Rattle.proto_links.specs.Linked.{AreReachesWhole, count_of, rank_of, r
 use digraph::{Lists, Ranking};
 use std::marker::Model;
 
-/// A file, by its place in the list of files.
+/// A file, by its position in the list of files.
 pub type FileId = usize;
 
 /// The files that each file reaches and sees, and the order of a set of files. Contracts see it as these things, by the

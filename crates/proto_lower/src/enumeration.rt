@@ -26,7 +26,7 @@ fn lower_value<'s>(alloc: Global, value: &EnumValue<'s>) -> Result<ValueDesc<'s>
 fn values<'s>(alloc: Global, items: &[EnumItem<'s>]) -> Result<Row<ValueDesc<'s>>, AllocError>
     ensures { IfOk result (λ values. values ≡ flat_map value_of_item items.now) }
 {
-    let mut values = Vec::new(alloc);
+    let mut values = Vec::with_capacity(alloc, items.len())?;
     for item in items {
         if let EnumItem::Value(value) = item {
             values.push(lower_value(alloc, value.get())?)?;

@@ -156,7 +156,7 @@ pub(crate) fn fields<'s>(
     requires { real ≤ length items.now }
     ensures { IfOk result (λ fields. fields ≡ fields_from full.now 0 real items.now) }
 {
-    let mut out = Vec::new(alloc);
+    let mut out = Vec::with_capacity(alloc, items.len())?;
     let mut next_real = 0;
     let mut next_made = real;
     for item in items {

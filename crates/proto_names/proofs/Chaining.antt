@@ -6,15 +6,14 @@ use Rattle.std.proofs.lemmas.Bool.{cases_eq, cases_lt}
 use Rattle.std.proofs.lemmas.Grind.{common_steps}
 use Rattle.std.proofs.lemmas.List.{get_or_default, get_or_push}
 use Rattle.std.proofs.lemmas.Nat.{mod_below}
-use Rattle.proto_names.specs.Chains.{BeginsName, IsNowhere, slot_of, IsLast, IsHead, unlinked, link_at, AreChained}
+use Rattle.proto_names.specs.Chains.{BeginsName, IsNowhere, slot_of, IsLast, IsHead, AreChained}
 use Rattle.proto_names.specs.Hashes.{hash_of}
 use Rattle.proto_names.specs.Occurrences.{Occurrence}
 use Rattle.proto_names.specs.Runs.{at}
-use Rattle.proto_names.specs.declared.chains.Link.{Link}
 
 -- ---- making them
 
-pub record Chaining (os : List Occurrence) (count n : ℕ) (slots : List ℕ) (links : List Link) : Type 0 where
+pub record Chaining (os : List Occurrence) (count n : ℕ) (slots links : List ℕ) : Type 0 where
   pub size : length slots ≡ count
   pub room : 0 < count
   pub chained : AreChained os n slots links
@@ -27,7 +26,7 @@ none_last os count slot next e = record {
   last = λ k h g. absurd (omega (arith, g));
 }
 
-pub chaining_none : (os : List Occurrence) (count : ℕ) (slots : List ℕ) (links : List Link) → length slots ≡ count → 0 < count
+pub chaining_none : (os : List Occurrence) (count : ℕ) (slots links : List ℕ) → length slots ≡ count → 0 < count
     → ((s : ℕ) → s < count → get_or slots s 0 ≡ 0) → links ≡ [] → Chaining os count 0 slots links
 chaining_none os count slots links size room zeros e = record {
   size = size;
@@ -35,7 +34,6 @@ chaining_none os count slots links size room zeros e = record {
   chained = record {
     some = omega (arith, size, room);
     size = ap length e;
-    hashes = λ k h. absurd (omega (arith, h));
     heads = λ s h. none_last os (length slots) s (get_or slots s 0) (zeros s (omega (arith, h, size)));
     nexts = λ k h. absurd (omega (arith, h));
   };
@@ -74,64 +72,57 @@ last_head os count n next head (inr (not, is)) old = subst (IsLast os count (n +
   ]);
 })
 
-module _ (os : List Occurrence) (n : ℕ) (slots : List ℕ) (links : List Link) (link : Link) (head : ℕ) (old : AreChained os n slots links)
-    (hash : link.hash ≡ hash_of (at os n).name) (next : link.next ≡ get_or slots (slot_of os (length slots) n) 0) (is : IsHead os n link.next head) where
+module _ (os : List Occurrence) (n : ℕ) (slots links : List ℕ) (next head : ℕ) (old : AreChained os n slots links)
+    (is_next : next ≡ get_or slots (slot_of os (length slots) n) 0) (is : IsHead os n next head) where
   abbrev here : ℕ
   here = slot_of os (length slots) n
 
   below : here < length slots
   below = mod_below (hash_of (at os n).name) (length slots) old.some
 
-  found : IsLast os (length slots) n here link.next
-  found = subst (IsLast os (length slots) n here) (sym next) (old.heads here below)
+  found : IsLast os (length slots) n here next
+  found = subst (IsLast os (length slots) n here) (sym is_next) (old.heads here below)
 
   heads_case : (s : ℕ) → s < length slots → (here ≡ s) ⊎ (here ≢ s) → IsLast os (length slots) (n + 1) s (get_or (set slots here head) s 0)
   heads_case s h (inl same) =
       subst (λ i. IsLast os (length slots) (n + 1) i (get_or (set slots here head) i 0)) same
-      (subst (IsLast os (length slots) (n + 1) here) (sym (get_or-set_same slots here head 0 below)) (last_head os (length slots) n link.next head is found))
+      (subst (IsLast os (length slots) (n + 1) here) (sym (get_or-set_same slots here head 0 below)) (last_head os (length slots) n next head is found))
   heads_case s h (inr other) =
       subst (IsLast os (length slots) (n + 1) s) (sym (get_or-set_other slots here s head 0 (λ e. other (sym e))))
       (last_other os (length slots) n s (get_or slots s 0) other (old.heads s h))
 
-  link_before : (k : ℕ) → k < n → link_at (links ++ link ∷ []) k ≡ link_at links k
-  link_before k h = let size = old.size in get_or-append links (link ∷ []) _ k (omega (arith, h, size))
+  abbrev pushed : List ℕ
+  pushed = links ++ next ∷ []
 
-  link_last : (k : ℕ) → k ≡ n → link_at (links ++ link ∷ []) k ≡ link
-  link_last k e = let size = old.size in get_or_push links link _ k (omega (arith, e, size))
-
-  hashes_case : (k : ℕ) → k < n + 1 → (k < n) ⊎ (n ≤ k) → (link_at (links ++ link ∷ []) k).hash ≡ hash_of (at os k).name
-  hashes_case k h (inl less) = ap (λ (l : Link). l.hash) (link_before k less) ∙ old.hashes k less
-  hashes_case k h (inr over) =
-      let same : k ≡ n = omega (arith, h, over) in
-      ap (λ (l : Link). l.hash) (link_last k same) ∙ hash ∙ ap (λ i. hash_of (at os i).name) (sym same)
-
-  nexts_case : (k : ℕ) → k < n + 1 → (k < n) ⊎ (n ≤ k) → IsLast os (length slots) k (slot_of os (length slots) k) (link_at (links ++ link ∷ []) k).next
+  nexts_case : (k : ℕ) → k < n + 1 → (k < n) ⊎ (n ≤ k) → IsLast os (length slots) k (slot_of os (length slots) k) (get_or pushed k 0)
   nexts_case k h (inl less) =
-      subst (λ (l : Link). IsLast os (length slots) k (slot_of os (length slots) k) l.next) (sym (link_before k less)) (old.nexts k less)
+      let size = old.size in
+      subst (IsLast os (length slots) k (slot_of os (length slots) k)) (sym (get_or-append links (next ∷ []) 0 k (omega (arith, less, size))))
+      (old.nexts k less)
   nexts_case k h (inr over) =
+      let size = old.size in
       let same : n ≡ k = omega (arith, h, over) in
-      subst (λ (l : Link). IsLast os (length slots) k (slot_of os (length slots) k) l.next) (sym (link_last k (sym same)))
-      (subst (λ i. IsLast os (length slots) i (slot_of os (length slots) i) link.next) same found)
+      subst (IsLast os (length slots) k (slot_of os (length slots) k)) (sym (get_or_push links next 0 k (omega (arith, same, size))))
+      (subst (λ i. IsLast os (length slots) i (slot_of os (length slots) i) next) same found)
 
-  more : AreChained os (n + 1) (set slots here head) (links ++ link ∷ [])
+  more : AreChained os (n + 1) (set slots here head) pushed
   more =
       let len : length (set slots here head) ≡ length slots = length-set slots here head in
       record {
         some = (let some = old.some in omega (arith, len, some));
-        size = (let size = old.size in let l : length (links ++ link ∷ []) ≡ length links + 1 = grind (arith, common_steps) in omega (arith, l, size));
-        hashes = λ k h. hashes_case k h (cases_lt k n);
+        size = (let size = old.size in let l : length pushed ≡ length links + 1 = grind (arith, common_steps) in omega (arith, l, size));
         heads = λ s h. subst (λ c. IsLast os c (n + 1) s (get_or (set slots here head) s 0)) (sym len) (heads_case s (omega (arith, h, len)) (cases_eq here s));
-        nexts = λ k h. subst (λ c. IsLast os c k (slot_of os c k) (link_at (links ++ link ∷ []) k).next) (sym len) (nexts_case k h (cases_lt k n));
+        nexts = λ k h. subst (λ c. IsLast os c k (slot_of os c k) (get_or pushed k 0)) (sym len) (nexts_case k h (cases_lt k n));
       }
 
-pub chaining_more : (os : List Occurrence) (count n slot head : ℕ) (slots new : List ℕ) (links all : List Link) (link : Link)
-    → link.hash ≡ hash_of (at os n).name → slot ≡ link.hash % count → link.next ≡ get_or slots slot 0 → IsHead os n link.next head
-    → new ≡ set slots slot head → all ≡ links ++ link ∷ [] → Chaining os count n slots links → Chaining os count (n + 1) new all
-chaining_more os count n slot head slots new links all link hash place next is set_to pushed old =
+pub chaining_more : (os : List Occurrence) (count n hash slot next head : ℕ) (slots new links all : List ℕ) → hash ≡ hash_of (at os n).name
+    → slot ≡ hash % count → next ≡ get_or slots slot 0 → IsHead os n next head → new ≡ set slots slot head → all ≡ links ++ next ∷ []
+    → Chaining os count n slots links → Chaining os count (n + 1) new all
+chaining_more os count n hash slot next head slots new links all is_hash place is_next is set_to is_all old =
     let size = old.size in
-    let where_ : slot ≡ slot_of os (length slots) n = place ∙ ap (λ h. h % count) hash ∙ ap (λ c. slot_of os c n) (sym size) in
-    let m = more os n slots links link head old.chained hash (next ∙ ap (λ s. get_or slots s 0) where_) is in
-    rw (set_to, pushed, where_) (record {
+    let where_ : slot ≡ slot_of os (length slots) n = place ∙ ap (λ h. h % count) is_hash ∙ ap (λ c. slot_of os c n) (sym size) in
+    let m = more os n slots links next head old.chained (is_next ∙ ap (λ s. get_or slots s 0) where_) is in
+    rw (set_to, is_all, where_) (record {
       size = length-set slots (slot_of os (length slots) n) head ∙ size;
       room = old.room;
       chained = m;
@@ -186,7 +177,7 @@ nowhere os name none (suc k) h =
     let back : suc k - 1 ≡ k = omega arith in
     λ e. none (suc k) h (λ some same. before (ap (λ i. (at os i).name) (sym back) ∙ same ∙ e)) e
 
-pub left_init : (os : List Occurrence) (n : ℕ) (slots : List ℕ) (links : List Link) (name : List ℕ) (hash count next : ℕ) → AreChained os n slots links
+pub left_init : (os : List Occurrence) (n : ℕ) (slots links : List ℕ) (name : List ℕ) (hash count next : ℕ) → AreChained os n slots links
     → n ≡ length os → hash ≡ hash_of name → count ≡ length slots → next ≡ get_or slots (hash % count) next
     → IsLeft os (length slots) name next
 left_init os n slots links name hash count next chains whole is size at_slot =
@@ -197,16 +188,16 @@ left_init os n slots links name hash count next chains whole is size at_slot =
     let first : IsLast os (length slots) n slot next = subst (IsLast os (length slots) n slot) (sym head) (chains.heads slot below) in
     left_first os (length slots) name next (subst (λ m. IsLast os (length slots) m slot next) whole first)
 
-pub left_step : (os : List Occurrence) (n : ℕ) (slots : List ℕ) (links : List Link) (name : List ℕ) (next : ℕ) (link : Link) → AreChained os n slots links
-    → n ≡ length os → 0 < next → link ≡ get_or links (next - 1) link → (at os (next - 1)).name ≢ name
-    → IsLeft os (length slots) name next → IsLeft os (length slots) name link.next
-left_step os n slots links name next link chains whole some is other old =
+pub left_step : (os : List Occurrence) (n : ℕ) (slots links : List ℕ) (name : List ℕ) (next after : ℕ) → AreChained os n slots links
+    → n ≡ length os → 0 < next → after ≡ get_or links (next - 1) after → (at os (next - 1)).name ≢ name
+    → IsLeft os (length slots) name next → IsLeft os (length slots) name after
+left_step os n slots links name next after chains whole some is other old =
     let k = next - 1 in
     let w = old.within in
     let size = chains.size in
     let below : k < n = omega (arith, some, w, whole) in
-    let same : link ≡ link_at links k = is ∙ get_or_default links k link unlinked (omega (arith, below, size)) in
-    let step : IsLast os (length slots) k (slot_of os (length slots) k) link.next =
-    subst (λ (l : Link). IsLast os (length slots) k (slot_of os (length slots) k) l.next) (sym same) (chains.nexts k below) in
+    let same : after ≡ get_or links k 0 = is ∙ get_or_default links k after 0 (omega (arith, below, size)) in
+    let step : IsLast os (length slots) k (slot_of os (length slots) k) after =
+    subst (IsLast os (length slots) k (slot_of os (length slots) k)) (sym same) (chains.nexts k below) in
     let up : next ≡ k + 1 = omega (arith, some) in
-    left_next os (length slots) name k link.next other step (subst (IsLeft os (length slots) name) up old)
+    left_next os (length slots) name k after other step (subst (IsLeft os (length slots) name) up old)

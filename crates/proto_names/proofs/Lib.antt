@@ -9,6 +9,7 @@ pub mod Looking
 pub mod Meaning
 pub mod Occurring
 pub mod Once
+pub mod NameOrder
 pub mod Ordered
 pub mod Repeating
 pub mod Searching

@@ -6,13 +6,13 @@ use Rattle.proto_desc.specs.declared.name_kind.NameKind.{NameKind}
 use Rattle.proto_names.specs.Entries.{occurrence}
 use Rattle.proto_names.specs.Occurrences.{Occurrence}
 use Rattle.proto_names.specs.Resolution.{Visible}
-use Rattle.proto_names.specs.declared.entries.Entry.{Entry}
+use Rattle.proto_names.specs.declared.entry.Entry.{Entry}
 
--- e is the entry at a place
+-- e is the entry at a position
 abbrev pub IsAt : List Entry → ℕ → Entry → Type 0
 IsAt es i e = (i < length es) × (e ≡ get_or es i e)
 
--- the occurrence of the entry at a place is not of such a kind in a file that is seen
+-- the occurrence of the entry at a position is not of such a kind in a file that is seen
 abbrev pub IsNotAt : (Option NameKind → Bool) → (ℕ → Type 0) → List Entry → ℕ → Type 0
 IsNotAt accepts Seen es k = (o : Occurrence) → get_or (map occurrence es) k o ≡ o → IsTrue (accepts o.kind) → Seen o.file → ⊥
 

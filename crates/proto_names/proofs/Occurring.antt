@@ -1,28 +1,27 @@
 -- Entries and the occurrences that they stand for; services among occurrences.
 use Rattle.std.proofs.Common.{◌≡◌, ◌∙◌, sym, ℕ, ◌+◌, ◌<◌, ◌≤◌, List, [], ◌∷◌, length, get_or, map, ap, refl, subst, arith, false, Ordering, Less, Equal, Greater}
-use Rattle.std.specs.Prelude.{Result, Ok, Err, OnOk, Contains, IsSorted, IsSortedByKey, None, Some, filter, ◌↔◌}
+use Rattle.std.specs.Prelude.{Result, Ok, Err, OnOk, Contains, IsSorted, IsSortedByKey, None, Some, String, string_bytes, ◌↔◌}
 use Rattle.std.specs.Cmp.Lexicographic.{slice_cmp}
 use Rattle.std.specs.Ordering.{nat_cmp, is_lt, ordering_then}
-use Rattle.std.proofs.lemmas.Cmp.{nat_list_cmp_total}
 use Rattle.std.proofs.lemmas.List.{get_or-map, get_or_default, length-map}
-use Rattle.std.proofs.lemmas.List.Kept.{IsSortedBy-filter}
-use Rattle.std.proofs.lemmas.List.MinMax.{ranks_by}
+use Rattle.proto_names.proofs.Comparing.{then_then}
 use Rattle.proto_names.specs.Entries.{entry_name, occurrence}
-use Rattle.proto_names.specs.Index.{AreInNameOrder, name_of, is_service_kind, services_of}
-use Rattle.proto_names.specs.Order.{occurrence_cmp, AreInOrder}
+use Rattle.proto_names.specs.Hashes.{hash_of}
+use Rattle.proto_names.specs.Index.{name_of}
+use Rattle.proto_names.specs.Order.{AreInNameOrder, AreInOrder, name_cmp, occurrence_cmp}
 use Rattle.proto_names.specs.Occurrences.{Occurrence, IsPackage}
 use Rattle.proto_desc.specs.declared.name_kind.NameKind.{NameKind}
 use Rattle.proto_names.specs.declared.index.Defined.{Defined}
-use Rattle.proto_names.specs.declared.entries.Entry.{Entry}
+use Rattle.proto_names.specs.declared.entry.Entry.{Entry}
 
 -- ---- entries
 
 blank : Occurrence
 blank = record { name = []; file = 0; place = record { offset = 0 }; kind = None }
 
-first_of : (es : List Entry) (k : ℕ) → k < length es → Entry
+first_of : {X : Type 0} (xs : List X) (k : ℕ) → k < length xs → X
 first_of [] k h = absurd (omega (arith, h))
-first_of (e ∷ es) k h = e
+first_of (x ∷ xs) k h = x
 
 pub at_entry : (es : List Entry) (k : ℕ) (o : Occurrence) (e : Entry) → k < length es → get_or (map occurrence es) k o ≡ occurrence (get_or es k e)
 at_entry es k o e h = get_or-map occurrence es k e o h
@@ -40,7 +39,7 @@ occurs es e (k, inside, is) =
     let l = length-map es occurrence in
     (k, omega (arith, l, inside), at_entry es k (occurrence e) e inside ∙ ap occurrence is)
 
-pub order_entries : (es : List Entry) → AreInNameOrder (map occurrence es) → IsSortedByKey entry_name (slice_cmp nat_cmp) es
+pub order_entries : (es : List Entry) → AreInNameOrder (map occurrence es) → IsSortedByKey entry_name name_cmp es
 order_entries es up k d low inside =
     let room : k + 1 < length (map occurrence es) = (let l = length-map es occurrence in omega (arith, l, inside)) in
     let first = ap name_of (at_entry es k (occurrence d) d (omega arith)) in
@@ -53,6 +52,15 @@ without_more Equal Less q h = h
 without_more Equal Equal q h = refl
 without_more Equal Greater q h = refl
 without_more Greater p q h = refl
+
+-- the order of entries tells more apart than that of their occurrences
+pub finer : (a b : Entry) (o p : Ordering) → is_lt
+    (ordering_then (nat_cmp a.hash b.hash) (ordering_then (slice_cmp nat_cmp (entry_name a) (entry_name b)) (ordering_then o p))) ≡ false
+    → is_lt (ordering_then (name_cmp (entry_name a) (entry_name b)) o) ≡ false
+finer a b o p h =
+    let h' = rw (a.hashed, b.hashed) at h in
+    without_more (name_cmp (entry_name a) (entry_name b)) o p (rw (then_then (nat_cmp (hash_of (entry_name a)) (hash_of (entry_name b)))
+    (slice_cmp nat_cmp (entry_name a) (entry_name b)) (ordering_then o p)) at h')
 
 -- a sort of entries by name, file, place and more sorts their occurrences
 pub sorted_occurrences : (cmp : Entry → Entry → Ordering) (es : List Entry)
@@ -101,13 +109,11 @@ on_ok_of (Err e) b = tt
 
 -- ---- services
 
-pub services_sorted : (os : List Occurrence) → AreInNameOrder os → IsSorted (slice_cmp nat_cmp) (services_of os)
-services_sorted os up k d low inside =
-    let kept : List Occurrence = filter (λ o. is_service_kind o.kind) os in
-    let sorted : AreInNameOrder kept = IsSortedBy-filter (λ x y. is_lt (slice_cmp nat_cmp (name_of x) (name_of y))) (ranks_by nat_list_cmp_total name_of)
-    (λ o. is_service_kind o.kind) os up in
-    let l = length-map kept name_of in
-    let room : k + 1 < length kept = omega (arith, l, inside) in
-    let first : get_or (map name_of kept) k d ≡ name_of (get_or kept k blank) = get_or-map name_of kept k blank d (omega arith) in
-    let second : get_or (map name_of kept) (k + 1) d ≡ name_of (get_or kept (k + 1) blank) = get_or-map name_of kept (k + 1) blank d room in
-    rw (first, second) (sorted k blank low room)
+-- a sort of texts sorts their bytes
+pub sorted_texts : {A : Type 0} (texts : List (String A)) → IsSorted (λ a b. slice_cmp nat_cmp (string_bytes a) (string_bytes b)) texts
+    → IsSorted (slice_cmp nat_cmp) (map string_bytes texts)
+sorted_texts texts up k d low inside =
+    let l = length-map texts string_bytes in
+    let room : k + 1 < length texts = omega (arith, l, inside) in
+    let t = first_of texts (k + 1) room in
+    rw (get_or-map string_bytes texts k t d (omega arith), get_or-map string_bytes texts (k + 1) t d room) (up k t low room)

@@ -1,22 +1,20 @@
 -- Occurrences in order.
 use Rattle.std.proofs.Common.{◌≡◌, ◌∙◌, sym, ℕ, ◌<◌, ◌≤◌, List, length, ap, refl, arith, inl, inr, ◌⊎◌, cond, Ordering, Less, Equal, Greater, Bool, true, false}
 use Rattle.std.specs.Prelude.{nat_lt, ◌==◌}
-use Rattle.std.specs.Cmp.Lexicographic.{slice_cmp}
 use Rattle.std.specs.Cmp.{IsTotalOrder}
 use Rattle.std.specs.Ordering.{nat_cmp, is_lt, ordering_then, ordering_reverse}
 use Rattle.std.proofs.lemmas.Bool.{true≢false, ltb-false, eqb-true, eqb-false}
-use Rattle.std.proofs.lemmas.Cmp.{nat_cmp_total, nat_list_cmp_total, then_total, on_total, tied_itself}
+use Rattle.std.proofs.lemmas.Cmp.{nat_cmp_total, then_total, on_total, tied_itself}
 use Rattle.std.proofs.lemmas.List.MinMax.{ranks_by}
 use Rattle.std.proofs.lemmas.List.Sorted.{sorted_far}
-use Rattle.std.proofs.lemmas.Map.Lookups.{exact_bytes}
-use Rattle.proto_names.specs.Index.{AreInNameOrder}
+use Rattle.proto_names.proofs.NameOrder.{name_total, same_name}
 use Rattle.proto_names.specs.Occurrences.{Occurrence, IsEarlier}
-use Rattle.proto_names.specs.Order.{occurrence_cmp, AreInOrder}
+use Rattle.proto_names.specs.Order.{AreInNameOrder, AreInOrder, name_cmp, occurrence_cmp}
 use Rattle.proto_names.specs.Runs.{at, blank}
 
 occurrence_total : IsTotalOrder occurrence_cmp
 occurrence_total =
-    then_total (on_total (λ o. o.name) nat_list_cmp_total) (then_total (on_total (λ o. o.file) nat_cmp_total) (on_total (λ o. o.place.offset) nat_cmp_total))
+    then_total (on_total (λ o. o.name) name_total) (then_total (on_total (λ o. o.file) nat_cmp_total) (on_total (λ o. o.place.offset) nat_cmp_total))
 
 in_order : (os : List Occurrence) → AreInOrder os → (i j : ℕ) → i ≤ j → j < length os → is_lt (occurrence_cmp (at os j) (at os i)) ≡ false
 in_order os up i j h below = sorted_far (λ x y. is_lt (occurrence_cmp x y)) (ranks_by occurrence_total (λ o. o)) os up i j blank h below
@@ -51,7 +49,7 @@ Leads a b = (a.file < b.file) ⊎ ((a.file ≡ b.file) × (a.place.offset ≤ b.
 
 pair_order : (a b : Occurrence) → is_lt (occurrence_cmp b a) ≡ false → a.name ≡ b.name → Leads a b
 pair_order a b h e =
-    let equal : slice_cmp nat_cmp b.name a.name ≡ Equal = rw e (tied_itself nat_list_cmp_total b.name) in
+    let equal : name_cmp b.name a.name ≡ Equal = rw e (tied_itself name_total b.name) in
     let h' = rw equal at h in
     elim (nat_not_less b.file a.file (nat_cmp b.place.offset a.place.offset) h') [
       | inl less ↦ inl less
@@ -72,9 +70,9 @@ not_less o h e = true≢false (ap is_lt (sym e) ∙ h)
 -- what stands between two occurrences of one name has that name
 name_between : (a b c : Occurrence) → is_lt (occurrence_cmp b a) ≡ false → is_lt (occurrence_cmp c b) ≡ false → a.name ≡ c.name → a.name ≡ b.name
 name_between a b c h k e =
-    let h' = not_less _ (first_not (slice_cmp nat_cmp b.name a.name) _ h) in
-    let k' : slice_cmp nat_cmp a.name b.name ≡ Less → ⊥ = λ w. not_less _ (first_not (slice_cmp nat_cmp c.name b.name) _ k) (rw (← e) w) in
-    exact_bytes a.name b.name (equal_case (slice_cmp nat_cmp a.name b.name) (slice_cmp nat_cmp b.name a.name) (nat_list_cmp_total.antisymm b.name a.name) k' h')
+    let h' = not_less _ (first_not (name_cmp b.name a.name) _ h) in
+    let k' : name_cmp a.name b.name ≡ Less → ⊥ = λ w. not_less _ (first_not (name_cmp c.name b.name) _ k) (rw (← e) w) in
+    same_name a.name b.name (equal_case (name_cmp a.name b.name) (name_cmp b.name a.name) (name_total.antisymm b.name a.name) k' h')
 
 pub names_between : (os : List Occurrence) → AreInOrder os → (i j k : ℕ) → i ≤ j → j ≤ k → k < length os → (at os i).name ≡ (at os k).name
     → (at os i).name ≡ (at os j).name

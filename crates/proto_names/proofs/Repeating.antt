@@ -5,18 +5,18 @@ use Rattle.std.proofs.lemmas.Bool.{cases_lt}
 use Rattle.std.proofs.lemmas.List.{get_or-map}
 use Rattle.std.proofs.lemmas.Option.{none-some, slice_get-get_or, slice_get_within, get_or_from_slice_get}
 use Rattle.proto_names.specs.Entries.{entry_name, occurrence}
-use Rattle.proto_names.specs.declared.entries.Entry.{Entry}
+use Rattle.proto_names.specs.declared.entry.Entry.{Entry}
 use Rattle.proto_desc.specs.declared.name_kind.NameKind.{NameKind}
 use Rattle.proto_names.specs.Occurrences.{Occurrence, IsEarlier, IsPackage, IsTwice, NoneTwice, IsFirstTwice}
 use Rattle.proto_names.specs.Order.{AreInOrder, Bounds, IsLesser, NoLater, spot_of}
 use Rattle.proto_names.specs.Runs.{IsRun, Repeats, at, blank}
-use Rattle.proto_names.specs.declared.entries.Spot.{Spot}
+use Rattle.proto_names.specs.declared.entry.Spot.{Spot}
 use Rattle.proto_names.proofs.Meaning.{not_true}
 use Rattle.proto_names.proofs.Ordered.{places_in_order, names_between, not_both, not_itself}
 
 -- what an entry of the list stands for
-pub at_place : (es : List Entry) (k : ℕ) (e : Entry) → k < length es → e ≡ get_or es k e → at (map occurrence es) k ≡ occurrence e
-at_place es k e h is = get_or-map occurrence es k e blank h ∙ ap occurrence (sym is)
+pub at_position : (es : List Entry) (k : ℕ) (e : Entry) → k < length es → e ≡ get_or es k e → at (map occurrence es) k ≡ occurrence e
+at_position es k e h is = get_or-map occurrence es k e blank h ∙ ap occurrence (sym is)
 
 pub at_get : (es : List Entry) (k : ℕ) (d : Entry) → k < length es → at (map occurrence es) k ≡ occurrence (get_or es k d)
 at_get es k d h = get_or-map occurrence es k d blank h
@@ -24,12 +24,12 @@ at_get es k d h = get_or-map occurrence es k d blank h
 pub names_same : (es : List Entry) (j k : ℕ) (d e : Entry) → j < length es → k < length es → d ≡ get_or es j d → e ≡ get_or es k e → entry_name d ≡ entry_name e
     → (at (map occurrence es) j).name ≡ (at (map occurrence es) k).name
 names_same es j k d e h g at_d at_e same =
-    ap (λ (o : Occurrence). o.name) (at_place es j d h at_d) ∙ same ∙ ap (λ (o : Occurrence). o.name) (sym (at_place es k e g at_e))
+    ap (λ (o : Occurrence). o.name) (at_position es j d h at_d) ∙ same ∙ ap (λ (o : Occurrence). o.name) (sym (at_position es k e g at_e))
 
 pub names_same_back : (es : List Entry) (j k : ℕ) (d e : Entry) → j < length es → k < length es → d ≡ get_or es j d → e ≡ get_or es k e
     → (at (map occurrence es) j).name ≡ (at (map occurrence es) k).name → entry_name d ≡ entry_name e
 names_same_back es j k d e h g at_d at_e same =
-    ap (λ (o : Occurrence). o.name) (sym (at_place es j d h at_d)) ∙ same ∙ ap (λ (o : Occurrence). o.name) (at_place es k e g at_e)
+    ap (λ (o : Occurrence). o.name) (sym (at_position es j d h at_d)) ∙ same ∙ ap (λ (o : Occurrence). o.name) (at_position es k e g at_e)
 
 -- ---- runs
 

@@ -3,7 +3,6 @@ use Rattle.std.specs.Prelude.{◌≡◌, ◌≢◌, ◌⊎◌, ℕ, ◌+◌, ◌
 use Rattle.proto_names.specs.Hashes.{hash_of}
 use Rattle.proto_names.specs.Occurrences.{Occurrence}
 use Rattle.proto_names.specs.Runs.{at}
-use Rattle.proto_names.specs.declared.chains.Link.{Link}
 
 -- what stands before it has another name
 abbrev pub BeginsName : List Occurrence → ℕ → Type 0
@@ -35,16 +34,9 @@ pub record IsLast (os : List Occurrence) (count n slot next : ℕ) : Type 0 wher
 abbrev pub IsHead : List Occurrence → ℕ → ℕ → ℕ → Type 0
 IsHead os k next head = (BeginsName os k × (head ≡ k + 1)) ⊎ ((BeginsName os k → ⊥) × (head ≡ next))
 
-abbrev pub unlinked : Link
-unlinked = record { hash = 0; next = 0 }
-
-abbrev pub link_at : List Link → ℕ → Link
-link_at links k = slice_index_or links k unlinked
-
--- the chains of the first n
-pub record AreChained (os : List Occurrence) (n : ℕ) (slots : List ℕ) (links : List Link) : Type 0 where
+-- the chains of the first n: the head of each slot's, and what stands behind each in its chain
+pub record AreChained (os : List Occurrence) (n : ℕ) (slots links : List ℕ) : Type 0 where
   pub some : 0 < length slots
   pub size : length links ≡ n
-  pub hashes : (k : ℕ) → k < n → (link_at links k).hash ≡ hash_of (at os k).name
   pub heads : (s : ℕ) → s < length slots → IsLast os (length slots) n s (slice_index_or slots s 0)
-  pub nexts : (k : ℕ) → k < n → IsLast os (length slots) k (slot_of os (length slots) k) (link_at links k).next
+  pub nexts : (k : ℕ) → k < n → IsLast os (length slots) k (slot_of os (length slots) k) (slice_index_or links k 0)

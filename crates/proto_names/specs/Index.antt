@@ -1,5 +1,5 @@
 -- The index of the names of files.
-use Rattle.std.specs.Prelude.{◌≡◌, ℕ, ◌<◌, ◌≤◌, List, length, map, filter, Bool, true, false, Option, None, Some, Contains, IsPermutation, IsSortedByKey, slice_get}
+use Rattle.std.specs.Prelude.{◌≡◌, ℕ, ◌<◌, ◌≤◌, List, length, map, filter, Bool, true, false, Option, None, Some, Contains, IsPermutation, IsSorted, slice_get}
 use Rattle.std.specs.Cmp.Lexicographic.{slice_cmp}
 use Rattle.std.specs.Ordering.{nat_cmp}
 use Rattle.proto_desc.specs.declared.file.FileDesc.{FileDesc}
@@ -33,19 +33,15 @@ is_service_kind (Some kind.Method) = false
 abbrev pub services_of : List Occurrence → List (List ℕ)
 services_of os = map name_of (filter (λ o. is_service_kind o.kind) os)
 
--- in the order of the names, byte by byte
-abbrev pub AreInNameOrder : List Occurrence → Type 0
-AreInNameOrder os = IsSortedByKey name_of (slice_cmp nat_cmp) os
-
--- each occurrence is of one of the files, and they are in the order of the names
+-- each occurrence is of one of the files, and the services are in byte order
 pub record IsSound (index : Index) : Type 0 where
   pub inside : (o : Occurrence) → Contains index.occurrences o → o.file < index.files
-  pub order : AreInNameOrder index.occurrences
-  pub services : index.services ≡ services_of index.occurrences
+  pub services : IsPermutation (services_of index.occurrences) index.services
+  pub order : IsSorted (slice_cmp nat_cmp) index.services
 
 -- ---- what the index of files is
 
--- all that occurs in files, in the order of names, where it is no more than the limit and no name occurs twice
+-- all that occurs in files, where it is no more than the limit and no name occurs twice
 pub record Indexes (descs : List FileDesc) (limits : Limits) (index : Index) : Type 0 where
   pub files : index.files ≡ length descs
   pub within : length (occurrences descs) ≤ limit_of limits limit.Names

@@ -1,4 +1,4 @@
--- The occurrences of full names in files. A file is named by its place in the list of files.
+-- The occurrences of full names in files. A file is named by its position in the list of files.
 use Rattle.std.specs.Prelude.{◌≡◌, ◌≢◌, ◌⊎◌, ℕ, ◌+◌, ◌<◌, List, [], ◌∷◌, ◌++◌, map, Option, None, Some, slice_get}
 use Rattle.proto_desc.specs.DeclaredNames.{Declared, full_name, declared_by}
 use Rattle.proto_desc.specs.declared.file.FileDesc.{FileDesc}
@@ -30,7 +30,7 @@ package_occurrences file (Some p) = map (package_occurrence file p.place) (front
 abbrev pub occurrences_of : ℕ → FileDesc → List Occurrence
 occurrences_of file f = package_occurrences file f.«package» ++ map (declared_occurrence file) (declared_by f)
 
--- those of files of which the first has this place
+-- those of files of which the first has this position
 abbrev pub occurrences_from : ℕ → List FileDesc → List Occurrence
 occurrences_from first [] = []
 occurrences_from first (f ∷ fs) = occurrences_of first f ++ occurrences_from (first + 1) fs

@@ -1,13 +1,22 @@
--- Occurrences in the order of their names, and among one name by file and place.
-use Rattle.std.specs.Prelude.{◌≡◌, ◌⊎◌, ◌<◌, ◌≤◌, List, Option, None, Some, IsSorted}
+-- Occurrences in the order in which an index keeps them: by the hashes of their names, then by name, file and place.
+use Rattle.std.specs.Prelude.{◌≡◌, ◌⊎◌, ℕ, ◌<◌, ◌≤◌, List, Option, None, Some, IsSorted, IsSortedByKey}
 use Rattle.std.specs.declared.cmp.Ordering.{Ordering}
 use Rattle.std.specs.Cmp.Lexicographic.{slice_cmp}
 use Rattle.std.specs.Ordering.{nat_cmp, ordering_then}
+use Rattle.proto_names.specs.Hashes.{hash_of}
+use Rattle.proto_names.specs.Index.{name_of}
 use Rattle.proto_names.specs.Occurrences.{Occurrence}
-use Rattle.proto_names.specs.declared.entries.Spot.{Spot}
+use Rattle.proto_names.specs.declared.entry.Spot.{Spot}
+
+-- most names differ in their hashes, so that few are compared byte by byte
+abbrev pub name_cmp : List ℕ → List ℕ → Ordering
+name_cmp a b = ordering_then (nat_cmp (hash_of a) (hash_of b)) (slice_cmp nat_cmp a b)
+
+abbrev pub AreInNameOrder : List Occurrence → Type 0
+AreInNameOrder os = IsSortedByKey name_of name_cmp os
 
 abbrev pub occurrence_cmp : Occurrence → Occurrence → Ordering
-occurrence_cmp a b = ordering_then (slice_cmp nat_cmp a.name b.name)
+occurrence_cmp a b = ordering_then (name_cmp a.name b.name)
     (ordering_then (nat_cmp a.file b.file) (nat_cmp a.place.offset b.place.offset))
 
 abbrev pub AreInOrder : List Occurrence → Type 0

@@ -2,7 +2,7 @@
 use Rattle.std.specs.Prelude.{◌≡◌, ℕ, ◌<◌, ◌≤◌, List, [], None, Bool, MatchBool, slice_index_or}
 use Rattle.proto_names.specs.Occurrences.{Occurrence, IsPackage}
 
--- what stands at a place where there is something
+-- what stands at a position where there is something
 abbrev pub blank : Occurrence
 blank = record { name = []; file = 0; place = record { offset = 0 }; kind = None }
 

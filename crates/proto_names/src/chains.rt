@@ -2,32 +2,25 @@
 //! the slots of their names' hashes.
 
 ghost use Rattle.std.specs.Prelude.{◌≡◌, ◌↔◌, ◌<◌, ◌≤◌, map, length, IfOk, IsTrue, IsSortedByKey, MatchOption};
-ghost use Rattle.std.specs.Cmp.Lexicographic.{slice_cmp};
-ghost use Rattle.std.specs.Ordering.{nat_cmp};
 ghost use Rattle.proto_desc.specs.DeclaredNames.{scoped};
 ghost use Rattle.proto_names.specs.Chains.{AreChained, IsHead, IsNowhere, IsStart};
 ghost use Rattle.proto_names.specs.Entries.{entry_name, occurrence};
 ghost use Rattle.proto_names.specs.Hashes.{hash_of};
+ghost use Rattle.proto_names.specs.Order.{name_cmp};
 
-use crate::entries::{Entry, has_name};
+use crate::entries::has_name;
+use crate::entry::Entry;
 use crate::halving::start_by_halving;
-use crate::hashing::with_text;
 use crate::scope::Scope;
 use crate::twice::continues;
 use std::alloc::{AllocError, Global};
 
-/// The hash of an entry's name, and what stands behind it in its chain: one more than a position, or 0 at the end.
-#[derive(Clone, Copy)]
-pub(crate) struct Link {
-    hash: u32,
-    next: u32,
-}
-
-/// The first of each slot's chain, as one more than its position or 0 for none, and a link for each entry.
+/// The first of each slot's chain, and for each entry what stands behind it in its chain; each as one more than its
+/// position, or 0 for none.
 #[derive(Drop)]
 pub(crate) struct Chains {
     slots: Vec<u32>,
-    links: Vec<Link>,
+    links: Vec<u32>,
 }
 
 /// The first of a chain, once the entry at a position is put there. Only an entry that begins a name is, so that a
@@ -54,22 +47,20 @@ pub(crate) fn chain_entries(alloc: Global, entries: &[Entry]) -> Result<Chains, 
     let mut slots = vec![in alloc; 0; count]?;
     let mut links = Vec::with_capacity(alloc, entries.len())?;
     for (position, entry) in entries.iter().enumerate() {
-        let hash = with_text(0, entry.name.as_str());
-        let slot = hash as usize % count;
+        let slot = entry.hash as usize % count;
         let next = slots[slot];
-        links.push(Link { hash, next })?;
+        links.push(next)?;
         slots[slot] = head(entries, position, next);
     }
     Ok(Chains { slots, links })
 }
 
 /// Whether an entry has the name in a scope, by their hashes first.
-fn is_match(entry: &Entry, link: Link, hash: u32, scope: &str, name: &str) -> bool
-    requires link { link.hash ≡ hash_of (entry_name entry.now) }
-    requires hash { hash ≡ hash_of (scoped scope.now name.now) }
+fn is_match(entry: &Entry, hash: u32, scope: &str, name: &str) -> bool
+    requires { hash ≡ hash_of (scoped scope.now name.now) }
     ensures { IsTrue result ↔ (entry_name entry.now ≡ scoped scope.now name.now) }
 {
-    link.hash == hash && has_name(entry, scope, name)
+    entry.hash == hash && has_name(entry, scope, name)
 }
 
 /// How many links of a chain are followed, so that no choice of names makes finding one slow.
@@ -78,7 +69,7 @@ const MOST_LINKS: u32 = 16;
 impl Chains {
     /// Where the entries of the name in a scope begin.
     pub(crate) fn start_of(&self, entries: &[Entry], scope: Scope, name: &str) -> Option<usize>
-        requires order { IsSortedByKey entry_name (slice_cmp nat_cmp) entries.now }
+        requires order { IsSortedByKey entry_name name_cmp entries.now }
         requires chains { AreChained (map occurrence entries.now) (length entries.now)
             self.now.slots.items self.now.links.items }
         ensures { MatchOption result (IsNowhere (map occurrence entries.now)
@@ -92,12 +83,11 @@ impl Chains {
                 return None;
             }
             let position = next as usize - 1;
-            let link = self.links[position];
-            if is_match(&entries[position], link, hash, scope.text, name) {
+            if is_match(&entries[position], hash, scope.text, name) {
                 return Some(position);
             }
-            next = link.next;
+            next = self.links[position];
         }
-        start_by_halving(entries, scope.text, name)
+        start_by_halving(entries, scope, name)
     }
 }

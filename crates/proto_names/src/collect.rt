@@ -6,7 +6,8 @@ ghost use Rattle.proto_names.specs.Entries.{occurrence};
 ghost use Rattle.proto_names.specs.Occurrences.{declared_occurrence, package_occurrence, package_occurrences, occurrences_of, occurrences};
 ghost use Rattle.proto_names.specs.Scopes.{fronts};
 
-use crate::entries::{Entries, Entry, Spot, name_in};
+use crate::entries::{Entries, name_in};
+use crate::entry::{Entry, Spot};
 use crate::scope::shorter_front;
 use proto_base::Place;
 use proto_desc::enumeration::EnumDesc;
@@ -35,11 +36,8 @@ fn declared_entry(
           place = place;
         })) }
 {
-    Ok(Entry {
-        name: name_in(alloc, scope, name)?,
-        spot: Spot { file, place },
-        kind: Some(kind),
-    })
+    let full = name_in(alloc, scope, name)?;
+    Ok(Entry::new(full, Spot { file, place }, Some(kind)))
 }
 
 /// Puts elements that declare their own names alone.
@@ -188,11 +186,8 @@ fn put_fronts(
 {
     let mut front = name;
     loop {
-        entries.push(Entry {
-            name: String::from_str(alloc, front)?,
-            spot: Spot { file, place },
-            kind: None,
-        })?;
+        let entry = Entry::new(String::from_str(alloc, front)?, Spot { file, place }, None);
+        entries.push(entry)?;
         match shorter_front(front) {
             Some(shorter) => front = shorter,
             None => return Ok(()),

@@ -7,29 +7,31 @@ ghost use Rattle.proto_desc.specs.DeclaredNames.{scoped};
 ghost use Rattle.proto_names.specs.Entries.{entry_name, occurrence};
 ghost use Rattle.proto_names.specs.Order.{AreInOrder};
 
-use proto_base::Place;
+use crate::entry::{Entry, Spot};
+use crate::hashing::with_text;
 use proto_desc::name_kind::NameKind;
-use proto_links::FileId;
 use rayon::prelude::*;
 use std::alloc::{AllocError, Global};
 use std::cmp::Ordering;
 use std::marker::Model;
 use std::thread::Threads;
 
-/// A place in one of the files. The order is that of the fields.
-#[derive(Clone, Copy, PartialEq, Eq, PartialOrd, Ord)]
-pub(crate) struct Spot {
-    pub(crate) file: FileId,
-    pub(crate) place: Place,
-}
-
-/// A full name in a file. The order is that of the fields.
-#[derive(Drop, PartialEq, Eq, PartialOrd, Ord)]
-pub(crate) struct Entry {
-    pub(crate) name: String,
-    pub(crate) spot: Spot,
-    /// What the name is declared for; none where it is a package.
-    pub(crate) kind: Option<NameKind>,
+impl Entry {
+    pub(crate) fn new(name: String, spot: Spot, kind: Option<NameKind>) -> Entry
+        ensures { occurrence result ≡ record {
+          name = string_bytes name;
+          file = spot.file;
+          place = spot.place;
+          kind = kind;
+        } }
+    {
+        Entry {
+            hash: with_text(0, name.as_str()),
+            name,
+            spot,
+            kind,
+        }
+    }
 }
 
 /// Entries. Contracts see them as the occurrences that they stand for.
@@ -43,7 +45,7 @@ impl Model for Entries {
     ghost use Rattle.proto_names.specs.Entries.{occurrence};
     ghost use Rattle.proto_names.specs.Order.{AreInOrder};
     ghost use Rattle.proto_names.specs.Occurrences.{Occurrence};
-    ghost use Rattle.proto_names.specs.declared.entries.Entry.{Entry};
+    ghost use Rattle.proto_names.specs.declared.entry.Entry.{Entry};
 
     ghost Value = { List Occurrence };
 
@@ -81,7 +83,7 @@ impl Entries {
         self.entries.as_slice()
     }
 
-    /// Sorts the entries by name, and those of one name by file and place.
+    /// Sorts the entries by the hashes of their names, then by name, file and place.
     pub(crate) fn sort<R>(&mut self, rt: &R, alloc: Global) -> Result<(), AllocError>
     where
         R: Threads + Sync,

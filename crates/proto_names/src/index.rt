@@ -1,6 +1,6 @@
 //! The index of the names of files.
 
-ghost use Rattle.std.specs.Prelude.{◌≡◌, ◌≢◌, ◌↔◌, ℕ, ◌<◌, List, map, Err, IfOk, IfSome, MatchOption, None, Some, Contains, string_bytes, length, IsSorted};
+ghost use Rattle.std.specs.Prelude.{◌≡◌, ◌≢◌, ◌↔◌, ℕ, ◌<◌, List, map, Err, IfOk, IfSome, MatchOption, None, Some, Contains, string_bytes, length, IsPermutation, IsSorted};
 ghost use Rattle.std.specs.Cmp.Lexicographic.{slice_cmp};
 ghost use Rattle.std.specs.Ordering.{nat_cmp};
 ghost use Rattle.proto_desc.specs.DeclaredNames.{scoped};
@@ -14,7 +14,7 @@ ghost use Rattle.proto_base.specs.declared.limits.Limit.TheVariants as limit;
 ghost use Rattle.proto_base.specs.declared.place.Place.{Place};
 
 use crate::collect::collect;
-use crate::entries::Entry;
+use crate::entry::Entry;
 use crate::scope::Scope;
 use crate::table::EntryTable;
 use crate::twice::first_twice;
@@ -22,6 +22,7 @@ use proto_base::{Limit, Limits, Place};
 use proto_desc::file::FileDesc;
 use proto_desc::name_kind::NameKind;
 use proto_links::FileId;
+use rayon::prelude::*;
 use std::alloc::{AllocError, AllocGlobal, Global};
 use std::marker::Model;
 use std::thread::Threads;
@@ -55,8 +56,8 @@ fn is_service(entry: &Entry) -> bool
     matches!(entry.kind, Some(NameKind::Service))
 }
 
-/// The names of the services among entries, in their order.
-fn service_names(alloc: Global, entries: &[Entry]) -> Result<Vec<String>, AllocError>
+/// The names of the services among entries, in the order of these.
+fn listed_services(alloc: Global, entries: &[Entry]) -> Result<Vec<String>, AllocError>
     ensures { IfOk result (λ names. map string_bytes names.items
         ≡ services_of (map occurrence entries.now)) }
 {
@@ -69,6 +70,20 @@ fn service_names(alloc: Global, entries: &[Entry]) -> Result<Vec<String>, AllocE
     Ok(names)
 }
 
+/// The names of the services among entries, in byte order.
+fn service_names<R>(rt: &R, alloc: Global, entries: &[Entry]) -> Result<Vec<String>, AllocError>
+where
+    R: Threads + Sync,
+    ensures all { IfOk result (λ names. IsPermutation (services_of (map occurrence entries.now))
+        (map string_bytes names.items)) }
+    ensures order { IfOk result (λ names. IsSorted (slice_cmp nat_cmp)
+        (map string_bytes names.items)) }
+{
+    let mut names = listed_services(alloc, entries)?;
+    par_sort(rt, alloc, &mut names)?;
+    Ok(names)
+}
+
 /// What a full name is declared for, and the file that declares it.
 #[derive(Clone, Copy, PartialEq, Eq)]
 pub struct Defined {
@@ -76,7 +91,7 @@ pub struct Defined {
     pub file: FileId,
 }
 
-/// The occurrences of names in files. Contracts see it as these, in the order of the names.
+/// The occurrences of names in files. Contracts see it as these, in any order, and the names of the services.
 #[derive(Drop)]
 pub struct NameIndex {
     pub(crate) files: usize,
@@ -125,7 +140,7 @@ impl NameIndex {
         if let Some(spot) = first_twice(entries.as_slice()) {
             return Err(NameError::At(spot.file, spot.place));
         }
-        let services = service_names(alloc, entries.as_slice())?;
+        let services = service_names(rt, alloc, entries.as_slice())?;
         let entries = EntryTable::new(alloc, entries)?;
         let files = files.len();
         Ok(NameIndex {
@@ -163,7 +178,8 @@ impl NameIndex {
     /// The full names of all services, in byte order.
     pub fn services(&self) -> &[String]
         ensures listed { map string_bytes result.now ≡ self.now.services }
-        ensures services { map string_bytes result.now ≡ services_of self.now.occurrences }
+        ensures services { IsPermutation (services_of self.now.occurrences)
+            (map string_bytes result.now) }
         ensures order { IsSorted (slice_cmp nat_cmp) (map string_bytes result.now) }
     {
         self.services.as_slice()

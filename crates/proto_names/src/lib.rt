@@ -6,6 +6,7 @@
 mod chains;
 mod collect;
 mod entries;
+mod entry;
 mod halving;
 mod hashing;
 mod index;

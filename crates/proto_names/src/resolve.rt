@@ -13,7 +13,8 @@ ghost use Rattle.proto_names.specs.Steps.{IsMeant, MeansNothing, fits};
 ghost use Rattle.proto_names.specs.declared.resolve.ResolveError.TheVariants as errors;
 ghost use Rattle.proto_names.specs.declared.resolve.Want.TheVariants as wants;
 
-use crate::entries::{Entry, name_in};
+use crate::entries::name_in;
+use crate::entry::Entry;
 use crate::index::NameIndex;
 use crate::scope::Scope;
 use proto_desc::name_kind::NameKind;

@@ -1,19 +1,18 @@
 //! The entries of an index, in the order of their names, with the chains by which those of one name are found.
 
 ghost use Rattle.std.specs.Prelude.{◌≡◌, ◌≢◌, ◌↔◌, ◌<◌, ◌≤◌, map, length, slice_index_or, All, Contains, IfOk, IsSortedByKey};
-ghost use Rattle.std.specs.Cmp.Lexicographic.{slice_cmp};
 ghost use Rattle.std.specs.List.Sorted.{IsPartitionPoint};
-ghost use Rattle.std.specs.Ordering.{nat_cmp, is_eq};
 ghost use Rattle.std.specs.declared.cmp.Ordering.TheVariants.{Less};
 ghost use Rattle.proto_desc.specs.DeclaredNames.{scoped};
 ghost use Rattle.proto_names.specs.Chains.{AreChained};
 ghost use Rattle.proto_names.specs.Entries.{entry_name, occurrence};
-ghost use Rattle.proto_names.specs.Index.{AreInNameOrder};
+ghost use Rattle.proto_names.specs.Order.{AreInNameOrder, name_cmp};
 ghost use Rattle.proto_names.specs.Occurrences.{Occurrence};
-ghost use Rattle.proto_names.specs.declared.entries.Entry.{Entry};
+ghost use Rattle.proto_names.specs.declared.entry.Entry.{Entry};
 
 use crate::chains::{Chains, chain_entries};
-use crate::entries::{Entries, Entry, has_name};
+use crate::entries::{Entries, has_name};
+use crate::entry::Entry;
 use crate::halving::count_named;
 use crate::scope::Scope;
 use std::alloc::{AllocError, Global};
@@ -30,18 +29,21 @@ impl Model for EntryTable {
     ghost use Rattle.std.specs.Prelude.{List, length};
     ghost use Rattle.proto_names.specs.Chains.{AreChained};
     ghost use Rattle.proto_names.specs.Occurrences.{Occurrence};
+    ghost use Rattle.proto_names.specs.Order.{AreInNameOrder};
 
     ghost Value = { List Occurrence };
 
     ghost view = { λ table. table.entries };
 
-    ghost invariant = { λ table. AreChained table.entries (length table.entries) table.chains.slots.items table.chains.links.items };
+    ghost invariant = { λ table. AreInNameOrder table.entries
+        × AreChained table.entries (length table.entries) table.chains.slots.items table.chains.links.items };
 }
 
 impl EntryTable {
     /// The entries with their chains.
     pub(crate) fn new(alloc: Global, entries: Entries) -> Result<EntryTable, AllocError>
-        requires { length entries ≤ 1_048_576 }
+        requires order { AreInNameOrder entries }
+        requires many { length entries ≤ 1_048_576 }
         ensures { IfOk result (λ table. table ≡ entries) }
     {
         let chains = chain_entries(alloc, entries.as_slice())?;
@@ -50,7 +52,6 @@ impl EntryTable {
 
     /// The entries of the name in a scope.
     pub(crate) fn named(&self, scope: Scope, name: &str) -> &[Entry]
-        requires { AreInNameOrder self.now }
         ensures found { (o : Occurrence) → Contains (map occurrence result.now) o
             → Contains self.now o × (o.name ≡ scoped scope.entry.text.now name.now) }
         ensures all { (o : Occurrence) → Contains self.now o
@@ -63,8 +64,8 @@ impl EntryTable {
 
 /// How many of the entries have the name in a scope, where the first has it. Most names have one entry.
 fn run_length(entries: &[Entry], scope: &str, name: &str) -> usize
-    requires order { IsSortedByKey entry_name (slice_cmp nat_cmp) entries.now }
-    requires behind { All (λ e. slice_cmp nat_cmp (entry_name e) (scoped scope.now name.now) ≢ Less)
+    requires order { IsSortedByKey entry_name name_cmp entries.now }
+    requires behind { All (λ e. name_cmp (entry_name e) (scoped scope.now name.now) ≢ Less)
         entries.now }
     requires some { 0 < length entries.now }
     requires first { (d : Entry) → entry_name (slice_index_or entries.now 0 d)
@@ -82,7 +83,7 @@ fn run_length(entries: &[Entry], scope: &str, name: &str) -> usize
 
 /// The entries of the name in a scope.
 fn entries_named<'e>(entries: &'e [Entry], chains: &Chains, scope: Scope, name: &str) -> &'e [Entry]
-    requires order { IsSortedByKey entry_name (slice_cmp nat_cmp) entries.now }
+    requires order { IsSortedByKey entry_name name_cmp entries.now }
     requires chains { AreChained (map occurrence entries.now) (length entries.now)
         chains.now.slots.items chains.now.links.items }
     ensures { (e : Entry) → Contains result.now e

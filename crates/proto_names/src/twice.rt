@@ -6,75 +6,75 @@ ghost use Rattle.proto_names.specs.Occurrences.{IsFirstTwice, NoneTwice};
 ghost use Rattle.proto_names.specs.Order.{AreInOrder, IsLesser};
 ghost use Rattle.proto_names.specs.Runs.{IsRun, Repeats, at};
 
-use crate::entries::{Entry, Spot};
+use crate::entry::{Entry, Spot};
 
-/// The entries of one name before a place: where they begin, and whether one of them is no package.
+/// The entries of one name before a position: where they begin, and whether one of them is no package.
 #[derive(Clone, Copy)]
 struct Run {
     start: usize,
     has_element: bool,
 }
 
-/// Whether two entries have one name.
+/// Whether two entries have one name, by their hashes first.
 fn have_one_name(first: &Entry, second: &Entry) -> bool
     ensures { IsTrue result ↔ (entry_name first.now ≡ entry_name second.now) }
 {
-    first.name == second.name
+    first.hash == second.hash && first.name == second.name
 }
 
-/// Whether what stands at a place has the name of what stands before it.
-pub(crate) fn continues(entries: &[Entry], place: usize) -> bool
-    requires { place < length entries.now }
-    ensures same { IsTrue result → (0 < place)
-        × ((at (map occurrence entries.now) (place - 1)).name
-        ≡ (at (map occurrence entries.now) place).name) }
-    ensures other { result ≡ false → 0 < place
-        → (at (map occurrence entries.now) (place - 1)).name
-        ≢ (at (map occurrence entries.now) place).name }
+/// Whether what stands at a position has the name of what stands before it.
+pub(crate) fn continues(entries: &[Entry], position: usize) -> bool
+    requires { position < length entries.now }
+    ensures same { IsTrue result → (0 < position)
+        × ((at (map occurrence entries.now) (position - 1)).name
+        ≡ (at (map occurrence entries.now) position).name) }
+    ensures other { result ≡ false → 0 < position
+        → (at (map occurrence entries.now) (position - 1)).name
+        ≢ (at (map occurrence entries.now) position).name }
 {
-    place > 0 && have_one_name(&entries[place - 1], &entries[place])
+    position > 0 && have_one_name(&entries[position - 1], &entries[position])
 }
 
-/// The run of what stands at a place, up to that place.
-fn run_before(entries: &[Entry], last: Run, place: usize) -> Run
+/// The run of what stands at a position, up to that position.
+fn run_before(entries: &[Entry], last: Run, position: usize) -> Run
     requires order { AreInOrder (map occurrence entries.now) }
-    requires place { place < length entries.now }
-    requires last { 0 < place → IsRun (map occurrence entries.now) (place - 1) place last.start
-        last.has_element }
-    ensures { IsRun (map occurrence entries.now) place place result.start result.has_element }
+    requires position { position < length entries.now }
+    requires last { 0 < position → IsRun (map occurrence entries.now) (position - 1) position
+        last.start last.has_element }
+    ensures { IsRun (map occurrence entries.now) position position result.start result.has_element }
 {
-    if continues(entries, place) {
+    if continues(entries, position) {
         last
     } else {
         Run {
-            start: place,
+            start: position,
             has_element: false,
         }
     }
 }
 
-/// Whether what stands at a place repeats a name, by the run before it: a package repeats the name of what is no package,
-/// all else the name of anything.
-fn is_twice(entries: &[Entry], run: Run, place: usize) -> bool
-    requires place { place < length entries.now }
-    requires run { IsRun (map occurrence entries.now) place place run.start run.has_element }
-    ensures { IsTrue result ↔ Repeats (map occurrence entries.now) place }
+/// Whether what stands at a position repeats a name, by the run before it: a package repeats the name of what is no
+/// package, all else the name of anything.
+fn is_twice(entries: &[Entry], run: Run, position: usize) -> bool
+    requires position { position < length entries.now }
+    requires run { IsRun (map occurrence entries.now) position position run.start run.has_element }
+    ensures { IsTrue result ↔ Repeats (map occurrence entries.now) position }
 {
-    match entries[place].kind {
-        Some(_) => run.start < place,
+    match entries[position].kind {
+        Some(_) => run.start < position,
         None => run.has_element,
     }
 }
 
 /// The run with what stands at its end.
-fn run_with(entries: &[Entry], run: Run, place: usize) -> Run
-    requires place { place < length entries.now }
-    requires run { IsRun (map occurrence entries.now) place place run.start run.has_element }
-    ensures { IsRun (map occurrence entries.now) place (place + 1) result.start result.has_element }
+fn run_with(entries: &[Entry], run: Run, position: usize) -> Run
+    requires position { position < length entries.now }
+    requires run { IsRun (map occurrence entries.now) position position run.start run.has_element }
+    ensures { IsRun (map occurrence entries.now) position (position + 1) result.start result.has_element }
 {
     Run {
         start: run.start,
-        has_element: run.has_element || entries[place].kind.is_some(),
+        has_element: run.has_element || entries[position].kind.is_some(),
     }
 }
 
@@ -99,12 +99,12 @@ pub(crate) fn first_twice(entries: &[Entry]) -> Option<Spot>
         start: 0,
         has_element: false,
     };
-    for place in 0..entries.len() {
-        let before = run_before(entries, run, place);
-        if is_twice(entries, before, place) {
-            first = Some(lesser(first, entries[place].spot));
+    for position in 0..entries.len() {
+        let before = run_before(entries, run, position);
+        if is_twice(entries, before, position) {
+            first = Some(lesser(first, entries[position].spot));
         }
-        run = run_with(entries, before, place);
+        run = run_with(entries, before, position);
     }
     first
 }

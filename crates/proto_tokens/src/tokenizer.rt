@@ -25,6 +25,9 @@ fn mark_len(text: &[u8]) -> usize
     }
 }
 
+/// How many bytes of a source there are for each of its tokens, or more: what is made room for at first.
+const BYTES_FOR_A_TOKEN: usize = 4;
+
 /// The tokens of a source from a place on.
 fn tokens_from<'s>(
     alloc: Global,
@@ -36,7 +39,7 @@ fn tokens_from<'s>(
     ensures { MatchResult result (λ tokens. SpellsFrom source.now start (map spelled tokens.items))
         (IsFaultFrom source.now start) }
 {
-    let mut tokens = Vec::new(alloc);
+    let mut tokens = Vec::with_capacity(alloc, source.len() / BYTES_FOR_A_TOKEN)?;
     let mut at = start;
     while at < source.len() {
         let (kind, len) = piece_at(alloc, source, at)?;

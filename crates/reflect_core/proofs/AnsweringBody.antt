@@ -35,7 +35,7 @@ pub roots_within : (count : ℕ) (xs : List rust.Asked) (roots : List (Option �
     → All (λ a. IsRootWithin count (root (asked_of a))) xs → All (IsRootWithin count) roots
 roots_within count xs roots is all = subst (All (IsRootWithin count)) (sym is) (root_at count xs all)
 
--- the request at a place, and what is known of it
+-- the request at a position, and what is known of it
 record IsAskedAt (c : Compilation) (messages : List (List ℕ)) (xs : List rust.Asked) (k : ℕ) (a : rust.Asked) : Type 0 where
   pub message : List ℕ
   pub listed : Contains messages message
@@ -51,7 +51,7 @@ asked_at c (m ∷ ms) (x ∷ xs) (suc k) a all below =
     let rest = asked_at c ms xs k a all.1 (omega arith) in
     record { message = rest.message; listed = (suc rest.listed.0, (let h = rest.listed.1 in omega arith), rest.listed.2); asked = rest.asked }
 
--- what is carried at a place
+-- what is carried at a position
 files_at : (ys : List (Vec ℕ Global)) (k : ℕ) (f : Vec ℕ Global) → k < length ys → slice_get (map files_of ys) k ≡ Some (get_or ys k f).items
 files_at [] k f below = absurd (omega arith)
 files_at (y ∷ ys) zero f below = refl

@@ -58,8 +58,8 @@ fn room_for(material: Material, asked: &[Asked], carried: &[Vec<FileId>]) -> u64
     requires { AreReplyable material.compiled.now material.services.now asked.now carried.now }
 {
     let mut room = TRAILER_MOST;
-    for (place, request) in asked.iter().enumerate() {
-        let len = material.reply_len(request, carried[place].as_slice());
+    for (position, request) in asked.iter().enumerate() {
+        let len = material.reply_len(request, carried[position].as_slice());
         room = room.saturating_add(FRAME_HEAD + len);
     }
     room
@@ -99,8 +99,8 @@ pub(crate) fn response_to(
 {
     let room = room_for(material, asked, carried);
     let mut out = Vec::with_capacity(alloc, usize::try_from(room).unwrap_or(usize::MAX))?;
-    for (place, request) in asked.iter().enumerate() {
-        material.put_frame(&mut out, request, carried[place].as_slice())?;
+    for (position, request) in asked.iter().enumerate() {
+        material.put_frame(&mut out, request, carried[position].as_slice())?;
     }
     put_trailer(alloc, &mut out, status)?;
     Ok(out)

@@ -14,7 +14,7 @@ pub record IsPaying (v u : MarkView) (root n k : ℕ) (files : List ℕ) : Type 
   pub later : List Call
   pub posted : posts_of later ≡ at_each n (take k files)
   pub view : u ≡ with_calls v later (debt_at root n k files)
-  pub place : k ≤ length files
+  pub position : k ≤ length files
 
 pub get_some : (files : List ℕ) (k g : ℕ) → slice_get files k ≡ Some g
     → (k < length files) × (take (suc k) files ≡ take k files ++ g ∷ []) × (drop k files ≡ g ∷ drop (suc k) files) × rule.SomePass (λ h. h == g) files
@@ -59,7 +59,7 @@ paying_none v root n files some_file e = record {
   view = (λ i. mark_view (make_view v.least.parts (sym (append-nil v.least.calls) i) v.least.told) v.marks (e i))
       ∙ ap (λ (b : Bool). with_calls v [] (cond b None (Some (make_debt root n 0))))
       (sym (ne_eqb 0 (length files) (λ (z : 0 ≡ length files). absurd (omega arith))));
-  place = omega arith;
+  position = omega arith;
 }
 
 -- the debt while a file is left
@@ -78,10 +78,10 @@ paying_more v u w root n k files g found p e is =
       view = is
           ∙ ap (λ (y : MarkView). with_calls y (c ∷ []) (debt_at root n (k + 1) files)) p.view
           ∙ (λ i. mark_view (make_view v.least.parts (append_assoc v.least.calls p.later (c ∷ []) i) v.least.told) v.marks (debt_at root n (k + 1) files));
-      place = omega (arith, s.0);
+      position = omega (arith, s.0);
     }
 
--- what the debt owes at a place, and after it
+-- what the debt owes at a position, and after it
 pub owed_here : (list : ℕ → List ℕ) (v : MarkView) (root n k g : ℕ) → v.debt ≡ Some (make_debt root n k) → slice_get (list root) k ≡ Some g
     → owed_of list v ≡ (g, n) ∷ at_each n (drop (suc k) (list root))
 owed_here list v root n k g d e = ap (λ (y : Option Debt). owed_by list y) d ∙ ap (λ (l : List ℕ). at_each n l) (get_some (list root) k g e).2
@@ -114,7 +114,7 @@ paid_is root n k g found files v w last d is e = let back : g + 1 - 1 ≡ g = om
 pub paying_all : (v u : MarkView) (root n k : ℕ) (files : List ℕ) → IsPaying v u root n k files → slice_get files k ≡ None
     → (later : List Call) × (posts_of later ≡ at_each n files) × (u ≡ with_calls v later None)
 paying_all v u root n k files p e = let r = get_none files k e in
-    let end : k ≡ length files = omega (arith, none_past files k e, p.place) in (
+    let end : k ≡ length files = omega (arith, none_past files k e, p.position) in (
       p.later,
       p.posted ∙ ap (λ (l : List ℕ). at_each n l) r.0,
       p.view ∙ ap (λ (b : Bool). with_calls v p.later (cond b None (Some (make_debt root n k)))) (eq-eqb k (length files) end),

@@ -112,7 +112,7 @@ module _ {T O : Type 0} (gives : ℕ → T → O → Type 0) where
               | inl none ↦ let Q : List T → Type 0 = λ l. slice_get l right.0 ≡ Some t in
                   let bad : None ≡ Some t = subst Q none right.2 in absurd (search rules)
               | inr is ↦ let G : ℕ → Type 0 = λ n. gives n t o in
-                  let place : first + right.0 ≡ 0 + i = omega arith in subst G place got
+                  let position : first + right.0 ≡ 0 + i = omega arith in subst G position got
             ]
       ]
     ],
@@ -126,12 +126,12 @@ module _ {T O : Type 0} (gives : ℕ → T → O → Type 0) where
       let more : (p + 1) * cut ≡ p * cut + cut = grind arith in
       let split : take (p * cut) items ++ take cut (drop (p * cut) items) ≡ take ((p + 1) * cut) items =
       sym (ap (λ n. take n items) more ∙ take-add (p * cut) cut items) in
-      let places : (take cut (drop (p * cut) items) ≡ []) ⊎ (p * cut ≡ length (take (p * cut) items)) =
+      let positions : (take cut (drop (p * cut) items) ≡ []) ⊎ (p * cut ≡ length (take (p * cut) items)) =
       elim (cases_lt (p * cut) (length items)) [
         | inl lt ↦ inr (sym (length-take-le (p * cut) items (omega arith)))
         | inr le ↦ inl (ap (λ l. take cut l) (drop_of_length-le items le) ∙ take-nil cut)
       ] in
-      subst P split (items_append (p * cut) (take (p * cut) items) (take cut (drop (p * cut) items)) a b places f h)
+      subst P split (items_append (p * cut) (take (p * cut) items) (take cut (drop (p * cut) items)) a b positions f h)
 
 module _ {T O V R : Type 0} (gives : ℕ → T → O → Type 0) (outs_of : V → List O) (parts_of : R → List V) (workers cut : ℕ) (items : List T) where
   -- the first row is moved to the end, without its first piece
@@ -234,8 +234,8 @@ module _ {S T : Type 0} (holds : S → ℕ → ℕ → Type 0) (adds : ℕ → T
             let same : h.0 ≡ h'.0 = omega arith in
             let P : ℕ → Type 0 = λ k. slice_get high' k ≡ Some s' in
             let Q : ℕ → Type 0 = λ w. SeatGains holds adds workers cut items w s s' in
-            let place : up + h.0 ≡ from + j = omega arith in
-            subst Q place (b.each h.0 s s' h.2 (subst P (sym same) h'.2))
+            let position : up + h.0 ≡ from + j = omega arith in
+            subst Q position (b.each h.0 s s' h.2 (subst P (sym same) h'.2))
       ]
     ];
   }
@@ -249,7 +249,7 @@ module _ {S T : Type 0} (holds : S → ℕ → ℕ → Type 0) (adds : ℕ → T
       | inr h ↦
           let y = h.1 in
           let Q : ℕ → Type 0 = λ w. SeatHas holds adds workers cut items w s in
-          let place : up + h.0 ≡ from + j = omega arith in subst Q place (b.each h.0 s h.2)
+          let position : up + h.0 ≡ from + j = omega arith in subst Q position (b.each h.0 s h.2)
     ];
   }
 

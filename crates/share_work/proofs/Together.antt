@@ -47,8 +47,8 @@ module _ {S T : Type 0} (holds : S → ℕ → ℕ → Type 0) (adds : ℕ → T
       let P : ℕ → Type 0 = λ q. slice_get items q ≡ Some a.1 in
       let got : slice_get (take cut (drop p items)) o ≡ Some a.1 = get_take cut (drop p items) o inside ∙ get_drop p items o ∙ subst P (sym at) a.2 in
       let Q : ℕ → Type 0 = λ q. adds q a.1 x n in
-      let place : 0 + i ≡ p + o = omega arith in
-      (w, seat.0, seat.1, (have.each w seat.0 seat.1).gained x n (k, (o, a.1, got, subst Q place a.3)))
+      let position : 0 + i ≡ p + o = omega arith in
+      (w, seat.0, seat.1, (have.each w seat.0 seat.1).gained x n (k, (o, a.1, got, subst Q position a.3)))
 
   -- what a seat held it still holds
   held_kept : SeatsGain holds adds workers cut items 0 old new → (x n : ℕ) → SomeHolds holds old x n → SomeHolds holds new x n

@@ -21,16 +21,16 @@ abbrev pub mark_view : View → List (ℕ × ℕ) → Option Debt → MarkView
 mark_view v marks debt = record { least = v; marks = marks; debt = debt }
 
 abbrev pub make_debt : ℕ → ℕ → ℕ → Debt
-make_debt root number place = record { root = root; number = number; place = place }
+make_debt root number position = record { root = root; number = number; position = position }
 
--- the debt at a place of the list, and none at its end
+-- the debt at a position of the list, and none at its end
 abbrev pub debt_at : ℕ → ℕ → ℕ → List ℕ → Option Debt
-debt_at root number place files = if place == length files then None else Some (make_debt root number place)
+debt_at root number position files = if position == length files then None else Some (make_debt root number position)
 
--- a debt owes its number at each file from its place of the root's list on
+-- a debt owes its number at each file from its position of the root's list on
 abbrev pub owed_by : (ℕ → List ℕ) → Option Debt → List (ℕ × ℕ)
 owed_by list None = []
-owed_by list (Some d) = at_each d.number (drop d.place (list d.root))
+owed_by list (Some d) = at_each d.number (drop d.position (list d.root))
 
 abbrev pub owed_of : (ℕ → List ℕ) → MarkView → List (ℕ × ℕ)
 owed_of list v = owed_by list v.debt
@@ -40,12 +40,12 @@ abbrev pub with_root : ℕ → ℕ → ℕ → MarkView → MarkView
 with_root r found n v = mark_view (with_call v.least (call r found n)) ((r, n) ∷ v.marks) (if nat_lt n found then
     Some (make_debt r n 0) else None)
 
--- the next place of the debt, which ends at the last one
+-- the next position of the debt, which ends at the last one
 abbrev pub next_debt : Bool → Option Debt → Option Debt
 next_debt last None = None
-next_debt last (Some d) = if last then None else Some (make_debt d.root d.number (d.place + 1))
+next_debt last (Some d) = if last then None else Some (make_debt d.root d.number (d.position + 1))
 
--- a post at the debt's place
+-- a post at the debt's position
 abbrev pub with_paid : Bool → ℕ → ℕ → ℕ → MarkView → MarkView
 with_paid last g found n v = mark_view (with_call v.least (call g found n)) v.marks (next_debt last v.debt)
 

@@ -1,14 +1,14 @@
 -- What workers take, give and add for the items of a list.
 use Rattle.std.specs.Prelude.{map, ◌↔◌, ◌⊎◌, ◌≡◌, ℕ, ◌+◌, ◌*◌, List, length, take, drop, slice_get, Some}
 
--- outs has one member for each item, each as `gives` says of the item's place and the item; first is the place of the
+-- outs has one member for each item, each as `gives` says of the item's position and the item; first is the position of the
 -- first item
 abbrev pub GivesItems : {T O : Type 0} → (ℕ → T → O → Type 0) → ℕ → List T → List O → Type 0
 GivesItems {T} {O} gives first items outs =
     (length outs ≡ length items)
     × ((i : ℕ) (t : T) (o : O) → slice_get items i ≡ Some t → slice_get outs i ≡ Some o → gives (first + i) t o)
 
--- each item is taken at its place, the first one at place first
+-- each item is taken at its position, the first one at position first
 abbrev pub TakesAll : {T : Type 0} → (ℕ → T → Type 0) → ℕ → List T → Type 0
 TakesAll {T} takes first items = (i : ℕ) (t : T) → slice_get items i ≡ Some t → takes (first + i) t
 
@@ -18,7 +18,7 @@ KeepsNumbers number old new = map number new ≡ map number old
 
 -- what items add
 module _ {T : Type 0} (adds : ℕ → T → ℕ → ℕ → Type 0) where
-  -- one of these items, the first of which stands at place first, adds n at x
+  -- one of these items, the first of which stands at position first, adds n at x
   abbrev pub AddsSome : ℕ → List T → ℕ → ℕ → Type 0
   AddsSome first items x n = (i : ℕ) × (t : T) × (slice_get items i ≡ Some t) × adds (first + i) t x n
 

@@ -96,24 +96,24 @@ impl<'r, R: Reach> MarkTable<'r, R> {
             .fetch_min::<RootPosts>(seat, root + 1, number)
     }
 
-    /// Posts the number at the debt's place.
+    /// Posts the number at the debt's position.
     fn pay_one<G: Paid>(
         &self,
         seat: &mut Seat<(), MarkView>,
         root: usize,
         number: u64,
-        place: usize,
+        position: usize,
         file: usize,
     )
         requires seat { (seat.old.table_id ≡ self.now.table) × (0 < seat.old.me.0.least.parts)
             × (root < R.files self.now.reach) }
-        requires debt { (seat.old.me.0.debt ≡ Some (make_debt root number place))
-            × (slice_get (R.list self.now.reach root) place ≡ Some file)
-            × (G.last ≡ (place + 1 == length (R.list self.now.reach root))) }
+        requires debt { (seat.old.me.0.debt ≡ Some (make_debt root number position))
+            × (slice_get (R.list self.now.reach root) position ≡ Some file)
+            × (G.last ≡ (position + 1 == length (R.list self.now.reach root))) }
         ensures { (seat.new.table_id ≡ seat.old.table_id)
             × ((found : ℕ) × (seat.new.me ≡ (
               with_calls seat.old.me.0 (call file found number ∷ [])
-                  (debt_at root number (place + 1) (R.list self.now.reach root)),
+                  (debt_at root number (position + 1) (R.list self.now.reach root)),
               seat.old.me.1,
             ))) }
     {

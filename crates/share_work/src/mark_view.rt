@@ -3,11 +3,11 @@
 use crate::views::View;
 use std::collections::LinkedList;
 
-/// What a seat owes within a mark: the number at each file from a place of the root's list on.
+/// What a seat owes within a mark: the number at each file from a position of the root's list on.
 pub struct Debt {
     pub root: usize,
     pub number: u64,
-    pub place: usize,
+    pub position: usize,
 }
 
 /// What a seat of a table of marks knows.

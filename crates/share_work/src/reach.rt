@@ -15,7 +15,7 @@ pub trait Reach {
     fn count(&self) -> usize
         ensures { result ≡ files self.now };
 
-    /// The file at place `k` of those that `root` reaches, and `None` from the list's end on.
+    /// The file at position `k` of those that `root` reaches, and `None` from the list's end on.
     fn reached(&self, root: usize, k: usize) -> Option<usize>
         requires { root < files self.now }
         ensures { result ≡ slice_get (list self.now root) k };

@@ -16,13 +16,13 @@ pub trait Work<T> {
     /// What a worker keeps from piece to piece.
     type Seat;
 
-    // The items that it takes, each at its place.
+    // The items that it takes, each at its position.
     ghost takes: { Self → ℕ → T → Type 0 };
 
     // The seats that fit.
     ghost fits: { Self → Self.Seat → Type 0 };
 
-    // The out that an item at a place may give.
+    // The out that an item at a position may give.
     ghost gives: { Self → ℕ → T → Self.Out → Type 0 };
 
     // The number that a seat keeps.
@@ -31,10 +31,10 @@ pub trait Work<T> {
     // What a seat's set holds.
     ghost holds: { Self → Self.Seat → ℕ → ℕ → Type 0 };
 
-    // What an item at a place adds.
+    // What an item at a position adds.
     ghost adds: { Self → ℕ → T → ℕ → ℕ → Type 0 };
 
-    /// Works on the items of one piece, the first of which stands at place `first` of all items. Where there is no memory, the
+    /// Works on the items of one piece, the first of which stands at position `first` of all items. Where there is no memory, the
     /// seat fits all the same, and has gained nothing but what these items add.
     fn piece(
         &self,

@@ -150,8 +150,8 @@ impl Walk {
         ensures counted { OnOk result (most_sources self.new ≤ most_sources self.old) }
     {
         let alloc = rt.alloc();
-        let place = join_path(alloc, root, folder.path.as_str())?;
-        for entry in fs::read_dir(&rt, place.as_str()).map_err(FolderFault::listing)? {
+        let whole = join_path(alloc, root, folder.path.as_str())?;
+        for entry in fs::read_dir(&rt, whole.as_str()).map_err(FolderFault::listing)? {
             let entry = entry.map_err(FolderFault::listing)?;
             let path = join_path(alloc, folder.path.as_str(), entry.file_name())?;
             let kind = match fs::metadata(rt, entry.path()) {

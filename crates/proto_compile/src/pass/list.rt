@@ -24,7 +24,7 @@ fn sorted<'s>(alloc: Global, sources: &[Source<'s>]) -> Result<Vec<Source<'s>>, 
     Ok(files)
 }
 
-/// Whether the next source has the name of the one at a place.
+/// Whether the next source has the name of the one at a position.
 fn is_repeated(files: &[Source], at: usize) -> bool
     requires { at + 1 < length files.now }
     ensures { IsTrue result ↔ (name_at files.now at ≡ name_at files.now (at + 1)) }

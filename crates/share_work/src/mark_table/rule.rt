@@ -30,7 +30,7 @@ impl Play<(), MarkView> for RootPosts {
     ghost then = { λ s v found w. (found ≤ known (s.word - 1) v.0.least) × (w ≡ (with_root (s.word - 1) found s.first v.0, v.1)) };
 }
 
-/// Whether a debt is at its last place.
+/// Whether a debt is at its last position.
 pub(super) trait Paid {
     ghost last: { Bool };
 }
@@ -39,7 +39,7 @@ impl Paid for Brand {
     ghost last = { true };
 }
 
-/// The post at a debt's place, which goes on to the next one.
+/// The post at a debt's position, which goes on to the next one.
 pub(super) struct Pays<G>(PhantomData<G>);
 
 impl<G: Paid> Play<(), MarkView> for Pays<G> {

@@ -11,12 +11,12 @@ in_shares-requires-clause-takes g c = λ κs lives i root at.
     let laws = g.met.F.Reach g.world.𝓛 g.world.𝓜 g.world.𝓡 ((λ s x. x), (λ x. x), (λ x. x), λ x. x) in
     let few : length roots ≤ NONE = omega arith in
     let inside = slice_get_within roots i root at in
-    let place : 0 + i ≡ i = omega arith in (
+    let position : 0 + i ≡ i = omega arith in (
       omega arith,
       λ r is.
           let too = root_first_too (g.F.Reach.files reach) (g.F.Reach.list reach) (laws.within reach) (laws.reflexive reach) (laws.transitive reach) roots few
           c.requires c.in_ok-least.least c.in_ok-least.ensures.first i root r at is in
-          (too.0, λ x h e. too.1 x h (e ∙ place) ∙ sym place),
+          (too.0, λ x h e. too.1 x h (e ∙ position) ∙ sym position),
     )
 
 pub returns : goal.returns

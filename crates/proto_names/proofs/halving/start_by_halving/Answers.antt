@@ -11,7 +11,7 @@ pub returns-else-start-entries : goal.returns-else-start-entries
 returns-else-start-entries c =
     let es = c.args.entries.now in
     let start = c.count_before-start.result in
-    nowhere_is es (scoped c.args.scope.now c.args.name.now) start c.requires c.count_before-start.ensures.point
+    nowhere_is es (scoped c.args.scope.text.now c.args.name.now) start c.requires c.count_before-start.ensures.point
     (λ e below is same. elim c.else-start-entries.branch [
       | else-start-entries-via-then-start-entries+else-has_name w ↦
           not_true (sym w.if-has_name.false ∙ w.has_name.ensures.1

@@ -3,7 +3,7 @@ use Rattle.std.proofs.lemmas.Bool.{true≢false}
 use Rattle.std.proofs.lemmas.List.{get_or_default}
 use Rattle.proto_desc.specs.DeclaredNames.{scoped}
 use Rattle.proto_names.specs.Entries.{entry_name}
-use Rattle.proto_names.specs.declared.entries.Entry.{Entry}
+use Rattle.proto_names.specs.declared.entry.Entry.{Entry}
 use Rattle.proto_names.proofs.Searching.{one_point}
 use Rattle.proto_names.proofs.table.run_length.Goals as goal
 use Rattle.proto_names.proofs.table.run_length.Goals.{else-entries-gt1-via-then-entries-gt1+else-has_name, else-entries-gt1-via-else-entries-gt1}

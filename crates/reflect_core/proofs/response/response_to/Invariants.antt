@@ -5,6 +5,6 @@ use Rattle.reflect_core.specs.ResponseSteps.{asked_of, files_of}
 use Rattle.reflect_requests.specs.Frames.{frame}
 use Rattle.reflect_core.proofs.response.response_to.Given as goal
 
-abbrev pub invariant-loop-place : goal.invariant-loop-place
-invariant-loop-place l =
-    l.out.items ≡ flat_map (frame 0) (replies_to l.fn.material.compiled.now (map asked_of (take l.place l.asked)) (map files_of (take l.place l.carried)))
+abbrev pub invariant-loop-position : goal.invariant-loop-position
+invariant-loop-position l =
+    l.out.items ≡ flat_map (frame 0) (replies_to l.fn.material.compiled.now (map asked_of (take l.position l.asked)) (map files_of (take l.position l.carried)))

@@ -25,7 +25,7 @@ invariant_of-self-2 c =
     let items = c.self.inside.items.items in
     let ranges = c.self.inside.ranges.items in
     let range = c.index.result.now in
-    let inside = range_inside items ranges c.args.self.now c.args.place range c.self.view_is c.index.ensures c.requires c.self.invariant in
+    let inside = range_inside items ranges c.args.self.now c.args.position range c.self.view_is c.index.ensures c.requires c.self.invariant in
     let long : range.1 + 1 ≡ length (range_of items range ++ c.args.number ∷ []) = extended_length items range c.args.number inside in
     within_pushed items c.put_extended.new.items.items ranges c.push.new.self.items c.in_ok-start.start (range_of items range ++ c.args.number ∷ [])
     c.put_extended.ensures.kept c.in_ok-start.ensures.holds (c.in_ok-push.ensures.items ∙ ap (λ (n : ℕ). ranges ++ (c.in_ok-start.start, n) ∷ []) long)
@@ -36,9 +36,9 @@ returns-clause-appended c =
     let items = c.self.inside.items.items in
     let ranges = c.self.inside.ranges.items in
     let range = c.index.result.now in
-    let inside = range_inside items ranges c.args.self.now c.args.place range c.self.view_is c.index.ensures c.requires c.self.invariant in
+    let inside = range_inside items ranges c.args.self.now c.args.position range c.self.view_is c.index.ensures c.requires c.self.invariant in
     let long : range.1 + 1 ≡ length (range_of items range ++ c.args.number ∷ []) = extended_length items range c.args.number inside in
-    let list = list_at items ranges c.args.self.now c.args.place range c.self.view_is c.index.ensures c.requires in
+    let list = list_at items ranges c.args.self.now c.args.position range c.self.view_is c.index.ensures c.requires in
     view_pushed items c.put_extended.new.items.items ranges c.push.new.self.items c.in_ok-start.start (range_of items range ++ c.args.number ∷ [])
     c.put_extended.ensures.kept c.in_ok-start.ensures.holds (c.in_ok-push.ensures.items ∙ ap (λ (n : ℕ). ranges ++ (c.in_ok-start.start, n) ∷ []) long)
     c.self.invariant

@@ -5,7 +5,7 @@ use Rattle.first_reach.specs.Reply.{others_at}
 use Rattle.first_reach.proofs.Lists.{none_past, reaches_at}
 use Rattle.first_reach.proofs.Others.{others_put, others_skip}
 use Rattle.first_reach.proofs.replying.Replying.add_others.Goals as goal
-use Rattle.first_reach.proofs.replying.Replying.add_others.Goals.{then-file-root+then-get-place+in_ok-push, else-file-root, else-file-root-via-then-file-root+else-get-place, else-file-root-via-else-file-root}
+use Rattle.first_reach.proofs.replying.Replying.add_others.Goals.{then-file-root+then-get-position+in_ok-push, else-file-root, else-file-root-via-then-file-root+else-get-position, else-file-root-via-else-file-root}
 
 pub get-requires : goal.get-requires
 get-requires g c =
@@ -30,23 +30,23 @@ loop-file-preserved g c =
     let at : slice_get list c.loop-file.k ≡ Some c.in-Some.file = sym c.reached.ensures ∙ c.in-Some.is in
     let inside = slice_get_within list c.loop-file.k c.in-Some.file at in
     elim c.if-file-root.branch [
-      | then-file-root+then-get-place+in_ok-push w ↦ (
+      | then-file-root+then-get-position+in_ok-push w ↦ (
         omega arith,
-        others_put first c.args.place c.args.root c.loop-file.k c.in-Some.file list start was c.if-file-root.files.items at
-            w.if-file-root.true (sym w.get.ensures ∙ w.if-get-place.true) c.loop-file.invariant.1
+        others_put first c.args.position c.args.root c.loop-file.k c.in-Some.file list start was c.if-file-root.files.items at
+            w.if-file-root.true (sym w.get.ensures ∙ w.if-get-position.true) c.loop-file.invariant.1
             (ap (λ (v : Vec ℕ Global). v.items) w.files-is ∙ w.in_ok-push.ensures.items),
       )
       | else-file-root w ↦
           let same = ap (λ (v : Vec ℕ Global). v.items) w.files-is in
           elim w.else-file-root.branch [
-            | else-file-root-via-then-file-root+else-get-place w' ↦ (
+            | else-file-root-via-then-file-root+else-get-position w' ↦ (
               omega arith,
-              others_skip first c.args.place c.args.root c.loop-file.k c.in-Some.file list start was c.if-file-root.files.items at
-                  (inr (λ e. w'.if-get-place.false (w'.get.ensures ∙ e))) c.loop-file.invariant.1 same,
+              others_skip first c.args.position c.args.root c.loop-file.k c.in-Some.file list start was c.if-file-root.files.items at
+                  (inr (λ e. w'.if-get-position.false (w'.get.ensures ∙ e))) c.loop-file.invariant.1 same,
             )
             | else-file-root-via-else-file-root w' ↦ (
               omega arith,
-              others_skip first c.args.place c.args.root c.loop-file.k c.in-Some.file list start was c.if-file-root.files.items at
+              others_skip first c.args.position c.args.root c.loop-file.k c.in-Some.file list start was c.if-file-root.files.items at
                   (inl w'.if-file-root.false) c.loop-file.invariant.1 same,
             )
           ]
@@ -57,4 +57,4 @@ returns g c =
     let list = g.F.Reach.list c.args.self.now.reach.now c.args.root in
     let past : length list ≤ c.loop-file.k = none_past list c.loop-file.k (sym c.reached.ensures ∙ c.in_default.is) in
     let all : take c.loop-file.k list ≡ list = ap (λ k. take k list) (let e : c.loop-file.k ≡ length list = omega arith in e) ∙ take-length list in
-    c.loop-file.invariant.1 ∙ ap (λ l. c.args.files.now.items ++ others_at c.args.self.now.least.now c.args.place c.args.root l) all
+    c.loop-file.invariant.1 ∙ ap (λ l. c.args.files.now.items ++ others_at c.args.self.now.least.now c.args.position c.args.root l) all

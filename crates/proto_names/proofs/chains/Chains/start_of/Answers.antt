@@ -6,7 +6,7 @@ use Rattle.proto_names.specs.Entries.{occurrence}
 use Rattle.proto_names.specs.Occurrences.{Occurrence}
 use Rattle.proto_names.specs.Runs.{at}
 use Rattle.proto_names.proofs.Chaining.{left_init, left_step, nowhere}
-use Rattle.proto_names.proofs.Repeating.{at_place}
+use Rattle.proto_names.proofs.Repeating.{at_position}
 use Rattle.proto_names.proofs.chains.Chains.start_of.Goals as goal
 
 pub loop-link-init : goal.loop-link-init
@@ -23,11 +23,11 @@ loop-link-preserved c =
     let below = c.loop-link.invariant.within in
     let some : 0 < c.loop-link.next = omega arith in
     let here : at (map occurrence es) (c.loop-link.next - 1) ≡ occurrence c.index-entries-position.result =
-    at_place es (c.loop-link.next - 1) c.index-entries-position.result (omega (arith, some, below, whole)) c.index-entries-position.is in
+    at_position es (c.loop-link.next - 1) c.index-entries-position.result (omega (arith, some, below, whole)) c.index-entries-position.is in
     let other : (at (map occurrence es) (c.loop-link.next - 1)).name ≢ target =
     λ e. true≢false (sym (c.is_match.ensures.1 (ap (λ (o : Occurrence). o.name) (sym here) ∙ e)) ∙ c.if-is_match.false) in
-    left_step (map occurrence es) (length es) c.args.self.now.slots.items c.args.self.now.links.items target c.loop-link.next c.index-link.result.now
-    c.requires.chains (sym whole) some c.index-link.ensures other c.loop-link.invariant
+    left_step (map occurrence es) (length es) c.args.self.now.slots.items c.args.self.now.links.items target c.loop-link.next c.index-next-in-loop-link.result.now
+    c.requires.chains (sym whole) some c.index-next-in-loop-link.ensures other c.loop-link.invariant
 
 pub returns-then-next-eq0 : goal.returns-then-next-eq0
 returns-then-next-eq0 c =

@@ -1,8 +1,8 @@
-use Rattle.std.proofs.Common.{◌≡◌, ◌∙◌, sym, subst, ap, refl, arith}
-use Rattle.std.specs.Prelude.{IsPermutation}
+use Rattle.std.proofs.Common.{◌≡◌, ◌∙◌, sym, subst, refl, arith, List, map}
+use Rattle.std.specs.Prelude.{IsPermutation, string_bytes}
 use Rattle.std.proofs.lemmas.List.Sorted.{length_permutation}
-use Rattle.proto_names.specs.Index.{AreInNameOrder, services_of}
-use Rattle.proto_names.specs.Occurrences.{occurrences}
+use Rattle.proto_names.specs.Index.{services_of}
+use Rattle.proto_names.specs.Occurrences.{Occurrence, occurrences}
 use Rattle.proto_names.proofs.Built.{below_files, none_moved, first_moved, not_some}
 use Rattle.proto_names.proofs.Ordered.{order_names}
 use Rattle.proto_names.proofs.index.NameIndex.build.Goals as goal
@@ -22,8 +22,11 @@ returns-in-Some-first_twice-clause-twice g c file place e =
           c.in-Some-first_twice.spot.place all first);
     }
 
-pub new-requires : goal.new-requires
-new-requires g c =
+pub new-requires-clause-order : goal.new-requires-clause-order
+new-requires-clause-order g c = order_names c.sort.new.self c.in_ok-sort.ensures.order
+
+pub new-requires-clause-many : goal.new-requires-clause-many
+new-requires-clause-many g c =
     let within = rw c.in-Some.is at c.in_ok-entries.ensures.within in
     let all = c.in_ok-sort.ensures.all in
     let same = length_permutation _ _ all in
@@ -38,8 +41,9 @@ invariant_of-result g c =
     let none = rw c.as_slice.ensures at (not_some _ c.first_twice.result c.in_default-first_twice.not-Some c.first_twice.ensures) in (
       record {
         inside = below_files c.args.files.now c.in_ok-entries-2.entries all;
-        order = subst AreInNameOrder kept (order_names c.sort.new.self c.in_ok-sort.ensures.order);
-        services = c.in_ok-services.ensures ∙ ap services_of (c.as_slice-2.ensures ∙ kept);
+        order = c.in_ok-services.ensures.order;
+        services = subst (λ (os : List Occurrence). IsPermutation (services_of os) (map string_bytes c.in_ok-services.services.items))
+            (c.as_slice-2.ensures ∙ kept) c.in_ok-services.ensures.all;
       },
       (
         c.args.files.now,
@@ -51,8 +55,9 @@ invariant_of-result g c =
           all = all;
           sound = record {
             inside = below_files c.args.files.now c.in_ok-entries-2.entries all;
-            order = subst AreInNameOrder kept (order_names c.sort.new.self c.in_ok-sort.ensures.order);
-            services = c.in_ok-services.ensures ∙ ap services_of (c.as_slice-2.ensures ∙ kept);
+            order = c.in_ok-services.ensures.order;
+            services = subst (λ (os : List Occurrence). IsPermutation (services_of os) (map string_bytes c.in_ok-services.services.items))
+                (c.as_slice-2.ensures ∙ kept) c.in_ok-services.ensures.all;
           };
         },
       ),
@@ -73,7 +78,8 @@ returns-clause-indexed g c =
       all = moved;
       sound = record {
         inside = below_files c.args.files.now c.in_ok-entries-2.entries moved;
-        order = subst AreInNameOrder kept (order_names c.sort.new.self c.in_ok-sort.ensures.order);
-        services = c.in_ok-services.ensures ∙ ap services_of (c.as_slice-2.ensures ∙ kept);
+        order = c.in_ok-services.ensures.order;
+        services = subst (λ (os : List Occurrence). IsPermutation (services_of os) (map string_bytes c.in_ok-services.services.items))
+            (c.as_slice-2.ensures ∙ kept) c.in_ok-services.ensures.all;
       };
     }

@@ -1,5 +1,4 @@
-use Rattle.proto_names.proofs.Occurring.{services_sorted}
 use Rattle.proto_names.proofs.index.NameIndex.services.Goals as goal
 
 pub returns-clause-order : goal.returns-clause-order
-returns-clause-order c = rw (c.as_slice.ensures.value, c.self.invariant.0.services) (services_sorted c.self.inside.entries c.self.invariant.0.order)
+returns-clause-order c = rw c.as_slice.ensures.value c.self.invariant.0.order

@@ -2,13 +2,13 @@ use Rattle.std.proofs.Common.{◌≡◌, ◌∙◌, sym, subst, List, map}
 use Rattle.std.specs.Prelude.{Contains}
 use Rattle.proto_desc.specs.DeclaredNames.{scoped}
 use Rattle.proto_names.specs.Entries.{occurrence}
-use Rattle.proto_names.specs.Index.{AreInNameOrder}
+use Rattle.proto_names.specs.Order.{AreInNameOrder}
 use Rattle.proto_names.specs.Occurrences.{Occurrence}
 use Rattle.proto_names.proofs.Occurring.{order_entries, named_found, named_all}
 use Rattle.proto_names.proofs.table.EntryTable.named.Goals as goal
 
 pub entries_named-requires-clause-order : goal.entries_named-requires-clause-order
-entries_named-requires-clause-order c = order_entries c.as_slice.result.now (subst AreInNameOrder (sym (c.as_slice.ensures ∙ c.self.view_is)) c.requires)
+entries_named-requires-clause-order c = order_entries c.as_slice.result.now (subst AreInNameOrder (sym c.as_slice.ensures) c.self.invariant.0)
 
 pub returns-clause-found : goal.returns-clause-found
 returns-clause-found c =

@@ -3,7 +3,7 @@ use Rattle.share_work.proofs.Paying.{IsPaying}
 use Rattle.share_work.proofs.mark_table.MarkTable.pay.Given as goal
 
 abbrev pub ghosts-pay_one : goal.ghosts-pay_one
-ghosts-pay_one g a = record { last = (a.place + 1) == length (g.R.Reach.list a.self.now.reach a.root) }
+ghosts-pay_one g a = record { last = (a.position + 1) == length (g.R.Reach.list a.self.now.reach a.root) }
 
 abbrev pub invariant-loop-file : goal.invariant-loop-file
 invariant-loop-file g l =

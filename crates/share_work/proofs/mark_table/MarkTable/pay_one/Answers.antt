@@ -10,7 +10,7 @@ pub overflow_add-file : goal.overflow_add-file
 overflow_add-file g c =
     let two = ap (λ (b : MarkTableValue g.row.R.Denot). b.table) c.self.view_is in
     let key_is = ap (λ (b : MarkTableValue g.row.R.Denot). b.reach) c.self.view_is in
-    let key = c.self.inside.table.shared.key in let root : ℕ = c.args.root in let k : ℕ = c.args.place in let file : ℕ = c.args.file in
+    let key = c.self.inside.table.shared.key in let root : ℕ = c.args.root in let k : ℕ = c.args.position in let file : ℕ = c.args.file in
     let At : g.row.R.Denot → Type 0 = λ y. slice_get (g.R.Reach.list y root) k ≡ Some file in
     let at_key : At key = subst At (sym key_is) c.requires.debt.1 in
     let here = get_some (g.R.Reach.list key root) k file at_key in
@@ -22,7 +22,7 @@ pub fetch_min-requires : goal.fetch_min-requires
 fetch_min-requires g c =
     let two = ap (λ (b : MarkTableValue g.row.R.Denot). b.table) c.self.view_is in
     let key_is = ap (λ (b : MarkTableValue g.row.R.Denot). b.reach) c.self.view_is in
-    let key = c.self.inside.table.shared.key in let root : ℕ = c.args.root in let k : ℕ = c.args.place in let file : ℕ = c.args.file in
+    let key = c.self.inside.table.shared.key in let root : ℕ = c.args.root in let k : ℕ = c.args.position in let file : ℕ = c.args.file in
     let At : g.row.R.Denot → Type 0 = λ y. slice_get (g.R.Reach.list y root) k ≡ Some file in
     let at_key : At key = subst At (sym key_is) c.requires.debt.1 in
     let here = get_some (g.R.Reach.list key root) k file at_key in
@@ -40,7 +40,7 @@ fetch_min-requires g c =
 
 pub returns : goal.returns
 returns g c =
-    let s = c.args.seat.now in let me = c.fetch_min.ensures.2 in let k : ℕ = c.args.place in
+    let s = c.args.seat.now in let me = c.fetch_min.ensures.2 in let k : ℕ = c.args.position in
     let view = paid_is c.args.root c.args.number k c.args.file c.fetch_min.result (g.R.Reach.list c.args.self.now.reach c.args.root) s.me.0
     c.fetch_min.new.seat.me.0 g.G.Paid.last c.requires.debt.0 c.requires.debt.2
     (ap (λ (y : Me (Unit {0}) MarkView). y.0) me) in
