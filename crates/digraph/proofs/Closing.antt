@@ -2,7 +2,7 @@
 use Rattle.std.proofs.Common.{◌≡◌, ◌∙◌, sym, ℕ, ◌+◌, ◌<◌, ◌≤◌, List, [], ◌∷◌, ◌++◌, length, get_or, ap, refl, subst, arith, inl, inr, ◌⊎◌, lit<}
 use Rattle.std.specs.Prelude.{Bool, true, false, Contains, ◌↔◌}
 use Rattle.std.specs.List.Sorted.{IsPermutation, IsSorted, IsStrictlyIncreasing}
-use Rattle.std.proofs.lemmas.List.Elements.{Contains-append_left, Contains-append_right, Contains-append_cases}
+use Rattle.std.proofs.lemmas.List.Elements.{Contains-get_or, Contains-append_left, Contains-append_right, Contains-append_cases}
 use Rattle.std.proofs.Math.ListN.{get_or-append}
 use Rattle.std.proofs.lemmas.Bool.{cases_lt}
 use Rattle.std.proofs.lemmas.Grind.{common_steps}
@@ -17,7 +17,7 @@ use Rattle.digraph.specs.Edges.{Graph, Edge, IsFalling, successors}
 use Rattle.digraph.specs.Leads.{Leads, here, through, IsReach, AreReaches, InLists, IsUnion, AreClosed}
 use Rattle.digraph.specs.Marks.{AreMarked, Among}
 use Rattle.digraph.proofs.Marking.{among_more, among_all}
-use Rattle.digraph.proofs.Visiting.{no_position, node_at}
+use Rattle.digraph.proofs.Visiting.{no_position}
 use Rattle.digraph.proofs.Rising.{rises_push}
 use Rattle.digraph.proofs.Searching.{one_only}
 use Rattle.digraph.proofs.Ways.{leads_trans, leads_le}
@@ -36,7 +36,7 @@ pub gathered_none : (lists : List (List ℕ)) (nodes : List ℕ) (marks : List B
     → ((b : ℕ) → Contains nodes b → b < length lists) → AreMarked marks marked → marked ≡ [] → Gathered lists nodes 0 marks marked
 gathered_none lists nodes marks marked room inside are e = record {
   room = room;
-  inside = λ k h. inside (get_or nodes k 0) (node_at nodes k h);
+  inside = λ k h. inside (get_or nodes k 0) (Contains-get_or nodes k 0 h);
   are = are;
   gathered = λ c. (λ w. (let at = subst (λ (xs : List ℕ). Contains xs c) e w in absurd (no_position at.0 at.1)), λ w. absurd (no_position w.1.0 w.1.1));
 }

@@ -8,7 +8,7 @@ use Rattle.std.proofs.Math.ListN.{get_or-append}
 use Rattle.std.proofs.Math.Seq.{get_or-append_right}
 use Rattle.std.proofs.lemmas.Bool.{cases_lt, eqb-true, ne_eqb}
 use Rattle.std.proofs.lemmas.Grind.{common_steps}
-use Rattle.std.proofs.lemmas.List.Elements.{Contains-append_cases, Contains-append_left, Contains-append_right}
+use Rattle.std.proofs.lemmas.List.Elements.{Contains-get_or, Contains-append_cases, Contains-append_left, Contains-append_right}
 use Rattle.std.proofs.lemmas.Map.Keys.{IsDistinct-from_apart}
 use Rattle.std.proofs.lemmas.Map.Steps.{length-le_from_distinct_below, le-length_from_below}
 use Rattle.std.proofs.lemmas.Map.Views.{Contains-from_any, list_any-from_Contains}
@@ -23,7 +23,7 @@ use Rattle.digraph.proofs.Renumbering.{before_trans}
 use Rattle.digraph.proofs.Rounding.{mark_cases, row_cases, passed_none}
 use Rattle.digraph.proofs.Rows.{edge_below, no_items}
 use Rattle.digraph.proofs.Stuck.{none_stuck}
-use Rattle.digraph.proofs.Visiting.{no_position, node_at, push_iff, distinct_push}
+use Rattle.digraph.proofs.Visiting.{no_position, push_iff, distinct_push}
 
 -- what the loop over the rounds has
 pub record Stage : Type 0 where
@@ -184,22 +184,22 @@ ordered_case : (g : Graph) (s t : Stage) → Levels g s → Round g s t → (k :
     → IsBefore t.ranks (get_or (s.order ++ s.ready) k 0) (get_or (s.order ++ s.ready) (k + 1) 0)
 ordered_case g s t l r k h (inl inside) near =
     let at : k < length s.order = omega arith in
-    let first = kept g s t l r (get_or s.order k 0) ((l.known (get_or s.order k 0)).1 (node_at s.order k at)) in
-    let second = kept g s t l r (get_or s.order (k + 1) 0) ((l.known (get_or s.order (k + 1) 0)).1 (node_at s.order (k + 1) inside)) in
+    let first = kept g s t l r (get_or s.order k 0) ((l.known (get_or s.order k 0)).1 (Contains-get_or s.order k 0 at)) in
+    let second = kept g s t l r (get_or s.order (k + 1) 0) ((l.known (get_or s.order (k + 1) 0)).1 (Contains-get_or s.order (k + 1) 0 inside)) in
     rw (order_left s.order s.ready k at, order_left s.order s.ready (k + 1) inside)
     (before_same s.ranks t.ranks (get_or s.order k 0) (get_or s.order (k + 1) 0) first second (l.ordered k inside))
 ordered_case g s t l r k h (inr over) (inl at) =
-    let mark = (l.known (get_or s.order k 0)).1 (node_at s.order k at) in
+    let mark = (l.known (get_or s.order k 0)).1 (Contains-get_or s.order k 0 at) in
     let same = kept g s t l r (get_or s.order k 0) mark in
     let small = l.below (get_or s.order k 0) mark in
     let position : k + 1 - length s.order < length s.ready = omega arith in
-    let rank = r.ranked (get_or s.ready (k + 1 - length s.order) 0) (node_at s.ready (k + 1 - length s.order) position) in
+    let rank = r.ranked (get_or s.ready (k + 1 - length s.order) 0) (Contains-get_or s.ready (k + 1 - length s.order) 0 position) in
     rw (order_left s.order s.ready k at, order_right s.order s.ready (k + 1) over) (inl (omega (arith, same, small, rank)))
 ordered_case g s t l r k h (inr over) (inr at) =
     let position : k - length s.order + 1 < length s.ready = omega arith in
     let next : k + 1 - length s.order ≡ k - length s.order + 1 = omega arith in
-    let first = r.ranked (get_or s.ready (k - length s.order) 0) (node_at s.ready (k - length s.order) (omega arith)) in
-    let second = r.ranked (get_or s.ready (k - length s.order + 1) 0) (node_at s.ready (k - length s.order + 1) position) in
+    let first = r.ranked (get_or s.ready (k - length s.order) 0) (Contains-get_or s.ready (k - length s.order) 0 (omega arith)) in
+    let second = r.ranked (get_or s.ready (k - length s.order + 1) 0) (Contains-get_or s.ready (k - length s.order + 1) 0 position) in
     rw (order_right s.order s.ready k at, order_right s.order s.ready (k + 1) over ∙ ap (λ j. get_or s.ready j 0) next)
     (inr (first ∙ sym second, l.rises (k - length s.order) position))
 
@@ -290,7 +290,7 @@ order_shorter g s l a h out =
 -- so a round that finds a node leaves fewer
 pub round_shorter : (g : Graph) (s : Stage) → Levels g s → 0 < length s.ready → length s.order < length g
 round_shorter g s l some =
-    let is = (l.ready (get_or s.ready 0 0)).0 (node_at s.ready 0 some) in order_shorter g s l (get_or s.ready 0 0) is.0 is.1
+    let is = (l.ready (get_or s.ready 0 0)).0 (Contains-get_or s.ready 0 0 some) in order_shorter g s l (get_or s.ready 0 0) is.0 is.1
 
 -- what gets a rank is a node
 pub ready_below : (g : Graph) (s : Stage) → Levels g s → (a : ℕ) → Contains s.ready a → a < length g

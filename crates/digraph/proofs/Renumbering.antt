@@ -7,13 +7,14 @@ use Rattle.std.proofs.lemmas.Bool.{cases_eq, cases_lt}
 use Rattle.std.proofs.lemmas.Grind.{common_steps}
 use Rattle.std.proofs.lemmas.List.{get_or-map}
 use Rattle.std.proofs.lemmas.List.Sorted.{Contains-permutation, IsPermutation-sym}
+use Rattle.std.proofs.lemmas.List.Elements.{Contains-get_or}
 use Rattle.digraph.specs.Edges.{Graph, Edge, IsFalling, IsWithin, successors}
 use Rattle.digraph.specs.Leads.{Leads, here, through}
 use Rattle.digraph.specs.Ranks.{rank_in, IsBefore, IsRanked, IsRankOrder}
 use Rattle.digraph.specs.Renumbered.{node_at, ArePositions, HasPosition, IsRenumbered}
 use Rattle.digraph.proofs.Marking.{among_all}
 use Rattle.digraph.proofs.Rows.{edge_below, edge_push}
-use Rattle.digraph.proofs.Visiting.{no_position, node_at as member_at}
+use Rattle.digraph.proofs.Visiting.{no_position}
 
 -- ---- an order by rank
 
@@ -52,7 +53,7 @@ pub placed_none : (order positions : List ℕ) → length positions ≡ length o
 placed_none order positions size = record { size = size; placed = λ k h. absurd (no_position k h) }
 
 pub inside_order : (ranks order : List ℕ) → IsRankOrder ranks order → (k : ℕ) → k < length order → node_at order k < length order
-inside_order ranks order o k h = let below = (o.whole (node_at order k)).0 (member_at order k h) in omega (arith, below, o.size)
+inside_order ranks order o k h = let below = (o.whole (node_at order k)).0 (Contains-get_or order k 0 h) in omega (arith, below, o.size)
 
 placed_case : (ranks order : List ℕ) (n : ℕ) (positions : List ℕ) → IsRankOrder ranks order → n < length order → Placed order n positions → (k : ℕ) → k < n + 1
     → (k < n) ⊎ (n ≤ k) → get_or (set positions (node_at order n) n) (node_at order k) 0 ≡ k
@@ -90,7 +91,7 @@ map_members f xs j = (
   λ w. (let at = (among_all (map f xs) (length (map f xs)) j refl).0 w in
       let len : length (map f xs) ≡ length xs = grind (arith, common_steps) in
       let inside : at.0 < length xs = omega (arith, at.1, len) in
-      (get_or xs at.0 0, member_at xs at.0 inside, sym (get_or-map f xs at.0 0 0 inside) ∙ at.2)),
+      (get_or xs at.0 0, Contains-get_or xs at.0 0 inside, sym (get_or-map f xs at.0 0 0 inside) ∙ at.2)),
   λ w. (let at = (among_all xs (length xs) w.0 refl).0 w.1 in
       let len : length (map f xs) ≡ length xs = grind (arith, common_steps) in
       (among_all (map f xs) (length (map f xs)) j refl).1 (at.0, omega (arith, at.1, len), get_or-map f xs at.0 0 0 at.1 ∙ ap f at.2 ∙ w.2)),

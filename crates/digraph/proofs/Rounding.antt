@@ -4,13 +4,14 @@ use Rattle.std.specs.Prelude.{Bool, true, false, Contains, ◌↔◌}
 use Rattle.std.specs.List.Sorted.{IsStrictlyIncreasing}
 use Rattle.std.proofs.Math.ListN.{set, length-set}
 use Rattle.std.proofs.lemmas.Bool.{cases_eq, cases_lt, false≢true}
+use Rattle.std.proofs.lemmas.List.Elements.{Contains-get_or}
 use Rattle.digraph.specs.Edges.{Graph, Edge, successors}
 use Rattle.digraph.specs.Marks.{IsMarked, Among}
 use Rattle.digraph.specs.Ranks.{rank_in}
 use Rattle.digraph.specs.Rounds.{IsPassed, ArePassed, Stops, AllMarked, GoesInto}
 use Rattle.digraph.proofs.Marking.{among_more, among_all, mark_one, joined_step, joined_end}
 use Rattle.digraph.proofs.Rising.{rises_none, rises_push}
-use Rattle.digraph.proofs.Visiting.{no_position, node_at, push_iff}
+use Rattle.digraph.proofs.Visiting.{no_position, push_iff}
 
 -- ---- one row
 
@@ -26,7 +27,7 @@ HasUnmarked g marks a = (b : ℕ) × Edge g a b × (IsMarked marks b → ⊥)
 
 unmarked_at : (g : Graph) (marks : List Bool) (a n : ℕ) → (n ≡ length (successors g a) → ⊥) → Stops marks (successors g a) n → HasUnmarked g marks a
 unmarked_at g marks a n part (inl whole) = absurd (part whole)
-unmarked_at g marks a n part (inr (h, out)) = (get_or (successors g a) n 0, node_at (successors g a) n h, out)
+unmarked_at g marks a n part (inr (h, out)) = (get_or (successors g a) n 0, Contains-get_or (successors g a) n 0 h, out)
 
 -- a row that is not passed whole
 pub stopped : (g : Graph) (marks : List Bool) (a n : ℕ) → (n ≡ length (successors g a) → ⊥) → Stops marks (successors g a) n → AllMarked g marks a → ⊥
@@ -54,7 +55,7 @@ front_cases marks xs zero h = inl (λ c w. absurd (no_position w.0 w.1))
 front_cases marks xs (suc n) h = elim (front_cases marks xs n (omega arith)) [
   | inl all ↦ elim (mark_cases marks (get_or xs n 0)) [
     | inl here ↦ inl (λ c w. front_more marks xs n here all c (subst (λ (k : ℕ). Among xs k c) (omega arith) w))
-    | inr out ↦ inr (get_or xs n 0, node_at xs n (omega arith), out)
+    | inr out ↦ inr (get_or xs n 0, Contains-get_or xs n 0 (omega arith), out)
   ]
   | inr found ↦ inr found
 ]
@@ -83,7 +84,7 @@ none_among old nodes c (inr w) = absurd (no_position w.0 w.1)
 pub settled_none : (nodes : List ℕ) (rank : ℕ) (marks : List Bool) (ranks : List ℕ) → ((c : ℕ) → Contains nodes c → (c < length marks) × (c < length ranks))
     → Settled nodes rank marks ranks 0 marks ranks
 settled_none nodes rank marks ranks room = record {
-  room = λ k h. room (get_or nodes k 0) (node_at nodes k h);
+  room = λ k h. room (get_or nodes k 0) (Contains-get_or nodes k 0 h);
   marked = λ c. (λ m. inl m, none_among marks nodes c);
   ranked = λ c w. absurd (no_position w.0 w.1);
   others = λ c out. refl;
@@ -170,7 +171,7 @@ none_ready g marks nodes old a (inr w) = absurd (no_position w.0.0 w.0.1)
 pub appending_none : (g : Graph) (marks : List Bool) (nodes old passed : List ℕ) → ((a : ℕ) → Contains nodes a → a < length g) → ArePassed g marks passed
     → Appending g marks nodes old 0 passed old
 appending_none g marks nodes old passed room are = record {
-  room = λ k h. (let below = room (get_or nodes k 0) (node_at nodes k h) in omega (arith, below, are.size));
+  room = λ k h. (let below = room (get_or nodes k 0) (Contains-get_or nodes k 0 h) in omega (arith, below, are.size));
   are = are;
   added = λ a. (λ w. inl w, none_ready g marks nodes old a);
 }

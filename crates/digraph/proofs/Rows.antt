@@ -5,11 +5,11 @@ use Rattle.std.proofs.Math.ListN.{set, length-set, get_or-append}
 use Rattle.std.proofs.Math.Seq.{take-append_seam}
 use Rattle.std.proofs.lemmas.Bool.{cases_eq, cases_lt}
 use Rattle.std.proofs.lemmas.List.{map-set, map-append, get_or_push, get_or-map}
-use Rattle.std.proofs.lemmas.List.Elements.{Contains-push, Contains-push_cases, Contains-append_left}
+use Rattle.std.proofs.lemmas.List.Elements.{Contains-get_or, Contains-push, Contains-push_cases, Contains-append_left}
 use Rattle.std.proofs.lemmas.Grind.{common_steps}
 use Rattle.digraph.specs.Edges.{Graph, graph_of, successors, Edge}
 use Rattle.digraph.specs.Marks.{Among}
-use Rattle.digraph.proofs.Visiting.{no_position, node_at}
+use Rattle.digraph.proofs.Visiting.{no_position}
 use Rattle.digraph.proofs.Marking.{among_more, among_all, joined_step, joined_end}
 
 pub row_items : (rows : List (Vec ℕ Global)) (k : ℕ) (v : Vec ℕ Global) → v ≡ get_or rows k v → k < length rows → v.items ≡ successors (graph_of rows) k
@@ -153,7 +153,7 @@ none_turned nodes node old b a (inr (e, w)) = absurd (no_position w.0 w.1)
 pub turning_none : (nodes : List ℕ) (node : ℕ) (rows : List (Vec ℕ Global)) → ((b : ℕ) → Contains nodes b → b < length rows)
     → Turning nodes node (graph_of rows) 0 rows
 turning_none nodes node rows room = record {
-  room = λ k h. room (get_or nodes k 0) (node_at nodes k h);
+  room = λ k h. room (get_or nodes k 0) (Contains-get_or nodes k 0 h);
   edges = λ b a. (λ edge. inl edge, none_turned nodes node (graph_of rows) b a);
 }
 

@@ -6,12 +6,13 @@ use Rattle.std.proofs.lemmas.Bool.{cases_lt, eqb-true}
 use Rattle.std.proofs.lemmas.Map.Views.{Contains-from_any}
 use Rattle.std.proofs.lemmas.Map.Steps.{length-le_from_distinct_below}
 use Rattle.std.proofs.Math.ListN.{get_or-append}
+use Rattle.std.proofs.lemmas.List.Elements.{Contains-get_or}
 use lib.Dec.{eqb}
 use Rattle.digraph.specs.Edges.{Graph, Edge, successors}
 use Rattle.digraph.specs.Leads.{Leads, here, through}
 use Rattle.digraph.specs.Marks.{IsMarked, AreMarked, IsFrontOf, NoneMarked}
 use Rattle.digraph.proofs.Marking.{among_all}
-use Rattle.digraph.proofs.Visiting.{no_position, node_at}
+use Rattle.digraph.proofs.Visiting.{no_position}
 use Rattle.digraph.proofs.Ways.{leads_last}
 
 IsDistinct_none : IsDistinct eqb []
@@ -36,7 +37,7 @@ pub record Searching (g : Graph) (n start : ℕ) (marks : List Bool) (found : Li
 pub found_below : (g : Graph) (n start : ℕ) (marks : List Bool) (found : List ℕ) (next k : ℕ) → Searching g n start marks found next → k < length found
     → get_or found k 0 < n
 found_below g n start marks found next k r h =
-    let inside = ((r.are.same (get_or found k 0)).1 (node_at found k h)).0 in
+    let inside = ((r.are.same (get_or found k 0)).1 (Contains-get_or found k 0 h)).0 in
     omega (arith, inside, r.room)
 
 pub found_short : (g : Graph) (n start : ℕ) (marks : List Bool) (found : List ℕ) (next : ℕ) → Searching g n start marks found next → length found ≤ n
@@ -84,7 +85,7 @@ pub searching_next : (g : Graph) (n start : ℕ) (marks new : List Bool) (found 
     → ((c : ℕ) → Contains ys c ↔ (Contains found c ⊎ Contains xs c)) → Searching g n start marks found next → Searching g n start new ys (next + 1)
 searching_next g n start marks new found ys xs next h e room are front added r =
     let q = get_or found next 0 in
-    let there : Contains found q = node_at found next h in
+    let there : Contains found q = Contains-get_or found next 0 h in
     let added' : (c : ℕ) → Contains ys c ↔ (Contains found c ⊎ Edge g q c) =
     subst (λ (zs : List ℕ). (c : ℕ) → Contains ys c ↔ (Contains found c ⊎ Contains zs c)) e added in
     record {

@@ -4,11 +4,12 @@ use Rattle.std.specs.Prelude.{Result, Ok, Err, OnErr, true}
 use Rattle.std.specs.Cmp.Lexicographic.{pointwise}
 use Rattle.std.proofs.lemmas.Bool.{and_parts, eqb-true}
 use Rattle.std.proofs.lemmas.List.{take-append-le, drop-append-le, map-append, take_all, get_or-map, length-take-le}
+use Rattle.std.proofs.lemmas.List.Elements.{All-from_recursion}
 use Rattle.std.proofs.lemmas.Grind.{common_steps}
 use lib.Dec.{eqb}
 use Rattle.digraph.specs.Marks.{IsFrontOf}
 use Rattle.digraph.specs.Ranges.{range_of, ranges_of, AreWithin, Holds}
-use Rattle.digraph.proofs.Rising.{all_at, all_push}
+use Rattle.digraph.proofs.Rising.{all_push}
 
 pub within_more : (n m : ℕ) (rs : List (ℕ × ℕ)) → n ≤ m → AreWithin n rs → AreWithin m rs
 within_more n m [] h w = tt
@@ -71,7 +72,8 @@ pub range_inside : (items : List ℕ) (rs : List (ℕ × ℕ)) (lists : List (Li
 range_inside items rs lists k r e at h w =
     let size : length (ranges_of items rs) ≡ length rs = grind (arith, common_steps) in
     let same = ap length e in
-    subst (λ (q : ℕ × ℕ). q.0 + q.1 ≤ length items) (sym at) (all_at (λ (q : ℕ × ℕ). q.0 + q.1 ≤ length items) rs k r w (omega (arith, h, size, same)))
+    subst (λ (q : ℕ × ℕ). q.0 + q.1 ≤ length items) (sym at)
+    (All-from_recursion (λ (q : ℕ × ℕ). q.0 + q.1 ≤ length items) rs w k r (omega (arith, h, size, same)))
 
 -- a range and a number behind it
 pub extended_length : (items : List ℕ) (r : ℕ × ℕ) (number : ℕ) → r.0 + r.1 ≤ length items → r.1 + 1 ≡ length (range_of items r ++ number ∷ [])

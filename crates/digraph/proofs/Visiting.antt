@@ -1,10 +1,10 @@
 -- What the loops keep that mark nodes and take marks away.
-use Rattle.std.proofs.Common.{◌≡◌, ◌≢◌, ◌∙◌, sym, ℕ, ◌+◌, ◌<◌, List, [], ◌∷◌, ◌++◌, length, get_or, ap, refl, subst, arith, inl, inr, ◌⊎◌, append_assoc, append-nil, get_or-set_same, get_or-set_other}
+use Rattle.std.proofs.Common.{◌≡◌, ◌≢◌, ◌∙◌, sym, ℕ, ◌+◌, ◌<◌, List, [], ◌∷◌, ◌++◌, length, get_or, ap, subst, arith, inl, inr, ◌⊎◌, append_assoc, append-nil, get_or-set_same, get_or-set_other}
 use Rattle.std.specs.Prelude.{Bool, true, false, Contains, ◌↔◌}
 use Rattle.std.specs.List.{IsDistinct, list_any}
 use Rattle.std.proofs.Math.ListN.{set, length-set}
-use Rattle.std.proofs.lemmas.Bool.{true≢false, eqb-true, cases_eq}
-use Rattle.std.proofs.lemmas.List.Elements.{Contains-push, Contains-push_cases, Contains-append_left}
+use Rattle.std.proofs.lemmas.Bool.{true≢false, eqb-true, cases_eq, false_from_ne_true}
+use Rattle.std.proofs.lemmas.List.Elements.{Contains-get_or, Contains-push, Contains-push_cases, Contains-append_left}
 use Rattle.std.proofs.lemmas.Map.Views.{Contains-from_any}
 use Rattle.std.specs.Cmp.{nat_eq_equiv}
 use Rattle.std.proofs.lemmas.Map.Keys.{IsDistinct-push}
@@ -24,12 +24,8 @@ pub record Visited (old nodes : List ℕ) (n : ℕ) (marks : List Bool) (marked 
   pub front : IsFrontOf old marked
   pub added : (c : ℕ) → Contains marked c ↔ (Contains old c ⊎ Among nodes n c)
 
-not_any : (xs : List ℕ) (x : ℕ) (b : Bool) → list_any (eqb x) xs ≡ b → (Contains xs x → ⊥) → list_any (eqb x) xs ≡ false
-not_any xs x false e out = e
-not_any xs x true e out = absurd (out (Contains-from_any (λ a b h. eqb-true a b h) x xs e))
-
 pub distinct_push : (xs : List ℕ) (x : ℕ) → IsDistinct eqb xs → (Contains xs x → ⊥) → IsDistinct eqb (xs ++ x ∷ [])
-distinct_push xs x d out = IsDistinct-push nat_eq_equiv xs x d (not_any xs x (list_any (eqb x) xs) refl out)
+distinct_push xs x d out = IsDistinct-push nat_eq_equiv xs x d (false_from_ne_true (list_any (eqb x) xs) (λ e. out (Contains-from_any eqb-true x xs e)))
 
 push_from : (xs : List ℕ) (p c : ℕ) → Contains xs c ⊎ (p ≡ c) → Contains (xs ++ p ∷ []) c
 push_from xs p c (inl h) = Contains-append_left xs (p ∷ []) c h
@@ -98,14 +94,10 @@ none_from : (old nodes : List ℕ) (c : ℕ) → Contains old c ⊎ Among nodes 
 none_from old nodes c (inl h) = h
 none_from old nodes c (inr h) = absurd (none_at nodes c h)
 
--- a node that a list has
-pub node_at : (xs : List ℕ) (k : ℕ) → k < length xs → Contains xs (get_or xs k 0)
-node_at xs k h = (among_all xs (length xs) (get_or xs k 0) refl).1 (k, h, refl)
-
 pub visited_none : (old nodes : List ℕ) (marks : List Bool) → ((c : ℕ) → Contains nodes c → c < length marks) → AreMarked marks old
     → Visited old nodes 0 marks old
 visited_none old nodes marks room are = record {
-  room = λ k h. room (get_or nodes k 0) (node_at nodes k h);
+  room = λ k h. room (get_or nodes k 0) (Contains-get_or nodes k 0 h);
   are = are;
   front = ([], sym (append-nil old));
   added = λ c. (λ w. inl w, λ w. none_from old nodes c w);
@@ -124,7 +116,7 @@ pub record Cleared (nodes : List ℕ) (n : ℕ) (marks : List Bool) : Type 0 whe
 
 pub cleared_none : (nodes : List ℕ) (marks : List Bool) → AreMarked marks nodes → Cleared nodes 0 marks
 cleared_none nodes marks are = record {
-  room = λ k h. ((are.same (get_or nodes k 0)).1 (node_at nodes k h)).0;
+  room = λ k h. ((are.same (get_or nodes k 0)).1 (Contains-get_or nodes k 0 h)).0;
   left = λ c m. ((are.same c).0 m, none_at nodes c);
 }
 

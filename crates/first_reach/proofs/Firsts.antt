@@ -1,13 +1,12 @@
 -- The first root that reaches a file.
 use Rattle.std.proofs.Common.{◌≡◌, ℕ, zero, suc, ◌+◌, ◌<◌, ◌≤◌, ◌⊎◌, inl, inr, Bool, true, false, cond, Option, Some, None, List, [], ◌∷◌, length, refl, sym, ap, ◌∙◌, arith, rules, eqb-true, eqb, slice_get, IsTrue}
-use Rattle.std.proofs.lemmas.Bool.{and_parts, cases_eq}
+use Rattle.std.proofs.lemmas.Bool.{and_parts, or_cases, cases_eq}
 use Rattle.share_work.specs.Posts.{NONE, least_at, is_pair, posted}
 use Rattle.share_work.proofs.Legal.{least_here, least_else, least_at-le-NONE, least_at-above}
 use Rattle.share_work.proofs.Sums.{SomePass-any}
 use Rattle.first_reach.specs.Carried.{has, reached}
 use Rattle.first_reach.specs.First.{first_from, first_reach}
 use Rattle.first_reach.specs.Laws.{LeastIsFirst}
-use Rattle.first_reach.proofs.Lists.{or_cases}
 
 pub first_above : (reach : ℕ → List ℕ) (roots : List (Option ℕ)) (i g : ℕ) → i + length roots ≤ NONE → i ≤ first_from reach i roots g
 first_above reach [] i g top = omega arith

@@ -1,30 +1,13 @@
 -- Members of lists, tested by a Bool.
-use Rattle.std.proofs.Common.{◌≡◌, ℕ, zero, suc, ◌<◌, ◌⊎◌, inl, inr, ◌||◌, ◌&&◌, not, Bool, true, false, cond, Option, Some, None, List, [], ◌∷◌, filter, refl, sym, ap, ◌∙◌, arith, rules, eq-eqb, eqb-true, eqb, slice_get, length, ◌≤◌, All, subst}
+use Rattle.std.proofs.Common.{◌≡◌, ℕ, suc, inl, inr, ◌||◌, ◌&&◌, not, Bool, true, false, cond, Option, Some, None, List, [], ◌∷◌, filter, refl, sym, ap, ◌∙◌, eq-eqb, eqb-true, eqb, slice_get, length, ◌≤◌, All, subst}
+use Rattle.std.proofs.lemmas.Bool.{or_right, or_cases}
+use Rattle.std.proofs.lemmas.Map.Keys.{any_passes_from_place}
 use Rattle.std.proofs.lemmas.Option.{slice_get_within, slice_get_cases, get_or_from_slice_get}
 use Rattle.std.specs.Prelude.{◌==◌}
 use Rattle.share_work.specs.Reach.{Reaches}
 use Rattle.share_work.proofs.Sums.{SomePass-any}
 use Rattle.std.specs.List.{list_any}
 use Rattle.first_reach.specs.Carried.{has, root_first, reached}
-use Rattle.std.specs.Result.{IfOk}
-use Rattle.std.specs.declared.result.Result.{Result}
-use Rattle.std.specs.declared.result.Result.TheVariants.{Ok, Err}
-
-pub or_left : (a b : Bool) → a ≡ true → (a || b) ≡ true
-or_left a b e = ap (λ x. x || b) e
-
-pub or_right : (a b : Bool) → b ≡ true → (a || b) ≡ true
-or_right true b e = refl
-or_right false b e = e
-
-pub or_cases : (a b : Bool) → (a || b) ≡ true → (a ≡ true) ⊎ (b ≡ true)
-or_cases true b e = inl refl
-or_cases false b e = inr e
-
-pub get_there : {X : Type 0} (xs : List X) (j : ℕ) → j < length xs → (x : X) × (slice_get xs j ≡ Some x)
-get_there [] j h = absurd (omega arith)
-get_there (x ∷ xs) zero h = (x, refl)
-get_there (x ∷ xs) (suc j) h = get_there xs j (omega arith)
 
 pub any_get : {X : Type 0} (p : X → Bool) (xs : List X) → list_any p xs ≡ true → (j : ℕ) × (x : X) × (slice_get xs j ≡ Some x) × (p x ≡ true)
 any_get p [] h = let bad : false ≡ true = h in cc
@@ -32,11 +15,6 @@ any_get p (x ∷ xs) h = elim (or_cases (p x) (list_any p xs) h) [
   | inl e ↦ (0, x, refl, e)
   | inr k ↦ let r = any_get p xs k in (suc r.0, r.1, r.2, r.3)
 ]
-
-pub get_any : {X : Type 0} (p : X → Bool) (xs : List X) (j : ℕ) (x : X) → slice_get xs j ≡ Some x → p x ≡ true → list_any p xs ≡ true
-get_any p [] j x e h = let bad : None ≡ Some x = e in absurd (search rules)
-get_any p (y ∷ xs) zero x e h = let same : y ≡ x = cc in or_left (p y) (list_any p xs) (ap p same ∙ h)
-get_any p (y ∷ xs) (suc j) x e h = or_right (p y) (list_any p xs) (get_any p xs j x e h)
 
 -- two tests that agree on the members keep the same
 pub filter_on : (p q : ℕ → Bool) (xs : List ℕ) → ((x : ℕ) → has x xs ≡ true → p x ≡ q x) → filter p xs ≡ filter q xs
@@ -106,9 +84,4 @@ none_past xs k e = elim (slice_get_cases xs k).1 [
 
 -- a file of the list is one that the root reaches
 pub reaches_at : (list : ℕ → List ℕ) (r k g : ℕ) → slice_get (list r) k ≡ Some g → Reaches list r g
-reaches_at list r k g at = (SomePass-any (λ h. h == g) (list r)).1 (get_any (λ h. h == g) (list r) k g at (eq-eqb g g refl))
-
--- what an answer is, by what is known of it
-pub if_ok_then : {X E : Type 0} {P Q : X → Type 0} (r : Result X E) → IfOk r P → ((x : X) → P x → Q x) → IfOk r Q
-if_ok_then (Ok x) h f = f x h
-if_ok_then (Err e) h f = tt
+reaches_at list r k g at = (SomePass-any (λ h. h == g) (list r)).1 (any_passes_from_place (λ h. h == g) (list r) k g at (eq-eqb g g refl))

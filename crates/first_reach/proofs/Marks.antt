@@ -1,6 +1,7 @@
 -- What workers' marks post.
 use Rattle.std.proofs.Common.{◌≡◌, ℕ, zero, suc, ◌+◌, ◌<◌, ◌⊎◌, inl, inr, ◌||◌, ◌&&◌, ◌↔◌, Bool, true, false, Option, Some, None, List, [], ◌∷◌, ◌++◌, take, length, refl, sym, ap, subst, ◌∙◌, arith, rules, eq-eqb, eqb-true, eqb, slice_get, IsTrue, All, drop, map, sum_by, append-nil}
-use Rattle.std.proofs.lemmas.Bool.{and_parts, and_from, cases_lt}
+use Rattle.std.proofs.lemmas.Bool.{and_parts, and_from, or_left, or_right, or_cases, cases_lt}
+use Rattle.std.proofs.lemmas.Map.Keys.{any_passes_from_place}
 use Rattle.std.proofs.lemmas.List.Folds.{list_any-append}
 use Rattle.std.proofs.lemmas.List.Sums.{sum_by-cons}
 use Rattle.std.proofs.Math.Seq.{take-length}
@@ -12,7 +13,7 @@ use Rattle.share_work.specs.Shares.{AddsSome, HoldTogether}
 use Rattle.first_reach.specs.Carried.{has}
 use Rattle.first_reach.specs.First.{RootReaches}
 use Rattle.first_reach.specs.Seats.{has_posted, Posts}
-use Rattle.first_reach.proofs.Lists.{or_left, or_right, or_cases, any_get, get_any, all_get}
+use Rattle.first_reach.proofs.Lists.{any_get, all_get}
 
 take_under : {X : Type 0} (n : ℕ) (xs : List X) (o : ℕ) (t : X) → slice_get (take n xs) o ≡ Some t → (o < n) × (slice_get xs o ≡ Some t)
 take_under zero xs o t e = let bad : None ≡ Some t = e in absurd (search rules)
@@ -114,7 +115,7 @@ all_posted reach roots old new pairs together none final g n =
           ],
       λ r.
           let got = (together g n).1 (inr (n, r.0, r.1, (omega arith, r.2))) in
-          final g n ∙ get_any test new got.0 got.1 got.2 got.3,
+          final g n ∙ any_passes_from_place test new got.0 got.1 got.2 got.3,
     )
 
 pub same_sums : {X : Type 0} (f : X → ℕ) (xs ys : List X) → map f xs ≡ map f ys → sum_by f xs ≡ sum_by f ys

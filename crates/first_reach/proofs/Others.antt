@@ -1,17 +1,13 @@
 -- The files of a reply but its root.
 use Rattle.std.proofs.Common.{◌≡◌, ℕ, ◌+◌, ◌⊎◌, inl, inr, ◌||◌, ◌&&◌, not, Bool, true, false, cond, Some, List, [], ◌∷◌, ◌++◌, filter, take, refl, sym, ap, ◌∙◌, eq-eqb, eqb, slice_get, slice_index, append_assoc, append-nil}
-use Rattle.std.proofs.lemmas.Bool.{ne_eqb}
+use Rattle.std.proofs.lemmas.Bool.{ne_eqb, and_right, or_right}
 use Rattle.std.proofs.lemmas.List.Elements.{filter_more}
 use Rattle.std.proofs.lemmas.Option.{slice_get_within, get_or_from_slice_get}
 use Rattle.first_reach.specs.declared.mode.Mode.{Mode}
 use Rattle.first_reach.specs.declared.mode.Mode.TheVariants.{Once, Repeat}
 use Rattle.first_reach.specs.Carried.{repeats}
 use Rattle.first_reach.specs.Reply.{reply_at, others_at, RootIsFirstToo}
-use Rattle.first_reach.proofs.Lists.{or_right, filter_on, filter_filter, filter_none}
-
-and_false : (b : Bool) → (b && false) ≡ false
-and_false true = refl
-and_false false = refl
+use Rattle.first_reach.proofs.Lists.{filter_on, filter_filter, filter_none}
 
 -- one more file
 others_more : (first : List ℕ) (i r k file : ℕ) (files : List ℕ) → slice_get files k ≡ Some file
@@ -35,7 +31,7 @@ pub others_skip : (first : List ℕ) (i r k file : ℕ) (files start was new : L
 others_skip first i r k file files start was new at why before same =
     let test : (not (eqb file r) && eqb (slice_index first file) i) ≡ false = elim why [
       | inl root ↦ (λ j. not (eq-eqb file r root j) && eqb (slice_index first file) i)
-      | inr later ↦ ap (λ b. not (eqb file r) && b) (ne_eqb (slice_index first file) i later) ∙ and_false (not (eqb file r))
+      | inr later ↦ and_right (not (eqb file r)) (eqb (slice_index first file) i) (ne_eqb (slice_index first file) i later)
     ] in
     same ∙ before
     ∙ ap (λ l. start ++ l) (sym (others_more first i r k file files at ∙ ap (λ b. others_at first i r (take k files) ++ cond b (file ∷ []) []) test
@@ -69,7 +65,7 @@ reply_first mode reach first i r is =
 no_others : (reach : ℕ → List ℕ) (first : List ℕ) (i r : ℕ) → (slice_index first r ≡ i → ⊥) → RootIsFirstToo reach first i r
     → others_at first i r (reach r) ≡ []
 no_others reach first i r later spreads = filter_none _ (reach r) (λ g h.
-    ap (λ b. not (eqb g r) && b) (ne_eqb (slice_index first g) i (λ e. later (spreads g h e))) ∙ and_false (not (eqb g r)))
+    and_right (not (eqb g r)) (eqb (slice_index first g) i) (ne_eqb (slice_index first g) i (λ e. later (spreads g h e))))
 
 -- where it isn't, the reply has nothing but a root that is repeated
 pub reply_again : (mode : Mode) (reach : ℕ → List ℕ) (first : List ℕ) (i r : ℕ) → mode ≡ Repeat → (slice_index first r ≡ i → ⊥) → RootIsFirstToo reach first i r

@@ -1,15 +1,16 @@
 -- Each reply by itself.
 use Rattle.std.proofs.Common.{◌≡◌, ℕ, zero, suc, ◌+◌, inl, inr, ◌||◌, ◌&&◌, not, Bool, true, false, cond, Option, Some, None, List, [], ◌∷◌, ◌++◌, filter, length, refl, sym, ap, ◌∙◌, arith, rules, eq-eqb, eqb-true, eqb, slice_get, IsTrue}
-use Rattle.std.proofs.lemmas.Bool.{ne_eqb, and_parts, and_from}
+use Rattle.std.proofs.lemmas.Bool.{ne_eqb, and_parts, and_from, or_left, or_right, or_cases}
 use Rattle.std.proofs.lemmas.List.Folds.{list_any-append}
 use Rattle.std.specs.Option.{ForSome}
 use Rattle.std.proofs.lemmas.Option.{slice_get_within}
+use Rattle.share_work.proofs.Together.{get_there}
 use Rattle.first_reach.specs.declared.mode.Mode.{Mode}
 use Rattle.first_reach.specs.declared.mode.Mode.TheVariants.{Once, Repeat}
 use Rattle.first_reach.specs.Carried.{has, reached, root_first, repeats, carried_from, carried}
 use Rattle.first_reach.specs.First.{first_from, first_reach}
 use Rattle.first_reach.specs.Laws.{ReachThemselves, CarriesFirsts, RepeatCarriesRoots}
-use Rattle.first_reach.proofs.Lists.{filter_on, has_filter, has_root_first, or_left, or_right, or_cases, get_there, all_get}
+use Rattle.first_reach.proofs.Lists.{filter_on, has_filter, has_root_first, all_get}
 use Rattle.first_reach.proofs.Firsts.{first_hits}
 
 -- each root reaches itself

@@ -1,7 +1,7 @@
 -- The least of a union, and of the first n elements of a list.
 use Rattle.std.proofs.Common.{◌≡◌, ◌∙◌, sym, ℕ, ◌+◌, ◌<◌, ◌≤◌, List, length, get_or, ap, refl, subst, arith, inl, inr, ◌⊎◌}
-use Rattle.std.specs.Prelude.{Option, Some, None, IfSome, Bool, true, false, ◌↔◌, not}
-use Rattle.std.proofs.lemmas.Bool.{true≢false, false≢true, cases_lt}
+use Rattle.std.specs.Prelude.{Option, Some, None, IfSome, Bool, true, false, ◌↔◌}
+use Rattle.std.proofs.lemmas.Bool.{true≢false, false≢true, cases_lt, cond-true}
 use Rattle.std.proofs.lemmas.List.{get_or_default}
 use Rattle.std.proofs.Common.{cond, Equal, Less, Greater}
 use Rattle.std.specs.declared.cmp.Ordering.{Ordering}
@@ -44,15 +44,12 @@ at_most_itself a = inr (refl, omega arith)
 pub least_one : (s : Spot) → IsLeast (λ x. x ≡ s) (Some s)
 least_one s = record { found = refl; least = λ x e. subst (AtMost s) (sym e) (at_most_itself s) }
 
-none_below : (i : ℕ) → i < 0 → ⊥
-none_below i h = omega arith
-
 -- what the first n elements break
 abbrev pub EachTo : {X : Type 0} → List X → ℕ → (X → Spot → Type 0) → Spot → Type 0
 EachTo {X} xs n S x = (i : ℕ) × (a : X) × (i < n) × StandsAt xs i a × S a x
 
 pub each_none : {X : Type 0} (xs : List X) (S : X → Spot → Type 0) → IsLeast (EachTo xs 0 S) None
-each_none xs S = least_none (EachTo xs 0 S) (λ x w. none_below w.0 w.2)
+each_none xs S = least_none (EachTo xs 0 S) (λ x w. omega (arith, w.2))
 
 -- at one place one element stands
 pub one_at : {X : Type 0} (xs : List X) (i j : ℕ) (a b : X) → i ≡ j → StandsAt xs i a → StandsAt xs j b → a ≡ b
@@ -81,7 +78,7 @@ abbrev pub HasEarlier : {X : Type 0} → List X → ℕ → (X → X → Type 0)
 HasEarlier {X} xs n R b = (i : ℕ) × (a : X) × (i < n) × StandsAt xs i a × R a b
 
 pub later_none : {X : Type 0} (xs : List X) (R : X → X → Type 0) (at : X → Spot) → IsLeast (LaterTo xs 0 R at) None
-later_none xs R at = least_none (LaterTo xs 0 R at) (λ x w. none_below w.1 w.5)
+later_none xs R at = least_none (LaterTo xs 0 R at) (λ x w. omega (arith, w.5))
 
 later_split : {X : Type 0} (xs : List X) (R : X → X → Type 0) (at : X → Spot) (n : ℕ) (c : X) → StandsAt xs n c → (x : Spot) → LaterTo xs (n + 1) R at x
     → LaterTo xs n R at x ⊎ (HasEarlier xs n R c × (x ≡ at c))
@@ -119,7 +116,7 @@ abbrev pub WithTo : {X : Type 0} → (Spot → Type 0) → List X → ℕ → (X
 WithTo {X} B xs n S x = B x ⊎ EachTo xs n S x
 
 pub with_none : {X : Type 0} (B : Spot → Type 0) (xs : List X) (S : X → Spot → Type 0) (p : Option Spot) → IsLeast B p → IsLeast (WithTo B xs 0 S) p
-with_none B xs S p h = least_same B (WithTo B xs 0 S) p (λ x v. elim v [ inl b ↦ b | inr w ↦ absurd (none_below w.0 w.2) ]) (λ x b. inl b) h
+with_none B xs S p h = least_same B (WithTo B xs 0 S) p (λ x v. elim v [ inl b ↦ b | inr w ↦ absurd (omega (arith, w.2)) ]) (λ x b. inl b) h
 
 with_split : {X : Type 0} (B : Spot → Type 0) (xs : List X) (S : X → Spot → Type 0) (n : ℕ) (a : X) → StandsAt xs n a → (x : Spot) → WithTo B xs (n + 1) S x
     → WithTo B xs n S x ⊎ S a x
@@ -163,21 +160,17 @@ pub record Passed {X K T : Type 0} (cmp : K → K → Ordering) (show : K → T)
   pub least : IsLeast (LaterTo xs n (λ a b. key a ≡ key b) at) first
   pub seen : Seen cmp show key xs s n
 
-cond_or : (b o : Bool) → cond b true o ≡ true → (b ≡ true) ⊎ (o ≡ true)
+pub cond_or : (b o : Bool) → cond b true o ≡ true → (b ≡ true) ⊎ (o ≡ true)
 cond_or true o h = inl refl
 cond_or false o h = inr h
 
-cond_left : (b o : Bool) → b ≡ true → cond b true o ≡ true
-cond_left true o h = refl
-cond_left false o h = absurd (false≢true h)
-
-cond_right : (b o : Bool) → o ≡ true → cond b true o ≡ true
+pub cond_right : (b o : Bool) → o ≡ true → cond b true o ≡ true
 cond_right true o h = refl
 cond_right false o h = h
 
 pub seen_none : {X K T : Type 0} (cmp : K → K → Ordering) (show : K → T) (key : X → T) (xs : List X) (s : BTreeSet K) → ((q : K) → contains cmp s q ≡ false)
     → Seen cmp show key xs s 0
-seen_none cmp show key xs s h q = (λ w. absurd (true≢false (sym w ∙ h q)), λ w. absurd (none_below w.0 w.2))
+seen_none cmp show key xs s h q = (λ w. absurd (true≢false (sym w ∙ h q)), λ w. absurd (omega (arith, w.2)))
 
 seen_more : {X K T : Type 0} (cmp : K → K → Ordering) (show : K → T) (key : X → T) (xs : List X) (s t : BTreeSet K) (n : ℕ) (c : X) (k : K) → Exact cmp show
     → StandsAt xs n c → show k ≡ key c → Updates cmp s t k true → Seen cmp show key xs s n → Seen cmp show key xs t (n + 1)
@@ -188,7 +181,7 @@ seen_more cmp show key xs s t n c k exact here e new seen q = (
   ],
   λ w. new.0 q ∙ elim (cases_lt w.0 n) [
     | inl old ↦ cond_right (is_eq (cmp k q)) (contains cmp s q) ((seen q).1 (w.0, w.1, old, w.3, w.4))
-    | inr last ↦ cond_left (is_eq (cmp k q)) (contains cmp s q) ((exact k q).1 (e ∙ ap key (one_at xs n w.0 c w.1 (omega (arith, w.2, last)) here w.3) ∙ w.4))
+    | inr last ↦ cond-true (is_eq (cmp k q)) true _ ((exact k q).1 (e ∙ ap key (one_at xs n w.0 c w.1 (omega (arith, w.2, last)) here w.3) ∙ w.4))
   ],
 )
 
@@ -210,14 +203,6 @@ passed_skip cmp show key at xs s t n c k p exact here e new fresh h =
       least = later_skip xs (λ a b. key a ≡ key b) at n c p here (λ w. true≢false (sym ((h.seen k).1 (w.0, w.1, w.2, w.3, w.4 ∙ sym e)) ∙ fresh)) h.least;
       seen = seen_more cmp show key xs s t n c k exact here e new h.seen;
     }
-
-pub not_false : (b : Bool) → not b ≡ false → b ≡ true
-not_false true h = refl
-not_false false h = absurd (true≢false h)
-
-pub not_true : (b : Bool) → not b ≡ true → b ≡ false
-not_true true h = absurd (false≢true h)
-not_true false h = refl
 
 -- of two sets
 abbrev pub Either : (Spot → Type 0) → (Spot → Type 0) → Spot → Type 0

@@ -2,7 +2,7 @@
 use Rattle.std.proofs.Common.{◌≡◌, ◌∙◌, ap, sym, refl, List, [], ◌∷◌, ◌++◌, false, inl, inr}
 use Rattle.std.proofs.lemmas.List.{append-nil}
 use Rattle.std.specs.Prelude.{Option, flat_map}
-use mathlib.Core.Former.{this, arity, Count}
+use mathlib.Core.Former.{this, arity}
 use Rattle.proto_tree.specs.declared.enumeration.Enum.{Enum}
 use Rattle.proto_tree.specs.declared.field.Field.{Field}
 use Rattle.proto_tree.specs.declared.map_field.MapField.{MapField}
@@ -20,6 +20,7 @@ use Rattle.proto_checks.specs.Options.{optioned, optioned_plain, optioned_member
 use Rattle.proto_base.specs.Sets.{Each}
 use Rattle.proto_base.specs.declared.spot.Spot.{Spot}
 use Rattle.proto_base.proofs.Among.{among_of, least_single}
+use Rattle.proto_lower.proofs.Nested.{row_of}
 use Rattle.proto_checks.proofs.Three.{first_of_three, last_of_three, two_of_three, each_three}
 use Rattle.proto_base.proofs.Sets.{Either, least_either, least_same}
 
@@ -83,10 +84,6 @@ bodies_boxed boxed (more_of-Message keyword name open_brace shape is close_brace
     ap (λ xs. items-the_row-MessageItem _ is ∷ xs) (row_flat _ is)
     ∙ ap (λ is. is ∷ flat_map bodies_of is) (sym (items_shown-the_row-MessageItem-0 shape is))
     ∙ sym (append-nil (bodies _))
-
-abbrev row_of : MessageItem → (n : Count) × Row_of-Message n
-row_of (Message' boxed row) = (_, row)
-row_of _ = (_, end_of-Message)
 
 pub nested_bodies : (m : Message) → bodies_of (of.Message m) ≡ bodies m.items
 nested_bodies m =

@@ -1,40 +1,28 @@
 -- Sets of the names of a list.
-use Rattle.std.proofs.Common.{◌≡◌, ◌∙◌, sym, ℕ, ◌+◌, ◌<◌, List, [], ◌∷◌, ◌++◌, length, get_or, take, subst, arith, refl, inl, inr, ◌⊎◌, cond}
-use Rattle.std.specs.Prelude.{Bool, true, false, Contains, None}
+use Rattle.std.proofs.Common.{◌≡◌, ◌∙◌, sym, ℕ, ◌+◌, ◌<◌, List, [], ◌∷◌, ◌++◌, length, get_or, take, subst, arith, inl, inr}
+use Rattle.std.specs.Prelude.{true, Contains, None}
 use Rattle.std.specs.BTreeSet.{BTreeSet, Updates}
 use Rattle.std.specs.Ordering.{is_eq}
-use Rattle.std.proofs.lemmas.Bool.{false≢true}
+use Rattle.std.proofs.lemmas.Bool.{cond-true}
 use Rattle.std.proofs.lemmas.List.{take_more}
 use Rattle.std.proofs.lemmas.List.Elements.{Contains-append_left, Contains-push, Contains-push_cases}
 use denote.Ref.{Bor}
 use Rattle.proto_base.specs.Least.{IsLeast}
 use Rattle.proto_checks.specs.Marks.{Marked, ReservedNameUsed}
 use Rattle.proto_checks.specs.NameSets.{IsSetOf}
-use Rattle.proto_base.proofs.Sets.{text_cmp, exact_text, least_none}
-
-either_of : (b o : Bool) → cond b true o ≡ true → (b ≡ true) ⊎ (o ≡ true)
-either_of true o h = inl refl
-either_of false o h = inr h
-
-of_first : (b o : Bool) → b ≡ true → cond b true o ≡ true
-of_first true o h = refl
-of_first false o h = absurd (false≢true h)
-
-of_second : (b o : Bool) → o ≡ true → cond b true o ≡ true
-of_second true o h = refl
-of_second false o h = h
+use Rattle.proto_base.proofs.Sets.{text_cmp, exact_text, least_none, cond_or, cond_right}
 
 pub set_push : (names : List (List ℕ)) (s t : BTreeSet (Bor (List ℕ))) (k : Bor (List ℕ)) → Updates text_cmp s t k true → IsSetOf names s
     → IsSetOf (names ++ k.now ∷ []) t
 set_push names s t k new set name =
     let q : Bor (List ℕ) = record k { now = name } in (
-      λ h. elim (either_of (is_eq (text_cmp k q)) _ (sym (new.0 q) ∙ h)) [
+      λ h. elim (cond_or (is_eq (text_cmp k q)) _ (sym (new.0 q) ∙ h)) [
         | inl same ↦ subst (Contains (names ++ k.now ∷ [])) ((exact_text k q).0 same) (Contains-push names k.now)
         | inr old ↦ Contains-append_left names (k.now ∷ []) name ((set name).0 old)
       ],
       λ w. new.0 q ∙ elim (Contains-push_cases names k.now name w) [
-        | inl old ↦ of_second (is_eq (text_cmp k q)) _ ((set name).1 old)
-        | inr same ↦ of_first (is_eq (text_cmp k q)) _ ((exact_text k q).1 same)
+        | inl old ↦ cond_right (is_eq (text_cmp k q)) _ ((set name).1 old)
+        | inr same ↦ cond-true (is_eq (text_cmp k q)) true _ ((exact_text k q).1 same)
       ],
     )
 

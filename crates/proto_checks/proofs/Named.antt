@@ -1,13 +1,11 @@
 -- The names of a descriptor, by its messages.
-use Rattle.std.proofs.Common.{◌≡◌, ◌∙◌, ap, ℕ, List, ◌∷◌, ◌++◌, map, inl, inr}
+use Rattle.std.proofs.Common.{◌≡◌, ◌∙◌, ap, List, ◌∷◌, map, inl, inr}
 use Rattle.std.specs.Prelude.{Option, flat_map}
 use Rattle.std.proofs.lemmas.List.Folds.{flat_map-map}
 use Rattle.proto_base.specs.declared.kind.Kind.TheVariants as kind
-use Rattle.proto_desc.specs.DeclaredNames.{Declared, scoped, declared_field, declared_oneof, declared_by_enum, declared_by_message, declared_step}
 use Rattle.proto_desc.specs.declared.message.MessageDesc.{MessageDesc}
 use Rattle.proto_desc.specs.declared.message.MessageDesc.TheViews.{out-MessageDesc}
 use Rattle.proto_desc.specs.declared.message.MessageDesc.TheFolds.{fold_out-MessageDesc}
-use Rattle.proto_desc.specs.declared.name_kind.NameKind.TheVariants as name_kind
 use Rattle.proto_checks.specs.Checks.{json_mark, field_mark, EnumNamesBreak, MessageNames, MessageNamesBreak, names_step, names_of}
 use Rattle.proto_base.specs.Least.{IsLeast, IsLesser}
 use Rattle.proto_checks.specs.Marks.{TextTwice, ReservedNameUsed}
@@ -34,23 +32,3 @@ own_least m a b p ab r h k n u w = least_same (Either (OfFields m) (Each m.enums
     (λ x v. elim v [ inl s ↦ elim s [ inl t ↦ MessageNamesBreak.json_twice t | inr t ↦ MessageNamesBreak.reserved t ] | inr s ↦ MessageNamesBreak.in_enum s ])
     (least_either (OfFields m) (Each m.enums EnumNamesBreak) ab p r
     (least_either (TextTwice kind.JsonNameTwice (map json_mark m.fields)) (ReservedNameUsed m.reserved_names (map field_mark m.fields)) a b ab h k u) n w)
-
--- what a message and those within it declare
-abbrev pub own_declared : MessageDesc → List ℕ → Declared
-own_declared m scope = record { scope = scope; name = (out-MessageDesc m).name; kind = name_kind.Message; place = (out-MessageDesc m).place }
-
-abbrev pub scope_in : MessageDesc → List ℕ → List ℕ
-scope_in m scope = scoped scope (out-MessageDesc m).name
-
-abbrev pub declared_before : MessageDesc → List ℕ → List Declared
-declared_before m scope =
-    own_declared m scope ∷ (map (declared_field (scope_in m scope)) (out-MessageDesc m).fields
-    ++ map (declared_oneof (scope_in m scope)) (out-MessageDesc m).oneofs
-    ++ flat_map (declared_by_enum (scope_in m scope)) (out-MessageDesc m).enums)
-
-pub declared_out : (m : MessageDesc) (scope : List ℕ) → declared_by_message m scope ≡ declared_before m scope
-    ++ flat_map (λ n. declared_by_message n (scope_in m scope)) (out-MessageDesc m).nested
-declared_out m scope =
-    ap (λ (f : List ℕ → List Declared). f scope) (fold_out-MessageDesc (List ℕ → List Declared) declared_step m)
-    ∙ ap (λ xs. declared_before m scope ++ xs) (flat_map-map (λ (g : List ℕ → List Declared). g (scope_in m scope)) declared_by_message
-    (out-MessageDesc m).nested)

@@ -1,9 +1,10 @@
 -- Settings by the rules of their element.
-use Rattle.std.proofs.Common.{◌≡◌, ◌∙◌, sym, ℕ, zero, suc, ◌<◌, Bool, true, false, List, [], ◌∷◌, length, get_or, map, ap, refl, subst, arith}
-use Rattle.std.proofs.lemmas.Bool.{true≢false, false≢true}
-use Rattle.std.specs.Prelude.{◌||◌, ◌&&◌, not, Option, Some, None, Contains}
+use Rattle.std.proofs.Common.{◌≡◌, ◌∙◌, sym, Bool, true, false, List, map, ap, refl, subst}
+use Rattle.std.proofs.lemmas.Bool.{true≢false, false≢true, both_ways, and_from, and_parts, false_from_ne_true, true_from_ne_false}
+use Rattle.std.specs.Prelude.{not, Option, Some, None, Contains}
 use Rattle.std.specs.List.{list_any}
 use Rattle.std.specs.Option.{is_some}
+use Rattle.std.proofs.lemmas.List.Folds.{Any-from_list_any, list_any-from_Any}
 use Rattle.proto_base.specs.declared.kind.Kind.TheVariants as kind
 use Rattle.proto_tree.specs.declared.option.Setting.{Setting}
 use Rattle.proto_desc.specs.declared.rules.Element.{Element}
@@ -19,56 +20,16 @@ use Rattle.proto_base.proofs.Among.{each_on, later_map}
 use Rattle.proto_base.proofs.Sets.{least_either}
 
 -- what a test of each element says
-or_left : (a b : Bool) → (a || b) ≡ false → a ≡ false
-or_left true b h = h
-or_left false b h = refl
-
-or_right : (a b : Bool) → (a || b) ≡ false → b ≡ false
-or_right true b h = absurd (true≢false h)
-or_right false b h = h
-
-none_at : {X : Type 0} (p : X → Bool) (xs : List X) (i : ℕ) (a : X) → list_any p xs ≡ false → i < length xs → get_or xs i a ≡ a → p a ≡ false
-none_at p [] i a none within at = absurd (omega arith)
-none_at p (y ∷ ys) zero a none within at = rw (sym at) (or_left (p y) (list_any p ys) none)
-none_at p (y ∷ ys) (suc i) a none within at = none_at p ys i a (or_right (p y) (list_any p ys) none) (omega arith) at
-
 pub none_of : {X : Type 0} (p : X → Bool) (xs : List X) (a : X) → list_any p xs ≡ false → Contains xs a → p a ≡ false
-none_of p xs a none held = none_at p xs held.0 a none held.1 held.2
-
-held_next : {X : Type 0} (p : X → Bool) (y : X) (ys : List X) → (a : X) × Contains ys a × (p a ≡ true) → (a : X) × Contains (y ∷ ys) a × (p a ≡ true)
-held_next p y ys (a, held, passes) = (a, (suc held.0, omega (arith, held.1), held.2), passes)
-
-some_by : {X : Type 0} (p : X → Bool) (y : X) (ys : List X) (b : Bool) → p y ≡ b → (b || list_any p ys) ≡ true
-    → (list_any p ys ≡ true → (a : X) × Contains ys a × (p a ≡ true)) → (a : X) × Contains (y ∷ ys) a × (p a ≡ true)
-some_by p y ys true passes any later = (y, (0, omega arith, refl), passes)
-some_by p y ys false passes any later = held_next p y ys (later any)
+none_of p xs a none held =
+    false_from_ne_true (p a) (λ h. both_ways (list_any p xs) none (list_any-from_Any p xs (held.0, a, held.1, held.2, h)))
 
 pub some_of : {X : Type 0} (p : X → Bool) (xs : List X) → list_any p xs ≡ true → (a : X) × Contains xs a × (p a ≡ true)
-some_of p [] any = absurd (false≢true any)
-some_of p (y ∷ ys) any = some_by p y ys (p y) refl any (λ h. some_of p ys h)
-
-and_left : (a b : Bool) → (a && b) ≡ true → a ≡ true
-and_left true b h = refl
-and_left false b h = h
-
-and_right : (a b : Bool) → (a && b) ≡ true → b ≡ true
-and_right true b h = h
-and_right false b h = absurd (false≢true h)
-
-and_both : (a b : Bool) → a ≡ true → b ≡ true → (a && b) ≡ true
-and_both a b h k = rw (h, k) refl
+some_of p xs any = let w = Any-from_list_any p xs any in (w.1, (w.0, w.2, w.3), w.4)
 
 no_value : {X : Type 0} (o : Option X) → not (is_some o) ≡ true → o ≡ None
 no_value None h = refl
 no_value (Some x) h = absurd (false≢true h)
-
-false_by : (b : Bool) → (b ≡ true → ⊥) → b ≡ false
-false_by true none = absurd (none refl)
-false_by false none = refl
-
-true_by : (b : Bool) → (b ≡ false → ⊥) → b ≡ true
-true_by true none = refl
-true_by false none = absurd (none refl)
 
 unknown_by : (e : Element) (s : Setting) → is_known e s ≡ false → IsUnknown e s
 unknown_by e s h r held = none_of (is_known_by s) (rules_of e) r h held
@@ -76,7 +37,7 @@ unknown_by e s h r held = none_of (is_known_by s) (rules_of e) r h held
 mistaken_by : (e : Element) (s : Setting) → is_mistaken e s ≡ true → IsMistaken e s
 mistaken_by e s h =
     let w = some_of (is_mistaken_by s) (rules_of e) h in
-    (w.0, w.1, and_left (is_setting w.0.name s) _ w.2, no_value (value_of w.0.kind s.value) (and_right (is_setting w.0.name s) _ w.2))
+    let parts = and_parts (is_setting w.0.name s) _ w.2 in (w.0, w.1, parts.0, no_value (value_of w.0.kind s.value) parts.1)
 
 known_not_unknown : (e : Element) (s : Setting) → is_known e s ≡ true → IsUnknown e s → ⊥
 known_not_unknown e s h u = let w = some_of (is_known_by s) (rules_of e) h in true≢false (sym w.2 ∙ u w.0 w.1)
@@ -86,11 +47,11 @@ unknown_not_mistaken e s u m = true≢false (sym m.2 ∙ u m.0 m.1)
 
 not_mistaken : (e : Element) (s : Setting) → is_mistaken e s ≡ false → IsMistaken e s → ⊥
 not_mistaken e s h m =
-    let passes : is_mistaken_by s m.0 ≡ true = and_both (is_setting m.0.name s) (not (is_some (value_of m.0.kind s.value))) m.2 (rw m.3 refl) in
+    let passes : is_mistaken_by s m.0 ≡ true = and_from (is_setting m.0.name s) (not (is_some (value_of m.0.kind s.value))) m.2 (rw m.3 refl) in
     true≢false (sym passes ∙ none_of (is_mistaken_by s) (rules_of e) m.0 h m.1)
 
 not_known : (e : Element) (s : Setting) → IsUnknown e s → is_known e s ≡ false
-not_known e s u = false_by (is_known e s) (λ h. known_not_unknown e s h u)
+not_known e s u = false_from_ne_true (is_known e s) (λ h. known_not_unknown e s h u)
 
 -- the test finds exactly what the rules say
 fault_unknown : (e : Element) (s : Setting) → is_known e s ≡ false → setting_fault e s ≡ Some (spot (name_place s) kind.UnknownOption)
@@ -107,10 +68,10 @@ unfolding setting_fault
 fault_none e s h k = rw (h, k) refl
 
 mistaken_by_test : (e : Element) (s : Setting) → IsMistaken e s → is_mistaken e s ≡ true
-mistaken_by_test e s m = true_by (is_mistaken e s) (λ h. not_mistaken e s h m)
+mistaken_by_test e s m = true_from_ne_false (is_mistaken e s) (λ h. not_mistaken e s h m)
 
 mistaken_known : (e : Element) (s : Setting) → IsMistaken e s → is_known e s ≡ true
-mistaken_known e s m = true_by (is_known e s) (λ h. true≢false (sym m.2 ∙ none_of (is_known_by s) (rules_of e) m.0 h m.1))
+mistaken_known e s m = true_from_ne_false (is_known e s) (λ h. true≢false (sym m.2 ∙ none_of (is_known_by s) (rules_of e) m.0 h m.1))
 
 fault_of : (e : Element) (s : Setting) (x : Spot) → SettingBreaks e s x → setting_fault e s ≡ Some x
 fault_of e s x (unknown u at) = fault_unknown e s (not_known e s u) ∙ ap Some (sym at)

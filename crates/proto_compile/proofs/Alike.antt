@@ -4,7 +4,7 @@ use Rattle.std.specs.Prelude.{Contains, IsPermutation, IsSorted}
 use Rattle.std.specs.Cmp.Lexicographic.{slice_cmp}
 use Rattle.std.specs.List.{sum_by}
 use Rattle.std.specs.Ordering.{nat_cmp, is_lt, ordering_reverse}
-use Rattle.std.proofs.lemmas.Bool.{true≢false, false≢true}
+use Rattle.std.proofs.lemmas.Bool.{true≢false, false≢true, or_left, or_right}
 use Rattle.std.proofs.lemmas.Cmp.{nat_list_cmp_total}
 use Rattle.std.proofs.lemmas.List.{length-map}
 use Rattle.std.proofs.lemmas.List.Sorted.{sum_by-IsPermutation}
@@ -69,14 +69,6 @@ one_services descs limits index other first second =
     ∙ sym (sum_by-IsPermutation (counted f) (occurrences descs) other.occurrences second.all) ∙ all_services f other second.sound.services)
 
 -- ---- what files reach
-
-or_left : (a b : Bool) → a ≡ true → (a || b) ≡ true
-or_left true b e = refl
-or_left false b e = absurd (false≢true e)
-
-or_right : (a b : Bool) → b ≡ true → (a || b) ≡ true
-or_right true b e = refl
-or_right false b e = e
 
 has_at : (g : ℕ) (xs : List ℕ) (k d : ℕ) → k < length xs → get_or xs k d ≡ g → has g xs ≡ true
 has_at g [] k d below is = absurd (omega arith)

@@ -80,7 +80,7 @@ local_check limits sources =
     record { Finds = FindsLocal limits sources; passes = (files : List Source) × (descs : List FileDesc) × Describe limits sources files descs }
 
 -- a source with a fault is none of those that describe something
-no_fault_in : (limits : Limits) (files : List Source) (descs : List FileDesc) (k : ℕ) (s : Source) (step : ℕ) (place : Place) (what : Kind)
+pub no_fault_in : (limits : Limits) (files : List Source) (descs : List FileDesc) (k : ℕ) (s : Source) (step : ℕ) (place : Place) (what : Kind)
     → AllZip (SourceDescribes limits) files descs → Stands files k s
     → IsLocalFault limits (name_of s) (text_of s) step place what → ⊥
 no_fault_in limits files descs k s step place what all stands fault =

@@ -2,7 +2,7 @@
 use Rattle.std.proofs.Common.{◌≡◌, ◌≢◌, ◌∙◌, sym, ℕ, ◌<◌, ◌≤◌, List, ap, refl, subst, arith, inl, inr, Ordering, Less, Equal, Greater}
 use Rattle.std.specs.Cmp.{nat_cmp_is}
 use Rattle.std.specs.Cmp.Lexicographic.{slice_cmp}
-use Rattle.std.specs.Ordering.{nat_cmp, is_gt, is_lt, ordering_reverse, ordering_then}
+use Rattle.std.specs.Ordering.{nat_cmp, is_gt, ordering_reverse, ordering_then}
 use Rattle.std.proofs.lemmas.Bool.{true≢false, cases_order}
 use Rattle.std.proofs.lemmas.Cmp.{nat_cmp_total, nat_list_cmp_total, tied_itself}
 use Rattle.std.proofs.lemmas.Map.Lookups.{exact_bytes}
@@ -13,6 +13,7 @@ use Rattle.proto_base.specs.declared.kind.Kind.{Kind}
 use Rattle.proto_base.specs.declared.place.Place.{Place}
 use Rattle.proto_compile.specs.FaultSet.{IsNoLater, found_as}
 use Rattle.proto_compile.proofs.Checks.{Told}
+use Rattle.proto_compile.proofs.OneOrder.{less_greater, less_itself}
 
 -- what a fault tells comes no later than what another one tells
 abbrev pub NoLater : Told → Told → Type 0
@@ -20,17 +21,11 @@ NoLater x y = IsNoLater (found_as x.pass x.file x.step x.place x.kind) (found_as
 
 -- ---- orderings, one after another
 
-less_greater : Less ≡ Greater → ⊥
-less_greater e = true≢false (ap is_lt e)
-
 equal_greater : Equal ≡ Greater → ⊥
 equal_greater e = true≢false (sym (ap is_gt e))
 
 equal_not : (o : Ordering) → o ≡ Equal → o ≢ Greater
 equal_not o e g = equal_greater (sym e ∙ g)
-
-less_not : (o : Ordering) → o ≡ Less → o ≢ Greater
-less_not o e g = less_greater (sym e ∙ g)
 
 then_not : (a b : Ordering) → a ≢ Greater → b ≢ Greater → ordering_then a b ≢ Greater
 then_not Less b h k = h
@@ -38,7 +33,7 @@ then_not Equal b h k = k
 then_not Greater b h k = h
 
 then_less : (a b : Ordering) → a ≡ Less → ordering_then a b ≢ Greater
-then_less a b e g = less_greater (sym (ap (λ o. ordering_then o b) e) ∙ g)
+then_less a b e = less_greater (ordering_then a b) (ap (λ o. ordering_then o b) e)
 
 same_nat : (n : ℕ) → nat_cmp n n ≢ Greater
 same_nat n = equal_not (nat_cmp n n) (tied_itself nat_cmp_total n)
@@ -49,20 +44,17 @@ same_file file = equal_not (slice_cmp nat_cmp file file) (tied_itself nat_list_c
 nat_less : (m n : ℕ) → m < n → nat_cmp m n ≡ Less
 nat_less m n h = sym (nat_cmp_is m n Less h)
 
-less_not_equal : Less ≡ Equal → ⊥
-less_not_equal e = true≢false (ap is_lt e)
-
 nat_exact : (m n : ℕ) → nat_cmp m n ≡ Equal → m ≡ n
 nat_exact m n e = elim (cases_order m n) [
   | inl same ↦ same
-  | inr (inl less) ↦ absurd (less_not_equal (sym (nat_less m n less) ∙ e))
+  | inr (inl less) ↦ absurd (less_itself (nat_cmp m n) e (nat_less m n less))
   | inr (inr over) ↦ absurd (equal_greater (sym e ∙ sym (nat_cmp_is m n Greater over)))
 ]
 
 nat_at_most : (m n : ℕ) → m ≤ n → nat_cmp m n ≢ Greater
 nat_at_most m n h = elim (cases_order m n) [
   | inl same ↦ subst (λ k. nat_cmp m k ≢ Greater) same (same_nat m)
-  | inr (inl less) ↦ less_not (nat_cmp m n) (nat_less m n less)
+  | inr (inl less) ↦ less_greater (nat_cmp m n) (nat_less m n less)
   | inr (inr over) ↦ absurd (omega (arith, h, over))
 ]
 

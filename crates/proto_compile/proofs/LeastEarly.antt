@@ -1,5 +1,5 @@
 -- Up to imports, what a pass finds first is the least of what it finds.
-use Rattle.std.proofs.Common.{◌≡◌, ◌≢◌, ◌∙◌, sym, ℕ, zero, suc, ◌+◌, ◌-◌, ◌<◌, ◌≤◌, List, [], ◌∷◌, length, take, ap, refl, subst, arith, inl, inr, ◌⊎◌, Ordering, Less, Equal, Greater}
+use Rattle.std.proofs.Common.{◌≡◌, ◌≢◌, ◌∙◌, sym, ℕ, zero, suc, ◌+◌, ◌-◌, ◌<◌, ◌≤◌, List, [], ◌∷◌, length, take, ap, refl, subst, arith, inl, inr, ◌⊎◌, Ordering, Less, Greater}
 use Rattle.std.specs.Prelude.{false}
 use Rattle.std.specs.List.{AllZip}
 use Rattle.std.specs.Cmp.Lexicographic.{slice_cmp}
@@ -12,7 +12,7 @@ use Rattle.proto_base.specs.declared.limits.Limits.{Limits}
 use Rattle.proto_base.specs.declared.place.Place.{Place}
 use Rattle.proto_desc.specs.declared.file.FileDesc.{FileDesc}
 use Rattle.proto_file.specs.Local.{IsLocalFault}
-use Rattle.proto_file.proofs.OneLocal.{no_local, one_local}
+use Rattle.proto_file.proofs.OneLocal.{one_local}
 use Rattle.proto_links.specs.Imports as imports
 use Rattle.proto_compile.specs.Descriptions.{Describe, SourceDescribes}
 use Rattle.proto_compile.specs.FaultSet.{IsNoLater, found_as}
@@ -20,10 +20,10 @@ use Rattle.proto_compile.specs.Faults.{Stands, start}
 use Rattle.proto_compile.specs.Sources.{AreByName, AreSorted, name_at, name_of, text_of}
 use Rattle.proto_compile.specs.declared.source.Source.{Source}
 use Rattle.proto_compile.proofs.Checks.{Check, Told, told}
-use Rattle.proto_compile.proofs.EarlyChecks.{FindsLocal, FindsRepeated, count_check, import_check, local_check, order_check, same_told}
+use Rattle.proto_compile.proofs.EarlyChecks.{FindsLocal, FindsRepeated, count_check, import_check, local_check, no_fault_in, order_check, same_told}
 use Rattle.proto_compile.proofs.FaultOrder.{NoLater, later_in_name, later_or_same_name, later_spot, same_later}
-use Rattle.proto_compile.proofs.OneOrder.{none_twice, one_names, one_order, same_name_at}
-use Rattle.proto_compile.proofs.OneTyping.{one_description, standing_in, standing_one, zipped_at}
+use Rattle.proto_compile.proofs.OneOrder.{none_twice, not_later, one_names, one_order, same_name_at}
+use Rattle.proto_compile.proofs.OneTyping.{one_description, standing_in, standing_one}
 use Rattle.proto_compile.proofs.Sorting.{name_of_item}
 use Rattle.proto_compile.proofs.Zipping.{bad_inside, descs_in_order}
 
@@ -62,11 +62,6 @@ pub before_in_order : (name : ℕ → List ℕ) (n k j : ℕ) → ((i : ℕ) →
 before_in_order name n k j up less h =
     let at : k + suc (j - k - 1) ≡ j = omega (arith, less) in
     subst (λ i. slice_cmp nat_cmp (name k) (name i) ≡ Less) at (rising name n k (j - k - 1) up (omega (arith, less, h)))
-
-pub not_later : (o : Ordering) → o ≢ Greater → is_gt o ≡ false
-not_later Less h = refl
-not_later Equal h = refl
-not_later Greater h = absurd (h refl)
 
 pub is_later : (o : Ordering) → is_gt o ≡ false → o ≢ Greater
 is_later o h e = true≢false (sym (ap is_gt e) ∙ h)
@@ -163,18 +158,11 @@ local_of limits sources x f = record {
   is = f.is;
 }
 
-pub none_local : (limits : Limits) (files : List Source) (descs : List FileDesc) (k : ℕ) (s : Source) (step : ℕ) (place : Place) (what : Kind)
-    → AllZip (SourceDescribes limits) files descs → Stands files k s
-    → IsLocalFault limits (name_of s) (text_of s) step place what → ⊥
-none_local limits files descs k s step place what all stands fault =
-    let described = zipped_at (SourceDescribes limits) files descs k s all stands.0 stands.1 in
-    no_local limits (name_of s) (text_of s) described.0 step place what described.1 fault
-
 pub local_before : (limits : Limits) (sources : List Source) (x y : Told) (f : FindsLocal limits sources x) (g : HasLocal limits sources y) → g.files ≡ f.files
     → g.at < f.at → ⊥
 local_before limits sources x y f g same less =
     let stands : Stands f.files g.at g.source = subst (λ (xs : List Source). Stands xs g.at g.source) same g.stands in
-    none_local limits (take f.at f.files) f.descs g.at g.source g.step g.place g.what f.before (standing_in f.files g.at f.at g.source less stands.0 stands.1)
+    no_fault_in limits (take f.at f.files) f.descs g.at g.source g.step g.place g.what f.before (standing_in f.files g.at f.at g.source less stands.0 stands.1)
     g.fault
 
 pub local_here : (limits : Limits) (sources : List Source) (x y : Told) (f : FindsLocal limits sources x) (g : HasLocal limits sources y) → g.files ≡ f.files
@@ -216,7 +204,7 @@ local_least limits sources = record {
       let same = one_order sources g.files pass.0 g.by_name pass.2.by_name in
       let all : AllZip (SourceDescribes limits) g.files pass.1 =
       subst (λ (xs : List Source). AllZip (SourceDescribes limits) xs pass.1) (sym same) pass.2.each in
-      none_local limits g.files pass.1 g.at g.source g.step g.place g.what all g.stands g.fault);
+      no_fault_in limits g.files pass.1 g.at g.source g.step g.place g.what all g.stands g.fault);
 }
 
 -- ---- imports

@@ -17,7 +17,7 @@ use Rattle.proto_names.proofs.Built.{below_from}
 use Rattle.proto_names.specs.Index.{Index}
 use Rattle.proto_names.specs.Occurrences.{IsFirstTwice, IsTwice, NoneTwice, Occurrence, occurrences}
 use Rattle.wire_bytes.specs.Descriptor.{file_desc_bytes}
-use Rattle.proto_compile.specs.Analysed.{AreResolved, AreTypedFrom, IsAnalysed, TypesBreakAt}
+use Rattle.proto_compile.specs.Analysed.{AreResolved, AreTypedFrom, IsAnalysed, TypesAt, TypesBreakAt}
 use Rattle.proto_compile.specs.Compilation.{IsShort}
 use Rattle.proto_compile.specs.Descriptions.{Describe}
 use Rattle.proto_compile.specs.FaultSet.{IsNoLater, found_as}
@@ -27,7 +27,7 @@ use Rattle.proto_compile.proofs.Checks.{Told, told}
 use Rattle.proto_compile.proofs.FaultOrder.{same_later}
 use Rattle.proto_compile.proofs.LateChecks.{length_check, many_check, many_exact, set_check, set_exact, twice_check, type_check}
 use Rattle.proto_compile.proofs.LeastEarly.{Least, later_by_file}
-use Rattle.proto_compile.proofs.Making.{typed_length}
+use Rattle.proto_compile.proofs.Judging.{zip_length}
 use Rattle.proto_compile.proofs.OneCompilation.{IsFirstLong}
 use Rattle.proto_compile.proofs.OneTyping.{AllSeeAlike, IsFirstBreak, analysed_alike, analysed_moved, break_moved, no_break, one_description, one_resolved, standing_in, standing_one}
 use Rattle.proto_compile.proofs.Writing.{typed_names}
@@ -208,7 +208,7 @@ length_least limits sources = record {
       let same : g.typed ≡ f.typed = (one_resolved limits sources g.files f.files g.typed f.typed g.links f.links g.index f.index g.resolved f.resolved).1 in
       let stands : StandsDesc f.typed g.at g.desc = subst (λ (ds : List FileDesc). StandsDesc ds g.at g.desc) same g.stands in
       let names = typed_names f.links f.index 0 f.resolved.descs f.typed f.resolved.each in
-      let size = typed_length f.links f.index 0 f.resolved.descs f.typed f.resolved.each in
+      let size = zip_length (TypesAt f.links f.index) 0 f.resolved.descs f.typed f.resolved.each in
       let below = stands.0 in
       let later = later_by_file limits sources f.files f.resolved.descs 5 f.at g.at start start kind.DescriptorTooLong kind.DescriptorTooLong
       f.resolved.analysed.described (omega (arith, below, size)) (long_order limits f.typed f.at g.at g.desc f.first stands g.over) in

@@ -1,5 +1,5 @@
 -- What sources are compiled to.
-use Rattle.std.proofs.Common.{◌≡◌, ◌∙◌, sym, ap, refl, inl, inr, Bool, false, ℕ, suc, ◌+◌, ◌<◌, ◌≤◌, List, [], ◌∷◌, map, length, arith, All}
+use Rattle.std.proofs.Common.{◌≡◌, ◌∙◌, sym, ap, subst, refl, inl, inr, Bool, false, ℕ, ◌<◌, ◌≤◌, List, map, length, arith, All}
 use Rattle.std.specs.List.{AllZip}
 use Rattle.std.specs.Prelude.{◌↔◌, Contains, IsPermutation, IsTrue, Vec}
 use Rattle.std.specs.declared.alloc.Global.{Global}
@@ -12,12 +12,13 @@ use Rattle.proto_base.specs.Limits.{limit_of}
 use Rattle.proto_base.specs.declared.limits.Limit.TheVariants as limit
 use Rattle.proto_base.specs.declared.limits.Limits.{Limits}
 use Rattle.wire_bytes.specs.Descriptor.{file_desc_bytes}
-use Rattle.proto_compile.specs.Analysed.{AreResolved, AreTypedFrom, IsAnalysed}
+use Rattle.proto_compile.specs.Analysed.{AreResolved, AreTypedFrom, TypesAt}
 use Rattle.proto_compile.specs.Compilation.{Compilation, CompiledFile, IsShort, IsSound, IsWritten, file_bytes, file_name, set_of}
 use Rattle.proto_compile.specs.Descriptions.{SourceDescribes}
 use Rattle.proto_compile.specs.Sources.{AreByName, name_of}
 use Rattle.proto_compile.specs.Steps.{items_of}
 use Rattle.proto_compile.specs.declared.source.Source.{Source}
+use Rattle.proto_compile.proofs.Judging.{zip_length}
 use Rattle.proto_compile.proofs.Rising.{named_once}
 use Rattle.proto_compile.proofs.Serving.{index_few, index_short}
 use Rattle.proto_compile.proofs.Zipping.{same_length}
@@ -25,27 +26,24 @@ use Rattle.proto_compile.proofs.Zipping.{same_length}
 abbrev pub compilation : Limits → List CompiledFile → Linked → Index → Compilation
 compilation limits files links index = record { files = files; links = links; index = index; limits = limits }
 
--- what the passes up to names find, and those up to types
-pub analysed_of : (limits : Limits) (sources sorted : List Source) (descs : List FileDesc) (links : Linked) (index : Index)
-    → length sources ≤ limit_of limits limit.Files → AreByName sources sorted → AllZip (SourceDescribes limits) sorted descs
-    → AreLinked descs links → Indexes descs limits index → IsAnalysed limits sources sorted descs links index
-analysed_of limits sources sorted descs links index few order each linked indexed =
-    record { described = record { few = few; by_name = order; each = each }; linked = linked; indexed = indexed }
-
-pub resolved_of : (limits : Limits) (sources sorted : List Source) (descs typed : List FileDesc) (links : Linked) (index : Index)
-    → IsAnalysed limits sources sorted descs links index → AreTypedFrom links index 0 descs typed → AreResolved limits sources sorted typed links index
-resolved_of limits sources sorted descs typed links index analysed each = record { descs = descs; analysed = analysed; each = each }
+-- what the passes up to types find, where each of them takes what the one before gave
+pub resolved_of : {limits : Limits} {sources sorted files : List Source} {descs links_descs index_descs typed : List FileDesc} {links : Linked} {index : Index}
+    → length sources ≤ limit_of limits limit.Files → AreByName sources sorted → files ≡ sorted → AllZip (SourceDescribes limits) files descs
+    → links_descs ≡ descs → AreLinked links_descs links → index_descs ≡ descs → Indexes index_descs limits index → AreTypedFrom links index 0 descs typed
+    → AreResolved limits sources sorted typed links index
+resolved_of {limits = limits} {descs = descs} {links = links} {index = index} few order same_files each same_links linked same_index indexed typed = record {
+  descs = descs;
+  analysed = record {
+    described = record { few = few; by_name = order; each = subst (λ (fs : List Source). AllZip (SourceDescribes limits) fs descs) same_files each };
+    linked = subst (λ (ds : List FileDesc). AreLinked ds links) same_links linked;
+    indexed = subst (λ (ds : List FileDesc). Indexes ds limits index) same_index indexed;
+  };
+  each = typed;
+}
 
 -- one file for each source
 pub as_many : (sorted : List Source) (files : List CompiledFile) → map file_name files ≡ map name_of sorted → length files ≡ length sorted
 as_many sorted files names = let l = ap length names in let m = length-map files file_name in let k = length-map sorted name_of in omega (arith, l, m, k)
-
--- one typed descriptor for each
-pub typed_length : (links : Linked) (index : Index) (a : ℕ) (descs typed : List FileDesc) → AreTypedFrom links index a descs typed → length descs ≡ length typed
-typed_length links index a [] [] all = refl
-typed_length links index a [] (g ∷ gs) all = absurd all
-typed_length links index a (f ∷ fs) [] all = absurd all
-typed_length links index a (f ∷ fs) (g ∷ gs) all = ap suc (typed_length links index (a + 1) fs gs all.1)
 
 -- what links and the index count, and what set order has
 pub counts : (limits : Limits) (sources sorted : List Source) (descs : List FileDesc) (links : Linked) (index : Index) (files : List CompiledFile)
@@ -63,12 +61,20 @@ counts limits sources sorted descs links index files resolved names =
           omega (arith, size, many, below),
     )
 
-pub written : (limits : Limits) (sources sorted : List Source) (descs : List FileDesc) (links : Linked) (index : Index) (files : List CompiledFile)
-    → AreResolved limits sources sorted descs links index → All (IsShort limits) descs
-    → map file_name files ≡ map name_of sorted → map file_bytes files ≡ map file_desc_bytes descs
+-- what is written of them, where the last passes take what those gave
+pub written_of : {limits : Limits} {sources sorted named : List Source} {descs typed : List FileDesc} {links : Linked} {index : Index}
+    {texts : List (List ℕ)} {files : List CompiledFile} → AreResolved limits sources sorted typed links index → descs ≡ typed → All (IsShort limits) descs
+    → texts ≡ map file_desc_bytes descs → named ≡ sorted → map file_name files ≡ map name_of named → map file_bytes files ≡ texts
     → IsWritten limits sources (compilation limits files links index)
-written limits sources sorted descs links index files resolved short names bytes =
-    record { sorted = sorted; descs = descs; resolved = resolved; short = short; names = names; bytes = bytes; same_limits = refl }
+written_of {limits = limits} {sorted = sorted} {typed = typed} resolved same_descs short bytes same_names names same_bytes = record {
+  sorted = sorted;
+  descs = typed;
+  resolved = resolved;
+  short = subst (All (IsShort limits)) same_descs short;
+  names = names ∙ ap (map name_of) same_names;
+  bytes = same_bytes ∙ bytes ∙ ap (map file_desc_bytes) same_descs;
+  same_limits = refl;
+}
 
 pub sound : (limits : Limits) (sources : List Source) (files : List CompiledFile) (links : Linked) (index : Index)
     → IsWritten limits sources (compilation limits files links index) → IsPermutation (services_of index.occurrences) index.services
@@ -91,7 +97,7 @@ pub written_length : (limits : Limits) (sources sorted : List Source) (descs : L
     → AreResolved limits sources sorted descs links index → map items_of all ≡ map file_desc_bytes descs → length sorted ≡ length all
 written_length limits sources sorted descs links index all resolved bytes =
     let size = same_length limits sorted resolved.descs resolved.analysed.described.each in
-    let typed = typed_length links index 0 resolved.descs descs resolved.each in
+    let typed = zip_length (TypesAt links index) 0 resolved.descs descs resolved.each in
     let l = ap length bytes in
     let m = length-map all items_of in
     let k = length-map descs file_desc_bytes in

@@ -19,15 +19,12 @@ use Rattle.proto_compile.specs.Faults.{StandsDesc}
 use Rattle.proto_compile.specs.Sources.{name_of}
 use Rattle.proto_compile.specs.declared.source.Source.{Source}
 use Rattle.proto_compile.proofs.OneTyping.{analysed_moved, one_description, one_resolved, standing_in}
+use Rattle.proto_compile.proofs.Rising.{entry}
 
 -- ---- files
 
-made : List ℕ → List ℕ → CompiledFile
-made name bytes = record { name = name; bytes = bytes }
-
 one_file : (f g : CompiledFile) → file_name f ≡ file_name g → file_bytes f ≡ file_bytes g → f ≡ g
-unfolding made
-one_file f g name bytes = ap (λ n. made n (file_bytes f)) name ∙ ap (λ b. made (file_name g) b) bytes
+one_file f g name bytes = ap (λ n. entry n (file_bytes f)) name ∙ ap (λ b. entry (file_name g) b) bytes
 
 one_list : (fs gs : List CompiledFile) → map file_name fs ≡ map file_name gs → map file_bytes fs ≡ map file_bytes gs → fs ≡ gs
 one_list [] [] names bytes = refl

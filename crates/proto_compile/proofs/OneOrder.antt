@@ -20,7 +20,7 @@ use Rattle.proto_compile.proofs.Sorting.{name_is}
 abbrev IsNameBefore : Source → Source → Type 0
 IsNameBefore a b = slice_cmp nat_cmp (name_of a) (name_of b) ≡ Less
 
-less_itself : (o : Ordering) → o ≡ Equal → o ≡ Less → ⊥
+pub less_itself : (o : Ordering) → o ≡ Equal → o ≡ Less → ⊥
 less_itself o same less = true≢false (sym (ap is_lt less) ∙ ap is_lt same)
 
 names_strict : IsStrict IsNameBefore
@@ -52,7 +52,7 @@ IsNoLater x y = slice_cmp nat_cmp x y ≢ Greater
 abbrev is_later : List ℕ → List ℕ → Bool
 is_later x y = is_gt (slice_cmp nat_cmp x y)
 
-not_later : (o : Ordering) → o ≢ Greater → is_gt o ≡ false
+pub not_later : (o : Ordering) → o ≢ Greater → is_gt o ≡ false
 not_later Less h = refl
 not_later Equal h = refl
 not_later Greater h = absurd (h refl)
@@ -144,7 +144,7 @@ one_repeated f g j k names first second = elim (cases_order j k) [
   | inr (inr more) ↦ absurd (first.first k more (pair_moved g f k (sym names) second.same))
 ]
 
-less_greater : (o : Ordering) → o ≡ Less → o ≢ Greater
+pub less_greater : (o : Ordering) → o ≡ Less → o ≢ Greater
 less_greater o less more = true≢false (sym (ap is_lt less) ∙ ap is_lt more)
 
 -- where names rise none is repeated

@@ -1,9 +1,9 @@
 -- First faults stand within the texts of their files.
-use Rattle.std.proofs.Common.{◌≡◌, ◌∙◌, sym, subst, ap, ◌⊎◌, inl, inr, ℕ, zero, suc, ◌+◌, ◌<◌, ◌≤◌, List, [], ◌∷◌, length, get_or, map, refl, arith}
+use Rattle.std.proofs.Common.{◌≡◌, ◌∙◌, sym, subst, ap, ◌⊎◌, inl, inr, ℕ, zero, suc, ◌+◌, ◌<◌, ◌≤◌, List, [], ◌∷◌, length, get_or, refl, arith}
 use Rattle.std.specs.Prelude.{Contains, IsPermutation, string_bytes}
 use Rattle.std.specs.List.{AllZip}
 use Rattle.std.proofs.lemmas.Bool.{cases_eq, cases_lt}
-use Rattle.std.proofs.lemmas.List.{get_or-map, get_or_default, length-map}
+use Rattle.std.proofs.lemmas.List.{get_or-map, get_or_default}
 use Rattle.std.proofs.lemmas.List.Elements.{Contains-append_cases}
 use Rattle.std.proofs.lemmas.List.Sorted.{Contains-permutation, IsPermutation-sym}
 use Rattle.proto_base.specs.declared.kind.Kind.{Kind}
@@ -14,15 +14,14 @@ use Rattle.proto_desc.specs.declared.file.FileDesc.{FileDesc}
 use Rattle.proto_desc.specs.declared.file.ImportDesc.{ImportDesc}
 use Rattle.proto_file.specs.Places.{AtMost}
 use Rattle.proto_links.specs.Imports as imports
-use Rattle.proto_links.specs.Linked.{Linked}
 use Rattle.proto_base.specs.Least.{spot}
 use Rattle.proto_base.specs.Sets.{StandsAt}
 use Rattle.proto_base.specs.declared.spot.Spot.{Spot}
 use Rattle.proto_file.proofs.Spots.{Placed, SpotWithin, at_spot, each_within, standing}
-use Rattle.proto_names.specs.Index.{Index, IsRepeated}
+use Rattle.proto_names.specs.Index.{IsRepeated}
 use Rattle.proto_names.specs.Occurrences.{Occurrence, occurrences_of, occurrences_from}
 use Rattle.proto_types.specs.References.{Reference, ReferenceBreaks, TypesBreak, references}
-use Rattle.proto_compile.specs.Analysed.{AreTypedFrom}
+use Rattle.proto_compile.specs.Analysed.{TypesAt}
 use Rattle.proto_compile.specs.Descriptions.{SourceDescribes}
 use Rattle.proto_compile.specs.Faults.{IsFirstFault, IsPlaced, IsRefusal, Stands, StandsDesc, start, too_many_files, file_name_twice, in_file, in_imports, too_many_names, name_twice, in_types, descriptor_too_long, set_too_long}
 use Rattle.proto_compile.specs.Sources.{AreByName, NamesRise, name_at, name_of, text_of}
@@ -31,9 +30,11 @@ use Rattle.proto_compile.specs.declared.error.CompileError.TheVariants as errors
 use Rattle.proto_compile.specs.declared.source.Source.{Source}
 use Rattle.proto_compile.proofs.DescPlaces.{OccurrenceAt, imports_at, occurrences_at, references_at}
 use Rattle.proto_file.proofs.LocalPlaces.{IsInside, fault_inside, place_inside, places_within}
+use Rattle.proto_compile.proofs.Judging.{zip_length}
 use Rattle.proto_compile.proofs.MessagePlaces.{OptionAt, ReferenceAt}
 use Rattle.proto_compile.proofs.Rising.{names_differ}
 use Rattle.proto_compile.proofs.Sorting.{name_of_item}
+use Rattle.proto_compile.proofs.Writing.{typed_names}
 use Rattle.proto_compile.proofs.Zipping.{bad_within, contains_second, same_length, same_names}
 
 -- ---- files by name
@@ -168,18 +169,6 @@ types_placed os Seen desc place kind broken n all =
     each_within (ReferenceAt n) (ReferenceBreaks os Seen) n (references desc) (spot place kind) (references_at n desc all)
     (reference_placed os Seen n (spot place kind)) broken
 
-typed_names : (links : Linked) (index : Index) (a : ℕ) (fs gs : List FileDesc) → AreTypedFrom links index a fs gs
-    → map imports.name_of gs ≡ map imports.name_of fs
-typed_names links index a [] [] all = refl
-typed_names links index a [] (g ∷ gs) all = absurd all
-typed_names links index a (f ∷ fs) [] all = absurd all
-typed_names links index a (f ∷ fs) (g ∷ gs) all =
-    ap (λ n. n ∷ map imports.name_of gs) (ap imports.name_of all.0.resolved.same)
-    ∙ ap (λ ns. imports.name_of f ∷ ns) (typed_names links index (a + 1) fs gs all.1)
-
-typed_length : (links : Linked) (index : Index) (a : ℕ) (fs gs : List FileDesc) → AreTypedFrom links index a fs gs → length gs ≡ length fs
-typed_length links index a fs gs all = sym (length-map gs imports.name_of) ∙ ap length (typed_names links index a fs gs all) ∙ length-map fs imports.name_of
-
 -- ---- all faults
 
 pub placed : (limits : Limits) (sources : List Source) (pass : ℕ) (file : List ℕ) (step : ℕ) (place : Place) (kind : Kind)
@@ -201,7 +190,7 @@ placed limits sources _ _ _ _ _ (descriptor_too_long files typed links index a d
     let described = resolved.analysed.described in
     let names = typed_names links index 0 resolved.descs typed resolved.each in
     let below : a < length files =
-    omega (arith, at.0, typed_length links index 0 resolved.descs typed resolved.each, same_length limits files resolved.descs described.each) in
+    omega (arith, at.0, zip_length (TypesAt links index) 0 resolved.descs typed resolved.each, same_length limits files resolved.descs described.each) in
     at_start_of limits sources files a (imports.name_at typed a) described.by_name.all below
     (same_name limits files resolved.descs described.each a ∙ ap (λ (ns : List (List ℕ)). get_or ns a []) (sym names))
 placed limits sources _ _ _ _ _ (set_too_long c written long) = at_start limits sources [] (inl refl)

@@ -3,7 +3,6 @@ use Rattle.std.proofs.Common.{◌≡◌, ◌∙◌, ap, sym, subst, ℕ, ◌≤�
 use Rattle.std.specs.Prelude.{flat_map}
 use Rattle.std.specs.List.{AllByRecursion}
 use Rattle.std.specs.Str.{byte}
-use Rattle.std.proofs.lemmas.List.Folds.{flat_map-map}
 use Rattle.proto_base.specs.declared.kind.Kind.TheVariants as kind
 use Rattle.proto_base.specs.declared.limits.Limits.{Limits}
 use Rattle.proto_base.specs.declared.place.Span.{Span}
@@ -18,7 +17,7 @@ use Rattle.proto_tree.specs.declared.message.MessageItem.{MessageItem, MessageIt
 use Rattle.proto_tree.specs.declared.message.MessageItem.TheOpen as opened
 use Rattle.proto_tree.specs.declared.message.MessageItem.TheVariants as of
 use Rattle.proto_syntax.proofs.Items.{item_message}
-use Rattle.proto_desc.specs.DeclaredNames.{Declared, scoped, declared_field, declared_oneof, declared_value, declared_by_enum, declared_step, declared_by_message, declared_method, declared_by_service, file_scope, declared_by}
+use Rattle.proto_desc.specs.DeclaredNames.{Declared, scoped, declared_field, declared_oneof, declared_value, declared_by_enum, declared_by_message, declared_method, declared_by_service, file_scope, declared_by}
 use Rattle.proto_lower.specs.Files.{lowered}
 use Rattle.proto_lower.specs.Options.{file_setting}
 use Rattle.proto_desc.specs.Places.{field_places, oneof_place, value_place, enum_places, message_places, method_places, service_places, package_places, import_place, places_of}
@@ -26,8 +25,8 @@ use Rattle.proto_desc.specs.declared.enumeration.EnumDesc.{EnumDesc}
 use Rattle.proto_desc.specs.declared.field.FieldDesc.{FieldDesc}
 use Rattle.proto_desc.specs.declared.file.FileDesc.{FileDesc}
 use Rattle.proto_desc.specs.declared.message.MessageDesc.{MessageDesc, MessageDesc-F}
-use Rattle.proto_desc.specs.declared.message.MessageDesc.TheFolds.{fold_out-MessageDesc, map-MessageDesc, ind-MessageDesc}
-use Rattle.proto_desc.specs.declared.message.MessageDesc.TheViews.{out-MessageDesc, roll-MessageDesc, out-roll-MessageDesc}
+use Rattle.proto_desc.specs.declared.message.MessageDesc.TheFolds.{map-MessageDesc, ind-MessageDesc}
+use Rattle.proto_desc.specs.declared.message.MessageDesc.TheViews.{roll-MessageDesc, out-roll-MessageDesc}
 use Rattle.proto_desc.specs.declared.name_kind.NameKind.TheVariants as name_kind
 use Rattle.proto_desc.specs.declared.oneof.OneofDesc.{OneofDesc}
 use Rattle.proto_desc.specs.declared.rules.Element.TheVariants as element
@@ -35,11 +34,13 @@ use Rattle.proto_desc.specs.declared.service.MethodDesc.{MethodDesc}
 use Rattle.proto_desc.specs.declared.service.ServiceDesc.{ServiceDesc}
 use Rattle.proto_file.specs.Places.{AtMost}
 use Rattle.proto_file.proofs.PlacesWithin.{Within, front, rest, both, left_of, right_of, each_row, each_map, each_weaker, ItemWithin, places_out, lowered_within}
-use Rattle.proto_checks.specs.Checks.{FileBreaks, package_in, body_in, enum_in, service_in, import_mark, IsTooLong, IsPartTooLong, PackageTooLong, parts_of, json_mark, field_mark, value_mark, EnumNamesBreak, MessageNames, MessageNamesBreak, names_step, names_of}
+use Rattle.proto_checks.specs.Checks.{FileBreaks, package_in, body_in, enum_in, service_in, import_mark, IsTooLong, IsPartTooLong, PackageTooLong, parts_of, json_mark, field_mark, value_mark, EnumNamesBreak, MessageNames, MessageNamesBreak, names_of}
 use Rattle.proto_checks.specs.Elements.{BodyBreaks, EnumBreaks, ServiceBreaks, bodies, bodies_of}
 use Rattle.proto_checks.specs.Marks.{Marked}
 use Rattle.proto_base.specs.declared.spot.Spot.{Spot}
 use Rattle.proto_checks.proofs.Items.{nested_bodies}
+use Rattle.proto_checks.proofs.Named.{names_out}
+use Rattle.proto_desc.proofs.Declared.{declared_out}
 use Rattle.proto_file.proofs.Spots.{Placed, SpotWithin, at_spot, each_within, later_within, TextsWithin, text_twice, name_used}
 use Rattle.proto_file.proofs.Within.{given, SettingWithin, statement_within, settings_break, ItemsWithin, enum_breaks, body_breaks, service_breaks}
 
@@ -109,11 +110,11 @@ bodies_within n = ind-Message (ItemBodies n) (MessageBodies n) (bodies_item_step
 marks_within : {X : Type 0} (n : ℕ) (mark : X → Marked) (xs : List X) → AllByRecursion (λ x. Placed n (mark x).place) xs → TextsWithin n (map mark xs)
 marks_within n mark xs all = each_map (λ (t : Marked). Placed n t.place) mark xs all
 
-each_place : {X : Type 0} (n : ℕ) (place : X → ℕ) (xs : List X) → AtMost n (map place xs) → AllByRecursion (λ x. place x ≤ n) xs
+pub each_place : {X : Type 0} (n : ℕ) (place : X → ℕ) (xs : List X) → AtMost n (map place xs) → AllByRecursion (λ x. place x ≤ n) xs
 each_place n place [] all = tt
 each_place n place (x ∷ xs) all = (all.0, each_place n place xs all.1)
 
-each_places : {X : Type 0} (n : ℕ) (places : X → List ℕ) (xs : List X) → AtMost n (flat_map places xs) → AllByRecursion (λ x. AtMost n (places x)) xs
+pub each_places : {X : Type 0} (n : ℕ) (places : X → List ℕ) (xs : List X) → AtMost n (flat_map places xs) → AllByRecursion (λ x. AtMost n (places x)) xs
 each_places n places [] all = tt
 each_places n places (x ∷ xs) all =
     (front (λ p. p ≤ n) (places x) (flat_map places xs) all, each_places n places xs (rest (λ p. p ≤ n) (places x) (flat_map places xs) all))
@@ -170,31 +171,12 @@ own_at n m all =
 abbrev DescAt : ℕ → MessageDesc → Type 0
 DescAt n m = AtMost n (message_places m) → AllByRecursion (NamesAt n) (names_of m) × ((scope : List ℕ) → DeclaredAt n (declared_by_message m scope))
 
-names_out : (m : MessageDesc) → names_of m ≡ record {
-  fields = (out-MessageDesc m).fields;
-  reserved_names = (out-MessageDesc m).reserved_names;
-  enums =
-      (out-MessageDesc m).enums;
-} ∷ flat_map names_of (out-MessageDesc m).nested
-names_out m = fold_out-MessageDesc (List MessageNames) names_step m
-    ∙ ap (λ xs. record { fields = (out-MessageDesc m).fields; reserved_names = (out-MessageDesc m).reserved_names; enums = (out-MessageDesc m).enums } ∷ xs)
-    (flat_map-map (λ (names : List MessageNames). names) names_of (out-MessageDesc m).nested)
-
 abbrev declared_own : List ℕ → MessageDesc-F MessageDesc → List Declared
 declared_own scope m =
     record { scope = scope; name = m.name; kind = name_kind.Message; place = m.place }
     ∷ (map (declared_field (scoped scope m.name)) m.fields ++ map (declared_oneof (scoped scope m.name)) m.oneofs
     ++ flat_map (declared_by_enum (scoped scope m.name)) m.enums
     ++ flat_map (λ nested. declared_by_message nested (scoped scope m.name)) m.nested)
-
-declared_out : (m : MessageDesc) (scope : List ℕ) → declared_by_message m scope ≡ declared_own scope (out-MessageDesc m)
-declared_out m scope =
-    ap (λ (g : List ℕ → List Declared). g scope) (fold_out-MessageDesc (List ℕ → List Declared) declared_step m)
-    ∙ ap (λ xs. record { scope = scope; name = (out-MessageDesc m).name; kind = name_kind.Message; place = (out-MessageDesc m).place }
-    ∷ (map (declared_field (scoped scope (out-MessageDesc m).name)) (out-MessageDesc m).fields
-    ++ map (declared_oneof (scoped scope (out-MessageDesc m).name)) (out-MessageDesc m).oneofs
-    ++ flat_map (declared_by_enum (scoped scope (out-MessageDesc m).name)) (out-MessageDesc m).enums ++ xs))
-    (flat_map-map (λ (g : List ℕ → List Declared). g (scoped scope (out-MessageDesc m).name)) declared_by_message (out-MessageDesc m).nested)
 
 abbrev Known : ℕ → Type 0
 Known n = (m : MessageDesc) × DescAt n m

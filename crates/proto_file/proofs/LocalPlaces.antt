@@ -6,10 +6,9 @@ use Rattle.std.specs.List.{starts_with}
 use Rattle.std.proofs.lemmas.List.{length-take}
 use Rattle.std.proofs.lemmas.Str.{utf8_valid_len_le}
 use Rattle.proto_base.specs.Limits.{limit_of}
-use Rattle.proto_tokens.specs.Piece.{IsPieceFault}
-use Rattle.proto_tokens.specs.Quoted.{IsStringFault}
 use Rattle.proto_tokens.specs.Spelling.{Piece, IsCutIntoPieces, IsFault, IsTokenList, mark_len, token_before, tokens_from}
 use Rattle.proto_tokens.specs.Token.{Spelled}
+use Rattle.proto_tokens.proofs.CutLemmas.{cut_within, piece_fault_within}
 use Rattle.proto_base.specs.declared.kind.Kind.{Kind}
 use Rattle.proto_base.specs.declared.limits.Limit.TheVariants as limit
 use Rattle.proto_base.specs.declared.limits.Limits.{Limits}
@@ -64,27 +63,6 @@ mark_within s = by (starts_with nat_eq s mark) refl
     by : (b : Bool) → b ≡ starts_with nat_eq s mark → (if b then 3 else 0) ≤ length s
     by true e = omega (arith, ap length (same_text mark (take 3 s) e), length-take 3 s)
     by false e = omega arith
-
-cut_within : (s : List ℕ) (from : ℕ) (ps : List Piece) (to : ℕ) → from ≤ length s → IsCutIntoPieces s from ps to → to ≤ length s
-cut_within s from [] to within cut = omega (arith, cut)
-cut_within s from (p ∷ ps) to within cut = cut_within s (from + p.len) ps to (omega (arith, cut.0.fits, length-drop from s)) cut.1
-
-string_fault_within : (s : List ℕ) (at : ℕ) (kind : Kind) → IsStringFault s at kind → at ≤ length s
-string_fault_within s at kind (quote, after, parts, end, opened, fault) =
-    let len : length s ≡ suc (length after) = ap length opened.begins_so in
-    elim fault [
-      | inl escape ↦ omega (arith, len, escape.1, escape.2.0)
-      | inr (inl value) ↦ omega (arith, value.1)
-      | inr (inr (inl zero_byte)) ↦ omega (arith, len, zero_byte.1, zero_byte.2.0)
-      | inr (inr (inr unclosed)) ↦ omega (arith, unclosed.1)
-    ]
-
-piece_fault_within : (s : List ℕ) (at : ℕ) (kind : Kind) → IsPieceFault s at kind → at ≤ length s
-piece_fault_within s at kind (inl bad) = omega (arith, bad.1)
-piece_fault_within s at kind (inr (inl bad)) = omega (arith, bad.1)
-piece_fault_within s at kind (inr (inr (inl big))) = omega (arith, big.1)
-piece_fault_within s at kind (inr (inr (inr (inl unclosed)))) = omega (arith, unclosed.1)
-piece_fault_within s at kind (inr (inr (inr (inr fault)))) = string_fault_within s at kind fault
 
 token_fault_within : (bytes : ℕ) (s : List ℕ) (place : ℕ) (kind : Kind) → IsFault bytes s place kind → place ≤ length s
 token_fault_within bytes s place kind (inl long) = omega (arith, long.1)

@@ -1,12 +1,13 @@
 -- What is wrong with imports, and which of it comes first.
 use Rattle.std.proofs.Common.{◌≡◌, ◌∙◌, sym, ℕ, ◌+◌, ◌<◌, ◌≤◌, List, [], ◌∷◌, ◌++◌, length, ap, refl, subst, arith, inl, inr, ◌⊎◌, Vec, Global}
-use Rattle.std.specs.Prelude.{Bool, Option, Some, None, IfSome, Contains, ◌↔◌}
+use Rattle.std.specs.Prelude.{Bool, Option, Some, None, IfSome, ◌↔◌}
 use Rattle.std.proofs.lemmas.Bool.{cases_lt, cases_eq}
 use Rattle.std.proofs.lemmas.List.Elements.{Contains-push, Contains-push_cases, Contains-append_left}
 use Rattle.digraph.specs.Edges.{Graph, Edge, IsWithin, graph_of}
 use Rattle.digraph.specs.Marks.{IsMarked}
 use Rattle.digraph.specs.Leads.{Leads}
 use Rattle.digraph.proofs.Rows.{edge_below}
+use Rattle.digraph.proofs.Visiting.{no_position}
 use Rattle.digraph.proofs.Ways.{leads_map, leads_turned}
 use Rattle.proto_desc.specs.declared.file.FileDesc.{FileDesc}
 use Rattle.proto_desc.specs.declared.file.ImportDesc.{ImportDesc}
@@ -17,7 +18,8 @@ use Rattle.proto_base.specs.declared.place.Place.{Place}
 use Rattle.proto_links.specs.Graphs.{IsGraph, NoLaterThan, Bounds, IsLesser, IsWrongIn, IsFirstWrong}
 use Rattle.proto_links.specs.Imports.{AreInNameOrder, IsNamed, Imports, Reaches, IsWrong, missing, cyclic, IsBad, IsFirstBad, IsNoLater, NoneBad, imports_at}
 use Rattle.proto_links.specs.declared.faults.Wrong.{Wrong}
-use Rattle.proto_links.proofs.Named.{named_once, no_position}
+use Rattle.proto_links.proofs.Named.{named_once}
+use Rattle.proto_links.proofs.Rising.{none_in}
 use Rattle.proto_links.proofs.Targeting.{importer_inside}
 
 -- ---- one import
@@ -45,9 +47,6 @@ no_fault files a i t order n out _ (missing none) = none t n
 no_fault files a i t order n out _ (cyclic b m r) = out (subst (λ x. Reaches files x a) (named_once files i.path order b t m n) r)
 
 -- ---- the imports of a file
-
-none_in : {X : Type 0} (x : X) → Contains {X = X} [] x → ⊥
-none_in x w = no_position w.0 w.1
 
 pub first_none : (files : List FileDesc) (a : ℕ) → IsFirstWrong files a [] None
 first_none files a = record { found = tt; least = λ x w. absurd (none_in w.0 w.1) }

@@ -1,5 +1,6 @@
 mod Faulting
 mod Named
+pub mod NameRows
 mod Positions
 mod Reaching
 pub mod Rising

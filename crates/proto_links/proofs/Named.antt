@@ -1,6 +1,6 @@
 -- Laws of files in the order of their names.
-use Rattle.std.proofs.Common.{◌≡◌, ◌≢◌, ◌∙◌, sym, ℕ, zero, suc, ◌+◌, ◌-◌, ◌<◌, ◌≤◌, List, [], ◌∷◌, length, get_or, ap, refl, subst, arith, inl, inr, ◌⊎◌, Ordering, Less, Equal, Greater}
-use Rattle.std.specs.Prelude.{Bool, true, false, ◌↔◌}
+use Rattle.std.proofs.Common.{◌≡◌, ◌≢◌, ◌∙◌, sym, ℕ, suc, ◌+◌, ◌-◌, ◌<◌, ◌≤◌, List, [], ◌∷◌, length, get_or, ap, subst, arith, inl, inr, ◌⊎◌, Ordering, Less, Equal, Greater}
+use Rattle.std.specs.Prelude.{false, ◌↔◌}
 use Rattle.std.specs.Cmp.Lexicographic.{slice_cmp}
 use Rattle.std.specs.List.Sorted.{IsSortedByKey}
 use Rattle.std.specs.Ordering.{nat_cmp, ordering_reverse, is_lt}
@@ -8,34 +8,16 @@ use Rattle.std.proofs.lemmas.Bool.{cases_eq, cases_lt}
 use Rattle.std.proofs.lemmas.Cmp.{nat_list_cmp_total}
 use Rattle.std.proofs.lemmas.Map.Lookups.{exact_bytes}
 use Rattle.std.proofs.lemmas.List.{get_or-map}
+use Rattle.digraph.proofs.Visiting.{no_position}
 use Rattle.proto_desc.specs.declared.file.FileDesc.{FileDesc}
 use Rattle.proto_links.specs.Imports.{name_of, name_at, AreInNameOrder, IsNamed}
-
-pub no_position : (k : ℕ) → k < 0 → ⊥
-no_position k h = omega arith
-
-less_itself : (o : Ordering) → o ≡ ordering_reverse o → o ≡ Less → ⊥
-less_itself Less h k = cc
-less_itself Equal h k = cc
-less_itself Greater h k = cc
-
-not_less_itself : (xs : List ℕ) → slice_cmp nat_cmp xs xs ≡ Less → ⊥
-not_less_itself xs = less_itself (slice_cmp nat_cmp xs xs) (nat_list_cmp_total.antisymm xs xs)
+use Rattle.proto_links.proofs.NameRows.{equal_itself, far_apart, less_not_equal, not_less_itself}
 
 -- names at a distance
-names_by : (files : List FileDesc) → AreInNameOrder files → (i d : ℕ) → i + suc d < length files
-    → slice_cmp nat_cmp (name_at files i) (name_at files (i + suc d)) ≡ Less
-names_by files order i zero h = order i h
-names_by files order i (suc d) h =
-    let step : slice_cmp nat_cmp (name_at files (i + suc d)) (name_at files (i + suc d + 1)) ≡ Less = order (i + suc d) (omega arith) in
-    let at : i + suc d + 1 ≡ i + suc (suc d) = omega arith in
-    subst (λ k. slice_cmp nat_cmp (name_at files i) (name_at files k) ≡ Less) at
-    (nat_list_cmp_total.trans (name_at files i) (name_at files (i + suc d)) (name_at files (i + suc d + 1)) (names_by files order i d (omega arith)) step)
-
 names_far : (files : List FileDesc) → AreInNameOrder files → (i j : ℕ) → i < j → j < length files → slice_cmp nat_cmp (name_at files i) (name_at files j) ≡ Less
 names_far files order i j h inside =
     let split : i + suc (j - i - 1) ≡ j = omega arith in
-    subst (λ k. slice_cmp nat_cmp (name_at files i) (name_at files k) ≡ Less) split (names_by files order i (j - i - 1) (omega arith))
+    subst (λ k. slice_cmp nat_cmp (name_at files i) (name_at files k) ≡ Less) split (far_apart (name_at files) (length files) order i (j - i - 1) (omega arith))
 
 names_differ : (files : List FileDesc) → AreInNameOrder files → (i j : ℕ) → i < j → j < length files → name_at files i ≢ name_at files j
 names_differ files order i j h inside e =
@@ -99,9 +81,6 @@ last_pair files n some h order =
     let at : n - 1 + 1 ≡ n = omega arith in
     subst (λ k. slice_cmp nat_cmp (name_at files (n - 1)) (name_at files k) ≡ Less) at (order (n - 1) (omega arith))
 
-pub not_true : (b : Bool) → b ≡ false → b ≡ true → ⊥
-not_true b h k = cc
-
 -- ---- what a search finds
 
 pub found_name : (files : List FileDesc) (k : ℕ) (name : List ℕ) → k < length files
@@ -109,19 +88,8 @@ pub found_name : (files : List FileDesc) (k : ℕ) (name : List ℕ) → k < len
 found_name [] k name h found = absurd (no_position k h)
 found_name (f ∷ fs) k name h found = (h, name_is (f ∷ fs) k f h ∙ exact_bytes _ _ (found f))
 
-reverse_same : (o : Ordering) → o ≡ ordering_reverse o → o ≡ Equal
-reverse_same Less h = cc
-reverse_same Equal h = refl
-reverse_same Greater h = cc
-
-less_not_equal : (o : Ordering) → o ≡ Less → o ≡ Equal → ⊥
-less_not_equal o h k = cc
-
 greater_not_equal : (o : Ordering) → o ≡ Greater → o ≡ Equal → ⊥
 greater_not_equal o h k = cc
-
-equal_itself : (xs ys : List ℕ) → xs ≡ ys → slice_cmp nat_cmp xs ys ≡ Equal
-equal_itself xs ys e = subst (λ zs. slice_cmp nat_cmp xs zs ≡ Equal) e (reverse_same _ (nat_list_cmp_total.antisymm xs xs))
 
 pub no_name : (files : List FileDesc) (at : ℕ) (name : List ℕ)
     → ((k : ℕ) (d : FileDesc) → 0 ≤ k → k < at → slice_cmp nat_cmp (name_of (get_or files k d)) name ≡ Less)

@@ -1,15 +1,13 @@
 -- What a search among rising numbers answers.
 use Rattle.std.proofs.Common.{◌≡◌, sym, ℕ, ◌<◌, ◌≤◌, List, length, get_or, ap, refl, arith, inl, inr}
-use Rattle.std.specs.Prelude.{Bool, true, false, Contains, Result, Ok, Err, MatchResult}
+use Rattle.std.specs.Prelude.{Contains, Result, Ok, Err, MatchResult}
 use Rattle.std.specs.Cmp.{nat_eq_equiv}
-use Rattle.std.specs.List.{list_any}
 use Rattle.std.specs.List.Sorted.{IsStrictlyIncreasing, IsBinarySearchResult}
 use Rattle.std.specs.Ordering.{nat_cmp}
 use Rattle.std.specs.Result.{is_ok}
-use Rattle.std.proofs.lemmas.Bool.{cases_lt, cases_eq, eqb-true}
+use Rattle.std.proofs.lemmas.Bool.{cases_lt, cases_eq, eqb-true, false_from_ne_true}
 use Rattle.std.proofs.lemmas.List.Sorted.{searched}
 use Rattle.std.proofs.lemmas.Map.Views.{Contains-from_any, list_any-from_Contains}
-use lib.Dec.{eqb}
 use Rattle.digraph.proofs.Marking.{among_all}
 use Rattle.digraph.proofs.Rising.{rises_far}
 use Rattle.proto_links.specs.Linked.{has}
@@ -19,10 +17,6 @@ no_fall xs up i j h inside = elim (cases_eq i j) [
   | inl same ↦ (let e = ap (λ k. get_or xs k 0) same in omega (arith, e))
   | inr other ↦ (let less = rises_far xs up i j (omega (arith, h, other)) inside in omega (arith, less))
 ]
-
-not_any : (xs : List ℕ) (x : ℕ) (b : Bool) → list_any (eqb x) xs ≡ b → (Contains xs x → ⊥) → list_any (eqb x) xs ≡ false
-not_any xs x false e out = e
-not_any xs x true e out = absurd (out (Contains-from_any (λ a b h. eqb-true a b h) x xs e))
 
 absent : (xs : List ℕ) (x i : ℕ) → ((k : ℕ) → k < i → get_or xs k 0 < x) → ((k : ℕ) → i ≤ k → k < length xs → x < get_or xs k 0) → Contains xs x → ⊥
 absent xs x i left right w =
@@ -35,7 +29,7 @@ absent xs x i left right w =
 answer : (xs : List ℕ) (x : ℕ) (r : Result ℕ ℕ) → MatchResult r (λ i. (i < length xs) × (get_or xs i 0 ≡ x))
     (λ i. (i ≤ length xs) × ((k : ℕ) → k < i → get_or xs k 0 < x) × ((k : ℕ) → i ≤ k → k < length xs → x < get_or xs k 0)) → is_ok r ≡ has x xs
 answer xs x (Ok i) (h, is) = sym (list_any-from_Contains nat_eq_equiv x xs ((among_all xs (length xs) x refl).1 (i, h, is)))
-answer xs x (Err i) (h, left, right) = sym (not_any xs x (list_any (eqb x) xs) refl (absent xs x i left right))
+answer xs x (Err i) (h, left, right) = sym (false_from_ne_true (has x xs) (λ e. absent xs x i left right (Contains-from_any eqb-true x xs e)))
 
 pub search_is : (xs : List ℕ) (x : ℕ) (r : Result ℕ ℕ) → IsStrictlyIncreasing xs → IsBinarySearchResult (λ y. nat_cmp y x) xs r → is_ok r ≡ has x xs
 search_is xs x r up found = answer xs x r (searched xs x r found (no_fall xs up))

@@ -14,6 +14,7 @@ use Rattle.proto_desc.specs.declared.file.ImportDesc.{ImportDesc}
 use Rattle.proto_links.specs.Graphs.{HasMissing, IsGraph, IsPublicGraph}
 use Rattle.proto_links.specs.Imports.{imports_of, imports_at, AreInNameOrder, IsNamed, Targets, PublicTargets, Imports, ImportsPublicly}
 use Rattle.proto_links.proofs.Named.{named_once}
+use Rattle.proto_links.proofs.Rising.{none_in}
 
 iff : {A B C : Type 0} → A ↔ B → B ↔ C → A ↔ C
 iff f h = (λ a. h.0 (f.0 a), λ c. f.1 (h.1 c))
@@ -60,9 +61,6 @@ pub record Targeting (files : List FileDesc) (xs : List ImportDesc) (all public 
   pub public_are : (b : ℕ) → Contains public b ↔ PublicTargets files xs b
   pub found : IsTrue whole → HasMissing files xs → ⊥
   pub lacking : whole ≡ false → HasMissing files xs
-
-none_in : {X : Type 0} (x : X) → Contains {X = X} [] x → ⊥
-none_in x w = no_position w.0 w.1
 
 pub targeting_none : (files : List FileDesc) (all public : List ℕ) → all ≡ [] → public ≡ [] → Targeting files [] all public true
 targeting_none files all public ea ep = rw (ea, ep) (record {

@@ -1,6 +1,6 @@
 -- Names that are not taken.
 use Rattle.std.proofs.Common.{◌≡◌, ◌∙◌, ◌≤◌, ◌<◌, ◌+◌, ℕ, zero, suc, Bool, true, false, cond, List, [], ◌∷◌, ◌++◌, ap, sym, refl, length, arith, subst}
-use Rattle.std.specs.Prelude.{if◌then◌else◌, ◌||◌, String, Result, Ok, Err, IfOk}
+use Rattle.std.specs.Prelude.{if◌then◌else◌, ◌||◌, String}
 use Rattle.std.specs.Str.{bytes_eq}
 use Rattle.std.specs.BTreeSet as sorted
 use Rattle.std.specs.BTreeSet.{BTreeSet, contains_text}
@@ -11,6 +11,7 @@ use Rattle.std.specs.Cmp.Lexicographic.{slice_cmp}
 use Rattle.std.specs.Bool.{nat_le}
 use Rattle.std.proofs.lemmas.List.Folds.{list_any-append}
 use Rattle.std.proofs.lemmas.Map.Text.{btree_set_updates_text}
+use Rattle.std.proofs.lemmas.Bool.{false_from_ne_true}
 use Rattle.std.proofs.lemmas.Bool.Decides.{nat_tests}
 use Rattle.std.proofs.lemmas.Slice.Eq.{bytes_eq-Decides}
 use Rattle.proto_lower.specs.Names.{first_free, is_among, IsSetOf}
@@ -67,10 +68,6 @@ longer_past : (name : List ℕ) (ts : List (List ℕ)) → is_among ts name ≡ 
 longer_past name [] among = cc
 longer_past name (t ∷ ts) among = past_by name t ts (bytes_eq t name) refl among (longer_past name ts)
 
-false_by : (b : Bool) → (b ≡ true → ⊥) → b ≡ false
-false_by true none = absurd (none refl)
-false_by false none = refl
-
 free_by : (taken : List (List ℕ)) (most : ℕ) (name : List ℕ) (b : Bool) → is_among taken name ≡ b
     → (b ≡ true → is_among taken (first_free (is_among taken) most (88 ∷ name)) ≡ false) → is_among taken (first_free (is_among taken) (suc most) name) ≡ false
 free_by taken most name true met later = rw met (later refl)
@@ -79,7 +76,7 @@ free_by taken most name false met later = rw met met
 -- as many names as are taken are enough to meet one that is not
 free_after : (taken : List (List ℕ)) (most : ℕ) (name : List ℕ) → longer (length name) taken ≤ most
     → is_among taken (first_free (is_among taken) most name) ≡ false
-free_after taken zero name enough = false_by (is_among taken name) (λ met. let fewer = longer_past name taken met in omega (arith, fewer, enough))
+free_after taken zero name enough = false_from_ne_true (is_among taken name) (λ met. let fewer = longer_past name taken met in omega (arith, fewer, enough))
 free_after taken (suc most) name enough =
     free_by taken most name (is_among taken name) refl (λ met. free_after taken most (88 ∷ name) (let fewer = longer_past name taken met in
     let long : length (88 ∷ name) ≡ length name + 1 = omega arith in rw long (omega (arith, fewer, enough))))
@@ -95,10 +92,6 @@ free_stops test (suc left) name free = rw free refl
 pub free_goes : (test : List ℕ → Bool) (left : ℕ) (name longer : List ℕ) → test name ≡ true → longer ≡ 88 ∷ name
     → first_free test (suc left) name ≡ first_free test left longer
 free_goes test left name longer met made = rw (met, made) refl
-
-pub if_ok : {T E : Type 0} {P Q : T → Type 0} (r : Result T E) → IfOk r P → ((x : T) → P x → Q x) → IfOk r Q
-if_ok (Ok x) fact turn = turn x fact
-if_ok (Err e) fact turn = tt
 
 -- a search by a set of the names that are taken
 pub found_by_set : (taken : List (List ℕ)) (set : BTreeSet (String Global)) (most : ℕ) (start begin found : List ℕ) → IsSetOf taken set → most ≡ length taken

@@ -22,7 +22,8 @@ nested_boxed full boxed (more_of-Message keyword name open_brace shape is close_
     ∙ ap (λ is. message_of (inner full name.text) name is (flat_map (nested_of (inner full name.text)) is) ∷ [])
     (sym (items_shown-the_row-MessageItem-0 shape is))
 
-abbrev row_of : MessageItem → (n : Count) × Row_of-Message n
+-- the row that a message has as a statement
+abbrev pub row_of : MessageItem → (n : Count) × Row_of-Message n
 row_of (Message' boxed row) = (_, row)
 row_of _ = (_, end_of-Message)
 

@@ -10,19 +10,16 @@ use Rattle.proto_desc.specs.declared.file.PackageDesc.{PackageDesc}
 use Rattle.proto_names.specs.Occurrences.{Occurrence, IsTwice, NoneTwice, IsFirstTwice, declared_occurrence, package_occurrence, package_occurrences, occurrences_of, occurrences_from, occurrences}
 use Rattle.proto_names.specs.Scopes.{fronts}
 use Rattle.proto_names.proofs.Apart.{ContainsBoth-permutation}
+use Rattle.proto_names.proofs.Occurring.{first_of}
 
 -- ---- the files of occurrences
-
-first_in : {X : Type 0} (xs : List X) (k : ℕ) → k < length xs → X
-first_in [] k h = absurd (omega (arith, h))
-first_in (x ∷ xs) k h = x
 
 -- what a function of one file makes
 made_in : {X : Type 0} (f : X → Occurrence) (file : ℕ) → ((x : X) → (f x).file ≡ file) → (xs : List X) (o : Occurrence) → Contains (map f xs) o → o.file ≡ file
 made_in f file same xs o (k, inside, is) =
     let l = length-map xs f in
     let low : k < length xs = omega (arith, l, inside) in
-    let d = first_in xs k low in
+    let d = first_of xs k low in
     ap (λ (x : Occurrence). x.file) (sym is ∙ get_or-map f xs k d o low) ∙ same (get_or xs k d)
 
 packages_in : (file : ℕ) (declared : Option PackageDesc) (o : Occurrence) → Contains (package_occurrences file declared) o → o.file ≡ file

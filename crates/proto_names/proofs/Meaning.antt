@@ -1,15 +1,11 @@
 -- What a spelled name means.
 use Rattle.std.proofs.Common.{◌≡◌, ◌∙◌, ℕ, List, ap, refl, arith, inl, inr}
-use Rattle.std.specs.Prelude.{false, IsTrue}
 use Rattle.proto_desc.specs.DeclaredNames.{scoped}
 use Rattle.proto_names.specs.Occurrences.{Occurrence}
 use Rattle.proto_names.specs.Resolution.{Decides, IsInnermost, IsAbsolute}
 use Rattle.proto_names.specs.Scopes.{IsCandidate}
 use Rattle.proto_names.specs.Steps.{IsMeant, MeansNothing}
 use Rattle.proto_names.proofs.Around.{candidates_same}
-
-pub not_true : IsTrue false → ⊥
-not_true h = cc
 
 -- the innermost scope is one
 pub innermost_same : (os : List Occurrence) (Seen : ℕ → Type 0) (scope spelled a b : List ℕ) → IsInnermost os Seen scope spelled a

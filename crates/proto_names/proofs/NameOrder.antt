@@ -29,10 +29,6 @@ alike_case Greater Greater h = refl
 pub equal_alike : (a b : List ℕ) → is_eq (name_cmp a b) ≡ is_eq (slice_cmp nat_cmp a b)
 equal_alike a b = alike_case _ _ (λ e. rw (exact_bytes a b e) (tied_itself nat_cmp_total (hash_of b)))
 
--- a text is equal to itself
-pub same_text : (a b : List ℕ) → a ≡ b → slice_cmp nat_cmp a b ≡ Equal
-same_text a b e = rw e (tied_itself nat_list_cmp_total b)
-
 -- what is equal in this order is one name
 pub same_name : (a b : List ℕ) → name_cmp a b ≡ Equal → a ≡ b
 same_name a b h = exact_bytes a b (last_equal _ _ h)

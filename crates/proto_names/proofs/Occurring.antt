@@ -19,7 +19,7 @@ use Rattle.proto_names.specs.declared.entry.Entry.{Entry}
 blank : Occurrence
 blank = record { name = []; file = 0; place = record { offset = 0 }; kind = None }
 
-first_of : {X : Type 0} (xs : List X) (k : ℕ) → k < length xs → X
+pub first_of : {X : Type 0} (xs : List X) (k : ℕ) → k < length xs → X
 first_of [] k h = absurd (omega (arith, h))
 first_of (x ∷ xs) k h = x
 
@@ -98,10 +98,6 @@ pub defined_is : (d : Defined) (kind : NameKind) (file : ℕ) → Some (record {
 defined_is d kind file e = (cc, cc)
 
 -- ---- what holds where a call succeeds
-
-pub on_ok : {X E : Type 0} {A B : Type 0} (r : Result X E) → (A → B) → OnOk r A → OnOk r B
-on_ok (Ok x) f a = f a
-on_ok (Err e) f a = tt
 
 pub on_ok_of : {X E : Type 0} {B : Type 0} (r : Result X E) → B → OnOk r B
 on_ok_of (Ok x) b = b

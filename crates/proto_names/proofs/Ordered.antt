@@ -21,7 +21,8 @@ in_order os up i j h below = sorted_far (λ x y. is_lt (occurrence_cmp x y)) (ra
 
 -- ---- what the order says
 
-first_not : (o p : Ordering) → is_lt (ordering_then o p) ≡ false → is_lt o ≡ false
+-- what comes first decides unless it is `Equal`
+pub first_not : (o p : Ordering) → is_lt (ordering_then o p) ≡ false → is_lt o ≡ false
 first_not Less p h = h
 first_not Equal p h = refl
 first_not Greater p h = refl

@@ -1,7 +1,7 @@
 -- Runs of one name, and what is repeated in them.
 use Rattle.std.proofs.Common.{◌≡◌, ◌≢◌, ◌∙◌, sym, ℕ, ◌+◌, ◌-◌, ◌<◌, ◌≤◌, List, length, get_or, map, ap, refl, subst, arith, inl, inr, ◌⊎◌}
 use Rattle.std.specs.Prelude.{Bool, true, false, IsTrue, ◌↔◌, Option, None, Some, IfSome, MatchOption, is_some, slice_get}
-use Rattle.std.proofs.lemmas.Bool.{cases_lt}
+use Rattle.std.proofs.lemmas.Bool.{cases_lt, false≢true}
 use Rattle.std.proofs.lemmas.List.{get_or-map}
 use Rattle.std.proofs.lemmas.Option.{none-some, slice_get-get_or, slice_get_within, get_or_from_slice_get}
 use Rattle.proto_names.specs.Entries.{entry_name, occurrence}
@@ -11,7 +11,6 @@ use Rattle.proto_names.specs.Occurrences.{Occurrence, IsEarlier, IsPackage, IsTw
 use Rattle.proto_names.specs.Order.{AreInOrder, Bounds, IsLesser, NoLater, spot_of}
 use Rattle.proto_names.specs.Runs.{IsRun, Repeats, at, blank}
 use Rattle.proto_names.specs.declared.entry.Spot.{Spot}
-use Rattle.proto_names.proofs.Meaning.{not_true}
 use Rattle.proto_names.proofs.Ordered.{places_in_order, names_between, not_both, not_itself}
 
 -- what an entry of the list stands for
@@ -103,7 +102,7 @@ element_repeats os k start has other run = (
 package_repeats : (os : List Occurrence) (k start : ℕ) (has : Bool) → IsPackage (at os k) → IsRun os k k start has → IsTrue has ↔ Repeats os k
 package_repeats os k start true pack run = (λ t. (let w = run.element in (w.0, w.2, run.same w.0 w.1 w.2, λ p q. w.3 p)), λ repeats. refl)
 package_repeats os k start false pack run = (
-  λ t. absurd (not_true t),
+  λ t. absurd (false≢true t),
   λ repeats. absurd (repeats.3 (run.element repeats.0 (run.whole repeats.0 repeats.1 repeats.2) repeats.1) pack),
 )
 

@@ -9,7 +9,8 @@ use Rattle.std.proofs.lemmas.Cmp.{tied_itself}
 use Rattle.std.proofs.lemmas.List.Sorted.{searchable_from_sorted}
 use Rattle.std.proofs.lemmas.List.{get_or-drop, get_or-take, get_or_default, length-drop, length-map, length-take}
 use Rattle.std.proofs.lemmas.Map.Lookups.{exact_bytes}
-use Rattle.proto_names.proofs.NameOrder.{equal_alike, name_total, same_name, same_text}
+use Rattle.proto_links.proofs.NameRows.{equal_itself, less_not_equal}
+use Rattle.proto_names.proofs.NameOrder.{equal_alike, name_total, same_name}
 use Rattle.proto_names.proofs.Repeating.{at_get}
 use Rattle.proto_names.specs.Chains.{IsStart, IsNowhere}
 use Rattle.proto_names.specs.Entries.{entry_name, occurrence}
@@ -75,7 +76,7 @@ less_point es target n p = (λ k d a b. lt_less _ (p.0 k d a b), λ k d a b. not
 pub equal_point : (es : List Entry) (target : List ℕ) (n : ℕ)
     → IsPartitionPoint (λ e. is_eq (slice_cmp nat_cmp (entry_name e) target) ≡ true) (λ e. is_eq (slice_cmp nat_cmp (entry_name e) target) ≡ false) es n
     → IsPartitionPoint (λ e. entry_name e ≡ target) (λ e. entry_name e ≢ target) es n
-equal_point es target n p = (λ k d a b. exact_bytes _ _ (eq_equal _ (p.0 k d a b)), λ k d a b e. not_eq_equal _ (p.1 k d a b) (same_text _ _ e))
+equal_point es target n p = (λ k d a b. exact_bytes _ _ (eq_equal _ (p.0 k d a b)), λ k d a b e. not_eq_equal _ (p.1 k d a b) (equal_itself _ _ e))
 
 lower : (o p : Ordering) → ordering_index o ≤ ordering_index p → p ≡ Equal → o ≢ Equal → is_lt o ≡ true
 lower Less p h e n = refl
@@ -88,9 +89,6 @@ less_lt o e = ap is_lt e
 pub name_at : (es : List Entry) (k : ℕ) (d : Entry) → k < length es → (at (map occurrence es) k).name ≡ entry_name (get_or es k d)
 name_at es k d h = ap (λ (o : Occurrence). o.name) (at_get es k d h)
 
-not_both : {o : Ordering} → o ≡ Less → o ≡ Equal → ⊥
-not_both a b = cc
-
 -- where the first that does not come before a name has another one, none has it
 pub nowhere_is : (es : List Entry) (target : List ℕ) (n : ℕ) → IsSortedByKey entry_name name_cmp es
     → IsPartitionPoint (λ e. name_cmp (entry_name e) target ≡ Less) (λ e. name_cmp (entry_name e) target ≢ Less) es n
@@ -101,7 +99,7 @@ nowhere_is (d ∷ es) target n up p other k within same =
     let below : k < length all = (let l = length-map all occurrence in omega (arith, l, within)) in
     let equal_k : name_cmp (entry_name (get_or all k d)) target ≡ Equal = itself_equal _ _ (sym (name_at all k d below) ∙ same) in
     elim (cases_lt k n) [
-      | inl before ↦ not_both (p.0 k d (omega arith) before) equal_k
+      | inl before ↦ less_not_equal _ (p.0 k d (omega arith) before) equal_k
       | inr behind ↦
           let n_below : n < length all = omega (arith, behind, below) in
           p.1 n d (omega arith) n_below
@@ -129,7 +127,7 @@ module _ (es : List Entry) (target : List ℕ) (start : ℕ) (up : IsSortedByKey
       lt_less _ (parted_less es target up k (start - 1) d (omega (arith, h)) (omega (arith, h, in_)) last)
 
   behind : (k : ℕ) (d : Entry) → start ≤ k → k < length es → name_cmp (entry_name (get_or es k d)) target ≢ Less
-  behind k d h below less = not_both (lt_less _ (parted_less es target up start k d h below (less_lt _ less))) (equal d)
+  behind k d h below less = less_not_equal _ (lt_less _ (parted_less es target up start k d h below (less_lt _ less))) (equal d)
 
   pub start_point : IsPartitionPoint (λ e. name_cmp (entry_name e) target ≡ Less) (λ e. name_cmp (entry_name e) target ≢ Less) es start
   start_point = (λ k d a b. before k d b, λ k d a b. behind k d a b)
@@ -150,7 +148,7 @@ pub one_point : (es : List Entry) (target : List ℕ) → IsSortedByKey entry_na
     → IsPartitionPoint (λ e. entry_name e ≡ target) (λ e. entry_name e ≢ target) es 1
 one_point es target up behind first second = (
   λ k d a b. (let zeroth : 0 ≡ k = omega arith in subst (λ i. entry_name (get_or es i d) ≡ target) zeroth (first d)),
-  λ k d a b e. second d (omega (arith, a, b)) (exact_bytes _ _ (eq_equal _ (parted_equal es target up behind 1 k d a b (ap is_eq (same_text _ _ e))))),
+  λ k d a b e. second d (omega (arith, a, b)) (exact_bytes _ _ (eq_equal _ (parted_equal es target up behind 1 k d a b (ap is_eq (equal_itself _ _ e))))),
 )
 
 no_entry : (e : Entry) → Contains {X = Entry} [] e → ⊥
@@ -193,7 +191,7 @@ module _ (es : List Entry) (target : List ℕ) (n m : ℕ) (h : n ≤ length es)
 
   run_all : (e : Entry) → Contains es e → entry_name e ≡ target → Contains (take m (drop n es)) e
   run_all e (j, inside, is) name = elim (cases_lt j n) [
-    | inl less ↦ absurd (cc_less (subst (λ (x : Entry). name_cmp (entry_name x) target ≡ Less) is (before.0 j e (omega arith) less))
+    | inl less ↦ absurd (less_not_equal _ (subst (λ (x : Entry). name_cmp (entry_name x) target ≡ Less) is (before.0 j e (omega arith) less))
         (itself_equal (entry_name e) target name))
     | inr over ↦ (
         let l = length-take m (drop n es) in
@@ -205,9 +203,6 @@ module _ (es : List Entry) (target : List ℕ) (n m : ℕ) (h : n ≤ length es)
           | inr high ↦ absurd (same.1 (j - n) e high (omega (arith, l', inside, over)) (ap entry_name is' ∙ name))
         ])
   ]
-    where
-      cc_less : {o : Ordering} → o ≡ Less → o ≡ Equal → ⊥
-      cc_less a b = cc
 
   pub run_is : (e : Entry) → Contains (take m (drop n es)) e ↔ (Contains es e × (entry_name e ≡ target))
   run_is e = (run_found e, λ w. run_all e w.0 w.1)

@@ -8,7 +8,8 @@ ghost use Rattle.proto_names.specs.Scopes.{fronts};
 
 use crate::entries::{Entries, name_in};
 use crate::entry::{Entry, Spot};
-use crate::scope::shorter_front;
+use crate::hashing::with_text;
+use crate::scope::{Scope, shorter_front};
 use proto_base::Place;
 use proto_desc::enumeration::EnumDesc;
 use proto_desc::file::{FileDesc, PackageDesc};
@@ -23,21 +24,22 @@ use std::alloc::{AllocError, Global};
 fn declared_entry(
     alloc: Global,
     file: FileId,
-    scope: &str,
+    scope: Scope,
     name: &str,
     place: Place,
     kind: NameKind,
 ) -> Result<Entry, AllocError>
     ensures { IfOk result (λ entry. occurrence entry
         ≡ declared_occurrence file (record {
-          scope = scope.now;
+          scope = scope.entry.text.now;
           name = name.now;
           kind = kind;
           place = place;
         })) }
 {
-    let full = name_in(alloc, scope, name)?;
-    Ok(Entry::new(full, Spot { file, place }, Some(kind)))
+    let full = name_in(alloc, scope.text, name)?;
+    let hash = scope.hash_with(name);
+    Ok(Entry::new(full, hash, Spot { file, place }, Some(kind)))
 }
 
 /// Puts elements that declare their own names alone.
@@ -45,11 +47,11 @@ fn put_members<D: Declares>(
     alloc: Global,
     entries: &mut Entries,
     file: FileId,
-    scope: &str,
+    scope: Scope,
     members: &[D],
 ) -> Result<(), AllocError>
     ensures { OnOk result (entries.new ≡ entries.old
-        ++ map (declared_occurrence file) (map (D.declared scope.now) members.now)) }
+        ++ map (declared_occurrence file) (map (D.declared scope.entry.text.now) members.now)) }
 {
     for member in members {
         let DeclaredName { name, place, kind } = member.declared_name();
@@ -63,11 +65,11 @@ fn put_enum(
     alloc: Global,
     entries: &mut Entries,
     file: FileId,
-    scope: &str,
+    scope: Scope,
     declared: &EnumDesc,
 ) -> Result<(), AllocError>
     ensures { OnOk result (entries.new ≡ entries.old
-        ++ map (declared_occurrence file) (declared_by_enum scope.now declared.now)) }
+        ++ map (declared_occurrence file) (declared_by_enum scope.entry.text.now declared.now)) }
 {
     let name = declared.name.as_str();
     let entry = declared_entry(alloc, file, scope, name, declared.place, NameKind::Enum)?;
@@ -79,11 +81,12 @@ fn put_enums(
     alloc: Global,
     entries: &mut Entries,
     file: FileId,
-    scope: &str,
+    scope: Scope,
     enums: &[EnumDesc],
 ) -> Result<(), AllocError>
     ensures { OnOk result (entries.new ≡ entries.old
-        ++ map (declared_occurrence file) (flat_map (declared_by_enum scope.now) enums.now)) }
+        ++ map (declared_occurrence file)
+        (flat_map (declared_by_enum scope.entry.text.now) enums.now)) }
 {
     for declared in enums {
         put_enum(alloc, entries, file, scope, declared)?;
@@ -96,34 +99,30 @@ fn put_service(
     alloc: Global,
     entries: &mut Entries,
     file: FileId,
-    scope: &str,
+    scope: Scope,
     service: &ServiceDesc,
 ) -> Result<(), AllocError>
     ensures { OnOk result (entries.new ≡ entries.old
-        ++ map (declared_occurrence file) (declared_by_service scope.now service.now)) }
+        ++ map (declared_occurrence file) (declared_by_service scope.entry.text.now service.now)) }
 {
     let name = service.name.as_str();
     let entry = declared_entry(alloc, file, scope, name, service.place, NameKind::Service)?;
     entries.push(entry)?;
-    let full = name_in(alloc, scope, name)?;
-    put_members(
-        alloc,
-        entries,
-        file,
-        full.as_str(),
-        service.methods.as_slice(),
-    )
+    let full = name_in(alloc, scope.text, name)?;
+    let inside = Scope::new(full.as_str());
+    put_members(alloc, entries, file, inside, service.methods.as_slice())
 }
 
 fn put_services(
     alloc: Global,
     entries: &mut Entries,
     file: FileId,
-    scope: &str,
+    scope: Scope,
     services: &[ServiceDesc],
 ) -> Result<(), AllocError>
     ensures { OnOk result (entries.new ≡ entries.old
-        ++ map (declared_occurrence file) (flat_map (declared_by_service scope.now) services.now)) }
+        ++ map (declared_occurrence file)
+        (flat_map (declared_by_service scope.entry.text.now) services.now)) }
 {
     for service in services {
         put_service(alloc, entries, file, scope, service)?;
@@ -136,17 +135,17 @@ fn put_message(
     alloc: Global,
     entries: &mut Entries,
     file: FileId,
-    scope: &str,
+    scope: Scope,
     message: &MessageDesc,
 ) -> Result<(), AllocError>
     ensures { OnOk result (entries.new ≡ entries.old
-        ++ map (declared_occurrence file) (declared_by_message message.now scope.now)) }
+        ++ map (declared_occurrence file) (declared_by_message message.now scope.entry.text.now)) }
 {
     let name = message.name.as_str();
     let entry = declared_entry(alloc, file, scope, name, message.place, NameKind::Message)?;
     entries.push(entry)?;
-    let full = name_in(alloc, scope, name)?;
-    let inside = full.as_str();
+    let full = name_in(alloc, scope.text, name)?;
+    let inside = Scope::new(full.as_str());
     put_members(alloc, entries, file, inside, message.fields.as_slice())?;
     put_members(alloc, entries, file, inside, message.oneofs.as_slice())?;
     put_enums(alloc, entries, file, inside, message.enums.as_slice())?;
@@ -160,12 +159,12 @@ fn put_messages(
     alloc: Global,
     entries: &mut Entries,
     file: FileId,
-    scope: &str,
+    scope: Scope,
     messages: &[MessageDesc],
 ) -> Result<(), AllocError>
     ensures { OnOk result (entries.new ≡ entries.old
         ++ map (declared_occurrence file)
-        (flat_map (λ m. declared_by_message m scope.now) messages.now)) }
+        (flat_map (λ m. declared_by_message m scope.entry.text.now) messages.now)) }
 {
     for message in messages {
         put_message(alloc, entries, file, scope, message)?;
@@ -186,7 +185,13 @@ fn put_fronts(
 {
     let mut front = name;
     loop {
-        let entry = Entry::new(String::from_str(alloc, front)?, Spot { file, place }, None);
+        let hash = with_text(0, front);
+        let entry = Entry::new(
+            String::from_str(alloc, front)?,
+            hash,
+            Spot { file, place },
+            None,
+        );
         entries.push(entry)?;
         match shorter_front(front) {
             Some(shorter) => front = shorter,
@@ -214,11 +219,11 @@ fn put_declared(
     alloc: Global,
     entries: &mut Entries,
     file: FileId,
-    scope: &str,
+    scope: Scope,
     desc: &FileDesc,
 ) -> Result<(), AllocError>
     ensures { OnOk result (entries.new ≡ entries.old
-        ++ map (declared_occurrence file) (declared_in scope.now desc.now)) }
+        ++ map (declared_occurrence file) (declared_in scope.entry.text.now desc.now)) }
 {
     put_messages(alloc, entries, file, scope, desc.messages.as_slice())?;
     put_enums(alloc, entries, file, scope, desc.enums.as_slice())?;
@@ -235,8 +240,8 @@ fn put_file(
 {
     put_package(alloc, entries, file, &desc.package)?;
     let scope = match &desc.package {
-        Some(package) => package.name.as_str(),
-        None => "",
+        Some(package) => Scope::new(package.name.as_str()),
+        None => Scope::top(),
     };
     put_declared(alloc, entries, file, scope, desc)
 }

@@ -5,10 +5,10 @@ ghost use Rattle.std.specs.Cmp.Lexicographic.{slice_cmp};
 ghost use Rattle.std.specs.Ordering.{nat_cmp};
 ghost use Rattle.proto_desc.specs.DeclaredNames.{scoped};
 ghost use Rattle.proto_names.specs.Entries.{entry_name, occurrence};
+ghost use Rattle.proto_names.specs.Hashes.{hash_of};
 ghost use Rattle.proto_names.specs.Order.{AreInOrder};
 
 use crate::entry::{Entry, Spot};
-use crate::hashing::with_text;
 use proto_desc::name_kind::NameKind;
 use rayon::prelude::*;
 use std::alloc::{AllocError, Global};
@@ -17,7 +17,9 @@ use std::marker::Model;
 use std::thread::Threads;
 
 impl Entry {
-    pub(crate) fn new(name: String, spot: Spot, kind: Option<NameKind>) -> Entry
+    /// The entry of a name that has this hash.
+    pub(crate) fn new(name: String, hash: u32, spot: Spot, kind: Option<NameKind>) -> Entry
+        requires { hash ≡ hash_of (string_bytes name) }
         ensures { occurrence result ≡ record {
           name = string_bytes name;
           file = spot.file;
@@ -26,7 +28,7 @@ impl Entry {
         } }
     {
         Entry {
-            hash: with_text(0, name.as_str()),
+            hash,
             name,
             spot,
             kind,

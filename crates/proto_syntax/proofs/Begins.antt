@@ -1,46 +1,31 @@
 -- What a tree and a front begin with.
-use Rattle.std.proofs.Common.{◌≡◌, Bool, true, false, cond, ◌&&◌, ◌||◌, List, [], ◌∷◌, ◌++◌, refl, sym, subst, inl, inr}
+use Rattle.std.proofs.Common.{◌≡◌, true, false, cond, List, [], ◌∷◌, ◌++◌, refl, sym, subst, inl, inr}
 use Rattle.proto_tokens.specs.Token.{Lexeme, Spelled}
 use Rattle.proto_syntax.specs.Grammar.{Class, fits, Grammar, ◌⨾◌, ◌∣◌, Many, Tree, flatten, IsTree, one, nothing, both, first, second, none, more, IsFront, empty, token, within, past, of_first, of_second, items}
 use Rattle.proto_syntax.specs.Reading.{begins, can_be_empty, fits_any, next_fits, apart, apart_from_all, all_apart}
-use Rattle.proto_syntax.proofs.Apart.{and_left, and_right, or_cases, or_true_right, apart_means}
+use Rattle.proto_syntax.proofs.Apart.{apart_means}
 use Rattle.std.proofs.lemmas.List.{append-nil}
-
-or_false_left : (a b : Bool) → (a || b) ≡ false → a ≡ false
-or_false_left true b h = h
-or_false_left false b h = refl
-
-or_false_right : (a b : Bool) → (a || b) ≡ false → b ≡ false
-or_false_right true b h = cc
-or_false_right false b h = h
-
-or_left : (a b : Bool) → a ≡ true → (a || b) ≡ true
-or_left true b h = refl
-or_left false b h = cc
-
-or_none : (a b : Bool) → a ≡ false → b ≡ false → (a || b) ≡ false
-or_none true b h i = h
-or_none false b h i = i
+use Rattle.std.proofs.lemmas.Bool.{and_from, and_parts, or_cases, or_from, or_left, or_parts, or_right, both_ways, false_from_ne_true}
 
 pub any_left : (cs ds : List Class) (w : Lexeme) → fits_any cs w ≡ true → fits_any (cs ++ ds) w ≡ true
 any_left [] ds w h = cc
 any_left (c ∷ cs) ds w h = elim (or_cases (fits c w) (fits_any cs w) h) [
   | inl e ↦ or_left (fits c w) (fits_any (cs ++ ds) w) e
-  | inr e ↦ or_true_right (fits c w) (fits_any (cs ++ ds) w) (any_left cs ds w e)
+  | inr e ↦ or_right (fits c w) (fits_any (cs ++ ds) w) (any_left cs ds w e)
 ]
 
 pub any_right : (cs ds : List Class) (w : Lexeme) → fits_any ds w ≡ true → fits_any (cs ++ ds) w ≡ true
 any_right [] ds w h = h
-any_right (c ∷ cs) ds w h = or_true_right (fits c w) (fits_any (cs ++ ds) w) (any_right cs ds w h)
+any_right (c ∷ cs) ds w h = or_right (fits c w) (fits_any (cs ++ ds) w) (any_right cs ds w h)
 
 pub not_any_left : (cs ds : List Class) (w : Lexeme) → fits_any (cs ++ ds) w ≡ false → fits_any cs w ≡ false
 not_any_left [] ds w h = refl
-not_any_left (c ∷ cs) ds w h = or_none (fits c w) (fits_any cs w) (or_false_left (fits c w) (fits_any (cs ++ ds) w) h)
-    (not_any_left cs ds w (or_false_right (fits c w) (fits_any (cs ++ ds) w) h))
+not_any_left (c ∷ cs) ds w h =
+    let p = or_parts (fits c w) (fits_any (cs ++ ds) w) h in or_from (fits c w) (fits_any cs w) p.0 (not_any_left cs ds w p.1)
 
 pub not_any_right : (cs ds : List Class) (w : Lexeme) → fits_any (cs ++ ds) w ≡ false → fits_any ds w ≡ false
 not_any_right [] ds w h = h
-not_any_right (c ∷ cs) ds w h = not_any_right cs ds w (or_false_right (fits c w) (fits_any (cs ++ ds) w) h)
+not_any_right (c ∷ cs) ds w h = not_any_right cs ds w (or_parts (fits c w) (fits_any (cs ++ ds) w) h).1
 
 pub next_left : (cs ds : List Class) (ts : List Spelled) → next_fits (cs ++ ds) ts ≡ false → next_fits cs ts ≡ false
 next_left cs ds [] h = refl
@@ -52,35 +37,27 @@ next_right cs ds (t ∷ ts) h = not_any_right cs ds t.lexeme h
 
 from_all_means : (c : Class) (ds : List Class) (w : Lexeme) → apart_from_all c ds ≡ true → fits c w ≡ true → fits_any ds w ≡ false
 from_all_means c [] w h i = refl
-from_all_means c (d ∷ ds) w h i = or_none (fits d w) (fits_any ds w) (apart_means c d w (and_left (apart c d) (apart_from_all c ds) h) i)
-    (from_all_means c ds w (and_right (apart c d) (apart_from_all c ds) h) i)
+from_all_means c (d ∷ ds) w h i = let p = and_parts (apart c d) (apart_from_all c ds) h in
+    or_from (fits d w) (fits_any ds w) (apart_means c d w p.0 i) (from_all_means c ds w p.1 i)
 
 all_means : (cs ds : List Class) (w : Lexeme) → all_apart cs ds ≡ true → fits_any cs w ≡ true → fits_any ds w ≡ false
 all_means [] ds w h i = cc
 all_means (c ∷ cs) ds w h i = elim (or_cases (fits c w) (fits_any cs w) i) [
-  | inl e ↦ from_all_means c ds w (and_left (apart_from_all c ds) (all_apart cs ds) h) e
-  | inr e ↦ all_means cs ds w (and_right (apart_from_all c ds) (all_apart cs ds) h) e
+  | inl e ↦ from_all_means c ds w (and_parts (apart_from_all c ds) (all_apart cs ds) h).0 e
+  | inr e ↦ all_means cs ds w (and_parts (apart_from_all c ds) (all_apart cs ds) h).1 e
 ]
 
 -- a token that fits one of the second is none of the first
 pub apart_other : (cs ds : List Class) (w : Lexeme) → all_apart cs ds ≡ true → fits_any ds w ≡ true → fits_any cs w ≡ false
-apart_other cs ds w h i = by_cases (fits_any cs w) refl
-  where
-    by_cases : (b : Bool) → fits_any cs w ≡ b → b ≡ false
-    by_cases false e = refl
-    by_cases true e = let k : fits_any ds w ≡ false = all_means cs ds w h e in cc
+apart_other cs ds w h i = false_from_ne_true (fits_any cs w) (λ e. both_ways (fits_any ds w) (all_means cs ds w h e) i)
 
 -- what a list of tokens of the rule begins with: nothing, if the rule can be empty, or a token that fits
 abbrev pub Starts : Grammar → List Spelled → Type 0
 Starts g [] = can_be_empty g ≡ true
 Starts g (t ∷ ts) = fits_any (begins g) t.lexeme ≡ true
 
-and_true : (a b : Bool) → a ≡ true → b ≡ true → (a && b) ≡ true
-and_true true b h i = i
-and_true false b h i = h
-
 seq_starts : (a b : Grammar) (us vs : List Spelled) → Starts a us → Starts b vs → Starts (a ⨾ b) (us ++ vs)
-seq_starts a b [] [] h i = and_true (can_be_empty a) (can_be_empty b) h i
+seq_starts a b [] [] h i = and_from (can_be_empty a) (can_be_empty b) h i
 seq_starts a b [] (t ∷ vs) h i = any_right (begins a) (cond (can_be_empty a) (begins b) []) t.lexeme (rw h i)
 seq_starts a b (t ∷ us) vs h i = any_left (begins a) (cond (can_be_empty a) (begins b) []) t.lexeme h
 
@@ -89,7 +66,7 @@ left_starts a b [] h = or_left (can_be_empty a) (can_be_empty b) h
 left_starts a b (t ∷ us) h = any_left (begins a) (begins b) t.lexeme h
 
 right_starts : (a b : Grammar) (us : List Spelled) → Starts b us → Starts (a ∣ b) us
-right_starts a b [] h = or_true_right (can_be_empty a) (can_be_empty b) h
+right_starts a b [] h = or_right (can_be_empty a) (can_be_empty b) h
 right_starts a b (t ∷ us) h = any_right (begins a) (begins b) t.lexeme h
 
 more_starts : (a : Grammar) (us vs : List Spelled) → Starts a us → Starts (Many a) vs → Starts (Many a) (us ++ vs)

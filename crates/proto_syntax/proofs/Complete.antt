@@ -1,9 +1,9 @@
 -- What has a tree is read, and a front is read past.
 use Rattle.std.proofs.Common.{◌≡◌, ℕ, zero, suc, ◌≤◌, ◌<◌, true, false, cond, ◌&&◌, not, List, [], ◌∷◌, ◌++◌, length, refl, sym, subst, arith, append_assoc, length-append}
+use Rattle.std.proofs.lemmas.Bool.{and_parts, not-true}
 use Rattle.proto_tokens.specs.Token.{Spelled}
 use Rattle.proto_syntax.specs.Grammar.{Class, fits, Grammar, One, Nothing, ◌⨾◌, ◌∣◌, Many, Beyond, Tree, Leaf, Empty, Pair, Left, Right, flatten, IsTree, one, nothing, both, first, second, none, more}
 use Rattle.proto_syntax.specs.Reading.{Read, read_one, read_many, read, begins, next_fits, can_be_empty, goes_on, decides, all_apart}
-use Rattle.proto_syntax.proofs.Apart.{and_left, and_right, not_true}
 use Rattle.proto_syntax.proofs.Begins.{Starts, tree_starts, next_left, next_right, apart_other}
 
 -- what follows a part goes on with none of cs
@@ -76,29 +76,25 @@ pub complete : (g : Grammar) → Complete g
 complete (One c) _ (one {t = t} h) d us n = one_complete c t us h
 complete Nothing _ nothing d us n = refl
 complete (a ⨾ b) _ (both {x = x} {y = y} ix iy) d us n =
+    let w = and_parts (decides a) (decides b && all_apart (goes_on a) (begins b)) d in
+    let v = and_parts (decides b) (all_apart (goes_on a) (begins b)) w.1 in
     seq_complete a b x y ((flatten x ++ flatten y) ++ us) (flatten y ++ us) us (append_assoc (flatten x) (flatten y) us)
-    (complete a x ix (and_left (decides a) (decides b && all_apart (goes_on a) (begins b)) d) (flatten y ++ us)
-    (follows (goes_on a) b (flatten y) us (tree_starts iy) (and_right (decides b) (all_apart (goes_on a) (begins b))
-    (and_right (decides a) (decides b && all_apart (goes_on a) (begins b)) d)) (goes_on_left a b us n)))
-    (complete b y iy (and_left (decides b) (all_apart (goes_on a) (begins b)) (and_right (decides a) (decides b && all_apart (goes_on a) (begins b)) d)) us
-    (next_left (goes_on b) (cond (can_be_empty b) (goes_on a) []) us n))
+    (complete a x ix w.0 (flatten y ++ us) (follows (goes_on a) b (flatten y) us (tree_starts iy) v.1 (goes_on_left a b us n)))
+    (complete b y iy v.0 us (next_left (goes_on b) (cond (can_be_empty b) (goes_on a) []) us n))
 complete (a ∣ b) _ (first {x = x} ix) d us n =
-    let r = and_right (decides a) (decides b && (not (can_be_empty a) && all_apart (begins a) (begins b))) d in
-    let s = and_right (decides b) (not (can_be_empty a) && all_apart (begins a) (begins b)) r in
+    let w = and_parts (decides a) (decides b && (not (can_be_empty a) && all_apart (begins a) (begins b))) d in
+    let v = and_parts (decides b) (not (can_be_empty a) && all_apart (begins a) (begins b)) w.1 in
     choice_first a b x (flatten x ++ us) us (starts_next a (flatten x) us (tree_starts ix)
-    (not_true (can_be_empty a) (and_left (not (can_be_empty a)) (all_apart (begins a) (begins b)) s)))
-    (complete a x ix (and_left (decides a) (decides b && (not (can_be_empty a) && all_apart (begins a) (begins b))) d) us
-    (next_left (goes_on a) (goes_on b) us (next_left (goes_on a ++ goes_on b) (cond (can_be_empty b) (begins a) []) us n)))
+    (not-true (can_be_empty a) (and_parts (not (can_be_empty a)) (all_apart (begins a) (begins b)) v.1).0))
+    (complete a x ix w.0 us (next_left (goes_on a) (goes_on b) us (next_left (goes_on a ++ goes_on b) (cond (can_be_empty b) (begins a) []) us n)))
 complete (a ∣ b) _ (second {x = x} ix) d us n =
-    let r = and_right (decides a) (decides b && (not (can_be_empty a) && all_apart (begins a) (begins b))) d in
-    let s = and_right (decides b) (not (can_be_empty a) && all_apart (begins a) (begins b)) r in
+    let w = and_parts (decides a) (decides b && (not (can_be_empty a) && all_apart (begins a) (begins b))) d in
+    let v = and_parts (decides b) (not (can_be_empty a) && all_apart (begins a) (begins b)) w.1 in
     choice_second a b x (flatten x ++ us) us
-    (follows (begins a) b (flatten x) us (tree_starts ix) (and_right (not (can_be_empty a)) (all_apart (begins a) (begins b)) s) (begins_follows a b us n))
-    (complete b x ix (and_left (decides b) (not (can_be_empty a) && all_apart (begins a) (begins b)) r) us
-    (next_right (goes_on a) (goes_on b) us (next_left (goes_on a ++ goes_on b) (cond (can_be_empty b) (begins a) []) us n)))
+    (follows (begins a) b (flatten x) us (tree_starts ix) (and_parts (not (can_be_empty a)) (all_apart (begins a) (begins b)) v.1).1 (begins_follows a b us n))
+    (complete b x ix v.0 us (next_right (goes_on a) (goes_on b) us (next_left (goes_on a ++ goes_on b) (cond (can_be_empty b) (begins a) []) us n)))
 complete (Many a) x ix d us n =
-    let r = and_right (decides a) (not (can_be_empty a) && all_apart (goes_on a) (begins a)) d in
-    many_complete a (complete a) (and_left (decides a) (not (can_be_empty a) && all_apart (goes_on a) (begins a)) d)
-    (not_true (can_be_empty a) (and_left (not (can_be_empty a)) (all_apart (goes_on a) (begins a)) r))
-    (and_right (not (can_be_empty a)) (all_apart (goes_on a) (begins a)) r) (length (flatten x ++ us)) x ix us (omega arith) n
+    let w = and_parts (decides a) (not (can_be_empty a) && all_apart (goes_on a) (begins a)) d in
+    let v = and_parts (not (can_be_empty a)) (all_apart (goes_on a) (begins a)) w.1 in
+    many_complete a (complete a) w.0 (not-true (can_be_empty a) v.0) v.1 (length (flatten x ++ us)) x ix us (omega arith) n
 complete (Beyond c) x ix d us n = elim ix [ ]

@@ -1,10 +1,10 @@
 -- A grammar with a larger limit of depth.
 use Rattle.std.proofs.Common.{◌≡◌, ℕ, zero, suc, Bool, true, false, cond, List, [], ◌∷◌, ◌++◌, length, refl, sym, ap, subst, append_assoc}
-use Rattle.std.proofs.lemmas.List.{append-nil}
 use Rattle.proto_tokens.specs.Token.{Spelled}
 use Rattle.proto_syntax.specs.Grammar.{Class, fits, Grammar, One, Nothing, ◌⨾◌, ◌∣◌, Many, Beyond, Tree, Leaf, Empty, Pair, Left, Right, flatten, IsTree, both, first, second, none, more, IsFront, empty, within, past, of_first, of_second, items}
 use Rattle.proto_syntax.specs.Reading.{Outcome, Read, Stops, after, mapped, read_one, read_many, read, begins, next_fits, can_be_empty}
 use Rattle.proto_syntax.proofs.Reach.{read_found}
+use Rattle.proto_syntax.proofs.Sound.{after_item}
 
 -- g' is g with rules in place of those beyond the limit
 pub data Deeper : Grammar → Grammar → Type 0 where
@@ -108,11 +108,6 @@ choice_sees : (a b : Grammar) (ts : List Spelled) (z : Bool) (oa oa' ob ob' : Ou
 choice_sees a b ts true oa oa' ob ob' h i = left_sees a b ts oa oa' h
 choice_sees a b ts false oa oa' ob ob' h i = right_sees a b ts ob ob' i
 
--- an item, and then a front of the others
-pub item_then : (a : Grammar) (x : Tree) (us : List Spelled) → IsTree a x → IsFront (Many a) us → IsFront (Many a) (flatten x ++ us)
-item_then a x us ix empty = items (more ix none) empty (sym (append-nil (flatten x ++ [])))
-item_then a x us ix (items {x = y} {us = ws} iy f q) = items (more ix iy) f (rw q (sym (append_assoc (flatten x) (flatten y) ws)))
-
 rest_sees : (a : Grammar) (x : Tree) (ts us : List Spelled) → IsTree a x → ts ≡ flatten x ++ us → (o o' : Outcome) → Sees (Many a) us o o'
     → Sees (Many a) ts (mapped (Pair x) o) (mapped (Pair x) o')
 rest_sees a x ts us ix e (Read y vs) o' h = ap (mapped (Pair x)) h
@@ -123,7 +118,7 @@ rest_sees a x ts us ix e (Stops true vs) o' h = record {
   later = h.later;
   parts = rw (e, h.parts) (sym (append_assoc (flatten x) h.before vs));
   here = h.here;
-  front = subst (IsFront (Many a)) (sym (append_assoc (flatten x) h.before (h.token ∷ []))) (item_then a x (h.before ++ (h.token ∷ [])) ix h.front);
+  front = subst (IsFront (Many a)) (sym (append_assoc (flatten x) h.before (h.token ∷ []))) (after_item a x (h.before ++ (h.token ∷ [])) ix h.front);
 }
 
 item_sees : (a a' : Grammar) (ts : List Spelled) → Deeper a a' → (o o' : Outcome) → o ≡ read a ts → Sees a' ts o o' → (next next' : List Spelled → Outcome)

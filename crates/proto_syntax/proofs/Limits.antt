@@ -1,8 +1,8 @@
 -- The grammar with a larger limit of depth.
 use Rattle.std.proofs.Common.{◌≡◌, ℕ, zero, suc, ◌+◌, Bool, true, false, ◌&&◌, refl, subst, arith}
+use Rattle.std.proofs.lemmas.Bool.{and_parts}
 use Rattle.proto_syntax.specs.Grammar.{Grammar, One, Nothing, ◌⨾◌, ◌∣◌, Many, Beyond, within, token}
 use Rattle.proto_syntax.specs.Language.{symbol, str, parts, full, named_but, type_but, signed, constant_number, constant, setting, options, option, rpc_type, rpc_body, rpc, service, erange, ereserved, value, enum, range, reserved, declarator, member, oneof, map_type, map_or_field, field_head, field, message_item, message, «package», import, syntax, statement, file}
-use Rattle.proto_syntax.proofs.Apart.{and_left, and_right}
 use Rattle.proto_syntax.proofs.Deeper.{Deeper, same_one, same_nothing, in_both, in_either, in_many, allowed}
 
 -- no rule beyond the limit
@@ -17,8 +17,8 @@ bounded (Beyond c) = false
 kept : (g : Grammar) → bounded g ≡ true → Deeper g g
 kept (One c) h = same_one
 kept Nothing h = same_nothing
-kept (a ⨾ b) h = in_both (kept a (and_left (bounded a) (bounded b) h)) (kept b (and_right (bounded a) (bounded b) h))
-kept (a ∣ b) h = in_either (kept a (and_left (bounded a) (bounded b) h)) (kept b (and_right (bounded a) (bounded b) h))
+kept (a ⨾ b) h = let w = and_parts (bounded a) (bounded b) h in in_both (kept a w.0) (kept b w.1)
+kept (a ∣ b) h = let w = and_parts (bounded a) (bounded b) h in in_either (kept a w.0) (kept b w.1)
 kept (Many a) h = in_many (kept a h)
 kept (Beyond c) h = cc
 

@@ -1,13 +1,13 @@
 -- The turns of a loop that reads a repetition.
-use Rattle.std.proofs.Common.{◌≡◌, ◌&&◌, ◌||◌, ◌⊎◌, ℕ, zero, suc, ◌≤◌, ◌<◌, Bool, true, false, cond, not, List, [], ◌∷◌, ◌++◌, length, refl, sym, inl, inr, ◌∙◌, ap, subst, arith}
+use Rattle.std.proofs.Common.{◌≡◌, ◌&&◌, ◌⊎◌, ℕ, zero, suc, ◌≤◌, ◌<◌, Bool, true, false, cond, not, List, [], ◌∷◌, ◌++◌, length, refl, sym, inl, inr, ◌∙◌, ap, subst, arith}
 use Rattle.proto_tokens.specs.Token.{Spelled, spelled}
 use Rattle.proto_syntax.specs.Grammar.{Class, fits, Grammar, One, Nothing, ◌⨾◌, ◌∣◌, Many, Beyond, Tree, Empty, Pair, Right, flatten}
 use Rattle.proto_syntax.specs.Reading.{Outcome, Read, Stops, after, mapped, ended, read_many, read, begins, next_fits, can_be_empty, read_one, read_beyond, all_apart, goes_on, decides}
 use Rattle.std.proofs.lemmas.List.{length-map}
+use Rattle.std.proofs.lemmas.Bool.{and_parts, or_parts, not-true}
 use Rattle.proto_tokens.specs.declared.token.Token.{Token}
 use Rattle.proto_syntax.specs.Gives.{spellings}
 use Rattle.proto_syntax.specs.Trees.{before}
-use Rattle.proto_syntax.proofs.Apart.{and_left, and_right, not_true}
 use Rattle.proto_syntax.proofs.Begins.{apart_other, tree_starts, next_left, next_right}
 use Rattle.proto_syntax.proofs.Complete.{not_empty_longer}
 use Rattle.proto_syntax.proofs.Reach.{read_found}
@@ -100,19 +100,11 @@ Passes g ts = (can_be_empty g ≡ true → (x : Tree) × (read g ts ≡ Read x t
 
 pub one_passes : (c : Class) (ts : List Spelled) → next_fits (c ∷ []) ts ≡ false → read_one c ts ≡ Stops false ts
 one_passes c [] h = refl
-one_passes c (t ∷ ts) h = let e : fits c t.lexeme ≡ false = or_false (fits c t.lexeme) h in rw e refl
-  where
-    or_false : (b : Bool) → (b || false) ≡ false → b ≡ false
-    or_false true k = k
-    or_false false k = refl
+one_passes c (t ∷ ts) h = rw (or_parts (fits c t.lexeme) false h).0 refl
 
 beyond_passes : (c : Class) (ts : List Spelled) → next_fits (c ∷ []) ts ≡ false → read_beyond c ts ≡ Stops false ts
 beyond_passes c [] h = refl
-beyond_passes c (t ∷ ts) h = let e : fits c t.lexeme ≡ false = or_false (fits c t.lexeme) h in rw e refl
-  where
-    or_false : (b : Bool) → (b || false) ≡ false → b ≡ false
-    or_false true k = k
-    or_false false k = refl
+beyond_passes c (t ∷ ts) h = rw (or_parts (fits c t.lexeme) false h).0 refl
 
 seq_skips : (a b : Grammar) (x y : Tree) (ts : List Spelled) → read a ts ≡ Read x ts → read b ts ≡ Read y ts → read (a ⨾ b) ts ≡ Read (Pair x y) ts
 seq_skips a b x y ts h i = rw (h, i) refl
@@ -137,10 +129,9 @@ and_cases false b h = inl refl
 seq_passes : (a b : Grammar) (ts : List Spelled) → next_fits (begins a ++ cond (can_be_empty a) (begins b) []) ts ≡ false → Passes a ts
     → (next_fits (begins b) ts ≡ false → Passes b ts) → Passes (a ⨾ b) ts
 seq_passes a b ts h p q = (
-  λ e. let ea = and_left (can_be_empty a) (can_be_empty b) e in
-      let eb = and_right (can_be_empty a) (can_be_empty b) e in
-      let x = p.0 ea in
-      let y = (q (rest ea)).0 eb in
+  λ e. let w = and_parts (can_be_empty a) (can_be_empty b) e in
+      let x = p.0 w.0 in
+      let y = (q (rest w.0)).0 w.1 in
       (Pair x.0 y.0, seq_skips a b x.0 y.0 ts x.1 y.1),
   λ e. elim (and_cases (can_be_empty a) (can_be_empty b) e) [
     | inl ea ↦ seq_stops a b false ts ts (p.1 ea)
@@ -161,36 +152,35 @@ pub passes : (g : Grammar) → decides g ≡ true → (ts : List Spelled) → ne
 passes (One c) d ts h = (λ e. cc, λ _. one_passes c ts h)
 passes Nothing d ts h = (λ _. (Empty, refl), λ e. cc)
 passes (a ⨾ b) d ts h =
-    seq_passes a b ts h (passes a (and_left (decides a) (decides b && all_apart (goes_on a) (begins b)) d) ts
-    (next_left (begins a) (cond (can_be_empty a) (begins b) []) ts h))
-    (λ k. passes b (and_left (decides b) (all_apart (goes_on a) (begins b)) (and_right (decides a) (decides b && all_apart (goes_on a) (begins b)) d)) ts k)
+    let w = and_parts (decides a) (decides b && all_apart (goes_on a) (begins b)) d in
+    seq_passes a b ts h (passes a w.0 ts (next_left (begins a) (cond (can_be_empty a) (begins b) []) ts h))
+    (λ k. passes b (and_parts (decides b) (all_apart (goes_on a) (begins b)) w.1).0 ts k)
 passes (a ∣ b) d ts h =
-    let r = and_right (decides a) (decides b && (not (can_be_empty a) && all_apart (begins a) (begins b))) d in
-    let s = and_right (decides b) (not (can_be_empty a) && all_apart (begins a) (begins b)) r in
-    choice_passes a b ts (not_true (can_be_empty a) (and_left (not (can_be_empty a)) (all_apart (begins a) (begins b)) s))
-    (next_left (begins a) (begins b) ts h)
-    (passes b (and_left (decides b) (not (can_be_empty a) && all_apart (begins a) (begins b)) r) ts (next_right (begins a) (begins b) ts h))
+    let w = and_parts (decides a) (decides b && (not (can_be_empty a) && all_apart (begins a) (begins b))) d in
+    let v = and_parts (decides b) (not (can_be_empty a) && all_apart (begins a) (begins b)) w.1 in
+    choice_passes a b ts (not-true (can_be_empty a) (and_parts (not (can_be_empty a)) (all_apart (begins a) (begins b)) v.1).0)
+    (next_left (begins a) (begins b) ts h) (passes b v.0 ts (next_right (begins a) (begins b) ts h))
 passes (Many a) d ts h = (λ _. (Empty, many_ends a ts h), λ e. cc)
 passes (Beyond c) d ts h = (λ e. cc, λ _. beyond_passes c ts h)
 
 -- One token of look-ahead that decides a block decides each item, and tells an item from what closes the block.
 pub items_decide : (g c : Grammar) → decides (Many g ⨾ c) ≡ true → decides g ≡ true
 items_decide g c d =
-    and_left (decides g) (not (can_be_empty g) && all_apart (goes_on g) (begins g))
-    (and_left (decides (Many g)) (decides c && all_apart (begins g ++ goes_on g) (begins c)) d)
+    let w = and_parts (decides (Many g)) (decides c && all_apart (begins g ++ goes_on g) (begins c)) d in
+    (and_parts (decides g) (not (can_be_empty g) && all_apart (goes_on g) (begins g)) w.0).0
 
 pub items_not_empty : (g c : Grammar) → decides (Many g ⨾ c) ≡ true → can_be_empty g ≡ false
 items_not_empty g c d =
-    not_true (can_be_empty g) (and_left (not (can_be_empty g)) (all_apart (goes_on g) (begins g))
-    (and_right (decides g) (not (can_be_empty g) && all_apart (goes_on g) (begins g))
-    (and_left (decides (Many g)) (decides c && all_apart (begins g ++ goes_on g) (begins c)) d)))
+    let w = and_parts (decides (Many g)) (decides c && all_apart (begins g ++ goes_on g) (begins c)) d in
+    let v = and_parts (decides g) (not (can_be_empty g) && all_apart (goes_on g) (begins g)) w.0 in
+    not-true (can_be_empty g) (and_parts (not (can_be_empty g)) (all_apart (goes_on g) (begins g)) v.1).0
 
 pub items_closed : (g c : Grammar) → decides (Many g ⨾ c) ≡ true → (ts : List Spelled) → next_fits (begins c) ts ≡ true → next_fits (begins g) ts ≡ false
 items_closed g c d [] e = refl
 items_closed g c d (t ∷ ts) e =
+    let w = and_parts (decides (Many g)) (decides c && all_apart (begins g ++ goes_on g) (begins c)) d in
     next_left (begins g) (goes_on g) (t ∷ ts) (apart_other (begins g ++ goes_on g) (begins c) t.lexeme
-    (and_right (decides c) (all_apart (begins g ++ goes_on g) (begins c))
-    (and_right (decides (Many g)) (decides c && all_apart (begins g ++ goes_on g) (begins c)) d)) e)
+    (and_parts (decides c) (all_apart (begins g ++ goes_on g) (begins c)) w.1).1 e)
 
 -- Items up to a sign that closes them, of which those of xs are read.
 abbrev pub Closes : {A : Type 0} → (A → Tree) → Grammar → Grammar → List A → List Spelled → Outcome

@@ -6,7 +6,7 @@ use Rattle.proto_syntax.specs.Grammar.{Class, fits, Grammar, One, ◌⨾◌, ◌
 use Rattle.proto_syntax.specs.Fault.{IsFaultAt}
 use Rattle.proto_syntax.specs.Language.{file}
 use Rattle.proto_syntax.proofs.Begins.{tree_front}
-use Rattle.proto_syntax.proofs.Deeper.{item_then}
+use Rattle.proto_syntax.proofs.Sound.{after_item}
 
 -- two cuts of one list
 abbrev Cuts : (us vs a b : List Spelled) → Type 0
@@ -44,7 +44,7 @@ past_prefix g h p q x us ix f a b (inr (c, e, k)) = past ix (q us f c b k) e
 more_prefix : (g : Grammar) → Closed g → (x y : Tree) → IsTree g x → (us : List Spelled) (a b : List Spelled)
     → ((c d : List Spelled) → flatten y ++ us ≡ c ++ d → IsFront (Many g) c) → Cuts (flatten x) (flatten y ++ us) a b → IsFront (Many g) a
 more_prefix g p x y ix us a b h (inl (c, k)) = items none (p (flatten x) (tree_front ix) a c k) refl
-more_prefix g p x y ix us a b h (inr (c, k, l)) = subst (IsFront (Many g)) (sym k) (item_then g x c ix (h c b l))
+more_prefix g p x y ix us a b h (inr (c, k, l)) = subst (IsFront (Many g)) (sym k) (after_item g x c ix (h c b l))
 
 items_prefix : (g : Grammar) → Closed g → (x : Tree) → IsTree (Many g) x → (us : List Spelled) → IsFront g us → (a b : List Spelled) → flatten x ++ us ≡ a ++ b
     → IsFront (Many g) a

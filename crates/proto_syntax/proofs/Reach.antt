@@ -1,10 +1,10 @@
 -- A front is read past, so a fault is where the fronts end; and a list of tokens has at most one tree.
 use Rattle.std.proofs.Common.{◌≡◌, ℕ, zero, suc, ◌≤◌, ◌<◌, Bool, true, false, ◌&&◌, not, List, [], ◌∷◌, ◌++◌, length, refl, sym, ◌∙◌, ap, subst, arith, append_assoc, length-append}
 use Rattle.std.proofs.lemmas.List.{append-nil}
+use Rattle.std.proofs.lemmas.Bool.{and_parts, not-true}
 use Rattle.proto_tokens.specs.Token.{Spelled}
 use Rattle.proto_syntax.specs.Grammar.{Class, Grammar, One, ◌⨾◌, ◌∣◌, Many, Tree, Empty, Pair, Left, Right, flatten, IsTree, none, more, IsFront, empty, token, within, past, of_first, of_second, items}
 use Rattle.proto_syntax.specs.Reading.{Outcome, Read, Stops, after, mapped, read_many, read, begins, next_fits, fits_any, can_be_empty, goes_on, decides, all_apart}
-use Rattle.proto_syntax.proofs.Apart.{and_left, and_right, not_true}
 use Rattle.proto_syntax.proofs.Begins.{Opens, tree_starts, front_opens, tree_front, apart_other}
 use Rattle.proto_syntax.proofs.Sound.{Sound, sound, many_sound}
 use Rattle.proto_syntax.proofs.Complete.{complete, starts_next, not_empty_longer}
@@ -121,26 +121,22 @@ pub reaches : (g : Grammar) → Reaches g
 reaches g _ empty d us = any_left_of g us
 reaches (One c) _ (token {t = t} h) d us = rw h (omega arith)
 reaches (a ⨾ b) _ (within {ts = zs} f) d us =
-    then_left a b (length us) (zs ++ us) (reaches a zs f (and_left (decides a) (decides b && all_apart (goes_on a) (begins b)) d) us)
+    then_left a b (length us) (zs ++ us) (reaches a zs f (and_parts (decides a) (decides b && all_apart (goes_on a) (begins b)) d).0 us)
 reaches (a ⨾ b) zs (past {x = x} {us = vs} ix f e) d us =
-    let r = and_right (decides a) (decides b && all_apart (goes_on a) (begins b)) d in
-    subst (λ ts. Left_at_most (length us) (read (a ⨾ b) (ts ++ us))) (sym e)
-    (past_reach a b (reaches a) (reaches b) (and_left (decides a) (decides b && all_apart (goes_on a) (begins b)) d)
-    (and_left (decides b) (all_apart (goes_on a) (begins b)) r) (and_right (decides b) (all_apart (goes_on a) (begins b)) r) x ix vs f us)
+    let w = and_parts (decides a) (decides b && all_apart (goes_on a) (begins b)) d in
+    let v = and_parts (decides b) (all_apart (goes_on a) (begins b)) w.1 in
+    subst (λ ts. Left_at_most (length us) (read (a ⨾ b) (ts ++ us))) (sym e) (past_reach a b (reaches a) (reaches b) w.0 v.0 v.1 x ix vs f us)
 reaches (a ∣ b) zs (of_first f) d us =
-    first_reach a b (reaches a) (and_left (decides a) (decides b && (not (can_be_empty a) && all_apart (begins a) (begins b))) d) zs us f
+    first_reach a b (reaches a) (and_parts (decides a) (decides b && (not (can_be_empty a) && all_apart (begins a) (begins b))) d).0 zs us f
 reaches (a ∣ b) zs (of_second f) d us =
-    let r = and_right (decides a) (decides b && (not (can_be_empty a) && all_apart (begins a) (begins b))) d in
-    second_reach a b (reaches b) (and_left (decides b) (not (can_be_empty a) && all_apart (begins a) (begins b)) r)
-    (and_right (not (can_be_empty a)) (all_apart (begins a) (begins b)) (and_right (decides b) (not (can_be_empty a) && all_apart (begins a) (begins b)) r))
-    zs us f
+    let w = and_parts (decides a) (decides b && (not (can_be_empty a) && all_apart (begins a) (begins b))) d in
+    let v = and_parts (decides b) (not (can_be_empty a) && all_apart (begins a) (begins b)) w.1 in
+    second_reach a b (reaches b) v.0 (and_parts (not (can_be_empty a)) (all_apart (begins a) (begins b)) v.1).1 zs us f
 reaches (Many a) zs (items {x = x} {us = vs} ix f e) d us =
-    let r = and_right (decides a) (not (can_be_empty a) && all_apart (goes_on a) (begins a)) d in
-    let da = and_left (decides a) (not (can_be_empty a) && all_apart (goes_on a) (begins a)) d in
+    let w = and_parts (decides a) (not (can_be_empty a) && all_apart (goes_on a) (begins a)) d in
+    let v = and_parts (not (can_be_empty a)) (all_apart (goes_on a) (begins a)) w.1 in
     subst (λ ts. Left_at_most (length us) (read (Many a) (ts ++ us))) (sym e)
-    (items_reach a (reaches a) da
-    (not_true (can_be_empty a) (and_left (not (can_be_empty a)) (all_apart (goes_on a) (begins a)) r))
-    (and_right (not (can_be_empty a)) (all_apart (goes_on a) (begins a)) r) (length ((flatten x ++ vs) ++ us)) x ix vs f us (omega arith))
+    (items_reach a (reaches a) w.0 (not-true (can_be_empty a) v.0) v.1 (length ((flatten x ++ vs) ++ us)) x ix vs f us (omega arith))
 
 -- A fault is where the fronts end.
 pub record IsFault (g : Grammar) (ts us : List Spelled) : Type 0 where

@@ -37,7 +37,8 @@ choice_sound : (a b : Grammar) (ts : List Spelled) (z : Bool) → Sound a ts (re
 choice_sound a b ts true ha hb = left_sound a b ts (read a ts) ha
 choice_sound a b ts false ha hb = right_sound a b ts (read b ts) hb
 
-after_item : (a : Grammar) (x : Tree) (fs : List Spelled) → IsTree a x → IsFront (Many a) fs → IsFront (Many a) (flatten x ++ fs)
+-- an item, and then a front of the others
+pub after_item : (a : Grammar) (x : Tree) (fs : List Spelled) → IsTree a x → IsFront (Many a) fs → IsFront (Many a) (flatten x ++ fs)
 after_item a x fs ix empty = items (more ix none) empty (sym (append-nil (flatten x ++ [])))
 after_item a x fs ix (items {x = y} {us = ws} iy f' q) = items (more ix iy) f' (rw q (sym (append_assoc (flatten x) (flatten y) ws)))
 

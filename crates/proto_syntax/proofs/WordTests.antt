@@ -2,9 +2,9 @@
 use Rattle.std.proofs.Common.{◌≡◌, ℕ, true, false, List, [], ◌∷◌, ap, inl, inr}
 use Rattle.std.specs.Prelude.{bytes_eq}
 use Rattle.std.proofs.lemmas.Slice.Eq.{bytes_eq-Decides}
+use Rattle.std.proofs.lemmas.Bool.{or_cases}
 use Rattle.proto_tokens.specs.Token.{Lexeme, identifier, number, string_literal, punctuation}
 use Rattle.proto_syntax.specs.Grammar.{OneOf, fits}
-use Rattle.proto_syntax.proofs.Apart.{or_cases}
 
 -- a token that fits a word is that word
 pub fits_word : (w : Lexeme) (text : List ℕ) → fits (OneOf (text ∷ [])) w ≡ true → w ≡ identifier text

@@ -99,22 +99,21 @@ fault_answer limit s source mark e short utf8 same mark_is fault =
 
 -- ---- places
 
-cut_within : (s : List ℕ) (from : ℕ) (ps : List Piece) (to : ℕ) → from ≤ length s → IsCutIntoPieces s from ps to → to ≤ length s
+pub cut_within : (s : List ℕ) (from : ℕ) (ps : List Piece) (to : ℕ) → from ≤ length s → IsCutIntoPieces s from ps to → to ≤ length s
 cut_within s from [] to within cut = omega (arith, cut)
 cut_within s from (p ∷ ps) to within cut = cut_within s (from + p.len) ps to (omega (arith, cut.0.fits, length-drop from s)) cut.1
 
 string_fault_within : (s : List ℕ) (at : ℕ) (kind : Kind) → IsStringFault s at kind → at ≤ length s
-string_fault_within s at kind fault =
-    let len : length s ≡ suc (length fault.1) = ap length fault.4.begins_so in
-    elim fault.5 [
+string_fault_within s at kind (quote, after, parts, end, opened, fault) =
+    let len : length s ≡ suc (length after) = ap length opened.begins_so in
+    elim fault [
       | inl escape ↦ omega (arith, len, escape.1, escape.2.0)
-      | inr other ↦ elim other [
-        | inl closed ↦ omega (arith, closed.1)
-        | inr more ↦ elim more [ inl zero_byte ↦ omega (arith, len, zero_byte.1, zero_byte.2.0) | inr open_ ↦ omega (arith, open_.1) ]
-      ]
+      | inr (inl value) ↦ omega (arith, value.1)
+      | inr (inr (inl zero_byte)) ↦ omega (arith, len, zero_byte.1, zero_byte.2.0)
+      | inr (inr (inr unclosed)) ↦ omega (arith, unclosed.1)
     ]
 
-piece_fault_within : (s : List ℕ) (at : ℕ) (kind : Kind) → IsPieceFault s at kind → at ≤ length s
+pub piece_fault_within : (s : List ℕ) (at : ℕ) (kind : Kind) → IsPieceFault s at kind → at ≤ length s
 piece_fault_within s at kind (inl bad) = omega (arith, bad.1)
 piece_fault_within s at kind (inr (inl bad)) = omega (arith, bad.1)
 piece_fault_within s at kind (inr (inr (inl big))) = omega (arith, big.1)

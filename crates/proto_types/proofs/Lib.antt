@@ -1,4 +1,4 @@
 mod Meanings
-mod Walking
-mod Trees
+pub mod Walking
+pub mod Trees
 pub mod Unique

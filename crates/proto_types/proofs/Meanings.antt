@@ -1,6 +1,6 @@
 -- The faults of one reference, by what its name means.
 use Rattle.std.proofs.Common.{◌≡◌, ℕ, List, refl, inl, inr}
-use Rattle.std.specs.Prelude.{Option, Some, None, Result, Ok, Err, IfOk, OnOk}
+use Rattle.std.specs.Prelude.{Option, Some, None}
 use Rattle.proto_base.specs.declared.kind.Kind.TheVariants as kind
 use Rattle.proto_desc.specs.declared.name_kind.NameKind.{NameKind}
 use Rattle.proto_desc.specs.declared.name_kind.NameKind.TheVariants as name_kind
@@ -93,11 +93,3 @@ naming_means os Seen r full k (Named t) found only naming = (
   (full, rw naming.2 (rw (kind_named os Seen full k found.type) found), naming.1),
 )
 naming_means os Seen r full k (Wrong x) found only naming = resolved_least os Seen r full k (Some x) found found.type only naming
-
-pub if_ok : {T E : Type 0} {P Q : T → Type 0} (r : Result T E) → IfOk r P → ((x : T) → P x → Q x) → IfOk r Q
-if_ok (Ok x) p turn = turn x p
-if_ok (Err e) p turn = tt
-
-pub on_ok : {T E : Type 0} {P Q : Type 0} (r : Result T E) → OnOk r P → (P → Q) → OnOk r Q
-on_ok (Ok x) p turn = turn p
-on_ok (Err e) p turn = tt

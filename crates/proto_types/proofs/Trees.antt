@@ -1,8 +1,9 @@
 -- Trees of messages.
 use Rattle.std.proofs.Common.{◌≡◌, ◌∙◌, ap, ℕ, List, [], ◌∷◌, ◌++◌, Bool, true, refl}
+use Rattle.std.proofs.lemmas.Bool.{and_from}
 use Rattle.std.proofs.lemmas.List.Folds.{flat_map-map}
 use Rattle.std.specs.List.{AllZip, list_all}
-use Rattle.std.specs.Prelude.{flat_map, ◌&&◌}
+use Rattle.std.specs.Prelude.{flat_map}
 use Rattle.proto_desc.specs.DeclaredNames.{scoped}
 use Rattle.proto_desc.specs.Resolved.{reference_resolved, kind_resolved, field_resolved, fields_resolved, message_resolved, method_resolved, service_resolved, services_resolved, file_resolved}
 use Rattle.proto_desc.specs.declared.field.FieldDesc.{FieldDesc}
@@ -18,15 +19,12 @@ use Rattle.proto_desc.specs.declared.service.ServiceDesc.{ServiceDesc}
 use Rattle.proto_desc.specs.declared.type_name.TypeReference.{TypeReference}
 use Rattle.proto_desc.specs.declared.type_name.TypeReference.TheVariants.{Spelled, Resolved}
 use Rattle.proto_names.specs.Occurrences.{Occurrence}
+use Rattle.proto_desc.proofs.Declared.{scope_in}
 use Rattle.proto_desc.proofs.Resolves.{message_resolved_out}
 use Rattle.proto_types.specs.References.{Reference, field_scope, references_of_field, references_step, references_by_message}
 use Rattle.proto_types.specs.Typed.{IsTyped, IsTypedKind, IsTypedField, IsTypedMessage, AreTypedMessages, IsTypedMethod, IsTypedService, IsTypedIn}
 use Rattle.proto_types.specs.Typed.IsTypedMessage.{message}
 use Rattle.proto_types.specs.Typed.AreTypedMessages.{none, more}
-
--- the scope of what stands in a message
-abbrev pub scope_in : MessageDesc → List ℕ → List ℕ
-scope_in m scope = scoped scope (out-MessageDesc m).name
 
 -- those of a message's own fields
 abbrev pub own_references : MessageDesc → List ℕ → List Reference
@@ -45,9 +43,6 @@ messages_typed os Seen scope [] [] h = none scope
 messages_typed os Seen scope [] (g ∷ gs) h = absurd h
 messages_typed os Seen scope (m ∷ ms) [] h = absurd h
 messages_typed os Seen scope (m ∷ ms) (g ∷ gs) h = more scope m g ms gs h.0 (messages_typed os Seen scope ms gs h.1)
-
-and_true : (a b : Bool) → a ≡ true → b ≡ true → (a && b) ≡ true
-and_true a b p q = rw (p, q) refl
 
 abbrev pub remade : MessageDesc-F MessageDesc → List FieldDesc → List MessageDesc → MessageDesc-F MessageDesc
 remade m fields nested = record {
@@ -99,7 +94,7 @@ field_typed : (os : List Occurrence) (Seen : ℕ → Type 0) (scope : List ℕ) 
 field_typed os Seen scope f g h = rw h.2 (kind_typed os Seen scope f.field_type h.0 h.1)
 
 method_typed : (os : List Occurrence) (Seen : ℕ → Type 0) (scope : List ℕ) (m g : MethodDesc) → IsTypedMethod os Seen scope m g → method_resolved g ≡ true
-method_typed os Seen scope m g h = and_true (reference_resolved g.input) (reference_resolved g.output)
+method_typed os Seen scope m g h = and_from (reference_resolved g.input) (reference_resolved g.output)
     (reference_typed os Seen scope m.input g.input h.input_typed) (reference_typed os Seen scope m.output g.output h.output_typed)
 
 -- all of a list, where each is what another is typed as
@@ -107,7 +102,7 @@ zip_all : {X : Type 0} (R : X → X → Type 0) (p : X → Bool) → ((x y : X) 
 zip_all R p turn [] [] h = refl
 zip_all R p turn [] (y ∷ ys) h = absurd h
 zip_all R p turn (x ∷ xs) [] h = absurd h
-zip_all R p turn (x ∷ xs) (y ∷ ys) h = and_true (p y) (list_all p ys) (turn x y h.0) (zip_all R p turn xs ys h.1)
+zip_all R p turn (x ∷ xs) (y ∷ ys) h = and_from (p y) (list_all p ys) (turn x y h.0) (zip_all R p turn xs ys h.1)
 
 service_typed : (os : List Occurrence) (Seen : ℕ → Type 0) (scope : List ℕ) (s g : ServiceDesc) → IsTypedService os Seen scope s g → service_resolved g ≡ true
 service_typed os Seen scope s g h =
@@ -116,7 +111,7 @@ service_typed os Seen scope s g h =
 mutual
   message_typed : (os : List Occurrence) (Seen : ℕ → Type 0) (scope : List ℕ) (m g : MessageDesc) → IsTypedMessage os Seen scope m g → message_resolved g ≡ true
   message_typed os Seen scope m g (message s n o body nested) =
-      message_resolved_out g ∙ and_true (fields_resolved (out-MessageDesc g).fields) (list_all message_resolved (out-MessageDesc g).nested)
+      message_resolved_out g ∙ and_from (fields_resolved (out-MessageDesc g).fields) (list_all message_resolved (out-MessageDesc g).nested)
       (zip_all (IsTypedField os Seen (field_scope scope (out-MessageDesc m))) field_resolved (field_typed os Seen (field_scope scope (out-MessageDesc m)))
       (out-MessageDesc m).fields (out-MessageDesc g).fields body.fields_typed)
       (all_typed os Seen (scope_in m scope) (out-MessageDesc m).nested (out-MessageDesc g).nested nested)
@@ -125,9 +120,9 @@ mutual
       → list_all message_resolved gs ≡ true
   all_typed os Seen scope ms gs (none s) = refl
   all_typed os Seen scope ms gs (more s m g rest made one others) =
-      and_true (message_resolved g) (list_all message_resolved made) (message_typed os Seen scope m g one) (all_typed os Seen scope rest made others)
+      and_from (message_resolved g) (list_all message_resolved made) (message_typed os Seen scope m g one) (all_typed os Seen scope rest made others)
 
 pub typed_resolved : (os : List Occurrence) (Seen : ℕ → Type 0) (scope : List ℕ) (f g : FileDesc) → IsTypedIn os Seen scope f g → file_resolved g ≡ true
-typed_resolved os Seen scope f g h = and_true (list_all message_resolved g.messages) (services_resolved g.services)
+typed_resolved os Seen scope f g h = and_from (list_all message_resolved g.messages) (services_resolved g.services)
     (all_typed os Seen scope f.messages g.messages h.messages_typed)
     (zip_all (IsTypedService os Seen scope) service_resolved (service_typed os Seen scope) f.services g.services h.services_typed)

@@ -5,6 +5,7 @@ use Rattle.std.specs.List.{AllZip}
 use Rattle.std.specs.declared.alloc.Global.{Global}
 use Rattle.std.proofs.lemmas.List.{length-map}
 use Rattle.std.proofs.lemmas.List.Elements.{All-contains}
+use Rattle.std.proofs.lemmas.Option.{same_Some}
 use Rattle.std.proofs.lemmas.Bool.{cases_lt}
 use Rattle.first_reach.specs.Carried.{carried, root_first}
 use Rattle.first_reach.specs.declared.mode.Mode.{Mode}
@@ -62,9 +63,6 @@ root_is [] k a below = absurd (omega arith)
 root_is (x ∷ xs) zero a below = refl
 root_is (x ∷ xs) (suc k) a below = root_is xs k a (omega arith)
 
-some_is : {x y : Option ℕ} → Some x ≡ Some y → x ≡ y
-some_is e = cc
-
 -- the files of one reply
 record AreGood (c : Compilation) (files : List ℕ) : Type 0 where
   pub inside : (a : ℕ) → Contains files a → a < count_of c.links
@@ -102,7 +100,7 @@ module _ (c : Compilation) (holds : HoldsReplies c) where
             let host = bounds.short_host in let ask = bounds.short_ask in
             let carried_here = kept_of mode (reach_of c.links) [] (map root (map asked_of xs)) k (get_or ys k f).items
             (ap (λ l. slice_get l k) (sym lists) ∙ files_at ys k f (omega (arith, size, below))) in
-            let root_here : root (asked_of (get_or xs k a)) ≡ carried_here.root = some_is (sym (root_is xs k a below) ∙ carried_here.at) in
+            let root_here : root (asked_of (get_or xs k a)) ≡ carried_here.root = same_Some _ _ (sym (root_is xs k a below) ∙ carried_here.at) in
             let good = subst (AreGood c) (sym carried_here.is) (good_from carried_here.kept carried_here.root
             (subst (IsRootWithin (count_of c.links)) root_here (within k a below))) in
             record {

@@ -2,12 +2,7 @@
 use Rattle.std.proofs.Common.{ℕ, ◌+◌, ◌<◌, List, [], ◌∷◌, ◌++◌, length, map, take, sym, ap, subst, ◌∙◌, get_or}
 use Rattle.std.specs.List.{AllZip}
 use Rattle.std.proofs.lemmas.List.{take_more, map-append}
-
-zip_push : {X Y : Type 0} (R : X → Y → Type 0) (xs : List X) (ys : List Y) (x : X) (y : Y) → AllZip R xs ys → R x y → AllZip R (xs ++ x ∷ []) (ys ++ y ∷ [])
-zip_push R [] [] x y all r = (r, tt)
-zip_push R [] (b ∷ ys) x y all r = absurd all
-zip_push R (a ∷ xs) [] x y all r = absurd all
-zip_push R (a ∷ xs) (b ∷ ys) x y all r = (all.0, zip_push R xs ys x y all.1 r)
+use Rattle.proto_compile.proofs.Zipping.{zip_end}
 
 pub zip_more : {A B X Y : Type 0} (R : X → Y → Type 0) (f : A → X) (g : B → Y) (xs : List A) (bs : List B) (k : ℕ) (d : A) (b : B) → k < length xs
     → AllZip R (map f (take k xs)) (map g bs) → R (f (get_or xs k d)) (g b) → AllZip R (map f (take (k + 1) xs)) (map g (bs ++ b ∷ []))
@@ -15,4 +10,4 @@ zip_more R f g xs bs k d b below before here =
     let longer = ap (map f) (take_more xs k d below) ∙ map-append f (take k xs) (get_or xs k d ∷ []) in
     let more = map-append g bs (b ∷ []) in
     subst (λ zs. AllZip R zs (map g (bs ++ b ∷ []))) (sym longer)
-    (subst (λ ys. AllZip R (map f (take k xs) ++ f (get_or xs k d) ∷ []) ys) (sym more) (zip_push R _ _ _ _ before here))
+    (subst (λ ys. AllZip R (map f (take k xs) ++ f (get_or xs k d) ∷ []) ys) (sym more) (zip_end R _ _ _ _ before here))

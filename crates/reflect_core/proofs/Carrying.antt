@@ -2,7 +2,8 @@
 use Rattle.std.proofs.Common.{◌≡◌, ◌∙◌, ℕ, zero, suc, ◌+◌, ◌≤◌, List, [], ◌∷◌, ◌++◌, length, sym, ap, subst, arith, length-append, refl, Bool, true, false, not, eqb, eqb-true, eq-eqb, cond, filter}
 use Rattle.std.specs.Prelude.{Option, Some, flat_map, Contains, slice_get}
 use Rattle.std.proofs.lemmas.Bool.{false≢true}
-use Rattle.std.proofs.lemmas.Option.{none-some}
+use Rattle.std.proofs.lemmas.List.Elements.{All-contains, All-contains_itself, All-filter}
+use Rattle.std.proofs.lemmas.Option.{none-some, same_Some}
 use Rattle.first_reach.specs.Carried.{carried_from, reached, root_first}
 use Rattle.first_reach.specs.declared.mode.Mode.{Mode}
 
@@ -15,28 +16,17 @@ pub record IsKept (reach : ℕ → List ℕ) (roots : List (Option ℕ)) (k : �
 pub kept_of : (mode : Mode) (reach : ℕ → List ℕ) (sent : List ℕ) (roots : List (Option ℕ)) (k : ℕ) (files : List ℕ)
     → slice_get (carried_from mode reach sent roots) k ≡ Some files → IsKept reach roots k files
 kept_of mode reach sent [] k files e = absurd (none-some files e)
-kept_of mode reach sent (root ∷ roots) zero files e = record { root = root; at = refl; kept = _; is = sym (some_is e) } where
-  some_is : {x y : List ℕ} → Some x ≡ Some y → x ≡ y
-  some_is e = cc
+kept_of mode reach sent (root ∷ roots) zero files e = record { root = root; at = refl; kept = _; is = sym (same_Some _ _ e) }
 kept_of mode reach sent (root ∷ roots) (suc k) files e =
     let rest = kept_of mode reach (sent ++ reached reach root) roots k files e in
     record { root = rest.root; at = rest.at; kept = rest.kept; is = rest.is }
-
-there : (x a : ℕ) (xs : List ℕ) → Contains xs a → Contains (x ∷ xs) a
-there x a xs w = (suc w.0, (let h = w.1 in omega arith), w.2)
 
 unpush : (x a : ℕ) (xs : List ℕ) → Contains (x ∷ xs) a → (P : Type 0) → (x ≡ a → P) → (Contains xs a → P) → P
 unpush x a xs (zero, below, is) P here rest = here is
 unpush x a xs (suc k, below, is) P here rest = rest (k, omega (arith, below), is)
 
-of_filter_step : (p : ℕ → Bool) (x a : ℕ) (xs : List ℕ) (b : Bool) → (Contains (filter p xs) a → Contains xs a)
-    → Contains (cond b (x ∷ filter p xs) (filter p xs)) a → Contains (x ∷ xs) a
-of_filter_step p x a xs true rest v = unpush x a (filter p xs) v (Contains (x ∷ xs) a) (λ e. (0, omega arith, e)) (λ u. there x a xs (rest u))
-of_filter_step p x a xs false rest v = there x a xs (rest v)
-
 pub of_filter : (p : ℕ → Bool) (a : ℕ) (xs : List ℕ) → Contains (filter p xs) a → Contains xs a
-of_filter p a [] w = w
-of_filter p a (x ∷ xs) w = of_filter_step p x a xs (p x) (of_filter p a xs) w
+of_filter p a xs w = All-contains (Contains xs) (filter p xs) a (All-filter p (Contains xs) xs (All-contains_itself xs)) w
 
 not_same : (x r : ℕ) → x ≡ r → false ≡ eqb x r → ⊥
 not_same x r same e = false≢true (e ∙ eq-eqb x r same)

@@ -13,7 +13,3 @@ frame_pushed out a b c head message flag first second third =
 pub on_ok : {A E : Type 0} (r : Result A E) (now before after : List ℕ) → now ≡ (if is_ok r then after else before) → OnOk r (now ≡ after)
 on_ok (Ok x) now before after e = e
 on_ok (Err x) now before after e = tt
-
-pub on_ok_then : {A E P Q : Type 0} (r : Result A E) → OnOk r P → (P → Q) → OnOk r Q
-on_ok_then (Ok x) p f = f p
-on_ok_then (Err x) p f = tt

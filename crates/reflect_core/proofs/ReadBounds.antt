@@ -1,7 +1,7 @@
 -- What a message names is no longer than the message.
 use Rattle.std.proofs.Common.{◌≡◌, ◌∙◌, ℕ, ◌≤◌, List, [], ◌∷◌, ◌++◌, length, sym, ap, subst, arith, length-append, refl, Bool, true, false, nat_eq}
 use Rattle.std.specs.Prelude.{Option, Some, None, flat_map, if◌then◌else◌}
-use Rattle.std.proofs.lemmas.Option.{none-some}
+use Rattle.std.proofs.lemmas.Option.{none-some, same_Some}
 use Rattle.std.specs.List.{filter_map}
 use Rattle.wire_format.specs.Reading.{Value, number, bytes, Spelled, Body, varint_body, eight_bytes, delimited, four_bytes, body_text, text_of, entry_of}
 use Rattle.reflect_requests.specs.Request.{Ask, file_by_name, file_by_symbol, file_by_extension, extension_numbers, list_services, nothing, last_of, host_of, member_of, ReadsRequest}
@@ -44,12 +44,6 @@ module _ {A : Type 0} (size : A → ℕ) (f : ℕ × Value → Option A) (most :
       let split = length-append (text_of s) (flat_map text_of row) in
       last_go s row x here long (λ y h. last_within row y h (omega (arith, long, split))) s.body refl
 
-some_is : {A : Type 0} {x y : A} → Some x ≡ Some y → x ≡ y
-some_is e = cc
-
-none_is : {A : Type 0} {x : A} → None ≡ Some x → ⊥
-none_is {x = x} e = none-some x e
-
 abbrev pub ask_size : Ask → ℕ
 ask_size (file_by_name text) = length text
 ask_size (file_by_symbol text) = length text
@@ -59,17 +53,17 @@ ask_size list_services = 0
 ask_size nothing = 0
 
 host_bound : (e : ℕ × Value) (a : List ℕ) → host_of e ≡ Some a → length a ≤ value_len e
-host_bound (n, number v) a is = absurd (none_is is)
+host_bound (n, number v) a is = absurd (none-some a is)
 host_bound (n, bytes text) a is = pick (nat_eq n 1) is where
   pick : (b : Bool) → (if b then Some text else None) ≡ Some a → length a ≤ length text
-  pick true e = let same = ap (λ (l : List ℕ). length l) (some_is e) in omega (arith, same)
-  pick false e = absurd (none_is e)
+  pick true e = let same = ap (λ (l : List ℕ). length l) (same_Some _ _ e) in omega (arith, same)
+  pick false e = absurd (none-some a e)
 
 member_bound : (e : ℕ × Value) (a : Ask) → member_of e ≡ Some a → ask_size a ≤ value_len e
-member_bound (n, number v) a is = absurd (none_is is)
+member_bound (n, number v) a is = absurd (none-some a is)
 member_bound (n, bytes text) a is = pick (nat_eq n 3) (nat_eq n 4) (nat_eq n 5) (nat_eq n 6) (nat_eq n 7) is where
   small : (x : Ask) → ask_size x ≤ length text → Some x ≡ Some a → ask_size a ≤ length text
-  small x h e = subst (λ y. ask_size y ≤ length text) (some_is e) h
+  small x h e = subst (λ y. ask_size y ≤ length text) (same_Some _ _ e) h
 
   pick : (b3 b4 b5 b6 b7 : Bool) → (if b3 then Some (file_by_name text) else if b4 then Some (file_by_symbol text) else if b5 then Some file_by_extension
       else if b6 then Some (extension_numbers text) else if b7 then Some list_services else None) ≡ Some a → ask_size a ≤ length text
@@ -78,7 +72,7 @@ member_bound (n, bytes text) a is = pick (nat_eq n 3) (nat_eq n 4) (nat_eq n 5) 
   pick false false true b6 b7 e = small file_by_extension (omega arith) e
   pick false false false true b7 e = small (extension_numbers text) (omega arith) e
   pick false false false false true e = small list_services (omega arith) e
-  pick false false false false false e = absurd (none_is e)
+  pick false false false false false e = absurd (none-some a e)
 
 pub record IsBounded (message host : List ℕ) (asked : Ask) : Type 0 where
   pub short_host : length host ≤ length message

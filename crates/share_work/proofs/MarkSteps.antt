@@ -2,6 +2,7 @@
 use Rattle.std.proofs.Common.{◌≡◌, ◌≢◌, ℕ, zero, suc, ◌+◌, ◌-◌, ◌^◌, ◌<◌, ◌≤◌, ◌⊎◌, inl, inr, ⊎_elim, Bool, true, false, cond, eqb, ltb, ◌==◌, List, [], ◌∷◌, ◌++◌, length, set, slice_index, sym, refl, ap, ◌∙◌, subst, arith, min, get_or-set_same, get_or-set_other, append-nil}
 use Rattle.std.specs.List.{sum_by, count_by}
 use Rattle.std.proofs.lemmas.Bool.{eqb-true, eq-eqb, and_parts, and_from, cases_eq, cases_lt, cases_Bool, lt-ltb}
+use Rattle.std.proofs.lemmas.List.{set-get_or}
 use Rattle.std.proofs.lemmas.List.Sums.{sum_by-cons, sum_by-append, sum_by_push}
 use mathlib.Core.Option.{some, some-injective, some-ne-none}
 use lib.ListN.{get_elem?}
@@ -19,7 +20,7 @@ use Rattle.share_work.specs.Reach.{Reaches}
 use Rattle.share_work.specs.Marks.{at_each, marked_posts, make_debt, owed_by, owed_of, next_debt, with_root, with_paid, mark_left, mark_right, mark_both, mark_spent}
 use Rattle.share_work.specs.MarkRule.{all_views, all_marks, all_owed, IsMarked}
 use Rattle.share_work.proofs.Sums.{sum_by-flat_map, sum_by-at_set, sum_by-at, one_positive, count_by-cons, one_when, zero_if, SomePass-cons, SomePass-here, SomePass-later}
-use Rattle.share_work.proofs.Steps.{SomePass-append, calls_set, IsKept-post, IsKept-split, IsKept-join, held-le-known, closes}
+use Rattle.share_work.proofs.Steps.{SomePass-append, calls_set, IsKept-post, IsKept-split, IsKept-join, held-le-known, back, closes}
 use Rattle.share_work.proofs.Legal.{least_here, least_else, least_at-le-NONE, least_at-above, least_at-reached}
 
 map-set : (views : List MarkView) (id : ℕ) (w : MarkView) → all_views (set views id w) ≡ set (all_views views) id w.least
@@ -374,14 +375,6 @@ module _ (count : ℕ) (list : ℕ → List ℕ) (words : List ℕ) (views : Lis
 abbrev pub mark_holds : ℕ → (ℕ → List ℕ) → State (Unit {0}) MarkView → Type 0
 mark_holds count list s = IsMarked count list s.words s.views
 
-back : (w : ℕ) → w ≡ w + 1 - 1
-back w = omega arith
-
-set_found : (xs : List ℕ) (i : ℕ) → xs ≡ set xs i (slice_index xs i)
-set_found [] i = refl
-set_found (x ∷ xs) zero = refl
-set_found (x ∷ xs) (suc i) = ap (λ (l : List ℕ). x ∷ l) (set_found xs i)
-
 module _ (count : ℕ) (list : ℕ → List ℕ) (slots id : ℕ) (v : MarkView) (cs : List (ℕ × Unit {0})) (pos : 0 < v.least.parts) where
   pub root_allows : ((r : ℕ) → r < count → Reaches list r r) → v.debt ≡ None → (r n : ℕ) → r < count → n < NONE
       → Allows (mark_holds count list) slots id (v, cs) (r + 1) (λ x. min x n)
@@ -417,7 +410,7 @@ module _ (count : ℕ) (list : ℕ → List ℕ) (slots id : ℕ) (v : MarkView)
   pub mark_count_allows : Allows (mark_holds count list) slots id (v, cs) 0 (λ x. x) (λ found after. (v.least.parts ≤ 2 ^ 32) × (after ≡ (v, cs)))
   mark_count_allows s k homes at small =
       let m : ℕ = slice_index s.words 0 in
-      let words : IsMarked count list (set s.words 0 m) s.views = subst (λ (l : List ℕ). IsMarked count list l s.views) (set_found s.words 0) k in (
+      let words : IsMarked count list (set s.words 0 m) s.views = subst (λ (l : List ℕ). IsMarked count list l s.views) (sym (set-get_or s.words 0 0)) k in (
         v,
         keeps,
         tt,

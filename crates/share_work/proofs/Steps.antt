@@ -2,6 +2,7 @@
 use Rattle.std.proofs.Common.{◌≡◌, ◌≢◌, ℕ, zero, suc, ◌+◌, ◌-◌, ◌^◌, ◌<◌, ◌≤◌, ◌⊎◌, inl, inr, ⊎_elim, Bool, true, cond, eqb, List, [], ◌∷◌, ◌++◌, length, set, slice_index, sym, refl, ap, ◌∙◌, subst, arith, min, length-set, get_or-set_same, get_or-set_other, append-nil}
 use Rattle.std.specs.List.{flat_map, sum_by, count_by}
 use Rattle.std.proofs.lemmas.Bool.{eqb-true, and_parts, cases_eq}
+use Rattle.std.proofs.lemmas.List.{set-get_or}
 use Rattle.std.proofs.lemmas.List.Sums.{sum_by-cons, sum_by-append, sum_by_push}
 use mathlib.Core.Option.{some, some-injective, some-ne-none}
 use lib.ListN.{get_elem?}
@@ -192,7 +193,7 @@ module _ (count : ℕ) (words : List ℕ) (views : List View) (id : ℕ) (v : Vi
 abbrev pub holds : ℕ → State (Unit {0}) View → Type 0
 holds count s = IsKept count s.words s.views
 
-back : (w : ℕ) → w ≡ w + 1 - 1
+pub back : (w : ℕ) → w ≡ w + 1 - 1
 back w = omega arith
 
 pub post_allows : (count slots id : ℕ) (v : View) (cs : List (ℕ × Unit {0})) (w n : ℕ) → 0 < v.parts → w < count → n < NONE
@@ -208,17 +209,12 @@ post_allows count slots id v cs w n pos inside lt s k homes at small =
       (subst (λ (y : ℕ). m ≤ known y v) (back w) (held-le-known count s.words s.views id v at pos k w inside), refl),
     )
 
-set_found : (xs : List ℕ) (i : ℕ) → xs ≡ set xs i (slice_index xs i)
-set_found [] i = refl
-set_found (x ∷ xs) zero = refl
-set_found (x ∷ xs) (suc i) = ap (λ (l : List ℕ). x ∷ l) (set_found xs i)
-
 pub look_allows : (count slots id : ℕ) (v : View) (cs : List (ℕ × Unit {0})) (w : ℕ) → 0 < v.parts → w < count
     → Allows (holds count) slots id (v, cs) (w + 1) (λ x. x) (λ found after. (found ≤ known (w + 1 - 1) v) × (after ≡ (with_told v (w + 1 - 1) found, cs)))
 look_allows count slots id v cs w pos inside s k homes at small =
     let m : ℕ = slice_index s.words (w + 1) in
     let now : IsKept count (set s.words (w + 1) m) (set s.views id (with_told v w m)) =
-    subst (λ (l : List ℕ). IsKept count l (set s.views id (with_told v w m))) (set_found s.words (w + 1))
+    subst (λ (l : List ℕ). IsKept count l (set s.views id (with_told v w m))) (sym (set-get_or s.words (w + 1) 0))
     (IsKept-look count s.words s.views id v at pos k w inside) in (
       with_told v (w + 1 - 1) m,
       keeps,
@@ -231,7 +227,7 @@ pub count_allows : (count slots id : ℕ) (v : View) (cs : List (ℕ × Unit {0}
     → Allows (holds count) slots id (v, cs) 0 (λ x. x) (λ found after. (v.parts ≤ 2 ^ 32) × (after ≡ (v, cs)))
 count_allows count slots id v cs s k homes at small =
     let m : ℕ = slice_index s.words 0 in
-    let words : IsKept count (set s.words 0 m) s.views = subst (λ (l : List ℕ). IsKept count l s.views) (set_found s.words 0) k in (
+    let words : IsKept count (set s.words 0 m) s.views = subst (λ (l : List ℕ). IsKept count l s.views) (sym (set-get_or s.words 0 0)) k in (
       v,
       keeps,
       tt,

@@ -1,6 +1,7 @@
 -- Sums over the lists of all views, and elements that pass a test.
-use Rattle.std.proofs.Common.{◌≡◌, ℕ, zero, suc, ◌+◌, ◌<◌, ◌≤◌, ◌⊎◌, inl, inr, ⊎_elim, Bool, true, false, cond, List, [], ◌∷◌, set, sym, refl, ap, ◌||◌, ◌↔◌, arith}
+use Rattle.std.proofs.Common.{◌≡◌, ℕ, zero, suc, ◌+◌, ◌<◌, ◌≤◌, ◌⊎◌, inl, inr, ⊎_elim, Bool, true, false, cond, List, [], ◌∷◌, set, sym, refl, ap, ◌↔◌, arith}
 use Rattle.std.specs.List.{flat_map, sum_by, count_by, list_any}
+use Rattle.std.proofs.lemmas.Bool.{or_left, or_right, or_cases}
 use Rattle.std.proofs.lemmas.List.Sums.{sum_by-cons, sum_by-append}
 use mathlib.Core.Option.{some, some-injective, some-ne-none}
 use lib.ListN.{get_elem?}
@@ -58,18 +59,6 @@ picked p [] h = absurd (omega arith)
 picked p (x ∷ xs) h = ⊎_elim (λ e. (x, e, λ q f. SomePass-here q x xs f))
     (λ (k : SomePass p xs). let r = picked p xs k in (r.0, r.1, λ q f. SomePass-later q x xs (r.2 q f)))
     (SomePass-cons p x xs h)
-
-or_cases : (a b : Bool) → (a || b) ≡ true → (a ≡ true) ⊎ (b ≡ true)
-or_cases true b h = inl refl
-or_cases false b h = inr h
-
-or_left : (a b : Bool) → a ≡ true → (a || b) ≡ true
-or_left true b h = refl
-or_left false b h = absurd (cc)
-
-or_right : (a b : Bool) → b ≡ true → (a || b) ≡ true
-or_right true b h = refl
-or_right false b h = h
 
 -- the same said by the library's search of a list
 pub SomePass-any : {A : Type 0} (p : A → Bool) (xs : List A) → SomePass p xs ↔ (list_any p xs ≡ true)

@@ -1,17 +1,17 @@
 use Rattle.std.proofs.Common.{◌≡◌, ℕ, List, [], ◌∷◌, ◌++◌, get_or, arith, refl}
 use Rattle.std.proofs.lemmas.Result.{on_ok_weaker}
+use Rattle.std.proofs.lemmas.List.Elements.{Contains-get_or}
 use Rattle.digraph.proofs.Closing.{one_long, union_of_one}
-use Rattle.digraph.proofs.Visiting.{node_at}
 use Rattle.digraph.proofs.closures.push_union.Goals as goal
 
 pub push_extended-requires : goal.push_extended-requires
-push_extended-requires c = c.requires.nodes (get_or c.args.nodes.now 0 0) (node_at c.args.nodes.now 0 (omega (arith, c.in-len1.len_at_least)))
+push_extended-requires c = c.requires.nodes (get_or c.args.nodes.now 0 0) (Contains-get_or c.args.nodes.now 0 0 (omega (arith, c.in-len1.len_at_least)))
 
 pub returns-in-len1-clause-union : goal.returns-in-len1-clause-union
 returns-in-len1-clause-union c =
     let lists = c.args.lists.now in
     let node = get_or c.args.nodes.now 0 0 in
-    let inside = c.requires.nodes node (node_at c.args.nodes.now 0 (omega (arith, c.in-len1.len_at_least))) in
+    let inside = c.requires.nodes node (Contains-get_or c.args.nodes.now 0 0 (omega (arith, c.in-len1.len_at_least))) in
     let list : List ℕ = get_or lists node [] ++ c.args.own ∷ [] in
     on_ok_weaker c.push_extended.result (λ (appended : c.push_extended.new.self ≡ lists ++ list ∷ []). (
       list,

@@ -1,10 +1,10 @@
 use Rattle.std.proofs.Common.{◌≡◌, ◌∙◌, ap, sym, subst, ℕ, List, length, get_or, arith, refl, Vec, Global}
 use Rattle.std.specs.Prelude.{Contains}
+use Rattle.std.proofs.lemmas.List.Elements.{Contains-get_or}
 use Rattle.digraph.specs.Edges.{graph_of, successors}
 use Rattle.digraph.specs.Rounds.{IsPassed, Stops}
 use Rattle.digraph.proofs.Rounding.{appending_none, appending_push, appending_skip, appending_all, passed_all, stopped}
 use Rattle.digraph.proofs.Rows.{length_graph}
-use Rattle.digraph.proofs.Visiting.{node_at}
 use Rattle.digraph.proofs.ranks.append_ready.Goals as goal
 use Rattle.digraph.proofs.ranks.append_ready.Goals.{then-count-successors+in_ok-push, else-count-successors}
 
@@ -15,7 +15,7 @@ loop-node-init c =
 
 pub row-successors-requires : goal.row-successors-requires
 row-successors-requires c =
-    c.requires.nodes (get_or c.args.nodes.now c.loop-node.node-index 0) (node_at c.args.nodes.now c.loop-node.node-index (omega arith))
+    c.requires.nodes (get_or c.args.nodes.now c.loop-node.node-index 0) (Contains-get_or c.args.nodes.now c.loop-node.node-index 0 (omega arith))
 
 pub pass-count-requires-clause-room : goal.pass-count-requires-clause-room
 pass-count-requires-clause-room c b w = c.requires.within _ b (subst (λ (xs : List ℕ). Contains xs b) c.row-successors.ensures w)

@@ -4,10 +4,10 @@ use Rattle.std.proofs.lemmas.List.Filters.{dedup_is}
 use Rattle.std.proofs.lemmas.List.Kept.{Contains-dedup_nat, Contains-from_dedup}
 use Rattle.std.proofs.lemmas.List.Sorted.{Contains-permutation, IsPermutation-sym}
 use Rattle.std.proofs.lemmas.Map.Keys.{IsStrictlyIncreasing-dedup}
+use Rattle.std.proofs.lemmas.List.Elements.{Contains-get_or}
 use Rattle.digraph.specs.Edges.{Edge, graph_of}
 use Rattle.digraph.proofs.Rounding.{collecting_none, collecting_more, collecting_all}
 use Rattle.digraph.proofs.Rows.{edge_below, length_graph}
-use Rattle.digraph.proofs.Visiting.{node_at}
 use Rattle.digraph.proofs.ranks.next_ready.Goals as goal
 
 pub loop-node-init : goal.loop-node-init
@@ -15,7 +15,8 @@ loop-node-init c = collecting_none (graph_of c.args.graph.now) c.args.marks.now 
     c.new-ready.ensures.items c.requires.passed
 
 pub row-requires : goal.row-requires
-row-requires c = c.requires.settled (get_or c.args.settled.now c.loop-node.node-index 0) (node_at c.args.settled.now c.loop-node.node-index (omega arith))
+row-requires c =
+    c.requires.settled (get_or c.args.settled.now c.loop-node.node-index 0) (Contains-get_or c.args.settled.now c.loop-node.node-index 0 (omega arith))
 
 pub append_ready-requires-clause-nodes : goal.append_ready-requires-clause-nodes
 append_ready-requires-clause-nodes c a w =

@@ -1,7 +1,7 @@
 use Rattle.std.proofs.Common.{◌≡◌, ℕ, ◌+◌, ◌≤◌, length, arith, sym, ◌∙◌, Vec, Global}
 use Rattle.std.proofs.lemmas.Option.{slice_get_within}
 use Rattle.share_work.specs.Posts.{NONE}
-use Rattle.first_reach.proofs.Lists.{if_ok_then}
+use Rattle.std.proofs.lemmas.Result.{IfOk-weaker}
 use Rattle.first_reach.proofs.AllReplies.{root_first_too, carried_all}
 use Rattle.first_reach.proofs.carrying.carried.Goals as goal
 
@@ -24,7 +24,7 @@ returns g c =
     let reach = c.args.reach.now in let roots = c.args.roots.now in
     let laws = g.met.F.Reach g.world.𝓛 g.world.𝓜 g.world.𝓡 ((λ s x. x), (λ x. x), (λ x. x), λ x. x) in
     let few : length roots ≤ NONE = omega arith in
-    if_ok_then c.in_shares.result c.in_shares.ensures.outs (λ lists gives.
+    IfOk-weaker c.in_shares.result _ _ (λ lists gives.
     carried_all (g.F.Reach.files reach) (g.F.Reach.list reach) (laws.within reach) (laws.reflexive reach) (laws.transitive reach) roots few c.requires
     c.in_ok-least.least c.in_ok-least.ensures.first
-    (λ (v : Vec ℕ Global). v.items) c.args.mode lists.items gives)
+    (λ (v : Vec ℕ Global). v.items) c.args.mode lists.items gives) c.in_shares.ensures.outs

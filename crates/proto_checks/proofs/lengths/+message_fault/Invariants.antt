@@ -5,7 +5,7 @@ use Rattle.proto_checks.specs.Checks.{IsTooLong}
 use Rattle.proto_base.specs.Least.{IsLeast}
 use Rattle.proto_checks.specs.Lengths.{capped}
 use Rattle.proto_base.specs.Sets.{Each}
-use Rattle.proto_checks.proofs.Named.{declared_before, scope_in}
+use Rattle.proto_desc.proofs.Declared.{declared_before, scope_in}
 use Rattle.proto_checks.proofs.lengths.+message_fault.Given as goal
 
 abbrev pub invariant-loop-nested : goal.invariant-loop-nested

@@ -1,11 +1,12 @@
 use Rattle.std.proofs.Common.{◌≡◌, ◌∙◌, sym, arith, refl, get_or, rules}
 use Rattle.std.specs.Prelude.{nat_lt}
 use Rattle.std.specs.Ordering.{nat_cmp}
+use Rattle.std.proofs.lemmas.Bool.{not-false, not-true}
 use Rattle.std.proofs.lemmas.List.Sorted.{answers_always}
 use Rattle.proto_base.specs.Least.{spot}
 use Rattle.proto_checks.specs.declared.marks.MarkedNumber.{MarkedNumber}
 use Rattle.proto_checks.proofs.Hits.{no_number}
-use Rattle.proto_base.proofs.Sets.{exact_number, later_all, passed_clash, passed_skip, not_false, not_true, item_at}
+use Rattle.proto_base.proofs.Sets.{exact_number, later_all, passed_clash, passed_skip, item_at}
 use Rattle.proto_checks.proofs.Rising.{rising_none, tested_rises, number_in}
 use Rattle.proto_checks.proofs.repeats.first_number_twice.Goals as goal
 use Rattle.proto_checks.proofs.repeats.first_number_twice.Goals.{then-not-branch, else-not-branch}
@@ -25,9 +26,9 @@ loop-marked-preserved c =
     elim c.if-not-branch.branch [
       | then-not-branch w ↦ rw w.first-is (passed_clash nat_cmp (λ k. k) number_in at ns c.loop-marked.seen c.insert.new.self n here here.number
           c.loop-marked.first w.lesser-first.result exact_number stands refl c.in_ok-insert.ensures.updates
-          (not_false _ (sym c.in_ok-insert.ensures.added ∙ w.if-not-branch.true)) c.loop-marked.invariant w.lesser-first.ensures)
+          (not-false _ (sym c.in_ok-insert.ensures.added ∙ w.if-not-branch.true)) c.loop-marked.invariant w.lesser-first.ensures)
       | else-not-branch w ↦ rw w.first-is (passed_skip nat_cmp (λ k. k) number_in at ns c.loop-marked.seen c.insert.new.self n here here.number
-          c.loop-marked.first exact_number stands refl c.in_ok-insert.ensures.updates (not_true _ (sym c.in_ok-insert.ensures.added ∙ w.if-not-branch.false))
+          c.loop-marked.first exact_number stands refl c.in_ok-insert.ensures.updates (not-true _ (sym c.in_ok-insert.ensures.added ∙ w.if-not-branch.false))
           c.loop-marked.invariant)
     ]
 

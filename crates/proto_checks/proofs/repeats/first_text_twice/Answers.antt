@@ -1,8 +1,9 @@
 use Rattle.std.proofs.Common.{◌≡◌, ◌∙◌, sym, arith, refl, subst}
+use Rattle.std.proofs.lemmas.Bool.{not-false, not-true}
 use Rattle.proto_base.specs.Least.{spot}
 use Rattle.proto_checks.specs.Marks.{Marked}
 use Rattle.proto_base.specs.Sets.{StandsAt}
-use Rattle.proto_base.proofs.Sets.{text_cmp, exact_text, later_all, passed_clash, passed_skip, not_false, not_true}
+use Rattle.proto_base.proofs.Sets.{text_cmp, exact_text, later_all, passed_clash, passed_skip}
 use Rattle.proto_checks.proofs.repeats.first_text_twice.Goals as goal
 use Rattle.proto_checks.proofs.repeats.first_text_twice.Goals.{then-not-branch, else-not-branch}
 
@@ -17,10 +18,10 @@ loop-marked-preserved c =
     let stands : StandsAt ts n here = subst (StandsAt ts n) (sym c.marked.view_is) (omega arith, sym c.marked-item.is) in
     elim c.if-not-branch.branch [
       | then-not-branch w ↦ rw w.first-is (passed_clash text_cmp (λ k. k.now) text_of at ts c.loop-marked.seen c.insert.new.self n here key c.loop-marked.first
-          w.lesser-first.result exact_text stands refl c.in_ok-insert.ensures.updates (not_false _ (sym c.in_ok-insert.ensures.added ∙ w.if-not-branch.true))
+          w.lesser-first.result exact_text stands refl c.in_ok-insert.ensures.updates (not-false _ (sym c.in_ok-insert.ensures.added ∙ w.if-not-branch.true))
           c.loop-marked.invariant w.lesser-first.ensures)
       | else-not-branch w ↦ rw w.first-is (passed_skip text_cmp (λ k. k.now) text_of at ts c.loop-marked.seen c.insert.new.self n here key c.loop-marked.first
-          exact_text stands refl c.in_ok-insert.ensures.updates (not_true _ (sym c.in_ok-insert.ensures.added ∙ w.if-not-branch.false)) c.loop-marked.invariant)
+          exact_text stands refl c.in_ok-insert.ensures.updates (not-true _ (sym c.in_ok-insert.ensures.added ∙ w.if-not-branch.false)) c.loop-marked.invariant)
     ]
 
 pub returns : goal.returns

@@ -1,12 +1,12 @@
 use Rattle.std.proofs.Common.{arith}
-use Rattle.std.proofs.lemmas.Bool.{false≢true}
-use Rattle.proto_links.proofs.Named.{order_more, pair_names, last_pair, not_true}
+use Rattle.std.proofs.lemmas.Bool.{both_ways, false≢true}
+use Rattle.proto_links.proofs.Named.{order_more, pair_names, last_pair}
 use Rattle.proto_links.proofs.order.in_name_order.Goals as goal
 
 pub returns-then-not-is_before : goal.returns-then-not-is_before
 returns-then-not-is_before c = (
   λ t. absurd (false≢true t),
-  λ order. absurd (not_true _ c.if-not-is_before.true (c.is_before.ensures.1
+  λ order. absurd (both_ways _ c.if-not-is_before.true (c.is_before.ensures.1
       ((pair_names c.args.files.now c.loop-next.next c.index-files-next.result c.index-files-next-in-loop-next.result c.loop-next.invariant.some (omega arith)
       c.index-files-next.is c.index-files-next-in-loop-next.is).1 (last_pair c.args.files.now c.loop-next.next c.loop-next.invariant.some (omega arith) order)))),
 )

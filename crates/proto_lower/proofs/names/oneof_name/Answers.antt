@@ -2,7 +2,8 @@ use Rattle.std.proofs.Common.{◌∙◌, ap, sym}
 use Rattle.std.specs.Prelude.{string_bytes}
 use Rattle.std.proofs.lemmas.List.{length-map}
 use Rattle.proto_lower.specs.Names.{is_among, with_underscore}
-use Rattle.proto_lower.proofs.Free.{free_is_free, found_by_set, if_ok}
+use Rattle.proto_base.proofs.Among.{if_ok}
+use Rattle.proto_lower.proofs.Free.{free_is_free, found_by_set}
 use Rattle.proto_lower.proofs.names.oneof_name.Goals as goal
 
 pub returns-clause-value : goal.returns-clause-value

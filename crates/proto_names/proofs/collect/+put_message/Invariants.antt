@@ -1,10 +1,10 @@
 use Rattle.std.proofs.Common.{◌≡◌, ◌++◌, map, take}
 use Rattle.std.specs.Prelude.{flat_map}
 use Rattle.proto_desc.specs.DeclaredNames.{declared_by_message}
+use Rattle.proto_desc.proofs.Declared.{declared_before, scope_in}
 use Rattle.proto_names.specs.Occurrences.{declared_occurrence}
-use Rattle.proto_names.proofs.Collecting.{declared_before, scope_in}
 use Rattle.proto_names.proofs.collect.+put_message.Given as goal
 
 abbrev pub invariant-loop-nested : goal.invariant-loop-nested
 invariant-loop-nested l = l.entries ≡ l.fn.entries ++ map (declared_occurrence l.file)
-    (declared_before l.message l.scope ++ flat_map (λ n. declared_by_message n (scope_in l.message l.scope)) (take l.nested-index l.nested-items))
+    (declared_before l.message l.scope.text.now ++ flat_map (λ n. declared_by_message n (scope_in l.message l.scope.text.now)) (take l.nested-index l.nested-items))

@@ -1,8 +1,8 @@
 use Rattle.std.proofs.Common.{◌∙◌, ap, arith, sym}
+use Rattle.std.proofs.lemmas.Bool.{false≢true}
 use Rattle.std.proofs.lemmas.List.{get_or_default}
 use Rattle.proto_desc.specs.DeclaredNames.{scoped}
 use Rattle.proto_names.specs.Entries.{entry_name}
-use Rattle.proto_names.proofs.Meaning.{not_true}
 use Rattle.proto_names.proofs.Searching.{nowhere_is}
 use Rattle.proto_names.proofs.halving.start_by_halving.Goals as goal
 use Rattle.proto_names.proofs.halving.start_by_halving.Goals.{else-start-entries-via-then-start-entries+else-has_name, else-start-entries-via-else-start-entries}
@@ -14,7 +14,7 @@ returns-else-start-entries c =
     nowhere_is es (scoped c.args.scope.text.now c.args.name.now) start c.requires c.count_before-start.ensures.point
     (λ e below is same. elim c.else-start-entries.branch [
       | else-start-entries-via-then-start-entries+else-has_name w ↦
-          not_true (sym w.if-has_name.false ∙ w.has_name.ensures.1
+          false≢true (sym w.if-has_name.false ∙ w.has_name.ensures.1
           (ap entry_name (w.index-entries-start.is ∙ get_or_default es start _ e below ∙ sym is) ∙ same))
       | else-start-entries-via-else-start-entries w ↦ (let past = w.if-start-entries.false in absurd (omega (arith, past, below)))
     ])

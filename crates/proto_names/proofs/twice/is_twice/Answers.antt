@@ -5,7 +5,8 @@ use Rattle.proto_names.proofs.twice.is_twice.Goals as goal
 pub returns-in-Some : goal.returns-in-Some
 returns-in-Some c =
     let w =
-    element_twice c.args.entries.now c.args.position c.args.run.start c.args.run.has_element c.requires.position c.requires.run _ c.in-Some.field-0 c.in-Some.is in
+    element_twice c.args.entries.now c.args.position c.args.run.start c.args.run.has_element c.requires.position c.requires.run _ c.in-Some.field-0
+    c.in-Some.is in
     (λ t. w.0 (ltb-true c.args.run.start c.args.position t), λ repeats. lt-ltb c.args.run.start c.args.position (w.1 repeats))
 
 pub returns-in-None : goal.returns-in-None

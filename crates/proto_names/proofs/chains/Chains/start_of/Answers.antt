@@ -26,8 +26,8 @@ loop-link-preserved c =
     at_position es (c.loop-link.next - 1) c.index-entries-position.result (omega (arith, some, below, whole)) c.index-entries-position.is in
     let other : (at (map occurrence es) (c.loop-link.next - 1)).name ≢ target =
     λ e. true≢false (sym (c.is_match.ensures.1 (ap (λ (o : Occurrence). o.name) (sym here) ∙ e)) ∙ c.if-is_match.false) in
-    left_step (map occurrence es) (length es) c.args.self.now.slots.items c.args.self.now.links.items target c.loop-link.next c.index-next-in-loop-link.result.now
-    c.requires.chains (sym whole) some c.index-next-in-loop-link.ensures other c.loop-link.invariant
+    left_step (map occurrence es) (length es) c.args.self.now.slots.items c.args.self.now.links.items target c.loop-link.next
+    c.index-next-in-loop-link.result.now c.requires.chains (sym whole) some c.index-next-in-loop-link.ensures other c.loop-link.invariant
 
 pub returns-then-next-eq0 : goal.returns-then-next-eq0
 returns-then-next-eq0 c =

@@ -1,8 +1,8 @@
 use Rattle.std.proofs.Common.{◌≡◌, List, ℕ, inl, inr, ◌⊎◌, subst, sym, ◌∙◌}
+use Rattle.std.proofs.lemmas.Bool.{false≢true}
 use Rattle.proto_names.specs.Scopes.{IsCandidate}
 use Rattle.proto_names.specs.Resolution.{SeenBy, Decides}
 use Rattle.proto_names.proofs.Around.{candidate_trans}
-use Rattle.proto_names.proofs.Meaning.{not_true}
 use Rattle.proto_names.proofs.index.NameIndex.innermost.Goals as goal
 
 pub loop-inner-preserved : goal.loop-inner-preserved
@@ -11,7 +11,7 @@ loop-inner-preserved c = record {
   left = λ d h k.
       (let at : (d ≡ c.loop-inner.inner.text.now) ⊎ IsCandidate d c.in-Some.outer.text.now = c.in-Some.ensures.2 d (c.loop-inner.invariant.left d h k) in
       elim at [
-        | inl same ↦ absurd (not_true (sym c.if-decides.false ∙ c.decides.ensures.1
+        | inl same ↦ absurd (false≢true (sym c.if-decides.false ∙ c.decides.ensures.1
             (subst (λ (x : List ℕ). Decides c.args.self.now.occurrences (SeenBy c.args.links.now c.args.file) x c.args.spelled.now) same k)))
         | inr inside ↦ inside
       ]);

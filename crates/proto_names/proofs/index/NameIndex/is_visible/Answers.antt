@@ -1,10 +1,10 @@
 use Rattle.std.proofs.Common.{◌∙◌, sym, ap, refl, subst, ◌<◌, length, arith, below_more}
+use Rattle.std.proofs.lemmas.Bool.{false≢true}
 use Rattle.proto_desc.specs.DeclaredNames.{scoped}
 use Rattle.proto_names.specs.Entries.{occurrence}
 use Rattle.proto_names.specs.Index.{Index}
 use Rattle.proto_names.specs.Resolution.{SeenBy, Visible}
 use Rattle.proto_names.specs.Steps.{fits}
-use Rattle.proto_names.proofs.Meaning.{not_true}
 use Rattle.proto_names.proofs.Looking.{contained_at, not_at, not_visible, visible_of}
 use Rattle.proto_names.proofs.index.NameIndex.is_visible.Goals as goal
 
@@ -53,11 +53,11 @@ loop-entry-preserved c =
     let within : c.loop-entry.entry-index < length es = omega arith in
     below_more _ _ c.loop-entry.invariant (not_at (SeenBy c.args.links.now c.args.file) (fits c.args.role) es c.loop-entry.entry-index c.entry-item.result
     (within, c.entry-item.is)
-    (λ fitting seen. not_true (sym c.if-is_seen-2.false ∙ c.is_seen-in-loop-entry.ensures.1 (fitting, seen))))
+    (λ fitting seen. false≢true (sym c.if-is_seen-2.false ∙ c.is_seen-in-loop-entry.ensures.1 (fitting, seen))))
 
 pub returns : goal.returns
 returns c = (
-  λ t. absurd (not_true t),
+  λ t. absurd (false≢true t),
   λ v. absurd (not_visible c.self.inside.entries (SeenBy c.args.links.now c.args.file) (fits c.args.role) (scoped c.args.scope.text.now c.args.name.now)
       c.named-entries.result.now c.loop-entry.entry-index c.named-entries.ensures.all (omega arith) c.loop-entry.invariant
       (subst (λ (index : Index). Visible index.occurrences (SeenBy c.args.links.now c.args.file) (fits c.args.role)

@@ -3,9 +3,10 @@ use Rattle.std.proofs.lemmas.Grind.{common_steps}
 use Rattle.std.proofs.lemmas.List.{take_all}
 use Rattle.std.specs.Prelude.{flat_map}
 use Rattle.proto_desc.specs.declared.message.MessageDesc.TheViews.{out-MessageDesc}
+use Rattle.proto_desc.proofs.Declared.{scope_in}
 use Rattle.proto_names.specs.Resolution.{SeenBy}
 use Rattle.proto_types.specs.References.{field_scope, references_by_message}
-use Rattle.proto_types.proofs.Trees.{own_references, references_out, scope_in}
+use Rattle.proto_types.proofs.Trees.{own_references, references_out}
 use Rattle.proto_types.proofs.Walking.{finds_both}
 use Rattle.proto_types.proofs.finder.Finder.+message.Goals as goal
 use Rattle.proto_types.proofs.finder.Finder.+message.Goals.{then-message, else-message}

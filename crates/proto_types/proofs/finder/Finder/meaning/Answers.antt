@@ -1,16 +1,17 @@
 use Rattle.std.proofs.Common.{refl, string_bytes}
+use Rattle.std.proofs.lemmas.Result.{IfOk-weaker}
 use Rattle.proto_names.specs.Resolution.{SeenBy}
 use Rattle.proto_types.specs.References.{reference_to}
-use Rattle.proto_types.proofs.Meanings.{if_ok, naming_means, not_found, not_message}
+use Rattle.proto_types.proofs.Meanings.{naming_means, not_found, not_message}
 use Rattle.proto_types.proofs.finder.Finder.meaning.Goals as goal
 
 pub returns-in-Ok : goal.returns-in-Ok
 returns-in-Ok c =
     let self = c.args.self.now in
     let a = c.args in
-    if_ok c.meaning_of.result c.meaning_of.ensures
+    IfOk-weaker c.meaning_of.result _ _
     (λ m naming. naming_means self.index.now.occurrences (SeenBy self.links.now self.file) (reference_to a.scope.now a.text.now a.place a.want a.options.now)
-    (string_bytes c.in-Ok.found.full_name) c.in-Ok.found.kind m c.in-Ok.ensures.found c.in-Ok.ensures.wanted naming)
+    (string_bytes c.in-Ok.found.full_name) c.in-Ok.found.kind m c.in-Ok.ensures.found c.in-Ok.ensures.wanted naming) c.meaning_of.ensures
 
 pub returns-in-Err-TypeNotFound : goal.returns-in-Err-TypeNotFound
 returns-in-Err-TypeNotFound c =

@@ -1,6 +1,6 @@
+use Rattle.std.proofs.lemmas.Result.{on_ok_weaker}
 use Rattle.proto_names.specs.Resolution.{SeenBy}
 use Rattle.proto_types.specs.References.{reference_to}
-use Rattle.proto_types.proofs.Meanings.{on_ok}
 use Rattle.proto_types.proofs.Walking.{finds_one}
 use Rattle.proto_types.proofs.finder.Finder.reference.Goals as goal
 
@@ -11,6 +11,6 @@ returns-in_ok-meaning-in-Spelled c =
     let s = c.in-Spelled in
     let meaning = rw c.as_str.ensures at c.in_ok-meaning-in-Spelled.ensures in
     rw s.is
-    (on_ok c.add.result c.add.ensures
+    (on_ok_weaker c.add.result
     (λ adds. finds_one self.index.now.occurrences (SeenBy self.links.now self.file) (reference_to a.scope.now s.text s.place a.want a.options.now)
-    c.in_ok-meaning-in-Spelled.field-0 a.found.now c.add.new.self meaning adds))
+    c.in_ok-meaning-in-Spelled.field-0 a.found.now c.add.new.self meaning adds) c.add.ensures)
