@@ -10,6 +10,7 @@ use Rattle.proto_desc.specs.declared.file.PackageDesc.{PackageDesc}
 use Rattle.proto_desc.specs.declared.service.MethodDesc.{MethodDesc}
 use Rattle.proto_desc.specs.declared.service.ServiceDesc.{ServiceDesc}
 use Rattle.proto_file.specs.Places.{AtMost}
+use Rattle.proto_file.proofs.FileWithin.{each_place, each_places}
 use Rattle.proto_file.proofs.PlacesWithin.{front, rest, both, each_map, each_weaker}
 use Rattle.proto_file.proofs.Spots.{Placed}
 use Rattle.proto_file.proofs.Within.{given}
@@ -17,7 +18,7 @@ use Rattle.proto_names.specs.Occurrences.{Occurrence, declared_occurrence, packa
 use Rattle.proto_names.specs.Scopes.{fronts}
 use Rattle.proto_names.specs.declared.resolve.Want.TheVariants as want
 use Rattle.proto_types.specs.References.{references_of_type, references_of_method, references_of_service, references}
-use Rattle.proto_compile.proofs.MessagePlaces.{DeclaredAt, EnumAt, MessageAt, ReferenceAt, each_of, each_place, each_places, enum_at, message_at, messages_at, type_at}
+use Rattle.proto_compile.proofs.MessagePlaces.{DeclaredAt, EnumAt, MessageAt, ReferenceAt, each_of, enum_at, message_at, messages_at, type_at}
 
 -- ---- services
 

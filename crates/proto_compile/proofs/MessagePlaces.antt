@@ -17,12 +17,14 @@ use Rattle.proto_desc.specs.declared.options.OptionDesc.{OptionDesc}
 use Rattle.proto_desc.specs.declared.type_name.TypeReference.{TypeReference}
 use Rattle.proto_desc.specs.declared.type_name.TypeReference.TheVariants.{Spelled, Resolved}
 use Rattle.proto_file.specs.Places.{AtMost}
+use Rattle.proto_desc.proofs.Declared.{declared_before, declared_out, scope_in}
 use Rattle.proto_file.proofs.PlacesWithin.{front, rest, both, each_map, each_weaker, places_out}
-use Rattle.proto_checks.proofs.Named.{declared_before, declared_out, scope_in}
+use Rattle.proto_file.proofs.FileWithin.{each_place, each_places}
 use Rattle.proto_file.proofs.Spots.{Placed}
 use Rattle.proto_file.proofs.Within.{given}
 use Rattle.proto_names.specs.declared.resolve.Want.{Want}
 use Rattle.proto_names.specs.declared.resolve.Want.TheVariants as want
+use Rattle.proto_types.proofs.Trees.{own_references, references_out}
 use Rattle.proto_types.specs.References.{Reference, references_of_type, references_of_kind, references_of_field, field_scope, references_step, references_by_message}
 
 -- ---- lists
@@ -30,15 +32,6 @@ use Rattle.proto_types.specs.References.{Reference, references_of_type, referenc
 pub each_of : {X : Type 0} (P : X → Type 0) → ((x : X) → P x) → (xs : List X) → AllByRecursion P xs
 each_of P h [] = tt
 each_of P h (x ∷ xs) = (h x, each_of P h xs)
-
-pub each_place : {X : Type 0} (n : ℕ) (place : X → ℕ) (xs : List X) → AtMost n (map place xs) → AllByRecursion (λ x. place x ≤ n) xs
-each_place n place [] at = tt
-each_place n place (x ∷ xs) at = (at.0, each_place n place xs at.1)
-
-pub each_places : {X : Type 0} (n : ℕ) (places : X → List ℕ) (xs : List X) → AtMost n (flat_map places xs) → AllByRecursion (λ x. AtMost n (places x)) xs
-each_places n places [] at = tt
-each_places n places (x ∷ xs) at =
-    (front (λ p. p ≤ n) (places x) (flat_map places xs) at, each_places n places xs (rest (λ p. p ≤ n) (places x) (flat_map places xs) at))
 
 -- ---- one name, one reference
 
@@ -117,17 +110,6 @@ own_declared_at n scope m own =
     let oneofs = each_map (DeclaredAt n) (declared_oneof (scope_in m scope)) (out-MessageDesc m).oneofs own.oneofs in
     let enums = given (EnumAt n) (DeclaredAt n) (declared_by_enum (scope_in m scope)) (out-MessageDesc m).enums (enum_at n (scope_in m scope)) own.enums in
     (own.place, both (DeclaredAt n) _ _ (both (DeclaredAt n) _ _ fields oneofs) enums)
-
--- the references of a message's own fields
-abbrev own_references : MessageDesc → List ℕ → List Reference
-own_references m scope = flat_map (references_of_field (field_scope scope (out-MessageDesc m))) (out-MessageDesc m).fields
-
-references_out : (m : MessageDesc) (scope : List ℕ) → references_by_message m scope ≡ own_references m scope
-    ++ flat_map (λ n. references_by_message n (scope_in m scope)) (out-MessageDesc m).nested
-references_out m scope =
-    ap (λ (f : List ℕ → List Reference). f scope) (fold_out-MessageDesc (List ℕ → List Reference) references_step m)
-    ∙ ap (λ xs. own_references m scope ++ xs) (flat_map-map (λ (g : List ℕ → List Reference). g (scope_in m scope)) references_by_message
-    (out-MessageDesc m).nested)
 
 abbrev pub MessageAt : ℕ → MessageDesc → Type 0
 MessageAt n m = AtMost n (message_places m) → (scope : List ℕ) → AreAt n (declared_by_message m scope) (references_by_message m scope)

@@ -7,34 +7,18 @@ use Rattle.std.proofs.lemmas.Cmp.{nat_list_cmp_total}
 use Rattle.std.proofs.lemmas.List.{get_or-take, length-map, map-append, take_more}
 use Rattle.std.specs.Prelude.{Vec}
 use Rattle.std.specs.declared.alloc.Global.{Global}
+use Rattle.proto_links.proofs.NameRows.{far_apart, not_less_itself}
 use Rattle.proto_compile.specs.Compilation.{CompiledFile, IsNamed, file_bytes, file_name}
 use Rattle.proto_compile.specs.Sources.{NamesRise, name_at, name_of}
 use Rattle.proto_compile.specs.Steps.{items_of}
 use Rattle.proto_compile.specs.declared.source.Source.{Source}
 
-less_itself : (o : Ordering) → o ≡ ordering_reverse o → o ≡ Less → ⊥
-less_itself Less h k = cc
-less_itself Equal h k = cc
-less_itself Greater h k = cc
-
-not_less_itself : (xs : List ℕ) → slice_cmp nat_cmp xs xs ≡ Less → ⊥
-not_less_itself xs = less_itself (slice_cmp nat_cmp xs xs) (nat_list_cmp_total.antisymm xs xs)
-
--- names at a distance
-names_by : (files : List Source) → NamesRise files → (i d : ℕ) → i + suc d < length files
-    → slice_cmp nat_cmp (name_at files i) (name_at files (i + suc d)) ≡ Less
-names_by files rise i zero h = rise i h
-names_by files rise i (suc d) h =
-    let step : slice_cmp nat_cmp (name_at files (i + suc d)) (name_at files (i + suc d + 1)) ≡ Less = rise (i + suc d) (omega arith) in
-    let at : i + suc d + 1 ≡ i + suc (suc d) = omega arith in
-    subst (λ k. slice_cmp nat_cmp (name_at files i) (name_at files k) ≡ Less) at
-    (nat_list_cmp_total.trans (name_at files i) (name_at files (i + suc d)) (name_at files (i + suc d + 1)) (names_by files rise i d (omega arith)) step)
-
 -- no name comes back
 pub names_differ : (files : List Source) → NamesRise files → (i j : ℕ) → i < j → j < length files → name_at files i ≢ name_at files j
 names_differ files rise i j h inside e =
     let split : i + suc (j - i - 1) ≡ j = omega arith in
-    let less = subst (λ k. slice_cmp nat_cmp (name_at files i) (name_at files k) ≡ Less) split (names_by files rise i (j - i - 1) (omega arith)) in
+    let less = subst (λ k. slice_cmp nat_cmp (name_at files i) (name_at files k) ≡ Less) split
+    (far_apart (name_at files) (length files) rise i (j - i - 1) (omega arith)) in
     not_less_itself (name_at files j) (subst (λ xs. slice_cmp nat_cmp xs (name_at files j) ≡ Less) e less)
 
 -- files named as the first sources are none of the next one's name

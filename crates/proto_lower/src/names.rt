@@ -20,7 +20,7 @@ fn has_underscore(name: &str) -> bool
 fn raised(alloc: Global, name: &str, first: char) -> Result<String, AllocError>
     ensures { IfOk result (λ made. string_bytes made ≡ raised first name.now) }
 {
-    let mut made = String::new(alloc);
+    let mut made = String::with_capacity(alloc, name.len())?;
     let mut before = first;
     for letter in name.chars() {
         if letter != '_' {

@@ -5,7 +5,7 @@ use Rattle.proto_lower.proofs.names.raised.Goals as goal
 use Rattle.proto_lower.proofs.names.raised.Goals.{then-before-eq95, else-before-eq95}
 
 pub loop-letter-init : goal.loop-letter-init
-loop-letter-init c = rw (c.new-made.ensures.bytes, c.into_iter-letter-iterator.ensures.into_iter_gives, c.chars-letter-items.ensures.rest)
+loop-letter-init c = rw (c.in_ok-made.ensures.bytes, c.into_iter-letter-iterator.ensures.into_iter_gives, c.chars-letter-items.ensures.rest)
     (so_far_start c.args.name.now c.args.first c.utf8.name)
 
 pub loop-letter-preserved-in_ok-push : goal.loop-letter-preserved-in_ok-push
