@@ -25,11 +25,14 @@ impl<F: Reach> Work<Option<usize>> for Replying<'_, F> {
 
     type Seat = ();
 
-    ghost takes = { λ w i root. (i < NONE) × ForSome root (λ r. (r < F.files w.reach.now) × RootIsFirstToo (F.list w.reach.now) w.least.now i r) };
+    ghost takes = { λ w i root. (i < NONE)
+        × ForSome root (λ r. (r < F.files w.reach.now)
+        × RootIsFirstToo (F.list w.reach.now) w.least.now i r) };
 
     ghost fits = { λ w _. length w.least.now ≡ F.files w.reach.now };
 
-    ghost gives = { λ w i root out. out.items ≡ reply_at w.mode (F.list w.reach.now) w.least.now i root };
+    ghost gives = { λ w i root out. out.items
+        ≡ reply_at w.mode (F.list w.reach.now) w.least.now i root };
 
     ghost number = { λ _ _. 0 };
 

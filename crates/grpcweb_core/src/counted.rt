@@ -52,7 +52,12 @@ impl<D> Counted<D> {
 }
 
 impl<I: Read> CountedRead for Counted<I> {
-    ghost reads = { λ s. record { bytes = bytes_of s.given.items; calls = calls_of s.calls.items; failures = s.failures; left = I.remaining s.inner } };
+    ghost reads = { λ s. record {
+      bytes = bytes_of s.given.items;
+      calls = calls_of s.calls.items;
+      failures = s.failures;
+      left = I.remaining s.inner;
+    } };
 
     fn read(&mut self, buffer: &mut [u8]) -> io::Result<usize> {
         let room = buffer.len();
@@ -72,7 +77,12 @@ impl<I: Read> CountedRead for Counted<I> {
 }
 
 impl<O: Write> CountedWrite for Counted<O> {
-    ghost writes = { λ s. record { bytes = bytes_of s.taken.items; unflushed = bytes_of s.unflushed.items; failures = s.failures; contents = O.contents s.inner } };
+    ghost writes = { λ s. record {
+      bytes = bytes_of s.taken.items;
+      unflushed = bytes_of s.unflushed.items;
+      failures = s.failures;
+      contents = O.contents s.inner;
+    } };
 
     fn write(&mut self, buffer: &[u8]) -> io::Result<usize> {
         match self.inner.write(buffer) {

@@ -96,7 +96,12 @@ where
     R: Threads + AllocGlobal + Sync,
     G: Gate + Sync,
     ensures { IfOk result (λ answer. IsAnswer mode compiled.now
-        record { method = method.now; target = target.now; content_type = option_map (λ text. text.now) content_type.entry; body = body.now } (answer_of answer)) }
+        record {
+          method = method.now;
+          target = target.now;
+          content_type = option_map (λ text. text.now) content_type.entry;
+          body = body.now;
+        } (answer_of answer)) }
 {
     let alloc = rt.alloc();
     if !is_reflection(target) {

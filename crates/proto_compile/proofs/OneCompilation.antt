@@ -52,7 +52,8 @@ pub one_written : (limits : Limits) (sources : List Source) (c d : Compilation) 
 one_written limits sources c d first second =
     let same = one_resolved limits sources first.sorted second.sorted first.descs second.descs c.links d.links c.index d.index first.resolved second.resolved in
     let names : map file_name c.files ≡ map file_name d.files = first.names ∙ ap (λ (xs : List Source). map name_of xs) same.0 ∙ sym second.names in
-    let bytes : map file_bytes c.files ≡ map file_bytes d.files = first.bytes ∙ ap (λ (xs : List FileDesc). map file_desc_bytes xs) same.1 ∙ sym second.bytes in (
+    let bytes : map file_bytes c.files ≡ map file_bytes d.files = first.bytes
+    ∙ ap (λ (xs : List FileDesc). map file_desc_bytes xs) same.1 ∙ sym second.bytes in (
       one_list c.files d.files names bytes,
       resolved_order limits sources first.sorted second.sorted first.descs second.descs c.links d.links c.index d.index
           first.resolved second.resolved,

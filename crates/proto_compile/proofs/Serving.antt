@@ -110,7 +110,8 @@ index_short limits files descs index all is services name has =
     name (Contains-permutation index.services (services_of index.occurrences) name
     (IsPermutation-sym (services_of index.occurrences) index.services services) has)
 
-pub index_few : (limits : Limits) (descs : List FileDesc) (index : Index) → Indexes descs limits index → IsPermutation (services_of index.occurrences) index.services
+pub index_few : (limits : Limits) (descs : List FileDesc) (index : Index) → Indexes descs limits index
+    → IsPermutation (services_of index.occurrences) index.services
     → length index.services ≤ limit_of limits limit.Names
 index_few limits descs index is services =
     let few = few_services index.occurrences in

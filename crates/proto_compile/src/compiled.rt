@@ -31,9 +31,19 @@ impl Model for Compiled {
 
     ghost Value = { Compilation };
 
-    ghost view = { λ compiled. record { files = compiled.files; links = compiled.links; index = compiled.index; limits = compiled.limits } };
+    ghost view = { λ compiled. record {
+      files = compiled.files;
+      links = compiled.links;
+      index = compiled.index;
+      limits = compiled.limits;
+    } };
 
-    ghost invariant = { λ compiled. IsSound (record { files = compiled.files; links = compiled.links; index = compiled.index; limits = compiled.limits })
+    ghost invariant = { λ compiled. IsSound (record {
+      files = compiled.files;
+      links = compiled.links;
+      index = compiled.index;
+      limits = compiled.limits;
+    })
         × IsOfSources (record {
           files = compiled.files;
           links = compiled.links;
@@ -72,7 +82,8 @@ impl Compiled {
     /// The bytes of the descriptor (`descriptor.proto`, `FileDescriptorProto`) of the file of this name.
     pub fn bytes_of(&self, name: &str) -> Option<&[u8]>
         ensures { MatchOption result ((a : ℕ) → IsNamed self.now.files name.now a → ⊥)
-            (λ bytes. (a : ℕ) × IsNamed self.now.files name.now a × (bytes.now ≡ bytes_at self.now.files a)) }
+            (λ bytes. (a : ℕ) × IsNamed self.now.files name.now a
+            × (bytes.now ≡ bytes_at self.now.files a)) }
     {
         let file = self.file_id(name)?;
         Some(self.bytes_at(file))

@@ -27,9 +27,21 @@ impl Model for Links {
 
     ghost Value = { Linked };
 
-    ghost view = { λ links. record { ranks = links.ranking.ranks.items; set_order = links.ranking.order.items; positions = links.positions.items; reach = links.reach; seen = links.seen } };
+    ghost view = { λ links. record {
+      ranks = links.ranking.ranks.items;
+      set_order = links.ranking.order.items;
+      positions = links.positions.items;
+      reach = links.reach;
+      seen = links.seen;
+    } };
 
-    ghost invariant = { λ links. IsSound (record { ranks = links.ranking.ranks.items; set_order = links.ranking.order.items; positions = links.positions.items; reach = links.reach; seen = links.seen })
+    ghost invariant = { λ links. IsSound (record {
+      ranks = links.ranking.ranks.items;
+      set_order = links.ranking.order.items;
+      positions = links.positions.items;
+      reach = links.reach;
+      seen = links.seen;
+    })
         × AreOfFiles (record {
           ranks = links.ranking.ranks.items;
           set_order = links.ranking.order.items;

@@ -106,9 +106,17 @@ impl Model for NameIndex {
 
     ghost Value = { Index };
 
-    ghost view = { λ index. record { files = index.files; occurrences = index.entries; services = map string_bytes index.services.items } };
+    ghost view = { λ index. record {
+      files = index.files;
+      occurrences = index.entries;
+      services = map string_bytes index.services.items;
+    } };
 
-    ghost invariant = { λ index. IsSound (record { files = index.files; occurrences = index.entries; services = map string_bytes index.services.items })
+    ghost invariant = { λ index. IsSound (record {
+      files = index.files;
+      occurrences = index.entries;
+      services = map string_bytes index.services.items;
+    })
         × IsOfFiles (record {
           files = index.files;
           occurrences = index.entries;

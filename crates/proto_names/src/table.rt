@@ -36,7 +36,8 @@ impl Model for EntryTable {
     ghost view = { λ table. table.entries };
 
     ghost invariant = { λ table. AreInNameOrder table.entries
-        × AreChained table.entries (length table.entries) table.chains.slots.items table.chains.links.items };
+        × AreChained table.entries (length table.entries) table.chains.slots.items
+        table.chains.links.items };
 }
 
 impl EntryTable {

@@ -70,7 +70,8 @@ fn is_twice(entries: &[Entry], run: Run, position: usize) -> bool
 fn run_with(entries: &[Entry], run: Run, position: usize) -> Run
     requires position { position < length entries.now }
     requires run { IsRun (map occurrence entries.now) position position run.start run.has_element }
-    ensures { IsRun (map occurrence entries.now) position (position + 1) result.start result.has_element }
+    ensures { IsRun (map occurrence entries.now) position (position + 1) result.start
+        result.has_element }
 {
     Run {
         start: run.start,

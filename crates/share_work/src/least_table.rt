@@ -37,7 +37,8 @@ impl Model for LeastTable {
 
     ghost view = { λ t. record { table = t.table.shared.table_id; count = t.table.shared.key } };
 
-    ghost invariant = { λ t. (t.table.shared.table_id.words ≡ t.table.shared.key + 1) × (t.table.shared.table_id.slots ≡ 0) × (vec_len t.spare ≡ t.table.shared.key) };
+    ghost invariant = { λ t. (t.table.shared.table_id.words ≡ t.table.shared.key + 1)
+        × (t.table.shared.table_id.slots ≡ 0) × (vec_len t.spare ≡ t.table.shared.key) };
 }
 
 /// The right to post and to read. Contracts see its table and its view: its parts, its calls and what it was told.
@@ -55,7 +56,8 @@ impl Model for LeastSeat {
 
     ghost view = { λ s. seat_value s.seat.table_id s.seat.me.0 };
 
-    ghost invariant = { λ s. (s.seat.me.1 ≡ []) × (s.parts ≡ s.seat.me.0.parts) × (0 < s.parts) × (s.parts ≤ 2 ^ 32) };
+    ghost invariant = { λ s. (s.seat.me.1 ≡ []) × (s.parts ≡ s.seat.me.0.parts)
+        × (0 < s.parts) × (s.parts ≤ 2 ^ 32) };
 }
 
 impl LeastTable {

@@ -40,7 +40,9 @@ impl<'r, R: Reach> Model for MarkTable<'r, R> {
 
     ghost view = { λ t. record { table = t.table.shared.table_id; reach = t.table.shared.key } };
 
-    ghost invariant = { λ t. (t.table.shared.table_id.words ≡ R.files t.table.shared.key + 1) × (t.table.shared.table_id.slots ≡ 0) × (vec_len t.spare ≡ R.files t.table.shared.key) × (t.reach.now ≡ t.table.shared.key) };
+    ghost invariant = { λ t. (t.table.shared.table_id.words ≡ R.files t.table.shared.key + 1)
+        × (t.table.shared.table_id.slots ≡ 0) × (vec_len t.spare ≡ R.files t.table.shared.key)
+        × (t.reach.now ≡ t.table.shared.key) };
 }
 
 /// The right to mark. Contracts see its table and its view: its parts, its calls, what it was told and its marks.
@@ -58,7 +60,8 @@ impl Model for MarkSeat {
 
     ghost view = { λ s. mark_seat_value s.seat.table_id s.seat.me.0 };
 
-    ghost invariant = { λ s. (s.seat.me.1 ≡ []) × (s.parts ≡ s.seat.me.0.least.parts) × (0 < s.parts) × (s.parts ≤ 2 ^ 32) × (s.seat.me.0.debt ≡ None) };
+    ghost invariant = { λ s. (s.seat.me.1 ≡ []) × (s.parts ≡ s.seat.me.0.least.parts)
+        × (0 < s.parts) × (s.parts ≤ 2 ^ 32) × (s.seat.me.0.debt ≡ None) };
 }
 
 impl<'r, R: Reach> MarkTable<'r, R> {

@@ -26,5 +26,6 @@ pub trait Reach {
 
     ghost reflexive: { (s : Self) (r : ℕ) → r < files s → Reaches (list s) r r };
 
-    ghost transitive: { (s : Self) (r g h : ℕ) → r < files s → Reaches (list s) r g → Reaches (list s) g h → Reaches (list s) r h };
+    ghost transitive: { (s : Self) (r g h : ℕ) → r < files s → Reaches (list s) r g
+        → Reaches (list s) g h → Reaches (list s) r h };
 }

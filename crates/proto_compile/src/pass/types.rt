@@ -68,7 +68,8 @@ impl<'s> Work<FileDesc<'s>> for Resolving<'_> {
 
     ghost fits = { λ _ _. ⊤ };
 
-    ghost gives = { λ work file desc outcome. IsResolved work.links.now work.index.now file desc outcome };
+    ghost gives = { λ work file desc outcome. IsResolved work.links.now work.index.now file desc
+        outcome };
 
     ghost number = { λ _ _. 0 };
 

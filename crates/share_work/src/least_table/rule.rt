@@ -25,7 +25,8 @@ impl Play<(), View> for Posts {
     ghost use Rattle.std.specs.Prelude.{◌≡◌, ◌≤◌, ◌-◌};
     ghost use Rattle.share_work.specs.Views.{known, call, with_call};
 
-    ghost then = { λ s v found w. (found ≤ known (s.word - 1) v.0) × (w ≡ (with_call v.0 (call (s.word - 1) found s.first), v.1)) };
+    ghost then = { λ s v found w. (found ≤ known (s.word - 1) v.0)
+        × (w ≡ (with_call v.0 (call (s.word - 1) found s.first), v.1)) };
 }
 
 /// A look at a word: the view gains one told pair.
@@ -35,7 +36,8 @@ impl Play<(), View> for Looks {
     ghost use Rattle.std.specs.Prelude.{◌≡◌, ◌≤◌, ◌-◌};
     ghost use Rattle.share_work.specs.Views.{known, with_told};
 
-    ghost then = { λ s v found w. (found ≤ known (s.word - 1) v.0) × (w ≡ (with_told v.0 (s.word - 1) found, v.1)) };
+    ghost then = { λ s v found w. (found ≤ known (s.word - 1) v.0)
+        × (w ≡ (with_told v.0 (s.word - 1) found, v.1)) };
 }
 
 /// A look that changes no view: it shows that a seat has no more parts than there are.

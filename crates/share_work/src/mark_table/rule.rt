@@ -27,7 +27,8 @@ impl Play<(), MarkView> for RootPosts {
     ghost use Rattle.share_work.specs.Views.{known};
     ghost use Rattle.share_work.specs.Marks.{with_root};
 
-    ghost then = { λ s v found w. (found ≤ known (s.word - 1) v.0.least) × (w ≡ (with_root (s.word - 1) found s.first v.0, v.1)) };
+    ghost then = { λ s v found w. (found ≤ known (s.word - 1) v.0.least)
+        × (w ≡ (with_root (s.word - 1) found s.first v.0, v.1)) };
 }
 
 /// Whether a debt is at its last position.

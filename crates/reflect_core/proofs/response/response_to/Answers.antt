@@ -5,7 +5,8 @@ use Rattle.reflect_core.proofs.response.response_to.Goals as goal
 
 pub put_frame-requires : goal.put_frame-requires
 put_frame-requires c =
-    replyable_at c.args.material.compiled.now c.args.material.services.now c.args.asked.now c.args.carried.now c.loop-position.position _ c.index-carried-position.result
+    replyable_at c.args.material.compiled.now c.args.material.services.now c.args.asked.now c.args.carried.now c.loop-position.position _
+    c.index-carried-position.result
     _ c.requires c.loop-position-test.true
     c.as_slice.ensures.value c.index-carried-position.is
 
