@@ -37,9 +37,17 @@ impl Entry {
 }
 
 /// Entries. Contracts see them as the occurrences that they stand for.
-#[derive(Drop)]
 pub(crate) struct Entries {
     entries: Vec<Entry>,
+}
+
+impl Drop for Entries {
+    /// Lets go of the names in the order in which they were made, for an allocator takes several times as long where they
+    /// come in the order of their hashes, from all over its memory.
+    fn drop(self) {
+        let Entries { mut entries } = self;
+        entries.sort_unstable_by_key(|entry: &Entry| entry.spot);
+    }
 }
 
 impl Model for Entries {
