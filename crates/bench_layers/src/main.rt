@@ -17,7 +17,7 @@ use proto_file::{FileError, describe};
 use proto_links::{Links, in_name_order, link};
 use proto_names::NameIndex;
 use proto_tokens::tokenize;
-use proto_types::{resolve_types, with_types};
+use proto_types::{fill_types, resolve_types};
 use reflect_requests::read_frames;
 use source_folder::{NamedText, read_folder};
 use std::alloc::{AllocGlobal, Global};
@@ -96,12 +96,13 @@ fn resolved<'s>(
     requires { count_of links.now ≡ index.now.files }
 {
     let mut done = Vec::with_capacity(alloc, descs.len())?;
-    for (file, desc) in descs.into_iter().enumerate() {
+    for (file, mut desc) in descs.into_iter().enumerate() {
         if file >= links.count() {
             bail!("a file without links");
         }
         let types = resolve_types(alloc, index, links, file, &desc)?;
-        done.push(with_types(alloc, desc, types)?)?;
+        fill_types(&mut desc, types);
+        done.push(desc)?;
     }
     Ok(done)
 }

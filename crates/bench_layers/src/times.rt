@@ -66,7 +66,7 @@ impl Times {
             ("describe, its tokens too", self.descriptors),
             ("link", self.links),
             ("NameIndex::build", self.index),
-            ("resolve_types, with_types", self.types),
+            ("resolve_types, fill_types", self.types),
             ("file_bytes", self.bytes),
         ]
     }

@@ -19,7 +19,7 @@ use Rattle.digraph.proofs.Visiting.{no_position, push_iff}
 pub passed_all : (g : Graph) (marks : List Bool) (a n : ℕ) → n ≡ length (successors g a) → IsPassed marks (successors g a) n → AllMarked g marks a
 passed_all g marks a n whole p b edge =
     let at = (among_all (successors g a) n b whole).0 edge in
-    subst (IsMarked marks) at.2 (p.front at.0 at.1)
+    subst (IsMarked marks) at.2 (p.prefix at.0 at.1)
 
 -- an edge goes from a to a node without a mark
 abbrev pub HasUnmarked : Graph → List Bool → ℕ → Type 0
@@ -44,17 +44,17 @@ inside_cases marks a (inr h) = inr (λ m. no_position 0 (omega (arith, h, m.0)))
 pub mark_cases : (marks : List Bool) (a : ℕ) → IsMarked marks a ⊎ (IsMarked marks a → ⊥)
 mark_cases marks a = inside_cases marks a (cases_lt a (length marks))
 
-front_more : (marks : List Bool) (xs : List ℕ) (n : ℕ) → IsMarked marks (get_or xs n 0) → ((c : ℕ) → Among xs n c → IsMarked marks c) → (c : ℕ)
+prefix_more : (marks : List Bool) (xs : List ℕ) (n : ℕ) → IsMarked marks (get_or xs n 0) → ((c : ℕ) → Among xs n c → IsMarked marks c) → (c : ℕ)
     → Among xs (n + 1) c → IsMarked marks c
-front_more marks xs n here all c w = elim ((among_more xs n c).0 w) [ inl more ↦ all c more | inr is ↦ subst (IsMarked marks) is here ]
+prefix_more marks xs n here all c w = elim ((among_more xs n c).0 w) [ inl more ↦ all c more | inr is ↦ subst (IsMarked marks) is here ]
 
 -- the first n are marked, or one of the nodes is not
-front_cases : (marks : List Bool) (xs : List ℕ) (n : ℕ) → n ≤ length xs
+prefix_cases : (marks : List Bool) (xs : List ℕ) (n : ℕ) → n ≤ length xs
     → ((c : ℕ) → Among xs n c → IsMarked marks c) ⊎ ((c : ℕ) × Contains xs c × (IsMarked marks c → ⊥))
-front_cases marks xs zero h = inl (λ c w. absurd (no_position w.0 w.1))
-front_cases marks xs (suc n) h = elim (front_cases marks xs n (omega arith)) [
+prefix_cases marks xs zero h = inl (λ c w. absurd (no_position w.0 w.1))
+prefix_cases marks xs (suc n) h = elim (prefix_cases marks xs n (omega arith)) [
   | inl all ↦ elim (mark_cases marks (get_or xs n 0)) [
-    | inl here ↦ inl (λ c w. front_more marks xs n here all c (subst (λ (k : ℕ). Among xs k c) (omega arith) w))
+    | inl here ↦ inl (λ c w. prefix_more marks xs n here all c (subst (λ (k : ℕ). Among xs k c) (omega arith) w))
     | inr out ↦ inr (get_or xs n 0, Contains-get_or xs n 0 (omega arith), out)
   ]
   | inr found ↦ inr found
@@ -64,7 +64,7 @@ front_cases marks xs (suc n) h = elim (front_cases marks xs n (omega arith)) [
 pub row_cases : (g : Graph) (marks : List Bool) (a : ℕ) → AllMarked g marks a ⊎ HasUnmarked g marks a
 row_cases g marks a =
     let row = successors g a in
-    elim (front_cases marks row (length row) (omega arith)) [
+    elim (prefix_cases marks row (length row) (omega arith)) [
       | inl all ↦ inl (λ b edge. all b ((among_all row (length row) b refl).0 edge))
       | inr found ↦ inr found
     ]
@@ -132,7 +132,7 @@ settled_others nodes rank old before n marks ranks e s c out = s.others c (λ w.
 pub passed_none : (g : Graph) (marks : List Bool) (passed : List ℕ) → length passed ≡ length g → ((a : ℕ) → get_or passed a 0 ≡ 0) → ArePassed g marks passed
 passed_none g marks passed size zeros = record {
   size = size;
-  each = λ a. record { inside = omega (arith, zeros a); front = λ k h. absurd (no_position k (omega (arith, h, zeros a))) };
+  each = λ a. record { inside = omega (arith, zeros a); prefix = λ k h. absurd (no_position k (omega (arith, h, zeros a))) };
 }
 
 -- marks that are added take nothing away
@@ -140,7 +140,7 @@ pub passed_grows : (g : Graph) (marks new : List Bool) (passed : List ℕ) → (
     → ArePassed g new passed
 passed_grows g marks new passed f p = record {
   size = p.size;
-  each = λ a. record { inside = (p.each a).inside; front = λ k h. f (get_or (successors g a) k 0) ((p.each a).front k h) };
+  each = λ a. record { inside = (p.each a).inside; prefix = λ k h. f (get_or (successors g a) k 0) ((p.each a).prefix k h) };
 }
 
 set_case : (g : Graph) (marks : List Bool) (passed : List ℕ) (p n a : ℕ) → p < length passed → IsPassed marks (successors g p) n → ArePassed g marks passed

@@ -1,23 +1,18 @@
 -- What a search over edges keeps.
 use Rattle.std.proofs.Common.{◌≡◌, ◌∙◌, sym, ℕ, zero, suc, ◌+◌, ◌<◌, ◌≤◌, List, [], ◌∷◌, length, get_or, ap, refl, subst, arith, inl, inr, ◌⊎◌, lit<}
 use Rattle.std.specs.Prelude.{Bool, Contains, ◌↔◌}
-use Rattle.std.specs.List.{IsDistinct}
 use Rattle.std.proofs.lemmas.Bool.{cases_lt, eqb-true}
 use Rattle.std.proofs.lemmas.Map.Views.{Contains-from_any}
 use Rattle.std.proofs.lemmas.Map.Steps.{length-le_from_distinct_below}
 use Rattle.std.proofs.Math.ListN.{get_or-append}
 use Rattle.std.proofs.lemmas.List.Elements.{Contains-get_or}
-use lib.Dec.{eqb}
 use Rattle.digraph.specs.Edges.{Graph, Edge, successors}
 use Rattle.digraph.specs.Leads.{Leads, here, through}
 use Rattle.digraph.specs.Marks.{IsMarked, AreMarked, IsFrontOf, NoneMarked}
 use Rattle.digraph.proofs.Marking.{among_all}
+use Rattle.digraph.proofs.Stuck.{IsDistinct_none}
 use Rattle.digraph.proofs.Visiting.{no_position}
 use Rattle.digraph.proofs.Ways.{leads_last}
-
-IsDistinct_none : IsDistinct eqb []
-unfolding IsDistinct
-IsDistinct_none = tt
 
 no_member : (xs : List ℕ) (c : ℕ) → xs ≡ [] → Contains xs c → ⊥
 no_member xs c e w = let here' = subst (λ (ys : List ℕ). Contains ys c) e w in no_position here'.0 here'.1
@@ -71,19 +66,19 @@ next_sound g start q c found sound there (inr h) = leads_last (Edge g) q c start
 next_done : (g : Graph) (next k b : ℕ) (found new : List ℕ) → next < length found → IsFrontOf found new
     → ((c : ℕ) → Contains found c ⊎ Edge g (get_or found next 0) c → Contains new c) → ((j d : ℕ) → j < next → Edge g (get_or found j 0) d → Contains found d)
     → (k < next) ⊎ (next ≤ k) → k < next + 1 → Edge g (get_or new k 0) b → Contains new b
-next_done g next k b found new h front add done (inl old) below w =
-    let same : get_or new k 0 ≡ get_or found k 0 = ap (λ xs. get_or xs k 0) front.1 ∙ get_or-append found front.0 0 k (omega arith) in
+next_done g next k b found new h prefix add done (inl old) below w =
+    let same : get_or new k 0 ≡ get_or found k 0 = ap (λ xs. get_or xs k 0) prefix.1 ∙ get_or-append found prefix.0 0 k (omega arith) in
     add b (inl (done k b old (subst (λ (x : ℕ). Edge g x b) same w)))
-next_done g next k b found new h front add done (inr last) below w =
+next_done g next k b found new h prefix add done (inr last) below w =
     let at : k ≡ next = omega arith in
     let same : get_or new k 0 ≡ get_or found next 0 =
-    ap (λ xs. get_or xs k 0) front.1 ∙ get_or-append found front.0 0 k (omega arith) ∙ ap (λ i. get_or found i 0) at in
+    ap (λ xs. get_or xs k 0) prefix.1 ∙ get_or-append found prefix.0 0 k (omega arith) ∙ ap (λ i. get_or found i 0) at in
     add b (inr (subst (λ (x : ℕ). Edge g x b) same w))
 
 pub searching_next : (g : Graph) (n start : ℕ) (marks new : List Bool) (found ys xs : List ℕ) (next : ℕ) → next < length found
     → xs ≡ successors g (get_or found next 0) → length new ≡ n → AreMarked new ys → IsFrontOf found ys
     → ((c : ℕ) → Contains ys c ↔ (Contains found c ⊎ Contains xs c)) → Searching g n start marks found next → Searching g n start new ys (next + 1)
-searching_next g n start marks new found ys xs next h e room are front added r =
+searching_next g n start marks new found ys xs next h e room are prefix added r =
     let q = get_or found next 0 in
     let there : Contains found q = Contains-get_or found next 0 h in
     let added' : (c : ℕ) → Contains ys c ↔ (Contains found c ⊎ Edge g q c) =
@@ -93,7 +88,7 @@ searching_next g n start marks new found ys xs next h e room are front added r =
       are = are;
       first = (added' start).1 (inl r.first);
       sound = λ c w. next_sound g start q c found r.sound there ((added' c).0 w);
-      done = λ k b below w. next_done g next k b found ys h front (λ c. (added' c).1) r.done (cases_lt k next) below w;
+      done = λ k b below w. next_done g next k b found ys h prefix (λ c. (added' c).1) r.done (cases_lt k next) below w;
     }
 
 closed : (g : Graph) (found : List ℕ) (next c : ℕ) → length found ≤ next → ((k b : ℕ) → k < next → Edge g (get_or found k 0) b → Contains found b) → (a : ℕ)

@@ -26,22 +26,22 @@ ranges_kept old more [] w = refl
 ranges_kept old more (r ∷ rs) w = rw (range_kept old more r w.0, ranges_kept old more rs w.1) refl
 
 pub view_kept : (old new : List ℕ) (rs ss : List (ℕ × ℕ)) → IsFrontOf old new → ss ≡ rs → AreWithin (length old) rs → ranges_of new ss ≡ ranges_of old rs
-view_kept old new rs ss front e w = rw (front.1, e) (ranges_kept old front.0 rs w)
+view_kept old new rs ss prefix e w = rw (prefix.1, e) (ranges_kept old prefix.0 rs w)
 
 pub length_kept : (old new : List ℕ) → IsFrontOf old new → length old ≤ length new
-length_kept old new front = rw front.1 (rw (length-append old front.0) (omega arith))
+length_kept old new prefix = rw prefix.1 (rw (length-append old prefix.0) (omega arith))
 
 pub view_pushed : (old new : List ℕ) (rs ss : List (ℕ × ℕ)) (start : ℕ) (list : List ℕ) → IsFrontOf old new → Holds new start list
     → ss ≡ rs ++ (start, length list) ∷ [] → AreWithin (length old) rs → ranges_of new ss ≡ ranges_of old rs ++ list ∷ []
-view_pushed old new rs ss start list front holds e w =
+view_pushed old new rs ss start list prefix holds e w =
     let last : range_of new (start, length list) ≡ list = rw holds.0 (take_all (length list) list (omega arith)) in
-    rw (e, map-append) (rw (view_kept old new rs rs front refl w, last) refl)
+    rw (e, map-append) (rw (view_kept old new rs rs prefix refl w, last) refl)
 
 pub within_pushed : (old new : List ℕ) (rs ss : List (ℕ × ℕ)) (start : ℕ) (list : List ℕ) → IsFrontOf old new → Holds new start list
     → ss ≡ rs ++ (start, length list) ∷ [] → AreWithin (length old) rs → AreWithin (length new) ss
-within_pushed old new rs ss start list front holds e w =
+within_pushed old new rs ss start list prefix holds e w =
     rw e (all_push (λ (range : ℕ × ℕ). range.0 + range.1 ≤ length new) rs (start, length list)
-    (within_more (length old) (length new) rs (length_kept old new front) w) (omega (arith, holds.1)))
+    (within_more (length old) (length new) rs (length_kept old new prefix) w) (omega (arith, holds.1)))
 
 pub same_numbers : (xs ys : List ℕ) → pointwise eqb xs ys ≡ true → xs ≡ ys
 same_numbers [] [] e = refl
@@ -51,12 +51,12 @@ same_numbers (x ∷ xs) (y ∷ ys) e =
     let both = and_parts (eqb x y) (pointwise eqb xs ys) e in let rest = same_numbers xs ys both.1 in let first = eqb-true x y both.0 in cc
 
 -- a list goes on where the positions end
-pub goes_on : (positions new front list : List ℕ) (last k : ℕ) → front ≡ drop k positions → k + length front ≡ length positions → list ≡ front ++ last ∷ []
+pub goes_on : (positions new prefix list : List ℕ) (last k : ℕ) → prefix ≡ drop k positions → k + length prefix ≡ length positions → list ≡ prefix ++ last ∷ []
     → new ≡ positions ++ last ∷ [] → Holds new k list
-goes_on positions new front list last k e len whole pushed =
+goes_on positions new prefix list last k e len whole pushed =
     let inside : k ≤ length positions = omega arith in (
       rw (pushed, whole, drop-append-le k positions (last ∷ []) inside, e) refl,
-      rw (pushed, whole) (rw (length-append positions (last ∷ []), length-append front (last ∷ [])) (omega arith)),
+      rw (pushed, whole) (rw (length-append positions (last ∷ []), length-append prefix (last ∷ [])) (omega arith)),
     )
 
 -- the list at k, by its range

@@ -21,7 +21,7 @@ no_position k h = omega arith
 pub record Visited (old nodes : List ℕ) (n : ℕ) (marks : List Bool) (marked : List ℕ) : Type 0 where
   pub room : (k : ℕ) → k < length nodes → get_or nodes k 0 < length marks
   pub are : AreMarked marks marked
-  pub front : IsFrontOf old marked
+  pub prefix : IsFrontOf old marked
   pub added : (c : ℕ) → Contains marked c ↔ (Contains old c ⊎ Among nodes n c)
 
 pub distinct_push : (xs : List ℕ) (x : ℕ) → IsDistinct eqb xs → (Contains xs x → ⊥) → IsDistinct eqb (xs ++ x ∷ [])
@@ -58,7 +58,7 @@ visited_push old nodes n marks new marked ys h out new_is ys_is v =
     rw (new_is, ys_is) (record {
       room = λ k inside. (let old_room = v.room k inside in omega (arith, old_room, length-set marks p true));
       are = marked_push marks marked p below fresh v.are;
-      front = (v.front.0 ++ p ∷ [], ap (λ xs. xs ++ p ∷ []) v.front.1 ∙ append_assoc old v.front.0 (p ∷ []));
+      prefix = (v.prefix.0 ++ p ∷ [], ap (λ xs. xs ++ p ∷ []) v.prefix.1 ∙ append_assoc old v.prefix.0 (p ∷ []));
       added = λ c. joined_step (push_iff marked p c) (v.added c) (among_more nodes n c);
     })
 
@@ -83,7 +83,7 @@ visited_skip old nodes n marks new marked ys h inside new_is ys_is v =
     rw (new_is, ys_is) (record {
       room = v.room;
       are = v.are;
-      front = v.front;
+      prefix = v.prefix;
       added = λ c. (λ w. skip_to old nodes n c ((v.added c).0 w), skip_from old nodes marked n c found (v.added c).1);
     })
 
@@ -99,7 +99,7 @@ pub visited_none : (old nodes : List ℕ) (marks : List Bool) → ((c : ℕ) →
 visited_none old nodes marks room are = record {
   room = λ k h. room (get_or nodes k 0) (Contains-get_or nodes k 0 h);
   are = are;
-  front = ([], sym (append-nil old));
+  prefix = ([], sym (append-nil old));
   added = λ c. (λ w. inl w, λ w. none_from old nodes c w);
 }
 

@@ -6,7 +6,7 @@ use Rattle.digraph.specs.Marks.{IsMarked}
 -- the first n of a row are marked
 pub record IsPassed (marks : List Bool) (row : List ℕ) (n : ℕ) : Type 0 where
   pub inside : n ≤ length row
-  pub front : (k : ℕ) → k < n → IsMarked marks (slice_index_or row k 0)
+  pub prefix : (k : ℕ) → k < n → IsMarked marks (slice_index_or row k 0)
 
 -- of each node's row, as many as the list says
 pub record ArePassed (g : Graph) (marks : List Bool) (passed : List ℕ) : Type 0 where

@@ -104,9 +104,9 @@ fn put(items: &mut Vec<usize>, list: &[usize]) -> Result<usize, AllocError>
     ensures holds { IfOk result (λ start. Holds items.new.items start list.now) }
     ensures kept { IsFrontOf items.old.items items.new.items }
 {
-    if let Some((last, front)) = list.split_last() {
-        if items.as_slice().ends_with(front) {
-            let start = items.len() - front.len();
+    if let Some((last, prefix)) = list.split_last() {
+        if items.as_slice().ends_with(prefix) {
+            let start = items.len() - prefix.len();
             items.push(*last)?;
             return Ok(start);
         }

@@ -22,7 +22,7 @@ pub(crate) fn visit(
     requires room { (c : ℕ) → Contains nodes.now c → c < length marks.old }
     requires marked { AreMarked marks.old marked.old.items }
     ensures marked { OnOk result (AreMarked marks.new marked.new.items) }
-    ensures front { OnOk result (IsFrontOf marked.old.items marked.new.items) }
+    ensures prefix { OnOk result (IsFrontOf marked.old.items marked.new.items) }
     ensures added { OnOk result ((c : ℕ)
         → Contains marked.new.items c ↔ (Contains marked.old.items c ⊎ Contains nodes.now c)) }
 {

@@ -14,8 +14,8 @@ use Rattle.proto_compile.specs.Compilation.{Compilation}
 
 pub of_path : (path target query : List ℕ) → take (length path) target ≡ path → query ≡ drop (length path) target → IsEmptyOrBegins 63 query
     → IsTargetOf path target
-of_path path target query front rest begins =
-    (query, sym (take-append-drop (length path) target) ∙ ap (λ l. l ++ drop (length path) target) front ∙ ap (λ l. path ++ l) (sym rest), begins)
+of_path path target query prefix rest begins =
+    (query, sym (take-append-drop (length path) target) ∙ ap (λ l. l ++ drop (length path) target) prefix ∙ ap (λ l. path ++ l) (sym rest), begins)
 
 pub query_of : (path target query : List ℕ) → query ≡ drop (length path) target → IsTargetOf path target → IsEmptyOrBegins 63 query
 query_of path target query rest (other, is, begins) =
@@ -80,10 +80,10 @@ semicolon text k all below none = (
 pub of_parts : (media text : List ℕ) (name behind : List ℕ) {shown : List ℕ} → text ≡ shown → name ≡ take (length media) shown
     → behind ≡ drop (length media) shown
     → map to_ascii_lowercase name ≡ map to_ascii_lowercase media → IsBehindType behind → IsOfType media text
-of_parts media text name behind {shown = shown} is front back same left = (
+of_parts media text name behind {shown = shown} is prefix back same left = (
   name,
   behind,
-  is ∙ sym (take-append-drop (length media) shown) ∙ ap (λ l. l ++ drop (length media) shown) (sym front) ∙ ap (λ l. name ++ l) (sym back),
+  is ∙ sym (take-append-drop (length media) shown) ∙ ap (λ l. l ++ drop (length media) shown) (sym prefix) ∙ ap (λ l. name ++ l) (sym back),
   same,
   left,
 )

@@ -70,11 +70,11 @@ pub record IsReading (old now : Reads) (room : List ℕ) (filled : ℕ) : Type 0
 pub no_read : (old : Reads) (room : List ℕ) → IsReading old old room 0
 no_read old room = record { within = omega arith; bytes = sym (append-nil old.bytes); calls = omega arith; failures = refl; left = consumes_none old.left }
 
-long_front : (room sub : List ℕ) (filled : ℕ) → filled ≤ length room → length (take filled room ++ sub) ≡ filled + length sub
-long_front room sub filled within = length-append (take filled room) sub ∙ ap (λ k. k + length sub) (length-take-le filled room within)
+long_prefix : (room sub : List ℕ) (filled : ℕ) → filled ≤ length room → length (take filled room ++ sub) ≡ filled + length sub
+long_prefix room sub filled within = length-append (take filled room) sub ∙ ap (λ k. k + length sub) (length-take-le filled room within)
 
-front_of : (room sub : List ℕ) (filled n : ℕ) → filled ≤ length room → take (filled + n) (take filled room ++ sub) ≡ take filled room ++ take n sub
-front_of room sub filled n within =
+prefix_of : (room sub : List ℕ) (filled n : ℕ) → filled ≤ length room → take (filled + n) (take filled room ++ sub) ≡ take filled room ++ take n sub
+prefix_of room sub filled n within =
     subst (λ k. take (k + n) (take filled room ++ sub) ≡ take filled room ++ take n sub) (length-take-le filled room within)
     (take_of_two (take filled room) sub n)
 
@@ -82,27 +82,27 @@ pub read_more : {E : Type 0} (old now new : Reads) (room sub : List ℕ) (filled
     → IsReadOnce {E = E} now new (Ok n) sub → IsReading old new (take filled room ++ sub) (filled + n)
 read_more old now new room sub filled n so short some once =
     record {
-      within = (let h = long_front room sub filled so.within in omega (arith, h, short));
+      within = (let h = long_prefix room sub filled so.within in omega (arith, h, short));
       bytes = once.bytes ∙ ap (λ l. l ++ take n sub) so.bytes ∙ append_assoc old.bytes (take filled room) (take n sub)
-          ∙ ap (λ l. old.bytes ++ l) (sym (front_of room sub filled n so.within));
+          ∙ ap (λ l. old.bytes ++ l) (sym (prefix_of room sub filled n so.within));
       calls = (let h = ap length once.calls ∙ length-append now.calls (record { room = length sub; given = Some n } ∷ []) in let k = so.calls in
           omega (arith, h, k, some));
       failures = once.failures ∙ add_zero now.failures ∙ so.failures;
-      left = subst (λ l. Consumes old.left new.left l) (sym (front_of room sub filled n so.within))
+      left = subst (λ l. Consumes old.left new.left l) (sym (prefix_of room sub filled n so.within))
           (consumes_on old.left now.left new.left (take filled room) (take n sub) so.left once.left.0);
     }
 
 pub read_none : {E : Type 0} (old now new : Reads) (room sub : List ℕ) (filled : ℕ) → IsReading old now room filled → 0 < length sub
     → IsReadOnce {E = E} now new (Ok 0) sub → IsRead (length (take filled room ++ sub)) old new (take filled (take filled room ++ sub))
 read_none old now new room sub filled so some once =
-    let front = subst (λ k. take k (take filled room ++ sub) ≡ take filled room ++ []) (add_zero filled) (front_of room sub filled 0 so.within)
+    let prefix = subst (λ k. take k (take filled room ++ sub) ≡ take filled room ++ []) (add_zero filled) (prefix_of room sub filled 0 so.within)
     ∙ append-nil (take filled room) in
     record {
-      given = once.bytes ∙ append-nil now.bytes ∙ so.bytes ∙ ap (λ l. old.bytes ++ l) (sym front);
-      within = (let h = long_front room sub filled so.within in let k = ap length front ∙ length-take-le filled room so.within in omega (arith, h, k));
+      given = once.bytes ∙ append-nil now.bytes ∙ so.bytes ∙ ap (λ l. old.bytes ++ l) (sym prefix);
+      within = (let h = long_prefix room sub filled so.within in let k = ap length prefix ∙ length-take-le filled room so.within in omega (arith, h, k));
       whole = inr (now.calls, record { room = length sub; given = Some 0 }, once.calls, some, refl);
       failures = once.failures ∙ add_zero now.failures ∙ so.failures;
-      left = subst (λ l. Consumes old.left new.left l) (sym front) (consumes_nothing old.left now.left new.left (take filled room) so.left once.left.0);
+      left = subst (λ l. Consumes old.left new.left l) (sym prefix) (consumes_nothing old.left now.left new.left (take filled room) so.left once.left.0);
     }
 
 pub read_full : (old now : Reads) (room : List ℕ) (filled : ℕ) → IsReading old now room filled → length room ≤ filled

@@ -13,7 +13,7 @@ use Rattle.std.proofs.lemmas.Map.Lookups.{exact_bytes, exact_unsigned}
 use denote.Ref.{Bor}
 use Rattle.proto_base.specs.declared.spot.Spot.{Spot}
 use Rattle.proto_base.specs.Least.{IsLeast, IsLesser, AtMost}
-use Rattle.proto_base.specs.Sets.{StandsAt, Each, Later}
+use Rattle.proto_base.specs.Sets.{StandsAt, Each, Later, Where}
 
 pub least_none : (S : Spot → Type 0) → ((x : Spot) → S x → ⊥) → IsLeast S None
 least_none S h = record { found = tt; least = h }
@@ -214,10 +214,6 @@ least_either S T a b r p q w = least_or S T (Either S T) a b r (λ x v. v) (λ x
 -- what a loop over plain structs reads at n
 pub item_at : {X : Type 0} (xs : List X) (n : ℕ) (d : X) → n < length xs → StandsAt xs n (get_or xs n d)
 item_at xs n d h = (h, get_or_default xs n (get_or xs n d) d h)
-
--- the faults at one spot where P holds
-abbrev pub Where : Type 0 → Spot → Spot → Type 0
-Where P s x = P × (x ≡ s)
 
 pub least_hit : (P : Type 0) (s : Spot) → P → IsLeast (Where P s) (Some s)
 least_hit P s p = record { found = (p, refl); least = λ x w. subst (AtMost s) (sym w.1) (at_most_itself s) }

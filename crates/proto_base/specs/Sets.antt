@@ -2,6 +2,10 @@
 use Rattle.std.specs.Prelude.{◌≡◌, ℕ, ◌<◌, List, length, slice_index_or}
 use Rattle.proto_base.specs.declared.spot.Spot.{Spot}
 
+-- the one spot, where P holds
+abbrev pub Where : Type 0 → Spot → Spot → Type 0
+Where P s x = P × (x ≡ s)
+
 -- a stands at i
 abbrev pub StandsAt : {X : Type 0} → List X → ℕ → X → Type 0
 StandsAt xs i a = (i < length xs) × (slice_index_or xs i a ≡ a)

@@ -5,8 +5,8 @@ use Rattle.proto_checks.specs.declared.marks.MarkedNumber.{MarkedNumber}
 use Rattle.proto_checks.specs.declared.marks.MarkedRange.{MarkedRange}
 use Rattle.proto_base.specs.declared.spot.Spot.{Spot}
 use Rattle.proto_base.specs.Least.{IsLeast, IsLesser}
-use Rattle.proto_base.specs.Sets.{StandsAt}
-use Rattle.proto_base.proofs.Sets.{EachTo, Where, each_more, least_hit, least_miss, lesser_none}
+use Rattle.proto_base.specs.Sets.{StandsAt, Where}
+use Rattle.proto_base.proofs.Sets.{EachTo, each_more, least_hit, least_miss, lesser_none}
 
 -- the spots of the elements at which P holds
 abbrev pub Hits : {X : Type 0} → (X → Type 0) → (X → Spot) → X → Spot → Type 0

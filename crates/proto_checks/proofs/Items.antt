@@ -13,7 +13,8 @@ use Rattle.proto_tree.specs.declared.message.MessageItem.TheVariants as of
 use Rattle.proto_tree.specs.declared.oneof.Oneof.{Oneof}
 use Rattle.proto_desc.specs.declared.rules.Element.TheVariants as element
 use Rattle.proto_lower.specs.Options.{message_setting}
-use Rattle.proto_checks.specs.Elements.{OneofBreaks, oneof_of, EnumBreaks, enum_of, BodyBreaks, ItemBreaks, bodies_of, bodies_row, bodies}
+use Rattle.proto_lower.specs.Laws.{oneof_of}
+use Rattle.proto_checks.specs.Elements.{OneofBreaks, EnumBreaks, enum_of, BodyBreaks, ItemBreaks, bodies_of, bodies_row, bodies}
 use Rattle.proto_base.specs.Least.{IsLeast, IsLesser}
 use Rattle.proto_checks.specs.Numbers.{FieldNumbersBreak}
 use Rattle.proto_checks.specs.Options.{optioned, optioned_plain, optioned_member, optioned_fields, FieldOptionsBreak, SettingsBreak}

@@ -7,9 +7,9 @@ use Rattle.proto_base.specs.declared.kind.Kind.TheVariants as kind
 use Rattle.proto_base.specs.declared.limits.Limits.{Limits}
 use Rattle.proto_tree.specs.declared.file.Package.{Package}
 use Rattle.proto_tree.specs.declared.file.Statement.{Statement}
-use Rattle.proto_checks.specs.Checks.{package_in, PackageTwice, parts_of, IsPartTooLong, IsWholeTooLong, PackageTooLong, Where}
+use Rattle.proto_checks.specs.Checks.{package_in, PackageTwice, parts_of, IsPartTooLong, IsWholeTooLong, PackageTooLong}
 use Rattle.proto_base.specs.Least.{IsLeast, IsLesser, spot}
-use Rattle.proto_base.specs.Sets.{Each}
+use Rattle.proto_base.specs.Sets.{Each, Where}
 use Rattle.proto_base.specs.declared.spot.Spot.{Spot}
 use Rattle.proto_base.proofs.Among.{taken, later_short}
 use Rattle.proto_base.proofs.Sets.{Either, least_either, least_or, least_same}

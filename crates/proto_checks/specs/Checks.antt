@@ -39,10 +39,6 @@ use Rattle.proto_base.specs.declared.spot.Spot.{Spot}
 abbrev pub NotProto3Syntax : Syntax → Spot → Type 0
 NotProto3Syntax s x = (joined s.version ≢ codes "proto3") × (x ≡ spot s.version.first.span.start kind.NotProto3Syntax)
 
--- the one spot, where P holds
-abbrev pub Where : Type 0 → Spot → Spot → Type 0
-Where P s x = P × (x ≡ s)
-
 -- what stands at the top of a file
 abbrev pub package_in : Statement → List Package
 package_in (statement.Package p) = p ∷ []

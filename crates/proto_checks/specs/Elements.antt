@@ -16,6 +16,7 @@ use Rattle.proto_tree.specs.declared.service.Service.{Service}
 use Rattle.proto_tree.specs.declared.service.ServiceItem.{ServiceItem}
 use Rattle.proto_tree.specs.declared.service.ServiceItem.TheVariants as service_item
 use Rattle.proto_desc.specs.declared.rules.Element.TheVariants as element
+use Rattle.proto_lower.specs.Laws.{oneof_of}
 use Rattle.proto_lower.specs.Options.{bracketed, message_setting, oneof_setting, enum_setting, service_setting, rpc_setting}
 use Rattle.proto_lower.specs.Services.{rpc_items}
 use Rattle.proto_checks.specs.Gathered.{value_numbers}
@@ -63,10 +64,6 @@ pub data EnumBreaks (e : Enum) (x : Spot) : Type 0 where
   value_options : Each (flat_map value_of_item e.items) ValueBreaks x → EnumBreaks e x
 
 -- the statements of one message, without those of the messages within it
-abbrev pub oneof_of : MessageItem → List Oneof
-oneof_of (message_item.Oneof o) = o ∷ []
-oneof_of i = []
-
 abbrev pub enum_of : MessageItem → List Enum
 enum_of (message_item.Enum e) = e ∷ []
 enum_of i = []

@@ -22,6 +22,7 @@ use Rattle.proto_tree.specs.declared.reserved.ReservedItems.TheVariants as reser
 use Rattle.proto_tree.specs.declared.reserved.UpperBound.{UpperBound}
 use Rattle.proto_tree.specs.declared.reserved.UpperBound.TheVariants as upper_bound
 use Rattle.proto_lower.specs.Options.{separated}
+use Rattle.proto_lower.specs.Reserveds.{end_number}
 use Rattle.proto_tree.specs.Text.{joined}
 use Rattle.proto_checks.specs.Marks.{Marked}
 use Rattle.proto_checks.specs.declared.marks.MarkedNumber.{MarkedNumber}
@@ -79,16 +80,8 @@ end_bound (Some e) = upper_bound_number e.bound
 abbrev pub bounds_of : {N : Type 0} → Range N → List N
 bounds_of r = r.start ∷ end_bound r.end
 
-abbrev pub message_bound : UpperBound NumberLiteral → ℕ
-message_bound (upper_bound.Number n) = n.value
-message_bound (upper_bound.Max s) = 536870911
-
-abbrev pub message_end : ℕ → Option (RangeEnd NumberLiteral) → ℕ
-message_end start None = start
-message_end start (Some e) = message_bound e.bound
-
 abbrev pub message_range : Range NumberLiteral → MarkedRange
-message_range r = record { start = r.start.value; end = message_end r.start.value r.end; place = r.start.span.start }
+message_range r = record { start = r.start.value; end = end_number r.start.value r.end; place = r.start.span.start }
 
 abbrev pub message_ranges : List MessageItem → List MarkedRange
 message_ranges is = map message_range (flat_map message_ranges_listed is)

@@ -4,7 +4,7 @@ ghost use Rattle.std.specs.Prelude.{◌≡◌, ◌↔◌, Some, IsTrue, IfOk, Li
 ghost use Rattle.std.specs.Option.{is_some};
 ghost use Rattle.proto_desc.specs.declared.options.OptionValue.TheVariants.{Number};
 ghost use Rattle.proto_desc.specs.declared.rules.ValueKind.TheVariants.{Bool};
-ghost use Rattle.proto_lower.specs.Options.{is_setting, number_of, value_of};
+ghost use Rattle.proto_lower.specs.Options.{is_setting, value_of};
 ghost use Rattle.proto_base.specs.Least.{IsLeast};
 ghost use Rattle.proto_checks.specs.Options.{name_place, value_place, choice_of_value, SettingsBreak};
 ghost use Rattle.proto_checks.specs.Judged.{is_known, is_mistaken, setting_fault, judged, judged_name, IsFaultOf, JudgedTwice};
@@ -17,19 +17,10 @@ use crate::repeats::first_text_twice;
 use proto_base::text::Text;
 use proto_base::{Kind, Place, Spot, lesser};
 use proto_desc::rules::{Element, ValueKind, rules};
-use proto_lower::is_setting;
-use proto_tree::text::{dotted, simple_name};
-use proto_tree::{Constant, FullName, Setting, Sign};
+use proto_lower::{is_setting, number_of};
+use proto_tree::text::dotted;
+use proto_tree::{Constant, Setting, Sign};
 use std::alloc::{AllocError, Global};
-
-fn number_of(kind: ValueKind, name: &FullName) -> Option<u64>
-    ensures { result ≡ number_of kind name.now }
-{
-    match simple_name(name) {
-        Some(word) => kind.choice_number(word),
-        None => None,
-    }
-}
 
 /// The number that a constant stands for, if it is a name.
 pub(crate) fn choice_of_value(kind: ValueKind, value: &Constant) -> Option<u64>

@@ -3,10 +3,10 @@
 ghost use Rattle.std.specs.Prelude.{◌≡◌, true, flat_map};
 ghost use Rattle.proto_base.specs.declared.kind.Kind.TheVariants as kind;
 ghost use Rattle.proto_tree.specs.Text.{dotted};
-ghost use Rattle.proto_checks.specs.Checks.{package_in, parts_of, IsPartTooLong, IsWholeTooLong, PackageTooLong, PackageTwice, Where};
+ghost use Rattle.proto_checks.specs.Checks.{package_in, parts_of, IsPartTooLong, IsWholeTooLong, PackageTooLong, PackageTwice};
 ghost use Rattle.proto_base.specs.Least.{IsLeast, spot};
 ghost use Rattle.proto_checks.specs.Lengths.{capped};
-ghost use Rattle.proto_base.specs.Sets.{Each};
+ghost use Rattle.proto_base.specs.Sets.{Each, Where};
 
 use proto_base::{Kind, Limit, Limits, Place, Spot, lesser};
 use proto_tree::{FullName, Package, Statement};

@@ -1,7 +1,6 @@
 //! Rules on services and methods.
 
-ghost use Rattle.std.specs.Prelude.{◌≡◌, IfOk, flat_map};
-ghost use Rattle.proto_lower.specs.Services.{rpc_items};
+ghost use Rattle.std.specs.Prelude.{IfOk, flat_map};
 ghost use Rattle.proto_checks.specs.Elements.{rpc_of, RpcBreaks, ServiceBreaks};
 ghost use Rattle.proto_base.specs.Least.{IsLeast};
 ghost use Rattle.proto_base.specs.Sets.{Each};
@@ -10,17 +9,9 @@ use crate::options::settings_fault;
 use crate::settings::settings_of;
 use proto_base::{Spot, lesser};
 use proto_desc::rules::Element;
-use proto_tree::{Rpc, RpcBody, RpcItem, Service, ServiceItem};
+use proto_lower::rpc_items;
+use proto_tree::{Rpc, Service, ServiceItem};
 use std::alloc::{AllocError, Global};
-
-fn rpc_items<'t, 's>(body: &'t RpcBody<'s>) -> &'t [RpcItem<'s>]
-    ensures { result.now ≡ rpc_items body.now }
-{
-    match body {
-        RpcBody::Semicolon(_) => &[],
-        RpcBody::Block(block) => block.items.as_slice(),
-    }
-}
 
 fn method_fault(alloc: Global, rpc: &Rpc) -> Result<Option<Spot>, AllocError>
     ensures { IfOk result (λ first. IsLeast (RpcBreaks rpc.now) first) }

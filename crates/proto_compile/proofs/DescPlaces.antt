@@ -11,38 +11,32 @@ use Rattle.proto_desc.specs.declared.service.MethodDesc.{MethodDesc}
 use Rattle.proto_desc.specs.declared.service.ServiceDesc.{ServiceDesc}
 use Rattle.proto_file.specs.Places.{AtMost}
 use Rattle.proto_file.proofs.FileWithin.{each_place, each_places}
-use Rattle.proto_file.proofs.PlacesWithin.{front, rest, both, each_map, each_weaker}
+use Rattle.proto_file.proofs.PlacesWithin.{prefix, rest, both, each_map, each_weaker, EnumWithin, MethodWithin, ServiceWithin}
 use Rattle.proto_file.proofs.Spots.{Placed}
 use Rattle.proto_file.proofs.Within.{given}
 use Rattle.proto_names.specs.Occurrences.{Occurrence, declared_occurrence, package_occurrence, package_occurrences, occurrences_of}
-use Rattle.proto_names.specs.Scopes.{fronts}
+use Rattle.proto_names.specs.Scopes.{prefixes}
 use Rattle.proto_names.specs.declared.resolve.Want.TheVariants as want
 use Rattle.proto_types.specs.References.{references_of_type, references_of_method, references_of_service, references}
-use Rattle.proto_compile.proofs.MessagePlaces.{DeclaredAt, EnumAt, MessageAt, ReferenceAt, each_of, enum_at, message_at, messages_at, type_at}
+use Rattle.proto_compile.proofs.MessagePlaces.{DeclaredAt, MessageAt, ReferenceAt, each_of, enum_at, message_at, messages_at, type_at}
 
 -- ---- services
 
-abbrev MethodAt : ℕ → MethodDesc → Type 0
-MethodAt n m = AtMost n (method_places m)
-
-method_at : (n : ℕ) (scope : List ℕ) (m : MethodDesc) → MethodAt n m → AllByRecursion (ReferenceAt n) (references_of_method scope m)
+method_at : (n : ℕ) (scope : List ℕ) (m : MethodDesc) → MethodWithin n m → AllByRecursion (ReferenceAt n) (references_of_method scope m)
 method_at n scope m at =
     both (ReferenceAt n) (references_of_type scope want.MessageOnly [] m.input) (references_of_type scope want.MessageOnly [] m.output)
-    (type_at n scope want.MessageOnly [] m.input (front (λ p. p ≤ n) (reference_places m.input) (reference_places m.output) at.1) tt)
+    (type_at n scope want.MessageOnly [] m.input (prefix (λ p. p ≤ n) (reference_places m.input) (reference_places m.output) at.1) tt)
     (type_at n scope want.MessageOnly [] m.output (rest (λ p. p ≤ n) (reference_places m.input) (reference_places m.output) at.1) tt)
 
-abbrev ServiceAt : ℕ → ServiceDesc → Type 0
-ServiceAt n s = AtMost n (service_places s)
-
-service_declares : (n : ℕ) (scope : List ℕ) (s : ServiceDesc) → ServiceAt n s → AllByRecursion (DeclaredAt n) (declared_by_service scope s)
+service_declares : (n : ℕ) (scope : List ℕ) (s : ServiceDesc) → ServiceWithin n s → AllByRecursion (DeclaredAt n) (declared_by_service scope s)
 service_declares n scope s at = (
   at.0,
   each_map (DeclaredAt n) (declared_method (scoped scope s.name)) s.methods
-      (each_weaker (MethodAt n) (λ (m : MethodDesc). Placed n m.place) s.methods (λ m w. w.0) (each_places n method_places s.methods at.1)),
+      (each_weaker (MethodWithin n) (λ (m : MethodDesc). Placed n m.place) s.methods (λ m w. w.0) (each_places n method_places s.methods at.1)),
 )
 
-service_refers : (n : ℕ) (scope : List ℕ) (s : ServiceDesc) → ServiceAt n s → AllByRecursion (ReferenceAt n) (references_of_service scope s)
-service_refers n scope s at = given (MethodAt n) (ReferenceAt n) (references_of_method (scoped scope s.name)) s.methods (method_at n (scoped scope s.name))
+service_refers : (n : ℕ) (scope : List ℕ) (s : ServiceDesc) → ServiceWithin n s → AllByRecursion (ReferenceAt n) (references_of_service scope s)
+service_refers n scope s at = given (MethodWithin n) (ReferenceAt n) (references_of_method (scoped scope s.name)) s.methods (method_at n (scoped scope s.name))
     (each_places n method_places s.methods at.1)
 
 -- ---- files
@@ -52,18 +46,18 @@ record FileAt (n : ℕ) (d : FileDesc) : Type 0 where
   package_at : AtMost n (package_places d.«package»)
   imports : AtMost n (map import_place d.imports)
   messages : AtMost n (flat_map message_places d.messages)
-  enums : AllByRecursion (EnumAt n) d.enums
-  services : AllByRecursion (ServiceAt n) d.services
+  enums : AllByRecursion (EnumWithin n) d.enums
+  services : AllByRecursion (ServiceWithin n) d.services
 
 file_at : (n : ℕ) (d : FileDesc) → AtMost n (places_of d) → FileAt n d
 file_at n d at =
-    let upto_enums = front (λ p. p ≤ n) (package_places d.«package» ++ map import_place d.imports ++ flat_map message_places d.messages
+    let upto_enums = prefix (λ p. p ≤ n) (package_places d.«package» ++ map import_place d.imports ++ flat_map message_places d.messages
     ++ flat_map enum_places d.enums) (flat_map service_places d.services) at in
-    let upto_messages = front (λ p. p ≤ n) (package_places d.«package» ++ map import_place d.imports ++ flat_map message_places d.messages)
+    let upto_messages = prefix (λ p. p ≤ n) (package_places d.«package» ++ map import_place d.imports ++ flat_map message_places d.messages)
     (flat_map enum_places d.enums) upto_enums in
-    let upto_imports = front (λ p. p ≤ n) (package_places d.«package» ++ map import_place d.imports) (flat_map message_places d.messages) upto_messages in
+    let upto_imports = prefix (λ p. p ≤ n) (package_places d.«package» ++ map import_place d.imports) (flat_map message_places d.messages) upto_messages in
     record {
-      package_at = front (λ p. p ≤ n) (package_places d.«package») (map import_place d.imports) upto_imports;
+      package_at = prefix (λ p. p ≤ n) (package_places d.«package») (map import_place d.imports) upto_imports;
       imports = rest (λ p. p ≤ n) (package_places d.«package») (map import_place d.imports) upto_imports;
       messages = rest (λ p. p ≤ n) (package_places d.«package» ++ map import_place d.imports) (flat_map message_places d.messages) upto_messages;
       enums = each_places n enum_places d.enums (rest (λ p. p ≤ n)
@@ -80,8 +74,8 @@ declared_at : (n : ℕ) (d : FileDesc) → FileAt n d → AllByRecursion (Declar
 declared_at n d at =
     let scope : List ℕ = file_scope d.«package» in
     let messages = (messages_at n scope d.messages (each_of (MessageAt n) (message_at n) d.messages) at.messages).0 in
-    let enums = given (EnumAt n) (DeclaredAt n) (declared_by_enum scope) d.enums (enum_at n scope) at.enums in
-    let services = given (ServiceAt n) (DeclaredAt n) (declared_by_service scope) d.services (service_declares n scope) at.services in
+    let enums = given (EnumWithin n) (DeclaredAt n) (declared_by_enum scope) d.enums (enum_at n scope) at.enums in
+    let services = given (ServiceWithin n) (DeclaredAt n) (declared_by_service scope) d.services (service_declares n scope) at.services in
     both (DeclaredAt n) _ _ (both (DeclaredAt n) _ _ messages enums) services
 
 pub references_at : (n : ℕ) (d : FileDesc) → AtMost n (places_of d) → AllByRecursion (ReferenceAt n) (references d)
@@ -89,7 +83,7 @@ references_at n d at =
     let own = file_at n d at in
     let scope : List ℕ = file_scope d.«package» in
     let messages = (messages_at n scope d.messages (each_of (MessageAt n) (message_at n) d.messages) own.messages).1 in
-    both (ReferenceAt n) _ _ messages (given (ServiceAt n) (ReferenceAt n) (references_of_service scope) d.services (service_refers n scope) own.services)
+    both (ReferenceAt n) _ _ messages (given (ServiceWithin n) (ReferenceAt n) (references_of_service scope) d.services (service_refers n scope) own.services)
 
 -- an occurrence in the file of a number
 abbrev pub OccurrenceAt : ℕ → ℕ → Occurrence → Type 0
@@ -97,8 +91,8 @@ OccurrenceAt n file o = (o.file ≡ file) × Placed n o.place
 
 package_occurrences_at : (n file : ℕ) (p : Option PackageDesc) → AtMost n (package_places p) → AllByRecursion (OccurrenceAt n file) (package_occurrences file p)
 package_occurrences_at n file None at = tt
-package_occurrences_at n file (Some p) at = each_map (OccurrenceAt n file) (package_occurrence file p.place) (fronts p.name)
-    (each_of (λ name. OccurrenceAt n file (package_occurrence file p.place name)) (λ name. (refl, at.0)) (fronts p.name))
+package_occurrences_at n file (Some p) at = each_map (OccurrenceAt n file) (package_occurrence file p.place) (prefixes p.name)
+    (each_of (λ name. OccurrenceAt n file (package_occurrence file p.place name)) (λ name. (refl, at.0)) (prefixes p.name))
 
 pub occurrences_at : (n file : ℕ) (d : FileDesc) → AtMost n (places_of d) → AllByRecursion (OccurrenceAt n file) (occurrences_of file d)
 occurrences_at n file d at =

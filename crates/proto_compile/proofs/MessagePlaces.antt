@@ -18,7 +18,7 @@ use Rattle.proto_desc.specs.declared.type_name.TypeReference.{TypeReference}
 use Rattle.proto_desc.specs.declared.type_name.TypeReference.TheVariants.{Spelled, Resolved}
 use Rattle.proto_file.specs.Places.{AtMost}
 use Rattle.proto_desc.proofs.Declared.{declared_before, declared_out, scope_in}
-use Rattle.proto_file.proofs.PlacesWithin.{front, rest, both, each_map, each_weaker, places_out}
+use Rattle.proto_file.proofs.PlacesWithin.{prefix, rest, both, each_map, each_weaker, places_out, EnumWithin, FieldWithin}
 use Rattle.proto_file.proofs.FileWithin.{each_place, each_places}
 use Rattle.proto_file.proofs.Spots.{Placed}
 use Rattle.proto_file.proofs.Within.{given}
@@ -62,18 +62,12 @@ kind_at : (n : ℕ) (scope : List ℕ) (options : List OptionDesc) (k : FieldKin
 kind_at n scope options (Scalar s) at set = tt
 kind_at n scope options (Named r) at set = type_at n scope want.AnyType options r at set
 
-abbrev FieldAt : ℕ → FieldDesc → Type 0
-FieldAt n f = AtMost n (field_places f)
-
-field_at : (n : ℕ) (scope : List ℕ) (f : FieldDesc) → FieldAt n f → AllByRecursion (ReferenceAt n) (references_of_field scope f)
+field_at : (n : ℕ) (scope : List ℕ) (f : FieldDesc) → FieldWithin n f → AllByRecursion (ReferenceAt n) (references_of_field scope f)
 field_at n scope f at =
-    kind_at n scope f.options f.field_type (front (λ p. p ≤ n) (kind_places f.field_type) (map option_place f.options) at.1)
+    kind_at n scope f.options f.field_type (prefix (λ p. p ≤ n) (kind_places f.field_type) (map option_place f.options) at.1)
     (each_place n option_place f.options (rest (λ p. p ≤ n) (kind_places f.field_type) (map option_place f.options) at.1))
 
-abbrev pub EnumAt : ℕ → EnumDesc → Type 0
-EnumAt n e = AtMost n (enum_places e)
-
-pub enum_at : (n : ℕ) (scope : List ℕ) (e : EnumDesc) → EnumAt n e → AllByRecursion (DeclaredAt n) (declared_by_enum scope e)
+pub enum_at : (n : ℕ) (scope : List ℕ) (e : EnumDesc) → EnumWithin n e → AllByRecursion (DeclaredAt n) (declared_by_enum scope e)
 enum_at n scope e at = (at.0, each_map (DeclaredAt n) (declared_value scope) e.values (each_place n value_place e.values at.1))
 
 -- ---- messages, by induction
@@ -81,21 +75,21 @@ enum_at n scope e at = (at.0, each_map (DeclaredAt n) (declared_value scope) e.v
 -- a message's own places
 record OwnAt (n : ℕ) (m : MessageDesc-F MessageDesc) : Type 0 where
   place : Placed n m.place
-  fields : AllByRecursion (FieldAt n) m.fields
+  fields : AllByRecursion (FieldWithin n) m.fields
   oneofs : AllByRecursion (λ (o : OneofDesc). Placed n o.place) m.oneofs
-  enums : AllByRecursion (EnumAt n) m.enums
+  enums : AllByRecursion (EnumWithin n) m.enums
   nested : AtMost n (flat_map message_places m.nested)
 
 own_at : (n : ℕ) (m : MessageDesc-F MessageDesc) → AtMost n
     (m.place.offset ∷ (flat_map field_places m.fields ++ map oneof_place m.oneofs ++ flat_map enum_places m.enums ++ flat_map message_places m.nested))
     → OwnAt n m
 own_at n m at =
-    let upto_enums = front (λ p. p ≤ n) (flat_map field_places m.fields ++ map oneof_place m.oneofs ++ flat_map enum_places m.enums)
+    let upto_enums = prefix (λ p. p ≤ n) (flat_map field_places m.fields ++ map oneof_place m.oneofs ++ flat_map enum_places m.enums)
     (flat_map message_places m.nested) at.1 in
-    let upto_oneofs = front (λ p. p ≤ n) (flat_map field_places m.fields ++ map oneof_place m.oneofs) (flat_map enum_places m.enums) upto_enums in
+    let upto_oneofs = prefix (λ p. p ≤ n) (flat_map field_places m.fields ++ map oneof_place m.oneofs) (flat_map enum_places m.enums) upto_enums in
     record {
       place = at.0;
-      fields = each_places n field_places m.fields (front (λ p. p ≤ n) (flat_map field_places m.fields) (map oneof_place m.oneofs) upto_oneofs);
+      fields = each_places n field_places m.fields (prefix (λ p. p ≤ n) (flat_map field_places m.fields) (map oneof_place m.oneofs) upto_oneofs);
       oneofs = each_place n oneof_place m.oneofs (rest (λ p. p ≤ n) (flat_map field_places m.fields) (map oneof_place m.oneofs) upto_oneofs);
       enums = each_places n enum_places m.enums (rest (λ p. p ≤ n) (flat_map field_places m.fields ++ map oneof_place m.oneofs) (flat_map enum_places m.enums)
           upto_enums);
@@ -106,9 +100,9 @@ own_at n m at =
 own_declared_at : (n : ℕ) (scope : List ℕ) (m : MessageDesc) → OwnAt n (out-MessageDesc m) → AllByRecursion (DeclaredAt n) (declared_before m scope)
 own_declared_at n scope m own =
     let fields = each_map (DeclaredAt n) (declared_field (scope_in m scope)) (out-MessageDesc m).fields
-    (each_weaker (FieldAt n) (λ (f : FieldDesc). Placed n f.place) (out-MessageDesc m).fields (λ f at. at.0) own.fields) in
+    (each_weaker (FieldWithin n) (λ (f : FieldDesc). Placed n f.place) (out-MessageDesc m).fields (λ f at. at.0) own.fields) in
     let oneofs = each_map (DeclaredAt n) (declared_oneof (scope_in m scope)) (out-MessageDesc m).oneofs own.oneofs in
-    let enums = given (EnumAt n) (DeclaredAt n) (declared_by_enum (scope_in m scope)) (out-MessageDesc m).enums (enum_at n (scope_in m scope)) own.enums in
+    let enums = given (EnumWithin n) (DeclaredAt n) (declared_by_enum (scope_in m scope)) (out-MessageDesc m).enums (enum_at n (scope_in m scope)) own.enums in
     (own.place, both (DeclaredAt n) _ _ (both (DeclaredAt n) _ _ fields oneofs) enums)
 
 abbrev pub MessageAt : ℕ → MessageDesc → Type 0
@@ -120,14 +114,14 @@ messages_at n scope [] each at = (tt, tt)
 messages_at n scope (m ∷ ms) each at =
     two n (declared_by_message m scope) (flat_map (λ m. declared_by_message m scope) ms) (references_by_message m scope)
     (flat_map (λ m. references_by_message m scope) ms)
-    (each.0 (front (λ p. p ≤ n) (message_places m) (flat_map message_places ms) at) scope)
+    (each.0 (prefix (λ p. p ≤ n) (message_places m) (flat_map message_places ms) at) scope)
     (messages_at n scope ms each.1 (rest (λ p. p ≤ n) (message_places m) (flat_map message_places ms) at))
 
 message_out : (n : ℕ) (m : MessageDesc) → AllByRecursion (MessageAt n) (out-MessageDesc m).nested → MessageAt n m
 message_out n m each at scope =
     let own = own_at n (out-MessageDesc m) (subst (AtMost n) (places_out m) at) in
     let nested = messages_at n (scope_in m scope) (out-MessageDesc m).nested each own.nested in
-    let references = given (FieldAt n) (ReferenceAt n) (references_of_field (field_scope scope (out-MessageDesc m))) (out-MessageDesc m).fields
+    let references = given (FieldWithin n) (ReferenceAt n) (references_of_field (field_scope scope (out-MessageDesc m))) (out-MessageDesc m).fields
     (field_at n (field_scope scope (out-MessageDesc m))) own.fields in (
       subst (AllByRecursion (DeclaredAt n)) (sym (declared_out m scope))
           (both (DeclaredAt n) (declared_before m scope) _ (own_declared_at n scope m own) nested.0),

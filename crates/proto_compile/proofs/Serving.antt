@@ -12,7 +12,7 @@ use Rattle.proto_desc.specs.declared.file.FileDesc.{FileDesc}
 use Rattle.proto_desc.specs.declared.file.PackageDesc.{PackageDesc}
 use Rattle.proto_names.specs.Index.{Index, Indexes, is_service_kind, name_of, services_of}
 use Rattle.proto_names.specs.Occurrences.{Occurrence, declared_occurrence, occurrences, occurrences_from, occurrences_of, package_occurrence, package_occurrences}
-use Rattle.proto_names.specs.Scopes.{fronts}
+use Rattle.proto_names.specs.Scopes.{prefixes}
 use Rattle.proto_base.specs.Limits.{limit_of}
 use Rattle.proto_base.specs.declared.kind.Kind.TheVariants as kind
 use Rattle.proto_base.specs.declared.limits.Limit.TheVariants as limit
@@ -65,7 +65,7 @@ few_services (o ∷ os) = by (is_service_kind o.kind) (few_services os)
 package_short : (n file : ℕ) (p : Option PackageDesc) → AreShort n (package_occurrences file p)
 package_short n file None o (k, below, is) service = absurd (omega (arith, below))
 package_short n file (Some p) o has service =
-    let made = in_map (package_occurrence file p.place) (fronts p.name) o has in
+    let made = in_map (package_occurrence file p.place) (prefixes p.name) o has in
     absurd (true≢false (sym service ∙ sym (ap (λ (x : Occurrence). is_service_kind x.kind) made.2)))
 
 not_long : (a b : ℕ) → (a < b → ⊥) → b ≤ a

@@ -2,7 +2,7 @@
 use Rattle.std.proofs.Common.{◌≡◌, ◌≢◌, ◌∙◌, sym, ℕ, ◌+◌, ◌-◌, ◌<◌, List, [], ◌∷◌, length, get_or, ap, arith, inl, inr, refl, subst, Ordering, Less, Equal, Greater, false}
 use Rattle.std.specs.Prelude.{IsSorted}
 use Rattle.std.specs.Cmp.Lexicographic.{slice_cmp}
-use Rattle.std.specs.Ordering.{nat_cmp, is_lt, ordering_reverse, ordering_then}
+use Rattle.std.specs.Ordering.{nat_cmp, is_lt, ordering_reverse}
 use Rattle.std.proofs.lemmas.Bool.{true≢false, cases_lt}
 use Rattle.std.proofs.lemmas.Cmp.{nat_list_cmp_total}
 use Rattle.std.proofs.lemmas.List.{get_or-map}
@@ -35,11 +35,6 @@ strictly sources files sorted differ = record {
   all = sorted.all;
   rises = λ k h. less_left _ (sorted.rises k h) (λ e. differ k h (exact_bytes _ _ e));
 }
-
-pub first_not : (o p : Ordering) → is_lt (ordering_then o p) ≡ false → is_lt o ≡ false
-first_not Less p h = h
-first_not Equal p h = refl
-first_not Greater p h = refl
 
 pub first_of : (files : List Source) (k : ℕ) → k < length files → Source
 first_of [] k h = absurd (omega (arith, h))

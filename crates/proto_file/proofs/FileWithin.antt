@@ -33,7 +33,7 @@ use Rattle.proto_desc.specs.declared.rules.Element.TheVariants as element
 use Rattle.proto_desc.specs.declared.service.MethodDesc.{MethodDesc}
 use Rattle.proto_desc.specs.declared.service.ServiceDesc.{ServiceDesc}
 use Rattle.proto_file.specs.Places.{AtMost}
-use Rattle.proto_file.proofs.PlacesWithin.{Within, front, rest, both, left_of, right_of, each_row, each_map, each_weaker, ItemWithin, places_out, lowered_within}
+use Rattle.proto_file.proofs.PlacesWithin.{Within, prefix, rest, both, left_of, right_of, each_row, each_map, each_weaker, EnumWithin, ItemWithin, StatementWithin, places_out, lowered_within}
 use Rattle.proto_checks.specs.Checks.{FileBreaks, package_in, body_in, enum_in, service_in, import_mark, IsTooLong, IsPartTooLong, PackageTooLong, parts_of, json_mark, field_mark, value_mark, EnumNamesBreak, MessageNames, MessageNamesBreak, names_of}
 use Rattle.proto_checks.specs.Elements.{BodyBreaks, EnumBreaks, ServiceBreaks, bodies, bodies_of}
 use Rattle.proto_checks.specs.Marks.{Marked}
@@ -117,27 +117,24 @@ each_place n place (x ∷ xs) all = (all.0, each_place n place xs all.1)
 pub each_places : {X : Type 0} (n : ℕ) (places : X → List ℕ) (xs : List X) → AtMost n (flat_map places xs) → AllByRecursion (λ x. AtMost n (places x)) xs
 each_places n places [] all = tt
 each_places n places (x ∷ xs) all =
-    (front (λ p. p ≤ n) (places x) (flat_map places xs) all, each_places n places xs (rest (λ p. p ≤ n) (places x) (flat_map places xs) all))
+    (prefix (λ p. p ≤ n) (places x) (flat_map places xs) all, each_places n places xs (rest (λ p. p ≤ n) (places x) (flat_map places xs) all))
 
-abbrev EnumAt : ℕ → EnumDesc → Type 0
-EnumAt n e = AtMost n (enum_places e)
-
-enum_names_break : (n : ℕ) (x : Spot) (e : EnumDesc) → EnumAt n e → EnumNamesBreak e x → SpotWithin n x
+enum_names_break : (n : ℕ) (x : Spot) (e : EnumDesc) → EnumWithin n e → EnumNamesBreak e x → SpotWithin n x
 enum_names_break n x e all b =
     name_used n e.reserved_names (map value_mark e.values) x (marks_within n value_mark e.values (each_place n value_place e.values all.1)) b
 
 abbrev NamesAt : ℕ → MessageNames → Type 0
-NamesAt n m = AllByRecursion (λ (f : FieldDesc). Placed n f.place) m.fields × AllByRecursion (EnumAt n) m.enums
+NamesAt n m = AllByRecursion (λ (f : FieldDesc). Placed n f.place) m.fields × AllByRecursion (EnumWithin n) m.enums
 
 names_break : (n : ℕ) (x : Spot) (m : MessageNames) → NamesAt n m → MessageNamesBreak m x → SpotWithin n x
 names_break n x m all (MessageNamesBreak.json_twice b) = text_twice n _ (map json_mark m.fields) x (marks_within n json_mark m.fields all.0) b
 names_break n x m all (MessageNamesBreak.reserved b) = name_used n m.reserved_names (map field_mark m.fields) x (marks_within n field_mark m.fields all.0) b
-names_break n x m all (MessageNamesBreak.in_enum b) = each_within (EnumAt n) EnumNamesBreak n m.enums x all.1 (enum_names_break n x) b
+names_break n x m all (MessageNamesBreak.in_enum b) = each_within (EnumWithin n) EnumNamesBreak n m.enums x all.1 (enum_names_break n x) b
 
 abbrev DeclaredAt : ℕ → List Declared → Type 0
 DeclaredAt n ds = AllByRecursion (λ (d : Declared). Placed n d.place) ds
 
-enum_declares : (n : ℕ) (scope : List ℕ) (e : EnumDesc) → EnumAt n e → DeclaredAt n (declared_by_enum scope e)
+enum_declares : (n : ℕ) (scope : List ℕ) (e : EnumDesc) → EnumWithin n e → DeclaredAt n (declared_by_enum scope e)
 enum_declares n scope e all = (all.0, each_map (λ (d : Declared). Placed n d.place) (declared_value scope) e.values (each_place n value_place e.values all.1))
 
 -- what a message's own places give
@@ -145,7 +142,7 @@ record OwnAt (n : ℕ) (m : MessageDesc-F MessageDesc) : Type 0 where
   place : Placed n m.place
   fields : AllByRecursion (λ (f : FieldDesc). Placed n f.place) m.fields
   oneofs : AllByRecursion (λ (o : OneofDesc). Placed n o.place) m.oneofs
-  enums : AllByRecursion (EnumAt n) m.enums
+  enums : AllByRecursion (EnumWithin n) m.enums
   nested : AtMost n (flat_map message_places m.nested)
 
 abbrev own_places : MessageDesc-F MessageDesc → List ℕ
@@ -153,13 +150,13 @@ own_places m = m.place.offset ∷ (flat_map field_places m.fields ++ map oneof_p
 
 own_at : (n : ℕ) (m : MessageDesc-F MessageDesc) → AtMost n (own_places m) → OwnAt n m
 own_at n m all =
-    let upto_enums = front (λ p. p ≤ n) (flat_map field_places m.fields ++ map oneof_place m.oneofs ++ flat_map enum_places m.enums)
+    let upto_enums = prefix (λ p. p ≤ n) (flat_map field_places m.fields ++ map oneof_place m.oneofs ++ flat_map enum_places m.enums)
     (flat_map message_places m.nested) all.1 in
-    let upto_oneofs = front (λ p. p ≤ n) (flat_map field_places m.fields ++ map oneof_place m.oneofs) (flat_map enum_places m.enums) upto_enums in
+    let upto_oneofs = prefix (λ p. p ≤ n) (flat_map field_places m.fields ++ map oneof_place m.oneofs) (flat_map enum_places m.enums) upto_enums in
     record {
       place = all.0;
       fields = each_weaker (λ f. AtMost n (field_places f)) (λ (f : FieldDesc). Placed n f.place) m.fields (λ f w. w.0)
-          (each_places n field_places m.fields (front (λ p. p ≤ n) (flat_map field_places m.fields) (map oneof_place m.oneofs) upto_oneofs));
+          (each_places n field_places m.fields (prefix (λ p. p ≤ n) (flat_map field_places m.fields) (map oneof_place m.oneofs) upto_oneofs));
       oneofs = each_place n oneof_place m.oneofs (rest (λ p. p ≤ n) (flat_map field_places m.fields) (map oneof_place m.oneofs) upto_oneofs);
       enums = each_places n enum_places m.enums (rest (λ p. p ≤ n) (flat_map field_places m.fields ++ map oneof_place m.oneofs) (flat_map enum_places m.enums)
           upto_enums);
@@ -185,7 +182,7 @@ nested_names : (n : ℕ) (xs : List (Known n)) → AtMost n (flat_map message_pl
     → AllByRecursion (NamesAt n) (flat_map names_of (map (λ e. e.0) xs))
 nested_names n [] all = tt
 nested_names n (x ∷ xs) all = both (NamesAt n) (names_of x.0) (flat_map names_of (map (λ e. e.0) xs))
-    (x.1 (front (λ p. p ≤ n) (message_places x.0) (flat_map message_places (map (λ e. e.0) xs)) all)).0
+    (x.1 (prefix (λ p. p ≤ n) (message_places x.0) (flat_map message_places (map (λ e. e.0) xs)) all)).0
     (nested_names n xs (rest (λ p. p ≤ n) (message_places x.0) (flat_map message_places (map (λ e. e.0) xs)) all))
 
 nested_declared : (n : ℕ) (scope : List ℕ) (xs : List (Known n)) → AtMost n (flat_map message_places (map (λ e. e.0) xs))
@@ -193,7 +190,7 @@ nested_declared : (n : ℕ) (scope : List ℕ) (xs : List (Known n)) → AtMost 
 nested_declared n scope [] all = tt
 nested_declared n scope (x ∷ xs) all = both (λ (d : Declared). Placed n d.place) (declared_by_message x.0 scope)
     (flat_map (λ m. declared_by_message m scope) (map (λ e. e.0) xs))
-    ((x.1 (front (λ p. p ≤ n) (message_places x.0) (flat_map message_places (map (λ e. e.0) xs)) all)).1 scope)
+    ((x.1 (prefix (λ p. p ≤ n) (message_places x.0) (flat_map message_places (map (λ e. e.0) xs)) all)).1 scope)
     (nested_declared n scope xs (rest (λ p. p ≤ n) (message_places x.0) (flat_map message_places (map (λ e. e.0) xs)) all))
 
 declares : (n : ℕ) (scope : List ℕ) (m : MessageDesc-F MessageDesc) → OwnAt n m
@@ -201,8 +198,8 @@ declares : (n : ℕ) (scope : List ℕ) (m : MessageDesc-F MessageDesc) → OwnA
 declares n scope m own nested =
     let fields = each_map (λ (d : Declared). Placed n d.place) (declared_field (scoped scope m.name)) m.fields own.fields in
     let oneofs = each_map (λ (d : Declared). Placed n d.place) (declared_oneof (scoped scope m.name)) m.oneofs own.oneofs in
-    let enums = given (EnumAt n) (λ (d : Declared). Placed n d.place) (declared_by_enum (scoped scope m.name)) m.enums (enum_declares n (scoped scope m.name))
-    own.enums in (
+    let enums = given (EnumWithin n) (λ (d : Declared). Placed n d.place) (declared_by_enum (scoped scope m.name)) m.enums
+    (enum_declares n (scoped scope m.name)) own.enums in (
       own.place,
       both (λ (d : Declared). Placed n d.place) _ _
           (both (λ (d : Declared). Placed n d.place) _ _ (both (λ (d : Declared). Placed n d.place) _ _ fields oneofs) enums) nested,
@@ -236,9 +233,6 @@ service_declares n scope s all = (
 )
 
 -- ---- files
-
-abbrev StatementWithin : ℕ → Statement → Type 0
-StatementWithin n s = Within n (statement_tree s)
 
 package_in_within : (n : ℕ) (s : Statement) → StatementWithin n s → AllByRecursion (λ p. Within n (package_tree p)) (package_in s)
 package_in_within n (statement.Package p) all = (all, tt)
@@ -278,11 +272,11 @@ record DescPlaces (n : ℕ) (d : FileDesc) : Type 0 where
 
 desc_places : (n : ℕ) (d : FileDesc) → AtMost n (places_of d) → DescPlaces n d
 desc_places n d all =
-    let upto_enums = front (λ p. p ≤ n) (package_places d.«package» ++ map import_place d.imports ++ flat_map message_places d.messages
+    let upto_enums = prefix (λ p. p ≤ n) (package_places d.«package» ++ map import_place d.imports ++ flat_map message_places d.messages
     ++ flat_map enum_places d.enums) (flat_map service_places d.services) all in
-    let upto_messages = front (λ p. p ≤ n) (package_places d.«package» ++ map import_place d.imports ++ flat_map message_places d.messages)
+    let upto_messages = prefix (λ p. p ≤ n) (package_places d.«package» ++ map import_place d.imports ++ flat_map message_places d.messages)
     (flat_map enum_places d.enums) upto_enums in
-    let upto_imports = front (λ p. p ≤ n) (package_places d.«package» ++ map import_place d.imports) (flat_map message_places d.messages) upto_messages in
+    let upto_imports = prefix (λ p. p ≤ n) (package_places d.«package» ++ map import_place d.imports) (flat_map message_places d.messages) upto_messages in
     record {
       imports = rest (λ p. p ≤ n) (package_places d.«package») (map import_place d.imports) upto_imports;
       messages = rest (λ p. p ≤ n) (package_places d.«package» ++ map import_place d.imports) (flat_map message_places d.messages) upto_messages;
@@ -296,7 +290,7 @@ declared_at : (n : ℕ) (d : FileDesc) → DescPlaces n d → DeclaredAt n (decl
 declared_at n d at =
     let messages = given (λ m. AtMost n (message_places m)) (λ (x : Declared). Placed n x.place) (λ m. declared_by_message m (file_scope d.«package»))
     d.messages (λ m w. (desc_at n m w).1 (file_scope d.«package»)) (each_places n message_places d.messages at.messages) in
-    let enums = given (EnumAt n) (λ (x : Declared). Placed n x.place) (declared_by_enum (file_scope d.«package»)) d.enums
+    let enums = given (EnumWithin n) (λ (x : Declared). Placed n x.place) (declared_by_enum (file_scope d.«package»)) d.enums
     (enum_declares n (file_scope d.«package»)) (each_places n enum_places d.enums at.enums) in
     let services = given (λ s. AtMost n (service_places s)) (λ (x : Declared). Placed n x.place) (declared_by_service (file_scope d.«package»)) d.services
     (service_declares n (file_scope d.«package»)) (each_places n service_places d.services at.services) in
@@ -322,7 +316,7 @@ breaks_within n limits name tree x all broken = elim broken [
   | FileBreaks.message_names b ↦ each_within (NamesAt n) MessageNamesBreak n (flat_map names_of (lowered name tree).messages) x
       (given (λ m. AtMost n (message_places m)) (NamesAt n) names_of (lowered name tree).messages (λ m w. (desc_at n m w).0)
       (each_places n message_places (lowered name tree).messages desc.messages)) (names_break n x) b
-  | FileBreaks.enum_names b ↦ each_within (EnumAt n) EnumNamesBreak n (lowered name tree).enums x
+  | FileBreaks.enum_names b ↦ each_within (EnumWithin n) EnumNamesBreak n (lowered name tree).enums x
       (each_places n enum_places (lowered name tree).enums desc.enums) (enum_names_break n x) b
   | FileBreaks.package_long b ↦ each_within (λ p. Within n (package_tree p)) (PackageTooLong limits) n (flat_map package_in tree.statements) x packages
       (package_long n limits x) b

@@ -95,9 +95,9 @@ Within n t = BeginWithin n (flatten t)
 
 -- ---- lists
 
-pub front : {X : Type 0} (P : X → Type 0) (xs ys : List X) → AllByRecursion P (xs ++ ys) → AllByRecursion P xs
-front P [] ys all = tt
-front P (x ∷ xs) ys all = (all.0, front P xs ys all.1)
+pub prefix : {X : Type 0} (P : X → Type 0) (xs ys : List X) → AllByRecursion P (xs ++ ys) → AllByRecursion P xs
+prefix P [] ys all = tt
+prefix P (x ∷ xs) ys all = (all.0, prefix P xs ys all.1)
 
 pub rest : {X : Type 0} (P : X → Type 0) (xs ys : List X) → AllByRecursion P (xs ++ ys) → AllByRecursion P ys
 rest P [] ys all = all
@@ -108,7 +108,7 @@ both P [] ys left right = right
 both P (x ∷ xs) ys left right = (left.0, both P xs ys left.1 right)
 
 pub left_of : (n : ℕ) (x y : Tree) → Within n (Pair x y) → Within n x
-left_of n x y all = front (λ t. t.start ≤ n) (flatten x) (flatten y) all
+left_of n x y all = prefix (λ t. t.start ≤ n) (flatten x) (flatten y) all
 
 pub right_of : (n : ℕ) (x y : Tree) → Within n (Pair x y) → Within n y
 right_of n x y all = rest (λ t. t.start ≤ n) (flatten x) (flatten y) all
@@ -193,7 +193,7 @@ kind_within n (field_type.Named t) all = (dotted_within n t.dot t.name all, tt)
 
 -- ---- fields
 
-abbrev FieldWithin : ℕ → FieldDesc → Type 0
+abbrev pub FieldWithin : ℕ → FieldDesc → Type 0
 FieldWithin n f = AtMost n (field_places f)
 
 described_within : (n : ℕ) (d : Declarator) (label : FieldLabel) (kind : FieldKind) (oneof : Option ℕ) (is_optional : Bool) → Within n (declarator_tree d)
@@ -299,7 +299,7 @@ value_within n (enum_item.Option o) all = tt
 value_within n (enum_item.Reserved r) all = tt
 value_within n (enum_item.Empty s) all = tt
 
-abbrev EnumWithin : ℕ → EnumDesc → Type 0
+abbrev pub EnumWithin : ℕ → EnumDesc → Type 0
 EnumWithin n e = AtMost n (enum_places e)
 
 enum_within : (n : ℕ) (e : Enum) → Within n (enum_tree e) → EnumWithin n (lowered_enum e)
@@ -435,7 +435,7 @@ streamed_within n (Some s) t all = dotted_within n t.dot t.name all.1
 rpc_type_within : (n : ℕ) (t : RpcType) → Within n (rpc_type_tree t) → AtMost n (reference_places (reference_of t.name))
 rpc_type_within n t all = (streamed_within n t.stream t.name (left_of n (streamed_tree t.stream t.name) (symbol_tree (byte ")") t.close_paren) all.1), tt)
 
-abbrev MethodWithin : ℕ → MethodDesc → Type 0
+abbrev pub MethodWithin : ℕ → MethodDesc → Type 0
 MethodWithin n m = AtMost n (method_places m)
 
 pub rpc_within : (n : ℕ) (r : Rpc) → Within n (rpc_tree r) → MethodWithin n (method_desc r)
@@ -455,7 +455,7 @@ method_within n (service_item.Rpc r) all = (rpc_within n r all, tt)
 method_within n (service_item.Option o) all = tt
 method_within n (service_item.Empty s) all = tt
 
-abbrev ServiceWithin : ℕ → ServiceDesc → Type 0
+abbrev pub ServiceWithin : ℕ → ServiceDesc → Type 0
 ServiceWithin n s = AtMost n (service_places s)
 
 service_within : (n : ℕ) (s : Service) → Within n (service_tree s) → ServiceWithin n (lowered_service s)

@@ -1,5 +1,5 @@
 -- What is wrong with imports, and which of it comes first.
-use Rattle.std.proofs.Common.{◌≡◌, ◌∙◌, sym, ℕ, ◌+◌, ◌<◌, ◌≤◌, List, [], ◌∷◌, ◌++◌, length, ap, refl, subst, arith, inl, inr, ◌⊎◌, Vec, Global}
+use Rattle.std.proofs.Common.{◌≡◌, sym, ℕ, ◌+◌, ◌<◌, ◌≤◌, List, [], ◌∷◌, ◌++◌, length, ap, refl, subst, arith, inl, inr, ◌⊎◌, Vec, Global}
 use Rattle.std.specs.Prelude.{Bool, Option, Some, None, IfSome, ◌↔◌}
 use Rattle.std.proofs.lemmas.Bool.{cases_lt, cases_eq}
 use Rattle.std.proofs.lemmas.List.Elements.{Contains-push, Contains-push_cases, Contains-append_left}
@@ -15,9 +15,11 @@ use Rattle.proto_base.specs.Kind.{number_of}
 use Rattle.proto_base.specs.declared.kind.Kind.{Kind}
 use Rattle.proto_base.specs.declared.kind.Kind.TheVariants as kind
 use Rattle.proto_base.specs.declared.place.Place.{Place}
-use Rattle.proto_links.specs.Graphs.{IsGraph, NoLaterThan, Bounds, IsLesser, IsWrongIn, IsFirstWrong}
+use Rattle.proto_base.specs.Least.{AtMost, Bounds, IsLeast, IsLesser, spot}
+use Rattle.proto_base.specs.declared.spot.Spot.{Spot}
+use Rattle.proto_base.proofs.Sets.{least_none, least_or, least_same}
+use Rattle.proto_links.specs.Graphs.{IsGraph, IsWrongAt, IsWrongIn}
 use Rattle.proto_links.specs.Imports.{AreInNameOrder, IsNamed, Imports, Reaches, IsWrong, missing, cyclic, IsBad, IsFirstBad, IsNoLater, NoneBad, imports_at}
-use Rattle.proto_links.specs.declared.faults.Wrong.{Wrong}
 use Rattle.proto_links.proofs.Named.{named_once}
 use Rattle.proto_links.proofs.Rising.{none_in}
 use Rattle.proto_links.proofs.Targeting.{importer_inside}
@@ -48,55 +50,41 @@ no_fault files a i t order n out _ (cyclic b m r) = out (subst (λ x. Reaches fi
 
 -- ---- the imports of a file
 
-pub first_none : (files : List FileDesc) (a : ℕ) → IsFirstWrong files a [] None
-first_none files a = record { found = tt; least = λ x w. absurd (none_in w.0 w.1) }
+pub first_none : (files : List FileDesc) (a : ℕ) → IsLeast (IsWrongIn files a []) None
+first_none files a = least_none (IsWrongIn files a []) (λ x w. none_in w.0 w.1)
 
-wrong_cases : (files : List FileDesc) (a : ℕ) (xs : List ImportDesc) (i : ImportDesc) (x : Wrong) → IsWrongIn files a (xs ++ i ∷ []) x
-    → IsWrongIn files a xs x ⊎ ((i.place ≡ x.place) × IsWrong files a i x.kind)
+wrong_cases : (files : List FileDesc) (a : ℕ) (xs : List ImportDesc) (i : ImportDesc) (x : Spot) → IsWrongIn files a (xs ++ i ∷ []) x
+    → IsWrongIn files a xs x ⊎ IsWrongAt files a i x
 wrong_cases files a xs i x (j, w, at, wrong) = elim (Contains-push_cases xs i j w) [
   | inl old ↦ inl (j, old, at, wrong)
-  | inr e ↦ inr (subst (λ (y : ImportDesc). (y.place ≡ x.place) × IsWrong files a y x.kind) (sym e) (at, wrong))
+  | inr e ↦ inr (subst (λ (y : ImportDesc). IsWrongAt files a y x) (sym e) (at, wrong))
 ]
 
-wrong_more : (files : List FileDesc) (a : ℕ) (xs : List ImportDesc) (i : ImportDesc) (x : Wrong) → IsWrongIn files a xs x → IsWrongIn files a (xs ++ i ∷ []) x
+wrong_more : (files : List FileDesc) (a : ℕ) (xs : List ImportDesc) (i : ImportDesc) (x : Spot) → IsWrongIn files a xs x → IsWrongIn files a (xs ++ i ∷ []) x
 wrong_more files a xs i x (j, w, at, wrong) = (j, Contains-append_left xs (i ∷ []) j w, at, wrong)
 
-found_more : (files : List FileDesc) (a : ℕ) (xs : List ImportDesc) (i : ImportDesc) (first : Option Wrong) → IfSome first (IsWrongIn files a xs)
-    → IfSome first (IsWrongIn files a (xs ++ i ∷ []))
-found_more files a xs i None f = tt
-found_more files a xs i (Some x) f = wrong_more files a xs i x f
+wrong_last : (files : List FileDesc) (a : ℕ) (xs : List ImportDesc) (i : ImportDesc) (x : Spot) → IsWrongAt files a i x → IsWrongIn files a (xs ++ i ∷ []) x
+wrong_last files a xs i x (at, wrong) = (i, Contains-push xs i, at, wrong)
 
-pub first_skip : (files : List FileDesc) (a : ℕ) (xs : List ImportDesc) (i : ImportDesc) (first : Option Wrong) → ((k : Kind) → IsWrong files a i k → ⊥)
-    → IsFirstWrong files a xs first → IsFirstWrong files a (xs ++ i ∷ []) first
-first_skip files a xs i first none f = record {
-  found = found_more files a xs i first f.found;
-  least = λ x w. (elim (wrong_cases files a xs i x w) [ inl old ↦ f.least x old | inr new ↦ absurd (none x.kind new.1) ]);
-}
+pub first_skip : (files : List FileDesc) (a : ℕ) (xs : List ImportDesc) (i : ImportDesc) (first : Option Spot) → ((k : Kind) → IsWrong files a i k → ⊥)
+    → IsLeast (IsWrongIn files a xs) first → IsLeast (IsWrongIn files a (xs ++ i ∷ [])) first
+first_skip files a xs i first none least = least_same (IsWrongIn files a xs) (IsWrongIn files a (xs ++ i ∷ [])) first
+    (λ x w. elim (wrong_cases files a xs i x w) [ inl old ↦ old | inr new ↦ absurd (none x.kind new.1) ]) (wrong_more files a xs i) least
 
-one_found : (files : List FileDesc) (a : ℕ) (xs : List ImportDesc) (i : ImportDesc) (first : Option Wrong) (x : Wrong) → first ≡ Some x
-    → IfSome first (IsWrongIn files a xs) → IsWrongIn files a xs x
-one_found files a xs i first x e f = subst (λ (o : Option Wrong). IfSome o (IsWrongIn files a xs)) e f
+same_place : (i : ImportDesc) (k : Kind) (x : Spot) → i.place ≡ x.place → x.kind ≡ k → AtMost (spot i.place k) x
+same_place i k x at same = let o = ap (λ (p : Place). p.offset) at in let n = ap number_of same in inr (o, omega (arith, n))
 
-same_place : (w x : Wrong) → w.place ≡ x.place → x.kind ≡ w.kind → NoLaterThan w x
-same_place w x at same = let o = ap (λ (p : Place). p.offset) at in let k = ap number_of same in inr (o, omega (arith, k))
+-- an import has one fault
+one_fault : (files : List FileDesc) (a : ℕ) (i : ImportDesc) (k : Kind) → IsWrong files a i k → ((l : Kind) → IsWrong files a i l → l ≡ k)
+    → IsLeast (IsWrongAt files a i) (Some (spot i.place k))
+one_fault files a i k wrong only = record { found = (refl, wrong); least = λ x w. same_place i k x w.0 (only x.kind w.1) }
 
-pub first_more : (files : List FileDesc) (a : ℕ) (xs : List ImportDesc) (i : ImportDesc) (first : Option Wrong) (k : Kind) (w r : Wrong)
-    → w ≡ record { place = i.place; kind = k } → IsWrong files a i k × ((l : Kind) → IsWrong files a i l → l ≡ k) → IsLesser first w r
-    → IsFirstWrong files a xs first → IsFirstWrong files a (xs ++ i ∷ []) (Some r)
-first_more files a xs i first k w r e (wrong, only) lesser f =
-    let mine : IsWrongIn files a (xs ++ i ∷ []) w =
-    (i, Contains-push xs i, sym (ap (λ (x : Wrong). x.place) e), subst (IsWrong files a i) (sym (ap (λ (x : Wrong). x.kind) e)) wrong) in
-    record {
-      found = elim lesser.one [
-        | inl known ↦ wrong_more files a xs i r (one_found files a xs i first r known f.found)
-        | inr same ↦
-            subst (IsWrongIn files a (xs ++ i ∷ [])) same mine
-      ];
-      least = λ x wx. (elim (wrong_cases files a xs i x wx) [
-        | inl old ↦ lesser.left x (f.least x old)
-        | inr new ↦ lesser.right x (same_place w x (ap (λ (y : Wrong). y.place) e ∙ new.0) (only x.kind new.1 ∙ sym (ap (λ (y : Wrong). y.kind) e)))
-      ]);
-    }
+pub first_more : (files : List FileDesc) (a : ℕ) (xs : List ImportDesc) (i : ImportDesc) (first r : Option Spot) (k : Kind)
+    → IsWrong files a i k × ((l : Kind) → IsWrong files a i l → l ≡ k) → IsLesser first (Some (spot i.place k)) r
+    → IsLeast (IsWrongIn files a xs) first → IsLeast (IsWrongIn files a (xs ++ i ∷ [])) r
+first_more files a xs i first r k (wrong, only) lesser least =
+    least_or (IsWrongIn files a xs) (IsWrongAt files a i) (IsWrongIn files a (xs ++ i ∷ [])) first (Some (spot i.place k)) r (wrong_cases files a xs i)
+    (wrong_more files a xs i) (wrong_last files a xs i) least (one_fault files a i k wrong only) lesser
 
 -- ---- all files
 
@@ -117,39 +105,38 @@ pub record NoneBefore (files : List FileDesc) (n : ℕ) : Type 0 where
 pub none_start : (files : List FileDesc) → NoneBefore files 0
 none_start files = record { none = λ a p k h w. no_position a h }
 
-pub none_more : (files : List FileDesc) (n : ℕ) (imports : List ImportDesc) (first : Option Wrong) → imports ≡ imports_at files n → first ≡ None
-    → IsFirstWrong files n imports first → NoneBefore files n → NoneBefore files (n + 1)
+pub none_more : (files : List FileDesc) (n : ℕ) (imports : List ImportDesc) (first : Option Spot) → imports ≡ imports_at files n → first ≡ None
+    → IsLeast (IsWrongIn files n imports) first → NoneBefore files n → NoneBefore files (n + 1)
 none_more files n imports first e is f old = record {
   none = λ a p k h w. (elim (cases_lt a n) [
     | inl less ↦ old.none a p k less w
     | inr over ↦ (let at : a ≡ n = omega arith in
         let here = subst (λ m. IsBad files m p k) at w in
-        subst (λ (o : Option Wrong). Bounds o (record { place = p; kind = k })) is
-        (f.least (record { place = p; kind = k }) (subst (λ (xs : List ImportDesc). IsWrongIn files n xs (record { place = p; kind = k })) (sym e) here)))
+        subst (λ (o : Option Spot). Bounds o (spot p k)) is
+        (f.least (spot p k) (subst (λ (xs : List ImportDesc). IsWrongIn files n xs (spot p k)) (sym e) here)))
   ]);
 }
 
 pub none_all : (files : List FileDesc) (n : ℕ) → length files ≤ n → NoneBefore files n → NoneBad files
 none_all files n h f a p k w = f.none a p k (let below = importer_inside files a w.0 w.1 in omega (arith, below, h)) w
 
-later_file : (files : List FileDesc) (n b : ℕ) (x : Wrong) (q : Place) (l : Kind) (imports : List ImportDesc) → imports ≡ imports_at files n
-    → ((y : Wrong) → IsWrongIn files n imports y → NoLaterThan x y) → NoneBefore files n → IsBad files b q l → (b < n) ⊎ (n ≤ b)
+later_file : (files : List FileDesc) (n b : ℕ) (x : Spot) (q : Place) (l : Kind) (imports : List ImportDesc) → imports ≡ imports_at files n
+    → ((y : Spot) → IsWrongIn files n imports y → AtMost x y) → NoneBefore files n → IsBad files b q l → (b < n) ⊎ (n ≤ b)
     → IsNoLater n x.place x.kind b q l
 later_file files n b x q l imports e least old w (inl less) = absurd (old.none b q l less w)
 later_file files n b x q l imports e least old w (inr over) = elim (cases_eq n b) [
   | inl same ↦ inr (
     same,
-    least (record { place = q; kind = l })
-        (subst (λ (xs : List ImportDesc). IsWrongIn files n xs (record { place = q; kind = l })) (sym e) (subst (λ m. IsBad files m q l) (sym same) w)),
+    least (spot q l) (subst (λ (xs : List ImportDesc). IsWrongIn files n xs (spot q l)) (sym e) (subst (λ m. IsBad files m q l) (sym same) w)),
   )
   | inr other ↦ inl (omega (arith, over, other))
 ]
 
-pub first_bad_is : (files : List FileDesc) (n : ℕ) (imports : List ImportDesc) (first : Option Wrong) (x : Wrong) → imports ≡ imports_at files n
-    → first ≡ Some x → IsFirstWrong files n imports first → NoneBefore files n → IsFirstBad files n x.place x.kind
+pub first_bad_is : (files : List FileDesc) (n : ℕ) (imports : List ImportDesc) (first : Option Spot) (x : Spot) → imports ≡ imports_at files n
+    → first ≡ Some x → IsLeast (IsWrongIn files n imports) first → NoneBefore files n → IsFirstBad files n x.place x.kind
 first_bad_is files n imports first x e is f old =
-    let found = subst (λ (o : Option Wrong). IfSome o (IsWrongIn files n imports)) is f.found in
-    let least : (y : Wrong) → IsWrongIn files n imports y → NoLaterThan x y = λ y w. subst (λ (o : Option Wrong). Bounds o y) is (f.least y w) in
+    let found = subst (λ (o : Option Spot). IfSome o (IsWrongIn files n imports)) is f.found in
+    let least : (y : Spot) → IsWrongIn files n imports y → AtMost x y = λ y w. subst (λ (o : Option Spot). Bounds o y) is (f.least y w) in
     record {
       bad = subst (λ (xs : List ImportDesc). IsWrongIn files n xs x) e found;
       least = λ b q l w. later_file files n b x q l imports e least old w (cases_lt b n);

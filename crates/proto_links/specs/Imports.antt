@@ -1,12 +1,12 @@
 -- Which file imports which, and what is wrong with an import. A file is named by its position in the list of files.
-use Rattle.std.specs.Prelude.{◌≡◌, ◌⊎◌, ℕ, ◌+◌, ◌<◌, ◌≤◌, List, [], length, map, slice_index_or, Contains, IsTrue}
+use Rattle.std.specs.Prelude.{◌≡◌, ◌⊎◌, ℕ, ◌+◌, ◌<◌, List, [], length, map, slice_index_or, Contains, IsTrue}
 use Rattle.std.specs.Cmp.Lexicographic.{slice_cmp}
 use Rattle.std.specs.Ordering.{nat_cmp}
 use Rattle.std.specs.declared.cmp.Ordering.TheVariants.{Less}
 use Rattle.digraph.specs.Leads.{Leads}
 use Rattle.proto_desc.specs.declared.file.FileDesc.{FileDesc}
 use Rattle.proto_desc.specs.declared.file.ImportDesc.{ImportDesc}
-use Rattle.proto_base.specs.Kind.{number_of}
+use Rattle.proto_base.specs.Least.{AtMost, spot}
 use Rattle.proto_base.specs.declared.kind.Kind.{Kind}
 use Rattle.proto_base.specs.declared.kind.Kind.TheVariants as kind
 use Rattle.proto_base.specs.declared.place.Place.{Place}
@@ -61,13 +61,9 @@ abbrev pub IsBad : List FileDesc → ℕ → Place → Kind → Type 0
 IsBad files a place kind =
     (i : ImportDesc) × Contains (imports_at files a) i × (i.place ≡ place) × IsWrong files a i kind
 
--- by place, then by the kind's number
-abbrev pub NoLater : Place → Kind → Place → Kind → Type 0
-NoLater p k q l = (p.offset < q.offset) ⊎ ((p.offset ≡ q.offset) × (number_of k ≤ number_of l))
-
 -- by file, then by place, then by the kind's number
 abbrev pub IsNoLater : ℕ → Place → Kind → ℕ → Place → Kind → Type 0
-IsNoLater a p k b q l = (a < b) ⊎ ((a ≡ b) × NoLater p k q l)
+IsNoLater a p k b q l = (a < b) ⊎ ((a ≡ b) × AtMost (spot p k) (spot q l))
 
 -- the first of the bad imports
 pub record IsFirstBad (files : List FileDesc) (a : ℕ) (place : Place) (kind : Kind) : Type 0 where

@@ -1,4 +1,4 @@
--- Files whose imports are found, by their places in the list of files.
+-- Files whose imports are found, by their positions in the list of files.
 use Rattle.std.specs.Prelude.{◌≡◌, ◌⊎◌, ◌↔◌, ℕ, ◌+◌, ◌<◌, List, [], length, filter, Bool, IsTrue, Contains, slice_index_or, ◌==◌}
 use Rattle.std.specs.List.{list_any, IsDistinct}
 use Rattle.std.specs.List.Sorted.{IsStrictlyIncreasing}

@@ -4,22 +4,16 @@ ghost use Rattle.std.specs.Prelude.{◌≡◌, ◌↔◌, ℕ, ◌<◌, IfOk, Ma
 ghost use Rattle.digraph.specs.Edges.{graph_of};
 ghost use Rattle.digraph.specs.Marks.{IsMarked};
 ghost use Rattle.proto_desc.specs.declared.file.ImportDesc.{ImportDesc};
-ghost use Rattle.proto_links.specs.Graphs.{IsFirstWrong, IsGraph, IsLesser};
+ghost use Rattle.proto_links.specs.Graphs.{IsGraph, IsWrongIn};
 ghost use Rattle.proto_links.specs.Imports.{AreInNameOrder, IsFirstBad, IsWrong, NoneBad, Reaches, imports_at};
+ghost use Rattle.proto_base.specs.Least.{IsLeast};
 ghost use Rattle.proto_base.specs.declared.kind.Kind.{Kind};
 
 use crate::order::file_named;
 use digraph::{mark_reached, predecessors};
-use proto_base::{Kind, Place};
+use proto_base::{Kind, Spot, lesser};
 use proto_desc::file::{FileDesc, ImportDesc};
 use std::alloc::{AllocError, Global};
-
-/// What is wrong with an import of a file, and where. The order is that of the fields.
-#[derive(Clone, Copy, PartialEq, Eq, PartialOrd, Ord)]
-pub(crate) struct Wrong {
-    pub(crate) place: Place,
-    pub(crate) kind: Kind,
-}
 
 /// What is wrong with an import of a file, where the files that reach it are marked.
 fn fault_of(files: &[FileDesc], file: usize, import: &ImportDesc, reaching: &[bool]) -> Option<Kind>
@@ -42,33 +36,23 @@ fn fault_of(files: &[FileDesc], file: usize, import: &ImportDesc, reaching: &[bo
     }
 }
 
-/// The earlier of what is known and one more.
-fn lesser(first: Option<Wrong>, wrong: Wrong) -> Wrong
-    ensures { IsLesser first wrong result }
-{
-    match first {
-        Some(first) => first.min(wrong),
-        None => wrong,
-    }
-}
-
 /// The first bad import of a file, where the files that reach it are marked.
 fn first_wrong(
     files: &[FileDesc],
     file: usize,
     imports: &[ImportDesc],
     reaching: &[bool],
-) -> Option<Wrong>
+) -> Option<Spot>
     requires order { AreInNameOrder files.now }
     requires room { length reaching.now ≡ length files.now }
     requires reaching { (b : ℕ) → IsMarked reaching.now b ↔ Reaches files.now b file }
-    ensures { IsFirstWrong files.now file imports.now result }
+    ensures { IsLeast (IsWrongIn files.now file imports.now) result }
 {
     let mut first = None;
     for import in imports {
         if let Some(kind) = fault_of(files, file, import, reaching) {
             let place = import.place;
-            first = Some(lesser(first, Wrong { place, kind }));
+            first = lesser(first, Some(Spot { place, kind }));
         }
     }
     first
@@ -79,7 +63,7 @@ pub(crate) fn first_bad(
     alloc: Global,
     files: &[FileDesc],
     imports: &[Vec<usize>],
-) -> Result<Option<(usize, Wrong)>, AllocError>
+) -> Result<Option<(usize, Spot)>, AllocError>
     requires order { AreInNameOrder files.now }
     requires graph { IsGraph files.now (graph_of imports.now) }
     ensures { IfOk result (λ bad. MatchOption bad (NoneBad files.now)
@@ -89,8 +73,8 @@ pub(crate) fn first_bad(
     for file in 0..files.len() {
         let reaching = mark_reached(alloc, &turned, file)?;
         let first = first_wrong(files, file, files[file].imports.as_slice(), &reaching);
-        if let Some(wrong) = first {
-            return Ok(Some((file, wrong)));
+        if let Some(spot) = first {
+            return Ok(Some((file, spot)));
         }
     }
     Ok(None)

@@ -58,7 +58,7 @@ fn link_files(
 }
 
 /// Finds the file that each import names, and the files that each file reaches and sees. The files are named by their
-/// places in the list.
+/// positions in the list.
 ///
 /// `At` is the first bad import, by file, place and the number of its kind: `ImportMissing` where no file has the name,
 /// `ImportCycle` where the file that has it reaches the importer. Files without a bad import are linked. `NoMemory`
@@ -76,7 +76,7 @@ pub fn link(alloc: Global, files: &[FileDesc]) -> Result<Links, LinkError>
         }
     }
     match first_bad(alloc, files, &graph.imports)? {
-        Some((file, wrong)) => Err(LinkError::At(file, wrong.place, wrong.kind)),
+        Some((file, spot)) => Err(LinkError::At(file, spot.place, spot.kind)),
         None => unreachable!(),
     }
 }

@@ -1,6 +1,6 @@
 -- Names that are not taken.
 use Rattle.std.proofs.Common.{◌≡◌, ◌∙◌, ◌≤◌, ◌<◌, ◌+◌, ℕ, zero, suc, Bool, true, false, cond, List, [], ◌∷◌, ◌++◌, ap, sym, refl, length, arith, subst}
-use Rattle.std.specs.Prelude.{if◌then◌else◌, ◌||◌, String}
+use Rattle.std.specs.Prelude.{if◌then◌else◌, ◌||◌, ◌==◌, String}
 use Rattle.std.specs.Str.{bytes_eq}
 use Rattle.std.specs.BTreeSet as sorted
 use Rattle.std.specs.BTreeSet.{BTreeSet, contains_text}
@@ -11,10 +11,10 @@ use Rattle.std.specs.Cmp.Lexicographic.{slice_cmp}
 use Rattle.std.specs.Bool.{nat_le}
 use Rattle.std.proofs.lemmas.List.Folds.{list_any-append}
 use Rattle.std.proofs.lemmas.Map.Text.{btree_set_updates_text}
-use Rattle.std.proofs.lemmas.Bool.{false_from_ne_true}
+use Rattle.std.proofs.lemmas.Bool.{false_from_ne_true, true≢false}
 use Rattle.std.proofs.lemmas.Bool.Decides.{nat_tests}
 use Rattle.std.proofs.lemmas.Slice.Eq.{bytes_eq-Decides}
-use Rattle.proto_lower.specs.Names.{first_free, is_among, IsSetOf}
+use Rattle.proto_lower.specs.Names.{first_free, with_underscore, is_among, begins_as_made, IsSetOf}
 
 -- one more name
 or_false : (b : Bool) → (b || false) ≡ b
@@ -30,18 +30,41 @@ or_by false false = refl
 among_more : (names : List (List ℕ)) (one name : List ℕ) → is_among (names ++ one ∷ []) name ≡ (is_among names name || bytes_eq one name)
 among_more names one name = list_any-append (λ t. bytes_eq t name) names (one ∷ []) ∙ ap (λ b. is_among names name || b) (or_false (bytes_eq one name))
 
+-- a name that does not begin like those that are made is none of them
+pub taken_other : (names : List (List ℕ)) (one : List ℕ) (set : BTreeSet (String Global)) → begins_as_made one ≡ false → IsSetOf names set
+    → IsSetOf (names ++ one ∷ []) set
+taken_other names one set differs members = record {
+  members = λ name begins.
+      let other : bytes_eq one name ≡ false = false_from_ne_true (bytes_eq one name)
+      (λ same. true≢false (sym begins ∙ ap begins_as_made (sym ((bytes_eq-Decides one name).0 same)) ∙ differs)) in
+      members.members name begins ∙ sym (or_false (is_among names name)) ∙ ap (λ b. is_among names name || b) (sym other)
+      ∙ sym (among_more names one name);
+}
+
 pub taken_more : (names : List (List ℕ)) (one : List ℕ) (key : String Global) (old new : BTreeSet (String Global)) → string_bytes key ≡ one
     → sorted.Updates string_cmp old new key true → IsSetOf names old → IsSetOf (names ++ one ∷ []) new
 taken_more names one key old new same updates members = record {
-  members = λ name. btree_set_updates_text one old new true
+  members = λ name begins. btree_set_updates_text one old new true
       (subst (λ (bs : List ℕ). sorted.UpdatesBy string_cmp (λ k. slice_cmp nat_cmp bs (string_bytes k)) old new true) same updates) name
-      ∙ rw (members.members name) (or_by (bytes_eq one name) (is_among names name)) ∙ sym (among_more names one name);
+      ∙ rw (members.members name begins) (or_by (bytes_eq one name) (is_among names name)) ∙ sym (among_more names one name);
 }
 
--- tests that agree find the same name
-pub free_same : (p q : List ℕ → Bool) (most : ℕ) (name : List ℕ) → ((n : List ℕ) → p n ≡ q n) → first_free p most name ≡ first_free q most name
-free_same p q zero name agree = refl
-free_same p q (suc most) name agree = rw (agree name) (rw (free_same p q most (88 ∷ name) agree))
+longer_begins : (name : List ℕ) → begins_as_made (88 ∷ name) ≡ true
+longer_begins name = refl
+
+first_begins : (c : ℕ) (cs : List ℕ) (b : Bool) → (c == 95) ≡ b → begins_as_made (if b then c ∷ cs else 95 ∷ c ∷ cs) ≡ true
+first_begins c cs true same = rw same refl
+first_begins c cs false same = refl
+
+underscore_begins : (field : List ℕ) → begins_as_made (with_underscore field) ≡ true
+underscore_begins [] = refl
+underscore_begins (c ∷ cs) = first_begins c cs (c == 95) refl
+
+-- tests that agree about what can be tried find the same name
+pub free_same : (p q : List ℕ → Bool) (most : ℕ) (name : List ℕ) → ((n : List ℕ) → begins_as_made n ≡ true → p n ≡ q n) → begins_as_made name ≡ true
+    → first_free p most name ≡ first_free q most name
+free_same p q zero name agree begins = refl
+free_same p q (suc most) name agree begins = rw (agree name begins) (rw (free_same p q most (88 ∷ name) agree (longer_begins name)))
 
 -- how many of the names are this long or longer
 abbrev pub longer : ℕ → List (List ℕ) → ℕ
@@ -94,8 +117,9 @@ pub free_goes : (test : List ℕ → Bool) (left : ℕ) (name longer : List ℕ)
 free_goes test left name longer met made = rw (met, made) refl
 
 -- a search by a set of the names that are taken
-pub found_by_set : (taken : List (List ℕ)) (set : BTreeSet (String Global)) (most : ℕ) (start begin found : List ℕ) → IsSetOf taken set → most ≡ length taken
-    → start ≡ begin → found ≡ first_free (contains_text set) most start → found ≡ first_free (is_among taken) (length taken) begin
-found_by_set taken set most start begin found members same same_start by_set =
-    by_set ∙ free_same (contains_text set) (is_among taken) most start members.members
+pub found_by_set : (taken : List (List ℕ)) (set : BTreeSet (String Global)) (most : ℕ) (start field found : List ℕ) → IsSetOf taken set → most ≡ length taken
+    → start ≡ with_underscore field → found ≡ first_free (contains_text set) most start
+    → found ≡ first_free (is_among taken) (length taken) (with_underscore field)
+found_by_set taken set most start field found members same same_start by_set =
+    by_set ∙ free_same (contains_text set) (is_among taken) most start members.members (ap begins_as_made same_start ∙ underscore_begins field)
     ∙ ap (λ (n : ℕ). first_free (is_among taken) n start) same ∙ ap (first_free (is_among taken) (length taken)) same_start

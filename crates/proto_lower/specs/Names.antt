@@ -1,5 +1,5 @@
 -- Names that are made of the names of fields.
-use Rattle.std.specs.Prelude.{ℕ, zero, suc, Bool, List, [], ◌∷◌, ◌++◌, if◌then◌else◌, ◌==◌, codes, length, encode_utf8_all, String, ◌≡◌}
+use Rattle.std.specs.Prelude.{ℕ, zero, suc, Bool, true, false, List, [], ◌∷◌, ◌++◌, if◌then◌else◌, ◌==◌, ◌||◌, codes, length, encode_utf8_all, String, ◌≡◌}
 use Rattle.std.specs.List.{list_any}
 use Rattle.std.specs.Str.{chars, bytes_eq}
 use Rattle.std.specs.Char.{to_ascii_uppercase}
@@ -41,11 +41,15 @@ abbrev pub is_among : List (List ℕ) → List ℕ → Bool
 is_among taken name = list_any (λ t. bytes_eq t name) taken
 
 -- the name of the oneof that an `optional` field makes. A name that is taken is as long as one of the names that are,
--- so
--- that no more of them are met than there are
+-- so that no more of them are met than there are
 abbrev pub oneof_name_of : List (List ℕ) → List ℕ → List ℕ
 oneof_name_of taken field = first_free (is_among taken) (length taken) (with_underscore field)
 
--- a set whose members are these names
+-- as all names do that are tried for a oneof
+abbrev pub begins_as_made : List ℕ → Bool
+begins_as_made [] = false
+begins_as_made (c ∷ cs) = c == 95 || c == 88
+
+-- a set that has, of what can be tried, just these names
 pub record IsSetOf (names : List (List ℕ)) (set : BTreeSet (String Global)) : Type 0 where
-  pub members : (name : List ℕ) → contains_text set name ≡ is_among names name
+  pub members : (name : List ℕ) → begins_as_made name ≡ true → contains_text set name ≡ is_among names name

@@ -4,7 +4,7 @@ ghost use Rattle.std.specs.Prelude.{◌≡◌, ◌==◌, ℕ, IfOk, OnOk, string
 ghost use Rattle.std.specs.List.{list_any};
 ghost use Rattle.std.specs.Str.{chars};
 ghost use Rattle.std.specs.BTreeSet.{contains_text};
-ghost use Rattle.proto_lower.specs.Names.{raised, json_name_of, entry_name_of, oneof_name_of, first_free, with_underscore, is_among, IsSetOf};
+ghost use Rattle.proto_lower.specs.Names.{raised, json_name_of, entry_name_of, oneof_name_of, first_free, with_underscore, is_among, begins_as_made, IsSetOf};
 
 use proto_base::text::Text;
 use std::alloc::{AllocError, Global};
@@ -90,6 +90,13 @@ pub(crate) fn first_free(
     Ok(name)
 }
 
+/// Whether a name begins like those that are made. No other needs to be looked for among them.
+fn begins_as_made(name: &str) -> bool
+    ensures { result ≡ begins_as_made name.now }
+{
+    matches!(name.as_bytes(), [b'_' | b'X', ..])
+}
+
 /// Takes a name.
 pub(crate) fn take_name(
     alloc: Global,
@@ -99,7 +106,9 @@ pub(crate) fn take_name(
     ensures { OnOk result ((names : List (List ℕ)) → IsSetOf names taken.old
         → IsSetOf (names ++ name.now ∷ []) taken.new) }
 {
-    taken.insert(String::from_str(alloc, name)?)?;
+    if begins_as_made(name) {
+        taken.insert(String::from_str(alloc, name)?)?;
+    }
     Ok(())
 }
 

@@ -14,7 +14,8 @@ use proto_tree::text::{joined, simple_name};
 use proto_tree::{Constant, FullName, Options, Setting};
 use std::alloc::{AllocError, Global};
 
-fn number_of(kind: ValueKind, name: &FullName) -> Option<u64>
+/// The number that a name stands for as the value of an option that takes this kind, if it is one of its choices.
+pub fn number_of(kind: ValueKind, name: &FullName) -> Option<u64>
     ensures { result ≡ number_of kind name.now }
 {
     match simple_name(name) {

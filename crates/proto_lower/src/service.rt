@@ -12,7 +12,8 @@ use proto_desc::service::{MethodDesc, ServiceDesc};
 use proto_tree::{Rpc, RpcBody, RpcItem, Service, ServiceItem};
 use std::alloc::{AllocError, Global};
 
-fn rpc_items<'t, 's>(body: &'t RpcBody<'s>) -> &'t [RpcItem<'s>]
+/// The statements of a method; one that ends with a semicolon has none.
+pub fn rpc_items<'t, 's>(body: &'t RpcBody<'s>) -> &'t [RpcItem<'s>]
     ensures { result.now ≡ rpc_items body.now }
 {
     match body {

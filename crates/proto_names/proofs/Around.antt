@@ -10,8 +10,8 @@ use Rattle.proto_names.specs.Scopes.{IsCandidate}
 abbrev pub NoDotAfter : ℕ → List ℕ → Type 0
 NoDotAfter k s = (i : ℕ) → k < i → i < length s → get_or s i 0 ≢ 46
 
-length_front : (d rest : List ℕ) → length d < length (d ++ 46 ∷ rest)
-length_front d rest = grind (arith, common_steps)
+length_prefix : (d rest : List ℕ) → length d < length (d ++ 46 ∷ rest)
+length_prefix d rest = grind (arith, common_steps)
 
 dot_at : (d rest s : List ℕ) → s ≡ d ++ 46 ∷ rest → get_or s (length d) 0 ≡ 46
 dot_at d rest s e = rw e (get_or_at d 46 rest 0 (length d) refl)
@@ -32,16 +32,16 @@ no_room : (a rest : List ℕ) → a ++ 46 ∷ rest ≡ [] → ⊥
 no_room [] rest h = cc
 no_room (x ∷ a) rest h = cc
 
-front_of : (d s : List ℕ) → IsCandidate d s → d ≡ take (length d) s
-front_of d s (inl e) = rw e refl
-front_of d s (inr (inl e)) = rw (← e) (sym (take-length d))
-front_of d s (inr (inr (rest, e))) = rw e (sym (take-append_seam d (46 ∷ rest)))
+prefix_of : (d s : List ℕ) → IsCandidate d s → d ≡ take (length d) s
+prefix_of d s (inl e) = rw e refl
+prefix_of d s (inr (inl e)) = rw (← e) (sym (take-length d))
+prefix_of d s (inr (inr (rest, e))) = rw e (sym (take-append_seam d (46 ∷ rest)))
 
 pub candidates_at_dot : (s d : List ℕ) (k : ℕ) → k < length s → NoDotAfter k s → IsCandidate d s → (d ≡ s) ⊎ IsCandidate d (take k s)
 candidates_at_dot s d k below none (inl e) = inr (inl e)
 candidates_at_dot s d k below none (inr (inl e)) = inl e
 candidates_at_dot s d k below none (inr (inr (rest, e))) =
-    let shorter : length d < length s = rw e (length_front d rest) in
+    let shorter : length d < length s = rw e (length_prefix d rest) in
     elim (cases_order (length d) k) [
       | inl same ↦ inr (inr (inl (rw (e, ← same) (sym (take-append_seam d (46 ∷ rest))))))
       | inr (inl under) ↦ inr (before_dot d rest s k e under)
@@ -54,7 +54,7 @@ candidate_before_dot s k below dot = inr (inr (drop (k + 1) s, rw add-one (subst
 pub candidates_no_dot : (s d : List ℕ) → ((i : ℕ) → i < length s → get_or s i 0 ≢ 46) → IsCandidate d s → (d ≡ s) ⊎ IsCandidate d []
 candidates_no_dot s d none (inl e) = inr (inl e)
 candidates_no_dot s d none (inr (inl e)) = inl e
-candidates_no_dot s d none (inr (inr (rest, e))) = absurd (none (length d) (rw e (length_front d rest)) (dot_at d rest s e))
+candidates_no_dot s d none (inr (inr (rest, e))) = absurd (none (length d) (rw e (length_prefix d rest)) (dot_at d rest s e))
 
 -- candidates of a candidate
 pub candidate_trans : (a b s : List ℕ) → IsCandidate a b → IsCandidate b s → IsCandidate a s
@@ -67,4 +67,4 @@ candidate_trans a b s (inr (inr (rest, e))) (inr (inr (more, f))) =
 
 -- candidates of one length are one
 pub candidates_same : (a b s : List ℕ) → IsCandidate a s → IsCandidate b s → length a ≡ length b → a ≡ b
-candidates_same a b s h k e = front_of a s h ∙ ap (λ n. take n s) e ∙ sym (front_of b s k)
+candidates_same a b s h k e = prefix_of a s h ∙ ap (λ n. take n s) e ∙ sym (prefix_of b s k)

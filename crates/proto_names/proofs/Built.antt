@@ -8,7 +8,7 @@ use Rattle.proto_desc.specs.DeclaredNames.{declared_by}
 use Rattle.proto_desc.specs.declared.file.FileDesc.{FileDesc}
 use Rattle.proto_desc.specs.declared.file.PackageDesc.{PackageDesc}
 use Rattle.proto_names.specs.Occurrences.{Occurrence, IsTwice, NoneTwice, IsFirstTwice, declared_occurrence, package_occurrence, package_occurrences, occurrences_of, occurrences_from, occurrences}
-use Rattle.proto_names.specs.Scopes.{fronts}
+use Rattle.proto_names.specs.Scopes.{prefixes}
 use Rattle.proto_names.proofs.Apart.{ContainsBoth-permutation}
 use Rattle.proto_names.proofs.Occurring.{first_of}
 
@@ -24,7 +24,7 @@ made_in f file same xs o (k, inside, is) =
 
 packages_in : (file : ℕ) (declared : Option PackageDesc) (o : Occurrence) → Contains (package_occurrences file declared) o → o.file ≡ file
 packages_in file None o (k, inside, is) = absurd (omega (arith, inside))
-packages_in file (Some p) o within = made_in (package_occurrence file p.place) file (λ x. refl) (fronts p.name) o within
+packages_in file (Some p) o within = made_in (package_occurrence file p.place) file (λ x. refl) (prefixes p.name) o within
 
 one_file : (file : ℕ) (f : FileDesc) (o : Occurrence) → Contains (occurrences_of file f) o → o.file ≡ file
 one_file file f o within = elim (Contains-append_cases (package_occurrences file f.«package») (map (declared_occurrence file) (declared_by f)) o within) [

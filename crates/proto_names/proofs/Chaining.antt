@@ -115,7 +115,7 @@ module _ (os : List Occurrence) (n : ℕ) (slots links : List ℕ) (next head : 
         nexts = λ k h. subst (λ c. IsLast os c k (slot_of os c k) (get_or pushed k 0)) (sym len) (nexts_case k h (cases_lt k n));
       }
 
-pub chaining_more : (os : List Occurrence) (count n hash slot next head : ℕ) (slots new links all : List ℕ) → hash ≡ hash_of (at os n).name
+chaining_more : (os : List Occurrence) (count n hash slot next head : ℕ) (slots new links all : List ℕ) → hash ≡ hash_of (at os n).name
     → slot ≡ hash % count → next ≡ get_or slots slot 0 → IsHead os n next head → new ≡ set slots slot head → all ≡ links ++ next ∷ []
     → Chaining os count n slots links → Chaining os count (n + 1) new all
 chaining_more os count n hash slot next head slots new links all is_hash place is_next is set_to is_all old =
@@ -127,6 +127,15 @@ chaining_more os count n hash slot next head slots new links all is_hash place i
       room = old.room;
       chained = m;
     })
+
+-- the same, as the slot is read
+pub chaining_step : (os : List Occurrence) (count n hash slot next head : ℕ) (slots new links all : List ℕ) → hash ≡ hash_of (at os n).name
+    → slot ≡ hash % count → next ≡ get_or slots slot next → IsHead os n next head → new ≡ set slots slot head → all ≡ links ++ next ∷ []
+    → Chaining os count n slots links → Chaining os count (n + 1) new all
+chaining_step os count n hash slot next head slots new links all is_hash place read is set_to is_all old =
+    let low : hash % count < length slots = subst (λ (m : ℕ). hash % count < m) (sym old.size) (mod_below hash count old.room) in
+    let below : slot < length slots = subst (λ (m : ℕ). m < length slots) (sym place) low in
+    chaining_more os count n hash slot next head slots new links all is_hash place (read ∙ get_or_default slots slot next 0 below) is set_to is_all old
 
 -- ---- a walk along one
 

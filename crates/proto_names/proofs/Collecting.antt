@@ -23,8 +23,8 @@ occurrences_more files k f now next within at so_far put =
     rw (put, so_far, take_more files k f within, occurrences_from-append 0 (take k files) (get_or files k f ∷ []), last) refl
 
 -- the first files have no more than all
-pub occurrences_front : (files : List FileDesc) (k : ℕ) → length (occurrences (take k files)) ≤ length (occurrences files)
-occurrences_front files k =
+pub occurrences_prefix : (files : List FileDesc) (k : ℕ) → length (occurrences (take k files)) ≤ length (occurrences files)
+occurrences_prefix files k =
     let whole : occurrences files ≡ occurrences (take k files) ++ occurrences_from (0 + length (take k files)) (drop k files) =
     ap occurrences (sym (take-append-drop k files)) ∙ occurrences_from-append 0 (take k files) (drop k files) in
     rw whole (grind (arith, common_steps))

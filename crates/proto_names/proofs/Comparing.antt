@@ -35,26 +35,26 @@ pub short : (text scope name : List ℕ) → 0 < length scope → length text �
     → ordering_then (slice_cmp nat_cmp text scope) Less ≡ slice_cmp nat_cmp text (scoped scope name)
 short text scope name some h = rw (scoped_some scope name some) (sym (short_all text scope name h))
 
-pub both : (front scope rest more : List ℕ) → length front ≡ length scope
-    → slice_cmp nat_cmp (front ++ rest) (scope ++ more) ≡ ordering_then (slice_cmp nat_cmp front scope) (slice_cmp nat_cmp rest more)
+pub both : (prefix scope rest more : List ℕ) → length prefix ≡ length scope
+    → slice_cmp nat_cmp (prefix ++ rest) (scope ++ more) ≡ ordering_then (slice_cmp nat_cmp prefix scope) (slice_cmp nat_cmp rest more)
 both [] [] rest more h = refl
 both [] (s ∷ ss) rest more h = absurd (omega (arith, h))
 both (x ∷ xs) [] rest more h = absurd (omega (arith, h))
 both (x ∷ xs) (s ∷ ss) rest more h =
     ap (ordering_then (nat_cmp x s)) (both xs ss rest more (omega (arith, h))) ∙ then_then (nat_cmp x s) (slice_cmp nat_cmp xs ss) (slice_cmp nat_cmp rest more)
 
--- a text whose front is as long as the scope
-pub long : (text front scope name rest : List ℕ) → 0 < length scope → text ≡ front ++ rest → length front ≡ length scope
-    → slice_cmp nat_cmp text (scoped scope name) ≡ ordering_then (slice_cmp nat_cmp front scope) (slice_cmp nat_cmp rest (46 ∷ name))
-long text front scope name rest some is h = rw (is, scoped_some scope name some) (both front scope rest (46 ∷ name) h)
+-- a text whose prefix is as long as the scope
+pub long : (text prefix scope name rest : List ℕ) → 0 < length scope → text ≡ prefix ++ rest → length prefix ≡ length scope
+    → slice_cmp nat_cmp text (scoped scope name) ≡ ordering_then (slice_cmp nat_cmp prefix scope) (slice_cmp nat_cmp rest (46 ∷ name))
+long text prefix scope name rest some is h = rw (is, scoped_some scope name some) (both prefix scope rest (46 ∷ name) h)
 
-pub long_equal : (text front scope name rest : List ℕ) (o r : Ordering) → 0 < length scope → text ≡ front ++ rest → length front ≡ length scope
-    → o ≡ slice_cmp nat_cmp front scope → o ≡ Equal → r ≡ slice_cmp nat_cmp rest (46 ∷ name) → r ≡ slice_cmp nat_cmp text (scoped scope name)
-long_equal text front scope name rest o r some is h compared equal behind =
-    behind ∙ ap (λ p. ordering_then p (slice_cmp nat_cmp rest (46 ∷ name))) (sym equal ∙ compared) ∙ sym (long text front scope name rest some is h)
+pub long_equal : (text prefix scope name rest : List ℕ) (o r : Ordering) → 0 < length scope → text ≡ prefix ++ rest → length prefix ≡ length scope
+    → o ≡ slice_cmp nat_cmp prefix scope → o ≡ Equal → r ≡ slice_cmp nat_cmp rest (46 ∷ name) → r ≡ slice_cmp nat_cmp text (scoped scope name)
+long_equal text prefix scope name rest o r some is h compared equal behind =
+    behind ∙ ap (λ p. ordering_then p (slice_cmp nat_cmp rest (46 ∷ name))) (sym equal ∙ compared) ∙ sym (long text prefix scope name rest some is h)
 
-pub long_unequal : (text front scope name rest : List ℕ) (o : Ordering) → 0 < length scope → text ≡ front ++ rest → length front ≡ length scope
-    → o ≡ slice_cmp nat_cmp front scope → o ≢ Equal → o ≡ slice_cmp nat_cmp text (scoped scope name)
-long_unequal text front scope name rest o some is h compared unequal =
+pub long_unequal : (text prefix scope name rest : List ℕ) (o : Ordering) → 0 < length scope → text ≡ prefix ++ rest → length prefix ≡ length scope
+    → o ≡ slice_cmp nat_cmp prefix scope → o ≢ Equal → o ≡ slice_cmp nat_cmp text (scoped scope name)
+long_unequal text prefix scope name rest o some is h compared unequal =
     sym (then_unequal o (slice_cmp nat_cmp rest (46 ∷ name)) unequal) ∙ ap (λ p. ordering_then p (slice_cmp nat_cmp rest (46 ∷ name))) compared
-    ∙ sym (long text front scope name rest some is h)
+    ∙ sym (long text prefix scope name rest some is h)

@@ -4,7 +4,8 @@ pub mod Built
 pub mod Collecting
 pub mod Chaining
 pub mod Comparing
-pub mod Fronts
+pub mod Prefixes
+pub mod Growing
 pub mod Looking
 pub mod Meaning
 pub mod Occurring
@@ -13,5 +14,6 @@ pub mod NameOrder
 pub mod Ordered
 pub mod Repeating
 pub mod Searching
+pub mod Standing
 pub mod Unhashing
 pub mod Unique

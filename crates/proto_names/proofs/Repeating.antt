@@ -1,34 +1,14 @@
 -- Runs of one name, and what is repeated in them.
-use Rattle.std.proofs.Common.{◌≡◌, ◌≢◌, ◌∙◌, sym, ℕ, ◌+◌, ◌-◌, ◌<◌, ◌≤◌, List, length, get_or, map, ap, refl, subst, arith, inl, inr, ◌⊎◌}
+use Rattle.std.proofs.Common.{◌≡◌, ◌≢◌, ◌∙◌, sym, ℕ, ◌+◌, ◌-◌, ◌<◌, ◌≤◌, List, length, ap, refl, subst, arith, inl, inr, ◌⊎◌}
 use Rattle.std.specs.Prelude.{Bool, true, false, IsTrue, ◌↔◌, Option, None, Some, IfSome, MatchOption, is_some, slice_get}
 use Rattle.std.proofs.lemmas.Bool.{cases_lt, false≢true}
-use Rattle.std.proofs.lemmas.List.{get_or-map}
 use Rattle.std.proofs.lemmas.Option.{none-some, slice_get-get_or, slice_get_within, get_or_from_slice_get}
-use Rattle.proto_names.specs.Entries.{entry_name, occurrence}
-use Rattle.proto_names.specs.declared.entry.Entry.{Entry}
 use Rattle.proto_desc.specs.declared.name_kind.NameKind.{NameKind}
 use Rattle.proto_names.specs.Occurrences.{Occurrence, IsEarlier, IsPackage, IsTwice, NoneTwice, IsFirstTwice}
-use Rattle.proto_names.specs.Order.{AreInOrder, Bounds, IsLesser, NoLater, spot_of}
+use Rattle.proto_names.specs.Order.{AreInOrder, Bounds, IsLesser, NoLater, location_of}
 use Rattle.proto_names.specs.Runs.{IsRun, Repeats, at, blank}
-use Rattle.proto_names.specs.declared.entry.Spot.{Spot}
+use Rattle.proto_names.specs.declared.entry.Location.{Location}
 use Rattle.proto_names.proofs.Ordered.{places_in_order, names_between, not_both, not_itself}
-
--- what an entry of the list stands for
-pub at_position : (es : List Entry) (k : ℕ) (e : Entry) → k < length es → e ≡ get_or es k e → at (map occurrence es) k ≡ occurrence e
-at_position es k e h is = get_or-map occurrence es k e blank h ∙ ap occurrence (sym is)
-
-pub at_get : (es : List Entry) (k : ℕ) (d : Entry) → k < length es → at (map occurrence es) k ≡ occurrence (get_or es k d)
-at_get es k d h = get_or-map occurrence es k d blank h
-
-pub names_same : (es : List Entry) (j k : ℕ) (d e : Entry) → j < length es → k < length es → d ≡ get_or es j d → e ≡ get_or es k e → entry_name d ≡ entry_name e
-    → (at (map occurrence es) j).name ≡ (at (map occurrence es) k).name
-names_same es j k d e h g at_d at_e same =
-    ap (λ (o : Occurrence). o.name) (at_position es j d h at_d) ∙ same ∙ ap (λ (o : Occurrence). o.name) (sym (at_position es k e g at_e))
-
-pub names_same_back : (es : List Entry) (j k : ℕ) (d e : Entry) → j < length es → k < length es → d ≡ get_or es j d → e ≡ get_or es k e
-    → (at (map occurrence es) j).name ≡ (at (map occurrence es) k).name → entry_name d ≡ entry_name e
-names_same_back es j k d e h g at_d at_e same =
-    ap (λ (o : Occurrence). o.name) (sym (at_position es j d h at_d)) ∙ same ∙ ap (λ (o : Occurrence). o.name) (at_position es k e g at_e)
 
 -- ---- runs
 
@@ -99,23 +79,17 @@ element_repeats os k start has other run = (
 )
 
 -- what stands at k, a package
-package_repeats : (os : List Occurrence) (k start : ℕ) (has : Bool) → IsPackage (at os k) → IsRun os k k start has → IsTrue has ↔ Repeats os k
+pub package_repeats : (os : List Occurrence) (k start : ℕ) (has : Bool) → IsPackage (at os k) → IsRun os k k start has → IsTrue has ↔ Repeats os k
 package_repeats os k start true pack run = (λ t. (let w = run.element in (w.0, w.2, run.same w.0 w.1 w.2, λ p q. w.3 p)), λ repeats. refl)
 package_repeats os k start false pack run = (
   λ t. absurd (false≢true t),
   λ repeats. absurd (repeats.3 (run.element repeats.0 (run.whole repeats.0 repeats.1 repeats.2) repeats.1) pack),
 )
 
--- as entries answer it
-module _ (es : List Entry) (k start : ℕ) (has : Bool) (within : k < length es) (run : IsRun (map occurrence es) k k start has) (d : Entry) where
-  kind_at : (kind : Option NameKind) → (get_or es k d).kind ≡ kind → (at (map occurrence es) k).kind ≡ kind
-  kind_at kind h = ap (λ (o : Occurrence). o.kind) (at_get es k d within) ∙ h
-
-  pub element_twice : (kind : NameKind) → (get_or es k d).kind ≡ Some kind → (start < k) ↔ Repeats (map occurrence es) k
-  element_twice kind h = element_repeats (map occurrence es) k start has (λ p. none-some kind (sym p ∙ kind_at (Some kind) h)) run
-
-  pub package_twice : (get_or es k d).kind ≡ None → IsTrue has ↔ Repeats (map occurrence es) k
-  package_twice h = package_repeats (map occurrence es) k start has (kind_at None h) run
+-- as the kind of what stands at k says
+pub element_twice : (os : List Occurrence) (k start : ℕ) (has : Bool) (kind : NameKind) → (at os k).kind ≡ Some kind → IsRun os k k start has
+    → (start < k) ↔ Repeats os k
+element_twice os k start has kind is run = element_repeats os k start has (λ p. none-some kind (sym p ∙ is)) run
 
 -- ---- repeated, and twice
 
@@ -151,32 +125,32 @@ twice_repeats os b (a, (i, j, apart, first, second), clash) =
 -- ---- the first that is repeated
 
 -- what is known of the first n
-pub record Passed (os : List Occurrence) (n : ℕ) (first : Option Spot) : Type 0 where
+pub record Passed (os : List Occurrence) (n : ℕ) (first : Option Location) : Type 0 where
   pub found : IfSome first (λ s. (b : Occurrence) × IsTwice os b × (b.file ≡ s.file) × (b.place ≡ s.place))
-  pub least : (k : ℕ) → k < n → Repeats os k → Bounds first (spot_of (at os k))
+  pub least : (k : ℕ) → k < n → Repeats os k → Bounds first (location_of (at os k))
 
 pub passed_none : (os : List Occurrence) → Passed os 0 None
 passed_none os = record { found = tt; least = λ k h. absurd (omega (arith, h)) }
 
-lesser_found : (os : List Occurrence) (known : Option Spot) (b : Occurrence) (spot first : Spot) → IsTwice os b → spot_of b ≡ spot
-    → IfSome known (λ s. (b : Occurrence) × IsTwice os b × (b.file ≡ s.file) × (b.place ≡ s.place)) → (known ≡ Some first) ⊎ (spot ≡ first)
+lesser_found : (os : List Occurrence) (known : Option Location) (b : Occurrence) (location first : Location) → IsTwice os b → location_of b ≡ location
+    → IfSome known (λ s. (b : Occurrence) × IsTwice os b × (b.file ≡ s.file) × (b.place ≡ s.place)) → (known ≡ Some first) ⊎ (location ≡ first)
     → (b : Occurrence) × IsTwice os b × (b.file ≡ first.file) × (b.place ≡ first.place)
-lesser_found os known b spot first twice is old (inl e) = rw e at old
-lesser_found os known b spot first twice is old (inr e) = (b, twice, ap (λ (s : Spot). s.file) (is ∙ e), ap (λ (s : Spot). s.place) (is ∙ e))
+lesser_found os known b location first twice is old (inl e) = rw e at old
+lesser_found os known b location first twice is old (inr e) = (b, twice, ap (λ (s : Location). s.file) (is ∙ e), ap (λ (s : Location). s.place) (is ∙ e))
 
-pub passed_twice : (os : List Occurrence) (n : ℕ) (known : Option Spot) (spot first : Spot) → spot_of (at os n) ≡ spot → IsTwice os (at os n)
-    → IsLesser known spot first → Passed os n known → Passed os (n + 1) (Some first)
-passed_twice os n known spot first is twice lesser passed = record {
-  found = lesser_found os known (at os n) spot first twice is passed.found lesser.one;
+pub passed_twice : (os : List Occurrence) (n : ℕ) (known : Option Location) (location first : Location) → location_of (at os n) ≡ location
+    → IsTwice os (at os n) → IsLesser known location first → Passed os n known → Passed os (n + 1) (Some first)
+passed_twice os n known location first is twice lesser passed = record {
+  found = lesser_found os known (at os n) location first twice is passed.found lesser.one;
   least = λ k h w. (elim (cases_lt k n) [
-    | inl less ↦ lesser.left (spot_of (at os k)) (passed.least k less w)
+    | inl less ↦ lesser.left (location_of (at os k)) (passed.least k less w)
     | inr over ↦ (let last : k ≡ n = omega (arith, over, h) in
-        lesser.right (spot_of (at os k)) (subst (λ (s : Spot). NoLater s (spot_of (at os k))) (ap (λ j. spot_of (at os j)) last ∙ is)
+        lesser.right (location_of (at os k)) (subst (λ (s : Location). NoLater s (location_of (at os k))) (ap (λ j. location_of (at os j)) last ∙ is)
         (inr (refl, omega arith))))
   ]);
 }
 
-pub passed_skip : (os : List Occurrence) (n : ℕ) (known : Option Spot) → (Repeats os n → ⊥) → Passed os n known → Passed os (n + 1) known
+pub passed_skip : (os : List Occurrence) (n : ℕ) (known : Option Location) → (Repeats os n → ⊥) → Passed os n known → Passed os (n + 1) known
 passed_skip os n known none passed = record {
   found = passed.found;
   least = λ k h w. (elim (cases_lt k n) [
@@ -185,17 +159,17 @@ passed_skip os n known none passed = record {
   ]);
 }
 
-earlier_bound : (b : Occurrence) (s t : Spot) → IsEarlier b.file b.place s.file s.place → NoLater s t → IsEarlier b.file b.place t.file t.place
+earlier_bound : (b : Occurrence) (s t : Location) → IsEarlier b.file b.place s.file s.place → NoLater s t → IsEarlier b.file b.place t.file t.place
 earlier_bound b s t (inl h) (inl k) = inl (omega arith)
 earlier_bound b s t (inl h) (inr k) = inl (omega (arith, k.0))
 earlier_bound b s t (inr h) (inl k) = inl (omega (arith, h.0))
 earlier_bound b s t (inr h) (inr k) = inr (h.0 ∙ k.0, omega (arith, h.1, k.1))
 
-pub passed_all : (os : List Occurrence) (n : ℕ) (known : Option Spot) → length os ≤ n → Passed os n known
+pub passed_all : (os : List Occurrence) (n : ℕ) (known : Option Location) → length os ≤ n → Passed os n known
     → MatchOption known (NoneTwice os) (λ s. IsFirstTwice os s.file s.place)
 passed_all os n None whole passed = λ b twice. (let w = twice_repeats os b twice in let h = w.1 in passed.least w.0 (omega (arith, whole, h)) w.2)
 passed_all os n (Some s) whole passed = record {
   found = passed.found;
   least = λ b twice earlier. (let w = twice_repeats os b twice in let h = w.1 in
-      w.3 (earlier_bound b s (spot_of (at os w.0)) earlier (passed.least w.0 (omega (arith, whole, h)) w.2)));
+      w.3 (earlier_bound b s (location_of (at os w.0)) earlier (passed.least w.0 (omega (arith, whole, h)) w.2)));
 }

@@ -37,11 +37,11 @@ pub hash_below : (name : List ℕ) → hash_of name < 4294967296
 hash_below name = hash_from_below 0 name (lit< tt)
 
 -- the hash of a text is that of all but its last byte, and the byte
-pub hash_end : (front bytes : List ℕ) (k d : ℕ) → k < length bytes
-    → hash_of (front ++ take (k + 1) bytes) ≡ hash_step (hash_of (front ++ take k bytes)) (get_or bytes k d)
-hash_end front bytes k d within =
-    ap (λ xs. hash_of (front ++ xs)) (take_more bytes k d within) ∙ ap hash_of (append-end front (take k bytes) (get_or bytes k d))
-    ∙ fold-append hash_step 0 (front ++ take k bytes) (get_or bytes k d ∷ [])
+pub hash_end : (prefix bytes : List ℕ) (k d : ℕ) → k < length bytes
+    → hash_of (prefix ++ take (k + 1) bytes) ≡ hash_step (hash_of (prefix ++ take k bytes)) (get_or bytes k d)
+hash_end prefix bytes k d within =
+    ap (λ xs. hash_of (prefix ++ xs)) (take_more bytes k d within) ∙ ap hash_of (append-end prefix (take k bytes) (get_or bytes k d))
+    ∙ fold-append hash_step 0 (prefix ++ take k bytes) (get_or bytes k d ∷ [])
   where
     append-end : (xs ys : List ℕ) (b : ℕ) → xs ++ (ys ++ b ∷ []) ≡ (xs ++ ys) ++ b ∷ []
     append-end [] ys b = refl

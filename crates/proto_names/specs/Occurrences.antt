@@ -4,7 +4,7 @@ use Rattle.proto_desc.specs.DeclaredNames.{Declared, full_name, declared_by}
 use Rattle.proto_desc.specs.declared.file.FileDesc.{FileDesc}
 use Rattle.proto_desc.specs.declared.file.PackageDesc.{PackageDesc}
 use Rattle.proto_desc.specs.declared.name_kind.NameKind.{NameKind}
-use Rattle.proto_names.specs.Scopes.{fronts}
+use Rattle.proto_names.specs.Scopes.{prefixes}
 use Rattle.proto_base.specs.declared.place.Place.{Place}
 
 -- a full name in a file: a package, which has no kind of element, or an element that the file declares
@@ -18,12 +18,12 @@ abbrev pub declared_occurrence : ℕ → Declared → Occurrence
 declared_occurrence file d = record { name = full_name d; file = file; place = d.place; kind = Some d.kind }
 
 abbrev pub package_occurrence : ℕ → Place → List ℕ → Occurrence
-package_occurrence file place front = record { name = front; file = file; place = place; kind = None }
+package_occurrence file place prefix = record { name = prefix; file = file; place = place; kind = None }
 
--- a package occurs by every front of its name
+-- a package occurs by every prefix of its name
 abbrev pub package_occurrences : ℕ → Option PackageDesc → List Occurrence
 package_occurrences file None = []
-package_occurrences file (Some p) = map (package_occurrence file p.place) (fronts p.name)
+package_occurrences file (Some p) = map (package_occurrence file p.place) (prefixes p.name)
 
 -- ---- all that occurs
 

@@ -3,10 +3,12 @@ use Rattle.std.specs.Prelude.{◌≡◌, ◌⊎◌, ℕ, ◌<◌, ◌≤◌, Lis
 use Rattle.std.specs.declared.cmp.Ordering.{Ordering}
 use Rattle.std.specs.Cmp.Lexicographic.{slice_cmp}
 use Rattle.std.specs.Ordering.{nat_cmp, ordering_then}
+use Rattle.proto_names.specs.Entries.{name_at}
 use Rattle.proto_names.specs.Hashes.{hash_of}
 use Rattle.proto_names.specs.Index.{name_of}
 use Rattle.proto_names.specs.Occurrences.{Occurrence}
-use Rattle.proto_names.specs.declared.entry.Spot.{Spot}
+use Rattle.proto_names.specs.declared.entry.Entry.{Entry}
+use Rattle.proto_names.specs.declared.entry.Location.{Location}
 
 -- most names differ in their hashes, so that few are compared byte by byte
 abbrev pub name_cmp : List ℕ → List ℕ → Ordering
@@ -22,19 +24,25 @@ occurrence_cmp a b = ordering_then (name_cmp a.name b.name)
 abbrev pub AreInOrder : List Occurrence → Type 0
 AreInOrder os = IsSorted occurrence_cmp os
 
+-- the same order of entries whose names stand in a text, by the hashes that they hold
+abbrev pub entry_cmp : List ℕ → Entry → Entry → Ordering
+entry_cmp text a b =
+    ordering_then (nat_cmp a.hash b.hash) (ordering_then (slice_cmp nat_cmp (name_at text a) (name_at text b))
+    (ordering_then (nat_cmp a.location.file b.location.file) (nat_cmp a.location.place.offset b.location.place.offset)))
+
 -- by file, then by place
-abbrev pub NoLater : Spot → Spot → Type 0
+abbrev pub NoLater : Location → Location → Type 0
 NoLater a b = (a.file < b.file) ⊎ ((a.file ≡ b.file) × (a.place.offset ≤ b.place.offset))
 
-abbrev pub spot_of : Occurrence → Spot
-spot_of o = record { file = o.file; place = o.place }
+abbrev pub location_of : Occurrence → Location
+location_of o = record { file = o.file; place = o.place }
 
-abbrev pub Bounds : Option Spot → Spot → Type 0
+abbrev pub Bounds : Option Location → Location → Type 0
 Bounds None x = ⊥
 Bounds (Some a) x = NoLater a x
 
 -- the earlier of what is known and one more
-pub record IsLesser (known : Option Spot) (spot first : Spot) : Type 0 where
-  pub one : (known ≡ Some first) ⊎ (spot ≡ first)
-  pub left : (x : Spot) → Bounds known x → NoLater first x
-  pub right : (x : Spot) → NoLater spot x → NoLater first x
+pub record IsLesser (known : Option Location) (location first : Location) : Type 0 where
+  pub one : (known ≡ Some first) ⊎ (location ≡ first)
+  pub left : (x : Location) → Bounds known x → NoLater first x
+  pub right : (x : Location) → NoLater location x → NoLater first x

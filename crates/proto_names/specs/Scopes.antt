@@ -4,11 +4,11 @@ use Rattle.std.specs.Prelude.{◌≡◌, ◌⊎◌, ℕ, List, [], ◌∷◌, �
 abbrev pub is_dot : ℕ → Bool
 is_dot b = b == 46
 
--- the fronts of a text that a dot or its end follows, the longest first
-abbrev pub fronts : List ℕ → List (List ℕ)
-fronts [] = [] ∷ []
-fronts (b ∷ bs) = map (λ front. b ∷ front) (fronts bs) ++ (if is_dot b then [] ∷ [] else [])
+-- the prefixes of a text that a dot or its end follows, the longest first
+abbrev pub prefixes : List ℕ → List (List ℕ)
+prefixes [] = [] ∷ []
+prefixes (b ∷ bs) = map (λ prefix. b ∷ prefix) (prefixes bs) ++ (if is_dot b then [] ∷ [] else [])
 
--- a scope, or one around it: a front of whole parts, the empty one too
+-- a scope, or one around it: a prefix of whole parts, the empty one too
 abbrev pub IsCandidate : List ℕ → List ℕ → Type 0
 IsCandidate c scope = (c ≡ []) ⊎ (c ≡ scope) ⊎ ((rest : List ℕ) × (scope ≡ c ++ 46 ∷ rest))

@@ -2,14 +2,13 @@
 
 ghost use Rattle.std.specs.Prelude.{◌≡◌, ◌<◌, ◌≤◌, ◌++◌, map, flat_map, length, IfNone, IfOk, IfSome, OnOk};
 ghost use Rattle.proto_desc.specs.DeclaredNames.{declared_by_enum, declared_by_message, declared_by_service, declared_in};
-ghost use Rattle.proto_names.specs.Entries.{occurrence};
 ghost use Rattle.proto_names.specs.Occurrences.{declared_occurrence, package_occurrence, package_occurrences, occurrences_of, occurrences};
-ghost use Rattle.proto_names.specs.Scopes.{fronts};
+ghost use Rattle.proto_names.specs.Scopes.{prefixes};
 
-use crate::entries::{Entries, name_in};
-use crate::entry::{Entry, Spot};
-use crate::hashing::with_text;
-use crate::scope::{Scope, shorter_front};
+use crate::entries::Entries;
+use crate::entry::Location;
+use crate::full_name::name_in;
+use crate::scope::{Scope, shorter_prefix};
 use proto_base::Place;
 use proto_desc::enumeration::EnumDesc;
 use proto_desc::file::{FileDesc, PackageDesc};
@@ -20,31 +19,8 @@ use proto_desc::{DeclaredName, Declares};
 use proto_links::FileId;
 use std::alloc::{AllocError, Global};
 
-/// The entry of a name that is declared in a scope.
-fn declared_entry(
-    alloc: Global,
-    file: FileId,
-    scope: Scope,
-    name: &str,
-    place: Place,
-    kind: NameKind,
-) -> Result<Entry, AllocError>
-    ensures { IfOk result (λ entry. occurrence entry
-        ≡ declared_occurrence file (record {
-          scope = scope.entry.text.now;
-          name = name.now;
-          kind = kind;
-          place = place;
-        })) }
-{
-    let full = name_in(alloc, scope.text, name)?;
-    let hash = scope.hash_with(name);
-    Ok(Entry::new(full, hash, Spot { file, place }, Some(kind)))
-}
-
 /// Puts elements that declare their own names alone.
 fn put_members<D: Declares>(
-    alloc: Global,
     entries: &mut Entries,
     file: FileId,
     scope: Scope,
@@ -55,14 +31,13 @@ fn put_members<D: Declares>(
 {
     for member in members {
         let DeclaredName { name, place, kind } = member.declared_name();
-        entries.push(declared_entry(alloc, file, scope, name, place, kind)?)?;
+        entries.push(scope, name, Location { file, place }, Some(kind))?;
     }
     Ok(())
 }
 
 /// Puts an enum and its values, which stand beside the enum, in its scope.
 fn put_enum(
-    alloc: Global,
     entries: &mut Entries,
     file: FileId,
     scope: Scope,
@@ -72,13 +47,12 @@ fn put_enum(
         ++ map (declared_occurrence file) (declared_by_enum scope.entry.text.now declared.now)) }
 {
     let name = declared.name.as_str();
-    let entry = declared_entry(alloc, file, scope, name, declared.place, NameKind::Enum)?;
-    entries.push(entry)?;
-    put_members(alloc, entries, file, scope, declared.values.as_slice())
+    let place = declared.place;
+    entries.push(scope, name, Location { file, place }, Some(NameKind::Enum))?;
+    put_members(entries, file, scope, declared.values.as_slice())
 }
 
 fn put_enums(
-    alloc: Global,
     entries: &mut Entries,
     file: FileId,
     scope: Scope,
@@ -89,7 +63,7 @@ fn put_enums(
         (flat_map (declared_by_enum scope.entry.text.now) enums.now)) }
 {
     for declared in enums {
-        put_enum(alloc, entries, file, scope, declared)?;
+        put_enum(entries, file, scope, declared)?;
     }
     Ok(())
 }
@@ -106,11 +80,16 @@ fn put_service(
         ++ map (declared_occurrence file) (declared_by_service scope.entry.text.now service.now)) }
 {
     let name = service.name.as_str();
-    let entry = declared_entry(alloc, file, scope, name, service.place, NameKind::Service)?;
-    entries.push(entry)?;
+    let place = service.place;
+    entries.push(
+        scope,
+        name,
+        Location { file, place },
+        Some(NameKind::Service),
+    )?;
     let full = name_in(alloc, scope.text, name)?;
     let inside = Scope::new(full.as_str());
-    put_members(alloc, entries, file, inside, service.methods.as_slice())
+    put_members(entries, file, inside, service.methods.as_slice())
 }
 
 fn put_services(
@@ -142,13 +121,18 @@ fn put_message(
         ++ map (declared_occurrence file) (declared_by_message message.now scope.entry.text.now)) }
 {
     let name = message.name.as_str();
-    let entry = declared_entry(alloc, file, scope, name, message.place, NameKind::Message)?;
-    entries.push(entry)?;
+    let place = message.place;
+    entries.push(
+        scope,
+        name,
+        Location { file, place },
+        Some(NameKind::Message),
+    )?;
     let full = name_in(alloc, scope.text, name)?;
     let inside = Scope::new(full.as_str());
-    put_members(alloc, entries, file, inside, message.fields.as_slice())?;
-    put_members(alloc, entries, file, inside, message.oneofs.as_slice())?;
-    put_enums(alloc, entries, file, inside, message.enums.as_slice())?;
+    put_members(entries, file, inside, message.fields.as_slice())?;
+    put_members(entries, file, inside, message.oneofs.as_slice())?;
+    put_enums(entries, file, inside, message.enums.as_slice())?;
     for nested in message.nested.as_slice() {
         put_message(alloc, entries, file, inside, nested)?;
     }
@@ -172,36 +156,27 @@ fn put_messages(
     Ok(())
 }
 
-/// Puts a package's name and its fronts, from the longest on.
-fn put_fronts(
-    alloc: Global,
+/// Puts a package's name and its prefixes, from the longest on.
+fn put_prefixes(
     entries: &mut Entries,
     file: FileId,
     place: Place,
     name: &str,
 ) -> Result<(), AllocError>
     ensures { OnOk result (entries.new ≡ entries.old
-        ++ map (package_occurrence file place) (fronts name.now)) }
+        ++ map (package_occurrence file place) (prefixes name.now)) }
 {
-    let mut front = name;
+    let mut prefix = name;
     loop {
-        let hash = with_text(0, front);
-        let entry = Entry::new(
-            String::from_str(alloc, front)?,
-            hash,
-            Spot { file, place },
-            None,
-        );
-        entries.push(entry)?;
-        match shorter_front(front) {
-            Some(shorter) => front = shorter,
+        entries.push(Scope::top(), prefix, Location { file, place }, None)?;
+        match shorter_prefix(prefix) {
+            Some(shorter) => prefix = shorter,
             None => return Ok(()),
         }
     }
 }
 
 fn put_package(
-    alloc: Global,
     entries: &mut Entries,
     file: FileId,
     package: &Option<PackageDesc>,
@@ -209,7 +184,7 @@ fn put_package(
     ensures { OnOk result (entries.new ≡ entries.old ++ package_occurrences file «package».now) }
 {
     match package {
-        Some(package) => put_fronts(alloc, entries, file, package.place, package.name.as_str()),
+        Some(package) => put_prefixes(entries, file, package.place, package.name.as_str()),
         None => Ok(()),
     }
 }
@@ -226,7 +201,7 @@ fn put_declared(
         ++ map (declared_occurrence file) (declared_in scope.entry.text.now desc.now)) }
 {
     put_messages(alloc, entries, file, scope, desc.messages.as_slice())?;
-    put_enums(alloc, entries, file, scope, desc.enums.as_slice())?;
+    put_enums(entries, file, scope, desc.enums.as_slice())?;
     put_services(alloc, entries, file, scope, desc.services.as_slice())
 }
 
@@ -238,7 +213,7 @@ fn put_file(
 ) -> Result<(), AllocError>
     ensures { OnOk result (entries.new ≡ entries.old ++ occurrences_of file desc.now) }
 {
-    put_package(alloc, entries, file, &desc.package)?;
+    put_package(entries, file, &desc.package)?;
     let scope = match &desc.package {
         Some(package) => Scope::new(package.name.as_str()),
         None => Scope::top(),

@@ -1,54 +1,57 @@
 //! The entries of a name, found by halving among those that stand in the order of their names.
 
-ghost use Rattle.std.specs.Prelude.{◌≡◌, ◌≢◌, ◌≤◌, map, length, All, MatchOption, IsSortedByKey};
+ghost use Rattle.std.specs.Prelude.{◌≡◌, ◌≢◌, ◌≤◌, length, All, MatchOption};
 ghost use Rattle.std.specs.Cmp.Lexicographic.{slice_cmp};
 ghost use Rattle.std.specs.List.Sorted.{IsPartitionPoint};
-ghost use Rattle.std.specs.Ordering.{nat_cmp, is_eq, is_lt};
+ghost use Rattle.std.specs.Ordering.{nat_cmp, is_eq, is_lt, ordering_then};
 ghost use Rattle.std.specs.declared.cmp.Ordering.TheVariants.{Less};
 ghost use Rattle.proto_desc.specs.DeclaredNames.{scoped};
 ghost use Rattle.proto_names.specs.Chains.{IsNowhere, IsStart};
-ghost use Rattle.proto_names.specs.Entries.{entry_name, occurrence};
-ghost use Rattle.proto_names.specs.Order.{name_cmp};
+ghost use Rattle.proto_names.specs.Entries.{name_at};
+ghost use Rattle.proto_names.specs.Order.{AreInNameOrder, name_cmp};
 
-use crate::entries::{compare, has_name};
 use crate::entry::Entry;
+use crate::full_name::compare;
+use crate::names::Names;
 use crate::scope::Scope;
 use std::cmp::Ordering;
 
-/// The order of an entry and the name in a scope.
-fn compare_entry(entry: &Entry, scope: Scope, name: &str) -> Ordering
-    ensures { result ≡ name_cmp (entry_name entry.now) (scoped scope.entry.text.now name.now) }
+/// The order of an entry, whose name stands in a text, and the name in a scope that has this hash.
+fn compare_entry(text: &[u8], entry: &Entry, hash: u32, scope: &str, name: &str) -> Ordering
+    ensures { result ≡ ordering_then (nat_cmp entry.now.hash hash)
+        (slice_cmp nat_cmp (name_at text.now entry.now) (scoped scope.now name.now)) }
 {
-    let order = entry.hash.cmp(&scope.hash_with(name));
-    order.then(compare(entry.name.as_str(), scope.text, name))
+    let order = entry.hash.cmp(&hash);
+    order.then(compare(entry.name(text), scope, name))
 }
 
 /// How many entries come before the name in a scope.
-fn count_before(entries: &[Entry], scope: Scope, name: &str) -> usize
-    requires { IsSortedByKey entry_name name_cmp entries.now }
-    ensures bound { result ≤ length entries.now }
-    ensures point { IsPartitionPoint (λ e. name_cmp (entry_name e)
-        (scoped scope.entry.text.now name.now) ≡ Less)
-        (λ e. name_cmp (entry_name e) (scoped scope.entry.text.now name.now) ≢ Less) entries.now
+fn count_before(names: &Names, scope: Scope, name: &str) -> usize
+    requires { AreInNameOrder names.now }
+    ensures bound { result ≤ length names.now }
+    ensures point { IsPartitionPoint (λ o. name_cmp o.name (scoped scope.entry.text.now name.now)
+        ≡ Less) (λ o. name_cmp o.name (scoped scope.entry.text.now name.now) ≢ Less) names.now
         result }
 {
-    entries.partition_point(
+    let text = names.text;
+    let hash = scope.hash_with(name);
+    names.entries.partition_point(
         |entry: &Entry| -> bool
-            ensures { result ≡ is_lt (name_cmp (entry_name entry.now)
-                (scoped scope.entry.text.now name.entry.now)) }
-        { compare_entry(entry, scope, name).is_lt() },
+            ensures { result ≡ is_lt (ordering_then (nat_cmp entry.now.hash hash)
+                (slice_cmp nat_cmp (name_at text.entry.now entry.now)
+                (scoped scope.entry.text.now name.entry.now))) }
+        { compare_entry(text, entry, hash, scope.text, name).is_lt() },
     )
 }
 
 /// Where the entries of the name in a scope begin.
-pub(crate) fn start_by_halving(entries: &[Entry], scope: Scope, name: &str) -> Option<usize>
-    requires { IsSortedByKey entry_name name_cmp entries.now }
-    ensures { MatchOption result (IsNowhere (map occurrence entries.now)
-        (scoped scope.entry.text.now name.now)) (IsStart (map occurrence entries.now)
-        (scoped scope.entry.text.now name.now)) }
+pub(crate) fn start_by_halving(names: &Names, scope: Scope, name: &str) -> Option<usize>
+    requires { AreInNameOrder names.now }
+    ensures { MatchOption result (IsNowhere names.now (scoped scope.entry.text.now name.now))
+        (IsStart names.now (scoped scope.entry.text.now name.now)) }
 {
-    let start = count_before(entries, scope, name);
-    if start < entries.len() && has_name(&entries[start], scope.text, name) {
+    let start = count_before(names, scope, name);
+    if start < names.len() && names.has_name(start, scope.text, name) {
         Some(start)
     } else {
         None
@@ -56,18 +59,18 @@ pub(crate) fn start_by_halving(entries: &[Entry], scope: Scope, name: &str) -> O
 }
 
 /// How many of the entries have the name in a scope, where none comes before it, by halving.
-pub(crate) fn count_named(entries: &[Entry], scope: &str, name: &str) -> usize
-    requires order { IsSortedByKey entry_name name_cmp entries.now }
-    requires behind { All (λ e. name_cmp (entry_name e) (scoped scope.now name.now) ≢ Less)
-        entries.now }
-    ensures bound { result ≤ length entries.now }
-    ensures point { IsPartitionPoint (λ e. entry_name e ≡ scoped scope.now name.now)
-        (λ e. entry_name e ≢ scoped scope.now name.now) entries.now result }
+pub(crate) fn count_named(names: &Names, scope: &str, name: &str) -> usize
+    requires order { AreInNameOrder names.now }
+    requires behind { All (λ o. name_cmp o.name (scoped scope.now name.now) ≢ Less) names.now }
+    ensures bound { result ≤ length names.now }
+    ensures point { IsPartitionPoint (λ o. o.name ≡ scoped scope.now name.now)
+        (λ o. o.name ≢ scoped scope.now name.now) names.now result }
 {
-    entries.partition_point(
+    let text = names.text;
+    names.entries.partition_point(
         |entry: &Entry| -> bool
-            ensures { result ≡ is_eq (slice_cmp nat_cmp (entry_name entry.now)
+            ensures { result ≡ is_eq (slice_cmp nat_cmp (name_at text.entry.now entry.now)
                 (scoped scope.entry.now name.entry.now)) }
-        { compare(entry.name.as_str(), scope, name).is_eq() },
+        { compare(entry.name(text), scope, name).is_eq() },
     )
 }

@@ -34,7 +34,7 @@ fn without_byte(hash: u32, byte: u8) -> u32
 
 /// The hash of what stands before these bytes, from the hash of all.
 pub(crate) fn hash_before(whole: u32, bytes: &[u8]) -> u32
-    ensures { (front : List ℕ) → whole ≡ hash_of (front ++ bytes.now) → result ≡ hash_of front }
+    ensures { (prefix : List ℕ) → whole ≡ hash_of (prefix ++ bytes.now) → result ≡ hash_of prefix }
 {
     let mut hash = whole;
     let mut end = bytes.len();

@@ -4,7 +4,6 @@ ghost use Rattle.std.specs.Prelude.{◌≡◌, ◌≢◌, ◌↔◌, ℕ, ◌<�
 ghost use Rattle.std.specs.Cmp.Lexicographic.{slice_cmp};
 ghost use Rattle.std.specs.Ordering.{nat_cmp};
 ghost use Rattle.proto_desc.specs.DeclaredNames.{scoped};
-ghost use Rattle.proto_names.specs.Entries.{occurrence};
 ghost use Rattle.proto_names.specs.Index.{AreDeclaredOnce, Indexes, IsRepeated, is_service_kind, services_of};
 ghost use Rattle.proto_names.specs.declared.index.Defined.{Defined};
 ghost use Rattle.proto_names.specs.Occurrences.{Occurrence, IsPackage, occurrences};
@@ -14,7 +13,7 @@ ghost use Rattle.proto_base.specs.declared.limits.Limit.TheVariants as limit;
 ghost use Rattle.proto_base.specs.declared.place.Place.{Place};
 
 use crate::collect::collect;
-use crate::entry::Entry;
+use crate::names::Names;
 use crate::scope::Scope;
 use crate::table::EntryTable;
 use crate::twice::first_twice;
@@ -49,39 +48,38 @@ impl From<AllocError> for NameError {
     }
 }
 
-/// Whether an entry is a service's.
-fn is_service(entry: &Entry) -> bool
-    ensures { result ≡ is_service_kind entry.now.kind }
+/// Whether a name is declared for a service.
+fn is_service(kind: Option<NameKind>) -> bool
+    ensures { result ≡ is_service_kind kind }
 {
-    matches!(entry.kind, Some(NameKind::Service))
+    matches!(kind, Some(NameKind::Service))
 }
 
 /// The names of the services among entries, in the order of these.
-fn listed_services(alloc: Global, entries: &[Entry]) -> Result<Vec<String>, AllocError>
-    ensures { IfOk result (λ names. map string_bytes names.items
-        ≡ services_of (map occurrence entries.now)) }
+fn listed_services(alloc: Global, names: &Names) -> Result<Vec<String>, AllocError>
+    ensures { IfOk result (λ services. map string_bytes services.items ≡ services_of names.now) }
 {
-    let mut names = Vec::new(alloc);
-    for entry in entries {
-        if is_service(entry) {
-            names.push(String::from_str(alloc, entry.name.as_str())?)?;
+    let mut services = Vec::new(alloc);
+    for position in 0..names.len() {
+        if is_service(names.kind(position)) {
+            services.push(names.to_text(alloc, position)?)?;
         }
     }
-    Ok(names)
+    Ok(services)
 }
 
 /// The names of the services among entries, in byte order.
-fn service_names<R>(rt: &R, alloc: Global, entries: &[Entry]) -> Result<Vec<String>, AllocError>
+fn service_names<R>(rt: &R, alloc: Global, names: &Names) -> Result<Vec<String>, AllocError>
 where
     R: Threads + Sync,
-    ensures all { IfOk result (λ names. IsPermutation (services_of (map occurrence entries.now))
-        (map string_bytes names.items)) }
-    ensures order { IfOk result (λ names. IsSorted (slice_cmp nat_cmp)
-        (map string_bytes names.items)) }
+    ensures all { IfOk result (λ services. IsPermutation (services_of names.now)
+        (map string_bytes services.items)) }
+    ensures order { IfOk result (λ services. IsSorted (slice_cmp nat_cmp)
+        (map string_bytes services.items)) }
 {
-    let mut names = listed_services(alloc, entries)?;
-    par_sort(rt, alloc, &mut names)?;
-    Ok(names)
+    let mut services = listed_services(alloc, names)?;
+    par_sort(rt, alloc, &mut services)?;
+    Ok(services)
 }
 
 /// What a full name is declared for, and the file that declares it.
@@ -145,10 +143,10 @@ impl NameIndex {
             return Err(NameError::TooMany);
         };
         entries.sort(rt, alloc)?;
-        if let Some(spot) = first_twice(entries.as_slice()) {
-            return Err(NameError::At(spot.file, spot.place));
+        if let Some(location) = first_twice(&entries.names()) {
+            return Err(NameError::At(location.file, location.place));
         }
-        let services = service_names(rt, alloc, entries.as_slice())?;
+        let services = service_names(rt, alloc, &entries.names())?;
         let entries = EntryTable::new(alloc, entries)?;
         let files = files.len();
         Ok(NameIndex {
@@ -167,9 +165,10 @@ impl NameIndex {
             × (o.kind ≡ Some d.kind) × (o.file ≡ d.file) }
         ensures within { IfSome result (λ d. d.file < self.now.files) }
     {
-        for entry in self.entries.named(Scope::top(), name) {
-            if let Some(kind) = entry.kind {
-                let file = entry.spot.file;
+        let names = self.entries.named(Scope::top(), name);
+        for position in 0..names.len() {
+            if let Some(kind) = names.kind(position) {
+                let file = names.location(position).file;
                 return Some(Defined { kind, file });
             }
         }

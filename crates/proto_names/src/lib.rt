@@ -7,14 +7,16 @@ mod chains;
 mod collect;
 mod entries;
 mod entry;
+mod full_name;
 mod halving;
 mod hashing;
 mod index;
+mod names;
 mod resolve;
 mod scope;
 mod table;
 mod twice;
 
-pub use entries::name_in;
+pub use full_name::name_in;
 pub use index::{Defined, NameError, NameIndex};
 pub use resolve::{ResolveError, Resolved, Want, resolution_is_unique};

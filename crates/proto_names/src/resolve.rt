@@ -1,21 +1,21 @@
 //! What a spelled name means in a scope, as a type.
 
-ghost use Rattle.std.specs.Prelude.{◌≡◌, ◌↔◌, ℕ, ◌<◌, List, Bool, Err, IfOk, IfSome, IsTrue, MatchOption, Contains, map, string_bytes};
+ghost use Rattle.std.specs.Prelude.{◌≡◌, ◌↔◌, ℕ, ◌<◌, List, Bool, Err, IfOk, IsTrue, MatchOption, length, string_bytes};
 ghost use Rattle.proto_desc.specs.DeclaredNames.{scoped};
 ghost use Rattle.proto_desc.specs.declared.name_kind.NameKind.{NameKind};
 ghost use Rattle.proto_desc.specs.declared.name_kind.NameKind.TheVariants as kinds;
 ghost use Rattle.proto_links.specs.Linked.{count_of};
-ghost use Rattle.proto_names.specs.Entries.{occurrence};
 ghost use Rattle.proto_names.specs.Occurrences.{Occurrence};
 ghost use Rattle.proto_names.specs.Resolution.{AreSeenAlike, SeenBy, Decides, IsInnermost, IsSeen, IsType, Resolves, ResolvesNowhere, Visible};
+ghost use Rattle.proto_names.specs.Runs.{at};
 ghost use Rattle.proto_names.specs.Scopes.{IsCandidate};
 ghost use Rattle.proto_names.specs.Steps.{IsMeant, MeansNothing, fits};
 ghost use Rattle.proto_names.specs.declared.resolve.ResolveError.TheVariants as errors;
 ghost use Rattle.proto_names.specs.declared.resolve.Want.TheVariants as wants;
 
-use crate::entries::name_in;
-use crate::entry::Entry;
+use crate::full_name::name_in;
 use crate::index::NameIndex;
+use crate::names::Names;
 use crate::scope::Scope;
 use proto_desc::name_kind::NameKind;
 use proto_links::{FileId, Links};
@@ -91,25 +91,15 @@ impl Role {
     }
 }
 
-/// An entry in a file, found by halving: the entries of one name come in the order of their files.
-fn entry_in(entries: &[Entry], file: FileId) -> Option<&Entry>
-    ensures { IfSome result (λ entry. Contains (map occurrence entries.now)
-        (occurrence entry.now)) }
-{
-    match entries.binary_search_by_key(&file, |entry: &Entry| entry.spot.file) {
-        Ok(at) => Some(&entries[at]),
-        Err(_) => None,
-    }
-}
-
-/// Whether an entry is of a kind that fits, and stands in a file that this one sees.
-fn is_seen(links: &Links, file: FileId, role: Role, entry: &Entry) -> bool
+/// Whether the entry at a position is of a kind that fits, and stands in a file that this one sees.
+fn is_seen(links: &Links, file: FileId, role: Role, names: &Names, position: usize) -> bool
     requires file { file < count_of links.now }
-    requires entry { entry.now.spot.file < count_of links.now }
-    ensures { IsTrue result ↔ (IsTrue (fits role entry.now.kind)
-        × SeenBy links.now file entry.now.spot.file) }
+    requires position { position < length names.now }
+    requires entry { (at names.now position).file < count_of links.now }
+    ensures { IsTrue result ↔ (IsTrue (fits role (at names.now position).kind)
+        × SeenBy links.now file (at names.now position).file) }
 {
-    role.fits(entry.kind) && links.sees(file, entry.spot.file)
+    role.fits(names.kind(position)) && links.sees(file, names.location(position).file)
 }
 
 impl NameIndex {
@@ -120,15 +110,15 @@ impl NameIndex {
         ensures { IsTrue result ↔ Visible self.now.occurrences (SeenBy links.now file) (fits role)
             (scoped scope.entry.text.now name.now) }
     {
-        let entries = self.entries.named(scope, name);
+        let names = self.entries.named(scope, name);
         // A package has an entry in each of its files, and is mostly the file's own.
-        if let Some(entry) = entry_in(entries, file) {
-            if is_seen(links, file, role, entry) {
+        if let Some(position) = names.position_in(file) {
+            if is_seen(links, file, role, &names, position) {
                 return true;
             }
         }
-        for entry in entries {
-            if is_seen(links, file, role, entry) {
+        for position in 0..names.len() {
+            if is_seen(links, file, role, &names, position) {
                 return true;
             }
         }

@@ -3,15 +3,15 @@
 ghost use Rattle.std.specs.Prelude.{◌≡◌, ◌⊎◌, ℕ, ◌<◌, [], ◌∷◌, List, length, MatchOption};
 ghost use Rattle.proto_desc.specs.DeclaredNames.{scoped};
 ghost use Rattle.proto_names.specs.Hashes.{hash_of};
-ghost use Rattle.proto_names.specs.Scopes.{IsCandidate, fronts};
+ghost use Rattle.proto_names.specs.Scopes.{IsCandidate, prefixes};
 
 use crate::hashing::{hash_before, with_byte, with_text};
 
-/// The longest front of a text that a dot follows, if there is a dot.
-pub(crate) fn shorter_front(text: &str) -> Option<&str>
-    ensures { MatchOption result (fronts text.now ≡ text.now ∷ [])
-        (λ front. (fronts text.now ≡ text.now ∷ fronts front.now)
-        × (length front.now < length text.now)) }
+/// The longest prefix of a text that a dot follows, if there is a dot.
+pub(crate) fn shorter_prefix(text: &str) -> Option<&str>
+    ensures { MatchOption result (prefixes text.now ≡ text.now ∷ [])
+        (λ prefix. (prefixes text.now ≡ text.now ∷ prefixes prefix.now)
+        × (length prefix.now < length text.now)) }
 {
     let dot = text.rfind('.')?;
     Some(&text[..dot])

@@ -1,19 +1,17 @@
 //! The entries of an index, in the order of their names, with the chains by which those of one name are found.
 
-ghost use Rattle.std.specs.Prelude.{◌≡◌, ◌≢◌, ◌↔◌, ◌<◌, ◌≤◌, map, length, slice_index_or, All, Contains, IfOk, IsSortedByKey};
+ghost use Rattle.std.specs.Prelude.{◌≡◌, ◌≢◌, ◌↔◌, ◌<◌, ◌≤◌, length, slice_index_or, All, Contains, IfOk};
 ghost use Rattle.std.specs.List.Sorted.{IsPartitionPoint};
 ghost use Rattle.std.specs.declared.cmp.Ordering.TheVariants.{Less};
 ghost use Rattle.proto_desc.specs.DeclaredNames.{scoped};
 ghost use Rattle.proto_names.specs.Chains.{AreChained};
-ghost use Rattle.proto_names.specs.Entries.{entry_name, occurrence};
 ghost use Rattle.proto_names.specs.Order.{AreInNameOrder, name_cmp};
 ghost use Rattle.proto_names.specs.Occurrences.{Occurrence};
-ghost use Rattle.proto_names.specs.declared.entry.Entry.{Entry};
 
 use crate::chains::{Chains, chain_entries};
-use crate::entries::{Entries, has_name};
-use crate::entry::Entry;
+use crate::entries::Entries;
 use crate::halving::count_named;
+use crate::names::Names;
 use crate::scope::Scope;
 use std::alloc::{AllocError, Global};
 use std::marker::Model;
@@ -47,54 +45,52 @@ impl EntryTable {
         requires many { length entries ≤ 1_048_576 }
         ensures { IfOk result (λ table. table ≡ entries) }
     {
-        let chains = chain_entries(alloc, entries.as_slice())?;
+        let chains = chain_entries(alloc, &entries.names())?;
         Ok(EntryTable { entries, chains })
     }
 
     /// The entries of the name in a scope.
-    pub(crate) fn named(&self, scope: Scope, name: &str) -> &[Entry]
-        ensures found { (o : Occurrence) → Contains (map occurrence result.now) o
+    pub(crate) fn named(&self, scope: Scope, name: &str) -> Names<'_>
+        ensures found { (o : Occurrence) → Contains result o
             → Contains self.now o × (o.name ≡ scoped scope.entry.text.now name.now) }
         ensures all { (o : Occurrence) → Contains self.now o
-            → o.name ≡ scoped scope.entry.text.now name.now
-            → Contains (map occurrence result.now) o }
+            → o.name ≡ scoped scope.entry.text.now name.now → Contains result o }
     {
-        entries_named(self.entries.as_slice(), &self.chains, scope, name)
+        entries_named(&self.entries.names(), &self.chains, scope, name)
     }
 }
 
 /// How many of the entries have the name in a scope, where the first has it. Most names have one entry.
-fn run_length(entries: &[Entry], scope: &str, name: &str) -> usize
-    requires order { IsSortedByKey entry_name name_cmp entries.now }
-    requires behind { All (λ e. name_cmp (entry_name e) (scoped scope.now name.now) ≢ Less)
-        entries.now }
-    requires some { 0 < length entries.now }
-    requires first { (d : Entry) → entry_name (slice_index_or entries.now 0 d)
+fn run_length(names: &Names, scope: &str, name: &str) -> usize
+    requires order { AreInNameOrder names.now }
+    requires behind { All (λ o. name_cmp o.name (scoped scope.now name.now) ≢ Less) names.now }
+    requires some { 0 < length names.now }
+    requires first { (d : Occurrence) → (slice_index_or names.now 0 d).name
         ≡ scoped scope.now name.now }
-    ensures bound { result ≤ length entries.now }
-    ensures point { IsPartitionPoint (λ e. entry_name e ≡ scoped scope.now name.now)
-        (λ e. entry_name e ≢ scoped scope.now name.now) entries.now result }
+    ensures bound { result ≤ length names.now }
+    ensures point { IsPartitionPoint (λ o. o.name ≡ scoped scope.now name.now)
+        (λ o. o.name ≢ scoped scope.now name.now) names.now result }
 {
-    if entries.len() > 1 && has_name(&entries[1], scope, name) {
-        count_named(entries, scope, name)
+    if names.len() > 1 && names.has_name(1, scope, name) {
+        count_named(names, scope, name)
     } else {
         1
     }
 }
 
 /// The entries of the name in a scope.
-fn entries_named<'e>(entries: &'e [Entry], chains: &Chains, scope: Scope, name: &str) -> &'e [Entry]
-    requires order { IsSortedByKey entry_name name_cmp entries.now }
-    requires chains { AreChained (map occurrence entries.now) (length entries.now)
-        chains.now.slots.items chains.now.links.items }
-    ensures { (e : Entry) → Contains result.now e
-        ↔ (Contains entries.now e × (entry_name e ≡ scoped scope.entry.text.now name.now)) }
+fn entries_named<'e>(names: &Names<'e>, chains: &Chains, scope: Scope, name: &str) -> Names<'e>
+    requires order { AreInNameOrder names.now }
+    requires chains { AreChained names.now (length names.now) chains.now.slots.items
+        chains.now.links.items }
+    ensures { (o : Occurrence) → Contains result o
+        ↔ (Contains names.now o × (o.name ≡ scoped scope.entry.text.now name.now)) }
 {
-    match chains.start_of(entries, scope, name) {
+    match chains.start_of(names, scope, name) {
         Some(start) => {
-            let behind = &entries[start..];
-            &behind[..run_length(behind, scope.text, name)]
+            let behind = names.skip(start);
+            behind.take(run_length(&behind, scope.text, name))
         }
-        None => &[],
+        None => names.take(0),
     }
 }

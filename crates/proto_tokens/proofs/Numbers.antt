@@ -30,8 +30,8 @@ step_grows base n (d ∷ ds) pos =
     let once : n * 1 ≤ n * base = mul-le-mul_left n pos in
     omega (arith, rest, once)
 
-pub digits_value_front : (base : ℕ) (ds : List ℕ) (i : ℕ) → 0 < base → digits_value base (take i ds) ≤ digits_value base ds
-digits_value_front base ds i pos =
+pub digits_value_prefix : (base : ℕ) (ds : List ℕ) (i : ℕ) → 0 < base → digits_value base (take i ds) ≤ digits_value base ds
+digits_value_prefix base ds i pos =
     let joined : fold (step base) 0 ds ≡ fold (step base) (fold (step base) 0 (take i ds)) (drop i ds) =
     ap (λ (l : List ℕ). fold (step base) 0 l) (sym (take-append-drop i ds)) ∙ fold-append (step base) 0 (take i ds) (drop i ds) in
     omega (arith, joined, step_grows base (fold (step base) 0 (take i ds)) (drop i ds) pos)
@@ -41,7 +41,7 @@ pub too_big_from_step : (base : ℕ) (ds : List ℕ) (i value factor : ℕ) → 
     → 2 ^ 64 ≤ value * factor + digit_value (get_or ds i 0) → 2 ^ 64 ≤ digits_value base ds
 too_big_from_step base ds i value factor pos lt value_is factor_is big =
     let product : value * factor ≡ digits_value base (take i ds) * base = (λ k. value_is k * factor_is k) in
-    omega (arith, digits_value_more base ds i lt, digits_value_front base ds (i + 1) pos, product)
+    omega (arith, digits_value_more base ds i lt, digits_value_prefix base ds (i + 1) pos, product)
 
 pub not_digits : (base : ℕ) (ds : List ℕ) (n : ℕ) → list_all (λ d. is_digit d base) ds ≡ false → Writes base ds n → ⊥
 not_digits base ds n off w = absurd (false≢true (sym off ∙ list_all-from_AllPass (λ d. is_digit d base) ds w.digits_of_base))

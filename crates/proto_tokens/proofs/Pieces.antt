@@ -57,7 +57,7 @@ string_starts s n value is =
     let n_is : n ≡ suc (suc is.3) = omega (arith, is.6) in
     rw (n_is, is.4.begins_so) (omega arith, is.4.quote_is)
 
--- what a front that isn't empty begins with
+-- what a prefix that isn't empty begins with
 first_taken : (s : List ℕ) (n : ℕ) → 0 < length (take n s) → (0 < n) × (0 < length s) × (get_or (take n s) 0 0 ≡ get_or s 0 0)
 first_taken [] zero long = absurd (omega arith)
 first_taken [] (suc n) long = absurd (omega arith)
@@ -65,16 +65,16 @@ first_taken (b ∷ s) zero long = absurd (omega arith)
 first_taken (b ∷ s) (suc n) long = (omega arith, omega arith, refl)
 
 pub starts : (s : List ℕ) (n : ℕ) (piece : Option Lexeme) → IsPiece s n piece → (0 < n) × (0 < length s) × Starts piece (get_or s 0 0)
-starts s n piece is = let front = front_starts s n piece is in let first = first_taken s n front.0 in (first.0, first.1, subst (Starts piece) first.2 front.1)
+starts s n piece is = let prefix = prefix_starts s n piece is in let first = first_taken s n prefix.0 in (first.0, first.1, subst (Starts piece) first.2 prefix.1)
   where
-    front_starts : (s : List ℕ) (n : ℕ) (piece : Option Lexeme) → IsPiece s n piece → (0 < length (take n s)) × Starts piece (get_or (take n s) 0 0)
-    front_starts s n None (inl blanks) = (blanks.0, inl (All-get_or (λ b. is_blank b ≡ true) (take n s) 0 0 blanks.0 blanks.1))
-    front_starts s n None (inr (inl line)) = rw line.1 (omega arith, inr refl)
-    front_starts s n None (inr (inr block)) = rw block.1 (omega arith, inr refl)
-    front_starts s n (Some (identifier name)) is = begins_first is_letter (take n s) is.0.0
-    front_starts s n (Some (number value)) is = begins_first is_ascii_digit (take n s) (numeral_numeric (take n s) value is.0).1
-    front_starts s n (Some (string_literal value)) is = string_starts s n value is
-    front_starts s n (Some (punctuation b)) is = rw is.0 (omega arith, is.1)
+    prefix_starts : (s : List ℕ) (n : ℕ) (piece : Option Lexeme) → IsPiece s n piece → (0 < length (take n s)) × Starts piece (get_or (take n s) 0 0)
+    prefix_starts s n None (inl blanks) = (blanks.0, inl (All-get_or (λ b. is_blank b ≡ true) (take n s) 0 0 blanks.0 blanks.1))
+    prefix_starts s n None (inr (inl line)) = rw line.1 (omega arith, inr refl)
+    prefix_starts s n None (inr (inr block)) = rw block.1 (omega arith, inr refl)
+    prefix_starts s n (Some (identifier name)) is = begins_first is_letter (take n s) is.0.0
+    prefix_starts s n (Some (number value)) is = begins_first is_ascii_digit (take n s) (numeral_numeric (take n s) value is.0).1
+    prefix_starts s n (Some (string_literal value)) is = string_starts s n value is
+    prefix_starts s n (Some (punctuation b)) is = rw is.0 (omega arith, is.1)
 
 -- ---- longest pieces
 

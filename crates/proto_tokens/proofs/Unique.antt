@@ -430,7 +430,7 @@ fault_case_one s m n j k (inr (inr (inr (inr a)))) (inr (inr (inr (inr b)))) = s
 pub piece_fault_one : (s : List ℕ) (m n : ℕ) (j k : Kind) → IsPieceFault s m j → IsPieceFault s n k → (m ≡ n) × (j ≡ k)
 piece_fault_one s m n j k a b = fault_case_one s m n j k (piece_fault_case s m j a) (piece_fault_case s n k b)
 
--- a front of numeric bytes that no such byte follows is the whole run
+-- a prefix of numeric bytes that no such byte follows is the whole run
 whole_run : (s : List ℕ) (k : ℕ) → k ≤ length s → AllPass is_numeric (take k s) → begins is_numeric (drop k s) ≡ false → k ≡ prefix_len is_numeric s
 whole_run s k within all stops =
     let le = run_longest is_numeric s k within all in

@@ -47,7 +47,7 @@ pub record IsLongestPiece (s : List ℕ) (n : ℕ) (piece : Option Lexeme) : Typ
   pub piece_is : IsPiece s n piece
   pub longest : (k : ℕ) (other : Option Lexeme) → n < k → k ≤ length s → IsPiece s k other → ⊥
 
--- a digit begins the text, and each integer literal at its front is followed by a letter, a digit, `_` or `.`
+-- a digit begins the text, and each integer literal at its prefix is followed by a letter, a digit, `_` or `.`
 abbrev pub IsBadNumber : List ℕ → Type 0
 IsBadNumber s = IsTrue (begins is_ascii_digit s)
     × ((k n : ℕ) → k ≤ length s → IsNumeral (take k s) n → IsTrue (begins is_numeric (drop k s)))

@@ -1,6 +1,6 @@
 -- What walks over references find and put, one behind another.
-use Rattle.std.proofs.Common.{◌≡◌, ◌∙◌, sym, ℕ, ◌+◌, ◌<◌, List, [], ◌∷◌, ◌++◌, append_assoc, ap, get_or, length, refl, subst, take}
-use Rattle.std.proofs.lemmas.List.{append-nil, take_more}
+use Rattle.std.proofs.Common.{◌≡◌, ◌≢◌, ◌∙◌, sym, ℕ, ◌+◌, ◌<◌, ◌≤◌, List, [], ◌∷◌, ◌++◌, append_assoc, ap, arith, get_or, get_or-set_other, le_refl, length, refl, set, subst, take, take_all}
+use Rattle.std.proofs.lemmas.List.{append-nil, take_more, take_more_set}
 use Rattle.std.proofs.lemmas.List.Concat.{flat_map-append}
 use Rattle.std.specs.List.{AllZip}
 use Rattle.std.specs.Prelude.{Option, Some, None, flat_map}
@@ -118,3 +118,34 @@ filled_more refs Typed xs ys x y a b c h k =
       puts = λ os seen scope. puts_more os (IsSeen seen) (refs scope) (Typed os (IsSeen seen) scope) xs ys x y a b c (h.puts os seen scope)
           (k.puts os seen scope);
     }
+
+-- ---- what is filled where it is
+
+-- the items behind the next are as they were
+pub rest_next : {X : Type 0} (now before : List X) (k : ℕ) (y : X) → ((j : ℕ) (d : X) → k ≤ j → get_or now j d ≡ get_or before j d)
+    → (j : ℕ) (d : X) → k + 1 ≤ j → get_or (set now k y) j d ≡ get_or before j d
+rest_next now before k y rest j d behind =
+    let other : j ≢ k = omega arith in
+    let later : k ≤ j = omega arith in
+    get_or-set_other now k j y d other ∙ rest j d later
+
+-- one more item of a list, of which those from this one on are as they were
+pub filled_next : {X : Type 0} (refs : List ℕ → X → List Reference) (Typed : List Occurrence → (ℕ → Type 0) → List ℕ → X → X → Type 0)
+    (before now : List X) (k : ℕ) (x y : X) (a b c : List NamedType) → k < length now → x ≡ get_or now k x → length now ≡ length before
+    → ((j : ℕ) (d : X) → k ≤ j → get_or now j d ≡ get_or before j d) → AreFilled refs Typed (take k before) (take k now) a b → IsFilled refs Typed x y b c
+    → AreFilled refs Typed (take (k + 1) before) (take (k + 1) (set now k y)) a c
+filled_next refs Typed before now k x y a b c below at size rest so_far one =
+    let within : k < length before = omega arith in
+    let here : get_or before k x ≡ x = sym (at ∙ rest k x (le_refl k)) in
+    let prefix : take (k + 1) before ≡ take k before ++ x ∷ [] = take_more before k x within ∙ ap (λ z. take k before ++ z ∷ []) here in
+    rw (prefix, take_more_set now k y below) (filled_more refs Typed (take k before) (take k now) x y a b c so_far one)
+
+-- all items of a list
+pub filled_all : {X : Type 0} (refs : List ℕ → X → List Reference) (Typed : List Occurrence → (ℕ → Type 0) → List ℕ → X → X → Type 0)
+    (old before now new : List X) (k : ℕ) (a b : List NamedType) → length before ≤ k → before ≡ old → new ≡ now → length now ≡ length before
+    → AreFilled refs Typed (take k before) (take k now) a b → AreFilled refs Typed old new a b
+filled_all refs Typed old before now new k a b past is made size all =
+    let past_now : length now ≤ k = omega arith in
+    let first : take k before ≡ old = take_all k before past ∙ is in
+    let last : take k now ≡ new = take_all k now past_now ∙ sym made in
+    subst (λ (zs : List _). AreFilled refs Typed zs new a b) first (subst (λ (zs : List _). AreFilled refs Typed (take k before) zs a b) last all)

@@ -1,6 +1,8 @@
 //! The walk over a descriptor that puts types where their names are spelled, one after another.
+//!
+//! Each list is taken as a `Vec`, its items are changed where they are, and it is put back: nothing is copied.
 
-ghost use Rattle.std.specs.Prelude.{List, IfOk};
+ghost use Rattle.std.specs.Prelude.{List};
 ghost use Rattle.proto_desc.specs.declared.options.OptionDesc.{OptionDesc};
 ghost use Rattle.proto_names.specs.declared.resolve.Want.{Want};
 ghost use Rattle.proto_types.specs.References.{references_of_type, references_of_kind, references_of_field, references_by_message, references_of_method, references_of_service, references_in};
@@ -15,174 +17,139 @@ use proto_desc::file::FileDesc;
 use proto_desc::message::MessageDesc;
 use proto_desc::service::{MethodDesc, ServiceDesc};
 use proto_desc::type_name::TypeReference;
-use std::alloc::{AllocError, Global};
+use std::alloc::Global;
 use std::collections::VecDeque;
+use std::mem;
 
-/// The next type, where a name is spelled. (Where there is none, the name stays.)
-fn fill_reference<'s>(
-    reference: TypeReference<'s>,
-    types: &mut VecDeque<NamedType>,
-) -> TypeReference<'s>
+/// Puts the next type where a name is spelled. (Where there is none, the name stays.)
+fn fill_reference<'s>(reference: &mut TypeReference<'s>, types: &mut VecDeque<NamedType>)
     ensures { (want : Want) (options : List OptionDesc)
-        → IsFilled (λ scope. references_of_type scope want options) IsTyped reference.entry result
-        types.old.items types.new.items }
+        → IsFilled (λ scope. references_of_type scope want options) IsTyped reference.old
+        reference.new types.old.items types.new.items }
 {
     match reference {
-        TypeReference::Spelled { text, place } => match types.pop_front() {
-            Some(NamedType { full_name, kind }) => TypeReference::Resolved {
-                full_name: Text::owned(full_name),
-                kind,
-            },
-            None => TypeReference::Spelled { text, place },
+        TypeReference::Spelled { .. } => match types.pop_front() {
+            Some(NamedType { full_name, kind }) => {
+                *reference = TypeReference::Resolved {
+                    full_name: Text::owned(full_name),
+                    kind,
+                };
+            }
+            None => {}
         },
-        TypeReference::Resolved { full_name, kind } => TypeReference::Resolved { full_name, kind },
+        TypeReference::Resolved { .. } => {}
     }
 }
 
-fn fill_kind<'s>(kind: FieldKind<'s>, types: &mut VecDeque<NamedType>) -> FieldKind<'s>
+fn fill_kind<'s>(kind: &mut FieldKind<'s>, types: &mut VecDeque<NamedType>)
     ensures { (options : List OptionDesc)
-        → IsFilled (λ scope. references_of_kind scope options) IsTypedKind kind.entry result
+        → IsFilled (λ scope. references_of_kind scope options) IsTypedKind kind.old kind.new
         types.old.items types.new.items }
 {
     match kind {
-        FieldKind::Scalar(scalar) => FieldKind::Scalar(scalar),
-        FieldKind::Named(reference) => FieldKind::Named(fill_reference(reference, types)),
+        FieldKind::Scalar(_) => {}
+        FieldKind::Named(reference) => fill_reference(reference, types),
     }
 }
 
-fn fill_field<'s>(field: FieldDesc<'s>, types: &mut VecDeque<NamedType>) -> FieldDesc<'s>
-    ensures { IsFilled references_of_field IsTypedField field.entry result types.old.items
+fn fill_field<'s>(field: &mut FieldDesc<'s>, types: &mut VecDeque<NamedType>)
+    ensures { IsFilled references_of_field IsTypedField field.old field.new types.old.items
         types.new.items }
 {
-    FieldDesc {
-        field_type: fill_kind(field.field_type, types),
-        ..field
-    }
+    fill_kind(&mut field.field_type, types);
 }
 
-fn fill_fields<'s>(
-    alloc: Global,
-    fields: Row<FieldDesc<'s>>,
-    types: &mut VecDeque<NamedType>,
-) -> Result<Row<FieldDesc<'s>>, AllocError>
-    ensures { IfOk result (λ filled. AreFilled references_of_field IsTypedField fields.entry filled
-        types.old.items types.new.items) }
+fn fill_fields<'s>(alloc: Global, fields: &mut Row<FieldDesc<'s>>, types: &mut VecDeque<NamedType>)
+    ensures { AreFilled references_of_field IsTypedField fields.old fields.new types.old.items
+        types.new.items }
 {
-    let mut done = Vec::with_capacity(alloc, fields.len())?;
-    for field in fields.into_vec() {
-        let filled = fill_field(field, types);
-        done.push(filled)?;
+    let mut list = mem::replace(fields, Row::new(alloc)).into_vec();
+    for position in 0..list.len() {
+        fill_field(&mut list[position], types);
     }
-    Ok(Row::from_vec(done))
+    let mut filled = Row::from_vec(list);
+    mem::swap(fields, &mut filled);
 }
 
 /// A message, with all within it.
 #[cycle(messages)]
-fn fill_message<'s>(
-    alloc: Global,
-    message: MessageDesc<'s>,
-    types: &mut VecDeque<NamedType>,
-) -> Result<MessageDesc<'s>, AllocError>
-    ensures { IfOk result (λ filled. IsFilled (λ scope m. references_by_message m scope)
-        IsTypedMessage message.entry filled types.old.items types.new.items) }
+fn fill_message<'s>(alloc: Global, message: &mut MessageDesc<'s>, types: &mut VecDeque<NamedType>)
+    ensures { IsFilled (λ scope m. references_by_message m scope) IsTypedMessage message.old
+        message.new types.old.items types.new.items }
 {
-    let fields = fill_fields(alloc, message.fields, types)?;
-    let nested = fill_messages(alloc, message.nested, types)?;
-    Ok(MessageDesc {
-        fields,
-        nested,
-        ..message
-    })
+    fill_fields(alloc, &mut message.fields, types);
+    fill_messages(alloc, &mut message.nested, types);
 }
 
 #[cycle(messages)]
 fn fill_messages<'s>(
     alloc: Global,
-    messages: Row<MessageDesc<'s>>,
+    messages: &mut Row<MessageDesc<'s>>,
     types: &mut VecDeque<NamedType>,
-) -> Result<Row<MessageDesc<'s>>, AllocError>
-    ensures { IfOk result (λ filled. AreFilled (λ scope m. references_by_message m scope)
-        IsTypedMessage messages.entry filled types.old.items types.new.items) }
+)
+    ensures { AreFilled (λ scope m. references_by_message m scope) IsTypedMessage messages.old
+        messages.new types.old.items types.new.items }
 {
-    let mut done = Vec::with_capacity(alloc, messages.len())?;
-    for message in messages.into_vec() {
-        let filled = fill_message(alloc, message, types)?;
-        done.push(filled)?;
+    let mut list = mem::replace(messages, Row::new(alloc)).into_vec();
+    for position in 0..list.len() {
+        fill_message(alloc, &mut list[position], types);
     }
-    Ok(Row::from_vec(done))
+    let mut filled = Row::from_vec(list);
+    mem::swap(messages, &mut filled);
 }
 
-fn fill_method<'s>(method: MethodDesc<'s>, types: &mut VecDeque<NamedType>) -> MethodDesc<'s>
-    ensures { IsFilled references_of_method IsTypedMethod method.entry result types.old.items
+fn fill_method<'s>(method: &mut MethodDesc<'s>, types: &mut VecDeque<NamedType>)
+    ensures { IsFilled references_of_method IsTypedMethod method.old method.new types.old.items
         types.new.items }
 {
-    let input = fill_reference(method.input, types);
-    let output = fill_reference(method.output, types);
-    MethodDesc {
-        input,
-        output,
-        ..method
-    }
+    fill_reference(&mut method.input, types);
+    fill_reference(&mut method.output, types);
 }
 
 fn fill_methods<'s>(
     alloc: Global,
-    methods: Row<MethodDesc<'s>>,
+    methods: &mut Row<MethodDesc<'s>>,
     types: &mut VecDeque<NamedType>,
-) -> Result<Row<MethodDesc<'s>>, AllocError>
-    ensures { IfOk result (λ filled. AreFilled references_of_method IsTypedMethod methods.entry
-        filled types.old.items types.new.items) }
+)
+    ensures { AreFilled references_of_method IsTypedMethod methods.old methods.new
+        types.old.items types.new.items }
 {
-    let mut done = Vec::with_capacity(alloc, methods.len())?;
-    for method in methods.into_vec() {
-        let filled = fill_method(method, types);
-        done.push(filled)?;
+    let mut list = mem::replace(methods, Row::new(alloc)).into_vec();
+    for position in 0..list.len() {
+        fill_method(&mut list[position], types);
     }
-    Ok(Row::from_vec(done))
+    let mut filled = Row::from_vec(list);
+    mem::swap(methods, &mut filled);
 }
 
-fn fill_service<'s>(
-    alloc: Global,
-    service: ServiceDesc<'s>,
-    types: &mut VecDeque<NamedType>,
-) -> Result<ServiceDesc<'s>, AllocError>
-    ensures { IfOk result (λ filled. IsFilled references_of_service IsTypedService service.entry
-        filled types.old.items types.new.items) }
+fn fill_service<'s>(alloc: Global, service: &mut ServiceDesc<'s>, types: &mut VecDeque<NamedType>)
+    ensures { IsFilled references_of_service IsTypedService service.old service.new
+        types.old.items types.new.items }
 {
-    let methods = fill_methods(alloc, service.methods, types)?;
-    Ok(ServiceDesc { methods, ..service })
+    fill_methods(alloc, &mut service.methods, types);
 }
 
 fn fill_services<'s>(
     alloc: Global,
-    services: Row<ServiceDesc<'s>>,
+    services: &mut Row<ServiceDesc<'s>>,
     types: &mut VecDeque<NamedType>,
-) -> Result<Row<ServiceDesc<'s>>, AllocError>
-    ensures { IfOk result (λ filled. AreFilled references_of_service IsTypedService services.entry
-        filled types.old.items types.new.items) }
+)
+    ensures { AreFilled references_of_service IsTypedService services.old services.new
+        types.old.items types.new.items }
 {
-    let mut done = Vec::with_capacity(alloc, services.len())?;
-    for service in services.into_vec() {
-        let filled = fill_service(alloc, service, types)?;
-        done.push(filled)?;
+    let mut list = mem::replace(services, Row::new(alloc)).into_vec();
+    for position in 0..list.len() {
+        fill_service(alloc, &mut list[position], types);
     }
-    Ok(Row::from_vec(done))
+    let mut filled = Row::from_vec(list);
+    mem::swap(services, &mut filled);
 }
 
 /// A file, with a type for each name of a type that it spells.
-pub(crate) fn fill_file<'s>(
-    alloc: Global,
-    file: FileDesc<'s>,
-    types: &mut VecDeque<NamedType>,
-) -> Result<FileDesc<'s>, AllocError>
-    ensures { IfOk result (λ filled. IsFilled references_in IsTypedIn file.entry filled
-        types.old.items types.new.items) }
+pub(crate) fn fill_file<'s>(alloc: Global, file: &mut FileDesc<'s>, types: &mut VecDeque<NamedType>)
+    ensures { IsFilled references_in IsTypedIn file.old file.new types.old.items
+        types.new.items }
 {
-    let messages = fill_messages(alloc, file.messages, types)?;
-    let services = fill_services(alloc, file.services, types)?;
-    Ok(FileDesc {
-        messages,
-        services,
-        ..file
-    })
+    fill_messages(alloc, &mut file.messages, types);
+    fill_services(alloc, &mut file.services, types);
 }

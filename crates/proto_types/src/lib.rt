@@ -10,4 +10,4 @@ mod meaning;
 mod typing;
 
 pub use meaning::NamedType;
-pub use typing::{TypeError, resolve_types, typing_is_unique, with_types};
+pub use typing::{TypeError, fill_types, resolve_types, typing_is_unique};

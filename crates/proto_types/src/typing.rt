@@ -81,20 +81,17 @@ pub fn resolve_types(
     }
 }
 
-/// The file with what its names of types mean in their place, and all else as it was. It fails only for want of memory.
-pub fn with_types<'s>(
-    alloc: Global,
-    desc: FileDesc<'s>,
-    types: Vec<NamedType>,
-) -> Result<FileDesc<'s>, AllocError>
+/// Puts what a file's names of types mean in their place, and leaves all else as it is. It takes no memory.
+pub fn fill_types<'s>(desc: &mut FileDesc<'s>, types: Vec<NamedType>)
     ensures typed { (os : List Occurrence) (seen : ℕ → Bool)
-        → AllZip (Means os (IsSeen seen)) (references desc.entry) types.items
-        → IfOk result (IsTypedFile os (IsSeen seen) desc.entry) }
+        → AllZip (Means os (IsSeen seen)) (references desc.old) types.items
+        → IsTypedFile os (IsSeen seen) desc.old desc.new }
     ensures resolved { (os : List Occurrence) (seen : ℕ → Bool)
-        → AllZip (Means os (IsSeen seen)) (references desc.entry) types.items
-        → IfOk result (λ g. file_resolved g ≡ true) }
+        → AllZip (Means os (IsSeen seen)) (references desc.old) types.items
+        → file_resolved desc.new ≡ true }
 {
-    fill_file(alloc, desc, &mut VecDeque::from(types))
+    let alloc = *types.allocator();
+    fill_file(alloc, desc, &mut VecDeque::from(types));
 }
 
 /// A file with its types resolved is one file: the same occurrences, as far as they are seen, give one, and break the

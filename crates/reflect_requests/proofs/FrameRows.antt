@@ -46,13 +46,13 @@ frame_is rest more size after m z flag n is zero_flag size_is after_is long byte
     ∙ ap (λ l. 0 ∷ l) (append_assoc (take 4 more) (take n after) (drop n after) ∙ ap (λ l. take 4 more ++ l) (take-append-drop n after ∙ after_is)
     ∙ take-append-drop 4 more))
 
-take_front : (xs ys : List ℕ) → take (length xs) (xs ++ ys) ≡ xs
-take_front [] ys = refl
-take_front (x ∷ xs) ys = ap (λ l. x ∷ l) (take_front xs ys)
+take_prefix : (xs ys : List ℕ) → take (length xs) (xs ++ ys) ≡ xs
+take_prefix [] ys = refl
+take_prefix (x ∷ xs) ys = ap (λ l. x ∷ l) (take_prefix xs ys)
 
-drop_front : (xs ys : List ℕ) → drop (length xs) (xs ++ ys) ≡ ys
-drop_front [] ys = refl
-drop_front (x ∷ xs) ys = drop_front xs ys
+drop_prefix : (xs ys : List ℕ) → drop (length xs) (xs ++ ys) ≡ ys
+drop_prefix [] ys = refl
+drop_prefix (x ∷ xs) ys = drop_prefix xs ys
 
 tail_is : (x y : ℕ) (xs ys : List ℕ) → x ∷ xs ≡ y ∷ ys → xs ≡ ys
 tail_is x y xs ys e = cc
@@ -64,7 +64,7 @@ one_frame m n X Y short_m short_n both =
     let cm = cut more m X short_m refl in let cn = cut more n Y short_n is in
     let len : length m ≡ length n = sym cm.size ∙ cn.size in
     let same : m ++ X ≡ n ++ Y = sym cm.back ∙ cn.back in
-    (sym (take_front m X) ∙ (λ i. take (len i) (same i)) ∙ take_front n Y, sym (drop_front m X) ∙ (λ i. drop (len i) (same i)) ∙ drop_front n Y)
+    (sym (take_prefix m X) ∙ (λ i. take (len i) (same i)) ∙ take_prefix n Y, sym (drop_prefix m X) ∙ (λ i. drop (len i) (same i)) ∙ drop_prefix n Y)
 
 module _ (limits : Limits) (small : limit_of limits MessageBytes < 4294967296) where
   unique_from : (k : ℕ) (ms ns : List (List ℕ)) (a b : List ℕ) → All (IsAllowed limits) ms → All (IsAllowed limits) ns → length ms ≤ k → length ns ≤ k

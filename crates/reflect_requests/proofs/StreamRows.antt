@@ -13,8 +13,8 @@ pub row_longer : (body rest after : List ℕ) (xs : List Message) (m : Message) 
     → rest ≡ frame 0 (bytes_of m) ++ after
     → body ≡ flat_map (frame 0) (map bytes_of (xs ++ m ∷ [])) ++ after
 row_longer body rest after xs m is cut =
-    let front = flat_map (frame 0) (map bytes_of xs) in
-    let last : flat_map (frame 0) (map bytes_of (xs ++ m ∷ [])) ≡ front ++ frame 0 (bytes_of m) =
+    let prefix = flat_map (frame 0) (map bytes_of xs) in
+    let last : flat_map (frame 0) (map bytes_of (xs ++ m ∷ [])) ≡ prefix ++ frame 0 (bytes_of m) =
     ap (λ l. flat_map (frame 0) l) (longer xs m) ∙ flat_map-append (frame 0) (map bytes_of xs) (bytes_of m ∷ [])
-    ∙ ap (λ l. front ++ l) (append-nil (frame 0 (bytes_of m))) in
-    is ∙ ap (λ l. front ++ l) cut ∙ sym (append_assoc front (frame 0 (bytes_of m)) after) ∙ ap (λ l. l ++ after) (sym last)
+    ∙ ap (λ l. prefix ++ l) (append-nil (frame 0 (bytes_of m))) in
+    is ∙ ap (λ l. prefix ++ l) cut ∙ sym (append_assoc prefix (frame 0 (bytes_of m)) after) ∙ ap (λ l. l ++ after) (sym last)

@@ -31,7 +31,7 @@ fn first_bytes<I: Read + Drop>(
     most: u32,
 ) -> Result<Vec<u8>, FolderFault>
     ensures bounded { IfOk result (λ bytes. vec_len bytes ≤ most) }
-    ensures front { IfOk result (λ bytes. IfSome (I.remaining input)
+    ensures prefix { IfOk result (λ bytes. IfSome (I.remaining input)
         (λ all. bytes.items ≡ take most all)) }
 {
     // A byte more than the size, so that the end is met without more memory.

@@ -20,10 +20,10 @@ below_eight (eight_bytes t) = lit< tt
 below_eight (delimited s c) = lit< tt
 below_eight (four_bytes t) = lit< tt
 
-split_again : (n : ℕ) (front rest : List ℕ) → length front ≡ n → split_off n (front ++ rest) ≡ Some (front, rest)
-split_again n front rest e =
-    let long : n ≤ length (front ++ rest) = grind (arith, common_steps) in
-    rw (le-ltb (length (front ++ rest)) n long, take_at front rest n e, drop_at front rest n e) refl
+split_again : (n : ℕ) (prefix rest : List ℕ) → length prefix ≡ n → split_off n (prefix ++ rest) ≡ Some (prefix, rest)
+split_again n prefix rest e =
+    let long : n ≤ length (prefix ++ rest) = grind (arith, common_steps) in
+    rw (le-ltb (length (prefix ++ rest)) n long, take_at prefix rest n e, drop_at prefix rest n e) refl
 
 body_again : (b : Body) (n : ℕ) (rest : List ℕ) → IsBody b → body_at (wire_type b) n (body_text b ++ rest) ≡ Some (entry_by n b, rest)
 body_again (varint_body t v) n rest h = rw (varint_again 10 t v rest h.spelled h.short h.fits) refl
@@ -83,7 +83,7 @@ varint_taken n text y h e =
     let taken = varint_takes 10 text x.0 h x.1 in
     let one : BodyTaken 0 n text (Some (n, number x.0.0)) x.0.1 =
     record {
-      body = varint_body taken.front x.0.0;
+      body = varint_body taken.prefix x.0.0;
       kind_is = refl;
       ok = record { spelled = taken.spelled; short = taken.short; fits = taken.fits };
       entry_is = refl;
@@ -114,11 +114,11 @@ delimited_taken n text y h e =
     let z = bound (λ (y : List ℕ × List ℕ). some_read (Some (n, bytes y.0), y.1)) (split_off x.0.0 x.0.1) y x.2 in
     let taken = split_takes x.0.0 x.0.1 z.0 z.1 in
     let one : BodyTaken 2 n text (Some (n, bytes z.0.0)) z.0.1 = record {
-      body = delimited size.front z.0.0;
+      body = delimited size.prefix z.0.0;
       kind_is = refl;
       ok = rw taken.0 (record { spelled = size.spelled; short = size.short; fits = size.fits });
       entry_is = refl;
-      split = size.split ∙ ap (λ xs. size.front ++ xs) taken.1 ∙ sym (append_assoc size.front z.0.0 z.0.1);
+      split = size.split ∙ ap (λ xs. size.prefix ++ xs) taken.1 ∙ sym (append_assoc size.prefix z.0.0 z.0.1);
     } in
     subst (λ (z : Read). BodyTaken 2 n text z.0 z.1) (some_inj (Some (n, bytes z.0.0), z.0.1) y z.2) one
 
@@ -146,7 +146,7 @@ pub record FieldTaken (text : List ℕ) (entry : Option (ℕ × Value)) (rest : 
   pub entry_is : entry_of field ≡ entry
   pub split : text ≡ text_of field ++ rest
 
-pub rest_of_bytes : (front rest : List ℕ) → IsBytes (front ++ rest) → IsBytes rest
+pub rest_of_bytes : (prefix rest : List ℕ) → IsBytes (prefix ++ rest) → IsBytes rest
 rest_of_bytes [] rest h = h
 rest_of_bytes (b ∷ bs) rest h = rest_of_bytes bs rest (rest_bytes b (bs ++ rest) h)
 
@@ -155,7 +155,7 @@ field_made : {t : ℕ} {rest : List ℕ} (text : List ℕ) (y : Read) → Taken 
 field_made {t} {rest} text y tag small some body =
     let whole : (t / 8) * 8 + wire_type body.body ≡ t = rw body.kind_is (omega arith) in
     record {
-      field = record { tag = tag.front; number = t / 8; body = body.body };
+      field = record { tag = tag.prefix; number = t / 8; body = body.body };
       ok = record {
         tag = rw whole (record { spelled = tag.spelled; short = tag.short; fits = tag.fits });
         small = rw whole small;
@@ -163,7 +163,7 @@ field_made {t} {rest} text y tag small some body =
         body = body.ok;
       };
       entry_is = body.entry_is;
-      split = tag.split ∙ ap (λ xs. tag.front ++ xs) body.split ∙ sym (append_assoc tag.front (body_text body.body) y.1);
+      split = tag.split ∙ ap (λ xs. tag.prefix ++ xs) body.split ∙ sym (append_assoc tag.prefix (body_text body.body) y.1);
     }
 
 pub field_takes : (text : List ℕ) (y : Read) → IsBytes text → field_at text ≡ Some y → FieldTaken text y.0 y.1
@@ -176,7 +176,7 @@ field_takes text y h e =
       | inl w ↦ elim (chosen (x.0.0 / 8 == 0) _ _ y w.1) [
         | inl v ↦ absurd (none_some y v.1)
         | inr v ↦ field_made text y tag (ltb-true x.0.0 (2 ^ 32) w.0) (eqb-false (x.0.0 / 8) 0 v.0)
-            (body_takes (x.0.0 % 8) (x.0.0 / 8) x.0.1 y (rest_of_bytes tag.front x.0.1 (subst IsBytes tag.split h)) v.1)
+            (body_takes (x.0.0 % 8) (x.0.0 / 8) x.0.1 y (rest_of_bytes tag.prefix x.0.1 (subst IsBytes tag.split h)) v.1)
       ]
       | inr w ↦ absurd (none_some y w.1)
     ]

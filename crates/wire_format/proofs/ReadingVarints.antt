@@ -11,16 +11,16 @@ IsBytes bs = (i : ℕ) → get_or bs i 0 < 256
 pub rest_bytes : (b : ℕ) (bs : List ℕ) → IsBytes (b ∷ bs) → IsBytes bs
 rest_bytes b bs h i = h (suc i)
 
-spells_more : (b : ℕ) (front : List ℕ) (n high : ℕ) → 128 ≤ b → b < 256 → n + 128 ≡ b + 128 * high → Spells front high → Spells (b ∷ front) n
+spells_more : (b : ℕ) (prefix : List ℕ) (n high : ℕ) → 128 ≤ b → b < 256 → n + 128 ≡ b + 128 * high → Spells prefix high → Spells (b ∷ prefix) n
 spells_more b [] n high h k e s = absurd s
 spells_more b (c ∷ cs) n high h k e s = (h, k, high, e, s)
 
 pub record Taken (k : ℕ) (text : List ℕ) (n : ℕ) (rest : List ℕ) : Type 0 where
-  pub front : List ℕ
-  pub spelled : Spells front n
-  pub short : length front ≤ k
+  pub prefix : List ℕ
+  pub spelled : Spells prefix n
+  pub short : length prefix ≤ k
   pub fits : n < 2 ^ 64
-  pub split : text ≡ front ++ rest
+  pub split : text ≡ prefix ++ rest
 
 pub some_inj : {A : Type 0} (x y : A) → Some x ≡ Some y → x ≡ y
 some_inj x y e = cc
@@ -46,14 +46,14 @@ varint_takes zero text y h e = absurd (none_some y e)
 varint_takes (suc k) [] y h e = absurd (none_some y e)
 varint_takes (suc k) (b ∷ bs) y h e = elim (chosen (nat_lt b 128) (Some (b, bs)) (joined b (varint_within k bs)) y e) [
   | inl w ↦ (let small = ltb-true b 128 w.0 in
-      let one : Taken (suc k) (b ∷ bs) b bs = record { front = b ∷ []; spelled = (small, refl); short = omega arith; fits = omega arith; split = refl } in
+      let one : Taken (suc k) (b ∷ bs) b bs = record { prefix = b ∷ []; spelled = (small, refl); short = omega arith; fits = omega arith; split = refl } in
       subst (λ (z : ℕ × List ℕ). Taken (suc k) (b ∷ bs) z.0 z.1) (some_inj (b, bs) y w.1) one)
   | inr w ↦ (let large = ltb-false b 128 w.0 in
       let x = joined_some b (varint_within k bs) y w.1 in
       let more = varint_takes k bs x.0 (rest_bytes b bs h) x.1 in
       let whole : Taken (suc k) (b ∷ bs) (b - 128 + 128 * x.0.0) x.0.1 = record {
-        front = b ∷ more.front;
-        spelled = spells_more b more.front (b - 128 + 128 * x.0.0) x.0.0 large (h 0) (omega arith) more.spelled;
+        prefix = b ∷ more.prefix;
+        spelled = spells_more b more.prefix (b - 128 + 128 * x.0.0) x.0.0 large (h 0) (omega arith) more.spelled;
         short = omega (arith, more.short);
         fits = x.2;
         split = ap (λ xs. b ∷ xs) more.split;
@@ -64,8 +64,8 @@ varint_takes (suc k) (b ∷ bs) y h e = elim (chosen (nat_lt b 128) (Some (b, bs
 pub none_fit : (n : ℕ) → suc n ≤ 0 → ⊥
 none_fit n h = omega arith
 
-pub varint_again : (k : ℕ) (front : List ℕ) (n : ℕ) (rest : List ℕ) → Spells front n → length front ≤ k → n < 2 ^ 64
-    → varint_within k (front ++ rest) ≡ Some (n, rest)
+pub varint_again : (k : ℕ) (prefix : List ℕ) (n : ℕ) (rest : List ℕ) → Spells prefix n → length prefix ≤ k → n < 2 ^ 64
+    → varint_within k (prefix ++ rest) ≡ Some (n, rest)
 varint_again k [] n rest s h f = absurd s
 varint_again zero (b ∷ bs) n rest s h f = absurd (none_fit (length bs) h)
 varint_again (suc k) (b ∷ []) n rest s h f = rw (lt-ltb b 128 s.0, s.1) refl

@@ -15,10 +15,10 @@ pub enum FieldValue<'a> {
     Delimited(&'a [u8]),
 }
 
-/// Appends a field. Where there is no memory, the front of one may be appended.
+/// Appends a field. Where there is no memory, the prefix of one may be appended.
 fn push_field(out: &mut Vec<u8>, number: u32, value: &FieldValue) -> Result<(), AllocError>
     ensures appended { OnOk result (out.new.items ≡ out.old.items ++ field_bytes number value.now) }
-    ensures front { OnErr result ((front : List ℕ) × (out.new.items ≡ out.old.items ++ front)) }
+    ensures prefix { OnErr result ((prefix : List ℕ) × (out.new.items ≡ out.old.items ++ prefix)) }
     ensures full { OnErr result
         (vec_capacity out.old < vec_len out.old + length (field_bytes number value.now)) }
 {

@@ -5,10 +5,10 @@ ghost use Rattle.wire_format.specs.Varint.{Spells, varint_bytes};
 
 use std::alloc::AllocError;
 
-/// Appends the shortest varint of a number. Where there is no memory, the front of one may be appended.
+/// Appends the shortest varint of a number. Where there is no memory, the prefix of one may be appended.
 pub(crate) fn push_varint(out: &mut Vec<u8>, value: u64) -> Result<(), AllocError>
     ensures appended { OnOk result (out.new.items ≡ out.old.items ++ varint_bytes value) }
-    ensures front { OnErr result ((front : List ℕ) × (out.new.items ≡ out.old.items ++ front)) }
+    ensures prefix { OnErr result ((prefix : List ℕ) × (out.new.items ≡ out.old.items ++ prefix)) }
     ensures capacity { vec_capacity out.old ≤ vec_capacity out.new }
     ensures full { OnErr result
         (vec_capacity out.old < vec_len out.old + length (varint_bytes value)) }

@@ -19,7 +19,7 @@ use proto_desc::file::FileDesc;
 use proto_file::FileError;
 use proto_links::{FileId, Links};
 use proto_names::NameIndex;
-use proto_types::{NamedType, TypeError, resolve_types, with_types};
+use proto_types::{NamedType, TypeError, fill_types, resolve_types};
 use share_work::{Gate, Work};
 use std::alloc::{AllocError, AllocGlobal, Global};
 use std::collections::VecDeque;
@@ -92,28 +92,19 @@ impl<'s> Work<FileDesc<'s>> for Resolving<'_> {
     }
 }
 
-/// The descriptors with their types, of which there is one list for each.
-fn put_types<'s>(
-    alloc: Global,
-    descs: Vec<FileDesc<'s>>,
-    types: Vec<Vec<NamedType>>,
-) -> Result<Vec<FileDesc<'s>>, AllocError>
+/// Puts types into descriptors, of which there is one list for each.
+fn put_types<'s>(descs: &mut Vec<FileDesc<'s>>, types: Vec<Vec<NamedType>>)
     ensures { (links : Linked) (index : Index)
-        → AllZipFrom (AreTypesOf links index) 0 descs.entry.items types.items
-        → IfOk result (λ typed. AllZipFrom (IsTypedWhole links index) 0 descs.entry.items
-        typed.items) }
+        → AllZipFrom (AreTypesOf links index) 0 descs.old.items types.items
+        → AllZipFrom (IsTypedWhole links index) 0 descs.old.items descs.new.items }
 {
     let mut left = VecDeque::from(types);
-    let mut typed = Vec::with_capacity(alloc, descs.len())?;
-    for desc in descs {
-        let own = match left.pop_front() {
-            Some(own) => own,
-            None => Vec::new(alloc),
+    for position in 0..descs.len() {
+        let Some(own) = left.pop_front() else {
+            return;
         };
-        let filled = with_types(alloc, desc, own)?;
-        typed.push(filled)?;
+        fill_types(&mut descs[position], own);
     }
-    Ok(typed)
 }
 
 /// The descriptors with their types resolved.
@@ -122,7 +113,7 @@ pub(crate) fn resolve_all<'s, R, G>(
     files: &[Source],
     links: &Links,
     index: &NameIndex,
-    descs: Vec<FileDesc<'s>>,
+    mut descs: Vec<FileDesc<'s>>,
 ) -> Result<Vec<FileDesc<'s>>, CompileError>
 where
     R: Threads + AllocGlobal + Sync,
@@ -141,6 +132,6 @@ where
     let work = Resolving { links, index };
     let outcomes = workers.each(RESOLVING, descs.as_slice(), &work)?;
     let types = judge(alloc, Pass::Types, files, outcomes)?;
-    let typed = put_types(alloc, descs, types)?;
-    Ok(typed)
+    put_types(&mut descs, types);
+    Ok(descs)
 }

@@ -6,12 +6,12 @@ pub returns-then-ends_with-clause-holds : goal.returns-then-ends_with-clause-hol
 returns-then-ends_with-clause-holds c =
     let same = same_numbers _ _ (sym c.ends_with.ensures.value ∙ c.if-ends_with.true) in
     let items = c.args.items.now.items in
-    let front = c.in-Some.front.now in
-    let there : front ≡ drop (length items - length front) items =
-    subst (λ (xs : List ℕ). front ≡ drop (length xs - length front) xs) c.as_slice.ensures.value same in
+    let prefix = c.in-Some.prefix.now in
+    let there : prefix ≡ drop (length items - length prefix) items =
+    subst (λ (xs : List ℕ). prefix ≡ drop (length xs - length prefix) xs) c.as_slice.ensures.value same in
     let size : c.len.result ≡ length items = c.len.ensures ∙ c.args.items.now.ok.0 in
-    let k_is : length items - length front ≡ c.len.result - length front = ap (λ n. n - length front) (sym size) in
+    let k_is : length items - length prefix ≡ c.len.result - length prefix = ap (λ n. n - length prefix) (sym size) in
     let fits = c.ends_with.ensures.bound c.if-ends_with.true in
     let len : length c.as_slice.result.now ≡ length items = ap length c.as_slice.ensures.value in
-    goes_on items c.push.new.self.items front c.args.list.now c.in-Some.last.now (c.len.result - length front)
-    (subst (λ (n : ℕ). front ≡ drop n items) k_is there) (omega (arith, size, fits, len)) c.in-Some.ensures.cases.0 c.in_ok-push.ensures.items
+    goes_on items c.push.new.self.items prefix c.args.list.now c.in-Some.last.now (c.len.result - length prefix)
+    (subst (λ (n : ℕ). prefix ≡ drop n items) k_is there) (omega (arith, size, fits, len)) c.in-Some.ensures.cases.0 c.in_ok-push.ensures.items

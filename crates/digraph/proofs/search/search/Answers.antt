@@ -37,7 +37,7 @@ loop-next-preserved c =
     c.index-node.ensures ∙ get_or_default c.loop-next.found.items c.loop-next.next c.index-node.result.now 0 inside in
     searching_next (graph_of c.args.graph.now) (length c.args.graph.now) c.args.start c.loop-next.marks c.visit-in-loop-next.new.marks c.loop-next.found.items
     c.visit-in-loop-next.new.marked.items c.row.result.now c.loop-next.next inside (c.row.ensures ∙ ap (successors (graph_of c.args.graph.now)) at)
-    (omega (arith, c.loop-next.invariant.room)) c.in_ok-visit-2.ensures.marked c.in_ok-visit-2.ensures.front c.in_ok-visit-2.ensures.added
+    (omega (arith, c.loop-next.invariant.room)) c.in_ok-visit-2.ensures.marked c.in_ok-visit-2.ensures.prefix c.in_ok-visit-2.ensures.added
     c.loop-next.invariant
 
 pub returns : goal.returns

@@ -25,7 +25,7 @@ first_wrong-first-requires-clause-reaching c =
 pub returns-in-Some : goal.returns-in-Some
 returns-in-Some c =
     let inside : c.loop-file.file < length c.args.files.now = omega arith in
-    first_bad_is c.args.files.now c.loop-file.file c.as_slice.result.now c.first_wrong-first.result c.in-Some.wrong
+    first_bad_is c.args.files.now c.loop-file.file c.as_slice.result.now c.first_wrong-first.result c.in-Some.spot
     (c.as_slice.ensures ∙ sym (imports_is c.args.files.now c.loop-file.file c.index-files-file.result inside)) c.in-Some.is c.first_wrong-first.ensures
     c.loop-file.invariant
 

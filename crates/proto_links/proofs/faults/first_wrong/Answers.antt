@@ -1,7 +1,8 @@
-use Rattle.std.proofs.Common.{◌≡◌, ◌∙◌, sym, ap, subst, suc, ◌+◌, ◌<◌, [], ◌∷◌, ◌++◌, length, take, arith, refl}
+use Rattle.std.proofs.Common.{◌≡◌, ◌∙◌, sym, ap, subst, suc, ◌+◌, ◌<◌, [], ◌∷◌, ◌++◌, length, take, arith}
 use Rattle.std.proofs.Math.Seq.{take-suc}
 use Rattle.proto_desc.specs.declared.file.ImportDesc.{ImportDesc}
-use Rattle.proto_links.specs.Graphs.{IsFirstWrong}
+use Rattle.proto_base.specs.Least.{IsLeast}
+use Rattle.proto_links.specs.Graphs.{IsWrongIn}
 use Rattle.proto_links.proofs.Faulting.{first_more, first_skip}
 use Rattle.proto_links.proofs.Targeting.{whole_prefix}
 use Rattle.proto_links.proofs.faults.first_wrong.Goals as goal
@@ -17,12 +18,12 @@ loop-import-preserved c =
     let step : take (k + 1) imports ≡ take k imports ++ i ∷ [] =
     ap (λ n. take n imports) next ∙ take-suc imports k i inside ∙ ap (λ (x : ImportDesc). take k imports ++ x ∷ []) (sym c.import-item.is) in
     rw step (elim c.match-fault_of.branch [
-      | in-Some w ↦ rw w.first-is (first_more c.args.files.now c.args.file (take k imports) i c.loop-import.first w.in-Some.kind _ w.lesser.result refl
-          w.in-Some.ensures w.lesser.ensures c.loop-import.invariant)
+      | in-Some w ↦ rw w.first-is (first_more c.args.files.now c.args.file (take k imports) i c.loop-import.first w.lesser-first.result w.in-Some.kind
+          w.in-Some.ensures w.lesser-first.ensures c.loop-import.invariant)
       | in_default w ↦ rw w.first-is (first_skip c.args.files.now c.args.file (take k imports) i c.loop-import.first w.in_default.ensures
           c.loop-import.invariant)
     ])
 
 pub returns : goal.returns
-returns c = subst (λ xs. IsFirstWrong c.args.files.now c.args.file xs c.loop-import.first)
+returns c = subst (λ xs. IsLeast (IsWrongIn c.args.files.now c.args.file xs) c.loop-import.first)
     (whole_prefix c.args.imports.now c.loop-import.import-index (omega arith)) c.loop-import.invariant

@@ -1,6 +1,7 @@
 use Rattle.std.proofs.Common.{take}
-use Rattle.proto_links.specs.Graphs.{IsFirstWrong}
+use Rattle.proto_base.specs.Least.{IsLeast}
+use Rattle.proto_links.specs.Graphs.{IsWrongIn}
 use Rattle.proto_links.proofs.faults.first_wrong.Given as goal
 
 abbrev pub invariant-loop-import : goal.invariant-loop-import
-invariant-loop-import l = IsFirstWrong l.files l.file (take l.import-index l.imports) l.first
+invariant-loop-import l = IsLeast (IsWrongIn l.files l.file (take l.import-index l.imports)) l.first

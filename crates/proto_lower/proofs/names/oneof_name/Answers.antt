@@ -8,11 +8,11 @@ use Rattle.proto_lower.proofs.names.oneof_name.Goals as goal
 
 pub returns-clause-value : goal.returns-clause-value
 returns-clause-value c = if_ok c.first_free.result c.first_free.ensures
-    (λ name by_set. found_by_set _ c.in_ok-set.set _ _ _ (string_bytes name) c.in_ok-set.ensures (sym (length-map c.args.taken.now (λ name. name.now)))
-    c.in_ok-start.ensures by_set)
+    (λ name by_set. found_by_set _ c.in_ok-set.set _ _ c.args.field.now (string_bytes name) c.in_ok-set.ensures
+    (sym (length-map c.args.taken.now (λ name. name.now))) c.in_ok-start.ensures by_set)
 
 pub returns-clause-free : goal.returns-clause-free
 returns-clause-free c = if_ok c.first_free.result c.first_free.ensures (λ name by_set.
-    ap (is_among _) (found_by_set _ c.in_ok-set.set _ _ _ (string_bytes name) c.in_ok-set.ensures (sym (length-map c.args.taken.now (λ name. name.now)))
-    c.in_ok-start.ensures by_set)
+    ap (is_among _) (found_by_set _ c.in_ok-set.set _ _ c.args.field.now (string_bytes name) c.in_ok-set.ensures
+    (sym (length-map c.args.taken.now (λ name. name.now))) c.in_ok-start.ensures by_set)
     ∙ free_is_free _ (with_underscore c.args.field.now))

@@ -9,8 +9,8 @@ returns-in-Some c =
     let s = c.args.scope.now in
     let k = c.in-Some.at in
     let found = rw c.in-Some.is at (rfind_char 46 s c.rfind.result c.rfind.ensures.cases (lit< tt)) in
-    let front : c.range.result.now ≡ take k s = grind (arith, common_steps) in
-    rw front (
+    let prefix : c.range.result.now ≡ take k s = grind (arith, common_steps) in
+    rw prefix (
       candidate_before_dot s k found.0 found.1,
       (let below : k < length s = found.0 in grind (arith, common_steps)),
       λ d h. candidates_at_dot s d k found.0 found.2 h,

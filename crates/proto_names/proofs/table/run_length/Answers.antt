@@ -2,20 +2,20 @@ use Rattle.std.proofs.Common.{◌≢◌, ◌∙◌, sym, ap, ◌<◌, length, ge
 use Rattle.std.proofs.lemmas.Bool.{true≢false}
 use Rattle.std.proofs.lemmas.List.{get_or_default}
 use Rattle.proto_desc.specs.DeclaredNames.{scoped}
-use Rattle.proto_names.specs.Entries.{entry_name}
-use Rattle.proto_names.specs.declared.entry.Entry.{Entry}
+use Rattle.proto_names.specs.Index.{name_of}
+use Rattle.proto_names.specs.Occurrences.{Occurrence}
+use Rattle.proto_names.specs.Runs.{blank}
 use Rattle.proto_names.proofs.Searching.{one_point}
 use Rattle.proto_names.proofs.table.run_length.Goals as goal
-use Rattle.proto_names.proofs.table.run_length.Goals.{else-entries-gt1-via-then-entries-gt1+else-has_name, else-entries-gt1-via-else-entries-gt1}
+use Rattle.proto_names.proofs.table.run_length.Goals.{else-len-gt1-via-then-len-gt1+else-has_name, else-len-gt1-via-else-len-gt1}
 
-pub returns-else-entries-gt1-clause-point : goal.returns-else-entries-gt1-clause-point
-returns-else-entries-gt1-clause-point c =
-    let es = c.args.entries.now in
+pub returns-else-len-gt1-clause-point : goal.returns-else-len-gt1-clause-point
+returns-else-len-gt1-clause-point c =
+    let os = c.args.names.now in
     let target = scoped c.args.scope.now c.args.name.now in
-    let other : (d : Entry) → 1 < length es → entry_name (get_or es 1 d) ≢ target = elim c.else-entries-gt1.branch [
-      | else-entries-gt1-via-then-entries-gt1+else-has_name w ↦
-          (λ d h e. true≢false (sym (w.has_name.ensures.1 (ap entry_name (w.index-entries-1.is ∙ get_or_default es 1 w.index-entries-1.result d h) ∙ e))
-          ∙ w.if-has_name.false))
-      | else-entries-gt1-via-else-entries-gt1 w ↦ (λ d h. absurd (omega (arith, h)))
+    let other : (d : Occurrence) → 1 < length os → name_of (get_or os 1 d) ≢ target = elim c.else-len-gt1.branch [
+      | else-len-gt1-via-then-len-gt1+else-has_name w ↦
+          (λ d h e. true≢false (sym (w.has_name.ensures.1 (ap name_of (get_or_default os 1 blank d h) ∙ e)) ∙ w.if-has_name.false))
+      | else-len-gt1-via-else-len-gt1 w ↦ (λ d h. let past = w.if-len-gt1.false in absurd (omega (arith, h, past)))
     ] in
-    one_point es target c.requires.order c.requires.behind c.requires.first other
+    one_point os target c.requires.order c.requires.behind c.requires.first other

@@ -1,11 +1,10 @@
-use Rattle.std.proofs.Common.{◌-◌, ◌<◌, map}
-use Rattle.proto_names.specs.Entries.{occurrence}
+use Rattle.std.proofs.Common.{◌-◌, ◌<◌}
 use Rattle.proto_names.specs.Runs.{IsRun}
 use Rattle.proto_names.proofs.Repeating.{Passed}
 use Rattle.proto_names.proofs.twice.first_twice.Given as goal
 
 abbrev pub invariant-loop-position : goal.invariant-loop-position
 invariant-loop-position l = record {
-  run : 0 < l.position → IsRun (map occurrence l.entries) (l.position - 1) l.position l.run.start l.run.has_element;
-  passed : Passed (map occurrence l.entries) l.position l.first;
+  run : 0 < l.position → IsRun l.names (l.position - 1) l.position l.run.start l.run.has_element;
+  passed : Passed l.names l.position l.first;
 }

@@ -1,8 +1,10 @@
+use Rattle.std.proofs.Common.{take}
 use Rattle.proto_types.specs.References.{references_by_message}
 use Rattle.proto_types.specs.Steps.{AreFilled}
 use Rattle.proto_types.specs.Typed.{IsTypedMessage}
 use Rattle.proto_types.proofs.filling.+messages.Given as goal
 
-abbrev pub invariant-fill_messages-loop-message : goal.invariant-fill_messages-loop-message
-invariant-fill_messages-loop-message l =
-    AreFilled (λ scope m. references_by_message m scope) IsTypedMessage l.yielded l.done.items l.initial.types.items l.types.items
+abbrev pub invariant-fill_messages-loop-position : goal.invariant-fill_messages-loop-position
+invariant-fill_messages-loop-position l = goal.unvisited-fill_messages-loop-position l
+    × AreFilled (λ scope m. references_by_message m scope) IsTypedMessage (take l.position l.initial.list.items) (take l.position l.list.items)
+    l.initial.types.items l.types.items

@@ -7,8 +7,8 @@ use Rattle.proto_types.proofs.filling.fill_field.Goals as goal
 
 pub returns : goal.returns
 returns c =
-    let f = c.args.field in
-    let typed = c.fill_kind.result in
+    let f = c.args.field.now in
+    let typed = c.fill_kind.new.kind in
     record {
       puts = λ os seen scope.
           puts_as os (IsSeen seen) (references_of_field scope f) (IsTypedKind os (IsSeen seen) scope f.field_type typed)

@@ -10,9 +10,9 @@ use Rattle.proto_types.proofs.filling.fill_file.Goals as goal
 
 pub returns : goal.returns
 returns c =
-    let f = c.args.file in
-    let messages = c.in_ok-messages.messages in
-    let services = c.in_ok-services.services in
+    let f = c.args.file.now in
+    let messages = c.fill_messages.new.messages in
+    let services = c.fill_services.new.services in
     record {
       puts = λ os seen scope.
           puts_both os (IsSeen seen) (flat_map (λ m. references_by_message m scope) f.messages) (flat_map (references_of_service scope) f.services)
@@ -28,5 +28,5 @@ returns c =
           }))
           c.args.types.now.items c.fill_messages.new.types.items c.fill_services.new.types.items
           (λ ms ss. record { messages_typed = messages_typed os (IsSeen seen) scope f.messages messages ms; services_typed = ss; same = refl })
-          (c.in_ok-messages.ensures.puts os seen scope) (c.in_ok-services.ensures.puts os seen scope);
+          (c.fill_messages.ensures.puts os seen scope) (c.fill_services.ensures.puts os seen scope);
     }

@@ -10,7 +10,7 @@ use Rattle.proto_types.proofs.filling.fill_kind.Goals as goal
 pub returns-in-Named : goal.returns-in-Named
 returns-in-Named c = λ options.
     let r = c.in-Named.reference in
-    let typed = c.fill_reference.result in
+    let typed = c.fill_reference.new.reference in
     rw c.in-Named.is
     (record {
       puts = λ os seen scope.

@@ -8,10 +8,10 @@ use Rattle.proto_types.proofs.filling.fill_method.Goals as goal
 
 pub returns : goal.returns
 returns c =
-    let m = c.args.method in
-    let input = c.fill_reference-input.result in
-    let output = c.fill_reference-output.result in
-    let after = c.fill_reference-input.new.types.items in
+    let m = c.args.method.now in
+    let input = c.fill_reference.new.reference in
+    let output = c.fill_reference-2.new.reference in
+    let after = c.fill_reference.new.types.items in
     record {
       puts = λ os seen scope.
           puts_both os (IsSeen seen) (references_of_type scope want.MessageOnly [] m.input) (references_of_type scope want.MessageOnly [] m.output)
@@ -25,7 +25,7 @@ returns c =
             client_streaming = m.client_streaming;
             server_streaming = m.server_streaming;
           }))
-          c.args.types.now.items after c.fill_reference-output.new.types.items
+          c.args.types.now.items after c.fill_reference-2.new.types.items
           (λ h k. record { input_typed = h; output_typed = k; same = refl })
-          ((c.fill_reference-input.ensures want.MessageOnly []).puts os seen scope) ((c.fill_reference-output.ensures want.MessageOnly []).puts os seen scope);
+          ((c.fill_reference.ensures want.MessageOnly []).puts os seen scope) ((c.fill_reference-2.ensures want.MessageOnly []).puts os seen scope);
     }

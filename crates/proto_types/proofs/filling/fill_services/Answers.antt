@@ -1,10 +1,23 @@
+use Rattle.std.proofs.Common.{◌∙◌, arith, length-set, rules}
 use Rattle.proto_types.specs.References.{references_of_service}
 use Rattle.proto_types.specs.Typed.{IsTypedService}
-use Rattle.proto_types.proofs.Walking.{filled_more}
+use Rattle.proto_types.proofs.Walking.{filled_all, filled_next, rest_next}
 use Rattle.proto_types.proofs.filling.fill_services.Goals as goal
 
-pub loop-service-preserved : goal.loop-service-preserved
-loop-service-preserved c =
-    rw c.in_ok-push.ensures.items
-    (filled_more references_of_service IsTypedService c.loop-service.yielded c.loop-service.done.items c.in-Some.service c.in_ok-filled.filled
-    c.args.types.now.items c.loop-service.types.items c.fill_service.new.types.items c.loop-service.invariant c.in_ok-filled.ensures)
+pub loop-position-preserved : goal.loop-position-preserved
+loop-position-preserved c =
+    let l = c.loop-position in
+    let before = c.into_vec-list.result.items in
+    let filled = c.fill_service.new.service in (
+      length-set l.list.items l.position filled ∙ l.invariant.0,
+      rest_next l.list.items before l.position filled l.invariant.1,
+      filled_next references_of_service IsTypedService before l.list.items l.position c.index_mut.result.now filled c.args.types.now.items l.types.items
+          c.fill_service.new.types.items (search (rules, arith)) c.index_mut.ensures.value l.invariant.0 l.invariant.1 l.invariant.2 c.fill_service.ensures,
+    )
+
+pub returns : goal.returns
+returns c =
+    let l = c.loop-position in
+    filled_all references_of_service IsTypedService c.args.services.now c.into_vec-list.result.items l.list.items _ l.position c.args.types.now.items
+    l.types.items (search (rules, arith)) (c.into_vec-list.ensures ∙ c.replace.ensures.value) (c.swap.ensures.x_after ∙ c.from_vec-filled.ensures)
+    l.invariant.0 l.invariant.2

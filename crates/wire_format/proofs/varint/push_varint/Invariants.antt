@@ -6,7 +6,7 @@ use Rattle.wire_format.proofs.varint.push_varint.Given as goal
 abbrev pub invariant-loop-rest : goal.invariant-loop-rest
 invariant-loop-rest l = record {
   whole : l.out.items ++ varint_bytes l.rest ≡ l.fn.out.items ++ varint_bytes l.value;
-  front : (front : List ℕ) × (l.out.items ≡ l.fn.out.items ++ front);
+  prefix : (prefix : List ℕ) × (l.out.items ≡ l.fn.out.items ++ prefix);
   capacity : vec_capacity l.fn.out ≤ vec_capacity l.out;
 }
 

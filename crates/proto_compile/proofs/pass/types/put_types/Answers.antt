@@ -1,43 +1,64 @@
-use Rattle.std.proofs.Common.{◌≡◌, arith, subst, length, ◌∷◌, [], ◌++◌, ◌+◌, ◌<◌, get_or, ℕ}
-use Rattle.std.proofs.lemmas.List.{length-append}
-use Rattle.std.proofs.lemmas.Iterator.Adapters.{YieldsList-from_vec}
-use Rattle.std.proofs.lemmas.Iterator.Consumers.{YieldsList-turn}
+use Rattle.std.proofs.Common.{◌≡◌, ◌≢◌, ◌∙◌, ℕ, ◌+◌, ◌<◌, ◌≤◌, List, arith, get_or, get_or-set_other, le_refl, length, length-set, refl, rules, take, take_all}
+use Rattle.std.proofs.lemmas.List.{take_more_set}
 use Rattle.proto_links.specs.Linked.{sees}
+use Rattle.proto_compile.specs.Analysed.{AllZipFrom}
 use Rattle.proto_compile.specs.Outcomes.{AreTypesOf, IsTypedWhole}
-use Rattle.proto_compile.proofs.Judging.{zip_from_end, zip_length}
+use Rattle.proto_compile.proofs.Judging.{zip_from_next, zip_length}
 use Rattle.proto_compile.proofs.Typing.{left_first, left_rest, left_some, types_put}
 use Rattle.proto_compile.proofs.pass.types.put_types.Goals as goal
-use Rattle.proto_compile.proofs.pass.types.put_types.Goals.{in-Some-pop_front, in-None-pop_front}
 
-pub loop-desc-preserved : goal.loop-desc-preserved
-loop-desc-preserved c =
-    let gives = c.into_iter-desc-iterator.ensures.into_iter_gives in
-    let yields = YieldsList-from_vec c.args.descs.items gives.0 (omega (arith, gives.1)) in
-    let turn = YieldsList-turn yields c.loop-desc.yielded c.loop-desc.desc-iterator c.loop-desc.yielded_by c.next.result c.next.new.self c.in-Some.desc
-    c.in-Some.is c.next.ensures.steps in
-    let k = length c.loop-desc.yielded in
+-- all of each, where the first k of them are so related
+zip_whole : {X Y : Type 0} (R : ℕ → X → Y → Type 0) (xs : List X) (ys : List Y) (k : ℕ) → length ys ≡ length xs → length xs ≤ k
+    → AllZipFrom R 0 (take k xs) (take k ys) → AllZipFrom R 0 xs ys
+zip_whole R xs ys k size past all =
+    let past_too : length ys ≤ k = omega (arith, size, past) in
+    rw (take_all k xs past, take_all k ys past_too) at all
+
+pub loop-position-preserved : goal.loop-position-preserved
+loop-position-preserved c =
+    let l = c.loop-position in
+    let k = l.position in
+    let before = c.args.descs.now.items in
+    let now = l.descs.items in
     let types = c.args.types.items in
     let pop = c.pop_front in
+    let own = c.in-Some.own in
+    let desc = c.index_mut.result.now in
+    let filled = c.fill_types.new.desc in
+    let within : k < length now = search (rules, arith) in
+    let below : k < length before = omega (arith, within, l.invariant.size) in
+    let here : desc ≡ get_or before k desc = c.index_mut.ensures.value ∙ l.invariant.unvisited k desc (le_refl k) in
     record {
-      rest = left_rest types k (length (c.loop-desc.yielded ++ c.in-Some.desc ∷ [])) c.loop-desc.left.items pop.new.self.items
-          (length-append c.loop-desc.yielded (c.in-Some.desc ∷ [])) c.loop-desc.invariant.rest pop.ensures.rest;
+      size = length-set now k filled ∙ l.invariant.size;
+      unvisited = λ j d behind.
+          let other : j ≢ k = omega (arith, behind) in
+          let later : k ≤ j = omega (arith, behind) in
+          get_or-set_other now k j filled d other ∙ l.invariant.unvisited j d later;
+      rest = left_rest types k (k + 1) l.left.items pop.new.self.items refl l.invariant.rest pop.ensures.rest;
       made = λ links index all.
-          let size = zip_length (AreTypesOf links index) 0 c.args.descs.items types all in
-          let within : k < length types = omega (arith, size, turn.0) in
-          let own : c.match-pop_front.own ≡ get_or types k c.match-pop_front.own = elim c.match-pop_front.branch [
-            | in-Some-pop_front w ↦ rw w.own-is (left_first types k c.loop-desc.left.items pop.new.self.items pop.result w.in-Some-pop_front.own
-                c.loop-desc.invariant.rest pop.ensures.items w.in-Some-pop_front.is)
-            | in-None-pop_front w ↦ absurd (left_some types k c.loop-desc.left.items pop.new.self.items pop.result c.loop-desc.invariant.rest pop.ensures.items
-                pop.ensures.rest w.in-None-pop_front.is within)
-          ] in
-          let put = types_put links index k c.args.descs.items c.in-Some.desc c.in_ok-filled.filled types c.match-pop_front.own all turn.0 turn.1 own
+          let is : own ≡ get_or types k own =
+          left_first types k l.left.items pop.new.self.items pop.result own l.invariant.rest pop.ensures.items c.in-Some.is in
+          let put = types_put links index k before desc filled types own all below here is
           (λ means. (
-            c.in_ok-filled.ensures.typed index.occurrences (sees links k) means,
-            c.in_ok-filled.ensures.resolved index.occurrences (sees links k) means,
+            c.fill_types.ensures.typed index.occurrences (sees links k) means,
+            c.fill_types.ensures.resolved index.occurrences (sees links k) means,
           )) in
-          let at : k ≡ 0 + k = omega arith in
-          rw c.in_ok-push.ensures.items
-          (zip_from_end (IsTypedWhole links index) 0 c.loop-desc.yielded c.loop-desc.typed.items c.in-Some.desc c.in_ok-filled.filled
-          (c.loop-desc.invariant.made links index all)
-          (subst (λ (n : ℕ). IsTypedWhole links index n c.in-Some.desc c.in_ok-filled.filled) at put));
+          rw (take_more_set now k filled within)
+          (zip_from_next (IsTypedWhole links index) before k desc (take k now) filled below here
+          (l.invariant.made links index all) put);
     }
+
+pub returns : goal.returns
+returns c = λ links index all.
+    let l = c.loop-position in
+    zip_whole (IsTypedWhole links index) c.args.descs.now.items l.descs.items l.position l.invariant.size
+    (search (rules, arith)) (l.invariant.made links index all)
+
+pub returns-in_default : goal.returns-in_default
+returns-in_default c = λ links index all.
+    let l = c.loop-position in
+    let types = c.args.types.items in
+    let size = zip_length (AreTypesOf links index) 0 c.args.descs.now.items types all in
+    let within : l.position < length l.descs.items = search (rules, arith) in
+    absurd (left_some types l.position l.left.items c.pop_front.new.self.items c.pop_front.result l.invariant.rest
+    c.pop_front.ensures.items c.pop_front.ensures.rest (search rules) (omega (arith, within, size, l.invariant.size)))

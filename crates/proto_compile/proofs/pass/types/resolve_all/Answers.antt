@@ -24,7 +24,7 @@ returns-clause-typed g c =
     let given = rw c.as_slice.ensures.value at c.in_ok-outcomes.ensures in
     let each = zip_of_gives (IsResolved links index) 0 descs c.in_ok-outcomes.outcomes.items given in
     let types = all_types links index 0 descs c.in_ok-types.types.items (subst (AllZipFrom (IsResolved links index) 0 descs) c.in_ok-types.ensures.well each) in
-    all_typed links index 0 descs c.in_ok-typed.typed.items (c.in_ok-typed.ensures links index types)
+    all_typed links index 0 descs c.put_types.new.descs.items (c.put_types.ensures links index types)
 
 pub returns-clause-whole : goal.returns-clause-whole
 returns-clause-whole g c =
@@ -34,4 +34,4 @@ returns-clause-whole g c =
     let given = rw c.as_slice.ensures.value at c.in_ok-outcomes.ensures in
     let each = zip_of_gives (IsResolved links index) 0 descs c.in_ok-outcomes.outcomes.items given in
     let types = all_types links index 0 descs c.in_ok-types.types.items (subst (AllZipFrom (IsResolved links index) 0 descs) c.in_ok-types.ensures.well each) in
-    all_whole links index descs c.in_ok-typed.typed.items (c.in_ok-typed.ensures links index types)
+    all_whole links index descs c.put_types.new.descs.items (c.put_types.ensures links index types)

@@ -1,25 +1,35 @@
 use Rattle.std.proofs.Common.{◌≡◌, ◌∙◌, ap, length}
-use Rattle.std.specs.Option.{option_cmp}
-use Rattle.proto_desc.specs.contracts.name_kind.NameKindOrd.TheImpl as kind_order
-use Rattle.std.specs.Ordering.{nat_cmp, ordering_then}
-use Rattle.std.proofs.lemmas.List.Sorted.{IsPermutation-map}
+use Rattle.std.specs.Prelude.{string_bytes}
+use Rattle.std.proofs.lemmas.List.Sorted.{All-permutation, IsPermutation-map}
 use Rattle.std.proofs.lemmas.Result.{on_ok_weaker}
 use Rattle.digraph.proofs.Rows.{written}
-use Rattle.proto_names.specs.Entries.{occurrence}
-use Rattle.proto_names.proofs.Occurring.{sorted_occurrences, finer, on_ok_of}
+use Rattle.proto_names.specs.Entries.{occurrence, IsEntryOf}
+use Rattle.proto_names.proofs.Occurring.{on_ok_of}
+use Rattle.proto_names.proofs.Standing.{sorted_occurrences}
 use Rattle.proto_names.proofs.entries.Entries.sort.Goals as goal
+
+pub invariant_of-self : goal.invariant_of-self
+invariant_of-self g c =
+    let es = c.self.inside.entries in
+    let new = c.sort_entries.new.entries in
+    let len : length new ≡ length es.items = c.sort_entries.ensures.len ∙ ap length c.deref_mut.ensures.value in
+    rw (written new es.items es.len es.ok.0 len)
+    (All-permutation (IsEntryOf (string_bytes c.self.inside.text)) es.items new (rw c.deref_mut.ensures.value at c.sort_entries.ensures.all) c.self.invariant)
 
 pub returns-clause-all : goal.returns-clause-all
 returns-clause-all g c =
-    let len : length c.par_sort.new.s ≡ length c.self.inside.entries.items = c.par_sort.ensures.len ∙ ap length c.deref_mut.ensures.value in
-    let same = written c.par_sort.new.s c.self.inside.entries.items c.self.inside.entries.len c.self.inside.entries.ok.0 len in
-    rw (← c.self.view_is, same) (on_ok_of c.par_sort.result
-    (IsPermutation-map occurrence c.self.inside.entries.items c.par_sort.new.s (rw c.deref_mut.ensures.value at c.par_sort.ensures.permutation)))
+    let es = c.self.inside.entries in
+    let new = c.sort_entries.new.entries in
+    let len : length new ≡ length es.items = c.sort_entries.ensures.len ∙ ap length c.deref_mut.ensures.value in
+    rw (← c.self.view_is, written new es.items es.len es.ok.0 len) (on_ok_of c.sort_entries.result
+    (IsPermutation-map (occurrence (string_bytes c.self.inside.text)) es.items new (rw c.deref_mut.ensures.value at c.sort_entries.ensures.all)))
 
 pub returns-clause-order : goal.returns-clause-order
 returns-clause-order g c =
-    let len : length c.par_sort.new.s ≡ length c.self.inside.entries.items = c.par_sort.ensures.len ∙ ap length c.deref_mut.ensures.value in
-    let same = written c.par_sort.new.s c.self.inside.entries.items c.self.inside.entries.len c.self.inside.entries.ok.0 len in
-    on_ok_weaker c.par_sort.result (λ up. rw same (sorted_occurrences _ c.par_sort.new.s
-    (λ a b. finer a b (ordering_then (nat_cmp a.spot.file b.spot.file) (nat_cmp a.spot.place.offset b.spot.place.offset))
-    (option_cmp (kind_order.cmp-value).it a.kind b.kind)) up)) c.par_sort.ensures.sorted
+    let es = c.self.inside.entries in
+    let new = c.sort_entries.new.entries in
+    let text = string_bytes c.self.inside.text in
+    let len : length new ≡ length es.items = c.sort_entries.ensures.len ∙ ap length c.deref_mut.ensures.value in
+    let of = All-permutation (IsEntryOf text) es.items new (rw c.deref_mut.ensures.value at c.sort_entries.ensures.all) c.self.invariant in
+    on_ok_weaker c.sort_entries.result (λ up. rw (written new es.items es.len es.ok.0 len)
+    (sorted_occurrences text new of (rw c.as_bytes.ensures.value at up))) c.sort_entries.ensures.order

@@ -12,14 +12,14 @@ returns-in-Some-first_twice-clause-twice g c file place e =
     let collected = rw c.in-Some.is at c.in_ok-entries.ensures.all in
     let within = rw c.in-Some.is at c.in_ok-entries.ensures.within in
     let all = rw collected at c.in_ok-sort.ensures.all in
-    let first = rw c.as_slice.ensures at c.in-Some-first_twice.ensures in
-    let same_file : c.in-Some-first_twice.spot.file ≡ file = cc in
-    let same_place : c.in-Some-first_twice.spot.place ≡ place = cc in
+    let first = rw c.names.ensures at c.in-Some-first_twice.ensures in
+    let same_file : c.in-Some-first_twice.location.file ≡ file = cc in
+    let same_place : c.in-Some-first_twice.location.place ≡ place = cc in
     record {
       within = rw (collected, c.get.ensures.value) at within;
       twice =
-          rw (← same_file, ← same_place) (first_moved (occurrences c.args.files.now) c.sort.new.self c.in-Some-first_twice.spot.file
-          c.in-Some-first_twice.spot.place all first);
+          rw (← same_file, ← same_place) (first_moved (occurrences c.args.files.now) c.sort.new.self c.in-Some-first_twice.location.file
+          c.in-Some-first_twice.location.place all first);
     }
 
 pub new-requires-clause-order : goal.new-requires-clause-order
@@ -38,12 +38,12 @@ invariant_of-result g c =
     let kept = sym c.in_ok-entries-2.ensures in
     let all = subst (IsPermutation (occurrences c.args.files.now)) kept (rw collected at c.in_ok-sort.ensures.all) in
     let within = rw c.in-Some.is at c.in_ok-entries.ensures.within in
-    let none = rw c.as_slice.ensures at (not_some _ c.first_twice.result c.in_default-first_twice.not-Some c.first_twice.ensures) in (
+    let none = rw c.names.ensures at (not_some _ c.first_twice.result c.in_default-first_twice.not-Some c.first_twice.ensures) in (
       record {
         inside = below_files c.args.files.now c.in_ok-entries-2.entries all;
         order = c.in_ok-services.ensures.order;
         services = subst (λ (os : List Occurrence). IsPermutation (services_of os) (map string_bytes c.in_ok-services.services.items))
-            (c.as_slice-2.ensures ∙ kept) c.in_ok-services.ensures.all;
+            (c.names-2.ensures ∙ kept) c.in_ok-services.ensures.all;
       },
       (
         c.args.files.now,
@@ -57,7 +57,7 @@ invariant_of-result g c =
             inside = below_files c.args.files.now c.in_ok-entries-2.entries all;
             order = c.in_ok-services.ensures.order;
             services = subst (λ (os : List Occurrence). IsPermutation (services_of os) (map string_bytes c.in_ok-services.services.items))
-                (c.as_slice-2.ensures ∙ kept) c.in_ok-services.ensures.all;
+                (c.names-2.ensures ∙ kept) c.in_ok-services.ensures.all;
           };
         },
       ),
@@ -70,7 +70,7 @@ returns-clause-indexed g c =
     let all = rw collected at c.in_ok-sort.ensures.all in
     let kept = sym c.in_ok-entries-2.ensures in
     let moved = subst (IsPermutation (occurrences c.args.files.now)) kept all in
-    let none = rw c.as_slice.ensures at (not_some _ c.first_twice.result c.in_default-first_twice.not-Some c.first_twice.ensures) in
+    let none = rw c.names.ensures at (not_some _ c.first_twice.result c.in_default-first_twice.not-Some c.first_twice.ensures) in
     record {
       files = refl;
       within = rw (collected, c.get.ensures.value) at within;
@@ -80,6 +80,6 @@ returns-clause-indexed g c =
         inside = below_files c.args.files.now c.in_ok-entries-2.entries moved;
         order = c.in_ok-services.ensures.order;
         services = subst (λ (os : List Occurrence). IsPermutation (services_of os) (map string_bytes c.in_ok-services.services.items))
-            (c.as_slice-2.ensures ∙ kept) c.in_ok-services.ensures.all;
+            (c.names-2.ensures ∙ kept) c.in_ok-services.ensures.all;
       };
     }

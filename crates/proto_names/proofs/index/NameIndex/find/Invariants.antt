@@ -1,7 +1,7 @@
-use Rattle.std.proofs.Common.{◌≡◌, ℕ, ◌<◌, length, get_or}
+use Rattle.std.proofs.Common.{◌≡◌, ℕ, ◌<◌, length}
 use Rattle.std.specs.Prelude.{None}
-use Rattle.proto_names.specs.declared.entry.Entry.{Entry}
+use Rattle.proto_names.specs.Runs.{at}
 use Rattle.proto_names.proofs.index.NameIndex.find.Given as goal
 
-abbrev pub invariant-loop-entry : goal.invariant-loop-entry
-invariant-loop-entry l = (k : ℕ) (d : Entry) → k < l.entry-index → k < length l.entry-items → (get_or l.entry-items k d).kind ≡ None
+abbrev pub invariant-loop-position : goal.invariant-loop-position
+invariant-loop-position l = (k : ℕ) → k < l.position → k < length l.names → (at l.names k).kind ≡ None

@@ -1,7 +1,7 @@
 use Rattle.std.proofs.Common.{arith}
 use Rattle.std.proofs.lemmas.Grind.{common_steps}
 use Rattle.proto_names.proofs.Comparing.{short, long_equal, long_unequal}
-use Rattle.proto_names.proofs.entries.compare.Goals as goal
+use Rattle.proto_names.proofs.full_name.compare.Goals as goal
 
 pub returns-then-full-scope : goal.returns-then-full-scope
 returns-then-full-scope c = grind (arith, common_steps, short c.args.full.now c.args.scope.now c.args.name.now)

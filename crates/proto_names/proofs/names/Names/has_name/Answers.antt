@@ -4,12 +4,12 @@ use Rattle.std.proofs.lemmas.Map.Lookups.{exact_bytes}
 use Rattle.proto_desc.specs.DeclaredNames.{scoped}
 use Rattle.proto_links.proofs.NameRows.{equal_itself}
 use Rattle.proto_names.proofs.Searching.{eq_equal}
-use Rattle.proto_names.proofs.entries.has_name.Goals as goal
+use Rattle.proto_names.proofs.names.Names.has_name.Goals as goal
 
 pub returns : goal.returns
 returns c =
-    let text = c.as_str.result.now in
+    let text = c.name.result.now in
     let target = scoped c.args.scope.now c.args.name.now in (
-      λ t. sym c.as_str.ensures.value ∙ exact_bytes text target (sym c.compare.ensures ∙ eq_equal c.compare.result (sym c.is_eq.ensures ∙ t)),
-      λ e. c.is_eq.ensures ∙ ap is_eq (c.compare.ensures ∙ equal_itself text target (c.as_str.ensures.value ∙ e)),
+      λ t. sym c.name.ensures ∙ exact_bytes text target (sym c.compare.ensures ∙ eq_equal c.compare.result (sym c.is_eq.ensures ∙ t)),
+      λ e. c.is_eq.ensures ∙ ap is_eq (c.compare.ensures ∙ equal_itself text target (c.name.ensures ∙ e)),
     )

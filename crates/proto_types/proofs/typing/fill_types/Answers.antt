@@ -1,0 +1,19 @@
+use Rattle.std.proofs.Common.{◌∙◌, [], sym}
+use Rattle.std.proofs.lemmas.List.{append-nil}
+use Rattle.proto_desc.specs.DeclaredNames.{file_scope}
+use Rattle.proto_names.specs.Resolution.{IsSeen}
+use Rattle.proto_types.proofs.Trees.{typed_resolved}
+use Rattle.proto_types.proofs.typing.fill_types.Goals as goal
+
+pub returns-clause-typed : goal.returns-clause-typed
+returns-clause-typed c = λ os seen means.
+    let types = c.args.types.items in
+    (c.fill_file.ensures.puts os seen (file_scope c.args.desc.now.«package») types [] means (c.from.ensures.0 ∙ sym (append-nil types))).1
+
+pub returns-clause-resolved : goal.returns-clause-resolved
+returns-clause-resolved c = λ os seen means.
+    let f = c.args.desc.now in
+    let types = c.args.types.items in
+    let scope = file_scope f.«package» in
+    typed_resolved os (IsSeen seen) scope f c.fill_file.new.file
+    ((c.fill_file.ensures.puts os seen scope types [] means (c.from.ensures.0 ∙ sym (append-nil types))).1)
