@@ -7,15 +7,21 @@ LC_ALL=C
 program=${SCHEMA_SERVER:-crates/schema_server/out/schema_server}
 [ -n "${SCHEMA_SERVER:-}" ] || ./schema_server --help >/dev/null || exit 1
 
-# start WORDS..: starts the service at a free port and waits for its line; sets `server`, `port` and `url`.
+# Whether the service has said that it listens.
+listens() {
+    grep -q '^listening on 127\.0\.0\.1:[0-9]*$' "$folder/line"
+}
+
+# start WORDS..: starts the service at a free port and waits for its line, behind which it may have ended; sets `server`, `port`
+# and `url`.
 start() {
     : >"$folder/line"
     "$program" serve --listen 127.0.0.1:0 "$@" >"$folder/line" 2>"$folder/faults" &
     server=$!
     local turn=0
-    until grep -q '^listening on 127\.0\.0\.1:[0-9]*$' "$folder/line"; do
+    until listens; do
         turn=$((turn + 1))
-        if [ "$turn" = 200 ] || ! kill -0 "$server" 2>/dev/null; then
+        if [ "$turn" = 200 ] || { ! kill -0 "$server" 2>/dev/null && ! listens; }; then
             echo "the service was not started: $(cat "$folder/line" "$folder/faults")"
             exit 1
         fi
