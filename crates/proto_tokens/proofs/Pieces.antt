@@ -65,7 +65,10 @@ first_taken (b ∷ s) zero long = absurd (omega arith)
 first_taken (b ∷ s) (suc n) long = (omega arith, omega arith, refl)
 
 pub starts : (s : List ℕ) (n : ℕ) (piece : Option Lexeme) → IsPiece s n piece → (0 < n) × (0 < length s) × Starts piece (get_or s 0 0)
-starts s n piece is = let prefix = prefix_starts s n piece is in let first = first_taken s n prefix.0 in (first.0, first.1, subst (Starts piece) first.2 prefix.1)
+starts s n piece is =
+    let prefix = prefix_starts s n piece is in
+    let first = first_taken s n prefix.0 in
+    (first.0, first.1, subst (Starts piece) first.2 prefix.1)
   where
     prefix_starts : (s : List ℕ) (n : ℕ) (piece : Option Lexeme) → IsPiece s n piece → (0 < length (take n s)) × Starts piece (get_or (take n s) 0 0)
     prefix_starts s n None (inl blanks) = (blanks.0, inl (All-get_or (λ b. is_blank b ≡ true) (take n s) 0 0 blanks.0 blanks.1))

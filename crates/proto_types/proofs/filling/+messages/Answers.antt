@@ -45,5 +45,5 @@ pub fill_messages-returns : goal.fill_messages-returns
 fill_messages-returns t c =
     let l = c.loop-position in
     filled_all (λ scope m. references_by_message m scope) IsTypedMessage c.args.messages.now c.into_vec-list.result.items l.list.items _ l.position
-    c.args.types.now.items l.types.items (search (rules, arith)) (c.into_vec-list.ensures ∙ c.replace.ensures.value) (c.swap.ensures.x_after ∙ c.from_vec-filled.ensures)
-    l.invariant.0.0 l.invariant.1
+    c.args.types.now.items l.types.items (search (rules, arith)) (c.into_vec-list.ensures ∙ c.replace.ensures.value)
+    (c.swap.ensures.x_after ∙ c.from_vec-filled.ensures) l.invariant.0.0 l.invariant.1
