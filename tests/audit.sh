@@ -121,7 +121,7 @@ done <"$folder/tests"
 # The clause that is read aloud.
 squeezed() { tr -s ' \n' ' '; }
 clause=$(sed -n '/^ensures /,/^```/p' "$page" | grep -v '^```' | squeezed)
-{ [ -n "$clause" ] && squeezed <crates/schema_program/src/headline.rt | grep -qF -e "$clause"; } \
+{ [ -n "$clause" ] && squeezed <crates/schema_headline/src/headline.rt | grep -qF -e "$clause"; } \
     || fail 'the clause does not stand in headline.rt'
 
 # The examples: each block that begins with `file: ` is, up to its empty line, the edit that is named above it.

@@ -48,7 +48,9 @@ impl Work<u32> for Posting<'_> {
 
 impl Posting<'_> {
     fn post_all(&self, seat: &mut LeastSeat, item: u32)
-        requires { (seat.old.table ≡ self.now.table.now.table) × (self.now.table.now.count ≡ self.now.words) × (0 < self.now.words) }
+        requires table { seat.old.table ≡ self.now.table.now.table }
+        requires count { self.now.table.now.count ≡ self.now.words }
+        requires words { 0 < self.now.words }
         ensures { (seat.new.table ≡ seat.old.table) × (seat.new.view.parts ≡ seat.old.view.parts) }
     {
         let mut word = 0;

@@ -24,8 +24,8 @@ RepeatCarriesRoots = (reach : ℕ → List ℕ) (roots : List (Option ℕ)) → 
     → slice_get (carried Repeat reach roots) i ≡ Some files
     → IsTrue (has g files) ↔ ((root ≡ Some g) ⊎ (first_reach reach roots g ≡ i))
 
--- where each position is posted at exactly the files that its root reaches, the least number at a file is the position of the
--- first root that reaches it
+-- where each position is posted at exactly the files that its root reaches, the least number at a file is the position
+-- of the first root that reaches it
 abbrev pub LeastIsFirst : Type 0
 LeastIsFirst = (reach : ℕ → List ℕ) (roots : List (Option ℕ)) → length roots ≤ NONE
     → (pairs : List (ℕ × ℕ)) → ((g n : ℕ) → IsTrue (posted g n pairs) ↔ RootReaches reach roots g n)

@@ -3,7 +3,7 @@ use Rattle.std.specs.Prelude.{◌≡◌, ℕ, ◌==◌, ◌||◌, ◌&&◌, not,
 use Rattle.first_reach.specs.declared.mode.Mode.{Mode}
 use Rattle.first_reach.specs.Carried.{has, root_first, repeats}
 
--- what the reply at position i carries: of what its root reaches, all of which i is the first position, and what it repeats
+-- what the reply at position i carries: of what its root reaches, all whose first position is i, and what it repeats
 abbrev pub reply_at : Mode → (ℕ → List ℕ) → List ℕ → ℕ → Option ℕ → List ℕ
 reply_at mode reach first i root =
     filter (λ g. repeats mode root g || (slice_index first g == i)) (root_first reach root)

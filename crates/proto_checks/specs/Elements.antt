@@ -83,7 +83,7 @@ ItemBreaks i x =
 -- the statements of the messages that a statement holds, at each depth: one list for each message
 abbrev mutual
   pub bodies_of : MessageItem → List (List MessageItem)
-  bodies_of (message_item.Message' boxed (more_of-Message keyword name open_brace shape is close_brace end_of-Message)) =
+  bodies_of (message_item.Message' boxed (more_of-Message keyword name opening shape is closing last)) =
       items-the_row-MessageItem _ is ∷ bodies_row is
   bodies_of (message_item.Map m) = []
   bodies_of (message_item.Field f) = []

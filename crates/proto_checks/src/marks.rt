@@ -3,7 +3,8 @@
 use proto_base::Place;
 use std::marker::Model;
 
-/// A number, with the place at which it is at fault. Those of an enum are counted from -2^64 on, so that all are numbers without a sign.
+/// A number, with the place at which it is at fault. Those of an enum are counted from -2^64 on, so that all are numbers
+/// without a sign.
 #[derive(Clone, Copy, PartialEq, Eq)]
 pub struct MarkedNumber {
     pub number: u128,

@@ -1,4 +1,5 @@
-//! Rules on the names of fields and of enum values: that JSON names differ, and that no reserved name is in use (language guide, "JSON Mapping", "Reserved Fields").
+//! Rules on the names of fields and of enum values: that JSON names differ, and that no reserved name is in use (language
+//! guide, "JSON Mapping", "Reserved Fields").
 
 ghost use Rattle.std.specs.Prelude.{◌≡◌, IfOk, map, flat_map};
 ghost use Rattle.proto_base.specs.declared.kind.Kind.TheVariants as kind;

@@ -1,4 +1,5 @@
-//! The first rule that the numbers of a message's fields or of an enum's values break, or what is reserved there (language guide, "Assigning Field Numbers", "Reserved Fields", "Enumerations", "Reserved Values").
+//! The first rule that the numbers of a message's fields or of an enum's values break, or what is reserved there (language
+//! guide, "Assigning Field Numbers", "Reserved Fields", "Enumerations", "Reserved Values").
 
 ghost use Rattle.std.specs.Prelude.{IfOk, flat_map};
 ghost use Rattle.proto_lower.specs.Options.{enum_setting, first_setting};

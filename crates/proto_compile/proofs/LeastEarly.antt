@@ -223,7 +223,7 @@ pub record HasImport (limits : Limits) (sources : List Source) (x : Told) : Type
 pub names_before : (limits : Limits) (sources files : List Source) (descs : List FileDesc) (a b : ℕ) → Describe limits sources files descs → a < b
     → b < length descs → slice_cmp nat_cmp (imports.name_at descs a) (imports.name_at descs b) ≡ Less
 names_before limits sources files descs a b described less h =
-    before_in_order (imports.name_at descs) (length descs) a b (descs_in_order limits sources files descs described.by_name described.each) less h
+    before_in_order (imports.name_at descs) (length descs) a b (descs_in_order limits files descs described.by_name.rises described.each) less h
 
 -- faults of two files, by the order of the files
 pub later_by_file : (limits : Limits) (sources files : List Source) (descs : List FileDesc) (pass a b : ℕ) (p q : Place) (k l : Kind)

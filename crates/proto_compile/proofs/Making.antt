@@ -13,28 +13,25 @@ use Rattle.proto_base.specs.declared.limits.Limit.TheVariants as limit
 use Rattle.proto_base.specs.declared.limits.Limits.{Limits}
 use Rattle.wire_bytes.specs.Descriptor.{file_desc_bytes}
 use Rattle.proto_compile.specs.Analysed.{AreResolved, AreTypedFrom, TypesAt}
-use Rattle.proto_compile.specs.Compilation.{Compilation, CompiledFile, IsShort, IsSound, IsWritten, file_bytes, file_name, set_of}
+use Rattle.proto_compile.specs.Compilation.{CompiledFile, IsShort, IsSound, IsWritten, file_bytes, file_name, set_of}
 use Rattle.proto_compile.specs.Descriptions.{SourceDescribes}
 use Rattle.proto_compile.specs.Sources.{AreByName, name_of}
-use Rattle.proto_compile.specs.Steps.{items_of}
+use Rattle.proto_compile.specs.Steps.{compilation, items_of}
 use Rattle.proto_compile.specs.declared.source.Source.{Source}
 use Rattle.proto_compile.proofs.Judging.{zip_length}
 use Rattle.proto_compile.proofs.Rising.{named_once}
 use Rattle.proto_compile.proofs.Serving.{index_few, index_short}
 use Rattle.proto_compile.proofs.Zipping.{same_length}
 
-abbrev pub compilation : Limits → List CompiledFile → Linked → Index → Compilation
-compilation limits files links index = record { files = files; links = links; index = index; limits = limits }
-
 -- what the passes up to types find, where each of them takes what the one before gave
-pub resolved_of : {limits : Limits} {sources sorted files : List Source} {descs links_descs index_descs typed : List FileDesc} {links : Linked} {index : Index}
-    → length sources ≤ limit_of limits limit.Files → AreByName sources sorted → files ≡ sorted → AllZip (SourceDescribes limits) files descs
-    → links_descs ≡ descs → AreLinked links_descs links → index_descs ≡ descs → Indexes index_descs limits index → AreTypedFrom links index 0 descs typed
-    → AreResolved limits sources sorted typed links index
-resolved_of {limits = limits} {descs = descs} {links = links} {index = index} few order same_files each same_links linked same_index indexed typed = record {
+pub resolved_of : {limits : Limits} {sources files : List Source} {descs links_descs index_descs typed : List FileDesc} {links : Linked} {index : Index}
+    → length sources ≤ limit_of limits limit.Files → AreByName sources files → AllZip (SourceDescribes limits) files descs → links_descs ≡ descs
+    → AreLinked links_descs links → index_descs ≡ descs → Indexes index_descs limits index → AreTypedFrom links index 0 descs typed
+    → AreResolved limits sources files typed links index
+resolved_of {limits = limits} {descs = descs} {links = links} {index = index} few order each same_links linked same_index indexed typed = record {
   descs = descs;
   analysed = record {
-    described = record { few = few; by_name = order; each = subst (λ (fs : List Source). AllZip (SourceDescribes limits) fs descs) same_files each };
+    described = record { few = few; by_name = order; each = each };
     linked = subst (λ (ds : List FileDesc). AreLinked ds links) same_links linked;
     indexed = subst (λ (ds : List FileDesc). Indexes ds limits index) same_index indexed;
   };
@@ -61,18 +58,24 @@ counts limits sources sorted descs links index files resolved names =
           omega (arith, size, many, below),
     )
 
+-- as many descriptors as sources
+pub descs_for_each : {limits : Limits} {sources sorted : List Source} {descs : List FileDesc} {links : Linked} {index : Index}
+    → AreResolved limits sources sorted descs links index → length sorted ≡ length descs
+descs_for_each {limits = limits} {sorted = sorted} {descs = descs} {links = links} {index = index} resolved =
+    same_length limits sorted resolved.descs resolved.analysed.described.each ∙ zip_length (TypesAt links index) 0 resolved.descs descs resolved.each
+
 -- what is written of them, where the last passes take what those gave
-pub written_of : {limits : Limits} {sources sorted named : List Source} {descs typed : List FileDesc} {links : Linked} {index : Index}
-    {texts : List (List ℕ)} {files : List CompiledFile} → AreResolved limits sources sorted typed links index → descs ≡ typed → All (IsShort limits) descs
-    → texts ≡ map file_desc_bytes descs → named ≡ sorted → map file_name files ≡ map name_of named → map file_bytes files ≡ texts
+pub written_of : {limits : Limits} {sources sorted named : List Source} {descs : List FileDesc} {links : Linked} {index : Index}
+    {files : List CompiledFile} → AreResolved limits sources sorted descs links index → All (IsShort limits) descs → named ≡ sorted
+    → map file_name files ≡ map name_of named → map file_bytes files ≡ map file_desc_bytes descs
     → IsWritten limits sources (compilation limits files links index)
-written_of {limits = limits} {sorted = sorted} {typed = typed} resolved same_descs short bytes same_names names same_bytes = record {
+written_of {sorted = sorted} {descs = descs} resolved short same_names names bytes = record {
   sorted = sorted;
-  descs = typed;
+  descs = descs;
   resolved = resolved;
-  short = subst (All (IsShort limits)) same_descs short;
+  short = short;
   names = names ∙ ap (map name_of) same_names;
-  bytes = same_bytes ∙ bytes ∙ ap (map file_desc_bytes) same_descs;
+  bytes = bytes;
   same_limits = refl;
 }
 
@@ -93,15 +96,10 @@ sound limits sources files links index is services within =
     }
 
 -- as many sources as written descriptors
-pub written_length : (limits : Limits) (sources sorted : List Source) (descs : List FileDesc) (links : Linked) (index : Index) (all : List (Vec ℕ Global))
-    → AreResolved limits sources sorted descs links index → map items_of all ≡ map file_desc_bytes descs → length sorted ≡ length all
-written_length limits sources sorted descs links index all resolved bytes =
-    let size = same_length limits sorted resolved.descs resolved.analysed.described.each in
-    let typed = zip_length (TypesAt links index) 0 resolved.descs descs resolved.each in
-    let l = ap length bytes in
-    let m = length-map all items_of in
-    let k = length-map descs file_desc_bytes in
-    omega (arith, size, typed, l, m, k)
+pub written_length : (files : List Source) (descs : List FileDesc) (all : List (Vec ℕ Global)) → length files ≡ length descs
+    → map items_of all ≡ map file_desc_bytes descs → length files ≡ length all
+written_length files descs all size bytes =
+    let l = ap length bytes in let m = length-map all items_of in let k = length-map descs file_desc_bytes in omega (arith, size, l, m, k)
 
 -- what a test of the length says where it fails
 pub too_long : (b : Bool) (n most : ℕ) → IsTrue b ↔ (n ≤ most) → b ≡ false → most < n

@@ -1,8 +1,7 @@
 -- What a message declares and refers to stands at its places.
-use Rattle.std.proofs.Common.{◌≡◌, ◌∙◌, sym, subst, ap, ℕ, ◌≤◌, List, [], ◌∷◌, ◌++◌, map}
+use Rattle.std.proofs.Common.{◌≡◌, sym, subst, ℕ, ◌≤◌, List, [], ◌∷◌, ◌++◌, map}
 use Rattle.std.specs.Prelude.{flat_map}
 use Rattle.std.specs.List.{AllByRecursion}
-use Rattle.std.proofs.lemmas.List.Folds.{flat_map-map}
 use Rattle.proto_desc.specs.DeclaredNames.{Declared, declared_field, declared_oneof, declared_value, declared_by_enum, declared_by_message}
 use Rattle.proto_desc.specs.Places.{reference_places, kind_places, option_place, field_places, oneof_place, value_place, enum_places, message_places}
 use Rattle.proto_desc.specs.declared.enumeration.EnumDesc.{EnumDesc}
@@ -10,7 +9,7 @@ use Rattle.proto_desc.specs.declared.field.FieldDesc.{FieldDesc}
 use Rattle.proto_desc.specs.declared.field.FieldKind.{FieldKind}
 use Rattle.proto_desc.specs.declared.field.FieldKind.TheVariants.{Scalar, Named}
 use Rattle.proto_desc.specs.declared.message.MessageDesc.{MessageDesc, MessageDesc-F}
-use Rattle.proto_desc.specs.declared.message.MessageDesc.TheFolds.{fold_out-MessageDesc, map-MessageDesc, ind-MessageDesc}
+use Rattle.proto_desc.specs.declared.message.MessageDesc.TheFolds.{map-MessageDesc, ind-MessageDesc}
 use Rattle.proto_desc.specs.declared.message.MessageDesc.TheViews.{out-MessageDesc, roll-MessageDesc, out-roll-MessageDesc}
 use Rattle.proto_desc.specs.declared.oneof.OneofDesc.{OneofDesc}
 use Rattle.proto_desc.specs.declared.options.OptionDesc.{OptionDesc}
@@ -25,7 +24,7 @@ use Rattle.proto_file.proofs.Within.{given}
 use Rattle.proto_names.specs.declared.resolve.Want.{Want}
 use Rattle.proto_names.specs.declared.resolve.Want.TheVariants as want
 use Rattle.proto_types.proofs.Trees.{own_references, references_out}
-use Rattle.proto_types.specs.References.{Reference, references_of_type, references_of_kind, references_of_field, field_scope, references_step, references_by_message}
+use Rattle.proto_types.specs.References.{Reference, references_of_type, references_of_kind, references_of_field, field_scope, references_by_message}
 
 -- ---- lists
 

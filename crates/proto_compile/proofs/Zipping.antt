@@ -17,7 +17,7 @@ use Rattle.proto_base.specs.declared.kind.Kind.{Kind}
 use Rattle.proto_base.specs.declared.place.Place.{Place}
 use Rattle.proto_base.specs.declared.limits.Limits.{Limits}
 use Rattle.proto_compile.specs.Descriptions.{SourceDescribes}
-use Rattle.proto_compile.specs.Sources.{AreByName, name_of}
+use Rattle.proto_compile.specs.Sources.{NamesRise, name_of}
 use Rattle.proto_compile.specs.declared.source.Source.{Source}
 
 -- one more at the end of each
@@ -42,13 +42,13 @@ same_names limits (s ∷ files) (d ∷ descs) all =
     ap (λ n. n ∷ map imports.name_of descs) name ∙ ap (λ ns. name_of s ∷ ns) (same_names limits files descs all.1)
 
 -- what is described is in the order of its names
-pub descs_in_order : (limits : Limits) (sources files : List Source) (descs : List FileDesc) → AreByName sources files
-    → AllZip (SourceDescribes limits) files descs → imports.AreInNameOrder descs
-descs_in_order limits sources files descs order all k h =
+pub descs_in_order : (limits : Limits) (files : List Source) (descs : List FileDesc) → NamesRise files → AllZip (SourceDescribes limits) files descs
+    → imports.AreInNameOrder descs
+descs_in_order limits files descs rises all k h =
     let names = same_names limits files descs all in
     let room : k + 1 < length files =
     (let l = length-map descs imports.name_of in let m = length-map files name_of in let n = ap length names in omega (arith, h, l, m, n)) in
-    subst (λ (ns : List (List ℕ)). slice_cmp nat_cmp (get_or ns k []) (get_or ns (k + 1) []) ≡ Less) (sym names) (order.rises k room)
+    subst (λ (ns : List (List ℕ)). slice_cmp nat_cmp (get_or ns k []) (get_or ns (k + 1) []) ≡ Less) (sym names) (rises k room)
 
 -- ---- files of faults
 

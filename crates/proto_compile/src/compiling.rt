@@ -1,28 +1,34 @@
 //! Compiling a list of sources.
 
-ghost use Rattle.std.specs.Prelude.{◌≡◌, ℕ, List, IfOk, IfErr, IsErrAnd, MatchResult, length, map};
-ghost use Rattle.proto_compile.specs.Compilation.{Compilation, IsCompiled, file_bytes, file_name};
+ghost use Rattle.std.specs.Prelude.{◌≡◌, ℕ, List, true, All, IfOk, IfErr, IsErrAnd, MatchResult, OnOk, length, map};
+ghost use Rattle.proto_compile.specs.Analysed.{AreResolved};
+ghost use Rattle.proto_compile.specs.Compilation.{Compilation, IsCompiled, IsShort, IsWritten, file_bytes, file_name};
 ghost use Rattle.proto_compile.specs.Faults.{IsFirstFault, IsPlaced, IsRefusal, Tells};
 ghost use Rattle.proto_compile.specs.Sources.{NamesRise, name_of};
-ghost use Rattle.proto_compile.specs.Steps.{items_of};
+ghost use Rattle.proto_compile.specs.Steps.{AreWritten, compilation, items_of};
 ghost use Rattle.proto_compile.specs.declared.error.CompileError.TheVariants as errors;
+ghost use Rattle.proto_desc.specs.Resolved.{file_resolved};
+ghost use Rattle.proto_links.specs.Linked.{Linked};
+ghost use Rattle.proto_names.specs.Index.{Index};
+ghost use Rattle.wire_bytes.specs.Descriptor.{file_desc_bytes};
 ghost use Rattle.proto_base.specs.declared.kind.Kind.{Kind};
 ghost use Rattle.proto_base.specs.declared.place.Place.{Place};
+ghost use Rattle.proto_compile.specs.declared.source.Source.{Source};
 
+use crate::analysing::{Analysis, analyse};
 use crate::compiled::Compiled;
 use crate::error::{CompileError, START, refusal};
 use crate::pass::Pass;
-use crate::pass::imports::link_all;
 use crate::pass::lengths::write_all;
 use crate::pass::list::files_by_name;
-use crate::pass::local::describe_all;
-use crate::pass::names::index_all;
-use crate::pass::types::resolve_all;
 use crate::set::is_set_within;
 use crate::source::Source;
 use crate::table::FileTable;
 use crate::workers::Workers;
 use proto_base::{Kind, Limit, Limits};
+use proto_desc::file::FileDesc;
+use proto_links::Links;
+use proto_names::NameIndex;
 use share_work::{Gate, Plan};
 use std::alloc::{AllocError, AllocGlobal, Global};
 use std::thread::Threads;
@@ -41,12 +47,32 @@ where
 {
     let alloc = workers.rt.alloc();
     let files = files_by_name(alloc, sources, limits)?;
-    let descs = describe_all(workers, &files, limits)?;
-    let links = link_all(alloc, &descs)?;
-    let index = index_all(workers.rt, &descs, limits)?;
-    let descs = resolve_all(workers, &files, &links, &index, descs)?;
-    let written = write_all(workers, &files, &descs, limits)?;
-    let files = table_of(alloc, &files, written)?;
+    let analysis = analyse(workers, &files, limits)?;
+    let Analysis {
+        descs,
+        links,
+        index,
+    } = analysis;
+    let table = write_table(workers, &files, descs, limits)?;
+    compilation_of(alloc, table, links, index, limits)
+}
+
+/// The compilation of files whose bytes were written, or that their set is too long.
+fn compilation_of(
+    alloc: Global,
+    files: FileTable,
+    links: Links,
+    index: NameIndex,
+    limits: &Limits,
+) -> Result<Compiled, CompileError>
+    requires { AreWritten limits.now files links index }
+    ensures compiled { (sources : List Source)
+        → IsWritten limits.now sources (compilation limits.now files links index)
+        → IfOk result (IsCompiled limits.now sources) }
+    ensures first { (sources : List Source)
+        → IsWritten limits.now sources (compilation limits.now files links index)
+        → IfErr result (IsRefusal (IsFirstFault limits.now sources)) }
+{
     if !is_set_within(&files, &links, limits.get(Limit::SetBytes)) {
         return Err(refusal(alloc, Pass::Set, "", START, Kind::SetTooLong));
     }
@@ -91,6 +117,32 @@ where
         → IsErrAnd result (Tells pass file step place kind) }
 {
     run_passes(&Workers { rt, plan, gate }, sources, limits)
+}
+
+/// The table of files with the bytes of what they describe, of which none has more than the limit.
+fn write_table<R, G>(
+    workers: &Workers<'_, R, G>,
+    files: &[Source],
+    descs: Vec<FileDesc>,
+    limits: &Limits,
+) -> Result<FileTable, CompileError>
+where
+    R: Threads + AllocGlobal + Sync,
+    G: Gate + Sync,
+    requires order { NamesRise files.now }
+    requires files { length files.now ≡ length descs.items }
+    requires resolved { All (λ desc. file_resolved desc ≡ true) descs.items }
+    ensures names { IfOk result (λ table. map file_name table ≡ map name_of files.now) }
+    ensures bytes { IfOk result (λ table. map file_bytes table
+        ≡ map file_desc_bytes descs.entry.items) }
+    ensures short { OnOk result (All (IsShort limits.now) descs.entry.items) }
+    ensures first { (sources : List Source) (links : Linked) (index : Index)
+        → AreResolved limits.now sources files.now descs.entry.items links index
+        → IfErr result (IsRefusal (IsFirstFault limits.now sources)) }
+{
+    let written = write_all(workers, files, descs, limits)?;
+    let table = table_of(workers.rt.alloc(), files, written)?;
+    Ok(table)
 }
 
 /// The table of sources in the order of their names, with the bytes of what they describe.

@@ -3,10 +3,12 @@
 //! The standard is the proto3 language guide and specification, and `descriptor.proto`.
 #![tactic(auto)]
 
+mod analysing;
 mod compiled;
 mod compiling;
 mod error;
 mod laws;
+mod letting_go;
 mod outcome;
 mod pass;
 mod set;

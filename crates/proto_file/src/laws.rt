@@ -23,7 +23,8 @@ pub fn file_is_one_thing()
         → (s ≡ t) × (p ≡ q) × (k ≡ l) }
 {}
 
-/// The place of a file's fault, and each place of what it describes, lies within its text; a fault stands within the limit of texts too.
+/// The place of a file's fault, and each place of what it describes, lies within its text; a fault stands within the limit
+/// of texts too.
 pub fn places_lie_within()
     ensures of_fault { (limits : Limits) (name text : List ℕ) (step : ℕ) (place : Place)
         (kind : Kind) → IsLocalFault limits name text step place kind

@@ -86,7 +86,7 @@ message_of full name is inner_messages = roll-MessageDesc (record {
 -- the nested messages that a statement of the message with this full name gives, and those that statements give
 abbrev mutual
   pub nested_of : List ℕ → MessageItem → List MessageDesc
-  nested_of full (message_item.Message' boxed (more_of-Message keyword name open_brace shape is close_brace end_of-Message)) =
+  nested_of full (message_item.Message' boxed (more_of-Message keyword name opening shape is closing last)) =
       message_of (inner full name.text) name (items-the_row-MessageItem _ is) (nested_row (inner full name.text) is)
       ∷ []
   nested_of full (message_item.Map m) = entry_of m ∷ []

@@ -172,7 +172,8 @@ fn declarations<'s>(
     })
 }
 
-/// The descriptor of the file with this name: what its tree describes, whatever rules it breaks. It refuses nothing but for want of memory.
+/// The descriptor of the file with this name: what its tree describes, whatever rules it breaks. It refuses nothing but for
+/// want of memory.
 pub fn lower<'s>(
     alloc: Global,
     name: &'s str,

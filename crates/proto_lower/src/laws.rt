@@ -24,7 +24,8 @@ pub fn oneof_index_is_its_own()
         ≡ flat_map (member_of index) o.items }
 {}
 
-/// An `optional` field is the sole member of a oneof at the field's place, with a name that is made of the field's. It comes behind all oneofs of the source and those of earlier `optional` fields. There are no further oneofs.
+/// An `optional` field is the sole member of a oneof at the field's place, with a name that is made of the field's. It comes
+/// behind all oneofs of the source and those of earlier `optional` fields. There are no further oneofs.
 pub fn optional_field_has_its_oneof()
     ensures index { (scope : List ℕ) (m : Message) (before : List FieldDesc) (field : FieldDesc)
         → IsOptionalBehind before field (lowered_message scope m)

@@ -16,7 +16,8 @@ fn has_underscore(name: &str) -> bool
     name.chars().any(|letter| letter == '_')
 }
 
-/// A name without its underscores, where a lower-case ASCII letter directly behind one is raised; the character `before` stands before the first.
+/// A name without its underscores, where a lower-case ASCII letter directly behind one is raised; the character `before`
+/// stands before the first.
 fn raised(alloc: Global, name: &str, first: char) -> Result<String, AllocError>
     ensures { IfOk result (λ made. string_bytes made ≡ raised first name.now) }
 {
@@ -49,7 +50,8 @@ pub(crate) fn json_text<'s>(alloc: Global, name: &'s str) -> Result<Text<'s>, Al
     Ok(Text::owned(json_name(alloc, name)?))
 }
 
-/// The name of a map field's entry: underscores are dropped, a lower-case ASCII letter is raised at the start and directly behind an underscore, and `Entry` is added.
+/// The name of a map field's entry: underscores are dropped, a lower-case ASCII letter is raised at the start and directly
+/// behind an underscore, and `Entry` is added.
 pub fn entry_name(alloc: Global, field: &str) -> Result<String, AllocError>
     ensures { IfOk result (λ name. string_bytes name ≡ entry_name_of field.now) }
 {
@@ -122,7 +124,8 @@ fn set_of(alloc: Global, names: &[&str]) -> Result<BTreeSet<String>, AllocError>
     Ok(set)
 }
 
-/// The name of the oneof that an `optional` field makes: the field's name, with `_` in front unless it begins with `_`, and then with `X` in front as long as the name is among those that are taken.
+/// The name of the oneof that an `optional` field makes: the field's name, with `_` in front unless it begins with `_`, and
+/// then with `X` in front as long as the name is among those that are taken.
 pub fn oneof_name(alloc: Global, field: &str, taken: &[&str]) -> Result<String, AllocError>
     ensures value { IfOk result (λ name. string_bytes name
         ≡ oneof_name_of (map (λ t. t.now) taken.now) field.now) }

@@ -1,4 +1,5 @@
-//! Options of an element (`descriptor.proto`, `FileOptions` to `MethodOptions`): of each option that the element may have, the first setting counts, and one whose value is of another kind sets nothing.
+//! Options of an element (`descriptor.proto`, `FileOptions` to `MethodOptions`): of each option that the element may have,
+//! the first setting counts, and one whose value is of another kind sets nothing.
 
 ghost use Rattle.std.specs.Prelude.{◌≡◌, IfOk, flat_map, Some};
 ghost use Rattle.std.specs.Option.{option_copied};

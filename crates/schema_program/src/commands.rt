@@ -2,13 +2,12 @@
 
 use crate::explanation::{write_kind, write_kinds};
 use crate::failure::{Failure, locate};
-use crate::headline::set_of_sources;
-use crate::one_source::describe;
 use crate::whole_file::write_whole;
 use grpcweb_core::{Counted, Mode, answer_io};
 use grpcweb_service::serve;
 use proto_base::{Limit, Limits};
 use proto_compile::{CompileError, Compiled, Source, compile};
+use schema_headline::{describe, set_of_sources};
 use share_work::{NoGate, Plan};
 use source_folder::{NamedText, read_folder};
 use std::alloc::{AllocError, AllocGlobal, Global};

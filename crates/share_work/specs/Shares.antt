@@ -1,8 +1,8 @@
 -- What workers take, give and add for the items of a list.
 use Rattle.std.specs.Prelude.{map, ◌↔◌, ◌⊎◌, ◌≡◌, ℕ, ◌+◌, ◌*◌, List, length, take, drop, slice_get, Some}
 
--- outs has one member for each item, each as `gives` says of the item's position and the item; first is the position of the
--- first item
+-- outs has one member for each item, each as `gives` says of the item's position and the item; first is the position
+-- of the first item
 abbrev pub GivesItems : {T O : Type 0} → (ℕ → T → O → Type 0) → ℕ → List T → List O → Type 0
 GivesItems {T} {O} gives first items outs =
     (length outs ≡ length items)

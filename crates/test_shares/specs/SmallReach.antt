@@ -16,7 +16,8 @@ no a b n = let f : Bool → ℕ = λ y. cond y 1 0 in ap f (ne_eqb a b n)
 pub two_within : (r g : ℕ) → Reaches two r g → g < 2
 two_within zero zero e = omega arith
 two_within zero (suc zero) e = omega arith
-two_within zero (suc (suc g)) e = absurd (omega (arith, no 0 (suc (suc g)) (λ h. omega arith), no 1 (suc (suc g)) (λ h. omega arith)))
+two_within zero (suc (suc g)) e =
+    absurd (omega (arith, no 0 (suc (suc g)) (λ h. omega arith), no 1 (suc (suc g)) (λ h. omega arith)))
 two_within (suc zero) zero e = omega arith
 two_within (suc zero) (suc zero) e = omega arith
 two_within (suc zero) (suc (suc g)) e = absurd (omega (arith, no 1 (suc (suc g)) (λ h. omega arith)))

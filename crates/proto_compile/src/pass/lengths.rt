@@ -13,6 +13,7 @@ ghost use Rattle.proto_names.specs.Index.{Index};
 ghost use Rattle.wire_bytes.specs.Descriptor.{file_desc_bytes};
 
 use crate::error::{CompileError, START};
+use crate::letting_go::let_go;
 use crate::outcome::judge;
 use crate::pass::Pass;
 use crate::source::Source;
@@ -82,25 +83,26 @@ impl<'s> Work<FileDesc<'s>> for Writing {
     }
 }
 
-/// The bytes of the descriptors, of which none has more than the limit.
+/// The bytes of the descriptors, of which none has more than the limit, and lets go of these.
 pub(crate) fn write_all<R, G>(
     workers: &Workers<'_, R, G>,
     files: &[Source],
-    descs: &[FileDesc],
+    descs: Vec<FileDesc>,
     limits: &Limits,
 ) -> Result<Vec<Vec<u8>>, CompileError>
 where
     R: Threads + AllocGlobal + Sync,
     G: Gate + Sync,
-    requires files { length files.now ≡ length descs.now }
-    requires resolved { All (λ desc. file_resolved desc ≡ true) descs.now }
-    ensures bytes { IfOk result (λ all. map items_of all.items ≡ map file_desc_bytes descs.now) }
-    ensures short { OnOk result (All (IsShort limits.now) descs.now) }
+    requires files { length files.now ≡ length descs.items }
+    requires resolved { All (λ desc. file_resolved desc ≡ true) descs.items }
+    ensures bytes { IfOk result (λ all. map items_of all.items ≡ map file_desc_bytes descs.entry.items) }
+    ensures short { OnOk result (All (IsShort limits.now) descs.entry.items) }
     ensures first { (sources : List Source) (links : Linked) (index : Index)
-        → AreResolved limits.now sources files.now descs.now links index
+        → AreResolved limits.now sources files.now descs.entry.items links index
         → IfErr result (IsRefusal (IsFirstFault limits.now sources)) }
 {
     let work = Writing { limits: *limits };
-    let outcomes = workers.each(WRITING, descs, &work)?;
+    let outcomes = workers.each(WRITING, descs.as_slice(), &work)?;
+    let_go(workers, descs);
     judge(workers.rt.alloc(), Pass::Lengths, files, outcomes)
 }

@@ -2,7 +2,8 @@
 
 use super::devices::{Input, Output};
 use proto_base::Limits;
-use schema_program::{describe, run};
+use schema_headline::describe;
+use schema_program::run;
 use std::alloc::AllocGlobal;
 use std::fs;
 use std::net::Net;

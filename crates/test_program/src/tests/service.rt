@@ -4,7 +4,7 @@ use grpcweb_core::Mode;
 use grpcweb_service::serve;
 use proto_base::Limits;
 use proto_compile::{Compiled, Source, compile};
-use schema_program::response_to_sources;
+use schema_headline::response_to_sources;
 use share_work::{NoGate, Plan};
 use std::alloc::AllocGlobal;
 use std::io::{self, Read, Write};

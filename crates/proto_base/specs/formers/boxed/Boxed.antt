@@ -60,7 +60,8 @@ module _ (R S : RattleType) (h : R.Denot → S.Denot) where
 
   pub the_places : Alike R S h → Alike (C.the_row R) (C.the_row S) ((the_former this).map R.Denot S.Denot h)
   the_places a = view_places fields this view (λ X Y k u. refl) (λ X u. refl) R.Denot S.Denot h
-      (C.the_row R).coded (C.the_row S).coded (invariant R.Denot) (invariant S.Denot) (λ u p q. refl) (λ u p q. refl) (λ u e. tt) (λ u e. tt)
+      (C.the_row R).coded (C.the_row S).coded (invariant R.Denot) (invariant S.Denot)
+      (λ u p q. refl) (λ u p q. refl) (λ u e. tt) (λ u e. tt)
       (over (I.the_row R)) (over (I.the_row S))
       (struct_places (I.the_type R) (I.the_type S) ((λ b. with_value b (h b.value)), tt) _ (λ d. refl) refl
       (laid _ _ _ (box_places a), tt))

@@ -9,7 +9,7 @@ use Rattle.proto_compile.specs.Compilation.{Compilation, IsCompiled, IsNamed, by
 use Rattle.proto_compile.specs.Sources.{name_of}
 use Rattle.proto_compile.specs.declared.source.Source.{Source}
 use Rattle.proto_compile.proofs.Making.{counts}
-use Rattle.schema_program.specs.Describe.{IsDescribedBy}
+use Rattle.schema_headline.specs.Describe.{IsDescribedBy}
 
 only_one : (x s : Source) → Contains (x ∷ []) s → x ≡ s
 only_one x s (zero, below, is) = is

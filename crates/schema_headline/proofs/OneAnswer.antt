@@ -7,9 +7,9 @@ use Rattle.proto_compile.specs.Compilation.{Compilation, CompiledFile, IsCompile
 use Rattle.proto_compile.specs.declared.source.Source.{Source}
 use Rattle.proto_compile.proofs.OneCompilation.{one_compilation}
 use Rattle.reflect_core.proofs.OneResponse.{one_response}
-use Rattle.schema_program.specs.Describe.{IsDescribedBy}
-use Rattle.schema_program.specs.Headline.{IsResponseOf, IsSetOf}
-use Rattle.schema_program.proofs.Describing.{only_file}
+use Rattle.schema_headline.specs.Describe.{IsDescribedBy}
+use Rattle.schema_headline.specs.Headline.{IsResponseOf, IsSetOf}
+use Rattle.schema_headline.proofs.Describing.{only_file}
 use Rattle.wire_format.specs.Field.{bytes_field}
 
 pub one_descriptor : (limits : Limits) (s : Source) (a b : List ℕ) → IsDescribedBy limits s a → IsDescribedBy limits s b → a ≡ b

@@ -1,6 +1,6 @@
 use Rattle.std.proofs.Common.{◌∙◌}
-use Rattle.schema_program.proofs.Describing.{described, is_linked}
-use Rattle.schema_program.proofs.one_source.first_answer.Goals as goal
+use Rattle.schema_headline.proofs.Describing.{described, is_linked}
+use Rattle.schema_headline.proofs.one_source.first_answer.Goals as goal
 
 pub bytes_at-bytes-requires : goal.bytes_at-bytes-requires
 bytes_at-bytes-requires g c = is_linked c.args.limits.now c.args.source c.in_ok-compiled.compiled c.in_ok-compiled.ensures.compiled

@@ -6,7 +6,7 @@ ghost use Rattle.proto_base.specs.declared.kind.Kind.{Kind};
 ghost use Rattle.proto_base.specs.declared.place.Place.{Place};
 ghost use Rattle.proto_compile.specs.Faults.{IsFirstFault, IsPlaced, IsRefusal, Tells};
 ghost use Rattle.proto_compile.specs.declared.error.CompileError.TheVariants as errors;
-ghost use Rattle.schema_program.specs.Headline.{IsResponseOf, IsSetOf};
+ghost use Rattle.schema_headline.specs.Headline.{IsResponseOf, IsSetOf};
 
 use proto_base::Limits;
 use proto_compile::{CompileError, Source, compile};

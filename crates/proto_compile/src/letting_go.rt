@@ -1,0 +1,33 @@
+//! Letting go of descriptors in threads: their memory is given back by the workers that took it.
+
+use crate::workers::Workers;
+use proto_base::row::Row;
+use proto_desc::file::FileDesc;
+use share_work::Gate;
+use std::alloc::{AllocGlobal, Global};
+use std::mem;
+use std::thread::{Threads, for_each_mut};
+
+/// Lets go of what a file declares.
+fn empty(alloc: Global, desc: &mut FileDesc) {
+    drop(mem::replace(&mut desc.messages, Row::new(alloc)));
+    drop(mem::replace(&mut desc.enums, Row::new(alloc)));
+    drop(mem::replace(&mut desc.services, Row::new(alloc)));
+}
+
+/// Lets go of descriptors.
+pub(crate) fn let_go<R, G>(workers: &Workers<'_, R, G>, descs: Vec<FileDesc>)
+where
+    R: Threads + AllocGlobal + Sync,
+    G: Gate + Sync,
+{
+    let mut descs = descs;
+    let alloc = workers.rt.alloc();
+    let each = move |_: usize, desc: &mut FileDesc| empty(alloc, desc);
+    for_each_mut(
+        workers.rt,
+        descs.as_mut_slice(),
+        workers.plan.workers() as usize,
+        &each,
+    );
+}
