@@ -17,9 +17,10 @@ IsDescribedBy limits source bytes =
     (c : Compilation) × IsCompiled limits (source ∷ []) c × (a : ℕ) × IsNamed c.files (name_of source) a
     × (bytes ≡ bytes_at c.files a)
 
--- an answer about a source: its descriptor, or its first fault, which lies within it; and a source with a descriptor gives
--- it, and one with a fault tells it, unless memory runs out
-pub record IsDescription (limits : Limits) (source : Source) (answer : Result (Vec ℕ Global) CompileError) : Type 0 where
+-- an answer about a source: its descriptor, or its first fault, which lies within it; and a source with a descriptor
+-- gives it, and one with a fault tells it, unless memory runs out
+pub record IsDescription (limits : Limits) (source : Source) (answer : Result (Vec ℕ Global) CompileError)
+    : Type 0 where
   pub described : IfOk answer (λ bytes. IsDescribedBy limits source bytes.items)
   pub first : IfErr answer (IsRefusal (IsFirstFault limits (source ∷ [])))
   pub placed : IfErr answer (IsRefusal (λ pass file step place kind. IsPlaced limits (source ∷ []) file place))
