@@ -86,25 +86,23 @@ fn descriptors<'s, R: AllocGlobal + Clock>(
     Ok(descs)
 }
 
-/// The descriptors with their types resolved.
-fn resolved<'s>(
+/// Resolves the types of descriptors.
+fn resolve(
     alloc: Global,
     links: &Links,
     index: &NameIndex,
-    descs: Vec<FileDesc<'s>>,
-) -> anyhow::Result<Vec<FileDesc<'s>>>
+    descs: &mut [FileDesc],
+) -> anyhow::Result<()>
     requires { count_of links.now ≡ index.now.files }
 {
-    let mut done = Vec::with_capacity(alloc, descs.len())?;
-    for (file, mut desc) in descs.into_iter().enumerate() {
+    for (file, desc) in descs.iter_mut().enumerate() {
         if file >= links.count() {
             bail!("a file without links");
         }
-        let types = resolve_types(alloc, index, links, file, &desc)?;
-        fill_types(&mut desc, types);
-        done.push(desc)?;
+        let types = resolve_types(alloc, index, links, file, desc)?;
+        fill_types(desc, types);
     }
-    Ok(done)
+    Ok(())
 }
 
 /// How many bytes the descriptors have.
@@ -122,20 +120,20 @@ fn written(alloc: Global, descs: &[FileDesc]) -> anyhow::Result<usize> {
 /// What all files have together: links, an index, types, bytes.
 fn common<R: Threads + AllocGlobal + Clock + Sync>(
     rt: &R,
-    descs: Vec<FileDesc>,
+    descs: &mut [FileDesc],
     times: &mut Times,
 ) -> anyhow::Result<Counts> {
-    if !in_name_order(&descs) {
+    if !in_name_order(descs) {
         bail!("files that are not in the order of their names");
     }
     let start = Instant::now(rt)?;
-    let links = link(rt.alloc(), &descs)?;
+    let links = link(rt.alloc(), descs)?;
     let links_end = since(rt, start);
-    let index = NameIndex::build(rt, &descs, &Limits::standard())?;
+    let index = NameIndex::build(rt, descs, &Limits::standard())?;
     let index_end = since(rt, start);
-    let descs = resolved(rt.alloc(), &links, &index, descs)?;
+    resolve(rt.alloc(), &links, &index, descs)?;
     let types_end = since(rt, start);
-    let bytes = written(rt.alloc(), &descs)?;
+    let bytes = written(rt.alloc(), descs)?;
     times.add_common(links_end, index_end, types_end, since(rt, start));
     let reached = if links.count() > 0 {
         links.reach(0).len()
@@ -155,8 +153,8 @@ fn round<R: Threads + AllocGlobal + Clock + Sync>(
     sources: &[NamedText],
 ) -> anyhow::Result<(Counts, Times)> {
     let mut times = Times::none();
-    let descs = descriptors(rt, sources, &mut times)?;
-    let counts = common(rt, descs, &mut times)?;
+    let mut descs = descriptors(rt, sources, &mut times)?;
+    let counts = common(rt, &mut descs, &mut times)?;
     Ok((counts, times))
 }
 

@@ -1,12 +1,9 @@
-//! The HTTP service: reflection streams over HTTP/1.1, on `hyper` and `tokio`, one connection after the other.
+//! The HTTP service: reflection streams over HTTP/1.1, one connection after the other.
 //!
-//! What a request is answered is said by the crate `grpcweb_core`.
+//! What becomes of a connection is said by the crate `grpcweb_connection`, and what its request is answered by `grpcweb_core`.
 #![tactic(auto)]
 
-mod answer;
-mod fault;
-mod receive;
 mod service;
 
-pub use fault::ServeFault;
+pub use grpcweb_connection::ServeFault;
 pub use service::serve;

@@ -90,13 +90,13 @@ impl Entries {
     }
 
     /// Sorts the entries by the hashes of their names, then by name, file and place.
-    pub(crate) fn sort<R>(&mut self, rt: &R, alloc: Global) -> Result<(), AllocError>
+    pub(crate) fn sort<R>(&mut self, rt: &R)
     where
         R: Threads + Sync,
-        ensures all { OnOk result (IsPermutation self.old self.new) }
-        ensures order { OnOk result (AreInOrder self.new) }
+        ensures all { IsPermutation self.old self.new }
+        ensures order { AreInOrder self.new }
     {
-        sort_entries(rt, alloc, self.text.as_bytes(), &mut self.entries)
+        sort_entries(rt, self.text.as_bytes(), &mut self.entries);
     }
 }
 
@@ -114,25 +114,19 @@ fn compare_entries(text: &[u8], first: &Entry, second: &Entry) -> Ordering
     }
 }
 
-/// Sorts entries whose names stand in a text.
-fn sort_entries<R>(
-    rt: &R,
-    alloc: Global,
-    text: &[u8],
-    entries: &mut [Entry],
-) -> Result<(), AllocError>
+/// Sorts entries whose names stand in a text, in place.
+fn sort_entries<R>(rt: &R, text: &[u8], entries: &mut [Entry])
 where
     R: Threads + Sync,
     ensures all { IsPermutation entries.old entries.new }
     ensures len { length entries.new ≡ length entries.old }
-    ensures order { OnOk result (IsSorted (entry_cmp text.now) entries.new) }
+    ensures order { IsSorted (entry_cmp text.now) entries.new }
 {
-    par_sort_by(
+    par_sort_unstable_by(
         rt,
-        alloc,
         entries,
         |first: &Entry, second: &Entry| -> Ordering
             ensures { result ≡ entry_cmp text.entry.now first.now second.now }
         { compare_entries(text, first, second) },
-    )
+    );
 }

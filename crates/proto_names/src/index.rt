@@ -78,7 +78,7 @@ where
         (map string_bytes services.items)) }
 {
     let mut services = listed_services(alloc, names)?;
-    par_sort(rt, alloc, &mut services)?;
+    par_sort_unstable(rt, &mut services);
     Ok(services)
 }
 
@@ -142,7 +142,7 @@ impl NameIndex {
         let Some(mut entries) = collect(alloc, files, limits.get(Limit::Names))? else {
             return Err(NameError::TooMany);
         };
-        entries.sort(rt, alloc)?;
+        entries.sort(rt);
         if let Some(location) = first_twice(&entries.names()) {
             return Err(NameError::At(location.file, location.place));
         }

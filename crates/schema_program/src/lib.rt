@@ -1,11 +1,7 @@
-//! The program as a library: the command line, the commands, and why a run ends early.
+//! The program as a library: the command that the words ask for, and what a run ends with.
 #![tactic(auto)]
 
-mod command_line;
-mod commands;
-mod explanation;
-mod failure;
 mod program;
-mod whole_file;
+mod serving;
 
 pub use program::run;

@@ -2,12 +2,11 @@
 
 ghost use Rattle.std.specs.Prelude.{◌≤◌};
 
-use crate::command_line::{Task, task_of};
-use crate::commands::{run_answer, run_compile, run_describe, run_explain, run_serve};
-use crate::explanation::kind_names;
-use crate::failure::{Failure, Status};
+use crate::serving::run_serve;
 use clap::Error;
 use clap::error::ErrorKind;
+use schema_command_line::{Task, task_of};
+use schema_commands::{Failure, Status, kind_names, run_answer, run_compile, run_describe, run_explain};
 use std::alloc::AllocGlobal;
 use std::io::{Read, Write};
 use std::net::Net;

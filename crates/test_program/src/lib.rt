@@ -1,4 +1,4 @@
-//! Tests of the program and of the folders that it reads, over devices that they feign.
+//! Tests of the program and of its service, over devices that they feign.
 #![tactic(auto)]
 
 #[cfg(test)]

@@ -11,7 +11,7 @@ pub returns-in-Some-first_twice-clause-twice : goal.returns-in-Some-first_twice-
 returns-in-Some-first_twice-clause-twice g c file place e =
     let collected = rw c.in-Some.is at c.in_ok-entries.ensures.all in
     let within = rw c.in-Some.is at c.in_ok-entries.ensures.within in
-    let all = rw collected at c.in_ok-sort.ensures.all in
+    let all = rw collected at c.sort.ensures.all in
     let first = rw c.names.ensures at c.in-Some-first_twice.ensures in
     let same_file : c.in-Some-first_twice.location.file ≡ file = cc in
     let same_place : c.in-Some-first_twice.location.place ≡ place = cc in
@@ -23,12 +23,12 @@ returns-in-Some-first_twice-clause-twice g c file place e =
     }
 
 pub new-requires-clause-order : goal.new-requires-clause-order
-new-requires-clause-order g c = order_names c.sort.new.self c.in_ok-sort.ensures.order
+new-requires-clause-order g c = order_names c.sort.new.self c.sort.ensures.order
 
 pub new-requires-clause-many : goal.new-requires-clause-many
 new-requires-clause-many g c =
     let within = rw c.in-Some.is at c.in_ok-entries.ensures.within in
-    let all = c.in_ok-sort.ensures.all in
+    let all = c.sort.ensures.all in
     let same = length_permutation _ _ all in
     omega (arith, within, c.get.ensures.within, same)
 
@@ -36,7 +36,7 @@ pub invariant_of-result : goal.invariant_of-result
 invariant_of-result g c =
     let collected = rw c.in-Some.is at c.in_ok-entries.ensures.all in
     let kept = sym c.in_ok-entries-2.ensures in
-    let all = subst (IsPermutation (occurrences c.args.files.now)) kept (rw collected at c.in_ok-sort.ensures.all) in
+    let all = subst (IsPermutation (occurrences c.args.files.now)) kept (rw collected at c.sort.ensures.all) in
     let within = rw c.in-Some.is at c.in_ok-entries.ensures.within in
     let none = rw c.names.ensures at (not_some _ c.first_twice.result c.in_default-first_twice.not-Some c.first_twice.ensures) in (
       record {
@@ -51,7 +51,7 @@ invariant_of-result g c =
         record {
           files = refl;
           within = rw (collected, c.get.ensures.value) at within;
-          once = none_moved (occurrences c.args.files.now) c.sort.new.self (rw collected at c.in_ok-sort.ensures.all) none;
+          once = none_moved (occurrences c.args.files.now) c.sort.new.self (rw collected at c.sort.ensures.all) none;
           all = all;
           sound = record {
             inside = below_files c.args.files.now c.in_ok-entries-2.entries all;
@@ -67,7 +67,7 @@ pub returns-clause-indexed : goal.returns-clause-indexed
 returns-clause-indexed g c =
     let collected = rw c.in-Some.is at c.in_ok-entries.ensures.all in
     let within = rw c.in-Some.is at c.in_ok-entries.ensures.within in
-    let all = rw collected at c.in_ok-sort.ensures.all in
+    let all = rw collected at c.sort.ensures.all in
     let kept = sym c.in_ok-entries-2.ensures in
     let moved = subst (IsPermutation (occurrences c.args.files.now)) kept all in
     let none = rw c.names.ensures at (not_some _ c.first_twice.result c.in_default-first_twice.not-Some c.first_twice.ensures) in

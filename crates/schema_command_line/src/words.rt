@@ -1,48 +1,10 @@
-//! The command line, read by `clap`.
+//! The words that the command line takes, as `clap` is told them.
 
-use clap::error::ErrorKind;
-use clap::{Arg, ArgAction, ArgMatches, Command, Error, value_parser};
-use reflect_core::Mode;
-use share_work::Plan;
+use clap::{Arg, ArgAction, Command, value_parser};
 use std::alloc::{AllocError, Global};
 
-/// What one run is to do.
-#[derive(Drop)]
-pub(crate) enum Task<'a> {
-    /// Describe the source on the input, under this file name.
-    Describe {
-        name: &'a str,
-    },
-    /// Compile the sources below a folder.
-    Compile {
-        root: &'a str,
-        plan: Plan,
-        /// The file that the set goes to; without one it goes to the output.
-        file: Option<&'a str>,
-    },
-    /// Answer the request body on the input, over the sources below a folder.
-    Answer {
-        root: &'a str,
-        plan: Plan,
-        mode: Mode,
-    },
-    /// Serve reflection over HTTP at an address and a port, over the sources below a folder.
-    Serve {
-        root: &'a str,
-        listen: &'a str,
-        plan: Plan,
-        mode: Mode,
-        /// How many connections are served; without a count there is no end.
-        connections: Option<u64>,
-    },
-    /// Explain a kind of fault, or list all kinds.
-    Explain {
-        kind: Option<&'a str>,
-    },
-}
-
 /// The version that `--version` prints: the program's, and the kit that proved it.
-static VERSION: &str = "1.0.0, rattle-kit-13b logic dac8208d650f15bf";
+static VERSION: &str = "1.0.0, rattle-kit-13f logic dac8208d650f15bf";
 
 fn describe_command<'a>(alloc: Global) -> Result<Command<'a>, AllocError> {
     let name = Arg::new(alloc, "name")
@@ -163,73 +125,28 @@ fn explain_command<'a>(alloc: Global, kinds: &'a [&'a str]) -> Result<Command<'a
         .arg(kind)
 }
 
-fn mode_of(matches: &ArgMatches<'_>) -> Mode {
-    if matches.get_flag("repeat") {
-        Mode::Repeat
-    } else {
-        Mode::Once
-    }
+/// The command with one of its own commands, if there was memory for that.
+fn with_command<'a>(
+    command: Command<'a>,
+    added: Result<Command<'a>, AllocError>,
+) -> Result<Command<'a>, AllocError> {
+    command.subcommand(added?)
 }
 
-/// The plan that the words ask for. The parser of the words lets no others through than there are plans.
-fn plan_of(matches: &ArgMatches<'_>) -> Plan {
-    let workers = matches.get_one::<u32>("workers").unwrap_or(1);
-    let cut = matches.get_one::<u32>("cut").unwrap_or(1);
-    Plan::new(workers, cut).unwrap_or(Plan::single())
-}
-
-fn whole_command<'a>(alloc: Global, kinds: &'a [&'a str]) -> Result<Command<'a>, AllocError> {
-    let describe = describe_command(alloc)?;
-    let compile = compile_command(alloc)?;
-    let answer = answer_command(alloc)?;
-    let serve = serve_command(alloc)?;
-    let explain = explain_command(alloc, kinds)?;
-    Command::new(alloc, "schema_server")
+/// The program, with its commands. `kinds` are the names that can be explained.
+pub(crate) fn whole_command<'a>(
+    alloc: Global,
+    kinds: &'a [&'a str],
+) -> Result<Command<'a>, AllocError> {
+    let command = Command::new(alloc, "schema_server")
         .about(
             "A schema server for Protocol Buffers: compiles proto3 sources to descriptors and answers reflection",
         )
         .version(VERSION)
-        .subcommand_required(true)
-        .subcommand(describe)?
-        .subcommand(compile)?
-        .subcommand(answer)?
-        .subcommand(serve)?
-        .subcommand(explain)
-}
-
-/// The task that the words give, whose first is the program's name, or `clap`'s text for the user. `kinds` are the names that
-/// can be explained.
-pub(crate) fn task_of<'a>(
-    alloc: Global,
-    words: &'a [&'a str],
-    kinds: &'a [&'a str],
-) -> Result<Task<'a>, Error> {
-    let mut command = whole_command(alloc, kinds)?;
-    let matches = command.try_get_matches_from_mut(words)?;
-    match matches.subcommand() {
-        Some(("describe", describe)) => Ok(Task::Describe {
-            name: describe.get_str("name").unwrap_or(""),
-        }),
-        Some(("compile", compile)) => Ok(Task::Compile {
-            root: compile.get_str("root").unwrap_or(""),
-            plan: plan_of(compile),
-            file: compile.get_str("output"),
-        }),
-        Some(("answer", answer)) => Ok(Task::Answer {
-            root: answer.get_str("root").unwrap_or(""),
-            plan: plan_of(answer),
-            mode: mode_of(answer),
-        }),
-        Some(("serve", serve)) => Ok(Task::Serve {
-            root: serve.get_str("root").unwrap_or(""),
-            listen: serve.get_str("listen").unwrap_or(""),
-            plan: plan_of(serve),
-            mode: mode_of(serve),
-            connections: serve.get_one::<u64>("connections"),
-        }),
-        Some(("explain", explain)) => Ok(Task::Explain {
-            kind: explain.get_str("kind"),
-        }),
-        _ => Err(command.error(ErrorKind::MissingSubcommand, "no command was given")?),
-    }
+        .subcommand_required(true);
+    let command = with_command(command, describe_command(alloc))?;
+    let command = with_command(command, compile_command(alloc))?;
+    let command = with_command(command, answer_command(alloc))?;
+    let command = with_command(command, serve_command(alloc))?;
+    with_command(command, explain_command(alloc, kinds))
 }

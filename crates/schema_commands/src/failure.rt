@@ -3,10 +3,9 @@
 ghost use Rattle.std.specs.Prelude.{◌≡◌, ℕ, ◌<◌, ◌≤◌, ◌-◌, ◌^◌, Contains, length, string_bytes};
 ghost use Rattle.proto_compile.specs.Sources.{name_of, text_of};
 ghost use Rattle.proto_compile.specs.declared.source.Source.{Source};
-ghost use Rattle.schema_program.specs.declared.failure.Failure.TheVariants as failures;
+ghost use Rattle.schema_commands.specs.declared.failure.Failure.TheVariants as failures;
 
 use grpcweb_core::IoFault;
-use grpcweb_service::ServeFault;
 use proto_base::{Fault, Kind, line_column};
 use proto_compile::Source;
 use source_folder::FolderFault;
@@ -15,7 +14,7 @@ use thiserror::Error;
 
 /// The exit status of a run, by its position among these from 0 on.
 #[derive(Clone, Copy)]
-pub(crate) enum Status {
+pub enum Status {
     Done,
     Fault,
     CommandLine,
@@ -25,7 +24,7 @@ pub(crate) enum Status {
 
 /// Why a run came to no end, with its line for the user.
 #[derive(Debug, Drop, Error)]
-pub(crate) enum Failure {
+pub enum Failure {
     #[error("{file}:{line}:{column}: {kind}")]
     Source {
         file: String,
@@ -48,7 +47,8 @@ pub(crate) enum Failure {
 }
 
 impl Failure {
-    pub(crate) fn status(&self) -> Status {
+    /// The exit status of a run that ends so.
+    pub fn status(&self) -> Status {
         match self {
             Failure::Source { .. } => Status::Fault,
             Failure::Input
@@ -92,15 +92,6 @@ impl From<IoFault> for Failure {
             IoFault::ReadFault => Failure::Input,
             IoFault::WriteFault { .. } => Failure::Output,
             IoFault::NoMemory => Failure::NoMemory,
-        }
-    }
-}
-
-impl From<ServeFault> for Failure {
-    fn from(fault: ServeFault) -> Failure {
-        match fault {
-            ServeFault::AcceptFault => Failure::Accept,
-            ServeFault::NoMemory => Failure::NoMemory,
         }
     }
 }

@@ -7,7 +7,7 @@ use std::alloc::{AllocError, Global};
 use std::io::{self, Write};
 
 /// The names of all kinds, in the order of the passes that tell them.
-pub(crate) fn kind_names(alloc: Global) -> Result<Vec<&'static str>, AllocError> {
+pub fn kind_names(alloc: Global) -> Result<Vec<&'static str>, AllocError> {
     let mut names = Vec::new(alloc);
     for kind in &KINDS {
         names.push(kind.name())?;

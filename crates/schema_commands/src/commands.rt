@@ -1,10 +1,9 @@
-//! The commands: what each reads, and what it writes.
+//! The commands but `serve`: what each reads, and what it writes.
 
 use crate::explanation::{write_kind, write_kinds};
 use crate::failure::{Failure, locate};
 use crate::whole_file::write_whole;
 use grpcweb_core::{Counted, Mode, answer_io};
-use grpcweb_service::serve;
 use proto_base::{Limit, Limits};
 use proto_compile::{CompileError, Compiled, Source, compile};
 use schema_headline::{describe, set_of_sources};
@@ -12,14 +11,9 @@ use share_work::{NoGate, Plan};
 use source_folder::{NamedText, read_folder};
 use std::alloc::{AllocError, AllocGlobal, Global};
 use std::io::{self, Read, Write};
-use std::net::{Net, SocketAddr};
 use std::random::RandomSource;
 use std::rt::Files;
-use std::sync::{Arc, Wait};
 use std::thread::Threads;
-use std::time::Clock;
-use tokio::net::TcpListener;
-use tokio::runtime::Runtime;
 
 /// The whole of the input, or one byte more than the limit lets it have.
 fn read_input<I: Read + Drop>(
@@ -52,7 +46,7 @@ fn write_bytes<O: Write>(output: &mut O, bytes: &[u8]) -> Result<(), Failure> {
 }
 
 /// Describes the source on the input.
-pub(crate) fn run_describe<R, I, O>(
+pub fn run_describe<R, I, O>(
     rt: &R,
     name: &str,
     input: I,
@@ -86,7 +80,7 @@ fn sources_of<'s>(alloc: Global, texts: &'s [NamedText]) -> Result<Vec<Source<'s
 }
 
 /// Compiles the sources below a folder, and writes the set to a file or, without one, to the output.
-pub(crate) fn run_compile<R, O>(
+pub fn run_compile<R, O>(
     rt: &R,
     root: &str,
     plan: Plan,
@@ -111,7 +105,7 @@ where
 }
 
 /// What the sources below a folder are compiled to.
-fn compile_folder<R>(rt: &R, root: &str, limits: &Limits, plan: Plan) -> Result<Compiled, Failure>
+pub fn compile_folder<R>(rt: &R, root: &str, limits: &Limits, plan: Plan) -> Result<Compiled, Failure>
 where
     R: Threads + Files + AllocGlobal + Sync,
 {
@@ -125,7 +119,7 @@ where
 }
 
 /// Answers the request body on the input over the sources below a folder.
-pub(crate) fn run_answer<R, I, O>(
+pub fn run_answer<R, I, O>(
     rt: &R,
     root: &str,
     plan: Plan,
@@ -145,55 +139,8 @@ where
     Ok(())
 }
 
-/// A runtime, and a listener at this address and port.
-fn listen_at<R>(rt: &R, listen: &str) -> Result<(Runtime, TcpListener), Failure>
-where
-    R: Wait + Threads + Clock + RandomSource + AllocGlobal + Sync + Clone + Drop + Net,
-{
-    let address: SocketAddr = listen.parse().map_err(|_| Failure::Listen)?;
-    let runtime = Runtime::new(rt).map_err(|_| Failure::Listen)?;
-    let listener = TcpListener::bind(rt, address, runtime.handle().reactor()).map_err(
-        |_| Failure::Listen,
-    )?;
-    Ok((runtime, listener))
-}
-
-/// Serves reflection over the sources below a folder.
-pub(crate) fn run_serve<R, O>(
-    rt: &R,
-    root: &str,
-    listen: &str,
-    plan: Plan,
-    mode: Mode,
-    connections: Option<u64>,
-    output: &mut O,
-) -> Result<(), Failure>
-where
-    R: Wait + Threads + Files + Clock + RandomSource + AllocGlobal + Sync + Clone + Drop + Net,
-    O: Write,
-{
-    let compiled = compile_folder(rt, root, &Limits::standard(), plan)?;
-    let shared = Arc::new(rt.alloc(), compiled)?;
-    let (mut runtime, listener) = listen_at(rt, listen)?;
-    let bound = listener.local_addr().map_err(|_| Failure::Listen)?;
-    if writeln!(output, "listening on {bound}").is_err() || output.flush().is_err() {
-        return Err(Failure::Output);
-    }
-    serve(
-        rt,
-        &mut runtime,
-        listener,
-        shared,
-        plan,
-        NoGate,
-        mode,
-        connections,
-    )?;
-    Ok(())
-}
-
 /// Explains a kind of fault, or lists all kinds.
-pub(crate) fn run_explain<O: Write>(kind: Option<&str>, output: &mut O) -> Result<(), Failure> {
+pub fn run_explain<O: Write>(kind: Option<&str>, output: &mut O) -> Result<(), Failure> {
     let written = match kind {
         Some(name) => write_kind(output, name),
         None => write_kinds(output),

@@ -1,0 +1,75 @@
+//! The command `serve`.
+
+use grpcweb_core::Mode;
+use grpcweb_service::{ServeFault, serve};
+use proto_base::Limits;
+use schema_commands::{Failure, compile_folder};
+use share_work::{NoGate, Plan};
+use std::alloc::AllocGlobal;
+use std::io::Write;
+use std::net::{Net, SocketAddr};
+use std::random::RandomSource;
+use std::rt::Files;
+use std::sync::{Arc, Wait};
+use std::thread::Threads;
+use std::time::Clock;
+use tokio::net::TcpListener;
+use tokio::runtime::Runtime;
+
+/// What the run of a service that ended early ends with.
+fn failure_of(fault: ServeFault) -> Failure {
+    match fault {
+        ServeFault::AcceptFault => Failure::Accept,
+        ServeFault::NoMemory => Failure::NoMemory,
+    }
+}
+
+/// A runtime, and a listener at this address and port.
+fn listen_at<R>(rt: &R, listen: &str) -> Result<(Runtime, TcpListener), Failure>
+where
+    R: Wait + Threads + Clock + RandomSource + AllocGlobal + Sync + Clone + Drop + Net,
+{
+    let address: SocketAddr = listen.parse().map_err(|_| Failure::Listen)?;
+    let runtime = Runtime::new(rt).map_err(|_| Failure::Listen)?;
+    let listener = TcpListener::bind(rt, address, runtime.handle().reactor()).map_err(
+        |_| Failure::Listen,
+    )?;
+    Ok((runtime, listener))
+}
+
+/// Serves reflection over the sources below a folder.
+pub(crate) fn run_serve<R, O>(
+    rt: &R,
+    root: &str,
+    listen: &str,
+    plan: Plan,
+    mode: Mode,
+    connections: Option<u64>,
+    output: &mut O,
+) -> Result<(), Failure>
+where
+    R: Wait + Threads + Files + Clock + RandomSource + AllocGlobal + Sync + Clone + Drop + Net,
+    O: Write,
+{
+    let compiled = compile_folder(rt, root, &Limits::standard(), plan)?;
+    let shared = Arc::new(rt.alloc(), compiled)?;
+    let (mut runtime, listener) = listen_at(rt, listen)?;
+    let bound = listener.local_addr().map_err(|_| Failure::Listen)?;
+    if writeln!(output, "listening on {bound}").is_err() || output.flush().is_err() {
+        return Err(Failure::Output);
+    }
+    let served = serve(
+        rt,
+        &mut runtime,
+        listener,
+        shared,
+        plan,
+        NoGate,
+        mode,
+        connections,
+    );
+    match served {
+        Ok(_) => Ok(()),
+        Err(fault) => Err(failure_of(fault)),
+    }
+}

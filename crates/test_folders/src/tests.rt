@@ -1,0 +1,4 @@
+//! What is read of a folder, by worked examples.
+
+mod feigned_folder;
+mod folder;
