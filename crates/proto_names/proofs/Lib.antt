@@ -6,6 +6,7 @@ pub mod Chaining
 pub mod Comparing
 pub mod Prefixes
 pub mod Growing
+pub mod Joining
 pub mod Looking
 pub mod Meaning
 pub mod Occurring

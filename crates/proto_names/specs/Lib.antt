@@ -1,4 +1,5 @@
 pub mod Chains
+pub mod Collected
 pub mod Entries
 pub mod Hashes
 pub mod Index

@@ -1,6 +1,7 @@
 //! The entries of an index: the occurrences of full names, which stand in one text.
 
-ghost use Rattle.std.specs.Prelude.{◌≡◌, ◌++◌, ◌∷◌, [], length, OnOk, IsPermutation, IsSorted};
+ghost use Rattle.std.specs.Prelude.{◌≡◌, ℕ, ◌+◌, ◌<◌, ◌^◌, ◌++◌, ◌∷◌, [], map, take, length, All, OnOk, IsPermutation, IsSorted};
+ghost use Rattle.proto_names.specs.Entries.{moved};
 ghost use Rattle.proto_desc.specs.DeclaredNames.{scoped};
 ghost use Rattle.proto_names.specs.Order.{AreInOrder, entry_cmp};
 
@@ -75,6 +76,15 @@ impl Entries {
         Ok(())
     }
 
+    /// Puts other entries behind these.
+    pub(crate) fn append(&mut self, other: &Entries) -> Result<(), AllocError>
+        ensures { OnOk result (self.new ≡ self.old ++ other.now) }
+    {
+        let start = self.text.len();
+        self.text.push_str(other.text.as_str())?;
+        put_moved(&mut self.entries, start, &other.entries)
+    }
+
     /// How many entries there are.
     pub(crate) fn len(&self) -> usize
         ensures { result ≡ length self.now }
@@ -98,6 +108,25 @@ impl Entries {
     {
         sort_entries(rt, self.text.as_bytes(), &mut self.entries);
     }
+}
+
+/// Puts entries behind others, with their names so many bytes further on in the text. Where there is no memory, some of them
+/// may be put.
+fn put_moved(entries: &mut Vec<Entry>, by: usize, others: &[Entry]) -> Result<(), AllocError>
+    requires { All (λ e. by + e.start < 2 ^ 64) others.now }
+    ensures kept { (n : ℕ) × (entries.new.items
+        ≡ entries.old.items ++ map (moved by) (take n others.now)) }
+    ensures put { OnOk result (entries.new.items
+        ≡ entries.old.items ++ map (moved by) others.now) }
+{
+    entries.reserve(others.len())?;
+    for entry in others {
+        entries.push(Entry {
+            start: by + entry.start,
+            ..*entry
+        })?;
+    }
+    Ok(())
 }
 
 /// The order of entries by the hashes of their names, which stand in a text, then by name, file and place. The hash

@@ -139,7 +139,7 @@ impl NameIndex {
             → limit_of limits.now limit.Names < length (occurrences files.now) }
     {
         let alloc = rt.alloc();
-        let Some(mut entries) = collect(alloc, files, limits.get(Limit::Names))? else {
+        let Some(mut entries) = collect(rt, alloc, files, limits.get(Limit::Names))? else {
             return Err(NameError::TooMany);
         };
         entries.sort(rt);

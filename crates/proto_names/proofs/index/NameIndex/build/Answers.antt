@@ -9,8 +9,8 @@ use Rattle.proto_names.proofs.index.NameIndex.build.Goals as goal
 
 pub returns-in-Some-first_twice-clause-twice : goal.returns-in-Some-first_twice-clause-twice
 returns-in-Some-first_twice-clause-twice g c file place e =
-    let collected = rw c.in-Some.is at c.in_ok-entries.ensures.all in
-    let within = rw c.in-Some.is at c.in_ok-entries.ensures.within in
+    let collected = (rw c.in-Some.is at c.in_ok-entries.ensures).0 in
+    let within = (rw c.in-Some.is at c.in_ok-entries.ensures).1 in
     let all = rw collected at c.sort.ensures.all in
     let first = rw c.names.ensures at c.in-Some-first_twice.ensures in
     let same_file : c.in-Some-first_twice.location.file ≡ file = cc in
@@ -27,17 +27,17 @@ new-requires-clause-order g c = order_names c.sort.new.self c.sort.ensures.order
 
 pub new-requires-clause-many : goal.new-requires-clause-many
 new-requires-clause-many g c =
-    let within = rw c.in-Some.is at c.in_ok-entries.ensures.within in
+    let within = (rw c.in-Some.is at c.in_ok-entries.ensures).1 in
     let all = c.sort.ensures.all in
     let same = length_permutation _ _ all in
     omega (arith, within, c.get.ensures.within, same)
 
 pub invariant_of-result : goal.invariant_of-result
 invariant_of-result g c =
-    let collected = rw c.in-Some.is at c.in_ok-entries.ensures.all in
+    let collected = (rw c.in-Some.is at c.in_ok-entries.ensures).0 in
     let kept = sym c.in_ok-entries-2.ensures in
     let all = subst (IsPermutation (occurrences c.args.files.now)) kept (rw collected at c.sort.ensures.all) in
-    let within = rw c.in-Some.is at c.in_ok-entries.ensures.within in
+    let within = (rw c.in-Some.is at c.in_ok-entries.ensures).1 in
     let none = rw c.names.ensures at (not_some _ c.first_twice.result c.in_default-first_twice.not-Some c.first_twice.ensures) in (
       record {
         inside = below_files c.args.files.now c.in_ok-entries-2.entries all;
@@ -65,8 +65,8 @@ invariant_of-result g c =
 
 pub returns-clause-indexed : goal.returns-clause-indexed
 returns-clause-indexed g c =
-    let collected = rw c.in-Some.is at c.in_ok-entries.ensures.all in
-    let within = rw c.in-Some.is at c.in_ok-entries.ensures.within in
+    let collected = (rw c.in-Some.is at c.in_ok-entries.ensures).0 in
+    let within = (rw c.in-Some.is at c.in_ok-entries.ensures).1 in
     let all = rw collected at c.sort.ensures.all in
     let kept = sym c.in_ok-entries-2.ensures in
     let moved = subst (IsPermutation (occurrences c.args.files.now)) kept all in
