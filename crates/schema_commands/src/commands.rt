@@ -46,12 +46,7 @@ fn write_bytes<O: Write>(output: &mut O, bytes: &[u8]) -> Result<(), Failure> {
 }
 
 /// Describes the source on the input.
-pub fn run_describe<R, I, O>(
-    rt: &R,
-    name: &str,
-    input: I,
-    output: &mut O,
-) -> Result<(), Failure>
+pub fn run_describe<R, I, O>(rt: &R, name: &str, input: I, output: &mut O) -> Result<(), Failure>
 where
     R: Threads + AllocGlobal + Sync,
     I: Read + Drop,
@@ -105,7 +100,12 @@ where
 }
 
 /// What the sources below a folder are compiled to.
-pub fn compile_folder<R>(rt: &R, root: &str, limits: &Limits, plan: Plan) -> Result<Compiled, Failure>
+pub fn compile_folder<R>(
+    rt: &R,
+    root: &str,
+    limits: &Limits,
+    plan: Plan,
+) -> Result<Compiled, Failure>
 where
     R: Threads + Files + AllocGlobal + Sync,
 {

@@ -6,7 +6,9 @@ use crate::serving::run_serve;
 use clap::Error;
 use clap::error::ErrorKind;
 use schema_command_line::{Task, task_of};
-use schema_commands::{Failure, Status, kind_names, run_answer, run_compile, run_describe, run_explain};
+use schema_commands::{
+    Failure, Status, kind_names, run_answer, run_compile, run_describe, run_explain,
+};
 use std::alloc::AllocGlobal;
 use std::io::{Read, Write};
 use std::net::Net;

@@ -131,21 +131,40 @@ fn exchanged<R: Threads + AllocGlobal + Sync>(
     (end, reader.failures(), writer.failures())
 }
 
+/// What is written where reader and writer take so many bytes a call, if nothing fails.
+fn handed_on<R: Threads + AllocGlobal + Sync>(
+    rt: &R,
+    compiled: &Compiled,
+    read_step: usize,
+    write_step: usize,
+) -> Option<Vec<u8>> {
+    let mut input = input_of(BODY, read_step, NEVER);
+    let mut output = output_by(rt, write_step);
+    let ended = exchanged(rt, compiled, &mut input, &mut output);
+    if ended == (Ok(()), 0, 0) {
+        Some(output.bytes)
+    } else {
+        None
+    }
+}
+
 /// The response of 93 bytes comes whole, however reader and writer cut their bytes.
 #[test]
 fn bytes_are_handed_on(rt: HostRuntime) -> Result<(), Fail> {
     let compiled = compiled(&rt, &THREE_FILES, &Limits::standard())?;
-    let mut whole = output_by(&rt, 4_096);
-    let mut all = input_of(BODY, 4_096, NEVER);
-    let ended = exchanged(&rt, &compiled, &mut all, &mut whole);
-    assert!(rt; ended == (Ok(()), 0, 0));
-    assert_eq!(rt; whole.bytes.len() as u64, LENGTH);
-    let mut pieces = output_by(&rt, 7);
-    let mut single_bytes = input_of(BODY, 1, NEVER);
-    let ended = exchanged(&rt, &compiled, &mut single_bytes, &mut pieces);
-    assert!(rt; ended == (Ok(()), 0, 0));
-    assert!(rt; pieces.bytes == whole.bytes);
+    let whole = handed_on(&rt, &compiled, 4_096, 4_096).ok_or("a response")?;
+    assert_eq!(rt; whole.len() as u64, LENGTH);
+    let pieces = handed_on(&rt, &compiled, 1, 7).ok_or("a response")?;
+    assert!(rt; pieces == whole);
     Ok(())
+}
+
+/// Whether a reader that fails at a call ends the exchange before anything is written.
+fn leaves_nothing<R: Threads + AllocGlobal + Sync>(rt: &R, compiled: &Compiled, call: u64) -> bool {
+    let mut output = output_by(rt, 4_096);
+    let mut input = input_of(BODY, 1, call);
+    let ended = exchanged(rt, compiled, &mut input, &mut output);
+    ended == (Err(IoFault::ReadFault), 1, 0) && output.calls == 0
 }
 
 /// A reader that fails at some call leaves nothing written.
@@ -153,43 +172,73 @@ fn bytes_are_handed_on(rt: HostRuntime) -> Result<(), Fail> {
 fn readers_fail(rt: HostRuntime) -> Result<(), Fail> {
     let compiled = compiled(&rt, &THREE_FILES, &Limits::standard())?;
     for call in 1..16 {
-        let mut output = output_by(&rt, 4_096);
-        let mut input = input_of(BODY, 1, call);
-        let ended = exchanged(&rt, &compiled, &mut input, &mut output);
-        assert!(rt; ended == (Err(IoFault::ReadFault), 1, 0), "call {call}");
-        assert!(rt; output.calls == 0, "call {call}");
+        assert!(rt; leaves_nothing(&rt, &compiled, call), "call {call}");
     }
     Ok(())
+}
+
+/// How a writer fails, and how many bytes of the response it has taken by then.
+#[derive(Clone, Copy)]
+struct FailingWriter {
+    step: usize,
+    fails_at: u64,
+    takes_none_at: u64,
+    flush_fails: bool,
+    written: u64,
+}
+
+static FAILING_WRITERS: [FailingWriter; 3] = [
+    FailingWriter {
+        step: 7,
+        fails_at: 3,
+        takes_none_at: NEVER,
+        flush_fails: false,
+        written: 14,
+    },
+    FailingWriter {
+        step: 7,
+        fails_at: NEVER,
+        takes_none_at: 1,
+        flush_fails: false,
+        written: 0,
+    },
+    FailingWriter {
+        step: 4_096,
+        fails_at: NEVER,
+        takes_none_at: NEVER,
+        flush_fails: true,
+        written: LENGTH,
+    },
+];
+
+/// Whether the length that is told of a writer's fault is that of what it took.
+fn tells_length<R: Threads + AllocGlobal + Sync>(
+    rt: &R,
+    compiled: &Compiled,
+    writer: FailingWriter,
+) -> bool {
+    let written = writer.written;
+    let mut output = Output {
+        fails_at: writer.fails_at,
+        takes_none_at: writer.takes_none_at,
+        flush_fails: writer.flush_fails,
+        ..output_by(rt, writer.step)
+    };
+    let mut input = input_of(BODY, 4_096, NEVER);
+    let ended = exchanged(rt, compiled, &mut input, &mut output);
+    ended == (Err(IoFault::WriteFault { written }), 0, 1) && output.bytes.len() as u64 == written
 }
 
 /// A writer that fails has taken a prefix of the response, whose length is told.
 #[test]
 fn writers_fail(rt: HostRuntime) -> Result<(), Fail> {
     let compiled = compiled(&rt, &THREE_FILES, &Limits::standard())?;
-    let failing = Output {
-        fails_at: 3,
-        ..output_by(&rt, 7)
-    };
-    let stuck = Output {
-        takes_none_at: 1,
-        ..output_by(&rt, 7)
-    };
-    let unflushed = Output {
-        flush_fails: true,
-        ..output_by(&rt, 4_096)
-    };
-    for (mut output, written) in vec![in rt.alloc();
-        (failing, 14),
-        (stuck, 0),
-        (unflushed, LENGTH),
-    ]? {
-        let mut input = input_of(BODY, 4_096, NEVER);
-        let ended = exchanged(&rt, &compiled, &mut input, &mut output);
+    for writer in &FAILING_WRITERS {
         assert!(rt;
-            ended == (Err(IoFault::WriteFault { written }), 0, 1),
-            "{written} bytes"
+            tells_length(&rt, &compiled, *writer),
+            "{} bytes",
+            writer.written
         );
-        assert!(rt; output.bytes.len() as u64 == written, "{written} bytes");
     }
     Ok(())
 }

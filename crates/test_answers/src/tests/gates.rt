@@ -61,6 +61,11 @@ where
     Ok(compiled.set_bytes(rt.alloc())?)
 }
 
+/// Whether the workers of a gate met.
+fn have_met(gate: &Held) -> bool {
+    gate.missed.load(Ordering::SeqCst) == 0
+}
+
 /// Sources are described, types resolved and descriptors written, each by two workers at once, and the set is that of one.
 #[test]
 fn compilers_meet(rt: HostRuntime) -> Result<(), Fail> {
@@ -70,36 +75,31 @@ fn compilers_meet(rt: HostRuntime) -> Result<(), Fail> {
         let gate = holding(phase);
         let found = set_by(&rt, plan, &gate)?;
         assert!(rt; found == alone, "phase {phase}");
-        assert!(rt;
-            gate.missed.load(Ordering::SeqCst) == 0,
-            "phase {phase}: nobody came"
-        );
+        assert!(rt; have_met(&gate), "phase {phase}: nobody came");
     }
     Ok(())
+}
+
+/// The response to the body by the workers of a plan.
+fn response_by<R, G>(rt: &R, plan: Plan, gate: &G) -> Result<String, Fail>
+where
+    R: Threads + AllocGlobal + Sync,
+    G: Gate + Sync,
+{
+    let limits = Limits::standard();
+    response(rt, &THREE_FILES, &limits, plan, gate, Mode::Once, BODY)
 }
 
 /// Marks and replies are each made by two workers at once, and the response is that of one.
 #[test]
 fn workers_meet(rt: HostRuntime) -> Result<(), Fail> {
-    let limits = Limits::standard();
     let plan = Plan::new(2, 1).ok_or("a plan")?;
-    let alone = response(
-        &rt,
-        &THREE_FILES,
-        &limits,
-        Plan::single(),
-        &NoGate,
-        Mode::Once,
-        BODY,
-    )?;
+    let alone = response_by(&rt, Plan::single(), &NoGate)?;
     for phase in 4..6 {
         let gate = holding(phase);
-        let found = response(&rt, &THREE_FILES, &limits, plan, &gate, Mode::Once, BODY)?;
+        let found = response_by(&rt, plan, &gate)?;
         assert!(rt; found == alone, "phase {phase}: {found}");
-        assert!(rt;
-            gate.missed.load(Ordering::SeqCst) == 0,
-            "phase {phase}: nobody came"
-        );
+        assert!(rt; have_met(&gate), "phase {phase}: nobody came");
     }
     Ok(())
 }

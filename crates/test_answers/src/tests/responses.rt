@@ -4,8 +4,10 @@ use super::fixtures::{ONE_FILE, THREE_FILES, column, response};
 use proto_base::{Limit, Limits};
 use reflect_core::Mode;
 use share_work::{NoGate, Plan};
+use std::alloc::AllocGlobal;
 use std::process::Abort;
 use std::test::Fail;
+use std::thread::Threads;
 
 /// The files, the mode, a limit that is lower, what the row shows, and in hexadecimal digits the body and its response.
 static ROWS: &str = "\
@@ -63,31 +65,64 @@ fn limits_of(name: &str) -> Option<Limits> {
     }
 }
 
+/// A row's columns.
+#[derive(Clone, Copy)]
+struct Row<'a> {
+    files: &'a str,
+    mode: &'a str,
+    limits: &'a str,
+    title: &'a str,
+    body: &'a str,
+    wanted: &'a str,
+}
+
+fn row_of(line: &str) -> Result<Row<'_>, Fail> {
+    let (files, line) = column(line)?;
+    let (mode, line) = column(line)?;
+    let (limits, line) = column(line)?;
+    let (title, line) = column(line)?;
+    let (body, wanted) = column(line)?;
+    Ok(Row {
+        files,
+        mode,
+        limits,
+        title,
+        body,
+        wanted,
+    })
+}
+
+/// The response to a row's body by the workers of a plan.
+fn response_by<R: Threads + AllocGlobal + Sync>(
+    rt: &R,
+    row: Row,
+    plan: Plan,
+) -> Result<String, Fail> {
+    let limits = limits_of(row.limits).ok_or("limits")?;
+    let body = hex::decode(rt.alloc(), row.body)?;
+    response(
+        rt,
+        files_of(row.files),
+        &limits,
+        plan,
+        &NoGate,
+        mode_of(row.mode),
+        &body,
+    )
+}
+
 /// Each row has the same response by every plan.
 #[test]
 fn responses(rt: HostRuntime) -> Result<(), Fail> {
-    for row in ROWS.split("\n") {
-        let (files, row) = column(row)?;
-        let (mode, row) = column(row)?;
-        let (limits, row) = column(row)?;
-        let (title, row) = column(row)?;
-        let (body, wanted) = column(row)?;
-        let limits = limits_of(limits).ok_or("limits")?;
-        let body = hex::decode(rt.alloc(), body)?;
+    for line in ROWS.split("\n") {
+        let row = row_of(line)?;
         for (workers, cut) in &PLANS {
             let plan = Plan::new(*workers, *cut).ok_or("a plan")?;
-            let found = response(
-                &rt,
-                files_of(files),
-                &limits,
-                plan,
-                &NoGate,
-                mode_of(mode),
-                &body,
-            )?;
+            let found = response_by(&rt, row, plan)?;
             assert!(rt;
-                found.as_str() == wanted,
-                "{title}, {workers} workers: {found}"
+                found.as_str() == row.wanted,
+                "{}, by {workers} workers, {cut} at a time: {found}",
+                row.title
             );
         }
     }
