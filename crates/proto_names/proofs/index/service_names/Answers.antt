@@ -10,7 +10,8 @@ returns-clause-all g c =
     let services = c.in_ok-services.services in
     let len : length c.par_sort_unstable.new.s ≡ length services.items = c.par_sort_unstable.ensures.len ∙ ap length c.deref_mut.ensures.value in
     let same = written c.par_sort_unstable.new.s services.items services.len services.ok.0 len in
-    let moved = IsPermutation-map string_bytes services.items c.par_sort_unstable.new.s (rw c.deref_mut.ensures.value at c.par_sort_unstable.ensures.permutation) in
+    let moved =
+    IsPermutation-map string_bytes services.items c.par_sort_unstable.new.s (rw c.deref_mut.ensures.value at c.par_sort_unstable.ensures.permutation) in
     rw same (subst (λ (xs : List (List ℕ)). IsPermutation xs (map string_bytes c.par_sort_unstable.new.s)) c.in_ok-services.ensures moved)
 
 pub returns-clause-order : goal.returns-clause-order

@@ -12,7 +12,8 @@ pub invariant_of-self : goal.invariant_of-self
 invariant_of-self c =
     let old = string_bytes c.self.inside.text in
     let new = string_bytes c.push_str.new.self in
-    entries_more old new c.self.inside.entries.items (put_kept c.push_str.result old old c.as_str.result.now new ([], sym (append-nil old)) c.push_str.ensures.bytes)
+    entries_more old new c.self.inside.entries.items
+    (put_kept c.push_str.result old old c.as_str.result.now new ([], sym (append-nil old)) c.push_str.ensures.bytes)
     c.self.invariant
 
 pub invariant_of-self-2 : goal.invariant_of-self-2
