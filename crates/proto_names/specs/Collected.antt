@@ -1,4 +1,4 @@
--- What a walk over files finds.
+-- Words of private contracts: what a walk over files finds.
 use Rattle.std.specs.Prelude.{◌≡◌, ℕ, ◌<◌, ◌≤◌, List, length, Option, None, Some}
 use Rattle.proto_desc.specs.declared.file.FileDesc.{FileDesc}
 use Rattle.proto_names.specs.Occurrences.{Occurrence, occurrences_from}

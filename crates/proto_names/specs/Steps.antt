@@ -1,4 +1,4 @@
--- The steps of a resolution.
+-- Words of private contracts: the steps of a resolution.
 use Rattle.std.specs.Prelude.{◌≡◌, ℕ, List, Bool, Option}
 use Rattle.proto_desc.specs.declared.name_kind.NameKind.{NameKind}
 use Rattle.proto_names.specs.Occurrences.{Occurrence}
