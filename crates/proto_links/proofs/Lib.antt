@@ -5,6 +5,7 @@ mod Positions
 mod Reaching
 pub mod Rising
 mod Search
+mod Seeing
 mod Targeting
 pub mod Unique
 pub mod Whole

@@ -262,6 +262,7 @@ module _ {files : List FileDesc} {graph : ImportGraph} {ranking : Ranking} {posi
   pub sound_of : IsSound (links_of ranking positioned reach seen)
   sound_of = record {
     size = omega (arith, m.positions.size, m.ranked.order.size);
+    places = m.positions;
     reach_inside = λ a h. (
         let inside = position_below m a (omega (arith, h, ranks_size)) in
         omega (arith, inside, r.size, named_length (file_at ranking) r.lists reach r.named));

@@ -1,7 +1,8 @@
 -- Files whose imports are found, by their positions in the list of files.
-use Rattle.std.specs.Prelude.{◌≡◌, ◌⊎◌, ◌↔◌, ℕ, ◌+◌, ◌<◌, List, [], length, filter, Bool, IsTrue, Contains, slice_index_or, ◌==◌}
+use Rattle.std.specs.Prelude.{◌≡◌, ◌⊎◌, ◌↔◌, ℕ, ◌+◌, ◌<◌, List, [], length, filter, Bool, IsTrue, Some, Contains, slice_get, slice_index_or, ◌==◌}
 use Rattle.std.specs.List.{list_any, IsDistinct}
 use Rattle.std.specs.List.Sorted.{IsStrictlyIncreasing}
+use Rattle.digraph.specs.Renumbered.{ArePositions}
 use Rattle.proto_desc.specs.declared.file.FileDesc.{FileDesc}
 use Rattle.proto_links.specs.Imports.{Imports, Reaches, NoneBad}
 use Rattle.proto_links.specs.Visible.{Sees}
@@ -36,9 +37,14 @@ seen_of links a = slice_index_or links.seen (position_of links a) []
 abbrev pub sees : Linked → ℕ → ℕ → Bool
 sees links a b = has (position_of links b) (seen_of links a)
 
--- each file has a position, lists there, and a rising list of what it sees
+-- a file stands in set order at one of these positions
+abbrev pub StandsAtOne : Linked → List ℕ → ℕ → Type 0
+StandsAtOne links positions b = (k : ℕ) × Contains positions k × (slice_get links.set_order k ≡ Some b)
+
+-- each file has its position in set order, lists there, and a rising list of what it sees
 pub record IsSound (links : Linked) : Type 0 where
   pub size : length links.positions ≡ length links.ranks
+  pub places : ArePositions links.set_order links.positions
   pub reach_inside : (a : ℕ) → a < length links.ranks → position_of links a < length links.reach
   pub seen_inside : (a : ℕ) → a < length links.ranks → position_of links a < length links.seen
   pub rises : (a : ℕ) → a < length links.ranks → IsStrictlyIncreasing (seen_of links a)

@@ -1,7 +1,7 @@
 //! Files whose imports are found.
 
-ghost use Rattle.std.specs.Prelude.{◌≡◌, ◌<◌};
-ghost use Rattle.proto_links.specs.Linked.{AreReachesWhole, count_of, rank_of, reach_of, sees};
+ghost use Rattle.std.specs.Prelude.{◌≡◌, ◌↔◌, ◌<◌, ℕ, IsTrue};
+ghost use Rattle.proto_links.specs.Linked.{AreReachesWhole, StandsAtOne, count_of, rank_of, reach_of, seen_of, sees};
 
 use digraph::{Lists, Ranking};
 use std::marker::Model;
@@ -90,6 +90,16 @@ impl Links {
         let _ = &self.ranking;
     }
 
+    /// The positions in set order of the files that a file sees, in rising order.
+    pub fn seen(&self, file: FileId) -> &[usize]
+        requires { file < count_of self.now }
+        ensures positions { result.now ≡ seen_of self.now file }
+        ensures files { (b : ℕ) → b < count_of self.now → StandsAtOne self.now result.now b
+            ↔ IsTrue (sees self.now file b) }
+    {
+        self.seen.get(self.positions[file])
+    }
+
     /// Whether a file sees another one (language guide, "Importing Definitions"): itself, what it imports, and what the
     /// files that it sees import publicly.
     pub fn sees(&self, file: FileId, other: FileId) -> bool
@@ -97,8 +107,7 @@ impl Links {
         requires other { other < count_of self.now }
         ensures { result ≡ sees self.now file other }
     {
-        self.seen
-            .get(self.positions[file])
+        self.seen(file)
             .binary_search(&self.positions[other])
             .is_ok()
     }

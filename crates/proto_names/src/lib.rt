@@ -16,6 +16,7 @@ mod resolve;
 mod scope;
 mod table;
 mod twice;
+mod visible;
 
 pub use full_name::name_in;
 pub use index::{Defined, NameError, NameIndex};

@@ -1,14 +1,15 @@
 //! The names of entries, with what they are declared for and where.
 
-ghost use Rattle.std.specs.Prelude.{◌≡◌, ◌↔◌, ◌<◌, ◌≤◌, map, length, take, drop, IfOk, IfSome, IsTrue, string_bytes};
+ghost use Rattle.std.specs.Prelude.{◌≡◌, ◌≢◌, ◌↔◌, ℕ, ◌<◌, ◌≤◌, map, length, take, drop, IfOk, IsTrue, MatchOption, string_bytes};
 ghost use Rattle.proto_desc.specs.DeclaredNames.{scoped};
 ghost use Rattle.proto_names.specs.Entries.{AreEntriesOf, occurrence};
 ghost use Rattle.proto_names.specs.Hashes.{hash_of};
 ghost use Rattle.proto_names.specs.Order.{location_of};
-ghost use Rattle.proto_names.specs.Runs.{at};
+ghost use Rattle.proto_names.specs.Runs.{AreByFile, at};
 
 use crate::entry::{Entry, Location};
 use crate::full_name::compare;
+use crate::halving::count_before_file;
 use proto_desc::name_kind::NameKind;
 use proto_links::FileId;
 use std::alloc::{AllocError, Global};
@@ -133,16 +134,17 @@ impl<'e> Names<'e> {
         }
     }
 
-    /// The position of an entry in a file, found by halving: the entries of one name come in the order of their files.
+    /// The position of an entry in a file, found by halving.
     pub(crate) fn position_in(&self, file: FileId) -> Option<usize>
-        ensures { IfSome result (λ position. position < length self.now) }
+        requires { AreByFile self.now }
+        ensures { MatchOption result ((k : ℕ) → k < length self.now → (at self.now k).file ≢ file)
+            (λ position. (position < length self.now) × ((at self.now position).file ≡ file)) }
     {
-        match self
-            .entries
-            .binary_search_by_key(&file, |entry: &Entry| entry.location.file)
-        {
-            Ok(position) => Some(position),
-            Err(_) => None,
+        let position = count_before_file(self, file);
+        if position < self.len() && self.location(position).file == file {
+            Some(position)
+        } else {
+            None
         }
     }
 }

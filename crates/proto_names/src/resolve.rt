@@ -1,13 +1,12 @@
 //! What a spelled name means in a scope, as a type.
 
-ghost use Rattle.std.specs.Prelude.{◌≡◌, ◌↔◌, ℕ, ◌<◌, List, Bool, Err, IfOk, IsTrue, MatchOption, length, string_bytes};
+ghost use Rattle.std.specs.Prelude.{◌≡◌, ◌↔◌, ℕ, ◌<◌, List, Bool, Err, IfOk, IsTrue, MatchOption, string_bytes};
 ghost use Rattle.proto_desc.specs.DeclaredNames.{scoped};
 ghost use Rattle.proto_desc.specs.declared.name_kind.NameKind.{NameKind};
 ghost use Rattle.proto_desc.specs.declared.name_kind.NameKind.TheVariants as kinds;
 ghost use Rattle.proto_links.specs.Linked.{count_of};
 ghost use Rattle.proto_names.specs.Occurrences.{Occurrence};
 ghost use Rattle.proto_names.specs.Resolution.{AreSeenAlike, SeenBy, Decides, IsInnermost, IsSeen, IsType, Resolves, ResolvesNowhere, Visible};
-ghost use Rattle.proto_names.specs.Runs.{at};
 ghost use Rattle.proto_names.specs.Scopes.{IsCandidate};
 ghost use Rattle.proto_names.specs.Steps.{IsMeant, MeansNothing, fits};
 ghost use Rattle.proto_names.specs.declared.resolve.ResolveError.TheVariants as errors;
@@ -15,8 +14,8 @@ ghost use Rattle.proto_names.specs.declared.resolve.Want.TheVariants as wants;
 
 use crate::full_name::name_in;
 use crate::index::NameIndex;
-use crate::names::Names;
 use crate::scope::Scope;
+use crate::visible::{Role, sees_one};
 use proto_desc::name_kind::NameKind;
 use proto_links::{FileId, Links};
 use std::alloc::{AllocError, Global};
@@ -68,40 +67,6 @@ impl From<AllocError> for ResolveError {
     }
 }
 
-/// What a name is looked up as.
-#[derive(Clone, Copy)]
-enum Role {
-    Message,
-    Type,
-    Scope,
-}
-
-impl Role {
-    /// Whether what a name is declared for fits. A package, which is declared for nothing, is a scope.
-    fn fits(self, kind: Option<NameKind>) -> bool
-        ensures { result ≡ fits self kind }
-    {
-        match kind {
-            None => matches!(self, Role::Scope),
-            Some(NameKind::Message) => true,
-            Some(NameKind::Enum) => matches!(self, Role::Type | Role::Scope),
-            Some(NameKind::Service) => matches!(self, Role::Scope),
-            Some(NameKind::Field | NameKind::Oneof | NameKind::Value | NameKind::Method) => false,
-        }
-    }
-}
-
-/// Whether the entry at a position is of a kind that fits, and stands in a file that this one sees.
-fn is_seen(links: &Links, file: FileId, role: Role, names: &Names, position: usize) -> bool
-    requires file { file < count_of links.now }
-    requires position { position < length names.now }
-    requires entry { (at names.now position).file < count_of links.now }
-    ensures { IsTrue result ↔ (IsTrue (fits role (at names.now position).kind)
-        × SeenBy links.now file (at names.now position).file) }
-{
-    role.fits(names.kind(position)) && links.sees(file, names.location(position).file)
-}
-
 impl NameIndex {
     /// Whether a file sees the name in a scope, of a kind that fits.
     fn is_visible(&self, links: &Links, file: FileId, role: Role, scope: Scope, name: &str) -> bool
@@ -110,19 +75,7 @@ impl NameIndex {
         ensures { IsTrue result ↔ Visible self.now.occurrences (SeenBy links.now file) (fits role)
             (scoped scope.entry.text.now name.now) }
     {
-        let names = self.entries.named(scope, name);
-        // A package has an entry in each of its files, and is mostly the file's own.
-        if let Some(position) = names.position_in(file) {
-            if is_seen(links, file, role, &names, position) {
-                return true;
-            }
-        }
-        for position in 0..names.len() {
-            if is_seen(links, file, role, &names, position) {
-                return true;
-            }
-        }
-        false
+        sees_one(links, file, role, &self.entries.named(scope, name))
     }
 
     /// Whether a scope decides what a spelled name means.

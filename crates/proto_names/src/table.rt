@@ -5,8 +5,9 @@ ghost use Rattle.std.specs.List.Sorted.{IsPartitionPoint};
 ghost use Rattle.std.specs.declared.cmp.Ordering.TheVariants.{Less};
 ghost use Rattle.proto_desc.specs.DeclaredNames.{scoped};
 ghost use Rattle.proto_names.specs.Chains.{AreChained};
-ghost use Rattle.proto_names.specs.Order.{AreInNameOrder, name_cmp};
+ghost use Rattle.proto_names.specs.Order.{AreInNameOrder, AreInOrder, name_cmp};
 ghost use Rattle.proto_names.specs.Occurrences.{Occurrence};
+ghost use Rattle.proto_names.specs.Runs.{AreByFile};
 
 use crate::chains::{Chains, chain_entries};
 use crate::entries::Entries;
@@ -27,13 +28,13 @@ impl Model for EntryTable {
     ghost use Rattle.std.specs.Prelude.{List, length};
     ghost use Rattle.proto_names.specs.Chains.{AreChained};
     ghost use Rattle.proto_names.specs.Occurrences.{Occurrence};
-    ghost use Rattle.proto_names.specs.Order.{AreInNameOrder};
+    ghost use Rattle.proto_names.specs.Order.{AreInOrder};
 
     ghost Value = { List Occurrence };
 
     ghost view = { λ table. table.entries };
 
-    ghost invariant = { λ table. AreInNameOrder table.entries
+    ghost invariant = { λ table. AreInOrder table.entries
         × AreChained table.entries (length table.entries) table.chains.slots.items
         table.chains.links.items };
 }
@@ -41,7 +42,7 @@ impl Model for EntryTable {
 impl EntryTable {
     /// The entries with their chains.
     pub(crate) fn new(alloc: Global, entries: Entries) -> Result<EntryTable, AllocError>
-        requires order { AreInNameOrder entries }
+        requires order { AreInOrder entries }
         requires many { length entries ≤ 1_048_576 }
         ensures { IfOk result (λ table. table ≡ entries) }
     {
@@ -49,12 +50,13 @@ impl EntryTable {
         Ok(EntryTable { entries, chains })
     }
 
-    /// The entries of the name in a scope.
+    /// The entries of the name in a scope, in the order of their files.
     pub(crate) fn named(&self, scope: Scope, name: &str) -> Names<'_>
         ensures found { (o : Occurrence) → Contains result o
             → Contains self.now o × (o.name ≡ scoped scope.entry.text.now name.now) }
         ensures all { (o : Occurrence) → Contains self.now o
             → o.name ≡ scoped scope.entry.text.now name.now → Contains result o }
+        ensures order { AreByFile result }
     {
         entries_named(&self.entries.names(), &self.chains, scope, name)
     }
@@ -78,13 +80,14 @@ fn run_length(names: &Names, scope: &str, name: &str) -> usize
     }
 }
 
-/// The entries of the name in a scope.
+/// The entries of the name in a scope, in the order of their files.
 fn entries_named<'e>(names: &Names<'e>, chains: &Chains, scope: Scope, name: &str) -> Names<'e>
-    requires order { AreInNameOrder names.now }
+    requires order { AreInOrder names.now }
     requires chains { AreChained names.now (length names.now) chains.now.slots.items
         chains.now.links.items }
-    ensures { (o : Occurrence) → Contains result o
+    ensures named { (o : Occurrence) → Contains result o
         ↔ (Contains names.now o × (o.name ≡ scoped scope.entry.text.now name.now)) }
+    ensures order { AreByFile result }
 {
     match chains.start_of(names, scope, name) {
         Some(start) => {

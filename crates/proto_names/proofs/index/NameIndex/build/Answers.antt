@@ -4,7 +4,6 @@ use Rattle.std.proofs.lemmas.List.Sorted.{length_permutation}
 use Rattle.proto_names.specs.Index.{services_of}
 use Rattle.proto_names.specs.Occurrences.{Occurrence, occurrences}
 use Rattle.proto_names.proofs.Built.{below_files, none_moved, first_moved, not_some}
-use Rattle.proto_names.proofs.Ordered.{order_names}
 use Rattle.proto_names.proofs.index.NameIndex.build.Goals as goal
 
 pub returns-in-Some-first_twice-clause-twice : goal.returns-in-Some-first_twice-clause-twice
@@ -21,9 +20,6 @@ returns-in-Some-first_twice-clause-twice g c file place e =
           rw (← same_file, ← same_place) (first_moved (occurrences c.args.files.now) c.sort.new.self c.in-Some-first_twice.location.file
           c.in-Some-first_twice.location.place all first);
     }
-
-pub new-requires-clause-order : goal.new-requires-clause-order
-new-requires-clause-order g c = order_names c.sort.new.self c.sort.ensures.order
 
 pub new-requires-clause-many : goal.new-requires-clause-many
 new-requires-clause-many g c =

@@ -1,64 +1,35 @@
-use Rattle.std.proofs.Common.{◌∙◌, sym, ap, refl, subst, ◌<◌, length, arith, below_more}
-use Rattle.std.proofs.lemmas.Bool.{false≢true}
+use Rattle.std.proofs.Common.{sym, ap, subst, List, get_or, arith}
+use Rattle.std.proofs.lemmas.List.{get_or_default}
 use Rattle.proto_desc.specs.DeclaredNames.{scoped}
 use Rattle.proto_names.specs.Index.{Index}
+use Rattle.proto_names.specs.Occurrences.{Occurrence}
 use Rattle.proto_names.specs.Resolution.{SeenBy, Visible}
-use Rattle.proto_names.specs.Runs.{at}
 use Rattle.proto_names.specs.Steps.{fits}
-use Rattle.proto_names.proofs.Looking.{not_visible, visible_of}
-use Rattle.proto_names.proofs.Occurring.{occurs}
+use Rattle.proto_names.proofs.ByFile.{alike_in_files}
+use Rattle.proto_names.proofs.Looking.{among_visible, visible_among}
+use Rattle.proto_names.proofs.Once.{declared_once}
 use Rattle.proto_names.proofs.index.NameIndex.is_visible.Goals as goal
 
-pub is_seen-requires-clause-entry : goal.is_seen-requires-clause-entry
-is_seen-requires-clause-entry c =
-    let named = c.named-names.result in
-    let below : c.in-Some.position < length named = rw c.in-Some.is at c.position_in.ensures in
-    let o = at named c.in-Some.position in
-    let here = c.named-names.ensures.found o (occurs named c.in-Some.position below) in
-    let inside = c.self.invariant.0.inside o here.0 in
+pub sees_one-requires-clause-entries : goal.sees_one-requires-clause-entries
+sees_one-requires-clause-entries c k d below =
+    let here = c.named.ensures.found (get_or c.named.result k d) (k, below, get_or_default c.named.result k (get_or c.named.result k d) d below) in
+    let inside = c.self.invariant.0.inside _ here.0 in
     let files = ap (λ (index : Index). index.files) c.self.view_is in
     omega (arith, inside, files, c.requires.links)
 
-pub returns-then-is_seen : goal.returns-then-is_seen
-returns-then-is_seen c =
-    let named = c.named-names.result in
-    let below : c.in-Some.position < length named = rw c.in-Some.is at c.position_in.ensures in
-    let name = scoped c.args.scope.text.now c.args.name.now in (
-      λ t. subst (λ (index : Index). Visible index.occurrences (SeenBy c.args.links.now c.args.file) (fits c.args.role) name) c.self.view_is
-          (visible_of c.self.inside.entries (SeenBy c.args.links.now c.args.file) (fits c.args.role) name named c.in-Some.position
-          c.named-names.ensures.found below (c.is_seen.ensures.0 c.if-is_seen.true)),
-      λ v. refl,
-    )
-
-pub is_seen-requires-in-loop-position-clause-entry : goal.is_seen-requires-in-loop-position-clause-entry
-is_seen-requires-in-loop-position-clause-entry c =
-    let named = c.named-names.result in
-    let o = at named c.loop-position.position in
-    let here = c.named-names.ensures.found o (occurs named c.loop-position.position (omega arith)) in
-    let inside = c.self.invariant.0.inside o here.0 in
-    let files = ap (λ (index : Index). index.files) c.self.view_is in
-    omega (arith, inside, files, c.requires.links)
-
-pub returns-then-is_seen-2 : goal.returns-then-is_seen-2
-returns-then-is_seen-2 c =
-    let named = c.named-names.result in
-    let below : c.loop-position.position < length named = omega arith in
-    let name = scoped c.args.scope.text.now c.args.name.now in (
-      λ t. subst (λ (index : Index). Visible index.occurrences (SeenBy c.args.links.now c.args.file) (fits c.args.role) name) c.self.view_is
-          (visible_of c.self.inside.entries (SeenBy c.args.links.now c.args.file) (fits c.args.role) name named c.loop-position.position
-          c.named-names.ensures.found below (c.is_seen-in-loop-position.ensures.0 c.if-is_seen-2.true)),
-      λ v. refl,
-    )
-
-pub loop-position-preserved : goal.loop-position-preserved
-loop-position-preserved c = below_more _ _ c.loop-position.invariant
-    (λ fitting seen. false≢true (sym c.if-is_seen-2.false ∙ c.is_seen-in-loop-position.ensures.1 (fitting, seen)))
+pub sees_one-requires-clause-alike : goal.sees_one-requires-clause-alike
+sees_one-requires-clause-alike c =
+    let of = c.self.invariant.1 in
+    alike_in_files c.self.inside.entries (scoped c.args.scope.text.now c.args.name.now) c.named.result (declared_once _ of.0 of.1 of.2).one
+    c.named.ensures.found
 
 pub returns : goal.returns
 returns c =
-    let name = scoped c.args.scope.text.now c.args.name.now in (
-      λ t. absurd (false≢true t),
-      λ v. absurd (not_visible c.self.inside.entries (SeenBy c.args.links.now c.args.file) (fits c.args.role) name c.named-names.result
-          c.loop-position.position c.named-names.ensures.all (omega arith) c.loop-position.invariant
-          (subst (λ (index : Index). Visible index.occurrences (SeenBy c.args.links.now c.args.file) (fits c.args.role) name) (sym c.self.view_is) v)),
+    let seen = SeenBy c.args.links.now c.args.file in
+    let name = scoped c.args.scope.text.now c.args.name.now in
+    let is = ap (λ (index : Index). index.occurrences) c.self.view_is in (
+      λ t. subst (λ (os : List Occurrence). Visible os seen (fits c.args.role) name) is
+          (among_visible c.self.inside.entries seen (fits c.args.role) name c.named.result c.named.ensures.found (c.sees_one.ensures.0 t)),
+      λ v. c.sees_one.ensures.1 (visible_among c.self.inside.entries seen (fits c.args.role) name c.named.result c.named.ensures.all
+          (subst (λ (os : List Occurrence). Visible os seen (fits c.args.role) name) (sym is) v)),
     )
