@@ -13,27 +13,32 @@ use Rattle.proto_names.proofs.table.entries_named.Goals as goal
 
 pub skip-behind-requires : goal.skip-behind-requires
 skip-behind-requires c =
-    let below = start_below c.args.names.now (scoped c.args.scope.text.now c.args.name.now) c.in-Some.start (order_names c.args.names.now c.requires.order) c.in-Some.ensures in
+    let os = c.args.names.now in
+    let sorted = order_names os c.requires.order in
+    let below = start_below os (scoped c.args.scope.text.now c.args.name.now) c.in-Some.start sorted c.in-Some.ensures in
     omega (arith, below)
 
 pub run_length-requires-clause-order : goal.run_length-requires-clause-order
 run_length-requires-clause-order c =
     let os = c.args.names.now in
-    let below = start_below os (scoped c.args.scope.text.now c.args.name.now) c.in-Some.start (order_names c.args.names.now c.requires.order) c.in-Some.ensures in
-    subst AreInNameOrder (sym c.skip-behind.ensures) (drop_sorted os c.in-Some.start (omega (arith, below)) (order_names c.args.names.now c.requires.order))
+    let sorted = order_names os c.requires.order in
+    let below = start_below os (scoped c.args.scope.text.now c.args.name.now) c.in-Some.start sorted c.in-Some.ensures in
+    subst AreInNameOrder (sym c.skip-behind.ensures) (drop_sorted os c.in-Some.start (omega (arith, below)) sorted)
 
 pub run_length-requires-clause-behind : goal.run_length-requires-clause-behind
 run_length-requires-clause-behind c =
     let os = c.args.names.now in
     let target = scoped c.args.scope.text.now c.args.name.now in
-    let below = start_below os target c.in-Some.start (order_names c.args.names.now c.requires.order) c.in-Some.ensures in
+    let sorted = order_names os c.requires.order in
+    let below = start_below os target c.in-Some.start sorted c.in-Some.ensures in
     subst (λ (ps : List Occurrence). All (λ o. name_cmp o.name target ≢ Less) ps) (sym c.skip-behind.ensures)
-    (drop_behind os target c.in-Some.start (omega (arith, below)) (start_point os target c.in-Some.start (order_names c.args.names.now c.requires.order) c.in-Some.ensures))
+    (drop_behind os target c.in-Some.start (omega (arith, below)) (start_point os target c.in-Some.start sorted c.in-Some.ensures))
 
 pub run_length-requires-clause-some : goal.run_length-requires-clause-some
 run_length-requires-clause-some c =
     let os = c.args.names.now in
-    let below = start_below os (scoped c.args.scope.text.now c.args.name.now) c.in-Some.start (order_names c.args.names.now c.requires.order) c.in-Some.ensures in
+    let sorted = order_names os c.requires.order in
+    let below = start_below os (scoped c.args.scope.text.now c.args.name.now) c.in-Some.start sorted c.in-Some.ensures in
     let l = length-drop c.in-Some.start os in
     let same = ap length c.skip-behind.ensures in
     omega (arith, l, below, same)
@@ -42,8 +47,9 @@ pub run_length-requires-clause-first : goal.run_length-requires-clause-first
 run_length-requires-clause-first c =
     let os = c.args.names.now in
     let target = scoped c.args.scope.text.now c.args.name.now in
+    let below = start_below os target c.in-Some.start (order_names os c.requires.order) c.in-Some.ensures in
     subst (λ (ps : List Occurrence). (d : Occurrence) → (get_or ps 0 d).name ≡ target) (sym c.skip-behind.ensures)
-    (start_named os target c.in-Some.start c.in-Some.ensures (start_below os target c.in-Some.start (order_names c.args.names.now c.requires.order) c.in-Some.ensures))
+    (start_named os target c.in-Some.start c.in-Some.ensures below)
 
 named_run : (c : goal.After-take) (o : Occurrence) → Contains (take c.run_length.result (drop c.in-Some.start c.args.names.now)) o
     ↔ (Contains c.args.names.now o × (o.name ≡ scoped c.args.scope.text.now c.args.name.now))
@@ -52,11 +58,12 @@ named_run c =
     let target = scoped c.args.scope.text.now c.args.name.now in
     let start = c.in-Some.start in
     let n = c.run_length.result in
-    let below = start_below os target start (order_names os c.requires.order) c.in-Some.ensures in
+    let sorted = order_names os c.requires.order in
+    let below = start_below os target start sorted c.in-Some.ensures in
     let behind = c.skip-behind.ensures in
     let bound = subst (λ (ps : List Occurrence). n ≤ length ps) behind c.run_length.ensures.bound in
     let point = subst (λ (ps : List Occurrence). IsPartitionPoint (λ o. o.name ≡ target) (λ o. o.name ≢ target) ps n) behind c.run_length.ensures.point in
-    run_is os target start n (omega (arith, below)) bound (start_point os target start (order_names os c.requires.order) c.in-Some.ensures) point
+    run_is os target start n (omega (arith, below)) bound (start_point os target start sorted c.in-Some.ensures) point
 
 pub returns-in-Some-clause-named : goal.returns-in-Some-clause-named
 returns-in-Some-clause-named c =

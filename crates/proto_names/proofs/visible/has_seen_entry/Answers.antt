@@ -8,11 +8,13 @@ use Rattle.proto_names.proofs.visible.has_seen_entry.Goals as goal
 pub returns-then-has_entry_at : goal.returns-then-has_entry_at
 returns-then-has_entry_at c = (
   λ t. (let w = c.has_entry_at.ensures.0 c.if-has_entry_at.true in
-      let below = c.requires.entries w.0 blank w.1 in (
+      let below = c.requires.entries w.0 blank w.1 in
+      let file = (at c.args.names.now w.0).file in (
         w.0,
         w.1,
         w.2,
-        (c.seen-seen.ensures.files (at c.args.names.now w.0).file below).0 (_, (c.loop-index.index, c.loop-index-test.true, get_or_default _ _ _ _ c.loop-index-test.true), w.3),
+        (c.seen-seen.ensures.files file below).0
+            (_, (c.loop-index.index, c.loop-index-test.true, get_or_default _ _ _ _ c.loop-index-test.true), w.3),
       )),
   λ w. refl,
 )
