@@ -1,5 +1,6 @@
 pub mod Closing
 pub mod Levels
+pub mod Joining
 pub mod Marking
 pub mod Naming
 pub mod Renumbering

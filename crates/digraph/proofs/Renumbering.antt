@@ -106,10 +106,6 @@ pub record Rowed (g : Graph) (order positions : List ℕ) (n : ℕ) (rows : Grap
   pub size : length rows ≡ n
   pub rowed : (k j : ℕ) → Edge rows k j ↔ ((k < n) × HasPosition positions (successors g (node_at order k)) j)
 
-pub rowed_none : (g : Graph) (order positions : List ℕ) (rows : Graph) → rows ≡ [] → Rowed g order positions 0 rows
-rowed_none g order positions rows e =
-    rw e (record { size = refl; rowed = λ k j. (λ edge. (let h = edge_below [] k j edge in absurd (no_position k h)), λ w. absurd (no_position k w.0)) })
-
 rowed_to : (g : Graph) (order positions : List ℕ) (n k j : ℕ) (E : Type 0) (row : List ℕ)
     → (E → (k < n) × HasPosition positions (successors g (node_at order k)) j) → (Contains row j → HasPosition positions (successors g (node_at order n)) j)
     → E ⊎ ((k ≡ n) × Contains row j) → (k < n + 1) × HasPosition positions (successors g (node_at order k)) j

@@ -1,7 +1,7 @@
 -- Ways over the edges of a graph, or over any relation.
 use Rattle.std.specs.Prelude.{◌≡◌, ◌⊎◌, ◌↔◌, ℕ, ◌<◌, List, [], Contains, slice_index_or}
 use Rattle.std.specs.List.Sorted.{IsStrictlyIncreasing}
-use Rattle.digraph.specs.Edges.{Graph, Edge, successors}
+use Rattle.digraph.specs.Edges.{Graph, Edge}
 
 -- the reflexive, transitive closure of R, from a to c
 pub data Leads (R : ℕ → ℕ → Type 0) (c : ℕ) : ℕ → Type 0 where
@@ -29,10 +29,6 @@ InLists lists row c = (b : ℕ) × Contains row b × Contains (slice_index_or li
 pub record IsUnion (lists : List (List ℕ)) (row : List ℕ) (a : ℕ) (xs : List ℕ) : Type 0 where
   pub rises : IsStrictlyIncreasing xs
   pub members : (c : ℕ) → Contains xs c ↔ (InLists lists row c ⊎ (a ≡ c))
-
--- each of the first n unions is that of its node and of its successors' lists
-abbrev pub AreUnions : List (List ℕ) → Graph → List (List ℕ) → ℕ → Type 0
-AreUnions lists g unions n = (a : ℕ) → a < n → IsUnion lists (successors g a) a (slice_index_or unions a [])
 
 -- each of the first n lists has its own node, and with a node all that stands in that one's list
 pub record AreClosed (lists : List (List ℕ)) (n : ℕ) : Type 0 where

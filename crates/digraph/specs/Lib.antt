@@ -3,5 +3,6 @@ pub mod Leads
 pub mod Marks
 pub mod Ranges
 pub mod Ranks
+pub mod ReachRows
 pub mod Renumbered
 pub mod Rounds

@@ -1,9 +1,9 @@
 //! What each node leads to, where every edge goes to a smaller node.
 
 ghost use Rattle.std.specs.List.Sorted.{IsStrictlyIncreasing};
-ghost use Rattle.std.specs.Prelude.{◌≡◌, ◌↔◌, List, ℕ, ◌<◌, ◌≤◌, ◌++◌, ◌∷◌, [], length, slice_index_or, Contains, IfOk, IsTrue, OnOk};
-ghost use Rattle.digraph.specs.Edges.{IsFalling, IsWithin, graph_of, successors};
-ghost use Rattle.digraph.specs.Leads.{AreClosed, AreReaches, AreUnions, InLists, IsUnion};
+ghost use Rattle.std.specs.Prelude.{◌≡◌, ◌↔◌, List, ℕ, ◌<◌, ◌≤◌, ◌++◌, ◌∷◌, [], length, slice_index_or, Contains, IfOk, OnOk};
+ghost use Rattle.digraph.specs.Edges.{IsFalling, graph_of};
+ghost use Rattle.digraph.specs.Leads.{AreClosed, AreReaches, InLists, IsUnion};
 ghost use Rattle.digraph.specs.Marks.{AreMarked, NoneMarked};
 
 use crate::lists::Lists;
@@ -102,73 +102,4 @@ pub fn reach_lists(alloc: Global, graph: &[Vec<usize>]) -> Result<Lists, AllocEr
         push_union(alloc, &mut lists, row(graph, own), own, &mut marks)?;
     }
     Ok(lists)
-}
-
-/// Whether a list of rising numbers has only numbers below this one.
-fn ends_below(list: &[usize], number: usize) -> bool
-    requires { IsStrictlyIncreasing list.now }
-    ensures { IsTrue result → (c : ℕ) → Contains list.now c → c < number }
-{
-    match list.last() {
-        Some(last) => *last < number,
-        None => true,
-    }
-}
-
-/// A list and a number behind it.
-fn append_number(alloc: Global, list: &[usize], number: usize) -> Result<Vec<usize>, AllocError>
-    ensures { IfOk result (λ extended. extended.items ≡ list.now ++ number ∷ []) }
-{
-    let mut extended = Vec::with_capacity(alloc, list.len() + 1)?;
-    extended.extend_from_slice(list)?;
-    extended.push(number)?;
-    Ok(extended)
-}
-
-/// The union of a node with what stands in the lists of others. That of one list that ends below the node is the list
-/// and the node behind it, so that a chain of nodes is neither marked nor sorted.
-fn union_with(
-    alloc: Global,
-    lists: &Lists,
-    nodes: &[usize],
-    own: usize,
-    marks: &mut [bool],
-) -> Result<Vec<usize>, AllocError>
-    requires own { own < length marks.old }
-    requires room { length lists.now ≤ length marks.old }
-    requires nodes { (b : ℕ) → Contains nodes.now b → b < length lists.now }
-    requires closed { AreClosed lists.now (length lists.now) }
-    requires rises { (b : ℕ) → b < length lists.now
-        → IsStrictlyIncreasing (slice_index_or lists.now b []) }
-    requires none { NoneMarked marks.old }
-    ensures union { IfOk result (λ union. IsUnion lists.now nodes.now own union.items) }
-    ensures none { OnOk result (NoneMarked marks.new) }
-{
-    if let [node] = nodes {
-        let list = lists.get(*node);
-        if ends_below(list, own) {
-            return append_number(alloc, list, own);
-        }
-    }
-    union_of(alloc, lists, nodes, own, marks)
-}
-
-/// For each node of a graph itself, and what stands in the lists of its successors, in rising order.
-pub fn union_lists(alloc: Global, lists: &Lists, graph: &[Vec<usize>]) -> Result<Lists, AllocError>
-    requires size { length lists.now ≡ length graph.now }
-    requires within { IsWithin (graph_of graph.now) (length graph.now) }
-    requires closed { AreClosed lists.now (length lists.now) }
-    requires rises { (b : ℕ) → b < length lists.now
-        → IsStrictlyIncreasing (slice_index_or lists.now b []) }
-    ensures size { IfOk result (λ unions. length unions ≡ length graph.now) }
-    ensures unions { IfOk result (λ unions. AreUnions lists.now (graph_of graph.now) unions
-        (length graph.now)) }
-{
-    let mut marks = no_marks(alloc, graph.len())?;
-    let mut unions = Lists::new(alloc);
-    for own in 0..graph.len() {
-        let union = union_with(alloc, lists, row(graph, own), own, &mut marks)?;
-        unions.push(&union)?;
-    }
-    Ok(unions)
 }

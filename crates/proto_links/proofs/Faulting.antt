@@ -7,7 +7,6 @@ use Rattle.digraph.specs.Edges.{Graph, Edge, IsWithin, graph_of}
 use Rattle.digraph.specs.Marks.{IsMarked}
 use Rattle.digraph.specs.Leads.{Leads}
 use Rattle.digraph.proofs.Rows.{edge_below}
-use Rattle.digraph.proofs.Visiting.{no_position}
 use Rattle.digraph.proofs.Ways.{leads_map, leads_turned}
 use Rattle.proto_desc.specs.declared.file.FileDesc.{FileDesc}
 use Rattle.proto_desc.specs.declared.file.ImportDesc.{ImportDesc}
@@ -17,11 +16,10 @@ use Rattle.proto_base.specs.declared.kind.Kind.TheVariants as kind
 use Rattle.proto_base.specs.declared.place.Place.{Place}
 use Rattle.proto_base.specs.Least.{AtMost, Bounds, IsLeast, IsLesser, spot}
 use Rattle.proto_base.specs.declared.spot.Spot.{Spot}
-use Rattle.proto_base.proofs.Sets.{least_none, least_or, least_same}
+use Rattle.proto_base.proofs.Sets.{least_or, least_same}
 use Rattle.proto_links.specs.Graphs.{IsGraph, IsWrongAt, IsWrongIn}
 use Rattle.proto_links.specs.Imports.{AreInNameOrder, IsNamed, Imports, Reaches, IsWrong, missing, cyclic, IsBad, IsFirstBad, IsNoLater, NoneBad, imports_at}
 use Rattle.proto_links.proofs.Named.{named_once}
-use Rattle.proto_links.proofs.Rising.{none_in}
 use Rattle.proto_links.proofs.Targeting.{importer_inside}
 
 -- ---- one import
@@ -49,9 +47,6 @@ no_fault files a i t order n out _ (missing none) = none t n
 no_fault files a i t order n out _ (cyclic b m r) = out (subst (λ x. Reaches files x a) (named_once files i.path order b t m n) r)
 
 -- ---- the imports of a file
-
-pub first_none : (files : List FileDesc) (a : ℕ) → IsLeast (IsWrongIn files a []) None
-first_none files a = least_none (IsWrongIn files a []) (λ x w. none_in w.0 w.1)
 
 wrong_cases : (files : List FileDesc) (a : ℕ) (xs : List ImportDesc) (i : ImportDesc) (x : Spot) → IsWrongIn files a (xs ++ i ∷ []) x
     → IsWrongIn files a xs x ⊎ IsWrongAt files a i x
@@ -101,9 +96,6 @@ turned_within g turned size flipped b c edge = let below = edge_below g c b ((fl
 -- what a loop over files keeps
 pub record NoneBefore (files : List FileDesc) (n : ℕ) : Type 0 where
   pub none : (a : ℕ) (p : Place) (k : Kind) → a < n → IsBad files a p k → ⊥
-
-pub none_start : (files : List FileDesc) → NoneBefore files 0
-none_start files = record { none = λ a p k h w. no_position a h }
 
 pub none_more : (files : List FileDesc) (n : ℕ) (imports : List ImportDesc) (first : Option Spot) → imports ≡ imports_at files n → first ≡ None
     → IsLeast (IsWrongIn files n imports) first → NoneBefore files n → NoneBefore files (n + 1)

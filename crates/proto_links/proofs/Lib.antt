@@ -4,8 +4,6 @@ pub mod NameRows
 mod Positions
 mod Reaching
 pub mod Rising
-mod Search
-mod Seeing
 mod Targeting
 pub mod Unique
 pub mod Whole

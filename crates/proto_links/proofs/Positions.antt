@@ -1,13 +1,14 @@
 -- Files by their positions in set order, and what lists of positions say of files.
-use Rattle.std.proofs.Common.{◌≡◌, ◌∙◌, sym, ℕ, ◌+◌, ◌<◌, List, [], length, map, get_or, ap, subst, arith, inl, inr, ◌⊎◌, Vec, Global}
+use Rattle.std.proofs.Common.{◌≡◌, ◌∙◌, sym, refl, ℕ, ◌+◌, ◌*◌, ◌<◌, ◌≤◌, List, [], length, map, get_or, ap, subst, arith, inl, inr, Vec, Global}
 use Rattle.std.specs.Prelude.{Contains, ◌↔◌, IsTrue}
 use Rattle.std.specs.Cmp.{nat_eq_equiv}
 use Rattle.std.proofs.lemmas.Bool.{eqb-true}
 use Rattle.std.proofs.lemmas.Grind.{common_steps}
 use Rattle.std.proofs.lemmas.List.{get_or-map}
 use Rattle.std.proofs.lemmas.Map.Views.{Contains-from_any, list_any-from_Contains}
-use Rattle.digraph.specs.Edges.{Graph, Edge, IsFalling, IsWithin, successors, graph_of}
-use Rattle.digraph.specs.Leads.{Leads, IsReach as IsReachList, AreReaches, InLists}
+use Rattle.bit_matrix.specs.Bits.{Bits, Has, columns_of}
+use Rattle.digraph.specs.Edges.{Graph, Edge, IsFalling, IsWithin, graph_of}
+use Rattle.digraph.specs.Leads.{Leads, here, through, IsReach as IsReachList, AreReaches}
 use Rattle.digraph.specs.Ranks.{rank_in}
 use Rattle.digraph.specs.Renumbered.{node_at}
 use Rattle.digraph.specs.declared.ranks.Ranking.{Ranking}
@@ -18,7 +19,7 @@ use Rattle.proto_desc.specs.declared.file.FileDesc.{FileDesc}
 use Rattle.proto_links.specs.Graphs.{IsGraph, IsPublicGraph}
 use Rattle.proto_links.specs.Imports.{Imports, ImportsPublicly, Reaches}
 use Rattle.proto_links.specs.Linked.{Linked, has, IsSound, AreLinked, IsSetOrder, AreRanks, IsReach}
-use Rattle.proto_links.specs.Positioned.{ArePositioned, AreFilesReached, ArePositionsSeen, AreRanked, file_imports, file_public_imports, import_rows, public_rows}
+use Rattle.proto_links.specs.Positioned.{ArePositioned, AreFilesReached, AreFilesSeen, AreRanked, file_imports, file_public_imports, import_rows, public_rows}
 use Rattle.proto_links.specs.Visible.{Sees}
 use Rattle.proto_links.specs.declared.graph.Graph.{Graph as ImportGraph}
 use Rattle.proto_links.specs.declared.positioned.Positioned.{Positioned}
@@ -34,11 +35,6 @@ public_within is a b edge = let named = ((is.edges a b).0 edge).3 in omega (arit
 
 pub rows_within : (rows : List (Vec ℕ Global)) → IsWithin (graph_of rows) (length (graph_of rows)) → IsWithin (graph_of rows) (length rows)
 rows_within rows within = subst (IsWithin (graph_of rows)) (length_graph rows) within
-
--- falling edges go to rows
-pub falling_within : (rows : List (Vec ℕ Global)) → IsFalling (graph_of rows) → IsWithin (graph_of rows) (length rows)
-falling_within rows falls a b edge =
-    let less = falls a b edge in let inside = edge_below (graph_of rows) a b edge in omega (arith, less, inside, length_graph rows)
 
 -- a list has only positions
 pub positions_below : (g : Graph) (lists : List (List ℕ)) (n : ℕ) → IsFalling g → AreReaches g lists n → (a k : ℕ) → a < n → Contains (get_or lists a []) k
@@ -56,13 +52,7 @@ file_at ranking = node_at ranking.order.items
 abbrev position_of : Positioned → ℕ → ℕ
 position_of positioned a = get_or positioned.positions.items a 0
 
--- a list of a file that a imports has b, or a is b; all by positions
-abbrev IsListed : Positioned → List (List ℕ) → ℕ → ℕ → Type 0
-IsListed positioned lists a b =
-    InLists lists (successors (import_rows positioned) (position_of positioned a)) (position_of positioned b)
-    ⊎ (position_of positioned a ≡ position_of positioned b)
-
-abbrev links_of : Ranking → Positioned → List (List ℕ) → List (List ℕ) → Linked
+abbrev links_of : Ranking → Positioned → List (List ℕ) → Bits → Linked
 links_of ranking positioned reach seen = record {
   ranks = ranking.ranks.items;
   set_order = ranking.order.items;
@@ -213,37 +203,54 @@ module _ {files : List FileDesc} {graph : ImportGraph} {ranking : Ranking} {posi
 
   -- ---- what a file sees
 
-  module _ {seen : List (List ℕ)} (s : ArePositionsSeen positioned seen) where
-    seen_to : (a b : ℕ) → a < length files → b < length files → IsListed positioned s.lists a b → SeesBy files a b
-    seen_to a b ha hb (inl (k, edge, w)) =
-        let j = position_of positioned b in
-        let inside : k < length positioned.imports.items =
-        (let below = m.imports.within (position_of positioned a) k edge in omega (arith, below, rows_size)) in
-        let way = public_way_to j k (((s.reaches k inside).members j).0 w) in
-        inr (
-          file_at ranking k,
-          subst (λ x. Imports files x (file_at ranking k)) (file_there a ha) (edge_to (position_of positioned a) k edge),
-          subst (λ x. Leads (ImportsPublicly files) x (file_at ranking k)) (file_there b hb) way,
-        )
-    seen_to a b ha hb (inr same) = inl (sym (file_there a ha) ∙ ap (file_at ranking) same ∙ file_there b hb)
+  -- what a file leads to by public imports it sees
+  public_seen : (a b : ℕ) → Leads (ImportsPublicly files) b a → SeesBy files a b
+  public_seen a _ here = inl refl
+  public_seen a b (through _ e edge more) = inr (e, public_imports files a e edge, more)
 
-    seen_from : (a b : ℕ) → a < length files → SeesBy files a b → IsListed positioned s.lists a b
-    seen_from a b ha (inl same) = inr (ap (position_of positioned) same)
-    seen_from a b ha (inr (d, i, way)) =
-        let k = position_of positioned d in
-        let j = position_of positioned b in
-        inl (k, edge_from a d ha i, ((s.reaches k (position_below d i.2.0)).members j).1 (public_way_from d b i.2.0 way))
+  module _ {seen : Bits} (s : AreFilesSeen ranking positioned seen) where
+    row_inside : (k : ℕ) → k < length positioned.imports.items → k < s.reach.rows
+    row_inside k h = omega (arith, h, rows_size, s.reaches.rows)
 
-    seen_is : (a b : ℕ) → a < length files → b < length files
-        → IsTrue (has (position_of positioned b) (get_or seen (position_of positioned a) [])) ↔ Sees files a b
+    column_inside : (b : ℕ) → b < length files → b < columns_of s.reach
+    column_inside b h = omega (arith, h, order_size m.ranked, s.reaches.columns)
+
+    -- by public imports
+    reached_to : (k b : ℕ) → k < length positioned.imports.items → b < length files → Has s.reach k b → Leads (ImportsPublicly files) b (file_at ranking k)
+    reached_to k b hk hb w =
+        let (j, way, at) = (s.reaches.members k b (row_inside k hk) (column_inside b hb)).0 w in
+        subst (λ x. Leads (ImportsPublicly files) x (file_at ranking k)) at (public_way_to j k way)
+
+    reached_from : (d b : ℕ) → d < length files → b < length files → Leads (ImportsPublicly files) b d → Has s.reach (position_of positioned d) b
+    reached_from d b hd hb way =
+        (s.reaches.members (position_of positioned d) b (row_inside (position_of positioned d) (position_below d hd)) (column_inside b hb)).1
+        (position_of positioned b, public_way_from d b hd way, file_there b hb)
+
+    seen_to : (a b : ℕ) → a < length files → b < length files → Has seen (position_of positioned a) b → SeesBy files a b
+    seen_to a b ha hb w =
+        let p = position_of positioned a in
+        elim ((s.joined.members p b (row_inside p (position_below a ha)) (column_inside b hb)).0 w) [
+          | inl own ↦ public_seen a b (subst (Leads (ImportsPublicly files) b) (file_there a ha) (reached_to p b (position_below a ha) hb own))
+          | inr (k, edge, v) ↦
+              let inside : k < length positioned.imports.items = (let below = m.imports.within p k edge in omega (arith, below, rows_size)) in
+              inr (
+                file_at ranking k,
+                subst (λ x. Imports files x (file_at ranking k)) (file_there a ha) (edge_to p k edge),
+                reached_to k b inside hb v,
+              )
+        ]
+
+    seen_from : (a b : ℕ) → a < length files → b < length files → SeesBy files a b → Has seen (position_of positioned a) b
+    seen_from a b ha hb by =
+        let p = position_of positioned a in
+        (s.joined.members p b (row_inside p (position_below a ha)) (column_inside b hb)).1 (elim by [
+          | inl same ↦ inl (subst (λ x. Has s.reach p x) same (reached_from a a ha ha here))
+          | inr (d, i, way) ↦ inr (position_of positioned d, edge_from a d ha i, reached_from d b i.2.0 hb way)
+        ])
+
+    seen_is : (a b : ℕ) → a < length files → b < length files → Has seen (position_of positioned a) b ↔ Sees files a b
     seen_is a b ha hb =
-        let j = position_of positioned b in
-        let list = get_or seen (position_of positioned a) [] in
-        let union = s.unions (position_of positioned a) (position_below a ha) in
-        let sees = sees_is files m.ranked.none_bad a b in (
-          λ t. sees.0 (seen_to a b ha hb ((union.members j).0 ((has_is j list).0 t))),
-          λ w. (has_is j list).1 ((union.members j).1 (seen_from a b ha (sees.1 w))),
-        )
+        let sees = sees_is files m.ranked.none_bad a b in (λ w. sees.0 (seen_to a b ha hb w), λ w. seen_from a b ha hb (sees.1 w))
 
 -- ---- the links
 
@@ -254,20 +261,22 @@ named_list f lists named k e h = ap (λ (ls : List (List ℕ)). get_or ls k []) 
 named_length : (f : ℕ → ℕ) (lists named : List (List ℕ)) → named ≡ map (λ (list : List ℕ). map f list) lists → length named ≡ length lists
 named_length f lists named e = let len : length (map (λ (list : List ℕ). map f list) lists) ≡ length lists = grind (arith, common_steps) in ap length e ∙ len
 
-module _ {files : List FileDesc} {graph : ImportGraph} {ranking : Ranking} {positioned : Positioned} {reach seen : List (List ℕ)}
-    (m : ArePositioned files graph ranking positioned) (r : AreFilesReached ranking positioned reach) (s : ArePositionsSeen positioned seen) where
+module _ {files : List FileDesc} {graph : ImportGraph} {ranking : Ranking} {positioned : Positioned} {reach : List (List ℕ)} {seen : Bits}
+    (m : ArePositioned files graph ranking positioned) (r : AreFilesReached ranking positioned reach) (s : AreFilesSeen ranking positioned seen) where
   ranks_size : length ranking.ranks.items ≡ length files
   ranks_size = omega (arith, m.ranked.order.size, order_size m.ranked)
 
   pub sound_of : IsSound (links_of ranking positioned reach seen)
   sound_of = record {
     size = omega (arith, m.positions.size, m.ranked.order.size);
-    places = m.positions;
     reach_inside = λ a h. (
         let inside = position_below m a (omega (arith, h, ranks_size)) in
         omega (arith, inside, r.size, named_length (file_at ranking) r.lists reach r.named));
-    seen_inside = λ a h. (let inside = position_below m a (omega (arith, h, ranks_size)) in omega (arith, inside, s.size));
-    rises = λ a h. (s.unions (position_of positioned a) (position_below m a (omega (arith, h, ranks_size)))).rises;
+    seen_inside = λ a h. (
+        let inside = position_below m a (omega (arith, h, ranks_size)) in
+        omega (arith, inside, rows_size m, s.reaches.rows, s.joined.large.rows));
+    columns = subst (λ w. length ranking.ranks.items ≤ 64 * w) (sym s.joined.large.width)
+        (omega (arith, ranks_size, order_size m.ranked, s.reaches.columns));
   }
 
   pub linked_of : AreLinked files (links_of ranking positioned reach seen)

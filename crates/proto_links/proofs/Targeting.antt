@@ -2,7 +2,7 @@
 use Rattle.std.proofs.Common.{◌≡◌, ◌∙◌, sym, ℕ, ◌+◌, ◌<◌, ◌≤◌, List, [], ◌∷◌, ◌++◌, length, map, take, get_or, ap, refl, subst, arith, inl, inr, ◌⊎◌, Vec, Global}
 use Rattle.std.specs.Prelude.{Bool, true, false, Contains, ◌↔◌, IsTrue}
 use Rattle.std.proofs.Math.Seq.{take-length}
-use Rattle.std.proofs.lemmas.Bool.{cases_lt, false≢true, true≢false}
+use Rattle.std.proofs.lemmas.Bool.{cases_lt, false≢true}
 use Rattle.std.proofs.lemmas.Grind.{common_steps}
 use Rattle.std.proofs.lemmas.List.{get_or-map, get_or_past}
 use Rattle.std.proofs.lemmas.List.Elements.{Contains-push, Contains-push_cases, Contains-append_left}
@@ -61,14 +61,6 @@ pub record Targeting (files : List FileDesc) (xs : List ImportDesc) (all public 
   pub public_are : (b : ℕ) → Contains public b ↔ PublicTargets files xs b
   pub found : IsTrue whole → HasMissing files xs → ⊥
   pub lacking : whole ≡ false → HasMissing files xs
-
-pub targeting_none : (files : List FileDesc) (all public : List ℕ) → all ≡ [] → public ≡ [] → Targeting files [] all public true
-targeting_none files all public ea ep = rw (ea, ep) (record {
-  all_are = λ b. (λ w. absurd (none_in b w), λ w. absurd (none_in w.0 w.1));
-  public_are = λ b. (λ w. absurd (none_in b w), λ w. absurd (none_in w.0 w.1));
-  found = λ t w. none_in w.0 w.1;
-  lacking = λ e. absurd (true≢false e);
-})
 
 named_is : (files : List FileDesc) (i : ImportDesc) (t b : ℕ) → AreInNameOrder files → IsNamed files i.path t → (t ≡ b) ↔ IsNamed files i.path b
 named_is files i t b order n = (λ e. subst (IsNamed files i.path) e n, λ m. named_once files i.path order t b n m)
@@ -174,14 +166,6 @@ pub record Graphing (files : List FileDesc) (n : ℕ) (imports public : List (Ve
   pub public_rows : Rows (ImportsPublicly files) n (graph_of public)
   pub found : IsTrue whole → (a : ℕ) → a < n → HasMissing files (imports_at files a) → ⊥
   pub lacking : whole ≡ false → (a : ℕ) × HasMissing files (imports_at files a)
-
-pub graphing_none : (files : List FileDesc) (imports public : List (Vec ℕ Global)) → imports ≡ [] → public ≡ [] → Graphing files 0 imports public true
-graphing_none files imports public ei ep = record {
-  all_rows = rows_none (Imports files) (graph_of imports) (ap graph_of ei);
-  public_rows = rows_none (ImportsPublicly files) (graph_of public) (ap graph_of ep);
-  found = λ t a h. absurd (no_position a h);
-  lacking = λ e. absurd (true≢false e);
-}
 
 found_more : (files : List FileDesc) (n : ℕ) (xs : List ImportDesc) → xs ≡ imports_at files n → ((a : ℕ) → a < n → HasMissing files (imports_at files a) → ⊥)
     → (HasMissing files xs → ⊥) → (a : ℕ) → a < n + 1 → HasMissing files (imports_at files a) → ⊥

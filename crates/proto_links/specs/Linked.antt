@@ -1,20 +1,19 @@
 -- Files whose imports are found, by their positions in the list of files.
-use Rattle.std.specs.Prelude.{◌≡◌, ◌⊎◌, ◌↔◌, ℕ, ◌+◌, ◌<◌, List, [], length, filter, Bool, IsTrue, Some, Contains, slice_get, slice_index_or, ◌==◌}
+use Rattle.std.specs.Prelude.{◌≡◌, ◌⊎◌, ◌↔◌, ℕ, ◌+◌, ◌<◌, ◌≤◌, List, [], length, filter, Bool, IsTrue, Contains, slice_index_or, ◌==◌}
 use Rattle.std.specs.List.{list_any, IsDistinct}
-use Rattle.std.specs.List.Sorted.{IsStrictlyIncreasing}
-use Rattle.digraph.specs.Renumbered.{ArePositions}
+use Rattle.bit_matrix.specs.Bits.{Bits, Has, columns_of, has as is_set}
 use Rattle.proto_desc.specs.declared.file.FileDesc.{FileDesc}
 use Rattle.proto_links.specs.Imports.{Imports, Reaches, NoneBad}
 use Rattle.proto_links.specs.Visible.{Sees}
 
--- Each file has a position in set order. Lists of files stand by the positions of their files; those of what a file
--- sees have positions.
+-- Each file has a position in set order. The list of what it reaches stands there, and the row in which the files that
+-- it sees are set.
 pub record Linked : Type 0 where
   pub ranks : List ℕ
   pub set_order : List ℕ
   pub positions : List ℕ
   pub reach : List (List ℕ)
-  pub seen : List (List ℕ)
+  pub seen : Bits
 
 abbrev pub has : ℕ → List ℕ → Bool
 has a files = list_any (λ b. a == b) files
@@ -31,23 +30,19 @@ position_of links a = slice_index_or links.positions a 0
 abbrev pub reach_of : Linked → ℕ → List ℕ
 reach_of links a = slice_index_or links.reach (position_of links a) []
 
-abbrev pub seen_of : Linked → ℕ → List ℕ
-seen_of links a = slice_index_or links.seen (position_of links a) []
-
 abbrev pub sees : Linked → ℕ → ℕ → Bool
-sees links a b = has (position_of links b) (seen_of links a)
+sees links a b = is_set links.seen (position_of links a) b
 
--- a file stands in set order at one of these positions
-abbrev pub StandsAtOne : Linked → List ℕ → ℕ → Type 0
-StandsAtOne links positions b = (k : ℕ) × Contains positions k × (slice_get links.set_order k ≡ Some b)
+-- one of the files that are set in a row is seen
+abbrev pub SeesOneOf : Linked → ℕ → Bits → ℕ → Type 0
+SeesOneOf links a files row = (b : ℕ) × (b < columns_of files) × IsTrue (sees links a b) × Has files row b
 
--- each file has its position in set order, lists there, and a rising list of what it sees
+-- each file has its position in set order, a list and a row there, and is set or not in each row
 pub record IsSound (links : Linked) : Type 0 where
   pub size : length links.positions ≡ length links.ranks
-  pub places : ArePositions links.set_order links.positions
   pub reach_inside : (a : ℕ) → a < length links.ranks → position_of links a < length links.reach
-  pub seen_inside : (a : ℕ) → a < length links.ranks → position_of links a < length links.seen
-  pub rises : (a : ℕ) → a < length links.ranks → IsStrictlyIncreasing (seen_of links a)
+  pub seen_inside : (a : ℕ) → a < length links.ranks → position_of links a < links.seen.rows
+  pub columns : length links.ranks ≤ columns_of links.seen
 
 -- ---- what the links of files are
 

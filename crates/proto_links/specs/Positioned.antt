@@ -1,8 +1,10 @@
 -- Words of private contracts: files by their positions in set order.
 use Rattle.std.specs.Prelude.{◌≡◌, ℕ, List, length, map}
+use Rattle.bit_matrix.specs.Bits.{Bits}
 use Rattle.digraph.specs.Edges.{Graph, graph_of}
-use Rattle.digraph.specs.Leads.{AreReaches, AreUnions}
+use Rattle.digraph.specs.Leads.{AreReaches}
 use Rattle.digraph.specs.Ranks.{IsRanked, IsRankOrder}
+use Rattle.digraph.specs.ReachRows.{AreReachRows, HaveSuccessorsJoined}
 use Rattle.digraph.specs.Renumbered.{ArePositions, IsRenumbered, node_at}
 use Rattle.digraph.specs.declared.ranks.Ranking.{Ranking}
 use Rattle.proto_desc.specs.declared.file.FileDesc.{FileDesc}
@@ -52,9 +54,8 @@ pub record AreFilesReached (ranking : Ranking) (positioned : Positioned) (reach 
   pub reaches : AreReaches (import_rows positioned) lists (length positioned.imports.items)
   pub named : reach ≡ map (λ (list : List ℕ). map (node_at ranking.order.items) list) lists
 
--- what the file at each position sees: itself, and what its imports lead to by public imports
-pub record ArePositionsSeen (positioned : Positioned) (seen : List (List ℕ)) : Type 0 where
-  pub lists : List (List ℕ)
-  pub reaches : AreReaches (public_rows positioned) lists (length positioned.imports.items)
-  pub size : length seen ≡ length positioned.imports.items
-  pub unions : AreUnions lists (import_rows positioned) seen (length positioned.imports.items)
+-- what the file at each position sees: what it leads to by public imports, and what its imports do
+pub record AreFilesSeen (ranking : Ranking) (positioned : Positioned) (seen : Bits) : Type 0 where
+  pub reach : Bits
+  pub reaches : AreReachRows (public_rows positioned) ranking.order.items reach
+  pub joined : HaveSuccessorsJoined (import_rows positioned) reach seen

@@ -11,7 +11,7 @@ ghost use Rattle.proto_links.specs.declared.linking.LinkError.TheVariants as err
 use crate::faults::first_bad;
 use crate::graph::{Graph, import_graph};
 use crate::links::{FileId, Links};
-use crate::positioned::{by_positions, files_reached, positions_seen};
+use crate::positioned::{by_positions, files_reached, files_seen};
 use digraph::{Ranking, rank_nodes};
 use proto_base::{Kind, Place};
 use proto_desc::file::FileDesc;
@@ -48,7 +48,7 @@ fn link_files(
 {
     let positioned = by_positions(alloc, files, graph, &ranking)?;
     let reach = files_reached(alloc, &positioned, &ranking)?;
-    let seen = positions_seen(alloc, &positioned)?;
+    let seen = files_seen(alloc, &positioned, &ranking)?;
     Ok(Links {
         ranking,
         positions: positioned.positions,

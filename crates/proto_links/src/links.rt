@@ -1,8 +1,10 @@
 //! Files whose imports are found.
 
-ghost use Rattle.std.specs.Prelude.{◌≡◌, ◌↔◌, ◌<◌, ℕ, IsTrue};
-ghost use Rattle.proto_links.specs.Linked.{AreReachesWhole, StandsAtOne, count_of, rank_of, reach_of, seen_of, sees};
+ghost use Rattle.std.specs.Prelude.{◌≡◌, ◌<◌, ℕ, IsTrue};
+ghost use Rattle.bit_matrix.specs.Bits.{Has, columns_of};
+ghost use Rattle.proto_links.specs.Linked.{AreReachesWhole, SeesOneOf, count_of, rank_of, reach_of, sees};
 
+use bit_matrix::BitMatrix;
 use digraph::{Lists, Ranking};
 use std::marker::Model;
 
@@ -18,8 +20,8 @@ pub struct Links {
     pub(crate) positions: Vec<usize>,
     /// The files that the file at a position reaches, in set order.
     pub(crate) reach: Lists,
-    /// The positions of the files that the file at a position sees, in rising order.
-    pub(crate) seen: Lists,
+    /// The files that the file at a position sees.
+    pub(crate) seen: BitMatrix,
 }
 
 impl Model for Links {
@@ -90,16 +92,6 @@ impl Links {
         let _ = &self.ranking;
     }
 
-    /// The positions in set order of the files that a file sees, in rising order.
-    pub fn seen(&self, file: FileId) -> &[usize]
-        requires { file < count_of self.now }
-        ensures positions { result.now ≡ seen_of self.now file }
-        ensures files { (b : ℕ) → b < count_of self.now → StandsAtOne self.now result.now b
-            ↔ IsTrue (sees self.now file b) }
-    {
-        self.seen.get(self.positions[file])
-    }
-
     /// Whether a file sees another one (language guide, "Importing Definitions"): itself, what it imports, and what the
     /// files that it sees import publicly.
     pub fn sees(&self, file: FileId, other: FileId) -> bool
@@ -107,8 +99,17 @@ impl Links {
         requires other { other < count_of self.now }
         ensures { result ≡ sees self.now file other }
     {
-        self.seen(file)
-            .binary_search(&self.positions[other])
-            .is_ok()
+        self.seen.contains(self.positions[file], other)
+    }
+
+    /// Whether a file sees one of the files of a row, in which these are set.
+    pub fn sees_one_of(&self, file: FileId, files: &BitMatrix, row: usize) -> bool
+        requires file { file < count_of self.now }
+        requires row { row < files.now.rows }
+        ensures one { IsTrue result → SeesOneOf self.now file files.now row }
+        ensures each { (b : ℕ) → b < count_of self.now → b < columns_of files.now
+            → IsTrue (sees self.now file b) → Has files.now row b → IsTrue result }
+    {
+        self.seen.meets(self.positions[file], files, row)
     }
 }

@@ -1,11 +1,15 @@
 //! Files by their positions in set order. A file imports only files at lower positions, so its lists are made from theirs.
 
-ghost use Rattle.std.specs.Prelude.{◌≡◌, IfOk, length};
+ghost use Rattle.std.specs.Prelude.{◌≡◌, ◌<◌, All, IfOk, length};
 ghost use Rattle.digraph.specs.Edges.{IsFalling, graph_of};
-ghost use Rattle.proto_links.specs.Positioned.{AreFilesReached, ArePositioned, ArePositionsSeen, AreRanked};
+ghost use Rattle.proto_links.specs.Positioned.{AreFilesReached, AreFilesSeen, ArePositioned, AreRanked};
 
 use crate::graph::Graph;
-use digraph::{Lists, Ranking, positions_of, reach_lists, renumber_rows, union_lists, with_nodes};
+use bit_matrix::BitMatrix;
+use digraph::{
+    Lists, Ranking, join_successors, positions_of, reach_lists, reach_rows, renumber_rows,
+    with_nodes,
+};
 use proto_desc::file::FileDesc;
 use std::alloc::{AllocError, Global};
 
@@ -54,15 +58,22 @@ pub(crate) fn files_reached(
     with_nodes(alloc, &reach, &ranking.order)
 }
 
-/// The positions of the files that the file at each position sees, in rising order: of itself, and of what its imports
-/// reach by public imports.
-pub(crate) fn positions_seen(alloc: Global, positioned: &Positioned) -> Result<Lists, AllocError>
+/// The files that the file at each position sees: itself, and what its imports reach by public imports.
+pub(crate) fn files_seen(
+    alloc: Global,
+    positioned: &Positioned,
+    ranking: &Ranking,
+) -> Result<BitMatrix, AllocError>
     requires imports { IsFalling (graph_of positioned.now.imports.items) }
     requires public { IsFalling (graph_of positioned.now.public_imports.items) }
-    requires size { length positioned.now.public_imports.items
-        ≡ length positioned.now.imports.items }
-    ensures { IfOk result (ArePositionsSeen positioned.now) }
+    requires size { length positioned.now.imports.items ≡ length ranking.now.order.items }
+    requires public_size { length positioned.now.public_imports.items
+        ≡ length ranking.now.order.items }
+    requires files { All (λ file. file < length ranking.now.order.items) ranking.now.order.items }
+    ensures { IfOk result (AreFilesSeen ranking.now positioned.now) }
 {
-    let public_reach = reach_lists(alloc, &positioned.public_imports)?;
-    union_lists(alloc, &public_reach, &positioned.imports)
+    // By public imports a file reaches what it sees but for what its other imports reach.
+    let mut seen = reach_rows(alloc, &positioned.public_imports, &ranking.order)?;
+    join_successors(&mut seen, &positioned.imports);
+    Ok(seen)
 }

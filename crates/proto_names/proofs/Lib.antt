@@ -1,7 +1,6 @@
 pub mod Apart
 pub mod Around
 pub mod Built
-pub mod ByFile
 pub mod Collecting
 pub mod Chaining
 pub mod Comparing

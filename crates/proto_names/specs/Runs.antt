@@ -22,14 +22,3 @@ pub record IsRun (os : List Occurrence) (k n start : ℕ) (has_element : Bool) :
 abbrev pub Repeats : List Occurrence → ℕ → Type 0
 Repeats os k =
     (i : ℕ) × (i < k) × ((at os i).name ≡ (at os k).name) × (IsPackage (at os i) → IsPackage (at os k) → ⊥)
-
--- ---- the occurrences of one name
-
--- they come in the order of their files
-abbrev pub AreByFile : List Occurrence → Type 0
-AreByFile os = (i j : ℕ) → i ≤ j → j < length os → (at os i).file ≤ (at os j).file
-
--- those of one file are of one kind
-abbrev pub AreAlikeInFiles : List Occurrence → Type 0
-AreAlikeInFiles os =
-    (i j : ℕ) → i < length os → j < length os → (at os i).file ≡ (at os j).file → (at os i).kind ≡ (at os j).kind

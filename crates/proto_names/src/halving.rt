@@ -1,6 +1,6 @@
 //! The entries of a name, found by halving among those that stand in the order of their names.
 
-ghost use Rattle.std.specs.Prelude.{◌≡◌, ◌≢◌, ℕ, ◌<◌, ◌≤◌, length, All, MatchOption, nat_lt};
+ghost use Rattle.std.specs.Prelude.{◌≡◌, ◌≢◌, ◌≤◌, length, All, MatchOption};
 ghost use Rattle.std.specs.Cmp.Lexicographic.{slice_cmp};
 ghost use Rattle.std.specs.List.Sorted.{IsPartitionPoint};
 ghost use Rattle.std.specs.Ordering.{nat_cmp, is_eq, is_lt, ordering_then};
@@ -9,13 +9,11 @@ ghost use Rattle.proto_desc.specs.DeclaredNames.{scoped};
 ghost use Rattle.proto_names.specs.Chains.{IsNowhere, IsStart};
 ghost use Rattle.proto_names.specs.Entries.{name_at};
 ghost use Rattle.proto_names.specs.Order.{AreInNameOrder, name_cmp};
-ghost use Rattle.proto_names.specs.Runs.{AreByFile, at};
 
 use crate::entry::Entry;
 use crate::full_name::compare;
 use crate::names::Names;
 use crate::scope::Scope;
-use proto_links::FileId;
 use std::cmp::Ordering;
 
 /// The order of an entry, whose name stands in a text, and the name in a scope that has this hash.
@@ -74,19 +72,5 @@ pub(crate) fn count_named(names: &Names, scope: &str, name: &str) -> usize
             ensures { result ≡ is_eq (slice_cmp nat_cmp (name_at text.entry.now entry.now)
                 (scoped scope.entry.now name.entry.now)) }
         { compare(entry.name(text), scope, name).is_eq() },
-    )
-}
-
-/// How many entries stand in files before this one, where they come in the order of their files, by halving.
-pub(crate) fn count_before_file(names: &Names, file: FileId) -> usize
-    requires { AreByFile names.now }
-    ensures bound { result ≤ length names.now }
-    ensures before { (k : ℕ) → k < result → (at names.now k).file < file }
-    ensures behind { (k : ℕ) → result ≤ k → k < length names.now → file ≤ (at names.now k).file }
-{
-    names.entries.partition_point(
-        |entry: &Entry| -> bool
-            ensures { result ≡ nat_lt entry.now.location.file file }
-        { entry.location.file < file },
     )
 }

@@ -1,17 +1,15 @@
 //! The names of entries, with what they are declared for and where.
 
-ghost use Rattle.std.specs.Prelude.{◌≡◌, ◌≢◌, ◌↔◌, ℕ, ◌<◌, ◌≤◌, map, length, take, drop, IfOk, IsTrue, MatchOption, string_bytes};
+ghost use Rattle.std.specs.Prelude.{◌≡◌, ◌≢◌, ◌↔◌, ℕ, ◌<◌, ◌≤◌, map, length, take, drop, IfOk, IsTrue, string_bytes};
 ghost use Rattle.proto_desc.specs.DeclaredNames.{scoped};
 ghost use Rattle.proto_names.specs.Entries.{AreEntriesOf, occurrence};
 ghost use Rattle.proto_names.specs.Hashes.{hash_of};
 ghost use Rattle.proto_names.specs.Order.{location_of};
-ghost use Rattle.proto_names.specs.Runs.{AreByFile, at};
+ghost use Rattle.proto_names.specs.Runs.{at};
 
 use crate::entry::{Entry, Location};
 use crate::full_name::compare;
-use crate::halving::count_before_file;
 use proto_desc::name_kind::NameKind;
-use proto_links::FileId;
 use std::alloc::{AllocError, Global};
 use std::marker::Model;
 
@@ -131,20 +129,6 @@ impl<'e> Names<'e> {
         Names {
             text: self.text,
             entries: &self.entries[..count],
-        }
-    }
-
-    /// The position of an entry in a file, found by halving.
-    pub(crate) fn position_in(&self, file: FileId) -> Option<usize>
-        requires { AreByFile self.now }
-        ensures { MatchOption result ((k : ℕ) → k < length self.now → (at self.now k).file ≢ file)
-            (λ position. (position < length self.now) × ((at self.now position).file ≡ file)) }
-    {
-        let position = count_before_file(self, file);
-        if position < self.len() && self.location(position).file == file {
-            Some(position)
-        } else {
-            None
         }
     }
 }

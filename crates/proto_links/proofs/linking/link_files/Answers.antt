@@ -1,12 +1,20 @@
+use Rattle.std.proofs.Common.{arith}
+use Rattle.std.proofs.lemmas.List.{get_or_default}
 use Rattle.proto_links.proofs.Positions.{rows_size, public_size, rows_fall, public_falls, sound_of, linked_of}
 use Rattle.proto_links.proofs.linking.link_files.Goals as goal
 
 pub files_reached-requires : goal.files_reached-requires
 files_reached-requires c = let m = c.in_ok-positioned.ensures in record { falls = rows_fall m; size = rows_size m }
 
-pub positions_seen-requires : goal.positions_seen-requires
-positions_seen-requires c =
-    let m = c.in_ok-positioned.ensures in record { imports = rows_fall m; public = public_falls m; size = public_size m }
+pub files_seen-requires : goal.files_seen-requires
+files_seen-requires c =
+    let m = c.in_ok-positioned.ensures in record {
+      imports = rows_fall m;
+      public = public_falls m;
+      size = rows_size m;
+      public_size = omega (arith, public_size m, rows_size m);
+      files = λ k d h. rw (get_or_default c.args.ranking.order.items k d 0 h) (m.positions.position k h).0;
+    }
 
 pub invariant_of-result : goal.invariant_of-result
 invariant_of-result c =
