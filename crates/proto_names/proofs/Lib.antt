@@ -13,6 +13,7 @@ pub mod Occurring
 pub mod Once
 pub mod NameOrder
 pub mod Ordered
+pub mod Packing
 pub mod Repeating
 pub mod Searching
 pub mod Standing

@@ -5,6 +5,7 @@ pub mod Hashes
 pub mod Index
 pub mod Occurrences
 pub mod Order
+pub mod Packages
 pub mod Resolution
 pub mod Runs
 pub mod Scopes

@@ -1,5 +1,5 @@
 -- Words of private contracts: runs of occurrences of one name.
-use Rattle.std.specs.Prelude.{◌≡◌, ℕ, ◌<◌, ◌≤◌, List, [], None, Bool, MatchBool, length, slice_index_or}
+use Rattle.std.specs.Prelude.{◌≡◌, ℕ, ◌<◌, ◌≤◌, List, [], None, Bool, MatchBool, slice_index_or}
 use Rattle.proto_names.specs.Occurrences.{Occurrence, IsPackage}
 
 -- what stands at a position where there is something

@@ -147,8 +147,8 @@ impl NameIndex {
             return Err(NameError::At(location.file, location.place));
         }
         let services = service_names(rt, alloc, &entries.names())?;
-        let entries = EntryTable::new(alloc, entries)?;
         let files = files.len();
+        let entries = EntryTable::new(alloc, entries, files)?;
         Ok(NameIndex {
             files,
             entries,
@@ -165,7 +165,7 @@ impl NameIndex {
             × (o.kind ≡ Some d.kind) × (o.file ≡ d.file) }
         ensures within { IfSome result (λ d. d.file < self.now.files) }
     {
-        let names = self.entries.named(Scope::top(), name);
+        let names = self.entries.named(Scope::top(), name).names;
         for position in 0..names.len() {
             if let Some(kind) = names.kind(position) {
                 let file = names.location(position).file;

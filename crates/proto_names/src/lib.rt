@@ -12,6 +12,7 @@ mod halving;
 mod hashing;
 mod index;
 mod names;
+mod packages;
 mod resolve;
 mod scope;
 mod table;

@@ -1,27 +1,37 @@
-//! The entries of an index, in the order of their names, with the chains by which those of one name are found.
+//! The entries of an index, in the order of their names, with the chains by which those of one name are found, and the
+//! packages that many files have.
 
-ghost use Rattle.std.specs.Prelude.{◌≡◌, ◌≢◌, ◌↔◌, ◌<◌, ◌≤◌, length, slice_index_or, All, Contains, IfOk};
+ghost use Rattle.std.specs.Prelude.{◌≡◌, ◌≢◌, ◌↔◌, ◌<◌, ◌≤◌, length, slice_index_or, All, Contains, IfOk, IfSome};
 ghost use Rattle.std.specs.List.Sorted.{IsPartitionPoint};
 ghost use Rattle.std.specs.declared.cmp.Ordering.TheVariants.{Less};
 ghost use Rattle.proto_desc.specs.DeclaredNames.{scoped};
 ghost use Rattle.proto_names.specs.Chains.{AreChained};
 ghost use Rattle.proto_names.specs.Order.{AreInNameOrder, AreInOrder, name_cmp};
 ghost use Rattle.proto_names.specs.Occurrences.{Occurrence};
-ghost use Rattle.proto_names.specs.Runs.{AreByFile};
+ghost use Rattle.proto_names.specs.Packages.{ArePackagesOf, IsPackageOf};
 
 use crate::chains::{Chains, chain_entries};
 use crate::entries::Entries;
 use crate::halving::count_named;
 use crate::names::Names;
+use crate::packages::{PackageFiles, Packages};
 use crate::scope::Scope;
 use std::alloc::{AllocError, Global};
 use std::marker::Model;
 
-/// Entries and their chains. Contracts see them as the occurrences that they stand for.
+/// The entries of one name. Where these are a package's, and many, it has the package's files.
+#[derive(Drop)]
+pub(crate) struct Named<'t> {
+    pub(crate) names: Names<'t>,
+    pub(crate) files: Option<PackageFiles<'t>>,
+}
+
+/// Entries with what is found among them. Contracts see them as the occurrences that they stand for.
 #[derive(Drop)]
 pub(crate) struct EntryTable {
     entries: Entries,
     chains: Chains,
+    packages: Packages,
 }
 
 impl Model for EntryTable {
@@ -29,6 +39,7 @@ impl Model for EntryTable {
     ghost use Rattle.proto_names.specs.Chains.{AreChained};
     ghost use Rattle.proto_names.specs.Occurrences.{Occurrence};
     ghost use Rattle.proto_names.specs.Order.{AreInOrder};
+    ghost use Rattle.proto_names.specs.Packages.{ArePackagesOf};
 
     ghost Value = { List Occurrence };
 
@@ -36,29 +47,46 @@ impl Model for EntryTable {
 
     ghost invariant = { λ table. AreInOrder table.entries
         × AreChained table.entries (length table.entries) table.chains.slots.items
-        table.chains.links.items };
+        table.chains.links.items
+        × ArePackagesOf table.entries table.packages.runs.items table.packages.files };
 }
 
 impl EntryTable {
-    /// The entries with their chains.
-    pub(crate) fn new(alloc: Global, entries: Entries) -> Result<EntryTable, AllocError>
+    /// The entries, which stand in so many files, with what is found among them.
+    pub(crate) fn new(
+        alloc: Global,
+        entries: Entries,
+        files: usize,
+    ) -> Result<EntryTable, AllocError>
         requires order { AreInOrder entries }
         requires many { length entries ≤ 1_048_576 }
+        requires files { All (λ o. o.file < files) entries }
         ensures { IfOk result (λ table. table ≡ entries) }
     {
         let chains = chain_entries(alloc, &entries.names())?;
-        Ok(EntryTable { entries, chains })
+        let packages = Packages::among(alloc, &entries.names(), files)?;
+        Ok(EntryTable {
+            entries,
+            chains,
+            packages,
+        })
     }
 
-    /// The entries of the name in a scope, in the order of their files.
-    pub(crate) fn named(&self, scope: Scope, name: &str) -> Names<'_>
-        ensures found { (o : Occurrence) → Contains result o
+    /// The entries of the name in a scope.
+    pub(crate) fn named(&self, scope: Scope, name: &str) -> Named<'_>
+        ensures found { (o : Occurrence) → Contains result.names o
             → Contains self.now o × (o.name ≡ scoped scope.entry.text.now name.now) }
         ensures all { (o : Occurrence) → Contains self.now o
-            → o.name ≡ scoped scope.entry.text.now name.now → Contains result o }
-        ensures order { AreByFile result }
+            → o.name ≡ scoped scope.entry.text.now name.now → Contains result.names o }
+        ensures files { IfSome result.files (λ p. IsPackageOf result.names p.files.now p.row) }
     {
-        entries_named(&self.entries.names(), &self.chains, scope, name)
+        entries_named(
+            &self.entries.names(),
+            &self.chains,
+            &self.packages,
+            scope,
+            name,
+        )
     }
 }
 
@@ -80,20 +108,32 @@ fn run_length(names: &Names, scope: &str, name: &str) -> usize
     }
 }
 
-/// The entries of the name in a scope, in the order of their files.
-fn entries_named<'e>(names: &Names<'e>, chains: &Chains, scope: Scope, name: &str) -> Names<'e>
+/// The entries of the name in a scope.
+fn entries_named<'e>(
+    names: &Names<'e>,
+    chains: &Chains,
+    packages: &'e Packages,
+    scope: Scope,
+    name: &str,
+) -> Named<'e>
     requires order { AreInOrder names.now }
     requires chains { AreChained names.now (length names.now) chains.now.slots.items
         chains.now.links.items }
-    ensures named { (o : Occurrence) → Contains result o
+    requires packages { ArePackagesOf names.now packages.now.runs.items packages.now.files }
+    ensures named { (o : Occurrence) → Contains result.names o
         ↔ (Contains names.now o × (o.name ≡ scoped scope.entry.text.now name.now)) }
-    ensures order { AreByFile result }
+    ensures files { IfSome result.files (λ p. IsPackageOf result.names p.files.now p.row) }
 {
     match chains.start_of(names, scope, name) {
         Some(start) => {
             let behind = names.skip(start);
-            behind.take(run_length(&behind, scope.text, name))
+            let names = behind.take(run_length(&behind, scope.text, name));
+            let files = packages.files_of(start, names.len());
+            Named { names, files }
         }
-        None => names.take(0),
+        None => Named {
+            names: names.take(0),
+            files: None,
+        },
     }
 }

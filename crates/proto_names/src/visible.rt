@@ -1,12 +1,14 @@
 //! What a file sees of the entries of a name.
 
-ghost use Rattle.std.specs.Prelude.{◌≡◌, ◌↔◌, ◌<◌, All, IsTrue, Some, length, slice_get};
+ghost use Rattle.std.specs.Prelude.{◌≡◌, ◌↔◌, ◌<◌, All, IfSome, IsTrue, length};
 ghost use Rattle.proto_links.specs.Linked.{count_of};
+ghost use Rattle.proto_names.specs.Packages.{IsPackageOf};
 ghost use Rattle.proto_names.specs.Resolution.{SeenBy};
-ghost use Rattle.proto_names.specs.Runs.{AreAlikeInFiles, AreByFile, at};
+ghost use Rattle.proto_names.specs.Runs.{at};
 ghost use Rattle.proto_names.specs.Steps.{HasOneIn, fits};
 
 use crate::names::Names;
+use crate::table::Named;
 use proto_desc::name_kind::NameKind;
 use proto_links::{FileId, Links};
 
@@ -44,31 +46,6 @@ fn is_seen(links: &Links, file: FileId, role: Role, names: &Names, position: usi
     role.fits(names.kind(position)) && links.sees(file, names.location(position).file)
 }
 
-/// Whether a file has an entry of a kind that fits.
-fn has_entry(role: Role, names: &Names, file: FileId) -> bool
-    requires order { AreByFile names.now }
-    requires alike { AreAlikeInFiles names.now }
-    ensures { IsTrue result ↔ HasOneIn names.now (fits role) (λ f. f ≡ file) }
-{
-    match names.position_in(file) {
-        Some(position) => role.fits(names.kind(position)),
-        None => false,
-    }
-}
-
-/// Whether the file at a position in set order has an entry of a kind that fits.
-fn has_entry_at(links: &Links, position: usize, role: Role, names: &Names) -> bool
-    requires order { AreByFile names.now }
-    requires alike { AreAlikeInFiles names.now }
-    ensures { IsTrue result ↔ HasOneIn names.now (fits role)
-        (λ f. slice_get links.now.set_order position ≡ Some f) }
-{
-    match links.set_order().get(position) {
-        Some(file) => has_entry(role, names, *file),
-        None => false,
-    }
-}
-
 /// Whether a file sees one of the entries, of a kind that fits: each of them is looked at.
 fn sees_entry(links: &Links, file: FileId, role: Role, names: &Names) -> bool
     requires file { file < count_of links.now }
@@ -83,39 +60,16 @@ fn sees_entry(links: &Links, file: FileId, role: Role, names: &Names) -> bool
     false
 }
 
-/// Whether a file sees one of the entries, of a kind that fits: each of the files that it sees is asked for.
-fn has_seen_entry(links: &Links, file: FileId, role: Role, names: &Names) -> bool
+/// Whether a file sees one of the entries of a name, of a kind that fits. A package that many files have is known by
+/// these, and no entry of it is looked at.
+pub(crate) fn sees_one(links: &Links, file: FileId, role: Role, named: &Named) -> bool
     requires file { file < count_of links.now }
-    requires entries { All (λ o. o.file < count_of links.now) names.now }
-    requires order { AreByFile names.now }
-    requires alike { AreAlikeInFiles names.now }
-    ensures { IsTrue result ↔ HasOneIn names.now (fits role) (SeenBy links.now file) }
+    requires entries { All (λ o. o.file < count_of links.now) named.now.names }
+    requires files { IfSome named.now.files (λ p. IsPackageOf named.now.names p.files.now p.row) }
+    ensures { IsTrue result ↔ HasOneIn named.now.names (fits role) (SeenBy links.now file) }
 {
-    let seen = links.seen(file);
-    for index in 0..seen.len() {
-        if has_entry_at(links, seen[index], role, names) {
-            return true;
-        }
-    }
-    false
-}
-
-/// Whether a file sees one of the entries, of a kind that fits. The entries and the files that are seen may be many
-/// each, so what there is less of is walked over.
-pub(crate) fn sees_one(links: &Links, file: FileId, role: Role, names: &Names) -> bool
-    requires file { file < count_of links.now }
-    requires entries { All (λ o. o.file < count_of links.now) names.now }
-    requires order { AreByFile names.now }
-    requires alike { AreAlikeInFiles names.now }
-    ensures { IsTrue result ↔ HasOneIn names.now (fits role) (SeenBy links.now file) }
-{
-    // A package has an entry in each of its files, and is mostly the file's own.
-    if has_entry(role, names, file) && links.sees(file, file) {
-        return true;
-    }
-    if names.len() <= links.seen(file).len() {
-        sees_entry(links, file, role, names)
-    } else {
-        has_seen_entry(links, file, role, names)
+    match &named.files {
+        Some(package) => { role.fits(None) && links.sees_one_of(file, package.files, package.row) }
+        None => sees_entry(links, file, role, &named.names),
     }
 }

@@ -1,13 +1,13 @@
 use Rattle.std.proofs.Common.{◌≡◌, ◌≢◌, ◌∙◌, sym, ap, subst, ◌≤◌, List, length, take, drop, get_or, arith, Less}
 use Rattle.std.specs.Prelude.{All, Contains, ◌↔◌}
 use Rattle.std.specs.List.Sorted.{IsPartitionPoint}
-use Rattle.std.proofs.lemmas.List.{length-drop}
+use Rattle.std.proofs.lemmas.List.{length-drop, length-take-le}
+use Rattle.std.proofs.lemmas.Option.{IfSome_then}
 use Rattle.proto_desc.specs.DeclaredNames.{scoped}
 use Rattle.proto_names.specs.Occurrences.{Occurrence}
+use Rattle.proto_names.specs.Packages.{IsPackageOf}
 use Rattle.proto_names.specs.Order.{AreInNameOrder, name_cmp}
-use Rattle.proto_names.proofs.ByFile.{none_by_file, run_by_file}
 use Rattle.proto_names.proofs.Ordered.{order_names}
-use Rattle.proto_names.specs.Runs.{AreByFile}
 use Rattle.proto_names.proofs.Searching.{drop_sorted, drop_behind, none_is, run_is, start_below, start_named, start_point}
 use Rattle.proto_names.proofs.table.entries_named.Goals as goal
 
@@ -51,7 +51,7 @@ run_length-requires-clause-first c =
     subst (λ (ps : List Occurrence). (d : Occurrence) → (get_or ps 0 d).name ≡ target) (sym c.skip-behind.ensures)
     (start_named os target c.in-Some.start c.in-Some.ensures below)
 
-named_run : (c : goal.After-take) (o : Occurrence) → Contains (take c.run_length.result (drop c.in-Some.start c.args.names.now)) o
+named_run : (c : goal.After-files_of-files) (o : Occurrence) → Contains (take c.run_length.result (drop c.in-Some.start c.args.names.now)) o
     ↔ (Contains c.args.names.now o × (o.name ≡ scoped c.args.scope.text.now c.args.name.now))
 named_run c =
     let os = c.args.names.now in
@@ -69,22 +69,24 @@ pub returns-in-Some-clause-named : goal.returns-in-Some-clause-named
 returns-in-Some-clause-named c =
     let target = scoped c.args.scope.text.now c.args.name.now in
     subst (λ (ps : List Occurrence). (o : Occurrence) → Contains ps o ↔ (Contains c.args.names.now o × (o.name ≡ target)))
-    (sym (c.take.ensures ∙ ap (take c.run_length.result) c.skip-behind.ensures)) (named_run c)
+    (sym (c.take-names.ensures ∙ ap (take c.run_length.result) c.skip-behind.ensures)) (named_run c)
 
 pub returns-in-None-clause-named : goal.returns-in-None-clause-named
 returns-in-None-clause-named c =
     let os = c.args.names.now in
     let target = scoped c.args.scope.text.now c.args.name.now in
-    subst (λ (ps : List Occurrence). (o : Occurrence) → Contains ps o ↔ (Contains os o × (o.name ≡ target))) (sym c.take-in-None.ensures)
+    subst (λ (ps : List Occurrence). (o : Occurrence) → Contains ps o ↔ (Contains os o × (o.name ≡ target))) (sym c.take.ensures)
     (none_is os target c.in-None.ensures)
 
-pub returns-in-Some-clause-order : goal.returns-in-Some-clause-order
-returns-in-Some-clause-order c =
+pub returns-in-Some-clause-files : goal.returns-in-Some-clause-files
+returns-in-Some-clause-files c =
     let os = c.args.names.now in
     let target = scoped c.args.scope.text.now c.args.name.now in
     let start = c.in-Some.start in
     let n = c.run_length.result in
-    subst AreByFile (sym (c.take.ensures ∙ ap (take n) c.skip-behind.ensures)) (run_by_file os target start n c.requires.order (λ o w. (named_run c o).0 w))
-
-pub returns-in-None-clause-order : goal.returns-in-None-clause-order
-returns-in-None-clause-order c = subst AreByFile (sym c.take-in-None.ensures) none_by_file
+    let below = start_below os target start (order_names os c.requires.order) c.in-Some.ensures in
+    let named : c.take-names.result ≡ take n (drop start os) = c.take-names.ensures ∙ ap (take n) c.skip-behind.ensures in
+    let bound = subst (λ (ps : List Occurrence). n ≤ length ps) c.skip-behind.ensures c.run_length.ensures.bound in
+    let len : c.len.result ≡ n = c.len.ensures ∙ ap length named ∙ length-take-le n (drop start os) bound in
+    IfSome_then c.files_of-files.result c.files_of-files.ensures
+    (λ p is. rw named (subst (λ k. IsPackageOf (take k (drop start os)) p.files.now p.row) len (is os c.requires.packages)))

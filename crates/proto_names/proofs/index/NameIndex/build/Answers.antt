@@ -1,5 +1,6 @@
-use Rattle.std.proofs.Common.{◌≡◌, ◌∙◌, sym, subst, refl, arith, List, map}
+use Rattle.std.proofs.Common.{◌≡◌, ◌∙◌, sym, subst, refl, arith, List, map, get_or}
 use Rattle.std.specs.Prelude.{IsPermutation, string_bytes}
+use Rattle.std.proofs.lemmas.List.{get_or_default}
 use Rattle.std.proofs.lemmas.List.Sorted.{length_permutation}
 use Rattle.proto_names.specs.Index.{services_of}
 use Rattle.proto_names.specs.Occurrences.{Occurrence, occurrences}
@@ -79,3 +80,9 @@ returns-clause-indexed g c =
             (c.names-2.ensures ∙ kept) c.in_ok-services.ensures.all;
       };
     }
+
+pub new-requires-clause-files : goal.new-requires-clause-files
+new-requires-clause-files g c k d h =
+    let collected = (rw c.in-Some.is at c.in_ok-entries.ensures).0 in
+    let all = rw collected at c.sort.ensures.all in
+    below_files c.args.files.now c.sort.new.self all (get_or c.sort.new.self k d) (k, h, get_or_default c.sort.new.self k (get_or c.sort.new.self k d) d h)

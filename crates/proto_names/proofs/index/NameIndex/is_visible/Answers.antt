@@ -5,23 +5,15 @@ use Rattle.proto_names.specs.Index.{Index}
 use Rattle.proto_names.specs.Occurrences.{Occurrence}
 use Rattle.proto_names.specs.Resolution.{SeenBy, Visible}
 use Rattle.proto_names.specs.Steps.{fits}
-use Rattle.proto_names.proofs.ByFile.{alike_in_files}
 use Rattle.proto_names.proofs.Looking.{among_visible, visible_among}
-use Rattle.proto_names.proofs.Once.{declared_once}
 use Rattle.proto_names.proofs.index.NameIndex.is_visible.Goals as goal
 
 pub sees_one-requires-clause-entries : goal.sees_one-requires-clause-entries
 sees_one-requires-clause-entries c k d below =
-    let here = c.named.ensures.found (get_or c.named.result k d) (k, below, get_or_default c.named.result k (get_or c.named.result k d) d below) in
+    let here = c.named.ensures.found (get_or c.named.result.names k d) (k, below, get_or_default c.named.result.names k (get_or c.named.result.names k d) d below) in
     let inside = c.self.invariant.0.inside _ here.0 in
     let files = ap (λ (index : Index). index.files) c.self.view_is in
     omega (arith, inside, files, c.requires.links)
-
-pub sees_one-requires-clause-alike : goal.sees_one-requires-clause-alike
-sees_one-requires-clause-alike c =
-    let of = c.self.invariant.1 in
-    alike_in_files c.self.inside.entries (scoped c.args.scope.text.now c.args.name.now) c.named.result (declared_once _ of.0 of.1 of.2).one
-    c.named.ensures.found
 
 pub returns : goal.returns
 returns c =
@@ -29,7 +21,7 @@ returns c =
     let name = scoped c.args.scope.text.now c.args.name.now in
     let is = ap (λ (index : Index). index.occurrences) c.self.view_is in (
       λ t. subst (λ (os : List Occurrence). Visible os seen (fits c.args.role) name) is
-          (among_visible c.self.inside.entries seen (fits c.args.role) name c.named.result c.named.ensures.found (c.sees_one.ensures.0 t)),
-      λ v. c.sees_one.ensures.1 (visible_among c.self.inside.entries seen (fits c.args.role) name c.named.result c.named.ensures.all
+          (among_visible c.self.inside.entries seen (fits c.args.role) name c.named.result.names c.named.ensures.found (c.sees_one.ensures.0 t)),
+      λ v. c.sees_one.ensures.1 (visible_among c.self.inside.entries seen (fits c.args.role) name c.named.result.names c.named.ensures.all
           (subst (λ (os : List Occurrence). Visible os seen (fits c.args.role) name) (sym is) v)),
     )
