@@ -1,6 +1,6 @@
 //! Fields, map fields and members of oneofs (language guide, "Specifying Field Types", "Maps", "Oneof").
 
-ghost use Rattle.std.specs.Prelude.{◌≡◌, ◌++◌, ◌≤◌, IfOk, OnOk, flat_map, length, string_bytes};
+ghost use Rattle.std.specs.Prelude.{◌≡◌, ◌∷◌, ◌++◌, ◌≤◌, [], IfOk, OnOk, flat_map, length, string_bytes};
 ghost use Rattle.proto_lower.specs.Fields.{described, label_of, is_optional, field_at, inner, map_described, member_of, real_count, fields_from};
 
 use crate::names::entry_name;
@@ -56,26 +56,28 @@ fn is_optional(label: &Option<Label>) -> bool
     matches!(label, Some(Label::Optional(_)))
 }
 
-/// A field, which has a oneof of its own at the position `next_made` if it is `optional`.
-fn plain_field<'s>(
+/// Adds a field, which has a oneof of its own at the position `next_made` if it is `optional`.
+fn put_field<'s>(
     alloc: Global,
+    out: &mut Vec<FieldDesc<'s>>,
     field: &Field<'s>,
     next_made: usize,
-) -> Result<FieldDesc<'s>, AllocError>
-    ensures { IfOk result (λ made. made ≡ field_at next_made field.now) }
+) -> Result<(), AllocError>
+    ensures { OnOk result (out.new.items ≡ out.old.items ++ field_at next_made field.now ∷ []) }
 {
     let is_optional = is_optional(&field.label);
     let oneof_index = if is_optional { Some(next_made) } else { None };
     let field_type = field_kind(alloc, &field.field_type)?;
     let label = label_of(&field.label);
-    described(
+    out.push(described(
         alloc,
         &field.declarator,
         label,
         field_type,
         oneof_index,
         is_optional,
-    )
+    )?)?;
+    Ok(())
 }
 
 /// The full name, behind a leading dot, of what stands in the scope.
@@ -88,22 +90,28 @@ pub(crate) fn inner_name(alloc: Global, scope: &str, name: &str) -> Result<Strin
     Ok(full)
 }
 
-/// A map field of the message with this full name: a repeated field of its entry's type.
-fn map_field<'s>(alloc: Global, full: &str, map: &MapField<'s>) -> Result<FieldDesc<'s>, AllocError>
-    ensures { IfOk result (λ field. field ≡ map_described full.now map.now) }
+/// Adds a map field of the message with this full name: a repeated field of its entry's type.
+fn put_map<'s>(
+    alloc: Global,
+    out: &mut Vec<FieldDesc<'s>>,
+    full: &str,
+    map: &MapField<'s>,
+) -> Result<(), AllocError>
+    ensures { OnOk result (out.new.items ≡ out.old.items ++ map_described full.now map.now ∷ []) }
 {
     let entry = entry_name(alloc, map.declarator.name.text)?;
     let full_name = Text::owned(inner_name(alloc, full, entry.as_str())?);
     let kind = TypeKind::Message;
     let field_type = FieldKind::Named(TypeReference::Resolved { full_name, kind });
-    described(
+    out.push(described(
         alloc,
         &map.declarator,
         FieldLabel::Repeated,
         field_type,
         None,
         false,
-    )
+    )?)?;
+    Ok(())
 }
 
 /// Adds the members of the oneof at the position `number`.
@@ -163,12 +171,12 @@ pub(crate) fn fields<'s>(
         match item {
             MessageItem::Field(field) => {
                 let field = field.get();
-                out.push(plain_field(alloc, field, next_made)?)?;
+                put_field(alloc, &mut out, field, next_made)?;
                 if is_optional(&field.label) {
                     next_made += 1;
                 }
             }
-            MessageItem::Map(map) => out.push(map_field(alloc, full, map.get())?)?,
+            MessageItem::Map(map) => put_map(alloc, &mut out, full, map.get())?,
             MessageItem::Oneof(oneof) => {
                 put_members(alloc, &mut out, oneof.get().items.as_slice(), next_real)?;
                 next_real += 1;

@@ -1,6 +1,6 @@
 //! Messages and the entries that map fields make (language guide, "Nested Types", "Maps").
 
-ghost use Rattle.std.specs.Prelude.{◌≡◌, IfOk, flat_map};
+ghost use Rattle.std.specs.Prelude.{◌≡◌, ◌∷◌, ◌++◌, [], IfOk, OnOk, flat_map};
 ghost use Rattle.proto_lower.specs.Messages.{entry_field, entry_fields, entry_of, enum_of, all_fields, all_oneofs, message_of, nested_of, lowered_message};
 
 use crate::enumeration::lower_enum;
@@ -57,13 +57,17 @@ fn entry_fields<'s>(alloc: Global, map: &MapField<'s>) -> Result<Row<FieldDesc<'
     Ok(Row::from_vec(fields))
 }
 
-/// The entry of a map field.
-fn map_entry<'s>(alloc: Global, map: &MapField<'s>) -> Result<MessageDesc<'s>, AllocError>
-    ensures { IfOk result (λ entry. entry ≡ entry_of map.now) }
+/// Adds the entry of a map field.
+fn put_entry<'s>(
+    alloc: Global,
+    out: &mut Vec<MessageDesc<'s>>,
+    map: &MapField<'s>,
+) -> Result<(), AllocError>
+    ensures { OnOk result (out.new.items ≡ out.old.items ++ entry_of map.now ∷ []) }
 {
     let field = &map.declarator.name;
     let name = entry_name(alloc, field.text)?;
-    Ok(MessageDesc {
+    out.push(MessageDesc {
         name: Text::owned(name),
         place: field.span.start,
         fields: entry_fields(alloc, map)?,
@@ -74,7 +78,8 @@ fn map_entry<'s>(alloc: Global, map: &MapField<'s>) -> Result<MessageDesc<'s>, A
         reserved_names: Row::new(alloc),
         options: Row::new(alloc),
         is_map_entry: true,
-    })
+    })?;
+    Ok(())
 }
 
 fn enums<'s>(alloc: Global, items: &[MessageItem<'s>]) -> Result<Row<EnumDesc<'s>>, AllocError>
@@ -151,7 +156,7 @@ fn nested_messages<'s>(
     let mut nested = Vec::new(alloc);
     for item in items {
         match item {
-            MessageItem::Map(map) => nested.push(map_entry(alloc, map.get())?)?,
+            MessageItem::Map(map) => put_entry(alloc, &mut nested, map.get())?,
             MessageItem::Message(inner) => {
                 nested.push(lower_message(alloc, full, inner.get())?)?;
             }

@@ -2,14 +2,14 @@ use Rattle.std.proofs.Common.{sym, refl, arith}
 use Rattle.proto_lower.specs.Messages.{nested_of}
 use Rattle.proto_lower.proofs.Nested.{nested_message, one_more, none_more}
 use Rattle.proto_lower.proofs.message.+messages.Goals as goal
-use Rattle.proto_lower.proofs.message.+messages.Goals.{nested_messages-in-Map+in_ok-map_entry-in-Map+in_ok-push-in-Map, nested_messages-in-Message+in_ok-lower_message-in-Message+in_ok-push-in-Message, nested_messages-in-Field, nested_messages-in-Oneof, nested_messages-in-Option, nested_messages-in-Enum, nested_messages-in-Reserved, nested_messages-in-Empty}
+use Rattle.proto_lower.proofs.message.+messages.Goals.{nested_messages-in-Map+in_ok-put_entry-in-Map, nested_messages-in-Message+in_ok-lower_message-in-Message+in_ok-push-in-Message, nested_messages-in-Field, nested_messages-in-Oneof, nested_messages-in-Option, nested_messages-in-Enum, nested_messages-in-Reserved, nested_messages-in-Empty}
 
 pub nested_messages-loop-item-preserved : goal.nested_messages-loop-item-preserved
 nested_messages-loop-item-preserved t c = elim c.match-item.branch [
-  | nested_messages-in-Map+in_ok-map_entry-in-Map+in_ok-push-in-Map w ↦ rw (w.nested-is, w.in_ok-push-in-Map.ensures.items)
+  | nested_messages-in-Map+in_ok-put_entry-in-Map w ↦ rw (w.nested-is, w.in_ok-put_entry-in-Map.ensures)
       (one_more (nested_of c.args.full.now) c.args.items.now c.loop-item.item-index c.item-item.result c.loop-item.nested.items _ (omega arith) c.item-item.is
       c.loop-item.invariant
-      (rw (w.in-Map.is, w.in_ok-map_entry-in-Map.ensures, w.get.ensures) refl))
+      (rw (w.in-Map.is, w.get.ensures) refl))
   | nested_messages-in-Message+in_ok-lower_message-in-Message+in_ok-push-in-Message w ↦ rw (w.nested-is, w.in_ok-push-in-Message.ensures.items)
       (one_more (nested_of c.args.full.now) c.args.items.now c.loop-item.item-index c.item-item.result c.loop-item.nested.items _ (omega arith) c.item-item.is
       c.loop-item.invariant
