@@ -60,6 +60,10 @@ pub begins_reserved : begins reserved ≡ OneOf (codes "reserved" ∷ []) ∷ []
 unfolding reserved
 begins_reserved = refl
 
+pub begins_ereserved : begins ereserved ≡ OneOf (codes "reserved" ∷ []) ∷ []
+unfolding ereserved
+begins_ereserved = refl
+
 pub begins_map : begins map_or_field ≡ OneOf (codes "map" ∷ []) ∷ []
 unfolding map_or_field
 begins_map = refl

@@ -10,6 +10,7 @@ pub mod Loops
 pub mod Fails
 pub mod Levels
 pub mod Items
+pub mod Ways
 pub mod Limits
 pub mod Faults
 pub mod Spellings

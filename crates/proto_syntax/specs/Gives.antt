@@ -4,7 +4,8 @@ use Rattle.proto_tokens.specs.declared.token.Token.{Token}
 use Rattle.proto_tokens.specs.Token.{Spelled, spelled}
 use Rattle.proto_syntax.specs.declared.parser.stop.Stop.{Stop}
 use Rattle.proto_syntax.specs.declared.parser.stop.Stop.TheVariants as stop
-use Rattle.proto_syntax.specs.Grammar.{Grammar, Tree}
+use Rattle.proto_syntax.specs.Grammar.{Grammar, ◌∣◌, Tree}
+use Rattle.proto_syntax.specs.Language.{enum, option, oneof, reserved, map_or_field, symbol, field}
 use Rattle.proto_syntax.specs.Reading.{Outcome, Read, Stops, read}
 
 abbrev pub spellings : List Token → List Spelled
@@ -24,3 +25,7 @@ Gives tree (Err e) rest o = Fails e rest o
 -- A method took a tree of that grammar from the front of the tokens, or stopped at their fault.
 abbrev pub Reads : {X : Type 0} → (X → Tree) → Grammar → Result X Stop → List Token → List Token → Type 0
 Reads tree g result old new = Gives tree result new (read g (spellings old))
+
+-- a statement of a message that is no message
+abbrev pub flat_item : Grammar
+flat_item = enum ∣ option ∣ oneof ∣ reserved ∣ map_or_field ∣ symbol ";" ∣ field

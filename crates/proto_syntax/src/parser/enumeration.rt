@@ -1,9 +1,7 @@
 //! Enums (proto3 language specification, "Enum definition").
 
-ghost use Rattle.proto_syntax.specs.Reading.{read};
 ghost use Rattle.proto_syntax.specs.Language.{value, enum_item, enum};
 ghost use Rattle.proto_syntax.specs.Trees.{value_tree, enum_item_tree, enum_tree};
-ghost use Rattle.proto_syntax.specs.Gives.{Reads};
 
 use crate::parser::Parser;
 use crate::parser::rule::Parse;
@@ -12,41 +10,24 @@ use proto_base::boxed::Boxed;
 use proto_base::row::Row;
 use proto_tree::{Enum, EnumItem, EnumValue, SignedNumber};
 
-impl<'s, 't> Parser<'s, 't> {
-    /// A value of an enum.
+impl<'s> Parse<'s> for EnumValue<'s> {
+    ghost rule = { value };
+
+    ghost tree = { value_tree };
+
     #[tactic(auto, unfolding(crate::specs::Language::value))]
-    fn enum_value(&mut self) -> Result<EnumValue<'s>, Stop>
-        ensures { Reads value_tree value result self.old.rest.now self.new.rest.now }
-    {
-        let name = self.value_name()?;
-        let equals = self.symbol('=')?;
-        let number = SignedNumber::parse(self)?;
-        let options = self.optional_options()?;
-        let semicolon = self.symbol(';')?;
+    fn parse(parser: &mut Parser<'s, '_>) -> Result<Self, Stop> {
+        let name = parser.value_name()?;
+        let equals = parser.symbol('=')?;
+        let number = SignedNumber::parse(parser)?;
+        let options = parser.optional_options()?;
+        let semicolon = parser.symbol(';')?;
         Ok(EnumValue {
             name,
             equals,
             number,
             options,
             semicolon,
-        })
-    }
-
-    /// An enum.
-    #[tactic(auto, using(crate::proofs::Levels::enum_block))]
-    pub(crate) fn enumeration(&mut self) -> Result<Enum<'s>, Stop>
-        ensures { Reads enum_tree enum result self.old.rest.now self.new.rest.now }
-    {
-        let keyword = self.keyword("enum")?;
-        let name = self.name()?;
-        let open_brace = self.symbol('{')?;
-        let (items, close_brace) = self.block_items()?;
-        Ok(Enum {
-            keyword,
-            name,
-            open_brace,
-            items: Row::from_vec(items),
-            close_brace,
         })
     }
 }
@@ -56,11 +37,10 @@ impl<'s> Parse<'s> for EnumItem<'s> {
 
     ghost tree = { enum_item_tree };
 
-    #[tactic(auto, using(crate::proofs::Levels::begins_option, crate::proofs::Levels::signed_has_token), unfolding(crate::specs::Language::ereserved, crate::specs::Language::erange))]
+    #[tactic(auto, using(crate::proofs::Levels::signed_has_token))]
     fn parse(parser: &mut Parser<'s, '_>) -> Result<Self, Stop> {
         if parser.at_keyword("option") {
-            let option = parser.option()?;
-            return Ok(EnumItem::Option(Boxed::new(parser.alloc, option)?));
+            return Ok(EnumItem::Option(parser.boxed()?));
         }
         if parser.at_keyword("reserved") {
             let reserved = parser.reserved()?;
@@ -70,7 +50,27 @@ impl<'s> Parse<'s> for EnumItem<'s> {
             let span = parser.symbol(';')?;
             return Ok(EnumItem::Empty(span));
         }
-        let value = parser.enum_value()?;
-        Ok(EnumItem::Value(Boxed::new(parser.alloc, value)?))
+        Ok(EnumItem::Value(parser.boxed()?))
+    }
+}
+
+impl<'s> Parse<'s> for Enum<'s> {
+    ghost rule = { enum };
+
+    ghost tree = { enum_tree };
+
+    #[tactic(auto, using(crate::proofs::Levels::enum_block))]
+    fn parse(parser: &mut Parser<'s, '_>) -> Result<Self, Stop> {
+        let keyword = parser.keyword("enum")?;
+        let name = parser.name()?;
+        let open_brace = parser.symbol('{')?;
+        let (items, close_brace) = parser.block_items()?;
+        Ok(Enum {
+            keyword,
+            name,
+            open_brace,
+            items: Row::from_vec(items),
+            close_brace,
+        })
     }
 }

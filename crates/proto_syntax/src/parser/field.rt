@@ -58,20 +58,6 @@ impl<'s, 't> Parser<'s, 't> {
         Ok((None, field_type))
     }
 
-    /// A field whose statement does not begin with the word `map`.
-    #[tactic(auto, unfolding(crate::specs::Language::field))]
-    pub(crate) fn field(&mut self) -> Result<Field<'s>, Stop>
-        ensures { Reads field_tree field result self.old.rest.now self.new.rest.now }
-    {
-        let (label, field_type) = self.field_head()?;
-        let declarator = self.declarator()?;
-        Ok(Field {
-            label,
-            field_type,
-            declarator,
-        })
-    }
-
     /// The types of a map, in angle brackets.
     #[tactic(auto, unfolding(crate::specs::Language::map_type))]
     pub(crate) fn map_type(&mut self) -> Result<MapType<'s>, Stop>
@@ -91,14 +77,35 @@ impl<'s, 't> Parser<'s, 't> {
             close_angle,
         })
     }
+}
 
-    /// A field of a oneof.
+impl<'s> Parse<'s> for Field<'s> {
+    // Of a statement that does not begin with the word `map`.
+    ghost rule = { field };
+
+    ghost tree = { field_tree };
+
+    #[tactic(auto, unfolding(crate::specs::Language::field))]
+    fn parse(parser: &mut Parser<'s, '_>) -> Result<Self, Stop> {
+        let (label, field_type) = parser.field_head()?;
+        let declarator = parser.declarator()?;
+        Ok(Field {
+            label,
+            field_type,
+            declarator,
+        })
+    }
+}
+
+impl<'s> Parse<'s> for OneofField<'s> {
+    ghost rule = { member };
+
+    ghost tree = { member_tree };
+
     #[tactic(auto, unfolding(crate::specs::Language::member))]
-    pub(crate) fn member(&mut self) -> Result<OneofField<'s>, Stop>
-        ensures { Reads member_tree member result self.old.rest.now self.new.rest.now }
-    {
-        let field_type = self.field_type(Position::Member)?;
-        let declarator = self.declarator()?;
+    fn parse(parser: &mut Parser<'s, '_>) -> Result<Self, Stop> {
+        let field_type = parser.field_type(Position::Member)?;
+        let declarator = parser.declarator()?;
         Ok(OneofField {
             field_type,
             declarator,

@@ -31,66 +31,29 @@ impl<'s, 't> Parser<'s, 't> {
         })
     }
 
-    /// An `import` statement.
-    #[tactic(auto, unfolding(crate::specs::Language::import))]
-    fn import(&mut self) -> Result<Import<'s>, Stop>
-        ensures { Reads import_tree import result self.old.rest.now self.new.rest.now }
-    {
-        let keyword = self.keyword("import")?;
-        let public = self.optional_keyword("public")?;
-        let path = StringValue::parse(self)?;
-        let semicolon = self.symbol(';')?;
-        Ok(Import {
-            keyword,
-            public,
-            path,
-            semicolon,
-        })
-    }
-
-    /// A `package` statement.
-    fn package(&mut self) -> Result<Package<'s>, Stop>
-        ensures { Reads package_tree «package» result self.old.rest.now self.new.rest.now }
-    {
-        let keyword = self.keyword("package")?;
-        let name = self.full_name()?;
-        let semicolon = self.symbol(';')?;
-        Ok(Package {
-            keyword,
-            name,
-            semicolon,
-        })
-    }
-
     /// A statement of a file.
-    #[tactic(auto, using(crate::proofs::Levels::begins_message, crate::proofs::Levels::begins_import, crate::proofs::Levels::begins_option, crate::proofs::Levels::begins_service))]
     fn statement(&mut self, depth: u64) -> Result<Statement<'s>, Stop>
         ensures { Reads statement_tree (statement (message depth)) result self.old.rest.now
             self.new.rest.now }
     {
         if self.at_keyword("import") {
-            let import = self.import()?;
-            return Ok(Statement::Import(Boxed::new(self.alloc, import)?));
+            return Ok(Statement::Import(self.boxed()?));
         }
         if self.at_keyword("package") {
-            let package = self.package()?;
-            return Ok(Statement::Package(Boxed::new(self.alloc, package)?));
+            return Ok(Statement::Package(self.boxed()?));
         }
         if self.at_keyword("option") {
-            let option = self.option()?;
-            return Ok(Statement::Option(Boxed::new(self.alloc, option)?));
+            return Ok(Statement::Option(self.boxed()?));
         }
         if self.at_keyword("message") {
             let message = self.message(depth)?;
             return Ok(Statement::Message(Boxed::new(self.alloc, message)?));
         }
         if self.at_keyword("enum") {
-            let declared = self.enumeration()?;
-            return Ok(Statement::Enum(Boxed::new(self.alloc, declared)?));
+            return Ok(Statement::Enum(self.boxed()?));
         }
         if self.at_keyword("service") {
-            let service = self.service()?;
-            return Ok(Statement::Service(Boxed::new(self.alloc, service)?));
+            return Ok(Statement::Service(self.boxed()?));
         }
         let span = self.symbol(';')?;
         Ok(Statement::Empty(span))
@@ -121,6 +84,43 @@ impl<'s, 't> Parser<'s, 't> {
         Ok(FileTree {
             syntax,
             statements: Row::from_vec(statements),
+        })
+    }
+}
+
+impl<'s> Parse<'s> for Import<'s> {
+    ghost rule = { import };
+
+    ghost tree = { import_tree };
+
+    #[tactic(auto, unfolding(crate::specs::Language::import))]
+    fn parse(parser: &mut Parser<'s, '_>) -> Result<Self, Stop> {
+        let keyword = parser.keyword("import")?;
+        let public = parser.optional_keyword("public")?;
+        let path = StringValue::parse(parser)?;
+        let semicolon = parser.symbol(';')?;
+        Ok(Import {
+            keyword,
+            public,
+            path,
+            semicolon,
+        })
+    }
+}
+
+impl<'s> Parse<'s> for Package<'s> {
+    ghost rule = { «package» };
+
+    ghost tree = { package_tree };
+
+    fn parse(parser: &mut Parser<'s, '_>) -> Result<Self, Stop> {
+        let keyword = parser.keyword("package")?;
+        let name = parser.full_name()?;
+        let semicolon = parser.symbol(';')?;
+        Ok(Package {
+            keyword,
+            name,
+            semicolon,
         })
     }
 }

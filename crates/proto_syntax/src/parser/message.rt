@@ -5,7 +5,7 @@ ghost use Rattle.proto_syntax.specs.Grammar.{◌⨾◌, Many, Pair, Left, Right}
 ghost use Rattle.proto_syntax.specs.Reading.{mapped, read};
 ghost use Rattle.proto_syntax.specs.Language.{message, message_item, map_or_field, symbol};
 ghost use Rattle.proto_syntax.specs.Trees.{message_item_tree, message_tree, body_tree};
-ghost use Rattle.proto_syntax.specs.Gives.{Gives, Reads, spellings};
+ghost use Rattle.proto_syntax.specs.Gives.{Gives, Reads, flat_item, spellings};
 
 use crate::parser::Parser;
 use crate::parser::stop::Stop;
@@ -47,28 +47,19 @@ impl<'s, 't> Parser<'s, 't> {
         Ok(MessageItem::Field(Boxed::new(self.alloc, field)?))
     }
 
-    /// A statement of a message.
-    #[cycle(message)]
-    #[tactic(auto, using(crate::proofs::Levels::begins_message, crate::proofs::Levels::begins_option, crate::proofs::Levels::begins_oneof, crate::proofs::Levels::begins_map, crate::proofs::Items::item_message, crate::proofs::Items::item_enum, crate::proofs::Items::item_option, crate::proofs::Items::item_oneof, crate::proofs::Items::item_reserved, crate::proofs::Items::item_empty), unfolding(crate::specs::Language::reserved, crate::specs::Language::range))]
-    fn message_item(&mut self, depth: u64) -> Result<MessageItem<'s>, Stop>
-        ensures { Reads message_item_tree (message_item (message depth)) result self.old.rest.now
-            self.new.rest.now }
+    /// A statement of a message that is no message.
+    fn flat_item(&mut self) -> Result<MessageItem<'s>, Stop>
+        ensures { Gives message_item_tree result self.new.rest.now
+            (mapped Right (read flat_item (spellings self.old.rest.now))) }
     {
-        if self.at_keyword("message") {
-            let nested = self.message(depth)?;
-            return Ok(MessageItem::Message(Boxed::new(self.alloc, nested)?));
-        }
         if self.at_keyword("enum") {
-            let declared = self.enumeration()?;
-            return Ok(MessageItem::Enum(Boxed::new(self.alloc, declared)?));
+            return Ok(MessageItem::Enum(self.boxed()?));
         }
         if self.at_keyword("option") {
-            let option = self.option()?;
-            return Ok(MessageItem::Option(Boxed::new(self.alloc, option)?));
+            return Ok(MessageItem::Option(self.boxed()?));
         }
         if self.at_keyword("oneof") {
-            let oneof = self.oneof()?;
-            return Ok(MessageItem::Oneof(Boxed::new(self.alloc, oneof)?));
+            return Ok(MessageItem::Oneof(self.boxed()?));
         }
         if self.at_keyword("reserved") {
             let reserved = self.reserved()?;
@@ -81,8 +72,21 @@ impl<'s, 't> Parser<'s, 't> {
             let span = self.symbol(';')?;
             return Ok(MessageItem::Empty(span));
         }
-        let field = self.field()?;
-        Ok(MessageItem::Field(Boxed::new(self.alloc, field)?))
+        Ok(MessageItem::Field(self.boxed()?))
+    }
+
+    /// A statement of a message.
+    #[cycle(message)]
+    #[tactic(auto, using(crate::proofs::Levels::begins_message, crate::proofs::Items::item_message))]
+    fn message_item(&mut self, depth: u64) -> Result<MessageItem<'s>, Stop>
+        ensures { Reads message_item_tree (message_item (message depth)) result self.old.rest.now
+            self.new.rest.now }
+    {
+        if self.at_keyword("message") {
+            let nested = self.message(depth)?;
+            return Ok(MessageItem::Message(Boxed::new(self.alloc, nested)?));
+        }
+        self.flat_item()
     }
 
     /// The statements of a message, and the brace that closes it.

@@ -39,21 +39,6 @@ impl<'s, 't> Parser<'s, 't> {
         }
         Ok(None)
     }
-
-    /// An option statement.
-    #[tactic(auto, unfolding(crate::specs::Language::option))]
-    pub(crate) fn option(&mut self) -> Result<OptionStatement<'s>, Stop>
-        ensures { Reads option_tree option result self.old.rest.now self.new.rest.now }
-    {
-        let keyword = self.keyword("option")?;
-        let setting = Setting::parse(self)?;
-        let semicolon = self.symbol(';')?;
-        Ok(OptionStatement {
-            keyword,
-            setting,
-            semicolon,
-        })
-    }
 }
 
 impl<'s> Parse<'s> for Setting<'s> {
@@ -70,6 +55,24 @@ impl<'s> Parse<'s> for Setting<'s> {
             name,
             equals,
             value,
+        })
+    }
+}
+
+impl<'s> Parse<'s> for OptionStatement<'s> {
+    ghost rule = { option };
+
+    ghost tree = { option_tree };
+
+    #[tactic(auto, unfolding(crate::specs::Language::option))]
+    fn parse(parser: &mut Parser<'s, '_>) -> Result<Self, Stop> {
+        let keyword = parser.keyword("option")?;
+        let setting = Setting::parse(parser)?;
+        let semicolon = parser.symbol(';')?;
+        Ok(OptionStatement {
+            keyword,
+            setting,
+            semicolon,
         })
     }
 }

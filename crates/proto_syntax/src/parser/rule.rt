@@ -1,7 +1,11 @@
 //! Types that stand for a rule of the grammar.
 
+ghost use Rattle.proto_syntax.specs.Reading.{read};
+ghost use Rattle.proto_syntax.specs.Gives.{Reads};
+
 use crate::parser::Parser;
 use crate::parser::stop::Stop;
+use proto_base::boxed::Boxed;
 
 /// What a rule of the grammar is read to.
 pub(crate) trait Parse<'s>: Sized + Drop {
@@ -28,4 +32,14 @@ pub(crate) trait Peek<'s>: Parse<'s> {
     /// Whether the next token begins one.
     fn is_next(parser: &Parser<'s, '_>) -> bool
         ensures { result ≡ next_fits (begins Self.rule) (spellings parser.now.rest.now) };
+}
+
+impl<'s, 't> Parser<'s, 't> {
+    /// What the next tokens are by the rule of a type, in a box.
+    pub(crate) fn boxed<T: Parse<'s>>(&mut self) -> Result<Boxed<T>, Stop>
+        ensures { Reads T.tree T.rule result self.old.rest.now self.new.rest.now }
+    {
+        let value = T::parse(self)?;
+        Ok(Boxed::new(self.alloc, value)?)
+    }
 }

@@ -12,7 +12,6 @@ use crate::parser::position::Position;
 use crate::parser::rule::Parse;
 use crate::parser::stop::Stop;
 use proto_base::Span;
-use proto_base::boxed::Boxed;
 use proto_base::row::Row;
 use proto_tree::{Rpc, RpcBlock, RpcBody, RpcItem, RpcType, Service, ServiceItem, TypeName};
 
@@ -65,18 +64,21 @@ impl<'s, 't> Parser<'s, 't> {
             close_brace,
         }))
     }
+}
 
-    /// A method of a service.
+impl<'s> Parse<'s> for Rpc<'s> {
+    ghost rule = { rpc };
+
+    ghost tree = { rpc_tree };
+
     #[tactic(auto, unfolding(crate::specs::Language::rpc))]
-    fn rpc(&mut self) -> Result<Rpc<'s>, Stop>
-        ensures { Reads rpc_tree rpc result self.old.rest.now self.new.rest.now }
-    {
-        let keyword = self.keyword("rpc")?;
-        let name = self.name()?;
-        let input = self.rpc_type()?;
-        let returns = self.keyword("returns")?;
-        let output = self.rpc_type()?;
-        let body = self.rpc_body()?;
+    fn parse(parser: &mut Parser<'s, '_>) -> Result<Self, Stop> {
+        let keyword = parser.keyword("rpc")?;
+        let name = parser.name()?;
+        let input = parser.rpc_type()?;
+        let returns = parser.keyword("returns")?;
+        let output = parser.rpc_type()?;
+        let body = parser.rpc_body()?;
         Ok(Rpc {
             keyword,
             name,
@@ -86,16 +88,19 @@ impl<'s, 't> Parser<'s, 't> {
             body,
         })
     }
+}
 
-    /// A service.
+impl<'s> Parse<'s> for Service<'s> {
+    ghost rule = { service };
+
+    ghost tree = { service_tree };
+
     #[tactic(auto, using(crate::proofs::Levels::service_block), unfolding(crate::specs::Language::service))]
-    pub(crate) fn service(&mut self) -> Result<Service<'s>, Stop>
-        ensures { Reads service_tree service result self.old.rest.now self.new.rest.now }
-    {
-        let keyword = self.keyword("service")?;
-        let name = self.name()?;
-        let open_brace = self.symbol('{')?;
-        let (items, close_brace) = self.block_items()?;
+    fn parse(parser: &mut Parser<'s, '_>) -> Result<Self, Stop> {
+        let keyword = parser.keyword("service")?;
+        let name = parser.name()?;
+        let open_brace = parser.symbol('{')?;
+        let (items, close_brace) = parser.block_items()?;
         Ok(Service {
             keyword,
             name,
@@ -114,12 +119,10 @@ impl<'s> Parse<'s> for ServiceItem<'s> {
     #[tactic(auto, using(crate::proofs::Levels::begins_rpc, crate::proofs::Levels::begins_option))]
     fn parse(parser: &mut Parser<'s, '_>) -> Result<Self, Stop> {
         if parser.at_keyword("rpc") {
-            let rpc = parser.rpc()?;
-            return Ok(ServiceItem::Rpc(Boxed::new(parser.alloc, rpc)?));
+            return Ok(ServiceItem::Rpc(parser.boxed()?));
         }
         if parser.at_keyword("option") {
-            let option = parser.option()?;
-            return Ok(ServiceItem::Option(Boxed::new(parser.alloc, option)?));
+            return Ok(ServiceItem::Option(parser.boxed()?));
         }
         let span = parser.symbol(';')?;
         Ok(ServiceItem::Empty(span))
@@ -134,8 +137,7 @@ impl<'s> Parse<'s> for RpcItem<'s> {
     #[tactic(auto, using(crate::proofs::Levels::begins_option))]
     fn parse(parser: &mut Parser<'s, '_>) -> Result<Self, Stop> {
         if parser.at_keyword("option") {
-            let option = parser.option()?;
-            return Ok(RpcItem::Option(Boxed::new(parser.alloc, option)?));
+            return Ok(RpcItem::Option(parser.boxed()?));
         }
         let span = parser.symbol(';')?;
         Ok(RpcItem::Empty(span))

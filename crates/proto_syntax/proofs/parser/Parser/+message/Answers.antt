@@ -40,15 +40,3 @@ message_body-returns t c =
     (spellings c.each.self.rest.now) (spellings c.symbol.new.self.rest.now)
     (read (Many (message_item (message c.args.depth)) ⨾ symbol "}") (spellings c.args.self.now.rest.now))
     (message_block _ (level c.args.depth)) (sym c.at_symbol.ensures ∙ c.each-test.false) c.in_ok-close.ensures c.each.invariant
-
-pub message_item-returns : goal.message_item-returns
-message_item-returns t c =
-    rw c.in_ok-new-6.ensures
-    (item_at_field (message c.args.depth) (level c.args.depth) (spellings c.args.self.now.rest.now) (spellings c.field.new.self.rest.now)
-    (field_tree c.in_ok-field.field)
-    (sym c.at_keyword.ensures ∙ c.if-at_keyword.false) (sym c.at_keyword-2.ensures ∙ c.if-at_keyword-2.false)
-    (sym c.at_keyword-3.ensures ∙ c.if-at_keyword-3.false) (sym c.at_keyword-4.ensures ∙ c.if-at_keyword-4.false)
-    (sym c.at_keyword-5.ensures ∙ c.if-at_keyword-5.false) (sym c.at_keyword-6.ensures ∙ c.if-at_keyword-6.false)
-    (sym c.at_symbol.ensures ∙ c.if-at_symbol.false) c.in_ok-field.ensures
-    ∙ ap (λ x. Read x (spellings c.field.new.self.rest.now))
-    (sym (item_other c.in_ok-field.field (spellings c.args.self.now.rest.now) (spellings c.field.new.self.rest.now) c.in_ok-field.ensures)))

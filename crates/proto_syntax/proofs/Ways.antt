@@ -1,0 +1,130 @@
+-- What a choice reads at each of its ways.
+use Rattle.std.proofs.Common.{◌≡◌, ℕ, zero, suc, Bool, true, false, List, [], ◌∷◌, refl, ◌∙◌, ap}
+use Rattle.std.specs.Prelude.{codes}
+use Rattle.std.specs.Str.{byte}
+use Prim.Native.String.{String}
+use Rattle.proto_tokens.specs.Token.{Spelled}
+use Rattle.proto_tokens.specs.declared.token.Token.{Token}
+use Rattle.proto_syntax.specs.declared.parser.stop.Stop.{Stop}
+use Rattle.proto_syntax.specs.declared.parser.stop.Stop.TheVariants as stop
+use Rattle.proto_syntax.specs.Grammar.{Class, OneOf, Symbol, Grammar, Left, Right}
+use Rattle.proto_syntax.specs.Reading.{Outcome, Read, Stops, mapped, read, next_fits}
+use Rattle.proto_syntax.specs.Gives.{Fails, spellings, flat_item}
+use Rattle.proto_syntax.specs.Language.{symbol, number, signed, range_of, reserved_of, import, «package», option, enum, service, statement, oneof, reserved, range, map_or_field, field, message_item, ereserved, erange, value, enum_item}
+use Rattle.proto_syntax.proofs.Levels.{IsLevel, begins_import, begins_option, begins_service, begins_oneof, begins_reserved, begins_map, begins_ereserved}
+
+-- what is read as the part of a choice behind n others
+abbrev pub behind : ℕ → Outcome → Outcome
+behind zero o = o
+behind (suc n) o = mapped Right (behind n o)
+
+-- and as one of the two that are left there
+abbrev pub way : ℕ → Outcome → Outcome
+way n o = behind n (mapped Left o)
+
+behind_stops : (n : ℕ) (d : Bool) (us : List Spelled) → behind n (Stops d us) ≡ Stops d us
+behind_stops zero d us = refl
+behind_stops (suc n) d us = ap (mapped Right) (behind_stops n d us)
+
+-- a fault of a way is the fault of the choice
+pub behind_fails : (n : ℕ) (e : Stop) (rest : List Token) (o p : Outcome) → p ≡ behind n o → Fails e rest o → Fails e rest p
+behind_fails n stop.NoMemory rest o p i h = tt
+behind_fails n stop.Unexpected rest o p i h = i ∙ ap (behind n) h ∙ behind_stops n false (spellings rest)
+behind_fails n stop.TooDeep rest o p i h = i ∙ ap (behind n) h ∙ behind_stops n true (spellings rest)
+
+pub way_fails : (n : ℕ) (e : Stop) (rest : List Token) (o p : Outcome) → p ≡ way n o → Fails e rest o → Fails e rest p
+way_fails n stop.NoMemory rest o p i h = tt
+way_fails n stop.Unexpected rest o p i h = i ∙ ap (way n) h ∙ behind_stops n false (spellings rest)
+way_fails n stop.TooDeep rest o p i h = i ∙ ap (way n) h ∙ behind_stops n true (spellings rest)
+
+-- whether the next token is that word
+abbrev pub At : String → List Spelled → Bool → Type 0
+At w ts b = next_fits (OneOf (codes w ∷ []) ∷ []) ts ≡ b
+
+-- and whether it is that symbol
+abbrev pub AtSign : String → List Spelled → Bool → Type 0
+AtSign s ts b = next_fits (Symbol (byte s) ∷ []) ts ≡ b
+
+-- the ways of a statement of a file
+pub statement_import : (m : Grammar) → (ts : List Spelled) → At "import" ts true → read (statement m) ts ≡ way 0 (read import ts)
+statement_import m ts e1 = rw (begins_import, e1) refl
+
+pub statement_package : (m : Grammar) → (ts : List Spelled) → At "import" ts false → At "package" ts true
+    → read (statement m) ts ≡ way 1 (read «package» ts)
+statement_package m ts e1 e2 = rw (begins_import, e1, e2) refl
+
+pub statement_option : (m : Grammar) → (ts : List Spelled) → At "import" ts false → At "package" ts false → At "option" ts true
+    → read (statement m) ts ≡ way 2 (read option ts)
+statement_option m ts e1 e2 e3 = rw (begins_import, e1, e2, begins_option, e3) refl
+
+pub statement_message : (m : Grammar) → IsLevel m → (ts : List Spelled) → At "import" ts false → At "package" ts false → At "option" ts false
+    → At "message" ts true
+    → read (statement m) ts ≡ way 3 (read m ts)
+statement_message m h ts e1 e2 e3 e4 = rw (begins_import, e1, e2, begins_option, e3, h.begins_so, e4) refl
+
+pub statement_enum : (m : Grammar) → IsLevel m → (ts : List Spelled) → At "import" ts false → At "package" ts false → At "option" ts false
+    → At "message" ts false → At "enum" ts true
+    → read (statement m) ts ≡ way 4 (read enum ts)
+statement_enum m h ts e1 e2 e3 e4 e5 = rw (begins_import, e1, e2, begins_option, e3, h.begins_so, e4, e5) refl
+
+pub statement_service : (m : Grammar) → IsLevel m → (ts : List Spelled) → At "import" ts false → At "package" ts false → At "option" ts false
+    → At "message" ts false → At "enum" ts false → At "service" ts true
+    → read (statement m) ts ≡ way 5 (read service ts)
+statement_service m h ts e1 e2 e3 e4 e5 e6 = rw (begins_import, e1, e2, begins_option, e3, h.begins_so, e4, e5, begins_service, e6) refl
+
+pub statement_empty : (m : Grammar) → IsLevel m → (ts : List Spelled) → At "import" ts false → At "package" ts false → At "option" ts false
+    → At "message" ts false → At "enum" ts false → At "service" ts false
+    → read (statement m) ts ≡ behind 6 (read (symbol ";") ts)
+statement_empty m h ts e1 e2 e3 e4 e5 e6 = rw (begins_import, e1, e2, begins_option, e3, h.begins_so, e4, e5, begins_service, e6) refl
+
+-- the ways of a statement of a message that is no message
+pub item_enum : (ts : List Spelled) → At "enum" ts true → mapped Right (read flat_item ts) ≡ way 1 (read enum ts)
+item_enum ts e1 = rw e1 refl
+
+pub item_option : (ts : List Spelled) → At "enum" ts false → At "option" ts true → mapped Right (read flat_item ts) ≡ way 2 (read option ts)
+item_option ts e1 e2 = rw (e1, begins_option, e2) refl
+
+pub item_oneof : (ts : List Spelled) → At "enum" ts false → At "option" ts false → At "oneof" ts true
+    → mapped Right (read flat_item ts) ≡ way 3 (read oneof ts)
+item_oneof ts e1 e2 e3 = rw (e1, begins_option, e2, begins_oneof, e3) refl
+
+pub item_reserved : (ts : List Spelled) → At "enum" ts false → At "option" ts false → At "oneof" ts false → At "reserved" ts true
+    → mapped Right (read flat_item ts) ≡ way 4 (read (reserved_of (range_of number)) ts)
+unfolding reserved range
+item_reserved ts e1 e2 e3 e4 = rw (e1, begins_option, e2, begins_oneof, e3, begins_reserved, e4) refl
+
+pub item_map : (ts : List Spelled) → At "enum" ts false → At "option" ts false → At "oneof" ts false → At "reserved" ts false → At "map" ts true
+    → mapped Right (read flat_item ts) ≡ way 5 (read map_or_field ts)
+item_map ts e1 e2 e3 e4 e5 = rw (e1, begins_option, e2, begins_oneof, e3, begins_reserved, e4, begins_map, e5) refl
+
+pub item_empty : (ts : List Spelled) → At "enum" ts false → At "option" ts false → At "oneof" ts false → At "reserved" ts false
+    → At "map" ts false → AtSign ";" ts true
+    → mapped Right (read flat_item ts) ≡ way 6 (read (symbol ";") ts)
+item_empty ts e1 e2 e3 e4 e5 e6 = rw (e1, begins_option, e2, begins_oneof, e3, begins_reserved, e4, begins_map, e5, e6) refl
+
+pub item_field : (ts : List Spelled) → At "enum" ts false → At "option" ts false → At "oneof" ts false → At "reserved" ts false
+    → At "map" ts false → AtSign ";" ts false
+    → mapped Right (read flat_item ts) ≡ behind 7 (read field ts)
+item_field ts e1 e2 e3 e4 e5 e6 = rw (e1, begins_option, e2, begins_oneof, e3, begins_reserved, e4, begins_map, e5, e6) refl
+
+-- a statement that begins with the word `map` is that way
+pub as_map : (o : Outcome) → mapped (λ x. Right (Right (Right (Right (Right (Left x)))))) o ≡ way 5 o
+as_map (Read x us) = refl
+as_map (Stops d us) = refl
+
+-- the ways of a statement of an enum
+pub enum_option : (ts : List Spelled) → At "option" ts true → read enum_item ts ≡ way 0 (read option ts)
+enum_option ts e1 = rw (begins_option, e1) refl
+
+pub enum_reserved : (ts : List Spelled) → At "option" ts false → At "reserved" ts true
+    → read enum_item ts ≡ way 1 (read (reserved_of (range_of signed)) ts)
+unfolding ereserved erange
+enum_reserved ts e1 e2 = rw (begins_option, e1, begins_ereserved, e2) refl
+
+pub enum_empty : (ts : List Spelled) → At "option" ts false → At "reserved" ts false → AtSign ";" ts true
+    → read enum_item ts ≡ way 2 (read (symbol ";") ts)
+enum_empty ts e1 e2 e3 = rw (begins_option, e1, begins_ereserved, e2, e3) refl
+
+pub enum_value : (ts : List Spelled) → At "option" ts false → At "reserved" ts false → AtSign ";" ts false
+    → read enum_item ts ≡ behind 3 (read value ts)
+enum_value ts e1 e2 e3 = rw (begins_option, e1, begins_ereserved, e2, e3) refl
