@@ -7,10 +7,10 @@ use Rattle.proto_tokens.specs.Token.{Spelled}
 use Rattle.proto_tokens.specs.declared.token.Token.{Token}
 use Rattle.proto_syntax.specs.declared.parser.stop.Stop.{Stop}
 use Rattle.proto_syntax.specs.declared.parser.stop.Stop.TheVariants as stop
-use Rattle.proto_syntax.specs.Grammar.{Class, OneOf, Symbol, Grammar, Left, Right}
+use Rattle.proto_syntax.specs.Grammar.{OneOf, Symbol, Grammar, Left, Right}
 use Rattle.proto_syntax.specs.Reading.{Outcome, Read, Stops, mapped, read, next_fits}
 use Rattle.proto_syntax.specs.Gives.{Fails, spellings, flat_item}
-use Rattle.proto_syntax.specs.Language.{symbol, number, signed, range_of, reserved_of, import, «package», option, enum, service, statement, oneof, reserved, range, map_or_field, field, message_item, ereserved, erange, value, enum_item}
+use Rattle.proto_syntax.specs.Language.{symbol, number, signed, range_of, reserved_of, import, «package», option, enum, service, statement, oneof, reserved, range, map_or_field, field, ereserved, erange, value, enum_item}
 use Rattle.proto_syntax.proofs.Levels.{IsLevel, begins_import, begins_option, begins_service, begins_oneof, begins_reserved, begins_map, begins_ereserved}
 
 -- what is read as the part of a choice behind n others

@@ -1,14 +1,13 @@
-use Rattle.std.proofs.Common.{ap, sym, ◌∙◌}
+use Rattle.std.proofs.Common.{sym, ◌∙◌}
 use Rattle.std.proofs.lemmas.Result.{err_from_is_err_and}
 use Rattle.std.specs.Str.{byte}
 use Rattle.proto_syntax.specs.Grammar.{Symbol, Many, ◌⨾◌}
-use Rattle.proto_syntax.specs.Reading.{Read, read}
-use Rattle.proto_syntax.specs.Trees.{field_tree, message_item_tree, symbol_tree}
+use Rattle.proto_syntax.specs.Reading.{read}
+use Rattle.proto_syntax.specs.Trees.{message_item_tree, symbol_tree}
 use Rattle.proto_syntax.specs.Gives.{spellings}
 use Rattle.proto_syntax.specs.Language.{symbol, message_item, message}
 use Rattle.proto_syntax.proofs.Fails.{closes_fails}
-use Rattle.proto_syntax.proofs.Items.{item_other}
-use Rattle.proto_syntax.proofs.Levels.{item_at_field, level, message_block}
+use Rattle.proto_syntax.proofs.Levels.{level, message_block}
 use Rattle.proto_syntax.proofs.Loops.{items_not_empty, closes_more, closes_end, fewer_left, one_passes}
 use Rattle.proto_syntax.proofs.parser.Parser.+message.Goals as goal
 
