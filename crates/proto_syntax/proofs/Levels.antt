@@ -1,10 +1,8 @@
 -- What one token of look-ahead needs of each rule.
-use Rattle.std.proofs.Common.{◌≡◌, ℕ, zero, suc, true, false, List, [], ◌∷◌, refl}
+use Rattle.std.proofs.Common.{◌≡◌, ℕ, zero, suc, true, false, [], ◌∷◌, refl}
 use Rattle.std.specs.Prelude.{codes}
-use Rattle.std.specs.Str.{byte}
-use Rattle.proto_tokens.specs.Token.{Spelled}
-use Rattle.proto_syntax.specs.Grammar.{Tree, Left, Right, OneOf, Symbol, Grammar, ◌⨾◌, Many}
-use Rattle.proto_syntax.specs.Reading.{read, Read, next_fits, begins, goes_on, can_be_empty, decides}
+use Rattle.proto_syntax.specs.Grammar.{OneOf, Grammar, ◌⨾◌, Many}
+use Rattle.proto_syntax.specs.Reading.{begins, goes_on, can_be_empty, decides}
 use Rattle.proto_syntax.specs.Language.{symbol, list_of, range_of, str, parts, full, named_but, type_but, signed, constant_number, constant, setting, options, option, rpc_type, rpc_item, rpc_body, rpc, service_item, service, erange, ereserved, value, enum_item, range, reserved, declarator, member, oneof_item, oneof, map_type, map_or_field, field_head, field, message_item, message, import, syntax, statement, file}
 use Rattle.std.proofs.lemmas.List.{append-nil}
 
@@ -68,15 +66,6 @@ pub begins_map : begins map_or_field ≡ OneOf (codes "map" ∷ []) ∷ []
 unfolding map_or_field
 begins_map = refl
 
--- behind no word of another statement, a statement is read as a field
-pub item_at_field : (m : Grammar) → IsLevel m → (ts us : List Spelled) (x : Tree) → next_fits (OneOf (codes "message" ∷ []) ∷ []) ts ≡ false
-    → next_fits (OneOf (codes "enum" ∷ []) ∷ []) ts ≡ false → next_fits (OneOf (codes "option" ∷ []) ∷ []) ts ≡ false
-    → next_fits (OneOf (codes "oneof" ∷ []) ∷ []) ts ≡ false → next_fits (OneOf (codes "reserved" ∷ []) ∷ []) ts ≡ false
-    → next_fits (OneOf (codes "map" ∷ []) ∷ []) ts ≡ false → next_fits (Symbol (byte ";") ∷ []) ts ≡ false → read field ts ≡ Read x us
-    → read (message_item m) ts ≡ Read (Right (Right (Right (Right (Right (Right (Right x))))))) us
-item_at_field m h ts us x e1 e2 e3 e4 e5 e6 e7 r =
-    rw (h.begins_so, e1, e2, begins_option, e3, begins_oneof, e4, begins_reserved, e5, begins_map, e6, e7, r) refl
-
 pub begins_rpc : begins rpc ≡ OneOf (codes "rpc" ∷ []) ∷ []
 unfolding rpc
 begins_rpc = refl
@@ -88,12 +77,6 @@ begins_import = refl
 pub begins_service : begins service ≡ OneOf (codes "service" ∷ []) ∷ []
 unfolding service
 begins_service = refl
-
--- at the word `option`, a statement of a file is read as one
-pub statement_at_option : (m : Grammar) → (ts us : List Spelled) (x : Tree) → next_fits (OneOf (codes "import" ∷ []) ∷ []) ts ≡ false
-    → next_fits (OneOf (codes "package" ∷ []) ∷ []) ts ≡ false → next_fits (OneOf (codes "option" ∷ []) ∷ []) ts ≡ true
-    → read option ts ≡ Read x us → read (statement m) ts ≡ Read (Right (Right (Left x))) us
-statement_at_option m ts us x e1 e2 e3 r = rw (begins_import, e1, e2, begins_option, e3, r) refl
 
 pub oneof_block : decides (Many oneof_item ⨾ symbol "}") ≡ true
 unfolding str parts full named_but type_but constant_number constant setting options option declarator member
