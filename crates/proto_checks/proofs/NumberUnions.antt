@@ -1,19 +1,16 @@
 -- What breaks the rules on numbers, as a union of the rules.
-use Rattle.std.proofs.Common.{List, ◌+◌, ◌-◌, ◌^◌, inl, inr}
-use Rattle.std.specs.Prelude.{Option, flat_map}
+use Rattle.std.proofs.Common.{List, inl, inr}
+use Rattle.std.specs.Prelude.{Option}
 use Rattle.proto_base.specs.declared.kind.Kind.TheVariants as kind
 use Rattle.proto_tree.specs.declared.enumeration.EnumItem.{EnumItem}
 use Rattle.proto_tree.specs.declared.message.MessageItem.{MessageItem}
-use Rattle.proto_desc.specs.declared.rules.OptionName.TheVariants.{AllowAlias}
-use Rattle.proto_lower.specs.Options.{enum_setting, first_setting}
 use Rattle.proto_checks.specs.Breaks as ranges
-use Rattle.proto_checks.specs.Breaks.{RangesBreak, ValueTwice}
-use Rattle.proto_checks.specs.Gathered.{field_numbers, message_ranges, message_bounds, message_reserved_names, value_numbers, enum_ranges, enum_bounds, enum_reserved_names}
+use Rattle.proto_checks.specs.Breaks.{RangesBreak, OwnFieldNumbersBreak, MessageRangesBreak, OwnValueNumbersBreak, EnumRangesBreak}
+use Rattle.proto_checks.specs.Gathered.{field_numbers, message_reserved_names, value_numbers, enum_reserved_names}
 use Rattle.proto_base.specs.Least.{IsLeast}
-use Rattle.proto_checks.specs.Marks.{NumberTwice, TextTwice, Outside, ReservedBackwards, ReservedNumberUsed, ReservedOverlap}
+use Rattle.proto_checks.specs.Marks.{TextTwice, ReservedBackwards, ReservedNumberUsed, ReservedOverlap}
 use Rattle.proto_checks.specs.Numbers as rules
 use Rattle.proto_checks.specs.Numbers.{IsNoFieldNumber, FirstNotZero, FieldNumbersBreak, EnumNumbersBreak}
-use Rattle.proto_base.specs.Sets.{Each}
 use Rattle.proto_checks.specs.declared.marks.MarkedNumber.{MarkedNumber}
 use Rattle.proto_checks.specs.declared.marks.MarkedRange.{MarkedRange}
 use Rattle.proto_base.specs.declared.spot.Spot.{Spot}
@@ -39,10 +36,8 @@ ranges_least rs ns a h = least_same (RangeRules rs ns) (RangesBreak rs ns) a (ra
 -- the rules on a message's numbers
 abbrev pub FieldRules : List MessageItem → Spot → Type 0
 FieldRules is =
-    Either
-    (Either (Each (field_numbers is) IsNoFieldNumber) (NumberTwice kind.FieldNumberTwice (field_numbers is)))
-    (Either (Either (Outside 1 536870911 kind.FieldNumberRange (message_bounds is)) (RangesBreak (message_ranges is) (field_numbers is)))
-    (TextTwice kind.ReservedNameTwice (message_reserved_names is)))
+    Either (OwnFieldNumbersBreak (field_numbers is))
+    (Either (MessageRangesBreak is (field_numbers is)) (TextTwice kind.ReservedNameTwice (message_reserved_names is)))
 
 field_rules : (is : List MessageItem) (x : Spot) → FieldNumbersBreak is x → FieldRules is x
 field_rules is x (rules.number_range w) = inl (inl w)
@@ -68,11 +63,8 @@ fields_least is a h = least_same (FieldRules is) (FieldNumbersBreak is) a (field
 -- the rules on an enum's numbers
 abbrev pub EnumRules : List EnumItem → Spot → Type 0
 EnumRules is =
-    Either
-    (Either (Either (FirstNotZero (value_numbers is)) (Outside (2 ^ 64 - 2147483648) (2 ^ 64 + 2147483647) kind.EnumNumberRange (value_numbers is)))
-    (ValueTwice (first_setting AllowAlias (flat_map enum_setting is)) (value_numbers is)))
-    (Either (Either (Outside (2 ^ 64 - 2147483648) (2 ^ 64 + 2147483647) kind.EnumNumberRange (enum_bounds is))
-    (RangesBreak (enum_ranges is) (value_numbers is))) (TextTwice kind.ReservedNameTwice (enum_reserved_names is)))
+    Either (OwnValueNumbersBreak is (value_numbers is))
+    (Either (EnumRangesBreak is (value_numbers is)) (TextTwice kind.ReservedNameTwice (enum_reserved_names is)))
 
 enum_rules : (is : List EnumItem) (x : Spot) → EnumNumbersBreak is x → EnumRules is x
 enum_rules is x (rules.first_not_zero w) = inl (inl (inl w))

@@ -4,7 +4,7 @@
 ghost use Rattle.std.specs.Prelude.{IfOk, flat_map};
 ghost use Rattle.proto_lower.specs.Options.{enum_setting, first_setting};
 ghost use Rattle.proto_desc.specs.declared.rules.OptionName.TheVariants.{AllowAlias};
-ghost use Rattle.proto_checks.specs.Breaks.{RangesBreak, ValueTwice};
+ghost use Rattle.proto_checks.specs.Breaks.{RangesBreak, ValueTwice, OwnFieldNumbersBreak, MessageRangesBreak, OwnValueNumbersBreak, EnumRangesBreak};
 ghost use Rattle.proto_base.specs.Least.{IsLeast};
 ghost use Rattle.proto_checks.specs.Numbers.{FirstNotZero, FieldNumbersBreak, EnumNumbersBreak};
 
@@ -35,6 +35,34 @@ fn first_range_fault(
     Ok(lesser(shared, first_backwards(ranges)))
 }
 
+/// The first rule that the numbers of a message's fields break among themselves.
+fn first_own_field_number_fault(
+    alloc: Global,
+    numbers: &[MarkedNumber],
+) -> Result<Option<Spot>, AllocError>
+    ensures { IfOk result (λ first. IsLeast (OwnFieldNumbersBreak numbers.now) first) }
+{
+    let number = first_no_field_number(numbers);
+    let twice = first_number_twice(alloc, Kind::FieldNumberTwice, numbers)?;
+    Ok(lesser(number, twice))
+}
+
+/// The first rule that the ranges which a message reserves break, and the numbers of its fields with them.
+fn first_message_range_fault(
+    alloc: Global,
+    items: &[MessageItem],
+    numbers: &[MarkedNumber],
+) -> Result<Option<Spot>, AllocError>
+    ensures { IfOk result (λ first. IsLeast (MessageRangesBreak items.now numbers.now) first) }
+{
+    let listed = message_ranges_listed(alloc, items)?;
+    let bounds = message_bounds(alloc, &listed)?;
+    let bound = first_outside(1, FIELD_MAX, Kind::FieldNumberRange, &bounds);
+    let ranges = message_ranges(alloc, &listed)?;
+    let range = first_range_fault(alloc, &ranges, numbers)?;
+    Ok(lesser(bound, range))
+}
+
 /// The first rule on numbers that the statements of a message break.
 pub(crate) fn first_field_number_fault(
     alloc: Global,
@@ -43,20 +71,12 @@ pub(crate) fn first_field_number_fault(
     ensures { IfOk result (λ first. IsLeast (FieldNumbersBreak items.now) first) }
 {
     let numbers = field_numbers(alloc, items)?;
-    let listed = message_ranges_listed(alloc, items)?;
-    let bounds = message_bounds(alloc, &listed)?;
-    let ranges = message_ranges(alloc, &listed)?;
+    let own = first_own_field_number_fault(alloc, &numbers)?;
+    let range = first_message_range_fault(alloc, items, &numbers)?;
     let names = message_reserved_names(alloc, items)?;
-
-    let number = first_no_field_number(&numbers);
-    let twice = first_number_twice(alloc, Kind::FieldNumberTwice, &numbers)?;
-    let field_fault = lesser(number, twice);
-    let bound = first_outside(1, FIELD_MAX, Kind::FieldNumberRange, &bounds);
-    let range = first_range_fault(alloc, &ranges, &numbers)?;
-    let range_fault = lesser(bound, range);
     let name = first_reserved_twice(alloc, &names)?;
-    let reserved_fault = lesser(range_fault, name);
-    Ok(lesser(field_fault, reserved_fault))
+    let reserved = lesser(range, name);
+    Ok(lesser(own, reserved))
 }
 
 /// The first value, where it is not 0.
@@ -89,6 +109,37 @@ fn first_value_twice(
     Ok(twice)
 }
 
+/// The first rule that the numbers of an enum's values break among themselves.
+fn first_own_value_number_fault(
+    alloc: Global,
+    items: &[EnumItem],
+    numbers: &[MarkedNumber],
+) -> Result<Option<Spot>, AllocError>
+    ensures { IfOk result (λ first. IsLeast (OwnValueNumbersBreak items.now numbers.now) first) }
+{
+    let zero = first_not_zero(numbers);
+    let number = first_outside(VALUE_MIN, VALUE_MAX, Kind::EnumNumberRange, numbers);
+    let own = lesser(zero, number);
+    let twice = first_value_twice(alloc, items, numbers)?;
+    Ok(lesser(own, twice))
+}
+
+/// The first rule that the ranges which an enum reserves break, and the numbers of its values with them.
+fn first_enum_range_fault(
+    alloc: Global,
+    items: &[EnumItem],
+    numbers: &[MarkedNumber],
+) -> Result<Option<Spot>, AllocError>
+    ensures { IfOk result (λ first. IsLeast (EnumRangesBreak items.now numbers.now) first) }
+{
+    let listed = enum_ranges_listed(alloc, items)?;
+    let bounds = enum_bounds(alloc, &listed)?;
+    let bound = first_outside(VALUE_MIN, VALUE_MAX, Kind::EnumNumberRange, &bounds);
+    let ranges = enum_ranges(alloc, &listed)?;
+    let range = first_range_fault(alloc, &ranges, numbers)?;
+    Ok(lesser(bound, range))
+}
+
 /// The first rule on numbers that the statements of an enum break.
 pub(crate) fn first_enum_number_fault(
     alloc: Global,
@@ -97,20 +148,10 @@ pub(crate) fn first_enum_number_fault(
     ensures { IfOk result (λ first. IsLeast (EnumNumbersBreak items.now) first) }
 {
     let numbers = value_numbers(alloc, items)?;
-    let listed = enum_ranges_listed(alloc, items)?;
-    let bounds = enum_bounds(alloc, &listed)?;
-    let ranges = enum_ranges(alloc, &listed)?;
+    let own = first_own_value_number_fault(alloc, items, &numbers)?;
+    let range = first_enum_range_fault(alloc, items, &numbers)?;
     let names = enum_reserved_names(alloc, items)?;
-
-    let zero = first_not_zero(&numbers);
-    let number = first_outside(VALUE_MIN, VALUE_MAX, Kind::EnumNumberRange, &numbers);
-    let own = lesser(zero, number);
-    let twice = first_value_twice(alloc, items, &numbers)?;
-    let value_fault = lesser(own, twice);
-    let bound = first_outside(VALUE_MIN, VALUE_MAX, Kind::EnumNumberRange, &bounds);
-    let range = first_range_fault(alloc, &ranges, &numbers)?;
-    let range_fault = lesser(bound, range);
     let name = first_reserved_twice(alloc, &names)?;
-    let reserved_fault = lesser(range_fault, name);
-    Ok(lesser(value_fault, reserved_fault))
+    let reserved = lesser(range, name);
+    Ok(lesser(own, reserved))
 }
