@@ -42,7 +42,7 @@ abbrev Elements : List Statement → Spot → Type 0
 Elements ss = Either (Either (Each (flat_map body_in ss) BodyBreaks) (Each (flat_map enum_in ss) EnumBreaks)) (Each (flat_map service_in ss) ServiceBreaks)
 
 abbrev Parts : Limits → FileTree → FileDesc → Spot → Type 0
-Parts limits tree desc = Either (Either (HeadBreaks tree desc) (Elements tree.statements)) (Either (NamesBreak desc) (LengthsBreak limits tree desc))
+Parts limits tree desc = Either (Either (HeadBreaks tree desc) (Elements tree.statements)) (Either (NamesBreak desc) (LengthsBreak limits tree.statements desc))
 
 file_parts : (limits : Limits) (tree : FileTree) (desc : FileDesc) (x : Spot) → FileBreaks limits tree desc x → Parts limits tree desc x
 file_parts limits tree desc x (FileBreaks.not_proto3 s) = inl (inl (inl (inl s)))
@@ -71,11 +71,11 @@ parts_file limits tree desc x (inr (inr (inl s))) = FileBreaks.package_long s
 parts_file limits tree desc x (inr (inr (inr s))) = FileBreaks.name_long s
 
 pub file_least : (limits : Limits) (tree : FileTree) (desc : FileDesc) (a b p q ab pq r : Option Spot) → IsLeast (HeadBreaks tree desc) a
-    → IsLeast (Each tree.statements StatementBreaks) b → IsLeast (NamesBreak desc) p → IsLeast (LengthsBreak limits tree desc) q → IsLesser a b ab
+    → IsLeast (Each tree.statements StatementBreaks) b → IsLeast (NamesBreak desc) p → IsLeast (LengthsBreak limits tree.statements desc) q → IsLesser a b ab
     → IsLesser p q pq → IsLesser ab pq r → IsLeast (FileBreaks limits tree desc) r
 file_least limits tree desc a b p q ab pq r h k m n u v w =
     let elements = each_three BodyBreaks EnumBreaks ServiceBreaks body_in enum_in service_in tree.statements b k in
     least_same (Parts limits tree desc) (FileBreaks limits tree desc) r (file_parts limits tree desc) (parts_file limits tree desc)
-    (least_either (Either (HeadBreaks tree desc) (Elements tree.statements)) (Either (NamesBreak desc) (LengthsBreak limits tree desc)) ab pq r
+    (least_either (Either (HeadBreaks tree desc) (Elements tree.statements)) (Either (NamesBreak desc) (LengthsBreak limits tree.statements desc)) ab pq r
     (least_either (HeadBreaks tree desc) (Elements tree.statements) a b ab h elements u)
-    (least_either (NamesBreak desc) (LengthsBreak limits tree desc) p q pq m n v) w)
+    (least_either (NamesBreak desc) (LengthsBreak limits tree.statements desc) p q pq m n v) w)

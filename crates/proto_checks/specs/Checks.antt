@@ -134,9 +134,9 @@ StatementBreaks s x =
 abbrev pub NamesBreak : FileDesc → Spot → Type 0
 NamesBreak desc x = Each (flat_map names_of desc.messages) MessageNamesBreak x ⊎ Each desc.enums EnumNamesBreak x
 
-abbrev pub LengthsBreak : Limits → FileTree → FileDesc → Spot → Type 0
-LengthsBreak limits tree desc x =
-    Each (flat_map package_in tree.statements) (PackageTooLong limits) x ⊎ Each (declared_by desc) (IsTooLong limits) x
+abbrev pub LengthsBreak : Limits → List Statement → FileDesc → Spot → Type 0
+LengthsBreak limits statements desc x =
+    Each (flat_map package_in statements) (PackageTooLong limits) x ⊎ Each (declared_by desc) (IsTooLong limits) x
 
 -- a place and what is wrong there
 abbrev pub spot_of : Place × Kind → Spot

@@ -11,8 +11,7 @@ use crate::enumeration::enum_fault;
 use crate::field_options::{field_options_fault, is_packed_type, is_repeated, is_wide};
 use crate::numbers::first_field_number_fault;
 use crate::oneof::oneof_fault;
-use crate::options::settings_fault;
-use crate::settings::settings_of;
+use crate::settings::statement_settings_fault;
 use proto_base::{Spot, lesser};
 use proto_desc::rules::Element;
 use proto_tree::{Field, Message, MessageItem, Oneof, OneofField, OneofItem};
@@ -85,8 +84,7 @@ fn body_fault(alloc: Global, items: &[MessageItem]) -> Result<Option<Spot>, Allo
     ensures { IfOk result (λ first. IsLeast (BodyBreaks items.now) first) }
 {
     let numbers = first_field_number_fault(alloc, items)?;
-    let settings = settings_of(alloc, Element::Message, items)?;
-    let own = settings_fault(alloc, &settings)?;
+    let own = statement_settings_fault(alloc, Element::Message, items)?;
     let elements = items_fault(alloc, items)?;
     let alone = lesser(numbers, own);
     Ok(lesser(alone, elements))

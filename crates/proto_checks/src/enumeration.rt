@@ -7,8 +7,7 @@ ghost use Rattle.proto_base.specs.Least.{IsLeast};
 ghost use Rattle.proto_base.specs.Sets.{Each};
 
 use crate::numbers::first_enum_number_fault;
-use crate::options::settings_fault;
-use crate::settings::{bracketed_settings, settings_of};
+use crate::settings::{bracketed_settings_fault, statement_settings_fault};
 use proto_base::{Kind, Spot, lesser};
 use proto_desc::rules::Element;
 use proto_tree::{Enum, EnumItem, EnumValue};
@@ -36,8 +35,7 @@ fn empty_fault(declared: &Enum) -> Option<Spot>
 fn value_fault(alloc: Global, value: &EnumValue) -> Result<Option<Spot>, AllocError>
     ensures { IfOk result (λ first. IsLeast (ValueBreaks value.now) first) }
 {
-    let settings = bracketed_settings(alloc, Element::EnumValue, &value.options)?;
-    settings_fault(alloc, &settings)
+    bracketed_settings_fault(alloc, Element::EnumValue, &value.options)
 }
 
 fn values_fault(alloc: Global, items: &[EnumItem]) -> Result<Option<Spot>, AllocError>
@@ -60,8 +58,7 @@ pub(crate) fn enum_fault(alloc: Global, declared: &Enum) -> Result<Option<Spot>,
     let items = declared.items.as_slice();
     let empty = empty_fault(declared);
     let numbers = first_enum_number_fault(alloc, items)?;
-    let settings = settings_of(alloc, Element::Enum, items)?;
-    let own = settings_fault(alloc, &settings)?;
+    let own = statement_settings_fault(alloc, Element::Enum, items)?;
     let values = values_fault(alloc, items)?;
     let alone = lesser(empty, numbers);
     let optioned = lesser(own, values);

@@ -6,8 +6,8 @@ ghost use Rattle.proto_base.specs.Least.{IsLeast};
 ghost use Rattle.proto_checks.specs.Options.{is_packed_type, is_wide, is_repeated, IsWronglyPacked, IsOtherType, IsWronglyTyped, IsWrongOnField, FieldOptionsBreak, optioned};
 ghost use Rattle.proto_base.specs.Sets.{Each};
 
-use crate::options::{choice_of_value, is_true, name_place, settings_fault};
-use crate::settings::bracketed_settings;
+use crate::options::{choice_of_value, is_true, name_place};
+use crate::settings::bracketed_settings_fault;
 use proto_base::scalar_type::ScalarType;
 use proto_base::{Kind, Spot, lesser};
 use proto_desc::rules::{Element, OptionName, ValueKind};
@@ -123,7 +123,6 @@ pub(crate) fn field_options_fault(
         return Ok(None);
     };
     let on_field = bracketed_fault(can_be_packed, is_wide_integer, options);
-    let settings = bracketed_settings(alloc, Element::Field, &declarator.options)?;
-    let own = settings_fault(alloc, &settings)?;
+    let own = bracketed_settings_fault(alloc, Element::Field, &declarator.options)?;
     Ok(lesser(on_field, own))
 }

@@ -13,11 +13,10 @@ use crate::enumeration::enum_fault;
 use crate::lengths::{enums_fault, messages_fault, services_fault};
 use crate::marks::MarkedText;
 use crate::names::{enum_names_fault, message_names_fault};
-use crate::options::settings_fault;
 use crate::package::{package_lengths_fault, package_twice};
 use crate::repeats::first_text_twice;
 use crate::service::service_fault;
-use crate::settings::settings_of;
+use crate::settings::statement_settings_fault;
 use proto_base::{Kind, Limits, Place, Spot, lesser};
 use proto_desc::file::{FileDesc, ImportDesc, PackageDesc};
 use proto_desc::message::MessageDesc;
@@ -73,8 +72,7 @@ fn head_fault(alloc: Global, tree: &FileTree, desc: &FileDesc) -> Result<Option<
     let syntax = syntax_fault(alloc, &tree.syntax)?;
     let package = package_twice(statements);
     let import = import_twice(alloc, desc.imports.as_slice())?;
-    let settings = settings_of(alloc, Element::File, statements)?;
-    let own = settings_fault(alloc, &settings)?;
+    let own = statement_settings_fault(alloc, Element::File, statements)?;
     let begun = lesser(syntax, package);
     let rest = lesser(import, own);
     Ok(lesser(begun, rest))
@@ -142,10 +140,10 @@ fn declared_lengths_fault(limits: &Limits, desc: &FileDesc) -> Option<Spot>
     lesser(types, services)
 }
 
-fn lengths_fault(limits: &Limits, tree: &FileTree, desc: &FileDesc) -> Option<Spot>
-    ensures { IsLeast (LengthsBreak limits.now tree.now desc.now) result }
+fn lengths_fault(limits: &Limits, statements: &[Statement], desc: &FileDesc) -> Option<Spot>
+    ensures { IsLeast (LengthsBreak limits.now statements.now desc.now) result }
 {
-    let packages = package_lengths_fault(limits, tree.statements.as_slice());
+    let packages = package_lengths_fault(limits, statements);
     let declared = declared_lengths_fault(limits, desc);
     lesser(packages, declared)
 }
@@ -158,10 +156,11 @@ fn file_fault(
 ) -> Result<Option<Spot>, AllocError>
     ensures { IfOk result (λ first. IsLeast (FileBreaks limits.now tree.now desc.now) first) }
 {
+    let statements = tree.statements.as_slice();
     let head = head_fault(alloc, tree, desc)?;
-    let elements = statements_fault(alloc, tree.statements.as_slice())?;
+    let elements = statements_fault(alloc, statements)?;
     let names = names_fault(alloc, desc)?;
-    let lengths = lengths_fault(limits, tree, desc);
+    let lengths = lengths_fault(limits, statements, desc);
     let spelled = lesser(head, elements);
     let described = lesser(names, lengths);
     Ok(lesser(spelled, described))

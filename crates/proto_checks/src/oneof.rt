@@ -5,8 +5,7 @@ ghost use Rattle.std.specs.List.{list_any};
 ghost use Rattle.proto_checks.specs.Elements.{is_member, IsEmptyOneof, OneofBreaks};
 ghost use Rattle.proto_base.specs.Least.{IsLeast};
 
-use crate::options::settings_fault;
-use crate::settings::settings_of;
+use crate::settings::statement_settings_fault;
 use proto_base::{Kind, Spot, lesser};
 use proto_desc::rules::Element;
 use proto_tree::{Oneof, OneofItem};
@@ -36,7 +35,6 @@ pub(crate) fn oneof_fault(alloc: Global, oneof: &Oneof) -> Result<Option<Spot>, 
     ensures { IfOk result (λ first. IsLeast (OneofBreaks oneof.now) first) }
 {
     let empty = empty_fault(oneof);
-    let settings = settings_of(alloc, Element::Oneof, oneof.items.as_slice())?;
-    let own = settings_fault(alloc, &settings)?;
+    let own = statement_settings_fault(alloc, Element::Oneof, oneof.items.as_slice())?;
     Ok(lesser(empty, own))
 }

@@ -5,8 +5,7 @@ ghost use Rattle.proto_checks.specs.Elements.{rpc_of, RpcBreaks, ServiceBreaks};
 ghost use Rattle.proto_base.specs.Least.{IsLeast};
 ghost use Rattle.proto_base.specs.Sets.{Each};
 
-use crate::options::settings_fault;
-use crate::settings::settings_of;
+use crate::settings::statement_settings_fault;
 use proto_base::{Spot, lesser};
 use proto_desc::rules::Element;
 use proto_lower::rpc_items;
@@ -16,8 +15,7 @@ use std::alloc::{AllocError, Global};
 fn method_fault(alloc: Global, rpc: &Rpc) -> Result<Option<Spot>, AllocError>
     ensures { IfOk result (λ first. IsLeast (RpcBreaks rpc.now) first) }
 {
-    let settings = settings_of(alloc, Element::Method, rpc_items(&rpc.body))?;
-    settings_fault(alloc, &settings)
+    statement_settings_fault(alloc, Element::Method, rpc_items(&rpc.body))
 }
 
 fn methods_fault(alloc: Global, items: &[ServiceItem]) -> Result<Option<Spot>, AllocError>
@@ -37,8 +35,7 @@ pub(crate) fn service_fault(alloc: Global, service: &Service) -> Result<Option<S
     ensures { IfOk result (λ first. IsLeast (ServiceBreaks service.now) first) }
 {
     let items = service.items.as_slice();
-    let settings = settings_of(alloc, Element::Service, items)?;
-    let own = settings_fault(alloc, &settings)?;
+    let own = statement_settings_fault(alloc, Element::Service, items)?;
     let methods = methods_fault(alloc, items)?;
     Ok(lesser(own, methods))
 }

@@ -1,17 +1,33 @@
-//! The settings of an element, in source order, each judged by itself.
+//! The settings of an element, in source order, each judged by itself, and the first fault of them.
 
-ghost use Rattle.std.specs.Prelude.{◌≡◌, IfOk, map, flat_map};
-ghost use Rattle.proto_lower.specs.Options.{bracketed};
+ghost use Rattle.std.specs.Prelude.{◌≡◌, ◌∷◌, ◌++◌, IfOk, OnOk, [], map, flat_map};
+ghost use Rattle.proto_lower.specs.Options.{bracketed, separated};
+ghost use Rattle.proto_base.specs.Least.{IsLeast};
 ghost use Rattle.proto_checks.specs.Judged.{judged};
+ghost use Rattle.proto_checks.specs.Options.{SettingsBreak};
 
-use crate::options::{Judged, judge};
+use crate::options::{Judged, judge, settings_fault};
+use proto_base::Spot;
 use proto_desc::rules::Element;
 use proto_lower::Item;
-use proto_tree::Options;
+use proto_tree::{Options, Setting};
 use std::alloc::{AllocError, Global};
 
+fn put_judged<'s>(
+    alloc: Global,
+    settings: &mut Vec<Judged<'s>>,
+    element: Element,
+    setting: &Setting<'s>,
+) -> Result<(), AllocError>
+    ensures { OnOk result (settings.new.items
+        ≡ settings.old.items ++ judged element setting.now ∷ []) }
+{
+    settings.push(judge(alloc, element, setting)?)?;
+    Ok(())
+}
+
 /// Those that the statements of an element make.
-pub(crate) fn settings_of<'s, I: Item<'s>>(
+fn settings_of<'s, I: Item<'s>>(
     alloc: Global,
     element: Element,
     items: &[I],
@@ -22,14 +38,43 @@ pub(crate) fn settings_of<'s, I: Item<'s>>(
     let mut settings = Vec::new(alloc);
     for item in items {
         if let Some(setting) = item.setting() {
-            settings.push(judge(alloc, element, setting)?)?;
+            put_judged(alloc, &mut settings, element, setting)?;
         }
     }
     Ok(settings)
 }
 
+/// The first fault of the settings that the statements of an element make.
+pub(crate) fn statement_settings_fault<'s, I: Item<'s>>(
+    alloc: Global,
+    element: Element,
+    items: &[I],
+) -> Result<Option<Spot>, AllocError>
+    ensures { IfOk result (λ first. IsLeast
+        (SettingsBreak element (flat_map I.setting_of items.now)) first) }
+{
+    let settings = settings_of(alloc, element, items)?;
+    settings_fault(alloc, &settings)
+}
+
+fn put_bracketed<'s>(
+    alloc: Global,
+    settings: &mut Vec<Judged<'s>>,
+    element: Element,
+    options: &Options<'s>,
+) -> Result<(), AllocError>
+    ensures { OnOk result (settings.new.items
+        ≡ settings.old.items ++ map (judged element) (separated options.now.settings)) }
+{
+    put_judged(alloc, settings, element, &options.settings.first)?;
+    for next in options.settings.rest.as_slice() {
+        put_judged(alloc, settings, element, &next.item)?;
+    }
+    Ok(())
+}
+
 /// Those of a field or of an enum value, which stand in brackets.
-pub(crate) fn bracketed_settings<'s>(
+fn bracketed_settings<'s>(
     alloc: Global,
     element: Element,
     options: &Option<Options<'s>>,
@@ -38,12 +83,21 @@ pub(crate) fn bracketed_settings<'s>(
         ≡ map (judged element) (bracketed options.now)) }
 {
     let mut settings = Vec::new(alloc);
-    let Some(list) = options else {
-        return Ok(settings);
-    };
-    settings.push(judge(alloc, element, &list.settings.first)?)?;
-    for next in list.settings.rest.as_slice() {
-        settings.push(judge(alloc, element, &next.item)?)?;
+    if let Some(listed) = options {
+        put_bracketed(alloc, &mut settings, element, listed)?;
     }
     Ok(settings)
+}
+
+/// The first fault of the settings of a field or of an enum value.
+pub(crate) fn bracketed_settings_fault(
+    alloc: Global,
+    element: Element,
+    options: &Option<Options>,
+) -> Result<Option<Spot>, AllocError>
+    ensures { IfOk result (λ first. IsLeast
+        (SettingsBreak element (bracketed options.now)) first) }
+{
+    let settings = bracketed_settings(alloc, element, options)?;
+    settings_fault(alloc, &settings)
 }

@@ -1,15 +1,9 @@
-use Rattle.std.proofs.Common.{◌∙◌}
-use Rattle.std.specs.Prelude.{flat_map}
-use Rattle.proto_desc.specs.declared.rules.Element.TheVariants as element
-use Rattle.proto_lower.specs.Options.{enum_setting}
 use Rattle.proto_checks.proofs.ElementUnions.{enum_least}
 use Rattle.proto_checks.proofs.enumeration.enum_fault.Goals as goal
 
 pub returns : goal.returns
-returns c =
-    let settings = c.in_ok-own.ensures element.Enum (flat_map enum_setting c.as_slice-items.result.now) (c.deref.ensures.value ∙ c.in_ok-settings.ensures) in
-    enum_least c.args.declared.now c.empty_fault-empty.result c.in_ok-numbers.numbers c.in_ok-own.own c.in_ok-values.values c.lesser-alone.result
+returns c = enum_least c.args.declared.now c.empty_fault-empty.result c.in_ok-numbers.numbers c.in_ok-own.own c.in_ok-values.values c.lesser-alone.result
     c.lesser-optioned.result c.lesser.result
-    c.empty_fault-empty.ensures (rw c.as_slice-items.ensures at c.in_ok-numbers.ensures) (rw c.as_slice-items.ensures at settings)
+    c.empty_fault-empty.ensures (rw c.as_slice-items.ensures at c.in_ok-numbers.ensures) (rw c.as_slice-items.ensures at c.in_ok-own.ensures)
     (rw c.as_slice-items.ensures at c.in_ok-values.ensures)
     c.lesser-alone.ensures c.lesser-optioned.ensures c.lesser.ensures

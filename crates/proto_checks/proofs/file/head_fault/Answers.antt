@@ -1,4 +1,3 @@
-use Rattle.std.proofs.Common.{◌∙◌}
 use Rattle.std.specs.Prelude.{flat_map}
 use Rattle.proto_desc.specs.declared.rules.Element.TheVariants as element
 use Rattle.proto_lower.specs.Options.{file_setting}
@@ -13,8 +12,7 @@ returns c =
     let desc = c.args.desc.now in
     let packages = rw c.as_slice-statements.ensures at c.package_twice-package.ensures in
     let imports = rw c.as_slice.ensures at c.in_ok-import.ensures in
-    let settings = rw c.as_slice-statements.ensures at (c.in_ok-own.ensures element.File (flat_map file_setting c.as_slice-statements.result.now)
-    (c.deref.ensures.value ∙ c.in_ok-settings.ensures)) in
+    let settings = rw c.as_slice-statements.ensures at c.in_ok-own.ensures in
     least_either (Either (NotProto3Syntax tree.syntax) (PackageTwice (flat_map package_in tree.statements)))
     (Either (ImportTwice desc.imports) (SettingsBreak element.File (flat_map file_setting tree.statements))) c.lesser-begun.result c.lesser-rest.result
     c.lesser.result
