@@ -1,14 +1,12 @@
 //! The numbers of a message's fields and of an enum's values, and what is reserved there, each with its place.
 
 ghost use Rattle.std.specs.Prelude.{◌≡◌, ◌++◌, IfOk, OnOk, map, flat_map};
-ghost use Rattle.std.specs.Option.{option_to_list};
-ghost use Rattle.proto_checks.specs.Gathered.{literal, member_number, field_numbers, value_numbers, ranges_listed, end_bound, bounds_of, message_ranges_listed, enum_ranges_listed, message_range, enum_range, counted, sign_place, signed_number};
+ghost use Rattle.proto_checks.specs.Gathered.{literal, member_number, field_numbers, value_numbers, ranges_listed, bounds_of, message_ranges_listed, enum_ranges_listed, message_range, enum_range, counted, sign_place, signed_number};
 
 use crate::marks::{MarkedNumber, MarkedRange};
 use proto_base::{Place, Span};
 use proto_tree::{
-    EnumItem, MessageItem, NumberLiteral, OneofItem, Range, RangeEnd, ReservedItems, SignedNumber,
-    UpperBound,
+    EnumItem, MessageItem, NumberLiteral, OneofItem, Range, ReservedItems, SignedNumber, UpperBound,
 };
 use std::alloc::{AllocError, Global};
 
@@ -127,19 +125,6 @@ pub(crate) fn message_ranges(
     Ok(ranges)
 }
 
-/// The bound that a range names behind its start, unless it is `max`.
-fn end_bound<N: Copy>(end: &Option<RangeEnd<N>>) -> Option<N>
-    ensures { option_to_list result ≡ end_bound end.now }
-{
-    match end {
-        Some(end) => match end.bound {
-            UpperBound::Number(number) => Some(number),
-            UpperBound::Max(_) => None,
-        },
-        None => None,
-    }
-}
-
 /// The bounds of ranges, without `max`.
 fn bounds_of<N: Copy>(alloc: Global, listed: &[Range<N>]) -> Result<Vec<N>, AllocError>
     ensures { IfOk result (λ bounds. bounds.items ≡ flat_map bounds_of listed.now) }
@@ -147,8 +132,10 @@ fn bounds_of<N: Copy>(alloc: Global, listed: &[Range<N>]) -> Result<Vec<N>, Allo
     let mut bounds = Vec::new(alloc);
     for range in listed {
         bounds.push(range.start)?;
-        if let Some(number) = end_bound(&range.end) {
-            bounds.push(number)?;
+        if let Some(end) = &range.end {
+            if let UpperBound::Number(number) = end.bound {
+                bounds.push(number)?;
+            }
         }
     }
     Ok(bounds)
