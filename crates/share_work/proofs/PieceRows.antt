@@ -1,15 +1,15 @@
 -- Facts on the row of one worker, and on the rows of some workers.
-use Rattle.std.proofs.Common.{◌≡◌, ℕ, zero, suc, ◌+◌, ◌-◌, ◌*◌, ◌/◌, ◌%◌, ◌<◌, ◌≤◌, ◌⊎◌, min, List, [], ◌∷◌, ◌++◌, length, take, drop, slice_get, Some, None, Result, Ok, Err, IfOk, IsOkAnd, OnOk, length-append, refl, sym, ap, ◌∙◌, subst, arith, inl, inr, rules}
+use Rattle.std.proofs.Common.{map, ◌≡◌, ℕ, zero, suc, ◌+◌, ◌-◌, ◌*◌, ◌/◌, ◌%◌, ◌<◌, ◌≤◌, ◌⊎◌, min, List, [], ◌∷◌, ◌++◌, length, take, drop, slice_get, Some, None, Result, Ok, Err, IfOk, IsOkAnd, OnOk, length-append, get_or, refl, sym, ap, ◌∙◌, subst, arith, inl, inr, rules}
 use Rattle.std.specs.List.{slice_range}
-use Rattle.std.proofs.lemmas.List.{take_min, length-drop, length-take-le}
+use Rattle.std.proofs.lemmas.List.{take_min, length-drop, length-take-le, map-append}
 use Rattle.std.proofs.lemmas.Option.{slice_get_within}
 use Rattle.std.proofs.Math.Seq.{take-add}
-use Rattle.std.proofs.Math.ListN.{drop_of_length-le}
+use Rattle.std.proofs.Math.ListN.{drop_of_length-le, set}
 use Rattle.std.proofs.Math.Seq.{take-nil, take-length}
 use Rattle.std.proofs.lemmas.Bool.{cases_lt}
 use Rattle.std.proofs.Math.Nat.{mul-le-mul_left, mul-le-mul_right, mul_comm, zero-mul}
 use Rattle.std.proofs.lemmas.Grind.{div_ceil_times}
-use Rattle.share_work.specs.Shares.{AddsSome, AddsInRow, SeatGains, SeatHas, SeatsGain, SeatsHave, GivesItems, TakesAll}
+use Rattle.share_work.specs.Shares.{AddsSome, AddsInRow, SeatGains, SeatHas, SeatsGain, SeatsHave, GivesItems, TakesAll, KeepsNumbers}
 use Rattle.share_work.specs.WorkerRows.{GivesUpTo, GivesPiece, GivesRow, GivesRows}
 
 module _ {V : Type 0} where
@@ -36,6 +36,9 @@ rising w k n W c le =
     let a : W * n ≤ W * k = mul-le-mul_left W le in
     let b : c * (w + n * W) ≤ c * (w + k * W) = mul-le-mul_left c (rw (mul_comm n W, mul_comm k W) (omega arith)) in
     rw (mul_comm (w + n * W) c, mul_comm (w + k * W) c) b
+
+pub length_pushed : {V : Type 0} (row : List V) (y : V) (more : List V) → more ≡ row ++ y ∷ [] → length more ≡ length row + 1
+length_pushed row y more is = rw is (length-append row (y ∷ []))
 
 -- past the end of the items there is no piece
 pub whole_at : (w n W c len k : ℕ) → len ≤ (w + n * W) * c → (w + k * W) * c < len → k < n
@@ -294,6 +297,18 @@ module _ {T O V R : Type 0} (gives : ℕ → T → O → Type 0) (outs_of : V �
         let same : w ≡ w + 0 = omega arith in
         subst Q y (subst W same h)
     one (suc j) b e = let bad : None ≡ Some b = e in absurd (search rules)
+
+module _ {S : Type 0} (number : S → ℕ) where
+  -- the numbers stay where the first seat keeps its own
+  pub numbers_set : (seats : List S) (s d : S) → number s ≡ number (get_or seats 0 d) → KeepsNumbers number seats (set seats 0 s)
+  numbers_set [] s d same = refl
+  numbers_set (x ∷ seats) s d same = ap (λ n. n ∷ map number seats) same
+
+  -- and where two parts of the seats keep theirs
+  pub numbers_joined : (low high low' high' : List S) → KeepsNumbers number low low' → KeepsNumbers number high high'
+      → KeepsNumbers number (low ++ high) (low' ++ high')
+  numbers_joined low high low' high' a b =
+      map-append number low' high' ∙ ap (λ l. l ++ map number high') a ∙ ap (λ l. map number low ++ l) b ∙ sym (map-append number low high)
 
 -- where what stands on two results went well, both did
 pub OnOk-first : {A B C E : Type 0} (r : Result C E) (a : Result A E) (b : Result B E) (R : A → B → C → Type 0) (P : Type 0)

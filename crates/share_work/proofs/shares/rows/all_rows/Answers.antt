@@ -2,7 +2,7 @@ use Rattle.std.proofs.Common.{rules, ◌≡◌, ◌+◌, ◌*◌, ◌≤◌, All
 use Rattle.std.proofs.lemmas.List.Elements.{All-append}
 use Rattle.std.proofs.lemmas.Grind.{div_ceil_times}
 use Rattle.share_work.specs.Shares.{SeatsHave}
-use Rattle.share_work.proofs.PieceRows.{gains_same, gains_joined, haves_idle, haves_joined, OnOk-all}
+use Rattle.share_work.proofs.PieceRows.{gains_same, gains_joined, haves_idle, haves_joined, numbers_joined, OnOk-all}
 use Rattle.share_work.proofs.shares.rows.all_rows.Goals as goal
 
 pub returns-in_err-rows-clause-gains : goal.returns-in_err-rows-clause-gains
@@ -37,3 +37,18 @@ returns-clause-have g c =
     rw few all) in
     OnOk-all _ _ (haves_joined holds adds job.plan.workers job.plan.cut job.items.now 0 (0 + length low) low [] c.rows_from.new.seats high refl (search rules)
     c.in_ok-rows.ensures.have idle)
+
+pub returns-in_err-rows-clause-numbers : goal.returns-in_err-rows-clause-numbers
+returns-in_err-rows-clause-numbers g c =
+    rw c.split_at_mut-lent.ensures.value
+    (numbers_joined (g.W.Work.number c.args.job.now.work.now) _ _ _ _ c.in_err-rows.ensures.numbers refl)
+
+pub returns-clause-numbers : goal.returns-clause-numbers
+returns-clause-numbers g c =
+    rw c.split_at_mut-lent.ensures.value
+    (numbers_joined (g.W.Work.number c.args.job.now.work.now) _ _ _ _ c.in_ok-rows.ensures.numbers refl)
+
+pub returns-in_err-rows-clause-fit : goal.returns-in_err-rows-clause-fit
+returns-in_err-rows-clause-fit g c =
+    let idle : All (g.W.Work.fits c.args.job.now.work.now) c.split_at_mut-lent.result.1.now = search rules in
+    All-append (g.W.Work.fits c.args.job.now.work.now) _ _ c.in_err-rows.ensures.fit idle

@@ -1,8 +1,8 @@
-use Rattle.std.proofs.Common.{rules, ◌≡◌, ℕ, ◌+◌, ◌*◌, ◌<◌, ◌≤◌, ◌⊎◌, length, take, drop, arith, ap, ◌∙◌, inl, inr, length-append, ◌∷◌, [], List}
+use Rattle.std.proofs.Common.{refl, ◌≡◌, ℕ, ◌+◌, ◌*◌, ◌<◌, ◌≤◌, ◌⊎◌, length, take, drop, arith, ap, ◌∙◌, inl, inr, List}
 use Rattle.std.proofs.lemmas.Bool.{cases_lt}
 use Rattle.std.proofs.Math.Nat.{le-mul_of_pos_right}
 use Rattle.share_work.specs.Shares.{AddsSome, AddsInRow}
-use Rattle.share_work.proofs.PieceRows.{pushed, range_piece, next_first, whole_at, adds_piece, piece_adds, adds_within, takes_part}
+use Rattle.share_work.proofs.PieceRows.{length_pushed, pushed, range_piece, next_first, whole_at, adds_piece, piece_adds, adds_within, takes_part}
 use Rattle.share_work.proofs.shares.rows.row_of.Goals as goal
 
 -- what a seat's set holds after one more piece
@@ -79,7 +79,8 @@ returns-then-items-first-clause-row g c =
     let items = c.args.job.now.items.now in
     let row = c.loop-first.row.items in
     let step = next_first c.args.worker (length row) W C in
-    let longer : length c.push_back.new.self.items ≡ length row + 1 = ap length c.in_ok-push_back.ensures.items ∙ length-append row (c.in_ok-outs.outs ∷ []) in
+    let longer : length c.push_back.new.self.items ≡ length row + 1 =
+    length_pushed row c.in_ok-outs.outs c.push_back.new.self.items c.in_ok-push_back.ensures.items in
     let few = c.if-items-first.true in
     let at = inv.3 in
     let past : length items ≤ (c.args.worker + length c.push_back.new.self.items * W) * C = rw (longer, step) (omega arith) in
@@ -98,18 +99,19 @@ loop-first-preserved g c =
     let row = c.loop-first.row.items in
     let holds = g.W.Work.holds c.args.job.now.work.now in
     let adds = g.W.Work.adds c.args.job.now.work.now in
-    let longer : length c.push_back.new.self.items ≡ length row + 1 = ap length c.in_ok-push_back.ensures.items ∙ length-append row (c.in_ok-outs.outs ∷ []) in
+    let longer : length c.push_back.new.self.items ≡ length row + 1 =
+    length_pushed row c.in_ok-outs.outs c.push_back.new.self.items c.in_ok-push_back.ensures.items in
     let step = next_first c.args.worker (length row) W C in
     let at = inv.3 in
     let found = pushed (g.W.Work.gives c.args.job.now.work.now) (λ v. v.items) W C items c.args.worker row c.in_ok-outs.outs c.loop-first.first _
     inv.3 (rw c.min-count.ensures (range_piece items c.loop-first.first C)) c.in_ok-outs.ensures.outs inv.5 in (
       inv.0,
       inv.1,
-      search rules,
+      refl,
       rw (longer, step) (ap (λ n. n + W * C) at),
-      let more : W ≤ W * C = le-mul_of_pos_right W (search rules) in let under = inv.4 in omega arith,
+      let more : W ≤ W * C = le-mul_of_pos_right W (rw inv.1 c.args.job.now.plan.some_items) in let under = inv.4 in omega arith,
       rw c.in_ok-push_back.ensures.items found,
-      search rules,
+      c.in_ok-outs.ensures.fits,
       c.in_ok-outs.ensures.number ∙ inv.7,
       λ x n h. c.in_ok-outs.ensures.kept x n (inv.8 x n h),
       within_more holds adds W C items c.args.worker (length row) c.loop-first.first _
@@ -125,3 +127,45 @@ piece-requires-clause-takes g c =
     let C = c.cut-cut.result in let items = c.args.job.now.items.now in
     takes_part (g.W.Work.takes c.args.job.now.work.now) items _ c.loop-first.first C (rw c.min-count.ensures (range_piece items c.loop-first.first C))
     c.requires.takes
+
+pub returns-in_err-outs-clause-fits : goal.returns-in_err-outs-clause-fits
+returns-in_err-outs-clause-fits g c = c.in_err-outs.ensures.fits
+
+pub returns-in_err-outs-clause-number : goal.returns-in_err-outs-clause-number
+returns-in_err-outs-clause-number g c = c.in_err-outs.ensures.number ∙ c.loop-first.invariant.7
+
+pub returns-in_err-outs-clause-kept : goal.returns-in_err-outs-clause-kept
+returns-in_err-outs-clause-kept g c = λ x n h. c.in_err-outs.ensures.kept x n (c.loop-first.invariant.8 x n h)
+
+pub returns-in_err-push_back-clause-fits : goal.returns-in_err-push_back-clause-fits
+returns-in_err-push_back-clause-fits g c = c.in_ok-outs.ensures.fits
+
+pub returns-in_err-push_back-clause-number : goal.returns-in_err-push_back-clause-number
+returns-in_err-push_back-clause-number g c = c.in_ok-outs.ensures.number ∙ c.loop-first.invariant.7
+
+pub returns-in_err-push_back-clause-kept : goal.returns-in_err-push_back-clause-kept
+returns-in_err-push_back-clause-kept g c = λ x n h. c.in_ok-outs.ensures.kept x n (c.loop-first.invariant.8 x n h)
+
+pub returns-then-items-first-clause-fits : goal.returns-then-items-first-clause-fits
+returns-then-items-first-clause-fits g c = c.in_ok-outs.ensures.fits
+
+pub returns-then-items-first-clause-number : goal.returns-then-items-first-clause-number
+returns-then-items-first-clause-number g c = c.in_ok-outs.ensures.number ∙ c.loop-first.invariant.7
+
+pub returns-then-items-first-clause-kept : goal.returns-then-items-first-clause-kept
+returns-then-items-first-clause-kept g c = λ x n h. c.in_ok-outs.ensures.kept x n (c.loop-first.invariant.8 x n h)
+
+pub returns-clause-fits : goal.returns-clause-fits
+returns-clause-fits g c = c.loop-first.invariant.6
+
+pub returns-clause-number : goal.returns-clause-number
+returns-clause-number g c = c.loop-first.invariant.7
+
+pub returns-clause-kept : goal.returns-clause-kept
+returns-clause-kept g c = c.loop-first.invariant.8
+
+pub returns-clause-within : goal.returns-clause-within
+returns-clause-within g c = let inv = c.loop-first.invariant in rw (← inv.0, ← inv.1) inv.9
+
+pub piece-requires-clause-fits : goal.piece-requires-clause-fits
+piece-requires-clause-fits g c = c.loop-first.invariant.6
