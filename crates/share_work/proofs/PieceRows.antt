@@ -40,6 +40,10 @@ rising w k n W c le =
 pub length_pushed : {V : Type 0} (row : List V) (y : V) (more : List V) → more ≡ row ++ y ∷ [] → length more ≡ length row + 1
 length_pushed row y more is = rw is (length-append row (y ∷ []))
 
+-- a row of pieces of at most 4,096 items each, for at most 64 workers, has few items
+pub few_items : (w c : ℕ) → w ≤ 64 → c ≤ 4096 → w * c ≤ 262144
+few_items w c few small = let most : w * c ≤ 64 * c = mul-le-mul_right c few in omega arith
+
 -- past the end of the items there is no piece
 pub whole_at : (w n W c len k : ℕ) → len ≤ (w + n * W) * c → (w + k * W) * c < len → k < n
 whole_at w n W c len k past inside =
