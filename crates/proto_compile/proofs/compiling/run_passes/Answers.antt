@@ -1,3 +1,4 @@
+use Rattle.std.proofs.Common.{rules}
 use Rattle.proto_compile.proofs.Making.{descs_for_each, written_of}
 use Rattle.proto_compile.proofs.compiling.run_passes.Goals as goal
 
@@ -5,6 +6,11 @@ pub write_table-requires-clause-files : goal.write_table-requires-clause-files
 write_table-requires-clause-files g c κs within =
     let resolved = (rw c.deref.ensures.value at c.in_ok-analysis.ensures.resolved) c.args.sources.now c.in_ok-files.ensures.few c.in_ok-files.ensures.files in
     rw c.deref-2.ensures.value (descs_for_each resolved)
+
+pub returns-in_err-table-clause-first : goal.returns-in_err-table-clause-first
+returns-in_err-table-clause-first g c =
+    let resolved = (rw c.deref.ensures.value at c.in_ok-analysis.ensures.resolved) c.args.sources.now c.in_ok-files.ensures.few c.in_ok-files.ensures.files in
+    let fact = c.in_err-table.ensures.first c.args.sources.now _ _ (rw c.deref-2.ensures.value resolved) in search (rules, fact)
 
 pub compilation_of-requires : goal.compilation_of-requires
 compilation_of-requires g c =
