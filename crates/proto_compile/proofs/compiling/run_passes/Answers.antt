@@ -1,4 +1,6 @@
-use Rattle.std.proofs.Common.{rules}
+use Rattle.std.proofs.Common.{List, rules, subst, sym}
+use Rattle.proto_compile.specs.Analysed.{AreResolved}
+use Rattle.proto_compile.specs.declared.source.Source.{Source}
 use Rattle.proto_compile.proofs.Making.{descs_for_each, written_of}
 use Rattle.proto_compile.proofs.compiling.run_passes.Goals as goal
 
@@ -10,7 +12,11 @@ write_table-requires-clause-files g c κs within =
 pub returns-in_err-table-clause-first : goal.returns-in_err-table-clause-first
 returns-in_err-table-clause-first g c =
     let resolved = (rw c.deref.ensures.value at c.in_ok-analysis.ensures.resolved) c.args.sources.now c.in_ok-files.ensures.few c.in_ok-files.ensures.files in
-    let fact = c.in_err-table.ensures.first c.args.sources.now _ _ (rw c.deref-2.ensures.value resolved) in search (rules, fact)
+    let analysis = c.in_ok-analysis.analysis in
+    let fact = c.in_err-table.ensures.first c.args.sources.now analysis.links analysis.index
+    (subst (λ (files : List Source). AreResolved c.args.limits.now c.args.sources.now files analysis.descs.items analysis.links analysis.index)
+    (sym c.deref-2.ensures.value) resolved) in
+    search (rules, fact)
 
 pub compilation_of-requires : goal.compilation_of-requires
 compilation_of-requires g c =
