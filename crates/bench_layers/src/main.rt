@@ -4,7 +4,7 @@
 //! rounds of each, in microseconds.
 #![tactic(auto)]
 
-ghost use Rattle.std.specs.Prelude.{◌≡◌};
+ghost use Rattle.std.specs.Prelude.{◌≡◌, length};
 ghost use Rattle.proto_links.specs.Linked.{count_of};
 
 mod times;
@@ -117,6 +117,50 @@ fn written(alloc: Global, descs: &[FileDesc]) -> anyhow::Result<usize> {
     Ok(bytes)
 }
 
+/// Resolves the types of descriptors and writes them, and gives the length of their bytes.
+fn completed<R: AllocGlobal + Clock>(
+    rt: &R,
+    links: &Links,
+    index: &NameIndex,
+    descs: &mut [FileDesc],
+    times: &mut Times,
+) -> anyhow::Result<usize>
+    requires { count_of links.now ≡ index.now.files }
+{
+    let start = Instant::now(rt)?;
+    resolve(rt.alloc(), links, index, descs)?;
+    times.add_types(since(rt, start));
+    let start = Instant::now(rt)?;
+    let bytes = written(rt.alloc(), descs)?;
+    times.add_bytes(since(rt, start));
+    Ok(bytes)
+}
+
+/// Indexes the names of linked files, and completes their descriptors.
+fn indexed<R: Threads + AllocGlobal + Clock + Sync>(
+    rt: &R,
+    links: &Links,
+    descs: &mut [FileDesc],
+    times: &mut Times,
+) -> anyhow::Result<Counts>
+    requires { count_of links.now ≡ length descs.old }
+{
+    let start = Instant::now(rt)?;
+    let index = NameIndex::build(rt, descs, &Limits::standard())?;
+    times.add_index(since(rt, start));
+    let bytes = completed(rt, links, &index, descs, times)?;
+    let reached = if links.count() > 0 {
+        links.reach(0).len()
+    } else {
+        0
+    };
+    Ok(Counts {
+        bytes,
+        names: index.services().len(),
+        reached,
+    })
+}
+
 /// What all files have together: links, an index, types, bytes.
 fn common<R: Threads + AllocGlobal + Clock + Sync>(
     rt: &R,
@@ -128,23 +172,8 @@ fn common<R: Threads + AllocGlobal + Clock + Sync>(
     }
     let start = Instant::now(rt)?;
     let links = link(rt.alloc(), descs)?;
-    let links_end = since(rt, start);
-    let index = NameIndex::build(rt, descs, &Limits::standard())?;
-    let index_end = since(rt, start);
-    resolve(rt.alloc(), &links, &index, descs)?;
-    let types_end = since(rt, start);
-    let bytes = written(rt.alloc(), descs)?;
-    times.add_common(links_end, index_end, types_end, since(rt, start));
-    let reached = if links.count() > 0 {
-        links.reach(0).len()
-    } else {
-        0
-    };
-    Ok(Counts {
-        bytes,
-        names: index.services().len(),
-        reached,
-    })
+    times.add_links(since(rt, start));
+    indexed(rt, &links, descs, times)
 }
 
 /// One round over all sources.

@@ -33,18 +33,20 @@ impl Times {
         self.descriptors = self.descriptors.saturating_add(time);
     }
 
-    /// Adds the layers over all sources, by the times at which they end.
-    pub(crate) fn add_common(
-        &mut self,
-        links: Duration,
-        index: Duration,
-        types: Duration,
-        bytes: Duration,
-    ) {
-        self.links = self.links.saturating_add(links);
-        self.index = self.index.saturating_add(index.saturating_sub(links));
-        self.types = self.types.saturating_add(types.saturating_sub(index));
-        self.bytes = self.bytes.saturating_add(bytes.saturating_sub(types));
+    pub(crate) fn add_links(&mut self, time: Duration) {
+        self.links = self.links.saturating_add(time);
+    }
+
+    pub(crate) fn add_index(&mut self, time: Duration) {
+        self.index = self.index.saturating_add(time);
+    }
+
+    pub(crate) fn add_types(&mut self, time: Duration) {
+        self.types = self.types.saturating_add(time);
+    }
+
+    pub(crate) fn add_bytes(&mut self, time: Duration) {
+        self.bytes = self.bytes.saturating_add(time);
     }
 
     /// The lesser time of each layer.

@@ -48,6 +48,39 @@ fn response_of(
     Ok(response)
 }
 
+/// The response to a request.
+fn response_to<R, G>(
+    rt: &R,
+    compiled: &Compiled,
+    plan: Plan,
+    gate: &G,
+    mode: Mode,
+    request: &Received,
+) -> Result<Response<Full<Bytes>>, ConnectionFault>
+where
+    R: Threads + AllocGlobal + Sync,
+    G: Gate + Sync,
+{
+    let head = &request.head;
+    // The first field counts, and one that is no text counts as none.
+    let content_type = match head.headers.get(header::CONTENT_TYPE) {
+        Some(value) => value.to_str().ok(),
+        None => None,
+    };
+    let answer = respond(
+        rt,
+        compiled,
+        plan,
+        gate,
+        mode,
+        head.method.as_str(),
+        head.uri.path(),
+        content_type,
+        &request.body,
+    )?;
+    response_of(rt.alloc(), answer)
+}
+
 /// Answers a request that was received.
 pub(crate) fn answer<R, G>(
     rt: Option<R>,
@@ -61,25 +94,9 @@ where
     R: Threads + AllocGlobal + Sync + Drop,
     G: Gate + Sync + Drop,
 {
-    let Received { head, body } = received?;
+    let request = received?;
     let (Some(rt), Some(compiled)) = (&rt, &compiled) else {
         return Err(ConnectionFault::NoMemory);
     };
-    // The first field counts, and one that is no text counts as none.
-    let content_type = match head.headers.get(header::CONTENT_TYPE) {
-        Some(value) => value.to_str().ok(),
-        None => None,
-    };
-    let answer = respond(
-        rt,
-        compiled,
-        plan,
-        &gate,
-        mode,
-        head.method.as_str(),
-        head.uri.path(),
-        content_type,
-        &body,
-    )?;
-    response_of(rt.alloc(), answer)
+    response_to(rt, compiled, plan, &gate, mode, &request)
 }

@@ -118,6 +118,26 @@ where
     }
 }
 
+/// Answers the request body on the input.
+fn answer_input<R, I, O>(
+    rt: &R,
+    compiled: &Compiled,
+    plan: Plan,
+    mode: Mode,
+    input: I,
+    output: O,
+) -> Result<(), Failure>
+where
+    R: Threads + AllocGlobal + Sync,
+    I: Read + Drop,
+    O: Write + Drop,
+{
+    let mut reader = Counted::new(input);
+    let mut writer = Counted::new(output);
+    answer_io(rt, compiled, plan, &NoGate, mode, &mut reader, &mut writer)?;
+    Ok(())
+}
+
 /// Answers the request body on the input over the sources below a folder.
 pub fn run_answer<R, I, O>(
     rt: &R,
@@ -133,10 +153,7 @@ where
     O: Write + Drop,
 {
     let compiled = compile_folder(rt, root, &Limits::standard(), plan)?;
-    let mut reader = Counted::new(input);
-    let mut writer = Counted::new(output);
-    answer_io(rt, &compiled, plan, &NoGate, mode, &mut reader, &mut writer)?;
-    Ok(())
+    answer_input(rt, &compiled, plan, mode, input, output)
 }
 
 /// Explains a kind of fault, or lists all kinds.

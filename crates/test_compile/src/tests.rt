@@ -4,6 +4,7 @@ use proto_base::{Fault, Limit, Limits};
 use proto_compile::{CompileError, Compiled, Source, compile};
 use share_work::{NoGate, Plan};
 use std::alloc::{AllocGlobal, Global};
+use std::process::Abort;
 use std::test::Fail;
 use std::thread::Threads;
 
@@ -40,16 +41,29 @@ fn told(alloc: Global, fault: &Fault) -> Result<String, Fail> {
 }
 
 /// The names of the files in set order, or the first fault.
+fn shown(
+    alloc: Global,
+    files: &[File],
+    found: Result<Compiled, CompileError>,
+) -> Result<String, Fail> {
+    match found {
+        Ok(compiled) => set_order(alloc, &compiled, files),
+        Err(CompileError::First(fault)) => told(alloc, &fault),
+        Err(CompileError::NoMemory) => Err("no memory".into()),
+    }
+}
+
+/// What files are compiled to by a plan.
 fn answer<R>(rt: &R, files: &[File], limits: &Limits, plan: Plan) -> Result<String, Fail>
 where
     R: Threads + AllocGlobal + Sync,
 {
     let sources = sources_of(rt.alloc(), files)?;
-    match compile(rt, &sources, limits, plan, &NoGate) {
-        Ok(compiled) => set_order(rt.alloc(), &compiled, files),
-        Err(CompileError::First(fault)) => told(rt.alloc(), &fault),
-        Err(CompileError::NoMemory) => Err("no memory".into()),
-    }
+    shown(
+        rt.alloc(),
+        files,
+        compile(rt, &sources, limits, plan, &NoGate),
+    )
 }
 
 struct Row {
@@ -380,19 +394,39 @@ where
     answer(rt, row.files, &limits, plan)
 }
 
+/// Compares a row's answer by so many workers and such a cut with the one that is wanted.
+fn compare<R>(rt: &R, row: &Row, workers: u32, cut: u32) -> Result<(), Fail>
+where
+    R: Threads + AllocGlobal + Sync + Abort,
+{
+    let plan = Plan::new(workers, cut).ok_or("a plan")?;
+    let found = row_answer(rt, row, plan)?;
+    assert!(rt;
+        found.as_str() == row.answer,
+        "{workers}, {cut}: {}: {found}",
+        row.title
+    );
+    Ok(())
+}
+
+/// Workers and cuts.
+static PLANS: [(u32, u32); 3] = [(1, 1), (2, 1), (64, 4_096)];
+
+/// Compares a row's answer by each plan.
+fn compare_plans<R>(rt: &R, row: &Row) -> Result<(), Fail>
+where
+    R: Threads + AllocGlobal + Sync + Abort,
+{
+    for (workers, cut) in &PLANS {
+        compare(rt, row, *workers, *cut)?;
+    }
+    Ok(())
+}
+
 #[test]
 fn answers(rt: HostRuntime) -> Result<(), Fail> {
     for row in &ROWS {
-        for (workers, cut) in [(1, 1), (2, 1), (64, 4_096)] {
-            let plan = Plan::new(workers, cut).ok_or("a plan")?;
-            let found = row_answer(&rt, row, plan)?;
-            assert_eq!(rt;
-                found.as_str(),
-                row.answer,
-                "{workers}, {cut}: {}",
-                row.title
-            );
-        }
+        compare_plans(&rt, row)?;
     }
     Ok(())
 }
@@ -427,6 +461,17 @@ fn are_described(compiled: &Compiled, files: &[Described]) -> bool {
         && compiled.limits().get(Limit::SetBytes) == 1_073_741_824
 }
 
+/// Whether a compilation has these files and this set.
+fn is_compiled_to(
+    alloc: Global,
+    compiled: &Compiled,
+    wanted: &[Described],
+    set: &[u8],
+) -> Result<bool, Fail> {
+    let written = compiled.set_bytes(alloc)?;
+    Ok(written.as_slice() == set && are_described(compiled, wanted))
+}
+
 /// Whether files are compiled to these, and to this set.
 fn compiles_to<R>(rt: &R, files: &[File], wanted: &[Described], set: &[u8]) -> Result<bool, Fail>
 where
@@ -434,10 +479,7 @@ where
 {
     let sources = sources_of(rt.alloc(), files)?;
     match compile(rt, &sources, &Limits::standard(), Plan::single(), &NoGate) {
-        Ok(compiled) => {
-            let written = compiled.set_bytes(rt.alloc())?;
-            Ok(are_described(&compiled, wanted) && written.as_slice() == set)
-        }
+        Ok(compiled) => is_compiled_to(rt.alloc(), &compiled, wanted, set),
         Err(_) => Ok(false),
     }
 }

@@ -12,10 +12,17 @@ use std::process::Abort;
 use std::test::Fail;
 use std::thread::Threads;
 
-/// A request for a file, whose response has 93 bytes.
+/// A request for a file.
 const BODY: &[u8] = b"\x00\x00\x00\x00\x09\x1A\x07a.proto";
 
-/// The length of that response.
+/// The response: a frame of the reply with both files, and the trailer's.
+const RESPONSE: &[u8] = b"\x00\x00\x00\x00\x44\
+    \x12\x09\x1A\x07a.proto\
+    \x22\x37\x0A\x1A\x0A\x07a.proto\x1A\x07b.proto\x62\x06proto3\
+    \x0A\x19\x0A\x07b.proto\x12\x01p\x32\x03\x0A\x01S\x62\x06proto3\
+    \x80\x00\x00\x00\x0Fgrpc-status:0\r\n";
+
+/// The length of the response.
 const LENGTH: u64 = 93;
 
 /// The response to a body over its limit.
@@ -131,31 +138,30 @@ fn exchanged<R: Threads + AllocGlobal + Sync>(
     (end, reader.failures(), writer.failures())
 }
 
-/// What is written where reader and writer take so many bytes a call, if nothing fails.
-fn handed_on<R: Threads + AllocGlobal + Sync>(
+/// Whether the response is written whole where reader and writer take so many bytes a call.
+fn is_handed_on<R: Threads + AllocGlobal + Sync>(
     rt: &R,
     compiled: &Compiled,
     read_step: usize,
     write_step: usize,
-) -> Option<Vec<u8>> {
+) -> bool {
     let mut input = input_of(BODY, read_step, NEVER);
     let mut output = output_by(rt, write_step);
     let ended = exchanged(rt, compiled, &mut input, &mut output);
-    if ended == (Ok(()), 0, 0) {
-        Some(output.bytes)
-    } else {
-        None
-    }
+    ended == (Ok(()), 0, 0) && output.bytes.as_slice() == RESPONSE
 }
 
-/// The response of 93 bytes comes whole, however reader and writer cut their bytes.
-#[test]
-fn bytes_are_handed_on(rt: HostRuntime) -> Result<(), Fail> {
-    let compiled = compiled(&rt, &THREE_FILES, &Limits::standard())?;
-    let whole = handed_on(&rt, &compiled, 4_096, 4_096).ok_or("a response")?;
-    assert_eq!(rt; whole.len() as u64, LENGTH);
-    let pieces = handed_on(&rt, &compiled, 1, 7).ok_or("a response")?;
-    assert!(rt; pieces == whole);
+/// The response comes whole, however reader and writer cut their bytes.
+fn bytes_are_handed_on<R: Threads + AllocGlobal + Sync + Abort>(
+    rt: &R,
+    compiled: &Compiled,
+) -> Result<(), Fail> {
+    for (read_step, write_step) in &[(4_096, 4_096), (1, 7)] {
+        assert!(rt;
+            is_handed_on(rt, compiled, *read_step, *write_step),
+            "{read_step} and {write_step} bytes a call"
+        );
+    }
     Ok(())
 }
 
@@ -168,11 +174,12 @@ fn leaves_nothing<R: Threads + AllocGlobal + Sync>(rt: &R, compiled: &Compiled, 
 }
 
 /// A reader that fails at some call leaves nothing written.
-#[test]
-fn readers_fail(rt: HostRuntime) -> Result<(), Fail> {
-    let compiled = compiled(&rt, &THREE_FILES, &Limits::standard())?;
+fn readers_fail<R: Threads + AllocGlobal + Sync + Abort>(
+    rt: &R,
+    compiled: &Compiled,
+) -> Result<(), Fail> {
     for call in 1..16 {
-        assert!(rt; leaves_nothing(&rt, &compiled, call), "call {call}");
+        assert!(rt; leaves_nothing(rt, compiled, call), "call {call}");
     }
     Ok(())
 }
@@ -230,17 +237,38 @@ fn tells_length<R: Threads + AllocGlobal + Sync>(
 }
 
 /// A writer that fails has taken a prefix of the response, whose length is told.
-#[test]
-fn writers_fail(rt: HostRuntime) -> Result<(), Fail> {
-    let compiled = compiled(&rt, &THREE_FILES, &Limits::standard())?;
+fn writers_fail<R: Threads + AllocGlobal + Sync + Abort>(
+    rt: &R,
+    compiled: &Compiled,
+) -> Result<(), Fail> {
     for writer in &FAILING_WRITERS {
         assert!(rt;
-            tells_length(&rt, &compiled, *writer),
+            tells_length(rt, compiled, *writer),
             "{} bytes",
             writer.written
         );
     }
     Ok(())
+}
+
+/// Exchanges over the three files.
+#[test]
+fn exchanges(rt: HostRuntime) -> Result<(), Fail> {
+    let compiled = compiled(&rt, &THREE_FILES, &Limits::standard())?;
+    bytes_are_handed_on(&rt, &compiled)?;
+    readers_fail(&rt, &compiled)?;
+    writers_fail(&rt, &compiled)
+}
+
+/// Whether a body without end is refused after one byte over its limit, which is read by one byte a call.
+fn is_refused_early<R: Threads + AllocGlobal + Sync>(rt: &R, compiled: &Compiled) -> bool {
+    let mut input = Input {
+        is_endless: true,
+        ..input_of(BODY, 1, NEVER)
+    };
+    let mut output = output_by(rt, 4_096);
+    let ended = exchanged(rt, compiled, &mut input, &mut output);
+    ended == (Ok(()), 0, 0) && input.calls <= 15 && output.bytes.as_slice() == TOO_LONG
 }
 
 /// A reader without end is read to one byte over the limit of a body.
@@ -250,14 +278,6 @@ fn endless_readers(rt: HostRuntime) -> Result<(), Fail> {
         .lowered(Limit::BodyBytes, 13)
         .ok_or("limits")?;
     let compiled = compiled(&rt, &THREE_FILES, &limits)?;
-    let mut input = Input {
-        is_endless: true,
-        ..input_of(BODY, 1, NEVER)
-    };
-    let mut output = output_by(&rt, 4_096);
-    let ended = exchanged(&rt, &compiled, &mut input, &mut output);
-    assert!(rt; ended == (Ok(()), 0, 0));
-    assert!(rt; input.calls <= 15, "{} reads", input.calls);
-    assert!(rt; output.bytes.as_slice() == TOO_LONG);
+    assert!(rt; is_refused_early(&rt, &compiled));
     Ok(())
 }

@@ -50,6 +50,23 @@ where
     Ok(compile(rt, &sources, limits, plan, gate)?)
 }
 
+/// The response to a body, in hexadecimal digits.
+fn encoded<R, G>(
+    rt: &R,
+    compiled: &Compiled,
+    plan: Plan,
+    gate: &G,
+    mode: Mode,
+    body: &[u8],
+) -> Result<String, Fail>
+where
+    R: Threads + AllocGlobal + Sync,
+    G: Gate + Sync,
+{
+    let bytes = answer_body(rt, compiled, plan, gate, mode, body)?;
+    Ok(hex::encode(rt.alloc(), bytes)?)
+}
+
 /// The response to a body over files, in hexadecimal digits.
 pub(super) fn response<R, G>(
     rt: &R,
@@ -65,8 +82,7 @@ where
     G: Gate + Sync,
 {
     let compiled = compiled(rt, files, limits)?;
-    let bytes = answer_body(rt, &compiled, plan, gate, mode, body)?;
-    Ok(hex::encode(rt.alloc(), bytes)?)
+    encoded(rt, &compiled, plan, gate, mode, body)
 }
 
 /// The first column of a row, and those behind it.

@@ -2,9 +2,10 @@
 
 use super::fixtures::{THREE_FILES, compiled_by, response};
 use proto_base::Limits;
+use proto_compile::Compiled;
 use reflect_core::Mode;
 use share_work::{Gate, NoGate, Plan};
-use std::alloc::AllocGlobal;
+use std::alloc::{AllocGlobal, Global};
 use std::process::Abort;
 use std::sync::atomic::{AtomicU64, Ordering};
 use std::test::Fail;
@@ -51,6 +52,11 @@ fn holding(phase: u8) -> Held {
     }
 }
 
+/// The set of what was compiled.
+fn set_of(alloc: Global, compiled: &Compiled) -> Result<Vec<u8>, Fail> {
+    Ok(compiled.set_bytes(alloc)?)
+}
+
 /// The set of the three files by the workers of a plan.
 fn set_by<R, G>(rt: &R, plan: Plan, gate: &G) -> Result<Vec<u8>, Fail>
 where
@@ -58,7 +64,7 @@ where
     G: Gate + Sync,
 {
     let compiled = compiled_by(rt, &THREE_FILES, &Limits::standard(), plan, gate)?;
-    Ok(compiled.set_bytes(rt.alloc())?)
+    set_of(rt.alloc(), &compiled)
 }
 
 /// Whether the workers of a gate met.

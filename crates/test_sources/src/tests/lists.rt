@@ -1,7 +1,7 @@
 //! Lists of files: their links, the names in them, and what a spelled name means in a scope. More of their rows are
 //! folders that the program compiles (tests/folders.txt).
 
-ghost use Rattle.std.specs.Prelude.{◌≡◌, ◌<◌};
+ghost use Rattle.std.specs.Prelude.{◌≡◌, ◌<◌, length};
 ghost use Rattle.proto_links.specs.Linked.{count_of};
 
 use proto_base::{Limit, Limits};
@@ -176,6 +176,22 @@ fn limits_for(row: Row) -> Option<Limits> {
     }
 }
 
+/// The answer of files that are linked, or why they are not indexed.
+fn linked<R>(rt: &R, files: &[FileDesc], links: &Links, row: Row) -> Result<String, Fail>
+where
+    R: Threads + AllocGlobal + Sync,
+    requires { count_of links.now ≡ length files.now }
+{
+    let alloc = rt.alloc();
+    let limits = limits_for(row).ok_or("a limit")?;
+    match NameIndex::build(rt, files, &limits) {
+        Ok(index) => indexed(alloc, links, &index, row),
+        Err(NameError::At(file, place)) => Ok(format!(in alloc; "{file} at {place}")?),
+        Err(NameError::TooMany) => Ok(String::from_str(alloc, "too many")?),
+        Err(NameError::NoMemory) => Err("no memory".into()),
+    }
+}
+
 /// The answer of files, or why they are not linked or not indexed.
 fn answer<R>(rt: &R, files: &[FileDesc], row: Row) -> Result<String, Fail>
 where
@@ -185,19 +201,12 @@ where
     if !in_name_order(files) {
         return Ok(String::from_str(alloc, "not in the order of the names")?);
     }
-    let limits = limits_for(row).ok_or("a limit")?;
-    let links = match link(alloc, files) {
-        Ok(links) => links,
+    match link(alloc, files) {
+        Ok(links) => linked(rt, files, &links, row),
         Err(LinkError::At(file, place, kind)) => {
-            return Ok(format!(in alloc; "{file} at {place}: {kind}")?);
+            Ok(format!(in alloc; "{file} at {place}: {kind}")?)
         }
-        Err(LinkError::NoMemory) => return Err("no memory".into()),
-    };
-    match NameIndex::build(rt, files, &limits) {
-        Ok(index) => indexed(alloc, &links, &index, row),
-        Err(NameError::At(file, place)) => Ok(format!(in alloc; "{file} at {place}")?),
-        Err(NameError::TooMany) => Ok(String::from_str(alloc, "too many")?),
-        Err(NameError::NoMemory) => Err("no memory".into()),
+        Err(LinkError::NoMemory) => Err("no memory".into()),
     }
 }
 
@@ -477,14 +486,22 @@ message|0|S|Z|not found
 message|0|S|S|not found
 "##;
 
+/// Compares the answers of a group's sources with those that are wanted.
+fn compare_sources<R>(rt: &R, sources: &str, rows: &str) -> Result<(), Fail>
+where
+    R: Threads + AllocGlobal + Sync + Abort,
+{
+    let texts = texts_of(rt.alloc(), sources)?;
+    let files = files_of(rt.alloc(), sources, &texts)?;
+    compare(rt, &files, rows)
+}
+
 #[test]
 fn lists(rt: HostRuntime) -> Result<(), Fail> {
     for group in GROUPS.split("\n\n") {
         let (_, group) = group.split_once('\n').ok_or("a title")?;
         let (sources, rows) = group.split_once("--\n").ok_or("rows")?;
-        let texts = texts_of(rt.alloc(), sources)?;
-        let files = files_of(rt.alloc(), sources, &texts)?;
-        compare(&rt, &files, rows)?;
+        compare_sources(&rt, sources, rows)?;
     }
     Ok(())
 }

@@ -18,21 +18,35 @@ static ONEOFS: [(&str, &[&str], &str); 5] = [
     ("_a", &["_a", "X_a"], "XX_a"),
 ];
 
-#[test]
-fn made_names(rt: HostRuntime) -> Result<(), Fail> {
+fn json_names(rt: &HostRuntime) -> Result<(), Fail> {
     for row in JSON_NAMES.split(' ') {
         let (name, wanted) = row.split_once('=').ok_or("a row")?;
         let made = json_name(rt.alloc(), name)?;
         assert!(rt; made.as_str() == wanted, "{row}: {made}");
     }
+    Ok(())
+}
+
+fn entries(rt: &HostRuntime) -> Result<(), Fail> {
     for row in ENTRIES.split(' ') {
         let (name, wanted) = row.split_once('=').ok_or("a row")?;
         let made = entry_name(rt.alloc(), name)?;
         assert!(rt; made.as_str() == wanted, "{row}: {made}");
     }
+    Ok(())
+}
+
+fn oneofs(rt: &HostRuntime) -> Result<(), Fail> {
     for (name, taken, wanted) in &ONEOFS {
         let made = oneof_name(rt.alloc(), name, taken)?;
         assert!(rt; made.as_str() == *wanted, "{name}: {made}");
     }
     Ok(())
+}
+
+#[test]
+fn made_names(rt: HostRuntime) -> Result<(), Fail> {
+    json_names(&rt)?;
+    entries(&rt)?;
+    oneofs(&rt)
 }
