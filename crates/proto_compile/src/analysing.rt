@@ -4,10 +4,14 @@ ghost use Rattle.std.specs.Prelude.{◌≡◌, ◌≤◌, List, length, true, Al
 ghost use Rattle.proto_base.specs.Limits.{limit_of};
 ghost use Rattle.proto_base.specs.declared.limits.Limit.TheVariants as limit;
 ghost use Rattle.proto_compile.specs.Analysed.{AreResolved};
+ghost use Rattle.proto_compile.specs.Descriptions.{Describe};
 ghost use Rattle.proto_compile.specs.Faults.{IsFirstFault, IsRefusal};
 ghost use Rattle.proto_compile.specs.Sources.{AreByName, NamesRise};
 ghost use Rattle.proto_compile.specs.declared.source.Source.{Source};
 ghost use Rattle.proto_desc.specs.Resolved.{file_resolved};
+ghost use Rattle.proto_links.specs.Imports.{AreInNameOrder};
+ghost use Rattle.proto_links.specs.Linked.{AreLinked};
+ghost use Rattle.proto_names.specs.Index.{Indexes};
 
 use crate::error::CompileError;
 use crate::pass::imports::link_all;
@@ -24,12 +28,38 @@ use share_work::Gate;
 use std::alloc::AllocGlobal;
 use std::thread::Threads;
 
-/// Descriptors with their types resolved, their links, and the index of their names.
+/// Where the names that files spell are looked up: which files each one sees, and what all of them declare.
+#[derive(Drop)]
+pub(crate) struct Lookup {
+    pub(crate) links: Links,
+    pub(crate) index: NameIndex,
+}
+
+/// The links of files and the index of their names, or their first fault in `Pass::Imports` or `Pass::Names`.
+fn lookup_of<R, G>(
+    workers: &Workers<'_, R, G>,
+    descs: &[FileDesc],
+    limits: &Limits,
+) -> Result<Lookup, CompileError>
+where
+    R: Threads + AllocGlobal + Sync,
+    G: Gate + Sync,
+    requires { AreInNameOrder descs.now }
+    ensures linked { IfOk result (λ lookup. AreLinked descs.now lookup.links) }
+    ensures indexed { IfOk result (λ lookup. Indexes descs.now limits.now lookup.index) }
+    ensures first { (sources files : List Source) → Describe limits.now sources files descs.now
+        → IfErr result (IsRefusal (IsFirstFault limits.now sources)) }
+{
+    let links = link_all(workers.rt.alloc(), descs)?;
+    let index = index_all(workers.rt, descs, limits)?;
+    Ok(Lookup { links, index })
+}
+
+/// Descriptors with their types resolved, and what their names were looked up in.
 #[derive(Drop)]
 pub(crate) struct Analysis<'s> {
     pub(crate) descs: Vec<FileDesc<'s>>,
-    pub(crate) links: Links,
-    pub(crate) index: NameIndex,
+    pub(crate) lookup: Lookup,
 }
 
 /// What files in the order of their names describe, or their first fault in the passes from `Pass::Local` to `Pass::Types`.
@@ -45,21 +75,15 @@ where
     ensures resolved { (sources : List Source) → length sources ≤ limit_of limits.now limit.Files
         → AreByName sources files.now
         → IfOk result (λ analysis. AreResolved limits.now sources files.now analysis.descs.items
-        analysis.links analysis.index) }
+        analysis.lookup.links analysis.lookup.index) }
     ensures whole { IfOk result (λ analysis. All (λ desc. file_resolved desc ≡ true)
         analysis.descs.items) }
     ensures first { (sources : List Source) → length sources ≤ limit_of limits.now limit.Files
         → AreByName sources files.now
         → IfErr result (IsRefusal (IsFirstFault limits.now sources)) }
 {
-    let alloc = workers.rt.alloc();
     let descs = describe_all(workers, files, limits)?;
-    let links = link_all(alloc, &descs)?;
-    let index = index_all(workers.rt, &descs, limits)?;
-    let descs = resolve_all(workers, files, &links, &index, descs)?;
-    Ok(Analysis {
-        descs,
-        links,
-        index,
-    })
+    let lookup = lookup_of(workers, &descs, limits)?;
+    let descs = resolve_all(workers, files, &lookup.links, &lookup.index, descs)?;
+    Ok(Analysis { descs, lookup })
 }

@@ -48,13 +48,9 @@ where
     let alloc = workers.rt.alloc();
     let files = files_by_name(alloc, sources, limits)?;
     let analysis = analyse(workers, &files, limits)?;
-    let Analysis {
-        descs,
-        links,
-        index,
-    } = analysis;
+    let Analysis { descs, lookup } = analysis;
     let table = write_table(workers, &files, descs, limits)?;
-    compilation_of(alloc, table, links, index, limits)
+    compilation_of(alloc, table, lookup.links, lookup.index, limits)
 }
 
 /// The compilation of files whose bytes were written, or that their set is too long.

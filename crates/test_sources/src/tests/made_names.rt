@@ -1,6 +1,8 @@
 //! Names that are made, by hand from the language guide's rules.
 
 use proto_lower::{entry_name, json_name, oneof_name};
+use std::alloc::AllocGlobal;
+use std::process::Abort;
 use std::test::Fail;
 
 /// Names of fields, and their JSON names.
@@ -18,7 +20,7 @@ static ONEOFS: [(&str, &[&str], &str); 5] = [
     ("_a", &["_a", "X_a"], "XX_a"),
 ];
 
-fn json_names(rt: &HostRuntime) -> Result<(), Fail> {
+fn json_names<R: AllocGlobal + Abort>(rt: &R) -> Result<(), Fail> {
     for row in JSON_NAMES.split(' ') {
         let (name, wanted) = row.split_once('=').ok_or("a row")?;
         let made = json_name(rt.alloc(), name)?;
@@ -27,7 +29,7 @@ fn json_names(rt: &HostRuntime) -> Result<(), Fail> {
     Ok(())
 }
 
-fn entries(rt: &HostRuntime) -> Result<(), Fail> {
+fn entries<R: AllocGlobal + Abort>(rt: &R) -> Result<(), Fail> {
     for row in ENTRIES.split(' ') {
         let (name, wanted) = row.split_once('=').ok_or("a row")?;
         let made = entry_name(rt.alloc(), name)?;
@@ -36,7 +38,7 @@ fn entries(rt: &HostRuntime) -> Result<(), Fail> {
     Ok(())
 }
 
-fn oneofs(rt: &HostRuntime) -> Result<(), Fail> {
+fn oneofs<R: AllocGlobal + Abort>(rt: &R) -> Result<(), Fail> {
     for (name, taken, wanted) in &ONEOFS {
         let made = oneof_name(rt.alloc(), name, taken)?;
         assert!(rt; made.as_str() == *wanted, "{name}: {made}");

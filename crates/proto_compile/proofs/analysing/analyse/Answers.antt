@@ -4,26 +4,16 @@ use Rattle.proto_compile.proofs.Making.{resolved_of}
 use Rattle.proto_compile.proofs.Zipping.{descs_in_order, same_length}
 use Rattle.proto_compile.proofs.analysing.analyse.Goals as goal
 
-pub link_all-requires : goal.link_all-requires
-link_all-requires g c =
+pub lookup_of-requires-after_bounds : goal.lookup_of-requires-after_bounds
+lookup_of-requires-after_bounds g c κs h =
     rw c.deref.ensures.value (descs_in_order c.args.limits.now c.args.files.now c.in_ok-descs.descs.items c.requires.names
     c.in_ok-descs.ensures.described)
 
-pub returns-in_err-links-clause-first : goal.returns-in_err-links-clause-first
-returns-in_err-links-clause-first g c sources few order =
+pub returns-in_err-lookup-clause-first : goal.returns-in_err-lookup-clause-first
+returns-in_err-lookup-clause-first g c sources few order =
     let described : Describe c.args.limits.now sources c.args.files.now c.in_ok-descs.descs.items =
     record { few = few; by_name = order; each = c.in_ok-descs.ensures.described } in
-    let refused = (rw c.deref.ensures.value at c.in_err-links.ensures.first) c.args.limits.now sources c.args.files.now described in
-    search (rules, refused)
-
-pub index_all-requires-after_bounds : goal.index_all-requires-after_bounds
-index_all-requires-after_bounds g c κs h = rw c.deref-2.ensures.value (rw c.deref.ensures.value at c.in_ok-links.ensures.linked.whole)
-
-pub returns-in_err-index-clause-first : goal.returns-in_err-index-clause-first
-returns-in_err-index-clause-first g c sources few order =
-    let described : Describe c.args.limits.now sources c.args.files.now c.in_ok-descs.descs.items =
-    record { few = few; by_name = order; each = c.in_ok-descs.ensures.described } in
-    let refused = (rw c.deref-2.ensures.value at c.in_err-index.ensures.first) sources c.args.files.now described in
+    let refused = (rw c.deref.ensures.value at c.in_err-lookup.ensures.first) sources c.args.files.now described in
     search (rules, refused)
 
 pub resolve_all-requires-clause-files : goal.resolve_all-requires-clause-files
@@ -32,5 +22,5 @@ resolve_all-requires-clause-files g c κs h =
 
 pub returns-clause-resolved : goal.returns-clause-resolved
 returns-clause-resolved g c sources few order =
-    resolved_of few order c.in_ok-descs.ensures.described c.deref.ensures.value c.in_ok-links.ensures.linked c.deref-2.ensures.value
-    c.in_ok-index.ensures.indexed c.in_ok-descs-2.ensures.typed
+    resolved_of few order c.in_ok-descs.ensures.described c.deref.ensures.value c.in_ok-lookup.ensures.linked c.deref.ensures.value
+    c.in_ok-lookup.ensures.indexed c.in_ok-descs-2.ensures.typed

@@ -13,8 +13,8 @@ pub returns-in_err-table-clause-first : goal.returns-in_err-table-clause-first
 returns-in_err-table-clause-first g c =
     let resolved = (rw c.deref.ensures.value at c.in_ok-analysis.ensures.resolved) c.args.sources.now c.in_ok-files.ensures.few c.in_ok-files.ensures.files in
     let analysis = c.in_ok-analysis.analysis in
-    let fact = c.in_err-table.ensures.first c.args.sources.now analysis.links analysis.index
-    (subst (λ (files : List Source). AreResolved c.args.limits.now c.args.sources.now files analysis.descs.items analysis.links analysis.index)
+    let fact = c.in_err-table.ensures.first c.args.sources.now analysis.lookup.links analysis.lookup.index
+    (subst (λ (files : List Source). AreResolved c.args.limits.now c.args.sources.now files analysis.descs.items analysis.lookup.links analysis.lookup.index)
     (sym c.deref-2.ensures.value) resolved) in
     search (rules, fact)
 
