@@ -251,13 +251,20 @@ fn writers_fail<R: Threads + AllocGlobal + Sync + Abort>(
     Ok(())
 }
 
-/// Exchanges over the three files.
+/// Exchanges over what the three files are compiled to.
+fn exchanges_over<R: Threads + AllocGlobal + Sync + Abort>(
+    rt: &R,
+    compiled: &Compiled,
+) -> Result<(), Fail> {
+    bytes_are_handed_on(rt, compiled)?;
+    readers_fail(rt, compiled)?;
+    writers_fail(rt, compiled)
+}
+
 #[test]
 fn exchanges(rt: HostRuntime) -> Result<(), Fail> {
     let compiled = compiled(&rt, &THREE_FILES, &Limits::standard())?;
-    bytes_are_handed_on(&rt, &compiled)?;
-    readers_fail(&rt, &compiled)?;
-    writers_fail(&rt, &compiled)
+    exchanges_over(&rt, &compiled)
 }
 
 /// Whether a body without end is refused after one byte over its limit, which is read by one byte a call.
