@@ -1,0 +1,6 @@
+use Rattle.std.proofs.Common.{arith}
+use Rattle.std.proofs.lemmas.Grind.{common_steps}
+use Rattle.wire_bytes.proofs.descriptor.options.prepend_options.Goals as goal
+
+pub returns-in_ok-prepend_head : goal.returns-in_ok-prepend_head
+returns-in_ok-prepend_head c = grind (arith, common_steps)
