@@ -163,7 +163,8 @@ module _ (os : List Occurrence) (start len : ℕ) (runs new_runs : List Run) (ol
 
   last_run : run_at new_runs (length runs) ≡ record { start = start; len = len }
   last_run =
-    ap (λ (rs : List Run). run_at rs (length runs)) put.longer ∙ get_or_push runs _ (record { start = 0; len = 0 }) (length runs) refl
+      ap (λ (rs : List Run). run_at rs (length runs)) put.longer
+      ∙ get_or_push runs _ (record { start = 0; len = 0 }) (length runs) refl
       ∙ ap (λ (n : ℕ). record { start = start; len = n }) named_length
 
   each : (k : ℕ) → k < length new_runs → IsPackageOf (occurrences_in os (run_at new_runs k)) new k

@@ -4,3 +4,6 @@ use Rattle.proto_checks.proofs.reserved_names.first_reserved_twice.Goals as goal
 
 pub returns : goal.returns
 returns c = grind (arith, common_steps)
+
+pub loop-name-preserved : goal.loop-name-preserved
+loop-name-preserved c = grind (arith, common_steps)

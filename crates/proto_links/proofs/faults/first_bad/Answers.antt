@@ -1,3 +1,4 @@
+use Rattle.std.proofs.lemmas.Grind.{common_steps}
 use Rattle.std.proofs.Common.{◌∙◌, sym, subst, ℕ, ◌<◌, List, length, arith, Vec, Global}
 use Rattle.digraph.specs.Edges.{graph_of, Edge}
 use Rattle.digraph.proofs.Rows.{length_graph}
@@ -38,3 +39,9 @@ loop-file-preserved c =
 
 pub returns : goal.returns
 returns c = none_all c.args.files.now c.loop-file.file (omega arith) c.loop-file.invariant
+
+pub mark_reached-requires-clause-start : goal.mark_reached-requires-clause-start
+mark_reached-requires-clause-start c = grind (arith, common_steps)
+
+pub first_wrong-first-requires-clause-room : goal.first_wrong-first-requires-clause-room
+first_wrong-first-requires-clause-room c = grind (arith, common_steps)

@@ -1,3 +1,4 @@
+use Rattle.std.proofs.lemmas.Grind.{common_steps}
 use Rattle.std.proofs.Common.{◌≡◌, ◌∙◌, sym, ap, subst, ℕ, suc, ◌+◌, ◌<◌, [], ◌∷◌, ◌++◌, length, take, arith, Vec, Global}
 use Rattle.std.specs.Prelude.{Contains, ◌↔◌}
 use Rattle.std.proofs.Math.Seq.{take-suc}
@@ -44,3 +45,9 @@ returns-clause-all c = subst (λ xs. (b : ℕ) → Contains c.loop-import.all.it
 pub returns-clause-public : goal.returns-clause-public
 returns-clause-public c = subst (λ xs. (b : ℕ) → Contains c.loop-import.public.items b ↔ PublicTargets c.args.files.now xs b)
     (whole_prefix c.args.imports.now c.loop-import.import-index (omega arith)) c.loop-import.invariant.public_are
+
+pub returns-clause-whole : goal.returns-clause-whole
+returns-clause-whole c = grind (arith, common_steps)
+
+pub returns-clause-part : goal.returns-clause-part
+returns-clause-part c = grind (arith, common_steps)

@@ -1,4 +1,5 @@
 use Rattle.std.proofs.Common.{◌≡◌, subst, refl, length, arith}
+use Rattle.std.proofs.lemmas.Grind.{common_steps}
 use Rattle.proto_names.specs.Chains.{AreChained}
 use Rattle.proto_names.proofs.Chaining.{chaining_step}
 use Rattle.proto_names.proofs.chains.chain_entries.Goals as goal
@@ -13,3 +14,6 @@ pub returns : goal.returns
 returns c =
     let whole : c.loop-position.position ≡ length c.args.names.now = omega arith in
     subst (λ n. AreChained c.args.names.now n c.loop-position.slots.items c.loop-position.links.items) whole c.loop-position.invariant.chained
+
+pub loop-position-init : goal.loop-position-init
+loop-position-init c = grind (arith, common_steps)

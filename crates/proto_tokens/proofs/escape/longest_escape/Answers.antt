@@ -1,3 +1,4 @@
+use Rattle.std.proofs.lemmas.Grind.{common_steps}
 use Rattle.std.proofs.Common.{arith}
 use Rattle.proto_tokens.proofs.Escapes.{IsSimpleForm, simple_behind, none_behind}
 use Rattle.proto_tokens.proofs.escape.longest_escape.Goals as goal
@@ -48,3 +49,12 @@ returns-in_ok-simple_escape-in_default c =
     ] in
     simple_behind c.args.after.now c.in_ok-form.field-0.now c.in_ok-simple_escape-in_default.field-0 c.in_ok-form.ensures.value form
     c.in_ok-simple_escape-in_default.ensures (omega arith)
+
+pub returns-in-120 : goal.returns-in-120
+returns-in-120 c = grind (arith, common_steps)
+
+pub returns-in-117 : goal.returns-in-117
+returns-in-117 c = grind (arith, common_steps)
+
+pub returns-in-85 : goal.returns-in-85
+returns-in-85 c = grind (arith, common_steps)

@@ -1,3 +1,4 @@
+use Rattle.std.proofs.lemmas.Grind.{common_steps}
 use Rattle.std.proofs.Common.{arith}
 use Rattle.proto_tokens.proofs.Numbers.{too_big_from_step}
 use Rattle.proto_tokens.proofs.numeral.digits_value.Goals as goal
@@ -17,3 +18,9 @@ returns-in_err-value c =
       c.digit_value.ensures,
       c.from-in-loop-digit.ensures,
     )))
+
+pub loop-digit-preserved : goal.loop-digit-preserved
+loop-digit-preserved c = grind (arith, common_steps)
+
+pub returns : goal.returns
+returns c = grind (arith, common_steps)

@@ -1,4 +1,5 @@
-use Rattle.std.proofs.Common.{ℕ, drop, take, get_or, ap, ◌∙◌}
+use Rattle.std.proofs.lemmas.Grind.{common_steps}
+use Rattle.std.proofs.Common.{ℕ, drop, take, get_or, ap, ◌∙◌, arith}
 use Rattle.proto_tokens.proofs.Strings.{quote_here, begins_quote, after_quote_boundary, plain_closed, found_string, slice_behind, not_text_here}
 use Rattle.std.specs.Global.{Vec}
 use Rattle.std.specs.String.{string_bytes}
@@ -36,3 +37,12 @@ returns c =
     c.as_bytes-bytes.ensures.value c.bytes_behind-after.ensures.rest in
     not_text_here (drop c.args.at c.args.source.now) (get_or c.as_bytes-bytes.result.now c.args.at 0) c.bytes_behind-after.result.now c.in_ok-value.value.items
     c.in_ok-value.end c.args.at c.fault_at.result here c.in_ok-value.ensures c.in-Err.ensures.succeeds c.fault_at.ensures
+
+pub range-requires-clause-end_boundary : goal.range-requires-clause-end_boundary
+range-requires-clause-end_boundary c = grind (arith, common_steps)
+
+pub string_value-requires-clause-quote : goal.string_value-requires-clause-quote
+string_value-requires-clause-quote c = grind (arith, common_steps)
+
+pub returns-in_err-value : goal.returns-in_err-value
+returns-in_err-value c = grind (arith, common_steps)

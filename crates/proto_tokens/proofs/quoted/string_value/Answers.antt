@@ -1,3 +1,4 @@
+use Rattle.std.proofs.lemmas.Grind.{common_steps}
 use Rattle.std.proofs.Common.{◌≤◌, ℕ, List, ◌∷◌, ◌++◌, drop, take, ap, subst, ◌∙◌, arith}
 use Rattle.proto_tokens.specs.Quoted.{is_plain}
 use Rattle.proto_tokens.specs.Escape.{IsAllowedEscape}
@@ -30,3 +31,6 @@ pub returns : goal.returns
 returns c =
     unclosed_here c.args.quote c.args.after.now c.loop-end.value.items c.loop-end.end c.args.at c.fault_at-2.result c.requires.quote c.loop-end.invariant
     c.loop-end-test.false c.fault_at-2.ensures
+
+pub loop-end-smaller : goal.loop-end-smaller
+loop-end-smaller c = grind (arith, common_steps)

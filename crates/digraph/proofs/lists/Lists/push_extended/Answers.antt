@@ -1,4 +1,5 @@
-use Rattle.std.proofs.Common.{◌≡◌, ◌∙◌, refl, ℕ, ◌+◌, List, length, ap, ◌++◌, ◌∷◌, []}
+use Rattle.std.proofs.lemmas.Grind.{common_steps}
+use Rattle.std.proofs.Common.{◌≡◌, ◌∙◌, refl, ℕ, ◌+◌, List, length, ap, ◌++◌, ◌∷◌, [], arith}
 use Rattle.digraph.specs.Ranges.{range_of}
 use Rattle.digraph.proofs.Sharing.{always_on_err, view_kept, length_kept, view_pushed, within_more, within_pushed, list_at, range_inside, extended_length}
 use Rattle.digraph.proofs.lists.Lists.push_extended.Goals as goal
@@ -44,3 +45,12 @@ returns-clause-appended c =
     c.self.invariant
     ∙ ap (λ (xs : List (List ℕ)). xs ++ (range_of items range ++ c.args.number ∷ []) ∷ []) c.self.view_is
     ∙ ap (λ (xs : List ℕ). c.args.self.now ++ (xs ++ c.args.number ∷ []) ∷ []) list
+
+pub index-requires : goal.index-requires
+index-requires c = grind (arith, common_steps)
+
+pub put_extended-requires : goal.put_extended-requires
+put_extended-requires c = grind (arith, common_steps)
+
+pub overflow_add-size : goal.overflow_add-size
+overflow_add-size c = grind (arith, common_steps)

@@ -1,4 +1,5 @@
-use Rattle.std.proofs.Common.{◌≡◌, List, ℕ, inl, inr, ◌⊎◌, subst, sym, ◌∙◌}
+use Rattle.std.proofs.Common.{◌≡◌, List, ℕ, inl, inr, ◌⊎◌, subst, sym, ◌∙◌, arith}
+use Rattle.std.proofs.lemmas.Grind.{common_steps}
 use Rattle.std.proofs.lemmas.Bool.{false≢true}
 use Rattle.proto_names.specs.Scopes.{IsCandidate}
 use Rattle.proto_names.specs.Resolution.{SeenBy, Decides}
@@ -16,3 +17,6 @@ loop-inner-preserved c = record {
         | inr inside ↦ inside
       ]);
 }
+
+pub returns-then-decides : goal.returns-then-decides
+returns-then-decides c = grind (arith, common_steps)

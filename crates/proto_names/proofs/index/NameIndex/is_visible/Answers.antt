@@ -10,9 +10,8 @@ use Rattle.proto_names.proofs.index.NameIndex.is_visible.Goals as goal
 
 pub sees_one-requires-clause-entries : goal.sees_one-requires-clause-entries
 sees_one-requires-clause-entries c k d below =
-    let here =
-      c.named.ensures.found (get_or c.named.result.names k d)
-        (k, below, get_or_default c.named.result.names k (get_or c.named.result.names k d) d below) in
+    let names = c.named.result.names in
+    let here = c.named.ensures.found (get_or names k d) (k, below, get_or_default names k (get_or names k d) d below) in
     let inside = c.self.invariant.0.inside _ here.0 in
     let files = ap (λ (index : Index). index.files) c.self.view_is in
     omega (arith, inside, files, c.requires.links)

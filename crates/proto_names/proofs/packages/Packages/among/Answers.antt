@@ -1,4 +1,5 @@
 use Rattle.std.proofs.Common.{◌≡◌, ◌∙◌, sym, ap, subst, ◌+◌, ◌*◌, ◌≤◌, List, length, take, drop, arith}
+use Rattle.std.proofs.lemmas.Grind.{common_steps}
 use Rattle.std.proofs.lemmas.List.{length-drop, length-take-le}
 use Rattle.bit_matrix.specs.Bits.{columns_of}
 use Rattle.proto_names.specs.Occurrences.{Occurrence}
@@ -31,3 +32,15 @@ loop-start-preserved c =
           subst (λ (ps : Packages). ArePackagesOf os ps.runs.items ps.files × (c.args.files ≤ columns_of ps.files) × (start + c.len-start.result ≤ length os))
           (sym w.packages-is) (c.loop-start.invariant.0, c.loop-start.invariant.1, ends)
     ]
+
+pub take-named-requires : goal.take-named-requires
+take-named-requires c = grind (arith, common_steps)
+
+pub push-requires-clause-columns : goal.push-requires-clause-columns
+push-requires-clause-columns c = grind (arith, common_steps)
+
+pub overflow_add-start : goal.overflow_add-start
+overflow_add-start c = grind (arith, common_steps)
+
+pub loop-start-smaller : goal.loop-start-smaller
+loop-start-smaller c = grind (arith, common_steps)

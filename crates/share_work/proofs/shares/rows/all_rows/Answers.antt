@@ -1,3 +1,4 @@
+use Rattle.std.proofs.lemmas.Grind.{common_steps}
 use Rattle.std.proofs.Common.{rules, ◌≡◌, ◌+◌, ◌*◌, ◌≤◌, All, length, arith, refl, []}
 use Rattle.std.proofs.lemmas.List.Elements.{All-append}
 use Rattle.std.proofs.lemmas.Grind.{div_ceil_times}
@@ -52,3 +53,6 @@ pub returns-in_err-rows-clause-fit : goal.returns-in_err-rows-clause-fit
 returns-in_err-rows-clause-fit g c =
     let idle : All (g.W.Work.fits c.args.job.now.work.now) c.split_at_mut-lent.result.1.now = search rules in
     All-append (g.W.Work.fits c.args.job.now.work.now) _ _ c.in_err-rows.ensures.fit idle
+
+pub with_idle_rows-requires-clause-idle : goal.with_idle_rows-requires-clause-idle
+with_idle_rows-requires-clause-idle g c = grind (arith, common_steps)
