@@ -22,7 +22,7 @@ use reflect_requests::read_frames;
 use source_folder::{NamedText, read_folder};
 use std::alloc::{AllocGlobal, Global};
 use std::env;
-use std::io::Read;
+use std::io::{Eprint, Print, Read};
 use std::rt::Files;
 use std::thread::Threads;
 use std::time::{Clock, Duration, Instant};
@@ -42,22 +42,23 @@ fn since<R: Clock>(rt: &R, start: Instant) -> Duration {
     start.elapsed(rt).unwrap_or(Duration::ZERO)
 }
 
-/// What a source describes that breaks no rule of its own.
-fn described<'s, R: AllocGlobal + Clock>(
+/// Puts what a source describes, which breaks no rule of its own, behind the descriptors.
+fn put_described<'s, R: AllocGlobal + Clock>(
     rt: &R,
+    descs: &mut Vec<FileDesc<'s>>,
     source: &'s NamedText,
     times: &mut Times,
-) -> anyhow::Result<FileDesc<'s>> {
+) -> anyhow::Result<()> {
     let alloc = rt.alloc();
     let name = source.name.as_str();
     let start = Instant::now(rt)?;
-    let desc = match describe(alloc, name, source.text.as_slice(), &Limits::standard()) {
-        Ok(desc) => desc,
+    let described = describe(alloc, name, source.text.as_slice(), &Limits::standard());
+    times.add_described(since(rt, start));
+    match described {
+        Ok(desc) => Ok(descs.push(desc)?),
         Err(FileError::At(_, place, kind)) => bail!("{name} at {place}: {kind}"),
         Err(FileError::NoMemory) => bail!("out of memory"),
-    };
-    times.add_described(since(rt, start));
-    Ok(desc)
+    }
 }
 
 /// Cuts a source into its tokens.
@@ -81,7 +82,7 @@ fn descriptors<'s, R: AllocGlobal + Clock>(
     let mut descs = Vec::with_capacity(rt.alloc(), sources.len())?;
     for source in sources {
         cut(rt, source, times)?;
-        descs.push(described(rt, source, times)?)?;
+        put_described(rt, &mut descs, source, times)?;
     }
     Ok(descs)
 }
@@ -188,7 +189,11 @@ fn round<R: Threads + AllocGlobal + Clock + Sync>(
 }
 
 /// How many messages a request body has, its status, and the best of some rounds of reading it.
-fn frames(rt: &HostRuntime, body: &[u8], rounds: u32) -> anyhow::Result<(usize, u8, Duration)> {
+fn frames<R: AllocGlobal + Clock>(
+    rt: &R,
+    body: &[u8],
+    rounds: u32,
+) -> anyhow::Result<(usize, u8, Duration)> {
     let mut best = Duration::MAX;
     let mut read = (0, 0);
     for _ in 0..rounds {
@@ -200,6 +205,29 @@ fn frames(rt: &HostRuntime, body: &[u8], rounds: u32) -> anyhow::Result<(usize, 
     Ok((read.0, read.1, best))
 }
 
+/// What the layers give of sources, and the best of some rounds.
+fn best_round<R: Threads + AllocGlobal + Clock + Sync>(
+    rt: &R,
+    sources: &[NamedText],
+    rounds: u32,
+) -> anyhow::Result<(Counts, Times)> {
+    let (counts, mut best) = round(rt, sources)?;
+    for _ in 1..rounds {
+        let (_, times) = round(rt, sources)?;
+        best = best.least(times);
+    }
+    Ok((counts, best))
+}
+
+/// How many bytes the sources have.
+fn size_of(sources: &[NamedText]) -> usize {
+    let mut size = 0_usize;
+    for source in sources {
+        size = size.saturating_add(source.text.len());
+    }
+    size
+}
+
 /// Measures the sources below a folder.
 fn measure_sources<R: Threads + Files + AllocGlobal + Clock + Sync>(
     rt: &R,
@@ -207,28 +235,37 @@ fn measure_sources<R: Threads + Files + AllocGlobal + Clock + Sync>(
     rounds: u32,
 ) -> anyhow::Result<(usize, usize, Counts, Times)> {
     let sources = read_folder(rt, root, &Limits::standard())?;
-    let (counts, mut best) = round(rt, &sources)?;
-    for _ in 1..rounds {
-        let (_, times) = round(rt, &sources)?;
-        best = best.least(times);
-    }
-    let mut size = 0_usize;
-    for source in &sources {
-        size = size.saturating_add(source.text.len());
-    }
-    Ok((sources.len(), size, counts, best))
+    let (counts, best) = best_round(rt, &sources, rounds)?;
+    Ok((sources.len(), size_of(&sources), counts, best))
 }
 
-fn main(rt: HostRuntime) -> anyhow::Result<()> {
-    let words: Vec<String> = env::args(&rt)?.collect(rt.alloc())?;
-    let [_, root, rounds] = words.as_slice() else {
-        bail!("DIR ROUNDS");
-    };
-    let rounds: u32 = rounds.parse()?;
-    let (files, size, counts, best) = measure_sources(&rt, root.as_str(), rounds)?;
+/// Measures the reading of the body that an input has.
+fn measure_frames<R: AllocGlobal + Clock>(
+    rt: &R,
+    input: &mut impl Read,
+    rounds: u32,
+) -> anyhow::Result<(usize, u8, Duration)> {
     let mut body = Vec::new(rt.alloc());
-    rt.stdin().read_to_end(&mut body)?;
-    let (messages, status, frames) = frames(&rt, &body, rounds)?;
+    input.read_to_end(&mut body)?;
+    frames(rt, &body, rounds)
+}
+
+/// Prints how long each layer takes.
+fn print_times<R: Eprint>(rt: &R, times: &Times) -> anyhow::Result<()> {
+    for (layer, time) in times.layers() {
+        eprintln!(rt; "{layer}: {} us", time.as_micros())?;
+    }
+    Ok(())
+}
+
+/// Prints what the layers gave and how long they take.
+fn measure<R, I>(rt: &R, input: &mut I, root: &str, rounds: u32) -> anyhow::Result<()>
+where
+    R: Threads + Files + AllocGlobal + Clock + Print + Eprint + Sync,
+    I: Read,
+{
+    let (files, size, counts, best) = measure_sources(rt, root, rounds)?;
+    let (messages, status, frames) = measure_frames(rt, input, rounds)?;
     let Counts {
         bytes,
         names,
@@ -238,9 +275,15 @@ fn main(rt: HostRuntime) -> anyhow::Result<()> {
         "{files} files, {bytes} descriptor bytes, {names} services\nthe first file reaches {reached}\n{messages} messages, status {status}"
     )?;
     eprintln!(rt; "{size} bytes of source")?;
-    for (layer, time) in best.layers() {
-        eprintln!(rt; "{layer}: {} us", time.as_micros())?;
-    }
+    print_times(rt, &best)?;
     eprintln!(rt; "read_frames: {} us", frames.as_micros())?;
     Ok(())
+}
+
+fn main(rt: HostRuntime) -> anyhow::Result<()> {
+    let words: Vec<String> = env::args(&rt)?.collect(rt.alloc())?;
+    let [_, root, rounds] = words.as_slice() else {
+        bail!("DIR ROUNDS");
+    };
+    measure(&rt, &mut rt.stdin(), root.as_str(), rounds.parse()?)
 }

@@ -1,5 +1,5 @@
 -- The nested messages that a message gives as a statement.
-use Rattle.std.proofs.Common.{◌≡◌, ◌∙◌, ap, sym, refl, List, [], ◌∷◌, ◌++◌, ℕ, ◌+◌, ◌<◌, length, take, get_or}
+use Rattle.std.proofs.Common.{◌≡◌, ◌∙◌, ap, sym, refl, List, [], ◌∷◌, ◌++◌, ℕ, ◌+◌, ◌<◌, length, take, get_or, append_assoc}
 use Rattle.std.proofs.lemmas.List.{take_more, append-nil}
 use Rattle.std.proofs.lemmas.List.Concat.{flat_map-append}
 use Rattle.std.specs.Prelude.{flat_map}
@@ -31,13 +31,19 @@ pub nested_message : (full : List ℕ) (m : Message) → nested_of full (of.Mess
 nested_message full m =
     nested_boxed full _ (row_of (of.Message m)).1 ∙ ap (flat_map (λ m. lowered_message full m ∷ [])) (items_hidden-the_row-Message-1 m)
 
--- one more statement, and what it gives
-pub one_more : {X Y : Type 0} (f : X → List Y) (xs : List X) (i : ℕ) (x : X) (done new : List Y) → i < length xs → x ≡ get_or xs i x
-    → done ≡ flat_map f (take i xs) → new ≡ f x → done ++ new ≡ flat_map f (take (i + 1) xs)
-one_more f xs i x done new within at so_far gives =
-    rw (so_far, gives) (ap (λ z. flat_map f (take i xs) ++ z) (sym (append-nil (f x)) ∙ ap (λ z. flat_map f (z ∷ [])) at)
+-- what a statement gives is behind what those before it give
+next_given : {X Y : Type 0} (f : X → List Y) (xs : List X) (i : ℕ) (x : X) (new : List Y) → i < length xs → x ≡ get_or xs i x → new ≡ f x
+    → flat_map f (take i xs) ++ new ≡ flat_map f (take (i + 1) xs)
+next_given f xs i x new within at gives =
+    rw gives (ap (λ z. flat_map f (take i xs) ++ z) (sym (append-nil (f x)) ∙ ap (λ z. flat_map f (z ∷ [])) at)
     ∙ sym (flat_map-append f (take i xs) (get_or xs i x ∷ [])) ∙ ap (flat_map f) (sym (take_more xs i x within)))
 
-pub none_more : {X Y : Type 0} (f : X → List Y) (xs : List X) (i : ℕ) (x : X) (done : List Y) → i < length xs → x ≡ get_or xs i x
-    → done ≡ flat_map f (take i xs) → f x ≡ [] → done ≡ flat_map f (take (i + 1) xs)
-none_more f xs i x done within at so_far gives = sym (append-nil done) ∙ one_more f xs i x done [] within at so_far (sym gives)
+-- one more statement, and what it gives
+pub one_more : {X Y : Type 0} (f : X → List Y) (xs : List X) (i : ℕ) (x : X) (before done new : List Y) → i < length xs → x ≡ get_or xs i x
+    → done ≡ before ++ flat_map f (take i xs) → new ≡ f x → done ++ new ≡ before ++ flat_map f (take (i + 1) xs)
+one_more f xs i x before done new within at so_far gives =
+    ap (λ z. z ++ new) so_far ∙ append_assoc before (flat_map f (take i xs)) new ∙ ap (λ z. before ++ z) (next_given f xs i x new within at gives)
+
+pub none_more : {X Y : Type 0} (f : X → List Y) (xs : List X) (i : ℕ) (x : X) (before done : List Y) → i < length xs → x ≡ get_or xs i x
+    → done ≡ before ++ flat_map f (take i xs) → f x ≡ [] → done ≡ before ++ flat_map f (take (i + 1) xs)
+none_more f xs i x before done within at so_far gives = sym (append-nil done) ∙ one_more f xs i x before done [] within at so_far (sym gives)

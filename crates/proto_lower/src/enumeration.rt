@@ -1,51 +1,85 @@
 //! Enums (language guide, "Enumerations").
 
-ghost use Rattle.std.specs.Prelude.{◌≡◌, IfOk, flat_map};
+ghost use Rattle.std.specs.Prelude.{◌≡◌, ◌∷◌, ◌++◌, [], OnOk, flat_map};
 ghost use Rattle.proto_lower.specs.Enums.{value_desc, value_of_item, lowered_enum};
+ghost use Rattle.proto_lower.specs.Reserveds.{enum_ranges_of, enum_names_of};
 
 use crate::options::{bracketed_options, options_of};
-use crate::reserved::{enum_names, enum_ranges, number_of_literal};
+use crate::reserved::{number_of_literal, put_enum_ranges, put_names};
 use proto_base::row::Row;
 use proto_base::text::Text;
-use proto_desc::enumeration::{EnumDesc, ValueDesc};
+use proto_desc::enumeration::{EnumDesc, EnumReservedRange, ValueDesc};
 use proto_desc::rules::Element;
 use proto_tree::{Enum, EnumItem, EnumValue};
 use std::alloc::{AllocError, Global};
 
-fn lower_value<'s>(alloc: Global, value: &EnumValue<'s>) -> Result<ValueDesc<'s>, AllocError>
-    ensures { IfOk result (λ made. made ≡ value_desc value.now) }
+/// Adds a value.
+fn put_value<'s>(
+    alloc: Global,
+    out: &mut Vec<ValueDesc<'s>>,
+    value: &EnumValue<'s>,
+) -> Result<(), AllocError>
+    ensures { OnOk result (out.new.items ≡ out.old.items ++ value_desc value.now ∷ []) }
 {
-    Ok(ValueDesc {
+    out.push(ValueDesc {
         name: Text::borrowed(value.name.text),
         place: value.name.span.start,
         number: number_of_literal(value.number),
         options: bracketed_options(alloc, Element::EnumValue, &value.options)?,
-    })
+    })?;
+    Ok(())
 }
 
-fn values<'s>(alloc: Global, items: &[EnumItem<'s>]) -> Result<Row<ValueDesc<'s>>, AllocError>
-    ensures { IfOk result (λ values. values ≡ flat_map value_of_item items.now) }
+/// Adds what the statements of an enum give: its values, and what it reserves.
+fn put_items<'s>(
+    alloc: Global,
+    values: &mut Vec<ValueDesc<'s>>,
+    ranges: &mut Vec<EnumReservedRange>,
+    names: &mut Vec<Text<'s>>,
+    items: &[EnumItem<'s>],
+) -> Result<(), AllocError>
+    ensures values { OnOk result (values.new.items
+        ≡ values.old.items ++ flat_map value_of_item items.now) }
+    ensures ranges { OnOk result (ranges.new.items
+        ≡ ranges.old.items ++ flat_map enum_ranges_of items.now) }
+    ensures names { OnOk result (names.new.items
+        ≡ names.old.items ++ flat_map enum_names_of items.now) }
 {
-    let mut values = Vec::with_capacity(alloc, items.len())?;
     for item in items {
-        if let EnumItem::Value(value) = item {
-            values.push(lower_value(alloc, value.get())?)?;
+        match item {
+            EnumItem::Value(value) => put_value(alloc, values, value.get())?,
+            EnumItem::Reserved(reserved) => {
+                let reserved = &reserved.get().items;
+                put_enum_ranges(ranges, reserved)?;
+                put_names(alloc, names, reserved)?;
+            }
+            _ => {}
         }
     }
-    Ok(Row::from_vec(values))
+    Ok(())
 }
 
-/// The descriptor of an enum.
-pub(crate) fn lower_enum<'s>(alloc: Global, declared: &Enum<'s>) -> Result<EnumDesc<'s>, AllocError>
-    ensures { IfOk result (λ made. made ≡ lowered_enum declared.now) }
+/// Adds the descriptor of an enum.
+pub(crate) fn put_enum<'s>(
+    alloc: Global,
+    out: &mut Vec<EnumDesc<'s>>,
+    declared: &Enum<'s>,
+) -> Result<(), AllocError>
+    ensures { OnOk result (out.new.items ≡ out.old.items ++ lowered_enum declared.now ∷ []) }
 {
     let items = declared.items.as_slice();
-    Ok(EnumDesc {
+    let options = options_of(alloc, Element::Enum, items)?;
+    let mut values = Vec::with_capacity(alloc, items.len())?;
+    let mut ranges = Vec::new(alloc);
+    let mut names = Vec::new(alloc);
+    put_items(alloc, &mut values, &mut ranges, &mut names, items)?;
+    out.push(EnumDesc {
         name: Text::borrowed(declared.name.text),
         place: declared.name.span.start,
-        values: values(alloc, items)?,
-        options: options_of(alloc, Element::Enum, items)?,
-        reserved_ranges: enum_ranges(alloc, items)?,
-        reserved_names: enum_names(alloc, items)?,
-    })
+        values: Row::from_vec(values),
+        options,
+        reserved_ranges: Row::from_vec(ranges),
+        reserved_names: Row::from_vec(names),
+    })?;
+    Ok(())
 }

@@ -6,7 +6,6 @@ ghost use Rattle.proto_lower.specs.Fields.{described, label_of, is_optional, fie
 use crate::names::entry_name;
 use crate::options::{bracketed_options, field_json_name};
 use crate::type_name::field_kind;
-use proto_base::row::Row;
 use proto_base::text::Text;
 use proto_desc::field::{FieldDesc, FieldKind, FieldLabel};
 use proto_desc::rules::Element;
@@ -14,21 +13,23 @@ use proto_desc::type_name::{TypeKind, TypeReference};
 use proto_tree::{Declarator, Field, Label, MapField, MessageItem, OneofItem};
 use std::alloc::{AllocError, Global};
 
-fn described<'s>(
+/// Adds the field of a declarator.
+fn put_described<'s>(
     alloc: Global,
+    out: &mut Vec<FieldDesc<'s>>,
     declarator: &Declarator<'s>,
     label: FieldLabel,
     field_type: FieldKind<'s>,
     oneof_index: Option<usize>,
     proto3_optional: bool,
-) -> Result<FieldDesc<'s>, AllocError>
-    ensures { IfOk result (λ field. field
-        ≡ described declarator.now label field_type.entry oneof_index proto3_optional) }
+) -> Result<(), AllocError>
+    ensures { OnOk result (out.new.items ≡ out.old.items
+        ++ described declarator.now label field_type.entry oneof_index proto3_optional ∷ []) }
 {
     let name = declarator.name.text;
-    let json_name = field_json_name(alloc, name, &declarator.options)?;
     let options = bracketed_options(alloc, Element::Field, &declarator.options)?;
-    Ok(FieldDesc {
+    let json_name = field_json_name(alloc, name, &declarator.options)?;
+    out.push(FieldDesc {
         name: Text::borrowed(name),
         place: declarator.name.span.start,
         number: declarator.number.value,
@@ -38,7 +39,8 @@ fn described<'s>(
         json_name,
         proto3_optional,
         options,
-    })
+    })?;
+    Ok(())
 }
 
 fn label_of(label: &Option<Label>) -> FieldLabel
@@ -69,15 +71,15 @@ fn put_field<'s>(
     let oneof_index = if is_optional { Some(next_made) } else { None };
     let field_type = field_kind(alloc, &field.field_type)?;
     let label = label_of(&field.label);
-    out.push(described(
+    put_described(
         alloc,
+        out,
         &field.declarator,
         label,
         field_type,
         oneof_index,
         is_optional,
-    )?)?;
-    Ok(())
+    )
 }
 
 /// The full name, behind a leading dot, of what stands in the scope.
@@ -103,15 +105,15 @@ fn put_map<'s>(
     let full_name = Text::owned(inner_name(alloc, full, entry.as_str())?);
     let kind = TypeKind::Message;
     let field_type = FieldKind::Named(TypeReference::Resolved { full_name, kind });
-    out.push(described(
+    put_described(
         alloc,
+        out,
         &map.declarator,
         FieldLabel::Repeated,
         field_type,
         None,
         false,
-    )?)?;
-    Ok(())
+    )
 }
 
 /// Adds the members of the oneof at the position `number`.
@@ -127,14 +129,15 @@ fn put_members<'s>(
         if let OneofItem::Field(field) = item {
             let field = field.get();
             let field_type = field_kind(alloc, &field.field_type)?;
-            out.push(described(
+            put_described(
                 alloc,
+                out,
                 &field.declarator,
                 FieldLabel::Optional,
                 field_type,
                 Some(number),
                 false,
-            )?)?;
+            )?;
         }
     }
     Ok(())
@@ -154,35 +157,35 @@ pub(crate) fn real_count(items: &[MessageItem]) -> usize
     count
 }
 
-/// The fields of the message with this full name and these statements, of which `real` are oneofs.
-pub(crate) fn fields<'s>(
+/// Adds the fields of the message with this full name and these statements, of which `real` are oneofs.
+pub(crate) fn put_fields<'s>(
     alloc: Global,
+    out: &mut Vec<FieldDesc<'s>>,
     full: &str,
     items: &[MessageItem<'s>],
     real: usize,
-) -> Result<Row<FieldDesc<'s>>, AllocError>
+) -> Result<(), AllocError>
     requires { real ≤ length items.now }
-    ensures { IfOk result (λ fields. fields ≡ fields_from full.now 0 real items.now) }
+    ensures { OnOk result (out.new.items ≡ out.old.items ++ fields_from full.now 0 real items.now) }
 {
-    let mut out = Vec::with_capacity(alloc, items.len())?;
     let mut next_real = 0;
     let mut next_made = real;
     for item in items {
         match item {
             MessageItem::Field(field) => {
                 let field = field.get();
-                put_field(alloc, &mut out, field, next_made)?;
+                put_field(alloc, out, field, next_made)?;
                 if is_optional(&field.label) {
                     next_made += 1;
                 }
             }
-            MessageItem::Map(map) => put_map(alloc, &mut out, full, map.get())?,
+            MessageItem::Map(map) => put_map(alloc, out, full, map.get())?,
             MessageItem::Oneof(oneof) => {
-                put_members(alloc, &mut out, oneof.get().items.as_slice(), next_real)?;
+                put_members(alloc, out, oneof.get().items.as_slice(), next_real)?;
                 next_real += 1;
             }
             _ => {}
         }
     }
-    Ok(Row::from_vec(out))
+    Ok(())
 }

@@ -1,13 +1,13 @@
 //! Files (proto3 language specification, "Proto File").
 
-ghost use Rattle.std.specs.Prelude.{◌≡◌, IfOk, flat_map, string_bytes};
+ghost use Rattle.std.specs.Prelude.{◌≡◌, ◌∷◌, ◌++◌, [], IfOk, OnOk, flat_map, string_bytes};
 ghost use Rattle.std.specs.Option.{option_copied, option_map};
 ghost use Rattle.proto_lower.specs.Files.{first_package, package_desc, package_scope, import_desc, import_of, file_message, file_enum, file_service, lowered};
 
-use crate::enumeration::lower_enum;
-use crate::message::lower_message;
+use crate::enumeration::put_enum;
+use crate::message::put_message;
 use crate::options::options_of;
-use crate::service::lower_service;
+use crate::service::put_service;
 use proto_base::row::Row;
 use proto_base::text::Text;
 use proto_desc::enumeration::EnumDesc;
@@ -59,117 +59,79 @@ fn package_scope(alloc: Global, declared: &Option<PackageDesc>) -> Result<String
     Ok(scope)
 }
 
-fn lower_import<'s>(alloc: Global, import: &Import<'s>) -> Result<ImportDesc<'s>, AllocError>
-    ensures { IfOk result (λ made. made ≡ import_desc import.now) }
+/// Adds an import.
+fn put_import<'s>(
+    alloc: Global,
+    out: &mut Vec<ImportDesc<'s>>,
+    import: &Import<'s>,
+) -> Result<(), AllocError>
+    ensures { OnOk result (out.new.items ≡ out.old.items ++ import_desc import.now ∷ []) }
 {
-    Ok(ImportDesc {
+    out.push(ImportDesc {
         path: joined(alloc, &import.path)?,
         place: import.path.first.span.start,
         is_public: import.public.is_some(),
-    })
+    })?;
+    Ok(())
 }
 
-fn imports<'s>(
-    alloc: Global,
-    statements: &[Statement<'s>],
-) -> Result<Row<ImportDesc<'s>>, AllocError>
-    ensures { IfOk result (λ imports. imports ≡ flat_map import_of statements.now) }
-{
-    let mut imports = Vec::new(alloc);
-    for statement in statements {
-        if let Statement::Import(import) = statement {
-            imports.push(lower_import(alloc, import.get())?)?;
-        }
-    }
-    Ok(Row::from_vec(imports))
-}
-
-/// The messages, in this scope.
-fn messages<'s>(
-    alloc: Global,
-    scope: &str,
-    statements: &[Statement<'s>],
-) -> Result<Row<MessageDesc<'s>>, AllocError>
-    ensures { IfOk result (λ messages. messages
-        ≡ flat_map (file_message scope.now) statements.now) }
-{
-    let mut messages = Vec::new(alloc);
-    for statement in statements {
-        if let Statement::Message(message) = statement {
-            messages.push(lower_message(alloc, scope, message.get())?)?;
-        }
-    }
-    Ok(Row::from_vec(messages))
-}
-
-/// The messages, in the scope of the file's package.
-fn packaged_messages<'s>(
-    alloc: Global,
-    declared: &Option<PackageDesc>,
-    statements: &[Statement<'s>],
-) -> Result<Row<MessageDesc<'s>>, AllocError>
-    ensures { IfOk result (λ messages. messages
-        ≡ flat_map (file_message (package_scope declared.now)) statements.now) }
-{
-    let scope = package_scope(alloc, declared)?;
-    messages(alloc, scope.as_str(), statements)
-}
-
-fn enums<'s>(alloc: Global, statements: &[Statement<'s>]) -> Result<Row<EnumDesc<'s>>, AllocError>
-    ensures { IfOk result (λ enums. enums ≡ flat_map file_enum statements.now) }
-{
-    let mut enums = Vec::new(alloc);
-    for statement in statements {
-        if let Statement::Enum(declared) = statement {
-            enums.push(lower_enum(alloc, declared.get())?)?;
-        }
-    }
-    Ok(Row::from_vec(enums))
-}
-
-fn services<'s>(
-    alloc: Global,
-    statements: &[Statement<'s>],
-) -> Result<Row<ServiceDesc<'s>>, AllocError>
-    ensures { IfOk result (λ services. services ≡ flat_map file_service statements.now) }
-{
-    let mut services = Vec::new(alloc);
-    for statement in statements {
-        if let Statement::Service(service) = statement {
-            services.push(lower_service(alloc, service.get())?)?;
-        }
-    }
-    Ok(Row::from_vec(services))
-}
-
-/// What the statements at the top of a file declare.
+/// What the statements at the top of a file import and declare.
 #[derive(Drop)]
 struct Declared<'s> {
-    messages: Row<MessageDesc<'s>>,
-    enums: Row<EnumDesc<'s>>,
-    services: Row<ServiceDesc<'s>>,
+    imports: Vec<ImportDesc<'s>>,
+    messages: Vec<MessageDesc<'s>>,
+    enums: Vec<EnumDesc<'s>>,
+    services: Vec<ServiceDesc<'s>>,
 }
 
-/// What these statements declare, in the scope of the file's package.
-fn declarations<'s>(
+/// Adds what these statements import and declare, in this scope.
+fn put_scoped<'s>(
     alloc: Global,
+    out: &mut Declared<'s>,
+    scope: &str,
+    statements: &[Statement<'s>],
+) -> Result<(), AllocError>
+    ensures imports { OnOk result (out.new.imports.items
+        ≡ out.old.imports.items ++ flat_map import_of statements.now) }
+    ensures messages { OnOk result (out.new.messages.items ≡ out.old.messages.items
+        ++ flat_map (file_message scope.now) statements.now) }
+    ensures enums { OnOk result (out.new.enums.items
+        ≡ out.old.enums.items ++ flat_map file_enum statements.now) }
+    ensures services { OnOk result (out.new.services.items
+        ≡ out.old.services.items ++ flat_map file_service statements.now) }
+{
+    for statement in statements {
+        match statement {
+            Statement::Import(import) => put_import(alloc, &mut out.imports, import.get())?,
+            Statement::Message(message) => {
+                put_message(alloc, &mut out.messages, scope, message.get())?;
+            }
+            Statement::Enum(declared) => put_enum(alloc, &mut out.enums, declared.get())?,
+            Statement::Service(service) => put_service(alloc, &mut out.services, service.get())?,
+            _ => {}
+        }
+    }
+    Ok(())
+}
+
+/// Adds what these statements import and declare, in the scope of the file's package.
+fn put_declared<'s>(
+    alloc: Global,
+    out: &mut Declared<'s>,
     package: &Option<PackageDesc>,
     statements: &[Statement<'s>],
-) -> Result<Declared<'s>, AllocError>
-    ensures messages { IfOk result (λ declared. declared.messages
-        ≡ flat_map (file_message (package_scope «package».now)) statements.now) }
-    ensures enums { IfOk result (λ declared. declared.enums ≡ flat_map file_enum statements.now) }
-    ensures services { IfOk result (λ declared. declared.services
-        ≡ flat_map file_service statements.now) }
+) -> Result<(), AllocError>
+    ensures imports { OnOk result (out.new.imports.items
+        ≡ out.old.imports.items ++ flat_map import_of statements.now) }
+    ensures messages { OnOk result (out.new.messages.items ≡ out.old.messages.items
+        ++ flat_map (file_message (package_scope «package».now)) statements.now) }
+    ensures enums { OnOk result (out.new.enums.items
+        ≡ out.old.enums.items ++ flat_map file_enum statements.now) }
+    ensures services { OnOk result (out.new.services.items
+        ≡ out.old.services.items ++ flat_map file_service statements.now) }
 {
-    let services = services(alloc, statements)?;
-    let enums = enums(alloc, statements)?;
-    let messages = packaged_messages(alloc, package, statements)?;
-    Ok(Declared {
-        messages,
-        enums,
-        services,
-    })
+    let scope = package_scope(alloc, package)?;
+    put_scoped(alloc, out, scope.as_str(), statements)
 }
 
 /// The descriptor of the file with this name: what its tree describes, whatever rules it breaks. It refuses nothing but for
@@ -182,17 +144,22 @@ pub fn lower<'s>(
     ensures { IfOk result (λ made. made ≡ lowered name.now file.now) }
 {
     let statements = file.statements.as_slice();
-    let package = lower_package(alloc, statements)?;
-    let imports = imports(alloc, statements)?;
     let options = options_of(alloc, Element::File, statements)?;
-    let declared = declarations(alloc, &package, statements)?;
+    let package = lower_package(alloc, statements)?;
+    let mut declared = Declared {
+        imports: Vec::new(alloc),
+        messages: Vec::new(alloc),
+        enums: Vec::new(alloc),
+        services: Vec::new(alloc),
+    };
+    put_declared(alloc, &mut declared, &package, statements)?;
     Ok(FileDesc {
         name: Text::borrowed(name),
         package,
-        imports,
-        messages: declared.messages,
-        enums: declared.enums,
-        services: declared.services,
+        imports: Row::from_vec(declared.imports),
+        messages: Row::from_vec(declared.messages),
+        enums: Row::from_vec(declared.enums),
+        services: Row::from_vec(declared.services),
         options,
     })
 }

@@ -1,21 +1,23 @@
 //! Messages and the entries that map fields make (language guide, "Nested Types", "Maps").
 
 ghost use Rattle.std.specs.Prelude.{◌≡◌, ◌∷◌, ◌++◌, [], IfOk, OnOk, flat_map};
-ghost use Rattle.proto_lower.specs.Messages.{entry_field, entry_fields, entry_of, enum_of, all_fields, all_oneofs, message_of, nested_of, lowered_message};
+ghost use Rattle.proto_lower.specs.Messages.{entry_field, entry_fields, entry_of, enum_of, all_fields, message_of, nested_of, lowered_message};
+ghost use Rattle.proto_lower.specs.Oneofs.{real_of, names_of_fields, with_made};
+ghost use Rattle.proto_lower.specs.Reserveds.{message_ranges_of, message_names_of};
 
-use crate::enumeration::lower_enum;
-use crate::field::{fields, inner_name, real_count};
+use crate::enumeration::put_enum;
+use crate::field::{inner_name, put_fields, real_count};
 use crate::names::entry_name;
-use crate::oneof::oneofs;
+use crate::oneof::put_oneofs;
 use crate::options::options_of;
-use crate::reserved::message_reserved;
+use crate::reserved::put_message_reserved;
 use crate::type_name::{field_kind, scalar_of_key};
 use proto_base::Place;
 use proto_base::row::Row;
 use proto_base::text::Text;
 use proto_desc::enumeration::EnumDesc;
 use proto_desc::field::{FieldDesc, FieldKind, FieldLabel};
-use proto_desc::message::MessageDesc;
+use proto_desc::message::{MessageDesc, ReservedRange};
 use proto_desc::oneof::OneofDesc;
 use proto_desc::rules::Element;
 use proto_tree::{MapField, Message, MessageItem, Name};
@@ -48,8 +50,8 @@ fn entry_fields<'s>(alloc: Global, map: &MapField<'s>) -> Result<Row<FieldDesc<'
     ensures { IfOk result (λ fields. fields ≡ entry_fields map.now) }
 {
     let place = map.declarator.name.span.start;
-    let key = FieldKind::Scalar(scalar_of_key(map.map_type.key));
     let value = field_kind(alloc, &map.map_type.value)?;
+    let key = FieldKind::Scalar(scalar_of_key(map.map_type.key));
     let fields = vec![in alloc;
         entry_field(alloc, "key", place, 1, key),
         entry_field(alloc, "value", place, 2, value),
@@ -82,84 +84,113 @@ fn put_entry<'s>(
     Ok(())
 }
 
-fn enums<'s>(alloc: Global, items: &[MessageItem<'s>]) -> Result<Row<EnumDesc<'s>>, AllocError>
-    ensures { IfOk result (λ enums. enums ≡ flat_map enum_of items.now) }
+/// Adds the enums among these statements.
+fn put_enums<'s>(
+    alloc: Global,
+    out: &mut Vec<EnumDesc<'s>>,
+    items: &[MessageItem<'s>],
+) -> Result<(), AllocError>
+    ensures { OnOk result (out.new.items ≡ out.old.items ++ flat_map enum_of items.now) }
 {
-    let mut enums = Vec::new(alloc);
     for item in items {
         if let MessageItem::Enum(declared) = item {
-            enums.push(lower_enum(alloc, declared.get())?)?;
+            put_enum(alloc, out, declared.get())?;
         }
     }
-    Ok(Row::from_vec(enums))
+    Ok(())
 }
 
-/// The fields of a message, and its oneofs: those of the source and those that its fields make.
+/// What the statements of a message give, but its nested messages and its options.
 #[derive(Drop)]
-struct Members<'s> {
-    fields: Row<FieldDesc<'s>>,
-    oneofs: Row<OneofDesc<'s>>,
+struct Parts<'s> {
+    fields: Vec<FieldDesc<'s>>,
+    oneofs: Vec<OneofDesc<'s>>,
+    enums: Vec<EnumDesc<'s>>,
+    reserved_ranges: Vec<ReservedRange>,
+    reserved_names: Vec<Text<'s>>,
 }
 
-/// The members of the message with this full name and these statements.
-fn members_of<'s>(
+/// Adds what these statements of the message with this full name give.
+fn put_parts<'s>(
     alloc: Global,
+    out: &mut Parts<'s>,
     full: &str,
     items: &[MessageItem<'s>],
-) -> Result<Members<'s>, AllocError>
-    ensures fields { IfOk result (λ members. members.fields ≡ all_fields full.now items.now) }
-    ensures oneofs { IfOk result (λ members. members.oneofs ≡ all_oneofs full.now items.now) }
+) -> Result<(), AllocError>
+    ensures fields { OnOk result (out.new.fields.items
+        ≡ out.old.fields.items ++ all_fields full.now items.now) }
+    ensures oneofs { OnOk result (out.new.oneofs.items
+        ≡ with_made (names_of_fields out.new.fields.items)
+        (out.old.oneofs.items ++ flat_map real_of items.now) out.new.fields.items) }
+    ensures enums { OnOk result (out.new.enums.items
+        ≡ out.old.enums.items ++ flat_map enum_of items.now) }
+    ensures ranges { OnOk result (out.new.reserved_ranges.items
+        ≡ out.old.reserved_ranges.items ++ flat_map message_ranges_of items.now) }
+    ensures names { OnOk result (out.new.reserved_names.items
+        ≡ out.old.reserved_names.items ++ flat_map message_names_of items.now) }
 {
-    let fields = fields(alloc, full, items, real_count(items))?;
-    let oneofs = oneofs(alloc, items, fields.as_slice())?;
-    Ok(Members { fields, oneofs })
+    put_fields(alloc, &mut out.fields, full, items, real_count(items))?;
+    put_oneofs(alloc, &mut out.oneofs, items, out.fields.as_slice())?;
+    put_enums(alloc, &mut out.enums, items)?;
+    put_message_reserved(
+        alloc,
+        &mut out.reserved_ranges,
+        &mut out.reserved_names,
+        items,
+    )
 }
 
-/// The message of this full name, name and statements, with the descriptors of its nested messages.
-fn message_of<'s>(
+/// Adds the message of this full name, name and statements, with the descriptors of its nested messages.
+fn put_message_of<'s>(
     alloc: Global,
+    out: &mut Vec<MessageDesc<'s>>,
     full: &str,
     name: &Name<'s>,
     items: &[MessageItem<'s>],
     nested: Row<MessageDesc<'s>>,
-) -> Result<MessageDesc<'s>, AllocError>
-    ensures { IfOk result (λ message. message
-        ≡ message_of full.now name.now items.now nested.entry) }
+) -> Result<(), AllocError>
+    ensures { OnOk result (out.new.items
+        ≡ out.old.items ++ message_of full.now name.now items.now nested.entry ∷ []) }
 {
-    let reserved = message_reserved(alloc, items)?;
     let options = options_of(alloc, Element::Message, items)?;
-    let enums = enums(alloc, items)?;
-    let members = members_of(alloc, full, items)?;
-    Ok(MessageDesc {
+    let mut parts = Parts {
+        fields: Vec::with_capacity(alloc, items.len())?,
+        oneofs: Vec::new(alloc),
+        enums: Vec::new(alloc),
+        reserved_ranges: Vec::new(alloc),
+        reserved_names: Vec::new(alloc),
+    };
+    put_parts(alloc, &mut parts, full, items)?;
+    out.push(MessageDesc {
         name: Text::borrowed(name.text),
         place: name.span.start,
-        fields: members.fields,
+        fields: Row::from_vec(parts.fields),
         nested,
-        enums,
-        oneofs: members.oneofs,
-        reserved_ranges: reserved.ranges,
-        reserved_names: reserved.names,
+        enums: Row::from_vec(parts.enums),
+        oneofs: Row::from_vec(parts.oneofs),
+        reserved_ranges: Row::from_vec(parts.reserved_ranges),
+        reserved_names: Row::from_vec(parts.reserved_names),
         options,
         is_map_entry: false,
-    })
+    })?;
+    Ok(())
 }
 
-/// The messages that these statements of the message with this full name declare, and the entries of its map fields.
+/// Adds the messages that these statements of the message with this full name declare, and the entries of its map fields.
 #[cycle(messages)]
-fn nested_messages<'s>(
+fn put_nested<'s>(
     alloc: Global,
+    out: &mut Vec<MessageDesc<'s>>,
     full: &str,
     items: &[MessageItem<'s>],
-) -> Result<Row<MessageDesc<'s>>, AllocError>
-    ensures { IfOk result (λ nested. nested ≡ flat_map (nested_of full.now) items.now) }
+) -> Result<(), AllocError>
+    ensures { OnOk result (out.new.items
+        ≡ out.old.items ++ flat_map (nested_of full.now) items.now) }
 {
-    let mut nested = Vec::new(alloc);
     for item in items {
         match item {
-            MessageItem::Map(map) => put_entry(alloc, &mut nested, map.get())?,
-            MessageItem::Message(inner) => {
-                nested.push(lower_message(alloc, full, inner.get())?)?;
-            }
+            MessageItem::Map(map) => put_entry(alloc, out, map.get())?,
+            MessageItem::Message(inner) => put_message(alloc, out, full, inner.get())?,
             MessageItem::Field(_) => {}
             MessageItem::Oneof(_) => {}
             MessageItem::Option(_) => {}
@@ -168,20 +199,30 @@ fn nested_messages<'s>(
             MessageItem::Empty(_) => {}
         }
     }
-    Ok(Row::from_vec(nested))
+    Ok(())
 }
 
-/// The descriptor of a message in the scope: the full name, behind a leading dot, of what is around it.
+/// Adds the descriptor of a message in the scope: the full name, behind a leading dot, of what is around it.
 #[cycle(messages)]
-pub(crate) fn lower_message<'s>(
+pub(crate) fn put_message<'s>(
     alloc: Global,
+    out: &mut Vec<MessageDesc<'s>>,
     scope: &str,
     message: &Message<'s>,
-) -> Result<MessageDesc<'s>, AllocError>
-    ensures { IfOk result (λ made. made ≡ lowered_message scope.now message.now) }
+) -> Result<(), AllocError>
+    ensures { OnOk result (out.new.items
+        ≡ out.old.items ++ lowered_message scope.now message.now ∷ []) }
 {
     let items = message.items.as_slice();
     let full = inner_name(alloc, scope, message.name.text)?;
-    let nested = nested_messages(alloc, full.as_str(), items)?;
-    message_of(alloc, full.as_str(), &message.name, items, nested)
+    let mut nested = Vec::new(alloc);
+    put_nested(alloc, &mut nested, full.as_str(), items)?;
+    put_message_of(
+        alloc,
+        out,
+        full.as_str(),
+        &message.name,
+        items,
+        Row::from_vec(nested),
+    )
 }

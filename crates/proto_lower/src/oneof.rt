@@ -6,7 +6,6 @@ ghost use Rattle.proto_lower.specs.Names.{IsSetOf};
 ghost use Rattle.proto_lower.specs.Oneofs.{real_named, real_of, names_of_fields, names_of_oneofs, made_named, with_made};
 
 use crate::names::{first_free, take_name, with_underscore};
-use proto_base::row::Row;
 use proto_base::text::Text;
 use proto_desc::field::FieldDesc;
 use proto_desc::oneof::OneofDesc;
@@ -23,20 +22,16 @@ fn real<'s>(name: &Name<'s>) -> OneofDesc<'s>
     }
 }
 
-/// The oneofs of the source.
-fn real_oneofs<'s>(
-    alloc: Global,
-    items: &[MessageItem<'s>],
-) -> Result<Vec<OneofDesc<'s>>, AllocError>
-    ensures { IfOk result (λ oneofs. oneofs.items ≡ flat_map real_of items.now) }
+/// Adds the oneofs of the source.
+fn put_real<'s>(out: &mut Vec<OneofDesc<'s>>, items: &[MessageItem<'s>]) -> Result<(), AllocError>
+    ensures { OnOk result (out.new.items ≡ out.old.items ++ flat_map real_of items.now) }
 {
-    let mut oneofs = Vec::new(alloc);
     for item in items {
         if let MessageItem::Oneof(oneof) = item {
-            oneofs.push(real(&oneof.get().name))?;
+            out.push(real(&oneof.get().name))?;
         }
     }
-    Ok(oneofs)
+    Ok(())
 }
 
 /// The names that no oneof that is made may have at first.
@@ -103,16 +98,16 @@ fn put_made<'s>(
     Ok(())
 }
 
-/// The oneofs of a message with these fields: those of the source, and behind them those that its fields make.
-pub(crate) fn oneofs<'s>(
+/// Adds the oneofs of a message with these fields: those of the source, and behind them those that its fields make.
+pub(crate) fn put_oneofs<'s>(
     alloc: Global,
+    out: &mut Vec<OneofDesc<'s>>,
     items: &[MessageItem<'s>],
     fields: &[FieldDesc<'s>],
-) -> Result<Row<OneofDesc<'s>>, AllocError>
-    ensures { IfOk result (λ oneofs. oneofs
-        ≡ with_made (names_of_fields fields.now) (flat_map real_of items.now) fields.now) }
+) -> Result<(), AllocError>
+    ensures { OnOk result (out.new.items ≡ with_made (names_of_fields fields.now)
+        (out.old.items ++ flat_map real_of items.now) fields.now) }
 {
-    let mut oneofs = real_oneofs(alloc, items)?;
-    put_made(alloc, &mut oneofs, fields)?;
-    Ok(Row::from_vec(oneofs))
+    put_real(out, items)?;
+    put_made(alloc, out, fields)
 }

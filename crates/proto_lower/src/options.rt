@@ -1,8 +1,8 @@
 //! Options of an element (`descriptor.proto`, `FileOptions` to `MethodOptions`): of each option that the element may have,
 //! the first setting counts, and one whose value is of another kind sets nothing.
 
-ghost use Rattle.std.specs.Prelude.{◌≡◌, IfOk, flat_map, Some};
-ghost use Rattle.std.specs.Option.{option_copied};
+ghost use Rattle.std.specs.Prelude.{◌≡◌, ◌++◌, IfOk, OnOk, flat_map, Some};
+ghost use Rattle.std.specs.Option.{option_copied, option_to_list};
 ghost use Rattle.proto_lower.specs.Options.{bracketed, number_of, value_of, option_by, options_of, json_name_by};
 
 use crate::names::json_text;
@@ -45,36 +45,40 @@ fn value_of<'s>(
     }
 }
 
-fn set_option<'s>(
+/// Adds the option of this number that a setting makes, if its value is of this kind.
+fn put_set<'s>(
     alloc: Global,
+    out: &mut Vec<OptionDesc<'s>>,
     number: u32,
     kind: ValueKind,
     setting: &Setting<'s>,
-) -> Result<Option<OptionDesc<'s>>, AllocError>
-    ensures { IfOk result (λ option. option ≡ option_by (Some number) kind (Some setting.now)) }
+) -> Result<(), AllocError>
+    ensures { OnOk result (out.new.items
+        ≡ out.old.items ++ option_to_list (option_by (Some number) kind (Some setting.now))) }
 {
-    match value_of(alloc, kind, &setting.value)? {
-        Some(value) => Ok(Some(OptionDesc {
+    if let Some(value) = value_of(alloc, kind, &setting.value)? {
+        out.push(OptionDesc {
             number,
             value,
             place: setting.name.first.span.start,
-        })),
-        None => Ok(None),
+        })?;
     }
+    Ok(())
 }
 
-/// What a rule's first setting gives.
-fn lower_option<'s>(
+/// Adds what a rule's first setting gives.
+fn put_option<'s>(
     alloc: Global,
+    out: &mut Vec<OptionDesc<'s>>,
     rule: &OptionRule,
     setting: Option<&Setting<'s>>,
-) -> Result<Option<OptionDesc<'s>>, AllocError>
-    ensures { IfOk result (λ option. option
-        ≡ option_by rule.now.number rule.now.kind (option_copied setting.entry)) }
+) -> Result<(), AllocError>
+    ensures { OnOk result (out.new.items ≡ out.old.items
+        ++ option_to_list (option_by rule.now.number rule.now.kind (option_copied setting.entry))) }
 {
     match (rule.number, setting) {
-        (Some(number), Some(setting)) => set_option(alloc, number, rule.kind, setting),
-        _ => Ok(None),
+        (Some(number), Some(setting)) => put_set(alloc, out, number, rule.kind, setting),
+        _ => Ok(()),
     }
 }
 
@@ -106,9 +110,7 @@ pub(crate) fn bracketed_options<'s>(
 {
     let mut set = Vec::new(alloc);
     for rule in rules(element) {
-        if let Some(option) = lower_option(alloc, rule, first_bracketed(options, rule.name))? {
-            set.push(option)?;
-        }
+        put_option(alloc, &mut set, rule, first_bracketed(options, rule.name))?;
     }
     Ok(Row::from_vec(set))
 }
@@ -124,9 +126,7 @@ pub(crate) fn options_of<'s, I: Item<'s>>(
 {
     let mut set = Vec::new(alloc);
     for rule in rules(element) {
-        if let Some(option) = lower_option(alloc, rule, first_setting(items, rule.name))? {
-            set.push(option)?;
-        }
+        put_option(alloc, &mut set, rule, first_setting(items, rule.name))?;
     }
     Ok(Row::from_vec(set))
 }

@@ -1,16 +1,16 @@
 //! Reserved numbers and names (language guide, "Reserved Fields", "Reserved Values").
 
-ghost use Rattle.std.specs.Prelude.{◌≡◌, ◌++◌, IfOk, OnOk, flat_map};
-ghost use Rattle.proto_lower.specs.Reserveds.{message_range, enum_range, number_of_literal, ranges_in, enum_ranges_in, names_in, message_ranges_of, message_names_of, enum_ranges_of, enum_names_of};
+ghost use Rattle.std.specs.Prelude.{◌≡◌, ◌∷◌, ◌++◌, [], OnOk, flat_map};
+ghost use Rattle.proto_tree.specs.Text.{joined};
+ghost use Rattle.proto_lower.specs.Reserveds.{message_range, enum_range, number_of_literal, ranges_in, enum_ranges_in, names_in, message_ranges_of, message_names_of};
 
-use proto_base::row::Row;
 use proto_base::text::Text;
 use proto_desc::enumeration::EnumReservedRange;
 use proto_desc::message::ReservedRange;
 use proto_desc::whole_number::WholeNumber;
 use proto_tree::text::joined;
 use proto_tree::{
-    EnumItem, MessageItem, NumberLiteral, Range, ReservedItems, SignedNumber, UpperBound,
+    MessageItem, NumberLiteral, Range, ReservedItems, SignedNumber, StringValue, UpperBound,
 };
 use std::alloc::{AllocError, Global};
 
@@ -70,7 +70,8 @@ fn put_ranges(
     Ok(())
 }
 
-fn put_enum_ranges(
+/// Adds the ranges that a `reserved` statement of an enum lists.
+pub(crate) fn put_enum_ranges(
     out: &mut Vec<EnumReservedRange>,
     items: &ReservedItems<SignedNumber>,
 ) -> Result<(), AllocError>
@@ -85,7 +86,20 @@ fn put_enum_ranges(
     Ok(())
 }
 
-fn put_names<'s, N>(
+/// Adds a name.
+fn put_name<'s>(
+    alloc: Global,
+    out: &mut Vec<Text<'s>>,
+    name: &StringValue<'s>,
+) -> Result<(), AllocError>
+    ensures { OnOk result (out.new.items ≡ out.old.items ++ joined name.now ∷ []) }
+{
+    out.push(joined(alloc, name)?)?;
+    Ok(())
+}
+
+/// Adds the names that a `reserved` statement lists.
+pub(crate) fn put_names<'s, N>(
     alloc: Global,
     out: &mut Vec<Text<'s>>,
     items: &ReservedItems<'s, N>,
@@ -93,89 +107,32 @@ fn put_names<'s, N>(
     ensures { OnOk result (out.new.items ≡ out.old.items ++ names_in items.now) }
 {
     if let ReservedItems::Names(names) = items {
-        out.push(joined(alloc, &names.first)?)?;
+        put_name(alloc, out, &names.first)?;
         for next in names.rest.as_slice() {
-            out.push(joined(alloc, &next.item)?)?;
+            put_name(alloc, out, &next.item)?;
         }
     }
     Ok(())
 }
 
-/// The reserved ranges of a message.
-fn message_ranges(alloc: Global, items: &[MessageItem]) -> Result<Row<ReservedRange>, AllocError>
-    ensures { IfOk result (λ ranges. ranges ≡ flat_map message_ranges_of items.now) }
-{
-    let mut ranges = Vec::new(alloc);
-    for item in items {
-        if let MessageItem::Reserved(reserved) = item {
-            put_ranges(&mut ranges, &reserved.get().items)?;
-        }
-    }
-    Ok(Row::from_vec(ranges))
-}
-
-/// The reserved names of a message.
-fn message_names<'s>(alloc: Global, items: &[MessageItem<'s>]) -> Result<Row<Text<'s>>, AllocError>
-    ensures { IfOk result (λ names. names ≡ flat_map message_names_of items.now) }
-{
-    let mut names = Vec::new(alloc);
-    for item in items {
-        if let MessageItem::Reserved(reserved) = item {
-            put_names(alloc, &mut names, &reserved.get().items)?;
-        }
-    }
-    Ok(Row::from_vec(names))
-}
-
-/// What a message reserves.
-#[derive(Drop)]
-pub(crate) struct Reserved<'s> {
-    pub(crate) ranges: Row<ReservedRange>,
-    pub(crate) names: Row<Text<'s>>,
-}
-
-/// What the statements of a message reserve.
-pub(crate) fn message_reserved<'s>(
+/// Adds what the statements of a message reserve.
+pub(crate) fn put_message_reserved<'s>(
     alloc: Global,
+    ranges: &mut Vec<ReservedRange>,
+    names: &mut Vec<Text<'s>>,
     items: &[MessageItem<'s>],
-) -> Result<Reserved<'s>, AllocError>
-    ensures ranges { IfOk result (λ reserved. reserved.ranges
-        ≡ flat_map message_ranges_of items.now) }
-    ensures names { IfOk result (λ reserved. reserved.names ≡ flat_map message_names_of items.now) }
+) -> Result<(), AllocError>
+    ensures ranges { OnOk result (ranges.new.items
+        ≡ ranges.old.items ++ flat_map message_ranges_of items.now) }
+    ensures names { OnOk result (names.new.items
+        ≡ names.old.items ++ flat_map message_names_of items.now) }
 {
-    let ranges = message_ranges(alloc, items)?;
-    let names = message_names(alloc, items)?;
-    Ok(Reserved { ranges, names })
-}
-
-/// The reserved ranges of an enum.
-pub(crate) fn enum_ranges(
-    alloc: Global,
-    items: &[EnumItem],
-) -> Result<Row<EnumReservedRange>, AllocError>
-    ensures { IfOk result (λ ranges. ranges ≡ flat_map enum_ranges_of items.now) }
-{
-    let mut ranges = Vec::new(alloc);
     for item in items {
-        if let EnumItem::Reserved(reserved) = item {
-            put_enum_ranges(&mut ranges, &reserved.get().items)?;
+        if let MessageItem::Reserved(reserved) = item {
+            let reserved = &reserved.get().items;
+            put_ranges(ranges, reserved)?;
+            put_names(alloc, names, reserved)?;
         }
     }
-    Ok(Row::from_vec(ranges))
-}
-
-/// The reserved names of an enum.
-pub(crate) fn enum_names<'s>(
-    alloc: Global,
-    items: &[EnumItem<'s>],
-) -> Result<Row<Text<'s>>, AllocError>
-    ensures { IfOk result (λ names. names ≡ flat_map enum_names_of items.now) }
-{
-    let mut names = Vec::new(alloc);
-    for item in items {
-        if let EnumItem::Reserved(reserved) = item {
-            put_names(alloc, &mut names, &reserved.get().items)?;
-        }
-    }
-    Ok(Row::from_vec(names))
+    Ok(())
 }

@@ -1,6 +1,6 @@
 //! Services and methods (language guide, "Defining Services").
 
-ghost use Rattle.std.specs.Prelude.{◌≡◌, IfOk, flat_map};
+ghost use Rattle.std.specs.Prelude.{◌≡◌, ◌∷◌, ◌++◌, [], IfOk, OnOk, flat_map};
 ghost use Rattle.proto_lower.specs.Services.{rpc_items, method_desc, method_of, lowered_service};
 
 use crate::options::options_of;
@@ -22,18 +22,25 @@ pub fn rpc_items<'t, 's>(body: &'t RpcBody<'s>) -> &'t [RpcItem<'s>]
     }
 }
 
-fn lower_method<'s>(alloc: Global, rpc: &Rpc<'s>) -> Result<MethodDesc<'s>, AllocError>
-    ensures { IfOk result (λ method. method ≡ method_desc rpc.now) }
+/// Adds a method.
+fn put_method<'s>(
+    alloc: Global,
+    out: &mut Vec<MethodDesc<'s>>,
+    rpc: &Rpc<'s>,
+) -> Result<(), AllocError>
+    ensures { OnOk result (out.new.items ≡ out.old.items ++ method_desc rpc.now ∷ []) }
 {
-    Ok(MethodDesc {
+    let options = options_of(alloc, Element::Method, rpc_items(&rpc.body))?;
+    out.push(MethodDesc {
         name: Text::borrowed(rpc.name.text),
         place: rpc.name.span.start,
         input: type_reference(alloc, &rpc.input.name)?,
         output: type_reference(alloc, &rpc.output.name)?,
-        options: options_of(alloc, Element::Method, rpc_items(&rpc.body))?,
+        options,
         client_streaming: rpc.input.stream.is_some(),
         server_streaming: rpc.output.stream.is_some(),
-    })
+    })?;
+    Ok(())
 }
 
 fn methods<'s>(alloc: Global, items: &[ServiceItem<'s>]) -> Result<Row<MethodDesc<'s>>, AllocError>
@@ -42,24 +49,26 @@ fn methods<'s>(alloc: Global, items: &[ServiceItem<'s>]) -> Result<Row<MethodDes
     let mut methods = Vec::new(alloc);
     for item in items {
         if let ServiceItem::Rpc(rpc) = item {
-            methods.push(lower_method(alloc, rpc.get())?)?;
+            put_method(alloc, &mut methods, rpc.get())?;
         }
     }
     Ok(Row::from_vec(methods))
 }
 
-/// The descriptor of a service.
-pub(crate) fn lower_service<'s>(
+/// Adds the descriptor of a service.
+pub(crate) fn put_service<'s>(
     alloc: Global,
+    out: &mut Vec<ServiceDesc<'s>>,
     service: &Service<'s>,
-) -> Result<ServiceDesc<'s>, AllocError>
-    ensures { IfOk result (λ made. made ≡ lowered_service service.now) }
+) -> Result<(), AllocError>
+    ensures { OnOk result (out.new.items ≡ out.old.items ++ lowered_service service.now ∷ []) }
 {
     let items = service.items.as_slice();
-    Ok(ServiceDesc {
+    out.push(ServiceDesc {
         name: Text::borrowed(service.name.text),
         place: service.name.span.start,
         methods: methods(alloc, items)?,
         options: options_of(alloc, Element::Service, items)?,
-    })
+    })?;
+    Ok(())
 }

@@ -1,15 +1,15 @@
 -- What a choice reads at each of its ways.
-use Rattle.std.proofs.Common.{◌≡◌, ℕ, zero, suc, Bool, true, false, List, [], ◌∷◌, refl, ◌∙◌, ap}
-use Rattle.std.specs.Prelude.{codes}
+use Rattle.std.proofs.Common.{◌≡◌, ℕ, zero, suc, Bool, true, false, List, [], ◌∷◌, refl, sym, ◌∙◌, ap}
+use Rattle.std.specs.Prelude.{codes, Result, Ok, Err, IsOkAnd, MatchResult}
 use Rattle.std.specs.Str.{byte}
 use Prim.Native.String.{String}
 use Rattle.proto_tokens.specs.Token.{Spelled}
 use Rattle.proto_tokens.specs.declared.token.Token.{Token}
 use Rattle.proto_syntax.specs.declared.parser.stop.Stop.{Stop}
 use Rattle.proto_syntax.specs.declared.parser.stop.Stop.TheVariants as stop
-use Rattle.proto_syntax.specs.Grammar.{OneOf, Symbol, Grammar, Left, Right}
+use Rattle.proto_syntax.specs.Grammar.{OneOf, Symbol, Grammar, Tree, Left, Right}
 use Rattle.proto_syntax.specs.Reading.{Outcome, Read, Stops, mapped, read, next_fits}
-use Rattle.proto_syntax.specs.Gives.{Fails, spellings, flat_item}
+use Rattle.proto_syntax.specs.Gives.{Fails, Gives, spellings, flat_item}
 use Rattle.proto_syntax.specs.Language.{symbol, number, signed, range_of, reserved_of, import, «package», option, enum, service, statement, oneof, reserved, range, map_or_field, field, ereserved, erange, value, enum_item}
 use Rattle.proto_syntax.proofs.Levels.{IsLevel, begins_import, begins_option, begins_service, begins_oneof, begins_reserved, begins_map, begins_ereserved}
 
@@ -36,6 +36,27 @@ pub way_fails : (n : ℕ) (e : Stop) (rest : List Token) (o p : Outcome) → p �
 way_fails n stop.NoMemory rest o p i h = tt
 way_fails n stop.Unexpected rest o p i h = i ∙ ap (way n) h ∙ behind_stops n false (spellings rest)
 way_fails n stop.TooDeep rest o p i h = i ∙ ap (way n) h ∙ behind_stops n true (spellings rest)
+
+-- What was read is given in a box, unless memory runs out.
+pub boxed_gives : {X : Type 0} → (tree : X → Tree) (boxed : Result X Stop) (x : X) (rest : List Token) (o : Outcome)
+    → MatchResult boxed (λ y. y ≡ x) (λ e. e ≡ stop.NoMemory) → o ≡ Read (tree x) (spellings rest) → Gives tree boxed rest o
+boxed_gives tree (Ok y) x rest o m h = h ∙ ap (λ z. Read (tree z) (spellings rest)) (sym m)
+boxed_gives tree (Err e) x rest o m h = rw m tt
+
+-- What was read, made into an item, is the choice's where its outcome is that of the way.
+pub made_gives : {X Y : Type 0} → (make : X → Y) (tree : X → Tree) (whole : Y → Tree) (change : Outcome → Outcome) (found : Result X Stop)
+    (made : Result Y Stop) (rest : List Token) (o p : Outcome) → ((x : X) → o ≡ Read (tree x) (spellings rest)
+    → change (Read (tree x) (spellings rest)) ≡ Read (whole (make x)) (spellings rest))
+    → ((d : Bool) → change (Stops d (spellings rest)) ≡ Stops d (spellings rest)) → p ≡ change o
+    → MatchResult found (λ x. IsOkAnd made (λ y. y ≡ make x)) (λ e. made ≡ Err e) → Gives tree found rest o → Gives whole made rest p
+made_gives make tree whole change (Ok x) (Ok y) rest o p same stops i m h = i ∙ ap change h ∙ same x h ∙ ap (λ z. Read (whole z) (spellings rest)) (sym m)
+made_gives make tree whole change (Ok x) (Err e) rest o p same stops i m h = absurd m
+made_gives make tree whole change (Err e) made rest o p same stops i m h = rw m (fails e h)
+  where
+    fails : (e : Stop) → Fails e rest o → Fails e rest p
+    fails stop.NoMemory h = tt
+    fails stop.Unexpected h = i ∙ ap change h ∙ stops false
+    fails stop.TooDeep h = i ∙ ap change h ∙ stops true
 
 -- whether the next token is that word
 abbrev pub At : String → List Spelled → Bool → Type 0

@@ -1,11 +1,11 @@
 //! The commands but `serve`: what each reads, and what it writes.
 
 use crate::explanation::{write_kind, write_kinds};
-use crate::failure::{Failure, locate};
 use crate::whole_file::write_whole;
 use grpcweb_core::{Counted, Mode, answer_io};
 use proto_base::{Limit, Limits};
 use proto_compile::{CompileError, Compiled, Source, compile};
+use schema_failure::{Failure, locate};
 use schema_headline::{describe, set_of_sources};
 use share_work::{NoGate, Plan};
 use source_folder::{NamedText, read_folder};

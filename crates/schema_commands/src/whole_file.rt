@@ -1,6 +1,6 @@
 //! A file that is written whole or not at all: under a name beside it, which it then takes the place of.
 
-use crate::failure::Failure;
+use schema_failure::Failure;
 use std::alloc::AllocGlobal;
 use std::fs::{self, File, OpenFile};
 use std::io::{self, Write};

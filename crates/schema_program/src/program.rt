@@ -6,9 +6,8 @@ use crate::serving::run_serve;
 use clap::Error;
 use clap::error::ErrorKind;
 use schema_command_line::{Task, task_of};
-use schema_commands::{
-    Failure, Status, kind_names, run_answer, run_compile, run_describe, run_explain,
-};
+use schema_commands::{kind_names, run_answer, run_compile, run_describe, run_explain};
+use schema_failure::{Failure, Status};
 use std::alloc::AllocGlobal;
 use std::io::{Read, Write};
 use std::net::Net;
@@ -55,10 +54,10 @@ where
     let mut output = output;
     let mut faults = faults;
     let Ok(kinds) = kind_names(rt.alloc()) else {
-        return report(Failure::NoMemory, &mut faults) as u8;
+        return report(Failure::NoMemory, &mut faults).code();
     };
     let done = match task_of(rt.alloc(), words, &kinds) {
-        Err(error) => return print_usage(error, &mut output, &mut faults) as u8,
+        Err(error) => return print_usage(error, &mut output, &mut faults).code(),
         Ok(Task::Describe { name }) => run_describe(rt, name, input, &mut output),
         Ok(Task::Compile { root, plan, file }) => run_compile(rt, root, plan, file, &mut output),
         Ok(Task::Explain { kind }) => run_explain(kind, &mut output),
@@ -77,5 +76,5 @@ where
         Ok(()) => Status::Done,
         Err(failure) => report(failure, &mut faults),
     };
-    status as u8
+    status.code()
 }

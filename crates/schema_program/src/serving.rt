@@ -3,7 +3,8 @@
 use grpcweb_core::Mode;
 use grpcweb_service::{ServeFault, serve};
 use proto_base::Limits;
-use schema_commands::{Failure, compile_folder};
+use schema_commands::compile_folder;
+use schema_failure::Failure;
 use share_work::{NoGate, Plan};
 use std::alloc::AllocGlobal;
 use std::io::Write;

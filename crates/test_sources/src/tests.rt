@@ -5,3 +5,10 @@ mod files;
 mod lists;
 mod made_names;
 mod tokens;
+
+use std::process::Abort;
+
+/// Compares what is found for a row with what is wanted.
+fn expect(rt: &impl Abort, row: &str, found: &str, wanted: &str) {
+    assert!(rt; found == wanted, "{row}: {found}");
+}

@@ -6,7 +6,6 @@ ghost use Rattle.proto_syntax.specs.Trees.{value_tree, enum_item_tree, enum_tree
 use crate::parser::Parser;
 use crate::parser::rule::Parse;
 use crate::parser::stop::Stop;
-use proto_base::boxed::Boxed;
 use proto_base::row::Row;
 use proto_tree::{Enum, EnumItem, EnumValue, SignedNumber};
 
@@ -43,8 +42,7 @@ impl<'s> Parse<'s> for EnumItem<'s> {
             return Ok(EnumItem::Option(parser.boxed()?));
         }
         if parser.at_keyword("reserved") {
-            let reserved = parser.reserved()?;
-            return Ok(EnumItem::Reserved(Boxed::new(parser.alloc, reserved)?));
+            return Ok(EnumItem::Reserved(parser.reserved()?));
         }
         if parser.at_symbol(';') {
             let span = parser.symbol(';')?;

@@ -9,9 +9,8 @@ ghost use Rattle.proto_syntax.specs.Gives.{Gives, Reads, spellings};
 use crate::parser::Parser;
 use crate::parser::rule::Parse;
 use crate::parser::stop::Stop;
-use proto_base::boxed::Boxed;
 use proto_base::row::Row;
-use proto_tree::{FileTree, Import, Package, Statement, StringValue, Syntax};
+use proto_tree::{FileTree, Import, Package, Statement, Syntax};
 
 impl<'s, 't> Parser<'s, 't> {
     /// The `syntax` statement.
@@ -21,8 +20,7 @@ impl<'s, 't> Parser<'s, 't> {
     {
         let keyword = self.keyword("syntax")?;
         let equals = self.symbol('=')?;
-        let version = StringValue::parse(self)?;
-        let semicolon = self.symbol(';')?;
+        let (version, semicolon) = self.closed(';')?;
         Ok(Syntax {
             keyword,
             equals,
@@ -37,23 +35,22 @@ impl<'s, 't> Parser<'s, 't> {
             self.new.rest.now }
     {
         if self.at_keyword("import") {
-            return Ok(Statement::Import(self.boxed()?));
+            return self.boxed().map(Statement::Import);
         }
         if self.at_keyword("package") {
-            return Ok(Statement::Package(self.boxed()?));
+            return self.boxed().map(Statement::Package);
         }
         if self.at_keyword("option") {
-            return Ok(Statement::Option(self.boxed()?));
+            return self.boxed().map(Statement::Option);
         }
         if self.at_keyword("message") {
-            let message = self.message(depth)?;
-            return Ok(Statement::Message(Boxed::new(self.alloc, message)?));
+            return self.message(depth).map(Statement::Message);
         }
         if self.at_keyword("enum") {
-            return Ok(Statement::Enum(self.boxed()?));
+            return self.boxed().map(Statement::Enum);
         }
         if self.at_keyword("service") {
-            return Ok(Statement::Service(self.boxed()?));
+            return self.boxed().map(Statement::Service);
         }
         let span = self.symbol(';')?;
         Ok(Statement::Empty(span))
@@ -97,8 +94,7 @@ impl<'s> Parse<'s> for Import<'s> {
     fn parse(parser: &mut Parser<'s, '_>) -> Result<Self, Stop> {
         let keyword = parser.keyword("import")?;
         let public = parser.optional_keyword("public")?;
-        let path = StringValue::parse(parser)?;
-        let semicolon = parser.symbol(';')?;
+        let (path, semicolon) = parser.closed(';')?;
         Ok(Import {
             keyword,
             public,

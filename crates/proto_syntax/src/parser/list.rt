@@ -29,14 +29,17 @@ impl<'s, 't> Parser<'s, 't> {
         }
         Ok(items)
     }
+}
 
-    /// One or more, with commas between them.
-    pub(crate) fn separated<I: Parse<'s>>(&mut self) -> Result<Separated<I>, Stop>
-        ensures { Reads (separated_tree I.tree) (list_of I.rule) result self.old.rest.now
-            self.new.rest.now }
-    {
-        let first = I::parse(self)?;
-        let rest = self.many()?;
+/// One or more, with commas between them.
+impl<'s, I: Parse<'s>> Parse<'s> for Separated<I> {
+    ghost rule = { list_of I.rule };
+
+    ghost tree = { separated_tree I.tree };
+
+    fn parse(parser: &mut Parser<'s, '_>) -> Result<Self, Stop> {
+        let first = I::parse(parser)?;
+        let rest = parser.many()?;
         Ok(Separated {
             first,
             rest: Row::from_vec(rest),

@@ -53,17 +53,16 @@ impl<'s, 't> Parser<'s, 't> {
             (mapped Right (read flat_item (spellings self.old.rest.now))) }
     {
         if self.at_keyword("enum") {
-            return Ok(MessageItem::Enum(self.boxed()?));
+            return self.boxed().map(MessageItem::Enum);
         }
         if self.at_keyword("option") {
-            return Ok(MessageItem::Option(self.boxed()?));
+            return self.boxed().map(MessageItem::Option);
         }
         if self.at_keyword("oneof") {
-            return Ok(MessageItem::Oneof(self.boxed()?));
+            return self.boxed().map(MessageItem::Oneof);
         }
         if self.at_keyword("reserved") {
-            let reserved = self.reserved()?;
-            return Ok(MessageItem::Reserved(Boxed::new(self.alloc, reserved)?));
+            return self.reserved().map(MessageItem::Reserved);
         }
         if self.at_keyword("map") {
             return self.map_or_field();
@@ -72,7 +71,7 @@ impl<'s, 't> Parser<'s, 't> {
             let span = self.symbol(';')?;
             return Ok(MessageItem::Empty(span));
         }
-        Ok(MessageItem::Field(self.boxed()?))
+        self.boxed().map(MessageItem::Field)
     }
 
     /// A statement of a message.
@@ -83,8 +82,7 @@ impl<'s, 't> Parser<'s, 't> {
             self.new.rest.now }
     {
         if self.at_keyword("message") {
-            let nested = self.message(depth)?;
-            return Ok(MessageItem::Message(Boxed::new(self.alloc, nested)?));
+            return self.message(depth).map(MessageItem::Message);
         }
         self.flat_item()
     }
@@ -106,10 +104,10 @@ impl<'s, 't> Parser<'s, 't> {
         Ok((items, close))
     }
 
-    /// A message of at most that depth.
+    /// A message of at most that depth, in a box.
     #[cycle(message)]
-    #[tactic(auto, unfolding(crate::specs::Language::message))]
-    pub(crate) fn message(&mut self, depth: u64) -> Result<Message<'s>, Stop>
+    #[tactic(auto, using(crate::proofs::Ways::boxed_gives), unfolding(crate::specs::Language::message))]
+    pub(crate) fn message(&mut self, depth: u64) -> Result<Boxed<Message<'s>>, Stop>
         ensures { Reads message_tree (message depth) result self.old.rest.now self.new.rest.now }
     {
         if depth == 0 {
@@ -123,12 +121,13 @@ impl<'s, 't> Parser<'s, 't> {
         let name = self.name()?;
         let open_brace = self.symbol('{')?;
         let (items, close_brace) = self.message_body(depth - 1)?;
-        Ok(Message {
+        let message = Message {
             keyword,
             name,
             open_brace,
             items: Row::from_vec(items),
             close_brace,
-        })
+        };
+        self.in_box(message)
     }
 }

@@ -38,12 +38,12 @@ impl<'s> Parse<'s> for OneofItem<'s> {
     #[tactic(auto, using(crate::proofs::Levels::begins_option))]
     fn parse(parser: &mut Parser<'s, '_>) -> Result<Self, Stop> {
         if parser.at_keyword("option") {
-            return Ok(OneofItem::Option(parser.boxed()?));
+            return parser.boxed().map(OneofItem::Option);
         }
         if parser.at_symbol(';') {
             let span = parser.symbol(';')?;
             return Ok(OneofItem::Empty(span));
         }
-        Ok(OneofItem::Field(parser.boxed()?))
+        parser.boxed().map(OneofItem::Field)
     }
 }

@@ -18,8 +18,7 @@ impl<'s, 't> Parser<'s, 't> {
         ensures { Reads options_tree options result self.old.rest.now self.new.rest.now }
     {
         let open_bracket = self.symbol('[')?;
-        let settings = self.separated()?;
-        let close_bracket = self.symbol(']')?;
+        let (settings, close_bracket) = self.closed(']')?;
         Ok(Options {
             open_bracket,
             settings,
@@ -67,8 +66,7 @@ impl<'s> Parse<'s> for OptionStatement<'s> {
     #[tactic(auto, unfolding(crate::specs::Language::option))]
     fn parse(parser: &mut Parser<'s, '_>) -> Result<Self, Stop> {
         let keyword = parser.keyword("option")?;
-        let setting = Setting::parse(parser)?;
-        let semicolon = parser.symbol(';')?;
+        let (setting, semicolon) = parser.closed(';')?;
         Ok(OptionStatement {
             keyword,
             setting,

@@ -1,15 +1,18 @@
 //! Reserved numbers and names (proto3 language specification, "Reserved").
 
 ghost use Rattle.std.specs.Prelude.{◌≡◌, false};
-ghost use Rattle.proto_syntax.specs.Grammar.{Optional, ◌⨾◌, ◌∣◌};
+ghost use Rattle.std.specs.Str.{byte};
+ghost use Rattle.proto_syntax.specs.Grammar.{Optional, ◌⨾◌, ◌∣◌, Pair};
 ghost use Rattle.proto_syntax.specs.Reading.{can_be_empty, read};
-ghost use Rattle.proto_syntax.specs.Language.{word, str, list_of, range_of, reserved_of};
-ghost use Rattle.proto_syntax.specs.Trees.{optional, range_end_tree, range_tree, reserved_items_tree, reserved_tree};
+ghost use Rattle.proto_syntax.specs.Language.{word, symbol, str, list_of, range_of, reserved_of};
+ghost use Rattle.proto_syntax.specs.Trees.{optional, symbol_tree, range_end_tree, range_tree, reserved_items_tree, reserved_tree};
 ghost use Rattle.proto_syntax.specs.Gives.{Reads};
 
 use crate::parser::Parser;
 use crate::parser::rule::{Parse, Peek};
 use crate::parser::stop::Stop;
+use proto_base::Span;
+use proto_base::boxed::Boxed;
 use proto_tree::{Range, RangeEnd, Reserved, ReservedItems, UpperBound};
 
 impl<'s, 't> Parser<'s, 't> {
@@ -37,37 +40,39 @@ impl<'s, 't> Parser<'s, 't> {
         }))
     }
 
-    /// What a `reserved` statement lists.
+    /// What a `reserved` statement lists, and the semicolon that ends it.
     #[tactic(auto, using(crate::proofs::Levels::begins_ranges))]
-    fn reserved_items<N: Peek<'s> + Copy>(&mut self) -> Result<ReservedItems<'s, N>, Stop>
+    fn reserved_items<N: Peek<'s> + Copy>(&mut self) -> Result<(ReservedItems<'s, N>, Span), Stop>
         // The first token tells a number from a name.
         requires { can_be_empty N.rule ≡ false }
-        ensures { Reads (reserved_items_tree N.tree) (list_of (range_of N.rule) ∣ list_of str)
-            result self.old.rest.now self.new.rest.now }
+        ensures { Reads (λ p. Pair (reserved_items_tree N.tree p.0) (symbol_tree (byte ";") p.1))
+            ((list_of (range_of N.rule) ∣ list_of str) ⨾ symbol ";") result self.old.rest.now
+            self.new.rest.now }
     {
         if N::is_next(self) {
-            let ranges = self.separated()?;
-            return Ok(ReservedItems::Ranges(ranges));
+            let (ranges, semicolon) = self.closed(';')?;
+            return Ok((ReservedItems::Ranges(ranges), semicolon));
         }
-        let names = self.separated()?;
-        Ok(ReservedItems::Names(names))
+        let (names, semicolon) = self.closed(';')?;
+        Ok((ReservedItems::Names(names), semicolon))
     }
 
-    /// A `reserved` statement.
-    pub(crate) fn reserved<N: Peek<'s> + Copy>(&mut self) -> Result<Reserved<'s, N>, Stop>
+    /// A `reserved` statement, in a box.
+    #[tactic(auto, using(crate::proofs::Ways::boxed_gives))]
+    pub(crate) fn reserved<N: Peek<'s> + Copy>(&mut self) -> Result<Boxed<Reserved<'s, N>>, Stop>
         // The first token tells a number from a name.
         requires { can_be_empty N.rule ≡ false }
         ensures { Reads (reserved_tree N.tree) (reserved_of (range_of N.rule)) result
             self.old.rest.now self.new.rest.now }
     {
         let keyword = self.keyword("reserved")?;
-        let items = self.reserved_items()?;
-        let semicolon = self.symbol(';')?;
-        Ok(Reserved {
+        let (items, semicolon) = self.reserved_items()?;
+        let reserved = Reserved {
             keyword,
             items,
             semicolon,
-        })
+        };
+        self.in_box(reserved)
     }
 }
 

@@ -1,10 +1,15 @@
 //! Types that stand for a rule of the grammar.
 
+ghost use Rattle.std.specs.Prelude.{◌≡◌, MatchResult};
+ghost use Rattle.proto_syntax.specs.declared.parser.stop.Stop.TheVariants.{NoMemory};
+ghost use Rattle.proto_syntax.specs.Grammar.{◌⨾◌, One, Symbol, Pair};
 ghost use Rattle.proto_syntax.specs.Reading.{read};
+ghost use Rattle.proto_syntax.specs.Trees.{symbol_tree};
 ghost use Rattle.proto_syntax.specs.Gives.{Reads};
 
 use crate::parser::Parser;
 use crate::parser::stop::Stop;
+use proto_base::Span;
 use proto_base::boxed::Boxed;
 
 /// What a rule of the grammar is read to.
@@ -35,11 +40,29 @@ pub(crate) trait Peek<'s>: Parse<'s> {
 }
 
 impl<'s, 't> Parser<'s, 't> {
+    /// A value in a box.
+    pub(crate) fn in_box<T: Drop>(&self, value: T) -> Result<Boxed<T>, Stop>
+        ensures { MatchResult result (λ boxed. boxed ≡ value) (λ stop. stop ≡ NoMemory) }
+    {
+        Ok(Boxed::new(self.alloc, value)?)
+    }
+
     /// What the next tokens are by the rule of a type, in a box.
+    #[tactic(auto, using(crate::proofs::Ways::boxed_gives))]
     pub(crate) fn boxed<T: Parse<'s>>(&mut self) -> Result<Boxed<T>, Stop>
         ensures { Reads T.tree T.rule result self.old.rest.now self.new.rest.now }
     {
         let value = T::parse(self)?;
-        Ok(Boxed::new(self.alloc, value)?)
+        self.in_box(value)
+    }
+
+    /// What the next tokens are by the rule of a type, and the symbol behind it.
+    pub(crate) fn closed<T: Parse<'s>>(&mut self, symbol: char) -> Result<(T, Span), Stop>
+        ensures { Reads (λ p. Pair (T.tree p.0) (symbol_tree symbol p.1))
+            (T.rule ⨾ One (Symbol symbol)) result self.old.rest.now self.new.rest.now }
+    {
+        let value = T::parse(self)?;
+        let close = self.symbol(symbol)?;
+        Ok((value, close))
     }
 }

@@ -119,10 +119,10 @@ impl<'s> Parse<'s> for ServiceItem<'s> {
     #[tactic(auto, using(crate::proofs::Levels::begins_rpc, crate::proofs::Levels::begins_option))]
     fn parse(parser: &mut Parser<'s, '_>) -> Result<Self, Stop> {
         if parser.at_keyword("rpc") {
-            return Ok(ServiceItem::Rpc(parser.boxed()?));
+            return parser.boxed().map(ServiceItem::Rpc);
         }
         if parser.at_keyword("option") {
-            return Ok(ServiceItem::Option(parser.boxed()?));
+            return parser.boxed().map(ServiceItem::Option);
         }
         let span = parser.symbol(';')?;
         Ok(ServiceItem::Empty(span))
@@ -137,7 +137,7 @@ impl<'s> Parse<'s> for RpcItem<'s> {
     #[tactic(auto, using(crate::proofs::Levels::begins_option))]
     fn parse(parser: &mut Parser<'s, '_>) -> Result<Self, Stop> {
         if parser.at_keyword("option") {
-            return Ok(RpcItem::Option(parser.boxed()?));
+            return parser.boxed().map(RpcItem::Option);
         }
         let span = parser.symbol(';')?;
         Ok(RpcItem::Empty(span))

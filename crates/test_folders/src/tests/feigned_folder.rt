@@ -203,12 +203,13 @@ fn error_of(word: &str) -> Option<Error> {
 /// A folder by the kind of its entries, their name, their count and an error, and what is read of it: `files`, an entry
 /// that the system does not describe (`hidden`), a source that cannot be read to its end (`broken`), or a `device`.
 fn row_of(line: &str) -> Option<(Folder, &str)> {
-    let mut fields = line.split('|');
-    let kind = fields.next()?;
-    let name = name_of(fields.next()?)?;
-    let entries = fields.next()?.parse().ok()?;
-    let error = error_of(fields.next()?);
-    let wanted = fields.next()?;
+    let (kind, rest) = line.split_once('|')?;
+    let (name, rest) = rest.split_once('|')?;
+    let (entries, rest) = rest.split_once('|')?;
+    let (error, wanted) = rest.split_once('|')?;
+    let name = name_of(name)?;
+    let entries = entries.parse().ok()?;
+    let error = error_of(error);
     let folder = Folder {
         name,
         entries,

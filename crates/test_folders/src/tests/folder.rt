@@ -1,36 +1,46 @@
 //! What is read of folders of the system, compared with what was put into them by hand.
 
 use proto_base::{Limit, Limits};
-use source_folder::{FolderFault, read_folder};
-use std::alloc::AllocGlobal;
-use std::fs;
+use source_folder::{FolderFault, NamedText, read_folder};
+use std::alloc::{AllocError, AllocGlobal, Global};
 use std::os::unix::fs::symlink;
+use std::process::Abort;
 use std::rt::Files;
 use std::test::Fail;
+use std::{fs, io};
+
+/// Puts a source's name and text behind what is shown.
+fn put_source(shown: &mut String, source: &NamedText) -> Result<(), AllocError> {
+    shown.push_str(source.name.as_str())?;
+    shown.push('=')?;
+    for byte in &source.text {
+        shown.push(char::from(*byte))?;
+    }
+    shown.push(';')
+}
+
+/// The names and texts of sources.
+fn shown(alloc: Global, sources: &[NamedText]) -> Result<String, AllocError> {
+    let mut shown = String::new(alloc);
+    for source in sources {
+        put_source(&mut shown, source)?;
+    }
+    Ok(shown)
+}
 
 /// The names and texts that are read of a folder, or the fault.
 pub(super) fn read<R: Files + AllocGlobal>(
     rt: &R,
     root: &str,
     limits: &Limits,
-) -> Result<String, Fail> {
-    let mut shown = String::new(rt.alloc());
-    match read_folder(rt, root, limits) {
-        Ok(sources) => {
-            for source in &sources {
-                shown.push_str(source.name.as_str())?;
-                shown.push('=')?;
-                for byte in &source.text {
-                    shown.push(char::from(*byte))?;
-                }
-                shown.push(';')?;
-            }
-        }
-        Err(FolderFault::Listing) => shown.push_str("Listing")?,
-        Err(FolderFault::Reading) => shown.push_str("Reading")?,
-        Err(FolderFault::NoMemory) => shown.push_str("NoMemory")?,
-    }
-    Ok(shown)
+) -> Result<String, AllocError> {
+    let fault = match read_folder(rt, root, limits) {
+        Ok(sources) => return shown(rt.alloc(), &sources),
+        Err(FolderFault::Listing) => "Listing",
+        Err(FolderFault::Reading) => "Reading",
+        Err(FolderFault::NoMemory) => "NoMemory",
+    };
+    String::from_str(rt.alloc(), fault)
 }
 
 /// What is done to folders: a `folder`, a `file` of a text or a `link` to a path is made there, or a root is `read` with
@@ -44,11 +54,10 @@ struct Step<'t> {
 }
 
 fn step_of(line: &str) -> Option<Step<'_>> {
-    let mut fields = line.split('|');
-    let action = fields.next()?;
-    let path = fields.next()?;
-    let most = fields.next()?.parse().ok()?;
-    let text = fields.next()?;
+    let (action, rest) = line.split_once('|')?;
+    let (path, rest) = rest.split_once('|')?;
+    let (most, text) = rest.split_once('|')?;
+    let most = most.parse().ok()?;
     Some(Step {
         action,
         path,
@@ -57,24 +66,32 @@ fn step_of(line: &str) -> Option<Step<'_>> {
     })
 }
 
-/// Takes a step, and says whether what is read is what is wanted.
-fn is_taken<R: Files + AllocGlobal>(rt: &R, step: Step) -> Result<bool, Fail> {
+/// Makes a folder, a file or a link.
+fn make<R: Files + AllocGlobal>(rt: &R, step: Step) -> io::Result<()> {
     match step.action {
-        "folder" => fs::create_dir_all(rt, step.path)?,
-        "file" => fs::write(rt, step.path, step.text)?,
-        "link" => symlink(rt, step.text, step.path)?,
-        _ => return is_read(rt, step),
+        "folder" => fs::create_dir_all(rt, step.path),
+        "file" => fs::write(rt, step.path, step.text),
+        _ => symlink(rt, step.text, step.path),
     }
-    Ok(true)
 }
 
-fn is_read<R: Files + AllocGlobal>(rt: &R, step: Step) -> Result<bool, Fail> {
-    let standard = Limits::standard();
-    let limits = standard
-        .lowered(Limit::FileBytes, step.most)
-        .ok_or("a limit")?;
-    let shown = read(rt, step.path, &limits)?;
-    Ok(shown.as_str() == step.text)
+/// Whether what is read is what is wanted.
+fn is_read<R: Files + AllocGlobal>(rt: &R, step: Step) -> Result<bool, AllocError> {
+    let Some(limits) = Limits::standard().lowered(Limit::FileBytes, step.most) else {
+        return Ok(false);
+    };
+    Ok(read(rt, step.path, &limits)?.as_str() == step.text)
+}
+
+/// Takes a line's step.
+fn take<R: Files + AllocGlobal + Abort>(rt: &R, line: &str) -> Result<(), Fail> {
+    let step = step_of(line).ok_or("a step")?;
+    if step.action == "read" {
+        assert!(rt; is_read(rt, step)?, "{line}");
+    } else {
+        make(rt, step)?;
+    }
+    Ok(())
 }
 
 /// A root is a folder that is there. Links are followed; a cycle of them comes to its end. What cannot be listed comes
@@ -125,35 +142,50 @@ read|test_folder/links/in|4194304|Listing";
 fn folders_are_read(rt: HostRuntime) -> Result<(), Fail> {
     let _ = fs::remove_dir_all(&rt, "test_folder");
     for line in STEPS.lines() {
-        let step = step_of(line).ok_or("a step")?;
-        assert!(rt; is_taken(&rt, step)?, "{line}");
+        take(&rt, line)?;
     }
     fs::remove_dir_all(&rt, "test_folder")?;
     Ok(())
 }
 
 /// A path of so many folders inside one another, below a root.
-fn deep_path<R: AllocGlobal>(rt: &R, root: &str, depth: u32) -> Result<String, Fail> {
-    let mut path = String::from_str(rt.alloc(), root)?;
+fn deep_path(alloc: Global, root: &str, depth: u32) -> Result<String, AllocError> {
+    let mut path = String::from_str(alloc, root)?;
     for _ in 0..depth {
         path.push_str("/d")?;
     }
     Ok(path)
 }
 
+/// Makes so many folders inside one another, and a file in the last one.
+fn make_deep_file<R: Files + AllocGlobal>(rt: &R, root: &str, depth: u32) -> Result<(), Fail> {
+    let mut path = deep_path(rt.alloc(), root, depth)?;
+    fs::create_dir_all(rt, path.as_str())?;
+    path.push_str("/f.proto")?;
+    fs::write(rt, path.as_str(), "text")?;
+    Ok(())
+}
+
+/// Whether a file in the 64th folder is read.
+fn is_deep_file_read<R: Files + AllocGlobal>(rt: &R, root: &str) -> Result<bool, Fail> {
+    make_deep_file(rt, root, 64)?;
+    let shown = read(rt, root, &Limits::standard())?;
+    Ok(shown.ends_with("d/d/f.proto=text;"))
+}
+
+/// Whether a 65th folder is refused.
+fn is_deeper_folder_refused<R: Files + AllocGlobal>(rt: &R, root: &str) -> Result<bool, Fail> {
+    let path = deep_path(rt.alloc(), root, 65)?;
+    fs::create_dir_all(rt, path.as_str())?;
+    Ok(read(rt, root, &Limits::standard())?.as_str() == "Listing")
+}
+
 #[test]
 fn a_folder_is_at_most_64_folders_deep(rt: HostRuntime) -> Result<(), Fail> {
     let root = "test_folder_deep";
     let _ = fs::remove_dir_all(&rt, root);
-    let mut path = deep_path(&rt, root, 64)?;
-    fs::create_dir_all(&rt, path.as_str())?;
-    path.push_str("/f.proto")?;
-    fs::write(&rt, path.as_str(), "text")?;
-    let shown = read(&rt, root, &Limits::standard())?;
-    assert!(rt; shown.ends_with("d/d/f.proto=text;"));
-    fs::create_dir_all(&rt, deep_path(&rt, root, 65)?.as_str())?;
-    let shown = read(&rt, root, &Limits::standard())?;
-    assert!(rt; shown.as_str() == "Listing");
+    assert!(rt; is_deep_file_read(&rt, root)?);
+    assert!(rt; is_deeper_folder_refused(&rt, root)?);
     fs::remove_dir_all(&rt, root)?;
     Ok(())
 }

@@ -1,10 +1,11 @@
 //! Two threads at one word, and seats that keep a table open.
 
-ghost use Rattle.std.specs.Prelude.{◌≡◌, ◌<◌};
+ghost use Rattle.std.specs.Prelude.{◌≡◌, ◌<◌, length};
 
-use share_work::{LeastSeat, LeastTable, NONE, calls_replay};
+use share_work::{Least, LeastSeat, LeastTable, NONE, calls_replay};
+use std::process::Abort;
 use std::test::Fail;
-use std::thread;
+use std::thread::{self, Threads};
 
 /// How often a thread looks before the test fails.
 const TURNS: u64 = 1_000_000_000;
@@ -44,43 +45,99 @@ fn are_seen(here: Seen, there: Seen, first: u64, second: u64) -> bool {
     came && is_least && (here_first || there_first)
 }
 
+/// Posts a number in each of two threads, where both read the least of the two at last.
+fn post_both<R: Threads + Abort>(
+    rt: &R,
+    table: &LeastTable,
+    seats: (LeastSeat, LeastSeat),
+    numbers: (u64, u64),
+) -> (LeastSeat, LeastSeat)
+    requires tables { (seats.0.table ≡ table.now.table) × (seats.1.table ≡ table.now.table) }
+    requires posts { (0 < table.now.count) × (numbers.0 < NONE) × (numbers.1 < NONE) }
+    ensures { (result.0.table ≡ table.now.table) × (result.1.table ≡ table.now.table) }
+{
+    let (seat, other) = seats;
+    let (first, second) = numbers;
+    let least = first.min(second);
+    let ((here, seat), (there, other)) = thread::join(
+        rt,
+        move || -> (Seen, LeastSeat)
+            requires { (seat.table ≡ table.now.table) × (0 < table.now.count) × (first < NONE) }
+            ensures { result.1.table ≡ table.entry.now.table }
+        {
+            let mut seat = seat;
+            let seen = post_and_read(table, &mut seat, first, least);
+            (seen, seat)
+        },
+        move || -> (Seen, LeastSeat)
+            requires { (other.table ≡ table.now.table) × (0 < table.now.count) × (second < NONE) }
+            ensures { result.1.table ≡ table.entry.now.table }
+        {
+            let mut other = other;
+            let seen = post_and_read(table, &mut other, second, least);
+            (seen, other)
+        },
+    );
+    assert!(rt; are_seen(here, there, first, second), "{here:?}, {there:?}");
+    (seat, other)
+}
+
+/// The words of a table, of whose parts the seat has all.
+pub(super) fn closed<R: Abort>(rt: &R, table: LeastTable, seat: LeastSeat) -> Least
+    requires { seat.table ≡ table.table }
+    ensures { length result ≡ table.count }
+{
+    let Ok(words) = table.close(seat) else {
+        panic!(rt; "not closed")
+    };
+    words
+}
+
+/// The table and its seat again, since parts are out.
+fn kept_open<R: Abort>(rt: &R, table: LeastTable, seat: LeastSeat) -> (LeastTable, LeastSeat)
+    requires { seat.table ≡ table.table }
+    ensures { (result.0 ≡ table) × (result.1 ≡ seat) }
+{
+    let Err(back) = table.close(seat) else {
+        panic!(rt; "closed with a part out")
+    };
+    back
+}
+
 #[test]
 fn two_threads(rt: HostRuntime) -> Result<(), Fail> {
     for (first, second) in [(5, 3), (5, 5)] {
         let (table, mut seat) = LeastTable::new(rt.alloc(), 1)?;
-        let mut other = table.split(&mut seat, 1);
-        let least = first.min(second);
-        let shared = &table;
-        let ((here, seat), (there, other)) = thread::join(
-            &rt,
-            move || -> (Seen, LeastSeat)
-                requires { (seat.table ≡ shared.now.table) × (0 < shared.now.count) × (first < NONE) }
-                ensures { result.1.table ≡ shared.entry.now.table }
-            {
-                let mut seat = seat;
-                let seen = post_and_read(shared, &mut seat, first, least);
-                (seen, seat)
-            },
-            move || -> (Seen, LeastSeat)
-                requires { (other.table ≡ shared.now.table) × (0 < shared.now.count) × (second < NONE) }
-                ensures { result.1.table ≡ shared.entry.now.table }
-            {
-                let mut other = other;
-                let seen = post_and_read(shared, &mut other, second, least);
-                (seen, other)
-            },
-        );
-        assert!(rt; are_seen(here, there, first, second), "{here:?}, {there:?}");
-        let Err((table, mut seat)) = table.close(seat) else {
-            panic!(rt; "{first} and {second}: closed before the join")
-        };
+        let other = table.split(&mut seat, 1);
+        let (seat, other) = post_both(&rt, &table, (seat, other), (first, second));
+        let (table, mut seat) = kept_open(&rt, table, seat);
         table.join(&mut seat, other);
-        let Ok(words) = table.close(seat) else {
-            panic!(rt; "{first} and {second}: not closed after the join")
-        };
-        assert!(rt; words.get(0) == least, "{first} and {second}");
+        let words = closed(&rt, table, seat);
+        assert!(rt; words.get(0) == first.min(second), "{first} and {second}");
     }
     Ok(())
+}
+
+/// Posts of two seats at several words, and what is seen then.
+fn post_and_look<R: Abort>(rt: &R, table: &LeastTable, seat: &mut LeastSeat, other: &mut LeastSeat)
+    requires { (seat.old.table ≡ table.now.table) × (other.old.table ≡ table.now.table)
+        × (table.now.count ≡ 3) }
+    ensures { (seat.new.table ≡ seat.old.table) × (other.new.table ≡ other.old.table) }
+{
+    let answers = [
+        table.post(seat, 0, 4),
+        table.post(other, 2, 9),
+        table.post(other, 0, 3),
+        table.post(seat, 2, 1),
+        table.post(seat, 2, 5),
+    ];
+    assert!(rt; answers == [NONE, NONE, 4, 9, 1]);
+    let looks = [
+        table.least(other, 0),
+        table.least(other, 1),
+        table.least(other, 2),
+    ];
+    assert!(rt; looks == [3, NONE, 1]);
 }
 
 /// Posts, looks and joins of one thread at several words.
@@ -89,24 +146,9 @@ fn one_thread(rt: HostRuntime) -> Result<(), Fail> {
     calls_replay();
     let (table, mut seat) = LeastTable::new(rt.alloc(), 3)?;
     let mut other = table.split(&mut seat, 1);
-    let answers = [
-        table.post(&mut seat, 0, 4),
-        table.post(&mut other, 2, 9),
-        table.post(&mut other, 0, 3),
-        table.post(&mut seat, 2, 1),
-        table.post(&mut seat, 2, 5),
-    ];
-    assert!(rt; answers == [NONE, NONE, 4, 9, 1]);
-    let looks = [
-        table.least(&mut other, 0),
-        table.least(&mut other, 1),
-        table.least(&mut other, 2),
-    ];
-    assert!(rt; looks == [3, NONE, 1]);
+    post_and_look(&rt, &table, &mut seat, &mut other);
     table.join(&mut seat, other);
-    let Ok(words) = table.close(seat) else {
-        panic!(rt; "not closed")
-    };
+    let words = closed(&rt, table, seat);
     assert!(rt; words.get(0) == 3 && words.get(1) == NONE && words.get(2) == 1);
     Ok(())
 }
@@ -118,11 +160,9 @@ fn dropped_seat(rt: HostRuntime) -> Result<(), Fail> {
         let (table, mut seat) = LeastTable::new(rt.alloc(), count)?;
         assert!(rt; seat.parts() == 1 << 32);
         drop(table.split(&mut seat, 7));
-        let Err((table, seat)) = table.close(seat) else {
-            panic!(rt; "closed with a part out")
-        };
+        let (table, seat) = kept_open(&rt, table, seat);
         assert!(rt; seat.parts() == (1 << 32) - 7);
-        assert!(rt; table.close(seat).is_err());
+        kept_open(&rt, table, seat);
     }
     Ok(())
 }

@@ -1,9 +1,10 @@
 //! Marks over the reach of two files, of which file 0 reaches both and file 1 itself.
 
-ghost use Rattle.std.specs.Prelude.{◌≡◌, ◌<◌};
+ghost use Rattle.std.specs.Prelude.{◌≡◌, ◌<◌, length};
 ghost use Rattle.test_shares.specs.SmallReach.{two};
 
-use share_work::{MarkSeat, MarkTable, NONE, Reach};
+use share_work::{Least, MarkSeat, MarkTable, NONE, Reach};
+use std::process::Abort;
 use std::test::Fail;
 use std::thread::{Threads, join_mut};
 
@@ -70,6 +71,17 @@ fn mark_both<R: Threads>(
     join_mut(rt, &mut here, &mut there);
 }
 
+/// The words of a table, of whose parts the seat has all.
+fn closed<R: Abort>(rt: &R, table: MarkTable<'_, Two>, seat: MarkSeat) -> Least
+    requires { seat.table ≡ table.table }
+    ensures { length result ≡ 2 }
+{
+    let Ok(words) = table.close(seat) else {
+        panic!(rt; "not closed")
+    };
+    words
+}
+
 #[test]
 fn one_seat(rt: HostRuntime) -> Result<(), Fail> {
     let reach = Two;
@@ -81,11 +93,26 @@ fn one_seat(rt: HostRuntime) -> Result<(), Fail> {
         table.mark(&mut seat, 0, 4),
     ];
     assert!(rt; answers == [NONE, 5, 5, 5]);
-    let Ok(words) = table.close(seat) else {
-        panic!(rt; "not closed")
-    };
+    let words = closed(&rt, table, seat);
     assert!(rt; words.get(0) == 4 && words.get(1) == 3);
     Ok(())
+}
+
+/// Joins seats, which only then close their table.
+fn close_joined<R: Abort>(
+    rt: &R,
+    table: MarkTable<'_, Two>,
+    seat: MarkSeat,
+    other: MarkSeat,
+) -> Least
+    requires { (seat.table ≡ table.table) × (other.table ≡ table.table) }
+    ensures { length result ≡ 2 }
+{
+    let Err((table, mut seat)) = table.close(seat) else {
+        panic!(rt; "closed before the join")
+    };
+    table.join(&mut seat, other);
+    closed(rt, table, seat)
 }
 
 #[test]
@@ -95,13 +122,7 @@ fn two_threads(rt: HostRuntime) -> Result<(), Fail> {
     let mut other = table.split(&mut seat, 1);
     assert!(rt; seat.parts() == (1 << 32) - 1 && other.parts() == 1);
     mark_both(&rt, &table, &mut seat, &mut other);
-    let Err((table, mut seat)) = table.close(seat) else {
-        panic!(rt; "closed before the join")
-    };
-    table.join(&mut seat, other);
-    let Ok(words) = table.close(seat) else {
-        panic!(rt; "not closed after the join")
-    };
+    let words = close_joined(&rt, table, seat, other);
     assert!(rt; words.get(0) == 3 && words.get(1) == 3);
     Ok(())
 }

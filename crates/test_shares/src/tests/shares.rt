@@ -2,6 +2,7 @@
 
 ghost use Rattle.std.specs.Prelude.{⊤, ◌≡◌, ◌<◌, All, IfOk, IfSome, length};
 
+use super::least_tables::closed;
 use share_work::{Gate, LeastSeat, LeastTable, NoGate, Plan, Work, in_shares};
 use std::alloc::{AllocError, AllocGlobal, Global};
 use std::process::Abort;
@@ -74,7 +75,36 @@ impl Gate for Entries {
     }
 }
 
-/// Shares out that many items in phase 4, compares the outs with them, and gives each worker's places.
+/// That many items.
+fn items_of(alloc: Global, count: u32) -> Result<Vec<u32>, AllocError> {
+    let mut items = Vec::new(alloc);
+    for i in 0..count {
+        items.push(i.wrapping_mul(7))?;
+    }
+    Ok(items)
+}
+
+/// Shares out that many items in phase 4, and compares the outs with them.
+fn share_items<R: Threads + AllocGlobal + Abort + Sync>(
+    rt: &R,
+    plan: Plan,
+    count: u32,
+    gate: &Entries,
+    seats: &mut [u64],
+) -> Result<(), Fail>
+    requires { length seats.old ≡ plan.workers }
+{
+    let items = items_of(rt.alloc(), count)?;
+    let outs = in_shares(rt, plan, 4, gate, items.as_slice(), &Places, seats)?;
+    let (workers, cut) = (plan.workers(), plan.cut());
+    assert!(rt;
+        outs == items,
+        "{workers} workers, cut {cut}, {count} items"
+    );
+    Ok(())
+}
+
+/// Shares out that many items, and gives each worker's places.
 fn shared<R: Threads + AllocGlobal + Abort + Sync>(
     rt: &R,
     workers: u32,
@@ -83,21 +113,8 @@ fn shared<R: Threads + AllocGlobal + Abort + Sync>(
     gate: &Entries,
 ) -> Result<Vec<u64>, Fail> {
     let plan = Plan::new(workers, cut).ok_or("a plan")?;
-    let mut items: Vec<u32> = Vec::new(rt.alloc());
-    for i in 0..count {
-        items.push(i.wrapping_mul(7))?;
-    }
     let mut seats = Vec::from_elem(rt.alloc(), 1, plan.workers() as usize)?;
-    let outs = in_shares(
-        rt,
-        plan,
-        4,
-        gate,
-        items.as_slice(),
-        &Places,
-        seats.as_mut_slice(),
-    )?;
-    assert_eq!(rt; outs, items, "{workers} workers, cut {cut}, {count} items");
+    share_items(rt, plan, count, gate, seats.as_mut_slice())?;
     Ok(seats)
 }
 
@@ -211,24 +228,25 @@ impl Work<u32> for Meeting {
     }
 }
 
+/// Whether both items were given, and the first one's worker saw the other one begin.
+fn are_met<R: Threads + AllocGlobal + Sync>(
+    rt: &R,
+    meeting: &Meeting,
+    seats: &mut [u64],
+) -> Result<bool, Fail>
+    requires { length seats.old ≡ 2 }
+{
+    let plan = Plan::new(2, 1).ok_or("a plan")?;
+    let outs = in_shares(rt, plan, 1, meeting, &[5, 6], meeting, seats)?;
+    let missed = meeting.missed.load(Ordering::SeqCst);
+    Ok(outs.as_slice() == [5, 6].as_slice() && missed == 0)
+}
+
 /// The first of two items can end only where the other one's worker is at work beside it.
 #[test]
 fn workers_meet(rt: HostRuntime) -> Result<(), Fail> {
     for at_gate in [false, true] {
-        let plan = Plan::new(2, 1).ok_or("a plan")?;
-        let mut seats = Vec::from_elem(rt.alloc(), 1, plan.workers() as usize)?;
-        let meeting = Meeting::new(at_gate);
-        let outs = in_shares(
-            &rt,
-            plan,
-            1,
-            &meeting,
-            &[5, 6],
-            &meeting,
-            seats.as_mut_slice(),
-        )?;
-        let missed = meeting.missed.load(Ordering::SeqCst);
-        let is_met = outs.as_slice() == [5, 6].as_slice() && missed == 0;
+        let is_met = are_met(&rt, &Meeting::new(at_gate), &mut [1, 1])?;
         assert!(rt; is_met, "at the gate: {at_gate}");
     }
     Ok(())
@@ -294,37 +312,64 @@ fn join_seats(table: &LeastTable, seats: Vec<LeastSeat>) -> Option<LeastSeat>
 /// The number that is refused, and the least of the others.
 static REFUSED: [(u64, u64); 3] = [(3, 5), (9, 3), (100, 3)];
 
+/// Two seats that have all parts of a table.
+fn two_seats(
+    alloc: Global,
+    table: &LeastTable,
+    seat: LeastSeat,
+) -> Result<Vec<LeastSeat>, AllocError>
+    requires { (seat.table ≡ table.now.table) × (1 < seat.view.parts) }
+    ensures { IfOk result (λ seats. (length seats.items ≡ 2)
+        × All (λ s. s.table ≡ table.now.table) seats.items) }
+{
+    let mut seat = seat;
+    let mut seats = Vec::with_capacity(alloc, 2)?;
+    seats.push(table.split(&mut seat, 1))?;
+    seats.push(seat)?;
+    Ok(seats)
+}
+
+/// Two workers post numbers, and one has no memory for the refused one.
+fn post_in_shares<R: Threads + AllocGlobal + Abort + Sync>(
+    rt: &R,
+    table: &LeastTable,
+    seats: &mut [LeastSeat],
+    refused: u64,
+) -> Result<(), Fail>
+    requires sizes { (0 < table.now.count) × (length seats.old ≡ 2) }
+    requires tables { All (λ s. s.table ≡ table.now.table) seats.old }
+    ensures { All (λ s. s.table ≡ table.now.table) seats.new }
+{
+    let plan = Plan::new(2, 1).ok_or("a plan")?;
+    let work = Posting { table, refused };
+    let outs = in_shares(rt, plan, 1, &NoGate, &[9, 3, 5], &work, seats);
+    assert!(rt; outs.is_err() == (refused < 100), "{refused}");
+    Ok(())
+}
+
+/// The seat of all parts, after two workers posted.
+fn seat_after_shares<R: Threads + AllocGlobal + Abort + Sync>(
+    rt: &R,
+    table: &LeastTable,
+    seat: LeastSeat,
+    refused: u64,
+) -> Result<LeastSeat, Fail>
+    requires { (0 < table.now.count) × (seat.table ≡ table.now.table) × (1 < seat.view.parts) }
+    ensures { IfOk result (λ s. s.table ≡ table.now.table) }
+{
+    let mut seats = two_seats(rt.alloc(), table, seat)?;
+    post_in_shares(rt, table, seats.as_mut_slice(), refused)?;
+    Ok(join_seats(table, seats).ok_or("a seat")?)
+}
+
 /// After a refusal the lent seats, joined, close their table.
 #[test]
 fn seats_after_a_refusal(rt: HostRuntime) -> Result<(), Fail> {
     for (refused, least) in &REFUSED {
-        let (refused, least) = (*refused, *least);
-        let plan = Plan::new(2, 1).ok_or("a plan")?;
-        let (table, mut seat) = LeastTable::new(rt.alloc(), 1)?;
-        let mut seats = Vec::new(rt.alloc());
-        seats.push(table.split(&mut seat, 1))?;
-        seats.push(seat)?;
-        let shared = &table;
-        let work = Posting {
-            table: shared,
-            refused,
-        };
-        assert_eq!(rt; seats.len(), plan.workers() as usize);
-        let outs = in_shares(
-            &rt,
-            plan,
-            1,
-            &NoGate,
-            &[9, 3, 5],
-            &work,
-            seats.as_mut_slice(),
-        );
-        assert!(rt; outs.is_err() == (refused < 100), "{refused}");
-        let seat = join_seats(shared, seats).ok_or("a seat")?;
-        let Ok(words) = table.close(seat) else {
-            panic!(rt; "{refused}: not closed")
-        };
-        assert!(rt; words.get(0) == least, "{refused}");
+        let (table, seat) = LeastTable::new(rt.alloc(), 1)?;
+        let seat = seat_after_shares(&rt, &table, seat, *refused)?;
+        let words = closed(&rt, table, seat);
+        assert!(rt; words.get(0) == *least, "{refused}");
     }
     Ok(())
 }

@@ -5,6 +5,7 @@ use proto_base::text::Text;
 use proto_base::{Fault, Kind, Limit, Limits, Place, line_column};
 use std::alloc::{AllocError, Global};
 use std::borrow::CowStr;
+use std::process::Abort;
 use std::test::Fail;
 
 /// Texts, offsets in them, and the lines and columns there.
@@ -68,15 +69,23 @@ static FAULTS: [(u8, &str, u8, u32, Kind); 11] = [
     (2, "", 0, 0, Kind::ImportMissing),
 ];
 
-#[test]
-fn places_and_kinds(rt: HostRuntime) -> Result<(), Fail> {
-    for (row, (text, offset, wanted)) in PLACES.iter().enumerate() {
-        if *offset as usize > text.len() || *offset >= 100 {
-            return Err("a place outside its text".into());
-        }
-        let found = line_column(text, Place { offset: *offset });
-        assert!(rt; found == *wanted, "place {row}");
+/// The line and the column of an offset, which stands in its text.
+fn found_at(text: &[u8], offset: u32) -> Option<(u32, u32)> {
+    if offset as usize > text.len() || offset >= 100 {
+        return None;
     }
+    Some(line_column(text, Place { offset }))
+}
+
+#[test]
+fn places(rt: HostRuntime) {
+    for (row, (text, offset, wanted)) in PLACES.iter().enumerate() {
+        assert!(rt; found_at(text, *offset) == Some(*wanted), "place {row}");
+    }
+}
+
+#[test]
+fn kinds(rt: HostRuntime) -> Result<(), Fail> {
     for (kind, number, name) in &KINDS {
         let shown = format!(in rt.alloc(); "{kind}")?;
         let is_named = kind.name() == *name && shown.as_str() == *name;
@@ -109,22 +118,33 @@ fn limits(rt: HostRuntime) -> Result<(), Fail> {
     Ok(())
 }
 
-#[test]
-fn order_of_faults(rt: HostRuntime) -> Result<(), Fail> {
-    let mut faults = Vec::new(rt.alloc());
+/// The faults of the table.
+fn faults(alloc: Global) -> Result<Vec<Fault>, AllocError> {
+    let mut faults = Vec::with_capacity(alloc, FAULTS.len())?;
     for (pass, file, step, offset, kind) in &FAULTS {
         faults.push(Fault {
             pass: *pass,
-            file: String::from_str(rt.alloc(), file)?,
+            file: String::from_str(alloc, file)?,
             step: *step,
             place: Place { offset: *offset },
             kind: *kind,
         })?;
     }
-    for (i, earlier) in faults.iter().enumerate() {
-        for (j, later) in faults.iter().enumerate() {
-            assert!(rt; earlier.order(later) == i.cmp(&j), "{i} and {j}");
-        }
+    Ok(faults)
+}
+
+/// Compares the order of the fault at a place with each with that of their places.
+fn expect_order(rt: &impl Abort, faults: &[Fault], i: usize, fault: &Fault) {
+    for (j, other) in faults.iter().enumerate() {
+        assert!(rt; fault.order(other) == i.cmp(&j), "{i} and {j}");
+    }
+}
+
+#[test]
+fn order_of_faults(rt: HostRuntime) -> Result<(), Fail> {
+    let faults = faults(rt.alloc())?;
+    for (i, fault) in faults.iter().enumerate() {
+        expect_order(&rt, &faults, i, fault);
     }
     Ok(())
 }

@@ -1,12 +1,14 @@
 //! Files by themselves: what they describe, under the standard limits and under lower ones.
 
+use super::expect;
 use proto_base::{Limit, Limits};
 use proto_desc::file::FileDesc;
 use proto_desc::is_resolved;
 use proto_desc::options::{OptionDesc, OptionValue};
 use proto_file::{FileError, describe};
-use std::alloc::{AllocError, Global};
+use std::alloc::{AllocError, AllocGlobal, Global};
 use std::borrow::CowStr;
+use std::process::Abort;
 use std::test::Fail;
 
 /// Whether the value of the first option, if there is one, is a text that is the source's own.
@@ -65,7 +67,7 @@ fn described(rt: HostRuntime) -> Result<(), Fail> {
     for row in ROWS.lines() {
         let (text, wanted) = row.split_once(" -> ").ok_or("a row")?;
         let found = judged(rt.alloc(), text, &standard)?;
-        assert!(rt; found.as_str() == wanted, "{row}: {found}");
+        expect(&rt, row, found.as_str(), wanted);
     }
     Ok(())
 }
@@ -79,17 +81,21 @@ struct LimitRow<'t> {
     text: &'t str,
 }
 
+fn limit_of(name: &str) -> Option<Limit> {
+    match name {
+        "NameBytes" => Some(Limit::NameBytes),
+        "FullNameBytes" => Some(Limit::FullNameBytes),
+        "Depth" => Some(Limit::Depth),
+        _ => None,
+    }
+}
+
 fn row_of(line: &str) -> Option<LimitRow<'_>> {
-    let mut fields = line.split('|');
-    let limit = match fields.next()? {
-        "NameBytes" => Limit::NameBytes,
-        "FullNameBytes" => Limit::FullNameBytes,
-        "Depth" => Limit::Depth,
-        _ => return None,
-    };
-    let least = fields.next()?.parse().ok()?;
-    let fault = fields.next()?;
-    let text = fields.next()?;
+    let (limit, rest) = line.split_once('|')?;
+    let (least, rest) = rest.split_once('|')?;
+    let (fault, text) = rest.split_once('|')?;
+    let limit = limit_of(limit)?;
+    let least = least.parse().ok()?;
     Some(LimitRow {
         limit,
         least,
@@ -123,19 +129,32 @@ Depth|1|no limit|syntax = 'proto3'; message A {}
 Depth|2|TooDeep at 31|syntax = 'proto3'; message A { message B {} }
 "##;
 
+/// What is told of a row's source where its limit has this value. No limit is 0.
+fn judged_at(alloc: Global, row: LimitRow, value: u64) -> Result<String, AllocError> {
+    match Limits::standard().lowered(row.limit, value) {
+        Some(limits) => judged(alloc, row.text, &limits),
+        None => String::from_str(alloc, "no limit"),
+    }
+}
+
+/// Whether a row's source is a file under the least that suffices.
+fn is_enough(alloc: Global, row: LimitRow) -> Result<bool, AllocError> {
+    Ok(judged_at(alloc, row, row.least)?.starts_with("a file"))
+}
+
+/// Compares what is told under the least that suffices and under one less with what is wanted.
+fn compare<R: AllocGlobal + Abort>(rt: &R, line: &str) -> Result<(), Fail> {
+    let row = row_of(line).ok_or("a row")?;
+    assert!(rt; is_enough(rt.alloc(), row)?, "{line}");
+    let found = judged_at(rt.alloc(), row, row.least.saturating_sub(1))?;
+    expect(rt, line, found.as_str(), row.fault);
+    Ok(())
+}
+
 #[test]
 fn limited(rt: HostRuntime) -> Result<(), Fail> {
-    let standard = Limits::standard();
     for line in LIMIT_ROWS.lines() {
-        let row = row_of(line).ok_or("a row")?;
-        let enough = standard.lowered(row.limit, row.least).ok_or("a limit")?;
-        let found = judged(rt.alloc(), row.text, &enough)?;
-        assert!(rt; found.starts_with("a file"), "{line}: {found}");
-        // No limit is 0.
-        if let Some(little) = standard.lowered(row.limit, row.least.saturating_sub(1)) {
-            let found = judged(rt.alloc(), row.text, &little)?;
-            assert!(rt; found.as_str() == row.fault, "{line}: {found}");
-        }
+        compare(&rt, line)?;
     }
     Ok(())
 }

@@ -4,6 +4,7 @@
 ghost use Rattle.std.specs.Prelude.{◌≡◌, ◌<◌, length};
 ghost use Rattle.proto_links.specs.Linked.{count_of};
 
+use super::expect;
 use proto_base::{Limit, Limits};
 use proto_desc::file::FileDesc;
 use proto_file::describe;
@@ -27,12 +28,12 @@ struct Row<'t> {
 
 /// A line of five fields. What may come behind them says what it is about.
 fn row_of(line: &str) -> Option<Row<'_>> {
-    let mut fields = line.split('|');
-    let kind = fields.next()?;
-    let number = fields.next()?.parse().ok()?;
-    let scope = fields.next()?;
-    let name = fields.next()?;
-    let answer = fields.next()?;
+    let (kind, rest) = line.split_once('|')?;
+    let (number, rest) = rest.split_once('|')?;
+    let (scope, rest) = rest.split_once('|')?;
+    let (name, rest) = rest.split_once('|')?;
+    let (answer, _) = rest.split_once('|').unwrap_or((rest, ""));
+    let number = number.parse().ok()?;
     Some(Row {
         kind,
         number,
@@ -52,11 +53,16 @@ fn texts_of(alloc: Global, sources: &str) -> Result<Vec<String>, Fail> {
     Ok(texts)
 }
 
-/// What a source of this line and text describes.
-fn file_of<'s>(alloc: Global, line: &'s str, text: &'s str) -> Result<FileDesc<'s>, Fail> {
+/// Puts what a source of this line and text describes behind the files.
+fn put_file<'s>(
+    alloc: Global,
+    files: &mut Vec<FileDesc<'s>>,
+    line: &'s str,
+    text: &'s str,
+) -> Result<(), Fail> {
     let (name, _) = line.split_once(':').ok_or("a name")?;
     match describe(alloc, name, text.as_bytes(), &Limits::standard()) {
-        Ok(file) => Ok(file),
+        Ok(file) => Ok(files.push(file)?),
         Err(_) => Err("no file".into()),
     }
 }
@@ -69,7 +75,7 @@ fn files_of<'s>(
 ) -> Result<Vec<FileDesc<'s>>, Fail> {
     let mut files = Vec::new(alloc);
     for (line, text) in sources.lines().zip(texts) {
-        files.push(file_of(alloc, line, text.as_str())?)?;
+        put_file(alloc, &mut files, line, text.as_str())?;
     }
     Ok(files)
 }
@@ -97,16 +103,22 @@ fn seen(alloc: Global, links: &Links, file: usize) -> Result<String, AllocError>
     numbers(alloc, &seen)
 }
 
+/// A file's rank, what it reaches and what it sees.
+fn shown_file(alloc: Global, links: &Links, file: usize) -> Result<String, AllocError>
+    requires { file < count_of links.now }
+{
+    let rank = links.rank(file);
+    let reach = numbers(alloc, links.reach(file))?;
+    let seen = seen(alloc, links, file)?;
+    format!(in alloc; "; {file}: rank {rank}, reaches {reach}, sees {seen}")
+}
+
 /// Links as a text: set order, and for each file its rank, what it reaches and what it sees.
 fn shown(alloc: Global, links: &Links) -> Result<String, AllocError> {
     let order = numbers(alloc, links.set_order())?;
     let mut text = format!(in alloc; "order {order}")?;
     for file in 0..links.count() {
-        let rank = links.rank(file);
-        let reach = numbers(alloc, links.reach(file))?;
-        let seen = seen(alloc, links, file)?;
-        let line = format!(in alloc; "; {file}: rank {rank}, reaches {reach}, sees {seen}")?;
-        text.push_str(line.as_str())?;
+        text.push_str(shown_file(alloc, links, file)?.as_str())?;
     }
     Ok(text)
 }
@@ -136,33 +148,32 @@ fn meaning(
     index: &NameIndex,
     row: Row,
     want: Want,
-) -> Result<String, Fail>
+) -> Result<String, AllocError>
     requires { count_of links.now ≡ index.now.files }
 {
     if row.number >= links.count() {
-        return Err("no such file".into());
+        return String::from_str(alloc, "no such file");
     }
-    let text = match index.resolve(alloc, links, row.number, row.scope, row.name, want) {
-        Ok(resolved) => format!(in alloc; "{:?} {}", resolved.kind, resolved.full_name)?,
-        Err(ResolveError::TypeNotFound) => String::from_str(alloc, "not found")?,
-        Err(ResolveError::TypeNotMessage) => String::from_str(alloc, "no message")?,
-        Err(ResolveError::NoMemory) => return Err("no memory".into()),
-    };
-    Ok(text)
+    match index.resolve(alloc, links, row.number, row.scope, row.name, want) {
+        Ok(resolved) => format!(in alloc; "{:?} {}", resolved.kind, resolved.full_name),
+        Err(ResolveError::TypeNotFound) => String::from_str(alloc, "not found"),
+        Err(ResolveError::TypeNotMessage) => String::from_str(alloc, "no message"),
+        Err(ResolveError::NoMemory) => Err(AllocError),
+    }
 }
 
 /// The answer of files that are linked and indexed.
-fn indexed(alloc: Global, links: &Links, index: &NameIndex, row: Row) -> Result<String, Fail>
+fn indexed(alloc: Global, links: &Links, index: &NameIndex, row: Row) -> Result<String, AllocError>
     requires { count_of links.now ≡ index.now.files }
 {
     match row.kind {
-        "links" => Ok(shown(alloc, links)?),
-        "names" => Ok(String::from_str(alloc, "built")?),
-        "find" => Ok(found(alloc, index, row.name)?),
-        "services" => Ok(services(alloc, index)?),
+        "links" => shown(alloc, links),
+        "names" => String::from_str(alloc, "built"),
+        "find" => found(alloc, index, row.name),
+        "services" => services(alloc, index),
         "type" => meaning(alloc, links, index, row, Want::AnyType),
         "message" => meaning(alloc, links, index, row, Want::MessageOnly),
-        _ => Err("a question".into()),
+        _ => String::from_str(alloc, "no question"),
     }
 }
 
@@ -177,48 +188,57 @@ fn limits_for(row: Row) -> Option<Limits> {
 }
 
 /// The answer of files that are linked, or why they are not indexed.
-fn linked<R>(rt: &R, files: &[FileDesc], links: &Links, row: Row) -> Result<String, Fail>
+fn linked<R>(rt: &R, files: &[FileDesc], links: &Links, row: Row) -> Result<String, AllocError>
 where
     R: Threads + AllocGlobal + Sync,
     requires { count_of links.now ≡ length files.now }
 {
     let alloc = rt.alloc();
-    let limits = limits_for(row).ok_or("a limit")?;
+    let Some(limits) = limits_for(row) else {
+        return String::from_str(alloc, "no such limit");
+    };
     match NameIndex::build(rt, files, &limits) {
         Ok(index) => indexed(alloc, links, &index, row),
-        Err(NameError::At(file, place)) => Ok(format!(in alloc; "{file} at {place}")?),
-        Err(NameError::TooMany) => Ok(String::from_str(alloc, "too many")?),
-        Err(NameError::NoMemory) => Err("no memory".into()),
+        Err(NameError::At(file, place)) => format!(in alloc; "{file} at {place}"),
+        Err(NameError::TooMany) => String::from_str(alloc, "too many"),
+        Err(NameError::NoMemory) => Err(AllocError),
     }
 }
 
 /// The answer of files, or why they are not linked or not indexed.
-fn answer<R>(rt: &R, files: &[FileDesc], row: Row) -> Result<String, Fail>
+fn answer<R>(rt: &R, files: &[FileDesc], row: Row) -> Result<String, AllocError>
 where
     R: Threads + AllocGlobal + Sync,
 {
     let alloc = rt.alloc();
     if !in_name_order(files) {
-        return Ok(String::from_str(alloc, "not in the order of the names")?);
+        return String::from_str(alloc, "not in the order of the names");
     }
     match link(alloc, files) {
         Ok(links) => linked(rt, files, &links, row),
-        Err(LinkError::At(file, place, kind)) => {
-            Ok(format!(in alloc; "{file} at {place}: {kind}")?)
-        }
-        Err(LinkError::NoMemory) => Err("no memory".into()),
+        Err(LinkError::At(file, place, kind)) => format!(in alloc; "{file} at {place}: {kind}"),
+        Err(LinkError::NoMemory) => Err(AllocError),
     }
 }
 
+/// Compares the answer of files to a line with the one that is wanted.
+fn compare<R>(rt: &R, files: &[FileDesc], line: &str) -> Result<(), Fail>
+where
+    R: Threads + AllocGlobal + Sync + Abort,
+{
+    let row = row_of(line).ok_or("a row")?;
+    let found = answer(rt, files, row)?;
+    expect(rt, line, found.as_str(), row.answer);
+    Ok(())
+}
+
 /// Compares the answers of files with those that are wanted.
-fn compare<R>(rt: &R, files: &[FileDesc], rows: &str) -> Result<(), Fail>
+fn compare_rows<R>(rt: &R, files: &[FileDesc], rows: &str) -> Result<(), Fail>
 where
     R: Threads + AllocGlobal + Sync + Abort,
 {
     for line in rows.lines() {
-        let row = row_of(line).ok_or("a row")?;
-        let found = answer(rt, files, row)?;
-        assert!(rt; found.as_str() == row.answer, "{line}: {found}");
+        compare(rt, files, line)?;
     }
     Ok(())
 }
@@ -493,7 +513,7 @@ where
 {
     let texts = texts_of(rt.alloc(), sources)?;
     let files = files_of(rt.alloc(), sources, &texts)?;
-    compare(rt, &files, rows)
+    compare_rows(rt, &files, rows)
 }
 
 #[test]

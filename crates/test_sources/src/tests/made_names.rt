@@ -1,5 +1,6 @@
 //! Names that are made, by hand from the language guide's rules.
 
+use super::expect;
 use proto_lower::{entry_name, json_name, oneof_name};
 use std::alloc::AllocGlobal;
 use std::process::Abort;
@@ -24,7 +25,7 @@ fn json_names<R: AllocGlobal + Abort>(rt: &R) -> Result<(), Fail> {
     for row in JSON_NAMES.split(' ') {
         let (name, wanted) = row.split_once('=').ok_or("a row")?;
         let made = json_name(rt.alloc(), name)?;
-        assert!(rt; made.as_str() == wanted, "{row}: {made}");
+        expect(rt, row, made.as_str(), wanted);
     }
     Ok(())
 }
@@ -33,7 +34,7 @@ fn entries<R: AllocGlobal + Abort>(rt: &R) -> Result<(), Fail> {
     for row in ENTRIES.split(' ') {
         let (name, wanted) = row.split_once('=').ok_or("a row")?;
         let made = entry_name(rt.alloc(), name)?;
-        assert!(rt; made.as_str() == wanted, "{row}: {made}");
+        expect(rt, row, made.as_str(), wanted);
     }
     Ok(())
 }
@@ -41,7 +42,7 @@ fn entries<R: AllocGlobal + Abort>(rt: &R) -> Result<(), Fail> {
 fn oneofs<R: AllocGlobal + Abort>(rt: &R) -> Result<(), Fail> {
     for (name, taken, wanted) in &ONEOFS {
         let made = oneof_name(rt.alloc(), name, taken)?;
-        assert!(rt; made.as_str() == *wanted, "{name}: {made}");
+        expect(rt, name, made.as_str(), wanted);
     }
     Ok(())
 }

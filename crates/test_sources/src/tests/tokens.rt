@@ -1,5 +1,6 @@
 //! Sources and what they spell, by the proto3 language specification, "Lexical elements".
 
+use super::expect;
 use proto_base::{Kind, Limit, Limits, Place};
 use proto_syntax::ParseError;
 use proto_tokens::{Token, TokenError, TokenKind, Tokens, tokenize};
@@ -36,16 +37,21 @@ fn line_of(alloc: Global, tokens: &[Token]) -> Result<String, AllocError> {
     Ok(line)
 }
 
+/// Tokens in one line, if they end where their text does.
+fn shown_to_end(alloc: Global, tokens: &Tokens, end: usize) -> Result<String, AllocError> {
+    if tokens.end.offset as usize == end {
+        line_of(alloc, &tokens.items)
+    } else {
+        String::from_str(alloc, "another end")
+    }
+}
+
 /// The answer in one line: each token with the bytes that it is, or the fault and its place.
-fn answer(alloc: Global, text: &[u8], limits: &Limits) -> Result<String, Fail> {
+fn answer(alloc: Global, text: &[u8], limits: &Limits) -> Result<String, AllocError> {
     match tokenize(alloc, text, limits) {
-        Ok(tokens) if tokens.end.offset as usize == text.len() => Ok(line_of(
-            alloc,
-            &tokens.items,
-        )?),
-        Ok(_) => Err("another end".into()),
-        Err(TokenError::At(place, kind)) => Ok(format!(in alloc; "{kind} at {place}")?),
-        Err(TokenError::NoMemory) => Err("no memory".into()),
+        Ok(tokens) => shown_to_end(alloc, &tokens, text.len()),
+        Err(TokenError::At(place, kind)) => format!(in alloc; "{kind} at {place}"),
+        Err(TokenError::NoMemory) => Err(AllocError),
     }
 }
 
@@ -130,7 +136,7 @@ fn tokens(rt: HostRuntime) -> Result<(), Fail> {
     for row in ROWS.split("\n\n") {
         let (text, wanted) = row.split_once(" -> ").ok_or("a row")?;
         let found = answer(rt.alloc(), text.as_bytes(), &standard)?;
-        assert!(rt; found.as_str() == wanted, "{row}: {found}");
+        expect(&rt, row, found.as_str(), wanted);
     }
     Ok(())
 }

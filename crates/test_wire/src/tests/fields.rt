@@ -1,9 +1,10 @@
 //! Varints and fields of the encoding guide, written and read, and what is no message.
 
-use std::alloc::Global;
+use super::expect;
+use std::alloc::{AllocError, Global};
 use std::test::Fail;
 use wire_format::{
-    FieldValue, WireError, field_len, put_field, put_varint, read_fields, varint_len,
+    Field, FieldValue, WireError, field_len, put_field, put_varint, read_fields, varint_len,
 };
 
 /// Numbers, and their varints.
@@ -84,17 +85,32 @@ static FIELDS: [(u32, FieldValue<'static>, &[u8]); 3] = [
     (16, FieldValue::Delimited(b""), b"\x82\x01\x00"),
 ];
 
+/// A number's varint behind a byte that the buffer held.
+fn with_varint(alloc: Global, value: u64) -> Result<Vec<u8>, AllocError> {
+    let mut out = vec![in alloc; 0xAA]?;
+    put_varint(&mut out, value)?;
+    Ok(out)
+}
+
+/// A field behind a byte that the buffer held.
+fn with_field(alloc: Global, number: u32, value: &FieldValue) -> Result<Vec<u8>, AllocError> {
+    let mut out = vec![in alloc; 0xAA]?;
+    put_field(&mut out, number, value)?;
+    Ok(out)
+}
+
+/// Whether that byte stands there, and these behind it.
+fn is_added(out: &[u8], bytes: &[u8]) -> bool {
+    out.strip_prefix(b"\xAA".as_slice()) == Some(bytes)
+}
+
 /// What writing a number adds to a buffer that holds a byte.
 #[test]
 fn varints_written(rt: HostRuntime) -> Result<(), Fail> {
     for (value, bytes) in &VARINTS {
-        let mut out = vec![in rt.alloc(); 0xAA]?;
-        put_varint(&mut out, *value)?;
-        let added = out.as_slice().strip_prefix(b"\xAA".as_slice());
-        assert!(rt;
-            added == Some(*bytes) && varint_len(*value) == bytes.len(),
-            "{value}"
-        );
+        let out = with_varint(rt.alloc(), *value)?;
+        let len = varint_len(*value);
+        assert!(rt; is_added(&out, bytes) && len == bytes.len(), "{value}");
     }
     Ok(())
 }
@@ -102,42 +118,47 @@ fn varints_written(rt: HostRuntime) -> Result<(), Fail> {
 #[test]
 fn fields_written(rt: HostRuntime) -> Result<(), Fail> {
     for (number, value, bytes) in &FIELDS {
-        let mut out = vec![in rt.alloc(); 0xAA]?;
-        put_field(&mut out, *number, value)?;
-        let added = out.as_slice().strip_prefix(b"\xAA".as_slice());
+        let out = with_field(rt.alloc(), *number, value)?;
         let len = field_len(*number, value);
         assert!(rt;
-            added == Some(*bytes) && len == bytes.len() as u64,
+            is_added(&out, bytes) && len == bytes.len() as u64,
             "{number}"
         );
     }
     Ok(())
 }
 
-/// The fields in one line, or the error.
-fn answer(alloc: Global, bytes: &[u8]) -> Result<String, Fail> {
-    let fields = match read_fields(alloc, bytes) {
-        Ok(fields) => fields,
-        Err(WireError::Malformed) => return Ok(format!(in alloc; "malformed")?),
-        Err(WireError::NoMemory) => return Err(Fail::from("no memory")),
-    };
+fn shown(alloc: Global, field: &Field) -> Result<String, AllocError> {
+    let number = field.number;
+    match field.value {
+        FieldValue::Varint(value) => format!(in alloc; "{number}={value};"),
+        FieldValue::Delimited(contents) => format!(in alloc; "{number}={contents:?};"),
+    }
+}
+
+/// Fields in one line.
+fn line_of(alloc: Global, fields: &[Field]) -> Result<String, AllocError> {
     let mut line = String::new(alloc);
-    for field in &fields {
-        let number = field.number;
-        let shown = match field.value {
-            FieldValue::Varint(value) => format!(in alloc; "{number}={value};")?,
-            FieldValue::Delimited(contents) => format!(in alloc; "{number}={contents:?};")?,
-        };
-        line.push_str(&shown)?;
+    for field in fields {
+        line.push_str(shown(alloc, field)?.as_str())?;
     }
     Ok(line)
+}
+
+/// The fields in one line, or the error.
+fn answer(alloc: Global, bytes: &[u8]) -> Result<String, AllocError> {
+    match read_fields(alloc, bytes) {
+        Ok(fields) => line_of(alloc, &fields),
+        Err(WireError::Malformed) => String::from_str(alloc, "malformed"),
+        Err(WireError::NoMemory) => Err(AllocError),
+    }
 }
 
 #[test]
 fn read(rt: HostRuntime) -> Result<(), Fail> {
     for (bytes, want) in &MESSAGES {
         let got = answer(rt.alloc(), bytes)?;
-        assert_eq!(rt; got.as_str(), *want, "at {bytes:?}");
+        expect(&rt, bytes, got.as_str(), want);
     }
     Ok(())
 }

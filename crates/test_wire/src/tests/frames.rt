@@ -1,8 +1,9 @@
 //! Bodies of PROTOCOL-WEB.md and their statuses.
 
+use super::expect;
 use proto_base::{Limit, Limits};
-use reflect_requests::read_frames;
-use std::alloc::Global;
+use reflect_requests::{Frames, read_frames};
+use std::alloc::{AllocError, Global};
 use std::process::Abort;
 use std::test::Fail;
 
@@ -87,31 +88,35 @@ static ZEROS: [(usize, usize, u8); 5] = [
     (1_048_577, 0, 8),
 ];
 
+/// Puts a message between `<` and `>`.
+fn put_message(line: &mut String, message: &[u8]) -> Result<(), Fail> {
+    let text = std::str::from_utf8(message)?;
+    line.push('<')?;
+    line.push_str(text)?;
+    line.push('>')?;
+    Ok(())
+}
+
 /// The status, and each message between `<` and `>`.
-fn answer(alloc: Global, body: &[u8], limits: &Limits) -> Result<String, Fail> {
-    let frames = read_frames(alloc, body, limits)?;
+fn shown(alloc: Global, frames: &Frames) -> Result<String, Fail> {
     let status = frames.status;
     let mut line = format!(in alloc; "{status}")?;
     for message in &frames.messages {
-        let Ok(text) = std::str::from_utf8(message) else {
-            return Err(Fail::from("a message that isn't UTF-8"));
-        };
-        let shown = format!(in alloc; "<{text}>")?;
-        line.push_str(&shown)?;
+        put_message(&mut line, message)?;
     }
     Ok(line)
 }
 
 /// Compares the answer to a body with what is wanted.
-fn expect(
+fn compare(
     rt: &impl Abort,
     alloc: Global,
     body: &[u8],
     limits: &Limits,
     want: &str,
 ) -> Result<(), Fail> {
-    let got = answer(alloc, body, limits)?;
-    assert_eq!(rt; got.as_str(), want, "at {body:?}");
+    let frames = read_frames(alloc, body, limits)?;
+    expect(rt, body, shown(alloc, &frames)?.as_str(), want);
     Ok(())
 }
 
@@ -119,23 +124,35 @@ fn expect(
 fn bodies(rt: HostRuntime) -> Result<(), Fail> {
     let standard = Limits::standard();
     for (body, want) in &BODIES {
-        expect(&rt, rt.alloc(), body, &standard, want)?;
-    }
-    for (limit, value, body, want) in &LIMITED {
-        let limits = standard.lowered(*limit, *value).ok_or("a limit")?;
-        expect(&rt, rt.alloc(), body, &limits, want)?;
+        compare(&rt, rt.alloc(), body, &standard, want)?;
     }
     Ok(())
 }
 
-/// Each first byte, and a body cut after each of its bytes.
 #[test]
-fn cut_bodies(rt: HostRuntime) -> Result<(), Fail> {
+fn limited_bodies(rt: HostRuntime) -> Result<(), Fail> {
+    let standard = Limits::standard();
+    for (limit, value, body, want) in &LIMITED {
+        let limits = standard.lowered(*limit, *value).ok_or("a limit")?;
+        compare(&rt, rt.alloc(), body, &limits, want)?;
+    }
+    Ok(())
+}
+
+#[test]
+fn first_bytes(rt: HostRuntime) -> Result<(), Fail> {
     let standard = Limits::standard();
     for flag in 0..=255_u8 {
         let want = if flag == 1 { "12" } else { "13" };
-        expect(&rt, rt.alloc(), &[flag], &standard, want)?;
+        compare(&rt, rt.alloc(), &[flag], &standard, want)?;
     }
+    Ok(())
+}
+
+/// A body cut after each of its bytes.
+#[test]
+fn cut_bodies(rt: HostRuntime) -> Result<(), Fail> {
+    let standard = Limits::standard();
     for len in 0..=THREE.len() {
         let want = match len {
             0 => "0",
@@ -146,20 +163,23 @@ fn cut_bodies(rt: HostRuntime) -> Result<(), Fail> {
             20..=27 => "13<\x1A\x07a.proto><>",
             _ => "0<\x1A\x07a.proto><><\x0A\x02hi>",
         };
-        expect(&rt, rt.alloc(), &THREE[..len], &standard, want)?;
+        compare(&rt, rt.alloc(), &THREE[..len], &standard, want)?;
     }
     Ok(())
+}
+
+/// How many messages so many zeros are, and their status.
+fn of_zeros(alloc: Global, len: usize) -> Result<(usize, u8), AllocError> {
+    let body = vec![in alloc; 0; len]?;
+    let frames = read_frames(alloc, &body, &Limits::standard())?;
+    Ok((frames.messages.len(), frames.status))
 }
 
 #[test]
 fn long_bodies(rt: HostRuntime) -> Result<(), Fail> {
     for (len, count, status) in &ZEROS {
-        let body = vec![in rt.alloc(); 0; *len]?;
-        let frames = read_frames(rt.alloc(), &body, &Limits::standard())?;
-        assert!(rt;
-            frames.messages.len() == *count && frames.status == *status,
-            "{len}"
-        );
+        let found = of_zeros(rt.alloc(), *len)?;
+        assert!(rt; found == (*count, *status), "{len}");
     }
     Ok(())
 }

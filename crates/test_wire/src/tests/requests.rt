@@ -1,7 +1,8 @@
 //! Requests of `reflection.proto`, and messages that are none.
 
-use reflect_requests::{Ask, read_request};
-use std::alloc::Global;
+use super::expect;
+use reflect_requests::{Ask, Request, read_request};
+use std::alloc::{AllocError, Global};
 use std::test::Fail;
 use wire_format::WireError;
 
@@ -57,29 +58,33 @@ static MESSAGES: [(&[u8], &str); 35] = [
     (b"\x2A\x03\x0A\x01\xFF\x2A\x00", "malformed"),
 ];
 
-/// The request in one line, or the error.
-fn answer(alloc: Global, message: &[u8]) -> Result<String, Fail> {
-    let request = match read_request(alloc, message) {
-        Ok(request) => request,
-        Err(WireError::Malformed) => return Ok(format!(in alloc; "malformed")?),
-        Err(WireError::NoMemory) => return Err(Fail::from("no memory")),
-    };
+/// A request in one line.
+fn shown(alloc: Global, request: &Request) -> Result<String, AllocError> {
     let host = request.host;
-    Ok(match request.ask {
-        Ask::FileByName(name) => format!(in alloc; "{host:?} FileByName({name:?})")?,
-        Ask::FileBySymbol(symbol) => format!(in alloc; "{host:?} FileBySymbol({symbol:?})")?,
-        Ask::FileByExtension => format!(in alloc; "{host:?} FileByExtension")?,
-        Ask::ExtensionNumbers(name) => format!(in alloc; "{host:?} ExtensionNumbers({name:?})")?,
-        Ask::ListServices => format!(in alloc; "{host:?} ListServices")?,
-        Ask::Nothing => format!(in alloc; "{host:?} Nothing")?,
-    })
+    match request.ask {
+        Ask::FileByName(name) => format!(in alloc; "{host:?} FileByName({name:?})"),
+        Ask::FileBySymbol(symbol) => format!(in alloc; "{host:?} FileBySymbol({symbol:?})"),
+        Ask::FileByExtension => format!(in alloc; "{host:?} FileByExtension"),
+        Ask::ExtensionNumbers(name) => format!(in alloc; "{host:?} ExtensionNumbers({name:?})"),
+        Ask::ListServices => format!(in alloc; "{host:?} ListServices"),
+        Ask::Nothing => format!(in alloc; "{host:?} Nothing"),
+    }
+}
+
+/// The request in one line, or the error.
+fn answer(alloc: Global, message: &[u8]) -> Result<String, AllocError> {
+    match read_request(alloc, message) {
+        Ok(request) => shown(alloc, &request),
+        Err(WireError::Malformed) => String::from_str(alloc, "malformed"),
+        Err(WireError::NoMemory) => Err(AllocError),
+    }
 }
 
 #[test]
 fn requests(rt: HostRuntime) -> Result<(), Fail> {
     for (message, want) in &MESSAGES {
         let got = answer(rt.alloc(), message)?;
-        assert_eq!(rt; got.as_str(), *want, "at {message:?}");
+        expect(&rt, message, got.as_str(), want);
     }
     Ok(())
 }

@@ -1,4 +1,5 @@
 use Rattle.std.proofs.Common.{◌≡◌, ℕ, ◌<◌, ◌≤◌, ◌^◌, List, [], Option, length, sum_by, arith, refl, sym, ap, subst, ◌∙◌, All}
+use Rattle.std.proofs.lemmas.Grind.{common_steps}
 use Rattle.std.specs.List.{list_any}
 use Rattle.std.specs.Option.{ForSome}
 use Rattle.std.proofs.lemmas.Option.{slice_get_within}
@@ -43,3 +44,9 @@ returns-clause-first g c = λ w below.
     let inside = subst (λ (s : g.row.F.Denot). w < g.F.Reach.files s) (sym c.in_ok-table.ensures.0) below in
     c.in-Ok.ensures.least w inside ∙ least_is list roots top pairs same w
     ∙ ap (λ (s : g.row.F.Denot). first_reach (g.F.Reach.list s) roots w) c.in_ok-table.ensures.0
+
+pub join_seats-requires : goal.join_seats-requires
+join_seats-requires g c = grind (arith, common_steps)
+
+pub unreachable-requires : goal.unreachable-requires
+unreachable-requires g c = grind (arith, common_steps)

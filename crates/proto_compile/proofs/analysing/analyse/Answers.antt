@@ -1,4 +1,5 @@
-use Rattle.std.proofs.Common.{rules}
+use Rattle.std.proofs.Common.{rules, arith}
+use Rattle.std.proofs.lemmas.Grind.{pieces}
 use Rattle.proto_compile.specs.Descriptions.{Describe}
 use Rattle.proto_compile.proofs.Making.{resolved_of}
 use Rattle.proto_compile.proofs.Zipping.{descs_in_order, same_length}
@@ -24,3 +25,6 @@ pub returns-clause-resolved : goal.returns-clause-resolved
 returns-clause-resolved g c sources few order =
     resolved_of few order c.in_ok-descs.ensures.described c.deref.ensures.value c.in_ok-lookup.ensures.linked c.deref.ensures.value
     c.in_ok-lookup.ensures.indexed c.in_ok-descs-2.ensures.typed
+
+pub returns-in_err-descs-2-clause-first : goal.returns-in_err-descs-2-clause-first
+returns-in_err-descs-2-clause-first g c = search (pieces, arith)

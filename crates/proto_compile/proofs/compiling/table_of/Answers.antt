@@ -1,4 +1,5 @@
 use Rattle.std.proofs.Common.{◌≡◌, ◌<◌, ◌+◌, ◌++◌, ◌∷◌, [], ◌∙◌, sym, ap, arith, subst, length, take, map, ℕ, List}
+use Rattle.std.proofs.lemmas.Grind.{common_steps}
 use Rattle.std.proofs.lemmas.List.{length-append}
 use Rattle.std.proofs.lemmas.Iterator.Adapters.{YieldsList-from_vec}
 use Rattle.std.proofs.lemmas.Iterator.Consumers.{YieldsList-turn}
@@ -40,3 +41,6 @@ loop-bytes-preserved c =
       bytes = rw pushed (bytes_more c.loop-bytes.files c.loop-bytes.yielded (name_at c.args.sources.now c.len-file.result) c.in-Some.bytes
           c.loop-bytes.invariant.bytes);
     }
+
+pub offset_bounds-sources-file : goal.offset_bounds-sources-file
+offset_bounds-sources-file c = grind (arith, common_steps)

@@ -1,7 +1,7 @@
-use Rattle.std.proofs.Common.{◌≡◌, take}
+use Rattle.std.proofs.Common.{◌≡◌, ◌++◌, take}
 use Rattle.std.specs.Prelude.{flat_map}
 use Rattle.proto_lower.specs.Messages.{nested_of}
 use Rattle.proto_lower.proofs.message.+messages.Given as goal
 
-abbrev pub invariant-nested_messages-loop-item : goal.invariant-nested_messages-loop-item
-invariant-nested_messages-loop-item l = l.nested.items ≡ flat_map (nested_of l.full) (take l.item-index l.items)
+abbrev pub invariant-put_nested-loop-item : goal.invariant-put_nested-loop-item
+invariant-put_nested-loop-item l = l.out.items ≡ l.initial.out.items ++ flat_map (nested_of l.full) (take l.item-index l.items)

@@ -1,4 +1,5 @@
-use Rattle.std.proofs.Common.{ℕ, ap, ◌∙◌, Option, Some, None}
+use Rattle.std.proofs.Common.{ℕ, ap, ◌∙◌, Option, Some, None, arith}
+use Rattle.std.proofs.lemmas.Grind.{common_steps}
 use Rattle.std.proofs.lemmas.Option.{slice_get-get_or}
 use Rattle.share_work.specs.Marks.{MarkSeatValue}
 use Rattle.first_reach.proofs.Marks.{marks_root, marks_none}
@@ -27,3 +28,9 @@ loop-k-preserved g c =
                 inv.2,
           )
     ]
+
+pub returns-clause-within : goal.returns-clause-within
+returns-clause-within g c = grind (arith, common_steps)
+
+pub returns-clause-gained : goal.returns-clause-gained
+returns-clause-gained g c = grind (arith, common_steps)

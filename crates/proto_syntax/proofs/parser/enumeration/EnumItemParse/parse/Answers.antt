@@ -20,9 +20,9 @@ returns-in_err-boxed c =
 
 pub returns-then-at_keyword-2 : goal.returns-then-at_keyword-2
 returns-then-at_keyword-2 c =
-    rw c.in_ok-new.ensures (enum_reserved (spellings c.args.parser.now.rest.now)
+    enum_reserved (spellings c.args.parser.now.rest.now)
     (sym c.at_keyword.ensures ∙ c.if-at_keyword.false) (sym c.at_keyword-2.ensures ∙ c.if-at_keyword-2.true)
-    ∙ ap (way 1) c.in_ok-reserved.ensures)
+    ∙ ap (way 1) c.in_ok-reserved.ensures
 
 pub returns-in_err-reserved : goal.returns-in_err-reserved
 returns-in_err-reserved c =

@@ -1,5 +1,0 @@
-use Rattle.std.proofs.Common.{rules}
-use Rattle.proto_lower.proofs.field.fields.Goals as goal
-
-pub loop-item-init : goal.loop-item-init
-loop-item-init c = search rules

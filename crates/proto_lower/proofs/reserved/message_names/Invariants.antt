@@ -1,7 +1,0 @@
-use Rattle.std.proofs.Common.{◌≡◌, take}
-use Rattle.std.specs.Prelude.{flat_map}
-use Rattle.proto_lower.specs.Reserveds.{message_names_of}
-use Rattle.proto_lower.proofs.reserved.message_names.Given as goal
-
-abbrev pub invariant-loop-item : goal.invariant-loop-item
-invariant-loop-item l = l.names.items ≡ flat_map message_names_of (take l.item-index l.items)

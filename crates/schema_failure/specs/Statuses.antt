@@ -1,0 +1,24 @@
+-- What a run that ends early exits with (README.md, "Commands").
+use Rattle.std.specs.Prelude.{ℕ}
+use Rattle.schema_failure.specs.declared.failure.Failure.{Failure}
+use Rattle.schema_failure.specs.declared.failure.Failure.TheVariants as failure
+use Rattle.schema_failure.specs.declared.failure.Status.{Status}
+use Rattle.schema_failure.specs.declared.failure.Status.TheVariants as status
+
+-- a fault of the sources, a device that failed, or no memory
+abbrev pub status_of : Failure → Status
+status_of (failure.Source file line column kind) = status.Fault
+status_of failure.Input = status.Device
+status_of failure.Output = status.Device
+status_of failure.Folder = status.Device
+status_of failure.Listen = status.Device
+status_of failure.Accept = status.Device
+status_of failure.NoMemory = status.NoMemory
+
+-- the exit status
+abbrev pub code_of : Status → ℕ
+code_of status.Done = 0
+code_of status.Fault = 1
+code_of status.CommandLine = 2
+code_of status.Device = 3
+code_of status.NoMemory = 4

@@ -1,0 +1,137 @@
+//! A failure, and what a run ends with.
+
+ghost use Rattle.std.specs.Prelude.{◌≡◌, ℕ, ◌<◌, ◌≤◌, ◌-◌, ◌^◌, Contains, length, string_bytes};
+ghost use Rattle.proto_compile.specs.Sources.{name_of, text_of};
+ghost use Rattle.proto_compile.specs.declared.source.Source.{Source};
+ghost use Rattle.schema_failure.specs.declared.failure.Failure.TheVariants as failures;
+ghost use Rattle.schema_failure.specs.Statuses.{status_of, code_of};
+
+use grpcweb_core::IoFault;
+use proto_base::{Fault, Kind, line_column};
+use proto_compile::Source;
+use source_folder::FolderFault;
+use std::alloc::{AllocError, AllocFailed};
+use thiserror::Error;
+
+/// What a run ends with.
+#[derive(Clone, Copy)]
+pub enum Status {
+    Done,
+    Fault,
+    CommandLine,
+    Device,
+    NoMemory,
+}
+
+impl Status {
+    /// The number that the program exits with, 0 to 4.
+    pub fn code(self) -> u8
+        ensures code { result ≡ code_of self }
+        ensures few { result ≤ 4 }
+    {
+        match self {
+            Status::Done => 0,
+            Status::Fault => 1,
+            Status::CommandLine => 2,
+            Status::Device => 3,
+            Status::NoMemory => 4,
+        }
+    }
+}
+
+/// Why a run came to no end, with its line for the user.
+#[derive(Debug, Drop, Error)]
+pub enum Failure {
+    #[error("{file}:{line}:{column}: {kind}")]
+    Source {
+        file: String,
+        line: u32,
+        column: u32,
+        kind: Kind,
+    },
+    #[error("device: input")]
+    Input,
+    #[error("device: output")]
+    Output,
+    #[error("device: folder")]
+    Folder,
+    #[error("device: listen")]
+    Listen,
+    #[error("device: accept")]
+    Accept,
+    #[error("out of memory")]
+    NoMemory,
+}
+
+impl Failure {
+    /// The exit status of a run that ends so.
+    pub fn status(&self) -> Status
+        ensures { result ≡ status_of self.now }
+    {
+        match self {
+            Failure::Source { .. } => Status::Fault,
+            Failure::Input
+            | Failure::Output
+            | Failure::Folder
+            | Failure::Listen
+            | Failure::Accept => Status::Device,
+            Failure::NoMemory => Status::NoMemory,
+        }
+    }
+}
+
+impl From<AllocError> for Failure {
+    ghost from_gives = { λ _ e. e ≡ failures.NoMemory };
+
+    fn from(_error: AllocError) -> Failure {
+        Failure::NoMemory
+    }
+}
+
+impl<T: Drop> From<AllocFailed<T>> for Failure {
+    ghost from_gives = { λ _ e. e ≡ failures.NoMemory };
+
+    fn from(_error: AllocFailed<T>) -> Failure {
+        Failure::NoMemory
+    }
+}
+
+impl From<FolderFault> for Failure {
+    fn from(fault: FolderFault) -> Failure {
+        match fault {
+            FolderFault::Listing | FolderFault::Reading => Failure::Folder,
+            FolderFault::NoMemory => Failure::NoMemory,
+        }
+    }
+}
+
+impl From<IoFault> for Failure {
+    fn from(fault: IoFault) -> Failure {
+        match fault {
+            IoFault::ReadFault => Failure::Input,
+            IoFault::WriteFault { .. } => Failure::Output,
+            IoFault::NoMemory => Failure::NoMemory,
+        }
+    }
+}
+
+/// A fault with its line and column in the text of its file. A fault of the list of sources has no file, and stands at 1, 1.
+pub fn locate(fault: Fault, sources: &[Source]) -> Failure
+    requires within { (source : Source) → Contains sources.now source
+        → name_of source ≡ string_bytes fault.file → fault.place.offset ≤ length (text_of source) }
+    requires short { fault.place.offset < 2 ^ 32 - 1 }
+{
+    let (line, column) = match sources
+        .iter()
+        .find(|source| source.name == fault.file.as_str())
+    {
+        Some(source) => line_column(source.text, fault.place),
+        None => (1, 1),
+    };
+    Failure::Source {
+        file: fault.file,
+        line,
+        column,
+        kind: fault.kind,
+    }
+}
