@@ -1,9 +1,10 @@
 //! A failure, and what a run ends with.
 
-ghost use Rattle.std.specs.Prelude.{◌≡◌, ℕ, ◌<◌, ◌≤◌, ◌-◌, ◌^◌, Contains, length, string_bytes};
+ghost use Rattle.std.specs.Prelude.{◌≡◌, ◌<◌, ◌≤◌, ◌-◌, ◌^◌, Contains, IfSome, length, option_map, string_bytes};
 ghost use Rattle.proto_compile.specs.Sources.{name_of, text_of};
 ghost use Rattle.proto_compile.specs.declared.source.Source.{Source};
 ghost use Rattle.schema_failure.specs.declared.failure.Failure.TheVariants as failures;
+ghost use Rattle.schema_failure.specs.Placed.{located, source_named};
 ghost use Rattle.schema_failure.specs.Statuses.{status_of, code_of};
 
 use grpcweb_core::IoFault;
@@ -115,16 +116,22 @@ impl From<IoFault> for Failure {
     }
 }
 
+/// The first of the sources that has a name.
+fn source_named<'a, 's>(sources: &'a [Source<'s>], name: &str) -> Option<&'a Source<'s>>
+    ensures first { option_map (λ source. source.now) result ≡ source_named sources.now name.now }
+    ensures listed { IfSome result (λ source. Contains sources.now source.now × (name_of source.now ≡ name.now)) }
+{
+    sources.iter().find(|source| source.name == name)
+}
+
 /// A fault with its line and column in the text of its file. A fault of the list of sources has no file, and stands at 1, 1.
 pub fn locate(fault: Fault, sources: &[Source]) -> Failure
     requires within { (source : Source) → Contains sources.now source
         → name_of source ≡ string_bytes fault.file → fault.place.offset ≤ length (text_of source) }
     requires short { fault.place.offset < 2 ^ 32 - 1 }
+    ensures { result ≡ located sources.now fault }
 {
-    let (line, column) = match sources
-        .iter()
-        .find(|source| source.name == fault.file.as_str())
-    {
+    let (line, column) = match source_named(sources, fault.file.as_str()) {
         Some(source) => line_column(source.text, fault.place),
         None => (1, 1),
     };
