@@ -14,7 +14,7 @@ use Rattle.proto_tree.specs.declared.oneof.OneofItem.TheVariants as oneof_item
 use Rattle.proto_tree.specs.declared.option.Options.{Options}
 use Rattle.proto_tree.specs.declared.service.Service.{Service}
 use Rattle.proto_desc.specs.declared.rules.Element.TheVariants as element
-use Rattle.proto_lower.specs.Options.{bracketed, separated, enum_setting, service_setting, oneof_setting}
+use Rattle.proto_options.specs.Options.{bracketed, separated, enum_setting, service_setting, oneof_setting}
 use Rattle.proto_checks.specs.Elements.{member_of, is_member, IsEmptyOneof, OneofBreaks, value_of_item, is_value, IsEmptyEnum, ValueBreaks, EnumBreaks, rpc_of, RpcBreaks, ServiceBreaks}
 use Rattle.proto_checks.specs.Gathered.{value_numbers}
 use Rattle.proto_base.specs.Least.{IsLeast, IsLesser, spot}

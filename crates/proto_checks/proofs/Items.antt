@@ -12,8 +12,8 @@ use Rattle.proto_tree.specs.declared.message.MessageItem.{MessageItem, Message',
 use Rattle.proto_tree.specs.declared.message.MessageItem.TheVariants as of
 use Rattle.proto_tree.specs.declared.oneof.Oneof.{Oneof}
 use Rattle.proto_desc.specs.declared.rules.Element.TheVariants as element
-use Rattle.proto_lower.specs.Options.{message_setting}
-use Rattle.proto_lower.specs.Laws.{oneof_of}
+use Rattle.proto_options.specs.Options.{message_setting}
+use Rattle.proto_options.specs.Statements.{oneof_of}
 use Rattle.proto_checks.specs.Elements.{OneofBreaks, EnumBreaks, enum_of, BodyBreaks, ItemBreaks, bodies_of, bodies_row, bodies}
 use Rattle.proto_base.specs.Least.{IsLeast, IsLesser}
 use Rattle.proto_checks.specs.Numbers.{FieldNumbersBreak}
@@ -21,7 +21,7 @@ use Rattle.proto_checks.specs.Options.{optioned, optioned_plain, optioned_member
 use Rattle.proto_base.specs.Sets.{Each}
 use Rattle.proto_base.specs.declared.spot.Spot.{Spot}
 use Rattle.proto_base.proofs.Among.{among_of, least_single}
-use Rattle.proto_lower.proofs.Nested.{row_of}
+use Rattle.proto_options.proofs.Rows.{row_of}
 use Rattle.proto_checks.proofs.Three.{first_of_three, last_of_three, two_of_three, each_three}
 use Rattle.proto_base.proofs.Sets.{Either, least_either, least_same}
 

@@ -8,7 +8,7 @@ use Rattle.std.proofs.lemmas.List.Folds.{Any-from_list_any, list_any-from_Any}
 use Rattle.proto_base.specs.declared.kind.Kind.TheVariants as kind
 use Rattle.proto_tree.specs.declared.option.Setting.{Setting}
 use Rattle.proto_desc.specs.declared.rules.Element.{Element}
-use Rattle.proto_lower.specs.Options.{is_setting, value_of}
+use Rattle.proto_options.specs.Options.{is_setting, value_of}
 use Rattle.proto_desc.specs.Rules.{rules_of}
 use Rattle.proto_base.specs.Least.{IsLeast, IsLesser, spot}
 use Rattle.proto_checks.specs.Options.{name_place, value_place, IsUnknown, IsMistaken, SettingBreaks, unknown, mistaken, OptionTwice, SettingsBreak}

@@ -6,7 +6,7 @@ use Rattle.proto_tree.specs.declared.option.Setting.{Setting}
 use Rattle.proto_base.specs.Sets.{Each}
 use Rattle.proto_base.specs.declared.kind.Kind.TheVariants as kind
 use Rattle.proto_desc.specs.declared.rules.OptionName.TheVariants.{AllowAlias}
-use Rattle.proto_lower.specs.Options.{enum_setting, first_setting}
+use Rattle.proto_options.specs.Options.{enum_setting, first_setting}
 use Rattle.proto_checks.specs.Gathered.{message_bounds, message_ranges, enum_bounds, enum_ranges}
 use Rattle.proto_checks.specs.Marks.{NumberTwice, Outside, ReservedBackwards, ReservedNumberUsed, ReservedOverlap}
 use Rattle.proto_checks.specs.Numbers.{FirstNotZero, IsAliasing, IsNoFieldNumber}

@@ -26,7 +26,7 @@ use Rattle.proto_desc.specs.declared.message.MessageDesc.{MessageDesc}
 use Rattle.proto_desc.specs.declared.message.MessageDesc.TheOpen.{MessageDesc-F}
 use Rattle.proto_desc.specs.declared.message.MessageDesc.TheFolds.{fold-MessageDesc}
 use Rattle.proto_desc.specs.declared.rules.Element.TheVariants as element
-use Rattle.proto_lower.specs.Options.{file_setting}
+use Rattle.proto_options.specs.Options.{file_setting}
 use Rattle.proto_tree.specs.Text.{dotted, joined}
 use Rattle.proto_checks.specs.Elements.{BodyBreaks, EnumBreaks, ServiceBreaks, bodies}
 use Rattle.proto_base.specs.Least.{spot}

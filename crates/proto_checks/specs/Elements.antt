@@ -16,9 +16,9 @@ use Rattle.proto_tree.specs.declared.service.Service.{Service}
 use Rattle.proto_tree.specs.declared.service.ServiceItem.{ServiceItem}
 use Rattle.proto_tree.specs.declared.service.ServiceItem.TheVariants as service_item
 use Rattle.proto_desc.specs.declared.rules.Element.TheVariants as element
-use Rattle.proto_lower.specs.Laws.{oneof_of}
-use Rattle.proto_lower.specs.Options.{bracketed, message_setting, oneof_setting, enum_setting, service_setting, rpc_setting}
-use Rattle.proto_lower.specs.Services.{rpc_items}
+use Rattle.proto_options.specs.Statements.{oneof_of}
+use Rattle.proto_options.specs.Options.{bracketed, message_setting, oneof_setting, enum_setting, service_setting, rpc_setting}
+use Rattle.proto_options.specs.Statements.{rpc_items}
 use Rattle.proto_checks.specs.Gathered.{value_numbers}
 use Rattle.proto_base.specs.Least.{spot}
 use Rattle.proto_checks.specs.Numbers.{FieldNumbersBreak, EnumNumbersBreak}

@@ -21,8 +21,8 @@ use Rattle.proto_tree.specs.declared.reserved.ReservedItems.{ReservedItems}
 use Rattle.proto_tree.specs.declared.reserved.ReservedItems.TheVariants as reserved_items
 use Rattle.proto_tree.specs.declared.reserved.UpperBound.{UpperBound}
 use Rattle.proto_tree.specs.declared.reserved.UpperBound.TheVariants as upper_bound
-use Rattle.proto_lower.specs.Options.{separated}
-use Rattle.proto_lower.specs.Reserveds.{end_number}
+use Rattle.proto_options.specs.Options.{separated}
+use Rattle.proto_options.specs.Statements.{end_number}
 use Rattle.proto_tree.specs.Text.{joined}
 use Rattle.proto_checks.specs.Marks.{Marked}
 use Rattle.proto_checks.specs.declared.marks.MarkedNumber.{MarkedNumber}

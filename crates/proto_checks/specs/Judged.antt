@@ -6,7 +6,7 @@ use Rattle.proto_base.specs.declared.kind.Kind.TheVariants as kind
 use Rattle.proto_tree.specs.declared.option.Setting.{Setting}
 use Rattle.proto_desc.specs.declared.rules.Element.{Element}
 use Rattle.proto_desc.specs.declared.rules.OptionRule.{OptionRule}
-use Rattle.proto_lower.specs.Options.{is_setting, value_of}
+use Rattle.proto_options.specs.Options.{is_setting, value_of}
 use Rattle.proto_tree.specs.Text.{dotted}
 use Rattle.proto_desc.specs.Rules.{rules_of}
 use Rattle.proto_base.specs.Least.{spot}

@@ -7,7 +7,7 @@ use Rattle.proto_tree.specs.declared.option.Setting.{Setting}
 use Rattle.proto_desc.specs.declared.options.OptionValue.TheVariants.{Number}
 use Rattle.proto_desc.specs.declared.rules.OptionName.TheVariants.{AllowAlias}
 use Rattle.proto_desc.specs.declared.rules.ValueKind.TheVariants as value_kind
-use Rattle.proto_lower.specs.Options.{enum_setting, first_setting, value_of}
+use Rattle.proto_options.specs.Options.{enum_setting, first_setting, value_of}
 use Rattle.proto_checks.specs.Gathered.{field_numbers, message_ranges, message_bounds, message_reserved_names, value_numbers, enum_ranges, enum_bounds, enum_reserved_names}
 use Rattle.proto_base.specs.Least.{spot}
 use Rattle.proto_checks.specs.Marks.{NumberTwice, TextTwice, Outside, ReservedOverlap, ReservedBackwards, ReservedNumberUsed}

@@ -27,7 +27,7 @@ use Rattle.proto_desc.specs.declared.rules.OptionName.TheVariants.{Packed, Jstyp
 use Rattle.proto_desc.specs.declared.rules.OptionRule.{OptionRule}
 use Rattle.proto_desc.specs.declared.rules.ValueKind.{ValueKind}
 use Rattle.proto_desc.specs.declared.rules.ValueKind.TheVariants as value_kind
-use Rattle.proto_lower.specs.Options.{bracketed, is_setting, number_of, value_of}
+use Rattle.proto_options.specs.Options.{bracketed, is_setting, number_of, value_of}
 use Rattle.proto_tree.specs.Text.{dotted}
 use Rattle.proto_desc.specs.Rules.{rules_of}
 use Rattle.proto_base.specs.Least.{spot}

@@ -1,13 +1,13 @@
 //! Whether an enum lets its values share a number (language guide, "Enum Value Aliases").
 
 ghost use Rattle.std.specs.Prelude.{◌↔◌, IsTrue, flat_map};
-ghost use Rattle.proto_lower.specs.Options.{enum_setting, first_setting};
+ghost use Rattle.proto_options.specs.Options.{enum_setting, first_setting};
 ghost use Rattle.proto_desc.specs.declared.rules.OptionName.TheVariants.{AllowAlias};
 ghost use Rattle.proto_checks.specs.Numbers.{IsAliasing};
 
 use crate::options::is_true;
 use proto_desc::rules::OptionName;
-use proto_lower::first_setting;
+use proto_options::first_setting;
 use proto_tree::EnumItem;
 
 /// Whether the statements of an enum set `allow_alias = true`.

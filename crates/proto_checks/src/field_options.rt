@@ -1,7 +1,7 @@
 //! Rules on the options of fields (`FieldOptions`).
 
 ghost use Rattle.std.specs.Prelude.{◌≡◌, ◌↔◌, IsTrue, IfOk};
-ghost use Rattle.proto_lower.specs.Options.{separated};
+ghost use Rattle.proto_options.specs.Options.{separated};
 ghost use Rattle.proto_base.specs.Least.{IsLeast};
 ghost use Rattle.proto_checks.specs.Options.{is_packed_type, is_wide, is_repeated, IsWronglyPacked, IsOtherType, IsWronglyTyped, IsWrongOnField, FieldOptionsBreak, optioned};
 ghost use Rattle.proto_base.specs.Sets.{Each};
@@ -11,7 +11,7 @@ use crate::settings::bracketed_settings_fault;
 use proto_base::scalar_type::ScalarType;
 use proto_base::{Kind, Spot, lesser};
 use proto_desc::rules::{Element, OptionName, ValueKind};
-use proto_lower::is_setting;
+use proto_options::is_setting;
 use proto_tree::{Declarator, FieldType, Label, Options, Setting};
 use std::alloc::{AllocError, Global};
 

@@ -2,7 +2,7 @@
 //! guide, "Assigning Field Numbers", "Reserved Fields", "Enumerations", "Reserved Values").
 
 ghost use Rattle.std.specs.Prelude.{IfOk, flat_map};
-ghost use Rattle.proto_lower.specs.Options.{enum_setting, first_setting};
+ghost use Rattle.proto_options.specs.Options.{enum_setting, first_setting};
 ghost use Rattle.proto_desc.specs.declared.rules.OptionName.TheVariants.{AllowAlias};
 ghost use Rattle.proto_checks.specs.Breaks.{RangesBreak, ValueTwice, OwnFieldNumbersBreak, MessageRangesBreak, OwnValueNumbersBreak, EnumRangesBreak};
 ghost use Rattle.proto_base.specs.Least.{IsLeast};

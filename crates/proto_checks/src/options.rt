@@ -4,7 +4,7 @@ ghost use Rattle.std.specs.Prelude.{◌≡◌, ◌↔◌, Some, IsTrue, IfOk, Li
 ghost use Rattle.std.specs.Option.{is_some};
 ghost use Rattle.proto_desc.specs.declared.options.OptionValue.TheVariants.{Number};
 ghost use Rattle.proto_desc.specs.declared.rules.ValueKind.TheVariants.{Bool};
-ghost use Rattle.proto_lower.specs.Options.{is_setting, value_of};
+ghost use Rattle.proto_options.specs.Options.{is_setting, value_of};
 ghost use Rattle.proto_base.specs.Least.{IsLeast};
 ghost use Rattle.proto_checks.specs.Options.{name_place, value_place, choice_of_value, SettingsBreak};
 ghost use Rattle.proto_checks.specs.Judged.{is_known, is_mistaken, setting_fault, judged, judged_name, IsFaultOf, JudgedTwice};
@@ -17,7 +17,7 @@ use crate::repeats::first_text_twice;
 use proto_base::text::Text;
 use proto_base::{Kind, Place, Spot, lesser};
 use proto_desc::rules::{Element, ValueKind, rules};
-use proto_lower::{is_setting, number_of};
+use proto_options::{is_setting, number_of};
 use proto_tree::text::dotted;
 use proto_tree::{Constant, Setting, Sign};
 use std::alloc::{AllocError, Global};

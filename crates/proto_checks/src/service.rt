@@ -8,7 +8,7 @@ ghost use Rattle.proto_base.specs.Sets.{Each};
 use crate::settings::statement_settings_fault;
 use proto_base::{Spot, lesser};
 use proto_desc::rules::Element;
-use proto_lower::rpc_items;
+use proto_options::rpc_items;
 use proto_tree::{Rpc, Service, ServiceItem};
 use std::alloc::{AllocError, Global};
 

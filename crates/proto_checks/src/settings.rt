@@ -1,7 +1,7 @@
 //! The settings of an element, in source order, each judged by itself, and the first fault of them.
 
 ghost use Rattle.std.specs.Prelude.{◌≡◌, ◌∷◌, ◌++◌, IfOk, OnOk, [], map, flat_map};
-ghost use Rattle.proto_lower.specs.Options.{bracketed, separated};
+ghost use Rattle.proto_options.specs.Options.{bracketed, separated};
 ghost use Rattle.proto_base.specs.Least.{IsLeast};
 ghost use Rattle.proto_checks.specs.Judged.{judged};
 ghost use Rattle.proto_checks.specs.Options.{SettingsBreak};
@@ -9,7 +9,7 @@ ghost use Rattle.proto_checks.specs.Options.{SettingsBreak};
 use crate::options::{Judged, judge, settings_fault};
 use proto_base::Spot;
 use proto_desc::rules::Element;
-use proto_lower::Item;
+use proto_options::Item;
 use proto_tree::{Options, Setting};
 use std::alloc::{AllocError, Global};
 

@@ -19,7 +19,7 @@ use Rattle.proto_tree.specs.declared.message.MessageItem.TheVariants as of
 use Rattle.proto_syntax.proofs.Items.{item_message}
 use Rattle.proto_desc.specs.DeclaredNames.{Declared, scoped, declared_field, declared_oneof, declared_value, declared_by_enum, declared_by_message, declared_method, declared_by_service, file_scope, declared_by}
 use Rattle.proto_lower.specs.Files.{lowered}
-use Rattle.proto_lower.specs.Options.{file_setting}
+use Rattle.proto_options.specs.Options.{file_setting}
 use Rattle.proto_desc.specs.Places.{field_places, oneof_place, value_place, enum_places, message_places, method_places, service_places, package_places, import_place, places_of}
 use Rattle.proto_desc.specs.declared.enumeration.EnumDesc.{EnumDesc}
 use Rattle.proto_desc.specs.declared.field.FieldDesc.{FieldDesc}

@@ -26,7 +26,8 @@ use Rattle.proto_desc.specs.declared.rules.OptionName.{OptionName}
 use Rattle.proto_desc.specs.declared.rules.OptionRule.{OptionRule}
 use Rattle.proto_desc.specs.declared.rules.ValueKind.{ValueKind}
 use Rattle.proto_lower.specs.Fields.{type_place, kind_of}
-use Rattle.proto_lower.specs.Options.{next_item, separated, bracketed, is_setting, first_setting, value_of, option_at, option_by, option_under, options_of}
+use Rattle.proto_options.specs.Options.{next_item, separated, bracketed, is_setting, first_setting, value_of}
+use Rattle.proto_lower.specs.Options.{option_at, option_by, option_under, options_of}
 use Rattle.proto_desc.specs.Places.{kind_places, option_place}
 use Rattle.proto_desc.specs.Rules.{rules_of}
 use Rattle.std.proofs.Common.{◌+◌}

@@ -47,11 +47,11 @@ use Rattle.proto_tree.specs.declared.service.ServiceItem.TheVariants as service_
 use Rattle.proto_syntax.proofs.Items.{item_field, item_map, item_oneof, item_enum, item_option, item_reserved}
 use Rattle.proto_desc.specs.declared.rules.Element.{Element}
 use Rattle.proto_desc.specs.declared.rules.Element.TheVariants as element
-use Rattle.proto_lower.specs.Options.{next_item, separated, bracketed, message_setting, enum_setting, service_setting, rpc_setting, oneof_setting}
-use Rattle.proto_lower.specs.Services.{rpc_items}
+use Rattle.proto_options.specs.Options.{next_item, separated, bracketed, message_setting, enum_setting, service_setting, rpc_setting, oneof_setting}
+use Rattle.proto_options.specs.Statements.{rpc_items}
 use Rattle.proto_file.proofs.PlacesWithin.{Within, left_of, right_of, each_row, each_flat, each_map, each_weaker, ItemWithin, oneof_items_within, statement_field_within}
 use Rattle.proto_checks.specs.Elements.{OneofBreaks, ValueBreaks, EnumBreaks, BodyBreaks, RpcBreaks, ServiceBreaks, value_of_item, enum_of, rpc_of}
-use Rattle.proto_lower.specs.Laws.{oneof_of}
+use Rattle.proto_options.specs.Statements.{oneof_of}
 use Rattle.proto_checks.specs.Gathered.{literal, member_number, field_number, field_numbers, ranges_listed, names_listed, reserved_name, message_ranges_listed, message_names_listed, end_bound, upper_bound_number, bounds_of, message_range, message_ranges, message_bounds, message_reserved_names, sign_place, signed_number, value_number, value_numbers, enum_ranges_listed, enum_names_listed, enum_range, enum_ranges, enum_bounds, enum_reserved_names}
 use Rattle.proto_checks.specs.Numbers.{FieldNumbersBreak, EnumNumbersBreak, IsNoFieldNumber}
 use Rattle.proto_checks.specs.Options.{name_place, value_place, SettingBreaks, SettingsBreak, OptionedField, optioned_member, optioned_fields, FieldOptionsBreak, IsWronglyPacked, IsWronglyTyped}

@@ -12,7 +12,8 @@ use Rattle.proto_tree.specs.declared.oneof.OneofItem.TheVariants as oneof_item
 use Rattle.proto_desc.specs.declared.field.FieldDesc.{FieldDesc}
 use Rattle.proto_lower.specs.Fields.{is_optional, field_at, made_index, made_by, member_of, described, kind_of, real_count, fields_from}
 use Rattle.proto_desc.specs.declared.field.FieldLabel.TheVariants.{Optional}
-use Rattle.proto_lower.specs.Laws.{oneof_of, has_index, fields_in}
+use Rattle.proto_options.specs.Statements.{oneof_of}
+use Rattle.proto_lower.specs.Laws.{has_index, fields_in}
 use Rattle.proto_lower.specs.Oneofs.{real_named, real_of}
 use Rattle.proto_lower.proofs.OneofIndexes.{apart, apart_above, passed, kept}
 

@@ -10,6 +10,7 @@ use Rattle.proto_tree.specs.declared.message.MessageItem.{MessageItem, Message',
 use Rattle.proto_tree.specs.declared.message.MessageItem.TheVariants as of
 use Rattle.proto_lower.specs.Fields.{inner}
 use Rattle.proto_lower.specs.Messages.{message_of, nested_of, nested_row, lowered_message}
+use Rattle.proto_options.proofs.Rows.{row_of}
 
 row_flat : (full : List ℕ) (n : _) (row : Row_of-MessageItem n) → nested_row full row ≡ flat_map (nested_of full) (items-the_row-MessageItem n row)
 row_flat full n end_of-MessageItem = refl
@@ -21,11 +22,6 @@ nested_boxed full boxed (more_of-Message keyword name open_brace shape is close_
     ap (λ xs. message_of (inner full name.text) name (items-the_row-MessageItem _ is) xs ∷ []) (row_flat (inner full name.text) _ is)
     ∙ ap (λ is. message_of (inner full name.text) name is (flat_map (nested_of (inner full name.text)) is) ∷ [])
     (sym (items_shown-the_row-MessageItem-0 shape is))
-
--- the row that a message has as a statement
-abbrev pub row_of : MessageItem → (n : Count) × Row_of-Message n
-row_of (Message' boxed row) = (_, row)
-row_of _ = (_, end_of-Message)
 
 pub nested_message : (full : List ℕ) (m : Message) → nested_of full (of.Message m) ≡ lowered_message full m ∷ []
 nested_message full m =

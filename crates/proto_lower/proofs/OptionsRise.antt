@@ -11,7 +11,8 @@ use Rattle.proto_desc.specs.declared.rules.Element.TheVariants as element
 use Rattle.proto_desc.specs.declared.rules.OptionRule.{OptionRule}
 use Rattle.proto_desc.specs.declared.rules.ValueKind.{ValueKind}
 use Rattle.proto_desc.specs.Rules.{rules_of}
-use Rattle.proto_lower.specs.Options.{first_setting, value_of, option_at, option_by, option_under, options_of}
+use Rattle.proto_options.specs.Options.{first_setting, value_of}
+use Rattle.proto_lower.specs.Options.{option_at, option_by, option_under, options_of}
 
 -- each number is above the one before it, and the first at least `least`
 abbrev RisesFrom : (least : ℕ) → List ℕ → Type 0

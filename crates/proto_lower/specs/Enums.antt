@@ -7,7 +7,8 @@ use Rattle.proto_tree.specs.declared.enumeration.EnumValue.{EnumValue}
 use Rattle.proto_desc.specs.declared.enumeration.EnumDesc.{EnumDesc}
 use Rattle.proto_desc.specs.declared.enumeration.ValueDesc.{ValueDesc}
 use Rattle.proto_desc.specs.declared.rules.Element.TheVariants as element
-use Rattle.proto_lower.specs.Options.{bracketed, enum_setting, options_of}
+use Rattle.proto_options.specs.Options.{bracketed, enum_setting}
+use Rattle.proto_lower.specs.Options.{options_of}
 use Rattle.proto_lower.specs.Reserveds.{number_of_literal, enum_ranges_of, enum_names_of}
 
 abbrev pub value_desc : EnumValue → ValueDesc

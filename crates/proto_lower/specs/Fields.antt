@@ -29,7 +29,8 @@ use Rattle.proto_desc.specs.declared.type_name.TypeKind.TheVariants as type_kind
 use Rattle.proto_desc.specs.declared.type_name.TypeReference.{TypeReference}
 use Rattle.proto_desc.specs.declared.type_name.TypeReference.TheVariants.{Spelled, Resolved}
 use Rattle.proto_lower.specs.Names.{entry_name_of}
-use Rattle.proto_lower.specs.Options.{bracketed, options_of, json_name_by}
+use Rattle.proto_options.specs.Options.{bracketed}
+use Rattle.proto_lower.specs.Options.{options_of, json_name_by}
 use Rattle.proto_tree.specs.Text.{spelled}
 
 -- the first token of a type's name

@@ -15,7 +15,8 @@ use Rattle.proto_desc.specs.declared.rules.Element.TheVariants as element
 use Rattle.proto_desc.specs.declared.service.ServiceDesc.{ServiceDesc}
 use Rattle.proto_lower.specs.Enums.{lowered_enum}
 use Rattle.proto_lower.specs.Messages.{lowered_message}
-use Rattle.proto_lower.specs.Options.{file_setting, options_of}
+use Rattle.proto_options.specs.Options.{file_setting}
+use Rattle.proto_lower.specs.Options.{options_of}
 use Rattle.proto_lower.specs.Services.{lowered_service}
 use Rattle.proto_tree.specs.Text.{dotted, joined}
 

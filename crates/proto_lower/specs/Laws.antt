@@ -1,9 +1,7 @@
 -- Words of the laws on the lowered form of a message.
-use Rattle.std.specs.Prelude.{ℕ, ◌+◌, ◌≡◌, ◌==◌, Bool, true, false, List, [], ◌∷◌, ◌++◌, take, Option, Some, None}
+use Rattle.std.specs.Prelude.{ℕ, ◌+◌, ◌≡◌, ◌==◌, Bool, true, false, List, ◌∷◌, ◌++◌, take, Option, Some, None}
 use Rattle.std.specs.List.{count_by, filter, flat_map}
 use Rattle.proto_tree.specs.declared.message.Message.{Message}
-use Rattle.proto_tree.specs.declared.message.MessageItem.{MessageItem}
-use Rattle.proto_tree.specs.declared.message.MessageItem as message_item
 use Rattle.proto_tree.specs.declared.oneof.Oneof.{Oneof}
 use Rattle.proto_desc.specs.declared.field.FieldDesc.{FieldDesc}
 use Rattle.proto_desc.specs.declared.message.MessageDesc.{MessageDesc}
@@ -11,11 +9,7 @@ use Rattle.proto_desc.specs.declared.message.MessageDesc.TheViews.{out-MessageDe
 use Rattle.proto_desc.specs.declared.oneof.OneofDesc.{OneofDesc}
 use Rattle.proto_lower.specs.Fields.{real_count}
 use Rattle.proto_lower.specs.Oneofs.{names_of_fields, names_of_oneofs}
-
--- the oneof that a statement of a message is
-abbrev pub oneof_of : MessageItem → List Oneof
-oneof_of (message_item.Oneof o) = o ∷ []
-oneof_of i = []
+use Rattle.proto_options.specs.Statements.{oneof_of}
 
 -- the oneofs of a message in the source, in their order
 abbrev pub source_oneofs : Message → List Oneof

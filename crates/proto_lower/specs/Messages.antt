@@ -19,7 +19,8 @@ use Rattle.proto_lower.specs.Names.{entry_name_of}
 use Rattle.proto_lower.specs.Enums.{lowered_enum}
 use Rattle.proto_lower.specs.Fields.{inner, kind_of, scalar_of_key, fields_from, real_count}
 use Rattle.proto_lower.specs.Oneofs.{real_of, names_of_fields, with_made}
-use Rattle.proto_lower.specs.Options.{message_setting, options_of}
+use Rattle.proto_options.specs.Options.{message_setting}
+use Rattle.proto_lower.specs.Options.{options_of}
 use Rattle.proto_lower.specs.Reserveds.{message_ranges_of, message_names_of}
 
 -- `key` or `value` of an entry

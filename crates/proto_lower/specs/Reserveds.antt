@@ -17,17 +17,9 @@ use Rattle.proto_desc.specs.declared.enumeration.EnumReservedRange.{EnumReserved
 use Rattle.proto_desc.specs.declared.message.ReservedRange.{ReservedRange}
 use Rattle.proto_desc.specs.declared.whole_number.WholeNumber.{WholeNumber}
 use Rattle.proto_desc.specs.WholeNumber.{signed}
-use Rattle.proto_lower.specs.Options.{separated}
+use Rattle.proto_options.specs.Options.{separated}
 use Rattle.proto_tree.specs.Text.{joined}
-
-abbrev pub bound_number : UpperBound NumberLiteral → ℕ
-bound_number (upper_bound.Number n) = n.value
-bound_number (upper_bound.Max s) = 536870911
-
--- a range without an end ends at its start
-abbrev pub end_number : ℕ → Option (RangeEnd NumberLiteral) → ℕ
-end_number start None = start
-end_number start (Some e) = bound_number e.bound
+use Rattle.proto_options.specs.Statements.{end_number}
 
 abbrev pub message_range : Range NumberLiteral → ReservedRange
 message_range r = record { start = r.start.value; end = end_number r.start.value r.end }

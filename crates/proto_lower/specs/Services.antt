@@ -2,9 +2,6 @@
 use Rattle.std.specs.Prelude.{List, [], ◌∷◌, flat_map}
 use Rattle.std.specs.Option.{is_some}
 use Rattle.proto_tree.specs.declared.service.Rpc.{Rpc}
-use Rattle.proto_tree.specs.declared.service.RpcBody.{RpcBody}
-use Rattle.proto_tree.specs.declared.service.RpcBody.TheVariants.{Semicolon, Block}
-use Rattle.proto_tree.specs.declared.service.RpcItem.{RpcItem}
 use Rattle.proto_tree.specs.declared.service.Service.{Service}
 use Rattle.proto_tree.specs.declared.service.ServiceItem.{ServiceItem}
 use Rattle.proto_tree.specs.declared.service.ServiceItem.TheVariants as service_item
@@ -12,11 +9,9 @@ use Rattle.proto_desc.specs.declared.rules.Element.TheVariants as element
 use Rattle.proto_desc.specs.declared.service.MethodDesc.{MethodDesc}
 use Rattle.proto_desc.specs.declared.service.ServiceDesc.{ServiceDesc}
 use Rattle.proto_lower.specs.Fields.{reference_of}
-use Rattle.proto_lower.specs.Options.{rpc_setting, service_setting, options_of}
-
-abbrev pub rpc_items : RpcBody → List RpcItem
-rpc_items (Semicolon s) = []
-rpc_items (Block b) = b.items
+use Rattle.proto_options.specs.Options.{rpc_setting, service_setting}
+use Rattle.proto_lower.specs.Options.{options_of}
+use Rattle.proto_options.specs.Statements.{rpc_items}
 
 abbrev pub method_desc : Rpc → MethodDesc
 method_desc r = record {

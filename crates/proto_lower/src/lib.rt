@@ -13,12 +13,8 @@ mod oneof;
 mod options;
 mod reserved;
 mod service;
-mod settings;
 mod type_name;
 
 pub use file::lower;
 pub use laws::{oneof_index_is_its_own, optional_field_has_its_oneof, options_rise};
 pub use names::{entry_name, json_name, oneof_name};
-pub use options::number_of;
-pub use service::rpc_items;
-pub use settings::{Item, first_setting, is_setting};

@@ -3,27 +3,18 @@
 
 ghost use Rattle.std.specs.Prelude.{◌≡◌, ◌++◌, IfOk, OnOk, flat_map, Some};
 ghost use Rattle.std.specs.Option.{option_copied, option_to_list};
-ghost use Rattle.proto_lower.specs.Options.{bracketed, number_of, value_of, option_by, options_of, json_name_by};
+ghost use Rattle.proto_options.specs.Options.{bracketed, value_of};
+ghost use Rattle.proto_lower.specs.Options.{option_by, options_of, json_name_by};
 
 use crate::names::json_text;
-use crate::settings::{Item, first_bracketed, first_setting};
 use proto_base::row::Row;
 use proto_base::text::Text;
 use proto_desc::options::{OptionDesc, OptionValue};
 use proto_desc::rules::{Element, OptionName, OptionRule, ValueKind, rules};
-use proto_tree::text::{joined, simple_name};
-use proto_tree::{Constant, FullName, Options, Setting};
+use proto_options::{Item, first_bracketed, first_setting, number_of};
+use proto_tree::text::joined;
+use proto_tree::{Constant, Options, Setting};
 use std::alloc::{AllocError, Global};
-
-/// The number that a name stands for as the value of an option that takes this kind, if it is one of its choices.
-pub fn number_of(kind: ValueKind, name: &FullName) -> Option<u64>
-    ensures { result ≡ number_of kind name.now }
-{
-    match simple_name(name) {
-        Some(word) => kind.choice_number(word),
-        None => None,
-    }
-}
 
 fn value_of<'s>(
     alloc: Global,

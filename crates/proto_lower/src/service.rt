@@ -1,7 +1,7 @@
 //! Services and methods (language guide, "Defining Services").
 
 ghost use Rattle.std.specs.Prelude.{◌≡◌, ◌∷◌, ◌++◌, [], IfOk, OnOk, flat_map};
-ghost use Rattle.proto_lower.specs.Services.{rpc_items, method_desc, method_of, lowered_service};
+ghost use Rattle.proto_lower.specs.Services.{method_desc, method_of, lowered_service};
 
 use crate::options::options_of;
 use crate::type_name::type_reference;
@@ -9,18 +9,9 @@ use proto_base::row::Row;
 use proto_base::text::Text;
 use proto_desc::rules::Element;
 use proto_desc::service::{MethodDesc, ServiceDesc};
-use proto_tree::{Rpc, RpcBody, RpcItem, Service, ServiceItem};
+use proto_options::rpc_items;
+use proto_tree::{Rpc, Service, ServiceItem};
 use std::alloc::{AllocError, Global};
-
-/// The statements of a method; one that ends with a semicolon has none.
-pub fn rpc_items<'t, 's>(body: &'t RpcBody<'s>) -> &'t [RpcItem<'s>]
-    ensures { result.now ≡ rpc_items body.now }
-{
-    match body {
-        RpcBody::Semicolon(_) => &[],
-        RpcBody::Block(block) => block.items.as_slice(),
-    }
-}
 
 /// Adds a method.
 fn put_method<'s>(

@@ -1,5 +1,5 @@
 use Rattle.std.proofs.Common.{sym, arith}
-use Rattle.proto_lower.specs.Options.{next_item}
+use Rattle.proto_options.specs.Options.{next_item}
 use Rattle.proto_checks.specs.Options.{IsWrongOnField}
 use Rattle.proto_base.proofs.Among.{with_rest}
 use Rattle.proto_base.proofs.Sets.{with_more}

@@ -1,6 +1,6 @@
 use Rattle.std.specs.Prelude.{flat_map}
 use Rattle.proto_desc.specs.declared.rules.Element.TheVariants as element
-use Rattle.proto_lower.specs.Options.{file_setting}
+use Rattle.proto_options.specs.Options.{file_setting}
 use Rattle.proto_checks.specs.Checks.{NotProto3Syntax, package_in, PackageTwice, ImportTwice}
 use Rattle.proto_checks.specs.Options.{SettingsBreak}
 use Rattle.proto_base.proofs.Sets.{Either, least_either}

@@ -1,5 +1,5 @@
 use Rattle.std.proofs.Common.{◌≡◌, ◌++◌, take, map}
-use Rattle.proto_lower.specs.Options.{next_item}
+use Rattle.proto_options.specs.Options.{next_item}
 use Rattle.proto_checks.proofs.gathered.put_ranges.Given as goal
 
 abbrev pub invariant-loop-next : goal.invariant-loop-next

@@ -2,7 +2,7 @@ use Rattle.std.proofs.Common.{◌+◌, ◌-◌, ◌^◌}
 use Rattle.std.specs.Prelude.{flat_map}
 use Rattle.proto_base.specs.declared.kind.Kind.TheVariants as kind
 use Rattle.proto_desc.specs.declared.rules.OptionName.TheVariants.{AllowAlias}
-use Rattle.proto_lower.specs.Options.{enum_setting, first_setting}
+use Rattle.proto_options.specs.Options.{enum_setting, first_setting}
 use Rattle.proto_checks.specs.Breaks.{ValueTwice}
 use Rattle.proto_checks.specs.Marks.{Outside}
 use Rattle.proto_checks.specs.Numbers.{FirstNotZero}

@@ -1,5 +1,5 @@
 use Rattle.std.proofs.Common.{◌∙◌}
-use Rattle.proto_lower.specs.Options.{bracketed}
+use Rattle.proto_options.specs.Options.{bracketed}
 use Rattle.proto_base.proofs.Among.{if_ok}
 use Rattle.proto_checks.proofs.settings.bracketed_settings_fault.Goals as goal
 

@@ -1,5 +1,5 @@
 use Rattle.std.proofs.Common.{◌≡◌, ◌++◌, take, map}
-use Rattle.proto_lower.specs.Options.{next_item}
+use Rattle.proto_options.specs.Options.{next_item}
 use Rattle.proto_checks.specs.Judged.{judged}
 use Rattle.proto_checks.proofs.settings.put_bracketed.Given as goal
 

@@ -1,6 +1,7 @@
 use Rattle.std.proofs.Common.{◌≡◌, take}
 use Rattle.std.specs.Prelude.{flat_map}
-use Rattle.proto_lower.specs.Options.{option_under, bracketed}
+use Rattle.proto_options.specs.Options.{bracketed}
+use Rattle.proto_lower.specs.Options.{option_under}
 use Rattle.proto_lower.proofs.options.bracketed_options.Given as goal
 
 abbrev pub invariant-loop-rule : goal.invariant-loop-rule

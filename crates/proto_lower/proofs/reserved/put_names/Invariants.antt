@@ -1,5 +1,5 @@
 use Rattle.std.proofs.Common.{◌≡◌, ◌++◌, take, map}
-use Rattle.proto_lower.specs.Options.{next_item}
+use Rattle.proto_options.specs.Options.{next_item}
 use Rattle.proto_tree.specs.Text.{joined}
 use Rattle.proto_lower.proofs.reserved.put_names.Given as goal
 

@@ -1,6 +1,6 @@
 use Rattle.std.proofs.Common.{arith}
 use Rattle.std.proofs.lemmas.Grind.{common_steps}
-use Rattle.proto_lower.proofs.settings.first_setting.Goals as goal
+use Rattle.proto_options.proofs.settings.first_setting.Goals as goal
 
 pub loop-item-preserved : goal.loop-item-preserved
 loop-item-preserved g c = grind (arith, common_steps)

@@ -2,7 +2,7 @@
 
 ghost use Rattle.std.specs.Prelude.{◌≡◌, flat_map};
 ghost use Rattle.std.specs.Option.{option_copied, option_to_list};
-ghost use Rattle.proto_lower.specs.Options.{is_setting, first_setting, bracketed, file_setting, message_setting, oneof_setting, enum_setting, service_setting, rpc_setting};
+ghost use Rattle.proto_options.specs.Options.{is_setting, first_setting, bracketed, file_setting, message_setting, oneof_setting, enum_setting, service_setting, rpc_setting};
 
 use proto_desc::rules::OptionName;
 use proto_tree::text::simple_name;
@@ -100,7 +100,7 @@ pub fn is_setting(setting: &Setting, name: OptionName) -> bool
 }
 
 /// The first among the options of a field or of an enum value.
-pub(crate) fn first_bracketed<'t, 's>(
+pub fn first_bracketed<'t, 's>(
     options: &'t Option<Options<'s>>,
     name: OptionName,
 ) -> Option<&'t Setting<'s>>

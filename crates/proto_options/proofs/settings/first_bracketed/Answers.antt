@@ -1,6 +1,6 @@
 use Rattle.std.proofs.Common.{arith}
 use Rattle.std.proofs.lemmas.Grind.{common_steps}
-use Rattle.proto_lower.proofs.settings.first_bracketed.Goals as goal
+use Rattle.proto_options.proofs.settings.first_bracketed.Goals as goal
 
 pub returns-then-is_setting-2 : goal.returns-then-is_setting-2
 returns-then-is_setting-2 c = grind (arith, common_steps)

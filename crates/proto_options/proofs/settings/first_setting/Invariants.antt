@@ -1,7 +1,7 @@
 use Rattle.std.proofs.Common.{◌≡◌, drop}
 use Rattle.std.specs.Prelude.{flat_map}
-use Rattle.proto_lower.specs.Options.{first_setting}
-use Rattle.proto_lower.proofs.settings.first_setting.Given as goal
+use Rattle.proto_options.specs.Options.{first_setting}
+use Rattle.proto_options.proofs.settings.first_setting.Given as goal
 
 abbrev pub invariant-loop-item : goal.invariant-loop-item
 invariant-loop-item g l =
