@@ -67,6 +67,8 @@ impl Model for MarkSeat {
 impl<'r, R: Reach> MarkTable<'r, R> {
     /// A table with a word for each file, all `NONE`, and its first seat, which has all 2^32 parts.
     pub fn new(alloc: Global, reach: &'r R) -> Result<(MarkTable<'r, R>, MarkSeat), AllocError>
+    where
+        R: Sync,
         ensures { IfOk result (λ r. (r.0.reach ≡ reach.entry.now)
             × (r.1 ≡ mark_seat_value r.0.table mark_whole)) }
     {

@@ -5,7 +5,7 @@ use Rattle.std.specs.IoError.{error_kind}
 use Rattle.std.specs.declared.fs.Metadata.{Metadata}
 use Rattle.std.specs.declared.io.Error.{Error}
 use Rattle.std.specs.declared.io.ErrorKind.TheVariants.{FilesystemLoop, NotADirectory, NotFound}
-use Rattle.source_folder.specs.Faults.{LacksMemory}
+use Rattle.device_error.specs.Memory.{LacksMemory}
 use Rattle.source_folder.specs.declared.fault.FolderFault.{FolderFault}
 use Rattle.source_folder.specs.declared.fault.FolderFault.TheVariants as faults
 use Rattle.source_folder.specs.declared.walk.Kind.{Kind}

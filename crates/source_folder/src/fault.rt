@@ -1,9 +1,10 @@
 //! Why a folder could not be read.
 
-ghost use Rattle.std.specs.Prelude.{◌≡◌, ◌↔◌, IsTrue};
-ghost use Rattle.source_folder.specs.Faults.{IsUnlessNoMemory, LacksMemory};
+ghost use Rattle.std.specs.Prelude.{◌≡◌};
+ghost use Rattle.source_folder.specs.Faults.{IsUnlessNoMemory};
 ghost use Rattle.source_folder.specs.declared.fault.FolderFault.TheVariants as faults;
 
+use device_error::is_no_memory;
 use std::alloc::{AllocError, AllocFailed};
 use std::io;
 use thiserror::Error;
@@ -46,13 +47,6 @@ impl FolderFault {
             self
         }
     }
-}
-
-/// Whether an error says that the allocator had no memory. Where the system had none, the error has its number.
-pub(crate) fn is_no_memory(error: &io::Error) -> bool
-    ensures { IsTrue result ↔ LacksMemory error.now }
-{
-    error.kind() == io::ErrorKind::OutOfMemory && error.raw_os_error().is_none()
 }
 
 impl From<AllocError> for FolderFault {

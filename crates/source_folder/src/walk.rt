@@ -3,8 +3,9 @@
 ghost use Rattle.std.specs.Prelude.{◌≡◌, ◌↔◌, ◌≤◌, Err, IfOk, IsTrue, OnOk, string_bytes, vec_len};
 ghost use Rattle.source_folder.specs.Paths.{ends_in_proto};
 
-use crate::fault::{FolderFault, is_no_memory};
+use crate::fault::FolderFault;
 use crate::paths::{is_proto, join_path};
+use device_error::is_no_memory;
 use std::alloc::{AllocGlobal, Global};
 use std::fs::{self, Metadata};
 use std::io;
