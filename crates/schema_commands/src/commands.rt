@@ -26,8 +26,7 @@ fn read_input<I: Read + Drop>(
     let mut limited = input.take(limits.get(limit) + 1);
     match limited.read_to_end(&mut bytes) {
         Ok(_) => Ok(bytes),
-        Err(error) if error.kind() == io::ErrorKind::OutOfMemory => Err(Failure::NoMemory),
-        Err(_) => Err(Failure::Input),
+        Err(error) => Err(Failure::Input.unless_no_memory(&error)),
     }
 }
 

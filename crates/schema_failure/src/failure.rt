@@ -1,17 +1,21 @@
 //! A failure, and what a run ends with.
 
 ghost use Rattle.std.specs.Prelude.{◌≡◌, ◌<◌, ◌≤◌, ◌-◌, ◌^◌, Contains, IfSome, length, option_map, string_bytes};
+ghost use Rattle.device_error.specs.Memory.{IsUnlessNoMemory};
 ghost use Rattle.proto_compile.specs.Sources.{name_of, text_of};
 ghost use Rattle.proto_compile.specs.declared.source.Source.{Source};
 ghost use Rattle.schema_failure.specs.declared.failure.Failure.TheVariants as failures;
+ghost use Rattle.schema_failure.specs.Faults.{of_exchange, of_folder, of_service};
 ghost use Rattle.schema_failure.specs.Placed.{located, source_named};
 ghost use Rattle.schema_failure.specs.Statuses.{status_of, code_of};
 
+use device_error::{ServeFault, is_no_memory};
 use grpcweb_core::IoFault;
 use proto_base::{Fault, Kind, line_column};
 use proto_compile::Source;
 use source_folder::FolderFault;
 use std::alloc::{AllocError, AllocFailed};
+use std::io;
 use thiserror::Error;
 
 /// What a run ends with.
@@ -79,6 +83,17 @@ impl Failure {
             Failure::NoMemory => Status::NoMemory,
         }
     }
+
+    /// This failure of a device, unless its error says that the allocator had no memory.
+    pub fn unless_no_memory(self, error: &io::Error) -> Failure
+        ensures { IsUnlessNoMemory error.now failures.NoMemory self result }
+    {
+        if is_no_memory(error) {
+            Failure::NoMemory
+        } else {
+            self
+        }
+    }
 }
 
 impl From<AllocError> for Failure {
@@ -98,6 +113,8 @@ impl<T: Drop> From<AllocFailed<T>> for Failure {
 }
 
 impl From<FolderFault> for Failure {
+    ghost from_gives = { λ fault failure. failure ≡ of_folder fault };
+
     fn from(fault: FolderFault) -> Failure {
         match fault {
             FolderFault::Listing | FolderFault::Reading => Failure::Folder,
@@ -107,11 +124,24 @@ impl From<FolderFault> for Failure {
 }
 
 impl From<IoFault> for Failure {
+    ghost from_gives = { λ fault failure. failure ≡ of_exchange fault };
+
     fn from(fault: IoFault) -> Failure {
         match fault {
             IoFault::ReadFault => Failure::Input,
             IoFault::WriteFault { .. } => Failure::Output,
             IoFault::NoMemory => Failure::NoMemory,
+        }
+    }
+}
+
+impl From<ServeFault> for Failure {
+    ghost from_gives = { λ fault failure. failure ≡ of_service fault };
+
+    fn from(fault: ServeFault) -> Failure {
+        match fault {
+            ServeFault::AcceptFault => Failure::Accept,
+            ServeFault::NoMemory => Failure::NoMemory,
         }
     }
 }
