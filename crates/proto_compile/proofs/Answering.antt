@@ -5,8 +5,8 @@ use Rattle.proto_base.specs.declared.kind.Kind.{Kind}
 use Rattle.proto_base.specs.declared.limits.Limits.{Limits}
 use Rattle.proto_base.specs.declared.place.Place.{Place}
 use Rattle.proto_compile.specs.Compilation.{Compilation, IsCompiled}
-use Rattle.proto_compile.specs.Faults.{IsFirstFault, IsPlaced, IsRefusal}
-use Rattle.proto_compile.specs.FaultSet.{IsFault, IsLeastFault, SourceFault, TellsOf, told_by}
+use Rattle.proto_compile.specs.Faults.{IsFirstFault, IsRefusal}
+use Rattle.proto_compile.specs.FaultSet.{IsFault, IsLeastFault, IsPlaced, SourceFault, TellsOf, told_by}
 use Rattle.proto_compile.specs.declared.error.CompileError.{CompileError}
 use Rattle.proto_compile.specs.declared.error.CompileError.TheVariants as errors
 use Rattle.proto_compile.specs.declared.source.Source.{Source}

@@ -12,7 +12,8 @@ use Rattle.proto_base.specs.declared.limits.Limit.TheVariants as limit
 use Rattle.proto_base.specs.declared.limits.Limits.{Limits}
 use Rattle.proto_base.specs.declared.place.Place.{Place}
 use Rattle.proto_compile.specs.Descriptions.{Describe, SourceDescribes}
-use Rattle.proto_compile.specs.Faults.{Stands, start}
+use Rattle.proto_compile.specs.FaultSet.{start}
+use Rattle.proto_compile.specs.Faults.{Stands}
 use Rattle.proto_file.specs.Local.{IsLocalFault}
 use Rattle.proto_compile.specs.Sources.{AreByName, AreSorted, IsFirstRepeated, name_at, name_of, text_of}
 use Rattle.proto_compile.specs.declared.source.Source.{Source}

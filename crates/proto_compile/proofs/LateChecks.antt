@@ -17,7 +17,7 @@ use Rattle.proto_base.specs.declared.place.Place.{Place}
 use Rattle.proto_compile.specs.Analysed.{AreResolved, AreTypedFrom, IsAnalysed}
 use Rattle.proto_compile.specs.Compilation.{Compilation, IsShort, IsWritten, set_of}
 use Rattle.proto_compile.specs.Descriptions.{Describe}
-use Rattle.proto_compile.specs.Faults.{start}
+use Rattle.proto_compile.specs.FaultSet.{start}
 use Rattle.proto_compile.specs.declared.source.Source.{Source}
 use Rattle.proto_compile.proofs.OneCompilation.{IsFirstLong, one_set}
 use Rattle.proto_compile.proofs.OneTyping.{IsFirstBreak, analysed_alike, analysed_moved, one_description, one_resolved}

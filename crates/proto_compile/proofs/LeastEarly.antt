@@ -18,8 +18,8 @@ use Rattle.proto_file.specs.Local.{IsLocalFault}
 use Rattle.proto_file.proofs.OneLocal.{one_local}
 use Rattle.proto_links.specs.Imports as imports
 use Rattle.proto_compile.specs.Descriptions.{Describe, SourceDescribes}
-use Rattle.proto_compile.specs.FaultSet.{AreDescribed}
-use Rattle.proto_compile.specs.Faults.{Stands, start}
+use Rattle.proto_compile.specs.FaultSet.{AreDescribed, start}
+use Rattle.proto_compile.specs.Faults.{Stands}
 use Rattle.proto_compile.specs.Sources.{AreByName, AreSorted, name_at, name_of, text_of}
 use Rattle.proto_compile.specs.declared.source.Source.{Source}
 use Rattle.proto_compile.proofs.Checks.{Check, Told, same_told, told}

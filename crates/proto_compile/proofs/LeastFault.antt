@@ -6,8 +6,8 @@ use Rattle.proto_base.specs.declared.limits.Limits.{Limits}
 use Rattle.proto_base.specs.declared.place.Place.{Place}
 use Rattle.proto_links.specs.Imports as imports
 use Rattle.proto_compile.specs.Compilation.{Compilation, IsCompiled}
-use Rattle.proto_compile.specs.FaultSet.{Breaks, IsFault, IsLeastFault, bad_import, bad_type, file_fault, long_descriptor, long_set, many_files, many_names, repeated_file_name, repeated_name}
-use Rattle.proto_compile.specs.Faults.{IsFirstFault, descriptor_too_long, file_name_twice, in_file, in_imports, in_types, name_twice, set_too_long, start, too_many_files, too_many_names}
+use Rattle.proto_compile.specs.FaultSet.{Breaks, IsFault, IsLeastFault, bad_import, bad_type, file_fault, long_descriptor, long_set, many_files, many_names, repeated_file_name, repeated_name, start}
+use Rattle.proto_compile.specs.Faults.{IsFirstFault, descriptor_too_long, file_name_twice, in_file, in_imports, in_types, name_twice, set_too_long, too_many_files, too_many_names}
 use Rattle.proto_compile.specs.declared.source.Source.{Source}
 use Rattle.proto_compile.proofs.AfterFirst.{names_after}
 use Rattle.proto_compile.proofs.Twice.{order_least, out_of_order}

@@ -25,8 +25,7 @@ use Rattle.proto_names.specs.Occurrences.{IsFirstTwice, IsTwice, NoneTwice, Occu
 use Rattle.wire_bytes.specs.Descriptor.{file_desc_bytes}
 use Rattle.proto_compile.specs.Analysed.{AreResolved, AreTypedFrom, TypesAt, TypesBreakAt}
 use Rattle.proto_compile.specs.Compilation.{IsShort}
-use Rattle.proto_compile.specs.FaultSet.{AreDescribed}
-use Rattle.proto_compile.specs.Faults.{StandsDesc, start}
+use Rattle.proto_compile.specs.FaultSet.{AreDescribed, StandsDesc, start}
 use Rattle.proto_compile.specs.declared.source.Source.{Source}
 use Rattle.proto_compile.proofs.Checks.{Told, told}
 use Rattle.proto_compile.proofs.FaultOrder.{IsNoLater, found_as, same_later}

@@ -15,7 +15,7 @@ use Rattle.wire_bytes.specs.Descriptor.{file_desc_bytes}
 use Rattle.wire_format.specs.Field.{bytes_field}
 use Rattle.proto_compile.specs.Analysed.{AreResolved}
 use Rattle.proto_compile.specs.Compilation.{Compilation, CompiledFile, IsCompiled, IsShort, IsWritten, bytes_at, file_bytes, file_name, set_of}
-use Rattle.proto_compile.specs.Faults.{StandsDesc}
+use Rattle.proto_compile.specs.FaultSet.{StandsDesc}
 use Rattle.proto_compile.specs.Sources.{name_of}
 use Rattle.proto_compile.specs.declared.source.Source.{Source}
 use Rattle.proto_compile.proofs.OneTyping.{analysed_moved, one_description, one_resolved, standing_in}

@@ -21,7 +21,8 @@ use Rattle.proto_base.specs.declared.place.Place.{Place}
 use Rattle.proto_types.proofs.Unique.{breaks_alike, file_same}
 use Rattle.proto_compile.specs.Analysed.{AreResolved, AreTypedFrom, IsAnalysed, TypesAt, TypesBreakAt}
 use Rattle.proto_compile.specs.Descriptions.{Describe, SourceDescribes}
-use Rattle.proto_compile.specs.Faults.{NoneBreakBefore, StandsDesc}
+use Rattle.proto_compile.specs.FaultSet.{StandsDesc}
+use Rattle.proto_compile.specs.Faults.{NoneBreakBefore}
 use Rattle.proto_compile.specs.Sources.{name_of, text_of}
 use Rattle.proto_compile.specs.declared.source.Source.{Source}
 use Rattle.proto_file.proofs.OneLocal.{one_descriptor}

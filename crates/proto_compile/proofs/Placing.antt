@@ -23,7 +23,8 @@ use Rattle.proto_names.specs.Occurrences.{Occurrence, occurrences_of, occurrence
 use Rattle.proto_types.specs.References.{Reference, ReferenceBreaks, TypesBreak, references}
 use Rattle.proto_compile.specs.Analysed.{TypesAt}
 use Rattle.proto_compile.specs.Descriptions.{SourceDescribes}
-use Rattle.proto_compile.specs.Faults.{IsFirstFault, IsPlaced, IsRefusal, Stands, StandsDesc, start, too_many_files, file_name_twice, in_file, in_imports, too_many_names, name_twice, in_types, descriptor_too_long, set_too_long}
+use Rattle.proto_compile.specs.FaultSet.{IsPlaced, StandsDesc, start}
+use Rattle.proto_compile.specs.Faults.{IsFirstFault, IsRefusal, Stands, too_many_files, file_name_twice, in_file, in_imports, too_many_names, name_twice, in_types, descriptor_too_long, set_too_long}
 use Rattle.proto_compile.specs.Sources.{AreByName, NamesRise, name_at, name_of, text_of}
 use Rattle.proto_compile.specs.declared.error.CompileError.{CompileError}
 use Rattle.proto_compile.specs.declared.error.CompileError.TheVariants as errors

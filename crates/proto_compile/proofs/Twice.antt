@@ -14,7 +14,7 @@ use Rattle.proto_compile.specs.declared.source.Source.{Source}
 use Rattle.proto_base.specs.declared.kind.Kind.TheVariants as kind
 use Rattle.proto_base.specs.declared.limits.Limits.{Limits}
 use Rattle.std.proofs.lemmas.List.Sorted.{IsPermutation-sym, sum_by-IsPermutation}
-use Rattle.proto_compile.specs.Faults.{start}
+use Rattle.proto_compile.specs.FaultSet.{start}
 use Rattle.proto_compile.proofs.Checks.{Told, told}
 use Rattle.proto_compile.proofs.EarlyChecks.{FindsRepeated, order_check}
 use Rattle.proto_compile.proofs.FaultOrder.{NoLater}

@@ -1,5 +1,5 @@
 -- The faults of sources: what breaks a rule of a pass, what of it is judged, and the first.
-use Rattle.std.specs.Prelude.{◌≡◌, ◌≢◌, ℕ, ◌<◌, List, [], length, string_bytes, Contains}
+use Rattle.std.specs.Prelude.{◌≡◌, ◌≢◌, ◌⊎◌, ℕ, ◌<◌, ◌≤◌, List, [], length, slice_index_or, string_bytes, Contains}
 use Rattle.std.specs.List.{AllZip}
 use Rattle.std.specs.declared.cmp.Ordering.TheVariants.{Greater}
 use Rattle.proto_base.specs.Fault.{Found, found_cmp}
@@ -24,7 +24,6 @@ use Rattle.wire_bytes.specs.Descriptor.{file_desc_bytes}
 use Rattle.proto_compile.specs.Analysed.{AreResolved}
 use Rattle.proto_compile.specs.Compilation.{Compilation, IsWritten, set_of}
 use Rattle.proto_compile.specs.Descriptions.{SourceDescribes}
-use Rattle.proto_compile.specs.Faults.{StandsDesc, start}
 use Rattle.proto_compile.specs.Sources.{AreByName, name_at, name_of, text_of}
 use Rattle.proto_compile.specs.declared.error.CompileError.{CompileError}
 use Rattle.proto_compile.specs.declared.error.CompileError.TheVariants as errors
@@ -38,6 +37,9 @@ pub record SourceFault : Type 0 where
   pub place : Place
   pub kind : Kind
 
+abbrev pub start : Place
+start = record { offset = 0 }
+
 abbrev pub fault : ℕ → List ℕ → ℕ → Place → Kind → SourceFault
 fault pass file step place kind = record { pass = pass; file = file; step = step; place = place; kind = kind }
 
@@ -49,6 +51,10 @@ abbrev pub of_file : ℕ → List ℕ → Place → Kind → SourceFault
 of_file pass file place kind = fault pass file 0 place kind
 
 -- ---- what breaks a rule
+
+-- the descriptor stands at k
+abbrev pub StandsDesc : List FileDesc → ℕ → FileDesc → Type 0
+StandsDesc descs k desc = (k < length descs) × (slice_index_or descs k desc ≡ desc)
 
 -- what the sources describe, each by itself, in the order of their names
 pub record AreDescribed (limits : Limits) (sources : List Source) (descs : List FileDesc) : Type 0 where
@@ -111,3 +117,12 @@ told_by f = fault f.pass (string_bytes f.file) f.step f.place f.kind
 abbrev pub TellsOf : (SourceFault → Type 0) → CompileError → Type 0
 TellsOf P (errors.First f) = P (told_by f)
 TellsOf P errors.NoMemory = Unit {0}
+
+-- ---- where faults stand
+
+-- a fault's file is one of the sources, unless the fault is one of the whole list; its place lies within the text of
+-- its file
+pub record IsPlaced (limits : Limits) (sources : List Source) (file : List ℕ) (place : Place) : Type 0 where
+  pub of_source : (file ≡ []) ⊎ ((s : Source) × Contains sources s × (name_of s ≡ file))
+  pub within : (s : Source) → Contains sources s → name_of s ≡ file → place.offset ≤ length (text_of s)
+  pub short : place.offset ≤ limit_of limits limit.FileBytes

@@ -3,8 +3,8 @@
 ghost use Rattle.std.specs.Prelude.{◌≡◌, ℕ, List, true, All, IfOk, IfErr, IsErrAnd, MatchResult, OnOk, length, map};
 ghost use Rattle.proto_compile.specs.Analysed.{AreResolved};
 ghost use Rattle.proto_compile.specs.Compilation.{Compilation, IsCompiled, IsShort, IsWritten, file_bytes, file_name};
-ghost use Rattle.proto_compile.specs.FaultSet.{IsFault, IsLeastFault, SourceFault, TellsOf};
-ghost use Rattle.proto_compile.specs.Faults.{IsFirstFault, IsPlaced, IsRefusal};
+ghost use Rattle.proto_compile.specs.FaultSet.{IsFault, IsLeastFault, IsPlaced, SourceFault, TellsOf};
+ghost use Rattle.proto_compile.specs.Faults.{IsFirstFault, IsRefusal};
 ghost use Rattle.proto_compile.specs.Sources.{NamesRise, name_of};
 ghost use Rattle.proto_compile.specs.Steps.{AreWritten, compilation, items_of};
 ghost use Rattle.proto_compile.specs.declared.error.CompileError.TheVariants as errors;

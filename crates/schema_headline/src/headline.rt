@@ -2,8 +2,7 @@
 //! alone: no worker, no piece of work and no gate changes what they answer.
 
 ghost use Rattle.std.specs.Prelude.{◌≡◌, ℕ, List, IfOk, IfErr, IsErrAnd, MatchResult};
-ghost use Rattle.proto_compile.specs.FaultSet.{IsFault, IsLeastFault, SourceFault, TellsOf};
-ghost use Rattle.proto_compile.specs.Faults.{IsPlaced};
+ghost use Rattle.proto_compile.specs.FaultSet.{IsFault, IsLeastFault, IsPlaced, SourceFault, TellsOf};
 ghost use Rattle.proto_compile.specs.declared.error.CompileError.TheVariants as errors;
 ghost use Rattle.schema_headline.specs.Headline.{IsResponseOf, IsSetOf};
 

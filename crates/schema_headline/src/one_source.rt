@@ -1,8 +1,7 @@
 //! Describing one source.
 
 ghost use Rattle.std.specs.Prelude.{[], ◌∷◌, IfOk, IfErr};
-ghost use Rattle.proto_compile.specs.FaultSet.{IsLeastFault, TellsOf};
-ghost use Rattle.proto_compile.specs.Faults.{IsPlaced};
+ghost use Rattle.proto_compile.specs.FaultSet.{IsLeastFault, IsPlaced, TellsOf};
 ghost use Rattle.schema_headline.specs.Describe.{IsDescribedBy, IsDescription};
 
 use proto_base::Limits;
