@@ -1,11 +1,12 @@
 //! A failure, and what a run ends with.
 
-ghost use Rattle.std.specs.Prelude.{◌≡◌, ◌<◌, ◌≤◌, ◌-◌, ◌^◌, Contains, IfSome, length, option_map, string_bytes};
+ghost use Rattle.std.specs.Prelude.{◌≡◌, ◌<◌, ◌≤◌, ◌-◌, ◌^◌, Contains, IfSome, Some, length, option_map, string_bytes};
 ghost use Rattle.device_error.specs.Memory.{IsUnlessNoMemory};
 ghost use Rattle.proto_compile.specs.Sources.{name_of, text_of};
 ghost use Rattle.proto_compile.specs.declared.source.Source.{Source};
 ghost use Rattle.schema_failure.specs.declared.failure.Failure.TheVariants as failures;
 ghost use Rattle.schema_failure.specs.Faults.{of_exchange, of_folder, of_service};
+ghost use Rattle.schema_failure.specs.Lines.{line_of};
 ghost use Rattle.schema_failure.specs.Placed.{located, source_named};
 ghost use Rattle.schema_failure.specs.Statuses.{status_of, code_of};
 
@@ -15,8 +16,8 @@ use proto_base::{Fault, Kind, line_column};
 use proto_compile::Source;
 use source_folder::FolderFault;
 use std::alloc::{AllocError, AllocFailed};
-use std::io;
-use thiserror::Error;
+use std::error::Error;
+use std::{fmt, io};
 
 /// What a run ends with.
 #[derive(Clone, Copy)]
@@ -45,26 +46,19 @@ impl Status {
 }
 
 /// Why a run came to no end, with its line for the user.
-#[derive(Debug, Drop, Error)]
+#[derive(Debug, Drop)]
 pub enum Failure {
-    #[error("{file}:{line}:{column}: {kind}")]
     Source {
         file: String,
         line: u32,
         column: u32,
         kind: Kind,
     },
-    #[error("device: input")]
     Input,
-    #[error("device: output")]
     Output,
-    #[error("device: folder")]
     Folder,
-    #[error("device: listen")]
     Listen,
-    #[error("device: accept")]
     Accept,
-    #[error("out of memory")]
     NoMemory,
 }
 
@@ -95,6 +89,29 @@ impl Failure {
         }
     }
 }
+
+impl fmt::Display for Failure {
+    ghost output = { λ failure. Some (line_of failure) };
+
+    fn fmt<W: fmt::Write>(&self, f: &mut fmt::Formatter<W>) -> fmt::Result {
+        match self {
+            Failure::Source {
+                file,
+                line,
+                column,
+                kind,
+            } => write!(f, "{file}:{line}:{column}: {kind}"),
+            Failure::Input => f.write_str("device: input"),
+            Failure::Output => f.write_str("device: output"),
+            Failure::Folder => f.write_str("device: folder"),
+            Failure::Listen => f.write_str("device: listen"),
+            Failure::Accept => f.write_str("device: accept"),
+            Failure::NoMemory => f.write_str("out of memory"),
+        }
+    }
+}
+
+impl Error for Failure {}
 
 impl From<AllocError> for Failure {
     ghost from_gives = { λ _ e. e ≡ failures.NoMemory };
