@@ -85,7 +85,7 @@ where
     }
 }
 
-/// Compiles the sources below a folder, and writes the set to a file or, without one, to the output.
+/// Compiles the sources below a folder, and writes the set to a file or, without one or where it is `-`, to the output.
 pub fn run_compile<R, O>(
     rt: &R,
     root: &str,
@@ -101,8 +101,8 @@ where
     let texts = read_folder(rt, root, &limits)?;
     let set = set_of_texts(rt, &texts, &limits, plan)?;
     match file {
-        Some(path) => write_whole(rt, path, &set),
-        None => write_bytes(output, &set),
+        Some("-") | None => write_bytes(output, &set),
+        Some(path) => write_whole(rt, path, &set, output),
     }
 }
 

@@ -1,74 +1,262 @@
-//! A file that is written whole or not at all: under a name beside it, which it then takes the place of.
+//! A set that goes to a file. Where the system lets it be, the file is written whole or not at all: under a name beside
+//! it, which then takes its place.
 
+use schema_devices::write_bytes;
 use schema_failure::Failure;
 use std::alloc::AllocGlobal;
-use std::fs::{self, File, OpenFile};
-use std::io::{self, Write};
-use std::path::PathBuf;
+use std::fs::{self, File, FileType, Metadata, OpenFile};
+use std::io::{self, ErrorKind, Write};
+use std::os::unix::fs::{MetadataExt, OpenOptionsExt, chown};
+use std::path::{Path, PathBuf};
 use std::random::RandomSource;
 use std::rt::Files;
 
-/// A name beside a path that no other run takes.
-fn name_beside<R>(rt: &R, path: &str) -> Result<String, Failure>
-where
-    R: RandomSource + AllocGlobal,
-{
-    let mut random = [0u8; 8];
-    if rt.fill_bytes(&mut random).is_err() {
-        return Err(Failure::Output);
-    }
-    let number = u64::from_ne_bytes(random);
-    Ok(format!(in rt.alloc(); "{path}.{number:016x}")?)
+/// How many links a path may lead through, as for the system.
+const MOST_LINKS: u32 = 40;
+
+/// The mode of a file that only its owner reads and writes.
+const PRIVATE: u32 = 0o600;
+
+/// What a path leads to.
+#[derive(Drop)]
+enum Place {
+    /// The standard output of this process.
+    StandardOutput,
+    /// A terminal, a pipe, /dev/null: what is written to where it stands.
+    Device,
+    /// The file at this path, which is no link.
+    File(PathBuf),
+    /// Nothing yet, at this path, which is no link.
+    Free(PathBuf),
 }
 
-/// The path of the file that a path leads to by links.
-fn follow_links<R>(rt: &R, path: &str) -> Result<PathBuf, Failure>
+fn is_link<R: Files>(rt: &R, path: Path<'_>) -> bool {
+    fs::symlink_metadata(rt, path).is_ok_and(|found| found.is_symlink())
+}
+
+/// The folder that a path is in, by its own path from the root.
+fn folder_of<R>(rt: &R, path: Path<'_>) -> io::Result<PathBuf>
 where
     R: Files + AllocGlobal,
 {
-    match fs::canonicalize(rt, path) {
-        Ok(followed) => Ok(followed),
-        Err(error) => Err(Failure::Output.unless_no_memory(&error)),
+    match path.parent() {
+        Some(folder) if !folder.as_str().is_empty() => fs::canonicalize(rt, folder),
+        _ => fs::canonicalize(rt, "."),
     }
 }
 
-/// Writes to what stands at a path and is no file: a terminal, a pipe, /dev/null.
+/// Whether a link is one by which the system shows what a process has open. What it seems to name may be gone, or be
+/// written to from some place on.
+fn is_of_process<R>(rt: &R, link: Path<'_>) -> io::Result<bool>
+where
+    R: Files + AllocGlobal,
+{
+    Ok(folder_of(rt, link)?.starts_with("/proc"))
+}
+
+/// Whether such a link is that of this process's standard output.
+fn is_standard_output<R>(rt: &R, link: Path<'_>) -> io::Result<bool>
+where
+    R: Files + AllocGlobal,
+{
+    let descriptors = fs::canonicalize(rt, "/proc/self/fd")?;
+    Ok(link.file_name() == Some("1") && folder_of(rt, link)? == descriptors)
+}
+
+/// The path that a link names.
+fn target_of<R>(rt: &R, link: Path<'_>) -> io::Result<PathBuf>
+where
+    R: Files + AllocGlobal,
+{
+    let target = fs::read_link(rt, link)?;
+    match link.parent() {
+        Some(folder) => Ok(folder.join(rt.alloc(), target)?),
+        None => Ok(target),
+    }
+}
+
+/// Where a path leads by links, up to one that shows what a process has open.
+fn follow_links<R>(rt: &R, path: &str) -> io::Result<PathBuf>
+where
+    R: Files + AllocGlobal,
+{
+    let mut followed = PathBuf::from_str(rt.alloc(), path)?;
+    for _ in 0..MOST_LINKS {
+        if !is_link(rt, followed.as_path()) || is_of_process(rt, followed.as_path())? {
+            return Ok(followed);
+        }
+        followed = target_of(rt, followed.as_path())?;
+    }
+    Err(io::Error::from(ErrorKind::FilesystemLoop))
+}
+
+/// What stands at a path, if anything does. The system says it, which may refuse to follow a link of another user. A
+/// folder is refused.
+fn look_at<R: Files>(rt: &R, path: &str) -> io::Result<Option<FileType>> {
+    match fs::metadata(rt, path) {
+        Ok(found) if found.is_dir() => Err(io::Error::from(ErrorKind::IsADirectory)),
+        Ok(found) => Ok(Some(found.file_type())),
+        Err(error) if error.kind() == ErrorKind::NotFound => Ok(None),
+        Err(error) => Err(error),
+    }
+}
+
+/// What is behind a link that shows what a process has open. A file is refused, but for standard output: from where on it
+/// is written only its own descriptor knows.
+fn place_of_open<R>(rt: &R, link: Path<'_>, found: Option<FileType>) -> io::Result<Place>
+where
+    R: Files + AllocGlobal,
+{
+    if is_standard_output(rt, link)? {
+        return Ok(Place::StandardOutput);
+    }
+    match found {
+        Some(found) if !found.is_file() => Ok(Place::Device),
+        _ => Err(io::Error::from(ErrorKind::Unsupported)),
+    }
+}
+
+/// What a path leads to.
+fn place_of<R>(rt: &R, path: &str) -> io::Result<Place>
+where
+    R: Files + AllocGlobal,
+{
+    let found = look_at(rt, path)?;
+    let followed = follow_links(rt, path)?;
+    if is_link(rt, followed.as_path()) {
+        return place_of_open(rt, followed.as_path(), found);
+    }
+    match found {
+        None => Ok(Place::Free(followed)),
+        Some(found) if found.is_file() => Ok(Place::File(followed)),
+        Some(_) => Ok(Place::Device),
+    }
+}
+
+/// A path beside another that no other run takes. The name is short, so that there is room for it wherever there is for
+/// that of the file.
+fn path_beside<R>(rt: &R, path: Path<'_>) -> io::Result<PathBuf>
+where
+    R: RandomSource + AllocGlobal,
+{
+    let Some(folder) = path.parent() else {
+        return Err(io::Error::from(ErrorKind::InvalidInput));
+    };
+    let mut random = [0u8; 8];
+    rt.fill_bytes(&mut random)?;
+    let number = u64::from_ne_bytes(random);
+    let name = format!(in rt.alloc(); ".schema_server.{number:016x}.unfinished")?;
+    Ok(folder.join(rt.alloc(), name)?)
+}
+
+/// Makes a file that is not there yet. One that is to be as another is nobody else's until it is.
+fn make_new<R>(rt: &R, path: Path<'_>, kept: Option<&Metadata>) -> io::Result<R::File>
+where
+    R: Files,
+{
+    let mut options = File::options();
+    options.write(true).create_new(true);
+    if kept.is_some() {
+        options.mode(PRIVATE);
+    }
+    options.open(rt, path)
+}
+
+/// Writes a new file at this path, which gets the owner, the group and the mode of another, and waits until the disk has it.
+fn fill<R>(
+    rt: &R,
+    path: Path<'_>,
+    file: R::File,
+    bytes: &[u8],
+    kept: Option<&Metadata>,
+) -> io::Result<()>
+where
+    R: Files,
+{
+    let mut file = file;
+    file.write_all(bytes)?;
+    if let Some(kept) = kept {
+        chown(rt, path, Some(kept.uid()), Some(kept.gid()))?;
+        file.set_permissions(kept.permissions())?;
+    }
+    file.sync_all()
+}
+
+/// Puts a file in the place of what stands at a path, if anything does. Where that fails, nothing has changed.
+fn replace<R>(rt: &R, path: Path<'_>, bytes: &[u8], kept: Option<&Metadata>) -> io::Result<()>
+where
+    R: Files + RandomSource + AllocGlobal,
+{
+    let named = path_beside(rt, path)?;
+    let beside = named.as_path();
+    let file = make_new(rt, beside, kept)?;
+    let placed = match fill(rt, beside, file, bytes, kept) {
+        Ok(()) => fs::rename(rt, beside, path),
+        failed => failed,
+    };
+    if placed.is_err() {
+        let _ = fs::remove_file(rt, beside);
+    }
+    placed
+}
+
+/// Whether an error says that no file may be made in a folder, or none take another's place or have its owner: and not
+/// that there is no room.
+fn is_refusal(error: &io::Error) -> bool {
+    matches!(
+        error.kind(),
+        ErrorKind::PermissionDenied
+            | ErrorKind::ReadOnlyFilesystem
+            | ErrorKind::ResourceBusy
+            | ErrorKind::CrossesDevices
+            | ErrorKind::InvalidFilename
+            | ErrorKind::InvalidInput
+            | ErrorKind::Unsupported
+    )
+}
+
+/// Writes over what a file has.
+fn write_over<F: Write + OpenFile>(file: &mut F, bytes: &[u8]) -> io::Result<()> {
+    file.write_all(bytes)?;
+    file.set_len(bytes.len() as u64)?;
+    file.sync_all()
+}
+
+/// Gives a file other bytes. It is opened first, since a file that may not be written is not replaced either.
+fn rewrite<R>(rt: &R, path: Path<'_>, bytes: &[u8]) -> io::Result<()>
+where
+    R: Files + RandomSource + AllocGlobal,
+{
+    let mut file = File::options().write(true).open(rt, path)?;
+    let kept = file.metadata()?;
+    match replace(rt, path, bytes, Some(&kept)) {
+        Err(error) if is_refusal(&error) => write_over(&mut file, bytes),
+        replaced => replaced,
+    }
+}
+
 fn write_device<R: Files>(rt: &R, path: &str, bytes: &[u8]) -> io::Result<()> {
     let mut device = File::options().write(true).open(rt, path)?;
     device.write_all(bytes)
 }
 
-/// Writes a file that is not there yet, and waits until the disk has it.
-fn write_new<R: Files>(rt: &R, path: &str, bytes: &[u8]) -> io::Result<()> {
-    let mut file = File::create_new(rt, path)?;
-    file.write_all(bytes)?;
-    file.sync_all()
-}
-
-/// Puts a file in the place of what stands at a path.
-fn replace<R>(rt: &R, path: &str, bytes: &[u8]) -> Result<(), Failure>
+/// Writes a set where a path leads.
+pub(crate) fn write_whole<R, O>(
+    rt: &R,
+    path: &str,
+    bytes: &[u8],
+    output: &mut O,
+) -> Result<(), Failure>
 where
     R: Files + RandomSource + AllocGlobal,
+    O: Write,
 {
-    let beside = name_beside(rt, path)?;
-    let name = beside.as_str();
-    if write_new(rt, name, bytes).is_err() || fs::rename(rt, name, path).is_err() {
-        let _ = fs::remove_file(rt, name);
-        return Err(Failure::Output);
-    }
-    Ok(())
-}
-
-/// Puts a file with these bytes at a path. Where anything fails, what stood there stands there still, and nothing beside it.
-pub(crate) fn write_whole<R>(rt: &R, path: &str, bytes: &[u8]) -> Result<(), Failure>
-where
-    R: Files + RandomSource + AllocGlobal,
-{
-    match fs::metadata(rt, path) {
-        Ok(found) if found.is_file() => replace(rt, follow_links(rt, path)?.as_str(), bytes),
-        Ok(found) if !found.is_dir() => {
-            write_device(rt, path, bytes).map_err(|_| Failure::Output)
-        }
-        _ => replace(rt, path, bytes),
-    }
+    let written = match place_of(rt, path) {
+        Ok(Place::StandardOutput) => return write_bytes(output, bytes),
+        Ok(Place::Device) => write_device(rt, path, bytes),
+        Ok(Place::File(file)) => rewrite(rt, file.as_path(), bytes),
+        Ok(Place::Free(free)) => replace(rt, free.as_path(), bytes, None),
+        Err(error) => Err(error),
+    };
+    written.map_err(|error| Failure::Output.unless_no_memory(&error))
 }
