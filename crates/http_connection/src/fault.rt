@@ -1,5 +1,10 @@
 //! Why the service ended, and why a connection got no answer.
 
+ghost use Rattle.std.specs.Prelude.{◌≡◌};
+ghost use Rattle.http_connection.specs.Faults.{IsFaultOf};
+ghost use Rattle.http_connection.specs.declared.fault.ServeFault.TheVariants as faults;
+
+use device_error::is_no_memory;
 use std::alloc::AllocError;
 use std::io;
 use thiserror::Error;
@@ -15,15 +20,19 @@ pub enum ServeFault {
 }
 
 impl From<AllocError> for ServeFault {
+    ghost from_gives = { λ _ fault. fault ≡ faults.NoMemory };
+
     fn from(_error: AllocError) -> ServeFault {
         ServeFault::NoMemory
     }
 }
 
 impl From<io::Error> for ServeFault {
+    ghost from_gives = { IsFaultOf };
+
     fn from(error: io::Error) -> ServeFault {
-        if error.kind() == io::ErrorKind::OutOfMemory {
-            ServeFault::NoMemory
+        if is_no_memory(&error) {
+            AllocError.into()
         } else {
             ServeFault::AcceptFault
         }

@@ -1,0 +1,13 @@
+//! A connection over HTTP/1.1, on `hyper` and `tokio`: one request, which a `Responder` answers.
+#![tactic(auto)]
+
+mod answer;
+mod connection;
+mod fault;
+mod receive;
+mod responder;
+mod service;
+
+pub use connection::serve_next;
+pub use fault::ServeFault;
+pub use responder::Responder;
