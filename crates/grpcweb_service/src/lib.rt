@@ -6,5 +6,4 @@
 mod response;
 mod service;
 
-pub use http_connection::ServeFault;
 pub use service::serve;

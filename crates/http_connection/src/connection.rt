@@ -2,9 +2,9 @@
 
 ghost use Rattle.std.specs.Arc.{arc_value};
 
-use crate::fault::ServeFault;
 use crate::responder::Responder;
 use crate::service::ResponderService;
+use device_error::ServeFault;
 use hyper::server::conn::http1;
 use std::alloc::AllocGlobal;
 use std::random::RandomSource;

@@ -9,5 +9,4 @@ mod responder;
 mod service;
 
 pub use connection::serve_next;
-pub use fault::ServeFault;
 pub use responder::Responder;
