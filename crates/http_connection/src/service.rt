@@ -28,9 +28,10 @@ pub(crate) struct ResponderService<T> {
     pub(crate) limit: usize,
 }
 
-/// A request that comes in, and what answers it then: nothing where memory ran out.
+/// A request that comes in, and is answered then.
 #[derive(Drop)]
 pub(crate) struct ResponseFuture<T> {
+    /// Nothing where memory ran out.
     responder: Option<Arc<T>>,
     receiving: Receiving<TcpStream>,
 }
