@@ -229,26 +229,31 @@ impl Work<u32> for Meeting {
 }
 
 /// Whether both items were given, and the first one's worker saw the other one begin.
-fn are_met<R: Threads + AllocGlobal + Sync>(
-    rt: &R,
-    meeting: &Meeting,
-    seats: &mut [u64],
-) -> Result<bool, Fail>
+fn are_met<R, G>(rt: &R, gate: &G, meeting: &Meeting, seats: &mut [u64]) -> Result<bool, Fail>
+where
+    R: Threads + AllocGlobal + Sync,
+    G: Gate + Sync,
     requires { length seats.old ≡ 2 }
 {
     let plan = Plan::new(2, 1).ok_or("a plan")?;
-    let outs = in_shares(rt, plan, 1, meeting, &[5, 6], meeting, seats)?;
+    let outs = in_shares(rt, plan, 1, gate, &[5, 6], meeting, seats)?;
     let missed = meeting.missed.load(Ordering::SeqCst);
     Ok(outs.as_slice() == [5, 6].as_slice() && missed == 0)
 }
 
-/// The first of two items can end only where the other one's worker is at work beside it.
+/// The work of the first of two items can end only where the other one's worker is at work beside it.
+#[test]
+fn works_meet(rt: HostRuntime) -> Result<(), Fail> {
+    let work = Meeting::new(false);
+    assert!(rt; are_met(&rt, &NoGate, &work, &mut [1, 1])?);
+    Ok(())
+}
+
+/// The first of two pieces can pass the gate only where the other one's worker has come there too.
 #[test]
 fn workers_meet(rt: HostRuntime) -> Result<(), Fail> {
-    for at_gate in [false, true] {
-        let is_met = are_met(&rt, &Meeting::new(at_gate), &mut [1, 1])?;
-        assert!(rt; is_met, "at the gate: {at_gate}");
-    }
+    let gate = Meeting::new(true);
+    assert!(rt; are_met(&rt, &gate, &gate, &mut [1, 1])?);
     Ok(())
 }
 
