@@ -541,15 +541,22 @@ fn nested(alloc: Global, count: usize) -> Result<String, AllocError> {
     format!(in alloc; "syntax = \"proto3\"; {open}{close}")
 }
 
-/// Messages inside each other, with a depth of 32.
+/// What is found of so many messages inside each other, where 32 are allowed.
+fn many_messages<R>(rt: &R, count: usize) -> Result<String, Fail>
+where
+    R: Threads + AllocGlobal + Sync,
+{
+    let text = nested(rt.alloc(), count)?;
+    let text = text.as_bytes();
+    let name = "a.proto";
+    outcome(rt, &[Source { name, text }], Limit::Depth, 32)
+}
+
 #[test]
-fn nested_messages(rt: HostRuntime) -> Result<(), Fail> {
+fn messages_up_to_a_limit(rt: HostRuntime) -> Result<(), Fail> {
     let too_deep = "pass 1, file [a.proto], step 1, at 403: TooDeep";
     for (count, wanted) in [(32, "compiled:"), (33, too_deep)] {
-        let text = nested(rt.alloc(), count)?;
-        let text = text.as_bytes();
-        let name = "a.proto";
-        let found = outcome(&rt, &[Source { name, text }], Limit::Depth, 32)?;
+        let found = many_messages(&rt, count)?;
         assert!(rt; found.as_str() == wanted, "{count}: {found}");
     }
     Ok(())
