@@ -2,5 +2,7 @@
 #![tactic(auto)]
 
 mod memory;
+mod serve_fault;
 
 pub use memory::is_no_memory;
+pub use serve_fault::ServeFault;

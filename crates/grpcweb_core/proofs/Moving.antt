@@ -5,7 +5,7 @@ use Rattle.std.specs.Io.KnownBytes.{Appends, Consumes, Keeps}
 use Rattle.std.proofs.lemmas.List.{append_assoc, append-nil, length-append, drop_all, length-drop, length-take-le, take_all}
 use borrow.Rule.Slice.PartMut.{put_mid}
 use Rattle.grpcweb_core.specs.Exchange.{IsRead, IsWritten, IsWrittenInPart}
-use Rattle.grpcweb_core.specs.Streams.{Reads, Writes, IsReadOnce, IsWrittenOnce, IsFlushedOnce, given}
+use Rattle.grpcweb_core.specs.Streams.{Call, Reads, Writes, IsReadOnce, IsWrittenOnce, IsFlushedOnce, given}
 
 -- ---- lists and known bytes
 
@@ -61,6 +61,8 @@ add_zero n = omega arith
 
 -- so many bytes of a room were read, one piece after another
 pub record IsReading (old now : Reads) (room : List ℕ) (filled : ℕ) : Type 0 where
+  pub own : List Call
+  pub made : now.calls ≡ old.calls ++ own
   pub within : filled ≤ length room
   pub bytes : now.bytes ≡ old.bytes ++ take filled room
   pub calls : length now.calls ≤ length old.calls + filled
@@ -68,7 +70,7 @@ pub record IsReading (old now : Reads) (room : List ℕ) (filled : ℕ) : Type 0
   pub left : Consumes old.left now.left (take filled room)
 
 pub no_read : (old : Reads) (room : List ℕ) → IsReading old old room 0
-no_read old room = record { within = omega arith; bytes = sym (append-nil old.bytes); calls = omega arith; failures = refl; left = consumes_none old.left }
+no_read old room = record { own = []; made = sym (append-nil old.calls); within = omega arith; bytes = sym (append-nil old.bytes); calls = omega arith; failures = refl; left = consumes_none old.left }
 
 long_prefix : (room sub : List ℕ) (filled : ℕ) → filled ≤ length room → length (take filled room ++ sub) ≡ filled + length sub
 long_prefix room sub filled within = length-append (take filled room) sub ∙ ap (λ k. k + length sub) (length-take-le filled room within)
@@ -82,6 +84,9 @@ pub read_more : {E : Type 0} (old now new : Reads) (room sub : List ℕ) (filled
     → IsReadOnce {E = E} now new (Ok n) sub → IsReading old new (take filled room ++ sub) (filled + n)
 read_more old now new room sub filled n so short some once =
     record {
+      own = so.own ++ record { room = length sub; given = Some n } ∷ [];
+      made = once.calls ∙ ap (λ l. l ++ record { room = length sub; given = Some n } ∷ []) so.made
+          ∙ append_assoc old.calls so.own (record { room = length sub; given = Some n } ∷ []);
       within = (let h = long_prefix room sub filled so.within in omega (arith, h, short));
       bytes = once.bytes ∙ ap (λ l. l ++ take n sub) so.bytes ∙ append_assoc old.bytes (take filled room) (take n sub)
           ∙ ap (λ l. old.bytes ++ l) (sym (prefix_of room sub filled n so.within));
@@ -97,10 +102,14 @@ pub read_none : {E : Type 0} (old now new : Reads) (room sub : List ℕ) (filled
 read_none old now new room sub filled so some once =
     let prefix = subst (λ k. take k (take filled room ++ sub) ≡ take filled room ++ []) (add_zero filled) (prefix_of room sub filled 0 so.within)
     ∙ append-nil (take filled room) in
+    let call : Call = record { room = length sub; given = Some 0 } in
     record {
+      own = so.own ++ call ∷ [];
+      calls = once.calls ∙ ap (λ l. l ++ call ∷ []) so.made ∙ append_assoc old.calls so.own (call ∷ []);
       given = once.bytes ∙ append-nil now.bytes ∙ so.bytes ∙ ap (λ l. old.bytes ++ l) (sym prefix);
       within = (let h = long_prefix room sub filled so.within in let k = ap length prefix ∙ length-take-le filled room so.within in omega (arith, h, k));
-      whole = inr (now.calls, record { room = length sub; given = Some 0 }, once.calls, some, refl);
+      whole =
+          inr (record { earlier = so.own; last = call; called = refl; room = some; nothing = refl; known = once.left.1 refl some });
       failures = once.failures ∙ add_zero now.failures ∙ so.failures;
       left = subst (λ l. Consumes old.left new.left l) (sym prefix) (consumes_nothing old.left now.left new.left (take filled room) so.left once.left.0);
     }
@@ -109,6 +118,8 @@ pub read_full : (old now : Reads) (room : List ℕ) (filled : ℕ) → IsReading
     → IsRead (length room) old now (take filled room)
 read_full old now room filled so full =
     record {
+      own = so.own;
+      calls = so.made;
       given = so.bytes;
       within = (let h = length-take-le filled room so.within in let k = so.within in omega (arith, h, k));
       whole = inl (let h = length-take-le filled room so.within in let k = so.within in omega (arith, h, k, full));

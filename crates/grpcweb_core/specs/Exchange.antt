@@ -1,7 +1,6 @@
 -- What answering a reader's bytes over a writer does.
-use Rattle.std.specs.Prelude.{◌≡◌, ◌⊎◌, ℕ, suc, ◌+◌, ◌<◌, ◌≤◌, List, [], ◌∷◌, ◌++◌, length, take, Some, Result, Ok, Err, Vec}
-use Rattle.std.specs.declared.alloc.Global.{Global}
-use Rattle.std.specs.Io.KnownBytes.{Appends, Consumes}
+use Rattle.std.specs.Prelude.{◌≡◌, ◌⊎◌, ℕ, suc, ◌+◌, ◌<◌, ◌≤◌, List, [], ◌∷◌, ◌++◌, length, take, Option, Some, Result, Ok, Err}
+use Rattle.std.specs.Io.KnownBytes.{Appends, Consumes, IsAtEnd}
 use Rattle.first_reach.specs.declared.mode.Mode.{Mode}
 use Rattle.grpcweb_core.specs.Streams.{Call, Reads, Writes}
 use Rattle.grpcweb_core.specs.declared.stream.IoFault.{IoFault}
@@ -11,16 +10,22 @@ use Rattle.proto_base.specs.declared.limits.Limit.TheVariants.{BodyBytes}
 use Rattle.proto_compile.specs.Compilation.{Compilation}
 use Rattle.reflect_core.specs.Response.{IsResponse}
 
--- the last call had room and gave nothing
-abbrev pub IsEnded : List Call → Type 0
-IsEnded calls =
-    (earlier : List Call) × (last : Call) × (calls ≡ earlier ++ last ∷ []) × (0 < last.room) × (last.given ≡ Some 0)
+-- the last of some calls had room and gave nothing, and where it is known what is left, that is nothing
+pub record IsEnded (calls : List Call) (left : Option (List ℕ)) : Type 0 where
+  pub earlier : List Call
+  pub last : Call
+  pub called : calls ≡ earlier ++ last ∷ []
+  pub room : 0 < last.room
+  pub nothing : last.given ≡ Some 0
+  pub known : IsAtEnd left
 
--- these bytes were read: all that there were, or as many as there is room for
+-- these bytes were read, by calls of which none failed: all that there were, or as many as there is room for
 pub record IsRead (room : ℕ) (old new : Reads) (bytes : List ℕ) : Type 0 where
+  pub own : List Call
+  pub calls : new.calls ≡ old.calls ++ own
   pub given : new.bytes ≡ old.bytes ++ bytes
   pub within : length bytes ≤ room
-  pub whole : (length bytes ≡ room) ⊎ IsEnded new.calls
+  pub whole : (length bytes ≡ room) ⊎ IsEnded own new.left
   pub failures : new.failures ≡ old.failures
   pub left : Consumes old.left new.left bytes
 
@@ -52,29 +57,9 @@ IsExchange mode c reads reads' writes writes' (Err ReadFault) =
 IsExchange mode c reads reads' writes writes' (Err (WriteFault written)) =
     (body response : List ℕ) × IsRead (room_of c) reads reads' body × IsResponse mode c body response
     × IsWrittenInPart writes writes' response written
-IsExchange mode c reads reads' writes writes' (Err NoMemory) = writes' ≡ writes
+IsExchange mode c reads reads' writes writes' (Err NoMemory) =
+    (reads'.failures ≡ reads.failures) × (writes' ≡ writes)
 
 -- at most so many calls more
 abbrev pub IsFewMore : ℕ → Reads → Reads → Type 0
 IsFewMore most old new = length new.calls ≤ length old.calls + most
-
--- ---- words for the private functions
-
--- how a room was filled: its first so many bytes were read, or a read failed
-abbrev pub IsFilled : Reads → Reads → List ℕ → Result ℕ IoFault → Type 0
-IsFilled old new room (Ok n) = (n ≤ length room) × IsRead (length room) old new (take n room)
-IsFilled old new room (Err e) = (e ≡ ReadFault) × (new.failures ≡ suc old.failures)
-
--- how a body was read
-abbrev pub IsBodyRead : ℕ → Reads → Reads → Result (Vec ℕ Global) IoFault → Type 0
-IsBodyRead room old new (Ok body) = IsRead room old new body.items
-IsBodyRead room old new (Err ReadFault) = new.failures ≡ suc old.failures
-IsBodyRead room old new (Err (WriteFault written)) = ⊥
-IsBodyRead room old new (Err NoMemory) = Unit {0}
-
--- how a response was written
-abbrev pub IsHandedOn : {A : Type 0} → Writes → Writes → List ℕ → Result A IoFault → Type 0
-IsHandedOn old new response (Ok a) = IsWritten old new response
-IsHandedOn old new response (Err (WriteFault written)) = IsWrittenInPart old new response written
-IsHandedOn old new response (Err ReadFault) = ⊥
-IsHandedOn old new response (Err NoMemory) = ⊥

@@ -1,4 +1,5 @@
 pub mod Counting
 pub mod Exchange
+pub mod ExchangeSteps
 pub mod Http
 pub mod Streams

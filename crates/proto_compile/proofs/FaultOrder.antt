@@ -1,5 +1,5 @@
 -- The order of faults.
-use Rattle.std.proofs.Common.{◌≡◌, ◌≢◌, ◌∙◌, sym, ℕ, ◌<◌, ◌≤◌, List, ap, refl, subst, arith, inl, inr, Ordering, Less, Equal, Greater}
+use Rattle.std.proofs.Common.{◌≡◌, ◌≢◌, ◌∙◌, sym, ℕ, ◌<◌, ◌≤◌, List, [], ◌∷◌, ap, refl, subst, arith, inl, inr, Ordering, Less, Equal, Greater}
 use Rattle.std.specs.Cmp.{nat_cmp_is}
 use Rattle.std.specs.Cmp.Lexicographic.{slice_cmp}
 use Rattle.std.specs.Ordering.{nat_cmp, is_gt, ordering_reverse, ordering_then}
@@ -11,9 +11,15 @@ use Rattle.proto_base.specs.Kind.{number_of}
 use Rattle.proto_base.specs.Least.{AtMost, spot}
 use Rattle.proto_base.specs.declared.kind.Kind.{Kind}
 use Rattle.proto_base.specs.declared.place.Place.{Place}
-use Rattle.proto_compile.specs.FaultSet.{IsNoLater, found_as}
-use Rattle.proto_compile.proofs.Checks.{Told}
+use Rattle.proto_base.specs.Fault.{Found, found_cmp}
+use Rattle.proto_compile.proofs.Checks.{Told, same_told}
 use Rattle.proto_compile.proofs.OneOrder.{less_greater, less_itself}
+
+abbrev pub found_as : ℕ → List ℕ → ℕ → Place → Kind → Found
+found_as pass file step place kind = record { pass = pass; file = file; step = step; place = place.offset; number = number_of kind }
+
+abbrev pub IsNoLater : Found → Found → Type 0
+IsNoLater a b = found_cmp a b ≢ Greater
 
 -- what a fault tells comes no later than what another one tells
 abbrev pub NoLater : Told → Told → Type 0
@@ -84,6 +90,29 @@ later_spot pass f s x y k l most = then_not (nat_cmp pass pass) _ (same_nat pass
 pub same_later : (x y : Told) → x ≡ y → NoLater x y
 same_later x y e = subst (NoLater x) e (later_or_same_name x.pass x.file x.file x.step x.place x.kind (same_file x.file))
 
+pub later_pass : (x y : Told) → x.pass < y.pass → NoLater x y
+later_pass x y less = then_less (nat_cmp x.pass y.pass) _ (nat_less x.pass y.pass less)
+
+empty_first : (name : List ℕ) → slice_cmp nat_cmp [] name ≢ Greater
+empty_first [] = same_file []
+empty_first (c ∷ cs) = less_greater (slice_cmp nat_cmp [] (c ∷ cs)) refl
+
+-- a fault of the whole list comes before one of a file at the same place, if its kind does
+pub list_first : (pass : ℕ) (name : List ℕ) (s : ℕ) (x : Place) (k l : Kind) → number_of k ≤ number_of l
+    → IsNoLater (found_as pass [] s x k) (found_as pass name s x l)
+list_first pass name s x k l most =
+    then_not (nat_cmp pass pass) _ (same_nat pass)
+    (then_not (slice_cmp nat_cmp [] name) _ (empty_first name) (then_not (nat_cmp s s) _ (same_nat s)
+    (then_not (nat_cmp x.offset x.offset) _ (same_nat x.offset) (nat_at_most (number_of k) (number_of l) most))))
+
+-- and before one of a file behind its start
+pub list_before : (pass : ℕ) (name : List ℕ) (s : ℕ) (x y : Place) (k l : Kind) → x.offset < y.offset
+    → IsNoLater (found_as pass [] s x k) (found_as pass name s y l)
+list_before pass name s x y k l less =
+    then_not (nat_cmp pass pass) _ (same_nat pass)
+    (then_not (slice_cmp nat_cmp [] name) _ (empty_first name) (then_not (nat_cmp s s) _ (same_nat s)
+    (then_less (nat_cmp x.offset y.offset) _ (nat_less x.offset y.offset less))))
+
 -- ---- of two faults neither of which comes later, both are one
 
 tied : (a b c d : Ordering) → b ≡ ordering_reverse a → ordering_then a c ≢ Greater → ordering_then b d ≢ Greater → (a ≡ Equal) × (c ≢ Greater) × (d ≢ Greater)
@@ -111,3 +140,8 @@ one_fault p q f g s t x y k l h i =
       same_place x y (nat_exact x.offset y.offset place.0),
       same_kind k l (nat_exact (number_of k) (number_of l) number),
     )
+
+pub one_told : (x y : Told) → NoLater x y → NoLater y x → x ≡ y
+one_told x y h i =
+    let one = one_fault x.pass y.pass x.file y.file x.step y.step x.place y.place x.kind y.kind h i in
+    same_told x.pass y.pass x.step y.step x.file y.file x.place y.place x.kind y.kind one.0 one.1 one.2 one.3 one.4

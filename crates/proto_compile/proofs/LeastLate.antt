@@ -1,6 +1,12 @@
 -- From names on, what a pass finds first is the least of what it finds.
-use Rattle.std.proofs.Common.{◌≡◌, ◌∙◌, sym, ℕ, ◌<◌, List, [], length, take, get_or, ap, refl, subst, arith, inl, inr}
+use Rattle.std.proofs.Common.{◌≡◌, ◌∙◌, sym, ℕ, ◌<◌, ◌≤◌, List, [], length, take, get_or, ap, refl, subst, arith, inl, inr}
 use Rattle.std.specs.List.{All}
+use Rattle.std.proofs.lemmas.List.Sorted.{Contains-permutation, IsPermutation-sym}
+use Rattle.proto_base.specs.declared.spot.Spot.{Spot}
+use Rattle.proto_links.specs.Visible.{Sees}
+use Rattle.proto_names.specs.Resolution.{AreSeenAlike, SeenBy}
+use Rattle.proto_types.proofs.Unique.{breaks_alike}
+use Rattle.proto_types.specs.References.{TypesBreak}
 use Rattle.std.proofs.lemmas.Bool.{cases_order}
 use Rattle.std.proofs.lemmas.List.Elements.{All-contains}
 use Rattle.proto_base.specs.Least.{spot}
@@ -12,42 +18,53 @@ use Rattle.proto_base.specs.declared.limits.Limits.{Limits}
 use Rattle.proto_base.specs.declared.place.Place.{Place}
 use Rattle.proto_desc.specs.declared.file.FileDesc.{FileDesc}
 use Rattle.proto_links.specs.Imports as imports
-use Rattle.proto_links.specs.Linked.{Linked}
-use Rattle.proto_names.proofs.Built.{below_from}
-use Rattle.proto_names.specs.Index.{Index}
+use Rattle.proto_links.specs.Linked.{AreLinked, Linked}
+use Rattle.proto_names.proofs.Built.{below_files, below_from}
+use Rattle.proto_names.specs.Index.{Index, Indexes}
 use Rattle.proto_names.specs.Occurrences.{IsFirstTwice, IsTwice, NoneTwice, Occurrence, occurrences}
 use Rattle.wire_bytes.specs.Descriptor.{file_desc_bytes}
-use Rattle.proto_compile.specs.Analysed.{AreResolved, AreTypedFrom, IsAnalysed, TypesAt, TypesBreakAt}
+use Rattle.proto_compile.specs.Analysed.{AreResolved, AreTypedFrom, TypesAt, TypesBreakAt}
 use Rattle.proto_compile.specs.Compilation.{IsShort}
-use Rattle.proto_compile.specs.Descriptions.{Describe}
-use Rattle.proto_compile.specs.FaultSet.{IsNoLater, found_as}
-use Rattle.proto_compile.specs.Faults.{StandsDesc, start}
+use Rattle.proto_compile.specs.FaultSet.{AreDescribed, StandsDesc, start}
 use Rattle.proto_compile.specs.declared.source.Source.{Source}
 use Rattle.proto_compile.proofs.Checks.{Told, told}
-use Rattle.proto_compile.proofs.FaultOrder.{same_later}
-use Rattle.proto_compile.proofs.LateChecks.{length_check, many_check, many_exact, set_check, set_exact, twice_check, type_check}
-use Rattle.proto_compile.proofs.LeastEarly.{Least, later_by_file}
+use Rattle.proto_compile.proofs.FaultOrder.{IsNoLater, found_as, same_later}
+use Rattle.proto_compile.proofs.LateChecks.{length_check, many_check, many_never, set_check, set_never, twice_check, type_check}
+use Rattle.proto_compile.proofs.LeastEarly.{Least, as_described, described_of, later_by_file}
 use Rattle.proto_compile.proofs.Judging.{zip_length}
 use Rattle.proto_compile.proofs.OneCompilation.{IsFirstLong}
-use Rattle.proto_compile.proofs.OneTyping.{AllSeeAlike, IsFirstBreak, analysed_alike, analysed_moved, break_moved, no_break, one_description, one_resolved, standing_in, standing_one}
+use Rattle.proto_compile.proofs.OneTyping.{IsFirstBreak, analysed_alike, no_break, one_description, one_resolved, standing_in, standing_one}
 use Rattle.proto_compile.proofs.Writing.{typed_names}
 use Rattle.proto_compile.proofs.Zipping.{contains_second}
 
 -- ---- names
 
+pub record HasMany (limits : Limits) (sources : List Source) (x : Told) : Type 0 where
+  pub descs : List FileDesc
+  pub described : AreDescribed limits sources descs
+  pub over : limit_of limits limit.Names < length (occurrences descs)
+  pub is : x ≡ told 3 [] 0 start kind.TooManyNames
+
 abbrev pub many_least : (limits : Limits) (sources : List Source) → Least (many_check limits sources)
 many_least limits sources = record {
-  Has = (many_check limits sources).Finds;
-  among = λ x found. found;
+  Has = HasMany limits sources;
+  pass = 3;
+  numbered = λ y g. ap (λ (z : Told). z.pass) g.is;
+  among = λ x f. record { descs = f.descs; described = as_described limits sources f.files f.descs f.described; over = f.over; is = f.is };
   least = λ x y f g. same_later x y (f.is ∙ sym g.is);
-  never = (many_exact limits sources).never;
+  never = λ y g pass. many_never limits sources y (record {
+    files = g.described.files;
+    descs = g.descs;
+    described = described_of limits sources g.descs pass.2.few g.described;
+    over = g.over;
+    is = g.is;
+  }) pass;
 }
 
 pub record HasTwice (limits : Limits) (sources : List Source) (x : Told) : Type 0 where
-  pub files : List Source
   pub descs : List FileDesc
   pub what : Occurrence
-  pub described : Describe limits sources files descs
+  pub described : AreDescribed limits sources descs
   pub twice : IsTwice (occurrences descs) what
   pub is : x ≡ told 3 (imports.name_at descs what.file) 0 what.place kind.NameTwice
 
@@ -69,14 +86,23 @@ twice_within descs o twice = let below = below_from 0 descs o (contains_second _
 abbrev pub twice_least : (limits : Limits) (sources : List Source) → Least (twice_check limits sources)
 twice_least limits sources = record {
   Has = HasTwice limits sources;
+  pass = 3;
+  numbered = λ y g. ap (λ (z : Told). z.pass) g.is;
   among = λ x f. (
       let found = f.repeated.twice.found in
       let is : x ≡ told 3 (imports.name_at f.descs found.0.file) 0 found.0.place kind.NameTwice =
       f.is ∙ ap (λ a. told 3 (imports.name_at f.descs a) 0 f.place kind.NameTwice) (sym found.2)
       ∙ ap (λ p. told 3 (imports.name_at f.descs found.0.file) 0 p kind.NameTwice) (sym found.3) in
-      record { files = f.files; descs = f.descs; what = found.0; described = f.described; twice = found.1; is = is });
+      record {
+        descs = f.descs;
+        what = found.0;
+        described = as_described limits sources f.files f.descs f.described;
+        twice = found.1;
+        is = is;
+      });
   least = λ x y f g. (
-      let same : g.descs ≡ f.descs = (one_description limits sources g.files f.files g.descs f.descs g.described f.described).1 in
+      let same : g.descs ≡ f.descs = (one_description limits sources g.described.files f.files g.descs f.descs
+      (described_of limits sources g.descs f.described.few g.described) f.described).1 in
       let twice : IsTwice (occurrences f.descs) g.what = subst (λ (ds : List FileDesc). IsTwice (occurrences ds) g.what) same g.twice in
       let order = later_by_file limits sources f.files f.descs 3 f.at g.what.file f.place g.what.place kind.NameTwice kind.NameTwice f.described
       (twice_within f.descs g.what twice) (twice_order (occurrences f.descs) f.at f.place g.what f.repeated.twice twice) in
@@ -85,7 +111,8 @@ twice_least limits sources = record {
       rw (f.is, g.is) (subst (λ (n : List ℕ). IsNoLater (found_as 3 (imports.name_at f.descs f.at) 0 f.place kind.NameTwice)
       (found_as 3 n 0 g.what.place kind.NameTwice)) name order));
   never = λ y g pass. (
-      let same : pass.1 ≡ g.descs = (one_description limits sources pass.0 g.files pass.1 g.descs pass.2 g.described).1 in
+      let same : pass.1 ≡ g.descs = (one_description limits sources pass.0 g.described.files pass.1 g.descs pass.2
+      (described_of limits sources g.descs pass.2.few g.described)).1 in
       let none : NoneTwice (occurrences g.descs) = subst (λ (ds : List FileDesc). NoneTwice (occurrences ds)) same pass.3 in
       none g.what g.twice);
 }
@@ -93,18 +120,39 @@ twice_least limits sources = record {
 -- ---- types
 
 pub record HasBreak (limits : Limits) (sources : List Source) (x : Told) : Type 0 where
-  pub files : List Source
   pub descs : List FileDesc
-  pub links : Linked
-  pub index : Index
   pub at : ℕ
   pub desc : FileDesc
   pub place : Place
   pub what : Kind
-  pub analysed : IsAnalysed limits sources files descs links index
+  pub described : AreDescribed limits sources descs
   pub stands : StandsDesc descs at desc
-  pub breaks : TypesBreakAt links index at desc (spot place what)
+  pub breaks : TypesBreak (occurrences descs) (Sees descs at) desc (spot place what)
   pub is : x ≡ told 4 (imports.name_at descs at) 0 place what
+
+-- what a file sees of the names of all files, by the index and the links
+pub seen_by_index : (limits : Limits) (descs : List FileDesc) (links : Linked) (index : Index) → AreLinked descs links → Indexes descs limits index
+    → (a : ℕ) → a < length descs → AreSeenAlike (occurrences descs) (Sees descs a) index.occurrences (SeenBy links a)
+seen_by_index limits descs links index linked indexed a h o = (
+  λ w. (
+      let inside = Contains-permutation (occurrences descs) index.occurrences o indexed.all w.0 in
+      (inside, (linked.sees a o.file h (below_files descs index.occurrences indexed.all o inside)).1 w.1)),
+  λ w. (
+    Contains-permutation index.occurrences (occurrences descs) o (IsPermutation-sym (occurrences descs) index.occurrences indexed.all) w.0,
+    (linked.sees a o.file h (below_files descs index.occurrences indexed.all o w.0)).0 w.1,
+  ),
+)
+
+pub break_to_index : (limits : Limits) (descs : List FileDesc) (links : Linked) (index : Index) → AreLinked descs links → Indexes descs limits index
+    → (a : ℕ) (desc : FileDesc) (x : Spot) → a < length descs → TypesBreak (occurrences descs) (Sees descs a) desc x → TypesBreakAt links index a desc x
+break_to_index limits descs links index linked indexed a desc x h =
+    breaks_alike (occurrences descs) index.occurrences (Sees descs a) (SeenBy links a) (seen_by_index limits descs links index linked indexed a h) desc x
+
+pub break_from_index : (limits : Limits) (descs : List FileDesc) (links : Linked) (index : Index) → AreLinked descs links → Indexes descs limits index
+    → (a : ℕ) (desc : FileDesc) (x : Spot) → a < length descs → TypesBreakAt links index a desc x → TypesBreak (occurrences descs) (Sees descs a) desc x
+break_from_index limits descs links index linked indexed a desc x h =
+    let alike = seen_by_index limits descs links index linked indexed a h in
+    breaks_alike index.occurrences (occurrences descs) (SeenBy links a) (Sees descs a) (λ o. ((alike o).1, (alike o).0)) desc x
 
 pub break_here : (descs : List FileDesc) (links : Linked) (index : Index) (a b : ℕ) (desc : FileDesc) (p q : Place) (k l : Kind)
     (first : IsFirstBreak descs links index a p k) → a ≡ b → StandsDesc descs b desc
@@ -116,50 +164,54 @@ break_here descs links index a b desc p q k l first same stands breaks =
     subst (λ n. TypesBreakAt links index n first.desc (spot q l)) (sym same) (subst (λ (f : FileDesc). TypesBreakAt links index b f (spot q l)) file breaks) in
     inr (same, first.least.least (spot q l) moved)
 
-pub break_order : (descs : List FileDesc) (links others : Linked) (index other : Index) → AllSeeAlike descs others other links index
-    → (a b : ℕ) (desc : FileDesc) (p q : Place) (k l : Kind) (first : IsFirstBreak descs links index a p k) → StandsDesc descs b desc
-    → TypesBreakAt others other b desc (spot q l) → imports.IsNoLater a p k b q l
-break_order descs links others index other back a b desc p q k l first stands breaks = elim (cases_order a b) [
-  | inl same ↦ break_here descs links index a b desc p q k l first same stands
-      (break_moved descs others links other index back b desc (spot q l) stands.0 breaks)
+pub break_order : (descs : List FileDesc) (links : Linked) (index : Index)
+    (a b : ℕ) (desc : FileDesc) (p q : Place) (k l : Kind) (first : IsFirstBreak descs links index a p k) → StandsDesc descs b desc
+    → TypesBreakAt links index b desc (spot q l) → imports.IsNoLater a p k b q l
+break_order descs links index a b desc p q k l first stands breaks = elim (cases_order a b) [
+  | inl same ↦ break_here descs links index a b desc p q k l first same stands breaks
   | inr (inl less) ↦ inl less
-  | inr (inr over) ↦ absurd (first.before b desc (spot q l) over stands (break_moved descs others links other index back b desc (spot q l) stands.0 breaks))
+  | inr (inr over) ↦ absurd (first.before b desc (spot q l) over stands breaks)
 ]
 
 abbrev pub type_least : (limits : Limits) (sources : List Source) → Least (type_check limits sources)
 type_least limits sources = record {
   Has = HasBreak limits sources;
+  pass = 4;
+  numbered = λ y g. ap (λ (z : Told). z.pass) g.is;
   among = λ x f. record {
-    files = f.files;
     descs = f.descs;
-    links = f.links;
-    index = f.index;
     at = f.at;
     desc = f.first.desc;
     place = f.place;
     what = f.what;
-    analysed = f.analysed;
+    described = as_described limits sources f.files f.descs f.analysed.described;
     stands = f.first.stands;
-    breaks = f.first.least.found;
+    breaks = break_from_index limits f.descs f.links f.index f.analysed.linked f.analysed.indexed f.at f.first.desc (spot f.place f.what) f.first.stands.0
+        f.first.least.found;
     is = f.is;
   };
   least = λ x y f g. (
-      let same = one_description limits sources f.files g.files f.descs g.descs f.analysed.described g.analysed.described in
-      let also = analysed_moved limits sources f.files g.files f.descs g.descs g.links g.index same g.analysed in
-      let stands : StandsDesc f.descs g.at g.desc = subst (λ (ds : List FileDesc). StandsDesc ds g.at g.desc) (sym same.1) g.stands in
-      let back = analysed_alike limits sources f.files f.files f.descs g.links f.links g.index f.index also f.analysed in
-      let order = break_order f.descs f.links g.links f.index g.index back f.at g.at g.desc f.place g.place f.what g.what f.first stands g.breaks in
+      let same : g.descs ≡ f.descs = (one_description limits sources g.described.files f.files g.descs f.descs
+      (described_of limits sources g.descs f.analysed.described.few g.described) f.analysed.described).1 in
+      let stands : StandsDesc f.descs g.at g.desc = subst (λ (ds : List FileDesc). StandsDesc ds g.at g.desc) same g.stands in
+      let breaks : TypesBreak (occurrences f.descs) (Sees f.descs g.at) g.desc (spot g.place g.what) =
+      subst (λ (ds : List FileDesc). TypesBreak (occurrences ds) (Sees ds g.at) g.desc (spot g.place g.what)) same g.breaks in
+      let by_index = break_to_index limits f.descs f.links f.index f.analysed.linked f.analysed.indexed g.at g.desc (spot g.place g.what) stands.0 breaks in
+      let order = break_order f.descs f.links f.index f.at g.at g.desc f.place g.place f.what g.what f.first stands by_index in
       let later = later_by_file limits sources f.files f.descs 4 f.at g.at f.place g.place f.what g.what f.analysed.described stands.0 order in
-      let name : imports.name_at f.descs g.at ≡ imports.name_at g.descs g.at = ap (λ (ds : List FileDesc). imports.name_at ds g.at) same.1 in
+      let name : imports.name_at f.descs g.at ≡ imports.name_at g.descs g.at = ap (λ (ds : List FileDesc). imports.name_at ds g.at) (sym same) in
       rw (f.is, g.is) (subst (λ (n : List ℕ). IsNoLater (found_as 4 (imports.name_at f.descs f.at) 0 f.place f.what) (found_as 4 n 0 g.place g.what)) name
       later));
   never = λ y g pass. (
       let r = pass.4 in
-      let same = one_description limits sources g.files pass.0 g.descs r.descs g.analysed.described r.analysed.described in
-      let also = analysed_moved limits sources g.files pass.0 g.descs r.descs pass.2 pass.3 same r.analysed in
-      let typed : AreTypedFrom pass.2 pass.3 0 g.descs pass.1 = subst (λ (ds : List FileDesc). AreTypedFrom pass.2 pass.3 0 ds pass.1) (sym same.1) r.each in
-      let alike = analysed_alike limits sources g.files g.files g.descs g.links pass.2 g.index pass.3 g.analysed also in
-      no_break g.descs g.links pass.2 g.index pass.3 alike g.descs pass.1 g.at g.desc (spot g.place g.what) g.stands.0 g.stands g.breaks typed);
+      let same : g.descs ≡ r.descs = (one_description limits sources g.described.files pass.0 g.descs r.descs
+      (described_of limits sources g.descs r.analysed.described.few g.described) r.analysed.described).1 in
+      let stands : StandsDesc r.descs g.at g.desc = subst (λ (ds : List FileDesc). StandsDesc ds g.at g.desc) same g.stands in
+      let breaks : TypesBreak (occurrences r.descs) (Sees r.descs g.at) g.desc (spot g.place g.what) =
+      subst (λ (ds : List FileDesc). TypesBreak (occurrences ds) (Sees ds g.at) g.desc (spot g.place g.what)) same g.breaks in
+      let by_index = break_to_index limits r.descs pass.2 pass.3 r.analysed.linked r.analysed.indexed g.at g.desc (spot g.place g.what) stands.0 breaks in
+      let alike = analysed_alike limits sources pass.0 pass.0 r.descs pass.2 pass.2 pass.3 pass.3 r.analysed r.analysed in
+      no_break r.descs pass.2 pass.2 pass.3 pass.3 alike r.descs pass.1 g.at g.desc (spot g.place g.what) stands.0 stands by_index r.each);
 }
 
 -- ---- lengths
@@ -191,6 +243,8 @@ long_order limits descs a b desc first stands over = elim (cases_order a b) [
 abbrev pub length_least : (limits : Limits) (sources : List Source) → Least (length_check limits sources)
 length_least limits sources = record {
   Has = HasLong limits sources;
+  pass = 5;
+  numbered = λ y g. ap (λ (z : Told). z.pass) g.is;
   among = λ x f. record {
     files = f.files;
     typed = f.typed;
@@ -230,7 +284,9 @@ length_least limits sources = record {
 abbrev pub set_least : (limits : Limits) (sources : List Source) → Least (set_check limits sources)
 set_least limits sources = record {
   Has = (set_check limits sources).Finds;
+  pass = 6;
+  numbered = λ y g. ap (λ (z : Told). z.pass) g.is;
   among = λ x found. found;
   least = λ x y f g. same_later x y (f.is ∙ sym g.is);
-  never = (set_exact limits sources).never;
+  never = set_never limits sources;
 }

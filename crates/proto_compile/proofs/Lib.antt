@@ -1,3 +1,4 @@
+pub mod AfterFirst
 pub mod Alike
 pub mod Answering
 pub mod Checks
@@ -22,6 +23,7 @@ pub mod Serving
 pub mod Setting
 pub mod Sorting
 mod Tabling
+pub mod Twice
 pub mod Typing
 pub mod Within
 pub mod Writing

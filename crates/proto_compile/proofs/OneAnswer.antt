@@ -13,11 +13,11 @@ use Rattle.proto_compile.specs.Descriptions.{Describe}
 use Rattle.proto_compile.specs.Faults.{IsFirstFault, too_many_files, file_name_twice, in_file, in_imports, too_many_names, name_twice, in_types, descriptor_too_long, set_too_long}
 use Rattle.proto_compile.specs.Sources.{name_of}
 use Rattle.proto_compile.specs.declared.source.Source.{Source}
-use Rattle.proto_compile.proofs.EarlyChecks.{FindsLocal, count_check, count_exact, import_check, import_exact, local_check, local_exact, order_check, order_exact}
-use Rattle.proto_compile.proofs.LateChecks.{length_check, length_exact, many_check, many_exact, set_check, set_exact, twice_check, twice_exact, type_check, type_exact}
+use Rattle.proto_compile.proofs.EarlyChecks.{FindsLocal, count_check, import_check, local_check, order_check}
+use Rattle.proto_compile.proofs.LateChecks.{length_check, many_check, set_check, twice_check, type_check}
 use Rattle.proto_compile.proofs.OneCompilation.{IsFirstLong}
 use Rattle.proto_compile.proofs.OneTyping.{IsFirstBreak}
-use Rattle.proto_compile.proofs.Checks.{AllExact, AllPass, Check, FirstOf, Told, none_first, one_first, told}
+use Rattle.proto_compile.proofs.Checks.{AllPass, Check, FirstOf, Told, told}
 
 -- ---- the checks in their order
 
@@ -32,15 +32,6 @@ from_imports limits sources = import_check limits sources ∷ from_names limits 
 
 abbrev pub all_checks : Limits → List Source → List Check
 all_checks limits sources = count_check limits sources ∷ order_check limits sources ∷ local_check limits sources ∷ from_imports limits sources
-
-types_exact : (limits : Limits) (sources : List Source) → AllExact (from_types limits sources)
-types_exact limits sources = (type_exact limits sources, (length_exact limits sources, (set_exact limits sources, tt)))
-
-imports_exact : (limits : Limits) (sources : List Source) → AllExact (from_imports limits sources)
-imports_exact limits sources = (import_exact limits sources, (many_exact limits sources, (twice_exact limits sources, types_exact limits sources)))
-
-all_exact : (limits : Limits) (sources : List Source) → AllExact (all_checks limits sources)
-all_exact limits sources = (count_exact limits sources, (order_exact limits sources, (local_exact limits sources, imports_exact limits sources)))
 
 -- ---- what is found behind checks that pass
 
@@ -161,7 +152,7 @@ imports_pass limits sources files descs links index analysed rest =
       ),
     )
 
-all_pass : (limits : Limits) (sources : List Source) (c : Compilation) → IsCompiled limits sources c → AllPass (all_checks limits sources)
+pub all_pass : (limits : Limits) (sources : List Source) (c : Compilation) → IsCompiled limits sources c → AllPass (all_checks limits sources)
 all_pass limits sources c compiled =
     let files = compiled.written.sorted in
     let resolved = compiled.written.resolved in
@@ -174,25 +165,4 @@ all_pass limits sources c compiled =
           imports_pass limits sources files resolved.descs c.links c.index resolved.analysed (types_pass limits sources c compiled),
         ),
       ),
-    )
-
--- sources that are compiled have no fault
-pub no_fault : (limits : Limits) (sources : List Source) (c : Compilation) (pass : ℕ) (file : List ℕ) (step : ℕ) (place : Place) (kind : Kind)
-    → IsCompiled limits sources c → IsFirstFault limits sources pass file step place kind → ⊥
-no_fault limits sources c pass file step place kind compiled fault =
-    none_first (all_checks limits sources) (all_exact limits sources) (all_pass limits sources c compiled) (told pass file step place kind)
-    (first_of limits sources pass file step place kind fault)
-
--- and others have one first fault
-pub one_fault : (limits : Limits) (sources : List Source) (p q : ℕ) (f g : List ℕ) (s t : ℕ) (x y : Place) (k l : Kind) → IsFirstFault limits sources p f s x k
-    → IsFirstFault limits sources q g t y l → (p ≡ q) × (f ≡ g) × (s ≡ t) × (x ≡ y) × (k ≡ l)
-one_fault limits sources p q f g s t x y k l first second =
-    let same : told p f s x k ≡ told q g t y l =
-    one_first (all_checks limits sources) (all_exact limits sources) (told p f s x k) (told q g t y l) (first_of limits sources p f s x k first)
-    (first_of limits sources q g t y l second) in (
-      ap (λ (z : Told). z.pass) same,
-      ap (λ (z : Told). z.file) same,
-      ap (λ (z : Told). z.step) same,
-      ap (λ (z : Told). z.place) same,
-      ap (λ (z : Told). z.kind) same,
     )

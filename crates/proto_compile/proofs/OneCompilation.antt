@@ -15,7 +15,7 @@ use Rattle.wire_bytes.specs.Descriptor.{file_desc_bytes}
 use Rattle.wire_format.specs.Field.{bytes_field}
 use Rattle.proto_compile.specs.Analysed.{AreResolved}
 use Rattle.proto_compile.specs.Compilation.{Compilation, CompiledFile, IsCompiled, IsShort, IsWritten, bytes_at, file_bytes, file_name, set_of}
-use Rattle.proto_compile.specs.Faults.{StandsDesc}
+use Rattle.proto_compile.specs.FaultSet.{StandsDesc}
 use Rattle.proto_compile.specs.Sources.{name_of}
 use Rattle.proto_compile.specs.declared.source.Source.{Source}
 use Rattle.proto_compile.proofs.OneTyping.{analysed_moved, one_description, one_resolved, standing_in}
@@ -81,21 +81,3 @@ pub record IsFirstLong (limits : Limits) (descs : List FileDesc) (a : ℕ) : Typ
   pub desc : FileDesc
   pub stands : StandsDesc descs a desc
   pub over : limit_of limits limit.DescriptorBytes < length (file_desc_bytes desc)
-
-pub no_long : (limits : Limits) (descs : List FileDesc) (a : ℕ) → IsFirstLong limits descs a → All (IsShort limits) descs → ⊥
-no_long limits descs a long short =
-    let fits = All-contains (IsShort limits) descs long.desc short (a, long.stands.0, long.stands.1) in let over = long.over in omega (arith, fits, over)
-
-no_earlier_long : (limits : Limits) (descs : List FileDesc) (a b : ℕ) → a < b → IsFirstLong limits descs a → All (IsShort limits) (take b descs) → ⊥
-no_earlier_long limits descs a b less long short =
-    let within = standing_in descs a b long.desc less long.stands.0 long.stands.1 in
-    let fits = All-contains (IsShort limits) (take b descs) long.desc short (a, within.0, within.1) in
-    let over = long.over in
-    omega (arith, fits, over)
-
-pub one_long : (limits : Limits) (descs : List FileDesc) (a b : ℕ) → IsFirstLong limits descs a → IsFirstLong limits descs b → a ≡ b
-one_long limits descs a b first second = elim (cases_order a b) [
-  | inl same ↦ same
-  | inr (inl less) ↦ absurd (no_earlier_long limits descs a b less first second.short)
-  | inr (inr over) ↦ absurd (no_earlier_long limits descs b a over second first.short)
-]

@@ -64,7 +64,7 @@ tied Less Greater e h k = cc
 tied Equal p e h k = refl
 tied Greater p e h k = cc
 
-same_name : (x y : List ℕ) → is_later x y ≡ false → is_later y x ≡ false → x ≡ y
+pub same_name : (x y : List ℕ) → is_later x y ≡ false → is_later y x ≡ false → x ≡ y
 same_name x y h k = exact_bytes x y (tied (slice_cmp nat_cmp x y) (slice_cmp nat_cmp y x) (nat_list_cmp_total.antisymm x y) h k)
 
 abbrev one_if : Bool → ℕ
@@ -110,7 +110,7 @@ one_sorted (x ∷ xs) (y ∷ ys) up over alike =
     omega (arith, one, first, sum_by-cons f x xs, sum_by-cons f y ys))) in
     ap (λ z. z ∷ xs) same ∙ ap (λ zs. y ∷ zs) rest
 
-sum_of_names : (f : List ℕ → ℕ) (files : List Source) → sum_by f (map name_of files) ≡ sum_by (λ s. f (name_of s)) files
+pub sum_of_names : (f : List ℕ → ℕ) (files : List Source) → sum_by f (map name_of files) ≡ sum_by (λ s. f (name_of s)) files
 sum_of_names f [] = refl
 sum_of_names f (s ∷ files) = sum_by-cons f (name_of s) (map name_of files) ∙ ap (λ n. f (name_of s) + n) (sum_of_names f files)
     ∙ sym (sum_by-cons (λ (t : Source). f (name_of t)) s files)
@@ -137,13 +137,6 @@ same_name_at f g k names = ap (λ (ns : List (List ℕ)). get_or ns k []) names
 pair_moved : (f g : List Source) (k : ℕ) → map name_of f ≡ map name_of g → name_at f k ≡ name_at f (k + 1) → name_at g k ≡ name_at g (k + 1)
 pair_moved f g k names same = sym (same_name_at f g k names) ∙ same ∙ same_name_at f g (k + 1) names
 
-pub one_repeated : (f g : List Source) (j k : ℕ) → map name_of f ≡ map name_of g → IsFirstRepeated f j → IsFirstRepeated g k → j ≡ k
-one_repeated f g j k names first second = elim (cases_order j k) [
-  | inl same ↦ same
-  | inr (inl less) ↦ absurd (second.first j less (pair_moved f g j names first.same))
-  | inr (inr more) ↦ absurd (first.first k more (pair_moved g f k (sym names) second.same))
-]
-
 pub less_greater : (o : Ordering) → o ≡ Less → o ≢ Greater
 less_greater o less more = true≢false (sym (ap is_lt less) ∙ ap is_lt more)
 
@@ -155,6 +148,3 @@ none_twice sources f g k order sorted below twice =
     let same : name_at f k ≡ name_at f (k + 1) = pair_moved g f k names twice in
     less_itself (slice_cmp nat_cmp (name_at f k) (name_at f (k + 1)))
     (ap (slice_cmp nat_cmp (name_at f k)) (sym same) ∙ tied_itself nat_list_cmp_total (name_at f k)) (order.rises k room)
-
-pub none_repeated : (sources f g : List Source) (k : ℕ) → AreByName sources f → AreSorted sources g → IsFirstRepeated g k → ⊥
-none_repeated sources f g k order sorted twice = none_twice sources f g k order sorted twice.below twice.same

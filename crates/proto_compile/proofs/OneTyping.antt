@@ -21,7 +21,8 @@ use Rattle.proto_base.specs.declared.place.Place.{Place}
 use Rattle.proto_types.proofs.Unique.{breaks_alike, file_same}
 use Rattle.proto_compile.specs.Analysed.{AreResolved, AreTypedFrom, IsAnalysed, TypesAt, TypesBreakAt}
 use Rattle.proto_compile.specs.Descriptions.{Describe, SourceDescribes}
-use Rattle.proto_compile.specs.Faults.{NoneBreakBefore, StandsDesc}
+use Rattle.proto_compile.specs.FaultSet.{StandsDesc}
+use Rattle.proto_compile.specs.Faults.{NoneBreakBefore}
 use Rattle.proto_compile.specs.Sources.{name_of, text_of}
 use Rattle.proto_compile.specs.declared.source.Source.{Source}
 use Rattle.proto_file.proofs.OneLocal.{one_descriptor}
@@ -154,49 +155,9 @@ no_break descs links others index other alike xs done a desc x h stands breaks t
     let right = typed_at others other 0 xs done typed a a desc (omega arith) stands.0 stands.1 in
     right.1.whole x (break_moved descs links others index other alike a desc x h breaks)
 
-same_break : (descs : List FileDesc) (links others : Linked) (index other : Index) → AllSeeAlike descs links index others other
-    → AllSeeAlike descs others other links index → (a : ℕ) (desc : FileDesc) (p q : Place) (k l : Kind) → a < length descs
-    → IsLeast (TypesBreakAt links index a desc) (Some (spot p k)) → IsLeast (TypesBreakAt others other a desc) (Some (spot q l)) → (p ≡ q) × (k ≡ l)
-same_break descs links others index other alike back a desc p q k l h first second =
-    one_spot p q k l
-    (first.least (spot q l) (break_moved descs others links other index back a desc (spot q l) h second.found))
-    (second.least (spot p k) (break_moved descs links others index other alike a desc (spot p k) h first.found))
-
 -- a file whose types are wrong, behind files whose types are right
 pub record IsFirstBreak (descs : List FileDesc) (links : Linked) (index : Index) (a : ℕ) (place : Place) (kind : Kind) : Type 0 where
   pub before : NoneBreakBefore links index descs a
   pub desc : FileDesc
   pub stands : StandsDesc descs a desc
   pub least : IsLeast (TypesBreakAt links index a desc) (Some (spot place kind))
-
-no_earlier_break : (descs : List FileDesc) (links others : Linked) (index other : Index) → AllSeeAlike descs links index others other
-    → (a b : ℕ) (p q : Place) (k l : Kind) → a < b → IsFirstBreak descs links index a p k → IsFirstBreak descs others other b q l → ⊥
-no_earlier_break descs links others index other alike a b p q k l less first second =
-    second.before a first.desc (spot p k) less first.stands
-    (break_moved descs links others index other alike a first.desc (spot p k) first.stands.0 first.least.found)
-
-same_file_break : (descs : List FileDesc) (links others : Linked) (index other : Index) → AllSeeAlike descs links index others other
-    → AllSeeAlike descs others other links index → (a b : ℕ) (p q : Place) (k l : Kind) → a ≡ b
-    → IsFirstBreak descs links index a p k → IsFirstBreak descs others other b q l → (p ≡ q) × (k ≡ l)
-same_file_break descs links others index other alike back a b p q k l same first second =
-    let here = subst (λ n. StandsDesc descs n second.desc) (sym same) second.stands in
-    let file : second.desc ≡ first.desc = standing_one descs a second.desc first.desc first.stands.0 here.1 first.stands.1 in
-    let least : IsLeast (TypesBreakAt others other a first.desc) (Some (spot q l)) =
-    subst (λ n. IsLeast (TypesBreakAt others other n first.desc) (Some (spot q l))) (sym same)
-    (subst (λ (f : FileDesc). IsLeast (TypesBreakAt others other b f) (Some (spot q l))) file second.least) in
-    same_break descs links others index other alike back a first.desc p q k l first.stands.0 first.least least
-
-pub one_break : (descs : List FileDesc) (links others : Linked) (index other : Index) → AllSeeAlike descs links index others other
-    → AllSeeAlike descs others other links index → (a b : ℕ) (p q : Place) (k l : Kind)
-    → IsFirstBreak descs links index a p k → IsFirstBreak descs others other b q l → (a ≡ b) × (p ≡ q) × (k ≡ l)
-one_break descs links others index other alike back a b p q k l first second = elim (cases_order a b) [
-  | inl same ↦ (let one = same_file_break descs links others index other alike back a b p q k l same first second in (same, one.0, one.1))
-  | inr (inl less) ↦ absurd (no_earlier_break descs links others index other alike a b p q k l less first second)
-  | inr (inr over) ↦ absurd (no_earlier_break descs others links other index back b a q p l k over second first)
-]
-
--- files that are all right have no first that is wrong
-pub none_break : (descs typed : List FileDesc) (links others : Linked) (index other : Index) → AllSeeAlike descs links index others other
-    → (a : ℕ) (p : Place) (k : Kind) → IsFirstBreak descs links index a p k → AreTypedFrom others other 0 descs typed → ⊥
-none_break descs typed links others index other alike a p k first all =
-    no_break descs links others index other alike descs typed a first.desc (spot p k) first.stands.0 first.stands first.least.found all

@@ -23,12 +23,14 @@ use Rattle.proto_names.specs.Occurrences.{Occurrence, occurrences_of, occurrence
 use Rattle.proto_types.specs.References.{Reference, ReferenceBreaks, TypesBreak, references}
 use Rattle.proto_compile.specs.Analysed.{TypesAt}
 use Rattle.proto_compile.specs.Descriptions.{SourceDescribes}
-use Rattle.proto_compile.specs.Faults.{IsFirstFault, IsPlaced, IsRefusal, Stands, StandsDesc, start, too_many_files, file_name_twice, in_file, in_imports, too_many_names, name_twice, in_types, descriptor_too_long, set_too_long}
+use Rattle.proto_compile.specs.FaultSet.{IsPlaced, StandsDesc, start}
+use Rattle.proto_compile.specs.Faults.{IsFirstFault, IsRefusal, Stands, too_many_files, file_name_twice, in_file, in_imports, too_many_names, name_twice, in_types, descriptor_too_long, set_too_long}
 use Rattle.proto_compile.specs.Sources.{AreByName, NamesRise, name_at, name_of, text_of}
 use Rattle.proto_compile.specs.declared.error.CompileError.{CompileError}
 use Rattle.proto_compile.specs.declared.error.CompileError.TheVariants as errors
 use Rattle.proto_compile.specs.declared.source.Source.{Source}
 use Rattle.proto_compile.proofs.DescPlaces.{OccurrenceAt, imports_at, occurrences_at, references_at}
+use Rattle.proto_file.proofs.PlacesWithin.{upto}
 use Rattle.proto_file.proofs.LocalPlaces.{IsInside, fault_inside, place_inside, places_within}
 use Rattle.proto_compile.proofs.Judging.{zip_length}
 use Rattle.proto_compile.proofs.MessagePlaces.{OptionAt, ReferenceAt}
@@ -87,7 +89,7 @@ at_start_of limits sources files k file same below name =
 
 -- ---- faults of a descriptor
 
-described_at : (limits : Limits) (files : List Source) (descs : List FileDesc) → AllZip (SourceDescribes limits) files descs → (a : ℕ) (desc : FileDesc)
+pub described_at : (limits : Limits) (files : List Source) (descs : List FileDesc) → AllZip (SourceDescribes limits) files descs → (a : ℕ) (desc : FileDesc)
     → StandsDesc descs a desc → (s : Source) × Stands files a s × SourceDescribes limits s desc
 described_at limits [] [] all a desc at = absurd (omega (arith, at.0))
 described_at limits [] (d ∷ descs) all a desc at = absurd all
@@ -122,11 +124,11 @@ bad_placed : (descs : List FileDesc) (a : ℕ) (desc : FileDesc) (place : Place)
     → LiesWith desc place
 bad_placed descs a desc place kind at (i, here, is, wrong) n all =
     let (k, below, there) = subst (λ (is : List ImportDesc). Contains is i) (imports_are descs a desc at) here in
-    subst (Placed n) is (standing (λ (j : ImportDesc). Placed n j.place) desc.imports k i (imports_at n desc all) (below, there))
+    subst (Placed n) is (standing (λ (j : ImportDesc). Placed n j.place) desc.imports k i (imports_at (upto n) desc all) (below, there))
 
 -- ---- names
 
-occurrence_in : (first : ℕ) (descs : List FileDesc) (o : Occurrence) → Contains (occurrences_from first descs) o
+pub occurrence_in : (first : ℕ) (descs : List FileDesc) (o : Occurrence) → Contains (occurrences_from first descs) o
     → (k : ℕ) × (desc : FileDesc) × StandsDesc descs k desc × Contains (occurrences_of (first + k) desc) o
 occurrence_in first [] o (j, inside, is) = absurd (omega (arith, inside))
 occurrence_in first (d ∷ descs) o here = elim (Contains-append_cases (occurrences_of first d) (occurrences_from (first + 1) descs) o here) [
@@ -137,9 +139,9 @@ occurrence_in first (d ∷ descs) o here = elim (Contains-append_cases (occurren
       (suc k, desc, (omega (arith, there.0), there.1), subst (λ m. Contains (occurrences_of m desc) o) at own))
 ]
 
-occurrence_at : (n file : ℕ) (desc : FileDesc) (o : Occurrence) → Contains (occurrences_of file desc) o → AtMost n (places_of desc) → OccurrenceAt n file o
+occurrence_at : (n file : ℕ) (desc : FileDesc) (o : Occurrence) → Contains (occurrences_of file desc) o → AtMost n (places_of desc) → OccurrenceAt (upto n) file o
 occurrence_at n file desc o (j, below, there) all =
-    standing (OccurrenceAt n file) (occurrences_of file desc) j o (occurrences_at n file desc all) (below, there)
+    standing (OccurrenceAt (upto n) file) (occurrences_of file desc) j o (occurrences_at (upto n) file desc all) (below, there)
 
 repeated_placed : (limits : Limits) (sources files : List Source) (descs : List FileDesc) (a : ℕ) (place : Place) → AreByName sources files
     → AllZip (SourceDescribes limits) files descs → IsRepeated descs limits a place
@@ -156,17 +158,17 @@ repeated_placed limits sources files descs a place order all repeated =
 
 -- ---- types
 
-reference_placed : (os : List Occurrence) (Seen : ℕ → Type 0) (n : ℕ) (x : Spot) (r : Reference) → ReferenceAt n r → ReferenceBreaks os Seen r x
+reference_placed : (os : List Occurrence) (Seen : ℕ → Type 0) (n : ℕ) (x : Spot) (r : Reference) → ReferenceAt (upto n) r → ReferenceBreaks os Seen r x
     → SpotWithin n x
 reference_placed os Seen n x r at (inl missing) = at_spot n r.place _ x at.0 missing.1
 reference_placed os Seen n x r at (inr (inl other)) = at_spot n r.place _ x at.0 other.2
 reference_placed os Seen n x r at (inr (inr (message, o, (k, below, there), packed, is))) =
-    at_spot n o.place _ x (standing (OptionAt n) r.options k o at.1 (below, there)) is
+    at_spot n o.place _ x (standing (OptionAt (upto n)) r.options k o at.1 (below, there)) is
 
 types_placed : (os : List Occurrence) (Seen : ℕ → Type 0) (desc : FileDesc) (place : Place) (kind : Kind) → TypesBreak os Seen desc (spot place kind)
     → LiesWith desc place
 types_placed os Seen desc place kind broken n all =
-    each_within (ReferenceAt n) (ReferenceBreaks os Seen) n (references desc) (spot place kind) (references_at n desc all)
+    each_within (ReferenceAt (upto n)) (ReferenceBreaks os Seen) n (references desc) (spot place kind) (references_at (upto n) desc all)
     (reference_placed os Seen n (spot place kind)) broken
 
 -- ---- all faults
@@ -194,8 +196,3 @@ placed limits sources _ _ _ _ _ (descriptor_too_long files typed links index a d
     at_start_of limits sources files a (imports.name_at typed a) described.by_name.all below
     (same_name limits files resolved.descs described.each a ∙ ap (λ (ns : List (List ℕ)). get_or ns a []) (sym names))
 placed limits sources _ _ _ _ _ (set_too_long c written long) = at_start limits sources [] (inl refl)
-
-pub refusal_placed : (limits : Limits) (sources : List Source) (e : CompileError) → IsRefusal (IsFirstFault limits sources) e
-    → IsRefusal (λ pass file step place kind. IsPlaced limits sources file place) e
-refusal_placed limits sources (errors.First fault) is = placed limits sources fault.pass (string_bytes fault.file) fault.step fault.place fault.kind is
-refusal_placed limits sources errors.NoMemory is = tt

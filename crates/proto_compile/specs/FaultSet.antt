@@ -1,11 +1,12 @@
--- The set of the faults of sources: which file breaks what, in each pass that every file has come to, having passed all
--- earlier ones; and their order.
-use Rattle.std.specs.Prelude.{◌≡◌, ◌≢◌, ℕ, ◌+◌, ◌<◌, ◌≤◌, List, [], length}
+-- The faults of sources: what breaks a rule of a pass, what of it is judged, and the first.
+use Rattle.std.specs.Prelude.{◌≡◌, ◌≢◌, ◌⊎◌, ℕ, ◌<◌, ◌≤◌, List, [], length, slice_index_or, string_bytes, Contains}
+use Rattle.std.specs.List.{AllZip}
 use Rattle.std.specs.declared.cmp.Ordering.TheVariants.{Greater}
 use Rattle.proto_base.specs.Fault.{Found, found_cmp}
 use Rattle.proto_base.specs.Kind.{number_of}
 use Rattle.proto_base.specs.Least.{spot}
 use Rattle.proto_base.specs.Limits.{limit_of}
+use Rattle.proto_base.specs.declared.fault.Fault.{Fault}
 use Rattle.proto_base.specs.declared.kind.Kind.{Kind}
 use Rattle.proto_base.specs.declared.kind.Kind.TheVariants as kind
 use Rattle.proto_base.specs.declared.limits.Limit.TheVariants as limit
@@ -15,65 +16,113 @@ use Rattle.proto_desc.specs.declared.file.FileDesc.{FileDesc}
 use Rattle.proto_file.specs.Local.{IsLocalFault}
 use Rattle.proto_links.specs.Imports as imports
 use Rattle.proto_links.specs.Linked.{Linked}
+use Rattle.proto_links.specs.Visible.{Sees}
 use Rattle.proto_names.specs.Index.{Index}
 use Rattle.proto_names.specs.Occurrences.{IsTwice, Occurrence, occurrences}
+use Rattle.proto_types.specs.References.{TypesBreak}
 use Rattle.wire_bytes.specs.Descriptor.{file_desc_bytes}
-use Rattle.proto_compile.specs.Analysed.{AreResolved, IsAnalysed, TypesBreakAt}
+use Rattle.proto_compile.specs.Analysed.{AreResolved}
 use Rattle.proto_compile.specs.Compilation.{Compilation, IsWritten, set_of}
-use Rattle.proto_compile.specs.Descriptions.{Describe}
-use Rattle.proto_compile.specs.Faults.{Stands, StandsDesc, start}
-use Rattle.proto_compile.specs.Sources.{AreByName, AreSorted, name_at, name_of, text_of}
+use Rattle.proto_compile.specs.Descriptions.{SourceDescribes}
+use Rattle.proto_compile.specs.Sources.{AreByName, name_at, name_of, text_of}
+use Rattle.proto_compile.specs.declared.error.CompileError.{CompileError}
+use Rattle.proto_compile.specs.declared.error.CompileError.TheVariants as errors
 use Rattle.proto_compile.specs.declared.source.Source.{Source}
 
--- a fault, by its pass, file, step, place and kind
-pub data IsSomeFault (limits : Limits) (sources : List Source) : (pass : ℕ) (file : List ℕ) (step : ℕ) (place : Place)
-    (kind : Kind) → Type 0 where
-  many_files : limit_of limits limit.Files < length sources → IsSomeFault limits sources 0 [] 0 start kind.TooManyFiles
-  repeated_file_name : (files : List Source) (k : ℕ) → length sources ≤ limit_of limits limit.Files
-      → AreSorted sources files → k + 1 < length files
-      → name_at files k ≡ name_at files (k + 1)
-      → IsSomeFault limits sources 0 (name_at files k) 0 start kind.FileNameTwice
-  file_fault : (files : List Source) (k : ℕ) (s : Source) (step : ℕ) (place : Place) (what : Kind)
-      → length sources ≤ limit_of limits limit.Files
-      → AreByName sources files → Stands files k s → IsLocalFault limits (name_of s) (text_of s) step place what
-      → IsSomeFault limits sources 1 (name_of s) step place what
-  import_fault : (files : List Source) (descs : List FileDesc) (a : ℕ) (place : Place) (what : Kind)
-      → Describe limits sources files descs
-      → imports.IsBad descs a place what → IsSomeFault limits sources 2 (imports.name_at descs a) 0 place what
-  many_names : (files : List Source) (descs : List FileDesc) → Describe limits sources files descs
-      → imports.NoneBad descs
-      → limit_of limits limit.Names < length (occurrences descs)
-      → IsSomeFault limits sources 3 [] 0 start kind.TooManyNames
-  repeated_name : (files : List Source) (descs : List FileDesc) (o : Occurrence) → Describe limits sources files descs
-      → imports.NoneBad descs
-      → length (occurrences descs) ≤ limit_of limits limit.Names → IsTwice (occurrences descs) o
-      → IsSomeFault limits sources 3 (imports.name_at descs o.file) 0 o.place kind.NameTwice
-  type_fault : (files : List Source) (descs : List FileDesc) (links : Linked) (index : Index) (a : ℕ) (desc : FileDesc)
-      (place : Place) (what : Kind)
-      → IsAnalysed limits sources files descs links index → StandsDesc descs a desc
-      → TypesBreakAt links index a desc (spot place what)
-      → IsSomeFault limits sources 4 (imports.name_at descs a) 0 place what
+-- a fault: the pass that finds it, the name of its file, its step and its place there, and what it is
+pub record SourceFault : Type 0 where
+  pub pass : ℕ
+  pub file : List ℕ
+  pub step : ℕ
+  pub place : Place
+  pub kind : Kind
+
+abbrev pub start : Place
+start = record { offset = 0 }
+
+abbrev pub fault : ℕ → List ℕ → ℕ → Place → Kind → SourceFault
+fault pass file step place kind = record { pass = pass; file = file; step = step; place = place; kind = kind }
+
+-- one of the whole list of sources, which has no file name and stands at 0; and one of a file, in a pass of one step
+abbrev pub of_list : ℕ → Kind → SourceFault
+of_list pass kind = fault pass [] 0 start kind
+
+abbrev pub of_file : ℕ → List ℕ → Place → Kind → SourceFault
+of_file pass file place kind = fault pass file 0 place kind
+
+-- ---- what breaks a rule
+
+-- the descriptor stands at k
+abbrev pub StandsDesc : List FileDesc → ℕ → FileDesc → Type 0
+StandsDesc descs k desc = (k < length descs) × (slice_index_or descs k desc ≡ desc)
+
+-- what the sources describe, each by itself, in the order of their names
+pub record AreDescribed (limits : Limits) (sources : List Source) (descs : List FileDesc) : Type 0 where
+  pub files : List Source
+  pub by_name : AreByName sources files
+  pub each : AllZip (SourceDescribes limits) files descs
+
+-- a rule of a pass that is broken, whatever other passes find
+pub data Breaks (limits : Limits) (sources : List Source) : SourceFault → Type 0 where
+  many_files : limit_of limits limit.Files < length sources → Breaks limits sources (of_list 0 kind.TooManyFiles)
+  repeated_file_name : (i j : ℕ) → i < j → j < length sources → name_at sources i ≡ name_at sources j
+      → Breaks limits sources (of_file 0 (name_at sources i) start kind.FileNameTwice)
+  file_fault : (s : Source) (step : ℕ) (place : Place) (what : Kind) → Contains sources s
+      → IsLocalFault limits (name_of s) (text_of s) step place what
+      → Breaks limits sources (fault 1 (name_of s) step place what)
+  bad_import : (descs : List FileDesc) (a : ℕ) (place : Place) (what : Kind) → AreDescribed limits sources descs
+      → imports.IsBad descs a place what → Breaks limits sources (of_file 2 (imports.name_at descs a) place what)
+  many_names : (descs : List FileDesc) → AreDescribed limits sources descs
+      → limit_of limits limit.Names < length (occurrences descs) → Breaks limits sources (of_list 3 kind.TooManyNames)
+  repeated_name : (descs : List FileDesc) (o : Occurrence) → AreDescribed limits sources descs
+      → IsTwice (occurrences descs) o
+      → Breaks limits sources (of_file 3 (imports.name_at descs o.file) o.place kind.NameTwice)
+  bad_type : (descs : List FileDesc) (a : ℕ) (desc : FileDesc) (place : Place) (what : Kind)
+      → AreDescribed limits sources descs → StandsDesc descs a desc
+      → TypesBreak (occurrences descs) (Sees descs a) desc (spot place what)
+      → Breaks limits sources (of_file 4 (imports.name_at descs a) place what)
   long_descriptor : (files : List Source) (typed : List FileDesc) (links : Linked) (index : Index) (a : ℕ)
-      (desc : FileDesc)
-      → AreResolved limits sources files typed links index → StandsDesc typed a desc
+      (desc : FileDesc) → AreResolved limits sources files typed links index → StandsDesc typed a desc
       → limit_of limits limit.DescriptorBytes < length (file_desc_bytes desc)
-      → IsSomeFault limits sources 5 (imports.name_at typed a) 0 start kind.DescriptorTooLong
+      → Breaks limits sources (of_file 5 (imports.name_at typed a) start kind.DescriptorTooLong)
   long_set : (c : Compilation) → IsWritten limits sources c
       → limit_of limits limit.SetBytes < length (set_of c.files c.links)
-      → IsSomeFault limits sources 6 [] 0 start kind.SetTooLong
+      → Breaks limits sources (of_list 6 kind.SetTooLong)
 
--- ---- their order
+-- ---- what is judged, and the first
 
-abbrev pub found_as : ℕ → List ℕ → ℕ → Place → Kind → Found
-found_as pass file step place kind =
-    record { pass = pass; file = file; step = step; place = place.offset; number = number_of kind }
+-- a later pass is judged only where no earlier one finds a broken rule
+pub record IsFault (limits : Limits) (sources : List Source) (x : SourceFault) : Type 0 where
+  pub breaks : Breaks limits sources x
+  pub judged : (y : SourceFault) → Breaks limits sources y → y.pass < x.pass → ⊥
 
-abbrev pub IsNoLater : Found → Found → Type 0
-IsNoLater a b = found_cmp a b ≢ Greater
+-- by pass, file name, step, place and the number of the kind
+abbrev pub numbered : SourceFault → Found
+numbered x = record { pass = x.pass; file = x.file; step = x.step; place = x.place.offset; number = number_of x.kind }
 
--- the least of the set
-pub record IsLeastFault (limits : Limits) (sources : List Source) (pass : ℕ) (file : List ℕ) (step : ℕ) (place : Place)
-    (kind : Kind) : Type 0 where
-  pub among : IsSomeFault limits sources pass file step place kind
-  pub least : (q : ℕ) (g : List ℕ) (t : ℕ) (y : Place) (l : Kind) → IsSomeFault limits sources q g t y l
-      → IsNoLater (found_as pass file step place kind) (found_as q g t y l)
+abbrev pub IsNoLater : SourceFault → SourceFault → Type 0
+IsNoLater x y = found_cmp (numbered x) (numbered y) ≢ Greater
+
+-- the first of them
+pub record IsLeastFault (limits : Limits) (sources : List Source) (x : SourceFault) : Type 0 where
+  pub among : IsFault limits sources x
+  pub least : (y : SourceFault) → IsFault limits sources y → IsNoLater x y
+
+-- ---- what an error tells
+
+abbrev pub told_by : Fault → SourceFault
+told_by f = fault f.pass (string_bytes f.file) f.step f.place f.kind
+
+-- the error is for want of memory, or tells a fault that is so
+abbrev pub TellsOf : (SourceFault → Type 0) → CompileError → Type 0
+TellsOf P (errors.First f) = P (told_by f)
+TellsOf P errors.NoMemory = Unit {0}
+
+-- ---- where faults stand
+
+-- a fault's file is one of the sources, unless the fault is one of the whole list; its place lies within the text of
+-- its file
+pub record IsPlaced (limits : Limits) (sources : List Source) (file : List ℕ) (place : Place) : Type 0 where
+  pub of_source : (file ≡ []) ⊎ ((s : Source) × Contains sources s × (name_of s ≡ file))
+  pub within : (s : Source) → Contains sources s → name_of s ≡ file → place.offset ≤ length (text_of s)
+  pub short : place.offset ≤ limit_of limits limit.FileBytes

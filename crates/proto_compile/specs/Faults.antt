@@ -1,7 +1,6 @@
--- The first fault of sources. A later pass is judged only where every file has passed all earlier ones; within a pass
--- the first is the least by file name,
--- step, place and the number of its kind.
-use Rattle.std.specs.Prelude.{◌≡◌, ◌⊎◌, ℕ, ◌<◌, ◌≤◌, List, [], length, take, string_bytes, slice_index_or, Some, All, Contains}
+-- Words for the contracts of the private functions: how the passes find the first fault, case by case. Which fault is the
+-- first is said by FaultSet.antt.
+use Rattle.std.specs.Prelude.{◌≡◌, ℕ, ◌<◌, ◌≤◌, List, [], length, take, string_bytes, slice_index_or, Some, All}
 use Rattle.std.specs.List.{AllZip}
 use Rattle.proto_base.specs.Limits.{limit_of}
 use Rattle.proto_base.specs.declared.kind.Kind.{Kind}
@@ -20,21 +19,16 @@ use Rattle.wire_bytes.specs.Descriptor.{file_desc_bytes}
 use Rattle.proto_compile.specs.Analysed.{AreResolved, IsAnalysed, TypesBreakAt}
 use Rattle.proto_compile.specs.Compilation.{Compilation, IsShort, IsWritten, set_of}
 use Rattle.proto_compile.specs.Descriptions.{Describe, SourceDescribes}
+use Rattle.proto_compile.specs.FaultSet.{StandsDesc, start}
 use Rattle.proto_file.specs.Local.{IsLocalFault}
 use Rattle.proto_compile.specs.Sources.{AreByName, AreSorted, IsFirstRepeated, name_at, name_of, text_of}
 use Rattle.proto_compile.specs.declared.error.CompileError.{CompileError}
 use Rattle.proto_compile.specs.declared.error.CompileError.TheVariants as errors
 use Rattle.proto_compile.specs.declared.source.Source.{Source}
 
-abbrev pub start : Place
-start = record { offset = 0 }
-
 -- s stands at k
 abbrev pub Stands : List Source → ℕ → Source → Type 0
 Stands files k s = (k < length files) × (slice_index_or files k s ≡ s)
-
-abbrev pub StandsDesc : List FileDesc → ℕ → FileDesc → Type 0
-StandsDesc descs k desc = (k < length descs) × (slice_index_or descs k desc ≡ desc)
 
 -- no file before this one breaks a rule of types
 abbrev pub NoneBreakBefore : Linked → Index → List FileDesc → ℕ → Type 0
@@ -88,12 +82,3 @@ Tells pass file step place kind (errors.First fault) =
     (fault.pass ≡ pass) × (string_bytes fault.file ≡ file) × (fault.step ≡ step) × (fault.place ≡ place)
     × (fault.kind ≡ kind)
 Tells pass file step place kind errors.NoMemory = Unit {0}
-
--- ---- where faults stand
-
--- a fault's file is one of the sources, unless the fault is one of the whole list; its place lies within the text of
--- its file
-pub record IsPlaced (limits : Limits) (sources : List Source) (file : List ℕ) (place : Place) : Type 0 where
-  pub of_source : (file ≡ []) ⊎ ((s : Source) × Contains sources s × (name_of s ≡ file))
-  pub within : (s : Source) → Contains sources s → name_of s ≡ file → place.offset ≤ length (text_of s)
-  pub short : place.offset ≤ limit_of limits limit.FileBytes

@@ -25,7 +25,8 @@ use Rattle.wire_bytes.specs.Descriptor.{file_desc_bytes}
 use Rattle.proto_compile.specs.Analysed.{TypesAt, TypesBreakAt}
 use Rattle.proto_compile.specs.Compilation.{IsShort}
 use Rattle.proto_compile.specs.Descriptions.{SourceDescribes}
-use Rattle.proto_compile.specs.Faults.{IsRefusal, Tells, start}
+use Rattle.proto_compile.specs.FaultSet.{start}
+use Rattle.proto_compile.specs.Faults.{IsRefusal, Tells}
 use Rattle.proto_compile.specs.Sources.{name_at, name_of, text_of}
 use Rattle.proto_compile.specs.declared.error.CompileError.{CompileError}
 use Rattle.proto_compile.specs.declared.error.CompileError.TheVariants as errors

@@ -3,7 +3,8 @@
 ghost use Rattle.std.specs.Prelude.{◌≡◌, ℕ, List, true, All, IfOk, IfErr, IsErrAnd, MatchResult, OnOk, length, map};
 ghost use Rattle.proto_compile.specs.Analysed.{AreResolved};
 ghost use Rattle.proto_compile.specs.Compilation.{Compilation, IsCompiled, IsShort, IsWritten, file_bytes, file_name};
-ghost use Rattle.proto_compile.specs.Faults.{IsFirstFault, IsPlaced, IsRefusal, Tells};
+ghost use Rattle.proto_compile.specs.FaultSet.{IsFault, IsLeastFault, IsPlaced, SourceFault, TellsOf};
+ghost use Rattle.proto_compile.specs.Faults.{IsFirstFault, IsRefusal};
 ghost use Rattle.proto_compile.specs.Sources.{NamesRise, name_of};
 ghost use Rattle.proto_compile.specs.Steps.{AreWritten, compilation, items_of};
 ghost use Rattle.proto_compile.specs.declared.error.CompileError.TheVariants as errors;
@@ -11,8 +12,6 @@ ghost use Rattle.proto_desc.specs.Resolved.{file_resolved};
 ghost use Rattle.proto_links.specs.Linked.{Linked};
 ghost use Rattle.proto_names.specs.Index.{Index};
 ghost use Rattle.wire_bytes.specs.Descriptor.{file_desc_bytes};
-ghost use Rattle.proto_base.specs.declared.kind.Kind.{Kind};
-ghost use Rattle.proto_base.specs.declared.place.Place.{Place};
 ghost use Rattle.proto_compile.specs.declared.source.Source.{Source};
 
 use crate::analysing::{Analysis, analyse};
@@ -100,17 +99,16 @@ where
     R: Threads + AllocGlobal + Sync,
     G: Gate + Sync,
     ensures compiled { IfOk result (IsCompiled limits.now sources.now) }
-    ensures first { IfErr result (IsRefusal (IsFirstFault limits.now sources.now)) }
-    ensures placed { IfErr result (IsRefusal
-        (λ pass file step place kind. IsPlaced limits.now sources.now file place)) }
+    ensures whole { IfOk result (λ c. (x : SourceFault) → IsFault limits.now sources.now x → ⊥) }
+    ensures first { IfErr result (TellsOf (IsLeastFault limits.now sources.now)) }
+    ensures placed { IfErr result (TellsOf (λ x. IsPlaced limits.now sources.now x.file x.place)) }
 
     // So sources with a compilation give it, and those with a fault tell it, unless memory runs out.
     ensures every_compilation { (c : Compilation) → IsCompiled limits.now sources.now c
         → MatchResult result (λ r. (r.files ≡ c.files) × (r.links.set_order ≡ c.links.set_order))
         (λ e. e ≡ errors.NoMemory) }
-    ensures every_fault { (pass : ℕ) (file : List ℕ) (step : ℕ) (place : Place) (kind : Kind)
-        → IsFirstFault limits.now sources.now pass file step place kind
-        → IsErrAnd result (Tells pass file step place kind) }
+    ensures every_fault { (x : SourceFault) → IsLeastFault limits.now sources.now x
+        → IsErrAnd result (TellsOf (λ y. y ≡ x)) }
 {
     run_passes(&Workers { rt, plan, gate }, sources, limits)
 }

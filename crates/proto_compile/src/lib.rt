@@ -19,5 +19,5 @@ mod workers;
 pub use compiled::Compiled;
 pub use compiling::compile;
 pub use error::CompileError;
-pub use laws::{compiling_is_unique, first_fault_is_least};
+pub use laws::compiling_is_unique;
 pub use source::Source;

@@ -33,7 +33,7 @@ use Rattle.proto_desc.specs.declared.rules.Element.TheVariants as element
 use Rattle.proto_desc.specs.declared.service.MethodDesc.{MethodDesc}
 use Rattle.proto_desc.specs.declared.service.ServiceDesc.{ServiceDesc}
 use Rattle.proto_file.specs.Places.{AtMost}
-use Rattle.proto_file.proofs.PlacesWithin.{Within, prefix, rest, both, left_of, right_of, each_row, each_map, each_weaker, EnumWithin, ItemWithin, StatementWithin, places_out, lowered_within}
+use Rattle.proto_file.proofs.PlacesWithin.{Within, prefix, rest, both, left_of, right_of, each_given, each_map, each_place, each_places, each_row, each_weaker, upto, EnumWithin, ItemWithin, StatementWithin, places_out, lowered_within}
 use Rattle.proto_checks.specs.Checks.{FileBreaks, package_in, body_in, enum_in, service_in, import_mark, IsTooLong, IsPartTooLong, PackageTooLong, parts_of, json_mark, field_mark, value_mark, EnumNamesBreak, MessageNames, MessageNamesBreak, names_of}
 use Rattle.proto_checks.specs.Elements.{BodyBreaks, EnumBreaks, ServiceBreaks, bodies, bodies_of}
 use Rattle.proto_checks.specs.Marks.{Marked}
@@ -42,7 +42,7 @@ use Rattle.proto_checks.proofs.Items.{nested_bodies}
 use Rattle.proto_checks.proofs.Named.{names_out}
 use Rattle.proto_desc.proofs.Declared.{declared_out}
 use Rattle.proto_file.proofs.Spots.{Placed, SpotWithin, at_spot, each_within, later_within, TextsWithin, text_twice, name_used}
-use Rattle.proto_file.proofs.Within.{given, SettingWithin, statement_within, settings_break, ItemsWithin, enum_breaks, body_breaks, service_breaks}
+use Rattle.proto_file.proofs.Within.{SettingWithin, statement_within, settings_break, ItemsWithin, enum_breaks, body_breaks, service_breaks}
 
 -- ---- the statements of messages, by induction on messages
 
@@ -50,10 +50,10 @@ abbrev BodiesWithin : ℕ → List (List MessageItem) → Type 0
 BodiesWithin n bs = AllByRecursion (ItemsWithin n) bs
 
 abbrev ItemBodies : ℕ → MessageItem → Type 0
-ItemBodies n i = ItemWithin n i → BodiesWithin n (bodies_of i)
+ItemBodies n i = ItemWithin (upto n) i → BodiesWithin n (bodies_of i)
 
 abbrev MessageBodies : ℕ → Message → Type 0
-MessageBodies n m = Within n (message_tree m) → BodiesWithin n (bodies m.items)
+MessageBodies n m = Within (upto n) (message_tree m) → BodiesWithin n (bodies m.items)
 
 abbrev LayerBodies : ℕ → MessageItem-F MessageItem Message → Type 0
 LayerBodies n (opened.Message m) = MessageBodies n m
@@ -61,7 +61,7 @@ LayerBodies n x = Unit {0}
 
 item_bodies : (n : ℕ) (x : MessageItem-F MessageItem Message) → LayerBodies n x → ItemBodies n (roll-MessageItem x)
 item_bodies n (opened.Message m) h =
-    subst (ItemBodies n) (sym (of.rolls-Message m)) (λ all. subst (BodiesWithin n) (sym (nested_bodies m)) (h (subst (Within n) (item_message m) all)))
+    subst (ItemBodies n) (sym (of.rolls-Message m)) (λ all. subst (BodiesWithin n) (sym (nested_bodies m)) (h (subst (Within (upto n)) (item_message m) all)))
 item_bodies n (opened.Map a) h = subst (ItemBodies n) (sym (of.rolls-Map a)) (λ all. tt)
 item_bodies n (opened.Enum a) h = subst (ItemBodies n) (sym (of.rolls-Enum a)) (λ all. tt)
 item_bodies n (opened.Option a) h = subst (ItemBodies n) (sym (of.rolls-Option a)) (λ all. tt)
@@ -83,8 +83,8 @@ all_bodies n (x ∷ xs) all = both (ItemsWithin n) (bodies_of x.0) (flat_map bod
 message_bodies : (n : ℕ) (k : Span) (name : Identifier) (o : Span) (xs : List (KnownItem n)) (c : Span)
     → MessageBodies n (record { keyword = k; name = name; open_brace = o; items = map (λ e. e.0) xs; close_brace = c })
 message_bodies n k name o xs c all =
-    let items : ItemsWithin n (map (λ e. e.0) xs) = each_row (ItemWithin n) message_item_tree n (map (λ e. e.0) xs) (λ i w. w)
-    (left_of n (row message_item_tree (map (λ e. e.0) xs)) (symbol_tree (byte "}") c) all.1.1.1) in
+    let items : ItemsWithin n (map (λ e. e.0) xs) = each_row (ItemWithin (upto n)) message_item_tree (upto n) (map (λ e. e.0) xs) (λ i w. w)
+    (left_of (upto n) (row message_item_tree (map (λ e. e.0) xs)) (symbol_tree (byte "}") c) all.1.1.1) in
     (items, all_bodies n xs items)
 
 bodies_item_step : (n : ℕ) (x : MessageItem-F MessageItem Message) (y : MessageItem-F (KnownItem n) (KnownMessage n))
@@ -110,39 +110,30 @@ bodies_within n = ind-Message (ItemBodies n) (MessageBodies n) (bodies_item_step
 marks_within : {X : Type 0} (n : ℕ) (mark : X → Marked) (xs : List X) → AllByRecursion (λ x. Placed n (mark x).place) xs → TextsWithin n (map mark xs)
 marks_within n mark xs all = each_map (λ (t : Marked). Placed n t.place) mark xs all
 
-pub each_place : {X : Type 0} (n : ℕ) (place : X → ℕ) (xs : List X) → AtMost n (map place xs) → AllByRecursion (λ x. place x ≤ n) xs
-each_place n place [] all = tt
-each_place n place (x ∷ xs) all = (all.0, each_place n place xs all.1)
-
-pub each_places : {X : Type 0} (n : ℕ) (places : X → List ℕ) (xs : List X) → AtMost n (flat_map places xs) → AllByRecursion (λ x. AtMost n (places x)) xs
-each_places n places [] all = tt
-each_places n places (x ∷ xs) all =
-    (prefix (λ p. p ≤ n) (places x) (flat_map places xs) all, each_places n places xs (rest (λ p. p ≤ n) (places x) (flat_map places xs) all))
-
-enum_names_break : (n : ℕ) (x : Spot) (e : EnumDesc) → EnumWithin n e → EnumNamesBreak e x → SpotWithin n x
+enum_names_break : (n : ℕ) (x : Spot) (e : EnumDesc) → EnumWithin (upto n) e → EnumNamesBreak e x → SpotWithin n x
 enum_names_break n x e all b =
-    name_used n e.reserved_names (map value_mark e.values) x (marks_within n value_mark e.values (each_place n value_place e.values all.1)) b
+    name_used n e.reserved_names (map value_mark e.values) x (marks_within n value_mark e.values (each_place (upto n) value_place e.values all.1)) b
 
 abbrev NamesAt : ℕ → MessageNames → Type 0
-NamesAt n m = AllByRecursion (λ (f : FieldDesc). Placed n f.place) m.fields × AllByRecursion (EnumWithin n) m.enums
+NamesAt n m = AllByRecursion (λ (f : FieldDesc). Placed n f.place) m.fields × AllByRecursion (EnumWithin (upto n)) m.enums
 
 names_break : (n : ℕ) (x : Spot) (m : MessageNames) → NamesAt n m → MessageNamesBreak m x → SpotWithin n x
 names_break n x m all (MessageNamesBreak.json_twice b) = text_twice n _ (map json_mark m.fields) x (marks_within n json_mark m.fields all.0) b
 names_break n x m all (MessageNamesBreak.reserved b) = name_used n m.reserved_names (map field_mark m.fields) x (marks_within n field_mark m.fields all.0) b
-names_break n x m all (MessageNamesBreak.in_enum b) = each_within (EnumWithin n) EnumNamesBreak n m.enums x all.1 (enum_names_break n x) b
+names_break n x m all (MessageNamesBreak.in_enum b) = each_within (EnumWithin (upto n)) EnumNamesBreak n m.enums x all.1 (enum_names_break n x) b
 
 abbrev DeclaredAt : ℕ → List Declared → Type 0
 DeclaredAt n ds = AllByRecursion (λ (d : Declared). Placed n d.place) ds
 
-enum_declares : (n : ℕ) (scope : List ℕ) (e : EnumDesc) → EnumWithin n e → DeclaredAt n (declared_by_enum scope e)
-enum_declares n scope e all = (all.0, each_map (λ (d : Declared). Placed n d.place) (declared_value scope) e.values (each_place n value_place e.values all.1))
+enum_declares : (n : ℕ) (scope : List ℕ) (e : EnumDesc) → EnumWithin (upto n) e → DeclaredAt n (declared_by_enum scope e)
+enum_declares n scope e all = (all.0, each_map (λ (d : Declared). Placed n d.place) (declared_value scope) e.values (each_place (upto n) value_place e.values all.1))
 
 -- what a message's own places give
 record OwnAt (n : ℕ) (m : MessageDesc-F MessageDesc) : Type 0 where
   place : Placed n m.place
   fields : AllByRecursion (λ (f : FieldDesc). Placed n f.place) m.fields
   oneofs : AllByRecursion (λ (o : OneofDesc). Placed n o.place) m.oneofs
-  enums : AllByRecursion (EnumWithin n) m.enums
+  enums : AllByRecursion (EnumWithin (upto n)) m.enums
   nested : AtMost n (flat_map message_places m.nested)
 
 abbrev own_places : MessageDesc-F MessageDesc → List ℕ
@@ -156,9 +147,9 @@ own_at n m all =
     record {
       place = all.0;
       fields = each_weaker (λ f. AtMost n (field_places f)) (λ (f : FieldDesc). Placed n f.place) m.fields (λ f w. w.0)
-          (each_places n field_places m.fields (prefix (λ p. p ≤ n) (flat_map field_places m.fields) (map oneof_place m.oneofs) upto_oneofs));
-      oneofs = each_place n oneof_place m.oneofs (rest (λ p. p ≤ n) (flat_map field_places m.fields) (map oneof_place m.oneofs) upto_oneofs);
-      enums = each_places n enum_places m.enums (rest (λ p. p ≤ n) (flat_map field_places m.fields ++ map oneof_place m.oneofs) (flat_map enum_places m.enums)
+          (each_places (upto n) field_places m.fields (prefix (λ p. p ≤ n) (flat_map field_places m.fields) (map oneof_place m.oneofs) upto_oneofs));
+      oneofs = each_place (upto n) oneof_place m.oneofs (rest (λ p. p ≤ n) (flat_map field_places m.fields) (map oneof_place m.oneofs) upto_oneofs);
+      enums = each_places (upto n) enum_places m.enums (rest (λ p. p ≤ n) (flat_map field_places m.fields ++ map oneof_place m.oneofs) (flat_map enum_places m.enums)
           upto_enums);
       nested = rest (λ p. p ≤ n) (flat_map field_places m.fields ++ map oneof_place m.oneofs ++ flat_map enum_places m.enums) (flat_map message_places m.nested)
           all.1;
@@ -198,7 +189,7 @@ declares : (n : ℕ) (scope : List ℕ) (m : MessageDesc-F MessageDesc) → OwnA
 declares n scope m own nested =
     let fields = each_map (λ (d : Declared). Placed n d.place) (declared_field (scoped scope m.name)) m.fields own.fields in
     let oneofs = each_map (λ (d : Declared). Placed n d.place) (declared_oneof (scoped scope m.name)) m.oneofs own.oneofs in
-    let enums = given (EnumWithin n) (λ (d : Declared). Placed n d.place) (declared_by_enum (scoped scope m.name)) m.enums
+    let enums = each_given (EnumWithin (upto n)) (λ (d : Declared). Placed n d.place) (declared_by_enum (scoped scope m.name)) m.enums
     (enum_declares n (scoped scope m.name)) own.enums in (
       own.place,
       both (λ (d : Declared). Placed n d.place) _ _
@@ -229,32 +220,32 @@ service_declares n scope s all = (
   all.0,
   each_map (λ (d : Declared). Placed n d.place) (declared_method (scoped scope s.name)) s.methods
       (each_weaker (λ m. AtMost n (method_places m)) (λ (m : MethodDesc). Placed n m.place) s.methods (λ m w. w.0)
-      (each_places n method_places s.methods all.1)),
+      (each_places (upto n) method_places s.methods all.1)),
 )
 
 -- ---- files
 
-package_in_within : (n : ℕ) (s : Statement) → StatementWithin n s → AllByRecursion (λ p. Within n (package_tree p)) (package_in s)
+package_in_within : (n : ℕ) (s : Statement) → StatementWithin (upto n) s → AllByRecursion (λ p. Within (upto n) (package_tree p)) (package_in s)
 package_in_within n (statement.Package p) all = (all, tt)
 package_in_within n s all = tt
 
-body_in_within : (n : ℕ) (s : Statement) → StatementWithin n s → BodiesWithin n (body_in s)
+body_in_within : (n : ℕ) (s : Statement) → StatementWithin (upto n) s → BodiesWithin n (body_in s)
 body_in_within n (statement.Message m) all = bodies_within n m all
 body_in_within n s all = tt
 
-enum_in_within : (n : ℕ) (s : Statement) → StatementWithin n s → AllByRecursion (λ e. Within n (enum_tree e)) (enum_in s)
+enum_in_within : (n : ℕ) (s : Statement) → StatementWithin (upto n) s → AllByRecursion (λ e. Within (upto n) (enum_tree e)) (enum_in s)
 enum_in_within n (statement.Enum e) all = (all, tt)
 enum_in_within n s all = tt
 
-service_in_within : (n : ℕ) (s : Statement) → StatementWithin n s → AllByRecursion (λ t. Within n (service_tree t)) (service_in s)
+service_in_within : (n : ℕ) (s : Statement) → StatementWithin (upto n) s → AllByRecursion (λ t. Within (upto n) (service_tree t)) (service_in s)
 service_in_within n (statement.Service t) all = (all, tt)
 service_in_within n s all = tt
 
-file_setting_within : (n : ℕ) (s : Statement) → StatementWithin n s → AllByRecursion (SettingWithin n) (file_setting s)
+file_setting_within : (n : ℕ) (s : Statement) → StatementWithin (upto n) s → AllByRecursion (SettingWithin n) (file_setting s)
 file_setting_within n (statement.Option o) all = (statement_within n o all, tt)
 file_setting_within n s all = tt
 
-package_long : (n : ℕ) (limits : Limits) (x : Spot) (p : Package) → Within n (package_tree p) → PackageTooLong limits p x → SpotWithin n x
+package_long : (n : ℕ) (limits : Limits) (x : Spot) (p : Package) → Within (upto n) (package_tree p) → PackageTooLong limits p x → SpotWithin n x
 package_long n limits x p all (PackageTooLong.part b) = each_within (λ part. Unit {0}) (IsPartTooLong limits p.name.first.span.start) n (parts_of p.name) x
     (every (parts_of p.name)) (λ part u s. at_spot n p.name.first.span.start _ x all.1.0 s.1) b
   where
@@ -288,50 +279,51 @@ desc_places n d all =
 
 declared_at : (n : ℕ) (d : FileDesc) → DescPlaces n d → DeclaredAt n (declared_by d)
 declared_at n d at =
-    let messages = given (λ m. AtMost n (message_places m)) (λ (x : Declared). Placed n x.place) (λ m. declared_by_message m (file_scope d.«package»))
-    d.messages (λ m w. (desc_at n m w).1 (file_scope d.«package»)) (each_places n message_places d.messages at.messages) in
-    let enums = given (EnumWithin n) (λ (x : Declared). Placed n x.place) (declared_by_enum (file_scope d.«package»)) d.enums
-    (enum_declares n (file_scope d.«package»)) (each_places n enum_places d.enums at.enums) in
-    let services = given (λ s. AtMost n (service_places s)) (λ (x : Declared). Placed n x.place) (declared_by_service (file_scope d.«package»)) d.services
-    (service_declares n (file_scope d.«package»)) (each_places n service_places d.services at.services) in
+    let messages = each_given (λ m. AtMost n (message_places m)) (λ (x : Declared). Placed n x.place) (λ m. declared_by_message m (file_scope d.«package»))
+    d.messages (λ m w. (desc_at n m w).1 (file_scope d.«package»)) (each_places (upto n) message_places d.messages at.messages) in
+    let enums = each_given (EnumWithin (upto n)) (λ (x : Declared). Placed n x.place) (declared_by_enum (file_scope d.«package»)) d.enums
+    (enum_declares n (file_scope d.«package»)) (each_places (upto n) enum_places d.enums at.enums) in
+    let services = each_given (λ s. AtMost n (service_places s)) (λ (x : Declared). Placed n x.place) (declared_by_service (file_scope d.«package»)) d.services
+    (service_declares n (file_scope d.«package»)) (each_places (upto n) service_places d.services at.services) in
     both (λ (x : Declared). Placed n x.place) _ _ (both (λ (x : Declared). Placed n x.place) _ _ messages enums) services
 
-pub breaks_within : (n : ℕ) (limits : Limits) (name : List ℕ) (tree : FileTree) (x : Spot) → Within n (file_tree tree)
+pub breaks_within : (n : ℕ) (limits : Limits) (name : List ℕ) (tree : FileTree) (x : Spot) → Within (upto n) (file_tree tree)
     → FileBreaks limits tree (lowered name tree) x → SpotWithin n x
 breaks_within n limits name tree x all broken = elim broken [
   | FileBreaks.not_proto3 b ↦ at_spot n tree.syntax.version.first.span.start _ x
-      (left_of n (syntax_tree tree.syntax) (row statement_tree tree.statements) all).1.1.0 b.1
+      (left_of (upto n) (syntax_tree tree.syntax) (row statement_tree tree.statements) all).1.1.0 b.1
   | FileBreaks.package_twice b ↦ later_within _ (λ (p : Package). p.keyword.start) kind.PackageTwice n (flat_map package_in tree.statements) x
-      (each_weaker (λ p. Within n (package_tree p)) (λ (p : Package). Placed n p.keyword.start) (flat_map package_in tree.statements) (λ p w. w.0) packages) b
+      (each_weaker (λ p. Within (upto n) (package_tree p)) (λ (p : Package). Placed n p.keyword.start) (flat_map package_in tree.statements) (λ p w. w.0) packages) b
   | FileBreaks.import_twice b ↦ text_twice n _ (map import_mark (lowered name tree).imports) x
-      (marks_within n import_mark (lowered name tree).imports (each_place n import_place (lowered name tree).imports desc.imports)) b
+      (marks_within n import_mark (lowered name tree).imports (each_place (upto n) import_place (lowered name tree).imports desc.imports)) b
   | FileBreaks.options b ↦ settings_break n element.File (flat_map file_setting tree.statements) x
-      (given (StatementWithin n) (SettingWithin n) file_setting tree.statements (file_setting_within n) ss) b
+      (each_given (StatementWithin (upto n)) (SettingWithin n) file_setting tree.statements (file_setting_within n) ss) b
   | FileBreaks.in_message b ↦ each_within (ItemsWithin n) BodyBreaks n (flat_map body_in tree.statements) x
-      (given (StatementWithin n) (ItemsWithin n) body_in tree.statements (body_in_within n) ss) (body_breaks n x) b
-  | FileBreaks.in_enum b ↦ each_within (λ e. Within n (enum_tree e)) EnumBreaks n (flat_map enum_in tree.statements) x
-      (given (StatementWithin n) (λ e. Within n (enum_tree e)) enum_in tree.statements (enum_in_within n) ss) (enum_breaks n x) b
-  | FileBreaks.in_service b ↦ each_within (λ t. Within n (service_tree t)) ServiceBreaks n (flat_map service_in tree.statements) x
-      (given (StatementWithin n) (λ t. Within n (service_tree t)) service_in tree.statements (service_in_within n) ss) (service_breaks n x) b
+      (each_given (StatementWithin (upto n)) (ItemsWithin n) body_in tree.statements (body_in_within n) ss) (body_breaks n x) b
+  | FileBreaks.in_enum b ↦ each_within (λ e. Within (upto n) (enum_tree e)) EnumBreaks n (flat_map enum_in tree.statements) x
+      (each_given (StatementWithin (upto n)) (λ e. Within (upto n) (enum_tree e)) enum_in tree.statements (enum_in_within n) ss) (enum_breaks n x) b
+  | FileBreaks.in_service b ↦ each_within (λ t. Within (upto n) (service_tree t)) ServiceBreaks n (flat_map service_in tree.statements) x
+      (each_given (StatementWithin (upto n)) (λ t. Within (upto n) (service_tree t)) service_in tree.statements (service_in_within n) ss) (service_breaks n x) b
   | FileBreaks.message_names b ↦ each_within (NamesAt n) MessageNamesBreak n (flat_map names_of (lowered name tree).messages) x
-      (given (λ m. AtMost n (message_places m)) (NamesAt n) names_of (lowered name tree).messages (λ m w. (desc_at n m w).0)
-      (each_places n message_places (lowered name tree).messages desc.messages)) (names_break n x) b
-  | FileBreaks.enum_names b ↦ each_within (EnumWithin n) EnumNamesBreak n (lowered name tree).enums x
-      (each_places n enum_places (lowered name tree).enums desc.enums) (enum_names_break n x) b
-  | FileBreaks.package_long b ↦ each_within (λ p. Within n (package_tree p)) (PackageTooLong limits) n (flat_map package_in tree.statements) x packages
+      (each_given (λ m. AtMost n (message_places m)) (NamesAt n) names_of (lowered name tree).messages (λ m w. (desc_at n m w).0)
+      (each_places (upto n) message_places (lowered name tree).messages desc.messages)) (names_break n x) b
+  | FileBreaks.enum_names b ↦ each_within (EnumWithin (upto n)) EnumNamesBreak n (lowered name tree).enums x
+      (each_places (upto n) enum_places (lowered name tree).enums desc.enums) (enum_names_break n x) b
+  | FileBreaks.package_long b ↦ each_within (λ p. Within (upto n) (package_tree p)) (PackageTooLong limits) n (flat_map package_in tree.statements) x packages
       (package_long n limits x) b
   | FileBreaks.name_long b ↦ each_within (λ (d : Declared). Placed n d.place) (IsTooLong limits) n (declared_by (lowered name tree)) x
       (declared_at n (lowered name tree) desc) (λ d within s. at_spot n d.place _ x within s.1) b
 ]
   where
-    ss : AllByRecursion (StatementWithin n) tree.statements
+    ss : AllByRecursion (StatementWithin (upto n)) tree.statements
     ss =
-        each_row (StatementWithin n) statement_tree n tree.statements (λ s w. w) (right_of n (syntax_tree tree.syntax) (row statement_tree tree.statements) all)
+        each_row (StatementWithin (upto n)) statement_tree (upto n) tree.statements (λ s w. w) (right_of (upto n) (syntax_tree tree.syntax) (row statement_tree tree.statements) all)
 
-    packages : AllByRecursion (λ p. Within n (package_tree p)) (flat_map package_in tree.statements)
-    packages = given (StatementWithin n) (λ p. Within n (package_tree p)) package_in tree.statements (package_in_within n)
-        (each_row (StatementWithin n) statement_tree n tree.statements (λ s w. w)
-        (right_of n (syntax_tree tree.syntax) (row statement_tree tree.statements) all))
+    packages : AllByRecursion (λ p. Within (upto n) (package_tree p)) (flat_map package_in tree.statements)
+    packages = each_given (StatementWithin (upto n)) (λ p. Within (upto n) (package_tree p)) package_in tree.statements (package_in_within n)
+        (each_row (StatementWithin (upto n)) statement_tree (upto n) tree.statements (λ s w. w)
+        (right_of (upto n) (syntax_tree tree.syntax) (row statement_tree tree.statements) all))
 
     desc : DescPlaces n (lowered name tree)
-    desc = desc_places n (lowered name tree) (lowered_within n name tree all)
+    desc = desc_places n (lowered name tree)
+        (lowered_within (upto n) name tree (right_of (upto n) (syntax_tree tree.syntax) (row statement_tree tree.statements) all))

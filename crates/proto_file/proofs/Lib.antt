@@ -3,5 +3,6 @@ pub mod Spots
 pub mod Within
 pub mod FileWithin
 pub mod LocalPlaces
+pub mod AfterFirst
 pub mod OneLocal
 pub mod Judging

@@ -64,12 +64,12 @@ root_is (x ∷ xs) zero a below = refl
 root_is (x ∷ xs) (suc k) a below = root_is xs k a (omega arith)
 
 -- the files of one reply
-record AreGood (c : Compilation) (files : List ℕ) : Type 0 where
+pub record AreGood (c : Compilation) (files : List ℕ) : Type 0 where
   pub inside : (a : ℕ) → Contains files a → a < count_of c.links
   pub short : length (files_bytes c files) ≤ 1073741824
 
 module _ (c : Compilation) (holds : HoldsReplies c) where
-  good_from : (kept : ℕ → Bool) (root : Option ℕ) → IsRootWithin (count_of c.links) root → AreGood c (filter kept (root_first (reach_of c.links) root))
+  pub good_from : (kept : ℕ → Bool) (root : Option ℕ) → IsRootWithin (count_of c.links) root → AreGood c (filter kept (root_first (reach_of c.links) root))
   good_from kept None within = record { inside = λ a w. absurd (let h = w.1 in omega (arith, h)); short = omega arith }
   good_from kept (Some r) within =
       let below = within r refl in

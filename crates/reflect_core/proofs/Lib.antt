@@ -11,3 +11,4 @@ mod Framing
 mod RepliesMore
 mod AnsweringBody
 pub mod OneResponse
+mod ShortReplies

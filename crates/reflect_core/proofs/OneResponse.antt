@@ -27,7 +27,7 @@ use Rattle.reflect_core.specs.Response.{IsAsked, IsResponse, replies, replies_to
 -- ---- one answer
 
 -- what an answer is, by its ask
-abbrev Means : Compilation → Ask → Answer → Type 0
+abbrev pub Means : Compilation → Ask → Answer → Type 0
 Means c (file_by_name name) x = ((a : ℕ) × IsNamed c.files name a × (x ≡ answers.file a)) ⊎ (((a : ℕ) → IsNamed c.files name a → ⊥) × (x ≡ answers.not_found))
 Means c (file_by_symbol name) x =
     ((o : Occurrence) × Declares c name o × (x ≡ answers.file o.file)) ⊎ (((o : Occurrence) → Declares c name o → ⊥) × (x ≡ answers.not_found))
@@ -38,7 +38,7 @@ Means c (extension_numbers name) x =
 Means c list_services x = x ≡ answers.services
 Means c nothing x = x ≡ answers.empty_request
 
-means : (c : Compilation) (ask : Ask) (x : Answer) → IsAnswer c ask x → Means c ask x
+pub means : (c : Compilation) (ask : Ask) (x : Answer) → IsAnswer c ask x → Means c ask x
 means c ask x (answers.named name a is) = inl (a, is, refl)
 means c ask x (answers.not_named name none) = inr (none, refl)
 means c ask x (answers.declared name o is) = inl (o, is, refl)
@@ -50,7 +50,7 @@ means c ask x answers.listed = refl
 means c ask x answers.nothing_asked = refl
 
 -- what tells two compilations of the same sources from none
-record IsOne (c d : Compilation) : Type 0 where
+pub record IsOne (c d : Compilation) : Type 0 where
   pub same : AreAlike c d
   pub once : (name : List ℕ) (a b : ℕ) → IsNamed c.files name a → IsNamed c.files name b → a ≡ b
   pub one : (name : List ℕ) (o p : Occurrence) → Declares c name o → Declares c name p → o ≡ p
@@ -145,7 +145,7 @@ module _ (c d : Compilation) (is : IsOne c d) where
   replies_alike (a ∷ asked) (files ∷ lists) = let head = reply_alike a files in let rest = replies_alike asked lists in λ i. head i ∷ rest i
 
   -- roots are files
-  root_inside : (ask : Ask) (x : Answer) (r : ℕ) → Means c ask x → root_of x ≡ Some r → r < length c.files
+  pub root_inside : (ask : Ask) (x : Answer) (r : ℕ) → Means c ask x → root_of x ≡ Some r → r < length c.files
   root_inside (file_by_name name) x r meaning at = elim meaning [
     | inl f ↦ (let same : f.0 ≡ r = some_root f.0 r (sym (ap root_of f.2) ∙ at) in let below = f.1.0 in omega (arith, same, below))
     | inr f ↦ absurd (no_root r (sym (ap root_of f.1) ∙ at))
@@ -197,7 +197,7 @@ module _ (c d : Compilation) (is : IsOne c d) where
 
 -- ---- of the same sources
 
-is_one : (limits : Limits) (sources : List Source) (c d : Compilation) → IsCompiled limits sources c → IsCompiled limits sources d → IsOne c d
+pub is_one : (limits : Limits) (sources : List Source) (c d : Compilation) → IsCompiled limits sources c → IsCompiled limits sources d → IsOne c d
 is_one limits sources c d first second =
     let written = first.written in
     let analysed = written.resolved.analysed in

@@ -1,14 +1,16 @@
 -- Words for the contracts of the private functions that answer a body. They are no part of its definition.
-use Rattle.std.specs.Prelude.{◌≡◌, ℕ, ◌<◌, ◌≤◌, ◌^◌, List, length, slice_index_or, Option, Contains, Vec}
+use Rattle.std.specs.Prelude.{◌≡◌, ℕ, ◌+◌, ◌*◌, ◌<◌, ◌≤◌, ◌^◌, List, length, slice_index_or, Option, Contains, Vec}
 use Rattle.std.specs.Option.{ForSome}
 use Rattle.std.specs.declared.alloc.Global.{Global}
 use Rattle.proto_compile.specs.Compilation.{Compilation, IsSound, set_of}
 use Rattle.proto_links.specs.Linked.{AreReachesWhole, Linked, count_of, reach_of}
 use Rattle.reflect_core.specs.Answer as answers
 use Rattle.reflect_core.specs.Answer.{Answer, answer_of}
-use Rattle.reflect_core.specs.Reply.{Asked, contents_of, files_bytes, reply, services_bytes}
+use Rattle.reflect_core.specs.Reply.{Asked, contents_of, files_bytes, host_field, member_of, reply, services_bytes}
 use Rattle.reflect_core.specs.declared.asked.Asked as rust
 use Rattle.share_work.specs.Reach.{Reaches}
+use Rattle.wire_format.specs.Field.{bytes_field}
+use Rattle.wire_format.specs.Varint.{varint_bytes}
 
 -- a request of the program
 abbrev pub asked_of : rust.Asked → Asked
@@ -33,6 +35,12 @@ pub record HasContents (c : Compilation) (services : List ℕ) (answer : Answer)
   pub inside : (a : ℕ) → Contains files a → a < count_of c.links
   pub short : length (contents_of c files answer) < 2 ^ 32
 
+-- how long a reply is whose member holds so many bytes
+abbrev pub reply_size : Asked → ℕ → ℕ
+reply_size asked contents =
+    length (host_field asked.host) + (length (bytes_field 2 asked.message)
+    + (length (varint_bytes (member_of asked.answer * 8 + 2)) + (length (varint_bytes contents) + contents)))
+
 -- the same of a reply, which has room in a frame
 pub record IsReplyable (c : Compilation) (services : List ℕ) (asked : Asked) (files : List ℕ) : Type 0 where
   pub listed : asked.answer ≡ answers.services → services ≡ services_bytes c
@@ -45,6 +53,14 @@ pub record AreReplyable (c : Compilation) (services : List ℕ) (asked : List ru
   pub size : length carried ≡ length asked
   pub each : (k : ℕ) (a : rust.Asked) (files : Vec ℕ Global) → k < length asked
       → IsReplyable c services (asked_of (slice_index_or asked k a)) (slice_index_or carried k files).items
+
+-- so long is what the member of each reply holds
+pub record AreContentsLengths (c : Compilation) (asked : List rust.Asked) (carried : List (Vec ℕ Global))
+    (lengths : List ℕ) : Type 0 where
+  pub size : length lengths ≡ length asked
+  pub each : (k n : ℕ) (a : rust.Asked) (files : Vec ℕ Global) → k < length asked
+      → slice_index_or lengths k n
+      ≡ length (contents_of c (slice_index_or carried k files).items (asked_of (slice_index_or asked k a)).answer)
 
 -- the bytes are those of the services, where one of the requests asks for them
 abbrev pub AreServicesFor : Compilation → List rust.Asked → List ℕ → Type 0

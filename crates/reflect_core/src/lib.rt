@@ -14,7 +14,7 @@ mod response;
 
 pub use body::answer_body;
 pub use first_reach::Mode;
-pub use laws::responses_are_unique;
+pub use laws::{replies_are_short, responses_are_unique};
 pub use reflect_requests::{
     Ask, Frames, Message, Request, Stream, frames_are_unique, read_frames, read_request,
     read_stream, requests_are_unique,

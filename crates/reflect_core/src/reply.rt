@@ -4,7 +4,7 @@ ghost use Rattle.std.specs.Prelude.{◌≡◌, ℕ, ◌+◌, ◌++◌, ◌<◌, 
 ghost use Rattle.proto_links.specs.Linked.{count_of};
 ghost use Rattle.reflect_core.specs.Answer.{answer_of};
 ghost use Rattle.reflect_core.specs.Reply.{contents_of, files_bytes, host_field, member_of, reply};
-ghost use Rattle.reflect_core.specs.ResponseSteps.{HasContents, IsReplyable, asked_of};
+ghost use Rattle.reflect_core.specs.ResponseSteps.{HasContents, IsReplyable, asked_of, reply_size};
 ghost use Rattle.reflect_requests.specs.Frames.{frame};
 ghost use Rattle.wire_format.specs.Field.{bytes_field};
 
@@ -59,8 +59,8 @@ impl Material<'_> {
         Ok(())
     }
 
-    /// How long what an answer holds is.
-    fn contents_len(&self, answer: Answer, files: &[FileId]) -> u64
+    /// How long is what the member of a reply holds.
+    pub(crate) fn contents_len(&self, answer: Answer, files: &[FileId]) -> u64
         requires { HasContents self.now.compiled.now self.now.services.now (answer_of answer)
             files.now }
         ensures { result ≡ length (contents_of self.now.compiled.now files.now
@@ -97,54 +97,59 @@ impl Material<'_> {
         }
     }
 
-    /// How many bytes the reply to a request has that carries these files.
-    pub(crate) fn reply_len(&self, asked: &Asked, files: &[FileId]) -> u64
-        requires { IsReplyable self.now.compiled.now self.now.services.now (asked_of asked.now)
-            files.now }
-        ensures { result ≡ length (reply self.now.compiled.now (asked_of asked.now) files.now) }
-    {
-        let contents = self.contents_len(asked.answer, files);
-        let tag = u64::from(member(asked.answer)) * 8 + 2;
-        let message = field_len(2, &FieldValue::Delimited(asked.message));
-        let header = (varint_len(tag) + varint_len(contents)) as u64;
-        host_len(asked.host) + message + header + contents
-    }
-
+    /// Appends the reply to a request that carries these files; what its member holds has this length.
     fn put_reply(
         &self,
         out: &mut Vec<u8>,
         asked: &Asked,
         files: &[FileId],
+        contents_len: u64,
     ) -> Result<(), AllocError>
-        requires { IsReplyable self.now.compiled.now self.now.services.now (asked_of asked.now)
-            files.now }
+        requires replyable { IsReplyable self.now.compiled.now self.now.services.now
+            (asked_of asked.now) files.now }
+        requires len { contents_len
+            ≡ length (contents_of self.now.compiled.now files.now (asked_of asked.now).answer) }
         ensures { OnOk result (out.new.items ≡ out.old.items
             ++ reply self.now.compiled.now (asked_of asked.now) files.now) }
     {
         put_host(out, asked.host)?;
         put_field(out, 2, &FieldValue::Delimited(asked.message))?;
         put_varint(out, u64::from(member(asked.answer)) * 8 + 2)?;
-        put_varint(out, self.contents_len(asked.answer, files))?;
+        put_varint(out, contents_len)?;
         self.put_contents(out, asked.answer, files)
     }
 
-    /// Appends the reply to a request that carries these files, in a frame.
+    /// Appends the reply to a request that carries these files, in a frame; what its member holds has this length.
     pub(crate) fn put_frame(
         &self,
         out: &mut Vec<u8>,
         asked: &Asked,
         files: &[FileId],
+        contents_len: u64,
     ) -> Result<(), AllocError>
-        requires { IsReplyable self.now.compiled.now self.now.services.now (asked_of asked.now)
-            files.now }
+        requires replyable { IsReplyable self.now.compiled.now self.now.services.now
+            (asked_of asked.now) files.now }
+        requires len { contents_len
+            ≡ length (contents_of self.now.compiled.now files.now (asked_of asked.now).answer) }
         ensures { OnOk result (out.new.items ≡ out.old.items
             ++ frame 0 (reply self.now.compiled.now (asked_of asked.now) files.now)) }
     {
-        let len = self.reply_len(asked, files) as u32;
+        let len = reply_len(asked, contents_len) as u32;
         out.push(0)?;
         out.extend_from_slice(&len.to_be_bytes())?;
-        self.put_reply(out, asked, files)
+        self.put_reply(out, asked, files, contents_len)
     }
+}
+
+/// How many bytes the reply to a request has whose member holds so many.
+pub(crate) fn reply_len(asked: &Asked, contents_len: u64) -> u64
+    requires { reply_size (asked_of asked.now) contents_len < 2 ^ 32 }
+    ensures { result ≡ reply_size (asked_of asked.now) contents_len }
+{
+    let tag = u64::from(member(asked.answer)) * 8 + 2;
+    let message = field_len(2, &FieldValue::Delimited(asked.message));
+    let header = (varint_len(tag) + varint_len(contents_len)) as u64;
+    host_len(asked.host) + message + header + contents_len
 }
 
 /// The number of the member of the oneof `message_response` that holds an answer.

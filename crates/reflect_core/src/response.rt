@@ -3,12 +3,12 @@
 ghost use Rattle.std.specs.Prelude.{◌≡◌, ◌++◌, IfOk, OnOk, flat_map, map};
 ghost use Rattle.reflect_core.specs.Reply.{services_bytes};
 ghost use Rattle.reflect_core.specs.Response.{replies_to, trailer};
-ghost use Rattle.reflect_core.specs.ResponseSteps.{AreReplyable, AreServicesFor, asked_of, files_of};
+ghost use Rattle.reflect_core.specs.ResponseSteps.{AreContentsLengths, AreReplyable, AreServicesFor, asked_of, files_of};
 ghost use Rattle.reflect_requests.specs.Frames.{frame};
 
 use crate::answer::Answer;
 use crate::asked::Asked;
-use crate::reply::Material;
+use crate::reply::{Material, reply_len};
 use proto_compile::Compiled;
 use proto_links::FileId;
 use std::alloc::{AllocError, Global};
@@ -53,13 +53,34 @@ pub(crate) fn services_for(
     Ok(Vec::new(alloc))
 }
 
-/// How many bytes a response may have.
-fn room_for(material: Material, asked: &[Asked], carried: &[Vec<FileId>]) -> u64
+/// How long is what the member of each reply holds: its files are gone over once for it.
+fn contents_lengths(
+    alloc: Global,
+    material: Material,
+    asked: &[Asked],
+    carried: &[Vec<FileId>],
+) -> Result<Vec<u64>, AllocError>
     requires { AreReplyable material.compiled.now material.services.now asked.now carried.now }
+    ensures { IfOk result (λ lengths. AreContentsLengths material.entry.compiled.now asked.now
+        carried.now lengths.items) }
+{
+    let mut lengths = Vec::with_capacity(alloc, asked.len())?;
+    for (position, request) in asked.iter().enumerate() {
+        let files = carried[position].as_slice();
+        lengths.push(material.contents_len(request.answer, files))?;
+    }
+    Ok(lengths)
+}
+
+/// How many bytes a response may have.
+fn room_for(material: Material, asked: &[Asked], carried: &[Vec<FileId>], lengths: &[u64]) -> u64
+    requires replyable { AreReplyable material.compiled.now material.services.now asked.now
+        carried.now }
+    requires lengths { AreContentsLengths material.compiled.now asked.now carried.now lengths.now }
 {
     let mut room = TRAILER_MOST;
     for (position, request) in asked.iter().enumerate() {
-        let len = material.reply_len(request, carried[position].as_slice());
+        let len = reply_len(request, lengths[position]);
         room = room.saturating_add(FRAME_HEAD + len);
     }
     room
@@ -97,10 +118,12 @@ pub(crate) fn response_to(
         ≡ flat_map (frame 0) (replies_to material.entry.compiled.now (map asked_of asked.now)
         (map files_of carried.now)) ++ frame 128 (trailer status)) }
 {
-    let room = room_for(material, asked, carried);
+    let lengths = contents_lengths(alloc, material, asked, carried)?;
+    let room = room_for(material, asked, carried, &lengths);
     let mut out = Vec::with_capacity(alloc, usize::try_from(room).unwrap_or(usize::MAX))?;
     for (position, request) in asked.iter().enumerate() {
-        material.put_frame(&mut out, request, carried[position].as_slice())?;
+        let files = carried[position].as_slice();
+        material.put_frame(&mut out, request, files, lengths[position])?;
     }
     put_trailer(alloc, &mut out, status)?;
     Ok(out)

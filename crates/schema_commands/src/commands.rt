@@ -1,5 +1,12 @@
 //! The commands but `serve`: what each reads, and what it writes.
 
+ghost use Rattle.std.specs.Prelude.{◌≡◌, ◌+◌, ◌⊎◌, [], ◌∷◌, ◌++◌, IfErr, IfOk, OnOk, string_bytes};
+ghost use Rattle.std.specs.Io.KnownBytes.{Appends};
+ghost use Rattle.proto_base.specs.Limits.{limit_of};
+ghost use Rattle.schema_commands.specs.Moved.{IsReadOf};
+ghost use Rattle.schema_commands.specs.Runs.{AreSourcesOf, IsDescribeRun, IsDigitsOf, IsSetOfTexts, IsToldOf, IsToldOfTexts};
+ghost use Rattle.schema_failure.specs.declared.failure.Failure.TheVariants as failures;
+
 use crate::explanation::{write_kind, write_kinds};
 use crate::whole_file::write_whole;
 use grpcweb_core::{Counted, Mode, answer_io};
@@ -21,28 +28,57 @@ fn read_input<I: Read + Drop>(
     input: I,
     limits: &Limits,
     limit: Limit,
-) -> Result<Vec<u8>, Failure> {
+) -> Result<Vec<u8>, Failure>
+    ensures read { IfOk result (λ bytes. IsReadOf (I.remaining input)
+        (limit_of limits.now limit + 1) bytes.items) }
+    ensures refused { IfErr result (λ e. (e ≡ failures.Input) ⊎ (e ≡ failures.NoMemory)) }
+{
     let mut bytes = Vec::new(alloc);
     let mut limited = input.take(limits.get(limit) + 1);
     match limited.read_to_end(&mut bytes) {
         Ok(_) => Ok(bytes),
-        Err(error) if error.kind() == io::ErrorKind::OutOfMemory => Err(Failure::NoMemory),
-        Err(_) => Err(Failure::Input),
+        Err(error) => Err(Failure::Input.unless_no_memory(&error)),
     }
 }
 
-fn write_line<O: Write>(output: &mut O, line: &str) -> Result<(), Failure> {
+/// Writes a line and its end, and flushes.
+fn write_line<O: Write>(output: &mut O, line: &str) -> Result<(), Failure>
+    ensures written { OnOk result (Appends (O.contents output.old) (O.contents output.new)
+        (line.now ++ 10 ∷ [])) }
+    ensures refused { IfErr result (λ e. e ≡ failures.Output) }
+{
     if writeln!(output, "{line}").is_err() || output.flush().is_err() {
         return Err(Failure::Output);
     }
     Ok(())
 }
 
-fn write_bytes<O: Write>(output: &mut O, bytes: &[u8]) -> Result<(), Failure> {
+/// Writes bytes, and flushes.
+fn write_bytes<O: Write>(output: &mut O, bytes: &[u8]) -> Result<(), Failure>
+    ensures written { OnOk result (Appends (O.contents output.old) (O.contents output.new)
+        bytes.now) }
+    ensures refused { IfErr result (λ e. e ≡ failures.Output) }
+{
     if output.write_all(bytes).is_err() || output.flush().is_err() {
         return Err(Failure::Output);
     }
     Ok(())
+}
+
+/// The descriptor of a source in hexadecimal digits.
+fn digits_of<R>(rt: &R, name: &str, text: &[u8], limits: &Limits) -> Result<String, Failure>
+where
+    R: Threads + AllocGlobal + Sync,
+    ensures digits { IfOk result (λ line. IsDigitsOf limits.now
+        (record { name = name.entry; text = text.entry }) (string_bytes line)) }
+    ensures refused { IfErr result (IsToldOf limits.now
+        (record { name = name.entry; text = text.entry } ∷ [])) }
+{
+    match describe(rt, name, text, limits) {
+        Ok(bytes) => Ok(hex::encode(rt.alloc(), bytes)?),
+        Err(CompileError::NoMemory) => Err(Failure::NoMemory),
+        Err(CompileError::First(fault)) => Err(locate(fault, &[Source { name, text }])),
+    }
 }
 
 /// Describes the source on the input.
@@ -51,19 +87,19 @@ where
     R: Threads + AllocGlobal + Sync,
     I: Read + Drop,
     O: Write,
+    ensures { IsDescribeRun name.now (I.remaining input) (O.contents output.old)
+        (O.contents output.new) result }
 {
     let limits = Limits::standard();
     let text = read_input(rt.alloc(), input, &limits, Limit::FileBytes)?;
-    let source = Source { name, text: &text };
-    match describe(rt, source.name, source.text, &limits) {
-        Ok(bytes) => write_line(output, hex::encode(rt.alloc(), bytes)?.as_str()),
-        Err(CompileError::NoMemory) => Err(Failure::NoMemory),
-        Err(CompileError::First(fault)) => Err(locate(fault, &[source])),
-    }
+    let digits = digits_of(rt, name, &text, &limits)?;
+    write_line(output, digits.as_str())
 }
 
 /// The sources that are read texts.
-fn sources_of<'s>(alloc: Global, texts: &'s [NamedText]) -> Result<Vec<Source<'s>>, AllocError> {
+fn sources_of<'s>(alloc: Global, texts: &'s [NamedText]) -> Result<Vec<Source<'s>>, AllocError>
+    ensures { IfOk result (λ sources. AreSourcesOf texts.now sources.items) }
+{
     let mut sources = Vec::with_capacity(alloc, texts.len())?;
     for text in texts {
         sources.push(Source {
@@ -72,6 +108,27 @@ fn sources_of<'s>(alloc: Global, texts: &'s [NamedText]) -> Result<Vec<Source<'s
         })?;
     }
     Ok(sources)
+}
+
+/// The set of read texts, or their first fault.
+fn set_of_texts<R>(
+    rt: &R,
+    texts: &[NamedText],
+    limits: &Limits,
+    plan: Plan,
+) -> Result<Vec<u8>, Failure>
+where
+    R: Threads + AllocGlobal + Sync,
+    ensures set { IfOk result (λ set. IsSetOfTexts limits.now texts.now set.items) }
+    ensures refused { IfErr result (IsToldOfTexts limits.now texts.now) }
+{
+    let sources = sources_of(rt.alloc(), texts)?;
+    let listed = sources.as_slice();
+    match set_of_sources(rt, listed, limits, plan, &NoGate) {
+        Ok(set) => Ok(set),
+        Err(CompileError::NoMemory) => Err(Failure::NoMemory),
+        Err(CompileError::First(fault)) => Err(locate(fault, listed)),
+    }
 }
 
 /// Compiles the sources below a folder, and writes the set to a file or, without one, to the output.
@@ -88,14 +145,10 @@ where
 {
     let limits = Limits::standard();
     let texts = read_folder(rt, root, &limits)?;
-    let sources = sources_of(rt.alloc(), &texts)?;
-    match set_of_sources(rt, &sources, &limits, plan, &NoGate) {
-        Ok(set) => match file {
-            Some(path) => write_whole(rt, path, &set),
-            None => write_bytes(output, &set),
-        },
-        Err(CompileError::NoMemory) => Err(Failure::NoMemory),
-        Err(CompileError::First(fault)) => Err(locate(fault, &sources)),
+    let set = set_of_texts(rt, &texts, &limits, plan)?;
+    match file {
+        Some(path) => write_whole(rt, path, &set),
+        None => write_bytes(output, &set),
     }
 }
 

@@ -28,8 +28,7 @@ where
 {
     match fs::canonicalize(rt, path) {
         Ok(followed) => Ok(followed),
-        Err(error) if error.kind() == io::ErrorKind::OutOfMemory => Err(Failure::NoMemory),
-        Err(_) => Err(Failure::Output),
+        Err(error) => Err(Failure::Output.unless_no_memory(&error)),
     }
 }
 

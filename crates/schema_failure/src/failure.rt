@@ -1,18 +1,23 @@
 //! A failure, and what a run ends with.
 
-ghost use Rattle.std.specs.Prelude.{◌≡◌, ◌<◌, ◌≤◌, ◌-◌, ◌^◌, Contains, IfSome, length, option_map, string_bytes};
+ghost use Rattle.std.specs.Prelude.{◌≡◌, ◌<◌, ◌≤◌, ◌-◌, ◌^◌, Contains, IfSome, Some, length, option_map, string_bytes};
+ghost use Rattle.device_error.specs.Memory.{IsUnlessNoMemory};
 ghost use Rattle.proto_compile.specs.Sources.{name_of, text_of};
 ghost use Rattle.proto_compile.specs.declared.source.Source.{Source};
 ghost use Rattle.schema_failure.specs.declared.failure.Failure.TheVariants as failures;
+ghost use Rattle.schema_failure.specs.Faults.{of_exchange, of_folder, of_service};
+ghost use Rattle.schema_failure.specs.Lines.{line_of};
 ghost use Rattle.schema_failure.specs.Placed.{located, source_named};
 ghost use Rattle.schema_failure.specs.Statuses.{status_of, code_of};
 
+use device_error::{ServeFault, is_no_memory};
 use grpcweb_core::IoFault;
 use proto_base::{Fault, Kind, line_column};
 use proto_compile::Source;
 use source_folder::FolderFault;
 use std::alloc::{AllocError, AllocFailed};
-use thiserror::Error;
+use std::error::Error;
+use std::{fmt, io};
 
 /// What a run ends with.
 #[derive(Clone, Copy)]
@@ -41,26 +46,19 @@ impl Status {
 }
 
 /// Why a run came to no end, with its line for the user.
-#[derive(Debug, Drop, Error)]
+#[derive(Debug, Drop)]
 pub enum Failure {
-    #[error("{file}:{line}:{column}: {kind}")]
     Source {
         file: String,
         line: u32,
         column: u32,
         kind: Kind,
     },
-    #[error("device: input")]
     Input,
-    #[error("device: output")]
     Output,
-    #[error("device: folder")]
     Folder,
-    #[error("device: listen")]
     Listen,
-    #[error("device: accept")]
     Accept,
-    #[error("out of memory")]
     NoMemory,
 }
 
@@ -79,7 +77,41 @@ impl Failure {
             Failure::NoMemory => Status::NoMemory,
         }
     }
+
+    /// This failure of a device, unless its error says that the allocator had no memory.
+    pub fn unless_no_memory(self, error: &io::Error) -> Failure
+        ensures { IsUnlessNoMemory error.now failures.NoMemory self result }
+    {
+        if is_no_memory(error) {
+            Failure::NoMemory
+        } else {
+            self
+        }
+    }
 }
+
+impl fmt::Display for Failure {
+    ghost output = { λ failure. Some (line_of failure) };
+
+    fn fmt<W: fmt::Write>(&self, f: &mut fmt::Formatter<W>) -> fmt::Result {
+        match self {
+            Failure::Source {
+                file,
+                line,
+                column,
+                kind,
+            } => write!(f, "{file}:{line}:{column}: {kind}"),
+            Failure::Input => f.write_str("device: input"),
+            Failure::Output => f.write_str("device: output"),
+            Failure::Folder => f.write_str("device: folder"),
+            Failure::Listen => f.write_str("device: listen"),
+            Failure::Accept => f.write_str("device: accept"),
+            Failure::NoMemory => f.write_str("out of memory"),
+        }
+    }
+}
+
+impl Error for Failure {}
 
 impl From<AllocError> for Failure {
     ghost from_gives = { λ _ e. e ≡ failures.NoMemory };
@@ -98,6 +130,8 @@ impl<T: Drop> From<AllocFailed<T>> for Failure {
 }
 
 impl From<FolderFault> for Failure {
+    ghost from_gives = { λ fault failure. failure ≡ of_folder fault };
+
     fn from(fault: FolderFault) -> Failure {
         match fault {
             FolderFault::Listing | FolderFault::Reading => Failure::Folder,
@@ -107,11 +141,24 @@ impl From<FolderFault> for Failure {
 }
 
 impl From<IoFault> for Failure {
+    ghost from_gives = { λ fault failure. failure ≡ of_exchange fault };
+
     fn from(fault: IoFault) -> Failure {
         match fault {
             IoFault::ReadFault => Failure::Input,
             IoFault::WriteFault { .. } => Failure::Output,
             IoFault::NoMemory => Failure::NoMemory,
+        }
+    }
+}
+
+impl From<ServeFault> for Failure {
+    ghost from_gives = { λ fault failure. failure ≡ of_service fault };
+
+    fn from(fault: ServeFault) -> Failure {
+        match fault {
+            ServeFault::AcceptFault => Failure::Accept,
+            ServeFault::NoMemory => Failure::NoMemory,
         }
     }
 }

@@ -1,11 +1,9 @@
 -- What one source is described by.
 use Rattle.std.specs.Prelude.{◌≡◌, ℕ, List, [], ◌∷◌, Result, Vec, IfOk, IfErr, IsErrAnd, MatchResult}
 use Rattle.std.specs.declared.alloc.Global.{Global}
-use Rattle.proto_base.specs.declared.kind.Kind.{Kind}
 use Rattle.proto_base.specs.declared.limits.Limits.{Limits}
-use Rattle.proto_base.specs.declared.place.Place.{Place}
 use Rattle.proto_compile.specs.Compilation.{Compilation, IsCompiled, IsNamed, bytes_at}
-use Rattle.proto_compile.specs.Faults.{IsFirstFault, IsPlaced, IsRefusal, Tells}
+use Rattle.proto_compile.specs.FaultSet.{IsLeastFault, IsPlaced, SourceFault, TellsOf}
 use Rattle.proto_compile.specs.Sources.{name_of}
 use Rattle.proto_compile.specs.declared.error.CompileError.{CompileError}
 use Rattle.proto_compile.specs.declared.error.CompileError.TheVariants as errors
@@ -22,9 +20,8 @@ IsDescribedBy limits source bytes =
 pub record IsDescription (limits : Limits) (source : Source) (answer : Result (Vec ℕ Global) CompileError)
     : Type 0 where
   pub described : IfOk answer (λ bytes. IsDescribedBy limits source bytes.items)
-  pub first : IfErr answer (IsRefusal (IsFirstFault limits (source ∷ [])))
-  pub placed : IfErr answer (IsRefusal (λ pass file step place kind. IsPlaced limits (source ∷ []) file place))
+  pub first : IfErr answer (TellsOf (IsLeastFault limits (source ∷ [])))
+  pub placed : IfErr answer (TellsOf (λ x. IsPlaced limits (source ∷ []) x.file x.place))
   pub every_descriptor : (descriptor : List ℕ) → IsDescribedBy limits source descriptor
       → MatchResult answer (λ bytes. bytes.items ≡ descriptor) (λ e. e ≡ errors.NoMemory)
-  pub every_fault : (pass : ℕ) (file : List ℕ) (step : ℕ) (place : Place) (kind : Kind)
-      → IsFirstFault limits (source ∷ []) pass file step place kind → IsErrAnd answer (Tells pass file step place kind)
+  pub every_fault : (x : SourceFault) → IsLeastFault limits (source ∷ []) x → IsErrAnd answer (TellsOf (λ y. y ≡ x))

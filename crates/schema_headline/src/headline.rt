@@ -2,9 +2,7 @@
 //! alone: no worker, no piece of work and no gate changes what they answer.
 
 ghost use Rattle.std.specs.Prelude.{◌≡◌, ℕ, List, IfOk, IfErr, IsErrAnd, MatchResult};
-ghost use Rattle.proto_base.specs.declared.kind.Kind.{Kind};
-ghost use Rattle.proto_base.specs.declared.place.Place.{Place};
-ghost use Rattle.proto_compile.specs.Faults.{IsFirstFault, IsPlaced, IsRefusal, Tells};
+ghost use Rattle.proto_compile.specs.FaultSet.{IsFault, IsLeastFault, IsPlaced, SourceFault, TellsOf};
 ghost use Rattle.proto_compile.specs.declared.error.CompileError.TheVariants as errors;
 ghost use Rattle.schema_headline.specs.Headline.{IsResponseOf, IsSetOf};
 
@@ -27,7 +25,9 @@ where
     R: Threads + AllocGlobal + Sync,
     G: Gate + Sync,
     ensures set { IfOk result (λ bytes. IsSetOf limits.now sources.now bytes.items) }
-    ensures first { IfErr result (IsRefusal (IsFirstFault limits.now sources.now)) }
+    ensures whole { IfOk result (λ bytes. (x : SourceFault) → IsFault limits.now sources.now x → ⊥) }
+    ensures first { IfErr result (TellsOf (IsLeastFault limits.now sources.now)) }
+    ensures placed { IfErr result (TellsOf (λ x. IsPlaced limits.now sources.now x.file x.place)) }
 {
     let compiled = compile(rt, sources, limits, plan, gate)?;
     let set = compiled.set_bytes(rt.alloc())?;
@@ -49,7 +49,9 @@ where
     G: Gate + Sync,
     ensures response { IfOk result (λ bytes. IsResponseOf mode limits.now sources.now body.now
         bytes.items) }
-    ensures first { IfErr result (IsRefusal (IsFirstFault limits.now sources.now)) }
+    ensures whole { IfOk result (λ bytes. (x : SourceFault) → IsFault limits.now sources.now x → ⊥) }
+    ensures first { IfErr result (TellsOf (IsLeastFault limits.now sources.now)) }
+    ensures placed { IfErr result (TellsOf (λ x. IsPlaced limits.now sources.now x.file x.place)) }
 {
     let compiled = compile(rt, sources, limits, plan, gate)?;
     let response = answer_body(rt, &compiled, plan, gate, mode, body)?;
@@ -70,16 +72,15 @@ where
     R: Threads + AllocGlobal + Sync,
     G: Gate + Sync,
     ensures set { IfOk result (λ bytes. IsSetOf limits.now sources.now bytes.items) }
-    ensures first { IfErr result (IsRefusal (IsFirstFault limits.now sources.now)) }
-    ensures placed { IfErr result (IsRefusal
-        (λ pass file step place kind. IsPlaced limits.now sources.now file place)) }
+    ensures whole { IfOk result (λ bytes. (x : SourceFault) → IsFault limits.now sources.now x → ⊥) }
+    ensures first { IfErr result (TellsOf (IsLeastFault limits.now sources.now)) }
+    ensures placed { IfErr result (TellsOf (λ x. IsPlaced limits.now sources.now x.file x.place)) }
 
     // So sources with a set give it, and those with a fault tell it, unless memory runs out.
     ensures every_set { (set : List ℕ) → IsSetOf limits.now sources.now set
         → MatchResult result (λ bytes. bytes.items ≡ set) (λ e. e ≡ errors.NoMemory) }
-    ensures every_fault { (pass : ℕ) (file : List ℕ) (step : ℕ) (place : Place) (kind : Kind)
-        → IsFirstFault limits.now sources.now pass file step place kind
-        → IsErrAnd result (Tells pass file step place kind) }
+    ensures every_fault { (x : SourceFault) → IsLeastFault limits.now sources.now x
+        → IsErrAnd result (TellsOf (λ y. y ≡ x)) }
 {
     first_set(rt, sources, limits, plan, gate)
 }
@@ -102,17 +103,16 @@ where
     G: Gate + Sync,
     ensures response { IfOk result (λ bytes. IsResponseOf mode limits.now sources.now body.now
         bytes.items) }
-    ensures first { IfErr result (IsRefusal (IsFirstFault limits.now sources.now)) }
-    ensures placed { IfErr result (IsRefusal
-        (λ pass file step place kind. IsPlaced limits.now sources.now file place)) }
+    ensures whole { IfOk result (λ bytes. (x : SourceFault) → IsFault limits.now sources.now x → ⊥) }
+    ensures first { IfErr result (TellsOf (IsLeastFault limits.now sources.now)) }
+    ensures placed { IfErr result (TellsOf (λ x. IsPlaced limits.now sources.now x.file x.place)) }
 
     // So sources without a fault give the response, and those with one tell it, unless memory runs out.
     ensures every_response { (response : List ℕ)
         → IsResponseOf mode limits.now sources.now body.now response
         → MatchResult result (λ bytes. bytes.items ≡ response) (λ e. e ≡ errors.NoMemory) }
-    ensures every_fault { (pass : ℕ) (file : List ℕ) (step : ℕ) (place : Place) (kind : Kind)
-        → IsFirstFault limits.now sources.now pass file step place kind
-        → IsErrAnd result (Tells pass file step place kind) }
+    ensures every_fault { (x : SourceFault) → IsLeastFault limits.now sources.now x
+        → IsErrAnd result (TellsOf (λ y. y ≡ x)) }
 {
     first_response(rt, sources, limits, plan, gate, mode, body)
 }

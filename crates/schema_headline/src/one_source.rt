@@ -1,7 +1,7 @@
 //! Describing one source.
 
 ghost use Rattle.std.specs.Prelude.{[], ◌∷◌, IfOk, IfErr};
-ghost use Rattle.proto_compile.specs.Faults.{IsFirstFault, IsRefusal};
+ghost use Rattle.proto_compile.specs.FaultSet.{IsLeastFault, IsPlaced, TellsOf};
 ghost use Rattle.schema_headline.specs.Describe.{IsDescribedBy, IsDescription};
 
 use proto_base::Limits;
@@ -15,7 +15,9 @@ fn first_answer<R>(rt: &R, source: Source, limits: &Limits) -> Result<Vec<u8>, C
 where
     R: Threads + AllocGlobal + Sync,
     ensures described { IfOk result (λ bytes. IsDescribedBy limits.now source.entry bytes.items) }
-    ensures first { IfErr result (IsRefusal (IsFirstFault limits.now (source.entry ∷ []))) }
+    ensures first { IfErr result (TellsOf (IsLeastFault limits.now (source.entry ∷ []))) }
+    ensures placed { IfErr result (TellsOf
+        (λ x. IsPlaced limits.now (source.entry ∷ []) x.file x.place)) }
 {
     let compiled = compile(rt, &[source], limits, Plan::single(), &NoGate)?;
     let bytes = compiled.bytes_at(0);

@@ -1,6 +1,10 @@
 //! The whole program, over any reader and writers.
 
-ghost use Rattle.std.specs.Prelude.{◌≤◌};
+ghost use Rattle.std.specs.Prelude.{◌≡◌, ◌≤◌, [], ◌∷◌, ◌++◌, OnOk};
+ghost use Rattle.std.specs.Io.KnownBytes.{Appends};
+ghost use Rattle.schema_failure.specs.Lines.{line_of};
+ghost use Rattle.schema_failure.specs.Statuses.{status_of};
+ghost use Rattle.schema_program.specs.Performed.{IsPerformed, status_after};
 
 use crate::serving::run_serve;
 use clap::Error;
@@ -9,7 +13,7 @@ use schema_command_line::{Task, task_of};
 use schema_commands::{kind_names, run_answer, run_compile, run_describe, run_explain};
 use schema_failure::{Failure, Status};
 use std::alloc::AllocGlobal;
-use std::io::{Read, Write};
+use std::io::{self, Read, Write};
 use std::net::Net;
 use std::random::RandomSource;
 use std::rt::Files;
@@ -34,10 +38,54 @@ fn print_usage<O: Write, E: Write>(error: Error, output: &mut O, faults: &mut E)
     }
 }
 
+/// Writes the line of a failure.
+fn write_failure<E: Write>(failure: &Failure, faults: &mut E) -> io::Result<()>
+    ensures { OnOk result (Appends (E.contents faults.old) (E.contents faults.new)
+        (line_of failure.now ++ 10 ∷ [])) }
+{
+    writeln!(faults, "{failure}")
+}
+
 /// Prints the line of a failure. That it cannot be printed changes nothing.
-fn report<E: Write>(failure: Failure, faults: &mut E) -> Status {
-    let _ = writeln!(faults, "{failure}");
+fn report<E: Write>(failure: Failure, faults: &mut E) -> Status
+    ensures { result ≡ status_of failure }
+{
+    let _ = write_failure(&failure, faults);
     failure.status()
+}
+
+/// Does what a task asks for.
+fn perform<R, I, O>(rt: &R, task: Task, input: I, output: &mut O) -> Result<(), Failure>
+where
+    R: Wait + Threads + Files + Clock + RandomSource + AllocGlobal + Sync + Clone + Drop + Net,
+    I: Read + Drop,
+    O: Write,
+    ensures { IsPerformed task.entry (I.remaining input) (O.contents output.old)
+        (O.contents output.new) result }
+{
+    match task {
+        Task::Describe { name } => run_describe(rt, name, input, output),
+        Task::Compile { root, plan, file } => run_compile(rt, root, plan, file, output),
+        Task::Explain { kind } => run_explain(kind, output),
+        Task::Answer { root, plan, mode } => run_answer(rt, root, plan, mode, input, output),
+        Task::Serve {
+            root,
+            listen,
+            plan,
+            mode,
+            connections,
+        } => run_serve(rt, root, listen, plan, mode, connections, output),
+    }
+}
+
+/// The status of a run that ends so, after the line of its failure.
+fn finish<E: Write>(done: Result<(), Failure>, faults: &mut E) -> Status
+    ensures { result ≡ status_after done }
+{
+    match done {
+        Ok(()) => Status::Done,
+        Err(failure) => report(failure, faults),
+    }
 }
 
 /// Runs the program on `words`, whose first is its name, and gives its exit status: 0 done, 1 a fault of a source,
@@ -56,25 +104,9 @@ where
     let Ok(kinds) = kind_names(rt.alloc()) else {
         return report(Failure::NoMemory, &mut faults).code();
     };
-    let done = match task_of(rt.alloc(), words, &kinds) {
-        Err(error) => return print_usage(error, &mut output, &mut faults).code(),
-        Ok(Task::Describe { name }) => run_describe(rt, name, input, &mut output),
-        Ok(Task::Compile { root, plan, file }) => run_compile(rt, root, plan, file, &mut output),
-        Ok(Task::Explain { kind }) => run_explain(kind, &mut output),
-        Ok(Task::Answer { root, plan, mode }) => run_answer(rt, root, plan, mode, input, output),
-        Ok(
-            Task::Serve {
-                root,
-                listen,
-                plan,
-                mode,
-                connections,
-            },
-        ) => run_serve(rt, root, listen, plan, mode, connections, &mut output),
-    };
-    let status = match done {
-        Ok(()) => Status::Done,
-        Err(failure) => report(failure, &mut faults),
+    let status = match task_of(rt.alloc(), words, &kinds) {
+        Err(error) => print_usage(error, &mut output, &mut faults),
+        Ok(task) => finish(perform(rt, task, input, &mut output), &mut faults),
     };
     status.code()
 }

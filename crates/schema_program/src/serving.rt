@@ -1,7 +1,7 @@
 //! The command `serve`.
 
 use grpcweb_core::Mode;
-use grpcweb_service::{ServeFault, serve};
+use grpcweb_service::serve;
 use proto_base::Limits;
 use schema_commands::compile_folder;
 use schema_failure::Failure;
@@ -16,14 +16,6 @@ use std::thread::Threads;
 use std::time::Clock;
 use tokio::net::TcpListener;
 use tokio::runtime::Runtime;
-
-/// What the run of a service that ended early ends with.
-fn failure_of(fault: ServeFault) -> Failure {
-    match fault {
-        ServeFault::AcceptFault => Failure::Accept,
-        ServeFault::NoMemory => Failure::NoMemory,
-    }
-}
 
 /// A runtime, and a listener at this address and port.
 fn listen_at<R>(rt: &R, listen: &str) -> Result<(Runtime, TcpListener), Failure>
@@ -59,7 +51,7 @@ where
     if writeln!(output, "listening on {bound}").is_err() || output.flush().is_err() {
         return Err(Failure::Output);
     }
-    let served = serve(
+    serve(
         rt,
         &mut runtime,
         listener,
@@ -68,9 +60,6 @@ where
         NoGate,
         mode,
         connections,
-    );
-    match served {
-        Ok(_) => Ok(()),
-        Err(fault) => Err(failure_of(fault)),
-    }
+    )?;
+    Ok(())
 }

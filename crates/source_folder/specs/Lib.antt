@@ -1,4 +1,3 @@
-pub mod Faults
 pub mod Folder
 pub mod Kinds
 pub mod Ordered

@@ -1,7 +1,7 @@
 //! Why a folder could not be read.
 
 ghost use Rattle.std.specs.Prelude.{◌≡◌};
-ghost use Rattle.source_folder.specs.Faults.{IsUnlessNoMemory};
+ghost use Rattle.device_error.specs.Memory.{IsUnlessNoMemory};
 ghost use Rattle.source_folder.specs.declared.fault.FolderFault.TheVariants as faults;
 
 use device_error::is_no_memory;
@@ -25,21 +25,21 @@ pub enum FolderFault {
 impl FolderFault {
     /// What an error in a listing is.
     pub(crate) fn listing(error: io::Error) -> FolderFault
-        ensures { IsUnlessNoMemory error faults.Listing result }
+        ensures { IsUnlessNoMemory error faults.NoMemory faults.Listing result }
     {
         FolderFault::Listing.unless_no_memory(&error)
     }
 
     /// What an error in reading a source is.
     pub(crate) fn reading(error: io::Error) -> FolderFault
-        ensures { IsUnlessNoMemory error faults.Reading result }
+        ensures { IsUnlessNoMemory error faults.NoMemory faults.Reading result }
     {
         FolderFault::Reading.unless_no_memory(&error)
     }
 
     /// This fault, unless the error says that the allocator had no memory.
     fn unless_no_memory(self, error: &io::Error) -> FolderFault
-        ensures { IsUnlessNoMemory error.now self result }
+        ensures { IsUnlessNoMemory error.now faults.NoMemory self result }
     {
         if is_no_memory(error) {
             FolderFault::NoMemory

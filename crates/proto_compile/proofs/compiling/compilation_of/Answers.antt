@@ -3,7 +3,8 @@ use Rattle.proto_base.specs.declared.kind.Kind.TheVariants as kind
 use Rattle.proto_base.specs.Limits.{limit_of}
 use Rattle.proto_base.specs.declared.limits.Limit.TheVariants as limit
 use Rattle.proto_compile.specs.Compilation.{set_of}
-use Rattle.proto_compile.specs.Faults.{IsFirstFault, set_too_long, start}
+use Rattle.proto_compile.specs.FaultSet.{start}
+use Rattle.proto_compile.specs.Faults.{IsFirstFault, set_too_long}
 use Rattle.proto_compile.specs.Steps.{compilation}
 use Rattle.proto_compile.proofs.Making.{counts, sound, too_long}
 use Rattle.proto_compile.proofs.Refusing.{told}

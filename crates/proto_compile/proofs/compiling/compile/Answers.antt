@@ -1,5 +1,11 @@
-use Rattle.proto_compile.proofs.Answering.{every_compilation, every_fault, placed}
+use Rattle.proto_compile.proofs.Answering.{every_compilation, every_fault, least, no_fault_left, placed}
 use Rattle.proto_compile.proofs.compiling.compile.Goals as goal
+
+pub returns-clause-first : goal.returns-clause-first
+returns-clause-first g c = least c.args.limits.now c.args.sources.now c.run_passes.result c.run_passes.ensures.first
+
+pub returns-clause-whole : goal.returns-clause-whole
+returns-clause-whole g c = no_fault_left c.args.limits.now c.args.sources.now c.run_passes.result c.run_passes.ensures.compiled
 
 pub returns-clause-placed : goal.returns-clause-placed
 returns-clause-placed g c = placed c.args.limits.now c.args.sources.now c.run_passes.result c.run_passes.ensures.first

@@ -1,10 +1,7 @@
 use Rattle.schema_headline.specs.Headline.{IsResponseOf}
-use Rattle.schema_headline.proofs.EveryAnswer.{every_answer, every_fault, placed}
+use Rattle.schema_headline.proofs.EveryAnswer.{every_answer, every_fault}
 use Rattle.schema_headline.proofs.OneAnswer.{one_response_of, response_from}
 use Rattle.schema_headline.proofs.headline.response_to_sources.Goals as goal
-
-pub returns-clause-placed : goal.returns-clause-placed
-returns-clause-placed g c = placed c.args.limits.now c.args.sources.now c.first_response.result c.first_response.ensures.first
 
 pub returns-clause-every_response : goal.returns-clause-every_response
 returns-clause-every_response g c =

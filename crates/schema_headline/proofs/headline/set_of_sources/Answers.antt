@@ -1,10 +1,7 @@
 use Rattle.schema_headline.specs.Headline.{IsSetOf}
-use Rattle.schema_headline.proofs.EveryAnswer.{every_answer, every_fault, placed}
+use Rattle.schema_headline.proofs.EveryAnswer.{every_answer, every_fault}
 use Rattle.schema_headline.proofs.OneAnswer.{one_set, set_from}
 use Rattle.schema_headline.proofs.headline.set_of_sources.Goals as goal
-
-pub returns-clause-placed : goal.returns-clause-placed
-returns-clause-placed g c = placed c.args.limits.now c.args.sources.now c.first_set.result c.first_set.ensures.first
 
 pub returns-clause-every_set : goal.returns-clause-every_set
 returns-clause-every_set g c =

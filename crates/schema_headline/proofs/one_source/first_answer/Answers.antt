@@ -12,3 +12,6 @@ returns-clause-described g c =
 
 pub returns-in_err-from_slice-clause-first : goal.returns-in_err-from_slice-clause-first
 returns-in_err-from_slice-clause-first g c = let fact = c.from_residual-in_err-from_slice.ensures in search (rules, fact)
+
+pub returns-in_err-from_slice-clause-placed : goal.returns-in_err-from_slice-clause-placed
+returns-in_err-from_slice-clause-placed g c = let fact = c.from_residual-in_err-from_slice.ensures in search (rules, fact)

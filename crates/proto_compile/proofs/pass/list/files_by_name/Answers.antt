@@ -1,6 +1,7 @@
 use Rattle.std.proofs.Common.{arith, subst, List, [], ℕ}
 use Rattle.proto_base.specs.declared.kind.Kind.TheVariants as kind
-use Rattle.proto_compile.specs.Faults.{IsFirstFault, start, too_many_files, file_name_twice}
+use Rattle.proto_compile.specs.FaultSet.{start}
+use Rattle.proto_compile.specs.Faults.{IsFirstFault, too_many_files, file_name_twice}
 use Rattle.proto_compile.proofs.Refusing.{told}
 use Rattle.proto_compile.proofs.Sorting.{strictly, name_is}
 use Rattle.proto_compile.proofs.pass.list.files_by_name.Goals as goal

@@ -1,7 +1,8 @@
 use Rattle.std.proofs.Common.{◌∙◌, sym, ap, arith, subst, List, [], ℕ}
 use Rattle.std.specs.Prelude.{Err}
 use Rattle.proto_base.specs.declared.kind.Kind.TheVariants as kind
-use Rattle.proto_compile.specs.Faults.{IsFirstFault, start, too_many_names, name_twice}
+use Rattle.proto_compile.specs.FaultSet.{start}
+use Rattle.proto_compile.specs.Faults.{IsFirstFault, too_many_names, name_twice}
 use Rattle.proto_compile.proofs.Refusing.{told}
 use Rattle.proto_compile.proofs.Zipping.{desc_name, repeated_within}
 use Rattle.proto_compile.proofs.pass.names.index_all.Goals as goal

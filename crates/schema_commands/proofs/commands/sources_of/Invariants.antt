@@ -1,0 +1,8 @@
+use Rattle.std.proofs.Common.{◌≡◌, map, take}
+use Rattle.proto_compile.specs.Sources.{name_of, text_of}
+use Rattle.source_folder.specs.Folder.{names_of}
+use Rattle.schema_commands.specs.Runs.{AreSourcesOf}
+use Rattle.schema_commands.proofs.commands.sources_of.Given as goal
+
+abbrev pub invariant-loop-text : goal.invariant-loop-text
+invariant-loop-text l = AreSourcesOf (take l.text-index l.texts) l.sources.items

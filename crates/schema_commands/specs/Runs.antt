@@ -1,0 +1,73 @@
+-- What a run of a command did to what its writer holds, by how it ended.
+use Rattle.std.specs.Prelude.{◌≡◌, ℕ, ◌+◌, List, [], ◌∷◌, ◌++◌, ◌⊎◌, map, Option, Result, Ok, Err}
+use Rattle.std.specs.Io.KnownBytes.{Appends, Keeps}
+use Rattle.hex.specs.Hex.{encode_lower}
+use Rattle.proto_base.specs.Limits.{limit_of, standard_of}
+use Rattle.proto_base.specs.declared.fault.Fault.{Fault}
+use Rattle.proto_base.specs.declared.limits.Limit.{Limit}
+use Rattle.proto_base.specs.declared.limits.Limit.TheVariants.{FileBytes}
+use Rattle.proto_base.specs.declared.limits.Limits.{Limits}
+use Rattle.proto_compile.specs.FaultSet.{IsLeastFault, told_by}
+use Rattle.proto_compile.specs.Sources.{name_of, text_of}
+use Rattle.proto_compile.specs.declared.source.Source.{Source}
+use Rattle.schema_commands.specs.Moved.{IsReadOf}
+use Rattle.schema_failure.specs.Placed.{located}
+use Rattle.schema_failure.specs.declared.failure.Failure.{Failure}
+use Rattle.schema_failure.specs.declared.failure.Failure.TheVariants as failure
+use Rattle.schema_headline.specs.Describe.{IsDescribedBy}
+use Rattle.schema_headline.specs.Headline.{IsSetOf}
+use Rattle.source_folder.specs.Folder.{names_of}
+use Rattle.source_folder.specs.declared.folder.NamedText.{NamedText}
+
+abbrev pub AreStandard : Limits → Type 0
+AreStandard limits = (limit : Limit) → limit_of limits limit ≡ standard_of limit
+
+-- this fault is the first of the sources
+abbrev pub IsFirstOf : Limits → List Source → Fault → Type 0
+IsFirstOf limits sources fault = IsLeastFault limits sources (told_by fault)
+
+-- the failure is the line and the column of the sources' first fault, or for want of memory
+abbrev pub IsToldOf : Limits → List Source → Failure → Type 0
+IsToldOf limits sources (failure.Source file line column kind) =
+    (fault : Fault) × (failure.Source file line column kind ≡ located sources fault) × IsFirstOf limits sources fault
+IsToldOf limits sources failure.NoMemory = Unit {0}
+IsToldOf limits sources other = ⊥
+
+-- the hexadecimal digits of the source's descriptor
+abbrev pub IsDigitsOf : Limits → Source → List ℕ → Type 0
+IsDigitsOf limits source digits = (bytes : List ℕ) × IsDescribedBy limits source bytes × (digits ≡ encode_lower bytes)
+
+-- the source of this name that a reader gives: its bytes, or one more than the limit, where they are known
+pub record IsInput (name : List ℕ) (left : Option (List ℕ)) (limits : Limits) (source : Source) : Type 0 where
+  pub standard : AreStandard limits
+  pub named : name_of source ≡ name
+  pub read : IsReadOf left (limit_of limits FileBytes + 1) (text_of source)
+
+-- `describe`: a line with the digits of what was read, or its first fault and nothing written
+abbrev pub IsDescribeRun : List ℕ → Option (List ℕ) → Option (List ℕ) → Option (List ℕ) → Result (Unit {0}) Failure → Type 0
+IsDescribeRun name left old new (Ok a) =
+    (limits : Limits) × (source : Source) × IsInput name left limits source
+    × (digits : List ℕ) × IsDigitsOf limits source digits × Appends old new (digits ++ 10 ∷ [])
+IsDescribeRun name left old new (Err (failure.Source file line column kind)) =
+    (limits : Limits) × (source : Source) × IsInput name left limits source
+    × IsToldOf limits (source ∷ []) (failure.Source file line column kind) × Keeps old new
+IsDescribeRun name left old new (Err failure.Input) = Keeps old new
+IsDescribeRun name left old new (Err failure.NoMemory) = Keeps old new
+IsDescribeRun name left old new (Err failure.Output) = Unit {0}
+IsDescribeRun name left old new (Err other) = ⊥
+
+-- the bytes of texts
+abbrev pub bytes_of : NamedText → List ℕ
+bytes_of text = text.text.items
+
+-- sources with the names and the bytes of these texts, in their order
+pub record AreSourcesOf (texts : List NamedText) (sources : List Source) : Type 0 where
+  pub named : map name_of sources ≡ names_of texts
+  pub bytes : map text_of sources ≡ map bytes_of texts
+
+abbrev pub IsSetOfTexts : Limits → List NamedText → List ℕ → Type 0
+IsSetOfTexts limits texts set = (sources : List Source) × AreSourcesOf texts sources × IsSetOf limits sources set
+
+abbrev pub IsToldOfTexts : Limits → List NamedText → Failure → Type 0
+IsToldOfTexts limits texts f =
+    (f ≡ failure.NoMemory) ⊎ ((sources : List Source) × AreSourcesOf texts sources × IsToldOf limits sources f)
