@@ -5,7 +5,6 @@
 #![tactic(auto)]
 
 pub mod posting;
-pub mod two_files;
-
 #[cfg(test)]
 mod tests;
+pub mod two_files;
