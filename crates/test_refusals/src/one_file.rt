@@ -79,13 +79,20 @@ fn is_field(field: &Field) -> bool {
 
 /// Whether this is the tree of the text.
 fn is_tree(file: &FileTree) -> bool {
-    let [Statement::Message(message)] = file.statements.as_slice() else {
+    let [statement] = file.statements.as_slice() else {
         return false;
     };
-    let [MessageItem::Field(field)] = message.get().items.as_slice() else {
+    let Statement::Message(message) = statement else {
         return false;
     };
-    message.get().name.text == "A" && is_field(field.get())
+    let message = message.get();
+    let [item] = message.items.as_slice() else {
+        return false;
+    };
+    let MessageItem::Field(field) = item else {
+        return false;
+    };
+    message.name.text == "A" && is_field(field.get())
 }
 
 pub(crate) fn has_tree(alloc: Global, tokens: &Tokens<'static>) -> Result<bool, AllocError> {
