@@ -78,9 +78,9 @@ device output "$point" /dev/full compile --root "$folder/sources"
 device folder "$point" "$folder/output" compile --root "$folder/none"
 device folder "$point" "$folder/output" compile --root "$point"
 
-# The version, with the kit that README names.
-kit=$(sed -n 's/^With the kit `\(.*\)`:$/\1/p' README.md)
-if [ "$("$program" --version)" != "schema_server 1.0.0, $kit" ]; then
+# The version, with the logic that README names.
+logic=$(sed -n 's/^With the Rattle kits .*, of one \(logic\) `\(.*\)`:$/\1 \2/p' README.md)
+if [ "$("$program" --version)" != "schema_server 1.0.0, $logic" ]; then
     failed "--version: $("$program" --version)" "$?"
 fi
 

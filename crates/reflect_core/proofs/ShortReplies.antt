@@ -1,6 +1,5 @@
 -- Every reply to the requests of a body has room in a frame.
-use Rattle.std.proofs.Common.{◌≡◌, ℕ, ◌<◌, ◌≤◌, List, [], ◌∷◌, ◌++◌, length, map, ap, sym, subst, arith, All, Bool, filter, not, ◌||◌}
-use Rattle.std.specs.Prelude.{Option}
+use Rattle.std.proofs.Common.{ℕ, ◌<◌, List, [], ◌∷◌, ◌++◌, length, map, ap, sym, subst, arith, All, Bool, filter, not, ◌||◌}
 use Rattle.std.specs.List.{AllZip}
 use Rattle.std.proofs.lemmas.List.Elements.{All-cons, All-head, All-nil, All-tail}
 use Rattle.first_reach.specs.Carried.{carried_from, has, reached, repeats, root_first}

@@ -54,13 +54,16 @@ pub record AreReplyable (c : Compilation) (services : List ℕ) (asked : List ru
   pub each : (k : ℕ) (a : rust.Asked) (files : Vec ℕ Global) → k < length asked
       → IsReplyable c services (asked_of (slice_index_or asked k a)) (slice_index_or carried k files).items
 
--- so long is what the member of each reply holds
+-- how long is what the member of a reply holds
+abbrev pub contents_length : Compilation → rust.Asked → Vec ℕ Global → ℕ
+contents_length c asked files = length (contents_of c files.items (asked_of asked).answer)
+
+-- so long is what the members of the first so many replies hold
 pub record AreContentsLengths (c : Compilation) (asked : List rust.Asked) (carried : List (Vec ℕ Global))
-    (lengths : List ℕ) : Type 0 where
-  pub size : length lengths ≡ length asked
-  pub each : (k n : ℕ) (a : rust.Asked) (files : Vec ℕ Global) → k < length asked
-      → slice_index_or lengths k n
-      ≡ length (contents_of c (slice_index_or carried k files).items (asked_of (slice_index_or asked k a)).answer)
+    (lengths : List ℕ) (count : ℕ) : Type 0 where
+  pub size : length lengths ≡ count
+  pub each : (k n : ℕ) (a : rust.Asked) (files : Vec ℕ Global) → k < count
+      → slice_index_or lengths k n ≡ contents_length c (slice_index_or asked k a) (slice_index_or carried k files)
 
 -- the bytes are those of the services, where one of the requests asks for them
 abbrev pub AreServicesFor : Compilation → List rust.Asked → List ℕ → Type 0

@@ -144,7 +144,8 @@ impl Material<'_> {
 /// How many bytes the reply to a request has whose member holds so many.
 pub(crate) fn reply_len(asked: &Asked, contents_len: u64) -> u64
     requires { reply_size (asked_of asked.now) contents_len < 2 ^ 32 }
-    ensures { result ≡ reply_size (asked_of asked.now) contents_len }
+    ensures len { result ≡ reply_size (asked_of asked.now) contents_len }
+    ensures most { result < 2 ^ 32 }
 {
     let tag = u64::from(member(asked.answer)) * 8 + 2;
     let message = field_len(2, &FieldValue::Delimited(asked.message));

@@ -1,6 +1,6 @@
 //! The bytes of a response: the replies in frames, and the trailer.
 
-ghost use Rattle.std.specs.Prelude.{◌≡◌, ◌++◌, IfOk, OnOk, flat_map, map};
+ghost use Rattle.std.specs.Prelude.{◌≡◌, ◌++◌, IfOk, OnOk, flat_map, length, map};
 ghost use Rattle.reflect_core.specs.Reply.{services_bytes};
 ghost use Rattle.reflect_core.specs.Response.{replies_to, trailer};
 ghost use Rattle.reflect_core.specs.ResponseSteps.{AreContentsLengths, AreReplyable, AreServicesFor, asked_of, files_of};
@@ -62,7 +62,7 @@ fn contents_lengths(
 ) -> Result<Vec<u64>, AllocError>
     requires { AreReplyable material.compiled.now material.services.now asked.now carried.now }
     ensures { IfOk result (λ lengths. AreContentsLengths material.entry.compiled.now asked.now
-        carried.now lengths.items) }
+        carried.now lengths.items (length asked.now)) }
 {
     let mut lengths = Vec::with_capacity(alloc, asked.len())?;
     for (position, request) in asked.iter().enumerate() {
@@ -76,7 +76,8 @@ fn contents_lengths(
 fn room_for(material: Material, asked: &[Asked], carried: &[Vec<FileId>], lengths: &[u64]) -> u64
     requires replyable { AreReplyable material.compiled.now material.services.now asked.now
         carried.now }
-    requires lengths { AreContentsLengths material.compiled.now asked.now carried.now lengths.now }
+    requires lengths { AreContentsLengths material.compiled.now asked.now carried.now lengths.now
+        (length asked.now) }
 {
     let mut room = TRAILER_MOST;
     for (position, request) in asked.iter().enumerate() {

@@ -3,8 +3,8 @@
 use clap::{Arg, ArgAction, Command, value_parser};
 use std::alloc::{AllocError, Global};
 
-/// The version that `--version` prints: the program's, and the kit that proved it.
-static VERSION: &str = "1.0.0, rattle-kit-13b logic dac8208d650f15bf";
+/// The version that `--version` prints: the program's, and the logic in which it is proved, which several kits have.
+static VERSION: &str = "1.0.0, logic dac8208d650f15bf";
 
 fn describe_command<'a>(alloc: Global) -> Result<Command<'a>, AllocError> {
     let name = Arg::new(alloc, "name")

@@ -10,7 +10,7 @@ use Rattle.proto_base.specs.declared.limits.Limits.{Limits}
 use Rattle.proto_compile.specs.FaultSet.{IsLeastFault, told_by}
 use Rattle.proto_compile.specs.Sources.{name_of, text_of}
 use Rattle.proto_compile.specs.declared.source.Source.{Source}
-use Rattle.schema_commands.specs.Moved.{IsReadOf}
+use Rattle.schema_devices.specs.Moved.{IsReadOf}
 use Rattle.schema_failure.specs.Placed.{located}
 use Rattle.schema_failure.specs.declared.failure.Failure.{Failure}
 use Rattle.schema_failure.specs.declared.failure.Failure.TheVariants as failure

@@ -1,69 +1,23 @@
 //! The commands but `serve`: what each reads, and what it writes.
 
-ghost use Rattle.std.specs.Prelude.{◌≡◌, ◌+◌, ◌⊎◌, [], ◌∷◌, ◌++◌, IfErr, IfOk, OnOk, string_bytes};
-ghost use Rattle.std.specs.Io.KnownBytes.{Appends};
-ghost use Rattle.proto_base.specs.Limits.{limit_of};
-ghost use Rattle.schema_commands.specs.Moved.{IsReadOf};
+ghost use Rattle.std.specs.Prelude.{[], ◌∷◌, IfErr, IfOk, string_bytes};
 ghost use Rattle.schema_commands.specs.Runs.{AreSourcesOf, IsDescribeRun, IsDigitsOf, IsSetOfTexts, IsToldOf, IsToldOfTexts};
-ghost use Rattle.schema_failure.specs.declared.failure.Failure.TheVariants as failures;
 
 use crate::explanation::{write_kind, write_kinds};
 use crate::whole_file::write_whole;
 use grpcweb_core::{Counted, Mode, answer_io};
 use proto_base::{Limit, Limits};
 use proto_compile::{CompileError, Compiled, Source, compile};
+use schema_devices::{read_input, write_bytes, write_line};
 use schema_failure::{Failure, locate};
 use schema_headline::{describe, set_of_sources};
 use share_work::{NoGate, Plan};
 use source_folder::{NamedText, read_folder};
 use std::alloc::{AllocError, AllocGlobal, Global};
-use std::io::{self, Read, Write};
+use std::io::{Read, Write};
 use std::random::RandomSource;
 use std::rt::Files;
 use std::thread::Threads;
-
-/// The whole of the input, or one byte more than the limit lets it have.
-fn read_input<I: Read + Drop>(
-    alloc: Global,
-    input: I,
-    limits: &Limits,
-    limit: Limit,
-) -> Result<Vec<u8>, Failure>
-    ensures read { IfOk result (λ bytes. IsReadOf (I.remaining input)
-        (limit_of limits.now limit + 1) bytes.items) }
-    ensures refused { IfErr result (λ e. (e ≡ failures.Input) ⊎ (e ≡ failures.NoMemory)) }
-{
-    let mut bytes = Vec::new(alloc);
-    let mut limited = input.take(limits.get(limit) + 1);
-    match limited.read_to_end(&mut bytes) {
-        Ok(_) => Ok(bytes),
-        Err(error) => Err(Failure::Input.unless_no_memory(&error)),
-    }
-}
-
-/// Writes a line and its end, and flushes.
-fn write_line<O: Write>(output: &mut O, line: &str) -> Result<(), Failure>
-    ensures written { OnOk result (Appends (O.contents output.old) (O.contents output.new)
-        (line.now ++ 10 ∷ [])) }
-    ensures refused { IfErr result (λ e. e ≡ failures.Output) }
-{
-    if writeln!(output, "{line}").is_err() || output.flush().is_err() {
-        return Err(Failure::Output);
-    }
-    Ok(())
-}
-
-/// Writes bytes, and flushes.
-fn write_bytes<O: Write>(output: &mut O, bytes: &[u8]) -> Result<(), Failure>
-    ensures written { OnOk result (Appends (O.contents output.old) (O.contents output.new)
-        bytes.now) }
-    ensures refused { IfErr result (λ e. e ≡ failures.Output) }
-{
-    if output.write_all(bytes).is_err() || output.flush().is_err() {
-        return Err(Failure::Output);
-    }
-    Ok(())
-}
 
 /// The descriptor of a source in hexadecimal digits.
 fn digits_of<R>(rt: &R, name: &str, text: &[u8], limits: &Limits) -> Result<String, Failure>

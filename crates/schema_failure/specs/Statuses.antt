@@ -1,5 +1,5 @@
 -- What a run that ends early exits with (README.md, "Commands").
-use Rattle.std.specs.Prelude.{ℕ}
+use Rattle.std.specs.Prelude.{ℕ, Result, Ok, Err}
 use Rattle.schema_failure.specs.declared.failure.Failure.{Failure}
 use Rattle.schema_failure.specs.declared.failure.Failure.TheVariants as failure
 use Rattle.schema_failure.specs.declared.failure.Status.{Status}
@@ -22,3 +22,8 @@ code_of status.Fault = 1
 code_of status.CommandLine = 2
 code_of status.Device = 3
 code_of status.NoMemory = 4
+
+-- a run that came to its end is done, and one that failed ends with the status of its failure
+abbrev pub status_after : Result (Unit {0}) Failure → Status
+status_after (Ok a) = status.Done
+status_after (Err failure) = status_of failure

@@ -8,7 +8,7 @@ ghost use Rattle.schema_failure.specs.declared.failure.Failure.TheVariants as fa
 ghost use Rattle.schema_failure.specs.Faults.{of_exchange, of_folder, of_service};
 ghost use Rattle.schema_failure.specs.Lines.{line_of};
 ghost use Rattle.schema_failure.specs.Placed.{located, source_named};
-ghost use Rattle.schema_failure.specs.Statuses.{status_of, code_of};
+ghost use Rattle.schema_failure.specs.Statuses.{code_of, status_after, status_of};
 
 use device_error::{ServeFault, is_no_memory};
 use grpcweb_core::IoFault;
@@ -30,6 +30,16 @@ pub enum Status {
 }
 
 impl Status {
+    /// The status of a run that ended so.
+    pub fn after(done: &Result<(), Failure>) -> Status
+        ensures { result ≡ status_after done.now }
+    {
+        match done {
+            Ok(()) => Status::Done,
+            Err(failure) => failure.status(),
+        }
+    }
+
     /// The number that the program exits with, 0 to 4.
     pub fn code(self) -> u8
         ensures code { result ≡ code_of self }

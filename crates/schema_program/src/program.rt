@@ -1,19 +1,18 @@
 //! The whole program, over any reader and writers.
 
-ghost use Rattle.std.specs.Prelude.{◌≡◌, ◌≤◌, [], ◌∷◌, ◌++◌, OnOk};
-ghost use Rattle.std.specs.Io.KnownBytes.{Appends};
-ghost use Rattle.schema_failure.specs.Lines.{line_of};
-ghost use Rattle.schema_failure.specs.Statuses.{status_of};
-ghost use Rattle.schema_program.specs.Performed.{IsPerformed, status_after};
+ghost use Rattle.std.specs.Prelude.{◌≡◌, ◌≤◌};
+ghost use Rattle.schema_failure.specs.Statuses.{status_after, status_of};
+ghost use Rattle.schema_program.specs.Performed.{IsPerformed};
 
 use crate::serving::run_serve;
 use clap::Error;
 use clap::error::ErrorKind;
 use schema_command_line::{Task, task_of};
 use schema_commands::{kind_names, run_answer, run_compile, run_describe, run_explain};
+use schema_devices::write_failure;
 use schema_failure::{Failure, Status};
 use std::alloc::AllocGlobal;
-use std::io::{self, Read, Write};
+use std::io::{Read, Write};
 use std::net::Net;
 use std::random::RandomSource;
 use std::rt::Files;
@@ -36,14 +35,6 @@ fn print_usage<O: Write, E: Write>(error: Error, output: &mut O, faults: &mut E)
             Status::CommandLine
         }
     }
-}
-
-/// Writes the line of a failure.
-fn write_failure<E: Write>(failure: &Failure, faults: &mut E) -> io::Result<()>
-    ensures { OnOk result (Appends (E.contents faults.old) (E.contents faults.new)
-        (line_of failure.now ++ 10 ∷ [])) }
-{
-    writeln!(faults, "{failure}")
 }
 
 /// Prints the line of a failure. That it cannot be printed changes nothing.
@@ -82,10 +73,11 @@ where
 fn finish<E: Write>(done: Result<(), Failure>, faults: &mut E) -> Status
     ensures { result ≡ status_after done }
 {
-    match done {
-        Ok(()) => Status::Done,
-        Err(failure) => report(failure, faults),
+    let status = Status::after(&done);
+    if let Err(failure) = done {
+        let _ = write_failure(&failure, faults);
     }
+    status
 }
 
 /// Runs the program on `words`, whose first is its name, and gives its exit status: 0 done, 1 a fault of a source,

@@ -3,7 +3,7 @@ use Rattle.std.specs.Io.KnownBytes.{Appends}
 use Rattle.proto_base.specs.Limits.{limit_of}
 use Rattle.proto_base.specs.declared.limits.Limit.TheVariants.{FileBytes}
 use Rattle.proto_compile.specs.declared.source.Source.{Source}
-use Rattle.schema_commands.specs.Moved.{IsReadOf}
+use Rattle.schema_devices.specs.Moved.{IsReadOf}
 use Rattle.schema_commands.proofs.Telling.{described, refused_by, unread_by}
 use Rattle.schema_commands.proofs.commands.run_describe.Goals as goal
 
