@@ -12,7 +12,7 @@ trap 'rm -rf "$folder"' EXIT
 cc -shared -fPIC -O1 -o "$folder/refuse.so" tests/refused_memory.c -ldl || exit 2
 program=crates/test_refusals/out/test_refusals
 if [ ! -x "$program" ]; then
-    (cd crates/test_refusals && rt run -- data) >/dev/null 2>&1
+    (cd crates/test_refusals && rt run -- data) </dev/null >/dev/null 2>&1
 fi
 env REFUSE_IN_ROUNDS=1 LD_PRELOAD="$folder/refuse.so" "$program" crates/test_refusals/data >"$folder/output" 2>"$folder/faults" \
     9>"$folder/refused"
