@@ -1,13 +1,19 @@
 //! Serving connections, one after the other.
 
 ghost use Rattle.std.specs.Prelude.{◌≡◌, IfOk, Some};
+ghost use Rattle.std.specs.Arc.{arc_value};
+ghost use Rattle.std.specs.Thread.{IsSync};
 
-use grpcweb_connection::{ServeFault, serve_next};
+use crate::response::response_to;
+use device_error::ServeFault;
 use grpcweb_core::Mode;
+use http::{Request, Response};
+use http_connection::{Responder, serve_next};
 use hyper::server::conn::http1;
+use proto_base::Limit;
 use proto_compile::Compiled;
 use share_work::{Gate, Plan};
-use std::alloc::AllocGlobal;
+use std::alloc::{AllocError, AllocGlobal};
 use std::hash::RandomState;
 use std::random::RandomSource;
 use std::sync::{Arc, Wait};
@@ -15,6 +21,40 @@ use std::thread::Threads;
 use std::time::Clock;
 use tokio::net::TcpListener;
 use tokio::runtime::Runtime;
+
+/// Serves connections, one after the other, and answers how many. Without a count of connections it ends only with a fault.
+fn serve_each<R, T>(
+    rt: &R,
+    runtime: &mut Runtime,
+    listener: TcpListener,
+    responder: &Arc<T>,
+    limit: usize,
+    connections: Option<u64>,
+) -> Result<u64, ServeFault>
+where
+    R: Wait + Threads + Clock + RandomSource + AllocGlobal + Sync,
+    T: Responder,
+    requires { T.can_respond (arc_value responder.now) }
+    ensures { IfOk result (λ count. connections ≡ Some count) }
+{
+    let mut listener = listener;
+    let keys = RandomState::new(rt)?;
+    let http = http1::Builder::new(rt.alloc(), keys);
+    match connections {
+        Some(count) => {
+            for _ in 0..count {
+                serve_next(rt, runtime, &mut listener, &http, responder, limit)?;
+            }
+            Ok(count)
+        }
+        None => {
+            for _ in rt.forever() {
+                serve_next(rt, runtime, &mut listener, &http, responder, limit)?;
+            }
+            unreachable!()
+        }
+    }
+}
 
 /// Serves reflection streams over HTTP/1.1, one connection after the other, and answers how many. Without a count of connections
 /// it ends only with a fault.
@@ -37,39 +77,11 @@ where
     G: Gate + Copy + Sync,
     ensures { IfOk result (λ count. connections ≡ Some count) }
 {
-    let mut listener = listener;
-    let keys = RandomState::new(rt)?;
-    let http = http1::Builder::new(rt.alloc(), keys);
-    match connections {
-        Some(count) => {
-            for _ in 0..count {
-                serve_next(
-                    rt,
-                    runtime,
-                    &mut listener,
-                    &http,
-                    &compiled,
-                    plan,
-                    gate,
-                    mode,
-                )?;
-            }
-            Ok(count)
-        }
-        None => {
-            for _ in rt.forever() {
-                serve_next(
-                    rt,
-                    runtime,
-                    &mut listener,
-                    &http,
-                    &compiled,
-                    plan,
-                    gate,
-                    mode,
-                )?;
-            }
-            unreachable!()
-        }
-    }
+    let limit = compiled.limits().get(Limit::BodyBytes) as usize;
+    let own_rt = rt.clone()?;
+    let responder = move |request: &Request<Vec<u8>>| -> Result<Response<Vec<u8>>, AllocError>
+        requires { IsSync R.row × IsSync G.row }
+    { response_to(&own_rt, &compiled, plan, &gate, mode, request) };
+    let responder = Arc::new(rt.alloc(), responder).map_err(|_| ServeFault::NoMemory)?;
+    serve_each(rt, runtime, listener, &responder, limit, connections)
 }

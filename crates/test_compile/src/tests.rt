@@ -3,7 +3,7 @@
 use proto_base::{Fault, Limit, Limits};
 use proto_compile::{CompileError, Compiled, Source, compile};
 use share_work::{NoGate, Plan};
-use std::alloc::{AllocGlobal, Global};
+use std::alloc::{AllocError, AllocGlobal, Global};
 use std::process::Abort;
 use std::test::Fail;
 use std::thread::Threads;
@@ -410,7 +410,7 @@ where
 }
 
 /// Workers and cuts.
-static PLANS: [(u32, u32); 3] = [(1, 1), (2, 1), (64, 4_096)];
+static PLANS: [(u32, u32); 6] = [(1, 1), (2, 1), (64, 1), (1, 4_096), (2, 4_096), (64, 4_096)];
 
 /// Compares a row's answer by each plan.
 fn compare_plans<R>(rt: &R, row: &Row) -> Result<(), Fail>
@@ -521,5 +521,83 @@ fn compilations(rt: HostRuntime) -> Result<(), Fail> {
         \x0a\x1c\x0a\x07b.proto\x1a\x07c.proto\x50\x00\x62\x06proto3\
         \x0a\x31\x0a\x07a.proto\x1a\x07b.proto\x22\x15\x0a\x01A\x12\x10\x0a\x01d\x18\x01\x20\x01\x28\x0b\x32\x02.D\x52\x01d\x62\x06proto3";
     assert!(rt; compiles_to(&rt, &SEEN, &files, set)?);
+    Ok(())
+}
+
+/// What sources are compiled to with a lower limit: the fault, or that there is none.
+fn outcome<R>(rt: &R, sources: &[Source], limit: Limit, value: u64) -> Result<String, Fail>
+where
+    R: Threads + AllocGlobal + Sync,
+{
+    let limits = Limits::standard().lowered(limit, value).ok_or("a limit")?;
+    let found = compile(rt, sources, &limits, Plan::single(), &NoGate);
+    shown(rt.alloc(), &[], found)
+}
+
+/// A text of so many messages, each inside the one before.
+fn nested(alloc: Global, count: usize) -> Result<String, AllocError> {
+    let open = "message A { ".repeat(alloc, count)?;
+    let close = "}".repeat(alloc, count)?;
+    format!(in alloc; "syntax = \"proto3\"; {open}{close}")
+}
+
+/// What is found of so many messages inside each other, where 32 are allowed.
+fn many_messages<R>(rt: &R, count: usize) -> Result<String, Fail>
+where
+    R: Threads + AllocGlobal + Sync,
+{
+    let text = nested(rt.alloc(), count)?;
+    let text = text.as_bytes();
+    let name = "a.proto";
+    outcome(rt, &[Source { name, text }], Limit::Depth, 32)
+}
+
+#[test]
+fn messages_up_to_a_limit(rt: HostRuntime) -> Result<(), Fail> {
+    let too_deep = "pass 1, file [a.proto], step 1, at 403: TooDeep";
+    for (count, wanted) in [(32, "compiled:"), (33, too_deep)] {
+        let found = many_messages(&rt, count)?;
+        assert!(rt; found.as_str() == wanted, "{count}: {found}");
+    }
+    Ok(())
+}
+
+/// Names of so many files, in the order of their numbers.
+fn names_of(alloc: Global, count: usize) -> Result<Vec<String>, AllocError> {
+    let mut names = Vec::new(alloc);
+    for number in 0..count {
+        names.push(format!(in alloc; "{number}.proto")?)?;
+    }
+    Ok(names)
+}
+
+/// A file of each of the names, without statements.
+fn empty_files(alloc: Global, names: &[String]) -> Result<Vec<Source<'_>>, AllocError> {
+    let mut sources = Vec::new(alloc);
+    for name in names {
+        let name = name.as_str();
+        let text = b"syntax = \"proto3\"; ";
+        sources.push(Source { name, text })?;
+    }
+    Ok(sources)
+}
+
+/// What is found of so many files, where 4,096 are allowed.
+fn many_files<R>(rt: &R, count: usize) -> Result<String, Fail>
+where
+    R: Threads + AllocGlobal + Sync,
+{
+    let names = names_of(rt.alloc(), count)?;
+    let sources = empty_files(rt.alloc(), &names)?;
+    outcome(rt, &sources, Limit::Files, 4_096)
+}
+
+#[test]
+fn files_up_to_a_limit(rt: HostRuntime) -> Result<(), Fail> {
+    let too_many = "pass 0, file [], step 0, at 0: TooManyFiles";
+    for (count, wanted) in [(4_096, "compiled:"), (4_097, too_many)] {
+        let found = many_files(&rt, count)?;
+        assert!(rt; found.as_str() == wanted, "{count}: {found}");
+    }
     Ok(())
 }

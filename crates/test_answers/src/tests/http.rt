@@ -14,6 +14,7 @@ static ROWS: &str = "\
     POST|/grpc.reflection.v1.ServerReflection/ServerReflectionInfo|application/grpc-web; x=1||200 content-type: application/grpc-web+proto, 800000000f677270632d7374617475733a300d0a\n\
     POST|/grpc.reflection.v1.ServerReflection/ServerReflectionInfo|application/grpc-web+proto|00000000091a07622e70726f746f|200 content-type: application/grpc-web+proto, 000000002812091a07622e70726f746f221b0a190a07622e70726f746f12017032030a0153620670726f746f33800000000f677270632d7374617475733a300d0a\n\
     POST|/grpc.reflection.v1alpha.ServerReflection/ServerReflectionInfo|Application/GRPC-Web|00000000091a07622e70726f746f|200 content-type: application/grpc-web+proto, 000000002812091a07622e70726f746f221b0a190a07622e70726f746f12017032030a0153620670726f746f33800000000f677270632d7374617475733a300d0a\n\
+    POST|/grpc.reflection.v1alpha.ServerReflection/ServerReflectionInfo|application/grpc-web||200 content-type: application/grpc-web+proto, 800000000f677270632d7374617475733a300d0a\n\
     POST|/grpc.reflection.v1.ServerReflection/ServerReflectionInfo?x=/|application/grpc-web||200 content-type: application/grpc-web+proto, 800000000f677270632d7374617475733a300d0a\n\
     GET|/grpc.reflection.v1.ServerReflection/ServerReflectionInfo|application/grpc-web||405 allow: POST, \n\
     post|/grpc.reflection.v1.ServerReflection/ServerReflectionInfo|application/grpc-web||405 allow: POST, \n\

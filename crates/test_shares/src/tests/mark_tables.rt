@@ -1,46 +1,12 @@
 //! Marks over the reach of two files, of which file 0 reaches both and file 1 itself.
 
 ghost use Rattle.std.specs.Prelude.{◌≡◌, ◌<◌, length};
-ghost use Rattle.test_shares.specs.SmallReach.{two};
 
-use share_work::{Least, MarkSeat, MarkTable, NONE, Reach};
+use crate::two_files::Two;
+use share_work::{Least, MarkSeat, MarkTable, NONE};
 use std::process::Abort;
 use std::test::Fail;
 use std::thread::{Threads, join_mut};
-
-#[derive(Drop)]
-struct Two;
-
-impl Reach for Two {
-    ghost use Rattle.std.specs.Prelude.{[], ◌∷◌};
-    ghost use Rattle.test_shares.specs.SmallReach.{two, two_within, two_short, two_reflexive, two_transitive};
-
-    ghost files = { λ _. 2 };
-
-    ghost list = { λ _. two };
-
-    fn count(&self) -> usize {
-        2
-    }
-
-    fn reached(&self, root: usize, k: usize) -> Option<usize> {
-        if root == 0 && k < 2 {
-            Some(k)
-        } else if root == 1 && k == 0 {
-            Some(1)
-        } else {
-            None
-        }
-    }
-
-    ghost within = { λ s r g h e. two_within r g e };
-
-    ghost short = { λ s r h. two_short r };
-
-    ghost reflexive = { λ s r h. two_reflexive r h };
-
-    ghost transitive = { λ s r g h a b c. two_transitive r g h b c };
-}
 
 /// Marks file 0.
 fn mark_first(table: &MarkTable<'_, Two>, seat: &mut MarkSeat, number: u64)

@@ -1,8 +1,9 @@
 //! Works in shares: the order of the outs, each worker's items, threads that meet, and a work that is refused.
 
-ghost use Rattle.std.specs.Prelude.{⊤, ◌≡◌, ◌<◌, All, IfOk, IfSome, length};
+ghost use Rattle.std.specs.Prelude.{⊤, ◌≡◌, ◌<◌, All, IfOk, length};
 
 use super::least_tables::closed;
+use crate::posting::{Posting, join_seats, two_seats};
 use share_work::{Gate, LeastSeat, LeastTable, NoGate, Plan, Work, in_shares};
 use std::alloc::{AllocError, AllocGlobal, Global};
 use std::process::Abort;
@@ -229,105 +230,36 @@ impl Work<u32> for Meeting {
 }
 
 /// Whether both items were given, and the first one's worker saw the other one begin.
-fn are_met<R: Threads + AllocGlobal + Sync>(
-    rt: &R,
-    meeting: &Meeting,
-    seats: &mut [u64],
-) -> Result<bool, Fail>
+fn are_met<R, G>(rt: &R, gate: &G, meeting: &Meeting, seats: &mut [u64]) -> Result<bool, Fail>
+where
+    R: Threads + AllocGlobal + Sync,
+    G: Gate + Sync,
     requires { length seats.old ≡ 2 }
 {
     let plan = Plan::new(2, 1).ok_or("a plan")?;
-    let outs = in_shares(rt, plan, 1, meeting, &[5, 6], meeting, seats)?;
+    let outs = in_shares(rt, plan, 1, gate, &[5, 6], meeting, seats)?;
     let missed = meeting.missed.load(Ordering::SeqCst);
     Ok(outs.as_slice() == [5, 6].as_slice() && missed == 0)
 }
 
-/// The first of two items can end only where the other one's worker is at work beside it.
+/// The work of the first of two items can end only where the other one's worker is at work beside it.
 #[test]
-fn workers_meet(rt: HostRuntime) -> Result<(), Fail> {
-    for at_gate in [false, true] {
-        let is_met = are_met(&rt, &Meeting::new(at_gate), &mut [1, 1])?;
-        assert!(rt; is_met, "at the gate: {at_gate}");
-    }
+fn works_meet(rt: HostRuntime) -> Result<(), Fail> {
+    let work = Meeting::new(false);
+    assert!(rt; are_met(&rt, &NoGate, &work, &mut [1, 1])?);
     Ok(())
 }
 
-/// Posts numbers at word 0, and has no memory for one of them.
-#[derive(Drop)]
-struct Posting<'t> {
-    table: &'t LeastTable,
-    refused: u64,
-}
-
-impl Work<u64> for Posting<'_> {
-    ghost use Rattle.std.specs.Prelude.{⊤, ◌≡◌, ◌<◌, All, IfSome};
-    ghost use Rattle.share_work.specs.Posts.{NONE};
-
-    type Out = u64;
-
-    type Seat = LeastSeat;
-
-    ghost takes = { λ _ _ number. number < NONE };
-
-    ghost fits = { λ w s. (s.table ≡ w.table.now.table) × (0 < w.table.now.count) };
-
-    ghost gives = { λ _ _ _ _. ⊤ };
-
-    ghost number = { λ _ s. s.view.parts };
-
-    ghost holds = { λ _ _ _ _. ⊤ };
-
-    ghost adds = { λ _ _ _ _ _. ⊤ };
-
-    fn piece(
-        &self,
-        alloc: Global,
-        seat: &mut LeastSeat,
-        _first: usize,
-        items: &[u64],
-    ) -> Result<Vec<u64>, AllocError> {
-        for number in items {
-            if *number == self.refused {
-                return Err(AllocError);
-            }
-            self.table.post(seat, 0, *number);
-        }
-        Vec::from_slice(alloc, items)
-    }
-}
-
-/// All seats in one.
-fn join_seats(table: &LeastTable, seats: Vec<LeastSeat>) -> Option<LeastSeat>
-    requires { All (λ s. s.table ≡ table.now.table) seats.items }
-    ensures { IfSome result (λ s. s.table ≡ table.now.table) }
-{
-    let mut seats = seats;
-    let mut seat = seats.pop()?;
-    while let Some(other) = seats.pop() {
-        table.join(&mut seat, other);
-    }
-    Some(seat)
+/// The first of two pieces can pass the gate only where the other one's worker has come there too.
+#[test]
+fn workers_meet(rt: HostRuntime) -> Result<(), Fail> {
+    let gate = Meeting::new(true);
+    assert!(rt; are_met(&rt, &gate, &gate, &mut [1, 1])?);
+    Ok(())
 }
 
 /// The number that is refused, and the least of the others.
 static REFUSED: [(u64, u64); 3] = [(3, 5), (9, 3), (100, 3)];
-
-/// Two seats that have all parts of a table.
-fn two_seats(
-    alloc: Global,
-    table: &LeastTable,
-    seat: LeastSeat,
-) -> Result<Vec<LeastSeat>, AllocError>
-    requires { (seat.table ≡ table.now.table) × (1 < seat.view.parts) }
-    ensures { IfOk result (λ seats. (length seats.items ≡ 2)
-        × All (λ s. s.table ≡ table.now.table) seats.items) }
-{
-    let mut seat = seat;
-    let mut seats = Vec::with_capacity(alloc, 2)?;
-    seats.push(table.split(&mut seat, 1))?;
-    seats.push(seat)?;
-    Ok(seats)
-}
 
 /// Two workers post numbers, and one has no memory for the refused one.
 fn post_in_shares<R: Threads + AllocGlobal + Abort + Sync>(

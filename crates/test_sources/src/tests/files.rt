@@ -83,6 +83,7 @@ struct LimitRow<'t> {
 
 fn limit_of(name: &str) -> Option<Limit> {
     match name {
+        "FileBytes" => Some(Limit::FileBytes),
         "NameBytes" => Some(Limit::NameBytes),
         "FullNameBytes" => Some(Limit::FullNameBytes),
         "Depth" => Some(Limit::Depth),
@@ -105,7 +106,9 @@ fn row_of(line: &str) -> Option<LimitRow<'_>> {
 }
 
 /// The names of limits, the least that suffices, the fault under one less, and the source.
-static LIMIT_ROWS: &str = r##"NameBytes|3|NameTooLong at 27|syntax = "proto3"; message Abc {}
+static LIMIT_ROWS: &str =
+    r##"FileBytes|45|FileTooLong at 0|syntax = "proto3"; message A { int32 x = 1; }
+NameBytes|3|NameTooLong at 27|syntax = "proto3"; message Abc {}
 NameBytes|8|NameTooLong at 49|syntax = "proto3"; message A { map<int32, int32> foo = 1; }
 NameBytes|3|NameTooLong at 46|syntax = "proto3"; message A { optional int32 ab = 1; }
 NameBytes|3|NameTooLong at 37|syntax = "proto3"; message A { int32 abc = 1; }
@@ -117,6 +120,7 @@ NameBytes|3|NameTooLong at 27|syntax = "proto3"; service Abc { rpc M(A) returns 
 NameBytes|3|NameTooLong at 35|syntax = "proto3"; service S { rpc Abc(A) returns (A); }
 NameBytes|3|NameTooLong at 27|syntax = "proto3"; package ab.abc.d;
 NameBytes|3|NameTooLong at 27|syntax = "proto3"; package abc;
+FullNameBytes|3|NameTooLong at 38|syntax = "proto3"; package a; message B {}
 FullNameBytes|6|NameTooLong at 27|syntax = "proto3"; package ab.abc;
 FullNameBytes|6|NameTooLong at 51|syntax = "proto3"; package ab; message A { message B {} }
 FullNameBytes|6|NameTooLong at 40|syntax = "proto3"; package ab; enum E { Zed = 0; }

@@ -310,6 +310,22 @@ e.proto:
 --
 links|0|||order 0 4 2 3 1; 0: rank 0, reaches 0, sees 0; 1: rank 2, reaches 4 2 3 1, sees 1 2 3; 2: rank 1, reaches 4 2, sees 2 4; 3: rank 1, reaches 4 3, sees 3 4; 4: rank 0, reaches 4, sees 4
 
+# Files that import each other, of which the first is told
+a.proto: import "b.proto";
+b.proto: import "a.proto";
+--
+links|0|||0 at 26: ImportCycle
+
+# A file that imports itself
+a.proto: import "a.proto";
+--
+links|0|||0 at 26: ImportCycle
+
+# An import that is not there
+a.proto: import "b.proto";
+--
+links|0|||0 at 26: ImportMissing
+
 # As many names as the limit are indexed, and one more is too many, whatever else is wrong
 a.proto: message A { int32 x = 1; }
 --
@@ -333,6 +349,12 @@ a.proto: message A {} message A {}
 --
 names|2|||0 at 40
 names|1|||too many
+
+# A message and a package of one name
+a.proto: message A {}
+b.proto: package A;
+--
+names|2|||1 at 27
 
 # What names are declared for. A package is found nowhere
 a.proto: package p.q; message M { map<int32, string> m = 1; optional int32 x = 2; oneof o { int32 y = 3; } message N {} }

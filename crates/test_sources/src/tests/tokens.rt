@@ -55,8 +55,8 @@ fn answer(alloc: Global, text: &[u8], limits: &Limits) -> Result<String, AllocEr
     }
 }
 
-/// Sources, and their tokens: rows with an empty line between them. Sources that are no tokens are judged by the program
-/// (tests/sources.txt).
+/// Sources, and their tokens or their first fault: rows with an empty line between them. More sources that are no tokens are
+/// judged by the program (tests/sources.txt).
 static ROWS: &str = " -> \n\n\
     \x20\t\n\r\x0B\x0C -> \n\n\
     a\rb\x0Cc\x0Bd -> 0-1 a 2-3 b 4-5 c 6-7 d\n\n\
@@ -119,7 +119,11 @@ static ROWS: &str = " -> \n\n\
     '\\U0001f600' -> 0-12 made '\u{1f600}'\n\n\
     '\\U0010FFFF' -> 0-12 made '\u{10ffff}'\n\n\
     '\\U0010FFFF0' -> 0-13 made '\u{10ffff}0'\n\n\
-    'a\\u00e9b\\x41c' -> 0-15 made 'a\u{e9}bAc'";
+    'a\\u00e9b\\x41c' -> 0-15 made 'a\u{e9}bAc'\n\n\
+    syntax = \"proto3\"; message A { int32 x = 1.5; } -> BadNumber at 41\n\n\
+    syntax = \"proto3\"; message A { int32 x = 18446744073709551616; } -> NumberTooBig at 41\n\n\
+    syntax = \"proto3\"; /* x -> UnclosedComment at 19\n\n\
+    syntax = \"pro\\qto3\"; -> BadEscape at 13";
 
 /// Sources under a limit of two bytes.
 static AT_LIMIT: [(&[u8], &str); 5] = [

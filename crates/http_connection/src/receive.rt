@@ -7,18 +7,11 @@ use crate::fault::ConnectionFault;
 use bytes::Buf;
 use futures::task::{Context, Poll};
 use futures::{Future, ready};
+use http::Request;
 use http::request::Parts;
 use http_body::Body;
-use hyper::Request;
 use hyper::body::Incoming;
 use std::alloc::{AllocError, Global};
-
-/// A request whose body was read to its end, or to one byte over the limit.
-#[derive(Drop)]
-pub(crate) struct Received {
-    pub(crate) head: Parts,
-    pub(crate) body: Vec<u8>,
-}
 
 /// A request whose body comes in.
 #[derive(Drop)]
@@ -61,22 +54,23 @@ impl<I> Receiving<I> {
             .is_some_and(|body| body.len() >= self.most)
     }
 
-    fn take_request(&mut self) -> Result<Received, ConnectionFault>
+    /// The request, whose body was read to its end, or to one byte over the limit.
+    fn take_request(&mut self) -> Result<Request<Vec<u8>>, ConnectionFault>
         ensures { self.new.incoming ≡ self.old.incoming }
     {
         match (self.head.take(), self.body.take()) {
-            (Some(head), Some(body)) => Ok(Received { head, body }),
+            (Some(head), Some(body)) => Ok(Request::from_parts(head, body)),
             _ => Err(ConnectionFault::Body),
         }
     }
 }
 
 impl<I: Drop> Future for Receiving<I> {
-    type Output = Result<Received, ConnectionFault>;
+    type Output = Result<Request<Vec<u8>>, ConnectionFault>;
 
     ghost needs = { λ a. IncomingNeeds a.incoming };
 
-    fn poll(&mut self, cx: &mut Context<'_>) -> Poll<Result<Received, ConnectionFault>> {
+    fn poll(&mut self, cx: &mut Context<'_>) -> Poll<Result<Request<Vec<u8>>, ConnectionFault>> {
         for _ in 0..PIECES {
             if self.is_full() {
                 return Poll::Ready(self.take_request());

@@ -1,0 +1,180 @@
+//! Lists of files: what they are compiled to, their links and names, and a folder of them.
+
+ghost use Rattle.std.specs.Prelude.{◌≡◌};
+ghost use Rattle.proto_links.specs.Linked.{count_of};
+
+use crate::one_file::{BYTES, NAME, TEXT};
+use anyhow::bail;
+use proto_base::Limits;
+use proto_compile::{CompileError, Compiled, Source, compile};
+use proto_desc::file::FileDesc;
+use proto_desc::name_kind::NameKind;
+use proto_file::{FileError, describe};
+use proto_links::{LinkError, Links, in_name_order, link};
+use proto_names::{Defined, NameError, NameIndex, ResolveError, Resolved, Want};
+use share_work::{NoGate, Plan};
+use source_folder::{FolderFault, NamedText, read_folder};
+use std::alloc::{AllocError, AllocGlobal, Global};
+use std::rt::Files;
+use std::thread::Threads;
+
+/// Names of files, and their texts: the first sees the message of the last by public imports.
+pub(crate) static LINKED: [(&str, &str); 4] = [
+    (
+        "a.proto",
+        "syntax = \"proto3\"; import \"b.proto\"; message A { D d = 1; }",
+    ),
+    ("b.proto", "syntax = \"proto3\"; import public \"c.proto\";"),
+    ("c.proto", "syntax = \"proto3\"; import public \"d.proto\";"),
+    ("d.proto", "syntax = \"proto3\"; message D {}"),
+];
+
+/// The first and the third import the second, which declares a service.
+pub(crate) static REQUESTED: [(&str, &str); 3] = [
+    ("a.proto", "syntax = \"proto3\"; import \"b.proto\";"),
+    ("b.proto", "syntax = \"proto3\"; package p; service S {}"),
+    ("c.proto", "syntax = \"proto3\"; import \"b.proto\";"),
+];
+
+/// What files are compiled to.
+pub(crate) fn compiled<R>(rt: &R, files: &[(&str, &str)]) -> anyhow::Result<Compiled>
+where
+    R: Threads + AllocGlobal + Sync,
+{
+    let mut sources = Vec::new(rt.alloc());
+    for (name, text) in files {
+        let text = text.as_bytes();
+        sources.push(Source { name, text })?;
+    }
+    Ok(compile(rt, &sources, &Limits::standard(), Plan::single(), &NoGate)?)
+}
+
+/// Puts what a file describes behind the descriptors.
+fn put_file(
+    alloc: Global,
+    descs: &mut Vec<FileDesc<'static>>,
+    name: &'static str,
+    text: &'static str,
+) -> anyhow::Result<()> {
+    match describe(alloc, name, text.as_bytes(), &Limits::standard()) {
+        Ok(desc) => Ok(descs.push(desc)?),
+        Err(FileError::At(_, place, kind)) => bail!("{name} at {place}: {kind}"),
+        Err(FileError::NoMemory) => bail!("out of memory"),
+    }
+}
+
+/// Puts what the linked files describe behind the descriptors.
+pub(crate) fn put_described(
+    alloc: Global,
+    descs: &mut Vec<FileDesc<'static>>,
+) -> anyhow::Result<()> {
+    for (name, text) in &LINKED {
+        put_file(alloc, descs, name, text)?;
+    }
+    Ok(())
+}
+
+pub(crate) fn is_compiled<R>(rt: &R) -> Result<bool, AllocError>
+where
+    R: Threads + AllocGlobal + Sync,
+{
+    let source = Source {
+        name: NAME,
+        text: TEXT.as_bytes(),
+    };
+    match compile(rt, &[source], &Limits::standard(), Plan::single(), &NoGate) {
+        Ok(compiled) => Ok(compiled.bytes_of(NAME) == Some(BYTES)),
+        Err(CompileError::NoMemory) => Err(AllocError),
+        Err(CompileError::First(_)) => Ok(false),
+    }
+}
+
+/// The set of the one file: a field that holds its 36 bytes.
+pub(crate) fn has_set(alloc: Global, compiled: &Compiled) -> Result<bool, AllocError> {
+    let set = compiled.set_bytes(alloc)?;
+    Ok(set.strip_prefix(b"\x0A\x24".as_slice()) == Some(BYTES))
+}
+
+/// Whether each file has its rank, and the first sees all of them.
+fn are_ranked(links: &Links) -> bool
+    requires { count_of links.now ≡ 4 }
+{
+    let ranks = [links.rank(0), links.rank(1), links.rank(2), links.rank(3)];
+    let is_seen = links.sees(0, 1) && links.sees(0, 2) && links.sees(0, 3);
+    ranks == [3, 2, 1, 0] && is_seen
+}
+
+/// Whether these are the links of the files.
+fn are_links(links: &Links) -> bool {
+    links.count() == 4
+        && links.set_order() == [3, 2, 1, 0].as_slice()
+        && links.reach(0) == [3, 2, 1, 0].as_slice()
+        && are_ranked(links)
+}
+
+pub(crate) fn are_linked(alloc: Global, descs: &[FileDesc<'static>]) -> Result<bool, AllocError> {
+    if !in_name_order(descs) {
+        return Ok(false);
+    }
+    match link(alloc, descs) {
+        Ok(links) => Ok(are_links(&links)),
+        Err(LinkError::NoMemory) => Err(AllocError),
+        Err(LinkError::At(_, _, _)) => Ok(false),
+    }
+}
+
+/// Whether a name is that of a message of this file.
+fn is_message(index: &NameIndex, name: &str, wanted: usize) -> bool {
+    match index.find(name) {
+        Some(Defined { kind, file }) => kind == NameKind::Message && file == wanted,
+        None => false,
+    }
+}
+
+pub(crate) fn are_indexed<R>(rt: &R, descs: &[FileDesc<'static>]) -> Result<bool, AllocError>
+where
+    R: Threads + AllocGlobal + Sync,
+{
+    match NameIndex::build(rt, descs, &Limits::standard()) {
+        Ok(index) => Ok(is_message(&index, "A", 0) && is_message(&index, "D", 3)),
+        Err(NameError::NoMemory) => Err(AllocError),
+        Err(NameError::At(_, _) | NameError::TooMany) => Ok(false),
+    }
+}
+
+/// The type that the field of the first file has.
+pub(crate) fn is_resolved(alloc: Global, compiled: &Compiled) -> Result<bool, AllocError> {
+    compiled.is_sound();
+    let links = compiled.links();
+    if links.count() == 0 {
+        return Ok(false);
+    }
+    match compiled
+        .names()
+        .resolve(alloc, links, 0, "A", "D", Want::AnyType)
+    {
+        Ok(Resolved { full_name, kind }) => Ok(
+            full_name.as_str() == "D" && kind == NameKind::Message,
+        ),
+        Err(ResolveError::NoMemory) => Err(AllocError),
+        Err(ResolveError::TypeNotFound | ResolveError::TypeNotMessage) => Ok(false),
+    }
+}
+
+/// Whether these are the files of the folder.
+fn are_texts(texts: &[NamedText]) -> bool {
+    for (found, (name, text)) in texts.iter().zip(&LINKED) {
+        if found.name.as_str() != *name || found.text.as_slice() != text.as_bytes() {
+            return false;
+        }
+    }
+    texts.len() == LINKED.len()
+}
+
+pub(crate) fn are_read<R: Files + AllocGlobal>(rt: &R, root: &str) -> Result<bool, AllocError> {
+    match read_folder(rt, root, &Limits::standard()) {
+        Ok(texts) => Ok(are_texts(&texts)),
+        Err(FolderFault::NoMemory) => Err(AllocError),
+        Err(FolderFault::Listing | FolderFault::Reading) => Ok(false),
+    }
+}

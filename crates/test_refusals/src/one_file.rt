@@ -1,0 +1,171 @@
+//! One file, from its text to the bytes of its descriptor, and the names that are made.
+
+use proto_base::Limits;
+use proto_base::scalar_type::ScalarType;
+use proto_checks::first_check_fault;
+use proto_compile::CompileError;
+use proto_desc::field::{FieldDesc, FieldKind, FieldLabel};
+use proto_desc::file::FileDesc;
+use proto_desc::is_resolved;
+use proto_lower::{entry_name, json_name, lower, oneof_name};
+use proto_syntax::{ParseError, parse};
+use proto_tokens::{Token, TokenError, TokenKind, Tokens, tokenize};
+use proto_tree::{Field, FieldType, FileTree, MessageItem, Statement};
+use schema_headline::describe;
+use std::alloc::{AllocError, AllocGlobal, Global};
+use std::thread::Threads;
+use wire_bytes::file_bytes;
+
+/// The file's name.
+pub(crate) const NAME: &str = "a.proto";
+
+/// A message with a field.
+pub(crate) const TEXT: &str = "syntax = \"proto3\"; message A { int32 x = 1; }";
+
+/// The bytes of its descriptor.
+pub(crate) const BYTES: &[u8] =
+    b"\x0A\x07a.proto\x22\x11\x0A\x01A\x12\x0C\x0A\x01x\x18\x01\x20\x01\x28\x05\x52\x01x\x62\x06proto3";
+
+/// Its tokens: where each begins and ends, and what it says.
+static TOKENS: [(u32, u32, &str); 13] = [
+    (0, 6, "syntax"),
+    (7, 8, "="),
+    (9, 17, "proto3"),
+    (17, 18, ";"),
+    (19, 26, "message"),
+    (27, 28, "A"),
+    (29, 30, "{"),
+    (31, 36, "int32"),
+    (37, 38, "x"),
+    (39, 40, "="),
+    (41, 42, "1"),
+    (42, 43, ";"),
+    (44, 45, "}"),
+];
+
+/// Whether a token says this text, and stands where it does.
+fn is_token(token: &Token, start: u32, end: u32, text: &str) -> bool {
+    let says = match &token.kind {
+        TokenKind::Identifier(name) => *name == text,
+        TokenKind::Number(number) => text.parse() == Ok(*number),
+        TokenKind::StringLiteral(value) => value.as_str() == text,
+        TokenKind::Punctuation(mark) => text.starts_with(*mark),
+    };
+    says && token.span.start.offset == start && token.span.end.offset == end
+}
+
+/// Whether these are the tokens of the text.
+fn are_tokens(tokens: &[Token]) -> bool {
+    for (token, (start, end, text)) in tokens.iter().zip(&TOKENS) {
+        if !is_token(token, *start, *end, text) {
+            return false;
+        }
+    }
+    tokens.len() == TOKENS.len()
+}
+
+pub(crate) fn has_tokens(alloc: Global) -> Result<bool, AllocError> {
+    match tokenize(alloc, TEXT.as_bytes(), &Limits::standard()) {
+        Ok(tokens) => Ok(are_tokens(&tokens.items)),
+        Err(TokenError::NoMemory) => Err(AllocError),
+        Err(TokenError::At(_, _)) => Ok(false),
+    }
+}
+
+fn is_field(field: &Field) -> bool {
+    let is_number = matches!(field.field_type, FieldType::Scalar(ScalarType::Int32, _));
+    is_number && field.declarator.name.text == "x" && field.declarator.number.value == 1
+}
+
+/// Whether this is the tree of the text.
+fn is_tree(file: &FileTree) -> bool {
+    let [statement] = file.statements.as_slice() else {
+        return false;
+    };
+    let Statement::Message(message) = statement else {
+        return false;
+    };
+    let message = message.get();
+    let [item] = message.items.as_slice() else {
+        return false;
+    };
+    let MessageItem::Field(field) = item else {
+        return false;
+    };
+    message.name.text == "A" && is_field(field.get())
+}
+
+pub(crate) fn has_tree(alloc: Global, tokens: &Tokens<'static>) -> Result<bool, AllocError> {
+    match parse(alloc, tokens, &Limits::standard()) {
+        Ok(file) => Ok(is_tree(&file)),
+        Err(ParseError::NoMemory) => Err(AllocError),
+        Err(ParseError::At(_, _)) => Ok(false),
+    }
+}
+
+fn is_field_desc(field: &FieldDesc) -> bool {
+    field.name.as_str() == "x"
+        && field.number == 1
+        && field.label == FieldLabel::Optional
+        && matches!(field.field_type, FieldKind::Scalar(ScalarType::Int32))
+        && field.json_name.as_str() == "x"
+}
+
+/// Whether this is the descriptor of the text.
+fn is_descriptor(file: &FileDesc) -> bool {
+    let [message] = file.messages.as_slice() else {
+        return false;
+    };
+    let [field] = message.fields.as_slice() else {
+        return false;
+    };
+    file.name.as_str() == NAME && message.name.as_str() == "A" && is_field_desc(field)
+}
+
+pub(crate) fn has_descriptor(alloc: Global, tree: &FileTree<'static>) -> Result<bool, AllocError> {
+    let desc = lower(alloc, NAME, tree)?;
+    Ok(is_descriptor(&desc))
+}
+
+pub(crate) fn has_no_fault(
+    alloc: Global,
+    tree: &FileTree<'static>,
+    desc: &FileDesc<'static>,
+) -> Result<bool, AllocError> {
+    let fault = first_check_fault(alloc, tree, desc, &Limits::standard())?;
+    Ok(fault.is_none())
+}
+
+pub(crate) fn has_bytes(alloc: Global, desc: &FileDesc<'static>) -> Result<bool, AllocError> {
+    if !is_resolved(desc) {
+        return Ok(false);
+    }
+    let bytes = file_bytes(alloc, desc)?;
+    Ok(bytes.as_slice() == BYTES)
+}
+
+pub(crate) fn is_described<R>(rt: &R) -> Result<bool, AllocError>
+where
+    R: Threads + AllocGlobal + Sync,
+{
+    match describe(rt, NAME, TEXT.as_bytes(), &Limits::standard()) {
+        Ok(bytes) => Ok(bytes.as_slice() == BYTES),
+        Err(CompileError::NoMemory) => Err(AllocError),
+        Err(CompileError::First(_)) => Ok(false),
+    }
+}
+
+pub(crate) fn has_json_name(alloc: Global) -> Result<bool, AllocError> {
+    let name = json_name(alloc, "x")?;
+    Ok(name.as_str() == "x")
+}
+
+pub(crate) fn has_entry_name(alloc: Global) -> Result<bool, AllocError> {
+    let name = entry_name(alloc, "my_map")?;
+    Ok(name.as_str() == "MyMapEntry")
+}
+
+pub(crate) fn has_oneof_name(alloc: Global) -> Result<bool, AllocError> {
+    let name = oneof_name(alloc, "a", &["a", "_a", "k", "b"])?;
+    Ok(name.as_str() == "X_a")
+}
