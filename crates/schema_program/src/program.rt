@@ -8,7 +8,9 @@ use crate::serving::run_serve;
 use clap::Error;
 use clap::error::ErrorKind;
 use schema_command_line::{Task, task_of};
-use schema_commands::{kind_names, run_answer, run_compile, run_describe, run_explain};
+use schema_commands::{
+    SystemFolder, kind_names, run_answer, run_compile, run_describe, run_explain,
+};
 use schema_devices::write_failure;
 use schema_failure::{Failure, Status};
 use std::alloc::AllocGlobal;
@@ -56,9 +58,15 @@ where
 {
     match task {
         Task::Describe { name } => run_describe(rt, name, input, output),
-        Task::Compile { root, plan, file } => run_compile(rt, root, plan, file, output),
+        Task::Compile { root, plan, file } => {
+            let folder = SystemFolder::new(rt, root);
+            run_compile(rt, &folder, plan, file, output)
+        }
         Task::Explain { kind } => run_explain(kind, output),
-        Task::Answer { root, plan, mode } => run_answer(rt, root, plan, mode, input, output),
+        Task::Answer { root, plan, mode } => {
+            let folder = SystemFolder::new(rt, root);
+            run_answer(rt, &folder, plan, mode, input, output)
+        }
         Task::Serve {
             root,
             listen,
