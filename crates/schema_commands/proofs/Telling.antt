@@ -2,14 +2,19 @@
 use Rattle.std.proofs.Common.{◌≡◌, ◌⊎◌, ℕ, List, [], ◌∷◌, ◌++◌, Option, Some, None, Result, Ok, Err, IfErr, IsErrAnd, OnOk, refl, subst, sym}
 use Rattle.std.proofs.Common.{inl, inr}
 use Rattle.std.specs.Io.KnownBytes.{Appends, Keeps}
+use Rattle.first_reach.specs.declared.mode.Mode.{Mode}
+use Rattle.grpcweb_core.specs.Exchange.{IsExchange}
+use Rattle.grpcweb_core.specs.Streams.{Reads, Writes}
+use Rattle.grpcweb_core.specs.declared.stream.IoFault.{IoFault}
 use Rattle.proto_base.specs.declared.fault.Fault.{Fault}
 use Rattle.proto_base.specs.declared.limits.Limits.{Limits}
+use Rattle.proto_compile.specs.Compilation.{Compilation}
 use Rattle.proto_compile.specs.FaultSet.{IsLeastFault, TellsOf}
 use Rattle.proto_compile.specs.declared.error.CompileError.{CompileError}
 use Rattle.proto_compile.specs.declared.error.CompileError.TheVariants as errors
 use Rattle.proto_compile.specs.declared.source.Source.{Source}
-use Rattle.schema_commands.specs.Runs.{AreStandard, AreTextsOf, IsCompileRun, IsDescribeRun, IsDigitsOf, IsFirstOf, IsInput, IsSetOfTexts, IsSetWritten, IsToldOf, IsToldOfFolder, IsToldOfTexts, IsUnwritten, Known}
-use Rattle.schema_failure.specs.Faults.{of_folder}
+use Rattle.schema_commands.specs.Runs.{AreStandard, AreTextsOf, IsAnswerRun, IsCompileRun, IsCompiledTo, IsDescribeRun, IsDigitsOf, IsFirstOf, IsInput, IsSetOfTexts, IsSetWritten, IsToldOf, IsToldOfFolder, IsToldOfTexts, IsUnwritten, Known}
+use Rattle.schema_failure.specs.Faults.{of_exchange, of_folder}
 use Rattle.schema_failure.specs.Placed.{located}
 use Rattle.schema_failure.specs.declared.failure.Failure.{Failure}
 use Rattle.schema_failure.specs.declared.failure.Failure.TheVariants as failure
@@ -129,3 +134,21 @@ compiled_run known file old new limits texts set (Ok a) standard are is written 
     (limits, standard, texts, are, set, is, written)
 compiled_run known file old new limits texts set (Err f) standard are is written unwritten =
     unwritten_run known file old new limits f standard unwritten
+
+-- ---- of an answer
+
+pub refused_answer : (known : Known) (mode : Mode) (reads : Reads) (writes : Writes) (limits : Limits) (f : Failure)
+    (r : Result (Unit {0}) Failure) → IsErrAnd r (λ e. e ≡ f) → AreStandard limits → IsToldOfFolder limits known f
+    → IsAnswerRun known mode reads reads writes writes r
+refused_answer known mode reads writes limits f (Ok a) handed standard told = absurd handed
+refused_answer known mode reads writes limits f (Err e) handed standard told =
+    let P : Failure → Type 0 = λ x. IsToldOfFolder limits known x in
+    (limits, standard, inl (subst P (sym handed) told, refl, refl))
+
+pub failed_answer : (known : Known) (mode : Mode) (reads reads' : Reads) (writes writes' : Writes) (limits : Limits)
+    (c : Compilation) (fault : IoFault) (r : Result (Unit {0}) Failure) → IsErrAnd r (λ e. e ≡ of_exchange fault)
+    → AreStandard limits → IsCompiledTo limits known c → IsExchange {A = Unit {0}} mode c reads reads' writes writes' (Err fault)
+    → IsAnswerRun known mode reads reads' writes writes' r
+failed_answer known mode reads reads' writes writes' limits c fault (Ok a) handed standard compiled exchange = absurd handed
+failed_answer known mode reads reads' writes writes' limits c fault (Err e) handed standard compiled exchange =
+    (limits, standard, inr (c, compiled, fault, handed, exchange))

@@ -1,6 +1,10 @@
 -- What a run of a command did to what its writer holds, by how it ended.
 use Rattle.std.specs.Prelude.{◌≡◌, ℕ, ◌+◌, List, [], ◌∷◌, ◌++◌, ◌⊎◌, map, Option, Some, None, Result, Ok, Err, IfSome, string_bytes}
 use Rattle.std.specs.Io.KnownBytes.{Appends, Keeps}
+use Rattle.first_reach.specs.declared.mode.Mode.{Mode}
+use Rattle.grpcweb_core.specs.Exchange.{IsExchange}
+use Rattle.grpcweb_core.specs.Streams.{Reads, Writes}
+use Rattle.grpcweb_core.specs.declared.stream.IoFault.{IoFault}
 use Rattle.hex.specs.Hex.{encode_lower}
 use Rattle.proto_base.specs.Limits.{limit_of, standard_of}
 use Rattle.proto_base.specs.declared.fault.Fault.{Fault}
@@ -12,6 +16,7 @@ use Rattle.proto_compile.specs.FaultSet.{IsLeastFault, told_by}
 use Rattle.proto_compile.specs.Sources.{name_of, text_of}
 use Rattle.proto_compile.specs.declared.source.Source.{Source}
 use Rattle.schema_devices.specs.Moved.{IsReadOf}
+use Rattle.schema_failure.specs.Faults.{of_exchange}
 use Rattle.schema_failure.specs.Placed.{located}
 use Rattle.schema_failure.specs.declared.failure.Failure.{Failure}
 use Rattle.schema_failure.specs.declared.failure.Failure.TheVariants as failure
@@ -113,3 +118,14 @@ IsCompileRun known file old new (Ok a) =
     × (set : List ℕ) × IsSetOfTexts limits texts set × IsSetWritten file old new set
 IsCompileRun known file old new (Err f) =
     (f ≡ failure.Output) ⊎ ((limits : Limits) × AreStandard limits × IsToldOfFolder limits known f × Keeps old new)
+
+-- `answer`: the exchange over what the folder's texts are compiled to; or their first fault, and nothing read or written
+abbrev pub IsAnswerRun : Known → Mode → Reads → Reads → Writes → Writes → Result (Unit {0}) Failure → Type 0
+IsAnswerRun known mode reads reads' writes writes' (Ok a) =
+    (limits : Limits) × AreStandard limits × (c : Compilation) × IsCompiledTo limits known c
+    × IsExchange mode c reads reads' writes writes' (Ok a)
+IsAnswerRun known mode reads reads' writes writes' (Err f) =
+    (limits : Limits) × AreStandard limits
+    × ((IsToldOfFolder limits known f × (reads' ≡ reads) × (writes' ≡ writes))
+    ⊎ ((c : Compilation) × IsCompiledTo limits known c × (fault : IoFault) × (f ≡ of_exchange fault)
+    × IsExchange {A = Unit {0}} mode c reads reads' writes writes' (Err fault)))

@@ -1,12 +1,12 @@
 //! The commands but `serve`: what each reads, and what it writes.
 
-ghost use Rattle.std.specs.Prelude.{[], ◌∷◌, IfErr, IfOk, OnOk, string_bytes};
-ghost use Rattle.schema_commands.specs.Runs.{AreCompiledTo, AreSourcesOf, IsCompileRun, IsCompiledTo, IsDescribeRun, IsDigitsOf, IsSetOfTexts, IsSetWritten, IsToldOf, IsToldOfFolder, IsToldOfTexts, IsUnwritten};
+ghost use Rattle.std.specs.Prelude.{◌-◌, ◌<◌, ◌^◌, [], ◌∷◌, IfErr, IfOk, OnOk, string_bytes};
+ghost use Rattle.schema_commands.specs.Runs.{AreCompiledTo, AreSourcesOf, IsAnswerRun, IsCompileRun, IsCompiledTo, IsDescribeRun, IsDigitsOf, IsSetOfTexts, IsSetWritten, IsToldOf, IsToldOfFolder, IsToldOfTexts, IsUnwritten};
 
 use crate::explanation::{write_kind, write_kinds};
 use crate::folder::SourceFolder;
 use crate::whole_file::write_whole;
-use grpcweb_core::{Counted, Mode, answer_io};
+use grpcweb_core::{CountedRead, CountedWrite, Mode, answer_io};
 use proto_base::{Limit, Limits};
 use proto_compile::{CompileError, Compiled, Source, compile};
 use schema_devices::{read_input, write_bytes, write_line};
@@ -164,43 +164,29 @@ where
     compile_texts(rt, &texts, limits, plan)
 }
 
-/// Answers the request body on the input.
-fn answer_input<R, I, O>(
-    rt: &R,
-    compiled: &Compiled,
-    plan: Plan,
-    mode: Mode,
-    input: I,
-    output: O,
-) -> Result<(), Failure>
-where
-    R: Threads + AllocGlobal + Sync,
-    I: Read + Drop,
-    O: Write + Drop,
-{
-    let mut reader = Counted::new(input);
-    let mut writer = Counted::new(output);
-    answer_io(rt, compiled, plan, &NoGate, mode, &mut reader, &mut writer)?;
-    Ok(())
-}
-
-/// Answers the request body on the input over the sources of a folder.
+/// Answers the request body that a reader gives over the sources of a folder.
 pub fn run_answer<R, F, I, O>(
     rt: &R,
     folder: &F,
     plan: Plan,
     mode: Mode,
-    input: I,
-    output: O,
+    reader: &mut I,
+    writer: &mut O,
 ) -> Result<(), Failure>
 where
     R: Threads + AllocGlobal + Sync,
     F: SourceFolder,
-    I: Read + Drop,
-    O: Write + Drop,
+    I: CountedRead,
+    O: CountedWrite,
+    requires reader_counts { (I.reads reader.old).failures < 2 ^ 64 - 1 }
+    requires writer_counts { (O.writes writer.old).failures < 2 ^ 64 - 1 }
+    ensures { IsAnswerRun (F.sources folder.now) mode (I.reads reader.old) (I.reads reader.new)
+        (O.writes writer.old) (O.writes writer.new) result }
 {
-    let compiled = compile_folder(rt, folder, &Limits::standard(), plan)?;
-    answer_input(rt, &compiled, plan, mode, input, output)
+    let limits = Limits::standard();
+    let compiled = compile_folder(rt, folder, &limits, plan)?;
+    answer_io(rt, &compiled, plan, &NoGate, mode, reader, writer)?;
+    Ok(())
 }
 
 /// Explains a kind of fault, or lists all kinds.
