@@ -7,6 +7,7 @@ ghost use Rattle.schema_program.specs.Performed.{IsPerformed};
 use crate::serving::run_serve;
 use clap::Error;
 use clap::error::ErrorKind;
+use grpcweb_core::Counted;
 use schema_command_line::{Task, task_of};
 use schema_commands::{
     SystemFolder, kind_names, run_answer, run_compile, run_describe, run_explain,
@@ -65,7 +66,9 @@ where
         Task::Explain { kind } => run_explain(kind, output),
         Task::Answer { root, plan, mode } => {
             let folder = SystemFolder::new(rt, root);
-            run_answer(rt, &folder, plan, mode, input, output)
+            let mut reader = Counted::new(input);
+            let mut writer = Counted::new(output);
+            run_answer(rt, &folder, plan, mode, &mut reader, &mut writer)
         }
         Task::Serve {
             root,
