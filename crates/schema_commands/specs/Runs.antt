@@ -1,16 +1,22 @@
 -- What a run of a command did to what its writer holds, by how it ended.
-use Rattle.std.specs.Prelude.{◌≡◌, ℕ, ◌+◌, List, [], ◌∷◌, ◌++◌, ◌⊎◌, map, Option, Result, Ok, Err}
+use Rattle.std.specs.Prelude.{◌≡◌, ℕ, ◌+◌, List, [], ◌∷◌, ◌++◌, ◌⊎◌, map, Option, Some, None, Result, Ok, Err, IfSome, string_bytes}
 use Rattle.std.specs.Io.KnownBytes.{Appends, Keeps}
+use Rattle.first_reach.specs.declared.mode.Mode.{Mode}
+use Rattle.grpcweb_core.specs.Exchange.{IsExchange}
+use Rattle.grpcweb_core.specs.Streams.{Reads, Writes}
+use Rattle.grpcweb_core.specs.declared.stream.IoFault.{IoFault}
 use Rattle.hex.specs.Hex.{encode_lower}
 use Rattle.proto_base.specs.Limits.{limit_of, standard_of}
 use Rattle.proto_base.specs.declared.fault.Fault.{Fault}
 use Rattle.proto_base.specs.declared.limits.Limit.{Limit}
 use Rattle.proto_base.specs.declared.limits.Limit.TheVariants.{FileBytes}
 use Rattle.proto_base.specs.declared.limits.Limits.{Limits}
+use Rattle.proto_compile.specs.Compilation.{Compilation, IsCompiled}
 use Rattle.proto_compile.specs.FaultSet.{IsLeastFault, told_by}
 use Rattle.proto_compile.specs.Sources.{name_of, text_of}
 use Rattle.proto_compile.specs.declared.source.Source.{Source}
 use Rattle.schema_devices.specs.Moved.{IsReadOf}
+use Rattle.schema_failure.specs.Faults.{of_exchange}
 use Rattle.schema_failure.specs.Placed.{located}
 use Rattle.schema_failure.specs.declared.failure.Failure.{Failure}
 use Rattle.schema_failure.specs.declared.failure.Failure.TheVariants as failure
@@ -71,3 +77,55 @@ IsSetOfTexts limits texts set = (sources : List Source) × AreSourcesOf texts so
 abbrev pub IsToldOfTexts : Limits → List NamedText → Failure → Type 0
 IsToldOfTexts limits texts f =
     (f ≡ failure.NoMemory) ⊎ ((sources : List Source) × AreSourcesOf texts sources × IsToldOf limits sources f)
+
+-- sources of these texts are compiled to this
+abbrev pub AreCompiledTo : Limits → List NamedText → Compilation → Type 0
+AreCompiledTo limits texts c = (sources : List Source) × AreSourcesOf texts sources × IsCompiled limits sources c
+
+-- the name and the bytes of each source of a folder, in the order of the names, where they are known
+abbrev pub Known : Type 0
+Known = Option (List (List ℕ × List ℕ))
+
+abbrev pub named_bytes : NamedText → List ℕ × List ℕ
+named_bytes text = (string_bytes text.name, bytes_of text)
+
+-- texts that may be those of a folder: the known ones, and no others
+abbrev pub AreTextsOf : Known → List NamedText → Type 0
+AreTextsOf known texts = IfSome known (λ sources. map named_bytes texts ≡ sources)
+
+abbrev pub IsCompiledTo : Limits → Known → Compilation → Type 0
+IsCompiledTo limits known c = (texts : List NamedText) × AreTextsOf known texts × AreCompiledTo limits texts c
+
+-- the failure is that the folder could not be read, want of memory, or the first fault of the folder's texts
+abbrev pub IsToldOfFolder : Limits → Known → Failure → Type 0
+IsToldOfFolder limits known f = (f ≡ failure.Folder) ⊎ ((f ≡ failure.NoMemory)
+    ⊎ ((texts : List NamedText) × AreTextsOf known texts × IsToldOfTexts limits texts f))
+
+-- a set goes to the writer, or to the file that is named, which may be where the writer writes
+abbrev pub IsSetWritten : {A : Type 0} → Option A → Option (List ℕ) → Option (List ℕ) → List ℕ → Type 0
+IsSetWritten None old new set = Appends old new set
+IsSetWritten (Some file) old new set = Keeps old new ⊎ Appends old new set
+
+-- the output failed, or memory was short before anything was written
+abbrev pub IsUnwritten : Option (List ℕ) → Option (List ℕ) → Failure → Type 0
+IsUnwritten old new f = (f ≡ failure.Output) ⊎ ((f ≡ failure.NoMemory) × Keeps old new)
+
+-- `compile`: the set of the folder's texts, or their first fault and nothing written
+abbrev pub IsCompileRun : {A : Type 0} → Known → Option A → Option (List ℕ) → Option (List ℕ) → Result (Unit {0}) Failure
+    → Type 0
+IsCompileRun known file old new (Ok a) =
+    (limits : Limits) × AreStandard limits × (texts : List NamedText) × AreTextsOf known texts
+    × (set : List ℕ) × IsSetOfTexts limits texts set × IsSetWritten file old new set
+IsCompileRun known file old new (Err f) =
+    (f ≡ failure.Output) ⊎ ((limits : Limits) × AreStandard limits × IsToldOfFolder limits known f × Keeps old new)
+
+-- `answer`: the exchange over what the folder's texts are compiled to; or their first fault, and nothing read or written
+abbrev pub IsAnswerRun : Known → Mode → Reads → Reads → Writes → Writes → Result (Unit {0}) Failure → Type 0
+IsAnswerRun known mode reads reads' writes writes' (Ok a) =
+    (limits : Limits) × AreStandard limits × (c : Compilation) × IsCompiledTo limits known c
+    × IsExchange mode c reads reads' writes writes' (Ok a)
+IsAnswerRun known mode reads reads' writes writes' (Err f) =
+    (limits : Limits) × AreStandard limits
+    × ((IsToldOfFolder limits known f × (reads' ≡ reads) × (writes' ≡ writes))
+    ⊎ ((c : Compilation) × IsCompiledTo limits known c × (fault : IoFault) × (f ≡ of_exchange fault)
+    × IsExchange {A = Unit {0}} mode c reads reads' writes writes' (Err fault)))

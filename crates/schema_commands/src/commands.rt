@@ -1,18 +1,19 @@
 //! The commands but `serve`: what each reads, and what it writes.
 
-ghost use Rattle.std.specs.Prelude.{[], ◌∷◌, IfErr, IfOk, string_bytes};
-ghost use Rattle.schema_commands.specs.Runs.{AreSourcesOf, IsDescribeRun, IsDigitsOf, IsSetOfTexts, IsToldOf, IsToldOfTexts};
+ghost use Rattle.std.specs.Prelude.{◌-◌, ◌<◌, ◌^◌, [], ◌∷◌, IfErr, IfOk, OnOk, string_bytes};
+ghost use Rattle.schema_commands.specs.Runs.{AreCompiledTo, AreSourcesOf, IsAnswerRun, IsCompileRun, IsCompiledTo, IsDescribeRun, IsDigitsOf, IsSetOfTexts, IsSetWritten, IsToldOf, IsToldOfFolder, IsToldOfTexts, IsUnwritten};
 
 use crate::explanation::{write_kind, write_kinds};
+use crate::folder::SourceFolder;
 use crate::whole_file::write_whole;
-use grpcweb_core::{Counted, Mode, answer_io};
+use grpcweb_core::{CountedRead, CountedWrite, Mode, answer_io};
 use proto_base::{Limit, Limits};
 use proto_compile::{CompileError, Compiled, Source, compile};
 use schema_devices::{read_input, write_bytes, write_line};
 use schema_failure::{Failure, locate};
 use schema_headline::{describe, set_of_sources};
 use share_work::{NoGate, Plan};
-use source_folder::{NamedText, read_folder};
+use source_folder::NamedText;
 use std::alloc::{AllocError, AllocGlobal, Global};
 use std::io::{Read, Write};
 use std::random::RandomSource;
@@ -85,82 +86,103 @@ where
     }
 }
 
-/// Compiles the sources below a folder, and writes the set to a file or, without one or where it is `-`, to the output.
-pub fn run_compile<R, O>(
+/// Writes a set to a file or, without one or where it is `-`, to the output.
+fn write_set<R, O>(rt: &R, file: Option<&str>, set: &[u8], output: &mut O) -> Result<(), Failure>
+where
+    R: Files + RandomSource + AllocGlobal,
+    O: Write,
+    ensures written { OnOk result (IsSetWritten file.entry (O.contents output.old)
+        (O.contents output.new) set.now) }
+    ensures refused { IfErr result (IsUnwritten (O.contents output.old) (O.contents output.new)) }
+{
+    match file {
+        Some("-") | None => write_bytes(output, set),
+        Some(path) => write_whole(rt, path, set, output),
+    }
+}
+
+/// Compiles the sources of a folder, and writes the set to a file or, without one or where it is `-`, to the output.
+pub fn run_compile<R, F, O>(
     rt: &R,
-    root: &str,
+    folder: &F,
     plan: Plan,
     file: Option<&str>,
     output: &mut O,
 ) -> Result<(), Failure>
 where
     R: Threads + Files + RandomSource + AllocGlobal + Sync,
+    F: SourceFolder,
     O: Write,
+    ensures { IsCompileRun (F.sources folder.now) file.entry (O.contents output.old)
+        (O.contents output.new) result }
 {
     let limits = Limits::standard();
-    let texts = read_folder(rt, root, &limits)?;
+    let texts = folder.read(&limits)?;
     let set = set_of_texts(rt, &texts, &limits, plan)?;
-    match file {
-        Some("-") | None => write_bytes(output, &set),
-        Some(path) => write_whole(rt, path, &set, output),
-    }
+    write_set(rt, file, &set, output)
 }
 
-/// What the sources below a folder are compiled to.
-pub fn compile_folder<R>(
+/// What read texts are compiled to, or their first fault.
+fn compile_texts<R>(
     rt: &R,
-    root: &str,
+    texts: &[NamedText],
     limits: &Limits,
     plan: Plan,
 ) -> Result<Compiled, Failure>
 where
-    R: Threads + Files + AllocGlobal + Sync,
+    R: Threads + AllocGlobal + Sync,
+    ensures compiled { IfOk result (AreCompiledTo limits.now texts.now) }
+    ensures refused { IfErr result (IsToldOfTexts limits.now texts.now) }
 {
-    let texts = read_folder(rt, root, limits)?;
-    let sources = sources_of(rt.alloc(), &texts)?;
-    match compile(rt, &sources, limits, plan, &NoGate) {
+    let sources = sources_of(rt.alloc(), texts)?;
+    let listed = sources.as_slice();
+    match compile(rt, listed, limits, plan, &NoGate) {
         Ok(compiled) => Ok(compiled),
         Err(CompileError::NoMemory) => Err(Failure::NoMemory),
-        Err(CompileError::First(fault)) => Err(locate(fault, &sources)),
+        Err(CompileError::First(fault)) => Err(locate(fault, listed)),
     }
 }
 
-/// Answers the request body on the input.
-fn answer_input<R, I, O>(
+/// What the sources of a folder are compiled to.
+pub fn compile_folder<R, F>(
     rt: &R,
-    compiled: &Compiled,
+    folder: &F,
+    limits: &Limits,
+    plan: Plan,
+) -> Result<Compiled, Failure>
+where
+    R: Threads + AllocGlobal + Sync,
+    F: SourceFolder,
+    ensures compiled { IfOk result (IsCompiledTo limits.now (F.sources folder.now)) }
+    ensures refused { IfErr result (IsToldOfFolder limits.now (F.sources folder.now)) }
+{
+    let texts = folder.read(limits)?;
+    compile_texts(rt, &texts, limits, plan)
+}
+
+/// Answers the request body that a reader gives over the sources of a folder.
+pub fn run_answer<R, F, I, O>(
+    rt: &R,
+    folder: &F,
     plan: Plan,
     mode: Mode,
-    input: I,
-    output: O,
+    reader: &mut I,
+    writer: &mut O,
 ) -> Result<(), Failure>
 where
     R: Threads + AllocGlobal + Sync,
-    I: Read + Drop,
-    O: Write + Drop,
+    F: SourceFolder,
+    I: CountedRead,
+    O: CountedWrite,
+    requires reader_counts { (I.reads reader.old).failures < 2 ^ 64 - 1 }
+    requires writer_counts { (O.writes writer.old).failures < 2 ^ 64 - 1 }
+    ensures { IsAnswerRun (F.sources folder.now) mode (I.reads reader.old) (I.reads reader.new)
+        (O.writes writer.old) (O.writes writer.new) result }
 {
-    let mut reader = Counted::new(input);
-    let mut writer = Counted::new(output);
-    answer_io(rt, compiled, plan, &NoGate, mode, &mut reader, &mut writer)?;
+    let limits = Limits::standard();
+    let compiled = compile_folder(rt, folder, &limits, plan)?;
+    answer_io(rt, &compiled, plan, &NoGate, mode, reader, writer)?;
     Ok(())
-}
-
-/// Answers the request body on the input over the sources below a folder.
-pub fn run_answer<R, I, O>(
-    rt: &R,
-    root: &str,
-    plan: Plan,
-    mode: Mode,
-    input: I,
-    output: O,
-) -> Result<(), Failure>
-where
-    R: Threads + Files + AllocGlobal + Sync,
-    I: Read + Drop,
-    O: Write + Drop,
-{
-    let compiled = compile_folder(rt, root, &Limits::standard(), plan)?;
-    answer_input(rt, &compiled, plan, mode, input, output)
 }
 
 /// Explains a kind of fault, or lists all kinds.

@@ -1,6 +1,10 @@
 //! A set that goes to a file. Where the system lets it be, the file is written whole or not at all: under a name beside
 //! it, which then takes its place.
 
+ghost use Rattle.std.specs.Prelude.{◌⊎◌, IfErr, OnOk};
+ghost use Rattle.std.specs.Io.KnownBytes.{Appends, Keeps};
+ghost use Rattle.schema_commands.specs.Runs.{IsUnwritten};
+
 use schema_devices::write_bytes;
 use schema_failure::Failure;
 use std::alloc::AllocGlobal;
@@ -250,6 +254,9 @@ pub(crate) fn write_whole<R, O>(
 where
     R: Files + RandomSource + AllocGlobal,
     O: Write,
+    ensures written { OnOk result (Keeps (O.contents output.old) (O.contents output.new)
+        ⊎ Appends (O.contents output.old) (O.contents output.new) bytes.now) }
+    ensures refused { IfErr result (IsUnwritten (O.contents output.old) (O.contents output.new)) }
 {
     let written = match place_of(rt, path) {
         Ok(Place::StandardOutput) => return write_bytes(output, bytes),
@@ -258,5 +265,8 @@ where
         Ok(Place::Free(free)) => replace(rt, free.as_path(), bytes, None),
         Err(error) => Err(error),
     };
-    written.map_err(|error| Failure::Output.unless_no_memory(&error))
+    match written {
+        Ok(()) => Ok(()),
+        Err(error) => Err(Failure::Output.unless_no_memory(&error)),
+    }
 }

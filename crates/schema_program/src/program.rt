@@ -7,8 +7,11 @@ ghost use Rattle.schema_program.specs.Performed.{IsPerformed};
 use crate::serving::run_serve;
 use clap::Error;
 use clap::error::ErrorKind;
+use grpcweb_core::Counted;
 use schema_command_line::{Task, task_of};
-use schema_commands::{kind_names, run_answer, run_compile, run_describe, run_explain};
+use schema_commands::{
+    SystemFolder, kind_names, run_answer, run_compile, run_describe, run_explain,
+};
 use schema_devices::write_failure;
 use schema_failure::{Failure, Status};
 use std::alloc::AllocGlobal;
@@ -56,9 +59,17 @@ where
 {
     match task {
         Task::Describe { name } => run_describe(rt, name, input, output),
-        Task::Compile { root, plan, file } => run_compile(rt, root, plan, file, output),
+        Task::Compile { root, plan, file } => {
+            let folder = SystemFolder::new(rt, root);
+            run_compile(rt, &folder, plan, file, output)
+        }
         Task::Explain { kind } => run_explain(kind, output),
-        Task::Answer { root, plan, mode } => run_answer(rt, root, plan, mode, input, output),
+        Task::Answer { root, plan, mode } => {
+            let folder = SystemFolder::new(rt, root);
+            let mut reader = Counted::new(input);
+            let mut writer = Counted::new(output);
+            run_answer(rt, &folder, plan, mode, &mut reader, &mut writer)
+        }
         Task::Serve {
             root,
             listen,

@@ -3,7 +3,7 @@
 use grpcweb_core::Mode;
 use grpcweb_service::serve;
 use proto_base::Limits;
-use schema_commands::compile_folder;
+use schema_commands::{SystemFolder, compile_folder};
 use schema_failure::Failure;
 use share_work::{NoGate, Plan};
 use std::alloc::AllocGlobal;
@@ -44,7 +44,8 @@ where
     R: Wait + Threads + Files + Clock + RandomSource + AllocGlobal + Sync + Clone + Drop + Net,
     O: Write,
 {
-    let compiled = compile_folder(rt, root, &Limits::standard(), plan)?;
+    let folder = SystemFolder::new(rt, root);
+    let compiled = compile_folder(rt, &folder, &Limits::standard(), plan)?;
     let shared = Arc::new(rt.alloc(), compiled)?;
     let (mut runtime, listener) = listen_at(rt, listen)?;
     let bound = listener.local_addr().map_err(|_| Failure::Listen)?;

@@ -1,6 +1,4 @@
-use Rattle.std.proofs.Common.{◌≡◌, map, take}
-use Rattle.proto_compile.specs.Sources.{name_of, text_of}
-use Rattle.source_folder.specs.Folder.{names_of}
+use Rattle.std.proofs.Common.{take}
 use Rattle.schema_commands.specs.Runs.{AreSourcesOf}
 use Rattle.schema_commands.proofs.commands.sources_of.Given as goal
 
