@@ -26,6 +26,7 @@ fail() {
 }
 
 start --root examples
+: >"$folder/bridge"
 "$python" -B examples/clients/bridge.py 127.0.0.1:0 "127.0.0.1:$port" >"$folder/bridge" 2>"$folder/bridge_faults" &
 bridge=$!
 turn=0
