@@ -7,9 +7,23 @@ cd "$(dirname "$(readlink -f "$0")")/.." || exit 2
 ln -s "$(readlink -f "$program")" "$folder/path/schema_server" || exit 2
 blocks docs/GUIDE.md
 
-# routed FILE: the page's routes in an nginx before the service, which then gets both paths, and no other.
+# through PATH WORDS..: the status of a request with these words of curl through nginx; its headers and body go to `head` and `got`.
+through() {
+    local path=$1
+    shift
+    curl -s --max-time 10 --unix-socket "$folder/nginx/socket" -D "$folder/head" -o "$folder/got" -w '%{http_code}' "$@" "http://gateway/$path"
+}
+
+# Whether the headers allow the guide's other origin.
+allows() {
+    tr -d '\r' <"$folder/head" | grep -qix 'access-control-allow-origin: https://pages.example'
+}
+
+# routed FILE: the page's routes in an nginx before the service, which then gets both paths, and no other. Where they answer OPTIONS,
+# pages of another origin may read what comes.
 routed() {
     local path turn=0
+    rm -rf "$folder/nginx"
     mkdir "$folder/nginx" || exit 2
     start --root examples
     {
@@ -28,11 +42,15 @@ routed() {
     printf '\0\0\0\0\2:\0' >"$folder/request"
     "$program" answer --root examples <"$folder/request" >"$folder/wanted"
     for path in v1 v1alpha; do
-        curl -s --max-time 10 --unix-socket "$folder/nginx/socket" --data-binary "@$folder/request" -H 'content-type: application/grpc-web' \
-            "http://gateway/grpc.reflection.$path.ServerReflection/ServerReflectionInfo" | cmp - "$folder/wanted" || fail "$path through nginx"
+        path=grpc.reflection.$path.ServerReflection/ServerReflectionInfo
+        through "$path" --data-binary "@$folder/request" -H 'content-type: application/grpc-web' >"$folder/status"
+        cmp "$folder/got" "$folder/wanted" || fail "$path through nginx"
+        if grep -q OPTIONS "$1"; then
+            allows || fail "$path through nginx: another origin may not read it"
+            [ "$(through "$path" -X OPTIONS)" = 204 ] && allows || fail "OPTIONS of $path through nginx"
+        fi
     done
-    [ "$(curl -s --max-time 10 --unix-socket "$folder/nginx/socket" -o "$folder/got" -w '%{http_code}' http://gateway/other)" = 404 ] \
-        || fail "another path through nginx: $(<"$folder/nginx/faults")"
+    [ "$(through other)" = 404 ] || fail "another path through nginx: $(<"$folder/nginx/faults")"
     kill "$gateway"
     wait "$gateway" 2>/dev/null
     stop
