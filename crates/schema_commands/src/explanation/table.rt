@@ -163,7 +163,7 @@ Where: that token.
 
     a.proto:2:21: Unexpected
 
-Cure: Look at what stands before it: most often a `;`, a `=` or a type is missing."#,
+Cure: Look at what stands before it: most often a `;`, a `=` or a type is missing. Where it is the first of the file, `syntax = "proto3";` is missing, or `edition` stands for it. A map has no label, and its key is an integer, a `bool` or a `string`; a member of a oneof has no label, and is no map; it is `returns`, not `return`."#,
         Kind::CustomOption =>
             r#"An option's name begins with `(`: an option that somebody declared with `extend`. Custom options are left out of this language.
 
@@ -185,7 +185,7 @@ Where: that word.
 
     a.proto:2:13: LeftOut
 
-Cure: Leave out `required`; turn a `group` into a message and a field. Files of proto2 are for protoc."#,
+Cure: Leave out `required`, and `weak` after `import`; turn a `group` into a message and a field. `extend` and `extensions` declare custom options and fields of proto2: take them out with what uses them. Files of proto2 are for protoc."#,
         Kind::TooDeep => r#"Messages stand in one another more than 64 deep.
 
 Where: the first token too deep.
@@ -204,7 +204,7 @@ Where: behind the last byte.
 
     a.proto:3:1: UnexpectedEnd
 
-Cure: Close the last brace."#,
+Cure: Close the last brace, or end the last statement with `;`."#,
         Kind::NotProto3Syntax => r#"The file names another syntax than proto3.
 
 Where: the syntax's string.
@@ -244,7 +244,7 @@ Where: the first token of the option's name.
 
     a.proto:2:8: UnknownOption
 
-Cure: Look for a spelling mistake. Features and other options that no table has are left out."#,
+Cure: Look for a spelling mistake. `default` is of proto2: in proto3 a field that is not set has 0, false, or nothing in it. Features and other options that no table has are left out."#,
         Kind::OptionTwice => r#"The element set this option before.
 
 Where: the first token of the option's name.
@@ -348,7 +348,7 @@ Where: the later field's name.
 
     a.proto:2:34: JsonNameTwice
 
-Cure: Rename one of them, or give it a `json_name`."#,
+Cure: Rename one of them, or give it a `json_name`. Two fields of the same name have one name in JSON, too."#,
         Kind::PackedOnWrongKind =>
             r#"`packed = true` on a field that is not repeated, is a string or bytes, or is a map.
 
@@ -443,7 +443,7 @@ Where: the import's string.
 
     a.proto:2:8: ImportMissing
 
-Cure: Set `--root` to the folder from which imports are written. Nothing is bundled: copy google/protobuf/*.proto from an installed protobuf if you import it."#,
+Cure: Set `--root` to the folder from which imports are written. Nothing is bundled: copy google/protobuf/*.proto from an installed protobuf if you import it. `describe` reads one file alone: a file with imports is for `compile`."#,
         Kind::ImportCycle => r#"The file imports itself, or a file that reaches it.
 
 Where: the import's string.
