@@ -4,12 +4,8 @@
 # protobuf-compiler) nothing is tested.
 set -u
 cd "$(dirname "$(readlink -f "$0")")/.." || exit 2
-python=
-for candidate in python3 /usr/bin/python3; do
-    if "$candidate" -c 'import grpc.aio, google.protobuf.message' 2>/dev/null; then
-        python=$candidate
-    fi
-done
+. tests/python.bash
+find_python 'grpc.aio, google.protobuf.message'
 if [ -z "$python" ] || ! command -v protoc >/dev/null; then
     echo 'tests/bridge.sh: python3-grpcio, python3-protobuf or protobuf-compiler is not installed, so the bridge was not run'
     exit 0

@@ -3,12 +3,8 @@
 # or protoc is not installed (packages python3-protobuf and protobuf-compiler) nothing is tested.
 set -u
 cd "$(dirname "$(readlink -f "$0")")/.." || exit 2
-python=
-for candidate in python3 /usr/bin/python3; do
-    if "$candidate" -c 'import google.protobuf.json_format' 2>/dev/null; then
-        python=$candidate
-    fi
-done
+. tests/python.bash
+find_python 'google.protobuf.json_format'
 if [ -z "$python" ] || ! command -v protoc >/dev/null; then
     echo 'tests/clients.sh: python3-protobuf or protobuf-compiler is not installed, so no client was run'
     exit 0

@@ -4,12 +4,8 @@
 # nginx or python3-protobuf is not installed nothing is tested.
 set -u
 cd "$(dirname "$(readlink -f "$0")")/.." || exit 2
-python=
-for candidate in python3 /usr/bin/python3; do
-    if "$candidate" -c 'import google.protobuf.message' 2>/dev/null; then
-        python=$candidate
-    fi
-done
+. tests/python.bash
+find_python 'google.protobuf.message'
 if [ -z "$python" ] || ! command -v chromium >/dev/null || ! command -v nginx >/dev/null; then
     echo 'tests/explore.sh: chromium, nginx or python3-protobuf is not installed, so the page was not shown'
     exit 0

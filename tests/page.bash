@@ -4,6 +4,7 @@
 # made is empty. Where the page's port is taken, a free one stands for it.
 . tests/serving.bash
 . tests/left.bash
+. tests/python.bash
 failures=0
 
 fail() {
@@ -12,14 +13,10 @@ fail() {
 }
 
 mkdir "$folder/blocks" "$folder/path" || exit 2
-for candidate in python3 /usr/bin/python3; do
-    if "$candidate" -c 'import google.protobuf' 2>/dev/null; then
-        printf '#!/bin/sh\nexec %s -B "$@"\n' "$(command -v "$candidate")" >"$folder/python3"
-    fi
-done
-if [ -f "$folder/python3" ]; then
-    chmod +x "$folder/python3"
-    mv "$folder/python3" "$folder/path/python3"
+find_python google.protobuf
+if [ -n "$python" ]; then
+    printf '#!/bin/sh\nexec %s -B "$@"\n' "$(command -v "$python")" >"$folder/path/python3"
+    chmod +x "$folder/path/python3"
 fi
 PATH=$folder/path:$PATH
 
