@@ -4,41 +4,58 @@ use crate::words::whole_command;
 use clap::error::ErrorKind;
 use clap::{ArgMatches, Error};
 use first_reach::Mode;
+use schema_explanation::Topic;
 use share_work::Plan;
 use std::alloc::{AllocError, Global};
+
+/// Which sources a run is over.
+#[derive(Drop)]
+pub struct Selection<'a> {
+    /// The folder that has them. A source's name is its path from there.
+    pub root: &'a str,
+    /// The folders in which an import is looked for that the root doesn't have, in their order.
+    pub includes: Vec<&'a str>,
+    /// The sources that are named; none where all below the root are meant.
+    pub files: Vec<&'a str>,
+}
 
 /// What one run is to do.
 #[derive(Drop)]
 pub enum Task<'a> {
-    /// Describe the source on the input, under this file name.
-    Describe {
-        name: &'a str,
-    },
-    /// Compile the sources below a folder.
+    /// Compile sources.
     Compile {
-        root: &'a str,
+        selection: Selection<'a>,
         plan: Plan,
         /// The file that the set goes to; without one it goes to the output.
         file: Option<&'a str>,
     },
-    /// Answer the request body on the input, over the sources below a folder.
-    Answer {
-        root: &'a str,
+    /// Tell the faults of sources.
+    Check {
+        selection: Selection<'a>,
         plan: Plan,
-        mode: Mode,
     },
-    /// Serve reflection over HTTP at an address and a port, over the sources below a folder.
+    /// Serve reflection over sources by HTTP, at an address and a port.
     Serve {
-        root: &'a str,
+        selection: Selection<'a>,
         listen: &'a str,
         plan: Plan,
         mode: Mode,
         /// How many connections are served; without a count there is no end.
         connections: Option<u64>,
     },
-    /// Explain a kind of fault, or list all kinds.
+    /// Answer the request body on the input over sources.
+    Answer {
+        selection: Selection<'a>,
+        plan: Plan,
+        mode: Mode,
+    },
+    /// Describe the source on the input, under this file name.
+    Describe {
+        name: &'a str,
+    },
+    /// Explain a kind of fault or another line, or list all.
     Explain {
-        kind: Option<&'a str>,
+        topic: Option<Topic>,
     },
 }
 
@@ -57,63 +74,114 @@ fn plan_of(matches: &ArgMatches<'_>) -> Plan {
     Plan::new(workers, cut).unwrap_or(Plan::single())
 }
 
-/// What `clap` finds in the words.
-fn matches_of<'a>(
+/// All values of an argument.
+fn values_of<'a>(
     alloc: Global,
-    words: &'a [&'a str],
-    kinds: &'a [&'a str],
-) -> Result<ArgMatches<'a>, Error> {
-    let mut command = whole_command(alloc, kinds)?;
-    command.try_get_matches_from_mut(words)
+    matches: &ArgMatches<'a>,
+    name: &str,
+) -> Result<Vec<&'a str>, AllocError> {
+    match matches.get_strs(name) {
+        Some(values) => Vec::from_slice(alloc, values),
+        None => Ok(Vec::new(alloc)),
+    }
+}
+
+fn selection_of<'a>(alloc: Global, matches: &ArgMatches<'a>) -> Result<Selection<'a>, AllocError> {
+    Ok(Selection {
+        root: matches.get_str("root").unwrap_or(""),
+        includes: values_of(alloc, matches, "include")?,
+        files: values_of(alloc, matches, "files")?,
+    })
+}
+
+/// A mistake in the words, as `clap` tells it.
+fn mistake(alloc: Global, kind: ErrorKind, said: &str) -> Result<Error, AllocError> {
+    let mut command = whole_command(alloc)?;
+    command.error(kind, said)
+}
+
+/// What is said of a line that names no topic.
+fn unknown_topic(alloc: Global, line: &str) -> Result<Error, AllocError> {
+    let said = match Topic::nearest(alloc, line)? {
+        Some(near) => format!(in alloc;
+            "nothing is called '{line}'; a similar name is '{}'",
+            near.name()
+        )?,
+        None => format!(in alloc; "nothing is called '{line}'; `explain` alone lists all")?,
+    };
+    mistake(alloc, ErrorKind::InvalidValue, said.as_str())
+}
+
+/// The topic of the words behind `explain`, which are one line and name it at their end.
+fn topic_of(alloc: Global, matches: &ArgMatches<'_>) -> Result<Option<Topic>, Error> {
+    let words = matches.get_strs("words").unwrap_or(&[]);
+    let Some(line) = words.last() else {
+        return Ok(None);
+    };
+    match Topic::named(line) {
+        Some(topic) => Ok(Some(topic)),
+        None => Err(unknown_topic(alloc, line)?),
+    }
+}
+
+/// The task of a command, by its name and what was found in the words behind it.
+fn task_named<'a>(
+    alloc: Global,
+    name: &str,
+    matches: &ArgMatches<'a>,
+) -> Result<Option<Task<'a>>, Error> {
+    let task = match name {
+        "compile" => Task::Compile {
+            selection: selection_of(alloc, matches)?,
+            plan: plan_of(matches),
+            file: matches.get_str("output"),
+        },
+        "check" => Task::Check {
+            selection: selection_of(alloc, matches)?,
+            plan: plan_of(matches),
+        },
+        "serve" => Task::Serve {
+            selection: selection_of(alloc, matches)?,
+            listen: matches.get_str("listen").unwrap_or(""),
+            plan: plan_of(matches),
+            mode: mode_of(matches),
+            connections: matches.get_one::<u64>("connections"),
+        },
+        "answer" => Task::Answer {
+            selection: selection_of(alloc, matches)?,
+            plan: plan_of(matches),
+            mode: mode_of(matches),
+        },
+        "describe" => Task::Describe {
+            name: matches.get_str("name").unwrap_or(""),
+        },
+        "explain" => Task::Explain {
+            topic: topic_of(alloc, matches)?,
+        },
+        _ => return Ok(None),
+    };
+    Ok(Some(task))
 }
 
 /// The task that was found in the words, if they name a command.
-fn task_in<'a>(matches: &ArgMatches<'a>) -> Option<Task<'a>> {
-    let task = match matches.subcommand()? {
-        ("describe", describe) => Task::Describe {
-            name: describe.get_str("name").unwrap_or(""),
-        },
-        ("compile", compile) => Task::Compile {
-            root: compile.get_str("root").unwrap_or(""),
-            plan: plan_of(compile),
-            file: compile.get_str("output"),
-        },
-        ("answer", answer) => Task::Answer {
-            root: answer.get_str("root").unwrap_or(""),
-            plan: plan_of(answer),
-            mode: mode_of(answer),
-        },
-        ("serve", serve) => Task::Serve {
-            root: serve.get_str("root").unwrap_or(""),
-            listen: serve.get_str("listen").unwrap_or(""),
-            plan: plan_of(serve),
-            mode: mode_of(serve),
-            connections: serve.get_one::<u64>("connections"),
-        },
-        ("explain", explain) => Task::Explain {
-            kind: explain.get_str("kind"),
-        },
-        _ => return None,
-    };
-    Some(task)
+fn task_in<'a>(alloc: Global, matches: &ArgMatches<'a>) -> Result<Option<Task<'a>>, Error> {
+    match matches.subcommand() {
+        Some((name, found)) => task_named(alloc, name, found),
+        None => Ok(None),
+    }
 }
 
-/// That the words name no command.
-fn no_command(alloc: Global, kinds: &[&str]) -> Result<Error, AllocError> {
-    let mut command = whole_command(alloc, kinds)?;
-    command.error(ErrorKind::MissingSubcommand, "no command was given")
+/// What `clap` finds in the words.
+fn matches_of<'a>(alloc: Global, words: &'a [&'a str]) -> Result<ArgMatches<'a>, Error> {
+    let mut command = whole_command(alloc)?;
+    command.try_get_matches_from_mut(words)
 }
 
-/// The task that the words give, whose first is the program's name, or `clap`'s text for the user. `kinds` are the names that
-/// can be explained.
-pub fn task_of<'a>(
-    alloc: Global,
-    words: &'a [&'a str],
-    kinds: &'a [&'a str],
-) -> Result<Task<'a>, Error> {
-    let matches = matches_of(alloc, words, kinds)?;
-    match task_in(&matches) {
+/// The task that the words give, whose first is the program's name, or `clap`'s text for the user.
+pub fn task_of<'a>(alloc: Global, words: &'a [&'a str]) -> Result<Task<'a>, Error> {
+    let matches = matches_of(alloc, words)?;
+    match task_in(alloc, &matches)? {
         Some(task) => Ok(task),
-        None => Err(no_command(alloc, kinds)?),
+        None => Err(mistake(alloc, ErrorKind::MissingSubcommand, "no command was given")?),
     }
 }

@@ -6,17 +6,10 @@ use std::alloc::{AllocError, Global};
 /// The version that `--version` prints: the program's, and the logic in which it is proved, which several kits have.
 static VERSION: &str = "1.0.0, logic dac8208d650f15bf";
 
-fn describe_command<'a>(alloc: Global) -> Result<Command<'a>, AllocError> {
-    let name = Arg::new(alloc, "name")
-        .value_name("NAME")
-        .required(true)
-        .help("the name of the file, as an import would write it");
-    Command::new(alloc, "describe")
-        .about(
-            "Reads one proto3 source from standard input and prints its FileDescriptorProto in hexadecimal digits",
-        )
-        .arg(name)
-}
+/// What `--help` says last.
+static STATUSES: &str =
+    "Exit status: 0 done; 1 the sources have a fault; 2 the command line is wrong; 3 a folder, a file or a connection failed;
+4 no memory. `schema_server explain` lists the lines that are printed, and `explain LINE` says what one means.";
 
 fn root_argument<'a>(alloc: Global) -> Arg<'a> {
     Arg::new(alloc, "root")
@@ -25,6 +18,25 @@ fn root_argument<'a>(alloc: Global) -> Arg<'a> {
         .required(true)
         .help(
             "the folder: every file below it that ends in .proto is a source, named by its path from there",
+        )
+}
+
+fn include_argument<'a>(alloc: Global) -> Arg<'a> {
+    Arg::new(alloc, "include")
+        .long("include")
+        .value_name("DIR")
+        .action(ArgAction::Append)
+        .help(
+            "a folder in which an import is looked for that the root doesn't have; any number of times",
+        )
+}
+
+fn files_argument<'a>(alloc: Global) -> Arg<'a> {
+    Arg::new(alloc, "files")
+        .value_name("FILE")
+        .num_args(0..)
+        .help(
+            "take these files alone, by their paths from the root, and what they import; without a file all below the root",
         )
 }
 
@@ -44,13 +56,21 @@ fn count_argument<'a>(
         .help(help)
 }
 
-/// The command with the arguments that make a plan.
-fn with_plan<'a>(alloc: Global, command: Command<'a>) -> Result<Command<'a>, AllocError> {
+/// A command over sources, with the arguments that say which, and by how many workers.
+fn source_command<'a>(
+    alloc: Global,
+    name: &'a str,
+    about: &'a str,
+) -> Result<Command<'a>, AllocError> {
     let workers_help = "how many workers share the work, 1 to 64";
     let cut_help = "how many files a worker takes at a time, 1 to 4096";
-    command
+    Command::new(alloc, name)
+        .about(about)
+        .arg(root_argument(alloc))?
+        .arg(include_argument(alloc))?
         .arg(count_argument(alloc, "workers", 64, "4", workers_help))?
-        .arg(count_argument(alloc, "cut", 4096, "16", cut_help))
+        .arg(count_argument(alloc, "cut", 4096, "16", cut_help))?
+        .arg(files_argument(alloc))
 }
 
 fn output_argument<'a>(alloc: Global) -> Arg<'a> {
@@ -63,11 +83,14 @@ fn output_argument<'a>(alloc: Global) -> Arg<'a> {
 }
 
 fn compile_command<'a>(alloc: Global) -> Result<Command<'a>, AllocError> {
-    let command = Command::new(alloc, "compile")
-        .about("Compiles the proto3 sources below a folder and writes their FileDescriptorSet")
-        .arg(root_argument(alloc))?
-        .arg(output_argument(alloc))?;
-    with_plan(alloc, command)
+    let about = "Compiles the proto3 sources below a folder and writes their FileDescriptorSet";
+    source_command(alloc, "compile", about)?.arg(output_argument(alloc))
+}
+
+fn check_command<'a>(alloc: Global) -> Result<Command<'a>, AllocError> {
+    let about =
+        "Tells the faults of the proto3 sources below a folder, each with its line, its meaning and its cure";
+    source_command(alloc, "check", about)
 }
 
 fn repeat_argument<'a>(alloc: Global) -> Arg<'a> {
@@ -78,13 +101,9 @@ fn repeat_argument<'a>(alloc: Global) -> Arg<'a> {
 }
 
 fn answer_command<'a>(alloc: Global) -> Result<Command<'a>, AllocError> {
-    let command = Command::new(alloc, "answer")
-        .about(
-            "Reads the request body of a gRPC-Web reflection stream from standard input and writes the response body",
-        )
-        .arg(root_argument(alloc))?
-        .arg(repeat_argument(alloc))?;
-    with_plan(alloc, command)
+    let about =
+        "Reads the request body of a gRPC-Web reflection stream from standard input and writes the response body";
+    source_command(alloc, "answer", about)?.arg(repeat_argument(alloc))
 }
 
 fn listen_argument<'a>(alloc: Global) -> Arg<'a> {
@@ -104,25 +123,37 @@ fn connections_argument<'a>(alloc: Global) -> Arg<'a> {
 }
 
 fn serve_command<'a>(alloc: Global) -> Result<Command<'a>, AllocError> {
-    let command = Command::new(alloc, "serve")
-        .about("Serves gRPC reflection as gRPC-Web over HTTP/1.1, one connection after the other")
-        .arg(root_argument(alloc))?
+    let about = "Serves gRPC reflection as gRPC-Web over HTTP/1.1, one connection after the other";
+    source_command(alloc, "serve", about)?
         .arg(listen_argument(alloc))?
         .arg(connections_argument(alloc))?
-        .arg(repeat_argument(alloc))?;
-    with_plan(alloc, command)
+        .arg(repeat_argument(alloc))
 }
 
-fn explain_command<'a>(alloc: Global, kinds: &'a [&'a str]) -> Result<Command<'a>, AllocError> {
-    let kind = Arg::new(alloc, "kind")
-        .value_name("KIND")
-        .value_parser(kinds)
+fn describe_command<'a>(alloc: Global) -> Result<Command<'a>, AllocError> {
+    let name = Arg::new(alloc, "name")
+        .value_name("NAME")
+        .required(true)
+        .help("the name of the file, as an import would write it");
+    Command::new(alloc, "describe")
+        .about(
+            "Reads one proto3 source from standard input and prints its FileDescriptorProto in hexadecimal digits",
+        )
+        .arg(name)
+}
+
+fn explain_command<'a>(alloc: Global) -> Result<Command<'a>, AllocError> {
+    let words = Arg::new(alloc, "words")
+        .value_name("LINE")
+        .num_args(0..)
         .help(
-            "the kind of a fault, as it is printed behind its line and column; without it all kinds are listed",
+            "a kind of fault, or a whole line that was printed; without it all kinds and lines are listed",
         );
     Command::new(alloc, "explain")
-        .about("Prints what a kind of fault means, the smallest source that has it, and its cure")
-        .arg(kind)
+        .about(
+            "Prints what a fault or another line means, the smallest source that has it, and its cure",
+        )
+        .arg(words)
 }
 
 /// The command with one of its own commands, if there was memory for that.
@@ -133,20 +164,19 @@ fn with_command<'a>(
     command.subcommand(added?)
 }
 
-/// The program, with its commands. `kinds` are the names that can be explained.
-pub(crate) fn whole_command<'a>(
-    alloc: Global,
-    kinds: &'a [&'a str],
-) -> Result<Command<'a>, AllocError> {
+/// The program, with its commands.
+pub(crate) fn whole_command<'a>(alloc: Global) -> Result<Command<'a>, AllocError> {
     let command = Command::new(alloc, "schema_server")
         .about(
             "A schema server for Protocol Buffers: compiles proto3 sources to descriptors and answers reflection",
         )
+        .after_help(STATUSES)
         .version(VERSION)
         .subcommand_required(true);
-    let command = with_command(command, describe_command(alloc))?;
     let command = with_command(command, compile_command(alloc))?;
-    let command = with_command(command, answer_command(alloc))?;
+    let command = with_command(command, check_command(alloc))?;
     let command = with_command(command, serve_command(alloc))?;
-    with_command(command, explain_command(alloc, kinds))
+    let command = with_command(command, answer_command(alloc))?;
+    let command = with_command(command, describe_command(alloc))?;
+    with_command(command, explain_command(alloc))
 }

@@ -1,62 +1,68 @@
-//! The explanation of each kind: what it means, where it stands, the smallest source that has it or the commands that write one,
-//! the line that is printed, and the cure. docs/FAULTS.md has the same words, and what protoc says of each source.
+//! What is said of each topic. docs/explanations writes this file from docs/FAULTS.md.
 
+use crate::topic::Topic;
 use proto_base::Kind;
 
-/// All kinds, in the order of the passes that tell them.
-pub(super) static KINDS: [Kind; 46] = [
-    Kind::TooManyFiles,
-    Kind::FileNameTwice,
-    Kind::NotUtf8,
-    Kind::BadByte,
-    Kind::BadNumber,
-    Kind::NumberTooBig,
-    Kind::BadEscape,
-    Kind::UnclosedString,
-    Kind::UnclosedComment,
-    Kind::FileTooLong,
-    Kind::Unexpected,
-    Kind::CustomOption,
-    Kind::LeftOut,
-    Kind::TooDeep,
-    Kind::UnexpectedEnd,
-    Kind::NotProto3Syntax,
-    Kind::PackageTwice,
-    Kind::ImportTwice,
-    Kind::UnknownOption,
-    Kind::OptionTwice,
-    Kind::BadOptionValue,
-    Kind::FieldNumberRange,
-    Kind::FieldNumberTwice,
-    Kind::ReservedNumberUsed,
-    Kind::ReservedNameUsed,
-    Kind::ReservedOverlap,
-    Kind::ReservedNameTwice,
-    Kind::ReservedBackwards,
-    Kind::JsonNameTwice,
-    Kind::PackedOnWrongKind,
-    Kind::JstypeOnWrongKind,
-    Kind::EnumEmpty,
-    Kind::EnumFirstNotZero,
-    Kind::EnumNumberRange,
-    Kind::EnumNumberTwice,
-    Kind::OneofEmpty,
-    Kind::NameTooLong,
-    Kind::ImportMissing,
-    Kind::ImportCycle,
-    Kind::NameTwice,
-    Kind::TooManyNames,
-    Kind::TypeNotFound,
-    Kind::TypeNotMessage,
-    Kind::PackedOnMessage,
-    Kind::DescriptorTooLong,
-    Kind::SetTooLong,
+/// All topics, in the order of the page.
+pub(crate) static TOPICS: [Topic; 52] = [
+    Topic::Kind(Kind::TooManyFiles),
+    Topic::Kind(Kind::FileNameTwice),
+    Topic::Kind(Kind::NotUtf8),
+    Topic::Kind(Kind::BadByte),
+    Topic::Kind(Kind::BadNumber),
+    Topic::Kind(Kind::NumberTooBig),
+    Topic::Kind(Kind::BadEscape),
+    Topic::Kind(Kind::UnclosedString),
+    Topic::Kind(Kind::UnclosedComment),
+    Topic::Kind(Kind::FileTooLong),
+    Topic::Kind(Kind::Unexpected),
+    Topic::Kind(Kind::CustomOption),
+    Topic::Kind(Kind::LeftOut),
+    Topic::Kind(Kind::TooDeep),
+    Topic::Kind(Kind::UnexpectedEnd),
+    Topic::Kind(Kind::NotProto3Syntax),
+    Topic::Kind(Kind::PackageTwice),
+    Topic::Kind(Kind::ImportTwice),
+    Topic::Kind(Kind::UnknownOption),
+    Topic::Kind(Kind::OptionTwice),
+    Topic::Kind(Kind::BadOptionValue),
+    Topic::Kind(Kind::FieldNumberRange),
+    Topic::Kind(Kind::FieldNumberTwice),
+    Topic::Kind(Kind::ReservedNumberUsed),
+    Topic::Kind(Kind::ReservedNameUsed),
+    Topic::Kind(Kind::ReservedOverlap),
+    Topic::Kind(Kind::ReservedNameTwice),
+    Topic::Kind(Kind::ReservedBackwards),
+    Topic::Kind(Kind::JsonNameTwice),
+    Topic::Kind(Kind::PackedOnWrongKind),
+    Topic::Kind(Kind::JstypeOnWrongKind),
+    Topic::Kind(Kind::EnumEmpty),
+    Topic::Kind(Kind::EnumFirstNotZero),
+    Topic::Kind(Kind::EnumNumberRange),
+    Topic::Kind(Kind::EnumNumberTwice),
+    Topic::Kind(Kind::OneofEmpty),
+    Topic::Kind(Kind::NameTooLong),
+    Topic::Kind(Kind::ImportMissing),
+    Topic::Kind(Kind::ImportCycle),
+    Topic::Kind(Kind::NameTwice),
+    Topic::Kind(Kind::TooManyNames),
+    Topic::Kind(Kind::TypeNotFound),
+    Topic::Kind(Kind::TypeNotMessage),
+    Topic::Kind(Kind::PackedOnMessage),
+    Topic::Kind(Kind::DescriptorTooLong),
+    Topic::Kind(Kind::SetTooLong),
+    Topic::Folder,
+    Topic::Listen,
+    Topic::Input,
+    Topic::Output,
+    Topic::Accept,
+    Topic::Memory,
 ];
 
-/// What is said of a kind. The first line says what it means.
-pub(super) fn explanation_of(kind: Kind) -> &'static str {
-    match kind {
-        Kind::TooManyFiles => "There are more than 16,384 files below the root.
+/// What is said of a topic: its first line says what it means, its last how it is cured.
+pub(crate) fn text_of(topic: Topic) -> &'static str {
+    match topic {
+        Topic::Kind(Kind::TooManyFiles) => "There are more than 16,384 files below the root.
 
 Where: no file, and line 1, column 1.
 
@@ -65,13 +71,13 @@ Where: no file, and line 1, column 1.
     :1:1: TooManyFiles
 
 Cure: Compile a folder further below.",
-        Kind::FileNameTwice =>
+        Topic::Kind(Kind::FileNameTwice) =>
             "Two sources have one name. A folder has no two such files: it is met only where sources come from elsewhere.
 
 Where: the start of the file.
 
 Cure: Give each source a name of its own.",
-        Kind::NotUtf8 =>
+        Topic::Kind(Kind::NotUtf8) =>
             r#"The file holds bytes that are no UTF-8, at the first byte that belongs to no whole character. Comments and strings count.
 
 Where: that byte.
@@ -81,7 +87,7 @@ Where: that byte.
     a.proto:2:7: NotUtf8
 
 Cure: Save the file as UTF-8 (`iconv -f latin1 -t utf-8`)."#,
-        Kind::BadByte =>
+        Topic::Kind(Kind::BadByte) =>
             r#"A byte outside comments and strings that begins no token: a control character, or one beyond ASCII.
 
 Where: that byte.
@@ -92,7 +98,7 @@ Where: that byte.
     a.proto:2:9: BadByte
 
 Cure: Names are ASCII letters, digits and `_`. An invisible character, such as a no-break space, is often what stands there."#,
-        Kind::BadNumber =>
+        Topic::Kind(Kind::BadNumber) =>
             r#"No digit stands behind `0x`, or a letter, a digit, `_` or `.` follows a number directly. Floating-point numbers are no tokens here.
 
 Where: the number's first digit.
@@ -103,7 +109,7 @@ Where: the number's first digit.
     a.proto:2:23: BadNumber
 
 Cure: A number that begins with 0 is octal: write `8`. A default or an option with a floating-point value is not part of this language."#,
-        Kind::NumberTooBig => r#"A number is over 18,446,744,073,709,551,615.
+        Topic::Kind(Kind::NumberTooBig) => r#"A number is over 18,446,744,073,709,551,615.
 
 Where: the number's first digit.
 
@@ -113,7 +119,7 @@ Where: the number's first digit.
     a.proto:2:23: NumberTooBig
 
 Cure: Field numbers go to 536,870,911, enum numbers to 2,147,483,647."#,
-        Kind::BadEscape =>
+        Topic::Kind(Kind::BadEscape) =>
             r#"A backslash in a string that begins no escape, or whose digits are missing or name no character.
 
 Where: the backslash, or the opening quote where each escape is one and the value of the whole string is no UTF-8.
@@ -124,7 +130,7 @@ Where: the backslash, or the opening quote where each escape is one and the valu
     a.proto:2:25: BadEscape
 
 Cure: Write `\\` for a backslash. The escapes are those of the specification; a pair of surrogates is not taken as one character."#,
-        Kind::UnclosedString =>
+        Topic::Kind(Kind::UnclosedString) =>
             r#"A string ends at the end of its line or of the file, without its quote.
 
 Where: its opening quote.
@@ -135,7 +141,7 @@ Where: its opening quote.
     a.proto:2:23: UnclosedString
 
 Cure: Close the quote on the same line. Adjacent strings join, so a long text can stand on several lines."#,
-        Kind::UnclosedComment => r#"A comment that `/*` begins has no `*/`.
+        Topic::Kind(Kind::UnclosedComment) => r#"A comment that `/*` begins has no `*/`.
 
 Where: its `/`.
 
@@ -145,7 +151,7 @@ Where: its `/`.
     a.proto:2:1: UnclosedComment
 
 Cure: Close it. Comments do not nest: the first `*/` ends one."#,
-        Kind::FileTooLong => r#"The file has more than 4,194,304 bytes.
+        Topic::Kind(Kind::FileTooLong) => r#"The file has more than 4,194,304 bytes.
 
 Where: the start of the file.
 
@@ -154,7 +160,7 @@ Where: the start of the file.
     a.proto:1:1: FileTooLong
 
 Cure: Split the file."#,
-        Kind::Unexpected => r#"This token cannot stand here.
+        Topic::Kind(Kind::Unexpected) => r#"This token cannot stand here.
 
 Where: that token.
 
@@ -164,7 +170,7 @@ Where: that token.
     a.proto:2:21: Unexpected
 
 Cure: Look at what stands before it: most often a `;`, a `=` or a type is missing. Where it is the first of the file, `syntax = "proto3";` is missing, or `edition` stands for it. A map has no label, and its key is an integer, a `bool` or a `string`; a member of a oneof has no label, and is no map; it is `returns`, not `return`."#,
-        Kind::CustomOption =>
+        Topic::Kind(Kind::CustomOption) =>
             r#"An option's name begins with `(`: an option that somebody declared with `extend`. Custom options are left out of this language.
 
 Where: the `(`.
@@ -175,7 +181,7 @@ Where: the `(`.
     a.proto:2:20: CustomOption
 
 Cure: Keep such options in the sources of the tools that read them; they are not written to a descriptor here."#,
-        Kind::LeftOut =>
+        Topic::Kind(Kind::LeftOut) =>
             r#"A word of proto2 or of editions where it would begin a statement: `extend`, `extensions`, `group`, `required`, `weak`.
 
 Where: that word.
@@ -186,7 +192,7 @@ Where: that word.
     a.proto:2:13: LeftOut
 
 Cure: Leave out `required`, and `weak` after `import`; turn a `group` into a message and a field. `extend` and `extensions` declare custom options and fields of proto2: take them out with what uses them. Files of proto2 are for protoc."#,
-        Kind::TooDeep => r#"Messages stand in one another more than 64 deep.
+        Topic::Kind(Kind::TooDeep) => r#"Messages stand in one another more than 64 deep.
 
 Where: the first token too deep.
 
@@ -195,7 +201,7 @@ Where: the first token too deep.
     a.proto:2:705: TooDeep
 
 Cure: Move inner messages to the top, and name them from there."#,
-        Kind::UnexpectedEnd => r#"The file ends in the middle of a statement.
+        Topic::Kind(Kind::UnexpectedEnd) => r#"The file ends in the middle of a statement.
 
 Where: behind the last byte.
 
@@ -205,7 +211,7 @@ Where: behind the last byte.
     a.proto:3:1: UnexpectedEnd
 
 Cure: Close the last brace, or end the last statement with `;`."#,
-        Kind::NotProto3Syntax => r#"The file names another syntax than proto3.
+        Topic::Kind(Kind::NotProto3Syntax) => r#"The file names another syntax than proto3.
 
 Where: the syntax's string.
 
@@ -214,7 +220,7 @@ Where: the syntax's string.
     a.proto:1:10: NotProto3Syntax
 
 Cure: Write `syntax = "proto3";`, and mend what proto3 has no longer; or leave the file to protoc."#,
-        Kind::PackageTwice => r#"There is a second package statement.
+        Topic::Kind(Kind::PackageTwice) => r#"There is a second package statement.
 
 Where: the second `package`.
 
@@ -224,7 +230,7 @@ Where: the second `package`.
     a.proto:2:12: PackageTwice
 
 Cure: A file has one package."#,
-        Kind::ImportTwice => r#"An import that an earlier one equals.
+        Topic::Kind(Kind::ImportTwice) => r#"An import that an earlier one equals.
 
 Where: the later import's string.
 
@@ -234,7 +240,7 @@ Where: the later import's string.
     a.proto:2:20: ImportTwice
 
 Cure: Leave one of them out."#,
-        Kind::UnknownOption =>
+        Topic::Kind(Kind::UnknownOption) =>
             r#"The element may not have an option of this name. The options of each element are listed in docs/LANGUAGE.md.
 
 Where: the first token of the option's name.
@@ -245,7 +251,7 @@ Where: the first token of the option's name.
     a.proto:2:8: UnknownOption
 
 Cure: Look for a spelling mistake. `default` is of proto2: in proto3 a field that is not set has 0, false, or nothing in it. Features and other options that no table has are left out."#,
-        Kind::OptionTwice => r#"The element set this option before.
+        Topic::Kind(Kind::OptionTwice) => r#"The element set this option before.
 
 Where: the first token of the option's name.
 
@@ -255,7 +261,7 @@ Where: the first token of the option's name.
     a.proto:2:34: OptionTwice
 
 Cure: Leave one of them out."#,
-        Kind::BadOptionValue =>
+        Topic::Kind(Kind::BadOptionValue) =>
             r#"The option takes a value of another kind: a string, a number, `true` or `false`, or one of its words.
 
 Where: the first token of the value.
@@ -266,7 +272,7 @@ Where: the first token of the value.
     a.proto:2:21: BadOptionValue
 
 Cure: Look the option up in docs/LANGUAGE.md."#,
-        Kind::FieldNumberRange =>
+        Topic::Kind(Kind::FieldNumberRange) =>
             r#"A field number or a bound of a reserved range that is not 1 to 536,870,911, or a field number from 19,000 to 19,999, which are kept for implementations.
 
 Where: the number.
@@ -277,7 +283,7 @@ Where: the number.
     a.proto:2:23: FieldNumberRange
 
 Cure: Take another number."#,
-        Kind::FieldNumberTwice =>
+        Topic::Kind(Kind::FieldNumberTwice) =>
             r#"An earlier field of the message has this number. Members of oneofs are fields of the message.
 
 Where: the later field's number.
@@ -288,7 +294,8 @@ Where: the later field's number.
     a.proto:2:36: FieldNumberTwice
 
 Cure: Give the new field a number that none had before."#,
-        Kind::ReservedNumberUsed => r#"The number of a field or of an enum's value is reserved.
+        Topic::Kind(Kind::ReservedNumberUsed) =>
+            r#"The number of a field or of an enum's value is reserved.
 
 Where: the number, or its `-`.
 
@@ -298,7 +305,8 @@ Where: the number, or its `-`.
     a.proto:2:35: ReservedNumberUsed
 
 Cure: Take another number: what was reserved was in use once, and old data may hold it."#,
-        Kind::ReservedNameUsed => r#"The name of a field or of an enum's value is reserved.
+        Topic::Kind(Kind::ReservedNameUsed) =>
+            r#"The name of a field or of an enum's value is reserved.
 
 Where: the name.
 
@@ -308,7 +316,8 @@ Where: the name.
     a.proto:2:33: ReservedNameUsed
 
 Cure: Take another name."#,
-        Kind::ReservedOverlap => r#"A reserved range shares a number with an earlier one.
+        Topic::Kind(Kind::ReservedOverlap) =>
+            r#"A reserved range shares a number with an earlier one.
 
 Where: the later range's first token.
 
@@ -318,7 +327,7 @@ Where: the later range's first token.
     a.proto:2:30: ReservedOverlap
 
 Cure: Make one range of both."#,
-        Kind::ReservedNameTwice => r#"A name is reserved twice.
+        Topic::Kind(Kind::ReservedNameTwice) => r#"A name is reserved twice.
 
 Where: the later name's string.
 
@@ -328,7 +337,7 @@ Where: the later name's string.
     a.proto:2:27: ReservedNameTwice
 
 Cure: Leave one of them out."#,
-        Kind::ReservedBackwards => r#"A reserved range ends before it begins.
+        Topic::Kind(Kind::ReservedBackwards) => r#"A reserved range ends before it begins.
 
 Where: the range's first token.
 
@@ -338,7 +347,7 @@ Where: the range's first token.
     a.proto:2:22: ReservedBackwards
 
 Cure: Exchange its bounds."#,
-        Kind::JsonNameTwice =>
+        Topic::Kind(Kind::JsonNameTwice) =>
             r#"Two fields of a message have one name in JSON. `a_b` is `aB` there, unless `json_name` says something else.
 
 Where: the later field's name.
@@ -349,7 +358,7 @@ Where: the later field's name.
     a.proto:2:34: JsonNameTwice
 
 Cure: Rename one of them, or give it a `json_name`. Two fields of the same name have one name in JSON, too."#,
-        Kind::PackedOnWrongKind =>
+        Topic::Kind(Kind::PackedOnWrongKind) =>
             r#"`packed = true` on a field that is not repeated, is a string or bytes, or is a map.
 
 Where: the option's name.
@@ -360,7 +369,7 @@ Where: the option's name.
     a.proto:2:26: PackedOnWrongKind
 
 Cure: Leave the option out: repeated numbers are packed in proto3 anyway."#,
-        Kind::JstypeOnWrongKind =>
+        Topic::Kind(Kind::JstypeOnWrongKind) =>
             r#"`jstype` says string or number on a field whose type is no integer of 64 bits.
 
 Where: the option's name.
@@ -371,7 +380,7 @@ Where: the option's name.
     a.proto:2:26: JstypeOnWrongKind
 
 Cure: Leave the option out."#,
-        Kind::EnumEmpty => r#"An enum has no value.
+        Topic::Kind(Kind::EnumEmpty) => r#"An enum has no value.
 
 Where: the enum's name.
 
@@ -381,7 +390,7 @@ Where: the enum's name.
     a.proto:2:6: EnumEmpty
 
 Cure: Give it a value of the number 0."#,
-        Kind::EnumFirstNotZero =>
+        Topic::Kind(Kind::EnumFirstNotZero) =>
             r#"The first value of an enum is not 0, which a field has that is not set.
 
 Where: the number, or its `-`.
@@ -392,7 +401,7 @@ Where: the number, or its `-`.
     a.proto:2:14: EnumFirstNotZero
 
 Cure: Begin with a value of the number 0, as `E_UNSPECIFIED = 0;`."#,
-        Kind::EnumNumberRange =>
+        Topic::Kind(Kind::EnumNumberRange) =>
             r#"An enum's number or a bound of its reserved range that does not fit 32 bits with a sign.
 
 Where: the number, or its `-`.
@@ -403,7 +412,7 @@ Where: the number, or its `-`.
     a.proto:2:21: EnumNumberRange
 
 Cure: Take another number."#,
-        Kind::EnumNumberTwice => r#"An earlier value has this number.
+        Topic::Kind(Kind::EnumNumberTwice) => r#"An earlier value has this number.
 
 Where: the later value's number, or its `-`.
 
@@ -413,7 +422,7 @@ Where: the later value's number, or its `-`.
     a.proto:2:21: EnumNumberTwice
 
 Cure: Take another number, or write `option allow_alias = true;` in the enum."#,
-        Kind::OneofEmpty => r#"A oneof has no member.
+        Topic::Kind(Kind::OneofEmpty) => r#"A oneof has no member.
 
 Where: the oneof's name.
 
@@ -423,7 +432,7 @@ Where: the oneof's name.
     a.proto:2:19: OneofEmpty
 
 Cure: Give it a field, or leave it out."#,
-        Kind::NameTooLong =>
+        Topic::Kind(Kind::NameTooLong) =>
             r#"A name has more than 255 bytes, or a full name, with its package and the messages around it, more than 1,023.
 
 Where: the name; for a made one its field's name; for a package its first part.
@@ -433,7 +442,7 @@ Where: the name; for a made one its field's name; for a package its first part.
     a.proto:2:9: NameTooLong
 
 Cure: Shorten it."#,
-        Kind::ImportMissing =>
+        Topic::Kind(Kind::ImportMissing) =>
             r#"No file below the root has this name. A name is the path from the root, with `/`.
 
 Where: the import's string.
@@ -444,7 +453,7 @@ Where: the import's string.
     a.proto:2:8: ImportMissing
 
 Cure: Set `--root` to the folder from which imports are written. Nothing is bundled: copy google/protobuf/*.proto from an installed protobuf if you import it. `describe` reads one file alone: a file with imports is for `compile`."#,
-        Kind::ImportCycle => r#"The file imports itself, or a file that reaches it.
+        Topic::Kind(Kind::ImportCycle) => r#"The file imports itself, or a file that reaches it.
 
 Where: the import's string.
 
@@ -454,7 +463,7 @@ Where: the import's string.
     a.proto:2:8: ImportCycle
 
 Cure: Move what both need to a third file."#,
-        Kind::NameTwice =>
+        Topic::Kind(Kind::NameTwice) =>
             r#"Another element of these files has this full name. Values of an enum are named beside it, not within it. A package may stand in many files; an element may not have a package's name.
 
 Where: the later name; for a made one its field's name; for a package its first part.
@@ -466,7 +475,7 @@ Where: the later name; for a made one its field's name; for a package its first 
     a.proto:3:9: NameTwice
 
 Cure: Rename one of them, or put it in another package; values of enums are often given the enum's name in front."#,
-        Kind::TooManyNames => r#"All files together declare more than 1,048,576 names.
+        Topic::Kind(Kind::TooManyNames) => r#"All files together declare more than 1,048,576 names.
 
 Where: no file, and line 1, column 1.
 
@@ -478,7 +487,7 @@ Where: no file, and line 1, column 1.
     :1:1: TooManyNames
 
 Cure: Compile fewer files at once."#,
-        Kind::TypeNotFound =>
+        Topic::Kind(Kind::TypeNotFound) =>
             r#"No message and no enum that this file sees has this name. A file sees itself, what it imports, and what these import publicly. Of a compound name the innermost scope that has its first part decides.
 
 Where: the type's first token.
@@ -489,7 +498,7 @@ Where: the type's first token.
     a.proto:2:13: TypeNotFound
 
 Cure: Import the file that declares it; write the name from its package on, or with a leading `.`, if a nearer scope has the first part."#,
-        Kind::TypeNotMessage => r#"The type of a method is an enum.
+        Topic::Kind(Kind::TypeNotMessage) => r#"The type of a method is an enum.
 
 Where: the type's first token.
 
@@ -500,7 +509,7 @@ Where: the type's first token.
     a.proto:3:19: TypeNotMessage
 
 Cure: Put the enum in a message."#,
-        Kind::PackedOnMessage => r#"`packed = true` on a field whose type is a message.
+        Topic::Kind(Kind::PackedOnMessage) => r#"`packed = true` on a field whose type is a message.
 
 Where: the option's name.
 
@@ -510,16 +519,63 @@ Where: the option's name.
     a.proto:2:31: PackedOnMessage
 
 Cure: Leave the option out."#,
-        Kind::DescriptorTooLong => "The descriptor of one file has more than 16,777,216 bytes.
+        Topic::Kind(Kind::DescriptorTooLong) =>
+            "The descriptor of one file has more than 16,777,216 bytes.
 
 Where: the start of the file.
 
 Cure: Split the file.",
-        Kind::SetTooLong =>
+        Topic::Kind(Kind::SetTooLong) =>
             "The descriptors of all files have more than 1,073,741,824 bytes together.
 
 Where: no file, and line 1, column 1.
 
 Cure: Compile a folder further below.",
+        Topic::Folder => "A folder of sources, or what stands below it, could not be listed or read.
+
+Where: one of these, and the line that finds it below `DIR`:
+
+- `DIR` is not there, or is a file: `ls -d DIR/`
+- a folder that may not be listed, or a file that may not be read: `find -L DIR ! -readable`
+- a name that is no UTF-8: `find DIR | LC_ALL=C.UTF-8 grep -naxv '.*'`
+- a folder more than 64 folders below: `find -L DIR -mindepth 65 -type d`
+- a link that leads to a folder in which it lies: `find -L DIR -name ''`
+- a link that leads nowhere, a pipe or a device, whose name ends in `.proto`: `find -L DIR -name '*.proto' ! -type f ! -type d`
+- more than 1,048,576 files and folders: `find -L DIR | wc -l`
+- a file that the command line names, and that is not there
+
+Cure: `schema_server check --root DIR` names the entry and says what is wrong with it. Mend it, or take it out of the folder.",
+        Topic::Listen => "The service cannot listen at the address and the port that it was given.
+
+Where: one of these:
+
+- a name in place of an address: `localhost:8080`
+- no port, or one over 65,535
+- the port is taken: `ss -ltnp` tells by whom
+- an address that is none of this machine's: `ip address` lists those
+- a port below 1,024, which needs a privilege
+
+Cure: Write an address and a port that are free, as `127.0.0.1:8080` or `[::1]:8080`. Port 0 takes any free one, which the first line of the output then tells.",
+        Topic::Input => "Standard input could not be read.
+
+Where: `describe` reads a source there, and `answer` a request body. A folder is no input.
+
+Cure: Give the file itself, as `schema_server describe a.proto < a.proto`.",
+        Topic::Output => "What was to be written could not be written whole.
+
+Where: standard output, or the file that `--output` names. There is no room, or a reader went away; or the file may not be written, or is a folder.
+
+Cure: See `df` for the room, and `ls -ld` for who may write there. What stood in the file stands there still, but where README says that it is written over.",
+        Topic::Accept =>
+            "The service could not go on: the system takes no more connections for it, or starts no thread.
+
+Where: the listener.
+
+Cure: Start it again. See `ulimit -n` for the files that it may have open, and `ulimit -u` for its threads.",
+        Topic::Memory => "The allocator had no memory, or no thread could be started for want of it.
+
+Where: anywhere. No part of a file that `--output` names has changed.
+
+Cure: Give the run more memory, or fewer workers: `--workers 1`. docs/GUIDE.md says how much a service takes.",
     }
 }

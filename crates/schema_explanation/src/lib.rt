@@ -1,0 +1,7 @@
+//! What each kind of fault means, and each line with which a run ends that could not do its work: where it stands, and its cure.
+#![tactic(auto)]
+
+mod table;
+mod topic;
+
+pub use topic::{Topic, cure_of, meaning_of, topics};

@@ -1,0 +1,92 @@
+//! What can be explained.
+
+use crate::table::{TOPICS, text_of};
+use proto_base::Kind;
+use std::alloc::{AllocError, Global};
+use strsim::jaro_winkler;
+
+/// How alike a name has to be to what was written, from 0 to 1, to be offered in its place; `clap` has the same for commands.
+const LIKE: f64 = 0.7;
+
+/// What can be explained: a kind of fault, or another line with which a run ends.
+#[derive(Clone, Copy)]
+pub enum Topic {
+    Kind(Kind),
+    /// `device: folder`, and so on.
+    Folder,
+    Listen,
+    Input,
+    Output,
+    Accept,
+    /// `out of memory`.
+    Memory,
+}
+
+impl Topic {
+    /// What is printed: the name of the kind, or the line.
+    pub fn name(self) -> &'static str {
+        match self {
+            Topic::Kind(kind) => kind.name(),
+            Topic::Folder => "device: folder",
+            Topic::Listen => "device: listen",
+            Topic::Input => "device: input",
+            Topic::Output => "device: output",
+            Topic::Accept => "device: accept",
+            Topic::Memory => "out of memory",
+        }
+    }
+
+    /// All that is said of it: its first line says what it means, its last how it is cured.
+    pub fn text(self) -> &'static str {
+        text_of(self)
+    }
+
+    /// Whether a text is its name, or a line that ends with it, in any case of letters.
+    fn is_named(self, text: &str) -> bool {
+        let name = last_word(self.name());
+        last_word(text).eq_ignore_ascii_case(name)
+    }
+
+    /// The topic whose name is most like a text, if one is like it at all.
+    pub fn nearest(alloc: Global, text: &str) -> Result<Option<Topic>, AllocError> {
+        let mut nearest = None;
+        let mut most = LIKE;
+        for topic in topics() {
+            let likeness = jaro_winkler(alloc, last_word(text), last_word(topic.name()))?;
+            if likeness > most {
+                nearest = Some(*topic);
+                most = likeness;
+            }
+        }
+        Ok(nearest)
+    }
+
+    /// The topic that a text names: `TypeNotFound`, `device: folder`, or a whole line as `a.proto:1:32: TypeNotFound`, in any case of
+    /// letters.
+    pub fn named(text: &str) -> Option<Topic> {
+        topics().iter().copied().find(|topic| topic.is_named(text))
+    }
+}
+
+/// What stands behind the last blank of a text.
+fn last_word(text: &str) -> &str {
+    match text.rsplit_once(' ') {
+        Some((_, word)) => word,
+        None => text,
+    }
+}
+
+/// All topics, in the order of the passes that tell them; the lines without a kind come last.
+pub fn topics() -> &'static [Topic] {
+    &TOPICS
+}
+
+/// What a kind of fault means, in a sentence or two.
+pub fn meaning_of(kind: Kind) -> &'static str {
+    text_of(Topic::Kind(kind)).lines().next().unwrap_or("")
+}
+
+/// How a fault of a kind is cured: a line that begins with `Cure: `.
+pub fn cure_of(kind: Kind) -> &'static str {
+    text_of(Topic::Kind(kind)).lines().last().unwrap_or("")
+}
