@@ -1,7 +1,7 @@
 use Rattle.std.proofs.Common.{[], ◌∷◌}
 use Rattle.proto_compile.specs.declared.source.Source.{Source}
 use Rattle.schema_commands.proofs.Telling.{told_by}
-use Rattle.schema_commands.proofs.commands.digits_of.Goals as goal
+use Rattle.schema_commands.proofs.commands.line_of_source.Goals as goal
 
 pub returns-in-Err-First-clause-refused : goal.returns-in-Err-First-clause-refused
 returns-in-Err-First-clause-refused g c =
