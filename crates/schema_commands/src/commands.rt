@@ -4,7 +4,6 @@ ghost use Rattle.std.specs.Prelude.{◌-◌, ◌<◌, ◌^◌, [], ◌∷◌, If
 ghost use Rattle.schema_commands.specs.Runs.{AreCompiledTo, AreSourcesOf, IsAnswerRun, IsCompileRun, IsCompiledTo, IsDescribeRun, IsDigitsOf, IsSetOfTexts, IsSetWritten, IsToldOf, IsToldOfFolder, IsToldOfTexts, IsUnwritten};
 
 use crate::explanation::{write_kind, write_kinds};
-use crate::folder::SourceFolder;
 use crate::whole_file::write_whole;
 use grpcweb_core::{CountedRead, CountedWrite, Mode, answer_io};
 use proto_base::{Limit, Limits};
@@ -12,6 +11,7 @@ use proto_compile::{CompileError, Compiled, Source, compile};
 use schema_devices::{read_input, write_bytes, write_line};
 use schema_failure::{Failure, locate};
 use schema_headline::{describe, set_of_sources};
+use schema_sources::SourceFolder;
 use share_work::{NoGate, Plan};
 use source_folder::NamedText;
 use std::alloc::{AllocError, AllocGlobal, Global};

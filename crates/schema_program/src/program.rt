@@ -9,11 +9,10 @@ use clap::Error;
 use clap::error::ErrorKind;
 use grpcweb_core::Counted;
 use schema_command_line::{Task, task_of};
-use schema_commands::{
-    SystemFolder, kind_names, run_answer, run_compile, run_describe, run_explain,
-};
+use schema_commands::{kind_names, run_answer, run_compile, run_describe, run_explain};
 use schema_devices::write_failure;
 use schema_failure::{Failure, Status};
+use schema_sources::SystemFolder;
 use std::alloc::AllocGlobal;
 use std::io::{Read, Write};
 use std::net::Net;

@@ -3,8 +3,9 @@
 use grpcweb_core::Mode;
 use grpcweb_service::serve;
 use proto_base::Limits;
-use schema_commands::{SystemFolder, compile_folder};
+use schema_commands::compile_folder;
 use schema_failure::Failure;
+use schema_sources::SystemFolder;
 use share_work::{NoGate, Plan};
 use std::alloc::AllocGlobal;
 use std::io::Write;
