@@ -4,7 +4,7 @@ use Rattle.std.specs.List.{list_any}
 use Rattle.source_folder.specs.Kinds.{is_same}
 use Rattle.source_folder.specs.Ordered.{paths_of}
 use Rattle.source_folder.specs.Paths.{ends_in_proto, joined_path}
-use Rattle.source_folder.specs.Troubles.{no_memory}
+use Rattle.source_folder.specs.Troubles.{IsTroubleAt, no_memory}
 use Rattle.source_folder.specs.declared.fault.FolderFault.TheVariants as faults
 use Rattle.source_folder.specs.declared.kind.Identity.{Identity}
 use Rattle.source_folder.specs.declared.kind.Kind.{Kind}
@@ -56,11 +56,11 @@ abbrev pub TakesEntry : Folder → List ℕ → Walk → Walk → Type 0
 TakesEntry folder name old new =
     (k : Kind) × TakesIn (joined_path (string_bytes folder.path) name) folder.depth k old new
 
--- an entry of this name in a folder, whatever it is, can't be taken in, or memory was short
-abbrev pub IsRefusedAt : Folder → List ℕ → Walk → FolderTrouble → Type 0
-IsRefusedAt folder name walk trouble = (trouble ≡ no_memory) ⊎ ((trouble.fault ≡ faults.Listing)
-    × ((k : Kind) × (reason : Reason)
-    × (refusal_of walk (joined_path (string_bytes folder.path) name) folder.depth k ≡ Some reason)))
+-- an entry of this name in a folder, whatever it is, can't be taken in, and that is told of it; or memory was short
+abbrev pub IsRefusedAt : Folder → (name whole : List ℕ) → Walk → FolderTrouble → Type 0
+IsRefusedAt folder name whole walk trouble = (trouble ≡ no_memory) ⊎ ((k : Kind) × (reason : Reason)
+    × (refusal_of walk (joined_path (string_bytes folder.path) name) folder.depth k ≡ Some reason)
+    × IsTroubleAt faults.Listing whole reason trouble)
 
 -- the way leads on to a folder, from the folder in which it lies
 pub record Enters (folder : Folder) (old new : Walk) : Type 0 where

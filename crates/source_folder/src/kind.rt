@@ -8,7 +8,6 @@ use std::alloc::AllocError;
 use std::fs::{self, Metadata};
 use std::io;
 use std::os::unix::fs::MetadataExt;
-use std::path::AsPath;
 use std::rt::Files;
 
 /// Which folder one is, by whatever path: the system's numbers for it.
@@ -71,7 +70,7 @@ impl Kind {
     }
 
     /// The kind of what a path leads to.
-    pub(crate) fn at<R: Files, P: AsPath>(rt: &R, path: P) -> Result<Kind, AllocError> {
+    pub(crate) fn at<R: Files>(rt: &R, path: &str) -> Result<Kind, AllocError> {
         match fs::metadata(rt, path) {
             Ok(metadata) => Ok(Kind::of(&metadata)),
             Err(error) => Kind::behind(&error),

@@ -10,7 +10,6 @@ use crate::reason::Reason;
 use crate::trouble::FolderTrouble;
 use std::alloc::{AllocError, AllocGlobal, Global};
 use std::fs;
-use std::path::Path;
 use std::rt::Files;
 
 /// How many folders below the root a folder may be.
@@ -131,18 +130,18 @@ impl Walk {
         &mut self,
         rt: &R,
         folder: &Folder,
-        whole: Path<'_>,
+        whole: &str,
         name: &str,
     ) -> Result<(), FolderTrouble>
         ensures ok { OnOk result (TakesEntry folder.now name.now self.old self.new) }
-        ensures refused { IfErr result (IsRefusedAt folder.now name.now self.old) }
+        ensures refused { IfErr result (IsRefusedAt folder.now name.now whole.now self.old) }
     {
         let alloc = rt.alloc();
         let path = join_path(alloc, folder.path.as_str(), name)?;
         let kind = Kind::at(rt, whole)?;
         if let Some(reason) = self.refusal(path.as_str(), folder.depth, kind) {
             let fault = FolderFault::Listing;
-            return Err(FolderTrouble::at(alloc, fault, whole.as_str(), reason));
+            return Err(FolderTrouble::at(alloc, fault, whole, reason));
         }
         self.take_in(path, folder.depth, kind)?;
         Ok(())
@@ -166,7 +165,7 @@ impl Walk {
         let entries = listed.map_err(|error| FolderTrouble::listing(alloc, whole, &error))?;
         for entry in entries {
             let entry = entry.map_err(|error| FolderTrouble::listing(alloc, whole, &error))?;
-            self.take_entry(rt, folder, entry.path(), entry.file_name())?;
+            self.take_entry(rt, folder, entry.path().as_str(), entry.file_name())?;
         }
         Ok(())
     }
