@@ -1,5 +1,5 @@
 -- What a run of a command read and wrote, by how it ended.
-use Rattle.std.specs.Prelude.{◌≡◌, ℕ, suc, ◌+◌, List, [], ◌∷◌, ◌++◌, ◌⊎◌, map, Option, Some, None, Result, Ok, Err, IfSome, IsErrAnd, string_bytes}
+use Rattle.std.specs.Prelude.{◌≡◌, ℕ, suc, ◌+◌, List, [], ◌∷◌, ◌++◌, ◌⊎◌, map, Option, Some, None, Result, Ok, Err, IsErrAnd}
 use Rattle.first_reach.specs.declared.mode.Mode.{Mode}
 use Rattle.grpcweb_core.specs.Exchange.{IsExchange, IsRead, IsWritten, IsWrittenInPart}
 use Rattle.grpcweb_core.specs.Streams.{Reads, Writes}
@@ -20,6 +20,7 @@ use Rattle.schema_failure.specs.declared.failure.Failure.{Failure}
 use Rattle.schema_failure.specs.declared.failure.Failure.TheVariants as failure
 use Rattle.schema_headline.specs.Describe.{IsDescribedBy}
 use Rattle.schema_headline.specs.Headline.{IsSetOf}
+use Rattle.schema_sources.specs.Texts.{AreTextsOf, Known, bytes_of}
 use Rattle.source_folder.specs.Folder.{names_of}
 use Rattle.source_folder.specs.declared.folder.NamedText.{NamedText}
 
@@ -68,10 +69,6 @@ IsDescribeRun name reads reads' writes writes' (Err failure.Output) =
     × (line : List ℕ) × IsLineOf limits source line × (written : ℕ) × IsWrittenInPart writes writes' line written
 IsDescribeRun name reads reads' writes writes' (Err other) = ⊥
 
--- the bytes of texts
-abbrev pub bytes_of : NamedText → List ℕ
-bytes_of text = text.text.items
-
 -- sources with the names and the bytes of these texts, in their order
 pub record AreSourcesOf (texts : List NamedText) (sources : List Source) : Type 0 where
   pub named : map name_of sources ≡ names_of texts
@@ -87,17 +84,6 @@ IsToldOfTexts limits texts f =
 -- sources of these texts are compiled to this
 abbrev pub AreCompiledTo : Limits → List NamedText → Compilation → Type 0
 AreCompiledTo limits texts c = (sources : List Source) × AreSourcesOf texts sources × IsCompiled limits sources c
-
--- the name and the bytes of each source of a folder, in the order of the names, where they are known
-abbrev pub Known : Type 0
-Known = Option (List (List ℕ × List ℕ))
-
-abbrev pub named_bytes : NamedText → List ℕ × List ℕ
-named_bytes text = (string_bytes text.name, bytes_of text)
-
--- texts that may be those of a folder: the known ones, and no others
-abbrev pub AreTextsOf : Known → List NamedText → Type 0
-AreTextsOf known texts = IfSome known (λ sources. map named_bytes texts ≡ sources)
 
 abbrev pub IsCompiledTo : Limits → Known → Compilation → Type 0
 IsCompiledTo limits known c = (texts : List NamedText) × AreTextsOf known texts × AreCompiledTo limits texts c

@@ -3,7 +3,6 @@
 ghost use Rattle.std.specs.Prelude.{◌-◌, ◌<◌, ◌^◌, [], ◌∷◌, IfErr, IfOk, string_bytes};
 ghost use Rattle.schema_commands.specs.Runs.{AreCompiledTo, AreSourcesOf, IsAnswerRun, IsCompileRun, IsCompiledTo, IsDescribeRun, IsExplainRun, IsLineOf, IsSetOfTexts, IsSetRun, IsToldOf, IsToldOfFolder, IsToldOfTexts};
 
-use crate::folder::SourceFolder;
 use crate::whole_file::write_whole;
 use grpcweb_core::{CountedRead, CountedWrite, Mode, answer_io, read_bytes, write_bytes};
 use proto_base::{Limit, Limits};
@@ -11,6 +10,7 @@ use proto_compile::{CompileError, Compiled, Source, compile};
 use schema_explanation::{Topic, topics};
 use schema_failure::{Failure, locate};
 use schema_headline::{describe, set_of_sources};
+use schema_sources::SourceFolder;
 use share_work::{NoGate, Plan};
 use source_folder::NamedText;
 use std::alloc::{AllocError, AllocGlobal, Global};

@@ -1,6 +1,7 @@
 use Rattle.std.proofs.Common.{ℕ, List, subst, sym, inr}
 use Rattle.source_folder.specs.declared.folder.NamedText.{NamedText}
-use Rattle.schema_commands.specs.Runs.{AreTextsOf, IsSetOfTexts, IsSetRun}
+use Rattle.schema_commands.specs.Runs.{IsSetOfTexts}
+use Rattle.schema_sources.specs.Texts.{AreTextsOf}
 use Rattle.schema_commands.proofs.Telling.{refused_run, told_of_folder, unread_run}
 use Rattle.schema_commands.proofs.commands.run_compile.Goals as goal
 

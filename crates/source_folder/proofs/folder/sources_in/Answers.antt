@@ -8,7 +8,7 @@ use Rattle.source_folder.specs.Paths.{AreRising}
 use Rattle.source_folder.specs.declared.folder.NamedText.{NamedText}
 use Rattle.source_folder.proofs.Named.{as_many}
 use Rattle.source_folder.proofs.Neighbours.{rising}
-use Rattle.source_folder.proofs.folder.read_folder.Goals as goal
+use Rattle.source_folder.proofs.folder.sources_in.Goals as goal
 
 pub returns-clause-order : goal.returns-clause-order
 returns-clause-order g c =

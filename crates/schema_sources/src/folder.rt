@@ -1,7 +1,7 @@
 //! Folders that sources are read from.
 
 ghost use Rattle.std.specs.Prelude.{IfOk, None};
-ghost use Rattle.schema_commands.specs.Runs.{AreTextsOf, Known};
+ghost use Rattle.schema_sources.specs.Texts.{AreTextsOf, Known};
 
 use proto_base::Limits;
 use source_folder::{FolderFault, NamedText, read_folder};
