@@ -27,8 +27,7 @@ returns g c =
     let texts = c.deref.result.now in
     let set = c.deref-2.result.now in
     let P : List NamedText → Type 0 = λ texts. AreTextsOf known texts in
-    let Q : List ℕ → Type 0 = λ set. IsSetOfTexts limits texts set in
-    (
+    let Q : List ℕ → Type 0 = λ set. IsSetOfTexts limits texts set in (
       limits,
       c.standard-limits.ensures,
       inr (

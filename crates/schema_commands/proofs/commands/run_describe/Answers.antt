@@ -51,8 +51,7 @@ returns g c =
     let reads' = g.I.CountedRead.reads c.read_bytes.new.reader in
     let P : List ℕ → Type 0 = λ bytes. IsRead (limit_of limits FileBytes + 1) reads reads' bytes in
     let Q : ℕ → Type 0 = λ most. IsRead (most + 1) reads reads' c.in_ok-text.text.items in
-    let L : List ℕ → Type 0 = λ line. IsLineOf limits source line in
-    (
+    let L : List ℕ → Type 0 = λ line. IsLineOf limits source line in (
       limits,
       source,
       record {
