@@ -1,7 +1,8 @@
 #!/usr/bin/env bash
 # docs/AUDIT.md beside what it speaks of: each file of definitions is named there once, with its number of lines; sums are sums;
 # nothing that is to be read needs a file that is not; each law is named; the quoted clause stands in the code; and the
-# examples are edits that the gate sees refused. It builds nothing.
+# examples are edits that the gate sees refused. It builds nothing. `tests/audit.sh --write` first puts the numbers of lines and the
+# sums into the page.
 set -u
 cd "$(dirname "$(readlink -f "$0")")/.." || exit 2
 folder=$(mktemp -d) || exit 2
@@ -14,6 +15,40 @@ fail() {
     echo "tests/audit.sh: $1"
     failures=$((failures + 1))
 }
+
+# Prints the page with the numbers that the files have.
+counted() {
+    find crates/*/specs -name '*.antt' | while IFS= read -r file; do
+        name=${file#crates/}
+        echo "${name/\/specs\//\/} $(wc -l <"$file") $(grep -cv -e '^use ' -e '^$' "$file")"
+    done | awk '
+        function grouped(n) { return n < 1000 ? n : sprintf("%d,%03d", n / 1000, n % 1000) }
+        NR == FNR { lines[$1] = $2; read[$1] = $3; next }
+        /^\|.*\.antt` [0-9]/ {
+            rest = $0
+            out = ""
+            row = read_of_row = 0
+            while (match(rest, /`[a-z_]+\/[A-Za-z\/]+\.antt` [0-9]+/)) {
+                name = substr(rest, RSTART + 1, RLENGTH - 1)
+                sub(/`.*/, "", name)
+                out = out substr(rest, 1, RSTART - 1) "`" name "` " lines[name]
+                rest = substr(rest, RSTART + RLENGTH)
+                row += lines[name]
+                read_of_row += read[name]
+            }
+            if (rest ~ /^ \| [0-9,]+ \|$/) rest = " | " grouped(row) " |"
+            else { sum += row; sum_read += read_of_row }
+            print out rest
+            next
+        }
+        /^\| \*\*Sum\*\*/ { print "| **Sum** | " grouped(sum) " | " grouped(sum_read) " without imports and empty lines |"; next }
+        { print }
+    ' - "$page"
+}
+
+if [ "${1:-}" = --write ]; then
+    counted >"$folder/page" && cp "$folder/page" "$page" || exit 2
+fi
 
 # Each named file of definitions: the table's row, or `main` for the table of what to read; crate/File.antt; its lines there. A row
 # with a sum of its own ends with it.

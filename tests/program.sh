@@ -33,13 +33,14 @@ b.proto describe a.proto b.proto
 compose compose a.proto
 --root compile
 --root compile --root
-a.proto compile --root . a.proto
 0 compile --root . --workers 0
 65 compile --root . --workers 65
 two compile --root . --workers two
 0 compile --root . --cut 0
 4097 compile --root . --cut 4097
-UnexpectedEnd explain Unexpectd
+UnexpectedEnd explain UnexpectedEn
+folder explain device: foldr
+explain explain Nothing
 --output compile --root . --output
 LINES
 
@@ -53,9 +54,18 @@ while read -r word line; do
     fi
 done <<'LINES'
 compile --help
+status --help
 NAME describe --help
 --workers compile --help
+--include check --help
+FILE serve --help
 schema_server --version
+TypeNotFound explain TYPENOTFOUND
+Cure: explain a.proto:1:32: TypeNotFound
+Cure: explain my file.proto:1:32: typenotfound
+find explain device: folder
+find explain Folder
+workers explain out of memory
 LINES
 
 # device NAME INPUT OUTPUT WORD..: a run that this device ends.
@@ -75,7 +85,10 @@ device input "$folder" "$folder/output" describe a.proto
 device output "$point" /dev/full describe a.proto
 device output "$point" /dev/full --help
 device output "$point" /dev/full compile --root "$folder/sources"
+device output "$point" /dev/full check --root "$folder/sources"
+device output "$point" /dev/full explain
 device folder "$point" "$folder/output" compile --root "$folder/none"
+device folder "$point" "$folder/output" compile --root "$folder/sources" none.proto
 device folder "$point" "$folder/output" compile --root "$point"
 
 # The version, with the logic that README names.

@@ -110,6 +110,7 @@ diff -r share "$folder/local/share" || fail 'docs/GUIDE.md installs something el
 
 # completed WORDS..: what the completion offers for the last of these words of a line, sorted, in the file `completed`.
 . share/bash-completion/completions/schema_server || exit 2
+mkdir "$folder/path" && ln -s "$PWD/$program" "$folder/path/schema_server" && PATH=$folder/path:$PATH || exit 2
 completed() {
     COMP_WORDS=(schema_server "$@")
     COMP_CWORD=$#
@@ -140,12 +141,12 @@ while read -r command; do
 done <"$folder/commands"
 offers '' help -
 offers compile help co
-for command in compile serve answer; do
+for command in compile check serve answer; do
     grep -v -e '^-h$' -e '^--help$' "$folder/$command.options" >"$folder/wanted"
     completed "$command" --root examples ''
     same "$command without a dash" "$folder/wanted" "$folder/completed"
 done
-"$program" explain | awk '{ print $1 }' | sort >"$folder/kinds"
+"$program" explain | awk '!/^device: |^out of / { print $1 }' | sort >"$folder/kinds"
 completed explain ''
 same 'kinds of explain and of the completion' "$folder/kinds" "$folder/completed"
 offers $'TypeNotFound\nTypeNotMessage' explain TypeN
@@ -158,7 +159,8 @@ done
 # Folders and files; a word comes with its quotes, and is split at `=`.
 mkdir -p "$folder/place/orders" "$folder/place/old orders/a b" && touch "$folder/place/orders.pb" "$folder/place/old set.pb" || exit 2
 cd "$folder/place" || exit 2
-for command in compile serve answer; do
+for command in compile check serve answer; do
+    offers $'old orders\norders' "$command" --include ''
     offers $'old orders\norders' "$command" --root ''
 done
 offers orders compile --root or
@@ -173,5 +175,8 @@ offers $'old orders\nold set.pb\norders\norders.pb' compile --root orders --outp
 offers 'old set.pb' compile --output 'old\ s'
 offers orders.pb compile --root . --output = orders.
 offers orders.pb describe a.proto '<' orders.
+touch orders/a.proto orders/a.txt
+offers orders/a.proto check --root . orders/a
+offers a.proto compile --root = orders a
 cd - >/dev/null || exit 2
 [ "$failures" = 0 ]

@@ -1,13 +1,11 @@
 //! Answering over a reader and a writer: the bytes of a request body come from one, and those of the response go to the other.
 
 ghost use Rattle.std.specs.Prelude.{◌≡◌, ◌+◌, ◌-◌, ◌<◌, ◌≤◌, ◌^◌, length, take, IfOk};
-ghost use Rattle.grpcweb_core.specs.Exchange.{IsExchange, IsFewMore, room_of};
-ghost use Rattle.grpcweb_core.specs.ExchangeSteps.{IsBodyRead, IsFilled, IsHandedOn};
-ghost use Rattle.proto_base.specs.Limits.{limit_of};
-ghost use Rattle.proto_base.specs.declared.limits.Limit.TheVariants.{BodyBytes};
+ghost use Rattle.grpcweb_core.specs.Exchange.{IsExchange, IsFewMore, IsReadRun, IsWriteRun, room_of};
+ghost use Rattle.grpcweb_core.specs.ExchangeSteps.{IsFilled};
 
 use crate::stream::{CountedRead, CountedWrite, IoFault};
-use proto_base::{Limit, Limits};
+use proto_base::Limit;
 use proto_compile::Compiled;
 use reflect_core::{Mode, answer_body};
 use share_work::{Gate, Plan};
@@ -32,33 +30,30 @@ fn fill<I: CountedRead>(reader: &mut I, room: &mut [u8]) -> Result<usize, IoFaul
     Ok(filled)
 }
 
-/// The whole of a body, or one byte more than the limit lets it have.
-fn read_body<I: CountedRead>(
+/// The bytes of a reader to its end, or so many of them. The first call of it that fails ends it.
+pub fn read_bytes<I: CountedRead>(
     alloc: Global,
     reader: &mut I,
-    limits: &Limits,
+    most: usize,
 ) -> Result<Vec<u8>, IoFault>
     requires { (I.reads reader.old).failures < 2 ^ 64 - 1 }
-    ensures body { IsBodyRead (limit_of limits.now BodyBytes + 1) (I.reads reader.old)
-        (I.reads reader.new) result }
-    ensures few { IsFewMore (limit_of limits.now BodyBytes + 1) (I.reads reader.old)
-        (I.reads reader.new) }
+    ensures run { IsReadRun most (I.reads reader.old) (I.reads reader.new) result }
+    ensures few { IsFewMore most (I.reads reader.old) (I.reads reader.new) }
 {
-    let most = limits.get(Limit::BodyBytes) as usize + 1;
-    let mut body = vec![in alloc; 0u8; most]?;
-    let len = fill(reader, &mut body)?;
-    body.truncate(len);
-    Ok(body)
+    let mut bytes = vec![in alloc; 0u8; most]?;
+    let len = fill(reader, &mut bytes)?;
+    bytes.truncate(len);
+    Ok(bytes)
 }
 
-/// Writes all of a response, and flushes it.
-fn write_response<O: CountedWrite>(writer: &mut O, response: &[u8]) -> Result<(), IoFault>
+/// Writes all of these bytes, and flushes them. The first call of the writer that fails ends it.
+pub fn write_bytes<O: CountedWrite>(writer: &mut O, bytes: &[u8]) -> Result<(), IoFault>
     requires { (O.writes writer.old).failures < 2 ^ 64 - 1 }
-    ensures { IsHandedOn (O.writes writer.old) (O.writes writer.new) response.now result }
+    ensures { IsWriteRun (O.writes writer.old) (O.writes writer.new) bytes.now result }
 {
     let mut written = 0;
-    while written < response.len() {
-        match writer.write(&response[written..]) {
+    while written < bytes.len() {
+        match writer.write(&bytes[written..]) {
             Ok(0) | Err(_) => return Err(IoFault::WriteFault {
                 written: written as u64,
             }),
@@ -100,7 +95,8 @@ where
     // No more reads than bytes that it may read.
     ensures reads { IsFewMore (room_of compiled.now) (I.reads reader.old) (I.reads reader.new) }
 {
-    let body = read_body(rt.alloc(), reader, compiled.limits())?;
+    let most = compiled.limits().get(Limit::BodyBytes) as usize + 1;
+    let body = read_bytes(rt.alloc(), reader, most)?;
     let response = answer_body(rt, compiled, plan, gate, mode, &body)?;
-    write_response(writer, &response)
+    write_bytes(writer, &response)
 }

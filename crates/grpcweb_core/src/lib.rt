@@ -13,7 +13,7 @@ mod stream;
 mod target;
 
 pub use counted::Counted;
-pub use exchange::answer_io;
+pub use exchange::{answer_io, read_bytes, write_bytes};
 pub use laws::answers_are_unique;
 pub use mapping::{HttpAnswer, respond};
 pub use reflect_core::Mode;

@@ -1,11 +1,25 @@
 //! The answers of reflection, as responses of `http`.
 
+ghost use Rattle.std.specs.Prelude.{◌≡◌, ◌+◌, ◌/◌, min};
+
 use grpcweb_core::{HttpAnswer, Mode, respond};
 use http::{HeaderName, HeaderValue, Request, Response, StatusCode, header};
 use proto_compile::Compiled;
 use share_work::{Gate, Plan};
 use std::alloc::{AllocError, AllocGlobal, Global};
 use std::thread::Threads;
+
+/// So many bytes of a body are worth a worker: fewer are answered sooner than its thread starts (bench/RESULTS.md).
+const WORTH_A_WORKER: usize = 65_536;
+
+/// As many workers as a body of so many bytes is worth, up to those of a plan. They change no byte of an answer.
+fn plan_for(plan: Plan, len: usize) -> Plan
+    ensures workers { result.workers ≡ min plan.workers (1 + len / 65_536) }
+    ensures cut { result.cut ≡ plan.cut }
+{
+    let worth = (1 + len / WORTH_A_WORKER).min(plan.workers() as usize);
+    Plan::new(worth as u32, plan.cut()).unwrap_or(plan)
+}
 
 fn put_header(
     alloc: Global,
@@ -57,7 +71,7 @@ where
     let answer = respond(
         rt,
         compiled,
-        plan,
+        plan_for(plan, request.body().len()),
         gate,
         mode,
         request.method().as_str(),

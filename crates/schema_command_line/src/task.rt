@@ -1,5 +1,9 @@
 //! What the words of a run ask for.
 
+ghost use Rattle.std.specs.Prelude.{◌≡◌, IfOk, IfSome, codes, map, option_map};
+ghost use Rattle.clap.specs.Matches.{first_value, found_of};
+ghost use Rattle.schema_command_line.specs.Tasks.{AreConnections, IsMode, IsPlan, IsSelection, IsTaskNamed, file_of, values_of};
+
 use crate::words::whole_command;
 use clap::error::ErrorKind;
 use clap::{ArgMatches, Error};
@@ -59,7 +63,9 @@ pub enum Task<'a> {
     },
 }
 
-fn mode_of(matches: &ArgMatches<'_>) -> Mode {
+fn mode_of(matches: &ArgMatches<'_>) -> Mode
+    ensures { IsMode (found_of matches.now) result }
+{
     if matches.get_flag("repeat") {
         Mode::Repeat
     } else {
@@ -68,7 +74,9 @@ fn mode_of(matches: &ArgMatches<'_>) -> Mode {
 }
 
 /// The plan that the words ask for. The parser of the words lets no others through than there are plans.
-fn plan_of(matches: &ArgMatches<'_>) -> Plan {
+fn plan_of(matches: &ArgMatches<'_>) -> Plan
+    ensures { IsPlan (found_of matches.now) result }
+{
     let workers = matches.get_one::<u32>("workers").unwrap_or(1);
     let cut = matches.get_one::<u32>("cut").unwrap_or(1);
     Plan::new(workers, cut).unwrap_or(Plan::single())
@@ -79,14 +87,19 @@ fn values_of<'a>(
     alloc: Global,
     matches: &ArgMatches<'a>,
     name: &str,
-) -> Result<Vec<&'a str>, AllocError> {
+) -> Result<Vec<&'a str>, AllocError>
+    ensures { IfOk result (λ values. map (λ s. s.now) values.items
+        ≡ values_of (found_of matches.now) name.now) }
+{
     match matches.get_strs(name) {
         Some(values) => Vec::from_slice(alloc, values),
         None => Ok(Vec::new(alloc)),
     }
 }
 
-fn selection_of<'a>(alloc: Global, matches: &ArgMatches<'a>) -> Result<Selection<'a>, AllocError> {
+fn selection_of<'a>(alloc: Global, matches: &ArgMatches<'a>) -> Result<Selection<'a>, AllocError>
+    ensures { IfOk result (IsSelection (found_of matches.now)) }
+{
     Ok(Selection {
         root: matches.get_str("root").unwrap_or(""),
         includes: values_of(alloc, matches, "include")?,
@@ -124,17 +137,35 @@ fn topic_of(alloc: Global, matches: &ArgMatches<'_>) -> Result<Option<Topic>, Er
     }
 }
 
+/// The file of the words, of which `-` is none.
+fn file_in<'a>(matches: &ArgMatches<'a>) -> Option<&'a str>
+    ensures { option_map (λ s. s.now) result ≡ file_of (first_value (found_of matches.now) (codes "output")) }
+{
+    match matches.get_str("output") {
+        Some("-") => None,
+        file => file,
+    }
+}
+
+fn connections_in(matches: &ArgMatches<'_>) -> Option<u64>
+    ensures { AreConnections (found_of matches.now) result }
+{
+    matches.get_one::<u64>("connections")
+}
+
 /// The task of a command, by its name and what was found in the words behind it.
 fn task_named<'a>(
     alloc: Global,
     name: &str,
     matches: &ArgMatches<'a>,
-) -> Result<Option<Task<'a>>, Error> {
+) -> Result<Option<Task<'a>>, Error>
+    ensures { IfOk result (λ task. IfSome task (IsTaskNamed name.now (found_of matches.now))) }
+{
     let task = match name {
         "compile" => Task::Compile {
             selection: selection_of(alloc, matches)?,
             plan: plan_of(matches),
-            file: matches.get_str("output"),
+            file: file_in(matches),
         },
         "check" => Task::Check {
             selection: selection_of(alloc, matches)?,
@@ -145,7 +176,7 @@ fn task_named<'a>(
             listen: matches.get_str("listen").unwrap_or(""),
             plan: plan_of(matches),
             mode: mode_of(matches),
-            connections: matches.get_one::<u64>("connections"),
+            connections: connections_in(matches),
         },
         "answer" => Task::Answer {
             selection: selection_of(alloc, matches)?,

@@ -1,8 +1,7 @@
--- What a run of a command did to what its writer holds, by how it ended.
-use Rattle.std.specs.Prelude.{◌≡◌, ℕ, ◌+◌, List, [], ◌∷◌, ◌++◌, ◌⊎◌, map, Option, Some, None, Result, Ok, Err, IfSome, string_bytes}
-use Rattle.std.specs.Io.KnownBytes.{Appends, Keeps}
+-- What a run of a command read and wrote, by how it ended.
+use Rattle.std.specs.Prelude.{◌≡◌, ℕ, suc, ◌+◌, List, [], ◌∷◌, ◌++◌, ◌⊎◌, map, Option, Some, None, Result, Ok, Err, IsErrAnd}
 use Rattle.first_reach.specs.declared.mode.Mode.{Mode}
-use Rattle.grpcweb_core.specs.Exchange.{IsExchange}
+use Rattle.grpcweb_core.specs.Exchange.{IsExchange, IsRead, IsWritten, IsWrittenInPart}
 use Rattle.grpcweb_core.specs.Streams.{Reads, Writes}
 use Rattle.grpcweb_core.specs.declared.stream.IoFault.{IoFault}
 use Rattle.hex.specs.Hex.{encode_lower}
@@ -15,13 +14,13 @@ use Rattle.proto_compile.specs.Compilation.{Compilation, IsCompiled}
 use Rattle.proto_compile.specs.FaultSet.{IsLeastFault, told_by}
 use Rattle.proto_compile.specs.Sources.{name_of, text_of}
 use Rattle.proto_compile.specs.declared.source.Source.{Source}
-use Rattle.schema_devices.specs.Moved.{IsReadOf}
 use Rattle.schema_failure.specs.Faults.{of_exchange}
 use Rattle.schema_failure.specs.Placed.{located}
 use Rattle.schema_failure.specs.declared.failure.Failure.{Failure}
 use Rattle.schema_failure.specs.declared.failure.Failure.TheVariants as failure
 use Rattle.schema_headline.specs.Describe.{IsDescribedBy}
 use Rattle.schema_headline.specs.Headline.{IsSetOf}
+use Rattle.schema_sources.specs.Texts.{AreTextsOf, Known, bytes_of}
 use Rattle.source_folder.specs.Folder.{names_of}
 use Rattle.source_folder.specs.declared.folder.NamedText.{NamedText}
 
@@ -43,28 +42,32 @@ IsToldOf limits sources other = ⊥
 abbrev pub IsDigitsOf : Limits → Source → List ℕ → Type 0
 IsDigitsOf limits source digits = (bytes : List ℕ) × IsDescribedBy limits source bytes × (digits ≡ encode_lower bytes)
 
--- the source of this name that a reader gives: its bytes, or one more than the limit, where they are known
-pub record IsInput (name : List ℕ) (left : Option (List ℕ)) (limits : Limits) (source : Source) : Type 0 where
+-- the source of this name whose text was read: all that a reader gave, or one byte more than the limit
+pub record IsInput (name : List ℕ) (reads reads' : Reads) (limits : Limits) (source : Source) : Type 0 where
   pub standard : AreStandard limits
   pub named : name_of source ≡ name
-  pub read : IsReadOf left (limit_of limits FileBytes + 1) (text_of source)
+  pub read : IsRead (limit_of limits FileBytes + 1) reads reads' (text_of source)
 
--- `describe`: a line with the digits of what was read, or its first fault and nothing written
-abbrev pub IsDescribeRun : List ℕ → Option (List ℕ) → Option (List ℕ) → Option (List ℕ) → Result (Unit {0}) Failure → Type 0
-IsDescribeRun name left old new (Ok a) =
-    (limits : Limits) × (source : Source) × IsInput name left limits source
-    × (digits : List ℕ) × IsDigitsOf limits source digits × Appends old new (digits ++ 10 ∷ [])
-IsDescribeRun name left old new (Err (failure.Source file line column kind)) =
-    (limits : Limits) × (source : Source) × IsInput name left limits source
-    × IsToldOf limits (source ∷ []) (failure.Source file line column kind) × Keeps old new
-IsDescribeRun name left old new (Err failure.Input) = Keeps old new
-IsDescribeRun name left old new (Err failure.NoMemory) = Keeps old new
-IsDescribeRun name left old new (Err failure.Output) = Unit {0}
-IsDescribeRun name left old new (Err other) = ⊥
+-- the line of a source: the digits of its descriptor, and a line feed
+abbrev pub IsLineOf : Limits → Source → List ℕ → Type 0
+IsLineOf limits source line = (digits : List ℕ) × IsDigitsOf limits source digits × (line ≡ digits ++ 10 ∷ [])
 
--- the bytes of texts
-abbrev pub bytes_of : NamedText → List ℕ
-bytes_of text = text.text.items
+-- `describe`: the line of the source that was read; or its first fault, and nothing written; or a call that failed
+abbrev pub IsDescribeRun : {A : Type 0} → List ℕ → Reads → Reads → Writes → Writes → Result A Failure → Type 0
+IsDescribeRun name reads reads' writes writes' (Ok a) =
+    (limits : Limits) × (source : Source) × IsInput name reads reads' limits source
+    × (line : List ℕ) × IsLineOf limits source line × IsWritten writes writes' line
+IsDescribeRun name reads reads' writes writes' (Err (failure.Source file line column kind)) =
+    (limits : Limits) × (source : Source) × IsInput name reads reads' limits source
+    × IsToldOf limits (source ∷ []) (failure.Source file line column kind) × (writes' ≡ writes)
+IsDescribeRun name reads reads' writes writes' (Err failure.Input) =
+    (reads'.failures ≡ suc reads.failures) × (writes' ≡ writes)
+IsDescribeRun name reads reads' writes writes' (Err failure.NoMemory) =
+    (reads'.failures ≡ reads.failures) × (writes' ≡ writes)
+IsDescribeRun name reads reads' writes writes' (Err failure.Output) =
+    (limits : Limits) × (source : Source) × IsInput name reads reads' limits source
+    × (line : List ℕ) × IsLineOf limits source line × (written : ℕ) × IsWrittenInPart writes writes' line written
+IsDescribeRun name reads reads' writes writes' (Err other) = ⊥
 
 -- sources with the names and the bytes of these texts, in their order
 pub record AreSourcesOf (texts : List NamedText) (sources : List Source) : Type 0 where
@@ -82,17 +85,6 @@ IsToldOfTexts limits texts f =
 abbrev pub AreCompiledTo : Limits → List NamedText → Compilation → Type 0
 AreCompiledTo limits texts c = (sources : List Source) × AreSourcesOf texts sources × IsCompiled limits sources c
 
--- the name and the bytes of each source of a folder, in the order of the names, where they are known
-abbrev pub Known : Type 0
-Known = Option (List (List ℕ × List ℕ))
-
-abbrev pub named_bytes : NamedText → List ℕ × List ℕ
-named_bytes text = (string_bytes text.name, bytes_of text)
-
--- texts that may be those of a folder: the known ones, and no others
-abbrev pub AreTextsOf : Known → List NamedText → Type 0
-AreTextsOf known texts = IfSome known (λ sources. map named_bytes texts ≡ sources)
-
 abbrev pub IsCompiledTo : Limits → Known → Compilation → Type 0
 IsCompiledTo limits known c = (texts : List NamedText) × AreTextsOf known texts × AreCompiledTo limits texts c
 
@@ -101,31 +93,37 @@ abbrev pub IsToldOfFolder : Limits → Known → Failure → Type 0
 IsToldOfFolder limits known f = (f ≡ failure.Folder) ⊎ ((f ≡ failure.NoMemory)
     ⊎ ((texts : List NamedText) × AreTextsOf known texts × IsToldOfTexts limits texts f))
 
--- a set goes to the writer, or to the file that is named, which may be where the writer writes
-abbrev pub IsSetWritten : {A : Type 0} → Option A → Option (List ℕ) → Option (List ℕ) → List ℕ → Type 0
-IsSetWritten None old new set = Appends old new set
-IsSetWritten (Some file) old new set = Keeps old new ⊎ Appends old new set
+-- how a set was written: to the writer; or to the file that is named, which may be where the writer writes
+abbrev pub IsSetRun : {A B : Type 0} → Option A → Writes → Writes → List ℕ → Result B Failure → Type 0
+IsSetRun None writes writes' set (Ok b) = IsWritten writes writes' set
+IsSetRun None writes writes' set (Err f) = (f ≡ failure.Output) × (written : ℕ) × IsWrittenInPart writes writes' set written
+IsSetRun (Some file) writes writes' set (Ok b) = (writes' ≡ writes) ⊎ IsWritten writes writes' set
+IsSetRun (Some file) writes writes' set (Err f) =
+    (((f ≡ failure.Output) ⊎ (f ≡ failure.NoMemory)) × (writes' ≡ writes))
+    ⊎ ((f ≡ failure.Output) × (written : ℕ) × IsWrittenInPart writes writes' set written)
 
--- the output failed, or memory was short before anything was written
-abbrev pub IsUnwritten : Option (List ℕ) → Option (List ℕ) → Failure → Type 0
-IsUnwritten old new f = (f ≡ failure.Output) ⊎ ((f ≡ failure.NoMemory) × Keeps old new)
-
--- `compile`: the set of the folder's texts, or their first fault and nothing written
-abbrev pub IsCompileRun : {A : Type 0} → Known → Option A → Option (List ℕ) → Option (List ℕ) → Result (Unit {0}) Failure
-    → Type 0
-IsCompileRun known file old new (Ok a) =
-    (limits : Limits) × AreStandard limits × (texts : List NamedText) × AreTextsOf known texts
-    × (set : List ℕ) × IsSetOfTexts limits texts set × IsSetWritten file old new set
-IsCompileRun known file old new (Err f) =
-    (f ≡ failure.Output) ⊎ ((limits : Limits) × AreStandard limits × IsToldOfFolder limits known f × Keeps old new)
+-- `compile`: the set of the folder's texts is written; or their first fault is told, and nothing written
+abbrev pub IsCompileRun : {A B : Type 0} → Known → Option A → Writes → Writes → Result B Failure → Type 0
+IsCompileRun known file writes writes' done =
+    (limits : Limits) × AreStandard limits
+    × (IsErrAnd done (λ f. IsToldOfFolder limits known f × (writes' ≡ writes))
+    ⊎ ((texts : List NamedText) × AreTextsOf known texts × (set : List ℕ) × IsSetOfTexts limits texts set
+    × IsSetRun file writes writes' set done))
 
 -- `answer`: the exchange over what the folder's texts are compiled to; or their first fault, and nothing read or written
-abbrev pub IsAnswerRun : Known → Mode → Reads → Reads → Writes → Writes → Result (Unit {0}) Failure → Type 0
+abbrev pub IsAnswerRun : {A : Type 0} → Known → Mode → Reads → Reads → Writes → Writes → Result A Failure → Type 0
 IsAnswerRun known mode reads reads' writes writes' (Ok a) =
     (limits : Limits) × AreStandard limits × (c : Compilation) × IsCompiledTo limits known c
-    × IsExchange mode c reads reads' writes writes' (Ok a)
+    × IsExchange {A = Unit {0}} mode c reads reads' writes writes' (Ok tt)
 IsAnswerRun known mode reads reads' writes writes' (Err f) =
     (limits : Limits) × AreStandard limits
     × ((IsToldOfFolder limits known f × (reads' ≡ reads) × (writes' ≡ writes))
     ⊎ ((c : Compilation) × IsCompiledTo limits known c × (fault : IoFault) × (f ≡ of_exchange fault)
     × IsExchange {A = Unit {0}} mode c reads reads' writes writes' (Err fault)))
+
+-- `explain`: some text is written whole, and no call fails; or one does; or memory was short, and nothing is written
+abbrev pub IsExplainRun : {A : Type 0} → Writes → Writes → Result A Failure → Type 0
+IsExplainRun writes writes' (Ok a) = (text : List ℕ) × IsWritten writes writes' text
+IsExplainRun writes writes' (Err f) =
+    ((f ≡ failure.NoMemory) × (writes' ≡ writes))
+    ⊎ ((f ≡ failure.Output) × (text : List ℕ) × (written : ℕ) × IsWrittenInPart writes writes' text written)

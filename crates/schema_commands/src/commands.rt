@@ -1,54 +1,66 @@
 //! The commands but `serve`: what each reads, and what it writes.
 
-ghost use Rattle.std.specs.Prelude.{◌-◌, ◌<◌, ◌^◌, [], ◌∷◌, IfErr, IfOk, OnOk, string_bytes};
-ghost use Rattle.schema_commands.specs.Runs.{AreCompiledTo, AreSourcesOf, IsAnswerRun, IsCompileRun, IsCompiledTo, IsDescribeRun, IsDigitsOf, IsSetOfTexts, IsSetWritten, IsToldOf, IsToldOfFolder, IsToldOfTexts, IsUnwritten};
+ghost use Rattle.std.specs.Prelude.{◌-◌, ◌<◌, ◌^◌, [], ◌∷◌, IfErr, IfOk, string_bytes};
+ghost use Rattle.schema_commands.specs.Runs.{AreCompiledTo, AreSourcesOf, IsAnswerRun, IsCompileRun, IsCompiledTo, IsDescribeRun, IsExplainRun, IsLineOf, IsSetOfTexts, IsSetRun, IsToldOf, IsToldOfFolder, IsToldOfTexts};
 
-use crate::explanation::{write_kind, write_kinds};
-use crate::folder::SourceFolder;
 use crate::whole_file::write_whole;
-use grpcweb_core::{CountedRead, CountedWrite, Mode, answer_io};
+use grpcweb_core::{CountedRead, CountedWrite, Mode, answer_io, read_bytes, write_bytes};
 use proto_base::{Limit, Limits};
 use proto_compile::{CompileError, Compiled, Source, compile};
-use schema_devices::{read_input, write_bytes, write_line};
+use schema_explanation::{Topic, topics};
 use schema_failure::{Failure, locate};
 use schema_headline::{describe, set_of_sources};
+use schema_sources::SourceFolder;
 use share_work::{NoGate, Plan};
 use source_folder::NamedText;
 use std::alloc::{AllocError, AllocGlobal, Global};
-use std::io::{Read, Write};
+use std::fmt::Write;
 use std::random::RandomSource;
 use std::rt::Files;
 use std::thread::Threads;
 
-/// The descriptor of a source in hexadecimal digits.
-fn digits_of<R>(rt: &R, name: &str, text: &[u8], limits: &Limits) -> Result<String, Failure>
+/// The descriptor of a source in hexadecimal digits, and a line feed.
+fn line_of_source<R>(rt: &R, name: &str, text: &[u8], limits: &Limits) -> Result<String, Failure>
 where
     R: Threads + AllocGlobal + Sync,
-    ensures digits { IfOk result (λ line. IsDigitsOf limits.now
+    ensures line { IfOk result (λ line. IsLineOf limits.now
         (record { name = name.entry; text = text.entry }) (string_bytes line)) }
     ensures refused { IfErr result (IsToldOf limits.now
         (record { name = name.entry; text = text.entry } ∷ [])) }
 {
     match describe(rt, name, text, limits) {
-        Ok(bytes) => Ok(hex::encode(rt.alloc(), bytes)?),
+        Ok(bytes) => {
+            let mut line = hex::encode(rt.alloc(), bytes)?;
+            line.push('\n')?;
+            Ok(line)
+        }
         Err(CompileError::NoMemory) => Err(Failure::NoMemory),
         Err(CompileError::First(fault)) => Err(locate(fault, &[Source { name, text }])),
     }
 }
 
-/// Describes the source on the input.
-pub fn run_describe<R, I, O>(rt: &R, name: &str, input: I, output: &mut O) -> Result<(), Failure>
+/// Describes the source that a reader gives.
+pub fn run_describe<R, I, O>(
+    rt: &R,
+    name: &str,
+    reader: &mut I,
+    writer: &mut O,
+) -> Result<(), Failure>
 where
     R: Threads + AllocGlobal + Sync,
-    I: Read + Drop,
-    O: Write,
-    ensures { IsDescribeRun name.now (I.remaining input) (O.contents output.old)
-        (O.contents output.new) result }
+    I: CountedRead,
+    O: CountedWrite,
+    requires reader_counts { (I.reads reader.old).failures < 2 ^ 64 - 1 }
+    requires writer_counts { (O.writes writer.old).failures < 2 ^ 64 - 1 }
+    ensures { IsDescribeRun name.now (I.reads reader.old) (I.reads reader.new)
+        (O.writes writer.old) (O.writes writer.new) result }
 {
     let limits = Limits::standard();
-    let text = read_input(rt.alloc(), input, &limits, Limit::FileBytes)?;
-    let digits = digits_of(rt, name, &text, &limits)?;
-    write_line(output, digits.as_str())
+    let most = limits.get(Limit::FileBytes) as usize + 1;
+    let text = read_bytes(rt.alloc(), reader, most)?;
+    let line = line_of_source(rt, name, &text, &limits)?;
+    write_bytes(writer, line.as_bytes())?;
+    Ok(())
 }
 
 /// The sources that are read texts.
@@ -86,40 +98,40 @@ where
     }
 }
 
-/// Writes a set to a file or, without one or where it is `-`, to the output.
-fn write_set<R, O>(rt: &R, file: Option<&str>, set: &[u8], output: &mut O) -> Result<(), Failure>
+/// Writes a set to a file or, without one, to the writer.
+fn write_set<R, O>(rt: &R, file: Option<&str>, set: &[u8], writer: &mut O) -> Result<(), Failure>
 where
     R: Files + RandomSource + AllocGlobal,
-    O: Write,
-    ensures written { OnOk result (IsSetWritten file.entry (O.contents output.old)
-        (O.contents output.new) set.now) }
-    ensures refused { IfErr result (IsUnwritten (O.contents output.old) (O.contents output.new)) }
+    O: CountedWrite,
+    requires { (O.writes writer.old).failures < 2 ^ 64 - 1 }
+    ensures { IsSetRun file.entry (O.writes writer.old) (O.writes writer.new) set.now result }
 {
     match file {
-        Some("-") | None => write_bytes(output, set),
-        Some(path) => write_whole(rt, path, set, output),
+        Some(path) => write_whole(rt, path, set, writer),
+        None => Ok(write_bytes(writer, set)?),
     }
 }
 
-/// Compiles the sources of a folder, and writes the set to a file or, without one or where it is `-`, to the output.
+/// Compiles the sources of a folder, and writes the set to a file or, without one, to the writer.
 pub fn run_compile<R, F, O>(
     rt: &R,
     folder: &F,
     plan: Plan,
     file: Option<&str>,
-    output: &mut O,
+    writer: &mut O,
 ) -> Result<(), Failure>
 where
     R: Threads + Files + RandomSource + AllocGlobal + Sync,
     F: SourceFolder,
-    O: Write,
-    ensures { IsCompileRun (F.sources folder.now) file.entry (O.contents output.old)
-        (O.contents output.new) result }
+    O: CountedWrite,
+    requires { (O.writes writer.old).failures < 2 ^ 64 - 1 }
+    ensures { IsCompileRun (F.sources folder.now) file.entry (O.writes writer.old)
+        (O.writes writer.new) result }
 {
     let limits = Limits::standard();
     let texts = folder.read(&limits)?;
     let set = set_of_texts(rt, &texts, &limits, plan)?;
-    write_set(rt, file, &set, output)
+    write_set(rt, file, &set, writer)
 }
 
 /// What read texts are compiled to, or their first fault.
@@ -185,11 +197,28 @@ where
     Ok(())
 }
 
-/// Explains a kind of fault, or lists all kinds.
-pub fn run_explain<O: Write>(kind: Option<&str>, output: &mut O) -> Result<(), Failure> {
-    let written = match kind {
-        Some(name) => write_kind(output, name),
-        None => write_kinds(output),
-    };
-    written.map_err(|_| Failure::Output)
+/// What `explain` prints: all that is said of a topic, or a line for each topic.
+fn explanation(alloc: Global, topic: Option<Topic>) -> Result<String, AllocError> {
+    if let Some(topic) = topic {
+        return format!(in alloc; "{}\n\n{}\n", topic.name(), topic.text());
+    }
+    let mut lines = String::new(alloc);
+    for topic in topics() {
+        writeln!(lines, "{:<20}{}", topic.name(), topic.meaning())?;
+    }
+    Ok(lines)
+}
+
+/// Explains a kind of fault or another line, or lists all.
+pub fn run_explain<O: CountedWrite>(
+    alloc: Global,
+    topic: Option<Topic>,
+    writer: &mut O,
+) -> Result<(), Failure>
+    requires { (O.writes writer.old).failures < 2 ^ 64 - 1 }
+    ensures { IsExplainRun (O.writes writer.old) (O.writes writer.new) result }
+{
+    let text = explanation(alloc, topic)?;
+    write_bytes(writer, text.as_bytes())?;
+    Ok(())
 }

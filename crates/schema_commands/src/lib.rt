@@ -2,10 +2,6 @@
 #![tactic(auto)]
 
 mod commands;
-mod explanation;
-mod folder;
 mod whole_file;
 
 pub use commands::{compile_folder, run_answer, run_compile, run_describe, run_explain};
-pub use explanation::kind_names;
-pub use folder::{SourceFolder, SystemFolder};

@@ -1,11 +1,10 @@
 //! A set that goes to a file. Where the system lets it be, the file is written whole or not at all: under a name beside
 //! it, which then takes its place.
 
-ghost use Rattle.std.specs.Prelude.{◌⊎◌, IfErr, OnOk};
-ghost use Rattle.std.specs.Io.KnownBytes.{Appends, Keeps};
-ghost use Rattle.schema_commands.specs.Runs.{IsUnwritten};
+ghost use Rattle.std.specs.Prelude.{◌-◌, ◌<◌, ◌^◌, Some};
+ghost use Rattle.schema_commands.specs.Runs.{IsSetRun};
 
-use schema_devices::write_bytes;
+use grpcweb_core::{CountedWrite, write_bytes};
 use schema_failure::Failure;
 use std::alloc::AllocGlobal;
 use std::fs::{self, File, FileType, Metadata, OpenFile};
@@ -244,22 +243,21 @@ fn write_device<R: Files>(rt: &R, path: &str, bytes: &[u8]) -> io::Result<()> {
     device.write_all(bytes)
 }
 
-/// Writes a set where a path leads.
+/// Writes a set where a path leads, which may be to the writer.
 pub(crate) fn write_whole<R, O>(
     rt: &R,
     path: &str,
     bytes: &[u8],
-    output: &mut O,
+    writer: &mut O,
 ) -> Result<(), Failure>
 where
     R: Files + RandomSource + AllocGlobal,
-    O: Write,
-    ensures written { OnOk result (Keeps (O.contents output.old) (O.contents output.new)
-        ⊎ Appends (O.contents output.old) (O.contents output.new) bytes.now) }
-    ensures refused { IfErr result (IsUnwritten (O.contents output.old) (O.contents output.new)) }
+    O: CountedWrite,
+    requires { (O.writes writer.old).failures < 2 ^ 64 - 1 }
+    ensures { IsSetRun (Some path.entry) (O.writes writer.old) (O.writes writer.new) bytes.now result }
 {
     let written = match place_of(rt, path) {
-        Ok(Place::StandardOutput) => return write_bytes(output, bytes),
+        Ok(Place::StandardOutput) => return Ok(write_bytes(writer, bytes)?),
         Ok(Place::Device) => write_device(rt, path, bytes),
         Ok(Place::File(file)) => rewrite(rt, file.as_path(), bytes),
         Ok(Place::Free(free)) => replace(rt, free.as_path(), bytes, None),

@@ -4,4 +4,4 @@
 mod table;
 mod topic;
 
-pub use topic::{Topic, cure_of, meaning_of, topics};
+pub use topic::{Topic, topics};

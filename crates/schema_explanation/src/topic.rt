@@ -41,6 +41,16 @@ impl Topic {
         text_of(self)
     }
 
+    /// What it means, in a sentence or two.
+    pub fn meaning(self) -> &'static str {
+        self.text().lines().next().unwrap_or("")
+    }
+
+    /// How it is cured: a line that begins with `Cure: `.
+    pub fn cure(self) -> &'static str {
+        self.text().lines().last().unwrap_or("")
+    }
+
     /// Whether a text is its name, or a line that ends with it, in any case of letters.
     fn is_named(self, text: &str) -> bool {
         let name = last_word(self.name());
@@ -79,14 +89,4 @@ fn last_word(text: &str) -> &str {
 /// All topics, in the order of the passes that tell them; the lines without a kind come last.
 pub fn topics() -> &'static [Topic] {
     &TOPICS
-}
-
-/// What a kind of fault means, in a sentence or two.
-pub fn meaning_of(kind: Kind) -> &'static str {
-    text_of(Topic::Kind(kind)).lines().next().unwrap_or("")
-}
-
-/// How a fault of a kind is cured: a line that begins with `Cure: `.
-pub fn cure_of(kind: Kind) -> &'static str {
-    text_of(Topic::Kind(kind)).lines().last().unwrap_or("")
 }

@@ -3,6 +3,8 @@ use Rattle.std.specs.Prelude.{ℕ, Result, Ok, Err}
 use Rattle.schema_failure.specs.declared.failure.Failure.{Failure}
 use Rattle.schema_failure.specs.declared.failure.Failure.TheVariants as failure
 use Rattle.schema_failure.specs.declared.failure.Status.{Status}
+use Rattle.schema_failure.specs.declared.failure.Verdict.{Verdict}
+use Rattle.schema_failure.specs.declared.failure.Verdict.TheVariants as verdict
 use Rattle.schema_failure.specs.declared.failure.Status.TheVariants as status
 
 -- a fault of the sources, a device that failed, or no memory
@@ -23,7 +25,8 @@ code_of status.CommandLine = 2
 code_of status.Device = 3
 code_of status.NoMemory = 4
 
--- a run that came to its end is done, and one that failed ends with the status of its failure
-abbrev pub status_after : Result (Unit {0}) Failure → Status
-status_after (Ok a) = status.Done
+-- a run that came to its end is done, unless it found faults; and one that failed ends with the status of its failure
+abbrev pub status_after : Result Verdict Failure → Status
+status_after (Ok verdict.Sound) = status.Done
+status_after (Ok verdict.Faulty) = status.Fault
 status_after (Err failure) = status_of failure

@@ -1,6 +1,7 @@
 //! A failure, and what a run ends with.
 
-ghost use Rattle.std.specs.Prelude.{◌≡◌, ◌<◌, ◌≤◌, ◌-◌, ◌^◌, Contains, IfSome, Some, length, option_map, string_bytes};
+ghost use Rattle.std.specs.Prelude.{◌≡◌, ◌<◌, ◌≤◌, ◌-◌, ◌^◌, ◌++◌, [], ◌∷◌, Contains, IfSome, OnOk, Some, length, option_map, string_bytes};
+ghost use Rattle.std.specs.Io.KnownBytes.{Appends};
 ghost use Rattle.device_error.specs.Memory.{IsUnlessNoMemory};
 ghost use Rattle.proto_compile.specs.Sources.{name_of, text_of};
 ghost use Rattle.proto_compile.specs.declared.source.Source.{Source};
@@ -10,6 +11,7 @@ ghost use Rattle.schema_failure.specs.Lines.{line_of};
 ghost use Rattle.schema_failure.specs.Placed.{located, source_named};
 ghost use Rattle.schema_failure.specs.Statuses.{code_of, status_after, status_of};
 
+use crate::shown::Shown;
 use device_error::{ServeFault, is_no_memory};
 use grpcweb_core::IoFault;
 use proto_base::{Fault, Kind, line_column};
@@ -17,7 +19,8 @@ use proto_compile::Source;
 use source_folder::FolderFault;
 use std::alloc::{AllocError, AllocFailed};
 use std::error::Error;
-use std::{fmt, io};
+use std::fmt;
+use std::io::{self, Write};
 
 /// What a run ends with.
 #[derive(Clone, Copy)]
@@ -29,13 +32,23 @@ pub enum Status {
     NoMemory,
 }
 
+/// What a run that came to its end found of the sources.
+#[derive(Clone, Copy)]
+pub enum Verdict {
+    /// They have no fault, or the run was not over sources.
+    Sound,
+    /// They have faults, which the run told on its output.
+    Faulty,
+}
+
 impl Status {
     /// The status of a run that ended so.
-    pub fn after(done: &Result<(), Failure>) -> Status
+    pub fn after(done: &Result<Verdict, Failure>) -> Status
         ensures { result ≡ status_after done.now }
     {
         match done {
-            Ok(()) => Status::Done,
+            Ok(Verdict::Sound) => Status::Done,
+            Ok(Verdict::Faulty) => Status::Fault,
             Err(failure) => failure.status(),
         }
     }
@@ -110,7 +123,7 @@ impl fmt::Display for Failure {
                 line,
                 column,
                 kind,
-            } => write!(f, "{file}:{line}:{column}: {kind}"),
+            } => write!(f, "{}:{line}:{column}: {kind}", Shown(file.as_str())),
             Failure::Input => f.write_str("device: input"),
             Failure::Output => f.write_str("device: output"),
             Failure::Folder => f.write_str("device: folder"),
@@ -122,6 +135,14 @@ impl fmt::Display for Failure {
 }
 
 impl Error for Failure {}
+
+/// Writes the line of a failure.
+pub fn write_failure<E: Write>(failure: &Failure, faults: &mut E) -> io::Result<()>
+    ensures { OnOk result (Appends (E.contents faults.old) (E.contents faults.new)
+        (line_of failure.now ++ 10 ∷ [])) }
+{
+    writeln!(faults, "{failure}")
+}
 
 impl From<AllocError> for Failure {
     ghost from_gives = { λ _ e. e ≡ failures.NoMemory };

@@ -2,5 +2,6 @@
 #![tactic(auto)]
 
 mod failure;
+mod shown;
 
-pub use failure::{Failure, Status, locate};
+pub use failure::{Failure, Status, Verdict, locate, write_failure};

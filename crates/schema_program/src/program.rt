@@ -1,21 +1,21 @@
 //! The whole program, over any reader and writers.
 
-ghost use Rattle.std.specs.Prelude.{◌≡◌, ◌≤◌};
-ghost use Rattle.schema_failure.specs.Statuses.{status_after, status_of};
-ghost use Rattle.schema_program.specs.Performed.{IsPerformed};
+ghost use Rattle.std.specs.Prelude.{◌≡◌, ◌-◌, ◌<◌, ◌^◌};
+ghost use Rattle.schema_failure.specs.Statuses.{status_after};
+ghost use Rattle.schema_program.specs.Performed.{IsPerformed, IsRun, IsUsageRun};
 
 use crate::serving::run_serve;
 use clap::Error;
 use clap::error::ErrorKind;
-use grpcweb_core::Counted;
-use schema_command_line::{Task, task_of};
-use schema_commands::{
-    SystemFolder, kind_names, run_answer, run_compile, run_describe, run_explain,
-};
-use schema_devices::write_failure;
-use schema_failure::{Failure, Status};
-use std::alloc::AllocGlobal;
-use std::io::{Read, Write};
+use grpcweb_core::{CountedRead, CountedWrite, write_bytes};
+use schema_check::run_check;
+use schema_command_line::{Selection, Task, task_of};
+use schema_commands::{run_answer, run_compile, run_describe, run_explain};
+use schema_failure::{Failure, Status, Verdict, write_failure};
+use schema_sources::SystemFolder;
+use share_work::Plan;
+use std::alloc::{AllocGlobal, Global};
+use std::io::Write;
 use std::net::Net;
 use std::random::RandomSource;
 use std::rt::Files;
@@ -23,65 +23,75 @@ use std::sync::Wait;
 use std::thread::Threads;
 use std::time::Clock;
 
-/// Prints what `clap` has to say: help and the version on the output, and what is wrong with the words on the faults.
-fn print_usage<O: Write, E: Write>(error: Error, output: &mut O, faults: &mut E) -> Status {
-    match error.kind() {
-        ErrorKind::OutOfMemory => report(Failure::NoMemory, faults),
-        ErrorKind::DisplayHelp | ErrorKind::DisplayVersion => {
-            if write!(output, "{error}").is_err() || output.flush().is_err() {
-                return report(Failure::Output, faults);
-            }
-            Status::Done
-        }
-        _ => {
-            let _ = write!(faults, "{error}");
-            Status::CommandLine
-        }
-    }
-}
-
-/// Prints the line of a failure. That it cannot be printed changes nothing.
-fn report<E: Write>(failure: Failure, faults: &mut E) -> Status
-    ensures { result ≡ status_of failure }
-{
-    let _ = write_failure(&failure, faults);
-    failure.status()
+/// The folders and files that the words select.
+pub(crate) fn folder_of<'a, R>(
+    rt: &'a R,
+    selection: &'a Selection<'a>,
+    plan: Plan,
+) -> SystemFolder<'a, R> {
+    SystemFolder::new(
+        rt,
+        selection.root,
+        &selection.includes,
+        &selection.files,
+        plan,
+    )
 }
 
 /// Does what a task asks for.
-fn perform<R, I, O>(rt: &R, task: Task, input: I, output: &mut O) -> Result<(), Failure>
+fn perform<R, I, O>(rt: &R, task: &Task, input: &mut I, output: &mut O) -> Result<Verdict, Failure>
 where
     R: Wait + Threads + Files + Clock + RandomSource + AllocGlobal + Sync + Clone + Drop + Net,
-    I: Read + Drop,
-    O: Write,
-    ensures { IsPerformed task.entry (I.remaining input) (O.contents output.old)
-        (O.contents output.new) result }
+    I: CountedRead,
+    O: CountedWrite,
+    requires reader_counts { (I.reads input.old).failures < 2 ^ 64 - 1 }
+    requires writer_counts { (O.writes output.old).failures < 2 ^ 64 - 1 }
+    ensures { IsPerformed task.now (I.reads input.old) (I.reads input.new) (O.writes output.old)
+        (O.writes output.new) result }
 {
     match task {
-        Task::Describe { name } => run_describe(rt, name, input, output),
-        Task::Compile { root, plan, file } => {
-            let folder = SystemFolder::new(rt, root);
-            run_compile(rt, &folder, plan, file, output)
+        Task::Compile {
+            selection,
+            plan,
+            file,
+        } => {
+            run_compile(rt, &folder_of(rt, selection, *plan), *plan, *file, output)?;
         }
-        Task::Explain { kind } => run_explain(kind, output),
-        Task::Answer { root, plan, mode } => {
-            let folder = SystemFolder::new(rt, root);
-            let mut reader = Counted::new(input);
-            let mut writer = Counted::new(output);
-            run_answer(rt, &folder, plan, mode, &mut reader, &mut writer)
+        Task::Check { selection, plan } => {
+            return run_check(rt, &folder_of(rt, selection, *plan), *plan, output);
         }
         Task::Serve {
-            root,
+            selection,
             listen,
             plan,
             mode,
             connections,
-        } => run_serve(rt, root, listen, plan, mode, connections, output),
+        } => {
+            let folder = folder_of(rt, selection, *plan);
+            run_serve(rt, &folder, listen, *plan, *mode, *connections, output)?;
+        }
+        Task::Answer {
+            selection,
+            plan,
+            mode,
+        } => {
+            run_answer(
+                rt,
+                &folder_of(rt, selection, *plan),
+                *plan,
+                *mode,
+                input,
+                output,
+            )?;
+        }
+        Task::Describe { name } => run_describe(rt, name, input, output)?,
+        Task::Explain { topic } => run_explain(rt.alloc(), *topic, output)?,
     }
+    Ok(Verdict::Sound)
 }
 
-/// The status of a run that ends so, after the line of its failure.
-fn finish<E: Write>(done: Result<(), Failure>, faults: &mut E) -> Status
+/// The status of a run that ends so, after the line of its failure. That it cannot be printed changes nothing.
+fn finish<E: Write>(done: Result<Verdict, Failure>, faults: &mut E) -> Status
     ensures { result ≡ status_after done }
 {
     let status = Status::after(&done);
@@ -91,25 +101,59 @@ fn finish<E: Write>(done: Result<(), Failure>, faults: &mut E) -> Status
     status
 }
 
+/// Prints a text on the output.
+fn print_text<O: CountedWrite>(
+    alloc: Global,
+    error: &Error,
+    output: &mut O,
+) -> Result<Verdict, Failure>
+    requires { (O.writes output.old).failures < 2 ^ 64 - 1 }
+    ensures { IsUsageRun (O.writes output.old) (O.writes output.new) (status_after result) }
+{
+    let text = format!(in alloc; "{error}")?;
+    write_bytes(output, text.as_bytes())?;
+    Ok(Verdict::Sound)
+}
+
+/// Prints what `clap` has to say: help and the version on the output, and what is wrong with the words on the faults.
+fn tell_usage<O: CountedWrite, E: Write>(
+    alloc: Global,
+    error: Error,
+    output: &mut O,
+    faults: &mut E,
+) -> Status
+    requires { (O.writes output.old).failures < 2 ^ 64 - 1 }
+    ensures { IsUsageRun (O.writes output.old) (O.writes output.new) result }
+{
+    match error.kind() {
+        ErrorKind::OutOfMemory => finish(Err(Failure::NoMemory), faults),
+        ErrorKind::DisplayHelp | ErrorKind::DisplayVersion => {
+            finish(print_text(alloc, &error, output), faults)
+        }
+        _ => {
+            let _ = write!(faults, "{error}");
+            Status::CommandLine
+        }
+    }
+}
+
 /// Runs the program on `words`, whose first is its name, and gives its exit status: 0 done, 1 a fault of a source,
-/// 2 a wrong command line, 3 a device that failed, 4 no memory. For 1, 3 and 4 one line goes to `faults`, and for 2
-/// the text of `clap`. What `faults` refuses is lost.
-pub fn run<R, I, O, E>(rt: &R, words: &[&str], input: I, output: O, faults: E) -> u8
+/// 2 a wrong command line, 3 a device that failed, 4 no memory. For 1, 3 and 4 one line goes to `faults`, but for the faults
+/// that `check` tells on the output, and for 2 the text of `clap`. What `faults` refuses is lost.
+pub fn run<R, I, O, E>(rt: &R, words: &[&str], input: &mut I, output: &mut O, faults: &mut E) -> u8
 where
     R: Wait + Threads + Files + Clock + RandomSource + AllocGlobal + Sync + Clone + Drop + Net,
-    I: Read + Drop,
-    O: Write + Drop,
-    E: Write + Drop,
-    ensures { result ≤ 4 }
+    I: CountedRead,
+    O: CountedWrite,
+    E: Write,
+    requires reader_counts { (I.reads input.old).failures < 2 ^ 64 - 1 }
+    requires writer_counts { (O.writes output.old).failures < 2 ^ 64 - 1 }
+    ensures { IsRun (I.reads input.old) (I.reads input.new) (O.writes output.old)
+        (O.writes output.new) result }
 {
-    let mut output = output;
-    let mut faults = faults;
-    let Ok(kinds) = kind_names(rt.alloc()) else {
-        return report(Failure::NoMemory, &mut faults).code();
-    };
-    let status = match task_of(rt.alloc(), words, &kinds) {
-        Err(error) => print_usage(error, &mut output, &mut faults),
-        Ok(task) => finish(perform(rt, task, input, &mut output), &mut faults),
+    let status = match task_of(rt.alloc(), words) {
+        Ok(task) => finish(perform(rt, &task, input, output), faults),
+        Err(error) => tell_usage(rt.alloc(), error, output, faults),
     };
     status.code()
 }

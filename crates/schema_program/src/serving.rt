@@ -1,16 +1,17 @@
 //! The command `serve`.
 
-use grpcweb_core::Mode;
+ghost use Rattle.std.specs.Prelude.{◌-◌, ◌<◌, ◌^◌};
+
+use grpcweb_core::{CountedWrite, Mode, write_bytes};
 use grpcweb_service::serve;
 use proto_base::Limits;
-use schema_commands::{SystemFolder, compile_folder};
+use schema_commands::compile_folder;
 use schema_failure::Failure;
+use schema_sources::SourceFolder;
 use share_work::{NoGate, Plan};
 use std::alloc::AllocGlobal;
-use std::io::Write;
 use std::net::{Net, SocketAddr};
 use std::random::RandomSource;
-use std::rt::Files;
 use std::sync::{Arc, Wait};
 use std::thread::Threads;
 use std::time::Clock;
@@ -30,10 +31,10 @@ where
     Ok((runtime, listener))
 }
 
-/// Serves reflection over the sources below a folder.
-pub(crate) fn run_serve<R, O>(
+/// Serves reflection over the sources of a folder.
+pub(crate) fn run_serve<R, F, O>(
     rt: &R,
-    root: &str,
+    folder: &F,
     listen: &str,
     plan: Plan,
     mode: Mode,
@@ -41,17 +42,17 @@ pub(crate) fn run_serve<R, O>(
     output: &mut O,
 ) -> Result<(), Failure>
 where
-    R: Wait + Threads + Files + Clock + RandomSource + AllocGlobal + Sync + Clone + Drop + Net,
-    O: Write,
+    R: Wait + Threads + Clock + RandomSource + AllocGlobal + Sync + Clone + Drop + Net,
+    F: SourceFolder,
+    O: CountedWrite,
+    requires { (O.writes output.old).failures < 2 ^ 64 - 1 }
 {
-    let folder = SystemFolder::new(rt, root);
-    let compiled = compile_folder(rt, &folder, &Limits::standard(), plan)?;
+    let compiled = compile_folder(rt, folder, &Limits::standard(), plan)?;
     let shared = Arc::new(rt.alloc(), compiled)?;
     let (mut runtime, listener) = listen_at(rt, listen)?;
     let bound = listener.local_addr().map_err(|_| Failure::Listen)?;
-    if writeln!(output, "listening on {bound}").is_err() || output.flush().is_err() {
-        return Err(Failure::Output);
-    }
+    let line = format!(in rt.alloc(); "listening on {bound}\n")?;
+    write_bytes(output, line.as_bytes())?;
     serve(
         rt,
         &mut runtime,

@@ -1,6 +1,7 @@
 //! A schema server for Protocol Buffers.
 #![tactic(auto)]
 
+use grpcweb_core::Counted;
 use schema_program::run;
 use std::process::ExitCode;
 use std::{env, io};
@@ -26,5 +27,7 @@ fn main(rt: HostRuntime) -> ExitCode {
     else {
         return without_words(&rt);
     };
-    ExitCode::from(run(&rt, &lent, rt.stdin(), rt.stdout(), rt.stderr()))
+    let mut input = Counted::new(rt.stdin());
+    let mut output = Counted::new(rt.stdout());
+    ExitCode::from(run(&rt, &lent, &mut input, &mut output, &mut rt.stderr()))
 }

@@ -1,28 +1,36 @@
 -- What the system tells of an entry.
-use Rattle.std.specs.Prelude.{◌≡◌, ◌≢◌, Result, Ok, Err}
-use Rattle.std.specs.Fs.{IsDir, IsFile, file_type, metadata_len}
+use Rattle.std.specs.Prelude.{◌≡◌, ◌≢◌, ◌==◌, ◌&&◌, Bool, Result, Ok, Err, alloc_error}
+use Rattle.std.specs.Fs.{IsDir, IsFile, file_type}
 use Rattle.std.specs.IoError.{error_kind}
+use Rattle.std.specs.declared.alloc.AllocError.{AllocError}
 use Rattle.std.specs.declared.fs.Metadata.{Metadata}
 use Rattle.std.specs.declared.io.Error.{Error}
 use Rattle.std.specs.declared.io.ErrorKind.TheVariants.{FilesystemLoop, NotADirectory, NotFound}
 use Rattle.device_error.specs.Memory.{LacksMemory}
-use Rattle.source_folder.specs.declared.fault.FolderFault.{FolderFault}
-use Rattle.source_folder.specs.declared.fault.FolderFault.TheVariants as faults
-use Rattle.source_folder.specs.declared.walk.Kind.{Kind}
-use Rattle.source_folder.specs.declared.walk.Kind.TheVariants as kind
+use Rattle.source_folder.specs.Reasons.{IsReasonOf}
+use Rattle.source_folder.specs.declared.kind.Identity.{Identity}
+use Rattle.source_folder.specs.declared.kind.Kind.{Kind}
+use Rattle.source_folder.specs.declared.kind.Kind.TheVariants as kind
+use Rattle.source_folder.specs.declared.reason.Reason.{Reason}
+use Rattle.source_folder.specs.declared.reason.Reason.TheVariants.{Untold}
+
+-- whether two folders are one
+abbrev pub is_same : Identity → Identity → Bool
+is_same a b = (a.device == b.device) && (a.inode == b.inode)
 
 -- the kind of what the system describes
 pub record IsKind (metadata : Metadata) (k : Kind) : Type 0 where
-  pub folder : IsDir (file_type metadata) → k ≡ kind.Folder
-  pub file : IsFile (file_type metadata) → k ≡ kind.File (metadata_len metadata)
-  pub other : (IsDir (file_type metadata) → ⊥) → (IsFile (file_type metadata) → ⊥) → k ≡ kind.Unreadable
+  pub folder : IsDir (file_type metadata) → (identity : Identity) × (k ≡ kind.Folder identity)
+  pub file : IsFile (file_type metadata) → k ≡ kind.File
+  pub other : (IsDir (file_type metadata) → ⊥) → (IsFile (file_type metadata) → ⊥) → k ≡ kind.Device
 
 -- the kind of what the system can't describe: what is not there, also behind a file, and a link that leads to itself
--- can't be read
-pub record IsKindBehind (error : Error) (answer : Result Kind FolderFault) : Type 0 where
-  pub memory : LacksMemory error → answer ≡ Err faults.NoMemory
-  pub missing : error_kind error ≡ NotFound → answer ≡ Ok kind.Unreadable
-  pub blocked : error_kind error ≡ NotADirectory → answer ≡ Ok kind.Unreadable
-  pub looping : error_kind error ≡ FilesystemLoop → answer ≡ Ok kind.Unreadable
+-- lead nowhere
+pub record IsKindBehind (error : Error) (answer : Result Kind AllocError) : Type 0 where
+  pub memory : LacksMemory error → answer ≡ Err alloc_error
+  pub missing : error_kind error ≡ NotFound → answer ≡ Ok kind.Nowhere
+  pub blocked : error_kind error ≡ NotADirectory → answer ≡ Ok kind.Nowhere
+  pub looping : error_kind error ≡ FilesystemLoop → answer ≡ Ok kind.Nowhere
   pub unknown : (LacksMemory error → ⊥) → error_kind error ≢ NotFound → error_kind error ≢ NotADirectory
-      → error_kind error ≢ FilesystemLoop → answer ≡ Ok kind.Unknown
+      → error_kind error ≢ FilesystemLoop
+      → (reason : Reason) × IsReasonOf error Untold reason × (answer ≡ Ok (kind.Unknown reason))

@@ -1,51 +1,79 @@
 -- Steps of a walk through folders.
-use Rattle.std.specs.Prelude.{◌≡◌, ℕ, ◌+◌, ◌==◌, ◌||◌, Bool, not, List, [], ◌∷◌, ◌++◌, map, if◌then◌else◌, Option, Some, None, string_bytes, vec_len}
-use Rattle.source_folder.specs.Paths.{ends_in_proto}
-use Rattle.source_folder.specs.declared.walk.Kind.{Kind}
-use Rattle.source_folder.specs.declared.walk.Kind.TheVariants as kind
-use Rattle.source_folder.specs.declared.walk.Source.{Source}
+use Rattle.std.specs.Prelude.{◌≡◌, ℕ, ◌+◌, ◌==◌, ◌⊎◌, Bool, List, [], ◌∷◌, ◌++◌, map, take, if◌then◌else◌, Option, None, Some, string_bytes, vec_len}
+use Rattle.std.specs.List.{list_any}
+use Rattle.source_folder.specs.Kinds.{is_same}
+use Rattle.source_folder.specs.Ordered.{paths_of}
+use Rattle.source_folder.specs.Paths.{ends_in_proto, joined_path}
+use Rattle.source_folder.specs.Troubles.{IsTroubleAt, no_memory}
+use Rattle.source_folder.specs.declared.fault.FolderFault.TheVariants as faults
+use Rattle.source_folder.specs.declared.kind.Identity.{Identity}
+use Rattle.source_folder.specs.declared.kind.Kind.{Kind}
+use Rattle.source_folder.specs.declared.kind.Kind.TheVariants as kind
+use Rattle.source_folder.specs.declared.reason.Reason.{Reason}
+use Rattle.source_folder.specs.declared.reason.Reason.TheVariants.{Circle, TooDeep, TooMany}
+use Rattle.source_folder.specs.declared.trouble.FolderTrouble.{FolderTrouble}
 use Rattle.source_folder.specs.declared.walk.Folder.{Folder}
 use Rattle.source_folder.specs.declared.walk.Walk.{Walk}
 
--- a source by its path and its size
-abbrev pub source_parts : Source → List ℕ × Option ℕ
-source_parts source = (string_bytes source.path, source.size)
-
--- a folder by its path and its depth
-abbrev pub folder_parts : Folder → List ℕ × ℕ
-folder_parts folder = (string_bytes folder.path, folder.depth)
-
--- the size of what can be read
-abbrev pub size_of : Kind → Option ℕ
-size_of (kind.File size) = Some size
-size_of _ = None
+-- a folder by its path, its depth and its identity
+abbrev pub folder_parts : Folder → List ℕ × ℕ × Identity
+folder_parts folder = (string_bytes folder.path, folder.depth, folder.identity)
 
 -- the sources that an entry adds: each entry that ends in `.proto` and is no folder
-abbrev pub added_sources : List ℕ → Kind → List (List ℕ × Option ℕ)
-added_sources path kind.Folder = []
-added_sources path k = if ends_in_proto path then (path, size_of k) ∷ [] else []
+abbrev pub added_sources : List ℕ → Kind → List (List ℕ)
+added_sources path (kind.Folder identity) = []
+added_sources path k = if ends_in_proto path then path ∷ [] else []
 
 -- the folders that an entry adds, in a folder so deep
-abbrev pub added_folders : List ℕ → ℕ → Kind → List (List ℕ × ℕ)
-added_folders path depth kind.Folder = (path, depth + 1) ∷ []
+abbrev pub added_folders : List ℕ → ℕ → Kind → List (List ℕ × ℕ × Identity)
+added_folders path depth (kind.Folder identity) = (path, depth + 1, identity) ∷ []
 added_folders path depth _ = []
 
 -- an entry of this path and kind, in a folder so deep, is added to what is known
 pub record TakesIn (path : List ℕ) (depth : ℕ) (k : Kind) (old new : Walk) : Type 0 where
-  pub sources : map source_parts new.sources.items ≡ map source_parts old.sources.items ++ added_sources path k
+  pub sources : paths_of new.sources.items ≡ paths_of old.sources.items ++ added_sources path k
   pub folders : map folder_parts new.folders.items ≡ map folder_parts old.folders.items ++ added_folders path depth k
   pub counted : new.entries_left + 1 ≡ old.entries_left
+  pub way : new.way ≡ old.way
 
--- whether an entry can't be taken in, where so many more may be: a folder that is too deep, or what may be one
-abbrev pub is_refused : ℕ → List ℕ → ℕ → Kind → Bool
-is_refused left path depth kind.Folder = left == 0 || depth == 64
-is_refused left path depth kind.Unknown = left == 0 || not (ends_in_proto path)
-is_refused left path depth _ = left == 0
+-- whether a folder is one on the way from the root to the folder that is listed
+abbrev pub is_on_way : Walk → Identity → Bool
+is_on_way walk identity = list_any (is_same identity) walk.way.items
+
+-- why an entry that can be listed can't be taken in: it is a folder that lies in itself or is too deep, or may be a folder
+abbrev pub refusal_of_kind : Walk → List ℕ → ℕ → Kind → Option Reason
+refusal_of_kind walk path depth (kind.Folder identity) =
+    if is_on_way walk identity then Some Circle else (if depth == 64 then Some TooDeep else None)
+refusal_of_kind walk path depth (kind.Unknown reason) = if ends_in_proto path then None else Some reason
+refusal_of_kind walk path depth k = None
+
+-- why an entry can't be taken in: there are too many, or what it is
+abbrev pub refusal_of : Walk → List ℕ → ℕ → Kind → Option Reason
+refusal_of walk path depth k = if walk.entries_left == 0 then Some TooMany else refusal_of_kind walk path depth k
+
+-- an entry of this name in a folder, whatever it is, is added to what is known
+abbrev pub TakesEntry : Folder → List ℕ → Walk → Walk → Type 0
+TakesEntry folder name old new =
+    (k : Kind) × TakesIn (joined_path (string_bytes folder.path) name) folder.depth k old new
+
+-- an entry of this name in a folder, whatever it is, can't be taken in, and that is told of it; or memory was short
+abbrev pub IsRefusedAt : Folder → (name whole : List ℕ) → Walk → FolderTrouble → Type 0
+IsRefusedAt folder name whole walk trouble = (trouble ≡ no_memory) ⊎ ((k : Kind) × (reason : Reason)
+    × (refusal_of walk (joined_path (string_bytes folder.path) name) folder.depth k ≡ Some reason)
+    × IsTroubleAt faults.Listing whole reason trouble)
+
+-- the way leads on to a folder, from the folder in which it lies
+pub record Enters (folder : Folder) (old new : Walk) : Type 0 where
+  pub way : new.way.items ≡ take folder.depth old.way.items ++ folder.identity ∷ []
+  pub sources : new.sources ≡ old.sources
+  pub folders : new.folders ≡ old.folders
+  pub left : new.entries_left ≡ old.entries_left
 
 -- a walk that begins at the root
-pub record IsStart (walk : Walk) : Type 0 where
+pub record IsStart (root : Identity) (walk : Walk) : Type 0 where
   pub sources : walk.sources.items ≡ []
-  pub folders : map folder_parts walk.folders.items ≡ ([], 0) ∷ []
+  pub folders : map folder_parts walk.folders.items ≡ ([], 0, root) ∷ []
+  pub way : walk.way.items ≡ []
   pub left : walk.entries_left ≡ 1048576
 
 -- how many more folders can be listed

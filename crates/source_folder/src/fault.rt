@@ -1,53 +1,37 @@
 //! Why a folder could not be read.
 
-ghost use Rattle.std.specs.Prelude.{◌≡◌};
-ghost use Rattle.device_error.specs.Memory.{IsUnlessNoMemory};
+ghost use Rattle.std.specs.Prelude.{◌≡◌, Some};
+ghost use Rattle.source_folder.specs.Reasons.{words_of_fault};
 ghost use Rattle.source_folder.specs.declared.fault.FolderFault.TheVariants as faults;
 
-use device_error::is_no_memory;
 use std::alloc::{AllocError, AllocFailed};
-use std::io;
-use thiserror::Error;
+use std::error::Error;
+use std::fmt;
 
 /// Why a folder could not be read.
-#[derive(Debug, Drop, Error)]
+#[derive(Debug, Drop)]
 pub enum FolderFault {
-    /// A folder can't be listed, lies too deep, or has an entry whose name is no text, or there are too many entries.
-    #[error("a folder can't be listed")]
+    /// A folder can't be listed, lies too deep, is one in which the link that leads to it lies, or has an entry whose
+    /// name is no text, or there are too many entries.
     Listing,
     /// A source can't be read.
-    #[error("a source can't be read")]
     Reading,
-    #[error("out of memory")]
     NoMemory,
 }
 
-impl FolderFault {
-    /// What an error in a listing is.
-    pub(crate) fn listing(error: io::Error) -> FolderFault
-        ensures { IsUnlessNoMemory error faults.NoMemory faults.Listing result }
-    {
-        FolderFault::Listing.unless_no_memory(&error)
-    }
+impl fmt::Display for FolderFault {
+    ghost output = { λ fault. Some (words_of_fault fault) };
 
-    /// What an error in reading a source is.
-    pub(crate) fn reading(error: io::Error) -> FolderFault
-        ensures { IsUnlessNoMemory error faults.NoMemory faults.Reading result }
-    {
-        FolderFault::Reading.unless_no_memory(&error)
-    }
-
-    /// This fault, unless the error says that the allocator had no memory.
-    fn unless_no_memory(self, error: &io::Error) -> FolderFault
-        ensures { IsUnlessNoMemory error.now faults.NoMemory self result }
-    {
-        if is_no_memory(error) {
-            FolderFault::NoMemory
-        } else {
-            self
+    fn fmt<W: fmt::Write>(&self, f: &mut fmt::Formatter<W>) -> fmt::Result {
+        match self {
+            FolderFault::Listing => f.write_str("a folder can't be listed"),
+            FolderFault::Reading => f.write_str("a source can't be read"),
+            FolderFault::NoMemory => f.write_str("out of memory"),
         }
     }
 }
+
+impl Error for FolderFault {}
 
 impl From<AllocError> for FolderFault {
     ghost from_gives = { λ _ e. e ≡ faults.NoMemory };

@@ -1,19 +1,23 @@
 //! Reading the sources of a folder.
 
-ghost use Rattle.std.specs.Prelude.{◌≡◌, ◌+◌, ◌≤◌, All, IfOk, IfSome, IsTrue, take, vec_len};
+ghost use Rattle.std.specs.Prelude.{◌≡◌, ◌+◌, ◌≤◌, All, IfOk, IfSome, IsTrue, None, Ok, string_bytes, take, vec_len};
+ghost use Rattle.std.specs.Bool.{OnFalse};
 ghost use Rattle.proto_base.specs.Limits.{limit_of};
 ghost use Rattle.source_folder.specs.Folder.{name_of, names_of};
-ghost use Rattle.source_folder.specs.Paths.{AreRising, ends_in_proto};
+ghost use Rattle.source_folder.specs.Paths.{AreRising, ends_in_proto, is_below, joined_path};
 ghost use Rattle.source_folder.specs.Ordered.{paths_of};
 
 use crate::fault::FolderFault;
+use crate::kind::Kind;
 use crate::order::{have_twins, sort_by_path};
-use crate::paths::join_path;
+use crate::paths::{join_path, path_below};
+use crate::reason::Reason;
+use crate::trouble::FolderTrouble;
 use crate::walk::{Source, sources_below};
 use proto_base::{Limit, Limits};
-use std::alloc::{AllocGlobal, Global};
-use std::fs::File;
-use std::io::Read;
+use std::alloc::{AllocError, AllocGlobal, Global};
+use std::fs::{File, OpenFile};
+use std::io::{self, ErrorKind, Read};
 use std::rt::Files;
 
 /// A source of a folder: its path from the root, joined by `/`, and its bytes.
@@ -23,13 +27,15 @@ pub struct NamedText {
     pub text: Vec<u8>,
 }
 
+/// The most bytes that are read of a file: one more than it may have.
+fn most_bytes(limits: &Limits) -> u32
+    ensures { result ≡ limit_of limits.now Limit.FileBytes + 1 }
+{
+    limits.get(Limit::FileBytes) as u32 + 1
+}
+
 /// The first bytes of what is read, at most so many. There may be about as many as the size.
-fn first_bytes<I: Read + Drop>(
-    alloc: Global,
-    input: I,
-    size: u64,
-    most: u32,
-) -> Result<Vec<u8>, FolderFault>
+fn first_bytes<I: Read + Drop>(alloc: Global, input: I, size: u64, most: u32) -> io::Result<Vec<u8>>
     ensures bounded { IfOk result (λ bytes. vec_len bytes ≤ most) }
     ensures prefix { IfOk result (λ bytes. IfSome (I.remaining input)
         (λ all. bytes.items ≡ take most all)) }
@@ -37,13 +43,44 @@ fn first_bytes<I: Read + Drop>(
     // A byte more than the size, so that the end is met without more memory.
     let room = size.min(u64::from(most)) as usize + 1;
     let mut bytes = Vec::with_capacity(alloc, room)?;
-    input
-        .take(u64::from(most))
-        .read_to_end(&mut bytes)
-        .map_err(FolderFault::reading)?;
+    input.take(u64::from(most)).read_to_end(&mut bytes)?;
     // It has no more, but the contract of a read to the end tells no length.
     bytes.truncate(most as usize);
     Ok(bytes)
+}
+
+/// The first bytes of the file at a path, at most so many. What is no file is opened, but not read.
+fn bytes_at<R: Files + AllocGlobal>(rt: &R, path: &str, most: u32) -> io::Result<Vec<u8>>
+    ensures { IfOk result (λ bytes. vec_len bytes ≤ most) }
+{
+    let file = File::open(rt, path)?;
+    let found = file.metadata()?;
+    if !found.is_file() {
+        return Err(io::Error::from(ErrorKind::InvalidInput));
+    }
+    first_bytes(rt.alloc(), file, found.len(), most)
+}
+
+/// The first bytes of the file at a path, at most so many, if a file is there. What is a pipe or a device just before is
+/// not opened, since that would wait for whoever writes to it.
+fn text_at<R: Files + AllocGlobal>(
+    rt: &R,
+    path: &str,
+    most: u32,
+) -> Result<Option<Vec<u8>>, FolderTrouble>
+    ensures { IfOk result (λ found. IfSome found (λ bytes. vec_len bytes ≤ most)) }
+{
+    let alloc = rt.alloc();
+    let reason = match Kind::at(rt, path)? {
+        Kind::File => match bytes_at(rt, path, most) {
+            Ok(bytes) => return Ok(Some(bytes)),
+            Err(error) => return Err(FolderTrouble::reading(alloc, path, &error)),
+        },
+        Kind::Folder(_) | Kind::Nowhere => return Ok(None),
+        Kind::Device => Reason::Device,
+        Kind::Unknown(reason) => reason,
+    };
+    Err(FolderTrouble::at(alloc, FolderFault::Reading, path, reason))
 }
 
 /// The texts of sources below a root, in their order.
@@ -52,7 +89,7 @@ fn read_sources<R: Files + AllocGlobal>(
     root: &str,
     sources: Vec<Source>,
     most: u32,
-) -> Result<Vec<NamedText>, FolderFault>
+) -> Result<Vec<NamedText>, FolderTrouble>
     ensures names { IfOk result (λ texts. names_of texts.items ≡ paths_of sources.items) }
     ensures proto { IfOk result (λ texts. All (λ t. IsTrue (ends_in_proto (name_of t)))
         texts.items) }
@@ -61,12 +98,12 @@ fn read_sources<R: Files + AllocGlobal>(
     let alloc = rt.alloc();
     let mut texts = Vec::with_capacity(alloc, sources.len())?;
     for source in sources {
-        let Some(size) = source.size else {
-            return Err(FolderFault::Reading);
-        };
         let path = join_path(alloc, root, source.path.as_str())?;
-        let file = File::open(rt, path.as_str()).map_err(FolderFault::reading)?;
-        let text = first_bytes(alloc, file, size, most)?;
+        let path = path.as_str();
+        let Some(text) = text_at(rt, path, most)? else {
+            let fault = FolderFault::Reading;
+            return Err(FolderTrouble::at(alloc, fault, path, Reason::Nowhere));
+        };
         texts.push(NamedText {
             name: source.path,
             text,
@@ -75,17 +112,39 @@ fn read_sources<R: Files + AllocGlobal>(
     Ok(texts)
 }
 
+/// As `read_folder`, which tells no more of a trouble than its fault.
+pub fn sources_in<R: Files + AllocGlobal>(
+    rt: &R,
+    root: &str,
+    limits: &Limits,
+) -> Result<Vec<NamedText>, FolderTrouble>
+    ensures order { IfOk result (λ texts. AreRising (names_of texts.items)) }
+    ensures proto { IfOk result (λ texts. All (λ t. IsTrue (ends_in_proto (name_of t)))
+        texts.items) }
+    ensures few { IfOk result (λ texts. vec_len texts ≤ 1_048_576) }
+    ensures bounded { IfOk result (λ texts. All
+        (λ t. vec_len t.text ≤ limit_of limits.now Limit.FileBytes + 1) texts.items) }
+{
+    let mut sources = sources_below(rt, root)?;
+    sort_by_path(&mut sources);
+    if have_twins(&sources) {
+        let fault = FolderFault::Listing;
+        return Err(FolderTrouble::at(rt.alloc(), fault, root, Reason::Changed));
+    }
+    read_sources(rt, root, sources, most_bytes(limits))
+}
+
 /// Reads the proto3 sources below a folder: every file whose name ends in `.proto`, named by its path from the root, in
 /// the order of these names. Of a file over the limit only as many bytes as the limit and one more are read.
 ///
-/// A link stands for the file or the folder that it leads to, so a cycle of links is too deep. A folder whose name ends
-/// in `.proto` is a folder like any other. A link that leads nowhere is passed over unless its name ends in `.proto`.
+/// A link stands for the file or the folder that it leads to. A folder whose name ends in `.proto` is a folder like any
+/// other. A link that leads nowhere is passed over unless its name ends in `.proto`.
 ///
 /// All folders are listed before a file is read, so the first fault is one of these, in this order:
-/// - `Listing`: the root is no folder or isn't there, a folder can't be listed or lies more than 64 folders below the
-///   root, an entry's name is no UTF-8, the system doesn't tell whether an entry is a folder (one that ends in `.proto` is
-///   then a file that can't be read), there are more than 1,048,576 entries, or two have the same path, since a folder
-///   changed while it was listed.
+/// - `Listing`: the root is no folder or isn't there, a folder can't be listed, is one of those in which it lies, as by a
+///   link, or lies more than 64 folders below the root, an entry's name is no UTF-8, the system doesn't tell whether an
+///   entry is a folder (one that ends in `.proto` is then a file that can't be read), there are more than 1,048,576
+///   entries, or two have the same path, since a folder changed while it was listed.
 /// - `Reading`: by the order of names, a file that ends in `.proto` can't be opened or read, or is a device or a pipe.
 ///
 /// `NoMemory` comes where it is met, and only where the allocator had none.
@@ -101,11 +160,44 @@ pub fn read_folder<R: Files + AllocGlobal>(
     ensures bounded { IfOk result (λ texts. All
         (λ t. vec_len t.text ≤ limit_of limits.now Limit.FileBytes + 1) texts.items) }
 {
-    let mut sources = sources_below(rt, root)?;
-    sort_by_path(&mut sources);
-    if have_twins(&sources) {
-        return Err(FolderFault::Listing);
+    Ok(sources_in(rt, root, limits)?)
+}
+
+/// Reads the file of this name below a folder, if one is there: at most as many bytes as the limit of a file and one more.
+///
+/// None is there where the name leads to nothing or to a folder, or where it can be no path below one (`is_below`). A
+/// device, a pipe, or a file that can't be opened or read, is `Reading`.
+pub fn read_source<R: Files + AllocGlobal>(
+    rt: &R,
+    root: &str,
+    name: &str,
+    limits: &Limits,
+) -> Result<Option<Vec<u8>>, FolderTrouble>
+    ensures below { OnFalse (is_below name.now) (result ≡ Ok None) }
+    ensures bounded { IfOk result (λ found. IfSome found
+        (λ bytes. vec_len bytes ≤ limit_of limits.now Limit.FileBytes + 1)) }
+{
+    match path_below(rt.alloc(), root, name)? {
+        Some(path) => text_at(rt, path.as_str(), most_bytes(limits)),
+        None => Ok(None),
     }
-    let most = limits.get(Limit::FileBytes) as u32 + 1;
-    read_sources(rt, root, sources, most)
+}
+
+/// The path of the file of this name below a folder, if a file is there that `read_source` would read.
+pub fn source_path<R: Files + AllocGlobal>(
+    rt: &R,
+    root: &str,
+    name: &str,
+) -> Result<Option<String>, AllocError>
+    ensures below { OnFalse (is_below name.now) (result ≡ Ok None) }
+    ensures joined { IfOk result (λ found. IfSome found
+        (λ path. string_bytes path ≡ joined_path root.now name.now)) }
+{
+    let Some(path) = path_below(rt.alloc(), root, name)? else {
+        return Ok(None);
+    };
+    match Kind::at(rt, path.as_str())? {
+        Kind::File => Ok(Some(path)),
+        _ => Ok(None),
+    }
 }

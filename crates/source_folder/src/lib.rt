@@ -3,9 +3,15 @@
 
 mod fault;
 mod folder;
+mod kind;
 mod order;
 mod paths;
+mod reason;
+mod trouble;
 mod walk;
 
 pub use fault::FolderFault;
-pub use folder::{NamedText, read_folder};
+pub use folder::{NamedText, read_folder, read_source, source_path, sources_in};
+pub use paths::is_below;
+pub use reason::Reason;
+pub use trouble::{FolderTrouble, TroubledEntry};

@@ -1,14 +1,15 @@
 //! Listing what is below a root.
 
-ghost use Rattle.std.specs.Prelude.{◌≡◌, ◌↔◌, ◌≤◌, Err, IfOk, IsTrue, OnOk, string_bytes, vec_len};
+ghost use Rattle.std.specs.Prelude.{◌≡◌, ◌≤◌, IfErr, IfOk, IsTrue, None, OnOk, string_bytes, vec_len};
 ghost use Rattle.source_folder.specs.Paths.{ends_in_proto};
 
 use crate::fault::FolderFault;
+use crate::kind::{Identity, Kind};
 use crate::paths::{is_proto, join_path};
-use device_error::is_no_memory;
-use std::alloc::{AllocGlobal, Global};
-use std::fs::{self, Metadata};
-use std::io;
+use crate::reason::Reason;
+use crate::trouble::FolderTrouble;
+use std::alloc::{AllocError, AllocGlobal, Global};
+use std::fs;
 use std::rt::Files;
 
 /// How many folders below the root a folder may be.
@@ -17,13 +18,11 @@ const MAX_DEPTH: u32 = 64;
 /// How many files and folders there may be.
 const MAX_ENTRIES: u32 = 1_048_576;
 
-/// A file whose name ends in `.proto`.
+/// An entry whose name ends in `.proto`, and that is no folder.
 #[derive(Drop)]
 pub(crate) struct Source {
     /// Its path from the root.
     pub(crate) path: String,
-    /// How many bytes it had when it was listed. What has none can't be read.
-    pub(crate) size: Option<u64>,
     ghost proto: { IsTrue (ends_in_proto (string_bytes path)) },
 }
 
@@ -34,19 +33,8 @@ struct Folder {
     path: String,
     /// How many folders it is below the root.
     depth: u32,
+    identity: Identity,
     ghost shallow: { depth ≤ 64 },
-}
-
-/// What an entry is, or what its link leads to.
-#[derive(Clone, Copy)]
-enum Kind {
-    Folder,
-    /// A file of so many bytes.
-    File(u64),
-    /// No folder, and no file that can be read: a device or a pipe, or a link that leads nowhere.
-    Unreadable,
-    /// The system doesn't tell.
-    Unknown,
 }
 
 /// What is known of the entries below a root.
@@ -54,89 +42,108 @@ enum Kind {
 struct Walk {
     sources: Vec<Source>,
     folders: Vec<Folder>,
+    /// The folders on the way from the root to the one that is being listed, which is the last of them.
+    way: Vec<Identity>,
     /// How many more entries there may be.
     entries_left: u32,
 }
 
-impl Kind {
-    ghost use Rattle.source_folder.specs.Kinds.{IsKind, IsKindBehind};
-
-    /// The kind of what the system describes.
-    fn of(metadata: &Metadata) -> Kind
-        ensures { IsKind metadata.now result }
-    {
-        if metadata.is_dir() {
-            Kind::Folder
-        } else if metadata.is_file() {
-            Kind::File(metadata.len())
-        } else {
-            Kind::Unreadable
-        }
-    }
-
-    /// The kind of what the system can't describe, unless the allocator had no memory.
-    fn behind(error: &io::Error) -> Result<Kind, FolderFault>
-        ensures { IsKindBehind error.now result }
-    {
-        if is_no_memory(error) {
-            return Err(FolderFault::NoMemory);
-        }
-        match error.kind() {
-            io::ErrorKind::NotFound
-            | io::ErrorKind::NotADirectory
-            | io::ErrorKind::FilesystemLoop => Ok(Kind::Unreadable),
-            _ => Ok(Kind::Unknown),
-        }
-    }
-}
-
 impl Walk {
-    ghost use Rattle.source_folder.specs.Walking.{IsStart, TakesIn, is_refused, most_sources, steps_left};
-    ghost use Rattle.source_folder.specs.declared.fault.FolderFault.TheVariants as faults;
+    ghost use Rattle.source_folder.specs.Walking.{Enters, IsRefusedAt, IsStart, TakesEntry, TakesIn, is_on_way, most_sources, refusal_of, steps_left};
 
     /// A walk that begins at the root.
-    fn new(alloc: Global) -> Result<Walk, FolderFault>
-        ensures { IfOk result IsStart }
+    fn new(alloc: Global, root: Identity) -> Result<Walk, AllocError>
+        ensures { IfOk result (IsStart root) }
     {
         let root = Folder {
             path: String::new(alloc),
             depth: 0,
+            identity: root,
         };
         let mut folders = Vec::new(alloc);
         folders.push(root)?;
         Ok(Walk {
             sources: Vec::new(alloc),
             folders,
+            way: Vec::new(alloc),
             entries_left: MAX_ENTRIES,
         })
     }
 
-    /// Takes in an entry of this path, in a folder so deep.
-    fn take_in(&mut self, path: String, depth: u32, kind: Kind) -> Result<(), FolderFault>
-        requires { depth ≤ 64 }
-        ensures ok { OnOk result (TakesIn (string_bytes path) depth kind self.old self.new) }
-        ensures refused { (result ≡ Err faults.Listing)
-            ↔ IsTrue (is_refused self.old.entries_left (string_bytes path) depth kind) }
+    /// Goes to a folder. All that lies in a folder is listed before what lies beside it, so the way up to the folder in
+    /// which this one lies is as it was.
+    fn enter(&mut self, folder: &Folder) -> Result<(), AllocError>
+        ensures { OnOk result (Enters folder.now self.old self.new) }
+    {
+        self.way.truncate(folder.depth as usize);
+        self.way.push(folder.identity)?;
+        Ok(())
+    }
+
+    /// Whether a folder is one on the way.
+    fn is_on_way(&self, identity: Identity) -> bool
+        ensures { result ≡ is_on_way self.now identity }
+    {
+        self.way.iter().any(|above| above.device == identity.device
+            && above.inode == identity.inode)
+    }
+
+    /// Why an entry of this path, in a folder so deep, can't be taken in.
+    fn refusal(&self, path: &str, depth: u32, kind: Kind) -> Option<Reason>
+        ensures { result ≡ refusal_of self.now path.now depth kind }
     {
         if self.entries_left == 0 {
-            return Err(FolderFault::Listing);
+            return Some(Reason::TooMany);
         }
-        self.entries_left -= 1;
-        let is_proto = is_proto(path.as_str());
         match kind {
-            Kind::Folder if depth == MAX_DEPTH => return Err(FolderFault::Listing),
-            Kind::Folder => {
+            Kind::Folder(identity) if self.is_on_way(identity) => Some(Reason::Circle),
+            Kind::Folder(_) if depth == MAX_DEPTH => Some(Reason::TooDeep),
+            Kind::Unknown(reason) if !is_proto(path) => Some(reason),
+            _ => None,
+        }
+    }
+
+    /// Takes in an entry of this path, in a folder so deep.
+    fn take_in(&mut self, path: String, depth: u32, kind: Kind) -> Result<(), AllocError>
+        requires shallow { depth ≤ 64 }
+        requires allowed { refusal_of self.old (string_bytes path) depth kind ≡ None }
+        ensures { OnOk result (TakesIn (string_bytes path) depth kind self.old self.new) }
+    {
+        self.entries_left -= 1;
+        match kind {
+            Kind::Folder(identity) => {
                 let depth = depth + 1;
-                self.folders.push(Folder { path, depth })?;
+                self.folders.push(Folder {
+                    path,
+                    depth,
+                    identity,
+                })?;
             }
-            Kind::File(size) if is_proto => {
-                let size = Some(size);
-                self.sources.push(Source { path, size })?;
-            }
-            _ if is_proto => self.sources.push(Source { path, size: None })?,
-            Kind::Unknown => return Err(FolderFault::Listing),
+            _ if is_proto(path.as_str()) => self.sources.push(Source { path })?,
             _ => {}
         }
+        Ok(())
+    }
+
+    /// Takes in an entry of a folder by its whole path and its name.
+    fn take_entry<R: Files + AllocGlobal>(
+        &mut self,
+        rt: &R,
+        folder: &Folder,
+        whole: &str,
+        name: &str,
+    ) -> Result<(), FolderTrouble>
+        ensures ok { OnOk result (TakesEntry folder.now name.now self.old self.new) }
+        ensures refused { IfErr result (IsRefusedAt folder.now name.now whole.now self.old) }
+    {
+        let alloc = rt.alloc();
+        let path = join_path(alloc, folder.path.as_str(), name)?;
+        let kind = Kind::at(rt, whole)?;
+        if let Some(reason) = self.refusal(path.as_str(), folder.depth, kind) {
+            let fault = FolderFault::Listing;
+            return Err(FolderTrouble::at(alloc, fault, whole, reason));
+        }
+        self.take_in(path, folder.depth, kind)?;
         Ok(())
     }
 
@@ -146,22 +153,33 @@ impl Walk {
         rt: &R,
         root: &str,
         folder: &Folder,
-    ) -> Result<(), FolderFault>
+    ) -> Result<(), FolderTrouble>
         ensures ends { OnOk result (steps_left self.new ≤ steps_left self.old) }
         ensures counted { OnOk result (most_sources self.new ≤ most_sources self.old) }
     {
         let alloc = rt.alloc();
+        self.enter(folder)?;
         let whole = join_path(alloc, root, folder.path.as_str())?;
-        for entry in fs::read_dir(&rt, whole.as_str()).map_err(FolderFault::listing)? {
-            let entry = entry.map_err(FolderFault::listing)?;
-            let path = join_path(alloc, folder.path.as_str(), entry.file_name())?;
-            let kind = match fs::metadata(rt, entry.path()) {
-                Ok(metadata) => Kind::of(&metadata),
-                Err(error) => Kind::behind(&error)?,
-            };
-            self.take_in(path, folder.depth, kind)?;
+        let whole = whole.as_str();
+        let listed = fs::read_dir(&rt, whole);
+        let entries = listed.map_err(|error| FolderTrouble::listing(alloc, whole, &error))?;
+        for entry in entries {
+            let entry = entry.map_err(|error| FolderTrouble::listing(alloc, whole, &error))?;
+            self.take_entry(rt, folder, entry.path().as_str(), entry.file_name())?;
         }
         Ok(())
+    }
+}
+
+/// The identity of a root, which has to be a folder.
+fn identity_of_root<R: Files + AllocGlobal>(rt: &R, root: &str) -> Result<Identity, FolderTrouble> {
+    match fs::metadata(rt, root) {
+        Ok(metadata) if metadata.is_dir() => Ok(Identity::of(&metadata)),
+        Ok(_) => {
+            let fault = FolderFault::Listing;
+            Err(FolderTrouble::at(rt.alloc(), fault, root, Reason::NoFolder))
+        }
+        Err(error) => Err(FolderTrouble::listing(rt.alloc(), root, &error)),
     }
 }
 
@@ -169,10 +187,11 @@ impl Walk {
 pub(crate) fn sources_below<R: Files + AllocGlobal>(
     rt: &R,
     root: &str,
-) -> Result<Vec<Source>, FolderFault>
+) -> Result<Vec<Source>, FolderTrouble>
     ensures { IfOk result (λ sources. vec_len sources ≤ MAX_ENTRIES) }
 {
-    let mut walk = Walk::new(rt.alloc())?;
+    let identity = identity_of_root(rt, root)?;
+    let mut walk = Walk::new(rt.alloc(), identity)?;
     while let Some(folder) = walk.folders.pop() {
         walk.list(rt, root, &folder)?;
     }

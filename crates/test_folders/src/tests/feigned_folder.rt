@@ -1,6 +1,6 @@
 //! A system that answers as it is told, for what a real one seldom does.
 
-use super::folder::read;
+use super::folder::told;
 use proto_base::Limits;
 use std::alloc::{AllocError, Allocator, Global};
 use std::fs::{Metadata, OpenFile, OpenOptions};
@@ -8,18 +8,45 @@ use std::io::{self, Error, ErrorKind, Read, Seek, SeekFrom, Write};
 use std::rt::Files;
 use std::test::Fail;
 
+/// The path of the folder.
+const ROOT: &str = "root";
+
 /// The one folder of a system, whose entries are alike.
 #[derive(Clone, Copy)]
 struct Folder {
     /// The name that each entry has.
     name: &'static [u8],
     entries: u32,
+    /// Why the system doesn't describe the folder.
+    lost: Option<Error>,
+    /// Why the system doesn't list it.
+    closed: Option<Error>,
     /// Why the system doesn't describe an entry.
     hidden: Option<Error>,
-    /// Whether an entry is a file, which is opened as `ab`.
-    is_file: bool,
+    /// What an entry is until it is opened, and from then on.
+    entry: Entry,
+    opened: Entry,
     /// Why no more of a file is read.
     broken: Option<Error>,
+}
+
+/// What an entry is. All folders are one, since those that are feigned have no numbers.
+#[derive(Clone, Copy)]
+enum Entry {
+    Folder,
+    /// It is read as `ab`.
+    File,
+    Device,
+}
+
+impl Entry {
+    fn metadata(self) -> Metadata {
+        match self {
+            Entry::Folder => Metadata::of_dir(),
+            Entry::File => Metadata::of_file(2),
+            Entry::Device => Metadata::of_symlink(2),
+        }
+    }
 }
 
 /// A system that has one folder.
@@ -33,6 +60,7 @@ struct Fake<'a> {
 #[derive(Drop)]
 struct FakeFile {
     left: u8,
+    entry: Entry,
     broken: Option<Error>,
 }
 
@@ -82,7 +110,7 @@ impl Seek for FakeFile {
 
 impl OpenFile for FakeFile {
     fn metadata(&self) -> io::Result<Metadata> {
-        Err(unsupported())
+        Ok(self.entry.metadata())
     }
 
     fn set_len(&self, _size: u64) -> io::Result<()> {
@@ -127,22 +155,30 @@ impl Files for Fake<'_> {
     fn open_file(&self, _how: &OpenOptions, _path: &str) -> io::Result<FakeFile> {
         Ok(FakeFile {
             left: 2,
+            entry: self.folder.opened,
             broken: self.folder.broken,
         })
     }
 
     fn open_dir(&self, _path: &str) -> io::Result<FakeNames> {
-        Ok(FakeNames {
-            name: self.folder.name,
-            left: self.folder.entries,
-        })
+        match self.folder.closed {
+            Some(error) => Err(error),
+            None => Ok(FakeNames {
+                name: self.folder.name,
+                left: self.folder.entries,
+            }),
+        }
     }
 
-    fn metadata(&self, _path: &str) -> io::Result<Metadata> {
-        match self.folder.hidden {
+    fn metadata(&self, path: &str) -> io::Result<Metadata> {
+        let (error, found) = if path == ROOT {
+            (self.folder.lost, Entry::Folder)
+        } else {
+            (self.folder.hidden, self.folder.entry)
+        };
+        match error {
             Some(error) => Err(error),
-            None if self.folder.is_file => Ok(Metadata::of_file(2)),
-            None => Ok(Metadata::of_symlink(2)),
+            None => Ok(found.metadata()),
         }
     }
 
@@ -194,27 +230,45 @@ fn error_of(word: &str) -> Option<Error> {
         "behind_a_file" => Some(Error::from(ErrorKind::NotADirectory)),
         "link_to_itself" => Some(Error::from(ErrorKind::FilesystemLoop)),
         "denied" => Some(Error::from(ErrorKind::PermissionDenied)),
+        "no_text" => Some(Error::from(ErrorKind::InvalidFilename)),
+        "too_long" => Some(Error::from_raw_os_error(36)),
         "system_memory" => Some(Error::from_raw_os_error(12)),
         "no_memory" => Some(Error::from(AllocError)),
         _ => None,
     }
 }
 
-/// A folder by the kind of its entries, their name, their count and an error, and what is read of it: `files`, an entry
-/// that the system does not describe (`hidden`), a source that cannot be read to its end (`broken`), or a `device`.
+/// What an entry is, by the word for a row, before it is opened and then.
+fn entries_of(kind: &str) -> (Entry, Entry) {
+    match kind {
+        "folder" => (Entry::Folder, Entry::Folder),
+        "device" => (Entry::Device, Entry::Device),
+        "replaced" => (Entry::File, Entry::Device),
+        _ => (Entry::File, Entry::File),
+    }
+}
+
+/// A folder by a word for it, its entries' name, their count and an error, and what is read of it: `files`; entries that
+/// are each a `folder` or a `device`, or become one (`replaced`); a folder that the system does not describe (`lost`) or
+/// not list (`closed`), an entry that it does not describe (`hidden`), or a source that cannot be read to its end
+/// (`broken`).
 fn row_of(line: &str) -> Option<(Folder, &str)> {
     let (kind, rest) = line.split_once('|')?;
     let (name, rest) = rest.split_once('|')?;
     let (entries, rest) = rest.split_once('|')?;
     let (error, wanted) = rest.split_once('|')?;
     let name = name_of(name)?;
-    let entries = entries.parse().ok()?;
+    let count = entries.parse().ok()?;
     let error = error_of(error);
+    let (entry, opened) = entries_of(kind);
     let folder = Folder {
         name,
-        entries,
+        entries: count,
+        lost: if kind == "lost" { error } else { None },
+        closed: if kind == "closed" { error } else { None },
         hidden: if kind == "hidden" { error } else { None },
-        is_file: kind != "device",
+        entry,
+        opened,
         broken: if kind == "broken" { error } else { None },
     };
     Some((folder, wanted))
@@ -224,28 +278,42 @@ fn row_of(line: &str) -> Option<(Folder, &str)> {
 static ROWS: &str = "\
 files|a.proto|1|none|a.proto=ab;\n\
 files|a|1|none|\n\
-files|a.proto|2|none|Listing\n\
+files|a.proto|2|none|Listing root: the folder changed while it was listed\n\
 files|a|2|none|\n\
-files|bad.proto|1|none|Listing\n\
-files|bad|1|none|Listing\n\
+files|bad.proto|1|none|Listing root: a name in it is no text\n\
+files|bad|1|none|Listing root: a name in it is no text\n\
 files|a|1048576|none|\n\
-files|a|1048577|none|Listing\n\
+files|a|1048577|none|Listing root/a: more than 1,048,576 entries\n\
+folder|a|1|none|Listing root/a: a link that leads to a folder in which it lies\n\
+folder|a.proto|1|none|Listing root/a.proto: a link that leads to a folder in which it lies\n\
+lost|a|1|missing|Listing root: it is not there\n\
+lost|a|1|behind_a_file|Listing root: it is no folder\n\
+lost|a|1|link_to_itself|Listing root: it is a link that leads nowhere\n\
+lost|a|1|denied|Listing root: no leave to read it\n\
+lost|a|1|no_memory|NoMemory out of memory\n\
+closed|a|1|missing|Listing root: it is not there\n\
+closed|a|1|denied|Listing root: no leave to read it\n\
+closed|a|1|no_text|Listing root: a name in it is no text\n\
+closed|a|1|too_long|Listing root: it could not be listed\n\
+closed|a|1|system_memory|Listing root: it could not be listed\n\
+closed|a|1|no_memory|NoMemory out of memory\n\
 hidden|a|1|missing|\n\
 hidden|a|1|behind_a_file|\n\
 hidden|a|1|link_to_itself|\n\
-hidden|a|1|denied|Listing\n\
-hidden|a|1|system_memory|Listing\n\
-hidden|a|1|no_memory|NoMemory\n\
-hidden|a.proto|1|missing|Reading\n\
-hidden|a.proto|1|behind_a_file|Reading\n\
-hidden|a.proto|1|link_to_itself|Reading\n\
-hidden|a.proto|1|denied|Reading\n\
-hidden|a.proto|1|system_memory|Reading\n\
-hidden|a.proto|1|no_memory|NoMemory\n\
-broken|a.proto|1|denied|Reading\n\
-broken|a.proto|1|system_memory|Reading\n\
-broken|a.proto|1|no_memory|NoMemory\n\
-device|a.proto|1|none|Reading\n\
+hidden|a|1|denied|Listing root/a: no leave to read it\n\
+hidden|a|1|system_memory|Listing root/a: the system does not tell what it is\n\
+hidden|a|1|no_memory|NoMemory out of memory\n\
+hidden|a.proto|1|missing|Reading root/a.proto: it is a link that leads nowhere\n\
+hidden|a.proto|1|behind_a_file|Reading root/a.proto: it is a link that leads nowhere\n\
+hidden|a.proto|1|link_to_itself|Reading root/a.proto: it is a link that leads nowhere\n\
+hidden|a.proto|1|denied|Reading root/a.proto: no leave to read it\n\
+hidden|a.proto|1|system_memory|Reading root/a.proto: the system does not tell what it is\n\
+hidden|a.proto|1|no_memory|NoMemory out of memory\n\
+broken|a.proto|1|denied|Reading root/a.proto: no leave to read it\n\
+broken|a.proto|1|system_memory|Reading root/a.proto: it could not be read\n\
+broken|a.proto|1|no_memory|NoMemory out of memory\n\
+replaced|a.proto|1|none|Reading root/a.proto: it could not be read\n\
+device|a.proto|1|none|Reading root/a.proto: it is a device or a pipe\n\
 device|a.txt|1|none|";
 
 /// A build that isn't optimized takes some minutes for the rows of 1,048,576 entries.
@@ -253,7 +321,7 @@ device|a.txt|1|none|";
 fn feigned_folders_are_read(rt: HostRuntime) -> Result<(), Fail> {
     for line in ROWS.lines() {
         let (folder, wanted) = row_of(line).ok_or("a row")?;
-        let shown = read(&Fake { rt: &rt, folder }, "root", &Limits::standard())?;
+        let shown = told(&Fake { rt: &rt, folder }, ROOT, &Limits::standard())?;
         assert!(rt; shown.as_str() == wanted, "{line}: {shown}");
     }
     Ok(())

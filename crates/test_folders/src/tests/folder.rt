@@ -1,7 +1,7 @@
 //! What is read of folders of the system, compared with what was put into them by hand.
 
 use proto_base::{Limit, Limits};
-use source_folder::{FolderFault, NamedText, read_folder};
+use source_folder::{FolderFault, NamedText, read_folder, read_source, sources_in};
 use std::alloc::{AllocError, AllocGlobal, Global};
 use std::os::unix::fs::symlink;
 use std::process::Abort;
@@ -9,14 +9,19 @@ use std::rt::Files;
 use std::test::Fail;
 use std::{fs, io};
 
-/// Puts a source's name and text behind what is shown.
-fn put_source(shown: &mut String, source: &NamedText) -> Result<(), AllocError> {
-    shown.push_str(source.name.as_str())?;
+/// Puts a text behind what is shown.
+fn put_text(shown: &mut String, text: &[u8]) -> Result<(), AllocError> {
     shown.push('=')?;
-    for byte in &source.text {
+    for byte in text {
         shown.push(char::from(*byte))?;
     }
     shown.push(';')
+}
+
+/// Puts a source's name and text behind what is shown.
+fn put_source(shown: &mut String, source: &NamedText) -> Result<(), AllocError> {
+    shown.push_str(source.name.as_str())?;
+    put_text(shown, &source.text)
 }
 
 /// The names and texts of sources.
@@ -28,23 +33,59 @@ fn shown(alloc: Global, sources: &[NamedText]) -> Result<String, AllocError> {
     Ok(shown)
 }
 
+fn name_of(fault: &FolderFault) -> &'static str {
+    match fault {
+        FolderFault::Listing => "Listing",
+        FolderFault::Reading => "Reading",
+        FolderFault::NoMemory => "NoMemory",
+    }
+}
+
 /// The names and texts that are read of a folder, or the fault.
-pub(super) fn read<R: Files + AllocGlobal>(
+fn read<R: Files + AllocGlobal>(rt: &R, root: &str, limits: &Limits) -> Result<String, AllocError> {
+    match read_folder(rt, root, limits) {
+        Ok(sources) => shown(rt.alloc(), &sources),
+        Err(fault) => String::from_str(rt.alloc(), name_of(&fault)),
+    }
+}
+
+/// The names and texts that are read of a folder, or the fault, and the entry and what is the matter with it.
+pub(super) fn told<R: Files + AllocGlobal>(
     rt: &R,
     root: &str,
     limits: &Limits,
 ) -> Result<String, AllocError> {
-    let fault = match read_folder(rt, root, limits) {
-        Ok(sources) => return shown(rt.alloc(), &sources),
-        Err(FolderFault::Listing) => "Listing",
-        Err(FolderFault::Reading) => "Reading",
-        Err(FolderFault::NoMemory) => "NoMemory",
-    };
-    String::from_str(rt.alloc(), fault)
+    match sources_in(rt, root, limits) {
+        Ok(sources) => shown(rt.alloc(), &sources),
+        Err(trouble) => {
+            let fault = name_of(&trouble.fault);
+            format!(in rt.alloc(); "{fault} {trouble}")
+        }
+    }
 }
 
-/// What is done to folders: a `folder`, a `file` of a text or a `link` to a path is made there, or a root is `read` with
-/// so many bytes of a file at most, which gives this text.
+/// What is read of the source of a name, behind a root and `>`: its text behind `=`, `none`, or the fault and the trouble.
+fn source<R: Files + AllocGlobal>(
+    rt: &R,
+    path: &str,
+    limits: &Limits,
+) -> Result<String, AllocError> {
+    let (root, name) = path.split_once('>').unwrap_or((path, ""));
+    let mut shown = String::new(rt.alloc());
+    match read_source(rt, root, name, limits) {
+        Ok(Some(text)) => put_text(&mut shown, &text)?,
+        Ok(None) => shown.push_str("none")?,
+        Err(trouble) => {
+            let fault = name_of(&trouble.fault);
+            return format!(in rt.alloc(); "{fault} {trouble}");
+        }
+    }
+    Ok(shown)
+}
+
+/// What is done to folders: a `folder`, a `file` of a text or a `link` to a path is made there; a root is `read` with so
+/// many bytes of a file at most, which gives this text or fault, or `told`, which tells the trouble too; or a `source` is
+/// read.
 #[derive(Clone, Copy)]
 struct Step<'t> {
     action: &'t str,
@@ -80,13 +121,18 @@ fn is_read<R: Files + AllocGlobal>(rt: &R, step: Step) -> Result<bool, AllocErro
     let Some(limits) = Limits::standard().lowered(Limit::FileBytes, step.most) else {
         return Ok(false);
     };
-    Ok(read(rt, step.path, &limits)?.as_str() == step.text)
+    let shown = match step.action {
+        "read" => read(rt, step.path, &limits)?,
+        "told" => told(rt, step.path, &limits)?,
+        _ => source(rt, step.path, &limits)?,
+    };
+    Ok(shown.as_str() == step.text)
 }
 
 /// Takes a line's step.
 fn take<R: Files + AllocGlobal + Abort>(rt: &R, line: &str) -> Result<(), Fail> {
     let step = step_of(line).ok_or("a step")?;
-    if step.action == "read" {
+    if matches!(step.action, "read" | "told" | "source") {
         assert!(rt; is_read(rt, step)?, "{line}");
     } else {
         make(rt, step)?;
@@ -94,7 +140,7 @@ fn take<R: Files + AllocGlobal + Abort>(rt: &R, line: &str) -> Result<(), Fail> 
     Ok(())
 }
 
-/// A root is a folder that is there. Links are followed; a cycle of them comes to its end. What cannot be listed comes
+/// A root is a folder that is there. Links are followed, but not to a folder in which they lie. What cannot be listed comes
 /// before what cannot be read.
 static STEPS: &str = "\
 folder|test_folder/tree/a/b|0|\n\
@@ -122,6 +168,24 @@ read|test_folder/long|4|3.proto=abc;4.proto=abcd;5.proto=abcde;6.proto=abcde;\n\
 read||4194304|Listing\n\
 read|test_folder/none|4194304|Listing\n\
 read|test_folder/long/3.proto|4194304|Listing\n\
+told||4194304|Listing : it is not there\n\
+told|test_folder/none|4194304|Listing test_folder/none: it is not there\n\
+told|test_folder/long/3.proto|4194304|Listing test_folder/long/3.proto: it is no folder\n\
+told|test_folder/long/3.proto/a|4194304|Listing test_folder/long/3.proto/a: it is no folder\n\
+source|test_folder/long>3.proto|4|=abc;\n\
+source|test_folder/long>6.proto|4|=abcde;\n\
+source|test_folder/long>7.proto|4|none\n\
+source|test_folder/long>3.proto/a|4|none\n\
+source|test_folder>long|4|none\n\
+source|test_folder>long/3.proto|4|=abc;\n\
+source|test_folder>long/../long/3.proto|4|none\n\
+source|test_folder>./long/3.proto|4|none\n\
+source|test_folder>long//3.proto|4|none\n\
+source|test_folder>/long/3.proto|4|none\n\
+source|test_folder>long/3.proto/|4|none\n\
+source|test_folder/long>|4|none\n\
+source|/dev>null|4|Reading /dev/null: it is a device or a pipe\n\
+source|/dev>fd/../null|4|none\n\
 folder|test_folder/root|0|\n\
 file|test_folder/root/a.proto|0|a\n\
 read|test_folder/root|4194304|a.proto=a;\n\
@@ -133,10 +197,33 @@ link|test_folder/links/in/folder|0|to\n\
 link|test_folder/links/in/lost|0|nowhere\n\
 link|test_folder/links/in/itself|0|itself\n\
 read|test_folder/links/in|4194304|a.proto=text;folder/b.proto=b;to/b.proto=b;\n\
+source|test_folder/links/in>a.proto|4194304|=text;\n\
+source|test_folder/links/in>itself|4194304|none\n\
+source|test_folder/links/in>folder/b.proto|4194304|=b;\n\
 link|test_folder/links/in/lost.proto|0|nowhere\n\
 read|test_folder/links/in|4194304|Reading\n\
+told|test_folder/links/in|4194304|Reading test_folder/links/in/lost.proto: it is a link that leads nowhere\n\
+source|test_folder/links/in>lost.proto|4194304|none\n\
+link|test_folder/links/in/to/null.proto|0|/dev/null\n\
+told|test_folder/links/in/to|4194304|Reading test_folder/links/in/to/null.proto: it is a device or a pipe\n\
 link|test_folder/links/in/to/up|0|..\n\
-read|test_folder/links/in|4194304|Listing";
+read|test_folder/links/in|4194304|Listing\n\
+folder|test_folder/two|0|\n\
+file|test_folder/two/a.proto|0|a\n\
+link|test_folder/two/me|0|.\n\
+link|test_folder/two/me_too|0|../two\n\
+read|test_folder/two|4194304|Listing\n\
+folder|test_folder/shared/of/a|0|\n\
+folder|test_folder/shared/of/b/c|0|\n\
+file|test_folder/shared/of/b/c/c.proto|0|c\n\
+link|test_folder/shared/of/a/b|0|../b\n\
+link|test_folder/shared/of/a/b_again|0|../b\n\
+read|test_folder/shared/of|4194304|a/b/c/c.proto=c;a/b_again/c/c.proto=c;b/c/c.proto=c;\n\
+link|test_folder/shared/of/b/c/a|0|../../a\n\
+read|test_folder/shared/of|4194304|Listing\n\
+folder|test_folder/above/root/in|0|\n\
+link|test_folder/above/root/in/up|0|../..\n\
+told|test_folder/above/root|4194304|Listing test_folder/above/root/in/up/root: a link that leads to a folder in which it lies";
 
 #[test]
 fn folders_are_read(rt: HostRuntime) -> Result<(), Fail> {

@@ -1,6 +1,7 @@
 //! Runs of the program: exit status, output and faults.
 
 use super::devices::{Input, Output};
+use grpcweb_core::Counted;
 use proto_base::Limits;
 use schema_headline::describe;
 use schema_program::run;
@@ -52,7 +53,13 @@ where
         bytes: Vec::new(rt.alloc()),
         room: faults_room,
     };
-    let status = run(rt, words, input, &mut output, &mut faults);
+    let status = run(
+        rt,
+        words,
+        &mut Counted::new(input),
+        &mut Counted::new(&mut output),
+        &mut faults,
+    );
     Finished {
         status,
         output: output.bytes,

@@ -1,6 +1,6 @@
 use Rattle.std.proofs.Common.{List, subst, sym}
 use Rattle.source_folder.specs.declared.folder.NamedText.{NamedText}
-use Rattle.schema_commands.specs.Runs.{AreTextsOf}
+use Rattle.schema_sources.specs.Texts.{AreTextsOf}
 use Rattle.schema_commands.proofs.Telling.{handed_folder, told_texts}
 use Rattle.schema_commands.proofs.commands.compile_folder.Goals as goal
 

@@ -1,9 +1,0 @@
-use Rattle.std.proofs.Common.{length, ◌-◌}
-use Rattle.grpcweb_core.proofs.Moving.{IsWriting}
-use Rattle.grpcweb_core.proofs.exchange.write_response.Given as goal
-
-abbrev pub invariant-loop-written : goal.invariant-loop-written
-invariant-loop-written g l = IsWriting (g.O.CountedWrite.writes l.initial.writer) (g.O.CountedWrite.writes l.writer) l.response l.written
-
-abbrev pub decreases-loop-written : goal.decreases-loop-written
-decreases-loop-written g l = length l.response - l.written

@@ -1,0 +1,18 @@
+-- The texts of a folder.
+use Rattle.std.specs.Prelude.{◌≡◌, ℕ, List, map, Option, IfSome, string_bytes}
+use Rattle.source_folder.specs.declared.folder.NamedText.{NamedText}
+
+-- the bytes of texts
+abbrev pub bytes_of : NamedText → List ℕ
+bytes_of text = text.text.items
+
+-- the name and the bytes of each source of a folder, in the order of the names, where they are known
+abbrev pub Known : Type 0
+Known = Option (List (List ℕ × List ℕ))
+
+abbrev pub named_bytes : NamedText → List ℕ × List ℕ
+named_bytes text = (string_bytes text.name, bytes_of text)
+
+-- texts that may be those of a folder: the known ones, and no others
+abbrev pub AreTextsOf : Known → List NamedText → Type 0
+AreTextsOf known texts = IfSome known (λ sources. map named_bytes texts ≡ sources)

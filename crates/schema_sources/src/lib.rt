@@ -1,0 +1,6 @@
+//! Where the sources of a run come from.
+#![tactic(auto)]
+
+mod folder;
+
+pub use folder::{SourceFolder, SystemFolder};
