@@ -1,0 +1,5 @@
+pub mod Excerpts
+pub mod Lines
+pub mod Shown
+pub mod Tokens
+pub mod Windows

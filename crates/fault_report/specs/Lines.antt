@@ -1,0 +1,25 @@
+-- The line around a place of a text: the bytes between the ends of lines.
+use Rattle.std.specs.Prelude.{◌==◌, ◌+◌, ◌-◌, ℕ, List, [], ◌∷◌, drop, length, nat_eq, not, take, if◌then◌else◌}
+use Rattle.std.specs.List.{after_last, before_first, count_by, ends_with, suffix_len}
+
+-- one more than the LFs before it
+abbrev pub line_number : List ℕ → ℕ → ℕ
+line_number text place = 1 + count_by (λ b. b == 10) (take place text)
+
+-- one more than the bytes since the last LF before it
+abbrev pub column_in_line : List ℕ → ℕ → ℕ
+column_in_line text place = 1 + suffix_len (λ b. not (b == 10)) (take place text)
+
+-- those bytes
+abbrev pub line_before : List ℕ → ℕ → List ℕ
+line_before text place = after_last (λ b. b == 10) (take place text)
+
+abbrev pub to_line_end : List ℕ → List ℕ
+to_line_end text = before_first (λ b. b == 10) text
+
+abbrev pub without_cr : List ℕ → List ℕ
+without_cr line = if ends_with nat_eq line (13 ∷ []) then take (length line - 1) line else line
+
+-- the bytes from it to the next LF or CR LF
+abbrev pub line_after : List ℕ → ℕ → List ℕ
+line_after text place = without_cr (to_line_end (drop place text))

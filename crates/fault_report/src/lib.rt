@@ -1,0 +1,10 @@
+//! Where a fault stands, as people see it: its line, and carets below the token.
+#![tactic(auto)]
+
+mod excerpt;
+mod line;
+mod shown;
+mod token_end;
+
+pub use excerpt::{Excerpt, excerpt_at};
+pub use line::{Line, line_around};

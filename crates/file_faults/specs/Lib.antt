@@ -1,0 +1,2 @@
+pub mod FileFaults
+pub mod Found

@@ -1,0 +1,11 @@
+//! The faults of sources by themselves: of each that has one, the first.
+//!
+//! The standard is the proto3 language specification and guide.
+#![tactic(auto)]
+
+mod finding;
+mod laws;
+mod local;
+
+pub use finding::faults_of_files;
+pub use laws::{file_faults_are_all, file_faults_are_placed};
