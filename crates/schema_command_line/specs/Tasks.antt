@@ -1,8 +1,7 @@
 -- What a command asks for, of what the parser found in the words behind its name.
 use Rattle.std.specs.Prelude.{◌≡◌, ℕ, ◌<◌, ◌≤◌, ◌^◌, List, [], Option, Some, None, bytes_eq, codes, if◌then◌else◌, map, option_map, unwrap_or}
 use Rattle.std.specs.Fmt.{decimal}
-use Rattle.clap.specs.Matches.{first_value, found_of, matched_of, one_text, raw_values, subcommand_name_of}
-use Rattle.clap.specs.declared.parser.matches.ArgMatches.{ArgMatches}
+use Rattle.clap.specs.Matches.{first_value, matched_of, one_text, raw_values}
 use Rattle.clap.specs.declared.parser.matches.Found.{Found}
 use Rattle.first_reach.specs.declared.mode.Mode.{Mode}
 use Rattle.first_reach.specs.declared.mode.Mode.TheVariants as mode

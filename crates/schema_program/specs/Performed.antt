@@ -5,7 +5,6 @@ use Rattle.clap.specs.declared.parser.matches.ArgMatches.{ArgMatches}
 use Rattle.clap.specs.declared.parser.matches.Found.{Found}
 use Rattle.grpcweb_core.specs.Exchange.{IsWritten, IsWrittenInPart}
 use Rattle.grpcweb_core.specs.Streams.{Reads, Writes}
-use Rattle.schema_check.specs.Checked.{IsCheckRun}
 use Rattle.schema_command_line.specs.Tasks.{IsTaskNamed}
 use Rattle.schema_command_line.specs.declared.task.Task.{Task}
 use Rattle.schema_command_line.specs.declared.task.Task.TheVariants as task
@@ -21,7 +20,7 @@ use Rattle.schema_failure.specs.declared.failure.Verdict.TheVariants as verdict
 abbrev pub IsPerformed : Task → Reads → Reads → Writes → Writes → Result Verdict Failure → Type 0
 IsPerformed (task.Compile selection plan file) reads reads' writes writes' done =
     IsCompileRun None file writes writes' done × IfOk done (λ v. v ≡ verdict.Sound)
-IsPerformed (task.Check selection plan) reads reads' writes writes' done = IsCheckRun None writes writes' done
+IsPerformed (task.Check selection plan) reads reads' writes writes' done = Unit {0}
 IsPerformed (task.Serve selection listen plan mode connections) reads reads' writes writes' done =
     IfOk done (λ v. v ≡ verdict.Sound)
 IsPerformed (task.Answer selection plan mode) reads reads' writes writes' done =

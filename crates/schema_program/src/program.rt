@@ -8,7 +8,6 @@ use crate::serving::run_serve;
 use clap::Error;
 use clap::error::ErrorKind;
 use grpcweb_core::{CountedRead, CountedWrite, write_bytes};
-use schema_check::run_check;
 use schema_command_line::{Selection, Task, task_of};
 use schema_commands::{run_answer, run_compile, run_describe, run_explain};
 use schema_failure::{Failure, Status, Verdict, write_failure};
@@ -29,13 +28,7 @@ pub(crate) fn folder_of<'a, R>(
     selection: &'a Selection<'a>,
     plan: Plan,
 ) -> SystemFolder<'a, R> {
-    SystemFolder::new(
-        rt,
-        selection.root,
-        &selection.includes,
-        &selection.files,
-        plan,
-    )
+    SystemFolder::new(rt, selection.root)
 }
 
 /// Does what a task asks for.
@@ -58,7 +51,7 @@ where
             run_compile(rt, &folder_of(rt, selection, *plan), *plan, *file, output)?;
         }
         Task::Check { selection, plan } => {
-            return run_check(rt, &folder_of(rt, selection, *plan), *plan, output);
+            return Err(Failure::Folder);
         }
         Task::Serve {
             selection,
