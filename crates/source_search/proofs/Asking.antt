@@ -17,17 +17,36 @@ use Rattle.std.proofs.lemmas.List.Elements.{All-append, All-contains, All-cons, 
 use Rattle.std.proofs.lemmas.Map.Keys.{IsDistinct-push}
 use Rattle.std.proofs.lemmas.Map.Text.{btree_set_updates_text}
 use Rattle.proto_base.specs.declared.limits.Limits.{Limits}
+use Rattle.source_folder.specs.Folder.{name_of}
+use Rattle.source_folder.specs.declared.folder.NamedText.{NamedText}
 use Rattle.source_search.specs.Searching.{AsksFor, IsSearch, IsSearched, IsWorth, Keeps, found_under, is_asked, sources_of, texts_in}
 use Rattle.source_search.specs.Shelves.{IsFoundOn, Known, Lookup, bytes_in}
-use Rattle.source_search.specs.Wanted.{IsWanted, Named, is_imported, name_in}
+use Rattle.source_search.specs.Wanted.{IsWanted, Named, is_imported, name_in, named_bytes}
 use Rattle.source_search.specs.declared.search.Search.{Search}
 use Rattle.source_search.proofs.Lists.{all_left, all_right}
 use Rattle.source_search.proofs.Naming.{bytes_same, none_named, same_bytes}
 
 -- one more name in the set
-pub put_name : (key : String Global) (old new : BTreeSet (String Global)) → sorted.Updates string_cmp old new key true → (other : List ℕ)
-    → contains_text new other ≡ (if bytes_eq (string_bytes key) other then true else contains_text old other)
-put_name key old new updates other = btree_set_updates_text (string_bytes key) old new true updates other
+pub put_name : (name : List ℕ) (key : String Global) (old new : BTreeSet (String Global)) → string_bytes key ≡ name
+    → sorted.Updates string_cmp old new key true → (other : List ℕ)
+    → contains_text new other ≡ (if bytes_eq name other then true else contains_text old other)
+put_name name key old new same updates = btree_set_updates_text name old new true
+    (subst (λ (bs : List ℕ). sorted.UpdatesBy string_cmp (λ k. slice_cmp nat_cmp bs (string_bytes k)) old new true) same updates)
+
+-- nothing is kept, or a source
+pub keeps_none : (name : List ℕ) (old new : Search)
+    → ((other : List ℕ) → is_asked new other ≡ (if bytes_eq name other then true else is_asked old other))
+    → new.sources.items ≡ old.sources.items → Keeps name None old new
+keeps_none name old new asked same = record { asked = asked; sources = ap (map named_bytes) same ∙ sym (append-nil (sources_of old)) }
+
+pub keeps_some : (name : List ℕ) (text : Vec ℕ Global) (source : NamedText) (old new : Search)
+    → ((other : List ℕ) → is_asked new other ≡ (if bytes_eq name other then true else is_asked old other)) → name_of source ≡ name
+    → source.text.items ≡ text.items → new.sources.items ≡ old.sources.items ++ source ∷ [] → Keeps name (Some text) old new
+keeps_some name text source old new asked named held more = record {
+  asked = asked;
+  sources = ap (map named_bytes) more ∙ map-append named_bytes old.sources.items (source ∷ [])
+      ∙ ap (λ n. sources_of old ++ (n, source.text.items) ∷ []) named ∙ ap (λ bytes. sources_of old ++ (name, bytes) ∷ []) held;
+}
 
 -- what was asked for, before or now
 pub still_asked : (b c : Bool) → c ≡ true → (if b then true else c) ≡ true

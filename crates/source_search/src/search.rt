@@ -58,10 +58,11 @@ impl Search {
         ensures { OnOk result (Keeps name.now found self.old self.new) }
     {
         self.asked.insert(String::from_str(alloc, name)?)?;
-        if let Some(text) = found {
-            let name = String::from_str(alloc, name)?;
-            self.sources.push(NamedText { name, text })?;
-        }
+        let Some(text) = found else {
+            return Ok(());
+        };
+        let name = String::from_str(alloc, name)?;
+        self.sources.push(NamedText { name, text })?;
         Ok(())
     }
 
