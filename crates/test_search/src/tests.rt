@@ -71,7 +71,7 @@ fn given_of(alloc: Global, files: &[File]) -> Result<Vec<NamedText>, Fail>
     ensures { IfOk result (λ given. AreRising (names_of given.items)) }
 {
     let given = sources_of(alloc, files)?;
-    if given.is_sorted_by(|first, second| first.name < second.name) {
+    if given.is_sorted_by(|first, second| first.name.cmp(&second.name).is_lt()) {
         Ok(given)
     } else {
         Err("names that rise".into())
