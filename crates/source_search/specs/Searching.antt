@@ -30,9 +30,10 @@ abbrev pub IsWorth : Limits → Known → List Named → List ℕ → Type 0
 IsWorth limits known given name = (lookup : Lookup) → known ≡ Some lookup → (importer : List ℕ) × (text : List ℕ)
     × IsWanted limits lookup given importer text × Imports limits text name × IsBelow name
 
--- these sources hold the given ones, each has another name, and they are what was found under the names asked for, all of
--- it wanted
-pub record IsSearched (limits : Limits) (known : Known) (given sources : List Named) (asked : List ℕ → Bool) : Type 0 where
+-- these sources hold the given ones, each has a name of its own, and they are what was found under the names asked
+-- for, all of it wanted
+pub record IsSearched (limits : Limits) (known : Known) (given sources : List Named)
+    (asked : List ℕ → Bool) : Type 0 where
   pub given_in : All (Contains sources) given
   pub asked_for : All (λ source. asked source.0 ≡ true) sources
   pub once : IsDistinct bytes_eq (map name_in sources)

@@ -16,10 +16,14 @@ less_of Less e = refl
 less_of Equal e = absurd (true≢false e)
 less_of Greater e = absurd (true≢false e)
 
-pub rises : (texts : List NamedText) → AllAdjacentBelow (λ a b. true ≡ is_before a b) texts (length texts) → AreRising (names_of texts)
+pub rises : (texts : List NamedText) → AllAdjacentBelow (λ a b. true ≡ is_before a b) texts (length texts)
+    → AreRising (names_of texts)
 rises [] all k h = absurd (omega (arith, h))
 rises (t ∷ texts) all k h =
     let inside : k + 1 < length (t ∷ texts) = omega (arith, h, length-map (t ∷ texts) name_of) in
-    ap (λ xs. slice_cmp nat_cmp xs (get_or (names_of (t ∷ texts)) (k + 1) [])) (get_or-map name_of (t ∷ texts) k t [] (omega (arith, inside)))
-    ∙ ap (λ ys. slice_cmp nat_cmp (name_of (get_or (t ∷ texts) k t)) ys) (get_or-map name_of (t ∷ texts) (k + 1) t [] inside)
-    ∙ less_of (slice_cmp nat_cmp (name_of (get_or (t ∷ texts) k t)) (name_of (get_or (t ∷ texts) (k + 1) t))) (all k t inside)
+    ap (λ xs. slice_cmp nat_cmp xs (get_or (names_of (t ∷ texts)) (k + 1) []))
+    (get_or-map name_of (t ∷ texts) k t [] (omega (arith, inside)))
+    ∙ ap (λ ys. slice_cmp nat_cmp (name_of (get_or (t ∷ texts) k t)) ys)
+    (get_or-map name_of (t ∷ texts) (k + 1) t [] inside)
+    ∙ less_of (slice_cmp nat_cmp (name_of (get_or (t ∷ texts) k t)) (name_of (get_or (t ∷ texts) (k + 1) t)))
+    (all k t inside)

@@ -12,9 +12,11 @@ returns-clause-order g c =
     let search = c.complete.new.self in
     let sources = c.sort_by_name.new.sources.items in
     let s : IsSearch c.args.limits.now (g.S.Shelf.texts c.args.shelf.now) given search =
-        c.in_ok-complete.ensures.searched given (c.in_ok-search.ensures c.args.limits.now (g.S.Shelf.texts c.args.shelf.now)) in
+    c.in_ok-complete.ensures.searched given (c.in_ok-search.ensures c.args.limits.now
+    (g.S.Shelf.texts c.args.shelf.now)) in
     let moved : IsPermutation search.sources.items sources =
-        subst (λ (texts : Vec NamedText Global). IsPermutation texts.items sources) c.into_sources-sources.ensures c.sort_by_name.ensures.same in
+    subst (λ (texts : Vec NamedText Global). IsPermutation texts.items sources) c.into_sources-sources.ensures
+    c.sort_by_name.ensures.same in
     sorted_rise sources c.sort_by_name.ensures.order (permuted_differ search.sources.items sources moved s.once)
 
 pub returns-clause-given : goal.returns-clause-given
@@ -25,7 +27,8 @@ returns-clause-given g c =
     let sources = c.sort_by_name.new.sources.items in
     given_held c.args.limits.now known given search
     (c.in_ok-complete.ensures.searched given (c.in_ok-search.ensures c.args.limits.now known)) sources
-    (subst (λ (texts : Vec NamedText Global). IsPermutation texts.items sources) c.into_sources-sources.ensures c.sort_by_name.ensures.same)
+    (subst (λ (texts : Vec NamedText Global). IsPermutation texts.items sources) c.into_sources-sources.ensures
+    c.sort_by_name.ensures.same)
 
 pub returns-clause-least : goal.returns-clause-least
 returns-clause-least g c =
@@ -35,5 +38,7 @@ returns-clause-least g c =
     let sources = c.sort_by_name.new.sources.items in
     if_known known (λ lookup. AreWanted c.args.limits.now lookup given (map named_bytes sources))
     (λ lookup at. all_wanted c.args.limits.now known lookup at given search
-    (c.in_ok-complete.ensures.searched given (c.in_ok-search.ensures c.args.limits.now known)) c.in_ok-complete.ensures.closed sources
-    (subst (λ (texts : Vec NamedText Global). IsPermutation texts.items sources) c.into_sources-sources.ensures c.sort_by_name.ensures.same))
+    (c.in_ok-complete.ensures.searched given (c.in_ok-search.ensures c.args.limits.now known))
+    c.in_ok-complete.ensures.closed sources
+    (subst (λ (texts : Vec NamedText Global). IsPermutation texts.items sources) c.into_sources-sources.ensures
+    c.sort_by_name.ensures.same))

@@ -9,4 +9,5 @@ use Rattle.test_search.proofs.tests.given_of.Goals as goal
 pub returns-then-is_sorted_by : goal.returns-then-is_sorted_by
 returns-then-is_sorted_by c =
     subst (λ (texts : List NamedText). AreRising (names_of texts)) c.deref.ensures.value
-    (rises c.deref.result.now (c.if-is_sorted_by.ensures.cases is_before (answers_always _ _ _ (λ f a r g called. search rules))))
+    (rises c.deref.result.now (c.if-is_sorted_by.ensures.cases is_before
+    (answers_always _ _ _ (λ f a r g called. search rules))))

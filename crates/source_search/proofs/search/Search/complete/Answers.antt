@@ -16,14 +16,17 @@ loop-done-preserved g c =
     let texts : List NamedText = c.deref.result.now in
     let sources : List NamedText = take (length texts - done) (drop done texts) in
     let some : sources ≡ drop done old.sources.items =
-        take_all (length texts - done) (drop done texts) (omega (arith, length-drop done texts)) ∙ ap (drop done) c.deref.ensures.value in
+    take_all (length texts - done) (drop done texts) (omega (arith, length-drop done texts))
+    ∙ ap (drop done) c.deref.ensures.value in
     let asks : AsksFor limits known (flat_map texts_in lists) old new =
-        subst (λ (names : Lists). AsksFor limits known (flat_map texts_in names) old new) c.deref-in-loop-done.ensures.value c.in_ok-ask_all.ensures in
+    subst (λ (names : Lists). AsksFor limits known (flat_map texts_in names) old new) c.deref-in-loop-done.ensures.value
+    c.in_ok-ask_all.ensures in
     let all : c.len-count.result ≡ length old.sources.items = omega (arith, c.len-count.ensures, old.sources.ok) in
     record {
       searched = λ given s. round_searched limits known old new sources lists done some c.in_ok-lists.ensures asks given
           (c.loop-done.invariant.searched given s);
-      closed = round_closed limits known old new sources lists done c.len-count.result some c.in_ok-lists.ensures asks all
+      closed = round_closed limits known old new sources lists done c.len-count.result some c.in_ok-lists.ensures asks
+          all
           c.loop-done.invariant.closed;
     }
 
