@@ -203,15 +203,6 @@ asks_known limits known name search before = record {
   searched = λ given worth s. s;
 }
 
-pub asks_none : (limits : Limits) (known : Known) (search : Search) → AsksFor limits known [] search search
-asks_none limits known search = record {
-  more = [];
-  grown = sym (append-nil (sources_of search));
-  still = λ other h. h;
-  asked = All-nil (λ n. is_asked search n ≡ true);
-  searched = λ given worth s. s;
-}
-
 -- some names and then others
 pub asks_more : (limits : Limits) (known : Known) (front back : List (List ℕ)) (old mid new : Search)
     → AsksFor limits known front old mid

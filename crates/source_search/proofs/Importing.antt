@@ -1,10 +1,8 @@
 -- What a text imports.
-use Rattle.std.proofs.Common.{◌≡◌, ◌∙◌, sym, ap, subst, ℕ, zero, suc, ◌+◌, ◌<◌, List, [], ◌∷◌, ◌++◌, length, map, take, get_or, Bool, true, false, cond, arith}
+use Rattle.std.proofs.Common.{◌≡◌, ◌∙◌, sym, ap, subst, ℕ, zero, suc, ◌<◌, List, [], ◌∷◌, length, map, get_or, Bool, true, false, cond, arith}
 use Rattle.std.specs.Prelude.{flat_map, filter}
 use Rattle.std.specs.List.{Contains}
-use Rattle.std.proofs.lemmas.Grind.{flat_map-append}
-use Rattle.std.proofs.lemmas.List.{append-nil, map-append, take_more}
-use Rattle.std.proofs.lemmas.List.Elements.{All-contains, All-contains_itself, All-filter, Contains-append_right, filter-append, filter_passes}
+use Rattle.std.proofs.lemmas.List.Elements.{All-contains, All-contains_itself, All-filter, Contains-append_right, filter_passes}
 use Rattle.proto_base.specs.Limits.{limit_of}
 use Rattle.proto_base.specs.declared.limits.Limit.TheVariants as limit
 use Rattle.proto_base.specs.declared.limits.Limits.{Limits}
@@ -44,27 +42,6 @@ keeps p (y ∷ xs) x (suc k) h e passes = behind (p y) y (filter p xs) x (keeps 
 -- the paths that statements import, as far as they can be paths below a folder
 abbrev pub below_of : List Statement → List (List ℕ)
 below_of ss = filter is_below (map path_of (flat_map import_of ss))
-
-below_append : (xs ys : List Statement) → below_of (xs ++ ys) ≡ below_of xs ++ below_of ys
-below_append xs ys =
-    ap (λ is. filter is_below (map path_of is)) (flat_map-append import_of xs ys)
-    ∙ ap (filter is_below) (map-append path_of (flat_map import_of xs) (flat_map import_of ys))
-    ∙ filter-append is_below (map path_of (flat_map import_of xs)) (map path_of (flat_map import_of ys))
-
--- one more statement
-pub below_more : (statements : List Statement) (i : ℕ) (x : Statement) (old new : List (List ℕ)) → i < length statements
-    → x ≡ get_or statements i x
-    → old ≡ below_of (take i statements) → new ≡ old ++ below_of (x ∷ []) → new ≡ below_of (take (i + 1) statements)
-below_more statements i x old new h is before now =
-    now ∙ ap (λ names. names ++ below_of (x ∷ [])) before ∙ sym (below_append (take i statements) (x ∷ []))
-    ∙ ap below_of (ap (λ y. take i statements ++ y ∷ []) is ∙ sym (take_more statements i x h))
-
--- one that imports nothing
-pub below_same : (statements : List Statement) (i : ℕ) (x : Statement) (names : List (List ℕ)) → i < length statements
-    → x ≡ get_or statements i x
-    → names ≡ below_of (take i statements) → below_of (x ∷ []) ≡ [] → names ≡ below_of (take (i + 1) statements)
-below_same statements i x names h is before none =
-    below_more statements i x names names h is before (sym (append-nil names) ∙ ap (λ more. names ++ more) (sym none))
 
 -- ---- the imports of a text
 
