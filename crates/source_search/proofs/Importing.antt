@@ -1,0 +1,104 @@
+-- What a text imports.
+use Rattle.std.proofs.Common.{◌≡◌, ◌∙◌, sym, ap, refl, subst, ℕ, zero, suc, ◌+◌, ◌<◌, List, [], ◌∷◌, ◌++◌, length, map, take, get_or, Bool, true, false, cond, arith}
+use Rattle.std.specs.Prelude.{flat_map, filter}
+use Rattle.std.specs.List.{Contains}
+use Rattle.std.proofs.lemmas.Grind.{flat_map-append}
+use Rattle.std.proofs.lemmas.List.{append-nil, map-append, take_more}
+use Rattle.std.proofs.lemmas.List.Elements.{All-contains, All-contains_itself, All-filter, Contains-append_right, filter-append, filter_passes}
+use Rattle.proto_base.specs.Limits.{limit_of}
+use Rattle.proto_base.specs.declared.limits.Limit.TheVariants as limit
+use Rattle.proto_base.specs.declared.limits.Limits.{Limits}
+use Rattle.proto_file.specs.Local.{IsFile}
+use Rattle.proto_lower.specs.Files.{import_of}
+use Rattle.proto_syntax.proofs.SameFiles.{same_file}
+use Rattle.proto_syntax.specs.Fault.{IsTreeOf}
+use Rattle.proto_syntax.specs.Grammar.{Tree}
+use Rattle.proto_syntax.specs.Trees.{file_tree}
+use Rattle.proto_tokens.specs.Spelling.{IsTokenList}
+use Rattle.proto_tokens.specs.Token.{Spelled}
+use Rattle.proto_tree.specs.declared.file.FileTree.{FileTree}
+use Rattle.proto_tree.specs.declared.file.Statement.{Statement}
+use Rattle.source_search.specs.Imports.{AreImportsOf, imported, is_below, path_of}
+
+-- ---- what a filter keeps
+
+kept : {X : Type 0} (p : X → Bool) (xs : List X) (x : X) → Contains (filter p xs) x → Contains xs x × (p x ≡ true)
+kept p xs x there = (
+  All-contains (Contains xs) (filter p xs) x (All-filter p (Contains xs) xs (All-contains_itself xs)) there,
+  All-contains (λ y. p y ≡ true) (filter p xs) x (filter_passes p xs) there,
+)
+
+behind : {X : Type 0} (b : Bool) (y : X) (xs : List X) (x : X) → Contains xs x → Contains (cond b (y ∷ xs) xs) x
+behind true y xs x there = Contains-append_right (y ∷ []) xs x there
+behind false y xs x there = there
+
+keeps : {X : Type 0} (p : X → Bool) (xs : List X) (x : X) (k : ℕ) → k < length xs → get_or xs k x ≡ x → p x ≡ true → Contains (filter p xs) x
+keeps p [] x k h e passes = absurd (omega (arith, h))
+keeps p (y ∷ xs) x zero h e passes =
+    subst (λ b. Contains (cond b (y ∷ filter p xs) (filter p xs)) x) (sym (ap p e ∙ passes)) (0, omega arith, e)
+keeps p (y ∷ xs) x (suc k) h e passes = behind (p y) y (filter p xs) x (keeps p xs x k (omega (arith, h)) e passes)
+
+-- ---- the imports of a file's statements
+
+-- the paths that statements import, as far as they can be paths below a folder
+abbrev pub below_of : List Statement → List (List ℕ)
+below_of ss = filter is_below (map path_of (flat_map import_of ss))
+
+below_append : (xs ys : List Statement) → below_of (xs ++ ys) ≡ below_of xs ++ below_of ys
+below_append xs ys =
+    ap (λ is. filter is_below (map path_of is)) (flat_map-append import_of xs ys)
+    ∙ ap (filter is_below) (map-append path_of (flat_map import_of xs) (flat_map import_of ys))
+    ∙ filter-append is_below (map path_of (flat_map import_of xs)) (map path_of (flat_map import_of ys))
+
+-- one more statement
+pub below_more : (statements : List Statement) (i : ℕ) (x : Statement) (old new : List (List ℕ)) → i < length statements → x ≡ get_or statements i x
+    → old ≡ below_of (take i statements) → new ≡ old ++ below_of (x ∷ []) → new ≡ below_of (take (i + 1) statements)
+below_more statements i x old new h is before now =
+    now ∙ ap (λ names. names ++ below_of (x ∷ [])) before ∙ sym (below_append (take i statements) (x ∷ []))
+    ∙ ap below_of (ap (λ y. take i statements ++ y ∷ []) is ∙ sym (take_more statements i x h))
+
+-- one that imports nothing
+pub below_same : (statements : List Statement) (i : ℕ) (x : Statement) (names : List (List ℕ)) → i < length statements → x ≡ get_or statements i x
+    → names ≡ below_of (take i statements) → below_of (x ∷ []) ≡ [] → names ≡ below_of (take (i + 1) statements)
+below_same statements i x names h is before none =
+    below_more statements i x names names h is before (sym (append-nil names) ∙ ap (λ more. names ++ more) (sym none))
+
+-- ---- the imports of a text
+
+-- a text that is no file imports nothing
+pub no_imports : (limits : Limits) (text : List ℕ) → ((file : FileTree) → IsFile limits text file → ⊥) → AreImportsOf limits text []
+no_imports limits text none name = (λ there. absurd (omega (arith, there.1)), λ both. absurd (none both.0.0 both.0.1))
+
+-- nor does one without tokens
+pub no_tokens : (limits : Limits) (text : List ℕ) → ((ts : List Spelled) → IsTokenList (limit_of limits limit.FileBytes) text ts → ⊥)
+    → AreImportsOf limits text []
+no_tokens limits text none = no_imports limits text (λ file is. none is.0 is.1)
+
+-- the tree of a file is one of the tokens that a text spells
+of_tokens : (limits : Limits) (text : List ℕ) (tokens : List Spelled) → ((ts : List Spelled) → IsTokenList (limit_of limits limit.FileBytes) text ts → tokens ≡ ts)
+    → (file : FileTree) → IsFile limits text file → IsTreeOf (limit_of limits limit.Depth) tokens (file_tree file)
+of_tokens limits text tokens only file is =
+    subst (λ ts. IsTreeOf (limit_of limits limit.Depth) ts (file_tree file)) (sym (only is.0 is.1)) is.2
+
+-- nor does one whose tokens have no tree
+pub no_tree : (limits : Limits) (text : List ℕ) (tokens : List Spelled) → ((ts : List Spelled) → IsTokenList (limit_of limits limit.FileBytes) text ts → tokens ≡ ts)
+    → ((x : Tree) → IsTreeOf (limit_of limits limit.Depth) tokens x → ⊥) → AreImportsOf limits text []
+no_tree limits text tokens only none = no_imports limits text (λ file is. none (file_tree file) (of_tokens limits text tokens only file is))
+
+-- a file imports what its statements say
+pub file_imports : (limits : Limits) (text : List ℕ) (tokens : List Spelled) → IsTokenList (limit_of limits limit.FileBytes) text tokens
+    → ((ts : List Spelled) → IsTokenList (limit_of limits limit.FileBytes) text ts → tokens ≡ ts)
+    → (file : FileTree) → IsTreeOf (limit_of limits limit.Depth) tokens (file_tree file)
+    → ((x : Tree) → IsTreeOf (limit_of limits limit.Depth) tokens x → file_tree file ≡ x)
+    → (names : List (List ℕ)) → names ≡ filter is_below (imported file) → AreImportsOf limits text names
+file_imports limits text tokens spelled only file tree one names is name = (
+  λ there. let both = kept is_below (imported file) name (subst (λ ns. Contains ns name) is there) in ((file, (tokens, spelled, tree), both.0), both.1),
+  λ both. subst (λ ns. Contains ns name) (sym is)
+      (keep (subst (λ f. Contains (imported f) name) (sym (same both.0.0 both.0.1)) both.0.2) both.1),
+)
+  where
+    same : (other : FileTree) → IsFile limits text other → file ≡ other
+    same other is' = same_file file other (one (file_tree other) (of_tokens limits text tokens only other is'))
+
+    keep : Contains (imported file) name → is_below name ≡ true → Contains (filter is_below (imported file)) name
+    keep there below = keeps is_below (imported file) name there.0 there.1 there.2 below

@@ -1,0 +1,6 @@
+mod Asking
+mod Importing
+mod Lists
+mod Naming
+mod Rounds
+mod Starting

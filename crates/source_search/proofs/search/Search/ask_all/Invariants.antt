@@ -1,0 +1,7 @@
+use Rattle.std.proofs.Common.{take}
+use Rattle.std.specs.Prelude.{flat_map}
+use Rattle.source_search.specs.Searching.{AsksFor, texts_in}
+use Rattle.source_search.proofs.search.Search.ask_all.Given as goal
+
+abbrev pub invariant-loop-names : goal.invariant-loop-names
+invariant-loop-names g l = AsksFor l.limits (g.S.Shelf.texts l.shelf) (flat_map texts_in (take l.names-index l.lists)) l.fn.self l.self

@@ -1,0 +1,7 @@
+use Rattle.std.proofs.Common.{map, take}
+use Rattle.std.specs.Prelude.{string_bytes}
+use Rattle.source_search.specs.Searching.{AsksFor}
+use Rattle.source_search.proofs.search.Search.ask_each.Given as goal
+
+abbrev pub invariant-loop-name : goal.invariant-loop-name
+invariant-loop-name g l = AsksFor l.limits (g.S.Shelf.texts l.shelf) (map string_bytes (take l.name-index l.names)) l.fn.self l.self

@@ -1,0 +1,4 @@
+pub mod Imports
+pub mod Searching
+pub mod Shelves
+pub mod Wanted

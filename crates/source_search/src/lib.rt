@@ -1,0 +1,12 @@
+//! The sources of a run: those that are given, and those that they import from a shelf.
+#![tactic(auto)]
+
+mod imports;
+mod order;
+mod reading;
+mod search;
+mod shelf;
+mod sources;
+
+pub use shelf::Shelf;
+pub use sources::with_imports;
