@@ -36,7 +36,7 @@ not_less xs ys same less = by (slice_cmp nat_cmp xs xs) (nat_list_cmp_total.anti
 -- names that rise differ
 pub rising_differ : (names : List (List ℕ)) → AreRising names → IsDistinct bytes_eq names
 rising_differ names rising = IsDistinct-from_apart bytes_eq names
-    (λ i j d h inside. false_from_ne_true _ (λ same. not_less _ _ (same_bytes _ _ same)
+    (λ i j d h inside. false_from_ne_true _ (λ same. not_less (get_or names i d) (get_or names j d) (same_bytes (get_or names i d) (get_or names j d) same)
     (Less-from_sorted (slice_cmp nat_cmp) names i j d (sorted_from_all_adjacent nat_list_cmp_total names [] rising) h inside)))
 
 less_from : (forth back : Ordering) → forth ≡ ordering_reverse back → is_lt back ≡ false → (forth ≡ Equal → ⊥) → forth ≡ Less
@@ -49,7 +49,8 @@ pub sorted_rise : (sources : List NamedText) → IsSortedByKey name_of (slice_cm
     → AreRising (names_of sources)
 sorted_rise sources sorted apart k h = less_from _ _ (nat_list_cmp_total.antisymm (get_or (names_of sources) k []) (get_or (names_of sources) (k + 1) []))
     (low (by_some sources (omega (arith, h, length-map sources name_of))))
-    (λ same. true≢false (sym (bytes_same _ _ (exact_bytes _ _ same)) ∙ apart_from_distinct bytes_eq (names_of sources) k (k + 1) [] apart (omega arith) h))
+    (λ same. true≢false (sym (bytes_same (get_or (names_of sources) k []) (get_or (names_of sources) (k + 1) [])
+        (exact_bytes (get_or (names_of sources) k []) (get_or (names_of sources) (k + 1) []) same)) ∙ apart_from_distinct bytes_eq (names_of sources) k (k + 1) [] apart (omega arith) h))
   where
     by_some : (texts : List NamedText) → 0 < length texts → NamedText
     by_some [] some = absurd (omega (arith, some))

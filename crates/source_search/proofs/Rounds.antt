@@ -101,11 +101,11 @@ closed_whole limits search done past all =
 wanted_held : (limits : Limits) (known : Known) (lookup : Lookup) → known ≡ Some lookup → (given sources : List Named) (asked : List ℕ → Bool)
     → IsSearched limits known given sources asked → All (IsClosed limits asked) sources → (name text : List ℕ) → IsWanted limits lookup given name text
     → Contains sources (name, text)
-wanted_held limits known lookup at given sources asked s closed name text (is_given name text there) =
+wanted_held limits known lookup at given sources asked s closed _ _ (is_given name text there) =
     All-contains (Contains sources) given (name, text) s.given_in there
-wanted_held limits known lookup at given sources asked s closed name text (is_imported importer its_text name text wanted imports below free has) =
-    let from = wanted_held limits known lookup at given sources asked s closed importer its_text wanted in
-    s.found lookup at name text (All-contains (IsClosed limits asked) sources (importer, its_text) closed from name imports below) free has
+wanted_held limits known lookup at given sources asked s closed _ _ (is_imported importer its_text name text wanted imports below free has) =
+    let origin = wanted_held limits known lookup at given sources asked s closed importer its_text wanted in
+    s.found lookup at name text (All-contains (IsClosed limits asked) sources (importer, its_text) closed origin name imports below) free has
 
 pub all_wanted : (limits : Limits) (known : Known) (lookup : Lookup) → known ≡ Some lookup → (given : List Named) (search : Search)
     → IsSearch limits known given search → All (IsClosed limits (is_asked search)) (sources_of search) → (sources : List NamedText)

@@ -52,13 +52,14 @@ among_there names name there =
     any_passes_from_place (λ one. bytes_eq one name) names there.0 name (slice_get_read names (length names) there.0 name refl there.1 (sym there.2))
     (bytes_same name name refl)
 
+first_or : (one name : List ℕ) (names : List (List ℕ)) (b : Bool) → bytes_eq one name ≡ b → (b || is_among names name) ≡ true
+    → (is_among names name ≡ true → Contains names name) → Contains (one ∷ names) name
+first_or one name names true same h later = (0, omega arith, same_bytes one name same)
+first_or one name names false other h later = Contains-append_right (one ∷ []) names name (later h)
+
 there_among : (names : List (List ℕ)) (name : List ℕ) → is_among names name ≡ true → Contains names name
 there_among [] name h = absurd (false≢true h)
-there_among (one ∷ names) name h = by (bytes_eq one name) refl h
-  where
-    by : (b : Bool) → bytes_eq one name ≡ b → (b || is_among names name) ≡ true → Contains (one ∷ names) name
-    by true same h = (0, omega arith, same_bytes one name same)
-    by false other h = Contains-append_right (one ∷ []) names name (there_among names name h)
+there_among (one ∷ names) name h = first_or one name names (bytes_eq one name) refl h (there_among names name)
 
 pub started : (limits : Limits) (known : Known) (given : List NamedText) (asked : List ℕ → Bool) → AreRising (names_of given)
     → ((name : List ℕ) → asked name ≡ is_among (names_of given) name)

@@ -1,0 +1,10 @@
+use Rattle.std.proofs.Common.{lit<, rules, tests}
+use Rattle.std.proofs.lemmas.Iterator.Search.{all_from_yields_List}
+use Rattle.std.proofs.lemmas.Iterator.Splits.{YieldsList-from_str_split}
+use Rattle.source_search.specs.Imports.{is_entry}
+use Rattle.source_search.proofs.imports.is_below.Goals as goal
+
+pub returns : goal.returns
+returns c = all_from_yields_List is_entry _ _ c.all.result c.all.ensures.ran
+    (YieldsList-from_str_split 47 c.args.name.now (lit< tt) c.split.ensures.text c.split.ensures.has_more c.split.ensures.pattern)
+    (λ x b q k. search (rules, tests))

@@ -1,0 +1,33 @@
+use Rattle.std.proofs.Common.{◌≡◌, ◌∙◌, ◌-◌, List, ap, arith, drop, length, length-drop, subst, take, take_all}
+use Rattle.std.specs.Prelude.{flat_map}
+use Rattle.source_folder.specs.declared.folder.NamedText.{NamedText}
+use Rattle.source_search.specs.Searching.{AsksFor, texts_in}
+use Rattle.source_search.proofs.Rounds.{Lists, closed_whole, round_closed, round_searched}
+use Rattle.source_search.proofs.search.Search.complete.Goals as goal
+
+pub loop-done-preserved : goal.loop-done-preserved
+loop-done-preserved g c =
+    let known = g.S.Shelf.texts c.args.shelf.now in
+    let limits = c.args.limits.now in
+    let old = c.loop-done.self in
+    let new = c.ask_all.new.self in
+    let lists : Lists = c.in_ok-lists.lists.items in
+    let done = c.loop-done.done in
+    let texts : List NamedText = c.deref.result.now in
+    let sources : List NamedText = take (length texts - done) (drop done texts) in
+    let some : sources ≡ drop done old.sources.items =
+        take_all (length texts - done) (drop done texts) (omega (arith, length-drop done texts)) ∙ ap (drop done) c.deref.ensures.value in
+    let asks : AsksFor limits known (flat_map texts_in lists) old new =
+        subst (λ (names : Lists). AsksFor limits known (flat_map texts_in names) old new) c.deref-in-loop-done.ensures.value c.in_ok-ask_all.ensures in
+    let all : c.len-count.result ≡ length old.sources.items = omega (arith, c.len-count.ensures, old.sources.ok) in
+    record {
+      searched = λ given s. round_searched limits known old new sources lists done some c.in_ok-lists.ensures asks given
+          (c.loop-done.invariant.searched given s);
+      closed = round_closed limits known old new sources lists done c.len-count.result some c.in_ok-lists.ensures asks all
+          c.loop-done.invariant.closed;
+    }
+
+pub returns-clause-closed : goal.returns-clause-closed
+returns-clause-closed g c =
+    closed_whole c.args.limits.now c.loop-done.self c.loop-done.done
+    (omega (arith, c.len.ensures, c.loop-done-test.false, c.loop-done.self.sources.ok)) c.loop-done.invariant.closed
