@@ -10,7 +10,7 @@ use proto_compile::{CompileError, Compiled, Source, compile};
 use schema_explanation::{Topic, topics};
 use schema_failure::{Failure, locate};
 use schema_headline::{describe, set_of_sources};
-use schema_sources::SourceFolder;
+use schema_sources::{SourceFolder, read_sources};
 use share_work::{NoGate, Plan};
 use source_folder::NamedText;
 use std::alloc::{AllocError, AllocGlobal, Global};
@@ -129,7 +129,7 @@ where
         (O.writes writer.new) result }
 {
     let limits = Limits::standard();
-    let texts = folder.read(&limits)?;
+    let texts = read_sources(rt, folder, &limits, plan)?;
     let set = set_of_texts(rt, &texts, &limits, plan)?;
     write_set(rt, file, &set, writer)
 }
@@ -168,7 +168,7 @@ where
     ensures compiled { IfOk result (IsCompiledTo limits.now (F.sources folder.now)) }
     ensures refused { IfErr result (IsToldOfFolder limits.now (F.sources folder.now)) }
 {
-    let texts = folder.read(limits)?;
+    let texts = read_sources(rt, folder, limits, plan)?;
     compile_texts(rt, &texts, limits, plan)
 }
 

@@ -2,5 +2,7 @@
 #![tactic(auto)]
 
 mod folder;
+mod system_folder;
 
-pub use folder::{SourceFolder, SystemFolder};
+pub use folder::{SourceFolder, read_sources};
+pub use system_folder::SystemFolder;

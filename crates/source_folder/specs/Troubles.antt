@@ -19,8 +19,8 @@ IsTroubleAt fault path reason trouble = (trouble ≡ no_memory)
     ⊎ ((trouble.fault ≡ fault) × IsSomeAnd trouble.entry (λ e. (string_bytes e.path ≡ path) × (e.reason ≡ reason)))
 
 -- what an error is at this path: want of memory, or a fault for the reason that the error tells
-pub record IsTroubleOf (error : Error) (fault : FolderFault) (path : List ℕ) (otherwise : Reason) (trouble : FolderTrouble)
-    : Type 0 where
+pub record IsTroubleOf (error : Error) (fault : FolderFault) (path : List ℕ) (otherwise : Reason)
+    (trouble : FolderTrouble) : Type 0 where
   pub lacking : LacksMemory error → trouble ≡ no_memory
   pub device : (LacksMemory error → ⊥)
       → (reason : Reason) × IsReasonOf error otherwise reason × IsTroubleAt fault path reason trouble

@@ -40,7 +40,7 @@ pub record TakesIn (path : List ℕ) (depth : ℕ) (k : Kind) (old new : Walk) :
 abbrev pub is_on_way : Walk → Identity → Bool
 is_on_way walk identity = list_any (is_same identity) walk.way.items
 
--- why an entry that can be listed can't be taken in: it is a folder that lies in itself or is too deep, or may be a folder
+-- why an entry of this kind can't be taken in: it is a folder that lies in itself or is too deep, or it may be a folder
 abbrev pub refusal_of_kind : Walk → List ℕ → ℕ → Kind → Option Reason
 refusal_of_kind walk path depth (kind.Folder identity) =
     if is_on_way walk identity then Some Circle else (if depth == 64 then Some TooDeep else None)

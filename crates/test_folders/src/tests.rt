@@ -2,3 +2,4 @@
 
 mod feigned_folder;
 mod folder;
+mod system_folder;
