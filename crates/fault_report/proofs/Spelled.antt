@@ -11,7 +11,8 @@ use Rattle.fault_report.specs.Tokens.{end_among}
 
 -- the end of the token that begins at a place
 pub end_of_spelled : (ts : List Token) (place : ℕ)
-    → end_among (map spelled ts) place ≡ option_map (λ t. t.span.end.offset) (find (λ t. eqb t.span.start.offset place) ts)
+    → end_among (map spelled ts) place ≡ option_map (λ t. t.span.end.offset) (find
+    (λ t. eqb t.span.start.offset place) ts)
 end_of_spelled [] place = refl
 end_of_spelled (t ∷ ts) place = elim (eqb t.span.start.offset place) as
     (λ b. option_map (λ s. s.end) (cond b (Some (spelled t)) (find (λ s. eqb s.start place) (map spelled ts)))
@@ -21,9 +22,11 @@ end_of_spelled (t ∷ ts) place = elim (eqb t.span.start.offset place) as
     ]
 
 -- the same of the one that was found, if one was
-pub end_of_found : (ts : List Token) (place : ℕ) (found : Option Token) → found ≡ find (λ t. eqb t.span.start.offset place) ts
+pub end_of_found : (ts : List Token) (place : ℕ) (found : Option Token)
+    → found ≡ find (λ t. eqb t.span.start.offset place) ts
     → option_map (λ t. t.span.end.offset) found ≡ end_among (map spelled ts) place
-end_of_found ts place found is = ap (λ (o : Option Token). option_map (λ t. t.span.end.offset) o) is ∙ sym (end_of_spelled ts place)
+end_of_found ts place found is = ap (λ (o : Option Token). option_map (λ t. t.span.end.offset) o) is
+    ∙ sym (end_of_spelled ts place)
 
 -- an error that tells a place is not for want of memory
 pub no_memory_at : (place : Place) (kind : Kind) (e : TokenError) → e ≡ errors.At place kind → e ≡ errors.NoMemory → ⊥

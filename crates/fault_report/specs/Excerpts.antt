@@ -6,13 +6,14 @@ use Rattle.fault_report.specs.Shown.{blank_below, shown, shown_after, shown_befo
 use Rattle.fault_report.specs.Tokens.{IsTokenEnd}
 use Rattle.fault_report.specs.declared.excerpt.Excerpt.{Excerpt}
 
--- one for each character of a token that ends there, as far as it stands in this line and is shown; one where there is none
+-- one for each character of a token that ends there, as far as it stands in this line and is shown; one where there
+-- is none
 abbrev pub carets : ℕ → Option ℕ → List ℕ → ℕ → ℕ
 carets place None after most = 1
 carets place (Some end) after most = max (min (length (shown (take (min (end - place) (length after)) after))) most) 1
 
--- the line around the place; below it a tab for each tab that is shown before the place, a blank for any other character, and
--- then the carets
+-- the line around the place; below it a tab for each tab that is shown before the place, a blank for any other
+-- character, and then the carets
 pub record IsExcerpt (limit : ℕ) (text : List ℕ) (place : ℕ) (e : Excerpt) : Type 0 where
   pub end : Option ℕ
   pub token : IsTokenEnd limit text place end

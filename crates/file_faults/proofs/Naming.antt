@@ -13,13 +13,16 @@ use Rattle.file_faults.specs.declared.local.LocalFault.{LocalFault}
 
 -- ---- one source after another
 
-added_append : (s : Source) (f : Option LocalFault) (xs ys : List SourceFault) → added_by s f (xs ++ ys) ≡ added_by s f xs ++ ys
+added_append : (s : Source) (f : Option LocalFault) (xs ys : List SourceFault)
+    → added_by s f (xs ++ ys) ≡ added_by s f xs ++ ys
 added_append s None xs ys = refl
 added_append s (Some f) xs ys = refl
 
-faults_next : (files : List Source) (found : List (Option LocalFault)) (k : ℕ) (s : Source) (f : Option LocalFault) → k < length files
+faults_next : (files : List Source) (found : List (Option LocalFault)) (k : ℕ) (s : Source) (f : Option LocalFault)
+    → k < length files
     → length found ≡ length files
-    → faults_in (take (suc k) files) (take (suc k) found) ≡ faults_in (take k files) (take k found) ++ added_by (get_or files k s) (get_or found k f) []
+    → faults_in (take (suc k) files) (take (suc k) found) ≡ faults_in (take k files) (take k found)
+    ++ added_by (get_or files k s) (get_or found k f) []
 faults_next [] found k s f h same = absurd (omega (arith, h))
 faults_next (t ∷ files) [] k s f h same = absurd (omega (arith, same))
 faults_next (t ∷ files) (g ∷ found) zero s f h same = refl
@@ -28,25 +31,31 @@ faults_next (t ∷ files) (g ∷ found) (suc k) s f h same =
     ∙ added_append t g (faults_in (take k files) (take k found)) (added_by (get_or files k s) (get_or found k f) [])
 
 -- one source more
-pub faults_more : (files : List Source) (found : List (Option LocalFault)) (k : ℕ) (s : Source) (f : Option LocalFault) (old new : List SourceFault)
+pub faults_more : (files : List Source) (found : List (Option LocalFault)) (k : ℕ) (s : Source)
+    (f : Option LocalFault) (old new : List SourceFault)
     → k < length files → length found ≡ length files → new ≡ old ++ added_by (get_or files k s) (get_or found k f) []
     → old ≡ faults_in (take k files) (take k found) → new ≡ faults_in (take (k + 1) files) (take (k + 1) found)
 faults_more files found k s f old new h same added so_far =
     let next = faults_next files found k s f h same in
-    rw add-one (added ∙ ap (λ (xs : List SourceFault). xs ++ added_by (get_or files k s) (get_or found k f) []) so_far ∙ sym next)
+    rw add-one (added ∙ ap (λ (xs : List SourceFault). xs
+    ++ added_by (get_or files k s) (get_or found k f) []) so_far ∙ sym next)
 
 -- what is put behind other faults
-pub put_some : (s : Source) (local : LocalFault) (faults : List Fault) (new : Fault) → told_by new ≡ fault_in (name_of s) local
+pub put_some : (s : Source) (local : LocalFault) (faults : List Fault) (new : Fault)
+    → told_by new ≡ fault_in (name_of s) local
     → map told_by (faults ++ new ∷ []) ≡ map told_by faults ++ added_by s (Some local) []
-put_some s local faults new told = map-append told_by faults (new ∷ []) ∙ ap (λ (x : SourceFault). map told_by faults ++ x ∷ []) told
+put_some s local faults new told = map-append told_by faults (new ∷ [])
+    ∙ ap (λ (x : SourceFault). map told_by faults ++ x ∷ []) told
 
 -- ---- all of them
 
-pub are_told : (limits : Limits) (files : List Source) (found : List (Option LocalFault)) → AllZip (IsFoundIn limits) files found
+pub are_told : (limits : Limits) (files : List Source) (found : List (Option LocalFault))
+    → AllZip (IsFoundIn limits) files found
     → AreFileFaults limits files (faults_in files found)
 are_told limits [] [] all = none
 are_told limits [] (f ∷ found) all = absurd all
 are_told limits (s ∷ files) [] all = absurd all
-are_told limits (s ∷ files) (None ∷ found) all = sound s all.0.0 files (faults_in files found) all.0.1 (are_told limits files found all.1)
+are_told limits (s ∷ files) (None ∷ found) all = sound s all.0.0 files (faults_in files found) all.0.1
+    (are_told limits files found all.1)
 are_told limits (s ∷ files) (Some f ∷ found) all =
     faulty s f.step f.place f.kind files (faults_in files found) all.0 (are_told limits files found all.1)

@@ -15,7 +15,8 @@ use Rattle.file_faults.specs.FileFaults.{AreFileFaults, NamesDiffer}
 use Rattle.file_faults.proofs.Telling.{no_other}
 
 -- of sources whose names differ, only one has a name
-one_of_name : (files : List Source) (s t : Source) → NamesDiffer files → Contains files s → Contains files t → name_of s ≡ name_of t → s ≡ t
+one_of_name : (files : List Source) (s t : Source) → NamesDiffer files → Contains files s → Contains files t
+    → name_of s ≡ name_of t → s ≡ t
 one_of_name files s t differ (i, first, is) (j, second, also) same =
     let left = name_of_item files i s first (sym is) in
     let right = name_of_item files j t second (sym also) in
@@ -25,7 +26,8 @@ one_of_name files s t differ (i, first, is) (j, second, also) same =
       | inr (inr over) ↦ absurd (differ j i over first (right ∙ sym same ∙ sym left))
     ]
 
-pub placed : (limits : Limits) (files : List Source) (xs : List SourceFault) (x : SourceFault) (s : Source) → NamesDiffer files
+pub placed : (limits : Limits) (files : List Source) (xs : List SourceFault) (x : SourceFault) (s : Source)
+    → NamesDiffer files
     → AreFileFaults limits files xs → Contains xs x → Contains files s → name_of s ≡ x.file
     → (x.place.offset ≤ length (text_of s)) × (x.place.offset ≤ limit_of limits limit.FileBytes)
 placed limits files xs x s differ all told inside name =

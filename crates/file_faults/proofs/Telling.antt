@@ -34,7 +34,8 @@ record IsFirst (limits : Limits) (files : List Source) (x : SourceFault) : Type 
   found : IsLocalFault limits (name_of source) (text_of source) step place what
   is : x ≡ fault 1 (name_of source) step place what
 
-first_found : (limits : Limits) (files : List Source) (xs : List SourceFault) → AreFileFaults limits files xs → (x : SourceFault) (rest : List SourceFault)
+first_found : (limits : Limits) (files : List Source) (xs : List SourceFault) → AreFileFaults limits files xs
+    → (x : SourceFault) (rest : List SourceFault)
     → xs ≡ x ∷ rest → IsFirst limits files x
 first_found limits _ _ none x rest e = absurd (cc)
 first_found limits _ _ (sound s desc files faults is all) x rest e =
@@ -65,19 +66,23 @@ first_found limits _ _ (faulty s step place what files faults found all) x rest 
   is = (cc);
 }
 
-first_least : (limits : Limits) (sources files : List Source) (x : SourceFault) → length sources ≤ limit_of limits limit.Files → AreByName sources files
+first_least : (limits : Limits) (sources files : List Source) (x : SourceFault)
+    → length sources ≤ limit_of limits limit.Files → AreByName sources files
     → IsFirst limits files x → IsLeastFault limits sources x
 first_least limits sources files x few order r =
     let P : SourceFault → Type 0 = λ y. IsLeastFault limits sources y in
     subst P (sym r.is) (first_is_least limits sources 1 (name_of r.source) r.step r.place r.what
     (in_file files r.descs r.at r.source r.step r.place r.what few order r.before r.stands r.found))
 
-pub least_of_files : (limits : Limits) (sources files : List Source) (faults : List Fault) → length sources ≤ limit_of limits limit.Files
-    → AreByName sources files → AreFileFaults limits files (map told_by faults) → (f : Fault) (rest : List Fault) → faults ≡ f ∷ rest
+pub least_of_files : (limits : Limits) (sources files : List Source) (faults : List Fault)
+    → length sources ≤ limit_of limits limit.Files
+    → AreByName sources files → AreFileFaults limits files (map told_by faults) → (f : Fault) (rest : List Fault)
+    → faults ≡ f ∷ rest
     → IsLeastFault limits sources (told_by f)
 least_of_files limits sources files faults few order all f rest e =
     first_least limits sources files (told_by f) few order
-    (first_found limits files (map told_by faults) all (told_by f) (map told_by rest) (ap (λ (fs : List Fault). map told_by fs) e))
+    (first_found limits files (map told_by faults) all (told_by f) (map told_by rest) (ap (λ
+    (fs : List Fault). map told_by fs) e))
 
 -- ---- the first source, and those behind it
 
@@ -98,7 +103,8 @@ pub record IsFaulty (limits : Limits) (s : Source) (files : List Source) (xs : L
 none_at_all : (limits : Limits) (xs : List SourceFault) → AreFileFaults limits [] xs → xs ≡ []
 none_at_all limits _ none = refl
 
-pub head_of : (limits : Limits) (s : Source) (files : List Source) (xs : List SourceFault) → AreFileFaults limits (s ∷ files) xs
+pub head_of : (limits : Limits) (s : Source) (files : List Source) (xs : List SourceFault)
+    → AreFileFaults limits (s ∷ files) xs
     → IsSound limits s files xs ⊎ IsFaulty limits s files xs
 head_of limits _ _ _ (sound s desc files faults is all) = inl (record { desc = desc; is = is; all = all })
 head_of limits _ _ _ (faulty s step place what files faults found all) = inr (record {
@@ -111,13 +117,16 @@ head_of limits _ _ _ (faulty s step place what files faults found all) = inr (re
   all = all;
 })
 
-not_both : {A : Type 0} (limits : Limits) (s : Source) (files : List Source) (xs ys : List SourceFault) → IsSound limits s files xs → IsFaulty limits s files ys
+not_both : {A : Type 0} (limits : Limits) (s : Source) (files : List Source) (xs ys : List SourceFault)
+    → IsSound limits s files xs → IsFaulty limits s files ys
     → A
-not_both limits s files xs ys g h = absurd (no_local limits (name_of s) (text_of s) g.desc h.step h.place h.what g.is h.found)
+not_both limits s files xs ys g h = absurd (no_local limits (name_of s)
+    (text_of s) g.desc h.step h.place h.what g.is h.found)
 
 -- ---- one list
 
-pub one_list : (limits : Limits) (files : List Source) (xs ys : List SourceFault) → AreFileFaults limits files xs → AreFileFaults limits files ys → xs ≡ ys
+pub one_list : (limits : Limits) (files : List Source) (xs ys : List SourceFault) → AreFileFaults limits files xs
+    → AreFileFaults limits files ys → xs ≡ ys
 one_list limits [] xs ys a b = none_at_all limits xs a ∙ sym (none_at_all limits ys b)
 one_list limits (s ∷ files) xs ys a b = elim (head_of limits s files xs a) [
   | inl g ↦ elim (head_of limits s files ys b) [
@@ -130,12 +139,16 @@ one_list limits (s ∷ files) xs ys a b = elim (head_of limits s files xs a) [
   ]
 ]
   where
-    same_heads : (limits : Limits) (s : Source) (files : List Source) (xs ys : List SourceFault) (g : IsFaulty limits s files xs)
+    same_heads : (limits : Limits) (s : Source) (files : List Source) (xs ys : List SourceFault)
+        (g : IsFaulty limits s files xs)
         (h : IsFaulty limits s files ys) → g.rest ≡ h.rest → xs ≡ ys
     same_heads limits s files xs ys g h rest =
-        let one = one_local limits (name_of s) (text_of s) g.step h.step g.place h.place g.what h.what g.found h.found in
-        let head = same_told 1 1 g.step h.step (name_of s) (name_of s) g.place h.place g.what h.what refl refl one.0 one.1 one.2 in
-        g.is ∙ ap (λ (x : SourceFault). x ∷ g.rest) head ∙ ap (λ (r : List SourceFault). fault 1 (name_of s) h.step h.place h.what ∷ r) rest ∙ sym h.is
+        let one = one_local limits (name_of s)
+        (text_of s) g.step h.step g.place h.place g.what h.what g.found h.found in
+        let head = same_told 1 1 g.step h.step (name_of s)
+        (name_of s) g.place h.place g.what h.what refl refl one.0 one.1 one.2 in
+        g.is ∙ ap (λ (x : SourceFault). x ∷ g.rest) head
+        ∙ ap (λ (r : List SourceFault). fault 1 (name_of s) h.step h.place h.what ∷ r) rest ∙ sym h.is
 
 -- ---- which faults are told
 
@@ -145,15 +158,18 @@ nothing_in (k, inside, is) = omega (arith, inside)
 contains_later : {X : Type 0} (y x : X) (xs : List X) → Contains xs x → Contains (y ∷ xs) x
 contains_later y x xs (k, inside, is) = (suc k, omega (arith, inside), is)
 
-has_head : (limits : Limits) (s : Source) (files : List Source) (xs : List SourceFault) (x : SourceFault) → IsFaulty limits s files xs → HasFault limits s x
+has_head : (limits : Limits) (s : Source) (files : List Source) (xs : List SourceFault) (x : SourceFault)
+    → IsFaulty limits s files xs → HasFault limits s x
     → Contains xs x
 has_head limits s files xs x g (step, place, what, found, is) =
     let one = one_local limits (name_of s) (text_of s) g.step step g.place place g.what what g.found found in
-    let head = same_told 1 1 g.step step (name_of s) (name_of s) g.place place g.what what refl refl one.0 one.1 one.2 in
+    let head = same_told 1 1 g.step step (name_of s)
+    (name_of s) g.place place g.what what refl refl one.0 one.1 one.2 in
     let P : List SourceFault → Type 0 = λ ys. Contains ys x in
     subst P (sym g.is) (zero, omega arith, head ∙ sym is)
 
-pub every_fault : (limits : Limits) (files : List Source) (xs : List SourceFault) (s : Source) (x : SourceFault) → AreFileFaults limits files xs
+pub every_fault : (limits : Limits) (files : List Source) (xs : List SourceFault) (s : Source) (x : SourceFault)
+    → AreFileFaults limits files xs
     → Contains files s → HasFault limits s x → Contains xs x
 every_fault limits [] xs s x all inside has = absurd (nothing_in inside)
 every_fault limits (t ∷ files) xs s x all (zero, inside, here) has =
@@ -168,22 +184,40 @@ every_fault limits (t ∷ files) xs s x all (suc k, inside, here) has = elim (he
   | inr g ↦ (
       let P : List SourceFault → Type 0 = λ ys. Contains ys x in
       let first = fault 1 (name_of t) g.step g.place g.what in
-      subst P (sym g.is) (contains_later first x g.rest (every_fault limits files g.rest s x g.all (k, omega (arith, inside), here) has)))
+      subst P (sym g.is) (contains_later first x g.rest (every_fault limits files g.rest s x g.all (
+        k,
+        omega
+            (arith, inside),
+        here,
+      ) has)))
 ]
 
 -- a source with the fault
 abbrev pub SomeHas : Limits → List Source → SourceFault → Type 0
 SomeHas limits files x = (s : Source) × Contains files s × HasFault limits s x
 
-some_later : (limits : Limits) (t : Source) (files : List Source) (x : SourceFault) → SomeHas limits files x → SomeHas limits (t ∷ files) x
+some_later : (limits : Limits) (t : Source) (files : List Source) (x : SourceFault) → SomeHas limits files x
+    → SomeHas limits (t ∷ files) x
 some_later limits t files x (s, inside, has) = (s, contains_later t s files inside, has)
 
-some_here : (limits : Limits) (t : Source) (files : List Source) (xs : List SourceFault) (x : SourceFault) (g : IsFaulty limits t files xs)
-    → Contains (fault 1 (name_of t) g.step g.place g.what ∷ g.rest) x → (Contains g.rest x → SomeHas limits files x) → SomeHas limits (t ∷ files) x
-some_here limits t files xs x g (zero, inside, is) later = (t, (zero, omega arith, refl), (g.step, g.place, g.what, g.found, sym is))
-some_here limits t files xs x g (suc k, inside, is) later = some_later limits t files x (later (k, omega (arith, inside), is))
+some_here : (limits : Limits) (t : Source) (files : List Source) (xs : List SourceFault) (x : SourceFault)
+    (g : IsFaulty limits t files xs)
+    → Contains (fault 1 (name_of t) g.step g.place g.what ∷ g.rest) x → (Contains g.rest x
+    → SomeHas limits files x) → SomeHas limits (t ∷ files) x
+some_here limits t files xs x g (zero, inside, is) later = (
+  t,
+  (zero, omega arith, refl),
+  (g.step, g.place, g.what, g.found, sym is),
+)
+some_here limits t files xs x g (suc k, inside, is) later = some_later limits t files x (later (
+  k,
+  omega
+      (arith, inside),
+  is,
+))
 
-pub no_other : (limits : Limits) (files : List Source) (xs : List SourceFault) (x : SourceFault) → AreFileFaults limits files xs → Contains xs x
+pub no_other : (limits : Limits) (files : List Source) (xs : List SourceFault) (x : SourceFault)
+    → AreFileFaults limits files xs → Contains xs x
     → SomeHas limits files x
 no_other limits [] xs x all inside =
     let P : List SourceFault → Type 0 = λ ys. Contains ys x in

@@ -195,7 +195,7 @@ impl From<ServeFault> for Failure {
 }
 
 /// The first of the sources that has a name.
-fn source_named<'a, 's>(sources: &'a [Source<'s>], name: &str) -> Option<&'a Source<'s>>
+pub fn source_named<'a, 's>(sources: &'a [Source<'s>], name: &str) -> Option<&'a Source<'s>>
     ensures first { option_map (λ source. source.now) result ≡ source_named sources.now name.now }
     ensures listed { IfSome result (λ source. Contains sources.now source.now × (name_of source.now ≡ name.now)) }
 {

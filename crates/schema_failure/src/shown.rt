@@ -8,7 +8,7 @@ use std::fmt;
 
 /// The name of a file, in which each control character of ASCII is written by its number, as `\u{a}`: so a line with it stays one.
 #[derive(Clone, Copy)]
-pub(crate) struct Shown<'a>(pub(crate) &'a str);
+pub struct Shown<'a>(pub &'a str);
 
 fn write_shown<W: fmt::Write>(name: &str, f: &mut fmt::Formatter<W>) -> fmt::Result
     ensures { WritesOnOk W.write_str_gives f.old result (shown_name name.now) f.new }

@@ -6,7 +6,8 @@ use Rattle.fault_report.proofs.token_end.end_among.Goals as goal
 pub returns-in_err-token : goal.returns-in_err-token
 returns-in_err-token c =
     ap offset_of c.from_residual.ensures
-    ∙ end_of_found c.args.tokens.now.items.items c.args.place.offset None (rw c.deref.ensures.value at c.in_err-token.ensures)
+    ∙ end_of_found c.args.tokens.now.items.items c.args.place.offset None
+    (rw c.deref.ensures.value at c.in_err-token.ensures)
 
 pub returns : goal.returns
 returns c =

@@ -5,7 +5,8 @@ use Rattle.fault_report.proofs.token_end.token_end.Goals as goal
 
 pub returns-in-Ok : goal.returns-in-Ok
 returns-in-Ok c = record {
-  spelled = λ ts is. c.end_among.ensures ∙ ap (λ us. end_among us c.args.place.offset) (c.in-Ok.ensures.every_spelling ts is);
+  spelled = λ ts is. c.end_among.ensures
+      ∙ ap (λ us. end_among us c.args.place.offset) (c.in-Ok.ensures.every_spelling ts is);
   none = λ at kind fault. absurd (c.in-Ok.ensures.every_fault at kind fault);
 }
 

@@ -5,7 +5,8 @@ use Rattle.file_faults.proofs.finding.all_named.Goals as goal
 
 pub loop-at-preserved : goal.loop-at-preserved
 loop-at-preserved c =
-    faults_more c.args.files.now c.args.found.now c.loop-at.at _ _ (map told_by c.loop-at.faults.items) (map told_by c.put_found.new.faults.items)
+    faults_more c.args.files.now c.args.found.now c.loop-at.at _ _ (map told_by c.loop-at.faults.items)
+    (map told_by c.put_found.new.faults.items)
     (omega arith) c.requires c.in_ok-put_found.ensures c.loop-at.invariant
 
 pub returns : goal.returns

@@ -18,17 +18,20 @@ returns-clause-each g c =
     let files = c.args.files.now in
     let found = c.in_ok-found.found.items in
     let each : AllZip (IsFoundIn limits) files found =
-    zip_plain (IsFoundIn limits) 0 files found (zip_of_gives (λ k. IsFoundIn limits) 0 files found c.in_ok-found.ensures.outs) in
+    zip_plain (IsFoundIn limits) 0 files found (zip_of_gives
+    (λ k. IsFoundIn limits) 0 files found c.in_ok-found.ensures.outs) in
     let P : List (Option LocalFault) → Type 0 = λ fs. AllZip (IsFoundIn limits) files fs in
     let lent : AllZip (IsFoundIn limits) files c.deref.result.now = subst P (sym c.deref.ensures.value) each in
     ok_map (λ (faults : Vec Fault Global). map told_by faults.items ≡ faults_in files c.deref.result.now)
     (λ faults. AreFileFaults limits files (map told_by faults.items)) c.all_named.result
-    (λ faults is. subst (AreFileFaults limits files) (sym is) (are_told limits files c.deref.result.now lent)) c.all_named.ensures
+    (λ faults is. subst (AreFileFaults limits files) (sym is)
+    (are_told limits files c.deref.result.now lent)) c.all_named.ensures
 
 pub returns-clause-first : goal.returns-clause-first
 returns-clause-first g c sources few order =
     let limits = c.args.limits.now in
     let files = c.args.files.now in
     ok_map (λ (faults : Vec Fault Global). AreFileFaults limits files (map told_by faults.items))
-    (λ faults. (f : Fault) (rest : List Fault) → faults.items ≡ f ∷ rest → IsLeastFault limits sources (told_by f)) c.all_named.result
+    (λ faults. (f : Fault) (rest : List Fault) → faults.items ≡ f ∷ rest
+    → IsLeastFault limits sources (told_by f)) c.all_named.result
     (λ faults all. least_of_files limits sources files faults.items few order all) (returns-clause-each g c)
