@@ -1,0 +1,4 @@
+pub mod Added
+pub mod Reports
+pub mod Runs
+pub mod Told

@@ -1,0 +1,60 @@
+-- What is said of faults.
+use Rattle.std.specs.Prelude.{◌≡◌, ◌==◌, ℕ, List, [], ◌∷◌, ◌++◌, Option, None, Some, codes, length, nat_eq, string_bytes, if◌then◌else◌}
+use Rattle.std.specs.Fmt.{decimal}
+use Rattle.std.specs.List.{AllZip, concat, ends_with}
+use Rattle.fault_report.specs.Excerpts.{IsExcerpt, rows_of}
+use Rattle.fault_report.specs.declared.excerpt.Excerpt.{Excerpt}
+use Rattle.proto_base.specs.Kind.{name_of}
+use Rattle.proto_base.specs.Limits.{limit_of}
+use Rattle.proto_base.specs.declared.fault.Fault.{Fault}
+use Rattle.proto_base.specs.declared.limits.Limit.TheVariants.{FileBytes}
+use Rattle.proto_base.specs.declared.limits.Limits.{Limits}
+use Rattle.proto_compile.specs.Sources.{text_of}
+use Rattle.proto_compile.specs.declared.source.Source.{Source}
+use Rattle.schema_failure.specs.Lines.{shown_name}
+use Rattle.schema_failure.specs.Placed.{source_named}
+
+-- ---- one fault
+
+-- what parts a root from the name of a file below it
+abbrev pub slash_behind : List ℕ → List ℕ
+slash_behind root = if ends_with nat_eq root (47 ∷ []) then [] else 47 ∷ []
+
+-- ROOT/FILE:LINE:COLUMN: KIND
+abbrev pub line_of : List ℕ → Fault → Excerpt → List ℕ
+line_of root f e = root ++ (slash_behind root ++ (shown_name (string_bytes f.file) ++ (codes ":"
+    ++ (decimal e.number ++ (codes ":" ++ (decimal e.column ++ (codes ": " ++ name_of f.kind)))))))
+
+-- this line, and the rows of the text around the place
+abbrev pub IsPlaceOf : Limits → List ℕ → Fault → Source → List ℕ → Type 0
+IsPlaceOf limits root f s said = (e : Excerpt) × IsExcerpt (limit_of limits FileBytes) (text_of s) f.place.offset e
+    × (said ≡ line_of root f e ++ (10 ∷ rows_of e ++ 10 ∷ []))
+
+-- of a fault of the whole list ROOT: KIND
+abbrev pub IsHeadOf : Limits → List ℕ → Fault → Option Source → List ℕ → Type 0
+IsHeadOf limits root f None said = said ≡ root ++ (codes ": " ++ (name_of f.kind ++ 10 ∷ []))
+IsHeadOf limits root f (Some s) said = IsPlaceOf limits root f s said
+
+-- so much, and then what it means and how it is cured
+abbrev pub IsBlock : Limits → List ℕ → List Source → Fault → List ℕ → Type 0
+IsBlock limits root sources f said = (head more : List ℕ)
+    × IsHeadOf limits root f (source_named sources (string_bytes f.file)) head × (said ≡ head ++ more)
+
+-- ---- all of them
+
+abbrev pub plural : ℕ → List ℕ
+plural n = if n == 1 then [] else codes "s"
+
+-- how many faults there are, in how many files
+abbrev pub summary_of : List ℕ → ℕ → ℕ → List ℕ
+summary_of root faults files =
+    if files == 0 then codes "no file that ends in .proto below " ++ (root ++ 10 ∷ [])
+    else (if faults == 0 then decimal files ++ (codes " file" ++ (plural files ++ (codes ", no fault" ++ 10 ∷ [])))
+    else decimal faults ++ (codes " fault" ++ (plural faults ++ (codes " in " ++ (decimal files ++ (codes " file"
+    ++ (plural files ++ 10 ∷ [])))))))
+
+-- what is said of each, in their order, and the summary
+abbrev pub IsReport : Limits → List ℕ → List Source → List Fault → List ℕ → Type 0
+IsReport limits root sources faults report =
+    (blocks : List (List ℕ)) × AllZip (IsBlock limits root sources) faults blocks
+    × (report ≡ concat blocks ++ summary_of root (length faults) (length sources))

@@ -1,0 +1,95 @@
+//! Checking read sources.
+
+ghost use Rattle.std.specs.Prelude.{◌≡◌, ◌-◌, ◌<◌, ◌^◌, IfOk, string_bytes};
+ghost use Rattle.schema_check.specs.Runs.{AreFindings, AreSourcesOf, IsCheckRun, verdict_of};
+
+use crate::report::report_of;
+use crate::told::told_faults;
+use grpcweb_core::{CountedWrite, write_bytes};
+use proto_base::{Fault, Limits};
+use proto_compile::Source;
+use schema_failure::{Failure, Verdict};
+use share_work::Plan;
+use source_folder::NamedText;
+use std::alloc::{AllocError, AllocGlobal, Global};
+use std::thread::Threads;
+
+/// The sources that are read texts.
+fn sources_of<'s>(alloc: Global, texts: &'s [NamedText]) -> Result<Vec<Source<'s>>, AllocError>
+    ensures { IfOk result (λ sources. AreSourcesOf texts.now sources.items) }
+{
+    let mut sources = Vec::with_capacity(alloc, texts.len())?;
+    for text in texts {
+        sources.push(Source {
+            name: text.name.as_str(),
+            text: text.text.as_slice(),
+        })?;
+    }
+    Ok(sources)
+}
+
+/// What sources are that have these faults.
+fn verdict_of(faults: &[Fault]) -> Verdict
+    ensures { result ≡ verdict_of faults.now }
+{
+    if faults.is_empty() {
+        Verdict::Sound
+    } else {
+        Verdict::Faulty
+    }
+}
+
+/// What was found of sources, and what is said of it.
+#[derive(Drop)]
+struct Findings {
+    verdict: Verdict,
+    report: String,
+}
+
+/// What is found of sources below a root.
+fn findings_of<R>(
+    rt: &R,
+    root: &str,
+    sources: &[Source],
+    limits: &Limits,
+    plan: Plan,
+) -> Result<Findings, AllocError>
+where
+    R: Threads + AllocGlobal + Sync,
+    ensures { IfOk result (λ found. AreFindings limits.now root.now sources.now found.verdict
+        (string_bytes found.report)) }
+{
+    let faults = told_faults(rt, sources, limits, plan)?;
+    let faults = faults.as_slice();
+    Ok(Findings {
+        verdict: verdict_of(faults),
+        report: report_of(rt.alloc(), root, sources, faults, limits)?,
+    })
+}
+
+/// Writes all faults of read texts below a root that can be told at once: where some texts have faults of their own, the first of
+/// each, in the order of the texts; else the first fault of the later passes. For each its line, the rows of its text around the
+/// place with carets below the token, what it means and its cure; at last how many there are. The answer is `Sound` only where
+/// there is none.
+///
+/// The report is made before it is written, so `NoMemory` comes before a byte is; `Output` is a writer that failed.
+pub fn check_texts<R, O>(
+    rt: &R,
+    root: &str,
+    texts: &[NamedText],
+    limits: &Limits,
+    plan: Plan,
+    output: &mut O,
+) -> Result<Verdict, Failure>
+where
+    R: Threads + AllocGlobal + Sync,
+    O: CountedWrite,
+    requires { (O.writes output.old).failures < 2 ^ 64 - 1 }
+    ensures { IsCheckRun limits.now root.now texts.now (O.writes output.old) (O.writes output.new)
+        result }
+{
+    let sources = sources_of(rt.alloc(), texts)?;
+    let found = findings_of(rt, root, &sources, limits, plan)?;
+    write_bytes(output, found.report.as_bytes())?;
+    Ok(found.verdict)
+}

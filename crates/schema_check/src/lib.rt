@@ -1,0 +1,11 @@
+//! The command `check`: all faults of sources that can be told at once, for people.
+#![tactic(auto)]
+
+mod blocks;
+mod check;
+mod report;
+mod told;
+
+pub use check::check_texts;
+pub use report::report_of;
+pub use told::told_faults;

@@ -1,0 +1,54 @@
+//! What is said of all faults.
+
+ghost use Rattle.std.specs.Prelude.{◌≡◌, IfOk, string_bytes};
+ghost use Rattle.schema_check.specs.Reports.{IsReport, plural, summary_of};
+ghost use Rattle.schema_check.specs.Told.{ArePlaced};
+
+use crate::blocks::put_block;
+use proto_base::{Fault, Limits};
+use proto_compile::Source;
+use std::alloc::{AllocError, Global};
+
+/// What ends the word for so many things.
+fn plural(count: usize) -> &'static str
+    ensures { result.now ≡ plural count }
+{
+    if count == 1 { "" } else { "s" }
+}
+
+/// The last line of a report.
+fn summary_of(alloc: Global, root: &str, faults: usize, files: usize) -> Result<String, AllocError>
+    ensures { IfOk result (λ line. string_bytes line ≡ summary_of root.now faults files) }
+{
+    if files == 0 {
+        return format!(in alloc; "no file that ends in .proto below {root}\n");
+    }
+    let more_files = plural(files);
+    if faults == 0 {
+        return format!(in alloc; "{files} file{more_files}, no fault\n");
+    }
+    let more_faults = plural(faults);
+    format!(in alloc; "{faults} fault{more_faults} in {files} file{more_files}\n")
+}
+
+/// What is said of the faults of sources below a root: of each one its line, the rows of the text around its place, what it means
+/// and its cure; and how many there are.
+pub fn report_of(
+    alloc: Global,
+    root: &str,
+    sources: &[Source],
+    faults: &[Fault],
+    limits: &Limits,
+) -> Result<String, AllocError>
+    requires { ArePlaced sources.now faults.now }
+    ensures { IfOk result (λ report. IsReport limits.now root.now sources.now faults.now
+        (string_bytes report)) }
+{
+    let mut report = String::new(alloc);
+    for fault in faults {
+        put_block(alloc, &mut report, root, sources, fault, limits)?;
+    }
+    let summary = summary_of(alloc, root, faults.len(), sources.len())?;
+    report.push_str(summary.as_str())?;
+    Ok(report)
+}

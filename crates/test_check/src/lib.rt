@@ -1,0 +1,5 @@
+//! Tests of checking sources.
+#![tactic(auto)]
+
+#[cfg(test)]
+mod tests;
