@@ -2,7 +2,8 @@
 
 ghost use Rattle.std.specs.Prelude.{◌≡◌, IfOk, IfSome, codes, map, option_map};
 ghost use Rattle.clap.specs.Matches.{first_value, found_of};
-ghost use Rattle.schema_command_line.specs.Tasks.{AreConnections, IsMode, IsPlan, IsSelection, IsTaskNamed, file_of, values_of};
+ghost use Rattle.clap.specs.declared.parser.matches.ArgMatches.{ArgMatches};
+ghost use Rattle.schema_command_line.specs.Tasks.{AreConnections, IsAsked, IsMode, IsPlan, IsSelection, IsTaskNamed, file_of, values_of};
 
 use crate::words::whole_command;
 use clap::error::ErrorKind;
@@ -195,7 +196,9 @@ fn task_named<'a>(
 }
 
 /// The task that was found in the words, if they name a command.
-fn task_in<'a>(alloc: Global, matches: &ArgMatches<'a>) -> Result<Option<Task<'a>>, Error> {
+fn task_in<'a>(alloc: Global, matches: &ArgMatches<'a>) -> Result<Option<Task<'a>>, Error>
+    ensures { IfOk result (λ task. IfSome task (IsAsked matches.now)) }
+{
     match matches.subcommand() {
         Some((name, found)) => task_named(alloc, name, found),
         None => Ok(None),
@@ -209,7 +212,9 @@ fn matches_of<'a>(alloc: Global, words: &'a [&'a str]) -> Result<ArgMatches<'a>,
 }
 
 /// The task that the words give, whose first is the program's name, or `clap`'s text for the user.
-pub fn task_of<'a>(alloc: Global, words: &'a [&'a str]) -> Result<Task<'a>, Error> {
+pub fn task_of<'a>(alloc: Global, words: &'a [&'a str]) -> Result<Task<'a>, Error>
+    ensures { IfOk result (λ task. (matches : ArgMatches) × IsAsked matches task) }
+{
     let matches = matches_of(alloc, words)?;
     match task_in(alloc, &matches)? {
         Some(task) => Ok(task),

@@ -1,11 +1,10 @@
 -- What a run did, and what it ended with.
-use Rattle.std.specs.Prelude.{◌≡◌, ◌⊎◌, ℕ, List, None, IfOk, Result}
-use Rattle.clap.specs.Matches.{found_of, subcommand_name_of}
+use Rattle.std.specs.Prelude.{◌≡◌, ℕ, List, Option, Some, None, IfSome, Result, Ok, Err}
 use Rattle.clap.specs.declared.parser.matches.ArgMatches.{ArgMatches}
-use Rattle.clap.specs.declared.parser.matches.Found.{Found}
 use Rattle.grpcweb_core.specs.Exchange.{IsWritten, IsWrittenInPart}
 use Rattle.grpcweb_core.specs.Streams.{Reads, Writes}
-use Rattle.schema_command_line.specs.Tasks.{IsTaskNamed}
+use Rattle.schema_check.specs.Runs.{IsFolderCheck}
+use Rattle.schema_command_line.specs.Tasks.{IsAsked}
 use Rattle.schema_command_line.specs.declared.task.Task.{Task}
 use Rattle.schema_command_line.specs.declared.task.Task.TheVariants as task
 use Rattle.schema_commands.specs.Runs.{IsAnswerRun, IsCompileRun, IsDescribeRun, IsExplainRun}
@@ -16,19 +15,26 @@ use Rattle.schema_failure.specs.declared.failure.Status.TheVariants as status
 use Rattle.schema_failure.specs.declared.failure.Verdict.{Verdict}
 use Rattle.schema_failure.specs.declared.failure.Verdict.TheVariants as verdict
 
--- what a task read and wrote, by how it ended. Of `serve`, which is told by sockets, nothing is known
+-- a command that gives no verdict ended so, and where it came to its end the sources have no fault
+abbrev pub EndsSound : (Result (Unit {0}) Failure → Type 0) → Result Verdict Failure → Type 0
+EndsSound P (Ok verdict.Sound) = P (Ok tt)
+EndsSound P (Ok verdict.Faulty) = ⊥
+EndsSound P (Err failure) = P (Err failure)
+
+-- what a task read and wrote, by how it ended. Of `serve`, which goes by sockets, nothing is known
 abbrev pub IsPerformed : Task → Reads → Reads → Writes → Writes → Result Verdict Failure → Type 0
-IsPerformed (task.Compile selection plan file) reads reads' writes writes' done =
-    IsCompileRun None file writes writes' done × IfOk done (λ v. v ≡ verdict.Sound)
-IsPerformed (task.Check selection plan) reads reads' writes writes' done = Unit {0}
-IsPerformed (task.Serve selection listen plan mode connections) reads reads' writes writes' done =
-    IfOk done (λ v. v ≡ verdict.Sound)
-IsPerformed (task.Answer selection plan mode) reads reads' writes writes' done =
-    IsAnswerRun None mode reads reads' writes writes' done × IfOk done (λ v. v ≡ verdict.Sound)
-IsPerformed (task.Describe name) reads reads' writes writes' done =
-    IsDescribeRun name.now reads reads' writes writes' done × IfOk done (λ v. v ≡ verdict.Sound)
-IsPerformed (task.Explain topic) reads reads' writes writes' done =
-    IsExplainRun writes writes' done × IfOk done (λ v. v ≡ verdict.Sound)
+IsPerformed (task.Compile selection plan file) reads reads' writes writes' =
+    EndsSound (λ done. IsCompileRun None file writes writes' done)
+IsPerformed (task.Check selection plan) reads reads' writes writes' =
+    λ done. IsFolderCheck None selection.root.now writes writes' done
+IsPerformed (task.Serve selection listen plan mode connections) reads reads' writes writes' =
+    EndsSound (λ done. Unit {0})
+IsPerformed (task.Answer selection plan mode) reads reads' writes writes' =
+    EndsSound (λ done. IsAnswerRun None mode reads reads' writes writes' done)
+IsPerformed (task.Describe name) reads reads' writes writes' =
+    EndsSound (λ done. IsDescribeRun name.now reads reads' writes writes' done)
+IsPerformed (task.Explain topic) reads reads' writes writes' =
+    EndsSound (λ done. IsExplainRun writes writes' done)
 
 -- the words were no task: help or the version was written; or the command line is wrong, or memory was short, and nothing
 -- was written; or a call of the writer failed
@@ -39,18 +45,16 @@ IsUsageRun writes writes' status.CommandLine = writes' ≡ writes
 IsUsageRun writes writes' status.Device = (text : List ℕ) × (written : ℕ) × IsWrittenInPart writes writes' text written
 IsUsageRun writes writes' status.NoMemory = writes' ≡ writes
 
--- the task that the parser found in the words was performed, and the status is that of how it ended
-pub record IsTaskRun (reads reads' : Reads) (writes writes' : Writes) (ended : Status) : Type 0 where
-  pub name : List ℕ
-  pub found : Found
-  pub task : Task
-  pub asked : IsTaskNamed name found task
-  pub done : Result Verdict Failure
-  pub performed : IsPerformed task reads reads' writes writes' done
-  pub told : ended ≡ status_after done
+-- what became of what the words ask for: a task was performed, and the status is that of how it ended; or they ask for none
+abbrev pub IsEndOf : Option Task → Reads → Reads → Writes → Writes → Status → Type 0
+IsEndOf (Some asked) reads reads' writes writes' ended =
+    (done : Result Verdict Failure) × IsPerformed asked reads reads' writes writes' done × (ended ≡ status_after done)
+IsEndOf None reads reads' writes writes' ended = IsUsageRun writes writes' ended
 
--- a run, by the number that it ends with
+-- a run, by the number that it ends with; its task is one that the parser found in the words
 pub record IsRun (reads reads' : Reads) (writes writes' : Writes) (code : ℕ) : Type 0 where
+  pub asked : Option Task
+  pub found : IfSome asked (λ one. (matches : ArgMatches) × IsAsked matches one)
   pub ended : Status
+  pub run : IsEndOf asked reads reads' writes writes' ended
   pub number : code ≡ code_of ended
-  pub either : IsUsageRun writes writes' ended ⊎ IsTaskRun reads reads' writes writes' ended

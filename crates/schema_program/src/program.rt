@@ -1,18 +1,19 @@
 //! The whole program, over any reader and writers.
 
 ghost use Rattle.std.specs.Prelude.{◌≡◌, ◌-◌, ◌<◌, ◌^◌};
+ghost use Rattle.std.specs.Result.{result_ok};
 ghost use Rattle.schema_failure.specs.Statuses.{status_after};
-ghost use Rattle.schema_program.specs.Performed.{IsPerformed, IsRun, IsUsageRun};
+ghost use Rattle.schema_program.specs.Performed.{EndsSound, IsEndOf, IsPerformed, IsRun, IsUsageRun};
 
 use crate::serving::run_serve;
 use clap::Error;
 use clap::error::ErrorKind;
 use grpcweb_core::{CountedRead, CountedWrite, write_bytes};
+use schema_check::run_check;
 use schema_command_line::{Selection, Task, task_of};
 use schema_commands::{run_answer, run_compile, run_describe, run_explain};
 use schema_failure::{Failure, Status, Verdict, write_failure};
 use schema_sources::SystemFolder;
-use share_work::Plan;
 use std::alloc::{AllocGlobal, Global};
 use std::io::Write;
 use std::net::Net;
@@ -23,12 +24,23 @@ use std::thread::Threads;
 use std::time::Clock;
 
 /// The folders and files that the words select.
-pub(crate) fn folder_of<'a, R>(
-    rt: &'a R,
-    selection: &'a Selection<'a>,
-    plan: Plan,
-) -> SystemFolder<'a, R> {
-    SystemFolder::new(rt, selection.root)
+fn folder_of<'a, R>(rt: &'a R, selection: &'a Selection<'a>) -> SystemFolder<'a, R> {
+    SystemFolder {
+        rt,
+        root: selection.root,
+        includes: &selection.includes,
+        files: &selection.files,
+    }
+}
+
+/// How a command ended that gives no verdict: where it came to its end, the sources have no fault.
+fn sound(done: Result<(), Failure>) -> Result<Verdict, Failure>
+    ensures { (P : Result (Unit {0}) Failure → Type 0) → P done → EndsSound P result }
+{
+    match done {
+        Ok(()) => Ok(Verdict::Sound),
+        Err(failure) => Err(failure),
+    }
 }
 
 /// Does what a task asks for.
@@ -48,10 +60,12 @@ where
             plan,
             file,
         } => {
-            run_compile(rt, &folder_of(rt, selection, *plan), *plan, *file, output)?;
+            let folder = folder_of(rt, selection);
+            sound(run_compile(rt, &folder, *plan, *file, output))
         }
         Task::Check { selection, plan } => {
-            return Err(Failure::Folder);
+            let folder = folder_of(rt, selection);
+            run_check(rt, &folder, selection.root, *plan, output)
         }
         Task::Serve {
             selection,
@@ -60,27 +74,20 @@ where
             mode,
             connections,
         } => {
-            let folder = folder_of(rt, selection, *plan);
-            run_serve(rt, &folder, listen, *plan, *mode, *connections, output)?;
+            let folder = folder_of(rt, selection);
+            sound(run_serve(rt, &folder, listen, *plan, *mode, *connections, output))
         }
         Task::Answer {
             selection,
             plan,
             mode,
         } => {
-            run_answer(
-                rt,
-                &folder_of(rt, selection, *plan),
-                *plan,
-                *mode,
-                input,
-                output,
-            )?;
+            let folder = folder_of(rt, selection);
+            sound(run_answer(rt, &folder, *plan, *mode, input, output))
         }
-        Task::Describe { name } => run_describe(rt, name, input, output)?,
-        Task::Explain { topic } => run_explain(rt.alloc(), *topic, output)?,
+        Task::Describe { name } => sound(run_describe(rt, name, input, output)),
+        Task::Explain { topic } => sound(run_explain(rt.alloc(), *topic, output)),
     }
-    Ok(Verdict::Sound)
 }
 
 /// The status of a run that ends so, after the line of its failure. That it cannot be printed changes nothing.
@@ -111,7 +118,7 @@ fn print_text<O: CountedWrite>(
 /// Prints what `clap` has to say: help and the version on the output, and what is wrong with the words on the faults.
 fn tell_usage<O: CountedWrite, E: Write>(
     alloc: Global,
-    error: Error,
+    error: &Error,
     output: &mut O,
     faults: &mut E,
 ) -> Status
@@ -121,12 +128,36 @@ fn tell_usage<O: CountedWrite, E: Write>(
     match error.kind() {
         ErrorKind::OutOfMemory => finish(Err(Failure::NoMemory), faults),
         ErrorKind::DisplayHelp | ErrorKind::DisplayVersion => {
-            finish(print_text(alloc, &error, output), faults)
+            finish(print_text(alloc, error, output), faults)
         }
         _ => {
             let _ = write!(faults, "{error}");
             Status::CommandLine
         }
+    }
+}
+
+/// Does what the words ask for, or tells why they ask for nothing.
+fn end_of<R, I, O, E>(
+    rt: &R,
+    asked: &Result<Task, Error>,
+    input: &mut I,
+    output: &mut O,
+    faults: &mut E,
+) -> Status
+where
+    R: Wait + Threads + Files + Clock + RandomSource + AllocGlobal + Sync + Clone + Drop + Net,
+    I: CountedRead,
+    O: CountedWrite,
+    E: Write,
+    requires reader_counts { (I.reads input.old).failures < 2 ^ 64 - 1 }
+    requires writer_counts { (O.writes output.old).failures < 2 ^ 64 - 1 }
+    ensures { IsEndOf (result_ok asked.now) (I.reads input.old) (I.reads input.new)
+        (O.writes output.old) (O.writes output.new) result }
+{
+    match asked {
+        Ok(task) => finish(perform(rt, task, input, output), faults),
+        Err(error) => tell_usage(rt.alloc(), error, output, faults),
     }
 }
 
@@ -144,9 +175,6 @@ where
     ensures { IsRun (I.reads input.old) (I.reads input.new) (O.writes output.old)
         (O.writes output.new) result }
 {
-    let status = match task_of(rt.alloc(), words) {
-        Ok(task) => finish(perform(rt, &task, input, output), faults),
-        Err(error) => tell_usage(rt.alloc(), error, output, faults),
-    };
-    status.code()
+    let asked = task_of(rt.alloc(), words);
+    end_of(rt, &asked, input, output, faults).code()
 }
