@@ -1,16 +1,21 @@
 -- One block of a report after another.
-use Rattle.std.proofs.Common.{◌≡◌, ◌∙◌, sym, ap, subst, refl, ℕ, ◌+◌, ◌<◌, List, [], ◌∷◌, ◌++◌, length, take, get_or, append_assoc, Option, None, Some, codes, string_bytes}
+use Rattle.std.proofs.Common.{◌≡◌, ◌∙◌, sym, ap, subst, refl, ℕ, ◌+◌, ◌<◌, List, [], ◌∷◌, ◌++◌, length, take, get_or, append_assoc, Result, Ok, Err, IfOk, string_bytes}
 use Rattle.std.proofs.lemmas.List.{append-nil, take_more}
 use Rattle.std.proofs.lemmas.List.Folds.{concat-append}
 use Rattle.std.proofs.lemmas.Slice.Zip.{all_zipped_more}
 use Rattle.std.specs.List.{AllZip, concat}
-use Rattle.proto_base.specs.Kind.{name_of}
+use Rattle.fault_report.specs.Excerpts.{IsExcerpt}
+use Rattle.fault_report.specs.declared.excerpt.Excerpt.{Excerpt}
 use Rattle.proto_base.specs.declared.fault.Fault.{Fault}
+use Rattle.proto_base.specs.Limits.{limit_of}
+use Rattle.proto_base.specs.declared.limits.Limit.TheVariants.{FileBytes}
 use Rattle.proto_base.specs.declared.limits.Limits.{Limits}
+use Rattle.proto_compile.specs.Sources.{text_of}
 use Rattle.proto_compile.specs.declared.source.Source.{Source}
-use Rattle.schema_check.specs.Added.{Adds, AddsBlock, AddsHead, AddsPlace, AddsSome}
-use Rattle.schema_check.specs.Reports.{IsBlock, IsHeadOf}
+use Rattle.schema_check.specs.Added.{AddsBlock, AddsSome}
+use Rattle.schema_check.specs.Reports.{IsBlock, IsHeadOf, IsPlaceOf, place_text, slash_behind}
 use Rattle.schema_check.specs.Told.{ArePlaced, LiesWithin}
+use Rattle.schema_failure.specs.Lines.{shown_name}
 use Rattle.schema_failure.specs.Placed.{source_named}
 
 -- what was put behind each of some faults
@@ -35,29 +40,25 @@ block_more limits root sources faults k f old new h is (blocks, all, so_far) (bl
 
 -- ---- one block
 
+-- a text that is the line of a fault and the rows of its excerpt
+pub placed_text : {T E : Type 0} (bytes : T → List ℕ) (limits : Limits) (root slash file : List ℕ) (f : Fault) (s : Source)
+    (e : Excerpt) (r : Result T E) → IsExcerpt (limit_of limits FileBytes) (text_of s) f.place.offset e
+    → slash ≡ slash_behind root → file ≡ string_bytes f.file
+    → IfOk r (λ t. bytes t ≡ place_text root slash (shown_name file) f.kind e)
+    → IfOk r (λ t. IsPlaceOf limits root f s (bytes t))
+placed_text bytes limits root slash file f s e (Ok t) is behind named said =
+    let P : List ℕ → Type 0 = λ x. bytes t ≡ place_text root x (shown_name file) f.kind e in
+    let Q : List ℕ → Type 0 = λ x. bytes t ≡ place_text root (slash_behind root) (shown_name x) f.kind e in
+    (e, is, subst Q named (subst P behind said))
+placed_text bytes limits root slash file f s e (Err x) is behind named said = tt
+
 -- a head, and what is put behind it
-pub head_and_more : (limits : Limits) (root : List ℕ) (sources : List Source) (f : Fault) (old between new : List ℕ)
-    → AddsHead limits root sources f old between → AddsSome between new → AddsBlock limits root sources f old new
-head_and_more limits root sources f old between new (head, is, put) (more, behind) =
+pub head_and_more : (limits : Limits) (root : List ℕ) (sources : List Source) (f : Fault) (old between new head : List ℕ)
+    → IsHeadOf limits root f (source_named sources (string_bytes f.file)) head → between ≡ old ++ head
+    → AddsSome between new → AddsBlock limits root sources f old new
+head_and_more limits root sources f old between new head is put (more, behind) =
     let regroup : (old ++ head) ++ more ≡ old ++ (head ++ more) = simp append_assoc in
     (head ++ more, (head, more, is, refl), behind ∙ ap (λ (xs : List ℕ). xs ++ more) put ∙ regroup)
-
--- what stands where no source has the name, and where one has it
-pub head_of_list : (limits : Limits) (root : List ℕ) (sources : List Source) (f : Fault) (old new : List ℕ)
-    (found : Option Source)
-    → found ≡ source_named sources (string_bytes f.file) → found ≡ None
-    → new ≡ old ++ (root ++ (codes ": " ++ (name_of f.kind ++ 10 ∷ []))) → AddsHead limits root sources f old new
-head_of_list limits root sources f old new found is none put =
-    let P : Option Source → Type 0 = λ o. Adds (IsHeadOf limits root f o) old new in
-    subst P (sym none ∙ is) (root ++ (codes ": " ++ (name_of f.kind ++ 10 ∷ [])), refl, put)
-
-pub head_of_file : (limits : Limits) (root : List ℕ) (sources : List Source) (f : Fault) (s : Source)
-    (old new : List ℕ) (found : Option Source)
-    → found ≡ source_named sources (string_bytes f.file) → found ≡ Some s → AddsPlace limits root f s old new
-    → AddsHead limits root sources f old new
-head_of_file limits root sources f s old new found is some put =
-    let P : Option Source → Type 0 = λ o. Adds (IsHeadOf limits root f o) old new in
-    subst P (sym some ∙ is) put
 
 -- a told fault stands within the text of its file
 pub lies_within : (sources : List Source) (faults : List Fault) (k : ℕ) (f : Fault) → k < length faults → f ≡ get_or faults k f

@@ -1,5 +1,5 @@
 -- What is said of faults.
-use Rattle.std.specs.Prelude.{◌≡◌, ◌==◌, ℕ, List, [], ◌∷◌, ◌++◌, Option, None, Some, codes, length, nat_eq, string_bytes, if◌then◌else◌}
+use Rattle.std.specs.Prelude.{◌≡◌, ◌==◌, ℕ, zero, suc, List, [], ◌∷◌, ◌++◌, Option, None, Some, codes, length, nat_eq, string_bytes, if◌then◌else◌}
 use Rattle.std.specs.Fmt.{decimal}
 use Rattle.std.specs.List.{AllZip, concat, ends_with}
 use Rattle.fault_report.specs.Excerpts.{IsExcerpt, rows_of}
@@ -7,6 +7,7 @@ use Rattle.fault_report.specs.declared.excerpt.Excerpt.{Excerpt}
 use Rattle.proto_base.specs.Kind.{name_of}
 use Rattle.proto_base.specs.Limits.{limit_of}
 use Rattle.proto_base.specs.declared.fault.Fault.{Fault}
+use Rattle.proto_base.specs.declared.kind.Kind.{Kind}
 use Rattle.proto_base.specs.declared.limits.Limit.TheVariants.{FileBytes}
 use Rattle.proto_base.specs.declared.limits.Limits.{Limits}
 use Rattle.proto_compile.specs.Sources.{text_of}
@@ -20,19 +21,21 @@ use Rattle.schema_failure.specs.Placed.{source_named}
 abbrev pub slash_behind : List ℕ → List ℕ
 slash_behind root = if ends_with nat_eq root (47 ∷ []) then [] else 47 ∷ []
 
--- ROOT/FILE:LINE:COLUMN: KIND
-abbrev pub line_of : List ℕ → Fault → Excerpt → List ℕ
-line_of root f e = root ++ (slash_behind root ++ (shown_name (string_bytes f.file) ++ (codes ":"
-    ++ (decimal e.number ++ (codes ":" ++ (decimal e.column ++ (codes ": " ++ name_of f.kind)))))))
+-- ROOT/FILE:LINE:COLUMN: KIND, and the rows of the text around the place
+abbrev pub place_text : (root slash file : List ℕ) → Kind → Excerpt → List ℕ
+place_text root slash file kind e = root ++ (slash ++ (file ++ (codes ":" ++ (decimal e.number ++ (codes ":"
+    ++ (decimal e.column ++ (codes ": " ++ (name_of kind ++ (codes "\n" ++ (rows_of e ++ 10 ∷ []))))))))))
 
--- this line, and the rows of the text around the place
 abbrev pub IsPlaceOf : Limits → List ℕ → Fault → Source → List ℕ → Type 0
 IsPlaceOf limits root f s said = (e : Excerpt) × IsExcerpt (limit_of limits FileBytes) (text_of s) f.place.offset e
-    × (said ≡ line_of root f e ++ (10 ∷ rows_of e ++ 10 ∷ []))
+    × (said ≡ place_text root (slash_behind root) (shown_name (string_bytes f.file)) f.kind e)
 
 -- of a fault of the whole list ROOT: KIND
+abbrev pub list_text : List ℕ → Kind → List ℕ
+list_text root kind = root ++ (codes ": " ++ (name_of kind ++ 10 ∷ []))
+
 abbrev pub IsHeadOf : Limits → List ℕ → Fault → Option Source → List ℕ → Type 0
-IsHeadOf limits root f None said = said ≡ root ++ (codes ": " ++ (name_of f.kind ++ 10 ∷ []))
+IsHeadOf limits root f None said = said ≡ list_text root f.kind
 IsHeadOf limits root f (Some s) said = IsPlaceOf limits root f s said
 
 -- so much, and then what it means and how it is cured
@@ -45,13 +48,20 @@ IsBlock limits root sources f said = (head more : List ℕ)
 abbrev pub plural : ℕ → List ℕ
 plural n = if n == 1 then [] else codes "s"
 
+-- N files, no fault
+abbrev pub sound_text : (files : ℕ) → (more : List ℕ) → List ℕ
+sound_text files more = decimal files ++ (codes " file" ++ (more ++ (codes ", no fault" ++ 10 ∷ [])))
+
+-- N faults in M files
+abbrev pub faulty_text : (faults : ℕ) → (more_faults : List ℕ) → (files : ℕ) → (more_files : List ℕ) → List ℕ
+faulty_text faults more_faults files more_files = decimal faults ++ (codes " fault" ++ (more_faults
+    ++ (codes " in " ++ (decimal files ++ (codes " file" ++ (more_files ++ 10 ∷ []))))))
+
 -- how many faults there are, in how many files
 abbrev pub summary_of : List ℕ → ℕ → ℕ → List ℕ
-summary_of root faults files =
-    if files == 0 then codes "no file that ends in .proto below " ++ (root ++ 10 ∷ [])
-    else (if faults == 0 then decimal files ++ (codes " file" ++ (plural files ++ (codes ", no fault" ++ 10 ∷ [])))
-    else decimal faults ++ (codes " fault" ++ (plural faults ++ (codes " in " ++ (decimal files ++ (codes " file"
-    ++ (plural files ++ 10 ∷ [])))))))
+summary_of root zero zero = codes "no file that ends in .proto below " ++ (root ++ 10 ∷ [])
+summary_of root zero (suc files) = sound_text (suc files) (plural (suc files))
+summary_of root (suc faults) files = faulty_text (suc faults) (plural (suc faults)) files (plural files)
 
 -- what is said of each, in their order, and the summary
 abbrev pub IsReport : Limits → List ℕ → List Source → List Fault → List ℕ → Type 0

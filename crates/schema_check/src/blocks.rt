@@ -1,12 +1,14 @@
 //! What is said of one fault.
 
-ghost use Rattle.std.specs.Prelude.{◌≡◌, ◌++◌, ◌<◌, ◌≤◌, ◌-◌, ◌^◌, OnOk, length, string_bytes};
+ghost use Rattle.std.specs.Prelude.{◌≡◌, ◌<◌, ◌≤◌, ◌-◌, ◌^◌, IfOk, OnOk, length, string_bytes};
 ghost use Rattle.proto_compile.specs.Sources.{text_of};
-ghost use Rattle.schema_check.specs.Added.{AddsBlock, AddsHead, AddsPlace, AddsSome};
-ghost use Rattle.schema_check.specs.Reports.{slash_behind};
+ghost use Rattle.schema_check.specs.Added.{AddsBlock, AddsSome};
+ghost use Rattle.schema_check.specs.Reports.{IsHeadOf, IsPlaceOf, list_text, place_text, slash_behind};
 ghost use Rattle.schema_check.specs.Told.{LiesWithin};
+ghost use Rattle.schema_failure.specs.Lines.{shown_name};
+ghost use Rattle.schema_failure.specs.Placed.{source_named};
 
-use fault_report::excerpt_at;
+use fault_report::{Excerpt, excerpt_at};
 use proto_base::{Fault, Kind, Limits};
 use proto_compile::Source;
 use schema_explanation::Topic;
@@ -25,30 +27,72 @@ fn slash_behind(root: &str) -> &'static str
     }
 }
 
-/// Puts the line of a fault in a file, and the rows of its text.
-fn put_place(
+/// The line of a fault in a file, and the rows of its text.
+fn place_text(
     alloc: Global,
-    report: &mut String,
+    root: &str,
+    slash: &str,
+    file: &str,
+    kind: Kind,
+    excerpt: &Excerpt,
+) -> Result<String, AllocError>
+    ensures { IfOk result (λ text. string_bytes text
+        ≡ place_text root.now slash.now (shown_name file.now) kind excerpt.now) }
+{
+    let file = Shown(file);
+    let line = excerpt.number;
+    let column = excerpt.column;
+    format!(in alloc; "{root}{slash}{file}:{line}:{column}: {kind}\n{excerpt}\n")
+}
+
+/// The line of a fault of the whole list.
+fn list_text(alloc: Global, root: &str, kind: Kind) -> Result<String, AllocError>
+    ensures { IfOk result (λ text. string_bytes text ≡ list_text root.now kind) }
+{
+    format!(in alloc; "{root}: {kind}\n")
+}
+
+/// The line of a fault in a file, and the rows of its text around the place.
+fn place_of(
+    alloc: Global,
     root: &str,
     source: &Source,
     fault: &Fault,
     limits: &Limits,
-) -> Result<(), AllocError>
+) -> Result<String, AllocError>
     requires within { fault.now.place.offset ≤ length (text_of source.now) }
     requires short { fault.now.place.offset < 2 ^ 32 - 1 }
-    ensures { OnOk result (AddsPlace limits.now root.now fault.now source.now (string_bytes report.old)
-        (string_bytes report.new)) }
+    ensures { IfOk result (λ said. IsPlaceOf limits.now root.now fault.now source.now
+        (string_bytes said)) }
 {
     let excerpt = excerpt_at(alloc, source.text, fault.place, limits)?;
     let slash = slash_behind(root);
-    let file = Shown(fault.file.as_str());
-    let line = excerpt.number;
-    let column = excerpt.column;
-    let kind = fault.kind;
-    writeln!(
-        report,
-        "{root}{slash}{file}:{line}:{column}: {kind}\n{excerpt}"
+    place_text(
+        alloc,
+        root,
+        slash,
+        fault.file.as_str(),
+        fault.kind,
+        &excerpt,
     )
+}
+
+/// The line of a fault, and the rows of its text where it stands in a file.
+fn head_of(
+    alloc: Global,
+    root: &str,
+    sources: &[Source],
+    fault: &Fault,
+    limits: &Limits,
+) -> Result<String, AllocError>
+    requires { LiesWithin sources.now fault.now }
+    ensures { IfOk result (λ said. IsHeadOf limits.now root.now fault.now
+        (source_named sources.now (string_bytes fault.now.file)) (string_bytes said)) }
+{
+    match source_named(sources, fault.file.as_str()) {
+        Some(source) => place_of(alloc, root, source, fault, limits),
+        None => list_text(alloc, root, fault.kind),
+    }
 }
 
 /// Puts what a kind of fault means, and its cure.
@@ -59,26 +103,6 @@ fn put_cure(report: &mut String, kind: Kind) -> Result<(), AllocError>
     let meaning = topic.meaning();
     let cure = topic.cure();
     writeln!(report, "  {meaning}\n  {cure}")
-}
-
-/// Puts the line of a fault, and the rows of its text where it stands in a file.
-fn put_head(
-    alloc: Global,
-    report: &mut String,
-    root: &str,
-    sources: &[Source],
-    fault: &Fault,
-    limits: &Limits,
-) -> Result<(), AllocError>
-    requires { LiesWithin sources.now fault.now }
-    ensures { OnOk result (AddsHead limits.now root.now sources.now fault.now (string_bytes report.old)
-        (string_bytes report.new)) }
-{
-    let Some(source) = source_named(sources, fault.file.as_str()) else {
-        let kind = fault.kind;
-        return writeln!(report, "{root}: {kind}");
-    };
-    put_place(alloc, report, root, source, fault, limits)
 }
 
 /// Puts what is said of a fault: its line, the rows of its text where it stands in a file, what it means, and its cure.
@@ -94,6 +118,7 @@ pub(crate) fn put_block(
     ensures { OnOk result (AddsBlock limits.now root.now sources.now fault.now (string_bytes report.old)
         (string_bytes report.new)) }
 {
-    put_head(alloc, report, root, sources, fault, limits)?;
+    let head = head_of(alloc, root, sources, fault, limits)?;
+    report.push_str(head.as_str())?;
     put_cure(report, fault.kind)
 }

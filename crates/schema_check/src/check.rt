@@ -1,7 +1,7 @@
-//! Checking read sources.
+//! Checking the sources of a folder.
 
 ghost use Rattle.std.specs.Prelude.{◌≡◌, ◌-◌, ◌<◌, ◌^◌, IfOk, string_bytes};
-ghost use Rattle.schema_check.specs.Runs.{AreFindings, AreSourcesOf, IsCheckRun, verdict_of};
+ghost use Rattle.schema_check.specs.Runs.{AreFindings, IsCheckRun, IsFolderCheck, verdict_of};
 
 use crate::report::report_of;
 use crate::told::told_faults;
@@ -9,24 +9,11 @@ use grpcweb_core::{CountedWrite, write_bytes};
 use proto_base::{Fault, Limits};
 use proto_compile::Source;
 use schema_failure::{Failure, Verdict};
+use schema_sources::{SourceFolder, read_sources, sources_of};
 use share_work::Plan;
 use source_folder::NamedText;
-use std::alloc::{AllocError, AllocGlobal, Global};
+use std::alloc::{AllocError, AllocGlobal};
 use std::thread::Threads;
-
-/// The sources that are read texts.
-fn sources_of<'s>(alloc: Global, texts: &'s [NamedText]) -> Result<Vec<Source<'s>>, AllocError>
-    ensures { IfOk result (λ sources. AreSourcesOf texts.now sources.items) }
-{
-    let mut sources = Vec::with_capacity(alloc, texts.len())?;
-    for text in texts {
-        sources.push(Source {
-            name: text.name.as_str(),
-            text: text.text.as_slice(),
-        })?;
-    }
-    Ok(sources)
-}
 
 /// What sources are that have these faults.
 fn verdict_of(faults: &[Fault]) -> Verdict
@@ -92,4 +79,25 @@ where
     let found = findings_of(rt, root, &sources, limits, plan)?;
     write_bytes(output, found.report.as_bytes())?;
     Ok(found.verdict)
+}
+
+/// Checks the sources of a folder, whose root is shown so, and of what they import (`check_texts`).
+pub fn run_check<R, F, O>(
+    rt: &R,
+    folder: &F,
+    root: &str,
+    plan: Plan,
+    output: &mut O,
+) -> Result<Verdict, Failure>
+where
+    R: Threads + AllocGlobal + Sync,
+    F: SourceFolder,
+    O: CountedWrite,
+    requires { (O.writes output.old).failures < 2 ^ 64 - 1 }
+    ensures { IsFolderCheck (F.sources folder.now) root.now (O.writes output.old)
+        (O.writes output.new) result }
+{
+    let limits = Limits::standard();
+    let texts = read_sources(rt, folder, &limits, plan)?;
+    check_texts(rt, root, &texts, &limits, plan, output)
 }

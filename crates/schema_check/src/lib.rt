@@ -6,6 +6,6 @@ mod check;
 mod report;
 mod told;
 
-pub use check::check_texts;
+pub use check::{check_texts, run_check};
 pub use report::report_of;
 pub use told::told_faults;

@@ -1,7 +1,7 @@
 //! What is said of all faults.
 
 ghost use Rattle.std.specs.Prelude.{◌≡◌, IfOk, string_bytes};
-ghost use Rattle.schema_check.specs.Reports.{IsReport, plural, summary_of};
+ghost use Rattle.schema_check.specs.Reports.{IsReport, faulty_text, plural, sound_text, summary_of};
 ghost use Rattle.schema_check.specs.Told.{ArePlaced};
 
 use crate::blocks::put_block;
@@ -16,19 +16,36 @@ fn plural(count: usize) -> &'static str
     if count == 1 { "" } else { "s" }
 }
 
+/// The last line of a report on sources without a fault.
+fn sound_text(alloc: Global, files: usize, more: &str) -> Result<String, AllocError>
+    ensures { IfOk result (λ line. string_bytes line ≡ sound_text files more.now) }
+{
+    format!(in alloc; "{files} file{more}, no fault\n")
+}
+
+/// The last line of a report on sources with faults.
+fn faulty_text(
+    alloc: Global,
+    faults: usize,
+    more_faults: &str,
+    files: usize,
+    more_files: &str,
+) -> Result<String, AllocError>
+    ensures { IfOk result (λ line. string_bytes line
+        ≡ faulty_text faults more_faults.now files more_files.now) }
+{
+    format!(in alloc; "{faults} fault{more_faults} in {files} file{more_files}\n")
+}
+
 /// The last line of a report.
 fn summary_of(alloc: Global, root: &str, faults: usize, files: usize) -> Result<String, AllocError>
     ensures { IfOk result (λ line. string_bytes line ≡ summary_of root.now faults files) }
 {
-    if files == 0 {
-        return format!(in alloc; "no file that ends in .proto below {root}\n");
+    match (faults, files) {
+        (0, 0) => format!(in alloc; "no file that ends in .proto below {root}\n"),
+        (0, _) => sound_text(alloc, files, plural(files)),
+        _ => faulty_text(alloc, faults, plural(faults), files, plural(files)),
     }
-    let more_files = plural(files);
-    if faults == 0 {
-        return format!(in alloc; "{files} file{more_files}, no fault\n");
-    }
-    let more_faults = plural(faults);
-    format!(in alloc; "{faults} fault{more_faults} in {files} file{more_files}\n")
 }
 
 /// What is said of the faults of sources below a root: of each one its line, the rows of the text around its place, what it means

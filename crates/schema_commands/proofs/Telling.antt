@@ -13,8 +13,8 @@ use Rattle.proto_compile.specs.FaultSet.{IsLeastFault, TellsOf}
 use Rattle.proto_compile.specs.declared.error.CompileError.{CompileError}
 use Rattle.proto_compile.specs.declared.error.CompileError.TheVariants as errors
 use Rattle.proto_compile.specs.declared.source.Source.{Source}
-use Rattle.schema_commands.specs.Runs.{AreStandard, IsAnswerRun, IsCompileRun, IsCompiledTo, IsDescribeRun, IsExplainRun, IsFirstOf, IsInput, IsLineOf, IsSetRun, IsToldOf, IsToldOfFolder, IsToldOfTexts}
-use Rattle.schema_sources.specs.Texts.{AreTextsOf, Known}
+use Rattle.schema_commands.specs.Runs.{IsAnswerRun, IsCompileRun, IsCompiledTo, IsDescribeRun, IsExplainRun, IsFirstOf, IsInput, IsLineOf, IsSetRun, IsToldOf, IsToldOfFolder, IsToldOfTexts}
+use Rattle.schema_sources.specs.Texts.{AreStandard, AreTextsOf, Known}
 use Rattle.schema_failure.specs.Faults.{of_exchange, of_folder}
 use Rattle.schema_failure.specs.Placed.{located}
 use Rattle.schema_failure.specs.declared.failure.Failure.{Failure}

@@ -20,12 +20,9 @@ use Rattle.schema_failure.specs.declared.failure.Failure.{Failure}
 use Rattle.schema_failure.specs.declared.failure.Failure.TheVariants as failure
 use Rattle.schema_headline.specs.Describe.{IsDescribedBy}
 use Rattle.schema_headline.specs.Headline.{IsSetOf}
-use Rattle.schema_sources.specs.Texts.{AreTextsOf, Known, bytes_of}
+use Rattle.schema_sources.specs.Texts.{AreSourcesOf, AreStandard, AreTextsOf, Known}
 use Rattle.source_folder.specs.Folder.{names_of}
 use Rattle.source_folder.specs.declared.folder.NamedText.{NamedText}
-
-abbrev pub AreStandard : Limits → Type 0
-AreStandard limits = (limit : Limit) → limit_of limits limit ≡ standard_of limit
 
 -- this fault is the first of the sources
 abbrev pub IsFirstOf : Limits → List Source → Fault → Type 0
@@ -68,11 +65,6 @@ IsDescribeRun name reads reads' writes writes' (Err failure.Output) =
     (limits : Limits) × (source : Source) × IsInput name reads reads' limits source
     × (line : List ℕ) × IsLineOf limits source line × (written : ℕ) × IsWrittenInPart writes writes' line written
 IsDescribeRun name reads reads' writes writes' (Err other) = ⊥
-
--- sources with the names and the bytes of these texts, in their order
-pub record AreSourcesOf (texts : List NamedText) (sources : List Source) : Type 0 where
-  pub named : map name_of sources ≡ names_of texts
-  pub bytes : map text_of sources ≡ map bytes_of texts
 
 abbrev pub IsSetOfTexts : Limits → List NamedText → List ℕ → Type 0
 IsSetOfTexts limits texts set = (sources : List Source) × AreSourcesOf texts sources × IsSetOf limits sources set

@@ -1,7 +1,7 @@
 //! The commands but `serve`: what each reads, and what it writes.
 
 ghost use Rattle.std.specs.Prelude.{◌-◌, ◌<◌, ◌^◌, [], ◌∷◌, IfErr, IfOk, string_bytes};
-ghost use Rattle.schema_commands.specs.Runs.{AreCompiledTo, AreSourcesOf, IsAnswerRun, IsCompileRun, IsCompiledTo, IsDescribeRun, IsExplainRun, IsLineOf, IsSetOfTexts, IsSetRun, IsToldOf, IsToldOfFolder, IsToldOfTexts};
+ghost use Rattle.schema_commands.specs.Runs.{AreCompiledTo, IsAnswerRun, IsCompileRun, IsCompiledTo, IsDescribeRun, IsExplainRun, IsLineOf, IsSetOfTexts, IsSetRun, IsToldOf, IsToldOfFolder, IsToldOfTexts};
 
 use crate::whole_file::write_whole;
 use grpcweb_core::{CountedRead, CountedWrite, Mode, answer_io, read_bytes, write_bytes};
@@ -10,7 +10,7 @@ use proto_compile::{CompileError, Compiled, Source, compile};
 use schema_explanation::{Topic, topics};
 use schema_failure::{Failure, locate};
 use schema_headline::{describe, set_of_sources};
-use schema_sources::{SourceFolder, read_sources};
+use schema_sources::{SourceFolder, read_sources, sources_of};
 use share_work::{NoGate, Plan};
 use source_folder::NamedText;
 use std::alloc::{AllocError, AllocGlobal, Global};
@@ -61,20 +61,6 @@ where
     let line = line_of_source(rt, name, &text, &limits)?;
     write_bytes(writer, line.as_bytes())?;
     Ok(())
-}
-
-/// The sources that are read texts.
-fn sources_of<'s>(alloc: Global, texts: &'s [NamedText]) -> Result<Vec<Source<'s>>, AllocError>
-    ensures { IfOk result (λ sources. AreSourcesOf texts.now sources.items) }
-{
-    let mut sources = Vec::with_capacity(alloc, texts.len())?;
-    for text in texts {
-        sources.push(Source {
-            name: text.name.as_str(),
-            text: text.text.as_slice(),
-        })?;
-    }
-    Ok(sources)
 }
 
 /// The set of read texts, or their first fault.

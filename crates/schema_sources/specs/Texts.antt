@@ -1,5 +1,11 @@
 -- The texts of a folder.
 use Rattle.std.specs.Prelude.{◌≡◌, ℕ, List, map, Option, IfSome, string_bytes}
+use Rattle.proto_base.specs.Limits.{limit_of, standard_of}
+use Rattle.proto_base.specs.declared.limits.Limit.{Limit}
+use Rattle.proto_base.specs.declared.limits.Limits.{Limits}
+use Rattle.proto_compile.specs.Sources.{name_of, text_of}
+use Rattle.proto_compile.specs.declared.source.Source.{Source}
+use Rattle.source_folder.specs.Folder.{names_of}
 use Rattle.source_folder.specs.declared.folder.NamedText.{NamedText}
 
 -- the bytes of texts
@@ -16,3 +22,12 @@ named_bytes text = (string_bytes text.name, bytes_of text)
 -- texts that may be those of a folder: the known ones, and no others
 abbrev pub AreTextsOf : Known → List NamedText → Type 0
 AreTextsOf known texts = IfSome known (λ sources. map named_bytes texts ≡ sources)
+
+-- sources with the names and the bytes of these texts, in their order
+pub record AreSourcesOf (texts : List NamedText) (sources : List Source) : Type 0 where
+  pub named : map name_of sources ≡ names_of texts
+  pub bytes : map text_of sources ≡ map bytes_of texts
+
+-- the limits of a run
+abbrev pub AreStandard : Limits → Type 0
+AreStandard limits = (limit : Limit) → limit_of limits limit ≡ standard_of limit

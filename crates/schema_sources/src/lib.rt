@@ -2,7 +2,9 @@
 #![tactic(auto)]
 
 mod folder;
+mod sources;
 mod system_folder;
 
 pub use folder::{SourceFolder, read_sources};
-pub use system_folder::SystemFolder;
+pub use sources::sources_of;
+pub use system_folder::{SystemFolder, trouble_of};

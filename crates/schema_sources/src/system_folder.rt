@@ -6,11 +6,28 @@ ghost use Rattle.source_folder.specs.Paths.{AreRising, joined_path};
 
 use crate::folder::SourceFolder;
 use proto_base::Limits;
-use source_folder::{FolderFault, NamedText, read_folder, read_source, source_path};
-use source_search::Shelf;
-use std::alloc::{AllocError, AllocGlobal};
+use share_work::Plan;
+use source_folder::{
+    FolderFault, FolderTrouble, NamedText, Reason, TroubledEntry, read_source, source_path,
+    sources_in,
+};
+use source_search::{Shelf, with_imports};
+use std::alloc::{AllocError, AllocGlobal, Global};
+use std::cell::OnceCell;
 use std::collections::BTreeSet;
 use std::rt::Files;
+use std::thread::Threads;
+
+/// That no file of a name is below a folder.
+fn missing(alloc: Global, root: &str, name: &str) -> Result<FolderTrouble, AllocError> {
+    Ok(FolderTrouble {
+        fault: FolderFault::Listing,
+        entry: Some(TroubledEntry {
+            path: format!(in alloc; "{root}/{name}")?,
+            reason: Reason::NotThere,
+        }),
+    })
+}
 
 /// The sources of these names below a folder, each once, in the order of their names. A name under which no file is there is
 /// `Listing`.
@@ -19,7 +36,7 @@ fn named_sources<R: Files + AllocGlobal>(
     root: &str,
     files: &[&str],
     limits: &Limits,
-) -> Result<Vec<NamedText>, FolderFault>
+) -> Result<Vec<NamedText>, FolderTrouble>
     ensures { IfOk result (λ texts. AreRising (names_of texts.items)) }
 {
     let alloc = rt.alloc();
@@ -30,7 +47,7 @@ fn named_sources<R: Files + AllocGlobal>(
     let mut texts = Vec::new(alloc);
     for name in names.iter() {
         let Some(text) = read_source(rt, root, name, limits)? else {
-            return Err(FolderFault::Listing);
+            return Err(missing(alloc, root, name)?);
         };
         let name = String::from_str(alloc, name)?;
         texts.push(NamedText { name, text })?;
@@ -65,6 +82,30 @@ impl<'a, R> SystemFolder<'a, R> {
 impl<R: Files + AllocGlobal> SystemFolder<'_, R> {
     ghost use Rattle.schema_sources.specs.Places.{folders_of};
 
+    /// The sources that the words name, without what they import.
+    fn given(&self, limits: &Limits) -> Result<Vec<NamedText>, FolderTrouble>
+        ensures { IfOk result (λ texts. AreRising (names_of texts.items)) }
+    {
+        if self.files.is_empty() {
+            sources_in(self.rt, self.root, limits)
+        } else {
+            named_sources(self.rt, self.root, self.files, limits)
+        }
+    }
+
+    /// The text of a name from the first of the folders that has it.
+    fn first_text(&self, name: &str, limits: &Limits) -> Result<Option<Vec<u8>>, FolderTrouble> {
+        if let Some(text) = read_source(self.rt, self.root, name, limits)? {
+            return Ok(Some(text));
+        }
+        for include in self.includes {
+            if let Some(text) = read_source(self.rt, include, name, limits)? {
+                return Ok(Some(text));
+            }
+        }
+        Ok(None)
+    }
+
     /// The path of the source of a name, which is looked for as when it is read: in the root, and then in the other folders
     /// in their order. `None` where none of them has it any more.
     pub fn path_of(&self, name: &str) -> Result<Option<String>, AllocError>
@@ -87,15 +128,7 @@ impl<R: Files + AllocGlobal> Shelf for SystemFolder<'_, R> {
     ghost texts = { λ _. None };
 
     fn text_of(&self, name: &str, limits: &Limits) -> Result<Option<Vec<u8>>, FolderFault> {
-        if let Some(text) = read_source(self.rt, self.root, name, limits)? {
-            return Ok(Some(text));
-        }
-        for include in self.includes {
-            if let Some(text) = read_source(self.rt, include, name, limits)? {
-                return Ok(Some(text));
-            }
-        }
-        Ok(None)
+        Ok(self.first_text(name, limits)?)
     }
 }
 
@@ -103,14 +136,49 @@ impl<R: Files + AllocGlobal> SourceFolder for SystemFolder<'_, R> {
     ghost sources = { λ _. None };
 
     fn read(&self, limits: &Limits) -> Result<Vec<NamedText>, FolderFault> {
-        if self.files.is_empty() {
-            read_folder(self.rt, self.root, limits)
-        } else {
-            named_sources(self.rt, self.root, self.files, limits)
-        }
+        Ok(self.given(limits)?)
     }
 
     fn has_shelf(&self) -> bool {
         !self.includes.is_empty() || !self.files.is_empty()
     }
+}
+
+/// A folder of the system whose first trouble in looking up a name is kept.
+#[derive(Drop)]
+struct Watched<'a, R> {
+    folder: &'a SystemFolder<'a, R>,
+    trouble: OnceCell<FolderTrouble>,
+}
+
+impl<R: Files + AllocGlobal> Shelf for Watched<'_, R> {
+    ghost texts = { λ _. None };
+
+    fn text_of(&self, name: &str, limits: &Limits) -> Result<Option<Vec<u8>>, FolderFault> {
+        match self.folder.first_text(name, limits) {
+            Ok(found) => Ok(found),
+            Err(trouble) => {
+                let _ = self.trouble.set(trouble);
+                Err(FolderFault::Reading)
+            }
+        }
+    }
+}
+
+/// What is in the way of reading the sources of a folder and what they import: it reads them once more, and so finds nothing
+/// where the trouble has gone.
+pub fn trouble_of<R>(rt: &R, folder: &SystemFolder<'_, R>, limits: &Limits) -> Option<FolderTrouble>
+where
+    R: Threads + Files + AllocGlobal + Sync,
+{
+    let given = match folder.given(limits) {
+        Ok(given) => given,
+        Err(trouble) => return Some(trouble),
+    };
+    let watched = Watched {
+        folder,
+        trouble: OnceCell::new(),
+    };
+    let _ = with_imports(rt, given, &watched, limits, Plan::single());
+    watched.trouble.into_inner()
 }

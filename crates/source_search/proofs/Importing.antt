@@ -16,7 +16,8 @@ use Rattle.proto_tokens.specs.Spelling.{IsTokenList}
 use Rattle.proto_tokens.specs.Token.{Spelled}
 use Rattle.proto_tree.specs.declared.file.FileTree.{FileTree}
 use Rattle.proto_tree.specs.declared.file.Statement.{Statement}
-use Rattle.source_search.specs.Imports.{AreImportsOf, imported, is_below, path_of}
+use Rattle.source_folder.specs.Paths.{is_below}
+use Rattle.source_search.specs.Imports.{AreImportsOf, imported, path_of}
 
 -- ---- what a filter keeps
 

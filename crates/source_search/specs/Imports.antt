@@ -1,12 +1,11 @@
 -- What the text of a source imports.
-use Rattle.std.specs.Prelude.{◌==◌, ◌||◌, ◌↔◌, ℕ, Bool, not, List, map, flat_map, length, codes, Contains, IsTrue}
-use Rattle.std.specs.List.{list_all, slice_split}
-use Rattle.std.specs.Str.{bytes_eq}
+use Rattle.std.specs.Prelude.{◌↔◌, ℕ, List, map, flat_map, Contains, IsTrue}
 use Rattle.proto_base.specs.declared.limits.Limits.{Limits}
 use Rattle.proto_desc.specs.declared.file.ImportDesc.{ImportDesc}
 use Rattle.proto_file.specs.Local.{IsFile}
 use Rattle.proto_lower.specs.Files.{import_of}
 use Rattle.proto_tree.specs.declared.file.FileTree.{FileTree}
+use Rattle.source_folder.specs.Paths.{is_below}
 
 abbrev pub path_of : ImportDesc → List ℕ
 path_of i = i.path
@@ -18,14 +17,6 @@ imported file = map path_of (flat_map import_of file.statements)
 -- the text is a file within the limits that imports this name
 abbrev pub Imports : Limits → (text name : List ℕ) → Type 0
 Imports limits text name = (file : FileTree) × IsFile limits text file × Contains (imported file) name
-
--- a part of a path names what is in a folder: not the folder itself, and not the one around it
-abbrev pub is_entry : List ℕ → Bool
-is_entry part = not (length part == 0 || bytes_eq part (codes ".") || bytes_eq part (codes ".."))
-
--- each part of the name does, as slashes divide it
-abbrev pub is_below : List ℕ → Bool
-is_below name = list_all is_entry (slice_split (λ b. b == 47) name)
 
 -- the name can be a path below a folder
 abbrev pub IsBelow : List ℕ → Type 0

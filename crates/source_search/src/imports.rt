@@ -2,28 +2,16 @@
 
 ghost use Rattle.std.specs.Prelude.{◌≡◌, ◌∷◌, ◌++◌, [], IfOk, OnOk, filter, map, string_bytes};
 ghost use Rattle.proto_tree.specs.Text.{joined};
-ghost use Rattle.source_search.specs.Imports.{AreImportsOf, imported, is_below, is_entry};
+ghost use Rattle.source_folder.specs.Paths.{is_below};
+ghost use Rattle.source_search.specs.Imports.{AreImportsOf, imported};
 
 use proto_base::Limits;
 use proto_syntax::{ParseError, parse};
 use proto_tokens::{TokenError, tokenize};
 use proto_tree::text::joined;
 use proto_tree::{FileTree, Import, Statement};
+use source_folder::is_below;
 use std::alloc::{AllocError, Global};
-
-/// Whether a part of a path names what is in a folder, and not the folder itself or the one around it.
-fn is_entry(part: &str) -> bool
-    ensures { result ≡ is_entry part.now }
-{
-    !part.is_empty() && part != "." && part != ".."
-}
-
-/// Whether a name can be a path below a folder.
-fn is_below(name: &str) -> bool
-    ensures { result ≡ is_below name.now }
-{
-    name.split('/').all(|part| is_entry(part))
-}
 
 /// Adds the path of an import, if it can be one below a folder.
 fn put_below(alloc: Global, names: &mut Vec<String>, import: &Import) -> Result<(), AllocError>

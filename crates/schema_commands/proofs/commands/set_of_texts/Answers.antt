@@ -1,6 +1,6 @@
 use Rattle.std.proofs.Common.{List, refl, subst, sym, inl, inr}
 use Rattle.proto_compile.specs.declared.source.Source.{Source}
-use Rattle.schema_commands.specs.Runs.{AreSourcesOf}
+use Rattle.schema_sources.specs.Texts.{AreSourcesOf}
 use Rattle.schema_commands.proofs.Telling.{handed_no_memory, told_by}
 use Rattle.schema_commands.proofs.commands.set_of_texts.Goals as goal
 

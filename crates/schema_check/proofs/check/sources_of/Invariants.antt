@@ -1,6 +1,0 @@
-use Rattle.std.proofs.Common.{take}
-use Rattle.schema_check.specs.Runs.{AreSourcesOf}
-use Rattle.schema_check.proofs.check.sources_of.Given as goal
-
-abbrev pub invariant-loop-text : goal.invariant-loop-text
-invariant-loop-text l = AreSourcesOf (take l.text-index l.texts) l.sources.items
