@@ -21,6 +21,10 @@ EndsSound P (Ok verdict.Sound) = P (Ok tt)
 EndsSound P (Ok verdict.Faulty) = ⊥
 EndsSound P (Err failure) = P (Err failure)
 
+abbrev pub sound_of : Result (Unit {0}) Failure → Result Verdict Failure
+sound_of (Ok a) = Ok verdict.Sound
+sound_of (Err failure) = Err failure
+
 -- what a task read and wrote, by how it ended. Of `serve`, which goes by sockets, nothing is known
 abbrev pub IsPerformed : Task → Reads → Reads → Writes → Writes → Result Verdict Failure → Type 0
 IsPerformed (task.Compile selection plan file) reads reads' writes writes' =

@@ -3,17 +3,18 @@
 ghost use Rattle.std.specs.Prelude.{◌≡◌, ◌-◌, ◌<◌, ◌^◌};
 ghost use Rattle.std.specs.Result.{result_ok};
 ghost use Rattle.schema_failure.specs.Statuses.{status_after};
-ghost use Rattle.schema_program.specs.Performed.{EndsSound, IsEndOf, IsPerformed, IsRun, IsUsageRun};
+ghost use Rattle.schema_program.specs.Performed.{IsEndOf, IsPerformed, IsRun, IsUsageRun, sound_of};
 
 use crate::serving::run_serve;
 use clap::Error;
 use clap::error::ErrorKind;
 use grpcweb_core::{CountedRead, CountedWrite, write_bytes};
+use proto_base::Limits;
 use schema_check::run_check;
 use schema_command_line::{Selection, Task, task_of};
 use schema_commands::{run_answer, run_compile, run_describe, run_explain};
 use schema_failure::{Failure, Status, Verdict, write_failure};
-use schema_sources::SystemFolder;
+use schema_sources::{SystemFolder, trouble_of};
 use std::alloc::{AllocGlobal, Global};
 use std::io::Write;
 use std::net::Net;
@@ -35,7 +36,7 @@ fn folder_of<'a, R>(rt: &'a R, selection: &'a Selection<'a>) -> SystemFolder<'a,
 
 /// How a command ended that gives no verdict: where it came to its end, the sources have no fault.
 fn sound(done: Result<(), Failure>) -> Result<Verdict, Failure>
-    ensures { (P : Result (Unit {0}) Failure → Type 0) → P done → EndsSound P result }
+    ensures { result ≡ sound_of done }
 {
     match done {
         Ok(()) => Ok(Verdict::Sound),
@@ -137,6 +138,21 @@ fn tell_usage<O: CountedWrite, E: Write>(
     }
 }
 
+/// For `check`, the line that says which entry of a folder could not be read, and why.
+fn tell_trouble<R, E>(rt: &R, task: &Task, faults: &mut E)
+where
+    R: Threads + Files + AllocGlobal + Sync,
+    E: Write,
+{
+    let Task::Check { selection, .. } = task else {
+        return;
+    };
+    let folder = folder_of(rt, selection);
+    if let Some(trouble) = trouble_of(rt, &folder, &Limits::standard()) {
+        let _ = writeln!(faults, "{trouble}");
+    }
+}
+
 /// Does what the words ask for, or tells why they ask for nothing.
 fn end_of<R, I, O, E>(
     rt: &R,
@@ -156,7 +172,15 @@ where
         (O.writes output.old) (O.writes output.new) result }
 {
     match asked {
-        Ok(task) => finish(perform(rt, task, input, output), faults),
+        Ok(task) => {
+            let done = perform(rt, task, input, output);
+            let is_unread = matches!(done, Err(Failure::Folder));
+            let status = finish(done, faults);
+            if is_unread {
+                tell_trouble(rt, task, faults);
+            }
+            status
+        }
         Err(error) => tell_usage(rt.alloc(), error, output, faults),
     }
 }
