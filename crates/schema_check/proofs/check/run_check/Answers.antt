@@ -14,8 +14,7 @@ returns-in_err-texts g c = (
 
 pub returns : goal.returns
 returns g c =
-    let P : List NamedText → Type 0 = λ texts. AreTextsOf (g.F.SourceFolder.sources c.args.folder.now) texts in
-    (
+    let P : List NamedText → Type 0 = λ texts. AreTextsOf (g.F.SourceFolder.sources c.args.folder.now) texts in (
       c.standard-limits.result,
       c.standard-limits.ensures,
       inr (c.deref.result.now, subst P (sym c.deref.ensures.value) c.in_ok-texts.ensures, c.check_texts.ensures),
