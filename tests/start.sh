@@ -96,7 +96,7 @@ ended() {
 
 # The first call, Ctrl-C in the midst, and the next.
 call compile a
-said 'the program is proved, crate by crate, and then built: an hour on four cores'
+said 'the program is proved, crate by crate, and then built: some 40 minutes on four cores'
 said '0 min, 0 of 3 crates proved; at work: a quick look at all sources, some minutes'
 go look
 said '0 of 3 crates proved; at work: low'

@@ -10,11 +10,11 @@ use std::alloc::{AllocError, AllocGlobal, Global};
 use std::thread::Threads;
 
 /// So many bytes of a body are worth a worker: fewer are answered sooner than its thread starts (bench/RESULTS.md).
-const WORTH_A_WORKER: usize = 65_536;
+const WORTH_A_WORKER: usize = 524_288;
 
 /// As many workers as a body of so many bytes is worth, up to those of a plan. They change no byte of an answer.
 fn plan_for(plan: Plan, len: usize) -> Plan
-    ensures workers { result.workers ≡ min plan.workers (1 + len / 65_536) }
+    ensures workers { result.workers ≡ min plan.workers (1 + len / 524_288) }
     ensures cut { result.cut ≡ plan.cut }
 {
     let worth = (1 + len / WORTH_A_WORKER).min(plan.workers() as usize);
