@@ -17,46 +17,51 @@ use Rattle.schema_check.specs.Reports.{IsBlock, IsHeadOf, IsPlaceOf, place_text,
 use Rattle.schema_check.specs.Told.{ArePlaced, LiesWithin}
 use Rattle.schema_failure.specs.Lines.{shown_name}
 use Rattle.schema_failure.specs.Placed.{source_named}
+use Rattle.schema_sources.specs.Places.{folder_in}
+use Rattle.schema_sources.specs.declared.places.Places.{Places}
 
 -- what was put behind each of some faults
-abbrev pub IsBody : Limits → List ℕ → List Source → List Fault → List ℕ → Type 0
-IsBody limits root sources faults body = (blocks : List (List ℕ)) × AllZip
-    (IsBlock limits root sources) faults blocks × (body ≡ concat blocks)
+abbrev pub IsBody : Limits → Places → List Source → List Fault → List ℕ → Type 0
+IsBody limits places sources faults body = (blocks : List (List ℕ)) × AllZip
+    (IsBlock limits places sources) faults blocks × (body ≡ concat blocks)
 
-pub block_more : (limits : Limits) (root : List ℕ) (sources : List Source) (faults : List Fault) (k : ℕ) (f : Fault)
+pub block_more : (limits : Limits) (places : Places) (sources : List Source) (faults : List Fault) (k : ℕ) (f : Fault)
     (old new : List ℕ) → k < length faults
-    → f ≡ get_or faults k f → IsBody limits root sources (take k faults) old → AddsBlock limits root sources f old new
-    → IsBody limits root sources (take (k + 1) faults) new
-block_more limits root sources faults k f old new h is (blocks, all, so_far) (block, said, added) =
-    let more : AllZip (IsBlock limits root sources) (take k faults ++ f ∷ []) (blocks ++ block ∷ []) =
-    all_zipped_more (IsBlock limits root sources) (take k faults) blocks f block all said in
+    → f ≡ get_or faults k f → IsBody limits places sources (take k faults) old → AddsBlock limits places sources f old new
+    → IsBody limits places sources (take (k + 1) faults) new
+block_more limits places sources faults k f old new h is (blocks, all, so_far) (block, said, added) =
+    let more : AllZip (IsBlock limits places sources) (take k faults ++ f ∷ []) (blocks ++ block ∷ []) =
+    all_zipped_more (IsBlock limits places sources) (take k faults) blocks f block all said in
     let whole : new ≡ concat (blocks ++ block ∷ []) =
     added ∙ ap (λ (xs : List ℕ). xs ++ block) so_far
     ∙ ap (λ (xs : List ℕ). concat blocks ++ xs) (sym (append-nil block))
     ∙ sym (concat-append blocks (block ∷ [])) in
-    let P : Fault → Type 0 = λ g. AllZip (IsBlock limits root sources) (take k faults ++ g ∷ []) (blocks
+    let P : Fault → Type 0 = λ g. AllZip (IsBlock limits places sources) (take k faults ++ g ∷ []) (blocks
     ++ block ∷ []) in
     rw (take_more faults k f h) (blocks ++ block ∷ [], subst P is more, whole)
 
 -- ---- one block
 
 -- a text that is the line of a fault and the rows of its excerpt
-pub placed_text : {T E : Type 0} (bytes : T → List ℕ) (limits : Limits) (root slash file : List ℕ) (f : Fault) (s : Source)
-    (e : Excerpt) (r : Result T E) → IsExcerpt (limit_of limits FileBytes) (text_of s) f.place.offset e
-    → slash ≡ slash_behind root → file ≡ string_bytes f.file
-    → IfOk r (λ t. bytes t ≡ place_text root slash (shown_name file) f.kind e)
-    → IfOk r (λ t. IsPlaceOf limits root f s (bytes t))
-placed_text bytes limits root slash file f s e (Ok t) is behind named said =
-    let P : List ℕ → Type 0 = λ x. bytes t ≡ place_text root x (shown_name file) f.kind e in
-    let Q : List ℕ → Type 0 = λ x. bytes t ≡ place_text root (slash_behind root) (shown_name x) f.kind e in
-    (e, is, subst Q named (subst P behind said))
-placed_text bytes limits root slash file f s e (Err x) is behind named said = tt
+pub placed_text : {T E : Type 0} (bytes : T → List ℕ) (limits : Limits) (places : Places) (folder slash file : List ℕ)
+    (f : Fault) (s : Source) (e : Excerpt) (r : Result T E)
+    → IsExcerpt (limit_of limits FileBytes) (text_of s) f.place.offset e → folder ≡ folder_in places file
+    → slash ≡ slash_behind folder → file ≡ string_bytes f.file
+    → IfOk r (λ t. bytes t ≡ place_text folder slash (shown_name file) f.kind e)
+    → IfOk r (λ t. IsPlaceOf limits places f s (bytes t))
+placed_text bytes limits places folder slash file f s e (Ok t) is within behind named said =
+    let P : List ℕ → Type 0 = λ x. bytes t ≡ place_text folder x (shown_name file) f.kind e in
+    let Q : List ℕ → Type 0 = λ x. bytes t ≡ place_text x (slash_behind x) (shown_name file) f.kind e in
+    let R : List ℕ → Type 0 = λ x. bytes t
+    ≡ place_text (folder_in places x) (slash_behind (folder_in places x)) (shown_name x) f.kind e in
+    (e, is, subst R named (subst Q within (subst P behind said)))
+placed_text bytes limits places folder slash file f s e (Err x) is within behind named said = tt
 
 -- a head, and what is put behind it
-pub head_and_more : (limits : Limits) (root : List ℕ) (sources : List Source) (f : Fault) (old between new head : List ℕ)
-    → IsHeadOf limits root f (source_named sources (string_bytes f.file)) head → between ≡ old ++ head
-    → AddsSome between new → AddsBlock limits root sources f old new
-head_and_more limits root sources f old between new head is put (more, behind) =
+pub head_and_more : (limits : Limits) (places : Places) (sources : List Source) (f : Fault) (old between new head : List ℕ)
+    → IsHeadOf limits places f (source_named sources (string_bytes f.file)) head → between ≡ old ++ head
+    → AddsSome between new → AddsBlock limits places sources f old new
+head_and_more limits places sources f old between new head is put (more, behind) =
     let regroup : (old ++ head) ++ more ≡ old ++ (head ++ more) = simp append_assoc in
     (head ++ more, (head, more, is, refl), behind ∙ ap (λ (xs : List ℕ). xs ++ more) put ∙ regroup)
 

@@ -14,6 +14,8 @@ use Rattle.proto_compile.specs.Sources.{text_of}
 use Rattle.proto_compile.specs.declared.source.Source.{Source}
 use Rattle.schema_failure.specs.Lines.{shown_name}
 use Rattle.schema_failure.specs.Placed.{source_named}
+use Rattle.schema_sources.specs.Places.{folder_in}
+use Rattle.schema_sources.specs.declared.places.Places.{Places}
 
 -- ---- one fault
 
@@ -26,22 +28,24 @@ abbrev pub place_text : (root slash file : List ℕ) → Kind → Excerpt → Li
 place_text root slash file kind e = root ++ (slash ++ (file ++ (codes ":" ++ (decimal e.number ++ (codes ":"
     ++ (decimal e.column ++ (codes ": " ++ (name_of kind ++ (codes "\n" ++ (rows_of e ++ 10 ∷ []))))))))))
 
-abbrev pub IsPlaceOf : Limits → List ℕ → Fault → Source → List ℕ → Type 0
-IsPlaceOf limits root f s said = (e : Excerpt) × IsExcerpt (limit_of limits FileBytes) (text_of s) f.place.offset e
-    × (said ≡ place_text root (slash_behind root) (shown_name (string_bytes f.file)) f.kind e)
+-- of a fault in a file, below the folder in which this lies
+abbrev pub IsPlaceOf : Limits → Places → Fault → Source → List ℕ → Type 0
+IsPlaceOf limits places f s said = let folder = folder_in places (string_bytes f.file) in
+    (e : Excerpt) × IsExcerpt (limit_of limits FileBytes) (text_of s) f.place.offset e
+    × (said ≡ place_text folder (slash_behind folder) (shown_name (string_bytes f.file)) f.kind e)
 
 -- of a fault of the whole list ROOT: KIND
 abbrev pub list_text : List ℕ → Kind → List ℕ
 list_text root kind = root ++ (codes ": " ++ (name_of kind ++ 10 ∷ []))
 
-abbrev pub IsHeadOf : Limits → List ℕ → Fault → Option Source → List ℕ → Type 0
-IsHeadOf limits root f None said = said ≡ list_text root f.kind
-IsHeadOf limits root f (Some s) said = IsPlaceOf limits root f s said
+abbrev pub IsHeadOf : Limits → Places → Fault → Option Source → List ℕ → Type 0
+IsHeadOf limits places f None said = said ≡ list_text places.root.now f.kind
+IsHeadOf limits places f (Some s) said = IsPlaceOf limits places f s said
 
 -- so much, and then what it means and how it is cured
-abbrev pub IsBlock : Limits → List ℕ → List Source → Fault → List ℕ → Type 0
-IsBlock limits root sources f said = (head more : List ℕ)
-    × IsHeadOf limits root f (source_named sources (string_bytes f.file)) head × (said ≡ head ++ more)
+abbrev pub IsBlock : Limits → Places → List Source → Fault → List ℕ → Type 0
+IsBlock limits places sources f said = (head more : List ℕ)
+    × IsHeadOf limits places f (source_named sources (string_bytes f.file)) head × (said ≡ head ++ more)
 
 -- ---- all of them
 
@@ -64,7 +68,7 @@ summary_of root zero (suc files) = sound_text (suc files) (plural (suc files))
 summary_of root (suc faults) files = faulty_text (suc faults) (plural (suc faults)) files (plural files)
 
 -- what is said of each, in their order, and the summary
-abbrev pub IsReport : Limits → List ℕ → List Source → List Fault → List ℕ → Type 0
-IsReport limits root sources faults report =
-    (blocks : List (List ℕ)) × AllZip (IsBlock limits root sources) faults blocks
-    × (report ≡ concat blocks ++ summary_of root (length faults) (length sources))
+abbrev pub IsReport : Limits → Places → List Source → List Fault → List ℕ → Type 0
+IsReport limits places sources faults report =
+    (blocks : List (List ℕ)) × AllZip (IsBlock limits places sources) faults blocks
+    × (report ≡ concat blocks ++ summary_of places.root.now (length faults) (length sources))

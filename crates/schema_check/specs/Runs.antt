@@ -11,6 +11,7 @@ use Rattle.schema_failure.specs.declared.failure.Failure.{Failure}
 use Rattle.schema_failure.specs.declared.failure.Failure.TheVariants as failure
 use Rattle.schema_failure.specs.declared.failure.Verdict.{Verdict}
 use Rattle.schema_failure.specs.declared.failure.Verdict.TheVariants as verdict
+use Rattle.schema_sources.specs.declared.places.Places.{Places}
 use Rattle.schema_sources.specs.Texts.{AreSourcesOf, AreStandard, AreTextsOf, Known}
 use Rattle.source_folder.specs.declared.folder.NamedText.{NamedText}
 
@@ -19,26 +20,28 @@ verdict_of [] = verdict.Sound
 verdict_of (f ∷ faults) = verdict.Faulty
 
 -- which faults sources have, and what is said of them
-abbrev pub AreFindings : Limits → List ℕ → List Source → Verdict → List ℕ → Type 0
-AreFindings limits root sources judged report = (faults : List Fault) × AreTold limits sources faults
-    × (judged ≡ verdict_of faults) × IsReport limits root sources faults report
+abbrev pub AreFindings : Limits → Places → List Source → Verdict → List ℕ → Type 0
+AreFindings limits places sources judged report = (faults : List Fault) × AreTold limits sources faults
+    × (judged ≡ verdict_of faults) × IsReport limits places sources faults report
 
-abbrev pub IsFound : Limits → List ℕ → List NamedText → Verdict → List ℕ → Type 0
-IsFound limits root texts judged report =
-    (sources : List Source) × AreSourcesOf texts sources × AreFindings limits root sources judged report
+abbrev pub IsFound : Limits → Places → List NamedText → Verdict → List ℕ → Type 0
+IsFound limits places texts judged report =
+    (sources : List Source) × AreSourcesOf texts sources × AreFindings limits places sources judged report
 
 -- the report was written whole; or memory was short, and nothing was; or a call of the writer failed
-abbrev pub IsCheckRun : Limits → List ℕ → List NamedText → Writes → Writes → Result Verdict Failure → Type 0
-IsCheckRun limits root texts old new (Ok judged) =
-    (report : List ℕ) × IsFound limits root texts judged report × IsWritten old new report
-IsCheckRun limits root texts old new (Err failure.NoMemory) = new ≡ old
-IsCheckRun limits root texts old new (Err failure.Output) = (judged : Verdict) × (report : List ℕ)
-    × IsFound limits root texts judged report × (written : ℕ) × IsWrittenInPart old new report written
-IsCheckRun limits root texts old new (Err other) = ⊥
+abbrev pub IsCheckRun : Limits → Places → List NamedText → Writes → Writes → Result Verdict Failure → Type 0
+IsCheckRun limits places texts old new (Ok judged) =
+    (report : List ℕ) × IsFound limits places texts judged report × IsWritten old new report
+IsCheckRun limits places texts old new (Err failure.NoMemory) = new ≡ old
+IsCheckRun limits places texts old new (Err failure.Output) = (judged : Verdict) × (report : List ℕ)
+    × IsFound limits places texts judged report × (written : ℕ) × IsWrittenInPart old new report written
+IsCheckRun limits places texts old new (Err other) = ⊥
 
--- `check`: the folder could not be read, or memory was short, and nothing was written; or its texts were checked
+-- `check`: the folder could not be read, or memory was short, and nothing was written; or its texts were checked, some of
+-- which may lie elsewhere than in the root
 abbrev pub IsFolderCheck : Known → List ℕ → Writes → Writes → Result Verdict Failure → Type 0
 IsFolderCheck known root old new done =
     (limits : Limits) × AreStandard limits
     × (IsErrAnd done (λ f. ((f ≡ failure.Folder) ⊎ (f ≡ failure.NoMemory)) × (new ≡ old))
-    ⊎ ((texts : List NamedText) × AreTextsOf known texts × IsCheckRun limits root texts old new done))
+    ⊎ ((texts : List NamedText) × AreTextsOf known texts × (places : Places) × (places.root.now ≡ root)
+    × IsCheckRun limits places texts old new done))

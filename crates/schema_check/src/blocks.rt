@@ -13,6 +13,7 @@ use proto_base::{Fault, Kind, Limits};
 use proto_compile::Source;
 use schema_explanation::Topic;
 use schema_failure::{Shown, source_named};
+use schema_sources::Places;
 use std::alloc::{AllocError, Global};
 use std::fmt::Write;
 
@@ -55,43 +56,38 @@ fn list_text(alloc: Global, root: &str, kind: Kind) -> Result<String, AllocError
 /// The line of a fault in a file, and the rows of its text around the place.
 fn place_of(
     alloc: Global,
-    root: &str,
+    places: &Places,
     source: &Source,
     fault: &Fault,
     limits: &Limits,
 ) -> Result<String, AllocError>
     requires within { fault.now.place.offset ≤ length (text_of source.now) }
     requires short { fault.now.place.offset < 2 ^ 32 - 1 }
-    ensures { IfOk result (λ said. IsPlaceOf limits.now root.now fault.now source.now
+    ensures { IfOk result (λ said. IsPlaceOf limits.now places.now fault.now source.now
         (string_bytes said)) }
 {
     let excerpt = excerpt_at(alloc, source.text, fault.place, limits)?;
-    let slash = slash_behind(root);
-    place_text(
-        alloc,
-        root,
-        slash,
-        fault.file.as_str(),
-        fault.kind,
-        &excerpt,
-    )
+    let file = fault.file.as_str();
+    let folder = places.folder_of(file);
+    let slash = slash_behind(folder);
+    place_text(alloc, folder, slash, file, fault.kind, &excerpt)
 }
 
 /// The line of a fault, and the rows of its text where it stands in a file.
 fn head_of(
     alloc: Global,
-    root: &str,
+    places: &Places,
     sources: &[Source],
     fault: &Fault,
     limits: &Limits,
 ) -> Result<String, AllocError>
     requires { LiesWithin sources.now fault.now }
-    ensures { IfOk result (λ said. IsHeadOf limits.now root.now fault.now
+    ensures { IfOk result (λ said. IsHeadOf limits.now places.now fault.now
         (source_named sources.now (string_bytes fault.now.file)) (string_bytes said)) }
 {
     match source_named(sources, fault.file.as_str()) {
-        Some(source) => place_of(alloc, root, source, fault, limits),
-        None => list_text(alloc, root, fault.kind),
+        Some(source) => place_of(alloc, places, source, fault, limits),
+        None => list_text(alloc, places.root, fault.kind),
     }
 }
 
@@ -109,16 +105,16 @@ fn put_cure(report: &mut String, kind: Kind) -> Result<(), AllocError>
 pub(crate) fn put_block(
     alloc: Global,
     report: &mut String,
-    root: &str,
+    places: &Places,
     sources: &[Source],
     fault: &Fault,
     limits: &Limits,
 ) -> Result<(), AllocError>
     requires { LiesWithin sources.now fault.now }
-    ensures { OnOk result (AddsBlock limits.now root.now sources.now fault.now (string_bytes report.old)
+    ensures { OnOk result (AddsBlock limits.now places.now sources.now fault.now (string_bytes report.old)
         (string_bytes report.new)) }
 {
-    let head = head_of(alloc, root, sources, fault, limits)?;
+    let head = head_of(alloc, places, sources, fault, limits)?;
     report.push_str(head.as_str())?;
     put_cure(report, fault.kind)
 }

@@ -9,7 +9,7 @@ use grpcweb_core::{CountedWrite, write_bytes};
 use proto_base::{Fault, Limits};
 use proto_compile::Source;
 use schema_failure::{Failure, Verdict};
-use schema_sources::{SourceFolder, read_sources, sources_of};
+use schema_sources::{Places, SourceFolder, read_sources, sources_of};
 use share_work::Plan;
 use source_folder::NamedText;
 use std::alloc::{AllocError, AllocGlobal};
@@ -33,28 +33,28 @@ struct Findings {
     report: String,
 }
 
-/// What is found of sources below a root.
+/// What is found of sources that lie so.
 fn findings_of<R>(
     rt: &R,
-    root: &str,
+    places: &Places,
     sources: &[Source],
     limits: &Limits,
     plan: Plan,
 ) -> Result<Findings, AllocError>
 where
     R: Threads + AllocGlobal + Sync,
-    ensures { IfOk result (λ found. AreFindings limits.now root.now sources.now found.verdict
+    ensures { IfOk result (λ found. AreFindings limits.now places.now sources.now found.verdict
         (string_bytes found.report)) }
 {
     let faults = told_faults(rt, sources, limits, plan)?;
     let faults = faults.as_slice();
     Ok(Findings {
         verdict: verdict_of(faults),
-        report: report_of(rt.alloc(), root, sources, faults, limits)?,
+        report: report_of(rt.alloc(), places, sources, faults, limits)?,
     })
 }
 
-/// Writes all faults of read texts below a root that can be told at once: where some texts have faults of their own, the first of
+/// Writes all faults of read texts that can be told at once: where some texts have faults of their own, the first of
 /// each, in the order of the texts; else the first fault of the later passes. For each its line, the rows of its text around the
 /// place with carets below the token, what it means and its cure; at last how many there are. The answer is `Sound` only where
 /// there is none.
@@ -62,7 +62,7 @@ where
 /// The report is made before it is written, so `NoMemory` comes before a byte is; `Output` is a writer that failed.
 pub fn check_texts<R, O>(
     rt: &R,
-    root: &str,
+    places: &Places,
     texts: &[NamedText],
     limits: &Limits,
     plan: Plan,
@@ -72,11 +72,11 @@ where
     R: Threads + AllocGlobal + Sync,
     O: CountedWrite,
     requires { (O.writes output.old).failures < 2 ^ 64 - 1 }
-    ensures { IsCheckRun limits.now root.now texts.now (O.writes output.old) (O.writes output.new)
+    ensures { IsCheckRun limits.now places.now texts.now (O.writes output.old) (O.writes output.new)
         result }
 {
     let sources = sources_of(rt.alloc(), texts)?;
-    let found = findings_of(rt, root, &sources, limits, plan)?;
+    let found = findings_of(rt, places, &sources, limits, plan)?;
     write_bytes(output, found.report.as_bytes())?;
     Ok(found.verdict)
 }
@@ -99,5 +99,10 @@ where
 {
     let limits = Limits::standard();
     let texts = read_sources(rt, folder, &limits, plan)?;
-    check_texts(rt, root, &texts, &limits, plan, output)
+    let elsewhere = folder.elsewhere(&texts)?;
+    let places = Places {
+        root,
+        elsewhere: &elsewhere,
+    };
+    check_texts(rt, &places, &texts, &limits, plan, output)
 }

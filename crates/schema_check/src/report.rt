@@ -7,6 +7,7 @@ ghost use Rattle.schema_check.specs.Told.{ArePlaced};
 use crate::blocks::put_block;
 use proto_base::{Fault, Limits};
 use proto_compile::Source;
+use schema_sources::Places;
 use std::alloc::{AllocError, Global};
 
 /// What ends the word for so many things.
@@ -48,24 +49,24 @@ fn summary_of(alloc: Global, root: &str, faults: usize, files: usize) -> Result<
     }
 }
 
-/// What is said of the faults of sources below a root: of each one its line, the rows of the text around its place, what it means
+/// What is said of the faults of sources that lie so: of each one its line, the rows of the text around its place, what it means
 /// and its cure; and how many there are.
 pub fn report_of(
     alloc: Global,
-    root: &str,
+    places: &Places,
     sources: &[Source],
     faults: &[Fault],
     limits: &Limits,
 ) -> Result<String, AllocError>
     requires { ArePlaced sources.now faults.now }
-    ensures { IfOk result (λ report. IsReport limits.now root.now sources.now faults.now
+    ensures { IfOk result (λ report. IsReport limits.now places.now sources.now faults.now
         (string_bytes report)) }
 {
     let mut report = String::new(alloc);
     for fault in faults {
-        put_block(alloc, &mut report, root, sources, fault, limits)?;
+        put_block(alloc, &mut report, places, sources, fault, limits)?;
     }
-    let summary = summary_of(alloc, root, faults.len(), sources.len())?;
+    let summary = summary_of(alloc, places.root, faults.len(), sources.len())?;
     report.push_str(summary.as_str())?;
     Ok(report)
 }

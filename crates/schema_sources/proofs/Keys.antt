@@ -31,14 +31,3 @@ rising_keys (n ∷ names) sorted k h =
 pub twice_now : (names : List (Bor (Bor (List ℕ)))) → map (λ name. name.now.now) names ≡ map text_of (map (λ name. name.now) names)
 twice_now [] = refl
 twice_now (n ∷ names) = ap (λ rest. n.now.now ∷ rest) (twice_now names)
-
--- what holds of a further folder holds of one of all
-pub in_further : (P : List ℕ → Type 0) (root : List ℕ) (further : List (Bor (List ℕ))) (i : ℕ) (d : Bor (List ℕ))
-    → i < length further → P (text_of (get_or further i d)) → Any P (root ∷ map text_of further)
-in_further P root further i d inside holds = (
-  i + 1,
-  text_of (get_or further i d),
-  omega (arith, inside, length-map further text_of),
-  rw add-one (get_or-map text_of further i d _ inside),
-  holds,
-)

@@ -5,11 +5,12 @@ ghost use Rattle.schema_sources.specs.Texts.{AreTextsOf, Known};
 ghost use Rattle.source_folder.specs.Folder.{names_of};
 ghost use Rattle.source_folder.specs.Paths.{AreRising};
 
+use crate::places::Elsewhere;
 use proto_base::Limits;
 use share_work::Plan;
 use source_folder::{FolderFault, NamedText};
 use source_search::{Shelf, with_imports};
-use std::alloc::AllocGlobal;
+use std::alloc::{AllocError, AllocGlobal};
 use std::thread::Threads;
 
 /// A folder that sources are read from, and the shelf on which what they import may be looked for.
@@ -21,6 +22,9 @@ pub trait SourceFolder: Shelf {
     fn read(&self, limits: &Limits) -> Result<Vec<NamedText>, FolderFault>
         ensures texts { IfOk result (λ texts. AreTextsOf (sources self.now) texts.items) }
         ensures order { IfOk result (λ texts. AreRising (names_of texts.items)) };
+
+    /// Which of these sources lie in another folder than the root.
+    fn elsewhere<'t>(&'t self, texts: &'t [NamedText]) -> Result<Vec<Elsewhere<'t>>, AllocError>;
 
     /// Whether what the sources import is looked for on the shelf. Then it isn't known what the sources will be.
     fn has_shelf(&self) -> bool

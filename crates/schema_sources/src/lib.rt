@@ -2,9 +2,11 @@
 #![tactic(auto)]
 
 mod folder;
+mod places;
 mod sources;
 mod system_folder;
 
 pub use folder::{SourceFolder, read_sources};
+pub use places::{Elsewhere, Places};
 pub use sources::sources_of;
 pub use system_folder::{SystemFolder, trouble_of};

@@ -1,10 +1,11 @@
 //! Folders of the system. What is in them is not known.
 
-ghost use Rattle.std.specs.Prelude.{◌≡◌, Any, IfOk, IfSome, None, string_bytes};
+ghost use Rattle.std.specs.Prelude.{IfOk, None};
 ghost use Rattle.source_folder.specs.Folder.{names_of};
-ghost use Rattle.source_folder.specs.Paths.{AreRising, joined_path};
+ghost use Rattle.source_folder.specs.Paths.{AreRising};
 
 use crate::folder::SourceFolder;
+use crate::places::Elsewhere;
 use proto_base::Limits;
 use share_work::Plan;
 use source_folder::{
@@ -80,8 +81,6 @@ impl<'a, R> SystemFolder<'a, R> {
 }
 
 impl<R: Files + AllocGlobal> SystemFolder<'_, R> {
-    ghost use Rattle.schema_sources.specs.Places.{folders_of};
-
     /// The sources that the words name, without what they import.
     fn given(&self, limits: &Limits) -> Result<Vec<NamedText>, FolderTrouble>
         ensures { IfOk result (λ texts. AreRising (names_of texts.items)) }
@@ -93,6 +92,19 @@ impl<R: Files + AllocGlobal> SystemFolder<'_, R> {
         }
     }
 
+    /// The folder of an import that the root doesn't have.
+    fn include_of(&self, name: &str) -> Result<Option<&str>, AllocError> {
+        if source_path(self.rt, self.root, name)?.is_some() {
+            return Ok(None);
+        }
+        for include in self.includes {
+            if source_path(self.rt, include, name)?.is_some() {
+                return Ok(Some(include));
+            }
+        }
+        Ok(None)
+    }
+
     /// The text of a name from the first of the folders that has it.
     fn first_text(&self, name: &str, limits: &Limits) -> Result<Option<Vec<u8>>, FolderTrouble> {
         if let Some(text) = read_source(self.rt, self.root, name, limits)? {
@@ -101,23 +113,6 @@ impl<R: Files + AllocGlobal> SystemFolder<'_, R> {
         for include in self.includes {
             if let Some(text) = read_source(self.rt, include, name, limits)? {
                 return Ok(Some(text));
-            }
-        }
-        Ok(None)
-    }
-
-    /// The path of the source of a name, which is looked for as when it is read: in the root, and then in the other folders
-    /// in their order. `None` where none of them has it any more.
-    pub fn path_of(&self, name: &str) -> Result<Option<String>, AllocError>
-        ensures { IfOk result (λ found. IfSome found (λ path. Any
-            (λ folder. string_bytes path ≡ joined_path folder name.now) (folders_of self.now))) }
-    {
-        if let Some(path) = source_path(self.rt, self.root, name)? {
-            return Ok(Some(path));
-        }
-        for include in self.includes {
-            if let Some(path) = source_path(self.rt, include, name)? {
-                return Ok(Some(path));
             }
         }
         Ok(None)
@@ -137,6 +132,20 @@ impl<R: Files + AllocGlobal> SourceFolder for SystemFolder<'_, R> {
 
     fn read(&self, limits: &Limits) -> Result<Vec<NamedText>, FolderFault> {
         Ok(self.given(limits)?)
+    }
+
+    fn elsewhere<'t>(&'t self, texts: &'t [NamedText]) -> Result<Vec<Elsewhere<'t>>, AllocError> {
+        let mut all = Vec::new(self.rt.alloc());
+        if self.includes.is_empty() {
+            return Ok(all);
+        }
+        for text in texts {
+            let name = text.name.as_str();
+            if let Some(folder) = self.include_of(name)? {
+                all.push(Elsewhere { name, folder })?;
+            }
+        }
+        Ok(all)
     }
 
     fn has_shelf(&self) -> bool {

@@ -5,6 +5,7 @@ use grpcweb_core::Counted;
 use proto_base::Limits;
 use schema_check::check_texts;
 use schema_failure::{Failure, Verdict};
+use schema_sources::Places;
 use share_work::Plan;
 use source_folder::NamedText;
 use std::alloc::{AllocError, AllocGlobal, Global};
@@ -44,7 +45,17 @@ where
     let texts = texts_of(rt.alloc(), row)?;
     let limits = limits_of(row)?;
     let mut writer = Counted::new(output);
-    let verdict = check_texts(rt, row.root, &texts, &limits, plan, &mut writer)?;
+    let verdict = check_texts(
+        rt,
+        &Places {
+            root: row.root,
+            elsewhere: &[],
+        },
+        &texts,
+        &limits,
+        plan,
+        &mut writer,
+    )?;
     Ok(matches!(verdict, Verdict::Sound))
 }
 
@@ -103,7 +114,17 @@ where
     let texts = texts_of(rt.alloc(), row)?;
     let limits = Limits::standard();
     let mut writer = Counted::new(Full { room });
-    let done = check_texts(rt, row.root, &texts, &limits, Plan::single(), &mut writer);
+    let done = check_texts(
+        rt,
+        &Places {
+            root: row.root,
+            elsewhere: &[],
+        },
+        &texts,
+        &limits,
+        Plan::single(),
+        &mut writer,
+    );
     Ok(matches!(done, Err(Failure::Output)))
 }
 

@@ -67,20 +67,6 @@ where
     }
 }
 
-/// The path of the source of a name, or nothing.
-fn path_of<R: Files + AllocGlobal>(rt: &R, name: &str) -> Result<String, AllocError> {
-    let folder = SystemFolder {
-        rt,
-        root: ROOT,
-        includes: &["test_system_folder/first", "test_system_folder/second"],
-        files: &[],
-    };
-    match folder.path_of(name)? {
-        Some(path) => Ok(path),
-        None => Ok(String::new(rt.alloc())),
-    }
-}
-
 #[test]
 fn imports_are_looked_for_in_each_folder(rt: HostRuntime) -> Result<(), Fail> {
     let _ = fs::remove_dir_all(&rt, "test_system_folder");
@@ -95,10 +81,6 @@ fn imports_are_looked_for_in_each_folder(rt: HostRuntime) -> Result<(), Fail> {
     assert!(rt; read(&rt, &[], &["c.proto", "a.proto"])?.as_str() == " a.proto c.proto");
     assert!(rt; read(&rt, &both, &["b.proto"])?.as_str() == "a folder can't be listed");
     assert!(rt; read(&rt, &[], &["../root/a.proto"])?.as_str() == "a folder can't be listed");
-    assert!(rt; path_of(&rt, "a.proto")?.as_str() == "test_system_folder/root/a.proto");
-    assert!(rt; path_of(&rt, "b.proto")?.as_str() == "test_system_folder/first/b.proto");
-    assert!(rt; path_of(&rt, "in/d.proto")?.as_str() == "test_system_folder/second/in/d.proto");
-    assert!(rt; path_of(&rt, "e.proto")?.as_str() == "");
     fs::remove_dir_all(&rt, "test_system_folder")?;
     Ok(())
 }

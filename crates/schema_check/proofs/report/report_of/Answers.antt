@@ -9,6 +9,6 @@ put_block-requires c =
 
 pub loop-fault-preserved : goal.loop-fault-preserved
 loop-fault-preserved c =
-    block_more c.args.limits.now c.args.root.now c.args.sources.now c.args.faults.now c.loop-fault.fault-index
+    block_more c.args.limits.now c.args.places.now c.args.sources.now c.args.faults.now c.loop-fault.fault-index
     c.fault-item.result (string_bytes c.loop-fault.report) (string_bytes c.put_block.new.report) (omega arith)
     c.fault-item.is c.loop-fault.invariant c.in_ok-put_block.ensures

@@ -4,6 +4,6 @@ use Rattle.schema_check.specs.Reports.{IsBlock}
 use Rattle.schema_check.proofs.report.report_of.Given as goal
 
 abbrev pub invariant-loop-fault : goal.invariant-loop-fault
-invariant-loop-fault l = (blocks : List (List ℕ)) × AllZip (IsBlock l.limits l.root l.sources)
+invariant-loop-fault l = (blocks : List (List ℕ)) × AllZip (IsBlock l.limits l.places l.sources)
     (take l.fault-index l.faults) blocks
     × (string_bytes l.report ≡ concat blocks)
