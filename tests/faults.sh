@@ -77,16 +77,23 @@ awk -v folder="$folder" '
     line == "" { blank = 1; next }
     { if (blank) print "" > entry; blank = 0; print line > entry }
 ' docs/FAULTS.md
+docs/explanations | cmp - crates/schema_explanation/src/table.rt || fail 'the table is not what docs/explanations writes'
 "$program" explain >"$folder/kinds" || fail "explain: status $?"
-sed 's/ .*//' "$folder/kinds" | diff <(sed -n 's/^### //p' docs/FAULTS.md) - || fail 'explain lists other kinds than the page'
-while read -r kind meaning; do
+cut -c 1-20 "$folder/kinds" | sed 's/ *$//' | diff <(sed -n 's/^### //p' docs/FAULTS.md) - || fail 'explain lists other entries than the page'
+while IFS= read -r listed; do
+    kind=$(sed 's/ *$//' <<<"${listed:0:20}")
     "$program" explain "$kind" >"$folder/explained" || fail "explain $kind: status $?"
     diff "$folder/$kind.entry" "$folder/explained" || fail "explain $kind says something else than the page"
-    [ "$meaning" = "$(sed -n 3p "$folder/$kind.entry")" ] || fail "explain lists $kind with another meaning"
+    [ "${listed:20}" = "$(sed -n 3p "$folder/$kind.entry")" ] || fail "explain lists $kind with another meaning"
+    # The kind in other letters, the words of a line, and the end of a line that was printed.
+    # shellcheck disable=SC2086
+    for words in "${kind^^}" "${kind,,}" "p/a b.proto:1:32: $kind"; do
+        "$program" explain $words | cmp -s - "$folder/explained" || fail "explain $words says something else"
+    done
 done <"$folder/kinds"
 
 # The kinds of the program are those of the page, in their order.
 sed -n '/^pub enum Kind {/,/^}/s/^    \([A-Z][A-Za-z0-9]*\) = .*/\1/p' crates/proto_base/src/kind.rt | sort >"$folder/named"
-sed -n 's/^### //p' docs/FAULTS.md | sort | diff "$folder/named" - || fail 'other kinds than the program has'
+sed -n 's/^### //p' docs/FAULTS.md | grep -v ' ' | sort | diff "$folder/named" - || fail 'other kinds than the program has'
 echo "tests/faults.sh: $entries entries"
 [ "$failures" = 0 ]
