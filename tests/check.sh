@@ -91,10 +91,105 @@ mixed/b.proto:2:7: NotUtf8
 2 faults in 2 files
 REPORT
 
+# said KIND: the meaning and the cure of a kind, as a report has them.
+said() {
+    echo "  $("$program" explain "$1" | sed -n 3p)"
+    echo "  $("$program" explain "$1" | tail -n 1)"
+}
+
+# The end of a file behind the end of a line; a character of two bytes before the token; the tenth line.
+mkdir -p end wide tenth long cut whole
+printf 'syntax = "proto3";\nmessage A {\n' >end/a.proto
+checked 1 end <<REPORT
+end/a.proto:3:1: UnexpectedEnd
+  3 | $()
+    | ^
+$(said UnexpectedEnd)
+1 fault in 1 file
+REPORT
+printf 'syntax = "proto3"; /* \303\251 */ message A { X x = 1; }\n' >wide/a.proto
+checked 1 wide <<REPORT
+wide/a.proto:1:41: TypeNotFound
+  1 | syntax = "proto3"; /* $(printf '\303\251') */ message A { X x = 1; }
+    |                                        ^
+$(said TypeNotFound)
+1 fault in 1 file
+REPORT
+printf 'syntax = "proto3";\n\n\n\n\n\n\n\n\nmessage A { X x = 1; }\n' >tenth/a.proto
+checked 1 tenth <<REPORT
+tenth/a.proto:10:13: TypeNotFound
+  10 | message A { X x = 1; }
+     |             ^
+$(said TypeNotFound)
+1 fault in 1 file
+REPORT
+
+# times N LETTER: so many of a letter.
+times() {
+    printf "%$1s" '' | tr ' ' "$2"
+}
+
+# A line over 200 characters is cut around the place, and one of 200 is not; a token is marked as far as it is shown.
+printf 'syntax = "proto3";\n/*%s*/ message A { Missing x = 1; } /*%s*/\n' "$(times 120 a)" "$(times 100 b)" >long/a.proto
+checked 1 long <<REPORT
+long/a.proto:2:138: TypeNotFound
+  2 | ...$(times 85 a)*/ message A { Missing x = 1; } /*$(times 81 b)...
+    | $(times 103 ' ')^^^^^^^
+$(said TypeNotFound)
+1 fault in 1 file
+REPORT
+printf 'syntax = "proto3";\nmessage A { Missing x = 1; } /*%s*/\n' "$(times 167 b)" >whole/a.proto
+checked 1 whole <<REPORT
+whole/a.proto:2:13: TypeNotFound
+  2 | message A { Missing x = 1; } /*$(times 167 b)*/
+    | $(times 12 ' ')^^^^^^^
+$(said TypeNotFound)
+1 fault in 1 file
+REPORT
+printf 'syntax = "proto3";\nmessage A { %s x = 1; }\n' "$(times 230 T)" >cut/a.proto
+checked 1 cut <<REPORT
+cut/a.proto:2:13: TypeNotFound
+  2 | message A { $(times 100 T)...
+    | $(times 12 ' ')$(times 103 ^)
+$(said TypeNotFound)
+1 fault in 1 file
+REPORT
+
+# A folder that cannot be read: a second line names the entry and the reason.
+mkdir -p circle pipe && ln -s . circle/me && mkfifo pipe/a.proto
+while read -r root line; do
+    rows=$((rows + 1))
+    timeout 10 "$program" check --root "$root" >report 2>faults
+    got=$?
+    if [ "$got" != 3 ] || [ -s report ] || [ "$(<faults)" != "device: folder"$'\n'"$line" ]; then
+        echo "$root: status $got, $(<faults)"
+        failures=$((failures + 1))
+    fi
+done <<'LINES'
+none none: it is not there
+sound/a.proto sound/a.proto: it is no folder
+circle circle/me: a link that leads to a folder in which it lies
+pipe pipe/a.proto: it is a device or a pipe
+LINES
+"$program" check --root sound none.proto >report 2>faults
+if [ "$?" != 3 ] || [ "$(<faults)" != $'device: folder\nsound/none.proto: it is not there' ]; then
+    echo "a named file that is not there: $(<faults)"
+    failures=$((failures + 1))
+fi
+
+# A file's name with control characters stays in its line, here and in what compile tells.
+mkdir named && printf 'syntax = "proto3"; message A { X x = 1; }' >$'named/a\nb\t.proto'
+if [ "$("$program" compile --root named 2>&1)" != 'a\u{a}b\u{9}.proto:1:32: TypeNotFound' ] ||
+    [ "$("$program" check --root named | head -n 1)" != 'named/a\u{a}b\u{9}.proto:1:32: TypeNotFound' ]; then
+    echo "a name with control characters: $("$program" compile --root named 2>&1)"
+    failures=$((failures + 1))
+fi
+
 # The first of these faults is the one that compile tells.
 "$program" compile --root mixed >/dev/null 2>faults
 if [ "mixed/$(cat faults)" != "$("$program" check --root mixed | head -n 1)" ]; then
     echo "mixed: compile tells $(cat faults)"
     failures=$((failures + 1))
 fi
+echo "tests/check.sh: $rows rows"
 [ "$rows" -gt 0 ] && [ "$failures" = 0 ]

@@ -2,4 +2,3 @@
 
 mod feigned_folder;
 mod folder;
-mod system_folder;

@@ -1,5 +1,0 @@
-//! Tests of checking sources.
-#![tactic(auto)]
-
-#[cfg(test)]
-mod tests;
