@@ -53,6 +53,10 @@ for words in '--workers 1' '--workers 2 --cut 1'; do
     sweep REFUSE_AT 0 "$set" '' '' compile --root "$folder/sources" $words
 done
 sweep REFUSE_THREAD_AT 0 "$set" '' '' compile --root "$folder/sources" --workers 2 --cut 1
+# An import from another folder, and a named file.
+mkdir "$folder/alone" && cp "$folder/sources/a.proto" "$folder/alone/"
+sweep REFUSE_AT 0 "$set" '' '' compile --root "$folder/alone" --include "$folder/sources" --workers 1
+sweep REFUSE_AT 0 "$set" '' '' compile --root "$folder/sources" --workers 2 --cut 1 a.proto
 # Into a file: it is whole in the end, and stands alone in its folder.
 mkdir "$folder/written"
 sweep REFUSE_AT 0 '' '' '' compile --root "$folder/sources" --workers 1 --output "$folder/written/set.pb"
@@ -62,6 +66,10 @@ if [ "$(ls -A "$folder/written")" != set.pb ] || ! printf '%b' "$set" | cmp - "$
 fi
 sweep REFUSE_AT 0 "$(./schema_server explain TooDeep | sed 's/\\/\\\\/g')"'\n' '' '' explain TooDeep
 sweep REFUSE_AT 1 '' 'a.proto:1:27: ImportMissing' '' compile --root "$folder/bad" --workers 1
+# A report; tests/check.sh shows that it is right.
+"$program" check --root "$folder/bad" --workers 1 >"$folder/report"
+sweep REFUSE_AT 1 "$(sed 's/\\/\\\\/g' "$folder/report")"'\n' '' '' check --root "$folder/bad" --workers 1
+sweep REFUSE_AT 0 '2 files, no fault\n' '' '' check --root "$folder/alone" --include "$folder/sources" --workers 2 --cut 1
 # Two requests for the services, whose replies have no file.
 body='\0\0\0\0\02:\0\0\0\0\0\02:\0'
 reply='\0\0\0\0\015\022\02:\x002\07\n\05\n\03p.S'

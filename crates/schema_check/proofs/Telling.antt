@@ -1,5 +1,5 @@
 -- From the first fault of sources to those that are told.
-use Rattle.std.proofs.Common.{◌≡◌, ◌∙◌, sym, ap, subst, refl, ℕ, zero, suc, ◌<◌, ◌≤◌, List, [], ◌∷◌, inl, inr, Option, Some, length, get_or, map, arith}
+use Rattle.std.proofs.Common.{◌≡◌, ◌∙◌, sym, ap, subst, refl, zero, suc, List, [], ◌∷◌, inl, inr, Option, Some, map, arith}
 use Rattle.std.proofs.lemmas.List.{get_or-map, length-map}
 use Rattle.std.specs.Prelude.{Contains, string_bytes}
 use Rattle.file_faults.specs.FileFaults.{AreFileFaults, NamesDiffer}
@@ -9,7 +9,7 @@ use Rattle.proto_base.specs.declared.fault.Fault.{Fault}
 use Rattle.proto_base.specs.declared.kind.Kind.TheVariants as kind
 use Rattle.proto_base.specs.declared.limits.Limits.{Limits}
 use Rattle.proto_compile.specs.FaultSet.{Breaks, IsFault, IsLeastFault, IsPlaced, SourceFault, bad_import, bad_type, file_fault, long_descriptor, long_set, many_files, many_names, of_file, repeated_file_name, repeated_name, start, TellsOf, told_by}
-use Rattle.proto_compile.specs.Sources.{name_at, name_of}
+use Rattle.proto_compile.specs.Sources.{name_at}
 use Rattle.proto_compile.specs.declared.error.CompileError.{CompileError}
 use Rattle.proto_compile.specs.declared.error.CompileError.TheVariants as errors
 use Rattle.proto_compile.specs.declared.source.Source.{Source}

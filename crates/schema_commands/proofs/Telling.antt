@@ -1,5 +1,5 @@
 -- From what was read, described and written to what a run did.
-use Rattle.std.proofs.Common.{◌≡◌, ℕ, List, [], ◌∷◌, Option, Some, None, Result, Ok, Err, IfErr, IsErrAnd, refl, subst, sym}
+use Rattle.std.proofs.Common.{◌≡◌, ℕ, List, [], ◌∷◌, Option, Result, Ok, Err, IfErr, IsErrAnd, refl, subst, sym}
 use Rattle.std.proofs.Common.{inl, inr}
 use Rattle.first_reach.specs.declared.mode.Mode.{Mode}
 use Rattle.grpcweb_core.specs.Exchange.{IsExchange, IsReadRun, IsWriteRun}
@@ -13,7 +13,7 @@ use Rattle.proto_compile.specs.FaultSet.{IsLeastFault, TellsOf}
 use Rattle.proto_compile.specs.declared.error.CompileError.{CompileError}
 use Rattle.proto_compile.specs.declared.error.CompileError.TheVariants as errors
 use Rattle.proto_compile.specs.declared.source.Source.{Source}
-use Rattle.schema_commands.specs.Runs.{IsAnswerRun, IsCompileRun, IsCompiledTo, IsDescribeRun, IsExplainRun, IsFirstOf, IsInput, IsLineOf, IsSetRun, IsToldOf, IsToldOfFolder, IsToldOfTexts}
+use Rattle.schema_commands.specs.Runs.{IsAnswerRun, IsCompileRun, IsCompiledTo, IsDescribeRun, IsFirstOf, IsInput, IsLineOf, IsToldOf, IsToldOfFolder, IsToldOfTexts}
 use Rattle.schema_sources.specs.Texts.{AreStandard, AreTextsOf, Known}
 use Rattle.schema_failure.specs.Faults.{of_exchange, of_folder}
 use Rattle.schema_failure.specs.Placed.{located}

@@ -1,13 +1,12 @@
 -- What a run of a command read and wrote, by how it ended.
-use Rattle.std.specs.Prelude.{◌≡◌, ℕ, suc, ◌+◌, List, [], ◌∷◌, ◌++◌, ◌⊎◌, map, Option, Some, None, Result, Ok, Err, IsErrAnd}
+use Rattle.std.specs.Prelude.{◌≡◌, ℕ, suc, ◌+◌, List, [], ◌∷◌, ◌++◌, ◌⊎◌, Option, Some, None, Result, Ok, Err, IsErrAnd}
 use Rattle.first_reach.specs.declared.mode.Mode.{Mode}
 use Rattle.grpcweb_core.specs.Exchange.{IsExchange, IsRead, IsWritten, IsWrittenInPart}
 use Rattle.grpcweb_core.specs.Streams.{Reads, Writes}
 use Rattle.grpcweb_core.specs.declared.stream.IoFault.{IoFault}
 use Rattle.hex.specs.Hex.{encode_lower}
-use Rattle.proto_base.specs.Limits.{limit_of, standard_of}
+use Rattle.proto_base.specs.Limits.{limit_of}
 use Rattle.proto_base.specs.declared.fault.Fault.{Fault}
-use Rattle.proto_base.specs.declared.limits.Limit.{Limit}
 use Rattle.proto_base.specs.declared.limits.Limit.TheVariants.{FileBytes}
 use Rattle.proto_base.specs.declared.limits.Limits.{Limits}
 use Rattle.proto_compile.specs.Compilation.{Compilation, IsCompiled}
@@ -21,7 +20,6 @@ use Rattle.schema_failure.specs.declared.failure.Failure.TheVariants as failure
 use Rattle.schema_headline.specs.Describe.{IsDescribedBy}
 use Rattle.schema_headline.specs.Headline.{IsSetOf}
 use Rattle.schema_sources.specs.Texts.{AreSourcesOf, AreStandard, AreTextsOf, Known}
-use Rattle.source_folder.specs.Folder.{names_of}
 use Rattle.source_folder.specs.declared.folder.NamedText.{NamedText}
 
 -- this fault is the first of the sources

@@ -1,5 +1,5 @@
 -- Names that are the keys of a set, in their order.
-use Rattle.std.proofs.Common.{◌≡◌, ◌∙◌, add-one, ap, arith, refl, ℕ, ◌+◌, ◌<◌, Any, List, [], ◌∷◌, Ordering, get_or, length, map}
+use Rattle.std.proofs.Common.{◌≡◌, ◌∙◌, ap, arith, refl, ℕ, ◌+◌, ◌<◌, List, [], ◌∷◌, Ordering, get_or, length, map}
 use Rattle.std.specs.Cmp.Lexicographic.{slice_cmp}
 use Rattle.std.specs.List.Sorted.{IsStrictlySortedBy}
 use Rattle.std.specs.Ordering.{nat_cmp}
