@@ -3,17 +3,7 @@
 # faults. What each reply's bytes are is tested in crates/test_answers.
 set -u
 cd "$(dirname "$(readlink -f "$0")")/.." || exit 2
-folder=$(mktemp -d) || exit 2
-trap 'rm -rf "$folder"' EXIT
-LC_ALL=C
-./schema_server --help >/dev/null || exit 1
-program=crates/schema_server/out/schema_server
-failures=0
-
-fail() {
-    echo "tests/answers.sh: $1"
-    failures=$((failures + 1))
-}
+. tests/common.bash
 
 # A frame with a request of one field: its number, and its text.
 frame() {

@@ -2,13 +2,8 @@
 # The command `check` of the built program over folders on disk: the report, byte for byte, and the status.
 set -u
 cd "$(dirname "$(readlink -f "$0")")/.." || exit 2
-folder=$(mktemp -d) || exit 2
-trap 'rm -rf "$folder"' EXIT
-LC_ALL=C
-./schema_server --help >/dev/null || exit 1
-program=$PWD/crates/schema_server/out/schema_server
+. tests/common.bash
 rows=0
-failures=0
 
 # checked STATUS ROOT: the report over a folder is what is read, by each plan, and standard error is empty.
 checked() {

@@ -4,18 +4,8 @@
 # kind has an entry.
 set -u
 cd "$(dirname "$(readlink -f "$0")")/.." || exit 2
-folder=$(mktemp -d) || exit 2
-trap 'rm -rf "$folder"' EXIT
-LC_ALL=C
-./schema_server --help >/dev/null || exit 1
-program=$PWD/crates/schema_server/out/schema_server
-failures=0
+. tests/common.bash
 entries=0
-
-fail() {
-    echo "tests/faults.sh: $1"
-    failures=$((failures + 1))
-}
 
 has_protoc=0
 if command -v protoc >/dev/null && [ "$(protoc --version)" = 'libprotoc 3.21.12' ]; then

@@ -2,14 +2,9 @@
 # Each folder of folders.txt compiled by the built program with every plan: its set, or its first fault.
 set -u
 cd "$(dirname "$(readlink -f "$0")")/.." || exit 2
-folder=$(mktemp -d) || exit 2
-trap 'rm -rf "$folder"' EXIT
-LC_ALL=C
-./schema_server --help >/dev/null || exit 1
-program=crates/schema_server/out/schema_server
+. tests/common.bash
 sources=$folder/sources
 rows=0
-failures=0
 line=0
 wanted=''
 

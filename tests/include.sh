@@ -3,19 +3,9 @@
 # the set of a folder that holds just the files that are wanted, and with protoc's where protoc 3.21.12 is installed.
 set -u
 cd "$(dirname "$(readlink -f "$0")")/.." || exit 2
-folder=$(mktemp -d) || exit 2
-trap 'rm -rf "$folder"' EXIT
-LC_ALL=C
-./schema_server --help >/dev/null || exit 1
-program=$PWD/crates/schema_server/out/schema_server
-failures=0
+. tests/common.bash
 rows=0
 cd "$folder" || exit 2
-
-fail() {
-    echo "tests/include.sh: $1"
-    failures=$((failures + 1))
-}
 
 # source_at PATH STATEMENTS: a source with these statements.
 source_at() {

@@ -3,18 +3,8 @@
 # in crates/test_sources, crates/test_compile and crates/test_answers.
 set -u
 cd "$(dirname "$(readlink -f "$0")")/.." || exit 2
-folder=$(mktemp -d) || exit 2
-trap 'rm -rf "$folder"' EXIT
-LC_ALL=C
-./schema_server --help >/dev/null || exit 1
-program=$PWD/crates/schema_server/out/schema_server
-failures=0
+. tests/common.bash
 head='syntax = "proto3"; '
-
-fail() {
-    echo "tests/limits.sh: $1"
-    failures=$((failures + 1))
-}
 
 # compiles TITLE WANTED ROOT: the folder's fault, or that it has none where nothing is wanted.
 compiles() {

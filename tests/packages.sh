@@ -3,12 +3,7 @@
 # program. The faults are protoc's as well, by hand from its rule that a package is seen where a file of it is.
 set -u
 cd "$(dirname "$(readlink -f "$0")")/.." || exit 2
-folder=$(mktemp -d) || exit 2
-trap 'rm -rf "$folder"' EXIT
-LC_ALL=C
-./schema_server --help >/dev/null || exit 1
-program=$PWD/crates/schema_server/out/schema_server
-failures=0
+. tests/common.bash
 rows=0
 
 # compiles TITLE WANTED SOURCE: what is wrong with the folder where main.proto is this source, or nothing.

@@ -2,11 +2,7 @@
 # The built program as a user runs it: command lines, help, and devices that fail.
 set -u
 cd "$(dirname "$(readlink -f "$0")")/.." || exit 2
-folder=$(mktemp -d) || exit 2
-trap 'rm -rf "$folder"' EXIT
-./schema_server --help >/dev/null || exit 1
-program=crates/schema_server/out/schema_server
-failures=0
+. tests/common.bash
 point=$folder/point.proto
 printf 'syntax = "proto3"; message A { int32 x = 1; }' >"$point"
 

@@ -2,13 +2,8 @@
 # Each source of sources.txt through the built program: its descriptor, or the place and the kind of its first fault.
 set -u
 cd "$(dirname "$(readlink -f "$0")")/.." || exit 2
-folder=$(mktemp -d) || exit 2
-trap 'rm -rf "$folder"' EXIT
-LC_ALL=C
-./schema_server --help >/dev/null || exit 1
-program=crates/schema_server/out/schema_server
+. tests/common.bash
 rows=0
-failures=0
 line=0
 while read -r name wanted source; do
     line=$((line + 1))
