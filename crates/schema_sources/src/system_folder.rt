@@ -68,18 +68,6 @@ pub struct SystemFolder<'a, R> {
     pub files: &'a [&'a str],
 }
 
-impl<'a, R> SystemFolder<'a, R> {
-    /// The folder at a path. All that lies below it is a source, and imports are looked for nowhere else.
-    pub fn new(rt: &'a R, root: &'a str) -> SystemFolder<'a, R> {
-        SystemFolder {
-            rt,
-            root,
-            includes: &[],
-            files: &[],
-        }
-    }
-}
-
 impl<R: Files + AllocGlobal> SystemFolder<'_, R> {
     /// The sources that the words name, without what they import.
     fn given(&self, limits: &Limits) -> Result<Vec<NamedText>, FolderTrouble>
