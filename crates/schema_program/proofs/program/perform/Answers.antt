@@ -1,5 +1,5 @@
 use Rattle.std.proofs.Common.{None}
-use Rattle.schema_commands.specs.Runs.{IsAnswerRun, IsCompileRun}
+use Rattle.schema_commands.specs.Runs.{IsAnswerRun, IsCompileRun, IsDescribeRun}
 use Rattle.schema_program.proofs.Ending.{ends_sound}
 use Rattle.schema_program.proofs.program.perform.Goals as goal
 
@@ -18,3 +18,12 @@ returns-in-Answer g c =
     (ends_sound (λ done. IsAnswerRun None c.in-Answer.mode (reads c.args.input.now) (reads c.run_answer.new.reader)
     (writes c.args.output.now) (writes c.run_answer.new.writer) done)
     c.run_answer.result c.sound-in-Answer.result c.sound-in-Answer.ensures c.run_answer.ensures)
+
+pub returns-in-Describe : goal.returns-in-Describe
+returns-in-Describe g c =
+    let reads = g.I.CountedRead.reads in
+    let writes = g.O.CountedWrite.writes in
+    rw c.in-Describe.is
+    (ends_sound (λ done. IsDescribeRun c.in-Describe.name.now (reads c.args.input.now) (reads c.run_describe.new.reader)
+    (writes c.args.output.now) (writes c.run_describe.new.writer) done)
+    c.run_describe.result c.sound-in-Describe.result c.sound-in-Describe.ensures c.run_describe.ensures)
