@@ -92,7 +92,7 @@ said() {
     echo "  $("$program" explain "$1" | tail -n 1)"
 }
 
-# The end of a file behind the end of a line; a character of two bytes before the token; the tenth line.
+# The end of a file after the end of a line; a character of two bytes before the token; the tenth line.
 mkdir -p end wide tenth long cut whole
 printf 'syntax = "proto3";\nmessage A {\n' >end/a.proto
 checked 1 end <<REPORT

@@ -106,7 +106,7 @@ for number in $(seq 0 510); do
 done
 printf '%s' "$head" >"$folder/chain/f511.proto"
 compiles 'a chain of 512 files' '' "$folder/chain"
-# The name is the descriptor's first field, and stands behind the tag and the length of each.
+# The name is the descriptor's first field, and stands after the tag and the length of each.
 grep -aoE $'\v\vf[0-9]{3}\.proto' <(tr '\n' '\v' <"$folder/set") | grep -o 'f[0-9]*\.proto' >"$folder/order"
 seq 511 -1 0 | awk '{ printf "f%03d.proto\n", $1 }' | cmp - "$folder/order" || fail 'the order of a chain'
 printf '\0\0\0\0\x0c\x1a\nf000.proto' | "$program" answer --root "$folder/chain" >"$folder/response"

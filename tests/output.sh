@@ -143,7 +143,7 @@ links() {
     holds 'what links name' "$at/folder" made to_file
 }
 
-# What is open: the set comes behind what was written, and before what is written next.
+# What is open: the set comes after what was written, and before what is written next.
 open() {
     local name null
     place open
@@ -160,7 +160,7 @@ open() {
     is_link 'a link to standard output' "$at/to_output" /dev/stdout
     compile /dev/stdout >/dev/full 2>"$folder/said"
     [ "$? $(cat "$folder/said")" = '3 device: output' ] || failed "/dev/stdout, which is full: $(cat "$folder/said")"
-    # A file behind another descriptor stays as it was.
+    # A file that another descriptor leads to stays as it was.
     exec 3>"$at/log"
     echo head >&3
     refused 'a file that is open' /dev/fd/3

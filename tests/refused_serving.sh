@@ -1,6 +1,6 @@
 #!/usr/bin/env bash
 # Each allocation of the service refused in turn, with a client. The service may end, with 4 and `out of memory`, or with 3 where its
-# runtime met the refusal; or the connection that met it ends, or is answered as ever, and the one behind it is served.
+# runtime met the refusal; or the connection that met it ends, or is answered as ever, and the one after it is served.
 set -u
 cd "$(dirname "$(readlink -f "$0")")/.." || exit 2
 if ! command -v curl >/dev/null; then
@@ -65,13 +65,13 @@ try() {
     if [ "$status" != 0 ]; then
         [ "$where" = behind ] && ended "$1" "$status" || failures=$((failures + 1))
     elif { [ "$met" = 1 ] && [ "$second" = 0 ]; } || { [ "$met" = 0 ] && [ "$first" = 0 ]; }; then
-        # What came before the refusal, and what came behind the connection that met it, is served.
+        # What came before the refusal, and what came after the connection that met it, is served.
         echo "tests/refused_serving.sh: allocation $1: first $first, second $second"
         failures=$((failures + 1))
     fi
 }
 
-# The first allocation behind the start, found by strides, and from there each until none is refused.
+# The first allocation after the start, found by strides, and from there each until none is refused.
 at=1
 where=before
 while [ "$where" = before ]; do

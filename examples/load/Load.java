@@ -18,7 +18,7 @@ class Load {
         try (FileInputStream input = new FileInputStream(words[0])) {
             set = FileDescriptorSet.parseFrom(input);
         }
-        // In set order each file comes behind what it imports, so one pass is enough.
+        // In set order each file comes after what it imports, so one pass is enough.
         Map<String, FileDescriptor> files = new HashMap<>();
         for (FileDescriptorProto file : set.getFileList()) {
             FileDescriptor[] imports = file.getDependencyList().stream().map(files::get).toArray(FileDescriptor[]::new);

@@ -17,7 +17,7 @@ int main(int count, char **words) {
         return 1;
     }
     google::protobuf::DescriptorPool pool;
-    // In set order each file comes behind what it imports, so one pass is enough.
+    // In set order each file comes after what it imports, so one pass is enough.
     for (const auto &file : set.file()) {
         if (!pool.BuildFile(file)) {
             return 1;

@@ -12,7 +12,7 @@ if len(sys.argv) != 3:
 with open(sys.argv[1], "rb") as file:
     descriptors = descriptor_pb2.FileDescriptorSet.FromString(file.read())
 pool = descriptor_pool.DescriptorPool()
-# In set order each file comes behind what it imports, so one pass is enough.
+# In set order each file comes after what it imports, so one pass is enough.
 for descriptor in descriptors.file:
     pool.Add(descriptor)
 for field in pool.FindMessageTypeByName(sys.argv[2]).fields:
