@@ -1,5 +1,5 @@
 -- From the first fault of sources to those that are told.
-use Rattle.std.proofs.Common.{◌≡◌, ◌∙◌, sym, ap, subst, refl, zero, suc, List, [], ◌∷◌, inl, inr, Option, Some, map, arith}
+use Rattle.std.proofs.Common.{◌≡◌, ◌≢◌, ◌∙◌, sym, ap, subst, refl, zero, suc, List, [], ◌∷◌, inl, inr, Option, Some, map, arith}
 use Rattle.std.proofs.lemmas.List.{get_or-map, length-map}
 use Rattle.std.specs.Prelude.{Contains, string_bytes}
 use Rattle.file_faults.specs.FileFaults.{AreFileFaults, NamesDiffer}
@@ -51,8 +51,8 @@ first_told limits sources e first same least placed =
     (subst P same least, subst Q same placed)
 
 pub told_alone : (limits : Limits) (sources : List Source) (first : Fault)
-    → IsLeastFault limits sources (told_by first) → AreTold limits sources (first ∷ [])
-told_alone limits sources first least = (first, least, inr (refl, refl))
+    → IsLeastFault limits sources (told_by first) → first.pass ≢ 1 → AreTold limits sources (first ∷ [])
+told_alone limits sources first least later = (first, least, inr (later, refl, refl))
 
 -- ---- places
 

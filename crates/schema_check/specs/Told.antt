@@ -1,5 +1,5 @@
 -- Which faults of sources are told.
-use Rattle.std.specs.Prelude.{◌≡◌, ◌⊎◌, ◌-◌, ◌^◌, ◌<◌, ◌≤◌, List, [], ◌∷◌, Option, None, Some, Contains, length, map, string_bytes}
+use Rattle.std.specs.Prelude.{◌≡◌, ◌≢◌, ◌⊎◌, ◌-◌, ◌^◌, ◌<◌, ◌≤◌, List, [], ◌∷◌, Option, None, Some, Contains, length, map, string_bytes}
 use Rattle.file_faults.specs.FileFaults.{AreFileFaults}
 use Rattle.proto_base.specs.declared.fault.Fault.{Fault}
 use Rattle.proto_base.specs.declared.limits.Limits.{Limits}
@@ -8,13 +8,13 @@ use Rattle.proto_compile.specs.FaultSet.{IsLeastFault, IsPlaced, told_by}
 use Rattle.proto_compile.specs.Sources.{name_of, text_of}
 use Rattle.proto_compile.specs.declared.source.Source.{Source}
 
--- none, where the sources are compiled; else all that sources have of their own, where the first is one of these;
--- else the first alone
+-- none, where the sources are compiled; else, where the least of all faults is a source's own, the first own one of each
+-- source; else the least alone
 abbrev pub AreTold : Limits → List Source → List Fault → Type 0
 AreTold limits sources [] = (c : Compilation) × IsCompiled limits sources c
 AreTold limits sources (f ∷ faults) = (first : Fault) × IsLeastFault limits sources (told_by first)
     × (((first.pass ≡ 1) × AreFileFaults limits sources (map told_by (f ∷ faults)))
-    ⊎ ((f ≡ first) × (faults ≡ [])))
+    ⊎ ((first.pass ≢ 1) × (f ≡ first) × (faults ≡ [])))
 
 -- the fault lies within each source that has the name of its file
 pub record LiesWithin (sources : List Source) (f : Fault) : Type 0 where

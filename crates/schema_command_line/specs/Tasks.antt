@@ -1,7 +1,9 @@
--- What a command asks for, of what the parser found in the words behind its name.
+-- What a command asks for, by what the parser found in the words after its name.
 use Rattle.std.specs.Prelude.{◌≡◌, ℕ, ◌<◌, ◌≤◌, ◌^◌, List, [], Option, Some, None, bytes_eq, codes, if◌then◌else◌, map, option_map, unwrap_or}
 use Rattle.std.specs.Fmt.{decimal}
 use Rattle.clap.specs.Matches.{first_value, matched_of, one_text, raw_values, subcommand_name_of}
+use Rattle.clap.specs.Simple.{subcommand_rows_of}
+use Rattle.clap.specs.Walk.{rows_of}
 use Rattle.clap.specs.declared.parser.matches.ArgMatches.{ArgMatches}
 use Rattle.clap.specs.declared.parser.matches.Found.{Found}
 use Rattle.first_reach.specs.declared.mode.Mode.{Mode}
@@ -64,9 +66,10 @@ IsTaskNamed name found (task.Describe described) =
     (name ≡ codes "describe") × (described.now ≡ value_of found (codes "name"))
 IsTaskNamed name found (task.Explain topic) = name ≡ codes "explain"
 
--- the task of the command that the parser found, of what it found behind the command's name
+-- the task of the command that the parser found, by what it found after the command's name
 pub record IsAsked (matches : ArgMatches) (asked : Task) : Type 0 where
   pub name : List ℕ
   pub found : Found
   pub called : subcommand_name_of matches ≡ Some name
+  pub rows : option_map (λ r. r.1) (subcommand_rows_of matches) ≡ Some (rows_of found)
   pub task : IsTaskNamed name found asked

@@ -40,8 +40,8 @@ IsPerformed (task.Describe name) reads reads' writes writes' =
 IsPerformed (task.Explain topic) reads reads' writes writes' =
     EndsSound (λ done. IsExplainRun writes writes' done)
 
--- the words were no task: help or the version was written; or the command line is wrong, or memory was short, and nothing
--- was written; or a call of the writer failed
+-- the words were no task: a text was written, as help is; or the command line is wrong, or memory was short, and nothing was
+-- written; or a call of the writer failed
 abbrev pub IsUsageRun : Writes → Writes → Status → Type 0
 IsUsageRun writes writes' status.Done = (text : List ℕ) × IsWritten writes writes' text
 IsUsageRun writes writes' status.Fault = ⊥

@@ -12,7 +12,7 @@ use source_folder::{
     FolderFault, FolderTrouble, NamedText, Reason, TroubledEntry, read_source, source_path,
     sources_in,
 };
-use source_search::{Shelf, with_imports};
+use source_search::{Folders, Shelf, first_folder, first_text, with_imports};
 use std::alloc::{AllocError, AllocGlobal, Global};
 use std::cell::OnceCell;
 use std::collections::BTreeSet;
@@ -56,6 +56,29 @@ fn named_sources<R: Files + AllocGlobal>(
     Ok(texts)
 }
 
+/// The folders of the system.
+#[derive(Drop)]
+struct SystemFolders<'a, R> {
+    rt: &'a R,
+}
+
+impl<R: Files + AllocGlobal> Folders for SystemFolders<'_, R> {
+    ghost contents = { λ _. None };
+
+    fn text_below(
+        &self,
+        folder: &str,
+        name: &str,
+        limits: &Limits,
+    ) -> Result<Option<Vec<u8>>, FolderTrouble> {
+        read_source(self.rt, folder, name, limits)
+    }
+
+    fn has(&self, folder: &str, name: &str) -> Result<bool, AllocError> {
+        Ok(source_path(self.rt, folder, name)?.is_some())
+    }
+}
+
 /// The folder of a run, and what else its words name.
 #[derive(Drop)]
 pub struct SystemFolder<'a, R> {
@@ -80,30 +103,10 @@ impl<R: Files + AllocGlobal> SystemFolder<'_, R> {
         }
     }
 
-    /// The folder of an import that the root doesn't have.
-    fn include_of(&self, name: &str) -> Result<Option<&str>, AllocError> {
-        if source_path(self.rt, self.root, name)?.is_some() {
-            return Ok(None);
-        }
-        for include in self.includes {
-            if source_path(self.rt, include, name)?.is_some() {
-                return Ok(Some(include));
-            }
-        }
-        Ok(None)
-    }
-
     /// The text of a name from the first of the folders that has it.
     fn first_text(&self, name: &str, limits: &Limits) -> Result<Option<Vec<u8>>, FolderTrouble> {
-        if let Some(text) = read_source(self.rt, self.root, name, limits)? {
-            return Ok(Some(text));
-        }
-        for include in self.includes {
-            if let Some(text) = read_source(self.rt, include, name, limits)? {
-                return Ok(Some(text));
-            }
-        }
-        Ok(None)
+        let folders = SystemFolders { rt: self.rt };
+        first_text(&folders, self.root, self.includes, name, limits)
     }
 }
 
@@ -127,10 +130,12 @@ impl<R: Files + AllocGlobal> SourceFolder for SystemFolder<'_, R> {
         if self.includes.is_empty() {
             return Ok(all);
         }
+        let folders = SystemFolders { rt: self.rt };
         for text in texts {
             let name = text.name.as_str();
-            if let Some(folder) = self.include_of(name)? {
-                all.push(Elsewhere { name, folder })?;
+            match first_folder(&folders, self.root, self.includes, name)? {
+                Some(folder) if folder != self.root => all.push(Elsewhere { name, folder })?,
+                _ => {}
             }
         }
         Ok(all)

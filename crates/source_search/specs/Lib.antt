@@ -1,3 +1,4 @@
+pub mod Folders
 pub mod Imports
 pub mod Searching
 pub mod Shelves

@@ -35,4 +35,5 @@ returns-clause-told g c =
     let sources = c.args.sources.now in
     let first = first_is limits sources c.in_ok-first.field-0 c.in-Some.first c.in_ok-first.ensures c.in-Some.is in
     let P : List Fault → Type 0 = λ faults. AreTold limits sources faults in
-    subst P (sym c.in_ok-vec.ensures.items) (told_alone limits sources c.in-Some.first first.0)
+    subst P (sym c.in_ok-vec.ensures.items) (told_alone limits sources c.in-Some.first first.0
+    c.if-first-eq-LOCAL.false)
