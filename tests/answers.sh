@@ -4,6 +4,7 @@
 set -u
 cd "$(dirname "$(readlink -f "$0")")/.." || exit 2
 . tests/common.bash
+find_program
 
 # A frame with a request of one field: its number, and its text.
 frame() {

@@ -3,6 +3,7 @@
 set -u
 cd "$(dirname "$(readlink -f "$0")")/.." || exit 2
 . tests/common.bash
+find_program
 rows=0
 
 # checked STATUS ROOT: the report over a folder is what is read, by each plan, and standard error is empty.

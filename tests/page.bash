@@ -4,17 +4,9 @@
 # made is empty. Where the page's port is taken, a free one stands for it.
 . tests/serving.bash
 . tests/left.bash
-. tests/python.bash
-failures=0
-
-fail() {
-    echo "$0: $1"
-    failures=$((failures + 1))
-}
 
 mkdir "$folder/blocks" "$folder/path" || exit 2
-find_python google.protobuf
-if [ -n "$python" ]; then
+if find_python google.protobuf; then
     printf '#!/bin/sh\nexec %s -B "$@"\n' "$(command -v "$python")" >"$folder/path/python3"
     chmod +x "$folder/path/python3"
 fi
@@ -66,7 +58,7 @@ leave_out() {
     for tool in curl protoc python3 g++ go java make git /usr/include/google/protobuf; do
         for block in "$folder"/blocks/*.sh; do
             if grep -qE "(^|[( ])${tool//+/\\+}([ /]|$)" "$block" && ! is_there "$tool"; then
-                echo "$0: $tool or its part of protobuf is not installed, so this was not run: $(head -n 1 "$block")"
+                untried "$tool, or no part of protobuf for it" "this was not run: $(head -n 1 "$block")"
                 rm "$block"
             fi
         done
