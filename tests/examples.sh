@@ -13,7 +13,8 @@ fi
 # By every plan the same bytes.
 for workers in 1 2 3 4 64; do
     for cut in 1 2 16 4096; do
-        "$program" compile --root examples --workers "$workers" --cut "$cut" | cmp - "$folder/set" || fail "$workers workers, cut $cut: another set"
+        "$program" compile --root examples --workers "$workers" --cut "$cut" | cmp - "$folder/set" ||
+            fail "$workers workers, cut $cut: another set"
     done
 done
 # The names for which bytes are stored, and those that are to come.

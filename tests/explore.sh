@@ -11,7 +11,7 @@ find_python google.protobuf.message || skip 'Python with protobuf'
 . tests/nginx.bash
 
 # opens: an nginx with the routes of the guide's first block for nginx at a free port, which `page` names; the page is its own. It takes
-# a minute and longer for the file `held`.
+# half a minute for the file `held`.
 opens() {
     local turn
     {
@@ -129,7 +129,7 @@ if [ "$(grep -c '^held[.]abort' "$folder/pages/explore.html")" != 1 ]; then
     fail 'explore.html ends in another way, and has no place for the mark'
     exit 1
 fi
-head -c 1000 /dev/zero >"$folder/pages/held"
+head -c 50 /dev/zero >"$folder/pages/held"
 visits=0
 start --root examples
 opens

@@ -20,7 +20,7 @@ sweep() {
         got=$?
         as_usual=0 no_memory=0
         [ "$got" = "$status" ] && cmp -s "$folder/wanted" "$folder/output" && [ "$(<"$folder/faults")" = "$faults" ] && as_usual=1
-        [ "$what" = REFUSE_AT ] && [ "$got" = 4 ] && [ ! -s "$folder/output" ] && [ "$(<"$folder/faults")" = 'out of memory' ] && no_memory=1
+        [ "$what" = REFUSE_AT ] && [ "$got $(<"$folder/faults")" = '4 out of memory' ] && [ ! -s "$folder/output" ] && no_memory=1
         if [ ! -s "$folder/refused" ]; then
             [ "$as_usual" = 1 ] || fail "$*: without a refusal: status $got, $(<"$folder/faults")"
             [ "$at" -gt 1 ] || fail "$*: $what: nothing was refused"
