@@ -46,11 +46,11 @@ routed() {
     stop
 }
 
-for routes in "$folder"/blocks/*.nginx; do
-    if has nginx 'its routes were not tried' && has curl 'the routes of nginx were not tried'; then
+if has nginx 'its routes were not tried' && has curl 'the routes of nginx were not tried'; then
+    for routes in "$folder"/blocks/*.nginx; do
         routed "$routes"
-    fi
-done
+    done
+fi
 
 mkdir "$folder/try" && cp -r examples tests "$folder/try" || exit 2
 follow "$folder/try"

@@ -48,17 +48,17 @@ is_there() {
     g++) command -v g++ && echo '#include <google/protobuf/descriptor.h>' | g++ -E -x c++ - ;;
     go) command -v go && [ -d /usr/share/gocode/src/google.golang.org/protobuf ] ;;
     java) command -v javac && [ -f /usr/share/java/protobuf.jar ] ;;
-    /usr/include/google/protobuf) [ -d "$1" ] ;;
+    /usr/include) [ -d "$1/google/protobuf" ] ;;
     esac >/dev/null 2>&1
 }
 
 # Takes away the blocks for tools that are not installed, and says of which.
 leave_out() {
     local tool block
-    for tool in curl protoc python3 g++ go java make git /usr/include/google/protobuf; do
+    for tool in curl protoc python3 g++ go java make git /usr/include; do
         for block in "$folder"/blocks/*.sh; do
             if grep -qE "(^|[( ])${tool//+/\\+}([ /]|$)" "$block" && ! is_there "$tool"; then
-                untried "$tool, or no part of protobuf for it" "this was not run: $(head -n 1 "$block")"
+                untried "$tool, or no protobuf for it" "this was not run: $(head -n 1 "$block")"
                 rm "$block"
             fi
         done
@@ -89,7 +89,7 @@ follow() {
             echo "} >'$block.got' 2>&1; echo \$? >'$block.status'"
         done
     } >"$folder/session"
-    timeout 120 bash "$folder/session" </dev/null
+    timeout 600 bash "$folder/session" </dev/null
 
     for ((number = 1; number <= count; number++)); do
         block=$folder/blocks/$number
