@@ -32,8 +32,8 @@ wrong() {
     keep=1
 }
 
-# same WORDS: whether one worker and four gave the same, and ended well.
-same() {
+# agree COMMAND: whether one worker and four gave the same, and ended well.
+agree() {
     local status
     status=$(<"$folder/one.status")
     if [ "$status" -ge 124 ]; then
@@ -86,7 +86,7 @@ while [ "$SECONDS" -lt "$seconds" ] && [ "$failures" -lt 5 ]; do
     : >"$folder/input"
     run one compile --root "$folder/root" --workers 1 --cut 1
     run four compile --root "$folder/root" --workers 4 --cut 1
-    same 'compile'
+    agree compile
     if [ "$(<"$folder/one.status")" = 0 ]; then
         compiled=$((compiled + 1))
         if [ -n "$with_protoc" ]; then
@@ -96,7 +96,7 @@ while [ "$SECONDS" -lt "$seconds" ] && [ "$failures" -lt 5 ]; do
     "$folder/mutate" "$seed" "$folder/body" >"$folder/input"
     run one answer --root examples --workers 1 --cut 1
     run four answer --root examples --workers 4 --cut 1
-    same 'answer'
+    agree answer
     if [ "$(<"$folder/one.status")" = 0 ]; then
         bodies=$((bodies + 1))
     else

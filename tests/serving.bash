@@ -1,4 +1,5 @@
-# Read by the scripts that start the service: how it is started and stopped.
+# Read by the scripts that start the service: how it is started and stopped. A script that needs tools has read tests/common.bash before,
+# so that nothing is proved where it is skipped.
 declare -F find_program >/dev/null || . tests/common.bash
 find_program
 server=
