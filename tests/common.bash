@@ -84,7 +84,7 @@ find_built() {
             echo "$0: $crate was not built: $(tail -n 3 "$folder/build")"
             exit 1
         fi
-        touch "$program"
+        touch -c "$program"
     fi
 }
 
