@@ -1,15 +1,10 @@
 #!/usr/bin/env bash
-# `answer` through the built program: a stream over examples/ whose replies protoc decodes, by several plans, and the order of
-# faults. What each reply's bytes are is tested in crates/test_answers.
+# `answer` through the built program: a stream over examples/ whose replies protoc decodes, by several plans; each body of answers.txt;
+# and the order of faults.
 set -u
 cd "$(dirname "$(readlink -f "$0")")/.." || exit 2
 . tests/common.bash
-
-# A frame with a request of one field: its number, and its text.
-frame() {
-    local size=${#2}
-    printf "\\x00\\x00\\x00\\x00\\x$(printf %02x $((size + 2)))\\x$(printf %02x $(($1 * 8 + 2)))\\x$(printf %02x "$size")%s" "$2"
-}
+find_program
 
 # Services, every file in set order, a symbol, and what is not there.
 {
@@ -29,15 +24,16 @@ for plan in '2 1' '3 2' '64 4096'; do
         || fail "another response with $workers workers, cut $cut"
 done
 
-cc -O1 -o "$folder/split_frames" tests/split_frames.c || exit 2
-mkdir "$folder/replies" || exit 2
-"$folder/split_frames" "$folder/replies" <"$folder/response" >"$folder/trailers" || fail 'the response is no row of frames'
-printf 'grpc-status:0\r\n' | cmp - "$folder/trailers" || fail 'other trailers'
-[ "$(find "$folder/replies" -type f | wc -l)" = $((files + 3)) ] || fail 'not a reply for each request'
+if has cc 'the response was not looked at'; then
+    cc -O1 -o "$folder/split_frames" tests/split_frames.c && mkdir "$folder/replies" || exit 2
+    "$folder/split_frames" "$folder/replies" <"$folder/response" >"$folder/trailers" || fail 'the response is no row of frames'
+    printf 'grpc-status:0\r\n' | cmp - "$folder/trailers" || fail 'other trailers'
+    [ "$(find "$folder/replies" -type f | wc -l)" = $((files + 3)) ] || fail 'not a reply for each request'
+fi
 
 # In set order each file is new and its imports were sent, so the replies hold the set, file by file.
-"$program" compile --root examples >"$folder/set" || fail 'no set'
-if command -v protoc >/dev/null; then
+if [ -d "$folder/replies" ] && has protoc 'no reply was decoded'; then
+    "$program" compile --root examples >"$folder/set" || fail 'no set'
     decoded() {
         protoc --proto_path=tests --decode=grpc.reflection.v1.ServerReflectionResponse reflection.proto <"$folder/replies/$1"
     }
@@ -59,25 +55,22 @@ if command -v protoc >/dev/null; then
     protoc --proto_path="$folder" --decode=Set set.proto <"$folder/set" | cmp - "$folder/sent" || fail 'other files than those of the set'
     grep -q 'file_descriptor_response {' "$folder/text$((files + 2))" || fail 'no file for a symbol'
     grep -q 'error_message: "not found"' "$folder/text$((files + 3))" || fail 'a file that is not there'
-else
-    echo 'tests/answers.sh: protoc is not installed, so no reply was decoded'
 fi
 
-# The rows of crates/test_answers under the standard limits: their files, their mode, and body and response in hexadecimal digits.
+# The rows of answers.txt.
 mkdir "$folder/F" "$folder/M" || exit 2
 printf 'syntax = "proto3"; import "b.proto";' | tee "$folder/F/a.proto" >"$folder/F/c.proto"
 printf 'syntax = "proto3"; package p; service S {}' >"$folder/F/b.proto"
 printf 'syntax = "proto3"; message A { int32 x = 1; }' >"$folder/M/a.proto"
 rows=0
-while IFS='|' read -r sources mode _ title body wanted; do
+while IFS='|' read -r sources mode title body wanted; do
+    [[ $sources != \#* ]] || continue
     rows=$((rows + 1))
     repeat=()
-    [ "$mode" = repeat ] && repeat=(--repeat)
-    # shellcheck disable=SC2001 # two digits at a time
-    printf '%b' "$(sed 's/../\\x&/g' <<<"$body")" | "$program" answer --root "$folder/$sources" "${repeat[@]}" | od -An -v -tx1 | tr -d ' \n' >"$folder/got"
-    [ "$(cat "$folder/got")" = "$wanted" ] || fail "$title: $(cat "$folder/got")"
-done < <(sed -n 's/^    \([FM]|[a-z]*|-|.*\)$/\1/p' crates/test_answers/src/tests/responses.rt | sed 's/\\n\\$//; s/";$//')
-[ "$rows" -gt 20 ] || fail 'the rows were not found'
+    [ "$mode" != repeat ] || repeat=(--repeat)
+    got=$(from_hex "$body" | "$program" answer --root "$folder/$sources" "${repeat[@]}" | to_hex)
+    [ "$got" = "$wanted" ] || fail "$title: $got"
+done <tests/answers.txt
 
 # Faults: of the folder, of the sources, of the input, of the output.
 told() {
@@ -85,7 +78,8 @@ told() {
     shift 2
     "$@" >"$folder/output" 2>"$folder/faults"
     local got=$?
-    [ "$got" = "$status" ] && [ "$(cat "$folder/faults")" = "$line" ] && [ ! -s "$folder/output" ] || fail "$line: status $got, $(cat "$folder/faults")"
+    [ "$got" = "$status" ] && [ "$(<"$folder/faults")" = "$line" ] && [ ! -s "$folder/output" ] ||
+        fail "$line: status $got, $(<"$folder/faults")"
 }
 mkdir "$folder/broken" || exit 2
 printf 'syntax = "proto3"; message A { X x = 1; }' >"$folder/broken/a.proto"
@@ -93,8 +87,9 @@ told 3 'device: folder' "$program" answer --root "$folder/nowhere" <"$folder/req
 told 1 'a.proto:1:32: TypeNotFound' "$program" answer --root "$folder/broken" <"$folder"
 told 3 'device: input' "$program" answer --root examples <"$folder"
 "$program" answer --root examples <"$folder/request" >/dev/full 2>"$folder/faults"
-[ "$?" = 3 ] && [ "$(cat "$folder/faults")" = 'device: output' ] || fail 'an output that takes nothing'
+[ "$?" = 3 ] && [ "$(<"$folder/faults")" = 'device: output' ] || fail 'an output that takes nothing'
 "$program" answer </dev/null >/dev/null 2>&1
 [ "$?" = 2 ] || fail 'a command line without a root'
 
-[ "$failures" = 0 ]
+echo "$0: $rows rows"
+[ "$rows" -gt 0 ] && [ "$failures" = 0 ]

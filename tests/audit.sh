@@ -5,16 +5,8 @@
 # sums into the page.
 set -u
 cd "$(dirname "$(readlink -f "$0")")/.." || exit 2
-folder=$(mktemp -d) || exit 2
-trap 'rm -rf "$folder"' EXIT
-LC_ALL=C
+. tests/common.bash
 page=docs/AUDIT.md
-failures=0
-
-fail() {
-    echo "tests/audit.sh: $1"
-    failures=$((failures + 1))
-}
 
 # Prints the page with the numbers that the files have.
 counted() {
@@ -100,7 +92,8 @@ while read -r row name lines; do
 done <"$folder/named"
 echo "read $total_read" >>"$folder/totals"
 awk '{ total[$1] += $2 } END { for (row in total) print row, total[row] }' "$folder/totals" | sort >"$folder/added"
-sort "$folder/sums" | diff - "$folder/added" >"$folder/differ" || fail "sums, of the page and of the files: $(tr '\n' ' ' <"$folder/differ")"
+sort "$folder/sums" >"$folder/told"
+same 'sums, of the page and of the files' "$folder/told" "$folder/added"
 [ "$(cut -d' ' -f1 "$folder/sums" | sort -u | wc -l)" = 5 ] || fail 'other tables than it knows'
 
 # Every file of definitions is named, once; those that only list modules are none.
@@ -110,7 +103,8 @@ find crates/*/specs -name '*.antt' | while IFS= read -r file; do
         echo "${name/\/specs\//\/}"
     fi
 done | sort >"$folder/files"
-cut -d' ' -f2 "$folder/named" | sort | diff "$folder/files" - >"$folder/differ" || fail "files of definitions and those named: $(tr '\n' ' ' <"$folder/differ")"
+cut -d' ' -f2 "$folder/named" | sort >"$folder/told"
+same 'files of definitions and those named' "$folder/files" "$folder/told"
 
 # What is to be read, or is needed by inner crates or laws, uses nothing of the last row, which need not be read.
 last=$(grep '^row' "$folder/named" | tail -n 1 | cut -d' ' -f1)
@@ -145,7 +139,7 @@ find crates/*/src -name '*.rt' ! -path 'crates/test_*' ! -path 'crates/bench_*' 
     /^ *\{\}$/ && name != "" { print name; name = "" }
 ' {} + | sort -u >"$folder/laws"
 sed -n '/^## Laws/,/^## What a proof/p' "$page" | awk -F'|' '/^\|/ { print $3 }' | tr -cs 'a-z_' '\n' | grep _ | sort >"$folder/told"
-diff "$folder/laws" "$folder/told" >"$folder/differ" || fail "laws, of the code and of the page: $(tr '\n' ' ' <"$folder/differ")"
+same 'laws, of the code and of the page' "$folder/laws" "$folder/told"
 
 # The scripts and the crates of tests that it names are there.
 grep -oE 'tests/[a-z_]+\.sh|crates/test_[a-z]+' "$page" | sort -u >"$folder/tests"
@@ -171,5 +165,5 @@ while read -r path number; do
 done <"$folder/edits"
 [ "$(wc -l <"$folder/edits")" = 3 ] || fail 'other than three examples'
 
-echo "tests/audit.sh: $reading files to read, $(wc -l <"$folder/named") files, $(wc -l <"$folder/laws") laws"
+echo "$0: $reading files to read, $(wc -l <"$folder/named") files, $(wc -l <"$folder/laws") laws"
 [ "$failures" = 0 ]

@@ -4,37 +4,22 @@
 # protobuf-compiler) nothing is tested.
 set -u
 cd "$(dirname "$(readlink -f "$0")")/.." || exit 2
-. tests/python.bash
-find_python 'grpc.aio, google.protobuf.message'
-if [ -z "$python" ] || ! command -v protoc >/dev/null; then
-    echo 'tests/bridge.sh: python3-grpcio, python3-protobuf or protobuf-compiler is not installed, so the bridge was not run'
-    exit 0
-fi
+. tests/common.bash
+needs protoc
+find_python 'grpc.aio, google.protobuf.message' || skip 'Python with grpcio and protobuf'
 . tests/serving.bash
-bridge=
-trap 'for process in $bridge $server; do kill "$process" 2>/dev/null; done; rm -rf "$folder"' EXIT
 protoc -I tests --python_out="$folder" tests/reflection.proto || exit 1
-failures=0
-
-fail() {
-    echo "tests/bridge.sh: $1"
-    failures=$((failures + 1))
-}
 
 start --root examples
+service=127.0.0.1:$port
 : >"$folder/bridge"
-"$python" -B examples/clients/bridge.py 127.0.0.1:0 "127.0.0.1:$port" >"$folder/bridge" 2>"$folder/bridge_faults" &
+"$python" -B examples/clients/bridge.py 127.0.0.1:0 "$service" >"$folder/bridge" 2>"$folder/bridge_faults" &
 bridge=$!
-turn=0
-until grep -q '^listening on 127\.0\.0\.1:[0-9]*$' "$folder/bridge"; do
-    turn=$((turn + 1))
-    if [ "$turn" = 200 ] || ! kill -0 "$bridge" 2>/dev/null; then
-        echo "the bridge was not started: $(cat "$folder/bridge" "$folder/bridge_faults")"
-        exit 1
-    fi
-    sleep 0.05
-done
-address=$(sed 's/.* //' "$folder/bridge")
+if ! says_port "$bridge" "$folder/bridge"; then
+    echo "$0: the bridge was not started: $(cat "$folder/bridge" "$folder/bridge_faults")"
+    exit 1
+fi
+address=127.0.0.1:$port
 
 # What a client is told that sends a request only when it has read the reply to the one before, while another stream is open that
 # sends nothing.
@@ -107,11 +92,11 @@ files() {
 # asks WORDS..: runs the client, whose lines are those of the file `wanted`.
 asks() {
     PYTHONPATH=$folder timeout 60 "$python" -B "$folder/client.py" "$address" "$@" >"$folder/got" 2>&1 || fail "the client ended with $?"
-    diff "$folder/wanted" "$folder/got" >"$folder/differ" || fail "other lines: $(cut -c 1-200 "$folder/differ")"
+    same 'what the client is told' "$folder/wanted" "$folder/got"
 }
 
 # Each request is a stream of its own for the service, so what a file imports comes again with the second symbol.
-for version in v1 v1alpha; do
+for _ in v1 v1alpha; do
     printf 'service: %s\n' shop.catalog.CatalogService shop.orders.OrderService shop.reports.v1.ReportService tour.Guide tour.Nobody
     echo 'symbol: shop.orders.OrderService'
     files orders/order_service money/money time/timestamp catalog/product customers/customer orders/order
@@ -122,7 +107,7 @@ done >"$folder/wanted"
 printf '%s\n' 'fault: UNIMPLEMENTED' 'replies behind the end: 0 OK' >>"$folder/wanted"
 asks v1 v1alpha
 
-timeout 20 "$python" -B examples/clients/bridge.py "$address" "127.0.0.1:$port" >"$folder/second" 2>&1
+timeout 20 "$python" -B examples/clients/bridge.py "$address" "$service" >"$folder/second" 2>&1
 [ "$?" = 1 ] && ! grep -q '^listening' "$folder/second" || fail "a second bridge at the same port: $(<"$folder/second")"
 
 # Without a service.
@@ -132,8 +117,7 @@ echo 'Stream(paths[0]).fail(request(list_services=""))' >>"$folder/client.py"
 echo 'fault: UNAVAILABLE' >"$folder/wanted"
 asks v1
 
-kill "$bridge"
+kill "$bridge" 2>/dev/null || fail 'the bridge has ended by itself'
 wait "$bridge" 2>/dev/null
-bridge=
 [ ! -s "$folder/bridge_faults" ] || fail "the bridge said $(<"$folder/bridge_faults")"
 [ "$failures" = 0 ]

@@ -3,6 +3,7 @@
 set -u
 cd "$(dirname "$(readlink -f "$0")")/.." || exit 2
 . tests/common.bash
+find_program
 rows=0
 
 # checked STATUS ROOT: the report over a folder is what is read, by each plan, and standard error is empty.
@@ -16,11 +17,31 @@ checked() {
         local got=$? got_report
         IFS= read -r -d '' got_report <report
         if [ "$got" != "$1" ] || [ "$got_report" != "$wanted" ] || [ -s faults ]; then
-            printf '%s, %s: status %s\n%s' "$2" "$plan" "$got" "$got_report"
-            cat faults
-            failures=$((failures + 1))
+            fail "$2, $plan: status $got
+$got_report$(<faults)"
         fi
     done
+}
+
+# said KIND: the meaning and the cure of a kind, as a report has them.
+said() {
+    echo "  $("$program" explain "$1" | sed -n 3p)"
+    echo "  $("$program" explain "$1" | tail -n 1)"
+}
+
+# one PLACE KIND ROOT: the report over a folder whose one file has this fault, with the line and the mark that are read.
+one() {
+    checked 1 "$3" < <(
+        echo "${3%/}/a.proto:$1: $2"
+        cat
+        said "$2"
+        echo '1 fault in 1 file'
+    )
+}
+
+# times N LETTER: so many of a letter.
+times() {
+    printf "%$1s" '' | tr ' ' "$2"
 }
 
 cd "$folder" || exit 2
@@ -48,26 +69,20 @@ checked 1 faulty <<REPORT
 faulty/a.proto:2:23: BadNumber
   2 | message A { int32 x = 08; }
     |                       ^
-  $("$program" explain BadNumber | sed -n 3p)
-  $("$program" explain BadNumber | tail -n 1)
+$(said BadNumber)
 faulty/below/c.proto:3:12: FieldNumberRange
   3 | 	int32 x = 19000;
     | 	          ^^^^^
-  $("$program" explain FieldNumberRange | sed -n 3p)
-  $("$program" explain FieldNumberRange | tail -n 1)
+$(said FieldNumberRange)
 2 faults in 3 files
 REPORT
 
 # Where no file has a fault of its own, the first of the later passes.
 printf 'syntax = "proto3";\nmessage A {\n  Missing x = 1;\n  Missing y = 2;\n}\n' >later/a.proto
-checked 1 later/ <<REPORT
-later/a.proto:3:3: TypeNotFound
+one 3:3 TypeNotFound later/ <<'SHOWN'
   3 |   Missing x = 1;
     |   ^^^^^^^
-  $("$program" explain TypeNotFound | sed -n 3p)
-  $("$program" explain TypeNotFound | tail -n 1)
-1 fault in 1 file
-REPORT
+SHOWN
 
 # The end of a file, and bytes that are no UTF-8.
 printf 'syntax = "proto3";\nmessage A {' >mixed/a.proto
@@ -76,79 +91,48 @@ checked 1 mixed <<REPORT
 mixed/a.proto:2:12: UnexpectedEnd
   2 | message A {
     |            ^
-  $("$program" explain UnexpectedEnd | sed -n 3p)
-  $("$program" explain UnexpectedEnd | tail -n 1)
+$(said UnexpectedEnd)
 mixed/b.proto:2:7: NotUtf8
   2 | // caf$(printf '\357\277\275')
     |       ^
-  $("$program" explain NotUtf8 | sed -n 3p)
-  $("$program" explain NotUtf8 | tail -n 1)
+$(said NotUtf8)
 2 faults in 2 files
 REPORT
-
-# said KIND: the meaning and the cure of a kind, as a report has them.
-said() {
-    echo "  $("$program" explain "$1" | sed -n 3p)"
-    echo "  $("$program" explain "$1" | tail -n 1)"
-}
 
 # The end of a file after the end of a line; a character of two bytes before the token; the tenth line.
 mkdir -p end wide tenth long cut whole
 printf 'syntax = "proto3";\nmessage A {\n' >end/a.proto
-checked 1 end <<REPORT
-end/a.proto:3:1: UnexpectedEnd
+one 3:1 UnexpectedEnd end <<SHOWN
   3 | $()
     | ^
-$(said UnexpectedEnd)
-1 fault in 1 file
-REPORT
+SHOWN
 printf 'syntax = "proto3"; /* \303\251 */ message A { X x = 1; }\n' >wide/a.proto
-checked 1 wide <<REPORT
-wide/a.proto:1:41: TypeNotFound
+one 1:41 TypeNotFound wide <<SHOWN
   1 | syntax = "proto3"; /* $(printf '\303\251') */ message A { X x = 1; }
     |                                        ^
-$(said TypeNotFound)
-1 fault in 1 file
-REPORT
+SHOWN
 printf 'syntax = "proto3";\n\n\n\n\n\n\n\n\nmessage A { X x = 1; }\n' >tenth/a.proto
-checked 1 tenth <<REPORT
-tenth/a.proto:10:13: TypeNotFound
+one 10:13 TypeNotFound tenth <<SHOWN
   10 | message A { X x = 1; }
      |             ^
-$(said TypeNotFound)
-1 fault in 1 file
-REPORT
-
-# times N LETTER: so many of a letter.
-times() {
-    printf "%$1s" '' | tr ' ' "$2"
-}
+SHOWN
 
 # A line over 200 characters is cut around the place, and one of 200 is not; a token is marked as far as it is shown.
 printf 'syntax = "proto3";\n/*%s*/ message A { Missing x = 1; } /*%s*/\n' "$(times 120 a)" "$(times 100 b)" >long/a.proto
-checked 1 long <<REPORT
-long/a.proto:2:138: TypeNotFound
+one 2:138 TypeNotFound long <<SHOWN
   2 | ...$(times 85 a)*/ message A { Missing x = 1; } /*$(times 81 b)...
     | $(times 103 ' ')^^^^^^^
-$(said TypeNotFound)
-1 fault in 1 file
-REPORT
+SHOWN
 printf 'syntax = "proto3";\nmessage A { Missing x = 1; } /*%s*/\n' "$(times 167 b)" >whole/a.proto
-checked 1 whole <<REPORT
-whole/a.proto:2:13: TypeNotFound
+one 2:13 TypeNotFound whole <<SHOWN
   2 | message A { Missing x = 1; } /*$(times 167 b)*/
     | $(times 12 ' ')^^^^^^^
-$(said TypeNotFound)
-1 fault in 1 file
-REPORT
+SHOWN
 printf 'syntax = "proto3";\nmessage A { %s x = 1; }\n' "$(times 230 T)" >cut/a.proto
-checked 1 cut <<REPORT
-cut/a.proto:2:13: TypeNotFound
+one 2:13 TypeNotFound cut <<SHOWN
   2 | message A { $(times 100 T)...
     | $(times 12 ' ')$(times 103 ^)
-$(said TypeNotFound)
-1 fault in 1 file
-REPORT
+SHOWN
 
 # A folder that cannot be read: a second line names the entry and the reason.
 mkdir -p circle pipe && ln -s . circle/me && mkfifo pipe/a.proto
@@ -157,8 +141,7 @@ while read -r root line; do
     timeout 10 "$program" check --root "$root" >report 2>faults
     got=$?
     if [ "$got" != 3 ] || [ -s report ] || [ "$(<faults)" != "device: folder"$'\n'"$line" ]; then
-        echo "$root: status $got, $(<faults)"
-        failures=$((failures + 1))
+        fail "$root: status $got, $(<faults)"
     fi
 done <<'LINES'
 none none: it is not there
@@ -168,23 +151,20 @@ pipe pipe/a.proto: it is a device or a pipe
 LINES
 "$program" check --root sound none.proto >report 2>faults
 if [ "$?" != 3 ] || [ "$(<faults)" != $'device: folder\nsound/none.proto: it is not there' ]; then
-    echo "a named file that is not there: $(<faults)"
-    failures=$((failures + 1))
+    fail "a named file that is not there: $(<faults)"
 fi
 
 # A file's name with control characters stays in its line, here and in what compile tells.
 mkdir named && printf 'syntax = "proto3"; message A { X x = 1; }' >$'named/a\nb\t.proto'
 if [ "$("$program" compile --root named 2>&1)" != 'a\u{a}b\u{9}.proto:1:32: TypeNotFound' ] ||
     [ "$("$program" check --root named | head -n 1)" != 'named/a\u{a}b\u{9}.proto:1:32: TypeNotFound' ]; then
-    echo "a name with control characters: $("$program" compile --root named 2>&1)"
-    failures=$((failures + 1))
+    fail "a name with control characters: $("$program" compile --root named 2>&1)"
 fi
 
 # The first of these faults is the one that compile tells.
 "$program" compile --root mixed >/dev/null 2>faults
-if [ "mixed/$(cat faults)" != "$("$program" check --root mixed | head -n 1)" ]; then
-    echo "mixed: compile tells $(cat faults)"
-    failures=$((failures + 1))
+if [ "mixed/$(<faults)" != "$("$program" check --root mixed | head -n 1)" ]; then
+    fail "mixed: compile tells $(<faults)"
 fi
-echo "tests/check.sh: $rows rows"
+echo "$0: $rows rows"
 [ "$rows" -gt 0 ] && [ "$failures" = 0 ]

@@ -3,28 +3,22 @@
 # or protoc is not installed (packages python3-protobuf and protobuf-compiler) nothing is tested.
 set -u
 cd "$(dirname "$(readlink -f "$0")")/.." || exit 2
-. tests/python.bash
-find_python 'google.protobuf.json_format'
-if [ -z "$python" ] || ! command -v protoc >/dev/null; then
-    echo 'tests/clients.sh: python3-protobuf or protobuf-compiler is not installed, so no client was run'
-    exit 0
-fi
+. tests/common.bash
+needs protoc
+find_python google.protobuf.json_format || skip 'Python with protobuf'
 . tests/serving.bash
 start --root examples
 protoc -I tests --python_out="$folder" tests/reflection.proto || exit 1
-failures=0
 
 # prints TITLE WORDS..: what the client prints is what stands on the input.
 prints() {
     local title=$1
     shift
     cat >"$folder/wanted"
-    PYTHONPATH=$folder "$python" -B examples/clients/reflect.py "$url" "$@" >"$folder/got" 2>&1
+    PYTHONPATH=$folder timeout 60 "$python" -B examples/clients/reflect.py "$url" "$@" >"$folder/said" 2>&1
     # The request of PlaceOrder holds a whole order: that it was built and parsed is enough.
-    sed '/^PlaceOrder/ { n; d; }' "$folder/got" | diff "$folder/wanted" - || {
-        echo "tests/clients.sh: $title"
-        failures=$((failures + 1))
-    }
+    sed '/^PlaceOrder/ { n; d; }' "$folder/said" >"$folder/got"
+    same "$title" "$folder/wanted" "$folder/got"
 }
 
 prints 'the services' <<'TEXT'
@@ -49,4 +43,5 @@ prints 'a service that is not there' shop.Nowhere <<'TEXT'
 error 5: not found
 TEXT
 
+stop
 [ "$failures" = 0 ]

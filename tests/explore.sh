@@ -4,50 +4,49 @@
 # nginx or python3-protobuf is not installed nothing is tested.
 set -u
 cd "$(dirname "$(readlink -f "$0")")/.." || exit 2
-. tests/python.bash
-find_python 'google.protobuf.message'
-if [ -z "$python" ] || ! command -v chromium >/dev/null || ! command -v nginx >/dev/null; then
-    echo 'tests/explore.sh: chromium, nginx or python3-protobuf is not installed, so the page was not shown'
-    exit 0
-fi
+. tests/common.bash
+needs chromium nginx
+find_python google.protobuf.message || skip 'Python with protobuf'
 . tests/serving.bash
-gateway=
-trap 'for process in $gateway $server; do kill "$process" 2>/dev/null; done; rm -rf "$folder"' EXIT
-failures=0
+. tests/nginx.bash
 
-fail() {
-    echo "tests/explore.sh: $1"
-    failures=$((failures + 1))
-}
-
-# opens FILE: an nginx with the routes of the guide's first block for nginx at a free port, which `page` names; the page is its own.
+# opens: an nginx with the routes of the guide's first block for nginx at a free port, which `page` names; the page is its own. It takes
+# half a minute for the file `held`.
 opens() {
     local turn
-    mkdir "$folder/nginx" || exit 2
+    {
+        sed -n '/^```nginx$/,/^```$/p' docs/GUIDE.md | sed '1d; /^```$/,$d' | sed "s/:8080/:$port/; s|/srv/pages|$folder/pages|"
+        echo "location = /held { root $folder/pages; limit_rate 10; }"
+    } >"$folder/routes"
     for ((turn = 0; turn < 20; turn++)); do
         page=127.0.0.1:$((20000 + RANDOM % 12000))
-        {
-            echo 'daemon off; pid pid; error_log log; events {}'
-            # As root, nginx would read the page as a user who may not enter this folder.
-            [ "$(id -u)" != 0 ] || echo 'user root;'
-            echo 'http { access_log off; client_body_temp_path a; proxy_temp_path b; fastcgi_temp_path c; uwsgi_temp_path d;'
-            echo "scgi_temp_path e; server { listen $page;"
-            sed -n '/^```nginx$/,/^```$/p' docs/GUIDE.md | sed '1d; /^```$/,$d' | sed "s/:8080/:$port/; s|/srv/pages|$folder/pages|"
-            echo '} }'
-        } >"$folder/nginx/conf"
-        nginx -p "$folder/nginx" -c "$folder/nginx/conf" 2>"$folder/nginx/faults" &
-        gateway=$!
-        sleep 0.3
-        kill -0 "$gateway" 2>/dev/null && return
+        ! open_gateway "$page" "$folder/routes" || return 0
     done
-    echo "tests/explore.sh: nginx was not started: $(<"$folder/nginx/faults")"
+    echo "$0: nginx was not started: $(<"$folder/nginx/faults")"
     exit 1
 }
 
-# shows SYMBOL: the page of a symbol, as a browser has it when all has come.
+# The page, with a mark that it has shown all. Chromium prints a page when its virtual time has run out, which stands still only while a
+# request is under way: here one is until the mark is there.
+write_page() {
+    local held='const held = new AbortController(); fetch("held", { cache: "no-store", signal: held.signal }).catch(() => {});'
+    sed 's/^await follow();$/&\ndocument.documentElement.dataset.shown = "all";\nheld.abort();/' examples/clients/explore.html
+    echo "<script>$held</script>"
+}
+
+# shows SYMBOL: the page of a symbol, as a browser has it when it has shown all, in the file `shown.html`. With a number of its own it
+# comes from nginx, and not from what the browser kept. A browser that ends too soon is started again, three times in all.
 shows() {
-    timeout 60 chromium --headless --no-sandbox --disable-gpu --no-proxy-server --user-data-dir="$folder/chromium" \
-        --virtual-time-budget=10000 --dump-dom "http://$page/explore.html#$1" 2>"$folder/chromium_faults"
+    local turn
+    for ((turn = 0; turn < 3; turn++)); do
+        visits=$((visits + 1))
+        timeout 60 chromium --headless --no-sandbox --disable-gpu --no-proxy-server --user-data-dir="$folder/chromium" \
+            --virtual-time-budget=10000 --dump-dom "http://$page/explore.html?$visits#$1" >"$folder/shown.html" 2>"$folder/chromium_faults"
+        ! grep -q '<html[^>]* data-shown="all"' "$folder/shown.html" || return 0
+    done
+    fail "the page of '$1' has not shown all. It had: $("$python" "$folder/parts.py" "$folder/unshown" <"$folder/shown.html")
+$(tail -n 3 "$folder/chromium_faults")"
+    exit 1
 }
 
 # Of a page on standard input: its services, shown and hidden, what it says, and its files, whose text goes to the folder that is named.
@@ -113,51 +112,58 @@ shown, whole = map(files, sys.argv[1:])
 print(*[name for name in shown if shown[name] != whole[name]], sep="\n", end="")
 PYTHON
 
-# pages: what the page of each of these symbols has, once, in the order of names.
+# pages SYMBOLS: what the pages of these symbols have, once, in the order of names, in the file `all`.
 pages() {
     local symbol
+    : >"$folder/parts"
     for symbol in "$@"; do
-        shows "$symbol" | "$python" "$folder/parts.py" "$folder/shown" || tail -n 3 "$folder/chromium_faults"
-    done | sort -u
+        shows "$symbol"
+        "$python" "$folder/parts.py" "$folder/shown" <"$folder/shown.html" >>"$folder/parts" || fail "the page of '$symbol' is no page"
+    done
+    sort -u "$folder/parts" >"$folder/all"
 }
 
-# differ TITLE: where `wanted` and `got` do, that is told.
-differ() {
-    diff "$folder/wanted" "$folder/got" >"$folder/differ" || fail "$1: $(<"$folder/differ")"
-}
-
-mkdir "$folder/shown" "$folder/pages" || exit 2
-cp examples/clients/explore.html "$folder/pages" || exit 2
+mkdir "$folder/shown" "$folder/unshown" "$folder/pages" || exit 2
+write_page >"$folder/pages/explore.html"
+if [ "$(grep -c '^held[.]abort' "$folder/pages/explore.html")" != 1 ]; then
+    fail 'explore.html ends in another way, and has no place for the mark'
+    exit 1
+fi
+head -c 50 /dev/zero >"$folder/pages/held"
+visits=0
 start --root examples
 opens
 services=(shop.catalog.CatalogService shop.orders.OrderService shop.reports.v1.ReportService tour.Guide tour.Nobody)
-pages "${services[@]}" >"$folder/got"
+pages "${services[@]}"
 {
     printf 'file: %s\n' shop/catalog/catalog_service.proto shop/catalog/product.proto shop/customers/customer.proto \
         shop/money/money.proto shop/orders/order.proto shop/orders/order_service.proto shop/reports/v1/report_service.proto shop/shop.proto \
         shop/time/timestamp.proto tour/enums.proto tour/fields.proto tour/tour.proto
     printf 'service: %s\n' "${services[@]}"
 } >"$folder/wanted"
-differ 'the pages of all services'
+same 'the pages of all services' "$folder/wanted" "$folder/all"
 
 "$program" compile --root "$folder/shown" >"$folder/shown.pb" || fail 'the text of the files does not compile'
 "$program" compile --root examples >"$folder/examples.pb"
-[ -z "$("$python" "$folder/compare.py" "$folder/shown.pb" "$folder/examples.pb" 2>&1 | tee "$folder/got")" ] \
-    || fail "files whose text means something else: $(<"$folder/got")"
+"$python" "$folder/compare.py" "$folder/shown.pb" "$folder/examples.pb" >"$folder/got" 2>&1
+[ ! -s "$folder/got" ] || fail "files whose text means something else: $(<"$folder/got")"
 
-pages '' none | grep -v '^service' >"$folder/got"
+pages '' none
+grep -v '^service' "$folder/all" >"$folder/got"
 printf 'says: %s\n' 'Choose a service.' 'No answer: error 5: not found' >"$folder/wanted"
-differ 'the first page, and the page of a symbol that is none'
+same 'the first page, and the page of a symbol that is none' "$folder/wanted" "$folder/got"
 
 echo '<script type="module">const filter = document.querySelector("input"); filter.value = "GUI"; filter.dispatchEvent(new Event("input"));</script>' \
     >>"$folder/pages/explore.html"
-pages '' | grep -v '^says' >"$folder/got"
+pages ''
+grep -v '^says' "$folder/all" >"$folder/got"
 printf '%s\n' "${services[@]/#/hidden: }" | grep -v Guide >"$folder/wanted"
 echo 'service: tour.Guide' >>"$folder/wanted"
-differ 'the services that a filter leaves'
+same 'the services that a filter leaves' "$folder/wanted" "$folder/got"
 
 stop
-pages '' >"$folder/got"
+pages ''
 echo 'says: No answer: HTTP status 502' >"$folder/wanted"
-differ 'the page without a service'
+same 'the page without a service' "$folder/wanted" "$folder/all"
+close_gateway
 [ "$failures" = 0 ]

@@ -5,12 +5,11 @@
 set -u
 cd "$(dirname "$(readlink -f "$0")")/.." || exit 2
 . tests/common.bash
+find_program
 entries=0
 
-has_protoc=0
-if command -v protoc >/dev/null && [ "$(protoc --version)" = 'libprotoc 3.21.12' ]; then
-    has_protoc=1
-fi
+with_protoc=
+has_protoc 'what it says of the sources was not compared' && with_protoc=1
 
 # Each entry's parts in files of its number: the source or the commands, the line, and what protoc says.
 awk -v folder="$folder" '
@@ -49,7 +48,7 @@ while read -r number title; do
     elif [ "$status" != 1 ] || [ -s "$folder/out" ] || ! cmp -s "$folder/err" "$folder/$number.line"; then
         fail "$title: status $status, $(head -n 1 "$folder/err")"
     fi
-    if [ "$has_protoc" = 1 ] && [ -f "$folder/$number.protoc" ]; then
+    if [ -n "$with_protoc" ] && [ -f "$folder/$number.protoc" ]; then
         (cd "$root" && protoc -I. --descriptor_set_out=/dev/null *.proto) 2>&1 | grep -iv warning | head -n 1 >"$folder/said"
         [ -s "$folder/said" ] || echo >"$folder/said"
         cmp -s "$folder/said" "$folder/$number.protoc" || fail "$title: protoc says $(<"$folder/said")"
@@ -85,5 +84,5 @@ done <"$folder/kinds"
 # The kinds of the program are those of the page, in their order.
 sed -n '/^pub enum Kind {/,/^}/s/^    \([A-Z][A-Za-z0-9]*\) = .*/\1/p' crates/proto_base/src/kind.rt | sort >"$folder/named"
 sed -n 's/^### //p' docs/FAULTS.md | grep -v ' ' | sort | diff "$folder/named" - || fail 'other kinds than the program has'
-echo "tests/faults.sh: $entries entries"
-[ "$failures" = 0 ]
+echo "$0: $entries entries"
+[ "$entries" -gt 0 ] && [ "$failures" = 0 ]

@@ -3,6 +3,7 @@
 set -u
 cd "$(dirname "$(readlink -f "$0")")/.." || exit 2
 . tests/common.bash
+find_program
 sources=$folder/sources
 rows=0
 line=0
@@ -22,12 +23,11 @@ compile_folder() {
         # shellcheck disable=SC2086
         "$program" compile --root "$sources" $plan >"$folder/set" 2>"$folder/faults"
         local got=$? got_set got_faults
-        got_set=$(od -An -v -tx1 "$folder/set" | tr -d ' \n')
+        got_set=$(to_hex "$folder/set")
         IFS= read -r -d '' got_faults <"$folder/faults"
         if [ "$got" != "$status" ] || [ "$got_set" != "$set" ] || [ "$got_faults" != "$faults" ]; then
-            echo "tests/folders.txt, the folder before line $line, $plan: wanted $wanted"
+            fail "tests/folders.txt, the folder before line $line, $plan: wanted $wanted"
             echo "  status $got: $got_set $got_faults"
-            failures=$((failures + 1))
         fi
     done
     rm -rf "$sources"

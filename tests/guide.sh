@@ -4,7 +4,8 @@
 set -u
 cd "$(dirname "$(readlink -f "$0")")/.." || exit 2
 . tests/page.bash
-ln -s "$(readlink -f "$program")" "$folder/path/schema_server" || exit 2
+. tests/nginx.bash
+ln -s "$program" "$folder/path/schema_server" || exit 2
 blocks docs/GUIDE.md
 
 # through PATH WORDS..: the status of a request with these words of curl through nginx; its headers and body go to `head` and `got`.
@@ -22,23 +23,13 @@ allows() {
 # routed FILE: the page's routes in an nginx before the service, which then gets both paths, and no other. Where they answer OPTIONS,
 # pages of another origin may read what comes.
 routed() {
-    local path turn=0
-    rm -rf "$folder/nginx"
-    mkdir "$folder/nginx" || exit 2
+    local path
     start --root examples
     {
-        echo 'daemon off; pid pid; error_log log; events {}'
-        echo 'http { access_log off; client_body_temp_path a; proxy_temp_path b; fastcgi_temp_path c; uwsgi_temp_path d; scgi_temp_path e;'
-        echo "server { listen unix:$folder/nginx/socket; location / { return 404; }"
+        echo 'location / { return 404; }'
         sed "s/:8080/:$port/" "$1"
-        echo '} }'
-    } >"$folder/nginx/conf"
-    nginx -p "$folder/nginx" -c "$folder/nginx/conf" 2>"$folder/nginx/faults" &
-    local gateway=$!
-    until [ -S "$folder/nginx/socket" ] || [ "$turn" = 100 ]; do
-        turn=$((turn + 1))
-        sleep 0.05
-    done
+    } >"$folder/routes"
+    open_gateway "unix:$folder/nginx/socket" "$folder/routes" || fail "nginx was not started: $(<"$folder/nginx/faults")"
     printf '\0\0\0\0\2:\0' >"$folder/request"
     "$program" answer --root examples <"$folder/request" >"$folder/wanted"
     for path in v1 v1alpha; do
@@ -51,18 +42,15 @@ routed() {
         fi
     done
     [ "$(through other)" = 404 ] || fail "another path through nginx: $(<"$folder/nginx/faults")"
-    kill "$gateway"
-    wait "$gateway" 2>/dev/null
+    close_gateway
     stop
 }
 
-for routes in "$folder"/blocks/*.nginx; do
-    if command -v nginx >/dev/null && command -v curl >/dev/null; then
+if has nginx 'its routes were not tried' && has curl 'the routes of nginx were not tried'; then
+    for routes in "$folder"/blocks/*.nginx; do
         routed "$routes"
-    else
-        echo "$0: nginx or curl is not installed, so its routes were not tried"
-    fi
-done
+    done
+fi
 
 mkdir "$folder/try" && cp -r examples tests "$folder/try" || exit 2
 follow "$folder/try"

@@ -3,7 +3,7 @@
 # the set of a folder that holds just the files that are wanted, and with protoc's where protoc 3.21.12 is installed.
 set -u
 cd "$(dirname "$(readlink -f "$0")")/.." || exit 2
-. tests/common.bash
+. tests/users.bash
 rows=0
 cd "$folder" || exit 2
 
@@ -125,9 +125,8 @@ compiles merged --root linked --include places --include later
 rmdir places/b.proto && mkfifo places/b.proto
 ends 3 'device: folder' --root linked --include places
 rm places/b.proto && cp shared/r.proto places/b.proto && chmod 0 places/b.proto
-if command -v setpriv >/dev/null && [ "$(id -u)" = 0 ]; then
-    chmod 755 "$folder"
-    setpriv --reuid 65534 --regid 65534 --clear-groups "$program" compile --root linked --include places >got.pb 2>got.err
+if become_ordinary 'a file that may not be read was not tried'; then
+    "${as_user[@]}" "$program" compile --root linked --include places >got.pb 2>got.err
     got=$?
     [ "$got" = 3 ] && [ "$(<got.err)" = 'device: folder' ] || fail "a file that may not be read: status $got, $(<got.err)"
 fi
@@ -147,15 +146,13 @@ got=$?
 
 # ---- protoc takes the same files by the same folders
 
-if command -v protoc >/dev/null && [ "$(protoc --version)" = 'libprotoc 3.21.12' ]; then
+if has_protoc 'nothing was compared with it'; then
     protoc -Iprotos -Ifirst -Isecond --include_imports --descriptor_set_out=protoc.pb a.proto || fail 'protoc refuses it'
     "$program" compile --root protos --include first --include second a.proto >got.pb
     for set in protoc.pb got.pb; do
         protoc --decode=google.protobuf.FileDescriptorSet google/protobuf/descriptor.proto <"$set" | grep -E '^  (name|dependency)' | sort >"$set.names"
     done
     cmp -s protoc.pb.names got.pb.names || fail 'protoc takes other files'
-else
-    echo 'tests/include.sh: protoc 3.21.12 is not installed, so nothing was compared with it'
 fi
-echo "tests/include.sh: $rows rows"
+echo "$0: $rows rows"
 [ "$failures" = 0 ]

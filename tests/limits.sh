@@ -4,6 +4,7 @@
 set -u
 cd "$(dirname "$(readlink -f "$0")")/.." || exit 2
 . tests/common.bash
+find_program
 head='syntax = "proto3"; '
 
 # compiles TITLE WANTED ROOT: the folder's fault, or that it has none where nothing is wanted.
@@ -109,11 +110,12 @@ compiles 'a chain of 512 files' '' "$folder/chain"
 # The name is the descriptor's first field, and stands after the tag and the length of each.
 grep -aoE $'\v\vf[0-9]{3}\.proto' <(tr '\n' '\v' <"$folder/set") | grep -o 'f[0-9]*\.proto' >"$folder/order"
 seq 511 -1 0 | awk '{ printf "f%03d.proto\n", $1 }' | cmp - "$folder/order" || fail 'the order of a chain'
-printf '\0\0\0\0\x0c\x1a\nf000.proto' | "$program" answer --root "$folder/chain" >"$folder/response"
-cc -O1 -o "$folder/split_frames" tests/split_frames.c || exit 2
-mkdir "$folder/split"
-"$folder/split_frames" "$folder/split" <"$folder/response" >"$folder/trailers" || fail 'the response to a chain is no row of frames'
-if command -v protoc >/dev/null; then
+if has cc 'the response to a chain was not looked at'; then
+    cc -O1 -o "$folder/split_frames" tests/split_frames.c && mkdir "$folder/split" || exit 2
+    frame 3 f000.proto | "$program" answer --root "$folder/chain" | "$folder/split_frames" "$folder/split" >"$folder/trailers" ||
+        fail 'the response to a chain is no row of frames'
+fi
+if [ -d "$folder/split" ] && has protoc 'the reply for a chain was not decoded'; then
     protoc --proto_path=tests --decode=grpc.reflection.v1.ServerReflectionResponse reflection.proto <"$folder/split/1" |
         grep -oE '\\n\\nf[0-9]{3}\.proto' | cut -c5- >"$folder/sent"
     { echo f000.proto; seq 511 -1 1 | awk '{ printf "f%03d.proto\n", $1 }'; } | cmp - "$folder/sent" || fail 'the files of a chain'

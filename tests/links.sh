@@ -3,23 +3,11 @@
 # it lies, and no run waits for a pipe. What may not be read is seen as an ordinary user, since root may read everything.
 set -u
 cd "$(dirname "$(readlink -f "$0")")/.." || exit 2
-export LC_ALL=C
-umask 022
-folder=$(mktemp -d) || exit 2
-trap 'rm -rf "$folder"' EXIT
-chmod 755 "$folder"
-./schema_server --help >/dev/null || exit 1
-program=$folder/program
-cp crates/schema_server/out/schema_server "$program" || exit 2
-failures=0
+. tests/users.bash
 runs=0
 # The sets of a.proto alone, and of p/b.proto and the a.proto that imports it, by hand.
 alone=0a240a07612e70726f746f22110a0141120c0a0178180120012805520178620670726f746f33
 imported=0a1b0a09702f622e70726f746f12017032030a0153620670726f746f330a1c0a07612e70726f746f1a09702f622e70726f746f620670726f746f33
-
-# Who runs the program: the user of this script, and then an ordinary one.
-user=$(id -u)
-as_user=()
 
 # place TITLE: goes to a new folder with one source, beside which lies another folder with one.
 place() {
@@ -36,10 +24,9 @@ ends() {
     "${as_user[@]}" timeout 10 "$program" compile --root . >"$folder/set" 2>"$folder/faults"
     got=$?
     line=$(head -n 1 "$folder/faults")
-    set=$(od -An -v -tx1 "$folder/set" | tr -d ' \n')
+    set=$(to_hex "$folder/set")
     if [ "$got" != "$1" ] || [ "$line" != "$2" ] || [ "$set" != "$3" ]; then
-        echo "tests/links.sh: as user $user: $title: status $got, $line, $set"
-        failures=$((failures + 1))
+        fail "as user $user: $title: status $got, $line, $set"
     fi
 }
 
@@ -160,17 +147,12 @@ closed() {
 circles
 followed
 devices
-if [ "$user" != 0 ]; then
+if become_ordinary 'what may not be read was not tried'; then
+    if [ "${#as_user[@]}" != 0 ]; then
+        circles
+        followed
+        devices
+    fi
     closed
-elif setpriv --reuid=65534 --regid=65534 --clear-groups true 2>/dev/null; then
-    user=65534
-    as_user=(setpriv --reuid="$user" --regid="$user" --clear-groups)
-    circles
-    followed
-    devices
-    closed
-else
-    echo "$0: there is no setpriv to run as an ordinary user, so what may not be read was not tried"
 fi
-cd /
 [ "$failures" = 0 ]

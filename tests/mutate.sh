@@ -6,21 +6,17 @@
 # usage: tests/mutate.sh [SECONDS [FIRST_SEED]]
 set -u
 cd "$(dirname "$(readlink -f "$0")")/.." || exit 2
-folder=$(mktemp -d) || exit 2
+. tests/common.bash
+needs cc
+find_program
 keep=
 trap '[ -n "$keep" ] || rm -rf "$folder"' EXIT
-LC_ALL=C
 seconds=${1:-120}
 seed=${2:-1}
-./schema_server --help >/dev/null || exit 1
-program=$PWD/crates/schema_server/out/schema_server
 cc -O1 -o "$folder/mutate" tests/mutate.c || exit 2
 cc -O1 -o "$folder/split_set" tests/split_set.c || exit 2
-has_protoc=0
-if command -v protoc >/dev/null; then
-    has_protoc=1
-fi
-failures=0
+with_protoc=
+has protoc 'nothing was compared with its bytes' && with_protoc=1
 
 # run NAME WORD..: the program's output, what it prints, and its status, in files of this name; five seconds.
 run() {
@@ -30,21 +26,21 @@ run() {
     echo $? >"$folder/$name.status"
 }
 
-fail() {
-    echo "tests/mutate.sh: seed $seed: $1 (kept in $folder)"
-    failures=$((failures + 1))
+# wrong WHAT: what is wrong with what this seed made, which stays in its folder.
+wrong() {
+    fail "seed $seed: $1 (kept in $folder)"
     keep=1
 }
 
-# same WORDS: whether one worker and four gave the same, and ended well.
-same() {
+# agree COMMAND: whether one worker and four gave the same, and ended well.
+agree() {
     local status
     status=$(<"$folder/one.status")
     if [ "$status" -ge 124 ]; then
-        fail "$1 ended with $status"
+        wrong "$1 ended with $status"
     fi
     cmp -s "$folder/one.out" "$folder/four.out" && cmp -s "$folder/one.err" "$folder/four.err" \
-        && cmp -s "$folder/one.status" "$folder/four.status" || fail "$1: four workers gave something else than one"
+        && cmp -s "$folder/one.status" "$folder/four.status" || wrong "$1: four workers gave something else than one"
 }
 
 # A source that compiles, beside protoc's bytes for each file.
@@ -62,13 +58,10 @@ beside_protoc() {
     "$folder/split_set" "$folder/one.out" "$folder/ours_split" >/dev/null
     "$folder/split_set" "$folder/theirs" "$folder/theirs_split" >/dev/null
     diff -rq "$folder/ours_split" "$folder/theirs_split" >"$folder/differences" \
-        || fail "other bytes than protoc's: $(head -n 1 "$folder/differences")"
+        || wrong "other bytes than protoc's: $(head -n 1 "$folder/differences")"
 }
 
 # A body with a request for services, every file and a symbol.
-frame() {
-    printf "\\x00\\x00\\x00\\x00\\x$(printf %02x $((${#2} + 2)))\\x$(printf %02x $(($1 * 8 + 2)))\\x$(printf %02x ${#2})%s" "$2"
-}
 {
     frame 7 ''
     while IFS= read -r name; do
@@ -82,6 +75,8 @@ compiled=0
 bodies=0
 runs=0
 : >"$folder/refused"
+# The time of a build does not count.
+SECONDS=0
 while [ "$SECONDS" -lt "$seconds" ] && [ "$failures" -lt 5 ]; do
     source=${sources[$((seed % ${#sources[@]}))]}
     other=${sources[$((seed / 7 % ${#sources[@]}))]}
@@ -91,28 +86,28 @@ while [ "$SECONDS" -lt "$seconds" ] && [ "$failures" -lt 5 ]; do
     : >"$folder/input"
     run one compile --root "$folder/root" --workers 1 --cut 1
     run four compile --root "$folder/root" --workers 4 --cut 1
-    same 'compile'
+    agree compile
     if [ "$(<"$folder/one.status")" = 0 ]; then
         compiled=$((compiled + 1))
-        if [ "$has_protoc" = 1 ]; then
+        if [ -n "$with_protoc" ]; then
             beside_protoc
         fi
     fi
     "$folder/mutate" "$seed" "$folder/body" >"$folder/input"
     run one answer --root examples --workers 1 --cut 1
     run four answer --root examples --workers 4 --cut 1
-    same 'answer'
+    agree answer
     if [ "$(<"$folder/one.status")" = 0 ]; then
         bodies=$((bodies + 1))
     else
-        fail "answer ended with $(<"$folder/one.status")"
+        wrong "answer ended with $(<"$folder/one.status")"
     fi
     seed=$((seed + 1))
     runs=$((runs + 1))
 done
-echo "tests/mutate.sh: $runs sources, $compiled of them compiled; $bodies bodies answered"
+echo "$0: $runs sources, $compiled of them compiled; $bodies bodies answered"
 if [ -s "$folder/refused" ]; then
     echo "protoc refused $(wc -l <"$folder/refused") sources that compile:"
     sort "$folder/refused" | uniq -c | sort -rn
 fi
-[ "$failures" = 0 ]
+[ "$runs" -gt 0 ] && [ "$failures" = 0 ]

@@ -4,29 +4,15 @@
 # root may write everything.
 set -u
 cd "$(dirname "$(readlink -f "$0")")/.." || exit 2
-export LC_ALL=C
-umask 022
-folder=$(mktemp -d) || exit 2
-trap 'rm -rf "$folder"' EXIT
-chmod 755 "$folder"
-./schema_server --help >/dev/null || exit 1
-program=$folder/program
-cp crates/schema_server/out/schema_server "$program" || exit 2
-failures=0
+. tests/users.bash
 mkdir "$folder/sources"
 printf 'syntax = "proto3"; message A { int32 x = 1; }' >"$folder/sources/a.proto"
 # The set, by hand.
-digits=0a240a07612e70726f746f22110a0141120c0a0178180120012805520178620670726f746f33
-printf '%b' "$(sed 's/../\\x&/g' <<<"$digits")" >"$folder/set"
-
-# Who runs the program: the user of this script, and then an ordinary one.
-user=$(id -u)
-as_user=()
+from_hex 0a240a07612e70726f746f22110a0141120c0a0178180120012805520178620670726f746f33 >"$folder/set"
 
 # failed TITLE: says what is not as it has to be.
 failed() {
-    echo "tests/output.sh: as user $user: $1"
-    failures=$((failures + 1))
+    fail "as user $user: $1"
 }
 
 # place NAME: an empty folder, which is the user's.
@@ -170,11 +156,12 @@ open() {
     # The pipe is that of this script's user.
     if [ ${#as_user[@]} = 0 ]; then
         compile >(cat >"$at/piped") || failed 'an open pipe'
-    else
-        cp "$folder/set" "$at/piped"
+        wait $!
+        cmp "$folder/set" "$at/piped" || failed 'an open pipe'
     fi
     mkfifo -m 666 "$at/pipe"
-    cat "$at/pipe" >"$at/read" &
+    # It ends by itself where nobody writes.
+    timeout 20 cat "$at/pipe" >"$at/read" &
     compile "$at/pipe" || failed 'a pipe'
     wait $!
     cmp "$folder/set" "$at/read" || failed 'a pipe'
@@ -183,8 +170,8 @@ open() {
     compile /dev/null || failed /dev/null
     [ "$(stat -c '%t %T %a' /dev/null)" = "$null" ] || failed '/dev/null is another'
     refused /dev/full /dev/full
-    cmp "$folder/set" "$at/piped" || failed 'an open pipe'
-    holds 'what is open' "$at" log pipe piped read to_output wanted
+    rm -f "$at/piped"
+    holds 'what is open' "$at" log pipe read to_output wanted
 }
 
 # What an ordinary user may not do.
@@ -222,9 +209,7 @@ of_root() {
 files
 links
 open
-if [ "$user" != 0 ]; then
-    ordinary
-elif setpriv --reuid=65534 --regid=65534 --clear-groups "$program" compile --root "$folder/sources" >/dev/null 2>&1; then
+if [ "$user" = 0 ]; then
     # Root writes to a user's file: it stays the user's.
     place of_user
     echo 'what stood there' >"$at/file"
@@ -232,23 +217,23 @@ elif setpriv --reuid=65534 --regid=65534 --clear-groups "$program" compile --roo
     chmod 640 "$at/file"
     written "a user's file" "$at/file"
     [ "$(stat -c '%a %u %g' "$at/file")" = '640 65534 65534' ] || failed "a user's file: $(stat -c '%a %u %g' "$at/file")"
-    user=65534
-    as_user=(setpriv --reuid="$user" --regid="$user" --clear-groups)
-    files
-    links
-    open
+fi
+if become_ordinary 'what may not be written was not tried'; then
+    if [ "${#as_user[@]}" != 0 ]; then
+        files
+        links
+        open
+        of_root
+    fi
     ordinary
-    of_root
-    user=0
+    user=$(id -u)
     as_user=()
-else
-    echo "$0: there is no setpriv to run as an ordinary user, so what may not be written was not tried"
 fi
 # A file that is mounted.
 place mounted
 touch "$at/file" "$at/other"
-export -f compile written written_over failed
-export folder program user failures
+export -f compile written written_over failed fail
+export folder program user
 mount_and_write() {
     as_user=()
     mount --bind "$1/other" "$1/file" && written_over 'a file that is mounted' "$1/file" && umount "$1/file" && [ "$failures" = 0 ]
@@ -256,8 +241,8 @@ mount_and_write() {
 export -f mount_and_write
 # shellcheck disable=SC2016 # the words are the inner shell's
 if ! unshare -rm sh -c 'mount --bind "$0/other" "$0/file"' "$at" 2>/dev/null; then
-    echo "$0: nothing can be mounted here, so a file that is mounted was not tried"
-elif ! unshare -rm bash -c 'failures=0; mount_and_write "$0"' "$at" || ! cmp "$folder/set" "$at/other"; then
+    untried 'way to mount a file' 'one that is mounted was not tried'
+elif ! unshare -rm bash -c 'failures=0; mount_and_write "$1"' "$0" "$at" || ! cmp "$folder/set" "$at/other"; then
     failed 'a file that is mounted'
 fi
 holds 'a file that is mounted' "$at" file other

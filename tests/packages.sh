@@ -4,6 +4,7 @@
 set -u
 cd "$(dirname "$(readlink -f "$0")")/.." || exit 2
 . tests/common.bash
+find_program
 rows=0
 
 # compiles TITLE WANTED SOURCE: what is wrong with the folder where main.proto is this source, or nothing.
@@ -15,8 +16,7 @@ compiles() {
     [ -z "$2" ] || wanted=1
     rows=$((rows + 1))
     if [ "$status" != "$wanted" ] || [ "$faults" != "$2" ]; then
-        echo "tests/packages.sh: $count files, $1: status $status, $faults"
-        failures=$((failures + 1))
+        fail "$count files, $1: status $status, $faults"
     fi
 }
 
@@ -41,5 +41,5 @@ for count in 2 64 65 300; do
     compiles 'a package is no type' 'main.proto:1:52: TypeNotFound' "import \"hub.proto\"; message A { acme.part m = 1; }"
 done
 
-echo "tests/packages.sh: $((rows - failures)) passed, $failures failed"
+echo "$0: $rows rows"
 [ "$failures" = 0 ]

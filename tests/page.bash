@@ -4,17 +4,9 @@
 # made is empty. Where the page's port is taken, a free one stands for it.
 . tests/serving.bash
 . tests/left.bash
-. tests/python.bash
-failures=0
-
-fail() {
-    echo "$0: $1"
-    failures=$((failures + 1))
-}
 
 mkdir "$folder/blocks" "$folder/path" || exit 2
-find_python google.protobuf
-if [ -n "$python" ]; then
+if find_python google.protobuf; then
     printf '#!/bin/sh\nexec %s -B "$@"\n' "$(command -v "$python")" >"$folder/path/python3"
     chmod +x "$folder/path/python3"
 fi
@@ -56,17 +48,17 @@ is_there() {
     g++) command -v g++ && echo '#include <google/protobuf/descriptor.h>' | g++ -E -x c++ - ;;
     go) command -v go && [ -d /usr/share/gocode/src/google.golang.org/protobuf ] ;;
     java) command -v javac && [ -f /usr/share/java/protobuf.jar ] ;;
-    /usr/include/google/protobuf) [ -d "$1" ] ;;
+    /usr/include) [ -d "$1/google/protobuf" ] ;;
     esac >/dev/null 2>&1
 }
 
 # Takes away the blocks for tools that are not installed, and says of which.
 leave_out() {
     local tool block
-    for tool in curl protoc python3 g++ go java make git /usr/include/google/protobuf; do
+    for tool in curl protoc python3 g++ go java make git /usr/include; do
         for block in "$folder"/blocks/*.sh; do
             if grep -qE "(^|[( ])${tool//+/\\+}([ /]|$)" "$block" && ! is_there "$tool"; then
-                echo "$0: $tool or its part of protobuf is not installed, so this was not run: $(head -n 1 "$block")"
+                untried "$tool, or no protobuf for it" "this was not run: $(head -n 1 "$block")"
                 rm "$block"
             fi
         done
@@ -97,7 +89,7 @@ follow() {
             echo "} >'$block.got' 2>&1; echo \$? >'$block.status'"
         done
     } >"$folder/session"
-    timeout 120 bash "$folder/session" </dev/null
+    timeout 600 bash "$folder/session" </dev/null
 
     for ((number = 1; number <= count; number++)); do
         block=$folder/blocks/$number

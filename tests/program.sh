@@ -3,15 +3,15 @@
 set -u
 cd "$(dirname "$(readlink -f "$0")")/.." || exit 2
 . tests/common.bash
+find_program
 point=$folder/point.proto
 printf 'syntax = "proto3"; message A { int32 x = 1; }' >"$point"
 
 # failed TITLE STATUS: prints what the run of this title came to.
 failed() {
-    echo "$1: status $2"
+    fail "$1: status $2"
     echo "  output: $(cat "$folder/output")"
     echo "  faults: $(cat "$folder/faults")"
-    failures=$((failures + 1))
 }
 
 # Command lines that clap explains: a word of what it says, and the command line.
@@ -129,6 +129,15 @@ fi
 "$program" compile --root examples --output /dev/stdout >"$folder/output" 2>"$folder/faults" || failed '--output /dev/stdout' "$?"
 "$program" compile --root examples --output /dev/null || failed '--output /dev/null' "$?"
 [ -c /dev/null ] || failed '/dev/null is no device any more' 1
+
+# ./schema_server hands on its words and its input, and ends as this program does.
+if [ -z "${SCHEMA_SERVER:-}" ]; then
+    ./schema_server describe point.proto <"$point" >"$folder/output" 2>"$folder/faults" || failed './schema_server' "$?"
+    "$program" describe point.proto <"$point" | cmp - "$folder/output" || failed './schema_server' 0
+    ./schema_server compile --root "$folder/none" >"$folder/output" 2>"$folder/faults"
+    got=$?
+    [ "$got" = 3 ] && [ "$(<"$folder/faults")" = 'device: folder' ] || failed './schema_server over no folder' "$got"
+fi
 
 # A root by another way to it.
 printf 'syntax = "proto3"; import "p/c.proto";' >"$folder/sources/p/d.proto"

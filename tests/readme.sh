@@ -3,14 +3,13 @@
 # there. An rt that only fails shows that nothing is proved anew.
 set -u
 cd "$(dirname "$(readlink -f "$0")")/.." || exit 2
-if ! git rev-parse -q --verify HEAD >/dev/null 2>&1; then
-    echo "$0: no git, or no commit of it here, so README.md was not followed"
-    exit 0
-fi
+. tests/common.bash
+needs git
+git rev-parse -q --verify HEAD >/dev/null 2>&1 || skip 'commit that could be cloned'
 . tests/page.bash
 blocks README.md
 git clone -q . "$folder/try" && mkdir -p "$folder/try/crates/schema_server/out" || exit 2
-cp "$(readlink -f "$program")" "$folder/try/crates/schema_server/out/schema_server" || exit 2
+cp "$program" "$folder/try/crates/schema_server/out/schema_server" || exit 2
 printf '#!/bin/sh\nexit 2\n' >"$folder/path/rt" && chmod +x "$folder/path/rt" || exit 2
 follow "$folder/try"
 [ "$failures" = 0 ]

@@ -3,39 +3,34 @@
 # refused start of a thread changes nothing.
 set -u
 cd "$(dirname "$(readlink -f "$0")")/.." || exit 2
-folder=$(mktemp -d) || exit 2
-trap 'rm -rf "$folder"' EXIT
+. tests/common.bash
+needs cc
+find_program
 cc -shared -fPIC -O1 -o "$folder/refuse.so" tests/refused_memory.c -ldl || exit 2
-./schema_server --help >/dev/null 2>&1
-program=crates/schema_server/out/schema_server
-failures=0
 
 # sweep WHAT STATUS OUTPUT FAULTS INPUT WORD..: as without a refusal, or out of memory, at each allocation (REFUSE_AT); at each
 # start of a thread (REFUSE_THREAD_AT) as without a refusal. OUTPUT and INPUT are written with printf's escapes.
 sweep() {
-    local what=$1 status=$2 faults=$4 input=$5 at=1
+    local what=$1 status=$2 faults=$4 input=$5 at got as_usual no_memory
     printf '%b' "$3" >"$folder/wanted"
     shift 5
-    while [ "$at" -le 9000 ]; do
-        printf '%b' "$input" | env "$what=$at" LD_PRELOAD="$folder/refuse.so" "$program" "$@" >"$folder/output" 2>"$folder/faults" 9>"$folder/refused"
-        local got=$?
-        local as_usual=0 no_memory=0
-        [ "$got" = "$status" ] && cmp -s "$folder/wanted" "$folder/output" && [ "$(cat "$folder/faults")" = "$faults" ] && as_usual=1
-        [ "$what" = REFUSE_AT ] && [ "$got" = 4 ] && [ ! -s "$folder/output" ] && [ "$(cat "$folder/faults")" = "out of memory" ] && no_memory=1
+    for ((at = 1; at <= 9000; at++)); do
+        printf '%b' "$input" |
+            env "$what=$at" LD_PRELOAD="$folder/refuse.so" "$program" "$@" >"$folder/output" 2>"$folder/faults" 9>"$folder/refused"
+        got=$?
+        as_usual=0 no_memory=0
+        [ "$got" = "$status" ] && cmp -s "$folder/wanted" "$folder/output" && [ "$(<"$folder/faults")" = "$faults" ] && as_usual=1
+        [ "$what" = REFUSE_AT ] && [ "$got $(<"$folder/faults")" = '4 out of memory' ] && [ ! -s "$folder/output" ] && no_memory=1
         if [ ! -s "$folder/refused" ]; then
-            [ "$as_usual" = 1 ] && return
-            echo "$*: without a refusal: status $got, $(cat "$folder/faults")"
-            failures=$((failures + 1))
+            [ "$as_usual" = 1 ] || fail "$*: without a refusal: status $got, $(<"$folder/faults")"
+            [ "$at" -gt 1 ] || fail "$*: $what: nothing was refused"
             return
         fi
         if [ "$as_usual" = 0 ] && [ "$no_memory" = 0 ]; then
-            echo "$*: $what=$at: status $got, $(wc -c <"$folder/output") bytes of output, faults '$(cat "$folder/faults")'"
-            failures=$((failures + 1))
+            fail "$*: $what=$at: status $got, $(wc -c <"$folder/output") bytes of output, faults '$(<"$folder/faults")'"
         fi
-        at=$((at + 1))
     done
-    echo "$*: no end after 9,000"
-    failures=$((failures + 1))
+    fail "$*: no end after 9,000"
 }
 
 P='syntax = "proto3"; '
@@ -61,10 +56,9 @@ sweep REFUSE_AT 0 "$set" '' '' compile --root "$folder/sources" --workers 2 --cu
 mkdir "$folder/written"
 sweep REFUSE_AT 0 '' '' '' compile --root "$folder/sources" --workers 1 --output "$folder/written/set.pb"
 if [ "$(ls -A "$folder/written")" != set.pb ] || ! printf '%b' "$set" | cmp - "$folder/written/set.pb"; then
-    echo "a set that goes to a file: $(ls -A "$folder/written")"
-    failures=$((failures + 1))
+    fail "a set that goes to a file: $(ls -A "$folder/written")"
 fi
-sweep REFUSE_AT 0 "$(./schema_server explain TooDeep | sed 's/\\/\\\\/g')"'\n' '' '' explain TooDeep
+sweep REFUSE_AT 0 "$("$program" explain TooDeep | sed 's/\\/\\\\/g')"'\n' '' '' explain TooDeep
 sweep REFUSE_AT 1 '' 'a.proto:1:27: ImportMissing' '' compile --root "$folder/bad" --workers 1
 # A report; tests/check.sh shows that it is right.
 "$program" check --root "$folder/bad" --workers 1 >"$folder/report"
@@ -81,10 +75,10 @@ sweep REFUSE_THREAD_AT 0 "$reply$reply"'\0200\0\0\0\017grpc-status:0\r\n' '' "$b
 # The examples by four workers, and a body that asks for each of their files: the bytes are those of a run without a refusal,
 # which tests/examples.sh and tests/answers.sh show to be right.
 printf_bytes() {
-    od -An -v -tx1 "$1" | tr -d ' \n' | sed 's/../\\x&/g'
+    to_hex "$1" | sed 's/../\\x&/g'
 }
 while IFS= read -r name; do
-    printf "\\x00\\x00\\x00\\x00\\x$(printf %02x $((${#name} + 2)))\\x1a\\x$(printf %02x ${#name})%s" "$name"
+    frame 3 "$name"
 done <tests/examples/order >"$folder/body"
 "$program" compile --root examples --workers 1 >"$folder/set"
 "$program" answer --root examples --workers 1 <"$folder/body" >"$folder/response"

@@ -3,37 +3,32 @@
 # changes nothing: its share runs on the calling thread. A refused allocation ends the program, without a result.
 set -u
 cd "$(dirname "$(readlink -f "$0")")/.." || exit 2
-folder=$(mktemp -d) || exit 2
-trap 'rm -rf "$folder"' EXIT
+. tests/common.bash
+needs cc
 cc -shared -fPIC -O1 -o "$folder/refuse.so" tests/refused_memory.c -ldl || exit 2
-program=crates/bench_shares/out/bench_shares
-if [ ! -x "$program" ]; then
-    (cd crates/bench_shares && rt run) >/dev/null 2>&1
-fi
-usual=$(cat crates/bench_shares/stdout)
-failures=0
+find_built bench_shares
+usual=$(<crates/bench_shares/stdout)
 
 # sweep NAME: refuses what the variable counts, one after the other, until there is nothing to refuse.
 sweep() {
-    local name=$1 at=1
-    while [ "$at" -le 2000 ]; do
+    local name=$1 at got as_usual ended
+    for ((at = 1; at <= 2000; at++)); do
         env "$name=$at" LD_PRELOAD="$folder/refuse.so" "$program" >"$folder/output" 2>"$folder/faults" 9>"$folder/refused"
-        local got=$?
-        local as_usual=0 ended=0
-        [ "$got" = 0 ] && [ "$(cat "$folder/output")" = "$usual" ] && as_usual=1
-        [ "$name" = REFUSE_AT ] && [ "$got" != 0 ] && [ "$got" -lt 128 ] && [ ! -s "$folder/output" ] && ended=1
+        got=$?
+        as_usual=0 ended=0
+        [ "$got" = 0 ] && [ "$(<"$folder/output")" = "$usual" ] && as_usual=1
+        # Only a refusal may end it.
+        [ "$name" = REFUSE_AT ] && [ -s "$folder/refused" ] && [ "$got" != 0 ] && [ "$got" -lt 128 ] && [ ! -s "$folder/output" ] && ended=1
         if [ "$as_usual" = 0 ] && [ "$ended" = 0 ]; then
-            echo "$name=$at: status $got, output '$(cat "$folder/output")', faults '$(cat "$folder/faults")'"
-            failures=$((failures + 1))
+            fail "$name=$at: status $got, output '$(<"$folder/output")', faults '$(<"$folder/faults")'"
         fi
         if [ ! -s "$folder/refused" ]; then
             echo "$name: $((at - 1)) refused"
+            [ "$at" -gt 1 ] || fail "$name: nothing was refused"
             return
         fi
-        at=$((at + 1))
     done
-    echo "$name: no end after 2,000"
-    failures=$((failures + 1))
+    fail "$name: no end after 2,000"
 }
 
 sweep REFUSE_AT

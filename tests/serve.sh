@@ -3,25 +3,13 @@
 # thousands of requests in a row. Where curl is not installed nothing is tested.
 set -u
 cd "$(dirname "$(readlink -f "$0")")/.." || exit 2
-if ! command -v curl >/dev/null; then
-    echo 'tests/serve.sh: curl is not installed, so the service was not tested'
-    exit 0
-fi
+. tests/common.bash
+needs curl
 . tests/serving.bash
-failures=0
-
-fail() {
-    echo "tests/serve.sh: $1"
-    failures=$((failures + 1))
-}
 
 mkdir "$folder/F" || exit 2
 printf 'syntax = "proto3"; import "b.proto";' | tee "$folder/F/a.proto" >"$folder/F/c.proto"
 printf 'syntax = "proto3"; package p; service S {}' >"$folder/F/b.proto"
-
-bytes() {
-    printf "$(printf '%s' "$1" | tr -d ' ' | sed 's/../\\x&/g')"
-}
 
 v1=/grpc.reflection.v1.ServerReflection/ServerReflectionInfo
 v1alpha=/grpc.reflection.v1alpha.ServerReflection/ServerReflectionInfo
@@ -34,15 +22,15 @@ a='0A 07 61 2E 70 72 6F 74 6F 1A 07 62 2E 70 72 6F 74 6F 62 06 70 72 6F 74 6F 33
 b='0A 07 62 2E 70 72 6F 74 6F 12 01 70 32 03 0A 01 53 62 06 70 72 6F 74 6F 33'
 request_a='1A 07 61 2E 70 72 6F 74 6F'
 reply_a="00 00 00 00 44 12 09 $request_a 22 37 0A 1A $a 0A 19 $b"
-bytes "00 00 00 00 09 $request_a" >"$folder/request"
-bytes "00 00 00 00 09 $request_a 00 00 00 00 09 $request_a" >"$folder/twice"
+from_hex "00 00 00 00 09 $request_a" >"$folder/request"
+from_hex "00 00 00 00 09 $request_a 00 00 00 00 09 $request_a" >"$folder/twice"
 : >"$folder/nothing"
 
 # asks TITLE STATUS BYTES WORDS..: what curl with these words is answered.
 asks() {
     local title=$1 status=$2 wanted=$3 got
     shift 3
-    bytes "$wanted" >"$folder/wanted"
+    from_hex "$wanted" >"$folder/wanted"
     got=$(curl -s -S --max-time 20 -D "$folder/head" -o "$folder/got" -w '%{http_code}' "$@") || fail "$title: curl ended with $?"
     [ "$got" = "$status" ] || fail "$title: status $got"
     cmp "$folder/wanted" "$folder/got" || fail "$title: another body"
@@ -96,7 +84,8 @@ asks 'a request after clients that broke off' 200 "$reply_a $t0" -H "$web" --dat
 
 # Two thousand requests take no more memory than the first hundred.
 row() {
-    curl -s -S -H "$web" --data-binary "@$folder/request" -o "$folder/got" -w '%{http_code}\n' "$url$v1?[1-$1]" >"$folder/codes" || fail 'a row of requests broke off'
+    curl -s -S --max-time 20 -H "$web" --data-binary "@$folder/request" -o "$folder/got" -w '%{http_code}\n' "$url$v1?[1-$1]" \
+        >"$folder/codes" || fail 'a row of requests broke off'
     [ "$(grep -cx 200 "$folder/codes")" = "$1" ] || fail "not $1 answers"
 }
 row 100
@@ -106,17 +95,23 @@ after=$(resident)
 [ "$after" -le $((before + 512)) ] || fail "memory grew from $before kB to $after kB"
 stop
 
+# The service ends by itself, with 0.
+ends_by_itself() {
+    timeout 20 tail -s 0.1 --pid="$server" -f /dev/null || kill "$server"
+    wait "$server" || fail "the service ended with $?"
+    server=
+}
+
 # An end by a count of connections, broken ones among them.
 start --root "$folder/F" --connections 3 --repeat
 exec 3<>"/dev/tcp/127.0.0.1/$port" && printf 'POST' >&3
 exec 3>&-
 asks 'a request twice in mode Repeat' 200 "$reply_a 00 00 00 00 29 12 09 $request_a 22 1C 0A 1A $a $t0" -H "$web" --data-binary "@$folder/twice" "$url$v1"
 asks 'GET' 405 '' "$url$v1"
-wait "$server" || fail "the service ended with $?"
+ends_by_itself
 [ "$(wc -l <"$folder/line")" = 1 ] && [ ! -s "$folder/faults" ] || fail 'more was printed'
 start --root "$folder/F" --connections 0
-wait "$server" || fail "the service without connections ended with $?"
-server=
+ends_by_itself
 
 # ends STATUS LINE WORDS..: how the service with these words ends.
 ends() {
@@ -135,10 +130,10 @@ ends 2 '--listen' --root "$folder/F"
 ends 2 '--connections' --root "$folder/F" --listen 127.0.0.1:0 --connections many
 printf 'syntax = "proto2";' >"$folder/F/a.proto"
 ends 1 'a.proto:1:10: ' --root "$folder/F" --listen localhost
-"$program" serve --root "$folder" --listen 127.0.0.1:0 >/dev/full 2>"$folder/faults"
+timeout 20 "$program" serve --root "$folder" --listen 127.0.0.1:0 >/dev/full 2>"$folder/faults"
 [ "$?" = 1 ] || fail 'a fault of the sources comes before one of the output'
 rm "$folder/F/a.proto"
-"$program" serve --root "$folder/F" --listen 127.0.0.1:0 >/dev/full 2>"$folder/faults"
+timeout 20 "$program" serve --root "$folder/F" --listen 127.0.0.1:0 >/dev/full 2>"$folder/faults"
 [ "$?" = 3 ] && grep -qx 'device: output' "$folder/faults" || fail 'an output that fails'
 
 [ "$failures" = 0 ]

@@ -1,38 +1,39 @@
-# Read by the scripts that start the service: a folder of their own that goes away with them, the built program (SCHEMA_SERVER
-# may name another build), and how the service is started and stopped.
-folder=$(mktemp -d) || exit 2
+# Read by the scripts that start the service: how it is started and stopped. A script that needs tools has read tests/common.bash before,
+# so that nothing is proved where it is skipped.
+declare -F find_program >/dev/null || . tests/common.bash
+find_program
 server=
-trap '[ -z "$server" ] || kill "$server" 2>/dev/null; rm -rf "$folder"' EXIT
-LC_ALL=C
-program=${SCHEMA_SERVER:-crates/schema_server/out/schema_server}
-[ -n "${SCHEMA_SERVER:-}" ] || ./schema_server --help >/dev/null || exit 1
 
-# Whether the service has said that it listens.
-listens() {
-    grep -q '^listening on 127\.0\.0\.1:[0-9]*$' "$folder/line"
+# says_port PROCESS FILE: waits until the process has said in the file where it listens, behind which it may have ended; sets `port`.
+# False where it ended without this line, or has not said it in a minute.
+says_port() {
+    local turn line ended=
+    for ((turn = 0; turn < 6000; turn++)); do
+        kill -0 "$1" 2>/dev/null || ended=1
+        if IFS= read -r line <"$2" && [[ $line =~ ^listening\ on\ 127\.0\.0\.1:([0-9]+)$ ]]; then
+            port=${BASH_REMATCH[1]}
+            return
+        fi
+        [ -z "$ended" ] || return 1
+        sleep 0.01
+    done
+    return 1
 }
 
-# start WORDS..: starts the service at a free port and waits for its line, behind which it may have ended; sets `server`, `port`
-# and `url`.
+# start WORDS..: starts the service at a free port; sets `server`, `port` and `url`.
 start() {
     : >"$folder/line"
     "$program" serve --listen 127.0.0.1:0 "$@" >"$folder/line" 2>"$folder/faults" &
     server=$!
-    local turn=0
-    until listens; do
-        turn=$((turn + 1))
-        if [ "$turn" = 200 ] || { ! kill -0 "$server" 2>/dev/null && ! listens; }; then
-            echo "the service was not started: $(cat "$folder/line" "$folder/faults")"
-            exit 1
-        fi
-        sleep 0.05
-    done
-    port=$(sed 's/.*://' "$folder/line")
+    if ! says_port "$server" "$folder/line"; then
+        echo "$0: the service was not started: $(cat "$folder/line" "$folder/faults")"
+        exit 1
+    fi
     url=http://127.0.0.1:$port
 }
 
 stop() {
-    kill "$server"
+    kill "$server" 2>/dev/null || fail "the service has ended by itself: $(<"$folder/faults")"
     wait "$server" 2>/dev/null
     server=
 }

@@ -4,25 +4,10 @@
 # kinds of faults: these, and no other.
 set -u
 cd "$(dirname "$(readlink -f "$0")")/.." || exit 2
-folder=$(mktemp -d) || exit 2
-trap 'rm -rf "$folder"' EXIT
-export LC_ALL=C
-./schema_server --help >"$folder/help" || exit 1
-program=crates/schema_server/out/schema_server
+. tests/common.bash
+find_program
+"$program" --help >"$folder/help" || exit 1
 page=share/man/man1/schema_server.1
-failures=0
-
-fail() {
-    echo "tests/share.sh: $1"
-    failures=$((failures + 1))
-}
-
-# same TITLE WANTED GOT: both files have the same lines, and some.
-same() {
-    if ! diff "$2" "$3" >"$folder/differences" || [ ! -s "$2" ]; then
-        fail "$1: $(<"$folder/differences")"
-    fi
-}
 
 # options: of the help on standard input the options, `-h` and `--help` a line each.
 options() {
@@ -100,7 +85,7 @@ if command -v mandoc >/dev/null; then
     read_by+=' mandoc'
     mandoc -T lint -W warning "$page" >"$folder/warnings" 2>/dev/null || fail "mandoc: $(<"$folder/warnings")"
 fi
-[ -n "$read_by" ] || echo 'tests/share.sh: neither man with groff nor mandoc is installed, so no tool read the page'
+[ -n "$read_by" ] || untried 'man with groff, and no mandoc' 'no tool read the page'
 
 # The lines of docs/GUIDE.md that install it, with another folder for /usr/local.
 grep -o 'sudo install -D [^`]*' docs/GUIDE.md | sed "s|^sudo ||; s| /usr/local/| $folder/local/|" >"$folder/install"
@@ -110,7 +95,7 @@ diff -r share "$folder/local/share" || fail 'docs/GUIDE.md installs something el
 
 # completed WORDS..: what the completion offers for the last of these words of a line, sorted, in the file `completed`.
 . share/bash-completion/completions/schema_server || exit 2
-mkdir "$folder/path" && ln -s "$PWD/$program" "$folder/path/schema_server" && PATH=$folder/path:$PATH || exit 2
+mkdir "$folder/path" && ln -s "$program" "$folder/path/schema_server" && PATH=$folder/path:$PATH || exit 2
 completed() {
     COMP_WORDS=(schema_server "$@")
     COMP_CWORD=$#
@@ -178,5 +163,4 @@ offers orders.pb describe a.proto '<' orders.
 touch orders/a.proto orders/a.txt
 offers orders/a.proto check --root . orders/a
 offers a.proto compile --root = orders a
-cd - >/dev/null || exit 2
 [ "$failures" = 0 ]

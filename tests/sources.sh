@@ -3,6 +3,7 @@
 set -u
 cd "$(dirname "$(readlink -f "$0")")/.." || exit 2
 . tests/common.bash
+find_program
 rows=0
 line=0
 while read -r name wanted source; do
@@ -21,9 +22,8 @@ while read -r name wanted source; do
     IFS= read -r -d '' got_output <"$folder/output"
     IFS= read -r -d '' got_faults <"$folder/faults"
     if [ "$got" != "$status" ] || [ "$got_output" != "$output" ] || [ "$got_faults" != "$faults" ]; then
-        echo "tests/sources.txt:$line: $name $wanted $source"
+        fail "tests/sources.txt:$line: $name $wanted $source"
         echo "  status $got: $got_output$got_faults"
-        failures=$((failures + 1))
     fi
 done <tests/sources.txt
 [ "$rows" -gt 0 ] && [ "$failures" = 0 ]

@@ -4,10 +4,8 @@
 # and no rt.
 set -u
 cd "$(dirname "$(readlink -f "$0")")/.." || exit 2
+. tests/common.bash
 . tests/left.bash
-folder=$(cd "$(mktemp -d)" && pwd -P) || exit 2
-trap 'rm -rf "$folder"' EXIT
-failures=0
 clone=$folder/clone
 mkdir -p "$folder/path" "$clone/go" "$clone"/crates/{low,middle,schema_program,schema_server}/src || exit 2
 cp schema_server "$clone" || exit 2
@@ -53,9 +51,9 @@ work schema_program
 RT
 chmod +x "$folder/path/rt"
 
-fail() {
-    echo "tests/start.sh: $1: $(cat "$folder/said" "$folder/printed")"
-    failures=$((failures + 1))
+# wrong TITLE: tells what was said and printed.
+wrong() {
+    fail "$1: $(cat "$folder/said" "$folder/printed")"
 }
 
 # call WORDS..: calls ./schema_server as a terminal does, in a process group of its own; sets `called`.
@@ -73,7 +71,7 @@ said() {
     until grep -qF -e "$1" "$folder/said"; do
         turn=$((turn + 1))
         if [ "$turn" = 300 ]; then
-            fail "not said: $1"
+            wrong "not said: $1"
             return
         fi
         sleep 0.1
@@ -89,9 +87,9 @@ go() {
 ended() {
     wait "$called"
     local status=$? rest
-    [ "$status" = "$1" ] || fail "status $status"
+    [ "$status" = "$1" ] || wrong "status $status"
     rest=$(left "$clone")
-    [ -z "$rest" ] || fail "left running: $rest"
+    [ -z "$rest" ] || wrong "left running: $rest"
 }
 
 # The first call, Ctrl-C in the midst, and the next.
@@ -113,12 +111,13 @@ said '2 of 3 crates proved; at work: the program'
 : >"$folder/beside"
 PATH=$folder/path:$PATH "$clone/schema_server" beside >"$folder/beside" 2>&1 &
 beside=$!
-until grep -q . "$folder/beside"; do
+for ((turn = 0; turn < 300; turn++)); do
+    [ ! -s "$folder/beside" ] || break
     sleep 0.1
 done
 go schema_program program
 ended 0
-[ "$(<"$folder/printed")" = 'the program: compile a' ] || fail 'the program was not called'
+[ "$(<"$folder/printed")" = 'the program: compile a' ] || wrong 'the program was not called'
 wait "$beside" && [ "$(<"$folder/beside")" = 'schema_server: another call proves the crates of this clone; waiting for it
 the program: beside' ] || fail "a second call: $(<"$folder/beside")"
 [ "$(sed 's/ [0-9]*$/ N/' "$clone/calls")" = 'all check --jobs N
@@ -128,7 +127,7 @@ run -- --help' ] || fail "calls of rt: $(<"$clone/calls")"
 # Nothing is proved where nothing changed.
 call again
 ended 0
-[ ! -s "$folder/said" ] && [ "$(<"$folder/printed")" = 'the program: again' ] || fail 'called again'
+[ ! -s "$folder/said" ] && [ "$(<"$folder/printed")" = 'the program: again' ] || wrong 'called again'
 
 # What is edited, what stands above it, and what stands on what was proved later count as proved no more, though their stamps are there.
 rm "$clone"/go/{look,low,middle}
@@ -153,7 +152,7 @@ log=$clone/crates/schema_server/out/build.log
 [ "$(sed -n '/failed$/,$p' "$folder/said")" = "schema_server: middle failed
     src/lib.rt:1:2: error: first
 $(seq 7 | sed 's/^/    /')
-schema_server: all that rt said is in $log" ] && [ "$(grep -cx 20 "$log")" = 1 ] && [ ! -s "$folder/printed" ] || fail 'a failure'
+schema_server: all that rt said is in $log" ] && [ "$(grep -cx 20 "$log")" = 1 ] && [ ! -s "$folder/printed" ] || wrong 'a failure'
 
 # No rt: what the script needs before is on the path, and nothing else.
 mkdir "$folder/without"
@@ -162,5 +161,5 @@ for tool in bash dirname readlink find; do
 done
 PATH=$folder/without "$clone/schema_server" --help >"$folder/printed" 2>"$folder/said"
 [ "$?" = 3 ] && [ ! -s "$folder/printed" ] && [ "$(wc -l <"$folder/said")" = 1 ] \
-    && grep -q '^schema_server: there is no rt: put the folder bin of the Rattle kit on the PATH' "$folder/said" || fail 'no rt'
+    && grep -q '^schema_server: there is no rt: put the folder bin of the Rattle kit on the PATH' "$folder/said" || wrong 'no rt'
 [ "$failures" = 0 ]
