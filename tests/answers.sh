@@ -1,6 +1,6 @@
 #!/usr/bin/env bash
-# `answer` through the built program: a stream over examples/ whose replies protoc decodes, by several plans; each body of answers.txt;
-# and the order of faults.
+# `answer` through the built program, by several plans: a stream over examples/ whose replies protoc decodes; each body of
+# answers.txt; and the order of faults.
 set -u
 cd "$(dirname "$(readlink -f "$0")")/.." || exit 2
 . tests/common.bash
@@ -57,7 +57,7 @@ if [ -d "$folder/replies" ] && has protoc 'no reply was decoded'; then
     grep -q 'error_message: "not found"' "$folder/text$((files + 3))" || fail 'a file that is not there'
 fi
 
-# The rows of answers.txt.
+# The rows of answers.txt, by several plans.
 mkdir "$folder/F" "$folder/M" || exit 2
 printf 'syntax = "proto3"; import "b.proto";' | tee "$folder/F/a.proto" >"$folder/F/c.proto"
 printf 'syntax = "proto3"; package p; service S {}' >"$folder/F/b.proto"
@@ -68,8 +68,11 @@ while IFS='|' read -r sources mode title body wanted; do
     rows=$((rows + 1))
     repeat=()
     [ "$mode" != repeat ] || repeat=(--repeat)
-    got=$(from_hex "$body" | "$program" answer --root "$folder/$sources" "${repeat[@]}" | to_hex)
-    [ "$got" = "$wanted" ] || fail "$title: $got"
+    for plan in '1 4096' '2 1' '64 1'; do
+        read -r workers cut <<<"$plan"
+        got=$(from_hex "$body" | "$program" answer --root "$folder/$sources" --workers "$workers" --cut "$cut" "${repeat[@]}" | to_hex)
+        [ "$got" = "$wanted" ] || fail "$title, by $workers workers, cut $cut: $got"
+    done
 done <tests/answers.txt
 
 # Faults: of the folder, of the sources, of the input, of the output.

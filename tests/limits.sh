@@ -61,6 +61,17 @@ awk 'BEGIN { for (i = 0; i < 209715; i++) printf "%c%c%c%c%c", 0, 0, 0, 0, 0 }' 
 cmp "$folder/response" "$folder/wanted" || fail 'empty requests'
 # A body over its limit: the trailers alone.
 head -c 1048577 /dev/zero | "$program" answer --root examples | cmp - "$folder/over" || fail 'a body over its limit'
+# A message at its limit, a host of so many bytes, and one of a byte more.
+{
+    printf '\0\0\1\0\0\x0a\xfc\xff\3'
+    head -c 65532 /dev/zero | tr '\0' h
+} >"$folder/message"
+"$program" answer --root examples <"$folder/message" | tail -c 20 | cmp - <(trailers 0) || fail 'a message at its limit'
+{
+    printf '\0\0\1\0\1\x0a\xfd\xff\3'
+    head -c 65533 /dev/zero | tr '\0' h
+} >"$folder/message"
+"$program" answer --root examples <"$folder/message" | cmp - "$folder/over" || fail 'a message over its limit'
 
 # Messages in one another.
 deep() {

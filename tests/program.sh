@@ -86,6 +86,10 @@ device output "$point" /dev/full explain
 device folder "$point" "$folder/output" compile --root "$folder/none"
 device folder "$point" "$folder/output" compile --root "$folder/sources" none.proto
 device folder "$point" "$folder/output" compile --root "$point"
+# A line that cannot be printed leaves the status.
+"$program" describe a.proto <"$folder" >"$folder/output" 2>/dev/full
+got=$?
+[ "$got" = 3 ] && [ ! -s "$folder/output" ] || failed 'a line that cannot be printed' "$got"
 
 # The version, with the logic that README names.
 logic=$(sed -n 's/^With the Rattle kits .*, of one \(logic\) `\(.*\)`:$/\1 \2/p' README.md)

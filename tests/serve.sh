@@ -56,6 +56,10 @@ asks 'another path, and GET' 200 "$t12" "$url/x"
 asks 'GET' 405 '' "$url$v1"
 has 'allow: POST'
 asks 'a method of its own' 405 '' -X PRAISE "$url$v1"
+asks 'a method in small letters' 405 '' -X post "$url$v1"
+asks 'GET of v1alpha without a content type' 405 '' "$url$v1alpha"
+asks 'a slash after the path' 200 "$t12" -H "$web" --data-binary "@$folder/nothing" "$url$v1/"
+asks 'another case of the path' 200 "$t12" -H "$web" --data-binary "@$folder/nothing" "$url${v1/Server/server}"
 for type in 'application/grpc-web' 'Application/gRPC-Web+Proto' 'application/grpc-web; charset=x' 'application/grpc-web+proto 	;'; do
     asks "$type" 200 "$t0" -H "content-type: $type" --data-binary "@$folder/nothing" "$url$v1"
 done

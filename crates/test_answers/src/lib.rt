@@ -1,4 +1,4 @@
-//! Tests of answering: request bodies and the bytes of their responses, and workers that wait for each other.
+//! Tests of exchanges over readers and writers that fail, and of workers that wait for each other.
 #![tactic(auto)]
 
 #[cfg(test)]

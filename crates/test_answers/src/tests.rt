@@ -1,5 +1,3 @@
 mod exchange;
 mod fixtures;
 mod gates;
-mod http;
-mod responses;

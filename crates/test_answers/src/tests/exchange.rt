@@ -1,6 +1,6 @@
 //! What goes from a reader to a writer, over devices that fail where they are told to.
 
-use super::fixtures::{THREE_FILES, compiled};
+use super::fixtures::compiled;
 use grpcweb_core::{Counted, IoFault, answer_io};
 use proto_base::{Limit, Limits};
 use proto_compile::Compiled;
@@ -263,7 +263,7 @@ fn exchanges_over<R: Threads + AllocGlobal + Sync + Abort>(
 
 #[test]
 fn exchanges(rt: HostRuntime) -> Result<(), Fail> {
-    let compiled = compiled(&rt, &THREE_FILES, &Limits::standard())?;
+    let compiled = compiled(&rt, &Limits::standard())?;
     exchanges_over(&rt, &compiled)
 }
 
@@ -284,7 +284,7 @@ fn endless_readers(rt: HostRuntime) -> Result<(), Fail> {
     let limits = Limits::standard()
         .lowered(Limit::BodyBytes, 13)
         .ok_or("limits")?;
-    let compiled = compiled(&rt, &THREE_FILES, &limits)?;
+    let compiled = compiled(&rt, &limits)?;
     assert!(rt; is_refused_early(&rt, &compiled));
     Ok(())
 }

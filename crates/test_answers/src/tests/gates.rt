@@ -1,9 +1,10 @@
 //! Workers that are held until another has come.
 
-use super::fixtures::{THREE_FILES, compiled_by, response};
+use super::fixtures::{compiled_by, three_files};
 use proto_base::Limits;
 use proto_compile::Compiled;
 use reflect_core::Mode;
+use schema_headline::response_to_sources;
 use share_work::{Gate, NoGate, Plan};
 use std::alloc::{AllocGlobal, Global};
 use std::process::Abort;
@@ -63,7 +64,7 @@ where
     R: Threads + AllocGlobal + Sync,
     G: Gate + Sync,
 {
-    let compiled = compiled_by(rt, &THREE_FILES, &Limits::standard(), plan, gate)?;
+    let compiled = compiled_by(rt, &Limits::standard(), plan, gate)?;
     set_of(rt.alloc(), &compiled)
 }
 
@@ -87,13 +88,14 @@ fn compilers_meet(rt: HostRuntime) -> Result<(), Fail> {
 }
 
 /// The response to the body by the workers of a plan.
-fn response_by<R, G>(rt: &R, plan: Plan, gate: &G) -> Result<String, Fail>
+fn response_by<R, G>(rt: &R, plan: Plan, gate: &G) -> Result<Vec<u8>, Fail>
 where
     R: Threads + AllocGlobal + Sync,
     G: Gate + Sync,
 {
+    let sources = three_files(rt.alloc())?;
     let limits = Limits::standard();
-    response(rt, &THREE_FILES, &limits, plan, gate, Mode::Once, BODY)
+    Ok(response_to_sources(rt, &sources, &limits, plan, gate, Mode::Once, BODY)?)
 }
 
 /// Marks and replies are each made by two workers at once, and the response is that of one.
@@ -104,7 +106,7 @@ fn workers_meet(rt: HostRuntime) -> Result<(), Fail> {
     for phase in 4..6 {
         let gate = holding(phase);
         let found = response_by(&rt, plan, &gate)?;
-        assert!(rt; found == alone, "phase {phase}: {found}");
+        assert!(rt; found == alone, "phase {phase}");
         assert!(rt; have_met(&gate), "phase {phase}: nobody came");
     }
     Ok(())
