@@ -77,9 +77,7 @@ fn output_argument<'a>(alloc: Global) -> Arg<'a> {
     Arg::new(alloc, "output")
         .long("output")
         .value_name("FILE")
-        .help(
-            "write the set to this file and not to standard output; the file stays as it was unless the whole set is written",
-        )
+        .help("write the set to this file and not to standard output; a fault leaves it as it was")
 }
 
 fn compile_command<'a>(alloc: Global) -> Result<Command<'a>, AllocError> {
@@ -97,7 +95,7 @@ fn repeat_argument<'a>(alloc: Global) -> Arg<'a> {
     Arg::new(alloc, "repeat")
         .long("repeat")
         .action(ArgAction::SetTrue)
-        .help("send the file that answers with each reply, also where an earlier one carried it")
+        .help("send the file that answers a request again with each reply to it")
 }
 
 fn answer_command<'a>(alloc: Global) -> Result<Command<'a>, AllocError> {

@@ -99,7 +99,7 @@ Where: that byte.
 
 Cure: Names are ASCII letters, digits and `_`. An invisible character, such as a no-break space, is often what stands there."#,
         Topic::Kind(Kind::BadNumber) =>
-            r#"No digit stands behind `0x`, or a letter, a digit, `_` or `.` follows a number directly. Floating-point numbers are no tokens here.
+            r#"No digit follows `0x`, or a letter, a digit, `_` or `.` follows a number directly. Floating-point numbers are no tokens here.
 
 Where: the number's first digit.
 
@@ -203,7 +203,7 @@ Where: the first token too deep.
 Cure: Move inner messages to the top, and name them from there."#,
         Topic::Kind(Kind::UnexpectedEnd) => r#"The file ends in the middle of a statement.
 
-Where: behind the last byte.
+Where: after the last byte.
 
     syntax = "proto3";
     message A {
@@ -443,7 +443,7 @@ Where: the name; for a made one its field's name; for a package its first part.
 
 Cure: Shorten it."#,
         Topic::Kind(Kind::ImportMissing) =>
-            r#"No file below the root has this name. A name is the path from the root, with `/`.
+            r#"No file of this name is below the root or below an `--include` folder. A name is the path from there, with `/`.
 
 Where: the import's string.
 
@@ -452,7 +452,7 @@ Where: the import's string.
 
     a.proto:2:8: ImportMissing
 
-Cure: Set `--root` to the folder from which imports are written. Nothing is bundled: copy google/protobuf/*.proto from an installed protobuf if you import it. `describe` reads one file alone: a file with imports is for `compile`."#,
+Cure: Set `--root` to the folder from which imports are written, or name another one by `--include`. Nothing is bundled: `--include /usr/include` takes what is imported from an installed protobuf. `describe` reads one file alone: a file with imports is for `compile`."#,
         Topic::Kind(Kind::ImportCycle) => r#"The file imports itself, or a file that reaches it.
 
 Where: the import's string.
