@@ -1,4 +1,5 @@
 mod Meanings
+mod Recalls
 pub mod Walking
 pub mod Trees
 pub mod Unique

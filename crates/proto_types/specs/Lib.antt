@@ -1,3 +1,4 @@
+pub mod Recalling
 pub mod References
 pub mod Typed
 pub mod Steps

@@ -2,14 +2,17 @@
 //! place is found.
 
 ghost use Rattle.std.specs.Prelude.{◌≡◌, ◌<◌, flat_map, IfOk, OnOk};
+ghost use Rattle.proto_names.specs.declared.resolve.Want.TheVariants as wants;
 ghost use Rattle.proto_desc.specs.DeclaredNames.{file_scope};
 ghost use Rattle.proto_links.specs.Linked.{count_of};
 ghost use Rattle.proto_names.specs.Resolution.{SeenBy};
 ghost use Rattle.proto_types.specs.References.{reference_to, references_of_type, references_of_field, references_by_message, references_of_method, references_of_service, references};
+ghost use Rattle.proto_types.specs.Recalling.{AreRecalled, IsMeaningBy, IsType};
 ghost use Rattle.proto_types.specs.Steps.{Finds, IsMeaning};
 
 use crate::found::Found;
 use crate::meaning::{Meaning, meaning_of};
+use crate::recalled::{Recalled, recalled_as, remember};
 use proto_base::{Kind, Place, Spot};
 use proto_desc::field::{FieldDesc, FieldKind};
 use proto_desc::file::{FileDesc, PackageDesc};
@@ -18,7 +21,7 @@ use proto_desc::options::OptionDesc;
 use proto_desc::service::{MethodDesc, ServiceDesc};
 use proto_desc::type_name::TypeReference;
 use proto_links::{FileId, Links};
-use proto_names::{NameIndex, ResolveError, Want, name_in};
+use proto_names::{NameIndex, ResolveError, Resolved, Want, name_in};
 use std::alloc::{AllocError, Global};
 
 /// The scope of what stands at the top of a file.
@@ -28,6 +31,24 @@ fn file_scope<'d>(declared: &'d Option<PackageDesc>) -> &'d str
     match declared {
         Some(package) => package.name.as_str(),
         None => "",
+    }
+}
+
+/// What a name means of which this was found, as the type of a field with these options.
+fn meaning_by(
+    alloc: Global,
+    found: &Option<Resolved>,
+    place: Place,
+    options: &[OptionDesc],
+) -> Result<Meaning, AllocError>
+    ensures { IfOk result (IsMeaningBy found.now place options.now) }
+{
+    match found {
+        Some(found) => meaning_of(alloc, found, options),
+        None => Ok(Meaning::Wrong(Spot {
+            place,
+            kind: Kind::TypeNotFound,
+        })),
     }
 }
 
@@ -94,16 +115,103 @@ impl<'i> Finder<'i> {
         }
     }
 
-    fn field(&self, scope: &str, field: &FieldDesc, found: &mut Found) -> Result<(), AllocError>
-        ensures { OnOk result (Finds self.now.index.now.occurrences
+    /// The type that a name means in a scope, if any.
+    fn type_named(&self, scope: &str, text: &str) -> Result<Option<Resolved>, AllocError>
+        ensures { IfOk result (IsType self.now.index.now.occurrences
+            (SeenBy self.now.links.now self.now.file) scope.now text.now) }
+    {
+        match self.index.resolve(
+            self.alloc,
+            self.links,
+            self.file,
+            scope,
+            text,
+            Want::AnyType,
+        ) {
+            Ok(found) => Ok(Some(found)),
+            Err(ResolveError::TypeNotFound | ResolveError::TypeNotMessage) => Ok(None),
+            Err(ResolveError::NoMemory) => Err(AllocError),
+        }
+    }
+
+    /// What a name means in a scope of which names are recalled, as the type of a field with these options.
+    fn field_meaning<'d>(
+        &self,
+        scope: &str,
+        text: &'d str,
+        place: Place,
+        options: &[OptionDesc],
+        recalled: &mut Vec<Recalled<'d>>,
+    ) -> Result<Meaning, AllocError>
+        requires { AreRecalled self.now.index.now.occurrences
+            (SeenBy self.now.links.now self.now.file) scope.now recalled.old.items }
+        ensures meaning { IfOk result (IsMeaning self.now.index.now.occurrences
+            (SeenBy self.now.links.now self.now.file)
+            (reference_to scope.now text.now place wants.AnyType options.now)) }
+        ensures recalled { OnOk result (AreRecalled self.now.index.now.occurrences
+            (SeenBy self.now.links.now self.now.file) scope.now recalled.new.items) }
+    {
+        if let Some(one) = recalled_as(recalled, text) {
+            return meaning_by(self.alloc, &one.found, place, options);
+        }
+        let found = self.type_named(scope, text)?;
+        let meaning = meaning_by(self.alloc, &found, place, options)?;
+        remember(
+            recalled,
+            Recalled {
+                spelled: text,
+                found,
+            },
+        )?;
+        Ok(meaning)
+    }
+
+    /// The name of a field's type, in a scope of which names are recalled.
+    fn type_of_field<'d>(
+        &self,
+        scope: &str,
+        reference: &'d TypeReference,
+        options: &[OptionDesc],
+        recalled: &mut Vec<Recalled<'d>>,
+        found: &mut Found,
+    ) -> Result<(), AllocError>
+        requires { AreRecalled self.now.index.now.occurrences
+            (SeenBy self.now.links.now self.now.file) scope.now recalled.old.items }
+        ensures found { OnOk result (Finds self.now.index.now.occurrences
+            (SeenBy self.now.links.now self.now.file)
+            (references_of_type scope.now wants.AnyType options.now reference.now) found.old
+            found.new) }
+        ensures recalled { OnOk result (AreRecalled self.now.index.now.occurrences
+            (SeenBy self.now.links.now self.now.file) scope.now recalled.new.items) }
+    {
+        match reference {
+            TypeReference::Spelled { text, place } => {
+                found.add(self.field_meaning(scope, text.as_str(), *place, options, recalled)?)
+            }
+            TypeReference::Resolved { .. } => Ok(()),
+        }
+    }
+
+    fn field<'d>(
+        &self,
+        scope: &str,
+        field: &'d FieldDesc,
+        recalled: &mut Vec<Recalled<'d>>,
+        found: &mut Found,
+    ) -> Result<(), AllocError>
+        requires { AreRecalled self.now.index.now.occurrences
+            (SeenBy self.now.links.now self.now.file) scope.now recalled.old.items }
+        ensures found { OnOk result (Finds self.now.index.now.occurrences
             (SeenBy self.now.links.now self.now.file) (references_of_field scope.now field.now)
             found.old found.new) }
+        ensures recalled { OnOk result (AreRecalled self.now.index.now.occurrences
+            (SeenBy self.now.links.now self.now.file) scope.now recalled.new.items) }
     {
         match &field.field_type {
             FieldKind::Scalar(_) => Ok(()),
             FieldKind::Named(reference) => {
                 let options = field.options.as_slice();
-                self.reference(scope, reference, Want::AnyType, options, found)
+                self.type_of_field(scope, reference, options, recalled, found)
             }
         }
     }
@@ -113,8 +221,9 @@ impl<'i> Finder<'i> {
             (SeenBy self.now.links.now self.now.file)
             (flat_map (references_of_field scope.now) fields.now) found.old found.new) }
     {
+        let mut recalled = Vec::new(self.alloc);
         for field in fields {
-            self.field(scope, field, found)?;
+            self.field(scope, field, &mut recalled, found)?;
         }
         Ok(())
     }

@@ -7,6 +7,7 @@ mod filling;
 mod finder;
 mod found;
 mod meaning;
+mod recalled;
 mod typing;
 
 pub use meaning::NamedType;

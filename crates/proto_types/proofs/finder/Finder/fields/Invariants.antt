@@ -1,10 +1,14 @@
 use Rattle.std.proofs.Common.{take}
 use Rattle.std.specs.Prelude.{flat_map}
 use Rattle.proto_names.specs.Resolution.{SeenBy}
+use Rattle.proto_types.specs.Recalling.{AreRecalled}
 use Rattle.proto_types.specs.References.{references_of_field}
 use Rattle.proto_types.specs.Steps.{Finds}
 use Rattle.proto_types.proofs.finder.Finder.fields.Given as goal
 
 abbrev pub invariant-loop-field : goal.invariant-loop-field
-invariant-loop-field l = Finds l.self.index.now.occurrences (SeenBy l.self.links.now l.self.file)
-    (flat_map (references_of_field l.scope) (take l.field-index l.fields)) l.initial.found l.found
+invariant-loop-field l = record {
+  so_far : Finds l.self.index.now.occurrences (SeenBy l.self.links.now l.self.file)
+      (flat_map (references_of_field l.scope) (take l.field-index l.fields)) l.initial.found l.found;
+  recalled : AreRecalled l.self.index.now.occurrences (SeenBy l.self.links.now l.self.file) l.scope l.recalled.items;
+}

@@ -1,0 +1,80 @@
+-- What is recalled of a scope, and what it says of a field's type.
+use Rattle.std.proofs.Common.{◌≡◌, ◌∙◌, inl, inr, ℕ, List, [], ◌∷◌, Option, Some, None, Bool, true, false, Result, Ok, Err, IfOk, refl, subst, sym, ap}
+use Rattle.std.specs.Prelude.{All, bytes_eq, find, string_bytes}
+use Rattle.std.proofs.Math.Bool.{cond}
+use Rattle.std.proofs.lemmas.List.Elements.{All-cons, All-head, All-nil, All-push, All-tail}
+use Rattle.std.proofs.lemmas.Slice.Eq.{bytes_eq-Decides}
+use Rattle.proto_names.specs.Occurrences.{Occurrence}
+use Rattle.proto_names.specs.declared.resolve.Resolved.{Resolved}
+use Rattle.proto_names.specs.declared.resolve.Want.TheVariants as want
+use Rattle.proto_desc.specs.declared.options.OptionDesc.{OptionDesc}
+use Rattle.proto_base.specs.declared.place.Place.{Place}
+use Rattle.proto_types.specs.Recalling.{AreRecalled, IsMeaningBy, IsType, Remembers}
+use Rattle.proto_types.specs.References.{Reference, reference_to}
+use Rattle.proto_types.specs.Steps.{IsMeaning}
+use Rattle.proto_types.specs.declared.meaning.Meaning.{Meaning}
+use Rattle.proto_types.specs.declared.recalled.Recalled.{Recalled}
+use Rattle.proto_types.proofs.Meanings.{naming_means, not_found}
+
+-- what is made of what a name means is what a reference to it means
+pub meaning_by : (os : List Occurrence) (Seen : ℕ → Type 0) (scope text : List ℕ) (place : Place) (options : List OptionDesc)
+    (found : Option Resolved) (m : Meaning)
+    → IsType os Seen scope text found → IsMeaningBy found place options m
+    → IsMeaning os Seen (reference_to scope text place want.AnyType options) m
+meaning_by os Seen scope text place options None m none is =
+    rw is (not_found os Seen (reference_to scope text place want.AnyType options) none)
+meaning_by os Seen scope text place options (Some r) m named is =
+    naming_means os Seen (reference_to scope text place want.AnyType options) (string_bytes r.full_name) r.kind m named
+    (λ e. let bad : want.AnyType ≡ want.MessageOnly = e in absurd (cc)) is
+
+-- ---- one among those that are recalled
+
+some_same : {X : Type 0} (y x : X) → Some y ≡ Some x → y ≡ x
+some_same y x is = cc
+
+none_some : {X : Type 0} (x : X) → None ≡ Some x → ⊥
+none_some x is = cc
+
+found_here : {X : Type 0} (P : X → Type 0) (b : Bool) (y x : X) (rest : Option X) → P y → (rest ≡ Some x → P x)
+    → cond b (Some y) rest ≡ Some x → P x
+found_here P true y x rest here later is = subst P (some_same y x is) here
+found_here P false y x rest here later is = later is
+
+passes : {X : Type 0} (test : X → Bool) (b : Bool) (y x : X) (rest : Option X) → test y ≡ b
+    → (rest ≡ Some x → test x ≡ true) → cond b (Some y) rest ≡ Some x → test x ≡ true
+passes test true y x rest here later is = sym (ap test (some_same y x is)) ∙ here
+passes test false y x rest here later is = later is
+
+-- what holds of all holds of the one that is found
+pub found_has : {X : Type 0} (P : X → Type 0) (test : X → Bool) (xs : List X) (x : X) → All P xs
+    → find test xs ≡ Some x → P x
+found_has P test [] x all is = absurd (none_some x is)
+found_has P test (y ∷ ys) x all is =
+    found_here P (test y) y x (find test ys) (All-head P y ys all)
+    (λ later. found_has P test ys x (All-tail P y ys all) later) is
+
+pub found_passes : {X : Type 0} (test : X → Bool) (xs : List X) (x : X) → find test xs ≡ Some x → test x ≡ true
+found_passes test [] x is = absurd (none_some x is)
+found_passes test (y ∷ ys) x is =
+    passes test (test y) y x (find test ys) refl (λ later. found_passes test ys x later) is
+
+-- the one that is recalled of a name says what it means
+pub recalled_type : (os : List Occurrence) (Seen : ℕ → Type 0) (scope text : List ℕ) (recalled : List Recalled) (one : Recalled)
+    → AreRecalled os Seen scope recalled → find (λ r. bytes_eq r.spelled.now text) recalled ≡ Some one
+    → IsType os Seen scope text one.found
+recalled_type os Seen scope text recalled one all is =
+    let same : one.spelled.now ≡ text =
+    (bytes_eq-Decides one.spelled.now text).0 (found_passes (λ r. bytes_eq r.spelled.now text) recalled one is) in
+    subst (λ (t : List ℕ). IsType os Seen scope t one.found) same
+    (found_has (λ r. IsType os Seen scope r.spelled.now r.found) (λ r. bytes_eq r.spelled.now text) recalled one all is)
+
+-- what is recalled after one more name
+pub recalled_more : (os : List Occurrence) (Seen : ℕ → Type 0) (scope : List ℕ) (one : Recalled) (old new : List Recalled)
+    → AreRecalled os Seen scope old → IsType os Seen scope one.spelled.now one.found → Remembers one old new
+    → AreRecalled os Seen scope new
+recalled_more os Seen scope one old new all is (inl alone) =
+    let P : Recalled → Type 0 = λ r. IsType os Seen scope r.spelled.now r.found in
+    subst (λ (rs : List Recalled). All P rs) (sym alone) (All-cons P one [] is (All-nil P))
+recalled_more os Seen scope one old new all is (inr more) =
+    let P : Recalled → Type 0 = λ r. IsType os Seen scope r.spelled.now r.found in
+    subst (λ (rs : List Recalled). All P rs) (sym more) (All-push P old one all is)
