@@ -2,12 +2,11 @@
 //! place is found.
 
 ghost use Rattle.std.specs.Prelude.{◌≡◌, ◌<◌, flat_map, IfOk, OnOk};
-ghost use Rattle.proto_names.specs.declared.resolve.Want.TheVariants as wants;
 ghost use Rattle.proto_desc.specs.DeclaredNames.{file_scope};
 ghost use Rattle.proto_links.specs.Linked.{count_of};
 ghost use Rattle.proto_names.specs.Resolution.{SeenBy};
 ghost use Rattle.proto_types.specs.References.{reference_to, references_of_type, references_of_field, references_by_message, references_of_method, references_of_service, references};
-ghost use Rattle.proto_types.specs.Recalling.{AreRecalled, IsMeaningBy, IsType};
+ghost use Rattle.proto_types.specs.Recalling.{AreRecalled, IsMeaningBy, IsNamed};
 ghost use Rattle.proto_types.specs.Steps.{Finds, IsMeaning};
 
 use crate::found::Found;
@@ -17,6 +16,7 @@ use proto_base::{Kind, Place, Spot};
 use proto_desc::field::{FieldDesc, FieldKind};
 use proto_desc::file::{FileDesc, PackageDesc};
 use proto_desc::message::MessageDesc;
+use proto_desc::name_kind::NameKind;
 use proto_desc::options::OptionDesc;
 use proto_desc::service::{MethodDesc, ServiceDesc};
 use proto_desc::type_name::TypeReference;
@@ -34,22 +34,24 @@ fn file_scope<'d>(declared: &'d Option<PackageDesc>) -> &'d str
     }
 }
 
-/// What a name means of which this was found, as the type of a field with these options.
+/// What a name means of which this was found, where such a type is wanted, with these options.
 fn meaning_by(
     alloc: Global,
     found: &Option<Resolved>,
     place: Place,
+    want: Want,
     options: &[OptionDesc],
 ) -> Result<Meaning, AllocError>
-    ensures { IfOk result (IsMeaningBy found.now place options.now) }
+    ensures { IfOk result (IsMeaningBy want found.now place options.now) }
 {
-    match found {
-        Some(found) => meaning_of(alloc, found, options),
-        None => Ok(Meaning::Wrong(Spot {
-            place,
-            kind: Kind::TypeNotFound,
-        })),
-    }
+    let kind = match found {
+        Some(found) if want == Want::AnyType || found.kind == NameKind::Message => {
+            return meaning_of(alloc, found, options);
+        }
+        Some(_) => Kind::TypeNotMessage,
+        None => Kind::TypeNotFound,
+    };
+    Ok(Meaning::Wrong(Spot { place, kind }))
 }
 
 /// A file whose names of types are looked up among the names of all files.
@@ -64,60 +66,9 @@ pub(crate) struct Finder<'i> {
 }
 
 impl<'i> Finder<'i> {
-    /// What a spelled name means in a scope, as the type of a field with these options, or of a method.
-    fn meaning(
-        &self,
-        scope: &str,
-        text: &str,
-        place: Place,
-        want: Want,
-        options: &[OptionDesc],
-    ) -> Result<Meaning, AllocError>
-        ensures { IfOk result (IsMeaning self.now.index.now.occurrences
-            (SeenBy self.now.links.now self.now.file)
-            (reference_to scope.now text.now place want options.now)) }
-    {
-        match self
-            .index
-            .resolve(self.alloc, self.links, self.file, scope, text, want)
-        {
-            Ok(found) => meaning_of(self.alloc, &found, options),
-            Err(ResolveError::TypeNotFound) => Ok(Meaning::Wrong(Spot {
-                place,
-                kind: Kind::TypeNotFound,
-            })),
-            Err(ResolveError::TypeNotMessage) => Ok(Meaning::Wrong(Spot {
-                place,
-                kind: Kind::TypeNotMessage,
-            })),
-            Err(ResolveError::NoMemory) => Err(AllocError),
-        }
-    }
-
-    /// The name of a type, in a scope.
-    fn reference(
-        &self,
-        scope: &str,
-        reference: &TypeReference,
-        want: Want,
-        options: &[OptionDesc],
-        found: &mut Found,
-    ) -> Result<(), AllocError>
-        ensures { OnOk result (Finds self.now.index.now.occurrences
-            (SeenBy self.now.links.now self.now.file)
-            (references_of_type scope.now want options.now reference.now) found.old found.new) }
-    {
-        match reference {
-            TypeReference::Spelled { text, place } => {
-                found.add(self.meaning(scope, text.as_str(), *place, want, options)?)
-            }
-            TypeReference::Resolved { .. } => Ok(()),
-        }
-    }
-
     /// The type that a name means in a scope, if any.
     fn type_named(&self, scope: &str, text: &str) -> Result<Option<Resolved>, AllocError>
-        ensures { IfOk result (IsType self.now.index.now.occurrences
+        ensures { IfOk result (IsNamed self.now.index.now.occurrences
             (SeenBy self.now.links.now self.now.file) scope.now text.now) }
     {
         match self.index.resolve(
@@ -134,12 +85,13 @@ impl<'i> Finder<'i> {
         }
     }
 
-    /// What a name means in a scope of which names are recalled, as the type of a field with these options.
-    fn field_meaning<'d>(
+    /// What a name means in a scope of which names are recalled, where such a type is wanted, with these options.
+    fn meaning<'d>(
         &self,
         scope: &str,
         text: &'d str,
         place: Place,
+        want: Want,
         options: &[OptionDesc],
         recalled: &mut Vec<Recalled<'d>>,
     ) -> Result<Meaning, AllocError>
@@ -147,15 +99,15 @@ impl<'i> Finder<'i> {
             (SeenBy self.now.links.now self.now.file) scope.now recalled.old.items }
         ensures meaning { IfOk result (IsMeaning self.now.index.now.occurrences
             (SeenBy self.now.links.now self.now.file)
-            (reference_to scope.now text.now place wants.AnyType options.now)) }
+            (reference_to scope.now text.now place want options.now)) }
         ensures recalled { OnOk result (AreRecalled self.now.index.now.occurrences
             (SeenBy self.now.links.now self.now.file) scope.now recalled.new.items) }
     {
         if let Some(one) = recalled_as(recalled, text) {
-            return meaning_by(self.alloc, &one.found, place, options);
+            return meaning_by(self.alloc, &one.found, place, want, options);
         }
         let found = self.type_named(scope, text)?;
-        let meaning = meaning_by(self.alloc, &found, place, options)?;
+        let meaning = meaning_by(self.alloc, &found, place, want, options)?;
         remember(
             recalled,
             Recalled {
@@ -166,11 +118,12 @@ impl<'i> Finder<'i> {
         Ok(meaning)
     }
 
-    /// The name of a field's type, in a scope of which names are recalled.
-    fn type_of_field<'d>(
+    /// The name of a type, in a scope of which names are recalled.
+    fn reference<'d>(
         &self,
         scope: &str,
         reference: &'d TypeReference,
+        want: Want,
         options: &[OptionDesc],
         recalled: &mut Vec<Recalled<'d>>,
         found: &mut Found,
@@ -179,14 +132,14 @@ impl<'i> Finder<'i> {
             (SeenBy self.now.links.now self.now.file) scope.now recalled.old.items }
         ensures found { OnOk result (Finds self.now.index.now.occurrences
             (SeenBy self.now.links.now self.now.file)
-            (references_of_type scope.now wants.AnyType options.now reference.now) found.old
-            found.new) }
+            (references_of_type scope.now want options.now reference.now) found.old found.new) }
         ensures recalled { OnOk result (AreRecalled self.now.index.now.occurrences
             (SeenBy self.now.links.now self.now.file) scope.now recalled.new.items) }
     {
         match reference {
             TypeReference::Spelled { text, place } => {
-                found.add(self.field_meaning(scope, text.as_str(), *place, options, recalled)?)
+                let text = text.as_str();
+                found.add(self.meaning(scope, text, *place, want, options, recalled)?)
             }
             TypeReference::Resolved { .. } => Ok(()),
         }
@@ -211,7 +164,7 @@ impl<'i> Finder<'i> {
             FieldKind::Scalar(_) => Ok(()),
             FieldKind::Named(reference) => {
                 let options = field.options.as_slice();
-                self.type_of_field(scope, reference, options, recalled, found)
+                self.reference(scope, reference, Want::AnyType, options, recalled, found)
             }
         }
     }
@@ -270,19 +223,25 @@ impl<'i> Finder<'i> {
         Ok(())
     }
 
-    /// A method of the service of this full name.
-    fn method(
+    /// A method of the service of this full name, of which names are recalled.
+    fn method<'d>(
         &self,
         service: &str,
-        method: &MethodDesc,
+        method: &'d MethodDesc,
+        recalled: &mut Vec<Recalled<'d>>,
         found: &mut Found,
     ) -> Result<(), AllocError>
-        ensures { OnOk result (Finds self.now.index.now.occurrences
+        requires { AreRecalled self.now.index.now.occurrences
+            (SeenBy self.now.links.now self.now.file) service.now recalled.old.items }
+        ensures found { OnOk result (Finds self.now.index.now.occurrences
             (SeenBy self.now.links.now self.now.file) (references_of_method service.now method.now)
             found.old found.new) }
+        ensures recalled { OnOk result (AreRecalled self.now.index.now.occurrences
+            (SeenBy self.now.links.now self.now.file) service.now recalled.new.items) }
     {
-        self.reference(service, &method.input, Want::MessageOnly, &[], found)?;
-        self.reference(service, &method.output, Want::MessageOnly, &[], found)
+        let want = Want::MessageOnly;
+        self.reference(service, &method.input, want, &[], recalled, found)?;
+        self.reference(service, &method.output, want, &[], recalled, found)
     }
 
     /// A service in a scope.
@@ -298,8 +257,9 @@ impl<'i> Finder<'i> {
     {
         let full = name_in(self.alloc, scope, service.name.as_str())?;
         let inside = full.as_str();
+        let mut recalled = Vec::new(self.alloc);
         for method in service.methods.as_slice() {
-            self.method(inside, method, found)?;
+            self.method(inside, method, &mut recalled, found)?;
         }
         Ok(())
     }

@@ -1,29 +1,34 @@
-use Rattle.std.proofs.Common.{refl, string_bytes}
+use Rattle.std.proofs.Common.{◌≡◌, List, Some, subst, sym}
 use Rattle.std.proofs.lemmas.Result.{IfOk-weaker}
+use Rattle.std.specs.Prelude.{bytes_eq, find}
 use Rattle.proto_names.specs.Resolution.{SeenBy}
-use Rattle.proto_types.specs.References.{reference_to}
-use Rattle.proto_types.proofs.Meanings.{naming_means, not_found, not_message}
+use Rattle.proto_types.specs.declared.recalled.Recalled.{Recalled}
+use Rattle.proto_types.proofs.Recalls.{meaning_by, recalled_more, recalled_type}
 use Rattle.proto_types.proofs.finder.Finder.meaning.Goals as goal
 
-pub returns-in-Ok : goal.returns-in-Ok
-returns-in-Ok c =
+pub returns-in-Some-clause-meaning : goal.returns-in-Some-clause-meaning
+returns-in-Some-clause-meaning c =
     let self = c.args.self.now in
     let a = c.args in
-    IfOk-weaker c.meaning_of.result _ _
-    (λ m naming. naming_means self.index.now.occurrences (SeenBy self.links.now self.file) (reference_to a.scope.now a.text.now a.place a.want a.options.now)
-    (string_bytes c.in-Ok.found.full_name) c.in-Ok.found.kind m c.in-Ok.ensures.found c.in-Ok.ensures.wanted naming) c.meaning_of.ensures
+    let is : find (λ one. bytes_eq one.spelled.now a.text.now) a.recalled.now.items ≡ Some c.in-Some.one.now =
+    subst (λ (rs : List Recalled). find (λ one. bytes_eq one.spelled.now a.text.now) rs ≡ Some c.in-Some.one.now) c.deref.ensures.value
+    (sym c.in-Some.ensures) in
+    let named = recalled_type self.index.now.occurrences (SeenBy self.links.now self.file) a.scope.now a.text.now a.recalled.now.items
+    c.in-Some.one.now c.requires is in
+    IfOk-weaker c.meaning_by.result _ _
+    (λ m by. meaning_by self.index.now.occurrences (SeenBy self.links.now self.file) a.scope.now a.text.now a.place a.want a.options.now
+    c.in-Some.one.now.found m named by) c.meaning_by.ensures
 
-pub returns-in-Err-TypeNotFound : goal.returns-in-Err-TypeNotFound
-returns-in-Err-TypeNotFound c =
+pub returns-clause-meaning : goal.returns-clause-meaning
+returns-clause-meaning c =
     let self = c.args.self.now in
     let a = c.args in
-    not_found self.index.now.occurrences (SeenBy self.links.now self.file) (reference_to a.scope.now a.text.now a.place a.want a.options.now)
-    (c.resolve.ensures.not_found (rw (c.in-Err-TypeNotFound.is, c.in-Err-TypeNotFound.field-0-is) refl))
+    meaning_by self.index.now.occurrences (SeenBy self.links.now self.file) a.scope.now a.text.now a.place a.want a.options.now
+    c.in_ok-found.found c.in_ok-meaning.meaning c.in_ok-found.ensures c.in_ok-meaning.ensures
 
-pub returns-in-Err-TypeNotMessage : goal.returns-in-Err-TypeNotMessage
-returns-in-Err-TypeNotMessage c =
+pub returns-clause-recalled : goal.returns-clause-recalled
+returns-clause-recalled c =
     let self = c.args.self.now in
     let a = c.args in
-    let found = c.resolve.ensures.not_message (rw (c.in-Err-TypeNotMessage.is, c.in-Err-TypeNotMessage.field-0-is) refl) in
-    not_message self.index.now.occurrences (SeenBy self.links.now self.file) (reference_to a.scope.now a.text.now a.place a.want a.options.now) found.1.0
-    found.0 found.1.1
+    recalled_more self.index.now.occurrences (SeenBy self.links.now self.file) a.scope.now _ a.recalled.now.items
+    c.remember.new.recalled.items c.requires c.in_ok-found.ensures c.in_ok-remember.ensures
