@@ -1,4 +1,4 @@
-//! How a line is shown: as characters that a terminal writes in one column each, and cut around the place where it is long.
+//! How a line is shown: a character a column, as if a terminal wrote each in one, and cut around the place where it is long.
 
 ghost use Rattle.std.specs.Prelude.{◌≡◌, IfOk, length, map};
 ghost use Rattle.fault_report.specs.Shown.{cut_back, cut_front, shown, shown_char};

@@ -1,7 +1,7 @@
 //! Answering a reflection stream over gRPC-Web: from the bytes of a request body to those of the response.
 //!
 //! The standards are gRPC's PROTOCOL-WEB.md and `reflection.proto` of `grpc.reflection.v1`. How a body is read is said by the
-//! crate `reflect_requests`, and which files go with which reply by `first_reach`, whose calls are calls of this crate too.
+//! crate `reflect_requests`, whose calls are calls of this crate too, and which files go with which reply by `first_reach`.
 #![tactic(auto)]
 
 mod answer;

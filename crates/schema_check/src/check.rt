@@ -54,8 +54,8 @@ where
     })
 }
 
-/// Writes all faults of read texts that can be told at once: where some texts have faults of their own, the first of
-/// each, in the order of the texts; else the first fault of the later passes. For each its line, the rows of its text around the
+/// Writes all faults of read texts that can be told at once: where the first of all is one of a text by itself, the first of each
+/// text that has one, in the order of the texts; else the first of all, alone. For each its line, the rows of its text around the
 /// place with carets below the token, what it means and its cure; at last how many there are. The answer is `Sound` only where
 /// there is none.
 ///

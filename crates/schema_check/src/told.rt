@@ -31,8 +31,8 @@ where
     }
 }
 
-/// The faults of sources that can be told at once: where some sources have faults of their own, the first of each of these, in
-/// the order of the sources; else the first of the later passes; none only where the sources are compiled.
+/// The faults of sources that can be told at once: where the first of all is one of a source by itself, the first of each source
+/// that has one, in the order of the sources; else the first of all, alone; none only where the sources are compiled.
 pub fn told_faults<R>(
     rt: &R,
     sources: &[Source],

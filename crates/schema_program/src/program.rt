@@ -187,7 +187,8 @@ where
 
 /// Runs the program on `words`, whose first is its name, and gives its exit status: 0 done, 1 a fault of a source,
 /// 2 a wrong command line, 3 a device that failed, 4 no memory. For 1, 3 and 4 one line goes to `faults`, but for the faults
-/// that `check` tells on the output, and for 2 the text of `clap`. What `faults` refuses is lost.
+/// that `check` tells on the output, and a second one where `check` can't read a folder; for 2 the text of `clap`. What `faults`
+/// refuses is lost.
 pub fn run<R, I, O, E>(rt: &R, words: &[&str], input: &mut I, output: &mut O, faults: &mut E) -> u8
 where
     R: Wait + Threads + Files + Clock + RandomSource + AllocGlobal + Sync + Clone + Drop + Net,

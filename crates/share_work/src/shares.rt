@@ -31,8 +31,8 @@ pub(crate) type Row<O> = VecDeque<Vec<O>>;
 ///
 /// Seat `w` is that of worker `w`. Each worker goes through the gate with `phase` and the piece's number as it begins a piece.
 /// A worker that has a piece works in a thread of its own, but for the last of them, which works on the calling thread; so does
-/// one whose thread can't be started. All workers have ended when the answer comes, a refusal too. Where there is no memory,
-/// the seats fit all the same, and have gained nothing but what the items add.
+/// one whose thread can't be started. Where there is no memory, the seats fit all the same, and have gained nothing but what the
+/// items add. All workers have ended when the answer comes, a refusal too; of that no contract tells.
 pub fn in_shares<R, G, T, W, O, S>(
     rt: &R,
     plan: Plan,

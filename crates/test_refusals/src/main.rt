@@ -1,4 +1,4 @@
-//! Each call that may have no memory, made twice in a round: an allocation is refused in the first, and the second has what it
+//! Calls that may have no memory, each made twice in a round: an allocation is refused in the first, and the second has what it
 //! needs.
 //!
 //! The first answers that it had no memory, or as ever, and the second as ever. tests/refused_calls.sh refuses the allocations of

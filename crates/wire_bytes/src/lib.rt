@@ -1,7 +1,7 @@
 //! Descriptors as bytes of the wire format.
 //!
 //! The standard is `descriptor.proto`. What the wire format itself is, with its writing and reading, is the crate
-//! `wire_format`, whose calls are calls of this crate too.
+//! `wire_format`, of which this crate hands on what a message is written and read by.
 #![tactic(auto)]
 
 mod backward;
