@@ -1,6 +1,6 @@
 #!/usr/bin/env bash
 # Sources and bodies that are cut short, and each limit at its end, through the built program. Limits that are lowered are tested
-# in crates/test_sources, crates/test_compile and crates/test_answers.
+# in crates/test_sources, crates/test_compile, crates/test_wire and crates/test_answers.
 set -u
 cd "$(dirname "$(readlink -f "$0")")/.." || exit 2
 . tests/common.bash
