@@ -2,7 +2,7 @@
 
 ghost use Rattle.std.specs.Prelude.{Some};
 ghost use Rattle.std.specs.Fmt.{WritesOnOk};
-ghost use Rattle.schema_failure.specs.Lines.{shown_name};
+ghost use Rattle.schema_failure.specs.Lines.{shown_char, shown_name};
 
 use std::fmt;
 
@@ -10,15 +10,21 @@ use std::fmt;
 #[derive(Clone, Copy)]
 pub struct Shown<'a>(pub &'a str);
 
+fn write_char<W: fmt::Write>(c: char, f: &mut fmt::Formatter<W>) -> fmt::Result
+    ensures { WritesOnOk W.write_str_gives f.old result (shown_char c) f.new }
+{
+    if c.is_ascii_control() {
+        write!(f, "\\u{{{:x}}}", u32::from(c))
+    } else {
+        write!(f, "{c}")
+    }
+}
+
 fn write_shown<W: fmt::Write>(name: &str, f: &mut fmt::Formatter<W>) -> fmt::Result
     ensures { WritesOnOk W.write_str_gives f.old result (shown_name name.now) f.new }
 {
     for c in name.chars() {
-        if c.is_ascii_control() {
-            write!(f, "\\u{{{:x}}}", u32::from(c))?;
-        } else {
-            write!(f, "{c}")?;
-        }
+        write_char(c, f)?;
     }
     Ok(())
 }
