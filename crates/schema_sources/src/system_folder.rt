@@ -1,6 +1,6 @@
 //! Folders of the system. What is in them is not known.
 
-ghost use Rattle.std.specs.Prelude.{IfOk, None};
+ghost use Rattle.std.specs.Prelude.{◌≡◌, ◌∷◌, ◌++◌, [], IfOk, None, OnOk};
 ghost use Rattle.source_folder.specs.Folder.{names_of};
 ghost use Rattle.source_folder.specs.Paths.{AreRising};
 
@@ -30,6 +30,25 @@ fn missing(alloc: Global, root: &str, name: &str) -> Result<FolderTrouble, Alloc
     })
 }
 
+/// Adds the source of a name below a folder. A name under which no file is there is `Listing`.
+fn put_named<R: Files + AllocGlobal>(
+    rt: &R,
+    texts: &mut Vec<NamedText>,
+    root: &str,
+    name: &str,
+    limits: &Limits,
+) -> Result<(), FolderTrouble>
+    ensures { OnOk result (names_of texts.new.items ≡ names_of texts.old.items ++ name.now ∷ []) }
+{
+    let alloc = rt.alloc();
+    let Some(text) = read_source(rt, root, name, limits)? else {
+        return Err(missing(alloc, root, name)?);
+    };
+    let name = String::from_str(alloc, name)?;
+    texts.push(NamedText { name, text })?;
+    Ok(())
+}
+
 /// The sources of these names below a folder, each once, in the order of their names. A name under which no file is there is
 /// `Listing`.
 fn named_sources<R: Files + AllocGlobal>(
@@ -47,11 +66,7 @@ fn named_sources<R: Files + AllocGlobal>(
     }
     let mut texts = Vec::new(alloc);
     for name in names.iter() {
-        let Some(text) = read_source(rt, root, name, limits)? else {
-            return Err(missing(alloc, root, name)?);
-        };
-        let name = String::from_str(alloc, name)?;
-        texts.push(NamedText { name, text })?;
+        put_named(rt, &mut texts, root, name, limits)?;
     }
     Ok(texts)
 }
@@ -103,6 +118,19 @@ impl<R: Files + AllocGlobal> SystemFolder<'_, R> {
         }
     }
 
+    /// Adds where the source of a name lies, unless that is the root.
+    fn put_elsewhere<'t>(
+        &'t self,
+        all: &mut Vec<Elsewhere<'t>>,
+        name: &'t str,
+    ) -> Result<(), AllocError> {
+        let folders = SystemFolders { rt: self.rt };
+        match first_folder(&folders, self.root, self.includes, name)? {
+            Some(folder) if folder != self.root => Ok(all.push(Elsewhere { name, folder })?),
+            _ => Ok(()),
+        }
+    }
+
     /// The text of a name from the first of the folders that has it.
     fn first_text(&self, name: &str, limits: &Limits) -> Result<Option<Vec<u8>>, FolderTrouble> {
         let folders = SystemFolders { rt: self.rt };
@@ -130,13 +158,8 @@ impl<R: Files + AllocGlobal> SourceFolder for SystemFolder<'_, R> {
         if self.includes.is_empty() {
             return Ok(all);
         }
-        let folders = SystemFolders { rt: self.rt };
         for text in texts {
-            let name = text.name.as_str();
-            match first_folder(&folders, self.root, self.includes, name)? {
-                Some(folder) if folder != self.root => all.push(Elsewhere { name, folder })?,
-                _ => {}
-            }
+            self.put_elsewhere(&mut all, text.name.as_str())?;
         }
         Ok(all)
     }
