@@ -131,6 +131,19 @@ if become_ordinary 'a file that may not be read was not tried'; then
     [ "$got" = 3 ] && [ "$(<got.err)" = 'device: folder' ] || fail "a file that may not be read: status $got, $(<got.err)"
 fi
 
+# Tens of thousands of folders, none of which has the import.
+mkdir lonely
+printf 'syntax = "proto3"; import "nowhere.proto";' >lonely/a.proto
+folders=()
+for ((turn = 0; turn < 40000; turn++)); do
+    folders+=(--include second)
+done
+for command in compile check; do
+    "$program" "$command" --root lonely "${folders[@]}" >got.out 2>&1
+    got=$?
+    [ "$got" = 1 ] && grep -q 'a[.]proto:1:27: ImportMissing' got.out || fail "$command with tens of thousands of folders: status $got, $(head -c 200 got.out)"
+done
+
 # ---- the other commands
 
 "$program" compile --root wanted >wanted.pb

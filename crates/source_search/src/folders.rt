@@ -29,6 +29,24 @@ pub trait Folders {
         ensures { IfOk result (IsThere (contents self.now) folder.now name.now) };
 }
 
+/// The text under a name in the first of the folders that has one.
+fn text_among<F: Folders>(
+    folders: &F,
+    among: &[&str],
+    name: &str,
+    limits: &Limits,
+) -> Result<Option<Vec<u8>>, FolderTrouble>
+    ensures { IfOk result (IsFirstText (F.contents folders.now) (map (λ f. f.now) among.now)
+        name.now) }
+{
+    for folder in among {
+        if let Some(text) = folders.text_below(folder, name, limits)? {
+            return Ok(Some(text));
+        }
+    }
+    Ok(None)
+}
+
 /// The text under a name from the first that has one: the folder, and then the later ones in their order.
 pub fn first_text<F: Folders>(
     folders: &F,
@@ -40,13 +58,27 @@ pub fn first_text<F: Folders>(
     ensures { IfOk result (IsFirstText (F.contents folders.now)
         (folder.now ∷ map (λ f. f.now) later.now) name.now) }
 {
-    if let Some(text) = folders.text_below(folder, name, limits)? {
-        return Ok(Some(text));
+    match folders.text_below(folder, name, limits)? {
+        Some(text) => Ok(Some(text)),
+        None => text_among(folders, later, name, limits),
     }
-    match later.split_first() {
-        Some((next, others)) => first_text(folders, next, others, name, limits),
-        None => Ok(None),
+}
+
+/// The first of the folders that has a text under a name.
+fn folder_among<'f, F: Folders>(
+    folders: &F,
+    among: &[&'f str],
+    name: &str,
+) -> Result<Option<&'f str>, AllocError>
+    ensures { IfOk result (IsFirstFolder (F.contents folders.now) (map (λ f. f.now) among.now)
+        name.now) }
+{
+    for folder in among {
+        if folders.has(folder, name)? {
+            return Ok(Some(folder));
+        }
     }
+    Ok(None)
 }
 
 /// The first that has a text under a name: the folder, and then the later ones in their order.
@@ -62,8 +94,5 @@ pub fn first_folder<'f, F: Folders>(
     if folders.has(folder, name)? {
         return Ok(Some(folder));
     }
-    match later.split_first() {
-        Some((next, others)) => first_folder(folders, next, others, name),
-        None => Ok(None),
-    }
+    folder_among(folders, later, name)
 }
