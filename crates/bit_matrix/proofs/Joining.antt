@@ -4,7 +4,8 @@ use Rattle.std.specs.Int.{bit_at, trailing_zeros}
 use Rattle.std.proofs.lemmas.Bool.{cases_eq, cases_lt}
 use Rattle.std.proofs.lemmas.Nat.{row_fits, and_le_l}
 use Rattle.std.proofs.lemmas.Nat.Bits.{bit_at_and, bit_at_or, bit_at-lt, bit_at-zero, bit_at-trailing_zeros}
-use Rattle.bit_matrix.specs.Bits.{Bits, HasJoined, Meet, columns_of, word_of}
+use Rattle.bit_matrix.specs.Bits.{Bits, word_of}
+use Rattle.bit_matrix.specs.Changes.{HasJoined, Meet, columns_of}
 use Rattle.bit_matrix.specs.Words.{AreJoined, AreSameOrApart}
 use Rattle.bit_matrix.proofs.Words.{bit_of, has_is}
 

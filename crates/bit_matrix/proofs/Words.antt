@@ -6,7 +6,8 @@ use Rattle.std.proofs.lemmas.Bool.{cases_eq, eqb-true, eq-eqb}
 use Rattle.std.proofs.lemmas.List.{get_or-set_same, get_or-set_other}
 use Rattle.std.proofs.lemmas.Nat.{row_fits, same_from_place}
 use Rattle.std.proofs.lemmas.Nat.Bits.{bit_at_set_same, bit_at_set_other, shr_and_one}
-use Rattle.bit_matrix.specs.Bits.{Bits, Has, HasInserted, columns_of, has, word_of}
+use Rattle.bit_matrix.specs.Bits.{Bits, has, word_of}
+use Rattle.bit_matrix.specs.Changes.{Has, HasInserted, columns_of}
 
 -- ---- a bit
 

@@ -1,7 +1,8 @@
 //! A matrix of bits.
 
 ghost use Rattle.std.specs.Prelude.{◌≡◌, ◌↔◌, ◌+◌, ◌<◌, ◌≤◌, IsTrue, OnErr, OnOk, length};
-ghost use Rattle.bit_matrix.specs.Bits.{HasJoined, HasInserted, IsLonger, Meet, columns_of, has};
+ghost use Rattle.bit_matrix.specs.Bits.{has};
+ghost use Rattle.bit_matrix.specs.Changes.{HasJoined, HasInserted, IsLonger, Meet, columns_of};
 ghost use Rattle.bit_matrix.specs.Words.{AreJoined, AreSameOrApart};
 
 use std::alloc::{AllocError, Global};

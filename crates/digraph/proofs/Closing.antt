@@ -14,7 +14,8 @@ use Rattle.std.proofs.lemmas.List.Sorted.{Contains-permutation, IsPermutation-sy
 use Rattle.std.proofs.lemmas.Map.Keys.{IsDistinct-IsPermutation, IsStrictlyIncreasing-from_distinct}
 use lib.Dec.{eqb}
 use Rattle.digraph.specs.Edges.{Graph, Edge, IsFalling, successors}
-use Rattle.digraph.specs.Leads.{Leads, here, through, IsReach, AreReaches, InLists, IsUnion, AreClosed}
+use Rattle.digraph.specs.Leads.{Leads, here, through}
+use Rattle.digraph.specs.Reaches.{IsReach, AreReaches, InLists, IsUnion, AreClosed}
 use Rattle.digraph.specs.Marks.{AreMarked, Among}
 use Rattle.digraph.proofs.Marking.{among_more, among_all}
 use Rattle.digraph.proofs.Visiting.{no_position}

@@ -4,7 +4,8 @@ use Rattle.std.specs.Prelude.{Contains, ◌↔◌}
 use Rattle.std.proofs.lemmas.Bool.{cases_eq, cases_lt}
 use Rattle.std.proofs.lemmas.List.{get_or_default}
 use Rattle.std.proofs.lemmas.List.Elements.{Contains-get_or}
-use Rattle.bit_matrix.specs.Bits.{Bits, Has, HasInserted, HasJoined, IsAsLarge, IsLonger, columns_of, has}
+use Rattle.bit_matrix.specs.Bits.{Bits, has}
+use Rattle.bit_matrix.specs.Changes.{Has, HasInserted, HasJoined, IsAsLarge, IsLonger, columns_of}
 use Rattle.digraph.specs.Edges.{Graph, Edge, IsFalling, successors}
 use Rattle.digraph.specs.Leads.{Leads, here, through}
 use Rattle.digraph.specs.ReachRows.{AreReachRows, HasRowPushed, HasRowsJoined, HaveSuccessorsJoined, InRows, LeadsToLabel}

@@ -14,7 +14,7 @@ use Rattle.std.proofs.lemmas.Map.Steps.{length-le_from_distinct_below, le-length
 use Rattle.std.proofs.lemmas.Map.Views.{Contains-from_any, list_any-from_Contains}
 use lib.Dec.{eqb}
 use Rattle.digraph.specs.Edges.{Graph, Edge, IsWithin, successors}
-use Rattle.digraph.specs.Leads.{HasNoCycle}
+use Rattle.digraph.specs.Reaches.{HasNoCycle}
 use Rattle.digraph.specs.Marks.{IsMarked, NoneMarked}
 use Rattle.digraph.specs.Ranks.{rank_in, IsBefore, IsRanked, IsRankOrder}
 use Rattle.digraph.specs.Rounds.{ArePassed, AllMarked, GoesInto}

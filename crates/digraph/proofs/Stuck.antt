@@ -7,7 +7,8 @@ use Rattle.std.proofs.lemmas.Map.Keys.{IsDistinct-cons}
 use Rattle.std.proofs.lemmas.Map.Steps.{length-le_from_distinct_below}
 use lib.Dec.{eqb}
 use Rattle.digraph.specs.Edges.{Graph, Edge}
-use Rattle.digraph.specs.Leads.{Leads, here, through, HasNoCycle}
+use Rattle.digraph.specs.Leads.{Leads, here, through}
+use Rattle.digraph.specs.Reaches.{HasNoCycle}
 use Rattle.digraph.proofs.Rising.{all_map}
 use Rattle.digraph.proofs.Ways.{leads_trans}
 

@@ -6,3 +6,4 @@ pub mod Ranks
 pub mod ReachRows
 pub mod Renumbered
 pub mod Rounds
+pub mod Reaches

@@ -1,6 +1,7 @@
 -- Rows of bits of nodes that have labels: in a row the labels of nodes are set.
 use Rattle.std.specs.Prelude.{◌≡◌, ◌⊎◌, ◌↔◌, ℕ, ◌+◌, ◌<◌, ◌≤◌, List, length, Contains}
-use Rattle.bit_matrix.specs.Bits.{Bits, Has, IsAsLarge, columns_of, has}
+use Rattle.bit_matrix.specs.Bits.{Bits, has}
+use Rattle.bit_matrix.specs.Changes.{Has, IsAsLarge, columns_of}
 use Rattle.digraph.specs.Edges.{Graph, Edge}
 use Rattle.digraph.specs.Leads.{Leads}
 use Rattle.digraph.specs.Renumbered.{node_at}

@@ -3,7 +3,7 @@
 ghost use Rattle.std.specs.List.Sorted.{IsStrictlyIncreasing};
 ghost use Rattle.std.specs.Prelude.{◌≡◌, ◌↔◌, List, ℕ, ◌<◌, ◌≤◌, ◌++◌, ◌∷◌, [], length, slice_index_or, Contains, IfOk, OnOk};
 ghost use Rattle.digraph.specs.Edges.{IsFalling, graph_of};
-ghost use Rattle.digraph.specs.Leads.{AreClosed, AreReaches, InLists, IsUnion};
+ghost use Rattle.digraph.specs.Reaches.{AreClosed, AreReaches, InLists, IsUnion};
 ghost use Rattle.digraph.specs.Marks.{AreMarked, NoneMarked};
 
 use crate::lists::Lists;

@@ -6,7 +6,7 @@
 ghost use Rattle.std.specs.Prelude.{◌≡◌, ◌⊎◌, ◌↔◌, ℕ, ◌<◌, [], length, Contains, IfOk, IfSome, IfNone, OnOk};
 ghost use Rattle.std.specs.List.Sorted.{IsStrictlyIncreasing};
 ghost use Rattle.digraph.specs.Edges.{Edge, IsWithin, graph_of, successors};
-ghost use Rattle.digraph.specs.Leads.{HasNoCycle};
+ghost use Rattle.digraph.specs.Reaches.{HasNoCycle};
 ghost use Rattle.digraph.specs.Marks.{IsMarked};
 ghost use Rattle.digraph.specs.Ranks.{IsRanked, IsRankOrder, rank_in};
 ghost use Rattle.digraph.specs.Rounds.{AllMarked, ArePassed, GoesInto, IsPassed, Stops};

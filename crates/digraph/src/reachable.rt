@@ -1,7 +1,7 @@
 //! What each node leads to as a row of bits, where every edge goes to a smaller node.
 
 ghost use Rattle.std.specs.Prelude.{◌≡◌, ℕ, ◌<◌, ◌≤◌, All, Contains, IfOk, OnOk, length};
-ghost use Rattle.bit_matrix.specs.Bits.{columns_of};
+ghost use Rattle.bit_matrix.specs.Changes.{columns_of};
 ghost use Rattle.digraph.specs.Edges.{IsFalling, graph_of};
 ghost use Rattle.digraph.specs.ReachRows.{AreReachRows, HasRowPushed, HasRowsJoined, HaveSuccessorsJoined};
 

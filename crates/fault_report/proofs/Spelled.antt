@@ -1,7 +1,7 @@
 -- Tokens of the program, and what they spell.
 use Rattle.std.proofs.Common.{◌≡◌, ◌∙◌, sym, ap, refl, ℕ, true, false, cond, eqb, List, [], ◌∷◌, Option, Some, map}
 use Rattle.std.specs.Prelude.{find, option_map}
-use Rattle.proto_tokens.specs.Token.{spelled}
+use Rattle.proto_tokens.specs.ProgramTokens.{spelled}
 use Rattle.proto_base.specs.declared.kind.Kind.{Kind}
 use Rattle.proto_base.specs.declared.place.Place.{Place}
 use Rattle.proto_tokens.specs.declared.token.Token.{Token}

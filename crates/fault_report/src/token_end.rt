@@ -4,7 +4,7 @@ ghost use Rattle.std.specs.Prelude.{◌≡◌, ◌==◌, IfOk, find, option_map}
 ghost use Rattle.fault_report.specs.Tokens.{IsTokenEnd, end_among, offset_of};
 ghost use Rattle.proto_base.specs.Limits.{limit_of};
 ghost use Rattle.proto_base.specs.declared.limits.Limit.TheVariants as limit;
-ghost use Rattle.proto_tokens.specs.Token.{tokens_of};
+ghost use Rattle.proto_tokens.specs.ProgramTokens.{tokens_of};
 
 use proto_base::{Limits, Place};
 use proto_tokens::{Token, TokenError, Tokens, tokenize};

@@ -5,7 +5,8 @@ use Rattle.std.specs.Io.KnownBytes.{Appends, Consumes, Keeps}
 use Rattle.std.proofs.lemmas.List.{append_assoc, append-nil, length-append, drop_all, length-drop, length-take-le, take_all}
 use borrow.Rule.Slice.PartMut.{put_mid}
 use Rattle.grpcweb_core.specs.Exchange.{IsRead, IsWritten, IsWrittenInPart}
-use Rattle.grpcweb_core.specs.Streams.{Call, Reads, Writes, IsReadOnce, IsWrittenOnce, IsFlushedOnce, given}
+use Rattle.grpcweb_core.specs.Streams.{Call, Reads, Writes, given}
+use Rattle.grpcweb_core.specs.Calls.{IsReadOnce, IsWrittenOnce, IsFlushedOnce}
 
 -- ---- lists and known bytes
 

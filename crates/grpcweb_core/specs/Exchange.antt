@@ -1,7 +1,6 @@
 -- What answering a reader's bytes over a writer does.
-use Rattle.std.specs.Prelude.{◌≡◌, ◌⊎◌, ℕ, suc, ◌+◌, ◌<◌, ◌≤◌, List, [], ◌∷◌, ◌++◌, length, take, Option, Some, Result, Ok, Err, Vec}
+use Rattle.std.specs.Prelude.{◌≡◌, ◌⊎◌, ℕ, suc, ◌+◌, ◌<◌, ◌≤◌, List, [], ◌∷◌, ◌++◌, length, take, Option, Some, Result, Ok, Err}
 use Rattle.std.specs.Io.KnownBytes.{Appends, Consumes, IsAtEnd}
-use Rattle.std.specs.declared.alloc.Global.{Global}
 use Rattle.first_reach.specs.declared.mode.Mode.{Mode}
 use Rattle.grpcweb_core.specs.Streams.{Call, Reads, Writes}
 use Rattle.grpcweb_core.specs.declared.stream.IoFault.{IoFault}
@@ -43,20 +42,6 @@ pub record IsWrittenInPart (old new : Writes) (bytes : List ℕ) (written : ℕ)
   pub taken : new.bytes ≡ old.bytes ++ take written bytes
   pub failures : new.failures ≡ suc old.failures
   pub contents : Appends old.contents new.contents (take written bytes)
-
--- what a reading of bytes did, by how it ended
-abbrev pub IsReadRun : ℕ → Reads → Reads → Result (Vec ℕ Global) IoFault → Type 0
-IsReadRun room old new (Ok bytes) = IsRead room old new bytes.items
-IsReadRun room old new (Err ReadFault) = new.failures ≡ suc old.failures
-IsReadRun room old new (Err (WriteFault written)) = ⊥
-IsReadRun room old new (Err NoMemory) = new.failures ≡ old.failures
-
--- what a writing of bytes did, by how it ended
-abbrev pub IsWriteRun : {A : Type 0} → Writes → Writes → List ℕ → Result A IoFault → Type 0
-IsWriteRun old new bytes (Ok a) = IsWritten old new bytes
-IsWriteRun old new bytes (Err (WriteFault written)) = IsWrittenInPart old new bytes written
-IsWriteRun old new bytes (Err ReadFault) = ⊥
-IsWriteRun old new bytes (Err NoMemory) = ⊥
 
 -- one byte over the limit of a body, which is enough to tell that it is too long
 abbrev pub room_of : Compilation → ℕ

@@ -3,3 +3,5 @@ pub mod Exchange
 pub mod ExchangeSteps
 pub mod Http
 pub mod Streams
+pub mod Runs
+pub mod Calls

@@ -1,7 +1,8 @@
 //! Answering over a reader and a writer: the bytes of a request body come from one, and those of the response go to the other.
 
 ghost use Rattle.std.specs.Prelude.{◌≡◌, ◌+◌, ◌-◌, ◌<◌, ◌≤◌, ◌^◌, length, take, IfOk};
-ghost use Rattle.grpcweb_core.specs.Exchange.{IsExchange, IsFewMore, IsReadRun, IsWriteRun, room_of};
+ghost use Rattle.grpcweb_core.specs.Exchange.{IsExchange, IsFewMore, room_of};
+ghost use Rattle.grpcweb_core.specs.Runs.{IsReadRun, IsWriteRun};
 ghost use Rattle.grpcweb_core.specs.ExchangeSteps.{IsFilled};
 
 use crate::stream::{CountedRead, CountedWrite, IoFault};

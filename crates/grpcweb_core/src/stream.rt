@@ -2,7 +2,8 @@
 
 ghost use Rattle.std.specs.Prelude.{◌≡◌, ◌<◌, ◌-◌, ◌^◌};
 ghost use Rattle.std.specs.Io.{ReadsAtMost, WritesAtMost};
-ghost use Rattle.grpcweb_core.specs.Streams.{Reads, Writes, IsReadOnce, IsWrittenOnce, IsFlushedOnce};
+ghost use Rattle.grpcweb_core.specs.Streams.{Reads, Writes};
+ghost use Rattle.grpcweb_core.specs.Calls.{IsReadOnce, IsWrittenOnce, IsFlushedOnce};
 
 use std::alloc::AllocError;
 use std::io;

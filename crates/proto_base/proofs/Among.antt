@@ -4,7 +4,8 @@ use Rattle.std.proofs.lemmas.List.{take_more, append-nil, take_all}
 use Rattle.std.proofs.lemmas.List.Concat.{flat_map-append}
 use Rattle.std.specs.Prelude.{Option, Some, None, Result, Ok, Err, IfOk, flat_map}
 use Rattle.proto_base.specs.declared.spot.Spot.{Spot}
-use Rattle.proto_base.specs.Least.{IsLeast, IsLesser, AtMost}
+use Rattle.proto_base.specs.Least.{IsLeast, AtMost}
+use Rattle.proto_base.specs.Lesser.{IsLesser}
 use Rattle.proto_base.specs.Sets.{StandsAt, Each, Later}
 use Rattle.proto_base.proofs.Sets.{least_none, least_or, least_same, at_most_itself, Either, WithTo}
 

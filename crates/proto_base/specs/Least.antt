@@ -22,9 +22,3 @@ Bounds (Some a) x = AtMost a x
 pub record IsLeast (S : Spot → Type 0) (first : Option Spot) : Type 0 where
   pub found : IfSome first S
   pub least : (x : Spot) → S x → Bounds first x
-
--- the lesser of two, where there are any
-pub record IsLesser (a b first : Option Spot) : Type 0 where
-  pub one : (first ≡ a) ⊎ (first ≡ b)
-  pub left : (x : Spot) → Bounds a x → Bounds first x
-  pub right : (x : Spot) → Bounds b x → Bounds first x

@@ -5,3 +5,7 @@ pub mod Fault
 pub mod formers
 pub mod Least
 pub mod Sets
+pub mod KindNames
+pub mod Lesser
+pub mod StandardLimits
+pub mod Told

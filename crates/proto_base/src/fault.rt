@@ -1,7 +1,8 @@
 //! Faults of a list of sources, and which of them comes first.
 
 ghost use Rattle.std.specs.Prelude.{◌≡◌};
-ghost use Rattle.proto_base.specs.Fault.{found, found_cmp};
+ghost use Rattle.proto_base.specs.Fault.{found_cmp};
+ghost use Rattle.proto_base.specs.Told.{found};
 
 use crate::kind::Kind;
 use crate::place::Place;

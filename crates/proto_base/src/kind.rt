@@ -5,7 +5,8 @@ ghost use Rattle.std.specs.Cmp.{partial_order_from_own_ties};
 ghost use Rattle.std.specs.Cmp.Rules.{comparing};
 ghost use Rattle.std.specs.Ordering.{nat_cmp, on, as_partial_cmp};
 ghost use Rattle.std.proofs.Common.{rules};
-ghost use Rattle.proto_base.specs.Kind.{number_of, name_of};
+ghost use Rattle.proto_base.specs.Kind.{number_of};
+ghost use Rattle.proto_base.specs.KindNames.{name_of};
 ghost use Rattle.proto_base.specs.KindOrder.{one_number};
 
 use std::cmp::Ordering;

@@ -57,7 +57,8 @@ pub struct Limits {
 }
 
 impl Limits {
-    ghost use Rattle.proto_base.specs.Limits.{limit_of, standard_of};
+    ghost use Rattle.proto_base.specs.Limits.{limit_of};
+    ghost use Rattle.proto_base.specs.StandardLimits.{standard_of};
     ghost use Rattle.proto_base.specs.declared.limits.Limit.{Limit};
 
     /// The greatest value of each limit.

@@ -1,6 +1,6 @@
 //! What is wrong at a place, and which of two such faults comes first.
 
-ghost use Rattle.proto_base.specs.Least.{IsLesser};
+ghost use Rattle.proto_base.specs.Lesser.{IsLesser};
 
 use crate::kind::Kind;
 use crate::place::Place;

@@ -3,7 +3,7 @@ use Rattle.std.proofs.Common.{◌∷◌, zero, suc, map, ◌≡◌, ◌∙◌, �
 use Rattle.std.specs.Prelude.{slice_get}
 use Rattle.std.specs.Option.{option_map, unwrap_or}
 use Rattle.proto_base.specs.Limits.{limit_of}
-use Rattle.proto_tokens.specs.Token.{spelled, tokens_of}
+use Rattle.proto_tokens.specs.ProgramTokens.{spelled, tokens_of}
 use Rattle.proto_base.specs.declared.limits.Limit.TheVariants as limit
 use Rattle.proto_base.specs.declared.limits.Limits.{Limits}
 use Rattle.proto_tokens.specs.declared.token.Token.{Token}
@@ -11,7 +11,8 @@ use Rattle.proto_tokens.specs.Spelling.{IsTokenList}
 use Rattle.proto_base.specs.declared.kind.Kind.{Kind}
 use Rattle.proto_base.specs.declared.place.Place.{Place}
 use Rattle.proto_tokens.specs.declared.token.Tokens.{Tokens}
-use Rattle.proto_syntax.specs.Fault.{IsTreeOf, IsFaultAt, IsKindOf, place_at}
+use Rattle.proto_syntax.specs.Fault.{IsTreeOf, IsFaultAt, IsKindOf}
+use Rattle.proto_syntax.specs.Told.{place_at}
 use Rattle.proto_syntax.specs.Trees.{file_tree}
 use Rattle.proto_tree.specs.declared.file.FileTree.{FileTree}
 use Rattle.proto_lower.specs.Files.{lowered}

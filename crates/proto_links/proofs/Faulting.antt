@@ -14,11 +14,13 @@ use Rattle.proto_base.specs.Kind.{number_of}
 use Rattle.proto_base.specs.declared.kind.Kind.{Kind}
 use Rattle.proto_base.specs.declared.kind.Kind.TheVariants as kind
 use Rattle.proto_base.specs.declared.place.Place.{Place}
-use Rattle.proto_base.specs.Least.{AtMost, Bounds, IsLeast, IsLesser, spot}
+use Rattle.proto_base.specs.Least.{AtMost, Bounds, IsLeast, spot}
+use Rattle.proto_base.specs.Lesser.{IsLesser}
 use Rattle.proto_base.specs.declared.spot.Spot.{Spot}
 use Rattle.proto_base.proofs.Sets.{least_or, least_same}
 use Rattle.proto_links.specs.Graphs.{IsGraph, IsWrongAt, IsWrongIn}
-use Rattle.proto_links.specs.Imports.{AreInNameOrder, IsNamed, Imports, Reaches, IsWrong, missing, cyclic, IsBad, IsFirstBad, IsNoLater, NoneBad, imports_at}
+use Rattle.proto_links.specs.Imports.{IsNamed, Imports, Reaches, IsWrong, missing, cyclic, IsBad, NoneBad, imports_at}
+use Rattle.proto_links.specs.Bad.{AreInNameOrder, IsFirstBad, IsNoLater}
 use Rattle.proto_links.proofs.Named.{named_once}
 use Rattle.proto_links.proofs.Targeting.{importer_inside}
 

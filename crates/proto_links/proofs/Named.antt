@@ -10,7 +10,8 @@ use Rattle.std.proofs.lemmas.Map.Lookups.{exact_bytes}
 use Rattle.std.proofs.lemmas.List.{get_or-map}
 use Rattle.digraph.proofs.Visiting.{no_position}
 use Rattle.proto_desc.specs.declared.file.FileDesc.{FileDesc}
-use Rattle.proto_links.specs.Imports.{name_of, name_at, AreInNameOrder, IsNamed}
+use Rattle.proto_links.specs.Imports.{name_of, name_at, IsNamed}
+use Rattle.proto_links.specs.Bad.{AreInNameOrder}
 use Rattle.proto_links.proofs.NameRows.{equal_itself, far_apart, less_not_equal, not_less_itself}
 
 -- names at a distance

@@ -6,9 +6,11 @@ use Rattle.std.proofs.lemmas.Bool.{eqb-true}
 use Rattle.std.proofs.lemmas.Grind.{common_steps}
 use Rattle.std.proofs.lemmas.List.{get_or-map}
 use Rattle.std.proofs.lemmas.Map.Views.{Contains-from_any, list_any-from_Contains}
-use Rattle.bit_matrix.specs.Bits.{Bits, Has, columns_of}
+use Rattle.bit_matrix.specs.Bits.{Bits}
+use Rattle.bit_matrix.specs.Changes.{Has, columns_of}
 use Rattle.digraph.specs.Edges.{Graph, Edge, IsFalling, IsWithin, graph_of}
-use Rattle.digraph.specs.Leads.{Leads, here, through, IsReach as IsReachList, AreReaches}
+use Rattle.digraph.specs.Leads.{Leads, here, through}
+use Rattle.digraph.specs.Reaches.{IsReach as IsReachList, AreReaches}
 use Rattle.digraph.specs.Ranks.{rank_in}
 use Rattle.digraph.specs.Renumbered.{node_at}
 use Rattle.digraph.specs.declared.ranks.Ranking.{Ranking}
@@ -18,7 +20,8 @@ use Rattle.digraph.proofs.Ways.{leads_map, leads_le}
 use Rattle.proto_desc.specs.declared.file.FileDesc.{FileDesc}
 use Rattle.proto_links.specs.Graphs.{IsGraph, IsPublicGraph}
 use Rattle.proto_links.specs.Imports.{Imports, ImportsPublicly, Reaches}
-use Rattle.proto_links.specs.Linked.{Linked, has, IsSound, AreLinked, IsSetOrder, AreRanks, IsReach}
+use Rattle.proto_links.specs.Linked.{Linked, AreLinked, IsSetOrder, AreRanks, IsReach}
+use Rattle.proto_links.specs.Whole.{has, IsSound}
 use Rattle.proto_links.specs.Positioned.{ArePositioned, AreFilesReached, AreFilesSeen, AreRanked, file_imports, file_public_imports, import_rows, public_rows}
 use Rattle.proto_links.specs.Visible.{Sees}
 use Rattle.proto_links.specs.declared.graph.Graph.{Graph as ImportGraph}

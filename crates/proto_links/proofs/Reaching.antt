@@ -2,7 +2,8 @@
 use Rattle.std.proofs.Common.{◌≡◌, sym, ℕ, ◌<◌, ◌≤◌, List, length, refl, subst, arith, inl, inr, ◌⊎◌}
 use Rattle.std.specs.Prelude.{Contains, ◌↔◌}
 use Rattle.digraph.specs.Edges.{Graph, Edge}
-use Rattle.digraph.specs.Leads.{Leads, here, through, HasNoCycle}
+use Rattle.digraph.specs.Leads.{Leads, here, through}
+use Rattle.digraph.specs.Reaches.{HasNoCycle}
 use Rattle.digraph.specs.Ranks.{rank_in, IsRanked}
 use Rattle.digraph.proofs.Ways.{leads_map, leads_last}
 use Rattle.proto_desc.specs.declared.file.FileDesc.{FileDesc}

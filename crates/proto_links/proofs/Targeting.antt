@@ -12,7 +12,8 @@ use Rattle.digraph.proofs.Visiting.{push_iff, no_position}
 use Rattle.proto_desc.specs.declared.file.FileDesc.{FileDesc}
 use Rattle.proto_desc.specs.declared.file.ImportDesc.{ImportDesc}
 use Rattle.proto_links.specs.Graphs.{HasMissing, IsGraph, IsPublicGraph}
-use Rattle.proto_links.specs.Imports.{imports_of, imports_at, AreInNameOrder, IsNamed, Targets, PublicTargets, Imports, ImportsPublicly}
+use Rattle.proto_links.specs.Imports.{imports_of, imports_at, IsNamed, Targets, PublicTargets, Imports, ImportsPublicly}
+use Rattle.proto_links.specs.Bad.{AreInNameOrder}
 use Rattle.proto_links.proofs.Named.{named_once}
 use Rattle.proto_links.proofs.Rising.{none_in}
 

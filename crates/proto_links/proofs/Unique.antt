@@ -7,7 +7,7 @@ use Rattle.proto_desc.specs.declared.file.FileDesc.{FileDesc}
 use Rattle.proto_base.specs.declared.kind.Kind.{Kind}
 use Rattle.proto_base.specs.declared.place.Place.{Place}
 use Rattle.proto_base.proofs.Spots.{one_spot}
-use Rattle.proto_links.specs.Imports.{IsFirstBad, IsNoLater}
+use Rattle.proto_links.specs.Bad.{IsFirstBad, IsNoLater}
 use Rattle.proto_links.specs.Linked.{Linked, AreLinked, AreRanks, IsBefore, IsInSetOrder, IsSetOrder, rank_of, sees}
 use Rattle.proto_links.proofs.Rising.{IsStrict, Rises, one_rising}
 

@@ -9,7 +9,8 @@ use Rattle.digraph.specs.Leads.{here}
 use Rattle.digraph.proofs.Ways.{leads_trans}
 use Rattle.proto_desc.specs.declared.file.FileDesc.{FileDesc}
 use Rattle.proto_links.specs.Imports.{Imports}
-use Rattle.proto_links.specs.Linked.{Linked, AreLinked, AreReachesWhole, IsBefore, count_of, has, rank_of, reach_of}
+use Rattle.proto_links.specs.Linked.{Linked, AreLinked, IsBefore, count_of, rank_of, reach_of}
+use Rattle.proto_links.specs.Whole.{AreReachesWhole, has}
 use Rattle.proto_links.proofs.Positions.{has_is}
 use Rattle.proto_links.proofs.Reaching.{leads_inside}
 use Rattle.proto_links.proofs.Rising.{IsStrict, Rises, behind, first_before, front, front_or_behind, next_behind, none_in, one_rising, rest_rises}

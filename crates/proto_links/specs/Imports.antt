@@ -1,12 +1,8 @@
 -- Which file imports which, and what is wrong with an import. A file is named by its position in the list of files.
-use Rattle.std.specs.Prelude.{◌≡◌, ◌⊎◌, ℕ, ◌+◌, ◌<◌, List, [], length, map, slice_index_or, Contains, IsTrue}
-use Rattle.std.specs.Cmp.Lexicographic.{slice_cmp}
-use Rattle.std.specs.Ordering.{nat_cmp}
-use Rattle.std.specs.declared.cmp.Ordering.TheVariants.{Less}
+use Rattle.std.specs.Prelude.{◌≡◌, ℕ, ◌<◌, List, [], length, map, slice_index_or, Contains, IsTrue}
 use Rattle.digraph.specs.Leads.{Leads}
 use Rattle.proto_desc.specs.declared.file.FileDesc.{FileDesc}
 use Rattle.proto_desc.specs.declared.file.ImportDesc.{ImportDesc}
-use Rattle.proto_base.specs.Least.{AtMost, spot}
 use Rattle.proto_base.specs.declared.kind.Kind.{Kind}
 use Rattle.proto_base.specs.declared.kind.Kind.TheVariants as kind
 use Rattle.proto_base.specs.declared.place.Place.{Place}
@@ -22,11 +18,6 @@ name_at files a = slice_index_or (map name_of files) a []
 
 abbrev pub imports_at : List FileDesc → ℕ → List ImportDesc
 imports_at files a = slice_index_or (map imports_of files) a []
-
--- each name comes before the next one, byte by byte
-abbrev pub AreInNameOrder : List FileDesc → Type 0
-AreInNameOrder files =
-    (k : ℕ) → k + 1 < length files → slice_cmp nat_cmp (name_at files k) (name_at files (k + 1)) ≡ Less
 
 -- b is the file of this name
 abbrev pub IsNamed : List FileDesc → List ℕ → ℕ → Type 0
@@ -60,15 +51,6 @@ pub data IsWrong (files : List FileDesc) (a : ℕ) (i : ImportDesc) : Kind → T
 abbrev pub IsBad : List FileDesc → ℕ → Place → Kind → Type 0
 IsBad files a place kind =
     (i : ImportDesc) × Contains (imports_at files a) i × (i.place ≡ place) × IsWrong files a i kind
-
--- by file, then by place, then by the kind's number
-abbrev pub IsNoLater : ℕ → Place → Kind → ℕ → Place → Kind → Type 0
-IsNoLater a p k b q l = (a < b) ⊎ ((a ≡ b) × AtMost (spot p k) (spot q l))
-
--- the first of the bad imports
-pub record IsFirstBad (files : List FileDesc) (a : ℕ) (place : Place) (kind : Kind) : Type 0 where
-  pub bad : IsBad files a place kind
-  pub least : (b : ℕ) (q : Place) (l : Kind) → IsBad files b q l → IsNoLater a place kind b q l
 
 abbrev pub NoneBad : List FileDesc → Type 0
 NoneBad files = (a : ℕ) (place : Place) (kind : Kind) → IsBad files a place kind → ⊥

@@ -3,3 +3,5 @@ pub mod Imports
 pub mod Linked
 pub mod Positioned
 pub mod Visible
+pub mod Bad
+pub mod Whole

@@ -1,7 +1,6 @@
 -- Files whose imports are found, by their positions in the list of files.
-use Rattle.std.specs.Prelude.{◌≡◌, ◌⊎◌, ◌↔◌, ℕ, ◌+◌, ◌<◌, ◌≤◌, List, [], length, filter, Bool, IsTrue, Contains, slice_index_or, ◌==◌}
-use Rattle.std.specs.List.{list_any, IsDistinct}
-use Rattle.bit_matrix.specs.Bits.{Bits, Has, columns_of, has as is_set}
+use Rattle.std.specs.Prelude.{◌≡◌, ◌⊎◌, ◌↔◌, ℕ, ◌+◌, ◌<◌, List, [], length, Bool, IsTrue, Contains, slice_index_or}
+use Rattle.bit_matrix.specs.Bits.{Bits, has as is_set}
 use Rattle.proto_desc.specs.declared.file.FileDesc.{FileDesc}
 use Rattle.proto_links.specs.Imports.{Imports, Reaches, NoneBad}
 use Rattle.proto_links.specs.Visible.{Sees}
@@ -14,9 +13,6 @@ pub record Linked : Type 0 where
   pub positions : List ℕ
   pub reach : List (List ℕ)
   pub seen : Bits
-
-abbrev pub has : ℕ → List ℕ → Bool
-has a files = list_any (λ b. a == b) files
 
 abbrev pub count_of : Linked → ℕ
 count_of links = length links.ranks
@@ -32,17 +28,6 @@ reach_of links a = slice_index_or links.reach (position_of links a) []
 
 abbrev pub sees : Linked → ℕ → ℕ → Bool
 sees links a b = is_set links.seen (position_of links a) b
-
--- one of the files that are set in a row is seen
-abbrev pub SeesOneOf : Linked → ℕ → Bits → ℕ → Type 0
-SeesOneOf links a files row = (b : ℕ) × (b < columns_of files) × IsTrue (sees links a b) × Has files row b
-
--- each file has its position in set order, a list and a row there, and is set or not in each row
-pub record IsSound (links : Linked) : Type 0 where
-  pub size : length links.positions ≡ length links.ranks
-  pub reach_inside : (a : ℕ) → a < length links.ranks → position_of links a < length links.reach
-  pub seen_inside : (a : ℕ) → a < length links.ranks → position_of links a < links.seen.rows
-  pub columns : length links.ranks ≤ columns_of links.seen
 
 -- ---- what the links of files are
 
@@ -76,23 +61,3 @@ pub record AreLinked (files : List FileDesc) (links : Linked) : Type 0 where
   pub order : IsSetOrder (length files) (rank_of links) links.set_order
   pub reach : (a : ℕ) → a < length files → IsReach files (rank_of links) a (reach_of links a)
   pub sees : (a b : ℕ) → a < length files → b < length files → IsTrue (sees links a b) ↔ Sees files a b
-
--- the links of some files
-abbrev pub AreOfFiles : Linked → Type 0
-AreOfFiles links = (files : List FileDesc) × AreLinked files links
-
--- ---- what is so of the links of any files
-
--- a file reaches files alone, itself among them, and what those reach that it reaches; no file stands twice in a list;
--- what a
--- file reaches is a part of the set order, which has every file
-pub record AreReachesWhole (links : Linked) : Type 0 where
-  pub within : (a b : ℕ) → a < count_of links → Contains (reach_of links a) b → b < count_of links
-  pub itself : (a : ℕ) → a < count_of links → Contains (reach_of links a) a
-  pub closed : (a b c : ℕ) → a < count_of links → Contains (reach_of links a) b → Contains (reach_of links b) c
-      → Contains (reach_of links a) c
-  pub once : (a : ℕ) → a < count_of links → IsDistinct ◌==◌ (reach_of links a)
-  pub part : (a : ℕ) → a < count_of links → reach_of links a ≡ filter (λ b. has b (reach_of links a)) links.set_order
-  pub every : (a : ℕ) → Contains links.set_order a ↔ (a < count_of links)
-  pub each_once : IsDistinct ◌==◌ links.set_order
-  pub size : length links.set_order ≡ count_of links

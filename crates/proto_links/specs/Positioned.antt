@@ -2,7 +2,7 @@
 use Rattle.std.specs.Prelude.{◌≡◌, ℕ, List, length, map}
 use Rattle.bit_matrix.specs.Bits.{Bits}
 use Rattle.digraph.specs.Edges.{Graph, graph_of}
-use Rattle.digraph.specs.Leads.{AreReaches}
+use Rattle.digraph.specs.Reaches.{AreReaches}
 use Rattle.digraph.specs.Ranks.{IsRanked, IsRankOrder}
 use Rattle.digraph.specs.ReachRows.{AreReachRows, HaveSuccessorsJoined}
 use Rattle.digraph.specs.Renumbered.{ArePositions, IsRenumbered, node_at}

@@ -5,7 +5,8 @@ ghost use Rattle.digraph.specs.Edges.{graph_of};
 ghost use Rattle.digraph.specs.Marks.{IsMarked};
 ghost use Rattle.proto_desc.specs.declared.file.ImportDesc.{ImportDesc};
 ghost use Rattle.proto_links.specs.Graphs.{IsGraph, IsWrongIn};
-ghost use Rattle.proto_links.specs.Imports.{AreInNameOrder, IsFirstBad, IsWrong, NoneBad, Reaches, imports_at};
+ghost use Rattle.proto_links.specs.Imports.{IsWrong, NoneBad, Reaches, imports_at};
+ghost use Rattle.proto_links.specs.Bad.{AreInNameOrder, IsFirstBad};
 ghost use Rattle.proto_base.specs.Least.{IsLeast};
 ghost use Rattle.proto_base.specs.declared.kind.Kind.{Kind};
 

@@ -2,7 +2,8 @@
 
 ghost use Rattle.std.specs.Prelude.{◌≡◌, ◌↔◌, ℕ, Contains, IfOk, IsTrue, false};
 ghost use Rattle.digraph.specs.Edges.{graph_of};
-ghost use Rattle.proto_links.specs.Imports.{AreInNameOrder, PublicTargets, Targets, imports_at};
+ghost use Rattle.proto_links.specs.Imports.{PublicTargets, Targets, imports_at};
+ghost use Rattle.proto_links.specs.Bad.{AreInNameOrder};
 ghost use Rattle.proto_links.specs.Graphs.{HasMissing, IsGraph, IsPublicGraph};
 
 use crate::order::file_named;

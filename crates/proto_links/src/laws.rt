@@ -2,7 +2,7 @@
 
 ghost use Rattle.std.specs.Prelude.{◌≡◌, ℕ, ◌<◌, List, length, IsTrue};
 ghost use Rattle.proto_desc.specs.declared.file.FileDesc.{FileDesc};
-ghost use Rattle.proto_links.specs.Imports.{IsFirstBad};
+ghost use Rattle.proto_links.specs.Bad.{IsFirstBad};
 ghost use Rattle.proto_links.specs.Linked.{AreLinked, Linked, sees};
 ghost use Rattle.proto_base.specs.declared.kind.Kind.{Kind};
 ghost use Rattle.proto_base.specs.declared.place.Place.{Place};

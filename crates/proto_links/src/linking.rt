@@ -1,7 +1,7 @@
 //! Linking: finding each import's file, and what is wrong with the imports.
 
 ghost use Rattle.std.specs.Prelude.{◌≡◌, ℕ, Err, IfOk};
-ghost use Rattle.proto_links.specs.Imports.{AreInNameOrder, IsFirstBad};
+ghost use Rattle.proto_links.specs.Bad.{AreInNameOrder, IsFirstBad};
 ghost use Rattle.proto_links.specs.Linked.{AreLinked};
 ghost use Rattle.proto_links.specs.Positioned.{AreRanked};
 ghost use Rattle.proto_base.specs.declared.kind.Kind.{Kind};

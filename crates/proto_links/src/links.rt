@@ -1,8 +1,9 @@
 //! Files whose imports are found.
 
 ghost use Rattle.std.specs.Prelude.{◌≡◌, ◌<◌, ℕ, IsTrue};
-ghost use Rattle.bit_matrix.specs.Bits.{Has, columns_of};
-ghost use Rattle.proto_links.specs.Linked.{AreReachesWhole, SeesOneOf, count_of, rank_of, reach_of, sees};
+ghost use Rattle.bit_matrix.specs.Changes.{Has, columns_of};
+ghost use Rattle.proto_links.specs.Linked.{count_of, rank_of, reach_of, sees};
+ghost use Rattle.proto_links.specs.Whole.{AreReachesWhole, SeesOneOf};
 
 use bit_matrix::BitMatrix;
 use digraph::{Lists, Ranking};
@@ -25,7 +26,8 @@ pub struct Links {
 }
 
 impl Model for Links {
-    ghost use Rattle.proto_links.specs.Linked.{AreOfFiles, IsSound, Linked};
+    ghost use Rattle.proto_links.specs.Linked.{Linked};
+    ghost use Rattle.proto_links.specs.Whole.{AreOfFiles, IsSound};
 
     ghost Value = { Linked };
 

@@ -4,7 +4,8 @@ ghost use Rattle.std.specs.Prelude.{◌≡◌, ◌↔◌, ℕ, IsTrue, MatchOpti
 ghost use Rattle.std.specs.Cmp.Lexicographic.{slice_cmp};
 ghost use Rattle.std.specs.Ordering.{nat_cmp};
 ghost use Rattle.std.specs.declared.cmp.Ordering.TheVariants.{Less};
-ghost use Rattle.proto_links.specs.Imports.{AreInNameOrder, IsNamed, name_of};
+ghost use Rattle.proto_links.specs.Imports.{IsNamed, name_of};
+ghost use Rattle.proto_links.specs.Bad.{AreInNameOrder};
 
 use proto_desc::file::FileDesc;
 use std::cmp::Ordering;

@@ -7,7 +7,8 @@ use Rattle.std.proofs.lemmas.List.Sorted.{Contains-permutation, IsPermutation-sy
 use Rattle.proto_desc.specs.DeclaredNames.{declared_by}
 use Rattle.proto_desc.specs.declared.file.FileDesc.{FileDesc}
 use Rattle.proto_desc.specs.declared.file.PackageDesc.{PackageDesc}
-use Rattle.proto_names.specs.Occurrences.{Occurrence, IsTwice, NoneTwice, IsFirstTwice, declared_occurrence, package_occurrence, package_occurrences, occurrences_of, occurrences_from, occurrences}
+use Rattle.proto_names.specs.Occurrences.{Occurrence, IsTwice, NoneTwice, declared_occurrence, package_occurrence, package_occurrences, occurrences_of, occurrences_from, occurrences}
+use Rattle.proto_names.specs.Repeated.{IsFirstTwice}
 use Rattle.proto_names.specs.Scopes.{prefixes}
 use Rattle.proto_names.proofs.Apart.{ContainsBoth-permutation}
 use Rattle.proto_names.proofs.Occurring.{first_of}

@@ -7,7 +7,8 @@ use Rattle.std.proofs.lemmas.Option.{same_Some, slice_get_read}
 use Rattle.proto_desc.specs.declared.file.FileDesc.{FileDesc}
 use Rattle.proto_base.specs.declared.limits.Limits.{Limits}
 use Rattle.proto_base.specs.declared.place.Place.{Place}
-use Rattle.proto_names.specs.Index.{AreDeclaredOnce, Index, Indexes}
+use Rattle.proto_names.specs.Index.{Index, Indexes}
+use Rattle.proto_names.specs.Repeated.{AreDeclaredOnce}
 use Rattle.proto_names.specs.Occurrences.{IsEarlier, IsPackage, NoneTwice, Occurrence, occurrences}
 use Rattle.proto_names.proofs.Built.{none_moved}
 

@@ -5,7 +5,8 @@ use Rattle.std.proofs.lemmas.Bool.{cases_lt}
 use Rattle.std.proofs.lemmas.List.{get_or_append_left, get_or_default, get_or_push, length-drop, length_push, length-take-le}
 use Rattle.std.proofs.lemmas.Cmp.{ranked}
 use Rattle.std.specs.Ordering.{nat_cmp}
-use Rattle.bit_matrix.specs.Bits.{Bits, Has, HasInserted, IsAsLarge, IsLonger, columns_of, has}
+use Rattle.bit_matrix.specs.Bits.{Bits, has}
+use Rattle.bit_matrix.specs.Changes.{Has, HasInserted, IsAsLarge, IsLonger, columns_of}
 use Rattle.proto_names.specs.Occurrences.{Occurrence, IsPackage}
 use Rattle.proto_names.specs.Packages.{ArePackagesOf, HasFilesOf, HasPackagePut, IsFileOf, IsPackageOf, occurrences_in, run_at}
 use Rattle.proto_names.specs.Runs.{at, blank}

@@ -4,7 +4,8 @@ use Rattle.std.specs.Prelude.{Bool, true, false, IsTrue, ◌↔◌, Option, None
 use Rattle.std.proofs.lemmas.Bool.{cases_lt, false≢true}
 use Rattle.std.proofs.lemmas.Option.{none-some, slice_get-get_or, slice_get_within, get_or_from_slice_get}
 use Rattle.proto_desc.specs.declared.name_kind.NameKind.{NameKind}
-use Rattle.proto_names.specs.Occurrences.{Occurrence, IsEarlier, IsPackage, IsTwice, NoneTwice, IsFirstTwice}
+use Rattle.proto_names.specs.Occurrences.{Occurrence, IsEarlier, IsPackage, IsTwice, NoneTwice}
+use Rattle.proto_names.specs.Repeated.{IsFirstTwice}
 use Rattle.proto_names.specs.Order.{AreInOrder, Bounds, IsLesser, NoLater, location_of}
 use Rattle.proto_names.specs.Runs.{IsRun, Repeats, at, blank}
 use Rattle.proto_names.specs.declared.entry.Location.{Location}

@@ -5,7 +5,8 @@ use Rattle.std.specs.Prelude.{Bool, Option, None, Some, MatchOption}
 use Rattle.proto_desc.specs.DeclaredNames.{scoped}
 use Rattle.proto_desc.specs.declared.name_kind.NameKind.{NameKind}
 use Rattle.proto_names.specs.Occurrences.{Occurrence}
-use Rattle.proto_names.specs.Resolution.{is_type, is_scope, is_message, Visible, Decides, IsInnermost, Means, IsType, Resolves, ResolvesNowhere, AreSeenAlike}
+use Rattle.proto_names.specs.Resolution.{is_type, is_scope, is_message, Visible, Decides, IsInnermost, Means, IsType, Resolves, ResolvesNowhere}
+use Rattle.proto_names.specs.SeenAlike.{AreSeenAlike}
 use Rattle.proto_names.specs.Resolution.IsType.{message, enumeration}
 use Rattle.proto_names.specs.Scopes.{is_dot}
 use Rattle.proto_names.proofs.Meaning.{innermost_same}

@@ -1,5 +1,5 @@
 -- The index of the names of files.
-use Rattle.std.specs.Prelude.{◌≡◌, ℕ, ◌<◌, ◌≤◌, List, length, map, filter, Bool, true, false, Option, None, Some, Contains, IsPermutation, IsSorted, slice_get}
+use Rattle.std.specs.Prelude.{◌≡◌, ℕ, ◌<◌, ◌≤◌, List, length, map, filter, Bool, true, false, Option, None, Some, Contains, IsPermutation, IsSorted}
 use Rattle.std.specs.Cmp.Lexicographic.{slice_cmp}
 use Rattle.std.specs.Ordering.{nat_cmp}
 use Rattle.proto_desc.specs.declared.file.FileDesc.{FileDesc}
@@ -8,8 +8,7 @@ use Rattle.proto_desc.specs.declared.name_kind.NameKind.TheVariants as kind
 use Rattle.proto_base.specs.Limits.{limit_of}
 use Rattle.proto_base.specs.declared.limits.Limit.TheVariants as limit
 use Rattle.proto_base.specs.declared.limits.Limits.{Limits}
-use Rattle.proto_base.specs.declared.place.Place.{Place}
-use Rattle.proto_names.specs.Occurrences.{Occurrence, IsPackage, occurrences, NoneTwice, IsFirstTwice}
+use Rattle.proto_names.specs.Occurrences.{Occurrence, occurrences, NoneTwice}
 
 -- what occurs in so many files, and the names of the services among it
 pub record Index : Type 0 where
@@ -21,14 +20,8 @@ abbrev pub name_of : Occurrence → List ℕ
 name_of o = o.name
 
 abbrev pub is_service_kind : Option NameKind → Bool
-is_service_kind None = false
-is_service_kind (Some kind.Message) = false
-is_service_kind (Some kind.Field) = false
-is_service_kind (Some kind.Oneof) = false
-is_service_kind (Some kind.Enum) = false
-is_service_kind (Some kind.Value) = false
 is_service_kind (Some kind.Service) = true
-is_service_kind (Some kind.Method) = false
+is_service_kind _ = false
 
 abbrev pub services_of : List Occurrence → List (List ℕ)
 services_of os = map name_of (filter (λ o. is_service_kind o.kind) os)
@@ -48,19 +41,3 @@ pub record Indexes (descs : List FileDesc) (limits : Limits) (index : Index) : T
   pub once : NoneTwice (occurrences descs)
   pub all : IsPermutation (occurrences descs) index.occurrences
   pub sound : IsSound index
-
--- the first occurrence that repeats a name, of no more than the limit
-pub record IsRepeated (descs : List FileDesc) (limits : Limits) (file : ℕ) (place : Place) : Type 0 where
-  pub within : length (occurrences descs) ≤ limit_of limits limit.Names
-  pub twice : IsFirstTwice (occurrences descs) file place
-
--- the index of some files
-abbrev pub IsOfFiles : Index → Type 0
-IsOfFiles index = (descs : List FileDesc) × (limits : Limits) × Indexes descs limits index
-
--- the full name of an element has one occurrence, which stands once
-pub record AreDeclaredOnce (index : Index) : Type 0 where
-  pub one : (o p : Occurrence) → Contains index.occurrences o → Contains index.occurrences p
-      → o.name ≡ p.name → (IsPackage o → ⊥) → o ≡ p
-  pub once : (i j : ℕ) (o : Occurrence) → slice_get index.occurrences i ≡ Some o
-      → slice_get index.occurrences j ≡ Some o → (IsPackage o → ⊥) → i ≡ j

@@ -10,3 +10,5 @@ pub mod Resolution
 pub mod Runs
 pub mod Scopes
 pub mod Steps
+pub mod Repeated
+pub mod SeenAlike

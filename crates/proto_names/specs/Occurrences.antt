@@ -63,8 +63,3 @@ IsTwice os b = (a : Occurrence) × ContainsBoth os a b × Clash a b
 
 abbrev pub NoneTwice : List Occurrence → Type 0
 NoneTwice os = (b : Occurrence) → IsTwice os b → ⊥
-
--- the first of the occurrences that occur twice
-pub record IsFirstTwice (os : List Occurrence) (file : ℕ) (place : Place) : Type 0 where
-  pub found : (b : Occurrence) × IsTwice os b × (b.file ≡ file) × (b.place ≡ place)
-  pub least : (b : Occurrence) → IsTwice os b → IsEarlier b.file b.place file place → ⊥

@@ -1,6 +1,7 @@
 -- Words of private contracts: the packages that many files have, and these files as rows of bits.
 use Rattle.std.specs.Prelude.{◌≡◌, ◌⊎◌, ◌↔◌, ℕ, ◌+◌, ◌<◌, ◌++◌, ◌∷◌, [], All, List, Contains, length, take, drop, slice_index_or}
-use Rattle.bit_matrix.specs.Bits.{Bits, Has, IsAsLarge, columns_of, has}
+use Rattle.bit_matrix.specs.Bits.{Bits, has}
+use Rattle.bit_matrix.specs.Changes.{Has, IsAsLarge, columns_of}
 use Rattle.proto_names.specs.Occurrences.{Occurrence, IsPackage}
 use Rattle.proto_names.specs.declared.packages.Run.{Run}
 

@@ -1,5 +1,5 @@
 -- What a spelled name means in a scope (language guide, "Packages and Name Resolution").
-use Rattle.std.specs.Prelude.{◌≡◌, ◌⊎◌, ◌↔◌, ℕ, ◌≤◌, List, ◌∷◌, length, take, Bool, true, false, IsTrue, Option, None, Some, Contains, MatchOption}
+use Rattle.std.specs.Prelude.{◌≡◌, ◌⊎◌, ℕ, ◌≤◌, List, ◌∷◌, length, take, Bool, true, false, IsTrue, Option, None, Some, Contains, MatchOption}
 use Rattle.std.specs.List.{position}
 use Rattle.proto_desc.specs.DeclaredNames.{scoped}
 use Rattle.proto_desc.specs.declared.name_kind.NameKind.{NameKind}
@@ -9,36 +9,22 @@ use Rattle.proto_names.specs.Occurrences.{Occurrence}
 use Rattle.proto_names.specs.Scopes.{is_dot, IsCandidate}
 
 abbrev pub is_message : Option NameKind → Bool
-is_message None = false
 is_message (Some kind.Message) = true
-is_message (Some kind.Field) = false
-is_message (Some kind.Oneof) = false
-is_message (Some kind.Enum) = false
-is_message (Some kind.Value) = false
-is_message (Some kind.Service) = false
-is_message (Some kind.Method) = false
+is_message _ = false
 
 -- messages and enums are types
 abbrev pub is_type : Option NameKind → Bool
-is_type None = false
 is_type (Some kind.Message) = true
-is_type (Some kind.Field) = false
-is_type (Some kind.Oneof) = false
 is_type (Some kind.Enum) = true
-is_type (Some kind.Value) = false
-is_type (Some kind.Service) = false
-is_type (Some kind.Method) = false
+is_type _ = false
 
 -- packages, messages, enums and services are scopes
 abbrev pub is_scope : Option NameKind → Bool
 is_scope None = true
 is_scope (Some kind.Message) = true
-is_scope (Some kind.Field) = false
-is_scope (Some kind.Oneof) = false
 is_scope (Some kind.Enum) = true
-is_scope (Some kind.Value) = false
 is_scope (Some kind.Service) = true
-is_scope (Some kind.Method) = false
+is_scope _ = false
 
 -- an occurrence of this name, of such a kind, in a file that is seen
 abbrev pub Visible : List Occurrence → (ℕ → Type 0) → (Option NameKind → Bool) → List ℕ → Type 0
@@ -85,11 +71,3 @@ ResolvesNowhere os Seen scope spelled = (full : List ℕ) (what : NameKind) → 
 -- the files that a file sees
 abbrev pub SeenBy : Linked → ℕ → ℕ → Type 0
 SeenBy links file b = IsTrue (sees links file b)
-
--- the same occurrences, as far as they are seen
-abbrev pub AreSeenAlike : List Occurrence → (ℕ → Type 0) → List Occurrence → (ℕ → Type 0) → Type 0
-AreSeenAlike os Seen ps Sees = (o : Occurrence) → (Contains os o × Seen o.file) ↔ (Contains ps o × Sees o.file)
-
--- the files of which a test is true
-abbrev pub IsSeen : (ℕ → Bool) → ℕ → Type 0
-IsSeen sees b = IsTrue (sees b)

@@ -12,6 +12,7 @@ use crate::entries::Entries;
 use crate::entry::Location;
 use crate::full_name::name_in;
 use crate::scope::{Scope, shorter_prefix};
+use crate::threading::Threading;
 use proto_base::Place;
 use proto_desc::enumeration::EnumDesc;
 use proto_desc::file::{FileDesc, PackageDesc};
@@ -323,8 +324,13 @@ where
     joined(one?, other?, limit)
 }
 
-/// How often files are halved: four threads collect.
-const HALVINGS: usize = 2;
+/// How often files are halved: one thread collects, or four.
+fn halvings(threading: Threading) -> usize {
+    match threading {
+        Threading::Alone => 0,
+        Threading::Shared => 2,
+    }
+}
 
 /// The occurrences in files, or none where they are more than the limit.
 pub(crate) fn collect<R>(
@@ -332,10 +338,11 @@ pub(crate) fn collect<R>(
     alloc: Global,
     files: &[FileDesc],
     limit: u64,
+    threading: Threading,
 ) -> Result<Option<Entries>, AllocError>
 where
     R: Threads + Sync,
     ensures { IfOk result (IsCollected limit 0 files.now) }
 {
-    collect_halves(rt, alloc, 0, files, limit, HALVINGS)
+    collect_halves(rt, alloc, 0, files, limit, halvings(threading))
 }

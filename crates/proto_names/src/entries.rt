@@ -9,6 +9,7 @@ use crate::entry::{Entry, Location};
 use crate::full_name::push_name;
 use crate::names::Names;
 use crate::scope::Scope;
+use crate::threading::Threading;
 use proto_desc::name_kind::NameKind;
 use rayon::prelude::*;
 use std::alloc::{AllocError, Global};
@@ -100,13 +101,13 @@ impl Entries {
     }
 
     /// Sorts the entries by the hashes of their names, then by name, file and place.
-    pub(crate) fn sort<R>(&mut self, rt: &R)
+    pub(crate) fn sort<R>(&mut self, rt: &R, threading: Threading)
     where
         R: Threads + Sync,
         ensures all { IsPermutation self.old self.new }
         ensures order { AreInOrder self.new }
     {
-        sort_entries(rt, self.text.as_bytes(), &mut self.entries);
+        sort_entries(rt, self.text.as_bytes(), &mut self.entries, threading);
     }
 }
 
@@ -143,8 +144,21 @@ fn compare_entries(text: &[u8], first: &Entry, second: &Entry) -> Ordering
     }
 }
 
-/// Sorts entries whose names stand in a text, in place.
-fn sort_entries<R>(rt: &R, text: &[u8], entries: &mut [Entry])
+/// Sorts entries whose names stand in a text, in place, and starts no thread.
+fn sort_alone(text: &[u8], entries: &mut [Entry])
+    ensures all { IsPermutation entries.old entries.new }
+    ensures len { length entries.new ≡ length entries.old }
+    ensures order { IsSorted (entry_cmp text.now) entries.new }
+{
+    entries.sort_unstable_by(
+        |first: &Entry, second: &Entry| -> Ordering
+            ensures { result ≡ entry_cmp text.entry.now first.now second.now }
+        { compare_entries(text, first, second) },
+    );
+}
+
+/// As `sort_alone`, in threads.
+fn sort_in_threads<R>(rt: &R, text: &[u8], entries: &mut [Entry])
 where
     R: Threads + Sync,
     ensures all { IsPermutation entries.old entries.new }
@@ -158,4 +172,18 @@ where
             ensures { result ≡ entry_cmp text.entry.now first.now second.now }
         { compare_entries(text, first, second) },
     );
+}
+
+/// Sorts entries whose names stand in a text, in place.
+fn sort_entries<R>(rt: &R, text: &[u8], entries: &mut [Entry], threading: Threading)
+where
+    R: Threads + Sync,
+    ensures all { IsPermutation entries.old entries.new }
+    ensures len { length entries.new ≡ length entries.old }
+    ensures order { IsSorted (entry_cmp text.now) entries.new }
+{
+    match threading {
+        Threading::Alone => sort_alone(text, entries),
+        Threading::Shared => sort_in_threads(rt, text, entries),
+    }
 }

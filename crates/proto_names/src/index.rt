@@ -4,7 +4,8 @@ ghost use Rattle.std.specs.Prelude.{◌≡◌, ◌≢◌, ◌↔◌, ℕ, ◌<�
 ghost use Rattle.std.specs.Cmp.Lexicographic.{slice_cmp};
 ghost use Rattle.std.specs.Ordering.{nat_cmp};
 ghost use Rattle.proto_desc.specs.DeclaredNames.{scoped};
-ghost use Rattle.proto_names.specs.Index.{AreDeclaredOnce, Indexes, IsRepeated, is_service_kind, services_of};
+ghost use Rattle.proto_names.specs.Index.{Indexes, is_service_kind, services_of};
+ghost use Rattle.proto_names.specs.Repeated.{AreDeclaredOnce, IsRepeated};
 ghost use Rattle.proto_names.specs.declared.index.Defined.{Defined};
 ghost use Rattle.proto_names.specs.Occurrences.{Occurrence, IsPackage, occurrences};
 ghost use Rattle.proto_names.specs.declared.index.NameError.TheVariants as errors;
@@ -16,6 +17,7 @@ use crate::collect::collect;
 use crate::names::Names;
 use crate::scope::Scope;
 use crate::table::EntryTable;
+use crate::threading::Threading;
 use crate::twice::first_twice;
 use proto_base::{Limit, Limits, Place};
 use proto_desc::file::FileDesc;
@@ -68,8 +70,27 @@ fn listed_services(alloc: Global, names: &Names) -> Result<Vec<String>, AllocErr
     Ok(services)
 }
 
+/// Sorts texts in byte order.
+fn sort_texts<R>(rt: &R, texts: &mut [String], threading: Threading)
+where
+    R: Threads + Sync,
+    ensures permutation { IsPermutation texts.old texts.new }
+    ensures len { length texts.new ≡ length texts.old }
+    ensures sorted { IsSorted (λ a b. slice_cmp nat_cmp (string_bytes a) (string_bytes b)) texts.new }
+{
+    match threading {
+        Threading::Alone => texts.sort_unstable(),
+        Threading::Shared => par_sort_unstable(rt, texts),
+    }
+}
+
 /// The names of the services among entries, in byte order.
-fn service_names<R>(rt: &R, alloc: Global, names: &Names) -> Result<Vec<String>, AllocError>
+fn service_names<R>(
+    rt: &R,
+    alloc: Global,
+    names: &Names,
+    threading: Threading,
+) -> Result<Vec<String>, AllocError>
 where
     R: Threads + Sync,
     ensures all { IfOk result (λ services. IsPermutation (services_of names.now)
@@ -78,7 +99,7 @@ where
         (map string_bytes services.items)) }
 {
     let mut services = listed_services(alloc, names)?;
-    par_sort_unstable(rt, &mut services);
+    sort_texts(rt, &mut services, threading);
     Ok(services)
 }
 
@@ -100,7 +121,8 @@ pub struct NameIndex {
 
 impl Model for NameIndex {
     ghost use Rattle.std.specs.Prelude.{map, string_bytes};
-    ghost use Rattle.proto_names.specs.Index.{Index, IsOfFiles, IsSound};
+    ghost use Rattle.proto_names.specs.Index.{Index, IsSound};
+    ghost use Rattle.proto_names.specs.Repeated.{IsOfFiles};
 
     ghost Value = { Index };
 
@@ -138,15 +160,34 @@ impl NameIndex {
         ensures many { result ≡ Err errors.TooMany
             → limit_of limits.now limit.Names < length (occurrences files.now) }
     {
+        NameIndex::build_by(rt, files, limits, Threading::Shared)
+    }
+
+    /// As `build`, in threads or on the calling thread alone. That changes nothing of the answer.
+    pub fn build_by<R>(
+        rt: &R,
+        files: &[FileDesc],
+        limits: &Limits,
+        threading: Threading,
+    ) -> Result<NameIndex, NameError>
+    where
+        R: Threads + AllocGlobal + Sync,
+        ensures indexed { IfOk result (Indexes files.now limits.now) }
+        ensures twice { (file : ℕ) (place : Place) → result ≡ Err (errors.At file place)
+            → IsRepeated files.now limits.now file place }
+        ensures many { result ≡ Err errors.TooMany
+            → limit_of limits.now limit.Names < length (occurrences files.now) }
+    {
         let alloc = rt.alloc();
-        let Some(mut entries) = collect(rt, alloc, files, limits.get(Limit::Names))? else {
+        let limit = limits.get(Limit::Names);
+        let Some(mut entries) = collect(rt, alloc, files, limit, threading)? else {
             return Err(NameError::TooMany);
         };
-        entries.sort(rt);
+        entries.sort(rt, threading);
         if let Some(location) = first_twice(&entries.names()) {
             return Err(NameError::At(location.file, location.place));
         }
-        let services = service_names(rt, alloc, &entries.names())?;
+        let services = service_names(rt, alloc, &entries.names(), threading)?;
         let files = files.len();
         let entries = EntryTable::new(alloc, entries, files)?;
         Ok(NameIndex {

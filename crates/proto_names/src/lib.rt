@@ -16,9 +16,11 @@ mod packages;
 mod resolve;
 mod scope;
 mod table;
+mod threading;
 mod twice;
 mod visible;
 
 pub use full_name::name_in;
 pub use index::{Defined, NameError, NameIndex};
 pub use resolve::{ResolveError, Resolved, Want, resolution_is_unique};
+pub use threading::Threading;

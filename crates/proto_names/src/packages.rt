@@ -2,7 +2,7 @@
 
 ghost use Rattle.std.specs.Prelude.{◌≡◌, ◌+◌, ◌<◌, ◌≤◌, ◌↔◌, All, IfOk, IfSome, IsTrue, List, OnOk, drop, length, take};
 ghost use Rattle.std.specs.Ordering.{nat_cmp};
-ghost use Rattle.bit_matrix.specs.Bits.{columns_of};
+ghost use Rattle.bit_matrix.specs.Changes.{columns_of};
 ghost use Rattle.proto_names.specs.Occurrences.{IsPackage, Occurrence};
 ghost use Rattle.proto_names.specs.Packages.{ArePackagesOf, HasFilesOf, HasPackagePut, IsPackageOf};
 

@@ -1,7 +1,8 @@
 //! The first name that occurs twice.
 
 ghost use Rattle.std.specs.Prelude.{◌≡◌, ◌≢◌, ◌↔◌, ◌+◌, ◌-◌, ◌<◌, ◌≤◌, IsTrue, false, MatchOption, length};
-ghost use Rattle.proto_names.specs.Occurrences.{IsFirstTwice, NoneTwice};
+ghost use Rattle.proto_names.specs.Occurrences.{NoneTwice};
+ghost use Rattle.proto_names.specs.Repeated.{IsFirstTwice};
 ghost use Rattle.proto_names.specs.Order.{AreInOrder, IsLesser};
 ghost use Rattle.proto_names.specs.Runs.{IsRun, Repeats, at};
 

@@ -1,7 +1,8 @@
 -- What the fault of an item is to the whole.
 use Rattle.std.proofs.Common.{◌≡◌, true, false, List, [], ◌∷◌, length}
 use Rattle.std.specs.Prelude.{◌==◌}
-use Rattle.proto_tokens.specs.Token.{Spelled, spelled}
+use Rattle.proto_tokens.specs.Token.{Spelled}
+use Rattle.proto_tokens.specs.ProgramTokens.{spelled}
 use Rattle.proto_tokens.specs.declared.token.Token.{Token}
 use Rattle.proto_syntax.specs.declared.parser.stop.Stop.{Stop}
 use Rattle.proto_syntax.specs.declared.parser.stop.Stop.TheVariants as stop

@@ -2,15 +2,16 @@
 use Rattle.std.proofs.Common.{◌≡◌, ℕ, ◌+◌, ◌-◌, ◌≤◌, ◌<◌, Bool, true, false, List, [], ◌∷◌, ◌++◌, length, take, refl, sym, ◌∙◌, ap, subst, arith, append_assoc, length-append}
 use Rattle.std.proofs.lemmas.List.{append-nil, length-map}
 use Rattle.proto_tokens.specs.declared.token.Token.{Token}
-use Rattle.proto_syntax.specs.Gives.{spellings}
+use Rattle.proto_syntax.specs.Gives.{spellings, kind_here, kind_at}
 use Rattle.std.proofs.Math.Seq.{take-append_seam, take-append-add}
 use Rattle.std.specs.Prelude.{slice_get}
 use Rattle.proto_base.specs.declared.kind.Kind.TheVariants.{TooDeep}
-use Rattle.proto_tokens.specs.Token.{Spelled, spelled}
+use Rattle.proto_tokens.specs.Token.{Spelled}
+use Rattle.proto_tokens.specs.ProgramTokens.{spelled}
 use Rattle.proto_syntax.specs.Grammar.{Grammar, Tree, flatten, IsFront}
 use Rattle.proto_syntax.specs.Reading.{Outcome, Read, Stops, ended, read, decides}
 use Rattle.proto_syntax.specs.Language.{file}
-use Rattle.proto_syntax.specs.Fault.{IsTreeOf, IsFaultAt, token_before, kind_here, kind_at, IsKindOf, at_end, too_deep, other}
+use Rattle.proto_syntax.specs.Fault.{IsTreeOf, IsFaultAt, token_before, IsKindOf, at_end, too_deep, other}
 use Rattle.proto_syntax.proofs.Begins.{tree_front}
 use Rattle.proto_syntax.proofs.Reach.{Left_at_most, reaches, IsFault, fault_found, read_found, read_again, one_tree}
 use Rattle.proto_syntax.proofs.Levels.{file_decides}

@@ -1,6 +1,7 @@
 -- The turns of a loop that reads a repetition.
 use Rattle.std.proofs.Common.{◌≡◌, ◌&&◌, ◌⊎◌, ℕ, zero, suc, ◌≤◌, ◌<◌, Bool, true, false, cond, not, List, [], ◌∷◌, ◌++◌, length, refl, sym, inl, inr, ◌∙◌, ap, subst, arith}
-use Rattle.proto_tokens.specs.Token.{Spelled, spelled}
+use Rattle.proto_tokens.specs.Token.{Spelled}
+use Rattle.proto_tokens.specs.ProgramTokens.{spelled}
 use Rattle.proto_syntax.specs.Grammar.{Class, fits, Grammar, One, Nothing, ◌⨾◌, ◌∣◌, Many, Beyond, Tree, Empty, Pair, Right, flatten}
 use Rattle.proto_syntax.specs.Reading.{Outcome, Read, Stops, after, mapped, ended, read_many, read, begins, next_fits, can_be_empty, read_one, read_beyond, all_apart, goes_on, decides}
 use Rattle.std.proofs.lemmas.List.{length-map}

@@ -3,11 +3,12 @@ use Rattle.std.proofs.Common.{sym, subst, ℕ, zero, suc, ◌<◌, ◌≤◌, Li
 use Rattle.std.specs.Prelude.{IfErr, MatchResult, slice_get}
 use Rattle.std.specs.Option.{option_map, unwrap_or}
 use Rattle.proto_base.specs.declared.place.Place.{Place}
-use Rattle.proto_tokens.specs.Token.{tokens_of}
+use Rattle.proto_tokens.specs.ProgramTokens.{tokens_of}
 use Rattle.proto_tokens.specs.declared.token.Token.{Token}
 use Rattle.proto_tokens.specs.declared.token.Tokens.{Tokens}
 use Rattle.proto_tree.specs.declared.file.FileTree.{FileTree}
-use Rattle.proto_syntax.specs.Fault.{IsFaultOf, IsPlacedWithin, IsTreeOf, LieWithin}
+use Rattle.proto_syntax.specs.Fault.{IsTreeOf}
+use Rattle.proto_syntax.specs.Told.{IsFaultOf, IsPlacedWithin, LieWithin}
 use Rattle.proto_syntax.specs.Trees.{file_tree}
 use Rattle.proto_syntax.specs.declared.error.ParseError.{ParseError}
 use Rattle.proto_syntax.specs.declared.error.ParseError.TheVariants.{NoMemory, At}

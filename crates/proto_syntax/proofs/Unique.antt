@@ -2,7 +2,8 @@
 use Rattle.std.proofs.Common.{◌≡◌, ℕ, ◌<◌, List, length, refl, ◌∙◌, ap, subst, arith, Result, Ok, Err}
 use Rattle.std.specs.Prelude.{MatchResult, IsErrAnd}
 use Rattle.std.proofs.lemmas.Option.{slice_get_within}
-use Rattle.proto_tokens.specs.Token.{Spelled, tokens_of}
+use Rattle.proto_tokens.specs.Token.{Spelled}
+use Rattle.proto_tokens.specs.ProgramTokens.{tokens_of}
 use Rattle.proto_base.specs.declared.kind.Kind.{Kind}
 use Rattle.proto_tokens.specs.declared.token.Tokens.{Tokens}
 use Rattle.proto_syntax.specs.declared.error.ParseError.{ParseError}
@@ -10,7 +11,9 @@ use Rattle.proto_syntax.specs.declared.error.ParseError.TheVariants.{NoMemory, A
 use Rattle.proto_tree.specs.declared.file.FileTree.{FileTree}
 use Rattle.proto_syntax.specs.Grammar.{Tree}
 use Rattle.proto_syntax.specs.Trees.{file_tree}
-use Rattle.proto_syntax.specs.Fault.{IsTreeOf, IsFaultAt, token_before, kind_of, place_at, IsKindOf, at_end, too_deep, other, IsFaultOf, TellsFault}
+use Rattle.proto_syntax.specs.Fault.{IsTreeOf, IsFaultAt, token_before, kind_of, IsKindOf, at_end, too_deep, other}
+use Rattle.proto_syntax.specs.Gives.{TellsFault}
+use Rattle.proto_syntax.specs.Told.{place_at, IsFaultOf}
 use Rattle.proto_syntax.proofs.Faults.{only_tree}
 use Rattle.proto_syntax.proofs.Prefix.{one_fault}
 

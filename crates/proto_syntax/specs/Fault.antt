@@ -1,14 +1,9 @@
 -- What a list of tokens is: a file with its tree, or at which token it stops being the front of any file, and why.
-use Rattle.std.specs.Prelude.{◌≡◌, ℕ, ◌+◌, ◌-◌, ◌<◌, ◌≤◌, ◌==◌, Bool, false, ◌&&◌, ◌||◌, cond, if◌then◌else◌, List, [], ◌∷◌, length, take, codes, slice_get, Option, None, Some, All}
+use Rattle.std.specs.Prelude.{◌≡◌, ℕ, ◌+◌, ◌-◌, ◌<◌, ◌≤◌, ◌==◌, Bool, false, ◌&&◌, ◌||◌, cond, if◌then◌else◌, List, [], ◌∷◌, length, take, codes, slice_get, Option, None, Some}
 use Rattle.std.specs.Str.{byte}
-use Rattle.std.specs.Option.{option_map, unwrap_or}
-use Rattle.proto_tokens.specs.Token.{Lexeme, Spelled, tokens_of}
-use Rattle.proto_base.specs.declared.place.Place.{Place}
-use Rattle.proto_tokens.specs.declared.token.Tokens.{Tokens}
+use Rattle.proto_tokens.specs.Token.{Lexeme, Spelled}
 use Rattle.proto_base.specs.declared.kind.Kind.{Kind}
 use Rattle.proto_base.specs.declared.kind.Kind.TheVariants.{UnexpectedEnd, TooDeep, CustomOption, LeftOut, Unexpected}
-use Rattle.proto_syntax.specs.declared.error.ParseError.{ParseError}
-use Rattle.proto_syntax.specs.declared.error.ParseError.TheVariants.{NoMemory, At}
 use Rattle.proto_syntax.specs.Grammar.{OneOf, Symbol, fits, Tree, flatten, IsTree, IsFront}
 use Rattle.proto_syntax.specs.Language.{file}
 
@@ -58,36 +53,3 @@ pub data IsKindOf (ts : List Spelled) (k : ℕ) : Kind → Type 0 where
   too_deep : k < length ts → GoesDeeper ts k → IsKindOf ts k TooDeep
   other : {t : Spelled} → slice_get ts k ≡ Some t → (GoesDeeper ts k → ⊥)
       → IsKindOf ts k (kind_of (token_before ts k) t)
-
--- the kind that the token at k shows, where it is not the depth
-abbrev pub kind_here : Option Spelled → Option Spelled → Kind
-kind_here before None = UnexpectedEnd
-kind_here before (Some t) = kind_of before t
-
-abbrev pub kind_at : List Spelled → ℕ → Kind
-kind_at ts k = kind_here (token_before ts k) (slice_get ts k)
-
--- where token k starts, or where the source ends
-abbrev pub place_at : Tokens → ℕ → Place
-place_at tokens k = unwrap_or (option_map (λ t. t.span.start) (slice_get tokens.items.items k)) tokens.end
-
--- the error tells the fault of these tokens, unless memory ran out
-abbrev pub IsFaultOf : ℕ → Tokens → ParseError → Type 0
-IsFaultOf limit tokens NoMemory = Unit {0}
-IsFaultOf limit tokens (At place kind) =
-    (k : ℕ) × IsFaultAt limit (tokens_of tokens) k × IsKindOf (tokens_of tokens) k kind × (place ≡ place_at tokens k)
-
--- the error is for want of memory, or tells that fault
-abbrev pub TellsFault : Tokens → ℕ → Kind → ParseError → Type 0
-TellsFault tokens k kind NoMemory = Unit {0}
-TellsFault tokens k kind (At place told) = (place ≡ place_at tokens k) × (told ≡ kind)
-
--- no token begins behind n, nor does the text end there
-pub record LieWithin (n : ℕ) (tokens : Tokens) : Type 0 where
-  pub begin : All (λ t. t.span.start.offset ≤ n) tokens.items.items
-  pub end : tokens.end.offset ≤ n
-
--- the error is for want of memory, or names a place within n bytes
-abbrev pub IsPlacedWithin : ℕ → ParseError → Type 0
-IsPlacedWithin n NoMemory = Unit {0}
-IsPlacedWithin n (At place kind) = place.offset ≤ n

@@ -1,12 +1,20 @@
 -- What a private method of the parser promises.
-use Rattle.std.specs.Prelude.{◌≡◌, true, false, List, map, Result, Ok, Err}
+use Rattle.std.specs.Prelude.{◌≡◌, true, false, List, map, Result, Ok, Err, ℕ, slice_get, Option, None, Some}
 use Rattle.proto_tokens.specs.declared.token.Token.{Token}
-use Rattle.proto_tokens.specs.Token.{Spelled, spelled}
+use Rattle.proto_tokens.specs.Token.{Spelled}
+use Rattle.proto_tokens.specs.ProgramTokens.{spelled}
 use Rattle.proto_syntax.specs.declared.parser.stop.Stop.{Stop}
 use Rattle.proto_syntax.specs.declared.parser.stop.Stop.TheVariants as stop
 use Rattle.proto_syntax.specs.Grammar.{Grammar, ◌∣◌, Tree}
 use Rattle.proto_syntax.specs.Language.{enum, option, oneof, reserved, map_or_field, symbol, field}
 use Rattle.proto_syntax.specs.Reading.{Outcome, Read, Stops, read}
+use Rattle.proto_tokens.specs.declared.token.Tokens.{Tokens}
+use Rattle.proto_base.specs.declared.kind.Kind.{Kind}
+use Rattle.proto_base.specs.declared.kind.Kind.TheVariants.{UnexpectedEnd, TooDeep, Unexpected}
+use Rattle.proto_syntax.specs.declared.error.ParseError.{ParseError}
+use Rattle.proto_syntax.specs.declared.error.ParseError.TheVariants.{NoMemory, At}
+use Rattle.proto_syntax.specs.Told.{place_at}
+use Rattle.proto_syntax.specs.Fault.{token_before, kind_of}
 
 abbrev pub spellings : List Token → List Spelled
 spellings = map spelled
@@ -29,3 +37,16 @@ Reads tree g result old new = Gives tree result new (read g (spellings old))
 -- a statement of a message that is no message
 abbrev pub flat_item : Grammar
 flat_item = enum ∣ option ∣ oneof ∣ reserved ∣ map_or_field ∣ symbol ";" ∣ field
+
+-- the kind that the token at k shows, where it is not the depth
+abbrev pub kind_here : Option Spelled → Option Spelled → Kind
+kind_here before None = UnexpectedEnd
+kind_here before (Some t) = kind_of before t
+
+abbrev pub kind_at : List Spelled → ℕ → Kind
+kind_at ts k = kind_here (token_before ts k) (slice_get ts k)
+
+-- the error is for want of memory, or tells that fault
+abbrev pub TellsFault : Tokens → ℕ → Kind → ParseError → Type 0
+TellsFault tokens k kind NoMemory = Unit {0}
+TellsFault tokens k kind (At place told) = (place ≡ place_at tokens k) × (told ≡ kind)

@@ -5,3 +5,4 @@ pub mod Trees
 pub mod Reading
 pub mod Gives
 pub mod Position
+pub mod Told

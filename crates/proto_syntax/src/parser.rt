@@ -1,12 +1,15 @@
 //! A parser with one token of look-ahead.
 
 ghost use Rattle.std.specs.Prelude.{◌≡◌, ℕ, List, IfErr, IfOk, IsErrAnd, MatchResult};
-ghost use Rattle.proto_tokens.specs.Token.{Spelled, tokens_of};
+ghost use Rattle.proto_tokens.specs.Token.{Spelled};
+ghost use Rattle.proto_tokens.specs.ProgramTokens.{tokens_of};
 ghost use Rattle.proto_base.specs.Limits.{limit_of};
 ghost use Rattle.proto_base.specs.declared.kind.Kind.{Kind};
 ghost use Rattle.proto_tree.specs.declared.file.FileTree.{FileTree};
 ghost use Rattle.proto_syntax.specs.Grammar.{Tree};
-ghost use Rattle.proto_syntax.specs.Fault.{IsTreeOf, IsFaultAt, IsKindOf, IsFaultOf, TellsFault, LieWithin, IsPlacedWithin};
+ghost use Rattle.proto_syntax.specs.Fault.{IsTreeOf, IsFaultAt, IsKindOf};
+ghost use Rattle.proto_syntax.specs.Gives.{TellsFault};
+ghost use Rattle.proto_syntax.specs.Told.{IsFaultOf, LieWithin, IsPlacedWithin};
 ghost use Rattle.proto_syntax.specs.Trees.{file_tree};
 
 mod block;

@@ -8,9 +8,11 @@ use Rattle.proto_tokens.specs.declared.token.TokenKind.{TokenKind}
 use Rattle.proto_tokens.specs.Cut.{IsCutInto}
 use Rattle.proto_tokens.specs.Quoted.{IsStringFault}
 use Rattle.proto_base.specs.declared.kind.Kind.{Kind}
-use Rattle.proto_tokens.specs.Token.{Lexeme, Spelled, spelled, lexeme_of}
+use Rattle.proto_tokens.specs.Token.{Lexeme, Spelled}
+use Rattle.proto_tokens.specs.ProgramTokens.{spelled, lexeme_of}
 use Rattle.proto_tokens.specs.Piece.{IsLongestPiece, IsPieceFault}
-use Rattle.proto_tokens.specs.Spelling.{Piece, IsCutIntoPieces, tokens_from, token_before, SpellsFrom, IsPlacedWithin, IsFaultOf, mark_len}
+use Rattle.proto_tokens.specs.Spelling.{Piece, IsCutIntoPieces, tokens_from, token_before, SpellsFrom, mark_len}
+use Rattle.proto_tokens.specs.Told.{IsPlacedWithin, IsFaultOf}
 use Rattle.proto_tokens.specs.Steps.{IsFaultFrom, IsFaultAfter}
 use Rattle.proto_tokens.specs.declared.token.TokenError.{TokenError}
 use Rattle.proto_tokens.specs.declared.token.TokenError.TheVariants as errors

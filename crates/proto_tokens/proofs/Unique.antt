@@ -13,9 +13,11 @@ use Rattle.proto_tokens.specs.Bytes.{begins, is_blank, is_quote, is_numeric, is_
 use Rattle.proto_tokens.specs.Cut.{IsCutInto}
 use Rattle.proto_tokens.specs.Numeral.{Writes, IsNumeral, digits_value}
 use Rattle.proto_tokens.specs.Quoted.{Part, IsPart, IsOpened, HasByteAt, IsString, IsStringFault, IsPartFault, is_plain, value_of}
-use Rattle.proto_tokens.specs.Token.{Lexeme, identifier, number, string_literal, punctuation, Spelled, tokens_of}
+use Rattle.proto_tokens.specs.Token.{Lexeme, identifier, number, string_literal, punctuation, Spelled}
+use Rattle.proto_tokens.specs.ProgramTokens.{tokens_of}
 use Rattle.proto_tokens.specs.Piece.{IsPiece, IsLongestPiece, IsPieceFault, IsBadNumber, IsTooBig, HasNoClose}
-use Rattle.proto_tokens.specs.Spelling.{Piece, tokens_from, SpellsFrom, HasPieceFault, IsTokenList, IsFault, IsFaultOf, TellsFault, mark_len}
+use Rattle.proto_tokens.specs.Spelling.{Piece, tokens_from, SpellsFrom, HasPieceFault, IsTokenList, IsFault, mark_len}
+use Rattle.proto_tokens.specs.Told.{IsFaultOf, TellsFault}
 use Rattle.proto_tokens.specs.Escape.{Escaped, byte, character, simple_escape, IsEscape, escaped_bytes}
 use Rattle.proto_tokens.specs.declared.token.Tokens.{Tokens}
 use Rattle.std.specs.Prelude.{Result, Ok, Err, MatchResult, IsErrAnd}

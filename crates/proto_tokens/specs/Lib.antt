@@ -7,3 +7,5 @@ pub mod Token
 pub mod Piece
 pub mod Spelling
 pub mod Steps
+pub mod Told
+pub mod ProgramTokens

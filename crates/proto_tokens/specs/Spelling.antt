@@ -5,8 +5,6 @@ use Rattle.std.specs.Str.{IsUtf8}
 use Rattle.std.specs.Str.Lossy.{utf8_valid_len}
 use Rattle.proto_base.specs.declared.kind.Kind.{Kind}
 use Rattle.proto_base.specs.declared.kind.Kind.TheVariants.{FileTooLong, NotUtf8}
-use Rattle.proto_tokens.specs.declared.token.TokenError.{TokenError}
-use Rattle.proto_tokens.specs.declared.token.TokenError.TheVariants as errors
 use Rattle.proto_tokens.specs.Cut.{IsCutInto}
 use Rattle.proto_tokens.specs.Token.{Lexeme, Spelled}
 use Rattle.proto_tokens.specs.Piece.{IsLongestPiece, IsPieceFault}
@@ -56,18 +54,3 @@ IsFault limit s place kind =
     ((kind ≡ FileTooLong) × (place ≡ 0) × (limit < length s))
     ⊎ (((kind ≡ NotUtf8) × (place ≡ utf8_valid_len s) × (length s ≤ limit) × ¬ (IsUtf8 s))
     ⊎ ((length s ≤ limit) × IsUtf8 s × HasPieceFault s (mark_len s) place kind))
-
--- the fault that an error names; want of memory is none
-abbrev pub IsFaultOf : ℕ → List ℕ → TokenError → Type 0
-IsFaultOf limit s (errors.At place kind) = IsFault limit s place.offset kind
-IsFaultOf limit s errors.NoMemory = Unit {0}
-
--- the error is for want of memory, or names this fault
-abbrev pub TellsFault : ℕ → Kind → TokenError → Type 0
-TellsFault place kind (errors.At there other) = (there.offset ≡ place) × (other ≡ kind)
-TellsFault place kind errors.NoMemory = Unit {0}
-
--- the error's place is one of a text of this length
-abbrev pub IsPlacedWithin : ℕ → TokenError → Type 0
-IsPlacedWithin len (errors.At place kind) = place.offset ≤ len
-IsPlacedWithin len errors.NoMemory = Unit {0}

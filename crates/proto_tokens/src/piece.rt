@@ -6,7 +6,8 @@ ghost use Rattle.std.specs.Option.{option_map};
 ghost use Rattle.std.specs.Char.{is_ascii_digit};
 ghost use Rattle.proto_tokens.specs.Bytes as spec;
 ghost use Rattle.proto_tokens.specs.Piece.{HasNoClose, IsLongestPiece, IsPieceFault};
-ghost use Rattle.proto_tokens.specs.Token.{number, punctuation, lexeme_of};
+ghost use Rattle.proto_tokens.specs.Token.{number, punctuation};
+ghost use Rattle.proto_tokens.specs.ProgramTokens.{lexeme_of};
 ghost use Rattle.proto_tokens.specs.Steps.{IsFirstClose, IsFaultAfter};
 
 use crate::bytes::{

@@ -2,8 +2,10 @@
 
 ghost use Rattle.std.specs.Prelude.{◌≡◌, ◌<◌, ◌≤◌, ◌^◌, ℕ, length, List, map, IfOk, IfErr, IsErrAnd, MatchResult};
 ghost use Rattle.proto_base.specs.Limits.{limit_of};
-ghost use Rattle.proto_tokens.specs.Token.{Spelled, spelled, tokens_of};
-ghost use Rattle.proto_tokens.specs.Spelling.{IsPlacedWithin, mark_len, SpellsFrom, IsTokenList, IsFault, IsFaultOf, TellsFault};
+ghost use Rattle.proto_tokens.specs.Token.{Spelled};
+ghost use Rattle.proto_tokens.specs.ProgramTokens.{spelled, tokens_of};
+ghost use Rattle.proto_tokens.specs.Spelling.{mark_len, SpellsFrom, IsTokenList, IsFault};
+ghost use Rattle.proto_tokens.specs.Told.{IsPlacedWithin, IsFaultOf, TellsFault};
 ghost use Rattle.proto_tokens.specs.Steps.{IsFaultFrom};
 ghost use Rattle.proto_tokens.specs.declared.token.TokenError.TheVariants as errors;
 ghost use Rattle.proto_base.specs.declared.kind.Kind.{Kind};

@@ -18,7 +18,7 @@ use Rattle.proto_desc.specs.declared.type_name.TypeKind.TheVariants as type_kind
 use Rattle.proto_desc.specs.declared.type_name.TypeReference.{TypeReference}
 use Rattle.proto_desc.specs.declared.type_name.TypeReference.TheVariants.{Spelled, Resolved}
 use Rattle.proto_names.specs.Occurrences.{Occurrence}
-use Rattle.proto_names.specs.Resolution.{AreSeenAlike}
+use Rattle.proto_names.specs.SeenAlike.{AreSeenAlike}
 use Rattle.proto_names.proofs.Unique.{resolves_alike, resolves_same, nowhere_alike}
 use Rattle.proto_types.specs.References.{Reference, ReferenceBreaks, TypesBreak, field_scope}
 use Rattle.proto_types.specs.Typed.{named_by, with_type, IsTyped, IsTypedKind, IsTypedField, IsTypedBody, IsTypedMessage, AreTypedMessages, IsTypedMethod, IsTypedService, IsTypedIn}

@@ -5,11 +5,12 @@ use Rattle.std.proofs.lemmas.List.Concat.{flat_map-append}
 use Rattle.std.specs.List.{AllZip}
 use Rattle.std.specs.Prelude.{Option, Some, None, flat_map}
 use Rattle.proto_base.specs.declared.spot.Spot.{Spot}
-use Rattle.proto_base.specs.Least.{IsLesser, Bounds}
+use Rattle.proto_base.specs.Least.{Bounds}
+use Rattle.proto_base.specs.Lesser.{IsLesser}
 use Rattle.proto_base.proofs.Among.{least_append, least_nil, least_single}
 use Rattle.proto_base.proofs.Sets.{at_most_itself, lesser_none}
 use Rattle.proto_names.specs.Occurrences.{Occurrence}
-use Rattle.proto_names.specs.Resolution.{IsSeen}
+use Rattle.proto_names.specs.SeenAlike.{IsSeen}
 use Rattle.proto_types.specs.References.{Reference, ReferenceBreaks}
 use Rattle.proto_types.specs.Steps.{Adds, AreFilled, AreFound, Finds, IsFilled, IsMeaning, Puts}
 use Rattle.proto_types.specs.Typed.{Means}

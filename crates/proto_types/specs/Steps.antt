@@ -7,11 +7,12 @@ use Rattle.proto_desc.specs.declared.name_kind.NameKind.TheVariants as name_kind
 use Rattle.proto_desc.specs.declared.options.OptionDesc.{OptionDesc}
 use Rattle.proto_desc.specs.declared.type_name.TypeKind.{TypeKind}
 use Rattle.proto_desc.specs.declared.type_name.TypeKind.TheVariants as type_kind
-use Rattle.proto_base.specs.Least.{IsLeast, IsLesser, spot}
+use Rattle.proto_base.specs.Least.{IsLeast, spot}
+use Rattle.proto_base.specs.Lesser.{IsLesser}
 use Rattle.proto_base.specs.Sets.{Each}
 use Rattle.proto_base.specs.declared.spot.Spot.{Spot}
 use Rattle.proto_names.specs.Occurrences.{Occurrence}
-use Rattle.proto_names.specs.Resolution.{IsSeen}
+use Rattle.proto_names.specs.SeenAlike.{IsSeen}
 use Rattle.proto_types.specs.References.{Reference, IsPacked, ReferenceBreaks}
 use Rattle.proto_types.specs.Typed.{Means}
 use Rattle.proto_types.specs.declared.found.Found.{Found}

@@ -3,7 +3,8 @@ use Rattle.std.proofs.Common.{◌≡◌, ℕ, List, Some, sym, subst, ◌∙◌}
 use Rattle.std.specs.Prelude.{Contains}
 use Rattle.std.proofs.lemmas.Option.{none-some}
 use Rattle.proto_compile.specs.Compilation.{Compilation}
-use Rattle.proto_names.specs.Index.{Index, AreDeclaredOnce}
+use Rattle.proto_names.specs.Index.{Index}
+use Rattle.proto_names.specs.Repeated.{AreDeclaredOnce}
 use Rattle.proto_names.specs.Occurrences.{Occurrence, IsPackage}
 use Rattle.proto_names.specs.declared.index.Defined.{Defined}
 use Rattle.reflect_core.specs.Answer.{Declares}

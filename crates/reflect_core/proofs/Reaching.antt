@@ -7,7 +7,8 @@ use Rattle.std.proofs.lemmas.List.Sums.{count_by-le-length, length-filter}
 use Rattle.std.proofs.lemmas.Map.Views.{Contains-from_any}
 use Rattle.share_work.specs.Reach.{Reaches}
 use Rattle.share_work.proofs.Sums.{SomePass-any}
-use Rattle.proto_links.specs.Linked.{Linked, AreReachesWhole, count_of, reach_of, has}
+use Rattle.proto_links.specs.Linked.{Linked, count_of, reach_of}
+use Rattle.proto_links.specs.Whole.{AreReachesWhole, has}
 use Rattle.reflect_core.specs.ResponseSteps.{IsReach}
 
 any_at : (g : ℕ) (xs : List ℕ) (k d : ℕ) → k < length xs → get_or xs k d ≡ g → list_any (λ h. eqb h g) xs ≡ true

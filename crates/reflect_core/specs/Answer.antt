@@ -3,8 +3,6 @@ use Rattle.std.specs.Prelude.{◌≡◌, ℕ, List, Option, Some, None, Contains
 use Rattle.proto_compile.specs.Compilation.{Compilation, IsNamed}
 use Rattle.proto_desc.specs.declared.name_kind.NameKind.TheVariants as kind
 use Rattle.proto_names.specs.Occurrences.{Occurrence, IsPackage}
-use Rattle.reflect_core.specs.declared.answer.Answer as rust
-use Rattle.reflect_core.specs.declared.answer.Answer.TheVariants as answers
 use Rattle.reflect_requests.specs.Request.{Ask, file_by_name, file_by_symbol, file_by_extension, extension_numbers, list_services, nothing}
 
 -- what answers a request: a file with what it reaches, the extensions of a message, of which proto3 declares none, the
@@ -44,11 +42,3 @@ root_of (no_extensions name) = None
 root_of services = None
 root_of not_found = None
 root_of empty_request = None
-
--- an answer of the program
-abbrev pub answer_of : rust.Answer → Answer
-answer_of (answers.File a) = file a
-answer_of (answers.NoExtensions name) = no_extensions name.now
-answer_of answers.Services = services
-answer_of answers.NotFound = not_found
-answer_of answers.EmptyRequest = empty_request

@@ -2,3 +2,4 @@ pub mod Answer
 pub mod Reply
 pub mod Response
 pub mod ResponseSteps
+pub mod ProgramAnswers

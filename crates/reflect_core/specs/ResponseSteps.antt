@@ -3,9 +3,11 @@ use Rattle.std.specs.Prelude.{◌≡◌, ℕ, ◌+◌, ◌*◌, ◌<◌, ◌≤�
 use Rattle.std.specs.Option.{ForSome}
 use Rattle.std.specs.declared.alloc.Global.{Global}
 use Rattle.proto_compile.specs.Compilation.{Compilation, IsSound, set_of}
-use Rattle.proto_links.specs.Linked.{AreReachesWhole, Linked, count_of, reach_of}
+use Rattle.proto_links.specs.Linked.{Linked, count_of, reach_of}
+use Rattle.proto_links.specs.Whole.{AreReachesWhole}
 use Rattle.reflect_core.specs.Answer as answers
-use Rattle.reflect_core.specs.Answer.{Answer, answer_of}
+use Rattle.reflect_core.specs.Answer.{Answer}
+use Rattle.reflect_core.specs.ProgramAnswers.{answer_of}
 use Rattle.reflect_core.specs.Reply.{Asked, contents_of, files_bytes, host_field, member_of, reply, services_bytes}
 use Rattle.reflect_core.specs.declared.asked.Asked as rust
 use Rattle.share_work.specs.Reach.{Reaches}

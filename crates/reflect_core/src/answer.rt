@@ -4,8 +4,10 @@ ghost use Rattle.std.specs.Prelude.{◌≡◌, ◌<◌, ◌↔◌, IsTrue, None}
 ghost use Rattle.proto_desc.specs.declared.name_kind.NameKind.TheVariants.{Message};
 ghost use Rattle.std.specs.Option.{ForSome};
 ghost use Rattle.proto_links.specs.Linked.{count_of};
-ghost use Rattle.reflect_core.specs.Answer.{IsAnswer, answer_of, root_of};
-ghost use Rattle.reflect_requests.specs.Request.{ask_of, extension_numbers, file_by_name, file_by_symbol};
+ghost use Rattle.reflect_core.specs.Answer.{IsAnswer, root_of};
+ghost use Rattle.reflect_core.specs.ProgramAnswers.{answer_of};
+ghost use Rattle.reflect_requests.specs.Request.{extension_numbers, file_by_name, file_by_symbol};
+ghost use Rattle.reflect_requests.specs.ProgramFrames.{ask_of};
 
 use proto_compile::Compiled;
 use proto_desc::name_kind::NameKind;

@@ -6,7 +6,7 @@ ghost use Rattle.std.specs.Option.{ForSome};
 ghost use Rattle.proto_links.specs.Linked.{count_of};
 ghost use Rattle.reflect_core.specs.Response.{IsAsked, root};
 ghost use Rattle.reflect_core.specs.ResponseSteps.{IsRootWithin, asked_of};
-ghost use Rattle.reflect_requests.specs.Frames.{Reads, bytes_of};
+ghost use Rattle.reflect_requests.specs.ProgramFrames.{Reads, bytes_of};
 
 use crate::answer::{Answer, answer_to};
 use proto_compile::Compiled;

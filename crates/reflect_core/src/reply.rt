@@ -2,7 +2,7 @@
 
 ghost use Rattle.std.specs.Prelude.{◌≡◌, ℕ, ◌+◌, ◌++◌, ◌<◌, ◌^◌, Contains, OnOk, length};
 ghost use Rattle.proto_links.specs.Linked.{count_of};
-ghost use Rattle.reflect_core.specs.Answer.{answer_of};
+ghost use Rattle.reflect_core.specs.ProgramAnswers.{answer_of};
 ghost use Rattle.reflect_core.specs.Reply.{contents_of, files_bytes, host_field, member_of, reply};
 ghost use Rattle.reflect_core.specs.ResponseSteps.{HasContents, IsReplyable, asked_of, reply_size};
 ghost use Rattle.reflect_requests.specs.Frames.{frame};

@@ -11,7 +11,8 @@ use Rattle.proto_base.specs.declared.limits.Limit.TheVariants.{BodyBytes, Messag
 use Rattle.reflect_requests.specs.declared.frames.Status.TheVariants.{InvalidArgument}
 use Rattle.reflect_requests.specs.Request.{IsRequest}
 use Rattle.reflect_requests.specs.FramesSteps.{IsCut, IsEnd}
-use Rattle.reflect_requests.specs.Frames.{frame, IsAllowed, status_of, status_of_size, HasOneRow, HasOneReading}
+use Rattle.reflect_requests.specs.Frames.{frame, IsAllowed, status_of, status_of_size}
+use Rattle.reflect_requests.specs.Laws.{HasOneRow, HasOneReading}
 
 pub record Cut (more message after : List ℕ) : Type 0 where
   pub size : from_be_bytes w32 (take 4 more) ≡ length message

@@ -4,7 +4,8 @@ use Rattle.std.specs.Prelude.{Option, Some, None}
 use Rattle.std.specs.List.{cons_option, filter_map, AllByRecursion}
 use Rattle.std.proofs.Math.ListN.{drop_of_length-le}
 use Rattle.std.proofs.lemmas.List.{drop_more}
-use Rattle.wire_format.specs.Reading.{Value, IsRow, field_of}
+use Rattle.wire_format.specs.Reading.{Value, IsRow}
+use Rattle.wire_format.specs.ProgramFields.{field_of}
 use Rattle.wire_format.specs.declared.reading.Field.{Field}
 use Rattle.wire_format.proofs.ReadingRows.{one_list}
 use Rattle.reflect_requests.specs.declared.request.Part.{Part}

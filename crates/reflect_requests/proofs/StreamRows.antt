@@ -4,7 +4,8 @@ use Rattle.std.specs.List.{flat_map}
 use Rattle.std.proofs.lemmas.List.{map-append}
 use Rattle.std.proofs.lemmas.List.Concat.{flat_map-append}
 use Rattle.reflect_requests.specs.declared.frames.Message.{Message}
-use Rattle.reflect_requests.specs.Frames.{frame, bytes_of}
+use Rattle.reflect_requests.specs.Frames.{frame}
+use Rattle.reflect_requests.specs.ProgramFrames.{bytes_of}
 
 pub longer : (xs : List Message) (m : Message) → map bytes_of (xs ++ m ∷ []) ≡ map bytes_of xs ++ bytes_of m ∷ []
 longer xs m = map-append bytes_of xs (m ∷ [])

@@ -5,18 +5,7 @@ use Rattle.std.specs.Int.{w32, to_be_bytes, from_be_bytes}
 use Rattle.proto_base.specs.Limits.{limit_of}
 use Rattle.proto_base.specs.declared.limits.Limits.{Limits}
 use Rattle.proto_base.specs.declared.limits.Limit.TheVariants.{BodyBytes, MessageBytes, Requests}
-use Rattle.reflect_requests.specs.declared.frames.Message.{Message}
-use Rattle.reflect_requests.specs.declared.frames.Status.{Status}
-use Rattle.reflect_requests.specs.declared.frames.Status.TheVariants as status
-use Rattle.reflect_requests.specs.Request.{IsRequest, ReadsRequest, ask_of}
-
--- the number of a status, as gRPC has it
-abbrev pub status_number : Status → ℕ
-status_number status.Ok = 0
-status_number status.InvalidArgument = 3
-status_number status.ResourceExhausted = 8
-status_number status.Unimplemented = 12
-status_number status.Internal = 13
+use Rattle.reflect_requests.specs.Request.{IsRequest}
 
 -- a frame: its flag, four bytes of length with the high byte first, its message
 abbrev pub frame : ℕ → List ℕ → List ℕ
@@ -59,20 +48,3 @@ pub record ReadsBody (limits : Limits) (body : List ℕ) (messages : List (List 
   pub over : limit_of limits BodyBytes < length body → (messages ≡ []) × (status ≡ 8)
   pub within : length body ≤ limit_of limits BodyBytes
       → (rest : List ℕ) × IsFrames limits body messages rest × (status ≡ status_of limits (length messages) rest)
-
--- the bytes of a message of the program, and that its request is what they say
-abbrev pub bytes_of : Message → List ℕ
-bytes_of message = message.bytes.now
-
-abbrev pub Reads : Message → Type 0
-Reads message = ReadsRequest message.bytes.now message.request.host.now (ask_of message.request.ask)
-
--- a body has one row of frames and one rest
-abbrev pub HasOneRow : Limits → Type 0
-HasOneRow limits = (body : List ℕ) (ms ns : List (List ℕ)) (a b : List ℕ) → IsFrames limits body ms a
-    → IsFrames limits body ns b → (ms ≡ ns) × (a ≡ b)
-
--- a body has one list of messages and one status
-abbrev pub HasOneReading : Limits → Type 0
-HasOneReading limits = (body : List ℕ) (ms ns : List (List ℕ)) (s t : ℕ) → ReadsBody limits body ms s
-    → ReadsBody limits body ns t → (ms ≡ ns) × (s ≡ t)

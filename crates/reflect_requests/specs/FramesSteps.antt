@@ -6,7 +6,8 @@ use Rattle.proto_base.specs.declared.limits.Limit.TheVariants.{MessageBytes, Req
 use Rattle.reflect_requests.specs.declared.frames.Next as rust
 use Rattle.reflect_requests.specs.declared.frames.Next.TheVariants.{Frame, End}
 use Rattle.reflect_requests.specs.declared.frames.Status.{Status}
-use Rattle.reflect_requests.specs.Frames.{IsAllowed, Reads, frame, status_number, status_of}
+use Rattle.reflect_requests.specs.Frames.{IsAllowed, frame, status_of}
+use Rattle.reflect_requests.specs.ProgramFrames.{Reads, status_number}
 
 -- behind `count` frames what is left begins with a frame that isn't over a limit
 pub record IsCut (limits : Limits) (count : ℕ) (rest message after : List ℕ) : Type 0 where

@@ -2,8 +2,6 @@
 use Rattle.std.specs.Prelude.{◌≡◌, ℕ, List, [], ◌∷◌, Bool, ◌||◌, ◌==◌, IsTrue, if◌then◌else◌, Option, Some, None, IsUtf8}
 use Rattle.std.specs.List.{AllByRecursion, filter_map}
 use Rattle.wire_format.specs.Reading.{Value, number, bytes, IsRow}
-use Rattle.reflect_requests.specs.declared.request.Ask as rust
-use Rattle.reflect_requests.specs.declared.request.Ask.TheVariants as ask
 
 -- what a request asks for
 pub data Ask : Type 0 where
@@ -68,12 +66,3 @@ pub record ReadsRequest (message host : List ℕ) (asked : Ask) : Type 0 where
 -- a well-formed request
 abbrev pub IsRequest : List ℕ → Type 0
 IsRequest message = (host : List ℕ) × (asked : Ask) × ReadsRequest message host asked
-
--- an ask of the program
-abbrev pub ask_of : rust.Ask → Ask
-ask_of (ask.FileByName name) = file_by_name name.now
-ask_of (ask.FileBySymbol symbol) = file_by_symbol symbol.now
-ask_of ask.FileByExtension = file_by_extension
-ask_of (ask.ExtensionNumbers name) = extension_numbers name.now
-ask_of ask.ListServices = list_services
-ask_of ask.Nothing = nothing

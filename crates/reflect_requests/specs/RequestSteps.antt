@@ -3,7 +3,8 @@ use Rattle.std.specs.Prelude.{◌≡◌, ℕ, List, Option, Some, None}
 use Rattle.wire_format.specs.Reading.{Value}
 use Rattle.reflect_requests.specs.declared.request.Part.{Part}
 use Rattle.reflect_requests.specs.declared.request.Part.TheVariants.{Host, Member, Unknown}
-use Rattle.reflect_requests.specs.Request.{Ask, ask_of, host_of, member_of, IsWellFormed}
+use Rattle.reflect_requests.specs.Request.{Ask, host_of, member_of, IsWellFormed}
+use Rattle.reflect_requests.specs.ProgramFrames.{ask_of}
 
 abbrev pub host_in : Part → Option (List ℕ)
 host_in (Host host) = Some host.now

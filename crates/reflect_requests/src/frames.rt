@@ -1,9 +1,11 @@
 //! Frames of a request body, and the status that ends it.
 
 ghost use Rattle.std.specs.Prelude.{◌≡◌, All, IfOk, MatchOption, MatchResult, map};
-ghost use Rattle.reflect_requests.specs.Frames.{HasOneReading, HasOneRow, ReadsBody, Reads, bytes_of, status_number};
+ghost use Rattle.reflect_requests.specs.Frames.{ReadsBody};
+ghost use Rattle.reflect_requests.specs.ProgramFrames.{Reads, bytes_of, status_number, ask_of};
+ghost use Rattle.reflect_requests.specs.Laws.{HasOneReading, HasOneRow};
 ghost use Rattle.reflect_requests.specs.FramesSteps.{IsCut, IsEnd, IsNext};
-ghost use Rattle.reflect_requests.specs.Request.{IsRequest, ReadsRequest, ask_of};
+ghost use Rattle.reflect_requests.specs.Request.{IsRequest, ReadsRequest};
 
 use crate::request::{Request, read_request};
 use proto_base::{Limit, Limits};

@@ -1,10 +1,11 @@
 //! Requests of a reflection stream: what a message asks for.
 
 ghost use Rattle.std.specs.Prelude.{◌≡◌, ℕ, Err, IfErr, IfOk, IsUtf8, List, OnErr, OnOk};
-ghost use Rattle.reflect_requests.specs.Request.{IsContainingTypeUtf8, IsExtensionRequest, IsWellFormed, ReadsRequest, ask_of};
+ghost use Rattle.reflect_requests.specs.Request.{IsContainingTypeUtf8, IsExtensionRequest, IsWellFormed, ReadsRequest};
+ghost use Rattle.reflect_requests.specs.ProgramFrames.{ask_of};
 ghost use Rattle.reflect_requests.specs.Request as definition;
 ghost use Rattle.reflect_requests.specs.RequestSteps.{Says};
-ghost use Rattle.wire_format.specs.Reading.{field_of};
+ghost use Rattle.wire_format.specs.ProgramFields.{field_of};
 ghost use Rattle.wire_format.specs.declared.reading.WireError.TheVariants as errors;
 
 use std::alloc::Global;

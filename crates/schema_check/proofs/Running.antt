@@ -1,6 +1,6 @@
 -- From what was read, judged and written to what a run of `check` did.
 use Rattle.std.proofs.Common.{◌≡◌, ◌⊎◌, ℕ, List, Result, Ok, Err, IsErrAnd, inl, inr, refl, subst, sym}
-use Rattle.grpcweb_core.specs.Exchange.{IsWriteRun}
+use Rattle.grpcweb_core.specs.Runs.{IsWriteRun}
 use Rattle.grpcweb_core.specs.Streams.{Writes}
 use Rattle.grpcweb_core.specs.declared.stream.IoFault.{IoFault}
 use Rattle.grpcweb_core.specs.declared.stream.IoFault.TheVariants as io

@@ -2,7 +2,8 @@
 use Rattle.std.proofs.Common.{◌≡◌, ℕ, List, [], ◌∷◌, Option, Result, Ok, Err, IfErr, IsErrAnd, refl, subst, sym}
 use Rattle.std.proofs.Common.{inl, inr}
 use Rattle.first_reach.specs.declared.mode.Mode.{Mode}
-use Rattle.grpcweb_core.specs.Exchange.{IsExchange, IsReadRun, IsWriteRun}
+use Rattle.grpcweb_core.specs.Exchange.{IsExchange}
+use Rattle.grpcweb_core.specs.Runs.{IsReadRun, IsWriteRun}
 use Rattle.grpcweb_core.specs.Streams.{Reads, Writes}
 use Rattle.grpcweb_core.specs.declared.stream.IoFault.{IoFault}
 use Rattle.grpcweb_core.specs.declared.stream.IoFault.TheVariants as io

@@ -1,6 +1,7 @@
 -- The texts of a folder.
 use Rattle.std.specs.Prelude.{◌≡◌, ℕ, List, map, Option, IfSome, string_bytes}
-use Rattle.proto_base.specs.Limits.{limit_of, standard_of}
+use Rattle.proto_base.specs.Limits.{limit_of}
+use Rattle.proto_base.specs.StandardLimits.{standard_of}
 use Rattle.proto_base.specs.declared.limits.Limit.{Limit}
 use Rattle.proto_base.specs.declared.limits.Limits.{Limits}
 use Rattle.proto_compile.specs.Sources.{name_of, text_of}

@@ -4,11 +4,11 @@ use Rattle.std.specs.Prelude.{Some}
 use Rattle.std.specs.List.{All}
 use Rattle.std.proofs.lemmas.List.Elements.{All-head, All-tail}
 use Rattle.wire_format.specs.Varint.{varint_bytes}
-use Rattle.wire_format.specs.Field.{field_bytes}
+use Rattle.wire_format.specs.ProgramFields.{field_bytes, value_of}
 use Rattle.wire_format.specs.declared.field.FieldValue.{FieldValue}
 use Rattle.wire_format.specs.declared.field.FieldValue.TheVariants.{Varint, Delimited}
 use Rattle.wire_format.specs.Reading.{Value, number, bytes, IsVarint, Body, varint_body, delimited, wire_type, IsBody}
-use Rattle.wire_format.specs.Reading.{Spelled, text_of, IsSpelled, entry_of, IsRow, value_of}
+use Rattle.wire_format.specs.Reading.{Spelled, text_of, IsSpelled, entry_of, IsRow}
 use Rattle.wire_format.specs.Writing.{FitsVarint, IsMessageField, entry_bytes, row_bytes}
 use Rattle.wire_format.proofs.Varints.{varint_spelled, varint_short}
 use Rattle.wire_format.proofs.ReadingRows.{row_none, one_list}

@@ -3,3 +3,4 @@ pub mod Reading
 pub mod ReadingSteps
 pub mod Varint
 pub mod Writing
+pub mod ProgramFields

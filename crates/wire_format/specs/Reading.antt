@@ -2,9 +2,6 @@
 use Rattle.std.specs.Prelude.{◌≡◌, ℕ, ◌+◌, ◌*◌, ◌^◌, ◌<◌, ◌≤◌, List, ◌++◌, length, Option, Some, None, flat_map}
 use Rattle.std.specs.List.{AllByRecursion, filter_map}
 use Rattle.wire_format.specs.Varint.{Spells}
-use Rattle.wire_format.specs.declared.field.FieldValue as rust
-use Rattle.wire_format.specs.declared.field.FieldValue.TheVariants.{Varint, Delimited}
-use Rattle.wire_format.specs.declared.reading.Field.{Field}
 
 -- what a field holds: a number, or the bytes of a text or a message
 pub data Value : Type 0 where
@@ -74,12 +71,3 @@ entry_of field = entry_by field.number field.body
 abbrev pub IsRow : List ℕ → List (ℕ × Value) → Type 0
 IsRow text fields = (row : List Spelled) × AllByRecursion IsSpelled row × (text ≡ flat_map text_of row)
     × (fields ≡ filter_map entry_of row)
-
--- ---- fields of the program
-
-abbrev pub value_of : rust.FieldValue → Value
-value_of (Varint value) = number value
-value_of (Delimited contents) = bytes contents.now
-
-abbrev pub field_of : Field → ℕ × Value
-field_of field = (field.number, value_of field.value)

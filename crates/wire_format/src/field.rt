@@ -1,7 +1,7 @@
 //! Fields: a tag, which has the field's number and the wire type of its value, and the value.
 
 ghost use Rattle.std.specs.Prelude.{◌≡◌, ℕ, ◌+◌, ◌++◌, ◌<◌, ◌^◌, OnOk, OnErr, List, length, vec_capacity, vec_len};
-ghost use Rattle.wire_format.specs.Field.{field_bytes};
+ghost use Rattle.wire_format.specs.ProgramFields.{field_bytes};
 
 use crate::varint::{push_varint, varint_len};
 use std::alloc::AllocError;

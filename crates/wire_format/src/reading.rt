@@ -1,8 +1,8 @@
 //! Reading of a message's fields, each by its tag.
 
 ghost use Rattle.std.specs.Prelude.{◌≡◌, ℕ, ◌++◌, [], All, Err, IfOk, List, map, option_map};
-ghost use Rattle.wire_format.specs.Field.{field_bytes};
-ghost use Rattle.wire_format.specs.Reading.{IsRow, IsSpelled, Spelled, Value, field_of, text_of, value_of};
+ghost use Rattle.wire_format.specs.ProgramFields.{field_bytes, field_of, value_of};
+ghost use Rattle.wire_format.specs.Reading.{IsRow, IsSpelled, Spelled, Value, text_of};
 ghost use Rattle.wire_format.specs.ReadingSteps.{varint_within as varint_steps, split_off as split_steps, body_at as body_steps, field_at as field_steps};
 ghost use Rattle.wire_format.specs.Writing.{IsMessageField, entry_bytes, row_bytes};
 ghost use Rattle.wire_format.specs.declared.field.FieldValue as rust;

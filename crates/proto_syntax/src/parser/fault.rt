@@ -2,10 +2,12 @@
 
 ghost use Rattle.std.specs.Prelude.{◌≡◌};
 ghost use Rattle.std.specs.Option.{option_map};
-ghost use Rattle.proto_tokens.specs.Token.{lexeme_of, spelled};
+ghost use Rattle.proto_tokens.specs.ProgramTokens.{lexeme_of, spelled};
 ghost use Rattle.proto_syntax.specs.Grammar.{OneOf, fits};
 ghost use Rattle.proto_syntax.specs.Fault as spec;
+ghost use Rattle.proto_syntax.specs.Gives as gives;
 ghost use Rattle.proto_syntax.specs.Gives.{spellings};
+ghost use Rattle.proto_syntax.specs.Told as told;
 
 use crate::parser::terminal::{is_keyword, is_symbol};
 use proto_base::{Kind, Place};
@@ -67,7 +69,7 @@ fn token_before<'a, 's>(tokens: &'a [Token<'s>], index: usize) -> Option<&'a Tok
 /// The kind of a fault at the token with this index, where it is not the depth.
 #[tactic(auto, using(crate::proofs::Spellings::spelling_at))]
 pub(crate) fn kind_at(tokens: &[Token], index: usize) -> Kind
-    ensures { result ≡ spec.kind_at (spellings tokens.now) index }
+    ensures { result ≡ gives.kind_at (spellings tokens.now) index }
 {
     let before = token_before(tokens, index);
     match tokens.get(index) {
@@ -78,7 +80,7 @@ pub(crate) fn kind_at(tokens: &[Token], index: usize) -> Kind
 
 /// Where the token with this index starts, or where the source ends.
 pub(crate) fn place_at(tokens: &Tokens, index: usize) -> Place
-    ensures { result ≡ spec.place_at tokens.now index }
+    ensures { result ≡ told.place_at tokens.now index }
 {
     match tokens.items.get(index) {
         Some(token) => token.span.start,

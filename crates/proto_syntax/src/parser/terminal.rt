@@ -2,7 +2,8 @@
 
 ghost use Rattle.std.specs.Cow.{cow_str_bytes};
 ghost use Rattle.std.specs.Prelude.{◌≡◌, [], ◌∷◌, ◌++◌, IfOk, IsTrue, codes};
-ghost use Rattle.proto_tokens.specs.Token.{identifier, lexeme_of};
+ghost use Rattle.proto_tokens.specs.Token.{identifier};
+ghost use Rattle.proto_tokens.specs.ProgramTokens.{lexeme_of};
 ghost use Rattle.proto_syntax.specs.Grammar.{Symbol, OneOf, NoneOf, One, Optional, fits};
 ghost use Rattle.proto_syntax.specs.Reading.{read, read_one, next_fits};
 ghost use Rattle.proto_syntax.specs.Language.{number, string_token, scalar_words, key_words};

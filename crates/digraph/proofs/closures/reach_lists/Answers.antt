@@ -1,7 +1,7 @@
 use Rattle.std.proofs.Common.{◌≡◌, ◌∙◌, ap, sym, ℕ, List, length, arith, subst}
 use Rattle.std.specs.Prelude.{Contains}
 use Rattle.digraph.specs.Edges.{graph_of}
-use Rattle.digraph.specs.Leads.{IsReach, IsUnion, AreClosed}
+use Rattle.digraph.specs.Reaches.{IsReach, IsUnion, AreClosed}
 use Rattle.digraph.specs.Marks.{NoneMarked}
 use Rattle.digraph.proofs.Closing.{reach_closed, union_reach, each_push, length_push}
 use Rattle.digraph.proofs.Rows.{written}

@@ -1,6 +1,6 @@
 use Rattle.std.proofs.Common.{◌≡◌, length}
 use Rattle.digraph.specs.Edges.{graph_of}
-use Rattle.digraph.specs.Leads.{AreReaches}
+use Rattle.digraph.specs.Reaches.{AreReaches}
 use Rattle.digraph.specs.Marks.{NoneMarked}
 use Rattle.digraph.proofs.closures.reach_lists.Given as goal
 

@@ -1,5 +1,5 @@
 use Rattle.std.proofs.Common.{sym, subst}
-use Rattle.bit_matrix.specs.Bits.{HasInserted}
+use Rattle.bit_matrix.specs.Changes.{HasInserted}
 use Rattle.digraph.specs.ReachRows.{HasRowsJoined}
 use Rattle.digraph.proofs.Joining.{row_pushed}
 use Rattle.digraph.proofs.reachable.push_joined.Goals as goal

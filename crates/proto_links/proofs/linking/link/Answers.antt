@@ -1,5 +1,5 @@
 use Rattle.digraph.specs.Edges.{graph_of}
-use Rattle.digraph.specs.Leads.{HasNoCycle}
+use Rattle.digraph.specs.Reaches.{HasNoCycle}
 use Rattle.digraph.specs.Ranks.{IsRanked}
 use Rattle.proto_links.specs.Imports.{NoneBad}
 use Rattle.proto_links.proofs.Positions.{graph_within, rows_within}

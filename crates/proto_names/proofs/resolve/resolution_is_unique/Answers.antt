@@ -1,4 +1,4 @@
-use Rattle.proto_names.specs.Resolution.{IsSeen}
+use Rattle.proto_names.specs.SeenAlike.{IsSeen}
 use Rattle.proto_names.proofs.Unique.{resolves_alike, resolves_same}
 use Rattle.proto_names.proofs.resolve.resolution_is_unique.Goals as goal
 

@@ -1,6 +1,6 @@
 use Rattle.std.proofs.lemmas.Grind.{common_steps}
 use Rattle.std.proofs.Common.{map, arith}
-use Rattle.proto_tokens.specs.Token.{spelled}
+use Rattle.proto_tokens.specs.ProgramTokens.{spelled}
 use Rattle.proto_tokens.proofs.CutLemmas.{gap_passed, token_pushed}
 use Rattle.proto_tokens.proofs.tokenizer.tokens_from.Goals as goal
 

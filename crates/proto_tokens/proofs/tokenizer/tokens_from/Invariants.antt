@@ -1,6 +1,6 @@
 use Rattle.std.proofs.Common.{length, ◌-◌}
 use Rattle.std.specs.Prelude.{map}
-use Rattle.proto_tokens.specs.Token.{spelled}
+use Rattle.proto_tokens.specs.ProgramTokens.{spelled}
 use Rattle.proto_tokens.proofs.CutLemmas.{IsCutUpTo}
 use Rattle.proto_tokens.proofs.tokenizer.tokens_from.Given as goal
 

@@ -3,7 +3,7 @@ use Rattle.std.specs.List.{AllZip}
 use Rattle.std.specs.Prelude.{flat_map}
 use Rattle.proto_desc.specs.declared.message.MessageDesc.TheViews.{out-MessageDesc, out-roll-MessageDesc, roll-MessageDesc}
 use Rattle.proto_desc.proofs.Declared.{scope_in}
-use Rattle.proto_names.specs.Resolution.{IsSeen}
+use Rattle.proto_names.specs.SeenAlike.{IsSeen}
 use Rattle.proto_types.specs.References.{field_scope, references_by_message}
 use Rattle.proto_types.specs.Typed.{IsTypedField, IsTypedMessage}
 use Rattle.proto_types.proofs.Trees.{own_references, references_out, remade_typed}

@@ -1,5 +1,5 @@
 use Rattle.std.proofs.Common.{refl}
-use Rattle.proto_names.specs.Resolution.{IsSeen}
+use Rattle.proto_names.specs.SeenAlike.{IsSeen}
 use Rattle.proto_types.specs.References.{references_of_field}
 use Rattle.proto_types.specs.Typed.{IsTypedField, IsTypedKind, with_type}
 use Rattle.proto_types.proofs.Walking.{puts_as}

@@ -1,7 +1,7 @@
 use Rattle.std.proofs.Common.{refl}
 use Rattle.std.specs.List.{AllZip}
 use Rattle.std.specs.Prelude.{flat_map}
-use Rattle.proto_names.specs.Resolution.{IsSeen}
+use Rattle.proto_names.specs.SeenAlike.{IsSeen}
 use Rattle.proto_types.specs.References.{references_by_message, references_of_service}
 use Rattle.proto_types.specs.Typed.{IsTypedIn, IsTypedMessage, IsTypedService}
 use Rattle.proto_types.proofs.Trees.{messages_typed}

@@ -1,6 +1,6 @@
 use Rattle.std.proofs.Common.{refl}
 use Rattle.proto_desc.specs.declared.field.FieldKind.TheVariants.{Named}
-use Rattle.proto_names.specs.Resolution.{IsSeen}
+use Rattle.proto_names.specs.SeenAlike.{IsSeen}
 use Rattle.proto_names.specs.declared.resolve.Want.TheVariants as want
 use Rattle.proto_types.specs.References.{references_of_type}
 use Rattle.proto_types.specs.Typed.{IsTyped, IsTypedKind}

@@ -1,7 +1,7 @@
 use Rattle.std.proofs.Common.{refl}
 use Rattle.std.specs.List.{AllZip}
 use Rattle.proto_desc.specs.DeclaredNames.{scoped}
-use Rattle.proto_names.specs.Resolution.{IsSeen}
+use Rattle.proto_names.specs.SeenAlike.{IsSeen}
 use Rattle.proto_types.specs.References.{references_of_service}
 use Rattle.proto_types.specs.Typed.{IsTypedMethod, IsTypedService}
 use Rattle.proto_types.proofs.Walking.{puts_as}

@@ -1,6 +1,6 @@
 use Rattle.std.proofs.Common.{sym, subst}
 use Rattle.reflect_core.specs.Answer.{IsAnswer, no_extension, listed, nothing_asked, not_found, services, empty_request}
-use Rattle.reflect_requests.specs.Request.{ask_of}
+use Rattle.reflect_requests.specs.ProgramFrames.{ask_of}
 use Rattle.reflect_core.proofs.answer.answer_to.Goals as goal
 
 pub returns-in-FileByExtension-clause-answer : goal.returns-in-FileByExtension-clause-answer

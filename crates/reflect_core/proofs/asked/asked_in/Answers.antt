@@ -5,7 +5,7 @@ use Rattle.proto_links.specs.Linked.{count_of}
 use Rattle.reflect_core.specs.Response.{IsAsked, root}
 use Rattle.reflect_core.specs.ResponseSteps.{IsRootWithin, asked_of}
 use Rattle.reflect_core.specs.declared.asked.Asked as rust
-use Rattle.reflect_requests.specs.Frames.{Reads, bytes_of}
+use Rattle.reflect_requests.specs.ProgramFrames.{Reads, bytes_of}
 use Rattle.reflect_core.proofs.AskedRows.{zip_more}
 use Rattle.reflect_core.proofs.asked.asked_in.Goals as goal
 

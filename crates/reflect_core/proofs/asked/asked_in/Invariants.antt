@@ -3,7 +3,7 @@ use Rattle.std.specs.List.{AllZip}
 use Rattle.proto_links.specs.Linked.{count_of}
 use Rattle.reflect_core.specs.Response.{IsAsked, root}
 use Rattle.reflect_core.specs.ResponseSteps.{IsRootWithin, asked_of}
-use Rattle.reflect_requests.specs.Frames.{bytes_of}
+use Rattle.reflect_requests.specs.ProgramFrames.{bytes_of}
 use Rattle.reflect_core.proofs.asked.asked_in.Given as goal
 
 abbrev pub invariant-loop-message : goal.invariant-loop-message

@@ -4,7 +4,8 @@ use Rattle.std.specs.List.{AllZip}
 use Rattle.rayon.proofs.ListFacts.{IfOk-then}
 use Rattle.first_reach.specs.Carried.{carried}
 use Rattle.proto_links.specs.Linked.{Linked, count_of, reach_of}
-use Rattle.reflect_requests.specs.Frames.{ReadsBody, bytes_of, frame}
+use Rattle.reflect_requests.specs.Frames.{ReadsBody, frame}
+use Rattle.reflect_requests.specs.ProgramFrames.{bytes_of}
 use Rattle.reflect_core.specs.Response.{IsAsked, root, replies_to, trailer}
 use Rattle.reflect_core.specs.ResponseSteps.{AreReplyable, AreServicesFor, IsRootWithin, asked_of, files_of}
 use Rattle.reflect_core.proofs.AnsweringBody.{roots_within, replyable, allowed_of, answered}

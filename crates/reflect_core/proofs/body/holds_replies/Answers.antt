@@ -1,5 +1,5 @@
 use Rattle.std.proofs.Common.{subst}
-use Rattle.proto_links.specs.Linked.{AreReachesWhole}
+use Rattle.proto_links.specs.Whole.{AreReachesWhole}
 use Rattle.reflect_core.proofs.body.holds_replies.Goals as goal
 
 pub returns : goal.returns

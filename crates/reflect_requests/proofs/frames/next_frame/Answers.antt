@@ -1,6 +1,7 @@
 use Rattle.std.proofs.Common.{arith, subst, Option}
 use Rattle.std.specs.Prelude.{MatchOption}
-use Rattle.reflect_requests.specs.Request.{IsRequest, ReadsRequest, ask_of}
+use Rattle.reflect_requests.specs.Request.{IsRequest, ReadsRequest}
+use Rattle.reflect_requests.specs.ProgramFrames.{ask_of}
 use Rattle.reflect_requests.specs.declared.request.Request.{Request}
 use Rattle.reflect_requests.proofs.FrameRows.{other_message}
 use Rattle.reflect_requests.proofs.frames.next_frame.Goals as goal

@@ -1,5 +1,5 @@
 use Rattle.std.proofs.Common.{◌≡◌, map, take}
-use Rattle.reflect_requests.specs.Frames.{bytes_of}
+use Rattle.reflect_requests.specs.ProgramFrames.{bytes_of}
 use Rattle.reflect_requests.proofs.frames.read_frames.Given as goal
 
 abbrev pub invariant-loop-message : goal.invariant-loop-message

@@ -3,7 +3,8 @@ use Rattle.std.specs.List.{flat_map}
 use Rattle.std.proofs.lemmas.List.{length-map}
 use Rattle.std.proofs.lemmas.List.Elements.{All-push}
 use Rattle.reflect_requests.specs.declared.frames.Message.{Message}
-use Rattle.reflect_requests.specs.Frames.{IsAllowed, Reads, bytes_of, frame, status_of}
+use Rattle.reflect_requests.specs.Frames.{IsAllowed, frame, status_of}
+use Rattle.reflect_requests.specs.ProgramFrames.{Reads, bytes_of}
 use Rattle.reflect_requests.specs.FramesSteps.{IsNext}
 use Rattle.reflect_requests.proofs.StreamRows.{longer, row_longer}
 use Rattle.reflect_requests.proofs.frames.read_stream.Goals as goal

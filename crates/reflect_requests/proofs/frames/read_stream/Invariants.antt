@@ -2,7 +2,8 @@ use Rattle.std.proofs.Common.{◌≡◌, ◌++◌, ◌≤◌, map, length, All}
 use Rattle.std.specs.List.{flat_map}
 use Rattle.proto_base.specs.Limits.{limit_of}
 use Rattle.proto_base.specs.declared.limits.Limit.TheVariants.{Requests}
-use Rattle.reflect_requests.specs.Frames.{frame, IsAllowed, Reads, bytes_of}
+use Rattle.reflect_requests.specs.Frames.{frame, IsAllowed}
+use Rattle.reflect_requests.specs.ProgramFrames.{Reads, bytes_of}
 use Rattle.reflect_requests.proofs.frames.read_stream.Given as goal
 
 abbrev pub invariant-loop-messages : goal.invariant-loop-messages

@@ -1,6 +1,7 @@
 use Rattle.std.proofs.Common.{map, arith}
 use Rattle.std.proofs.lemmas.Grind.{common_steps}
-use Rattle.wire_format.specs.Reading.{IsRow, field_of}
+use Rattle.wire_format.specs.Reading.{IsRow}
+use Rattle.wire_format.specs.ProgramFields.{field_of}
 use Rattle.reflect_requests.specs.Request.{IsContainingTypeUtf8}
 use Rattle.reflect_requests.proofs.RequestRows.{left_here, extension_is}
 use Rattle.reflect_requests.proofs.request.check_extension.Goals as goal

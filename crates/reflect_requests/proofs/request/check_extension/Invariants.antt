@@ -1,5 +1,5 @@
 use Rattle.std.proofs.Common.{drop, map}
-use Rattle.wire_format.specs.Reading.{field_of}
+use Rattle.wire_format.specs.ProgramFields.{field_of}
 use Rattle.reflect_requests.specs.Request.{IsContainingTypeUtf8}
 use Rattle.reflect_requests.proofs.RequestRows.{Left}
 use Rattle.reflect_requests.proofs.request.check_extension.Given as goal

@@ -1,6 +1,7 @@
 use Rattle.std.proofs.Common.{map, arith}
 use Rattle.std.proofs.lemmas.Grind.{common_steps}
-use Rattle.wire_format.specs.Reading.{IsRow, field_of}
+use Rattle.wire_format.specs.Reading.{IsRow}
+use Rattle.wire_format.specs.ProgramFields.{field_of}
 use Rattle.reflect_requests.specs.Request.{IsWellFormed}
 use Rattle.reflect_requests.proofs.RequestRows.{left_here, request_is}
 use Rattle.reflect_requests.proofs.request.read_request.Goals as goal

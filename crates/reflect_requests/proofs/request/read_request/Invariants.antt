@@ -1,8 +1,8 @@
 use denote.Shadow.{shadow}
 use denote.Text.{Utf8}
 use Rattle.std.proofs.Common.{drop, map}
-use Rattle.wire_format.specs.Reading.{field_of}
-use Rattle.reflect_requests.specs.Request.{ask_of}
+use Rattle.wire_format.specs.ProgramFields.{field_of}
+use Rattle.reflect_requests.specs.ProgramFrames.{ask_of}
 use Rattle.reflect_requests.proofs.RequestRows.{Decided}
 use Rattle.reflect_requests.proofs.request.read_request.Given as goal
 

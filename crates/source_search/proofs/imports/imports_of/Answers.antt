@@ -1,6 +1,6 @@
 use Rattle.std.proofs.Common.{◌≡◌, Global, List, String, Vec, map, filter, string_bytes, subst, sym}
 use Rattle.std.proofs.lemmas.Result.{IfOk-weaker}
-use Rattle.proto_tokens.specs.Token.{tokens_of}
+use Rattle.proto_tokens.specs.ProgramTokens.{tokens_of}
 use Rattle.source_folder.specs.Paths.{is_below}
 use Rattle.source_search.specs.Imports.{AreImportsOf, imported}
 use Rattle.source_search.proofs.Importing.{file_imports, no_tokens, no_tree}

@@ -3,7 +3,7 @@ use Rattle.std.specs.Prelude.{option_map}
 use Rattle.std.proofs.lemmas.Grind.{common_steps}
 use Rattle.std.proofs.lemmas.Bool.{eqb-true, eqb-false}
 use Rattle.std.proofs.lemmas.List.{map-append}
-use Rattle.wire_format.specs.Reading.{field_of}
+use Rattle.wire_format.specs.ProgramFields.{field_of}
 use Rattle.wire_format.specs.ReadingSteps.{field_at}
 use Rattle.wire_format.specs.declared.reading.Field.{Field}
 use Rattle.wire_format.proofs.ReadingFields.{some_read}

@@ -1,5 +1,5 @@
 use Rattle.std.proofs.Common.{length, map}
-use Rattle.wire_format.specs.Reading.{field_of}
+use Rattle.wire_format.specs.ProgramFields.{field_of}
 use Rattle.wire_format.proofs.ReadingRows.{Kept}
 use Rattle.wire_format.proofs.reading.read_fields.Given as goal
 

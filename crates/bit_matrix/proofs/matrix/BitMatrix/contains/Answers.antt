@@ -1,6 +1,7 @@
 use Rattle.std.proofs.Common.{◌∙◌, sym, ap, subst, ℕ, ◌+◌, ◌*◌, ◌/◌, ◌<◌}
 use Rattle.std.proofs.lemmas.List.{get_or_default}
-use Rattle.bit_matrix.specs.Bits.{Bits, has, columns_of}
+use Rattle.bit_matrix.specs.Bits.{Bits, has}
+use Rattle.bit_matrix.specs.Changes.{columns_of}
 use Rattle.bit_matrix.specs.contracts.matrix.BitMatrix.{the_view}
 use Rattle.bit_matrix.proofs.Words.{tested, word_inside}
 use Rattle.bit_matrix.proofs.matrix.BitMatrix.contains.Goals as goal

@@ -1,6 +1,7 @@
 use Rattle.std.proofs.Common.{◌∙◌, sym, subst, ℕ, ◌+◌, ◌*◌, ◌/◌, ◌%◌, ◌^◌, ◌<◌, set, bit_or}
 use Rattle.std.proofs.lemmas.List.{get_or_default}
-use Rattle.bit_matrix.specs.Bits.{Bits, HasInserted, columns_of}
+use Rattle.bit_matrix.specs.Bits.{Bits}
+use Rattle.bit_matrix.specs.Changes.{HasInserted, columns_of}
 use Rattle.bit_matrix.specs.contracts.matrix.BitMatrix.{the_view}
 use Rattle.bit_matrix.proofs.Words.{inserted, word_inside}
 use Rattle.bit_matrix.proofs.matrix.BitMatrix.insert.Goals as goal

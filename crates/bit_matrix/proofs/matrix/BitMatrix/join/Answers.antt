@@ -1,7 +1,8 @@
 use Rattle.std.proofs.Common.{subst, ℕ, ◌*◌, List, arith}
 use Rattle.std.specs.Vec.{with_items}
 use Rattle.std.proofs.lemmas.List.{with_items_is}
-use Rattle.bit_matrix.specs.Bits.{Bits, HasJoined}
+use Rattle.bit_matrix.specs.Bits.{Bits}
+use Rattle.bit_matrix.specs.Changes.{HasJoined}
 use Rattle.bit_matrix.specs.Words.{AreJoined}
 use Rattle.bit_matrix.specs.contracts.matrix.BitMatrix.{the_view}
 use Rattle.bit_matrix.proofs.Joining.{joined, rows_apart}

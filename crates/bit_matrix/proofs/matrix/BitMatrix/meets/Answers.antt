@@ -1,7 +1,8 @@
 use Rattle.std.proofs.Common.{◌≡◌, ◌∙◌, sym, subst, refl, ℕ, ◌+◌, ◌*◌, ◌/◌, ◌^◌, ◌<◌, arith, bit_and, true≢false, rules}
 use Rattle.std.proofs.lemmas.List.{get_or_default}
 use Rattle.std.proofs.lemmas.Nat.{row_fits}
-use Rattle.bit_matrix.specs.Bits.{Bits, Meet, columns_of, word_of}
+use Rattle.bit_matrix.specs.Bits.{Bits, word_of}
+use Rattle.bit_matrix.specs.Changes.{Meet, columns_of}
 use Rattle.bit_matrix.specs.contracts.matrix.BitMatrix.{the_view}
 use Rattle.bit_matrix.proofs.Joining.{meet_here, meet_nowhere}
 use Rattle.bit_matrix.proofs.matrix.BitMatrix.meets.Goals as goal

@@ -1,5 +1,5 @@
 use Rattle.std.proofs.Common.{subst}
-use Rattle.proto_links.specs.Linked.{AreReachesWhole}
+use Rattle.proto_links.specs.Whole.{AreReachesWhole}
 use Rattle.proto_links.proofs.Whole.{whole_of}
 use Rattle.proto_links.proofs.links.Links.reaches_are_whole.Goals as goal
 

@@ -1,7 +1,7 @@
 use Rattle.std.proofs.Common.{◌≡◌, ◌∙◌, sym, ap, subst, ◌<◌, ◌≤◌, length, get_or, arith}
 use Rattle.std.specs.Prelude.{◌↔◌, IsTrue}
 use Rattle.std.proofs.lemmas.List.{get_or_default}
-use Rattle.bit_matrix.specs.Bits.{Meet, columns_of}
+use Rattle.bit_matrix.specs.Changes.{Meet, columns_of}
 use Rattle.proto_links.specs.Linked.{Linked, count_of, position_of}
 use Rattle.proto_links.proofs.links.Links.sees_one_of.Goals as goal
 

@@ -1,5 +1,5 @@
 use Rattle.std.proofs.Common.{subst}
-use Rattle.proto_names.specs.Index.{AreDeclaredOnce}
+use Rattle.proto_names.specs.Repeated.{AreDeclaredOnce}
 use Rattle.proto_names.proofs.Once.{declared_once}
 use Rattle.proto_names.proofs.index.NameIndex.names_are_declared_once.Goals as goal
 

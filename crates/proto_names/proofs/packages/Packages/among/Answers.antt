@@ -1,7 +1,7 @@
 use Rattle.std.proofs.Common.{◌≡◌, ◌∙◌, sym, ap, subst, ◌+◌, ◌*◌, ◌≤◌, List, length, take, drop, arith}
 use Rattle.std.proofs.lemmas.Grind.{common_steps}
 use Rattle.std.proofs.lemmas.List.{length-drop, length-take-le}
-use Rattle.bit_matrix.specs.Bits.{columns_of}
+use Rattle.bit_matrix.specs.Changes.{columns_of}
 use Rattle.proto_names.specs.Occurrences.{Occurrence}
 use Rattle.proto_names.specs.Packages.{ArePackagesOf, HasPackagePut}
 use Rattle.proto_names.specs.declared.packages.Packages.{Packages}

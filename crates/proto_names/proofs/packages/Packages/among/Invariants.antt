@@ -1,5 +1,5 @@
 use Rattle.std.proofs.Common.{◌≤◌, ◌-◌, length}
-use Rattle.bit_matrix.specs.Bits.{columns_of}
+use Rattle.bit_matrix.specs.Changes.{columns_of}
 use Rattle.proto_names.specs.Packages.{ArePackagesOf}
 use Rattle.proto_names.proofs.packages.Packages.among.Given as goal
 

@@ -1,5 +1,5 @@
 use Rattle.std.proofs.Common.{◌∙◌, ap, sym, length, List, ℕ}
-use Rattle.reflect_core.specs.Answer.{answer_of}
+use Rattle.reflect_core.specs.ProgramAnswers.{answer_of}
 use Rattle.reflect_core.specs.Reply.{contents_of}
 use Rattle.reflect_core.proofs.Constants.{not_found_is, empty_request_is}
 use Rattle.reflect_core.proofs.reply.Material.contents_len.Goals as goal

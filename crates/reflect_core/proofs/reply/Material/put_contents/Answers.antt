@@ -1,7 +1,7 @@
 use Rattle.std.proofs.Common.{◌≡◌, ◌∙◌, ◌++◌, ap, sym, List, ℕ, subst}
 use Rattle.std.specs.Result.{OnOk}
 use Rattle.reflect_core.proofs.Framing.{on_ok}
-use Rattle.reflect_core.specs.Answer.{answer_of}
+use Rattle.reflect_core.specs.ProgramAnswers.{answer_of}
 use Rattle.reflect_core.specs.Reply.{contents_of}
 use Rattle.reflect_core.proofs.Constants.{not_found_is, empty_request_is}
 use Rattle.reflect_core.proofs.reply.Material.put_contents.Goals as goal

@@ -5,7 +5,7 @@ use Rattle.std.proofs.lemmas.List.Sorted.{length_permutation}
 use Rattle.proto_names.specs.Index.{services_of}
 use Rattle.proto_names.specs.Occurrences.{Occurrence, occurrences}
 use Rattle.proto_names.proofs.Built.{below_files, none_moved, first_moved, not_some}
-use Rattle.proto_names.proofs.index.NameIndex.build.Goals as goal
+use Rattle.proto_names.proofs.index.NameIndex.build_by.Goals as goal
 
 pub returns-in-Some-first_twice-clause-twice : goal.returns-in-Some-first_twice-clause-twice
 returns-in-Some-first_twice-clause-twice g c file place e =
@@ -16,7 +16,7 @@ returns-in-Some-first_twice-clause-twice g c file place e =
     let same_file : c.in-Some-first_twice.location.file ≡ file = cc in
     let same_place : c.in-Some-first_twice.location.place ≡ place = cc in
     record {
-      within = rw (collected, c.get.ensures.value) at within;
+      within = rw (collected, c.get-limit.ensures.value) at within;
       twice =
           rw (← same_file, ← same_place) (first_moved (occurrences c.args.files.now) c.sort.new.self c.in-Some-first_twice.location.file
           c.in-Some-first_twice.location.place all first);
@@ -27,7 +27,7 @@ new-requires-clause-many g c =
     let within = (rw c.in-Some.is at c.in_ok-entries.ensures).1 in
     let all = c.sort.ensures.all in
     let same = length_permutation _ _ all in
-    omega (arith, within, c.get.ensures.within, same)
+    omega (arith, within, c.get-limit.ensures.within, same)
 
 pub invariant_of-result : goal.invariant_of-result
 invariant_of-result g c =
@@ -47,7 +47,7 @@ invariant_of-result g c =
         c.args.limits.now,
         record {
           files = refl;
-          within = rw (collected, c.get.ensures.value) at within;
+          within = rw (collected, c.get-limit.ensures.value) at within;
           once = none_moved (occurrences c.args.files.now) c.sort.new.self (rw collected at c.sort.ensures.all) none;
           all = all;
           sound = record {
@@ -70,7 +70,7 @@ returns-clause-indexed g c =
     let none = rw c.names.ensures at (not_some _ c.first_twice.result c.in_default-first_twice.not-Some c.first_twice.ensures) in
     record {
       files = refl;
-      within = rw (collected, c.get.ensures.value) at within;
+      within = rw (collected, c.get-limit.ensures.value) at within;
       once = none_moved (occurrences c.args.files.now) c.sort.new.self all none;
       all = moved;
       sound = record {

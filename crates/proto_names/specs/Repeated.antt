@@ -1,0 +1,30 @@
+-- What is so of an index, and the first name that occurs twice.
+use Rattle.std.specs.Prelude.{◌≡◌, ℕ, ◌≤◌, List, length, Some, Contains, slice_get}
+use Rattle.proto_desc.specs.declared.file.FileDesc.{FileDesc}
+use Rattle.proto_base.specs.Limits.{limit_of}
+use Rattle.proto_base.specs.declared.limits.Limit.TheVariants as limit
+use Rattle.proto_base.specs.declared.limits.Limits.{Limits}
+use Rattle.proto_base.specs.declared.place.Place.{Place}
+use Rattle.proto_names.specs.Occurrences.{Occurrence, IsPackage, occurrences, IsEarlier, IsTwice}
+use Rattle.proto_names.specs.Index.{Index, Indexes}
+
+-- the first of the occurrences that occur twice
+pub record IsFirstTwice (os : List Occurrence) (file : ℕ) (place : Place) : Type 0 where
+  pub found : (b : Occurrence) × IsTwice os b × (b.file ≡ file) × (b.place ≡ place)
+  pub least : (b : Occurrence) → IsTwice os b → IsEarlier b.file b.place file place → ⊥
+
+-- the first occurrence that repeats a name, of no more than the limit
+pub record IsRepeated (descs : List FileDesc) (limits : Limits) (file : ℕ) (place : Place) : Type 0 where
+  pub within : length (occurrences descs) ≤ limit_of limits limit.Names
+  pub twice : IsFirstTwice (occurrences descs) file place
+
+-- the index of some files
+abbrev pub IsOfFiles : Index → Type 0
+IsOfFiles index = (descs : List FileDesc) × (limits : Limits) × Indexes descs limits index
+
+-- the full name of an element has one occurrence, which stands once
+pub record AreDeclaredOnce (index : Index) : Type 0 where
+  pub one : (o p : Occurrence) → Contains index.occurrences o → Contains index.occurrences p
+      → o.name ≡ p.name → (IsPackage o → ⊥) → o ≡ p
+  pub once : (i j : ℕ) (o : Occurrence) → slice_get index.occurrences i ≡ Some o
+      → slice_get index.occurrences j ≡ Some o → (IsPackage o → ⊥) → i ≡ j
