@@ -17,7 +17,8 @@ use Rattle.proto_desc.specs.declared.rules.Element.TheVariants as element
 use Rattle.proto_options.specs.Options.{bracketed, separated, enum_setting, service_setting, oneof_setting}
 use Rattle.proto_checks.specs.Elements.{member_of, is_member, IsEmptyOneof, OneofBreaks, value_of_item, is_value, IsEmptyEnum, ValueBreaks, EnumBreaks, rpc_of, RpcBreaks, ServiceBreaks}
 use Rattle.proto_checks.specs.Gathered.{value_numbers}
-use Rattle.proto_base.specs.Least.{IsLeast, IsLesser, spot}
+use Rattle.proto_base.specs.Least.{IsLeast, spot}
+use Rattle.proto_base.specs.Lesser.{IsLesser}
 use Rattle.proto_checks.specs.Numbers.{EnumNumbersBreak}
 use Rattle.proto_checks.specs.Options.{SettingsBreak, IsWronglyPacked, IsWronglyTyped, IsWrongOnField, optioned, FieldOptionsBreak}
 use Rattle.proto_base.specs.Sets.{Each}

@@ -6,7 +6,8 @@ use Rattle.proto_checks.specs.declared.covers.Interval.{Interval}
 use Rattle.proto_checks.specs.declared.marks.MarkedNumber.{MarkedNumber}
 use Rattle.proto_checks.specs.declared.marks.MarkedRange.{MarkedRange}
 use Rattle.proto_checks.specs.Covers.{IsCover, IsAcross, Reached}
-use Rattle.proto_base.specs.Least.{IsLeast, IsLesser}
+use Rattle.proto_base.specs.Least.{IsLeast}
+use Rattle.proto_base.specs.Lesser.{IsLesser}
 use Rattle.proto_checks.specs.Marks.{Holds, Share, ReservedOverlap, ReservedNumberUsed}
 use Rattle.proto_base.specs.Sets.{StandsAt, Each}
 use Rattle.proto_base.proofs.Sets.{Either, least_either, least_same, least_none}

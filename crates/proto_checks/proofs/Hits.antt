@@ -4,7 +4,8 @@ use Rattle.std.specs.Prelude.{Option, Some, None}
 use Rattle.proto_checks.specs.declared.marks.MarkedNumber.{MarkedNumber}
 use Rattle.proto_checks.specs.declared.marks.MarkedRange.{MarkedRange}
 use Rattle.proto_base.specs.declared.spot.Spot.{Spot}
-use Rattle.proto_base.specs.Least.{IsLeast, IsLesser}
+use Rattle.proto_base.specs.Least.{IsLeast}
+use Rattle.proto_base.specs.Lesser.{IsLesser}
 use Rattle.proto_base.specs.Sets.{StandsAt, Where}
 use Rattle.proto_base.proofs.Sets.{EachTo, each_more, least_hit, least_miss, lesser_none}
 

@@ -15,7 +15,8 @@ use Rattle.proto_desc.specs.declared.rules.Element.TheVariants as element
 use Rattle.proto_options.specs.Options.{message_setting}
 use Rattle.proto_options.specs.Statements.{oneof_of}
 use Rattle.proto_checks.specs.Elements.{OneofBreaks, EnumBreaks, enum_of, BodyBreaks, ItemBreaks, bodies_of, bodies_row, bodies}
-use Rattle.proto_base.specs.Least.{IsLeast, IsLesser}
+use Rattle.proto_base.specs.Least.{IsLeast}
+use Rattle.proto_base.specs.Lesser.{IsLesser}
 use Rattle.proto_checks.specs.Numbers.{FieldNumbersBreak}
 use Rattle.proto_checks.specs.Options.{optioned, optioned_plain, optioned_member, optioned_fields, FieldOptionsBreak, SettingsBreak}
 use Rattle.proto_base.specs.Sets.{Each}

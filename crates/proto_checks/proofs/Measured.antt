@@ -7,7 +7,8 @@ use Rattle.proto_desc.specs.declared.enumeration.EnumDesc.{EnumDesc}
 use Rattle.proto_desc.specs.declared.field.FieldDesc.{FieldDesc}
 use Rattle.proto_desc.specs.declared.oneof.OneofDesc.{OneofDesc}
 use Rattle.proto_checks.specs.Checks.{IsTooLong}
-use Rattle.proto_base.specs.Least.{IsLeast, IsLesser}
+use Rattle.proto_base.specs.Least.{IsLeast}
+use Rattle.proto_base.specs.Lesser.{IsLesser}
 use Rattle.proto_checks.specs.Lengths.{declared_inside_of}
 use Rattle.proto_base.specs.Sets.{Each}
 use Rattle.proto_base.specs.declared.spot.Spot.{Spot}

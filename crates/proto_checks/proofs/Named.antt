@@ -7,7 +7,8 @@ use Rattle.proto_desc.specs.declared.message.MessageDesc.{MessageDesc}
 use Rattle.proto_desc.specs.declared.message.MessageDesc.TheViews.{out-MessageDesc}
 use Rattle.proto_desc.specs.declared.message.MessageDesc.TheFolds.{fold_out-MessageDesc}
 use Rattle.proto_checks.specs.Checks.{json_mark, field_mark, EnumNamesBreak, MessageNames, MessageNamesBreak, names_step, names_of}
-use Rattle.proto_base.specs.Least.{IsLeast, IsLesser}
+use Rattle.proto_base.specs.Least.{IsLeast}
+use Rattle.proto_base.specs.Lesser.{IsLesser}
 use Rattle.proto_checks.specs.Marks.{TextTwice, ReservedNameUsed}
 use Rattle.proto_base.specs.Sets.{Each}
 use Rattle.proto_base.specs.declared.spot.Spot.{Spot}

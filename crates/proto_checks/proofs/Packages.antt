@@ -8,7 +8,8 @@ use Rattle.proto_base.specs.declared.limits.Limits.{Limits}
 use Rattle.proto_tree.specs.declared.file.Package.{Package}
 use Rattle.proto_tree.specs.declared.file.Statement.{Statement}
 use Rattle.proto_checks.specs.Checks.{package_in, PackageTwice, parts_of, IsPartTooLong, IsWholeTooLong, PackageTooLong}
-use Rattle.proto_base.specs.Least.{IsLeast, IsLesser, spot}
+use Rattle.proto_base.specs.Least.{IsLeast, spot}
+use Rattle.proto_base.specs.Lesser.{IsLesser}
 use Rattle.proto_base.specs.Sets.{Each, Where}
 use Rattle.proto_base.specs.declared.spot.Spot.{Spot}
 use Rattle.proto_base.proofs.Among.{taken, later_short}

@@ -10,7 +10,8 @@ use Rattle.proto_tree.specs.declared.option.Setting.{Setting}
 use Rattle.proto_desc.specs.declared.rules.Element.{Element}
 use Rattle.proto_options.specs.Options.{is_setting, value_of}
 use Rattle.proto_desc.specs.Rules.{rules_of}
-use Rattle.proto_base.specs.Least.{IsLeast, IsLesser, spot}
+use Rattle.proto_base.specs.Least.{IsLeast, spot}
+use Rattle.proto_base.specs.Lesser.{IsLesser}
 use Rattle.proto_checks.specs.Options.{name_place, value_place, IsUnknown, IsMistaken, SettingBreaks, unknown, mistaken, OptionTwice, SettingsBreak}
 use Rattle.proto_checks.specs.Judged.{is_known, is_known_by, is_mistaken, is_mistaken_by, setting_fault, judged, IsFaultOf, JudgedTwice}
 use Rattle.proto_base.specs.Sets.{Each}

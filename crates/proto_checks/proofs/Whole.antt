@@ -11,7 +11,8 @@ use Rattle.proto_desc.specs.DeclaredNames.{declared_by_message, declared_by_enum
 use Rattle.proto_desc.specs.declared.file.FileDesc.{FileDesc}
 use Rattle.proto_checks.specs.Checks.{body_in, enum_in, service_in, HeadBreaks, StatementBreaks, NamesBreak, LengthsBreak, IsTooLong, FileBreaks}
 use Rattle.proto_checks.specs.Elements.{BodyBreaks, EnumBreaks, ServiceBreaks}
-use Rattle.proto_base.specs.Least.{IsLeast, IsLesser}
+use Rattle.proto_base.specs.Least.{IsLeast}
+use Rattle.proto_base.specs.Lesser.{IsLesser}
 use Rattle.proto_base.specs.Sets.{Each}
 use Rattle.proto_base.specs.declared.spot.Spot.{Spot}
 use Rattle.proto_base.proofs.Among.{among_of, least_single, least_append}

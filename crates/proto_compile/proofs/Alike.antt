@@ -12,7 +12,8 @@ use Rattle.std.proofs.lemmas.List.Sums.{sum_by-cons}
 use Rattle.std.proofs.lemmas.Slice.Zip.{AllZip-long}
 use Rattle.proto_base.specs.declared.limits.Limits.{Limits}
 use Rattle.proto_desc.specs.declared.file.FileDesc.{FileDesc}
-use Rattle.proto_links.specs.Linked.{AreLinked, Linked, has, reach_of}
+use Rattle.proto_links.specs.Linked.{AreLinked, Linked, reach_of}
+use Rattle.proto_links.specs.Whole.{has}
 use Rattle.proto_links.proofs.Rising.{Rises}
 use Rattle.proto_links.proofs.Whole.{whole_of}
 use Rattle.proto_names.specs.Index.{Index, Indexes, is_service_kind, name_of, services_of}

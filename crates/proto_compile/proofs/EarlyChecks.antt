@@ -5,6 +5,7 @@ use Rattle.std.proofs.lemmas.Bool.{cases_order}
 use Rattle.proto_desc.specs.declared.file.FileDesc.{FileDesc}
 use Rattle.proto_links.proofs.Unique.{one_bad}
 use Rattle.proto_links.specs.Imports as imports
+use Rattle.proto_links.specs.Bad as bad_imports
 use Rattle.proto_base.specs.Limits.{limit_of}
 use Rattle.proto_base.specs.declared.kind.Kind.{Kind}
 use Rattle.proto_base.specs.declared.kind.Kind.TheVariants as kind
@@ -77,7 +78,7 @@ pub record FindsImport (limits : Limits) (sources : List Source) (x : Told) : Ty
   pub place : Place
   pub what : Kind
   pub described : Describe limits sources files descs
-  pub bad : imports.IsFirstBad descs at place what
+  pub bad : bad_imports.IsFirstBad descs at place what
   pub is : x ≡ told 2 (imports.name_at descs at) 0 place what
 
 abbrev pub import_check : Limits → List Source → Check

@@ -6,8 +6,9 @@ use Rattle.proto_desc.specs.declared.file.FileDesc.{FileDesc}
 use Rattle.proto_base.proofs.Spots.{same_place}
 use Rattle.proto_links.specs.Imports as imports
 use Rattle.proto_links.specs.Linked.{Linked}
-use Rattle.proto_names.specs.Index.{Index, IsRepeated}
-use Rattle.proto_names.specs.Occurrences.{Occurrence, IsEarlier, IsFirstTwice, NoneTwice, occurrences}
+use Rattle.proto_names.specs.Index.{Index}
+use Rattle.proto_names.specs.Repeated.{IsRepeated, IsFirstTwice}
+use Rattle.proto_names.specs.Occurrences.{Occurrence, IsEarlier, NoneTwice, occurrences}
 use Rattle.proto_base.specs.Limits.{limit_of}
 use Rattle.proto_base.specs.declared.kind.Kind.{Kind}
 use Rattle.proto_base.specs.declared.kind.Kind.TheVariants as kind

@@ -17,6 +17,7 @@ use Rattle.proto_desc.specs.declared.file.FileDesc.{FileDesc}
 use Rattle.proto_file.specs.Local.{IsLocalFault}
 use Rattle.proto_file.proofs.OneLocal.{one_local}
 use Rattle.proto_links.specs.Imports as imports
+use Rattle.proto_links.specs.Bad as bad_imports
 use Rattle.proto_compile.specs.Descriptions.{Describe, SourceDescribes}
 use Rattle.proto_compile.specs.FaultSet.{AreDescribed, start}
 use Rattle.proto_compile.specs.Faults.{Stands}
@@ -218,7 +219,7 @@ names_before limits sources files descs a b described less h =
 
 -- faults of two files, by the order of the files
 pub later_by_file : (limits : Limits) (sources files : List Source) (descs : List FileDesc) (pass a b : ℕ) (p q : Place) (k l : Kind)
-    → Describe limits sources files descs → b < length descs → imports.IsNoLater a p k b q l
+    → Describe limits sources files descs → b < length descs → bad_imports.IsNoLater a p k b q l
     → IsNoLater (found_as pass (imports.name_at descs a) 0 p k) (found_as pass (imports.name_at descs b) 0 q l)
 later_by_file limits sources files descs pass a b p q k l described h (inl less) =
     later_in_name pass (imports.name_at descs a) (imports.name_at descs b) 0 0 p q k l (names_before limits sources files descs a b described less h)

@@ -4,7 +4,8 @@ use Rattle.std.specs.List.{All}
 use Rattle.std.proofs.lemmas.List.Sorted.{Contains-permutation, IsPermutation-sym}
 use Rattle.proto_base.specs.declared.spot.Spot.{Spot}
 use Rattle.proto_links.specs.Visible.{Sees}
-use Rattle.proto_names.specs.Resolution.{AreSeenAlike, SeenBy}
+use Rattle.proto_names.specs.Resolution.{SeenBy}
+use Rattle.proto_names.specs.SeenAlike.{AreSeenAlike}
 use Rattle.proto_types.proofs.Unique.{breaks_alike}
 use Rattle.proto_types.specs.References.{TypesBreak}
 use Rattle.std.proofs.lemmas.Bool.{cases_order}
@@ -18,10 +19,12 @@ use Rattle.proto_base.specs.declared.limits.Limits.{Limits}
 use Rattle.proto_base.specs.declared.place.Place.{Place}
 use Rattle.proto_desc.specs.declared.file.FileDesc.{FileDesc}
 use Rattle.proto_links.specs.Imports as imports
+use Rattle.proto_links.specs.Bad as bad_imports
 use Rattle.proto_links.specs.Linked.{AreLinked, Linked}
 use Rattle.proto_names.proofs.Built.{below_files, below_from}
 use Rattle.proto_names.specs.Index.{Index, Indexes}
-use Rattle.proto_names.specs.Occurrences.{IsFirstTwice, IsTwice, NoneTwice, Occurrence, occurrences}
+use Rattle.proto_names.specs.Occurrences.{IsTwice, NoneTwice, Occurrence, occurrences}
+use Rattle.proto_names.specs.Repeated.{IsFirstTwice}
 use Rattle.wire_bytes.specs.Descriptor.{file_desc_bytes}
 use Rattle.proto_compile.specs.Analysed.{AreResolved, AreTypedFrom, TypesAt, TypesBreakAt}
 use Rattle.proto_compile.specs.Compilation.{IsShort}
@@ -69,7 +72,7 @@ pub record HasTwice (limits : Limits) (sources : List Source) (x : Told) : Type 
   pub is : x ≡ told 3 (imports.name_at descs what.file) 0 what.place kind.NameTwice
 
 pub twice_order : (os : List Occurrence) (a : ℕ) (p : Place) (o : Occurrence) → IsFirstTwice os a p → IsTwice os o
-    → imports.IsNoLater a p kind.NameTwice o.file o.place kind.NameTwice
+    → bad_imports.IsNoLater a p kind.NameTwice o.file o.place kind.NameTwice
 twice_order os a p o first twice = elim (cases_order a o.file) [
   | inl same ↦ elim (cases_order p.offset o.place.offset) [
     | inl at ↦ inr (same, inr (at, omega arith))
@@ -156,7 +159,7 @@ break_from_index limits descs links index linked indexed a desc x h =
 
 pub break_here : (descs : List FileDesc) (links : Linked) (index : Index) (a b : ℕ) (desc : FileDesc) (p q : Place) (k l : Kind)
     (first : IsFirstBreak descs links index a p k) → a ≡ b → StandsDesc descs b desc
-    → TypesBreakAt links index b desc (spot q l) → imports.IsNoLater a p k b q l
+    → TypesBreakAt links index b desc (spot q l) → bad_imports.IsNoLater a p k b q l
 break_here descs links index a b desc p q k l first same stands breaks =
     let here = subst (λ n. StandsDesc descs n desc) (sym same) stands in
     let file : desc ≡ first.desc = standing_one descs a desc first.desc first.stands.0 here.1 first.stands.1 in
@@ -166,7 +169,7 @@ break_here descs links index a b desc p q k l first same stands breaks =
 
 pub break_order : (descs : List FileDesc) (links : Linked) (index : Index)
     (a b : ℕ) (desc : FileDesc) (p q : Place) (k l : Kind) (first : IsFirstBreak descs links index a p k) → StandsDesc descs b desc
-    → TypesBreakAt links index b desc (spot q l) → imports.IsNoLater a p k b q l
+    → TypesBreakAt links index b desc (spot q l) → bad_imports.IsNoLater a p k b q l
 break_order descs links index a b desc p q k l first stands breaks = elim (cases_order a b) [
   | inl same ↦ break_here descs links index a b desc p q k l first same stands breaks
   | inr (inl less) ↦ inl less
@@ -230,7 +233,7 @@ pub record HasLong (limits : Limits) (sources : List Source) (x : Told) : Type 0
 
 pub long_order : (limits : Limits) (descs : List FileDesc) (a b : ℕ) (desc : FileDesc) → IsFirstLong limits descs a → StandsDesc descs b desc
     → limit_of limits limit.DescriptorBytes < length (file_desc_bytes desc)
-    → imports.IsNoLater a start kind.DescriptorTooLong b start kind.DescriptorTooLong
+    → bad_imports.IsNoLater a start kind.DescriptorTooLong b start kind.DescriptorTooLong
 long_order limits descs a b desc first stands over = elim (cases_order a b) [
   | inl same ↦ inr (same, inr (refl, omega arith))
   | inr (inl less) ↦ inl less

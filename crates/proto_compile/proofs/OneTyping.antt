@@ -14,7 +14,8 @@ use Rattle.proto_links.specs.Linked.{AreLinked, Linked}
 use Rattle.proto_names.proofs.Built.{below_files}
 use Rattle.proto_names.specs.Index.{Index, Indexes}
 use Rattle.proto_names.specs.Occurrences.{Occurrence, occurrences}
-use Rattle.proto_names.specs.Resolution.{AreSeenAlike, SeenBy}
+use Rattle.proto_names.specs.Resolution.{SeenBy}
+use Rattle.proto_names.specs.SeenAlike.{AreSeenAlike}
 use Rattle.proto_base.specs.declared.kind.Kind.{Kind}
 use Rattle.proto_base.specs.declared.limits.Limits.{Limits}
 use Rattle.proto_base.specs.declared.place.Place.{Place}

@@ -18,7 +18,7 @@ use Rattle.proto_base.specs.Least.{spot}
 use Rattle.proto_base.specs.Sets.{StandsAt}
 use Rattle.proto_base.specs.declared.spot.Spot.{Spot}
 use Rattle.proto_file.proofs.Spots.{Placed, SpotWithin, at_spot, each_within, standing}
-use Rattle.proto_names.specs.Index.{IsRepeated}
+use Rattle.proto_names.specs.Repeated.{IsRepeated}
 use Rattle.proto_names.specs.Occurrences.{Occurrence, occurrences_of, occurrences_from}
 use Rattle.proto_types.specs.References.{Reference, ReferenceBreaks, TypesBreak, references}
 use Rattle.proto_compile.specs.Analysed.{TypesAt}

@@ -2,7 +2,8 @@
 use Rattle.std.proofs.Common.{◌≡◌, sym, ap, subst, ℕ, zero, suc, ◌+◌, ◌<◌, ◌≤◌, Bool, true, false, List, [], ◌∷◌, length, get_or, map, Less, arith, refl}
 use Rattle.std.specs.Prelude.{Contains, filter, flat_map}
 use Rattle.std.proofs.lemmas.List.{length-append, length-map}
-use Rattle.proto_links.specs.Linked.{count_of, has, reach_of}
+use Rattle.proto_links.specs.Linked.{count_of, reach_of}
+use Rattle.proto_links.specs.Whole.{has}
 use Rattle.proto_links.proofs.Whole.{whole_of}
 use Rattle.wire_format.specs.Field.{bytes_field}
 use Rattle.std.specs.Cmp.Lexicographic.{slice_cmp}

@@ -8,9 +8,10 @@ use Rattle.std.proofs.lemmas.Bool.{cases_lt}
 use Rattle.std.proofs.lemmas.List.{take_more, get_or_past, get_or-map, get_or_default, length-map}
 use Rattle.proto_desc.specs.declared.file.FileDesc.{FileDesc}
 use Rattle.proto_links.specs.Imports as imports
+use Rattle.proto_links.specs.Bad as bad_imports
 use Rattle.proto_desc.specs.declared.file.ImportDesc.{ImportDesc}
 use Rattle.std.proofs.lemmas.Option.{get_or_from_slice_get, slice_get_within}
-use Rattle.proto_names.specs.Index.{IsRepeated}
+use Rattle.proto_names.specs.Repeated.{IsRepeated}
 use Rattle.proto_names.specs.Occurrences.{ContainsBoth, Occurrence}
 use Rattle.proto_names.proofs.Built.{below_from}
 use Rattle.proto_base.specs.declared.kind.Kind.{Kind}
@@ -43,7 +44,7 @@ same_names limits (s ∷ files) (d ∷ descs) all =
 
 -- what is described is in the order of its names
 pub descs_in_order : (limits : Limits) (files : List Source) (descs : List FileDesc) → NamesRise files → AllZip (SourceDescribes limits) files descs
-    → imports.AreInNameOrder descs
+    → bad_imports.AreInNameOrder descs
 descs_in_order limits files descs rises all k h =
     let names = same_names limits files descs all in
     let room : k + 1 < length files =
@@ -65,7 +66,7 @@ bad_inside descs a place kind bad = elim (cases_lt a (length descs)) [
     nothing_in : {X : Type 0} {x : X} → Contains [] x → ⊥
     nothing_in (k, inside, is) = omega (arith, inside)
 
-pub bad_within : (descs : List FileDesc) (a : ℕ) (place : Place) (kind : Kind) → imports.IsFirstBad descs a place kind → a < length descs
+pub bad_within : (descs : List FileDesc) (a : ℕ) (place : Place) (kind : Kind) → bad_imports.IsFirstBad descs a place kind → a < length descs
 bad_within descs a place kind first = bad_inside descs a place kind first.bad
 
 -- what occurs beside another

@@ -11,9 +11,11 @@ use Rattle.proto_base.specs.declared.place.Place.{Place}
 use Rattle.proto_base.specs.declared.spot.Spot.{Spot}
 use Rattle.proto_desc.specs.declared.file.FileDesc.{FileDesc}
 use Rattle.proto_links.specs.Imports as imports
+use Rattle.proto_links.specs.Bad as bad_imports
 use Rattle.proto_links.specs.Linked.{Linked}
 use Rattle.proto_base.specs.Least.{IsLeast, spot}
-use Rattle.proto_names.specs.Index.{Index, IsRepeated}
+use Rattle.proto_names.specs.Index.{Index}
+use Rattle.proto_names.specs.Repeated.{IsRepeated}
 use Rattle.proto_names.specs.Occurrences.{occurrences}
 use Rattle.wire_bytes.specs.Descriptor.{file_desc_bytes}
 use Rattle.proto_compile.specs.Analysed.{AreResolved, IsAnalysed, TypesBreakAt}
@@ -49,7 +51,7 @@ pub data IsFirstFault (limits : Limits) (sources : List Source) : (pass : ℕ) (
       → IsLocalFault limits (name_of s) (text_of s) step place what
       → IsFirstFault limits sources 1 (name_of s) step place what
   in_imports : (files : List Source) (descs : List FileDesc) (a : ℕ) (place : Place) (what : Kind)
-      → Describe limits sources files descs → imports.IsFirstBad descs a place what
+      → Describe limits sources files descs → bad_imports.IsFirstBad descs a place what
       → IsFirstFault limits sources 2 (imports.name_at descs a) 0 place what
   too_many_names : (files : List Source) (descs : List FileDesc) → Describe limits sources files descs
       → imports.NoneBad descs → limit_of limits limit.Names < length (occurrences descs)

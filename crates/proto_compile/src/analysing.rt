@@ -9,7 +9,7 @@ ghost use Rattle.proto_compile.specs.Faults.{IsFirstFault, IsRefusal};
 ghost use Rattle.proto_compile.specs.Sources.{AreByName, NamesRise};
 ghost use Rattle.proto_compile.specs.declared.source.Source.{Source};
 ghost use Rattle.proto_desc.specs.Resolved.{file_resolved};
-ghost use Rattle.proto_links.specs.Imports.{AreInNameOrder};
+ghost use Rattle.proto_links.specs.Bad.{AreInNameOrder};
 ghost use Rattle.proto_links.specs.Linked.{AreLinked};
 ghost use Rattle.proto_names.specs.Index.{Indexes};
 

@@ -11,7 +11,7 @@ use Rattle.proto_base.specs.declared.kind.Kind.{Kind}
 use Rattle.proto_tokens.specs.Token.{Lexeme, Spelled}
 use Rattle.proto_tokens.specs.ProgramTokens.{spelled, lexeme_of}
 use Rattle.proto_tokens.specs.Piece.{IsLongestPiece, IsPieceFault}
-use Rattle.proto_tokens.specs.Spelling.{Piece, IsCutIntoPieces, tokens_from, token_before, SpellsFrom, mark_len}
+use Rattle.proto_tokens.specs.Spelling.{Piece, IsCutIntoPieces, tokens_from, with_token, SpellsFrom, mark_len}
 use Rattle.proto_tokens.specs.Told.{IsPlacedWithin, IsFaultOf}
 use Rattle.proto_tokens.specs.Steps.{IsFaultFrom, IsFaultAfter}
 use Rattle.proto_tokens.specs.declared.token.TokenError.{TokenError}
@@ -33,30 +33,30 @@ pub cut_more : {P : Type 0} (IsPart : List ℕ → P → Type 0) (len : P → �
 cut_more IsPart len s from [] to p cut is = (subst (λ (i : ℕ). IsPart (drop i s) p) (sym cut) is, ap (λ i. i + len p) cut)
 cut_more IsPart len s from (q ∷ ps) to p cut is = (cut.0, cut_more IsPart len s (from + len q) ps to p cut.1 is)
 
-token_before-append : (piece : Option Lexeme) (start end : ℕ) (ts us : List Spelled)
-    → token_before piece start end (ts ++ us) ≡ token_before piece start end ts ++ us
-token_before-append None start end ts us = refl
-token_before-append (Some lexeme) start end ts us = refl
+with_token-append : (piece : Option Lexeme) (start end : ℕ) (ts us : List Spelled)
+    → with_token piece start end (ts ++ us) ≡ with_token piece start end ts ++ us
+with_token-append None start end ts us = refl
+with_token-append (Some lexeme) start end ts us = refl
 
 tokens_more : (s : List ℕ) (from : ℕ) (ps : List Piece) (to : ℕ) (p : Piece) → IsCutIntoPieces s from ps to
-    → tokens_from from (ps ++ p ∷ []) ≡ tokens_from from ps ++ token_before p.is to (to + p.len) []
-tokens_more s from [] to p cut = ap (λ i. token_before p.is i (i + p.len) []) cut
+    → tokens_from from (ps ++ p ∷ []) ≡ tokens_from from ps ++ with_token p.is to (to + p.len) []
+tokens_more s from [] to p cut = ap (λ i. with_token p.is i (i + p.len) []) cut
 tokens_more s from (q ∷ ps) to p cut =
-    ap (token_before q.is from (from + q.len)) (tokens_more s (from + q.len) ps to p cut.1)
-    ∙ token_before-append q.is from (from + q.len) (tokens_from (from + q.len) ps) (token_before p.is to (to + p.len) [])
+    ap (with_token q.is from (from + q.len)) (tokens_more s (from + q.len) ps to p cut.1)
+    ∙ with_token-append q.is from (from + q.len) (tokens_from (from + q.len) ps) (with_token p.is to (to + p.len) [])
 
 pub cut_start : (s : List ℕ) (start : ℕ) → start ≤ length s → IsCutUpTo s start start []
 cut_start s start within = record { within = within; pieces = []; cut = refl; tokens = refl }
 
 cut_on : (s : List ℕ) (start at n : ℕ) (piece : Option Lexeme) (ts : List Spelled) → IsCutUpTo s start at ts → IsLongestPiece (drop at s) n piece
-    → IsCutUpTo s start (at + n) (ts ++ token_before piece at (at + n) [])
+    → IsCutUpTo s start (at + n) (ts ++ with_token piece at (at + n) [])
 cut_on s start at n piece ts so_far is =
     let p : Piece = record { len = n; is = piece } in
     record {
       within = omega (arith, is.fits, length-drop at s, so_far.within);
       pieces = so_far.pieces ++ p ∷ [];
       cut = cut_more (λ rest p. IsLongestPiece rest p.len p.is) (λ p. p.len) s start so_far.pieces at p so_far.cut is;
-      tokens = tokens_more s start so_far.pieces at p so_far.cut ∙ ap (λ us. us ++ token_before piece at (at + n) []) so_far.tokens;
+      tokens = tokens_more s start so_far.pieces at p so_far.cut ∙ ap (λ us. us ++ with_token piece at (at + n) []) so_far.tokens;
     }
 
 pub cut_gap : (s : List ℕ) (start at n : ℕ) (ts : List Spelled) → IsCutUpTo s start at ts → IsLongestPiece (drop at s) n None → IsCutUpTo s start (at + n) ts

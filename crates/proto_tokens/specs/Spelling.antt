@@ -19,14 +19,14 @@ abbrev pub IsCutIntoPieces : List ℕ → ℕ → List Piece → ℕ → Type 0
 IsCutIntoPieces s from ps to = IsCutInto (λ rest p. IsLongestPiece rest p.len p.is) (λ p. p.len) s from ps to
 
 -- the token of a piece from one place up to another, if it has one, before further tokens
-abbrev pub token_before : Option Lexeme → ℕ → ℕ → List Spelled → List Spelled
-token_before None start end ts = ts
-token_before (Some lexeme) start end ts = record { start = start; end = end; lexeme = lexeme } ∷ ts
+abbrev pub with_token : Option Lexeme → ℕ → ℕ → List Spelled → List Spelled
+with_token None start end ts = ts
+with_token (Some lexeme) start end ts = record { start = start; end = end; lexeme = lexeme } ∷ ts
 
 -- the tokens of the pieces that stand from a place on
 abbrev pub tokens_from : ℕ → List Piece → List Spelled
 tokens_from from [] = []
-tokens_from from (p ∷ ps) = token_before p.is from (from + p.len) (tokens_from (from + p.len) ps)
+tokens_from from (p ∷ ps) = with_token p.is from (from + p.len) (tokens_from (from + p.len) ps)
 
 -- the length of the byte order mark at the start, if there is one
 abbrev pub mark_len : List ℕ → ℕ

@@ -3,8 +3,8 @@ use Rattle.std.specs.Prelude.{◌≡◌, ℕ, ◌<◌, ◌≤◌, List, ◌++◌
 use Rattle.proto_base.specs.Limits.{limit_of}
 use Rattle.proto_base.specs.declared.limits.Limits.{Limits}
 use Rattle.proto_base.specs.declared.limits.Limit.TheVariants.{MessageBytes, Requests}
-use Rattle.reflect_requests.specs.declared.frames.Next as rust
-use Rattle.reflect_requests.specs.declared.frames.Next.TheVariants.{Frame, End}
+use Rattle.reflect_requests.specs.declared.frames.NextFrame as rust
+use Rattle.reflect_requests.specs.declared.frames.NextFrame.TheVariants.{Frame, End}
 use Rattle.reflect_requests.specs.declared.frames.Status.{Status}
 use Rattle.reflect_requests.specs.Frames.{IsAllowed, frame, status_of}
 use Rattle.reflect_requests.specs.ProgramFrames.{Reads, status_number}
@@ -22,7 +22,7 @@ pub record IsEnd (limits : Limits) (count : ℕ) (rest : List ℕ) (status : Sta
       → rest ≡ frame 0 message ++ after → ⊥
 
 -- what stands at the front of what is left
-abbrev pub IsNext : Limits → ℕ → List ℕ → rust.Next → Type 0
+abbrev pub IsNext : Limits → ℕ → List ℕ → rust.NextFrame → Type 0
 IsNext limits count rest (Frame message after) =
     IsCut limits count rest message.bytes.now after.now × IsAllowed limits message.bytes.now × Reads message
 IsNext limits count rest (End status) = IsEnd limits count rest status

@@ -59,7 +59,7 @@ pub struct Frames<'b> {
 
 /// What stands at a place of a body.
 #[derive(Clone, Copy)]
-enum Next<'b> {
+enum NextFrame<'b> {
     /// A frame: its message, and what follows it.
     Frame(Message<'b>, &'b [u8]),
     /// The end of what is read.
@@ -118,19 +118,19 @@ fn next_frame<'b>(
     limits: &Limits,
     count: usize,
     rest: &'b [u8],
-) -> Result<Next<'b>, AllocError>
+) -> Result<NextFrame<'b>, AllocError>
     ensures { IfOk result (IsNext limits.now count rest.now) }
 {
     let (message, after) = match frame_at(limits, count, rest) {
         Ok(cut) => cut,
-        Err(status) => return Ok(Next::End(status)),
+        Err(status) => return Ok(NextFrame::End(status)),
     };
     match request_of(alloc, message)? {
         Some(request) => {
             let bytes = message;
-            Ok(Next::Frame(Message { bytes, request }, after))
+            Ok(NextFrame::Frame(Message { bytes, request }, after))
         }
-        None => Ok(Next::End(Status::InvalidArgument)),
+        None => Ok(NextFrame::End(Status::InvalidArgument)),
     }
 }
 
@@ -155,11 +155,11 @@ pub fn read_stream<'b>(
     let mut rest = body;
     loop {
         match next_frame(alloc, limits, messages.len(), rest)? {
-            Next::Frame(message, after) => {
+            NextFrame::Frame(message, after) => {
                 messages.push(message)?;
                 rest = after;
             }
-            Next::End(status) => {
+            NextFrame::End(status) => {
                 return Ok(Stream {
                     messages,
                     status: status.number(),

@@ -24,7 +24,7 @@ use std::io::{self, Write};
 
 /// What a run ends with.
 #[derive(Clone, Copy)]
-pub enum Status {
+pub enum ExitStatus {
     Done,
     Fault,
     CommandLine,
@@ -41,14 +41,14 @@ pub enum Verdict {
     Faulty,
 }
 
-impl Status {
+impl ExitStatus {
     /// The status of a run that ended so.
-    pub fn after(done: &Result<Verdict, Failure>) -> Status
+    pub fn after(done: &Result<Verdict, Failure>) -> ExitStatus
         ensures { result ≡ status_after done.now }
     {
         match done {
-            Ok(Verdict::Sound) => Status::Done,
-            Ok(Verdict::Faulty) => Status::Fault,
+            Ok(Verdict::Sound) => ExitStatus::Done,
+            Ok(Verdict::Faulty) => ExitStatus::Fault,
             Err(failure) => failure.status(),
         }
     }
@@ -59,11 +59,11 @@ impl Status {
         ensures few { result ≤ 4 }
     {
         match self {
-            Status::Done => 0,
-            Status::Fault => 1,
-            Status::CommandLine => 2,
-            Status::Device => 3,
-            Status::NoMemory => 4,
+            ExitStatus::Done => 0,
+            ExitStatus::Fault => 1,
+            ExitStatus::CommandLine => 2,
+            ExitStatus::Device => 3,
+            ExitStatus::NoMemory => 4,
         }
     }
 }
@@ -87,17 +87,17 @@ pub enum Failure {
 
 impl Failure {
     /// The exit status of a run that ends so.
-    pub fn status(&self) -> Status
+    pub fn status(&self) -> ExitStatus
         ensures { result ≡ status_of self.now }
     {
         match self {
-            Failure::Source { .. } => Status::Fault,
+            Failure::Source { .. } => ExitStatus::Fault,
             Failure::Input
             | Failure::Output
             | Failure::Folder
             | Failure::Listen
-            | Failure::Accept => Status::Device,
-            Failure::NoMemory => Status::NoMemory,
+            | Failure::Accept => ExitStatus::Device,
+            Failure::NoMemory => ExitStatus::NoMemory,
         }
     }
 

@@ -10,8 +10,8 @@ use Rattle.schema_command_line.specs.declared.task.Task.TheVariants as task
 use Rattle.schema_commands.specs.Runs.{IsAnswerRun, IsCompileRun, IsDescribeRun, IsExplainRun}
 use Rattle.schema_failure.specs.Statuses.{code_of, status_after}
 use Rattle.schema_failure.specs.declared.failure.Failure.{Failure}
-use Rattle.schema_failure.specs.declared.failure.Status.{Status}
-use Rattle.schema_failure.specs.declared.failure.Status.TheVariants as status
+use Rattle.schema_failure.specs.declared.failure.ExitStatus.{ExitStatus}
+use Rattle.schema_failure.specs.declared.failure.ExitStatus.TheVariants as status
 use Rattle.schema_failure.specs.declared.failure.Verdict.{Verdict}
 use Rattle.schema_failure.specs.declared.failure.Verdict.TheVariants as verdict
 
@@ -42,7 +42,7 @@ IsPerformed (task.Explain topic) reads reads' writes writes' =
 
 -- the words were no task: a text was written, as help is; or the command line is wrong, or memory was short, and nothing was
 -- written; or a call of the writer failed
-abbrev pub IsUsageRun : Writes → Writes → Status → Type 0
+abbrev pub IsUsageRun : Writes → Writes → ExitStatus → Type 0
 IsUsageRun writes writes' status.Done = (text : List ℕ) × IsWritten writes writes' text
 IsUsageRun writes writes' status.Fault = ⊥
 IsUsageRun writes writes' status.CommandLine = writes' ≡ writes
@@ -50,7 +50,7 @@ IsUsageRun writes writes' status.Device = (text : List ℕ) × (written : ℕ) �
 IsUsageRun writes writes' status.NoMemory = writes' ≡ writes
 
 -- what became of what the words ask for: a task was performed, and the status is that of how it ended; or they ask for none
-abbrev pub IsEndOf : Option Task → Reads → Reads → Writes → Writes → Status → Type 0
+abbrev pub IsEndOf : Option Task → Reads → Reads → Writes → Writes → ExitStatus → Type 0
 IsEndOf (Some asked) reads reads' writes writes' ended =
     (done : Result Verdict Failure) × IsPerformed asked reads reads' writes writes' done × (ended ≡ status_after done)
 IsEndOf None reads reads' writes writes' ended = IsUsageRun writes writes' ended
@@ -59,6 +59,6 @@ IsEndOf None reads reads' writes writes' ended = IsUsageRun writes writes' ended
 pub record IsRun (reads reads' : Reads) (writes writes' : Writes) (code : ℕ) : Type 0 where
   pub asked : Option Task
   pub found : IfSome asked (λ one. (matches : ArgMatches) × IsAsked matches one)
-  pub ended : Status
+  pub ended : ExitStatus
   pub run : IsEndOf asked reads reads' writes writes' ended
   pub number : code ≡ code_of ended

@@ -13,7 +13,7 @@ use proto_base::Limits;
 use schema_check::run_check;
 use schema_command_line::{Selection, Task, task_of};
 use schema_commands::{run_answer, run_compile, run_describe, run_explain};
-use schema_failure::{Failure, Status, Verdict, write_failure};
+use schema_failure::{ExitStatus, Failure, Verdict, write_failure};
 use schema_sources::{SystemFolder, trouble_of};
 use std::alloc::{AllocGlobal, Global};
 use std::io::Write;
@@ -92,10 +92,10 @@ where
 }
 
 /// The status of a run that ends so, after the line of its failure. That it cannot be printed changes nothing.
-fn finish<E: Write>(done: Result<Verdict, Failure>, faults: &mut E) -> Status
+fn finish<E: Write>(done: Result<Verdict, Failure>, faults: &mut E) -> ExitStatus
     ensures { result ≡ status_after done }
 {
-    let status = Status::after(&done);
+    let status = ExitStatus::after(&done);
     if let Err(failure) = done {
         let _ = write_failure(&failure, faults);
     }
@@ -122,7 +122,7 @@ fn tell_usage<O: CountedWrite, E: Write>(
     error: &Error,
     output: &mut O,
     faults: &mut E,
-) -> Status
+) -> ExitStatus
     requires { (O.writes output.old).failures < 2 ^ 64 - 1 }
     ensures { IsUsageRun (O.writes output.old) (O.writes output.new) result }
 {
@@ -133,7 +133,7 @@ fn tell_usage<O: CountedWrite, E: Write>(
         }
         _ => {
             let _ = write!(faults, "{error}");
-            Status::CommandLine
+            ExitStatus::CommandLine
         }
     }
 }
@@ -160,7 +160,7 @@ fn end_of<R, I, O, E>(
     input: &mut I,
     output: &mut O,
     faults: &mut E,
-) -> Status
+) -> ExitStatus
 where
     R: Wait + Threads + Files + Clock + RandomSource + AllocGlobal + Sync + Clone + Drop + Net,
     I: CountedRead,

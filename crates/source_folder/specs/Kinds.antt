@@ -9,8 +9,8 @@ use Rattle.std.specs.declared.io.ErrorKind.TheVariants.{FilesystemLoop, NotADire
 use Rattle.device_error.specs.Memory.{LacksMemory}
 use Rattle.source_folder.specs.Reasons.{IsReasonOf}
 use Rattle.source_folder.specs.declared.kind.Identity.{Identity}
-use Rattle.source_folder.specs.declared.kind.Kind.{Kind}
-use Rattle.source_folder.specs.declared.kind.Kind.TheVariants as kind
+use Rattle.source_folder.specs.declared.kind.EntryKind.{EntryKind}
+use Rattle.source_folder.specs.declared.kind.EntryKind.TheVariants as kind
 use Rattle.source_folder.specs.declared.reason.Reason.{Reason}
 use Rattle.source_folder.specs.declared.reason.Reason.TheVariants.{Untold}
 
@@ -19,14 +19,14 @@ abbrev pub is_same : Identity → Identity → Bool
 is_same a b = (a.device == b.device) && (a.inode == b.inode)
 
 -- the kind of what the system describes
-pub record IsKind (metadata : Metadata) (k : Kind) : Type 0 where
+pub record IsKind (metadata : Metadata) (k : EntryKind) : Type 0 where
   pub folder : IsDir (file_type metadata) → (identity : Identity) × (k ≡ kind.Folder identity)
   pub file : IsFile (file_type metadata) → k ≡ kind.File
   pub other : (IsDir (file_type metadata) → ⊥) → (IsFile (file_type metadata) → ⊥) → k ≡ kind.Device
 
 -- the kind of what the system can't describe: what is not there, also behind a file, and a link that leads to itself
 -- lead nowhere
-pub record IsKindBehind (error : Error) (answer : Result Kind AllocError) : Type 0 where
+pub record IsKindBehind (error : Error) (answer : Result EntryKind AllocError) : Type 0 where
   pub memory : LacksMemory error → answer ≡ Err alloc_error
   pub missing : error_kind error ≡ NotFound → answer ≡ Ok kind.Nowhere
   pub blocked : error_kind error ≡ NotADirectory → answer ≡ Ok kind.Nowhere

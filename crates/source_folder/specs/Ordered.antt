@@ -3,21 +3,21 @@ use Rattle.std.specs.Prelude.{◌≡◌, ℕ, ◌+◌, ◌<◌, List, [], length
 use Rattle.std.specs.Cmp.Lexicographic.{slice_cmp}
 use Rattle.std.specs.List.Sorted.{IsSortedByKey}
 use Rattle.std.specs.Ordering.{nat_cmp}
-use Rattle.source_folder.specs.declared.walk.Source.{Source}
+use Rattle.source_folder.specs.declared.walk.ProtoEntry.{ProtoEntry}
 
-abbrev pub path_of : Source → List ℕ
+abbrev pub path_of : ProtoEntry → List ℕ
 path_of source = string_bytes source.path
 
-abbrev pub paths_of : List Source → List (List ℕ)
+abbrev pub paths_of : List ProtoEntry → List (List ℕ)
 paths_of sources = map path_of sources
 
-abbrev pub path_at : List Source → ℕ → List ℕ
+abbrev pub path_at : List ProtoEntry → ℕ → List ℕ
 path_at sources k = slice_index_or (paths_of sources) k []
 
 -- no path comes before the one ahead of it, byte by byte
-abbrev pub AreInPathOrder : List Source → Type 0
+abbrev pub AreInPathOrder : List ProtoEntry → Type 0
 AreInPathOrder = IsSortedByKey path_of (slice_cmp nat_cmp)
 
 -- two neighbours have the same path
-abbrev pub HaveTwins : List Source → Type 0
+abbrev pub HaveTwins : List ProtoEntry → Type 0
 HaveTwins sources = (k : ℕ) × (k + 1 < length sources) × (path_at sources k ≡ path_at sources (k + 1))

@@ -7,8 +7,8 @@ use Rattle.source_folder.specs.Paths.{ends_in_proto, joined_path}
 use Rattle.source_folder.specs.Troubles.{IsTroubleAt, no_memory}
 use Rattle.source_folder.specs.declared.fault.FolderFault.TheVariants as faults
 use Rattle.source_folder.specs.declared.kind.Identity.{Identity}
-use Rattle.source_folder.specs.declared.kind.Kind.{Kind}
-use Rattle.source_folder.specs.declared.kind.Kind.TheVariants as kind
+use Rattle.source_folder.specs.declared.kind.EntryKind.{EntryKind}
+use Rattle.source_folder.specs.declared.kind.EntryKind.TheVariants as kind
 use Rattle.source_folder.specs.declared.reason.Reason.{Reason}
 use Rattle.source_folder.specs.declared.reason.Reason.TheVariants.{Circle, TooDeep, TooMany}
 use Rattle.source_folder.specs.declared.trouble.FolderTrouble.{FolderTrouble}
@@ -20,17 +20,17 @@ abbrev pub folder_parts : Folder → List ℕ × ℕ × Identity
 folder_parts folder = (string_bytes folder.path, folder.depth, folder.identity)
 
 -- the sources that an entry adds: each entry that ends in `.proto` and is no folder
-abbrev pub added_sources : List ℕ → Kind → List (List ℕ)
+abbrev pub added_sources : List ℕ → EntryKind → List (List ℕ)
 added_sources path (kind.Folder identity) = []
 added_sources path k = if ends_in_proto path then path ∷ [] else []
 
 -- the folders that an entry adds, in a folder so deep
-abbrev pub added_folders : List ℕ → ℕ → Kind → List (List ℕ × ℕ × Identity)
+abbrev pub added_folders : List ℕ → ℕ → EntryKind → List (List ℕ × ℕ × Identity)
 added_folders path depth (kind.Folder identity) = (path, depth + 1, identity) ∷ []
 added_folders path depth _ = []
 
 -- an entry of this path and kind, in a folder so deep, is added to what is known
-pub record TakesIn (path : List ℕ) (depth : ℕ) (k : Kind) (old new : Walk) : Type 0 where
+pub record TakesIn (path : List ℕ) (depth : ℕ) (k : EntryKind) (old new : Walk) : Type 0 where
   pub sources : paths_of new.sources.items ≡ paths_of old.sources.items ++ added_sources path k
   pub folders : map folder_parts new.folders.items ≡ map folder_parts old.folders.items ++ added_folders path depth k
   pub counted : new.entries_left + 1 ≡ old.entries_left
@@ -41,24 +41,24 @@ abbrev pub is_on_way : Walk → Identity → Bool
 is_on_way walk identity = list_any (is_same identity) walk.way.items
 
 -- why an entry of this kind can't be taken in: it is a folder that lies in itself or is too deep, or it may be a folder
-abbrev pub refusal_of_kind : Walk → List ℕ → ℕ → Kind → Option Reason
+abbrev pub refusal_of_kind : Walk → List ℕ → ℕ → EntryKind → Option Reason
 refusal_of_kind walk path depth (kind.Folder identity) =
     if is_on_way walk identity then Some Circle else (if depth == 64 then Some TooDeep else None)
 refusal_of_kind walk path depth (kind.Unknown reason) = if ends_in_proto path then None else Some reason
 refusal_of_kind walk path depth k = None
 
 -- why an entry can't be taken in: there are too many, or what it is
-abbrev pub refusal_of : Walk → List ℕ → ℕ → Kind → Option Reason
+abbrev pub refusal_of : Walk → List ℕ → ℕ → EntryKind → Option Reason
 refusal_of walk path depth k = if walk.entries_left == 0 then Some TooMany else refusal_of_kind walk path depth k
 
 -- an entry of this name in a folder, whatever it is, is added to what is known
 abbrev pub TakesEntry : Folder → List ℕ → Walk → Walk → Type 0
 TakesEntry folder name old new =
-    (k : Kind) × TakesIn (joined_path (string_bytes folder.path) name) folder.depth k old new
+    (k : EntryKind) × TakesIn (joined_path (string_bytes folder.path) name) folder.depth k old new
 
 -- an entry of this name in a folder, whatever it is, can't be taken in, and that is told of it; or memory was short
 abbrev pub IsRefusedAt : Folder → (name whole : List ℕ) → Walk → FolderTrouble → Type 0
-IsRefusedAt folder name whole walk trouble = (trouble ≡ no_memory) ⊎ ((k : Kind) × (reason : Reason)
+IsRefusedAt folder name whole walk trouble = (trouble ≡ no_memory) ⊎ ((k : EntryKind) × (reason : Reason)
     × (refusal_of walk (joined_path (string_bytes folder.path) name) folder.depth k ≡ Some reason)
     × IsTroubleAt faults.Listing whole reason trouble)
 

@@ -8,12 +8,12 @@ ghost use Rattle.source_folder.specs.Paths.{AreRising, ends_in_proto, is_below, 
 ghost use Rattle.source_folder.specs.Ordered.{paths_of};
 
 use crate::fault::FolderFault;
-use crate::kind::Kind;
+use crate::kind::EntryKind;
 use crate::order::{have_twins, sort_by_path};
 use crate::paths::{join_path, path_below};
 use crate::reason::Reason;
 use crate::trouble::FolderTrouble;
-use crate::walk::{Source, sources_below};
+use crate::walk::{ProtoEntry, sources_below};
 use proto_base::{Limit, Limits};
 use std::alloc::{AllocError, AllocGlobal, Global};
 use std::fs::{File, OpenFile};
@@ -71,14 +71,14 @@ fn text_at<R: Files + AllocGlobal>(
     ensures { IfOk result (λ found. IfSome found (λ bytes. vec_len bytes ≤ most)) }
 {
     let alloc = rt.alloc();
-    let reason = match Kind::at(rt, path)? {
-        Kind::File => match bytes_at(rt, path, most) {
+    let reason = match EntryKind::at(rt, path)? {
+        EntryKind::File => match bytes_at(rt, path, most) {
             Ok(bytes) => return Ok(Some(bytes)),
             Err(error) => return Err(FolderTrouble::reading(alloc, path, &error)),
         },
-        Kind::Folder(_) | Kind::Nowhere => return Ok(None),
-        Kind::Device => Reason::Device,
-        Kind::Unknown(reason) => reason,
+        EntryKind::Folder(_) | EntryKind::Nowhere => return Ok(None),
+        EntryKind::Device => Reason::Device,
+        EntryKind::Unknown(reason) => reason,
     };
     Err(FolderTrouble::at(alloc, FolderFault::Reading, path, reason))
 }
@@ -87,7 +87,7 @@ fn text_at<R: Files + AllocGlobal>(
 fn read_sources<R: Files + AllocGlobal>(
     rt: &R,
     root: &str,
-    sources: Vec<Source>,
+    sources: Vec<ProtoEntry>,
     most: u32,
 ) -> Result<Vec<NamedText>, FolderTrouble>
     ensures names { IfOk result (λ texts. names_of texts.items ≡ paths_of sources.items) }
@@ -196,8 +196,8 @@ pub fn source_path<R: Files + AllocGlobal>(
     let Some(path) = path_below(rt.alloc(), root, name)? else {
         return Ok(None);
     };
-    match Kind::at(rt, path.as_str())? {
-        Kind::File => Ok(Some(path)),
+    match EntryKind::at(rt, path.as_str())? {
+        EntryKind::File => Ok(Some(path)),
         _ => Ok(None),
     }
 }

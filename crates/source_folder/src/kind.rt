@@ -19,7 +19,7 @@ pub(crate) struct Identity {
 
 /// What an entry is, or what its link leads to.
 #[derive(Clone, Copy)]
-pub(crate) enum Kind {
+pub(crate) enum EntryKind {
     Folder(Identity),
     File,
     /// No folder and no file: a device, a pipe or a socket.
@@ -40,22 +40,22 @@ impl Identity {
     }
 }
 
-impl Kind {
+impl EntryKind {
     /// The kind of what the system describes.
-    fn of(metadata: &Metadata) -> Kind
+    fn of(metadata: &Metadata) -> EntryKind
         ensures { IsKind metadata.now result }
     {
         if metadata.is_dir() {
-            Kind::Folder(Identity::of(metadata))
+            EntryKind::Folder(Identity::of(metadata))
         } else if metadata.is_file() {
-            Kind::File
+            EntryKind::File
         } else {
-            Kind::Device
+            EntryKind::Device
         }
     }
 
     /// The kind of what the system can't describe, unless the allocator had no memory.
-    fn behind(error: &io::Error) -> Result<Kind, AllocError>
+    fn behind(error: &io::Error) -> Result<EntryKind, AllocError>
         ensures { IsKindBehind error.now result }
     {
         if is_no_memory(error) {
@@ -64,16 +64,16 @@ impl Kind {
         match error.kind() {
             io::ErrorKind::NotFound
             | io::ErrorKind::NotADirectory
-            | io::ErrorKind::FilesystemLoop => Ok(Kind::Nowhere),
-            _ => Ok(Kind::Unknown(Reason::of(error, Reason::Untold))),
+            | io::ErrorKind::FilesystemLoop => Ok(EntryKind::Nowhere),
+            _ => Ok(EntryKind::Unknown(Reason::of(error, Reason::Untold))),
         }
     }
 
     /// The kind of what a path leads to.
-    pub(crate) fn at<R: Files>(rt: &R, path: &str) -> Result<Kind, AllocError> {
+    pub(crate) fn at<R: Files>(rt: &R, path: &str) -> Result<EntryKind, AllocError> {
         match fs::metadata(rt, path) {
-            Ok(metadata) => Ok(Kind::of(&metadata)),
-            Err(error) => Kind::behind(&error),
+            Ok(metadata) => Ok(EntryKind::of(&metadata)),
+            Err(error) => EntryKind::behind(&error),
         }
     }
 }

@@ -4,10 +4,10 @@ ghost use Rattle.std.specs.Prelude.{◌↔◌, IsTrue};
 ghost use Rattle.std.specs.List.Sorted.{IsPermutation};
 ghost use Rattle.source_folder.specs.Ordered.{AreInPathOrder, HaveTwins};
 
-use crate::walk::Source;
+use crate::walk::ProtoEntry;
 
 /// Sorts sources by their paths, byte by byte.
-pub(crate) fn sort_by_path(sources: &mut Vec<Source>)
+pub(crate) fn sort_by_path(sources: &mut Vec<ProtoEntry>)
     ensures order { AreInPathOrder sources.new.items }
     ensures same { IsPermutation sources.old.items sources.new.items }
 {
@@ -15,7 +15,7 @@ pub(crate) fn sort_by_path(sources: &mut Vec<Source>)
 }
 
 /// Whether two neighbours have the same path.
-pub(crate) fn have_twins(sources: &[Source]) -> bool
+pub(crate) fn have_twins(sources: &[ProtoEntry]) -> bool
     ensures { IsTrue result ↔ HaveTwins sources.now }
 {
     for next in 1..sources.len() {

@@ -4,7 +4,7 @@ ghost use Rattle.std.specs.Prelude.{◌≡◌, ◌≤◌, IfErr, IfOk, IsTrue, N
 ghost use Rattle.source_folder.specs.Paths.{ends_in_proto};
 
 use crate::fault::FolderFault;
-use crate::kind::{Identity, Kind};
+use crate::kind::{EntryKind, Identity};
 use crate::paths::{is_proto, join_path};
 use crate::reason::Reason;
 use crate::trouble::FolderTrouble;
@@ -20,7 +20,7 @@ const MAX_ENTRIES: u32 = 1_048_576;
 
 /// An entry whose name ends in `.proto`, and that is no folder.
 #[derive(Drop)]
-pub(crate) struct Source {
+pub(crate) struct ProtoEntry {
     /// Its path from the root.
     pub(crate) path: String,
     ghost proto: { IsTrue (ends_in_proto (string_bytes path)) },
@@ -40,7 +40,7 @@ struct Folder {
 /// What is known of the entries below a root.
 #[derive(Drop)]
 struct Walk {
-    sources: Vec<Source>,
+    sources: Vec<ProtoEntry>,
     folders: Vec<Folder>,
     /// The folders on the way from the root to the one that is being listed, which is the last of them.
     way: Vec<Identity>,
@@ -89,29 +89,29 @@ impl Walk {
     }
 
     /// Why an entry of this path, in a folder so deep, can't be taken in.
-    fn refusal(&self, path: &str, depth: u32, kind: Kind) -> Option<Reason>
+    fn refusal(&self, path: &str, depth: u32, kind: EntryKind) -> Option<Reason>
         ensures { result ≡ refusal_of self.now path.now depth kind }
     {
         if self.entries_left == 0 {
             return Some(Reason::TooMany);
         }
         match kind {
-            Kind::Folder(identity) if self.is_on_way(identity) => Some(Reason::Circle),
-            Kind::Folder(_) if depth == MAX_DEPTH => Some(Reason::TooDeep),
-            Kind::Unknown(reason) if !is_proto(path) => Some(reason),
+            EntryKind::Folder(identity) if self.is_on_way(identity) => Some(Reason::Circle),
+            EntryKind::Folder(_) if depth == MAX_DEPTH => Some(Reason::TooDeep),
+            EntryKind::Unknown(reason) if !is_proto(path) => Some(reason),
             _ => None,
         }
     }
 
     /// Takes in an entry of this path, in a folder so deep.
-    fn take_in(&mut self, path: String, depth: u32, kind: Kind) -> Result<(), AllocError>
+    fn take_in(&mut self, path: String, depth: u32, kind: EntryKind) -> Result<(), AllocError>
         requires shallow { depth ≤ 64 }
         requires allowed { refusal_of self.old (string_bytes path) depth kind ≡ None }
         ensures { OnOk result (TakesIn (string_bytes path) depth kind self.old self.new) }
     {
         self.entries_left -= 1;
         match kind {
-            Kind::Folder(identity) => {
+            EntryKind::Folder(identity) => {
                 let depth = depth + 1;
                 self.folders.push(Folder {
                     path,
@@ -119,7 +119,7 @@ impl Walk {
                     identity,
                 })?;
             }
-            _ if is_proto(path.as_str()) => self.sources.push(Source { path })?,
+            _ if is_proto(path.as_str()) => self.sources.push(ProtoEntry { path })?,
             _ => {}
         }
         Ok(())
@@ -138,7 +138,7 @@ impl Walk {
     {
         let alloc = rt.alloc();
         let path = join_path(alloc, folder.path.as_str(), name)?;
-        let kind = Kind::at(rt, whole)?;
+        let kind = EntryKind::at(rt, whole)?;
         if let Some(reason) = self.refusal(path.as_str(), folder.depth, kind) {
             let fault = FolderFault::Listing;
             return Err(FolderTrouble::at(alloc, fault, whole, reason));
@@ -187,7 +187,7 @@ fn identity_of_root<R: Files + AllocGlobal>(rt: &R, root: &str) -> Result<Identi
 pub(crate) fn sources_below<R: Files + AllocGlobal>(
     rt: &R,
     root: &str,
-) -> Result<Vec<Source>, FolderTrouble>
+) -> Result<Vec<ProtoEntry>, FolderTrouble>
     ensures { IfOk result (λ sources. vec_len sources ≤ MAX_ENTRIES) }
 {
     let identity = identity_of_root(rt, root)?;

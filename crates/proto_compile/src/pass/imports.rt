@@ -3,7 +3,7 @@
 ghost use Rattle.std.specs.Prelude.{List, IfOk, IfErr};
 ghost use Rattle.proto_compile.specs.Descriptions.{Describe};
 ghost use Rattle.proto_compile.specs.Faults.{IsFirstFault, IsRefusal};
-ghost use Rattle.proto_links.specs.Imports.{AreInNameOrder};
+ghost use Rattle.proto_links.specs.Bad.{AreInNameOrder};
 ghost use Rattle.proto_links.specs.Linked.{AreLinked};
 ghost use Rattle.proto_compile.specs.declared.source.Source.{Source};
 ghost use Rattle.proto_base.specs.declared.limits.Limits.{Limits};
