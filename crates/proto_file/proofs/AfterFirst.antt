@@ -7,7 +7,7 @@ use Rattle.proto_lower.specs.Files.{lowered}
 use Rattle.proto_syntax.specs.Grammar.{flatten}
 use Rattle.proto_syntax.specs.Trees.{file_tree, row, statement_tree, syntax_tree}
 use Rattle.proto_tokens.proofs.CutLemmas.{piece_nonempty}
-use Rattle.proto_tokens.specs.Spelling.{Piece, IsCutIntoPieces, mark_len, token_before, tokens_from}
+use Rattle.proto_tokens.specs.Spelling.{Piece, IsCutIntoPieces, mark_len, with_token, tokens_from}
 use Rattle.proto_tokens.specs.Token.{Spelled}
 use Rattle.proto_file.specs.Local.{Describes}
 use Rattle.proto_file.proofs.PlacesWithin.{AreIn, BeginWithin, lowered_within, rest}
@@ -19,7 +19,7 @@ tokens_after : (s : List ℕ) (from : ℕ) (ps : List Piece) (to : ℕ) → IsCu
 tokens_after s from [] to cut h = tt
 tokens_after s from (p ∷ ps) to cut h =
     let later = tokens_after s (from + p.len) ps to cut.1 (omega (arith, h)) in
-    elim p.is as (λ is. BeginWithin IsAfter (token_before is from (from + p.len) (tokens_from (from + p.len) ps))) [
+    elim p.is as (λ is. BeginWithin IsAfter (with_token is from (from + p.len) (tokens_from (from + p.len) ps))) [
       | None ↦ later
       | Some lexeme ↦ (h, later)
     ]
@@ -32,7 +32,7 @@ rest_after : (s : List ℕ) (from : ℕ) (ps : List Piece) (to : ℕ) → IsCutI
 rest_after s from [] to cut = tt
 rest_after s from (p ∷ ps) to cut =
     let some : 0 < p.len = piece_nonempty _ p.len p.is cut.0 in
-    elim p.is as (λ is. BeginWithin IsAfter (rest_of (token_before is from (from + p.len) (tokens_from (from + p.len) ps)))) [
+    elim p.is as (λ is. BeginWithin IsAfter (rest_of (with_token is from (from + p.len) (tokens_from (from + p.len) ps)))) [
       | None ↦ rest_after s (from + p.len) ps to cut.1
       | Some lexeme ↦ tokens_after s (from + p.len) ps to cut.1 (omega (arith, some))
     ]

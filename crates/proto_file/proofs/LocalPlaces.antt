@@ -6,7 +6,7 @@ use Rattle.std.specs.List.{starts_with}
 use Rattle.std.proofs.lemmas.List.{length-take}
 use Rattle.std.proofs.lemmas.Str.{utf8_valid_len_le}
 use Rattle.proto_base.specs.Limits.{limit_of}
-use Rattle.proto_tokens.specs.Spelling.{Piece, IsCutIntoPieces, IsFault, IsTokenList, mark_len, token_before, tokens_from}
+use Rattle.proto_tokens.specs.Spelling.{Piece, IsCutIntoPieces, IsFault, IsTokenList, mark_len, with_token, tokens_from}
 use Rattle.proto_tokens.specs.Token.{Spelled}
 use Rattle.proto_tokens.proofs.CutLemmas.{cut_within, piece_fault_within}
 use Rattle.proto_base.specs.declared.kind.Kind.{Kind}
@@ -31,7 +31,7 @@ cut_grows s from (p ∷ ps) to cut = omega (arith, cut_grows s (from + p.len) ps
 
 pieces_begin : (s : List ℕ) (from : ℕ) (ps : List Piece) (to : ℕ) → IsCutIntoPieces s from ps to → BeginWithin (upto to) (tokens_from from ps)
 pieces_begin s from [] to cut = tt
-pieces_begin s from (p ∷ ps) to cut = elim p.is as (λ is. BeginWithin (upto to) (token_before is from (from + p.len) (tokens_from (from + p.len) ps))) [
+pieces_begin s from (p ∷ ps) to cut = elim p.is as (λ is. BeginWithin (upto to) (with_token is from (from + p.len) (tokens_from (from + p.len) ps))) [
   | None ↦ pieces_begin s (from + p.len) ps to cut.1
   | Some lexeme ↦ (cut_grows s from (p ∷ ps) to cut, pieces_begin s (from + p.len) ps to cut.1)
 ]

@@ -1,1 +1,2 @@
+pub mod Setting
 pub mod Telling

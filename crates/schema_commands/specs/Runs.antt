@@ -83,10 +83,15 @@ abbrev pub IsToldOfFolder : Limits → Known → Failure → Type 0
 IsToldOfFolder limits known f = (f ≡ failure.Folder) ⊎ ((f ≡ failure.NoMemory)
     ⊎ ((texts : List NamedText) × AreTextsOf known texts × IsToldOfTexts limits texts f))
 
+-- all of these bytes were written; or the first so many, and then a call failed
+abbrev pub IsOutput : {B : Type 0} → Writes → Writes → List ℕ → Result B Failure → Type 0
+IsOutput writes writes' bytes (Ok b) = IsWritten writes writes' bytes
+IsOutput writes writes' bytes (Err f) =
+    (f ≡ failure.Output) × (written : ℕ) × IsWrittenInPart writes writes' bytes written
+
 -- how a set was written: to the writer; or to the file that is named, which may be where the writer writes
 abbrev pub IsSetRun : {A B : Type 0} → Option A → Writes → Writes → List ℕ → Result B Failure → Type 0
-IsSetRun None writes writes' set (Ok b) = IsWritten writes writes' set
-IsSetRun None writes writes' set (Err f) = (f ≡ failure.Output) × (written : ℕ) × IsWrittenInPart writes writes' set written
+IsSetRun None writes writes' set done = IsOutput writes writes' set done
 IsSetRun (Some file) writes writes' set (Ok b) = (writes' ≡ writes) ⊎ IsWritten writes writes' set
 IsSetRun (Some file) writes writes' set (Err f) =
     (((f ≡ failure.Output) ⊎ (f ≡ failure.NoMemory)) × (writes' ≡ writes))

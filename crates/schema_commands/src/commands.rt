@@ -1,20 +1,23 @@
 //! The commands but `serve`: what each reads, and what it writes.
 
 ghost use Rattle.std.specs.Prelude.{◌-◌, ◌<◌, ◌^◌, [], ◌∷◌, IfErr, IfOk, string_bytes};
-ghost use Rattle.schema_commands.specs.Runs.{AreCompiledTo, IsAnswerRun, IsCompileRun, IsCompiledTo, IsDescribeRun, IsExplainRun, IsLineOf, IsSetOfTexts, IsSetRun, IsToldOf, IsToldOfFolder, IsToldOfTexts};
+ghost use Rattle.proto_compile.specs.Compilation.{set_of};
+ghost use Rattle.schema_commands.specs.Runs.{AreCompiledTo, IsAnswerRun, IsCompileRun, IsCompiledTo, IsDescribeRun, IsExplainRun, IsLineOf, IsSetRun, IsToldOf, IsToldOfFolder, IsToldOfTexts};
 
+use crate::set_writing::SetWriter;
 use crate::whole_file::write_whole;
 use grpcweb_core::{CountedRead, CountedWrite, Mode, answer_io, read_bytes, write_bytes};
 use proto_base::{Limit, Limits};
 use proto_compile::{CompileError, Compiled, Source, compile};
 use schema_explanation::{Topic, topics};
 use schema_failure::{Failure, locate};
-use schema_headline::{describe, set_of_sources};
+use schema_headline::describe;
 use schema_sources::{SourceFolder, read_sources, sources_of};
 use share_work::{NoGate, Plan};
 use source_folder::NamedText;
 use std::alloc::{AllocError, AllocGlobal, Global};
 use std::fmt::Write;
+use std::mem::forget;
 use std::random::RandomSource;
 use std::rt::Files;
 use std::thread::Threads;
@@ -63,63 +66,6 @@ where
     Ok(())
 }
 
-/// The set of read texts, or their first fault.
-fn set_of_texts<R>(
-    rt: &R,
-    texts: &[NamedText],
-    limits: &Limits,
-    plan: Plan,
-) -> Result<Vec<u8>, Failure>
-where
-    R: Threads + AllocGlobal + Sync,
-    ensures set { IfOk result (λ set. IsSetOfTexts limits.now texts.now set.items) }
-    ensures refused { IfErr result (IsToldOfTexts limits.now texts.now) }
-{
-    let sources = sources_of(rt.alloc(), texts)?;
-    let listed = sources.as_slice();
-    match set_of_sources(rt, listed, limits, plan, &NoGate) {
-        Ok(set) => Ok(set),
-        Err(CompileError::NoMemory) => Err(Failure::NoMemory),
-        Err(CompileError::First(fault)) => Err(locate(fault, listed)),
-    }
-}
-
-/// Writes a set to a file or, without one, to the writer.
-fn write_set<R, O>(rt: &R, file: Option<&str>, set: &[u8], writer: &mut O) -> Result<(), Failure>
-where
-    R: Files + RandomSource + AllocGlobal,
-    O: CountedWrite,
-    requires { (O.writes writer.old).failures < 2 ^ 64 - 1 }
-    ensures { IsSetRun file.entry (O.writes writer.old) (O.writes writer.new) set.now result }
-{
-    match file {
-        Some(path) => write_whole(rt, path, set, writer),
-        None => Ok(write_bytes(writer, set)?),
-    }
-}
-
-/// Compiles the sources of a folder, and writes the set to a file or, without one, to the writer.
-pub fn run_compile<R, F, O>(
-    rt: &R,
-    folder: &F,
-    plan: Plan,
-    file: Option<&str>,
-    writer: &mut O,
-) -> Result<(), Failure>
-where
-    R: Threads + Files + RandomSource + AllocGlobal + Sync,
-    F: SourceFolder,
-    O: CountedWrite,
-    requires { (O.writes writer.old).failures < 2 ^ 64 - 1 }
-    ensures { IsCompileRun (F.sources folder.now) file.entry (O.writes writer.old)
-        (O.writes writer.new) result }
-{
-    let limits = Limits::standard();
-    let texts = read_sources(rt, folder, &limits, plan)?;
-    let set = set_of_texts(rt, &texts, &limits, plan)?;
-    write_set(rt, file, &set, writer)
-}
-
 /// What read texts are compiled to, or their first fault.
 fn compile_texts<R>(
     rt: &R,
@@ -139,6 +85,54 @@ where
         Err(CompileError::NoMemory) => Err(Failure::NoMemory),
         Err(CompileError::First(fault)) => Err(locate(fault, listed)),
     }
+}
+
+/// Writes a set to a file or, without one, to the writer.
+fn write_set<R, O>(
+    rt: &R,
+    file: Option<&str>,
+    set: &mut SetWriter<'_>,
+    writer: &mut O,
+) -> Result<(), Failure>
+where
+    R: Files + RandomSource + AllocGlobal,
+    O: CountedWrite,
+    requires { (O.writes writer.old).failures < 2 ^ 64 - 1 }
+    ensures { IsSetRun file.entry (O.writes writer.old) (O.writes writer.new)
+        (set_of set.old.compiled.now.files set.old.compiled.now.links) result }
+{
+    match file {
+        Some(path) => write_whole(rt, path, set, writer),
+        None => set.write(writer),
+    }
+}
+
+/// Compiles the sources of a folder, and writes the set to a file or, without one, to the writer. What was compiled is not
+/// let go: a process that compiles ends with this.
+pub fn run_compile<R, F, O>(
+    rt: &R,
+    folder: &F,
+    plan: Plan,
+    file: Option<&str>,
+    writer: &mut O,
+) -> Result<(), Failure>
+where
+    R: Threads + Files + RandomSource + AllocGlobal + Sync,
+    F: SourceFolder,
+    O: CountedWrite,
+    requires { (O.writes writer.old).failures < 2 ^ 64 - 1 }
+    ensures { IsCompileRun (F.sources folder.now) file.entry (O.writes writer.old)
+        (O.writes writer.new) result }
+{
+    let limits = Limits::standard();
+    let texts = read_sources(rt, folder, &limits, plan)?;
+    let compiled = compile_texts(rt, &texts, &limits, plan)?;
+    let mut set = SetWriter::new(rt.alloc(), &compiled)?;
+    let written = write_set(rt, file, &mut set, writer);
+    drop(set);
+    forget(compiled);
+    forget(texts);
+    written
 }
 
 /// What the sources of a folder are compiled to.

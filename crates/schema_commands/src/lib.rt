@@ -2,6 +2,7 @@
 #![tactic(auto)]
 
 mod commands;
+mod set_writing;
 mod whole_file;
 
 pub use commands::{compile_folder, run_answer, run_compile, run_describe, run_explain};

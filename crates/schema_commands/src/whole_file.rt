@@ -2,9 +2,11 @@
 //! it, which then takes its place.
 
 ghost use Rattle.std.specs.Prelude.{◌-◌, ◌<◌, ◌^◌, Some};
+ghost use Rattle.proto_compile.specs.Compilation.{set_of};
 ghost use Rattle.schema_commands.specs.Runs.{IsSetRun};
 
-use grpcweb_core::{CountedWrite, write_bytes};
+use crate::set_writing::SetWriter;
+use grpcweb_core::CountedWrite;
 use schema_failure::Failure;
 use std::alloc::AllocGlobal;
 use std::fs::{self, File, FileType, Metadata, OpenFile};
@@ -170,14 +172,14 @@ fn fill<R>(
     rt: &R,
     path: Path<'_>,
     file: R::File,
-    bytes: &[u8],
+    set: &mut SetWriter<'_>,
     kept: Option<&Metadata>,
 ) -> io::Result<()>
 where
     R: Files,
 {
     let mut file = file;
-    file.write_all(bytes)?;
+    set.put(&mut file)?;
     if let Some(kept) = kept {
         chown(rt, path, Some(kept.uid()), Some(kept.gid()))?;
         file.set_permissions(kept.permissions())?;
@@ -186,14 +188,19 @@ where
 }
 
 /// Puts a file in the place of what stands at a path, if anything does. Where that fails, nothing has changed.
-fn replace<R>(rt: &R, path: Path<'_>, bytes: &[u8], kept: Option<&Metadata>) -> io::Result<()>
+fn replace<R>(
+    rt: &R,
+    path: Path<'_>,
+    set: &mut SetWriter<'_>,
+    kept: Option<&Metadata>,
+) -> io::Result<()>
 where
     R: Files + RandomSource + AllocGlobal,
 {
     let named = path_beside(rt, path)?;
     let beside = named.as_path();
     let file = make_new(rt, beside, kept)?;
-    let placed = match fill(rt, beside, file, bytes, kept) {
+    let placed = match fill(rt, beside, file, set, kept) {
         Ok(()) => fs::rename(rt, beside, path),
         failed => failed,
     };
@@ -219,48 +226,50 @@ fn is_refusal(error: &io::Error) -> bool {
 }
 
 /// Writes over what a file has.
-fn write_over<F: Write + OpenFile>(file: &mut F, bytes: &[u8]) -> io::Result<()> {
-    file.write_all(bytes)?;
-    file.set_len(bytes.len() as u64)?;
+fn write_over<F: Write + OpenFile>(file: &mut F, set: &mut SetWriter<'_>) -> io::Result<()> {
+    let len = set.put(file)?;
+    file.set_len(len)?;
     file.sync_all()
 }
 
 /// Gives a file other bytes. It is opened first, since a file that may not be written is not replaced either.
-fn rewrite<R>(rt: &R, path: Path<'_>, bytes: &[u8]) -> io::Result<()>
+fn rewrite<R>(rt: &R, path: Path<'_>, set: &mut SetWriter<'_>) -> io::Result<()>
 where
     R: Files + RandomSource + AllocGlobal,
 {
     let mut file = File::options().write(true).open(rt, path)?;
     let kept = file.metadata()?;
-    match replace(rt, path, bytes, Some(&kept)) {
-        Err(error) if is_refusal(&error) => write_over(&mut file, bytes),
+    match replace(rt, path, set, Some(&kept)) {
+        Err(error) if is_refusal(&error) => write_over(&mut file, set),
         replaced => replaced,
     }
 }
 
-fn write_device<R: Files>(rt: &R, path: &str, bytes: &[u8]) -> io::Result<()> {
+fn write_device<R: Files>(rt: &R, path: &str, set: &mut SetWriter<'_>) -> io::Result<()> {
     let mut device = File::options().write(true).open(rt, path)?;
-    device.write_all(bytes)
+    set.put(&mut device)?;
+    Ok(())
 }
 
 /// Writes a set where a path leads, which may be to the writer.
 pub(crate) fn write_whole<R, O>(
     rt: &R,
     path: &str,
-    bytes: &[u8],
+    set: &mut SetWriter<'_>,
     writer: &mut O,
 ) -> Result<(), Failure>
 where
     R: Files + RandomSource + AllocGlobal,
     O: CountedWrite,
     requires { (O.writes writer.old).failures < 2 ^ 64 - 1 }
-    ensures { IsSetRun (Some path.entry) (O.writes writer.old) (O.writes writer.new) bytes.now result }
+    ensures { IsSetRun (Some path.entry) (O.writes writer.old) (O.writes writer.new)
+        (set_of set.old.compiled.now.files set.old.compiled.now.links) result }
 {
     let written = match place_of(rt, path) {
-        Ok(Place::StandardOutput) => return Ok(write_bytes(writer, bytes)?),
-        Ok(Place::Device) => write_device(rt, path, bytes),
-        Ok(Place::File(file)) => rewrite(rt, file.as_path(), bytes),
-        Ok(Place::Free(free)) => replace(rt, free.as_path(), bytes, None),
+        Ok(Place::StandardOutput) => return set.write(writer),
+        Ok(Place::Device) => write_device(rt, path, set),
+        Ok(Place::File(file)) => rewrite(rt, file.as_path(), set),
+        Ok(Place::Free(free)) => replace(rt, free.as_path(), set, None),
         Err(error) => Err(error),
     };
     match written {

@@ -24,10 +24,11 @@ pub(crate) fn push_varint(out: &mut Vec<u8>, value: u64) -> Result<(), AllocErro
 
 /// Appends the shortest varint of a number (encoding guide, "Base 128 Varints").
 ///
-/// Where there is no memory, `out` stays as it was. Where its capacity suffices, none is needed.
+/// Where there is no memory, `out` stays as it was. Where its capacity suffices, none is needed. It never loses room.
 pub fn put_varint(out: &mut Vec<u8>, value: u64) -> Result<(), AllocError>
     ensures appended { OnOk result (out.new.items ≡ out.old.items ++ varint_bytes value) }
     ensures unchanged { OnErr result (out.new.items ≡ out.old.items) }
+    ensures capacity { vec_capacity out.old ≤ vec_capacity out.new }
     ensures full { OnErr result
         (vec_capacity out.old < vec_len out.old + length (varint_bytes value)) }
 {
