@@ -1,5 +1,5 @@
 -- The statements of messages, and the messages within them.
-use Rattle.std.proofs.Common.{◌≡◌, ◌∙◌, ap, sym, refl, List, [], ◌∷◌, ◌++◌, false, inl, inr}
+use Rattle.std.proofs.Common.{◌≡◌, ◌∙◌, ap, sym, refl, List, [], ◌∷◌, ◌++◌, map, false, inl, inr}
 use Rattle.std.proofs.lemmas.List.{append-nil}
 use Rattle.std.specs.Prelude.{Option, flat_map}
 use mathlib.Core.Former.{this, arity}
@@ -13,15 +13,16 @@ use Rattle.proto_tree.specs.declared.message.MessageItem.TheVariants as of
 use Rattle.proto_tree.specs.declared.oneof.Oneof.{Oneof}
 use Rattle.proto_desc.specs.declared.rules.Element.TheVariants as element
 use Rattle.proto_options.specs.Options.{message_setting}
-use Rattle.proto_options.specs.Statements.{oneof_of}
-use Rattle.proto_checks.specs.Elements.{OneofBreaks, EnumBreaks, enum_of, BodyBreaks, ItemBreaks, bodies_of, bodies_row, bodies}
+use Rattle.proto_options.specs.Statements.{message_oneof, message_enum, oneof_field}
+use Rattle.proto_checks.specs.Elements.{OneofBreaks, EnumBreaks, BodyBreaks, bodies_of, bodies_row, bodies}
+use Rattle.proto_checks.specs.Parts.{MemberBreaks, ItemBreaks}
 use Rattle.proto_base.specs.Least.{IsLeast}
 use Rattle.proto_base.specs.Lesser.{IsLesser}
 use Rattle.proto_checks.specs.Numbers.{FieldNumbersBreak}
-use Rattle.proto_checks.specs.Options.{optioned, optioned_plain, optioned_member, optioned_fields, FieldOptionsBreak, SettingsBreak}
+use Rattle.proto_checks.specs.Options.{optioned, optioned_plain, optioned_in_oneof, optioned_fields, FieldOptionsBreak, SettingsBreak}
 use Rattle.proto_base.specs.Sets.{Each}
 use Rattle.proto_base.specs.declared.spot.Spot.{Spot}
-use Rattle.proto_base.proofs.Among.{among_of, least_single}
+use Rattle.proto_base.proofs.Among.{among_of, least_single, each_map}
 use Rattle.proto_options.proofs.Rows.{row_of}
 use Rattle.proto_checks.proofs.Three.{first_of_three, last_of_three, two_of_three, each_three}
 use Rattle.proto_base.proofs.Sets.{Either, least_either, least_same}
@@ -39,19 +40,21 @@ pub item_enum : (e : Enum) (r : Option Spot) → IsLeast (EnumBreaks e) r → Is
 item_enum e r h = last_of_three (Each [] FieldOptionsBreak) (Each [] OneofBreaks) (Each (e ∷ []) EnumBreaks) r (among_of FieldOptionsBreak [])
     (among_of OneofBreaks []) (least_single EnumBreaks e r h)
 
-pub item_oneof : (o : Oneof) (a b r : Option Spot) → IsLeast (Each (flat_map optioned_member o.items) FieldOptionsBreak) a → IsLeast (OneofBreaks o) b
+pub item_oneof : (o : Oneof) (a b r : Option Spot) → IsLeast (Each (flat_map oneof_field o.items) MemberBreaks) a → IsLeast (OneofBreaks o) b
     → IsLesser a b r → IsLeast (ItemBreaks (of.Oneof o)) r
 item_oneof o a b r h k w =
-    two_of_three (Each (flat_map optioned_member o.items) FieldOptionsBreak) (Each (o ∷ []) OneofBreaks) (Each [] EnumBreaks) r (among_of EnumBreaks [])
-    (least_either (Each (flat_map optioned_member o.items) FieldOptionsBreak) (Each (o ∷ []) OneofBreaks) a b r h (least_single OneofBreaks o b k) w)
+    let members = map optioned_in_oneof (flat_map oneof_field o.items) in
+    two_of_three (Each members FieldOptionsBreak) (Each (o ∷ []) OneofBreaks) (Each [] EnumBreaks) r (among_of EnumBreaks [])
+    (least_either (Each members FieldOptionsBreak) (Each (o ∷ []) OneofBreaks) a b r
+    (each_map FieldOptionsBreak optioned_in_oneof (flat_map oneof_field o.items) a h) (least_single OneofBreaks o b k) w)
 
 -- a message without those within it
 abbrev Alone : List MessageItem → Spot → Type 0
 Alone items = Either (FieldNumbersBreak items) (SettingsBreak element.Message (flat_map message_setting items))
 
 abbrev Elements : List MessageItem → Spot → Type 0
-Elements items = Either (Either (Each (flat_map optioned_fields items) FieldOptionsBreak) (Each (flat_map oneof_of items) OneofBreaks))
-    (Each (flat_map enum_of items) EnumBreaks)
+Elements items = Either (Either (Each (flat_map optioned_fields items) FieldOptionsBreak) (Each (flat_map message_oneof items) OneofBreaks))
+    (Each (flat_map message_enum items) EnumBreaks)
 
 body_parts : (items : List MessageItem) (x : Spot) → BodyBreaks items x → Either (Alone items) (Elements items) x
 body_parts items x (BodyBreaks.numbers s) = inl (inl s)
@@ -73,7 +76,7 @@ pub body_least : (items : List MessageItem) (a b p ab r : Option Spot) → IsLea
 body_least items a b p ab r h k m u w = least_same (Either (Alone items) (Elements items)) (BodyBreaks items) r (body_parts items) (parts_body items)
     (least_either (Alone items) (Elements items) ab p r
     (least_either (FieldNumbersBreak items) (SettingsBreak element.Message (flat_map message_setting items)) a b ab h k u)
-    (each_three FieldOptionsBreak OneofBreaks EnumBreaks optioned_fields oneof_of enum_of items p m) w)
+    (each_three FieldOptionsBreak OneofBreaks EnumBreaks optioned_fields message_oneof message_enum items p m) w)
 
 -- a message as a statement
 row_flat : (n : _) (row : Row_of-MessageItem n) → bodies_row row ≡ flat_map bodies_of (items-the_row-MessageItem n row)

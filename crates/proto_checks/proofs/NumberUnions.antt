@@ -43,19 +43,19 @@ field_rules : (is : List MessageItem) (x : Spot) → FieldNumbersBreak is x → 
 field_rules is x (rules.number_range w) = inl (inl w)
 field_rules is x (rules.bound_range w) = inr (inl (inl w))
 field_rules is x (rules.number_twice w) = inl (inr w)
-field_rules is x (rules.number_used w) = inr (inl (inr (ranges.number_used w)))
-field_rules is x (rules.overlap w) = inr (inl (inr (ranges.overlap w)))
-field_rules is x (rules.backwards w) = inr (inl (inr (ranges.backwards w)))
-field_rules is x (rules.name_twice w) = inr (inr w)
+field_rules is x (rules.reserved (rules.number_used w)) = inr (inl (inr (ranges.number_used w)))
+field_rules is x (rules.reserved (rules.overlap w)) = inr (inl (inr (ranges.overlap w)))
+field_rules is x (rules.reserved (rules.backwards w)) = inr (inl (inr (ranges.backwards w)))
+field_rules is x (rules.reserved (rules.name_twice w)) = inr (inr w)
 
 of_field_rules : (is : List MessageItem) (x : Spot) → FieldRules is x → FieldNumbersBreak is x
 of_field_rules is x (inl (inl w)) = rules.number_range w
 of_field_rules is x (inl (inr w)) = rules.number_twice w
 of_field_rules is x (inr (inl (inl w))) = rules.bound_range w
-of_field_rules is x (inr (inl (inr (ranges.number_used w)))) = rules.number_used w
-of_field_rules is x (inr (inl (inr (ranges.overlap w)))) = rules.overlap w
-of_field_rules is x (inr (inl (inr (ranges.backwards w)))) = rules.backwards w
-of_field_rules is x (inr (inr w)) = rules.name_twice w
+of_field_rules is x (inr (inl (inr (ranges.number_used w)))) = rules.reserved (rules.number_used w)
+of_field_rules is x (inr (inl (inr (ranges.overlap w)))) = rules.reserved (rules.overlap w)
+of_field_rules is x (inr (inl (inr (ranges.backwards w)))) = rules.reserved (rules.backwards w)
+of_field_rules is x (inr (inr w)) = rules.reserved (rules.name_twice w)
 
 pub fields_least : (is : List MessageItem) (a : Option Spot) → IsLeast (FieldRules is) a → IsLeast (FieldNumbersBreak is) a
 fields_least is a h = least_same (FieldRules is) (FieldNumbersBreak is) a (field_rules is) (of_field_rules is) h
@@ -71,20 +71,20 @@ enum_rules is x (rules.first_not_zero w) = inl (inl (inl w))
 enum_rules is x (rules.value_range w) = inl (inl (inr w))
 enum_rules is x (rules.bound_range w) = inr (inl (inl w))
 enum_rules is x (rules.number_twice strict w) = inl (inr (strict, w))
-enum_rules is x (rules.number_used w) = inr (inl (inr (ranges.number_used w)))
-enum_rules is x (rules.overlap w) = inr (inl (inr (ranges.overlap w)))
-enum_rules is x (rules.backwards w) = inr (inl (inr (ranges.backwards w)))
-enum_rules is x (rules.name_twice w) = inr (inr w)
+enum_rules is x (rules.reserved (rules.number_used w)) = inr (inl (inr (ranges.number_used w)))
+enum_rules is x (rules.reserved (rules.overlap w)) = inr (inl (inr (ranges.overlap w)))
+enum_rules is x (rules.reserved (rules.backwards w)) = inr (inl (inr (ranges.backwards w)))
+enum_rules is x (rules.reserved (rules.name_twice w)) = inr (inr w)
 
 of_enum_rules : (is : List EnumItem) (x : Spot) → EnumRules is x → EnumNumbersBreak is x
 of_enum_rules is x (inl (inl (inl w))) = rules.first_not_zero w
 of_enum_rules is x (inl (inl (inr w))) = rules.value_range w
 of_enum_rules is x (inl (inr (strict, w))) = rules.number_twice strict w
 of_enum_rules is x (inr (inl (inl w))) = rules.bound_range w
-of_enum_rules is x (inr (inl (inr (ranges.number_used w)))) = rules.number_used w
-of_enum_rules is x (inr (inl (inr (ranges.overlap w)))) = rules.overlap w
-of_enum_rules is x (inr (inl (inr (ranges.backwards w)))) = rules.backwards w
-of_enum_rules is x (inr (inr w)) = rules.name_twice w
+of_enum_rules is x (inr (inl (inr (ranges.number_used w)))) = rules.reserved (rules.number_used w)
+of_enum_rules is x (inr (inl (inr (ranges.overlap w)))) = rules.reserved (rules.overlap w)
+of_enum_rules is x (inr (inl (inr (ranges.backwards w)))) = rules.reserved (rules.backwards w)
+of_enum_rules is x (inr (inr w)) = rules.reserved (rules.name_twice w)
 
 pub enums_least : (is : List EnumItem) (a : Option Spot) → IsLeast (EnumRules is) a → IsLeast (EnumNumbersBreak is) a
 enums_least is a h = least_same (EnumRules is) (EnumNumbersBreak is) a (enum_rules is) (of_enum_rules is) h

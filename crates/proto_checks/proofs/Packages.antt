@@ -7,7 +7,8 @@ use Rattle.proto_base.specs.declared.kind.Kind.TheVariants as kind
 use Rattle.proto_base.specs.declared.limits.Limits.{Limits}
 use Rattle.proto_tree.specs.declared.file.Package.{Package}
 use Rattle.proto_tree.specs.declared.file.Statement.{Statement}
-use Rattle.proto_checks.specs.Checks.{package_in, PackageTwice, parts_of, IsPartTooLong, IsWholeTooLong, PackageTooLong}
+use Rattle.proto_options.specs.Statements.{file_package}
+use Rattle.proto_checks.specs.Checks.{PackageTwice, parts_of, IsPartTooLong, IsWholeTooLong, PackageTooLong}
 use Rattle.proto_base.specs.Least.{IsLeast, spot}
 use Rattle.proto_base.specs.Lesser.{IsLesser}
 use Rattle.proto_base.specs.Sets.{Each, Where}
@@ -86,21 +87,21 @@ repeated_none = record {
 
 -- a loop over statements
 pub repeated_next : (ss : List Statement) (i : ℕ) (s : Statement) (p : Package) (is_named : Bool) (a b r : Option Spot) → i < length ss → s ≡ get_or ss i s
-    → package_in s ≡ p ∷ [] → Repeated (flat_map package_in (take i ss)) is_named a → IsLeast (Where (is_named ≡ true) (again p)) b → IsLesser a b r
-    → Repeated (flat_map package_in (take (i + 1) ss)) true r
+    → file_package s ≡ p ∷ [] → Repeated (flat_map file_package (take i ss)) is_named a → IsLeast (Where (is_named ≡ true) (again p)) b → IsLesser a b r
+    → Repeated (flat_map file_package (take (i + 1) ss)) true r
 repeated_next ss i s p is_named a b r within at one h k w =
-    subst (λ ps. Repeated ps true r) (sym (taken package_in ss i s within at ∙ ap (λ z. flat_map package_in (take i ss) ++ z) one))
-    (repeated_more (flat_map package_in (take i ss)) p is_named a b r h k w)
+    subst (λ ps. Repeated ps true r) (sym (taken file_package ss i s within at ∙ ap (λ z. flat_map file_package (take i ss) ++ z) one))
+    (repeated_more (flat_map file_package (take i ss)) p is_named a b r h k w)
 
-pub repeated_skip : (ss : List Statement) (i : ℕ) (s : Statement) (is_named : Bool) (a : Option Spot) → i < length ss → s ≡ get_or ss i s → package_in s ≡ []
-    → Repeated (flat_map package_in (take i ss)) is_named a → Repeated (flat_map package_in (take (i + 1) ss)) is_named a
+pub repeated_skip : (ss : List Statement) (i : ℕ) (s : Statement) (is_named : Bool) (a : Option Spot) → i < length ss → s ≡ get_or ss i s → file_package s ≡ []
+    → Repeated (flat_map file_package (take i ss)) is_named a → Repeated (flat_map file_package (take (i + 1) ss)) is_named a
 repeated_skip ss i s is_named a within at none h =
-    subst (λ ps. Repeated ps is_named a) (sym (taken package_in ss i s within at ∙ ap (λ z. flat_map package_in (take i ss) ++ z) none
-    ∙ append-nil (flat_map package_in (take i ss)))) h
+    subst (λ ps. Repeated ps is_named a) (sym (taken file_package ss i s within at ∙ ap (λ z. flat_map file_package (take i ss) ++ z) none
+    ∙ append-nil (flat_map file_package (take i ss)))) h
 
-pub repeated_all : (ss : List Statement) (i : ℕ) (is_named : Bool) (a : Option Spot) → length ss ≤ i → Repeated (flat_map package_in (take i ss)) is_named a
-    → IsLeast (PackageTwice (flat_map package_in ss)) a
-repeated_all ss i is_named a end h = subst (λ ys. IsLeast (PackageTwice (flat_map package_in ys)) a) (take_all i ss end) h.least
+pub repeated_all : (ss : List Statement) (i : ℕ) (is_named : Bool) (a : Option Spot) → length ss ≤ i → Repeated (flat_map file_package (take i ss)) is_named a
+    → IsLeast (PackageTwice (flat_map file_package ss)) a
+repeated_all ss i is_named a end h = subst (λ ys. IsLeast (PackageTwice (flat_map file_package ys)) a) (take_all i ss end) h.least
 
 pub package_least : (limits : Limits) (p : Package) (a b r : Option Spot) → IsLeast (Each (parts_of p.name) (IsPartTooLong limits p.name.first.span.start)) a
     → IsLeast (IsWholeTooLong limits p.name.first.span.start p.name) b → IsLesser a b r → IsLeast (PackageTooLong limits p) r

@@ -6,25 +6,32 @@ use Rattle.proto_tree.specs.declared.enumeration.Enum.{Enum}
 use Rattle.proto_tree.specs.declared.file.FileTree.{FileTree}
 use Rattle.proto_tree.specs.declared.file.Statement.{Statement}
 use Rattle.proto_tree.specs.declared.file.Statement.TheVariants as statement
+use Rattle.proto_tree.specs.declared.message.Message.{Message}
 use Rattle.proto_tree.specs.declared.service.Service.{Service}
 use Rattle.proto_desc.specs.DeclaredNames.{declared_by_message, declared_by_enum, declared_by_service, declared_by, file_scope}
 use Rattle.proto_desc.specs.declared.file.FileDesc.{FileDesc}
-use Rattle.proto_checks.specs.Checks.{body_in, enum_in, service_in, HeadBreaks, StatementBreaks, NamesBreak, LengthsBreak, IsTooLong, FileBreaks}
-use Rattle.proto_checks.specs.Elements.{BodyBreaks, EnumBreaks, ServiceBreaks}
+use Rattle.proto_options.specs.Statements.{file_message, file_enum, file_service}
+use Rattle.proto_checks.specs.Checks.{IsTooLong, FileBreaks}
+use Rattle.proto_checks.specs.Elements.{MessageBreaks, EnumBreaks, ServiceBreaks}
+use Rattle.proto_checks.specs.Parts.{HeadBreaks, StatementBreaks, NamesBreak, LengthsBreak}
 use Rattle.proto_base.specs.Least.{IsLeast}
 use Rattle.proto_base.specs.Lesser.{IsLesser}
 use Rattle.proto_base.specs.Sets.{Each}
 use Rattle.proto_base.specs.declared.spot.Spot.{Spot}
 use Rattle.proto_base.proofs.Among.{among_of, least_single, least_append}
 use Rattle.proto_base.proofs.Sets.{Either, least_either, least_same}
-use Rattle.proto_checks.proofs.Three.{second_of_three, last_of_three, each_three}
+use Rattle.proto_checks.proofs.Three.{first_of_three, second_of_three, last_of_three, each_three}
+
+pub statement_message : (m : Message) (r : Option Spot) → IsLeast (MessageBreaks m) r → IsLeast (StatementBreaks (statement.Message m)) r
+statement_message m r h = first_of_three (Each (m ∷ []) MessageBreaks) (Each [] EnumBreaks) (Each [] ServiceBreaks) r (among_of EnumBreaks [])
+    (among_of ServiceBreaks []) (least_single MessageBreaks m r h)
 
 pub statement_enum : (e : Enum) (r : Option Spot) → IsLeast (EnumBreaks e) r → IsLeast (StatementBreaks (statement.Enum e)) r
-statement_enum e r h = second_of_three (Each [] BodyBreaks) (Each (e ∷ []) EnumBreaks) (Each [] ServiceBreaks) r (among_of BodyBreaks [])
+statement_enum e r h = second_of_three (Each [] MessageBreaks) (Each (e ∷ []) EnumBreaks) (Each [] ServiceBreaks) r (among_of MessageBreaks [])
     (among_of ServiceBreaks []) (least_single EnumBreaks e r h)
 
 pub statement_service : (s : Service) (r : Option Spot) → IsLeast (ServiceBreaks s) r → IsLeast (StatementBreaks (statement.Service s)) r
-statement_service s r h = last_of_three (Each [] BodyBreaks) (Each [] EnumBreaks) (Each (s ∷ []) ServiceBreaks) r (among_of BodyBreaks [])
+statement_service s r h = last_of_three (Each [] MessageBreaks) (Each [] EnumBreaks) (Each (s ∷ []) ServiceBreaks) r (among_of MessageBreaks [])
     (among_of EnumBreaks []) (least_single ServiceBreaks s r h)
 
 pub declared_least : (limits : Limits) (desc : FileDesc) (a b p ab r : Option Spot) →
@@ -40,7 +47,7 @@ declared_least limits desc a b p ab r h k m u w =
     least_append (IsTooLong limits) (messages ++ enums) services ab p r (least_append (IsTooLong limits) messages enums a b ab h k u) m w
 
 abbrev Elements : List Statement → Spot → Type 0
-Elements ss = Either (Either (Each (flat_map body_in ss) BodyBreaks) (Each (flat_map enum_in ss) EnumBreaks)) (Each (flat_map service_in ss) ServiceBreaks)
+Elements ss = Either (Either (Each (flat_map file_message ss) MessageBreaks) (Each (flat_map file_enum ss) EnumBreaks)) (Each (flat_map file_service ss) ServiceBreaks)
 
 abbrev Parts : Limits → FileTree → FileDesc → Spot → Type 0
 Parts limits tree desc = Either (Either (HeadBreaks tree desc) (Elements tree.statements)) (Either (NamesBreak desc) (LengthsBreak limits tree.statements desc))
@@ -75,7 +82,7 @@ pub file_least : (limits : Limits) (tree : FileTree) (desc : FileDesc) (a b p q 
     → IsLeast (Each tree.statements StatementBreaks) b → IsLeast (NamesBreak desc) p → IsLeast (LengthsBreak limits tree.statements desc) q → IsLesser a b ab
     → IsLesser p q pq → IsLesser ab pq r → IsLeast (FileBreaks limits tree desc) r
 file_least limits tree desc a b p q ab pq r h k m n u v w =
-    let elements = each_three BodyBreaks EnumBreaks ServiceBreaks body_in enum_in service_in tree.statements b k in
+    let elements = each_three MessageBreaks EnumBreaks ServiceBreaks file_message file_enum file_service tree.statements b k in
     least_same (Parts limits tree desc) (FileBreaks limits tree desc) r (file_parts limits tree desc) (parts_file limits tree desc)
     (least_either (Either (HeadBreaks tree desc) (Elements tree.statements)) (Either (NamesBreak desc) (LengthsBreak limits tree.statements desc)) ab pq r
     (least_either (HeadBreaks tree desc) (Elements tree.statements) a b ab h elements u)

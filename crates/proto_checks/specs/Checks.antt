@@ -1,21 +1,14 @@
 -- The rules of a file that its own source can break.
-use Rattle.std.specs.Prelude.{◌≡◌, ◌≢◌, ℕ, ◌<◌, ◌⊎◌, List, [], ◌∷◌, map, flat_map, length, codes}
+use Rattle.std.specs.Prelude.{◌≡◌, ◌≢◌, ℕ, ◌<◌, ◌⊎◌, List, ◌∷◌, map, flat_map, length, codes}
 use Rattle.proto_base.specs.Limits.{limit_of}
-use Rattle.proto_base.specs.declared.kind.Kind.{Kind}
 use Rattle.proto_base.specs.declared.kind.Kind.TheVariants as kind
 use Rattle.proto_base.specs.declared.limits.Limit.TheVariants as limit
 use Rattle.proto_base.specs.declared.limits.Limits.{Limits}
 use Rattle.proto_base.specs.declared.place.Place.{Place}
-use Rattle.proto_tree.specs.declared.enumeration.Enum.{Enum}
 use Rattle.proto_tree.specs.declared.file.FileTree.{FileTree}
 use Rattle.proto_tree.specs.declared.file.Package.{Package}
-use Rattle.proto_tree.specs.declared.file.Statement.{Statement}
-use Rattle.proto_tree.specs.declared.file.Statement.TheVariants as statement
 use Rattle.proto_tree.specs.declared.file.Syntax.{Syntax}
-use Rattle.proto_tree.specs.declared.message.MessageItem.{MessageItem}
 use Rattle.proto_tree.specs.declared.name.FullName.{FullName}
-use Rattle.proto_tree.specs.declared.name.NamePart.{NamePart}
-use Rattle.proto_tree.specs.declared.service.Service.{Service}
 use Rattle.proto_desc.specs.DeclaredNames.{Declared, full_name, declared_by}
 use Rattle.proto_desc.specs.declared.enumeration.EnumDesc.{EnumDesc}
 use Rattle.proto_desc.specs.declared.enumeration.ValueDesc.{ValueDesc}
@@ -28,7 +21,8 @@ use Rattle.proto_desc.specs.declared.message.MessageDesc.TheFolds.{fold-MessageD
 use Rattle.proto_desc.specs.declared.rules.Element.TheVariants as element
 use Rattle.proto_options.specs.Options.{file_setting}
 use Rattle.proto_tree.specs.Text.{dotted, joined}
-use Rattle.proto_checks.specs.Elements.{BodyBreaks, EnumBreaks, ServiceBreaks, bodies}
+use Rattle.proto_options.specs.Statements.{file_package, file_message, file_enum, file_service}
+use Rattle.proto_checks.specs.Elements.{MessageBreaks, EnumBreaks, ServiceBreaks}
 use Rattle.proto_base.specs.Least.{spot}
 use Rattle.proto_checks.specs.Marks.{Marked, TextTwice, ReservedNameUsed}
 use Rattle.proto_checks.specs.Options.{SettingsBreak}
@@ -38,23 +32,6 @@ use Rattle.proto_base.specs.declared.spot.Spot.{Spot}
 -- the syntax is named first
 abbrev pub NotProto3Syntax : Syntax → Spot → Type 0
 NotProto3Syntax s x = (joined s.version ≢ codes "proto3") × (x ≡ spot s.version.first.span.start kind.NotProto3Syntax)
-
--- what stands at the top of a file
-abbrev pub package_in : Statement → List Package
-package_in (statement.Package p) = p ∷ []
-package_in s = []
-
-abbrev pub body_in : Statement → List (List MessageItem)
-body_in (statement.Message m) = bodies m.items
-body_in s = []
-
-abbrev pub enum_in : Statement → List Enum
-enum_in (statement.Enum e) = e ∷ []
-enum_in s = []
-
-abbrev pub service_in : Statement → List Service
-service_in (statement.Service s) = s ∷ []
-service_in s = []
 
 abbrev pub PackageTwice : List Package → Spot → Type 0
 PackageTwice ps = Later ps (λ p q. Unit {0}) (λ q. spot q.keyword.start kind.PackageTwice)
@@ -71,11 +48,8 @@ IsTooLong limits d x =
     ((limit_of limits limit.NameBytes < length d.name) ⊎ (limit_of limits limit.FullNameBytes < length (full_name d)))
     × (x ≡ spot d.place kind.NameTooLong)
 
-abbrev pub part_name : NamePart → List ℕ
-part_name p = p.name.text
-
 abbrev pub parts_of : FullName → List (List ℕ)
-parts_of n = n.first.text ∷ map part_name n.rest
+parts_of n = n.first.text ∷ map (λ part. part.name.text) n.rest
 
 -- a package's parts, and the whole of it
 abbrev pub IsPartTooLong : Limits → Place → List ℕ → Spot → Type 0
@@ -121,37 +95,16 @@ names_step m = record { fields = m.fields; reserved_names = m.reserved_names; en
 abbrev pub names_of : MessageDesc → List MessageNames
 names_of = fold-MessageDesc (List MessageNames) names_step
 
--- the parts of those rules
-abbrev pub HeadBreaks : FileTree → FileDesc → Spot → Type 0
-HeadBreaks tree desc x =
-    (NotProto3Syntax tree.syntax x ⊎ PackageTwice (flat_map package_in tree.statements) x)
-    ⊎ (ImportTwice desc.imports x ⊎ SettingsBreak element.File (flat_map file_setting tree.statements) x)
-
-abbrev pub StatementBreaks : Statement → Spot → Type 0
-StatementBreaks s x =
-    (Each (body_in s) BodyBreaks x ⊎ Each (enum_in s) EnumBreaks x) ⊎ Each (service_in s) ServiceBreaks x
-
-abbrev pub NamesBreak : FileDesc → Spot → Type 0
-NamesBreak desc x = Each (flat_map names_of desc.messages) MessageNamesBreak x ⊎ Each desc.enums EnumNamesBreak x
-
-abbrev pub LengthsBreak : Limits → List Statement → FileDesc → Spot → Type 0
-LengthsBreak limits statements desc x =
-    Each (flat_map package_in statements) (PackageTooLong limits) x ⊎ Each (declared_by desc) (IsTooLong limits) x
-
--- a place and what is wrong there
-abbrev pub spot_of : Place × Kind → Spot
-spot_of fault = spot fault.0 fault.1
-
 -- the rules that a file breaks, by its tree and by the descriptor that the tree is lowered to
 pub data FileBreaks (limits : Limits) (tree : FileTree) (desc : FileDesc) (x : Spot) : Type 0 where
   not_proto3 : NotProto3Syntax tree.syntax x → FileBreaks limits tree desc x
-  package_twice : PackageTwice (flat_map package_in tree.statements) x → FileBreaks limits tree desc x
+  package_twice : PackageTwice (flat_map file_package tree.statements) x → FileBreaks limits tree desc x
   import_twice : ImportTwice desc.imports x → FileBreaks limits tree desc x
   options : SettingsBreak element.File (flat_map file_setting tree.statements) x → FileBreaks limits tree desc x
-  in_message : Each (flat_map body_in tree.statements) BodyBreaks x → FileBreaks limits tree desc x
-  in_enum : Each (flat_map enum_in tree.statements) EnumBreaks x → FileBreaks limits tree desc x
-  in_service : Each (flat_map service_in tree.statements) ServiceBreaks x → FileBreaks limits tree desc x
+  in_message : Each (flat_map file_message tree.statements) MessageBreaks x → FileBreaks limits tree desc x
+  in_enum : Each (flat_map file_enum tree.statements) EnumBreaks x → FileBreaks limits tree desc x
+  in_service : Each (flat_map file_service tree.statements) ServiceBreaks x → FileBreaks limits tree desc x
   message_names : Each (flat_map names_of desc.messages) MessageNamesBreak x → FileBreaks limits tree desc x
   enum_names : Each desc.enums EnumNamesBreak x → FileBreaks limits tree desc x
-  package_long : Each (flat_map package_in tree.statements) (PackageTooLong limits) x → FileBreaks limits tree desc x
+  package_long : Each (flat_map file_package tree.statements) (PackageTooLong limits) x → FileBreaks limits tree desc x
   name_long : Each (declared_by desc) (IsTooLong limits) x → FileBreaks limits tree desc x

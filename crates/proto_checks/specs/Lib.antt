@@ -1,11 +1,12 @@
 pub mod Marks
 pub mod Covers
-pub mod Gathered
 pub mod Options
+pub mod Gathered
 pub mod Judged
 pub mod Numbers
 pub mod Breaks
 pub mod NameSets
 pub mod Elements
 pub mod Checks
+pub mod Parts
 pub mod Lengths

@@ -1,5 +1,5 @@
 -- Rules on the options of an element.
-use Rattle.std.specs.Prelude.{◌≡◌, ◌≢◌, ℕ, Bool, true, false, ◌&&◌, ◌⊎◌, List, [], ◌∷◌, flat_map, Option, Some, None, Contains}
+use Rattle.std.specs.Prelude.{◌≡◌, ◌≢◌, ℕ, Bool, true, false, ◌&&◌, ◌⊎◌, List, [], ◌∷◌, map, flat_map, Option, Some, None, Contains}
 use Rattle.proto_base.specs.declared.kind.Kind.TheVariants as kind
 use Rattle.proto_base.specs.declared.place.Place.{Place}
 use Rattle.proto_base.specs.declared.place.Span.{Span}
@@ -16,8 +16,6 @@ use Rattle.proto_tree.specs.declared.field.Label.TheVariants as label
 use Rattle.proto_tree.specs.declared.message.MessageItem.{MessageItem}
 use Rattle.proto_tree.specs.declared.message.MessageItem as message_item
 use Rattle.proto_tree.specs.declared.oneof.OneofField.{OneofField}
-use Rattle.proto_tree.specs.declared.oneof.OneofItem.{OneofItem}
-use Rattle.proto_tree.specs.declared.oneof.OneofItem.TheVariants as oneof_item
 use Rattle.proto_tree.specs.declared.option.Setting.{Setting}
 use Rattle.proto_base.specs.declared.scalar_type.ScalarType.TheVariants as scalar
 use Rattle.proto_desc.specs.declared.options.OptionValue.TheVariants.{Number}
@@ -25,9 +23,9 @@ use Rattle.proto_desc.specs.declared.rules.Element.{Element}
 use Rattle.proto_desc.specs.declared.rules.Element.TheVariants as element
 use Rattle.proto_desc.specs.declared.rules.OptionName.TheVariants.{Packed, Jstype}
 use Rattle.proto_desc.specs.declared.rules.OptionRule.{OptionRule}
-use Rattle.proto_desc.specs.declared.rules.ValueKind.{ValueKind}
 use Rattle.proto_desc.specs.declared.rules.ValueKind.TheVariants as value_kind
-use Rattle.proto_options.specs.Options.{bracketed, is_setting, number_of, value_of}
+use Rattle.proto_options.specs.Options.{bracketed, is_setting, value_of}
+use Rattle.proto_options.specs.Statements.{oneof_field}
 use Rattle.proto_tree.specs.Text.{dotted}
 use Rattle.proto_desc.specs.Rules.{rules_of}
 use Rattle.proto_base.specs.Least.{spot}
@@ -47,11 +45,6 @@ abbrev pub value_place : Constant → Place
 value_place (constant.Name n) = n.first.span.start
 value_place (constant.Number n) = number_place n.sign n.number.span
 value_place (constant.String s) = s.first.span.start
-
--- the number that a constant stands for, if it is a name
-abbrev pub choice_of_value : ValueKind → Constant → Option ℕ
-choice_of_value k (constant.Name n) = number_of k n
-choice_of_value k c = None
 
 -- no option of the element has this name
 abbrev pub IsUnknown : Element → Setting → Type 0
@@ -74,7 +67,7 @@ OptionTwice ss = Later ss (λ s t. dotted s.name ≡ dotted t.name) (λ t. spot 
 abbrev pub SettingsBreak : Element → List Setting → Spot → Type 0
 SettingsBreak e ss x = Each ss (SettingBreaks e) x ⊎ OptionTwice ss x
 
--- what the options of a field depend on
+-- a field, with what its options depend on
 pub record OptionedField : Type 0 where
   pub declarator : Declarator
   pub can_be_packed : Bool
@@ -109,14 +102,10 @@ optioned_plain f = optioned f.declarator (is_repeated f.label && is_packed_type 
 abbrev pub optioned_in_oneof : OneofField → OptionedField
 optioned_in_oneof f = optioned f.declarator false (is_wide f.field_type)
 
-abbrev pub optioned_member : OneofItem → List OptionedField
-optioned_member (oneof_item.Field f) = optioned_in_oneof f ∷ []
-optioned_member i = []
-
 abbrev pub optioned_fields : MessageItem → List OptionedField
 optioned_fields (message_item.Field f) = optioned_plain f ∷ []
 optioned_fields (message_item.Map m) = optioned m.declarator false false ∷ []
-optioned_fields (message_item.Oneof o) = flat_map optioned_member o.items
+optioned_fields (message_item.Oneof o) = map optioned_in_oneof (flat_map oneof_field o.items)
 optioned_fields i = []
 
 -- `packed = true` on a field that is not packed
@@ -133,11 +122,6 @@ abbrev pub IsWronglyTyped : Bool → Setting → Spot → Type 0
 IsWronglyTyped is_wide_integer s x =
     (is_wide_integer ≡ false) × (is_setting Jstype s ≡ true)
     × IsOtherType s.value × (x ≡ spot (name_place s) kind.JstypeOnWrongKind)
-
--- what is wrong with a setting on a field alone
-abbrev pub IsWrongOnField : Bool → Bool → Setting → Spot → Type 0
-IsWrongOnField can_be_packed is_wide_integer s x =
-    IsWronglyPacked can_be_packed s x ⊎ IsWronglyTyped is_wide_integer s x
 
 pub data FieldOptionsBreak (f : OptionedField) (x : Spot) : Type 0 where
   settings : SettingsBreak element.Field (bracketed f.declarator.options) x → FieldOptionsBreak f x

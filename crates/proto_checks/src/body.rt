@@ -2,9 +2,11 @@
 
 ghost use Rattle.std.specs.Prelude.{◌≡◌, IfOk, flat_map};
 ghost use Rattle.proto_tree.specs.declared.message.MessageItem as message_item;
-ghost use Rattle.proto_checks.specs.Elements.{bodies, BodyBreaks, ItemBreaks};
+ghost use Rattle.proto_options.specs.Statements.{oneof_field};
+ghost use Rattle.proto_checks.specs.Elements.{MessageBreaks, BodyBreaks};
+ghost use Rattle.proto_checks.specs.Parts.{MemberBreaks, ItemBreaks};
 ghost use Rattle.proto_base.specs.Least.{IsLeast};
-ghost use Rattle.proto_checks.specs.Options.{optioned_plain, optioned_in_oneof, optioned_member, FieldOptionsBreak};
+ghost use Rattle.proto_checks.specs.Options.{optioned_plain, FieldOptionsBreak};
 ghost use Rattle.proto_base.specs.Sets.{Each};
 
 use crate::enumeration::enum_fault;
@@ -26,15 +28,14 @@ fn field_fault(alloc: Global, field: &Field) -> Result<Option<Spot>, AllocError>
 }
 
 fn member_fault(alloc: Global, field: &OneofField) -> Result<Option<Spot>, AllocError>
-    ensures { IfOk result (λ first. IsLeast (FieldOptionsBreak (optioned_in_oneof field.now))
-        first) }
+    ensures { IfOk result (λ first. IsLeast (MemberBreaks field.now) first) }
 {
     field_options_fault(alloc, &field.declarator, false, is_wide(&field.field_type))
 }
 
 fn members_fault(alloc: Global, items: &[OneofItem]) -> Result<Option<Spot>, AllocError>
     ensures { IfOk result (λ first. IsLeast
-        (Each (flat_map optioned_member items.now) FieldOptionsBreak) first) }
+        (Each (flat_map oneof_field items.now) MemberBreaks) first) }
 {
     let mut first = None;
     for item in items {
@@ -92,7 +93,7 @@ fn body_fault(alloc: Global, items: &[MessageItem]) -> Result<Option<Spot>, Allo
 
 /// The first fault of the statements of a message and of the messages within it.
 pub(crate) fn message_fault(alloc: Global, message: &Message) -> Result<Option<Spot>, AllocError>
-    ensures { IfOk result (λ first. IsLeast (Each (bodies message.now.items) BodyBreaks) first) }
+    ensures { IfOk result (λ first. IsLeast (MessageBreaks message.now) first) }
 {
     let items = message.items.as_slice();
     let mut first = body_fault(alloc, items)?;

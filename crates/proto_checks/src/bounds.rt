@@ -6,6 +6,7 @@ ghost use Rattle.proto_checks.specs.Marks.{Outside};
 ghost use Rattle.proto_checks.specs.Numbers.{IsFieldNumber, IsNoFieldNumber};
 ghost use Rattle.proto_base.specs.Sets.{Each};
 
+use crate::gathered::FIELD_MAX;
 use crate::marks::MarkedNumber;
 use proto_base::{Kind, Spot, lesser};
 
@@ -35,7 +36,7 @@ pub(crate) fn first_outside(
 fn is_field_number(number: u128) -> bool
     ensures { IsTrue result ↔ IsFieldNumber number }
 {
-    matches!(number, 1..=18_999 | 20_000..=536_870_911)
+    number >= 1 && number <= FIELD_MAX && !matches!(number, 19_000..=19_999)
 }
 
 /// The first number that no field may have.

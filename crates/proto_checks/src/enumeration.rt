@@ -2,7 +2,9 @@
 
 ghost use Rattle.std.specs.Prelude.{◌≡◌, IfOk, flat_map};
 ghost use Rattle.std.specs.List.{list_any};
-ghost use Rattle.proto_checks.specs.Elements.{is_value, value_of_item, IsEmptyEnum, ValueBreaks, EnumBreaks};
+ghost use Rattle.proto_options.specs.Statements.{enum_value};
+ghost use Rattle.proto_checks.specs.Elements.{IsEmptyEnum, ValueBreaks, EnumBreaks};
+ghost use Rattle.proto_checks.specs.Parts.{is_value};
 ghost use Rattle.proto_base.specs.Least.{IsLeast};
 ghost use Rattle.proto_base.specs.Sets.{Each};
 
@@ -39,7 +41,7 @@ fn value_fault(alloc: Global, value: &EnumValue) -> Result<Option<Spot>, AllocEr
 }
 
 fn values_fault(alloc: Global, items: &[EnumItem]) -> Result<Option<Spot>, AllocError>
-    ensures { IfOk result (λ first. IsLeast (Each (flat_map value_of_item items.now) ValueBreaks)
+    ensures { IfOk result (λ first. IsLeast (Each (flat_map enum_value items.now) ValueBreaks)
         first) }
 {
     let mut first = None;

@@ -3,7 +3,8 @@
 ghost use Rattle.std.specs.Prelude.{◌≡◌, ◌↔◌, IsTrue, IfOk};
 ghost use Rattle.proto_options.specs.Options.{separated};
 ghost use Rattle.proto_base.specs.Least.{IsLeast};
-ghost use Rattle.proto_checks.specs.Options.{is_packed_type, is_wide, is_repeated, IsWronglyPacked, IsOtherType, IsWronglyTyped, IsWrongOnField, FieldOptionsBreak, optioned};
+ghost use Rattle.proto_checks.specs.Options.{is_packed_type, is_wide, is_repeated, IsWronglyPacked, IsOtherType, IsWronglyTyped, FieldOptionsBreak, optioned};
+ghost use Rattle.proto_checks.specs.Parts.{IsWrongOnField};
 ghost use Rattle.proto_base.specs.Sets.{Each};
 
 use crate::options::{choice_of_value, is_true, name_place};

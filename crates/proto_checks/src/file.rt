@@ -3,8 +3,9 @@
 ghost use Rattle.std.specs.Prelude.{◌≡◌, IfOk, map, flat_map};
 ghost use Rattle.std.specs.Option.{option_map};
 ghost use Rattle.proto_desc.specs.DeclaredNames.{file_scope, declared_by};
-ghost use Rattle.proto_checks.specs.Checks.{NotProto3Syntax, ImportTwice, import_mark, HeadBreaks, StatementBreaks, NamesBreak, MessageNamesBreak, names_of, LengthsBreak, IsTooLong, FileBreaks, spot_of};
-ghost use Rattle.proto_base.specs.Least.{IsLeast};
+ghost use Rattle.proto_checks.specs.Checks.{NotProto3Syntax, ImportTwice, import_mark, MessageNamesBreak, names_of, IsTooLong, FileBreaks};
+ghost use Rattle.proto_checks.specs.Parts.{HeadBreaks, StatementBreaks, NamesBreak, LengthsBreak};
+ghost use Rattle.proto_base.specs.Least.{IsLeast, spot};
 ghost use Rattle.proto_checks.specs.Lengths.{capped};
 ghost use Rattle.proto_base.specs.Sets.{Each};
 
@@ -177,7 +178,7 @@ pub fn first_check_fault(
     limits: &Limits,
 ) -> Result<Option<(Place, Kind)>, AllocError>
     ensures { IfOk result (λ first. IsLeast (FileBreaks limits.now tree.now desc.now)
-        (option_map spot_of first)) }
+        (option_map (λ fault. spot fault.0 fault.1) first)) }
 {
     match file_fault(alloc, tree, desc, limits)? {
         Some(spot) => Ok(Some((spot.place, spot.kind))),

@@ -1,17 +1,18 @@
 //! The numbers of a message's fields and of an enum's values, and what is reserved there, each with its place.
 
 ghost use Rattle.std.specs.Prelude.{◌≡◌, ◌++◌, IfOk, OnOk, map, flat_map};
-ghost use Rattle.proto_checks.specs.Gathered.{literal, member_number, field_numbers, value_numbers, ranges_listed, bounds_of, message_ranges_listed, enum_ranges_listed, message_range, enum_range, counted, sign_place, signed_number};
+ghost use Rattle.proto_options.specs.Statements.{oneof_field, message_reserved, enum_reserved, ranges_in, greatest_field_number};
+ghost use Rattle.proto_checks.specs.Gathered.{literal, signed_number, greatest_value, field_number, field_numbers, value_numbers, marked_range, bounds_of};
+ghost use Rattle.proto_checks.specs.Options.{optioned_in_oneof};
 
 use crate::marks::{MarkedNumber, MarkedRange};
-use proto_base::{Place, Span};
 use proto_tree::{
     EnumItem, MessageItem, NumberLiteral, OneofItem, Range, ReservedItems, SignedNumber, UpperBound,
 };
 use std::alloc::{AllocError, Global};
 
 /// The greatest number of a field, which `max` stands for in a message.
-pub(crate) const FIELD_MAX: u128 = 536_870_911;
+pub(crate) const FIELD_MAX: u128 = proto_options::FIELD_MAX as u128;
 
 /// The number of an enum's value that is 0, as `MarkedNumber` counts it.
 pub(crate) const VALUE_ZERO: u128 = 1 << 64;
@@ -20,7 +21,7 @@ pub(crate) const VALUE_ZERO: u128 = 1 << 64;
 pub(crate) const VALUE_MIN: u128 = VALUE_ZERO - 2_147_483_648;
 
 /// The greatest number of an enum's value, which `max` stands for in an enum.
-pub(crate) const VALUE_MAX: u128 = VALUE_ZERO + 2_147_483_647;
+pub(crate) const VALUE_MAX: u128 = VALUE_ZERO + proto_options::VALUE_MAX as u128;
 
 fn literal(number: NumberLiteral) -> MarkedNumber
     ensures { result ≡ literal number }
@@ -33,7 +34,7 @@ fn literal(number: NumberLiteral) -> MarkedNumber
 
 fn put_members(numbers: &mut Vec<MarkedNumber>, items: &[OneofItem]) -> Result<(), AllocError>
     ensures { OnOk result (numbers.new.items ≡ numbers.old.items
-        ++ flat_map member_number items.now) }
+        ++ map field_number (map optioned_in_oneof (flat_map oneof_field items.now))) }
 {
     for item in items {
         if let OneofItem::Field(field) = item {
@@ -66,7 +67,7 @@ fn put_ranges<N: Copy>(
     ranges: &mut Vec<Range<N>>,
     items: &ReservedItems<N>,
 ) -> Result<(), AllocError>
-    ensures { OnOk result (ranges.new.items ≡ ranges.old.items ++ ranges_listed items.now) }
+    ensures { OnOk result (ranges.new.items ≡ ranges.old.items ++ ranges_in items.now) }
 {
     if let ReservedItems::Ranges(listed) = items {
         ranges.push(listed.first)?;
@@ -82,7 +83,8 @@ pub(crate) fn message_ranges_listed(
     alloc: Global,
     items: &[MessageItem],
 ) -> Result<Vec<Range<NumberLiteral>>, AllocError>
-    ensures { IfOk result (λ ranges. ranges.items ≡ flat_map message_ranges_listed items.now) }
+    ensures { IfOk result (λ ranges. ranges.items
+        ≡ flat_map ranges_in (flat_map message_reserved items.now)) }
 {
     let mut ranges = Vec::new(alloc);
     for item in items {
@@ -94,7 +96,7 @@ pub(crate) fn message_ranges_listed(
 }
 
 fn message_range(range: &Range<NumberLiteral>) -> MarkedRange
-    ensures { result ≡ message_range range.now }
+    ensures { result ≡ marked_range literal greatest_field_number range.now }
 {
     let start = range.start.value as u128;
     let end = match range.end {
@@ -116,7 +118,8 @@ pub(crate) fn message_ranges(
     alloc: Global,
     listed: &[Range<NumberLiteral>],
 ) -> Result<Vec<MarkedRange>, AllocError>
-    ensures { IfOk result (λ ranges. ranges.items ≡ map message_range listed.now) }
+    ensures { IfOk result (λ ranges. ranges.items
+        ≡ map (marked_range literal greatest_field_number) listed.now) }
 {
     let mut ranges = Vec::new(alloc);
     for range in listed {
@@ -154,30 +157,20 @@ pub(crate) fn message_bounds(
         .collect(alloc)
 }
 
-fn counted(minus: Option<Span>, value: u64) -> u128
-    ensures { result ≡ counted minus value }
-{
-    match minus {
-        None => VALUE_ZERO + value as u128,
-        Some(_) => VALUE_ZERO - value as u128,
-    }
-}
-
-fn sign_place(minus: Option<Span>, digits: Span) -> Place
-    ensures { result ≡ sign_place minus digits }
-{
-    match minus {
-        None => digits.start,
-        Some(minus) => minus.start,
-    }
-}
-
+/// A number of an enum, counted from -2^64 on. Its place is that of its minus, if it has one.
 fn signed_number(number: SignedNumber) -> MarkedNumber
     ensures { result ≡ signed_number number }
 {
-    MarkedNumber {
-        number: counted(number.minus, number.number.value),
-        place: sign_place(number.minus, number.number.span),
+    let value = number.number.value as u128;
+    match number.minus {
+        None => MarkedNumber {
+            number: VALUE_ZERO + value,
+            place: number.number.span.start,
+        },
+        Some(minus) => MarkedNumber {
+            number: VALUE_ZERO - value,
+            place: minus.start,
+        },
     }
 }
 
@@ -202,7 +195,8 @@ pub(crate) fn enum_ranges_listed(
     alloc: Global,
     items: &[EnumItem],
 ) -> Result<Vec<Range<SignedNumber>>, AllocError>
-    ensures { IfOk result (λ ranges. ranges.items ≡ flat_map enum_ranges_listed items.now) }
+    ensures { IfOk result (λ ranges. ranges.items
+        ≡ flat_map ranges_in (flat_map enum_reserved items.now)) }
 {
     let mut ranges = Vec::new(alloc);
     for item in items {
@@ -214,20 +208,20 @@ pub(crate) fn enum_ranges_listed(
 }
 
 fn enum_range(range: &Range<SignedNumber>) -> MarkedRange
-    ensures { result ≡ enum_range range.now }
+    ensures { result ≡ marked_range signed_number greatest_value range.now }
 {
-    let start = counted(range.start.minus, range.start.number.value);
+    let start = signed_number(range.start);
     let end = match range.end {
-        None => start,
+        None => start.number,
         Some(end) => match end.bound {
-            UpperBound::Number(number) => counted(number.minus, number.number.value),
+            UpperBound::Number(number) => signed_number(number).number,
             UpperBound::Max(_) => VALUE_MAX,
         },
     };
     MarkedRange {
-        start,
+        start: start.number,
         end,
-        place: sign_place(range.start.minus, range.start.number.span),
+        place: start.place,
     }
 }
 
@@ -236,7 +230,8 @@ pub(crate) fn enum_ranges(
     alloc: Global,
     listed: &[Range<SignedNumber>],
 ) -> Result<Vec<MarkedRange>, AllocError>
-    ensures { IfOk result (λ ranges. ranges.items ≡ map enum_range listed.now) }
+    ensures { IfOk result (λ ranges. ranges.items
+        ≡ map (marked_range signed_number greatest_value) listed.now) }
 {
     let mut ranges = Vec::new(alloc);
     for range in listed {

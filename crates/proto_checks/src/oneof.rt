@@ -2,7 +2,8 @@
 
 ghost use Rattle.std.specs.Prelude.{◌≡◌, IfOk};
 ghost use Rattle.std.specs.List.{list_any};
-ghost use Rattle.proto_checks.specs.Elements.{is_member, IsEmptyOneof, OneofBreaks};
+ghost use Rattle.proto_checks.specs.Elements.{IsEmptyOneof, OneofBreaks};
+ghost use Rattle.proto_checks.specs.Parts.{is_member};
 ghost use Rattle.proto_base.specs.Least.{IsLeast};
 
 use crate::settings::statement_settings_fault;

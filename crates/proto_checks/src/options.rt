@@ -6,7 +6,8 @@ ghost use Rattle.proto_desc.specs.declared.options.OptionValue.TheVariants.{Numb
 ghost use Rattle.proto_desc.specs.declared.rules.ValueKind.TheVariants.{Bool};
 ghost use Rattle.proto_options.specs.Options.{is_setting, value_of};
 ghost use Rattle.proto_base.specs.Least.{IsLeast};
-ghost use Rattle.proto_checks.specs.Options.{name_place, value_place, choice_of_value, SettingsBreak};
+ghost use Rattle.proto_checks.specs.Options.{name_place, value_place, SettingsBreak};
+ghost use Rattle.proto_checks.specs.Parts.{choice_of_value};
 ghost use Rattle.proto_checks.specs.Judged.{is_known, is_mistaken, setting_fault, judged, judged_name, IsFaultOf, JudgedTwice};
 ghost use Rattle.proto_base.specs.Sets.{Each};
 ghost use Rattle.proto_desc.specs.declared.rules.Element.{Element};

@@ -3,7 +3,8 @@
 ghost use Rattle.std.specs.Prelude.{◌≡◌, true, flat_map};
 ghost use Rattle.proto_base.specs.declared.kind.Kind.TheVariants as kind;
 ghost use Rattle.proto_tree.specs.Text.{dotted};
-ghost use Rattle.proto_checks.specs.Checks.{package_in, parts_of, IsPartTooLong, IsWholeTooLong, PackageTooLong, PackageTwice};
+ghost use Rattle.proto_options.specs.Statements.{file_package};
+ghost use Rattle.proto_checks.specs.Checks.{parts_of, IsPartTooLong, IsWholeTooLong, PackageTooLong, PackageTwice};
 ghost use Rattle.proto_base.specs.Least.{IsLeast, spot};
 ghost use Rattle.proto_checks.specs.Lengths.{capped};
 ghost use Rattle.proto_base.specs.Sets.{Each, Where};
@@ -27,7 +28,7 @@ fn again_fault(is_again: bool, declared: &Package) -> Option<Spot>
 
 /// The second package statement.
 pub(crate) fn package_twice(statements: &[Statement]) -> Option<Spot>
-    ensures { IsLeast (PackageTwice (flat_map package_in statements.now)) result }
+    ensures { IsLeast (PackageTwice (flat_map file_package statements.now)) result }
 {
     let mut first = None;
     let mut is_named = false;
@@ -99,7 +100,7 @@ fn length_fault(limits: &Limits, declared: &Package) -> Option<Spot>
 
 /// The first package that is too long or has a part that is.
 pub(crate) fn package_lengths_fault(limits: &Limits, statements: &[Statement]) -> Option<Spot>
-    ensures { IsLeast (Each (flat_map package_in statements.now) (PackageTooLong limits.now))
+    ensures { IsLeast (Each (flat_map file_package statements.now) (PackageTooLong limits.now))
         result }
 {
     let mut first = None;

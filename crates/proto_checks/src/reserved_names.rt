@@ -3,7 +3,8 @@
 ghost use Rattle.std.specs.Prelude.{◌≡◌, ◌++◌, IfOk, OnOk, map, string_bytes};
 ghost use Rattle.proto_tree.specs.Text.{joined};
 ghost use Rattle.proto_base.specs.declared.kind.Kind.TheVariants.{ReservedNameTwice};
-ghost use Rattle.proto_checks.specs.Gathered.{names_listed, reserved_name, message_reserved_names, enum_reserved_names};
+ghost use Rattle.proto_checks.specs.Gathered.{reserved_name, message_reserved_names, enum_reserved_names};
+ghost use Rattle.proto_options.specs.Statements.{names_in};
 ghost use Rattle.proto_base.specs.Least.{IsLeast};
 ghost use Rattle.proto_checks.specs.Marks.{TextTwice, ReservedNameUsed};
 ghost use Rattle.proto_checks.specs.NameSets.{IsSetOf};
@@ -48,7 +49,7 @@ fn put_names<'s, N>(
     items: &ReservedItems<'s, N>,
 ) -> Result<(), AllocError>
     ensures { OnOk result (names.new.items ≡ names.old.items
-        ++ map reserved_name (names_listed items.now)) }
+        ++ map reserved_name (names_in items.now)) }
 {
     if let ReservedItems::Names(listed) = items {
         names.push(reserved_name(alloc, &listed.first)?)?;

@@ -1,7 +1,8 @@
 //! Rules on services and methods.
 
 ghost use Rattle.std.specs.Prelude.{IfOk, flat_map};
-ghost use Rattle.proto_checks.specs.Elements.{rpc_of, RpcBreaks, ServiceBreaks};
+ghost use Rattle.proto_options.specs.Statements.{service_rpc};
+ghost use Rattle.proto_checks.specs.Elements.{RpcBreaks, ServiceBreaks};
 ghost use Rattle.proto_base.specs.Least.{IsLeast};
 ghost use Rattle.proto_base.specs.Sets.{Each};
 
@@ -19,7 +20,8 @@ fn method_fault(alloc: Global, rpc: &Rpc) -> Result<Option<Spot>, AllocError>
 }
 
 fn methods_fault(alloc: Global, items: &[ServiceItem]) -> Result<Option<Spot>, AllocError>
-    ensures { IfOk result (λ first. IsLeast (Each (flat_map rpc_of items.now) RpcBreaks) first) }
+    ensures { IfOk result (λ first. IsLeast (Each (flat_map service_rpc items.now) RpcBreaks)
+        first) }
 {
     let mut first = None;
     for item in items {

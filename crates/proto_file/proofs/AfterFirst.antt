@@ -1,9 +1,8 @@
 -- No place of a descriptor is the start of its text: the keyword of the syntax statement stands there, or behind it.
-use Rattle.std.proofs.Common.{◌≡◌, ◌∙◌, sym, ℕ, ◌+◌, ◌<◌, List, [], ◌∷◌, ◌++◌, subst, arith, None, Some}
+use Rattle.std.proofs.Common.{◌≡◌, ◌∙◌, sym, ℕ, ◌+◌, ◌<◌, List, [], ◌∷◌, subst, arith, None, Some}
 use Rattle.proto_base.specs.declared.limits.Limits.{Limits}
 use Rattle.proto_desc.specs.Places.{places_of}
 use Rattle.proto_desc.specs.declared.file.FileDesc.{FileDesc}
-use Rattle.proto_lower.specs.Files.{lowered}
 use Rattle.proto_syntax.specs.Grammar.{flatten}
 use Rattle.proto_syntax.specs.Trees.{file_tree, row, statement_tree, syntax_tree}
 use Rattle.proto_tokens.proofs.CutLemmas.{piece_nonempty}

@@ -20,6 +20,7 @@ use Rattle.proto_syntax.proofs.Items.{item_message}
 use Rattle.proto_desc.specs.DeclaredNames.{Declared, scoped, declared_field, declared_oneof, declared_value, declared_by_enum, declared_by_message, declared_method, declared_by_service, file_scope, declared_by}
 use Rattle.proto_lower.specs.Files.{lowered}
 use Rattle.proto_options.specs.Options.{file_setting}
+use Rattle.proto_options.specs.Statements.{file_package, file_message, file_enum, file_service}
 use Rattle.proto_desc.specs.Places.{field_places, oneof_place, value_place, enum_places, message_places, method_places, service_places, package_places, import_place, places_of}
 use Rattle.proto_desc.specs.declared.enumeration.EnumDesc.{EnumDesc}
 use Rattle.proto_desc.specs.declared.field.FieldDesc.{FieldDesc}
@@ -34,8 +35,8 @@ use Rattle.proto_desc.specs.declared.service.MethodDesc.{MethodDesc}
 use Rattle.proto_desc.specs.declared.service.ServiceDesc.{ServiceDesc}
 use Rattle.proto_file.specs.Places.{AtMost}
 use Rattle.proto_file.proofs.PlacesWithin.{Within, prefix, rest, both, left_of, right_of, each_given, each_map, each_place, each_places, each_row, each_weaker, upto, EnumWithin, ItemWithin, StatementWithin, places_out, lowered_within}
-use Rattle.proto_checks.specs.Checks.{FileBreaks, package_in, body_in, enum_in, service_in, import_mark, IsTooLong, IsPartTooLong, PackageTooLong, parts_of, json_mark, field_mark, value_mark, EnumNamesBreak, MessageNames, MessageNamesBreak, names_of}
-use Rattle.proto_checks.specs.Elements.{BodyBreaks, EnumBreaks, ServiceBreaks, bodies, bodies_of}
+use Rattle.proto_checks.specs.Checks.{FileBreaks, import_mark, IsTooLong, IsPartTooLong, PackageTooLong, parts_of, json_mark, field_mark, value_mark, EnumNamesBreak, MessageNames, MessageNamesBreak, names_of}
+use Rattle.proto_checks.specs.Elements.{BodyBreaks, MessageBreaks, EnumBreaks, ServiceBreaks, bodies, bodies_of}
 use Rattle.proto_checks.specs.Marks.{Marked}
 use Rattle.proto_base.specs.declared.spot.Spot.{Spot}
 use Rattle.proto_checks.proofs.Items.{nested_bodies}
@@ -225,21 +226,24 @@ service_declares n scope s all = (
 
 -- ---- files
 
-package_in_within : (n : ℕ) (s : Statement) → StatementWithin (upto n) s → AllByRecursion (λ p. Within (upto n) (package_tree p)) (package_in s)
-package_in_within n (statement.Package p) all = (all, tt)
-package_in_within n s all = tt
+file_package_within : (n : ℕ) (s : Statement) → StatementWithin (upto n) s → AllByRecursion (λ p. Within (upto n) (package_tree p)) (file_package s)
+file_package_within n (statement.Package p) all = (all, tt)
+file_package_within n s all = tt
 
-body_in_within : (n : ℕ) (s : Statement) → StatementWithin (upto n) s → BodiesWithin n (body_in s)
-body_in_within n (statement.Message m) all = bodies_within n m all
-body_in_within n s all = tt
+abbrev MessageWithin : ℕ → Message → Type 0
+MessageWithin n m = BodiesWithin n (bodies m.items)
 
-enum_in_within : (n : ℕ) (s : Statement) → StatementWithin (upto n) s → AllByRecursion (λ e. Within (upto n) (enum_tree e)) (enum_in s)
-enum_in_within n (statement.Enum e) all = (all, tt)
-enum_in_within n s all = tt
+file_message_within : (n : ℕ) (s : Statement) → StatementWithin (upto n) s → AllByRecursion (MessageWithin n) (file_message s)
+file_message_within n (statement.Message m) all = (bodies_within n m all, tt)
+file_message_within n s all = tt
 
-service_in_within : (n : ℕ) (s : Statement) → StatementWithin (upto n) s → AllByRecursion (λ t. Within (upto n) (service_tree t)) (service_in s)
-service_in_within n (statement.Service t) all = (all, tt)
-service_in_within n s all = tt
+file_enum_within : (n : ℕ) (s : Statement) → StatementWithin (upto n) s → AllByRecursion (λ e. Within (upto n) (enum_tree e)) (file_enum s)
+file_enum_within n (statement.Enum e) all = (all, tt)
+file_enum_within n s all = tt
+
+file_service_within : (n : ℕ) (s : Statement) → StatementWithin (upto n) s → AllByRecursion (λ t. Within (upto n) (service_tree t)) (file_service s)
+file_service_within n (statement.Service t) all = (all, tt)
+file_service_within n s all = tt
 
 file_setting_within : (n : ℕ) (s : Statement) → StatementWithin (upto n) s → AllByRecursion (SettingWithin n) (file_setting s)
 file_setting_within n (statement.Option o) all = (statement_within n o all, tt)
@@ -292,24 +296,25 @@ pub breaks_within : (n : ℕ) (limits : Limits) (name : List ℕ) (tree : FileTr
 breaks_within n limits name tree x all broken = elim broken [
   | FileBreaks.not_proto3 b ↦ at_spot n tree.syntax.version.first.span.start _ x
       (left_of (upto n) (syntax_tree tree.syntax) (row statement_tree tree.statements) all).1.1.0 b.1
-  | FileBreaks.package_twice b ↦ later_within _ (λ (p : Package). p.keyword.start) kind.PackageTwice n (flat_map package_in tree.statements) x
-      (each_weaker (λ p. Within (upto n) (package_tree p)) (λ (p : Package). Placed n p.keyword.start) (flat_map package_in tree.statements) (λ p w. w.0) packages) b
+  | FileBreaks.package_twice b ↦ later_within _ (λ (p : Package). p.keyword.start) kind.PackageTwice n (flat_map file_package tree.statements) x
+      (each_weaker (λ p. Within (upto n) (package_tree p)) (λ (p : Package). Placed n p.keyword.start) (flat_map file_package tree.statements) (λ p w. w.0) packages) b
   | FileBreaks.import_twice b ↦ text_twice n _ (map import_mark (lowered name tree).imports) x
       (marks_within n import_mark (lowered name tree).imports (each_place (upto n) import_place (lowered name tree).imports desc.imports)) b
   | FileBreaks.options b ↦ settings_break n element.File (flat_map file_setting tree.statements) x
       (each_given (StatementWithin (upto n)) (SettingWithin n) file_setting tree.statements (file_setting_within n) ss) b
-  | FileBreaks.in_message b ↦ each_within (ItemsWithin n) BodyBreaks n (flat_map body_in tree.statements) x
-      (each_given (StatementWithin (upto n)) (ItemsWithin n) body_in tree.statements (body_in_within n) ss) (body_breaks n x) b
-  | FileBreaks.in_enum b ↦ each_within (λ e. Within (upto n) (enum_tree e)) EnumBreaks n (flat_map enum_in tree.statements) x
-      (each_given (StatementWithin (upto n)) (λ e. Within (upto n) (enum_tree e)) enum_in tree.statements (enum_in_within n) ss) (enum_breaks n x) b
-  | FileBreaks.in_service b ↦ each_within (λ t. Within (upto n) (service_tree t)) ServiceBreaks n (flat_map service_in tree.statements) x
-      (each_given (StatementWithin (upto n)) (λ t. Within (upto n) (service_tree t)) service_in tree.statements (service_in_within n) ss) (service_breaks n x) b
+  | FileBreaks.in_message b ↦ each_within (MessageWithin n) MessageBreaks n (flat_map file_message tree.statements) x
+      (each_given (StatementWithin (upto n)) (MessageWithin n) file_message tree.statements (file_message_within n) ss)
+      (λ m within c. each_within (ItemsWithin n) BodyBreaks n (bodies m.items) x within (body_breaks n x) c) b
+  | FileBreaks.in_enum b ↦ each_within (λ e. Within (upto n) (enum_tree e)) EnumBreaks n (flat_map file_enum tree.statements) x
+      (each_given (StatementWithin (upto n)) (λ e. Within (upto n) (enum_tree e)) file_enum tree.statements (file_enum_within n) ss) (enum_breaks n x) b
+  | FileBreaks.in_service b ↦ each_within (λ t. Within (upto n) (service_tree t)) ServiceBreaks n (flat_map file_service tree.statements) x
+      (each_given (StatementWithin (upto n)) (λ t. Within (upto n) (service_tree t)) file_service tree.statements (file_service_within n) ss) (service_breaks n x) b
   | FileBreaks.message_names b ↦ each_within (NamesAt n) MessageNamesBreak n (flat_map names_of (lowered name tree).messages) x
       (each_given (λ m. AtMost n (message_places m)) (NamesAt n) names_of (lowered name tree).messages (λ m w. (desc_at n m w).0)
       (each_places (upto n) message_places (lowered name tree).messages desc.messages)) (names_break n x) b
   | FileBreaks.enum_names b ↦ each_within (EnumWithin (upto n)) EnumNamesBreak n (lowered name tree).enums x
       (each_places (upto n) enum_places (lowered name tree).enums desc.enums) (enum_names_break n x) b
-  | FileBreaks.package_long b ↦ each_within (λ p. Within (upto n) (package_tree p)) (PackageTooLong limits) n (flat_map package_in tree.statements) x packages
+  | FileBreaks.package_long b ↦ each_within (λ p. Within (upto n) (package_tree p)) (PackageTooLong limits) n (flat_map file_package tree.statements) x packages
       (package_long n limits x) b
   | FileBreaks.name_long b ↦ each_within (λ (d : Declared). Placed n d.place) (IsTooLong limits) n (declared_by (lowered name tree)) x
       (declared_at n (lowered name tree) desc) (λ d within s. at_spot n d.place _ x within s.1) b
@@ -319,8 +324,8 @@ breaks_within n limits name tree x all broken = elim broken [
     ss =
         each_row (StatementWithin (upto n)) statement_tree (upto n) tree.statements (λ s w. w) (right_of (upto n) (syntax_tree tree.syntax) (row statement_tree tree.statements) all)
 
-    packages : AllByRecursion (λ p. Within (upto n) (package_tree p)) (flat_map package_in tree.statements)
-    packages = each_given (StatementWithin (upto n)) (λ p. Within (upto n) (package_tree p)) package_in tree.statements (package_in_within n)
+    packages : AllByRecursion (λ p. Within (upto n) (package_tree p)) (flat_map file_package tree.statements)
+    packages = each_given (StatementWithin (upto n)) (λ p. Within (upto n) (package_tree p)) file_package tree.statements (file_package_within n)
         (each_row (StatementWithin (upto n)) statement_tree (upto n) tree.statements (λ s w. w)
         (right_of (upto n) (syntax_tree tree.syntax) (row statement_tree tree.statements) all))
 

@@ -47,10 +47,10 @@ use Rattle.proto_desc.specs.declared.field.FieldLabel.TheVariants.{Optional, Rep
 use Rattle.proto_desc.specs.declared.rules.Element.TheVariants as element
 use Rattle.proto_desc.specs.declared.type_name.TypeKind.TheVariants as type_kind
 use Rattle.proto_desc.specs.declared.type_name.TypeReference.TheVariants.{Resolved}
-use Rattle.proto_lower.specs.Fields.{described, label_of, is_optional, made_index, made_by, inner, member_of, fields_from}
+use Rattle.proto_lower.specs.Fields.{described, label_of, is_optional, inner, member_at, fields_from}
 use Rattle.proto_lower.specs.Names.{entry_name_of}
 use Rattle.proto_desc.specs.Places.{field_places}
-use Rattle.proto_syntax.specs.Trees.{word_tree, str_tree, enum_item_tree, enum_tree, message_tree, streamed_tree, rpc_type_tree, rpc_body_tree, rpc_tree, service_item_tree, service_tree, syntax_tree, statement_tree, file_tree}
+use Rattle.proto_syntax.specs.Trees.{word_tree, str_tree, enum_item_tree, enum_tree, message_tree, streamed_tree, rpc_type_tree, rpc_body_tree, rpc_tree, service_item_tree, service_tree, statement_tree}
 use Rattle.proto_tree.specs.declared.enumeration.Enum.{Enum}
 use Rattle.proto_tree.specs.declared.enumeration.EnumItem.{EnumItem}
 use Rattle.proto_tree.specs.declared.enumeration.EnumItem.TheVariants as enum_item
@@ -78,12 +78,13 @@ use Rattle.proto_desc.specs.declared.message.MessageDesc.TheFolds.{fold_out-Mess
 use Rattle.proto_desc.specs.declared.oneof.OneofDesc.{OneofDesc}
 use Rattle.proto_desc.specs.declared.service.MethodDesc.{MethodDesc}
 use Rattle.proto_desc.specs.declared.service.ServiceDesc.{ServiceDesc}
-use Rattle.proto_lower.specs.Enums.{value_of_item, lowered_enum}
+use Rattle.proto_options.specs.Statements.{file_message, file_enum, file_service, message_oneof, message_enum, oneof_field, enum_value, service_rpc}
+use Rattle.proto_lower.specs.Enums.{value_desc, lowered_enum}
 use Rattle.proto_lower.specs.Fields.{reference_of, real_count}
-use Rattle.proto_lower.specs.Files.{package_of, package_scope, import_of, file_message, file_enum, file_service, lowered}
-use Rattle.proto_lower.specs.Messages.{all_fields, entry_of, enum_of, nested_of, lowered_message}
-use Rattle.proto_lower.specs.Oneofs.{real_of, with_one, with_made}
-use Rattle.proto_lower.specs.Services.{method_desc, method_of, lowered_service}
+use Rattle.proto_lower.specs.Files.{package_of, package_scope, import_of, lowered}
+use Rattle.proto_lower.specs.Messages.{all_fields, entry_of, nested_of, lowered_message}
+use Rattle.proto_lower.specs.Oneofs.{real_named, real_oneofs, with_one, with_made}
+use Rattle.proto_lower.specs.Services.{method_desc, lowered_service}
 use Rattle.proto_desc.specs.Places.{reference_places, oneof_place, value_place, enum_places, places_step, message_places, method_places, service_places, package_places, import_place, places_of}
 use Rattle.proto_lower.proofs.Nested.{nested_message}
 
@@ -261,7 +262,8 @@ statement_field_within region None (field_type.Named t) d all = unlabelled_withi
 statement_field_within region None (field_type.Scalar s span) d all = headed_within region None (field_type.Scalar s span) d all
 statement_field_within region (Some l) t d all = headed_within region (Some l) t d all
 
-pub member_within : (region : ℕ → Type 0) (number : ℕ) (i : OneofItem) → Within region (oneof_item_tree i) → AllByRecursion (FieldWithin region) (member_of number i)
+pub member_within : (region : ℕ → Type 0) (number : ℕ) (i : OneofItem) → Within region (oneof_item_tree i)
+    → AllByRecursion (λ f. FieldWithin region (member_at number f)) (oneof_field i)
 member_within region number (oneof_item.Field f) all = (
   described_within region f.declarator Optional (kind_of f.field_type) (Some number) false (right_of region (type_tree f.field_type) (declarator_tree f.declarator) all)
       (kind_within region f.field_type (left_of region (type_tree f.field_type) (declarator_tree f.declarator) all)),
@@ -282,8 +284,8 @@ fields_within : (region : ℕ → Type 0) (full : List ℕ) (real made : ℕ) (i
 fields_within region full real made [] all = tt
 fields_within region full real made (message_item.Field f ∷ is) all =
     let parts = statement_field_within region f.label f.field_type f.declarator (subst (Within region) (item_field f) all.0) in (
-      described_within region f.declarator (label_of f.label) (kind_of f.field_type) (made_index (is_optional f.label) made) (is_optional f.label) parts.1 parts.0,
-      fields_within region full real (made + made_by (is_optional f.label)) is all.1,
+      described_within region f.declarator (label_of f.label) (kind_of f.field_type) (cond (is_optional f.label) (Some made) None) (is_optional f.label) parts.1 parts.0,
+      fields_within region full real (made + cond (is_optional f.label) 1 0) is all.1,
     )
 fields_within region full real made (message_item.Map m ∷ is) all =
     let tree : Within region (map_tree m) = subst (Within region) (item_map m) all.0 in (
@@ -292,9 +294,10 @@ fields_within region full real made (message_item.Map m ∷ is) all =
       fields_within region full real made is all.1,
     )
 fields_within region full real made (message_item.Oneof o ∷ is) all =
-    both (FieldWithin region) (flat_map (member_of real) o.items) (fields_from full (real + 1) made is)
-    (each_flat (FieldWithin region) (member_of real) o.items (each_row (λ i. AllByRecursion (FieldWithin region) (member_of real i)) oneof_item_tree region o.items
-    (member_within region real) (oneof_items_within region o (subst (Within region) (item_oneof o) all.0))))
+    both (FieldWithin region) (map (member_at real) (flat_map oneof_field o.items)) (fields_from full (real + 1) made is)
+    (each_map (FieldWithin region) (member_at real) (flat_map oneof_field o.items) (each_flat (λ f. FieldWithin region (member_at real f)) oneof_field o.items
+    (each_row (λ i. AllByRecursion (λ f. FieldWithin region (member_at real f)) (oneof_field i)) oneof_item_tree region o.items
+    (member_within region real) (oneof_items_within region o (subst (Within region) (item_oneof o) all.0)))))
     (fields_within region full (real + 1) made is all.1)
 fields_within region full real made (i ∷ is) all = fields_within region full real made is all.1
 
@@ -303,7 +306,7 @@ fields_within region full real made (i ∷ is) all = fields_within region full r
 abbrev OneofWithin : (ℕ → Type 0) → OneofDesc → Type 0
 OneofWithin region o = region (oneof_place o)
 
-real_within : (region : ℕ → Type 0) (i : MessageItem) → ItemWithin region i → AllByRecursion (OneofWithin region) (real_of i)
+real_within : (region : ℕ → Type 0) (i : MessageItem) → ItemWithin region i → AllByRecursion (λ o. OneofWithin region (real_named o.name)) (message_oneof i)
 real_within region (message_item.Oneof o) all = let tree : Within region (oneof_tree o) = subst (Within region) (item_oneof o) all in (tree.1.0, tt)
 real_within region i all = tt
 
@@ -318,7 +321,7 @@ made_within region names so_far [] made fields = made
 made_within region names so_far (f ∷ fs) made fields =
     made_within region names (with_one names so_far f f.proto3_optional) fs (one_within region names so_far f f.proto3_optional made fields.0) fields.1
 
-value_within : (region : ℕ → Type 0) (i : EnumItem) → Within region (enum_item_tree i) → AllByRecursion (λ v. region (value_place v)) (value_of_item i)
+value_within : (region : ℕ → Type 0) (i : EnumItem) → Within region (enum_item_tree i) → AllByRecursion (λ v. region (value_place (value_desc v))) (enum_value i)
 value_within region (enum_item.Value v) all = (all.0, tt)
 value_within region (enum_item.Option o) all = tt
 value_within region (enum_item.Reserved r) all = tt
@@ -330,15 +333,16 @@ EnumWithin region e = AreIn region (enum_places e)
 enum_within : (region : ℕ → Type 0) (e : Enum) → Within region (enum_tree e) → EnumWithin region (lowered_enum e)
 enum_within region e all = (
   all.1.0,
-  each_map region value_place (flat_map value_of_item e.items)
-      (each_flat (λ v. region (value_place v)) value_of_item e.items
-      (each_row (λ i. AllByRecursion (λ v. region (value_place v)) (value_of_item i)) enum_item_tree region e.items (value_within region)
-      (left_of region (row enum_item_tree e.items) (symbol_tree (byte "}") e.close_brace) all.1.1.1))),
+  each_map region value_place (map value_desc (flat_map enum_value e.items))
+      (each_map (λ v. region (value_place v)) value_desc (flat_map enum_value e.items)
+      (each_flat (λ v. region (value_place (value_desc v))) enum_value e.items
+      (each_row (λ i. AllByRecursion (λ v. region (value_place (value_desc v))) (enum_value i)) enum_item_tree region e.items (value_within region)
+      (left_of region (row enum_item_tree e.items) (symbol_tree (byte "}") e.close_brace) all.1.1.1)))),
 )
 
-enum_of_within : (region : ℕ → Type 0) (i : MessageItem) → ItemWithin region i → AllByRecursion (EnumWithin region) (enum_of i)
-enum_of_within region (message_item.Enum e) all = (enum_within region e (subst (Within region) (item_enum e) all), tt)
-enum_of_within region i all = tt
+message_enum_within : (region : ℕ → Type 0) (i : MessageItem) → ItemWithin region i → AllByRecursion (λ e. EnumWithin region (lowered_enum e)) (message_enum i)
+message_enum_within region (message_item.Enum e) all = (enum_within region e (subst (Within region) (item_enum e) all), tt)
+message_enum_within region i all = tt
 
 -- ---- messages
 
@@ -425,11 +429,11 @@ message_nested region k name o xs c all scope =
     desc_within region _ (
       all.1.0,
       fields,
-      made_within region _ (flat_map real_of (map (λ e. e.0) xs)) (all_fields (inner scope name.text) (map (λ e. e.0) xs))
-          (each_flat (OneofWithin region) real_of (map (λ e. e.0) xs)
-          (each_weaker (ItemWithin region) (λ i. AllByRecursion (OneofWithin region) (real_of i)) (map (λ e. e.0) xs) (real_within region) each)) fields,
-      each_flat (EnumWithin region) enum_of (map (λ e. e.0) xs) (each_weaker (ItemWithin region) (λ i. AllByRecursion (EnumWithin region) (enum_of i)) (map (λ e. e.0) xs)
-          (enum_of_within region) each),
+      made_within region _ (real_oneofs (map (λ e. e.0) xs)) (all_fields (inner scope name.text) (map (λ e. e.0) xs))
+          (each_map (OneofWithin region) (λ o. real_named o.name) (flat_map message_oneof (map (λ e. e.0) xs))
+          (each_given (ItemWithin region) (λ o. OneofWithin region (real_named o.name)) message_oneof (map (λ e. e.0) xs) (real_within region) each)) fields,
+      each_map (EnumWithin region) lowered_enum (flat_map message_enum (map (λ e. e.0) xs))
+          (each_given (ItemWithin region) (λ e. EnumWithin region (lowered_enum e)) message_enum (map (λ e. e.0) xs) (message_enum_within region) each),
       all_nested region (inner scope name.text) xs rows,
     )
 
@@ -475,7 +479,7 @@ rpc_within region r all =
           (rpc_type_within region r.output (left_of region (rpc_type_tree r.output) (rpc_body_tree r.body) behind.1)),
     )
 
-method_within : (region : ℕ → Type 0) (i : ServiceItem) → Within region (service_item_tree i) → AllByRecursion (MethodWithin region) (method_of i)
+method_within : (region : ℕ → Type 0) (i : ServiceItem) → Within region (service_item_tree i) → AllByRecursion (λ r. MethodWithin region (method_desc r)) (service_rpc i)
 method_within region (service_item.Rpc r) all = (rpc_within region r all, tt)
 method_within region (service_item.Option o) all = tt
 method_within region (service_item.Empty s) all = tt
@@ -486,10 +490,11 @@ ServiceWithin region s = AreIn region (service_places s)
 service_within : (region : ℕ → Type 0) (s : Service) → Within region (service_tree s) → ServiceWithin region (lowered_service s)
 service_within region s all = (
   all.1.0,
-  each_flat region method_places (flat_map method_of s.items)
-      (each_flat (MethodWithin region) method_of s.items
-      (each_row (λ i. AllByRecursion (MethodWithin region) (method_of i)) service_item_tree region s.items (method_within region)
-      (left_of region (row service_item_tree s.items) (symbol_tree (byte "}") s.close_brace) all.1.1.1))),
+  each_flat region method_places (map method_desc (flat_map service_rpc s.items))
+      (each_map (MethodWithin region) method_desc (flat_map service_rpc s.items)
+      (each_flat (λ r. MethodWithin region (method_desc r)) service_rpc s.items
+      (each_row (λ i. AllByRecursion (λ r. MethodWithin region (method_desc r)) (service_rpc i)) service_item_tree region s.items (method_within region)
+      (left_of region (row service_item_tree s.items) (symbol_tree (byte "}") s.close_brace) all.1.1.1)))),
 )
 
 -- ---- files
@@ -517,15 +522,16 @@ import_of_within : (region : ℕ → Type 0) (s : Statement) → StatementWithin
 import_of_within region (statement.Import i) all = (import_within region i.public i.path i.semicolon all.1, tt)
 import_of_within region s all = tt
 
-file_message_within : (region : ℕ → Type 0) (scope : List ℕ) (s : Statement) → StatementWithin region s → AllByRecursion (DescWithin region) (file_message scope s)
+file_message_within : (region : ℕ → Type 0) (scope : List ℕ) (s : Statement) → StatementWithin region s
+    → AllByRecursion (λ m. DescWithin region (lowered_message scope m)) (file_message s)
 file_message_within region scope (statement.Message m) all = (message_within region m all scope, tt)
 file_message_within region scope s all = tt
 
-file_enum_within : (region : ℕ → Type 0) (s : Statement) → StatementWithin region s → AllByRecursion (EnumWithin region) (file_enum s)
+file_enum_within : (region : ℕ → Type 0) (s : Statement) → StatementWithin region s → AllByRecursion (λ e. EnumWithin region (lowered_enum e)) (file_enum s)
 file_enum_within region (statement.Enum e) all = (enum_within region e all, tt)
 file_enum_within region s all = tt
 
-file_service_within : (region : ℕ → Type 0) (s : Statement) → StatementWithin region s → AllByRecursion (ServiceWithin region) (file_service s)
+file_service_within : (region : ℕ → Type 0) (s : Statement) → StatementWithin region s → AllByRecursion (λ t. ServiceWithin region (lowered_service t)) (file_service s)
 file_service_within region (statement.Service s) all = (service_within region s all, tt)
 file_service_within region s all = tt
 
@@ -542,12 +548,14 @@ lowered_within region name file all =
     let scope : List ℕ = package_scope (package_of file.statements) in
     let of_imports : AreIn region (map import_place (flat_map import_of file.statements)) =
     each_map region import_place _ (given region (λ i. region (import_place i)) import_of file.statements (import_of_within region) ss) in
-    let of_messages : AreIn region (flat_map message_places (flat_map (file_message (package_scope (package_of file.statements))) file.statements)) =
-    each_flat region message_places _ (given region (DescWithin region) (file_message (package_scope (package_of file.statements))) file.statements
-    (file_message_within region (package_scope (package_of file.statements))) ss) in
-    let of_enums : AreIn region (flat_map enum_places (flat_map file_enum file.statements)) =
-    each_flat region enum_places _ (given region (EnumWithin region) file_enum file.statements (file_enum_within region) ss) in
-    let of_services : AreIn region (flat_map service_places (flat_map file_service file.statements)) =
-    each_flat region service_places _ (given region (ServiceWithin region) file_service file.statements (file_service_within region) ss) in
+    let of_messages : AreIn region (flat_map message_places (map (lowered_message scope) (flat_map file_message file.statements))) =
+    each_flat region message_places _ (each_map (DescWithin region) (lowered_message scope) (flat_map file_message file.statements)
+    (given region (λ m. DescWithin region (lowered_message scope m)) file_message file.statements (file_message_within region scope) ss)) in
+    let of_enums : AreIn region (flat_map enum_places (map lowered_enum (flat_map file_enum file.statements))) =
+    each_flat region enum_places _ (each_map (EnumWithin region) lowered_enum (flat_map file_enum file.statements)
+    (given region (λ e. EnumWithin region (lowered_enum e)) file_enum file.statements (file_enum_within region) ss)) in
+    let of_services : AreIn region (flat_map service_places (map lowered_service (flat_map file_service file.statements))) =
+    each_flat region service_places _ (each_map (ServiceWithin region) lowered_service (flat_map file_service file.statements)
+    (given region (λ t. ServiceWithin region (lowered_service t)) file_service file.statements (file_service_within region) ss)) in
     both region _ _ (both region _ _ (both region _ _ (both region _ _ (package_within region file.statements ss) of_imports) of_messages)
     of_enums) of_services

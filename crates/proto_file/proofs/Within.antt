@@ -1,5 +1,5 @@
 -- The spots of a file's broken rules lie within a text in which the tokens of its tree begin: what stands in the tree.
-use Rattle.std.proofs.Common.{subst, ℕ, List, inl, inr}
+use Rattle.std.proofs.Common.{subst, ℕ, List, [], ◌∷◌, map, inl, inr}
 use Rattle.std.specs.Prelude.{flat_map, Option, None, Some, codes}
 use Rattle.std.specs.List.{AllByRecursion}
 use Rattle.std.specs.Str.{byte}
@@ -48,13 +48,12 @@ use Rattle.proto_syntax.proofs.Items.{item_field, item_map, item_oneof, item_enu
 use Rattle.proto_desc.specs.declared.rules.Element.{Element}
 use Rattle.proto_desc.specs.declared.rules.Element.TheVariants as element
 use Rattle.proto_options.specs.Options.{next_item, separated, bracketed, message_setting, enum_setting, service_setting, rpc_setting, oneof_setting}
-use Rattle.proto_options.specs.Statements.{rpc_items}
-use Rattle.proto_file.proofs.PlacesWithin.{Within, left_of, right_of, each_given, each_row, each_flat, each_map, each_weaker, upto, ItemWithin, oneof_items_within, statement_field_within}
-use Rattle.proto_checks.specs.Elements.{OneofBreaks, ValueBreaks, EnumBreaks, BodyBreaks, RpcBreaks, ServiceBreaks, value_of_item, enum_of, rpc_of}
-use Rattle.proto_options.specs.Statements.{oneof_of}
-use Rattle.proto_checks.specs.Gathered.{literal, member_number, field_number, field_numbers, ranges_listed, names_listed, reserved_name, message_ranges_listed, message_names_listed, end_bound, upper_bound_number, bounds_of, message_range, message_ranges, message_bounds, message_reserved_names, sign_place, signed_number, value_number, value_numbers, enum_ranges_listed, enum_names_listed, enum_range, enum_ranges, enum_bounds, enum_reserved_names}
-use Rattle.proto_checks.specs.Numbers.{FieldNumbersBreak, EnumNumbersBreak, IsNoFieldNumber}
-use Rattle.proto_checks.specs.Options.{name_place, value_place, SettingBreaks, SettingsBreak, OptionedField, optioned_member, optioned_fields, FieldOptionsBreak, IsWronglyPacked, IsWronglyTyped}
+use Rattle.proto_options.specs.Statements.{message_oneof, message_enum, oneof_field, enum_value, service_rpc, rpc_items, message_reserved, enum_reserved, ranges_in, names_in, greatest_field_number, bound_by, end_by}
+use Rattle.proto_file.proofs.PlacesWithin.{Within, left_of, right_of, each_given, each_row, each_map, each_weaker, upto, ItemWithin, oneof_items_within, statement_field_within}
+use Rattle.proto_checks.specs.Elements.{OneofBreaks, ValueBreaks, EnumBreaks, BodyBreaks, RpcBreaks, ServiceBreaks}
+use Rattle.proto_checks.specs.Gathered.{literal, with_sign, signed_number, greatest_value, field_number, field_numbers, value_numbers, marked_range, bounds_of, reserved_name, message_ranges, message_bounds, message_reserved_names, enum_ranges, enum_bounds, enum_reserved_names}
+use Rattle.proto_checks.specs.Numbers.{ReservedBreak, FieldNumbersBreak, EnumNumbersBreak, IsNoFieldNumber}
+use Rattle.proto_checks.specs.Options.{name_place, value_place, SettingBreaks, SettingsBreak, OptionedField, optioned_in_oneof, optioned_fields, FieldOptionsBreak, IsWronglyPacked, IsWronglyTyped}
 use Rattle.proto_checks.specs.Marks.{Marked}
 use Rattle.proto_checks.specs.declared.marks.MarkedNumber.{MarkedNumber}
 use Rattle.proto_checks.specs.declared.marks.MarkedRange.{MarkedRange}
@@ -110,52 +109,44 @@ settings_break n e ss x all (inr broken) =
 
 -- ---- fields
 
-abbrev OptionedWithin : ℕ → OptionedField → Type 0
-OptionedWithin n f = AllByRecursion (SettingWithin n) (bracketed f.declarator.options)
+-- its number, and its settings
+abbrev DeclaratorWithin : ℕ → Declarator → Type 0
+DeclaratorWithin n d = Placed n d.number.span.start × AllByRecursion (SettingWithin n) (bracketed d.options)
 
-options_within : (n : ℕ) (d : Declarator) → Within (upto n) (declarator_tree d) → AllByRecursion (SettingWithin n) (bracketed d.options)
-options_within n d all = bracketed_within n d.options (left_of (upto n) (optional options_tree d.options) (symbol_tree (byte ";") d.semicolon) all.1.1.1)
+abbrev OptionedWithin : ℕ → OptionedField → Type 0
+OptionedWithin n f = DeclaratorWithin n f.declarator
+
+declarator_within : (n : ℕ) (d : Declarator) → Within (upto n) (declarator_tree d) → DeclaratorWithin n d
+declarator_within n d all =
+    (all.1.1.0, bracketed_within n d.options (left_of (upto n) (optional options_tree d.options) (symbol_tree (byte ";") d.semicolon) all.1.1.1))
 
 optioned_breaks : (n : ℕ) (x : Spot) (f : OptionedField) → OptionedWithin n f → FieldOptionsBreak f x → SpotWithin n x
-optioned_breaks n x f all (FieldOptionsBreak.settings broken) = settings_break n element.Field (bracketed f.declarator.options) x all broken
+optioned_breaks n x f all (FieldOptionsBreak.settings broken) = settings_break n element.Field (bracketed f.declarator.options) x all.1 broken
 optioned_breaks n x f all (FieldOptionsBreak.packed broken) =
-    each_within (SettingWithin n) (IsWronglyPacked f.can_be_packed) n (bracketed f.declarator.options) x all
+    each_within (SettingWithin n) (IsWronglyPacked f.can_be_packed) n (bracketed f.declarator.options) x all.1
     (λ s within w. at_spot n (name_place s) _ x within.0 w.3) broken
 optioned_breaks n x f all (FieldOptionsBreak.jstype broken) =
-    each_within (SettingWithin n) (IsWronglyTyped f.is_wide_integer) n (bracketed f.declarator.options) x all
+    each_within (SettingWithin n) (IsWronglyTyped f.is_wide_integer) n (bracketed f.declarator.options) x all.1
     (λ s within w. at_spot n (name_place s) _ x within.0 w.3) broken
 
 -- the declarators of a message's fields
 member_tree_within : (n : ℕ) (o : Oneof) → Within (upto n) (oneof_tree o) → AllByRecursion (λ i. Within (upto n) (oneof_item_tree i)) o.items
 member_tree_within n o all = each_row (λ i. Within (upto n) (oneof_item_tree i)) oneof_item_tree (upto n) o.items (λ i w. w) (oneof_items_within (upto n) o all)
 
-optioned_member_within : (n : ℕ) (i : OneofItem) → Within (upto n) (oneof_item_tree i) → AllByRecursion (OptionedWithin n) (optioned_member i)
-optioned_member_within n (oneof_item.Field f) all = (options_within n f.declarator (right_of (upto n) (type_tree f.field_type) (declarator_tree f.declarator) all), tt)
-optioned_member_within n (oneof_item.Option o) all = tt
-optioned_member_within n (oneof_item.Empty s) all = tt
+oneof_field_within : (n : ℕ) (i : OneofItem) → Within (upto n) (oneof_item_tree i) → AllByRecursion (λ f. OptionedWithin n (optioned_in_oneof f)) (oneof_field i)
+oneof_field_within n (oneof_item.Field f) all = (declarator_within n f.declarator (right_of (upto n) (type_tree f.field_type) (declarator_tree f.declarator) all), tt)
+oneof_field_within n (oneof_item.Option o) all = tt
+oneof_field_within n (oneof_item.Empty s) all = tt
 
 optioned_within : (n : ℕ) (i : MessageItem) → ItemWithin (upto n) i → AllByRecursion (OptionedWithin n) (optioned_fields i)
 optioned_within n (message_item.Field f) all =
-    (options_within n f.declarator (statement_field_within (upto n) f.label f.field_type f.declarator (subst (Within (upto n)) (item_field f) all)).1, tt)
+    (declarator_within n f.declarator (statement_field_within (upto n) f.label f.field_type f.declarator (subst (Within (upto n)) (item_field f) all)).1, tt)
 optioned_within n (message_item.Map m) all =
-    (options_within n m.declarator (right_of (upto n) (Left (map_type_tree m.map_type)) (declarator_tree m.declarator) (subst (Within (upto n)) (item_map m) all).1), tt)
-optioned_within n (message_item.Oneof o) all = each_given (λ i. Within (upto n) (oneof_item_tree i)) (OptionedWithin n) optioned_member o.items (optioned_member_within n)
-    (member_tree_within n o (subst (Within (upto n)) (item_oneof o) all))
+    (declarator_within n m.declarator (right_of (upto n) (Left (map_type_tree m.map_type)) (declarator_tree m.declarator) (subst (Within (upto n)) (item_map m) all).1), tt)
+optioned_within n (message_item.Oneof o) all = each_map (OptionedWithin n) optioned_in_oneof (flat_map oneof_field o.items)
+    (each_given (λ i. Within (upto n) (oneof_item_tree i)) (λ f. OptionedWithin n (optioned_in_oneof f)) oneof_field o.items (oneof_field_within n)
+    (member_tree_within n o (subst (Within (upto n)) (item_oneof o) all)))
 optioned_within n i all = tt
-
-member_number_within : (n : ℕ) (i : OneofItem) → Within (upto n) (oneof_item_tree i) → NumbersWithin n (member_number i)
-member_number_within n (oneof_item.Field f) all = ((right_of (upto n) (type_tree f.field_type) (declarator_tree f.declarator) all).1.1.0, tt)
-member_number_within n (oneof_item.Option o) all = tt
-member_number_within n (oneof_item.Empty s) all = tt
-
-field_number_within : (n : ℕ) (i : MessageItem) → ItemWithin (upto n) i → NumbersWithin n (field_number i)
-field_number_within n (message_item.Field f) all =
-    ((statement_field_within (upto n) f.label f.field_type f.declarator (subst (Within (upto n)) (item_field f) all)).1.1.1.0, tt)
-field_number_within n (message_item.Map m) all =
-    ((right_of (upto n) (Left (map_type_tree m.map_type)) (declarator_tree m.declarator) (subst (Within (upto n)) (item_map m) all).1).1.1.0, tt)
-field_number_within n (message_item.Oneof o) all = each_given (λ i. Within (upto n) (oneof_item_tree i)) (λ (m : MarkedNumber). Placed n m.place) member_number o.items
-    (member_number_within n) (member_tree_within n o (subst (Within (upto n)) (item_oneof o) all))
-field_number_within n i all = tt
 
 -- ---- what is reserved
 
@@ -163,21 +154,21 @@ reserved_items_within : {N : Type 0} (f : N → Tree) (n : ℕ) (r : Reserved N)
 reserved_items_within f n r all = left_of (upto n) (reserved_items_tree f r.items) (symbol_tree (byte ";") r.semicolon) all.1
 
 ranges_within : {N : Type 0} (f : N → Tree) (n : ℕ) (i : ReservedItems N) → Within (upto n) (reserved_items_tree f i)
-    → AllByRecursion (λ r. Within (upto n) (range_tree f r)) (ranges_listed i)
+    → AllByRecursion (λ r. Within (upto n) (range_tree f r)) (ranges_in i)
 ranges_within f n (reserved_items.Ranges s) all = separated_within (λ r. Within (upto n) (range_tree f r)) (range_tree f) n s (λ r w. w) all
 ranges_within f n (reserved_items.Names s) all = tt
 
 names_within : {N : Type 0} (f : N → Tree) (n : ℕ) (i : ReservedItems N) → Within (upto n) (reserved_items_tree f i)
-    → AllByRecursion (λ (s : StringValue). Placed n s.first.span.start) (names_listed i)
+    → AllByRecursion (λ (s : StringValue). Placed n s.first.span.start) (names_in i)
 names_within f n (reserved_items.Ranges s) all = tt
 names_within f n (reserved_items.Names s) all = separated_within (λ (s : StringValue). Placed n s.first.span.start) str_tree n s (λ s w. w.0) all
 
 end_within : {N : Type 0} (f : N → Tree) (n : ℕ) (e : Option (RangeEnd N)) → Within (upto n) (optional (range_end_tree f) e)
-    → AllByRecursion (λ x. Within (upto n) (f x)) (end_bound e)
+    → AllByRecursion (λ x. Within (upto n) (f x)) (end_by [] (λ x. x ∷ []) [] e)
 end_within {N} f n None all = tt
 end_within {N} f n (Some e) all = by_bound e.bound all.1
   where
-    by_bound : (b : UpperBound N) → Within (upto n) (bound_tree f b) → AllByRecursion (λ x. Within (upto n) (f x)) (upper_bound_number b)
+    by_bound : (b : UpperBound N) → Within (upto n) (bound_tree f b) → AllByRecursion (λ x. Within (upto n) (f x)) (bound_by (λ x. x ∷ []) [] b)
     by_bound (upper_bound.Number x) w = (w, tt)
     by_bound (upper_bound.Max s) w = tt
 
@@ -185,52 +176,77 @@ bounds_within : {N : Type 0} (f : N → Tree) (n : ℕ) (r : Range N) → Within
 bounds_within f n r all =
     (left_of (upto n) (f r.start) (optional (range_end_tree f) r.end) all, end_within f n r.end (right_of (upto n) (f r.start) (optional (range_end_tree f) r.end) all))
 
+-- the ranges and names of statements that reserve
+abbrev ReservedWithin : {N : Type 0} → (N → Tree) → ℕ → ReservedItems N → Type 0
+ReservedWithin f n i = Within (upto n) (reserved_items_tree f i)
+
+listed_within : {N : Type 0} (f : N → Tree) (n : ℕ) (is : List (ReservedItems N)) → AllByRecursion (ReservedWithin f n) is
+    → AllByRecursion (λ r. Within (upto n) (range_tree f r)) (flat_map ranges_in is)
+listed_within f n is all = each_given (ReservedWithin f n) (λ r. Within (upto n) (range_tree f r)) ranges_in is (ranges_within f n) all
+
+all_bounds_within : {N : Type 0} (f : N → Tree) (mark : N → MarkedNumber) (n : ℕ) (is : List (ReservedItems N))
+    → ((x : N) → Within (upto n) (f x) → Placed n (mark x).place) → AllByRecursion (ReservedWithin f n) is
+    → NumbersWithin n (map mark (flat_map bounds_of (flat_map ranges_in is)))
+all_bounds_within {N} f mark n is h all =
+    each_map (λ (m : MarkedNumber). Placed n m.place) mark (flat_map bounds_of (flat_map ranges_in is))
+    (each_given (λ r. Within (upto n) (range_tree f r)) (λ (x : N). Placed n (mark x).place) bounds_of (flat_map ranges_in is)
+    (λ r w. each_weaker (λ x. Within (upto n) (f x)) (λ (x : N). Placed n (mark x).place) (bounds_of r) h
+    (bounds_within f n r w)) (listed_within f n is all))
+
+all_ranges_within : {N : Type 0} (f : N → Tree) (mark : N → MarkedNumber) (greatest n : ℕ) (is : List (ReservedItems N))
+    → ((x : N) → Within (upto n) (f x) → Placed n (mark x).place) → AllByRecursion (ReservedWithin f n) is
+    → RangesWithin n (map (marked_range mark greatest) (flat_map ranges_in is))
+all_ranges_within {N} f mark greatest n is h all =
+    each_map (λ (r : MarkedRange). Placed n r.place) (marked_range mark greatest) (flat_map ranges_in is)
+    (each_weaker (λ r. Within (upto n) (range_tree f r)) (λ (r : Range N). Placed n (mark r.start).place) (flat_map ranges_in is)
+    (λ r w. h r.start (left_of (upto n) (f r.start) (optional (range_end_tree f) r.end) w)) (listed_within f n is all))
+
+all_names_within : {N : Type 0} (f : N → Tree) (n : ℕ) (is : List (ReservedItems N)) → AllByRecursion (ReservedWithin f n) is
+    → TextsWithin n (map reserved_name (flat_map names_in is))
+all_names_within f n is all = each_map (λ (t : Marked). Placed n t.place) reserved_name (flat_map names_in is)
+    (each_given (ReservedWithin f n) (λ (s : StringValue). Placed n s.first.span.start) names_in is (names_within f n) all)
+
+reserved_break : (n : ℕ) (ranges : List MarkedRange) (names : List Marked) (used : List MarkedNumber) (x : Spot) → RangesWithin n ranges
+    → TextsWithin n names → NumbersWithin n used → ReservedBreak ranges names used x → SpotWithin n x
+reserved_break n ranges names used x at_ranges at_names at_used (ReservedBreak.number_used b) = number_used n ranges used x at_used b
+reserved_break n ranges names used x at_ranges at_names at_used (ReservedBreak.overlap b) = overlap n ranges x at_ranges b
+reserved_break n ranges names used x at_ranges at_names at_used (ReservedBreak.backwards b) = backwards n ranges x at_ranges b
+reserved_break n ranges names used x at_ranges at_names at_used (ReservedBreak.name_twice b) = text_twice n _ names x at_names b
+
 -- of a message
-message_ranges_within : (n : ℕ) (i : MessageItem) → ItemWithin (upto n) i → AllByRecursion (λ r. Within (upto n) (range_tree number_tree r)) (message_ranges_listed i)
-message_ranges_within n (message_item.Reserved r) all =
-    ranges_within number_tree n r.items (reserved_items_within number_tree n r (subst (Within (upto n)) (item_reserved r) all))
-message_ranges_within n i all = tt
-
-message_names_within : (n : ℕ) (i : MessageItem) → ItemWithin (upto n) i → AllByRecursion (λ (s : StringValue). Placed n s.first.span.start) (message_names_listed i)
-message_names_within n (message_item.Reserved r) all =
-    names_within number_tree n r.items (reserved_items_within number_tree n r (subst (Within (upto n)) (item_reserved r) all))
-message_names_within n i all = tt
-
 abbrev pub ItemsWithin : ℕ → List MessageItem → Type 0
 ItemsWithin n is = AllByRecursion (ItemWithin (upto n)) is
 
-listed_within : (n : ℕ) (is : List MessageItem) → ItemsWithin n is
-    → AllByRecursion (λ r. Within (upto n) (range_tree number_tree r)) (flat_map message_ranges_listed is)
-listed_within n is all = each_given (ItemWithin (upto n)) (λ r. Within (upto n) (range_tree number_tree r)) message_ranges_listed is (message_ranges_within n) all
+message_reserved_within : (n : ℕ) (i : MessageItem) → ItemWithin (upto n) i → AllByRecursion (ReservedWithin number_tree n) (message_reserved i)
+message_reserved_within n (message_item.Reserved r) all = (reserved_items_within number_tree n r (subst (Within (upto n)) (item_reserved r) all), tt)
+message_reserved_within n i all = tt
+
+all_reserved_within : (n : ℕ) (is : List MessageItem) → ItemsWithin n is → AllByRecursion (ReservedWithin number_tree n) (flat_map message_reserved is)
+all_reserved_within n is all = each_given (ItemWithin (upto n)) (ReservedWithin number_tree n) message_reserved is (message_reserved_within n) all
+
+all_optioned_within : (n : ℕ) (is : List MessageItem) → ItemsWithin n is → AllByRecursion (OptionedWithin n) (flat_map optioned_fields is)
+all_optioned_within n is all = each_given (ItemWithin (upto n)) (OptionedWithin n) optioned_fields is (optioned_within n) all
 
 field_numbers_within : (n : ℕ) (is : List MessageItem) → ItemsWithin n is → NumbersWithin n (field_numbers is)
-field_numbers_within n is all = each_given (ItemWithin (upto n)) (λ (m : MarkedNumber). Placed n m.place) field_number is (field_number_within n) all
+field_numbers_within n is all = each_map (λ (m : MarkedNumber). Placed n m.place) field_number (flat_map optioned_fields is)
+    (each_weaker (OptionedWithin n) (λ (f : OptionedField). Placed n f.declarator.number.span.start) (flat_map optioned_fields is) (λ f w. w.0)
+    (all_optioned_within n is all))
 
-all_ranges_within : (n : ℕ) (is : List MessageItem) → ItemsWithin n is → RangesWithin n (message_ranges is)
-all_ranges_within n is all = each_map (λ (r : MarkedRange). Placed n r.place) message_range (flat_map message_ranges_listed is)
-    (each_weaker _ (λ r. Placed n r.start.span.start) (flat_map message_ranges_listed is) (λ r w. w.0) (listed_within n is all))
-
-all_bounds_within : (n : ℕ) (is : List MessageItem) → ItemsWithin n is → NumbersWithin n (message_bounds is)
-all_bounds_within n is all =
-    each_map (λ (m : MarkedNumber). Placed n m.place) literal (flat_map bounds_of (flat_map message_ranges_listed is))
-    (each_given (λ r. Within (upto n) (range_tree number_tree r)) (λ (x : NumberLiteral). Placed n x.span.start) bounds_of (flat_map message_ranges_listed is)
-    (λ r w. each_weaker (λ x. Within (upto n) (number_tree x)) (λ (x : NumberLiteral). Placed n x.span.start) (bounds_of r) (λ x v. v.0)
-    (bounds_within number_tree n r w)) (listed_within n is all))
-
-all_names_within : (n : ℕ) (is : List MessageItem) → ItemsWithin n is → TextsWithin n (message_reserved_names is)
-all_names_within n is all = each_map (λ (t : Marked). Placed n t.place) reserved_name (flat_map message_names_listed is)
-    (each_given (ItemWithin (upto n)) (λ (s : StringValue). Placed n s.first.span.start) message_names_listed is (message_names_within n) all)
+literal_within : (n : ℕ) (x : NumberLiteral) → Within (upto n) (number_tree x) → Placed n (literal x).place
+literal_within n x all = all.0
 
 field_numbers_break : (n : ℕ) (is : List MessageItem) (x : Spot) → ItemsWithin n is → FieldNumbersBreak is x → SpotWithin n x
 field_numbers_break n is x all (FieldNumbersBreak.number_range b) =
     each_within (λ (m : MarkedNumber). Placed n m.place) IsNoFieldNumber n (field_numbers is) x (field_numbers_within n is all)
     (λ m within s. at_spot n m.place _ x within s.1) b
-field_numbers_break n is x all (FieldNumbersBreak.bound_range b) = outside n _ _ _ (message_bounds is) x (all_bounds_within n is all) b
+field_numbers_break n is x all (FieldNumbersBreak.bound_range b) =
+    outside n _ _ _ (message_bounds is) x (all_bounds_within number_tree literal n (flat_map message_reserved is) (literal_within n) (all_reserved_within n is all)) b
 field_numbers_break n is x all (FieldNumbersBreak.number_twice b) = number_twice n _ (field_numbers is) x (field_numbers_within n is all) b
-field_numbers_break n is x all (FieldNumbersBreak.number_used b) = number_used n (message_ranges is) (field_numbers is) x (field_numbers_within n is all) b
-field_numbers_break n is x all (FieldNumbersBreak.overlap b) = overlap n (message_ranges is) x (all_ranges_within n is all) b
-field_numbers_break n is x all (FieldNumbersBreak.backwards b) = backwards n (message_ranges is) x (all_ranges_within n is all) b
-field_numbers_break n is x all (FieldNumbersBreak.name_twice b) = text_twice n _ (message_reserved_names is) x (all_names_within n is all) b
+field_numbers_break n is x all (FieldNumbersBreak.reserved b) =
+    let reserved = all_reserved_within n is all in
+    reserved_break n (message_ranges is) (message_reserved_names is) (field_numbers is) x
+    (all_ranges_within number_tree literal greatest_field_number n (flat_map message_reserved is) (literal_within n) reserved)
+    (all_names_within number_tree n (flat_map message_reserved is) reserved) (field_numbers_within n is all) b
 
 -- of an enum
 abbrev EnumItemWithin : ℕ → EnumItem → Type 0
@@ -239,68 +255,59 @@ EnumItemWithin n i = Within (upto n) (enum_item_tree i)
 abbrev EnumItemsWithin : ℕ → List EnumItem → Type 0
 EnumItemsWithin n is = AllByRecursion (EnumItemWithin n) is
 
+-- its number, and its settings
+abbrev ValueWithin : ℕ → EnumValue → Type 0
+ValueWithin n v = Placed n (signed_number v.number).place × AllByRecursion (SettingWithin n) (bracketed v.options)
+
 sign_within : (n : ℕ) (minus : Option Span) (digits : NumberLiteral) → Within (upto n) (Pair (optional (symbol_tree (byte "-")) minus) (number_tree digits))
-    → Placed n (sign_place minus digits.span)
+    → Placed n (with_sign minus digits).place
 sign_within n None digits all = all.0
 sign_within n (Some s) digits all = all.0
 
-signed_within : (n : ℕ) (s : SignedNumber) → Within (upto n) (signed_tree s) → Placed n (sign_place s.minus s.number.span)
+signed_within : (n : ℕ) (s : SignedNumber) → Within (upto n) (signed_tree s) → Placed n (signed_number s).place
 signed_within n s all = sign_within n s.minus s.number all
 
-value_number_within : (n : ℕ) (i : EnumItem) → EnumItemWithin n i → NumbersWithin n (value_number i)
-value_number_within n (enum_item.Value v) all =
-    (signed_within n v.number (left_of (upto n) (signed_tree v.number) (Pair (optional options_tree v.options) (symbol_tree (byte ";") v.semicolon)) all.1.1), tt)
-value_number_within n (enum_item.Option o) all = tt
-value_number_within n (enum_item.Reserved r) all = tt
-value_number_within n (enum_item.Empty s) all = tt
+value_within_enum : (n : ℕ) (i : EnumItem) → EnumItemWithin n i → AllByRecursion (λ v. ValueWithin n v) (enum_value i)
+value_within_enum n (enum_item.Value v) all = (
+  (
+    signed_within n v.number (left_of (upto n) (signed_tree v.number) (Pair (optional options_tree v.options) (symbol_tree (byte ";") v.semicolon)) all.1.1),
+    bracketed_within n v.options (left_of (upto n) (optional options_tree v.options) (symbol_tree (byte ";") v.semicolon)
+        (right_of (upto n) (signed_tree v.number) (Pair (optional options_tree v.options) (symbol_tree (byte ";") v.semicolon)) all.1.1)),
+  ),
+  tt,
+)
+value_within_enum n (enum_item.Option o) all = tt
+value_within_enum n (enum_item.Reserved r) all = tt
+value_within_enum n (enum_item.Empty s) all = tt
 
-enum_ranges_within : (n : ℕ) (i : EnumItem) → EnumItemWithin n i → AllByRecursion (λ r. Within (upto n) (range_tree signed_tree r)) (enum_ranges_listed i)
-enum_ranges_within n (enum_item.Reserved r) all = ranges_within signed_tree n r.items (reserved_items_within signed_tree n r all)
-enum_ranges_within n (enum_item.Value v) all = tt
-enum_ranges_within n (enum_item.Option o) all = tt
-enum_ranges_within n (enum_item.Empty s) all = tt
-
-enum_names_within : (n : ℕ) (i : EnumItem) → EnumItemWithin n i → AllByRecursion (λ (s : StringValue). Placed n s.first.span.start) (enum_names_listed i)
-enum_names_within n (enum_item.Reserved r) all = names_within signed_tree n r.items (reserved_items_within signed_tree n r all)
-enum_names_within n (enum_item.Value v) all = tt
-enum_names_within n (enum_item.Option o) all = tt
-enum_names_within n (enum_item.Empty s) all = tt
-
-enum_listed_within : (n : ℕ) (is : List EnumItem) → EnumItemsWithin n is
-    → AllByRecursion (λ r. Within (upto n) (range_tree signed_tree r)) (flat_map enum_ranges_listed is)
-enum_listed_within n is all = each_given (EnumItemWithin n) (λ r. Within (upto n) (range_tree signed_tree r)) enum_ranges_listed is (enum_ranges_within n) all
+all_values_within : (n : ℕ) (is : List EnumItem) → EnumItemsWithin n is → AllByRecursion (ValueWithin n) (flat_map enum_value is)
+all_values_within n is all = each_given (EnumItemWithin n) (ValueWithin n) enum_value is (value_within_enum n) all
 
 values_within : (n : ℕ) (is : List EnumItem) → EnumItemsWithin n is → NumbersWithin n (value_numbers is)
-values_within n is all = each_given (EnumItemWithin n) (λ (m : MarkedNumber). Placed n m.place) value_number is (value_number_within n) all
+values_within n is all = each_map (λ (m : MarkedNumber). Placed n m.place) (λ (v : EnumValue). signed_number v.number) (flat_map enum_value is)
+    (each_weaker (ValueWithin n) (λ (v : EnumValue). Placed n (signed_number v.number).place) (flat_map enum_value is) (λ v w. w.0) (all_values_within n is all))
 
-all_enum_ranges_within : (n : ℕ) (is : List EnumItem) → EnumItemsWithin n is → RangesWithin n (enum_ranges is)
-all_enum_ranges_within n is all =
-    each_map (λ (r : MarkedRange). Placed n r.place) enum_range (flat_map enum_ranges_listed is)
-    (each_weaker _ (λ r. Placed n (sign_place r.start.minus r.start.number.span)) (flat_map enum_ranges_listed is)
-    (λ r w. signed_within n r.start (left_of (upto n) (signed_tree r.start) (optional (range_end_tree signed_tree) r.end) w)) (enum_listed_within n is all))
+enum_reserved_within : (n : ℕ) (i : EnumItem) → EnumItemWithin n i → AllByRecursion (ReservedWithin signed_tree n) (enum_reserved i)
+enum_reserved_within n (enum_item.Reserved r) all = (reserved_items_within signed_tree n r all, tt)
+enum_reserved_within n (enum_item.Value v) all = tt
+enum_reserved_within n (enum_item.Option o) all = tt
+enum_reserved_within n (enum_item.Empty s) all = tt
 
-all_enum_bounds_within : (n : ℕ) (is : List EnumItem) → EnumItemsWithin n is → NumbersWithin n (enum_bounds is)
-all_enum_bounds_within n is all =
-    each_map (λ (m : MarkedNumber). Placed n m.place) signed_number (flat_map bounds_of (flat_map enum_ranges_listed is))
-    (each_given (λ r. Within (upto n) (range_tree signed_tree r)) (λ (x : SignedNumber). Placed n (sign_place x.minus x.number.span)) bounds_of
-    (flat_map enum_ranges_listed is)
-    (λ r w. each_weaker (λ x. Within (upto n) (signed_tree x)) (λ (x : SignedNumber). Placed n (sign_place x.minus x.number.span)) (bounds_of r)
-    (λ x v. signed_within n x v) (bounds_within signed_tree n r w)) (enum_listed_within n is all))
-
-all_enum_names_within : (n : ℕ) (is : List EnumItem) → EnumItemsWithin n is → TextsWithin n (enum_reserved_names is)
-all_enum_names_within n is all = each_map (λ (t : Marked). Placed n t.place) reserved_name (flat_map enum_names_listed is)
-    (each_given (EnumItemWithin n) (λ (s : StringValue). Placed n s.first.span.start) enum_names_listed is (enum_names_within n) all)
+all_enum_reserved_within : (n : ℕ) (is : List EnumItem) → EnumItemsWithin n is → AllByRecursion (ReservedWithin signed_tree n) (flat_map enum_reserved is)
+all_enum_reserved_within n is all = each_given (EnumItemWithin n) (ReservedWithin signed_tree n) enum_reserved is (enum_reserved_within n) all
 
 enum_numbers_break : (n : ℕ) (is : List EnumItem) (x : Spot) → EnumItemsWithin n is → EnumNumbersBreak is x → SpotWithin n x
 enum_numbers_break n is x all (EnumNumbersBreak.first_not_zero b) =
     at_spot n b.0.place _ x (standing (λ (m : MarkedNumber). Placed n m.place) (value_numbers is) 0 b.0 (values_within n is all) b.1) b.3
 enum_numbers_break n is x all (EnumNumbersBreak.value_range b) = outside n _ _ _ (value_numbers is) x (values_within n is all) b
-enum_numbers_break n is x all (EnumNumbersBreak.bound_range b) = outside n _ _ _ (enum_bounds is) x (all_enum_bounds_within n is all) b
+enum_numbers_break n is x all (EnumNumbersBreak.bound_range b) =
+    outside n _ _ _ (enum_bounds is) x (all_bounds_within signed_tree signed_number n (flat_map enum_reserved is) (signed_within n) (all_enum_reserved_within n is all)) b
 enum_numbers_break n is x all (EnumNumbersBreak.number_twice apart b) = number_twice n _ (value_numbers is) x (values_within n is all) b
-enum_numbers_break n is x all (EnumNumbersBreak.number_used b) = number_used n (enum_ranges is) (value_numbers is) x (values_within n is all) b
-enum_numbers_break n is x all (EnumNumbersBreak.overlap b) = overlap n (enum_ranges is) x (all_enum_ranges_within n is all) b
-enum_numbers_break n is x all (EnumNumbersBreak.backwards b) = backwards n (enum_ranges is) x (all_enum_ranges_within n is all) b
-enum_numbers_break n is x all (EnumNumbersBreak.name_twice b) = text_twice n _ (enum_reserved_names is) x (all_enum_names_within n is all) b
+enum_numbers_break n is x all (EnumNumbersBreak.reserved b) =
+    let reserved = all_enum_reserved_within n is all in
+    reserved_break n (enum_ranges is) (enum_reserved_names is) (value_numbers is) x
+    (all_ranges_within signed_tree signed_number greatest_value n (flat_map enum_reserved is) (signed_within n) reserved)
+    (all_names_within signed_tree n (flat_map enum_reserved is) reserved) (values_within n is all) b
 
 -- ---- elements
 
@@ -309,19 +316,6 @@ enum_setting_within n (enum_item.Option o) all = (statement_within n o all, tt)
 enum_setting_within n (enum_item.Value v) all = tt
 enum_setting_within n (enum_item.Reserved r) all = tt
 enum_setting_within n (enum_item.Empty s) all = tt
-
-abbrev ValueWithin : ℕ → EnumValue → Type 0
-ValueWithin n v = AllByRecursion (SettingWithin n) (bracketed v.options)
-
-value_options_within : (n : ℕ) (i : EnumItem) → EnumItemWithin n i → AllByRecursion (ValueWithin n) (value_of_item i)
-value_options_within n (enum_item.Value v) all = (
-  bracketed_within n v.options (left_of (upto n) (optional options_tree v.options) (symbol_tree (byte ";") v.semicolon)
-      (right_of (upto n) (signed_tree v.number) (Pair (optional options_tree v.options) (symbol_tree (byte ";") v.semicolon)) all.1.1)),
-  tt,
-)
-value_options_within n (enum_item.Option o) all = tt
-value_options_within n (enum_item.Reserved r) all = tt
-value_options_within n (enum_item.Empty s) all = tt
 
 enum_items_within : (n : ℕ) (e : Enum) → Within (upto n) (enum_tree e) → EnumItemsWithin n e.items
 enum_items_within n e all =
@@ -333,9 +327,8 @@ enum_breaks n x e all (EnumBreaks.numbers b) = enum_numbers_break n e.items x (e
 enum_breaks n x e all (EnumBreaks.options b) = settings_break n element.Enum (flat_map enum_setting e.items) x
     (each_given (EnumItemWithin n) (SettingWithin n) enum_setting e.items (enum_setting_within n) (enum_items_within n e all)) b
 enum_breaks n x e all (EnumBreaks.value_options b) =
-    each_within (ValueWithin n) ValueBreaks n (flat_map value_of_item e.items) x
-    (each_given (EnumItemWithin n) (ValueWithin n) value_of_item e.items (value_options_within n) (enum_items_within n e all))
-    (λ v within s. settings_break n element.EnumValue (bracketed v.options) x within s) b
+    each_within (ValueWithin n) ValueBreaks n (flat_map enum_value e.items) x (all_values_within n e.items (enum_items_within n e all))
+    (λ v within s. settings_break n element.EnumValue (bracketed v.options) x within.1 s) b
 
 oneof_setting_within : (n : ℕ) (i : OneofItem) → Within (upto n) (oneof_item_tree i) → AllByRecursion (SettingWithin n) (oneof_setting i)
 oneof_setting_within n (oneof_item.Option o) all = (statement_within n o all, tt)
@@ -351,24 +344,24 @@ message_setting_within : (n : ℕ) (i : MessageItem) → ItemWithin (upto n) i �
 message_setting_within n (message_item.Option o) all = (statement_within n o (subst (Within (upto n)) (item_option o) all), tt)
 message_setting_within n i all = tt
 
-oneof_of_within : (n : ℕ) (i : MessageItem) → ItemWithin (upto n) i → AllByRecursion (λ o. Within (upto n) (oneof_tree o)) (oneof_of i)
-oneof_of_within n (message_item.Oneof o) all = (subst (Within (upto n)) (item_oneof o) all, tt)
-oneof_of_within n i all = tt
+message_oneof_within : (n : ℕ) (i : MessageItem) → ItemWithin (upto n) i → AllByRecursion (λ o. Within (upto n) (oneof_tree o)) (message_oneof i)
+message_oneof_within n (message_item.Oneof o) all = (subst (Within (upto n)) (item_oneof o) all, tt)
+message_oneof_within n i all = tt
 
-enum_of_within : (n : ℕ) (i : MessageItem) → ItemWithin (upto n) i → AllByRecursion (λ e. Within (upto n) (enum_tree e)) (enum_of i)
-enum_of_within n (message_item.Enum e) all = (subst (Within (upto n)) (item_enum e) all, tt)
-enum_of_within n i all = tt
+message_enum_within : (n : ℕ) (i : MessageItem) → ItemWithin (upto n) i → AllByRecursion (λ e. Within (upto n) (enum_tree e)) (message_enum i)
+message_enum_within n (message_item.Enum e) all = (subst (Within (upto n)) (item_enum e) all, tt)
+message_enum_within n i all = tt
 
 pub body_breaks : (n : ℕ) (x : Spot) (is : List MessageItem) → ItemsWithin n is → BodyBreaks is x → SpotWithin n x
 body_breaks n x is all (BodyBreaks.numbers b) = field_numbers_break n is x all b
 body_breaks n x is all (BodyBreaks.options b) = settings_break n element.Message (flat_map message_setting is) x
     (each_given (ItemWithin (upto n)) (SettingWithin n) message_setting is (message_setting_within n) all) b
 body_breaks n x is all (BodyBreaks.field_options b) = each_within (OptionedWithin n) FieldOptionsBreak n (flat_map optioned_fields is) x
-    (each_given (ItemWithin (upto n)) (OptionedWithin n) optioned_fields is (optioned_within n) all) (optioned_breaks n x) b
-body_breaks n x is all (BodyBreaks.in_oneof b) = each_within (λ o. Within (upto n) (oneof_tree o)) OneofBreaks n (flat_map oneof_of is) x
-    (each_given (ItemWithin (upto n)) (λ o. Within (upto n) (oneof_tree o)) oneof_of is (oneof_of_within n) all) (oneof_breaks n x) b
-body_breaks n x is all (BodyBreaks.in_enum b) = each_within (λ e. Within (upto n) (enum_tree e)) EnumBreaks n (flat_map enum_of is) x
-    (each_given (ItemWithin (upto n)) (λ e. Within (upto n) (enum_tree e)) enum_of is (enum_of_within n) all) (enum_breaks n x) b
+    (all_optioned_within n is all) (optioned_breaks n x) b
+body_breaks n x is all (BodyBreaks.in_oneof b) = each_within (λ o. Within (upto n) (oneof_tree o)) OneofBreaks n (flat_map message_oneof is) x
+    (each_given (ItemWithin (upto n)) (λ o. Within (upto n) (oneof_tree o)) message_oneof is (message_oneof_within n) all) (oneof_breaks n x) b
+body_breaks n x is all (BodyBreaks.in_enum b) = each_within (λ e. Within (upto n) (enum_tree e)) EnumBreaks n (flat_map message_enum is) x
+    (each_given (ItemWithin (upto n)) (λ e. Within (upto n) (enum_tree e)) message_enum is (message_enum_within n) all) (enum_breaks n x) b
 
 -- ---- services
 
@@ -386,14 +379,14 @@ rpc_body_within n (rpc_body.Block b) all =
 abbrev RpcWithin : ℕ → Rpc → Type 0
 RpcWithin n r = AllByRecursion (SettingWithin n) (flat_map rpc_setting (rpc_items r.body))
 
-rpc_of_within : (n : ℕ) (i : ServiceItem) → Within (upto n) (service_item_tree i) → AllByRecursion (RpcWithin n) (rpc_of i)
-rpc_of_within n (service_item.Rpc r) all = (
+service_rpc_within : (n : ℕ) (i : ServiceItem) → Within (upto n) (service_item_tree i) → AllByRecursion (RpcWithin n) (service_rpc i)
+service_rpc_within n (service_item.Rpc r) all = (
   rpc_body_within n r.body (right_of (upto n) (rpc_type_tree r.output) (rpc_body_tree r.body)
       (right_of (upto n) (rpc_type_tree r.input) (Pair (word_tree (codes "returns") r.returns) (Pair (rpc_type_tree r.output) (rpc_body_tree r.body))) all.1.1).1),
   tt,
 )
-rpc_of_within n (service_item.Option o) all = tt
-rpc_of_within n (service_item.Empty s) all = tt
+service_rpc_within n (service_item.Option o) all = tt
+service_rpc_within n (service_item.Empty s) all = tt
 
 service_setting_within : (n : ℕ) (i : ServiceItem) → Within (upto n) (service_item_tree i) → AllByRecursion (SettingWithin n) (service_setting i)
 service_setting_within n (service_item.Option o) all = (statement_within n o all, tt)
@@ -407,6 +400,6 @@ service_items_within n s all = each_row (λ i. Within (upto n) (service_item_tre
 pub service_breaks : (n : ℕ) (x : Spot) (s : Service) → Within (upto n) (service_tree s) → ServiceBreaks s x → SpotWithin n x
 service_breaks n x s all (ServiceBreaks.options b) = settings_break n element.Service (flat_map service_setting s.items) x
     (each_given (λ i. Within (upto n) (service_item_tree i)) (SettingWithin n) service_setting s.items (service_setting_within n) (service_items_within n s all)) b
-service_breaks n x s all (ServiceBreaks.in_rpc b) = each_within (RpcWithin n) RpcBreaks n (flat_map rpc_of s.items) x
-    (each_given (λ i. Within (upto n) (service_item_tree i)) (RpcWithin n) rpc_of s.items (rpc_of_within n) (service_items_within n s all))
+service_breaks n x s all (ServiceBreaks.in_rpc b) = each_within (RpcWithin n) RpcBreaks n (flat_map service_rpc s.items) x
+    (each_given (λ i. Within (upto n) (service_item_tree i)) (RpcWithin n) service_rpc s.items (service_rpc_within n) (service_items_within n s all))
     (λ r within t. settings_break n element.Method (flat_map rpc_setting (rpc_items r.body)) x within t) b

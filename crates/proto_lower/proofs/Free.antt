@@ -14,7 +14,8 @@ use Rattle.std.proofs.lemmas.Map.Text.{btree_set_updates_text}
 use Rattle.std.proofs.lemmas.Bool.{false_from_ne_true, true≢false}
 use Rattle.std.proofs.lemmas.Bool.Decides.{nat_tests}
 use Rattle.std.proofs.lemmas.Slice.Eq.{bytes_eq-Decides}
-use Rattle.proto_lower.specs.Names.{first_free, with_underscore, is_among, begins_as_made, IsSetOf}
+use Rattle.proto_lower.specs.Names.{first_free, with_underscore, is_among}
+use Rattle.proto_lower.specs.Taken.{begins_as_made, IsSetOf}
 
 -- one more name
 or_false : (b : Bool) → (b || false) ≡ b

@@ -1,5 +1,5 @@
 -- The members of the oneofs of the source.
-use Rattle.std.proofs.Common.{◌≡◌, ◌∙◌, ap, refl, ◌<◌, ◌+◌, ◌++◌, ℕ, zero, suc, Bool, true, false, List, [], ◌∷◌, map, length, arith}
+use Rattle.std.proofs.Common.{◌≡◌, ◌∙◌, ap, refl, ◌<◌, ◌+◌, ◌++◌, ℕ, zero, suc, Bool, true, false, List, [], ◌∷◌, length, arith}
 use Rattle.std.specs.Prelude.{◌==◌, Some, flat_map, slice_get}
 use Rattle.std.proofs.lemmas.List.{append-nil, length-map}
 use Rattle.std.proofs.lemmas.Option.{slice_get_within, slice_get-map}
@@ -10,61 +10,38 @@ use Rattle.proto_tree.specs.declared.oneof.Oneof.{Oneof}
 use Rattle.proto_tree.specs.declared.oneof.OneofItem.{OneofItem}
 use Rattle.proto_tree.specs.declared.oneof.OneofItem.TheVariants as oneof_item
 use Rattle.proto_desc.specs.declared.field.FieldDesc.{FieldDesc}
-use Rattle.proto_lower.specs.Fields.{is_optional, field_at, made_index, made_by, member_of, described, kind_of, real_count, fields_from}
+use Rattle.proto_lower.specs.Fields.{is_optional, field_at, described, kind_of, real_count, fields_from}
 use Rattle.proto_desc.specs.declared.field.FieldLabel.TheVariants.{Optional}
-use Rattle.proto_options.specs.Statements.{oneof_of}
+use Rattle.proto_options.specs.Statements.{message_oneof}
 use Rattle.proto_lower.specs.Laws.{has_index, fields_in}
-use Rattle.proto_lower.specs.Oneofs.{real_named, real_of}
-use Rattle.proto_lower.proofs.OneofIndexes.{apart, apart_above, passed, kept}
+use Rattle.proto_lower.specs.Oneofs.{real_named, real_oneofs}
+use Rattle.proto_lower.proofs.OneofIndexes.{made_index, made_by, members, apart, apart_above, passed, kept}
 
 -- the oneofs of the source, lowered
-flat_map-real_of : (is : List MessageItem) → flat_map real_of is ≡ map (λ o. real_named o.name) (flat_map oneof_of is)
-flat_map-real_of [] = refl
-flat_map-real_of (message_item.Oneof o ∷ is) = ap (λ os. real_named o.name ∷ os) (flat_map-real_of is)
-flat_map-real_of (message_item.Field f ∷ is) = flat_map-real_of is
-flat_map-real_of (message_item.Map m ∷ is) = flat_map-real_of is
-flat_map-real_of (message_item.Option o ∷ is) = flat_map-real_of is
-flat_map-real_of (message_item.Message' boxed message ∷ is) = flat_map-real_of is
-flat_map-real_of (message_item.Enum e ∷ is) = flat_map-real_of is
-flat_map-real_of (message_item.Reserved r ∷ is) = flat_map-real_of is
-flat_map-real_of (message_item.Empty s ∷ is) = flat_map-real_of is
-
-pub slice_get-real_of : (is : List MessageItem) (k : ℕ) (o : Oneof) → slice_get (flat_map oneof_of is) k ≡ Some o
-    → slice_get (flat_map real_of is) k ≡ Some (real_named o.name)
-slice_get-real_of is k o at =
-    ap (λ os. slice_get os k) (flat_map-real_of is) ∙ slice_get-map (λ (p : Oneof). real_named p.name) (flat_map oneof_of is) k
+pub slice_get-real_oneofs : (is : List MessageItem) (k : ℕ) (o : Oneof) → slice_get (flat_map message_oneof is) k ≡ Some o
+    → slice_get (real_oneofs is) k ≡ Some (real_named o.name)
+slice_get-real_oneofs is k o at = slice_get-map (λ (p : Oneof). real_named p.name) (flat_map message_oneof is) k
     ∙ ap (option_map (λ (p : Oneof). real_named p.name)) at
 
-length-oneof_of : (is : List MessageItem) → length (flat_map oneof_of is) ≡ real_count is
-length-oneof_of [] = refl
-length-oneof_of (message_item.Oneof o ∷ is) = omega (arith, length-oneof_of is)
-length-oneof_of (message_item.Field f ∷ is) = length-oneof_of is
-length-oneof_of (message_item.Map m ∷ is) = length-oneof_of is
-length-oneof_of (message_item.Option o ∷ is) = length-oneof_of is
-length-oneof_of (message_item.Message' boxed message ∷ is) = length-oneof_of is
-length-oneof_of (message_item.Enum e ∷ is) = length-oneof_of is
-length-oneof_of (message_item.Reserved r ∷ is) = length-oneof_of is
-length-oneof_of (message_item.Empty s ∷ is) = length-oneof_of is
-
-pub length-real_of : (is : List MessageItem) → length (flat_map real_of is) ≡ real_count is
-length-real_of is = ap length (flat_map-real_of is) ∙ length-map (flat_map oneof_of is) (λ (o : Oneof). real_named o.name) ∙ length-oneof_of is
+pub length-real_oneofs : (is : List MessageItem) → length (real_oneofs is) ≡ real_count is
+length-real_oneofs is = length-map (flat_map message_oneof is) (λ (o : Oneof). real_named o.name)
 
 -- of a oneof's members and further fields: all members are in it, and none is in another
 own-members : (k : ℕ) (is : List OneofItem) (rest : List FieldDesc)
-    → fields_in k (flat_map (member_of k) is ++ rest) ≡ flat_map (member_of k) is ++ fields_in k rest
+    → fields_in k (members k is ++ rest) ≡ members k is ++ fields_in k rest
 own-members k [] rest = refl
 own-members k (oneof_item.Field f ∷ is) rest =
     let member : FieldDesc = described f.declarator Optional (kind_of f.field_type) (Some k) false in
-    kept k member (flat_map (member_of k) is ++ rest) refl ∙ ap (λ fs. member ∷ fs) (own-members k is rest)
+    kept k member (members k is ++ rest) refl ∙ ap (λ fs. member ∷ fs) (own-members k is rest)
 own-members k (oneof_item.Option o ∷ is) rest = own-members k is rest
 own-members k (oneof_item.Empty s ∷ is) rest = own-members k is rest
 
 other-members : (k real : ℕ) (is : List OneofItem) (rest : List FieldDesc) → (real == k) ≡ false
-    → fields_in k (flat_map (member_of real) is ++ rest) ≡ fields_in k rest
+    → fields_in k (members real is ++ rest) ≡ fields_in k rest
 other-members k real [] rest other = refl
 other-members k real (oneof_item.Field f ∷ is) rest other =
     let member : FieldDesc = described f.declarator Optional (kind_of f.field_type) (Some real) false in
-    passed k member (flat_map (member_of real) is ++ rest) other ∙ other-members k real is rest other
+    passed k member (members real is ++ rest) other ∙ other-members k real is rest other
 other-members k real (oneof_item.Option o ∷ is) rest other = other-members k real is rest other
 other-members k real (oneof_item.Empty s ∷ is) rest other = other-members k real is rest other
 
@@ -89,8 +66,8 @@ none-from full k real next (message_item.Reserved r ∷ is) before below = none-
 none-from full k real next (message_item.Empty s ∷ is) before below = none-from full k real next is before below
 
 -- the fields with the index of a oneof of the source are its members
-members-from : (full : List ℕ) (real next j k : ℕ) (is : List MessageItem) (o : Oneof) → k ≡ real + j → k < next → slice_get (flat_map oneof_of is) j ≡ Some o
-    → fields_in k (fields_from full real next is) ≡ flat_map (member_of k) o.items
+members-from : (full : List ℕ) (real next j k : ℕ) (is : List MessageItem) (o : Oneof) → k ≡ real + j → k < next → slice_get (flat_map message_oneof is) j ≡ Some o
+    → fields_in k (fields_from full real next is) ≡ members k o.items
 members-from full real next j k [] o at below stands = cc
 members-from full real next j k (message_item.Field f ∷ is) o at below stands =
     passed k (field_at next f) (fields_from full real (next + made_by (is_optional f.label)) is) (made-apart k next (is_optional f.label) below)
@@ -99,10 +76,10 @@ members-from full real next j k (message_item.Map m ∷ is) o at below stands = 
 members-from full real next zero k (message_item.Oneof p ∷ is) o at below stands =
     let same : p ≡ o = cc in
     let here : real ≡ k = omega (arith, at) in
-    ap (λ n. fields_in k (flat_map (member_of n) p.items ++ fields_from full (real + 1) next is)) here
+    ap (λ n. fields_in k (members n p.items ++ fields_from full (real + 1) next is)) here
     ∙ own-members k p.items (fields_from full (real + 1) next is)
-    ∙ ap (λ fs. flat_map (member_of k) p.items ++ fs) (none-from full k (real + 1) next is (omega (arith, here)) below)
-    ∙ append-nil (flat_map (member_of k) p.items) ∙ ap (λ (q : Oneof). flat_map (member_of k) q.items) same
+    ∙ ap (λ fs. members k p.items ++ fs) (none-from full k (real + 1) next is (omega (arith, here)) below)
+    ∙ append-nil (members k p.items) ∙ ap (λ (q : Oneof). members k q.items) same
 members-from full real next (suc j) k (message_item.Oneof p ∷ is) o at below stands =
     other-members k real p.items (fields_from full (real + 1) next is) (apart real k (omega (arith, at)))
     ∙ members-from full (real + 1) next j k is o (omega (arith, at)) below stands
@@ -113,7 +90,7 @@ members-from full real next j k (message_item.Enum e ∷ is) o at below stands =
 members-from full real next j k (message_item.Reserved r ∷ is) o at below stands = members-from full real next j k is o at below stands
 members-from full real next j k (message_item.Empty s ∷ is) o at below stands = members-from full real next j k is o at below stands
 
-pub members-all : (full : List ℕ) (is : List MessageItem) (k : ℕ) (o : Oneof) → slice_get (flat_map oneof_of is) k ≡ Some o
-    → fields_in k (fields_from full 0 (real_count is) is) ≡ flat_map (member_of k) o.items
+pub members-all : (full : List ℕ) (is : List MessageItem) (k : ℕ) (o : Oneof) → slice_get (flat_map message_oneof is) k ≡ Some o
+    → fields_in k (fields_from full 0 (real_count is) is) ≡ members k o.items
 members-all full is k o stands =
-    members-from full 0 (real_count is) k k is o (omega arith) (omega (arith, slice_get_within (flat_map oneof_of is) k o stands, length-oneof_of is)) stands
+    members-from full 0 (real_count is) k k is o (omega arith) (omega (arith, slice_get_within (flat_map message_oneof is) k o stands)) stands

@@ -1,20 +1,20 @@
 -- The oneofs of the lowered form of a message.
 use Rattle.std.proofs.Common.{◌≡◌, ◌∙◌, ap, sym, refl, subst, ◌+◌, ◌++◌, ℕ, List, [], ◌∷◌, length, arith}
-use Rattle.std.specs.Prelude.{Some, slice_get, flat_map}
+use Rattle.std.specs.Prelude.{Some, slice_get}
 use Rattle.proto_tree.specs.declared.message.Message.{Message}
 use Rattle.proto_tree.specs.declared.oneof.Oneof.{Oneof}
 use Rattle.proto_desc.specs.declared.field.FieldDesc.{FieldDesc}
 use Rattle.proto_desc.specs.declared.message.MessageDesc.TheViews.{out-roll-MessageDesc}
-use Rattle.proto_lower.specs.Fields.{inner, member_of, real_count}
+use Rattle.proto_lower.specs.Fields.{inner, real_count}
 use Rattle.proto_lower.specs.Laws.{source_oneofs, fields_of, oneofs_of, fields_in, IsOptionalBehind, index_behind, names_before}
 use Rattle.proto_lower.specs.Messages.{all_fields, lowered_message}
-use Rattle.proto_lower.specs.Oneofs.{real_named, real_of, made_named, names_of_fields, with_made}
+use Rattle.proto_lower.specs.Oneofs.{real_named, real_oneofs, made_named, names_of_fields, with_made}
 use Rattle.proto_lower.proofs.MadeOneofs.{made_count, length-with_made, slice_get-with_made, with_made-start, get_start}
-use Rattle.proto_lower.proofs.MemberIndexes.{slice_get-real_of, length-real_of, members-all}
-use Rattle.proto_lower.proofs.OneofIndexes.{AllIndexed, fields-indexed, optional-index, sole-member}
+use Rattle.proto_lower.proofs.MemberIndexes.{slice_get-real_oneofs, length-real_oneofs, members-all}
+use Rattle.proto_lower.proofs.OneofIndexes.{members, AllIndexed, fields-indexed, optional-index, sole-member}
 
 oneofs-lowered : (scope : List ℕ) (m : Message) → oneofs_of (lowered_message scope m)
-    ≡ with_made (names_of_fields (all_fields (inner scope m.name.text) m.items)) (flat_map real_of m.items) (all_fields (inner scope m.name.text) m.items)
+    ≡ with_made (names_of_fields (all_fields (inner scope m.name.text) m.items)) (real_oneofs m.items) (all_fields (inner scope m.name.text) m.items)
 oneofs-lowered scope m = ap (λ d. d.oneofs) (out-roll-MessageDesc _)
 
 fields-lowered : (scope : List ℕ) (m : Message) → fields_of (lowered_message scope m) ≡ all_fields (inner scope m.name.text) m.items
@@ -39,8 +39,8 @@ sole-member-lowered scope m before field is =
 
 -- the oneofs of a message, of which these are the fields
 oneofs_by : (scope : List ℕ) (m : Message) (fs : List FieldDesc) → fields_of (lowered_message scope m) ≡ fs
-    → oneofs_of (lowered_message scope m) ≡ with_made (names_of_fields fs) (flat_map real_of m.items) fs
-oneofs_by scope m fs is = oneofs-lowered scope m ∙ ap (λ gs. with_made (names_of_fields gs) (flat_map real_of m.items) gs) (sym (fields-lowered scope m) ∙ is)
+    → oneofs_of (lowered_message scope m) ≡ with_made (names_of_fields fs) (real_oneofs m.items) fs
+oneofs_by scope m fs is = oneofs-lowered scope m ∙ ap (λ gs. with_made (names_of_fields gs) (real_oneofs m.items) gs) (sym (fields-lowered scope m) ∙ is)
 
 pub optional-oneof-lowered : (scope : List ℕ) (m : Message) (before : List FieldDesc) (field : FieldDesc)
     → IsOptionalBehind before field (lowered_message scope m)
@@ -49,22 +49,22 @@ pub optional-oneof-lowered : (scope : List ℕ) (m : Message) (before : List Fie
 optional-oneof-lowered scope m before field is =
     let fs : List FieldDesc = before ++ field ∷ is.after in
     rw (oneofs_by scope m fs is.stands, is.stands)
-    (slice_get-with_made (names_of_fields fs) (flat_map real_of m.items) before field is.after (index_behind before m) is.optional
-    (omega (arith, length-real_of m.items)))
+    (slice_get-with_made (names_of_fields fs) (real_oneofs m.items) before field is.after (index_behind before m) is.optional
+    (omega (arith, length-real_oneofs m.items)))
 
 pub source-oneof-lowered : (scope : List ℕ) (m : Message) (index : ℕ) (o : Oneof) → slice_get (source_oneofs m) index ≡ Some o
     → slice_get (oneofs_of (lowered_message scope m)) index ≡ Some (real_named o.name)
 source-oneof-lowered scope m index o stands =
     let fs : List FieldDesc = all_fields (inner scope m.name.text) m.items in
-    let made = with_made-start (names_of_fields fs) (flat_map real_of m.items) fs in
-    rw (oneofs-lowered scope m, made.1) (get_start (flat_map real_of m.items) made.0 index (real_named o.name) (slice_get-real_of m.items index o stands))
+    let made = with_made-start (names_of_fields fs) (real_oneofs m.items) fs in
+    rw (oneofs-lowered scope m, made.1) (get_start (real_oneofs m.items) made.0 index (real_named o.name) (slice_get-real_oneofs m.items index o stands))
 
 pub members-lowered : (scope : List ℕ) (m : Message) (index : ℕ) (o : Oneof) → slice_get (source_oneofs m) index ≡ Some o
-    → fields_in index (fields_of (lowered_message scope m)) ≡ flat_map (member_of index) o.items
+    → fields_in index (fields_of (lowered_message scope m)) ≡ members index o.items
 members-lowered scope m index o stands = ap (fields_in index) (fields-lowered scope m) ∙ members-all (inner scope m.name.text) m.items index o stands
 
 pub count-lowered : (scope : List ℕ) (m : Message) → length (oneofs_of (lowered_message scope m)) ≡ index_behind (fields_of (lowered_message scope m)) m
 count-lowered scope m =
     let fs : List FieldDesc = fields_of (lowered_message scope m) in
-    ap length (oneofs_by scope m fs refl) ∙ length-with_made (names_of_fields fs) (flat_map real_of m.items) fs
-    ∙ ap (λ n. n + made_count fs) (length-real_of m.items)
+    ap length (oneofs_by scope m fs refl) ∙ length-with_made (names_of_fields fs) (real_oneofs m.items) fs
+    ∙ ap (λ n. n + made_count fs) (length-real_oneofs m.items)

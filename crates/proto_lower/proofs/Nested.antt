@@ -3,10 +3,10 @@ use Rattle.std.proofs.Common.{◌≡◌, ◌∙◌, ap, sym, refl, List, [], ◌
 use Rattle.std.proofs.lemmas.List.{take_more, append-nil}
 use Rattle.std.proofs.lemmas.List.Concat.{flat_map-append}
 use Rattle.std.specs.Prelude.{flat_map}
-use mathlib.Core.Former.{this, arity, Count}
+use mathlib.Core.Former.{this, arity}
 use Rattle.proto_base.specs.formers.boxed.Boxed.{the_former}
 use Rattle.proto_tree.specs.declared.message.Message.{Message}
-use Rattle.proto_tree.specs.declared.message.MessageItem.{MessageItem, Message', Row_of-MessageItem, end_of-MessageItem, more_of-MessageItem, Row_of-Message, end_of-Message, more_of-Message, items-the_row-MessageItem, items-the_row-Message, items_shown-the_row-MessageItem-0, items_hidden-the_row-Message-1}
+use Rattle.proto_tree.specs.declared.message.MessageItem.{Message', Row_of-MessageItem, end_of-MessageItem, more_of-MessageItem, Row_of-Message, end_of-Message, more_of-Message, items-the_row-MessageItem, items-the_row-Message, items_shown-the_row-MessageItem-0, items_hidden-the_row-Message-1}
 use Rattle.proto_tree.specs.declared.message.MessageItem.TheVariants as of
 use Rattle.proto_lower.specs.Fields.{inner}
 use Rattle.proto_lower.specs.Messages.{message_of, nested_of, nested_row, lowered_message}

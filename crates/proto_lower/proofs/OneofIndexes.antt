@@ -1,15 +1,27 @@
 -- The indexes of the oneofs of fields.
-use Rattle.std.proofs.Common.{◌≡◌, ◌∙◌, ap, sym, refl, subst, ◌≤◌, ◌<◌, ◌+◌, ◌++◌, ℕ, Bool, true, false, List, [], ◌∷◌, arith}
-use Rattle.std.specs.Prelude.{⊤, ◌==◌, Option, Some, flat_map, cond}
+use Rattle.std.proofs.Common.{◌≡◌, ◌∙◌, ap, sym, refl, subst, ◌≤◌, ◌<◌, ◌+◌, ◌++◌, ℕ, Bool, true, false, List, [], ◌∷◌, map, arith}
+use Rattle.std.specs.Prelude.{⊤, ◌==◌, Option, Some, None, flat_map, cond}
 use Rattle.std.proofs.lemmas.Bool.Decides.{nat_tests}
 use Rattle.proto_tree.specs.declared.message.MessageItem.{MessageItem}
 use Rattle.proto_tree.specs.declared.message.MessageItem as message_item
 use Rattle.proto_tree.specs.declared.oneof.OneofItem.{OneofItem}
 use Rattle.proto_tree.specs.declared.oneof.OneofItem.TheVariants as oneof_item
 use Rattle.proto_desc.specs.declared.field.FieldDesc.{FieldDesc}
-use Rattle.proto_lower.specs.Fields.{is_optional, made_index, made_by, member_of, real_count, fields_from}
+use Rattle.proto_lower.specs.Fields.{is_optional, member_at, real_count, fields_from}
 use Rattle.proto_lower.specs.Laws.{has_index, fields_in}
+use Rattle.proto_options.specs.Statements.{oneof_field}
 use Rattle.proto_lower.proofs.MadeOneofs.{made_count, made_count-cons}
+
+-- the index of the oneof that a field makes, if it makes one, and how many it makes
+abbrev pub made_index : Bool → ℕ → Option ℕ
+made_index b next = cond b (Some next) None
+
+abbrev pub made_by : Bool → ℕ
+made_by b = cond b 1 0
+
+-- the members of the oneof at this position
+abbrev pub members : ℕ → List OneofItem → List FieldDesc
+members real is = map (member_at real) (flat_map oneof_field is)
 
 -- the index of an `optional` field's oneof is the next one, and that of another is below all of those
 abbrev pub IsIndexed : (least next : ℕ) → Bool → Option ℕ → Type 0
@@ -35,12 +47,12 @@ field-indexed least next true = refl
 field-indexed least next false = λ k above. refl
 
 members-indexed : (least next real : ℕ) (is : List OneofItem) (rest : List FieldDesc) → real < least → AllIndexed least next rest
-    → AllIndexed least next (flat_map (member_of real) is ++ rest)
+    → AllIndexed least next (members real is ++ rest)
 members-indexed least next real [] rest below indexed = indexed
 members-indexed least next real (oneof_item.Field f ∷ is) rest below indexed =
     let later = members-indexed least next real is rest below indexed in (
       (λ (k : ℕ) (above : least ≤ k). apart real k (omega (arith, below, above))),
-      subst (λ (n : ℕ). AllIndexed least n (flat_map (member_of real) is ++ rest)) (omega arith) later,
+      subst (λ (n : ℕ). AllIndexed least n (members real is ++ rest)) (omega arith) later,
     )
 members-indexed least next real (oneof_item.Option o ∷ is) rest below indexed = members-indexed least next real is rest below indexed
 members-indexed least next real (oneof_item.Empty s ∷ is) rest below indexed = members-indexed least next real is rest below indexed

@@ -1,5 +1,5 @@
 -- Fields, map fields and members of oneofs.
-use Rattle.std.specs.Prelude.{ℕ, ◌+◌, Bool, true, false, List, [], ◌∷◌, ◌++◌, flat_map, Option, Some, None}
+use Rattle.std.specs.Prelude.{ℕ, ◌+◌, Bool, true, false, cond, List, [], ◌∷◌, ◌++◌, length, map, flat_map, Option, Some, None}
 use Rattle.proto_base.specs.declared.place.Place.{Place}
 use Rattle.proto_base.specs.declared.place.Span.{Span}
 use Rattle.proto_tree.specs.declared.field.Declarator.{Declarator}
@@ -13,8 +13,7 @@ use Rattle.proto_tree.specs.declared.message.MessageItem.{MessageItem}
 use Rattle.proto_tree.specs.declared.message.MessageItem as message_item
 use Rattle.proto_tree.specs.declared.name.FullName.{FullName}
 use Rattle.proto_tree.specs.declared.name.TypeName.{TypeName}
-use Rattle.proto_tree.specs.declared.oneof.OneofItem.{OneofItem}
-use Rattle.proto_tree.specs.declared.oneof.OneofItem.TheVariants as oneof_item
+use Rattle.proto_tree.specs.declared.oneof.OneofField.{OneofField}
 use Rattle.proto_base.specs.declared.scalar_type.KeyType.{KeyType}
 use Rattle.proto_base.specs.declared.scalar_type.KeyType.TheVariants as key
 use Rattle.proto_base.specs.declared.scalar_type.ScalarType.{ScalarType}
@@ -30,6 +29,7 @@ use Rattle.proto_desc.specs.declared.type_name.TypeReference.{TypeReference}
 use Rattle.proto_desc.specs.declared.type_name.TypeReference.TheVariants.{Spelled, Resolved}
 use Rattle.proto_lower.specs.Names.{entry_name_of}
 use Rattle.proto_options.specs.Options.{bracketed}
+use Rattle.proto_options.specs.Statements.{message_oneof, oneof_field}
 use Rattle.proto_lower.specs.Options.{options_of, json_name_by}
 use Rattle.proto_tree.specs.Text.{spelled}
 
@@ -81,14 +81,10 @@ abbrev pub is_optional : Option Label → Bool
 is_optional (Some (label.Optional s)) = true
 is_optional l = false
 
-abbrev pub made_index : Bool → ℕ → Option ℕ
-made_index true next = Some next
-made_index false next = None
-
 -- a field, where the next oneof that an `optional` field makes has the position `next`
 abbrev pub field_at : ℕ → Field → FieldDesc
 field_at next f = described f.declarator (label_of f.label) (kind_of f.field_type)
-    (made_index (is_optional f.label) next) (is_optional f.label)
+    (cond (is_optional f.label) (Some next) None) (is_optional f.label)
 
 -- the full name, behind a leading dot, of what stands in the scope
 abbrev pub inner : List ℕ → List ℕ → List ℕ
@@ -99,28 +95,21 @@ abbrev pub map_described : List ℕ → MapField → FieldDesc
 map_described full m = described m.declarator Repeated
     (Named (Resolved (inner full (entry_name_of m.declarator.name.text)) type_kind.Message)) None false
 
--- what a statement of the oneof at this position gives
-abbrev pub member_of : ℕ → OneofItem → List FieldDesc
-member_of number (oneof_item.Field f) = described f.declarator Optional (kind_of f.field_type) (Some number) false ∷ []
-member_of number i = []
-
-abbrev pub made_by : Bool → ℕ
-made_by true = 1
-made_by false = 0
+-- a member of the oneof at this position
+abbrev pub member_at : ℕ → OneofField → FieldDesc
+member_at number f = described f.declarator Optional (kind_of f.field_type) (Some number) false
 
 -- how many oneofs of the source there are
 abbrev pub real_count : List MessageItem → ℕ
-real_count [] = 0
-real_count (message_item.Oneof o ∷ is) = real_count is + 1
-real_count (i ∷ is) = real_count is
+real_count is = length (flat_map message_oneof is)
 
 -- the fields of statements, in their order, where the next oneof of the source has the position `real`, and the next
 -- that is made `made`
 abbrev pub fields_from : (full : List ℕ) → (real made : ℕ) → List MessageItem → List FieldDesc
 fields_from full real made [] = []
 fields_from full real made (message_item.Field f ∷ is) =
-    field_at made f ∷ fields_from full real (made + made_by (is_optional f.label)) is
+    field_at made f ∷ fields_from full real (made + cond (is_optional f.label) 1 0) is
 fields_from full real made (message_item.Map m ∷ is) = map_described full m ∷ fields_from full real made is
 fields_from full real made (message_item.Oneof o ∷ is) =
-    flat_map (member_of real) o.items ++ fields_from full (real + 1) made is
+    map (member_at real) (flat_map oneof_field o.items) ++ fields_from full (real + 1) made is
 fields_from full real made (i ∷ is) = fields_from full real made is

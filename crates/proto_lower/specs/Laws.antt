@@ -9,11 +9,11 @@ use Rattle.proto_desc.specs.declared.message.MessageDesc.TheViews.{out-MessageDe
 use Rattle.proto_desc.specs.declared.oneof.OneofDesc.{OneofDesc}
 use Rattle.proto_lower.specs.Fields.{real_count}
 use Rattle.proto_lower.specs.Oneofs.{names_of_fields, names_of_oneofs}
-use Rattle.proto_options.specs.Statements.{oneof_of}
+use Rattle.proto_options.specs.Statements.{message_oneof}
 
 -- the oneofs of a message in the source, in their order
 abbrev pub source_oneofs : Message → List Oneof
-source_oneofs m = flat_map oneof_of m.items
+source_oneofs m = flat_map message_oneof m.items
 
 -- the fields of a lowered message
 abbrev pub fields_of : MessageDesc → List FieldDesc

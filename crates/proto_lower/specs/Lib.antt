@@ -7,4 +7,5 @@ pub mod Oneofs
 pub mod Options
 pub mod Reserveds
 pub mod Services
+pub mod Taken
 pub mod Laws

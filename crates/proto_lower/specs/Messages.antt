@@ -1,12 +1,11 @@
 -- Messages and the entries that map fields make.
-use Rattle.std.specs.Prelude.{ℕ, true, false, List, [], ◌∷◌, ◌++◌, flat_map, None, codes}
+use Rattle.std.specs.Prelude.{ℕ, true, false, List, [], ◌∷◌, ◌++◌, map, flat_map, None, codes}
 use Rattle.proto_base.specs.declared.place.Place.{Place}
 use Rattle.proto_tree.specs.Name.{Identifier}
 use Rattle.proto_tree.specs.declared.map_field.MapField.{MapField}
 use Rattle.proto_tree.specs.declared.message.Message.{Message}
 use Rattle.proto_tree.specs.declared.message.MessageItem.{MessageItem, Row_of-MessageItem, end_of-MessageItem, more_of-MessageItem, end_of-Message, more_of-Message, items-the_row-MessageItem}
 use Rattle.proto_tree.specs.declared.message.MessageItem as message_item
-use Rattle.proto_desc.specs.declared.enumeration.EnumDesc.{EnumDesc}
 use Rattle.proto_desc.specs.declared.field.FieldDesc.{FieldDesc}
 use Rattle.proto_desc.specs.declared.field.FieldKind.{FieldKind}
 use Rattle.proto_desc.specs.declared.field.FieldKind.TheVariants.{Scalar}
@@ -18,10 +17,12 @@ use Rattle.proto_desc.specs.declared.rules.Element.TheVariants as element
 use Rattle.proto_lower.specs.Names.{entry_name_of}
 use Rattle.proto_lower.specs.Enums.{lowered_enum}
 use Rattle.proto_lower.specs.Fields.{inner, kind_of, scalar_of_key, fields_from, real_count}
-use Rattle.proto_lower.specs.Oneofs.{real_of, names_of_fields, with_made}
+use Rattle.proto_lower.specs.Oneofs.{real_oneofs, names_of_fields, with_made}
 use Rattle.proto_options.specs.Options.{message_setting}
 use Rattle.proto_lower.specs.Options.{options_of}
-use Rattle.proto_lower.specs.Reserveds.{message_ranges_of, message_names_of}
+use Rattle.proto_lower.specs.Reserveds.{message_range}
+use Rattle.proto_options.specs.Statements.{message_enum, message_reserved, ranges_in, names_in}
+use Rattle.proto_tree.specs.Text.{joined}
 
 -- `key` or `value` of an entry
 abbrev pub entry_field : List ℕ → Place → ℕ → FieldKind → FieldDesc
@@ -57,17 +58,13 @@ entry_of m = roll-MessageDesc (record {
   is_map_entry = true;
 })
 
-abbrev pub enum_of : MessageItem → List EnumDesc
-enum_of (message_item.Enum e) = lowered_enum e ∷ []
-enum_of i = []
-
 -- the fields of the message with this full name
 abbrev pub all_fields : List ℕ → List MessageItem → List FieldDesc
 all_fields full is = fields_from full 0 (real_count is) is
 
 -- the oneofs of the message with this full name: those of the source, and then those that its fields make
 abbrev pub all_oneofs : List ℕ → List MessageItem → List OneofDesc
-all_oneofs full is = with_made (names_of_fields (all_fields full is)) (flat_map real_of is) (all_fields full is)
+all_oneofs full is = with_made (names_of_fields (all_fields full is)) (real_oneofs is) (all_fields full is)
 
 -- the message of this full name, name and statements, with these nested messages
 abbrev pub message_of : List ℕ → Identifier → List MessageItem → List MessageDesc → MessageDesc
@@ -76,10 +73,10 @@ message_of full name is inner_messages = roll-MessageDesc (record {
   place = name.span.start;
   fields = all_fields full is;
   nested = inner_messages;
-  enums = flat_map enum_of is;
+  enums = map lowered_enum (flat_map message_enum is);
   oneofs = all_oneofs full is;
-  reserved_ranges = flat_map message_ranges_of is;
-  reserved_names = flat_map message_names_of is;
+  reserved_ranges = map message_range (flat_map ranges_in (flat_map message_reserved is));
+  reserved_names = map joined (flat_map names_in (flat_map message_reserved is));
   options = options_of element.Message (flat_map message_setting is);
   is_map_entry = false;
 })

@@ -1,10 +1,8 @@
 -- Names that are made of the names of fields.
-use Rattle.std.specs.Prelude.{ℕ, zero, suc, Bool, true, false, List, [], ◌∷◌, ◌++◌, if◌then◌else◌, ◌==◌, ◌||◌, codes, length, encode_utf8_all, String, ◌≡◌}
+use Rattle.std.specs.Prelude.{ℕ, zero, suc, Bool, List, [], ◌∷◌, ◌++◌, if◌then◌else◌, ◌==◌, codes, length, encode_utf8_all}
 use Rattle.std.specs.List.{list_any}
 use Rattle.std.specs.Str.{chars, bytes_eq}
 use Rattle.std.specs.Char.{to_ascii_uppercase}
-use Rattle.std.specs.BTreeSet.{BTreeSet, contains_text}
-use Rattle.std.specs.declared.alloc.Global.{Global}
 
 -- what becomes of a character, by the one before it: `_` is dropped, and a lower-case ASCII letter directly behind `_`
 -- is raised
@@ -44,12 +42,3 @@ is_among taken name = list_any (λ t. bytes_eq t name) taken
 -- so that no more of them are met than there are
 abbrev pub oneof_name_of : List (List ℕ) → List ℕ → List ℕ
 oneof_name_of taken field = first_free (is_among taken) (length taken) (with_underscore field)
-
--- as all names do that are tried for a oneof
-abbrev pub begins_as_made : List ℕ → Bool
-begins_as_made [] = false
-begins_as_made (c ∷ cs) = c == 95 || c == 88
-
--- a set that has, of what can be tried, just these names
-pub record IsSetOf (names : List (List ℕ)) (set : BTreeSet (String Global)) : Type 0 where
-  pub members : (name : List ℕ) → begins_as_made name ≡ true → contains_text set name ≡ is_among names name

@@ -1,19 +1,18 @@
 -- Oneofs: those of the source, and then those that `optional` fields make.
-use Rattle.std.specs.Prelude.{ℕ, Bool, List, [], ◌∷◌, ◌++◌, map, cond}
+use Rattle.std.specs.Prelude.{ℕ, Bool, List, [], ◌∷◌, ◌++◌, map, flat_map, cond}
 use Rattle.proto_tree.specs.Name.{Identifier}
 use Rattle.proto_tree.specs.declared.message.MessageItem.{MessageItem}
-use Rattle.proto_tree.specs.declared.message.MessageItem as message_item
 use Rattle.proto_desc.specs.declared.field.FieldDesc.{FieldDesc}
 use Rattle.proto_desc.specs.declared.oneof.OneofDesc.{OneofDesc}
 use Rattle.proto_lower.specs.Names.{oneof_name_of}
+use Rattle.proto_options.specs.Statements.{message_oneof}
 
 abbrev pub real_named : Identifier → OneofDesc
 real_named n = record { name = n.text; place = n.span.start }
 
--- the oneof that a statement of a message is
-abbrev pub real_of : MessageItem → List OneofDesc
-real_of (message_item.Oneof o) = real_named o.name ∷ []
-real_of i = []
+-- the oneofs that statements of a message are
+abbrev pub real_oneofs : List MessageItem → List OneofDesc
+real_oneofs is = map (λ o. real_named o.name) (flat_map message_oneof is)
 
 abbrev pub names_of_fields : List FieldDesc → List (List ℕ)
 names_of_fields fs = map (λ f. f.name) fs

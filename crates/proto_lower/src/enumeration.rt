@@ -1,8 +1,10 @@
 //! Enums (language guide, "Enumerations").
 
-ghost use Rattle.std.specs.Prelude.{◌≡◌, ◌∷◌, ◌++◌, [], OnOk, flat_map};
-ghost use Rattle.proto_lower.specs.Enums.{value_desc, value_of_item, lowered_enum};
-ghost use Rattle.proto_lower.specs.Reserveds.{enum_ranges_of, enum_names_of};
+ghost use Rattle.std.specs.Prelude.{◌≡◌, ◌∷◌, ◌++◌, [], OnOk, map, flat_map};
+ghost use Rattle.proto_tree.specs.Text.{joined};
+ghost use Rattle.proto_options.specs.Statements.{enum_value, enum_reserved, ranges_in, names_in};
+ghost use Rattle.proto_lower.specs.Enums.{value_desc, lowered_enum};
+ghost use Rattle.proto_lower.specs.Reserveds.{enum_range};
 
 use crate::options::{bracketed_options, options_of};
 use crate::reserved::{number_of_literal, put_enum_ranges, put_names};
@@ -39,11 +41,11 @@ fn put_items<'s>(
     items: &[EnumItem<'s>],
 ) -> Result<(), AllocError>
     ensures values { OnOk result (values.new.items
-        ≡ values.old.items ++ flat_map value_of_item items.now) }
-    ensures ranges { OnOk result (ranges.new.items
-        ≡ ranges.old.items ++ flat_map enum_ranges_of items.now) }
-    ensures names { OnOk result (names.new.items
-        ≡ names.old.items ++ flat_map enum_names_of items.now) }
+        ≡ values.old.items ++ map value_desc (flat_map enum_value items.now)) }
+    ensures ranges { OnOk result (ranges.new.items ≡ ranges.old.items
+        ++ map enum_range (flat_map ranges_in (flat_map enum_reserved items.now))) }
+    ensures names { OnOk result (names.new.items ≡ names.old.items
+        ++ map joined (flat_map names_in (flat_map enum_reserved items.now))) }
 {
     for item in items {
         match item {

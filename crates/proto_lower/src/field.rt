@@ -1,7 +1,8 @@
 //! Fields, map fields and members of oneofs (language guide, "Specifying Field Types", "Maps", "Oneof").
 
-ghost use Rattle.std.specs.Prelude.{◌≡◌, ◌∷◌, ◌++◌, ◌≤◌, [], IfOk, OnOk, flat_map, length, string_bytes};
-ghost use Rattle.proto_lower.specs.Fields.{described, label_of, is_optional, field_at, inner, map_described, member_of, real_count, fields_from};
+ghost use Rattle.std.specs.Prelude.{◌≡◌, ◌∷◌, ◌++◌, ◌≤◌, [], IfOk, OnOk, map, flat_map, length, string_bytes};
+ghost use Rattle.proto_options.specs.Statements.{oneof_field};
+ghost use Rattle.proto_lower.specs.Fields.{described, label_of, is_optional, field_at, inner, map_described, member_at, real_count, fields_from};
 
 use crate::names::entry_name;
 use crate::options::{bracketed_options, field_json_name};
@@ -123,7 +124,8 @@ fn put_members<'s>(
     items: &[OneofItem<'s>],
     number: usize,
 ) -> Result<(), AllocError>
-    ensures { OnOk result (out.new.items ≡ out.old.items ++ flat_map (member_of number) items.now) }
+    ensures { OnOk result (out.new.items
+        ≡ out.old.items ++ map (member_at number) (flat_map oneof_field items.now)) }
 {
     for item in items {
         if let OneofItem::Field(field) = item {

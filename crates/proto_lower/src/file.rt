@@ -1,8 +1,12 @@
 //! Files (proto3 language specification, "Proto File").
 
-ghost use Rattle.std.specs.Prelude.{◌≡◌, ◌∷◌, ◌++◌, [], IfOk, OnOk, flat_map, string_bytes};
-ghost use Rattle.std.specs.Option.{option_copied, option_map};
-ghost use Rattle.proto_lower.specs.Files.{first_package, package_desc, package_scope, import_desc, import_of, file_message, file_enum, file_service, lowered};
+ghost use Rattle.std.specs.Prelude.{◌≡◌, ◌∷◌, ◌++◌, [], IfOk, OnOk, map, flat_map, slice_get, string_bytes};
+ghost use Rattle.std.specs.Option.{option_copied};
+ghost use Rattle.proto_options.specs.Statements.{file_package, file_message, file_enum, file_service};
+ghost use Rattle.proto_lower.specs.Enums.{lowered_enum};
+ghost use Rattle.proto_lower.specs.Files.{package_of, package_scope, import_desc, import_of, lowered};
+ghost use Rattle.proto_lower.specs.Messages.{lowered_message};
+ghost use Rattle.proto_lower.specs.Services.{lowered_service};
 
 use crate::enumeration::put_enum;
 use crate::message::put_message;
@@ -20,7 +24,7 @@ use proto_tree::{FileTree, Import, Package, Statement};
 use std::alloc::{AllocError, Global};
 
 fn first_package<'t, 's>(statements: &'t [Statement<'s>]) -> Option<&'t Package<'s>>
-    ensures { option_copied result ≡ first_package statements.now }
+    ensures { option_copied result ≡ slice_get (flat_map file_package statements.now) 0 }
 {
     for statement in statements {
         if let Statement::Package(package) = statement {
@@ -35,8 +39,7 @@ fn lower_package<'s>(
     alloc: Global,
     statements: &[Statement<'s>],
 ) -> Result<Option<PackageDesc<'s>>, AllocError>
-    ensures { IfOk result (λ found. found
-        ≡ option_map package_desc (first_package statements.now)) }
+    ensures { IfOk result (λ found. found ≡ package_of statements.now) }
 {
     match first_package(statements) {
         Some(package) => Ok(Some(PackageDesc {
@@ -94,11 +97,11 @@ fn put_scoped<'s>(
     ensures imports { OnOk result (out.new.imports.items
         ≡ out.old.imports.items ++ flat_map import_of statements.now) }
     ensures messages { OnOk result (out.new.messages.items ≡ out.old.messages.items
-        ++ flat_map (file_message scope.now) statements.now) }
+        ++ map (lowered_message scope.now) (flat_map file_message statements.now)) }
     ensures enums { OnOk result (out.new.enums.items
-        ≡ out.old.enums.items ++ flat_map file_enum statements.now) }
+        ≡ out.old.enums.items ++ map lowered_enum (flat_map file_enum statements.now)) }
     ensures services { OnOk result (out.new.services.items
-        ≡ out.old.services.items ++ flat_map file_service statements.now) }
+        ≡ out.old.services.items ++ map lowered_service (flat_map file_service statements.now)) }
 {
     for statement in statements {
         match statement {
@@ -124,11 +127,12 @@ fn put_declared<'s>(
     ensures imports { OnOk result (out.new.imports.items
         ≡ out.old.imports.items ++ flat_map import_of statements.now) }
     ensures messages { OnOk result (out.new.messages.items ≡ out.old.messages.items
-        ++ flat_map (file_message (package_scope «package».now)) statements.now) }
+        ++ map (lowered_message (package_scope «package».now))
+        (flat_map file_message statements.now)) }
     ensures enums { OnOk result (out.new.enums.items
-        ≡ out.old.enums.items ++ flat_map file_enum statements.now) }
+        ≡ out.old.enums.items ++ map lowered_enum (flat_map file_enum statements.now)) }
     ensures services { OnOk result (out.new.services.items
-        ≡ out.old.services.items ++ flat_map file_service statements.now) }
+        ≡ out.old.services.items ++ map lowered_service (flat_map file_service statements.now)) }
 {
     let scope = package_scope(alloc, package)?;
     put_scoped(alloc, out, scope.as_str(), statements)

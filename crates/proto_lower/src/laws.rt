@@ -7,7 +7,8 @@ ghost use Rattle.proto_tree.specs.declared.oneof.Oneof.{Oneof};
 ghost use Rattle.proto_tree.specs.declared.option.Setting.{Setting};
 ghost use Rattle.proto_desc.specs.declared.field.FieldDesc.{FieldDesc};
 ghost use Rattle.proto_desc.specs.declared.rules.Element.{Element};
-ghost use Rattle.proto_lower.specs.Fields.{member_of};
+ghost use Rattle.proto_options.specs.Statements.{oneof_field};
+ghost use Rattle.proto_lower.specs.Fields.{member_at};
 ghost use Rattle.proto_lower.specs.Laws.{source_oneofs, fields_of, oneofs_of, fields_in, IsOptionalBehind, index_behind, names_before};
 ghost use Rattle.proto_lower.specs.Messages.{lowered_message};
 ghost use Rattle.proto_lower.specs.Oneofs.{real_named, made_named};
@@ -21,7 +22,7 @@ pub fn oneof_index_is_its_own()
     ensures members { (scope : List ℕ) (m : Message) (index : ℕ) (o : Oneof)
         → slice_get (source_oneofs m) index ≡ Some o
         → fields_in index (fields_of (lowered_message scope m))
-        ≡ flat_map (member_of index) o.items }
+        ≡ map (member_at index) (flat_map oneof_field o.items) }
 {}
 
 /// An `optional` field is the sole member of a oneof at the field's place, with a name that is made of the field's. It comes

@@ -1,9 +1,12 @@
 //! Messages and the entries that map fields make (language guide, "Nested Types", "Maps").
 
-ghost use Rattle.std.specs.Prelude.{◌≡◌, ◌∷◌, ◌++◌, [], IfOk, OnOk, flat_map};
-ghost use Rattle.proto_lower.specs.Messages.{entry_field, entry_fields, entry_of, enum_of, all_fields, message_of, nested_of, lowered_message};
-ghost use Rattle.proto_lower.specs.Oneofs.{real_of, names_of_fields, with_made};
-ghost use Rattle.proto_lower.specs.Reserveds.{message_ranges_of, message_names_of};
+ghost use Rattle.std.specs.Prelude.{◌≡◌, ◌∷◌, ◌++◌, [], IfOk, OnOk, map, flat_map};
+ghost use Rattle.proto_lower.specs.Messages.{entry_field, entry_fields, entry_of, all_fields, message_of, nested_of, lowered_message};
+ghost use Rattle.proto_lower.specs.Oneofs.{real_oneofs, names_of_fields, with_made};
+ghost use Rattle.proto_lower.specs.Enums.{lowered_enum};
+ghost use Rattle.proto_lower.specs.Reserveds.{message_range};
+ghost use Rattle.proto_options.specs.Statements.{message_enum, message_reserved, ranges_in, names_in};
+ghost use Rattle.proto_tree.specs.Text.{joined};
 
 use crate::enumeration::put_enum;
 use crate::field::{inner_name, put_fields, real_count};
@@ -90,7 +93,8 @@ fn put_enums<'s>(
     out: &mut Vec<EnumDesc<'s>>,
     items: &[MessageItem<'s>],
 ) -> Result<(), AllocError>
-    ensures { OnOk result (out.new.items ≡ out.old.items ++ flat_map enum_of items.now) }
+    ensures { OnOk result (out.new.items
+        ≡ out.old.items ++ map lowered_enum (flat_map message_enum items.now)) }
 {
     for item in items {
         if let MessageItem::Enum(declared) = item {
@@ -121,13 +125,13 @@ fn put_parts<'s>(
         ≡ out.old.fields.items ++ all_fields full.now items.now) }
     ensures oneofs { OnOk result (out.new.oneofs.items
         ≡ with_made (names_of_fields out.new.fields.items)
-        (out.old.oneofs.items ++ flat_map real_of items.now) out.new.fields.items) }
+        (out.old.oneofs.items ++ real_oneofs items.now) out.new.fields.items) }
     ensures enums { OnOk result (out.new.enums.items
-        ≡ out.old.enums.items ++ flat_map enum_of items.now) }
-    ensures ranges { OnOk result (out.new.reserved_ranges.items
-        ≡ out.old.reserved_ranges.items ++ flat_map message_ranges_of items.now) }
-    ensures names { OnOk result (out.new.reserved_names.items
-        ≡ out.old.reserved_names.items ++ flat_map message_names_of items.now) }
+        ≡ out.old.enums.items ++ map lowered_enum (flat_map message_enum items.now)) }
+    ensures ranges { OnOk result (out.new.reserved_ranges.items ≡ out.old.reserved_ranges.items
+        ++ map message_range (flat_map ranges_in (flat_map message_reserved items.now))) }
+    ensures names { OnOk result (out.new.reserved_names.items ≡ out.old.reserved_names.items
+        ++ map joined (flat_map names_in (flat_map message_reserved items.now))) }
 {
     put_fields(alloc, &mut out.fields, full, items, real_count(items))?;
     put_oneofs(alloc, &mut out.oneofs, items, out.fields.as_slice())?;

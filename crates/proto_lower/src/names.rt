@@ -4,7 +4,8 @@ ghost use Rattle.std.specs.Prelude.{◌≡◌, ◌==◌, ℕ, IfOk, OnOk, string
 ghost use Rattle.std.specs.List.{list_any};
 ghost use Rattle.std.specs.Str.{chars};
 ghost use Rattle.std.specs.BTreeSet.{contains_text};
-ghost use Rattle.proto_lower.specs.Names.{raised, json_name_of, entry_name_of, oneof_name_of, first_free, with_underscore, is_among, begins_as_made, IsSetOf};
+ghost use Rattle.proto_lower.specs.Names.{raised, json_name_of, entry_name_of, oneof_name_of, first_free, with_underscore, is_among};
+ghost use Rattle.proto_lower.specs.Taken.{begins_as_made, IsSetOf};
 
 use proto_base::text::Text;
 use std::alloc::{AllocError, Global};

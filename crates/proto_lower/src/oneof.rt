@@ -1,9 +1,9 @@
 //! Oneofs: those of the source, and then those that `optional` fields make (`descriptor.proto`, `proto3_optional`).
 
-ghost use Rattle.std.specs.Prelude.{◌≡◌, ◌++◌, ℕ, List, IfOk, OnOk, flat_map, length};
+ghost use Rattle.std.specs.Prelude.{◌≡◌, ◌++◌, ℕ, List, IfOk, OnOk, length};
 ghost use Rattle.std.specs.List.{list_any};
-ghost use Rattle.proto_lower.specs.Names.{IsSetOf};
-ghost use Rattle.proto_lower.specs.Oneofs.{real_named, real_of, names_of_fields, names_of_oneofs, made_named, with_made};
+ghost use Rattle.proto_lower.specs.Taken.{IsSetOf};
+ghost use Rattle.proto_lower.specs.Oneofs.{real_named, real_oneofs, names_of_fields, names_of_oneofs, made_named, with_made};
 
 use crate::names::{first_free, take_name, with_underscore};
 use proto_base::text::Text;
@@ -24,7 +24,7 @@ fn real<'s>(name: &Name<'s>) -> OneofDesc<'s>
 
 /// Adds the oneofs of the source.
 fn put_real<'s>(out: &mut Vec<OneofDesc<'s>>, items: &[MessageItem<'s>]) -> Result<(), AllocError>
-    ensures { OnOk result (out.new.items ≡ out.old.items ++ flat_map real_of items.now) }
+    ensures { OnOk result (out.new.items ≡ out.old.items ++ real_oneofs items.now) }
 {
     for item in items {
         if let MessageItem::Oneof(oneof) = item {
@@ -106,7 +106,7 @@ pub(crate) fn put_oneofs<'s>(
     fields: &[FieldDesc<'s>],
 ) -> Result<(), AllocError>
     ensures { OnOk result (out.new.items ≡ with_made (names_of_fields fields.now)
-        (out.old.items ++ flat_map real_of items.now) fields.now) }
+        (out.old.items ++ real_oneofs items.now) fields.now) }
 {
     put_real(out, items)?;
     put_made(alloc, out, fields)

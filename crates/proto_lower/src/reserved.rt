@@ -1,24 +1,20 @@
 //! Reserved numbers and names (language guide, "Reserved Fields", "Reserved Values").
 
-ghost use Rattle.std.specs.Prelude.{◌≡◌, ◌∷◌, ◌++◌, [], OnOk, flat_map};
+ghost use Rattle.std.specs.Prelude.{◌≡◌, ◌∷◌, ◌++◌, [], OnOk, map, flat_map};
 ghost use Rattle.proto_tree.specs.Text.{joined};
-ghost use Rattle.proto_lower.specs.Reserveds.{message_range, enum_range, number_of_literal, ranges_in, enum_ranges_in, names_in, message_ranges_of, message_names_of};
+ghost use Rattle.proto_lower.specs.Reserveds.{message_range, enum_range, number_of_literal};
+ghost use Rattle.proto_options.specs.Statements.{message_reserved, ranges_in, names_in};
 
 use proto_base::text::Text;
 use proto_desc::enumeration::EnumReservedRange;
 use proto_desc::message::ReservedRange;
 use proto_desc::whole_number::WholeNumber;
+use proto_options::{FIELD_MAX, VALUE_MAX};
 use proto_tree::text::joined;
 use proto_tree::{
     MessageItem, NumberLiteral, Range, ReservedItems, SignedNumber, StringValue, UpperBound,
 };
 use std::alloc::{AllocError, Global};
-
-/// The greatest number of a field, which `max` stands for in a message.
-const FIELD_MAX: u64 = 536_870_911;
-
-/// The greatest number of a value, which `max` stands for in an enum.
-const VALUE_MAX: u64 = 2_147_483_647;
 
 fn message_range(range: &Range<NumberLiteral>) -> ReservedRange
     ensures { result ≡ message_range range.now }
@@ -59,7 +55,7 @@ fn put_ranges(
     out: &mut Vec<ReservedRange>,
     items: &ReservedItems<NumberLiteral>,
 ) -> Result<(), AllocError>
-    ensures { OnOk result (out.new.items ≡ out.old.items ++ ranges_in items.now) }
+    ensures { OnOk result (out.new.items ≡ out.old.items ++ map message_range (ranges_in items.now)) }
 {
     if let ReservedItems::Ranges(ranges) = items {
         out.push(message_range(&ranges.first))?;
@@ -75,7 +71,8 @@ pub(crate) fn put_enum_ranges(
     out: &mut Vec<EnumReservedRange>,
     items: &ReservedItems<SignedNumber>,
 ) -> Result<(), AllocError>
-    ensures { OnOk result (out.new.items ≡ out.old.items ++ enum_ranges_in items.now) }
+    ensures { OnOk result (out.new.items
+        ≡ out.old.items ++ map enum_range (ranges_in items.now)) }
 {
     if let ReservedItems::Ranges(ranges) = items {
         out.push(enum_range(&ranges.first))?;
@@ -104,7 +101,7 @@ pub(crate) fn put_names<'s, N>(
     out: &mut Vec<Text<'s>>,
     items: &ReservedItems<'s, N>,
 ) -> Result<(), AllocError>
-    ensures { OnOk result (out.new.items ≡ out.old.items ++ names_in items.now) }
+    ensures { OnOk result (out.new.items ≡ out.old.items ++ map joined (names_in items.now)) }
 {
     if let ReservedItems::Names(names) = items {
         put_name(alloc, out, &names.first)?;
@@ -122,10 +119,10 @@ pub(crate) fn put_message_reserved<'s>(
     names: &mut Vec<Text<'s>>,
     items: &[MessageItem<'s>],
 ) -> Result<(), AllocError>
-    ensures ranges { OnOk result (ranges.new.items
-        ≡ ranges.old.items ++ flat_map message_ranges_of items.now) }
-    ensures names { OnOk result (names.new.items
-        ≡ names.old.items ++ flat_map message_names_of items.now) }
+    ensures ranges { OnOk result (ranges.new.items ≡ ranges.old.items
+        ++ map message_range (flat_map ranges_in (flat_map message_reserved items.now))) }
+    ensures names { OnOk result (names.new.items ≡ names.old.items
+        ++ map joined (flat_map names_in (flat_map message_reserved items.now))) }
 {
     for item in items {
         if let MessageItem::Reserved(reserved) = item {

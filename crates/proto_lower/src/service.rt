@@ -1,7 +1,8 @@
 //! Services and methods (language guide, "Defining Services").
 
-ghost use Rattle.std.specs.Prelude.{◌≡◌, ◌∷◌, ◌++◌, [], IfOk, OnOk, flat_map};
-ghost use Rattle.proto_lower.specs.Services.{method_desc, method_of, lowered_service};
+ghost use Rattle.std.specs.Prelude.{◌≡◌, ◌∷◌, ◌++◌, [], IfOk, OnOk, map, flat_map};
+ghost use Rattle.proto_options.specs.Statements.{service_rpc};
+ghost use Rattle.proto_lower.specs.Services.{method_desc, lowered_service};
 
 use crate::options::options_of;
 use crate::type_name::type_reference;
@@ -35,7 +36,8 @@ fn put_method<'s>(
 }
 
 fn methods<'s>(alloc: Global, items: &[ServiceItem<'s>]) -> Result<Row<MethodDesc<'s>>, AllocError>
-    ensures { IfOk result (λ methods. methods ≡ flat_map method_of items.now) }
+    ensures { IfOk result (λ methods. methods
+        ≡ map method_desc (flat_map service_rpc items.now)) }
 {
     let mut methods = Vec::new(alloc);
     for item in items {

@@ -1,6 +1,6 @@
 -- The settings of each element, of which the first of an option counts, and what a constant is as a value.
 use Rattle.std.specs.Prelude.{ℕ, Bool, false, List, [], ◌∷◌, map, Option, Some, None, bytes_eq, cond}
-use Rattle.std.specs.Option.{option_map}
+use Rattle.std.specs.Option.{option_map, option_and_then, unwrap_or}
 use Rattle.proto_tree.specs.declared.constant.Constant.{Constant}
 use Rattle.proto_tree.specs.declared.constant.Constant.TheVariants as constant
 use Rattle.proto_tree.specs.declared.enumeration.EnumItem.{EnumItem}
@@ -65,25 +65,18 @@ abbrev pub rpc_setting : RpcItem → List Setting
 rpc_setting (rpc_item.Option o) = o.setting ∷ []
 rpc_setting i = []
 
-abbrev pub is_word : List ℕ → Option (List ℕ) → Bool
-is_word word None = false
-is_word word (Some name) = bytes_eq name word
-
 -- whether a setting is of this option; a name with dots is of none
 abbrev pub is_setting : OptionName → Setting → Bool
-is_setting name s = is_word (word_of name) (simple_name s.name.rest s.name.first)
+is_setting name s =
+    unwrap_or (option_map (λ word. bytes_eq word (word_of name)) (simple_name s.name.rest s.name.first)) false
 
 abbrev pub first_setting : OptionName → List Setting → Option Setting
 first_setting name [] = None
 first_setting name (s ∷ ss) = cond (is_setting name s) (Some s) (first_setting name ss)
 
-abbrev pub choice_of : ValueKind → Option (List ℕ) → Option ℕ
-choice_of kind None = None
-choice_of kind (Some word) = choice_number kind word
-
 -- the number that a name stands for as a value of this kind
 abbrev pub number_of : ValueKind → FullName → Option ℕ
-number_of kind n = choice_of kind (simple_name n.rest n.first)
+number_of kind n = option_and_then (choice_number kind) (simple_name n.rest n.first)
 
 -- a constant as a value of this kind
 abbrev pub value_of : ValueKind → Constant → Option OptionValue

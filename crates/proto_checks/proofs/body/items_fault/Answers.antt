@@ -1,5 +1,5 @@
 use Rattle.std.proofs.Common.{sym, arith}
-use Rattle.proto_checks.specs.Elements.{ItemBreaks}
+use Rattle.proto_checks.specs.Parts.{ItemBreaks}
 use Rattle.proto_base.proofs.Sets.{each_more, each_all}
 use Rattle.proto_checks.proofs.body.items_fault.Goals as goal
 

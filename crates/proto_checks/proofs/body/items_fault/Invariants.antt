@@ -1,4 +1,4 @@
-use Rattle.proto_checks.specs.Elements.{ItemBreaks}
+use Rattle.proto_checks.specs.Parts.{ItemBreaks}
 use Rattle.proto_base.specs.Least.{IsLeast}
 use Rattle.proto_base.proofs.Sets.{EachTo}
 use Rattle.proto_checks.proofs.body.items_fault.Given as goal

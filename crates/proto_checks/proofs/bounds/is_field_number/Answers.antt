@@ -1,5 +1,8 @@
 use Rattle.std.proofs.Common.{rules}
 use Rattle.proto_checks.proofs.bounds.is_field_number.Goals as goal
 
-pub returns-in-1-to-18999-2 : goal.returns-in-1-to-18999-2
-returns-in-1-to-18999-2 c = search rules
+pub returns-then-number-le-FIELD_MAX : goal.returns-then-number-le-FIELD_MAX
+returns-then-number-le-FIELD_MAX c = search rules
+
+pub returns-else-number-le-FIELD_MAX : goal.returns-else-number-le-FIELD_MAX
+returns-else-number-le-FIELD_MAX c = search rules

@@ -1,6 +1,6 @@
 use Rattle.std.proofs.Common.{sym, arith}
 use Rattle.proto_options.specs.Options.{next_item}
-use Rattle.proto_checks.specs.Options.{IsWrongOnField}
+use Rattle.proto_checks.specs.Parts.{IsWrongOnField}
 use Rattle.proto_base.proofs.Among.{with_rest}
 use Rattle.proto_base.proofs.Sets.{with_more}
 use Rattle.proto_checks.proofs.field_options.bracketed_fault.Goals as goal

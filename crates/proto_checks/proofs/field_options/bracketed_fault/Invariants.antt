@@ -1,5 +1,5 @@
 use Rattle.proto_base.specs.Least.{IsLeast}
-use Rattle.proto_checks.specs.Options.{IsWrongOnField}
+use Rattle.proto_checks.specs.Parts.{IsWrongOnField}
 use Rattle.proto_base.proofs.Sets.{WithTo}
 use Rattle.proto_checks.proofs.field_options.bracketed_fault.Given as goal
 

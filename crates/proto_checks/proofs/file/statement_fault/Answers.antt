@@ -1,6 +1,11 @@
 use Rattle.proto_base.proofs.Among.{if_ok}
-use Rattle.proto_checks.proofs.Whole.{statement_enum, statement_service}
+use Rattle.proto_checks.proofs.Whole.{statement_message, statement_enum, statement_service}
 use Rattle.proto_checks.proofs.file.statement_fault.Goals as goal
+
+pub returns-in-Message : goal.returns-in-Message
+returns-in-Message c =
+    if_ok c.message_fault.result (rw c.get.ensures at c.message_fault.ensures)
+    (λ first h. rw c.in-Message.is (statement_message c.in-Message.message first h))
 
 pub returns-in-Enum : goal.returns-in-Enum
 returns-in-Enum c =

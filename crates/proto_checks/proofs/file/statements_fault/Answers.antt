@@ -1,5 +1,5 @@
 use Rattle.std.proofs.Common.{sym, arith}
-use Rattle.proto_checks.specs.Checks.{StatementBreaks}
+use Rattle.proto_checks.specs.Parts.{StatementBreaks}
 use Rattle.proto_base.proofs.Sets.{each_more, each_all}
 use Rattle.proto_checks.proofs.file.statements_fault.Goals as goal
 

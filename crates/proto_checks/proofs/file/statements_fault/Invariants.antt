@@ -1,4 +1,4 @@
-use Rattle.proto_checks.specs.Checks.{StatementBreaks}
+use Rattle.proto_checks.specs.Parts.{StatementBreaks}
 use Rattle.proto_base.specs.Least.{IsLeast}
 use Rattle.proto_base.proofs.Sets.{EachTo}
 use Rattle.proto_checks.proofs.file.statements_fault.Given as goal

@@ -1,6 +1,6 @@
 use Rattle.std.proofs.Common.{◌≡◌, [], refl, arith}
 use Rattle.std.proofs.lemmas.Grind.{common_steps}
-use Rattle.proto_checks.specs.Checks.{package_in}
+use Rattle.proto_options.specs.Statements.{file_package}
 use Rattle.proto_checks.proofs.Packages.{repeated_none, repeated_next, repeated_skip, repeated_all}
 use Rattle.proto_checks.proofs.package.package_twice.Goals as goal
 use Rattle.proto_checks.proofs.package.package_twice.Goals.{in-Package, in_default}
@@ -16,7 +16,7 @@ loop-statement-preserved c =
           c.loop-statement.is_named c.loop-statement.first w.again_fault.result w.lesser-first.result (omega arith) c.statement-item.is
           (rw w.in-Package.is refl) c.loop-statement.invariant (rw w.get.ensures at w.again_fault.ensures) w.lesser-first.ensures)
       | in_default w ↦ (
-          let none : package_in c.statement-item.result ≡ [] = grind (arith, common_steps) in
+          let none : file_package c.statement-item.result ≡ [] = grind (arith, common_steps) in
           rw (w.first-is, w.is_named-is) (repeated_skip ss c.loop-statement.statement-index c.statement-item.result c.loop-statement.is_named
           c.loop-statement.first (omega arith) c.statement-item.is none c.loop-statement.invariant))
     ]

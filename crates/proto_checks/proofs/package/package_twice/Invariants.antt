@@ -1,8 +1,8 @@
 use Rattle.std.proofs.Common.{take}
 use Rattle.std.specs.Prelude.{flat_map}
-use Rattle.proto_checks.specs.Checks.{package_in}
+use Rattle.proto_options.specs.Statements.{file_package}
 use Rattle.proto_checks.proofs.Packages.{Repeated}
 use Rattle.proto_checks.proofs.package.package_twice.Given as goal
 
 abbrev pub invariant-loop-statement : goal.invariant-loop-statement
-invariant-loop-statement l = Repeated (flat_map package_in (take l.statement-index l.statements)) l.is_named l.first
+invariant-loop-statement l = Repeated (flat_map file_package (take l.statement-index l.statements)) l.is_named l.first

@@ -1,6 +1,7 @@
 use Rattle.std.proofs.Common.{◌∙◌, ap, arith}
 use Rattle.proto_tree.specs.declared.name.FullName.{FullName}
-use Rattle.proto_checks.specs.Checks.{IsPartTooLong, part_name}
+use Rattle.proto_checks.specs.Checks.{IsPartTooLong}
+use Rattle.proto_checks.specs.Parts.{part_name}
 use Rattle.proto_base.proofs.Among.{with_rest}
 use Rattle.proto_checks.proofs.package.parts_fault.Goals as goal
 

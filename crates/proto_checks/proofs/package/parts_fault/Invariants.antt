@@ -1,4 +1,5 @@
-use Rattle.proto_checks.specs.Checks.{IsPartTooLong, part_name}
+use Rattle.proto_checks.specs.Checks.{IsPartTooLong}
+use Rattle.proto_checks.specs.Parts.{part_name}
 use Rattle.proto_base.specs.Least.{IsLeast}
 use Rattle.proto_base.proofs.Sets.{WithTo}
 use Rattle.proto_checks.proofs.package.parts_fault.Given as goal

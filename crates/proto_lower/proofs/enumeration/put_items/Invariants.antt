@@ -1,12 +1,14 @@
-use Rattle.std.proofs.Common.{◌≡◌, ◌++◌, take}
+use Rattle.std.proofs.Common.{◌≡◌, ◌++◌, take, map}
 use Rattle.std.specs.Prelude.{flat_map}
-use Rattle.proto_lower.specs.Enums.{value_of_item}
-use Rattle.proto_lower.specs.Reserveds.{enum_ranges_of, enum_names_of}
+use Rattle.proto_tree.specs.Text.{joined}
+use Rattle.proto_options.specs.Statements.{enum_value, enum_reserved, ranges_in, names_in}
+use Rattle.proto_lower.specs.Enums.{value_desc}
+use Rattle.proto_lower.specs.Reserveds.{enum_range}
 use Rattle.proto_lower.proofs.enumeration.put_items.Given as goal
 
 abbrev pub invariant-loop-item : goal.invariant-loop-item
 invariant-loop-item l = record {
-  values : l.values.items ≡ l.initial.values.items ++ flat_map value_of_item (take l.item-index l.items);
-  ranges : l.ranges.items ≡ l.initial.ranges.items ++ flat_map enum_ranges_of (take l.item-index l.items);
-  names : l.names.items ≡ l.initial.names.items ++ flat_map enum_names_of (take l.item-index l.items);
+  values : l.values.items ≡ l.initial.values.items ++ map value_desc (flat_map enum_value (take l.item-index l.items));
+  ranges : l.ranges.items ≡ l.initial.ranges.items ++ map enum_range (flat_map ranges_in (flat_map enum_reserved (take l.item-index l.items)));
+  names : l.names.items ≡ l.initial.names.items ++ map joined (flat_map names_in (flat_map enum_reserved (take l.item-index l.items)));
 }

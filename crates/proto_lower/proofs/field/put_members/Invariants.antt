@@ -1,7 +1,8 @@
-use Rattle.std.proofs.Common.{◌≡◌, ◌++◌, take}
+use Rattle.std.proofs.Common.{◌≡◌, ◌++◌, take, map}
 use Rattle.std.specs.Prelude.{flat_map}
-use Rattle.proto_lower.specs.Fields.{member_of}
+use Rattle.proto_options.specs.Statements.{oneof_field}
+use Rattle.proto_lower.specs.Fields.{member_at}
 use Rattle.proto_lower.proofs.field.put_members.Given as goal
 
 abbrev pub invariant-loop-item : goal.invariant-loop-item
-invariant-loop-item l = l.out.items ≡ l.initial.out.items ++ flat_map (member_of l.number) (take l.item-index l.items)
+invariant-loop-item l = l.out.items ≡ l.initial.out.items ++ map (member_at l.number) (flat_map oneof_field (take l.item-index l.items))

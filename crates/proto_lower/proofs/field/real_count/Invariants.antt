@@ -1,9 +1,9 @@
-use Rattle.std.proofs.Common.{◌≡◌, ◌+◌, ◌≤◌, drop}
+use Rattle.std.proofs.Common.{◌≡◌, ◌≤◌, take}
 use Rattle.proto_lower.specs.Fields.{real_count}
 use Rattle.proto_lower.proofs.field.real_count.Given as goal
 
 abbrev pub invariant-loop-item : goal.invariant-loop-item
 invariant-loop-item l = record {
-  sum : l.count + real_count (drop l.item-index l.items) ≡ real_count l.items;
+  sum : l.count ≡ real_count (take l.item-index l.items);
   most : l.count ≤ l.item-index;
 }

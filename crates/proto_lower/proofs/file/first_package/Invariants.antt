@@ -1,6 +1,8 @@
 use Rattle.std.proofs.Common.{◌≡◌, drop}
-use Rattle.proto_lower.specs.Files.{first_package}
+use Rattle.std.specs.Prelude.{flat_map, slice_get}
+use Rattle.proto_options.specs.Statements.{file_package}
 use Rattle.proto_lower.proofs.file.first_package.Given as goal
 
 abbrev pub invariant-loop-statement : goal.invariant-loop-statement
-invariant-loop-statement l = first_package (drop l.statement-index l.statements) ≡ first_package l.statements
+invariant-loop-statement l =
+    slice_get (flat_map file_package (drop l.statement-index l.statements)) 0 ≡ slice_get (flat_map file_package l.statements) 0

@@ -1,5 +1,5 @@
 use Rattle.std.proofs.Common.{map, take}
-use Rattle.proto_lower.specs.Names.{IsSetOf}
+use Rattle.proto_lower.specs.Taken.{IsSetOf}
 use Rattle.proto_lower.proofs.names.set_of.Given as goal
 
 abbrev pub invariant-loop-name : goal.invariant-loop-name

@@ -1,5 +1,5 @@
 use Rattle.std.proofs.Common.{◌≡◌, ◌++◌, drop}
-use Rattle.proto_lower.specs.Names.{IsSetOf}
+use Rattle.proto_lower.specs.Taken.{IsSetOf}
 use Rattle.proto_lower.specs.Oneofs.{names_of_fields, names_of_oneofs, with_made}
 use Rattle.proto_lower.proofs.oneof.put_made.Given as goal
 

@@ -1,10 +1,12 @@
-use Rattle.std.proofs.Common.{◌≡◌, ◌++◌, take}
+use Rattle.std.proofs.Common.{◌≡◌, ◌++◌, take, map}
 use Rattle.std.specs.Prelude.{flat_map}
-use Rattle.proto_lower.specs.Reserveds.{message_ranges_of, message_names_of}
+use Rattle.proto_tree.specs.Text.{joined}
+use Rattle.proto_options.specs.Statements.{message_reserved, ranges_in, names_in}
+use Rattle.proto_lower.specs.Reserveds.{message_range}
 use Rattle.proto_lower.proofs.reserved.put_message_reserved.Given as goal
 
 abbrev pub invariant-loop-item : goal.invariant-loop-item
 invariant-loop-item l = record {
-  ranges : l.ranges.items ≡ l.initial.ranges.items ++ flat_map message_ranges_of (take l.item-index l.items);
-  names : l.names.items ≡ l.initial.names.items ++ flat_map message_names_of (take l.item-index l.items);
+  ranges : l.ranges.items ≡ l.initial.ranges.items ++ map message_range (flat_map ranges_in (flat_map message_reserved (take l.item-index l.items)));
+  names : l.names.items ≡ l.initial.names.items ++ map joined (flat_map names_in (flat_map message_reserved (take l.item-index l.items)));
 }

@@ -1,7 +1,8 @@
-use Rattle.std.proofs.Common.{◌≡◌, take}
+use Rattle.std.proofs.Common.{◌≡◌, take, map}
 use Rattle.std.specs.Prelude.{flat_map}
-use Rattle.proto_lower.specs.Services.{method_of}
+use Rattle.proto_options.specs.Statements.{service_rpc}
+use Rattle.proto_lower.specs.Services.{method_desc}
 use Rattle.proto_lower.proofs.service.methods.Given as goal
 
 abbrev pub invariant-loop-item : goal.invariant-loop-item
-invariant-loop-item l = l.methods.items ≡ flat_map method_of (take l.item-index l.items)
+invariant-loop-item l = l.methods.items ≡ map method_desc (flat_map service_rpc (take l.item-index l.items))

@@ -11,7 +11,7 @@ returns-in_err-write_part g c =
     let new = g.O.CountedWrite.writes c.write_part.new.writer in
     let head = c.deref.result.now in
     let same : head ++ bytes ≡ bytes_field 1 bytes =
-        ap (λ (l : List ℕ). l ++ bytes) (c.deref.ensures.value ∙ c.make.ensures) in
+    ap (λ (l : List ℕ). l ++ bytes) (c.deref.ensures.value ∙ c.make.ensures) in
     let done = c.from_residual.result in
     subst (λ (l : List ℕ). IsOutput old new l done) same
     (output_cut old new head bytes c.in_err-write_part.field-0.0 done c.from_residual.ensures.1 c.in_err-write_part.ensures)
@@ -24,7 +24,7 @@ returns g c =
     let new = g.O.CountedWrite.writes c.write_part-2.new.writer in
     let head = c.deref.result.now in
     let same : head ++ bytes ≡ bytes_field 1 bytes =
-        ap (λ (l : List ℕ). l ++ bytes) (c.deref.ensures.value ∙ c.make.ensures) in
+    ap (λ (l : List ℕ). l ++ bytes) (c.deref.ensures.value ∙ c.make.ensures) in
     let done = c.write_part-2.result in
     subst (λ (l : List ℕ). IsOutput old new l done) same
     (output_after old now new head bytes done (of_written old now head c.in_ok-write_part.ensures) c.write_part-2.ensures)

@@ -15,7 +15,7 @@ returns c =
     (vec_len c.clear.new.self + length (varint_bytes 10)) c.put_varint.ensures.appended c.put_varint.ensures.full
     (omega (arith, room, kept, tag, c.clear.ensures.len)) in
     let head : c.put_varint.new.out.items ≡ varint_bytes 10 =
-        first ∙ ap (λ (l : List ℕ). l ++ varint_bytes 10) c.clear.ensures.items in
+    first ∙ ap (λ (l : List ℕ). l ++ varint_bytes 10) c.clear.ensures.items in
     let grown = c.put_varint.ensures.capacity in
     let one = one_byte in
     let len = c.put_varint.new.out.ok.0 in

@@ -50,6 +50,6 @@ returns g c =
     let same = c.set_order-file-items.ensures ∙ ap (λ l. l.set_order) c.links.ensures in
     let all = take_all k order (omega arith) in
     let whole : flat_map F (take k order) ++ [] ≡ set_of compiled.files compiled.links =
-        append-nil (flat_map F (take k order)) ∙ ap (flat_map F) (all ∙ same) in
+    append-nil (flat_map F (take k order)) ∙ ap (flat_map F) (all ∙ same) in
     subst (λ (l : List ℕ). IsOutput old new l c.write_part.result) whole
     (output_after old now new (flat_map F (take k order)) [] c.write_part.result c.loop-file.invariant c.write_part.ensures)
