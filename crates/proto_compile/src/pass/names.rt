@@ -2,7 +2,7 @@
 
 ghost use Rattle.std.specs.Prelude.{List, IfOk, IfErr};
 ghost use Rattle.proto_compile.specs.Descriptions.{Describe};
-ghost use Rattle.proto_compile.specs.Faults.{IsFirstFault, IsRefusal};
+ghost use Rattle.proto_compile.specs.FaultSet.{IsLeastFault, TellsOf};
 ghost use Rattle.proto_links.specs.Imports.{NoneBad};
 ghost use Rattle.proto_names.specs.Index.{Indexes};
 ghost use Rattle.proto_compile.specs.declared.source.Source.{Source};
@@ -26,7 +26,7 @@ where
     requires { NoneBad descs.now }
     ensures indexed { IfOk result (Indexes descs.now limits.now) }
     ensures first { (sources files : List Source) → Describe limits.now sources files descs.now
-        → IfErr result (IsRefusal (IsFirstFault limits.now sources)) }
+        → IfErr result (TellsOf (IsLeastFault limits.now sources)) }
 {
     let alloc = rt.alloc();
     match NameIndex::build(rt, descs, limits) {

@@ -3,12 +3,13 @@ use Rattle.std.proofs.lemmas.List.{take_more_set}
 use Rattle.proto_links.specs.Linked.{sees}
 use Rattle.proto_compile.specs.Analysed.{AllZipFrom}
 use Rattle.proto_compile.specs.Outcomes.{AreTypesOf, IsTypedWhole}
-use Rattle.proto_compile.proofs.Judging.{zip_from_next, zip_length}
+use Rattle.proto_compile.proofs.Judging.{zip_from_next}
 use Rattle.proto_compile.proofs.Typing.{left_first, left_rest, left_some, types_put}
 use Rattle.proto_compile.proofs.pass.types.put_types.Goals as goal
 
 -- all of each, where the first k of them are so related
-zip_whole : {X Y : Type 0} (R : ℕ → X → Y → Type 0) (xs : List X) (ys : List Y) (k : ℕ) → length ys ≡ length xs → length xs ≤ k
+zip_whole : {X Y : Type 0} (R : ℕ → X → Y → Type 0) (xs : List X) (ys : List Y) (k : ℕ) → length ys ≡ length xs
+    → length xs ≤ k
     → AllZipFrom R 0 (take k xs) (take k ys) → AllZipFrom R 0 xs ys
 zip_whole R xs ys k size past all =
     let past_too : length ys ≤ k = omega (arith, size, past) in
@@ -37,7 +38,8 @@ loop-position-preserved c =
       rest = left_rest types k (k + 1) l.left.items pop.new.self.items refl l.invariant.rest pop.ensures.rest;
       made = λ links index all.
           let is : own ≡ get_or types k own =
-          left_first types k l.left.items pop.new.self.items pop.result own l.invariant.rest pop.ensures.items c.in-Some.is in
+          left_first types k l.left.items pop.new.self.items pop.result own l.invariant.rest pop.ensures.items
+          c.in-Some.is in
           let put = types_put links index k before desc filled types own all below here is
           (λ means. (
             c.fill_types.ensures.typed index.occurrences (sees links k) means,
@@ -58,7 +60,6 @@ pub returns-in_default : goal.returns-in_default
 returns-in_default c = λ links index all.
     let l = c.loop-position in
     let types = c.args.types.items in
-    let size = zip_length (AreTypesOf links index) 0 c.args.descs.now.items types all in
     let within : l.position < length l.descs.items = search (rules, arith) in
     absurd (left_some types l.position l.left.items c.pop_front.new.self.items c.pop_front.result l.invariant.rest
-    c.pop_front.ensures.items c.pop_front.ensures.rest (search rules) (omega (arith, within, size, l.invariant.size)))
+    c.pop_front.ensures.items c.pop_front.ensures.rest (search rules) (omega (arith, within, all.0, l.invariant.size)))
