@@ -59,8 +59,7 @@ one_services : (descs : List FileDesc) (limits : Limits) (index other : Index) �
     → Indexes descs limits other → index.services ≡ other.services
 one_services descs limits index other first second =
     one_sorted index.services other.services (names_rise index.services first.sound.order)
-    (names_rise other.services second.sound.order)
-    (λ f. sym (all_services f index first.sound.services)
+    (names_rise other.services second.sound.order) (λ f. sym (all_services f index first.sound.services)
     ∙ sum_by-IsPermutation (counted f) (occurrences descs) index.occurrences first.all
     ∙ sym (sum_by-IsPermutation (counted f) (occurrences descs) other.occurrences second.all)
     ∙ all_services f other second.sound.services)

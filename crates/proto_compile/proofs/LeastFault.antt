@@ -1,8 +1,6 @@
 -- The least fault of sources: the least of the first pass that finds any.
-use Rattle.std.proofs.Common.{◌≡◌, ◌≢◌, ◌∙◌, sym, ℕ, ◌+◌, ◌<◌, ◌≤◌, List, [], length, get_or, map, ap, refl, subst, arith, inl, inr, Less}
+use Rattle.std.proofs.Common.{◌≡◌, ◌∙◌, sym, ℕ, ◌+◌, ◌<◌, ◌≤◌, List, [], length, get_or, ap, refl, subst, arith, inl, inr}
 use Rattle.std.specs.Prelude.{Contains, Result, Ok, Err, IfOk, Vec}
-use Rattle.std.specs.Cmp.Lexicographic.{slice_cmp}
-use Rattle.std.specs.Ordering.{nat_cmp}
 use Rattle.std.specs.declared.alloc.Global.{Global}
 use Rattle.std.proofs.lemmas.Bool.{cases_order}
 use Rattle.std.proofs.lemmas.List.{length-map}
@@ -29,9 +27,9 @@ use Rattle.proto_types.specs.References.{TypesBreak}
 use Rattle.proto_types.specs.declared.meaning.NamedType.{NamedType}
 use Rattle.wire_bytes.specs.Descriptor.{file_desc_bytes}
 use Rattle.proto_compile.specs.Analysed.{AreResolved, IsAnalysed, TypesBreakAt}
-use Rattle.proto_compile.specs.Compilation.{Compilation, IsShort, IsWritten, set_of}
+use Rattle.proto_compile.specs.Compilation.{Compilation, IsWritten, set_of}
 use Rattle.proto_compile.specs.Descriptions.{Describe, SourceDescribes}
-use Rattle.proto_compile.specs.FaultSet.{AreDescribed, Breaks, IsLeastFault, IsNoLater, SourceFault, StandsDesc, bad_import, bad_type, fault, file_fault, long_descriptor, long_set, many_files, many_names, of_file, of_list, repeated_file_name, repeated_name, start}
+use Rattle.proto_compile.specs.FaultSet.{Breaks, IsLeastFault, IsNoLater, SourceFault, StandsDesc, bad_import, bad_type, fault, file_fault, long_descriptor, long_set, many_files, many_names, of_file, of_list, repeated_file_name, repeated_name, start}
 use Rattle.proto_compile.specs.Faults.{Stands}
 use Rattle.proto_compile.specs.Outcomes.{IsDescribed, IsFirstBad, IsResolved, IsWrittenShort}
 use Rattle.proto_compile.specs.Sources.{AreByName, AreSorted, IsFirstRepeated, name_at, name_of, text_of}
@@ -355,8 +353,7 @@ module _ (limits : Limits) (sources : List Source) where
           let one = one_resolved limits sources files others typed also links links' index index' r resolved in
           let Later : List FileDesc → Type 0 = λ ds. StandsDesc ds b desc
           → IsNoLater first (of_file 5 (imports.name_at ds b) start kind.DescriptorTooLong) in
-          subst Later one.1 (λ at.
-          later_file 5 typed f.at b start start kind.DescriptorTooLong kind.DescriptorTooLong
+          subst Later one.1 (λ at. later_file 5 typed f.at b start start kind.DescriptorTooLong kind.DescriptorTooLong
           (in_order files typed (resolved_names r) r.analysed.described.by_name.rises) at.0 (order b desc at over))
           stands
       own y breaks same = absurd (omega (arith, same))

@@ -16,6 +16,5 @@ pub mod Serving
 pub mod Sorting
 mod Tabling
 pub mod Twice
-pub mod Typing
 pub mod Within
 pub mod Zipping

@@ -70,8 +70,7 @@ descs_for_each {sorted = sorted} {descs = descs} r = zipped.as_many sorted descs
 pub written_of : {limits : Limits} {sources sorted named : List Source} {descs : List FileDesc} {links : Linked}
     {index : Index} {files : List CompiledFile} → AreResolved limits sources sorted descs links index
     → All (IsShort limits) descs → named ≡ sorted → map file_name files ≡ map name_of named
-    → map file_bytes files ≡ map file_desc_bytes descs
-    → IsWritten limits sources (compilation limits files links index)
+    → map file_bytes files ≡ map file_desc_bytes descs → IsWritten limits sources (compilation limits files links index)
 written_of {sorted = sorted} {descs = descs} resolved short same_names names bytes = record {
   sorted = sorted;
   descs = descs;

@@ -1,5 +1,5 @@
 -- Where sources have passed, no rule of those passes is broken.
-use Rattle.std.proofs.Common.{◌≡◌, sym, ℕ, ◌+◌, ◌<◌, ◌≤◌, List, length, ap, subst, arith, Less}
+use Rattle.std.proofs.Common.{◌≡◌, sym, ℕ, ◌<◌, ◌≤◌, List, length, ap, subst, arith, Less}
 use Rattle.std.specs.List.{All}
 use Rattle.std.specs.Cmp.Lexicographic.{slice_cmp}
 use Rattle.std.specs.Ordering.{nat_cmp}
@@ -19,7 +19,7 @@ use Rattle.proto_names.specs.Index.{Index}
 use Rattle.proto_names.specs.Occurrences.{NoneTwice, occurrences}
 use Rattle.proto_types.specs.References.{TypesBreak}
 use Rattle.proto_compile.specs.Analysed.{AreResolved, IsAnalysed}
-use Rattle.proto_compile.specs.Compilation.{Compilation, IsCompiled, IsShort, IsWritten, set_of}
+use Rattle.proto_compile.specs.Compilation.{Compilation, IsCompiled, IsShort, IsWritten}
 use Rattle.proto_compile.specs.Descriptions.{Describe, SourceDescribes}
 use Rattle.proto_compile.specs.FaultSet.{AreDescribed, Breaks, SourceFault, StandsDesc, bad_import, bad_type, file_fault, long_descriptor, long_set, many_files, many_names, repeated_file_name, repeated_name}
 use Rattle.proto_compile.specs.Sources.{AreByName, AreSorted, name_at, name_of, text_of}
@@ -41,8 +41,7 @@ module _ (limits : Limits) (sources : List Source) where
   -- sources describe one list
   pub one_descs : (ds es : List FileDesc) → AreDescribed limits sources ds → AreDescribed limits sources es → ds ≡ es
   one_descs ds es first second = (one_list_described limits sources first.files second.files ds es first.by_name
-      first.each
-      second.by_name second.each).1
+      first.each second.by_name second.each).1
 
   -- ---- pass by pass
 

@@ -145,8 +145,7 @@ module _ (limits : Limits) (sources : List Source) where
   in_desc n none descs a desc place d at inside =
       let (s, there, is) = described_at limits d.files descs d.each a desc at in
       in_source limits sources (λ y breaks less. none y breaks (omega (arith, less))) s (imports.name_at descs a) place
-      (of_files d.files d.by_name s (a, there.0, there.1))
-      (sym (name_of_item d.files a s there.0 (sym there.1))
+      (of_files d.files d.by_name s (a, there.0, there.1)) (sym (name_of_item d.files a s there.0 (sym there.1))
       ∙ same_name_at d.files descs a (same_names limits d.files descs d.each))
       (place_inside limits (name_of s) (text_of s) desc place is
       (inside (length (text_of s)) (places_within limits (name_of s) (text_of s) desc is)))

@@ -1,5 +1,5 @@
 -- The names of services: no more than the names of the files, and none longer than a full name may be.
-use Rattle.std.proofs.Common.{◌≡◌, ◌∙◌, sym, ap, subst, refl, ℕ, zero, suc, ◌+◌, ◌<◌, ◌≤◌, Bool, true, false, cond, ◌⊎◌, inl, inr, List, [], ◌∷◌, map, length, get_or, Option, Some, None, arith}
+use Rattle.std.proofs.Common.{◌≡◌, subst, refl, ℕ, zero, suc, ◌+◌, ◌<◌, ◌≤◌, Bool, true, inl, inr, List, [], ◌∷◌, map, length, get_or, Option, Some, None, arith}
 use Rattle.std.specs.Prelude.{Contains, IsPermutation, filter}
 use Rattle.std.specs.List.{All, AllZip}
 use Rattle.std.proofs.lemmas.Bool.{cases_lt, false≢true}
@@ -73,8 +73,7 @@ module _ (limits : Limits) where
       (All-map Fits (declared_occurrence a) (declared_by desc) (λ k d h service. (
       let e = get_or (declared_by desc) k d in
       not_long (limit_of limits limit.FullNameBytes) (length (full_name e))
-      (λ long. unbroken (spot e.place kind.NameTooLong)
-      (name_long (
+      (λ long. unbroken (spot e.place kind.NameTooLong) (name_long (
         k,
         e,
         subst (λ (f : FileDesc). (k < length (declared_by f)) × (get_or (declared_by f) k e ≡ e)) made

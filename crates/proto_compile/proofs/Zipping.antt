@@ -1,5 +1,5 @@
 -- Sources and what they describe.
-use Rattle.std.proofs.Common.{◌≡◌, ◌∙◌, sym, ℕ, ◌+◌, ◌<◌, List, [], ◌∷◌, ◌++◌, length, take, get_or, map, ap, subst, arith, refl, inl, inr, Less}
+use Rattle.std.proofs.Common.{◌≡◌, ◌∙◌, sym, ℕ, ◌+◌, ◌<◌, List, [], ◌∷◌, length, get_or, map, ap, subst, arith, refl, inl, inr, Less}
 use Rattle.std.specs.List.{AllZip}
 use Rattle.std.specs.Prelude.{Contains}
 use Rattle.std.specs.Cmp.Lexicographic.{slice_cmp}
@@ -46,8 +46,7 @@ typed_names links index a (f ∷ fs) (g ∷ gs) all =
     ∙ ap (λ (ns : List (List ℕ)). imports.name_of f ∷ ns) (typed_names links index (a + 1) fs gs all.1)
 
 pub resolved_names : {limits : Limits} {sources files : List Source} {typed : List FileDesc} {links : Linked}
-    {index : Index}
-    → AreResolved limits sources files typed links index → map imports.name_of typed ≡ map name_of files
+    {index : Index} → AreResolved limits sources files typed links index → map imports.name_of typed ≡ map name_of files
 resolved_names {limits = limits} {files = files} {typed = typed} {links = links} {index = index} r =
     typed_names links index 0 r.descs typed r.each ∙ same_names limits files r.descs r.analysed.described.each
 
@@ -80,10 +79,6 @@ bad_inside descs a place kind bad = elim (cases_lt a (length descs)) [
       (omega (arith, l, over)) in
       absurd (none_in bad.0 (subst (λ (is : List ImportDesc). Contains is bad.0) none bad.1)))
 ]
-
-pub bad_within : (descs : List FileDesc) (a : ℕ) (place : Place) (kind : Kind) → imports.IsFirstBad descs a place kind
-    → a < length descs
-bad_within descs a place kind first = bad_inside descs a place kind first.bad
 
 -- what occurs beside another
 pub contains_second : (os : List Occurrence) (a b : Occurrence) → ContainsBoth os a b → Contains os b

@@ -1,4 +1,4 @@
-use Rattle.std.proofs.Common.{length, ◌≤◌, []}
+use Rattle.std.proofs.Common.{length, ◌≤◌}
 use Rattle.proto_base.specs.declared.kind.Kind.TheVariants as kind
 use Rattle.proto_base.specs.Limits.{limit_of}
 use Rattle.proto_base.specs.declared.limits.Limit.TheVariants as limit

@@ -1,4 +1,4 @@
-use Rattle.std.proofs.Common.{arith, subst, List, [], ℕ}
+use Rattle.std.proofs.Common.{arith, subst, List, ℕ}
 use Rattle.proto_base.specs.declared.kind.Kind.TheVariants as kind
 use Rattle.proto_compile.specs.FaultSet.{IsLeastFault, of_file, of_list, start}
 use Rattle.proto_compile.proofs.Judging.{told}

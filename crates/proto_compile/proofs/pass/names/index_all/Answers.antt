@@ -1,4 +1,4 @@
-use Rattle.std.proofs.Common.{◌∙◌, sym, ap, arith, subst, List, [], ℕ}
+use Rattle.std.proofs.Common.{◌∙◌, sym, ap, arith, subst, List, ℕ}
 use Rattle.std.specs.Prelude.{Err}
 use Rattle.proto_base.specs.declared.kind.Kind.TheVariants as kind
 use Rattle.proto_compile.specs.FaultSet.{IsLeastFault, of_file, of_list}

@@ -1,10 +1,26 @@
-use Rattle.std.proofs.Common.{rules}
+use Rattle.std.proofs.Common.{◌≡◌, ℕ, ◌+◌, List, [], ◌∷◌, All, rules, true}
+use Rattle.std.proofs.lemmas.List.Elements.{All-cons, All-nil}
+use Rattle.proto_desc.specs.Resolved.{file_resolved}
+use Rattle.proto_desc.specs.declared.file.FileDesc.{FileDesc}
+use Rattle.proto_links.specs.Linked.{Linked}
+use Rattle.proto_names.specs.Index.{Index}
+use Rattle.proto_compile.specs.Analysed.{AllZipFrom, AreTypedFrom}
 use Rattle.proto_compile.specs.FaultSet.{IsLeastFault}
-use Rattle.proto_compile.specs.Outcomes.{IsFirstBad, IsResolved}
+use Rattle.proto_compile.specs.Outcomes.{IsFirstBad, IsResolved, IsTypedWhole}
 use Rattle.proto_compile.proofs.Judging.{gives_well, tells_more}
 use Rattle.proto_compile.proofs.LeastFault.{first_break}
-use Rattle.proto_compile.proofs.Typing.{all_typed}
 use Rattle.proto_compile.proofs.pass.types.resolve_all.Goals as goal
+
+-- descriptors with their types, all of them resolved
+all_typed : (links : Linked) (index : Index) (a : ℕ) (descs typed : List FileDesc)
+    → AllZipFrom (IsTypedWhole links index) a descs typed
+    → AreTypedFrom links index a descs typed × All (λ desc. file_resolved desc ≡ true) typed
+all_typed links index a [] [] all = (tt, All-nil (λ desc. file_resolved desc ≡ true))
+all_typed links index a [] (g ∷ gs) all = absurd all
+all_typed links index a (f ∷ fs) [] all = absurd all
+all_typed links index a (f ∷ fs) (g ∷ gs) all =
+    let rest = all_typed links index (a + 1) fs gs all.1 in
+    ((all.0.0, rest.0), All-cons (λ desc. file_resolved desc ≡ true) g gs all.0.1 rest.1)
 
 pub returns-in_err-types-clause-first : goal.returns-in_err-types-clause-first
 returns-in_err-types-clause-first g c limits sources analysed =
