@@ -117,9 +117,8 @@ module _ (limits : Limits) (sources : List Source) where
       breaks =
           let (i, j, less, below, one, two) = two_moved files sources (name_at files k)
           (IsPermutation-sym sources files sorted.all) (two_at files k (k + 1) (omega arith) first.below first.same) in
-          let size = length-map sources name_of in
           subst (λ (n : List ℕ). Breaks limits sources (of_file 0 n start kind.FileNameTwice)) one
-          (repeated_file_name i j less (omega (arith, below, size)) (one ∙ sym two))
+          (repeated_file_name i j less (omega (arith, below, length-map sources name_of)) (one ∙ sym two))
 
       own : (y : SourceFault) → Breaks limits sources y → y.pass ≡ 0
           → IsNoLater (of_file 0 (name_at files k) start kind.FileNameTwice) y
@@ -147,12 +146,10 @@ module _ (limits : Limits) (sources : List Source) where
       → ((b : ℕ) (t : Source) → b < k → Stands files b t → (desc : FileDesc) × SourceDescribes limits t desc)
       → IsLeastFault limits sources (fault 1 (name_of s) step place what)
   local_least files k s step place what few order at wrong before =
+      let inside = Contains-permutation files sources s (IsPermutation-sym sources files order.all) (k, at.0, at.1) in
       least_of (fault 1 (name_of s) step place what) (file_fault s step place what inside wrong)
       (none_of_list limits sources files few order) own
     where
-      inside : Contains sources s
-      inside = Contains-permutation files sources s (IsPermutation-sym sources files order.all) (k, at.0, at.1)
-
       own : (y : SourceFault) → Breaks limits sources y → y.pass ≡ 1 → IsNoLater (fault 1 (name_of s) step place what) y
       own _ (file_fault t other q l within also) same =
           let (b, below, is) = Contains-permutation sources files t order.all within in
@@ -251,8 +248,7 @@ module _ (limits : Limits) (sources : List Source) where
       own _ (many_names others described over) same =
           let same = one_descs limits sources others descs described (as_described limits sources files descs d) in
           let number = ap (λ (ds : List FileDesc). length (occurrences ds)) same in
-          let within = repeated.within in
-          absurd (omega (arith, over, within, number))
+          absurd (omega (arith, over, repeated.within, number))
       own _ (repeated_name others o described twice) same =
           let Later : List FileDesc → Type 0 = λ ds. IsTwice (occurrences ds) o
           → IsNoLater (of_file 3 (imports.name_at descs a) place kind.NameTwice)
@@ -344,8 +340,7 @@ module _ (limits : Limits) (sources : List Source) where
         | inr (inl less) ↦ inl less
         | inr (inr over) ↦ (
             let t = f.well b over in
-            let fits = (outcome b desc (Ok t.0) at t.1).1 in
-            absurd (omega (arith, fits, long)))
+            absurd (omega (arith, (outcome b desc (Ok t.0) at t.1).1, long)))
       ]
 
       own : (y : SourceFault) → Breaks limits sources y → y.pass ≡ 5 → IsNoLater first y

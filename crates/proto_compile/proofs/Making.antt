@@ -52,13 +52,10 @@ pub counts : (limits : Limits) (sources sorted : List Source) (descs : List File
 counts limits sources sorted descs links index files resolved names =
     let is = resolved.analysed in
     let size = zipped.same_length limits sorted resolved.descs is.described.each in
-    let many = as_many sorted files names in
-    let linked = is.linked.count in
-    let indexed = is.indexed.files in (
-      omega (arith, size, many, linked),
-      omega (arith, size, many, indexed),
-      λ a has. let below = (is.linked.order.every a).0 has in
-          omega (arith, size, many, below),
+    let many = as_many sorted files names in (
+      omega (arith, size, many, is.linked.count),
+      omega (arith, size, many, is.indexed.files),
+      λ a has. omega (arith, size, many, (is.linked.order.every a).0 has),
     )
 
 -- as many descriptors as sources

@@ -76,8 +76,7 @@ module _ (limits : Limits) (sources : List Source) where
   none_of_names files descs links index is _ (many_names others described over) less =
       let same = one_descs others descs described (as_described files descs is.described) in
       let number = ap (λ (ds : List FileDesc). length (occurrences ds)) same in
-      let within = is.indexed.within in
-      omega (arith, over, within, number)
+      omega (arith, over, is.indexed.within, number)
   none_of_names files descs links index is _ (repeated_name others o described twice) less =
       let same = one_descs descs others (as_described files descs is.described) described in
       let none : NoneTwice (occurrences others) =
@@ -112,6 +111,5 @@ module _ (limits : Limits) (sources : List Source) where
   pub no_fault_at_all : (c : Compilation) (x : SourceFault) → IsCompiled limits sources c → Breaks limits sources x → ⊥
   no_fault_at_all c _ is (long_set d written over) =
       let number = ap length (one_set limits sources d c written is.written) in
-      let within = is.within in
-      omega (arith, over, within, number)
+      omega (arith, over, is.within, number)
   no_fault_at_all c x is breaks = none_of_lengths c is.written x breaks (omega arith)

@@ -26,11 +26,7 @@ one_list [] [] names bytes = refl
 one_list [] (g ∷ gs) names bytes = let n = ap length names in absurd (omega (arith, n))
 one_list (f ∷ fs) [] names bytes = let n = ap length names in absurd (omega (arith, n))
 one_list (f ∷ fs) (g ∷ gs) names bytes =
-    let name : file_name f ≡ file_name g = cc in
-    let text : file_bytes f ≡ file_bytes g = cc in
-    let more : map file_name fs ≡ map file_name gs = cc in
-    let texts : map file_bytes fs ≡ map file_bytes gs = cc in
-    ap (λ x. x ∷ fs) (one_file f g name text) ∙ ap (λ xs. g ∷ xs) (one_list fs gs more texts)
+    ap (λ x. x ∷ fs) (one_file f g (cc) (cc)) ∙ ap (λ xs. g ∷ xs) (one_list fs gs (cc) (cc))
 
 -- ---- compilations
 

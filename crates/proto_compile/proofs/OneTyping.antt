@@ -58,9 +58,7 @@ one_zip R one [] (y ∷ ys) zs first second = absurd first
 one_zip R one (x ∷ xs) [] zs first second = absurd first
 one_zip R one (x ∷ xs) (y ∷ ys) [] first second = absurd second
 one_zip R one (x ∷ xs) (y ∷ ys) (z ∷ zs) first second =
-    let same : y ≡ z = one x y z first.0 second.0 in
-    let rest : ys ≡ zs = one_zip R one xs ys zs first.1 second.1 in
-    ap (λ w. w ∷ ys) same ∙ ap (λ ws. z ∷ ws) rest
+    ap (λ w. w ∷ ys) (one x y z first.0 second.0) ∙ ap (λ ws. z ∷ ws) (one_zip R one xs ys zs first.1 second.1)
 
 pub one_list_described : (limits : Limits) (sources f g : List Source) (ds es : List FileDesc) → AreByName sources f
     → AllZip (SourceDescribes limits) f ds → AreByName sources g → AllZip (SourceDescribes limits) g es
@@ -131,8 +129,7 @@ module _ (descs : List FileDesc) (links others : Linked) (index other : Index)
   one_typed a (f ∷ fs) (g ∷ gs) (k ∷ hs) h first second =
       let same : g ≡ k = file_same index.occurrences other.occurrences (SeenBy links a) (SeenBy others a)
       (alike a (omega (arith, h))) (file_scope f.«package») f g k first.0.resolved second.0.resolved in
-      let rest : gs ≡ hs = one_typed (a + 1) fs gs hs (omega (arith, h)) first.1 second.1 in
-      ap (λ x. x ∷ gs) same ∙ ap (λ xs. k ∷ xs) rest
+      ap (λ x. x ∷ gs) same ∙ ap (λ xs. k ∷ xs) (one_typed (a + 1) fs gs hs (omega (arith, h)) first.1 second.1)
 
 pub analysed_moved : (limits : Limits) (sources f g : List Source) (ds es : List FileDesc) (links : Linked)
     (index : Index)

@@ -62,10 +62,9 @@ pub names_more : (sources : List Source) (files : List CompiledFile) (n : ℕ) (
     → map file_name files ≡ take n (map name_of sources) → n < length sources
     → map file_name (files ++ entry (name_at sources n) bytes ∷ []) ≡ take (n + 1) (map name_of sources)
 names_more sources files n bytes names h =
-    let l = length-map sources name_of in
     map-append file_name files (entry (name_at sources n) bytes ∷ [])
     ∙ ap (λ (ns : List (List ℕ)). ns ++ name_at sources n ∷ []) names
-    ∙ sym (take_more (map name_of sources) n [] (omega (arith, h, l)))
+    ∙ sym (take_more (map name_of sources) n [] (omega (arith, h, length-map sources name_of)))
 
 pub bytes_more : (files : List CompiledFile) (yielded : List (Vec ℕ Global)) (name : List ℕ) (bytes : Vec ℕ Global)
     → map file_bytes files ≡ map items_of yielded

@@ -18,13 +18,10 @@ pub name_of_item : (files : List Source) (k : ℕ) (s : Source) → k < length f
     → name_at files k ≡ name_of s
 name_of_item files k s h is = name_is files k s h ∙ ap name_of (sym is)
 
-greater_back : (o r : Ordering) → r ≡ ordering_reverse o → o ≡ Greater → is_lt r ≡ false → ⊥
-greater_back o r e g h = true≢false (sym (ap is_lt (e ∙ ap ordering_reverse g)) ∙ h)
-
 -- no name is less than the one before it
 pub not_greater : (xs ys : List ℕ) → is_lt (slice_cmp nat_cmp ys xs) ≡ false → slice_cmp nat_cmp xs ys ≢ Greater
-not_greater xs ys h g = greater_back (slice_cmp nat_cmp xs ys) (slice_cmp nat_cmp ys xs)
-    (nat_list_cmp_total.antisymm ys xs) g h
+not_greater xs ys h g =
+    true≢false (sym (ap is_lt (nat_list_cmp_total.antisymm ys xs ∙ ap ordering_reverse g)) ∙ h)
 
 less_left : (o : Ordering) → o ≢ Greater → o ≢ Equal → o ≡ Less
 less_left Less g e = refl

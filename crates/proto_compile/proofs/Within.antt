@@ -1,7 +1,6 @@
 -- What files have in the set, by its length.
 use Rattle.std.proofs.Common.{◌≡◌, sym, ap, subst, ℕ, ◌+◌, ◌<◌, ◌≤◌, Bool, not, List, [], length, get_or, map, Less, arith, refl}
 use Rattle.std.specs.Prelude.{Contains, filter, flat_map}
-use Rattle.std.proofs.lemmas.List.{length-map}
 use Rattle.std.proofs.lemmas.List.Concat.{length-flat_map}
 use Rattle.std.proofs.lemmas.List.Filters.{sum_by-filter_both}
 use Rattle.std.proofs.lemmas.List.Sums.{get_or-le-sum_by}
@@ -10,8 +9,8 @@ use Rattle.proto_links.proofs.Whole.{whole_of}
 use Rattle.wire_format.specs.Field.{bytes_field}
 use Rattle.std.specs.Cmp.Lexicographic.{slice_cmp}
 use Rattle.std.specs.Ordering.{nat_cmp}
-use Rattle.proto_compile.specs.Sources.{name_of}
 use Rattle.proto_compile.specs.Compilation.{Compilation, IsOfSources, bytes_at, file_name, set_of}
+use Rattle.proto_compile.proofs.Making.{as_many}
 
 -- one of many
 one_of : (f : ℕ → List ℕ) (xs : List ℕ) (a : ℕ) → Contains xs a → length (f a) ≤ length (flat_map f xs)
@@ -34,11 +33,8 @@ pub names_rise : (c : Compilation) → IsOfSources c → (k : ℕ) → k + 1 < l
 names_rise c (sources, is) k h =
     let written = is.written in
     let names = written.names in
-    let l = length-map c.files file_name in
-    let m = length-map written.sorted name_of in
-    let n = ap length names in
     subst (λ (ns : List (List ℕ)). slice_cmp nat_cmp (get_or ns k []) (get_or ns (k + 1) []) ≡ Less) (sym names)
-    (written.resolved.analysed.described.by_name.rises k (omega (arith, h, l, m, n)))
+    (written.resolved.analysed.described.by_name.rises k (omega (arith, h, as_many written.sorted c.files names)))
 
 pub file_within : (c : Compilation) → IsOfSources c → (a : ℕ) → a < count_of c.links
     → length (bytes_field 1 (bytes_at c.files a)) ≤ length (set_of c.files c.links)

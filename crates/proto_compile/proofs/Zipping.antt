@@ -62,9 +62,8 @@ as_many files descs names = sym (length-map files name_of) ∙ ap length (sym na
 pub in_order : (files : List Source) (descs : List FileDesc) → map imports.name_of descs ≡ map name_of files
     → NamesRise files → imports.AreInNameOrder descs
 in_order files descs names rises k h =
-    let size = as_many files descs names in
     subst (λ (ns : List (List ℕ)). slice_cmp nat_cmp (get_or ns k []) (get_or ns (k + 1) []) ≡ Less) (sym names)
-    (rises k (omega (arith, h, size)))
+    (rises k (omega (arith, h, as_many files descs names)))
 
 -- ---- files of faults
 
@@ -87,14 +86,12 @@ contains_second os a b (i, j, other, first, second) =
 
 pub twice_within : (descs : List FileDesc) (o : Occurrence) → IsTwice (occurrences descs) o → o.file < length descs
 twice_within descs o twice =
-    let below = below_from 0 descs o (contains_second (occurrences descs) twice.0 o twice.1) in omega (arith, below)
+    omega (arith, below_from 0 descs o (contains_second (occurrences descs) twice.0 o twice.1))
 
 pub repeated_within : (limits : Limits) (descs : List FileDesc) (a : ℕ) (place : Place)
     → IsRepeated descs limits a place → a < length descs
 repeated_within limits descs a place repeated =
-    let (o, twice, file, at) = repeated.twice.found in
-    let below = twice_within descs o twice in
-    omega (arith, file, below)
+    let (o, twice, file, at) = repeated.twice.found in omega (arith, file, twice_within descs o twice)
 
 pub desc_name : (descs : List FileDesc) (k : ℕ) (d : FileDesc) → k < length descs
     → imports.name_at descs k ≡ imports.name_of (get_or descs k d)

@@ -10,8 +10,7 @@ use Rattle.proto_compile.proofs.pass.names.index_all.Goals as goal
 pub offset_bounds-descs-at : goal.offset_bounds-descs-at
 offset_bounds-descs-at g c =
     let twice = c.in-Err-At.ensures.twice c.in-Err-At.at c.in-Err-At.place (ap Err c.in-Err-At.field-0-is) in
-    let below = repeated_within c.args.limits.now c.args.descs.now c.in-Err-At.at c.in-Err-At.place twice in
-    omega (arith, below)
+    omega (arith, repeated_within c.args.limits.now c.args.descs.now c.in-Err-At.at c.in-Err-At.place twice)
 
 pub bounds-descs-at : goal.bounds-descs-at
 bounds-descs-at g c = repeated_within c.args.limits.now c.args.descs.now c.in-Err-At.at c.in-Err-At.place
