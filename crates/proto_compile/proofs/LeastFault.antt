@@ -1,6 +1,6 @@
 -- The least fault of sources: the least of the first pass that finds any.
 use Rattle.std.proofs.Common.{◌≡◌, ◌∙◌, sym, ℕ, ◌+◌, ◌<◌, ◌≤◌, List, [], length, get_or, ap, refl, subst, arith, inl, inr}
-use Rattle.std.specs.Prelude.{Contains, Result, Ok, Err, IfOk, Vec}
+use Rattle.std.specs.Prelude.{Result, Ok, Err, IfOk, Vec}
 use Rattle.std.specs.declared.alloc.Global.{Global}
 use Rattle.std.proofs.lemmas.Bool.{cases_order}
 use Rattle.std.proofs.lemmas.List.{length-map}

@@ -45,12 +45,9 @@ short_services n os short name has =
     subst (λ (xs : List ℕ). length xs ≤ n) is (fits service)
 
 few_services : (os : List Occurrence) → length (services_of os) ≤ length os
-few_services os = omega (
-  arith,
-  length-map (filter is_service os) name_of,
-  length-filter is_service os,
-  count_by-le-length is_service os,
-)
+few_services os =
+    let size = length-map (filter is_service os) name_of in
+    omega (arith, size, length-filter is_service os, count_by-le-length is_service os)
 
 -- ---- what files declare
 

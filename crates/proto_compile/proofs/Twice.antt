@@ -42,13 +42,10 @@ Two ns n = (i : ℕ) × (j : ℕ) × (i < j) × (j < length ns) × (get_or ns i 
 counted : (ns : List (List ℕ)) (n : List ℕ) → Two ns n → 2 ≤ sum_by (hits n) ns
 counted ns n (i, j, less, below, first, second) =
     let within : i < length (take j ns) = omega (arith, less, below, length-take j ns) in
-    omega (
-      arith,
-      sum_by_more_le (hits n) ns j [] below,
-      get_or-le-sum_by (hits n) (take j ns) i [] within,
-      hit n (get_or (take j ns) i []) (get_or-take j ns i [] less ∙ first),
-      hit n (get_or ns j []) second,
-    )
+    let one = hit n (get_or (take j ns) i []) (get_or-take j ns i [] less ∙ first) in
+    let two = hit n (get_or ns j []) second in
+    let part = get_or-le-sum_by (hits n) (take j ns) i [] within in
+    omega (arith, sum_by_more_le (hits n) ns j [] below, part, one, two)
 
 find : (ns : List (List ℕ)) (n : List ℕ) → 1 ≤ sum_by (hits n) ns → (i : ℕ) × (i < length ns) × (get_or ns i [] ≡ n)
 find [] n h = absurd (omega (arith, h))

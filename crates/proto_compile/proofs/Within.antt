@@ -20,12 +20,9 @@ one_of f xs a (k, below, is) =
 
 -- some of many
 some_of : (f : ℕ → List ℕ) (p : ℕ → Bool) (xs : List ℕ) → length (flat_map f (filter p xs)) ≤ length (flat_map f xs)
-some_of f p xs = omega (
-  arith,
-  length-flat_map f (filter p xs),
-  length-flat_map f xs,
-  sum_by-filter_both p (λ b. not (p b)) (λ b. refl) (λ b. length (f b)) xs,
-)
+some_of f p xs =
+    let parts = sum_by-filter_both p (λ b. not (p b)) (λ b. refl) (λ b. length (f b)) xs in
+    omega (arith, length-flat_map f (filter p xs), length-flat_map f xs, parts)
 
 -- names rise as those of the sources do
 pub names_rise : (c : Compilation) → IsOfSources c → (k : ℕ) → k + 1 < length c.files
