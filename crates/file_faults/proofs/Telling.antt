@@ -9,12 +9,13 @@ use Rattle.proto_base.specs.declared.limits.Limit.TheVariants as limit
 use Rattle.proto_base.specs.declared.limits.Limits.{Limits}
 use Rattle.proto_base.specs.declared.place.Place.{Place}
 use Rattle.proto_compile.specs.Descriptions.{SourceDescribes}
-use Rattle.proto_compile.specs.Faults.{Stands, in_file}
+use Rattle.proto_compile.specs.Faults.{Stands}
 use Rattle.proto_compile.specs.FaultSet.{IsLeastFault, SourceFault, fault, told_by}
 use Rattle.proto_compile.specs.Sources.{AreByName, name_of, text_of}
 use Rattle.proto_compile.specs.declared.source.Source.{Source}
-use Rattle.proto_compile.proofs.Checks.{same_told}
-use Rattle.proto_compile.proofs.LeastFault.{first_is_least}
+use Rattle.proto_compile.proofs.FaultOrder.{same_told}
+use Rattle.proto_compile.proofs.LeastFault.{local_least}
+use Rattle.proto_compile.proofs.OneTyping.{standing_in, zipped_at}
 use Rattle.proto_desc.specs.declared.file.FileDesc.{FileDesc}
 use Rattle.proto_file.specs.Local.{IsLocalFault}
 use Rattle.proto_file.proofs.OneLocal.{no_local, one_local}
@@ -70,9 +71,10 @@ first_least : (limits : Limits) (sources files : List Source) (x : SourceFault)
     → length sources ≤ limit_of limits limit.Files → AreByName sources files
     → IsFirst limits files x → IsLeastFault limits sources x
 first_least limits sources files x few order r =
-    let P : SourceFault → Type 0 = λ y. IsLeastFault limits sources y in
-    subst P (sym r.is) (first_is_least limits sources 1 (name_of r.source) r.step r.place r.what
-    (in_file files r.descs r.at r.source r.step r.place r.what few order r.before r.stands r.found))
+    subst (IsLeastFault limits sources) (sym r.is)
+    (local_least limits sources files r.at r.source r.step r.place r.what few order r.stands r.found (λ b t less there.
+    let (below, is) = standing_in files b r.at t less there.0 there.1 in
+    zipped_at (SourceDescribes limits) (take r.at files) r.descs b t r.before below is))
 
 pub least_of_files : (limits : Limits) (sources files : List Source) (faults : List Fault)
     → length sources ≤ limit_of limits limit.Files

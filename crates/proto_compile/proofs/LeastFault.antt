@@ -1,321 +1,366 @@
--- The first fault of sources is the least of all of them, and sources that are compiled have none.
-use Rattle.std.proofs.Common.{◌≡◌, ◌∙◌, sym, ℕ, ◌+◌, ◌<◌, ◌≤◌, List, [], ◌∷◌, ap, arith, refl, subst, inl, inr}
+-- The least fault of sources: the least of the first pass that finds any.
+use Rattle.std.proofs.Common.{◌≡◌, ◌∙◌, sym, ℕ, ◌+◌, ◌<◌, ◌≤◌, List, [], length, get_or, ap, refl, subst, arith, inl, inr}
+use Rattle.std.specs.Prelude.{Result, Ok, Err, IfOk, Vec}
+use Rattle.std.specs.declared.alloc.Global.{Global}
+use Rattle.std.proofs.lemmas.Bool.{cases_order}
+use Rattle.std.proofs.lemmas.List.{length-map}
+use Rattle.std.proofs.lemmas.List.Sorted.{Contains-permutation, IsPermutation-sym}
+use Rattle.share_work.specs.Shares.{GivesItems}
+use Rattle.proto_base.specs.Least.{spot}
+use Rattle.proto_base.specs.Limits.{limit_of}
 use Rattle.proto_base.specs.declared.kind.Kind.{Kind}
 use Rattle.proto_base.specs.declared.kind.Kind.TheVariants as kind
+use Rattle.proto_base.specs.declared.limits.Limit.TheVariants as limit
 use Rattle.proto_base.specs.declared.limits.Limits.{Limits}
 use Rattle.proto_base.specs.declared.place.Place.{Place}
-use Rattle.proto_links.specs.Imports as imports
-use Rattle.proto_compile.specs.Compilation.{Compilation, IsCompiled}
-use Rattle.proto_compile.specs.FaultSet.{Breaks, IsFault, IsLeastFault, bad_import, bad_type, file_fault, long_descriptor, long_set, many_files, many_names, repeated_file_name, repeated_name, start}
-use Rattle.proto_compile.specs.Faults.{IsFirstFault, descriptor_too_long, file_name_twice, in_file, in_imports, in_types, name_twice, set_too_long, too_many_files, too_many_names}
-use Rattle.proto_compile.specs.declared.source.Source.{Source}
-use Rattle.proto_compile.proofs.AfterFirst.{names_after}
-use Rattle.proto_compile.proofs.Twice.{order_least, out_of_order}
-use Rattle.proto_compile.proofs.Zipping.{contains_second}
-use Rattle.proto_compile.proofs.Checks.{AllPass, Check, FirstOf, Told, told}
-use Rattle.proto_compile.proofs.FaultOrder.{NoLater, later_pass, list_before, list_first, one_told}
-use Rattle.proto_compile.proofs.LeastEarly.{AllLeast, AnyOf, Least, as_described, count_least, described_of, import_least, local_least}
-use Rattle.proto_compile.proofs.LateChecks.{length_check, many_check, set_check, twice_check, type_check}
-use Rattle.proto_compile.proofs.EarlyChecks.{count_check, import_check, local_check, order_check}
 use Rattle.proto_desc.specs.declared.file.FileDesc.{FileDesc}
-use Rattle.proto_compile.proofs.LeastLate.{HasTwice, break_from_index, length_least, many_least, set_least, twice_least, type_least}
-use Rattle.proto_compile.proofs.OneAnswer.{all_pass, first_of}
-use Rattle.proto_compile.proofs.OneTyping.{one_description}
-use Rattle.proto_names.specs.Occurrences.{occurrences}
-use Rattle.std.specs.Prelude.{length, Contains}
-use Rattle.std.proofs.lemmas.List.Sorted.{Contains-permutation, IsPermutation-sym}
-use Rattle.proto_base.specs.Least.{spot}
-use Rattle.proto_compile.specs.Sources.{AreByName, name_at}
+use Rattle.proto_file.proofs.OneLocal.{no_local, one_local}
+use Rattle.proto_file.specs.Local.{IsLocalFault}
+use Rattle.proto_file.specs.declared.error.FileError.{FileError}
+use Rattle.proto_file.specs.declared.error.FileError.TheVariants as local
+use Rattle.proto_links.specs.Imports as imports
+use Rattle.proto_links.specs.Bad as bad_imports
+use Rattle.proto_links.specs.Linked.{Linked}
+use Rattle.proto_links.specs.Visible.{Sees}
+use Rattle.proto_names.specs.Index.{Index}
+use Rattle.proto_names.specs.Repeated.{IsRepeated, IsFirstTwice}
+use Rattle.proto_names.specs.Occurrences.{IsTwice, Occurrence, occurrences}
+use Rattle.proto_types.specs.References.{TypesBreak}
+use Rattle.proto_types.specs.declared.meaning.NamedType.{NamedType}
+use Rattle.wire_bytes.specs.Descriptor.{file_desc_bytes}
+use Rattle.proto_compile.specs.Analysed.{AreResolved, IsAnalysed, TypesBreakAt}
+use Rattle.proto_compile.specs.Compilation.{Compilation, IsWritten, set_of}
+use Rattle.proto_compile.specs.Descriptions.{Describe, SourceDescribes}
+use Rattle.proto_compile.specs.FaultSet.{Breaks, IsLeastFault, IsNoLater, SourceFault, StandsDesc, bad_import, bad_type, fault, file_fault, long_descriptor, long_set, many_files, many_names, of_file, of_list, repeated_file_name, repeated_name, start}
 use Rattle.proto_compile.specs.Faults.{Stands}
+use Rattle.proto_compile.specs.Outcomes.{IsDescribed, IsFirstBad, IsResolved, IsWrittenShort}
+use Rattle.proto_compile.specs.Sources.{AreByName, AreSorted, IsFirstRepeated, name_at, name_of, text_of}
+use Rattle.proto_compile.specs.declared.source.Source.{Source}
+use Rattle.proto_compile.proofs.FaultOrder.{later_name, later_pass, later_spot, no_name_first, one_fault, same_later, same_name, same_told}
+use Rattle.proto_compile.proofs.Judging.{given_at}
+pub use Rattle.proto_compile.proofs.NoneBroken.{no_fault_at_all}
+use Rattle.proto_compile.proofs.NoneBroken.{NoneBefore, as_described, none_of_files, none_of_imports, none_of_lengths, none_of_list, none_of_names, none_of_types, one_descs}
+use Rattle.proto_compile.proofs.OneTyping.{break_from_index, break_to_index, item_at, one_resolved, standing_one}
+use Rattle.proto_compile.proofs.Placing.{names_after}
+use Rattle.proto_compile.proofs.Rising.{before_in_order}
+use Rattle.proto_compile.proofs.Sorting.{name_of_item}
+use Rattle.proto_compile.proofs.Twice.{neighbours, two_at, two_moved, up_in_order}
+use Rattle.proto_compile.proofs.Zipping.{bad_inside, contains_second, in_order, resolved_names, same_name_at, same_names, twice_within}
 
--- ---- checks in the order of their passes
+-- faults of two files of a list whose names rise
+later_file : (pass : ℕ) (descs : List FileDesc) (a b : ℕ) (p q : Place) (k l : Kind) → bad_imports.AreInNameOrder descs
+    → b < length descs → bad_imports.IsNoLater a p k b q l
+    → IsNoLater (of_file pass (imports.name_at descs a) p k) (of_file pass (imports.name_at descs b) q l)
+later_file pass descs a b p q k l rise h (inl less) =
+    later_name pass (imports.name_at descs a) (imports.name_at descs b) 0 0 p q k l
+    (before_in_order (imports.name_at descs) (length descs) a b rise less h)
+later_file pass descs a b p q k l rise h (inr (same, most)) =
+    let name = imports.name_at descs a in
+    subst (λ i. IsNoLater (of_file pass name p k) (of_file pass (imports.name_at descs i) q l)) same
+    (later_spot pass name name 0 p q k l (same_name name) most)
 
--- each of a pass from n on, and of no earlier one than the check before it
-abbrev RiseFrom : ℕ → (cs : List Check) → AllLeast cs → Type 0
-RiseFrom n [] all = Unit {0}
-RiseFrom n (c ∷ cs) all = (n ≤ all.0.pass) × RiseFrom all.0.pass cs all.1
+-- of two names that stand twice, the first
+twice_order : (os : List Occurrence) (a : ℕ) (p : Place) (o : Occurrence) → IsFirstTwice os a p → IsTwice os o
+    → bad_imports.IsNoLater a p kind.NameTwice o.file o.place kind.NameTwice
+twice_order os a p o first twice = elim (cases_order a o.file) [
+  | inl same ↦ elim (cases_order p.offset o.place.offset) [
+    | inl at ↦ inr (same, inr (at, omega arith))
+    | inr (inl less) ↦ inr (same, inl less)
+    | inr (inr over) ↦ absurd (first.least o twice (inr (sym same, over)))
+  ]
+  | inr (inl less) ↦ inl less
+  | inr (inr over) ↦ absurd (first.least o twice (inl over))
+]
 
--- what a check finds first comes no later than what any later one finds
-abbrev AllAhead : (cs : List Check) → AllLeast cs → Type 0
-AllAhead [] all = Unit {0}
-AllAhead (c ∷ cs) all = ((x y : Told) → c.Finds x → AnyOf cs all.1 y → NoLater x y) × AllAhead cs all.1
+-- a source's outcome, by what it tells
+pub outcome_of : (limits : Limits) (s : Source) (r : Result FileDesc FileError) → IfOk r (SourceDescribes limits s)
+    → ((step : ℕ) (place : Place) (what : Kind) → r ≡ Err (local.At step place what)
+    → IsLocalFault limits (name_of s) (text_of s) step place what) → IsDescribed limits s r
+outcome_of limits s (Ok desc) described first = described
+outcome_of limits s (Err (local.At step place what)) described first = first step place what refl
+outcome_of limits s (Err local.NoMemory) described first = tt
 
-pass_from : (n : ℕ) (cs : List Check) (all : AllLeast cs) → RiseFrom n cs all → (y : Told) → AnyOf cs all y → n ≤ y.pass
-pass_from n [] all rise y any = absurd any
-pass_from n (c ∷ cs) all rise y (inl has) = omega (arith, rise.0, all.0.numbered y has)
-pass_from n (c ∷ cs) all rise y (inr later) = omega (arith, rise.0, pass_from all.0.pass cs all.1 rise.1 y later)
+module _ (limits : Limits) (sources : List Source) where
+  least_of : (x : SourceFault) → Breaks limits sources x → NoneBefore limits sources x.pass
+      → ((y : SourceFault) → Breaks limits sources y → y.pass ≡ x.pass → IsNoLater x y) → IsLeastFault limits sources x
+  least_of x breaks none own = record {
+    among = record { breaks = breaks; judged = none };
+    least = λ y found. elim (cases_order x.pass y.pass) [
+      | inl same ↦ own y found.breaks (sym same)
+      | inr (inl less) ↦ later_pass x y less
+      | inr (inr over) ↦ absurd (none y found.breaks over)
+    ];
+  }
 
-least_of : (cs : List Check) (all : AllLeast cs) → AllAhead cs all → (x y : Told) → FirstOf cs x → AnyOf cs all y → NoLater x y
-least_of [] all ahead x y first any = absurd first
-least_of (c ∷ cs) all ahead x y (inl found) (inl has) = all.0.least x y found has
-least_of (c ∷ cs) all ahead x y (inl found) (inr later) = ahead.0 x y found later
-least_of (c ∷ cs) all ahead x y (inr first) (inl has) = absurd (all.0.never y has first.0)
-least_of (c ∷ cs) all ahead x y (inr first) (inr later) = least_of cs all.1 ahead.1 x y first.1 later
+  -- two that are least are one
+  pub one_least : (x y : SourceFault) → IsLeastFault limits sources x → IsLeastFault limits sources y → x ≡ y
+  one_least x y first second = one_fault x y (first.least y second.among) (second.least x first.among)
 
--- no pass before that of the first finding finds anything
-none_earlier : (n : ℕ) (cs : List Check) (all : AllLeast cs) → RiseFrom n cs all → (x y : Told) → FirstOf cs x → AnyOf cs all y → y.pass < x.pass → ⊥
-none_earlier n [] all rise x y first any less = absurd first
-none_earlier n (c ∷ cs) all rise x y (inl found) (inl has) less =
-    omega (arith, less, all.0.numbered x (all.0.among x found), all.0.numbered y has)
-none_earlier n (c ∷ cs) all rise x y (inl found) (inr later) less =
-    omega (arith, less, all.0.numbered x (all.0.among x found), pass_from all.0.pass cs all.1 rise.1 y later)
-none_earlier n (c ∷ cs) all rise x y (inr first) (inl has) less = all.0.never y has first.0
-none_earlier n (c ∷ cs) all rise x y (inr first) (inr later) less = none_earlier all.0.pass cs all.1 rise.1 x y first.1 later less
+  -- ---- the list of sources
 
-none_of : (cs : List Check) (all : AllLeast cs) → AllPass cs → (x : Told) → AnyOf cs all x → ⊥
-none_of [] all pass x any = absurd any
-none_of (c ∷ cs) all pass x (inl has) = all.0.never x has pass.0
-none_of (c ∷ cs) all pass x (inr later) = none_of cs all.1 pass.1 x later
+  pub many_least : limit_of limits limit.Files < length sources
+      → IsLeastFault limits sources (of_list 0 kind.TooManyFiles)
+  many_least over = least_of (of_list 0 kind.TooManyFiles) (many_files over) (λ y breaks less. omega (arith, less)) own
+    where
+      own : (y : SourceFault) → Breaks limits sources y → y.pass ≡ 0 → IsNoLater (of_list 0 kind.TooManyFiles) y
+      own _ (many_files over) same = same_later (of_list 0 kind.TooManyFiles) (of_list 0 kind.TooManyFiles) refl
+      own _ (repeated_file_name i j less below twice) same =
+          later_spot 0 [] (name_at sources i) 0 start start kind.TooManyFiles kind.FileNameTwice
+          (no_name_first (name_at sources i)) (inr (refl, omega arith))
+      own y breaks same = absurd (omega (arith, same))
 
--- ---- the checks of sources, from the last one back
+  pub repeated_least : (files : List Source) (k : ℕ) → length sources ≤ limit_of limits limit.Files
+      → AreSorted sources files → IsFirstRepeated files k
+      → IsLeastFault limits sources (of_file 0 (name_at files k) start kind.FileNameTwice)
+  repeated_least files k few sorted first =
+      least_of (of_file 0 (name_at files k) start kind.FileNameTwice) breaks (λ y breaks less. omega (arith, less)) own
+    where
+      breaks : Breaks limits sources (of_file 0 (name_at files k) start kind.FileNameTwice)
+      breaks =
+          let (i, j, less, below, one, two) = two_moved files sources (name_at files k)
+          (IsPermutation-sym sources files sorted.all) (two_at files k (k + 1) (omega arith) first.below first.same) in
+          subst (λ (n : List ℕ). Breaks limits sources (of_file 0 n start kind.FileNameTwice)) one
+          (repeated_file_name i j less (omega (arith, below, length-map sources name_of)) (one ∙ sym two))
 
-pass_ahead : (c : Check) (l : Least c) (n : ℕ) (cs : List Check) (all : AllLeast cs) → RiseFrom n cs all → l.pass < n → (x y : Told) → c.Finds x → AnyOf cs all y
-    → NoLater x y
-pass_ahead c l n cs all rise less x y found any = later_pass x y (omega (arith, less, l.numbered x (l.among x found), pass_from n cs all rise y any))
+      own : (y : SourceFault) → Breaks limits sources y → y.pass ≡ 0
+          → IsNoLater (of_file 0 (name_at files k) start kind.FileNameTwice) y
+      own _ (many_files over) same = absurd (omega (arith, few, over))
+      own _ (repeated_file_name i j less below twice) same =
+          let (b, inside, name, next) =
+          neighbours sources files (name_at sources i) sorted (two_at sources i j less below twice) in
+          let Later : List ℕ → Type 0 = λ n.
+          IsNoLater (of_file 0 (name_at files k) start kind.FileNameTwice) (of_file 0 n start kind.FileNameTwice) in
+          let later : k ≤ b → Later (name_at files b) = λ most.
+          later_spot 0 (name_at files k) (name_at files b) 0 start start kind.FileNameTwice kind.FileNameTwice
+          (up_in_order sources files k b sorted most (omega (arith, inside))) (inr (refl, omega arith)) in
+          subst Later name (elim (cases_order k b) [
+            | inl here ↦ later (omega (arith, here))
+            | inr (inl before) ↦ later (omega (arith, before))
+            | inr (inr over) ↦ absurd (first.first b over next)
+          ])
+      own y breaks same = absurd (omega (arith, same))
 
-many_before : (limits : Limits) (sources : List Source) (x y : Told) → (many_check limits sources).Finds x → HasTwice limits sources y → NoLater x y
-many_before limits sources x y f g =
-    let after = names_after limits g.described.files g.descs g.what g.described.each (contains_second (occurrences g.descs) g.twice.0 g.what g.twice.1) in
-    rw (f.is, g.is) (list_before 3 (imports.name_at g.descs g.what.file) 0 start g.what.place kind.TooManyNames kind.NameTwice after)
+  -- ---- the sources by themselves
 
-abbrev set_checks : Limits → List Source → List Check
-set_checks limits sources = set_check limits sources ∷ []
+  pub local_least : (files : List Source) (k : ℕ) (s : Source) (step : ℕ) (place : Place) (what : Kind)
+      → length sources ≤ limit_of limits limit.Files → AreByName sources files → Stands files k s
+      → IsLocalFault limits (name_of s) (text_of s) step place what
+      → ((b : ℕ) (t : Source) → b < k → Stands files b t → (desc : FileDesc) × SourceDescribes limits t desc)
+      → IsLeastFault limits sources (fault 1 (name_of s) step place what)
+  local_least files k s step place what few order at wrong before =
+      let inside = Contains-permutation files sources s (IsPermutation-sym sources files order.all) (k, at.0, at.1) in
+      least_of (fault 1 (name_of s) step place what) (file_fault s step place what inside wrong)
+      (none_of_list limits sources files few order) own
+    where
+      own : (y : SourceFault) → Breaks limits sources y → y.pass ≡ 1 → IsNoLater (fault 1 (name_of s) step place what) y
+      own _ (file_fault t other q l within also) same =
+          let (b, below, is) = Contains-permutation sources files t order.all within in
+          let Later : Source → Type 0 = λ u. IsLocalFault limits (name_of u) (text_of u) other q l
+          → IsNoLater (fault 1 (name_of s) step place what) (fault 1 (name_of u) other q l) in
+          elim (cases_order k b) [
+            | inl here ↦ (
+                let there = subst (λ i. get_or files i t ≡ t) (sym here) is in
+                subst Later (standing_one files k s t at.0 at.1 there) (λ own.
+                let one = one_local limits (name_of s) (text_of s) step other place q what l wrong own in
+                same_later (fault 1 (name_of s) step place what) (fault 1 (name_of s) other q l)
+                (same_told 1 1 step other (name_of s) (name_of s) place q what l refl refl one.0 one.1 one.2)) also)
+            | inr (inl less) ↦ (
+                let rise = before_in_order (name_at files) (length files) k b order.rises less below in
+                later_name 1 (name_of s) (name_of t) step other place q what l
+                (rw (← name_of_item files k s at.0 (sym at.1), ← name_of_item files b t below (sym is)) rise))
+            | inr (inr over) ↦ (
+                let d = before b t over (below, is) in
+                absurd (no_local limits (name_of t) (text_of t) d.0 other q l d.1 also))
+          ]
+      own y breaks same = absurd (omega (arith, same))
 
-abbrev last_least : (limits : Limits) (sources : List Source) → AllLeast (set_checks limits sources)
-last_least limits sources = (set_least limits sources, tt)
+  pub first_local : (files : List Source) (outcomes : List (Result FileDesc FileError))
+      → length sources ≤ limit_of limits limit.Files → AreByName sources files
+      → GivesItems (λ k. IsDescribed limits) 0 files outcomes → (x : SourceFault) → IsFirstBad 1 files outcomes x
+      → IsLeastFault limits sources x
+  first_local files outcomes few order gives x f =
+      let none : Result FileDesc FileError = Err local.NoMemory in
+      let (s, at) = item_at files f.at (omega (arith, f.below, gives.0)) in
+      let wrong = given_at (λ k. IsDescribed limits) files outcomes f.at s none (Err (local.At f.step f.place f.what))
+      gives at.0 at.1 f.bad in
+      let before : (b : ℕ) (t : Source) → b < f.at → Stands files b t
+      → (desc : FileDesc) × SourceDescribes limits t desc = λ b t less there. (
+        (f.well b less).0,
+        given_at (λ k. IsDescribed limits) files outcomes b t none (Ok (f.well b less).0) gives there.0 there.1
+            (f.well b less).1,
+      ) in
+      let named = ap (λ (n : List ℕ). fault 1 n f.step f.place f.what) (name_of_item files f.at s at.0 (sym at.1)) in
+      subst (IsLeastFault limits sources) (sym (f.is ∙ named))
+      (local_least files f.at s f.step f.place f.what few order at wrong before)
 
-set_rise : (limits : Limits) (sources : List Source) (n : ℕ) → n ≤ 6 → RiseFrom n (set_checks limits sources) (last_least limits sources)
-set_rise limits sources n h = (h, tt)
+  -- ---- imports
 
-set_ahead : (limits : Limits) (sources : List Source) → AllAhead (set_checks limits sources) (last_least limits sources)
-set_ahead limits sources = (λ x y found any. absurd any, tt)
+  pub import_least : (files : List Source) (descs : List FileDesc) (a : ℕ) (place : Place) (what : Kind)
+      → Describe limits sources files descs → bad_imports.IsFirstBad descs a place what
+      → IsLeastFault limits sources (of_file 2 (imports.name_at descs a) place what)
+  import_least files descs a place what d first =
+      least_of (of_file 2 (imports.name_at descs a) place what)
+      (bad_import descs a place what (as_described limits sources files descs d) first.bad)
+      (none_of_files limits sources files descs d) own
+    where
+      own : (y : SourceFault) → Breaks limits sources y → y.pass ≡ 2
+          → IsNoLater (of_file 2 (imports.name_at descs a) place what) y
+      own _ (bad_import others b q l described bad) same =
+          let Later : List FileDesc → Type 0 = λ ds. imports.IsBad ds b q l
+          → IsNoLater (of_file 2 (imports.name_at descs a) place what) (of_file 2 (imports.name_at ds b) q l) in
+          let one = one_descs limits sources descs others (as_described limits sources files descs d) described in
+          subst Later one (λ own. later_file 2 descs a b place q what l
+          (in_order files descs (same_names limits files descs d.each) d.by_name.rises)
+          (bad_inside descs b q l own) (first.least b q l own)) bad
+      own y breaks same = absurd (omega (arith, same))
 
-abbrev lengths_checks : Limits → List Source → List Check
-lengths_checks limits sources = length_check limits sources ∷ set_checks limits sources
+  -- ---- names
 
-abbrev lengths_least : (limits : Limits) (sources : List Source) → AllLeast (lengths_checks limits sources)
-lengths_least limits sources = (length_least limits sources, last_least limits sources)
+  pub many_names_least : (files : List Source) (descs : List FileDesc) → Describe limits sources files descs
+      → imports.NoneBad descs → limit_of limits limit.Names < length (occurrences descs)
+      → IsLeastFault limits sources (of_list 3 kind.TooManyNames)
+  many_names_least files descs d whole over =
+      least_of (of_list 3 kind.TooManyNames) (many_names descs (as_described limits sources files descs d) over)
+      (none_of_imports limits sources files descs d whole) own
+    where
+      own : (y : SourceFault) → Breaks limits sources y → y.pass ≡ 3 → IsNoLater (of_list 3 kind.TooManyNames) y
+      own _ (many_names others described more) same =
+          same_later (of_list 3 kind.TooManyNames) (of_list 3 kind.TooManyNames) refl
+      own _ (repeated_name others o described twice) same =
+          let here = contains_second (occurrences others) twice.0 o twice.1 in
+          later_spot 3 [] (imports.name_at others o.file) 0 start o.place kind.TooManyNames kind.NameTwice
+          (no_name_first (imports.name_at others o.file))
+          (inl (names_after limits described.files others o described.each here))
+      own y breaks same = absurd (omega (arith, same))
 
-lengths_rise : (limits : Limits) (sources : List Source) (n : ℕ) → n ≤ 5 → RiseFrom n (lengths_checks limits sources) (lengths_least limits sources)
-lengths_rise limits sources n h = (h, set_rise limits sources 5 (omega arith))
+  pub name_twice_least : (files : List Source) (descs : List FileDesc) (a : ℕ) (place : Place)
+      → Describe limits sources files descs → imports.NoneBad descs → IsRepeated descs limits a place
+      → IsLeastFault limits sources (of_file 3 (imports.name_at descs a) place kind.NameTwice)
+  name_twice_least files descs a place d whole repeated =
+      least_of (of_file 3 (imports.name_at descs a) place kind.NameTwice) breaks
+      (none_of_imports limits sources files descs d whole) own
+    where
+      breaks : Breaks limits sources (of_file 3 (imports.name_at descs a) place kind.NameTwice)
+      breaks =
+          let (o, twice, file, at) = repeated.twice.found in
+          rw (← file, ← at) (repeated_name descs o (as_described limits sources files descs d) twice)
 
-lengths_ahead : (limits : Limits) (sources : List Source) → AllAhead (lengths_checks limits sources) (lengths_least limits sources)
-lengths_ahead limits sources = (
-  pass_ahead (length_check limits sources) (length_least limits sources) 6 (set_checks limits sources) (last_least limits sources)
-      (set_rise limits sources 6 (omega arith)) (omega arith),
-  set_ahead limits sources,
-)
+      own : (y : SourceFault) → Breaks limits sources y → y.pass ≡ 3
+          → IsNoLater (of_file 3 (imports.name_at descs a) place kind.NameTwice) y
+      own _ (many_names others described over) same =
+          let same = one_descs limits sources others descs described (as_described limits sources files descs d) in
+          let number = ap (λ (ds : List FileDesc). length (occurrences ds)) same in
+          absurd (omega (arith, over, repeated.within, number))
+      own _ (repeated_name others o described twice) same =
+          let Later : List FileDesc → Type 0 = λ ds. IsTwice (occurrences ds) o
+          → IsNoLater (of_file 3 (imports.name_at descs a) place kind.NameTwice)
+          (of_file 3 (imports.name_at ds o.file) o.place kind.NameTwice) in
+          let one = one_descs limits sources descs others (as_described limits sources files descs d) described in
+          subst Later one (λ own. later_file 3 descs a o.file place o.place kind.NameTwice kind.NameTwice
+          (in_order files descs (same_names limits files descs d.each) d.by_name.rises) (twice_within descs o own)
+          (twice_order (occurrences descs) a place o repeated.twice own)) twice
+      own y breaks same = absurd (omega (arith, same))
 
-abbrev types_checks : Limits → List Source → List Check
-types_checks limits sources = type_check limits sources ∷ lengths_checks limits sources
+  -- ---- types
 
-abbrev types_least : (limits : Limits) (sources : List Source) → AllLeast (types_checks limits sources)
-types_least limits sources = (type_least limits sources, lengths_least limits sources)
+  pub first_break : (files : List Source) (descs : List FileDesc) (links : Linked) (index : Index)
+      (outcomes : List (Result (Vec NamedType Global) FileError)) → IsAnalysed limits sources files descs links index
+      → GivesItems (IsResolved links index) 0 descs outcomes → (x : SourceFault) → IsFirstBad 4 files outcomes x
+      → IsLeastFault limits sources x
+  first_break files descs links index outcomes is gives x f =
+      let described = as_described limits sources files descs is.described in
+      let name = same_name_at files descs f.at (same_names limits files descs is.described.each) in
+      let (desc, at) = item_at descs f.at (omega (arith, f.below, gives.0)) in
+      let found = outcome f.at desc (Err (local.At f.step f.place f.what)) at f.bad in
+      let breaks = bad_type descs f.at desc f.place f.what described at
+      (break_from_index limits descs links index is.linked is.indexed f.at desc (spot f.place f.what) at.0
+      found.1.found) in
+      subst (IsLeastFault limits sources) (sym (f.is ∙ same_told 4 4 f.step 0 (name_at files f.at)
+      (imports.name_at descs f.at) f.place f.place f.what f.what refl name found.0 refl refl))
+      (least_of first breaks (none_of_names limits sources files descs links index is) own)
+    where
+      first : SourceFault
+      first = of_file 4 (imports.name_at descs f.at) f.place f.what
 
-types_rise : (limits : Limits) (sources : List Source) (n : ℕ) → n ≤ 4 → RiseFrom n (types_checks limits sources) (types_least limits sources)
-types_rise limits sources n h = (h, lengths_rise limits sources 4 (omega arith))
+      outcome : (b : ℕ) (desc : FileDesc) (o : Result (Vec NamedType Global) FileError) → StandsDesc descs b desc
+          → get_or outcomes b (Err local.NoMemory) ≡ o → IsResolved links index b desc o
+      outcome b desc o at =
+          given_at (IsResolved links index) descs outcomes b desc (Err local.NoMemory) o gives at.0 at.1
 
-types_ahead : (limits : Limits) (sources : List Source) → AllAhead (types_checks limits sources) (types_least limits sources)
-types_ahead limits sources = (
-  pass_ahead (type_check limits sources) (type_least limits sources) 5 (lengths_checks limits sources) (lengths_least limits sources)
-      (lengths_rise limits sources 5 (omega arith)) (omega arith),
-  lengths_ahead limits sources,
-)
+      order : (b : ℕ) (desc : FileDesc) (q : Place) (l : Kind) → StandsDesc descs b desc
+          → TypesBreakAt links index b desc (spot q l) → bad_imports.IsNoLater f.at f.place f.what b q l
+      order b desc q l at wrong = elim (cases_order f.at b) [
+        | inl here ↦ (
+            let bad = ap (λ i. get_or outcomes i (Err local.NoMemory)) (sym here) ∙ f.bad in
+            inr (here, (outcome b desc (Err (local.At f.step f.place f.what)) at bad).1.least (spot q l) wrong))
+        | inr (inl less) ↦ inl less
+        | inr (inr over) ↦ (
+            let t = f.well b over in
+            absurd ((outcome b desc (Ok t.0) at t.1).0 (spot q l) wrong))
+      ]
 
-abbrev repeats_checks : Limits → List Source → List Check
-repeats_checks limits sources = twice_check limits sources ∷ types_checks limits sources
+      own : (y : SourceFault) → Breaks limits sources y → y.pass ≡ 4 → IsNoLater first y
+      own _ (bad_type others b desc q l also stands breaks) same =
+          let Later : List FileDesc → Type 0 = λ ds.
+          StandsDesc ds b desc → TypesBreak (occurrences ds) (Sees ds b) desc (spot q l)
+          → IsNoLater first (of_file 4 (imports.name_at ds b) q l) in
+          let d = is.described in
+          let one = one_descs limits sources descs others (as_described limits sources files descs d) also in
+          let rise = in_order files descs (same_names limits files descs d.each) d.by_name.rises in
+          subst Later one (λ at own. later_file 4 descs f.at b f.place q f.what l rise at.0 (order b desc q l at
+          (break_to_index limits descs links index is.linked is.indexed b desc (spot q l) at.0 own))) stands breaks
+      own y breaks same = absurd (omega (arith, same))
 
-abbrev repeats_least : (limits : Limits) (sources : List Source) → AllLeast (repeats_checks limits sources)
-repeats_least limits sources = (twice_least limits sources, types_least limits sources)
+  -- ---- lengths
 
-repeats_rise : (limits : Limits) (sources : List Source) (n : ℕ) → n ≤ 3 → RiseFrom n (repeats_checks limits sources) (repeats_least limits sources)
-repeats_rise limits sources n h = (h, types_rise limits sources 3 (omega arith))
+  pub first_long : (files : List Source) (typed : List FileDesc) (links : Linked) (index : Index)
+      (outcomes : List (Result (Vec ℕ Global) FileError)) → AreResolved limits sources files typed links index
+      → GivesItems (λ k. IsWrittenShort limits) 0 typed outcomes → (x : SourceFault) → IsFirstBad 5 files outcomes x
+      → IsLeastFault limits sources x
+  first_long files typed links index outcomes r gives x f =
+      let (desc, at) = item_at typed f.at (omega (arith, f.below, gives.0)) in
+      let found = outcome f.at desc (Err (local.At f.step f.place f.what)) at f.bad in
+      subst (IsLeastFault limits sources) (sym (f.is ∙ same_told 5 5 f.step 0 (name_at files f.at)
+      (imports.name_at typed f.at) f.place start f.what kind.DescriptorTooLong refl
+      (same_name_at files typed f.at (resolved_names r)) found.0 found.1 found.2))
+      (least_of first (long_descriptor files typed links index f.at desc r at found.3)
+      (none_of_types limits sources files typed links index r) own)
+    where
+      first : SourceFault
+      first = of_file 5 (imports.name_at typed f.at) start kind.DescriptorTooLong
 
-repeats_ahead : (limits : Limits) (sources : List Source) → AllAhead (repeats_checks limits sources) (repeats_least limits sources)
-repeats_ahead limits sources = (
-  pass_ahead (twice_check limits sources) (twice_least limits sources) 4 (types_checks limits sources) (types_least limits sources)
-      (types_rise limits sources 4 (omega arith)) (omega arith),
-  types_ahead limits sources,
-)
+      outcome : (b : ℕ) (desc : FileDesc) (o : Result (Vec ℕ Global) FileError) → StandsDesc typed b desc
+          → get_or outcomes b (Err local.NoMemory) ≡ o → IsWrittenShort limits desc o
+      outcome b desc o at =
+          given_at (λ k. IsWrittenShort limits) typed outcomes b desc (Err local.NoMemory) o gives at.0 at.1
 
-abbrev names_checks : Limits → List Source → List Check
-names_checks limits sources = many_check limits sources ∷ repeats_checks limits sources
+      order : (b : ℕ) (desc : FileDesc) → StandsDesc typed b desc
+          → limit_of limits limit.DescriptorBytes < length (file_desc_bytes desc)
+          → bad_imports.IsNoLater f.at start kind.DescriptorTooLong b start kind.DescriptorTooLong
+      order b desc at long = elim (cases_order f.at b) [
+        | inl here ↦ inr (here, inr (refl, omega arith))
+        | inr (inl less) ↦ inl less
+        | inr (inr over) ↦ (
+            let t = f.well b over in
+            absurd (omega (arith, (outcome b desc (Ok t.0) at t.1).1, long)))
+      ]
 
-abbrev names_least : (limits : Limits) (sources : List Source) → AllLeast (names_checks limits sources)
-names_least limits sources = (many_least limits sources, repeats_least limits sources)
+      own : (y : SourceFault) → Breaks limits sources y → y.pass ≡ 5 → IsNoLater first y
+      own _ (long_descriptor others also links' index' b desc resolved stands over) same =
+          let one = one_resolved limits sources files others typed also links links' index index' r resolved in
+          let Later : List FileDesc → Type 0 = λ ds. StandsDesc ds b desc
+          → IsNoLater first (of_file 5 (imports.name_at ds b) start kind.DescriptorTooLong) in
+          subst Later one.1 (λ at. later_file 5 typed f.at b start start kind.DescriptorTooLong kind.DescriptorTooLong
+          (in_order files typed (resolved_names r) r.analysed.described.by_name.rises) at.0 (order b desc at over))
+          stands
+      own y breaks same = absurd (omega (arith, same))
 
-names_rise : (limits : Limits) (sources : List Source) (n : ℕ) → n ≤ 3 → RiseFrom n (names_checks limits sources) (names_least limits sources)
-names_rise limits sources n h = (h, repeats_rise limits sources 3 (omega arith))
-
-names_ahead : (limits : Limits) (sources : List Source) → AllAhead (names_checks limits sources) (names_least limits sources)
-names_ahead limits sources = (
-  λ x y found any. elim any [
-    | inl g ↦ many_before limits sources x y found g
-    | inr later ↦ pass_ahead (many_check limits sources) (many_least limits sources) 4 (types_checks limits sources) (types_least limits sources)
-        (types_rise limits sources 4 (omega arith)) (omega arith) x y found later
-  ],
-  repeats_ahead limits sources,
-)
-
-abbrev imports_checks : Limits → List Source → List Check
-imports_checks limits sources = import_check limits sources ∷ names_checks limits sources
-
-abbrev imports_least : (limits : Limits) (sources : List Source) → AllLeast (imports_checks limits sources)
-imports_least limits sources = (import_least limits sources, names_least limits sources)
-
-imports_rise : (limits : Limits) (sources : List Source) (n : ℕ) → n ≤ 2 → RiseFrom n (imports_checks limits sources) (imports_least limits sources)
-imports_rise limits sources n h = (h, names_rise limits sources 2 (omega arith))
-
-imports_ahead : (limits : Limits) (sources : List Source) → AllAhead (imports_checks limits sources) (imports_least limits sources)
-imports_ahead limits sources = (
-  pass_ahead (import_check limits sources) (import_least limits sources) 3 (names_checks limits sources) (names_least limits sources)
-      (names_rise limits sources 3 (omega arith)) (omega arith),
-  names_ahead limits sources,
-)
-
-abbrev locals_checks : Limits → List Source → List Check
-locals_checks limits sources = local_check limits sources ∷ imports_checks limits sources
-
-abbrev locals_least : (limits : Limits) (sources : List Source) → AllLeast (locals_checks limits sources)
-locals_least limits sources = (local_least limits sources, imports_least limits sources)
-
-locals_rise : (limits : Limits) (sources : List Source) (n : ℕ) → n ≤ 1 → RiseFrom n (locals_checks limits sources) (locals_least limits sources)
-locals_rise limits sources n h = (h, imports_rise limits sources 1 (omega arith))
-
-locals_ahead : (limits : Limits) (sources : List Source) → AllAhead (locals_checks limits sources) (locals_least limits sources)
-locals_ahead limits sources = (
-  pass_ahead (local_check limits sources) (local_least limits sources) 2 (imports_checks limits sources) (imports_least limits sources)
-      (imports_rise limits sources 2 (omega arith)) (omega arith),
-  imports_ahead limits sources,
-)
-
-abbrev order_checks : Limits → List Source → List Check
-order_checks limits sources = order_check limits sources ∷ locals_checks limits sources
-
-abbrev list_least : (limits : Limits) (sources : List Source) → AllLeast (order_checks limits sources)
-list_least limits sources = (order_least limits sources, locals_least limits sources)
-
-order_rise : (limits : Limits) (sources : List Source) (n : ℕ) → n ≤ 0 → RiseFrom n (order_checks limits sources) (list_least limits sources)
-order_rise limits sources n h = (h, locals_rise limits sources 0 (omega arith))
-
-order_ahead : (limits : Limits) (sources : List Source) → AllAhead (order_checks limits sources) (list_least limits sources)
-order_ahead limits sources = (
-  pass_ahead (order_check limits sources) (order_least limits sources) 1 (locals_checks limits sources) (locals_least limits sources)
-      (locals_rise limits sources 1 (omega arith)) (omega arith),
-  locals_ahead limits sources,
-)
-
-abbrev all_checks : Limits → List Source → List Check
-all_checks limits sources = count_check limits sources ∷ order_checks limits sources
-
-abbrev all_least : (limits : Limits) (sources : List Source) → AllLeast (all_checks limits sources)
-all_least limits sources = (count_least limits sources, list_least limits sources)
-
-all_rise : (limits : Limits) (sources : List Source) (n : ℕ) → n ≤ 0 → RiseFrom n (all_checks limits sources) (all_least limits sources)
-all_rise limits sources n h = (h, order_rise limits sources 0 (omega arith))
-
-all_ahead : (limits : Limits) (sources : List Source) → AllAhead (all_checks limits sources) (all_least limits sources)
-all_ahead limits sources = (
-  λ x y found any. elim any [
-    | inl g ↦ rw (found.1, g.is) (list_first 0 (name_at sources g.first) 0 start kind.TooManyFiles kind.FileNameTwice (omega arith))
-    | inr later ↦ pass_ahead (count_check limits sources) (count_least limits sources) 1 (locals_checks limits sources) (locals_least limits sources)
-        (locals_rise limits sources 1 (omega arith)) (omega arith) x y found later
-  ],
-  order_ahead limits sources,
-)
-
--- ---- what breaks a rule is what a check can find
-
-any_of : (limits : Limits) (sources : List Source) (x : Told) → Breaks limits sources x → AnyOf (all_checks limits sources) (all_least limits sources) x
-any_of limits sources _ (many_files over) = inl (over, refl)
-any_of limits sources _ (repeated_file_name i j less below same) =
-    inr (inl (record { first = i; second = j; less = less; below = below; same = same; is = refl }))
-any_of limits sources _ (file_fault s step place what inside fault) =
-    inr (inr (inl (record { source = s; step = step; place = place; what = what; inside = inside; fault = fault; is = refl })))
-any_of limits sources _ (bad_import descs a place what described bad) =
-    inr (inr (inr (inl (record { descs = descs; at = a; place = place; what = what; described = described; bad = bad; is = refl }))))
-any_of limits sources _ (many_names descs described over) =
-    inr (inr (inr (inr (inl (record { descs = descs; described = described; over = over; is = refl })))))
-any_of limits sources _ (repeated_name descs o described twice) =
-    inr (inr (inr (inr (inr (inl (record { descs = descs; what = o; described = described; twice = twice; is = refl }))))))
-any_of limits sources _ (bad_type descs a desc place what described stands breaks) =
-    inr (inr (inr (inr (inr (inr (inl (record {
-      descs = descs;
-      at = a;
-      desc = desc;
-      place = place;
-      what = what;
-      described = described;
-      stands = stands;
-      breaks = breaks;
-      is = refl;
-    })))))))
-any_of limits sources _ (long_descriptor files typed links index a desc resolved stands over) =
-    inr (inr (inr (inr (inr (inr (inr (inl (record {
-      files = files;
-      typed = typed;
-      links = links;
-      index = index;
-      at = a;
-      desc = desc;
-      resolved = resolved;
-      stands = stands;
-      over = over;
-      is = refl;
-    }))))))))
-any_of limits sources _ (long_set c written over) =
-    inr (inr (inr (inr (inr (inr (inr (inr (inl (record { compilation = c; written = written; over = over; is = refl })))))))))
-
-inside_of : (sources files : List Source) (k : ℕ) (s : Source) → AreByName sources files → Stands files k s → Contains sources s
-inside_of sources files k s order stands =
-    Contains-permutation files sources s (IsPermutation-sym sources files order.all) (k, stands.0, stands.1)
-
-breaks_of : (limits : Limits) (sources : List Source) (pass : ℕ) (file : List ℕ) (step : ℕ) (place : Place) (what : Kind)
-    → IsFirstFault limits sources pass file step place what → Breaks limits sources (told pass file step place what)
-breaks_of limits sources _ _ _ _ _ (too_many_files over) = many_files over
-breaks_of limits sources _ _ _ _ _ (file_name_twice files k few sorted repeated) =
-    let two = out_of_order sources (told 0 (name_at files k) 0 start kind.FileNameTwice)
-    (record { files = files; at = k; sorted = sorted; repeated = repeated; is = refl }) in
-    subst (λ (z : Told). Breaks limits sources z) (sym two.is) (repeated_file_name two.first two.second two.less two.below two.same)
-breaks_of limits sources _ _ _ _ _ (in_file files descs k s step place what few order described stands fault) =
-    file_fault s step place what (inside_of sources files k s order stands) fault
-breaks_of limits sources _ _ _ _ _ (in_imports files descs a place what described bad) =
-    bad_import descs a place what (as_described limits sources files descs described) bad.bad
-breaks_of limits sources _ _ _ _ _ (too_many_names files descs described none over) = many_names descs (as_described limits sources files descs described) over
-breaks_of limits sources _ _ _ _ _ (name_twice files descs a place described none repeated) =
-    let found = repeated.twice.found in
-    subst (λ (i : ℕ). Breaks limits sources (told 3 (imports.name_at descs i) 0 place kind.NameTwice)) found.2
-    (subst (λ (p : Place). Breaks limits sources (told 3 (imports.name_at descs found.0.file) 0 p kind.NameTwice)) found.3
-    (repeated_name descs found.0 (as_described limits sources files descs described) found.1))
-breaks_of limits sources _ _ _ _ _ (in_types files descs links index a desc place what analysed before stands least) =
-    bad_type descs a desc place what (as_described limits sources files descs analysed.described) stands
-    (break_from_index limits descs links index analysed.linked analysed.indexed a desc (spot place what) stands.0 least.found)
-breaks_of limits sources _ _ _ _ _ (descriptor_too_long files typed links index a desc resolved short stands over) =
-    long_descriptor files typed links index a desc resolved stands over
-breaks_of limits sources _ _ _ _ _ (set_too_long c written over) = long_set c written over
-
--- ---- the first is the least
-
-pub first_is_least : (limits : Limits) (sources : List Source) (pass : ℕ) (file : List ℕ) (step : ℕ) (place : Place) (what : Kind)
-    → IsFirstFault limits sources pass file step place what → IsLeastFault limits sources (told pass file step place what)
-first_is_least limits sources pass file step place what is =
-    let x = told pass file step place what in
-    let first = first_of limits sources pass file step place what is in
-    record {
-      among = record {
-        breaks = breaks_of limits sources pass file step place what is;
-        judged = λ y breaks less. none_earlier 0 (all_checks limits sources) (all_least limits sources) (all_rise limits sources 0 (omega arith)) x y first
-            (any_of limits sources y breaks) less;
-      };
-      least = λ y fault. least_of (all_checks limits sources) (all_least limits sources) (all_ahead limits sources) x y first
-          (any_of limits sources y fault.breaks);
-    }
-
--- two that are least are one
-pub one_least : (limits : Limits) (sources : List Source) (x y : Told) → IsLeastFault limits sources x → IsLeastFault limits sources y → x ≡ y
-one_least limits sources x y first second = one_told x y (first.least y second.among) (second.least x first.among)
-
--- sources that are compiled break no rule
-pub no_fault_at_all : (limits : Limits) (sources : List Source) (c : Compilation) (x : Told) → IsCompiled limits sources c → Breaks limits sources x → ⊥
-no_fault_at_all limits sources c x compiled breaks =
-    none_of (all_checks limits sources) (all_least limits sources) (all_pass limits sources c compiled) x (any_of limits sources x breaks)
+  pub set_least : (c : Compilation) → IsWritten limits sources c
+      → limit_of limits limit.SetBytes < length (set_of c.files c.links)
+      → IsLeastFault limits sources (of_list 6 kind.SetTooLong)
+  set_least c written over =
+      least_of (of_list 6 kind.SetTooLong) (long_set c written over) (none_of_lengths limits sources c written) own
+    where
+      own : (y : SourceFault) → Breaks limits sources y → y.pass ≡ 6 → IsNoLater (of_list 6 kind.SetTooLong) y
+      own _ (long_set d also more) same = same_later (of_list 6 kind.SetTooLong) (of_list 6 kind.SetTooLong) refl
+      own y breaks same = absurd (omega (arith, same))

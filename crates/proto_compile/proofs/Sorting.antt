@@ -10,18 +10,18 @@ use Rattle.std.proofs.lemmas.Map.Lookups.{exact_bytes}
 use Rattle.proto_compile.specs.Sources.{AreByName, AreSorted, IsFirstRepeated, name_at, name_of}
 use Rattle.proto_compile.specs.declared.source.Source.{Source}
 
-pub name_is : (files : List Source) (k : ℕ) (d : Source) → k < length files → name_at files k ≡ name_of (get_or files k d)
+pub name_is : (files : List Source) (k : ℕ) (d : Source) → k < length files
+    → name_at files k ≡ name_of (get_or files k d)
 name_is files k d h = get_or-map name_of files k d [] h
 
-pub name_of_item : (files : List Source) (k : ℕ) (s : Source) → k < length files → s ≡ get_or files k s → name_at files k ≡ name_of s
+pub name_of_item : (files : List Source) (k : ℕ) (s : Source) → k < length files → s ≡ get_or files k s
+    → name_at files k ≡ name_of s
 name_of_item files k s h is = name_is files k s h ∙ ap name_of (sym is)
-
-greater_back : (o r : Ordering) → r ≡ ordering_reverse o → o ≡ Greater → is_lt r ≡ false → ⊥
-greater_back o r e g h = true≢false (sym (ap is_lt (e ∙ ap ordering_reverse g)) ∙ h)
 
 -- no name is less than the one before it
 pub not_greater : (xs ys : List ℕ) → is_lt (slice_cmp nat_cmp ys xs) ≡ false → slice_cmp nat_cmp xs ys ≢ Greater
-not_greater xs ys h g = greater_back (slice_cmp nat_cmp xs ys) (slice_cmp nat_cmp ys xs) (nat_list_cmp_total.antisymm ys xs) g h
+not_greater xs ys h g =
+    true≢false (sym (ap is_lt (nat_list_cmp_total.antisymm ys xs ∙ ap ordering_reverse g)) ∙ h)
 
 less_left : (o : Ordering) → o ≢ Greater → o ≢ Equal → o ≡ Less
 less_left Less g e = refl
@@ -29,8 +29,8 @@ less_left Equal g e = absurd (e refl)
 less_left Greater g e = absurd (g refl)
 
 -- sorted names that differ rise
-pub strictly : (sources files : List Source) → AreSorted sources files → ((k : ℕ) → k + 1 < length files → name_at files k ≢ name_at files (k + 1))
-    → AreByName sources files
+pub strictly : (sources files : List Source) → AreSorted sources files
+    → ((k : ℕ) → k + 1 < length files → name_at files k ≢ name_at files (k + 1)) → AreByName sources files
 strictly sources files sorted differ = record {
   all = sorted.all;
   rises = λ k h. less_left _ (sorted.rises k h) (λ e. differ k h (exact_bytes _ _ e));
@@ -42,7 +42,8 @@ first_of (s ∷ files) k h = s
 
 -- sources in an order that begins with the names
 pub sorted_names : (cmp : Source → Source → Ordering) (files : List Source)
-    → ((a b : Source) → is_lt (cmp a b) ≡ false → is_lt (slice_cmp nat_cmp (name_of a) (name_of b)) ≡ false) → IsSorted cmp files
+    → ((a b : Source) → is_lt (cmp a b) ≡ false → is_lt (slice_cmp nat_cmp (name_of a) (name_of b)) ≡ false)
+    → IsSorted cmp files
     → (k : ℕ) → k + 1 < length files → slice_cmp nat_cmp (name_at files k) (name_at files (k + 1)) ≢ Greater
 sorted_names cmp files finer up k h =
     let d = first_of files (k + 1) h in
@@ -51,14 +52,18 @@ sorted_names cmp files finer up k h =
     (finer (get_or files (k + 1) d) (get_or files k d) (up k d (omega arith) h)))
 
 -- the first two neighbours of one name
-pub first_pair : (files : List Source) (n : ℕ) → 0 < n → n < length files → name_at files (n - 1) ≡ name_at files (n - 1 + 1)
+pub first_pair : (files : List Source) (n : ℕ) → 0 < n → n < length files
+    → name_at files (n - 1) ≡ name_at files (n - 1 + 1)
     → ((j : ℕ) → j + 1 < n → name_at files j ≢ name_at files (j + 1)) → IsFirstRepeated files (n - 1)
-first_pair files n some h same before = record { below = omega (arith, some, h); same = same; first = λ j below. before j (omega (arith, below, some)) }
+first_pair files n some h same before =
+    record { below = omega (arith, some, h); same = same; first = λ j below. before j (omega (arith, below, some)) }
 
 -- one more pair of neighbours that differ
 pub pairs_more : (files : List Source) (n : ℕ) → 0 < n → (name_at files (n - 1) ≡ name_at files (n - 1 + 1) → ⊥)
-    → ((j : ℕ) → j + 1 < n → name_at files j ≢ name_at files (j + 1)) → (j : ℕ) → j + 1 < n + 1 → name_at files j ≢ name_at files (j + 1)
+    → ((j : ℕ) → j + 1 < n → name_at files j ≢ name_at files (j + 1)) → (j : ℕ) → j + 1 < n + 1
+    → name_at files j ≢ name_at files (j + 1)
 pairs_more files n some other before j below = elim (cases_lt (j + 1) n) [
   | inl less ↦ before j less
-  | inr over ↦ (let first : n - 1 ≡ j = omega (arith, over, below) in subst (λ i. name_at files i ≢ name_at files (i + 1)) first other)
+  | inr over ↦ (let first : n - 1 ≡ j = omega (arith, over, below) in
+      subst (λ i. name_at files i ≢ name_at files (i + 1)) first other)
 ]

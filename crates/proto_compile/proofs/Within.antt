@@ -1,35 +1,29 @@
 -- What files have in the set, by its length.
-use Rattle.std.proofs.Common.{◌≡◌, sym, ap, subst, ℕ, zero, suc, ◌+◌, ◌<◌, ◌≤◌, Bool, true, false, List, [], ◌∷◌, length, get_or, map, Less, arith, refl}
+use Rattle.std.proofs.Common.{◌≡◌, sym, ap, subst, ℕ, ◌+◌, ◌<◌, ◌≤◌, Bool, not, List, [], length, get_or, map, Less, arith, refl}
 use Rattle.std.specs.Prelude.{Contains, filter, flat_map}
-use Rattle.std.proofs.lemmas.List.{length-append, length-map}
+use Rattle.std.proofs.lemmas.List.Concat.{length-flat_map}
+use Rattle.std.proofs.lemmas.List.Filters.{sum_by-filter_both}
+use Rattle.std.proofs.lemmas.List.Sums.{get_or-le-sum_by}
 use Rattle.proto_links.specs.Linked.{count_of, reach_of}
 use Rattle.proto_links.specs.Whole.{has}
 use Rattle.proto_links.proofs.Whole.{whole_of}
 use Rattle.wire_format.specs.Field.{bytes_field}
 use Rattle.std.specs.Cmp.Lexicographic.{slice_cmp}
 use Rattle.std.specs.Ordering.{nat_cmp}
-use Rattle.proto_compile.specs.Sources.{name_of}
 use Rattle.proto_compile.specs.Compilation.{Compilation, IsOfSources, bytes_at, file_name, set_of}
+use Rattle.proto_compile.proofs.Making.{as_many}
 
 -- one of many
 one_of : (f : ℕ → List ℕ) (xs : List ℕ) (a : ℕ) → Contains xs a → length (f a) ≤ length (flat_map f xs)
-one_of f [] a (k, below, is) = absurd (omega (arith, below))
-one_of f (x ∷ xs) a (zero, below, is) = let sum = length-append (f x) (flat_map f xs) in let same = ap (λ y. length (f y)) is in omega (arith, sum, same)
-one_of f (x ∷ xs) a (suc k, below, is) =
-    let sum = length-append (f x) (flat_map f xs) in
-    let rest = one_of f xs a (k, omega (arith, below), is) in
-    omega (arith, sum, rest)
+one_of f xs a (k, below, is) =
+    let same = ap (λ b. length (f b)) is in
+    omega (arith, length-flat_map f xs, get_or-le-sum_by (λ b. length (f b)) xs k a below, same)
 
 -- some of many
-some_more : (f : ℕ → List ℕ) (p : ℕ → Bool) (x : ℕ) (xs : List ℕ) (b : Bool) → p x ≡ b → length (flat_map f (filter p xs)) ≤ length (flat_map f xs)
-    → length (flat_map f (filter p (x ∷ xs))) ≤ length (flat_map f (x ∷ xs))
-some_more f p x xs true e rest =
-    let sum = length-append (f x) (flat_map f xs) in let less = length-append (f x) (flat_map f (filter p xs)) in rw e (omega (arith, sum, less, rest))
-some_more f p x xs false e rest = let sum = length-append (f x) (flat_map f xs) in rw e (omega (arith, sum, rest))
-
 some_of : (f : ℕ → List ℕ) (p : ℕ → Bool) (xs : List ℕ) → length (flat_map f (filter p xs)) ≤ length (flat_map f xs)
-some_of f p [] = omega arith
-some_of f p (x ∷ xs) = some_more f p x xs (p x) refl (some_of f p xs)
+some_of f p xs =
+    let parts = sum_by-filter_both p (λ b. not (p b)) (λ b. refl) (λ b. length (f b)) xs in
+    omega (arith, length-flat_map f (filter p xs), length-flat_map f xs, parts)
 
 -- names rise as those of the sources do
 pub names_rise : (c : Compilation) → IsOfSources c → (k : ℕ) → k + 1 < length c.files
@@ -37,11 +31,8 @@ pub names_rise : (c : Compilation) → IsOfSources c → (k : ℕ) → k + 1 < l
 names_rise c (sources, is) k h =
     let written = is.written in
     let names = written.names in
-    let l = length-map c.files file_name in
-    let m = length-map written.sorted name_of in
-    let n = ap length names in
     subst (λ (ns : List (List ℕ)). slice_cmp nat_cmp (get_or ns k []) (get_or ns (k + 1) []) ≡ Less) (sym names)
-    (written.resolved.analysed.described.by_name.rises k (omega (arith, h, l, m, n)))
+    (written.resolved.analysed.described.by_name.rises k (omega (arith, h, as_many written.sorted c.files names)))
 
 pub file_within : (c : Compilation) → IsOfSources c → (a : ℕ) → a < count_of c.links
     → length (bytes_field 1 (bytes_at c.files a)) ≤ length (set_of c.files c.links)

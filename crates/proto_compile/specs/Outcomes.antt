@@ -1,5 +1,5 @@
 -- Words of private contracts: what a pass finds in each file, and the first fault of it.
-use Rattle.std.specs.Prelude.{◌≡◌, ℕ, ◌<◌, List, length, map, take, slice_index_or, Result, Ok, Err, Some, Vec, true}
+use Rattle.std.specs.Prelude.{◌≡◌, ℕ, ◌<◌, List, length, slice_index_or, Result, Ok, Err, Some, Vec, true}
 use Rattle.std.specs.List.{AllZip}
 use Rattle.std.specs.declared.alloc.Global.{Global}
 use Rattle.proto_base.specs.Least.{IsLeast, spot}
@@ -25,8 +25,8 @@ use Rattle.wire_bytes.specs.Descriptor.{file_desc_bytes}
 use Rattle.proto_compile.specs.Analysed.{TypesAt, TypesBreakAt}
 use Rattle.proto_compile.specs.Compilation.{IsShort}
 use Rattle.proto_compile.specs.Descriptions.{SourceDescribes}
-use Rattle.proto_compile.specs.FaultSet.{start}
-use Rattle.proto_compile.specs.Faults.{IsRefusal, Tells}
+use Rattle.proto_compile.specs.FaultSet.{SourceFault, fault as source_fault, start}
+use Rattle.proto_compile.specs.Faults.{Tells}
 use Rattle.proto_compile.specs.Sources.{name_at, name_of, text_of}
 use Rattle.proto_compile.specs.declared.error.CompileError.{CompileError}
 use Rattle.proto_compile.specs.declared.error.CompileError.TheVariants as errors
@@ -66,20 +66,19 @@ IsWrittenShort limits desc (Err fault.NoMemory) = Unit {0}
 
 -- ---- the first fault of a pass
 
--- the error is for want of memory, or names this fault of a file of this name
+-- the error is for want of memory, or tells this fault of a file of this name
 abbrev pub TellsOfFile : ℕ → List ℕ → FileError → CompileError → Type 0
-TellsOfFile pass file (fault.At step place what) e = Tells pass file step place what e
+TellsOfFile pass file (fault.At step place what) e = Tells (source_fault pass file step place what) e
 TellsOfFile pass file fault.NoMemory e = e ≡ errors.NoMemory
 
--- no file before this one has a fault, and this is its fault
-pub record IsFirstBad {T : Type 0} (outcomes : List (Result T FileError)) (k step : ℕ) (place : Place)
-    (what : Kind) : Type 0 where
-  pub well : (ts : List T) × (take k outcomes ≡ map Ok ts)
-  pub below : k < length outcomes
-  pub bad : slice_index_or outcomes k (Err fault.NoMemory) ≡ Err (fault.At step place what)
-
--- the error is for want of memory, or names the first fault that a pass of this number finds in files
-abbrev pub TellsFirst : {T : Type 0} → ℕ → List Source → List (Result T FileError) → CompileError → Type 0
-TellsFirst number files outcomes =
-    IsRefusal (λ pass file step place what. (k : ℕ) × (pass ≡ number) × (file ≡ name_at files k)
-    × IsFirstBad outcomes k step place what)
+-- what a pass of this number finds in the first file that has a fault
+pub record IsFirstBad {T : Type 0} (number : ℕ) (files : List Source) (outcomes : List (Result T FileError))
+    (x : SourceFault) : Type 0 where
+  pub at : ℕ
+  pub step : ℕ
+  pub place : Place
+  pub what : Kind
+  pub well : (j : ℕ) → j < at → (t : T) × (slice_index_or outcomes j (Err fault.NoMemory) ≡ Ok t)
+  pub below : at < length outcomes
+  pub bad : slice_index_or outcomes at (Err fault.NoMemory) ≡ Err (fault.At step place what)
+  pub is : x ≡ source_fault number (name_at files at) step place what

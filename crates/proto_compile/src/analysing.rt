@@ -5,7 +5,7 @@ ghost use Rattle.proto_base.specs.Limits.{limit_of};
 ghost use Rattle.proto_base.specs.declared.limits.Limit.TheVariants as limit;
 ghost use Rattle.proto_compile.specs.Analysed.{AreResolved};
 ghost use Rattle.proto_compile.specs.Descriptions.{Describe};
-ghost use Rattle.proto_compile.specs.Faults.{IsFirstFault, IsRefusal};
+ghost use Rattle.proto_compile.specs.FaultSet.{IsLeastFault, TellsOf};
 ghost use Rattle.proto_compile.specs.Sources.{AreByName, NamesRise};
 ghost use Rattle.proto_compile.specs.declared.source.Source.{Source};
 ghost use Rattle.proto_desc.specs.Resolved.{file_resolved};
@@ -48,10 +48,10 @@ where
     ensures linked { IfOk result (λ lookup. AreLinked descs.now lookup.links) }
     ensures indexed { IfOk result (λ lookup. Indexes descs.now limits.now lookup.index) }
     ensures first { (sources files : List Source) → Describe limits.now sources files descs.now
-        → IfErr result (IsRefusal (IsFirstFault limits.now sources)) }
+        → IfErr result (TellsOf (IsLeastFault limits.now sources)) }
 {
     let links = link_all(workers.rt.alloc(), descs)?;
-    let index = index_all(workers.rt, descs, limits)?;
+    let index = index_all(workers, descs, limits)?;
     Ok(Lookup { links, index })
 }
 
@@ -80,7 +80,7 @@ where
         analysis.descs.items) }
     ensures first { (sources : List Source) → length sources ≤ limit_of limits.now limit.Files
         → AreByName sources files.now
-        → IfErr result (IsRefusal (IsFirstFault limits.now sources)) }
+        → IfErr result (TellsOf (IsLeastFault limits.now sources)) }
 {
     let descs = describe_all(workers, files, limits)?;
     let lookup = lookup_of(workers, &descs, limits)?;

@@ -4,7 +4,6 @@ ghost use Rattle.std.specs.Prelude.{◌≡◌, ℕ, List, true, All, IfOk, IfErr
 ghost use Rattle.proto_compile.specs.Analysed.{AreResolved};
 ghost use Rattle.proto_compile.specs.Compilation.{Compilation, IsCompiled, IsShort, IsWritten, file_bytes, file_name};
 ghost use Rattle.proto_compile.specs.FaultSet.{IsFault, IsLeastFault, IsPlaced, SourceFault, TellsOf};
-ghost use Rattle.proto_compile.specs.Faults.{IsFirstFault, IsRefusal};
 ghost use Rattle.proto_compile.specs.Sources.{NamesRise, name_of};
 ghost use Rattle.proto_compile.specs.Steps.{AreWritten, compilation, items_of};
 ghost use Rattle.proto_compile.specs.declared.error.CompileError.TheVariants as errors;
@@ -42,7 +41,7 @@ where
     R: Threads + AllocGlobal + Sync,
     G: Gate + Sync,
     ensures compiled { IfOk result (IsCompiled limits.now sources.now) }
-    ensures first { IfErr result (IsRefusal (IsFirstFault limits.now sources.now)) }
+    ensures first { IfErr result (TellsOf (IsLeastFault limits.now sources.now)) }
 {
     let alloc = workers.rt.alloc();
     let files = files_by_name(alloc, sources, limits)?;
@@ -66,7 +65,7 @@ fn compilation_of(
         → IfOk result (IsCompiled limits.now sources) }
     ensures first { (sources : List Source)
         → IsWritten limits.now sources (compilation limits.now files links index)
-        → IfErr result (IsRefusal (IsFirstFault limits.now sources)) }
+        → IfErr result (TellsOf (IsLeastFault limits.now sources)) }
 {
     if !is_set_within(&files, &links, limits.get(Limit::SetBytes)) {
         return Err(refusal(alloc, Pass::Set, "", START, Kind::SetTooLong));
@@ -132,7 +131,7 @@ where
     ensures short { OnOk result (All (IsShort limits.now) descs.entry.items) }
     ensures first { (sources : List Source) (links : Linked) (index : Index)
         → AreResolved limits.now sources files.now descs.entry.items links index
-        → IfErr result (IsRefusal (IsFirstFault limits.now sources)) }
+        → IfErr result (TellsOf (IsLeastFault limits.now sources)) }
 {
     let written = write_all(workers, files, descs, limits)?;
     let table = table_of(workers.rt.alloc(), files, written)?;

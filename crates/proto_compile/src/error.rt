@@ -1,6 +1,7 @@
 //! Why sources have no descriptors.
 
 ghost use Rattle.std.specs.Prelude.{◌≡◌};
+ghost use Rattle.proto_compile.specs.FaultSet.{fault, of_file};
 ghost use Rattle.proto_compile.specs.Faults.{Tells};
 ghost use Rattle.proto_compile.specs.Passes.{number_of};
 ghost use Rattle.proto_compile.specs.declared.error.CompileError.TheVariants.{NoMemory};
@@ -47,7 +48,7 @@ pub(crate) fn refusal_of_step(
     place: Place,
     kind: Kind,
 ) -> CompileError
-    ensures { Tells (number_of pass) file.now step place kind result }
+    ensures { Tells (fault (number_of pass) file.now step place kind) result }
 {
     match String::from_str(alloc, file) {
         Ok(file) => CompileError::First(Fault {
@@ -69,7 +70,7 @@ pub(crate) fn refusal(
     place: Place,
     kind: Kind,
 ) -> CompileError
-    ensures { Tells (number_of pass) file.now 0 place kind result }
+    ensures { Tells (of_file (number_of pass) file.now place kind) result }
 {
     refusal_of_step(alloc, pass, file, 0, place, kind)
 }

@@ -3,6 +3,7 @@
 ghost use Rattle.std.specs.Prelude.{IfOk};
 ghost use Rattle.share_work.specs.Shares.{GivesItems, TakesAll};
 
+use proto_names::Threading;
 use share_work::{Gate, Plan, Work, in_shares};
 use std::alloc::{AllocError, AllocGlobal};
 use std::thread::Threads;
@@ -20,6 +21,15 @@ where
     R: Threads + AllocGlobal + Sync,
     G: Gate + Sync,
 {
+    /// Whether names are found in threads. One worker starts none for them.
+    pub(crate) fn threading(&self) -> Threading {
+        if self.plan.workers() == 1 {
+            Threading::Alone
+        } else {
+            Threading::Shared
+        }
+    }
+
     /// What a work whose workers keep nothing gives for each item. The gate is told the phase.
     pub(crate) fn each<T, W, O>(
         &self,

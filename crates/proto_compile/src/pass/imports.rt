@@ -2,7 +2,7 @@
 
 ghost use Rattle.std.specs.Prelude.{List, IfOk, IfErr};
 ghost use Rattle.proto_compile.specs.Descriptions.{Describe};
-ghost use Rattle.proto_compile.specs.Faults.{IsFirstFault, IsRefusal};
+ghost use Rattle.proto_compile.specs.FaultSet.{IsLeastFault, TellsOf};
 ghost use Rattle.proto_links.specs.Bad.{AreInNameOrder};
 ghost use Rattle.proto_links.specs.Linked.{AreLinked};
 ghost use Rattle.proto_compile.specs.declared.source.Source.{Source};
@@ -20,7 +20,7 @@ pub(crate) fn link_all(alloc: Global, descs: &[FileDesc]) -> Result<Links, Compi
     ensures linked { IfOk result (AreLinked descs.now) }
     ensures first { (limits : Limits) (sources files : List Source)
         → Describe limits sources files descs.now
-        → IfErr result (IsRefusal (IsFirstFault limits sources)) }
+        → IfErr result (TellsOf (IsLeastFault limits sources)) }
 {
     match link(alloc, descs) {
         Ok(links) => Ok(links),

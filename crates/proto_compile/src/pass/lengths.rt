@@ -3,7 +3,7 @@
 ghost use Rattle.std.specs.Prelude.{◌≡◌, List, length, map, true, All, IfOk, IfErr, OnOk};
 ghost use Rattle.proto_compile.specs.Analysed.{AreResolved};
 ghost use Rattle.proto_compile.specs.Compilation.{IsShort};
-ghost use Rattle.proto_compile.specs.Faults.{IsFirstFault, IsRefusal};
+ghost use Rattle.proto_compile.specs.FaultSet.{IsLeastFault, TellsOf};
 ghost use Rattle.proto_compile.specs.Outcomes.{IsWrittenShort};
 ghost use Rattle.proto_compile.specs.Steps.{items_of};
 ghost use Rattle.proto_compile.specs.declared.source.Source.{Source};
@@ -99,7 +99,7 @@ where
     ensures short { OnOk result (All (IsShort limits.now) descs.entry.items) }
     ensures first { (sources : List Source) (links : Linked) (index : Index)
         → AreResolved limits.now sources files.now descs.entry.items links index
-        → IfErr result (IsRefusal (IsFirstFault limits.now sources)) }
+        → IfErr result (TellsOf (IsLeastFault limits.now sources)) }
 {
     let work = Writing { limits: *limits };
     let outcomes = workers.each(WRITING, descs.as_slice(), &work)?;

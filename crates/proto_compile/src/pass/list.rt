@@ -4,7 +4,7 @@ ghost use Rattle.std.specs.Prelude.{◌≡◌, ◌≢◌, ◌↔◌, ℕ, ◌+�
 ghost use Rattle.std.specs.Cmp.Lexicographic.{slice_cmp};
 ghost use Rattle.std.specs.Ordering.{nat_cmp};
 ghost use Rattle.std.specs.declared.cmp.Ordering.TheVariants.{Less, Greater};
-ghost use Rattle.proto_compile.specs.Faults.{IsFirstFault, IsRefusal};
+ghost use Rattle.proto_compile.specs.FaultSet.{IsLeastFault, TellsOf};
 ghost use Rattle.proto_compile.specs.Sources.{AreByName, AreSorted, IsFirstRepeated, name_at, name_of};
 ghost use Rattle.proto_base.specs.Limits.{limit_of};
 ghost use Rattle.proto_base.specs.declared.limits.Limit.TheVariants as limit;
@@ -60,7 +60,7 @@ pub(crate) fn files_by_name<'s>(
 ) -> Result<Vec<Source<'s>>, CompileError>
     ensures few { OnOk result (length sources.now ≤ limit_of limits.now limit.Files) }
     ensures files { IfOk result (λ files. AreByName sources.now files.items) }
-    ensures first { IfErr result (IsRefusal (IsFirstFault limits.now sources.now)) }
+    ensures first { IfErr result (TellsOf (IsLeastFault limits.now sources.now)) }
 {
     if sources.len() as u64 > limits.get(Limit::Files) {
         return Err(refusal(alloc, Pass::List, "", START, Kind::TooManyFiles));

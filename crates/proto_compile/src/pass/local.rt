@@ -5,7 +5,7 @@ ghost use Rattle.std.specs.List.{AllZip};
 ghost use Rattle.proto_base.specs.Limits.{limit_of};
 ghost use Rattle.proto_base.specs.declared.limits.Limit.TheVariants as limit;
 ghost use Rattle.proto_compile.specs.Descriptions.{SourceDescribes};
-ghost use Rattle.proto_compile.specs.Faults.{IsFirstFault, IsRefusal};
+ghost use Rattle.proto_compile.specs.FaultSet.{IsLeastFault, TellsOf};
 ghost use Rattle.proto_compile.specs.Outcomes.{IsDescribed};
 ghost use Rattle.proto_compile.specs.Sources.{AreByName};
 ghost use Rattle.proto_compile.specs.declared.source.Source.{Source};
@@ -90,7 +90,7 @@ where
         descs.items) }
     ensures first { (sources : List Source) → length sources ≤ limit_of limits.now limit.Files
         → AreByName sources files.now
-        → IfErr result (IsRefusal (IsFirstFault limits.now sources)) }
+        → IfErr result (TellsOf (IsLeastFault limits.now sources)) }
 {
     let work = Describing { limits: *limits };
     let outcomes = workers.each(DESCRIBING, files, &work)?;

@@ -3,9 +3,10 @@
 ghost use Rattle.std.specs.Prelude.{◌≡◌, ◌<◌, List, length, All, IfOk, IfErr, true};
 ghost use Rattle.proto_desc.specs.Resolved.{file_resolved};
 ghost use Rattle.proto_compile.specs.Analysed.{AllZipFrom, AreTypedFrom, IsAnalysed};
-ghost use Rattle.proto_compile.specs.Faults.{IsFirstFault, IsRefusal};
+ghost use Rattle.proto_compile.specs.FaultSet.{IsLeastFault, TellsOf};
 ghost use Rattle.proto_compile.specs.Outcomes.{AreTypesOf, IsResolved, IsTypedWhole};
 ghost use Rattle.proto_compile.specs.declared.source.Source.{Source};
+ghost use Rattle.share_work.specs.Shares.{GivesItems};
 ghost use Rattle.proto_links.specs.Linked.{Linked, count_of};
 ghost use Rattle.proto_names.specs.Index.{Index};
 ghost use Rattle.proto_base.specs.declared.limits.Limits.{Limits};
@@ -95,7 +96,7 @@ impl<'s> Work<FileDesc<'s>> for Resolving<'_> {
 /// Puts types into descriptors, of which there is one list for each.
 fn put_types<'s>(descs: &mut Vec<FileDesc<'s>>, types: Vec<Vec<NamedType>>)
     ensures { (links : Linked) (index : Index)
-        → AllZipFrom (AreTypesOf links index) 0 descs.old.items types.items
+        → GivesItems (AreTypesOf links index) 0 descs.old.items types.items
         → AllZipFrom (IsTypedWhole links index) 0 descs.old.items descs.new.items }
 {
     let mut left = VecDeque::from(types);
@@ -126,7 +127,7 @@ where
     ensures whole { IfOk result (λ gs. All (λ desc. file_resolved desc ≡ true) gs.items) }
     ensures first { (limits : Limits) (sources : List Source)
         → IsAnalysed limits sources files.now descs.entry.items links.now index.now
-        → IfErr result (IsRefusal (IsFirstFault limits sources)) }
+        → IfErr result (TellsOf (IsLeastFault limits sources)) }
 {
     let alloc = workers.rt.alloc();
     let work = Resolving { links, index };

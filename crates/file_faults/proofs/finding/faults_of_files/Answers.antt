@@ -7,7 +7,7 @@ use Rattle.file_faults.specs.Found.{IsFoundIn, faults_in}
 use Rattle.file_faults.specs.declared.local.LocalFault.{LocalFault}
 use Rattle.proto_base.specs.declared.fault.Fault.{Fault}
 use Rattle.proto_compile.specs.FaultSet.{IsLeastFault, told_by}
-use Rattle.proto_compile.proofs.Judging.{ok_map, zip_of_gives, zip_plain}
+use Rattle.proto_compile.proofs.Judging.{all_of_gives, ok_map}
 use Rattle.file_faults.proofs.Naming.{are_told}
 use Rattle.file_faults.proofs.Telling.{least_of_files}
 use Rattle.file_faults.proofs.finding.faults_of_files.Goals as goal
@@ -18,8 +18,7 @@ returns-clause-each g c =
     let files = c.args.files.now in
     let found = c.in_ok-found.found.items in
     let each : AllZip (IsFoundIn limits) files found =
-    zip_plain (IsFoundIn limits) 0 files found (zip_of_gives
-    (λ k. IsFoundIn limits) 0 files found c.in_ok-found.ensures.outs) in
+    all_of_gives (IsFoundIn limits) 0 files found c.in_ok-found.ensures.outs in
     let P : List (Option LocalFault) → Type 0 = λ fs. AllZip (IsFoundIn limits) files fs in
     let lent : AllZip (IsFoundIn limits) files c.deref.result.now = subst P (sym c.deref.ensures.value) each in
     ok_map (λ (faults : Vec Fault Global). map told_by faults.items ≡ faults_in files c.deref.result.now)

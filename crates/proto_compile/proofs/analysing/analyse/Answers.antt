@@ -2,13 +2,15 @@ use Rattle.std.proofs.Common.{rules, arith}
 use Rattle.std.proofs.lemmas.Grind.{pieces}
 use Rattle.proto_compile.specs.Descriptions.{Describe}
 use Rattle.proto_compile.proofs.Making.{resolved_of}
-use Rattle.proto_compile.proofs.Zipping.{descs_in_order, same_length}
+use Rattle.proto_compile.proofs.Zipping.{in_order, same_length, same_names}
 use Rattle.proto_compile.proofs.analysing.analyse.Goals as goal
 
 pub lookup_of-requires-after_bounds : goal.lookup_of-requires-after_bounds
 lookup_of-requires-after_bounds g c κs h =
-    rw c.deref.ensures.value (descs_in_order c.args.limits.now c.args.files.now c.in_ok-descs.descs.items c.requires.names
-    c.in_ok-descs.ensures.described)
+    let files = c.args.files.now in
+    let descs = c.in_ok-descs.descs.items in
+    let names = same_names c.args.limits.now files descs c.in_ok-descs.ensures.described in
+    rw c.deref.ensures.value (in_order files descs names c.requires.names)
 
 pub returns-in_err-lookup-clause-first : goal.returns-in_err-lookup-clause-first
 returns-in_err-lookup-clause-first g c sources few order =
@@ -23,8 +25,8 @@ resolve_all-requires-clause-files g c κs h =
 
 pub returns-clause-resolved : goal.returns-clause-resolved
 returns-clause-resolved g c sources few order =
-    resolved_of few order c.in_ok-descs.ensures.described c.deref.ensures.value c.in_ok-lookup.ensures.linked c.deref.ensures.value
-    c.in_ok-lookup.ensures.indexed c.in_ok-descs-2.ensures.typed
+    resolved_of few order c.in_ok-descs.ensures.described c.deref.ensures.value c.in_ok-lookup.ensures.linked
+    c.deref.ensures.value c.in_ok-lookup.ensures.indexed c.in_ok-descs-2.ensures.typed
 
 pub returns-in_err-descs-2-clause-first : goal.returns-in_err-descs-2-clause-first
 returns-in_err-descs-2-clause-first g c = search (pieces, arith)

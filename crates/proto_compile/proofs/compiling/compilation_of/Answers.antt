@@ -1,32 +1,35 @@
-use Rattle.std.proofs.Common.{length, ◌≤◌, []}
+use Rattle.std.proofs.Common.{length, ◌≤◌}
 use Rattle.proto_base.specs.declared.kind.Kind.TheVariants as kind
 use Rattle.proto_base.specs.Limits.{limit_of}
 use Rattle.proto_base.specs.declared.limits.Limit.TheVariants as limit
 use Rattle.proto_compile.specs.Compilation.{set_of}
-use Rattle.proto_compile.specs.FaultSet.{start}
-use Rattle.proto_compile.specs.Faults.{IsFirstFault, set_too_long}
+use Rattle.proto_compile.specs.FaultSet.{IsLeastFault, of_list}
 use Rattle.proto_compile.specs.Steps.{compilation}
+use Rattle.proto_compile.proofs.Judging.{told}
+use Rattle.proto_compile.proofs.LeastFault.{set_least}
 use Rattle.proto_compile.proofs.Making.{counts, sound, too_long}
-use Rattle.proto_compile.proofs.Refusing.{told}
 use Rattle.proto_compile.proofs.compiling.compilation_of.Goals as goal
 
 pub is_set_within-requires-clause-inside : goal.is_set_within-requires-clause-inside
 is_set_within-requires-clause-inside c =
     let is = c.requires.1 in
-    (counts c.args.limits.now c.requires.0 is.sorted is.descs c.args.links c.args.index c.args.files is.resolved is.names).2
+    (counts c.args.limits.now c.requires.0 is.sorted is.descs c.args.links c.args.index c.args.files is.resolved
+    is.names).2
 
 pub returns-then-not-is_set_within-clause-first : goal.returns-then-not-is_set_within-clause-first
 returns-then-not-is_set_within-clause-first c sources is =
     let long = too_long c.is_set_within.result _ c.get.result c.is_set_within.ensures c.if-not-is_set_within.true in
-    told (IsFirstFault c.args.limits.now sources) 6 [] 0 start kind.SetTooLong c.refusal.result c.refusal.ensures
-    (set_too_long (compilation c.args.limits.now c.args.files c.args.links c.args.index) is (rw (← c.get.ensures.value) long))
+    told (IsLeastFault c.args.limits.now sources) (of_list 6 kind.SetTooLong) c.refusal.result c.refusal.ensures
+    (set_least c.args.limits.now sources (compilation c.args.limits.now c.args.files c.args.links c.args.index) is
+    (rw (← c.get.ensures.value) long))
 
 pub invariant_of-result : goal.invariant_of-result
 invariant_of-result c =
     let is = c.requires.1 in
     let within : length (set_of c.args.files c.args.links) ≤ limit_of c.args.limits.now limit.SetBytes =
     rw (← c.get.ensures.value) (c.is_set_within.ensures.0 c.if-not-is_set_within.false) in (
-      sound c.args.limits.now c.requires.0 c.args.files c.args.links c.args.index is (rw (← c.index.view_is) c.index.invariant.0.services) within,
+      sound c.args.limits.now c.requires.0 c.args.files c.args.links c.args.index is
+          (rw (← c.index.view_is) c.index.invariant.0.services) within,
       (c.requires.0, record { written = is; within = within }),
     )
 

@@ -6,31 +6,41 @@ use Rattle.proto_compile.proofs.compiling.run_passes.Goals as goal
 
 pub write_table-requires-clause-files : goal.write_table-requires-clause-files
 write_table-requires-clause-files g c κs within =
-    let resolved = (rw c.deref.ensures.value at c.in_ok-analysis.ensures.resolved) c.args.sources.now c.in_ok-files.ensures.few c.in_ok-files.ensures.files in
+    let resolved = (rw c.deref.ensures.value at c.in_ok-analysis.ensures.resolved) c.args.sources.now
+    c.in_ok-files.ensures.few c.in_ok-files.ensures.files in
     rw c.deref-2.ensures.value (descs_for_each resolved)
 
 pub returns-in_err-table-clause-first : goal.returns-in_err-table-clause-first
 returns-in_err-table-clause-first g c =
-    let resolved = (rw c.deref.ensures.value at c.in_ok-analysis.ensures.resolved) c.args.sources.now c.in_ok-files.ensures.few c.in_ok-files.ensures.files in
+    let sources = c.args.sources.now in
+    let few = c.in_ok-files.ensures.few in
+    let resolved = (rw c.deref.ensures.value at c.in_ok-analysis.ensures.resolved) sources few
+    c.in_ok-files.ensures.files in
     let analysis = c.in_ok-analysis.analysis in
-    let fact = c.in_err-table.ensures.first c.args.sources.now analysis.lookup.links analysis.lookup.index
-    (subst (λ (files : List Source). AreResolved c.args.limits.now c.args.sources.now files analysis.descs.items analysis.lookup.links analysis.lookup.index)
-    (sym c.deref-2.ensures.value) resolved) in
+    let lookup = analysis.lookup in
+    let fact = c.in_err-table.ensures.first sources lookup.links lookup.index
+    (subst (λ (files : List Source). AreResolved c.args.limits.now sources files analysis.descs.items lookup.links
+    lookup.index) (sym c.deref-2.ensures.value) resolved) in
     search (rules, fact)
 
 pub compilation_of-requires : goal.compilation_of-requires
 compilation_of-requires g c =
-    let resolved = (rw c.deref.ensures.value at c.in_ok-analysis.ensures.resolved) c.args.sources.now c.in_ok-files.ensures.few c.in_ok-files.ensures.files in
-    (c.args.sources.now, written_of resolved c.in_ok-table.ensures.short c.deref-2.ensures.value c.in_ok-table.ensures.names c.in_ok-table.ensures.bytes)
+    let sources = c.args.sources.now in
+    let few = c.in_ok-files.ensures.few in
+    let resolved = (rw c.deref.ensures.value at c.in_ok-analysis.ensures.resolved) sources few
+    c.in_ok-files.ensures.files in
+    let table = c.in_ok-table.ensures in
+    (sources, written_of resolved table.short c.deref-2.ensures.value table.names table.bytes)
 
-pub returns-clause-compiled : goal.returns-clause-compiled
-returns-clause-compiled g c =
-    let resolved = (rw c.deref.ensures.value at c.in_ok-analysis.ensures.resolved) c.args.sources.now c.in_ok-files.ensures.few c.in_ok-files.ensures.files in
-    c.compilation_of.ensures.compiled c.args.sources.now
-    (written_of resolved c.in_ok-table.ensures.short c.deref-2.ensures.value c.in_ok-table.ensures.names c.in_ok-table.ensures.bytes)
-
-pub returns-clause-first : goal.returns-clause-first
-returns-clause-first g c =
-    let resolved = (rw c.deref.ensures.value at c.in_ok-analysis.ensures.resolved) c.args.sources.now c.in_ok-files.ensures.few c.in_ok-files.ensures.files in
-    c.compilation_of.ensures.first c.args.sources.now
-    (written_of resolved c.in_ok-table.ensures.short c.deref-2.ensures.value c.in_ok-table.ensures.names c.in_ok-table.ensures.bytes)
+pub returns : goal.returns
+returns g c =
+    let sources = c.args.sources.now in
+    let few = c.in_ok-files.ensures.few in
+    let resolved = (rw c.deref.ensures.value at c.in_ok-analysis.ensures.resolved) sources few
+    c.in_ok-files.ensures.files in
+    let table = c.in_ok-table.ensures in
+    let written = written_of resolved table.short c.deref-2.ensures.value table.names table.bytes in
+    record {
+      compiled = c.compilation_of.ensures.compiled sources written;
+      first = c.compilation_of.ensures.first sources written;
+    }

@@ -11,23 +11,25 @@ use Rattle.proto_compile.proofs.outcome.judge.Goals as goal
 
 pub loop-outcome-preserved : goal.loop-outcome-preserved
 loop-outcome-preserved g c = rw c.in_ok-push-in-Ok.ensures.items
-    (well_more c.loop-outcome.all.items c.loop-outcome.yielded c.in-Ok.value c.in-Some.outcome c.loop-outcome.invariant c.in-Ok.is)
+    (well_more c.loop-outcome.all.items c.loop-outcome.yielded c.in-Ok.value c.in-Some.outcome c.loop-outcome.invariant
+    c.in-Ok.is)
 
 pub returns-in-Err-clause-first : goal.returns-in-Err-clause-first
 returns-in-Err-clause-first g c =
     let gives = c.into_iter-outcome-iterator.ensures.into_iter_gives in
     let all = YieldsList-from_vec c.args.outcomes.items gives.0 (omega (arith, gives.1)) in
-    let so_far : c.loop-outcome.yielded ≡ take (length c.loop-outcome.yielded) c.args.outcomes.items =
-    sym (map-id c.loop-outcome.yielded) ∙ YieldsList-so_far all c.loop-outcome.yielded c.loop-outcome.outcome-iterator c.loop-outcome.yielded_by in
-    let turn = YieldsList-turn all c.loop-outcome.yielded c.loop-outcome.outcome-iterator c.loop-outcome.yielded_by c.next.result c.next.new.self
+    let l = c.loop-outcome in
+    let so_far : l.yielded ≡ take (length l.yielded) c.args.outcomes.items =
+    sym (map-id l.yielded) ∙ YieldsList-so_far all l.yielded l.outcome-iterator l.yielded_by in
+    let turn = YieldsList-turn all l.yielded l.outcome-iterator l.yielded_by c.next.result c.next.new.self
     c.in-Some.outcome c.in-Some.is c.next.ensures.steps in
-    let at : c.len-in-Err.result ≡ length c.loop-outcome.yielded =
-    c.len-in-Err.ensures ∙ c.loop-outcome.all.ok.0 ∙ sym (length-map c.loop-outcome.all.items Ok) ∙ ap length c.loop-outcome.invariant in
+    let at : c.len-in-Err.result ≡ length l.yielded =
+    c.len-in-Err.ensures ∙ l.all.ok.0 ∙ sym (length-map l.all.items Ok) ∙ ap length l.invariant in
     let is : c.in-Some.outcome ≡ Err c.in-Err.error = c.in-Err.is in
     let below : c.len-in-Err.result < length c.args.outcomes.items = omega (arith, at, turn.0) in
     let within : c.len-in-Err.result < length c.args.files.now = omega (arith, below, c.requires) in
-    told_first (number_of c.args.pass) c.args.files.now c.args.outcomes.items c.len-in-Err.result c.loop-outcome.all.items c.in-Some.outcome c.in-Err.error
-    c.refusal_of_file.result
+    told_first (number_of c.args.pass) c.args.files.now c.args.outcomes.items c.len-in-Err.result
+    c.loop-outcome.all.items c.in-Some.outcome c.in-Err.error c.refusal_of_file.result
     (subst (λ (n : List ℕ). TellsOfFile (number_of c.args.pass) n c.in-Err.error c.refusal_of_file.result)
     (sym (name_is c.args.files.now c.len-in-Err.result _ within)) c.refusal_of_file.ensures)
     (c.loop-outcome.invariant ∙ so_far ∙ ap (λ (k : ℕ). take k c.args.outcomes.items) (sym at)) below

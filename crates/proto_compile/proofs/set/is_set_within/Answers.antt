@@ -4,13 +4,15 @@ use Rattle.std.proofs.lemmas.Bool.{true≢false}
 use Rattle.std.proofs.lemmas.List.Folds.{length-flat_map-take}
 use Rattle.wire_format.specs.Field.{bytes_field}
 use Rattle.proto_compile.specs.Compilation.{bytes_at}
-use Rattle.proto_compile.proofs.Setting.{item_at}
+use Rattle.std.proofs.lemmas.List.Elements.{Contains-get_or}
 use Rattle.proto_compile.proofs.set.is_set_within.Goals as goal
 
 pub bytes-requires : goal.bytes-requires
 bytes-requires c =
-    c.requires.inside _ (subst (λ (xs : List ℕ). Contains xs (get_or c.set_order-file-items.result.now c.loop-file.file-index 0)) c.set_order-file-items.ensures
-    (item_at c.set_order-file-items.result.now c.loop-file.file-index 0 (omega arith)))
+    let items = c.set_order-file-items.result.now in
+    let here = get_or items c.loop-file.file-index 0 in
+    c.requires.inside here (subst (λ (xs : List ℕ). Contains xs here) c.set_order-file-items.ensures
+    (Contains-get_or items c.loop-file.file-index 0 (omega arith)))
 
 pub returns-then-length-most : goal.returns-then-length-most
 returns-then-length-most c =
@@ -20,4 +22,7 @@ returns-then-length-most c =
     (bytes_at c.args.files.now (get_or c.set_order-file-items.result.now c.loop-file.file-index 0))) =
     c.field_len-length.ensures.len ∙ ap (λ (b : List ℕ). length (bytes_field 1 b)) c.bytes.ensures in
     let whole = ap (λ (xs : List ℕ). length (flat_map field xs)) c.set_order-file-items.ensures in
-    (λ t. absurd (true≢false (sym t)), λ within. absurd (omega (arith, within, part, here, whole, c.loop-file.invariant.so_far, c.if-length-most.true)))
+    let so_far = c.loop-file.invariant.so_far in (
+      λ t. absurd (true≢false (sym t)),
+      λ within. absurd (omega (arith, within, part, here, whole, so_far, c.if-length-most.true)),
+    )

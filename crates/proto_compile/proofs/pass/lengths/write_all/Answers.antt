@@ -1,42 +1,52 @@
-use Rattle.std.proofs.Common.{◌≡◌, ◌∙◌, sym, subst, ℕ, map, All}
+use Rattle.std.proofs.Common.{◌≡◌, ◌∙◌, sym, ap, refl, ℕ, List, [], ◌∷◌, map, All}
+use Rattle.std.specs.List.{AllZip}
 use Rattle.std.specs.Prelude.{Ok, Vec}
 use Rattle.std.specs.declared.alloc.Global.{Global}
+use Rattle.std.proofs.lemmas.List.Elements.{All-cons, All-nil}
+use Rattle.proto_base.specs.declared.limits.Limits.{Limits}
+use Rattle.proto_desc.specs.declared.file.FileDesc.{FileDesc}
 use Rattle.wire_bytes.specs.Descriptor.{file_desc_bytes}
-use Rattle.proto_compile.specs.Analysed.{AllZipFrom}
 use Rattle.proto_compile.specs.Compilation.{IsShort}
-use Rattle.proto_compile.specs.Faults.{IsFirstFault, IsRefusal}
-use Rattle.proto_compile.specs.Outcomes.{IsWrittenShort, TellsFirst}
+use Rattle.proto_compile.specs.FaultSet.{IsLeastFault}
+use Rattle.proto_compile.specs.Outcomes.{IsFirstBad, IsWrittenShort}
 use Rattle.proto_compile.specs.Steps.{items_of}
-use Rattle.proto_compile.proofs.Judging.{err_map, ok_map, zip_of_gives}
-use Rattle.proto_compile.proofs.Writing.{all_bytes, all_short, refused_long}
+use Rattle.proto_compile.proofs.Judging.{all_of_gives, gives_well, err_tells, ok_map}
+use Rattle.proto_compile.proofs.LeastFault.{first_long}
 use Rattle.proto_compile.proofs.pass.lengths.write_all.Goals as goal
+
+-- where no descriptor is too long
+all_written : (limits : Limits) (descs : List FileDesc) (all : List (Vec ℕ Global))
+    → AllZip (λ d bytes. IsWrittenShort limits d (Ok bytes)) descs all
+    → (map items_of all ≡ map file_desc_bytes descs) × All (IsShort limits) descs
+all_written limits [] [] is = (refl, All-nil (IsShort limits))
+all_written limits [] (b ∷ all) is = absurd is
+all_written limits (d ∷ descs) [] is = absurd is
+all_written limits (d ∷ descs) (b ∷ all) is =
+    let rest = all_written limits descs all is.1 in (
+      ap (λ (n : List ℕ). n ∷ map items_of all) is.0.0 ∙ ap (λ (ns : List (List ℕ)). file_desc_bytes d ∷ ns) rest.0,
+      All-cons (IsShort limits) d descs is.0.1 rest.1,
+    )
 
 pub judge-requires : goal.judge-requires
 judge-requires g c = c.requires.files ∙ sym (rw c.as_slice.ensures.value at c.in_ok-outcomes.ensures.0)
 
-pub returns-clause-bytes : goal.returns-clause-bytes
-returns-clause-bytes g c =
+pub returns : goal.returns
+returns g c =
+    let limits = c.args.limits.now in
+    let files = c.args.files.now in
     let descs = c.args.descs.items in
     let outcomes = c.in_ok-outcomes.outcomes.items in
     let given = rw c.as_slice.ensures.value at c.in_ok-outcomes.ensures in
-    let each = zip_of_gives (λ k. IsWrittenShort c.args.limits.now) 0 descs outcomes given in
-    ok_map (λ (all : Vec (Vec ℕ Global) Global). outcomes ≡ map Ok all.items) (λ all. map items_of all.items ≡ map file_desc_bytes descs) c.judge.result
-    (λ all is. all_bytes c.args.limits.now 0 descs all.items (subst (AllZipFrom (λ k. IsWrittenShort c.args.limits.now) 0 descs) is each)) c.judge.ensures.well
-
-pub returns-clause-short : goal.returns-clause-short
-returns-clause-short g c =
-    let descs = c.args.descs.items in
-    let outcomes = c.in_ok-outcomes.outcomes.items in
-    let given = rw c.as_slice.ensures.value at c.in_ok-outcomes.ensures in
-    let each = zip_of_gives (λ k. IsWrittenShort c.args.limits.now) 0 descs outcomes given in
-    ok_map (λ (all : Vec (Vec ℕ Global) Global). outcomes ≡ map Ok all.items) (λ all. All (IsShort c.args.limits.now) descs) c.judge.result
-    (λ all is. all_short c.args.limits.now descs all.items (subst (AllZipFrom (λ k. IsWrittenShort c.args.limits.now) 0 descs) is each)) c.judge.ensures.well
-
-pub returns-clause-first : goal.returns-clause-first
-returns-clause-first g c sources links index resolved =
-    let descs = c.args.descs.items in
-    let outcomes = c.in_ok-outcomes.outcomes.items in
-    let given = rw c.as_slice.ensures.value at c.in_ok-outcomes.ensures in
-    let each = zip_of_gives (λ k. IsWrittenShort c.args.limits.now) 0 descs outcomes given in
-    err_map (TellsFirst 5 c.args.files.now outcomes) (IsRefusal (IsFirstFault c.args.limits.now sources)) c.judge.result
-    (λ e told. refused_long c.args.limits.now sources c.args.files.now descs links index outcomes e resolved each told) c.judge.ensures.first
+    let written = λ (all : Vec (Vec ℕ Global) Global) (is : outcomes ≡ map Ok all.items).
+    all_written limits descs all.items (all_of_gives (λ d bytes. IsWrittenShort limits d (Ok bytes)) 0 descs all.items
+    (gives_well (λ k. IsWrittenShort limits) descs all.items outcomes is given)) in
+    let well = λ (all : Vec (Vec ℕ Global) Global). outcomes ≡ map Ok all.items in
+    record {
+      bytes = ok_map well (λ all. map items_of all.items ≡ map file_desc_bytes descs) c.judge.result
+          (λ all is. (written all is).0) c.judge.ensures.well;
+      short = ok_map well (λ all. All (IsShort limits) descs) c.judge.result (λ all is. (written all is).1)
+          c.judge.ensures.well;
+      first = λ sources links index resolved. err_tells (IsFirstBad 5 files outcomes) (IsLeastFault limits sources)
+          c.judge.result (first_long limits sources files descs links index outcomes resolved given)
+          c.judge.ensures.first;
+    }

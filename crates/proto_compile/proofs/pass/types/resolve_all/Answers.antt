@@ -1,37 +1,44 @@
-use Rattle.std.proofs.Common.{rules, subst}
-use Rattle.proto_compile.specs.Analysed.{AllZipFrom}
-use Rattle.proto_compile.specs.Outcomes.{IsResolved}
-use Rattle.proto_compile.proofs.Judging.{zip_of_gives}
-use Rattle.proto_compile.proofs.Typing.{all_types, all_typed, all_whole, refused_types}
+use Rattle.std.proofs.Common.{◌≡◌, ℕ, ◌+◌, List, [], ◌∷◌, All, rules, true}
+use Rattle.std.proofs.lemmas.List.Elements.{All-cons, All-nil}
+use Rattle.proto_desc.specs.Resolved.{file_resolved}
+use Rattle.proto_desc.specs.declared.file.FileDesc.{FileDesc}
+use Rattle.proto_links.specs.Linked.{Linked}
+use Rattle.proto_names.specs.Index.{Index}
+use Rattle.proto_compile.specs.Analysed.{AllZipFrom, AreTypedFrom}
+use Rattle.proto_compile.specs.FaultSet.{IsLeastFault}
+use Rattle.proto_compile.specs.Outcomes.{IsFirstBad, IsResolved, IsTypedWhole}
+use Rattle.proto_compile.proofs.Judging.{gives_well, tells_more}
+use Rattle.proto_compile.proofs.LeastFault.{first_break}
 use Rattle.proto_compile.proofs.pass.types.resolve_all.Goals as goal
+
+-- descriptors with their types, all of them resolved
+all_typed : (links : Linked) (index : Index) (a : ℕ) (descs typed : List FileDesc)
+    → AllZipFrom (IsTypedWhole links index) a descs typed
+    → AreTypedFrom links index a descs typed × All (λ desc. file_resolved desc ≡ true) typed
+all_typed links index a [] [] all = (tt, All-nil (λ desc. file_resolved desc ≡ true))
+all_typed links index a [] (g ∷ gs) all = absurd all
+all_typed links index a (f ∷ fs) [] all = absurd all
+all_typed links index a (f ∷ fs) (g ∷ gs) all =
+    let rest = all_typed links index (a + 1) fs gs all.1 in
+    ((all.0.0, rest.0), All-cons (λ desc. file_resolved desc ≡ true) g gs all.0.1 rest.1)
 
 pub returns-in_err-types-clause-first : goal.returns-in_err-types-clause-first
 returns-in_err-types-clause-first g c limits sources analysed =
-    let links = c.args.links.now in
-    let index = c.args.index.now in
-    let descs = c.args.descs.items in
+    let files = c.args.files.now in
+    let outcomes = c.in_ok-outcomes.outcomes.items in
     let given = rw c.as_slice.ensures.value at c.in_ok-outcomes.ensures in
-    let each = zip_of_gives (IsResolved links index) 0 descs c.in_ok-outcomes.outcomes.items given in
-    let refused = refused_types limits sources c.args.files.now descs links index c.in_ok-outcomes.outcomes.items c.in_err-types.field-0.0 analysed each
-    c.in_err-types.ensures.first in
+    let refused = tells_more (IsFirstBad 4 files outcomes) (IsLeastFault limits sources)
+    (first_break limits sources files c.args.descs.items c.args.links.now c.args.index.now outcomes analysed given)
+    c.in_err-types.field-0.0 c.in_err-types.ensures.first in
     search (rules, refused)
 
-pub returns-clause-typed : goal.returns-clause-typed
-returns-clause-typed g c =
+pub returns : goal.returns
+returns g c =
     let links = c.args.links.now in
     let index = c.args.index.now in
     let descs = c.args.descs.items in
     let given = rw c.as_slice.ensures.value at c.in_ok-outcomes.ensures in
-    let each = zip_of_gives (IsResolved links index) 0 descs c.in_ok-outcomes.outcomes.items given in
-    let types = all_types links index 0 descs c.in_ok-types.types.items (subst (AllZipFrom (IsResolved links index) 0 descs) c.in_ok-types.ensures.well each) in
-    all_typed links index 0 descs c.put_types.new.descs.items (c.put_types.ensures links index types)
-
-pub returns-clause-whole : goal.returns-clause-whole
-returns-clause-whole g c =
-    let links = c.args.links.now in
-    let index = c.args.index.now in
-    let descs = c.args.descs.items in
-    let given = rw c.as_slice.ensures.value at c.in_ok-outcomes.ensures in
-    let each = zip_of_gives (IsResolved links index) 0 descs c.in_ok-outcomes.outcomes.items given in
-    let types = all_types links index 0 descs c.in_ok-types.types.items (subst (AllZipFrom (IsResolved links index) 0 descs) c.in_ok-types.ensures.well each) in
-    all_whole links index descs c.put_types.new.descs.items (c.put_types.ensures links index types)
+    let types = gives_well (IsResolved links index) descs c.in_ok-types.types.items c.in_ok-outcomes.outcomes.items
+    c.in_ok-types.ensures.well given in
+    let typed = all_typed links index 0 descs c.put_types.new.descs.items (c.put_types.ensures links index types) in
+    record { typed = typed.0; whole = typed.1; first = λ limits sources analysed. tt }

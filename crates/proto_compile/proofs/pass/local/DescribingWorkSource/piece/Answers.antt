@@ -1,20 +1,20 @@
-use Rattle.std.proofs.Common.{arith, sym, subst, take, ◌+◌, ◌≡◌, List}
+use Rattle.std.proofs.Common.{◌+◌, arith, subst, sym, take}
 use Rattle.std.proofs.lemmas.List.{take_all}
-use Rattle.proto_compile.specs.Analysed.{AllZipFrom}
+use Rattle.std.specs.List.{AllZip}
 use Rattle.proto_compile.specs.Outcomes.{IsDescribed}
-use Rattle.proto_compile.specs.declared.source.Source.{Source}
-use Rattle.proto_compile.proofs.Judging.{gives_of_zip, zip_from_at}
+use Rattle.proto_compile.proofs.Judging.{all_next, gives_of_all}
 use Rattle.proto_compile.proofs.pass.local.DescribingWorkSource.piece.Goals as goal
 
 pub loop-source-preserved : goal.loop-source-preserved
 loop-source-preserved c =
-    subst (AllZipFrom (λ k. IsDescribed c.args.self.now.limits) 0 (take (c.loop-source.source-index + 1) c.args.items.now)) (sym c.in_ok-push.ensures.items)
-    (zip_from_at (λ k. IsDescribed c.args.self.now.limits) c.args.items.now c.loop-source.source-index _ c.loop-source.outcomes.items c.describe_one.result
-    (omega arith) c.loop-source.invariant c.describe_one.ensures)
+    let l = c.loop-source in
+    let R = IsDescribed c.args.self.now.limits in
+    subst (AllZip R (take (l.source-index + 1) c.args.items.now)) (sym c.in_ok-push.ensures.items)
+    (all_next R c.args.items.now l.source-index _ l.outcomes.items c.describe_one.result (omega arith) l.invariant
+    c.describe_one.ensures)
 
 pub returns-clause-outs : goal.returns-clause-outs
 returns-clause-outs c =
-    let whole : take c.loop-source.source-index c.args.items.now ≡ c.args.items.now = take_all c.loop-source.source-index c.args.items.now (omega arith) in
-    gives_of_zip (IsDescribed c.args.self.now.limits) c.args._first c.args.items.now c.loop-source.outcomes.items
-    (subst (λ (sources : List Source). AllZipFrom (λ k. IsDescribed c.args.self.now.limits) 0 sources c.loop-source.outcomes.items) whole
-    c.loop-source.invariant)
+    let l = c.loop-source in
+    gives_of_all (IsDescribed c.args.self.now.limits) c.args._first c.args.items.now l.outcomes.items
+    (rw (take_all l.source-index c.args.items.now (omega arith)) at l.invariant)

@@ -1,7 +1,7 @@
 use Rattle.std.proofs.Common.{take}
-use Rattle.proto_compile.specs.Analysed.{AllZipFrom}
+use Rattle.std.specs.List.{AllZip}
 use Rattle.proto_compile.specs.Outcomes.{IsDescribed}
 use Rattle.proto_compile.proofs.pass.local.DescribingWorkSource.piece.Given as goal
 
 abbrev pub invariant-loop-source : goal.invariant-loop-source
-invariant-loop-source l = AllZipFrom (λ k. IsDescribed l.self.limits) 0 (take l.source-index l.items) l.outcomes.items
+invariant-loop-source l = AllZip (IsDescribed l.self.limits) (take l.source-index l.items) l.outcomes.items
