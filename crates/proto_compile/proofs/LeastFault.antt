@@ -32,9 +32,9 @@ use Rattle.proto_compile.specs.Analysed.{AreResolved, IsAnalysed, TypesBreakAt}
 use Rattle.proto_compile.specs.Compilation.{Compilation, IsWritten, set_of}
 use Rattle.proto_compile.specs.Descriptions.{Describe, SourceDescribes}
 use Rattle.proto_compile.specs.FaultSet.{Breaks, IsLeastFault, IsNoLater, SourceFault, StandsDesc, bad_import, bad_type, fault, file_fault, long_descriptor, long_set, many_files, many_names, of_file, of_list, repeated_file_name, repeated_name, start}
-use Rattle.proto_compile.specs.Faults.{Stands}
+use Rattle.proto_compile.specs.Faults.{Stands, AreSorted, IsFirstRepeated}
 use Rattle.proto_compile.specs.Outcomes.{IsDescribed, IsFirstBad, IsResolved, IsWrittenShort}
-use Rattle.proto_compile.specs.Sources.{AreByName, AreSorted, IsFirstRepeated, name_at, name_of, text_of}
+use Rattle.proto_compile.specs.Sources.{AreByName, name_at, name_of, text_of}
 use Rattle.proto_compile.specs.declared.source.Source.{Source}
 use Rattle.proto_compile.proofs.FaultOrder.{later_name, later_pass, later_spot, no_name_first, one_fault, same_later, same_name, same_told}
 use Rattle.proto_compile.proofs.Judging.{given_at}

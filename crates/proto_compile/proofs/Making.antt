@@ -13,7 +13,8 @@ use Rattle.proto_base.specs.declared.limits.Limit.TheVariants as limit
 use Rattle.proto_base.specs.declared.limits.Limits.{Limits}
 use Rattle.wire_bytes.specs.Descriptor.{file_desc_bytes}
 use Rattle.proto_compile.specs.Analysed.{AreResolved, AreTypedFrom}
-use Rattle.proto_compile.specs.Compilation.{CompiledFile, IsShort, IsSound, IsWritten, file_bytes, file_name, set_of}
+use Rattle.proto_compile.specs.Compilation.{CompiledFile, IsShort, IsWritten, file_bytes, file_name, set_of}
+use Rattle.proto_compile.specs.Sound.{IsSound}
 use Rattle.proto_compile.specs.Descriptions.{SourceDescribes}
 use Rattle.proto_compile.specs.Sources.{AreByName, name_of}
 use Rattle.proto_compile.specs.Steps.{compilation, items_of}

@@ -22,7 +22,8 @@ use Rattle.proto_compile.specs.Analysed.{AreResolved, IsAnalysed}
 use Rattle.proto_compile.specs.Compilation.{Compilation, IsCompiled, IsShort, IsWritten}
 use Rattle.proto_compile.specs.Descriptions.{Describe, SourceDescribes}
 use Rattle.proto_compile.specs.FaultSet.{AreDescribed, Breaks, SourceFault, StandsDesc, bad_import, bad_type, file_fault, long_descriptor, long_set, many_files, many_names, repeated_file_name, repeated_name}
-use Rattle.proto_compile.specs.Sources.{AreByName, AreSorted, name_at, name_of, text_of}
+use Rattle.proto_compile.specs.Sources.{AreByName, name_at, name_of, text_of}
+use Rattle.proto_compile.specs.Faults.{AreSorted}
 use Rattle.proto_compile.specs.declared.source.Source.{Source}
 use Rattle.proto_compile.proofs.FaultOrder.{less_greater}
 use Rattle.proto_compile.proofs.OneCompilation.{one_set}

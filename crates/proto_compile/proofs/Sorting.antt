@@ -7,7 +7,8 @@ use Rattle.std.proofs.lemmas.Bool.{true≢false, cases_lt}
 use Rattle.std.proofs.lemmas.Cmp.{nat_list_cmp_total}
 use Rattle.std.proofs.lemmas.List.{get_or-map}
 use Rattle.std.proofs.lemmas.Map.Lookups.{exact_bytes}
-use Rattle.proto_compile.specs.Sources.{AreByName, AreSorted, IsFirstRepeated, name_at, name_of}
+use Rattle.proto_compile.specs.Sources.{AreByName, name_at, name_of}
+use Rattle.proto_compile.specs.Faults.{AreSorted, IsFirstRepeated}
 use Rattle.proto_compile.specs.declared.source.Source.{Source}
 
 pub name_is : (files : List Source) (k : ℕ) (d : Source) → k < length files

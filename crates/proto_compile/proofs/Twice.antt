@@ -10,7 +10,8 @@ use Rattle.std.proofs.lemmas.List.{get_or-take, length-map, length-take}
 use Rattle.std.proofs.lemmas.List.Sorted.{IsPermutation-map, sum_by-IsPermutation}
 use Rattle.std.proofs.lemmas.List.Sums.{get_or-le-sum_by, sum_by-cons, sum_by_more_le}
 use Rattle.std.proofs.lemmas.Map.Lookups.{exact_bytes}
-use Rattle.proto_compile.specs.Sources.{AreSorted, name_at, name_of}
+use Rattle.proto_compile.specs.Sources.{name_at, name_of}
+use Rattle.proto_compile.specs.Faults.{AreSorted}
 use Rattle.proto_compile.specs.declared.source.Source.{Source}
 use Rattle.proto_compile.proofs.OneOrder.{not_later, same_name}
 

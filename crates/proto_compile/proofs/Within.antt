@@ -10,7 +10,8 @@ use Rattle.proto_links.proofs.Whole.{whole_of}
 use Rattle.wire_format.specs.Field.{bytes_field}
 use Rattle.std.specs.Cmp.Lexicographic.{slice_cmp}
 use Rattle.std.specs.Ordering.{nat_cmp}
-use Rattle.proto_compile.specs.Compilation.{Compilation, IsOfSources, bytes_at, file_name, set_of}
+use Rattle.proto_compile.specs.Compilation.{Compilation, bytes_at, file_name, set_of}
+use Rattle.proto_compile.specs.Sound.{IsOfSources}
 use Rattle.proto_compile.proofs.Making.{as_many}
 
 -- one of many

@@ -1,7 +1,7 @@
 -- What sources are compiled to.
-use Rattle.std.specs.Prelude.{◌≡◌, ℕ, ◌<◌, ◌≤◌, List, [], length, map, flat_map, slice_index_or, All, Contains}
+use Rattle.std.specs.Prelude.{◌≡◌, ℕ, ◌<◌, ◌≤◌, List, [], length, map, flat_map, slice_index_or, All}
 use Rattle.proto_desc.specs.declared.file.FileDesc.{FileDesc}
-use Rattle.proto_links.specs.Linked.{Linked, count_of}
+use Rattle.proto_links.specs.Linked.{Linked}
 use Rattle.proto_names.specs.Index.{Index}
 use Rattle.proto_base.specs.Limits.{limit_of}
 use Rattle.proto_base.specs.declared.limits.Limit.TheVariants as limit
@@ -61,18 +61,3 @@ pub record IsWritten (limits : Limits) (sources : List Source) (c : Compilation)
 pub record IsCompiled (limits : Limits) (sources : List Source) (c : Compilation) : Type 0 where
   pub written : IsWritten limits sources c
   pub within : length (set_of c.files c.links) ≤ limit_of limits limit.SetBytes
-
--- what is so of each compilation
-pub record IsSound (c : Compilation) : Type 0 where
-  pub linked : count_of c.links ≡ length c.files
-  pub indexed : c.index.files ≡ length c.files
-  pub inside : (a : ℕ) → Contains c.links.set_order a → a < length c.files
-  pub once : (name : List ℕ) (a b : ℕ) → IsNamed c.files name a → IsNamed c.files name b → a ≡ b
-  pub within : length (set_of c.files c.links) ≤ limit_of c.limits limit.SetBytes
-  pub few_services : length c.index.services ≤ limit_of c.limits limit.Names
-  pub short_services : (name : List ℕ) → Contains c.index.services name
-      → length name ≤ limit_of c.limits limit.FullNameBytes
-
--- what some sources are compiled to
-abbrev pub IsOfSources : Compilation → Type 0
-IsOfSources c = (sources : List Source) × IsCompiled c.limits sources c

@@ -8,3 +8,4 @@ pub mod Steps
 pub mod Outcomes
 pub mod Passes
 pub mod FaultSet
+pub mod Sound

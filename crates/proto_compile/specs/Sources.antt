@@ -1,8 +1,8 @@
 -- Sources in the order of their names.
-use Rattle.std.specs.Prelude.{◌≡◌, ◌≢◌, ℕ, ◌+◌, ◌<◌, List, [], length, map, slice_index_or, IsPermutation}
+use Rattle.std.specs.Prelude.{◌≡◌, ℕ, ◌+◌, ◌<◌, List, [], length, map, slice_index_or, IsPermutation}
 use Rattle.std.specs.Cmp.Lexicographic.{slice_cmp}
 use Rattle.std.specs.Ordering.{nat_cmp}
-use Rattle.std.specs.declared.cmp.Ordering.TheVariants.{Less, Greater}
+use Rattle.std.specs.declared.cmp.Ordering.TheVariants.{Less}
 use Rattle.proto_compile.specs.declared.source.Source.{Source}
 
 abbrev pub name_of : Source → List ℕ
@@ -14,11 +14,6 @@ text_of s = s.text.now
 abbrev pub name_at : List Source → ℕ → List ℕ
 name_at files k = slice_index_or (map name_of files) k []
 
--- the same sources, none behind one of a greater name
-pub record AreSorted (sources files : List Source) : Type 0 where
-  pub all : IsPermutation sources files
-  pub rises : (k : ℕ) → k + 1 < length files → slice_cmp nat_cmp (name_at files k) (name_at files (k + 1)) ≢ Greater
-
 -- each name comes before the next one, byte by byte
 abbrev pub NamesRise : List Source → Type 0
 NamesRise files = (k : ℕ) → k + 1 < length files → slice_cmp nat_cmp (name_at files k) (name_at files (k + 1)) ≡ Less
@@ -27,9 +22,3 @@ NamesRise files = (k : ℕ) → k + 1 < length files → slice_cmp nat_cmp (name
 pub record AreByName (sources files : List Source) : Type 0 where
   pub all : IsPermutation sources files
   pub rises : NamesRise files
-
--- of sorted sources, the first of which the next one has the name
-pub record IsFirstRepeated (files : List Source) (k : ℕ) : Type 0 where
-  pub below : k + 1 < length files
-  pub same : name_at files k ≡ name_at files (k + 1)
-  pub first : (j : ℕ) → j < k → name_at files j ≢ name_at files (j + 1)

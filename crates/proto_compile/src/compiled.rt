@@ -4,7 +4,8 @@ ghost use Rattle.std.specs.Prelude.{◌≡◌, ℕ, ◌+◌, ◌<◌, ◌≤◌,
 ghost use Rattle.std.specs.Cmp.Lexicographic.{slice_cmp};
 ghost use Rattle.std.specs.Ordering.{nat_cmp};
 ghost use Rattle.std.specs.declared.cmp.Ordering.TheVariants.{Less};
-ghost use Rattle.proto_compile.specs.Compilation.{IsNamed, IsOfSources, IsSound, bytes_at, file_name, set_of};
+ghost use Rattle.proto_compile.specs.Compilation.{IsNamed, bytes_at, file_name, set_of};
+ghost use Rattle.proto_compile.specs.Sound.{IsOfSources, IsSound};
 ghost use Rattle.proto_links.specs.Linked.{count_of, reach_of};
 ghost use Rattle.wire_format.specs.Field.{bytes_field};
 
@@ -27,7 +28,8 @@ pub struct Compiled {
 }
 
 impl Model for Compiled {
-    ghost use Rattle.proto_compile.specs.Compilation.{Compilation, IsOfSources, IsSound};
+    ghost use Rattle.proto_compile.specs.Compilation.{Compilation};
+    ghost use Rattle.proto_compile.specs.Sound.{IsOfSources, IsSound};
 
     ghost Value = { Compilation };
 

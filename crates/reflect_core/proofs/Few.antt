@@ -4,7 +4,8 @@ use Rattle.std.proofs.lemmas.List.Sorted.{length_permutation}
 use Rattle.std.proofs.lemmas.Slice.Zip.{AllZip-long}
 use Rattle.proto_base.specs.Limits.{limit_of}
 use Rattle.proto_base.specs.declared.limits.Limit.TheVariants as limit
-use Rattle.proto_compile.specs.Compilation.{Compilation, IsOfSources}
+use Rattle.proto_compile.specs.Compilation.{Compilation}
+use Rattle.proto_compile.specs.Sound.{IsOfSources}
 use Rattle.proto_compile.specs.Descriptions.{SourceDescribes}
 use Rattle.proto_links.specs.Linked.{count_of}
 

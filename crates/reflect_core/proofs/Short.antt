@@ -1,7 +1,8 @@
 -- Replies have room in a frame.
 use Rattle.std.proofs.Common.{◌≡◌, ℕ, suc, ◌+◌, ◌*◌, ◌<◌, ◌≤◌, List, [], ◌∷◌, length, ap, arith, length-append, refl}
 use Rattle.std.specs.Prelude.{flat_map, Contains}
-use Rattle.proto_compile.specs.Compilation.{Compilation, IsSound}
+use Rattle.proto_compile.specs.Compilation.{Compilation}
+use Rattle.proto_compile.specs.Sound.{IsSound}
 use Rattle.wire_format.specs.Field.{bytes_field}
 use Rattle.wire_format.proofs.Varints.{varint_short}
 use Rattle.reflect_requests.specs.Request.{Ask}

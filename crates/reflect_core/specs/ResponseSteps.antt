@@ -2,7 +2,8 @@
 use Rattle.std.specs.Prelude.{◌≡◌, ℕ, ◌+◌, ◌*◌, ◌<◌, ◌≤◌, ◌^◌, List, length, slice_index_or, Option, Contains, Vec}
 use Rattle.std.specs.Option.{ForSome}
 use Rattle.std.specs.declared.alloc.Global.{Global}
-use Rattle.proto_compile.specs.Compilation.{Compilation, IsSound, set_of}
+use Rattle.proto_compile.specs.Compilation.{Compilation, set_of}
+use Rattle.proto_compile.specs.Sound.{IsSound}
 use Rattle.proto_links.specs.Linked.{Linked, count_of, reach_of}
 use Rattle.proto_links.specs.Whole.{AreReachesWhole}
 use Rattle.reflect_core.specs.Answer as answers
