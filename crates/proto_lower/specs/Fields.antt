@@ -14,10 +14,6 @@ use Rattle.proto_tree.specs.declared.message.MessageItem as message_item
 use Rattle.proto_tree.specs.declared.name.FullName.{FullName}
 use Rattle.proto_tree.specs.declared.name.TypeName.{TypeName}
 use Rattle.proto_tree.specs.declared.oneof.OneofField.{OneofField}
-use Rattle.proto_base.specs.declared.scalar_type.KeyType.{KeyType}
-use Rattle.proto_base.specs.declared.scalar_type.KeyType.TheVariants as key
-use Rattle.proto_base.specs.declared.scalar_type.ScalarType.{ScalarType}
-use Rattle.proto_base.specs.declared.scalar_type.ScalarType.TheVariants as scalar
 use Rattle.proto_desc.specs.declared.field.FieldDesc.{FieldDesc}
 use Rattle.proto_desc.specs.declared.field.FieldKind.{FieldKind}
 use Rattle.proto_desc.specs.declared.field.FieldKind.TheVariants.{Scalar, Named}
@@ -44,21 +40,6 @@ reference_of t = Spelled (spelled t.dot t.name) (type_place t.dot t.name)
 abbrev pub kind_of : FieldType → FieldKind
 kind_of (field_type.Scalar s span) = Scalar s
 kind_of (field_type.Named t) = Named (reference_of t)
-
--- the type of a map's keys as the type of a field
-abbrev pub scalar_of_key : KeyType → ScalarType
-scalar_of_key key.Int32 = scalar.Int32
-scalar_of_key key.Int64 = scalar.Int64
-scalar_of_key key.Uint32 = scalar.Uint32
-scalar_of_key key.Uint64 = scalar.Uint64
-scalar_of_key key.Sint32 = scalar.Sint32
-scalar_of_key key.Sint64 = scalar.Sint64
-scalar_of_key key.Fixed32 = scalar.Fixed32
-scalar_of_key key.Fixed64 = scalar.Fixed64
-scalar_of_key key.Sfixed32 = scalar.Sfixed32
-scalar_of_key key.Sfixed64 = scalar.Sfixed64
-scalar_of_key key.Bool = scalar.Bool
-scalar_of_key key.String = scalar.String
 
 abbrev pub described : Declarator → FieldLabel → FieldKind → Option ℕ → Bool → FieldDesc
 described d given_label kind oneof is_optional = record {

@@ -16,7 +16,8 @@ use Rattle.proto_desc.specs.declared.message.MessageDesc.TheViews.{roll-MessageD
 use Rattle.proto_desc.specs.declared.rules.Element.TheVariants as element
 use Rattle.proto_lower.specs.Names.{entry_name_of}
 use Rattle.proto_lower.specs.Enums.{lowered_enum}
-use Rattle.proto_lower.specs.Fields.{inner, kind_of, scalar_of_key, fields_from, real_count}
+use Rattle.proto_lower.specs.Fields.{inner, kind_of, fields_from, real_count}
+use Rattle.proto_tree.specs.KeyTypes.{scalar_of_key}
 use Rattle.proto_lower.specs.Oneofs.{real_oneofs, names_of_fields, with_made}
 use Rattle.proto_options.specs.Options.{message_setting}
 use Rattle.proto_lower.specs.Options.{options_of}

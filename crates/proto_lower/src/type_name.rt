@@ -1,7 +1,8 @@
 //! Types of fields and methods, by name as the source spells it (proto3 language specification, "Fields", "Map field").
 
 ghost use Rattle.std.specs.Prelude.{◌≡◌, IfOk};
-ghost use Rattle.proto_lower.specs.Fields.{type_place, reference_of, kind_of, scalar_of_key};
+ghost use Rattle.proto_lower.specs.Fields.{type_place, reference_of, kind_of};
+ghost use Rattle.proto_tree.specs.KeyTypes.{scalar_of_key};
 
 use proto_base::Place;
 use proto_base::scalar_type::{KeyType, ScalarType};

@@ -23,12 +23,12 @@ use Rattle.proto_tree.specs.declared.reserved.Reserved.{Reserved}
 use Rattle.proto_syntax.specs.Grammar.{among, IsTree, one, both, second, Tree, Pair, Left, Right}
 use Rattle.proto_syntax.specs.Language.{scalar_words, statement_words, named_but, type_but, field_head, field}
 use Rattle.proto_syntax.specs.Reading.{Read, read}
-use Rattle.proto_syntax.specs.Trees.{name_tree, symbol_tree, row, part_tree, full_tree, declarator_tree, option_tree, enum_tree, oneof_tree, number_tree, reserved_tree, map_tree, field_head_tree, field_tree, unlabelled_tree, field_statement_tree, block_tree, item_step, trees_row, message_step, message_item_tree, message_tree}
+use Rattle.proto_syntax.specs.Trees.{name_tree, symbol_tree, row, part_tree, full_tree, declarator_tree, option_tree, enum_tree, oneof_tree, number_tree, reserved_tree, map_tree, field_head_tree, field_tree, unlabelled_tree, field_statement_tree, block_tree, item_step, message_step, message_item_tree, message_tree}
 use Rattle.proto_syntax.proofs.Reach.{read_found}
 
-trees_row_map : {A : Type 0} → (f : A → Tree) (xs : List A) → trees_row (map f xs) ≡ row f xs
-trees_row_map f [] = refl
-trees_row_map f (x ∷ xs) = ap (Pair (f x)) (trees_row_map f xs)
+row_map : {A : Type 0} → (f : A → Tree) (xs : List A) → row (λ t. t) (map f xs) ≡ row f xs
+row_map f [] = refl
+row_map f (x ∷ xs) = ap (Pair (f x)) (row_map f xs)
 
 pub item_enum : (e : Enum) → message_item_tree (of.Enum e) ≡ Right (Left (enum_tree e))
 item_enum e = ap message_item_tree (sym (of.rolls-Enum e)) ∙ fold-roll-MessageItem Tree Tree item_step message_step (opened.Enum e)
@@ -53,7 +53,7 @@ item_field f = ap message_item_tree (sym (of.rolls-Field f)) ∙ fold-roll-Messa
 
 pub fold_message : (m : Message) → fold-Message Tree Tree item_step message_step m ≡ message_tree m
 fold_message m = fold_out-Message Tree Tree item_step message_step m
-    ∙ ap (λ r. block_tree (codes "message") m.keyword m.name m.open_brace r m.close_brace) (trees_row_map message_item_tree m.items)
+    ∙ ap (λ r. block_tree (codes "message") m.keyword m.name m.open_brace r m.close_brace) (row_map message_item_tree m.items)
 
 pub item_message : (m : Message) → message_item_tree (of.Message m) ≡ Left (message_tree m)
 item_message m =

@@ -1,12 +1,15 @@
--- What a private method of the parser promises.
+-- Words of private contracts: what a method of the parser promises.
 use Rattle.std.specs.Prelude.{◌≡◌, true, false, List, map, Result, Ok, Err, ℕ, slice_get, Option, None, Some}
+use Rattle.proto_base.specs.declared.place.Span.{Span}
 use Rattle.proto_tokens.specs.declared.token.Token.{Token}
 use Rattle.proto_tokens.specs.Token.{Spelled}
 use Rattle.proto_tokens.specs.ProgramTokens.{spelled}
 use Rattle.proto_syntax.specs.declared.parser.stop.Stop.{Stop}
 use Rattle.proto_syntax.specs.declared.parser.stop.Stop.TheVariants as stop
-use Rattle.proto_syntax.specs.Grammar.{Grammar, ◌∣◌, Tree}
+use Rattle.proto_syntax.specs.Grammar.{Grammar, ◌∣◌, Tree, Pair}
 use Rattle.proto_syntax.specs.Language.{enum, option, oneof, reserved, map_or_field, symbol, field}
+use Rattle.std.specs.Str.{byte}
+use Rattle.proto_syntax.specs.Trees.{row, symbol_tree}
 use Rattle.proto_syntax.specs.Reading.{Outcome, Read, Stops, read}
 use Rattle.proto_tokens.specs.declared.token.Tokens.{Tokens}
 use Rattle.proto_base.specs.declared.kind.Kind.{Kind}
@@ -50,3 +53,7 @@ kind_at ts k = kind_here (token_before ts k) (slice_get ts k)
 abbrev pub TellsFault : Tokens → ℕ → Kind → ParseError → Type 0
 TellsFault tokens k kind NoMemory = Unit {0}
 TellsFault tokens k kind (At place told) = (place ≡ place_at tokens k) × (told ≡ kind)
+
+-- the statements of a block, and the brace that closes it
+abbrev pub body_tree : {A : Type 0} → (A → Tree) → List A → Span → Tree
+body_tree f xs close_brace = Pair (row f xs) (symbol_tree (byte "}") close_brace)

@@ -1,2 +1,3 @@
+pub mod KeyTypes
 pub mod Name
 pub mod Text

@@ -5,7 +5,7 @@ ghost use Rattle.std.specs.Str.{byte};
 ghost use Rattle.proto_syntax.specs.Grammar.{◌⨾◌, Many, Pair};
 ghost use Rattle.proto_syntax.specs.Reading.{decides, read};
 ghost use Rattle.proto_syntax.specs.Language.{symbol};
-ghost use Rattle.proto_syntax.specs.Trees.{body_tree};
+ghost use Rattle.proto_syntax.specs.Gives.{body_tree};
 ghost use Rattle.proto_syntax.specs.Gives.{Reads};
 
 use crate::parser::Parser;

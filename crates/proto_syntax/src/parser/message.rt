@@ -4,8 +4,8 @@ ghost use Rattle.std.specs.Str.{byte};
 ghost use Rattle.proto_syntax.specs.Grammar.{◌⨾◌, Many, Pair, Left, Right};
 ghost use Rattle.proto_syntax.specs.Reading.{mapped, read};
 ghost use Rattle.proto_syntax.specs.Language.{message, message_item, map_or_field, symbol};
-ghost use Rattle.proto_syntax.specs.Trees.{message_item_tree, message_tree, body_tree};
-ghost use Rattle.proto_syntax.specs.Gives.{Gives, Reads, flat_item, spellings};
+ghost use Rattle.proto_syntax.specs.Trees.{message_item_tree, message_tree};
+ghost use Rattle.proto_syntax.specs.Gives.{Gives, Reads, flat_item, spellings, body_tree};
 
 use crate::parser::Parser;
 use crate::parser::stop::Stop;
