@@ -107,6 +107,10 @@ call compile a
 said '1 of 3 crates proved; at work: middle'
 go middle
 said '2 of 3 crates proved; at work: the program'
+# Another clone links what is proved here: the stamp changes, but not its text.
+ln "$clone/crates/low/out/rlib/stamp" "$folder/linked"
+: >"$folder/said"
+said '2 of 3 crates proved; at work: the program'
 # A call beside it, which waits and then runs what the first one built.
 : >"$folder/beside"
 PATH=$folder/path:$PATH "$clone/schema_server" beside >"$folder/beside" 2>&1 &
