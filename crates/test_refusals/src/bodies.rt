@@ -108,10 +108,10 @@ pub(crate) fn has_frames(alloc: Global) -> Result<bool, AllocError> {
 }
 
 /// The response by two workers.
-pub(crate) fn is_answered<R>(rt: &R, compiled: &Compiled) -> Result<bool, AllocError>
-where
-    R: Threads + AllocGlobal + Sync,
-{
+pub(crate) fn is_answered<R: Threads + AllocGlobal + Sync>(
+    rt: &R,
+    compiled: &Compiled,
+) -> Result<bool, AllocError> {
     let Some(plan) = Plan::new(2, 1) else {
         return Ok(false);
     };
@@ -126,10 +126,10 @@ fn is_http_answer(answer: &HttpAnswer) -> bool {
         && answer.body.as_slice() == TRAILERS
 }
 
-pub(crate) fn is_responded<R>(rt: &R, compiled: &Compiled) -> Result<bool, AllocError>
-where
-    R: Threads + AllocGlobal + Sync,
-{
+pub(crate) fn is_responded<R: Threads + AllocGlobal + Sync>(
+    rt: &R,
+    compiled: &Compiled,
+) -> Result<bool, AllocError> {
     let answer = respond(
         rt,
         compiled,
@@ -175,10 +175,10 @@ fn has_ended(end: Result<(), IoFault>, output: &Expecting) -> Result<bool, Alloc
     }
 }
 
-pub(crate) fn is_exchanged<R>(rt: &R, compiled: &Compiled) -> Result<bool, AllocError>
-where
-    R: Threads + AllocGlobal + Sync,
-{
+pub(crate) fn is_exchanged<R: Threads + AllocGlobal + Sync>(
+    rt: &R,
+    compiled: &Compiled,
+) -> Result<bool, AllocError> {
     let mut output = Expecting {
         left: TRAILERS,
         is_other: false,

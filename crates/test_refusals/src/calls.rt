@@ -41,38 +41,6 @@ pub(crate) enum Call<'a> {
 }
 
 impl Call<'_> {
-    /// The call's own name.
-    pub(crate) fn name(self) -> &'static str {
-        match self {
-            Call::Tokenize => "tokenize",
-            Call::Parse(_) => "parse",
-            Call::Lower(_) => "lower",
-            Call::FirstCheckFault(_, _) => "first_check_fault",
-            Call::FileBytes(_) => "file_bytes",
-            Call::JsonName => "json_name",
-            Call::EntryName => "entry_name",
-            Call::OneofName => "oneof_name",
-            Call::PutVarint => "put_varint",
-            Call::PutField => "put_field",
-            Call::Compile => "compile",
-            Call::SetBytes(_) => "set_bytes",
-            Call::Describe => "describe",
-            Call::Link(_) => "link",
-            Call::Build(_) => "NameIndex::build",
-            Call::Resolve(_) => "resolve",
-            Call::ReadFolder(_) => "read_folder",
-            Call::ReadFields => "read_fields",
-            Call::ReadRequest => "read_request",
-            Call::ReadFrames => "read_frames",
-            Call::AnswerBody(_) => "answer_body",
-            Call::Respond(_) => "respond",
-            Call::AnswerIo(_) => "answer_io",
-            Call::InShares => "in_shares",
-            Call::LeastTable => "LeastTable::new",
-            Call::MarkTable => "MarkTable::new",
-        }
-    }
-
     /// Makes the call, and tells whether it answers what is wanted.
     pub(crate) fn make<R>(self, rt: &R) -> Result<bool, AllocError>
     where

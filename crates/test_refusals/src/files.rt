@@ -4,12 +4,11 @@ ghost use Rattle.std.specs.Prelude.{◌≡◌};
 ghost use Rattle.proto_links.specs.Linked.{count_of};
 
 use crate::one_file::{BYTES, NAME, TEXT};
-use anyhow::bail;
 use proto_base::Limits;
 use proto_compile::{CompileError, Compiled, Source, compile};
 use proto_desc::file::FileDesc;
 use proto_desc::name_kind::NameKind;
-use proto_file::{FileError, describe};
+use proto_file::describe;
 use proto_links::{LinkError, Links, in_name_order, link};
 use proto_names::{Defined, NameError, NameIndex, ResolveError, Resolved, Want};
 use share_work::{NoGate, Plan};
@@ -18,72 +17,78 @@ use std::alloc::{AllocError, AllocGlobal, Global};
 use std::rt::Files;
 use std::thread::Threads;
 
-/// Names of files, and their texts: the first sees the message of the last by public imports.
-pub(crate) static LINKED: [(&str, &str); 4] = [
-    (
-        "a.proto",
-        "syntax = \"proto3\"; import \"b.proto\"; message A { D d = 1; }",
-    ),
-    ("b.proto", "syntax = \"proto3\"; import public \"c.proto\";"),
-    ("c.proto", "syntax = \"proto3\"; import public \"d.proto\";"),
-    ("d.proto", "syntax = \"proto3\"; message D {}"),
+/// The file of one message.
+pub(crate) static ONE: [Source<'static>; 1] = [Source {
+    name: NAME,
+    text: TEXT,
+}];
+
+/// The first sees the message of the last by public imports.
+pub(crate) static LINKED: [Source<'static>; 4] = [
+    Source {
+        name: "a.proto",
+        text: b"syntax = \"proto3\"; import \"b.proto\"; message A { D d = 1; }",
+    },
+    Source {
+        name: "b.proto",
+        text: b"syntax = \"proto3\"; import public \"c.proto\";",
+    },
+    Source {
+        name: "c.proto",
+        text: b"syntax = \"proto3\"; import public \"d.proto\";",
+    },
+    Source {
+        name: "d.proto",
+        text: b"syntax = \"proto3\"; message D {}",
+    },
 ];
 
 /// The first and the third import the second, which declares a service.
-pub(crate) static REQUESTED: [(&str, &str); 3] = [
-    ("a.proto", "syntax = \"proto3\"; import \"b.proto\";"),
-    ("b.proto", "syntax = \"proto3\"; package p; service S {}"),
-    ("c.proto", "syntax = \"proto3\"; import \"b.proto\";"),
+pub(crate) static REQUESTED: [Source<'static>; 3] = [
+    Source {
+        name: "a.proto",
+        text: b"syntax = \"proto3\"; import \"b.proto\";",
+    },
+    Source {
+        name: "b.proto",
+        text: b"syntax = \"proto3\"; package p; service S {}",
+    },
+    Source {
+        name: "c.proto",
+        text: b"syntax = \"proto3\"; import \"b.proto\";",
+    },
 ];
 
-/// What files are compiled to.
-pub(crate) fn compiled<R>(rt: &R, files: &[(&str, &str)]) -> anyhow::Result<Compiled>
-where
-    R: Threads + AllocGlobal + Sync,
-{
-    let mut sources = Vec::new(rt.alloc());
-    for (name, text) in files {
-        let text = text.as_bytes();
-        sources.push(Source { name, text })?;
-    }
-    Ok(compile(rt, &sources, &Limits::standard(), Plan::single(), &NoGate)?)
-}
-
-/// Puts what a file describes behind the descriptors.
-fn put_file(
+/// Puts what a source describes behind the descriptors, and tells whether it did.
+fn is_file_put(
     alloc: Global,
     descs: &mut Vec<FileDesc<'static>>,
-    name: &'static str,
-    text: &'static str,
-) -> anyhow::Result<()> {
-    match describe(alloc, name, text.as_bytes(), &Limits::standard()) {
-        Ok(desc) => Ok(descs.push(desc)?),
-        Err(FileError::At(_, place, kind)) => bail!("{name} at {place}: {kind}"),
-        Err(FileError::NoMemory) => bail!("out of memory"),
+    source: &Source<'static>,
+) -> bool {
+    match describe(alloc, source.name, source.text, &Limits::standard()) {
+        Ok(desc) => descs.push(desc).is_ok(),
+        Err(_) => false,
     }
 }
 
-/// Puts what the linked files describe behind the descriptors.
-pub(crate) fn put_described(
-    alloc: Global,
-    descs: &mut Vec<FileDesc<'static>>,
-) -> anyhow::Result<()> {
-    for (name, text) in &LINKED {
-        put_file(alloc, descs, name, text)?;
+/// Puts what the linked files describe behind the descriptors, and tells whether it did.
+pub(crate) fn are_described(alloc: Global, descs: &mut Vec<FileDesc<'static>>) -> bool {
+    for source in &LINKED {
+        if !is_file_put(alloc, descs, source) {
+            return false;
+        }
     }
-    Ok(())
+    true
 }
 
-pub(crate) fn is_compiled<R>(rt: &R) -> Result<bool, AllocError>
-where
-    R: Threads + AllocGlobal + Sync,
-{
-    let source = Source {
-        name: NAME,
-        text: TEXT.as_bytes(),
-    };
-    match compile(rt, &[source], &Limits::standard(), Plan::single(), &NoGate) {
-        Ok(compiled) => Ok(compiled.bytes_of(NAME) == Some(BYTES)),
+/// Whether the one file has its bytes.
+fn is_one_file(compiled: &Compiled) -> bool {
+    compiled.bytes_of(NAME) == Some(BYTES)
+}
+
+pub(crate) fn is_compiled<R: Threads + AllocGlobal + Sync>(rt: &R) -> Result<bool, AllocError> {
+    match compile(rt, &ONE, &Limits::standard(), Plan::single(), &NoGate) {
+        Ok(compiled) => Ok(is_one_file(&compiled)),
         Err(CompileError::NoMemory) => Err(AllocError),
         Err(CompileError::First(_)) => Ok(false),
     }
@@ -131,10 +136,10 @@ fn is_message(index: &NameIndex, name: &str, wanted: usize) -> bool {
     }
 }
 
-pub(crate) fn are_indexed<R>(rt: &R, descs: &[FileDesc<'static>]) -> Result<bool, AllocError>
-where
-    R: Threads + AllocGlobal + Sync,
-{
+pub(crate) fn are_indexed<R: Threads + AllocGlobal + Sync>(
+    rt: &R,
+    descs: &[FileDesc<'static>],
+) -> Result<bool, AllocError> {
     match NameIndex::build(rt, descs, &Limits::standard()) {
         Ok(index) => Ok(is_message(&index, "A", 0) && is_message(&index, "D", 3)),
         Err(NameError::NoMemory) => Err(AllocError),
@@ -163,8 +168,8 @@ pub(crate) fn is_resolved(alloc: Global, compiled: &Compiled) -> Result<bool, Al
 
 /// Whether these are the files of the folder.
 fn are_texts(texts: &[NamedText]) -> bool {
-    for (found, (name, text)) in texts.iter().zip(&LINKED) {
-        if found.name.as_str() != *name || found.text.as_slice() != text.as_bytes() {
+    for (found, source) in texts.iter().zip(&LINKED) {
+        if found.name.as_str() != source.name || found.text.as_slice() != source.text {
             return false;
         }
     }

@@ -10,7 +10,7 @@ use proto_desc::is_resolved;
 use proto_lower::{entry_name, json_name, lower, oneof_name};
 use proto_syntax::{ParseError, parse};
 use proto_tokens::{Token, TokenError, TokenKind, Tokens, tokenize};
-use proto_tree::{Field, FieldType, FileTree, MessageItem, Statement};
+use proto_tree::{Field, FieldType, FileTree, Message, MessageItem, Statement};
 use schema_headline::describe;
 use std::alloc::{AllocError, AllocGlobal, Global};
 use std::thread::Threads;
@@ -20,7 +20,7 @@ use wire_bytes::file_bytes;
 pub(crate) const NAME: &str = "a.proto";
 
 /// A message with a field.
-pub(crate) const TEXT: &str = "syntax = \"proto3\"; message A { int32 x = 1; }";
+pub(crate) const TEXT: &[u8] = b"syntax = \"proto3\"; message A { int32 x = 1; }";
 
 /// The bytes of its descriptor.
 pub(crate) const BYTES: &[u8] =
@@ -65,7 +65,7 @@ fn are_tokens(tokens: &[Token]) -> bool {
 }
 
 pub(crate) fn has_tokens(alloc: Global) -> Result<bool, AllocError> {
-    match tokenize(alloc, TEXT.as_bytes(), &Limits::standard()) {
+    match tokenize(alloc, TEXT, &Limits::standard()) {
         Ok(tokens) => Ok(are_tokens(&tokens.items)),
         Err(TokenError::NoMemory) => Err(AllocError),
         Err(TokenError::At(_, _)) => Ok(false),
@@ -77,22 +77,24 @@ fn is_field(field: &Field) -> bool {
     is_number && field.declarator.name.text == "x" && field.declarator.number.value == 1
 }
 
+/// Whether this is the message of the text.
+fn is_message(message: &Message) -> bool {
+    match message.items.as_slice().first() {
+        Some(MessageItem::Field(field)) => {
+            message.items.len() == 1 && message.name.text == "A" && is_field(field.get())
+        }
+        _ => false,
+    }
+}
+
 /// Whether this is the tree of the text.
 fn is_tree(file: &FileTree) -> bool {
-    let [statement] = file.statements.as_slice() else {
-        return false;
-    };
-    let Statement::Message(message) = statement else {
-        return false;
-    };
-    let message = message.get();
-    let [item] = message.items.as_slice() else {
-        return false;
-    };
-    let MessageItem::Field(field) = item else {
-        return false;
-    };
-    message.name.text == "A" && is_field(field.get())
+    match file.statements.as_slice().first() {
+        Some(Statement::Message(message)) => {
+            file.statements.len() == 1 && is_message(message.get())
+        }
+        _ => false,
+    }
 }
 
 pub(crate) fn has_tree(alloc: Global, tokens: &Tokens<'static>) -> Result<bool, AllocError> {
@@ -144,11 +146,8 @@ pub(crate) fn has_bytes(alloc: Global, desc: &FileDesc<'static>) -> Result<bool,
     Ok(bytes.as_slice() == BYTES)
 }
 
-pub(crate) fn is_described<R>(rt: &R) -> Result<bool, AllocError>
-where
-    R: Threads + AllocGlobal + Sync,
-{
-    match describe(rt, NAME, TEXT.as_bytes(), &Limits::standard()) {
+pub(crate) fn is_described<R: Threads + AllocGlobal + Sync>(rt: &R) -> Result<bool, AllocError> {
+    match describe(rt, NAME, TEXT, &Limits::standard()) {
         Ok(bytes) => Ok(bytes.as_slice() == BYTES),
         Err(CompileError::NoMemory) => Err(AllocError),
         Err(CompileError::First(_)) => Ok(false),

@@ -1,52 +1,60 @@
 //! Rounds of a call.
 
 use crate::calls::Call;
-use anyhow::bail;
 use std::alloc::{AllocError, AllocGlobal};
-use std::io::{Print, Read};
+use std::io::{Eprint, Print, Read};
 use std::rt::Files;
 use std::thread::Threads;
 
 /// More than the allocations of any call.
 const LAST: u32 = 10_000;
 
-/// Makes a call twice, and tells whether the first was refused an allocation.
-///
-/// A read of the input begins what may be refused, and one ends it, which gives a byte where something was refused.
-fn round<R, I>(rt: &R, input: &mut I, call: Call<'_>) -> anyhow::Result<bool>
+/// Reads the input, which begins what may be refused, and ends it. At the end it gives a byte where something was
+/// refused.
+fn has_byte(console: &HostRuntime) -> bool {
+    matches!(console.stdin().read(&mut [0_u8]), Ok(1))
+}
+
+/// Makes a call twice, and tells whether the first was refused an allocation, or what is wrong.
+fn round<R>(rt: &R, console: &HostRuntime, call: Call<'_>) -> Result<bool, &'static str>
 where
     R: Threads + Files + AllocGlobal + Sync,
-    I: Read,
 {
-    let mut byte = [0_u8];
-    input.read(&mut byte)?;
+    has_byte(console);
     let first = call.make(rt);
-    let is_refused = input.read(&mut byte)? == 1;
+    let is_refused = has_byte(console);
     let again = call.make(rt);
     let is_right = match first {
         Ok(is_wanted) => is_wanted,
         Err(AllocError) => is_refused,
     };
     if !is_right {
-        bail!("{}: another answer", call.name());
+        return Err("another answer");
     }
     if !matches!(again, Ok(true)) {
-        bail!("{}: another answer when made again", call.name());
+        return Err("another answer when made again");
     }
     Ok(is_refused)
 }
 
-/// Makes a call in rounds until nothing is refused, and prints how many rounds met a refusal.
-pub(crate) fn make_in_rounds<R, I>(rt: &R, input: &mut I, call: Call<'_>) -> anyhow::Result<()>
+/// Tells that something is wrong, which is false.
+pub(crate) fn told(console: &HostRuntime, name: &str, what: &str) -> bool {
+    let _ = eprintln!(console; "{name}: {what}");
+    false
+}
+
+/// Makes a call in rounds until nothing is refused, and prints how many rounds met a refusal. Tells whether all is
+/// right.
+pub(crate) fn in_rounds<R>(rt: &R, console: &HostRuntime, name: &str, call: Call<'_>) -> bool
 where
-    R: Threads + Files + AllocGlobal + Print + Sync,
-    I: Read,
+    R: Threads + Files + AllocGlobal + Sync,
 {
     for refused in 0..LAST {
-        if !round(rt, input, call)? {
-            println!(rt; "{}: {refused} refused", call.name())?;
-            return Ok(());
+        match round(rt, console, call) {
+            Ok(true) => {}
+            Ok(false) => return println!(console; "{name}: {refused} refused").is_ok(),
+            Err(what) => return told(console, name, what),
         }
     }
-    bail!("{}: no end", call.name())
+    told(console, name, "no end")
 }

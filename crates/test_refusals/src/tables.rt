@@ -15,9 +15,11 @@ static NUMBERS: [u64; 3] = [9, 3, 5];
 const UNPOSTED: u64 = 100;
 
 /// Whether two workers that post the numbers give them.
-fn are_given<R>(rt: &R, table: &LeastTable, seats: &mut [LeastSeat]) -> Result<bool, AllocError>
-where
-    R: Threads + AllocGlobal + Sync,
+fn are_given<R: Threads + AllocGlobal + Sync>(
+    rt: &R,
+    table: &LeastTable,
+    seats: &mut [LeastSeat],
+) -> Result<bool, AllocError>
     requires sizes { (0 < table.now.count) × (length seats.old ≡ 2) }
     requires tables { All (λ s. s.table ≡ table.now.table) seats.old }
     ensures { All (λ s. s.table ≡ table.now.table) seats.new }
@@ -32,13 +34,11 @@ where
 }
 
 /// Whether two workers gave the numbers, and the seat of all parts.
-fn posted<R>(
+fn posted<R: Threads + AllocGlobal + Sync>(
     rt: &R,
     table: &LeastTable,
     seat: LeastSeat,
 ) -> Result<(Result<bool, AllocError>, Option<LeastSeat>), AllocError>
-where
-    R: Threads + AllocGlobal + Sync,
     requires { (0 < table.now.count) × (seat.table ≡ table.now.table) × (1 < seat.view.parts) }
     ensures { IfOk result (λ r. IfSome r.1 (λ s. s.table ≡ table.now.table)) }
 {
@@ -48,10 +48,7 @@ where
 }
 
 /// The outs come in order, and the lent seats, joined, close the table, also where a worker had no memory.
-pub(crate) fn is_shared<R>(rt: &R) -> Result<bool, AllocError>
-where
-    R: Threads + AllocGlobal + Sync,
-{
+pub(crate) fn is_shared<R: Threads + AllocGlobal + Sync>(rt: &R) -> Result<bool, AllocError> {
     let (table, seat) = LeastTable::new(rt.alloc(), 1)?;
     let (given, seat) = posted(rt, &table, seat)?;
     let Some(seat) = seat else {

@@ -11,7 +11,6 @@ use source_search::{Shelf, with_imports};
 use std::alloc::{AllocError, AllocGlobal, Global};
 use std::cell::Cell;
 use std::process::Abort;
-use std::test::Fail;
 use std::thread::Threads;
 
 /// A source: its name and its text.
@@ -55,26 +54,36 @@ impl Shelf for BrokenShelf {
     }
 }
 
+/// Puts a file behind the sources.
+fn put_source(
+    alloc: Global,
+    sources: &mut Vec<NamedText>,
+    name: &str,
+    text: &str,
+) -> Result<(), AllocError> {
+    let name = String::from_str(alloc, name)?;
+    let text = Vec::from_slice(alloc, text.as_bytes())?;
+    sources.push(NamedText { name, text })?;
+    Ok(())
+}
+
 fn sources_of(alloc: Global, files: &[File]) -> Result<Vec<NamedText>, AllocError> {
     let mut sources = Vec::new(alloc);
     for (name, text) in files {
-        sources.push(NamedText {
-            name: String::from_str(alloc, name)?,
-            text: Vec::from_slice(alloc, text.as_bytes())?,
-        })?;
+        put_source(alloc, &mut sources, name, text)?;
     }
     Ok(sources)
 }
 
-/// The sources that are given, whose names have to rise.
-fn given_of(alloc: Global, files: &[File]) -> Result<Vec<NamedText>, Fail>
+/// The sources that are given, whose names have to rise. Without memory, or where they do not rise, there are none.
+fn given_of(alloc: Global, files: &[File]) -> Result<Vec<NamedText>, AllocError>
     ensures { IfOk result (λ given. AreRising (names_of given.items)) }
 {
     let given = sources_of(alloc, files)?;
     if given.is_sorted_by(|first, second| first.name.cmp(&second.name).is_lt()) {
         Ok(given)
     } else {
-        Err("names that rise".into())
+        Err(AllocError)
     }
 }
 
@@ -239,53 +248,58 @@ static ROWS: [Row; 13] = [
 ];
 
 /// Whether a row's sources are found by a plan, each name looked up once.
-fn is_found<R>(rt: &R, row: &Row, plan: Plan) -> Result<bool, Fail>
-where
-    R: Threads + AllocGlobal + Sync,
-{
-    let given = given_of(rt.alloc(), row.given)?;
+fn is_found<R: Threads + AllocGlobal + Sync>(
+    rt: &R,
+    row: &Row,
+    plan: Plan,
+) -> Result<bool, AllocError> {
     let shelf = MemoryShelf {
         alloc: rt.alloc(),
         files: row.shelf,
         calls: Cell::new(0),
     };
+    let given = given_of(rt.alloc(), row.given)?;
     match with_imports(rt, given, &shelf, &Limits::standard(), plan) {
         Ok(sources) => Ok(are_these(&sources, row.sources) && shelf.calls.get() == row.calls),
         Err(_) => Ok(false),
     }
 }
 
-fn compare_plan<R>(rt: &R, row: &Row, workers: u32, cut: u32) -> Result<(), Fail>
-where
-    R: Threads + AllocGlobal + Sync + Abort,
-{
-    let plan = Plan::new(workers, cut).ok_or("a plan")?;
-    assert!(rt; is_found(rt, row, plan)?, "{workers}, {cut}: {}", row.title);
+/// Workers and cuts.
+static PLANS: [(u32, u32); 3] = [(1, 1), (4, 1), (4, 16)];
+
+/// Looks for a row's sources by each plan.
+fn compare<R: Threads + AllocGlobal + Abort + Sync>(rt: &R, row: &Row) -> Result<(), AllocError> {
+    for (workers, cut) in &PLANS {
+        let is_right = match Plan::new(*workers, *cut) {
+            Some(plan) => is_found(rt, row, plan)?,
+            None => false,
+        };
+        assert!(rt; is_right, "{workers}, {cut}: {}", row.title);
+    }
     Ok(())
 }
 
 #[test]
-fn sources_are_found(rt: HostRuntime) -> Result<(), Fail> {
+fn sources_are_found(rt: HostRuntime) -> Result<(), AllocError> {
     for row in &ROWS {
-        for (workers, cut) in [(1, 1), (4, 1), (4, 16)] {
-            compare_plan(&rt, row, workers, cut)?;
-        }
+        compare(&rt, row)?;
     }
     Ok(())
 }
 
 /// Whether a fault of the shelf is the search's own.
-fn is_fault_told<R>(rt: &R, given: &[File]) -> Result<bool, Fail>
-where
-    R: Threads + AllocGlobal + Sync,
-{
+fn is_fault_told<R: Threads + AllocGlobal + Sync>(
+    rt: &R,
+    given: &[File],
+) -> Result<bool, AllocError> {
     let given = given_of(rt.alloc(), given)?;
     let found = with_imports(rt, given, &BrokenShelf, &Limits::standard(), Plan::single());
     Ok(matches!(found, Err(FolderFault::Reading)))
 }
 
 #[test]
-fn a_fault_of_the_shelf_is_told(rt: HostRuntime) -> Result<(), Fail> {
+fn a_fault_of_the_shelf_is_told(rt: HostRuntime) -> Result<(), AllocError> {
     assert!(rt; is_fault_told(&rt, &[("a.proto", TO_B)])?);
     assert!(rt; !is_fault_told(&rt, &[("a.proto", EMPTY)])?);
     Ok(())
