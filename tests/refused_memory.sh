@@ -84,18 +84,16 @@ done <tests/examples/order >"$folder/body"
 "$program" answer --root examples --workers 1 <"$folder/body" >"$folder/response"
 sweep REFUSE_AT 0 "$(printf_bytes "$folder/set")" '' '' compile --root examples --workers 4 --cut 1
 sweep REFUSE_AT 0 "$(printf_bytes "$folder/response")" '' "$(printf_bytes "$folder/body")" answer --root examples --workers 4 --cut 1
-# One worker starts a thread for each of three phases: what each source is by itself, types, bytes. It starts none for names, also
-# where they are so many that more workers do.
+# One worker starts no thread, also where names are so many that more workers find them in threads.
 mkdir "$folder/many"
 for ((file = 0; file < 100; file++)); do
     { printf '%spackage p%d; ' "$P" "$file" && printf 'message M%d { M%d m = 1; } ' {1..50}{,}; } >"$folder/many/$file.proto"
 done
-starts=0
-while :; do
-    REFUSE_THREAD_AT=$((starts + 1)) LD_PRELOAD="$folder/refuse.so" "$program" compile --root "$folder/many" --workers 1 >/dev/null 2>"$folder/faults" 9>"$folder/refused" \
-        || fail "one worker, start $((starts + 1)) refused: $(<"$folder/faults")"
-    [ -s "$folder/refused" ] || break
-    starts=$((starts + 1))
+for workers in 1 2; do
+    REFUSE_THREAD_AT=1 LD_PRELOAD="$folder/refuse.so" "$program" compile --root "$folder/many" --workers "$workers" \
+        >"$folder/set_by_$workers" 9>"$folder/refused_by_$workers" || fail "compile --workers $workers"
 done
-[ "$starts" = 3 ] || fail "one worker starts $starts threads"
+cmp "$folder/set_by_1" "$folder/set_by_2" || fail 'one worker and two: other sets'
+[ ! -s "$folder/refused_by_1" ] || fail 'one worker starts a thread'
+[ -s "$folder/refused_by_2" ] || fail 'two workers start no thread'
 [ "$failures" = 0 ]
