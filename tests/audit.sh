@@ -23,7 +23,7 @@ counted() {
             while (match(rest, /`[a-z_]+\/[A-Za-z\/]+\.antt` [0-9]+/)) {
                 name = substr(rest, RSTART + 1, RLENGTH - 1)
                 sub(/`.*/, "", name)
-                out = out substr(rest, 1, RSTART - 1) "`" name "` " lines[name]
+                out = out substr(rest, 1, RSTART - 1) "`" name "` " lines[name] + 0
                 rest = substr(rest, RSTART + RLENGTH)
                 row += lines[name]
                 read_of_row += read[name]

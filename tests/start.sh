@@ -16,8 +16,7 @@ cat >"$folder/path/rt" <<'RT'
 # Works on each thing until the file go/NAME is there, for a minute at most. It has a child, which ends with it, as those of rt do.
 cd ../.. || exit 2
 echo "$*" >>calls
-sleep 60 &
-trap "kill $!" EXIT
+while kill -0 $$; do sleep 0.1; done 2>/dev/null &
 work() {
     until [ -e "go/$1" ]; do
         [ "$SECONDS" -lt 60 ] || exit 2
@@ -56,11 +55,13 @@ wrong() {
     fail "$1: $(cat "$folder/said" "$folder/printed")"
 }
 
-# call WORDS..: calls ./schema_server as a terminal does, in a process group of its own; sets `called`.
+# call WORDS..: calls ./schema_server as a terminal does, in a process group of its own, where signals end a program though this script
+# may be called where they do not, as in the background; sets `called`.
 call() {
     : >"$folder/said"
     set -m
-    PATH=$folder/path:$PATH PROGRESS_SECONDS=1 "$clone/schema_server" "$@" >"$folder/printed" 2>"$folder/said" </dev/null &
+    PATH=$folder/path:$PATH PROGRESS_SECONDS=1 env --default-signal "$clone/schema_server" "$@" \
+        >"$folder/printed" 2>"$folder/said" </dev/null &
     called=$!
     set +m
 }

@@ -1,7 +1,8 @@
 -- What a report shows of a text around a place.
 use Rattle.std.specs.Prelude.{◌≡◌, ◌-◌, ℕ, List, ◌∷◌, ◌++◌, Option, None, Some, codes, encode_utf8_all, length, map, max, min, replicate, string_bytes, take}
 use Rattle.std.specs.Fmt.{decimal}
-use Rattle.fault_report.specs.Lines.{column_in_line, line_after, line_number}
+use Rattle.proto_base.specs.Lines.{column_at, line_at}
+use Rattle.fault_report.specs.Lines.{line_after}
 use Rattle.fault_report.specs.Shown.{blank_below, shown, shown_after, shown_before}
 use Rattle.fault_report.specs.Tokens.{IsTokenEnd}
 use Rattle.fault_report.specs.declared.excerpt.Excerpt.{Excerpt}
@@ -17,8 +18,8 @@ carets place (Some end) after most = max (min (length (shown (take (min (end - p
 pub record IsExcerpt (limit : ℕ) (text : List ℕ) (place : ℕ) (e : Excerpt) : Type 0 where
   pub end : Option ℕ
   pub token : IsTokenEnd limit text place end
-  pub number : e.number ≡ line_number text place
-  pub column : e.column ≡ column_in_line text place
+  pub number : e.number ≡ line_at text place
+  pub column : e.column ≡ column_at text place
   pub line : string_bytes e.line ≡ encode_utf8_all (shown_before text place ++ shown_after text place)
   pub margin : string_bytes e.margin ≡ encode_utf8_all (map (λ _. 32) (decimal e.number))
   pub marks : string_bytes e.marks ≡ encode_utf8_all (map blank_below (shown_before text place))

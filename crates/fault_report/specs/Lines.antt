@@ -1,16 +1,8 @@
 -- The line around a place of a text: the bytes between the ends of lines.
-use Rattle.std.specs.Prelude.{◌==◌, ◌+◌, ◌-◌, ℕ, List, [], ◌∷◌, drop, length, nat_eq, not, take, if◌then◌else◌}
-use Rattle.std.specs.List.{after_last, before_first, count_by, ends_with, suffix_len}
+use Rattle.std.specs.Prelude.{◌==◌, ◌-◌, ℕ, List, [], ◌∷◌, drop, length, nat_eq, take, if◌then◌else◌}
+use Rattle.std.specs.List.{after_last, before_first, ends_with}
 
--- one more than the LFs before it
-abbrev pub line_number : List ℕ → ℕ → ℕ
-line_number text place = 1 + count_by (λ b. b == 10) (take place text)
-
--- one more than the bytes since the last LF before it
-abbrev pub column_in_line : List ℕ → ℕ → ℕ
-column_in_line text place = 1 + suffix_len (λ b. not (b == 10)) (take place text)
-
--- those bytes
+-- the bytes after the last LF before it
 abbrev pub line_before : List ℕ → ℕ → List ℕ
 line_before text place = after_last (λ b. b == 10) (take place text)
 

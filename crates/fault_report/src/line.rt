@@ -2,7 +2,8 @@
 
 ghost use Rattle.std.specs.Prelude.{◌≡◌, ◌==◌, ◌-◌, ◌<◌, ◌≤◌, ◌^◌, length};
 ghost use Rattle.std.specs.List.{position_or_len};
-ghost use Rattle.fault_report.specs.Lines.{column_in_line, line_after, line_before, line_number, to_line_end, without_cr};
+ghost use Rattle.fault_report.specs.Lines.{line_after, line_before, to_line_end, without_cr};
+ghost use Rattle.proto_base.specs.Lines.{column_at, line_at};
 
 use proto_base::{Place, line_column};
 
@@ -46,8 +47,8 @@ fn without_cr(line: &[u8]) -> &[u8]
 pub fn line_around(text: &[u8], place: Place) -> Line<'_>
     requires within { place.offset ≤ length text.now }
     requires below_last { place.offset < 2 ^ 32 - 1 }
-    ensures number { result.number ≡ line_number text.now place.offset }
-    ensures column { result.column ≡ column_in_line text.now place.offset }
+    ensures number { result.number ≡ line_at text.now place.offset }
+    ensures column { result.column ≡ column_at text.now place.offset }
     ensures before { result.before.now ≡ line_before text.now place.offset }
     ensures after { result.after.now ≡ line_after text.now place.offset }
 {

@@ -9,7 +9,7 @@ use Rattle.proto_base.specs.declared.limits.Limit.TheVariants as limit
 use Rattle.proto_base.specs.declared.limits.Limits.{Limits}
 use Rattle.proto_base.specs.declared.place.Place.{Place}
 use Rattle.proto_compile.specs.Descriptions.{SourceDescribes}
-use Rattle.proto_compile.specs.Faults.{Stands}
+use Rattle.proto_base.specs.Sets.{StandsAt}
 use Rattle.proto_compile.specs.FaultSet.{IsLeastFault, SourceFault, fault, told_by}
 use Rattle.proto_compile.specs.Sources.{AreByName, name_of, text_of}
 use Rattle.proto_compile.specs.declared.source.Source.{Source}
@@ -31,7 +31,7 @@ record IsFirst (limits : Limits) (files : List Source) (x : SourceFault) : Type 
   place : Place
   what : Kind
   before : AllZip (SourceDescribes limits) (take at files) descs
-  stands : Stands files at source
+  stands : StandsAt files at source
   found : IsLocalFault limits (name_of source) (text_of source) step place what
   is : x ≡ fault 1 (name_of source) step place what
 

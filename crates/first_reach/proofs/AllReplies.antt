@@ -1,18 +1,16 @@
 -- The replies of all roots, over a reach.
 use Rattle.std.proofs.Common.{◌≡◌, ℕ, suc, ◌+◌, ◌<◌, ◌≤◌, ◌||◌, true, false, Option, Some, None, List, [], ◌∷◌, map, length, refl, sym, ap, ◌∙◌, arith, eqb, slice_get, slice_index, All}
-use Rattle.std.specs.Prelude.{◌==◌}
+use Rattle.std.specs.Prelude.{Contains}
 use Rattle.std.specs.Option.{ForSome}
 use Rattle.std.proofs.lemmas.Option.{slice_get_within}
 use Rattle.share_work.specs.Posts.{NONE}
-use Rattle.share_work.specs.Reach.{Reaches}
 use Rattle.share_work.specs.Shares.{GivesItems}
 use Rattle.share_work.proofs.Together.{get_there}
-use Rattle.share_work.proofs.Sums.{SomePass-any}
 use Rattle.first_reach.specs.declared.mode.Mode.{Mode}
 use Rattle.first_reach.specs.Carried.{has, reached, root_first, repeats, carried}
 use Rattle.first_reach.specs.First.{first_reach}
 use Rattle.first_reach.specs.Reply.{reply_at, RootIsFirstToo}
-use Rattle.first_reach.proofs.Lists.{all_get, filter_on, has_root_first}
+use Rattle.first_reach.proofs.Lists.{all_get, filter_on, has_is, has_root_first}
 use Rattle.first_reach.proofs.Firsts.{first_spreads}
 use Rattle.first_reach.proofs.Replies.{Own, reply_is, carried_length}
 
@@ -27,25 +25,22 @@ map_same f (x ∷ xs) (y ∷ ys) len same =
     λ i. head i ∷ rest i
 
 module _ (files : ℕ) (list : ℕ → List ℕ)
-    (within : (r g : ℕ) → r < files → Reaches list r g → g < files)
-    (reflexive : (r : ℕ) → r < files → Reaches list r r)
-    (transitive : (r g h : ℕ) → r < files → Reaches list r g → Reaches list g h → Reaches list r h)
+    (within : (r g : ℕ) → r < files → Contains (list r) g → g < files)
+    (reflexive : (r : ℕ) → r < files → Contains (list r) r)
+    (transitive : (r g h : ℕ) → r < files → Contains (list r) g → Contains (list g) h → Contains (list r) h)
     (roots : List (Option ℕ)) (few : length roots ≤ NONE) (below : All (λ root. ForSome root (λ r. r < files)) roots)
     (least : List ℕ) (first : (g : ℕ) → g < files → slice_index least g ≡ first_reach list roots g) where
-  reaches : (r g : ℕ) → has g (list r) ≡ true → Reaches list r g
-  reaches r g h = (SomePass-any (λ x. x == g) (list r)).1 h
-
   root_below : (i : ℕ) (root : Option ℕ) (r : ℕ) → slice_get roots i ≡ Some root → root ≡ Some r → r < files
   root_below i root r at is = all_get (λ x. ForSome x (λ y. y < files)) roots i root below at r is
 
   own : Own list roots
-  own i r at = (SomePass-any (λ x. x == r) (list r)).0 (reflexive r (root_below i (Some r) r at refl))
+  own i r at = (has_is r (list r)).1 (reflexive r (root_below i (Some r) r at refl))
 
   -- what a root reaches, each root before it reaches that reaches the root
-  joins : (r g : ℕ) → has g (list r) ≡ true → (k : ℕ) (root : Option ℕ) → slice_get roots k ≡ Some root → has r (reached list root) ≡ true
+  joins : (r g : ℕ) → Contains (list r) g → (k : ℕ) (root : Option ℕ) → slice_get roots k ≡ Some root → has r (reached list root) ≡ true
       → has g (reached list root) ≡ true
   joins r g h k None at e = let bad : false ≡ true = e in cc
-  joins r g h k (Some x) at e = (SomePass-any (λ y. y == g) (list x)).0 (transitive x r g (root_below k (Some x) x at refl) (reaches x r e) (reaches r g h))
+  joins r g h k (Some x) at e = (has_is g (list x)).1 (transitive x r g (root_below k (Some x) x at refl) ((has_is r (list x)).0 e) h)
 
   pub root_first_too : (i : ℕ) (root : Option ℕ) (r : ℕ) → slice_get roots i ≡ Some root → root ≡ Some r → (r < files) × RootIsFirstToo list least i r
   root_first_too i root r at is =
@@ -54,7 +49,7 @@ module _ (files : ℕ) (list : ℕ → List ℕ)
       let got : slice_get roots i ≡ Some (Some r) = at ∙ ap (λ (x : Option ℕ). Some x) is in (
         small,
         λ g h e. first r small ∙ first_spreads list roots i r g few got (joins r g h) (own i r got) (omega arith)
-            (sym (first g (within r g small (reaches r g h))) ∙ e),
+            (sym (first g (within r g small h)) ∙ e),
       )
 
   reply_same : (mode : Mode) (i : ℕ) (root : Option ℕ) → slice_get roots i ≡ Some root
@@ -66,7 +61,7 @@ module _ (files : ℕ) (list : ℕ → List ℕ)
       (sym (has_root_first list root (λ r is. own i r (at ∙ ap (λ (x : Option ℕ). Some x) is)) g) ∙ h)))))) where
         file_below : (root : Option ℕ) → slice_get roots i ≡ Some root → (g : ℕ) → has g (reached list root) ≡ true → g < files
         file_below None at g h = let bad : false ≡ true = h in cc
-        file_below (Some r) at g h = within r g (root_below i (Some r) r at refl) (reaches r g h)
+        file_below (Some r) at g h = within r g (root_below i (Some r) r at refl) ((has_is g (list r)).0 h)
 
   pub carried_all : {O : Type 0} (items : O → List ℕ) (mode : Mode) (outs : List O)
       → GivesItems (λ i root out. items out ≡ reply_at mode list least i root) 0 roots outs

@@ -1,12 +1,11 @@
 -- The first root that reaches a file.
-use Rattle.std.proofs.Common.{◌≡◌, ℕ, zero, suc, ◌+◌, ◌<◌, ◌≤◌, ◌⊎◌, inl, inr, Bool, true, false, cond, Option, Some, None, List, [], ◌∷◌, length, refl, sym, ap, ◌∙◌, arith, rules, eqb-true, eqb, slice_get, IsTrue}
-use Rattle.std.proofs.lemmas.Bool.{and_parts, or_cases, cases_eq}
-use Rattle.share_work.specs.Posts.{NONE, least_at, is_pair, posted}
-use Rattle.share_work.proofs.Legal.{least_here, least_else, least_at-le-NONE, least_at-above}
-use Rattle.share_work.proofs.Sums.{SomePass-any}
+use Rattle.std.proofs.Common.{◌≡◌, ℕ, zero, suc, ◌+◌, ◌<◌, ◌≤◌, ◌⊎◌, inl, inr, Bool, true, false, cond, Option, Some, None, List, [], ◌∷◌, length, refl, sym, ap, ◌∙◌, arith, rules, slice_get, IsTrue}
+use Rattle.share_work.specs.Posts.{NONE, least_at}
+use Rattle.share_work.proofs.Legal.{least_at-le-NONE, least_at-above, least_at-below}
 use Rattle.first_reach.specs.Carried.{has, reached}
 use Rattle.first_reach.specs.First.{first_from, first_reach}
 use Rattle.first_reach.specs.Laws.{LeastIsFirst}
+use Rattle.first_reach.proofs.Lists.{has_is}
 
 pub first_above : (reach : ℕ → List ℕ) (roots : List (Option ℕ)) (i g : ℕ) → i + length roots ≤ NONE → i ≤ first_from reach i roots g
 first_above reach [] i g top = omega arith
@@ -84,22 +83,16 @@ first_spreads reach roots i r g top at joins own under is =
           let low = first_below reach roots 0 g found.0 found.2.0 (omega arith) found.2.1 (joins found.0 found.2.0 found.2.1 found.2.2) in omega arith
     ]
 
-least_below : (w x : ℕ) (ps : List (ℕ × ℕ)) → posted w x ps ≡ true → least_at w ps ≤ x
-least_below w x [] h = let bad : false ≡ true = h in cc
-least_below w x (p ∷ ps) h = elim (or_cases (is_pair w x p) (posted w x ps) h) [
-  | inl e ↦ let t = and_parts (eqb p.0 w) (eqb p.1 x) e in omega (arith, least_here w p ps (eqb-true p.0 w t.0), eqb-true p.1 x t.1)
-  | inr k ↦ let ih = least_below w x ps k in
-      elim (cases_eq p.0 w) [ inl e ↦ omega (arith, least_here w p ps e) | inr n ↦ omega (arith, least_else w p ps n) ]
-]
-
 pub least_is : LeastIsFirst
 least_is reach roots top pairs same g =
     let F = first_from reach 0 roots g in
     let above : F ≤ least_at g pairs = least_at-above g F pairs (first_top reach roots 0 g (omega arith))
     (λ x h.
-    let r = (same g x).0 ((SomePass-any (is_pair g x) pairs).0 h) in
-    let low = first_below reach roots 0 g x r.0 (omega arith) r.1 r.2 in omega arith) in
+    let r = (same g x).0 h in
+    let low = first_below reach roots 0 g x r.0 (omega arith) r.1 ((has_is g (reached reach r.0)).1 r.2) in omega arith) in
     elim (first_found reach roots 0 g) [
       | inl none ↦ let top' = least_at-le-NONE g pairs in omega arith
-      | inr at ↦ let e = at.1 in let below = least_below g at.0 pairs ((same g at.0).1 at.2) in omega arith
+      | inr at ↦
+          let e = at.1 in let r = at.2 in
+          let below = least_at-below g at.0 pairs ((same g at.0).1 (r.0, r.1, (has_is g (reached reach r.0)).0 r.2)) in omega arith
     ]

@@ -1,20 +1,23 @@
 -- Members of lists, tested by a Bool.
-use Rattle.std.proofs.Common.{◌≡◌, ℕ, suc, inl, inr, ◌||◌, ◌&&◌, not, Bool, true, false, cond, Option, Some, None, List, [], ◌∷◌, filter, refl, sym, ap, ◌∙◌, eq-eqb, eqb-true, eqb, slice_get, length, ◌≤◌, All, subst}
-use Rattle.std.proofs.lemmas.Bool.{or_right, or_cases}
-use Rattle.std.proofs.lemmas.Map.Keys.{any_passes_from_place}
+use Rattle.std.proofs.Common.{◌≡◌, ℕ, inl, inr, ◌||◌, ◌&&◌, not, Bool, true, false, cond, Option, Some, None, List, [], ◌∷◌, filter, refl, sym, ap, ◌∙◌, eq-eqb, eqb-true, eqb, slice_get, length, ◌≤◌, All, subst}
+use Rattle.std.proofs.lemmas.Bool.{or_left, or_right, or_cases}
 use Rattle.std.proofs.lemmas.Option.{slice_get_within, slice_get_cases, get_or_from_slice_get}
-use Rattle.std.specs.Prelude.{◌==◌}
-use Rattle.share_work.specs.Reach.{Reaches}
-use Rattle.share_work.proofs.Sums.{SomePass-any}
-use Rattle.std.specs.List.{list_any}
+use Rattle.std.specs.Prelude.{Contains, ◌↔◌, IsTrue}
+use Rattle.share_work.proofs.Sums.{none_in, front, behind, front_or_behind}
 use Rattle.first_reach.specs.Carried.{has, root_first, reached}
 
-pub any_get : {X : Type 0} (p : X → Bool) (xs : List X) → list_any p xs ≡ true → (j : ℕ) × (x : X) × (slice_get xs j ≡ Some x) × (p x ≡ true)
-any_get p [] h = let bad : false ≡ true = h in cc
-any_get p (x ∷ xs) h = elim (or_cases (p x) (list_any p xs) h) [
-  | inl e ↦ (0, x, refl, e)
-  | inr k ↦ let r = any_get p xs k in (suc r.0, r.1, r.2, r.3)
-]
+pub has_is : (g : ℕ) (files : List ℕ) → IsTrue (has g files) ↔ Contains files g
+has_is g [] = (λ h. let bad : false ≡ true = h in cc, λ h. absurd (none_in g h))
+has_is g (x ∷ xs) = (
+  λ h. elim (or_cases (eqb x g) (has g xs) h) [
+    | inl e ↦ subst (Contains (x ∷ xs)) (eqb-true x g e) (front x xs)
+    | inr k ↦ behind x xs g ((has_is g xs).0 k)
+  ],
+  λ h. elim (front_or_behind x xs g h) [
+    | inl e ↦ or_left (eqb x g) (has g xs) (eq-eqb x g e)
+    | inr k ↦ or_right (eqb x g) (has g xs) ((has_is g xs).1 k)
+  ],
+)
 
 -- two tests that agree on the members keep the same
 pub filter_on : (p q : ℕ → Bool) (xs : List ℕ) → ((x : ℕ) → has x xs ≡ true → p x ≡ q x) → filter p xs ≡ filter q xs
@@ -82,6 +85,5 @@ none_past xs k e = elim (slice_get_cases xs k).1 [
   | inr past ↦ past.0
 ]
 
--- a file of the list is one that the root reaches
-pub reaches_at : (list : ℕ → List ℕ) (r k g : ℕ) → slice_get (list r) k ≡ Some g → Reaches list r g
-reaches_at list r k g at = (SomePass-any (λ h. h == g) (list r)).1 (any_passes_from_place (λ h. h == g) (list r) k g at (eq-eqb g g refl))
+pub contains_at : (files : List ℕ) (k g : ℕ) → slice_get files k ≡ Some g → Contains files g
+contains_at files k g at = (k, slice_get_within files k g at, get_or_from_slice_get files k g g at)

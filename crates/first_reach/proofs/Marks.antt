@@ -1,19 +1,22 @@
 -- What workers' marks post.
-use Rattle.std.proofs.Common.{◌≡◌, ℕ, zero, suc, ◌+◌, ◌<◌, ◌⊎◌, inl, inr, ◌||◌, ◌&&◌, ◌↔◌, Bool, true, false, Option, Some, None, List, [], ◌∷◌, ◌++◌, take, length, refl, sym, ap, subst, ◌∙◌, arith, rules, eq-eqb, eqb-true, eqb, slice_get, IsTrue, All, drop, map, sum_by, append-nil}
-use Rattle.std.proofs.lemmas.Bool.{and_parts, and_from, or_left, or_right, or_cases, cases_lt}
-use Rattle.std.proofs.lemmas.Map.Keys.{any_passes_from_place}
-use Rattle.std.proofs.lemmas.List.Folds.{list_any-append}
+use Rattle.std.proofs.Common.{◌≡◌, ℕ, zero, suc, ◌+◌, ◌<◌, ◌⊎◌, inl, inr, ◌↔◌, Option, Some, None, List, [], ◌∷◌, ◌++◌, take, length, reverse, refl, sym, ap, subst, ◌∙◌, arith, rules, slice_get, All, drop, map, sum_by, append-nil}
+use Rattle.std.specs.Prelude.{Contains}
+use Rattle.std.specs.List.{flat_map}
+use Rattle.std.proofs.lemmas.Bool.{cases_lt}
+use Rattle.std.proofs.lemmas.Option.{slice_get-get_or, slice_get_within, get_or_from_slice_get}
+use Rattle.std.proofs.lemmas.List.Elements.{Contains-append_left, Contains-append_right, Contains-append_cases}
+use Rattle.std.proofs.lemmas.List.Sorted.{Contains-permutation, IsPermutation-reverse, IsPermutation-sym}
 use Rattle.std.proofs.lemmas.List.Sums.{sum_by-cons}
 use Rattle.std.proofs.Math.Seq.{take-length}
 use Rattle.std.proofs.Math.ListN.{drop_of_length-le}
-use Rattle.std.specs.List.{list_any}
-use Rattle.share_work.specs.Posts.{posted, is_pair}
 use Rattle.share_work.specs.Marks.{MarkSeatValue, at_each, marked_posts}
-use Rattle.share_work.specs.Shares.{AddsSome, HoldTogether}
-use Rattle.first_reach.specs.Carried.{has}
+use Rattle.share_work.specs.Shares.{AddsSome}
+use Rattle.share_work.proofs.MarkSteps.{each_to, marked_from, marked_to}
+use Rattle.share_work.proofs.Sums.{none_in, in_map, in_flat, of_flat}
+use Rattle.share_work.proofs.Together.{HoldTogether}
 use Rattle.first_reach.specs.First.{RootReaches}
-use Rattle.first_reach.specs.Seats.{has_posted, Posts}
-use Rattle.first_reach.proofs.Lists.{any_get, all_get}
+use Rattle.first_reach.specs.Seats.{HasPosted, Posts}
+use Rattle.first_reach.proofs.Lists.{all_get}
 
 take_under : {X : Type 0} (n : ℕ) (xs : List X) (o : ℕ) (t : X) → slice_get (take n xs) o ≡ Some t → (o < n) × (slice_get xs o ≡ Some t)
 take_under zero xs o t e = let bad : None ≡ Some t = e in absurd (search rules)
@@ -47,38 +50,26 @@ adds_more {T = T} adds first k items t e x n = (
   ],
 )
 
-or_and : (a b c : Bool) → ((a && c) || (b && c)) ≡ ((a || b) && c)
-or_and true b true = refl
-or_and true true false = refl
-or_and true false false = refl
-or_and false b c = refl
-
-posted_each : (g n i : ℕ) (files : List ℕ) → posted g n (at_each i files) ≡ (has g files && eqb i n)
-posted_each g n i [] = refl
-posted_each g n i (f ∷ files) = ap (λ b. (eqb f g && eqb i n) || b) (posted_each g n i files) ∙ or_and (eqb f g) (has g files) (eqb i n)
-
 -- the seat has posted what it had before and what the items add
 abbrev pub HasMarked : (ℕ → List ℕ) → ℕ → List (Option ℕ) → MarkSeatValue → MarkSeatValue → Type 0
-HasMarked reach first items old new = (x n : ℕ) → IsTrue (has_posted reach new x n)
-    ↔ (IsTrue (has_posted reach old x n) ⊎ AddsSome (Posts reach) first items x n)
+HasMarked reach first items old new = (x n : ℕ) → HasPosted reach new x n ↔ (HasPosted reach old x n ⊎ AddsSome (Posts reach) first items x n)
 
 -- one more item with a root
 pub marks_root : (reach : ℕ → List ℕ) (first k r : ℕ) (items : List (Option ℕ)) (old was new : MarkSeatValue) → slice_get items k ≡ Some (Some r)
     → new.view.marks ≡ (r, first + k) ∷ was.view.marks → HasMarked reach first (take k items) old was → HasMarked reach first (take (k + 1) items) old new
 marks_root reach first k r items old was new e marks before x n =
     let more = adds_more (Posts reach) first k items (Some r) e x n in
-    let here : has_posted reach new x n ≡ ((has x (reach r) && eqb (first + k) n) || has_posted reach was x n) =
-    ap (λ l. posted x n (marked_posts reach l)) marks ∙ list_any-append (is_pair x n) (at_each (first + k) (reach r)) (marked_posts reach was.view.marks)
-    ∙ ap (λ b. b || has_posted reach was x n) (posted_each x n (first + k) (reach r)) in (
-      λ h. elim (or_cases (has x (reach r) && eqb (first + k) n) (has_posted reach was x n) (sym here ∙ h)) [
-        | inl now ↦ let t = and_parts (has x (reach r)) (eqb (first + k) n) now in inr (more.1 (inr (sym (eqb-true (first + k) n t.1), t.0)))
-        | inr had ↦ elim ((before x n).0 had) [ inl a ↦ inl a | inr b ↦ inr (more.1 (inl b)) ]
+    let now : List (ℕ × ℕ) = at_each (first + k) (reach r) in let had : List (ℕ × ℕ) = marked_posts reach was.view.marks in
+    let P : List (ℕ × ℕ) → Type 0 = λ ms. Contains (marked_posts reach ms) (x, n) in (
+      λ h. elim (Contains-append_cases now had (x, n) (subst P marks h)) [
+        | inl new_one ↦ let t = each_to (first + k) (reach r) x n new_one in inr (more.1 (inr (sym t.0, t.1)))
+        | inr old_one ↦ elim ((before x n).0 old_one) [ inl a ↦ inl a | inr b ↦ inr (more.1 (inl b)) ]
       ],
-      λ h. here ∙ (elim h [
-        | inl a ↦ or_right (has x (reach r) && eqb (first + k) n) _ ((before x n).1 (inl a))
+      λ h. subst P (sym marks) (elim h [
+        | inl a ↦ Contains-append_right now had (x, n) ((before x n).1 (inl a))
         | inr b ↦ elim (more.0 b) [
-          | inl c ↦ or_right (has x (reach r) && eqb (first + k) n) _ ((before x n).1 (inr c))
-          | inr d ↦ or_left _ (has_posted reach was x n) (and_from (has x (reach r)) (eqb (first + k) n) d.1 (eq-eqb (first + k) n (sym d.0)))
+          | inl c ↦ Contains-append_right now had (x, n) ((before x n).1 (inr c))
+          | inr d ↦ Contains-append_left now had (x, n) (subst (λ m. Contains now (x, m)) (sym d.0) (in_map (λ f. (f, first + k)) (reach r) x d.1))
         ]
       ]),
     )
@@ -88,34 +79,41 @@ pub marks_none : (reach : ℕ → List ℕ) (first k : ℕ) (items : List (Optio
     → new ≡ was → HasMarked reach first (take k items) old was → HasMarked reach first (take (k + 1) items) old new
 marks_none reach first k items old was new e same before x n =
     let more = adds_more (Posts reach) first k items None e x n in
-    let here : has_posted reach new x n ≡ has_posted reach was x n = ap (λ (s : MarkSeatValue). has_posted reach s x n) same in (
-      λ h. elim ((before x n).0 (sym here ∙ h)) [ inl a ↦ inl a | inr b ↦ inr (more.1 (inl b)) ],
-      λ h. here ∙ (elim h [
+    let P : MarkSeatValue → Type 0 = λ s. HasPosted reach s x n in (
+      λ h. elim ((before x n).0 (subst P same h)) [ inl a ↦ inl a | inr b ↦ inr (more.1 (inl b)) ],
+      λ h. subst P (sym same) (elim h [
         | inl a ↦ (before x n).1 (inl a)
-        | inr b ↦ elim (more.0 b) [ inl c ↦ (before x n).1 (inr c) | inr d ↦ let bad : false ≡ true = d.1 in absurd (search rules) ]
+        | inr b ↦ elim (more.0 b) [ inl c ↦ (before x n).1 (inr c) | inr d ↦ absurd (none_in x d.1) ]
       ]),
     )
 
 -- all seats together have posted n at g exactly where root n reaches g
-pub all_posted : (reach : ℕ → List ℕ) (roots : List (Option ℕ)) (old new : List MarkSeatValue) (pairs : List (ℕ × ℕ))
-    → HoldTogether (λ s g n. IsTrue (has_posted reach s g n)) (Posts reach) roots old new → All (λ s. s.view.marks ≡ []) old
-    → ((g n : ℕ) → posted g n pairs ≡ list_any (λ s. has_posted reach s g n) new)
-    → (g n : ℕ) → IsTrue (posted g n pairs) ↔ RootReaches reach roots g n
-all_posted reach roots old new pairs together none final g n =
-    let test : MarkSeatValue → Bool = λ s. has_posted reach s g n in (
+pub all_posted : (reach : ℕ → List ℕ) (roots : List (Option ℕ)) (old new : List MarkSeatValue) (marks : List (ℕ × ℕ))
+    → HoldTogether (λ s g n. HasPosted reach s g n) (Posts reach) roots old new → All (λ s. s.view.marks ≡ []) old
+    → marks ≡ flat_map (λ s. s.view.marks) (reverse new)
+    → (g n : ℕ) → Contains (marked_posts reach marks) (g, n) ↔ RootReaches reach roots g n
+all_posted reach roots old new marks together none final g n =
+    let of_seat : MarkSeatValue → List (ℕ × ℕ) = λ s. s.view.marks in
+    let Q : List (ℕ × ℕ) → Type 0 = λ ms. Contains (marked_posts reach ms) (g, n) in (
       λ h.
-          let found = any_get test new (sym (final g n) ∙ h) in
-          elim ((together g n).0 found) [
+          let post = marked_to reach (flat_map of_seat (reverse new)) g n (subst Q final h) in
+          let by = of_flat of_seat (reverse new) (post.0, n) post.1 in
+          let seat = Contains-permutation (reverse new) new by.0 (IsPermutation-sym new (reverse new) (IsPermutation-reverse new)) by.1 in
+          let at : slice_get new seat.0 ≡ Some by.0 = slice_get-get_or new seat.0 by.0 seat.1 ∙ ap (λ (s : MarkSeatValue). Some s) seat.2 in
+          elim ((together g n).0 (seat.0, by.0, at, marked_from reach by.0.view.marks post.0 g n by.2 post.2)) [
             | inl was ↦
-                let marks = all_get (λ (s : MarkSeatValue). s.view.marks ≡ []) old was.0 was.1 none was.2 in
-                let bad : false ≡ true = ap (λ l. posted g n (marked_posts reach l)) (sym marks) ∙ was.3 in absurd (search rules)
+                absurd (none_in (g, n) (subst Q (all_get (λ (s : MarkSeatValue). s.view.marks ≡ []) old was.0 was.1 none was.2) was.3))
             | inr a ↦
                 let same : a.0 ≡ n = let e = a.3.0 in omega arith in
                 let P : ℕ → Type 0 = λ k. slice_get roots k ≡ Some a.1 in (a.1, subst P same a.2, a.3.1)
           ],
       λ r.
           let got = (together g n).1 (inr (n, r.0, r.1, (omega arith, r.2))) in
-          final g n ∙ any_passes_from_place test new got.0 got.1 got.2 got.3,
+          let there : Contains new got.1 = (got.0, slice_get_within new got.0 got.1 got.2, get_or_from_slice_get new got.0 got.1 got.1 got.2) in
+          let seat = Contains-permutation new (reverse new) got.1 (IsPermutation-reverse new) there in
+          let post = marked_to reach got.1.view.marks g n got.3 in
+          subst Q (sym final) (marked_from reach (flat_map of_seat (reverse new)) post.0 g n
+          (in_flat of_seat (reverse new) got.1 (post.0, n) seat post.1) post.2),
     )
 
 pub same_sums : {X : Type 0} (f : X → ℕ) (xs ys : List X) → map f xs ≡ map f ys → sum_by f xs ≡ sum_by f ys

@@ -7,7 +7,7 @@ use Rattle.first_reach.specs.declared.mode.Mode.{Mode}
 use Rattle.first_reach.specs.declared.mode.Mode.TheVariants.{Once, Repeat}
 use Rattle.first_reach.specs.Carried.{repeats}
 use Rattle.first_reach.specs.Reply.{reply_at, others_at, RootIsFirstToo}
-use Rattle.first_reach.proofs.Lists.{filter_on, filter_filter, filter_none}
+use Rattle.first_reach.proofs.Lists.{filter_on, filter_filter, filter_none, has_is}
 
 -- one more file
 others_more : (first : List ℕ) (i r k file : ℕ) (files : List ℕ) → slice_get files k ≡ Some file
@@ -65,7 +65,7 @@ reply_first mode reach first i r is =
 no_others : (reach : ℕ → List ℕ) (first : List ℕ) (i r : ℕ) → (slice_index first r ≡ i → ⊥) → RootIsFirstToo reach first i r
     → others_at first i r (reach r) ≡ []
 no_others reach first i r later spreads = filter_none _ (reach r) (λ g h.
-    and_right (not (eqb g r)) (eqb (slice_index first g) i) (ne_eqb (slice_index first g) i (λ e. later (spreads g h e))))
+    and_right (not (eqb g r)) (eqb (slice_index first g) i) (ne_eqb (slice_index first g) i (λ e. later (spreads g ((has_is g (reach r)).0 h) e))))
 
 -- where it isn't, the reply has nothing but a root that is repeated
 pub reply_again : (mode : Mode) (reach : ℕ → List ℕ) (first : List ℕ) (i r : ℕ) → mode ≡ Repeat → (slice_index first r ≡ i → ⊥) → RootIsFirstToo reach first i r

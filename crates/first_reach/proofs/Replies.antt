@@ -1,7 +1,8 @@
 -- Each reply by itself.
-use Rattle.std.proofs.Common.{◌≡◌, ℕ, zero, suc, ◌+◌, inl, inr, ◌||◌, ◌&&◌, not, Bool, true, false, cond, Option, Some, None, List, [], ◌∷◌, ◌++◌, filter, length, refl, sym, ap, ◌∙◌, arith, rules, eq-eqb, eqb-true, eqb, slice_get, IsTrue}
+use Rattle.std.proofs.Common.{◌≡◌, ℕ, zero, suc, ◌+◌, inl, inr, ◌||◌, ◌&&◌, not, Bool, true, false, cond, Option, Some, None, List, [], ◌∷◌, ◌++◌, filter, length, refl, sym, ap, ◌∙◌, arith, rules, eq-eqb, eqb-true, eqb, slice_get}
 use Rattle.std.proofs.lemmas.Bool.{ne_eqb, and_parts, and_from, or_left, or_right, or_cases}
 use Rattle.std.proofs.lemmas.List.Folds.{list_any-append}
+use Rattle.std.specs.Prelude.{Contains}
 use Rattle.std.specs.Option.{ForSome}
 use Rattle.std.proofs.lemmas.Option.{slice_get_within}
 use Rattle.share_work.proofs.Together.{get_there}
@@ -10,7 +11,7 @@ use Rattle.first_reach.specs.declared.mode.Mode.TheVariants.{Once, Repeat}
 use Rattle.first_reach.specs.Carried.{has, reached, root_first, repeats, carried_from, carried}
 use Rattle.first_reach.specs.First.{first_from, first_reach}
 use Rattle.first_reach.specs.Laws.{ReachThemselves, CarriesFirsts, RepeatCarriesRoots}
-use Rattle.first_reach.proofs.Lists.{filter_on, has_filter, has_root_first, all_get}
+use Rattle.first_reach.proofs.Lists.{filter_on, has_filter, has_is, has_root_first, all_get}
 use Rattle.first_reach.proofs.Firsts.{first_hits}
 
 -- each root reaches itself
@@ -60,7 +61,7 @@ carried_length mode reach sent [] = refl
 carried_length mode reach sent (r ∷ roots) = ap (λ n. suc n) (carried_length mode reach (sent ++ reached reach r) roots)
 
 own_of : (reach : ℕ → List ℕ) (roots : List (Option ℕ)) → ReachThemselves reach roots → Own reach roots
-own_of reach roots h k r e = all_get (λ root. ForSome root (λ x. IsTrue (has x (reach x)))) roots k (Some r) h e r refl
+own_of reach roots h k r e = (has_is r (reach r)).1 (all_get (λ root. ForSome root (λ x. Contains (reach x) x)) roots k (Some r) h e r refl)
 
 -- what a reply has
 says : (mode : Mode) (reach : ℕ → List ℕ) (roots : List (Option ℕ)) (i g : ℕ) (root : Option ℕ) (files : List ℕ) → Own reach roots
@@ -79,8 +80,8 @@ carries reach roots top own i g files e =
     let inside = slice_get_within (carried Once reach roots) i files e in let len = carried_length Once reach [] roots in
     let root = get_there roots i (omega arith) in
     let is = says Once reach roots i g root.0 files (own_of reach roots own) root.1 e in (
-      λ h. eqb-true _ _ (and_parts (has g (reached reach root.0)) (eqb (first_reach reach roots g) i) (sym is ∙ h)).1,
-      λ h. is ∙ and_from _ _ (first_hits reach roots 0 g i root.0 (omega arith) root.1 (omega arith)) (eq-eqb _ _ h),
+      λ h. eqb-true _ _ (and_parts (has g (reached reach root.0)) (eqb (first_reach reach roots g) i) (sym is ∙ (has_is g files).1 h)).1,
+      λ h. (has_is g files).0 (is ∙ and_from _ _ (first_hits reach roots 0 g i root.0 (omega arith) root.1 (omega arith)) (eq-eqb _ _ h)),
     )
 
 repeated : (root : Option ℕ) (g : ℕ) → repeats Repeat root g ≡ true → root ≡ Some g
@@ -91,15 +92,16 @@ pub carries_roots : RepeatCarriesRoots
 carries_roots reach roots top own i g root files at e =
     let first : Bool = eqb (first_reach reach roots g) i in
     let is = says Repeat reach roots i g root files (own_of reach roots own) at e in (
-      λ h. elim (or_cases (repeats Repeat root g) first (and_parts (has g (reached reach root)) (repeats Repeat root g || first) (sym is ∙ h)).1) [
-        | inl a ↦ inl (repeated root g a)
-        | inr b ↦ inr (eqb-true _ _ b)
-      ],
-      λ h. elim h [
+      λ h. elim (or_cases (repeats Repeat root g) first (and_parts (has g (reached reach root)) (repeats Repeat root g || first)
+          (sym is ∙ (has_is g files).1 h)).1) [
+            | inl a ↦ inl (repeated root g a)
+            | inr b ↦ inr (eqb-true _ _ b)
+          ],
+      λ h. (has_is g files).0 (elim h [
         | inl r ↦ is ∙ and_from (has g (reached reach root)) (repeats Repeat root g || first)
             (ap (λ x. has g (reached reach x)) r ∙ own_of reach roots own i g (at ∙ ap (λ (x : Option ℕ). Some x) r))
             (or_left _ _ (ap (λ x. repeats Repeat x g) r ∙ eq-eqb g g refl))
         | inr n ↦ is ∙ and_from (has g (reached reach root)) (repeats Repeat root g || first)
             (first_hits reach roots 0 g i root (omega arith) at (omega arith)) (or_right (repeats Repeat root g) _ (eq-eqb _ _ n))
-      ],
+      ]),
     )

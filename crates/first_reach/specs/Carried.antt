@@ -4,7 +4,7 @@ use Rattle.std.specs.List.{list_any}
 use Rattle.first_reach.specs.declared.mode.Mode.{Mode}
 use Rattle.first_reach.specs.declared.mode.Mode.TheVariants.{Once, Repeat}
 
--- the file is in the list
+-- whether the file is in the list, for `filter`
 abbrev pub has : ℕ → List ℕ → Bool
 has g files = list_any (λ h. h == g) files
 

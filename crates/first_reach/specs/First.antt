@@ -1,5 +1,5 @@
 -- The first root of a list that reaches a file.
-use Rattle.std.specs.Prelude.{◌≡◌, ℕ, ◌+◌, Option, Some, List, [], ◌∷◌, slice_get, if◌then◌else◌, IsTrue}
+use Rattle.std.specs.Prelude.{◌≡◌, ℕ, ◌+◌, Option, Some, List, [], ◌∷◌, slice_get, if◌then◌else◌, Contains}
 use Rattle.share_work.specs.Posts.{NONE}
 use Rattle.first_reach.specs.Carried.{has, reached}
 
@@ -13,4 +13,4 @@ first_reach reach roots g = first_from reach 0 roots g
 
 -- the root at position n reaches g
 abbrev pub RootReaches : (ℕ → List ℕ) → List (Option ℕ) → ℕ → ℕ → Type 0
-RootReaches reach roots g n = (root : Option ℕ) × (slice_get roots n ≡ Some root) × IsTrue (has g (reached reach root))
+RootReaches reach roots g n = (root : Option ℕ) × (slice_get roots n ≡ Some root) × Contains (reached reach root) g

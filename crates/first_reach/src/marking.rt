@@ -1,11 +1,10 @@
 //! The first root that reaches each file, from the marks of workers with seats of one table.
 
-ghost use Rattle.std.specs.Prelude.{◌≡◌, ℕ, ◌<◌, ◌≤◌, ◌^◌, List, All, IfOk, IfSome, MatchOption, length, slice_index, sum_by, []};
+ghost use Rattle.std.specs.Prelude.{◌≡◌, ℕ, ◌<◌, ◌≤◌, ◌^◌, All, IfOk, IfSome, MatchOption, length, reverse, slice_index, sum_by, []};
 ghost use Rattle.std.specs.Option.{ForSome};
-ghost use Rattle.std.specs.List.{list_any};
+ghost use Rattle.std.specs.List.{flat_map};
 ghost use Rattle.share_work.specs.Marks.{mark_whole};
 ghost use Rattle.first_reach.specs.First.{first_reach};
-ghost use Rattle.first_reach.specs.Seats.{has_posted};
 
 use share_work::{Gate, Least, MarkSeat, MarkTable, Plan, Reach, Work, in_shares};
 use std::alloc::{AllocError, AllocGlobal, Global};
@@ -21,10 +20,10 @@ struct Marking<'a, F: Reach> {
 }
 
 impl<F: Reach> Work<Option<usize>> for Marking<'_, F> {
-    ghost use Rattle.std.specs.Prelude.{⊤, ◌≡◌, ◌<◌, ℕ, IsTrue};
+    ghost use Rattle.std.specs.Prelude.{⊤, ◌≡◌, ◌<◌, ℕ};
     ghost use Rattle.std.specs.Option.{ForSome};
     ghost use Rattle.share_work.specs.Posts.{NONE};
-    ghost use Rattle.first_reach.specs.Seats.{has_posted, Posts};
+    ghost use Rattle.first_reach.specs.Seats.{HasPosted, Posts};
 
     type Out = ();
 
@@ -38,7 +37,7 @@ impl<F: Reach> Work<Option<usize>> for Marking<'_, F> {
 
     ghost number = { λ _ s. s.view.least.parts };
 
-    ghost holds = { λ w s g n. IsTrue (has_posted (F.list w.table.now.reach) s g n) };
+    ghost holds = { λ w s g n. HasPosted (F.list w.table.now.reach) s g n };
 
     ghost adds = { λ w i root g n. Posts (F.list w.table.now.reach) i root g n };
 
@@ -91,8 +90,8 @@ fn join_seats<F: Reach>(table: &MarkTable<'_, F>, seats: Vec<MarkSeat>) -> Optio
     ensures table { IfSome result (λ s. s.table ≡ table.now.table) }
     ensures parts { IfSome result (λ s. s.view.least.parts
         ≡ sum_by (λ t. t.view.least.parts) seats.items) }
-    ensures marks { IfSome result (λ s. (reach : ℕ → List ℕ) (g n : ℕ)
-        → has_posted reach s g n ≡ list_any (λ t. has_posted reach t g n) seats.items) }
+    ensures marks { IfSome result (λ s. s.view.marks
+        ≡ flat_map (λ t. t.view.marks) (reverse seats.items)) }
 {
     let mut seats = seats;
     let mut seat = seats.pop()?;

@@ -1,12 +1,13 @@
 -- Bytes that are read or written piece by piece.
 use Rattle.std.proofs.Common.{◌≡◌, ◌∙◌, ℕ, zero, suc, ◌+◌, ◌-◌, ◌<◌, ◌≤◌, List, [], ◌∷◌, ◌++◌, length, sym, ap, subst, arith, refl, inl, inr}
-use Rattle.std.specs.Prelude.{take, drop, Option, Some, None, Result, Ok, Err}
+use Rattle.std.specs.Prelude.{take, drop, Option, Some, None}
 use Rattle.std.specs.Io.KnownBytes.{Appends, Consumes, Keeps}
 use Rattle.std.proofs.lemmas.List.{append_assoc, append-nil, length-append, drop_all, length-drop, length-take-le, take_all}
+use Rattle.std.proofs.lemmas.Bool.Decides.{nat_tests}
 use borrow.Rule.Slice.PartMut.{put_mid}
 use Rattle.grpcweb_core.specs.Exchange.{IsRead, IsWritten, IsWrittenInPart}
-use Rattle.grpcweb_core.specs.Streams.{Call, Reads, Writes, given}
-use Rattle.grpcweb_core.specs.Calls.{IsReadOnce, IsWrittenOnce, IsFlushedOnce}
+use Rattle.grpcweb_core.specs.Streams.{Call, Reads, Writes}
+use Rattle.grpcweb_core.specs.Calls.{IsGiven, IsNotGiven, IsTaken, IsNotTaken, IsHandedOn}
 
 -- ---- lists and known bytes
 
@@ -52,9 +53,6 @@ consumes_nothing a b c xs first more = subst (λ l. Consumes a c l) (append-nil 
 appends_nothing : (a b c : Option (List ℕ)) (xs : List ℕ) → Appends a b xs → Appends b c [] → Appends a c xs
 appends_nothing a b c xs first more = subst (λ l. Appends a c l) (append-nil xs) (appends_on a b c xs [] first more)
 
-one_more : {a b c : ℕ} → c ≡ b + 1 → b ≡ a → c ≡ suc a
-one_more rises same = omega (arith, rises, same)
-
 add_zero : (n : ℕ) → n + 0 ≡ n
 add_zero n = omega arith
 
@@ -71,7 +69,15 @@ pub record IsReading (old now : Reads) (room : List ℕ) (filled : ℕ) : Type 0
   pub left : Consumes old.left now.left (take filled room)
 
 pub no_read : (old : Reads) (room : List ℕ) → IsReading old old room 0
-no_read old room = record { own = []; made = sym (append-nil old.calls); within = omega arith; bytes = sym (append-nil old.bytes); calls = omega arith; failures = refl; left = consumes_none old.left }
+no_read old room = record {
+  own = [];
+  made = sym (append-nil old.calls);
+  within = omega arith;
+  bytes = sym (append-nil old.bytes);
+  calls = omega arith;
+  failures = refl;
+  left = consumes_none old.left;
+}
 
 long_prefix : (room sub : List ℕ) (filled : ℕ) → filled ≤ length room → length (take filled room ++ sub) ≡ filled + length sub
 long_prefix room sub filled within = length-append (take filled room) sub ∙ ap (λ k. k + length sub) (length-take-le filled room within)
@@ -81,8 +87,8 @@ prefix_of room sub filled n within =
     subst (λ k. take (k + n) (take filled room ++ sub) ≡ take filled room ++ take n sub) (length-take-le filled room within)
     (take_of_two (take filled room) sub n)
 
-pub read_more : {E : Type 0} (old now new : Reads) (room sub : List ℕ) (filled n : ℕ) → IsReading old now room filled → n ≤ length sub → 0 < n
-    → IsReadOnce {E = E} now new (Ok n) sub → IsReading old new (take filled room ++ sub) (filled + n)
+pub read_more : (old now new : Reads) (room sub : List ℕ) (filled n : ℕ) → IsReading old now room filled
+    → n ≤ length sub → 0 < n → IsGiven now new sub n → IsReading old new (take filled room ++ sub) (filled + n)
 read_more old now new room sub filled n so short some once =
     record {
       own = so.own ++ record { room = length sub; given = Some n } ∷ [];
@@ -93,13 +99,14 @@ read_more old now new room sub filled n so short some once =
           ∙ ap (λ l. old.bytes ++ l) (sym (prefix_of room sub filled n so.within));
       calls = (let h = ap length once.calls ∙ length-append now.calls (record { room = length sub; given = Some n } ∷ []) in let k = so.calls in
           omega (arith, h, k, some));
-      failures = once.failures ∙ add_zero now.failures ∙ so.failures;
+      failures = once.failures ∙ so.failures;
       left = subst (λ l. Consumes old.left new.left l) (sym (prefix_of room sub filled n so.within))
-          (consumes_on old.left now.left new.left (take filled room) (take n sub) so.left once.left.0);
+          (consumes_on old.left now.left new.left (take filled room) (take n sub) so.left once.left);
     }
 
-pub read_none : {E : Type 0} (old now new : Reads) (room sub : List ℕ) (filled : ℕ) → IsReading old now room filled → 0 < length sub
-    → IsReadOnce {E = E} now new (Ok 0) sub → IsRead (length (take filled room ++ sub)) old new (take filled (take filled room ++ sub))
+pub read_none : (old now new : Reads) (room sub : List ℕ) (filled : ℕ) → IsReading old now room filled
+    → 0 < length sub → IsGiven now new sub 0
+    → IsRead (length (take filled room ++ sub)) old new (take filled (take filled room ++ sub))
 read_none old now new room sub filled so some once =
     let prefix = subst (λ k. take k (take filled room ++ sub) ≡ take filled room ++ []) (add_zero filled) (prefix_of room sub filled 0 so.within)
     ∙ append-nil (take filled room) in
@@ -109,10 +116,11 @@ read_none old now new room sub filled so some once =
       calls = once.calls ∙ ap (λ l. l ++ call ∷ []) so.made ∙ append_assoc old.calls so.own (call ∷ []);
       given = once.bytes ∙ append-nil now.bytes ∙ so.bytes ∙ ap (λ l. old.bytes ++ l) (sym prefix);
       within = (let h = long_prefix room sub filled so.within in let k = ap length prefix ∙ length-take-le filled room so.within in omega (arith, h, k));
-      whole =
-          inr (record { earlier = so.own; last = call; called = refl; room = some; nothing = refl; known = once.left.1 refl some });
-      failures = once.failures ∙ add_zero now.failures ∙ so.failures;
-      left = subst (λ l. Consumes old.left new.left l) (sym prefix) (consumes_nothing old.left now.left new.left (take filled room) so.left once.left.0);
+      whole = inr
+          (record { earlier = so.own; last = call; called = refl; room = some; nothing = refl; known = once.ended refl some });
+      failures = once.failures ∙ so.failures;
+      left = subst (λ l. Consumes old.left new.left l) (sym prefix)
+          (consumes_nothing old.left now.left new.left (take filled room) so.left once.left);
     }
 
 pub read_full : (old now : Reads) (room : List ℕ) (filled : ℕ) → IsReading old now room filled → length room ≤ filled
@@ -128,16 +136,26 @@ read_full old now room filled so full =
       left = so.left;
     }
 
-pub refused_read : {E : Type 0} (old now new : Reads) (room sub : List ℕ) (filled : ℕ) (e : E) → IsReading old now room filled → IsReadOnce now new (Err e) sub
-    → new.failures ≡ suc old.failures
-refused_read old now new room sub filled e so once = one_more once.failures so.failures
+pub refused_read : (old now new : Reads) (room sub : List ℕ) (filled : ℕ) → IsReading old now room filled
+    → IsNotGiven now new sub → new.failures ≡ suc old.failures
+refused_read old now new room sub filled so once = once.failures ∙ ap suc so.failures
 
 -- any read is one more call
-pub one_call : {E : Type 0} (old now new : Reads) (room sub : List ℕ) (filled most : ℕ) (r : Result ℕ E) → IsReading old now room filled → filled < most
-    → IsReadOnce now new r sub → length new.calls ≤ length old.calls + most
-one_call old now new room sub filled most r so below once =
-    let h =
-    ap length once.calls ∙ length-append now.calls (record { room = length sub; given = given r } ∷ []) in let k = so.calls in omega (arith, h, k, below)
+call_more : (old now new : Reads) (room : List ℕ) (filled most : ℕ) (call : Call) → IsReading old now room filled
+    → filled < most → new.calls ≡ now.calls ++ call ∷ [] → length new.calls ≤ length old.calls + most
+call_more old now new room filled most call so below calls =
+    let h = ap length calls ∙ length-append now.calls (call ∷ []) in
+    let k = so.calls in omega (arith, h, k, below)
+
+pub one_call : (old now new : Reads) (room sub : List ℕ) (filled most n : ℕ) → IsReading old now room filled
+    → filled < most → IsGiven now new sub n → length new.calls ≤ length old.calls + most
+one_call old now new room sub filled most n so below once =
+    call_more old now new room filled most _ so below once.calls
+
+pub one_refused_call : (old now new : Reads) (room sub : List ℕ) (filled most : ℕ) → IsReading old now room filled
+    → filled < most → IsNotGiven now new sub → length new.calls ≤ length old.calls + most
+one_refused_call old now new room sub filled most so below once =
+    call_more old now new room filled most _ so below once.calls
 
 -- a room whose end was written anew
 pub put_end : (room sub : List ℕ) (filled : ℕ) → filled ≤ length room → put_mid filled (length room - filled) room sub ≡ take filled room ++ sub
@@ -162,66 +180,59 @@ back_of xs zero n = ap (λ k. take k xs) (zero_add n)
 back_of [] (suc k) n = ap (λ j. take j []) (suc_add k n) ∙ sym (take_all n [] (omega arith))
 back_of (x ∷ xs) (suc k) n = ap (λ j. take j (x ∷ xs)) (suc_add k n) ∙ ap (λ l. x ∷ l) (back_of xs k n)
 
-pub written_more : {E : Type 0} (old now new : Writes) (response : List ℕ) (written n : ℕ) → IsWriting old now response written
-    → suc n ≤ length (drop written response) → IsWrittenOnce {E = E} now new (Ok (suc n)) (drop written response) → IsWriting old new response (written + suc n)
+pub written_more : (old now new : Writes) (response : List ℕ) (written n : ℕ) → IsWriting old now response written
+    → suc n ≤ length (drop written response) → IsTaken now new (drop written response) (suc n)
+    → IsWriting old new response (written + suc n)
 written_more old now new response written n so short once =
     record {
       within = (let h = length-drop written response in let k = so.within in omega (arith, h, k, short));
       taken = once.bytes ∙ ap (λ l. l ++ take (suc n) (drop written response)) so.taken
           ∙ append_assoc old.bytes (take written response) (take (suc n) (drop written response))
           ∙ ap (λ l. old.bytes ++ l) (sym (back_of response written (suc n)));
-      failures = once.failures ∙ add_zero now.failures ∙ so.failures;
+      failures = (let h = once.failures in let k = so.failures in grind (arith, nat_tests));
       contents = subst (λ l. Appends old.contents new.contents l) (sym (back_of response written (suc n)))
           (appends_on old.contents now.contents new.contents (take written response) (take (suc n) (drop written response)) so.contents once.contents);
     }
 
-pub written_some : {E : Type 0} (old now new : Writes) (response : List ℕ) (written n : ℕ) {rest : List ℕ} → IsWriting old now response written → 0 < n
-    → rest ≡ drop written response → n ≤ length rest → IsWrittenOnce {E = E} now new (Ok n) rest → IsWriting old new response (written + n)
+pub written_some : (old now new : Writes) (response : List ℕ) (written n : ℕ) {rest : List ℕ}
+    → IsWriting old now response written → 0 < n → rest ≡ drop written response → n ≤ length rest
+    → IsTaken now new rest n → IsWriting old new response (written + n)
 written_some old now new response written zero so some is short once = absurd (omega (arith, some))
-written_some {E = E} old now new response written (suc n) so some is short once =
-    written_more old now new response written n so (subst (λ l. suc n ≤ length l) is short) (subst (λ l. IsWrittenOnce {E = E} now new (Ok (suc n)) l) is once)
+written_some old now new response written (suc n) so some is short once =
+    written_more old now new response written n so (subst (λ l. suc n ≤ length l) is short)
+    (subst (λ l. IsTaken now new l (suc n)) is once)
 
-pub flushed : {A E : Type 0} (old now new : Writes) (response : List ℕ) (written : ℕ) (a : A) → IsWriting old now response written → length response ≤ written
-    → IsFlushedOnce {A = A} {E = E} now new (Ok a) → IsWritten old new response
-flushed old now new response written a so whole once =
+pub flushed : (old now new : Writes) (response : List ℕ) (written : ℕ) → IsWriting old now response written
+    → length response ≤ written → IsHandedOn now new → IsWritten old new response
+flushed old now new response written so whole once =
     let all = take_all written response whole in
     record {
       taken = once.bytes ∙ so.taken ∙ ap (λ l. old.bytes ++ l) all;
       flushed = once.unflushed;
-      failures = once.failures ∙ add_zero now.failures ∙ so.failures;
+      failures = once.failures ∙ so.failures;
       contents = subst (λ l. Appends old.contents new.contents l) all
           (appends_kept old.contents now.contents new.contents (take written response) so.contents once.contents);
     }
 
-pub not_flushed : {A E : Type 0} (old now new : Writes) (response : List ℕ) (written : ℕ) (e : E) → IsWriting old now response written
-    → IsFlushedOnce {A = A} {E = E} now new (Err e) → IsWrittenInPart old new response written
-not_flushed old now new response written e so once =
-    record {
-      within = so.within;
-      taken = once.bytes ∙ so.taken;
-      failures = one_more once.failures so.failures;
-      contents =
-          appends_kept old.contents now.contents new.contents (take written response) so.contents once.contents;
-    }
-
-pub stuck_write : {E : Type 0} (old now new : Writes) (response : List ℕ) (written : ℕ) → IsWriting old now response written
-    → IsWrittenOnce {E = E} now new (Ok 0) (drop written response) → IsWrittenInPart old new response written
+pub stuck_write : (old now new : Writes) (response : List ℕ) (written : ℕ) → IsWriting old now response written
+    → IsTaken now new (drop written response) 0 → IsWrittenInPart old new response written
 stuck_write old now new response written so once =
     record {
       within = so.within;
       taken = once.bytes ∙ append-nil now.bytes ∙ so.taken;
-      failures = one_more once.failures so.failures;
+      failures = (let h = once.failures in let k = so.failures in omega (arith, h, k));
       contents =
           appends_nothing old.contents now.contents new.contents (take written response) so.contents once.contents;
     }
 
-pub refused_write : {E : Type 0} (old now new : Writes) (response : List ℕ) (written : ℕ) (e : E) → IsWriting old now response written
-    → IsWrittenOnce now new (Err e) (drop written response) → IsWrittenInPart old new response written
-refused_write old now new response written e so once =
+-- a write or a flush that failed
+pub refused_write : (old now new : Writes) (response : List ℕ) (written : ℕ) → IsWriting old now response written
+    → IsNotTaken now new → IsWrittenInPart old new response written
+refused_write old now new response written so once =
     record {
       within = so.within;
-      taken = once.bytes ∙ append-nil now.bytes ∙ so.taken;
-      failures = one_more once.failures so.failures;
+      taken = once.bytes ∙ so.taken;
+      failures = once.failures ∙ ap suc so.failures;
       contents =
           appends_kept old.contents now.contents new.contents (take written response) so.contents once.contents;
     }

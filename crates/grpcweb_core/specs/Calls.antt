@@ -1,43 +1,48 @@
 -- What one call of a reader or a writer does.
-use Rattle.std.specs.Prelude.{◌≡◌, ℕ, zero, suc, ◌+◌, List, [], ◌∷◌, ◌++◌, length, take, Result, Ok, Err}
-use Rattle.std.specs.Io.KnownBytes.{ReadConsumes, WriteAppends, Keeps}
-use Rattle.grpcweb_core.specs.Streams.{Reads, Writes, given}
+use Rattle.std.specs.Prelude.{◌≡◌, ℕ, suc, ◌+◌, ◌<◌, ◌==◌, if◌then◌else◌, List, [], ◌∷◌, ◌++◌, length, take, None, Some, Result, MatchResult}
+use Rattle.std.specs.Io.KnownBytes.{Appends, Consumes, IsAtEnd, Keeps}
+use Rattle.grpcweb_core.specs.Streams.{Reads, Writes}
 
-abbrev pub moved : {E : Type 0} → Result ℕ E → List ℕ → List ℕ
-moved (Ok n) bytes = take n bytes
-moved (Err e) bytes = []
+-- a read that gave the first n bytes of a room, and none of some room only at the end; and one that failed
+pub record IsGiven (old new : Reads) (room : List ℕ) (n : ℕ) : Type 0 where
+  pub bytes : new.bytes ≡ old.bytes ++ take n room
+  pub calls : new.calls ≡ old.calls ++ record { room = length room; given = Some n } ∷ []
+  pub failures : new.failures ≡ old.failures
+  pub left : Consumes old.left new.left (take n room)
+  pub ended : n ≡ 0 → 0 < length room → IsAtEnd new.left
 
-abbrev pub failed : {A E : Type 0} → Result A E → ℕ
-failed (Ok a) = 0
-failed (Err e) = 1
-
--- a write that takes nothing has failed
-abbrev pub stuck : {E : Type 0} → Result ℕ E → ℕ
-stuck (Ok zero) = 1
-stuck (Ok (suc n)) = 0
-stuck (Err e) = 1
-
--- one read
-pub record IsReadOnce {E : Type 0} (old new : Reads) (result : Result ℕ E) (buffer : List ℕ) : Type 0 where
-  pub bytes : new.bytes ≡ old.bytes ++ moved result buffer
-  pub calls : new.calls ≡ old.calls ++ record { room = length buffer; given = given result } ∷ []
-  pub failures : new.failures ≡ old.failures + failed result
-  pub left : ReadConsumes old.left new.left result buffer
-
--- one write
-pub record IsWrittenOnce {E : Type 0} (old new : Writes) (result : Result ℕ E) (buffer : List ℕ) : Type 0 where
-  pub bytes : new.bytes ≡ old.bytes ++ moved result buffer
-  pub unflushed : new.unflushed ≡ old.unflushed ++ moved result buffer
-  pub failures : new.failures ≡ old.failures + stuck result
-  pub contents : WriteAppends old.contents new.contents result buffer
-
-abbrev pub kept_back : {A E : Type 0} → Result A E → List ℕ → List ℕ
-kept_back (Ok a) bytes = []
-kept_back (Err e) bytes = bytes
-
--- one flush
-pub record IsFlushedOnce {A E : Type 0} (old new : Writes) (result : Result A E) : Type 0 where
+pub record IsNotGiven (old new : Reads) (room : List ℕ) : Type 0 where
   pub bytes : new.bytes ≡ old.bytes
-  pub unflushed : new.unflushed ≡ kept_back result old.unflushed
-  pub failures : new.failures ≡ old.failures + failed result
+  pub calls : new.calls ≡ old.calls ++ record { room = length room; given = None } ∷ []
+  pub failures : new.failures ≡ suc old.failures
+  pub left : Keeps old.left new.left
+
+abbrev pub IsReadOnce : {E : Type 0} → (old new : Reads) → Result ℕ E → (room : List ℕ) → Type 0
+IsReadOnce old new result room = MatchResult result (λ n. IsGiven old new room n) (λ _. IsNotGiven old new room)
+
+-- a write that took the first n of some bytes, and has failed if that is none; and one that failed
+pub record IsTaken (old new : Writes) (offered : List ℕ) (n : ℕ) : Type 0 where
+  pub bytes : new.bytes ≡ old.bytes ++ take n offered
+  pub unflushed : new.unflushed ≡ old.unflushed ++ take n offered
+  pub failures : new.failures ≡ old.failures + (if n == 0 then 1 else 0)
+  pub contents : Appends old.contents new.contents (take n offered)
+
+pub record IsNotTaken (old new : Writes) : Type 0 where
+  pub bytes : new.bytes ≡ old.bytes
+  pub unflushed : new.unflushed ≡ old.unflushed
+  pub failures : new.failures ≡ suc old.failures
   pub contents : Keeps old.contents new.contents
+
+abbrev pub IsWrittenOnce : {E : Type 0} → (old new : Writes) → Result ℕ E → (offered : List ℕ) → Type 0
+IsWrittenOnce old new result offered =
+    MatchResult result (λ n. IsTaken old new offered n) (λ _. IsNotTaken old new)
+
+-- a flush after which nothing is held back; one that failed is as a write that failed
+pub record IsHandedOn (old new : Writes) : Type 0 where
+  pub bytes : new.bytes ≡ old.bytes
+  pub unflushed : new.unflushed ≡ []
+  pub failures : new.failures ≡ old.failures
+  pub contents : Keeps old.contents new.contents
+
+abbrev pub IsFlushedOnce : {A E : Type 0} → (old new : Writes) → Result A E → Type 0
+IsFlushedOnce old new result = MatchResult result (λ _. IsHandedOn old new) (λ _. IsNotTaken old new)

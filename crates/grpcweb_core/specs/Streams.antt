@@ -1,5 +1,5 @@
 -- What a reader and a writer did, call by call.
-use Rattle.std.specs.Prelude.{ℕ, List, Option, Some, None, Result, Ok, Err}
+use Rattle.std.specs.Prelude.{ℕ, List, Option}
 
 -- what one call of a reader did: the bytes that it had room for, and how many it gave, unless it failed
 pub record Call : Type 0 where
@@ -21,8 +21,3 @@ pub record Writes : Type 0 where
   pub unflushed : List ℕ
   pub failures : ℕ
   pub contents : Option (List ℕ)
-
--- of a call: how much it gave, what that was, and whether it failed
-abbrev pub given : {E : Type 0} → Result ℕ E → Option ℕ
-given (Ok n) = Some n
-given (Err e) = None

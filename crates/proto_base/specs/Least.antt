@@ -1,9 +1,14 @@
--- The least of a set of spots: of places with what is wrong there.
+-- The least of a set by an order, and that of a set of spots: of places with what is wrong there.
 use Rattle.std.specs.Prelude.{◌≡◌, ◌<◌, ◌≤◌, ◌⊎◌, Option, Some, None, IfSome}
 use Rattle.proto_base.specs.Kind.{number_of}
 use Rattle.proto_base.specs.declared.kind.Kind.{Kind}
 use Rattle.proto_base.specs.declared.place.Place.{Place}
 use Rattle.proto_base.specs.declared.spot.Spot.{Spot}
+
+-- one of the set, which is no later than any of it
+pub record IsLeastBy {X : Type 0} (NoLater : X → X → Type 0) (S : X → Type 0) (x : X) : Type 0 where
+  pub among : S x
+  pub least : (y : X) → S y → NoLater x y
 
 abbrev pub spot : Place → Kind → Spot
 spot p k = record { place = p; kind = k }

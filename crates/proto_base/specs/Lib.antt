@@ -9,3 +9,5 @@ pub mod KindNames
 pub mod Lesser
 pub mod StandardLimits
 pub mod Told
+pub mod Lines
+pub mod NameOrder

@@ -1,8 +1,9 @@
 //! Places of a source, and the lines and columns that users see.
 
-ghost use Rattle.std.specs.Prelude.{◌≡◌, ◌==◌, ◌+◌, ◌<◌, ◌≤◌, ◌-◌, ◌^◌, not, Some, length, take};
+ghost use Rattle.std.specs.Prelude.{◌≡◌, ◌==◌, ◌<◌, ◌≤◌, ◌-◌, ◌^◌, not, Some, length};
 ghost use Rattle.std.specs.Fmt.{decimal};
-ghost use Rattle.std.specs.List.{count_by, suffix_len};
+ghost use Rattle.std.specs.List.{suffix_len};
+ghost use Rattle.proto_base.specs.Lines.{column_at, line_at};
 
 use std::fmt;
 
@@ -44,8 +45,8 @@ fn last_line_len(bytes: &[u8]) -> usize
 pub fn line_column(text: &[u8], place: Place) -> (u32, u32)
     requires within { place.offset ≤ length text.now }
     requires below_last { place.offset < 2 ^ 32 - 1 }
-    ensures line { result.0 ≡ 1 + count_by (λ b. b == 10) (take place.offset text.now) }
-    ensures column { result.1 ≡ 1 + suffix_len (λ b. not (b == 10)) (take place.offset text.now) }
+    ensures line { result.0 ≡ line_at text.now place.offset }
+    ensures column { result.1 ≡ column_at text.now place.offset }
 {
     let before = &text[..place.offset as usize];
     let lines = before.iter().filter(|byte| **byte == b'\n').count();

@@ -47,7 +47,8 @@ declared_least limits desc a b p ab r h k m u w =
     least_append (IsTooLong limits) (messages ++ enums) services ab p r (least_append (IsTooLong limits) messages enums a b ab h k u) m w
 
 abbrev Elements : List Statement → Spot → Type 0
-Elements ss = Either (Either (Each (flat_map file_message ss) MessageBreaks) (Each (flat_map file_enum ss) EnumBreaks)) (Each (flat_map file_service ss) ServiceBreaks)
+Elements ss = Either (Either (Each (flat_map file_message ss) MessageBreaks) (Each (flat_map file_enum ss) EnumBreaks))
+    (Each (flat_map file_service ss) ServiceBreaks)
 
 abbrev Parts : Limits → FileTree → FileDesc → Spot → Type 0
 Parts limits tree desc = Either (Either (HeadBreaks tree desc) (Elements tree.statements)) (Either (NamesBreak desc) (LengthsBreak limits tree.statements desc))

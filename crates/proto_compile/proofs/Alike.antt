@@ -19,14 +19,14 @@ use Rattle.proto_links.proofs.Whole.{whole_of}
 use Rattle.proto_names.specs.Index.{Index, Indexes, is_service_kind, name_of, services_of}
 use Rattle.proto_names.specs.Occurrences.{Occurrence, occurrences}
 use Rattle.proto_compile.specs.Alike.{AreAlike}
-use Rattle.proto_compile.specs.Compilation.{Compilation, IsCompiled}
+use Rattle.proto_compile.specs.Compilation.{Compilation, IsCompiled, file_name}
+use Rattle.proto_compile.specs.Sources.{name_of as source_name}
 use Rattle.proto_compile.specs.declared.source.Source.{Source}
-use Rattle.proto_compile.proofs.Making.{as_many}
 use Rattle.proto_compile.proofs.OneCompilation.{one_written}
 use Rattle.proto_compile.proofs.OneOrder.{IsNoLater, one_sorted}
 use Rattle.proto_compile.proofs.OneTyping.{analysed_moved, one_description, same_members}
 use Rattle.proto_compile.proofs.Sorting.{not_greater}
-use Rattle.proto_compile.proofs.Zipping.{same_length}
+use Rattle.proto_compile.proofs.Zipping.{as_many, same_length}
 
 -- ---- services
 
@@ -99,7 +99,7 @@ pub described_count : (limits : Limits) (sources : List Source) (c : Compilation
 described_count limits sources c w =
     let written = w.written in
     let long = same_length limits written.sorted written.resolved.descs written.resolved.analysed.described.each in
-    omega (arith, as_many written.sorted c.files written.names, long)
+    omega (arith, as_many file_name source_name c.files written.sorted written.names, long)
 
 pub alike : (limits : Limits) (sources : List Source) (c d : Compilation) → IsCompiled limits sources c
     → IsCompiled limits sources d → AreAlike c d

@@ -1,5 +1,5 @@
 -- What a descriptor imports, declares and refers to stands at its places.
-use Rattle.std.proofs.Common.{◌≡◌, refl, ℕ, ◌≤◌, List, [], ◌++◌, map}
+use Rattle.std.proofs.Common.{◌≡◌, refl, ℕ, List, [], ◌++◌, map}
 use Rattle.std.specs.Prelude.{flat_map, Option, None, Some}
 use Rattle.std.specs.List.{AllByRecursion}
 use Rattle.proto_desc.specs.DeclaredNames.{scoped, declared_by_enum, declared_method, declared_by_service, file_scope, declared_by}
@@ -24,16 +24,19 @@ method_at region scope m at =
     (type_at region scope want.MessageOnly [] m.input (prefix region (reference_places m.input) (reference_places m.output) at.1) tt)
     (type_at region scope want.MessageOnly [] m.output (rest region (reference_places m.input) (reference_places m.output) at.1) tt)
 
-service_declares : (region : ℕ → Type 0) (scope : List ℕ) (s : ServiceDesc) → ServiceWithin region s → AllByRecursion (DeclaredAt region) (declared_by_service scope s)
+service_declares : (region : ℕ → Type 0) (scope : List ℕ) (s : ServiceDesc) → ServiceWithin region s
+    → AllByRecursion (DeclaredAt region) (declared_by_service scope s)
 service_declares region scope s at = (
   at.0,
   each_map (DeclaredAt region) (declared_method (scoped scope s.name)) s.methods
       (each_weaker (MethodWithin region) (λ (m : MethodDesc). IsIn region m.place) s.methods (λ m w. w.0) (each_places region method_places s.methods at.1)),
 )
 
-service_refers : (region : ℕ → Type 0) (scope : List ℕ) (s : ServiceDesc) → ServiceWithin region s → AllByRecursion (ReferenceAt region) (references_of_service scope s)
-service_refers region scope s at = each_given (MethodWithin region) (ReferenceAt region) (references_of_method (scoped scope s.name)) s.methods (method_at region (scoped scope s.name))
-    (each_places region method_places s.methods at.1)
+service_refers : (region : ℕ → Type 0) (scope : List ℕ) (s : ServiceDesc) → ServiceWithin region s
+    → AllByRecursion (ReferenceAt region) (references_of_service scope s)
+service_refers region scope s at =
+    each_given (MethodWithin region) (ReferenceAt region) (references_of_method (scoped scope s.name)) s.methods
+    (method_at region (scoped scope s.name)) (each_places region method_places s.methods at.1)
 
 -- ---- files
 
@@ -79,21 +82,25 @@ references_at region d at =
     let own = file_at region d at in
     let scope : List ℕ = file_scope d.«package» in
     let messages = (messages_at region scope d.messages (each_of (MessageAt region) (message_at region) d.messages) own.messages).1 in
-    both (ReferenceAt region) _ _ messages (each_given (ServiceWithin region) (ReferenceAt region) (references_of_service scope) d.services (service_refers region scope) own.services)
+    both (ReferenceAt region) _ _ messages (each_given (ServiceWithin region) (ReferenceAt region)
+    (references_of_service scope) d.services (service_refers region scope) own.services)
 
 -- an occurrence in the file of a number
 abbrev pub OccurrenceAt : (ℕ → Type 0) → ℕ → Occurrence → Type 0
 OccurrenceAt region file o = (o.file ≡ file) × IsIn region o.place
 
-package_occurrences_at : (region : ℕ → Type 0) (file : ℕ) (p : Option PackageDesc) → AreIn region (package_places p) → AllByRecursion (OccurrenceAt region file) (package_occurrences file p)
+package_occurrences_at : (region : ℕ → Type 0) (file : ℕ) (p : Option PackageDesc) → AreIn region (package_places p)
+    → AllByRecursion (OccurrenceAt region file) (package_occurrences file p)
 package_occurrences_at region file None at = tt
 package_occurrences_at region file (Some p) at = each_map (OccurrenceAt region file) (package_occurrence file p.place) (prefixes p.name)
     (each_of (λ name. OccurrenceAt region file (package_occurrence file p.place name)) (λ name. (refl, at.0)) (prefixes p.name))
 
-pub occurrences_at : (region : ℕ → Type 0) (file : ℕ) (d : FileDesc) → AreIn region (places_of d) → AllByRecursion (OccurrenceAt region file) (occurrences_of file d)
+pub occurrences_at : (region : ℕ → Type 0) (file : ℕ) (d : FileDesc) → AreIn region (places_of d)
+    → AllByRecursion (OccurrenceAt region file) (occurrences_of file d)
 occurrences_at region file d at =
     let own = file_at region d at in
     both (OccurrenceAt region file) (package_occurrences file d.«package») (map (declared_occurrence file) (declared_by d))
     (package_occurrences_at region file d.«package» own.package_at)
     (each_map (OccurrenceAt region file) (declared_occurrence file) (declared_by d)
-    (each_weaker (DeclaredAt region) (λ e. OccurrenceAt region file (declared_occurrence file e)) (declared_by d) (λ e w. (refl, w)) (declared_at region d own)))
+    (each_weaker (DeclaredAt region) (λ e. OccurrenceAt region file (declared_occurrence file e)) (declared_by d)
+    (λ e w. (refl, w)) (declared_at region d own)))

@@ -13,7 +13,7 @@ use Rattle.proto_file.specs.declared.error.FileError.TheVariants as fault
 use Rattle.proto_compile.specs.Analysed.{AllZipFrom}
 use Rattle.proto_compile.specs.FaultSet.{SourceFault, TellsOf}
 use Rattle.proto_compile.specs.Faults.{Tells}
-use Rattle.proto_compile.specs.Outcomes.{IsFirstBad, TellsOfFile}
+use Rattle.proto_compile.specs.Outcomes.{IsFirstFound, TellsOfFile}
 use Rattle.proto_compile.specs.Sources.{name_at}
 use Rattle.proto_compile.specs.declared.error.CompileError.{CompileError}
 use Rattle.proto_compile.specs.declared.error.CompileError.TheVariants as errors
@@ -114,7 +114,7 @@ well_at (t ∷ ts) (suc k) d h = well_at ts k d (omega (arith, h))
 pub told_first : {T : Type 0} (number : ℕ) (files : List Source) (outcomes : List (Result T FileError)) (k : ℕ)
     (ts : List T) (o : Result T FileError) (error : FileError) (e : CompileError)
     → TellsOfFile number (name_at files k) error e → map Ok ts ≡ take k outcomes → k < length outcomes
-    → o ≡ get_or outcomes k o → o ≡ Err error → TellsOf (IsFirstBad number files outcomes) e
+    → o ≡ get_or outcomes k o → o ≡ Err error → TellsOf (IsFirstFound number files outcomes) e
 told_first {T = T} number files outcomes k ts o (fault.At step place kind) (errors.First f) t well below at is =
     let none : Result T FileError = Err fault.NoMemory in
     let size : length ts ≡ length (take k outcomes) = sym (length-map ts Ok) ∙ ap length well in

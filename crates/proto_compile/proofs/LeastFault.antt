@@ -1,29 +1,33 @@
 -- The least fault of sources: the least of the first pass that finds any.
-use Rattle.std.proofs.Common.{◌≡◌, ◌∙◌, sym, ℕ, ◌+◌, ◌<◌, ◌≤◌, List, [], length, get_or, ap, refl, subst, arith, inl, inr}
+use Rattle.std.proofs.Common.{◌≡◌, ◌∙◌, sym, ℕ, ◌+◌, ◌<◌, ◌≤◌, List, [], length, get_or, ap, refl, subst, arith, inl, inr, map}
 use Rattle.std.specs.Prelude.{Result, Ok, Err, IfOk, Vec}
 use Rattle.std.specs.declared.alloc.Global.{Global}
-use Rattle.std.proofs.lemmas.Bool.{cases_order}
+use Rattle.std.proofs.lemmas.Bool.{cases_lt, cases_order}
 use Rattle.std.proofs.lemmas.List.{length-map}
 use Rattle.std.proofs.lemmas.List.Sorted.{Contains-permutation, IsPermutation-sym}
 use Rattle.share_work.specs.Shares.{GivesItems}
-use Rattle.proto_base.specs.Least.{spot}
+use Rattle.proto_base.specs.Least.{IsLeastBy, spot}
+use Rattle.proto_base.specs.NameOrder.{NamesRise}
 use Rattle.proto_base.specs.Limits.{limit_of}
 use Rattle.proto_base.specs.declared.kind.Kind.{Kind}
 use Rattle.proto_base.specs.declared.kind.Kind.TheVariants as kind
 use Rattle.proto_base.specs.declared.limits.Limit.TheVariants as limit
 use Rattle.proto_base.specs.declared.limits.Limits.{Limits}
 use Rattle.proto_base.specs.declared.place.Place.{Place}
+use Rattle.proto_base.specs.Sets.{StandsAt}
 use Rattle.proto_desc.specs.declared.file.FileDesc.{FileDesc}
 use Rattle.proto_file.proofs.OneLocal.{no_local, one_local}
 use Rattle.proto_file.specs.Local.{IsLocalFault}
 use Rattle.proto_file.specs.declared.error.FileError.{FileError}
 use Rattle.proto_file.specs.declared.error.FileError.TheVariants as local
+use Rattle.proto_links.proofs.NameRows.{rise_far}
 use Rattle.proto_links.specs.Imports as imports
 use Rattle.proto_links.specs.Bad as bad_imports
 use Rattle.proto_links.specs.Linked.{Linked}
 use Rattle.proto_links.specs.Visible.{Sees}
 use Rattle.proto_names.specs.Index.{Index}
-use Rattle.proto_names.specs.Repeated.{IsRepeated, IsFirstTwice}
+use Rattle.proto_names.specs.Repeated.{IsRepeated}
+use Rattle.proto_names.specs.Occurrences as names
 use Rattle.proto_names.specs.Occurrences.{IsTwice, Occurrence, occurrences}
 use Rattle.proto_types.specs.References.{TypesBreak}
 use Rattle.proto_types.specs.declared.meaning.NamedType.{NamedType}
@@ -31,9 +35,9 @@ use Rattle.wire_bytes.specs.Descriptor.{file_desc_bytes}
 use Rattle.proto_compile.specs.Analysed.{AreResolved, IsAnalysed, TypesBreakAt}
 use Rattle.proto_compile.specs.Compilation.{Compilation, IsWritten, set_of}
 use Rattle.proto_compile.specs.Descriptions.{Describe, SourceDescribes}
-use Rattle.proto_compile.specs.FaultSet.{Breaks, IsLeastFault, IsNoLater, SourceFault, StandsDesc, bad_import, bad_type, fault, file_fault, long_descriptor, long_set, many_files, many_names, of_file, of_list, repeated_file_name, repeated_name, start}
-use Rattle.proto_compile.specs.Faults.{Stands, AreSorted, IsFirstRepeated}
-use Rattle.proto_compile.specs.Outcomes.{IsDescribed, IsFirstBad, IsResolved, IsWrittenShort}
+use Rattle.proto_compile.specs.FaultSet.{Breaks, IsLeastFault, IsNoLater, SourceFault, bad_import, bad_type, fault, file_fault, long_descriptor, long_set, many_files, many_names, of_file, of_list, repeated_file_name, repeated_name, start}
+use Rattle.proto_compile.specs.Faults.{AreSorted, IsFirstRepeated}
+use Rattle.proto_compile.specs.Outcomes.{IsDescribed, IsFirstFound, IsResolved, IsWrittenShort}
 use Rattle.proto_compile.specs.Sources.{AreByName, name_at, name_of, text_of}
 use Rattle.proto_compile.specs.declared.source.Source.{Source}
 use Rattle.proto_compile.proofs.FaultOrder.{later_name, later_pass, later_spot, no_name_first, one_fault, same_later, same_name, same_told}
@@ -42,34 +46,29 @@ pub use Rattle.proto_compile.proofs.NoneBroken.{no_fault_at_all}
 use Rattle.proto_compile.proofs.NoneBroken.{NoneBefore, as_described, none_of_files, none_of_imports, none_of_lengths, none_of_list, none_of_names, none_of_types, one_descs}
 use Rattle.proto_compile.proofs.OneTyping.{break_from_index, break_to_index, item_at, one_resolved, standing_one}
 use Rattle.proto_compile.proofs.Placing.{names_after}
-use Rattle.proto_compile.proofs.Rising.{before_in_order}
 use Rattle.proto_compile.proofs.Sorting.{name_of_item}
 use Rattle.proto_compile.proofs.Twice.{neighbours, two_at, two_moved, up_in_order}
-use Rattle.proto_compile.proofs.Zipping.{bad_inside, contains_second, in_order, resolved_names, same_name_at, same_names, twice_within}
+use Rattle.proto_compile.proofs.Zipping.{bad_inside, contains_second, resolved_names, same_name_at, same_names, twice_within}
 
 -- faults of two files of a list whose names rise
-later_file : (pass : ℕ) (descs : List FileDesc) (a b : ℕ) (p q : Place) (k l : Kind) → bad_imports.AreInNameOrder descs
-    → b < length descs → bad_imports.IsNoLater a p k b q l
+later_file : (pass : ℕ) (descs : List FileDesc) (a b : ℕ) (p q : Place) (k l : Kind)
+    → NamesRise (map imports.name_of descs) → b < length descs → bad_imports.IsNoLater (a, spot p k) (b, spot q l)
     → IsNoLater (of_file pass (imports.name_at descs a) p k) (of_file pass (imports.name_at descs b) q l)
 later_file pass descs a b p q k l rise h (inl less) =
     later_name pass (imports.name_at descs a) (imports.name_at descs b) 0 0 p q k l
-    (before_in_order (imports.name_at descs) (length descs) a b rise less h)
+    (rise_far (map imports.name_of descs) rise a b less (omega (arith, h, length-map descs imports.name_of)))
 later_file pass descs a b p q k l rise h (inr (same, most)) =
     let name = imports.name_at descs a in
     subst (λ i. IsNoLater (of_file pass name p k) (of_file pass (imports.name_at descs i) q l)) same
     (later_spot pass name name 0 p q k l (same_name name) most)
 
 -- of two names that stand twice, the first
-twice_order : (os : List Occurrence) (a : ℕ) (p : Place) (o : Occurrence) → IsFirstTwice os a p → IsTwice os o
-    → bad_imports.IsNoLater a p kind.NameTwice o.file o.place kind.NameTwice
-twice_order os a p o first twice = elim (cases_order a o.file) [
-  | inl same ↦ elim (cases_order p.offset o.place.offset) [
-    | inl at ↦ inr (same, inr (at, omega arith))
-    | inr (inl less) ↦ inr (same, inl less)
-    | inr (inr over) ↦ absurd (first.least o twice (inr (sym same, over)))
-  ]
-  | inr (inl less) ↦ inl less
-  | inr (inr over) ↦ absurd (first.least o twice (inl over))
+twice_order : (a o : Occurrence) → names.IsNoLater a o
+    → bad_imports.IsNoLater (a.file, spot a.place kind.NameTwice) (o.file, spot o.place kind.NameTwice)
+twice_order a o (inl less) = inl less
+twice_order a o (inr (same, most)) = elim (cases_lt a.place.offset o.place.offset) [
+  | inl before ↦ inr (same, inl before)
+  | inr over ↦ inr (same, inr (omega (arith, most, over), omega arith))
 ]
 
 -- a source's outcome, by what it tells
@@ -143,9 +142,9 @@ module _ (limits : Limits) (sources : List Source) where
   -- ---- the sources by themselves
 
   pub local_least : (files : List Source) (k : ℕ) (s : Source) (step : ℕ) (place : Place) (what : Kind)
-      → length sources ≤ limit_of limits limit.Files → AreByName sources files → Stands files k s
+      → length sources ≤ limit_of limits limit.Files → AreByName sources files → StandsAt files k s
       → IsLocalFault limits (name_of s) (text_of s) step place what
-      → ((b : ℕ) (t : Source) → b < k → Stands files b t → (desc : FileDesc) × SourceDescribes limits t desc)
+      → ((b : ℕ) (t : Source) → b < k → StandsAt files b t → (desc : FileDesc) × SourceDescribes limits t desc)
       → IsLeastFault limits sources (fault 1 (name_of s) step place what)
   local_least files k s step place what few order at wrong before =
       let inside = Contains-permutation files sources s (IsPermutation-sym sources files order.all) (k, at.0, at.1) in
@@ -165,7 +164,8 @@ module _ (limits : Limits) (sources : List Source) where
                 same_later (fault 1 (name_of s) step place what) (fault 1 (name_of s) other q l)
                 (same_told 1 1 step other (name_of s) (name_of s) place q what l refl refl one.0 one.1 one.2)) also)
             | inr (inl less) ↦ (
-                let rise = before_in_order (name_at files) (length files) k b order.rises less below in
+                let inside : b < length (map name_of files) = omega (arith, below, length-map files name_of) in
+                let rise = rise_far (map name_of files) order.rises k b less inside in
                 later_name 1 (name_of s) (name_of t) step other place q what l
                 (rw (← name_of_item files k s at.0 (sym at.1), ← name_of_item files b t below (sym is)) rise))
             | inr (inr over) ↦ (
@@ -176,14 +176,14 @@ module _ (limits : Limits) (sources : List Source) where
 
   pub first_local : (files : List Source) (outcomes : List (Result FileDesc FileError))
       → length sources ≤ limit_of limits limit.Files → AreByName sources files
-      → GivesItems (λ k. IsDescribed limits) 0 files outcomes → (x : SourceFault) → IsFirstBad 1 files outcomes x
+      → GivesItems (λ k. IsDescribed limits) 0 files outcomes → (x : SourceFault) → IsFirstFound 1 files outcomes x
       → IsLeastFault limits sources x
   first_local files outcomes few order gives x f =
       let none : Result FileDesc FileError = Err local.NoMemory in
       let (s, at) = item_at files f.at (omega (arith, f.below, gives.0)) in
       let wrong = given_at (λ k. IsDescribed limits) files outcomes f.at s none (Err (local.At f.step f.place f.what))
       gives at.0 at.1 f.bad in
-      let before : (b : ℕ) (t : Source) → b < f.at → Stands files b t
+      let before : (b : ℕ) (t : Source) → b < f.at → StandsAt files b t
       → (desc : FileDesc) × SourceDescribes limits t desc = λ b t less there. (
         (f.well b less).0,
         given_at (λ k. IsDescribed limits) files outcomes b t none (Ok (f.well b less).0) gives there.0 there.1
@@ -200,7 +200,7 @@ module _ (limits : Limits) (sources : List Source) where
       → IsLeastFault limits sources (of_file 2 (imports.name_at descs a) place what)
   import_least files descs a place what d first =
       least_of (of_file 2 (imports.name_at descs a) place what)
-      (bad_import descs a place what (as_described limits sources files descs d) first.bad)
+      (bad_import descs a place what (as_described limits sources files descs d) first.among)
       (none_of_files limits sources files descs d) own
     where
       own : (y : SourceFault) → Breaks limits sources y → y.pass ≡ 2
@@ -210,8 +210,8 @@ module _ (limits : Limits) (sources : List Source) where
           → IsNoLater (of_file 2 (imports.name_at descs a) place what) (of_file 2 (imports.name_at ds b) q l) in
           let one = one_descs limits sources descs others (as_described limits sources files descs d) described in
           subst Later one (λ own. later_file 2 descs a b place q what l
-          (in_order files descs (same_names limits files descs d.each) d.by_name.rises)
-          (bad_inside descs b q l own) (first.least b q l own)) bad
+          (subst NamesRise (sym (same_names limits files descs d.each)) d.by_name.rises)
+          (bad_inside descs b q l own) (first.least (b, spot q l) own)) bad
       own y breaks same = absurd (omega (arith, same))
 
   -- ---- names
@@ -237,35 +237,34 @@ module _ (limits : Limits) (sources : List Source) where
       → Describe limits sources files descs → imports.NoneBad descs → IsRepeated descs limits a place
       → IsLeastFault limits sources (of_file 3 (imports.name_at descs a) place kind.NameTwice)
   name_twice_least files descs a place d whole repeated =
-      least_of (of_file 3 (imports.name_at descs a) place kind.NameTwice) breaks
-      (none_of_imports limits sources files descs d whole) own
+      let (o, first, file, at) = repeated.twice in
+      rw (← file, ← at) (least_of (told o)
+      (repeated_name descs o (as_described limits sources files descs d) first.among)
+      (none_of_imports limits sources files descs d whole) (own o first))
     where
-      breaks : Breaks limits sources (of_file 3 (imports.name_at descs a) place kind.NameTwice)
-      breaks =
-          let (o, twice, file, at) = repeated.twice.found in
-          rw (← file, ← at) (repeated_name descs o (as_described limits sources files descs d) twice)
+      told : Occurrence → SourceFault
+      told o = of_file 3 (imports.name_at descs o.file) o.place kind.NameTwice
 
-      own : (y : SourceFault) → Breaks limits sources y → y.pass ≡ 3
-          → IsNoLater (of_file 3 (imports.name_at descs a) place kind.NameTwice) y
-      own _ (many_names others described over) same =
+      own : (o : Occurrence) → IsLeastBy names.IsNoLater (IsTwice (occurrences descs)) o → (y : SourceFault)
+          → Breaks limits sources y → y.pass ≡ 3 → IsNoLater (told o) y
+      own o first _ (many_names others described over) same =
           let same = one_descs limits sources others descs described (as_described limits sources files descs d) in
           let number = ap (λ (ds : List FileDesc). length (occurrences ds)) same in
           absurd (omega (arith, over, repeated.within, number))
-      own _ (repeated_name others o described twice) same =
-          let Later : List FileDesc → Type 0 = λ ds. IsTwice (occurrences ds) o
-          → IsNoLater (of_file 3 (imports.name_at descs a) place kind.NameTwice)
-          (of_file 3 (imports.name_at ds o.file) o.place kind.NameTwice) in
+      own o first _ (repeated_name others p described twice) same =
+          let Later : List FileDesc → Type 0 = λ ds. IsTwice (occurrences ds) p
+          → IsNoLater (told o) (of_file 3 (imports.name_at ds p.file) p.place kind.NameTwice) in
           let one = one_descs limits sources descs others (as_described limits sources files descs d) described in
-          subst Later one (λ own. later_file 3 descs a o.file place o.place kind.NameTwice kind.NameTwice
-          (in_order files descs (same_names limits files descs d.each) d.by_name.rises) (twice_within descs o own)
-          (twice_order (occurrences descs) a place o repeated.twice own)) twice
-      own y breaks same = absurd (omega (arith, same))
+          subst Later one (λ own. later_file 3 descs o.file p.file o.place p.place kind.NameTwice kind.NameTwice
+          (subst NamesRise (sym (same_names limits files descs d.each)) d.by_name.rises) (twice_within descs p own)
+          (twice_order o p (first.least p own))) twice
+      own o first y breaks same = absurd (omega (arith, same))
 
   -- ---- types
 
   pub first_break : (files : List Source) (descs : List FileDesc) (links : Linked) (index : Index)
       (outcomes : List (Result (Vec NamedType Global) FileError)) → IsAnalysed limits sources files descs links index
-      → GivesItems (IsResolved links index) 0 descs outcomes → (x : SourceFault) → IsFirstBad 4 files outcomes x
+      → GivesItems (IsResolved links index) 0 descs outcomes → (x : SourceFault) → IsFirstFound 4 files outcomes x
       → IsLeastFault limits sources x
   first_break files descs links index outcomes is gives x f =
       let described = as_described limits sources files descs is.described in
@@ -282,13 +281,13 @@ module _ (limits : Limits) (sources : List Source) where
       first : SourceFault
       first = of_file 4 (imports.name_at descs f.at) f.place f.what
 
-      outcome : (b : ℕ) (desc : FileDesc) (o : Result (Vec NamedType Global) FileError) → StandsDesc descs b desc
+      outcome : (b : ℕ) (desc : FileDesc) (o : Result (Vec NamedType Global) FileError) → StandsAt descs b desc
           → get_or outcomes b (Err local.NoMemory) ≡ o → IsResolved links index b desc o
       outcome b desc o at =
           given_at (IsResolved links index) descs outcomes b desc (Err local.NoMemory) o gives at.0 at.1
 
-      order : (b : ℕ) (desc : FileDesc) (q : Place) (l : Kind) → StandsDesc descs b desc
-          → TypesBreakAt links index b desc (spot q l) → bad_imports.IsNoLater f.at f.place f.what b q l
+      order : (b : ℕ) (desc : FileDesc) (q : Place) (l : Kind) → StandsAt descs b desc
+          → TypesBreakAt links index b desc (spot q l) → bad_imports.IsNoLater (f.at, spot f.place f.what) (b, spot q l)
       order b desc q l at wrong = elim (cases_order f.at b) [
         | inl here ↦ (
             let bad = ap (λ i. get_or outcomes i (Err local.NoMemory)) (sym here) ∙ f.bad in
@@ -302,11 +301,11 @@ module _ (limits : Limits) (sources : List Source) where
       own : (y : SourceFault) → Breaks limits sources y → y.pass ≡ 4 → IsNoLater first y
       own _ (bad_type others b desc q l also stands breaks) same =
           let Later : List FileDesc → Type 0 = λ ds.
-          StandsDesc ds b desc → TypesBreak (occurrences ds) (Sees ds b) desc (spot q l)
+          StandsAt ds b desc → TypesBreak (occurrences ds) (Sees ds b) desc (spot q l)
           → IsNoLater first (of_file 4 (imports.name_at ds b) q l) in
           let d = is.described in
           let one = one_descs limits sources descs others (as_described limits sources files descs d) also in
-          let rise = in_order files descs (same_names limits files descs d.each) d.by_name.rises in
+          let rise = subst NamesRise (sym (same_names limits files descs d.each)) d.by_name.rises in
           subst Later one (λ at own. later_file 4 descs f.at b f.place q f.what l rise at.0 (order b desc q l at
           (break_to_index limits descs links index is.linked is.indexed b desc (spot q l) at.0 own))) stands breaks
       own y breaks same = absurd (omega (arith, same))
@@ -315,7 +314,7 @@ module _ (limits : Limits) (sources : List Source) where
 
   pub first_long : (files : List Source) (typed : List FileDesc) (links : Linked) (index : Index)
       (outcomes : List (Result (Vec ℕ Global) FileError)) → AreResolved limits sources files typed links index
-      → GivesItems (λ k. IsWrittenShort limits) 0 typed outcomes → (x : SourceFault) → IsFirstBad 5 files outcomes x
+      → GivesItems (λ k. IsWrittenShort limits) 0 typed outcomes → (x : SourceFault) → IsFirstFound 5 files outcomes x
       → IsLeastFault limits sources x
   first_long files typed links index outcomes r gives x f =
       let (desc, at) = item_at typed f.at (omega (arith, f.below, gives.0)) in
@@ -329,14 +328,14 @@ module _ (limits : Limits) (sources : List Source) where
       first : SourceFault
       first = of_file 5 (imports.name_at typed f.at) start kind.DescriptorTooLong
 
-      outcome : (b : ℕ) (desc : FileDesc) (o : Result (Vec ℕ Global) FileError) → StandsDesc typed b desc
+      outcome : (b : ℕ) (desc : FileDesc) (o : Result (Vec ℕ Global) FileError) → StandsAt typed b desc
           → get_or outcomes b (Err local.NoMemory) ≡ o → IsWrittenShort limits desc o
       outcome b desc o at =
           given_at (λ k. IsWrittenShort limits) typed outcomes b desc (Err local.NoMemory) o gives at.0 at.1
 
-      order : (b : ℕ) (desc : FileDesc) → StandsDesc typed b desc
+      order : (b : ℕ) (desc : FileDesc) → StandsAt typed b desc
           → limit_of limits limit.DescriptorBytes < length (file_desc_bytes desc)
-          → bad_imports.IsNoLater f.at start kind.DescriptorTooLong b start kind.DescriptorTooLong
+          → bad_imports.IsNoLater (f.at, spot start kind.DescriptorTooLong) (b, spot start kind.DescriptorTooLong)
       order b desc at long = elim (cases_order f.at b) [
         | inl here ↦ inr (here, inr (refl, omega arith))
         | inr (inl less) ↦ inl less
@@ -348,10 +347,10 @@ module _ (limits : Limits) (sources : List Source) where
       own : (y : SourceFault) → Breaks limits sources y → y.pass ≡ 5 → IsNoLater first y
       own _ (long_descriptor others also links' index' b desc resolved stands over) same =
           let one = one_resolved limits sources files others typed also links links' index index' r resolved in
-          let Later : List FileDesc → Type 0 = λ ds. StandsDesc ds b desc
+          let Later : List FileDesc → Type 0 = λ ds. StandsAt ds b desc
           → IsNoLater first (of_file 5 (imports.name_at ds b) start kind.DescriptorTooLong) in
           subst Later one.1 (λ at. later_file 5 typed f.at b start start kind.DescriptorTooLong kind.DescriptorTooLong
-          (in_order files typed (resolved_names r) r.analysed.described.by_name.rises) at.0 (order b desc at over))
+          (subst NamesRise (sym (resolved_names r)) r.analysed.described.by_name.rises) at.0 (order b desc at over))
           stands
       own y breaks same = absurd (omega (arith, same))
 

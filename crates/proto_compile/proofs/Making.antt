@@ -6,6 +6,7 @@ use Rattle.std.specs.declared.alloc.Global.{Global}
 use Rattle.std.proofs.lemmas.Bool.{true≢false, cases_lt}
 use Rattle.std.proofs.lemmas.List.{length-map}
 use Rattle.proto_desc.specs.declared.file.FileDesc.{FileDesc}
+use Rattle.proto_links.specs.Imports as imports
 use Rattle.proto_links.specs.Linked.{AreLinked, Linked, count_of}
 use Rattle.proto_names.specs.Index.{Index, Indexes, services_of}
 use Rattle.proto_base.specs.Limits.{limit_of}
@@ -40,11 +41,6 @@ resolved_of {limits = limits} {descs = descs} {links = links} {index = index} fe
       each = typed;
     }
 
--- one file for each source
-pub as_many : (sorted : List Source) (files : List CompiledFile) → map file_name files ≡ map name_of sorted
-    → length files ≡ length sorted
-as_many sorted files names = omega (arith, ap length names, length-map files file_name, length-map sorted name_of)
-
 -- what links and the index count, and what set order has
 pub counts : (limits : Limits) (sources sorted : List Source) (descs : List FileDesc) (links : Linked) (index : Index)
     (files : List CompiledFile) → AreResolved limits sources sorted descs links index
@@ -53,7 +49,7 @@ pub counts : (limits : Limits) (sources sorted : List Source) (descs : List File
 counts limits sources sorted descs links index files resolved names =
     let is = resolved.analysed in
     let size = zipped.same_length limits sorted resolved.descs is.described.each in
-    let many = as_many sorted files names in (
+    let many = zipped.as_many file_name name_of files sorted names in (
       omega (arith, size, many, is.linked.count),
       omega (arith, size, many, is.indexed.files),
       λ a has. omega (arith, size, many, (is.linked.order.every a).0 has),
@@ -62,7 +58,8 @@ counts limits sources sorted descs links index files resolved names =
 -- as many descriptors as sources
 pub descs_for_each : {limits : Limits} {sources sorted : List Source} {descs : List FileDesc} {links : Linked}
     {index : Index} → AreResolved limits sources sorted descs links index → length sorted ≡ length descs
-descs_for_each {sorted = sorted} {descs = descs} r = zipped.as_many sorted descs (zipped.resolved_names r)
+descs_for_each {sorted = sorted} {descs = descs} r =
+    zipped.as_many name_of imports.name_of sorted descs (sym (zipped.resolved_names r))
 
 -- what is written of them, where the last passes take what those gave
 pub written_of : {limits : Limits} {sources sorted named : List Source} {descs : List FileDesc} {links : Linked}

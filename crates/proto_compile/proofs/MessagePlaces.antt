@@ -1,5 +1,5 @@
 -- What a message declares and refers to stands at its places.
-use Rattle.std.proofs.Common.{◌≡◌, sym, subst, ℕ, ◌≤◌, List, [], ◌∷◌, ◌++◌, map}
+use Rattle.std.proofs.Common.{◌≡◌, sym, subst, ℕ, List, [], ◌∷◌, ◌++◌, map}
 use Rattle.std.specs.Prelude.{flat_map}
 use Rattle.std.specs.List.{AllByRecursion}
 use Rattle.proto_desc.specs.DeclaredNames.{Declared, declared_field, declared_oneof, declared_value, declared_by_enum, declared_by_message}
@@ -52,7 +52,8 @@ pub type_at : (region : ℕ → Type 0) (scope : List ℕ) (wanted : Want) (opti
 type_at region scope wanted options (Spelled text place) at set = ((at.0, set), tt)
 type_at region scope wanted options (Resolved full_name what) at set = tt
 
-kind_at : (region : ℕ → Type 0) (scope : List ℕ) (options : List OptionDesc) (k : FieldKind) → AreIn region (kind_places k) → AllByRecursion (OptionAt region) options
+kind_at : (region : ℕ → Type 0) (scope : List ℕ) (options : List OptionDesc) (k : FieldKind)
+    → AreIn region (kind_places k) → AllByRecursion (OptionAt region) options
     → AllByRecursion (ReferenceAt region) (references_of_kind scope options k)
 kind_at region scope options (Scalar s) at set = tt
 kind_at region scope options (Named r) at set = type_at region scope want.AnyType options r at set
@@ -92,18 +93,21 @@ own_at region m at =
           at.1;
     }
 
-own_declared_at : (region : ℕ → Type 0) (scope : List ℕ) (m : MessageDesc) → OwnAt region (out-MessageDesc m) → AllByRecursion (DeclaredAt region) (declared_before m scope)
+own_declared_at : (region : ℕ → Type 0) (scope : List ℕ) (m : MessageDesc) → OwnAt region (out-MessageDesc m)
+    → AllByRecursion (DeclaredAt region) (declared_before m scope)
 own_declared_at region scope m own =
     let fields = each_map (DeclaredAt region) (declared_field (scope_in m scope)) (out-MessageDesc m).fields
     (each_weaker (FieldWithin region) (λ (f : FieldDesc). IsIn region f.place) (out-MessageDesc m).fields (λ f at. at.0) own.fields) in
     let oneofs = each_map (DeclaredAt region) (declared_oneof (scope_in m scope)) (out-MessageDesc m).oneofs own.oneofs in
-    let enums = each_given (EnumWithin region) (DeclaredAt region) (declared_by_enum (scope_in m scope)) (out-MessageDesc m).enums (enum_at region (scope_in m scope)) own.enums in
+    let enums = each_given (EnumWithin region) (DeclaredAt region) (declared_by_enum (scope_in m scope))
+    (out-MessageDesc m).enums (enum_at region (scope_in m scope)) own.enums in
     (own.place, both (DeclaredAt region) _ _ (both (DeclaredAt region) _ _ fields oneofs) enums)
 
 abbrev pub MessageAt : (ℕ → Type 0) → MessageDesc → Type 0
 MessageAt region m = AreIn region (message_places m) → (scope : List ℕ) → AreAt region (declared_by_message m scope) (references_by_message m scope)
 
-pub messages_at : (region : ℕ → Type 0) (scope : List ℕ) (ms : List MessageDesc) → AllByRecursion (MessageAt region) ms → AreIn region (flat_map message_places ms)
+pub messages_at : (region : ℕ → Type 0) (scope : List ℕ) (ms : List MessageDesc) → AllByRecursion (MessageAt region) ms
+    → AreIn region (flat_map message_places ms)
     → AreAt region (flat_map (λ m. declared_by_message m scope) ms) (flat_map (λ m. references_by_message m scope) ms)
 messages_at region scope [] each at = (tt, tt)
 messages_at region scope (m ∷ ms) each at =
@@ -116,7 +120,8 @@ message_out : (region : ℕ → Type 0) (m : MessageDesc) → AllByRecursion (Me
 message_out region m each at scope =
     let own = own_at region (out-MessageDesc m) (subst (AreIn region) (places_out m) at) in
     let nested = messages_at region (scope_in m scope) (out-MessageDesc m).nested each own.nested in
-    let references = each_given (FieldWithin region) (ReferenceAt region) (references_of_field (field_scope scope (out-MessageDesc m))) (out-MessageDesc m).fields
+    let references = each_given (FieldWithin region) (ReferenceAt region)
+    (references_of_field (field_scope scope (out-MessageDesc m))) (out-MessageDesc m).fields
     (field_at region (field_scope scope (out-MessageDesc m))) own.fields in (
       subst (AllByRecursion (DeclaredAt region)) (sym (declared_out m scope))
           (both (DeclaredAt region) (declared_before m scope) _ (own_declared_at region scope m own) nested.0),
@@ -129,8 +134,8 @@ Known region = (m : MessageDesc) × MessageAt region m
 known_at : (region : ℕ → Type 0) (ys : List (Known region)) → AllByRecursion (MessageAt region) (map (λ e. e.0) ys)
 known_at region ys = each_map (MessageAt region) (λ (e : Known region). e.0) ys (each_of (λ (e : Known region). MessageAt region e.0) (λ e. e.1) ys)
 
-message_step : (region : ℕ → Type 0) (x : MessageDesc-F MessageDesc) (y : MessageDesc-F (Known region)) → map-MessageDesc (Known region) MessageDesc (λ e. e.0) y ≡ x
-    → MessageAt region (roll-MessageDesc x)
+message_step : (region : ℕ → Type 0) (x : MessageDesc-F MessageDesc) (y : MessageDesc-F (Known region))
+    → map-MessageDesc (Known region) MessageDesc (λ e. e.0) y ≡ x → MessageAt region (roll-MessageDesc x)
 message_step region x y e = message_out region (roll-MessageDesc x)
     (subst (λ (m : MessageDesc-F MessageDesc). AllByRecursion (MessageAt region) m.nested) (sym (out-roll-MessageDesc x))
     (subst (λ (m : MessageDesc-F MessageDesc). AllByRecursion (MessageAt region) m.nested) e (known_at region y.nested)))

@@ -3,12 +3,14 @@ use Rattle.std.proofs.Common.{◌≡◌, sym, ℕ, ◌<◌, ◌≤◌, List, len
 use Rattle.std.specs.List.{All}
 use Rattle.std.specs.Cmp.Lexicographic.{slice_cmp}
 use Rattle.std.specs.Ordering.{nat_cmp}
+use Rattle.std.proofs.lemmas.List.{length-map}
 use Rattle.std.proofs.lemmas.List.Elements.{All-contains}
 use Rattle.std.proofs.lemmas.List.Sorted.{Contains-permutation}
 use Rattle.proto_base.specs.Least.{spot}
 use Rattle.proto_base.specs.Limits.{limit_of}
 use Rattle.proto_base.specs.declared.limits.Limit.TheVariants as limit
 use Rattle.proto_base.specs.declared.limits.Limits.{Limits}
+use Rattle.proto_base.specs.Sets.{StandsAt}
 use Rattle.proto_desc.specs.declared.file.FileDesc.{FileDesc}
 use Rattle.proto_file.proofs.OneLocal.{no_local}
 use Rattle.proto_links.proofs.NameRows.{not_less_itself}
@@ -21,7 +23,7 @@ use Rattle.proto_types.specs.References.{TypesBreak}
 use Rattle.proto_compile.specs.Analysed.{AreResolved, IsAnalysed}
 use Rattle.proto_compile.specs.Compilation.{Compilation, IsCompiled, IsShort, IsWritten}
 use Rattle.proto_compile.specs.Descriptions.{Describe, SourceDescribes}
-use Rattle.proto_compile.specs.FaultSet.{AreDescribed, Breaks, SourceFault, StandsDesc, bad_import, bad_type, file_fault, long_descriptor, long_set, many_files, many_names, repeated_file_name, repeated_name}
+use Rattle.proto_compile.specs.FaultSet.{AreDescribed, Breaks, SourceFault, bad_import, bad_type, file_fault, long_descriptor, long_set, many_files, many_names, repeated_file_name, repeated_name}
 use Rattle.proto_compile.specs.Sources.{AreByName, name_at, name_of, text_of}
 use Rattle.proto_compile.specs.Faults.{AreSorted}
 use Rattle.proto_compile.specs.declared.source.Source.{Source}
@@ -50,12 +52,13 @@ module _ (limits : Limits) (sources : List Source) where
       → NoneBefore 1
   none_of_list files few order _ (many_files over) less = omega (arith, few, over)
   none_of_list files few order _ (repeated_file_name i j before below same) less =
+      let size = length-map files name_of in
       let sorted : AreSorted sources files =
-      record { all = order.all; rises = λ k h. less_greater _ (order.rises k h) } in
+      record { all = order.all; rises = λ k h. less_greater _ (order.rises k (omega (arith, h, size))) } in
       let (k, inside, name, next) = neighbours sources files (name_at sources i) sorted
       (two_at sources i j before below same) in
       not_less_itself (name_at files k) (subst (λ (n : List ℕ). slice_cmp nat_cmp (name_at files k) n ≡ Less) (sym next)
-      (order.rises k inside))
+      (order.rises k (omega (arith, inside, size))))
   none_of_list files few order y breaks less = omega (arith, less)
 
   pub none_of_files : (files : List Source) (descs : List FileDesc) → Describe limits sources files descs → NoneBefore 2
@@ -90,7 +93,7 @@ module _ (limits : Limits) (sources : List Source) where
       → AreResolved limits sources files typed links index → NoneBefore 5
   none_of_types files typed links index r _ (bad_type others a desc place what described stands breaks) less =
       let is = r.analysed in
-      let Wrong : List FileDesc → Type 0 = λ ds. StandsDesc ds a desc
+      let Wrong : List FileDesc → Type 0 = λ ds. StandsAt ds a desc
       → TypesBreak (occurrences ds) (Sees ds a) desc (spot place what) → ⊥ in
       subst Wrong (one_descs r.descs others (as_described files r.descs is.described) described) (λ at own.
       (typed_at links index r.descs typed r.each a desc at).1.whole (spot place what)

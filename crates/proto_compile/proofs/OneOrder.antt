@@ -1,16 +1,18 @@
 -- Sources have one order by name, and names one sorted list.
-use Rattle.std.proofs.Common.{◌≡◌, ◌≢◌, ◌∙◌, sym, ℕ, ◌+◌, List, [], ◌∷◌, get_or, ap, refl, subst, arith, Ordering, Less, Equal, Greater}
+use Rattle.std.proofs.Common.{◌≡◌, ◌≢◌, ◌∙◌, sym, ℕ, ◌+◌, List, [], ◌∷◌, get_or, ap, refl, subst, arith, Ordering, Less, Equal, Greater, map}
 use Rattle.std.specs.Prelude.{Bool, true, false, if◌then◌else◌, Contains, IsPermutation}
 use Rattle.std.specs.Cmp.Lexicographic.{slice_cmp}
 use Rattle.std.specs.List.{sum_by}
 use Rattle.std.specs.Ordering.{nat_cmp, is_gt, ordering_reverse}
 use Rattle.std.proofs.lemmas.Cmp.{nat_list_cmp_total, tied_itself, upto}
+use Rattle.std.proofs.lemmas.List.{length-map}
 use Rattle.std.proofs.lemmas.List.Sorted.{Contains-permutation, IsPermutation-sym}
 use Rattle.std.proofs.lemmas.List.Sums.{sum_by-cons}
 use Rattle.std.proofs.lemmas.Map.Lookups.{exact_bytes}
+use Rattle.proto_base.specs.NameOrder.{NamesRise}
 use Rattle.proto_links.proofs.NameRows.{not_less_itself}
 use Rattle.proto_links.proofs.Rising.{IsStrict, Rises, first_two, one_rising, rest_rises}
-use Rattle.proto_compile.specs.Sources.{AreByName, NamesRise, name_at, name_of}
+use Rattle.proto_compile.specs.Sources.{AreByName, name_at, name_of}
 use Rattle.proto_compile.specs.declared.source.Source.{Source}
 use Rattle.proto_compile.proofs.Sorting.{name_is}
 
@@ -25,10 +27,11 @@ names_strict = record {
   trans = λ a b c. nat_list_cmp_total.trans (name_of a) (name_of b) (name_of c);
 }
 
-sources_rise : (files : List Source) → NamesRise files → Rises IsNameBefore files
+sources_rise : (files : List Source) → NamesRise (map name_of files) → Rises IsNameBefore files
 sources_rise files up k d h =
     subst (λ n. slice_cmp nat_cmp n (name_of (get_or files (k + 1) d)) ≡ Less) (name_is files k d (omega (arith, h)))
-    (subst (λ n. slice_cmp nat_cmp (name_at files k) n ≡ Less) (name_is files (k + 1) d h) (up k h))
+    (subst (λ n. slice_cmp nat_cmp (name_at files k) n ≡ Less) (name_is files (k + 1) d h)
+    (up k (omega (arith, h, length-map files name_of))))
 
 -- members of one order of a list are members of another one
 pub moved : {X : Type 0} (xs ys zs : List X) → IsPermutation xs ys → IsPermutation xs zs → (x : X) → Contains ys x

@@ -7,6 +7,7 @@ use Rattle.std.proofs.lemmas.List.Sorted.{Contains-permutation, IsPermutation-sy
 use Rattle.proto_base.specs.Sets.{StandsAt}
 use Rattle.proto_base.specs.declared.spot.Spot.{Spot}
 use Rattle.proto_desc.specs.DeclaredNames.{file_scope}
+use Rattle.proto_base.specs.Sets.{StandsAt}
 use Rattle.proto_desc.specs.declared.file.FileDesc.{FileDesc}
 use Rattle.proto_links.specs.Linked.{AreLinked, Linked}
 use Rattle.proto_links.specs.Visible.{Sees}
@@ -20,7 +21,6 @@ use Rattle.proto_types.proofs.Unique.{breaks_alike, file_same}
 use Rattle.proto_types.specs.References.{TypesBreak}
 use Rattle.proto_compile.specs.Analysed.{AreResolved, AreTypedFrom, IsAnalysed, TypesAt, TypesBreakAt}
 use Rattle.proto_compile.specs.Descriptions.{Describe, SourceDescribes}
-use Rattle.proto_compile.specs.FaultSet.{StandsDesc}
 use Rattle.proto_compile.specs.Sources.{AreByName, name_of, text_of}
 use Rattle.proto_compile.specs.declared.source.Source.{Source}
 use Rattle.proto_file.proofs.OneLocal.{one_descriptor}
@@ -156,11 +156,11 @@ one_resolved limits sources f g ds es links others index other first second =
 -- ---- what is wrong with types
 
 pub typed_at : (links : Linked) (index : Index) (fs gs : List FileDesc) → AreTypedFrom links index 0 fs gs → (a : ℕ)
-    (desc : FileDesc) → StandsDesc fs a desc → (g : FileDesc) × TypesAt links index a desc g
+    (desc : FileDesc) → StandsAt fs a desc → (g : FileDesc) × TypesAt links index a desc g
 typed_at links index fs gs all a desc at = from 0 fs gs all a (omega arith) at
   where
     from : (first : ℕ) (fs gs : List FileDesc) → AreTypedFrom links index first fs gs → (k : ℕ) → first + k ≡ a
-        → StandsDesc fs k desc → (g : FileDesc) × TypesAt links index a desc g
+        → StandsAt fs k desc → (g : FileDesc) × TypesAt links index a desc g
     from first [] gs all k e at = absurd (omega (arith, at.0))
     from first (f ∷ fs) [] all k e at = absurd all
     from first (f ∷ fs) (g ∷ gs) all zero e at =

@@ -10,6 +10,7 @@ use Rattle.proto_base.specs.declared.kind.Kind.{Kind}
 use Rattle.proto_base.specs.declared.limits.Limits.{Limits}
 use Rattle.proto_base.specs.declared.place.Place.{Place}
 use Rattle.proto_desc.specs.Places.{places_of}
+use Rattle.proto_base.specs.Sets.{StandsAt}
 use Rattle.proto_desc.specs.declared.file.FileDesc.{FileDesc}
 use Rattle.proto_desc.specs.declared.file.ImportDesc.{ImportDesc}
 use Rattle.proto_file.specs.Places.{AtMost}
@@ -21,8 +22,7 @@ use Rattle.proto_file.proofs.Spots.{Placed, SpotWithin, at_spot, each_within, st
 use Rattle.proto_names.specs.Occurrences.{Occurrence, occurrences_of, occurrences, occurrences_from}
 use Rattle.proto_types.specs.References.{Reference, ReferenceBreaks, TypesBreak, references}
 use Rattle.proto_compile.specs.Descriptions.{SourceDescribes}
-use Rattle.proto_compile.specs.FaultSet.{AreDescribed, Breaks, IsPlaced, SourceFault, StandsDesc, bad_import, bad_type, file_fault, long_descriptor, long_set, many_files, many_names, repeated_file_name, repeated_name, start}
-use Rattle.proto_compile.specs.Faults.{Stands}
+use Rattle.proto_compile.specs.FaultSet.{AreDescribed, Breaks, IsPlaced, SourceFault, bad_import, bad_type, file_fault, long_descriptor, long_set, many_files, many_names, repeated_file_name, repeated_name, start}
 use Rattle.proto_compile.specs.Sources.{AreByName, name_at, name_of, text_of}
 use Rattle.proto_compile.specs.declared.source.Source.{Source}
 use Rattle.proto_compile.proofs.DescPlaces.{OccurrenceAt, imports_at, occurrences_at, references_at}
@@ -38,7 +38,7 @@ use Rattle.proto_compile.proofs.Zipping.{as_many, bad_inside, contains_second, r
 
 pub described_at : (limits : Limits) (files : List Source) (descs : List FileDesc)
     → AllZip (SourceDescribes limits) files descs → (a : ℕ) (desc : FileDesc)
-    → StandsDesc descs a desc → (s : Source) × Stands files a s × SourceDescribes limits s desc
+    → StandsAt descs a desc → (s : Source) × StandsAt files a s × SourceDescribes limits s desc
 described_at limits [] [] all a desc at = absurd (omega (arith, at.0))
 described_at limits [] (d ∷ descs) all a desc at = absurd all
 described_at limits (s ∷ files) [] all a desc at = absurd all
@@ -54,11 +54,11 @@ LiesWith desc place = (n : ℕ) → AtMost n (places_of desc) → Placed n place
 
 -- ---- imports
 
-imports_are : (descs : List FileDesc) (a : ℕ) (desc : FileDesc) → StandsDesc descs a desc
+imports_are : (descs : List FileDesc) (a : ℕ) (desc : FileDesc) → StandsAt descs a desc
     → imports.imports_at descs a ≡ desc.imports
 imports_are descs a desc at = get_or-map imports.imports_of descs a desc [] at.0 ∙ ap imports.imports_of at.1
 
-bad_placed : (descs : List FileDesc) (a : ℕ) (desc : FileDesc) (place : Place) (kind : Kind) → StandsDesc descs a desc
+bad_placed : (descs : List FileDesc) (a : ℕ) (desc : FileDesc) (place : Place) (kind : Kind) → StandsAt descs a desc
     → imports.IsBad descs a place kind → LiesWith desc place
 bad_placed descs a desc place kind at (i, here, is, wrong) n all =
     let (k, below, there) = subst (λ (is : List ImportDesc). Contains is i) (imports_are descs a desc at) here in
@@ -68,7 +68,7 @@ bad_placed descs a desc place kind at (i, here, is, wrong) n all =
 -- ---- names
 
 pub occurrence_in : (first : ℕ) (descs : List FileDesc) (o : Occurrence) → Contains (occurrences_from first descs) o
-    → (k : ℕ) × (desc : FileDesc) × StandsDesc descs k desc × Contains (occurrences_of (first + k) desc) o
+    → (k : ℕ) × (desc : FileDesc) × StandsAt descs k desc × Contains (occurrences_of (first + k) desc) o
 occurrence_in first [] o (j, inside, is) = absurd (omega (arith, inside))
 occurrence_in first (d ∷ descs) o here =
     elim (Contains-append_cases (occurrences_of first d) (occurrences_from (first + 1) descs) o here) [
@@ -140,7 +140,7 @@ module _ (limits : Limits) (sources : List Source) where
   of_files files order s = Contains-permutation files sources s (IsPermutation-sym sources files order.all)
 
   in_desc : (n : ℕ) → NoneBefore limits sources (suc n) → (descs : List FileDesc) (a : ℕ) (desc : FileDesc)
-      (place : Place) → AreDescribed limits sources descs → StandsDesc descs a desc → LiesWith desc place
+      (place : Place) → AreDescribed limits sources descs → StandsAt descs a desc → LiesWith desc place
       → IsPlaced limits sources (imports.name_at descs a) place
   in_desc n none descs a desc place d at inside =
       let (s, there, is) = described_at limits d.files descs d.each a desc at in
@@ -186,5 +186,5 @@ module _ (limits : Limits) (sources : List Source) where
       let names = resolved_names r in
       subst (λ (n : List ℕ). IsPlaced limits sources n start) (same_name_at files typed a names)
       (at_start_of files a (of_files files r.analysed.described.by_name)
-      (omega (arith, at.0, as_many files typed names)))
+      (omega (arith, at.0, as_many imports.name_of name_of typed files names)))
   placed _ (long_set c written over) none = at_start [] (inl refl)

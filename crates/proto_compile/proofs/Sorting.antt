@@ -5,7 +5,7 @@ use Rattle.std.specs.Cmp.Lexicographic.{slice_cmp}
 use Rattle.std.specs.Ordering.{nat_cmp, is_lt, ordering_reverse}
 use Rattle.std.proofs.lemmas.Bool.{true≢false, cases_lt}
 use Rattle.std.proofs.lemmas.Cmp.{nat_list_cmp_total}
-use Rattle.std.proofs.lemmas.List.{get_or-map}
+use Rattle.std.proofs.lemmas.List.{get_or-map, length-map}
 use Rattle.std.proofs.lemmas.Map.Lookups.{exact_bytes}
 use Rattle.proto_compile.specs.Sources.{AreByName, name_at, name_of}
 use Rattle.proto_compile.specs.Faults.{AreSorted, IsFirstRepeated}
@@ -34,7 +34,8 @@ pub strictly : (sources files : List Source) → AreSorted sources files
     → ((k : ℕ) → k + 1 < length files → name_at files k ≢ name_at files (k + 1)) → AreByName sources files
 strictly sources files sorted differ = record {
   all = sorted.all;
-  rises = λ k h. less_left _ (sorted.rises k h) (λ e. differ k h (exact_bytes _ _ e));
+  rises = λ k h. (let below : k + 1 < length files = omega (arith, h, length-map files name_of) in
+      less_left _ (sorted.rises k below) (λ e. differ k below (exact_bytes _ _ e)));
 }
 
 pub first_of : (files : List Source) (k : ℕ) → k < length files → Source

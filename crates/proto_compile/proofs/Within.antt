@@ -1,5 +1,5 @@
 -- What files have in the set, by its length.
-use Rattle.std.proofs.Common.{◌≡◌, sym, ap, subst, ℕ, ◌+◌, ◌<◌, ◌≤◌, Bool, not, List, [], length, get_or, map, Less, arith, refl}
+use Rattle.std.proofs.Common.{sym, ap, subst, ℕ, ◌<◌, ◌≤◌, Bool, not, List, length, arith, refl}
 use Rattle.std.specs.Prelude.{Contains, filter, flat_map}
 use Rattle.std.proofs.lemmas.List.Concat.{length-flat_map}
 use Rattle.std.proofs.lemmas.List.Filters.{sum_by-filter_both}
@@ -8,11 +8,8 @@ use Rattle.proto_links.specs.Linked.{count_of, reach_of}
 use Rattle.proto_links.specs.Whole.{has}
 use Rattle.proto_links.proofs.Whole.{whole_of}
 use Rattle.wire_format.specs.Field.{bytes_field}
-use Rattle.std.specs.Cmp.Lexicographic.{slice_cmp}
-use Rattle.std.specs.Ordering.{nat_cmp}
-use Rattle.proto_compile.specs.Compilation.{Compilation, bytes_at, file_name, set_of}
+use Rattle.proto_compile.specs.Compilation.{Compilation, bytes_at, set_of}
 use Rattle.proto_compile.specs.Sound.{IsOfSources}
-use Rattle.proto_compile.proofs.Making.{as_many}
 
 -- one of many
 one_of : (f : ℕ → List ℕ) (xs : List ℕ) (a : ℕ) → Contains xs a → length (f a) ≤ length (flat_map f xs)
@@ -25,15 +22,6 @@ some_of : (f : ℕ → List ℕ) (p : ℕ → Bool) (xs : List ℕ) → length (
 some_of f p xs =
     let parts = sum_by-filter_both p (λ b. not (p b)) (λ b. refl) (λ b. length (f b)) xs in
     omega (arith, length-flat_map f (filter p xs), length-flat_map f xs, parts)
-
--- names rise as those of the sources do
-pub names_rise : (c : Compilation) → IsOfSources c → (k : ℕ) → k + 1 < length c.files
-    → slice_cmp nat_cmp (get_or (map file_name c.files) k []) (get_or (map file_name c.files) (k + 1) []) ≡ Less
-names_rise c (sources, is) k h =
-    let written = is.written in
-    let names = written.names in
-    subst (λ (ns : List (List ℕ)). slice_cmp nat_cmp (get_or ns k []) (get_or ns (k + 1) []) ≡ Less) (sym names)
-    (written.resolved.analysed.described.by_name.rises k (omega (arith, h, as_many written.sorted c.files names)))
 
 pub file_within : (c : Compilation) → IsOfSources c → (a : ℕ) → a < count_of c.links
     → length (bytes_field 1 (bytes_at c.files a)) ≤ length (set_of c.files c.links)

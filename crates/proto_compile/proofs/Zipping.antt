@@ -1,9 +1,7 @@
 -- Sources and what they describe.
-use Rattle.std.proofs.Common.{◌≡◌, ◌∙◌, sym, ℕ, ◌+◌, ◌<◌, List, [], ◌∷◌, length, get_or, map, ap, subst, arith, refl, inl, inr, Less}
+use Rattle.std.proofs.Common.{◌≡◌, ◌∙◌, sym, ℕ, ◌+◌, ◌<◌, List, [], ◌∷◌, length, get_or, map, ap, subst, arith, refl, inl, inr}
 use Rattle.std.specs.List.{AllZip}
 use Rattle.std.specs.Prelude.{Contains}
-use Rattle.std.specs.Cmp.Lexicographic.{slice_cmp}
-use Rattle.std.specs.Ordering.{nat_cmp}
 use Rattle.std.proofs.lemmas.Bool.{cases_lt}
 use Rattle.std.proofs.lemmas.List.{get_or_past, get_or-map, length-map}
 use Rattle.std.proofs.lemmas.Slice.Zip.{AllZip-long}
@@ -11,7 +9,6 @@ pub use Rattle.std.proofs.lemmas.Slice.Zip.{all_zipped_more as zip_end}
 use Rattle.proto_desc.specs.declared.file.FileDesc.{FileDesc}
 use Rattle.proto_links.proofs.Rising.{none_in}
 use Rattle.proto_links.specs.Imports as imports
-use Rattle.proto_links.specs.Bad as bad_imports
 use Rattle.proto_desc.specs.declared.file.ImportDesc.{ImportDesc}
 use Rattle.std.proofs.lemmas.Option.{get_or_from_slice_get, slice_get_within}
 use Rattle.proto_names.specs.Index.{Index}
@@ -24,7 +21,7 @@ use Rattle.proto_base.specs.declared.limits.Limits.{Limits}
 use Rattle.proto_links.specs.Linked.{Linked}
 use Rattle.proto_compile.specs.Analysed.{AreResolved, AreTypedFrom}
 use Rattle.proto_compile.specs.Descriptions.{SourceDescribes}
-use Rattle.proto_compile.specs.Sources.{NamesRise, name_at, name_of}
+use Rattle.proto_compile.specs.Sources.{name_at, name_of}
 use Rattle.proto_compile.specs.declared.source.Source.{Source}
 
 pub same_names : (limits : Limits) (files : List Source) (descs : List FileDesc)
@@ -56,16 +53,9 @@ pub same_name_at : (files : List Source) (descs : List FileDesc) (k : ℕ) → m
     → name_at files k ≡ imports.name_at descs k
 same_name_at files descs k names = ap (λ (ns : List (List ℕ)). get_or ns k []) (sym names)
 
-pub as_many : (files : List Source) (descs : List FileDesc) → map imports.name_of descs ≡ map name_of files
-    → length files ≡ length descs
-as_many files descs names = sym (length-map files name_of) ∙ ap length (sym names) ∙ length-map descs imports.name_of
-
--- what is described is in the order of its names
-pub in_order : (files : List Source) (descs : List FileDesc) → map imports.name_of descs ≡ map name_of files
-    → NamesRise files → bad_imports.AreInNameOrder descs
-in_order files descs names rises k h =
-    subst (λ (ns : List (List ℕ)). slice_cmp nat_cmp (get_or ns k []) (get_or ns (k + 1) []) ≡ Less) (sym names)
-    (rises k (omega (arith, h, as_many files descs names)))
+pub as_many : {X Y : Type 0} (f : X → List ℕ) (g : Y → List ℕ) (xs : List X) (ys : List Y) → map f xs ≡ map g ys
+    → length xs ≡ length ys
+as_many f g xs ys same = omega (arith, ap length same, length-map xs f, length-map ys g)
 
 -- ---- files of faults
 
@@ -93,7 +83,7 @@ twice_within descs o twice =
 pub repeated_within : (limits : Limits) (descs : List FileDesc) (a : ℕ) (place : Place)
     → IsRepeated descs limits a place → a < length descs
 repeated_within limits descs a place repeated =
-    let (o, twice, file, at) = repeated.twice.found in omega (arith, file, twice_within descs o twice)
+    let (o, first, file, at) = repeated.twice in omega (arith, file, twice_within descs o first.among)
 
 pub desc_name : (descs : List FileDesc) (k : ℕ) (d : FileDesc) → k < length descs
     → imports.name_at descs k ≡ imports.name_of (get_or descs k d)

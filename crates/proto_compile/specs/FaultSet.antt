@@ -1,11 +1,12 @@
 -- The faults of sources: what breaks a rule of a pass, what of it is judged, and the first.
-use Rattle.std.specs.Prelude.{◌≡◌, ◌≢◌, ◌⊎◌, ℕ, ◌<◌, ◌≤◌, List, [], length, slice_index_or, string_bytes, Contains}
+use Rattle.std.specs.Prelude.{◌≡◌, ◌≢◌, ◌⊎◌, ℕ, ◌<◌, ◌≤◌, List, [], length, string_bytes, Contains}
 use Rattle.std.specs.List.{AllZip}
 use Rattle.std.specs.declared.cmp.Ordering.TheVariants.{Greater}
 use Rattle.proto_base.specs.Fault.{Found, found_cmp}
 use Rattle.proto_base.specs.Kind.{number_of}
-use Rattle.proto_base.specs.Least.{spot}
+use Rattle.proto_base.specs.Least.{IsLeastBy, spot}
 use Rattle.proto_base.specs.Limits.{limit_of}
+use Rattle.proto_base.specs.Sets.{StandsAt}
 use Rattle.proto_base.specs.declared.fault.Fault.{Fault}
 use Rattle.proto_base.specs.declared.kind.Kind.{Kind}
 use Rattle.proto_base.specs.declared.kind.Kind.TheVariants as kind
@@ -52,10 +53,6 @@ of_file pass file place kind = fault pass file 0 place kind
 
 -- ---- what breaks a rule
 
--- the descriptor stands at k
-abbrev pub StandsDesc : List FileDesc → ℕ → FileDesc → Type 0
-StandsDesc descs k desc = (k < length descs) × (slice_index_or descs k desc ≡ desc)
-
 -- what the sources describe, each by itself, in the order of their names
 pub record AreDescribed (limits : Limits) (sources : List Source) (descs : List FileDesc) : Type 0 where
   pub files : List Source
@@ -78,11 +75,11 @@ pub data Breaks (limits : Limits) (sources : List Source) : SourceFault → Type
       → IsTwice (occurrences descs) o
       → Breaks limits sources (of_file 3 (imports.name_at descs o.file) o.place kind.NameTwice)
   bad_type : (descs : List FileDesc) (a : ℕ) (desc : FileDesc) (place : Place) (what : Kind)
-      → AreDescribed limits sources descs → StandsDesc descs a desc
+      → AreDescribed limits sources descs → StandsAt descs a desc
       → TypesBreak (occurrences descs) (Sees descs a) desc (spot place what)
       → Breaks limits sources (of_file 4 (imports.name_at descs a) place what)
   long_descriptor : (files : List Source) (typed : List FileDesc) (links : Linked) (index : Index) (a : ℕ)
-      (desc : FileDesc) → AreResolved limits sources files typed links index → StandsDesc typed a desc
+      (desc : FileDesc) → AreResolved limits sources files typed links index → StandsAt typed a desc
       → limit_of limits limit.DescriptorBytes < length (file_desc_bytes desc)
       → Breaks limits sources (of_file 5 (imports.name_at typed a) start kind.DescriptorTooLong)
   long_set : (c : Compilation) → IsWritten limits sources c
@@ -104,9 +101,8 @@ abbrev pub IsNoLater : SourceFault → SourceFault → Type 0
 IsNoLater x y = found_cmp (numbered x) (numbered y) ≢ Greater
 
 -- the first of them
-pub record IsLeastFault (limits : Limits) (sources : List Source) (x : SourceFault) : Type 0 where
-  pub among : IsFault limits sources x
-  pub least : (y : SourceFault) → IsFault limits sources y → IsNoLater x y
+abbrev pub IsLeastFault : Limits → List Source → SourceFault → Type 0
+IsLeastFault limits sources = IsLeastBy IsNoLater (IsFault limits sources)
 
 -- ---- what an error tells
 

@@ -1,5 +1,5 @@
 -- Words for the contracts of the private functions: what their errors tell, and where files stand.
-use Rattle.std.specs.Prelude.{◌≡◌, ℕ, ◌<◌, List, length, slice_index_or, ◌≢◌, ◌+◌, IsPermutation}
+use Rattle.std.specs.Prelude.{◌≡◌, ℕ, ◌<◌, List, length, ◌≢◌, ◌+◌, IsPermutation}
 use Rattle.proto_compile.specs.FaultSet.{SourceFault, TellsOf}
 use Rattle.proto_compile.specs.declared.error.CompileError.{CompileError}
 use Rattle.proto_compile.specs.declared.source.Source.{Source}
@@ -7,10 +7,6 @@ use Rattle.std.specs.Cmp.Lexicographic.{slice_cmp}
 use Rattle.std.specs.Ordering.{nat_cmp}
 use Rattle.std.specs.declared.cmp.Ordering.TheVariants.{Greater}
 use Rattle.proto_compile.specs.Sources.{name_at}
-
--- s stands at k
-abbrev pub Stands : List Source → ℕ → Source → Type 0
-Stands files k s = (k < length files) × (slice_index_or files k s ≡ s)
 
 -- the error is for want of memory, or tells this fault
 abbrev pub Tells : SourceFault → CompileError → Type 0

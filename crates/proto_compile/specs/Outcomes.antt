@@ -72,7 +72,7 @@ TellsOfFile pass file (fault.At step place what) e = Tells (source_fault pass fi
 TellsOfFile pass file fault.NoMemory e = e ≡ errors.NoMemory
 
 -- what a pass of this number finds in the first file that has a fault
-pub record IsFirstBad {T : Type 0} (number : ℕ) (files : List Source) (outcomes : List (Result T FileError))
+pub record IsFirstFound {T : Type 0} (number : ℕ) (files : List Source) (outcomes : List (Result T FileError))
     (x : SourceFault) : Type 0 where
   pub at : ℕ
   pub step : ℕ

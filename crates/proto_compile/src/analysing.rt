@@ -1,15 +1,16 @@
 //! What the passes up to types find.
 
-ghost use Rattle.std.specs.Prelude.{◌≡◌, ◌≤◌, List, length, true, All, IfOk, IfErr};
+ghost use Rattle.std.specs.Prelude.{◌≡◌, ◌≤◌, List, length, map, true, All, IfOk, IfErr};
 ghost use Rattle.proto_base.specs.Limits.{limit_of};
 ghost use Rattle.proto_base.specs.declared.limits.Limit.TheVariants as limit;
+ghost use Rattle.proto_base.specs.NameOrder.{NamesRise};
 ghost use Rattle.proto_compile.specs.Analysed.{AreResolved};
 ghost use Rattle.proto_compile.specs.Descriptions.{Describe};
 ghost use Rattle.proto_compile.specs.FaultSet.{IsLeastFault, TellsOf};
-ghost use Rattle.proto_compile.specs.Sources.{AreByName, NamesRise};
+ghost use Rattle.proto_compile.specs.Sources.{AreByName, name_of};
 ghost use Rattle.proto_compile.specs.declared.source.Source.{Source};
 ghost use Rattle.proto_desc.specs.Resolved.{file_resolved};
-ghost use Rattle.proto_links.specs.Bad.{AreInNameOrder};
+ghost use Rattle.proto_links.specs.Imports.{name_of as desc_name};
 ghost use Rattle.proto_links.specs.Linked.{AreLinked};
 ghost use Rattle.proto_names.specs.Index.{Indexes};
 
@@ -44,7 +45,7 @@ fn lookup_of<R, G>(
 where
     R: Threads + AllocGlobal + Sync,
     G: Gate + Sync,
-    requires { AreInNameOrder descs.now }
+    requires { NamesRise (map desc_name descs.now) }
     ensures linked { IfOk result (λ lookup. AreLinked descs.now lookup.links) }
     ensures indexed { IfOk result (λ lookup. Indexes descs.now limits.now lookup.index) }
     ensures first { (sources files : List Source) → Describe limits.now sources files descs.now
@@ -71,7 +72,7 @@ pub(crate) fn analyse<'s, R, G>(
 where
     R: Threads + AllocGlobal + Sync,
     G: Gate + Sync,
-    requires names { NamesRise files.now }
+    requires names { NamesRise (map name_of files.now) }
     ensures resolved { (sources : List Source) → length sources ≤ limit_of limits.now limit.Files
         → AreByName sources files.now
         → IfOk result (λ analysis. AreResolved limits.now sources files.now analysis.descs.items

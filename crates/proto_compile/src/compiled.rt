@@ -1,9 +1,7 @@
 //! What sources are compiled to.
 
-ghost use Rattle.std.specs.Prelude.{◌≡◌, ℕ, ◌+◌, ◌<◌, ◌≤◌, [], IfOk, IfSome, MatchOption, flat_map, length, map, slice_index_or};
-ghost use Rattle.std.specs.Cmp.Lexicographic.{slice_cmp};
-ghost use Rattle.std.specs.Ordering.{nat_cmp};
-ghost use Rattle.std.specs.declared.cmp.Ordering.TheVariants.{Less};
+ghost use Rattle.std.specs.Prelude.{◌≡◌, ℕ, ◌<◌, ◌≤◌, IfOk, IfSome, MatchOption, flat_map, length, map};
+ghost use Rattle.proto_base.specs.NameOrder.{NamesRise};
 ghost use Rattle.proto_compile.specs.Compilation.{IsNamed, bytes_at, file_name, set_of};
 ghost use Rattle.proto_compile.specs.Sound.{IsOfSources, IsSound};
 ghost use Rattle.proto_links.specs.Linked.{count_of, reach_of};
@@ -120,9 +118,7 @@ impl Compiled {
 
     /// A law: the names of the files rise, byte by byte.
     pub fn names_rise(&self)
-        ensures { (k : ℕ) → k + 1 < length self.now.files
-            → slice_cmp nat_cmp (slice_index_or (map file_name self.now.files) k [])
-            (slice_index_or (map file_name self.now.files) (k + 1) []) ≡ Less }
+        ensures { NamesRise (map file_name self.now.files) }
     {
         self.is_of_sources();
     }

@@ -1,10 +1,11 @@
 //! Compiling a list of sources.
 
 ghost use Rattle.std.specs.Prelude.{◌≡◌, ℕ, List, true, All, IfOk, IfErr, IsErrAnd, MatchResult, OnOk, length, map};
+ghost use Rattle.proto_base.specs.NameOrder.{NamesRise};
 ghost use Rattle.proto_compile.specs.Analysed.{AreResolved};
 ghost use Rattle.proto_compile.specs.Compilation.{Compilation, IsCompiled, IsShort, IsWritten, file_bytes, file_name};
 ghost use Rattle.proto_compile.specs.FaultSet.{IsFault, IsLeastFault, IsPlaced, SourceFault, TellsOf};
-ghost use Rattle.proto_compile.specs.Sources.{NamesRise, name_of};
+ghost use Rattle.proto_compile.specs.Sources.{name_of};
 ghost use Rattle.proto_compile.specs.Steps.{AreWritten, compilation, items_of};
 ghost use Rattle.proto_compile.specs.declared.error.CompileError.TheVariants as errors;
 ghost use Rattle.proto_desc.specs.Resolved.{file_resolved};
@@ -122,7 +123,7 @@ fn write_table<R, G>(
 where
     R: Threads + AllocGlobal + Sync,
     G: Gate + Sync,
-    requires order { NamesRise files.now }
+    requires order { NamesRise (map name_of files.now) }
     requires files { length files.now ≡ length descs.items }
     requires resolved { All (λ desc. file_resolved desc ≡ true) descs.items }
     ensures names { IfOk result (λ table. map file_name table ≡ map name_of files.now) }
@@ -145,7 +146,7 @@ fn table_of(
     written: Vec<Vec<u8>>,
 ) -> Result<FileTable, AllocError>
     requires length { length sources.now ≡ length written.items }
-    requires names { NamesRise sources.now }
+    requires names { NamesRise (map name_of sources.now) }
     ensures names { IfOk result (λ files. map file_name files ≡ map name_of sources.now) }
     ensures bytes { IfOk result (λ files. map file_bytes files ≡ map items_of written.items) }
 {

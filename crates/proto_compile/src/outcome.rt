@@ -2,7 +2,7 @@
 
 ghost use Rattle.std.specs.Prelude.{◌≡◌, Ok, IfOk, IfErr, length, map};
 ghost use Rattle.proto_compile.specs.FaultSet.{TellsOf};
-ghost use Rattle.proto_compile.specs.Outcomes.{IsFirstBad, TellsOfFile};
+ghost use Rattle.proto_compile.specs.Outcomes.{IsFirstFound, TellsOfFile};
 ghost use Rattle.proto_compile.specs.Passes.{number_of};
 
 use crate::error::{CompileError, refusal_of_step};
@@ -30,7 +30,7 @@ pub(crate) fn judge<T: Drop>(
 ) -> Result<Vec<T>, CompileError>
     requires { length files.now ≡ length outcomes.items }
     ensures well { IfOk result (λ all. outcomes.items ≡ map Ok all.items) }
-    ensures first { IfErr result (TellsOf (IsFirstBad (number_of pass) files.now
+    ensures first { IfErr result (TellsOf (IsFirstFound (number_of pass) files.now
         outcomes.items)) }
 {
     let mut all = Vec::with_capacity(alloc, outcomes.len())?;

@@ -127,7 +127,11 @@ abbrev DeclaredAt : ℕ → List Declared → Type 0
 DeclaredAt n ds = AllByRecursion (λ (d : Declared). Placed n d.place) ds
 
 enum_declares : (n : ℕ) (scope : List ℕ) (e : EnumDesc) → EnumWithin (upto n) e → DeclaredAt n (declared_by_enum scope e)
-enum_declares n scope e all = (all.0, each_map (λ (d : Declared). Placed n d.place) (declared_value scope) e.values (each_place (upto n) value_place e.values all.1))
+enum_declares n scope e all = (
+  all.0,
+  each_map (λ (d : Declared). Placed n d.place) (declared_value scope) e.values
+      (each_place (upto n) value_place e.values all.1),
+)
 
 -- what a message's own places give
 record OwnAt (n : ℕ) (m : MessageDesc-F MessageDesc) : Type 0 where
@@ -150,7 +154,8 @@ own_at n m all =
       fields = each_weaker (λ f. AtMost n (field_places f)) (λ (f : FieldDesc). Placed n f.place) m.fields (λ f w. w.0)
           (each_places (upto n) field_places m.fields (prefix (λ p. p ≤ n) (flat_map field_places m.fields) (map oneof_place m.oneofs) upto_oneofs));
       oneofs = each_place (upto n) oneof_place m.oneofs (rest (λ p. p ≤ n) (flat_map field_places m.fields) (map oneof_place m.oneofs) upto_oneofs);
-      enums = each_places (upto n) enum_places m.enums (rest (λ p. p ≤ n) (flat_map field_places m.fields ++ map oneof_place m.oneofs) (flat_map enum_places m.enums)
+      enums = each_places (upto n) enum_places m.enums
+          (rest (λ p. p ≤ n) (flat_map field_places m.fields ++ map oneof_place m.oneofs) (flat_map enum_places m.enums)
           upto_enums);
       nested = rest (λ p. p ≤ n) (flat_map field_places m.fields ++ map oneof_place m.oneofs ++ flat_map enum_places m.enums) (flat_map message_places m.nested)
           all.1;
@@ -297,7 +302,8 @@ breaks_within n limits name tree x all broken = elim broken [
   | FileBreaks.not_proto3 b ↦ at_spot n tree.syntax.version.first.span.start _ x
       (left_of (upto n) (syntax_tree tree.syntax) (row statement_tree tree.statements) all).1.1.0 b.1
   | FileBreaks.package_twice b ↦ later_within _ (λ (p : Package). p.keyword.start) kind.PackageTwice n (flat_map file_package tree.statements) x
-      (each_weaker (λ p. Within (upto n) (package_tree p)) (λ (p : Package). Placed n p.keyword.start) (flat_map file_package tree.statements) (λ p w. w.0) packages) b
+      (each_weaker (λ p. Within (upto n) (package_tree p)) (λ (p : Package). Placed n p.keyword.start)
+      (flat_map file_package tree.statements) (λ p w. w.0) packages) b
   | FileBreaks.import_twice b ↦ text_twice n _ (map import_mark (lowered name tree).imports) x
       (marks_within n import_mark (lowered name tree).imports (each_place (upto n) import_place (lowered name tree).imports desc.imports)) b
   | FileBreaks.options b ↦ settings_break n element.File (flat_map file_setting tree.statements) x
@@ -308,7 +314,8 @@ breaks_within n limits name tree x all broken = elim broken [
   | FileBreaks.in_enum b ↦ each_within (λ e. Within (upto n) (enum_tree e)) EnumBreaks n (flat_map file_enum tree.statements) x
       (each_given (StatementWithin (upto n)) (λ e. Within (upto n) (enum_tree e)) file_enum tree.statements (file_enum_within n) ss) (enum_breaks n x) b
   | FileBreaks.in_service b ↦ each_within (λ t. Within (upto n) (service_tree t)) ServiceBreaks n (flat_map file_service tree.statements) x
-      (each_given (StatementWithin (upto n)) (λ t. Within (upto n) (service_tree t)) file_service tree.statements (file_service_within n) ss) (service_breaks n x) b
+      (each_given (StatementWithin (upto n)) (λ t. Within (upto n) (service_tree t)) file_service tree.statements
+      (file_service_within n) ss) (service_breaks n x) b
   | FileBreaks.message_names b ↦ each_within (NamesAt n) MessageNamesBreak n (flat_map names_of (lowered name tree).messages) x
       (each_given (λ m. AtMost n (message_places m)) (NamesAt n) names_of (lowered name tree).messages (λ m w. (desc_at n m w).0)
       (each_places (upto n) message_places (lowered name tree).messages desc.messages)) (names_break n x) b
@@ -322,7 +329,8 @@ breaks_within n limits name tree x all broken = elim broken [
   where
     ss : AllByRecursion (StatementWithin (upto n)) tree.statements
     ss =
-        each_row (StatementWithin (upto n)) statement_tree (upto n) tree.statements (λ s w. w) (right_of (upto n) (syntax_tree tree.syntax) (row statement_tree tree.statements) all)
+        each_row (StatementWithin (upto n)) statement_tree (upto n) tree.statements (λ s w. w)
+        (right_of (upto n) (syntax_tree tree.syntax) (row statement_tree tree.statements) all)
 
     packages : AllByRecursion (λ p. Within (upto n) (package_tree p)) (flat_map file_package tree.statements)
     packages = each_given (StatementWithin (upto n)) (λ p. Within (upto n) (package_tree p)) file_package tree.statements (file_package_within n)

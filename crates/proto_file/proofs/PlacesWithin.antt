@@ -126,7 +126,8 @@ left_of region x y all = prefix (λ t. region t.start) (flatten x) (flatten y) a
 pub right_of : (region : ℕ → Type 0) (x y : Tree) → Within region (Pair x y) → Within region y
 right_of region x y all = rest (λ t. region t.start) (flatten x) (flatten y) all
 
-pub each_row : {A : Type 0} (P : A → Type 0) (f : A → Tree) (region : ℕ → Type 0) (xs : List A) → ((x : A) → Within region (f x) → P x) → Within region (row f xs) → AllByRecursion P xs
+pub each_row : {A : Type 0} (P : A → Type 0) (f : A → Tree) (region : ℕ → Type 0) (xs : List A)
+    → ((x : A) → Within region (f x) → P x) → Within region (row f xs) → AllByRecursion P xs
 each_row P f region [] h all = tt
 each_row P f region (x ∷ xs) h all = (h x (left_of region (f x) (row f xs) all), each_row P f region xs h (right_of region (f x) (row f xs) all))
 
@@ -147,13 +148,14 @@ pub each_place : {X : Type 0} (region : ℕ → Type 0) (place : X → ℕ) (xs 
 each_place region place [] all = tt
 each_place region place (x ∷ xs) all = (all.0, each_place region place xs all.1)
 
-pub each_places : {X : Type 0} (region : ℕ → Type 0) (places : X → List ℕ) (xs : List X) → AreIn region (flat_map places xs) → AllByRecursion (λ x. AreIn region (places x)) xs
+pub each_places : {X : Type 0} (region : ℕ → Type 0) (places : X → List ℕ) (xs : List X)
+    → AreIn region (flat_map places xs) → AllByRecursion (λ x. AreIn region (places x)) xs
 each_places region places [] all = tt
 each_places region places (x ∷ xs) all =
     (prefix region (places x) (flat_map places xs) all, each_places region places xs (rest region (places x) (flat_map places xs) all))
 
-pub each_given : {X Y : Type 0} (Q : X → Type 0) (P : Y → Type 0) (f : X → List Y) (xs : List X) → ((x : X) → Q x → AllByRecursion P (f x)) → AllByRecursion Q xs
-    → AllByRecursion P (flat_map f xs)
+pub each_given : {X Y : Type 0} (Q : X → Type 0) (P : Y → Type 0) (f : X → List Y) (xs : List X)
+    → ((x : X) → Q x → AllByRecursion P (f x)) → AllByRecursion Q xs → AllByRecursion P (flat_map f xs)
 each_given Q P f xs h all = each_flat P f xs (each_weaker Q (λ x. AllByRecursion P (f x)) xs h all)
 
 -- ---- options
@@ -164,7 +166,8 @@ NameWithin region s = region (s.name.first.span.start.offset)
 setting_within : (region : ℕ → Type 0) (s : Setting) → Within region (setting_tree s) → NameWithin region s
 setting_within region s all = all.0
 
-pub separated_within : (region : ℕ → Type 0) (ss : Separated Setting) → Within region (separated_tree setting_tree ss) → AllByRecursion (NameWithin region) (separated ss)
+pub separated_within : (region : ℕ → Type 0) (ss : Separated Setting) → Within region (separated_tree setting_tree ss)
+    → AllByRecursion (NameWithin region) (separated ss)
 separated_within region ss all = (
   all.0,
   each_map (NameWithin region) next_item ss.rest
@@ -177,8 +180,8 @@ bracketed_within region None all = tt
 bracketed_within region (Some o) all =
     separated_within region o.settings (left_of region (separated_tree setting_tree o.settings) (symbol_tree (byte "]") o.close_bracket) all.1)
 
-first_within : (region : ℕ → Type 0) (name : OptionName) (ss : List Setting) (s : Setting) → AllByRecursion (NameWithin region) ss → first_setting name ss ≡ Some s
-    → NameWithin region s
+first_within : (region : ℕ → Type 0) (name : OptionName) (ss : List Setting) (s : Setting)
+    → AllByRecursion (NameWithin region) ss → first_setting name ss ≡ Some s → NameWithin region s
 first_within region name [] s all e = cc
 first_within region name (x ∷ xs) s all e = by_cases (is_setting name x) e (λ h. first_within region name xs s all.1 h)
   where
@@ -199,7 +202,8 @@ by_within region (Some number) kind (Some s) h = by_value (value_of kind s.value
     by_value None = tt
     by_value (Some v) = (h s refl, tt)
 
-options_within : (region : ℕ → Type 0) (e : Element) (ss : List Setting) → AllByRecursion (NameWithin region) ss → AllByRecursion (OptionWithin region) (options_of e ss)
+options_within : (region : ℕ → Type 0) (e : Element) (ss : List Setting) → AllByRecursion (NameWithin region) ss
+    → AllByRecursion (OptionWithin region) (options_of e ss)
 unfolding options_of
 options_within region e ss all = each_flat (OptionWithin region) (option_under ss) (rules_of e) (each (rules_of e))
   where
@@ -222,8 +226,9 @@ kind_within region (field_type.Named t) all = (dotted_within region t.dot t.name
 abbrev pub FieldWithin : (ℕ → Type 0) → FieldDesc → Type 0
 FieldWithin region f = AreIn region (field_places f)
 
-described_within : (region : ℕ → Type 0) (d : Declarator) (label : FieldLabel) (kind : FieldKind) (oneof : Option ℕ) (is_optional : Bool) → Within region (declarator_tree d)
-    → AreIn region (kind_places kind) → FieldWithin region (described d label kind oneof is_optional)
+described_within : (region : ℕ → Type 0) (d : Declarator) (label : FieldLabel) (kind : FieldKind) (oneof : Option ℕ)
+    (is_optional : Bool) → Within region (declarator_tree d) → AreIn region (kind_places kind)
+    → FieldWithin region (described d label kind oneof is_optional)
 described_within region d label kind oneof is_optional all of_kind = (
   all.0,
   both region (kind_places kind) (map option_place (options_of element.Field (bracketed d.options))) of_kind
@@ -241,10 +246,12 @@ head_within region (Some (label.Repeated s)) t all = kind_within region t all.1
 abbrev pub TypeAndRest : (ℕ → Type 0) → FieldType → Declarator → Type 0
 TypeAndRest region t d = AreIn region (kind_places (kind_of t)) × Within region (declarator_tree d)
 
-headed_within : (region : ℕ → Type 0) (label : Option Label) (t : FieldType) (d : Declarator) → Within region (Pair (field_head_tree label t) (declarator_tree d))
-    → TypeAndRest region t d
-headed_within region label t d all =
-    (head_within region label t (left_of region (field_head_tree label t) (declarator_tree d) all), right_of region (field_head_tree label t) (declarator_tree d) all)
+headed_within : (region : ℕ → Type 0) (label : Option Label) (t : FieldType) (d : Declarator)
+    → Within region (Pair (field_head_tree label t) (declarator_tree d)) → TypeAndRest region t d
+headed_within region label t d all = (
+  head_within region label t (left_of region (field_head_tree label t) (declarator_tree d) all),
+  right_of region (field_head_tree label t) (declarator_tree d) all,
+)
 
 unlabelled_within : (region : ℕ → Type 0) (dot : Option Span) (name : FullName) (d : Declarator) → Within region (unlabelled_tree dot name d)
     → TypeAndRest region (field_type.Named (record { dot = dot; name = name })) d
@@ -257,7 +264,8 @@ unlabelled_within region None name d all = by_cases (bytes_eq name.first.text (c
     by_cases false all' = ((all'.0, tt), right_of region (full_tree name) (declarator_tree d) all')
 unlabelled_within region (Some dot) name d all = ((all.0, tt), right_of region (full_tree name) (declarator_tree d) all.1)
 
-pub statement_field_within : (region : ℕ → Type 0) (label : Option Label) (t : FieldType) (d : Declarator) → Within region (field_statement_tree label t d) → TypeAndRest region t d
+pub statement_field_within : (region : ℕ → Type 0) (label : Option Label) (t : FieldType) (d : Declarator)
+    → Within region (field_statement_tree label t d) → TypeAndRest region t d
 statement_field_within region None (field_type.Named t) d all = unlabelled_within region t.dot t.name d all
 statement_field_within region None (field_type.Scalar s span) d all = headed_within region None (field_type.Scalar s span) d all
 statement_field_within region (Some l) t d all = headed_within region (Some l) t d all
@@ -265,7 +273,8 @@ statement_field_within region (Some l) t d all = headed_within region (Some l) t
 pub member_within : (region : ℕ → Type 0) (number : ℕ) (i : OneofItem) → Within region (oneof_item_tree i)
     → AllByRecursion (λ f. FieldWithin region (member_at number f)) (oneof_field i)
 member_within region number (oneof_item.Field f) all = (
-  described_within region f.declarator Optional (kind_of f.field_type) (Some number) false (right_of region (type_tree f.field_type) (declarator_tree f.declarator) all)
+  described_within region f.declarator Optional (kind_of f.field_type) (Some number) false
+      (right_of region (type_tree f.field_type) (declarator_tree f.declarator) all)
       (kind_within region f.field_type (left_of region (type_tree f.field_type) (declarator_tree f.declarator) all)),
   tt,
 )
@@ -284,7 +293,8 @@ fields_within : (region : ℕ → Type 0) (full : List ℕ) (real made : ℕ) (i
 fields_within region full real made [] all = tt
 fields_within region full real made (message_item.Field f ∷ is) all =
     let parts = statement_field_within region f.label f.field_type f.declarator (subst (Within region) (item_field f) all.0) in (
-      described_within region f.declarator (label_of f.label) (kind_of f.field_type) (cond (is_optional f.label) (Some made) None) (is_optional f.label) parts.1 parts.0,
+      described_within region f.declarator (label_of f.label) (kind_of f.field_type)
+          (cond (is_optional f.label) (Some made) None) (is_optional f.label) parts.1 parts.0,
       fields_within region full real (made + cond (is_optional f.label) 1 0) is all.1,
     )
 fields_within region full real made (message_item.Map m ∷ is) all =
@@ -310,8 +320,9 @@ real_within : (region : ℕ → Type 0) (i : MessageItem) → ItemWithin region 
 real_within region (message_item.Oneof o) all = let tree : Within region (oneof_tree o) = subst (Within region) (item_oneof o) all in (tree.1.0, tt)
 real_within region i all = tt
 
-one_within : (region : ℕ → Type 0) (names : List (List ℕ)) (so_far : List OneofDesc) (f : FieldDesc) (is_optional : Bool) → AllByRecursion (OneofWithin region) so_far
-    → FieldWithin region f → AllByRecursion (OneofWithin region) (with_one names so_far f is_optional)
+one_within : (region : ℕ → Type 0) (names : List (List ℕ)) (so_far : List OneofDesc) (f : FieldDesc)
+    (is_optional : Bool) → AllByRecursion (OneofWithin region) so_far → FieldWithin region f
+    → AllByRecursion (OneofWithin region) (with_one names so_far f is_optional)
 one_within region names so_far f true made field = both (OneofWithin region) so_far _ made (field.0, tt)
 one_within region names so_far f false made field = made
 
@@ -321,7 +332,8 @@ made_within region names so_far [] made fields = made
 made_within region names so_far (f ∷ fs) made fields =
     made_within region names (with_one names so_far f f.proto3_optional) fs (one_within region names so_far f f.proto3_optional made fields.0) fields.1
 
-value_within : (region : ℕ → Type 0) (i : EnumItem) → Within region (enum_item_tree i) → AllByRecursion (λ v. region (value_place (value_desc v))) (enum_value i)
+value_within : (region : ℕ → Type 0) (i : EnumItem) → Within region (enum_item_tree i)
+    → AllByRecursion (λ v. region (value_place (value_desc v))) (enum_value i)
 value_within region (enum_item.Value v) all = (all.0, tt)
 value_within region (enum_item.Option o) all = tt
 value_within region (enum_item.Reserved r) all = tt
@@ -350,7 +362,8 @@ abbrev DescWithin : (ℕ → Type 0) → MessageDesc → Type 0
 DescWithin region m = AreIn region (message_places m)
 
 abbrev OwnWithin : (ℕ → Type 0) → MessageDesc-F MessageDesc → Type 0
-OwnWithin region m = (region (m.place.offset)) × AllByRecursion (FieldWithin region) m.fields × AllByRecursion (OneofWithin region) m.oneofs × AllByRecursion (EnumWithin region) m.enums
+OwnWithin region m = region (m.place.offset) × AllByRecursion (FieldWithin region) m.fields
+    × AllByRecursion (OneofWithin region) m.oneofs × AllByRecursion (EnumWithin region) m.enums
     × AllByRecursion (DescWithin region) m.nested
 
 pub places_out : (m : MessageDesc) → message_places m
@@ -394,7 +407,8 @@ LayerNested region x = Unit {0}
 item_nested : (region : ℕ → Type 0) (x : MessageItem-F MessageItem Message) → LayerNested region x → ItemNested region (roll-MessageItem x)
 item_nested region (opened.Message m) h = subst (ItemNested region) (sym (of.rolls-Message m))
     (λ all full. subst (AllByRecursion (DescWithin region)) (sym (nested_message full m)) (h (subst (Within region) (item_message m) all) full, tt))
-item_nested region (opened.Map m) h = subst (ItemNested region) (sym (of.rolls-Map m)) (λ all full. (entry_within region m (subst (Within region) (item_map m) all), tt))
+item_nested region (opened.Map m) h = subst (ItemNested region) (sym (of.rolls-Map m))
+    (λ all full. (entry_within region m (subst (Within region) (item_map m) all), tt))
 item_nested region (opened.Enum a) h = subst (ItemNested region) (sym (of.rolls-Enum a)) (λ all full. tt)
 item_nested region (opened.Option a) h = subst (ItemNested region) (sym (of.rolls-Option a)) (λ all full. tt)
 item_nested region (opened.Oneof a) h = subst (ItemNested region) (sym (of.rolls-Oneof a)) (λ all full. tt)
@@ -423,7 +437,8 @@ message_nested region k name o xs c all scope =
     let full : List ℕ = inner scope name.text in
     let rows : Within region (row message_item_tree (map (λ e. e.0) xs)) =
     left_of region (row message_item_tree (map (λ e. e.0) xs)) (symbol_tree (byte "}") c) all.1.1.1 in
-    let each : AllByRecursion (ItemWithin region) (map (λ e. e.0) xs) = each_row (ItemWithin region) message_item_tree region (map (λ e. e.0) xs) (λ i h. h) rows in
+    let each : AllByRecursion (ItemWithin region) (map (λ e. e.0) xs) =
+    each_row (ItemWithin region) message_item_tree region (map (λ e. e.0) xs) (λ i h. h) rows in
     let fields : AllByRecursion (FieldWithin region) (all_fields (inner scope name.text) (map (λ e. e.0) xs)) =
     fields_within region (inner scope name.text) 0 (real_count (map (λ e. e.0) xs)) (map (λ e. e.0) xs) each in
     desc_within region _ (
@@ -450,36 +465,44 @@ nested_item_step region x (opened.Field a) e = subst (λ z. ItemNested region (r
 
 nested_message_step : (region : ℕ → Type 0) (x : Message-F MessageItem Message) (y : Message-F (KnownItem region) (KnownMessage region))
     → map-Message (KnownItem region) (KnownMessage region) MessageItem Message (λ e. e.0) (λ e. e.0) y ≡ x → MessageNested region (roll-Message x)
-nested_message_step region x y e = subst (λ z. MessageNested region (roll-Message z)) e (message_nested region y.keyword y.name y.open_brace y.items y.close_brace)
+nested_message_step region x y e = subst (λ z. MessageNested region (roll-Message z)) e
+    (message_nested region y.keyword y.name y.open_brace y.items y.close_brace)
 
 message_within : (region : ℕ → Type 0) (m : Message) → MessageNested region m
 message_within region = ind-Message (ItemNested region) (MessageNested region) (nested_item_step region) (nested_message_step region)
 
 -- ---- services
 
-streamed_within : (region : ℕ → Type 0) (stream : Option Span) (t : TypeName) → Within region (streamed_tree stream t) → region ((type_place t.dot t.name).offset)
+streamed_within : (region : ℕ → Type 0) (stream : Option Span) (t : TypeName) → Within region (streamed_tree stream t)
+    → region ((type_place t.dot t.name).offset)
 streamed_within region None t all = dotted_within region t.dot t.name all
 streamed_within region (Some s) t all = dotted_within region t.dot t.name all.1
 
 rpc_type_within : (region : ℕ → Type 0) (t : RpcType) → Within region (rpc_type_tree t) → AreIn region (reference_places (reference_of t.name))
-rpc_type_within region t all = (streamed_within region t.stream t.name (left_of region (streamed_tree t.stream t.name) (symbol_tree (byte ")") t.close_paren) all.1), tt)
+rpc_type_within region t all = (
+  streamed_within region t.stream t.name
+      (left_of region (streamed_tree t.stream t.name) (symbol_tree (byte ")") t.close_paren) all.1),
+  tt,
+)
 
 abbrev pub MethodWithin : (ℕ → Type 0) → MethodDesc → Type 0
 MethodWithin region m = AreIn region (method_places m)
 
+-- what stands behind the type that a method takes
+abbrev pub returns_tree : Rpc → Tree
+returns_tree r = Pair (word_tree (codes "returns") r.returns) (Pair (rpc_type_tree r.output) (rpc_body_tree r.body))
+
 pub rpc_within : (region : ℕ → Type 0) (r : Rpc) → Within region (rpc_tree r) → MethodWithin region (method_desc r)
 rpc_within region r all =
-    let output_on : Tree = Pair (word_tree (codes "returns") r.returns) (Pair (rpc_type_tree r.output) (rpc_body_tree r.body)) in
-    let behind : Within region (Pair (word_tree (codes "returns") r.returns) (Pair (rpc_type_tree r.output) (rpc_body_tree r.body))) =
-    right_of region (rpc_type_tree r.input) (Pair (word_tree (codes "returns") r.returns) (Pair (rpc_type_tree r.output) (rpc_body_tree r.body))) all.1.1 in (
+    let behind : Within region (returns_tree r) = right_of region (rpc_type_tree r.input) (returns_tree r) all.1.1 in (
       all.1.0,
       both region (reference_places (reference_of r.input.name)) (reference_places (reference_of r.output.name))
-          (rpc_type_within region r.input (left_of region (rpc_type_tree r.input)
-          (Pair (word_tree (codes "returns") r.returns) (Pair (rpc_type_tree r.output) (rpc_body_tree r.body))) all.1.1))
+          (rpc_type_within region r.input (left_of region (rpc_type_tree r.input) (returns_tree r) all.1.1))
           (rpc_type_within region r.output (left_of region (rpc_type_tree r.output) (rpc_body_tree r.body) behind.1)),
     )
 
-method_within : (region : ℕ → Type 0) (i : ServiceItem) → Within region (service_item_tree i) → AllByRecursion (λ r. MethodWithin region (method_desc r)) (service_rpc i)
+method_within : (region : ℕ → Type 0) (i : ServiceItem) → Within region (service_item_tree i)
+    → AllByRecursion (λ r. MethodWithin region (method_desc r)) (service_rpc i)
 method_within region (service_item.Rpc r) all = (rpc_within region r all, tt)
 method_within region (service_item.Option o) all = tt
 method_within region (service_item.Empty s) all = tt
@@ -531,7 +554,8 @@ file_enum_within : (region : ℕ → Type 0) (s : Statement) → StatementWithin
 file_enum_within region (statement.Enum e) all = (enum_within region e all, tt)
 file_enum_within region s all = tt
 
-file_service_within : (region : ℕ → Type 0) (s : Statement) → StatementWithin region s → AllByRecursion (λ t. ServiceWithin region (lowered_service t)) (file_service s)
+file_service_within : (region : ℕ → Type 0) (s : Statement) → StatementWithin region s
+    → AllByRecursion (λ t. ServiceWithin region (lowered_service t)) (file_service s)
 file_service_within region (statement.Service s) all = (service_within region s all, tt)
 file_service_within region s all = tt
 
@@ -540,7 +564,8 @@ pub given : {X : Type 0} (region : ℕ → Type 0) (P : X → Type 0) (f : State
     → ((s : Statement) → StatementWithin region s → AllByRecursion P (f s)) → AllByRecursion (StatementWithin region) ss → AllByRecursion P (flat_map f ss)
 given region P f ss h all = each_flat P f ss (each_weaker (StatementWithin region) (λ s. AllByRecursion P (f s)) ss h all)
 
-pub lowered_within : (region : ℕ → Type 0) (name : List ℕ) (file : FileTree) → Within region (row statement_tree file.statements) → AreIn region (places_of (lowered name file))
+pub lowered_within : (region : ℕ → Type 0) (name : List ℕ) (file : FileTree)
+    → Within region (row statement_tree file.statements) → AreIn region (places_of (lowered name file))
 lowered_within region name file all =
     let ss : AllByRecursion (StatementWithin region) file.statements =
     each_row (StatementWithin region) statement_tree region file.statements (λ s h. h)

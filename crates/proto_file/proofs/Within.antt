@@ -1,12 +1,12 @@
 -- The spots of a file's broken rules lie within a text in which the tokens of its tree begin: what stands in the tree.
 use Rattle.std.proofs.Common.{subst, ℕ, List, [], ◌∷◌, map, inl, inr}
-use Rattle.std.specs.Prelude.{flat_map, Option, None, Some, codes}
+use Rattle.std.specs.Prelude.{flat_map, Option, None, Some}
 use Rattle.std.specs.List.{AllByRecursion}
 use Rattle.std.specs.Str.{byte}
 use Rattle.proto_base.specs.declared.kind.Kind.TheVariants as kind
 use Rattle.proto_base.specs.declared.place.Span.{Span}
 use Rattle.proto_syntax.specs.Grammar.{Tree, Pair, Left}
-use Rattle.proto_syntax.specs.Trees.{symbol_tree, full_tree, word_tree, row, next_tree, optional, separated_tree, str_tree, constant_tree, sign_tree, number_tree, signed_tree, setting_tree, options_tree, option_tree, range_tree, range_end_tree, bound_tree, reserved_items_tree, reserved_tree, type_tree, declarator_tree, oneof_item_tree, oneof_tree, enum_item_tree, enum_tree, map_type_tree, rpc_type_tree, rpc_body_tree, rpc_item_tree, service_item_tree, service_tree}
+use Rattle.proto_syntax.specs.Trees.{symbol_tree, full_tree, row, next_tree, optional, separated_tree, str_tree, constant_tree, sign_tree, number_tree, signed_tree, setting_tree, options_tree, option_tree, range_tree, range_end_tree, bound_tree, reserved_items_tree, reserved_tree, type_tree, declarator_tree, oneof_item_tree, oneof_tree, enum_item_tree, enum_tree, map_type_tree, rpc_type_tree, rpc_body_tree, rpc_item_tree, service_item_tree, service_tree}
 use Rattle.proto_tree.specs.declared.constant.Constant.{Constant}
 use Rattle.proto_tree.specs.declared.constant.Constant.TheVariants as constant
 use Rattle.proto_tree.specs.declared.constant.Sign.{Sign}
@@ -49,7 +49,7 @@ use Rattle.proto_desc.specs.declared.rules.Element.{Element}
 use Rattle.proto_desc.specs.declared.rules.Element.TheVariants as element
 use Rattle.proto_options.specs.Options.{next_item, separated, bracketed, message_setting, enum_setting, service_setting, rpc_setting, oneof_setting}
 use Rattle.proto_options.specs.Statements.{message_oneof, message_enum, oneof_field, enum_value, service_rpc, rpc_items, message_reserved, enum_reserved, ranges_in, names_in, greatest_field_number, bound_by, end_by}
-use Rattle.proto_file.proofs.PlacesWithin.{Within, left_of, right_of, each_given, each_row, each_map, each_weaker, upto, ItemWithin, oneof_items_within, statement_field_within}
+use Rattle.proto_file.proofs.PlacesWithin.{Within, left_of, right_of, each_given, each_row, each_map, each_weaker, upto, ItemWithin, oneof_items_within, statement_field_within, returns_tree}
 use Rattle.proto_checks.specs.Elements.{OneofBreaks, ValueBreaks, EnumBreaks, BodyBreaks, RpcBreaks, ServiceBreaks}
 use Rattle.proto_checks.specs.Gathered.{literal, with_sign, signed_number, greatest_value, field_number, field_numbers, value_numbers, marked_range, bounds_of, reserved_name, message_ranges, message_bounds, message_reserved_names, enum_ranges, enum_bounds, enum_reserved_names}
 use Rattle.proto_checks.specs.Numbers.{ReservedBreak, FieldNumbersBreak, EnumNumbersBreak, IsNoFieldNumber}
@@ -62,8 +62,8 @@ use Rattle.proto_file.proofs.Spots.{Placed, SpotWithin, at_spot, standing, each_
 
 -- ---- lists
 
-separated_within : {A : Type 0} (P : A → Type 0) (f : A → Tree) (n : ℕ) (s : Separated A) → ((x : A) → Within (upto n) (f x) → P x) → Within (upto n) (separated_tree f s)
-    → AllByRecursion P (separated s)
+separated_within : {A : Type 0} (P : A → Type 0) (f : A → Tree) (n : ℕ) (s : Separated A)
+    → ((x : A) → Within (upto n) (f x) → P x) → Within (upto n) (separated_tree f s) → AllByRecursion P (separated s)
 separated_within {A} P f n s h all = (
   h s.first (left_of (upto n) (f s.first) (row (next_tree f) s.rest) all),
   each_map P next_item s.rest (each_row (λ (x : Next A). P x.item) (next_tree f) (upto n) s.rest (λ x w. h x.item w.1)
@@ -133,16 +133,24 @@ optioned_breaks n x f all (FieldOptionsBreak.jstype broken) =
 member_tree_within : (n : ℕ) (o : Oneof) → Within (upto n) (oneof_tree o) → AllByRecursion (λ i. Within (upto n) (oneof_item_tree i)) o.items
 member_tree_within n o all = each_row (λ i. Within (upto n) (oneof_item_tree i)) oneof_item_tree (upto n) o.items (λ i w. w) (oneof_items_within (upto n) o all)
 
-oneof_field_within : (n : ℕ) (i : OneofItem) → Within (upto n) (oneof_item_tree i) → AllByRecursion (λ f. OptionedWithin n (optioned_in_oneof f)) (oneof_field i)
-oneof_field_within n (oneof_item.Field f) all = (declarator_within n f.declarator (right_of (upto n) (type_tree f.field_type) (declarator_tree f.declarator) all), tt)
+oneof_field_within : (n : ℕ) (i : OneofItem) → Within (upto n) (oneof_item_tree i)
+    → AllByRecursion (λ f. OptionedWithin n (optioned_in_oneof f)) (oneof_field i)
+oneof_field_within n (oneof_item.Field f) all = (
+  declarator_within n f.declarator (right_of (upto n) (type_tree f.field_type) (declarator_tree f.declarator) all),
+  tt,
+)
 oneof_field_within n (oneof_item.Option o) all = tt
 oneof_field_within n (oneof_item.Empty s) all = tt
 
 optioned_within : (n : ℕ) (i : MessageItem) → ItemWithin (upto n) i → AllByRecursion (OptionedWithin n) (optioned_fields i)
 optioned_within n (message_item.Field f) all =
     (declarator_within n f.declarator (statement_field_within (upto n) f.label f.field_type f.declarator (subst (Within (upto n)) (item_field f) all)).1, tt)
-optioned_within n (message_item.Map m) all =
-    (declarator_within n m.declarator (right_of (upto n) (Left (map_type_tree m.map_type)) (declarator_tree m.declarator) (subst (Within (upto n)) (item_map m) all).1), tt)
+optioned_within n (message_item.Map m) all = (
+  declarator_within n m.declarator
+      (right_of (upto n) (Left (map_type_tree m.map_type)) (declarator_tree m.declarator)
+      (subst (Within (upto n)) (item_map m) all).1),
+  tt,
+)
 optioned_within n (message_item.Oneof o) all = each_map (OptionedWithin n) optioned_in_oneof (flat_map oneof_field o.items)
     (each_given (λ i. Within (upto n) (oneof_item_tree i)) (λ f. OptionedWithin n (optioned_in_oneof f)) oneof_field o.items (oneof_field_within n)
     (member_tree_within n o (subst (Within (upto n)) (item_oneof o) all)))
@@ -150,7 +158,8 @@ optioned_within n i all = tt
 
 -- ---- what is reserved
 
-reserved_items_within : {N : Type 0} (f : N → Tree) (n : ℕ) (r : Reserved N) → Within (upto n) (reserved_tree f r) → Within (upto n) (reserved_items_tree f r.items)
+reserved_items_within : {N : Type 0} (f : N → Tree) (n : ℕ) (r : Reserved N) → Within (upto n) (reserved_tree f r)
+    → Within (upto n) (reserved_items_tree f r.items)
 reserved_items_within f n r all = left_of (upto n) (reserved_items_tree f r.items) (symbol_tree (byte ";") r.semicolon) all.1
 
 ranges_within : {N : Type 0} (f : N → Tree) (n : ℕ) (i : ReservedItems N) → Within (upto n) (reserved_items_tree f i)
@@ -173,8 +182,10 @@ end_within {N} f n (Some e) all = by_bound e.bound all.1
     by_bound (upper_bound.Max s) w = tt
 
 bounds_within : {N : Type 0} (f : N → Tree) (n : ℕ) (r : Range N) → Within (upto n) (range_tree f r) → AllByRecursion (λ x. Within (upto n) (f x)) (bounds_of r)
-bounds_within f n r all =
-    (left_of (upto n) (f r.start) (optional (range_end_tree f) r.end) all, end_within f n r.end (right_of (upto n) (f r.start) (optional (range_end_tree f) r.end) all))
+bounds_within f n r all = (
+  left_of (upto n) (f r.start) (optional (range_end_tree f) r.end) all,
+  end_within f n r.end (right_of (upto n) (f r.start) (optional (range_end_tree f) r.end) all),
+)
 
 -- the ranges and names of statements that reserve
 abbrev ReservedWithin : {N : Type 0} → (N → Tree) → ℕ → ReservedItems N → Type 0
@@ -240,7 +251,9 @@ field_numbers_break n is x all (FieldNumbersBreak.number_range b) =
     each_within (λ (m : MarkedNumber). Placed n m.place) IsNoFieldNumber n (field_numbers is) x (field_numbers_within n is all)
     (λ m within s. at_spot n m.place _ x within s.1) b
 field_numbers_break n is x all (FieldNumbersBreak.bound_range b) =
-    outside n _ _ _ (message_bounds is) x (all_bounds_within number_tree literal n (flat_map message_reserved is) (literal_within n) (all_reserved_within n is all)) b
+    outside n _ _ _ (message_bounds is) x
+    (all_bounds_within number_tree literal n (flat_map message_reserved is) (literal_within n)
+    (all_reserved_within n is all)) b
 field_numbers_break n is x all (FieldNumbersBreak.number_twice b) = number_twice n _ (field_numbers is) x (field_numbers_within n is all) b
 field_numbers_break n is x all (FieldNumbersBreak.reserved b) =
     let reserved = all_reserved_within n is all in
@@ -285,7 +298,8 @@ all_values_within n is all = each_given (EnumItemWithin n) (ValueWithin n) enum_
 
 values_within : (n : ℕ) (is : List EnumItem) → EnumItemsWithin n is → NumbersWithin n (value_numbers is)
 values_within n is all = each_map (λ (m : MarkedNumber). Placed n m.place) (λ (v : EnumValue). signed_number v.number) (flat_map enum_value is)
-    (each_weaker (ValueWithin n) (λ (v : EnumValue). Placed n (signed_number v.number).place) (flat_map enum_value is) (λ v w. w.0) (all_values_within n is all))
+    (each_weaker (ValueWithin n) (λ (v : EnumValue). Placed n (signed_number v.number).place) (flat_map enum_value is)
+    (λ v w. w.0) (all_values_within n is all))
 
 enum_reserved_within : (n : ℕ) (i : EnumItem) → EnumItemWithin n i → AllByRecursion (ReservedWithin signed_tree n) (enum_reserved i)
 enum_reserved_within n (enum_item.Reserved r) all = (reserved_items_within signed_tree n r all, tt)
@@ -301,7 +315,9 @@ enum_numbers_break n is x all (EnumNumbersBreak.first_not_zero b) =
     at_spot n b.0.place _ x (standing (λ (m : MarkedNumber). Placed n m.place) (value_numbers is) 0 b.0 (values_within n is all) b.1) b.3
 enum_numbers_break n is x all (EnumNumbersBreak.value_range b) = outside n _ _ _ (value_numbers is) x (values_within n is all) b
 enum_numbers_break n is x all (EnumNumbersBreak.bound_range b) =
-    outside n _ _ _ (enum_bounds is) x (all_bounds_within signed_tree signed_number n (flat_map enum_reserved is) (signed_within n) (all_enum_reserved_within n is all)) b
+    outside n _ _ _ (enum_bounds is) x
+    (all_bounds_within signed_tree signed_number n (flat_map enum_reserved is) (signed_within n)
+    (all_enum_reserved_within n is all)) b
 enum_numbers_break n is x all (EnumNumbersBreak.number_twice apart b) = number_twice n _ (value_numbers is) x (values_within n is all) b
 enum_numbers_break n is x all (EnumNumbersBreak.reserved b) =
     let reserved = all_enum_reserved_within n is all in
@@ -319,7 +335,8 @@ enum_setting_within n (enum_item.Empty s) all = tt
 
 enum_items_within : (n : ℕ) (e : Enum) → Within (upto n) (enum_tree e) → EnumItemsWithin n e.items
 enum_items_within n e all =
-    each_row (EnumItemWithin n) enum_item_tree (upto n) e.items (λ i w. w) (left_of (upto n) (row enum_item_tree e.items) (symbol_tree (byte "}") e.close_brace) all.1.1.1)
+    each_row (EnumItemWithin n) enum_item_tree (upto n) e.items (λ i w. w)
+    (left_of (upto n) (row enum_item_tree e.items) (symbol_tree (byte "}") e.close_brace) all.1.1.1)
 
 pub enum_breaks : (n : ℕ) (x : Spot) (e : Enum) → Within (upto n) (enum_tree e) → EnumBreaks e x → SpotWithin n x
 enum_breaks n x e all (EnumBreaks.empty b) = at_spot n e.name.span.start _ x all.1.0 b.1
@@ -382,7 +399,7 @@ RpcWithin n r = AllByRecursion (SettingWithin n) (flat_map rpc_setting (rpc_item
 service_rpc_within : (n : ℕ) (i : ServiceItem) → Within (upto n) (service_item_tree i) → AllByRecursion (RpcWithin n) (service_rpc i)
 service_rpc_within n (service_item.Rpc r) all = (
   rpc_body_within n r.body (right_of (upto n) (rpc_type_tree r.output) (rpc_body_tree r.body)
-      (right_of (upto n) (rpc_type_tree r.input) (Pair (word_tree (codes "returns") r.returns) (Pair (rpc_type_tree r.output) (rpc_body_tree r.body))) all.1.1).1),
+      (right_of (upto n) (rpc_type_tree r.input) (returns_tree r) all.1.1).1),
   tt,
 )
 service_rpc_within n (service_item.Option o) all = tt
@@ -399,7 +416,8 @@ service_items_within n s all = each_row (λ i. Within (upto n) (service_item_tre
 
 pub service_breaks : (n : ℕ) (x : Spot) (s : Service) → Within (upto n) (service_tree s) → ServiceBreaks s x → SpotWithin n x
 service_breaks n x s all (ServiceBreaks.options b) = settings_break n element.Service (flat_map service_setting s.items) x
-    (each_given (λ i. Within (upto n) (service_item_tree i)) (SettingWithin n) service_setting s.items (service_setting_within n) (service_items_within n s all)) b
+    (each_given (λ i. Within (upto n) (service_item_tree i)) (SettingWithin n) service_setting s.items
+    (service_setting_within n) (service_items_within n s all)) b
 service_breaks n x s all (ServiceBreaks.in_rpc b) = each_within (RpcWithin n) RpcBreaks n (flat_map service_rpc s.items) x
     (each_given (λ i. Within (upto n) (service_item_tree i)) (RpcWithin n) service_rpc s.items (service_rpc_within n) (service_items_within n s all))
     (λ r within t. settings_break n element.Method (flat_map rpc_setting (rpc_items r.body)) x within t) b

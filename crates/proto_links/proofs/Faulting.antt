@@ -1,5 +1,5 @@
 -- What is wrong with imports, and which of it comes first.
-use Rattle.std.proofs.Common.{◌≡◌, sym, ℕ, ◌+◌, ◌<◌, ◌≤◌, List, [], ◌∷◌, ◌++◌, length, ap, refl, subst, arith, inl, inr, ◌⊎◌, Vec, Global}
+use Rattle.std.proofs.Common.{◌≡◌, sym, ℕ, ◌+◌, ◌<◌, ◌≤◌, List, [], ◌∷◌, ◌++◌, length, ap, refl, subst, arith, inl, inr, ◌⊎◌, Vec, Global, map}
 use Rattle.std.specs.Prelude.{Bool, Option, Some, None, IfSome, ◌↔◌}
 use Rattle.std.proofs.lemmas.Bool.{cases_lt, cases_eq}
 use Rattle.std.proofs.lemmas.List.Elements.{Contains-push, Contains-push_cases, Contains-append_left}
@@ -19,8 +19,9 @@ use Rattle.proto_base.specs.Lesser.{IsLesser}
 use Rattle.proto_base.specs.declared.spot.Spot.{Spot}
 use Rattle.proto_base.proofs.Sets.{least_or, least_same}
 use Rattle.proto_links.specs.Graphs.{IsGraph, IsWrongAt, IsWrongIn}
-use Rattle.proto_links.specs.Imports.{IsNamed, Imports, Reaches, IsWrong, missing, cyclic, IsBad, NoneBad, imports_at}
-use Rattle.proto_links.specs.Bad.{AreInNameOrder, IsFirstBad, IsNoLater}
+use Rattle.proto_links.specs.Imports.{IsNamed, Imports, Reaches, IsWrong, missing, cyclic, IsBad, NoneBad, imports_at, name_of}
+use Rattle.proto_links.specs.Bad.{IsFirstBad, IsNoLater}
+use Rattle.proto_base.specs.NameOrder.{NamesRise}
 use Rattle.proto_links.proofs.Named.{named_once}
 use Rattle.proto_links.proofs.Targeting.{importer_inside}
 
@@ -43,7 +44,8 @@ pub cyclic_fault : (files : List FileDesc) (a : ℕ) (i : ImportDesc) (t : ℕ) 
     → IsWrong files a i kind.ImportCycle × ((k : Kind) → IsWrong files a i k → k ≡ kind.ImportCycle)
 cyclic_fault files a i t n r = (cyclic t n r, only_cyclic files a i t n)
 
-pub no_fault : (files : List FileDesc) (a : ℕ) (i : ImportDesc) (t : ℕ) → AreInNameOrder files → IsNamed files i.path t → (Reaches files t a → ⊥) → (k : Kind)
+pub no_fault : (files : List FileDesc) (a : ℕ) (i : ImportDesc) (t : ℕ) → NamesRise (map name_of files)
+    → IsNamed files i.path t → (Reaches files t a → ⊥) → (k : Kind)
     → IsWrong files a i k → ⊥
 no_fault files a i t order n out _ (missing none) = none t n
 no_fault files a i t order n out _ (cyclic b m r) = out (subst (λ x. Reaches files x a) (named_once files i.path order b t m n) r)
@@ -116,7 +118,7 @@ none_all files n h f a p k w = f.none a p k (let below = importer_inside files a
 
 later_file : (files : List FileDesc) (n b : ℕ) (x : Spot) (q : Place) (l : Kind) (imports : List ImportDesc) → imports ≡ imports_at files n
     → ((y : Spot) → IsWrongIn files n imports y → AtMost x y) → NoneBefore files n → IsBad files b q l → (b < n) ⊎ (n ≤ b)
-    → IsNoLater n x.place x.kind b q l
+    → IsNoLater (n, x) (b, spot q l)
 later_file files n b x q l imports e least old w (inl less) = absurd (old.none b q l less w)
 later_file files n b x q l imports e least old w (inr over) = elim (cases_eq n b) [
   | inl same ↦ inr (
@@ -132,8 +134,8 @@ first_bad_is files n imports first x e is f old =
     let found = subst (λ (o : Option Spot). IfSome o (IsWrongIn files n imports)) is f.found in
     let least : (y : Spot) → IsWrongIn files n imports y → AtMost x y = λ y w. subst (λ (o : Option Spot). Bounds o y) is (f.least y w) in
     record {
-      bad = subst (λ (xs : List ImportDesc). IsWrongIn files n xs x) e found;
-      least = λ b q l w. later_file files n b x q l imports e least old w (cases_lt b n);
+      among = subst (λ (xs : List ImportDesc). IsWrongIn files n xs x) e found;
+      least = λ (b, y) w. later_file files n b x y.place y.kind imports e least old w (cases_lt b n);
     }
 
 -- the marks of a search over the turned edges are at the files that reach the one

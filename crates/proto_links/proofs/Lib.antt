@@ -1,4 +1,5 @@
 mod Faulting
+mod Laying
 mod Named
 pub mod NameRows
 mod Positions

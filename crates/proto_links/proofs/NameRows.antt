@@ -1,8 +1,10 @@
 -- Names in the order of their bytes, and rows of names that rise.
-use Rattle.std.proofs.Common.{◌≡◌, ℕ, zero, suc, ◌+◌, ◌<◌, List, subst, arith, Ordering, Less, Equal}
+use Rattle.std.proofs.Common.{◌≡◌, ◌≢◌, sym, ℕ, zero, suc, ◌+◌, ◌-◌, ◌<◌, List, [], length, get_or, subst, arith, inl, inr, Ordering, Less, Equal}
 use Rattle.std.specs.Cmp.Lexicographic.{slice_cmp}
 use Rattle.std.specs.Ordering.{nat_cmp}
+use Rattle.std.proofs.lemmas.Bool.{cases_order}
 use Rattle.std.proofs.lemmas.Cmp.{nat_list_cmp_total, tied_itself}
+use Rattle.proto_base.specs.NameOrder.{NamesRise}
 
 pub less_not_equal : (o : Ordering) → o ≡ Less → o ≡ Equal → ⊥
 less_not_equal o h k = cc
@@ -13,11 +15,34 @@ not_less_itself xs h = less_not_equal _ h (tied_itself nat_list_cmp_total xs)
 pub equal_itself : (xs ys : List ℕ) → xs ≡ ys → slice_cmp nat_cmp xs ys ≡ Equal
 equal_itself xs ys e = rw e (tied_itself nat_list_cmp_total ys)
 
--- where each of n names is less than the next one, so are names at a distance
-pub far_apart : (at : ℕ → List ℕ) (n : ℕ) → ((i : ℕ) → i + 1 < n → slice_cmp nat_cmp (at i) (at (i + 1)) ≡ Less) → (i d : ℕ) → i + suc d < n
-    → slice_cmp nat_cmp (at i) (at (i + suc d)) ≡ Less
-far_apart at n rise i zero h = rise i h
-far_apart at n rise i (suc d) h =
-    let next : i + suc d + 1 ≡ i + suc (suc d) = omega arith in
-    subst (λ k. slice_cmp nat_cmp (at i) (at k) ≡ Less) next
-    (nat_list_cmp_total.trans (at i) (at (i + suc d)) (at (i + suc d + 1)) (far_apart at n rise i d (omega arith)) (rise (i + suc d) (omega arith)))
+-- ---- names that rise
+
+module _ (names : List (List ℕ)) (rise : NamesRise names) where
+  abbrev name : ℕ → List ℕ
+  name i = get_or names i []
+
+  apart_by : (i d : ℕ) → i + suc d < length names → slice_cmp nat_cmp (name i) (name (i + suc d)) ≡ Less
+  apart_by i zero h = rise i h
+  apart_by i (suc d) h =
+      let next : i + suc d + 1 ≡ i + suc (suc d) = omega arith in
+      subst (λ k. slice_cmp nat_cmp (name i) (name k) ≡ Less) next
+      (nat_list_cmp_total.trans (name i) (name (i + suc d)) (name (i + suc d + 1)) (apart_by i d (omega arith))
+      (rise (i + suc d) (omega arith)))
+
+  -- any two of them
+  pub rise_far : (i j : ℕ) → i < j → j < length names → slice_cmp nat_cmp (name i) (name j) ≡ Less
+  rise_far i j less h =
+      let split : i + suc (j - i - 1) ≡ j = omega arith in
+      subst (λ k. slice_cmp nat_cmp (name i) (name k) ≡ Less) split (apart_by i (j - i - 1) (omega arith))
+
+  -- no name comes back
+  pub names_differ : (i j : ℕ) → i < j → j < length names → name i ≢ name j
+  names_differ i j less h e =
+      not_less_itself (name j) (subst (λ xs. slice_cmp nat_cmp xs (name j) ≡ Less) e (rise_far i j less h))
+
+  pub one_position : (i j : ℕ) → i < length names → j < length names → name i ≡ name j → i ≡ j
+  one_position i j hi hj e = elim (cases_order i j) [
+    | inl same ↦ same
+    | inr (inl less) ↦ absurd (names_differ i j less hj e)
+    | inr (inr over) ↦ absurd (names_differ j i over hi (sym e))
+  ]

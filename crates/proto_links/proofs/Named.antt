@@ -1,38 +1,25 @@
 -- Laws of files in the order of their names.
-use Rattle.std.proofs.Common.{◌≡◌, ◌≢◌, ◌∙◌, sym, ℕ, suc, ◌+◌, ◌-◌, ◌<◌, ◌≤◌, List, [], ◌∷◌, length, get_or, ap, subst, arith, inl, inr, ◌⊎◌, Ordering, Less, Equal, Greater}
+use Rattle.std.proofs.Common.{◌≡◌, ◌∙◌, sym, ℕ, ◌+◌, ◌-◌, ◌<◌, ◌≤◌, List, [], ◌∷◌, length, get_or, ap, subst, arith, inl, inr, ◌⊎◌, Ordering, Less, Equal, Greater, map}
 use Rattle.std.specs.Prelude.{false, ◌↔◌}
 use Rattle.std.specs.Cmp.Lexicographic.{slice_cmp}
 use Rattle.std.specs.List.Sorted.{IsSortedByKey}
 use Rattle.std.specs.Ordering.{nat_cmp, ordering_reverse, is_lt}
-use Rattle.std.proofs.lemmas.Bool.{cases_eq, cases_lt}
+use Rattle.std.proofs.lemmas.Bool.{cases_lt}
 use Rattle.std.proofs.lemmas.Cmp.{nat_list_cmp_total}
 use Rattle.std.proofs.lemmas.Map.Lookups.{exact_bytes}
-use Rattle.std.proofs.lemmas.List.{get_or-map}
+use Rattle.std.proofs.lemmas.List.{get_or-map, length-map}
 use Rattle.digraph.proofs.Visiting.{no_position}
 use Rattle.proto_desc.specs.declared.file.FileDesc.{FileDesc}
 use Rattle.proto_links.specs.Imports.{name_of, name_at, IsNamed}
-use Rattle.proto_links.specs.Bad.{AreInNameOrder}
-use Rattle.proto_links.proofs.NameRows.{equal_itself, far_apart, less_not_equal, not_less_itself}
-
--- names at a distance
-names_far : (files : List FileDesc) → AreInNameOrder files → (i j : ℕ) → i < j → j < length files → slice_cmp nat_cmp (name_at files i) (name_at files j) ≡ Less
-names_far files order i j h inside =
-    let split : i + suc (j - i - 1) ≡ j = omega arith in
-    subst (λ k. slice_cmp nat_cmp (name_at files i) (name_at files k) ≡ Less) split (far_apart (name_at files) (length files) order i (j - i - 1) (omega arith))
-
-names_differ : (files : List FileDesc) → AreInNameOrder files → (i j : ℕ) → i < j → j < length files → name_at files i ≢ name_at files j
-names_differ files order i j h inside e =
-    not_less_itself (name_at files j) (subst (λ xs. slice_cmp nat_cmp xs (name_at files j) ≡ Less) e (names_far files order i j h inside))
-
-unique_case : (files : List FileDesc) (name : List ℕ) → AreInNameOrder files → (b c : ℕ) → IsNamed files name b → IsNamed files name c → (b ≡ c) ⊎ (b ≡ c → ⊥)
-    → (b < c) ⊎ (c ≤ b) → b ≡ c
-unique_case files name order b c nb nc (inl same) h = same
-unique_case files name order b c nb nc (inr other) (inl less) = absurd (names_differ files order b c less nc.0 (nb.1 ∙ sym nc.1))
-unique_case files name order b c nb nc (inr other) (inr over) = absurd (names_differ files order c b (omega (arith, over, other)) nb.0 (nc.1 ∙ sym nb.1))
+use Rattle.proto_base.specs.NameOrder.{NamesRise}
+use Rattle.proto_links.proofs.NameRows.{equal_itself, less_not_equal, one_position}
 
 -- at most one file has a name
-pub named_once : (files : List FileDesc) (name : List ℕ) → AreInNameOrder files → (b c : ℕ) → IsNamed files name b → IsNamed files name c → b ≡ c
-named_once files name order b c nb nc = unique_case files name order b c nb nc (cases_eq b c) (cases_lt b c)
+pub named_once : (files : List FileDesc) (name : List ℕ) → NamesRise (map name_of files) → (b c : ℕ)
+    → IsNamed files name b → IsNamed files name c → b ≡ c
+named_once files name order b c nb nc =
+    let size = length-map files name_of in
+    one_position (map name_of files) order b c (omega (arith, nb.0, size)) (omega (arith, nc.0, size)) (nb.1 ∙ sym nc.1)
 
 pub name_is : (files : List FileDesc) (k : ℕ) (d : FileDesc) → k < length files → name_at files k ≡ name_of (get_or files k d)
 name_is files k d h = get_or-map name_of files k d [] h
@@ -41,12 +28,14 @@ not_after : (o : Ordering) → o ≡ Less → is_lt (ordering_reverse o) ≡ fal
 not_after o h = cc
 
 -- the order that a search asks for
-pub sorted_names : (files : List FileDesc) → AreInNameOrder files → IsSortedByKey name_of (slice_cmp nat_cmp) files
+pub sorted_names : (files : List FileDesc) → NamesRise (map name_of files)
+    → IsSortedByKey name_of (slice_cmp nat_cmp) files
 sorted_names files order k d low h =
     let inside : k + 1 < length files = omega arith in
     let less : slice_cmp nat_cmp (name_of (get_or files k d)) (name_of (get_or files (k + 1) d)) ≡ Less =
     subst (λ xs. slice_cmp nat_cmp xs (name_of (get_or files (k + 1) d)) ≡ Less) (name_is files k d (omega arith))
-    (subst (λ ys. slice_cmp nat_cmp (name_at files k) ys ≡ Less) (name_is files (k + 1) d inside) (order k inside)) in
+    (subst (λ ys. slice_cmp nat_cmp (name_at files k) ys ≡ Less) (name_is files (k + 1) d inside)
+    (order k (omega (arith, inside, length-map files name_of)))) in
     ap is_lt (nat_list_cmp_total.antisymm (name_of (get_or files (k + 1) d)) (name_of (get_or files k d)))
     ∙ not_after (slice_cmp nat_cmp (name_of (get_or files k d)) (name_of (get_or files (k + 1) d))) less
 
@@ -76,11 +65,12 @@ pair_names files n f g some h ef eg =
       λ less. subst (λ xs. slice_cmp nat_cmp xs (name_of g) ≡ Less) first (subst (λ ys. slice_cmp nat_cmp (name_at files (n - 1)) ys ≡ Less) second less),
     )
 
-pub last_pair : (files : List FileDesc) (n : ℕ) → 0 < n → n < length files → AreInNameOrder files
+pub last_pair : (files : List FileDesc) (n : ℕ) → 0 < n → n < length files → NamesRise (map name_of files)
     → slice_cmp nat_cmp (name_at files (n - 1)) (name_at files n) ≡ Less
 last_pair files n some h order =
     let at : n - 1 + 1 ≡ n = omega arith in
-    subst (λ k. slice_cmp nat_cmp (name_at files (n - 1)) (name_at files k) ≡ Less) at (order (n - 1) (omega arith))
+    subst (λ k. slice_cmp nat_cmp (name_at files (n - 1)) (name_at files k) ≡ Less) at
+    (order (n - 1) (omega (arith, h, length-map files name_of)))
 
 -- ---- what a search finds
 

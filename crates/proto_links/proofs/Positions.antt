@@ -4,7 +4,7 @@ use Rattle.std.specs.Prelude.{Contains, ◌↔◌, IsTrue}
 use Rattle.std.specs.Cmp.{nat_eq_equiv}
 use Rattle.std.proofs.lemmas.Bool.{eqb-true}
 use Rattle.std.proofs.lemmas.Grind.{common_steps}
-use Rattle.std.proofs.lemmas.List.{get_or-map}
+use Rattle.std.proofs.lemmas.List.{get_or-map, get_or_default}
 use Rattle.std.proofs.lemmas.Map.Views.{Contains-from_any, list_any-from_Contains}
 use Rattle.bit_matrix.specs.Bits.{Bits}
 use Rattle.bit_matrix.specs.Changes.{Has, columns_of}
@@ -20,12 +20,15 @@ use Rattle.digraph.proofs.Ways.{leads_map, leads_le}
 use Rattle.proto_desc.specs.declared.file.FileDesc.{FileDesc}
 use Rattle.proto_links.specs.Graphs.{IsGraph, IsPublicGraph}
 use Rattle.proto_links.specs.Imports.{Imports, ImportsPublicly, Reaches}
-use Rattle.proto_links.specs.Linked.{Linked, AreLinked, IsSetOrder, AreRanks, IsReach}
-use Rattle.proto_links.specs.Whole.{has, IsSound}
+use Rattle.proto_links.specs.Layout.{IsLaidOut, linked}
+use Rattle.proto_links.specs.Linked.{AreLinked, IsSetOrder, AreRanks, IsReach, reach_of, sees}
+use Rattle.proto_links.specs.Whole.{has}
 use Rattle.proto_links.specs.Positioned.{ArePositioned, AreFilesReached, AreFilesSeen, AreRanked, file_imports, file_public_imports, import_rows, public_rows}
 use Rattle.proto_links.specs.Visible.{Sees}
 use Rattle.proto_links.specs.declared.graph.Graph.{Graph as ImportGraph}
+use Rattle.proto_links.specs.declared.links.Links.TheInside.{Inside}
 use Rattle.proto_links.specs.declared.positioned.Positioned.{Positioned}
+use Rattle.proto_links.proofs.Laying.{reach_there, sees_there}
 use Rattle.proto_links.proofs.Reaching.{public_imports, leads_inside, SeesBy, sees_is}
 
 -- ---- graphs of files
@@ -55,14 +58,9 @@ file_at ranking = node_at ranking.order.items
 abbrev position_of : Positioned → ℕ → ℕ
 position_of positioned a = get_or positioned.positions.items a 0
 
-abbrev links_of : Ranking → Positioned → List (List ℕ) → Bits → Linked
-links_of ranking positioned reach seen = record {
-  ranks = ranking.ranks.items;
-  set_order = ranking.order.items;
-  positions = positioned.positions.items;
-  reach = reach;
-  seen = seen;
-}
+abbrev layout : Ranking → Positioned → List (List ℕ) → Bits → Inside
+layout ranking positioned reach seen =
+    record { ranking = ranking; positions = positioned.positions; reach = reach; seen = seen }
 
 -- ---- lists
 
@@ -269,29 +267,51 @@ module _ {files : List FileDesc} {graph : ImportGraph} {ranking : Ranking} {posi
   ranks_size : length ranking.ranks.items ≡ length files
   ranks_size = omega (arith, m.ranked.order.size, order_size m.ranked)
 
-  pub sound_of : IsSound (links_of ranking positioned reach seen)
-  sound_of = record {
-    size = omega (arith, m.positions.size, m.ranked.order.size);
-    reach_inside = λ a h. (
-        let inside = position_below m a (omega (arith, h, ranks_size)) in
+  abbrev kept : Inside
+  kept = layout ranking positioned reach seen
+
+  positions_size : length positioned.positions.items ≡ length files
+  positions_size = omega (arith, m.positions.size, order_size m.ranked)
+
+  position_inside : (k d : ℕ) → k < length positioned.positions.items
+      → get_or positioned.positions.items k d < length positioned.imports.items
+  position_inside k d h =
+      let inside = position_below m k (omega (arith, h, positions_size)) in
+      rw (get_or_default positioned.positions.items k d 0 h) inside
+
+  pub laid_out : IsLaidOut kept
+  laid_out = record {
+    size = omega (arith, positions_size, ranks_size);
+    lists = λ k d h. (
+        let inside = position_inside k d h in
         omega (arith, inside, r.size, named_length (file_at ranking) r.lists reach r.named));
-    seen_inside = λ a h. (
-        let inside = position_below m a (omega (arith, h, ranks_size)) in
-        omega (arith, inside, rows_size m, s.reaches.rows, s.joined.large.rows));
+    rows = λ k d h. (
+        let inside = position_inside k d h in omega (arith, inside, rows_size m, s.reaches.rows, s.joined.large.rows));
     columns = subst (λ w. length ranking.ranks.items ≤ 64 * w) (sym s.joined.large.width)
         (omega (arith, ranks_size, order_size m.ranked, s.reaches.columns));
   }
 
-  pub linked_of : AreLinked files (links_of ranking positioned reach seen)
+  reach_of_file : (a : ℕ) → a < length files → IsReach files (rank_of ranking) a (reach_of (linked kept) a)
+  reach_of_file a h =
+      let k = position_of positioned a in
+      let inside = position_below m a h in
+      let list = get_or r.lists k [] in
+      let named = named_list (file_at ranking) r.lists reach k r.named (omega (arith, inside, r.size)) in
+      subst (IsReach files (rank_of ranking) a) (sym (reach_there kept a (omega (arith, h, positions_size)) ∙ named))
+      (reach_is m a list h (r.reaches k inside))
+
+  sees_of_file : (a b : ℕ) → a < length files → b < length files → IsTrue (sees (linked kept) a b) ↔ Sees files a b
+  sees_of_file a b ha hb =
+      let there = sees_there kept a (omega (arith, ha, positions_size)) b
+      (omega (arith, hb, ranks_size, laid_out.columns)) in
+      let is = seen_is m s a b ha hb in (λ t. is.0 (sym there ∙ t), λ v. there ∙ is.1 v)
+
+  pub linked_of : AreLinked files (linked kept)
   linked_of = record {
     whole = m.ranked.none_bad;
     count = ranks_size;
     ranks = ranks_are m.ranked;
     order = order_is m.ranked;
-    reach = λ a h. (
-        let k = position_of positioned a in
-        let inside = position_below m a h in
-        subst (IsReach files (rank_of ranking) a) (sym (named_list (file_at ranking) r.lists reach k r.named (omega (arith, inside, r.size))))
-        (reach_is m a (get_or r.lists k []) h (r.reaches k inside)));
-    sees = seen_is m s;
+    reach = reach_of_file;
+    sees = sees_of_file;
   }

@@ -12,8 +12,8 @@ use Rattle.digraph.proofs.Visiting.{push_iff, no_position}
 use Rattle.proto_desc.specs.declared.file.FileDesc.{FileDesc}
 use Rattle.proto_desc.specs.declared.file.ImportDesc.{ImportDesc}
 use Rattle.proto_links.specs.Graphs.{HasMissing, IsGraph, IsPublicGraph}
-use Rattle.proto_links.specs.Imports.{imports_of, imports_at, IsNamed, Targets, PublicTargets, Imports, ImportsPublicly}
-use Rattle.proto_links.specs.Bad.{AreInNameOrder}
+use Rattle.proto_links.specs.Imports.{imports_of, imports_at, IsNamed, Targets, PublicTargets, Imports, ImportsPublicly, name_of}
+use Rattle.proto_base.specs.NameOrder.{NamesRise}
 use Rattle.proto_links.proofs.Named.{named_once}
 use Rattle.proto_links.proofs.Rising.{none_in}
 
@@ -63,15 +63,18 @@ pub record Targeting (files : List FileDesc) (xs : List ImportDesc) (all public 
   pub found : IsTrue whole → HasMissing files xs → ⊥
   pub lacking : whole ≡ false → HasMissing files xs
 
-named_is : (files : List FileDesc) (i : ImportDesc) (t b : ℕ) → AreInNameOrder files → IsNamed files i.path t → (t ≡ b) ↔ IsNamed files i.path b
+named_is : (files : List FileDesc) (i : ImportDesc) (t b : ℕ) → NamesRise (map name_of files)
+    → IsNamed files i.path t → (t ≡ b) ↔ IsNamed files i.path b
 named_is files i t b order n = (λ e. subst (IsNamed files i.path) e n, λ m. named_once files i.path order t b n m)
 
-public_is : (files : List FileDesc) (i : ImportDesc) (t b : ℕ) → AreInNameOrder files → IsNamed files i.path t → IsTrue i.is_public
+public_is : (files : List FileDesc) (i : ImportDesc) (t b : ℕ) → NamesRise (map name_of files)
+    → IsNamed files i.path t → IsTrue i.is_public
     → (t ≡ b) ↔ (IsTrue i.is_public × IsNamed files i.path b)
 public_is files i t b order n p = (λ e. (p, subst (IsNamed files i.path) e n), λ m. named_once files i.path order t b n m.1)
 
 pub targeting_public : (files : List FileDesc) (xs : List ImportDesc) (i : ImportDesc) (t : ℕ) (all public new_all new_public : List ℕ) (whole : Bool)
-    → AreInNameOrder files → IsNamed files i.path t → IsTrue i.is_public → new_all ≡ all ++ t ∷ [] → new_public ≡ public ++ t ∷ []
+    → NamesRise (map name_of files) → IsNamed files i.path t → IsTrue i.is_public → new_all ≡ all ++ t ∷ []
+    → new_public ≡ public ++ t ∷ []
     → Targeting files xs all public whole → Targeting files (xs ++ i ∷ []) new_all new_public whole
 targeting_public files xs i t all public new_all new_public whole order n p ea ep r = rw (ea, ep) (record {
   all_are = λ b. iff (push_iff all t b) (iff (either (r.all_are b) (named_is files i t b order n)) (flip (targets_more files xs i b)));
@@ -84,7 +87,8 @@ not_public : (files : List FileDesc) (i : ImportDesc) (b : ℕ) (A : Type 0) →
 not_public files i b A e = (λ a. inl a, λ w. (elim w [ inl a ↦ a | inr m ↦ absurd (false≢true (sym e ∙ m.0)) ]))
 
 pub targeting_private : (files : List FileDesc) (xs : List ImportDesc) (i : ImportDesc) (t : ℕ) (all public new_all new_public : List ℕ) (whole : Bool)
-    → AreInNameOrder files → IsNamed files i.path t → i.is_public ≡ false → new_all ≡ all ++ t ∷ [] → new_public ≡ public → Targeting files xs all public whole
+    → NamesRise (map name_of files) → IsNamed files i.path t → i.is_public ≡ false → new_all ≡ all ++ t ∷ []
+    → new_public ≡ public → Targeting files xs all public whole
     → Targeting files (xs ++ i ∷ []) new_all new_public whole
 targeting_private files xs i t all public new_all new_public whole order n p ea ep r = rw (ea, ep) (record {
   all_are = λ b. iff (push_iff all t b) (iff (either (r.all_are b) (named_is files i t b order n)) (flip (targets_more files xs i b)));

@@ -6,6 +6,7 @@ use Rattle.std.proofs.lemmas.List.Elements.{Contains-get_or}
 use Rattle.proto_desc.specs.declared.file.FileDesc.{FileDesc}
 use Rattle.proto_base.specs.declared.kind.Kind.{Kind}
 use Rattle.proto_base.specs.declared.place.Place.{Place}
+use Rattle.proto_base.specs.Least.{spot}
 use Rattle.proto_base.proofs.Spots.{one_spot}
 use Rattle.proto_links.specs.Bad.{IsFirstBad, IsNoLater}
 use Rattle.proto_links.specs.Linked.{Linked, AreLinked, AreRanks, IsBefore, IsInSetOrder, IsSetOrder, rank_of, sees}
@@ -79,7 +80,8 @@ sees_same files links others a b first second ha hb seen = (second.sees a b ha h
 
 -- ---- the first bad import
 
-one_import : (a b : ℕ) (p q : Place) (k l : Kind) → IsNoLater a p k b q l → IsNoLater b q l a p k → (a ≡ b) × (p ≡ q) × (k ≡ l)
+one_import : (a b : ℕ) (p q : Place) (k l : Kind) → IsNoLater (a, spot p k) (b, spot q l)
+    → IsNoLater (b, spot q l) (a, spot p k) → (a ≡ b) × (p ≡ q) × (k ≡ l)
 one_import a b p q k l (inl before) (inl after) = absurd (omega (arith, before, after))
 one_import a b p q k l (inl before) (inr after) = absurd (omega (arith, before, after.0))
 one_import a b p q k l (inr before) (inl after) = absurd (omega (arith, before.0, after))
@@ -88,4 +90,5 @@ one_import a b p q k l (inr before) (inr after) = let one = one_spot p q k l bef
 pub one_bad : (files : List FileDesc) (a b : ℕ) (place other : Place) (kind what : Kind) → IsFirstBad files a place kind → IsFirstBad files b other what
     → (a ≡ b) × (place ≡ other) × (kind ≡ what)
 one_bad files a b place other kind what first second =
-    one_import a b place other kind what (first.least b other what second.bad) (second.least a place kind first.bad)
+    one_import a b place other kind what (first.least (b, spot other what) second.among)
+    (second.least (a, spot place kind) first.among)

@@ -1,5 +1,6 @@
 pub mod Graphs
 pub mod Imports
+pub mod Layout
 pub mod Linked
 pub mod Positioned
 pub mod Visible

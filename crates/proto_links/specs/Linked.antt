@@ -1,18 +1,15 @@
 -- Files whose imports are found, by their positions in the list of files.
-use Rattle.std.specs.Prelude.{◌≡◌, ◌⊎◌, ◌↔◌, ℕ, ◌+◌, ◌<◌, List, [], length, Bool, IsTrue, Contains, slice_index_or}
-use Rattle.bit_matrix.specs.Bits.{Bits, has as is_set}
+use Rattle.std.specs.Prelude.{◌≡◌, ◌⊎◌, ◌↔◌, ℕ, ◌+◌, ◌<◌, List, [], length, Bool, false, IsTrue, Contains, slice_index_or}
 use Rattle.proto_desc.specs.declared.file.FileDesc.{FileDesc}
 use Rattle.proto_links.specs.Imports.{Imports, Reaches, NoneBad}
 use Rattle.proto_links.specs.Visible.{Sees}
 
--- Each file has a position in set order. The list of what it reaches stands there, and the row in which the files that
--- it sees are set.
+-- the files in set order; and, file by file, its rank, what it reaches, and of each file whether it sees that one
 pub record Linked : Type 0 where
-  pub ranks : List ℕ
   pub set_order : List ℕ
-  pub positions : List ℕ
+  pub ranks : List ℕ
   pub reach : List (List ℕ)
-  pub seen : Bits
+  pub seen : List (List Bool)
 
 abbrev pub count_of : Linked → ℕ
 count_of links = length links.ranks
@@ -20,14 +17,11 @@ count_of links = length links.ranks
 abbrev pub rank_of : Linked → ℕ → ℕ
 rank_of links a = slice_index_or links.ranks a 0
 
-abbrev pub position_of : Linked → ℕ → ℕ
-position_of links a = slice_index_or links.positions a 0
-
 abbrev pub reach_of : Linked → ℕ → List ℕ
-reach_of links a = slice_index_or links.reach (position_of links a) []
+reach_of links a = slice_index_or links.reach a []
 
 abbrev pub sees : Linked → ℕ → ℕ → Bool
-sees links a b = is_set links.seen (position_of links a) b
+sees links a b = slice_index_or (slice_index_or links.seen a []) b false
 
 -- ---- what the links of files are
 

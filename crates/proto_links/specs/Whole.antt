@@ -1,10 +1,10 @@
 -- What is so of the links of any files.
-use Rattle.std.specs.Prelude.{◌≡◌, ◌↔◌, ℕ, ◌<◌, ◌≤◌, List, length, filter, Bool, IsTrue, Contains, ◌==◌}
+use Rattle.std.specs.Prelude.{◌≡◌, ◌↔◌, ℕ, ◌<◌, List, length, filter, Bool, IsTrue, Contains, ◌==◌}
 use Rattle.std.specs.List.{list_any, IsDistinct}
 use Rattle.bit_matrix.specs.Bits.{Bits}
 use Rattle.bit_matrix.specs.Changes.{Has, columns_of}
 use Rattle.proto_desc.specs.declared.file.FileDesc.{FileDesc}
-use Rattle.proto_links.specs.Linked.{Linked, count_of, position_of, reach_of, sees, AreLinked}
+use Rattle.proto_links.specs.Linked.{Linked, count_of, reach_of, sees, AreLinked}
 
 -- the file is in the list
 abbrev pub has : ℕ → List ℕ → Bool
@@ -13,13 +13,6 @@ has a files = list_any (λ b. a == b) files
 -- one of the files that are set in a row is seen
 abbrev pub SeesOneOf : Linked → ℕ → Bits → ℕ → Type 0
 SeesOneOf links a files row = (b : ℕ) × (b < columns_of files) × IsTrue (sees links a b) × Has files row b
-
--- each file has its position in set order, a list and a row there, and is set or not in each row
-pub record IsSound (links : Linked) : Type 0 where
-  pub size : length links.positions ≡ length links.ranks
-  pub reach_inside : (a : ℕ) → a < length links.ranks → position_of links a < length links.reach
-  pub seen_inside : (a : ℕ) → a < length links.ranks → position_of links a < links.seen.rows
-  pub columns : length links.ranks ≤ columns_of links.seen
 
 -- the links of some files
 abbrev pub AreOfFiles : Linked → Type 0

@@ -1,12 +1,13 @@
 //! The first bad import.
 
-ghost use Rattle.std.specs.Prelude.{◌≡◌, ◌↔◌, ℕ, ◌<◌, IfOk, MatchOption, length, Contains};
+ghost use Rattle.std.specs.Prelude.{◌≡◌, ◌↔◌, ℕ, ◌<◌, IfOk, MatchOption, length, map, Contains};
 ghost use Rattle.digraph.specs.Edges.{graph_of};
 ghost use Rattle.digraph.specs.Marks.{IsMarked};
 ghost use Rattle.proto_desc.specs.declared.file.ImportDesc.{ImportDesc};
 ghost use Rattle.proto_links.specs.Graphs.{IsGraph, IsWrongIn};
-ghost use Rattle.proto_links.specs.Imports.{IsWrong, NoneBad, Reaches, imports_at};
-ghost use Rattle.proto_links.specs.Bad.{AreInNameOrder, IsFirstBad};
+ghost use Rattle.proto_links.specs.Imports.{IsWrong, NoneBad, Reaches, imports_at, name_of};
+ghost use Rattle.proto_links.specs.Bad.{IsFirstBad};
+ghost use Rattle.proto_base.specs.NameOrder.{NamesRise};
 ghost use Rattle.proto_base.specs.Least.{IsLeast};
 ghost use Rattle.proto_base.specs.declared.kind.Kind.{Kind};
 
@@ -18,7 +19,7 @@ use std::alloc::{AllocError, Global};
 
 /// What is wrong with an import of a file, where the files that reach it are marked.
 fn fault_of(files: &[FileDesc], file: usize, import: &ImportDesc, reaching: &[bool]) -> Option<Kind>
-    requires order { AreInNameOrder files.now }
+    requires order { NamesRise (map name_of files.now) }
     requires room { length reaching.now ≡ length files.now }
     requires reaching { (b : ℕ) → IsMarked reaching.now b ↔ Reaches files.now b file }
     ensures { MatchOption result ((k : Kind) → IsWrong files.now file import.now k → ⊥)
@@ -44,7 +45,7 @@ fn first_wrong(
     imports: &[ImportDesc],
     reaching: &[bool],
 ) -> Option<Spot>
-    requires order { AreInNameOrder files.now }
+    requires order { NamesRise (map name_of files.now) }
     requires room { length reaching.now ≡ length files.now }
     requires reaching { (b : ℕ) → IsMarked reaching.now b ↔ Reaches files.now b file }
     ensures { IsLeast (IsWrongIn files.now file imports.now) result }
@@ -65,7 +66,7 @@ pub(crate) fn first_bad(
     files: &[FileDesc],
     imports: &[Vec<usize>],
 ) -> Result<Option<(usize, Spot)>, AllocError>
-    requires order { AreInNameOrder files.now }
+    requires order { NamesRise (map name_of files.now) }
     requires graph { IsGraph files.now (graph_of imports.now) }
     ensures { IfOk result (λ bad. MatchOption bad (NoneBad files.now)
         (λ bad. IsFirstBad files.now bad.0 bad.1.place bad.1.kind)) }

@@ -1,9 +1,9 @@
 //! Imports as a graph of files.
 
-ghost use Rattle.std.specs.Prelude.{◌≡◌, ◌↔◌, ℕ, Contains, IfOk, IsTrue, false};
+ghost use Rattle.std.specs.Prelude.{◌≡◌, ◌↔◌, ℕ, Contains, IfOk, IsTrue, false, map};
 ghost use Rattle.digraph.specs.Edges.{graph_of};
-ghost use Rattle.proto_links.specs.Imports.{PublicTargets, Targets, imports_at};
-ghost use Rattle.proto_links.specs.Bad.{AreInNameOrder};
+ghost use Rattle.proto_links.specs.Imports.{PublicTargets, Targets, imports_at, name_of};
+ghost use Rattle.proto_base.specs.NameOrder.{NamesRise};
 ghost use Rattle.proto_links.specs.Graphs.{HasMissing, IsGraph, IsPublicGraph};
 
 use crate::order::file_named;
@@ -21,7 +21,7 @@ struct Named {
 
 /// What the imports of one file name.
 fn targets(alloc: Global, files: &[FileDesc], imports: &[ImportDesc]) -> Result<Named, AllocError>
-    requires { AreInNameOrder files.now }
+    requires { NamesRise (map name_of files.now) }
     ensures all { IfOk result (λ targets. (b : ℕ)
         → Contains targets.all.items b ↔ Targets files.now imports.now b) }
     ensures public { IfOk result (λ targets. (b : ℕ)
@@ -63,7 +63,7 @@ pub(crate) struct Graph {
 
 /// The graph of the imports that name a file.
 pub(crate) fn import_graph(alloc: Global, files: &[FileDesc]) -> Result<Graph, AllocError>
-    requires { AreInNameOrder files.now }
+    requires { NamesRise (map name_of files.now) }
     ensures imports { IfOk result (λ graph. IsGraph files.now (graph_of graph.imports.items)) }
     ensures public { IfOk result (λ graph. IsPublicGraph files.now
         (graph_of graph.public_imports.items)) }

@@ -1,7 +1,9 @@
 //! Linking: finding each import's file, and what is wrong with the imports.
 
-ghost use Rattle.std.specs.Prelude.{◌≡◌, ℕ, Err, IfOk};
-ghost use Rattle.proto_links.specs.Bad.{AreInNameOrder, IsFirstBad};
+ghost use Rattle.std.specs.Prelude.{◌≡◌, ℕ, Err, IfOk, map};
+ghost use Rattle.proto_links.specs.Bad.{IsFirstBad};
+ghost use Rattle.proto_links.specs.Imports.{name_of};
+ghost use Rattle.proto_base.specs.NameOrder.{NamesRise};
 ghost use Rattle.proto_links.specs.Linked.{AreLinked};
 ghost use Rattle.proto_links.specs.Positioned.{AreRanked};
 ghost use Rattle.proto_base.specs.declared.kind.Kind.{Kind};
@@ -64,7 +66,7 @@ fn link_files(
 /// `ImportCycle` where the file that has it reaches the importer. Files without a bad import are linked. `NoMemory`
 /// comes only where the allocator had none.
 pub fn link(alloc: Global, files: &[FileDesc]) -> Result<Links, LinkError>
-    requires { AreInNameOrder files.now }
+    requires { NamesRise (map name_of files.now) }
     ensures linked { IfOk result (AreLinked files.now) }
     ensures bad { (file : ℕ) (place : Place) (kind : Kind)
         → result ≡ Err (errors.At file place kind) → IsFirstBad files.now file place kind }

@@ -12,8 +12,8 @@ use std::marker::Model;
 /// A file, by its position in the list of files.
 pub type FileId = usize;
 
-/// The files that each file reaches and sees, and the order of a set of files. Contracts see it as these things, by the
-/// places of files in the list that was linked.
+/// The files that each file reaches and sees, and the order of a set of files. Contracts see it file by file, in the
+/// order of the list that was linked.
 #[derive(Drop)]
 pub struct Links {
     pub(crate) ranking: Ranking,
@@ -27,32 +27,15 @@ pub struct Links {
 
 impl Model for Links {
     ghost use Rattle.proto_links.specs.Linked.{Linked};
-    ghost use Rattle.proto_links.specs.Whole.{AreOfFiles, IsSound};
 
     ghost Value = { Linked };
 
-    ghost view = { λ links. record {
-      ranks = links.ranking.ranks.items;
-      set_order = links.ranking.order.items;
-      positions = links.positions.items;
-      reach = links.reach;
-      seen = links.seen;
-    } };
+    ghost use Rattle.proto_links.specs.Layout.{IsLaidOut, linked};
+    ghost use Rattle.proto_links.specs.Whole.{AreOfFiles};
 
-    ghost invariant = { λ links. IsSound (record {
-      ranks = links.ranking.ranks.items;
-      set_order = links.ranking.order.items;
-      positions = links.positions.items;
-      reach = links.reach;
-      seen = links.seen;
-    })
-        × AreOfFiles (record {
-          ranks = links.ranking.ranks.items;
-          set_order = links.ranking.order.items;
-          positions = links.positions.items;
-          reach = links.reach;
-          seen = links.seen;
-        }) };
+    ghost view = { linked };
+
+    ghost invariant = { λ links. IsLaidOut links × AreOfFiles (linked links) };
 }
 
 impl Links {

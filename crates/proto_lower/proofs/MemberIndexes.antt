@@ -66,8 +66,8 @@ none-from full k real next (message_item.Reserved r ∷ is) before below = none-
 none-from full k real next (message_item.Empty s ∷ is) before below = none-from full k real next is before below
 
 -- the fields with the index of a oneof of the source are its members
-members-from : (full : List ℕ) (real next j k : ℕ) (is : List MessageItem) (o : Oneof) → k ≡ real + j → k < next → slice_get (flat_map message_oneof is) j ≡ Some o
-    → fields_in k (fields_from full real next is) ≡ members k o.items
+members-from : (full : List ℕ) (real next j k : ℕ) (is : List MessageItem) (o : Oneof) → k ≡ real + j → k < next
+    → slice_get (flat_map message_oneof is) j ≡ Some o → fields_in k (fields_from full real next is) ≡ members k o.items
 members-from full real next j k [] o at below stands = cc
 members-from full real next j k (message_item.Field f ∷ is) o at below stands =
     passed k (field_at next f) (fields_from full real (next + made_by (is_optional f.label)) is) (made-apart k next (is_optional f.label) below)

@@ -1,6 +1,7 @@
 -- Names that are made of the names of fields.
-use Rattle.std.specs.Prelude.{ℕ, zero, suc, Bool, List, [], ◌∷◌, ◌++◌, if◌then◌else◌, ◌==◌, codes, length, encode_utf8_all}
-use Rattle.std.specs.List.{list_any}
+use Rattle.std.specs.Prelude.{ℕ, Bool, List, [], ◌∷◌, ◌++◌, if◌then◌else◌, ◌==◌, codes, length, replicate, encode_utf8_all}
+use Rattle.std.specs.List.{prefix_len, range_with_len}
+use Rattle.std.specs.Set.{is_member}
 use Rattle.std.specs.Str.{chars, bytes_eq}
 use Rattle.std.specs.Char.{to_ascii_uppercase}
 
@@ -30,15 +31,16 @@ abbrev pub with_underscore : List ℕ → List ℕ
 with_underscore [] = 95 ∷ []
 with_underscore (c ∷ cs) = if c == 95 then c ∷ cs else 95 ∷ c ∷ cs
 
--- `X` is put in front of a name as long as it is taken, but `most` times at most
+-- a name with `X` in front this many times
+abbrev pub behind_letters : (count : ℕ) → List ℕ → List ℕ
+behind_letters count name = replicate count 88 ++ name
+
+-- the first name that is free, of this one and it with `X` in front once, twice and so on, `most` times at most: as many
+-- are in front as names are taken before it
 abbrev pub first_free : (is_taken : List ℕ → Bool) → (most : ℕ) → List ℕ → List ℕ
-first_free is_taken zero name = name
-first_free is_taken (suc most) name = if is_taken name then first_free is_taken most (88 ∷ name) else name
+first_free is_taken most name =
+    behind_letters (prefix_len (λ count. is_taken (behind_letters count name)) (range_with_len 0 most)) name
 
-abbrev pub is_among : List (List ℕ) → List ℕ → Bool
-is_among taken name = list_any (λ t. bytes_eq t name) taken
-
--- the name of the oneof that an `optional` field makes. A name that is taken is as long as one of the names that are,
--- so that no more of them are met than there are
+-- the name of the oneof that an `optional` field makes: the first that is free. Of one name more than are taken one is
 abbrev pub oneof_name_of : List (List ℕ) → List ℕ → List ℕ
-oneof_name_of taken field = first_free (is_among taken) (length taken) (with_underscore field)
+oneof_name_of taken field = first_free (is_member bytes_eq taken) (length taken) (with_underscore field)

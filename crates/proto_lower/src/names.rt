@@ -2,9 +2,10 @@
 
 ghost use Rattle.std.specs.Prelude.{◌≡◌, ◌==◌, ℕ, IfOk, OnOk, string_bytes, map, false, List, [], ◌∷◌, ◌++◌};
 ghost use Rattle.std.specs.List.{list_any};
-ghost use Rattle.std.specs.Str.{chars};
+ghost use Rattle.std.specs.Set.{is_member};
+ghost use Rattle.std.specs.Str.{chars, bytes_eq};
 ghost use Rattle.std.specs.BTreeSet.{contains_text};
-ghost use Rattle.proto_lower.specs.Names.{raised, json_name_of, entry_name_of, oneof_name_of, first_free, with_underscore, is_among};
+ghost use Rattle.proto_lower.specs.Names.{raised, json_name_of, entry_name_of, oneof_name_of, first_free, with_underscore};
 ghost use Rattle.proto_lower.specs.Taken.{begins_as_made, IsSetOf};
 
 use proto_base::text::Text;
@@ -130,8 +131,8 @@ fn set_of(alloc: Global, names: &[&str]) -> Result<BTreeSet<String>, AllocError>
 pub fn oneof_name(alloc: Global, field: &str, taken: &[&str]) -> Result<String, AllocError>
     ensures value { IfOk result (λ name. string_bytes name
         ≡ oneof_name_of (map (λ t. t.now) taken.now) field.now) }
-    ensures free { IfOk result (λ name. is_among (map (λ t. t.now) taken.now) (string_bytes name)
-        ≡ false) }
+    ensures free { IfOk result (λ name. is_member bytes_eq (map (λ t. t.now) taken.now)
+        (string_bytes name) ≡ false) }
 {
     let set = set_of(alloc, taken)?;
     let start = with_underscore(alloc, field)?;

@@ -55,11 +55,17 @@ twice_moved xs ys same b (a, both, clash) = (a, ContainsBoth-permutation xs ys a
 pub none_moved : (xs ys : List Occurrence) → IsPermutation xs ys → NoneTwice ys → NoneTwice xs
 none_moved xs ys same none b twice = none b (twice_moved xs ys same b twice)
 
-pub first_moved : (xs ys : List Occurrence) (file : ℕ) (place : _) → IsPermutation xs ys → IsFirstTwice ys file place → IsFirstTwice xs file place
-first_moved xs ys file place same first = record {
-  found = (first.found.0, twice_moved ys xs (IsPermutation-sym xs ys same) first.found.0 first.found.1, first.found.2, first.found.3);
-  least = λ b twice. first.least b (twice_moved xs ys same b twice);
-}
+pub first_moved : (xs ys : List Occurrence) (file : ℕ) (place : _) → IsPermutation xs ys → IsFirstTwice ys file place
+    → IsFirstTwice xs file place
+first_moved xs ys file place same (b, first, its_file, its_place) = (
+  b,
+  record {
+    among = twice_moved ys xs (IsPermutation-sym xs ys same) b first.among;
+    least = λ c twice. first.least c (twice_moved xs ys same c twice);
+  },
+  its_file,
+  its_place,
+)
 
 pub not_some : {X : Type 0} {A : Type 0} (B : X → Type 0) (r : Option X) → ((x : X) → r ≡ Some x → ⊥) → MatchOption r A B → A
 not_some B None h a = a

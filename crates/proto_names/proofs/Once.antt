@@ -6,21 +6,20 @@ use Rattle.std.proofs.lemmas.List.Sorted.{IsPermutation-sym}
 use Rattle.std.proofs.lemmas.Option.{same_Some, slice_get_read}
 use Rattle.proto_desc.specs.declared.file.FileDesc.{FileDesc}
 use Rattle.proto_base.specs.declared.limits.Limits.{Limits}
-use Rattle.proto_base.specs.declared.place.Place.{Place}
 use Rattle.proto_names.specs.Index.{Index, Indexes}
 use Rattle.proto_names.specs.Repeated.{AreDeclaredOnce}
-use Rattle.proto_names.specs.Occurrences.{IsEarlier, IsPackage, NoneTwice, Occurrence, occurrences}
+use Rattle.proto_names.specs.Occurrences.{IsNoLater, IsPackage, NoneTwice, Occurrence, occurrences}
 use Rattle.proto_names.proofs.Built.{none_moved}
 
 -- one of two is no later than the other
-one_no_later : (a b : ℕ) (p q : Place) → (IsEarlier a p b q → ⊥) ⊎ (IsEarlier b q a p → ⊥)
-one_no_later a b p q = elim (cases_lt a b) [
-  | inl less ↦ inr (λ earlier. (elim earlier [ inl more ↦ omega arith | inr w ↦ (let same = w.0 in omega arith) ]))
-  | inr over ↦ elim (cases_lt b a) [
-    | inl more ↦ inl (λ earlier. (elim earlier [ inl less ↦ omega arith | inr w ↦ (let same = w.0 in omega arith) ]))
-    | inr under ↦ elim (cases_lt p.offset q.offset) [
-      | inl before ↦ inr (λ earlier. (elim earlier [ inl more ↦ omega arith | inr w ↦ (let behind = w.1 in omega arith) ]))
-      | inr behind ↦ inl (λ earlier. (elim earlier [ inl less ↦ omega arith | inr w ↦ (let before = w.1 in omega arith) ]))
+one_no_later : (o p : Occurrence) → IsNoLater o p ⊎ IsNoLater p o
+one_no_later o p = elim (cases_lt o.file p.file) [
+  | inl less ↦ inl (inl less)
+  | inr over ↦ elim (cases_lt p.file o.file) [
+    | inl more ↦ inr (inl more)
+    | inr under ↦ elim (cases_lt p.place.offset o.place.offset) [
+      | inl behind ↦ inr (inr (omega (arith, over, under), omega (arith, behind)))
+      | inr before ↦ inl (inr (omega (arith, over, under), before))
     ]
   ]
 ]
@@ -30,16 +29,16 @@ alone : (os : List Occurrence) (i j : ℕ) (o p : Occurrence) → NoneTwice os �
     → o.name ≡ p.name → (IsPackage o → ⊥) → i ≡ j
 alone os i j o p none first second same element = elim (cases_eq i j) [
   | inl one ↦ one
-  | inr apart ↦ elim (one_no_later o.file p.file o.place p.place) [
-    | inl behind ↦ absurd (none o (
-      p,
-      (j, i, (λ e. apart (sym e)), second, first),
-      record { same = sym same; no_later = behind; not_packages = λ x y. element y },
-    ))
-    | inr before ↦ absurd (none p (
+  | inr apart ↦ elim (one_no_later o p) [
+    | inl before ↦ absurd (none p (
       o,
       (i, j, apart, first, second),
       record { same = same; no_later = before; not_packages = λ x y. element x },
+    ))
+    | inr behind ↦ absurd (none o (
+      p,
+      (j, i, (λ e. apart (sym e)), second, first),
+      record { same = sym same; no_later = behind; not_packages = λ x y. element y },
     ))
   ]
 ]

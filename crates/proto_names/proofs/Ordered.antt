@@ -8,8 +8,8 @@ use Rattle.std.proofs.lemmas.Cmp.{nat_cmp_total, then_total, on_total, tied_itse
 use Rattle.std.proofs.lemmas.List.MinMax.{ranks_by}
 use Rattle.std.proofs.lemmas.List.Sorted.{sorted_far}
 use Rattle.proto_names.proofs.NameOrder.{name_total, same_name}
-use Rattle.proto_names.specs.Occurrences.{Occurrence, IsEarlier}
-use Rattle.proto_names.specs.Order.{AreInNameOrder, AreInOrder, name_cmp, occurrence_cmp}
+use Rattle.proto_names.specs.Occurrences.{Occurrence, IsNoLater}
+use Rattle.proto_names.specs.Order.{AreInHashOrder, AreInOrder, name_cmp, occurrence_cmp}
 use Rattle.proto_names.specs.Runs.{at, blank}
 
 occurrence_total : IsTotalOrder occurrence_cmp
@@ -28,7 +28,7 @@ first_not Equal p h = refl
 first_not Greater p h = refl
 
 -- by name, file and place is by name
-pub order_names : (os : List Occurrence) → AreInOrder os → AreInNameOrder os
+pub order_names : (os : List Occurrence) → AreInOrder os → AreInHashOrder os
 order_names os up k d low inside = first_not _ _ (up k d low inside)
 
 nat_case : (x y : ℕ) (o : Ordering) (b c : Bool) → nat_lt x y ≡ b → (x == y) ≡ c → is_lt (ordering_then (cond b Less (cond c Equal Greater)) o) ≡ false
@@ -44,11 +44,7 @@ last_case : (x y : ℕ) (b c : Bool) → nat_lt x y ≡ b → (x == y) ≡ c →
 last_case x y true c e f h = absurd (true≢false h)
 last_case x y false c e f h = ltb-false x y e
 
--- a is no later than b
-abbrev pub Leads : Occurrence → Occurrence → Type 0
-Leads a b = (a.file < b.file) ⊎ ((a.file ≡ b.file) × (a.place.offset ≤ b.place.offset))
-
-pair_order : (a b : Occurrence) → is_lt (occurrence_cmp b a) ≡ false → a.name ≡ b.name → Leads a b
+pair_order : (a b : Occurrence) → is_lt (occurrence_cmp b a) ≡ false → a.name ≡ b.name → IsNoLater a b
 pair_order a b h e =
     let equal : name_cmp b.name a.name ≡ Equal = rw e (tied_itself name_total b.name) in
     let h' = rw equal at h in
@@ -57,7 +53,8 @@ pair_order a b h e =
       | inr w ↦ inr (sym w.0, last_case b.place.offset a.place.offset (nat_lt b.place.offset a.place.offset) (b.place.offset == a.place.offset) refl refl w.1)
     ]
 
-pub places_in_order : (os : List Occurrence) → AreInOrder os → (i j : ℕ) → i ≤ j → j < length os → (at os i).name ≡ (at os j).name → Leads (at os i) (at os j)
+pub places_in_order : (os : List Occurrence) → AreInOrder os → (i j : ℕ) → i ≤ j → j < length os
+    → (at os i).name ≡ (at os j).name → IsNoLater (at os i) (at os j)
 places_in_order os up i j h below e = pair_order (at os i) (at os j) (in_order os up i j h below) e
 
 equal_case : (o r : Ordering) → r ≡ ordering_reverse o → (o ≡ Less → ⊥) → (r ≡ Less → ⊥) → o ≡ Equal
@@ -78,14 +75,3 @@ name_between a b c h k e =
 pub names_between : (os : List Occurrence) → AreInOrder os → (i j k : ℕ) → i ≤ j → j ≤ k → k < length os → (at os i).name ≡ (at os k).name
     → (at os i).name ≡ (at os j).name
 names_between os up i j k h g below e = name_between (at os i) (at os j) (at os k) (in_order os up i j h (omega arith)) (in_order os up j k g below) e
-
--- ---- earlier, and no later
-
-pub not_both : (a b : Occurrence) → Leads a b → IsEarlier b.file b.place a.file a.place → ⊥
-not_both a b (inl h) (inl k) = omega arith
-not_both a b (inl h) (inr k) = omega (arith, k.0)
-not_both a b (inr h) (inl k) = omega (arith, h.0)
-not_both a b (inr h) (inr k) = omega (arith, h.1, k.1)
-
-pub not_itself : (a : Occurrence) → IsEarlier a.file a.place a.file a.place → ⊥
-not_itself a = not_both a a (inr (refl, omega arith))

@@ -1,15 +1,15 @@
 -- Runs of one name, and what is repeated in them.
 use Rattle.std.proofs.Common.{◌≡◌, ◌≢◌, ◌∙◌, sym, ℕ, ◌+◌, ◌-◌, ◌<◌, ◌≤◌, List, length, ap, refl, subst, arith, inl, inr, ◌⊎◌}
-use Rattle.std.specs.Prelude.{Bool, true, false, IsTrue, ◌↔◌, Option, None, Some, IfSome, MatchOption, is_some, slice_get}
+use Rattle.std.specs.Prelude.{Bool, true, false, IsTrue, ◌↔◌, Option, None, Some, IfSome, IsSomeAnd, MatchOption, is_some, slice_get}
 use Rattle.std.proofs.lemmas.Bool.{cases_lt, false≢true}
 use Rattle.std.proofs.lemmas.Option.{none-some, slice_get-get_or, slice_get_within, get_or_from_slice_get}
 use Rattle.proto_desc.specs.declared.name_kind.NameKind.{NameKind}
-use Rattle.proto_names.specs.Occurrences.{Occurrence, IsEarlier, IsPackage, IsTwice, NoneTwice}
+use Rattle.proto_names.specs.Occurrences.{Occurrence, IsNoLater, IsPackage, IsTwice, NoneTwice}
 use Rattle.proto_names.specs.Repeated.{IsFirstTwice}
-use Rattle.proto_names.specs.Order.{AreInOrder, Bounds, IsLesser, NoLater, location_of}
+use Rattle.proto_names.specs.Order.{AreInOrder, IsEarlierOf, NoLater, location_of}
 use Rattle.proto_names.specs.Runs.{IsRun, Repeats, at, blank}
 use Rattle.proto_names.specs.declared.entry.Location.{Location}
-use Rattle.proto_names.proofs.Ordered.{places_in_order, names_between, not_both, not_itself}
+use Rattle.proto_names.proofs.Ordered.{places_in_order, names_between}
 
 -- ---- runs
 
@@ -104,17 +104,22 @@ pub repeats_twice : (os : List Occurrence) (k : ℕ) → AreInOrder os → k < l
 repeats_twice os k up below (i, low, same, other) = (
   at os i,
   (i, k, omega arith, stands_at os i (omega arith), stands_at os k below),
-  record { same = same; no_later = not_both (at os i) (at os k) (places_in_order os up i k (omega arith) below same); not_packages = other },
+  record { same = same; no_later = places_in_order os up i k (omega arith) below same; not_packages = other },
 )
 
 -- of two that clash the one behind the other repeats it, and is no later than what occurs twice
 twice_repeats : (os : List Occurrence) (b : Occurrence) → IsTwice os b
-    → (k : ℕ) × (k < length os) × Repeats os k × (IsEarlier b.file b.place (at os k).file (at os k).place → ⊥)
+    → (k : ℕ) × (k < length os) × Repeats os k × IsNoLater (at os k) b
 twice_repeats os b (a, (i, j, apart, first, second), clash) =
     let here : at os i ≡ a = is_at os i a first in
     let there : at os j ≡ b = is_at os j b second in
     elim (cases_lt i j) [
-      | inl less ↦ (j, slice_get_within os j b second, (i, less, rw (here, there) clash.same, rw (here, there) clash.not_packages), rw there (not_itself b))
+      | inl less ↦ (
+        j,
+        slice_get_within os j b second,
+        (i, less, rw (here, there) clash.same, rw (here, there) clash.not_packages),
+        rw there (inr (refl, omega arith)),
+      )
       | inr over ↦ (
         i,
         slice_get_within os i a first,
@@ -128,7 +133,7 @@ twice_repeats os b (a, (i, j, apart, first, second), clash) =
 -- what is known of the first n
 pub record Passed (os : List Occurrence) (n : ℕ) (first : Option Location) : Type 0 where
   pub found : IfSome first (λ s. (b : Occurrence) × IsTwice os b × (b.file ≡ s.file) × (b.place ≡ s.place))
-  pub least : (k : ℕ) → k < n → Repeats os k → Bounds first (location_of (at os k))
+  pub least : (k : ℕ) → k < n → Repeats os k → IsSomeAnd first (λ a. NoLater a (location_of (at os k)))
 
 pub passed_none : (os : List Occurrence) → Passed os 0 None
 passed_none os = record { found = tt; least = λ k h. absurd (omega (arith, h)) }
@@ -140,7 +145,7 @@ lesser_found os known b location first twice is old (inl e) = rw e at old
 lesser_found os known b location first twice is old (inr e) = (b, twice, ap (λ (s : Location). s.file) (is ∙ e), ap (λ (s : Location). s.place) (is ∙ e))
 
 pub passed_twice : (os : List Occurrence) (n : ℕ) (known : Option Location) (location first : Location) → location_of (at os n) ≡ location
-    → IsTwice os (at os n) → IsLesser known location first → Passed os n known → Passed os (n + 1) (Some first)
+    → IsTwice os (at os n) → IsEarlierOf known location first → Passed os n known → Passed os (n + 1) (Some first)
 passed_twice os n known location first is twice lesser passed = record {
   found = lesser_found os known (at os n) location first twice is passed.found lesser.one;
   least = λ k h w. (elim (cases_lt k n) [
@@ -160,17 +165,20 @@ passed_skip os n known none passed = record {
   ]);
 }
 
-earlier_bound : (b : Occurrence) (s t : Location) → IsEarlier b.file b.place s.file s.place → NoLater s t → IsEarlier b.file b.place t.file t.place
-earlier_bound b s t (inl h) (inl k) = inl (omega arith)
-earlier_bound b s t (inl h) (inr k) = inl (omega (arith, k.0))
-earlier_bound b s t (inr h) (inl k) = inl (omega (arith, h.0))
-earlier_bound b s t (inr h) (inr k) = inr (h.0 ∙ k.0, omega (arith, h.1, k.1))
+-- the order of occurrences is that of their locations
+no_later : (a b c : Occurrence) (s : Location) → a.file ≡ s.file → a.place ≡ s.place → NoLater s (location_of b)
+    → IsNoLater b c → IsNoLater a c
+no_later a b c s file place (inl h) (inl k) = inl (omega (arith, file))
+no_later a b c s file place (inl h) (inr k) = inl (omega (arith, file, k.0))
+no_later a b c s file place (inr h) (inl k) = inl (omega (arith, file, h.0))
+no_later a b c s file place (inr h) (inr k) = inr (file ∙ h.0 ∙ k.0, rw place (omega (arith, h.1, k.1)))
 
 pub passed_all : (os : List Occurrence) (n : ℕ) (known : Option Location) → length os ≤ n → Passed os n known
     → MatchOption known (NoneTwice os) (λ s. IsFirstTwice os s.file s.place)
 passed_all os n None whole passed = λ b twice. (let w = twice_repeats os b twice in let h = w.1 in passed.least w.0 (omega (arith, whole, h)) w.2)
-passed_all os n (Some s) whole passed = record {
-  found = passed.found;
-  least = λ b twice earlier. (let w = twice_repeats os b twice in let h = w.1 in
-      w.3 (earlier_bound b s (location_of (at os w.0)) earlier (passed.least w.0 (omega (arith, whole, h)) w.2)));
-}
+passed_all os n (Some s) whole passed =
+    let (b, twice, file, place) = passed.found in
+    let least : (c : Occurrence) → IsTwice os c → IsNoLater b c = λ c other.
+    (let (k, inside, repeats, behind) = twice_repeats os c other in
+    no_later b (at os k) c s file place (passed.least k (omega (arith, whole, inside)) repeats) behind) in
+    (b, record { among = twice; least = least }, file, place)

@@ -14,7 +14,7 @@ use Rattle.proto_names.proofs.NameOrder.{equal_alike, name_total, same_name}
 use Rattle.proto_names.specs.Chains.{IsStart, IsNowhere}
 use Rattle.proto_names.specs.Index.{name_of}
 use Rattle.proto_names.specs.Occurrences.{Occurrence}
-use Rattle.proto_names.specs.Order.{AreInNameOrder, name_cmp}
+use Rattle.proto_names.specs.Order.{AreInHashOrder, name_cmp}
 use Rattle.proto_names.specs.Runs.{at, blank}
 
 -- a name is equal to itself
@@ -53,7 +53,7 @@ eq_equal Greater h = absurd (true≢false (sym h))
 pub not_eq_equal : (o : Ordering) → is_eq o ≡ false → o ≢ Equal
 not_eq_equal o h e = true≢false (ap is_eq (sym e) ∙ h)
 
-module _ (os : List Occurrence) (target : List ℕ) (up : AreInNameOrder os) where
+module _ (os : List Occurrence) (target : List ℕ) (up : AreInHashOrder os) where
   rises : IsNonDecreasingBy (λ e. ordering_index (name_cmp (name_of e) target)) os
   rises = searchable_from_sorted name_total name_of os target up
 
@@ -88,7 +88,7 @@ pub named_at : (os : List Occurrence) (k : ℕ) (d : Occurrence) → k < length 
 named_at os k d h = ap name_of (get_or_default os k blank d h)
 
 -- where the first that does not come before a name has another one, none has it
-pub nowhere_is : (os : List Occurrence) (target : List ℕ) (n : ℕ) → AreInNameOrder os
+pub nowhere_is : (os : List Occurrence) (target : List ℕ) (n : ℕ) → AreInHashOrder os
     → IsPartitionPoint (λ e. name_cmp (name_of e) target ≡ Less) (λ e. name_cmp (name_of e) target ≢ Less) os n
     → ((e : Occurrence) → n < length os → e ≡ get_or os n e → name_of e ≢ target) → IsNowhere os target
 nowhere_is [] target n up p other k within same = absurd (omega (arith, within))
@@ -106,7 +106,8 @@ nowhere_is (d ∷ os) target n up p other k within same =
     ]
 
 -- where a name begins, all before it come before it
-module _ (os : List Occurrence) (target : List ℕ) (start : ℕ) (up : AreInNameOrder os) (is : IsStart os target start) where
+module _ (os : List Occurrence) (target : List ℕ) (start : ℕ) (up : AreInHashOrder os)
+    (is : IsStart os target start) where
   inside : start < length os
   inside = is.within
 
@@ -139,7 +140,7 @@ start_named os target start is below d =
     ap name_of (get_or-drop start os 0 d ∙ ap (λ k. get_or os k d) back) ∙ sym (named_at os start d below) ∙ is.named
 
 -- where the second has another name than the first, the first is alone
-pub one_point : (os : List Occurrence) (target : List ℕ) → AreInNameOrder os
+pub one_point : (os : List Occurrence) (target : List ℕ) → AreInHashOrder os
     → ((k : ℕ) (d : Occurrence) → k < length os → name_cmp (name_of (get_or os k d)) target ≢ Less)
     → ((d : Occurrence) → name_of (get_or os 0 d) ≡ target) → ((d : Occurrence) → 1 < length os → name_of (get_or os 1 d) ≢ target)
     → IsPartitionPoint (λ e. name_of e ≡ target) (λ e. name_of e ≢ target) os 1
@@ -160,7 +161,7 @@ none_is os target none e = (
 )
 
 -- what is behind a place is in order too
-pub drop_sorted : (os : List Occurrence) (n : ℕ) → n ≤ length os → AreInNameOrder os → AreInNameOrder (drop n os)
+pub drop_sorted : (os : List Occurrence) (n : ℕ) → n ≤ length os → AreInHashOrder os → AreInHashOrder (drop n os)
 drop_sorted os n h up k d low inside =
     let room : n + k + 1 < length os = (let l = length-drop n os in omega (arith, l, inside)) in
     let at : n + (k + 1) ≡ n + k + 1 = omega arith in

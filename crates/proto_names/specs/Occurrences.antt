@@ -1,5 +1,5 @@
 -- The occurrences of full names in files. A file is named by its position in the list of files.
-use Rattle.std.specs.Prelude.{◌≡◌, ◌≢◌, ◌⊎◌, ℕ, ◌+◌, ◌<◌, List, [], ◌∷◌, ◌++◌, map, Option, None, Some, slice_get}
+use Rattle.std.specs.Prelude.{◌≡◌, ◌≢◌, ◌⊎◌, ℕ, ◌+◌, ◌<◌, ◌≤◌, List, [], ◌∷◌, ◌++◌, map, Option, None, Some, slice_get}
 use Rattle.proto_desc.specs.DeclaredNames.{Declared, full_name, declared_by}
 use Rattle.proto_desc.specs.declared.file.FileDesc.{FileDesc}
 use Rattle.proto_desc.specs.declared.file.PackageDesc.{PackageDesc}
@@ -41,8 +41,8 @@ occurrences = occurrences_from 0
 -- ---- names that occur twice
 
 -- by file, then by place
-abbrev pub IsEarlier : ℕ → Place → ℕ → Place → Type 0
-IsEarlier a p b q = (a < b) ⊎ ((a ≡ b) × (p.offset < q.offset))
+abbrev pub IsNoLater : Occurrence → Occurrence → Type 0
+IsNoLater a b = (a.file < b.file) ⊎ ((a.file ≡ b.file) × (a.place.offset ≤ b.place.offset))
 
 abbrev pub IsPackage : Occurrence → Type 0
 IsPackage o = o.kind ≡ None
@@ -50,7 +50,7 @@ IsPackage o = o.kind ≡ None
 -- two occurrences of one name, the first no later, not both packages
 pub record Clash (a b : Occurrence) : Type 0 where
   pub same : a.name ≡ b.name
-  pub no_later : IsEarlier b.file b.place a.file a.place → ⊥
+  pub no_later : IsNoLater a b
   pub not_packages : IsPackage a → IsPackage b → ⊥
 
 -- both, at two positions

@@ -1,5 +1,5 @@
 -- Occurrences in the order in which an index keeps them: by the hashes of their names, then by name, file and place.
-use Rattle.std.specs.Prelude.{◌≡◌, ◌⊎◌, ℕ, ◌<◌, ◌≤◌, List, Option, None, Some, IsSorted, IsSortedByKey}
+use Rattle.std.specs.Prelude.{◌≡◌, ◌⊎◌, ℕ, ◌<◌, ◌≤◌, List, Option, Some, IsSomeAnd, IsSorted, IsSortedByKey}
 use Rattle.std.specs.declared.cmp.Ordering.{Ordering}
 use Rattle.std.specs.Cmp.Lexicographic.{slice_cmp}
 use Rattle.std.specs.Ordering.{nat_cmp, ordering_then}
@@ -14,8 +14,9 @@ use Rattle.proto_names.specs.declared.entry.Location.{Location}
 abbrev pub name_cmp : List ℕ → List ℕ → Ordering
 name_cmp a b = ordering_then (nat_cmp (hash_of a) (hash_of b)) (slice_cmp nat_cmp a b)
 
-abbrev pub AreInNameOrder : List Occurrence → Type 0
-AreInNameOrder os = IsSortedByKey name_of name_cmp os
+-- by the hashes of their names, then by name
+abbrev pub AreInHashOrder : List Occurrence → Type 0
+AreInHashOrder os = IsSortedByKey name_of name_cmp os
 
 abbrev pub occurrence_cmp : Occurrence → Occurrence → Ordering
 occurrence_cmp a b = ordering_then (name_cmp a.name b.name)
@@ -37,12 +38,8 @@ NoLater a b = (a.file < b.file) ⊎ ((a.file ≡ b.file) × (a.place.offset ≤ 
 abbrev pub location_of : Occurrence → Location
 location_of o = record { file = o.file; place = o.place }
 
-abbrev pub Bounds : Option Location → Location → Type 0
-Bounds None x = ⊥
-Bounds (Some a) x = NoLater a x
-
 -- the earlier of what is known and one more
-pub record IsLesser (known : Option Location) (location first : Location) : Type 0 where
+pub record IsEarlierOf (known : Option Location) (location first : Location) : Type 0 where
   pub one : (known ≡ Some first) ⊎ (location ≡ first)
-  pub left : (x : Location) → Bounds known x → NoLater first x
+  pub left : (x : Location) → IsSomeAnd known (λ a. NoLater a x) → NoLater first x
   pub right : (x : Location) → NoLater location x → NoLater first x

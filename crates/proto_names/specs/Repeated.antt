@@ -1,17 +1,18 @@
 -- What is so of an index, and the first name that occurs twice.
 use Rattle.std.specs.Prelude.{◌≡◌, ℕ, ◌≤◌, List, length, Some, Contains, slice_get}
 use Rattle.proto_desc.specs.declared.file.FileDesc.{FileDesc}
+use Rattle.proto_base.specs.Least.{IsLeastBy}
 use Rattle.proto_base.specs.Limits.{limit_of}
 use Rattle.proto_base.specs.declared.limits.Limit.TheVariants as limit
 use Rattle.proto_base.specs.declared.limits.Limits.{Limits}
 use Rattle.proto_base.specs.declared.place.Place.{Place}
-use Rattle.proto_names.specs.Occurrences.{Occurrence, IsPackage, occurrences, IsEarlier, IsTwice}
+use Rattle.proto_names.specs.Occurrences.{Occurrence, IsPackage, occurrences, IsNoLater, IsTwice}
 use Rattle.proto_names.specs.Index.{Index, Indexes}
 
--- the first of the occurrences that occur twice
-pub record IsFirstTwice (os : List Occurrence) (file : ℕ) (place : Place) : Type 0 where
-  pub found : (b : Occurrence) × IsTwice os b × (b.file ≡ file) × (b.place ≡ place)
-  pub least : (b : Occurrence) → IsTwice os b → IsEarlier b.file b.place file place → ⊥
+-- the first of the occurrences that occur twice stands there
+abbrev pub IsFirstTwice : List Occurrence → ℕ → Place → Type 0
+IsFirstTwice os file place =
+    (b : Occurrence) × IsLeastBy IsNoLater (IsTwice os) b × (b.file ≡ file) × (b.place ≡ place)
 
 -- the first occurrence that repeats a name, of no more than the limit
 pub record IsRepeated (descs : List FileDesc) (limits : Limits) (file : ℕ) (place : Place) : Type 0 where

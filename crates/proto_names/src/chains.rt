@@ -5,7 +5,7 @@ ghost use Rattle.std.specs.Prelude.{◌≡◌, ◌↔◌, ◌<◌, ◌≤◌, le
 ghost use Rattle.proto_desc.specs.DeclaredNames.{scoped};
 ghost use Rattle.proto_names.specs.Chains.{AreChained, IsHead, IsNowhere, IsStart};
 ghost use Rattle.proto_names.specs.Hashes.{hash_of};
-ghost use Rattle.proto_names.specs.Order.{AreInNameOrder};
+ghost use Rattle.proto_names.specs.Order.{AreInHashOrder};
 ghost use Rattle.proto_names.specs.Runs.{at};
 
 use crate::halving::start_by_halving;
@@ -69,7 +69,7 @@ const MOST_LINKS: u32 = 16;
 impl Chains {
     /// Where the entries of the name in a scope begin.
     pub(crate) fn start_of(&self, names: &Names, scope: Scope, name: &str) -> Option<usize>
-        requires order { AreInNameOrder names.now }
+        requires order { AreInHashOrder names.now }
         requires chains { AreChained names.now (length names.now) self.now.slots.items
             self.now.links.items }
         ensures { MatchOption result (IsNowhere names.now (scoped scope.entry.text.now name.now))

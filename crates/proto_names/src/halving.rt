@@ -8,7 +8,7 @@ ghost use Rattle.std.specs.declared.cmp.Ordering.TheVariants.{Less};
 ghost use Rattle.proto_desc.specs.DeclaredNames.{scoped};
 ghost use Rattle.proto_names.specs.Chains.{IsNowhere, IsStart};
 ghost use Rattle.proto_names.specs.Entries.{name_at};
-ghost use Rattle.proto_names.specs.Order.{AreInNameOrder, name_cmp};
+ghost use Rattle.proto_names.specs.Order.{AreInHashOrder, name_cmp};
 
 use crate::entry::Entry;
 use crate::full_name::compare;
@@ -27,7 +27,7 @@ fn compare_entry(text: &[u8], entry: &Entry, hash: u32, scope: &str, name: &str)
 
 /// How many entries come before the name in a scope.
 fn count_before(names: &Names, scope: Scope, name: &str) -> usize
-    requires { AreInNameOrder names.now }
+    requires { AreInHashOrder names.now }
     ensures bound { result ≤ length names.now }
     ensures point { IsPartitionPoint (λ o. name_cmp o.name (scoped scope.entry.text.now name.now)
         ≡ Less) (λ o. name_cmp o.name (scoped scope.entry.text.now name.now) ≢ Less) names.now
@@ -46,7 +46,7 @@ fn count_before(names: &Names, scope: Scope, name: &str) -> usize
 
 /// Where the entries of the name in a scope begin.
 pub(crate) fn start_by_halving(names: &Names, scope: Scope, name: &str) -> Option<usize>
-    requires { AreInNameOrder names.now }
+    requires { AreInHashOrder names.now }
     ensures { MatchOption result (IsNowhere names.now (scoped scope.entry.text.now name.now))
         (IsStart names.now (scoped scope.entry.text.now name.now)) }
 {
@@ -60,7 +60,7 @@ pub(crate) fn start_by_halving(names: &Names, scope: Scope, name: &str) -> Optio
 
 /// How many of the entries have the name in a scope, where none comes before it, by halving.
 pub(crate) fn count_named(names: &Names, scope: &str, name: &str) -> usize
-    requires order { AreInNameOrder names.now }
+    requires order { AreInHashOrder names.now }
     requires behind { All (λ o. name_cmp o.name (scoped scope.now name.now) ≢ Less) names.now }
     ensures bound { result ≤ length names.now }
     ensures point { IsPartitionPoint (λ o. o.name ≡ scoped scope.now name.now)

@@ -6,7 +6,7 @@ ghost use Rattle.std.specs.List.Sorted.{IsPartitionPoint};
 ghost use Rattle.std.specs.declared.cmp.Ordering.TheVariants.{Less};
 ghost use Rattle.proto_desc.specs.DeclaredNames.{scoped};
 ghost use Rattle.proto_names.specs.Chains.{AreChained};
-ghost use Rattle.proto_names.specs.Order.{AreInNameOrder, AreInOrder, name_cmp};
+ghost use Rattle.proto_names.specs.Order.{AreInHashOrder, AreInOrder, name_cmp};
 ghost use Rattle.proto_names.specs.Occurrences.{Occurrence};
 ghost use Rattle.proto_names.specs.Packages.{ArePackagesOf, IsPackageOf};
 
@@ -92,7 +92,7 @@ impl EntryTable {
 
 /// How many of the entries have the name in a scope, where the first has it. Most names have one entry.
 fn run_length(names: &Names, scope: &str, name: &str) -> usize
-    requires order { AreInNameOrder names.now }
+    requires order { AreInHashOrder names.now }
     requires behind { All (λ o. name_cmp o.name (scoped scope.now name.now) ≢ Less) names.now }
     requires some { 0 < length names.now }
     requires first { (d : Occurrence) → (slice_index_or names.now 0 d).name

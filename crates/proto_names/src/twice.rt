@@ -3,7 +3,7 @@
 ghost use Rattle.std.specs.Prelude.{◌≡◌, ◌≢◌, ◌↔◌, ◌+◌, ◌-◌, ◌<◌, ◌≤◌, IsTrue, false, MatchOption, length};
 ghost use Rattle.proto_names.specs.Occurrences.{NoneTwice};
 ghost use Rattle.proto_names.specs.Repeated.{IsFirstTwice};
-ghost use Rattle.proto_names.specs.Order.{AreInOrder, IsLesser};
+ghost use Rattle.proto_names.specs.Order.{AreInOrder, IsEarlierOf};
 ghost use Rattle.proto_names.specs.Runs.{IsRun, Repeats, at};
 
 use crate::entry::Location;
@@ -72,7 +72,7 @@ fn run_with(names: &Names, run: Run, position: usize) -> Run
 
 /// The earlier of what is known and one more.
 fn lesser(first: Option<Location>, location: Location) -> Location
-    ensures { IsLesser first location result }
+    ensures { IsEarlierOf first location result }
 {
     match first {
         Some(first) => first.min(location),

@@ -1,4 +1,5 @@
 pub mod Answer
+pub mod ReachLaws
 pub mod Reply
 pub mod Response
 pub mod ResponseSteps

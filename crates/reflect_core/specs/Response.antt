@@ -1,7 +1,7 @@
 -- The response to a request body: the replies in the order of the requests, each as if it came after those before it,
 -- and the trailer.
 use Rattle.std.specs.Prelude.{◌≡◌, ℕ, List, [], ◌∷◌, ◌++◌, map, flat_map, codes, decimal, Option}
-use Rattle.std.specs.List.{AllZip}
+use Rattle.std.specs.List.{AllZip, zip}
 use Rattle.first_reach.specs.Carried.{carried}
 use Rattle.first_reach.specs.declared.mode.Mode.{Mode}
 use Rattle.proto_compile.specs.Compilation.{Compilation}
@@ -21,11 +21,9 @@ pub record IsAsked (c : Compilation) (message : List ℕ) (asked : Asked) : Type
 abbrev pub root : Asked → Option ℕ
 root asked = root_of asked.answer
 
--- each request with the files that its reply carries
+-- the reply to each request, with the files that it carries
 abbrev pub replies_to : Compilation → List Asked → List (List ℕ) → List (List ℕ)
-replies_to c [] carried = []
-replies_to c (asked ∷ more) [] = []
-replies_to c (asked ∷ more) (files ∷ carried) = reply c asked files ∷ replies_to c more carried
+replies_to c asked carried = map (λ p. reply c p.0 p.1) (zip asked carried)
 
 -- the replies to requests, one after another: a file goes with the first of them that reaches it
 abbrev pub replies : Mode → Compilation → List Asked → List (List ℕ)

@@ -4,14 +4,13 @@ use Rattle.std.specs.Option.{ForSome}
 use Rattle.std.specs.declared.alloc.Global.{Global}
 use Rattle.proto_compile.specs.Compilation.{Compilation, set_of}
 use Rattle.proto_compile.specs.Sound.{IsSound}
-use Rattle.proto_links.specs.Linked.{Linked, count_of, reach_of}
+use Rattle.proto_links.specs.Linked.{count_of, reach_of}
 use Rattle.proto_links.specs.Whole.{AreReachesWhole}
 use Rattle.reflect_core.specs.Answer as answers
 use Rattle.reflect_core.specs.Answer.{Answer}
 use Rattle.reflect_core.specs.ProgramAnswers.{answer_of}
 use Rattle.reflect_core.specs.Reply.{Asked, contents_of, files_bytes, host_field, member_of, reply, services_bytes}
 use Rattle.reflect_core.specs.declared.asked.Asked as rust
-use Rattle.share_work.specs.Reach.{Reaches}
 use Rattle.wire_format.specs.Field.{bytes_field}
 use Rattle.wire_format.specs.Varint.{varint_bytes}
 
@@ -22,14 +21,6 @@ asked_of asked = record { message = asked.message.now; host = asked.host.now; an
 -- a file is one of so many
 abbrev pub IsRootWithin : ℕ → Option ℕ → Type 0
 IsRootWithin count root = ForSome root (λ a. a < count)
-
--- what a table of marks asks of the files that files reach
-pub record IsReach (links : Linked) : Type 0 where
-  pub within : (a b : ℕ) → a < count_of links → Reaches (reach_of links) a b → b < count_of links
-  pub short : (a : ℕ) → a < count_of links → length (reach_of links a) < 18446744073709551615
-  pub reflexive : (a : ℕ) → a < count_of links → Reaches (reach_of links) a a
-  pub transitive : (a b c : ℕ) → a < count_of links → Reaches (reach_of links) a b → Reaches (reach_of links) b c
-      → Reaches (reach_of links) a c
 
 -- the services are at hand where the answer is of them, its files are of the compilation, and what it holds has room in
 -- a reply

@@ -1,7 +1,8 @@
 //! Which files each file reaches, as a table of marks asks for it.
 
-ghost use Rattle.std.specs.Prelude.{◌≡◌};
-ghost use Rattle.reflect_core.specs.ResponseSteps.{IsReach};
+ghost use Rattle.std.specs.Prelude.{◌≡◌, ℕ, ◌<◌, length};
+ghost use Rattle.proto_links.specs.Linked.{count_of, reach_of};
+ghost use Rattle.proto_links.specs.Whole.{AreReachesWhole};
 
 use proto_compile::Compiled;
 use proto_links::Links;
@@ -11,7 +12,10 @@ use share_work::Reach;
 #[derive(Drop)]
 pub(crate) struct FileReach<'c> {
     links: &'c Links,
-    ghost whole: { IsReach links.now },
+    // A ghost fact holds in one way alone, and what is in a list may be so at several places.
+    ghost whole: { ∥ AreReachesWhole links.now ∥₁ },
+    ghost short: { (a : ℕ) → a < count_of links.now
+        → length (reach_of links.now a) < 18446744073709551615 },
 }
 
 impl<'c> FileReach<'c> {
@@ -27,6 +31,7 @@ impl<'c> FileReach<'c> {
 
 impl Reach for FileReach<'_> {
     ghost use Rattle.proto_links.specs.Linked.{count_of, reach_of};
+    ghost use Rattle.reflect_core.specs.ReachLaws as laws;
 
     ghost files = { λ reach. count_of reach.links.now };
 
@@ -40,11 +45,11 @@ impl Reach for FileReach<'_> {
         self.links.reach(root).get(k).copied()
     }
 
-    ghost within = { λ reach a b. reach.whole.within a b };
+    ghost within = { λ reach. laws.within reach.links.now reach.whole };
 
-    ghost short = { λ reach a. reach.whole.short a };
+    ghost short = { λ reach. reach.short };
 
-    ghost reflexive = { λ reach a. reach.whole.reflexive a };
+    ghost reflexive = { λ reach. laws.reflexive reach.links.now reach.whole };
 
-    ghost transitive = { λ reach a b c. reach.whole.transitive a b c };
+    ghost transitive = { λ reach. laws.transitive reach.links.now reach.whole };
 }

@@ -6,7 +6,7 @@ use Rattle.std.specs.Io.KnownBytes.{Appends}
 use Rattle.std.proofs.KnownBytes.{Appends-nil, Appends-trans}
 use Rattle.std.proofs.lemmas.List.{append_assoc, append-nil, get_or_default, length-append, take-append-drop, take-append-le, take_more}
 use Rattle.std.proofs.Math.Seq.{take-append-add}
-use Rattle.grpcweb_core.specs.Exchange.{IsWritten, IsWrittenInPart}
+use Rattle.grpcweb_core.specs.Exchange.{IsWritten}
 use Rattle.grpcweb_core.specs.Streams.{Writes}
 use Rattle.schema_commands.specs.Runs.{IsOutput}
 use Rattle.schema_failure.specs.declared.failure.Failure.{Failure}

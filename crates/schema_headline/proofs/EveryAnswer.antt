@@ -16,7 +16,8 @@ module _ (limits : Limits) (sources : List Source) (P : List ℕ → Type 0) (co
       → IfErr r (TellsOf (IsLeastFault limits sources))
       → (answer : List ℕ) → P answer → MatchResult r (λ bytes. bytes.items ≡ answer) (λ e. e ≡ errors.NoMemory)
   every_answer one (Ok bytes) gives first answer is = one bytes.items answer gives is
-  every_answer one (Err (errors.First fault)) gives first answer is = let w = compiled answer is in absurd (no_fault_at_all limits sources w.0 (told_by fault) w.1 first.among.breaks)
+  every_answer one (Err (errors.First fault)) gives first answer is = let w = compiled answer is in
+      absurd (no_fault_at_all limits sources w.0 (told_by fault) w.1 first.among.breaks)
   every_answer one (Err errors.NoMemory) gives first answer is = refl
 
   pub every_fault : (r : Result (Vec ℕ Global) CompileError) → IfOk r (λ bytes. P bytes.items) → IfErr r (TellsOf (IsLeastFault limits sources))

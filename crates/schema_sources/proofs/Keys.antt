@@ -5,7 +5,7 @@ use Rattle.std.specs.List.Sorted.{IsStrictlySortedBy}
 use Rattle.std.specs.Ordering.{nat_cmp}
 use Rattle.std.proofs.lemmas.List.{get_or-map, length-map}
 use Rattle.std.proofs.lemmas.Map.Keys.{Less-from_sorted}
-use Rattle.source_folder.specs.Paths.{AreRising}
+use Rattle.proto_base.specs.NameOrder.{NamesRise}
 use denote.Ref.{Bor}
 
 abbrev pub text_of : Bor (List ℕ) → List ℕ
@@ -18,7 +18,7 @@ no_neighbours : (k : ℕ) → k + 1 < 0 → ⊥
 no_neighbours k h = omega arith
 
 -- names that are strictly sorted rise
-pub rising_keys : (names : List (Bor (List ℕ))) → IsStrictlySortedBy text_cmp names → AreRising (map text_of names)
+pub rising_keys : (names : List (Bor (List ℕ))) → IsStrictlySortedBy text_cmp names → NamesRise (map text_of names)
 rising_keys [] sorted k h = absurd (no_neighbours k h)
 rising_keys (n ∷ names) sorted k h =
     let all : List (Bor (List ℕ)) = n ∷ names in

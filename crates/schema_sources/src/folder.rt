@@ -3,7 +3,7 @@
 ghost use Rattle.std.specs.Prelude.{◌≡◌, IfOk, IsTrue, None};
 ghost use Rattle.schema_sources.specs.Texts.{AreTextsOf, Known};
 ghost use Rattle.source_folder.specs.Folder.{names_of};
-ghost use Rattle.source_folder.specs.Paths.{AreRising};
+ghost use Rattle.proto_base.specs.NameOrder.{NamesRise};
 
 use crate::places::Elsewhere;
 use proto_base::Limits;
@@ -21,7 +21,7 @@ pub trait SourceFolder: Shelf {
     /// Reads its sources, in the order of their names.
     fn read(&self, limits: &Limits) -> Result<Vec<NamedText>, FolderFault>
         ensures texts { IfOk result (λ texts. AreTextsOf (sources self.now) texts.items) }
-        ensures order { IfOk result (λ texts. AreRising (names_of texts.items)) };
+        ensures order { IfOk result (λ texts. NamesRise (names_of texts.items)) };
 
     /// Which of these sources lie in another folder than the root.
     fn elsewhere<'t>(&'t self, texts: &'t [NamedText]) -> Result<Vec<Elsewhere<'t>>, AllocError>;

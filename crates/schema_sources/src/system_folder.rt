@@ -2,7 +2,7 @@
 
 ghost use Rattle.std.specs.Prelude.{◌≡◌, ◌∷◌, ◌++◌, [], IfOk, None, OnOk};
 ghost use Rattle.source_folder.specs.Folder.{names_of};
-ghost use Rattle.source_folder.specs.Paths.{AreRising};
+ghost use Rattle.proto_base.specs.NameOrder.{NamesRise};
 
 use crate::folder::SourceFolder;
 use crate::places::Elsewhere;
@@ -57,7 +57,7 @@ fn named_sources<R: Files + AllocGlobal>(
     files: &[&str],
     limits: &Limits,
 ) -> Result<Vec<NamedText>, FolderTrouble>
-    ensures { IfOk result (λ texts. AreRising (names_of texts.items)) }
+    ensures { IfOk result (λ texts. NamesRise (names_of texts.items)) }
 {
     let alloc = rt.alloc();
     let mut names = BTreeSet::new(alloc);
@@ -109,7 +109,7 @@ pub struct SystemFolder<'a, R> {
 impl<R: Files + AllocGlobal> SystemFolder<'_, R> {
     /// The sources that the words name, without what they import.
     fn given(&self, limits: &Limits) -> Result<Vec<NamedText>, FolderTrouble>
-        ensures { IfOk result (λ texts. AreRising (names_of texts.items)) }
+        ensures { IfOk result (λ texts. NamesRise (names_of texts.items)) }
     {
         if self.files.is_empty() {
             sources_in(self.rt, self.root, limits)

@@ -1,13 +1,15 @@
--- A call keeps what is legal.
-use Rattle.std.proofs.Common.{◌≡◌, ℕ, ◌<◌, ◌≤◌, ◌⊎◌, inl, inr, ⊎_elim, Bool, true, false, cond, eqb, List, [], ◌∷◌, sym, refl, ap, ◌∙◌, subst, arith, min}
-use Rattle.std.specs.List.{count_by}
+-- The least number at a word, and calls that stay legal.
+use Rattle.std.proofs.Common.{◌≡◌, ◌≢◌, ℕ, suc, ◌<◌, ◌≤◌, ◌⊎◌, inl, inr, ⊎_elim, Bool, true, false, cond, ◌==◌, ◌&&◌, ltb, List, [], ◌∷◌, sym, refl, ap, ◌∙◌, subst, arith, min}
+use Rattle.std.specs.Prelude.{AllPairs, Contains}
+use Rattle.std.specs.List.{sum_by, count_by}
 use Rattle.std.proofs.lemmas.Bool.{ltb-true, eqb-true, eq-eqb, ne_eqb, lt-ltb, and_parts, and_from, cases_Bool, cases_lt, cases_eq}
+use Rattle.std.proofs.lemmas.List.Kept.{AllPairs-cons}
+use Rattle.std.proofs.lemmas.List.Sums.{sum_by-cons}
 use Rattle.share_work.specs.declared.views.Call.{Call}
-use Rattle.share_work.specs.Posts.{NONE, least_at, is_pair}
+use Rattle.share_work.specs.Posts.{NONE, least_at}
 use Rattle.share_work.specs.Views.{call, posts_of}
-use Rattle.share_work.specs.Rule.{posts, finds, is_falling, falls_from, falls_to, SomePass, IsLegalAt, IsLegal}
-use Rattle.share_work.specs.Order.{SameCalls}
-use Rattle.share_work.proofs.Sums.{SomePass-cons, SomePass-here, SomePass-later, count_by-cons_no, count_by-cons_yes, picked}
+use Rattle.share_work.specs.Rule.{FallsAt, IsLegalAt, IsLegal}
+use Rattle.share_work.proofs.Sums.{none_in, front, behind, front_or_behind, all_of, pairs_first, in_map, of_map, count_by-no, count_by-yes, count_in, count_of, calls_in}
 
 -- least_at at a pair of that word, and of another
 pub least_here : (w : ℕ) (p : ℕ × ℕ) (ps : List (ℕ × ℕ)) → p.0 ≡ w → least_at w (p ∷ ps) ≡ min p.1 (least_at w ps)
@@ -22,117 +24,142 @@ least_at-le-NONE w (p ∷ ps) = let ih = least_at-le-NONE w ps in
     ⊎_elim (λ (e : p.0 ≡ w). omega (arith, least_here w p ps e)) (λ (n : p.0 ≡ w → ⊥). omega (arith, least_else w p ps n)) (cases_eq p.0 w)
 
 -- a bound of all the numbers at the word bounds the least
-pub least_at-above : (w m : ℕ) (ps : List (ℕ × ℕ)) → m ≤ NONE → ((x : ℕ) → SomePass (is_pair w x) ps → m ≤ x) → m ≤ least_at w ps
+pub least_at-above : (w m : ℕ) (ps : List (ℕ × ℕ)) → m ≤ NONE → ((x : ℕ) → Contains ps (w, x) → m ≤ x) → m ≤ least_at w ps
 least_at-above w m [] top each = top
 least_at-above w m (p ∷ ps) top each =
-    let ih = least_at-above w m ps top (λ x h. each x (SomePass-later (is_pair w x) p ps h)) in
+    let ih = least_at-above w m ps top (λ x h. each x (behind p ps (w, x) h)) in
     ⊎_elim
-    (λ (e : p.0 ≡ w). let here : m ≤ p.1 = each p.1 (SomePass-here (is_pair w p.1) p ps
-    (and_from (eqb p.0 w) (eqb p.1 p.1) (eq-eqb p.0 w e) (eq-eqb p.1 p.1 refl))) in
-    omega (arith, least_here w p ps e))
+    (λ (e : p.0 ≡ w). let here : m ≤ p.1 = each p.1 (subst (λ y. Contains (p ∷ ps) (y, p.1)) e (front p ps)) in omega (arith, least_here w p ps e))
     (λ (n : p.0 ≡ w → ⊥). omega (arith, least_else w p ps n)) (cases_eq p.0 w)
 
-pub least_at-below : (w x : ℕ) (calls : List Call) → SomePass (posts w x) calls → least_at w (posts_of calls) ≤ x
-least_at-below w x [] h = absurd (omega arith)
-least_at-below w x (c ∷ cs) h =
-    let p : ℕ × ℕ = (c.word, c.number) in let ps = posts_of cs in
-    ⊎_elim
-    (λ (e : posts w x c ≡ true). let t = and_parts (eqb c.word w) (eqb c.number x) e in
-    omega (arith, least_here w p ps (eqb-true c.word w t.0), eqb-true c.number x t.1))
-    (λ (k : SomePass (posts w x) cs). let ih = least_at-below w x cs k in
-    ⊎_elim (λ (e : c.word ≡ w). omega (arith, least_here w p ps e)) (λ (n : c.word ≡ w → ⊥). omega (arith, least_else w p ps n)) (cases_eq c.word w))
-    (SomePass-cons (posts w x) c cs h)
+pub least_at-below : (w x : ℕ) (ps : List (ℕ × ℕ)) → Contains ps (w, x) → least_at w ps ≤ x
+least_at-below w x [] h = absurd (none_in (w, x) h)
+least_at-below w x (p ∷ ps) h = ⊎_elim
+    (λ (e : p ≡ (w, x)). omega (arith, least_here w p ps (λ i. (e i).0), ap (λ (q : ℕ × ℕ). q.1) e))
+    (λ (k : Contains ps (w, x)). let ih = least_at-below w x ps k in
+    ⊎_elim (λ (e : p.0 ≡ w). omega (arith, least_here w p ps e)) (λ (n : p.0 ≡ w → ⊥). omega (arith, least_else w p ps n)) (cases_eq p.0 w))
+    (front_or_behind p ps (w, x) h)
 
-pub least_at-reached : (w : ℕ) (calls : List Call) → (least_at w (posts_of calls) ≡ NONE) ⊎ SomePass (posts w (least_at w (posts_of calls))) calls
+pub least_at-reached : (w : ℕ) (ps : List (ℕ × ℕ)) → (least_at w ps ≡ NONE) ⊎ Contains ps (w, least_at w ps)
 least_at-reached w [] = inl refl
-least_at-reached w (c ∷ cs) =
-    let p : ℕ × ℕ = (c.word, c.number) in let ps = posts_of cs in let m : ℕ = least_at w ps in let k : ℕ = least_at w (p ∷ ps) in
-    let P : ℕ → Type 0 = λ y. (y ≡ NONE) ⊎ SomePass (posts w y) (c ∷ cs) in
-    let rest : P m = ⊎_elim (λ a. inl a) (λ b. inr (SomePass-later (posts w m) c cs b)) (least_at-reached w cs) in
+least_at-reached w (p ∷ ps) =
+    let m : ℕ = least_at w ps in let k : ℕ = least_at w (p ∷ ps) in
+    let P : ℕ → Type 0 = λ y. (y ≡ NONE) ⊎ Contains (p ∷ ps) (w, y) in
+    let rest : P m = ⊎_elim (λ a. inl a) (λ b. inr (behind p ps (w, m) b)) (least_at-reached w ps) in
     ⊎_elim
-    (λ (e : c.word ≡ w). ⊎_elim
-    (λ (lt : c.number < m). let q : c.number ≡ k = omega (arith, least_here w p ps e) in
-    subst P q (inr (SomePass-here (posts w c.number) c cs (and_from (eqb c.word w) (eqb c.number c.number) (eq-eqb c.word w e)
-    (eq-eqb c.number c.number refl)))))
-    (λ (ge : m ≤ c.number). let q : m ≡ k = omega (arith, least_here w p ps e) in subst P q rest)
-    (cases_lt c.number m))
-    (λ (n : c.word ≡ w → ⊥). subst P (sym (least_else w p ps n)) rest) (cases_eq c.word w)
+    (λ (e : p.0 ≡ w). ⊎_elim
+    (λ (lt : p.1 < m). let q : p.1 ≡ k = omega (arith, least_here w p ps e) in
+    subst P q (inr (subst (λ y. Contains (p ∷ ps) (y, p.1)) e (front p ps))))
+    (λ (ge : m ≤ p.1). let q : m ≡ k = omega (arith, least_here w p ps e) in subst P q rest)
+    (cases_lt p.1 m))
+    (λ (n : p.0 ≡ w → ⊥). subst P (sym (least_else w p ps n)) rest) (cases_eq p.0 w)
 
-count_same : (xs ys : List Call) (p : Call → Bool) → SameCalls xs ys → count_by p xs ≡ count_by p ys
-count_same xs ys p same = same (λ c. cond (p c) 1 0)
+least_le : (w : ℕ) (ps qs : List (ℕ × ℕ)) → ((x : ℕ) → Contains qs (w, x) → Contains ps (w, x)) → least_at w ps ≤ least_at w qs
+least_le w ps qs here = least_at-above w (least_at w ps) qs (least_at-le-NONE w ps) (λ x h. least_at-below w x ps (here x h))
 
-pub SomePass-same : (xs ys : List Call) (p : Call → Bool) → SameCalls xs ys → SomePass p xs → SomePass p ys
-SomePass-same xs ys p same h = omega (arith, count_same xs ys p same)
+-- the least depends on the set of the pairs alone
+pub least_at-members : (w : ℕ) (ps qs : List (ℕ × ℕ)) → ((x : ℕ) → Contains ps (w, x) → Contains qs (w, x))
+    → ((x : ℕ) → Contains qs (w, x) → Contains ps (w, x)) → least_at w ps ≡ least_at w qs
+least_at-members w ps qs there here = omega (arith, least_le w ps qs here, least_le w qs ps there)
 
-least_le : (w : ℕ) (xs ys : List Call) → SameCalls xs ys → least_at w (posts_of xs) ≤ least_at w (posts_of ys)
-least_le w xs ys same = let m : ℕ = least_at w (posts_of ys) in
-    ⊎_elim (λ (e : m ≡ NONE). omega (arith, least_at-le-NONE w (posts_of xs)))
-    (λ (h : SomePass (posts w m) ys). least_at-below w m xs (SomePass-same ys xs (posts w m) (λ f. sym (same f)) h)) (least_at-reached w ys)
+-- ---- calls
+
+-- the same calls, each as often: they weigh the same, however calls are weighed
+abbrev pub SameCalls : List Call → List Call → Type 0
+SameCalls xs ys = (h : Call → ℕ) → sum_by h xs ≡ sum_by h ys
+
+same_in : (xs ys : List Call) → SameCalls xs ys → (c : Call) → Contains xs c → Contains ys c
+same_in xs ys same = calls_in xs ys (λ h. omega (arith, same h))
+
+pub post_in : (w : ℕ) (xs : List Call) (c : Call) → Contains xs c → c.word ≡ w → Contains (posts_of xs) (w, c.number)
+post_in w xs c h e = subst (λ y. Contains (posts_of xs) (y, c.number)) e (in_map (λ d. (d.word, d.number)) xs c h)
+
+pub posts_same : (xs ys : List Call) → SameCalls xs ys → (p : ℕ × ℕ) → Contains (posts_of xs) p → Contains (posts_of ys) p
+posts_same xs ys same p h = let r = of_map (λ (c : Call). (c.word, c.number)) xs p h in
+    subst (Contains (posts_of ys)) r.2 (in_map (λ c. (c.word, c.number)) ys r.0 (same_in xs ys same r.0 r.1))
 
 pub least_at-same : (w : ℕ) (xs ys : List Call) → SameCalls xs ys → least_at w (posts_of xs) ≡ least_at w (posts_of ys)
-least_at-same w xs ys same = omega (arith, least_le w xs ys same, least_le w ys xs (λ f. sym (same f)))
+least_at-same w xs ys same =
+    least_at-members w (posts_of xs) (posts_of ys) (λ x. posts_same xs ys same (w, x)) (λ x. posts_same ys xs (λ h. sym (same h)) (w, x))
+
+-- if both fell, they found different numbers
+abbrev pub Apart : ℕ → Call → Call → Type 0
+Apart w c d = FallsAt w c → FallsAt w d → c.found ≢ d.found
+
+abbrev falls_from : ℕ → ℕ → Call → Bool
+falls_from w x c = (c.word == w) && ((c.found == x) && ltb c.number c.found)
+
+from_is : (w x : ℕ) (c : Call) → falls_from w x c ≡ true → FallsAt w c × (c.found ≡ x)
+from_is w x c e = let t = and_parts (c.word == w) ((c.found == x) && ltb c.number c.found) e in
+    let u = and_parts (c.found == x) (ltb c.number c.found) t.1 in ((eqb-true c.word w t.0, ltb-true c.number c.found u.1), eqb-true c.found x u.0)
+
+from_true : (w x : ℕ) (c : Call) → FallsAt w c → c.found ≡ x → falls_from w x c ≡ true
+from_true w x c f e = and_from (c.word == w) ((c.found == x) && ltb c.number c.found) (eq-eqb c.word w f.0)
+    (and_from (c.found == x) (ltb c.number c.found) (eq-eqb c.found x e) (lt-ltb c.number c.found f.1))
+
+-- at most one call that fell found x, where all are apart
+once_of : (w x : ℕ) (cs : List Call) → AllPairs (Apart w) cs → count_by (falls_from w x) cs ≤ 1
+once_of w x [] apart = omega arith
+once_of w x (c ∷ cs) apart =
+    let ih = once_of w x cs (λ i j d a b. apart (suc i) (suc j) d (omega arith) (omega arith)) in
+    ⊎_elim
+    (λ (t : falls_from w x c ≡ true). ⊎_elim
+    (λ (some_other : 0 < count_by (falls_from w x) cs).
+    let r = count_of (falls_from w x) cs some_other in let mine = from_is w x c t in let its = from_is w x r.0 r.2 in
+    absurd (pairs_first (Apart w) c cs apart r.0 r.1 mine.0 its.0 (mine.1 ∙ sym its.1)))
+    (λ (none : count_by (falls_from w x) cs ≤ 0). omega (arith, count_by-yes (falls_from w x) c cs t))
+    (cases_lt 0 (count_by (falls_from w x) cs)))
+    (λ (f : falls_from w x c ≡ false). omega (arith, count_by-no (falls_from w x) c cs f))
+    (cases_Bool (falls_from w x c))
+
+once_from : (w : ℕ) (cs : List Call) → ((x : ℕ) → count_by (falls_from w x) cs ≤ 1) → AllPairs (Apart w) cs
+once_from w [] once = λ i j d a b. absurd (omega arith)
+once_from w (c ∷ cs) once = AllPairs-cons (Apart w) c cs
+    (all_of (Apart w c) cs (λ d k mine its e. let p : Call → Bool = falls_from w c.found in
+    absurd (omega (arith, once c.found, count_by-yes p c cs (from_true w c.found c mine refl), count_in p cs d k (from_true w c.found d its (sym e))))))
+    (once_from w cs (λ x. omega (arith, once x, sum_by-cons (λ d. cond (falls_from w x d) 1 0) c cs)))
 
 pub IsLegal-same : (xs ys : List Call) → SameCalls xs ys → IsLegal xs → IsLegal ys
 IsLegal-same xs ys same l = λ w. let back : SameCalls ys xs = λ f. sym (same f) in record {
-  under = λ x h. (l w).under x (SomePass-same ys xs (posts w x) back h);
-  once = λ x. omega (arith, count_same xs ys (falls_from w x) same, (l w).once x);
-  linked = λ x h. ⊎_elim (λ a. inl a) (λ b. inr (SomePass-same xs ys (falls_to w x) same b)) ((l w).linked x (SomePass-same ys xs (finds w x) back h));
+  under = λ c h. (l w).under c (same_in ys xs back c h);
+  once = once_from w ys (λ x. omega (arith, same (λ c. cond (falls_from w x c) 1 0), once_of w x xs (l w).once));
+  linked = λ c h at. ⊎_elim (λ a. inl a) (λ b. inr (b.0, same_in xs ys same b.0 b.1, b.2, b.3)) ((l w).linked c (same_in ys xs back c h) at);
 }
 
-posts_self : (c : Call) → posts c.word c.number c ≡ true
-posts_self c = and_from (eqb c.word c.word) (eqb c.number c.number) (eq-eqb c.word c.word refl) (eq-eqb c.number c.number refl)
+-- some call fell to x
+abbrev pub FellTo : ℕ → List Call → ℕ → Type 0
+FellTo w xs x = (d : Call) × Contains xs d × FallsAt w d × (d.number ≡ x)
 
--- what a word holds is NONE or the number of a falling call
-pub least_falls : (w : ℕ) (xs : List Call) → IsLegalAt w xs → (least_at w (posts_of xs) ≡ NONE) ⊎ SomePass (falls_to w (least_at w (posts_of xs))) xs
+-- what a word holds is NONE or the number of a call that fell
+pub least_falls : (w : ℕ) (xs : List Call) → IsLegalAt w xs → (least_at w (posts_of xs) ≡ NONE) ⊎ FellTo w xs (least_at w (posts_of xs))
 least_falls w xs l = let m : ℕ = least_at w (posts_of xs) in
     ⊎_elim (λ e. inl e)
-    (λ (h : SomePass (posts w m) xs).
-    let r = picked (posts w m) xs h in let d : Call = r.0 in let t = and_parts (eqb d.word w) (eqb d.number m) r.1 in
-    let at_w : d.word ≡ w = eqb-true d.word w t.0 in let is_m : d.number ≡ m = eqb-true d.number m t.1 in
+    (λ (h : Contains (posts_of xs) (w, m)).
+    let r = of_map (λ (c : Call). (c.word, c.number)) xs (w, m) h in let d : Call = r.0 in
+    let at_w : d.word ≡ w = λ i. (r.2 i).0 in let is_m : d.number ≡ m = λ i. (r.2 i).1 in
     ⊎_elim
-    (λ (lt : d.number < d.found). inr (r.2 (falls_to w m) (and_from (posts w m d) (is_falling d) r.1 (lt-ltb d.number d.found lt))))
+    (λ (lt : d.number < d.found). inr (d, r.1, (at_w, lt), is_m))
     (λ (ge : d.found ≤ d.number).
     ⊎_elim
     (λ (e : d.found ≡ NONE). inl (omega (arith, least_at-le-NONE w (posts_of xs))))
-    (λ (k : SomePass (falls_to w d.found) xs).
-    let s = picked (falls_to w d.found) xs k in let f : Call = s.0 in let u = and_parts (posts w d.found f) (is_falling f) s.1 in
-    let low : m ≤ d.found = least_at-below w d.found xs (s.2 (posts w d.found) u.0) in
-    let same : d.found ≡ m = omega arith in
-    inr (subst (λ (y : ℕ). SomePass (falls_to w y) xs) same k))
-    (l.linked d.found (r.2 (finds w d.found) (and_from (eqb d.word w) (eqb d.found d.found) t.0 (eq-eqb d.found d.found refl)))))
+    (λ (f : FellTo w xs d.found). inr (f.0, f.1, f.2, omega (arith, least_at-below w f.0.number (posts_of xs) (post_in w xs f.0 f.1 f.2.0), f.3)))
+    (l.linked d r.1 at_w))
     (cases_lt d.number d.found))
-    (least_at-reached w xs)
+    (least_at-reached w (posts_of xs))
 
 -- a call that finds what the word holds
 pub IsLegal-post : (w n : ℕ) (xs : List Call) → n < NONE → IsLegal xs → IsLegal (call w (least_at w (posts_of xs)) n ∷ xs)
 IsLegal-post w n xs lt l = λ v. let m : ℕ = least_at w (posts_of xs) in let c : Call = call w m n in record {
-  under = λ x h. ⊎_elim
-      (λ (e : posts v x c ≡ true). let t = and_parts (eqb w v) (eqb n x) e in omega (arith, eqb-true n x t.1))
-      (λ (k : SomePass (posts v x) xs). (l v).under x k) (SomePass-cons (posts v x) c xs h);
-  once = λ x. ⊎_elim
-      (λ (e : falls_from v x c ≡ true).
-      let t = and_parts (finds v x c) (is_falling c) e in let u = and_parts (eqb w v) (eqb m x) t.0 in
-      let same_w : w ≡ v = eqb-true w v u.0 in let same_m : m ≡ x = eqb-true m x u.1 in
-      ⊎_elim
-      (λ (some_other : 0 < count_by (falls_from v x) xs).
-      let r = picked (falls_from v x) xs some_other in let d : Call = r.0 in
-      let a = and_parts (finds v x d) (is_falling d) r.1 in let b = and_parts (eqb d.word v) (eqb d.found x) a.0 in
-      let falls : d.number < d.found = ltb-true d.number d.found a.1 in let found : d.found ≡ x = eqb-true d.found x b.1 in
-      let at_w : eqb d.word w ≡ true = eq-eqb d.word w (eqb-true d.word v b.0 ∙ sym same_w) in
-      let low : m ≤ d.number =
-      least_at-below w d.number xs (r.2 (posts w d.number) (and_from (eqb d.word w) (eqb d.number d.number) at_w (eq-eqb d.number d.number refl))) in
-      absurd (omega arith))
-      (λ (none : count_by (falls_from v x) xs ≤ 0). omega (arith, count_by-cons_yes (falls_from v x) c xs e))
-      (cases_lt 0 (count_by (falls_from v x) xs)))
-      (λ (e : falls_from v x c ≡ false). omega (arith, count_by-cons_no (falls_from v x) c xs e, (l v).once x))
-      (cases_Bool (falls_from v x c));
-  linked = λ x h. ⊎_elim
-      (λ (e : finds v x c ≡ true).
-      let u = and_parts (eqb w v) (eqb m x) e in
-      let P : ℕ → ℕ → Type 0 = λ a b. (b ≡ NONE) ⊎ SomePass (falls_to a b) (c ∷ xs) in
-      let p : P w m = ⊎_elim (λ a. inl a) (λ b. inr (SomePass-later (falls_to w m) c xs b)) (least_falls w xs (l w)) in
-      let q : P v m = subst (λ (a : ℕ). P a m) (eqb-true w v u.0) p in
-      subst (λ (b : ℕ). P v b) (eqb-true m x u.1) q)
-      (λ (k : SomePass (finds v x) xs). ⊎_elim (λ a. inl a) (λ b. inr (SomePass-later (falls_to v x) c xs b)) ((l v).linked x k))
-      (SomePass-cons (finds v x) c xs h);
+  under = λ d h at. ⊎_elim (λ (e : c ≡ d). omega (arith, ap (λ (f : Call). f.number) e)) (λ k. (l v).under d k at) (front_or_behind c xs d h);
+  once = AllPairs-cons (Apart v) c xs
+      (all_of (Apart v c) xs (λ d k mine its e.
+      absurd (omega (arith, e, its.1, least_at-below w d.number (posts_of xs) (post_in w xs d k (its.0 ∙ sym mine.0))))))
+      (l v).once;
+  linked = λ d h at. ⊎_elim
+      (λ (e : c ≡ d).
+      let P : ℕ → ℕ → Type 0 = λ a b. (b ≡ NONE) ⊎ FellTo a (c ∷ xs) b in
+      let p : P w m = ⊎_elim (λ a. inl a) (λ b. inr (b.0, behind c xs b.0 b.1, b.2, b.3)) (least_falls w xs (l w)) in
+      subst (λ (a : ℕ). P a d.found) (ap (λ (f : Call). f.word) e ∙ at) (subst (P w) (ap (λ (f : Call). f.found) e) p))
+      (λ k. ⊎_elim (λ a. inl a) (λ b. inr (b.0, behind c xs b.0 b.1, b.2, b.3)) ((l v).linked d k at))
+      (front_or_behind c xs d h);
 }

@@ -1,8 +1,10 @@
 -- Each kind of step keeps the rule of the marks.
-use Rattle.std.proofs.Common.{◌≡◌, ◌≢◌, ℕ, zero, suc, ◌+◌, ◌-◌, ◌^◌, ◌<◌, ◌≤◌, ◌⊎◌, inl, inr, ⊎_elim, Bool, true, false, cond, eqb, ltb, ◌==◌, List, [], ◌∷◌, ◌++◌, length, set, slice_index, sym, refl, ap, ◌∙◌, subst, arith, min, get_or-set_same, get_or-set_other, append-nil}
-use Rattle.std.specs.List.{sum_by, count_by}
-use Rattle.std.proofs.lemmas.Bool.{eqb-true, eq-eqb, and_parts, and_from, cases_eq, cases_lt, cases_Bool, lt-ltb}
+use Rattle.std.proofs.Common.{◌≡◌, ◌≢◌, ℕ, zero, suc, ◌+◌, ◌-◌, ◌^◌, ◌<◌, ◌≤◌, ◌⊎◌, inl, inr, ⊎_elim, Bool, true, false, cond, ltb, List, [], ◌∷◌, ◌++◌, length, set, slice_index, sym, refl, ap, ◌∙◌, subst, arith, min, get_or-set_same, get_or-set_other, append-nil}
+use Rattle.std.specs.Prelude.{Option, None, Some as just, Contains}
+use Rattle.std.specs.List.{sum_by}
+use Rattle.std.proofs.lemmas.Bool.{cases_eq, cases_lt, lt-ltb}
 use Rattle.std.proofs.lemmas.List.{set-get_or}
+use Rattle.std.proofs.lemmas.List.Elements.{Contains-append_left, Contains-append_right, Contains-append_cases}
 use Rattle.std.proofs.lemmas.List.Sums.{sum_by-cons, sum_by-append, sum_by_push}
 use mathlib.Core.Option.{some, some-injective, some-ne-none}
 use lib.ListN.{get_elem?}
@@ -12,16 +14,15 @@ use Rattle.share_work.specs.declared.views.Call.{Call}
 use Rattle.share_work.specs.declared.views.View.{View}
 use Rattle.share_work.specs.declared.mark_view.Debt.{Debt}
 use Rattle.share_work.specs.declared.mark_view.MarkView.{MarkView}
-use Rattle.std.specs.Prelude.{Option, None, Some as just}
-use Rattle.share_work.specs.Posts.{NONE, least_at, is_pair}
-use Rattle.share_work.specs.Views.{call, spent, posts_of, known, with_call}
-use Rattle.share_work.specs.Rule.{all_calls, posts, SomePass, IsLegal, IsPosted, IsKept}
-use Rattle.share_work.specs.Reach.{Reaches}
-use Rattle.share_work.specs.Marks.{at_each, marked_posts, make_debt, owed_by, owed_of, next_debt, with_root, with_paid, mark_left, mark_right, mark_both, mark_spent}
+use Rattle.share_work.specs.Posts.{NONE, least_at}
+use Rattle.share_work.specs.Views.{call, posts_of, known, with_call}
+use Rattle.share_work.specs.Rule.{all_calls, IsLegal, IsPosted, IsKept}
+use Rattle.share_work.specs.Marks.{at_each, marked_posts, owed_by, owed_of, mark_left, mark_right, mark_both}
+use Rattle.share_work.specs.Steps.{spent, make_debt, next_debt, with_root, with_paid, mark_spent}
 use Rattle.share_work.specs.MarkRule.{all_views, all_marks, all_owed, IsMarked}
-use Rattle.share_work.proofs.Sums.{sum_by-flat_map, sum_by-at_set, sum_by-at, one_positive, count_by-cons, one_when, zero_if, SomePass-cons, SomePass-here, SomePass-later}
-use Rattle.share_work.proofs.Steps.{SomePass-append, calls_set, IsKept-post, IsKept-split, IsKept-join, held-le-known, back, closes}
-use Rattle.share_work.proofs.Legal.{least_here, least_else, least_at-le-NONE, least_at-above, least_at-reached}
+use Rattle.share_work.proofs.Sums.{none_in, front, behind, front_or_behind, in_map, of_map, in_flat, of_flat, pairs_in, sum_by-flat_map, sum_by-at_set, sum_by-at}
+use Rattle.share_work.proofs.Steps.{calls_set, IsKept-post, IsKept-split, IsKept-join, held-le-known, back, closes}
+use Rattle.share_work.proofs.Legal.{SameCalls, posts_same, least_at-le-NONE, least_at-above, least_at-below, least_at-reached}
 
 map-set : (views : List MarkView) (id : ℕ) (w : MarkView) → all_views (set views id w) ≡ set (all_views views) id w.least
 map-set [] id w = refl
@@ -31,53 +32,24 @@ map-set (x ∷ xs) (suc id) w = ap (λ (l : List View). x.least ∷ l) (map-set 
 at_view : (views : List MarkView) (id : ℕ) (v : MarkView) → get_elem? views id ≡ some v → get_elem? (all_views views) id ≡ some v.least
 at_view views id v e = at_map (λ (u : MarkView). u.least) views id v e
 
-pair_is : (w x : ℕ) (p : ℕ × ℕ) → is_pair w x p ≡ true → (p.0 ≡ w) × (p.1 ≡ x)
-pair_is w x p e = let t = and_parts (eqb p.0 w) (eqb p.1 x) e in (eqb-true p.0 w t.0, eqb-true p.1 x t.1)
-
-pair_from : (w x : ℕ) (p : ℕ × ℕ) → p.0 ≡ w → p.1 ≡ x → is_pair w x p ≡ true
-pair_from w x p a b = and_from (eqb p.0 w) (eqb p.1 x) (eq-eqb p.0 w a) (eq-eqb p.1 x b)
-
 -- the pairs of one mark
-each_from : (n : ℕ) (files : List ℕ) (g : ℕ) → SomePass (λ h. h == g) files → SomePass (is_pair g n) (at_each n files)
-each_from n [] g h = absurd (omega arith)
-each_from n (f ∷ fs) g h = ⊎_elim (λ (e : (f == g) ≡ true). SomePass-here (is_pair g n) (f, n) (at_each n fs) (pair_from g n (f, n) (eqb-true f g e) refl))
-    (λ (k : SomePass (λ h. h == g) fs). SomePass-later (is_pair g n) (f, n) (at_each n fs) (each_from n fs g k)) (SomePass-cons (λ h. h == g) f fs h)
-
-each_to : (n : ℕ) (files : List ℕ) (g x : ℕ) → SomePass (is_pair g x) (at_each n files) → (n ≡ x) × SomePass (λ h. h == g) files
-each_to n [] g x h = absurd (omega arith)
-each_to n (f ∷ fs) g x h = ⊎_elim
-    (λ (e : is_pair g x (f, n) ≡ true). let t = pair_is g x (f, n) e in (t.1, SomePass-here (λ h. h == g) f fs (eq-eqb f g t.0)))
-    (λ (k : SomePass (is_pair g x) (at_each n fs)). let t = each_to n fs g x k in (t.0, SomePass-later (λ h. h == g) f fs t.1))
-    (SomePass-cons (is_pair g x) (f, n) (at_each n fs) h)
+pub each_to : (n : ℕ) (files : List ℕ) (g x : ℕ) → Contains (at_each n files) (g, x) → (n ≡ x) × Contains files g
+each_to n files g x h = let r = of_map (λ f. (f, n)) files (g, x) h in ((λ i. (r.2 i).1), subst (Contains files) (λ i. (r.2 i).0) r.1)
 
 module _ (list : ℕ → List ℕ) where
   -- a post of the marks is one of a mark whose root reaches the file
-  pub marked_from : (marks : List (ℕ × ℕ)) (r g x : ℕ) → SomePass (is_pair r x) marks → Reaches list r g → SomePass (is_pair g x) (marked_posts list marks)
-  marked_from [] r g x h reach = absurd (omega arith)
-  marked_from (m ∷ ms) r g x h reach = let front : List (ℕ × ℕ) = at_each m.1 (list m.0) in
-      let count = sum_by-append (λ (p : ℕ × ℕ). cond (is_pair g x p) 1 0) front (marked_posts list ms) in
-      ⊎_elim
-      (λ (e : is_pair r x m ≡ true). let t = pair_is r x m e in
-      let here : SomePass (is_pair g x) (at_each x (list r)) = each_from x (list r) g reach in
-      let there : SomePass (is_pair g x) front = subst (λ (p : ℕ × ℕ). SomePass (is_pair g x) (at_each p.1 (list p.0))) (λ i. (sym t.0 i, sym t.1 i)) here in
-      omega arith)
-      (λ (k : SomePass (is_pair r x) ms). let ih = marked_from ms r g x k reach in omega arith)
-      (SomePass-cons (is_pair r x) m ms h)
+  pub marked_from : (marks : List (ℕ × ℕ)) (r g x : ℕ) → Contains marks (r, x) → Contains (list r) g → Contains (marked_posts list marks) (g, x)
+  marked_from marks r g x h reach = in_flat (λ (m : ℕ × ℕ). at_each m.1 (list m.0)) marks (r, x) (g, x) h (in_map (λ f. (f, x)) (list r) g reach)
 
-  pub marked_to : (marks : List (ℕ × ℕ)) (g x : ℕ) → SomePass (is_pair g x) (marked_posts list marks)
-      → (r : ℕ) × SomePass (is_pair r x) marks × Reaches list r g
-  marked_to [] g x h = absurd (omega arith)
-  marked_to (m ∷ ms) g x h = let front : List (ℕ × ℕ) = at_each m.1 (list m.0) in
-      ⊎_elim
-      (λ (k : SomePass (is_pair g x) front). let t = each_to m.1 (list m.0) g x k in
-      (m.0, SomePass-here (is_pair m.0 x) m ms (pair_from m.0 x m refl t.0), t.1))
-      (λ (k : SomePass (is_pair g x) (marked_posts list ms)). let t = marked_to ms g x k in (t.0, SomePass-later (is_pair t.0 x) m ms t.1, t.2))
-      (SomePass-append (is_pair g x) front (marked_posts list ms) h)
+  pub marked_to : (marks : List (ℕ × ℕ)) (g x : ℕ) → Contains (marked_posts list marks) (g, x) → (r : ℕ) × Contains marks (r, x) × Contains (list r) g
+  marked_to marks g x h =
+      let t = of_flat (λ (m : ℕ × ℕ). at_each m.1 (list m.0)) marks (g, x) h in let u = each_to t.0.1 (list t.0.0) g x t.2 in
+      (t.0.0, subst (λ y. Contains marks (t.0.0, y)) u.0 t.1, u.1)
 
   -- more marks have more posts
-  marked_more : (ms ns : List (ℕ × ℕ)) → ((r x : ℕ) → SomePass (is_pair r x) ms → SomePass (is_pair r x) ns) → (g x : ℕ)
-      → SomePass (is_pair g x) (marked_posts list ms) → SomePass (is_pair g x) (marked_posts list ns)
-  marked_more ms ns more g x h = let t = marked_to ms g x h in marked_from ns t.0 g x (more t.0 x t.1) t.2
+  marked_more : (ms ns : List (ℕ × ℕ)) → ((p : ℕ × ℕ) → Contains ms p → Contains ns p) → (g x : ℕ)
+      → Contains (marked_posts list ms) (g, x) → Contains (marked_posts list ns) (g, x)
+  marked_more ms ns more g x h = let t = marked_to ms g x h in marked_from ns t.0 g x (more (t.0, x) t.1) t.2
 
 abbrev pub EmptyIfSpent : List MarkView → Type 0
 EmptyIfSpent views = (id : ℕ) (v : MarkView) → get_elem? views id ≡ some v → v.least.parts ≡ 0 → (v.marks ≡ []) × (v.debt ≡ None)
@@ -99,22 +71,22 @@ module _ (views : List MarkView) (id : ℕ) (v : MarkView) (at : get_elem? views
   owed_set list w h = let f : MarkView → List (ℕ × ℕ) = λ u. owed_of list u in
       omega (arith, sum_by-flat_map h f (set views id w), sum_by-flat_map h f views, sum_by-at_set (λ (u : MarkView). sum_by h (f u)) views id v w at)
 
-  -- a post of the new calls is an old one or the new call
-  posted_set : (w : MarkView) (c : Call) → w.least ≡ with_call v.least c → (g x : ℕ) → SomePass (posts g x) (all_calls (all_views (set views id w)))
-      → (posts g x c ≡ true) ⊎ SomePass (posts g x) (all_calls (all_views views))
-  posted_set w c is g x h =
-      let f : Call → ℕ = λ d. cond (posts g x d) 1 0 in
-      let a = calls_set (all_views views) id v.least (at_view views id v at) (with_call v.least c) f in
-      let P : List View → Type 0 = λ l. SomePass (posts g x) (all_calls l) in
-      let k : P (set (all_views views) id (with_call v.least c)) = subst P (map-set views id w ∙ ap (λ (u : View). set (all_views views) id u) is) h in
-      SomePass-cons (posts g x) c (all_calls (all_views views)) (omega (arith, a, sum_by_push f v.least.calls c, sum_by-cons f c (all_calls (all_views views))))
+  -- a post of the new calls is an old one or the new call's
+  posted_set : (w : MarkView) (c : Call) → w.least ≡ with_call v.least c → (p : ℕ × ℕ) → Contains (posts_of (all_calls (all_views (set views id w)))) p
+      → ((c.word, c.number) ≡ p) ⊎ Contains (posts_of (all_calls (all_views views))) p
+  posted_set w c is p h =
+      let old : List View = all_views views in let new : View = with_call v.least c in let us : List View = set old id new in
+      let k : Contains (posts_of (all_calls us)) p =
+      subst (λ (l : List View). Contains (posts_of (all_calls l)) p) (map-set views id w ∙ ap (λ (u : View). set old id u) is) h in
+      front_or_behind (c.word, c.number) (posts_of (all_calls old)) p (posts_same (all_calls us) (c ∷ all_calls old)
+      (λ f. omega (arith, calls_set old id v.least (at_view views id v at) new f, sum_by_push f v.least.calls c, sum_by-cons f c (all_calls old))) p k)
 
-in_cond : {A : Type 0} (p : A → Bool) (b : Bool) (xs : List A) → SomePass p (cond b xs []) → SomePass p xs
-in_cond p true xs h = h
-in_cond p false xs h = absurd (omega arith)
+in_cond : (b : Bool) (ps : List (ℕ × ℕ)) (p : ℕ × ℕ) → Contains (cond b ps []) p → Contains ps p
+in_cond true ps p h = h
+in_cond false ps p h = absurd (none_in p h)
 
-to_cond : {A : Type 0} (p : A → Bool) (b : Bool) (xs : List A) → b ≡ true → SomePass p xs → SomePass p (cond b xs [])
-to_cond {A} p b xs e h = subst (λ (y : Bool). SomePass p (cond y xs [])) (sym e) h
+to_cond : (b : Bool) (ps : List (ℕ × ℕ)) (p : ℕ × ℕ) → b ≡ true → Contains ps p → Contains (cond b ps []) p
+to_cond b ps p e h = subst (λ (y : Bool). Contains (cond y ps []) p) (sym e) h
 
 -- what a root's post leaves owed
 owed_root : (list : ℕ → List ℕ) (r n : ℕ) (b : Bool) → owed_by list (cond b (just (make_debt r n 0)) None) ≡ cond b (at_each n (list r)) []
@@ -166,138 +138,134 @@ module _ (count : ℕ) (list : ℕ → List ℕ) (words : List ℕ) (views : Lis
   parts_of : (w : MarkView) (c : Call) → w.least ≡ with_call v.least c → w.least.parts ≡ v.least.parts
   parts_of w c is = ap (λ (u : View). u.parts) is
 
-  pub IsMarked-root : ((r : ℕ) → r < count → Reaches list r r) → v.debt ≡ None → (r n : ℕ) → r < count → n < NONE
+  pub IsMarked-root : ((r : ℕ) → r < count → Contains (list r) r) → v.debt ≡ None → (r n : ℕ) → r < count → n < NONE
       → IsMarked count list (set words (r + 1) (min (slice_index words (r + 1)) n)) (set views id (with_root r (slice_index words (r + 1)) n v))
   IsMarked-root refl_ none r n inside lt =
       let m : ℕ = slice_index words (r + 1) in let c : Call = call r m n in let w : MarkView = with_root r m n v in
       let ow : List (ℕ × ℕ) = cond (ltb n m) (at_each n (list r)) [] in let ow_is : owed_of list w ≡ ow = owed_root list r n (ltb n m) in
       let ms : List (ℕ × ℕ) = all_marks views in let ms' : List (ℕ × ℕ) = all_marks (set views id w) in
       let room : r + 1 < length words = omega (arith, k.kept.size) in let words' : List ℕ = after words r n room in
-      let mark : (s x : ℕ) → count_by (is_pair s x) ms' ≡ cond (is_pair s x (r, n)) 1 0 + count_by (is_pair s x) ms = λ s x.
-      let h : ℕ × ℕ → ℕ = λ p. cond (is_pair s x p) 1 0 in omega (arith, marks_set views id v at w h, sum_by-cons h (r, n) v.marks) in
-      let more : (s x : ℕ) → SomePass (is_pair s x) ms → SomePass (is_pair s x) ms' = λ s x h. omega (arith, mark s x) in
-      let new : SomePass (is_pair r n) ms' = omega (arith, mark r n, one_when (is_pair r n (r, n)) (pair_from r n (r, n) refl refl)) in
-      let owe : (g x : ℕ) → count_by (is_pair g x) (all_owed list (set views id w)) ≡ count_by (is_pair g x) (all_owed list views) + count_by (is_pair g x) ow =
-      λ g x.
-      let h : ℕ × ℕ → ℕ = λ p. cond (is_pair g x p) 1 0 in omega
-      (arith, owed_set views id v at list w h, ap (λ (o : Option Debt). sum_by h (owed_by list o)) none, ap (λ (l : List (ℕ × ℕ)). sum_by h l) ow_is) in
+      let os : List (ℕ × ℕ) = all_owed list views in let os' : List (ℕ × ℕ) = all_owed list (set views id w) in
+      let mark : (h : ℕ × ℕ → ℕ) → sum_by h ms' ≡ sum_by h ((r, n) ∷ ms) =
+      λ h. omega (arith, marks_set views id v at w h, sum_by-cons h (r, n) v.marks, sum_by-cons h (r, n) ms) in
+      let more : (p : ℕ × ℕ) → Contains ((r, n) ∷ ms) p → Contains ms' p = pairs_in ((r, n) ∷ ms) ms' (λ h. omega (arith, mark h)) in
+      let later : (p : ℕ × ℕ) → Contains ms p → Contains ms' p = λ p m. more p (behind (r, n) ms p m) in
+      let new : Contains ms' (r, n) = more (r, n) (front (r, n) ms) in
+      let owe : (h : ℕ × ℕ → ℕ) → sum_by h os' ≡ sum_by h (os ++ ow) = λ h. omega (
+        arith,
+        owed_set views id v at list w h,
+        ap (λ (o : Option Debt). sum_by h (owed_by list o)) none,
+        ap (λ (l : List (ℕ × ℕ)). sum_by h l) ow_is,
+        sum_by-append h os ow,
+      ) in
+      let still : (p : ℕ × ℕ) → Contains (os ++ ow) p → Contains os' p = pairs_in (os ++ ow) os' (λ h. omega (arith, owe h)) in
       record {
         kept = kept_post w r n inside lt refl;
         posted = λ g x h. ⊎_elim
-            (λ (e : posts g x c ≡ true). let t = pair_is g x (r, n) e in
-            let P : ℕ → ℕ → Type 0 = λ a b. SomePass (is_pair a b) (marked_posts list ms') in
-            let here : P r n = marked_from list ms' r r n new (refl_ r inside) in
-            subst (λ (b : ℕ). P g b) t.1 (subst (λ (a : ℕ). P a n) t.0 here))
-            (λ (o : SomePass (posts g x) (all_calls (all_views views))). marked_more list ms ms' more g x (k.posted g x o))
-            (posted_set views id v at w c refl g x h);
+            (λ (e : (r, n) ≡ (g, x)). subst (Contains (marked_posts list ms')) e (marked_from list ms' r r n new (refl_ r inside)))
+            (λ o. marked_more list ms ms' later g x (k.posted g x o))
+            (posted_set views id v at w c refl (g, x) h);
         owed = λ g x h. ⊎_elim
-            (λ (o : SomePass (is_pair g x) (all_owed list views)). marked_more list ms ms' more g x (k.owed g x o))
-            (λ (o : SomePass (is_pair g x) ow). let t = each_to n (list r) g x (in_cond (is_pair g x) (ltb n m) (at_each n (list r)) o) in
-            subst (λ (b : ℕ). SomePass (is_pair g b) (marked_posts list ms')) t.0 (marked_from list ms' r g n new t.1))
-            (one_positive (count_by (is_pair g x) (all_owed list views)) (count_by (is_pair g x) ow) (omega (arith, owe g x)));
+            (λ (o : Contains os (g, x)). marked_more list ms ms' later g x (k.owed g x o))
+            (λ (o : Contains ow (g, x)). let t = each_to n (list r) g x (in_cond (ltb n m) (at_each n (list r)) (g, x) o) in
+            subst (λ (b : ℕ). Contains (marked_posts list ms') (g, b)) t.0 (marked_from list ms' r g n new t.1))
+            (Contains-append_cases os ow (g, x) (pairs_in os' (os ++ ow) (λ h. omega (arith, owe h)) (g, x) h));
         marks = λ s x h. ⊎_elim
-            (λ (e : is_pair s x (r, n) ≡ true). let t = pair_is s x (r, n) e in
-            let P : ℕ → ℕ → Type 0 = λ a b. (a < count) × (b < NONE) × (slice_index words' (a + 1) ≤ b) in
-            let here : P r n = (inside, lt, omega (arith, word_here words r n room)) in
-            subst (λ (b : ℕ). P s b) t.1 (subst (λ (a : ℕ). P a n) t.0 here))
-            (λ (o : SomePass (is_pair s x) ms). let t = k.marks s x o in (t.0, t.1, omega (arith, word_falls words r n room s, t.2)))
-            (SomePass-cons (is_pair s x) (r, n) ms (omega (arith, mark s x, count_by-cons (is_pair s x) (r, n) ms)));
+            (λ (e : (r, n) ≡ (s, x)). let P : ℕ × ℕ → Type 0 = λ p. (p.0 < count) × (p.1 < NONE) × (slice_index words' (p.0 + 1) ≤ p.1) in
+            subst P e (inside, lt, omega (arith, word_here words r n room)))
+            (λ (o : Contains ms (s, x)). let t = k.marks s x o in (t.0, t.1, omega (arith, word_falls words r n room s, t.2)))
+            (front_or_behind (r, n) ms (s, x) (pairs_in ms' ((r, n) ∷ ms) (λ h. omega (arith, mark h)) (s, x) h));
         spread = λ s g in_s reach less. ⊎_elim
             (λ (e : (s ≡ r) × (n < m) × (slice_index words' (s + 1) ≡ n)).
-            let here : SomePass (is_pair g n) (at_each n (list r)) = each_from n (list r) g (subst (λ (a : ℕ). Reaches list a g) e.0 reach) in
-            let there : SomePass (is_pair g n) ow = to_cond (is_pair g n) (ltb n m) (at_each n (list r)) (lt-ltb n m e.1) here in
-            inr (n, omega (arith, owe g n), omega (arith, e.2)))
+            let there : Contains ow (g, n) = to_cond (ltb n m) (at_each n (list r)) (g, n) (lt-ltb n m e.1)
+            (in_map (λ f. (f, n)) (list r) g (subst (λ (a : ℕ). Contains (list a) g) e.0 reach)) in
+            inr (n, still (g, n) (Contains-append_right os ow (g, n) there), omega (arith, e.2)))
             (λ (e : slice_index words' (s + 1) ≡ slice_index words (s + 1)). ⊎_elim
             (λ le. inl (omega (arith, word_falls words r n room g)))
-            (λ (o : (x : ℕ) × SomePass (is_pair g x) (all_owed list views) × (x ≤ slice_index words (s + 1))). inr
-            (o.0, omega (arith, owe g o.0, o.1), omega (arith, o.2)))
+            (λ (o : (x : ℕ) × Contains os (g, x) × (x ≤ slice_index words (s + 1))). inr
+            (o.0, still (g, o.0) (Contains-append_left os ow (g, o.0) o.1), omega (arith, o.2)))
             (k.spread s g in_s reach (omega arith)))
             (word_cases words r n room s);
         empty = empty_set views id w (λ (z : w.least.parts ≡ 0). absurd (omega arith)) k.empty;
       }
 
-  pub IsMarked-paid : ((r g h : ℕ) → r < count → Reaches list r g → Reaches list g h → Reaches list r h)
+  pub IsMarked-paid : ((r g h : ℕ) → r < count → Contains (list r) g → Contains (list g) h → Contains (list r) h)
       → (last : Bool) (g n : ℕ) (rest : List (ℕ × ℕ)) → owed_of list v ≡ (g, n) ∷ rest → owed_by list (next_debt last v.debt) ≡ rest → g < count
       → IsMarked count list (set words (g + 1) (min (slice_index words (g + 1)) n)) (set views id (with_paid last g (slice_index words (g + 1)) n v))
   IsMarked-paid trans last g n rest is rest_is inside =
       let m : ℕ = slice_index words (g + 1) in let c : Call = call g m n in let w : MarkView = with_paid last g m n v in
       let ms : List (ℕ × ℕ) = all_marks views in let ms' : List (ℕ × ℕ) = all_marks (set views id w) in
       let room : g + 1 < length words = omega (arith, k.kept.size) in let words' : List ℕ = after words g n room in
-      let mark : (s x : ℕ) → count_by (is_pair s x) ms' ≡ count_by (is_pair s x) ms =
-      λ s x. let h : ℕ × ℕ → ℕ = λ p. cond (is_pair s x p) 1 0 in omega (arith, marks_set views id v at w h) in
-      let more : (s x : ℕ) → SomePass (is_pair s x) ms → SomePass (is_pair s x) ms' = λ s x h. omega (arith, mark s x) in
-      let owe : (a x : ℕ) → count_by (is_pair a x) (all_owed list (set views id w)) + cond (is_pair a x (g, n)) 1 0
-      ≡ count_by (is_pair a x) (all_owed list views) = λ a x.
-      let h : ℕ × ℕ → ℕ = λ p. cond (is_pair a x p) 1 0 in omega (
+      let os : List (ℕ × ℕ) = all_owed list views in let os' : List (ℕ × ℕ) = all_owed list (set views id w) in
+      let mark : (h : ℕ × ℕ → ℕ) → sum_by h ms' ≡ sum_by h ms = λ h. omega (arith, marks_set views id v at w h) in
+      let more : (p : ℕ × ℕ) → Contains ms p → Contains ms' p = pairs_in ms ms' (λ h. omega (arith, mark h)) in
+      let owe : (h : ℕ × ℕ → ℕ) → sum_by h ((g, n) ∷ os') ≡ sum_by h os = λ h. omega (
         arith,
         owed_set views id v at list w h,
         ap (λ (l : List (ℕ × ℕ)). sum_by h l) is,
         ap (λ (l : List (ℕ × ℕ)). sum_by h l) rest_is,
         sum_by-cons h (g, n) rest,
+        sum_by-cons h (g, n) os',
       ) in
-      let was_owed : SomePass (is_pair g n) (all_owed list views) = omega (arith, owe g n, one_when (is_pair g n (g, n)) (pair_from g n (g, n) refl refl)) in
+      let was : (p : ℕ × ℕ) → Contains ((g, n) ∷ os') p → Contains os p = pairs_in ((g, n) ∷ os') os (λ h. omega (arith, owe h)) in
+      let was_owed : Contains os (g, n) = was (g, n) (front (g, n) os') in
       let of = marked_to list ms g n (k.owed g n was_owed) in let root : ℕ = of.0 in let its = k.marks root n of.1 in
       -- what was owed still is, or it was this
-      let still : (a x : ℕ) → SomePass (is_pair a x) (all_owed list views) → SomePass (is_pair a x) (all_owed list (set views id w)) ⊎ ((g ≡ a) × (n ≡ x)) =
-      λ a x h.
-      ⊎_elim (λ (e : is_pair a x (g, n) ≡ true). inr (pair_is a x (g, n) e))
-      (λ (e : is_pair a x (g, n) ≡ false). inl (omega (arith, owe a x, zero_if (is_pair a x (g, n)) e)))
-      (cases_Bool (is_pair a x (g, n))) in
+      let still : (p : ℕ × ℕ) → Contains os p → ((g, n) ≡ p) ⊎ Contains os' p =
+      λ p o. front_or_behind (g, n) os' p (pairs_in os ((g, n) ∷ os') (λ h. omega (arith, owe h)) p o) in
       record {
         kept = kept_post w g n inside its.1 refl;
         posted = λ a x h. ⊎_elim
-            (λ (e : posts a x c ≡ true). let t = pair_is a x (g, n) e in
-            let P : ℕ → ℕ → Type 0 = λ y z. SomePass (is_pair y z) (marked_posts list ms') in
-            let here : P g n = marked_more list ms ms' more g n (k.owed g n was_owed) in
-            subst (λ (z : ℕ). P a z) t.1 (subst (λ (y : ℕ). P y n) t.0 here))
-            (λ (o : SomePass (posts a x) (all_calls (all_views views))). marked_more list ms ms' more a x (k.posted a x o))
-            (posted_set views id v at w c refl a x h);
-        owed = λ a x h. marked_more list ms ms' more a x (k.owed a x (omega (arith, owe a x)));
-        marks = λ s x h. let t = k.marks s x (omega (arith, mark s x)) in (t.0, t.1, omega (arith, word_falls words g n room s, t.2));
+            (λ (e : (g, n) ≡ (a, x)). subst (Contains (marked_posts list ms')) e (marked_more list ms ms' more g n (k.owed g n was_owed)))
+            (λ o. marked_more list ms ms' more a x (k.posted a x o))
+            (posted_set views id v at w c refl (a, x) h);
+        owed = λ a x h. marked_more list ms ms' more a x (k.owed a x (was (a, x) (behind (g, n) os' (a, x) h)));
+        marks = λ s x h.
+            let t = k.marks s x (pairs_in ms' ms (λ h. omega (arith, mark h)) (s, x) h) in
+            (t.0, t.1, omega (arith, word_falls words g n room s, t.2));
         spread = λ s a in_s reach less.
             -- what a was owed before, at most y
-            let settle : (y : ℕ) → ((slice_index words (a + 1) ≤ y) ⊎ ((x : ℕ) × SomePass (is_pair a x) (all_owed list views) × (x ≤ y)))
-            → (slice_index words' (a + 1) ≤ y) ⊎ ((x : ℕ) × SomePass (is_pair a x) (all_owed list (set views id w)) × (x ≤ y)) = λ y o.
+            let settle : (y : ℕ) → ((slice_index words (a + 1) ≤ y) ⊎ ((x : ℕ) × Contains os (a, x) × (x ≤ y)))
+            → (slice_index words' (a + 1) ≤ y) ⊎ ((x : ℕ) × Contains os' (a, x) × (x ≤ y)) = λ y o.
             ⊎_elim (λ (le : slice_index words (a + 1) ≤ y). inl (omega (arith, word_falls words g n room a)))
-            (λ (o : (x : ℕ) × SomePass (is_pair a x) (all_owed list views) × (x ≤ y)). ⊎_elim
-            (λ (p : SomePass (is_pair a o.0) (all_owed list (set views id w))). inr (o.0, p, o.2))
-            (λ (q : (g ≡ a) × (n ≡ o.0)). inl (let P : ℕ → Type 0 = λ b. slice_index words' (b + 1) ≤ y in
-            let here : P g = omega (arith, word_here words g n room, q.1, o.2) in subst P q.0 here))
-            (still a o.0 o.1)) o in
+            (λ (o : (x : ℕ) × Contains os (a, x) × (x ≤ y)). ⊎_elim
+            (λ (q : (g, n) ≡ (a, o.0)). inl (let P : ℕ → Type 0 = λ b. slice_index words' (b + 1) ≤ y in
+            let here : P g = omega (arith, word_here words g n room, ap (λ (p : ℕ × ℕ). p.1) q, o.2) in subst P (λ i. (q i).0) here))
+            (λ (p : Contains os' (a, o.0)). inr (o.0, p, o.2))
+            (still (a, o.0) o.1)) o in
             ⊎_elim
             (λ (e : (s ≡ g) × (n < m) × (slice_index words' (s + 1) ≡ n)).
-            let through : Reaches list root a = trans root g a its.0 of.2 (subst (λ (b : ℕ). Reaches list b a) e.0 reach) in
+            let through : Contains (list root) a = trans root g a its.0 of.2 (subst (λ (b : ℕ). Contains (list b) a) e.0 reach) in
             let y : ℕ = slice_index words (root + 1) in
             let small : y ≤ n = its.2 in
             ⊎_elim (λ le. inl (omega (arith, e.2)))
-            (λ (o : (x : ℕ) × SomePass (is_pair a x) (all_owed list (set views id w)) × (x ≤ y)). inr (o.0, o.1, omega (arith, o.2, e.2)))
+            (λ (o : (x : ℕ) × Contains os' (a, x) × (x ≤ y)). inr (o.0, o.1, omega (arith, o.2, e.2)))
             (settle y (k.spread root a its.0 through (omega (arith, its.1)))))
             (λ (e : slice_index words' (s + 1) ≡ slice_index words (s + 1)). ⊎_elim (λ le. inl (omega arith))
-            (λ (o : (x : ℕ) × SomePass (is_pair a x) (all_owed list (set views id w)) × (x ≤ slice_index words (s + 1))). inr (o.0, o.1, omega (arith, o.2)))
+            (λ (o : (x : ℕ) × Contains os' (a, x) × (x ≤ slice_index words (s + 1))). inr (o.0, o.1, omega (arith, o.2)))
             (settle (slice_index words (s + 1)) (k.spread s a in_s reach (omega arith))))
             (word_cases words g n room s);
         empty = empty_set views id w (λ (z : w.least.parts ≡ 0). absurd (omega arith)) k.empty;
       }
 
-  -- the same words, marks and debts
-  pub IsMarked-views : (views' : List MarkView) → IsKept count words (all_views views')
-      → ((g x : ℕ) → SomePass (posts g x) (all_calls (all_views views')) → SomePass (posts g x) (all_calls (all_views views)))
+  -- the same words, calls, marks and debts
+  pub IsMarked-views : (views' : List MarkView) → IsKept count words (all_views views') → SameCalls (all_calls (all_views views')) (all_calls (all_views views))
       → ((h : ℕ × ℕ → ℕ) → sum_by h (all_marks views') ≡ sum_by h (all_marks views))
       → ((h : ℕ × ℕ → ℕ) → sum_by h (all_owed list views') ≡ sum_by h (all_owed list views))
       → EmptyIfSpent views' → IsMarked count list words views'
   IsMarked-views views' kept calls marks owed empty =
       let ms : List (ℕ × ℕ) = all_marks views in let ms' : List (ℕ × ℕ) = all_marks views' in
-      let mark : (s x : ℕ) → count_by (is_pair s x) ms' ≡ count_by (is_pair s x) ms = λ s x. marks (λ p. cond (is_pair s x p) 1 0) in
-      let owe : (s x : ℕ) → count_by (is_pair s x) (all_owed list views') ≡ count_by (is_pair s x) (all_owed list views) =
-      λ s x. owed (λ p. cond (is_pair s x p) 1 0) in
-      let more : (s x : ℕ) → SomePass (is_pair s x) ms → SomePass (is_pair s x) ms' = λ s x h. omega (arith, mark s x) in
+      let os : List (ℕ × ℕ) = all_owed list views in let os' : List (ℕ × ℕ) = all_owed list views' in
+      let more : (p : ℕ × ℕ) → Contains ms p → Contains ms' p = pairs_in ms ms' (λ h. omega (arith, marks h)) in
       record {
         kept = kept;
-        posted = λ g x h. marked_more list ms ms' more g x (k.posted g x (calls g x h));
-        owed = λ g x h. marked_more list ms ms' more g x (k.owed g x (omega (arith, owe g x)));
-        marks = λ s x h. k.marks s x (omega (arith, mark s x));
+        posted = λ g x h. marked_more list ms ms' more g x
+            (k.posted g x (posts_same (all_calls (all_views views')) (all_calls (all_views views)) calls (g, x) h));
+        owed = λ g x h. marked_more list ms ms' more g x (k.owed g x (pairs_in os' os (λ h. omega (arith, owed h)) (g, x) h));
+        marks = λ s x h. k.marks s x (pairs_in ms' ms (λ h. omega (arith, marks h)) (s, x) h);
         spread = λ s g in_s reach less. ⊎_elim (λ le. inl le)
-            (λ (o : (x : ℕ) × SomePass (is_pair g x) (all_owed list views) × (x ≤ slice_index words (s + 1))). inr (o.0, omega (arith, o.1, owe g o.0), o.2))
+            (λ (o : (x : ℕ) × Contains os (g, x) × (x ≤ slice_index words (s + 1))). inr
+            (o.0, pairs_in os os' (λ h. omega (arith, owed h)) (g, o.0) o.1, o.2))
             (k.spread s g in_s reach less);
         empty = empty;
       }
@@ -317,16 +285,14 @@ module _ (count : ℕ) (list : ℕ → List ℕ) (words : List ℕ) (views : Lis
       ap (λ (u : List View). u ++ r.least ∷ []) (sym (map-set views id l)) ∙ sym (map-last vs r) in
       IsMarked-views count list words views id v at some_part k views'
       (subst (λ (u : List View). IsKept count words u) path (IsKept-split count words old id v.least (at_view views id v at) some_part k.kept j pos lt))
-      (λ g x h. let f : Call → ℕ = λ c. cond (posts g x c) 1 0 in let calls : View → List Call = λ u. u.calls in let us : List View = set old id l.least in
-      let P : List View → Type 0 = λ u. SomePass (posts g x) (all_calls u) in
-      let h' : P (us ++ r.least ∷ []) = subst P (sym path) h in
-      omega (
+      (subst (λ (u : List View). SameCalls (all_calls u) (all_calls old)) path (λ f.
+      let calls : View → List Call = λ u. u.calls in let us : List View = set old id l.least in omega (
         arith,
         calls_set old id v.least (at_view views id v at) l.least f,
         sum_by-flat_map f calls (us ++ r.least ∷ []),
         sum_by-flat_map f calls us,
         sum_by_push (λ (u : View). sum_by f (calls u)) us r.least,
-      ))
+      )))
       (λ h. let f : MarkView → List (ℕ × ℕ) = λ u. u.marks in
       omega (arith, marks_set views id v at l h, sum_by-flat_map h f views', sum_by-flat_map h f vs, sum_by_push (λ (u : MarkView). sum_by h (f u)) vs r))
       (λ h. let f : MarkView → List (ℕ × ℕ) = λ u. owed_of list u in
@@ -353,15 +319,12 @@ module _ (count : ℕ) (list : ℕ → List ℕ) (words : List ℕ) (views : Lis
       IsMarked-views count list words views id v at some_part k views'
       (subst (λ (u : List View). IsKept count words u) path (IsKept-join count words old id v.least (at_view views id v at) some_part k.kept other w.least
       at_w))
-      (λ g x h. let f : Call → ℕ = λ c. cond (posts g x c) 1 0 in
-      let P : List View → Type 0 = λ u. SomePass (posts g x) (all_calls u) in
-      let h' : P (set us other spent) = subst P (sym path) h in
-      omega (
+      (subst (λ (u : List View). SameCalls (all_calls u) (all_calls old)) path (λ f. omega (
         arith,
         calls_set old id v.least (at_view views id v at) b.least f,
         calls_set us other w.least at_w spent f,
         sum_by-append f v.least.calls w.least.calls,
-      ))
+      )))
       (λ h. omega (arith, marks_set views id v at b h, marks_set vs other w at' mark_spent h, sum_by-append h v.marks w.marks))
       (λ h. omega (
         arith,
@@ -376,7 +339,7 @@ abbrev pub mark_holds : ℕ → (ℕ → List ℕ) → State (Unit {0}) MarkView
 mark_holds count list s = IsMarked count list s.words s.views
 
 module _ (count : ℕ) (list : ℕ → List ℕ) (slots id : ℕ) (v : MarkView) (cs : List (ℕ × Unit {0})) (pos : 0 < v.least.parts) where
-  pub root_allows : ((r : ℕ) → r < count → Reaches list r r) → v.debt ≡ None → (r n : ℕ) → r < count → n < NONE
+  pub root_allows : ((r : ℕ) → r < count → Contains (list r) r) → v.debt ≡ None → (r n : ℕ) → r < count → n < NONE
       → Allows (mark_holds count list) slots id (v, cs) (r + 1) (λ x. min x n)
       (λ found after. (found ≤ known (r + 1 - 1) v.least) × (after ≡ (with_root (r + 1 - 1) found n v, cs)))
   root_allows refl_ none r n inside lt s k homes at small =
@@ -393,7 +356,7 @@ module _ (count : ℕ) (list : ℕ → List ℕ) (slots id : ℕ) (v : MarkView)
         ),
       )
 
-  pub paid_allows : ((r g h : ℕ) → r < count → Reaches list r g → Reaches list g h → Reaches list r h)
+  pub paid_allows : ((r g h : ℕ) → r < count → Contains (list r) g → Contains (list g) h → Contains (list r) h)
       → (last : Bool) (g n : ℕ) (rest : List (ℕ × ℕ)) → owed_of list v ≡ (g, n) ∷ rest → owed_by list (next_debt last v.debt) ≡ rest → g < count
       → Allows (mark_holds count list) slots id (v, cs) (g + 1) (λ x. min x n) (λ found after. after ≡ (with_paid last (g + 1 - 1) found n v, cs))
   paid_allows trans last g n rest is rest_is inside s k homes at small =
@@ -450,14 +413,6 @@ only_one list (u ∷ us) (suc id) v at empty e =
     let rest = only_one list us id v at (λ j w a. empty (suc j) w a) (omega arith) in
     ((λ i. here.0 i ++ rest.0 i), λ i. owed_by list (here.1 i) ++ rest.1 i)
 
-pairs_below : (w x : ℕ) (ps : List (ℕ × ℕ)) → SomePass (is_pair w x) ps → least_at w ps ≤ x
-pairs_below w x [] h = absurd (omega arith)
-pairs_below w x (p ∷ ps) h = ⊎_elim
-    (λ (e : is_pair w x p ≡ true). let t = pair_is w x p e in omega (arith, least_here w p ps t.0, t.1))
-    (λ (k : SomePass (is_pair w x) ps). let ih = pairs_below w x ps k in
-    ⊎_elim (λ (e : p.0 ≡ w). omega (arith, least_here w p ps e)) (λ (n : p.0 ≡ w → ⊥). omega (arith, least_else w p ps n)) (cases_eq p.0 w))
-    (SomePass-cons (is_pair w x) p ps h)
-
 pub record IsMarkClosed (count : ℕ) (list : ℕ → List ℕ) (words : List ℕ) (v : MarkView) : Type 0 where
   pub size : length words ≡ count + 1
   pub least : (w : ℕ) → w < count → slice_index words (w + 1) ≡ least_at w (marked_posts list v.marks)
@@ -486,26 +441,17 @@ mark_closes count list id v ws xs all none f =
           let cs : List Call = all_calls (all_views s.views) in
           let is : it ≡ least_at w (posts_of cs) = k.kept.least w inside in
           let low : least_at w ps ≤ it = ⊎_elim (λ (e : least_at w (posts_of cs) ≡ NONE). omega (arith, least_at-le-NONE w ps))
-          (λ (h : SomePass (posts w (least_at w (posts_of cs))) cs). omega
-          (arith, pairs_below w (least_at w (posts_of cs)) ps (k.posted w (least_at w (posts_of cs)) h)))
-          (least_at-reached w cs) in
+          (λ (h : Contains (posts_of cs) (w, least_at w (posts_of cs))). omega
+          (arith, least_at-below w (least_at w (posts_of cs)) ps (k.posted w (least_at w (posts_of cs)) h)))
+          (least_at-reached w (posts_of cs)) in
           let high : it ≤ least_at w ps = least_at-above w it ps (omega (arith, least_at-le-NONE w (posts_of cs))) (λ x h.
           let t = marked_to list (all_marks s.views) w x h in let m = k.marks t.0 x t.1 in
           ⊎_elim (λ le. omega (arith, m.2))
-          (λ (o : (y : ℕ) × SomePass (is_pair w y) (all_owed list s.views) × (y ≤ slice_index s.words (t.0 + 1))).
-          let P : List (ℕ × ℕ) → Type 0 =
-          λ l. SomePass (is_pair w o.0) l in let no : P [] = subst P (only.1 ∙ ap (λ (y : Option Debt). owed_by list y) none) o.1 in absurd (omega arith))
+          (λ (o : (y : ℕ) × Contains (all_owed list s.views) (w, y) × (y ≤ slice_index s.words (t.0 + 1))).
+          absurd (none_in (w, o.0) (subst (λ l. Contains l (w, o.0)) (only.1 ∙ ap (λ (y : Option Debt). owed_by list y) none) o.1)))
           (k.spread t.0 w m.0 t.2 (omega (arith, m.1, m.2)))) in
           omega (arith, word, low, high, ap (λ (l : List (ℕ × ℕ)). least_at w (marked_posts list l)) only.0);
       posted = base.least;
       legal = base.legal;
       told = base.told;
     }
-
--- the least depends on the set of the pairs alone, for callers who see a seat's posts as a set
-pub least_at-members : (w : ℕ) (ps qs : List (ℕ × ℕ)) → ((x : ℕ) → SomePass (is_pair w x) ps → SomePass (is_pair w x) qs)
-    → ((x : ℕ) → SomePass (is_pair w x) qs → SomePass (is_pair w x) ps) → least_at w ps ≡ least_at w qs
-least_at-members w ps qs there here =
-    let a : least_at w ps ≤ least_at w qs = least_at-above w (least_at w ps) qs (least_at-le-NONE w ps) (λ x h. pairs_below w x ps (here x h)) in
-    let b : least_at w qs ≤ least_at w ps = least_at-above w (least_at w qs) ps (least_at-le-NONE w qs) (λ x h. pairs_below w x qs (there x h)) in
-    omega arith

@@ -1,13 +1,14 @@
 -- How far a mark has come with what it owes.
 use Rattle.std.proofs.Common.{◌≡◌, ℕ, zero, suc, ◌+◌, ◌-◌, ◌<◌, ◌≤◌, ⊎_elim, Bool, cond, Option, List, [], ◌∷◌, ◌++◌, take, drop, length, slice_get, Some, None, ◌==◌, sym, refl, ap, ◌∙◌, arith, append_assoc, append-nil, add-one}
+use Rattle.std.specs.Prelude.{Contains}
 use Rattle.std.proofs.lemmas.Bool.{eq-eqb, ne_eqb, cases_eq}
 use Rattle.share_work.specs.declared.views.Call.{Call}
 use Rattle.share_work.specs.declared.mark_view.MarkView.{MarkView}
 use Rattle.share_work.specs.Views.{call, make_view, posts_of}
-use Rattle.share_work.specs.Rule as rule
-use Rattle.share_work.specs.Marks.{at_each, mark_view, make_debt, debt_at, owed_by, owed_of, next_debt, with_calls, with_paid}
+use Rattle.share_work.specs.Marks.{at_each, mark_view, owed_by, owed_of}
+use Rattle.share_work.specs.Steps.{make_debt, debt_at, next_debt, with_calls, with_paid}
 use Rattle.share_work.specs.declared.mark_view.Debt.{Debt}
-use Rattle.share_work.proofs.Sums.{SomePass-here, SomePass-later}
+use Rattle.share_work.proofs.Sums.{none_in, behind}
 
 -- the first k files have their posts, and the rest is owed
 pub record IsPaying (v u : MarkView) (root n k : ℕ) (files : List ℕ) : Type 0 where
@@ -17,11 +18,11 @@ pub record IsPaying (v u : MarkView) (root n k : ℕ) (files : List ℕ) : Type 
   pub position : k ≤ length files
 
 pub get_some : (files : List ℕ) (k g : ℕ) → slice_get files k ≡ Some g
-    → (k < length files) × (take (suc k) files ≡ take k files ++ g ∷ []) × (drop k files ≡ g ∷ drop (suc k) files) × rule.SomePass (λ h. h == g) files
+    → (k < length files) × (take (suc k) files ≡ take k files ++ g ∷ []) × (drop k files ≡ g ∷ drop (suc k) files) × Contains files g
 get_some [] k g e = absurd (cc)
 get_some (x ∷ xs) zero g e =
-    let is : x ≡ g = cc in (omega arith, ap (λ (y : ℕ). y ∷ []) is, ap (λ (y : ℕ). y ∷ xs) is, SomePass-here (λ h. h == g) x xs (eq-eqb x g is))
-get_some (x ∷ xs) (suc k) g e = let r = get_some xs k g e in (omega (arith, r.0), ap (λ (l : List ℕ). x ∷ l) r.1, r.2, SomePass-later (λ h. h == g) x xs r.3)
+    let is : x ≡ g = cc in (omega arith, ap (λ (y : ℕ). y ∷ []) is, ap (λ (y : ℕ). y ∷ xs) is, (0, omega arith, is))
+get_some (x ∷ xs) (suc k) g e = let r = get_some xs k g e in (omega (arith, r.0), ap (λ (l : List ℕ). x ∷ l) r.1, r.2, behind x xs g r.3)
 
 pub get_none : (files : List ℕ) (k : ℕ) → slice_get files k ≡ None → (take k files ≡ files) × (drop k files ≡ [])
 get_none [] zero e = (refl, refl)
@@ -29,8 +30,8 @@ get_none [] (suc k) e = (refl, refl)
 get_none (x ∷ xs) zero e = absurd (cc)
 get_none (x ∷ xs) (suc k) e = let r = get_none xs k e in (ap (λ (l : List ℕ). x ∷ l) r.0, r.1)
 
-pub some_length : (files : List ℕ) (g : ℕ) → rule.SomePass (λ h. h == g) files → 0 < length files
-some_length [] g h = absurd (omega arith)
+pub some_length : (files : List ℕ) (g : ℕ) → Contains files g → 0 < length files
+some_length [] g h = absurd (none_in g h)
 some_length (x ∷ xs) g h = omega arith
 
 none_past : (files : List ℕ) (k : ℕ) → slice_get files k ≡ None → length files ≤ k

@@ -1,8 +1,10 @@
 -- Each kind of step keeps the rule.
-use Rattle.std.proofs.Common.{◌≡◌, ◌≢◌, ℕ, zero, suc, ◌+◌, ◌-◌, ◌^◌, ◌<◌, ◌≤◌, ◌⊎◌, inl, inr, ⊎_elim, Bool, true, cond, eqb, List, [], ◌∷◌, ◌++◌, length, set, slice_index, sym, refl, ap, ◌∙◌, subst, arith, min, length-set, get_or-set_same, get_or-set_other, append-nil}
-use Rattle.std.specs.List.{flat_map, sum_by, count_by}
-use Rattle.std.proofs.lemmas.Bool.{eqb-true, and_parts, cases_eq}
+use Rattle.std.proofs.Common.{◌≡◌, ◌≢◌, ℕ, zero, suc, ◌+◌, ◌-◌, ◌^◌, ◌<◌, ◌≤◌, ◌⊎◌, inl, inr, ⊎_elim, List, [], ◌∷◌, ◌++◌, length, set, slice_index, sym, refl, ap, ◌∙◌, subst, arith, min, length-set, get_or-set_same, get_or-set_other, append-nil}
+use Rattle.std.specs.Prelude.{Contains}
+use Rattle.std.specs.List.{sum_by}
+use Rattle.std.proofs.lemmas.Bool.{cases_eq}
 use Rattle.std.proofs.lemmas.List.{set-get_or}
+use Rattle.std.proofs.lemmas.List.Elements.{Contains-append_cases}
 use Rattle.std.proofs.lemmas.List.Sums.{sum_by-cons, sum_by-append, sum_by_push}
 use mathlib.Core.Option.{some, some-injective, some-ne-none}
 use lib.ListN.{get_elem?}
@@ -10,56 +12,34 @@ use Rattle.atomic_table.specs.Table.{State, keeps, Allows, Splits, Joins, Final,
 use Rattle.atomic_table.proofs.Lists.{at_set, at_snoc, set_again}
 use Rattle.share_work.specs.declared.views.Call.{Call}
 use Rattle.share_work.specs.declared.views.View.{View}
-use Rattle.share_work.specs.Posts.{NONE, least_at, is_pair}
-use Rattle.share_work.specs.Views.{call, spent, posts_of, pairs_of, known, with_call, with_told, left_of, right_of, both_of}
-use Rattle.share_work.specs.Rule.{all_calls, all_told, posts, finds, is_falling, falls_to, SomePass, IsLegal, IsPosted, IsKept}
-use Rattle.share_work.specs.Order.{SameCalls}
-use Rattle.share_work.proofs.Sums.{sum_by-flat_map, sum_by-at_set, sum_by-at, one_positive, SomePass-cons, SomePass-here, SomePass-later, picked}
-use Rattle.share_work.proofs.Legal.{least_here, least_else, least_at-le-NONE, least_at-above, least_at-below, least_at-reached, least_at-same, SomePass-same, IsLegal-same, IsLegal-post}
-
-pub SomePass-append : {A : Type 0} (p : A → Bool) (xs ys : List A) → SomePass p (xs ++ ys) → SomePass p xs ⊎ SomePass p ys
-SomePass-append p xs ys h = one_positive (count_by p xs) (count_by p ys) (omega (arith, sum_by-append (λ x. cond (p x) 1 0) xs ys))
-
-falls_posts : (w x : ℕ) (calls : List Call) → SomePass (falls_to w x) calls → SomePass (posts w x) calls
-falls_posts w x calls h = let r = picked (falls_to w x) calls h in r.2 (posts w x) (and_parts (posts w x r.0) (is_falling r.0) r.1).0
-
-pairs_calls : (w x : ℕ) (calls : List Call) → SomePass (is_pair w x) (flat_map (λ (c : Call). (c.word, c.found) ∷ (c.word, c.number) ∷ []) calls)
-    → SomePass (finds w x) calls ⊎ SomePass (posts w x) calls
-pairs_calls w x [] h = absurd (omega arith)
-pairs_calls w x (c ∷ cs) h =
-    let rest : List (ℕ × ℕ) = flat_map (λ (c : Call). (c.word, c.found) ∷ (c.word, c.number) ∷ []) cs in
-    let f : ℕ × ℕ = (c.word, c.found) in let n : ℕ × ℕ = (c.word, c.number) in
-    ⊎_elim (λ (e : finds w x c ≡ true). inl (SomePass-here (finds w x) c cs e))
-    (λ (k : SomePass (is_pair w x) (n ∷ rest)). ⊎_elim (λ (e : posts w x c ≡ true). inr (SomePass-here (posts w x) c cs e))
-    (λ (j : SomePass (is_pair w x) rest). ⊎_elim (λ a. inl (SomePass-later (finds w x) c cs a)) (λ b. inr (SomePass-later (posts w x) c cs b))
-    (pairs_calls w x cs j))
-    (SomePass-cons (is_pair w x) n rest k))
-    (SomePass-cons (is_pair w x) f (n ∷ rest) h)
+use Rattle.share_work.specs.Posts.{NONE, least_at}
+use Rattle.share_work.specs.Views.{call, posts_of, finds_of, pairs_of, known, with_call, with_told, left_of, right_of, both_of}
+use Rattle.share_work.specs.Steps.{spent}
+use Rattle.share_work.specs.Rule.{all_calls, all_told, IsLegal, IsPosted, IsKept}
+use Rattle.share_work.proofs.Sums.{sum_by-flat_map, sum_by-at_set, sum_by-at, at_in, behind, front_or_behind, in_flat, of_map, pairs_in}
+use Rattle.share_work.proofs.Legal.{SameCalls, least_here, least_else, least_at-le-NONE, least_at-above, least_at-below, least_at-reached, least_at-same, post_in, posts_same, IsLegal-same, IsLegal-post}
 
 module _ (views : List View) (id : ℕ) (v : View) (at : get_elem? views id ≡ some v) where
-  in_all : (p : Call → Bool) → SomePass p v.calls → SomePass p (all_calls views)
-  in_all p h = let g : Call → ℕ =
-      λ c. cond (p c) 1 0 in omega (arith, sum_by-flat_map g (λ (u : View). u.calls) views, sum_by-at (λ (u : View). sum_by g u.calls) views id v at)
-
-  in_told : (p : ℕ × ℕ → Bool) → SomePass p v.told → SomePass p (all_told views)
-  in_told p h = let g : ℕ × ℕ → ℕ =
-      λ c. cond (p c) 1 0 in omega (arith, sum_by-flat_map g (λ (u : View). u.told) views, sum_by-at (λ (u : View). sum_by g u.told) views id v at)
-
   -- what a seat found, posted or was told is NONE or posted
   pairs_posted : IsLegal (all_calls views) → IsPosted (all_told views) (all_calls views) → IsPosted (pairs_of v) (all_calls views)
   pairs_posted l t w x h =
+      let calls : List Call = all_calls views in let P : ℕ × ℕ → Type 0 = λ p. (p.1 ≡ NONE) ⊎ Contains (posts_of calls) p in
+      let in_all : (c : Call) → Contains v.calls c → Contains calls c = λ c k. in_flat (λ (u : View). u.calls) views v c (at_in views id v at) k in
       ⊎_elim
-      (λ k. ⊎_elim (λ (f : SomePass (finds w x) v.calls). ⊎_elim (λ a. inl a) (λ b. inr (falls_posts w x (all_calls views) b))
-      ((l w).linked x (in_all (finds w x) f)))
-      (λ (f : SomePass (posts w x) v.calls). inr (in_all (posts w x) f)) (pairs_calls w x v.calls k))
-      (λ (k : SomePass (is_pair w x) v.told). t w x (in_told (is_pair w x) k))
-      (SomePass-append (is_pair w x) (flat_map (λ (c : Call). (c.word, c.found) ∷ (c.word, c.number) ∷ []) v.calls) v.told h)
+      (λ k. ⊎_elim
+      (λ j. let r = of_map (λ (c : Call). (c.word, c.found)) v.calls (w, x) j in
+      subst P r.2 (⊎_elim (λ a. inl a) (λ b. inr (subst (λ y. Contains (posts_of calls) (r.0.word, y)) b.3 (post_in r.0.word calls b.0 b.1 b.2.0)))
+      ((l r.0.word).linked r.0 (in_all r.0 r.1) refl)))
+      (λ j. let r = of_map (λ (c : Call). (c.word, c.number)) v.calls (w, x) j in
+      subst P r.2 (inr (post_in r.0.word calls r.0 (in_all r.0 r.1) refl)))
+      (Contains-append_cases (finds_of v.calls) (posts_of v.calls) (w, x) k))
+      (λ k. t w x (in_flat (λ (u : View). u.told) views v (w, x) (at_in views id v at) k))
+      (Contains-append_cases (finds_of v.calls ++ posts_of v.calls) v.told (w, x) h)
 
   least-le-known : (w : ℕ) → IsLegal (all_calls views) → IsPosted (all_told views) (all_calls views) → least_at w (posts_of (all_calls views)) ≤ known w v
-  least-le-known w l t = let m : ℕ = least_at w (posts_of (all_calls views)) in
-      least_at-above w m (pairs_of v) (least_at-le-NONE w (posts_of (all_calls views)))
-      (λ x h. ⊎_elim (λ (e : x ≡ NONE). omega (arith, least_at-le-NONE w (posts_of (all_calls views))))
-      (λ (k : SomePass (posts w x) (all_calls views)). least_at-below w x (all_calls views) k) (pairs_posted l t w x h))
+  least-le-known w l t = let ps : List (ℕ × ℕ) = posts_of (all_calls views) in
+      least_at-above w (least_at w ps) (pairs_of v) (least_at-le-NONE w ps)
+      (λ x h. ⊎_elim (λ (e : x ≡ NONE). omega (arith, least_at-le-NONE w ps)) (λ k. least_at-below w x ps k) (pairs_posted l t w x h))
 
   -- a view in its place
   pub calls_set : (w : View) (h : Call → ℕ) → sum_by h (all_calls (set views id w)) + sum_by h v.calls ≡ sum_by h (all_calls views) + sum_by h w.calls
@@ -91,7 +71,7 @@ module _ (count : ℕ) (words : List ℕ) (views : List View) (id : ℕ) (v : Vi
   spent_kept w e = spent_set views id w (λ (z : w.parts ≡ 0). absurd (omega arith)) k.spent
 
   -- no post is made, and each of the told pairs is posted
-  pub IsKept-views : (views' : List View) → ((h : Call → ℕ) → sum_by h (all_calls views) ≡ sum_by h (all_calls views'))
+  pub IsKept-views : (views' : List View) → SameCalls (all_calls views) (all_calls views')
       → IsPosted (all_told views') (all_calls views)
       → sum_by (λ (u : View). u.parts) views' ≡ 2 ^ 32 → SpentIsEmpty views' → IsKept count words views'
   IsKept-views views' same posted parts empty = record {
@@ -99,7 +79,7 @@ module _ (count : ℕ) (words : List ℕ) (views : List View) (id : ℕ) (v : Vi
     seat_word = k.seat_word;
     least = λ w h. k.least w h ∙ least_at-same w (all_calls views) (all_calls views') same;
     legal = IsLegal-same (all_calls views) (all_calls views') same k.legal;
-    told = λ w x h. ⊎_elim (λ e. inl e) (λ p. inr (SomePass-same (all_calls views) (all_calls views') (posts w x) same p)) (posted w x h);
+    told = λ w x h. ⊎_elim (λ e. inl e) (λ p. inr (posts_same (all_calls views) (all_calls views') same (w, x) p)) (posted w x h);
     parts = parts;
     spent = empty;
   }
@@ -133,10 +113,8 @@ module _ (count : ℕ) (words : List ℕ) (views : List View) (id : ℕ) (v : Vi
               other ∙ k.least u h ∙ sym (least_else u (w, n) (posts_of xs) (λ (e : w ≡ u). n' (sym e))) ∙ least_at-same u (c ∷ xs) ys same)
               (cases_eq u w);
           legal = IsLegal-same (c ∷ xs) ys same now;
-          told = λ u x h.
-              let g : ℕ × ℕ → ℕ = λ p. cond (is_pair u x p) 1 0 in
-              let before : SomePass (is_pair u x) (all_told views) = omega (arith, told_set views id v at v' g) in
-              ⊎_elim (λ e. inl e) (λ p. inr (SomePass-same (c ∷ xs) ys (posts u x) same (SomePass-later (posts u x) c xs p))) (k.told u x before);
+          told = λ u x h. ⊎_elim (λ e. inl e) (λ p. inr (posts_same (c ∷ xs) ys same (u, x) (behind (w, n) (posts_of xs) (u, x) p)))
+              (k.told u x (pairs_in (all_told views') (all_told views) (λ g. omega (arith, told_set views id v at v' g)) (u, x) h));
           parts = parts_kept v' refl;
           spent = spent_kept v' refl;
         }
@@ -146,21 +124,12 @@ module _ (count : ℕ) (words : List ℕ) (views : List View) (id : ℕ) (v : Vi
         let m : ℕ = slice_index words (w + 1) in let v' : View = with_told v w m in let xs : List Call = all_calls views in
         let is_m : m ≡ least_at w (posts_of xs) = k.least w inside in
         IsKept-views (set views id v') (λ h. let a = calls_set views id v at v' h in omega arith)
-        (λ u x h.
-        let g : ℕ × ℕ → ℕ = λ p. cond (is_pair u x p) 1 0 in
-        let a = told_set views id v at v' g in
-        ⊎_elim
-        (λ (old : SomePass (is_pair u x) (all_told views)). k.told u x old)
-        (λ (new : SomePass (is_pair u x) ((w, m) ∷ [])). ⊎_elim
-        (λ (e : is_pair u x (w, m) ≡ true). let t = and_parts (eqb w u) (eqb m x) e in
-        let P : ℕ → ℕ → Type 0 = λ y z. (z ≡ NONE) ⊎ SomePass (posts y z) xs in
-        let p : P w m = subst (λ (z : ℕ). P w z) (sym is_m) (least_at-reached w xs) in
-        let q : P u m = subst (λ (y : ℕ). P y m) (eqb-true w u t.0) p in
-        subst (λ (z : ℕ). P u z) (eqb-true m x t.1) q)
-        (λ (none : SomePass (is_pair u x) []). absurd (omega arith))
-        (SomePass-cons (is_pair u x) (w, m) [] new))
-        (one_positive (count_by (is_pair u x) (all_told views)) (count_by (is_pair u x) ((w, m) ∷ []))
-        (omega (arith, a, sum_by-cons g (w, m) v.told, sum_by-cons g (w, m) []))))
+        (λ u x h. ⊎_elim
+        (λ (e : (w, m) ≡ (u, x)). let P : ℕ × ℕ → Type 0 = λ p. (p.1 ≡ NONE) ⊎ Contains (posts_of xs) p in
+        subst P e (subst (λ (y : ℕ). P (w, y)) (sym is_m) (least_at-reached w (posts_of xs))))
+        (λ (old : Contains (all_told views) (u, x)). k.told u x old)
+        (front_or_behind (w, m) (all_told views) (u, x) (pairs_in (all_told (set views id v')) ((w, m) ∷ all_told views)
+        (λ g. omega (arith, told_set views id v at v' g, sum_by-cons g (w, m) v.told, sum_by-cons g (w, m) (all_told views))) (u, x) h)))
         (parts_kept v' refl) (spent_kept v' refl)
 
   pub IsKept-split : (j : ℕ) → 0 < j → j < v.parts → IsKept count words (set views id (left_of j v) ++ right_of j v ∷ [])
@@ -169,12 +138,18 @@ module _ (count : ℕ) (words : List ℕ) (views : List View) (id : ℕ) (v : Vi
       IsKept-views (vs ++ r ∷ [])
       (λ h. let f : View → List Call = λ u. u.calls in
       omega (arith, calls_set views id v at l h, sum_by-flat_map h f (vs ++ r ∷ []), sum_by-flat_map h f vs, sum_by_push (λ (u : View). sum_by h (f u)) vs r))
-      (λ u x h.
-      let f : View → List (ℕ × ℕ) = λ y. y.told in let g : ℕ × ℕ → ℕ = λ p. cond (is_pair u x p) 1 0 in
-      ⊎_elim (λ (old : SomePass (is_pair u x) (all_told views)). k.told u x old)
-      (λ (new : SomePass (is_pair u x) (pairs_of v)). pairs_posted views id v at k.legal k.told u x new)
-      (one_positive (count_by (is_pair u x) (all_told views)) (count_by (is_pair u x) (pairs_of v))
-      (omega (arith, told_set views id v at l g, sum_by-flat_map g f (vs ++ r ∷ []), sum_by-flat_map g f vs, sum_by_push (λ (y : View). sum_by g (f y)) vs r))))
+      (λ u x h. let f : View → List (ℕ × ℕ) = λ y. y.told in
+      ⊎_elim (λ (old : Contains (all_told views) (u, x)). k.told u x old)
+      (λ (new : Contains (pairs_of v) (u, x)). pairs_posted views id v at k.legal k.told u x new)
+      (Contains-append_cases (all_told views) (pairs_of v) (u, x) (pairs_in (all_told (vs ++ r ∷ [])) (all_told views ++ pairs_of v)
+      (λ g. omega (
+        arith,
+        told_set views id v at l g,
+        sum_by-flat_map g f (vs ++ r ∷ []),
+        sum_by-flat_map g f vs,
+        sum_by_push (λ (y : View). sum_by g (f y)) vs r,
+        sum_by-append g (all_told views) (pairs_of v),
+      )) (u, x) h)))
       (omega (arith, parts_set views id v at l, k.parts, sum_by_push (λ (u : View). u.parts) vs r))
       (λ i u e z. ⊎_elim (λ (x : get_elem? vs i ≡ some u). spent_set views id l (λ (b : l.parts ≡ 0). absurd (omega arith)) k.spent i u x z)
       (λ (x : r ≡ u). let b : j ≡ u.parts = ap (λ (y : View). y.parts) x in absurd (omega arith)) (at_snoc vs r u i e))
@@ -185,8 +160,8 @@ module _ (count : ℕ) (words : List ℕ) (views : List View) (id : ℕ) (v : Vi
       let b : View = both_of v w in let vs : List View = set views id b in let views' : List View = set vs other spent in
       IsKept-views views'
       (λ h. omega (arith, calls_set views id v at b h, calls_set vs other w at' spent h, sum_by-append h v.calls w.calls))
-      (λ u x h. let g : ℕ × ℕ → ℕ = λ p. cond (is_pair u x p) 1 0 in
-      k.told u x (omega (arith, told_set views id v at b g, told_set vs other w at' spent g, sum_by-append g v.told w.told)))
+      (λ u x h. k.told u x (pairs_in (all_told views') (all_told views)
+      (λ g. omega (arith, told_set views id v at b g, told_set vs other w at' spent g, sum_by-append g v.told w.told)) (u, x) h))
       (omega (arith, parts_set views id v at b, parts_set vs other w at' spent, k.parts))
       (spent_set vs other spent (λ z. (refl, refl)) (spent_set views id b (λ (z : b.parts ≡ 0). absurd (omega arith)) k.spent))
 

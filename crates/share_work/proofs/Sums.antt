@@ -1,11 +1,71 @@
--- Sums over the lists of all views, and elements that pass a test.
-use Rattle.std.proofs.Common.{◌≡◌, ℕ, zero, suc, ◌+◌, ◌<◌, ◌≤◌, ◌⊎◌, inl, inr, ⊎_elim, Bool, true, false, cond, List, [], ◌∷◌, set, sym, refl, ap, ◌↔◌, arith}
-use Rattle.std.specs.List.{flat_map, sum_by, count_by, list_any}
-use Rattle.std.proofs.lemmas.Bool.{or_left, or_right, or_cases}
+-- Members of lists, and sums over the lists of all views.
+use Rattle.std.proofs.Common.{◌≡◌, ℕ, zero, suc, ◌+◌, ◌<◌, ◌≤◌, ◌⊎◌, inl, inr, Bool, true, false, cond, eqb, ◌&&◌, List, [], ◌∷◌, map, set, sym, refl, ap, ◌∙◌, subst, arith}
+use Rattle.std.specs.Prelude.{All, AllPairs, Contains}
+use Rattle.std.specs.List.{flat_map, sum_by, count_by}
+use Rattle.std.proofs.lemmas.Bool.{and_parts, and_from, eqb-true, eq-eqb, cases_Bool}
+use Rattle.std.proofs.lemmas.List.Elements.{Contains-get_or, Contains-append_left, Contains-append_right, Contains-append_cases}
 use Rattle.std.proofs.lemmas.List.Sums.{sum_by-cons, sum_by-append}
 use mathlib.Core.Option.{some, some-injective, some-ne-none}
 use lib.ListN.{get_elem?}
-use Rattle.share_work.specs.Rule.{SomePass}
+use Rattle.share_work.specs.declared.views.Call.{Call}
+
+pub none_in : {A : Type 0} (x : A) → Contains {X = A} [] x → ⊥
+none_in x (k, inside, is) = omega (arith, inside)
+
+pub front : {A : Type 0} (x : A) (xs : List A) → Contains (x ∷ xs) x
+front x xs = (zero, omega arith, refl)
+
+pub behind : {A : Type 0} (x : A) (xs : List A) (y : A) → Contains xs y → Contains (x ∷ xs) y
+behind x xs y (k, inside, is) = (suc k, omega (arith, inside), is)
+
+pub front_or_behind : {A : Type 0} (x : A) (xs : List A) (y : A) → Contains (x ∷ xs) y → (x ≡ y) ⊎ Contains xs y
+front_or_behind x xs y (zero, inside, is) = inl is
+front_or_behind x xs y (suc k, inside, is) = inr (k, omega (arith, inside), is)
+
+pub all_of : {A : Type 0} (P : A → Type 0) (xs : List A) → ((x : A) → Contains xs x → P x) → All P xs
+all_of P xs f k d inside = f _ (Contains-get_or xs k d inside)
+
+pub pairs_first : {A : Type 0} (R : A → A → Type 0) (x : A) (xs : List A) → AllPairs R (x ∷ xs) → (y : A) → Contains xs y → R x y
+pairs_first R x xs pairs y (k, inside, is) = subst (R x) is (pairs 0 (suc k) y (omega arith) (omega (arith, inside)))
+
+pub at_in : {A : Type 0} (xs : List A) (i : ℕ) (x : A) → get_elem? xs i ≡ some x → Contains xs x
+at_in [] i x e = absurd (some-ne-none x (sym e))
+at_in (y ∷ ys) zero x e = subst (Contains (y ∷ ys)) (some-injective y x e) (front y ys)
+at_in (y ∷ ys) (suc i) x e = behind y ys x (at_in ys i x e)
+
+pub in_map : {A B : Type 0} (f : A → B) (xs : List A) (x : A) → Contains xs x → Contains (map f xs) (f x)
+in_map f [] x h = absurd (none_in x h)
+in_map f (y ∷ ys) x h = elim (front_or_behind y ys x h) [
+  | inl e ↦ subst (Contains (f y ∷ map f ys)) (ap f e) (front (f y) (map f ys))
+  | inr k ↦ behind (f y) (map f ys) (f x) (in_map f ys x k)
+]
+
+pub of_map : {A B : Type 0} (f : A → B) (xs : List A) (y : B) → Contains (map f xs) y → (x : A) × Contains xs x × (f x ≡ y)
+of_map f [] y h = absurd (none_in y h)
+of_map f (x ∷ xs) y h = elim (front_or_behind (f x) (map f xs) y h) [
+  | inl e ↦ (x, front x xs, e)
+  | inr k ↦ let r = of_map f xs y k in (r.0, behind x xs r.0 r.1, r.2)
+]
+
+pub in_flat : {A B : Type 0} (f : A → List B) (xs : List A) (x : A) (y : B) → Contains xs x → Contains (f x) y → Contains (flat_map f xs) y
+in_flat f [] x y h k = absurd (none_in x h)
+in_flat f (z ∷ zs) x y h k = elim (front_or_behind z zs x h) [
+  | inl e ↦ Contains-append_left (f z) (flat_map f zs) y (subst (λ u. Contains (f u) y) (sym e) k)
+  | inr r ↦ Contains-append_right (f z) (flat_map f zs) y (in_flat f zs x y r k)
+]
+
+pub of_flat : {A B : Type 0} (f : A → List B) (xs : List A) (y : B) → Contains (flat_map f xs) y → (x : A) × Contains xs x × Contains (f x) y
+of_flat f [] y h = absurd (none_in y h)
+of_flat f (x ∷ xs) y h = elim (Contains-append_cases (f x) (flat_map f xs) y h) [
+  | inl e ↦ (x, front x xs, e)
+  | inr k ↦ let r = of_flat f xs y k in (r.0, behind x xs r.0 r.1, r.2)
+]
+
+-- ---- sums and counts
+
+pub sum_by-map : {A B : Type 0} (h : B → ℕ) (f : A → B) (xs : List A) → sum_by h (map f xs) ≡ sum_by (λ x. h (f x)) xs
+sum_by-map h f [] = refl
+sum_by-map h f (x ∷ xs) = omega (arith, sum_by-cons h (f x) (map f xs), sum_by-cons (λ y. h (f y)) x xs, sum_by-map h f xs)
 
 pub sum_by-flat_map : {A B : Type 0} (h : B → ℕ) (f : A → List B) (xs : List A) → sum_by h (flat_map f xs) ≡ sum_by (λ x. sum_by h (f x)) xs
 sum_by-flat_map h f [] = refl
@@ -21,49 +81,46 @@ sum_by-at f [] i v e = absurd (some-ne-none v (sym e))
 sum_by-at f (x ∷ xs) zero v e = omega (arith, sum_by-cons f x xs, ap f (some-injective x v e))
 sum_by-at f (x ∷ xs) (suc i) v e = omega (arith, sum_by-cons f x xs, sum_by-at f xs i v e)
 
-pub one_positive : (a b : ℕ) → 0 < a + b → (0 < a) ⊎ (0 < b)
-one_positive zero b h = inr (omega arith)
-one_positive (suc a) b h = inl (omega arith)
+module _ {A : Type 0} (p : A → Bool) where
+  pub count_by-no : (x : A) (xs : List A) → p x ≡ false → count_by p (x ∷ xs) ≡ count_by p xs
+  count_by-no x xs e = let one : Bool → ℕ = λ b. cond b 1 0 in omega (arith, sum_by-cons (λ y. one (p y)) x xs, ap one e)
 
-pub count_by-cons : {A : Type 0} (p : A → Bool) (x : A) (xs : List A) → count_by p (x ∷ xs) ≡ cond (p x) 1 0 + count_by p xs
-count_by-cons p x xs = sum_by-cons (λ y. cond (p y) 1 0) x xs
+  pub count_by-yes : (x : A) (xs : List A) → p x ≡ true → count_by p (x ∷ xs) ≡ 1 + count_by p xs
+  count_by-yes x xs e = let one : Bool → ℕ = λ b. cond b 1 0 in omega (arith, sum_by-cons (λ y. one (p y)) x xs, ap one e)
 
-one_if : (b : Bool) → 0 < cond b 1 0 → b ≡ true
-one_if true h = refl
-one_if false h = absurd (omega arith)
+  pub count_in : (xs : List A) (x : A) → Contains xs x → p x ≡ true → 0 < count_by p xs
+  count_in [] x h t = absurd (none_in x h)
+  count_in (y ∷ ys) x h t = elim (front_or_behind y ys x h) [
+    | inl e ↦ omega (arith, count_by-yes y ys (ap p e ∙ t))
+    | inr k ↦ omega (arith, sum_by-cons (λ y. cond (p y) 1 0) y ys, count_in ys x k t)
+  ]
 
-pub zero_if : (b : Bool) → b ≡ false → ◌≡◌ {A = ℕ} (cond b 1 0) 0
-zero_if b e = let f : Bool → ℕ = λ y. cond y 1 0 in ap f e
+  pub count_of : (xs : List A) → 0 < count_by p xs → (x : A) × Contains xs x × (p x ≡ true)
+  count_of [] h = absurd (omega (arith, h))
+  count_of (y ∷ ys) h = elim (cases_Bool (p y)) [
+    | inl t ↦ (y, front y ys, t)
+    | inr f ↦ let r = count_of ys (omega (arith, h, count_by-no y ys f)) in (r.0, behind y ys r.0 r.1, r.2)
+  ]
 
-pub one_when : (b : Bool) → b ≡ true → ◌≡◌ {A = ℕ} (cond b 1 0) 1
-one_when b e = let f : Bool → ℕ = λ y. cond y 1 0 in ap f e
+-- a list that weighs no more, however members are weighed, has no further members
+abbrev pub Within : {A : Type 0} → List A → List A → Type 0
+Within {A} xs ys = (h : A → ℕ) → sum_by h xs ≤ sum_by h ys
 
-pub SomePass-cons : {A : Type 0} (p : A → Bool) (x : A) (xs : List A) → SomePass p (x ∷ xs) → (p x ≡ true) ⊎ SomePass p xs
-SomePass-cons p x xs h = ⊎_elim (λ a. inl (one_if (p x) a)) (λ b. inr b) (one_positive (cond (p x) 1 0) (count_by p xs) (omega (arith, count_by-cons p x xs)))
+within_by : {A : Type 0} (p : A → A → Bool) → ((x : A) → p x x ≡ true) → ((x y : A) → p x y ≡ true → x ≡ y) → (xs ys : List A) → Within xs ys
+    → (x : A) → Contains xs x → Contains ys x
+within_by p self is xs ys le x h =
+    let r = count_of (p x) ys (omega (arith, le (λ y. cond (p x y) 1 0), count_in (p x) xs x h (self x))) in
+    subst (Contains ys) (sym (is x r.0 r.2)) r.1
 
-pub SomePass-here : {A : Type 0} (p : A → Bool) (x : A) (xs : List A) → p x ≡ true → SomePass p (x ∷ xs)
-SomePass-here p x xs e = omega (arith, count_by-cons p x xs, one_when (p x) e)
+pub pairs_in : (ps qs : List (ℕ × ℕ)) → Within ps qs → (p : ℕ × ℕ) → Contains ps p → Contains qs p
+pairs_in = within_by (λ p q. eqb p.0 q.0 && eqb p.1 q.1)
+    (λ p. and_from (eqb p.0 p.0) (eqb p.1 p.1) (eq-eqb p.0 p.0 refl) (eq-eqb p.1 p.1 refl))
+    (λ p q e. let t = and_parts (eqb p.0 q.0) (eqb p.1 q.1) e in λ i. (eqb-true p.0 q.0 t.0 i, eqb-true p.1 q.1 t.1 i))
 
-pub SomePass-later : {A : Type 0} (p : A → Bool) (x : A) (xs : List A) → SomePass p xs → SomePass p (x ∷ xs)
-SomePass-later p x xs h = omega (arith, count_by-cons p x xs)
-
-pub count_by-cons_no : {A : Type 0} (p : A → Bool) (x : A) (xs : List A) → p x ≡ false → count_by p (x ∷ xs) ≡ count_by p xs
-count_by-cons_no p x xs e = omega (arith, count_by-cons p x xs, zero_if (p x) e)
-
-pub count_by-cons_yes : {A : Type 0} (p : A → Bool) (x : A) (xs : List A) → p x ≡ true → count_by p (x ∷ xs) ≡ 1 + count_by p xs
-count_by-cons_yes p x xs e = omega (arith, count_by-cons p x xs, one_when (p x) e)
-
--- an element that passes
-pub picked : {A : Type 0} (p : A → Bool) (xs : List A) → SomePass p xs → (x : A) × (p x ≡ true) × ((q : A → Bool) → q x ≡ true → SomePass q xs)
-picked p [] h = absurd (omega arith)
-picked p (x ∷ xs) h = ⊎_elim (λ e. (x, e, λ q f. SomePass-here q x xs f))
-    (λ (k : SomePass p xs). let r = picked p xs k in (r.0, r.1, λ q f. SomePass-later q x xs (r.2 q f)))
-    (SomePass-cons p x xs h)
-
--- the same said by the library's search of a list
-pub SomePass-any : {A : Type 0} (p : A → Bool) (xs : List A) → SomePass p xs ↔ (list_any p xs ≡ true)
-SomePass-any p [] = (λ h. absurd (omega arith), λ h. absurd (cc))
-SomePass-any p (x ∷ xs) = let ih = SomePass-any p xs in (
-  λ h. ⊎_elim (λ e. or_left (p x) (list_any p xs) e) (λ k. or_right (p x) (list_any p xs) (ih.0 k)) (SomePass-cons p x xs h),
-  λ h. ⊎_elim (λ e. SomePass-here p x xs e) (λ k. SomePass-later p x xs (ih.1 k)) (or_cases (p x) (list_any p xs) h),
-)
+pub calls_in : (xs ys : List Call) → Within xs ys → (c : Call) → Contains xs c → Contains ys c
+calls_in = within_by (λ c d. eqb c.word d.word && (eqb c.found d.found && eqb c.number d.number))
+    (λ c. and_from (eqb c.word c.word) (eqb c.found c.found && eqb c.number c.number) (eq-eqb c.word c.word refl)
+    (and_from (eqb c.found c.found) (eqb c.number c.number) (eq-eqb c.found c.found refl) (eq-eqb c.number c.number refl)))
+    (λ c d e. let t = and_parts (eqb c.word d.word) (eqb c.found d.found && eqb c.number d.number) e in
+    let u = and_parts (eqb c.found d.found) (eqb c.number d.number) t.1 in
+    λ i. record { word = eqb-true c.word d.word t.0 i; found = eqb-true c.found d.found u.0 i; number = eqb-true c.number d.number u.1 i })

@@ -1,8 +1,8 @@
--- What all seats hold together.
-use Rattle.std.proofs.Common.{◌≡◌, ℕ, zero, suc, ◌+◌, ◌*◌, ◌/◌, ◌%◌, ◌<◌, inl, inr, List, [], ◌∷◌, take, drop, length, refl, sym, ap, subst, ◌∙◌, arith, slice_get, Some}
+-- What all seats hold together, as a caller of `in_shares` gets it from what each seat gains.
+use Rattle.std.proofs.Common.{◌≡◌, ℕ, zero, suc, ◌+◌, ◌*◌, ◌/◌, ◌%◌, ◌<◌, ◌⊎◌, ◌↔◌, inl, inr, List, [], ◌∷◌, take, drop, length, refl, sym, ap, subst, ◌∙◌, arith, slice_get, Some}
 use Rattle.std.proofs.lemmas.Option.{slice_get_within}
 use Rattle.std.proofs.lemmas.Nat.{mod_below, div-add-mod'}
-use Rattle.share_work.specs.Shares.{AddsSome, SeatsGain, SeatsHave, SomeHolds, HoldWithin, HoldTogether}
+use Rattle.share_work.specs.Shares.{AddsSome, SeatsGain, SeatsHave}
 use Rattle.share_work.proofs.PieceRows.{get_drop, take_get}
 
 get_take : {X : Type 0} (n : ℕ) (xs : List X) (o : ℕ) → o < n → slice_get (take n xs) o ≡ slice_get xs o
@@ -15,6 +15,19 @@ pub get_there : {X : Type 0} (xs : List X) (j : ℕ) → j < length xs → (x : 
 get_there [] j h = absurd (omega arith)
 get_there (x ∷ xs) zero h = (x, refl)
 get_there (x ∷ xs) (suc j) h = get_there xs j (omega arith)
+
+-- some seat holds n at x
+abbrev pub SomeHolds : {S : Type 0} → (S → ℕ → ℕ → Type 0) → List S → ℕ → ℕ → Type 0
+SomeHolds {S} holds seats x n = (j : ℕ) × (s : S) × (slice_get seats j ≡ Some s) × holds s x n
+
+module _ {S T : Type 0} (holds : S → ℕ → ℕ → Type 0) (adds : ℕ → T → ℕ → ℕ → Type 0) (items : List T) where
+  -- nothing but what they held before and what the items add
+  abbrev pub HoldWithin : List S → List S → Type 0
+  HoldWithin old new = (x n : ℕ) → SomeHolds holds new x n → SomeHolds holds old x n ⊎ AddsSome adds 0 items x n
+
+  -- exactly that
+  abbrev pub HoldTogether : List S → List S → Type 0
+  HoldTogether old new = (x n : ℕ) → SomeHolds holds new x n ↔ (SomeHolds holds old x n ⊎ AddsSome adds 0 items x n)
 
 module _ {S T : Type 0} (holds : S → ℕ → ℕ → Type 0) (adds : ℕ → T → ℕ → ℕ → Type 0) (workers cut : ℕ) (items : List T) (old new : List S) where
   -- what a seat holds it held before, or an item adds it

@@ -4,6 +4,6 @@ pub mod Posts
 pub mod Views
 pub mod Rule
 pub mod Order
-pub mod Reach
 pub mod Marks
 pub mod MarkRule
+pub mod Steps

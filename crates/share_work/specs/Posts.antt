@@ -1,6 +1,5 @@
 -- What is posted at words: pairs of a word and a number.
-use Rattle.std.specs.Prelude.{ℕ, Bool, ◌==◌, ◌&&◌, List, [], ◌∷◌, min, if◌then◌else◌}
-use Rattle.std.specs.List.{list_any}
+use Rattle.std.specs.Prelude.{ℕ, ◌==◌, List, [], ◌∷◌, min, if◌then◌else◌}
 
 -- what a word holds before its first post
 abbrev pub NONE : ℕ
@@ -10,11 +9,3 @@ NONE = 18446744073709551615
 abbrev pub least_at : ℕ → List (ℕ × ℕ) → ℕ
 least_at w [] = NONE
 least_at w (p ∷ ps) = if p.0 == w then min p.1 (least_at w ps) else least_at w ps
-
--- the pair is x at w
-abbrev pub is_pair : ℕ → ℕ → ℕ × ℕ → Bool
-is_pair w x p = (p.0 == w) && (p.1 == x)
-
--- x was posted at w
-abbrev pub posted : ℕ → ℕ → List (ℕ × ℕ) → Bool
-posted w x pairs = list_any (is_pair w x) pairs

@@ -1,5 +1,5 @@
 -- What workers take, give and add for the items of a list.
-use Rattle.std.specs.Prelude.{map, ◌↔◌, ◌⊎◌, ◌≡◌, ℕ, ◌+◌, ◌*◌, List, length, take, drop, slice_get, Some}
+use Rattle.std.specs.Prelude.{map, ◌⊎◌, ◌≡◌, ℕ, ◌+◌, ◌*◌, List, length, take, drop, slice_get, Some}
 
 -- outs has one member for each item, each as `gives` says of the item's position and the item; first is the position
 -- of the first item
@@ -47,17 +47,3 @@ module _ {S T : Type 0} (holds : S → ℕ → ℕ → Type 0) (adds : ℕ → T
   -- and all of that
   pub record SeatsHave (from : ℕ) (new : List S) : Type 0 where
     pub each : (j : ℕ) (s : S) → slice_get new j ≡ Some s → SeatHas (from + j) s
-
--- some seat holds n at x
-abbrev pub SomeHolds : {S : Type 0} → (S → ℕ → ℕ → Type 0) → List S → ℕ → ℕ → Type 0
-SomeHolds {S} holds seats x n = (j : ℕ) × (s : S) × (slice_get seats j ≡ Some s) × holds s x n
-
--- what seats hold together
-module _ {S T : Type 0} (holds : S → ℕ → ℕ → Type 0) (adds : ℕ → T → ℕ → ℕ → Type 0) (items : List T) where
-  -- nothing but what they held before and what the items add
-  abbrev pub HoldWithin : List S → List S → Type 0
-  HoldWithin old new = (x n : ℕ) → SomeHolds holds new x n → SomeHolds holds old x n ⊎ AddsSome adds 0 items x n
-
-  -- exactly that
-  abbrev pub HoldTogether : List S → List S → Type 0
-  HoldTogether old new = (x n : ℕ) → SomeHolds holds new x n ↔ (SomeHolds holds old x n ⊎ AddsSome adds 0 items x n)

@@ -1,6 +1,5 @@
 -- What one seat knows: its parts, its calls in order, and the pairs of a word and a number that it was told.
 use Rattle.std.specs.Prelude.{ℕ, ◌+◌, ◌-◌, ◌^◌, List, [], ◌∷◌, ◌++◌, map}
-use Rattle.std.specs.List.{flat_map}
 use Rattle.atomic_table.specs.Seated.{TableId}
 use Rattle.share_work.specs.declared.views.Call.{Call}
 use Rattle.share_work.specs.declared.views.View.{View}
@@ -13,20 +12,20 @@ call w found number = record { word = w; found = found; number = number }
 abbrev pub make_view : ℕ → List Call → List (ℕ × ℕ) → View
 make_view parts calls told = record { parts = parts; calls = calls; told = told }
 
--- the first seat's view, and that of a seat that was joined
+-- the first seat's view
 abbrev pub whole : View
 whole = make_view (2 ^ 32) [] []
 
-abbrev pub spent : View
-spent = make_view 0 [] []
-
--- the pairs of the calls
+-- the pairs that the calls posted, and those that they found
 abbrev pub posts_of : List Call → List (ℕ × ℕ)
 posts_of calls = map (λ c. (c.word, c.number)) calls
 
+abbrev pub finds_of : List Call → List (ℕ × ℕ)
+finds_of calls = map (λ c. (c.word, c.found)) calls
+
 -- what the seat found, posted or was told
 abbrev pub pairs_of : View → List (ℕ × ℕ)
-pairs_of v = flat_map (λ (c : Call). (c.word, c.found) ∷ (c.word, c.number) ∷ []) v.calls ++ v.told
+pairs_of v = finds_of v.calls ++ posts_of v.calls ++ v.told
 
 -- the least number found, posted or told at the word, or NONE
 abbrev pub known : ℕ → View → ℕ
@@ -39,8 +38,7 @@ with_call v c = make_view v.parts (v.calls ++ c ∷ []) v.told
 abbrev pub with_told : View → ℕ → ℕ → View
 with_told v w x = make_view v.parts v.calls ((w, x) ∷ v.told)
 
--- a split of k parts: the splitter keeps its calls and what it was told, and the new seat is told what the splitter
--- knows
+-- a split of k parts: the splitter keeps its calls and what it was told, and the new seat is told all that it knows
 abbrev pub left_of : ℕ → View → View
 left_of k v = make_view (v.parts - k) v.calls v.told
 

@@ -8,7 +8,8 @@ ghost use Rattle.share_work.specs.Posts.{least_at};
 ghost use Rattle.share_work.specs.Views.{call, known, posts_of};
 ghost use Rattle.share_work.specs.Rule.{IsLegal, IsPosted};
 ghost use Rattle.share_work.specs.declared.views.Call.{Call};
-ghost use Rattle.share_work.specs.Marks.{at_each, marked_posts, mark_seat_value, mark_whole, mark_left, mark_right, mark_both, make_debt, debt_at, with_root, with_mark, with_calls};
+ghost use Rattle.share_work.specs.Marks.{at_each, marked_posts, mark_seat_value, mark_whole, mark_left, mark_right, mark_both, with_mark};
+ghost use Rattle.share_work.specs.Steps.{make_debt, debt_at, with_root, with_calls};
 
 mod rule;
 

@@ -1,7 +1,6 @@
 //! Which files each file reaches.
 
-ghost use Rattle.std.specs.Prelude.{◌≡◌, ℕ, ◌<◌, List, length, slice_get};
-ghost use Rattle.share_work.specs.Reach.{Reaches};
+ghost use Rattle.std.specs.Prelude.{◌≡◌, ℕ, ◌<◌, List, length, slice_get, Contains};
 
 /// Files, numbered from 0, and for each the list of the files that it reaches. Each file reaches itself, and what those reach
 /// that it reaches.
@@ -20,12 +19,12 @@ pub trait Reach {
         requires { root < files self.now }
         ensures { result ≡ slice_get (list self.now root) k };
 
-    ghost within: { (s : Self) (r g : ℕ) → r < files s → Reaches (list s) r g → g < files s };
+    ghost within: { (s : Self) (r g : ℕ) → r < files s → Contains (list s r) g → g < files s };
 
     ghost short: { (s : Self) (r : ℕ) → r < files s → length (list s r) < 18446744073709551615 };
 
-    ghost reflexive: { (s : Self) (r : ℕ) → r < files s → Reaches (list s) r r };
+    ghost reflexive: { (s : Self) (r : ℕ) → r < files s → Contains (list s r) r };
 
-    ghost transitive: { (s : Self) (r g h : ℕ) → r < files s → Reaches (list s) r g
-        → Reaches (list s) g h → Reaches (list s) r h };
+    ghost transitive: { (s : Self) (r g h : ℕ) → r < files s → Contains (list s r) g
+        → Contains (list s g) h → Contains (list s r) h };
 }

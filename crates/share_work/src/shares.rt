@@ -1,7 +1,7 @@
 //! The outs of all items, by workers that each have a seat and a thread of their own.
 
 ghost use Rattle.std.specs.Prelude.{ℕ, ◌≡◌, All, length, IfOk, OnOk};
-ghost use Rattle.share_work.specs.Shares.{SeatsGain, SeatsHave, KeepsNumbers, GivesItems, TakesAll, HoldWithin, HoldTogether};
+ghost use Rattle.share_work.specs.Shares.{SeatsGain, SeatsHave, KeepsNumbers, GivesItems, TakesAll};
 
 mod rows;
 mod weave;
@@ -58,10 +58,6 @@ where
         seats.old seats.new }
     ensures have { OnOk result (SeatsHave (W.holds work.now) (W.adds work.now) plan.workers plan.cut
         items.now 0 seats.new) }
-    // What the seats hold together: nothing but what they held and what the items add, and on success all of it.
-    ensures within { HoldWithin (W.holds work.now) (W.adds work.now) items.now seats.old seats.new }
-    ensures together { OnOk result (HoldTogether (W.holds work.now) (W.adds work.now) items.now
-        seats.old seats.new) }
     ensures outs { IfOk result (λ v. GivesItems (W.gives work.now) 0 items.now v.items) }
 {
     if items.is_empty() {

@@ -7,7 +7,7 @@ use Rattle.std.proofs.lemmas.Bool.{cases_lt, false≢true}
 use Rattle.std.proofs.lemmas.Cmp.{nat_list_cmp_total}
 use Rattle.std.proofs.lemmas.Map.Lookups.{exact_bytes}
 use Rattle.std.proofs.lemmas.List.{get_or-map, length-map}
-use Rattle.source_folder.specs.Paths.{AreRising}
+use Rattle.proto_base.specs.NameOrder.{NamesRise}
 use Rattle.source_folder.specs.Ordered.{AreInPathOrder, HaveTwins, path_at, path_of, paths_of}
 use Rattle.source_folder.specs.declared.walk.ProtoEntry.{ProtoEntry}
 
@@ -60,7 +60,7 @@ pub no_neighbours : (k : ℕ) → k + 1 < 0 → ⊥
 no_neighbours k h = omega arith
 
 -- sorted paths of which no two neighbours are the same
-pub rising : (sources : List ProtoEntry) → AreInPathOrder sources → (HaveTwins sources → ⊥) → AreRising (paths_of sources)
+pub rising : (sources : List ProtoEntry) → AreInPathOrder sources → (HaveTwins sources → ⊥) → NamesRise (paths_of sources)
 rising [] order apart k h = absurd (no_neighbours k h)
 rising (s ∷ sources) order apart k h =
     rising_at (s ∷ sources) s order apart k (omega (arith, h, length-map (s ∷ sources) path_of))

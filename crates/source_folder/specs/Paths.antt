@@ -1,18 +1,10 @@
 -- Names and paths as bytes.
-use Rattle.std.specs.Prelude.{◌≡◌, ℕ, ◌+◌, ◌<◌, ◌==◌, ◌||◌, Bool, not, List, [], ◌∷◌, ◌++◌, bytes_eq, length, nat_eq, codes, slice_index_or}
-use Rattle.std.specs.Cmp.Lexicographic.{slice_cmp}
+use Rattle.std.specs.Prelude.{ℕ, ◌==◌, ◌||◌, Bool, not, List, [], ◌∷◌, ◌++◌, bytes_eq, length, nat_eq, codes}
 use Rattle.std.specs.List.{ends_with, list_all, slice_split}
-use Rattle.std.specs.Ordering.{nat_cmp}
-use Rattle.std.specs.declared.cmp.Ordering.TheVariants.{Less}
 
 -- whether a name ends in the bytes of `.proto`
 abbrev pub ends_in_proto : List ℕ → Bool
 ends_in_proto name = ends_with nat_eq name (codes ".proto")
-
--- each name comes before the next one, byte by byte
-abbrev pub AreRising : List (List ℕ) → Type 0
-AreRising names = (k : ℕ) → k + 1 < length names
-    → slice_cmp nat_cmp (slice_index_or names k []) (slice_index_or names (k + 1) []) ≡ Less
 
 -- a path and a name below it, with a slash between the two unless one is empty
 abbrev pub joined_path : List ℕ → List ℕ → List ℕ

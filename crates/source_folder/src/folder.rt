@@ -4,7 +4,8 @@ ghost use Rattle.std.specs.Prelude.{◌≡◌, ◌+◌, ◌≤◌, All, IfOk, If
 ghost use Rattle.std.specs.Bool.{OnFalse};
 ghost use Rattle.proto_base.specs.Limits.{limit_of};
 ghost use Rattle.source_folder.specs.Folder.{name_of, names_of};
-ghost use Rattle.source_folder.specs.Paths.{AreRising, ends_in_proto, is_below, joined_path};
+ghost use Rattle.proto_base.specs.NameOrder.{NamesRise};
+ghost use Rattle.source_folder.specs.Paths.{ends_in_proto, is_below, joined_path};
 ghost use Rattle.source_folder.specs.Ordered.{paths_of};
 
 use crate::fault::FolderFault;
@@ -118,7 +119,7 @@ pub fn sources_in<R: Files + AllocGlobal>(
     root: &str,
     limits: &Limits,
 ) -> Result<Vec<NamedText>, FolderTrouble>
-    ensures order { IfOk result (λ texts. AreRising (names_of texts.items)) }
+    ensures order { IfOk result (λ texts. NamesRise (names_of texts.items)) }
     ensures proto { IfOk result (λ texts. All (λ t. IsTrue (ends_in_proto (name_of t)))
         texts.items) }
     ensures few { IfOk result (λ texts. vec_len texts ≤ 1_048_576) }
@@ -153,7 +154,7 @@ pub fn read_folder<R: Files + AllocGlobal>(
     root: &str,
     limits: &Limits,
 ) -> Result<Vec<NamedText>, FolderFault>
-    ensures order { IfOk result (λ texts. AreRising (names_of texts.items)) }
+    ensures order { IfOk result (λ texts. NamesRise (names_of texts.items)) }
     ensures proto { IfOk result (λ texts. All (λ t. IsTrue (ends_in_proto (name_of t)))
         texts.items) }
     ensures few { IfOk result (λ texts. vec_len texts ≤ 1_048_576) }

@@ -15,7 +15,7 @@ use Rattle.std.proofs.lemmas.Map.Keys.{IsDistinct-IsPermutation, IsDistinct-from
 use Rattle.std.proofs.lemmas.Map.Lookups.{exact_bytes}
 use Rattle.std.proofs.lemmas.Slice.Eq.{bytes_eq-Decides}
 use Rattle.source_folder.specs.Folder.{name_of, names_of}
-use Rattle.source_folder.specs.Paths.{AreRising}
+use Rattle.proto_base.specs.NameOrder.{NamesRise}
 use Rattle.source_folder.specs.declared.folder.NamedText.{NamedText}
 use Rattle.source_search.specs.Wanted.{Named, name_in, named_bytes}
 
@@ -35,7 +35,7 @@ not_less xs ys same less = by (slice_cmp nat_cmp xs xs) (nat_list_cmp_total.anti
     by Greater turned less = cc
 
 -- names that rise differ
-pub rising_differ : (names : List (List ℕ)) → AreRising names → IsDistinct bytes_eq names
+pub rising_differ : (names : List (List ℕ)) → NamesRise names → IsDistinct bytes_eq names
 rising_differ names rising = IsDistinct-from_apart bytes_eq names
     (λ i j d h inside. false_from_ne_true _ (λ same. not_less (get_or names i d) (get_or names j d)
     (same_bytes (get_or names i d) (get_or names j d) same)
@@ -51,7 +51,7 @@ less_from forth Greater turned low apart = turned
 -- sorted names that differ rise
 pub sorted_rise : (sources : List NamedText) → IsSortedByKey name_of (slice_cmp nat_cmp) sources
     → IsDistinct bytes_eq (names_of sources)
-    → AreRising (names_of sources)
+    → NamesRise (names_of sources)
 sorted_rise sources sorted apart k h = less_from _ _ (nat_list_cmp_total.antisymm (get_or (names_of sources) k [])
     (get_or (names_of sources) (k + 1) []))
     (low (by_some sources (omega (arith, h, length-map sources name_of))))

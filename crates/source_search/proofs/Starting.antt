@@ -11,7 +11,7 @@ use Rattle.std.proofs.lemmas.Map.Keys.{any_passes_from_place}
 use Rattle.std.proofs.lemmas.Option.{slice_get_read}
 use Rattle.proto_base.specs.declared.limits.Limits.{Limits}
 use Rattle.source_folder.specs.Folder.{name_of, names_of}
-use Rattle.source_folder.specs.Paths.{AreRising}
+use Rattle.proto_base.specs.NameOrder.{NamesRise}
 use Rattle.source_folder.specs.declared.folder.NamedText.{NamedText}
 use Rattle.source_search.specs.Searching.{IsSearched}
 use Rattle.source_search.specs.Shelves.{Known}
@@ -66,7 +66,7 @@ there_among [] name h = absurd (false≢true h)
 there_among (one ∷ names) name h = first_or one name names (bytes_eq one name) refl h (there_among names name)
 
 pub started : (limits : Limits) (known : Known) (given : List NamedText) (asked : List ℕ → Bool)
-    → AreRising (names_of given)
+    → NamesRise (names_of given)
     → ((name : List ℕ) → asked name ≡ is_among (names_of given) name)
     → IsSearched limits known (map named_bytes given) (map named_bytes given) asked
 started limits known given asked rising is = record {

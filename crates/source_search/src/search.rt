@@ -3,7 +3,7 @@
 ghost use Rattle.std.specs.Prelude.{◌≡◌, ◌∷◌, [], All, IfOk, List, OnOk, flat_map, map, string_bytes};
 ghost use Rattle.proto_base.specs.declared.limits.Limits.{Limits};
 ghost use Rattle.source_folder.specs.Folder.{names_of};
-ghost use Rattle.source_folder.specs.Paths.{AreRising};
+ghost use Rattle.proto_base.specs.NameOrder.{NamesRise};
 ghost use Rattle.source_search.specs.Searching.{AsksFor, IsClosed, IsSearch, Keeps, is_asked, sources_of, texts_in};
 ghost use Rattle.source_search.specs.Shelves.{Known};
 ghost use Rattle.source_search.specs.Wanted.{Named, named_bytes};
@@ -32,7 +32,7 @@ pub(crate) struct Search {
 impl Search {
     /// A search that has nothing but the given sources.
     pub(crate) fn new(alloc: Global, given: Vec<NamedText>) -> Result<Search, AllocError>
-        requires { AreRising (names_of given.items) }
+        requires { NamesRise (names_of given.items) }
         ensures { IfOk result (λ search. (limits : Limits) (known : Known)
             → IsSearch limits known (map named_bytes given.items) search) }
     {

@@ -2,7 +2,7 @@
 
 ghost use Rattle.std.specs.Prelude.{All, Contains, IfOk, IfSome, map};
 ghost use Rattle.source_folder.specs.Folder.{names_of};
-ghost use Rattle.source_folder.specs.Paths.{AreRising};
+ghost use Rattle.proto_base.specs.NameOrder.{NamesRise};
 ghost use Rattle.source_search.specs.Wanted.{AreWanted, named_bytes};
 
 use crate::order::sort_by_name;
@@ -30,8 +30,8 @@ pub fn with_imports<R, S>(
 where
     R: Threads + AllocGlobal + Sync,
     S: Shelf,
-    requires { AreRising (names_of given.items) }
-    ensures order { IfOk result (λ sources. AreRising (names_of sources.items)) }
+    requires { NamesRise (names_of given.items) }
+    ensures order { IfOk result (λ sources. NamesRise (names_of sources.items)) }
     ensures given { IfOk result (λ sources. All (Contains (map named_bytes sources.items))
         (map named_bytes given.items)) }
     // The least such set, where it is known what the shelf has.

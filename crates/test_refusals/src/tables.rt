@@ -2,11 +2,11 @@
 
 ghost use Rattle.std.specs.Prelude.{◌≡◌, ◌<◌, All, IfOk, IfSome, length};
 
+use share_samples::posting::{Posting, join_seats, two_seats};
+use share_samples::two_files::Two;
 use share_work::{LeastSeat, LeastTable, MarkTable, NONE, NoGate, Plan, in_shares};
 use std::alloc::{AllocError, AllocGlobal, Global};
 use std::thread::Threads;
-use test_shares::posting::{Posting, join_seats, two_seats};
-use test_shares::two_files::Two;
 
 /// The numbers that two workers post.
 static NUMBERS: [u64; 3] = [9, 3, 5];

@@ -5,7 +5,7 @@ use Rattle.std.specs.List.{AllAdjacentBelow}
 use Rattle.std.proofs.lemmas.Bool.{true≢false}
 use Rattle.std.proofs.lemmas.List.{get_or-map, length-map}
 use Rattle.source_folder.specs.Folder.{name_of, names_of}
-use Rattle.source_folder.specs.Paths.{AreRising}
+use Rattle.proto_base.specs.NameOrder.{NamesRise}
 use Rattle.source_folder.specs.declared.folder.NamedText.{NamedText}
 
 abbrev pub is_before : NamedText → NamedText → Bool
@@ -17,7 +17,7 @@ less_of Equal e = absurd (true≢false e)
 less_of Greater e = absurd (true≢false e)
 
 pub rises : (texts : List NamedText) → AllAdjacentBelow (λ a b. true ≡ is_before a b) texts (length texts)
-    → AreRising (names_of texts)
+    → NamesRise (names_of texts)
 rises [] all k h = absurd (omega (arith, h))
 rises (t ∷ texts) all k h =
     let inside : k + 1 < length (t ∷ texts) = omega (arith, h, length-map (t ∷ texts) name_of) in

@@ -2,7 +2,7 @@
 
 ghost use Rattle.std.specs.Prelude.{IfOk};
 ghost use Rattle.source_folder.specs.Folder.{names_of};
-ghost use Rattle.source_folder.specs.Paths.{AreRising};
+ghost use Rattle.proto_base.specs.NameOrder.{NamesRise};
 
 use proto_base::Limits;
 use share_work::Plan;
@@ -77,7 +77,7 @@ fn sources_of(alloc: Global, files: &[File]) -> Result<Vec<NamedText>, AllocErro
 
 /// The sources that are given, whose names have to rise. Without memory, or where they do not rise, there are none.
 fn given_of(alloc: Global, files: &[File]) -> Result<Vec<NamedText>, AllocError>
-    ensures { IfOk result (λ given. AreRising (names_of given.items)) }
+    ensures { IfOk result (λ given. NamesRise (names_of given.items)) }
 {
     let given = sources_of(alloc, files)?;
     if given.is_sorted_by(|first, second| first.name.cmp(&second.name).is_lt()) {

@@ -1,9 +1,10 @@
 //! The pass over imports.
 
-ghost use Rattle.std.specs.Prelude.{List, IfOk, IfErr};
+ghost use Rattle.std.specs.Prelude.{List, IfOk, IfErr, map};
 ghost use Rattle.proto_compile.specs.Descriptions.{Describe};
 ghost use Rattle.proto_compile.specs.FaultSet.{IsLeastFault, TellsOf};
-ghost use Rattle.proto_links.specs.Bad.{AreInNameOrder};
+ghost use Rattle.proto_links.specs.Imports.{name_of};
+ghost use Rattle.proto_base.specs.NameOrder.{NamesRise};
 ghost use Rattle.proto_links.specs.Linked.{AreLinked};
 ghost use Rattle.proto_compile.specs.declared.source.Source.{Source};
 ghost use Rattle.proto_base.specs.declared.limits.Limits.{Limits};
@@ -16,7 +17,7 @@ use std::alloc::Global;
 
 /// The links of what sources describe.
 pub(crate) fn link_all(alloc: Global, descs: &[FileDesc]) -> Result<Links, CompileError>
-    requires { AreInNameOrder descs.now }
+    requires { NamesRise (map name_of descs.now) }
     ensures linked { IfOk result (AreLinked descs.now) }
     ensures first { (limits : Limits) (sources files : List Source)
         → Describe limits sources files descs.now

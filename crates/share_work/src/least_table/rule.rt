@@ -73,7 +73,8 @@ impl<G: Given> Split<View> for Cut<G> {
 pub(super) struct Unite;
 
 impl Join<View> for Unite {
-    ghost use Rattle.share_work.specs.Views.{both_of, spent};
+    ghost use Rattle.share_work.specs.Views.{both_of};
+    ghost use Rattle.share_work.specs.Steps.{spent};
 
     ghost both = { λ v w. both_of v w };
 

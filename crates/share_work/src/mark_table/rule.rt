@@ -25,7 +25,7 @@ pub(super) struct RootPosts;
 impl Play<(), MarkView> for RootPosts {
     ghost use Rattle.std.specs.Prelude.{◌≡◌, ◌≤◌, ◌-◌};
     ghost use Rattle.share_work.specs.Views.{known};
-    ghost use Rattle.share_work.specs.Marks.{with_root};
+    ghost use Rattle.share_work.specs.Steps.{with_root};
 
     ghost then = { λ s v found w. (found ≤ known (s.word - 1) v.0.least)
         × (w ≡ (with_root (s.word - 1) found s.first v.0, v.1)) };
@@ -45,7 +45,7 @@ pub(super) struct Pays<G>(PhantomData<G>);
 
 impl<G: Paid> Play<(), MarkView> for Pays<G> {
     ghost use Rattle.std.specs.Prelude.{◌≡◌, ◌-◌};
-    ghost use Rattle.share_work.specs.Marks.{with_paid};
+    ghost use Rattle.share_work.specs.Steps.{with_paid};
 
     ghost then = { λ s v found w. w ≡ (with_paid G.last (s.word - 1) found s.first v.0, v.1) };
 }
@@ -83,7 +83,8 @@ impl<G: MarkGiven> Split<MarkView> for MarkCut<G> {
 pub(super) struct MarkUnite;
 
 impl Join<MarkView> for MarkUnite {
-    ghost use Rattle.share_work.specs.Marks.{mark_both, mark_spent};
+    ghost use Rattle.share_work.specs.Marks.{mark_both};
+    ghost use Rattle.share_work.specs.Steps.{mark_spent};
 
     ghost both = { λ v w. mark_both v w };
 

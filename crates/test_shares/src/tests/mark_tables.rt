@@ -2,7 +2,7 @@
 
 ghost use Rattle.std.specs.Prelude.{◌≡◌, ◌<◌, length};
 
-use crate::two_files::Two;
+use share_samples::two_files::Two;
 use share_work::{Least, MarkSeat, MarkTable, NONE};
 use std::process::Abort;
 use std::test::Fail;

@@ -3,7 +3,7 @@
 ghost use Rattle.std.specs.Prelude.{⊤, ◌≡◌, ◌<◌, All, IfOk, length};
 
 use super::least_tables::closed;
-use crate::posting::{Posting, join_seats, two_seats};
+use share_samples::posting::{Posting, join_seats, two_seats};
 use share_work::{Gate, LeastSeat, LeastTable, NoGate, Plan, Work, in_shares};
 use std::alloc::{AllocError, AllocGlobal, Global};
 use std::process::Abort;

@@ -1,12 +1,13 @@
-use Rattle.std.proofs.Common.{◌≡◌, ℕ, ◌<◌, ◌≤◌, ◌^◌, List, [], Option, length, sum_by, arith, refl, sym, ap, subst, ◌∙◌, All}
+use Rattle.std.proofs.Common.{◌≡◌, ℕ, ◌<◌, ◌≤◌, ◌^◌, List, [], Option, length, reverse, sum_by, arith, refl, sym, ap, subst, ◌∙◌, All}
 use Rattle.std.proofs.lemmas.Grind.{common_steps}
-use Rattle.std.specs.List.{list_any}
+use Rattle.std.specs.List.{flat_map}
 use Rattle.std.specs.Option.{ForSome}
 use Rattle.std.proofs.lemmas.Option.{slice_get_within}
 use Rattle.share_work.specs.Posts.{NONE}
 use Rattle.share_work.specs.Marks.{MarkSeatValue, marked_posts}
+use Rattle.share_work.proofs.Together.{held_together}
 use Rattle.first_reach.specs.First.{first_reach}
-use Rattle.first_reach.specs.Seats.{has_posted}
+use Rattle.first_reach.specs.Seats.{HasPosted, Posts}
 use Rattle.first_reach.proofs.Lists.{all_get}
 use Rattle.first_reach.proofs.Marks.{all_posted, same_sums, written}
 use Rattle.first_reach.proofs.Firsts.{least_is}
@@ -39,8 +40,12 @@ returns-clause-first g c = λ w below.
     c.as_mut_slice.ensures.len c.in_shares.ensures.gains.len in
     let none = subst (λ (l : List MarkSeatValue). All (λ s. s.view.marks ≡ []) l) (sym c.as_mut_slice.ensures.value) c.in_ok-seats.ensures.marks in
     let pairs = marked_posts list c.in-Some.seat.view.marks in
-    let same = all_posted list roots c.as_mut_slice.result.now seats pairs c.in_ok-in_shares.ensures.together none
-    (λ x n. c.in-Some.ensures.marks list x n ∙ ap (λ (l : List MarkSeatValue). list_any (λ s. has_posted list s x n) l) back) in
+    let together = held_together (λ s x n. HasPosted list s x n) (Posts list) c.args.plan.workers c.args.plan.cut roots c.as_mut_slice.result.now seats
+    c.args.plan.some_workers c.args.plan.some_items
+    (ap (λ (l : List MarkSeatValue). length l) c.as_mut_slice.ensures.value ∙ c.in_ok-seats.ensures.len ∙ c.workers.ensures)
+    c.in_shares.ensures.gains c.in_ok-in_shares.ensures.have in
+    let same = all_posted list roots c.as_mut_slice.result.now seats c.in-Some.seat.view.marks together none
+    (c.in-Some.ensures.marks ∙ ap (λ (l : List MarkSeatValue). flat_map (λ s. s.view.marks) (reverse l)) back) in
     let inside = subst (λ (s : g.row.F.Denot). w < g.F.Reach.files s) (sym c.in_ok-table.ensures.0) below in
     c.in-Ok.ensures.least w inside ∙ least_is list roots top pairs same w
     ∙ ap (λ (s : g.row.F.Denot). first_reach (g.F.Reach.list s) roots w) c.in_ok-table.ensures.0

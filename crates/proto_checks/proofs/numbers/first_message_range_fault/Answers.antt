@@ -13,5 +13,6 @@ returns c =
     let bound = rw (c.deref-2.ensures.value, bounds) at c.first_outside-bound.ensures in
     let ranges = rw (c.deref-3.ensures.value, c.in_ok-listed.ensures) at c.in_ok-ranges.ensures in
     let range = rw (c.deref-4.ensures.value, ranges) at c.in_ok-range.ensures in
-    least_either (Outside 1 greatest_field_number kind.FieldNumberRange (message_bounds is)) (RangesBreak (message_ranges is) c.args.numbers.now) _ _ _ bound range
+    least_either (Outside 1 greatest_field_number kind.FieldNumberRange (message_bounds is))
+    (RangesBreak (message_ranges is) c.args.numbers.now) _ _ _ bound range
     c.lesser.ensures

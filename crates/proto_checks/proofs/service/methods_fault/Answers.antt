@@ -17,6 +17,7 @@ loop-item-preserved c = elim c.match-item.branch [
       w.lesser-first.result (omega arith) c.item-item.is c.loop-item.invariant here w.lesser-first.ensures))
   | in_default w ↦ (
       let none : service_rpc c.item-item.result ≡ [] = grind (arith, common_steps) in
-      rw w.first-is (flat_skip RpcBreaks service_rpc c.args.items.now c.loop-item.item-index c.item-item.result c.loop-item.first (omega arith) c.item-item.is none
+      rw w.first-is (flat_skip RpcBreaks service_rpc c.args.items.now c.loop-item.item-index c.item-item.result
+      c.loop-item.first (omega arith) c.item-item.is none
       c.loop-item.invariant))
 ]

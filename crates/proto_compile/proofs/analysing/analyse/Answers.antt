@@ -1,8 +1,9 @@
-use Rattle.std.proofs.Common.{rules, arith}
+use Rattle.std.proofs.Common.{rules, arith, sym, subst}
+use Rattle.proto_base.specs.NameOrder.{NamesRise}
 use Rattle.std.proofs.lemmas.Grind.{pieces}
 use Rattle.proto_compile.specs.Descriptions.{Describe}
 use Rattle.proto_compile.proofs.Making.{resolved_of}
-use Rattle.proto_compile.proofs.Zipping.{in_order, same_length, same_names}
+use Rattle.proto_compile.proofs.Zipping.{same_length, same_names}
 use Rattle.proto_compile.proofs.analysing.analyse.Goals as goal
 
 pub lookup_of-requires-after_bounds : goal.lookup_of-requires-after_bounds
@@ -10,7 +11,7 @@ lookup_of-requires-after_bounds g c κs h =
     let files = c.args.files.now in
     let descs = c.in_ok-descs.descs.items in
     let names = same_names c.args.limits.now files descs c.in_ok-descs.ensures.described in
-    rw c.deref.ensures.value (in_order files descs names c.requires.names)
+    rw c.deref.ensures.value (subst NamesRise (sym names) c.requires.names)
 
 pub returns-in_err-lookup-clause-first : goal.returns-in_err-lookup-clause-first
 returns-in_err-lookup-clause-first g c sources few order =

@@ -1,6 +1,6 @@
 use Rattle.std.proofs.Common.{arith}
 use Rattle.std.proofs.lemmas.List.{get_or_default}
-use Rattle.proto_links.proofs.Positions.{rows_size, public_size, rows_fall, public_falls, sound_of, linked_of}
+use Rattle.proto_links.proofs.Positions.{rows_size, public_size, rows_fall, public_falls, laid_out, linked_of}
 use Rattle.proto_links.proofs.linking.link_files.Goals as goal
 
 pub files_reached-requires : goal.files_reached-requires
@@ -21,7 +21,7 @@ invariant_of-result c =
     let m = c.in_ok-positioned.ensures in
     let r = c.in_ok-reach.ensures in
     let s = c.in_ok-seen.ensures in
-    (sound_of m r s, (c.args.files.now, linked_of m r s))
+    (laid_out m r s, (c.args.files.now, linked_of m r s))
 
 pub returns : goal.returns
 returns c = linked_of c.in_ok-positioned.ensures c.in_ok-reach.ensures c.in_ok-seen.ensures

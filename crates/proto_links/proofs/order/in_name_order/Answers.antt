@@ -1,5 +1,7 @@
-use Rattle.std.proofs.Common.{arith}
+use Rattle.std.proofs.Common.{arith, refl}
+use Rattle.std.proofs.lemmas.List.{length-map}
 use Rattle.std.proofs.lemmas.Bool.{both_ways, false≢true}
+use Rattle.proto_links.specs.Imports.{name_of}
 use Rattle.proto_links.proofs.Named.{order_more, pair_names, last_pair}
 use Rattle.proto_links.proofs.order.in_name_order.Goals as goal
 
@@ -19,3 +21,9 @@ loop-next-preserved c = record {
       c.index-files-next-in-loop-next.result c.loop-next.invariant.some (omega arith) c.index-files-next.is c.index-files-next-in-loop-next.is).0
       (c.is_before.ensures.0 c.if-not-is_before.false)) c.loop-next.invariant.some c.loop-next.invariant.pairs;
 }
+
+pub returns : goal.returns
+returns c = (
+  λ _ k h. c.loop-next.invariant.pairs k (omega (arith, h, length-map c.args.files.now name_of)),
+  λ _. refl,
+)

@@ -1,7 +1,9 @@
 use Rattle.std.proofs.Common.{◌∙◌, ap, sym}
 use Rattle.std.specs.Prelude.{string_bytes}
 use Rattle.std.proofs.lemmas.List.{length-map}
-use Rattle.proto_lower.specs.Names.{is_among, with_underscore}
+use Rattle.std.specs.Set.{is_member}
+use Rattle.std.specs.Str.{bytes_eq}
+use Rattle.proto_lower.specs.Names.{with_underscore}
 use Rattle.proto_base.proofs.Among.{if_ok}
 use Rattle.proto_lower.proofs.Free.{free_is_free, found_by_set}
 use Rattle.proto_lower.proofs.names.oneof_name.Goals as goal
@@ -13,6 +15,6 @@ returns-clause-value c = if_ok c.first_free.result c.first_free.ensures
 
 pub returns-clause-free : goal.returns-clause-free
 returns-clause-free c = if_ok c.first_free.result c.first_free.ensures (λ name by_set.
-    ap (is_among _) (found_by_set _ c.in_ok-set.set _ _ c.args.field.now (string_bytes name) c.in_ok-set.ensures
+    ap (is_member bytes_eq _) (found_by_set _ c.in_ok-set.set _ _ c.args.field.now (string_bytes name) c.in_ok-set.ensures
     (sym (length-map c.args.taken.now (λ name. name.now))) c.in_ok-start.ensures by_set)
     ∙ free_is_free _ (with_underscore c.args.field.now))

@@ -6,7 +6,7 @@ use Rattle.std.proofs.lemmas.Option.{IfSome_then}
 use Rattle.proto_desc.specs.DeclaredNames.{scoped}
 use Rattle.proto_names.specs.Occurrences.{Occurrence}
 use Rattle.proto_names.specs.Packages.{IsPackageOf}
-use Rattle.proto_names.specs.Order.{AreInNameOrder, name_cmp}
+use Rattle.proto_names.specs.Order.{AreInHashOrder, name_cmp}
 use Rattle.proto_names.proofs.Ordered.{order_names}
 use Rattle.proto_names.proofs.Searching.{drop_sorted, drop_behind, none_is, run_is, start_below, start_named, start_point}
 use Rattle.proto_names.proofs.table.entries_named.Goals as goal
@@ -23,7 +23,7 @@ run_length-requires-clause-order c =
     let os = c.args.names.now in
     let sorted = order_names os c.requires.order in
     let below = start_below os (scoped c.args.scope.text.now c.args.name.now) c.in-Some.start sorted c.in-Some.ensures in
-    subst AreInNameOrder (sym c.skip-behind.ensures) (drop_sorted os c.in-Some.start (omega (arith, below)) sorted)
+    subst AreInHashOrder (sym c.skip-behind.ensures) (drop_sorted os c.in-Some.start (omega (arith, below)) sorted)
 
 pub run_length-requires-clause-behind : goal.run_length-requires-clause-behind
 run_length-requires-clause-behind c =

@@ -4,7 +4,7 @@ use Rattle.std.proofs.lemmas.List.Sorted.{length_permutation}
 use Rattle.std.proofs.lemmas.Result.{IfOk-weaker}
 use Rattle.source_folder.specs.Folder.{names_of}
 use Rattle.source_folder.specs.Ordered.{HaveTwins, paths_of}
-use Rattle.source_folder.specs.Paths.{AreRising}
+use Rattle.proto_base.specs.NameOrder.{NamesRise}
 use Rattle.source_folder.specs.declared.folder.NamedText.{NamedText}
 use Rattle.source_folder.proofs.Named.{as_many}
 use Rattle.source_folder.proofs.Neighbours.{rising}
@@ -15,8 +15,8 @@ returns-clause-order g c =
     let sorted = c.sort_by_path.new.sources.items in
     let ordered = rising sorted c.sort_by_path.ensures.order
     (λ twins. false≢true (sym c.if-have_twins.false ∙ c.have_twins.ensures.1 (subst HaveTwins (sym c.deref.ensures.value) twins))) in
-    IfOk-weaker c.read_sources.result (λ (texts : Vec NamedText Global). names_of texts.items ≡ paths_of sorted) (λ texts. AreRising (names_of texts.items))
-    (λ texts names. subst AreRising (sym names) ordered) c.read_sources.ensures.names
+    IfOk-weaker c.read_sources.result (λ (texts : Vec NamedText Global). names_of texts.items ≡ paths_of sorted) (λ texts. NamesRise (names_of texts.items))
+    (λ texts names. subst NamesRise (sym names) ordered) c.read_sources.ensures.names
 
 pub returns-clause-few : goal.returns-clause-few
 returns-clause-few g c =

@@ -1,8 +1,9 @@
-use Rattle.std.proofs.Common.{ℕ, ap, ◌∙◌, Option, Some, None, arith}
-use Rattle.std.proofs.lemmas.Grind.{common_steps}
+use Rattle.std.proofs.Common.{◌≡◌, ℕ, inl, inr, ap, ◌∙◌, subst, List, length, take, Option, Some, None, arith}
+use Rattle.std.proofs.Math.Seq.{take-length}
 use Rattle.std.proofs.lemmas.Option.{slice_get-get_or}
 use Rattle.share_work.specs.Marks.{MarkSeatValue}
-use Rattle.first_reach.proofs.Marks.{marks_root, marks_none}
+use Rattle.first_reach.proofs.Marks.{HasMarked, marks_root, marks_none}
+use Rattle.first_reach.proofs.marking.MarkingWorkOptionUsize.piece.Given as given
 use Rattle.first_reach.proofs.marking.MarkingWorkOptionUsize.piece.Goals as goal
 use Rattle.first_reach.proofs.marking.MarkingWorkOptionUsize.piece.Goals.{in-Some, in_default}
 
@@ -29,8 +30,20 @@ loop-k-preserved g c =
           )
     ]
 
+-- the seat has the marks of all items
+all_marked : (g : given.Over) (c : goal.After-loop-k g)
+    → HasMarked (g.F.Reach.list c.args.self.now.table.now.reach) c.args.first c.args.items.now c.args.seat.now c.loop-k.seat
+all_marked g c =
+    let items = c.args.items.now in
+    let all : take c.loop-k.k items ≡ items = ap (λ k. take k items) (let e : c.loop-k.k ≡ length items = omega arith in e) ∙ take-length items in
+    subst (λ (xs : List (Option ℕ)). HasMarked (g.F.Reach.list c.args.self.now.table.now.reach) c.args.first xs c.args.seat.now c.loop-k.seat) all
+    c.loop-k.invariant.2
+
+pub returns-clause-kept : goal.returns-clause-kept
+returns-clause-kept g c = λ x n h. (all_marked g c x n).1 (inl h)
+
 pub returns-clause-within : goal.returns-clause-within
-returns-clause-within g c = grind (arith, common_steps)
+returns-clause-within g c = λ x n h. (all_marked g c x n).0 h
 
 pub returns-clause-gained : goal.returns-clause-gained
-returns-clause-gained g c = grind (arith, common_steps)
+returns-clause-gained g c = λ x n a. (all_marked g c x n).1 (inr a)

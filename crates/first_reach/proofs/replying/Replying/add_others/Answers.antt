@@ -2,7 +2,7 @@ use Rattle.std.proofs.Common.{◌≡◌, ℕ, ◌≤◌, ◌++◌, inl, inr, Som
 use Rattle.std.proofs.lemmas.Option.{slice_get_within}
 use Rattle.std.proofs.Math.Seq.{take-length}
 use Rattle.first_reach.specs.Reply.{others_at}
-use Rattle.first_reach.proofs.Lists.{none_past, reaches_at}
+use Rattle.first_reach.proofs.Lists.{none_past, contains_at}
 use Rattle.first_reach.proofs.Others.{others_put, others_skip}
 use Rattle.first_reach.proofs.replying.Replying.add_others.Goals as goal
 use Rattle.first_reach.proofs.replying.Replying.add_others.Goals.{then-file-root+then-get-position+in_ok-push, else-file-root, else-file-root-via-then-file-root+else-get-position, else-file-root-via-else-file-root}
@@ -12,7 +12,7 @@ get-requires g c =
     let reach = c.args.self.now.reach.now in
     let at : slice_get (g.F.Reach.list reach c.args.root) c.loop-file.k ≡ Some c.in-Some.file = sym c.reached.ensures ∙ c.in-Some.is in
     let inside = g.met.F.Reach.within reach c.args.root c.in-Some.file c.requires.root
-    (reaches_at (g.F.Reach.list reach) c.args.root c.loop-file.k c.in-Some.file at) in
+    (contains_at (g.F.Reach.list reach c.args.root) c.loop-file.k c.in-Some.file at) in
     omega (arith, inside)
 
 pub loop-file-smaller : goal.loop-file-smaller

@@ -13,7 +13,7 @@ returns-in-Err-At-clause-first c limits sources files described =
     let place = c.in-Err-At.place in
     let what = c.in-Err-At.kind in
     let bad = c.in-Err-At.ensures.bad at place what (ap Err c.in-Err-At.field-0-is) in
-    let below = bad_inside descs at place what bad.bad in
+    let below = bad_inside descs at place what bad.among in
     let name = desc_name descs at c.index-descs-at.result below ∙ sym c.as_str-file.ensures in
     told (IsLeastFault limits sources) (of_file 2 _ place what) c.refusal.result c.refusal.ensures
     (subst (λ (n : List ℕ). IsLeastFault limits sources (of_file 2 n place what)) name

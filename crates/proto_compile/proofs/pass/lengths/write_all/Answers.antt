@@ -8,7 +8,7 @@ use Rattle.proto_desc.specs.declared.file.FileDesc.{FileDesc}
 use Rattle.wire_bytes.specs.Descriptor.{file_desc_bytes}
 use Rattle.proto_compile.specs.Compilation.{IsShort}
 use Rattle.proto_compile.specs.FaultSet.{IsLeastFault}
-use Rattle.proto_compile.specs.Outcomes.{IsFirstBad, IsWrittenShort}
+use Rattle.proto_compile.specs.Outcomes.{IsFirstFound, IsWrittenShort}
 use Rattle.proto_compile.specs.Steps.{items_of}
 use Rattle.proto_compile.proofs.Judging.{all_of_gives, gives_well, err_tells, ok_map}
 use Rattle.proto_compile.proofs.LeastFault.{first_long}
@@ -46,7 +46,7 @@ returns g c =
           (λ all is. (written all is).0) c.judge.ensures.well;
       short = ok_map well (λ all. All (IsShort limits) descs) c.judge.result (λ all is. (written all is).1)
           c.judge.ensures.well;
-      first = λ sources links index resolved. err_tells (IsFirstBad 5 files outcomes) (IsLeastFault limits sources)
+      first = λ sources links index resolved. err_tells (IsFirstFound 5 files outcomes) (IsLeastFault limits sources)
           c.judge.result (first_long limits sources files descs links index outcomes resolved given)
           c.judge.ensures.first;
     }

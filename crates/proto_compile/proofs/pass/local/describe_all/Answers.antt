@@ -5,7 +5,7 @@ use Rattle.std.specs.declared.alloc.Global.{Global}
 use Rattle.proto_desc.specs.declared.file.FileDesc.{FileDesc}
 use Rattle.proto_compile.specs.Descriptions.{SourceDescribes}
 use Rattle.proto_compile.specs.FaultSet.{IsLeastFault}
-use Rattle.proto_compile.specs.Outcomes.{IsDescribed, IsFirstBad}
+use Rattle.proto_compile.specs.Outcomes.{IsDescribed, IsFirstFound}
 use Rattle.proto_compile.proofs.Judging.{all_of_gives, gives_well, err_tells, ok_map}
 use Rattle.proto_compile.proofs.LeastFault.{first_local}
 use Rattle.proto_compile.proofs.pass.local.describe_all.Goals as goal
@@ -28,5 +28,5 @@ returns-clause-first g c sources few order =
     let limits = c.args.limits.now in
     let files = c.args.files.now in
     let outcomes = c.in_ok-outcomes.outcomes.items in
-    err_tells (IsFirstBad 1 files outcomes) (IsLeastFault limits sources) c.judge.result
+    err_tells (IsFirstFound 1 files outcomes) (IsLeastFault limits sources) c.judge.result
     (first_local limits sources files outcomes few order c.in_ok-outcomes.ensures) c.judge.ensures.first

@@ -6,7 +6,7 @@ use Rattle.proto_links.specs.Linked.{Linked}
 use Rattle.proto_names.specs.Index.{Index}
 use Rattle.proto_compile.specs.Analysed.{AllZipFrom, AreTypedFrom}
 use Rattle.proto_compile.specs.FaultSet.{IsLeastFault}
-use Rattle.proto_compile.specs.Outcomes.{IsFirstBad, IsResolved, IsTypedWhole}
+use Rattle.proto_compile.specs.Outcomes.{IsFirstFound, IsResolved, IsTypedWhole}
 use Rattle.proto_compile.proofs.Judging.{gives_well, tells_more}
 use Rattle.proto_compile.proofs.LeastFault.{first_break}
 use Rattle.proto_compile.proofs.pass.types.resolve_all.Goals as goal
@@ -27,7 +27,7 @@ returns-in_err-types-clause-first g c limits sources analysed =
     let files = c.args.files.now in
     let outcomes = c.in_ok-outcomes.outcomes.items in
     let given = rw c.as_slice.ensures.value at c.in_ok-outcomes.ensures in
-    let refused = tells_more (IsFirstBad 4 files outcomes) (IsLeastFault limits sources)
+    let refused = tells_more (IsFirstFound 4 files outcomes) (IsLeastFault limits sources)
     (first_break limits sources files c.args.descs.items c.args.links.now c.args.index.now outcomes analysed given)
     c.in_err-types.field-0.0 c.in_err-types.ensures.first in
     search (rules, refused)

@@ -1,5 +1,5 @@
-use Rattle.std.proofs.Common.{◌≡◌, ◌∙◌, ◌+◌, ◌++◌, ◌<◌, List, ℕ, [], Err, ap, append-nil, arith, get_or, length, subst, sym, take}
-use Rattle.std.specs.Prelude.{Contains, drop, flat_map, Result}
+use Rattle.std.proofs.Common.{◌≡◌, ◌∙◌, ◌+◌, ◌++◌, List, ℕ, [], Err, ap, append-nil, arith, get_or, subst, sym, take}
+use Rattle.std.specs.Prelude.{Contains, drop, flat_map}
 use Rattle.std.proofs.lemmas.List.{take_all}
 use Rattle.proto_compile.specs.Compilation.{bytes_at, set_of}
 use Rattle.wire_format.specs.Field.{bytes_field}
