@@ -133,7 +133,7 @@ later_short xs R at short = least_none (Later xs R at) (λ x v. none_later (leng
 -- a fault that is known
 pub least_known : (o : Option Spot) → IsLeast (λ x. o ≡ Some x) o
 least_known None = least_none (λ x. None ≡ Some x) (λ x e. cc)
-least_known (Some s) = record { found = refl; least = λ x e. let same : s ≡ x = cc in subst (AtMost s) same (at_most_itself s) }
+least_known (Some s) = record { among = refl; least = λ x e. let same : s ≡ x = cc in subst (AtMost s) same (at_most_itself s) }
 
 pub if_ok : {T E : Type 0} {P Q : T → Type 0} (r : Result T E) → IfOk r P → ((x : T) → P x → Q x) → IfOk r Q
 if_ok (Ok x) fact turn = turn x fact

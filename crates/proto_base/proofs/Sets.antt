@@ -17,33 +17,53 @@ use Rattle.proto_base.specs.Lesser.{IsLesser}
 use Rattle.proto_base.specs.Sets.{StandsAt, Each, Later, Where}
 
 pub least_none : (S : Spot → Type 0) → ((x : Spot) → S x → ⊥) → IsLeast S None
-least_none S h = record { found = tt; least = h }
-
-least_found : (S : Spot → Type 0) (a r : Option Spot) → r ≡ a → IfSome a S → IfSome r S
-least_found S a r e h = rw e h
-
-pub some_on : (S U : Spot → Type 0) (a : Option Spot) → ((x : Spot) → S x → U x) → IfSome a S → IfSome a U
-some_on S U None f h = tt
-some_on S U (Some x) f h = f x h
-
--- U is the union of S and T
-pub least_or : (S T U : Spot → Type 0) (a b r : Option Spot) → ((x : Spot) → U x → S x ⊎ T x) → ((x : Spot) → S x → U x) → ((x : Spot) → T x → U x)
-    → IsLeast S a → IsLeast T b → IsLesser a b r → IsLeast U r
-least_or S T U a b r split left right p q w = record {
-  found = elim w.one [ inl e ↦ least_found U a r e (some_on S U a left p.found) | inr e ↦ least_found U b r e (some_on T U b right q.found) ];
-  least = λ x u. elim (split x u) [ inl s ↦ w.left x (p.least x s) | inr t ↦ w.right x (q.least x t) ];
-}
-
--- two sets with the same elements
-pub least_same : (S U : Spot → Type 0) (a : Option Spot) → ((x : Spot) → U x → S x) → ((x : Spot) → S x → U x) → IsLeast S a → IsLeast U a
-least_same S U a back on p = record { found = some_on S U a on p.found; least = λ x u. p.least x (back x u) }
+least_none S h = h
 
 pub at_most_itself : (a : Spot) → AtMost a a
 at_most_itself a = inr (refl, omega arith)
 
+at_most_on : (a b c : Spot) → AtMost a b → AtMost b c → AtMost a c
+at_most_on a b c (inl h) (inl k) = inl (omega (arith, h, k))
+at_most_on a b c (inl h) (inr k) = inl (omega (arith, h, k.0))
+at_most_on a b c (inr h) (inl k) = inl (omega (arith, h.0, k))
+at_most_on a b c (inr h) (inr k) = inr (h.0 ∙ k.0, omega (arith, h.1, k.1))
+
+-- what is least of a set with an element
+least_among : (S : Spot → Type 0) (a : Option Spot) (c : Spot) → IsLeast S a → a ≡ Some c → S c
+least_among S a c p e = (let q : IsLeast S (Some c) = subst (IsLeast S) e p in q.among)
+
+-- what comes no later than the least comes no later than each
+least_after : (S : Spot → Type 0) (a : Option Spot) (c x : Spot) → IsLeast S a → ((y : Spot) → a ≡ Some y → AtMost c y) → S x → AtMost c x
+least_after S None c x p h s = absurd (p x s)
+least_after S (Some y) c x p h s = at_most_on c y x (h y refl) (p.least x s)
+
+least_no : (S : Spot → Type 0) (a : Option Spot) (x : Spot) → IsLeast S a → ((y : Spot) → a ≡ Some y → ⊥) → S x → ⊥
+least_no S None x p h s = p x s
+least_no S (Some y) x p h s = h y refl
+
+-- U is the union of S and T
+pub least_or : (S T U : Spot → Type 0) (a b r : Option Spot) → ((x : Spot) → U x → S x ⊎ T x) → ((x : Spot) → S x → U x) → ((x : Spot) → T x → U x)
+    → IsLeast S a → IsLeast T b → IsLesser a b r → IsLeast U r
+least_or S T U a b None split left right p q w = λ x u. elim (split x u) [
+  | inl s ↦ least_no S a x p (λ y e. w y (inl e)) s
+  | inr t ↦ least_no T b x q (λ y e. w y (inr e)) t
+]
+least_or S T U a b (Some c) split left right p q w = record {
+  among = elim w.among [ inl e ↦ left c (least_among S a c p e) | inr e ↦ right c (least_among T b c q e) ];
+  least = λ x u. elim (split x u) [
+    | inl s ↦ least_after S a c x p (λ y e. w.least y (inl e)) s
+    | inr t ↦ least_after T b c x q (λ y e. w.least y (inr e)) t
+  ];
+}
+
+-- two sets with the same elements
+pub least_same : (S U : Spot → Type 0) (a : Option Spot) → ((x : Spot) → U x → S x) → ((x : Spot) → S x → U x) → IsLeast S a → IsLeast U a
+least_same S U None back on p = λ x u. p x (back x u)
+least_same S U (Some a) back on p = record { among = on a p.among; least = λ x u. p.least x (back x u) }
+
 -- the least of one fault
 pub least_one : (s : Spot) → IsLeast (λ x. x ≡ s) (Some s)
-least_one s = record { found = refl; least = λ x e. subst (AtMost s) (sym e) (at_most_itself s) }
+least_one s = record { among = refl; least = λ x e. subst (AtMost s) (sym e) (at_most_itself s) }
 
 -- what the first n elements break
 abbrev pub EachTo : {X : Type 0} → List X → ℕ → (X → Spot → Type 0) → Spot → Type 0
@@ -217,10 +237,14 @@ pub item_at : {X : Type 0} (xs : List X) (n : ℕ) (d : X) → n < length xs →
 item_at xs n d h = (h, get_or_default xs n (get_or xs n d) d h)
 
 pub least_hit : (P : Type 0) (s : Spot) → P → IsLeast (Where P s) (Some s)
-least_hit P s p = record { found = (p, refl); least = λ x w. subst (AtMost s) (sym w.1) (at_most_itself s) }
+least_hit P s p = record { among = (p, refl); least = λ x w. subst (AtMost s) (sym w.1) (at_most_itself s) }
 
 pub least_miss : (P : Type 0) (s : Spot) → (P → ⊥) → IsLeast (Where P s) None
 least_miss P s h = least_none (Where P s) (λ x w. h w.0)
 
 pub lesser_none : (p : Option Spot) → IsLesser p None p
-lesser_none p = record { one = inl refl; left = λ x h. h; right = λ x h. absurd h }
+lesser_none None = λ x w. elim w [ inl e ↦ absurd (cc) | inr e ↦ absurd (cc) ]
+lesser_none (Some s) = record {
+  among = inl refl;
+  least = λ x w. elim w [ inl e ↦ (let same : s ≡ x = cc in subst (AtMost s) same (at_most_itself s)) | inr e ↦ absurd (cc) ];
+}

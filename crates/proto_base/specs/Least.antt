@@ -1,5 +1,5 @@
 -- The least of a set by an order, and that of a set of spots: of places with what is wrong there.
-use Rattle.std.specs.Prelude.{◌≡◌, ◌<◌, ◌≤◌, ◌⊎◌, Option, Some, None, IfSome}
+use Rattle.std.specs.Prelude.{◌≡◌, ◌<◌, ◌≤◌, ◌⊎◌, Option, Some, None}
 use Rattle.proto_base.specs.Kind.{number_of}
 use Rattle.proto_base.specs.declared.kind.Kind.{Kind}
 use Rattle.proto_base.specs.declared.place.Place.{Place}
@@ -18,12 +18,7 @@ abbrev pub AtMost : Spot → Spot → Type 0
 AtMost a b =
     (a.place.offset < b.place.offset) ⊎ ((a.place.offset ≡ b.place.offset) × (number_of a.kind ≤ number_of b.kind))
 
--- there is one, and it comes no later than x
-abbrev pub Bounds : Option Spot → Spot → Type 0
-Bounds None x = ⊥
-Bounds (Some a) x = AtMost a x
-
 -- the least of a set, None only where it is empty
-pub record IsLeast (S : Spot → Type 0) (first : Option Spot) : Type 0 where
-  pub found : IfSome first S
-  pub least : (x : Spot) → S x → Bounds first x
+abbrev pub IsLeast : (Spot → Type 0) → Option Spot → Type 0
+IsLeast S None = (x : Spot) → S x → ⊥
+IsLeast S (Some first) = IsLeastBy AtMost S first

@@ -1,10 +1,8 @@
 -- The lesser of two spots.
-use Rattle.std.specs.Prelude.{◌≡◌, ◌⊎◌, Option}
+use Rattle.std.specs.Prelude.{◌≡◌, ◌⊎◌, Option, Some}
 use Rattle.proto_base.specs.declared.spot.Spot.{Spot}
-use Rattle.proto_base.specs.Least.{Bounds}
+use Rattle.proto_base.specs.Least.{IsLeast}
 
--- the lesser of two, where there are any
-pub record IsLesser (a b first : Option Spot) : Type 0 where
-  pub one : (first ≡ a) ⊎ (first ≡ b)
-  pub left : (x : Spot) → Bounds a x → Bounds first x
-  pub right : (x : Spot) → Bounds b x → Bounds first x
+-- the least of two, where there are any
+abbrev pub IsLesser : (a b first : Option Spot) → Type 0
+IsLesser a b = IsLeast (λ x. (a ≡ Some x) ⊎ (b ≡ Some x))

@@ -13,7 +13,7 @@ use Rattle.proto_desc.specs.Places.{places_of}
 use Rattle.proto_base.specs.Sets.{StandsAt}
 use Rattle.proto_desc.specs.declared.file.FileDesc.{FileDesc}
 use Rattle.proto_desc.specs.declared.file.ImportDesc.{ImportDesc}
-use Rattle.proto_file.specs.Places.{AtMost}
+use Rattle.proto_file.specs.Places.{AllWithin}
 use Rattle.proto_links.specs.Imports as imports
 use Rattle.proto_base.specs.Least.{spot}
 use Rattle.proto_base.specs.declared.spot.Spot.{Spot}
@@ -50,7 +50,7 @@ described_at limits (s ∷ files) (d ∷ descs) all (suc a) desc at =
 
 -- wherever the descriptor's places lie, this one does
 abbrev LiesWith : FileDesc → Place → Type 0
-LiesWith desc place = (n : ℕ) → AtMost n (places_of desc) → Placed n place
+LiesWith desc place = (n : ℕ) → AllWithin n (places_of desc) → Placed n place
 
 -- ---- imports
 
@@ -82,7 +82,7 @@ occurrence_in first (d ∷ descs) o here =
     ]
 
 occurrence_at : (n file : ℕ) (desc : FileDesc) (o : Occurrence) → Contains (occurrences_of file desc) o
-    → AtMost n (places_of desc) → OccurrenceAt (upto n) file o
+    → AllWithin n (places_of desc) → OccurrenceAt (upto n) file o
 occurrence_at n file desc o (j, below, there) all =
     standing (OccurrenceAt (upto n) file) (occurrences_of file desc) j o (occurrences_at (upto n) file desc all)
     (below, there)

@@ -33,7 +33,7 @@ use Rattle.proto_desc.specs.declared.oneof.OneofDesc.{OneofDesc}
 use Rattle.proto_desc.specs.declared.rules.Element.TheVariants as element
 use Rattle.proto_desc.specs.declared.service.MethodDesc.{MethodDesc}
 use Rattle.proto_desc.specs.declared.service.ServiceDesc.{ServiceDesc}
-use Rattle.proto_file.specs.Places.{AtMost}
+use Rattle.proto_file.specs.Places.{AllWithin}
 use Rattle.proto_file.proofs.PlacesWithin.{Within, prefix, rest, both, left_of, right_of, each_given, each_map, each_place, each_places, each_row, each_weaker, upto, EnumWithin, ItemWithin, StatementWithin, places_out, lowered_within}
 use Rattle.proto_checks.specs.Checks.{FileBreaks, import_mark, IsTooLong, IsPartTooLong, PackageTooLong, parts_of, json_mark, field_mark, value_mark, EnumNamesBreak, MessageNames, MessageNamesBreak, names_of}
 use Rattle.proto_checks.specs.Elements.{BodyBreaks, MessageBreaks, EnumBreaks, ServiceBreaks, bodies, bodies_of}
@@ -139,19 +139,19 @@ record OwnAt (n : ℕ) (m : MessageDesc-F MessageDesc) : Type 0 where
   fields : AllByRecursion (λ (f : FieldDesc). Placed n f.place) m.fields
   oneofs : AllByRecursion (λ (o : OneofDesc). Placed n o.place) m.oneofs
   enums : AllByRecursion (EnumWithin (upto n)) m.enums
-  nested : AtMost n (flat_map message_places m.nested)
+  nested : AllWithin n (flat_map message_places m.nested)
 
 abbrev own_places : MessageDesc-F MessageDesc → List ℕ
 own_places m = m.place.offset ∷ (flat_map field_places m.fields ++ map oneof_place m.oneofs ++ flat_map enum_places m.enums ++ flat_map message_places m.nested)
 
-own_at : (n : ℕ) (m : MessageDesc-F MessageDesc) → AtMost n (own_places m) → OwnAt n m
+own_at : (n : ℕ) (m : MessageDesc-F MessageDesc) → AllWithin n (own_places m) → OwnAt n m
 own_at n m all =
     let upto_enums = prefix (λ p. p ≤ n) (flat_map field_places m.fields ++ map oneof_place m.oneofs ++ flat_map enum_places m.enums)
     (flat_map message_places m.nested) all.1 in
     let upto_oneofs = prefix (λ p. p ≤ n) (flat_map field_places m.fields ++ map oneof_place m.oneofs) (flat_map enum_places m.enums) upto_enums in
     record {
       place = all.0;
-      fields = each_weaker (λ f. AtMost n (field_places f)) (λ (f : FieldDesc). Placed n f.place) m.fields (λ f w. w.0)
+      fields = each_weaker (λ f. AllWithin n (field_places f)) (λ (f : FieldDesc). Placed n f.place) m.fields (λ f w. w.0)
           (each_places (upto n) field_places m.fields (prefix (λ p. p ≤ n) (flat_map field_places m.fields) (map oneof_place m.oneofs) upto_oneofs));
       oneofs = each_place (upto n) oneof_place m.oneofs (rest (λ p. p ≤ n) (flat_map field_places m.fields) (map oneof_place m.oneofs) upto_oneofs);
       enums = each_places (upto n) enum_places m.enums
@@ -163,7 +163,7 @@ own_at n m all =
 
 -- the names of a message and what it declares, by induction on descriptors
 abbrev DescAt : ℕ → MessageDesc → Type 0
-DescAt n m = AtMost n (message_places m) → AllByRecursion (NamesAt n) (names_of m) × ((scope : List ℕ) → DeclaredAt n (declared_by_message m scope))
+DescAt n m = AllWithin n (message_places m) → AllByRecursion (NamesAt n) (names_of m) × ((scope : List ℕ) → DeclaredAt n (declared_by_message m scope))
 
 abbrev declared_own : List ℕ → MessageDesc-F MessageDesc → List Declared
 declared_own scope m =
@@ -175,14 +175,14 @@ declared_own scope m =
 abbrev Known : ℕ → Type 0
 Known n = (m : MessageDesc) × DescAt n m
 
-nested_names : (n : ℕ) (xs : List (Known n)) → AtMost n (flat_map message_places (map (λ e. e.0) xs))
+nested_names : (n : ℕ) (xs : List (Known n)) → AllWithin n (flat_map message_places (map (λ e. e.0) xs))
     → AllByRecursion (NamesAt n) (flat_map names_of (map (λ e. e.0) xs))
 nested_names n [] all = tt
 nested_names n (x ∷ xs) all = both (NamesAt n) (names_of x.0) (flat_map names_of (map (λ e. e.0) xs))
     (x.1 (prefix (λ p. p ≤ n) (message_places x.0) (flat_map message_places (map (λ e. e.0) xs)) all)).0
     (nested_names n xs (rest (λ p. p ≤ n) (message_places x.0) (flat_map message_places (map (λ e. e.0) xs)) all))
 
-nested_declared : (n : ℕ) (scope : List ℕ) (xs : List (Known n)) → AtMost n (flat_map message_places (map (λ e. e.0) xs))
+nested_declared : (n : ℕ) (scope : List ℕ) (xs : List (Known n)) → AllWithin n (flat_map message_places (map (λ e. e.0) xs))
     → DeclaredAt n (flat_map (λ m. declared_by_message m scope) (map (λ e. e.0) xs))
 nested_declared n scope [] all = tt
 nested_declared n scope (x ∷ xs) all = both (λ (d : Declared). Placed n d.place) (declared_by_message x.0 scope)
@@ -207,8 +207,8 @@ desc_step : (n : ℕ) (x : MessageDesc-F MessageDesc) (y : MessageDesc-F (Known 
 desc_step n x y e = subst (λ z. DescAt n (roll-MessageDesc z)) e (λ all.
     let own : OwnAt n (map-MessageDesc (Known n) MessageDesc (λ e. e.0) y) =
     own_at n (map-MessageDesc (Known n) MessageDesc (λ e. e.0) y)
-    (subst (λ m. AtMost n (own_places m)) (out-roll-MessageDesc (map-MessageDesc (Known n) MessageDesc (λ e. e.0) y))
-    (subst (AtMost n) (places_out (roll-MessageDesc (map-MessageDesc (Known n) MessageDesc (λ e. e.0) y))) all)) in (
+    (subst (λ m. AllWithin n (own_places m)) (out-roll-MessageDesc (map-MessageDesc (Known n) MessageDesc (λ e. e.0) y))
+    (subst (AllWithin n) (places_out (roll-MessageDesc (map-MessageDesc (Known n) MessageDesc (λ e. e.0) y))) all)) in (
       subst (AllByRecursion (NamesAt n)) (sym (names_out (roll-MessageDesc (map-MessageDesc (Known n) MessageDesc (λ e. e.0) y))
           ∙ ap (λ (m : MessageDesc-F MessageDesc). record { fields = m.fields; reserved_names = m.reserved_names; enums = m.enums }
           ∷ flat_map names_of m.nested) (out-roll-MessageDesc (map-MessageDesc (Known n) MessageDesc (λ e. e.0) y))))
@@ -221,11 +221,11 @@ desc_step n x y e = subst (λ z. DescAt n (roll-MessageDesc z)) e (λ all.
 desc_at : (n : ℕ) (m : MessageDesc) → DescAt n m
 desc_at n = ind-MessageDesc (DescAt n) (desc_step n)
 
-service_declares : (n : ℕ) (scope : List ℕ) (s : ServiceDesc) → AtMost n (service_places s) → DeclaredAt n (declared_by_service scope s)
+service_declares : (n : ℕ) (scope : List ℕ) (s : ServiceDesc) → AllWithin n (service_places s) → DeclaredAt n (declared_by_service scope s)
 service_declares n scope s all = (
   all.0,
   each_map (λ (d : Declared). Placed n d.place) (declared_method (scoped scope s.name)) s.methods
-      (each_weaker (λ m. AtMost n (method_places m)) (λ (m : MethodDesc). Placed n m.place) s.methods (λ m w. w.0)
+      (each_weaker (λ m. AllWithin n (method_places m)) (λ (m : MethodDesc). Placed n m.place) s.methods (λ m w. w.0)
       (each_places (upto n) method_places s.methods all.1)),
 )
 
@@ -265,12 +265,12 @@ package_long n limits x p all (PackageTooLong.whole b) = at_spot n p.name.first.
 
 -- what the descriptor's places give
 record DescPlaces (n : ℕ) (d : FileDesc) : Type 0 where
-  imports : AtMost n (map import_place d.imports)
-  messages : AtMost n (flat_map message_places d.messages)
-  enums : AtMost n (flat_map enum_places d.enums)
-  services : AtMost n (flat_map service_places d.services)
+  imports : AllWithin n (map import_place d.imports)
+  messages : AllWithin n (flat_map message_places d.messages)
+  enums : AllWithin n (flat_map enum_places d.enums)
+  services : AllWithin n (flat_map service_places d.services)
 
-desc_places : (n : ℕ) (d : FileDesc) → AtMost n (places_of d) → DescPlaces n d
+desc_places : (n : ℕ) (d : FileDesc) → AllWithin n (places_of d) → DescPlaces n d
 desc_places n d all =
     let upto_enums = prefix (λ p. p ≤ n) (package_places d.«package» ++ map import_place d.imports ++ flat_map message_places d.messages
     ++ flat_map enum_places d.enums) (flat_map service_places d.services) all in
@@ -288,11 +288,11 @@ desc_places n d all =
 
 declared_at : (n : ℕ) (d : FileDesc) → DescPlaces n d → DeclaredAt n (declared_by d)
 declared_at n d at =
-    let messages = each_given (λ m. AtMost n (message_places m)) (λ (x : Declared). Placed n x.place) (λ m. declared_by_message m (file_scope d.«package»))
+    let messages = each_given (λ m. AllWithin n (message_places m)) (λ (x : Declared). Placed n x.place) (λ m. declared_by_message m (file_scope d.«package»))
     d.messages (λ m w. (desc_at n m w).1 (file_scope d.«package»)) (each_places (upto n) message_places d.messages at.messages) in
     let enums = each_given (EnumWithin (upto n)) (λ (x : Declared). Placed n x.place) (declared_by_enum (file_scope d.«package»)) d.enums
     (enum_declares n (file_scope d.«package»)) (each_places (upto n) enum_places d.enums at.enums) in
-    let services = each_given (λ s. AtMost n (service_places s)) (λ (x : Declared). Placed n x.place) (declared_by_service (file_scope d.«package»)) d.services
+    let services = each_given (λ s. AllWithin n (service_places s)) (λ (x : Declared). Placed n x.place) (declared_by_service (file_scope d.«package»)) d.services
     (service_declares n (file_scope d.«package»)) (each_places (upto n) service_places d.services at.services) in
     both (λ (x : Declared). Placed n x.place) _ _ (both (λ (x : Declared). Placed n x.place) _ _ messages enums) services
 
@@ -317,7 +317,7 @@ breaks_within n limits name tree x all broken = elim broken [
       (each_given (StatementWithin (upto n)) (λ t. Within (upto n) (service_tree t)) file_service tree.statements
       (file_service_within n) ss) (service_breaks n x) b
   | FileBreaks.message_names b ↦ each_within (NamesAt n) MessageNamesBreak n (flat_map names_of (lowered name tree).messages) x
-      (each_given (λ m. AtMost n (message_places m)) (NamesAt n) names_of (lowered name tree).messages (λ m w. (desc_at n m w).0)
+      (each_given (λ m. AllWithin n (message_places m)) (NamesAt n) names_of (lowered name tree).messages (λ m w. (desc_at n m w).0)
       (each_places (upto n) message_places (lowered name tree).messages desc.messages)) (names_break n x) b
   | FileBreaks.enum_names b ↦ each_within (EnumWithin (upto n)) EnumNamesBreak n (lowered name tree).enums x
       (each_places (upto n) enum_places (lowered name tree).enums desc.enums) (enum_names_break n x) b

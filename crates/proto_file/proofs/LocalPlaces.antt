@@ -17,11 +17,12 @@ use Rattle.proto_syntax.specs.Trees.{file_tree, row, statement_tree, syntax_tree
 use Rattle.proto_tree.specs.declared.file.FileTree.{FileTree}
 use Rattle.proto_desc.specs.Places.{places_of}
 use Rattle.proto_desc.specs.declared.file.FileDesc.{FileDesc}
-use Rattle.proto_file.specs.Places.{AtMost}
+use Rattle.proto_file.specs.Places.{AllWithin}
 use Rattle.proto_file.proofs.PlacesWithin.{BeginWithin, Within, lowered_within, right_of, upto}
 use Rattle.proto_base.specs.Least.{spot}
 use Rattle.proto_file.proofs.FileWithin.{breaks_within}
-use Rattle.proto_file.specs.Local.{Describes, IsFile, IsLocalFault, of_tokens, of_grammar, of_checks, place_of_token}
+use Rattle.proto_file.specs.Local.{Describes, IsFile, IsLocalFault, of_tokens, of_grammar, of_checks}
+use Rattle.proto_syntax.specs.Told.{place_of_token}
 
 -- ---- tokens
 
@@ -97,12 +98,12 @@ fault_inside limits name text step place kind (of_grammar at_step (ts, k, is, fa
     let within : place.offset ≤ length text = subst (λ p. p ≤ length text) (sym at) (token_begins (length text) ts k (tokens_begin _ text ts is)) in
     record { within = within; short = omega (arith, within, is.short) }
 fault_inside limits name text step place kind (of_checks at_step (file, is, least)) =
-    inside_file limits text file place is (breaks_within (length text) limits name file (spot place kind) (tree_begins limits text file is) least.found)
+    inside_file limits text file place is (breaks_within (length text) limits name file (spot place kind) (tree_begins limits text file is) least.among)
 
 -- all places of a descriptor are those of its text
-pub places_within : (limits : Limits) (name text : List ℕ) (desc : FileDesc) → Describes limits name text desc → AtMost (length text) (places_of desc)
+pub places_within : (limits : Limits) (name text : List ℕ) (desc : FileDesc) → Describes limits name text desc → AllWithin (length text) (places_of desc)
 places_within limits name text desc (file, is, unbroken, same) =
-    subst (λ d. AtMost (length text) (places_of d)) (sym same) (lowered_within (upto (length text)) name file
+    subst (λ d. AllWithin (length text) (places_of d)) (sym same) (lowered_within (upto (length text)) name file
     (right_of (upto (length text)) (syntax_tree file.syntax) (row statement_tree file.statements) (tree_begins limits text file is)))
 
 pub place_inside : (limits : Limits) (name text : List ℕ) (desc : FileDesc) (place : Place) → Describes limits name text desc → place.offset ≤ length text

@@ -19,7 +19,8 @@ use Rattle.proto_desc.specs.declared.file.FileDesc.{FileDesc}
 use Rattle.proto_checks.specs.Checks.{FileBreaks}
 use Rattle.proto_base.specs.Least.{IsLeast, spot}
 use Rattle.proto_base.proofs.Spots.{one_spot, same_place}
-use Rattle.proto_file.specs.Local.{Describes, IsBrokenAt, IsFile, IsGrammarFault, IsLocalFault, IsUnbroken, of_tokens, of_grammar, of_checks, place_of_token}
+use Rattle.proto_file.specs.Local.{Describes, IsBrokenAt, IsFile, IsGrammarFault, IsLocalFault, IsUnbroken, of_tokens, of_grammar, of_checks}
+use Rattle.proto_syntax.specs.Told.{place_of_token}
 
 one_file : (limits : Limits) (text : List ℕ) (f g : FileTree) → IsFile limits text f → IsFile limits text g → f ≡ g
 one_file limits text f g (ts, is, tree) (us, is', tree') =
@@ -51,14 +52,14 @@ one_grammar_fault limits text p q a b (ts, j, is, fault, is_kind, at) (us, k, is
 no_broken : (limits : Limits) (name text : List ℕ) (f : FileTree) (place : Place) (kind : Kind) → IsFile limits text f → IsUnbroken limits name f
     → IsBrokenAt limits name text place kind → ⊥
 no_broken limits name text f place kind is unbroken (g, is', least) =
-    unbroken (spot place kind) (subst (λ h. FileBreaks limits h (lowered name h) (spot place kind)) (one_file limits text g f is' is) least.found)
+    unbroken (spot place kind) (subst (λ h. FileBreaks limits h (lowered name h) (spot place kind)) (one_file limits text g f is' is) least.among)
 
 one_broken : (limits : Limits) (name text : List ℕ) (p q : Place) (a b : Kind) → IsBrokenAt limits name text p a → IsBrokenAt limits name text q b
     → (p ≡ q) × (a ≡ b)
 one_broken limits name text p q a b (f, is, least) (g, is', least') =
     let other : IsLeast (FileBreaks limits f (lowered name f)) (Some (spot q b)) =
     subst (λ h. IsLeast (FileBreaks limits h (lowered name h)) (Some (spot q b))) (one_file limits text g f is' is) least' in
-    one_spot p q a b (least.least (spot q b) other.found) (other.least (spot p a) least.found)
+    one_spot p q a b (least.least (spot q b) other.among) (other.least (spot p a) least.among)
 
 -- ---- one source
 

@@ -1,6 +1,5 @@
 -- What one source is by itself.
-use Rattle.std.specs.Prelude.{◌≡◌, ℕ, List, length, slice_get, Some}
-use Rattle.std.specs.Option.{option_map, unwrap_or}
+use Rattle.std.specs.Prelude.{◌≡◌, ℕ, List, length, Some}
 use Rattle.proto_base.specs.Limits.{limit_of}
 use Rattle.proto_tokens.specs.Spelling.{IsTokenList, IsFault}
 use Rattle.proto_tokens.specs.Token.{Spelled}
@@ -9,6 +8,7 @@ use Rattle.proto_base.specs.declared.limits.Limit.TheVariants as limit
 use Rattle.proto_base.specs.declared.limits.Limits.{Limits}
 use Rattle.proto_base.specs.declared.place.Place.{Place}
 use Rattle.proto_syntax.specs.Fault.{IsTreeOf, IsFaultAt, IsKindOf}
+use Rattle.proto_syntax.specs.Told.{place_of_token}
 use Rattle.proto_syntax.specs.Trees.{file_tree}
 use Rattle.proto_tree.specs.declared.file.FileTree.{FileTree}
 use Rattle.proto_lower.specs.Files.{lowered}
@@ -30,10 +30,6 @@ IsUnbroken limits name file = (x : Spot) → FileBreaks limits file (lowered nam
 abbrev pub Describes : Limits → (name text : List ℕ) → FileDesc → Type 0
 Describes limits name text desc =
     (file : FileTree) × IsFile limits text file × IsUnbroken limits name file × (desc ≡ lowered name file)
-
--- where token k begins, or where the text ends if there is none
-abbrev pub place_of_token : List Spelled → ℕ → ℕ → ℕ
-place_of_token ts k end = unwrap_or (option_map (λ t. t.start) (slice_get ts k)) end
 
 -- the tokens of the text are no file: this is the first that cannot stand where it stands, and why
 abbrev pub IsGrammarFault : Limits → List ℕ → ℕ → Kind → Type 0

@@ -3,5 +3,5 @@ use Rattle.std.specs.Prelude.{ℕ, ◌≤◌, List}
 use Rattle.std.specs.List.{AllByRecursion}
 
 -- none of these places lies behind n
-abbrev pub AtMost : ℕ → List ℕ → Type 0
-AtMost n places = AllByRecursion (λ place. place ≤ n) places
+abbrev pub AllWithin : ℕ → List ℕ → Type 0
+AllWithin n places = AllByRecursion (λ place. place ≤ n) places

@@ -2,7 +2,7 @@
 
 ghost use Rattle.std.specs.Prelude.{◌≡◌, ◌≤◌, ℕ, List, length};
 ghost use Rattle.proto_file.specs.Local.{Describes, IsLocalFault};
-ghost use Rattle.proto_file.specs.Places.{AtMost};
+ghost use Rattle.proto_file.specs.Places.{AllWithin};
 ghost use Rattle.proto_base.specs.Limits.{limit_of};
 ghost use Rattle.proto_base.specs.declared.kind.Kind.{Kind};
 ghost use Rattle.proto_base.specs.declared.limits.Limit.TheVariants as limit;
@@ -30,5 +30,5 @@ pub fn places_lie_within()
         (kind : Kind) → IsLocalFault limits name text step place kind
         → (place.offset ≤ length text) × (place.offset ≤ limit_of limits limit.FileBytes) }
     ensures of_descriptor { (limits : Limits) (name text : List ℕ) (desc : FileDesc)
-        → Describes limits name text desc → AtMost (length text) (places_of desc) }
+        → Describes limits name text desc → AllWithin (length text) (places_of desc) }
 {}

@@ -3,7 +3,7 @@ use Rattle.std.specs.Prelude.{◌≡◌, true, false, List, map, Result, Ok, Err
 use Rattle.proto_base.specs.declared.place.Span.{Span}
 use Rattle.proto_tokens.specs.declared.token.Token.{Token}
 use Rattle.proto_tokens.specs.Token.{Spelled}
-use Rattle.proto_tokens.specs.ProgramTokens.{spelled}
+use Rattle.proto_tokens.specs.ProgramTokens.{spelled, tokens_of}
 use Rattle.proto_syntax.specs.declared.parser.stop.Stop.{Stop}
 use Rattle.proto_syntax.specs.declared.parser.stop.Stop.TheVariants as stop
 use Rattle.proto_syntax.specs.Grammar.{Grammar, ◌∣◌, Tree, Pair}
@@ -16,7 +16,7 @@ use Rattle.proto_base.specs.declared.kind.Kind.{Kind}
 use Rattle.proto_base.specs.declared.kind.Kind.TheVariants.{UnexpectedEnd, TooDeep, Unexpected}
 use Rattle.proto_syntax.specs.declared.error.ParseError.{ParseError}
 use Rattle.proto_syntax.specs.declared.error.ParseError.TheVariants.{NoMemory, At}
-use Rattle.proto_syntax.specs.Told.{place_at}
+use Rattle.proto_syntax.specs.Told.{place_of_token}
 use Rattle.proto_syntax.specs.Fault.{token_before, kind_of}
 
 abbrev pub spellings : List Token → List Spelled
@@ -52,7 +52,8 @@ kind_at ts k = kind_here (token_before ts k) (slice_get ts k)
 -- the error is for want of memory, or tells that fault
 abbrev pub TellsFault : Tokens → ℕ → Kind → ParseError → Type 0
 TellsFault tokens k kind NoMemory = Unit {0}
-TellsFault tokens k kind (At place told) = (place ≡ place_at tokens k) × (told ≡ kind)
+TellsFault tokens k kind (At place told) =
+    (place.offset ≡ place_of_token (tokens_of tokens) k tokens.end.offset) × (told ≡ kind)
 
 -- the statements of a block, and the brace that closes it
 abbrev pub body_tree : {A : Type 0} → (A → Tree) → List A → Span → Tree

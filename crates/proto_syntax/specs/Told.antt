@@ -1,22 +1,23 @@
 -- What an error of `parse` tells.
-use Rattle.std.specs.Prelude.{◌≡◌, ℕ, ◌≤◌, slice_get, All}
+use Rattle.std.specs.Prelude.{◌≡◌, ℕ, ◌≤◌, List, slice_get, All}
 use Rattle.std.specs.Option.{option_map, unwrap_or}
 use Rattle.proto_tokens.specs.ProgramTokens.{tokens_of}
-use Rattle.proto_base.specs.declared.place.Place.{Place}
+use Rattle.proto_tokens.specs.Token.{Spelled}
 use Rattle.proto_tokens.specs.declared.token.Tokens.{Tokens}
 use Rattle.proto_syntax.specs.declared.error.ParseError.{ParseError}
 use Rattle.proto_syntax.specs.declared.error.ParseError.TheVariants.{NoMemory, At}
 use Rattle.proto_syntax.specs.Fault.{IsFaultAt, IsKindOf}
 
--- where token k starts, or where the source ends
-abbrev pub place_at : Tokens → ℕ → Place
-place_at tokens k = unwrap_or (option_map (λ t. t.span.start) (slice_get tokens.items.items k)) tokens.end
+-- where token k begins, or where the text ends if there is none
+abbrev pub place_of_token : List Spelled → ℕ → ℕ → ℕ
+place_of_token ts k end = unwrap_or (option_map (λ t. t.start) (slice_get ts k)) end
 
 -- the error tells the fault of these tokens, unless memory ran out
 abbrev pub IsFaultOf : ℕ → Tokens → ParseError → Type 0
 IsFaultOf limit tokens NoMemory = Unit {0}
 IsFaultOf limit tokens (At place kind) =
-    (k : ℕ) × IsFaultAt limit (tokens_of tokens) k × IsKindOf (tokens_of tokens) k kind × (place ≡ place_at tokens k)
+    (k : ℕ) × IsFaultAt limit (tokens_of tokens) k × IsKindOf (tokens_of tokens) k kind
+    × (place.offset ≡ place_of_token (tokens_of tokens) k tokens.end.offset)
 
 -- no token begins behind n, nor does the text end there
 pub record LieWithin (n : ℕ) (tokens : Tokens) : Type 0 where

@@ -5,7 +5,6 @@ use Rattle.std.proofs.lemmas.List.Concat.{flat_map-append}
 use Rattle.std.specs.List.{AllZip}
 use Rattle.std.specs.Prelude.{Option, Some, None, flat_map}
 use Rattle.proto_base.specs.declared.spot.Spot.{Spot}
-use Rattle.proto_base.specs.Least.{Bounds}
 use Rattle.proto_base.specs.Lesser.{IsLesser}
 use Rattle.proto_base.proofs.Among.{least_append, least_nil, least_single}
 use Rattle.proto_base.proofs.Sets.{at_most_itself, lesser_none}
@@ -28,13 +27,9 @@ zip_push R [] (z ∷ ys) x y all last = absurd all
 zip_push R (z ∷ xs) [] x y all last = absurd all
 zip_push R (z ∷ xs) (w ∷ ys) x y all last = (all.0, zip_push R xs ys x y all.1 last)
 
-bounds_none : (a : Option Spot) → ((x : Spot) → Bounds a x → ⊥) → a ≡ None
-bounds_none None h = refl
-bounds_none (Some s) h = absurd (h s (at_most_itself s))
-
 -- a fault is not lost
-lesser_right : (a b r : Option Spot) → IsLesser a b r → r ≡ None → b ≡ None
-lesser_right a b r w e = bounds_none b (λ x h. let k : Bounds None x = subst (λ o. Bounds o x) e (w.right x h) in k)
+lesser_right : (a r : Option Spot) (x : Spot) → IsLesser a (Some x) r → r ≡ None → ⊥
+lesser_right a r x w e = (let none : IsLesser a (Some x) None = subst (IsLesser a (Some x)) e w in none x (inr refl))
 
 -- ---- what is found
 
@@ -63,7 +58,7 @@ module _ (os : List Occurrence) (Seen : ℕ → Type 0) where
   finds_one r (Wrong x) old new h adds before so_far = record {
     least = least_append (ReferenceBreaks os Seen) before (r ∷ []) old.fault (Some x) new.fault so_far.least
         (least_single (ReferenceBreaks os Seen) r (Some x) h) adds;
-    means = λ none. let bad : Some x ≡ None = lesser_right old.fault (Some x) new.fault adds none in absurd (cc);
+    means = λ none. absurd (lesser_right old.fault new.fault x adds none);
   }
 
   -- all that is found, where nothing was before

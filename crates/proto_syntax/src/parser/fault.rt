@@ -2,12 +2,12 @@
 
 ghost use Rattle.std.specs.Prelude.{◌≡◌};
 ghost use Rattle.std.specs.Option.{option_map};
-ghost use Rattle.proto_tokens.specs.ProgramTokens.{lexeme_of, spelled};
+ghost use Rattle.proto_tokens.specs.ProgramTokens.{lexeme_of, spelled, tokens_of};
 ghost use Rattle.proto_syntax.specs.Grammar.{OneOf, fits};
 ghost use Rattle.proto_syntax.specs.Fault as spec;
 ghost use Rattle.proto_syntax.specs.Gives as gives;
 ghost use Rattle.proto_syntax.specs.Gives.{spellings};
-ghost use Rattle.proto_syntax.specs.Told as told;
+ghost use Rattle.proto_syntax.specs.Told.{place_of_token};
 
 use crate::parser::terminal::{is_keyword, is_symbol};
 use proto_base::{Kind, Place};
@@ -80,7 +80,8 @@ pub(crate) fn kind_at(tokens: &[Token], index: usize) -> Kind
 
 /// Where the token with this index starts, or where the source ends.
 pub(crate) fn place_at(tokens: &Tokens, index: usize) -> Place
-    ensures { result ≡ told.place_at tokens.now index }
+    ensures { result.offset
+        ≡ place_of_token (tokens_of tokens.now) index tokens.now.end.offset }
 {
     match tokens.items.get(index) {
         Some(token) => token.span.start,
