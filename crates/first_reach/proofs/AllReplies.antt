@@ -7,10 +7,10 @@ use Rattle.share_work.specs.Posts.{NONE}
 use Rattle.share_work.specs.Shares.{GivesItems}
 use Rattle.share_work.proofs.Together.{get_there}
 use Rattle.first_reach.specs.declared.mode.Mode.{Mode}
-use Rattle.first_reach.specs.Carried.{has, reached, root_first, repeats, carried}
+use Rattle.first_reach.specs.Carried.{reached, root_first, repeats, carried}
 use Rattle.first_reach.specs.First.{first_reach}
 use Rattle.first_reach.specs.Reply.{reply_at, RootIsFirstToo}
-use Rattle.first_reach.proofs.Lists.{all_get, filter_on, has_is, has_root_first}
+use Rattle.first_reach.proofs.Lists.{has, all_get, filter_on, has_is, has_root_first}
 use Rattle.first_reach.proofs.Firsts.{first_spreads}
 use Rattle.first_reach.proofs.Replies.{Own, reply_is, carried_length}
 

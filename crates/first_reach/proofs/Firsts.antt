@@ -2,10 +2,10 @@
 use Rattle.std.proofs.Common.{◌≡◌, ℕ, zero, suc, ◌+◌, ◌<◌, ◌≤◌, ◌⊎◌, inl, inr, Bool, true, false, cond, Option, Some, None, List, [], ◌∷◌, length, refl, sym, ap, ◌∙◌, arith, rules, slice_get, IsTrue}
 use Rattle.share_work.specs.Posts.{NONE, least_at}
 use Rattle.share_work.proofs.Legal.{least_at-le-NONE, least_at-above, least_at-below}
-use Rattle.first_reach.specs.Carried.{has, reached}
+use Rattle.first_reach.specs.Carried.{reached}
 use Rattle.first_reach.specs.First.{first_from, first_reach}
 use Rattle.first_reach.specs.Laws.{LeastIsFirst}
-use Rattle.first_reach.proofs.Lists.{has_is}
+use Rattle.first_reach.proofs.Lists.{has, has_is}
 
 pub first_above : (reach : ℕ → List ℕ) (roots : List (Option ℕ)) (i g : ℕ) → i + length roots ≤ NONE → i ≤ first_from reach i roots g
 first_above reach [] i g top = omega arith

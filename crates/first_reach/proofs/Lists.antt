@@ -1,21 +1,26 @@
 -- Members of lists, tested by a Bool.
 use Rattle.std.proofs.Common.{◌≡◌, ℕ, inl, inr, ◌||◌, ◌&&◌, not, Bool, true, false, cond, Option, Some, None, List, [], ◌∷◌, filter, refl, sym, ap, ◌∙◌, eq-eqb, eqb-true, eqb, slice_get, length, ◌≤◌, All, subst}
+use Rattle.std.specs.Set.{is_member}
 use Rattle.std.proofs.lemmas.Bool.{or_left, or_right, or_cases}
 use Rattle.std.proofs.lemmas.Option.{slice_get_within, slice_get_cases, get_or_from_slice_get}
-use Rattle.std.specs.Prelude.{Contains, ◌↔◌, IsTrue}
+use Rattle.std.specs.Prelude.{Contains, ◌↔◌, IsTrue, ◌==◌}
 use Rattle.share_work.proofs.Sums.{none_in, front, behind, front_or_behind}
-use Rattle.first_reach.specs.Carried.{has, root_first, reached}
+use Rattle.first_reach.specs.Carried.{root_first, reached}
+
+-- the list has the file
+abbrev pub has : ℕ → List ℕ → Bool
+has g files = is_member ◌==◌ files g
 
 pub has_is : (g : ℕ) (files : List ℕ) → IsTrue (has g files) ↔ Contains files g
 has_is g [] = (λ h. let bad : false ≡ true = h in cc, λ h. absurd (none_in g h))
 has_is g (x ∷ xs) = (
-  λ h. elim (or_cases (eqb x g) (has g xs) h) [
-    | inl e ↦ subst (Contains (x ∷ xs)) (eqb-true x g e) (front x xs)
+  λ h. elim (or_cases (eqb g x) (has g xs) h) [
+    | inl e ↦ subst (Contains (x ∷ xs)) (sym (eqb-true g x e)) (front x xs)
     | inr k ↦ behind x xs g ((has_is g xs).0 k)
   ],
   λ h. elim (front_or_behind x xs g h) [
-    | inl e ↦ or_left (eqb x g) (has g xs) (eq-eqb x g e)
-    | inr k ↦ or_right (eqb x g) (has g xs) ((has_is g xs).1 k)
+    | inl e ↦ or_left (eqb g x) (has g xs) (eq-eqb g x (sym e))
+    | inr k ↦ or_right (eqb g x) (has g xs) ((has_is g xs).1 k)
   ],
 )
 
@@ -24,7 +29,7 @@ pub filter_on : (p q : ℕ → Bool) (xs : List ℕ) → ((x : ℕ) → has x xs
 filter_on p q [] h = refl
 filter_on p q (x ∷ xs) h =
     let here : p x ≡ q x = h x (ap (λ b. b || has x xs) (eq-eqb x x refl)) in
-    let rest : filter p xs ≡ filter q xs = filter_on p q xs (λ y e. h y (or_right (eqb x y) (has y xs) e)) in
+    let rest : filter p xs ≡ filter q xs = filter_on p q xs (λ y e. h y (or_right (eqb y x) (has y xs) e)) in
     λ i. cond (here i) (x ∷ rest i) (rest i)
 
 pub filter_filter : (p q : ℕ → Bool) (xs : List ℕ) → filter p (filter q xs) ≡ filter (λ x. q x && p x) xs
@@ -41,7 +46,7 @@ filter_none p xs h = filter_on p (λ _. false) xs h ∙ none xs where
   none [] = refl
   none (y ∷ ys) = none ys
 
-has_cond : (b : Bool) (x g : ℕ) (xs : List ℕ) → has g (cond b (x ∷ xs) xs) ≡ ((b && eqb x g) || has g xs)
+has_cond : (b : Bool) (x g : ℕ) (xs : List ℕ) → has g (cond b (x ∷ xs) xs) ≡ ((b && eqb g x) || has g xs)
 has_cond true x g xs = refl
 has_cond false x g xs = refl
 
@@ -60,21 +65,20 @@ bools false false false h k = refl
 pub has_filter : (p : ℕ → Bool) (g : ℕ) (xs : List ℕ) → has g (filter p xs) ≡ (has g xs && p g)
 has_filter p g [] = refl
 has_filter p g (x ∷ xs) =
-    has_cond (p x) x g (filter p xs) ∙ ap (λ b. (p x && eqb x g) || b) (has_filter p g xs)
-    ∙ bools (p x) (p g) (eqb x g) (has g xs) (λ e. ap p (eqb-true x g e))
+    has_cond (p x) x g (filter p xs) ∙ ap (λ b. (p x && eqb g x) || b) (has_filter p g xs)
+    ∙ bools (p x) (p g) (eqb g x) (has g xs) (λ e. ap p (sym (eqb-true g x e)))
 
 -- root_first has the files that the root reaches
 pub has_root_first : (reach : ℕ → List ℕ) (root : Option ℕ) → ((r : ℕ) → root ≡ Some r → has r (reach r) ≡ true) → (g : ℕ)
     → has g (root_first reach root) ≡ has g (reached reach root)
 has_root_first reach None own g = refl
 has_root_first reach (Some r) own g =
-    ap (λ b. eqb r g || b) (has_filter (λ h. not (eqb h r)) g (reach r)) ∙ pick (eqb r g) (eqb g r) (has g (reach r))
-    (λ e. ap (λ x. has x (reach r)) (sym (eqb-true r g e)) ∙ own r refl) (λ e. eq-eqb r g (sym (eqb-true g r e))) where
-      pick : (a b h : Bool) → (a ≡ true → h ≡ true) → (b ≡ true → a ≡ true) → (a || (h && not b)) ≡ h
-      pick true b h k l = sym (k refl)
-      pick false true h k l = let bad : false ≡ true = l refl in cc
-      pick false false true k l = refl
-      pick false false false k l = refl
+    ap (λ b. eqb g r || b) (has_filter (λ h. not (eqb h r)) g (reach r)) ∙ pick (eqb g r) (has g (reach r))
+    (λ e. ap (λ x. has x (reach r)) (eqb-true g r e) ∙ own r refl) where
+      pick : (a h : Bool) → (a ≡ true → h ≡ true) → (a || (h && not a)) ≡ h
+      pick true h k = sym (k refl)
+      pick false true k = refl
+      pick false false k = refl
 
 pub all_get : {X : Type 0} (P : X → Type 0) (xs : List X) (j : ℕ) (x : X) → All P xs → slice_get xs j ≡ Some x → P x
 all_get P xs j x h e = subst P (get_or_from_slice_get xs j x x e) (h j x (slice_get_within xs j x e))

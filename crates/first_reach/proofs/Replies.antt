@@ -8,10 +8,10 @@ use Rattle.std.proofs.lemmas.Option.{slice_get_within}
 use Rattle.share_work.proofs.Together.{get_there}
 use Rattle.first_reach.specs.declared.mode.Mode.{Mode}
 use Rattle.first_reach.specs.declared.mode.Mode.TheVariants.{Once, Repeat}
-use Rattle.first_reach.specs.Carried.{has, reached, root_first, repeats, carried_from, carried}
+use Rattle.first_reach.specs.Carried.{reached, root_first, repeats, carried_from, carried}
 use Rattle.first_reach.specs.First.{first_from, first_reach}
 use Rattle.first_reach.specs.Laws.{ReachThemselves, CarriesFirsts, RepeatCarriesRoots}
-use Rattle.first_reach.proofs.Lists.{filter_on, has_filter, has_is, has_root_first, all_get}
+use Rattle.first_reach.proofs.Lists.{has, filter_on, has_filter, has_is, has_root_first, all_get}
 use Rattle.first_reach.proofs.Firsts.{first_hits}
 
 -- each root reaches itself
@@ -46,7 +46,7 @@ replies_are mode reach (r ∷ roots) sent i zero root own e =
 replies_are mode reach (r ∷ roots) sent i (suc k) root own e =
     replies_are mode reach roots (sent ++ reached reach r) (i + 1) k root (λ j x is. own (suc j) x is) e
     ∙ ap (λ (l : List ℕ). Some l) (filter_on _ _ (root_first reach root) (λ g h. ap (λ b. repeats mode root g || b) (
-    ap (λ b. not b && eqb (first_from reach (i + 1) roots g) (i + 1 + k)) (list_any-append (λ y. eqb y g) sent (reached reach r))
+    ap (λ b. not b && eqb (first_from reach (i + 1) roots g) (i + 1 + k)) (list_any-append (eqb g) sent (reached reach r))
     ∙ step (has g sent) (has g (reached reach r)) i k (first_from reach (i + 1) roots g))))
 
 pub reply_is : (mode : Mode) (reach : ℕ → List ℕ) (roots : List (Option ℕ)) (i : ℕ) (root : Option ℕ) → Own reach roots → slice_get roots i ≡ Some root

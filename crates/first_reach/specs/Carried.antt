@@ -1,12 +1,8 @@
 -- Which files each reply of a stream carries, one request after another.
 use Rattle.std.specs.Prelude.{ℕ, Bool, false, not, ◌==◌, ◌||◌, Option, Some, None, List, [], ◌∷◌, ◌++◌, filter}
-use Rattle.std.specs.List.{list_any}
+use Rattle.std.specs.Set.{is_member}
 use Rattle.first_reach.specs.declared.mode.Mode.{Mode}
 use Rattle.first_reach.specs.declared.mode.Mode.TheVariants.{Once, Repeat}
-
--- whether the file is in the list, for `filter`
-abbrev pub has : ℕ → List ℕ → Bool
-has g files = list_any (λ h. h == g) files
 
 -- the files that a root reaches; none without a root
 abbrev pub reached : (ℕ → List ℕ) → Option ℕ → List ℕ
@@ -28,7 +24,7 @@ repeats Repeat (Some r) g = g == r
 abbrev pub carried_from : Mode → (ℕ → List ℕ) → List ℕ → List (Option ℕ) → List (List ℕ)
 carried_from mode reach sent [] = []
 carried_from mode reach sent (root ∷ roots) =
-    filter (λ g. repeats mode root g || not (has g sent)) (root_first reach root)
+    filter (λ g. repeats mode root g || not (is_member ◌==◌ sent g)) (root_first reach root)
     ∷ carried_from mode reach (sent ++ reached reach root) roots
 
 abbrev pub carried : Mode → (ℕ → List ℕ) → List (Option ℕ) → List (List ℕ)

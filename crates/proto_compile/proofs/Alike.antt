@@ -1,6 +1,7 @@
 -- What sources are compiled to, asked in any way.
 use Rattle.std.proofs.Common.{◌≡◌, ◌∙◌, sym, ℕ, ◌+◌, ◌<◌, List, [], ◌∷◌, length, get_or, map, ap, refl, arith, Bool, true, false, filter, cond}
-use Rattle.std.specs.Prelude.{◌↔◌, Contains, IsPermutation, IsSorted}
+use Rattle.std.specs.Set.{is_member}
+use Rattle.std.specs.Prelude.{◌↔◌, Contains, IsPermutation, IsSorted, ◌==◌}
 use Rattle.std.specs.Cmp.{nat_eq_equiv}
 use Rattle.std.specs.Cmp.Lexicographic.{slice_cmp}
 use Rattle.std.specs.List.{sum_by}
@@ -13,7 +14,6 @@ use Rattle.std.proofs.lemmas.Map.Views.{Contains-from_any, list_any-from_Contain
 use Rattle.proto_base.specs.declared.limits.Limits.{Limits}
 use Rattle.proto_desc.specs.declared.file.FileDesc.{FileDesc}
 use Rattle.proto_links.specs.Linked.{AreLinked, Linked, reach_of}
-use Rattle.proto_links.specs.Whole.{has}
 use Rattle.proto_links.proofs.Rising.{Rises}
 use Rattle.proto_links.proofs.Whole.{whole_of}
 use Rattle.proto_names.specs.Index.{Index, Indexes, is_service_kind, name_of, services_of}
@@ -72,12 +72,12 @@ one_bool true b to back = sym (to refl)
 one_bool false true to back = back refl
 one_bool false false to back = refl
 
-has_is : (g : ℕ) (xs : List ℕ) → (has g xs ≡ true) ↔ Contains xs g
+has_is : (g : ℕ) (xs : List ℕ) → (is_member ◌==◌ xs g ≡ true) ↔ Contains xs g
 has_is g xs = (λ e. Contains-from_any (λ a b h. eqb-true a b h) g xs e, λ w. list_any-from_Contains nat_eq_equiv g xs w)
 
 has_alike : (g : ℕ) (xs ys : List ℕ) → (Contains xs g → Contains ys g) → (Contains ys g → Contains xs g)
-    → has g xs ≡ has g ys
-has_alike g xs ys to back = one_bool (has g xs) (has g ys) (λ h. (has_is g ys).1 (to ((has_is g xs).0 h)))
+    → is_member ◌==◌ xs g ≡ is_member ◌==◌ ys g
+has_alike g xs ys to back = one_bool (is_member ◌==◌ xs g) (is_member ◌==◌ ys g) (λ h. (has_is g ys).1 (to ((has_is g xs).0 h)))
     (λ h. (has_is g xs).1 (back ((has_is g ys).0 h)))
 
 one_reach : (descs : List FileDesc) (links others : Linked) → AreLinked descs links → AreLinked descs others
@@ -86,9 +86,9 @@ one_reach descs links others first second order a below =
     let mine = (first.reach a below).members in
     let theirs = (second.reach a below).members in
     (whole_of descs links first).part a (omega (arith, below, first.count))
-    ∙ filter_agree (λ b. has b (reach_of links a)) (λ b. has b (reach_of others a))
+    ∙ filter_agree (is_member ◌==◌ (reach_of links a)) (is_member ◌==◌ (reach_of others a))
     (λ b. has_alike b (reach_of links a) (reach_of others a) (λ w. (theirs b).1 ((mine b).0 w))
-    (λ w. (mine b).1 ((theirs b).0 w))) links.set_order ∙ ap (filter (λ b. has b (reach_of others a))) order
+    (λ w. (mine b).1 ((theirs b).0 w))) links.set_order ∙ ap (filter (is_member ◌==◌ (reach_of others a))) order
     ∙ sym ((whole_of descs others second).part a (omega (arith, below, second.count)))
 
 -- ---- compilations

@@ -1,11 +1,11 @@
 -- What files have in the set, by its length.
 use Rattle.std.proofs.Common.{sym, ap, subst, ℕ, ◌<◌, ◌≤◌, Bool, not, List, length, arith, refl}
-use Rattle.std.specs.Prelude.{Contains, filter, flat_map}
+use Rattle.std.specs.Set.{is_member}
+use Rattle.std.specs.Prelude.{Contains, filter, flat_map, ◌==◌}
 use Rattle.std.proofs.lemmas.List.Concat.{length-flat_map}
 use Rattle.std.proofs.lemmas.List.Filters.{sum_by-filter_both}
 use Rattle.std.proofs.lemmas.List.Sums.{get_or-le-sum_by}
 use Rattle.proto_links.specs.Linked.{count_of, reach_of}
-use Rattle.proto_links.specs.Whole.{has}
 use Rattle.proto_links.proofs.Whole.{whole_of}
 use Rattle.wire_format.specs.Field.{bytes_field}
 use Rattle.proto_compile.specs.Compilation.{Compilation, bytes_at, set_of}
@@ -36,4 +36,4 @@ reached_within c (sources, is) a below =
     let f : ℕ → List ℕ = λ b. bytes_field 1 (bytes_at c.files b) in
     let part = (whole_of _ c.links linked).part a below in
     subst (λ (xs : List ℕ). length (flat_map f xs) ≤ length (flat_map f c.links.set_order)) (sym part)
-    (some_of f (λ b. has b (reach_of c.links a)) c.links.set_order)
+    (some_of f (is_member ◌==◌ (reach_of c.links a)) c.links.set_order)

@@ -1,6 +1,7 @@
 -- Files by their positions in set order, and what lists of positions say of files.
 use Rattle.std.proofs.Common.{◌≡◌, ◌∙◌, sym, refl, ℕ, ◌+◌, ◌*◌, ◌<◌, ◌≤◌, List, [], length, map, get_or, ap, subst, arith, inl, inr, Vec, Global}
-use Rattle.std.specs.Prelude.{Contains, ◌↔◌, IsTrue}
+use Rattle.std.specs.Set.{is_member}
+use Rattle.std.specs.Prelude.{Contains, ◌↔◌, IsTrue, ◌==◌}
 use Rattle.std.specs.Cmp.{nat_eq_equiv}
 use Rattle.std.proofs.lemmas.Bool.{eqb-true}
 use Rattle.std.proofs.lemmas.Grind.{common_steps}
@@ -22,7 +23,6 @@ use Rattle.proto_links.specs.Graphs.{IsGraph, IsPublicGraph}
 use Rattle.proto_links.specs.Imports.{Imports, ImportsPublicly, Reaches}
 use Rattle.proto_links.specs.Layout.{IsLaidOut, linked}
 use Rattle.proto_links.specs.Linked.{AreLinked, IsSetOrder, AreRanks, IsReach, reach_of, sees}
-use Rattle.proto_links.specs.Whole.{has}
 use Rattle.proto_links.specs.Positioned.{ArePositioned, AreFilesReached, AreFilesSeen, AreRanked, file_imports, file_public_imports, import_rows, public_rows}
 use Rattle.proto_links.specs.Visible.{Sees}
 use Rattle.proto_links.specs.declared.graph.Graph.{Graph as ImportGraph}
@@ -74,7 +74,7 @@ length_map : (f : ℕ → ℕ) (list : List ℕ) → length (map f list) ≡ len
 length_map f list = grind (arith, common_steps)
 
 -- `has` is membership
-pub has_is : (x : ℕ) (xs : List ℕ) → IsTrue (has x xs) ↔ Contains xs x
+pub has_is : (x : ℕ) (xs : List ℕ) → IsTrue (is_member ◌==◌ xs x) ↔ Contains xs x
 has_is x xs = (λ e. Contains-from_any (λ a b h. eqb-true a b h) x xs e, λ w. list_any-from_Contains nat_eq_equiv x xs w)
 
 -- ---- ranks and order

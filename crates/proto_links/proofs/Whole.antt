@@ -1,5 +1,6 @@
 -- What the links of any files reach.
 use Rattle.std.proofs.Common.{◌≡◌, ◌∙◌, sym, ℕ, zero, suc, ◌<◌, Bool, true, false, List, [], ◌∷◌, length, get_or, ap, refl, subst, arith, inl, inr}
+use Rattle.std.specs.Set.{is_member}
 use Rattle.std.specs.Prelude.{Contains, filter, ◌==◌, cond, ◌↔◌}
 use Rattle.std.specs.List.{IsDistinct, AllByRecursion}
 use Rattle.std.proofs.lemmas.Bool.{true≢false}
@@ -10,7 +11,7 @@ use Rattle.digraph.proofs.Ways.{leads_trans}
 use Rattle.proto_desc.specs.declared.file.FileDesc.{FileDesc}
 use Rattle.proto_links.specs.Imports.{Imports}
 use Rattle.proto_links.specs.Linked.{Linked, AreLinked, IsBefore, count_of, rank_of, reach_of}
-use Rattle.proto_links.specs.Whole.{AreReachesWhole, has}
+use Rattle.proto_links.specs.Whole.{AreReachesWhole}
 use Rattle.proto_links.proofs.Positions.{has_is}
 use Rattle.proto_links.proofs.Reaching.{leads_inside}
 use Rattle.proto_links.proofs.Rising.{IsStrict, Rises, behind, first_before, front, front_or_behind, next_behind, none_in, one_rising, rest_rises}
@@ -107,12 +108,12 @@ whole_of files links is =
           ((is.reach a (below a h)).members c).1 (leads_trans (Imports files) b c a (((is.reach a (below a h)).members b).0 w)
           (((is.reach b (below b i)).members c).0 v)));
       once = λ a h. once_of R strict (reach_of links a) (order_rises rank (reach_of links a) (is.reach a (below a h)).rises);
-      part = λ a h. one_rising R strict (reach_of links a) (filter (λ b. has b (reach_of links a)) links.set_order)
+      part = λ a h. one_rising R strict (reach_of links a) (filter (is_member ◌==◌ (reach_of links a)) links.set_order)
           (order_rises rank (reach_of links a) (is.reach a (below a h)).rises)
-          (kept_rises R strict (λ b. has b (reach_of links a)) links.set_order order)
-          (λ b w. kept_from (λ c. has c (reach_of links a)) links.set_order b ((has_is b (reach_of links a)).1 w)
+          (kept_rises R strict (is_member ◌==◌ (reach_of links a)) links.set_order order)
+          (λ b w. kept_from (is_member ◌==◌ (reach_of links a)) links.set_order b ((has_is b (reach_of links a)).1 w)
           ((is.order.every b).1 (below b (within a b h w))))
-          (λ b w. (has_is b (reach_of links a)).0 (kept_to (λ c. has c (reach_of links a)) links.set_order b w).1);
+          (λ b w. (has_is b (reach_of links a)).0 (kept_to (is_member ◌==◌ (reach_of links a)) links.set_order b w).1);
       every = λ a. (λ w. back a ((is.order.every a).0 w), λ h. (is.order.every a).1 (below a h));
       each_once = each;
       size = size_of links.set_order (count_of links) each (λ a. (λ w. back a ((is.order.every a).0 w), λ h. (is.order.every a).1 (below a h)));

@@ -1,14 +1,11 @@
 -- What is so of the links of any files.
-use Rattle.std.specs.Prelude.{◌≡◌, ◌↔◌, ℕ, ◌<◌, List, length, filter, Bool, IsTrue, Contains, ◌==◌}
-use Rattle.std.specs.List.{list_any, IsDistinct}
+use Rattle.std.specs.Prelude.{◌≡◌, ◌↔◌, ℕ, ◌<◌, List, length, filter, IsTrue, Contains, ◌==◌}
+use Rattle.std.specs.List.{IsDistinct}
+use Rattle.std.specs.Set.{is_member}
 use Rattle.bit_matrix.specs.Bits.{Bits}
 use Rattle.bit_matrix.specs.Changes.{Has, columns_of}
 use Rattle.proto_desc.specs.declared.file.FileDesc.{FileDesc}
 use Rattle.proto_links.specs.Linked.{Linked, count_of, reach_of, sees, AreLinked}
-
--- the file is in the list
-abbrev pub has : ℕ → List ℕ → Bool
-has a files = list_any (λ b. a == b) files
 
 -- one of the files that are set in a row is seen
 abbrev pub SeesOneOf : Linked → ℕ → Bits → ℕ → Type 0
@@ -26,7 +23,7 @@ pub record AreReachesWhole (links : Linked) : Type 0 where
   pub closed : (a b c : ℕ) → a < count_of links → Contains (reach_of links a) b → Contains (reach_of links b) c
       → Contains (reach_of links a) c
   pub once : (a : ℕ) → a < count_of links → IsDistinct ◌==◌ (reach_of links a)
-  pub part : (a : ℕ) → a < count_of links → reach_of links a ≡ filter (λ b. has b (reach_of links a)) links.set_order
+  pub part : (a : ℕ) → a < count_of links → reach_of links a ≡ filter (is_member ◌==◌ (reach_of links a)) links.set_order
   pub every : (a : ℕ) → Contains links.set_order a ↔ (a < count_of links)
   pub each_once : IsDistinct ◌==◌ links.set_order
   pub size : length links.set_order ≡ count_of links

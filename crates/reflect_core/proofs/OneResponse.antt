@@ -1,9 +1,10 @@
 -- Sources give a body one response.
 use Rattle.std.proofs.Common.{◌≡◌, ◌∙◌, ◌++◌, sym, ℕ, ◌<◌, List, [], ◌∷◌, map, ap, refl, subst, arith, inl, inr, ◌⊎◌, Option, Some, None, length, filter, eqb, not, ◌||◌}
-use Rattle.std.specs.Prelude.{Contains, flat_map}
+use Rattle.std.specs.Set.{is_member}
+use Rattle.std.specs.Prelude.{Contains, flat_map, ◌==◌}
 use Rattle.std.specs.List.{AllZip}
 use Rattle.std.proofs.lemmas.Option.{none-some}
-use Rattle.first_reach.specs.Carried.{carried, carried_from, has, reached, repeats, root_first}
+use Rattle.first_reach.specs.Carried.{carried, carried_from, reached, repeats, root_first}
 use Rattle.first_reach.specs.declared.mode.Mode.{Mode}
 use Rattle.proto_base.specs.declared.limits.Limits.{Limits}
 use Rattle.proto_compile.specs.Alike.{AreAlike}
@@ -178,7 +179,7 @@ module _ (c d : Compilation) (is : IsOne c d) where
   carried_alike mode sent (m ∷ ms) [] all = absurd all
   carried_alike mode sent (m ∷ ms) (x ∷ xs) all =
       let inside : (r : ℕ) → root x ≡ Some r → r < length c.files = λ r at. root_inside all.0.ask x.answer r (means c all.0.ask x.answer all.0.answered) at in
-      let head = ap (filter (λ g. repeats mode (root x) g || not (has g sent))) (root_first_alike (root x) inside) in
+      let head = ap (filter (λ g. repeats mode (root x) g || not (is_member ◌==◌ sent g))) (root_first_alike (root x) inside) in
       let rest = carried_alike mode (sent ++ reached (reach_of c.links) (root x)) ms xs all.1
       ∙ ap (λ l. carried_from mode (reach_of d.links) (sent ++ l) (map root xs)) (reached_alike (root x) inside) in
       λ i. head i ∷ rest i

@@ -1,8 +1,10 @@
 -- Every reply to the requests of a body has room in a frame.
 use Rattle.std.proofs.Common.{ℕ, ◌<◌, List, [], ◌∷◌, ◌++◌, length, map, ap, sym, subst, arith, All, Bool, filter, not, ◌||◌}
+use Rattle.std.specs.Set.{is_member}
+use Rattle.std.specs.Prelude.{◌==◌}
 use Rattle.std.specs.List.{AllZip}
 use Rattle.std.proofs.lemmas.List.Elements.{All-cons, All-head, All-nil, All-tail}
-use Rattle.first_reach.specs.Carried.{carried_from, has, reached, repeats, root_first}
+use Rattle.first_reach.specs.Carried.{carried_from, reached, repeats, root_first}
 use Rattle.first_reach.specs.declared.mode.Mode.{Mode}
 use Rattle.proto_base.specs.declared.limits.Limits.{Limits}
 use Rattle.proto_compile.specs.Compilation.{Compilation, IsCompiled}
@@ -55,7 +57,7 @@ module _ (c : Compilation) (holds : HoldsReplies c) where
   all_short mode sent (m ∷ ms) [] within allowed asked = absurd asked
   all_short mode sent (m ∷ ms) (x ∷ xs) within allowed asked =
       All-cons IsShort _ _
-      (one_short m x (λ g. repeats mode (root x) g || not (has g sent)) (All-head (IsAllowed c.limits) m ms allowed) asked.0 (within m x asked.0))
+      (one_short m x (λ g. repeats mode (root x) g || not (is_member ◌==◌ sent g)) (All-head (IsAllowed c.limits) m ms allowed) asked.0 (within m x asked.0))
       (all_short mode (sent ++ reached (reach_of c.links) (root x)) ms xs within (All-tail (IsAllowed c.limits) m ms allowed) asked.1)
 
 pub replies_short : (limits : Limits) (sources : List Source) (c : Compilation) (mode : Mode) (body bytes : List ℕ) → IsCompiled limits sources c

@@ -1,10 +1,10 @@
 -- What a table of marks asks of the files that files reach follows from what is so of all links.
 use Rattle.std.proofs.Common.{ℕ, ◌<◌, true}
-use Rattle.std.specs.Prelude.{Contains}
+use Rattle.std.specs.Set.{is_member}
+use Rattle.std.specs.Prelude.{Contains, ◌==◌}
 use Rattle.std.proofs.Math.Bool.{Bool-set}
 use Rattle.std.proofs.Math.Bridge.{le_prop}
 use Rattle.std.proofs.Math.Logic.{∥∥₁_elim}
-use Rattle.first_reach.specs.Carried.{has}
 use Rattle.first_reach.proofs.Lists.{has_is}
 use Rattle.proto_links.specs.Linked.{Linked, count_of, reach_of}
 use Rattle.proto_links.specs.Whole.{AreReachesWhole}
@@ -14,7 +14,7 @@ module _ (links : Linked) (whole : ∥ AreReachesWhole links ∥₁) where
   reached : (a b : ℕ) → (AreReachesWhole links → Contains (reach_of links a) b) → Contains (reach_of links a) b
   reached a b so =
       let is = has_is b (reach_of links a) in
-      is.0 (∥∥₁_elim whole (Bool-set (has b (reach_of links a)) true) (λ w. is.1 (so w)))
+      is.0 (∥∥₁_elim whole (Bool-set (is_member ◌==◌ (reach_of links a) b) true) (λ w. is.1 (so w)))
 
   pub within : (a b : ℕ) → a < count_of links → Contains (reach_of links a) b → b < count_of links
   within a b h r = ∥∥₁_elim whole le_prop (λ w. w.within a b h r)
