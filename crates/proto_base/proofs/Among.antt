@@ -2,12 +2,12 @@
 use Rattle.std.proofs.Common.{◌≡◌, ◌∙◌, sym, ℕ, zero, suc, ◌+◌, ◌<◌, ◌≤◌, List, [], ◌∷◌, ◌++◌, length, take, get_or, map, append_assoc, ap, refl, subst, arith, inl, inr, ◌⊎◌}
 use Rattle.std.proofs.lemmas.List.{take_more, append-nil, take_all}
 use Rattle.std.proofs.lemmas.List.Concat.{flat_map-append}
-use Rattle.std.specs.Prelude.{Option, Some, None, Result, Ok, Err, IfOk, flat_map}
+use Rattle.std.specs.Prelude.{Option, None, Result, Ok, Err, IfOk, flat_map}
 use Rattle.proto_base.specs.declared.spot.Spot.{Spot}
-use Rattle.proto_base.specs.Least.{IsLeast, AtMost}
+use Rattle.proto_base.specs.Least.{IsLeast}
 use Rattle.proto_base.specs.Lesser.{IsLesser}
 use Rattle.proto_base.specs.Sets.{StandsAt, Each, Later}
-use Rattle.proto_base.proofs.Sets.{least_none, least_or, least_same, at_most_itself, Either, WithTo}
+use Rattle.proto_base.proofs.Sets.{least_none, least_or, least_same, Either, WithTo}
 
 abbrev pub Among : {X : Type 0} → List X → (X → Spot → Type 0) → Spot → Type 0
 Among [] S x = ⊥
@@ -129,11 +129,6 @@ none_later n i j short before within = omega arith
 
 pub later_short : {X : Type 0} (xs : List X) (R : X → X → Type 0) (at : X → Spot) → length xs < 2 → IsLeast (Later xs R at) None
 later_short xs R at short = least_none (Later xs R at) (λ x v. none_later (length xs) v.0 v.1 short v.4 v.6.0)
-
--- a fault that is known
-pub least_known : (o : Option Spot) → IsLeast (λ x. o ≡ Some x) o
-least_known None = least_none (λ x. None ≡ Some x) (λ x e. cc)
-least_known (Some s) = record { among = refl; least = λ x e. let same : s ≡ x = cc in subst (AtMost s) same (at_most_itself s) }
 
 pub if_ok : {T E : Type 0} {P Q : T → Type 0} (r : Result T E) → IfOk r P → ((x : T) → P x → Q x) → IfOk r Q
 if_ok (Ok x) fact turn = turn x fact

@@ -1,6 +1,6 @@
 -- The least of a union, and of the first n elements of a list.
 use Rattle.std.proofs.Common.{◌≡◌, ◌∙◌, sym, ℕ, ◌+◌, ◌<◌, ◌≤◌, List, length, get_or, ap, refl, subst, arith, inl, inr, ◌⊎◌}
-use Rattle.std.specs.Prelude.{Option, Some, None, IfSome, Bool, true, false, ◌↔◌}
+use Rattle.std.specs.Prelude.{Option, Some, None, Bool, true, false, ◌↔◌}
 use Rattle.std.proofs.lemmas.Bool.{true≢false, false≢true, cases_lt, cond-true}
 use Rattle.std.proofs.lemmas.List.{get_or_default}
 use Rattle.std.proofs.Common.{cond, Equal, Less, Greater}
@@ -12,12 +12,23 @@ use Rattle.std.proofs.lemmas.Cmp.{nat_cmp_total, nat_list_cmp_total, tied_itself
 use Rattle.std.proofs.lemmas.Map.Lookups.{exact_bytes, exact_unsigned}
 use denote.Ref.{Bor}
 use Rattle.proto_base.specs.declared.spot.Spot.{Spot}
-use Rattle.proto_base.specs.Least.{IsLeast, AtMost}
+use Rattle.proto_base.specs.Least.{IsLeast, IsLeastBy, AtMost}
 use Rattle.proto_base.specs.Lesser.{IsLesser}
 use Rattle.proto_base.specs.Sets.{StandsAt, Each, Later, Where}
 
 pub least_none : (S : Spot → Type 0) → ((x : Spot) → S x → ⊥) → IsLeast S None
-least_none S h = h
+least_none S h = record { is = h }
+
+pub least_some : (S : Spot → Type 0) (a : Spot) → S a → ((x : Spot) → S x → AtMost a x) → IsLeast S (Some a)
+least_some S a among least = record { is = record { among = among; least = least } }
+
+-- a set without a least has nothing
+pub none_of : (S : Spot → Type 0) (a : Option Spot) → IsLeast S a → a ≡ None → (x : Spot) → S x → ⊥
+none_of S a p e = (let q : IsLeast S None = subst (IsLeast S) e p in q.is)
+
+-- what is the least of a set
+pub least_of : (S : Spot → Type 0) (a : Option Spot) (c : Spot) → IsLeast S a → a ≡ Some c → IsLeastBy AtMost S c
+least_of S a c p e = (let q : IsLeast S (Some c) = subst (IsLeast S) e p in q.is)
 
 pub at_most_itself : (a : Spot) → AtMost a a
 at_most_itself a = inr (refl, omega arith)
@@ -28,42 +39,37 @@ at_most_on a b c (inl h) (inr k) = inl (omega (arith, h, k.0))
 at_most_on a b c (inr h) (inl k) = inl (omega (arith, h.0, k))
 at_most_on a b c (inr h) (inr k) = inr (h.0 ∙ k.0, omega (arith, h.1, k.1))
 
--- what is least of a set with an element
-least_among : (S : Spot → Type 0) (a : Option Spot) (c : Spot) → IsLeast S a → a ≡ Some c → S c
-least_among S a c p e = (let q : IsLeast S (Some c) = subst (IsLeast S) e p in q.among)
-
 -- what comes no later than the least comes no later than each
 least_after : (S : Spot → Type 0) (a : Option Spot) (c x : Spot) → IsLeast S a → ((y : Spot) → a ≡ Some y → AtMost c y) → S x → AtMost c x
-least_after S None c x p h s = absurd (p x s)
-least_after S (Some y) c x p h s = at_most_on c y x (h y refl) (p.least x s)
+least_after S None c x p h s = absurd (p.is x s)
+least_after S (Some y) c x p h s = at_most_on c y x (h y refl) (p.is.least x s)
 
 least_no : (S : Spot → Type 0) (a : Option Spot) (x : Spot) → IsLeast S a → ((y : Spot) → a ≡ Some y → ⊥) → S x → ⊥
-least_no S None x p h s = p x s
+least_no S None x p h s = p.is x s
 least_no S (Some y) x p h s = h y refl
 
 -- U is the union of S and T
 pub least_or : (S T U : Spot → Type 0) (a b r : Option Spot) → ((x : Spot) → U x → S x ⊎ T x) → ((x : Spot) → S x → U x) → ((x : Spot) → T x → U x)
     → IsLeast S a → IsLeast T b → IsLesser a b r → IsLeast U r
-least_or S T U a b None split left right p q w = λ x u. elim (split x u) [
-  | inl s ↦ least_no S a x p (λ y e. w y (inl e)) s
-  | inr t ↦ least_no T b x q (λ y e. w y (inr e)) t
-]
-least_or S T U a b (Some c) split left right p q w = record {
-  among = elim w.among [ inl e ↦ left c (least_among S a c p e) | inr e ↦ right c (least_among T b c q e) ];
-  least = λ x u. elim (split x u) [
-    | inl s ↦ least_after S a c x p (λ y e. w.least y (inl e)) s
-    | inr t ↦ least_after T b c x q (λ y e. w.least y (inr e)) t
-  ];
-}
+least_or S T U a b None split left right p q w = least_none U (λ x u. elim (split x u) [
+  | inl s ↦ least_no S a x p (λ y e. w.least.is y (inl e)) s
+  | inr t ↦ least_no T b x q (λ y e. w.least.is y (inr e)) t
+])
+least_or S T U a b (Some c) split left right p q w = least_some U c
+    (elim w.least.is.among [ inl e ↦ left c (least_of S a c p e).among | inr e ↦ right c (least_of T b c q e).among ])
+    (λ x u. elim (split x u) [
+      | inl s ↦ least_after S a c x p (λ y e. w.least.is.least y (inl e)) s
+      | inr t ↦ least_after T b c x q (λ y e. w.least.is.least y (inr e)) t
+    ])
 
 -- two sets with the same elements
 pub least_same : (S U : Spot → Type 0) (a : Option Spot) → ((x : Spot) → U x → S x) → ((x : Spot) → S x → U x) → IsLeast S a → IsLeast U a
-least_same S U None back on p = λ x u. p x (back x u)
-least_same S U (Some a) back on p = record { among = on a p.among; least = λ x u. p.least x (back x u) }
+least_same S U None back on p = least_none U (λ x u. p.is x (back x u))
+least_same S U (Some a) back on p = least_some U a (on a p.is.among) (λ x u. p.is.least x (back x u))
 
 -- the least of one fault
 pub least_one : (s : Spot) → IsLeast (λ x. x ≡ s) (Some s)
-least_one s = record { among = refl; least = λ x e. subst (AtMost s) (sym e) (at_most_itself s) }
+least_one s = least_some (λ x. x ≡ s) s refl (λ x e. subst (AtMost s) (sym e) (at_most_itself s))
 
 -- what the first n elements break
 abbrev pub EachTo : {X : Type 0} → List X → ℕ → (X → Spot → Type 0) → Spot → Type 0
@@ -237,14 +243,19 @@ pub item_at : {X : Type 0} (xs : List X) (n : ℕ) (d : X) → n < length xs →
 item_at xs n d h = (h, get_or_default xs n (get_or xs n d) d h)
 
 pub least_hit : (P : Type 0) (s : Spot) → P → IsLeast (Where P s) (Some s)
-least_hit P s p = record { among = (p, refl); least = λ x w. subst (AtMost s) (sym w.1) (at_most_itself s) }
+least_hit P s p = least_some (Where P s) s (p, refl) (λ x w. subst (AtMost s) (sym w.1) (at_most_itself s))
 
 pub least_miss : (P : Type 0) (s : Spot) → (P → ⊥) → IsLeast (Where P s) None
 least_miss P s h = least_none (Where P s) (λ x w. h w.0)
 
+-- a spot that is known
+pub least_known : (o : Option Spot) → IsLeast (λ x. o ≡ Some x) o
+least_known None = least_none (λ x. None ≡ Some x) (λ x e. cc)
+least_known (Some s) =
+    least_some (λ x. Some s ≡ Some x) s refl (λ x e. let same : s ≡ x = cc in subst (AtMost s) same (at_most_itself s))
+
 pub lesser_none : (p : Option Spot) → IsLesser p None p
-lesser_none None = λ x w. elim w [ inl e ↦ absurd (cc) | inr e ↦ absurd (cc) ]
-lesser_none (Some s) = record {
-  among = inl refl;
-  least = λ x w. elim w [ inl e ↦ (let same : s ≡ x = cc in subst (AtMost s) same (at_most_itself s)) | inr e ↦ absurd (cc) ];
+lesser_none p = record {
+  least = least_same (λ x. p ≡ Some x) (λ x. (p ≡ Some x) ⊎ (None ≡ Some x)) p
+      (λ x w. elim w [ inl e ↦ e | inr e ↦ absurd (cc) ]) (λ x e. inl e) (least_known p);
 }

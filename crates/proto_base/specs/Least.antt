@@ -1,5 +1,5 @@
 -- The least of a set by an order, and that of a set of spots: of places with what is wrong there.
-use Rattle.std.specs.Prelude.{◌≡◌, ◌<◌, ◌≤◌, ◌⊎◌, Option, Some, None}
+use Rattle.std.specs.Prelude.{◌≡◌, ◌<◌, ◌≤◌, ◌⊎◌, Option, MatchOption}
 use Rattle.proto_base.specs.Kind.{number_of}
 use Rattle.proto_base.specs.declared.kind.Kind.{Kind}
 use Rattle.proto_base.specs.declared.place.Place.{Place}
@@ -19,6 +19,5 @@ AtMost a b =
     (a.place.offset < b.place.offset) ⊎ ((a.place.offset ≡ b.place.offset) × (number_of a.kind ≤ number_of b.kind))
 
 -- the least of a set, None only where it is empty
-abbrev pub IsLeast : (Spot → Type 0) → Option Spot → Type 0
-IsLeast S None = (x : Spot) → S x → ⊥
-IsLeast S (Some first) = IsLeastBy AtMost S first
+pub record IsLeast (S : Spot → Type 0) (first : Option Spot) : Type 0 where
+  pub is : MatchOption first ((x : Spot) → S x → ⊥) (IsLeastBy AtMost S)

@@ -4,5 +4,5 @@ use Rattle.proto_base.specs.declared.spot.Spot.{Spot}
 use Rattle.proto_base.specs.Least.{IsLeast}
 
 -- the least of two, where there are any
-abbrev pub IsLesser : (a b first : Option Spot) → Type 0
-IsLesser a b = IsLeast (λ x. (a ≡ Some x) ⊎ (b ≡ Some x))
+pub record IsLesser (a b first : Option Spot) : Type 0 where
+  pub least : IsLeast (λ x. (a ≡ Some x) ⊎ (b ≡ Some x)) first

@@ -41,4 +41,4 @@ pub check_fault : (limits : Limits) (name text : List ℕ) (tokens : Tokens) (fi
 check_fault limits name text tokens file place kind tree is least = of_checks refl (file, (tokens_of tokens, is, tree), least)
 
 pub unbroken_by : (limits : Limits) (name : List ℕ) (file : FileTree) → IsLeast (FileBreaks limits file (lowered name file)) None → IsUnbroken limits name file
-unbroken_by limits name file none x broken = none x broken
+unbroken_by limits name file none x broken = none.is x broken

@@ -98,7 +98,7 @@ fault_inside limits name text step place kind (of_grammar at_step (ts, k, is, fa
     let within : place.offset ≤ length text = subst (λ p. p ≤ length text) (sym at) (token_begins (length text) ts k (tokens_begin _ text ts is)) in
     record { within = within; short = omega (arith, within, is.short) }
 fault_inside limits name text step place kind (of_checks at_step (file, is, least)) =
-    inside_file limits text file place is (breaks_within (length text) limits name file (spot place kind) (tree_begins limits text file is) least.among)
+    inside_file limits text file place is (breaks_within (length text) limits name file (spot place kind) (tree_begins limits text file is) least.is.among)
 
 -- all places of a descriptor are those of its text
 pub places_within : (limits : Limits) (name text : List ℕ) (desc : FileDesc) → Describes limits name text desc → AllWithin (length text) (places_of desc)

@@ -52,14 +52,14 @@ one_grammar_fault limits text p q a b (ts, j, is, fault, is_kind, at) (us, k, is
 no_broken : (limits : Limits) (name text : List ℕ) (f : FileTree) (place : Place) (kind : Kind) → IsFile limits text f → IsUnbroken limits name f
     → IsBrokenAt limits name text place kind → ⊥
 no_broken limits name text f place kind is unbroken (g, is', least) =
-    unbroken (spot place kind) (subst (λ h. FileBreaks limits h (lowered name h) (spot place kind)) (one_file limits text g f is' is) least.among)
+    unbroken (spot place kind) (subst (λ h. FileBreaks limits h (lowered name h) (spot place kind)) (one_file limits text g f is' is) least.is.among)
 
 one_broken : (limits : Limits) (name text : List ℕ) (p q : Place) (a b : Kind) → IsBrokenAt limits name text p a → IsBrokenAt limits name text q b
     → (p ≡ q) × (a ≡ b)
 one_broken limits name text p q a b (f, is, least) (g, is', least') =
     let other : IsLeast (FileBreaks limits f (lowered name f)) (Some (spot q b)) =
     subst (λ h. IsLeast (FileBreaks limits h (lowered name h)) (Some (spot q b))) (one_file limits text g f is' is) least' in
-    one_spot p q a b (least.least (spot q b) other.among) (other.least (spot p a) least.among)
+    one_spot p q a b (least.is.least (spot q b) other.is.among) (other.is.least (spot p a) least.is.among)
 
 -- ---- one source
 

@@ -17,7 +17,7 @@ use Rattle.proto_base.specs.declared.place.Place.{Place}
 use Rattle.proto_base.specs.Least.{AtMost, IsLeast, spot}
 use Rattle.proto_base.specs.Lesser.{IsLesser}
 use Rattle.proto_base.specs.declared.spot.Spot.{Spot}
-use Rattle.proto_base.proofs.Sets.{least_or, least_same}
+use Rattle.proto_base.proofs.Sets.{least_of, least_or, least_same, least_some, none_of}
 use Rattle.proto_links.specs.Graphs.{IsGraph, IsWrongAt, IsWrongIn}
 use Rattle.proto_links.specs.Imports.{IsNamed, Imports, Reaches, IsWrong, missing, cyclic, IsBad, NoneBad, imports_at, name_of}
 use Rattle.proto_links.specs.Bad.{IsFirstBad, IsNoLater}
@@ -76,7 +76,8 @@ same_place i k x at same = let o = ap (λ (p : Place). p.offset) at in let n = a
 -- an import has one fault
 one_fault : (files : List FileDesc) (a : ℕ) (i : ImportDesc) (k : Kind) → IsWrong files a i k → ((l : Kind) → IsWrong files a i l → l ≡ k)
     → IsLeast (IsWrongAt files a i) (Some (spot i.place k))
-one_fault files a i k wrong only = record { among = (refl, wrong); least = λ x w. same_place i k x w.0 (only x.kind w.1) }
+one_fault files a i k wrong only =
+    least_some (IsWrongAt files a i) (spot i.place k) (refl, wrong) (λ x w. same_place i k x w.0 (only x.kind w.1))
 
 pub first_more : (files : List FileDesc) (a : ℕ) (xs : List ImportDesc) (i : ImportDesc) (first r : Option Spot) (k : Kind)
     → IsWrong files a i k × ((l : Kind) → IsWrong files a i l → l ≡ k) → IsLesser first (Some (spot i.place k)) r
@@ -108,8 +109,7 @@ none_more files n imports first e is f old = record {
     | inl less ↦ old.none a p k less w
     | inr over ↦ (let at : a ≡ n = omega arith in
         let here = subst (λ m. IsBad files m p k) at w in
-        let empty : IsLeast (IsWrongIn files n imports) None = subst (IsLeast (IsWrongIn files n imports)) is f in
-        empty (spot p k) (subst (λ (xs : List ImportDesc). IsWrongIn files n xs (spot p k)) (sym e) here))
+        none_of (IsWrongIn files n imports) first f is (spot p k) (subst (λ (xs : List ImportDesc). IsWrongIn files n xs (spot p k)) (sym e) here))
   ]);
 }
 
@@ -131,10 +131,10 @@ later_file files n b x q l imports e least old w (inr over) = elim (cases_eq n b
 pub first_bad_is : (files : List FileDesc) (n : ℕ) (imports : List ImportDesc) (first : Option Spot) (x : Spot) → imports ≡ imports_at files n
     → first ≡ Some x → IsLeast (IsWrongIn files n imports) first → NoneBefore files n → IsFirstBad files n x.place x.kind
 first_bad_is files n imports first x e is f old =
-    let first : IsLeast (IsWrongIn files n imports) (Some x) = subst (IsLeast (IsWrongIn files n imports)) is f in
+    let found = least_of (IsWrongIn files n imports) first x f is in
     record {
-      among = subst (λ (xs : List ImportDesc). IsWrongIn files n xs x) e first.among;
-      least = λ (b, y) w. later_file files n b x y.place y.kind imports e first.least old w (cases_lt b n);
+      among = subst (λ (xs : List ImportDesc). IsWrongIn files n xs x) e found.among;
+      least = λ (b, y) w. later_file files n b x y.place y.kind imports e found.least old w (cases_lt b n);
     }
 
 -- the marks of a search over the turned edges are at the files that reach the one

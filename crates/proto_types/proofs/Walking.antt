@@ -7,7 +7,7 @@ use Rattle.std.specs.Prelude.{Option, Some, None, flat_map}
 use Rattle.proto_base.specs.declared.spot.Spot.{Spot}
 use Rattle.proto_base.specs.Lesser.{IsLesser}
 use Rattle.proto_base.proofs.Among.{least_append, least_nil, least_single}
-use Rattle.proto_base.proofs.Sets.{at_most_itself, lesser_none}
+use Rattle.proto_base.proofs.Sets.{lesser_none, none_of}
 use Rattle.proto_names.specs.Occurrences.{Occurrence}
 use Rattle.proto_names.specs.SeenAlike.{IsSeen}
 use Rattle.proto_types.specs.References.{Reference, ReferenceBreaks}
@@ -29,7 +29,7 @@ zip_push R (z ∷ xs) (w ∷ ys) x y all last = (all.0, zip_push R xs ys x y all
 
 -- a fault is not lost
 lesser_right : (a r : Option Spot) (x : Spot) → IsLesser a (Some x) r → r ≡ None → ⊥
-lesser_right a r x w e = (let none : IsLesser a (Some x) None = subst (IsLesser a (Some x)) e w in none x (inr refl))
+lesser_right a r x w e = none_of (λ y. (a ≡ Some y) ⊎ (Some x ≡ Some y)) r w.least e x (inr refl)
 
 -- ---- what is found
 

@@ -1,4 +1,4 @@
-use Rattle.std.proofs.Common.{[], ◌∷◌, refl, arith}
+use Rattle.std.proofs.Common.{[], ◌∷◌, refl, arith, take_all}
 use Rattle.proto_checks.specs.Elements.{bodies_of, BodyBreaks}
 use Rattle.proto_base.specs.Least.{IsLeast}
 use Rattle.proto_base.specs.Sets.{Each}
@@ -34,3 +34,7 @@ loop-item-preserved t c =
       | in-Empty w ↦ rw w.first-is (behind_skip BodyBreaks bodies_of (items ∷ []) items c.loop-item.item-index c.item-item.result c.loop-item.first
           (omega arith) c.item-item.is (rw w.in-Empty.is refl) c.loop-item.invariant)
     ]
+
+pub returns : goal.returns
+returns t c =
+    rw (take_all c.loop-item.item-index c.as_slice-items.result.now (omega arith), c.as_slice-items.ensures) at c.loop-item.invariant

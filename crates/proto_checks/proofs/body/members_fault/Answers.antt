@@ -1,4 +1,4 @@
-use Rattle.std.proofs.Common.{◌≡◌, [], arith}
+use Rattle.std.proofs.Common.{◌≡◌, [], arith, take_all}
 use Rattle.std.proofs.lemmas.Grind.{common_steps}
 use Rattle.proto_options.specs.Statements.{oneof_field}
 use Rattle.proto_checks.specs.Parts.{MemberBreaks}
@@ -20,3 +20,6 @@ loop-item-preserved c = elim c.match-item.branch [
       rw w.first-is (flat_skip MemberBreaks oneof_field c.args.items.now c.loop-item.item-index c.item-item.result c.loop-item.first (omega arith)
       c.item-item.is none c.loop-item.invariant))
 ]
+
+pub returns : goal.returns
+returns c = rw (take_all c.loop-item.item-index c.args.items.now (omega arith)) at c.loop-item.invariant

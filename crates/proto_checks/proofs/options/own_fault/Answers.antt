@@ -1,6 +1,6 @@
 use Rattle.std.proofs.Common.{sym, arith}
 use Rattle.proto_checks.specs.Judged.{IsFaultOf}
-use Rattle.proto_base.proofs.Among.{least_known}
+use Rattle.proto_base.proofs.Sets.{least_known}
 use Rattle.proto_base.proofs.Sets.{each_more, each_all}
 use Rattle.proto_checks.proofs.options.own_fault.Goals as goal
 

@@ -1,4 +1,4 @@
-use Rattle.std.proofs.Common.{◌≡◌, [], arith}
+use Rattle.std.proofs.Common.{◌≡◌, [], arith, take_all}
 use Rattle.std.proofs.lemmas.Grind.{common_steps}
 use Rattle.proto_options.specs.Statements.{file_package}
 use Rattle.proto_checks.specs.Checks.{PackageTooLong}
@@ -21,3 +21,6 @@ loop-statement-preserved c = elim c.match-statement.branch [
       rw w.first-is (flat_skip (PackageTooLong c.args.limits.now) file_package c.args.statements.now c.loop-statement.statement-index c.statement-item.result
       c.loop-statement.first (omega arith) c.statement-item.is none c.loop-statement.invariant))
 ]
+
+pub returns : goal.returns
+returns c = rw (take_all c.loop-statement.statement-index c.args.statements.now (omega arith)) at c.loop-statement.invariant

@@ -1,4 +1,4 @@
-use Rattle.std.proofs.Common.{◌≡◌, [], arith}
+use Rattle.std.proofs.Common.{◌≡◌, [], arith, take_all}
 use Rattle.std.proofs.lemmas.Grind.{common_steps}
 use Rattle.proto_options.specs.Statements.{service_rpc}
 use Rattle.proto_checks.specs.Elements.{RpcBreaks}
@@ -21,3 +21,6 @@ loop-item-preserved c = elim c.match-item.branch [
       c.loop-item.first (omega arith) c.item-item.is none
       c.loop-item.invariant))
 ]
+
+pub returns : goal.returns
+returns c = rw (take_all c.loop-item.item-index c.args.items.now (omega arith)) at c.loop-item.invariant
