@@ -2,7 +2,7 @@ use Rattle.std.proofs.Common.{[], ◌∷◌, refl, arith}
 use Rattle.proto_checks.specs.Elements.{bodies_of, BodyBreaks}
 use Rattle.proto_base.specs.Least.{IsLeast}
 use Rattle.proto_base.specs.Sets.{Each}
-use Rattle.proto_base.proofs.Among.{least_single, behind_more, behind_skip}
+use Rattle.proto_base.proofs.Among.{least_single, behind_more, behind_skip, behind_all}
 use Rattle.proto_checks.proofs.Items.{nested_bodies}
 use Rattle.proto_checks.proofs.body.+message_fault.Goals as goal
 use Rattle.proto_checks.proofs.body.+message_fault.Goals.{in-Message+in_ok-message_fault-in-Message, in-Field, in-Map, in-Oneof, in-Option, in-Enum, in-Reserved, in-Empty}
@@ -34,3 +34,9 @@ loop-item-preserved t c =
       | in-Empty w ↦ rw w.first-is (behind_skip BodyBreaks bodies_of (items ∷ []) items c.loop-item.item-index c.item-item.result c.loop-item.first
           (omega arith) c.item-item.is (rw w.in-Empty.is refl) c.loop-item.invariant)
     ]
+
+pub returns : goal.returns
+returns t c =
+    let items = c.as_slice-items.result.now in
+    rw c.as_slice-items.ensures at (behind_all BodyBreaks bodies_of (items ∷ []) items c.loop-item.item-index c.loop-item.first (omega arith)
+    c.loop-item.invariant)

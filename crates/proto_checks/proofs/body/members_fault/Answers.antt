@@ -4,7 +4,7 @@ use Rattle.proto_options.specs.Statements.{oneof_field}
 use Rattle.proto_checks.specs.Parts.{MemberBreaks}
 use Rattle.proto_base.specs.Least.{IsLeast}
 use Rattle.proto_base.specs.Sets.{Each}
-use Rattle.proto_base.proofs.Among.{least_single, flat_more, flat_skip}
+use Rattle.proto_base.proofs.Among.{least_single, flat_more, flat_skip, flat_all}
 use Rattle.proto_checks.proofs.body.members_fault.Goals as goal
 use Rattle.proto_checks.proofs.body.members_fault.Goals.{in-Field+in_ok-member_fault, in_default}
 
@@ -20,3 +20,7 @@ loop-item-preserved c = elim c.match-item.branch [
       rw w.first-is (flat_skip MemberBreaks oneof_field c.args.items.now c.loop-item.item-index c.item-item.result c.loop-item.first (omega arith)
       c.item-item.is none c.loop-item.invariant))
 ]
+
+pub returns : goal.returns
+returns c =
+    flat_all MemberBreaks oneof_field c.args.items.now c.loop-item.item-index c.loop-item.first (omega arith) c.loop-item.invariant

@@ -2,7 +2,7 @@ use Rattle.std.proofs.Common.{sym, arith}
 use Rattle.proto_options.specs.Options.{next_item}
 use Rattle.proto_checks.specs.Parts.{IsWrongOnField}
 use Rattle.proto_base.proofs.Among.{with_rest}
-use Rattle.proto_base.proofs.Sets.{with_more}
+use Rattle.proto_base.proofs.Sets.{with_none, with_more}
 use Rattle.proto_checks.proofs.field_options.bracketed_fault.Goals as goal
 
 pub loop-next-preserved : goal.loop-next-preserved
@@ -14,3 +14,8 @@ loop-next-preserved c = with_more (IsWrongOnField c.args.can_be_packed c.args.is
 pub returns : goal.returns
 returns c = rw c.as_slice-next-items.ensures at (with_rest (IsWrongOnField c.args.can_be_packed c.args.is_wide_integer) next_item
     c.args.options.now.settings.first c.as_slice-next-items.result.now c.loop-next.next-index c.loop-next.first (omega arith) c.loop-next.invariant)
+
+pub loop-next-init : goal.loop-next-init
+loop-next-init c = with_none (IsWrongOnField c.args.can_be_packed c.args.is_wide_integer c.args.options.now.settings.first)
+    c.as_slice-next-items.result.now (λ next. IsWrongOnField c.args.can_be_packed c.args.is_wide_integer next.item)
+    c.field_setting_fault-first.result c.field_setting_fault-first.ensures

@@ -4,7 +4,7 @@ use Rattle.proto_options.specs.Statements.{file_package}
 use Rattle.proto_checks.specs.Checks.{PackageTooLong}
 use Rattle.proto_base.specs.Least.{IsLeast}
 use Rattle.proto_base.specs.Sets.{Each}
-use Rattle.proto_base.proofs.Among.{least_single, flat_more, flat_skip}
+use Rattle.proto_base.proofs.Among.{least_single, flat_more, flat_skip, flat_all}
 use Rattle.proto_checks.proofs.package.package_lengths_fault.Goals as goal
 use Rattle.proto_checks.proofs.package.package_lengths_fault.Goals.{in-Package, in_default}
 
@@ -21,3 +21,7 @@ loop-statement-preserved c = elim c.match-statement.branch [
       rw w.first-is (flat_skip (PackageTooLong c.args.limits.now) file_package c.args.statements.now c.loop-statement.statement-index c.statement-item.result
       c.loop-statement.first (omega arith) c.statement-item.is none c.loop-statement.invariant))
 ]
+
+pub returns : goal.returns
+returns c =
+    flat_all (PackageTooLong c.args.limits.now) file_package c.args.statements.now c.loop-statement.statement-index c.loop-statement.first (omega arith) c.loop-statement.invariant

@@ -4,7 +4,7 @@ use Rattle.proto_options.specs.Statements.{service_rpc}
 use Rattle.proto_checks.specs.Elements.{RpcBreaks}
 use Rattle.proto_base.specs.Least.{IsLeast}
 use Rattle.proto_base.specs.Sets.{Each}
-use Rattle.proto_base.proofs.Among.{least_single, flat_more, flat_skip}
+use Rattle.proto_base.proofs.Among.{least_single, flat_more, flat_skip, flat_all}
 use Rattle.proto_checks.proofs.service.methods_fault.Goals as goal
 use Rattle.proto_checks.proofs.service.methods_fault.Goals.{in-Rpc+in_ok-method_fault, in_default}
 
@@ -21,3 +21,7 @@ loop-item-preserved c = elim c.match-item.branch [
       c.loop-item.first (omega arith) c.item-item.is none
       c.loop-item.invariant))
 ]
+
+pub returns : goal.returns
+returns c =
+    flat_all RpcBreaks service_rpc c.args.items.now c.loop-item.item-index c.loop-item.first (omega arith) c.loop-item.invariant
