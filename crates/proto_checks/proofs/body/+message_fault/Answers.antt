@@ -38,5 +38,5 @@ loop-item-preserved t c =
 pub returns : goal.returns
 returns t c =
     let items = c.as_slice-items.result.now in
-    rw c.as_slice-items.ensures at (behind_all BodyBreaks bodies_of (items ∷ []) items c.loop-item.item-index c.loop-item.first (omega arith)
-    c.loop-item.invariant)
+    rw c.as_slice-items.ensures at (behind_all BodyBreaks bodies_of (items ∷ []) items c.loop-item.item-index c.loop-item.first
+    (omega arith) c.loop-item.invariant)

@@ -23,4 +23,5 @@ loop-item-preserved c = elim c.match-item.branch [
 
 pub returns : goal.returns
 returns c =
-    flat_all MemberBreaks oneof_field c.args.items.now c.loop-item.item-index c.loop-item.first (omega arith) c.loop-item.invariant
+    flat_all MemberBreaks oneof_field c.args.items.now c.loop-item.item-index c.loop-item.first (omega arith)
+    c.loop-item.invariant

@@ -3,5 +3,7 @@ use Rattle.proto_base.proofs.Sets.{least_either}
 use Rattle.proto_checks.proofs.field_options.field_setting_fault.Goals as goal
 
 pub returns : goal.returns
-returns c = least_either (IsWronglyPacked c.args.can_be_packed c.args.setting.now) (IsWronglyTyped c.args.is_wide_integer c.args.setting.now) _ _ _
+returns c =
+    let setting = c.args.setting.now in
+    least_either (IsWronglyPacked c.args.can_be_packed setting) (IsWronglyTyped c.args.is_wide_integer setting) _ _ _
     c.packed_fault-packed.ensures c.jstype_fault-jstype.ensures c.lesser.ensures

@@ -6,5 +6,7 @@ use Rattle.proto_checks.proofs.file.names_fault.Goals as goal
 
 pub returns : goal.returns
 returns c =
-    least_either (Each (flat_map names_of c.args.desc.now.messages) MessageNamesBreak) (Each c.args.desc.now.enums EnumNamesBreak) _ _ _
-    (rw c.as_slice.ensures at c.in_ok-messages.ensures) (rw c.as_slice-2.ensures at c.in_ok-enums.ensures) c.lesser.ensures
+    let desc = c.args.desc.now in
+    least_either (Each (flat_map names_of desc.messages) MessageNamesBreak) (Each desc.enums EnumNamesBreak) _ _ _
+    (rw c.as_slice.ensures at c.in_ok-messages.ensures) (rw c.as_slice-2.ensures at c.in_ok-enums.ensures)
+    c.lesser.ensures

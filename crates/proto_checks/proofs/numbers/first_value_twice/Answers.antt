@@ -13,7 +13,8 @@ use Rattle.proto_checks.specs.Marks.{NumberTwice}
 use Rattle.proto_checks.specs.declared.marks.MarkedNumber.{MarkedNumber}
 use Rattle.proto_base.proofs.Sets.{least_same}
 use Rattle.proto_checks.proofs.numbers.first_value_twice.Goals as goal
-use Rattle.proto_checks.proofs.numbers.first_value_twice.Goals.{else-is_some-via-then-is_some+else-is_aliasing, else-is_some-via-else-is_some}
+use Rattle.proto_checks.proofs.numbers.first_value_twice.Goals.{else-is_some-via-then-is_some+else-is_aliasing}
+use Rattle.proto_checks.proofs.numbers.first_value_twice.Goals.{else-is_some-via-else-is_some}
 
 -- where no number stands twice, none does that may not
 none_twice : (alias : Option Setting) (ns : List MarkedNumber) (twice : Option Spot) → is_some twice ≡ false
@@ -26,8 +27,10 @@ returns c =
     let alias = first_setting allow_alias (flat_map enum_setting c.args.items.now) in
     let ns = c.args.numbers.now in
     elim c.else-is_some.branch [
-      | else-is_some-via-then-is_some+else-is_aliasing w ↦ least_same (NumberTwice kind.EnumNumberTwice ns) (ValueTwice alias ns) _
-          (λ x broken. broken.1) (λ x twice. (λ may. true≢false (sym (w.is_aliasing.ensures.1 may) ∙ w.if-is_aliasing.false), twice))
+      | else-is_some-via-then-is_some+else-is_aliasing w ↦
+          least_same (NumberTwice kind.EnumNumberTwice ns) (ValueTwice alias ns) _ (λ x broken. broken.1)
+          (λ x twice. (λ may. true≢false (sym (w.is_aliasing.ensures.1 may) ∙ w.if-is_aliasing.false), twice))
           c.in_ok-twice.ensures
-      | else-is_some-via-else-is_some w ↦ none_twice alias ns _ (sym c.is_some.ensures ∙ w.if-is_some.false) c.in_ok-twice.ensures
+      | else-is_some-via-else-is_some w ↦
+          none_twice alias ns _ (sym c.is_some.ensures ∙ w.if-is_some.false) c.in_ok-twice.ensures
     ]

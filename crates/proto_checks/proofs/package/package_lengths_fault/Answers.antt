@@ -24,4 +24,5 @@ loop-statement-preserved c = elim c.match-statement.branch [
 
 pub returns : goal.returns
 returns c =
-    flat_all (PackageTooLong c.args.limits.now) file_package c.args.statements.now c.loop-statement.statement-index c.loop-statement.first (omega arith) c.loop-statement.invariant
+    flat_all (PackageTooLong c.args.limits.now) file_package c.args.statements.now c.loop-statement.statement-index
+    c.loop-statement.first (omega arith) c.loop-statement.invariant

@@ -24,4 +24,5 @@ loop-item-preserved c = elim c.match-item.branch [
 
 pub returns : goal.returns
 returns c =
-    flat_all RpcBreaks service_rpc c.args.items.now c.loop-item.item-index c.loop-item.first (omega arith) c.loop-item.invariant
+    flat_all RpcBreaks service_rpc c.args.items.now c.loop-item.item-index c.loop-item.first (omega arith)
+    c.loop-item.invariant
