@@ -1,3 +1,4 @@
+pub mod AnyRow
 pub mod ElementUnions
 pub mod Halves
 pub mod Hits

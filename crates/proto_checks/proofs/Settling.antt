@@ -38,7 +38,7 @@ unknown_by e s h r held = none_of (is_known_by s) (rules_of e) r h held
 mistaken_by : (e : Element) (s : Setting) → is_mistaken e s ≡ true → IsMistaken e s
 mistaken_by e s h =
     let w = some_of (is_mistaken_by s) (rules_of e) h in
-    let parts = and_parts (is_setting w.0.name s) _ w.2 in (w.0, w.1, parts.0, no_value (value_of w.0.kind s.value) parts.1)
+    let parts = and_parts (is_setting w.0.word s) _ w.2 in (w.0, w.1, parts.0, no_value (value_of w.0.kind s.value) parts.1)
 
 known_not_unknown : (e : Element) (s : Setting) → is_known e s ≡ true → IsUnknown e s → ⊥
 known_not_unknown e s h u = let w = some_of (is_known_by s) (rules_of e) h in true≢false (sym w.2 ∙ u w.0 w.1)
@@ -48,7 +48,7 @@ unknown_not_mistaken e s u m = true≢false (sym m.2 ∙ u m.0 m.1)
 
 not_mistaken : (e : Element) (s : Setting) → is_mistaken e s ≡ false → IsMistaken e s → ⊥
 not_mistaken e s h m =
-    let passes : is_mistaken_by s m.0 ≡ true = and_from (is_setting m.0.name s) (not (is_some (value_of m.0.kind s.value))) m.2 (rw m.3 refl) in
+    let passes : is_mistaken_by s m.0 ≡ true = and_from (is_setting m.0.word s) (not (is_some (value_of m.0.kind s.value))) m.2 (rw m.3 refl) in
     true≢false (sym passes ∙ none_of (is_mistaken_by s) (rules_of e) m.0 h m.1)
 
 not_known : (e : Element) (s : Setting) → IsUnknown e s → is_known e s ≡ false

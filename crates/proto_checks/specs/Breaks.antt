@@ -5,7 +5,7 @@ use Rattle.proto_tree.specs.declared.message.MessageItem.{MessageItem}
 use Rattle.proto_tree.specs.declared.option.Setting.{Setting}
 use Rattle.proto_base.specs.Sets.{Each}
 use Rattle.proto_base.specs.declared.kind.Kind.TheVariants as kind
-use Rattle.proto_desc.specs.declared.rules.OptionName.TheVariants.{AllowAlias}
+use Rattle.proto_desc.specs.Rules.{allow_alias}
 use Rattle.proto_options.specs.Options.{enum_setting, first_setting}
 use Rattle.proto_options.specs.Statements.{greatest_field_number}
 use Rattle.proto_checks.specs.Gathered.{least_value, greatest_value, message_bounds, message_ranges, enum_bounds, enum_ranges}
@@ -38,7 +38,7 @@ ValueTwice alias ns x = (IsAliasing alias → ⊥) × NumberTwice kind.EnumNumbe
 abbrev pub OwnValueNumbersBreak : List EnumItem → List MarkedNumber → Spot → Type 0
 OwnValueNumbersBreak is ns x =
     (FirstNotZero ns x ⊎ Outside least_value greatest_value kind.EnumNumberRange ns x)
-    ⊎ ValueTwice (first_setting AllowAlias (flat_map enum_setting is)) ns x
+    ⊎ ValueTwice (first_setting allow_alias (flat_map enum_setting is)) ns x
 
 -- what an enum reserves, with the numbers of its values
 abbrev pub EnumRangesBreak : List EnumItem → List MarkedNumber → Spot → Type 0

@@ -5,10 +5,9 @@ use Rattle.std.specs.Option.{is_some}
 use Rattle.proto_base.specs.declared.kind.Kind.TheVariants as kind
 use Rattle.proto_tree.specs.declared.option.Setting.{Setting}
 use Rattle.proto_desc.specs.declared.rules.Element.{Element}
-use Rattle.proto_desc.specs.declared.rules.OptionRule.{OptionRule}
 use Rattle.proto_options.specs.Options.{is_setting, value_of}
 use Rattle.proto_tree.specs.Text.{dotted}
-use Rattle.proto_desc.specs.Rules.{rules_of}
+use Rattle.proto_desc.specs.Rules.{Rule, rules_of}
 use Rattle.proto_base.specs.Least.{spot}
 use Rattle.proto_checks.specs.Marks.{Marked}
 use Rattle.proto_checks.specs.Options.{name_place, value_place}
@@ -16,11 +15,11 @@ use Rattle.proto_base.specs.Sets.{Later}
 use Rattle.proto_checks.specs.declared.options.Judged.{Judged}
 use Rattle.proto_base.specs.declared.spot.Spot.{Spot}
 
-abbrev pub is_known_by : Setting → OptionRule → Bool
-is_known_by s r = is_setting r.name s
+abbrev pub is_known_by : Setting → Rule → Bool
+is_known_by s r = is_setting r.word s
 
-abbrev pub is_mistaken_by : Setting → OptionRule → Bool
-is_mistaken_by s r = is_setting r.name s && not (is_some (value_of r.kind s.value))
+abbrev pub is_mistaken_by : Setting → Rule → Bool
+is_mistaken_by s r = is_setting r.word s && not (is_some (value_of r.kind s.value))
 
 abbrev pub is_known : Element → Setting → Bool
 is_known e s = list_any (is_known_by s) (rules_of e)

@@ -5,7 +5,7 @@ use Rattle.proto_tree.specs.declared.enumeration.EnumItem.{EnumItem}
 use Rattle.proto_tree.specs.declared.message.MessageItem.{MessageItem}
 use Rattle.proto_tree.specs.declared.option.Setting.{Setting}
 use Rattle.proto_desc.specs.declared.options.OptionValue.TheVariants.{Number}
-use Rattle.proto_desc.specs.declared.rules.OptionName.TheVariants.{AllowAlias}
+use Rattle.proto_desc.specs.Rules.{allow_alias}
 use Rattle.proto_desc.specs.declared.rules.ValueKind.TheVariants as value_kind
 use Rattle.proto_options.specs.Options.{enum_setting, first_setting, value_of}
 use Rattle.proto_options.specs.Statements.{greatest_field_number}
@@ -53,7 +53,7 @@ pub data EnumNumbersBreak (items : List EnumItem) (x : Spot) : Type 0 where
   first_not_zero : FirstNotZero (value_numbers items) x → EnumNumbersBreak items x
   value_range : Outside least_value greatest_value kind.EnumNumberRange (value_numbers items) x → EnumNumbersBreak items x
   bound_range : Outside least_value greatest_value kind.EnumNumberRange (enum_bounds items) x → EnumNumbersBreak items x
-  number_twice : (IsAliasing (first_setting AllowAlias (flat_map enum_setting items)) → ⊥)
+  number_twice : (IsAliasing (first_setting allow_alias (flat_map enum_setting items)) → ⊥)
       → NumberTwice kind.EnumNumberTwice (value_numbers items) x → EnumNumbersBreak items x
   reserved : ReservedBreak (enum_ranges items) (enum_reserved_names items) (value_numbers items) x
       → EnumNumbersBreak items x

@@ -21,13 +21,12 @@ use Rattle.proto_base.specs.declared.scalar_type.ScalarType.TheVariants as scala
 use Rattle.proto_desc.specs.declared.options.OptionValue.TheVariants.{Number}
 use Rattle.proto_desc.specs.declared.rules.Element.{Element}
 use Rattle.proto_desc.specs.declared.rules.Element.TheVariants as element
-use Rattle.proto_desc.specs.declared.rules.OptionName.TheVariants.{Packed, Jstype}
-use Rattle.proto_desc.specs.declared.rules.OptionRule.{OptionRule}
 use Rattle.proto_desc.specs.declared.rules.ValueKind.TheVariants as value_kind
 use Rattle.proto_options.specs.Options.{bracketed, is_setting, value_of}
 use Rattle.proto_options.specs.Statements.{oneof_field}
 use Rattle.proto_tree.specs.Text.{dotted}
-use Rattle.proto_desc.specs.Rules.{rules_of}
+use Rattle.proto_desc.specs.Rules.{Rule, rules_of}
+use Rattle.proto_desc.specs.Rules as option
 use Rattle.proto_base.specs.Least.{spot}
 use Rattle.proto_base.specs.Sets.{Each, Later}
 use Rattle.proto_base.specs.declared.spot.Spot.{Spot}
@@ -48,12 +47,12 @@ value_place (constant.String s) = s.first.span.start
 
 -- no option of the element has this name
 abbrev pub IsUnknown : Element → Setting → Type 0
-IsUnknown e s = (r : OptionRule) → Contains (rules_of e) r → is_setting r.name s ≡ false
+IsUnknown e s = (r : Rule) → Contains (rules_of e) r → is_setting r.word s ≡ false
 
 -- the option of this name takes other values
 abbrev pub IsMistaken : Element → Setting → Type 0
 IsMistaken e s =
-    (r : OptionRule) × Contains (rules_of e) r × (is_setting r.name s ≡ true) × (value_of r.kind s.value ≡ None)
+    (r : Rule) × Contains (rules_of e) r × (is_setting r.word s ≡ true) × (value_of r.kind s.value ≡ None)
 
 pub data SettingBreaks (e : Element) (s : Setting) (x : Spot) : Type 0 where
   unknown : IsUnknown e s → x ≡ spot (name_place s) kind.UnknownOption → SettingBreaks e s x
@@ -111,7 +110,7 @@ optioned_fields i = []
 -- `packed = true` on a field that is not packed
 abbrev pub IsWronglyPacked : Bool → Setting → Spot → Type 0
 IsWronglyPacked can_be_packed s x =
-    (can_be_packed ≡ false) × (is_setting Packed s ≡ true) × (value_of value_kind.Bool s.value ≡ Some (Number 1))
+    (can_be_packed ≡ false) × (is_setting option.packed s ≡ true) × (value_of value_kind.Bool s.value ≡ Some (Number 1))
     × (x ≡ spot (name_place s) kind.PackedOnWrongKind)
 
 abbrev pub IsOtherType : Constant → Type 0
@@ -120,7 +119,7 @@ IsOtherType value = (n : ℕ) × (n ≢ 0) × (value_of value_kind.JsType value 
 -- `jstype` other than JS_NORMAL, which is 0, on another type than an integer of 64 bits
 abbrev pub IsWronglyTyped : Bool → Setting → Spot → Type 0
 IsWronglyTyped is_wide_integer s x =
-    (is_wide_integer ≡ false) × (is_setting Jstype s ≡ true)
+    (is_wide_integer ≡ false) × (is_setting option.jstype s ≡ true)
     × IsOtherType s.value × (x ≡ spot (name_place s) kind.JstypeOnWrongKind)
 
 pub data FieldOptionsBreak (f : OptionedField) (x : Spot) : Type 0 where

@@ -11,7 +11,7 @@ use crate::options::{choice_of_value, is_true, name_place};
 use crate::settings::bracketed_settings_fault;
 use proto_base::scalar_type::ScalarType;
 use proto_base::{Kind, Spot, lesser};
-use proto_desc::rules::{Element, OptionName, ValueKind};
+use proto_desc::rules::{Element, JSTYPE, PACKED, ValueKind};
 use proto_options::is_setting;
 use proto_tree::{Declarator, FieldType, Label, Options, Setting};
 use std::alloc::{AllocError, Global};
@@ -52,7 +52,7 @@ pub(crate) fn is_repeated(label: &Option<Label>) -> bool
 fn packed_fault(can_be_packed: bool, setting: &Setting) -> Option<Spot>
     ensures { IsLeast (IsWronglyPacked can_be_packed setting.now) result }
 {
-    if !can_be_packed && is_setting(setting, OptionName::Packed) && is_true(&setting.value) {
+    if !can_be_packed && is_setting(setting, PACKED) && is_true(&setting.value) {
         Some(Spot {
             place: name_place(setting),
             kind: Kind::PackedOnWrongKind,
@@ -75,7 +75,7 @@ fn is_other_type(setting: &Setting) -> bool
 fn jstype_fault(is_wide_integer: bool, setting: &Setting) -> Option<Spot>
     ensures { IsLeast (IsWronglyTyped is_wide_integer setting.now) result }
 {
-    if !is_wide_integer && is_setting(setting, OptionName::Jstype) && is_other_type(setting) {
+    if !is_wide_integer && is_setting(setting, JSTYPE) && is_other_type(setting) {
         Some(Spot {
             place: name_place(setting),
             kind: Kind::JstypeOnWrongKind,

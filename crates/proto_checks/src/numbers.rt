@@ -3,7 +3,7 @@
 
 ghost use Rattle.std.specs.Prelude.{IfOk, flat_map};
 ghost use Rattle.proto_options.specs.Options.{enum_setting, first_setting};
-ghost use Rattle.proto_desc.specs.declared.rules.OptionName.TheVariants.{AllowAlias};
+ghost use Rattle.proto_desc.specs.Rules.{allow_alias};
 ghost use Rattle.proto_checks.specs.Breaks.{RangesBreak, ValueTwice, OwnFieldNumbersBreak, MessageRangesBreak, OwnValueNumbersBreak, EnumRangesBreak};
 ghost use Rattle.proto_base.specs.Least.{IsLeast};
 ghost use Rattle.proto_checks.specs.Numbers.{FirstNotZero, FieldNumbersBreak, EnumNumbersBreak};
@@ -99,7 +99,7 @@ fn first_value_twice(
     numbers: &[MarkedNumber],
 ) -> Result<Option<Spot>, AllocError>
     ensures { IfOk result (λ first. IsLeast
-        (ValueTwice (first_setting AllowAlias (flat_map enum_setting items.now)) numbers.now)
+        (ValueTwice (first_setting allow_alias (flat_map enum_setting items.now)) numbers.now)
         first) }
 {
     let twice = first_number_twice(alloc, Kind::EnumNumberTwice, numbers)?;

@@ -77,14 +77,14 @@ fn is_known(element: Element, setting: &Setting) -> bool
 {
     rules(element)
         .iter()
-        .any(|rule| is_setting(setting, rule.name))
+        .any(|rule| is_setting(setting, rule.word))
 }
 
 /// Whether the element's option of the setting's name takes other values.
 fn is_mistaken(element: Element, setting: &Setting) -> bool
     ensures { result ≡ is_mistaken element setting.now }
 {
-    rules(element).iter().any(|rule| is_setting(setting, rule.name)
+    rules(element).iter().any(|rule| is_setting(setting, rule.word)
         && !is_taken(rule.kind, &setting.value))
 }
 

@@ -2,33 +2,9 @@
 use Rattle.std.specs.Prelude.{ℕ, List, [], ◌∷◌, Option, None, Some, codes, cond, bytes_eq}
 use Rattle.proto_desc.specs.declared.rules.Element.{Element}
 use Rattle.proto_desc.specs.declared.rules.Element.TheVariants as element
-use Rattle.proto_desc.specs.declared.rules.OptionName.{OptionName}
-use Rattle.proto_desc.specs.declared.rules.OptionName.TheVariants.{JavaPackage, JavaOuterClassname, OptimizeFor, JavaMultipleFiles, GoPackage, Deprecated, CcEnableArenas, ObjcClassPrefix, CsharpNamespace, SwiftPrefix, PhpClassPrefix, PhpNamespace, PhpMetadataNamespace, RubyPackage, Packed, Jstype, JsonName, AllowAlias, IdempotencyLevel}
 use Rattle.proto_desc.specs.declared.rules.ValueKind.{ValueKind}
 use Rattle.proto_desc.specs.declared.rules.ValueKind.TheVariants as kind
 use Rattle.proto_desc.specs.declared.rules.OptionRule.{OptionRule}
-
--- the name as sources spell it
-abbrev pub word_of : OptionName → List ℕ
-word_of JavaPackage = codes "java_package"
-word_of JavaOuterClassname = codes "java_outer_classname"
-word_of OptimizeFor = codes "optimize_for"
-word_of JavaMultipleFiles = codes "java_multiple_files"
-word_of GoPackage = codes "go_package"
-word_of Deprecated = codes "deprecated"
-word_of CcEnableArenas = codes "cc_enable_arenas"
-word_of ObjcClassPrefix = codes "objc_class_prefix"
-word_of CsharpNamespace = codes "csharp_namespace"
-word_of SwiftPrefix = codes "swift_prefix"
-word_of PhpClassPrefix = codes "php_class_prefix"
-word_of PhpNamespace = codes "php_namespace"
-word_of PhpMetadataNamespace = codes "php_metadata_namespace"
-word_of RubyPackage = codes "ruby_package"
-word_of Packed = codes "packed"
-word_of Jstype = codes "jstype"
-word_of JsonName = codes "json_name"
-word_of AllowAlias = codes "allow_alias"
-word_of IdempotencyLevel = codes "idempotency_level"
 
 -- an identifier, and the number for which it stands
 abbrev pub choice : List ℕ → ℕ → (List ℕ → Option ℕ) → List ℕ → Option ℕ
@@ -48,41 +24,64 @@ choice_number kind.JsType =
 choice_number kind.IdempotencyLevel = choice (codes "IDEMPOTENCY_UNKNOWN") 0
     (choice (codes "NO_SIDE_EFFECTS") 1 (choice (codes "IDEMPOTENT") 2 no_choice))
 
-abbrev pub rule : OptionName → Option ℕ → ValueKind → OptionRule
-rule name number takes = record { name = name; number = number; kind = takes }
+-- an option of an element: its name as sources spell it, its number in the element's message of options, its values
+pub record Rule : Type 0 where
+  pub word : List ℕ
+  pub number : Option ℕ
+  pub kind : ValueKind
+
+abbrev pub rule : List ℕ → Option ℕ → ValueKind → Rule
+rule word number takes = record { word = word; number = number; kind = takes }
+
+-- a row of the program's tables
+abbrev pub rule_of : OptionRule → Rule
+rule_of row = rule row.word.now row.number row.kind
+
+-- the options that rules and descriptors name by themselves
+abbrev pub packed : List ℕ
+packed = codes "packed"
+
+abbrev pub jstype : List ℕ
+jstype = codes "jstype"
+
+abbrev pub json_name : List ℕ
+json_name = codes "json_name"
+
+abbrev pub allow_alias : List ℕ
+allow_alias = codes "allow_alias"
 
 -- the options that an element may have, by rising number; `json_name` sets a field of the descriptor and no option
-abbrev pub rules_of : Element → List OptionRule
+abbrev pub rules_of : Element → List Rule
 rules_of element.File =
-    rule JavaPackage (Some 1) kind.Text ∷
-    rule JavaOuterClassname (Some 8) kind.Text ∷
-    rule OptimizeFor (Some 9) kind.OptimizeMode ∷
-    rule JavaMultipleFiles (Some 10) kind.Bool ∷
-    rule GoPackage (Some 11) kind.Text ∷
-    rule Deprecated (Some 23) kind.Bool ∷
-    rule CcEnableArenas (Some 31) kind.Bool ∷
-    rule ObjcClassPrefix (Some 36) kind.Text ∷
-    rule CsharpNamespace (Some 37) kind.Text ∷
-    rule SwiftPrefix (Some 39) kind.Text ∷
-    rule PhpClassPrefix (Some 40) kind.Text ∷
-    rule PhpNamespace (Some 41) kind.Text ∷
-    rule PhpMetadataNamespace (Some 44) kind.Text ∷
-    rule RubyPackage (Some 45) kind.Text ∷ []
+    rule (codes "java_package") (Some 1) kind.Text ∷
+    rule (codes "java_outer_classname") (Some 8) kind.Text ∷
+    rule (codes "optimize_for") (Some 9) kind.OptimizeMode ∷
+    rule (codes "java_multiple_files") (Some 10) kind.Bool ∷
+    rule (codes "go_package") (Some 11) kind.Text ∷
+    rule (codes "deprecated") (Some 23) kind.Bool ∷
+    rule (codes "cc_enable_arenas") (Some 31) kind.Bool ∷
+    rule (codes "objc_class_prefix") (Some 36) kind.Text ∷
+    rule (codes "csharp_namespace") (Some 37) kind.Text ∷
+    rule (codes "swift_prefix") (Some 39) kind.Text ∷
+    rule (codes "php_class_prefix") (Some 40) kind.Text ∷
+    rule (codes "php_namespace") (Some 41) kind.Text ∷
+    rule (codes "php_metadata_namespace") (Some 44) kind.Text ∷
+    rule (codes "ruby_package") (Some 45) kind.Text ∷ []
 rules_of element.Message =
-    rule Deprecated (Some 3) kind.Bool ∷ []
+    rule (codes "deprecated") (Some 3) kind.Bool ∷ []
 rules_of element.Field =
-    rule Packed (Some 2) kind.Bool ∷
-    rule Deprecated (Some 3) kind.Bool ∷
-    rule Jstype (Some 6) kind.JsType ∷
-    rule JsonName None kind.Text ∷ []
+    rule packed (Some 2) kind.Bool ∷
+    rule (codes "deprecated") (Some 3) kind.Bool ∷
+    rule jstype (Some 6) kind.JsType ∷
+    rule json_name None kind.Text ∷ []
 rules_of element.Oneof = []
 rules_of element.Enum =
-    rule AllowAlias (Some 2) kind.Bool ∷
-    rule Deprecated (Some 3) kind.Bool ∷ []
+    rule allow_alias (Some 2) kind.Bool ∷
+    rule (codes "deprecated") (Some 3) kind.Bool ∷ []
 rules_of element.EnumValue =
-    rule Deprecated (Some 1) kind.Bool ∷ []
+    rule (codes "deprecated") (Some 1) kind.Bool ∷ []
 rules_of element.Service =
-    rule Deprecated (Some 33) kind.Bool ∷ []
+    rule (codes "deprecated") (Some 33) kind.Bool ∷ []
 rules_of element.Method =
-    rule Deprecated (Some 33) kind.Bool ∷
-    rule IdempotencyLevel (Some 34) kind.IdempotencyLevel ∷ []
+    rule (codes "deprecated") (Some 33) kind.Bool ∷
+    rule (codes "idempotency_level") (Some 34) kind.IdempotencyLevel ∷ []

@@ -1,7 +1,7 @@
 //! The options that each element may have (`FileOptions` to `MethodOptions`).
 
-ghost use Rattle.std.specs.Prelude.{◌≡◌};
-ghost use Rattle.proto_desc.specs.Rules.{word_of, choice_number, rules_of};
+ghost use Rattle.std.specs.Prelude.{◌≡◌, map};
+ghost use Rattle.proto_desc.specs.Rules.{choice_number, rule_of, rules_of};
 ghost use Rattle.proto_desc.specs.declared.rules.ValueKind.TheVariants.{Bool, OptimizeMode, JsType, IdempotencyLevel};
 
 /// An element that may have options. A member of a oneof and a map field are fields.
@@ -17,30 +17,6 @@ pub enum Element {
     Method,
 }
 
-/// The name of an option.
-#[derive(Clone, Copy, PartialEq, Eq)]
-pub enum OptionName {
-    JavaPackage,
-    JavaOuterClassname,
-    OptimizeFor,
-    JavaMultipleFiles,
-    GoPackage,
-    Deprecated,
-    CcEnableArenas,
-    ObjcClassPrefix,
-    CsharpNamespace,
-    SwiftPrefix,
-    PhpClassPrefix,
-    PhpNamespace,
-    PhpMetadataNamespace,
-    RubyPackage,
-    Packed,
-    Jstype,
-    JsonName,
-    AllowAlias,
-    IdempotencyLevel,
-}
-
 /// What values an option takes: strings, or identifiers that stand for numbers.
 #[derive(Clone, Copy, PartialEq, Eq)]
 pub enum ValueKind {
@@ -52,41 +28,12 @@ pub enum ValueKind {
 }
 
 /// An option of an element.
-#[derive(Clone, Copy, PartialEq, Eq)]
 pub struct OptionRule {
-    pub name: OptionName,
+    /// Its name as sources spell it.
+    pub word: &'static str,
     /// Its field number in the element's message of options. `json_name` has none: it is a field of the descriptor.
     pub number: Option<u32>,
     pub kind: ValueKind,
-}
-
-impl OptionName {
-    /// The name as sources spell it.
-    pub fn word(self) -> &'static str
-        ensures { result.now ≡ word_of self }
-    {
-        match self {
-            OptionName::JavaPackage => "java_package",
-            OptionName::JavaOuterClassname => "java_outer_classname",
-            OptionName::OptimizeFor => "optimize_for",
-            OptionName::JavaMultipleFiles => "java_multiple_files",
-            OptionName::GoPackage => "go_package",
-            OptionName::Deprecated => "deprecated",
-            OptionName::CcEnableArenas => "cc_enable_arenas",
-            OptionName::ObjcClassPrefix => "objc_class_prefix",
-            OptionName::CsharpNamespace => "csharp_namespace",
-            OptionName::SwiftPrefix => "swift_prefix",
-            OptionName::PhpClassPrefix => "php_class_prefix",
-            OptionName::PhpNamespace => "php_namespace",
-            OptionName::PhpMetadataNamespace => "php_metadata_namespace",
-            OptionName::RubyPackage => "ruby_package",
-            OptionName::Packed => "packed",
-            OptionName::Jstype => "jstype",
-            OptionName::JsonName => "json_name",
-            OptionName::AllowAlias => "allow_alias",
-            OptionName::IdempotencyLevel => "idempotency_level",
-        }
-    }
 }
 
 impl ValueKind {
@@ -147,158 +94,81 @@ fn idempotency_level_number(word: &str) -> Option<u64>
     }
 }
 
-static FILE_RULES: [OptionRule; 14] = [
-    OptionRule {
-        name: OptionName::JavaPackage,
-        number: Some(1),
-        kind: ValueKind::Text,
-    },
-    OptionRule {
-        name: OptionName::JavaOuterClassname,
-        number: Some(8),
-        kind: ValueKind::Text,
-    },
-    OptionRule {
-        name: OptionName::OptimizeFor,
-        number: Some(9),
-        kind: ValueKind::OptimizeMode,
-    },
-    OptionRule {
-        name: OptionName::JavaMultipleFiles,
-        number: Some(10),
-        kind: ValueKind::Bool,
-    },
-    OptionRule {
-        name: OptionName::GoPackage,
-        number: Some(11),
-        kind: ValueKind::Text,
-    },
-    OptionRule {
-        name: OptionName::Deprecated,
-        number: Some(23),
-        kind: ValueKind::Bool,
-    },
-    OptionRule {
-        name: OptionName::CcEnableArenas,
-        number: Some(31),
-        kind: ValueKind::Bool,
-    },
-    OptionRule {
-        name: OptionName::ObjcClassPrefix,
-        number: Some(36),
-        kind: ValueKind::Text,
-    },
-    OptionRule {
-        name: OptionName::CsharpNamespace,
-        number: Some(37),
-        kind: ValueKind::Text,
-    },
-    OptionRule {
-        name: OptionName::SwiftPrefix,
-        number: Some(39),
-        kind: ValueKind::Text,
-    },
-    OptionRule {
-        name: OptionName::PhpClassPrefix,
-        number: Some(40),
-        kind: ValueKind::Text,
-    },
-    OptionRule {
-        name: OptionName::PhpNamespace,
-        number: Some(41),
-        kind: ValueKind::Text,
-    },
-    OptionRule {
-        name: OptionName::PhpMetadataNamespace,
-        number: Some(44),
-        kind: ValueKind::Text,
-    },
-    OptionRule {
-        name: OptionName::RubyPackage,
-        number: Some(45),
-        kind: ValueKind::Text,
-    },
+/// Of a field: whether its numbers stand packed.
+pub const PACKED: &str = "packed";
+
+/// Of a field: how JavaScript has its number.
+pub const JSTYPE: &str = "jstype";
+
+/// Of a field: its JSON name.
+pub const JSON_NAME: &str = "json_name";
+
+/// Of an enum: whether its values may share a number.
+pub const ALLOW_ALIAS: &str = "allow_alias";
+
+/// A row: an option by its word, its number and the kind of its values.
+macro_rules! rule {
+    ($word:expr, $number:expr, $kind:ident) => {
+        OptionRule {
+            word: $word,
+            number: $number,
+            kind: ValueKind::$kind,
+        }
+    };
+}
+
+static FILE_RULES: &[OptionRule] = &[
+    rule!("java_package", Some(1), Text),
+    rule!("java_outer_classname", Some(8), Text),
+    rule!("optimize_for", Some(9), OptimizeMode),
+    rule!("java_multiple_files", Some(10), Bool),
+    rule!("go_package", Some(11), Text),
+    rule!("deprecated", Some(23), Bool),
+    rule!("cc_enable_arenas", Some(31), Bool),
+    rule!("objc_class_prefix", Some(36), Text),
+    rule!("csharp_namespace", Some(37), Text),
+    rule!("swift_prefix", Some(39), Text),
+    rule!("php_class_prefix", Some(40), Text),
+    rule!("php_namespace", Some(41), Text),
+    rule!("php_metadata_namespace", Some(44), Text),
+    rule!("ruby_package", Some(45), Text),
 ];
 
-static MESSAGE_RULES: [OptionRule; 1] = [OptionRule {
-    name: OptionName::Deprecated,
-    number: Some(3),
-    kind: ValueKind::Bool,
-}];
+static MESSAGE_RULES: &[OptionRule] = &[rule!("deprecated", Some(3), Bool)];
 
-static FIELD_RULES: [OptionRule; 4] = [
-    OptionRule {
-        name: OptionName::Packed,
-        number: Some(2),
-        kind: ValueKind::Bool,
-    },
-    OptionRule {
-        name: OptionName::Deprecated,
-        number: Some(3),
-        kind: ValueKind::Bool,
-    },
-    OptionRule {
-        name: OptionName::Jstype,
-        number: Some(6),
-        kind: ValueKind::JsType,
-    },
-    OptionRule {
-        name: OptionName::JsonName,
-        number: None,
-        kind: ValueKind::Text,
-    },
+static FIELD_RULES: &[OptionRule] = &[
+    rule!(PACKED, Some(2), Bool),
+    rule!("deprecated", Some(3), Bool),
+    rule!(JSTYPE, Some(6), JsType),
+    rule!(JSON_NAME, None, Text),
 ];
 
-static ENUM_RULES: [OptionRule; 2] = [
-    OptionRule {
-        name: OptionName::AllowAlias,
-        number: Some(2),
-        kind: ValueKind::Bool,
-    },
-    OptionRule {
-        name: OptionName::Deprecated,
-        number: Some(3),
-        kind: ValueKind::Bool,
-    },
+static ENUM_RULES: &[OptionRule] = &[
+    rule!(ALLOW_ALIAS, Some(2), Bool),
+    rule!("deprecated", Some(3), Bool),
 ];
 
-static ENUM_VALUE_RULES: [OptionRule; 1] = [OptionRule {
-    name: OptionName::Deprecated,
-    number: Some(1),
-    kind: ValueKind::Bool,
-}];
+static ENUM_VALUE_RULES: &[OptionRule] = &[rule!("deprecated", Some(1), Bool)];
 
-static SERVICE_RULES: [OptionRule; 1] = [OptionRule {
-    name: OptionName::Deprecated,
-    number: Some(33),
-    kind: ValueKind::Bool,
-}];
+static SERVICE_RULES: &[OptionRule] = &[rule!("deprecated", Some(33), Bool)];
 
-static METHOD_RULES: [OptionRule; 2] = [
-    OptionRule {
-        name: OptionName::Deprecated,
-        number: Some(33),
-        kind: ValueKind::Bool,
-    },
-    OptionRule {
-        name: OptionName::IdempotencyLevel,
-        number: Some(34),
-        kind: ValueKind::IdempotencyLevel,
-    },
+static METHOD_RULES: &[OptionRule] = &[
+    rule!("deprecated", Some(33), Bool),
+    rule!("idempotency_level", Some(34), IdempotencyLevel),
 ];
 
 /// The options that an element may have, by rising number, and `json_name` last.
 pub fn rules(element: Element) -> &'static [OptionRule]
-    ensures { result.now ≡ rules_of element }
+    ensures { map rule_of result.now ≡ rules_of element }
 {
     match element {
-        Element::File => &FILE_RULES,
-        Element::Message => &MESSAGE_RULES,
-        Element::Field => &FIELD_RULES,
+        Element::File => FILE_RULES,
+        Element::Message => MESSAGE_RULES,
+        Element::Field => FIELD_RULES,
         Element::Oneof => &[],
-        Element::Enum => &ENUM_RULES,
-        Element::EnumValue => &ENUM_VALUE_RULES,
-        Element::Service => &SERVICE_RULES,
-        Element::Method => &METHOD_RULES,
+        Element::Enum => ENUM_RULES,
+        Element::EnumValue => ENUM_VALUE_RULES,
+        Element::Service => SERVICE_RULES,
+        Element::Method => METHOD_RULES,
     }
 }

@@ -23,14 +23,12 @@ use Rattle.proto_tree.specs.declared.option.Setting.{Setting}
 use Rattle.proto_desc.specs.declared.options.OptionDesc.{OptionDesc}
 use Rattle.proto_desc.specs.declared.options.OptionValue.{OptionValue}
 use Rattle.proto_desc.specs.declared.rules.Element.{Element}
-use Rattle.proto_desc.specs.declared.rules.OptionName.{OptionName}
-use Rattle.proto_desc.specs.declared.rules.OptionRule.{OptionRule}
 use Rattle.proto_desc.specs.declared.rules.ValueKind.{ValueKind}
 use Rattle.proto_lower.specs.Fields.{type_place, kind_of}
 use Rattle.proto_options.specs.Options.{next_item, separated, bracketed, is_setting, first_setting, value_of}
 use Rattle.proto_lower.specs.Options.{option_at, option_by, option_under, options_of}
 use Rattle.proto_desc.specs.Places.{kind_places, option_place}
-use Rattle.proto_desc.specs.Rules.{rules_of}
+use Rattle.proto_desc.specs.Rules.{Rule, rules_of}
 use Rattle.std.proofs.Common.{◌+◌}
 use Rattle.proto_syntax.specs.Trees.{name_tree, part_tree, full_tree, oneof_item_tree, oneof_tree, map_type_tree, map_tree, message_item_tree}
 use Rattle.proto_tree.specs.declared.field.Label.TheVariants as label
@@ -180,12 +178,12 @@ bracketed_within region None all = tt
 bracketed_within region (Some o) all =
     separated_within region o.settings (left_of region (separated_tree setting_tree o.settings) (symbol_tree (byte "]") o.close_bracket) all.1)
 
-first_within : (region : ℕ → Type 0) (name : OptionName) (ss : List Setting) (s : Setting)
-    → AllByRecursion (NameWithin region) ss → first_setting name ss ≡ Some s → NameWithin region s
-first_within region name [] s all e = cc
-first_within region name (x ∷ xs) s all e = by_cases (is_setting name x) e (λ h. first_within region name xs s all.1 h)
+first_within : (region : ℕ → Type 0) (word : List ℕ) (ss : List Setting) (s : Setting)
+    → AllByRecursion (NameWithin region) ss → first_setting word ss ≡ Some s → NameWithin region s
+first_within region word [] s all e = cc
+first_within region word (x ∷ xs) s all e = by_cases (is_setting word x) e (λ h. first_within region word xs s all.1 h)
   where
-    by_cases : (b : Bool) → cond b (Some x) (first_setting name xs) ≡ Some s → (first_setting name xs ≡ Some s → NameWithin region s) → NameWithin region s
+    by_cases : (b : Bool) → cond b (Some x) (first_setting word xs) ≡ Some s → (first_setting word xs ≡ Some s → NameWithin region s) → NameWithin region s
     by_cases true h later = let same : x ≡ s = cc in subst (NameWithin region) same all.0
     by_cases false h later = later h
 
@@ -207,9 +205,9 @@ options_within : (region : ℕ → Type 0) (e : Element) (ss : List Setting) →
 unfolding options_of
 options_within region e ss all = each_flat (OptionWithin region) (option_under ss) (rules_of e) (each (rules_of e))
   where
-    each : (rs : List OptionRule) → AllByRecursion (λ r. AllByRecursion (OptionWithin region) (option_under ss r)) rs
+    each : (rs : List Rule) → AllByRecursion (λ r. AllByRecursion (OptionWithin region) (option_under ss r)) rs
     each [] = tt
-    each (r ∷ rs) = (by_within region r.number r.kind (first_setting r.name ss) (λ s h. first_within region r.name ss s all h), each rs)
+    each (r ∷ rs) = (by_within region r.number r.kind (first_setting r.word ss) (λ s h. first_within region r.word ss s all h), each rs)
 
 -- ---- types
 

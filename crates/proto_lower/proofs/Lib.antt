@@ -2,6 +2,7 @@ pub mod Nested
 mod NoneMade
 mod Raised
 mod Free
+mod OptionRows
 mod OptionsRise
 mod MadeOneofs
 mod OneofIndexes

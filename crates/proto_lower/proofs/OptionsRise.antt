@@ -8,9 +8,8 @@ use Rattle.proto_desc.specs.declared.options.OptionDesc.{OptionDesc}
 use Rattle.proto_desc.specs.declared.options.OptionValue.{OptionValue}
 use Rattle.proto_desc.specs.declared.rules.Element.{Element}
 use Rattle.proto_desc.specs.declared.rules.Element.TheVariants as element
-use Rattle.proto_desc.specs.declared.rules.OptionRule.{OptionRule}
 use Rattle.proto_desc.specs.declared.rules.ValueKind.{ValueKind}
-use Rattle.proto_desc.specs.Rules.{rules_of}
+use Rattle.proto_desc.specs.Rules.{Rule, rules_of}
 use Rattle.proto_options.specs.Options.{first_setting, value_of}
 use Rattle.proto_lower.specs.Options.{option_at, option_by, option_under, options_of}
 
@@ -30,7 +29,7 @@ rises_at least (n ∷ m ∷ ns) zero rises within = omega (arith, rises.1.0)
 rises_at least (n ∷ m ∷ ns) (suc k) rises within = rises_at (n + 1) (m ∷ ns) k rises.1 (omega arith)
 
 -- the number of a rule's option, if it has one
-abbrev rule_number : OptionRule → List ℕ
+abbrev rule_number : Rule → List ℕ
 rule_number r = option_to_list r.number
 
 abbrev numbers : List OptionDesc → List ℕ
@@ -53,11 +52,11 @@ with_number : (least : ℕ) (number : Option ℕ) (kind : ValueKind) (found : Op
 with_number least None kind found rest after later rises = later least rises
 with_number least (Some n) kind found rest after later rises = with_setting least n kind found rest rises.0 (later (n + 1) rises.1)
 
-under_rules : (settings : List Setting) (rs : List OptionRule) (least : ℕ) → RisesFrom least (flat_map rule_number rs)
+under_rules : (settings : List Setting) (rs : List Rule) (least : ℕ) → RisesFrom least (flat_map rule_number rs)
     → RisesFrom least (numbers (flat_map (option_under settings) rs))
 under_rules settings [] least rises = tt
 under_rules settings (r ∷ rs) least rises =
-    with_number least r.number r.kind (first_setting r.name settings) (flat_map (option_under settings) rs)
+    with_number least r.number r.kind (first_setting r.word settings) (flat_map (option_under settings) rs)
     (flat_map rule_number rs) (under_rules settings rs) rises
 
 -- the tables' numbers rise

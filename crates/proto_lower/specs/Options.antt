@@ -7,11 +7,9 @@ use Rattle.proto_tree.specs.declared.option.Setting.{Setting}
 use Rattle.proto_desc.specs.declared.options.OptionDesc.{OptionDesc}
 use Rattle.proto_desc.specs.declared.options.OptionValue.{OptionValue}
 use Rattle.proto_desc.specs.declared.rules.Element.{Element}
-use Rattle.proto_desc.specs.declared.rules.OptionName.TheVariants.{JsonName}
-use Rattle.proto_desc.specs.declared.rules.OptionRule.{OptionRule}
 use Rattle.proto_desc.specs.declared.rules.ValueKind.{ValueKind}
 use Rattle.proto_lower.specs.Names.{json_name_of}
-use Rattle.proto_desc.specs.Rules.{rules_of}
+use Rattle.proto_desc.specs.Rules.{Rule, json_name, rules_of}
 use Rattle.proto_tree.specs.Text.{joined}
 use Rattle.proto_options.specs.Options.{first_setting, value_of}
 
@@ -23,8 +21,8 @@ abbrev pub option_by : Option ℕ → ValueKind → Option Setting → Option Op
 option_by (Some number) kind (Some s) = option_map (option_at number s) (value_of kind s.value)
 option_by number kind s = None
 
-abbrev pub option_under : List Setting → OptionRule → List OptionDesc
-option_under settings r = option_to_list (option_by r.number r.kind (first_setting r.name settings))
+abbrev pub option_under : List Setting → Rule → List OptionDesc
+option_under settings r = option_to_list (option_by r.number r.kind (first_setting r.word settings))
 
 -- the options of an element with these settings, by rising number
 unfoldable pub options_of : Element → List Setting → List OptionDesc
@@ -40,4 +38,4 @@ json_name_at name (Some s) = text_or (json_name_of name) s.value
 
 -- the JSON name of a field with these settings
 unfoldable pub json_name_by : List Setting → List ℕ → List ℕ
-json_name_by settings name = json_name_at name (first_setting JsonName settings)
+json_name_by settings name = json_name_at name (first_setting json_name settings)

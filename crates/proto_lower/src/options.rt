@@ -10,7 +10,7 @@ use crate::names::json_text;
 use proto_base::row::Row;
 use proto_base::text::Text;
 use proto_desc::options::{OptionDesc, OptionValue};
-use proto_desc::rules::{Element, OptionName, OptionRule, ValueKind, rules};
+use proto_desc::rules::{Element, JSON_NAME, OptionRule, ValueKind, rules};
 use proto_options::{Item, first_bracketed, first_setting, number_of};
 use proto_tree::text::joined;
 use proto_tree::{Constant, Options, Setting};
@@ -82,7 +82,7 @@ pub(crate) fn field_json_name<'s>(
 ) -> Result<Text<'s>, AllocError>
     ensures { IfOk result (λ json. json ≡ json_name_by (bracketed options.now) name.now) }
 {
-    if let Some(setting) = first_bracketed(options, OptionName::JsonName) {
+    if let Some(setting) = first_bracketed(options, JSON_NAME) {
         if let Constant::String(value) = &setting.value {
             return joined(alloc, value);
         }
@@ -91,7 +91,6 @@ pub(crate) fn field_json_name<'s>(
 }
 
 /// The options of a field or an enum value.
-#[tactic(auto, unfolding(crate::specs::Options::options_of))]
 pub(crate) fn bracketed_options<'s>(
     alloc: Global,
     element: Element,
@@ -101,13 +100,12 @@ pub(crate) fn bracketed_options<'s>(
 {
     let mut set = Vec::new(alloc);
     for rule in rules(element) {
-        put_option(alloc, &mut set, rule, first_bracketed(options, rule.name))?;
+        put_option(alloc, &mut set, rule, first_bracketed(options, rule.word))?;
     }
     Ok(Row::from_vec(set))
 }
 
 /// The options that the statements of an element set.
-#[tactic(auto, unfolding(crate::specs::Options::options_of))]
 pub(crate) fn options_of<'s, I: Item<'s>>(
     alloc: Global,
     element: Element,
@@ -117,7 +115,7 @@ pub(crate) fn options_of<'s, I: Item<'s>>(
 {
     let mut set = Vec::new(alloc);
     for rule in rules(element) {
-        put_option(alloc, &mut set, rule, first_setting(items, rule.name))?;
+        put_option(alloc, &mut set, rule, first_setting(items, rule.word))?;
     }
     Ok(Row::from_vec(set))
 }

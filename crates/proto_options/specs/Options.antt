@@ -22,10 +22,9 @@ use Rattle.proto_tree.specs.declared.service.ServiceItem.{ServiceItem}
 use Rattle.proto_tree.specs.declared.service.ServiceItem.TheVariants as service_item
 use Rattle.proto_desc.specs.declared.options.OptionValue.{OptionValue}
 use Rattle.proto_desc.specs.declared.options.OptionValue.TheVariants.{Text, Number}
-use Rattle.proto_desc.specs.declared.rules.OptionName.{OptionName}
 use Rattle.proto_desc.specs.declared.rules.ValueKind.{ValueKind}
 use Rattle.proto_desc.specs.declared.rules.ValueKind.TheVariants as kind
-use Rattle.proto_desc.specs.Rules.{word_of, choice_number}
+use Rattle.proto_desc.specs.Rules.{choice_number}
 use Rattle.proto_tree.specs.Text.{joined, simple_name}
 
 -- what stands with commas between
@@ -65,14 +64,13 @@ abbrev pub rpc_setting : RpcItem → List Setting
 rpc_setting (rpc_item.Option o) = o.setting ∷ []
 rpc_setting i = []
 
--- whether a setting is of this option; a name with dots is of none
-abbrev pub is_setting : OptionName → Setting → Bool
-is_setting name s =
-    unwrap_or (option_map (λ word. bytes_eq word (word_of name)) (simple_name s.name.rest s.name.first)) false
+-- whether a setting is of the option of this word; a name with dots is of none
+abbrev pub is_setting : List ℕ → Setting → Bool
+is_setting word s = unwrap_or (option_map (λ name. bytes_eq name word) (simple_name s.name.rest s.name.first)) false
 
-abbrev pub first_setting : OptionName → List Setting → Option Setting
-first_setting name [] = None
-first_setting name (s ∷ ss) = cond (is_setting name s) (Some s) (first_setting name ss)
+abbrev pub first_setting : List ℕ → List Setting → Option Setting
+first_setting word [] = None
+first_setting word (s ∷ ss) = cond (is_setting word s) (Some s) (first_setting word ss)
 
 -- the number that a name stands for as a value of this kind
 abbrev pub number_of : ValueKind → FullName → Option ℕ

@@ -4,7 +4,6 @@ ghost use Rattle.std.specs.Prelude.{◌≡◌, flat_map};
 ghost use Rattle.std.specs.Option.{option_copied, option_to_list};
 ghost use Rattle.proto_options.specs.Options.{is_setting, first_setting, bracketed, file_setting, message_setting, oneof_setting, enum_setting, service_setting, rpc_setting};
 
-use proto_desc::rules::OptionName;
 use proto_tree::text::simple_name;
 use proto_tree::{
     EnumItem, MessageItem, OneofItem, Options, RpcItem, ServiceItem, Setting, Statement,
@@ -89,12 +88,12 @@ impl<'s> Item<'s> for RpcItem<'s> {
     }
 }
 
-/// Whether a setting is of this option; a name with dots is of none.
-pub fn is_setting(setting: &Setting, name: OptionName) -> bool
-    ensures { result ≡ is_setting name setting.now }
+/// Whether a setting is of the option of this word; a name with dots is of none.
+pub fn is_setting(setting: &Setting, word: &str) -> bool
+    ensures { result ≡ is_setting word.now setting.now }
 {
     match simple_name(&setting.name) {
-        Some(word) => word == name.word(),
+        Some(name) => name == word,
         None => false,
     }
 }
@@ -102,18 +101,18 @@ pub fn is_setting(setting: &Setting, name: OptionName) -> bool
 /// The first among the options of a field or of an enum value.
 pub fn first_bracketed<'t, 's>(
     options: &'t Option<Options<'s>>,
-    name: OptionName,
+    word: &str,
 ) -> Option<&'t Setting<'s>>
-    ensures { option_copied result ≡ first_setting name (bracketed options.now) }
+    ensures { option_copied result ≡ first_setting word.now (bracketed options.now) }
 {
     let Some(options) = options else {
         return None;
     };
-    if is_setting(&options.settings.first, name) {
+    if is_setting(&options.settings.first, word) {
         return Some(&options.settings.first);
     }
     for next in options.settings.rest.as_slice() {
-        if is_setting(&next.item, name) {
+        if is_setting(&next.item, word) {
             return Some(&next.item);
         }
     }
@@ -121,15 +120,12 @@ pub fn first_bracketed<'t, 's>(
 }
 
 /// The first among these statements.
-pub fn first_setting<'t, 's, I: Item<'s>>(
-    items: &'t [I],
-    name: OptionName,
-) -> Option<&'t Setting<'s>>
-    ensures { option_copied result ≡ first_setting name (flat_map I.setting_of items.now) }
+pub fn first_setting<'t, 's, I: Item<'s>>(items: &'t [I], word: &str) -> Option<&'t Setting<'s>>
+    ensures { option_copied result ≡ first_setting word.now (flat_map I.setting_of items.now) }
 {
     for item in items {
         if let Some(setting) = item.setting() {
-            if is_setting(setting, name) {
+            if is_setting(setting, word) {
                 return Some(setting);
             }
         }

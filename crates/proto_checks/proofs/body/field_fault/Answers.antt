@@ -1,0 +1,11 @@
+use Rattle.std.proofs.Common.{◌≡◌, ◌&&◌, arith}
+use Rattle.std.proofs.lemmas.Grind.{common_steps}
+use Rattle.proto_checks.specs.Options.{is_repeated, is_packed_type}
+use Rattle.proto_checks.proofs.body.field_fault.Goals as goal
+
+pub returns : goal.returns
+returns c =
+    let field = c.args.field.now in
+    let packed : c.if-is_repeated.can_be_packed ≡ (is_repeated field.label && is_packed_type field.field_type) =
+    grind (arith, common_steps) in
+    rw (packed, c.is_wide-is_wide_integer.ensures) at c.field_options_fault.ensures

@@ -1,0 +1,22 @@
+-- What the rows of the table give is what its rules give.
+use Rattle.std.proofs.Common.{◌≡◌, ◌∙◌, ap, sym, ℕ, ◌≤◌, List, map, length, take, take_all}
+use Rattle.std.specs.Prelude.{flat_map}
+use Rattle.std.proofs.lemmas.List.Folds.{flat_map-map}
+use Rattle.proto_tree.specs.declared.option.Setting.{Setting}
+use Rattle.proto_desc.specs.declared.options.OptionDesc.{OptionDesc}
+use Rattle.proto_desc.specs.declared.rules.Element.{Element}
+use Rattle.proto_desc.specs.declared.rules.OptionRule.{OptionRule}
+use Rattle.proto_desc.specs.Rules.{rule_of, rules_of}
+use Rattle.proto_lower.specs.Options.{option_under, options_of}
+
+-- what a row gives
+abbrev pub option_by_row : List Setting → OptionRule → List OptionDesc
+option_by_row settings row = option_under settings (rule_of row)
+
+pub rows_give : (settings : List Setting) (e : Element) (rows : List OptionRule) (count : ℕ) (made : List OptionDesc)
+    → length rows ≤ count → made ≡ flat_map (option_by_row settings) (take count rows) → map rule_of rows ≡ rules_of e
+    → made ≡ options_of e settings
+unfolding options_of
+rows_give settings e rows count made all by_rows table =
+    by_rows ∙ ap (flat_map (option_by_row settings)) (take_all count rows all)
+    ∙ sym (flat_map-map (option_under settings) rule_of rows) ∙ ap (flat_map (option_under settings)) table
