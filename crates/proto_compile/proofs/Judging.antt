@@ -19,26 +19,6 @@ use Rattle.proto_compile.specs.declared.error.CompileError.{CompileError}
 use Rattle.proto_compile.specs.declared.error.CompileError.TheVariants as errors
 use Rattle.proto_compile.specs.declared.source.Source.{Source}
 
--- ---- what stands at one position in two lists
-
--- one more of each
-zip_from_end : {X Y : Type 0} (R : ℕ → X → Y → Type 0) (a : ℕ) (xs : List X) (ys : List Y) (x : X) (y : Y)
-    → AllZipFrom R a xs ys → R (a + length xs) x y → AllZipFrom R a (xs ++ x ∷ []) (ys ++ y ∷ [])
-zip_from_end R a [] [] x y all last = let at : a + 0 ≡ a = omega arith in (subst (λ k. R k x y) at last, tt)
-zip_from_end R a [] (h ∷ ys) x y all last = absurd all
-zip_from_end R a (e ∷ xs) [] x y all last = absurd all
-zip_from_end R a (e ∷ xs) (h ∷ ys) x y all last =
-    let at : a + length (e ∷ xs) ≡ a + 1 + length xs = omega arith in
-    (all.0, zip_from_end R (a + 1) xs ys x y all.1 (subst (λ k. R k x y) at last))
-
-pub zip_from_next : {X Y : Type 0} (R : ℕ → X → Y → Type 0) (xs : List X) (k : ℕ) (x : X) (ys : List Y) (y : Y)
-    → k < length xs → x ≡ get_or xs k x → AllZipFrom R 0 (take k xs) ys → R k x y
-    → AllZipFrom R 0 (take (k + 1) xs) (ys ++ y ∷ [])
-zip_from_next R xs k x ys y h is all last =
-    let at : k ≡ 0 + length (take k xs) = omega (arith, length-take k xs, h) in
-    rw (take_more xs k x h) (subst (λ z. AllZipFrom R 0 (take k xs ++ z ∷ []) (ys ++ y ∷ [])) is
-    (zip_from_end R 0 (take k xs) ys x y all (subst (λ j. R j x y) at last)))
-
 -- ---- what workers give for items in shares
 
 -- where positions do not matter
@@ -50,6 +30,21 @@ all_of_gives R a (x ∷ xs) [] gives = absurd (omega (arith, gives.0))
 all_of_gives R a (x ∷ xs) (y ∷ ys) gives =
     let same : length ys ≡ length xs = omega (arith, gives.0) in
     (gives.1 0 x y refl refl, all_of_gives R a xs ys (same, λ i t o item out. gives.1 (suc i) t o item out))
+
+-- what is given for each stands at its position
+pub zip_from_gives : {X Y : Type 0} (R : ℕ → X → Y → Type 0) (a : ℕ) (xs : List X) (ys : List Y) → GivesItems R a xs ys
+    → AllZipFrom R a xs ys
+zip_from_gives R a [] [] gives = tt
+zip_from_gives R a [] (y ∷ ys) gives = absurd (omega (arith, gives.0))
+zip_from_gives R a (x ∷ xs) [] gives = absurd (omega (arith, gives.0))
+zip_from_gives R a (x ∷ xs) (y ∷ ys) gives =
+    let here : a + 0 ≡ a = omega arith in (
+      subst (λ k. R k x y) here (gives.1 0 x y refl refl),
+      zip_from_gives R (a + 1) xs ys (
+        omega (arith, gives.0),
+        λ i t o item out. let next : a + suc i ≡ a + 1 + i = omega arith in subst (λ k. R k t o) next (gives.1 (suc i) t o item out),
+      ),
+    )
 
 pub gives_of_all : {X Y : Type 0} (R : X → Y → Type 0) (first : ℕ) (xs : List X) (ys : List Y) → AllZip R xs ys
     → GivesItems (λ k. R) first xs ys

@@ -1,5 +1,6 @@
 //! The passes over sources, in the order in which they are judged.
 
+mod filling;
 pub(crate) mod imports;
 pub(crate) mod lengths;
 pub(crate) mod list;

@@ -2,11 +2,10 @@
 
 ghost use Rattle.std.specs.Prelude.{◌≡◌, ◌<◌, List, length, All, IfOk, IfErr, true};
 ghost use Rattle.proto_desc.specs.Resolved.{file_resolved};
-ghost use Rattle.proto_compile.specs.Analysed.{AllZipFrom, AreTypedFrom, IsAnalysed};
+ghost use Rattle.proto_compile.specs.Analysed.{AreTypedFrom, IsAnalysed};
 ghost use Rattle.proto_compile.specs.FaultSet.{IsLeastFault, TellsOf};
-ghost use Rattle.proto_compile.specs.Outcomes.{AreTypesOf, IsResolved, IsTypedWhole};
+ghost use Rattle.proto_compile.specs.Outcomes.{IsResolved};
 ghost use Rattle.proto_compile.specs.declared.source.Source.{Source};
-ghost use Rattle.share_work.specs.Shares.{GivesItems};
 ghost use Rattle.proto_links.specs.Linked.{Linked, count_of};
 ghost use Rattle.proto_names.specs.Index.{Index};
 ghost use Rattle.proto_base.specs.declared.limits.Limits.{Limits};
@@ -14,16 +13,16 @@ ghost use Rattle.proto_base.specs.declared.limits.Limits.{Limits};
 use crate::error::CompileError;
 use crate::outcome::judge;
 use crate::pass::Pass;
+use crate::pass::filling::put_types;
 use crate::source::Source;
 use crate::workers::Workers;
 use proto_desc::file::FileDesc;
 use proto_file::FileError;
 use proto_links::{FileId, Links};
 use proto_names::NameIndex;
-use proto_types::{NamedType, TypeError, fill_types, resolve_types};
+use proto_types::{NamedType, TypeError, resolve_types};
 use share_work::{Gate, Work};
 use std::alloc::{AllocError, AllocGlobal, Global};
-use std::collections::VecDeque;
 use std::thread::Threads;
 
 /// The phase of this pass, as a gate is told it.
@@ -93,28 +92,13 @@ impl<'s> Work<FileDesc<'s>> for Resolving<'_> {
     }
 }
 
-/// Puts types into descriptors, of which there is one list for each.
-fn put_types<'s>(descs: &mut Vec<FileDesc<'s>>, types: Vec<Vec<NamedType>>)
-    ensures { (links : Linked) (index : Index)
-        → GivesItems (AreTypesOf links index) 0 descs.old.items types.items
-        → AllZipFrom (IsTypedWhole links index) 0 descs.old.items descs.new.items }
-{
-    let mut left = VecDeque::from(types);
-    for position in 0..descs.len() {
-        let Some(own) = left.pop_front() else {
-            return;
-        };
-        fill_types(&mut descs[position], own);
-    }
-}
-
 /// The descriptors with their types resolved.
 pub(crate) fn resolve_all<'s, R, G>(
     workers: &Workers<'_, R, G>,
     files: &[Source],
     links: &Links,
     index: &NameIndex,
-    mut descs: Vec<FileDesc<'s>>,
+    descs: Vec<FileDesc<'s>>,
 ) -> Result<Vec<FileDesc<'s>>, CompileError>
 where
     R: Threads + AllocGlobal + Sync,
@@ -133,6 +117,6 @@ where
     let work = Resolving { links, index };
     let outcomes = workers.each(RESOLVING, descs.as_slice(), &work)?;
     let types = judge(alloc, Pass::Types, files, outcomes)?;
-    put_types(&mut descs, types);
-    Ok(descs)
+    let typed = put_types(workers, descs, types)?;
+    Ok(typed)
 }

@@ -40,5 +40,5 @@ returns g c =
     let given = rw c.as_slice.ensures.value at c.in_ok-outcomes.ensures in
     let types = gives_well (IsResolved links index) descs c.in_ok-types.types.items c.in_ok-outcomes.outcomes.items
     c.in_ok-types.ensures.well given in
-    let typed = all_typed links index 0 descs c.put_types.new.descs.items (c.put_types.ensures links index types) in
+    let typed = all_typed links index 0 descs c.in_ok-typed.typed.items (c.in_ok-typed.ensures links index types) in
     record { typed = typed.0; whole = typed.1; first = λ limits sources analysed. tt }

@@ -1,0 +1,6 @@
+use Rattle.std.proofs.Common.{◌≡◌, map}
+use Rattle.proto_compile.specs.declared.pass.filling.Untyped.{Untyped}
+use Rattle.proto_compile.proofs.pass.filling.descriptors.Given as goal
+
+abbrev pub invariant-loop-file : goal.invariant-loop-file
+invariant-loop-file l = l.descs.items ≡ map (λ (f : Untyped). f.desc) l.yielded

@@ -1,0 +1,15 @@
+use Rattle.std.proofs.Common.{ℕ, get_or, subst, sym}
+use Rattle.proto_links.specs.Linked.{Linked}
+use Rattle.proto_names.specs.Index.{Index}
+use Rattle.proto_compile.specs.Outcomes.{AreTypesOf, IsTypedWhole}
+use Rattle.proto_compile.specs.declared.pass.filling.Untyped.{Untyped}
+use Rattle.proto_compile.proofs.pass.filling.fill_all.Goals as goal
+
+pub returns-clause-each : goal.returns-clause-each
+returns-clause-each g c = λ i d h links index a are.
+    let at = (c.for_each_mut.ensures i d h).1 in
+    let filled : (links : Linked) (index : Index) (a : ℕ) → AreTypesOf links index a at.argument.now.desc at.argument.now.types
+    → IsTypedWhole links index a at.argument.now.desc at.after_call.now.desc = at.call in
+    let whole = filled links index a (subst (λ (f : Untyped). AreTypesOf links index a f.desc f.types) (sym at.argument_is) are) in
+    subst (λ (f : Untyped). IsTypedWhole links index a f.desc (get_or c.for_each_mut.new.s i d).desc) at.argument_is
+    (subst (λ (f : Untyped). IsTypedWhole links index a at.argument.now.desc f.desc) at.left whole)
