@@ -25,6 +25,7 @@ pub returns-clause-few : goal.returns-clause-few
 returns-clause-few g c =
     let names = c.in_ok-names.names in
     let few : vec_len names ≤ 1048576 = c.in_ok-names.ensures.few in
-    IfOk-weaker c.read_sources.result (λ (texts : Vec NamedText Global). names_of texts.items ≡ map string_bytes names.items)
+    IfOk-weaker c.read_sources.result
+    (λ (texts : Vec NamedText Global). names_of texts.items ≡ map string_bytes names.items)
     (λ texts. vec_len texts ≤ 1048576)
     (λ texts same. omega (arith, as_many name_of string_bytes texts names same, few)) c.read_sources.ensures.names
