@@ -72,6 +72,14 @@ for words in '--workers 1' '--workers 2 --cut 1'; do
     sweep REFUSE_AT 0 "$reply$reply"'\0200\0\0\0\017grpc-status:0\r\n' '' "$body" answer --root "$folder/sources" $words
 done
 sweep REFUSE_THREAD_AT 0 "$reply$reply"'\0200\0\0\0\017grpc-status:0\r\n' '' "$body" answer --root "$folder/sources" --workers 2 --cut 1
+# A folder with a file that can't be read: reading starts threads, and nothing comes after it.
+mkdir "$folder/unread"
+for name in a b c; do
+    printf '%s' "$P" >"$folder/unread/$name.proto"
+done
+ln -s nowhere "$folder/unread/d.proto"
+sweep REFUSE_AT 3 '' 'device: folder' '' compile --root "$folder/unread" --workers 2 --cut 1
+sweep REFUSE_THREAD_AT 3 '' 'device: folder' '' compile --root "$folder/unread" --workers 2 --cut 1
 # The examples by four workers, and a body that asks for each of their files: the bytes are those of a run without a refusal,
 # which tests/examples.sh and tests/answers.sh show to be right.
 printf_bytes() {

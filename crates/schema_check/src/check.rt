@@ -91,7 +91,7 @@ pub fn run_check<R, F, O>(
 ) -> Result<Verdict, Failure>
 where
     R: Threads + AllocGlobal + Sync,
-    F: SourceFolder,
+    F: SourceFolder + Sync,
     O: CountedWrite,
     requires { (O.writes output.old).failures < 2 ^ 64 - 1 }
     ensures { IsFolderCheck (F.sources folder.now) root.now (O.writes output.old)

@@ -118,7 +118,7 @@ pub fn run_compile<R, F, O>(
 ) -> Result<(), Failure>
 where
     R: Threads + Files + RandomSource + AllocGlobal + Sync,
-    F: SourceFolder,
+    F: SourceFolder + Sync,
     O: CountedWrite,
     requires { (O.writes writer.old).failures < 2 ^ 64 - 1 }
     ensures { IsCompileRun (F.sources folder.now) file.entry (O.writes writer.old)
@@ -144,7 +144,7 @@ pub fn compile_folder<R, F>(
 ) -> Result<Compiled, Failure>
 where
     R: Threads + AllocGlobal + Sync,
-    F: SourceFolder,
+    F: SourceFolder + Sync,
     ensures compiled { IfOk result (IsCompiledTo limits.now (F.sources folder.now)) }
     ensures refused { IfErr result (IsToldOfFolder limits.now (F.sources folder.now)) }
 {
@@ -163,7 +163,7 @@ pub fn run_answer<R, F, I, O>(
 ) -> Result<(), Failure>
 where
     R: Threads + AllocGlobal + Sync,
-    F: SourceFolder,
+    F: SourceFolder + Sync,
     I: CountedRead,
     O: CountedWrite,
     requires reader_counts { (I.reads reader.old).failures < 2 ^ 64 - 1 }

@@ -48,6 +48,8 @@ fn sound(done: Result<(), Failure>) -> Result<Verdict, Failure>
 fn perform<R, I, O>(rt: &R, task: &Task, input: &mut I, output: &mut O) -> Result<Verdict, Failure>
 where
     R: Wait + Threads + Files + Clock + RandomSource + AllocGlobal + Sync + Clone + Drop + Net,
+    R::File: Sync,
+    R::Dir: Sync,
     I: CountedRead,
     O: CountedWrite,
     requires reader_counts { (I.reads input.old).failures < 2 ^ 64 - 1 }
@@ -163,6 +165,8 @@ fn end_of<R, I, O, E>(
 ) -> ExitStatus
 where
     R: Wait + Threads + Files + Clock + RandomSource + AllocGlobal + Sync + Clone + Drop + Net,
+    R::File: Sync,
+    R::Dir: Sync,
     I: CountedRead,
     O: CountedWrite,
     E: Write,
@@ -192,6 +196,8 @@ where
 pub fn run<R, I, O, E>(rt: &R, words: &[&str], input: &mut I, output: &mut O, faults: &mut E) -> u8
 where
     R: Wait + Threads + Files + Clock + RandomSource + AllocGlobal + Sync + Clone + Drop + Net,
+    R::File: Sync,
+    R::Dir: Sync,
     I: CountedRead,
     O: CountedWrite,
     E: Write,

@@ -43,7 +43,7 @@ pub(crate) fn run_serve<R, F, O>(
 ) -> Result<(), Failure>
 where
     R: Wait + Threads + Clock + RandomSource + AllocGlobal + Sync + Clone + Drop + Net,
-    F: SourceFolder,
+    F: SourceFolder + Sync,
     O: CountedWrite,
     requires { (O.writes output.old).failures < 2 ^ 64 - 1 }
 {

@@ -1,5 +1,6 @@
 -- The texts of a folder.
-use Rattle.std.specs.Prelude.{◌≡◌, ℕ, List, map, Option, IfSome, string_bytes}
+use Rattle.std.specs.Prelude.{◌≡◌, ℕ, List, map, Option, IfSome, All, String, string_bytes}
+use Rattle.std.specs.declared.alloc.Global.{Global}
 use Rattle.proto_base.specs.Limits.{limit_of}
 use Rattle.proto_base.specs.StandardLimits.{standard_of}
 use Rattle.proto_base.specs.declared.limits.Limit.{Limit}
@@ -23,6 +24,14 @@ named_bytes text = (string_bytes text.name, bytes_of text)
 -- texts that may be those of a folder: the known ones, and no others
 abbrev pub AreTextsOf : Known → List NamedText → Type 0
 AreTextsOf known texts = IfSome known (λ sources. map named_bytes texts ≡ sources)
+
+-- names that may be those of a folder's sources: the known ones, in their order, and no others
+abbrev pub AreNamesOf : Known → List (String Global) → Type 0
+AreNamesOf known names = IfSome known (λ sources. map string_bytes names ≡ map (λ source. source.0) sources)
+
+-- a text that may be that of the folder's source of this name: the known one, where there is one
+abbrev pub IsTextUnder : Known → (name text : List ℕ) → Type 0
+IsTextUnder known name text = IfSome known (All (λ source. source.0 ≡ name → text ≡ source.1))
 
 -- sources with the names and the bytes of these texts, in their order
 pub record AreSourcesOf (texts : List NamedText) (sources : List Source) : Type 0 where

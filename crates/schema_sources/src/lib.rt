@@ -3,6 +3,7 @@
 
 mod folder;
 mod places;
+mod reading;
 mod sources;
 mod system_folder;
 

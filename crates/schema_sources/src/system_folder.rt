@@ -1,6 +1,6 @@
 //! Folders of the system. What is in them is not known.
 
-ghost use Rattle.std.specs.Prelude.{◌≡◌, ◌∷◌, ◌++◌, [], IfOk, None, OnOk};
+ghost use Rattle.std.specs.Prelude.{IfOk, None, map, string_bytes};
 ghost use Rattle.source_folder.specs.Folder.{names_of};
 ghost use Rattle.proto_base.specs.NameOrder.{NamesRise};
 
@@ -9,8 +9,8 @@ use crate::places::Elsewhere;
 use proto_base::Limits;
 use share_work::Plan;
 use source_folder::{
-    FolderFault, FolderTrouble, NamedText, Reason, TroubledEntry, read_source, source_path,
-    sources_in,
+    FolderFault, FolderTrouble, NamedText, Reason, TroubledEntry, listed_text, read_source,
+    source_names, source_path, sources_in,
 };
 use source_search::{Folders, Shelf, first_folder, first_text, with_imports};
 use std::alloc::{AllocError, AllocGlobal, Global};
@@ -30,23 +30,32 @@ fn missing(alloc: Global, root: &str, name: &str) -> Result<FolderTrouble, Alloc
     })
 }
 
-/// Adds the source of a name below a folder. A name under which no file is there is `Listing`.
-fn put_named<R: Files + AllocGlobal>(
+/// The text of a name below a folder. A name under which no file is there is `Listing`.
+fn named_text<R: Files + AllocGlobal>(
     rt: &R,
-    texts: &mut Vec<NamedText>,
     root: &str,
     name: &str,
     limits: &Limits,
-) -> Result<(), FolderTrouble>
-    ensures { OnOk result (names_of texts.new.items ≡ names_of texts.old.items ++ name.now ∷ []) }
+) -> Result<Vec<u8>, FolderTrouble> {
+    match read_source(rt, root, name, limits)? {
+        Some(text) => Ok(text),
+        None => Err(missing(rt.alloc(), root, name)?),
+    }
+}
+
+/// These names, each once, in their order.
+fn rising_names(alloc: Global, files: &[&str]) -> Result<Vec<String>, AllocError>
+    ensures { IfOk result (λ names. NamesRise (map string_bytes names.items)) }
 {
-    let alloc = rt.alloc();
-    let Some(text) = read_source(rt, root, name, limits)? else {
-        return Err(missing(alloc, root, name)?);
-    };
-    let name = String::from_str(alloc, name)?;
-    texts.push(NamedText { name, text })?;
-    Ok(())
+    let mut once = BTreeSet::new(alloc);
+    for file in files {
+        once.insert(*file)?;
+    }
+    let mut names = Vec::new(alloc);
+    for name in once.iter() {
+        names.push(String::from_str(alloc, name)?)?;
+    }
+    Ok(names)
 }
 
 /// The sources of these names below a folder, each once, in the order of their names. A name under which no file is there is
@@ -59,14 +68,10 @@ fn named_sources<R: Files + AllocGlobal>(
 ) -> Result<Vec<NamedText>, FolderTrouble>
     ensures { IfOk result (λ texts. NamesRise (names_of texts.items)) }
 {
-    let alloc = rt.alloc();
-    let mut names = BTreeSet::new(alloc);
-    for file in files {
-        names.insert(*file)?;
-    }
-    let mut texts = Vec::new(alloc);
-    for name in names.iter() {
-        put_named(rt, &mut texts, root, name, limits)?;
+    let mut texts = Vec::new(rt.alloc());
+    for name in rising_names(rt.alloc(), files)? {
+        let text = named_text(rt, root, name.as_str(), limits)?;
+        texts.push(NamedText { name, text })?;
     }
     Ok(texts)
 }
@@ -118,6 +123,26 @@ impl<R: Files + AllocGlobal> SystemFolder<'_, R> {
         }
     }
 
+    /// The names of these sources.
+    fn given_names(&self) -> Result<Vec<String>, FolderTrouble>
+        ensures { IfOk result (λ names. NamesRise (map string_bytes names.items)) }
+    {
+        if self.files.is_empty() {
+            source_names(self.rt, self.root)
+        } else {
+            Ok(rising_names(self.rt.alloc(), self.files)?)
+        }
+    }
+
+    /// The text of one of these sources.
+    fn given_text(&self, name: &str, limits: &Limits) -> Result<Vec<u8>, FolderTrouble> {
+        if self.files.is_empty() {
+            listed_text(self.rt, self.root, name, limits)
+        } else {
+            named_text(self.rt, self.root, name, limits)
+        }
+    }
+
     /// Adds where the source of a name lies, unless that is the root.
     fn put_elsewhere<'t>(
         &'t self,
@@ -149,8 +174,12 @@ impl<R: Files + AllocGlobal> Shelf for SystemFolder<'_, R> {
 impl<R: Files + AllocGlobal> SourceFolder for SystemFolder<'_, R> {
     ghost sources = { λ _. None };
 
-    fn read(&self, limits: &Limits) -> Result<Vec<NamedText>, FolderFault> {
-        Ok(self.given(limits)?)
+    fn names(&self) -> Result<Vec<String>, FolderFault> {
+        Ok(self.given_names()?)
+    }
+
+    fn text(&self, name: &str, limits: &Limits) -> Result<Vec<u8>, FolderFault> {
+        Ok(self.given_text(name, limits)?)
     }
 
     fn elsewhere<'t>(&'t self, texts: &'t [NamedText]) -> Result<Vec<Elsewhere<'t>>, AllocError> {

@@ -1,6 +1,6 @@
 //! Reading the sources of a folder.
 
-ghost use Rattle.std.specs.Prelude.{◌≡◌, ◌+◌, ◌≤◌, All, IfOk, IfSome, IsTrue, None, Ok, string_bytes, take, vec_len};
+ghost use Rattle.std.specs.Prelude.{◌≡◌, ◌+◌, ◌≤◌, All, IfOk, IfSome, IsTrue, None, Ok, map, string_bytes, take, vec_len};
 ghost use Rattle.std.specs.Bool.{OnFalse};
 ghost use Rattle.proto_base.specs.Limits.{limit_of};
 ghost use Rattle.source_folder.specs.Folder.{name_of, names_of};
@@ -84,31 +84,76 @@ fn text_at<R: Files + AllocGlobal>(
     Err(FolderTrouble::at(alloc, FolderFault::Reading, path, reason))
 }
 
-/// The texts of sources below a root, in their order.
+/// The paths of entries, in their order.
+fn names_of_entries(alloc: Global, entries: Vec<ProtoEntry>) -> Result<Vec<String>, AllocError>
+    ensures names { IfOk result (λ names. map string_bytes names.items ≡ paths_of entries.items) }
+    ensures proto { IfOk result (λ names. All (λ n. IsTrue (ends_in_proto (string_bytes n)))
+        names.items) }
+{
+    let mut names = Vec::with_capacity(alloc, entries.len())?;
+    for entry in entries {
+        names.push(entry.path)?;
+    }
+    Ok(names)
+}
+
+/// The names of the sources below a root, in their order: the path from the root of every file that ends in `.proto`.
+///
+/// All folders are listed, and no file is opened. So an error is `Listing`, as `read_folder` tells it, or `NoMemory`.
+pub fn source_names<R: Files + AllocGlobal>(
+    rt: &R,
+    root: &str,
+) -> Result<Vec<String>, FolderTrouble>
+    ensures order { IfOk result (λ names. NamesRise (map string_bytes names.items)) }
+    ensures proto { IfOk result (λ names. All (λ n. IsTrue (ends_in_proto (string_bytes n)))
+        names.items) }
+    ensures few { IfOk result (λ names. vec_len names ≤ 1_048_576) }
+{
+    let mut sources = sources_below(rt, root)?;
+    sort_by_path(&mut sources);
+    if have_twins(&sources) {
+        let fault = FolderFault::Listing;
+        return Err(FolderTrouble::at(rt.alloc(), fault, root, Reason::Changed));
+    }
+    Ok(names_of_entries(rt.alloc(), sources)?)
+}
+
+/// Reads the source of a name that `source_names` gave: at most as many bytes as the limit of a file and one more.
+///
+/// `Reading`, where the name leads to nothing any more, or to a folder, a device or a pipe, or where the file can't be opened
+/// or read.
+pub fn listed_text<R: Files + AllocGlobal>(
+    rt: &R,
+    root: &str,
+    name: &str,
+    limits: &Limits,
+) -> Result<Vec<u8>, FolderTrouble>
+    ensures { IfOk result (λ bytes. vec_len bytes ≤ limit_of limits.now Limit.FileBytes + 1) }
+{
+    let alloc = rt.alloc();
+    let path = join_path(alloc, root, name)?;
+    let path = path.as_str();
+    match text_at(rt, path, most_bytes(limits))? {
+        Some(text) => Ok(text),
+        None => Err(FolderTrouble::at(alloc, FolderFault::Reading, path, Reason::Nowhere)),
+    }
+}
+
+/// The sources of these names below a root, in their order.
 fn read_sources<R: Files + AllocGlobal>(
     rt: &R,
     root: &str,
-    sources: Vec<ProtoEntry>,
-    most: u32,
+    names: Vec<String>,
+    limits: &Limits,
 ) -> Result<Vec<NamedText>, FolderTrouble>
-    ensures names { IfOk result (λ texts. names_of texts.items ≡ paths_of sources.items) }
-    ensures proto { IfOk result (λ texts. All (λ t. IsTrue (ends_in_proto (name_of t)))
-        texts.items) }
-    ensures bounded { IfOk result (λ texts. All (λ t. vec_len t.text ≤ most) texts.items) }
+    ensures names { IfOk result (λ texts. names_of texts.items ≡ map string_bytes names.items) }
+    ensures bounded { IfOk result (λ texts. All
+        (λ t. vec_len t.text ≤ limit_of limits.now Limit.FileBytes + 1) texts.items) }
 {
-    let alloc = rt.alloc();
-    let mut texts = Vec::with_capacity(alloc, sources.len())?;
-    for source in sources {
-        let path = join_path(alloc, root, source.path.as_str())?;
-        let path = path.as_str();
-        let Some(text) = text_at(rt, path, most)? else {
-            let fault = FolderFault::Reading;
-            return Err(FolderTrouble::at(alloc, fault, path, Reason::Nowhere));
-        };
-        texts.push(NamedText {
-            name: source.path,
-            text,
-        })?;
+    let mut texts = Vec::with_capacity(rt.alloc(), names.len())?;
+    for name in names {
+        let text = listed_text(rt, root, name.as_str(), limits)?;
+        texts.push(NamedText { name, text })?;
     }
     Ok(texts)
 }
@@ -126,13 +171,8 @@ pub fn sources_in<R: Files + AllocGlobal>(
     ensures bounded { IfOk result (λ texts. All
         (λ t. vec_len t.text ≤ limit_of limits.now Limit.FileBytes + 1) texts.items) }
 {
-    let mut sources = sources_below(rt, root)?;
-    sort_by_path(&mut sources);
-    if have_twins(&sources) {
-        let fault = FolderFault::Listing;
-        return Err(FolderTrouble::at(rt.alloc(), fault, root, Reason::Changed));
-    }
-    read_sources(rt, root, sources, most_bytes(limits))
+    let names = source_names(rt, root)?;
+    read_sources(rt, root, names, limits)
 }
 
 /// Reads the proto3 sources below a folder: every file whose name ends in `.proto`, named by its path from the root, in

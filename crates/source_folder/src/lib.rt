@@ -11,7 +11,9 @@ mod trouble;
 mod walk;
 
 pub use fault::FolderFault;
-pub use folder::{NamedText, read_folder, read_source, source_path, sources_in};
+pub use folder::{
+    NamedText, listed_text, read_folder, read_source, source_names, source_path, sources_in,
+};
 pub use paths::is_below;
 pub use reason::Reason;
 pub use trouble::{FolderTrouble, TroubledEntry};

@@ -1,7 +1,10 @@
 //! What is read of folders of the system, compared with what was put into them by hand.
 
 use proto_base::{Limit, Limits};
-use source_folder::{FolderFault, NamedText, read_folder, read_source, sources_in};
+use source_folder::{
+    FolderFault, FolderTrouble, NamedText, listed_text, read_folder, read_source, source_names,
+    sources_in,
+};
 use std::alloc::{AllocError, AllocGlobal, Global};
 use std::os::unix::fs::symlink;
 use std::process::Abort;
@@ -49,7 +52,13 @@ fn read<R: Files + AllocGlobal>(rt: &R, root: &str, limits: &Limits) -> Result<S
     }
 }
 
-/// The names and texts that are read of a folder, or the fault, and the entry and what is the matter with it.
+/// A fault, and the entry and what is the matter with it.
+fn trouble_shown(alloc: Global, trouble: &FolderTrouble) -> Result<String, AllocError> {
+    let fault = name_of(&trouble.fault);
+    format!(in alloc; "{fault} {trouble}")
+}
+
+/// The names and texts that are read of a folder, or the trouble.
 pub(super) fn told<R: Files + AllocGlobal>(
     rt: &R,
     root: &str,
@@ -57,14 +66,40 @@ pub(super) fn told<R: Files + AllocGlobal>(
 ) -> Result<String, AllocError> {
     match sources_in(rt, root, limits) {
         Ok(sources) => shown(rt.alloc(), &sources),
-        Err(trouble) => {
-            let fault = name_of(&trouble.fault);
-            format!(in rt.alloc(); "{fault} {trouble}")
-        }
+        Err(trouble) => trouble_shown(rt.alloc(), &trouble),
     }
 }
 
-/// What is read of the source of a name, behind a root and `>`: its text behind `=`, `none`, or the fault and the trouble.
+/// The names of the sources of a folder, a `;` behind each, or the trouble.
+fn names<R: Files + AllocGlobal>(rt: &R, root: &str) -> Result<String, AllocError> {
+    let names = match source_names(rt, root) {
+        Ok(names) => names,
+        Err(trouble) => return trouble_shown(rt.alloc(), &trouble),
+    };
+    let mut shown = String::new(rt.alloc());
+    for name in &names {
+        shown.push_str(name.as_str())?;
+        shown.push(';')?;
+    }
+    Ok(shown)
+}
+
+/// What is read of a listed source, its name behind a root and `>`: its text behind `=`, or the trouble.
+fn listed<R: Files + AllocGlobal>(
+    rt: &R,
+    path: &str,
+    limits: &Limits,
+) -> Result<String, AllocError> {
+    let (root, name) = path.split_once('>').unwrap_or((path, ""));
+    let mut shown = String::new(rt.alloc());
+    match listed_text(rt, root, name, limits) {
+        Ok(text) => put_text(&mut shown, &text)?,
+        Err(trouble) => return trouble_shown(rt.alloc(), &trouble),
+    }
+    Ok(shown)
+}
+
+/// What is read of the source of a name, behind a root and `>`: its text behind `=`, `none`, or the trouble.
 fn source<R: Files + AllocGlobal>(
     rt: &R,
     path: &str,
@@ -75,17 +110,14 @@ fn source<R: Files + AllocGlobal>(
     match read_source(rt, root, name, limits) {
         Ok(Some(text)) => put_text(&mut shown, &text)?,
         Ok(None) => shown.push_str("none")?,
-        Err(trouble) => {
-            let fault = name_of(&trouble.fault);
-            return format!(in rt.alloc(); "{fault} {trouble}");
-        }
+        Err(trouble) => return trouble_shown(rt.alloc(), &trouble),
     }
     Ok(shown)
 }
 
 /// What is done to folders: a `folder`, a `file` of a text or a `link` to a path is made there; a root is `read` with so
-/// many bytes of a file at most, which gives this text or fault, or `told`, which tells the trouble too; or a `source` is
-/// read.
+/// many bytes of a file at most, which gives this text or fault, or `told`, which tells the trouble too, or its `names` are
+/// listed; or a `source` is read, or one that is `listed`.
 #[derive(Clone, Copy)]
 struct Step<'t> {
     action: &'t str,
@@ -124,6 +156,8 @@ fn is_read<R: Files + AllocGlobal>(rt: &R, step: Step) -> Result<bool, AllocErro
     let shown = match step.action {
         "read" => read(rt, step.path, &limits)?,
         "told" => told(rt, step.path, &limits)?,
+        "names" => names(rt, step.path)?,
+        "listed" => listed(rt, step.path, &limits)?,
         _ => source(rt, step.path, &limits)?,
     };
     Ok(shown.as_str() == step.text)
@@ -132,7 +166,7 @@ fn is_read<R: Files + AllocGlobal>(rt: &R, step: Step) -> Result<bool, AllocErro
 /// Takes a line's step.
 fn take<R: Files + AllocGlobal + Abort>(rt: &R, line: &str) -> Result<(), Fail> {
     let step = step_of(line).ok_or("a step")?;
-    if matches!(step.action, "read" | "told" | "source") {
+    if matches!(step.action, "read" | "told" | "names" | "listed" | "source") {
         assert!(rt; is_read(rt, step)?, "{line}");
     } else {
         make(rt, step)?;
@@ -169,6 +203,11 @@ read||4194304|Listing\n\
 read|test_folder/none|4194304|Listing\n\
 read|test_folder/long/3.proto|4194304|Listing\n\
 told||4194304|Listing : it is not there\n\
+names|test_folder/tree|4194304|.proto;a.proto;a/b/x.proto;a/y.proto;folder.proto/in.proto;z.proto;\n\
+names|test_folder/none|4194304|Listing test_folder/none: it is not there\n\
+listed|test_folder/tree>a/b/x.proto|4194304|=deep;\n\
+listed|test_folder/long>6.proto|4|=abcde;\n\
+listed|test_folder/long>7.proto|4|Reading test_folder/long/7.proto: it is a link that leads nowhere\n\
 told|test_folder/none|4194304|Listing test_folder/none: it is not there\n\
 told|test_folder/long/3.proto|4194304|Listing test_folder/long/3.proto: it is no folder\n\
 told|test_folder/long/3.proto/a|4194304|Listing test_folder/long/3.proto/a: it is no folder\n\
@@ -201,6 +240,8 @@ source|test_folder/links/in>a.proto|4194304|=text;\n\
 source|test_folder/links/in>itself|4194304|none\n\
 source|test_folder/links/in>folder/b.proto|4194304|=b;\n\
 link|test_folder/links/in/lost.proto|0|nowhere\n\
+names|test_folder/links/in|4194304|a.proto;folder/b.proto;lost.proto;to/b.proto;\n\
+listed|test_folder/links/in>folder|4194304|Reading test_folder/links/in/folder: it is a link that leads nowhere\n\
 read|test_folder/links/in|4194304|Reading\n\
 told|test_folder/links/in|4194304|Reading test_folder/links/in/lost.proto: it is a link that leads nowhere\n\
 source|test_folder/links/in>lost.proto|4194304|none\n\

@@ -1,0 +1,131 @@
+//! The sources of a folder, by workers that share the reading.
+
+ghost use Rattle.std.specs.Prelude.{◌≡◌, Ok, IfErr, IfOk, map, string_bytes};
+ghost use Rattle.proto_base.specs.NameOrder.{NamesRise};
+ghost use Rattle.share_work.specs.Shares.{GivesItems};
+ghost use Rattle.source_folder.specs.Folder.{names_of};
+ghost use Rattle.schema_sources.specs.Reading.{IsFirstFault, IsReadUnder};
+ghost use Rattle.schema_sources.specs.Texts.{AreTextsOf};
+
+use crate::folder::SourceFolder;
+use proto_base::Limits;
+use share_work::{NoGate, Plan, Work, in_shares};
+use source_folder::{FolderFault, NamedText};
+use std::alloc::{AllocError, AllocGlobal, Global};
+use std::thread::Threads;
+
+/// The source of a name that a folder lists.
+fn source_under<F: SourceFolder>(
+    alloc: Global,
+    folder: &F,
+    name: &str,
+    limits: &Limits,
+) -> Result<NamedText, FolderFault>
+    ensures { IsReadUnder (F.sources folder.now) name.now result }
+{
+    let text = folder.text(name, limits)?;
+    let name = String::from_str(alloc, name)?;
+    Ok(NamedText { name, text })
+}
+
+/// Reads the source of each name.
+#[derive(Drop)]
+struct Reading<'f, F> {
+    folder: &'f F,
+    limits: Limits,
+}
+
+impl<F: SourceFolder> Work<String> for Reading<'_, F> {
+    ghost use Rattle.std.specs.Prelude.{⊤, string_bytes};
+    ghost use Rattle.schema_sources.specs.Reading.{IsReadUnder};
+
+    type Out = Result<NamedText, FolderFault>;
+
+    type Seat = ();
+
+    ghost takes = { λ _ _ _. ⊤ };
+
+    ghost fits = { λ _ _. ⊤ };
+
+    ghost gives = { λ work _ name outcome. IsReadUnder (F.sources work.folder.now)
+        (string_bytes name) outcome };
+
+    ghost number = { λ _ _. 0 };
+
+    ghost holds = { λ _ _ _ _. ⊤ };
+
+    ghost adds = { λ _ _ _ _ _. ⊤ };
+
+    fn piece(
+        &self,
+        alloc: Global,
+        _seat: &mut (),
+        _first: usize,
+        items: &[String],
+    ) -> Result<Vec<Result<NamedText, FolderFault>>, AllocError> {
+        let mut outcomes = Vec::with_capacity(alloc, items.len())?;
+        for name in items {
+            outcomes.push(source_under(alloc, self.folder, name.as_str(), &self.limits))?;
+        }
+        Ok(outcomes)
+    }
+}
+
+/// What is read under each name. No fault keeps a worker from reading on.
+fn outcomes_of<R, F>(
+    rt: &R,
+    folder: &F,
+    names: &[String],
+    limits: &Limits,
+    plan: Plan,
+) -> Result<Vec<Result<NamedText, FolderFault>>, AllocError>
+where
+    R: Threads + AllocGlobal + Sync,
+    F: SourceFolder + Sync,
+    ensures { IfOk result (λ outcomes. GivesItems
+        (λ _ name. IsReadUnder (F.sources folder.now) (string_bytes name)) 0 names.now
+        outcomes.items) }
+{
+    let work = Reading {
+        folder,
+        limits: *limits,
+    };
+    let mut seats = Vec::from_elem(rt.alloc(), (), plan.workers() as usize)?;
+    in_shares(rt, plan, 0, &NoGate, names, &work, seats.as_mut_slice())
+}
+
+/// The sources, or the first fault.
+fn all_read(
+    alloc: Global,
+    outcomes: Vec<Result<NamedText, FolderFault>>,
+) -> Result<Vec<NamedText>, FolderFault>
+    ensures read { IfOk result (λ texts. outcomes.items ≡ map Ok texts.items) }
+    ensures first { IfErr result (IsFirstFault outcomes.items) }
+{
+    let mut texts = Vec::with_capacity(alloc, outcomes.len())?;
+    for outcome in outcomes {
+        match outcome {
+            Ok(text) => texts.push(text)?,
+            Err(fault) => return Err(fault),
+        }
+    }
+    Ok(texts)
+}
+
+/// The sources of a folder in the order of their names, without what they import.
+pub(crate) fn listed_sources<R, F>(
+    rt: &R,
+    folder: &F,
+    limits: &Limits,
+    plan: Plan,
+) -> Result<Vec<NamedText>, FolderFault>
+where
+    R: Threads + AllocGlobal + Sync,
+    F: SourceFolder + Sync,
+    ensures texts { IfOk result (λ texts. AreTextsOf (F.sources folder.now) texts.items) }
+    ensures order { IfOk result (λ texts. NamesRise (names_of texts.items)) }
+{
+    let names = folder.names()?;
+    let outcomes = outcomes_of(rt, folder, &names, limits, plan)?;
+    all_read(rt.alloc(), outcomes)
+}
