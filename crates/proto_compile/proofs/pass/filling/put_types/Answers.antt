@@ -18,54 +18,62 @@ mapped_at : {X Y : Type 0} (f : X → Y) (xs : List X) (i : ℕ) (y : Y) → sli
 mapped_at f xs i y at = of (slice_get xs i) refl where
   of : (o : Option _) → slice_get xs i ≡ o → (x : _) × (slice_get xs i ≡ Some x) × (f x ≡ y)
   of None none = let bad : None ≡ Some y = sym (slice_get-map f xs i ∙ ap (option_map f) none) ∙ at in absurd (cc)
-  of (Some x) some = (x, some, let same : Some (f x) ≡ Some y = sym (slice_get-map f xs i ∙ ap (option_map f) some) ∙ at in cc)
+  of (Some x) some =
+      let same : Some (f x) ≡ Some y = sym (slice_get-map f xs i ∙ ap (option_map f) some) ∙ at in (x, some, cc)
 
--- a descriptor at its position, filled with the types that are given for it
-filled_at : (P : ℕ → FileDesc → Vec NamedType Global → Type 0) (Q : ℕ → FileDesc → FileDesc → Type 0) (descs typed : List FileDesc)
-    (types : List (Vec NamedType Global)) (old new : List Untyped) → map (λ f. f.desc) old ≡ descs → map (λ f. f.types) old ≡ types
-    → typed ≡ map (λ f. f.desc) new
-    → ((i : ℕ) (d : Untyped) → i < length old → (a : ℕ) → P a (get_or old i d).desc (get_or old i d).types
-    → Q a (get_or old i d).desc (get_or new i d).desc)
-    → GivesItems P 0 descs types → (i : ℕ) (t o : FileDesc) → slice_get descs i ≡ Some t → slice_get typed i ≡ Some o → Q (0 + i) t o
-filled_at P Q descs typed types old new is own are each gives i t o item out =
-    let from = mapped_at (λ (f : Untyped). f.desc) old i t (subst (λ (l : List _). slice_get l i ≡ Some t) (sym is) item) in
-    let to = mapped_at (λ (f : Untyped). f.desc) new i o (subst (λ (l : List _). slice_get l i ≡ Some o) are out) in
-    let f = from.0 in
-    let below = slice_get_within old i f from.1 in
-    let before : get_or old i f ≡ f = get_or_from_slice_get old i f f from.1 in
-    let after : get_or new i f ≡ to.0 = get_or_from_slice_get new i to.0 f to.1 in
-    let given : slice_get types i ≡ Some f.types =
-    ap (λ (l : List _). slice_get l i) (sym own) ∙ slice_get-map (λ (f : Untyped). f.types) old i ∙ ap (option_map (λ (f : Untyped). f.types)) from.1 in
-    let ready : P (0 + i) f.desc f.types = subst (λ d. P (0 + i) d f.types) (sym from.2) (gives.1 i t f.types item given) in
-    let filled = each i f below (0 + i) (subst (λ (g : Untyped). P (0 + i) g.desc g.types) (sym before) ready) in
-    let made : Q (0 + i) f.desc to.0.desc = subst (λ (g : Untyped). Q (0 + i) f.desc g.desc) after
-    (subst (λ (g : Untyped). Q (0 + i) g.desc (get_or new i f).desc) before filled) in
-    subst (λ d. Q (0 + i) d o) from.2 (subst (λ d. Q (0 + i) f.desc d) to.2 made)
+abbrev desc_in : Untyped → FileDesc
+desc_in f = f.desc
 
-filled_all : (P : ℕ → FileDesc → Vec NamedType Global → Type 0) (Q : ℕ → FileDesc → FileDesc → Type 0) (descs typed : List FileDesc)
-    (types : List (Vec NamedType Global)) (old new : List Untyped) → map (λ f. f.desc) old ≡ descs → map (λ f. f.types) old ≡ types
-    → typed ≡ map (λ f. f.desc) new → length new ≡ length old
-    → ((i : ℕ) (d : Untyped) → i < length old → (a : ℕ) → P a (get_or old i d).desc (get_or old i d).types
-    → Q a (get_or old i d).desc (get_or new i d).desc)
-    → GivesItems P 0 descs types → AllZipFrom Q 0 descs typed
-filled_all P Q descs typed types old new is own are size each gives = zip_from_gives Q 0 descs typed (
-  ap length are ∙ length-map new (λ (f : Untyped). f.desc) ∙ size ∙ sym (length-map old (λ (f : Untyped). f.desc)) ∙ ap length is,
-  filled_at P Q descs typed types old new is own are each gives,
-)
+abbrev types_in : Untyped → Vec NamedType Global
+types_in f = f.types
+
+module _ (P : ℕ → FileDesc → Vec NamedType Global → Type 0) (Q : ℕ → FileDesc → FileDesc → Type 0) (old new : List Untyped)
+    (each : (i : ℕ) (d : Untyped) → i < length old → (a : ℕ) → P a (get_or old i d).desc (get_or old i d).types
+    → Q a (get_or old i d).desc (get_or new i d).desc) where
+  -- a descriptor at its position, filled with the types that are given for it
+  filled_at : (i : ℕ) (t o : FileDesc) (descs typed : List FileDesc) (types : List (Vec NamedType Global))
+      → map desc_in old ≡ descs → map types_in old ≡ types → typed ≡ map desc_in new → GivesItems P 0 descs types
+      → slice_get descs i ≡ Some t → slice_get typed i ≡ Some o → Q (0 + i) t o
+  filled_at i t o descs typed types is own are gives item out =
+      let from = mapped_at desc_in old i t (subst (λ (l : List _). slice_get l i ≡ Some t) (sym is) item) in
+      let to = mapped_at desc_in new i o (subst (λ (l : List _). slice_get l i ≡ Some o) are out) in
+      let f = from.0 in
+      let below = slice_get_within old i f from.1 in
+      let before : get_or old i f ≡ f = get_or_from_slice_get old i f f from.1 in
+      let after : get_or new i f ≡ to.0 = get_or_from_slice_get new i to.0 f to.1 in
+      let given : slice_get types i ≡ Some f.types =
+      ap (λ (l : List _). slice_get l i) (sym own) ∙ slice_get-map types_in old i ∙ ap (option_map types_in) from.1 in
+      let ready : P (0 + i) f.desc f.types =
+      subst (λ d. P (0 + i) d f.types) (sym from.2) (gives.1 i t f.types item given) in
+      let filled = each i f below (0 + i) (subst (λ (g : Untyped). P (0 + i) g.desc g.types) (sym before) ready) in
+      let made : Q (0 + i) f.desc to.0.desc = subst (λ (g : Untyped). Q (0 + i) f.desc g.desc) after
+      (subst (λ (g : Untyped). Q (0 + i) g.desc (get_or new i f).desc) before filled) in
+      subst (λ d. Q (0 + i) d o) from.2 (subst (λ d. Q (0 + i) f.desc d) to.2 made)
+
+  filled_all : (descs typed : List FileDesc) (types : List (Vec NamedType Global)) → length new ≡ length old
+      → map desc_in old ≡ descs → map types_in old ≡ types → typed ≡ map desc_in new → GivesItems P 0 descs types
+      → AllZipFrom Q 0 descs typed
+  filled_all descs typed types size is own are gives = zip_from_gives Q 0 descs typed (
+    ap length are ∙ length-map new desc_in ∙ size ∙ sym (length-map old desc_in) ∙ ap length is,
+    λ i t o item out. filled_at i t o descs typed types is own are gives item out,
+  )
 
 -- what a slice of all items of a vector leaves there
-written : {X : Type 0} (n : ℕ) (old new : List X) → length new ≡ n → length old ≡ length new → take n (new ++ drop (length new) old) ≡ new
+written : {X : Type 0} (n : ℕ) (old new : List X) → length new ≡ n → length old ≡ length new
+    → take n (new ++ drop (length new) old) ≡ new
 written n old new size same =
-    ap (λ (l : List _). take n (new ++ l)) (drop_all (length new) old (omega (arith, same))) ∙ ap (take n) (append-nil new)
-    ∙ take_all n new (omega (arith, size))
+    let none = drop_all (length new) old (omega (arith, same)) in
+    ap (λ (l : List _). take n (new ++ l)) none ∙ ap (take n) (append-nil new) ∙ take_all n new (omega (arith, size))
 
 pub returns : goal.returns
 returns g c = ok_map _ _ c.descriptors.result (λ typed are links index gives.
     let old = c.in_ok-files.files.items in
+    let new = c.fill_all.new.files in
     let files = c.in_ok-files.ensures gives.0 in
     let is = c.as_mut_slice.ensures.value in
     let size = c.fill_all.ensures.size ∙ ap length is in
-    let all = written c.in_ok-files.files.len old c.fill_all.new.files (c.fill_all.ensures.size ∙ c.as_mut_slice.ensures.len) (sym size) in
-    filled_all (AreTypesOf links index) (IsTypedWhole links index) c.args.descs.items typed.items c.args.types.items
-    old c.fill_all.new.files files.0 files.1 (are ∙ ap (map (λ (f : Untyped). f.desc)) all) size
-    (λ i d h a w. rw is at (c.fill_all.ensures.each i d (rw (sym is) at h) links index a (rw (sym is) at w))) gives) c.descriptors.ensures
+    let all = written c.in_ok-files.files.len old new (c.fill_all.ensures.size ∙ c.as_mut_slice.ensures.len) (sym size) in
+    let each = c.fill_all.ensures.each in
+    filled_all (AreTypesOf links index) (IsTypedWhole links index) old new
+    (λ i d h a w. rw is at (each i d (rw (sym is) at h) links index a (rw (sym is) at w))) c.args.descs.items typed.items
+    c.args.types.items size files.0 files.1 (are ∙ ap (map desc_in) all) gives) c.descriptors.ensures
