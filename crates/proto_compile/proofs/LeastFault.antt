@@ -273,7 +273,7 @@ module _ (limits : Limits) (sources : List Source) where
       let found = outcome f.at desc (Err (local.At f.step f.place f.what)) at f.bad in
       let breaks = bad_type descs f.at desc f.place f.what described at
       (break_from_index limits descs links index is.linked is.indexed f.at desc (spot f.place f.what) at.0
-      found.1.found) in
+      found.1.is.among) in
       subst (IsLeastFault limits sources) (sym (f.is ∙ same_told 4 4 f.step 0 (name_at files f.at)
       (imports.name_at descs f.at) f.place f.place f.what f.what refl name found.0 refl refl))
       (least_of first breaks (none_of_names limits sources files descs links index is) own)
@@ -291,7 +291,7 @@ module _ (limits : Limits) (sources : List Source) where
       order b desc q l at wrong = elim (cases_order f.at b) [
         | inl here ↦ (
             let bad = ap (λ i. get_or outcomes i (Err local.NoMemory)) (sym here) ∙ f.bad in
-            inr (here, (outcome b desc (Err (local.At f.step f.place f.what)) at bad).1.least (spot q l) wrong))
+            inr (here, (outcome b desc (Err (local.At f.step f.place f.what)) at bad).1.is.least (spot q l) wrong))
         | inr (inl less) ↦ inl less
         | inr (inr over) ↦ (
             let t = f.well b over in

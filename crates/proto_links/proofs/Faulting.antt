@@ -1,6 +1,6 @@
 -- What is wrong with imports, and which of it comes first.
 use Rattle.std.proofs.Common.{◌≡◌, sym, ℕ, ◌+◌, ◌<◌, ◌≤◌, List, [], ◌∷◌, ◌++◌, length, ap, refl, subst, arith, inl, inr, ◌⊎◌, Vec, Global, map}
-use Rattle.std.specs.Prelude.{Bool, Option, Some, None, IfSome, ◌↔◌}
+use Rattle.std.specs.Prelude.{Bool, Option, Some, None, ◌↔◌}
 use Rattle.std.proofs.lemmas.Bool.{cases_lt, cases_eq}
 use Rattle.std.proofs.lemmas.List.Elements.{Contains-push, Contains-push_cases, Contains-append_left}
 use Rattle.digraph.specs.Edges.{Graph, Edge, IsWithin, graph_of}

@@ -14,7 +14,7 @@ returns-in-None-clause-whole c = λ x broken.
     let found = found_all c.args.index.now.occurrences (SeenBy c.args.links.now c.args.file) _ c.new-found.result c.file.new.found c.new-found.ensures.types
     c.new-found.ensures.fault c.in_ok-file.ensures in
     let least = rw c.in-None.is at found.least in
-    least.least x broken
+    least.is x broken
 
 pub returns-in-Some-clause-first : goal.returns-in-Some-clause-first
 returns-in-Some-clause-first c = λ place kind e.
