@@ -39,8 +39,8 @@ fn with_types<'s>(
     descs: Vec<FileDesc<'s>>,
     types: Vec<Vec<NamedType>>,
 ) -> Result<Vec<Untyped<'s>>, AllocError>
-    ensures { IfOk result (λ files. length types.items ≡ length descs.items
-        → (map (λ f. f.desc) files.items ≡ descs.items)
+    ensures { IfOk result (λ files. length types.items ≡ length descs.entry.items
+        → (map (λ f. f.desc) files.items ≡ descs.entry.items)
         × (map (λ f. f.types) files.items ≡ types.items)) }
 {
     let mut files = Vec::with_capacity(alloc, descs.len())?;
@@ -52,7 +52,7 @@ fn with_types<'s>(
 
 /// The descriptors of files.
 fn descriptors<'s>(alloc: Global, files: Vec<Untyped<'s>>) -> Result<Vec<FileDesc<'s>>, AllocError>
-    ensures { IfOk result (λ descs. descs.items ≡ map (λ f. f.desc) files.items) }
+    ensures { IfOk result (λ descs. descs.items ≡ map (λ f. f.desc) files.entry.items) }
 {
     let mut descs = Vec::with_capacity(alloc, files.len())?;
     for file in files {
