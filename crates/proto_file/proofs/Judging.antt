@@ -30,7 +30,7 @@ answered limits name text a p k step place kind fault e =
 
 pub grammar_fault : (limits : Limits) (name text : List ℕ) (tokens : Tokens) (place : Place) (kind : Kind)
     → (k : ℕ) × IsFaultAt (limit_of limits limit.Depth) (tokens_of tokens) k × IsKindOf (tokens_of tokens) k kind
-        × (place.offset ≡ place_of_token (tokens_of tokens) k tokens.end.offset)
+    × (place.offset ≡ place_of_token (tokens_of tokens) k tokens.end.offset)
     → IsTokenList (limit_of limits limit.FileBytes) text (tokens_of tokens) → tokens.end.offset ≡ length text → IsLocalFault limits name text 1 place kind
 grammar_fault limits name text tokens place kind (k, fault, is_kind, at) is end =
     of_grammar refl (tokens_of tokens, k, is, fault, is_kind, at ∙ ap (place_of_token (tokens_of tokens) k) end)
