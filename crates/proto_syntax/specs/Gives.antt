@@ -13,7 +13,7 @@ use Rattle.proto_syntax.specs.Trees.{row, symbol_tree}
 use Rattle.proto_syntax.specs.Reading.{Outcome, Read, Stops, read}
 use Rattle.proto_tokens.specs.declared.token.Tokens.{Tokens}
 use Rattle.proto_base.specs.declared.kind.Kind.{Kind}
-use Rattle.proto_base.specs.declared.kind.Kind.TheVariants.{UnexpectedEnd, TooDeep, Unexpected}
+use Rattle.proto_base.specs.declared.kind.Kind.TheVariants.{UnexpectedEnd}
 use Rattle.proto_syntax.specs.declared.error.ParseError.{ParseError}
 use Rattle.proto_syntax.specs.declared.error.ParseError.TheVariants.{NoMemory, At}
 use Rattle.proto_syntax.specs.Told.{place_of_token}
