@@ -1,3 +1,4 @@
 pub mod Among
+pub mod KindOrder
 pub mod Sets
 pub mod Spots

@@ -4,7 +4,7 @@ use Rattle.std.specs.Ordering.{nat_cmp, is_eq}
 use Rattle.std.proofs.lemmas.Cmp.{nat_cmp_total, tied_itself}
 use denote.Enum.Bare.{same_true}
 use Rattle.proto_base.specs.Kind.{number_of}
-use Rattle.proto_base.specs.KindOrder.{one_number}
+use Rattle.proto_base.proofs.KindOrder.{one_number}
 use Rattle.proto_base.specs.Least.{AtMost, spot}
 use Rattle.proto_base.specs.contracts.kind.Kind.{the_type}
 use Rattle.proto_base.specs.declared.kind.Kind.{Kind}

@@ -1,11 +1,9 @@
 pub mod Limits
 pub mod Kind
-pub mod KindOrder
 pub mod Fault
 pub mod formers
 pub mod Least
 pub mod Sets
-pub mod KindNames
 pub mod Lesser
 pub mod StandardLimits
 pub mod Told

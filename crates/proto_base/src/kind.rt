@@ -1,19 +1,12 @@
 //! Every kind of fault that a source, a list of sources or a descriptor can have, by its number.
 
 ghost use Rattle.std.specs.Prelude.{◌≡◌, Some};
-ghost use Rattle.std.specs.Cmp.{partial_order_from_own_ties};
-ghost use Rattle.std.specs.Cmp.Rules.{comparing};
-ghost use Rattle.std.specs.Ordering.{nat_cmp, on, as_partial_cmp};
-ghost use Rattle.std.proofs.Common.{rules};
-ghost use Rattle.proto_base.specs.Kind.{number_of};
-ghost use Rattle.proto_base.specs.KindNames.{name_of};
-ghost use Rattle.proto_base.specs.KindOrder.{one_number};
+ghost use Rattle.proto_base.specs.Kind.{number_of, name_of};
 
-use std::cmp::Ordering;
 use std::fmt;
 
 /// What is wrong with a source or with a list of sources. The order is that of the numbers.
-#[derive(Clone, Copy, Debug, PartialEq, Eq)]
+#[derive(Clone, Copy, Debug, PartialEq, Eq, PartialOrd, Ord)]
 pub enum Kind {
     // Lexical elements.
     NotUtf8 = 1,
@@ -136,30 +129,6 @@ impl Kind {
             Kind::DescriptorTooLong => "DescriptorTooLong",
             Kind::SetTooLong => "SetTooLong",
         }
-    }
-}
-
-impl Ord for Kind {
-    ghost cmp = { on number_of nat_cmp };
-
-    ghost total = { Prim.search (comparing, rules) };
-
-    ghost matches_partial_cmp = { Prim.search (comparing, rules) };
-
-    ghost matches_eq = { one_number };
-
-    fn cmp(&self, other: &Kind) -> Ordering {
-        self.number().cmp(&other.number())
-    }
-}
-
-impl PartialOrd for Kind {
-    ghost partial_cmp = { as_partial_cmp (on number_of nat_cmp) };
-
-    ghost laws = { partial_order_from_own_ties (Prim.search (comparing, rules)) one_number };
-
-    fn partial_cmp(&self, other: &Kind) -> Option<Ordering> {
-        Some(self.cmp(other))
     }
 }
 
