@@ -6,8 +6,8 @@ use Rattle.std.specs.Prelude.{Option, None, Result, Ok, Err, IfOk, flat_map}
 use Rattle.proto_base.specs.declared.spot.Spot.{Spot}
 use Rattle.proto_base.specs.Least.{IsLeast}
 use Rattle.proto_base.specs.Lesser.{IsLesser}
-use Rattle.proto_base.specs.Sets.{StandsAt, Each, Later}
-use Rattle.proto_base.proofs.Sets.{least_none, least_or, least_same, Either, WithTo}
+use Rattle.proto_base.specs.Sets.{◌∪◌, StandsAt, Each, Later}
+use Rattle.proto_base.proofs.Sets.{least_none, least_or, least_same, WithTo}
 
 abbrev pub Among : {X : Type 0} → List X → (X → Spot → Type 0) → Spot → Type 0
 Among [] S x = ⊥
@@ -86,9 +86,9 @@ pub flat_all : {X Y : Type 0} (S : Y → Spot → Type 0) (f : X → List Y) (xs
 flat_all S f xs i p end h = subst (λ ys. IsLeast (Each (flat_map f ys) S) p) (take_all i xs end) h
 
 -- of two rules of each element
-pub each_either : {X : Type 0} (S T : X → Spot → Type 0) (xs : List X) (r : Option Spot) → IsLeast (Each xs (λ a. Either (S a) (T a))) r
-    → IsLeast (Either (Each xs S) (Each xs T)) r
-each_either S T xs r h = least_same (Each xs (λ a. Either (S a) (T a))) (Either (Each xs S) (Each xs T)) r
+pub each_union : {X : Type 0} (S T : X → Spot → Type 0) (xs : List X) (r : Option Spot) → IsLeast (Each xs (λ a. S a ∪ T a)) r
+    → IsLeast (Each xs S ∪ Each xs T) r
+each_union S T xs r h = least_same (Each xs (λ a. S a ∪ T a)) (Each xs S ∪ Each xs T) r
     (λ x v. elim v [ inl w ↦ (w.0, w.1, w.2, inl w.3) | inr w ↦ (w.0, w.1, w.2, inr w.3) ])
     (λ x v. elim v.3 [ inl s ↦ inl (v.0, v.1, v.2, s) | inr t ↦ inr (v.0, v.1, v.2, t) ]) h
 

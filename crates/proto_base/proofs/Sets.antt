@@ -14,7 +14,7 @@ use denote.Ref.{Bor}
 use Rattle.proto_base.specs.declared.spot.Spot.{Spot}
 use Rattle.proto_base.specs.Least.{IsLeast, IsLeastBy, AtMost}
 use Rattle.proto_base.specs.Lesser.{IsLesser}
-use Rattle.proto_base.specs.Sets.{StandsAt, Each, Later, Where}
+use Rattle.proto_base.specs.Sets.{◌∪◌, StandsAt, Each, Later, Where}
 
 pub least_none : (S : Spot → Type 0) → ((x : Spot) → S x → ⊥) → IsLeast S None
 least_none S h = record { is = h }
@@ -232,11 +232,8 @@ passed_skip cmp show key at xs s t n c k p exact here e new fresh h =
     }
 
 -- of two sets
-abbrev pub Either : (Spot → Type 0) → (Spot → Type 0) → Spot → Type 0
-Either S T x = S x ⊎ T x
-
-pub least_either : (S T : Spot → Type 0) (a b r : Option Spot) → IsLeast S a → IsLeast T b → IsLesser a b r → IsLeast (Either S T) r
-least_either S T a b r p q w = least_or S T (Either S T) a b r (λ x v. v) (λ x s. inl s) (λ x t. inr t) p q w
+pub least_union : {S T : Spot → Type 0} {a b r : Option Spot} → IsLeast S a → IsLeast T b → IsLesser a b r → IsLeast (S ∪ T) r
+least_union {S} {T} {a} {b} {r} p q w = least_or S T (S ∪ T) a b r (λ x v. v) (λ x s. inl s) (λ x t. inr t) p q w
 
 -- what a loop over plain structs reads at n
 pub item_at : {X : Type 0} (xs : List X) (n : ℕ) (d : X) → n < length xs → StandsAt xs n (get_or xs n d)

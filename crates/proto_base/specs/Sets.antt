@@ -1,6 +1,12 @@
 -- Sets of spots that the elements of a list make.
-use Rattle.std.specs.Prelude.{◌≡◌, ℕ, ◌<◌, List, length, slice_index_or}
+use Rattle.std.specs.Prelude.{◌≡◌, ℕ, ◌<◌, ◌⊎◌, List, length, slice_index_or}
 use Rattle.proto_base.specs.declared.spot.Spot.{Spot}
+
+infixl 25 ◌∪◌
+
+-- the spots of two sets
+abbrev pub ◌∪◌ : (Spot → Type 0) → (Spot → Type 0) → Spot → Type 0
+(S ∪ T) x = S x ⊎ T x
 
 -- the one spot, where P holds
 abbrev pub Where : Type 0 → Spot → Spot → Type 0

@@ -9,8 +9,8 @@ use Rattle.proto_checks.specs.Covers.{IsCover, IsAcross, Reached}
 use Rattle.proto_base.specs.Least.{IsLeast}
 use Rattle.proto_base.specs.Lesser.{IsLesser}
 use Rattle.proto_checks.specs.Marks.{Holds, Share, ReservedOverlap, ReservedNumberUsed}
-use Rattle.proto_base.specs.Sets.{StandsAt, Each}
-use Rattle.proto_base.proofs.Sets.{Either, least_either, least_same, least_none}
+use Rattle.proto_base.specs.Sets.{◌∪◌, StandsAt, Each}
+use Rattle.proto_base.proofs.Sets.{least_union, least_same, least_none}
 
 pub stands_split : {X : Type 0} (xs ys : List X) (i : ℕ) (a : X) → StandsAt (xs ++ ys) i a
     → ((i < length xs) × StandsAt xs i a) ⊎ ((j : ℕ) × (i ≡ length xs + j) × StandsAt ys j a)
@@ -33,7 +33,7 @@ stands_right (x ∷ xs) ys i (suc k) a e s = let w = stands_right xs ys i k a (o
 
 -- the clashes of two halves
 abbrev pub Halves : List MarkedRange → List MarkedRange → Spot → Type 0
-Halves xs ys = Either (Either (ReservedOverlap xs) (ReservedOverlap ys)) (Each ys (IsAcross xs))
+Halves xs ys = ReservedOverlap xs ∪ ReservedOverlap ys ∪ Each ys (IsAcross xs)
 
 halves_of : (xs ys : List MarkedRange) (x : Spot) → ReservedOverlap (xs ++ ys) x → Halves xs ys x
 halves_of xs ys x (i, j, a, b, before, there, then, r, e) = elim (stands_split xs ys j b then) [
@@ -57,8 +57,7 @@ of_halves xs ys x (inr (j, b, then, ((i, a, there, r), e))) =
 pub halves_least : (xs ys zs : List MarkedRange) (a b p c r : Option Spot) → zs ≡ xs ++ ys → IsLeast (ReservedOverlap xs) a → IsLeast (ReservedOverlap ys) b
     → IsLesser a b p → IsLeast (Each ys (IsAcross xs)) c → IsLesser p c r → IsLeast (ReservedOverlap zs) r
 halves_least xs ys zs a b p c r e h k l m o = rw e (least_same (Halves xs ys) (ReservedOverlap (xs ++ ys)) r (halves_of xs ys) (of_halves xs ys)
-    (least_either (Either (ReservedOverlap xs) (ReservedOverlap ys)) (Each ys (IsAcross xs)) p c r
-    (least_either (ReservedOverlap xs) (ReservedOverlap ys) a b p h k l) m o))
+    (least_union (least_union h k l) m o))
 
 -- with no range no number is reserved
 pub unreserved_none : (rs : List MarkedRange) (ns : List MarkedNumber) → length rs ≡ 0 → IsLeast (ReservedNumberUsed rs ns) None

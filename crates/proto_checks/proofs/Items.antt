@@ -20,12 +20,12 @@ use Rattle.proto_base.specs.Least.{IsLeast}
 use Rattle.proto_base.specs.Lesser.{IsLesser}
 use Rattle.proto_checks.specs.Numbers.{FieldNumbersBreak}
 use Rattle.proto_checks.specs.Options.{optioned, optioned_plain, optioned_in_oneof, optioned_fields, FieldOptionsBreak, SettingsBreak}
-use Rattle.proto_base.specs.Sets.{Each}
+use Rattle.proto_base.specs.Sets.{◌∪◌, Each}
 use Rattle.proto_base.specs.declared.spot.Spot.{Spot}
 use Rattle.proto_base.proofs.Among.{among_of, least_single, each_map}
 use Rattle.proto_options.proofs.Rows.{row_of}
 use Rattle.proto_checks.proofs.Three.{first_of_three, last_of_three, two_of_three, each_three}
-use Rattle.proto_base.proofs.Sets.{Either, least_either, least_same}
+use Rattle.proto_base.proofs.Sets.{least_union, least_same}
 
 -- statements of a message
 pub item_field : (f : Field) (r : Option Spot) → IsLeast (FieldOptionsBreak (optioned_plain f)) r → IsLeast (ItemBreaks (of.Field f)) r
@@ -45,38 +45,7 @@ pub item_oneof : (o : Oneof) (a b r : Option Spot) → IsLeast (Each (flat_map o
 item_oneof o a b r h k w =
     let members = map optioned_in_oneof (flat_map oneof_field o.items) in
     two_of_three (Each members FieldOptionsBreak) (Each (o ∷ []) OneofBreaks) (Each [] EnumBreaks) r (among_of EnumBreaks [])
-    (least_either (Each members FieldOptionsBreak) (Each (o ∷ []) OneofBreaks) a b r
-    (each_map FieldOptionsBreak optioned_in_oneof (flat_map oneof_field o.items) a h) (least_single OneofBreaks o b k) w)
-
--- a message without those within it
-abbrev Alone : List MessageItem → Spot → Type 0
-Alone items = Either (FieldNumbersBreak items) (SettingsBreak element.Message (flat_map message_setting items))
-
-abbrev Elements : List MessageItem → Spot → Type 0
-Elements items = Either (Either (Each (flat_map optioned_fields items) FieldOptionsBreak) (Each (flat_map message_oneof items) OneofBreaks))
-    (Each (flat_map message_enum items) EnumBreaks)
-
-body_parts : (items : List MessageItem) (x : Spot) → BodyBreaks items x → Either (Alone items) (Elements items) x
-body_parts items x (BodyBreaks.numbers s) = inl (inl s)
-body_parts items x (BodyBreaks.options s) = inl (inr s)
-body_parts items x (BodyBreaks.field_options s) = inr (inl (inl s))
-body_parts items x (BodyBreaks.in_oneof s) = inr (inl (inr s))
-body_parts items x (BodyBreaks.in_enum s) = inr (inr s)
-
-parts_body : (items : List MessageItem) (x : Spot) → Either (Alone items) (Elements items) x → BodyBreaks items x
-parts_body items x (inl (inl s)) = BodyBreaks.numbers s
-parts_body items x (inl (inr s)) = BodyBreaks.options s
-parts_body items x (inr (inl (inl s))) = BodyBreaks.field_options s
-parts_body items x (inr (inl (inr s))) = BodyBreaks.in_oneof s
-parts_body items x (inr (inr s)) = BodyBreaks.in_enum s
-
-pub body_least : (items : List MessageItem) (a b p ab r : Option Spot) → IsLeast (FieldNumbersBreak items) a
-    → IsLeast (SettingsBreak element.Message (flat_map message_setting items)) b → IsLeast (Each items ItemBreaks) p → IsLesser a b ab → IsLesser ab p r
-    → IsLeast (BodyBreaks items) r
-body_least items a b p ab r h k m u w = least_same (Either (Alone items) (Elements items)) (BodyBreaks items) r (body_parts items) (parts_body items)
-    (least_either (Alone items) (Elements items) ab p r
-    (least_either (FieldNumbersBreak items) (SettingsBreak element.Message (flat_map message_setting items)) a b ab h k u)
-    (each_three FieldOptionsBreak OneofBreaks EnumBreaks optioned_fields message_oneof message_enum items p m) w)
+    (least_union (each_map FieldOptionsBreak optioned_in_oneof (flat_map oneof_field o.items) a h) (least_single OneofBreaks o b k) w)
 
 -- a message as a statement
 row_flat : (n : _) (row : Row_of-MessageItem n) → bodies_row row ≡ flat_map bodies_of (items-the_row-MessageItem n row)

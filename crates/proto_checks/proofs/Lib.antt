@@ -1,5 +1,5 @@
 pub mod AnyRow
-pub mod ElementUnions
+pub mod Empty
 pub mod Halves
 pub mod Hits
 pub mod Intervals
@@ -7,7 +7,6 @@ pub mod Items
 pub mod Measured
 pub mod NameSets
 pub mod Named
-pub mod NumberUnions
 pub mod Packages
 pub mod Rising
 pub mod Settling

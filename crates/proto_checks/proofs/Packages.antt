@@ -14,7 +14,7 @@ use Rattle.proto_base.specs.Lesser.{IsLesser}
 use Rattle.proto_base.specs.Sets.{Each, Where}
 use Rattle.proto_base.specs.declared.spot.Spot.{Spot}
 use Rattle.proto_base.proofs.Among.{taken, later_short}
-use Rattle.proto_base.proofs.Sets.{Either, least_either, least_or, least_same}
+use Rattle.proto_base.proofs.Sets.{least_union, least_or, least_same}
 
 abbrev pub again : Package → Spot
 again p = spot p.keyword.start kind.PackageTwice
@@ -102,11 +102,3 @@ repeated_skip ss i s is_named a within at none h =
 pub repeated_all : (ss : List Statement) (i : ℕ) (is_named : Bool) (a : Option Spot) → length ss ≤ i → Repeated (flat_map file_package (take i ss)) is_named a
     → IsLeast (PackageTwice (flat_map file_package ss)) a
 repeated_all ss i is_named a end h = subst (λ ys. IsLeast (PackageTwice (flat_map file_package ys)) a) (take_all i ss end) h.least
-
-pub package_least : (limits : Limits) (p : Package) (a b r : Option Spot) → IsLeast (Each (parts_of p.name) (IsPartTooLong limits p.name.first.span.start)) a
-    → IsLeast (IsWholeTooLong limits p.name.first.span.start p.name) b → IsLesser a b r → IsLeast (PackageTooLong limits p) r
-package_least limits p a b r h k w = least_same (Either (Each (parts_of p.name) (IsPartTooLong limits p.name.first.span.start))
-    (IsWholeTooLong limits p.name.first.span.start p.name)) (PackageTooLong limits p) r
-    (λ x v. elim v [ PackageTooLong.part s ↦ inl s | PackageTooLong.whole s ↦ inr s ])
-    (λ x v. elim v [ inl s ↦ PackageTooLong.part s | inr s ↦ PackageTooLong.whole s ])
-    (least_either (Each (parts_of p.name) (IsPartTooLong limits p.name.first.span.start)) (IsWholeTooLong limits p.name.first.span.start p.name) a b r h k w)

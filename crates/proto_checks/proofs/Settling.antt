@@ -1,5 +1,5 @@
 -- Settings by the rules of their element.
-use Rattle.std.proofs.Common.{◌≡◌, ◌∙◌, sym, Bool, true, false, List, map, ap, refl, subst}
+use Rattle.std.proofs.Common.{◌≡◌, ◌∙◌, sym, Bool, true, false, List, map, ap, refl, subst, inl, inr}
 use Rattle.std.proofs.lemmas.Bool.{true≢false, false≢true, both_ways, and_from, and_parts, false_from_ne_true, true_from_ne_false}
 use Rattle.std.specs.Prelude.{not, Option, Some, None, Contains}
 use Rattle.std.specs.List.{list_any}
@@ -12,13 +12,13 @@ use Rattle.proto_options.specs.Options.{is_setting, value_of}
 use Rattle.proto_desc.specs.Rules.{rules_of}
 use Rattle.proto_base.specs.Least.{IsLeast, spot}
 use Rattle.proto_base.specs.Lesser.{IsLesser}
-use Rattle.proto_checks.specs.Options.{name_place, value_place, IsUnknown, IsMistaken, SettingBreaks, unknown, mistaken, OptionTwice, SettingsBreak}
+use Rattle.proto_checks.specs.Options.{name_place, value_place, IsUnknown, IsMistaken, SettingBreaks, OptionTwice, SettingsBreak}
 use Rattle.proto_checks.specs.Judged.{is_known, is_known_by, is_mistaken, is_mistaken_by, setting_fault, judged, IsFaultOf, JudgedTwice}
 use Rattle.proto_base.specs.Sets.{Each}
 use Rattle.proto_checks.specs.declared.options.Judged.{Judged}
 use Rattle.proto_base.specs.declared.spot.Spot.{Spot}
 use Rattle.proto_base.proofs.Among.{each_on, later_map}
-use Rattle.proto_base.proofs.Sets.{least_either}
+use Rattle.proto_base.proofs.Sets.{least_union}
 
 -- what a test of each element says
 pub none_of : {X : Type 0} (p : X → Bool) (xs : List X) (a : X) → list_any p xs ≡ false → Contains xs a → p a ≡ false
@@ -75,16 +75,16 @@ mistaken_known : (e : Element) (s : Setting) → IsMistaken e s → is_known e s
 mistaken_known e s m = true_from_ne_false (is_known e s) (λ h. true≢false (sym m.2 ∙ none_of (is_known_by s) (rules_of e) m.0 h m.1))
 
 fault_of : (e : Element) (s : Setting) (x : Spot) → SettingBreaks e s x → setting_fault e s ≡ Some x
-fault_of e s x (unknown u at) = fault_unknown e s (not_known e s u) ∙ ap Some (sym at)
-fault_of e s x (mistaken m at) = fault_mistaken e s (mistaken_known e s m) (mistaken_by_test e s m) ∙ ap Some (sym at)
+fault_of e s x (inl (u, at)) = fault_unknown e s (not_known e s u) ∙ ap Some (sym at)
+fault_of e s x (inr (m, at)) = fault_mistaken e s (mistaken_known e s m) (mistaken_by_test e s m) ∙ ap Some (sym at)
 
 same_spot : (a b : Spot) → Some a ≡ Some b → a ≡ b
 same_spot a b e = cc
 
 breaks_by : (e : Element) (s : Setting) (x : Spot) (known wrong : Bool) → is_known e s ≡ known → is_mistaken e s ≡ wrong → setting_fault e s ≡ Some x
     → SettingBreaks e s x
-breaks_by e s x false wrong h k f = unknown (unknown_by e s h) (same_spot x _ (sym f ∙ fault_unknown e s h))
-breaks_by e s x true true h k f = mistaken (mistaken_by e s k) (same_spot x _ (sym f ∙ fault_mistaken e s h k))
+breaks_by e s x false wrong h k f = inl (unknown_by e s h, same_spot x _ (sym f ∙ fault_unknown e s h))
+breaks_by e s x true true h k f = inr (mistaken_by e s k, same_spot x _ (sym f ∙ fault_mistaken e s h k))
 breaks_by e s x true false h k f = absurd (let no : Some x ≡ None = sym f ∙ fault_none e s h k in cc)
 
 pub setting_least : (e : Element) (ss : List Setting) (r : Option Spot) → IsLeast (Each (map (judged e) ss) IsFaultOf) r → IsLeast (Each ss (SettingBreaks e)) r
@@ -97,6 +97,6 @@ twice_least e ss r h = later_map (λ (a b : Judged). a.name ≡ b.name) (λ b. s
 pub judged_least : (js : List Judged) (a b r : Option Spot) → IsLeast (Each js IsFaultOf) a → IsLeast (JudgedTwice js) b → IsLesser a b r
     → (e : Element) (ss : List Setting) → js ≡ map (judged e) ss → IsLeast (SettingsBreak e ss) r
 judged_least js a b r h k w e ss made =
-    least_either (Each ss (SettingBreaks e)) (OptionTwice ss) a b r
+    least_union
     (setting_least e ss a (subst (λ ys. IsLeast (Each ys IsFaultOf) a) made h))
     (twice_least e ss b (subst (λ ys. IsLeast (JudgedTwice ys) b) made k)) w

@@ -13,13 +13,13 @@ use Rattle.proto_desc.specs.declared.file.FileDesc.{FileDesc}
 use Rattle.proto_options.specs.Statements.{file_message, file_enum, file_service}
 use Rattle.proto_checks.specs.Checks.{IsTooLong, FileBreaks}
 use Rattle.proto_checks.specs.Elements.{MessageBreaks, EnumBreaks, ServiceBreaks}
-use Rattle.proto_checks.specs.Parts.{HeadBreaks, StatementBreaks, NamesBreak, LengthsBreak}
+use Rattle.proto_checks.specs.Parts.{StatementBreaks}
 use Rattle.proto_base.specs.Least.{IsLeast}
 use Rattle.proto_base.specs.Lesser.{IsLesser}
 use Rattle.proto_base.specs.Sets.{Each}
 use Rattle.proto_base.specs.declared.spot.Spot.{Spot}
 use Rattle.proto_base.proofs.Among.{among_of, least_single, least_append}
-use Rattle.proto_base.proofs.Sets.{Either, least_either, least_same}
+use Rattle.proto_base.proofs.Sets.{least_union, least_same}
 use Rattle.proto_checks.proofs.Three.{first_of_three, second_of_three, last_of_three, each_three}
 
 pub statement_message : (m : Message) (r : Option Spot) → IsLeast (MessageBreaks m) r → IsLeast (StatementBreaks (statement.Message m)) r
@@ -45,46 +45,3 @@ declared_least limits desc a b p ab r h k m u w =
     let enums = flat_map (declared_by_enum scope) desc.enums in
     let services = flat_map (declared_by_service scope) desc.services in
     least_append (IsTooLong limits) (messages ++ enums) services ab p r (least_append (IsTooLong limits) messages enums a b ab h k u) m w
-
-abbrev Elements : List Statement → Spot → Type 0
-Elements ss = Either (Either (Each (flat_map file_message ss) MessageBreaks) (Each (flat_map file_enum ss) EnumBreaks))
-    (Each (flat_map file_service ss) ServiceBreaks)
-
-abbrev Parts : Limits → FileTree → FileDesc → Spot → Type 0
-Parts limits tree desc = Either (Either (HeadBreaks tree desc) (Elements tree.statements)) (Either (NamesBreak desc) (LengthsBreak limits tree.statements desc))
-
-file_parts : (limits : Limits) (tree : FileTree) (desc : FileDesc) (x : Spot) → FileBreaks limits tree desc x → Parts limits tree desc x
-file_parts limits tree desc x (FileBreaks.not_proto3 s) = inl (inl (inl (inl s)))
-file_parts limits tree desc x (FileBreaks.package_twice s) = inl (inl (inl (inr s)))
-file_parts limits tree desc x (FileBreaks.import_twice s) = inl (inl (inr (inl s)))
-file_parts limits tree desc x (FileBreaks.options s) = inl (inl (inr (inr s)))
-file_parts limits tree desc x (FileBreaks.in_message s) = inl (inr (inl (inl s)))
-file_parts limits tree desc x (FileBreaks.in_enum s) = inl (inr (inl (inr s)))
-file_parts limits tree desc x (FileBreaks.in_service s) = inl (inr (inr s))
-file_parts limits tree desc x (FileBreaks.message_names s) = inr (inl (inl s))
-file_parts limits tree desc x (FileBreaks.enum_names s) = inr (inl (inr s))
-file_parts limits tree desc x (FileBreaks.package_long s) = inr (inr (inl s))
-file_parts limits tree desc x (FileBreaks.name_long s) = inr (inr (inr s))
-
-parts_file : (limits : Limits) (tree : FileTree) (desc : FileDesc) (x : Spot) → Parts limits tree desc x → FileBreaks limits tree desc x
-parts_file limits tree desc x (inl (inl (inl (inl s)))) = FileBreaks.not_proto3 s
-parts_file limits tree desc x (inl (inl (inl (inr s)))) = FileBreaks.package_twice s
-parts_file limits tree desc x (inl (inl (inr (inl s)))) = FileBreaks.import_twice s
-parts_file limits tree desc x (inl (inl (inr (inr s)))) = FileBreaks.options s
-parts_file limits tree desc x (inl (inr (inl (inl s)))) = FileBreaks.in_message s
-parts_file limits tree desc x (inl (inr (inl (inr s)))) = FileBreaks.in_enum s
-parts_file limits tree desc x (inl (inr (inr s))) = FileBreaks.in_service s
-parts_file limits tree desc x (inr (inl (inl s))) = FileBreaks.message_names s
-parts_file limits tree desc x (inr (inl (inr s))) = FileBreaks.enum_names s
-parts_file limits tree desc x (inr (inr (inl s))) = FileBreaks.package_long s
-parts_file limits tree desc x (inr (inr (inr s))) = FileBreaks.name_long s
-
-pub file_least : (limits : Limits) (tree : FileTree) (desc : FileDesc) (a b p q ab pq r : Option Spot) → IsLeast (HeadBreaks tree desc) a
-    → IsLeast (Each tree.statements StatementBreaks) b → IsLeast (NamesBreak desc) p → IsLeast (LengthsBreak limits tree.statements desc) q → IsLesser a b ab
-    → IsLesser p q pq → IsLesser ab pq r → IsLeast (FileBreaks limits tree desc) r
-file_least limits tree desc a b p q ab pq r h k m n u v w =
-    let elements = each_three MessageBreaks EnumBreaks ServiceBreaks file_message file_enum file_service tree.statements b k in
-    least_same (Parts limits tree desc) (FileBreaks limits tree desc) r (file_parts limits tree desc) (parts_file limits tree desc)
-    (least_either (Either (HeadBreaks tree desc) (Elements tree.statements)) (Either (NamesBreak desc) (LengthsBreak limits tree.statements desc)) ab pq r
-    (least_either (HeadBreaks tree desc) (Elements tree.statements) a b ab h elements u)
-    (least_either (NamesBreak desc) (LengthsBreak limits tree.statements desc) p q pq m n v) w)

@@ -7,6 +7,7 @@ use Rattle.proto_base.specs.declared.limits.Limits.{Limits}
 use Rattle.proto_base.specs.declared.place.Place.{Place}
 use Rattle.proto_tree.specs.declared.file.FileTree.{FileTree}
 use Rattle.proto_tree.specs.declared.file.Package.{Package}
+use Rattle.proto_tree.specs.declared.file.Statement.{Statement}
 use Rattle.proto_tree.specs.declared.file.Syntax.{Syntax}
 use Rattle.proto_tree.specs.declared.name.FullName.{FullName}
 use Rattle.proto_desc.specs.DeclaredNames.{Declared, full_name, declared_by}
@@ -26,7 +27,7 @@ use Rattle.proto_checks.specs.Elements.{MessageBreaks, EnumBreaks, ServiceBreaks
 use Rattle.proto_base.specs.Least.{spot}
 use Rattle.proto_checks.specs.Marks.{Marked, TextTwice, ReservedNameUsed}
 use Rattle.proto_checks.specs.Options.{SettingsBreak}
-use Rattle.proto_base.specs.Sets.{Each, Later}
+use Rattle.proto_base.specs.Sets.{◌∪◌, Each, Later}
 use Rattle.proto_base.specs.declared.spot.Spot.{Spot}
 
 -- the syntax is named first
@@ -59,9 +60,9 @@ abbrev pub IsWholeTooLong : Limits → Place → FullName → Spot → Type 0
 IsWholeTooLong limits at name x =
     (limit_of limits limit.FullNameBytes < length (dotted name)) × (x ≡ spot at kind.NameTooLong)
 
-pub data PackageTooLong (limits : Limits) (p : Package) (x : Spot) : Type 0 where
-  part : Each (parts_of p.name) (IsPartTooLong limits p.name.first.span.start) x → PackageTooLong limits p x
-  whole : IsWholeTooLong limits p.name.first.span.start p.name x → PackageTooLong limits p x
+abbrev pub PackageTooLong : Limits → Package → Spot → Type 0
+PackageTooLong limits p = Each (parts_of p.name) (IsPartTooLong limits p.name.first.span.start)
+    ∪ IsWholeTooLong limits p.name.first.span.start p.name
 
 -- the names of a message's fields, and of an enum's values
 abbrev pub json_mark : FieldDesc → Marked
@@ -82,10 +83,9 @@ pub record MessageNames : Type 0 where
   pub reserved_names : List (List ℕ)
   pub enums : List EnumDesc
 
-pub data MessageNamesBreak (m : MessageNames) (x : Spot) : Type 0 where
-  json_twice : TextTwice kind.JsonNameTwice (map json_mark m.fields) x → MessageNamesBreak m x
-  reserved : ReservedNameUsed m.reserved_names (map field_mark m.fields) x → MessageNamesBreak m x
-  in_enum : Each m.enums EnumNamesBreak x → MessageNamesBreak m x
+abbrev pub MessageNamesBreak : MessageNames → Spot → Type 0
+MessageNamesBreak m = TextTwice kind.JsonNameTwice (map json_mark m.fields)
+    ∪ ReservedNameUsed m.reserved_names (map field_mark m.fields) ∪ Each m.enums EnumNamesBreak
 
 -- a message, and then those within it, at each depth
 abbrev pub names_step : MessageDesc-F (List MessageNames) → List MessageNames
@@ -95,16 +95,22 @@ names_step m = record { fields = m.fields; reserved_names = m.reserved_names; en
 abbrev pub names_of : MessageDesc → List MessageNames
 names_of = fold-MessageDesc (List MessageNames) names_step
 
+abbrev pub HeadBreaks : FileTree → FileDesc → Spot → Type 0
+HeadBreaks tree desc = NotProto3Syntax tree.syntax ∪ PackageTwice (flat_map file_package tree.statements)
+    ∪ ImportTwice desc.imports ∪ SettingsBreak element.File (flat_map file_setting tree.statements)
+
+abbrev pub ElementsBreak : List Statement → Spot → Type 0
+ElementsBreak statements = Each (flat_map file_message statements) MessageBreaks
+    ∪ Each (flat_map file_enum statements) EnumBreaks ∪ Each (flat_map file_service statements) ServiceBreaks
+
+abbrev pub NamesBreak : FileDesc → Spot → Type 0
+NamesBreak desc = Each (flat_map names_of desc.messages) MessageNamesBreak ∪ Each desc.enums EnumNamesBreak
+
+abbrev pub LengthsBreak : Limits → List Statement → FileDesc → Spot → Type 0
+LengthsBreak limits statements desc =
+    Each (flat_map file_package statements) (PackageTooLong limits) ∪ Each (declared_by desc) (IsTooLong limits)
+
 -- the rules that a file breaks, by its tree and by the descriptor that the tree is lowered to
-pub data FileBreaks (limits : Limits) (tree : FileTree) (desc : FileDesc) (x : Spot) : Type 0 where
-  not_proto3 : NotProto3Syntax tree.syntax x → FileBreaks limits tree desc x
-  package_twice : PackageTwice (flat_map file_package tree.statements) x → FileBreaks limits tree desc x
-  import_twice : ImportTwice desc.imports x → FileBreaks limits tree desc x
-  options : SettingsBreak element.File (flat_map file_setting tree.statements) x → FileBreaks limits tree desc x
-  in_message : Each (flat_map file_message tree.statements) MessageBreaks x → FileBreaks limits tree desc x
-  in_enum : Each (flat_map file_enum tree.statements) EnumBreaks x → FileBreaks limits tree desc x
-  in_service : Each (flat_map file_service tree.statements) ServiceBreaks x → FileBreaks limits tree desc x
-  message_names : Each (flat_map names_of desc.messages) MessageNamesBreak x → FileBreaks limits tree desc x
-  enum_names : Each desc.enums EnumNamesBreak x → FileBreaks limits tree desc x
-  package_long : Each (flat_map file_package tree.statements) (PackageTooLong limits) x → FileBreaks limits tree desc x
-  name_long : Each (declared_by desc) (IsTooLong limits) x → FileBreaks limits tree desc x
+abbrev pub FileBreaks : Limits → FileTree → FileDesc → Spot → Type 0
+FileBreaks limits tree desc = HeadBreaks tree desc ∪ ElementsBreak tree.statements ∪ NamesBreak desc
+    ∪ LengthsBreak limits tree.statements desc

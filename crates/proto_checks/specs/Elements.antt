@@ -15,37 +15,36 @@ use Rattle.proto_options.specs.Statements.{message_oneof, message_enum, oneof_fi
 use Rattle.proto_base.specs.Least.{spot}
 use Rattle.proto_checks.specs.Numbers.{FieldNumbersBreak, EnumNumbersBreak}
 use Rattle.proto_checks.specs.Options.{SettingsBreak, FieldOptionsBreak, optioned_fields}
-use Rattle.proto_base.specs.Sets.{Each}
+use Rattle.proto_base.specs.Sets.{◌∪◌, Each, Where}
 use Rattle.proto_base.specs.declared.spot.Spot.{Spot}
 
 -- oneofs
 abbrev pub IsEmptyOneof : Oneof → Spot → Type 0
-IsEmptyOneof o x = (flat_map oneof_field o.items ≡ []) × (x ≡ spot o.name.span.start kind.OneofEmpty)
+IsEmptyOneof o = Where (flat_map oneof_field o.items ≡ []) (spot o.name.span.start kind.OneofEmpty)
 
-pub data OneofBreaks (o : Oneof) (x : Spot) : Type 0 where
-  empty : IsEmptyOneof o x → OneofBreaks o x
-  options : SettingsBreak element.Oneof (flat_map oneof_setting o.items) x → OneofBreaks o x
+abbrev pub OneofBreaks : Oneof → Spot → Type 0
+OneofBreaks o = IsEmptyOneof o ∪ SettingsBreak element.Oneof (flat_map oneof_setting o.items)
 
 -- enums
 abbrev pub ValueBreaks : EnumValue → Spot → Type 0
 ValueBreaks v = SettingsBreak element.EnumValue (bracketed v.options)
 
 abbrev pub IsEmptyEnum : Enum → Spot → Type 0
-IsEmptyEnum e x = (flat_map enum_value e.items ≡ []) × (x ≡ spot e.name.span.start kind.EnumEmpty)
+IsEmptyEnum e = Where (flat_map enum_value e.items ≡ []) (spot e.name.span.start kind.EnumEmpty)
 
-pub data EnumBreaks (e : Enum) (x : Spot) : Type 0 where
-  empty : IsEmptyEnum e x → EnumBreaks e x
-  numbers : EnumNumbersBreak e.items x → EnumBreaks e x
-  options : SettingsBreak element.Enum (flat_map enum_setting e.items) x → EnumBreaks e x
-  value_options : Each (flat_map enum_value e.items) ValueBreaks x → EnumBreaks e x
+abbrev pub EnumBreaks : Enum → Spot → Type 0
+EnumBreaks e = IsEmptyEnum e ∪ EnumNumbersBreak e.items ∪ SettingsBreak element.Enum (flat_map enum_setting e.items)
+    ∪ Each (flat_map enum_value e.items) ValueBreaks
 
--- the statements of one message, without those of the messages within it
-pub data BodyBreaks (items : List MessageItem) (x : Spot) : Type 0 where
-  numbers : FieldNumbersBreak items x → BodyBreaks items x
-  options : SettingsBreak element.Message (flat_map message_setting items) x → BodyBreaks items x
-  field_options : Each (flat_map optioned_fields items) FieldOptionsBreak x → BodyBreaks items x
-  in_oneof : Each (flat_map message_oneof items) OneofBreaks x → BodyBreaks items x
-  in_enum : Each (flat_map message_enum items) EnumBreaks x → BodyBreaks items x
+-- the fields, oneofs and enums of one message, without those of the messages within it
+abbrev pub MembersBreak : List MessageItem → Spot → Type 0
+MembersBreak items = Each (flat_map optioned_fields items) FieldOptionsBreak ∪ Each (flat_map message_oneof items) OneofBreaks
+    ∪ Each (flat_map message_enum items) EnumBreaks
+
+-- all statements of one message, without those of the messages within it
+abbrev pub BodyBreaks : List MessageItem → Spot → Type 0
+BodyBreaks items =
+    FieldNumbersBreak items ∪ SettingsBreak element.Message (flat_map message_setting items) ∪ MembersBreak items
 
 -- the statements of the messages that a statement holds, at each depth: one list for each message
 abbrev mutual
@@ -75,6 +74,5 @@ MessageBreaks m = Each (bodies m.items) BodyBreaks
 abbrev pub RpcBreaks : Rpc → Spot → Type 0
 RpcBreaks r = SettingsBreak element.Method (flat_map rpc_setting (rpc_items r.body))
 
-pub data ServiceBreaks (s : Service) (x : Spot) : Type 0 where
-  options : SettingsBreak element.Service (flat_map service_setting s.items) x → ServiceBreaks s x
-  in_rpc : Each (flat_map service_rpc s.items) RpcBreaks x → ServiceBreaks s x
+abbrev pub ServiceBreaks : Service → Spot → Type 0
+ServiceBreaks s = SettingsBreak element.Service (flat_map service_setting s.items) ∪ Each (flat_map service_rpc s.items) RpcBreaks

@@ -4,7 +4,6 @@ pub mod Options
 pub mod Gathered
 pub mod Judged
 pub mod Numbers
-pub mod Breaks
 pub mod NameSets
 pub mod Elements
 pub mod Checks

@@ -11,33 +11,36 @@ use Rattle.proto_options.specs.Options.{enum_setting, first_setting, value_of}
 use Rattle.proto_options.specs.Statements.{greatest_field_number}
 use Rattle.proto_checks.specs.Gathered.{least_value, greatest_value, field_numbers, message_ranges, message_bounds, message_reserved_names, value_numbers, enum_ranges, enum_bounds, enum_reserved_names}
 use Rattle.proto_base.specs.Least.{spot}
-use Rattle.proto_checks.specs.Marks.{Marked, NumberTwice, TextTwice, Outside, ReservedOverlap, ReservedBackwards, ReservedNumberUsed}
-use Rattle.proto_base.specs.Sets.{StandsAt, Each}
+use Rattle.proto_checks.specs.Marks.{NumberTwice, TextTwice, Outside, ReservedOverlap, ReservedBackwards, ReservedNumberUsed}
+use Rattle.proto_base.specs.Sets.{◌∪◌, StandsAt, Each, Where}
 use Rattle.proto_checks.specs.declared.marks.MarkedNumber.{MarkedNumber}
 use Rattle.proto_checks.specs.declared.marks.MarkedRange.{MarkedRange}
 use Rattle.proto_base.specs.declared.spot.Spot.{Spot}
 
--- reserved ranges and names, beside the numbers in use
-pub data ReservedBreak (ranges : List MarkedRange) (names : List Marked) (used : List MarkedNumber) (x : Spot) : Type 0 where
-  number_used : ReservedNumberUsed ranges used x → ReservedBreak ranges names used x
-  overlap : ReservedOverlap ranges x → ReservedBreak ranges names used x
-  backwards : ReservedBackwards ranges x → ReservedBreak ranges names used x
-  name_twice : TextTwice kind.ReservedNameTwice names x → ReservedBreak ranges names used x
+-- reserved ranges, beside the numbers in use
+abbrev pub RangesBreak : List MarkedRange → List MarkedNumber → Spot → Type 0
+RangesBreak ranges used = ReservedNumberUsed ranges used ∪ ReservedOverlap ranges ∪ ReservedBackwards ranges
 
 -- 1 to 536,870,911, but for 19,000 to 19,999
 abbrev pub IsFieldNumber : ℕ → Type 0
 IsFieldNumber n = (1 ≤ n) × (n ≤ greatest_field_number) × ((19000 ≤ n) → (n ≤ 19999) → ⊥)
 
 abbrev pub IsNoFieldNumber : MarkedNumber → Spot → Type 0
-IsNoFieldNumber n x = (IsFieldNumber n.number → ⊥) × (x ≡ spot n.place kind.FieldNumberRange)
+IsNoFieldNumber n = Where (IsFieldNumber n.number → ⊥) (spot n.place kind.FieldNumberRange)
+
+-- the numbers of a message's fields among themselves
+abbrev pub OwnFieldNumbersBreak : List MarkedNumber → Spot → Type 0
+OwnFieldNumbersBreak ns = Each ns IsNoFieldNumber ∪ NumberTwice kind.FieldNumberTwice ns
+
+-- the ranges that a message reserves, beside the numbers of its fields
+abbrev pub MessageRangesBreak : List MessageItem → List MarkedNumber → Spot → Type 0
+MessageRangesBreak items ns =
+    Outside 1 greatest_field_number kind.FieldNumberRange (message_bounds items) ∪ RangesBreak (message_ranges items) ns
 
 -- the statements of one message
-pub data FieldNumbersBreak (items : List MessageItem) (x : Spot) : Type 0 where
-  number_range : Each (field_numbers items) IsNoFieldNumber x → FieldNumbersBreak items x
-  bound_range : Outside 1 greatest_field_number kind.FieldNumberRange (message_bounds items) x → FieldNumbersBreak items x
-  number_twice : NumberTwice kind.FieldNumberTwice (field_numbers items) x → FieldNumbersBreak items x
-  reserved : ReservedBreak (message_ranges items) (message_reserved_names items) (field_numbers items) x
-      → FieldNumbersBreak items x
+abbrev pub FieldNumbersBreak : List MessageItem → Spot → Type 0
+FieldNumbersBreak items = OwnFieldNumbersBreak (field_numbers items) ∪ MessageRangesBreak items (field_numbers items)
+    ∪ TextTwice kind.ReservedNameTwice (message_reserved_names items)
 
 -- `allow_alias = true`, where the first setting counts
 abbrev pub IsAliasing : Option Setting → Type 0
@@ -48,12 +51,21 @@ abbrev pub FirstNotZero : List MarkedNumber → Spot → Type 0
 FirstNotZero ns x =
     (n : MarkedNumber) × StandsAt ns 0 n × (n.number ≢ 2 ^ 64) × (x ≡ spot n.place kind.EnumFirstNotZero)
 
+-- values with one number, under this first setting of `allow_alias`
+abbrev pub ValueTwice : Option Setting → List MarkedNumber → Spot → Type 0
+ValueTwice alias ns x = (IsAliasing alias → ⊥) × NumberTwice kind.EnumNumberTwice ns x
+
+-- the numbers of an enum's values among themselves
+abbrev pub OwnValueNumbersBreak : List EnumItem → List MarkedNumber → Spot → Type 0
+OwnValueNumbersBreak items ns = FirstNotZero ns ∪ Outside least_value greatest_value kind.EnumNumberRange ns
+    ∪ ValueTwice (first_setting allow_alias (flat_map enum_setting items)) ns
+
+-- the ranges that an enum reserves, beside the numbers of its values
+abbrev pub EnumRangesBreak : List EnumItem → List MarkedNumber → Spot → Type 0
+EnumRangesBreak items ns =
+    Outside least_value greatest_value kind.EnumNumberRange (enum_bounds items) ∪ RangesBreak (enum_ranges items) ns
+
 -- the statements of one enum
-pub data EnumNumbersBreak (items : List EnumItem) (x : Spot) : Type 0 where
-  first_not_zero : FirstNotZero (value_numbers items) x → EnumNumbersBreak items x
-  value_range : Outside least_value greatest_value kind.EnumNumberRange (value_numbers items) x → EnumNumbersBreak items x
-  bound_range : Outside least_value greatest_value kind.EnumNumberRange (enum_bounds items) x → EnumNumbersBreak items x
-  number_twice : (IsAliasing (first_setting allow_alias (flat_map enum_setting items)) → ⊥)
-      → NumberTwice kind.EnumNumberTwice (value_numbers items) x → EnumNumbersBreak items x
-  reserved : ReservedBreak (enum_ranges items) (enum_reserved_names items) (value_numbers items) x
-      → EnumNumbersBreak items x
+abbrev pub EnumNumbersBreak : List EnumItem → Spot → Type 0
+EnumNumbersBreak items = OwnValueNumbersBreak items (value_numbers items) ∪ EnumRangesBreak items (value_numbers items)
+    ∪ TextTwice kind.ReservedNameTwice (enum_reserved_names items)

@@ -28,7 +28,7 @@ use Rattle.proto_tree.specs.Text.{dotted}
 use Rattle.proto_desc.specs.Rules.{Rule, rules_of}
 use Rattle.proto_desc.specs.Rules as option
 use Rattle.proto_base.specs.Least.{spot}
-use Rattle.proto_base.specs.Sets.{Each, Later}
+use Rattle.proto_base.specs.Sets.{◌∪◌, Each, Later, Where}
 use Rattle.proto_base.specs.declared.spot.Spot.{Spot}
 
 -- the first token of an option's name, and that of its value
@@ -54,9 +54,9 @@ abbrev pub IsMistaken : Element → Setting → Type 0
 IsMistaken e s =
     (r : Rule) × Contains (rules_of e) r × (is_setting r.word s ≡ true) × (value_of r.kind s.value ≡ None)
 
-pub data SettingBreaks (e : Element) (s : Setting) (x : Spot) : Type 0 where
-  unknown : IsUnknown e s → x ≡ spot (name_place s) kind.UnknownOption → SettingBreaks e s x
-  mistaken : IsMistaken e s → x ≡ spot (value_place s.value) kind.BadOptionValue → SettingBreaks e s x
+abbrev pub SettingBreaks : Element → Setting → Spot → Type 0
+SettingBreaks e s = Where (IsUnknown e s) (spot (name_place s) kind.UnknownOption)
+    ∪ Where (IsMistaken e s) (spot (value_place s.value) kind.BadOptionValue)
 
 -- an option that the element has already
 abbrev pub OptionTwice : List Setting → Spot → Type 0
@@ -64,7 +64,7 @@ OptionTwice ss = Later ss (λ s t. dotted s.name ≡ dotted t.name) (λ t. spot 
 
 -- the settings of one element
 abbrev pub SettingsBreak : Element → List Setting → Spot → Type 0
-SettingsBreak e ss x = Each ss (SettingBreaks e) x ⊎ OptionTwice ss x
+SettingsBreak e ss = Each ss (SettingBreaks e) ∪ OptionTwice ss
 
 -- a field, with what its options depend on
 pub record OptionedField : Type 0 where
@@ -122,7 +122,8 @@ IsWronglyTyped is_wide_integer s x =
     (is_wide_integer ≡ false) × (is_setting option.jstype s ≡ true)
     × IsOtherType s.value × (x ≡ spot (name_place s) kind.JstypeOnWrongKind)
 
-pub data FieldOptionsBreak (f : OptionedField) (x : Spot) : Type 0 where
-  settings : SettingsBreak element.Field (bracketed f.declarator.options) x → FieldOptionsBreak f x
-  packed : Each (bracketed f.declarator.options) (IsWronglyPacked f.can_be_packed) x → FieldOptionsBreak f x
-  jstype : Each (bracketed f.declarator.options) (IsWronglyTyped f.is_wide_integer) x → FieldOptionsBreak f x
+abbrev pub FieldOptionsBreak : OptionedField → Spot → Type 0
+FieldOptionsBreak f =
+    Each (bracketed f.declarator.options) (IsWronglyPacked f.can_be_packed)
+    ∪ Each (bracketed f.declarator.options) (IsWronglyTyped f.is_wide_integer)
+    ∪ SettingsBreak element.Field (bracketed f.declarator.options)

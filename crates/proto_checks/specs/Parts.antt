@@ -1,13 +1,11 @@
 -- Words of private contracts: the rules of a file and of its elements in parts, each what one function looks at.
-use Rattle.std.specs.Prelude.{ℕ, ◌⊎◌, Bool, true, false, List, flat_map, Option, None}
-use Rattle.proto_base.specs.Sets.{Each}
-use Rattle.proto_base.specs.declared.limits.Limits.{Limits}
+use Rattle.std.specs.Prelude.{ℕ, Bool, true, false, List, Option, None}
+use Rattle.proto_base.specs.Sets.{◌∪◌, Each}
 use Rattle.proto_base.specs.declared.spot.Spot.{Spot}
 use Rattle.proto_tree.specs.declared.constant.Constant.{Constant}
 use Rattle.proto_tree.specs.declared.constant.Constant.TheVariants as constant
 use Rattle.proto_tree.specs.declared.enumeration.EnumItem.{EnumItem}
 use Rattle.proto_tree.specs.declared.enumeration.EnumItem.TheVariants as enum_item
-use Rattle.proto_tree.specs.declared.file.FileTree.{FileTree}
 use Rattle.proto_tree.specs.declared.file.Statement.{Statement}
 use Rattle.proto_tree.specs.declared.message.MessageItem.{MessageItem}
 use Rattle.proto_tree.specs.declared.name.NamePart.{NamePart}
@@ -15,15 +13,11 @@ use Rattle.proto_tree.specs.declared.oneof.OneofField.{OneofField}
 use Rattle.proto_tree.specs.declared.oneof.OneofItem.{OneofItem}
 use Rattle.proto_tree.specs.declared.oneof.OneofItem.TheVariants as oneof_item
 use Rattle.proto_tree.specs.declared.option.Setting.{Setting}
-use Rattle.proto_desc.specs.DeclaredNames.{declared_by}
-use Rattle.proto_desc.specs.declared.file.FileDesc.{FileDesc}
-use Rattle.proto_desc.specs.declared.rules.Element.TheVariants as element
 use Rattle.proto_desc.specs.declared.rules.ValueKind.{ValueKind}
-use Rattle.proto_options.specs.Options.{file_setting, number_of}
-use Rattle.proto_options.specs.Statements.{file_package, file_message, file_enum, file_service, message_oneof, message_enum}
-use Rattle.proto_checks.specs.Checks.{NotProto3Syntax, PackageTwice, ImportTwice, PackageTooLong, IsTooLong, MessageNamesBreak, EnumNamesBreak, names_of}
+use Rattle.proto_options.specs.Options.{number_of}
+use Rattle.proto_options.specs.Statements.{file_message, file_enum, file_service, message_oneof, message_enum}
 use Rattle.proto_checks.specs.Elements.{OneofBreaks, EnumBreaks, MessageBreaks, ServiceBreaks}
-use Rattle.proto_checks.specs.Options.{SettingsBreak, IsWronglyPacked, IsWronglyTyped, FieldOptionsBreak, optioned_in_oneof, optioned_fields}
+use Rattle.proto_checks.specs.Options.{IsWronglyPacked, IsWronglyTyped, FieldOptionsBreak, optioned_in_oneof, optioned_fields}
 
 -- the number that a constant stands for, if it is a name
 abbrev pub choice_of_value : ValueKind → Constant → Option ℕ
@@ -32,8 +26,7 @@ choice_of_value k c = None
 
 -- what is wrong with a setting on a field alone
 abbrev pub IsWrongOnField : Bool → Bool → Setting → Spot → Type 0
-IsWrongOnField can_be_packed is_wide_integer s x =
-    IsWronglyPacked can_be_packed s x ⊎ IsWronglyTyped is_wide_integer s x
+IsWrongOnField can_be_packed is_wide_integer s = IsWronglyPacked can_be_packed s ∪ IsWronglyTyped is_wide_integer s
 
 abbrev pub MemberBreaks : OneofField → Spot → Type 0
 MemberBreaks f = FieldOptionsBreak (optioned_in_oneof f)
@@ -48,26 +41,12 @@ is_value i = false
 
 -- what a statement of a message breaks by itself, unless it is a message or an option
 abbrev pub ItemBreaks : MessageItem → Spot → Type 0
-ItemBreaks i x = (Each (optioned_fields i) FieldOptionsBreak x ⊎ Each (message_oneof i) OneofBreaks x)
-    ⊎ Each (message_enum i) EnumBreaks x
+ItemBreaks i = Each (optioned_fields i) FieldOptionsBreak ∪ Each (message_oneof i) OneofBreaks ∪ Each (message_enum i) EnumBreaks
 
 -- a part of a name
 abbrev pub part_name : NamePart → List ℕ
 part_name part = part.name.text
 
--- the rules of a file
-abbrev pub HeadBreaks : FileTree → FileDesc → Spot → Type 0
-HeadBreaks tree desc x =
-    (NotProto3Syntax tree.syntax x ⊎ PackageTwice (flat_map file_package tree.statements) x)
-    ⊎ (ImportTwice desc.imports x ⊎ SettingsBreak element.File (flat_map file_setting tree.statements) x)
-
+-- what a statement of a file breaks
 abbrev pub StatementBreaks : Statement → Spot → Type 0
-StatementBreaks s x = (Each (file_message s) MessageBreaks x ⊎ Each (file_enum s) EnumBreaks x)
-    ⊎ Each (file_service s) ServiceBreaks x
-
-abbrev pub NamesBreak : FileDesc → Spot → Type 0
-NamesBreak desc x = Each (flat_map names_of desc.messages) MessageNamesBreak x ⊎ Each desc.enums EnumNamesBreak x
-
-abbrev pub LengthsBreak : Limits → List Statement → FileDesc → Spot → Type 0
-LengthsBreak limits statements desc x =
-    Each (flat_map file_package statements) (PackageTooLong limits) x ⊎ Each (declared_by desc) (IsTooLong limits) x
+StatementBreaks s = Each (file_message s) MessageBreaks ∪ Each (file_enum s) EnumBreaks ∪ Each (file_service s) ServiceBreaks

@@ -62,7 +62,7 @@ pub(crate) fn enum_fault(alloc: Global, declared: &Enum) -> Result<Option<Spot>,
     let numbers = first_enum_number_fault(alloc, items)?;
     let own = statement_settings_fault(alloc, Element::Enum, items)?;
     let values = values_fault(alloc, items)?;
-    let alone = lesser(empty, numbers);
-    let optioned = lesser(own, values);
-    Ok(lesser(alone, optioned))
+    let first = lesser(empty, numbers);
+    let first = lesser(first, own);
+    Ok(lesser(first, values))
 }

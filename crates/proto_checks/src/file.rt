@@ -3,8 +3,8 @@
 ghost use Rattle.std.specs.Prelude.{◌≡◌, IfOk, map, flat_map};
 ghost use Rattle.std.specs.Option.{option_map};
 ghost use Rattle.proto_desc.specs.DeclaredNames.{file_scope, declared_by};
-ghost use Rattle.proto_checks.specs.Checks.{NotProto3Syntax, ImportTwice, import_mark, MessageNamesBreak, names_of, IsTooLong, FileBreaks};
-ghost use Rattle.proto_checks.specs.Parts.{HeadBreaks, StatementBreaks, NamesBreak, LengthsBreak};
+ghost use Rattle.proto_checks.specs.Checks.{NotProto3Syntax, ImportTwice, import_mark, MessageNamesBreak, names_of, IsTooLong, HeadBreaks, NamesBreak, LengthsBreak, FileBreaks};
+ghost use Rattle.proto_checks.specs.Parts.{StatementBreaks};
 ghost use Rattle.proto_base.specs.Least.{IsLeast, spot};
 ghost use Rattle.proto_checks.specs.Lengths.{capped};
 ghost use Rattle.proto_base.specs.Sets.{Each};
@@ -74,9 +74,9 @@ fn head_fault(alloc: Global, tree: &FileTree, desc: &FileDesc) -> Result<Option<
     let package = package_twice(statements);
     let import = import_twice(alloc, desc.imports.as_slice())?;
     let own = statement_settings_fault(alloc, Element::File, statements)?;
-    let begun = lesser(syntax, package);
-    let rest = lesser(import, own);
-    Ok(lesser(begun, rest))
+    let first = lesser(syntax, package);
+    let first = lesser(first, import);
+    Ok(lesser(first, own))
 }
 
 fn statement_fault(alloc: Global, statement: &Statement) -> Result<Option<Spot>, AllocError>
@@ -162,9 +162,9 @@ fn file_fault(
     let elements = statements_fault(alloc, statements)?;
     let names = names_fault(alloc, desc)?;
     let lengths = lengths_fault(limits, statements, desc);
-    let spelled = lesser(head, elements);
-    let described = lesser(names, lengths);
-    Ok(lesser(spelled, described))
+    let first = lesser(head, elements);
+    let first = lesser(first, names);
+    Ok(lesser(first, lengths))
 }
 
 /// The first rule that a file breaks, and the place where it does; of those at one place, the one of the least kind.

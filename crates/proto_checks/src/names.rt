@@ -140,8 +140,8 @@ fn own_names_fault(
     let json = json_name_twice(alloc, fields)?;
     let field = reserved_field(alloc, reserved, fields)?;
     let value = enum_names_fault(alloc, enums)?;
-    let of_fields = lesser(json, field);
-    Ok(lesser(of_fields, value))
+    let first = lesser(json, field);
+    Ok(lesser(first, value))
 }
 
 /// The first fault of the names of a message and of the messages within it.

@@ -4,9 +4,8 @@
 ghost use Rattle.std.specs.Prelude.{IfOk, flat_map};
 ghost use Rattle.proto_options.specs.Options.{enum_setting, first_setting};
 ghost use Rattle.proto_desc.specs.Rules.{allow_alias};
-ghost use Rattle.proto_checks.specs.Breaks.{RangesBreak, ValueTwice, OwnFieldNumbersBreak, MessageRangesBreak, OwnValueNumbersBreak, EnumRangesBreak};
 ghost use Rattle.proto_base.specs.Least.{IsLeast};
-ghost use Rattle.proto_checks.specs.Numbers.{FirstNotZero, FieldNumbersBreak, EnumNumbersBreak};
+ghost use Rattle.proto_checks.specs.Numbers.{FirstNotZero, FieldNumbersBreak, EnumNumbersBreak, RangesBreak, ValueTwice, OwnFieldNumbersBreak, MessageRangesBreak, OwnValueNumbersBreak, EnumRangesBreak};
 
 use crate::aliases::is_aliasing;
 use crate::bounds::{first_no_field_number, first_outside};
@@ -31,8 +30,8 @@ fn first_range_fault(
 {
     let used = first_reserved_number(alloc, ranges, numbers)?;
     let overlap = first_overlap(alloc, ranges)?;
-    let shared = lesser(used, overlap);
-    Ok(lesser(shared, first_backwards(ranges)))
+    let first = lesser(used, overlap);
+    Ok(lesser(first, first_backwards(ranges)))
 }
 
 /// The first rule that the numbers of a message's fields break among themselves.
@@ -75,8 +74,8 @@ pub(crate) fn first_field_number_fault(
     let range = first_message_range_fault(alloc, items, &numbers)?;
     let names = message_reserved_names(alloc, items)?;
     let name = first_reserved_twice(alloc, &names)?;
-    let reserved = lesser(range, name);
-    Ok(lesser(own, reserved))
+    let first = lesser(own, range);
+    Ok(lesser(first, name))
 }
 
 /// The first value, where it is not 0.
@@ -119,9 +118,9 @@ fn first_own_value_number_fault(
 {
     let zero = first_not_zero(numbers);
     let number = first_outside(VALUE_MIN, VALUE_MAX, Kind::EnumNumberRange, numbers);
-    let own = lesser(zero, number);
     let twice = first_value_twice(alloc, items, numbers)?;
-    Ok(lesser(own, twice))
+    let first = lesser(zero, number);
+    Ok(lesser(first, twice))
 }
 
 /// The first rule that the ranges which an enum reserves break, and the numbers of its values with them.
@@ -152,6 +151,6 @@ pub(crate) fn first_enum_number_fault(
     let range = first_enum_range_fault(alloc, items, &numbers)?;
     let names = enum_reserved_names(alloc, items)?;
     let name = first_reserved_twice(alloc, &names)?;
-    let reserved = lesser(range, name);
-    Ok(lesser(own, reserved))
+    let first = lesser(own, range);
+    Ok(lesser(first, name))
 }

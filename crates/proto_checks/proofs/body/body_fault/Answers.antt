@@ -1,6 +1,12 @@
-use Rattle.proto_checks.proofs.Items.{body_least}
+use Rattle.proto_options.specs.Statements.{message_oneof, message_enum}
+use Rattle.proto_checks.specs.Elements.{OneofBreaks, EnumBreaks}
+use Rattle.proto_checks.specs.Options.{FieldOptionsBreak, optioned_fields}
+use Rattle.proto_base.proofs.Sets.{least_union}
+use Rattle.proto_checks.proofs.Three.{each_three}
 use Rattle.proto_checks.proofs.body.body_fault.Goals as goal
 
 pub returns : goal.returns
-returns c = body_least c.args.items.now c.in_ok-numbers.numbers c.in_ok-own.own c.in_ok-elements.elements c.lesser-alone.result c.lesser.result
-    c.in_ok-numbers.ensures c.in_ok-own.ensures c.in_ok-elements.ensures c.lesser-alone.ensures c.lesser.ensures
+returns c =
+    let members = each_three FieldOptionsBreak OneofBreaks EnumBreaks optioned_fields message_oneof message_enum c.args.items.now c.in_ok-elements.elements
+            c.in_ok-elements.ensures in
+    least_union (least_union c.in_ok-numbers.ensures c.in_ok-own.ensures c.lesser-alone.ensures) members c.lesser.ensures

@@ -3,7 +3,7 @@ use Rattle.std.proofs.lemmas.Grind.{common_steps}
 use Rattle.std.specs.List.{list_any}
 use Rattle.proto_tree.specs.declared.enumeration.Enum.{Enum}
 use Rattle.proto_checks.specs.Parts.{is_value}
-use Rattle.proto_checks.proofs.ElementUnions.{enum_filled, enum_empty}
+use Rattle.proto_checks.proofs.Empty.{enum_filled, enum_empty}
 use Rattle.proto_checks.proofs.enumeration.empty_fault.Goals as goal
 
 pub returns-then-has_value : goal.returns-then-has_value

@@ -1,8 +1,5 @@
-use Rattle.proto_base.proofs.Sets.{least_either}
-use Rattle.proto_checks.specs.Options.{IsWronglyPacked, IsWronglyTyped}
+use Rattle.proto_base.proofs.Sets.{least_union}
 use Rattle.proto_checks.proofs.field_options.field_setting_fault.Goals as goal
 
 pub returns : goal.returns
-returns c = least_either (IsWronglyPacked c.args.can_be_packed c.args.setting.now) (IsWronglyTyped c.args.is_wide_integer c.args.setting.now)
-    c.packed_fault-packed.result c.jstype_fault-jstype.result c.lesser.result c.packed_fault-packed.ensures c.jstype_fault-jstype.ensures
-    c.lesser.ensures
+returns c = least_union c.packed_fault-packed.ensures c.jstype_fault-jstype.ensures c.lesser.ensures

@@ -1,8 +1,14 @@
-use Rattle.proto_checks.proofs.Whole.{file_least}
+use Rattle.proto_checks.specs.Elements.{MessageBreaks, EnumBreaks, ServiceBreaks}
+use Rattle.proto_options.specs.Statements.{file_message, file_enum, file_service}
+use Rattle.proto_base.proofs.Sets.{least_union}
+use Rattle.proto_checks.proofs.Three.{each_three}
 use Rattle.proto_checks.proofs.file.file_fault.Goals as goal
 
 pub returns : goal.returns
-returns c = file_least c.args.limits.now c.args.tree.now c.args.desc.now c.in_ok-head.head c.in_ok-elements.elements c.in_ok-names.names
-    c.lengths_fault-lengths.result c.lesser-spelled.result c.lesser-described.result c.lesser.result
-    c.in_ok-head.ensures (rw c.as_slice-statements.ensures at c.in_ok-elements.ensures) c.in_ok-names.ensures
-    (rw c.as_slice-statements.ensures at c.lengths_fault-lengths.ensures) c.lesser-spelled.ensures c.lesser-described.ensures c.lesser.ensures
+returns c =
+    let statements = c.args.tree.now.statements in
+    let each = rw c.as_slice-statements.ensures at c.in_ok-elements.ensures in
+    let elements = each_three MessageBreaks EnumBreaks ServiceBreaks file_message file_enum file_service statements c.in_ok-elements.elements each in
+    let lengths = rw c.as_slice-statements.ensures at c.lengths_fault-lengths.ensures in
+    least_union (least_union (least_union c.in_ok-head.ensures elements c.lesser-first.ensures) c.in_ok-names.ensures c.lesser-first-2.ensures) lengths
+    c.lesser.ensures

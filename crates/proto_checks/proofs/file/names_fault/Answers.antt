@@ -1,10 +1,5 @@
-use Rattle.std.specs.Prelude.{flat_map}
-use Rattle.proto_base.proofs.Sets.{least_either}
-use Rattle.proto_base.specs.Sets.{Each}
-use Rattle.proto_checks.specs.Checks.{EnumNamesBreak, MessageNamesBreak, names_of}
+use Rattle.proto_base.proofs.Sets.{least_union}
 use Rattle.proto_checks.proofs.file.names_fault.Goals as goal
 
 pub returns : goal.returns
-returns c = least_either (Each (flat_map names_of c.args.desc.now.messages) MessageNamesBreak) (Each c.args.desc.now.enums EnumNamesBreak)
-    c.in_ok-messages.messages c.in_ok-enums.enums c.lesser.result (rw c.as_slice.ensures at c.in_ok-messages.ensures)
-    (rw c.as_slice-2.ensures at c.in_ok-enums.ensures) c.lesser.ensures
+returns c = least_union (rw c.as_slice.ensures at c.in_ok-messages.ensures) (rw c.as_slice-2.ensures at c.in_ok-enums.ensures) c.lesser.ensures

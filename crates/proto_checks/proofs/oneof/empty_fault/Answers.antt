@@ -3,7 +3,7 @@ use Rattle.std.proofs.lemmas.Grind.{common_steps}
 use Rattle.std.specs.List.{list_any}
 use Rattle.proto_tree.specs.declared.oneof.Oneof.{Oneof}
 use Rattle.proto_checks.specs.Parts.{is_member}
-use Rattle.proto_checks.proofs.ElementUnions.{oneof_filled, oneof_empty}
+use Rattle.proto_checks.proofs.Empty.{oneof_filled, oneof_empty}
 use Rattle.proto_checks.proofs.oneof.empty_fault.Goals as goal
 
 pub returns-then-has_member : goal.returns-then-has_member
