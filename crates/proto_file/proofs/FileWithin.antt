@@ -1,5 +1,5 @@
 -- The spots of a file's broken rules lie within a text in which the tokens of its tree begin.
-use Rattle.std.proofs.Common.{◌≡◌, ◌∙◌, ap, sym, subst, ℕ, ◌≤◌, List, [], ◌∷◌, ◌++◌, map}
+use Rattle.std.proofs.Common.{◌≡◌, ◌∙◌, ap, sym, subst, ℕ, ◌≤◌, List, [], ◌∷◌, ◌++◌, map, inl, inr}
 use Rattle.std.specs.Prelude.{flat_map}
 use Rattle.std.specs.List.{AllByRecursion}
 use Rattle.std.specs.Str.{byte}
@@ -35,7 +35,7 @@ use Rattle.proto_desc.specs.declared.service.MethodDesc.{MethodDesc}
 use Rattle.proto_desc.specs.declared.service.ServiceDesc.{ServiceDesc}
 use Rattle.proto_file.specs.Places.{AllWithin}
 use Rattle.proto_file.proofs.PlacesWithin.{Within, prefix, rest, both, left_of, right_of, each_given, each_map, each_place, each_places, each_row, each_weaker, upto, EnumWithin, ItemWithin, StatementWithin, places_out, lowered_within}
-use Rattle.proto_checks.specs.Checks.{FileBreaks, import_mark, IsTooLong, IsPartTooLong, PackageTooLong, parts_of, json_mark, field_mark, value_mark, EnumNamesBreak, MessageNames, MessageNamesBreak, names_of}
+use Rattle.proto_checks.specs.Checks.{FileBreaks, HeadBreaks, ElementsBreak, NamesBreak, LengthsBreak, import_mark, IsTooLong, IsPartTooLong, PackageTooLong, parts_of, json_mark, field_mark, value_mark, EnumNamesBreak, MessageNames, MessageNamesBreak, names_of}
 use Rattle.proto_checks.specs.Elements.{BodyBreaks, MessageBreaks, EnumBreaks, ServiceBreaks, bodies, bodies_of}
 use Rattle.proto_checks.specs.Marks.{Marked}
 use Rattle.proto_base.specs.declared.spot.Spot.{Spot}
@@ -119,9 +119,9 @@ abbrev NamesAt : ℕ → MessageNames → Type 0
 NamesAt n m = AllByRecursion (λ (f : FieldDesc). Placed n f.place) m.fields × AllByRecursion (EnumWithin (upto n)) m.enums
 
 names_break : (n : ℕ) (x : Spot) (m : MessageNames) → NamesAt n m → MessageNamesBreak m x → SpotWithin n x
-names_break n x m all (MessageNamesBreak.json_twice b) = text_twice n _ (map json_mark m.fields) x (marks_within n json_mark m.fields all.0) b
-names_break n x m all (MessageNamesBreak.reserved b) = name_used n m.reserved_names (map field_mark m.fields) x (marks_within n field_mark m.fields all.0) b
-names_break n x m all (MessageNamesBreak.in_enum b) = each_within (EnumWithin (upto n)) EnumNamesBreak n m.enums x all.1 (enum_names_break n x) b
+names_break n x m all (inl (inl b)) = text_twice n _ (map json_mark m.fields) x (marks_within n json_mark m.fields all.0) b
+names_break n x m all (inl (inr b)) = name_used n m.reserved_names (map field_mark m.fields) x (marks_within n field_mark m.fields all.0) b
+names_break n x m all (inr b) = each_within (EnumWithin (upto n)) EnumNamesBreak n m.enums x all.1 (enum_names_break n x) b
 
 abbrev DeclaredAt : ℕ → List Declared → Type 0
 DeclaredAt n ds = AllByRecursion (λ (d : Declared). Placed n d.place) ds
@@ -255,13 +255,13 @@ file_setting_within n (statement.Option o) all = (statement_within n o all, tt)
 file_setting_within n s all = tt
 
 package_long : (n : ℕ) (limits : Limits) (x : Spot) (p : Package) → Within (upto n) (package_tree p) → PackageTooLong limits p x → SpotWithin n x
-package_long n limits x p all (PackageTooLong.part b) = each_within (λ part. Unit {0}) (IsPartTooLong limits p.name.first.span.start) n (parts_of p.name) x
+package_long n limits x p all (inl b) = each_within (λ part. Unit {0}) (IsPartTooLong limits p.name.first.span.start) n (parts_of p.name) x
     (every (parts_of p.name)) (λ part u s. at_spot n p.name.first.span.start _ x all.1.0 s.1) b
   where
     every : (xs : List (List ℕ)) → AllByRecursion (λ part. Unit {0}) xs
     every [] = tt
     every (y ∷ ys) = (tt, every ys)
-package_long n limits x p all (PackageTooLong.whole b) = at_spot n p.name.first.span.start _ x all.1.0 b.1
+package_long n limits x p all (inr b) = at_spot n p.name.first.span.start _ x all.1.0 b.1
 
 -- what the descriptor's places give
 record DescPlaces (n : ℕ) (d : FileDesc) : Type 0 where
@@ -296,47 +296,66 @@ declared_at n d at =
     (service_declares n (file_scope d.«package»)) (each_places (upto n) service_places d.services at.services) in
     both (λ (x : Declared). Placed n x.place) _ _ (both (λ (x : Declared). Placed n x.place) _ _ messages enums) services
 
+statements_within : (n : ℕ) (tree : FileTree) → Within (upto n) (file_tree tree) → AllByRecursion (StatementWithin (upto n)) tree.statements
+statements_within n tree all = each_row (StatementWithin (upto n)) statement_tree (upto n) tree.statements (λ s w. w)
+    (right_of (upto n) (syntax_tree tree.syntax) (row statement_tree tree.statements) all)
+
+packages_within : (n : ℕ) (tree : FileTree) → Within (upto n) (file_tree tree)
+    → AllByRecursion (λ p. Within (upto n) (package_tree p)) (flat_map file_package tree.statements)
+packages_within n tree all = each_given (StatementWithin (upto n)) (λ p. Within (upto n) (package_tree p)) file_package tree.statements
+    (file_package_within n) (statements_within n tree all)
+
+lowered_places : (n : ℕ) (name : List ℕ) (tree : FileTree) → Within (upto n) (file_tree tree) → DescPlaces n (lowered name tree)
+lowered_places n name tree all = desc_places n (lowered name tree)
+    (lowered_within (upto n) name tree (right_of (upto n) (syntax_tree tree.syntax) (row statement_tree tree.statements) all))
+
+head_breaks : (n : ℕ) (name : List ℕ) (tree : FileTree) (x : Spot) → Within (upto n) (file_tree tree) → HeadBreaks tree (lowered name tree) x
+    → SpotWithin n x
+head_breaks n name tree x all (inl (inl (inl b))) = at_spot n tree.syntax.version.first.span.start _ x
+    (left_of (upto n) (syntax_tree tree.syntax) (row statement_tree tree.statements) all).1.1.0 b.1
+head_breaks n name tree x all (inl (inl (inr b))) =
+    later_within _ (λ (p : Package). p.keyword.start) kind.PackageTwice n (flat_map file_package tree.statements) x
+    (each_weaker (λ p. Within (upto n) (package_tree p)) (λ (p : Package). Placed n p.keyword.start)
+    (flat_map file_package tree.statements) (λ p w. w.0) (packages_within n tree all)) b
+head_breaks n name tree x all (inl (inr b)) =
+    let imports = (lowered name tree).imports in
+    text_twice n _ (map import_mark imports) x
+    (marks_within n import_mark imports (each_place (upto n) import_place imports (lowered_places n name tree all).imports)) b
+head_breaks n name tree x all (inr b) = settings_break n element.File (flat_map file_setting tree.statements) x
+    (each_given (StatementWithin (upto n)) (SettingWithin n) file_setting tree.statements (file_setting_within n) (statements_within n tree all)) b
+
+elements_break : (n : ℕ) (tree : FileTree) (x : Spot) → Within (upto n) (file_tree tree) → ElementsBreak tree.statements x → SpotWithin n x
+elements_break n tree x all (inl (inl b)) = each_within (MessageWithin n) MessageBreaks n (flat_map file_message tree.statements) x
+    (each_given (StatementWithin (upto n)) (MessageWithin n) file_message tree.statements (file_message_within n) (statements_within n tree all))
+    (λ m within c. each_within (ItemsWithin n) BodyBreaks n (bodies m.items) x within (body_breaks n x) c) b
+elements_break n tree x all (inl (inr b)) =
+    each_within (λ e. Within (upto n) (enum_tree e)) EnumBreaks n (flat_map file_enum tree.statements) x
+    (each_given (StatementWithin (upto n)) (λ e. Within (upto n) (enum_tree e)) file_enum tree.statements (file_enum_within n)
+    (statements_within n tree all)) (enum_breaks n x) b
+elements_break n tree x all (inr b) =
+    each_within (λ t. Within (upto n) (service_tree t)) ServiceBreaks n (flat_map file_service tree.statements) x
+    (each_given (StatementWithin (upto n)) (λ t. Within (upto n) (service_tree t)) file_service tree.statements (file_service_within n)
+    (statements_within n tree all)) (service_breaks n x) b
+
+described_names_break : (n : ℕ) (d : FileDesc) (x : Spot) → DescPlaces n d → NamesBreak d x → SpotWithin n x
+described_names_break n d x at (inl b) = each_within (NamesAt n) MessageNamesBreak n (flat_map names_of d.messages) x
+    (each_given (λ m. AllWithin n (message_places m)) (NamesAt n) names_of d.messages (λ m w. (desc_at n m w).0)
+    (each_places (upto n) message_places d.messages at.messages)) (names_break n x) b
+described_names_break n d x at (inr b) = each_within (EnumWithin (upto n)) EnumNamesBreak n d.enums x
+    (each_places (upto n) enum_places d.enums at.enums) (enum_names_break n x) b
+
+lengths_break : (n : ℕ) (limits : Limits) (name : List ℕ) (tree : FileTree) (x : Spot) → Within (upto n) (file_tree tree)
+    → LengthsBreak limits tree.statements (lowered name tree) x → SpotWithin n x
+lengths_break n limits name tree x all (inl b) =
+    each_within (λ p. Within (upto n) (package_tree p)) (PackageTooLong limits) n (flat_map file_package tree.statements) x
+    (packages_within n tree all) (package_long n limits x) b
+lengths_break n limits name tree x all (inr b) =
+    each_within (λ (d : Declared). Placed n d.place) (IsTooLong limits) n (declared_by (lowered name tree)) x
+    (declared_at n (lowered name tree) (lowered_places n name tree all)) (λ d within s. at_spot n d.place _ x within s.1) b
+
 pub breaks_within : (n : ℕ) (limits : Limits) (name : List ℕ) (tree : FileTree) (x : Spot) → Within (upto n) (file_tree tree)
     → FileBreaks limits tree (lowered name tree) x → SpotWithin n x
-breaks_within n limits name tree x all broken = elim broken [
-  | FileBreaks.not_proto3 b ↦ at_spot n tree.syntax.version.first.span.start _ x
-      (left_of (upto n) (syntax_tree tree.syntax) (row statement_tree tree.statements) all).1.1.0 b.1
-  | FileBreaks.package_twice b ↦ later_within _ (λ (p : Package). p.keyword.start) kind.PackageTwice n (flat_map file_package tree.statements) x
-      (each_weaker (λ p. Within (upto n) (package_tree p)) (λ (p : Package). Placed n p.keyword.start)
-      (flat_map file_package tree.statements) (λ p w. w.0) packages) b
-  | FileBreaks.import_twice b ↦ text_twice n _ (map import_mark (lowered name tree).imports) x
-      (marks_within n import_mark (lowered name tree).imports (each_place (upto n) import_place (lowered name tree).imports desc.imports)) b
-  | FileBreaks.options b ↦ settings_break n element.File (flat_map file_setting tree.statements) x
-      (each_given (StatementWithin (upto n)) (SettingWithin n) file_setting tree.statements (file_setting_within n) ss) b
-  | FileBreaks.in_message b ↦ each_within (MessageWithin n) MessageBreaks n (flat_map file_message tree.statements) x
-      (each_given (StatementWithin (upto n)) (MessageWithin n) file_message tree.statements (file_message_within n) ss)
-      (λ m within c. each_within (ItemsWithin n) BodyBreaks n (bodies m.items) x within (body_breaks n x) c) b
-  | FileBreaks.in_enum b ↦ each_within (λ e. Within (upto n) (enum_tree e)) EnumBreaks n (flat_map file_enum tree.statements) x
-      (each_given (StatementWithin (upto n)) (λ e. Within (upto n) (enum_tree e)) file_enum tree.statements (file_enum_within n) ss) (enum_breaks n x) b
-  | FileBreaks.in_service b ↦ each_within (λ t. Within (upto n) (service_tree t)) ServiceBreaks n (flat_map file_service tree.statements) x
-      (each_given (StatementWithin (upto n)) (λ t. Within (upto n) (service_tree t)) file_service tree.statements
-      (file_service_within n) ss) (service_breaks n x) b
-  | FileBreaks.message_names b ↦ each_within (NamesAt n) MessageNamesBreak n (flat_map names_of (lowered name tree).messages) x
-      (each_given (λ m. AllWithin n (message_places m)) (NamesAt n) names_of (lowered name tree).messages (λ m w. (desc_at n m w).0)
-      (each_places (upto n) message_places (lowered name tree).messages desc.messages)) (names_break n x) b
-  | FileBreaks.enum_names b ↦ each_within (EnumWithin (upto n)) EnumNamesBreak n (lowered name tree).enums x
-      (each_places (upto n) enum_places (lowered name tree).enums desc.enums) (enum_names_break n x) b
-  | FileBreaks.package_long b ↦ each_within (λ p. Within (upto n) (package_tree p)) (PackageTooLong limits) n (flat_map file_package tree.statements) x packages
-      (package_long n limits x) b
-  | FileBreaks.name_long b ↦ each_within (λ (d : Declared). Placed n d.place) (IsTooLong limits) n (declared_by (lowered name tree)) x
-      (declared_at n (lowered name tree) desc) (λ d within s. at_spot n d.place _ x within s.1) b
-]
-  where
-    ss : AllByRecursion (StatementWithin (upto n)) tree.statements
-    ss =
-        each_row (StatementWithin (upto n)) statement_tree (upto n) tree.statements (λ s w. w)
-        (right_of (upto n) (syntax_tree tree.syntax) (row statement_tree tree.statements) all)
-
-    packages : AllByRecursion (λ p. Within (upto n) (package_tree p)) (flat_map file_package tree.statements)
-    packages = each_given (StatementWithin (upto n)) (λ p. Within (upto n) (package_tree p)) file_package tree.statements (file_package_within n)
-        (each_row (StatementWithin (upto n)) statement_tree (upto n) tree.statements (λ s w. w)
-        (right_of (upto n) (syntax_tree tree.syntax) (row statement_tree tree.statements) all))
-
-    desc : DescPlaces n (lowered name tree)
-    desc = desc_places n (lowered name tree)
-        (lowered_within (upto n) name tree (right_of (upto n) (syntax_tree tree.syntax) (row statement_tree tree.statements) all))
+breaks_within n limits name tree x all (inl (inl (inl b))) = head_breaks n name tree x all b
+breaks_within n limits name tree x all (inl (inl (inr b))) = elements_break n tree x all b
+breaks_within n limits name tree x all (inl (inr b)) = described_names_break n (lowered name tree) x (lowered_places n name tree all) b
+breaks_within n limits name tree x all (inr b) = lengths_break n limits name tree x all b

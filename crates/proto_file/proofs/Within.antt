@@ -52,7 +52,7 @@ use Rattle.proto_options.specs.Statements.{message_oneof, message_enum, oneof_fi
 use Rattle.proto_file.proofs.PlacesWithin.{Within, left_of, right_of, each_given, each_row, each_map, each_weaker, upto, ItemWithin, oneof_items_within, statement_field_within, returns_tree}
 use Rattle.proto_checks.specs.Elements.{OneofBreaks, ValueBreaks, EnumBreaks, BodyBreaks, RpcBreaks, ServiceBreaks}
 use Rattle.proto_checks.specs.Gathered.{literal, with_sign, signed_number, greatest_value, field_number, field_numbers, value_numbers, marked_range, bounds_of, reserved_name, message_ranges, message_bounds, message_reserved_names, enum_ranges, enum_bounds, enum_reserved_names}
-use Rattle.proto_checks.specs.Numbers.{ReservedBreak, FieldNumbersBreak, EnumNumbersBreak, IsNoFieldNumber}
+use Rattle.proto_checks.specs.Numbers.{RangesBreak, FieldNumbersBreak, EnumNumbersBreak, IsNoFieldNumber}
 use Rattle.proto_checks.specs.Options.{name_place, value_place, SettingBreaks, SettingsBreak, OptionedField, optioned_in_oneof, optioned_fields, FieldOptionsBreak, IsWronglyPacked, IsWronglyTyped}
 use Rattle.proto_checks.specs.Marks.{Marked}
 use Rattle.proto_checks.specs.declared.marks.MarkedNumber.{MarkedNumber}
@@ -99,8 +99,8 @@ bracketed_within n (Some o) all = separated_within (SettingWithin n) setting_tre
     (left_of (upto n) (separated_tree setting_tree o.settings) (symbol_tree (byte "]") o.close_bracket) all.1)
 
 setting_breaks : (n : ℕ) (e : Element) (x : Spot) (s : Setting) → SettingWithin n s → SettingBreaks e s x → SpotWithin n x
-setting_breaks n e x s within (SettingBreaks.unknown u at) = at_spot n (name_place s) _ x within.0 at
-setting_breaks n e x s within (SettingBreaks.mistaken m at) = at_spot n (value_place s.value) _ x within.1 at
+setting_breaks n e x s within (inl b) = at_spot n (name_place s) _ x within.0 b.1
+setting_breaks n e x s within (inr b) = at_spot n (value_place s.value) _ x within.1 b.1
 
 pub settings_break : (n : ℕ) (e : Element) (ss : List Setting) (x : Spot) → AllByRecursion (SettingWithin n) ss → SettingsBreak e ss x → SpotWithin n x
 settings_break n e ss x all (inl broken) = each_within (SettingWithin n) (SettingBreaks e) n ss x all (λ s within b. setting_breaks n e x s within b) broken
@@ -121,13 +121,13 @@ declarator_within n d all =
     (all.1.1.0, bracketed_within n d.options (left_of (upto n) (optional options_tree d.options) (symbol_tree (byte ";") d.semicolon) all.1.1.1))
 
 optioned_breaks : (n : ℕ) (x : Spot) (f : OptionedField) → OptionedWithin n f → FieldOptionsBreak f x → SpotWithin n x
-optioned_breaks n x f all (FieldOptionsBreak.settings broken) = settings_break n element.Field (bracketed f.declarator.options) x all.1 broken
-optioned_breaks n x f all (FieldOptionsBreak.packed broken) =
+optioned_breaks n x f all (inl (inl broken)) =
     each_within (SettingWithin n) (IsWronglyPacked f.can_be_packed) n (bracketed f.declarator.options) x all.1
     (λ s within w. at_spot n (name_place s) _ x within.0 w.3) broken
-optioned_breaks n x f all (FieldOptionsBreak.jstype broken) =
+optioned_breaks n x f all (inl (inr broken)) =
     each_within (SettingWithin n) (IsWronglyTyped f.is_wide_integer) n (bracketed f.declarator.options) x all.1
     (λ s within w. at_spot n (name_place s) _ x within.0 w.3) broken
+optioned_breaks n x f all (inr broken) = settings_break n element.Field (bracketed f.declarator.options) x all.1 broken
 
 -- the declarators of a message's fields
 member_tree_within : (n : ℕ) (o : Oneof) → Within (upto n) (oneof_tree o) → AllByRecursion (λ i. Within (upto n) (oneof_item_tree i)) o.items
@@ -217,12 +217,11 @@ all_names_within : {N : Type 0} (f : N → Tree) (n : ℕ) (is : List (ReservedI
 all_names_within f n is all = each_map (λ (t : Marked). Placed n t.place) reserved_name (flat_map names_in is)
     (each_given (ReservedWithin f n) (λ (s : StringValue). Placed n s.first.span.start) names_in is (names_within f n) all)
 
-reserved_break : (n : ℕ) (ranges : List MarkedRange) (names : List Marked) (used : List MarkedNumber) (x : Spot) → RangesWithin n ranges
-    → TextsWithin n names → NumbersWithin n used → ReservedBreak ranges names used x → SpotWithin n x
-reserved_break n ranges names used x at_ranges at_names at_used (ReservedBreak.number_used b) = number_used n ranges used x at_used b
-reserved_break n ranges names used x at_ranges at_names at_used (ReservedBreak.overlap b) = overlap n ranges x at_ranges b
-reserved_break n ranges names used x at_ranges at_names at_used (ReservedBreak.backwards b) = backwards n ranges x at_ranges b
-reserved_break n ranges names used x at_ranges at_names at_used (ReservedBreak.name_twice b) = text_twice n _ names x at_names b
+ranges_break : (n : ℕ) (ranges : List MarkedRange) (used : List MarkedNumber) (x : Spot) → RangesWithin n ranges → NumbersWithin n used
+    → RangesBreak ranges used x → SpotWithin n x
+ranges_break n ranges used x at_ranges at_used (inl (inl b)) = number_used n ranges used x at_used b
+ranges_break n ranges used x at_ranges at_used (inl (inr b)) = overlap n ranges x at_ranges b
+ranges_break n ranges used x at_ranges at_used (inr b) = backwards n ranges x at_ranges b
 
 -- of a message
 abbrev pub ItemsWithin : ℕ → List MessageItem → Type 0
@@ -247,19 +246,20 @@ literal_within : (n : ℕ) (x : NumberLiteral) → Within (upto n) (number_tree 
 literal_within n x all = all.0
 
 field_numbers_break : (n : ℕ) (is : List MessageItem) (x : Spot) → ItemsWithin n is → FieldNumbersBreak is x → SpotWithin n x
-field_numbers_break n is x all (FieldNumbersBreak.number_range b) =
+field_numbers_break n is x all (inl (inl (inl b))) =
     each_within (λ (m : MarkedNumber). Placed n m.place) IsNoFieldNumber n (field_numbers is) x (field_numbers_within n is all)
     (λ m within s. at_spot n m.place _ x within s.1) b
-field_numbers_break n is x all (FieldNumbersBreak.bound_range b) =
+field_numbers_break n is x all (inl (inl (inr b))) = number_twice n _ (field_numbers is) x (field_numbers_within n is all) b
+field_numbers_break n is x all (inl (inr (inl b))) =
     outside n _ _ _ (message_bounds is) x
     (all_bounds_within number_tree literal n (flat_map message_reserved is) (literal_within n)
     (all_reserved_within n is all)) b
-field_numbers_break n is x all (FieldNumbersBreak.number_twice b) = number_twice n _ (field_numbers is) x (field_numbers_within n is all) b
-field_numbers_break n is x all (FieldNumbersBreak.reserved b) =
-    let reserved = all_reserved_within n is all in
-    reserved_break n (message_ranges is) (message_reserved_names is) (field_numbers is) x
-    (all_ranges_within number_tree literal greatest_field_number n (flat_map message_reserved is) (literal_within n) reserved)
-    (all_names_within number_tree n (flat_map message_reserved is) reserved) (field_numbers_within n is all) b
+field_numbers_break n is x all (inl (inr (inr b))) =
+    ranges_break n (message_ranges is) (field_numbers is) x
+    (all_ranges_within number_tree literal greatest_field_number n (flat_map message_reserved is) (literal_within n) (all_reserved_within n is all))
+    (field_numbers_within n is all) b
+field_numbers_break n is x all (inr b) = text_twice n _ (message_reserved_names is) x
+    (all_names_within number_tree n (flat_map message_reserved is) (all_reserved_within n is all)) b
 
 -- of an enum
 abbrev EnumItemWithin : ℕ → EnumItem → Type 0
@@ -311,19 +311,20 @@ all_enum_reserved_within : (n : ℕ) (is : List EnumItem) → EnumItemsWithin n 
 all_enum_reserved_within n is all = each_given (EnumItemWithin n) (ReservedWithin signed_tree n) enum_reserved is (enum_reserved_within n) all
 
 enum_numbers_break : (n : ℕ) (is : List EnumItem) (x : Spot) → EnumItemsWithin n is → EnumNumbersBreak is x → SpotWithin n x
-enum_numbers_break n is x all (EnumNumbersBreak.first_not_zero b) =
+enum_numbers_break n is x all (inl (inl (inl (inl b)))) =
     at_spot n b.0.place _ x (standing (λ (m : MarkedNumber). Placed n m.place) (value_numbers is) 0 b.0 (values_within n is all) b.1) b.3
-enum_numbers_break n is x all (EnumNumbersBreak.value_range b) = outside n _ _ _ (value_numbers is) x (values_within n is all) b
-enum_numbers_break n is x all (EnumNumbersBreak.bound_range b) =
+enum_numbers_break n is x all (inl (inl (inl (inr b)))) = outside n _ _ _ (value_numbers is) x (values_within n is all) b
+enum_numbers_break n is x all (inl (inl (inr b))) = number_twice n _ (value_numbers is) x (values_within n is all) b.1
+enum_numbers_break n is x all (inl (inr (inl b))) =
     outside n _ _ _ (enum_bounds is) x
     (all_bounds_within signed_tree signed_number n (flat_map enum_reserved is) (signed_within n)
     (all_enum_reserved_within n is all)) b
-enum_numbers_break n is x all (EnumNumbersBreak.number_twice apart b) = number_twice n _ (value_numbers is) x (values_within n is all) b
-enum_numbers_break n is x all (EnumNumbersBreak.reserved b) =
-    let reserved = all_enum_reserved_within n is all in
-    reserved_break n (enum_ranges is) (enum_reserved_names is) (value_numbers is) x
-    (all_ranges_within signed_tree signed_number greatest_value n (flat_map enum_reserved is) (signed_within n) reserved)
-    (all_names_within signed_tree n (flat_map enum_reserved is) reserved) (values_within n is all) b
+enum_numbers_break n is x all (inl (inr (inr b))) =
+    ranges_break n (enum_ranges is) (value_numbers is) x
+    (all_ranges_within signed_tree signed_number greatest_value n (flat_map enum_reserved is) (signed_within n) (all_enum_reserved_within n is all))
+    (values_within n is all) b
+enum_numbers_break n is x all (inr b) = text_twice n _ (enum_reserved_names is) x
+    (all_names_within signed_tree n (flat_map enum_reserved is) (all_enum_reserved_within n is all)) b
 
 -- ---- elements
 
@@ -339,11 +340,11 @@ enum_items_within n e all =
     (left_of (upto n) (row enum_item_tree e.items) (symbol_tree (byte "}") e.close_brace) all.1.1.1)
 
 pub enum_breaks : (n : ℕ) (x : Spot) (e : Enum) → Within (upto n) (enum_tree e) → EnumBreaks e x → SpotWithin n x
-enum_breaks n x e all (EnumBreaks.empty b) = at_spot n e.name.span.start _ x all.1.0 b.1
-enum_breaks n x e all (EnumBreaks.numbers b) = enum_numbers_break n e.items x (enum_items_within n e all) b
-enum_breaks n x e all (EnumBreaks.options b) = settings_break n element.Enum (flat_map enum_setting e.items) x
+enum_breaks n x e all (inl (inl (inl b))) = at_spot n e.name.span.start _ x all.1.0 b.1
+enum_breaks n x e all (inl (inl (inr b))) = enum_numbers_break n e.items x (enum_items_within n e all) b
+enum_breaks n x e all (inl (inr b)) = settings_break n element.Enum (flat_map enum_setting e.items) x
     (each_given (EnumItemWithin n) (SettingWithin n) enum_setting e.items (enum_setting_within n) (enum_items_within n e all)) b
-enum_breaks n x e all (EnumBreaks.value_options b) =
+enum_breaks n x e all (inr b) =
     each_within (ValueWithin n) ValueBreaks n (flat_map enum_value e.items) x (all_values_within n e.items (enum_items_within n e all))
     (λ v within s. settings_break n element.EnumValue (bracketed v.options) x within.1 s) b
 
@@ -353,8 +354,8 @@ oneof_setting_within n (oneof_item.Field f) all = tt
 oneof_setting_within n (oneof_item.Empty s) all = tt
 
 oneof_breaks : (n : ℕ) (x : Spot) (o : Oneof) → Within (upto n) (oneof_tree o) → OneofBreaks o x → SpotWithin n x
-oneof_breaks n x o all (OneofBreaks.empty b) = at_spot n o.name.span.start _ x all.1.0 b.1
-oneof_breaks n x o all (OneofBreaks.options b) = settings_break n element.Oneof (flat_map oneof_setting o.items) x
+oneof_breaks n x o all (inl b) = at_spot n o.name.span.start _ x all.1.0 b.1
+oneof_breaks n x o all (inr b) = settings_break n element.Oneof (flat_map oneof_setting o.items) x
     (each_given (λ i. Within (upto n) (oneof_item_tree i)) (SettingWithin n) oneof_setting o.items (oneof_setting_within n) (member_tree_within n o all)) b
 
 message_setting_within : (n : ℕ) (i : MessageItem) → ItemWithin (upto n) i → AllByRecursion (SettingWithin n) (message_setting i)
@@ -370,14 +371,14 @@ message_enum_within n (message_item.Enum e) all = (subst (Within (upto n)) (item
 message_enum_within n i all = tt
 
 pub body_breaks : (n : ℕ) (x : Spot) (is : List MessageItem) → ItemsWithin n is → BodyBreaks is x → SpotWithin n x
-body_breaks n x is all (BodyBreaks.numbers b) = field_numbers_break n is x all b
-body_breaks n x is all (BodyBreaks.options b) = settings_break n element.Message (flat_map message_setting is) x
+body_breaks n x is all (inl (inl b)) = field_numbers_break n is x all b
+body_breaks n x is all (inl (inr b)) = settings_break n element.Message (flat_map message_setting is) x
     (each_given (ItemWithin (upto n)) (SettingWithin n) message_setting is (message_setting_within n) all) b
-body_breaks n x is all (BodyBreaks.field_options b) = each_within (OptionedWithin n) FieldOptionsBreak n (flat_map optioned_fields is) x
+body_breaks n x is all (inr (inl (inl b))) = each_within (OptionedWithin n) FieldOptionsBreak n (flat_map optioned_fields is) x
     (all_optioned_within n is all) (optioned_breaks n x) b
-body_breaks n x is all (BodyBreaks.in_oneof b) = each_within (λ o. Within (upto n) (oneof_tree o)) OneofBreaks n (flat_map message_oneof is) x
+body_breaks n x is all (inr (inl (inr b))) = each_within (λ o. Within (upto n) (oneof_tree o)) OneofBreaks n (flat_map message_oneof is) x
     (each_given (ItemWithin (upto n)) (λ o. Within (upto n) (oneof_tree o)) message_oneof is (message_oneof_within n) all) (oneof_breaks n x) b
-body_breaks n x is all (BodyBreaks.in_enum b) = each_within (λ e. Within (upto n) (enum_tree e)) EnumBreaks n (flat_map message_enum is) x
+body_breaks n x is all (inr (inr b)) = each_within (λ e. Within (upto n) (enum_tree e)) EnumBreaks n (flat_map message_enum is) x
     (each_given (ItemWithin (upto n)) (λ e. Within (upto n) (enum_tree e)) message_enum is (message_enum_within n) all) (enum_breaks n x) b
 
 -- ---- services
@@ -415,9 +416,9 @@ service_items_within n s all = each_row (λ i. Within (upto n) (service_item_tre
     (left_of (upto n) (row service_item_tree s.items) (symbol_tree (byte "}") s.close_brace) all.1.1.1)
 
 pub service_breaks : (n : ℕ) (x : Spot) (s : Service) → Within (upto n) (service_tree s) → ServiceBreaks s x → SpotWithin n x
-service_breaks n x s all (ServiceBreaks.options b) = settings_break n element.Service (flat_map service_setting s.items) x
+service_breaks n x s all (inl b) = settings_break n element.Service (flat_map service_setting s.items) x
     (each_given (λ i. Within (upto n) (service_item_tree i)) (SettingWithin n) service_setting s.items
     (service_setting_within n) (service_items_within n s all)) b
-service_breaks n x s all (ServiceBreaks.in_rpc b) = each_within (RpcWithin n) RpcBreaks n (flat_map service_rpc s.items) x
+service_breaks n x s all (inr b) = each_within (RpcWithin n) RpcBreaks n (flat_map service_rpc s.items) x
     (each_given (λ i. Within (upto n) (service_item_tree i)) (RpcWithin n) service_rpc s.items (service_rpc_within n) (service_items_within n s all))
     (λ r within t. settings_break n element.Method (flat_map rpc_setting (rpc_items r.body)) x within t) b
