@@ -111,6 +111,6 @@ LengthsBreak limits statements desc =
     Each (flat_map file_package statements) (PackageTooLong limits) ∪ Each (declared_by desc) (IsTooLong limits)
 
 -- the rules that a file breaks, by its tree and by the descriptor that the tree is lowered to
-abbrev pub FileBreaks : Limits → FileTree → FileDesc → Spot → Type 0
+unfoldable pub FileBreaks : Limits → FileTree → FileDesc → Spot → Type 0
 FileBreaks limits tree desc = HeadBreaks tree desc ∪ ElementsBreak tree.statements ∪ NamesBreak desc
     ∪ LengthsBreak limits tree.statements desc

@@ -7,7 +7,7 @@ use Rattle.std.proofs.lemmas.List.{get_or_default, length-map}
 use Rattle.std.proofs.lemmas.List.Elements.{All-append, All-contains, All-filter, All-map, All-nil, filter_passes}
 use Rattle.std.proofs.lemmas.List.Sorted.{All-permutation, Contains-permutation, IsPermutation-sym, length_permutation}
 use Rattle.std.proofs.lemmas.List.Sums.{count_by-le-length, length-filter}
-use Rattle.proto_checks.specs.Checks.{name_long}
+use Rattle.proto_checks.specs.Checks.{FileBreaks}
 use Rattle.proto_base.specs.Least.{spot}
 use Rattle.proto_desc.specs.DeclaredNames.{declared_by, full_name}
 use Rattle.proto_desc.specs.declared.file.FileDesc.{FileDesc}
@@ -64,19 +64,20 @@ module _ (limits : Limits) where
   Fits = IsShort (limit_of limits limit.FullNameBytes)
 
   file_short : (a : ℕ) (s : Source) (desc : FileDesc) → SourceDescribes limits s desc → All Fits (occurrences_of a desc)
+  unfolding FileBreaks
   file_short a s desc (file, is, unbroken, made) =
       All-append Fits (package_occurrences a desc.«package») (map (declared_occurrence a) (declared_by desc))
       (package_short (limit_of limits limit.FullNameBytes) a desc.«package»)
       (All-map Fits (declared_occurrence a) (declared_by desc) (λ k d h service. (
       let e = get_or (declared_by desc) k d in
       not_long (limit_of limits limit.FullNameBytes) (length (full_name e))
-      (λ long. unbroken (spot e.place kind.NameTooLong) (name_long (
+      (λ long. unbroken (spot e.place kind.NameTooLong) (inr (inr (
         k,
         e,
         subst (λ (f : FileDesc). (k < length (declared_by f)) × (get_or (declared_by f) k e ≡ e)) made
             (h, get_or_default (declared_by desc) k e d h),
         (inr long, refl),
-      ))))))
+      )))))))
 
   files_short : (a : ℕ) (files : List Source) (descs : List FileDesc) → AllZip (SourceDescribes limits) files descs
       → All Fits (occurrences_from a descs)

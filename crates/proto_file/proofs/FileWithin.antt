@@ -355,6 +355,7 @@ lengths_break n limits name tree x all (inr b) =
 
 pub breaks_within : (n : ℕ) (limits : Limits) (name : List ℕ) (tree : FileTree) (x : Spot) → Within (upto n) (file_tree tree)
     → FileBreaks limits tree (lowered name tree) x → SpotWithin n x
+unfolding FileBreaks
 breaks_within n limits name tree x all (inl (inl (inl b))) = head_breaks n name tree x all b
 breaks_within n limits name tree x all (inl (inl (inr b))) = elements_break n tree x all b
 breaks_within n limits name tree x all (inl (inr b)) = described_names_break n (lowered name tree) x (lowered_places n name tree all) b

@@ -1,3 +1,4 @@
+use Rattle.proto_checks.specs.Checks.{FileBreaks}
 use Rattle.proto_checks.specs.Elements.{MessageBreaks, EnumBreaks, ServiceBreaks}
 use Rattle.proto_options.specs.Statements.{file_message, file_enum, file_service}
 use Rattle.proto_base.proofs.Sets.{least_union}
@@ -5,6 +6,7 @@ use Rattle.proto_checks.proofs.Three.{each_three}
 use Rattle.proto_checks.proofs.file.file_fault.Goals as goal
 
 pub returns : goal.returns
+unfolding FileBreaks
 returns c =
     let statements = c.args.tree.now.statements in
     let each = rw c.as_slice-statements.ensures at c.in_ok-elements.ensures in

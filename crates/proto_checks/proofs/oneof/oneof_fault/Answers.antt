@@ -2,4 +2,4 @@ use Rattle.proto_base.proofs.Sets.{least_union}
 use Rattle.proto_checks.proofs.oneof.oneof_fault.Goals as goal
 
 pub returns : goal.returns
-returns c = least_union c.empty_fault-empty.ensures (rw c.as_slice.ensures at c.in_ok-own.ensures) c.lesser.ensures
+returns c = let own = rw c.as_slice.ensures at c.in_ok-own.ensures in search (least_union)
