@@ -1,30 +1,20 @@
 -- Oneofs without members and enums without values.
-use Rattle.std.proofs.Common.{◌≡◌, sym, subst, refl, List, [], ◌∷◌, Bool, true, false, inl, inr}
+use Rattle.std.proofs.Common.{◌≡◌, refl, List, [], ◌∷◌, true, false}
 use Rattle.std.proofs.lemmas.Bool.{true≢false, false≢true}
-use Rattle.std.specs.Prelude.{Option, Some, None, flat_map}
+use Rattle.std.specs.Prelude.{Some, None, flat_map}
 use Rattle.std.specs.List.{list_any}
 use Rattle.proto_base.specs.declared.kind.Kind.TheVariants as kind
 use Rattle.proto_tree.specs.declared.enumeration.Enum.{Enum}
 use Rattle.proto_tree.specs.declared.enumeration.EnumItem.{EnumItem}
 use Rattle.proto_tree.specs.declared.enumeration.EnumItem.TheVariants as enum_item
-use Rattle.proto_tree.specs.declared.field.Declarator.{Declarator}
 use Rattle.proto_tree.specs.declared.oneof.Oneof.{Oneof}
 use Rattle.proto_tree.specs.declared.oneof.OneofItem.{OneofItem}
 use Rattle.proto_tree.specs.declared.oneof.OneofItem.TheVariants as oneof_item
-use Rattle.proto_tree.specs.declared.option.Options.{Options}
-use Rattle.proto_tree.specs.declared.service.Service.{Service}
-use Rattle.proto_desc.specs.declared.rules.Element.TheVariants as element
-use Rattle.proto_options.specs.Options.{bracketed, separated, enum_setting, service_setting, oneof_setting}
-use Rattle.proto_options.specs.Statements.{oneof_field, enum_value, service_rpc}
-use Rattle.proto_checks.specs.Elements.{IsEmptyOneof, OneofBreaks, IsEmptyEnum, ValueBreaks, EnumBreaks, RpcBreaks, ServiceBreaks}
-use Rattle.proto_checks.specs.Parts.{is_member, is_value, IsWrongOnField}
+use Rattle.proto_options.specs.Statements.{oneof_field, enum_value}
+use Rattle.proto_checks.specs.Elements.{IsEmptyOneof, IsEmptyEnum}
+use Rattle.proto_checks.specs.Parts.{is_member, is_value}
 use Rattle.proto_base.specs.Least.{IsLeast, spot}
-use Rattle.proto_base.specs.Lesser.{IsLesser}
-use Rattle.proto_checks.specs.Numbers.{EnumNumbersBreak}
-use Rattle.proto_checks.specs.Options.{SettingsBreak, IsWronglyPacked, IsWronglyTyped, optioned, FieldOptionsBreak}
-use Rattle.proto_base.specs.Sets.{Each}
-use Rattle.proto_base.specs.declared.spot.Spot.{Spot}
-use Rattle.proto_base.proofs.Sets.{least_union, least_same, least_hit, least_miss}
+use Rattle.proto_base.proofs.Sets.{least_hit, least_miss}
 
 -- oneofs
 no_members : (is : List OneofItem) → list_any is_member is ≡ false → flat_map oneof_field is ≡ []

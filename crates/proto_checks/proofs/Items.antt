@@ -1,5 +1,5 @@
 -- The statements of messages, and the messages within them.
-use Rattle.std.proofs.Common.{◌≡◌, ◌∙◌, ap, sym, refl, List, [], ◌∷◌, ◌++◌, map, false, inl, inr}
+use Rattle.std.proofs.Common.{◌≡◌, ◌∙◌, ap, sym, refl, [], ◌∷◌, ◌++◌, map, false}
 use Rattle.std.proofs.lemmas.List.{append-nil}
 use Rattle.std.specs.Prelude.{Option, flat_map}
 use mathlib.Core.Former.{this, arity}
@@ -8,24 +8,21 @@ use Rattle.proto_tree.specs.declared.field.Field.{Field}
 use Rattle.proto_tree.specs.declared.map_field.MapField.{MapField}
 use Rattle.proto_base.specs.formers.boxed.Boxed.{the_former}
 use Rattle.proto_tree.specs.declared.message.Message.{Message}
-use Rattle.proto_tree.specs.declared.message.MessageItem.{MessageItem, Message', Row_of-MessageItem, end_of-MessageItem, more_of-MessageItem, Row_of-Message, end_of-Message, more_of-Message, items-the_row-MessageItem, items-the_row-Message, items_shown-the_row-MessageItem-0, items_hidden-the_row-Message-1}
+use Rattle.proto_tree.specs.declared.message.MessageItem.{Message', Row_of-MessageItem, end_of-MessageItem, more_of-MessageItem, Row_of-Message, end_of-Message, more_of-Message, items-the_row-MessageItem, items-the_row-Message, items_shown-the_row-MessageItem-0, items_hidden-the_row-Message-1}
 use Rattle.proto_tree.specs.declared.message.MessageItem.TheVariants as of
 use Rattle.proto_tree.specs.declared.oneof.Oneof.{Oneof}
-use Rattle.proto_desc.specs.declared.rules.Element.TheVariants as element
-use Rattle.proto_options.specs.Options.{message_setting}
-use Rattle.proto_options.specs.Statements.{message_oneof, message_enum, oneof_field}
-use Rattle.proto_checks.specs.Elements.{OneofBreaks, EnumBreaks, BodyBreaks, bodies_of, bodies_row, bodies}
+use Rattle.proto_options.specs.Statements.{oneof_field}
+use Rattle.proto_checks.specs.Elements.{OneofBreaks, EnumBreaks, bodies_of, bodies_row, bodies}
 use Rattle.proto_checks.specs.Parts.{MemberBreaks, ItemBreaks}
 use Rattle.proto_base.specs.Least.{IsLeast}
 use Rattle.proto_base.specs.Lesser.{IsLesser}
-use Rattle.proto_checks.specs.Numbers.{FieldNumbersBreak}
-use Rattle.proto_checks.specs.Options.{optioned, optioned_plain, optioned_in_oneof, optioned_fields, FieldOptionsBreak, SettingsBreak}
-use Rattle.proto_base.specs.Sets.{◌∪◌, Each}
+use Rattle.proto_checks.specs.Options.{optioned, optioned_plain, optioned_in_oneof, FieldOptionsBreak}
+use Rattle.proto_base.specs.Sets.{Each}
 use Rattle.proto_base.specs.declared.spot.Spot.{Spot}
 use Rattle.proto_base.proofs.Among.{among_of, least_single, each_map}
 use Rattle.proto_options.proofs.Rows.{row_of}
-use Rattle.proto_checks.proofs.Three.{first_of_three, last_of_three, two_of_three, each_three}
-use Rattle.proto_base.proofs.Sets.{least_union, least_same}
+use Rattle.proto_checks.proofs.Three.{first_of_three, last_of_three, two_of_three}
+use Rattle.proto_base.proofs.Sets.{least_union}
 
 -- statements of a message
 pub item_field : (f : Field) (r : Option Spot) → IsLeast (FieldOptionsBreak (optioned_plain f)) r → IsLeast (ItemBreaks (of.Field f)) r

@@ -4,17 +4,16 @@ use Rattle.std.specs.Prelude.{Option, None, ◌↔◌, flat_map}
 use Rattle.std.proofs.lemmas.Bool.{cases_lt, false≢true}
 use Rattle.std.proofs.lemmas.List.{length-append, append-nil, take_all}
 use Rattle.proto_base.specs.declared.kind.Kind.TheVariants as kind
-use Rattle.proto_base.specs.declared.limits.Limits.{Limits}
 use Rattle.proto_tree.specs.declared.file.Package.{Package}
 use Rattle.proto_tree.specs.declared.file.Statement.{Statement}
 use Rattle.proto_options.specs.Statements.{file_package}
-use Rattle.proto_checks.specs.Checks.{PackageTwice, parts_of, IsPartTooLong, IsWholeTooLong, PackageTooLong}
+use Rattle.proto_checks.specs.Checks.{PackageTwice}
 use Rattle.proto_base.specs.Least.{IsLeast, spot}
 use Rattle.proto_base.specs.Lesser.{IsLesser}
-use Rattle.proto_base.specs.Sets.{Each, Where}
+use Rattle.proto_base.specs.Sets.{Where}
 use Rattle.proto_base.specs.declared.spot.Spot.{Spot}
 use Rattle.proto_base.proofs.Among.{taken, later_short}
-use Rattle.proto_base.proofs.Sets.{least_union, least_or, least_same}
+use Rattle.proto_base.proofs.Sets.{least_or}
 
 abbrev pub again : Package → Spot
 again p = spot p.keyword.start kind.PackageTwice

@@ -1,17 +1,14 @@
 -- The rules of a file as unions of those that functions look at.
-use Rattle.std.proofs.Common.{List, [], ◌∷◌, ◌++◌, inl, inr}
+use Rattle.std.proofs.Common.{[], ◌∷◌, ◌++◌}
 use Rattle.std.specs.Prelude.{Option, flat_map}
 use Rattle.proto_base.specs.declared.limits.Limits.{Limits}
 use Rattle.proto_tree.specs.declared.enumeration.Enum.{Enum}
-use Rattle.proto_tree.specs.declared.file.FileTree.{FileTree}
-use Rattle.proto_tree.specs.declared.file.Statement.{Statement}
 use Rattle.proto_tree.specs.declared.file.Statement.TheVariants as statement
 use Rattle.proto_tree.specs.declared.message.Message.{Message}
 use Rattle.proto_tree.specs.declared.service.Service.{Service}
 use Rattle.proto_desc.specs.DeclaredNames.{declared_by_message, declared_by_enum, declared_by_service, declared_by, file_scope}
 use Rattle.proto_desc.specs.declared.file.FileDesc.{FileDesc}
-use Rattle.proto_options.specs.Statements.{file_message, file_enum, file_service}
-use Rattle.proto_checks.specs.Checks.{IsTooLong, FileBreaks}
+use Rattle.proto_checks.specs.Checks.{IsTooLong}
 use Rattle.proto_checks.specs.Elements.{MessageBreaks, EnumBreaks, ServiceBreaks}
 use Rattle.proto_checks.specs.Parts.{StatementBreaks}
 use Rattle.proto_base.specs.Least.{IsLeast}
@@ -19,8 +16,7 @@ use Rattle.proto_base.specs.Lesser.{IsLesser}
 use Rattle.proto_base.specs.Sets.{Each}
 use Rattle.proto_base.specs.declared.spot.Spot.{Spot}
 use Rattle.proto_base.proofs.Among.{among_of, least_single, least_append}
-use Rattle.proto_base.proofs.Sets.{least_union, least_same}
-use Rattle.proto_checks.proofs.Three.{first_of_three, second_of_three, last_of_three, each_three}
+use Rattle.proto_checks.proofs.Three.{first_of_three, second_of_three, last_of_three}
 
 pub statement_message : (m : Message) (r : Option Spot) → IsLeast (MessageBreaks m) r → IsLeast (StatementBreaks (statement.Message m)) r
 statement_message m r h = first_of_three (Each (m ∷ []) MessageBreaks) (Each [] EnumBreaks) (Each [] ServiceBreaks) r (among_of EnumBreaks [])
