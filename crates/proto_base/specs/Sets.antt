@@ -3,7 +3,6 @@ use Rattle.std.specs.Prelude.{◌≡◌, ℕ, ◌<◌, ◌⊎◌, List, length, 
 use Rattle.proto_base.specs.declared.spot.Spot.{Spot}
 
 infixl 25 ◌∪◌
-
 -- the spots of two sets
 abbrev pub ◌∪◌ : (Spot → Type 0) → (Spot → Type 0) → Spot → Type 0
 (S ∪ T) x = S x ⊎ T x
