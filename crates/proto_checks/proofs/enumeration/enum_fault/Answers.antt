@@ -6,4 +6,4 @@ returns c =
     let numbers = rw c.as_slice-items.ensures at c.in_ok-numbers.ensures in
     let own = rw c.as_slice-items.ensures at c.in_ok-own.ensures in
     let values = rw c.as_slice-items.ensures at c.in_ok-values.ensures in
-    least_union (least_union (least_union c.empty_fault-empty.ensures numbers c.lesser-first.ensures) own c.lesser-first-2.ensures) values c.lesser.ensures
+    search (least_union)
