@@ -21,18 +21,18 @@ pub enum FieldKind<'s> {
     Named(TypeReference<'s>),
 }
 
-/// A field, a map field or a member of a oneof.
+/// A field, a map field or a member of a oneof. What is small stands side by side, since a set has many fields.
 #[derive(Drop)]
 pub struct FieldDesc<'s> {
     pub name: Text<'s>,
     pub place: Place,
-    pub number: u64,
     pub label: FieldLabel,
+    pub proto3_optional: bool,
+    pub number: u64,
     pub field_type: FieldKind<'s>,
     /// The position of its oneof in the message, real or made.
     pub oneof_index: Option<usize>,
     /// The option `json_name`, or else the name that is made of the field's.
     pub json_name: Text<'s>,
-    pub proto3_optional: bool,
     pub options: Row<OptionDesc<'s>>,
 }

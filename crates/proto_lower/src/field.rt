@@ -33,12 +33,12 @@ fn put_described<'s>(
     out.push(FieldDesc {
         name: Text::borrowed(name),
         place: declarator.name.span.start,
-        number: declarator.number.value,
         label,
+        proto3_optional,
+        number: declarator.number.value,
         field_type,
         oneof_index,
         json_name,
-        proto3_optional,
         options,
     })?;
     Ok(())

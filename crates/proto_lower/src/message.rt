@@ -38,12 +38,12 @@ fn entry_field<'s>(
     FieldDesc {
         name: Text::borrowed(name),
         place,
-        number,
         label: FieldLabel::Optional,
+        proto3_optional: false,
+        number,
         field_type,
         oneof_index: None,
         json_name: Text::borrowed(name),
-        proto3_optional: false,
         options: Row::new(alloc),
     }
 }
