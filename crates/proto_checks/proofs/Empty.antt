@@ -12,27 +12,27 @@ use Rattle.proto_tree.specs.declared.oneof.OneofItem.{OneofItem}
 use Rattle.proto_tree.specs.declared.oneof.OneofItem.TheVariants as oneof_item
 use Rattle.proto_options.specs.Statements.{oneof_field, enum_value}
 use Rattle.proto_checks.specs.Elements.{IsEmptyOneof, IsEmptyEnum}
-use Rattle.proto_checks.specs.Parts.{is_member, is_value}
+use Rattle.proto_checks.specs.Parts.{is_oneof_member, is_value}
 use Rattle.proto_base.specs.Least.{IsLeast, spot}
 use Rattle.proto_base.proofs.Sets.{least_hit, least_miss}
 
 -- oneofs
-no_members : (is : List OneofItem) → list_any is_member is ≡ false → flat_map oneof_field is ≡ []
+no_members : (is : List OneofItem) → list_any is_oneof_member is ≡ false → flat_map oneof_field is ≡ []
 no_members [] none = refl
 no_members (oneof_item.Field f ∷ is) none = absurd (true≢false none)
 no_members (oneof_item.Option o ∷ is) none = no_members is none
 no_members (oneof_item.Empty s ∷ is) none = no_members is none
 
-some_member : (is : List OneofItem) → list_any is_member is ≡ true → flat_map oneof_field is ≡ [] → ⊥
+some_member : (is : List OneofItem) → list_any is_oneof_member is ≡ true → flat_map oneof_field is ≡ [] → ⊥
 some_member [] some empty = false≢true some
 some_member (oneof_item.Field f ∷ is) some empty = cc
 some_member (oneof_item.Option o ∷ is) some empty = some_member is some empty
 some_member (oneof_item.Empty s ∷ is) some empty = some_member is some empty
 
-pub oneof_empty : (o : Oneof) → list_any is_member o.items ≡ false → IsLeast (IsEmptyOneof o) (Some (spot o.name.span.start kind.OneofEmpty))
+pub oneof_empty : (o : Oneof) → list_any is_oneof_member o.items ≡ false → IsLeast (IsEmptyOneof o) (Some (spot o.name.span.start kind.OneofEmpty))
 oneof_empty o none = least_hit (flat_map oneof_field o.items ≡ []) (spot o.name.span.start kind.OneofEmpty) (no_members o.items none)
 
-pub oneof_filled : (o : Oneof) → list_any is_member o.items ≡ true → IsLeast (IsEmptyOneof o) None
+pub oneof_filled : (o : Oneof) → list_any is_oneof_member o.items ≡ true → IsLeast (IsEmptyOneof o) None
 oneof_filled o some = least_miss (flat_map oneof_field o.items ≡ []) (spot o.name.span.start kind.OneofEmpty) (some_member o.items some)
 
 -- enums

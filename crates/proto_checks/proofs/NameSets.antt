@@ -9,11 +9,11 @@ use Rattle.std.proofs.lemmas.List.Elements.{Contains-append_left, Contains-push,
 use denote.Ref.{Bor}
 use Rattle.proto_base.specs.Least.{IsLeast}
 use Rattle.proto_checks.specs.Marks.{Marked, ReservedNameUsed}
-use Rattle.proto_checks.specs.NameSets.{IsSetOf}
+use Rattle.proto_checks.specs.NameSets.{HoldsJust}
 use Rattle.proto_base.proofs.Sets.{text_cmp, exact_text, least_none, cond_or, cond_right}
 
-pub set_push : (names : List (List ℕ)) (s t : BTreeSet (Bor (List ℕ))) (k : Bor (List ℕ)) → Updates text_cmp s t k true → IsSetOf names s
-    → IsSetOf (names ++ k.now ∷ []) t
+pub set_push : (names : List (List ℕ)) (s t : BTreeSet (Bor (List ℕ))) (k : Bor (List ℕ)) → Updates text_cmp s t k true → HoldsJust names s
+    → HoldsJust (names ++ k.now ∷ []) t
 set_push names s t k new set name =
     let q : Bor (List ℕ) = record k { now = name } in (
       λ h. elim (cond_or (is_eq (text_cmp k q)) _ (sym (new.0 q) ∙ h)) [
@@ -27,7 +27,7 @@ set_push names s t k new set name =
     )
 
 pub set_more : (names : List (List ℕ)) (n : ℕ) (s t : BTreeSet (Bor (List ℕ))) (k : Bor (List ℕ)) → n < length names → k.now ≡ get_or names n k.now
-    → Updates text_cmp s t k true → IsSetOf (take n names) s → IsSetOf (take (n + 1) names) t
+    → Updates text_cmp s t k true → HoldsJust (take n names) s → HoldsJust (take (n + 1) names) t
 set_more names n s t k below is new set = rw (take_more names n k.now below, ← is) (set_push (take n names) s t k new set)
 
 -- of no name none is used

@@ -31,9 +31,9 @@ IsWrongOnField can_be_packed is_wide_integer s = IsWronglyPacked can_be_packed s
 abbrev pub MemberBreaks : OneofField → Spot → Type 0
 MemberBreaks f = FieldOptionsBreak (optioned_in_oneof f)
 
-abbrev pub is_member : OneofItem → Bool
-is_member (oneof_item.Field f) = true
-is_member i = false
+abbrev pub is_oneof_member : OneofItem → Bool
+is_oneof_member (oneof_item.Field f) = true
+is_oneof_member i = false
 
 abbrev pub is_value : EnumItem → Bool
 is_value (enum_item.Value v) = true

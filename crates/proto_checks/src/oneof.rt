@@ -3,7 +3,7 @@
 ghost use Rattle.std.specs.Prelude.{◌≡◌, IfOk};
 ghost use Rattle.std.specs.List.{list_any};
 ghost use Rattle.proto_checks.specs.Elements.{IsEmptyOneof, OneofBreaks};
-ghost use Rattle.proto_checks.specs.Parts.{is_member};
+ghost use Rattle.proto_checks.specs.Parts.{is_oneof_member};
 ghost use Rattle.proto_base.specs.Least.{IsLeast};
 
 use crate::settings::statement_settings_fault;
@@ -13,7 +13,7 @@ use proto_tree::{Oneof, OneofItem};
 use std::alloc::{AllocError, Global};
 
 fn has_member(items: &[OneofItem]) -> bool
-    ensures { result ≡ list_any is_member items.now }
+    ensures { result ≡ list_any is_oneof_member items.now }
 {
     items.iter().any(|item| matches!(item, OneofItem::Field(_)))
 }

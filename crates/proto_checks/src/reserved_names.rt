@@ -7,7 +7,7 @@ ghost use Rattle.proto_checks.specs.Gathered.{reserved_name, message_reserved_na
 ghost use Rattle.proto_options.specs.Statements.{names_in};
 ghost use Rattle.proto_base.specs.Least.{IsLeast};
 ghost use Rattle.proto_checks.specs.Marks.{TextTwice, ReservedNameUsed};
-ghost use Rattle.proto_checks.specs.NameSets.{IsSetOf};
+ghost use Rattle.proto_checks.specs.NameSets.{HoldsJust};
 
 use crate::marks::MarkedText;
 use crate::repeats::first_text_twice;
@@ -110,7 +110,7 @@ pub(crate) fn first_reserved_twice(
 }
 
 fn set_of<'a>(alloc: Global, names: &'a [Text]) -> Result<BTreeSet<&'a str>, AllocError>
-    ensures { IfOk result (λ set. IsSetOf names.now set) }
+    ensures { IfOk result (λ set. HoldsJust names.now set) }
 {
     let mut set = BTreeSet::new(alloc);
     for name in names {

@@ -292,7 +292,8 @@ declared_at n d at =
     d.messages (λ m w. (desc_at n m w).1 (file_scope d.«package»)) (each_places (upto n) message_places d.messages at.messages) in
     let enums = each_given (EnumWithin (upto n)) (λ (x : Declared). Placed n x.place) (declared_by_enum (file_scope d.«package»)) d.enums
     (enum_declares n (file_scope d.«package»)) (each_places (upto n) enum_places d.enums at.enums) in
-    let services = each_given (λ s. AllWithin n (service_places s)) (λ (x : Declared). Placed n x.place) (declared_by_service (file_scope d.«package»)) d.services
+    let services = each_given (λ s. AllWithin n (service_places s)) (λ (x : Declared). Placed n x.place)
+    (declared_by_service (file_scope d.«package»)) d.services
     (service_declares n (file_scope d.«package»)) (each_places (upto n) service_places d.services at.services) in
     both (λ (x : Declared). Placed n x.place) _ _ (both (λ (x : Declared). Placed n x.place) _ _ messages enums) services
 

@@ -12,7 +12,7 @@ use std::alloc::{AllocError, Global};
 
 /// The files that one file imports, and those of them that it imports publicly.
 #[derive(Drop)]
-struct Named {
+struct ImportedFiles {
     all: Vec<usize>,
     public: Vec<usize>,
     /// Whether each import names a file.
@@ -20,7 +20,11 @@ struct Named {
 }
 
 /// What the imports of one file name.
-fn targets(alloc: Global, files: &[FileDesc], imports: &[ImportDesc]) -> Result<Named, AllocError>
+fn targets(
+    alloc: Global,
+    files: &[FileDesc],
+    imports: &[ImportDesc],
+) -> Result<ImportedFiles, AllocError>
     requires { NamesRise (map name_of files.now) }
     ensures all { IfOk result (λ targets. (b : ℕ)
         → Contains targets.all.items b ↔ Targets files.now imports.now b) }
@@ -45,7 +49,7 @@ fn targets(alloc: Global, files: &[FileDesc], imports: &[ImportDesc]) -> Result<
             None => is_whole = false,
         }
     }
-    Ok(Named {
+    Ok(ImportedFiles {
         all,
         public,
         is_whole,

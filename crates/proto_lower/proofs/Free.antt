@@ -17,7 +17,7 @@ use Rattle.std.proofs.lemmas.Bool.{false_from_ne_true, true≢false}
 use Rattle.std.proofs.lemmas.Bool.Decides.{nat_tests}
 use Rattle.std.proofs.lemmas.Slice.Eq.{bytes_eq-Decides}
 use Rattle.proto_lower.specs.Names.{first_free, with_underscore, behind_letters}
-use Rattle.proto_lower.specs.Taken.{begins_as_made, IsSetOf}
+use Rattle.proto_lower.specs.Taken.{begins_as_made, HoldsTaken}
 
 -- one more name
 or_false : (b : Bool) → (b || false) ≡ b
@@ -47,8 +47,8 @@ among_more names one name = list_any-append (bytes_eq name) names (one ∷ [])
     ∙ ap (λ b. is_member bytes_eq names name || b) (or_false (bytes_eq name one))
 
 -- a name that does not begin like those that are made is none of them
-pub taken_other : (names : List (List ℕ)) (one : List ℕ) (set : BTreeSet (String Global)) → begins_as_made one ≡ false → IsSetOf names set
-    → IsSetOf (names ++ one ∷ []) set
+pub taken_other : (names : List (List ℕ)) (one : List ℕ) (set : BTreeSet (String Global)) → begins_as_made one ≡ false → HoldsTaken names set
+    → HoldsTaken (names ++ one ∷ []) set
 taken_other names one set differs members = record {
   members = λ name begins.
       let other : bytes_eq name one ≡ false = false_from_ne_true (bytes_eq name one)
@@ -59,7 +59,7 @@ taken_other names one set differs members = record {
 }
 
 pub taken_more : (names : List (List ℕ)) (one : List ℕ) (key : String Global) (old new : BTreeSet (String Global)) → string_bytes key ≡ one
-    → sorted.Updates string_cmp old new key true → IsSetOf names old → IsSetOf (names ++ one ∷ []) new
+    → sorted.Updates string_cmp old new key true → HoldsTaken names old → HoldsTaken (names ++ one ∷ []) new
 taken_more names one key old new same updates members = record {
   members = λ name begins. btree_set_updates_text one old new true
       (subst (λ (bs : List ℕ). sorted.UpdatesBy string_cmp (λ k. slice_cmp nat_cmp bs (string_bytes k)) old new true) same updates) name
@@ -172,7 +172,7 @@ pub free_is_free : (taken : List (List ℕ)) (name : List ℕ)
 free_is_free taken name = free_after taken (length taken) name (longer_all (length name) taken)
 
 -- a search by a set of the names that are taken
-pub found_by_set : (taken : List (List ℕ)) (set : BTreeSet (String Global)) (most : ℕ) (start field found : List ℕ) → IsSetOf taken set → most ≡ length taken
+pub found_by_set : (taken : List (List ℕ)) (set : BTreeSet (String Global)) (most : ℕ) (start field found : List ℕ) → HoldsTaken taken set → most ≡ length taken
     → start ≡ with_underscore field → found ≡ first_free (contains_text set) most start
     → found ≡ first_free (is_member bytes_eq taken) (length taken) (with_underscore field)
 found_by_set taken set most start field found members same same_start by_set =

@@ -11,5 +11,5 @@ begins_as_made [] = false
 begins_as_made (c ∷ cs) = c == 95 || c == 88
 
 -- a set that has, of what can be tried, just these names
-pub record IsSetOf (names : List (List ℕ)) (set : BTreeSet (String Global)) : Type 0 where
+pub record HoldsTaken (names : List (List ℕ)) (set : BTreeSet (String Global)) : Type 0 where
   pub members : (name : List ℕ) → begins_as_made name ≡ true → contains_text set name ≡ is_member bytes_eq names name

@@ -6,7 +6,7 @@ ghost use Rattle.std.specs.Set.{is_member};
 ghost use Rattle.std.specs.Str.{chars, bytes_eq};
 ghost use Rattle.std.specs.BTreeSet.{contains_text};
 ghost use Rattle.proto_lower.specs.Names.{raised, json_name_of, entry_name_of, oneof_name_of, first_free, with_underscore};
-ghost use Rattle.proto_lower.specs.Taken.{begins_as_made, IsSetOf};
+ghost use Rattle.proto_lower.specs.Taken.{begins_as_made, HoldsTaken};
 
 use proto_base::text::Text;
 use std::alloc::{AllocError, Global};
@@ -107,8 +107,8 @@ pub(crate) fn take_name(
     taken: &mut BTreeSet<String>,
     name: &str,
 ) -> Result<(), AllocError>
-    ensures { OnOk result ((names : List (List ℕ)) → IsSetOf names taken.old
-        → IsSetOf (names ++ name.now ∷ []) taken.new) }
+    ensures { OnOk result ((names : List (List ℕ)) → HoldsTaken names taken.old
+        → HoldsTaken (names ++ name.now ∷ []) taken.new) }
 {
     if begins_as_made(name) {
         taken.insert(String::from_str(alloc, name)?)?;
@@ -117,7 +117,7 @@ pub(crate) fn take_name(
 }
 
 fn set_of(alloc: Global, names: &[&str]) -> Result<BTreeSet<String>, AllocError>
-    ensures { IfOk result (IsSetOf (map (λ name. name.now) names.now)) }
+    ensures { IfOk result (HoldsTaken (map (λ name. name.now) names.now)) }
 {
     let mut set = BTreeSet::new(alloc);
     for name in names {

@@ -2,7 +2,7 @@
 
 ghost use Rattle.std.specs.Prelude.{◌≡◌, ◌++◌, ℕ, List, IfOk, OnOk, length};
 ghost use Rattle.std.specs.List.{list_any};
-ghost use Rattle.proto_lower.specs.Taken.{IsSetOf};
+ghost use Rattle.proto_lower.specs.Taken.{HoldsTaken};
 ghost use Rattle.proto_lower.specs.Oneofs.{real_named, real_oneofs, names_of_fields, names_of_oneofs, made_named, with_made};
 
 use crate::names::{first_free, take_name, with_underscore};
@@ -40,7 +40,7 @@ fn taken_names(
     fields: &[FieldDesc],
     oneofs: &[OneofDesc],
 ) -> Result<BTreeSet<String>, AllocError>
-    ensures { IfOk result (IsSetOf (names_of_fields fields.now ++ names_of_oneofs oneofs.now)) }
+    ensures { IfOk result (HoldsTaken (names_of_fields fields.now ++ names_of_oneofs oneofs.now)) }
 {
     let mut taken = BTreeSet::new(alloc);
     for field in fields {
@@ -59,7 +59,7 @@ fn made<'s>(
     taken: &BTreeSet<String>,
     most: usize,
 ) -> Result<OneofDesc<'s>, AllocError>
-    ensures { IfOk result (λ oneof. (names : List (List ℕ)) → IsSetOf names taken.now
+    ensures { IfOk result (λ oneof. (names : List (List ℕ)) → HoldsTaken names taken.now
         → most ≡ length names → oneof ≡ made_named names field.now) }
 {
     let start = with_underscore(alloc, field.name.as_str())?;

@@ -43,5 +43,6 @@ pub of_every_fault : (limit : ℕ) (tokens : Tokens) (result : Result FileTree P
 of_every_fault limit tokens (Ok file) right k kind fault is_kind = fault.no_file (file_tree file) right
 of_every_fault limit tokens (Err (At place there)) (j, fault', is_kind', at) k kind fault is_kind =
     let p : j ≡ k = one_fault limit (tokens_of tokens) j k fault' fault in
-    (at ∙ ap (λ i. place_of_token (tokens_of tokens) i tokens.end.offset) p, one_kind (tokens_of tokens) k there kind (subst (λ i. IsKindOf (tokens_of tokens) i there) p is_kind') is_kind)
+    (at ∙ ap (λ i. place_of_token (tokens_of tokens) i tokens.end.offset) p,
+     one_kind (tokens_of tokens) k there kind (subst (λ i. IsKindOf (tokens_of tokens) i there) p is_kind') is_kind)
 of_every_fault limit tokens (Err NoMemory) right k kind fault is_kind = tt

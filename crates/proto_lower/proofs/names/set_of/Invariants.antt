@@ -1,6 +1,6 @@
 use Rattle.std.proofs.Common.{map, take}
-use Rattle.proto_lower.specs.Taken.{IsSetOf}
+use Rattle.proto_lower.specs.Taken.{HoldsTaken}
 use Rattle.proto_lower.proofs.names.set_of.Given as goal
 
 abbrev pub invariant-loop-name : goal.invariant-loop-name
-invariant-loop-name l = IsSetOf (map (λ name. name.now) (take l.name-index l.names)) l.set
+invariant-loop-name l = HoldsTaken (map (λ name. name.now) (take l.name-index l.names)) l.set

@@ -1,11 +1,11 @@
 use Rattle.std.proofs.Common.{◌≡◌, ◌++◌, drop}
-use Rattle.proto_lower.specs.Taken.{IsSetOf}
+use Rattle.proto_lower.specs.Taken.{HoldsTaken}
 use Rattle.proto_lower.specs.Oneofs.{names_of_fields, names_of_oneofs, with_made}
 use Rattle.proto_lower.proofs.oneof.put_made.Given as goal
 
 abbrev pub invariant-loop-field : goal.invariant-loop-field
 invariant-loop-field l = record {
-  set : IsSetOf (names_of_fields l.fields ++ names_of_oneofs l.oneofs.items) l.taken;
+  set : HoldsTaken (names_of_fields l.fields ++ names_of_oneofs l.oneofs.items) l.taken;
   made : with_made (names_of_fields l.fields) l.oneofs.items (drop l.field-index l.fields)
       ≡ with_made (names_of_fields l.fields) l.initial.oneofs.items l.fields;
 }

@@ -1,10 +1,10 @@
 use Rattle.std.proofs.Common.{◌++◌, take}
-use Rattle.proto_lower.specs.Taken.{IsSetOf}
+use Rattle.proto_lower.specs.Taken.{HoldsTaken}
 use Rattle.proto_lower.specs.Oneofs.{names_of_fields, names_of_oneofs}
 use Rattle.proto_lower.proofs.oneof.taken_names.Given as goal
 
 abbrev pub invariant-loop-field : goal.invariant-loop-field
-invariant-loop-field l = IsSetOf (names_of_fields (take l.field-index l.fields)) l.taken
+invariant-loop-field l = HoldsTaken (names_of_fields (take l.field-index l.fields)) l.taken
 
 abbrev pub invariant-loop-oneof : goal.invariant-loop-oneof
-invariant-loop-oneof l = IsSetOf (names_of_fields l.fields ++ names_of_oneofs (take l.oneof-index l.oneofs)) l.taken
+invariant-loop-oneof l = HoldsTaken (names_of_fields l.fields ++ names_of_oneofs (take l.oneof-index l.oneofs)) l.taken
