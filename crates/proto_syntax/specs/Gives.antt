@@ -6,8 +6,8 @@ use Rattle.proto_tokens.specs.Token.{Spelled}
 use Rattle.proto_tokens.specs.ProgramTokens.{spelled, tokens_of}
 use Rattle.proto_syntax.specs.declared.parser.stop.Stop.{Stop}
 use Rattle.proto_syntax.specs.declared.parser.stop.Stop.TheVariants as stop
-use Rattle.proto_syntax.specs.Grammar.{Grammar, ◌∣◌, Tree, Pair}
-use Rattle.proto_syntax.specs.Language.{enum, option, oneof, reserved, map_or_field, symbol, field}
+use Rattle.proto_syntax.specs.Grammar.{Grammar, ◌⨾◌, ◌∣◌, Tree, Pair, Left, Right}
+use Rattle.proto_syntax.specs.Language.{enum, option, oneof, reserved, map_type, parts, map_or_field, symbol, declarator, field}
 use Rattle.std.specs.Str.{byte}
 use Rattle.proto_syntax.specs.Trees.{row, symbol_tree}
 use Rattle.proto_syntax.specs.Reading.{Outcome, Read, Stops, read}
@@ -41,6 +41,13 @@ Reads tree g result old new = Gives tree result new (read g (spellings old))
 abbrev pub flat_item : Grammar
 flat_item = enum ∣ option ∣ oneof ∣ reserved ∣ map_or_field ∣ symbol ";" ∣ field
 
+-- what stands behind the word `map` of such a statement, and the statement by that word and what stands behind it
+abbrev pub map_rest : Grammar
+map_rest = (map_type ∣ parts) ⨾ declarator
+
+abbrev pub behind_map : Tree → Tree → Tree
+behind_map word t = Right (Right (Right (Right (Right (Left (Pair word t))))))
+
 -- the kind that the token at k shows, where it is not the depth
 abbrev pub kind_here : Option Spelled → Option Spelled → Kind
 kind_here before None = UnexpectedEnd
@@ -54,6 +61,11 @@ abbrev pub TellsFault : Tokens → ℕ → Kind → ParseError → Type 0
 TellsFault tokens k kind NoMemory = Unit {0}
 TellsFault tokens k kind (At place told) =
     (place.offset ≡ place_of_token (tokens_of tokens) k tokens.end.offset) × (told ≡ kind)
+
+-- the number of an element and what stands behind it, from the sign `=` up to the semicolon
+abbrev pub numbered_tree : {N O : Type 0} → (N → Tree) → (O → Tree) → Span → N → O → Span → Tree
+numbered_tree f g equals number options semicolon =
+    Pair (symbol_tree (byte "=") equals) (Pair (f number) (Pair (g options) (symbol_tree (byte ";") semicolon)))
 
 -- the statements of a block, and the brace that closes it
 abbrev pub body_tree : {A : Type 0} → (A → Tree) → List A → Span → Tree

@@ -7,7 +7,7 @@ use crate::parser::Parser;
 use crate::parser::rule::Parse;
 use crate::parser::stop::Stop;
 use proto_base::row::Row;
-use proto_tree::{Enum, EnumItem, EnumValue, SignedNumber};
+use proto_tree::{Enum, EnumItem, EnumValue};
 
 impl<'s> Parse<'s> for EnumValue<'s> {
     ghost rule = { value };
@@ -17,10 +17,7 @@ impl<'s> Parse<'s> for EnumValue<'s> {
     #[tactic(auto, unfolding(crate::specs::Language::value))]
     fn parse(parser: &mut Parser<'s, '_>) -> Result<Self, Stop> {
         let name = parser.value_name()?;
-        let equals = parser.symbol('=')?;
-        let number = SignedNumber::parse(parser)?;
-        let options = parser.optional_options()?;
-        let semicolon = parser.symbol(';')?;
+        let (equals, number, options, semicolon) = parser.numbered()?;
         Ok(EnumValue {
             name,
             equals,

@@ -9,7 +9,7 @@ use crate::parser::Parser;
 use crate::parser::position::Position;
 use crate::parser::rule::Parse;
 use crate::parser::stop::Stop;
-use proto_tree::{Declarator, Field, FieldType, Label, MapType, NumberLiteral, OneofField};
+use proto_tree::{Declarator, Field, FieldType, Label, MapType, OneofField};
 
 impl<'s, 't> Parser<'s, 't> {
     /// What stands behind the type of a field.
@@ -18,10 +18,7 @@ impl<'s, 't> Parser<'s, 't> {
         ensures { Reads declarator_tree declarator result self.old.rest.now self.new.rest.now }
     {
         let name = self.name()?;
-        let equals = self.symbol('=')?;
-        let number = NumberLiteral::parse(self)?;
-        let options = self.optional_options()?;
-        let semicolon = self.symbol(';')?;
+        let (equals, number, options, semicolon) = self.numbered()?;
         Ok(Declarator {
             name,
             equals,
