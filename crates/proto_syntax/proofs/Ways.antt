@@ -9,7 +9,7 @@ use Rattle.proto_syntax.specs.declared.parser.stop.Stop.{Stop}
 use Rattle.proto_syntax.specs.declared.parser.stop.Stop.TheVariants as stop
 use Rattle.proto_syntax.specs.Grammar.{OneOf, Symbol, Grammar, Tree, Left, Right}
 use Rattle.proto_syntax.specs.Reading.{Outcome, Read, Stops, mapped, read, next_fits}
-use Rattle.proto_syntax.specs.Gives.{Fails, Gives, spellings, flat_item}
+use Rattle.proto_syntax.specs.Gives.{Fails, Gives, Makes, spellings, flat_item}
 use Rattle.proto_syntax.specs.Language.{symbol, number, signed, range_of, reserved_of, import, «package», option, enum, service, statement, oneof, reserved, range, map_or_field, field, ereserved, erange, value, enum_item}
 use Rattle.proto_syntax.proofs.Levels.{IsLevel, begins_import, begins_option, begins_service, begins_oneof, begins_reserved, begins_map, begins_ereserved}
 
@@ -57,6 +57,22 @@ made_gives make tree whole change (Err e) made rest o p same stops i m h = rw m 
     fails stop.NoMemory h = tt
     fails stop.Unexpected h = i ∙ ap change h ∙ stops false
     fails stop.TooDeep h = i ∙ ap change h ∙ stops true
+
+-- The same of an item that is made where its part is read.
+pub item_gives : {X Y : Type 0} → (make : X → Y) (tree : X → Tree) (whole : Y → Tree) (change : Outcome → Outcome) (g : Grammar)
+    (made : Result Y Stop) (old rest : List Token) (p : Outcome) → ((x : X) → read g (spellings old) ≡ Read (tree x) (spellings rest)
+    → change (Read (tree x) (spellings rest)) ≡ Read (whole (make x)) (spellings rest))
+    → ((d : Bool) → change (Stops d (spellings rest)) ≡ Stops d (spellings rest)) → p ≡ change (read g (spellings old))
+    → Makes tree g (λ x y. Unit {0} × (y ≡ make x)) made old rest → Gives whole made rest p
+item_gives {X} {Y} make tree whole change g made old rest p same stops i h =
+    made_gives make tree whole change h.0 made rest (read g (spellings old)) p same stops i (told h.0 made h.1.1) h.1.0
+  where
+    told : (found : Result X Stop) (made : Result Y Stop)
+        → MatchResult found (λ x. IsOkAnd made (λ y. Unit {0} × (y ≡ make x))) (λ e. made ≡ Err e)
+        → MatchResult found (λ x. IsOkAnd made (λ y. y ≡ make x)) (λ e. made ≡ Err e)
+    told (Ok x) (Ok y) m = m.1
+    told (Ok x) (Err e) m = m
+    told (Err e) made m = m
 
 -- whether the next token is that word
 abbrev pub At : String → List Spelled → Bool → Type 0

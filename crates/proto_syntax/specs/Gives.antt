@@ -1,5 +1,5 @@
 -- Words of private contracts: what a method of the parser promises.
-use Rattle.std.specs.Prelude.{◌≡◌, true, false, List, map, Result, Ok, Err, ℕ, slice_get, Option, None, Some}
+use Rattle.std.specs.Prelude.{◌≡◌, true, false, List, map, Result, Ok, Err, ℕ, slice_get, Option, None, Some, MatchResult, IsOkAnd}
 use Rattle.proto_base.specs.declared.place.Span.{Span}
 use Rattle.proto_tokens.specs.declared.token.Token.{Token}
 use Rattle.proto_tokens.specs.Token.{Spelled}
@@ -36,6 +36,11 @@ Gives tree (Err e) rest o = Fails e rest o
 -- A method took a tree of that grammar from the front of the tokens, or stopped at their fault.
 abbrev pub Reads : {X : Type 0} → (X → Tree) → Grammar → Result X Stop → List Token → List Token → Type 0
 Reads tree g result old new = Gives tree result new (read g (spellings old))
+
+-- A method took a tree of that grammar, or stopped, and returned what is made of the tree's value.
+abbrev pub Makes : {X Y : Type 0} → (X → Tree) → Grammar → (X → Y → Type 0) → Result Y Stop → List Token → List Token → Type 0
+Makes {X} tree g Post result old new =
+    (found : Result X Stop) × (Reads tree g found old new × MatchResult found (λ x. IsOkAnd result (Post x)) (λ e. result ≡ Err e))
 
 -- a statement of a message that is no message
 abbrev pub flat_item : Grammar

@@ -36,16 +36,16 @@ impl<'s> Parse<'s> for EnumItem<'s> {
     #[tactic(auto, using(crate::proofs::Levels::signed_has_token))]
     fn parse(parser: &mut Parser<'s, '_>) -> Result<Self, Stop> {
         if parser.at_keyword("option") {
-            return Ok(EnumItem::Option(parser.boxed()?));
+            return parser.item(EnumItem::Option);
         }
         if parser.at_keyword("reserved") {
-            return Ok(EnumItem::Reserved(parser.reserved()?));
+            return parser.reserved().map(EnumItem::Reserved);
         }
         if parser.at_symbol(';') {
             let span = parser.symbol(';')?;
             return Ok(EnumItem::Empty(span));
         }
-        Ok(EnumItem::Value(parser.boxed()?))
+        parser.item(EnumItem::Value)
     }
 }
 

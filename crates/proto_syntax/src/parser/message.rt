@@ -53,13 +53,13 @@ impl<'s, 't> Parser<'s, 't> {
             (mapped Right (read flat_item (spellings self.old.rest.now))) }
     {
         if self.at_keyword("enum") {
-            return self.boxed().map(MessageItem::Enum);
+            return self.item(MessageItem::Enum);
         }
         if self.at_keyword("option") {
-            return self.boxed().map(MessageItem::Option);
+            return self.item(MessageItem::Option);
         }
         if self.at_keyword("oneof") {
-            return self.boxed().map(MessageItem::Oneof);
+            return self.item(MessageItem::Oneof);
         }
         if self.at_keyword("reserved") {
             return self.reserved().map(MessageItem::Reserved);
@@ -71,7 +71,7 @@ impl<'s, 't> Parser<'s, 't> {
             let span = self.symbol(';')?;
             return Ok(MessageItem::Empty(span));
         }
-        self.boxed().map(MessageItem::Field)
+        self.item(MessageItem::Field)
     }
 
     /// A statement of a message.
