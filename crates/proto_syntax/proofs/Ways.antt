@@ -7,10 +7,10 @@ use Rattle.proto_tokens.specs.Token.{Spelled}
 use Rattle.proto_tokens.specs.declared.token.Token.{Token}
 use Rattle.proto_syntax.specs.declared.parser.stop.Stop.{Stop}
 use Rattle.proto_syntax.specs.declared.parser.stop.Stop.TheVariants as stop
-use Rattle.proto_syntax.specs.Grammar.{OneOf, Symbol, Grammar, Tree, Left, Right}
+use Rattle.proto_syntax.specs.Grammar.{OneOf, Symbol, Grammar, Tree, Pair, Left, Right}
 use Rattle.proto_syntax.specs.Reading.{Outcome, Read, Stops, mapped, read, next_fits}
-use Rattle.proto_syntax.specs.Gives.{Fails, Gives, Makes, spellings, flat_item}
-use Rattle.proto_syntax.specs.Language.{symbol, number, signed, range_of, reserved_of, import, «package», option, enum, service, statement, oneof, reserved, range, map_or_field, field, ereserved, erange, value, enum_item}
+use Rattle.proto_syntax.specs.Gives.{Fails, Gives, Makes, spellings, flat_item, map_rest, behind_map}
+use Rattle.proto_syntax.specs.Language.{word, symbol, number, signed, range_of, reserved_of, import, «package», option, enum, service, statement, oneof, reserved, range, map_or_field, field, ereserved, erange, value, enum_item}
 use Rattle.proto_syntax.proofs.Levels.{IsLevel, begins_import, begins_option, begins_service, begins_oneof, begins_reserved, begins_map, begins_ereserved}
 
 -- what is read as the part of a choice behind n others
@@ -148,6 +148,16 @@ item_field ts e1 e2 e3 e4 e5 e6 = rw (e1, begins_option, e2, begins_oneof, e3, b
 pub as_map : (o : Outcome) → mapped (λ x. Right (Right (Right (Right (Right (Left x)))))) o ≡ way 5 o
 as_map (Read x us) = refl
 as_map (Stops d us) = refl
+
+-- and is that word and what stands behind it
+pub map_behind : (w : Tree) (ts us : List Spelled) → read (word "map") ts ≡ Read w us
+    → mapped (λ x. Right (Right (Right (Right (Right (Left x)))))) (read map_or_field ts) ≡ mapped (behind_map w) (read map_rest us)
+unfolding map_or_field
+map_behind w ts us e = rw e (joined (read map_rest us))
+  where
+    joined : (o : Outcome) → mapped (λ x. Right (Right (Right (Right (Right (Left x)))))) (mapped (Pair w) o) ≡ mapped (behind_map w) o
+    joined (Read x vs) = refl
+    joined (Stops d vs) = refl
 
 -- the ways of a statement of an enum
 pub enum_option : (ts : List Spelled) → At "option" ts true → read enum_item ts ≡ way 0 (read option ts)

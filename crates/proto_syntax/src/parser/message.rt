@@ -1,38 +1,49 @@
 //! Messages (proto3 language specification, "Message definition").
 
+ghost use Rattle.std.specs.Prelude.{◌≡◌, true, false, [], ◌∷◌, codes};
 ghost use Rattle.std.specs.Str.{byte};
-ghost use Rattle.proto_syntax.specs.Grammar.{◌⨾◌, Many, Pair, Left, Right};
-ghost use Rattle.proto_syntax.specs.Reading.{mapped, read};
+ghost use Rattle.proto_syntax.specs.Grammar.{Symbol, ◌⨾◌, Many, Pair, Left, Right};
+ghost use Rattle.proto_syntax.specs.Reading.{mapped, next_fits, read};
 ghost use Rattle.proto_syntax.specs.Language.{message, message_item, map_or_field, symbol};
-ghost use Rattle.proto_syntax.specs.Trees.{message_item_tree, message_tree};
-ghost use Rattle.proto_syntax.specs.Gives.{Gives, Reads, flat_item, spellings, body_tree};
+ghost use Rattle.proto_syntax.specs.Trees.{word_tree, name_tree, message_item_tree, message_tree};
+ghost use Rattle.proto_syntax.specs.Gives.{Gives, Reads, flat_item, map_rest, behind_map, spellings, body_tree};
 
 use crate::parser::Parser;
 use crate::parser::stop::Stop;
 use proto_base::Span;
 use proto_base::boxed::Boxed;
 use proto_base::row::Row;
-use proto_tree::{Field, FieldType, FullName, MapField, Message, MessageItem, TypeName};
+use proto_tree::{
+    Field, FieldType, FullName, MapField, Message, MessageItem, Name, TypeName,
+};
 
 impl<'s, 't> Parser<'s, 't> {
-    /// A statement that begins with the word `map`: a map field, or a field whose type begins so.
-    #[tactic(auto, using(crate::proofs::Items::item_map, crate::proofs::Items::item_named), unfolding(crate::specs::Language::map_or_field, crate::specs::Language::map_type, crate::specs::Language::parts))]
-    fn map_or_field(&mut self) -> Result<MessageItem<'s>, Stop>
+    /// A map field, behind its first word.
+    #[tactic(auto, using(crate::proofs::Items::item_map), unfolding(crate::specs::Language::map_type))]
+    fn map_field(&mut self, keyword: Span) -> Result<MessageItem<'s>, Stop>
+        requires { next_fits (Symbol (byte "<") ∷ []) (spellings self.old.rest.now) ≡ true }
         ensures { Gives message_item_tree result self.new.rest.now
-            (mapped (λ x. Right (Right (Right (Right (Right (Left x))))))
-            (read map_or_field (spellings self.old.rest.now))) }
+            (mapped (behind_map (word_tree (codes "map") keyword))
+            (read map_rest (spellings self.old.rest.now))) }
     {
-        let first = self.word_name("map")?;
-        if self.at_symbol('<') {
-            let map_type = self.map_type()?;
-            let declarator = self.declarator()?;
-            let map = MapField {
-                keyword: first.span,
-                map_type,
-                declarator,
-            };
-            return Ok(MessageItem::Map(Boxed::new(self.alloc, map)?));
-        }
+        let map_type = self.map_type()?;
+        let declarator = self.declarator()?;
+        let map = MapField {
+            keyword,
+            map_type,
+            declarator,
+        };
+        Ok(MessageItem::Map(Boxed::new(self.alloc, map)?))
+    }
+
+    /// A field whose type begins with the word `map`, behind this word.
+    #[tactic(auto, using(crate::proofs::Items::item_named), unfolding(crate::specs::Language::map_type, crate::specs::Language::parts))]
+    fn named_field(&mut self, first: Name<'s>) -> Result<MessageItem<'s>, Stop>
+        requires word { first.text ≡ codes "map" }
+        requires no_map { next_fits (Symbol (byte "<") ∷ []) (spellings self.old.rest.now) ≡ false }
+        ensures { Gives message_item_tree result self.new.rest.now
+            (mapped (behind_map (name_tree first.entry)) (read map_rest (spellings self.old.rest.now))) }
+    {
         let rest = self.many()?;
         let declarator = self.declarator()?;
         let name = FullName {
@@ -45,6 +56,20 @@ impl<'s, 't> Parser<'s, 't> {
             declarator,
         };
         Ok(MessageItem::Field(Boxed::new(self.alloc, field)?))
+    }
+
+    /// A statement that begins with the word `map`: a map field, or a field whose type begins so.
+    #[tactic(auto, unfolding(crate::specs::Language::map_or_field))]
+    fn map_or_field(&mut self) -> Result<MessageItem<'s>, Stop>
+        ensures { Gives message_item_tree result self.new.rest.now
+            (mapped (λ x. Right (Right (Right (Right (Right (Left x))))))
+            (read map_or_field (spellings self.old.rest.now))) }
+    {
+        let first = self.word_name("map")?;
+        if self.at_symbol('<') {
+            return self.map_field(first.span);
+        }
+        self.named_field(first)
     }
 
     /// A statement of a message that is no message.
