@@ -5,11 +5,13 @@ use Rattle.std.specs.Str.{byte}
 use Prim.Native.String.{String}
 use Rattle.proto_tokens.specs.Token.{Spelled}
 use Rattle.proto_tokens.specs.declared.token.Token.{Token}
+use Rattle.proto_base.specs.declared.place.Span.{Span}
+use Rattle.proto_tree.specs.Name.{Identifier}
 use Rattle.proto_syntax.specs.declared.parser.stop.Stop.{Stop}
 use Rattle.proto_syntax.specs.declared.parser.stop.Stop.TheVariants as stop
 use Rattle.proto_syntax.specs.Grammar.{OneOf, Symbol, Grammar, Tree, Pair, Left, Right}
 use Rattle.proto_syntax.specs.Reading.{Outcome, Read, Stops, mapped, read, next_fits}
-use Rattle.proto_syntax.specs.Gives.{Fails, Gives, Makes, spellings, flat_item, map_rest, behind_map}
+use Rattle.proto_syntax.specs.Gives.{Fails, Gives, Makes, spellings, flat_item, map_rest, behind_map, headed}
 use Rattle.proto_syntax.specs.Language.{word, symbol, number, signed, range_of, reserved_of, import, «package», option, enum, service, statement, oneof, reserved, range, map_or_field, field, ereserved, erange, value, enum_item}
 use Rattle.proto_syntax.proofs.Levels.{IsLevel, begins_import, begins_option, begins_service, begins_oneof, begins_reserved, begins_map, begins_ereserved}
 
@@ -36,6 +38,13 @@ pub way_fails : (n : ℕ) (e : Stop) (rest : List Token) (o p : Outcome) → p �
 way_fails n stop.NoMemory rest o p i h = tt
 way_fails n stop.Unexpected rest o p i h = i ∙ ap (way n) h ∙ behind_stops n false (spellings rest)
 way_fails n stop.TooDeep rest o p i h = i ∙ ap (way n) h ∙ behind_stops n true (spellings rest)
+
+-- a fault behind the head of a block is the fault of the block
+pub headed_fails : (w : List ℕ) (keyword : Span) (name : Identifier) (open_brace : Span) (e : Stop) (rest : List Token) (o p : Outcome)
+    → p ≡ headed w keyword name open_brace o → Fails e rest o → Fails e rest p
+headed_fails w keyword name open_brace stop.NoMemory rest o p i h = tt
+headed_fails w keyword name open_brace stop.Unexpected rest o p i h = i ∙ ap (headed w keyword name open_brace) h
+headed_fails w keyword name open_brace stop.TooDeep rest o p i h = i ∙ ap (headed w keyword name open_brace) h
 
 -- What was read is given in a box, unless memory runs out.
 pub boxed_gives : {X : Type 0} → (tree : X → Tree) (boxed : Result X Stop) (x : X) (rest : List Token) (o : Outcome)

@@ -1,12 +1,13 @@
 //! Messages (proto3 language specification, "Message definition").
 
-ghost use Rattle.std.specs.Prelude.{◌≡◌, true, false, [], ◌∷◌, codes};
+ghost use Rattle.std.specs.Prelude.{◌≡◌, true, false, [], ◌∷◌, ◌++◌, codes, MatchResult};
 ghost use Rattle.std.specs.Str.{byte};
-ghost use Rattle.proto_syntax.specs.Grammar.{Symbol, ◌⨾◌, Many, Pair, Left, Right};
-ghost use Rattle.proto_syntax.specs.Reading.{mapped, next_fits, read};
+ghost use Rattle.proto_tree.specs.declared.message.MessageItem.{MessageItem};
+ghost use Rattle.proto_syntax.specs.Grammar.{OneOf, Symbol, ◌⨾◌, Many, Pair, Left, Right};
+ghost use Rattle.proto_syntax.specs.Reading.{Read, mapped, next_fits, read, read_beyond};
 ghost use Rattle.proto_syntax.specs.Language.{message, message_item, map_or_field, symbol};
 ghost use Rattle.proto_syntax.specs.Trees.{word_tree, name_tree, message_item_tree, message_tree};
-ghost use Rattle.proto_syntax.specs.Gives.{Gives, Reads, flat_item, map_rest, behind_map, spellings, body_tree};
+ghost use Rattle.proto_syntax.specs.Gives.{Fails, Gives, Reads, flat_item, map_rest, behind_map, spellings, body_tree};
 
 use crate::parser::Parser;
 use crate::parser::stop::Stop;
@@ -112,6 +113,21 @@ impl<'s, 't> Parser<'s, 't> {
         self.flat_item()
     }
 
+    /// Adds a statement of a message.
+    #[cycle(message)]
+    fn put_item(&mut self, depth: u64, items: &mut Vec<MessageItem<'s>>) -> Result<(), Stop>
+        ensures { MatchResult result
+            (λ _. (item : MessageItem) × ((items.new.items ≡ items.old.items ++ item ∷ [])
+            × (read (message_item (message depth)) (spellings self.old.rest.now)
+            ≡ Read (message_item_tree item) (spellings self.new.rest.now))))
+            (λ e. Fails e self.new.rest.now
+            (read (message_item (message depth)) (spellings self.old.rest.now))) }
+    {
+        let item = self.message_item(depth)?;
+        items.push(item)?;
+        Ok(())
+    }
+
     /// The statements of a message, and the brace that closes it.
     #[cycle(message)]
     #[tactic(auto, using(crate::proofs::Loops::closes_none))]
@@ -122,8 +138,7 @@ impl<'s, 't> Parser<'s, 't> {
     {
         let mut items = Vec::new(self.alloc);
         'each: while !self.at_symbol('}') {
-            let item = self.message_item(depth)?;
-            items.push(item)?;
+            self.put_item(depth, &mut items)?;
         }
         let close = self.symbol('}')?;
         Ok((items, close))
@@ -131,20 +146,14 @@ impl<'s, 't> Parser<'s, 't> {
 
     /// A message of at most that depth, in a box.
     #[cycle(message)]
-    #[tactic(auto, using(crate::proofs::Ways::boxed_gives), unfolding(crate::specs::Language::message))]
+    #[tactic(auto, unfolding(crate::specs::Language::message))]
     pub(crate) fn message(&mut self, depth: u64) -> Result<Boxed<Message<'s>>, Stop>
         ensures { Reads message_tree (message depth) result self.old.rest.now self.new.rest.now }
     {
         if depth == 0 {
-            return Err(if self.at_keyword("message") {
-                Stop::TooDeep
-            } else {
-                Stop::Unexpected
-            });
+            return Err(self.beyond());
         }
-        let keyword = self.keyword("message")?;
-        let name = self.name()?;
-        let open_brace = self.symbol('{')?;
+        let (keyword, name, open_brace) = self.block_head("message")?;
         let (items, close_brace) = self.message_body(depth - 1)?;
         let message = Message {
             keyword,
@@ -154,5 +163,17 @@ impl<'s, 't> Parser<'s, 't> {
             close_brace,
         };
         self.in_box(message)
+    }
+
+    /// Why no message is read beyond the limit of depth.
+    fn beyond(&self) -> Stop
+        ensures { Fails result self.now.rest.now
+            (read_beyond (OneOf (codes "message" ∷ [])) (spellings self.now.rest.now)) }
+    {
+        if self.at_keyword("message") {
+            Stop::TooDeep
+        } else {
+            Stop::Unexpected
+        }
     }
 }
