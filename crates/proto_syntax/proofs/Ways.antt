@@ -9,9 +9,10 @@ use Rattle.proto_base.specs.declared.place.Span.{Span}
 use Rattle.proto_tree.specs.Name.{Identifier}
 use Rattle.proto_syntax.specs.declared.parser.stop.Stop.{Stop}
 use Rattle.proto_syntax.specs.declared.parser.stop.Stop.TheVariants as stop
-use Rattle.proto_syntax.specs.Grammar.{OneOf, Symbol, Grammar, Tree, Pair, Left, Right}
+use Rattle.proto_syntax.specs.Grammar.{OneOf, Symbol, Grammar, ◌⨾◌, Many, Tree, Pair, Left, Right}
 use Rattle.proto_syntax.specs.Reading.{Outcome, Read, Stops, mapped, read, next_fits}
-use Rattle.proto_syntax.specs.Gives.{Fails, Gives, Makes, spellings, flat_item, map_rest, behind_map, headed}
+use Rattle.proto_syntax.specs.Trees.{block_tree, row}
+use Rattle.proto_syntax.specs.Gives.{Fails, Gives, Makes, spellings, flat_item, map_rest, behind_map, block, headed, body_tree}
 use Rattle.proto_syntax.specs.Language.{word, symbol, number, signed, range_of, reserved_of, import, «package», option, enum, service, statement, oneof, reserved, range, map_or_field, field, ereserved, erange, value, enum_item}
 use Rattle.proto_syntax.proofs.Levels.{IsLevel, begins_import, begins_option, begins_service, begins_oneof, begins_reserved, begins_map, begins_ereserved}
 
@@ -45,6 +46,16 @@ pub headed_fails : (w : List ℕ) (keyword : Span) (name : Identifier) (open_bra
 headed_fails w keyword name open_brace stop.NoMemory rest o p i h = tt
 headed_fails w keyword name open_brace stop.Unexpected rest o p i h = i ∙ ap (headed w keyword name open_brace) h
 headed_fails w keyword name open_brace stop.TooDeep rest o p i h = i ∙ ap (headed w keyword name open_brace) h
+
+-- the head of a block, and its items and brace, are the block
+pub block_gives : {A : Type 0} → (w : List ℕ) (f : A → Tree) (g : Grammar) (keyword : Span) (name : Identifier) (open_brace close_brace : Span)
+    (rows items : List A) (ts us vs : List Spelled)
+    → read (block w (Many g ⨾ symbol "}")) ts ≡ headed w keyword name open_brace (read (Many g ⨾ symbol "}") us)
+    → read (Many g ⨾ symbol "}") us ≡ Read (body_tree f items close_brace) vs → rows ≡ items
+    → read (block w (Many g ⨾ symbol "}")) ts ≡ Read (block_tree w keyword name open_brace (row f rows) close_brace) vs
+block_gives w f g keyword name open_brace close_brace rows items ts us vs i h e =
+    i ∙ ap (headed w keyword name open_brace) h
+    ∙ ap (λ xs. Read (block_tree w keyword name open_brace (row f xs) close_brace) vs) (sym e)
 
 -- What was read is given in a box, unless memory runs out.
 pub boxed_gives : {X : Type 0} → (tree : X → Tree) (boxed : Result X Stop) (x : X) (rest : List Token) (o : Outcome)

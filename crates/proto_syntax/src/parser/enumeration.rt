@@ -56,9 +56,7 @@ impl<'s> Parse<'s> for Enum<'s> {
 
     #[tactic(auto, using(crate::proofs::Levels::enum_block))]
     fn parse(parser: &mut Parser<'s, '_>) -> Result<Self, Stop> {
-        let keyword = parser.keyword("enum")?;
-        let name = parser.name()?;
-        let open_brace = parser.symbol('{')?;
+        let (keyword, name, open_brace) = parser.block_head("enum")?;
         let (items, close_brace) = parser.block_items()?;
         Ok(Enum {
             keyword,

@@ -97,9 +97,7 @@ impl<'s> Parse<'s> for Service<'s> {
 
     #[tactic(auto, using(crate::proofs::Levels::service_block), unfolding(crate::specs::Language::service))]
     fn parse(parser: &mut Parser<'s, '_>) -> Result<Self, Stop> {
-        let keyword = parser.keyword("service")?;
-        let name = parser.name()?;
-        let open_brace = parser.symbol('{')?;
+        let (keyword, name, open_brace) = parser.block_head("service")?;
         let (items, close_brace) = parser.block_items()?;
         Ok(Service {
             keyword,
