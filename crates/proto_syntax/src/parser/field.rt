@@ -1,6 +1,6 @@
 //! Fields (proto3 language specification, "Normal Field", "Map field" and "Oneof and oneof field").
 
-ghost use Rattle.std.specs.Prelude.{[]};
+ghost use Rattle.std.specs.Prelude.{[], ◌∷◌, codes};
 ghost use Rattle.std.specs.Str.{byte};
 ghost use Rattle.proto_syntax.specs.Grammar.{◌⨾◌, Pair};
 ghost use Rattle.proto_syntax.specs.Reading.{read};
@@ -44,6 +44,16 @@ impl<'s, 't> Parser<'s, 't> {
         Ok(Label::Repeated(span))
     }
 
+    /// A label and the type behind it.
+    fn labelled_type(&mut self) -> Result<(Label, FieldType<'s>), Stop>
+        ensures { Reads (λ p. Pair (label_tree p.0) (type_tree p.1))
+            (label ⨾ type_but (codes "group" ∷ [])) result self.old.rest.now self.new.rest.now }
+    {
+        let label = self.label()?;
+        let field_type = self.field_type(Position::Labelled)?;
+        Ok((label, field_type))
+    }
+
     /// The label and the type of a field.
     #[tactic(auto, unfolding(crate::specs::Language::field_head))]
     fn field_head(&mut self) -> Result<(Option<Label>, FieldType<'s>), Stop>
@@ -51,8 +61,7 @@ impl<'s, 't> Parser<'s, 't> {
             self.new.rest.now }
     {
         if self.at_keyword("optional") || self.at_keyword("repeated") {
-            let label = self.label()?;
-            let field_type = self.field_type(Position::Labelled)?;
+            let (label, field_type) = self.labelled_type()?;
             return Ok((Some(label), field_type));
         }
         let field_type = self.field_type(Position::Statement)?;
