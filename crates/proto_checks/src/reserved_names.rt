@@ -1,6 +1,6 @@
 //! Reserved names: that none is reserved twice, and that none is in use.
 
-ghost use Rattle.std.specs.Prelude.{◌≡◌, ◌++◌, IfOk, OnOk, map, string_bytes};
+ghost use Rattle.std.specs.Prelude.{◌≡◌, [], ◌∷◌, ◌++◌, IfOk, OnOk, map, string_bytes};
 ghost use Rattle.proto_tree.specs.Text.{joined};
 ghost use Rattle.proto_base.specs.declared.kind.Kind.TheVariants.{ReservedNameTwice};
 ghost use Rattle.proto_checks.specs.Gathered.{reserved_name, message_reserved_names, enum_reserved_names};
@@ -34,13 +34,19 @@ impl<'s> Model for ReservedName<'s> {
     ghost view = { λ a. record { text = a.text; place = a.place } };
 }
 
-fn reserved_name<'s>(alloc: Global, value: &StringValue<'s>) -> Result<ReservedName<'s>, AllocError>
-    ensures { IfOk result (λ name. name ≡ reserved_name value.now) }
+/// Adds a reserved name.
+fn put_name<'s>(
+    alloc: Global,
+    names: &mut Vec<ReservedName<'s>>,
+    value: &StringValue<'s>,
+) -> Result<(), AllocError>
+    ensures { OnOk result (names.new.items ≡ names.old.items ++ reserved_name value.now ∷ []) }
 {
-    Ok(ReservedName {
+    names.push(ReservedName {
         text: joined(alloc, value)?,
         place: value.first.span.start,
-    })
+    })?;
+    Ok(())
 }
 
 fn put_names<'s, N>(
@@ -52,9 +58,9 @@ fn put_names<'s, N>(
         ++ map reserved_name (names_in items.now)) }
 {
     if let ReservedItems::Names(listed) = items {
-        names.push(reserved_name(alloc, &listed.first)?)?;
+        put_name(alloc, names, &listed.first)?;
         for next in listed.rest.as_slice() {
-            names.push(reserved_name(alloc, &next.item)?)?;
+            put_name(alloc, names, &next.item)?;
         }
     }
     Ok(())

@@ -1,6 +1,6 @@
 //! Oneofs: those of the source, and then those that `optional` fields make (`descriptor.proto`, `proto3_optional`).
 
-ghost use Rattle.std.specs.Prelude.{◌≡◌, ◌++◌, ℕ, List, IfOk, OnOk, length};
+ghost use Rattle.std.specs.Prelude.{◌≡◌, [], ◌∷◌, ◌++◌, ℕ, List, IfOk, OnOk, length};
 ghost use Rattle.std.specs.List.{list_any};
 ghost use Rattle.proto_lower.specs.Taken.{HoldsTaken};
 ghost use Rattle.proto_lower.specs.Oneofs.{real_named, real_oneofs, names_of_fields, names_of_oneofs, made_named, with_made};
@@ -75,6 +75,27 @@ fn has_optional(fields: &[FieldDesc]) -> bool
     fields.iter().any(|field| field.proto3_optional)
 }
 
+/// Adds the oneof of an `optional` field, where `most` names are taken, and takes its name.
+fn put_one<'s>(
+    alloc: Global,
+    oneofs: &mut Vec<OneofDesc<'s>>,
+    taken: &mut BTreeSet<String>,
+    field: &FieldDesc<'s>,
+    most: usize,
+) -> Result<(), AllocError>
+    ensures oneof { OnOk result ((names : List (List ℕ)) → IsSetOf names taken.old
+        → most ≡ length names
+        → oneofs.new.items ≡ oneofs.old.items ++ made_named names field.now ∷ []) }
+    ensures name { OnOk result ((names : List (List ℕ)) → IsSetOf names taken.old
+        → most ≡ length names
+        → IsSetOf (names ++ (made_named names field.now).name ∷ []) taken.new) }
+{
+    let oneof = made(alloc, field, taken, most)?;
+    take_name(alloc, taken, oneof.name.as_str())?;
+    oneofs.push(oneof)?;
+    Ok(())
+}
+
 /// Adds the oneofs that fields make. Only where a field makes one does it gather the names.
 fn put_made<'s>(
     alloc: Global,
@@ -90,9 +111,8 @@ fn put_made<'s>(
     let mut taken = taken_names(alloc, fields, oneofs.as_slice())?;
     for field in fields {
         if field.proto3_optional {
-            let oneof = made(alloc, field, &taken, fields.len() + oneofs.len())?;
-            take_name(alloc, &mut taken, oneof.name.as_str())?;
-            oneofs.push(oneof)?;
+            let most = fields.len() + oneofs.len();
+            put_one(alloc, oneofs, &mut taken, field, most)?;
         }
     }
     Ok(())

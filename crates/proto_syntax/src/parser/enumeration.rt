@@ -7,7 +7,7 @@ use crate::parser::Parser;
 use crate::parser::rule::Parse;
 use crate::parser::stop::Stop;
 use proto_base::row::Row;
-use proto_tree::{Enum, EnumItem, EnumValue, SignedNumber};
+use proto_tree::{Enum, EnumItem, EnumValue};
 
 impl<'s> Parse<'s> for EnumValue<'s> {
     ghost rule = { value };
@@ -17,10 +17,7 @@ impl<'s> Parse<'s> for EnumValue<'s> {
     #[tactic(auto, unfolding(crate::specs::Language::value))]
     fn parse(parser: &mut Parser<'s, '_>) -> Result<Self, Stop> {
         let name = parser.value_name()?;
-        let equals = parser.symbol('=')?;
-        let number = SignedNumber::parse(parser)?;
-        let options = parser.optional_options()?;
-        let semicolon = parser.symbol(';')?;
+        let (equals, number, options, semicolon) = parser.numbered()?;
         Ok(EnumValue {
             name,
             equals,
@@ -39,16 +36,16 @@ impl<'s> Parse<'s> for EnumItem<'s> {
     #[tactic(auto, using(crate::proofs::Levels::signed_has_token))]
     fn parse(parser: &mut Parser<'s, '_>) -> Result<Self, Stop> {
         if parser.at_keyword("option") {
-            return Ok(EnumItem::Option(parser.boxed()?));
+            return parser.item(EnumItem::Option);
         }
         if parser.at_keyword("reserved") {
-            return Ok(EnumItem::Reserved(parser.reserved()?));
+            return parser.reserved().map(EnumItem::Reserved);
         }
         if parser.at_symbol(';') {
             let span = parser.symbol(';')?;
             return Ok(EnumItem::Empty(span));
         }
-        Ok(EnumItem::Value(parser.boxed()?))
+        parser.item(EnumItem::Value)
     }
 }
 
@@ -59,9 +56,7 @@ impl<'s> Parse<'s> for Enum<'s> {
 
     #[tactic(auto, using(crate::proofs::Levels::enum_block))]
     fn parse(parser: &mut Parser<'s, '_>) -> Result<Self, Stop> {
-        let keyword = parser.keyword("enum")?;
-        let name = parser.name()?;
-        let open_brace = parser.symbol('{')?;
+        let (keyword, name, open_brace) = parser.block_head("enum")?;
         let (items, close_brace) = parser.block_items()?;
         Ok(Enum {
             keyword,

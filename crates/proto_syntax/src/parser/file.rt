@@ -35,22 +35,22 @@ impl<'s, 't> Parser<'s, 't> {
             self.new.rest.now }
     {
         if self.at_keyword("import") {
-            return self.boxed().map(Statement::Import);
+            return self.item(Statement::Import);
         }
         if self.at_keyword("package") {
-            return self.boxed().map(Statement::Package);
+            return self.item(Statement::Package);
         }
         if self.at_keyword("option") {
-            return self.boxed().map(Statement::Option);
+            return self.item(Statement::Option);
         }
         if self.at_keyword("message") {
             return self.message(depth).map(Statement::Message);
         }
         if self.at_keyword("enum") {
-            return self.boxed().map(Statement::Enum);
+            return self.item(Statement::Enum);
         }
         if self.at_keyword("service") {
-            return self.boxed().map(Statement::Service);
+            return self.item(Statement::Service);
         }
         let span = self.symbol(';')?;
         Ok(Statement::Empty(span))

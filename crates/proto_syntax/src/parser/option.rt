@@ -1,42 +1,34 @@
 //! Options (proto3 language specification, "Option").
 
-ghost use Rattle.proto_syntax.specs.Grammar.{Optional};
-ghost use Rattle.proto_syntax.specs.Reading.{read};
 ghost use Rattle.proto_syntax.specs.Language.{setting, options, option};
-ghost use Rattle.proto_syntax.specs.Trees.{optional, setting_tree, options_tree, option_tree};
-ghost use Rattle.proto_syntax.specs.Gives.{Reads};
+ghost use Rattle.proto_syntax.specs.Trees.{setting_tree, options_tree, option_tree};
 
 use crate::parser::Parser;
-use crate::parser::rule::Parse;
+use crate::parser::rule::{Parse, Peek};
 use crate::parser::stop::Stop;
 use proto_tree::{OptionStatement, Options, Setting};
 
-impl<'s, 't> Parser<'s, 't> {
-    /// Options in brackets.
+impl<'s> Parse<'s> for Options<'s> {
+    ghost rule = { options };
+
+    ghost tree = { options_tree };
+
     #[tactic(auto, unfolding(crate::specs::Language::options))]
-    fn options(&mut self) -> Result<Options<'s>, Stop>
-        ensures { Reads options_tree options result self.old.rest.now self.new.rest.now }
-    {
-        let open_bracket = self.symbol('[')?;
-        let (settings, close_bracket) = self.closed(']')?;
+    fn parse(parser: &mut Parser<'s, '_>) -> Result<Self, Stop> {
+        let open_bracket = parser.symbol('[')?;
+        let (settings, close_bracket) = parser.closed(']')?;
         Ok(Options {
             open_bracket,
             settings,
             close_bracket,
         })
     }
+}
 
-    /// Options in brackets, if there are any.
+impl<'s> Peek<'s> for Options<'s> {
     #[tactic(auto, unfolding(crate::specs::Language::options))]
-    pub(crate) fn optional_options(&mut self) -> Result<Option<Options<'s>>, Stop>
-        ensures { Reads (optional options_tree) (Optional options) result self.old.rest.now
-            self.new.rest.now }
-    {
-        if self.at_symbol('[') {
-            let options = self.options()?;
-            return Ok(Some(options));
-        }
-        Ok(None)
+    fn is_next(parser: &Parser<'s, '_>) -> bool {
+        parser.at_symbol('[')
     }
 }
 

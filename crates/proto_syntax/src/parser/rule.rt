@@ -2,10 +2,11 @@
 
 ghost use Rattle.std.specs.Prelude.{◌≡◌, MatchResult};
 ghost use Rattle.proto_syntax.specs.declared.parser.stop.Stop.TheVariants.{NoMemory};
-ghost use Rattle.proto_syntax.specs.Grammar.{◌⨾◌, One, Symbol, Pair};
+ghost use Rattle.proto_syntax.specs.Grammar.{◌⨾◌, One, Symbol, Optional, Pair};
 ghost use Rattle.proto_syntax.specs.Reading.{read};
-ghost use Rattle.proto_syntax.specs.Trees.{symbol_tree};
-ghost use Rattle.proto_syntax.specs.Gives.{Reads};
+ghost use Rattle.proto_syntax.specs.Language.{symbol};
+ghost use Rattle.proto_syntax.specs.Trees.{symbol_tree, optional};
+ghost use Rattle.proto_syntax.specs.Gives.{Reads, Makes, numbered_tree};
 
 use crate::parser::Parser;
 use crate::parser::stop::Stop;
@@ -56,6 +57,17 @@ impl<'s, 't> Parser<'s, 't> {
         self.in_box(value)
     }
 
+    /// What is made of what the next tokens are by the rule of a type.
+    pub(crate) fn item<T: Parse<'s>, I, F: FnOnce(Boxed<T>) -> I>(
+        &mut self,
+        make: F,
+    ) -> Result<I, Stop>
+        requires { F.IsAlwaysCallable make }
+        ensures { Makes T.tree T.rule (F.post make) result self.old.rest.now self.new.rest.now }
+    {
+        self.boxed::<T>().map(make)
+    }
+
     /// What the next tokens are by the rule of a type, and the symbol behind it.
     pub(crate) fn closed<T: Parse<'s>>(&mut self, symbol: char) -> Result<(T, Span), Stop>
         ensures { Reads (λ p. Pair (T.tree p.0) (symbol_tree symbol p.1))
@@ -64,5 +76,33 @@ impl<'s, 't> Parser<'s, 't> {
         let value = T::parse(self)?;
         let close = self.symbol(symbol)?;
         Ok((value, close))
+    }
+
+    /// The number of an element and what stands behind it, from the sign `=` up to the semicolon.
+    pub(crate) fn numbered<N: Parse<'s>, O: Parse<'s>>(
+        &mut self,
+    ) -> Result<(Span, N, O, Span), Stop>
+        ensures { Reads (λ p. numbered_tree N.tree O.tree p.0 p.1 p.2 p.3)
+            (symbol "=" ⨾ N.rule ⨾ O.rule ⨾ symbol ";") result self.old.rest.now self.new.rest.now }
+    {
+        let equals = self.symbol('=')?;
+        let number = N::parse(self)?;
+        let (options, semicolon) = self.closed(';')?;
+        Ok((equals, number, options, semicolon))
+    }
+}
+
+/// One, if the next token begins it.
+impl<'s, T: Peek<'s>> Parse<'s> for Option<T> {
+    ghost rule = { Optional T.rule };
+
+    ghost tree = { optional T.tree };
+
+    fn parse(parser: &mut Parser<'s, '_>) -> Result<Self, Stop> {
+        if T::is_next(parser) {
+            let value = T::parse(parser)?;
+            return Ok(Some(value));
+        }
+        Ok(None)
     }
 }
