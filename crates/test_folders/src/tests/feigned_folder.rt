@@ -1,12 +1,12 @@
 //! A system that answers as it is told, for what a real one seldom does.
 
-use super::folder::told;
+use super::folder::{field, told};
 use proto_base::Limits;
 use std::alloc::{AllocError, Allocator, Global};
 use std::fs::{Metadata, OpenFile, OpenOptions};
 use std::io::{self, Error, ErrorKind, Read, Seek, SeekFrom, Write};
+use std::process::Abort;
 use std::rt::Files;
-use std::test::Fail;
 
 /// The path of the folder.
 const ROOT: &str = "root";
@@ -14,20 +14,38 @@ const ROOT: &str = "root";
 /// The one folder of a system, whose entries are alike.
 #[derive(Clone, Copy)]
 struct Folder {
+    /// The word for what its entries are, or what the system fails at.
+    kind: &'static str,
     /// The name that each entry has.
     name: &'static [u8],
     entries: u32,
-    /// Why the system doesn't describe the folder.
-    lost: Option<Error>,
-    /// Why the system doesn't list it.
-    closed: Option<Error>,
-    /// Why the system doesn't describe an entry.
-    hidden: Option<Error>,
-    /// What an entry is until it is opened, and from then on.
-    entry: Entry,
-    opened: Entry,
-    /// Why no more of a file is read.
-    broken: Option<Error>,
+    /// Why the system fails.
+    error: Option<Error>,
+}
+
+impl Folder {
+    /// Why the system fails at what goes by this word, if it does.
+    fn error_at(&self, kind: &str) -> Option<Error> {
+        if self.kind == kind { self.error } else { None }
+    }
+
+    /// What an entry is until it is opened.
+    fn entry(&self) -> Entry {
+        match self.kind {
+            "folder" => Entry::Folder,
+            "device" => Entry::Device,
+            _ => Entry::File,
+        }
+    }
+
+    /// What it is from then on.
+    fn opened(&self) -> Entry {
+        if self.kind == "replaced" {
+            Entry::Device
+        } else {
+            self.entry()
+        }
+    }
 }
 
 /// What an entry is. All folders are one, since those that are feigned have no numbers.
@@ -155,13 +173,13 @@ impl Files for Fake<'_> {
     fn open_file(&self, _how: &OpenOptions, _path: &str) -> io::Result<FakeFile> {
         Ok(FakeFile {
             left: 2,
-            entry: self.folder.opened,
-            broken: self.folder.broken,
+            entry: self.folder.opened(),
+            broken: self.folder.error_at("broken"),
         })
     }
 
     fn open_dir(&self, _path: &str) -> io::Result<FakeNames> {
-        match self.folder.closed {
+        match self.folder.error_at("closed") {
             Some(error) => Err(error),
             None => Ok(FakeNames {
                 name: self.folder.name,
@@ -171,12 +189,12 @@ impl Files for Fake<'_> {
     }
 
     fn metadata(&self, path: &str) -> io::Result<Metadata> {
-        let (error, found) = if path == ROOT {
-            (self.folder.lost, Entry::Folder)
+        let (kind, found) = if path == ROOT {
+            ("lost", Entry::Folder)
         } else {
-            (self.folder.hidden, self.folder.entry)
+            ("hidden", self.folder.entry())
         };
-        match error {
+        match self.folder.error_at(kind) {
             Some(error) => Err(error),
             None => Ok(found.metadata()),
         }
@@ -238,40 +256,25 @@ fn error_of(word: &str) -> Option<Error> {
     }
 }
 
-/// What an entry is, by the word for a row, before it is opened and then.
-fn entries_of(kind: &str) -> (Entry, Entry) {
-    match kind {
-        "folder" => (Entry::Folder, Entry::Folder),
-        "device" => (Entry::Device, Entry::Device),
-        "replaced" => (Entry::File, Entry::Device),
-        _ => (Entry::File, Entry::File),
-    }
-}
-
 /// A folder by a word for it, its entries' name, their count and an error, and what is read of it: `files`; entries that
 /// are each a `folder` or a `device`, or become one (`replaced`); a folder that the system does not describe (`lost`) or
 /// not list (`closed`), an entry that it does not describe (`hidden`), or a source that cannot be read to its end
 /// (`broken`).
-fn row_of(line: &str) -> Option<(Folder, &str)> {
-    let (kind, rest) = line.split_once('|')?;
-    let (name, rest) = rest.split_once('|')?;
-    let (entries, rest) = rest.split_once('|')?;
-    let (error, wanted) = rest.split_once('|')?;
-    let name = name_of(name)?;
-    let count = entries.parse().ok()?;
+fn row_of<R: Abort>(rt: &R, line: &'static str) -> (Folder, &'static str) {
+    let (kind, rest) = field(rt, line);
+    let (name, rest) = field(rt, rest);
+    let (entries, rest) = field(rt, rest);
+    let (error, wanted) = field(rt, rest);
+    let name = name_of(name).expect(rt, "a name");
+    let entries = entries.parse().expect(rt, "a count");
     let error = error_of(error);
-    let (entry, opened) = entries_of(kind);
     let folder = Folder {
+        kind,
         name,
-        entries: count,
-        lost: if kind == "lost" { error } else { None },
-        closed: if kind == "closed" { error } else { None },
-        hidden: if kind == "hidden" { error } else { None },
-        entry,
-        opened,
-        broken: if kind == "broken" { error } else { None },
+        entries,
+        error,
     };
-    Some((folder, wanted))
+    (folder, wanted)
 }
 
 /// A folder that changes while it is listed may give an entry twice.
@@ -318,11 +321,11 @@ device|a.txt|1|none|";
 
 /// A build that isn't optimized takes some minutes for the rows of 1,048,576 entries.
 #[test]
-fn feigned_folders_are_read(rt: HostRuntime) -> Result<(), Fail> {
+fn feigned_folders_are_read(rt: HostRuntime) {
+    let limits = Limits::standard();
     for line in ROWS.lines() {
-        let (folder, wanted) = row_of(line).ok_or("a row")?;
-        let shown = told(&Fake { rt: &rt, folder }, ROOT, &Limits::standard())?;
-        assert!(rt; shown.as_str() == wanted, "{line}: {shown}");
+        let (folder, wanted) = row_of(&rt, line);
+        let shown = told(&Fake { rt: &rt, folder }, ROOT, &limits);
+        assert!(rt; shown.expect(&rt, "memory").as_str() == wanted, "{line}");
     }
-    Ok(())
 }

@@ -6,11 +6,10 @@ use source_folder::{
     sources_in,
 };
 use std::alloc::{AllocError, AllocGlobal, Global};
+use std::fs;
 use std::os::unix::fs::symlink;
 use std::process::Abort;
 use std::rt::Files;
-use std::test::Fail;
-use std::{fs, io};
 
 /// Puts a text behind what is shown.
 fn put_text(shown: &mut String, text: &[u8]) -> Result<(), AllocError> {
@@ -70,17 +69,28 @@ pub(super) fn told<R: Files + AllocGlobal>(
     }
 }
 
-/// The names of the sources of a folder, a `;` behind each, or the trouble.
-fn names<R: Files + AllocGlobal>(rt: &R, root: &str) -> Result<String, AllocError> {
-    let names = match source_names(rt, root) {
-        Ok(names) => names,
-        Err(trouble) => return trouble_shown(rt.alloc(), &trouble),
-    };
-    let mut shown = String::new(rt.alloc());
-    for name in &names {
+/// Names, a `;` behind each.
+fn names_shown(alloc: Global, names: &[String]) -> Result<String, AllocError> {
+    let mut shown = String::new(alloc);
+    for name in names {
         shown.push_str(name.as_str())?;
         shown.push(';')?;
     }
+    Ok(shown)
+}
+
+/// The names of the sources of a folder, or the trouble.
+fn names<R: Files + AllocGlobal>(rt: &R, root: &str) -> Result<String, AllocError> {
+    match source_names(rt, root) {
+        Ok(names) => names_shown(rt.alloc(), &names),
+        Err(trouble) => trouble_shown(rt.alloc(), &trouble),
+    }
+}
+
+/// A text behind `=`.
+fn text_shown(alloc: Global, text: &[u8]) -> Result<String, AllocError> {
+    let mut shown = String::new(alloc);
+    put_text(&mut shown, text)?;
     Ok(shown)
 }
 
@@ -91,12 +101,10 @@ fn listed<R: Files + AllocGlobal>(
     limits: &Limits,
 ) -> Result<String, AllocError> {
     let (root, name) = path.split_once('>').unwrap_or((path, ""));
-    let mut shown = String::new(rt.alloc());
     match listed_text(rt, root, name, limits) {
-        Ok(text) => put_text(&mut shown, &text)?,
-        Err(trouble) => return trouble_shown(rt.alloc(), &trouble),
+        Ok(text) => text_shown(rt.alloc(), &text),
+        Err(trouble) => trouble_shown(rt.alloc(), &trouble),
     }
-    Ok(shown)
 }
 
 /// What is read of the source of a name, behind a root and `>`: its text behind `=`, `none`, or the trouble.
@@ -106,72 +114,78 @@ fn source<R: Files + AllocGlobal>(
     limits: &Limits,
 ) -> Result<String, AllocError> {
     let (root, name) = path.split_once('>').unwrap_or((path, ""));
-    let mut shown = String::new(rt.alloc());
     match read_source(rt, root, name, limits) {
-        Ok(Some(text)) => put_text(&mut shown, &text)?,
-        Ok(None) => shown.push_str("none")?,
-        Err(trouble) => return trouble_shown(rt.alloc(), &trouble),
+        Ok(Some(text)) => text_shown(rt.alloc(), &text),
+        Ok(None) => String::from_str(rt.alloc(), "none"),
+        Err(trouble) => trouble_shown(rt.alloc(), &trouble),
     }
-    Ok(shown)
 }
 
 /// What is done to folders: a `folder`, a `file` of a text or a `link` to a path is made there; a root is `read` with so
 /// many bytes of a file at most, which gives this text or fault, or `told`, which tells the trouble too, or its `names` are
 /// listed; or a `source` is read, or one that is `listed`.
 #[derive(Clone, Copy)]
-struct Step<'t> {
-    action: &'t str,
-    path: &'t str,
+struct Step {
+    action: &'static str,
+    path: &'static str,
     most: u64,
-    text: &'t str,
+    text: &'static str,
 }
 
-fn step_of(line: &str) -> Option<Step<'_>> {
-    let (action, rest) = line.split_once('|')?;
-    let (path, rest) = rest.split_once('|')?;
-    let (most, text) = rest.split_once('|')?;
-    let most = most.parse().ok()?;
-    Some(Step {
+/// A line's first field, and what comes behind it.
+pub(super) fn field<R: Abort>(rt: &R, line: &'static str) -> (&'static str, &'static str) {
+    line.split_once('|').expect(rt, "a field")
+}
+
+fn step_of<R: Abort>(rt: &R, line: &'static str) -> Step {
+    let (action, rest) = field(rt, line);
+    let (path, rest) = field(rt, rest);
+    let (most, text) = field(rt, rest);
+    let most = most.parse().expect(rt, "a number");
+    Step {
         action,
         path,
         most,
         text,
-    })
+    }
 }
 
-/// Makes a folder, a file or a link.
-fn make<R: Files + AllocGlobal>(rt: &R, step: Step) -> io::Result<()> {
+/// What is read of a root or of a source.
+fn found<R: Files + AllocGlobal>(
+    rt: &R,
+    step: &Step,
+    limits: &Limits,
+) -> Result<String, AllocError> {
     match step.action {
-        "folder" => fs::create_dir_all(rt, step.path),
-        "file" => fs::write(rt, step.path, step.text),
-        _ => symlink(rt, step.text, step.path),
+        "read" => read(rt, step.path, limits),
+        "told" => told(rt, step.path, limits),
+        "names" => names(rt, step.path),
+        "listed" => listed(rt, step.path, limits),
+        _ => source(rt, step.path, limits),
     }
 }
 
 /// Whether what is read is what is wanted.
-fn is_read<R: Files + AllocGlobal>(rt: &R, step: Step) -> Result<bool, AllocError> {
-    let Some(limits) = Limits::standard().lowered(Limit::FileBytes, step.most) else {
-        return Ok(false);
-    };
-    let shown = match step.action {
-        "read" => read(rt, step.path, &limits)?,
-        "told" => told(rt, step.path, &limits)?,
-        "names" => names(rt, step.path)?,
-        "listed" => listed(rt, step.path, &limits)?,
-        _ => source(rt, step.path, &limits)?,
-    };
-    Ok(shown.as_str() == step.text)
+fn is_read<R: Files + AllocGlobal + Abort>(rt: &R, step: &Step) -> bool {
+    let limits = Limits::standard().lowered(Limit::FileBytes, step.most);
+    let found = found(rt, step, &limits.expect(rt, "limits"));
+    found.expect(rt, "memory").as_str() == step.text
+}
+
+/// Makes a folder, a file or a link, or compares what is read, and tells whether all went well.
+fn is_taken<R: Files + AllocGlobal + Abort>(rt: &R, step: &Step) -> bool {
+    match step.action {
+        "folder" => fs::create_dir_all(rt, step.path).is_ok(),
+        "file" => fs::write(rt, step.path, step.text).is_ok(),
+        "link" => symlink(rt, step.text, step.path).is_ok(),
+        _ => is_read(rt, step),
+    }
 }
 
 /// Takes a line's step.
-fn take<R: Files + AllocGlobal + Abort>(rt: &R, line: &str) -> Result<(), Fail> {
-    let step = step_of(line).ok_or("a step")?;
-    if matches!(step.action, "read" | "told" | "names" | "listed" | "source") {
-        assert!(rt; is_read(rt, step)?, "{line}");
-    } else {
-        make(rt, step)?;
-    }
-    Ok(())
+fn take<R: Files + AllocGlobal + Abort>(rt: &R, line: &'static str) {
+    let step = step_of(rt, line);
+    assert!(rt; is_taken(rt, &step), "{line}");
 }
 
 /// A root is a folder that is there. Links are followed, but not to a folder in which they lie. What cannot be listed comes
@@ -267,53 +281,60 @@ link|test_folder/above/root/in/up|0|../..\n\
 told|test_folder/above/root|4194304|Listing test_folder/above/root/in/up/root: a link that leads to a folder in which it lies";
 
 #[test]
-fn folders_are_read(rt: HostRuntime) -> Result<(), Fail> {
-    let _ = fs::remove_dir_all(&rt, "test_folder");
+fn folders_are_read(rt: HostRuntime) {
+    take_all(&rt);
+}
+
+/// Takes all steps in a new folder.
+fn take_all<R: Files + AllocGlobal + Abort>(rt: &R) {
+    let _ = fs::remove_dir_all(rt, "test_folder");
     for line in STEPS.lines() {
-        take(&rt, line)?;
+        take(rt, line);
     }
-    fs::remove_dir_all(&rt, "test_folder")?;
-    Ok(())
+    assert!(rt; fs::remove_dir_all(rt, "test_folder").is_ok());
 }
 
 /// A path of so many folders inside one another, below a root.
-fn deep_path(alloc: Global, root: &str, depth: u32) -> Result<String, AllocError> {
-    let mut path = String::from_str(alloc, root)?;
+fn deep_path<R: AllocGlobal + Abort>(rt: &R, root: &str, depth: u32) -> String {
+    let mut path = String::from_str(rt.alloc(), root).expect(rt, "memory");
     for _ in 0..depth {
-        path.push_str("/d")?;
+        path.push_str("/d").expect(rt, "memory");
     }
-    Ok(path)
+    path
 }
 
 /// Makes so many folders inside one another, and a file in the last one.
-fn make_deep_file<R: Files + AllocGlobal>(rt: &R, root: &str, depth: u32) -> Result<(), Fail> {
-    let mut path = deep_path(rt.alloc(), root, depth)?;
-    fs::create_dir_all(rt, path.as_str())?;
-    path.push_str("/f.proto")?;
-    fs::write(rt, path.as_str(), "text")?;
-    Ok(())
+fn make_deep_file<R: Files + AllocGlobal + Abort>(rt: &R, root: &str, depth: u32) {
+    let mut path = deep_path(rt, root, depth);
+    assert!(rt; fs::create_dir_all(rt, path.as_str()).is_ok());
+    path.push_str("/f.proto").expect(rt, "memory");
+    assert!(rt; fs::write(rt, path.as_str(), "text").is_ok());
 }
 
 /// Whether a file in the 64th folder is read.
-fn is_deep_file_read<R: Files + AllocGlobal>(rt: &R, root: &str) -> Result<bool, Fail> {
-    make_deep_file(rt, root, 64)?;
-    let shown = read(rt, root, &Limits::standard())?;
-    Ok(shown.ends_with("d/d/f.proto=text;"))
+fn is_deep_file_read<R: Files + AllocGlobal + Abort>(rt: &R, root: &str) -> bool {
+    make_deep_file(rt, root, 64);
+    let shown = read(rt, root, &Limits::standard()).expect(rt, "memory");
+    shown.ends_with("d/d/f.proto=text;")
 }
 
 /// Whether a 65th folder is refused.
-fn is_deeper_folder_refused<R: Files + AllocGlobal>(rt: &R, root: &str) -> Result<bool, Fail> {
-    let path = deep_path(rt.alloc(), root, 65)?;
-    fs::create_dir_all(rt, path.as_str())?;
-    Ok(read(rt, root, &Limits::standard())?.as_str() == "Listing")
+fn is_deeper_folder_refused<R: Files + AllocGlobal + Abort>(rt: &R, root: &str) -> bool {
+    let path = deep_path(rt, root, 65);
+    assert!(rt; fs::create_dir_all(rt, path.as_str()).is_ok());
+    let shown = read(rt, root, &Limits::standard()).expect(rt, "memory");
+    shown.as_str() == "Listing"
+}
+
+/// Reads folders inside one another, as many as there may be, and one more.
+fn read_deep_folders<R: Files + AllocGlobal + Abort>(rt: &R, root: &str) {
+    let _ = fs::remove_dir_all(rt, root);
+    assert!(rt; is_deep_file_read(rt, root));
+    assert!(rt; is_deeper_folder_refused(rt, root));
+    assert!(rt; fs::remove_dir_all(rt, root).is_ok());
 }
 
 #[test]
-fn a_folder_is_at_most_64_folders_deep(rt: HostRuntime) -> Result<(), Fail> {
-    let root = "test_folder_deep";
-    let _ = fs::remove_dir_all(&rt, root);
-    assert!(rt; is_deep_file_read(&rt, root)?);
-    assert!(rt; is_deeper_folder_refused(&rt, root)?);
-    fs::remove_dir_all(&rt, root)?;
-    Ok(())
+fn a_folder_is_at_most_64_folders_deep(rt: HostRuntime) {
+    read_deep_folders(&rt, "test_folder_deep");
 }

@@ -3,8 +3,8 @@
 ghost use Rattle.std.specs.Prelude.{◌≡◌, ◌<◌, length};
 
 use share_work::{Least, LeastSeat, LeastTable, NONE, calls_replay};
+use std::alloc::AllocGlobal;
 use std::process::Abort;
-use std::test::Fail;
 use std::thread::{self, Threads};
 
 /// How often a thread looks before the test fails.
@@ -104,18 +104,22 @@ fn kept_open<R: Abort>(rt: &R, table: LeastTable, seat: LeastSeat) -> (LeastTabl
     back
 }
 
+/// The word of a table at which two threads post these numbers.
+fn least_of<R: Threads + AllocGlobal + Abort>(rt: &R, first: u64, second: u64) -> u64
+    requires { (first < NONE) × (second < NONE) }
+{
+    let (table, mut seat) = LeastTable::new(rt.alloc(), 1).expect(rt, "memory");
+    let other = table.split(&mut seat, 1);
+    let (seat, other) = post_both(rt, &table, (seat, other), (first, second));
+    let (table, mut seat) = kept_open(rt, table, seat);
+    table.join(&mut seat, other);
+    closed(rt, table, seat).get(0)
+}
+
 #[test]
-fn two_threads(rt: HostRuntime) -> Result<(), Fail> {
-    for (first, second) in [(5, 3), (5, 5)] {
-        let (table, mut seat) = LeastTable::new(rt.alloc(), 1)?;
-        let other = table.split(&mut seat, 1);
-        let (seat, other) = post_both(&rt, &table, (seat, other), (first, second));
-        let (table, mut seat) = kept_open(&rt, table, seat);
-        table.join(&mut seat, other);
-        let words = closed(&rt, table, seat);
-        assert!(rt; words.get(0) == first.min(second), "{first} and {second}");
-    }
-    Ok(())
+fn two_threads(rt: HostRuntime) {
+    assert!(rt; least_of(&rt, 5, 3) == 3);
+    assert!(rt; least_of(&rt, 5, 5) == 5);
 }
 
 /// Posts of two seats at several words, and what is seen then.
@@ -142,27 +146,28 @@ fn post_and_look<R: Abort>(rt: &R, table: &LeastTable, seat: &mut LeastSeat, oth
 
 /// Posts, looks and joins of one thread at several words.
 #[test]
-fn one_thread(rt: HostRuntime) -> Result<(), Fail> {
+fn one_thread(rt: HostRuntime) {
     calls_replay();
-    let (table, mut seat) = LeastTable::new(rt.alloc(), 3)?;
+    let (table, mut seat) = LeastTable::new(rt.alloc(), 3).expect(&rt, "memory");
     let mut other = table.split(&mut seat, 1);
     post_and_look(&rt, &table, &mut seat, &mut other);
     table.join(&mut seat, other);
     let words = closed(&rt, table, seat);
     assert!(rt; words.get(0) == 3 && words.get(1) == NONE && words.get(2) == 1);
-    Ok(())
 }
 
-/// A seat that is split off and dropped keeps the table open, also one without words.
+/// A seat that is split off and dropped keeps a table of so many words open.
+fn stays_open<R: AllocGlobal + Abort>(rt: &R, count: usize) {
+    let (table, mut seat) = LeastTable::new(rt.alloc(), count).expect(rt, "memory");
+    assert!(rt; seat.parts() == 1 << 32);
+    drop(table.split(&mut seat, 7));
+    let (table, seat) = kept_open(rt, table, seat);
+    assert!(rt; seat.parts() == (1 << 32) - 7);
+    kept_open(rt, table, seat);
+}
+
 #[test]
-fn dropped_seat(rt: HostRuntime) -> Result<(), Fail> {
-    for count in [0, 3] {
-        let (table, mut seat) = LeastTable::new(rt.alloc(), count)?;
-        assert!(rt; seat.parts() == 1 << 32);
-        drop(table.split(&mut seat, 7));
-        let (table, seat) = kept_open(&rt, table, seat);
-        assert!(rt; seat.parts() == (1 << 32) - 7);
-        kept_open(&rt, table, seat);
-    }
-    Ok(())
+fn dropped_seat(rt: HostRuntime) {
+    stays_open(&rt, 0);
+    stays_open(&rt, 3);
 }

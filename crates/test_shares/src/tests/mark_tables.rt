@@ -5,7 +5,6 @@ ghost use Rattle.std.specs.Prelude.{◌≡◌, ◌<◌, length};
 use share_samples::two_files::Two;
 use share_work::{Least, MarkSeat, MarkTable, NONE};
 use std::process::Abort;
-use std::test::Fail;
 use std::thread::{Threads, join_mut};
 
 /// Marks file 0.
@@ -49,9 +48,9 @@ fn closed<R: Abort>(rt: &R, table: MarkTable<'_, Two>, seat: MarkSeat) -> Least
 }
 
 #[test]
-fn one_seat(rt: HostRuntime) -> Result<(), Fail> {
+fn one_seat(rt: HostRuntime) {
     let reach = Two;
-    let (table, mut seat) = MarkTable::new(rt.alloc(), &reach)?;
+    let (table, mut seat) = MarkTable::new(rt.alloc(), &reach).expect(&rt, "memory");
     let answers = [
         table.mark(&mut seat, 0, 5),
         table.mark(&mut seat, 0, 7),
@@ -61,7 +60,6 @@ fn one_seat(rt: HostRuntime) -> Result<(), Fail> {
     assert!(rt; answers == [NONE, 5, 5, 5]);
     let words = closed(&rt, table, seat);
     assert!(rt; words.get(0) == 4 && words.get(1) == 3);
-    Ok(())
 }
 
 /// Joins seats, which only then close their table.
@@ -82,23 +80,21 @@ fn close_joined<R: Abort>(
 }
 
 #[test]
-fn two_threads(rt: HostRuntime) -> Result<(), Fail> {
+fn two_threads(rt: HostRuntime) {
     let reach = Two;
-    let (table, mut seat) = MarkTable::new(rt.alloc(), &reach)?;
+    let (table, mut seat) = MarkTable::new(rt.alloc(), &reach).expect(&rt, "memory");
     let mut other = table.split(&mut seat, 1);
     assert!(rt; seat.parts() == (1 << 32) - 1 && other.parts() == 1);
     mark_both(&rt, &table, &mut seat, &mut other);
     let words = close_joined(&rt, table, seat, other);
     assert!(rt; words.get(0) == 3 && words.get(1) == 3);
-    Ok(())
 }
 
 /// A seat that is split off and dropped keeps the table open.
 #[test]
-fn dropped_seat(rt: HostRuntime) -> Result<(), Fail> {
+fn dropped_seat(rt: HostRuntime) {
     let reach = Two;
-    let (table, mut seat) = MarkTable::new(rt.alloc(), &reach)?;
+    let (table, mut seat) = MarkTable::new(rt.alloc(), &reach).expect(&rt, "memory");
     drop(table.split(&mut seat, 7));
     assert!(rt; table.close(seat).is_err());
-    Ok(())
 }

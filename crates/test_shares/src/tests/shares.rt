@@ -1,6 +1,6 @@
 //! Works in shares: the order of the outs, each worker's items, threads that meet, and a work that is refused.
 
-ghost use Rattle.std.specs.Prelude.{⊤, ◌≡◌, ◌<◌, All, IfOk, length};
+ghost use Rattle.std.specs.Prelude.{⊤, ◌≡◌, ◌<◌, All, length};
 
 use super::least_tables::closed;
 use share_samples::posting::{Posting, join_seats, two_seats};
@@ -8,7 +8,6 @@ use share_work::{Gate, LeastSeat, LeastTable, NoGate, Plan, Work, in_shares};
 use std::alloc::{AllocError, AllocGlobal, Global};
 use std::process::Abort;
 use std::sync::atomic::{AtomicU64, Ordering};
-use std::test::Fail;
 use std::thread::Threads;
 
 /// How often a thread looks for the other before the test fails.
@@ -77,12 +76,12 @@ impl Gate for Entries {
 }
 
 /// That many items.
-fn items_of(alloc: Global, count: u32) -> Result<Vec<u32>, AllocError> {
-    let mut items = Vec::new(alloc);
+fn items_of<R: AllocGlobal + Abort>(rt: &R, count: u32) -> Vec<u32> {
+    let mut items = Vec::new(rt.alloc());
     for i in 0..count {
-        items.push(i.wrapping_mul(7))?;
+        items.push(i.wrapping_mul(7)).expect(rt, "memory");
     }
-    Ok(items)
+    items
 }
 
 /// Shares out that many items in phase 4, and compares the outs with them.
@@ -92,17 +91,12 @@ fn share_items<R: Threads + AllocGlobal + Abort + Sync>(
     count: u32,
     gate: &Entries,
     seats: &mut [u64],
-) -> Result<(), Fail>
+)
     requires { length seats.old ≡ plan.workers }
 {
-    let items = items_of(rt.alloc(), count)?;
-    let outs = in_shares(rt, plan, 4, gate, items.as_slice(), &Places, seats)?;
-    let (workers, cut) = (plan.workers(), plan.cut());
-    assert!(rt;
-        outs == items,
-        "{workers} workers, cut {cut}, {count} items"
-    );
-    Ok(())
+    let items = items_of(rt, count);
+    let outs = in_shares(rt, plan, 4, gate, items.as_slice(), &Places, seats);
+    assert!(rt; outs.expect(rt, "memory") == items, "{count} items");
 }
 
 /// Shares out that many items, and gives each worker's places.
@@ -112,11 +106,12 @@ fn shared<R: Threads + AllocGlobal + Abort + Sync>(
     cut: u32,
     count: u32,
     gate: &Entries,
-) -> Result<Vec<u64>, Fail> {
-    let plan = Plan::new(workers, cut).ok_or("a plan")?;
-    let mut seats = Vec::from_elem(rt.alloc(), 1, plan.workers() as usize)?;
-    share_items(rt, plan, count, gate, seats.as_mut_slice())?;
-    Ok(seats)
+) -> Vec<u64> {
+    let plan = Plan::new(workers, cut).expect(rt, "a plan");
+    let seats = Vec::from_elem(rt.alloc(), 1, plan.workers() as usize);
+    let mut seats = seats.expect(rt, "memory");
+    share_items(rt, plan, count, gate, seats.as_mut_slice());
+    seats
 }
 
 /// Workers, a cut and a count of items, and the pieces that these are.
@@ -132,30 +127,25 @@ static PIECES: [(u32, u32, u32, u64); 7] = [
 
 /// The outs come in the order of the items, and each piece enters the gate once.
 #[test]
-fn outs_in_order(rt: HostRuntime) -> Result<(), Fail> {
+fn outs_in_order(rt: HostRuntime) {
     for (workers, cut, count, pieces) in &PIECES {
         let gate = Entries::new();
-        shared(&rt, *workers, *cut, *count, &gate)?;
+        shared(&rt, *workers, *cut, *count, &gate);
         let entered = gate.count.load(Ordering::SeqCst);
-        assert!(rt;
-            entered == *pieces,
-            "{workers} workers, cut {cut}, {count} items: {entered}"
-        );
+        assert!(rt; entered == *pieces, "{workers} workers, cut {cut}");
     }
-    Ok(())
 }
 
 /// Eleven items in pieces of two, for three workers: pieces 0 and 3, 1 and 4, 2 and 5.
 #[test]
-fn items_of_workers(rt: HostRuntime) -> Result<(), Fail> {
+fn items_of_workers(rt: HostRuntime) {
     let gate = Entries::new();
-    let seats = shared(&rt, 3, 2, 11, &gate)?;
+    let seats = shared(&rt, 3, 2, 11, &gate);
     assert!(rt; seats.as_slice() == [0x1_0167, 0x1_2389, 0x145A].as_slice());
     let entered = gate.count.load(Ordering::SeqCst);
     let pieces = gate.pieces.load(Ordering::SeqCst);
     let phases = gate.phases.load(Ordering::SeqCst);
     assert!(rt; entered == 6 && pieces == 0b11_1111 && phases == 4);
-    Ok(())
 }
 
 /// Lets item 0 wait until item 1 has begun, either as the gate of their pieces or as the work.
@@ -230,32 +220,29 @@ impl Work<u32> for Meeting {
 }
 
 /// Whether both items were given, and the first one's worker saw the other one begin.
-fn are_met<R, G>(rt: &R, gate: &G, meeting: &Meeting, seats: &mut [u64]) -> Result<bool, Fail>
+fn are_met<R, G>(rt: &R, gate: &G, meeting: &Meeting, seats: &mut [u64]) -> bool
 where
-    R: Threads + AllocGlobal + Sync,
+    R: Threads + AllocGlobal + Abort + Sync,
     G: Gate + Sync,
     requires { length seats.old ≡ 2 }
 {
-    let plan = Plan::new(2, 1).ok_or("a plan")?;
-    let outs = in_shares(rt, plan, 1, gate, &[5, 6], meeting, seats)?;
-    let missed = meeting.missed.load(Ordering::SeqCst);
-    Ok(outs.as_slice() == [5, 6].as_slice() && missed == 0)
+    let plan = Plan::new(2, 1).expect(rt, "a plan");
+    let outs = in_shares(rt, plan, 1, gate, &[5, 6], meeting, seats).expect(rt, "memory");
+    outs.as_slice() == [5, 6].as_slice() && meeting.missed.load(Ordering::SeqCst) == 0
 }
 
 /// The work of the first of two items can end only where the other one's worker is at work beside it.
 #[test]
-fn works_meet(rt: HostRuntime) -> Result<(), Fail> {
+fn works_meet(rt: HostRuntime) {
     let work = Meeting::new(false);
-    assert!(rt; are_met(&rt, &NoGate, &work, &mut [1, 1])?);
-    Ok(())
+    assert!(rt; are_met(&rt, &NoGate, &work, &mut [1, 1]));
 }
 
 /// The first of two pieces can pass the gate only where the other one's worker has come there too.
 #[test]
-fn workers_meet(rt: HostRuntime) -> Result<(), Fail> {
+fn workers_meet(rt: HostRuntime) {
     let gate = Meeting::new(true);
-    assert!(rt; are_met(&rt, &gate, &gate, &mut [1, 1])?);
-    Ok(())
+    assert!(rt; are_met(&rt, &gate, &gate, &mut [1, 1]));
 }
 
 /// The number that is refused, and the least of the others.
@@ -267,16 +254,15 @@ fn post_in_shares<R: Threads + AllocGlobal + Abort + Sync>(
     table: &LeastTable,
     seats: &mut [LeastSeat],
     refused: u64,
-) -> Result<(), Fail>
+)
     requires sizes { (0 < table.now.count) × (length seats.old ≡ 2) }
     requires tables { All (λ s. s.table ≡ table.now.table) seats.old }
     ensures { All (λ s. s.table ≡ table.now.table) seats.new }
 {
-    let plan = Plan::new(2, 1).ok_or("a plan")?;
+    let plan = Plan::new(2, 1).expect(rt, "a plan");
     let work = Posting { table, refused };
     let outs = in_shares(rt, plan, 1, &NoGate, &[9, 3, 5], &work, seats);
-    assert!(rt; outs.is_err() == (refused < 100), "{refused}");
-    Ok(())
+    assert!(rt; outs.is_err() == (refused < 100));
 }
 
 /// The seat of all parts, after two workers posted.
@@ -285,23 +271,26 @@ fn seat_after_shares<R: Threads + AllocGlobal + Abort + Sync>(
     table: &LeastTable,
     seat: LeastSeat,
     refused: u64,
-) -> Result<LeastSeat, Fail>
+) -> LeastSeat
     requires { (0 < table.now.count) × (seat.table ≡ table.now.table) × (1 < seat.view.parts) }
-    ensures { IfOk result (λ s. s.table ≡ table.now.table) }
+    ensures { result.table ≡ table.now.table }
 {
-    let mut seats = two_seats(rt.alloc(), table, seat)?;
-    post_in_shares(rt, table, seats.as_mut_slice(), refused)?;
-    Ok(join_seats(table, seats).ok_or("a seat")?)
+    let mut seats = two_seats(rt.alloc(), table, seat).expect(rt, "memory");
+    post_in_shares(rt, table, seats.as_mut_slice(), refused);
+    join_seats(table, seats).expect(rt, "a seat")
+}
+
+/// The least number, where one is refused.
+fn least_without<R: Threads + AllocGlobal + Abort + Sync>(rt: &R, refused: u64) -> u64 {
+    let (table, seat) = LeastTable::new(rt.alloc(), 1).expect(rt, "memory");
+    let seat = seat_after_shares(rt, &table, seat, refused);
+    closed(rt, table, seat).get(0)
 }
 
 /// After a refusal the lent seats, joined, close their table.
 #[test]
-fn seats_after_a_refusal(rt: HostRuntime) -> Result<(), Fail> {
+fn seats_after_a_refusal(rt: HostRuntime) {
     for (refused, least) in &REFUSED {
-        let (table, seat) = LeastTable::new(rt.alloc(), 1)?;
-        let seat = seat_after_shares(&rt, &table, seat, *refused)?;
-        let words = closed(&rt, table, seat);
-        assert!(rt; words.get(0) == *least, "{refused}");
+        assert!(rt; least_without(&rt, *refused) == *least, "{refused}");
     }
-    Ok(())
 }

@@ -1,12 +1,12 @@
 //! Places, kinds, limits and faults, and the list and the text of trees.
 
+use super::expect;
 use proto_base::row::Row;
 use proto_base::text::Text;
 use proto_base::{Fault, Kind, Limit, Limits, Place, line_column};
-use std::alloc::{AllocError, Global};
+use std::alloc::{AllocError, AllocGlobal, Global};
 use std::borrow::CowStr;
 use std::process::Abort;
-use std::test::Fail;
 
 /// Texts, offsets in them, and the lines and columns there.
 static PLACES: [(&[u8], u32, (u32, u32)); 11] = [
@@ -79,19 +79,18 @@ fn found_at(text: &[u8], offset: u32) -> Option<(u32, u32)> {
 
 #[test]
 fn places(rt: HostRuntime) {
-    for (row, (text, offset, wanted)) in PLACES.iter().enumerate() {
-        assert!(rt; found_at(text, *offset) == Some(*wanted), "place {row}");
+    for (text, offset, wanted) in &PLACES {
+        assert!(rt; found_at(text, *offset) == Some(*wanted), "{offset}");
     }
 }
 
 #[test]
-fn kinds(rt: HostRuntime) -> Result<(), Fail> {
+fn kinds(rt: HostRuntime) {
     for (kind, number, name) in &KINDS {
-        let shown = format!(in rt.alloc(); "{kind}")?;
-        let is_named = kind.name() == *name && shown.as_str() == *name;
-        assert!(rt; is_named && kind.number() == *number, "{name}: {shown}");
+        let shown = format!(in rt.alloc(); "{kind}").expect(&rt, "memory");
+        expect(&rt, name, shown.as_str(), name);
+        assert!(rt; kind.name() == *name && kind.number() == *number);
     }
-    Ok(())
 }
 
 /// Whether this is a limit's standard value, and it is lowered to nothing above it and not to 0.
@@ -111,26 +110,26 @@ fn is_standard(limit: Limit, value: u64) -> bool {
 }
 
 #[test]
-fn limits(rt: HostRuntime) -> Result<(), Fail> {
+fn limits(rt: HostRuntime) {
     for (limit, value) in &LIMITS {
         assert!(rt; is_standard(*limit, *value), "{limit:?}");
     }
-    Ok(())
 }
 
 /// The faults of the table.
-fn faults(alloc: Global) -> Result<Vec<Fault>, AllocError> {
-    let mut faults = Vec::with_capacity(alloc, FAULTS.len())?;
+fn faults<R: AllocGlobal + Abort>(rt: &R) -> Vec<Fault> {
+    let mut faults = Vec::new(rt.alloc());
     for (pass, file, step, offset, kind) in &FAULTS {
-        faults.push(Fault {
+        let fault = Fault {
             pass: *pass,
-            file: String::from_str(alloc, file)?,
+            file: String::from_str(rt.alloc(), file).expect(rt, "memory"),
             step: *step,
             place: Place { offset: *offset },
             kind: *kind,
-        })?;
+        };
+        faults.push(fault).expect(rt, "memory");
     }
-    Ok(faults)
+    faults
 }
 
 /// Compares the order of the fault at a place with each with that of their places.
@@ -141,12 +140,11 @@ fn expect_order(rt: &impl Abort, faults: &[Fault], i: usize, fault: &Fault) {
 }
 
 #[test]
-fn order_of_faults(rt: HostRuntime) -> Result<(), Fail> {
-    let faults = faults(rt.alloc())?;
+fn order_of_faults(rt: HostRuntime) {
+    let faults = faults(&rt);
     for (i, fault) in faults.iter().enumerate() {
         expect_order(&rt, &faults, i, fault);
     }
-    Ok(())
 }
 
 /// Whether a copy of a text is `ab`, and is borrowed as the text is.
@@ -157,20 +155,18 @@ fn is_copied(alloc: Global, text: &Text, borrows: bool) -> Result<bool, AllocErr
 }
 
 #[test]
-fn texts(rt: HostRuntime) -> Result<(), Fail> {
-    assert!(rt; is_copied(rt.alloc(), &Text::borrowed("ab"), true)?);
-    let owned = Text::owned(String::from_str(rt.alloc(), "ab")?);
-    assert!(rt; is_copied(rt.alloc(), &owned, false)?);
-    Ok(())
+fn texts(rt: HostRuntime) {
+    assert!(rt; is_copied(rt.alloc(), &Text::borrowed("ab"), true) == Ok(true));
+    let owned = String::from_str(rt.alloc(), "ab").expect(&rt, "memory");
+    assert!(rt; is_copied(rt.alloc(), &Text::owned(owned), false) == Ok(true));
 }
 
 #[test]
-fn rows(rt: HostRuntime) -> Result<(), Fail> {
+fn rows(rt: HostRuntime) {
     let none: Row<u8> = Row::new(rt.alloc());
-    let row = Row::from_vec([1, 2, 3].to_vec(rt.alloc())?);
+    let row = Row::from_vec([1, 2, 3].to_vec(rt.alloc()).expect(&rt, "memory"));
     let place = row.iter().position(|item| *item == 2);
     assert!(rt; none.is_empty() && !row.is_empty() && row.len() == 3 && place == Some(1));
     assert!(rt; row.as_slice() == [1, 2, 3].as_slice());
     assert!(rt; row.into_vec().as_slice() == [1, 2, 3].as_slice());
-    Ok(())
 }

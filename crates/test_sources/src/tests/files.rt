@@ -1,6 +1,6 @@
 //! Files by themselves: what they describe, under the standard limits and under lower ones.
 
-use super::expect;
+use super::{expect, field};
 use proto_base::{Limit, Limits};
 use proto_desc::file::FileDesc;
 use proto_desc::is_resolved;
@@ -9,7 +9,6 @@ use proto_file::{FileError, describe};
 use std::alloc::{AllocError, AllocGlobal, Global};
 use std::borrow::CowStr;
 use std::process::Abort;
-use std::test::Fail;
 
 /// Whether the value of the first option, if there is one, is a text that is the source's own.
 fn lends(alloc: Global, options: &[OptionDesc]) -> Result<bool, AllocError> {
@@ -25,17 +24,14 @@ fn lends(alloc: Global, options: &[OptionDesc]) -> Result<bool, AllocError> {
 
 /// What is told of a descriptor: whether each name of a type is resolved, and whether the first option is lent.
 fn told(alloc: Global, file: &FileDesc) -> Result<String, AllocError> {
-    let resolved = if is_resolved(file) {
-        ""
-    } else {
-        ", with names"
+    let is_lent = lends(alloc, file.options.as_slice())?;
+    let words = match (is_resolved(file), is_lent) {
+        (true, false) => "a file",
+        (true, true) => "a file, lent",
+        (false, false) => "a file, with names",
+        (false, true) => "a file, with names, lent",
     };
-    let lent = if lends(alloc, file.options.as_slice())? {
-        ", lent"
-    } else {
-        ""
-    };
-    format!(in alloc; "a file{resolved}{lent}")
+    String::from_str(alloc, words)
 }
 
 /// What is told of the file that a text is, or the kind and the place of its fault, as `NameTooLong at 27`.
@@ -62,23 +58,22 @@ syntax = "proto3"; option java_package = "\x6A"; -> a file
 "##;
 
 #[test]
-fn described(rt: HostRuntime) -> Result<(), Fail> {
+fn described(rt: HostRuntime) {
     let standard = Limits::standard();
     for row in ROWS.lines() {
-        let (text, wanted) = row.split_once(" -> ").ok_or("a row")?;
-        let found = judged(rt.alloc(), text, &standard)?;
+        let (text, wanted) = row.split_once(" -> ").expect(&rt, "a row");
+        let found = judged(rt.alloc(), text, &standard).expect(&rt, "memory");
         expect(&rt, row, found.as_str(), wanted);
     }
-    Ok(())
 }
 
 /// A limit, the least that suffices for a source, and its fault under one less.
 #[derive(Clone, Copy)]
-struct LimitRow<'t> {
+struct LimitRow {
     limit: Limit,
     least: u64,
-    fault: &'t str,
-    text: &'t str,
+    fault: &'static str,
+    text: &'static str,
 }
 
 fn limit_of(name: &str) -> Option<Limit> {
@@ -91,18 +86,18 @@ fn limit_of(name: &str) -> Option<Limit> {
     }
 }
 
-fn row_of(line: &str) -> Option<LimitRow<'_>> {
-    let (limit, rest) = line.split_once('|')?;
-    let (least, rest) = rest.split_once('|')?;
-    let (fault, text) = rest.split_once('|')?;
-    let limit = limit_of(limit)?;
-    let least = least.parse().ok()?;
-    Some(LimitRow {
+fn row_of<R: Abort>(rt: &R, line: &'static str) -> LimitRow {
+    let (limit, rest) = field(rt, line);
+    let (least, rest) = field(rt, rest);
+    let (fault, text) = field(rt, rest);
+    let limit = limit_of(limit).expect(rt, "a limit");
+    let least = least.parse().expect(rt, "a number");
+    LimitRow {
         limit,
         least,
         fault,
         text,
-    })
+    }
 }
 
 /// The names of limits, the least that suffices, the fault under one less, and the source.
@@ -134,31 +129,25 @@ Depth|2|TooDeep at 31|syntax = 'proto3'; message A { message B {} }
 "##;
 
 /// What is told of a row's source where its limit has this value. No limit is 0.
-fn judged_at(alloc: Global, row: LimitRow, value: u64) -> Result<String, AllocError> {
+fn judged_at(alloc: Global, row: &LimitRow, value: u64) -> Result<String, AllocError> {
     match Limits::standard().lowered(row.limit, value) {
         Some(limits) => judged(alloc, row.text, &limits),
         None => String::from_str(alloc, "no limit"),
     }
 }
 
-/// Whether a row's source is a file under the least that suffices.
-fn is_enough(alloc: Global, row: LimitRow) -> Result<bool, AllocError> {
-    Ok(judged_at(alloc, row, row.least)?.starts_with("a file"))
-}
-
 /// Compares what is told under the least that suffices and under one less with what is wanted.
-fn compare<R: AllocGlobal + Abort>(rt: &R, line: &str) -> Result<(), Fail> {
-    let row = row_of(line).ok_or("a row")?;
-    assert!(rt; is_enough(rt.alloc(), row)?, "{line}");
-    let found = judged_at(rt.alloc(), row, row.least.saturating_sub(1))?;
-    expect(rt, line, found.as_str(), row.fault);
-    Ok(())
+fn compare<R: AllocGlobal + Abort>(rt: &R, row: &LimitRow) {
+    let enough = judged_at(rt.alloc(), row, row.least).expect(rt, "memory");
+    assert!(rt; enough.starts_with("a file"), "{}", row.text);
+    let found = judged_at(rt.alloc(), row, row.least.saturating_sub(1));
+    let found = found.expect(rt, "memory");
+    expect(rt, row.text, found.as_str(), row.fault);
 }
 
 #[test]
-fn limited(rt: HostRuntime) -> Result<(), Fail> {
+fn limited(rt: HostRuntime) {
     for line in LIMIT_ROWS.lines() {
-        compare(&rt, line)?;
+        compare(&rt, &row_of(&rt, line));
     }
-    Ok(())
 }

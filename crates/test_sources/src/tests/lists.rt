@@ -4,243 +4,264 @@
 ghost use Rattle.std.specs.Prelude.{◌≡◌, ◌<◌, length};
 ghost use Rattle.proto_links.specs.Linked.{count_of};
 
-use super::expect;
+use super::{expect, field};
 use proto_base::{Limit, Limits};
 use proto_desc::file::FileDesc;
 use proto_file::describe;
 use proto_links::{LinkError, Links, in_name_order, link};
-use proto_names::{NameError, NameIndex, ResolveError, Want};
-use std::alloc::{AllocError, AllocGlobal, Global};
+use proto_names::{Defined, NameError, NameIndex, ResolveError, Resolved, Want};
+use std::alloc::{AllocError, AllocGlobal};
 use std::process::Abort;
-use std::test::Fail;
 use std::thread::Threads;
 
 /// What is asked of files, and the answer: `links`, `names` of which so many may occur, `find` a full name, `services`,
 /// or what a name means in a scope of the file of this number, as a `type` or as a `message`.
 #[derive(Clone, Copy)]
-struct Row<'t> {
-    kind: &'t str,
+struct Row {
+    kind: &'static str,
     number: usize,
-    scope: &'t str,
-    name: &'t str,
-    answer: &'t str,
+    scope: &'static str,
+    name: &'static str,
+    answer: &'static str,
 }
 
 /// A line of five fields. What may come behind them says what it is about.
-fn row_of(line: &str) -> Option<Row<'_>> {
-    let (kind, rest) = line.split_once('|')?;
-    let (number, rest) = rest.split_once('|')?;
-    let (scope, rest) = rest.split_once('|')?;
-    let (name, rest) = rest.split_once('|')?;
+fn row_of<R: Abort>(rt: &R, line: &'static str) -> Row {
+    let (kind, rest) = field(rt, line);
+    let (number, rest) = field(rt, rest);
+    let (scope, rest) = field(rt, rest);
+    let (name, rest) = field(rt, rest);
     let (answer, _) = rest.split_once('|').unwrap_or((rest, ""));
-    let number = number.parse().ok()?;
-    Some(Row {
+    let number = number.parse().expect(rt, "a number");
+    Row {
         kind,
         number,
         scope,
         name,
         answer,
-    })
+    }
+}
+
+/// The name and the statements of a source.
+fn source_of<R: Abort>(rt: &R, line: &'static str) -> (&'static str, &'static str) {
+    line.split_once(':').expect(rt, "a name")
 }
 
 /// The texts of sources: their statements stand behind `syntax = "proto3"; `, which is 19 bytes long.
-fn texts_of(alloc: Global, sources: &str) -> Result<Vec<String>, Fail> {
-    let mut texts = Vec::new(alloc);
+fn texts_of<R: AllocGlobal + Abort>(rt: &R, sources: &'static str) -> Vec<String> {
+    let mut texts = Vec::new(rt.alloc());
     for line in sources.lines() {
-        let (_, statements) = line.split_once(':').ok_or("a name")?;
-        texts.push(format!(in alloc; "syntax = \"proto3\";{statements}")?)?;
+        let (_, statements) = source_of(rt, line);
+        let text = format!(in rt.alloc(); "syntax = \"proto3\";{statements}");
+        texts.push(text.expect(rt, "memory")).expect(rt, "memory");
     }
-    Ok(texts)
+    texts
 }
 
-/// Puts what a source of this line and text describes behind the files.
-fn put_file<'s>(
-    alloc: Global,
+/// Puts what a source of this name and text describes behind the files.
+fn put_file<'s, R: AllocGlobal + Abort>(
+    rt: &R,
     files: &mut Vec<FileDesc<'s>>,
-    line: &'s str,
+    name: &'s str,
     text: &'s str,
-) -> Result<(), Fail> {
-    let (name, _) = line.split_once(':').ok_or("a name")?;
-    match describe(alloc, name, text.as_bytes(), &Limits::standard()) {
-        Ok(file) => Ok(files.push(file)?),
-        Err(_) => Err("no file".into()),
-    }
+) {
+    let limits = Limits::standard();
+    let Ok(file) = describe(rt.alloc(), name, text.as_bytes(), &limits) else {
+        panic!(rt; "no file: {name}")
+    };
+    files.push(file).expect(rt, "memory");
 }
 
-/// What sources of these texts describe.
-fn files_of<'s>(
-    alloc: Global,
-    sources: &'s str,
+/// Puts what sources of these texts describe behind the files.
+fn put_files<'s, R: AllocGlobal + Abort>(
+    rt: &R,
+    files: &mut Vec<FileDesc<'s>>,
+    sources: &'static str,
     texts: &'s [String],
-) -> Result<Vec<FileDesc<'s>>, Fail> {
-    let mut files = Vec::new(alloc);
+) {
     for (line, text) in sources.lines().zip(texts) {
-        put_file(alloc, &mut files, line, text.as_str())?;
+        let (name, _) = source_of(rt, line);
+        put_file(rt, files, name, text.as_str());
     }
-    Ok(files)
 }
 
-/// The files of a list of numbers, as `1 0`.
-fn numbers(alloc: Global, files: &[usize]) -> Result<String, AllocError> {
-    let mut text = String::new(alloc);
+/// Puts the files of a list of numbers behind a text, as `1 0`.
+fn put_numbers<R: AllocGlobal + Abort>(rt: &R, text: &mut String, files: &[usize]) {
     for (place, file) in files.iter().enumerate() {
         let blank = if place == 0 { "" } else { " " };
-        text.push_str(format!(in alloc; "{blank}{file}")?.as_str())?;
+        write!(text, "{blank}{file}").expect(rt, "memory");
     }
-    Ok(text)
 }
 
-/// The files that a file sees.
-fn seen(alloc: Global, links: &Links, file: usize) -> Result<String, AllocError>
+/// Puts the files that a file sees behind a text.
+fn put_seen<R: AllocGlobal + Abort>(rt: &R, text: &mut String, links: &Links, file: usize)
     requires { file < count_of links.now }
 {
-    let mut seen = Vec::new(alloc);
+    let mut seen = Vec::new(rt.alloc());
     for other in 0..links.count() {
         if links.sees(file, other) {
-            seen.push(other)?;
+            seen.push(other).expect(rt, "memory");
         }
     }
-    numbers(alloc, &seen)
+    put_numbers(rt, text, &seen);
 }
 
-/// A file's rank, what it reaches and what it sees.
-fn shown_file(alloc: Global, links: &Links, file: usize) -> Result<String, AllocError>
+/// Puts a file's rank, what it reaches and what it sees behind a text.
+fn put_shown<R: AllocGlobal + Abort>(rt: &R, text: &mut String, links: &Links, file: usize)
     requires { file < count_of links.now }
 {
     let rank = links.rank(file);
-    let reach = numbers(alloc, links.reach(file))?;
-    let seen = seen(alloc, links, file)?;
-    format!(in alloc; "; {file}: rank {rank}, reaches {reach}, sees {seen}")
+    write!(text, "; {file}: rank {rank}, reaches ").expect(rt, "memory");
+    put_numbers(rt, text, links.reach(file));
+    text.push_str(", sees ").expect(rt, "memory");
+    put_seen(rt, text, links, file);
 }
 
 /// Links as a text: set order, and for each file its rank, what it reaches and what it sees.
-fn shown(alloc: Global, links: &Links) -> Result<String, AllocError> {
-    let order = numbers(alloc, links.set_order())?;
-    let mut text = format!(in alloc; "order {order}")?;
+fn shown<R: AllocGlobal + Abort>(rt: &R, links: &Links) -> String {
+    let mut text = String::from_str(rt.alloc(), "order ").expect(rt, "memory");
+    put_numbers(rt, &mut text, links.set_order());
     for file in 0..links.count() {
-        text.push_str(shown_file(alloc, links, file)?.as_str())?;
+        put_shown(rt, &mut text, links, file);
     }
-    Ok(text)
+    text
+}
+
+/// A text of its own.
+fn owned<R: AllocGlobal + Abort>(rt: &R, text: &str) -> String {
+    String::from_str(rt.alloc(), text).expect(rt, "memory")
 }
 
 /// What a full name is declared for, as `Message 0`.
-fn found(alloc: Global, index: &NameIndex, name: &str) -> Result<String, AllocError> {
-    match index.find(name) {
-        Some(defined) => format!(in alloc; "{:?} {}", defined.kind, defined.file),
-        None => String::from_str(alloc, "nothing"),
-    }
+fn found<R: AllocGlobal + Abort>(rt: &R, index: &NameIndex, name: &str) -> String {
+    let Some(Defined { kind, file }) = index.find(name) else {
+        return owned(rt, "nothing");
+    };
+    format!(in rt.alloc(); "{kind:?} {file}").expect(rt, "memory")
 }
 
 /// The services, as `a.S;b;`.
-fn services(alloc: Global, index: &NameIndex) -> Result<String, AllocError> {
-    let mut text = String::new(alloc);
+fn services<R: AllocGlobal + Abort>(rt: &R, index: &NameIndex) -> String {
+    let mut text = String::new(rt.alloc());
     for name in index.services() {
-        text.push_str(name.as_str())?;
-        text.push_str(";")?;
+        text.push_str(name.as_str()).expect(rt, "memory");
+        text.push(';').expect(rt, "memory");
     }
-    Ok(text)
+    text
 }
 
 /// The kind and the full name of the type that a name means, or why it is none.
-fn meaning(
-    alloc: Global,
+fn meaning<R: AllocGlobal + Abort>(
+    rt: &R,
     links: &Links,
     index: &NameIndex,
-    row: Row,
+    row: &Row,
     want: Want,
-) -> Result<String, AllocError>
+) -> String
     requires { count_of links.now ≡ index.now.files }
 {
-    if row.number >= links.count() {
-        return String::from_str(alloc, "no such file");
+    assert!(rt; row.number < links.count());
+    match index.resolve(rt.alloc(), links, row.number, row.scope, row.name, want) {
+        Ok(resolved) => type_shown(rt, &resolved),
+        Err(error) => owned(rt, why(&error)),
     }
-    match index.resolve(alloc, links, row.number, row.scope, row.name, want) {
-        Ok(resolved) => format!(in alloc; "{:?} {}", resolved.kind, resolved.full_name),
-        Err(ResolveError::TypeNotFound) => String::from_str(alloc, "not found"),
-        Err(ResolveError::TypeNotMessage) => String::from_str(alloc, "no message"),
-        Err(ResolveError::NoMemory) => Err(AllocError),
+}
+
+/// The kind and the full name of a type.
+fn type_shown<R: AllocGlobal + Abort>(rt: &R, resolved: &Resolved) -> String {
+    let (kind, name) = (resolved.kind, &resolved.full_name);
+    format!(in rt.alloc(); "{kind:?} {name}").expect(rt, "memory")
+}
+
+/// Why a name means no type.
+fn why(error: &ResolveError) -> &'static str {
+    match error {
+        ResolveError::TypeNotFound => "not found",
+        ResolveError::TypeNotMessage => "no message",
+        ResolveError::NoMemory => "no memory",
     }
 }
 
 /// The answer of files that are linked and indexed.
-fn indexed(alloc: Global, links: &Links, index: &NameIndex, row: Row) -> Result<String, AllocError>
+fn indexed<R: AllocGlobal + Abort>(rt: &R, links: &Links, index: &NameIndex, row: &Row) -> String
     requires { count_of links.now ≡ index.now.files }
 {
     match row.kind {
-        "links" => shown(alloc, links),
-        "names" => String::from_str(alloc, "built"),
-        "find" => found(alloc, index, row.name),
-        "services" => services(alloc, index),
-        "type" => meaning(alloc, links, index, row, Want::AnyType),
-        "message" => meaning(alloc, links, index, row, Want::MessageOnly),
-        _ => String::from_str(alloc, "no question"),
+        "links" => shown(rt, links),
+        "names" => owned(rt, "built"),
+        "find" => found(rt, index, row.name),
+        "services" => services(rt, index),
+        "type" => meaning(rt, links, index, row, Want::AnyType),
+        "message" => meaning(rt, links, index, row, Want::MessageOnly),
+        _ => owned(rt, "no question"),
     }
 }
 
 /// The limits for a question.
-fn limits_for(row: Row) -> Option<Limits> {
+fn limits_for<R: Abort>(rt: &R, row: &Row) -> Limits {
     let standard = Limits::standard();
     if row.kind == "names" {
-        standard.lowered(Limit::Names, row.number as u64)
+        let lowered = standard.lowered(Limit::Names, row.number as u64);
+        lowered.expect(rt, "limits")
     } else {
-        Some(standard)
+        standard
     }
 }
 
 /// The answer of files that are linked, or why they are not indexed.
-fn linked<R>(rt: &R, files: &[FileDesc], links: &Links, row: Row) -> Result<String, AllocError>
+fn linked<R>(rt: &R, files: &[FileDesc], links: &Links, row: &Row) -> String
 where
-    R: Threads + AllocGlobal + Sync,
+    R: Threads + AllocGlobal + Sync + Abort,
     requires { count_of links.now ≡ length files.now }
 {
-    let alloc = rt.alloc();
-    let Some(limits) = limits_for(row) else {
-        return String::from_str(alloc, "no such limit");
-    };
-    match NameIndex::build(rt, files, &limits) {
-        Ok(index) => indexed(alloc, links, &index, row),
-        Err(NameError::At(file, place)) => format!(in alloc; "{file} at {place}"),
-        Err(NameError::TooMany) => String::from_str(alloc, "too many"),
-        Err(NameError::NoMemory) => Err(AllocError),
+    match NameIndex::build(rt, files, &limits_for(rt, row)) {
+        Ok(index) => indexed(rt, links, &index, row),
+        Err(error) => unindexed(rt, &error),
     }
+}
+
+/// Why files are not indexed.
+fn unindexed<R: AllocGlobal + Abort>(rt: &R, error: &NameError) -> String {
+    match error {
+        NameError::At(file, place) => format!(in rt.alloc(); "{file} at {place}"),
+        NameError::TooMany => String::from_str(rt.alloc(), "too many"),
+        NameError::NoMemory => Err(AllocError),
+    }
+    .expect(rt, "memory")
 }
 
 /// The answer of files, or why they are not linked or not indexed.
-fn answer<R>(rt: &R, files: &[FileDesc], row: Row) -> Result<String, AllocError>
-where
-    R: Threads + AllocGlobal + Sync,
-{
-    let alloc = rt.alloc();
-    if !in_name_order(files) {
-        return String::from_str(alloc, "not in the order of the names");
-    }
-    match link(alloc, files) {
-        Ok(links) => linked(rt, files, &links, row),
-        Err(LinkError::At(file, place, kind)) => format!(in alloc; "{file} at {place}: {kind}"),
-        Err(LinkError::NoMemory) => Err(AllocError),
-    }
-}
-
-/// Compares the answer of files to a line with the one that is wanted.
-fn compare<R>(rt: &R, files: &[FileDesc], line: &str) -> Result<(), Fail>
+fn answer<R>(rt: &R, files: &[FileDesc], row: &Row) -> String
 where
     R: Threads + AllocGlobal + Sync + Abort,
 {
-    let row = row_of(line).ok_or("a row")?;
-    let found = answer(rt, files, row)?;
-    expect(rt, line, found.as_str(), row.answer);
-    Ok(())
+    if !in_name_order(files) {
+        return owned(rt, "not in the order of the names");
+    }
+    match link(rt.alloc(), files) {
+        Ok(links) => linked(rt, files, &links, row),
+        Err(error) => unlinked(rt, &error),
+    }
+}
+
+/// Why files are not linked.
+fn unlinked<R: AllocGlobal + Abort>(rt: &R, error: &LinkError) -> String {
+    match error {
+        LinkError::At(file, place, kind) => { format!(in rt.alloc(); "{file} at {place}: {kind}") }
+        LinkError::NoMemory => Err(AllocError),
+    }
+    .expect(rt, "memory")
 }
 
 /// Compares the answers of files with those that are wanted.
-fn compare_rows<R>(rt: &R, files: &[FileDesc], rows: &str) -> Result<(), Fail>
+fn compare_rows<R>(rt: &R, files: &[FileDesc], rows: &'static str)
 where
     R: Threads + AllocGlobal + Sync + Abort,
 {
     for line in rows.lines() {
-        compare(rt, files, line)?;
+        let row = row_of(rt, line);
+        expect(rt, line, answer(rt, files, &row).as_str(), row.answer);
     }
-    Ok(())
 }
 
 /// Groups, each of a title, files by their names and statements, and rows.
@@ -529,21 +550,21 @@ message|0|S|S|not found
 "##;
 
 /// Compares the answers of a group's sources with those that are wanted.
-fn compare_sources<R>(rt: &R, sources: &str, rows: &str) -> Result<(), Fail>
+fn compare_sources<R>(rt: &R, sources: &'static str, rows: &'static str)
 where
     R: Threads + AllocGlobal + Sync + Abort,
 {
-    let texts = texts_of(rt.alloc(), sources)?;
-    let files = files_of(rt.alloc(), sources, &texts)?;
-    compare_rows(rt, &files, rows)
+    let texts = texts_of(rt, sources);
+    let mut files = Vec::new(rt.alloc());
+    put_files(rt, &mut files, sources, &texts);
+    compare_rows(rt, &files, rows);
 }
 
 #[test]
-fn lists(rt: HostRuntime) -> Result<(), Fail> {
+fn lists(rt: HostRuntime) {
     for group in GROUPS.split("\n\n") {
-        let (_, group) = group.split_once('\n').ok_or("a title")?;
-        let (sources, rows) = group.split_once("--\n").ok_or("rows")?;
-        compare_sources(&rt, sources, rows)?;
+        let (_, group) = group.split_once('\n').expect(&rt, "a title");
+        let (sources, rows) = group.split_once("--\n").expect(&rt, "rows");
+        compare_sources(&rt, sources, rows);
     }
-    Ok(())
 }

@@ -4,7 +4,6 @@ use super::expect;
 use proto_lower::{entry_name, json_name, oneof_name};
 use std::alloc::AllocGlobal;
 use std::process::Abort;
-use std::test::Fail;
 
 /// Names of fields, and their JSON names.
 static JSON_NAMES: &str = "a_b=aB _a=A a_1b=a1b Ab_=Ab a__b=aB a_B=aB Ab=Ab __=";
@@ -21,35 +20,32 @@ static ONEOFS: [(&str, &[&str], &str); 5] = [
     ("_a", &["_a", "X_a"], "XX_a"),
 ];
 
-fn json_names<R: AllocGlobal + Abort>(rt: &R) -> Result<(), Fail> {
+fn json_names<R: AllocGlobal + Abort>(rt: &R) {
     for row in JSON_NAMES.split(' ') {
-        let (name, wanted) = row.split_once('=').ok_or("a row")?;
-        let made = json_name(rt.alloc(), name)?;
+        let (name, wanted) = row.split_once('=').expect(rt, "a row");
+        let made = json_name(rt.alloc(), name).expect(rt, "memory");
         expect(rt, row, made.as_str(), wanted);
     }
-    Ok(())
 }
 
-fn entries<R: AllocGlobal + Abort>(rt: &R) -> Result<(), Fail> {
+fn entries<R: AllocGlobal + Abort>(rt: &R) {
     for row in ENTRIES.split(' ') {
-        let (name, wanted) = row.split_once('=').ok_or("a row")?;
-        let made = entry_name(rt.alloc(), name)?;
+        let (name, wanted) = row.split_once('=').expect(rt, "a row");
+        let made = entry_name(rt.alloc(), name).expect(rt, "memory");
         expect(rt, row, made.as_str(), wanted);
     }
-    Ok(())
 }
 
-fn oneofs<R: AllocGlobal + Abort>(rt: &R) -> Result<(), Fail> {
+fn oneofs<R: AllocGlobal + Abort>(rt: &R) {
     for (name, taken, wanted) in &ONEOFS {
-        let made = oneof_name(rt.alloc(), name, taken)?;
+        let made = oneof_name(rt.alloc(), name, taken).expect(rt, "memory");
         expect(rt, name, made.as_str(), wanted);
     }
-    Ok(())
 }
 
 #[test]
-fn made_names(rt: HostRuntime) -> Result<(), Fail> {
-    json_names(&rt)?;
-    entries(&rt)?;
-    oneofs(&rt)
+fn made_names(rt: HostRuntime) {
+    json_names(&rt);
+    entries(&rt);
+    oneofs(&rt);
 }

@@ -4,34 +4,40 @@ use super::expect;
 use proto_base::{Kind, Limit, Limits, Place};
 use proto_syntax::ParseError;
 use proto_tokens::{Token, TokenError, TokenKind, Tokens, tokenize};
-use std::alloc::{AllocError, Global};
+use std::alloc::{AllocError, AllocGlobal, Global};
 use std::borrow::CowStr;
-use std::test::Fail;
+use std::process::Abort;
 
-/// A token with the bytes that it is. A string that is not the source's own is marked as made.
+/// A string literal. One that is not the source's own is marked as made.
+fn literal(alloc: Global, value: &CowStr) -> Result<String, AllocError> {
+    match value {
+        CowStr::Borrowed(value) => format!(in alloc; "'{value}'"),
+        CowStr::Owned(value) => format!(in alloc; "made '{value}'"),
+    }
+}
+
+/// What a token says.
+fn said(alloc: Global, kind: &TokenKind) -> Result<String, AllocError> {
+    match kind {
+        TokenKind::Identifier(name) => String::from_str(alloc, name),
+        TokenKind::Number(value) => format!(in alloc; "#{value}"),
+        TokenKind::StringLiteral(value) => literal(alloc, value),
+        TokenKind::Punctuation(mark) => format!(in alloc; "{mark}"),
+    }
+}
+
+/// A token with the bytes that it is, a blank before it.
 fn shown(alloc: Global, token: &Token) -> Result<String, AllocError> {
     let start = token.span.start;
     let end = token.span.end;
-    match &token.kind {
-        TokenKind::Identifier(name) => format!(in alloc; "{start}-{end} {name}"),
-        TokenKind::Number(value) => format!(in alloc; "{start}-{end} #{value}"),
-        TokenKind::StringLiteral(CowStr::Borrowed(value)) => {
-            format!(in alloc; "{start}-{end} '{value}'")
-        }
-        TokenKind::StringLiteral(CowStr::Owned(value)) => {
-            format!(in alloc; "{start}-{end} made '{value}'")
-        }
-        TokenKind::Punctuation(mark) => format!(in alloc; "{start}-{end} {mark}"),
-    }
+    let said = said(alloc, &token.kind)?;
+    format!(in alloc; " {start}-{end} {said}")
 }
 
 /// Tokens in one line.
 fn line_of(alloc: Global, tokens: &[Token]) -> Result<String, AllocError> {
     let mut line = String::new(alloc);
     for token in tokens {
-        if !line.is_empty() {
-            line.push_str(" ")?;
-        }
         line.push_str(shown(alloc, token)?.as_str())?;
     }
     Ok(line)
@@ -134,34 +140,35 @@ static AT_LIMIT: [(&[u8], &str); 5] = [
     (b"\x01\x01\x01", "FileTooLong at 0"),
 ];
 
+/// Compares what is told of a source with what is wanted.
+fn compare<R: AllocGlobal + Abort>(rt: &R, text: &[u8], limits: &Limits, wanted: &str) {
+    let found = answer(rt.alloc(), text, limits).expect(rt, "memory");
+    expect(rt, wanted, found.as_str().trim_start(), wanted);
+}
+
 #[test]
-fn tokens(rt: HostRuntime) -> Result<(), Fail> {
+fn tokens(rt: HostRuntime) {
     let standard = Limits::standard();
     for row in ROWS.split("\n\n") {
-        let (text, wanted) = row.split_once(" -> ").ok_or("a row")?;
-        let found = answer(rt.alloc(), text.as_bytes(), &standard)?;
-        expect(&rt, row, found.as_str(), wanted);
+        let (text, wanted) = row.split_once(" -> ").expect(&rt, "a row");
+        compare(&rt, text.as_bytes(), &standard, wanted);
     }
-    Ok(())
 }
 
 #[test]
-fn tokens_at_a_limit(rt: HostRuntime) -> Result<(), Fail> {
-    let standard = Limits::standard();
-    let short = standard.lowered(Limit::FileBytes, 2).ok_or("a limit")?;
+fn tokens_at_a_limit(rt: HostRuntime) {
+    let short = Limits::standard().lowered(Limit::FileBytes, 2);
+    let short = short.expect(&rt, "a limit");
     for (text, wanted) in &AT_LIMIT {
-        let found = answer(rt.alloc(), text, &short)?;
-        assert!(rt; found.as_str() == *wanted, "{text:?}: {found}");
+        compare(&rt, text, &short, wanted);
     }
-    Ok(())
 }
 
 #[test]
-fn errors(rt: HostRuntime) -> Result<(), Fail> {
+fn errors(rt: HostRuntime) {
     let fault = TokenError::At(Place { offset: 7 }, Kind::BadByte);
     let refused = TokenError::NoMemory;
     let unfit = ParseError::At(Place { offset: 7 }, Kind::TooDeep);
-    let text = format!(in rt.alloc(); "{fault}, {refused}, {unfit}")?;
+    let text = format!(in rt.alloc(); "{fault}, {refused}, {unfit}").expect(&rt, "memory");
     assert!(rt; text.as_str() == "BadByte at byte 7, out of memory, TooDeep at byte 7");
-    Ok(())
 }
