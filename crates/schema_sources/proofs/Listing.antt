@@ -4,7 +4,7 @@ use Rattle.std.specs.Prelude.{Ok, Err, Some, None}
 use Rattle.std.specs.List.{AllZip, Contains}
 use Rattle.std.proofs.lemmas.List.{drop_more, map-append, take-append-drop}
 use Rattle.std.proofs.lemmas.List.Elements.{All-contains, All-head, All-tail, Contains-get_or}
-use Rattle.proto_compile.proofs.Judging.{all_of_gives}
+use Rattle.share_work.proofs.Giving.{all_of_gives}
 use Rattle.share_work.specs.Shares.{GivesItems}
 use Rattle.source_folder.specs.Folder.{name_of, names_of}
 use Rattle.source_folder.specs.declared.fault.FolderFault.{FolderFault}

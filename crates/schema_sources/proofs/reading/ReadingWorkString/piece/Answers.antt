@@ -1,7 +1,7 @@
 use Rattle.std.proofs.Common.{◌+◌, arith, subst, sym, take, take_all}
 use Rattle.std.specs.List.{AllZip}
 use Rattle.schema_sources.specs.Reading.{IsReadUnder}
-use Rattle.proto_compile.proofs.Judging.{all_next, gives_of_all}
+use Rattle.share_work.proofs.Giving.{all_next, gives_of_all}
 use Rattle.schema_sources.proofs.Listing.{Under}
 use Rattle.schema_sources.proofs.reading.ReadingWorkString.piece.Goals as goal
 
