@@ -5,6 +5,7 @@ use proto_base::Limits;
 use proto_compile::Compiled;
 use reflect_core::Mode;
 use schema_headline::response_to_sources;
+use share_work::phases::{DESCRIBING, MARKING, REPLYING, RESOLVING, WRITING};
 use share_work::{Gate, NoGate, Plan};
 use std::alloc::{AllocGlobal, Global};
 use std::process::Abort;
@@ -78,7 +79,7 @@ fn have_met(gate: &Held) -> bool {
 fn compilers_meet(rt: HostRuntime) -> Result<(), Fail> {
     let plan = Plan::new(2, 1).ok_or("a plan")?;
     let alone = set_by(&rt, Plan::single(), &NoGate)?;
-    for phase in 1..4 {
+    for phase in [DESCRIBING, RESOLVING, WRITING] {
         let gate = holding(phase);
         let found = set_by(&rt, plan, &gate)?;
         assert!(rt; found == alone, "phase {phase}");
@@ -103,7 +104,7 @@ where
 fn workers_meet(rt: HostRuntime) -> Result<(), Fail> {
     let plan = Plan::new(2, 1).ok_or("a plan")?;
     let alone = response_by(&rt, Plan::single(), &NoGate)?;
-    for phase in 4..6 {
+    for phase in [MARKING, REPLYING] {
         let gate = holding(phase);
         let found = response_by(&rt, plan, &gate)?;
         assert!(rt; found == alone, "phase {phase}");
