@@ -1,14 +1,11 @@
 -- What was found in sources, and the faults that are told of it.
-use Rattle.std.proofs.Common.{◌≡◌, ◌∙◌, sym, ap, refl, ℕ, zero, suc, ◌+◌, ◌<◌, List, [], ◌∷◌, ◌++◌, Option, None, Some, length, take, get_or, map, arith, add-one}
+use Rattle.std.proofs.Common.{◌≡◌, ◌∙◌, sym, ap, refl, ℕ, zero, suc, ◌+◌, ◌<◌, List, [], ◌∷◌, ◌++◌, Option, None, Some, length, take, get_or, arith, add-one}
 use Rattle.std.specs.List.{AllZip}
-use Rattle.std.proofs.lemmas.List.{map-append}
-use Rattle.proto_base.specs.declared.fault.Fault.{Fault}
 use Rattle.proto_base.specs.declared.limits.Limits.{Limits}
-use Rattle.proto_compile.specs.FaultSet.{SourceFault, told_by}
-use Rattle.proto_compile.specs.Sources.{name_of}
+use Rattle.proto_compile.specs.FaultSet.{SourceFault}
 use Rattle.proto_compile.specs.declared.source.Source.{Source}
 use Rattle.file_faults.specs.FileFaults.{AreFileFaults, none, sound, faulty}
-use Rattle.file_faults.specs.Found.{IsFoundIn, added_by, fault_in, faults_in}
+use Rattle.file_faults.specs.Found.{IsFoundIn, added_by, faults_in}
 use Rattle.file_faults.specs.declared.local.LocalFault.{LocalFault}
 
 -- ---- one source after another
@@ -39,13 +36,6 @@ faults_more files found k s f old new h same added so_far =
     let next = faults_next files found k s f h same in
     rw add-one (added ∙ ap (λ (xs : List SourceFault). xs
     ++ added_by (get_or files k s) (get_or found k f) []) so_far ∙ sym next)
-
--- what is put behind other faults
-pub put_some : (s : Source) (local : LocalFault) (faults : List Fault) (new : Fault)
-    → told_by new ≡ fault_in (name_of s) local
-    → map told_by (faults ++ new ∷ []) ≡ map told_by faults ++ added_by s (Some local) []
-put_some s local faults new told = map-append told_by faults (new ∷ [])
-    ∙ ap (λ (x : SourceFault). map told_by faults ++ x ∷ []) told
 
 -- ---- all of them
 

@@ -20,6 +20,7 @@ use Rattle.proto_desc.specs.declared.file.FileDesc.{FileDesc}
 use Rattle.proto_file.specs.Local.{IsLocalFault}
 use Rattle.proto_file.proofs.OneLocal.{no_local, one_local}
 use Rattle.file_faults.specs.FileFaults.{AreFileFaults, HasFault, none, sound, faulty}
+use Rattle.share_work.proofs.Sums.{none_in, behind}
 
 -- ---- the first one
 
@@ -154,12 +155,6 @@ one_list limits (s ∷ files) xs ys a b = elim (head_of limits s files xs a) [
 
 -- ---- which faults are told
 
-nothing_in : {X : Type 0} {x : X} → Contains [] x → ⊥
-nothing_in (k, inside, is) = omega (arith, inside)
-
-contains_later : {X : Type 0} (y x : X) (xs : List X) → Contains xs x → Contains (y ∷ xs) x
-contains_later y x xs (k, inside, is) = (suc k, omega (arith, inside), is)
-
 has_head : (limits : Limits) (s : Source) (files : List Source) (xs : List SourceFault) (x : SourceFault)
     → IsFaulty limits s files xs → HasFault limits s x
     → Contains xs x
@@ -173,7 +168,7 @@ has_head limits s files xs x g (step, place, what, found, is) =
 pub every_fault : (limits : Limits) (files : List Source) (xs : List SourceFault) (s : Source) (x : SourceFault)
     → AreFileFaults limits files xs
     → Contains files s → HasFault limits s x → Contains xs x
-every_fault limits [] xs s x all inside has = absurd (nothing_in inside)
+every_fault limits [] xs s x all inside has = absurd (none_in s inside)
 every_fault limits (t ∷ files) xs s x all (zero, inside, here) has =
     let P : Source → Type 0 = λ r. HasFault limits r x in
     let own : HasFault limits t x = subst P (sym here) has in
@@ -186,7 +181,7 @@ every_fault limits (t ∷ files) xs s x all (suc k, inside, here) has = elim (he
   | inr g ↦ (
       let P : List SourceFault → Type 0 = λ ys. Contains ys x in
       let first = fault 1 (name_of t) g.step g.place g.what in
-      subst P (sym g.is) (contains_later first x g.rest (every_fault limits files g.rest s x g.all (
+      subst P (sym g.is) (behind first g.rest x (every_fault limits files g.rest s x g.all (
         k,
         omega
             (arith, inside),
@@ -200,7 +195,7 @@ SomeHas limits files x = (s : Source) × Contains files s × HasFault limits s x
 
 some_later : (limits : Limits) (t : Source) (files : List Source) (x : SourceFault) → SomeHas limits files x
     → SomeHas limits (t ∷ files) x
-some_later limits t files x (s, inside, has) = (s, contains_later t s files inside, has)
+some_later limits t files x (s, inside, has) = (s, behind t files s inside, has)
 
 some_here : (limits : Limits) (t : Source) (files : List Source) (xs : List SourceFault) (x : SourceFault)
     (g : IsFaulty limits t files xs)
@@ -223,7 +218,7 @@ pub no_other : (limits : Limits) (files : List Source) (xs : List SourceFault) (
     → SomeHas limits files x
 no_other limits [] xs x all inside =
     let P : List SourceFault → Type 0 = λ ys. Contains ys x in
-    absurd (nothing_in (subst P (none_at_all limits xs all) inside))
+    absurd (none_in x (subst P (none_at_all limits xs all) inside))
 no_other limits (t ∷ files) xs x all inside = elim (head_of limits t files xs all) [
   | inl g ↦ some_later limits t files x (no_other limits files xs x g.all inside)
   | inr g ↦ (

@@ -14,11 +14,12 @@ use crate::local::LocalFault;
 use proto_base::{Fault, Limits};
 use proto_compile::Source;
 use proto_file::{FileError, describe};
+use share_work::phases::DESCRIBING;
 use share_work::{Gate, Plan, Work, in_shares};
 use std::alloc::{AllocError, AllocGlobal, Global};
 use std::thread::Threads;
 
-/// The compiler's pass over each source by itself, and the phase of a gate in which workers judge them.
+/// The compiler's pass over each source by itself.
 const LOCAL: u8 = 1;
 
 /// The first fault of a source by itself, if it has one. What the source describes is let go here, in the worker.
@@ -127,7 +128,7 @@ fn all_named(
 /// break), in the order of the sources. The first of them is the one that `compile` tells, where the sources stand in the order
 /// of their names and no two have one.
 ///
-/// Workers share the sources in phase 1 of the gate. What the plan and the gate are changes nothing of the answer.
+/// Workers share the sources in phase `DESCRIBING` of the gate. What the plan and the gate are changes nothing of the answer.
 pub fn faults_of_files<R, G>(
     rt: &R,
     files: &[Source],
@@ -147,6 +148,14 @@ where
 {
     let work = Finding { limits: *limits };
     let mut seats = Vec::from_elem(rt.alloc(), (), plan.workers() as usize)?;
-    let found = in_shares(rt, plan, LOCAL, gate, files, &work, seats.as_mut_slice())?;
+    let found = in_shares(
+        rt,
+        plan,
+        DESCRIBING,
+        gate,
+        files,
+        &work,
+        seats.as_mut_slice(),
+    )?;
     all_named(rt.alloc(), files, &found)
 }

@@ -1,8 +1,8 @@
 -- Members of lists, tested by a Bool.
-use Rattle.std.proofs.Common.{◌≡◌, ℕ, inl, inr, ◌||◌, ◌&&◌, not, Bool, true, false, cond, Option, Some, None, List, [], ◌∷◌, filter, refl, sym, ap, ◌∙◌, eq-eqb, eqb-true, eqb, slice_get, length, ◌≤◌, All, subst}
+use Rattle.std.proofs.Common.{◌≡◌, ℕ, inl, inr, ◌||◌, ◌&&◌, not, Bool, true, false, cond, Option, Some, None, List, [], ◌∷◌, filter, refl, sym, ap, ◌∙◌, eq-eqb, eqb-true, eqb, slice_get, All, subst}
 use Rattle.std.specs.Set.{is_member}
 use Rattle.std.proofs.lemmas.Bool.{or_left, or_right, or_cases}
-use Rattle.std.proofs.lemmas.Option.{slice_get_within, slice_get_cases, get_or_from_slice_get}
+use Rattle.std.proofs.lemmas.Option.{slice_get_within, get_or_from_slice_get}
 use Rattle.std.specs.Prelude.{Contains, ◌↔◌, IsTrue, ◌==◌}
 use Rattle.share_work.proofs.Sums.{none_in, front, behind, front_or_behind}
 use Rattle.first_reach.specs.Carried.{root_first, reached}
@@ -82,12 +82,6 @@ has_root_first reach (Some r) own g =
 
 pub all_get : {X : Type 0} (P : X → Type 0) (xs : List X) (j : ℕ) (x : X) → All P xs → slice_get xs j ≡ Some x → P x
 all_get P xs j x h e = subst P (get_or_from_slice_get xs j x x e) (h j x (slice_get_within xs j x e))
-
-pub none_past : {X : Type 0} (xs : List X) (k : ℕ) → slice_get xs k ≡ None → length xs ≤ k
-none_past xs k e = elim (slice_get_cases xs k).1 [
-  | inl here ↦ let bad : Some here.0 ≡ None = sym here.2 ∙ e in cc
-  | inr past ↦ past.0
-]
 
 pub contains_at : (files : List ℕ) (k g : ℕ) → slice_get files k ≡ Some g → Contains files g
 contains_at files k g at = (k, slice_get_within files k g at, get_or_from_slice_get files k g g at)

@@ -7,18 +7,16 @@ ghost use Rattle.first_reach.specs.Carried.{carried};
 use crate::marking::firsts;
 use crate::mode::Mode;
 use crate::replying::Replying;
+use share_work::phases::REPLYING;
 use share_work::{Gate, Plan, Reach, in_shares};
 use std::alloc::{AllocError, AllocGlobal};
 use std::thread::Threads;
 
-/// The phase of the replies, as a gate is told it.
-const REPLYING: u8 = 5;
-
 /// The files that each reply carries, where the requests' roots are answered one after another.
 ///
-/// Workers find them, with no order between them and no set of what was sent: in phase 4 of the gate they mark the
-/// roots in a table that they share, and in phase 5 they list each reply by itself, from the first root that reaches
-/// each file.
+/// Workers find them, with no order between them and no set of what was sent: in phase `MARKING` of the gate they mark the
+/// roots in a table that they share, and in phase `REPLYING` they list each reply by itself, from the first root that
+/// reaches each file.
 pub fn carried<R, G, F>(
     rt: &R,
     reach: &F,

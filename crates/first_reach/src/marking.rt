@@ -6,12 +6,10 @@ ghost use Rattle.std.specs.List.{flat_map};
 ghost use Rattle.share_work.specs.Marks.{mark_whole};
 ghost use Rattle.first_reach.specs.First.{first_reach};
 
+use share_work::phases::MARKING;
 use share_work::{Gate, Least, MarkSeat, MarkTable, Plan, Reach, Work, in_shares};
 use std::alloc::{AllocError, AllocGlobal, Global};
 use std::thread::Threads;
-
-/// The phase of the marks, as a gate is told it.
-const MARKING: u8 = 4;
 
 /// Marks each root with its position.
 #[derive(Drop)]

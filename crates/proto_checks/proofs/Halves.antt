@@ -1,16 +1,15 @@
 -- Ranges in two halves, and what a cover says of them.
 use Rattle.std.proofs.Common.{◌≡◌, ℕ, ◌+◌, ◌<◌, ◌≤◌, List, [], ◌∷◌, ◌++◌, length, refl, subst, arith, inl, inr, ◌⊎◌, zero, suc}
-use Rattle.std.specs.Prelude.{Option, None}
+use Rattle.std.specs.Prelude.{Option}
 use Rattle.proto_base.specs.declared.spot.Spot.{Spot}
 use Rattle.proto_checks.specs.declared.covers.Interval.{Interval}
-use Rattle.proto_checks.specs.declared.marks.MarkedNumber.{MarkedNumber}
 use Rattle.proto_checks.specs.declared.marks.MarkedRange.{MarkedRange}
 use Rattle.proto_checks.specs.Covers.{IsCover, IsAcross, Reached}
 use Rattle.proto_base.specs.Least.{IsLeast}
 use Rattle.proto_base.specs.Lesser.{IsLesser}
-use Rattle.proto_checks.specs.Marks.{Holds, Share, ReservedOverlap, ReservedNumberUsed}
+use Rattle.proto_checks.specs.Marks.{Holds, Share, ReservedOverlap}
 use Rattle.proto_base.specs.Sets.{◌∪◌, StandsAt, Each}
-use Rattle.proto_base.proofs.Sets.{least_union, least_same, least_none}
+use Rattle.proto_base.proofs.Sets.{least_union, least_same}
 
 pub stands_split : {X : Type 0} (xs ys : List X) (i : ℕ) (a : X) → StandsAt (xs ++ ys) i a
     → ((i < length xs) × StandsAt xs i a) ⊎ ((j : ℕ) × (i ≡ length xs + j) × StandsAt ys j a)
@@ -58,10 +57,6 @@ pub halves_least : (xs ys zs : List MarkedRange) (a b p c r : Option Spot) → z
     → IsLesser a b p → IsLeast (Each ys (IsAcross xs)) c → IsLesser p c r → IsLeast (ReservedOverlap zs) r
 halves_least xs ys zs a b p c r e h k l m o = rw e (least_same (Halves xs ys) (ReservedOverlap (xs ++ ys)) r (halves_of xs ys) (of_halves xs ys)
     (least_union (least_union h k l) m o))
-
--- with no range no number is reserved
-pub unreserved_none : (rs : List MarkedRange) (ns : List MarkedNumber) → length rs ≡ 0 → IsLeast (ReservedNumberUsed rs ns) None
-unreserved_none rs ns h = least_none (ReservedNumberUsed rs ns) (λ x w. let below = w.3.0.2.0 in omega arith)
 
 -- a range holds n
 abbrev pub IsUsed : List MarkedRange → ℕ → Type 0

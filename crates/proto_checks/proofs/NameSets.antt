@@ -1,16 +1,14 @@
 -- Sets of the names of a list.
-use Rattle.std.proofs.Common.{◌≡◌, ◌∙◌, sym, ℕ, ◌+◌, ◌<◌, List, [], ◌∷◌, ◌++◌, length, get_or, take, subst, arith, inl, inr}
-use Rattle.std.specs.Prelude.{true, Contains, None}
+use Rattle.std.proofs.Common.{◌≡◌, ◌∙◌, sym, ℕ, ◌+◌, ◌<◌, List, [], ◌∷◌, ◌++◌, length, get_or, take, subst, inl, inr}
+use Rattle.std.specs.Prelude.{true, Contains}
 use Rattle.std.specs.BTreeSet.{BTreeSet, Updates}
 use Rattle.std.specs.Ordering.{is_eq}
 use Rattle.std.proofs.lemmas.Bool.{cond-true}
 use Rattle.std.proofs.lemmas.List.{take_more}
 use Rattle.std.proofs.lemmas.List.Elements.{Contains-append_left, Contains-push, Contains-push_cases}
 use denote.Ref.{Bor}
-use Rattle.proto_base.specs.Least.{IsLeast}
-use Rattle.proto_checks.specs.Marks.{Marked, ReservedNameUsed}
 use Rattle.proto_checks.specs.NameSets.{HoldsJust}
-use Rattle.proto_base.proofs.Sets.{text_cmp, exact_text, least_none, cond_or, cond_right}
+use Rattle.proto_base.proofs.Sets.{text_cmp, exact_text, cond_or, cond_right}
 
 pub set_push : (names : List (List ℕ)) (s t : BTreeSet (Bor (List ℕ))) (k : Bor (List ℕ)) → Updates text_cmp s t k true → HoldsJust names s
     → HoldsJust (names ++ k.now ∷ []) t
@@ -29,7 +27,3 @@ set_push names s t k new set name =
 pub set_more : (names : List (List ℕ)) (n : ℕ) (s t : BTreeSet (Bor (List ℕ))) (k : Bor (List ℕ)) → n < length names → k.now ≡ get_or names n k.now
     → Updates text_cmp s t k true → HoldsJust (take n names) s → HoldsJust (take (n + 1) names) t
 set_more names n s t k below is new set = rw (take_more names n k.now below, ← is) (set_push (take n names) s t k new set)
-
--- of no name none is used
-pub unnamed_none : (reserved : List (List ℕ)) (ts : List Marked) → length reserved ≡ 0 → IsLeast (ReservedNameUsed reserved ts) None
-unnamed_none reserved ts h = least_none (ReservedNameUsed reserved ts) (λ x w. let below = w.3.0.1 in omega arith)

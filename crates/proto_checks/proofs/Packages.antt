@@ -2,7 +2,7 @@
 use Rattle.std.proofs.Common.{◌≡◌, ◌∙◌, sym, ap, refl, subst, ℕ, zero, suc, ◌+◌, ◌<◌, ◌≤◌, Bool, true, List, [], ◌∷◌, ◌++◌, length, get_or, take, false, arith, inl, inr, ◌⊎◌}
 use Rattle.std.specs.Prelude.{Option, None, ◌↔◌, flat_map}
 use Rattle.std.proofs.lemmas.Bool.{cases_lt, false≢true}
-use Rattle.std.proofs.lemmas.List.{length-append, append-nil, take_all}
+use Rattle.std.proofs.lemmas.List.{append-nil, take_all, length_push}
 use Rattle.proto_base.specs.declared.kind.Kind.TheVariants as kind
 use Rattle.proto_tree.specs.declared.file.Package.{Package}
 use Rattle.proto_tree.specs.declared.file.Statement.{Statement}
@@ -37,9 +37,6 @@ last_is : {X : Type 0} (xs : List X) (p b : X) → get_or (xs ++ p ∷ []) (leng
 last_is [] p b = refl
 last_is (c ∷ rest) p b = last_is rest p b
 
-longer : {X : Type 0} (xs : List X) (p : X) → length (xs ++ p ∷ []) ≡ length xs + 1
-longer xs p = length-append xs (p ∷ [])
-
 old_pair : (ps : List Package) (p : Package) (x : Spot) → PackageTwice ps x → PackageTwice (ps ++ p ∷ []) x
 old_pair ps p x (i, j, a, b, before, s, t, u, e) = (
   i,
@@ -47,8 +44,8 @@ old_pair ps p x (i, j, a, b, before, s, t, u, e) = (
   a,
   b,
   before,
-  (omega (arith, s.0, longer ps p), stands_left ps (p ∷ []) i a s.0 s.1),
-  (omega (arith, t.0, longer ps p), stands_left ps (p ∷ []) j b t.0 t.1),
+  (omega (arith, s.0, length_push ps p), stands_left ps (p ∷ []) i a s.0 s.1),
+  (omega (arith, t.0, length_push ps p), stands_left ps (p ∷ []) j b t.0 t.1),
   u,
   e,
 )
@@ -56,13 +53,13 @@ old_pair ps p x (i, j, a, b, before, s, t, u, e) = (
 new_pair : (ps : List Package) (p : Package) (x : Spot) → 0 < length ps → x ≡ again p → PackageTwice (ps ++ p ∷ []) x
 new_pair [] p x some e = absurd (omega arith)
 new_pair (q ∷ qs) p x some e =
-    (0, length (q ∷ qs), q, p, some, (omega (arith, longer (q ∷ qs) p), refl), (omega (arith, longer (q ∷ qs) p), last_is (q ∷ qs) p p), tt, e)
+    (0, length (q ∷ qs), q, p, some, (omega (arith, length_push (q ∷ qs) p), refl), (omega (arith, length_push (q ∷ qs) p), last_is (q ∷ qs) p p), tt, e)
 
 split_pair : (ps : List Package) (p : Package) (x : Spot) → PackageTwice (ps ++ p ∷ []) x → PackageTwice ps x ⊎ ((0 < length ps) × (x ≡ again p))
 split_pair ps p x (i, j, a, b, before, s, t, u, e) = elim (cases_lt j (length ps)) [
   | inl old ↦ inl (i, j, a, b, before, (omega arith, stands_back ps (p ∷ []) i a (omega arith) s.1), (old, stands_back ps (p ∷ []) j b old t.1), u, e)
   | inr last ↦ (
-      let here : j ≡ length ps = omega (arith, t.0, longer ps p) in
+      let here : j ≡ length ps = omega (arith, t.0, length_push ps p) in
       let same : b ≡ p = sym t.1 ∙ ap (λ k. get_or (ps ++ p ∷ []) k b) here ∙ last_is ps p b in
       inr (omega arith, e ∙ ap again same))
 ]
@@ -70,7 +67,7 @@ split_pair ps p x (i, j, a, b, before, s, t, u, e) = elim (cases_lt j (length ps
 pub repeated_more : (ps : List Package) (p : Package) (is_named : Bool) (a b r : Option Spot) → Repeated ps is_named a
     → IsLeast (Where (is_named ≡ true) (again p)) b → IsLesser a b r → Repeated (ps ++ p ∷ []) true r
 repeated_more ps p is_named a b r h k w = record {
-  named = (λ e. omega (arith, longer ps p), λ some. refl);
+  named = (λ e. omega (arith, length_push ps p), λ some. refl);
   least = least_or (PackageTwice ps) (Where (is_named ≡ true) (again p)) (PackageTwice (ps ++ p ∷ [])) a b r
       (λ x v. elim (split_pair ps p x v) [ inl u ↦ inl u | inr u ↦ inr (h.named.1 u.0, u.1) ])
       (old_pair ps p)

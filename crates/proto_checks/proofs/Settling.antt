@@ -43,9 +43,6 @@ mistaken_by e s h =
 known_not_unknown : (e : Element) (s : Setting) → is_known e s ≡ true → IsUnknown e s → ⊥
 known_not_unknown e s h u = let w = some_of (is_known_by s) (rules_of e) h in true≢false (sym w.2 ∙ u w.0 w.1)
 
-unknown_not_mistaken : (e : Element) (s : Setting) → IsUnknown e s → IsMistaken e s → ⊥
-unknown_not_mistaken e s u m = true≢false (sym m.2 ∙ u m.0 m.1)
-
 not_mistaken : (e : Element) (s : Setting) → is_mistaken e s ≡ false → IsMistaken e s → ⊥
 not_mistaken e s h m =
     let passes : is_mistaken_by s m.0 ≡ true = and_from (is_setting m.0.word s) (not (is_some (value_of m.0.kind s.value))) m.2 (rw m.3 refl) in

@@ -2,7 +2,7 @@
 use Rattle.std.proofs.Common.{◌≡◌, ◌∙◌, sym, ℕ, ◌+◌, ◌<◌, List, [], ◌∷◌, length, get_or, map, ap, refl, arith, Bool, true, false, filter, cond}
 use Rattle.std.specs.Set.{is_member}
 use Rattle.std.specs.Prelude.{◌↔◌, Contains, IsPermutation, IsSorted, ◌==◌}
-use Rattle.std.specs.Cmp.{nat_eq_equiv}
+use Rattle.std.specs.Cmp.{nat_eq_equiv, both_ways}
 use Rattle.std.specs.Cmp.Lexicographic.{slice_cmp}
 use Rattle.std.specs.List.{sum_by}
 use Rattle.std.specs.Ordering.{nat_cmp}
@@ -67,17 +67,12 @@ one_services descs limits index other first second =
 
 -- ---- what files reach
 
-one_bool : (a b : Bool) → (a ≡ true → b ≡ true) → (b ≡ true → a ≡ true) → a ≡ b
-one_bool true b to back = sym (to refl)
-one_bool false true to back = back refl
-one_bool false false to back = refl
-
 has_is : (g : ℕ) (xs : List ℕ) → (is_member ◌==◌ xs g ≡ true) ↔ Contains xs g
 has_is g xs = (λ e. Contains-from_any (λ a b h. eqb-true a b h) g xs e, λ w. list_any-from_Contains nat_eq_equiv g xs w)
 
 has_alike : (g : ℕ) (xs ys : List ℕ) → (Contains xs g → Contains ys g) → (Contains ys g → Contains xs g)
     → is_member ◌==◌ xs g ≡ is_member ◌==◌ ys g
-has_alike g xs ys to back = one_bool (is_member ◌==◌ xs g) (is_member ◌==◌ ys g) (λ h. (has_is g ys).1 (to ((has_is g xs).0 h)))
+has_alike g xs ys to back = both_ways (is_member ◌==◌ xs g) (is_member ◌==◌ ys g) (λ h. (has_is g ys).1 (to ((has_is g xs).0 h)))
     (λ h. (has_is g xs).1 (back ((has_is g ys).0 h)))
 
 one_reach : (descs : List FileDesc) (links others : Linked) → AreLinked descs links → AreLinked descs others

@@ -4,7 +4,7 @@ use Rattle.std.specs.Cmp.{IsTotalOrder, nat_cmp_is}
 use Rattle.std.specs.Cmp.Lexicographic.{slice_cmp}
 use Rattle.std.specs.Ordering.{nat_cmp, ordering_reverse, ordering_then}
 use Rattle.std.proofs.lemmas.Cmp.{nat_cmp_total, nat_list_cmp_total, on_total, ranked, then_total, tied_itself}
-use Rattle.std.proofs.lemmas.Map.Lookups.{exact_bytes}
+use Rattle.std.proofs.lemmas.Map.Lookups.{exact_bytes, exact_unsigned}
 use Rattle.proto_base.proofs.Spots.{same_kind, same_place}
 use Rattle.proto_base.specs.Fault.{Found, found_cmp}
 use Rattle.proto_base.specs.Kind.{number_of}
@@ -44,9 +44,6 @@ itself n = at_most n n (omega arith)
 
 below : (m n : ℕ) → m < n → nat_cmp m n ≡ Less
 below m n h = sym (nat_cmp_is m n Less h)
-
-exact : (m n : ℕ) → nat_cmp m n ≡ Equal → m ≡ n
-exact m n e = ranked m n Equal (sym e)
 
 pub same_name : (file : List ℕ) → slice_cmp nat_cmp file file ≢ Greater
 same_name file more = (let e = tied_itself nat_list_cmp_total file in cc)
@@ -103,7 +100,7 @@ one_fault x y h i =
     let file = equal_parts (slice_cmp nat_cmp x.file y.file) _ pass.1 in
     let step = equal_parts (nat_cmp x.step y.step) _ file.1 in
     let place = equal_parts (nat_cmp x.place.offset y.place.offset) _ step.1 in
-    same_told x.pass y.pass x.step y.step x.file y.file x.place y.place x.kind y.kind (exact x.pass y.pass pass.0)
-    (exact_bytes x.file y.file file.0) (exact x.step y.step step.0)
-    (same_place x.place y.place (exact x.place.offset y.place.offset place.0))
-    (same_kind x.kind y.kind (exact (number_of x.kind) (number_of y.kind) place.1))
+    same_told x.pass y.pass x.step y.step x.file y.file x.place y.place x.kind y.kind (exact_unsigned x.pass y.pass pass.0)
+    (exact_bytes x.file y.file file.0) (exact_unsigned x.step y.step step.0)
+    (same_place x.place y.place (exact_unsigned x.place.offset y.place.offset place.0))
+    (same_kind x.kind y.kind (exact_unsigned (number_of x.kind) (number_of y.kind) place.1))

@@ -41,7 +41,7 @@ use Rattle.proto_compile.specs.Outcomes.{IsDescribed, IsFirstFound, IsResolved, 
 use Rattle.proto_compile.specs.Sources.{AreByName, name_at, name_of, text_of}
 use Rattle.proto_compile.specs.declared.source.Source.{Source}
 use Rattle.proto_compile.proofs.FaultOrder.{later_name, later_pass, later_spot, no_name_first, one_fault, same_later, same_name, same_told}
-use Rattle.proto_compile.proofs.Judging.{given_at}
+use Rattle.share_work.proofs.Giving.{given_at}
 pub use Rattle.proto_compile.proofs.NoneBroken.{no_fault_at_all}
 use Rattle.proto_compile.proofs.NoneBroken.{NoneBefore, as_described, none_of_files, none_of_imports, none_of_lengths, none_of_list, none_of_names, none_of_types, one_descs}
 use Rattle.proto_compile.proofs.OneTyping.{break_from_index, break_to_index, item_at, one_resolved, standing_one}

@@ -1,5 +1,5 @@
 -- The names of services: no more than the names of the files, and none longer than a full name may be.
-use Rattle.std.proofs.Common.{◌≡◌, subst, refl, ℕ, zero, suc, ◌+◌, ◌<◌, ◌≤◌, Bool, true, inl, inr, List, [], ◌∷◌, map, length, get_or, Option, Some, None, arith}
+use Rattle.std.proofs.Common.{◌≡◌, subst, refl, ℕ, ◌+◌, ◌<◌, ◌≤◌, Bool, true, inl, inr, List, [], ◌∷◌, map, length, get_or, Option, Some, None, arith}
 use Rattle.std.specs.Prelude.{Contains, IsPermutation, filter}
 use Rattle.std.specs.List.{All, AllZip}
 use Rattle.std.proofs.lemmas.Bool.{cases_lt, false≢true}
@@ -21,13 +21,7 @@ use Rattle.proto_base.specs.declared.limits.Limit.TheVariants as limit
 use Rattle.proto_base.specs.declared.limits.Limits.{Limits}
 use Rattle.proto_compile.specs.Descriptions.{SourceDescribes}
 use Rattle.proto_compile.specs.declared.source.Source.{Source}
-
-in_map : {X Y : Type 0} (f : X → Y) (xs : List X) (y : Y) → Contains (map f xs) y → (x : X) × Contains xs x × (f x ≡ y)
-in_map f [] y (k, below, is) = absurd (omega (arith, below))
-in_map f (x ∷ xs) y (zero, below, is) = (x, (0, omega arith, refl), is)
-in_map f (x ∷ xs) y (suc k, below, is) =
-    let rest = in_map f xs y (k, omega (arith, below), is) in
-    (rest.0, (suc rest.1.0, omega (arith, rest.1.1), rest.1.2), rest.2)
+use Rattle.share_work.proofs.Sums.{of_map}
 
 abbrev is_service : Occurrence → Bool
 is_service o = is_service_kind o.kind
@@ -39,7 +33,7 @@ IsShort n o = is_service o ≡ true → length o.name ≤ n
 short_services : (n : ℕ) (os : List Occurrence) → All (IsShort n) os → (name : List ℕ) → Contains (services_of os) name
     → length name ≤ n
 short_services n os short name has =
-    let (o, here, is) = in_map name_of (filter is_service os) name has in
+    let (o, here, is) = of_map name_of (filter is_service os) name has in
     let fits = All-contains (IsShort n) (filter is_service os) o (All-filter is_service (IsShort n) os short) here in
     let service = All-contains (λ p. is_service p ≡ true) (filter is_service os) o (filter_passes is_service os) here in
     subst (λ (xs : List ℕ). length xs ≤ n) is (fits service)

@@ -18,7 +18,7 @@ one_of f xs a (k, below, is) =
     omega (arith, length-flat_map f xs, get_or-le-sum_by (λ b. length (f b)) xs k a below, same)
 
 -- some of many
-some_of : (f : ℕ → List ℕ) (p : ℕ → Bool) (xs : List ℕ) → length (flat_map f (filter p xs)) ≤ length (flat_map f xs)
+pub some_of : (f : ℕ → List ℕ) (p : ℕ → Bool) (xs : List ℕ) → length (flat_map f (filter p xs)) ≤ length (flat_map f xs)
 some_of f p xs =
     let parts = sum_by-filter_both p (λ b. not (p b)) (λ b. refl) (λ b. length (f b)) xs in
     omega (arith, length-flat_map f (filter p xs), length-flat_map f xs, parts)

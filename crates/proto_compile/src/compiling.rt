@@ -86,8 +86,8 @@ fn compilation_of(
 /// Its place lies within the text of its file; a fault of the whole list has no file name, and stands at 0. `NoMemory` comes
 /// only where the allocator had none.
 ///
-/// Workers share the files: in phase 1 of the gate each source by itself, in phase 2 the types that it names, and in phase 3 the
-/// bytes of its descriptor. What the plan and the gate are changes nothing of the answer.
+/// Workers share the files: in phase `DESCRIBING` of the gate each source by itself, in phase `RESOLVING` the types that it
+/// names, and in phase `WRITING` the bytes of its descriptor. What the plan and the gate are changes nothing of the answer.
 pub fn compile<R, G>(
     rt: &R,
     sources: &[Source],

@@ -6,6 +6,7 @@ use Rattle.std.specs.List.{IsDistinct, AllByRecursion}
 use Rattle.std.proofs.lemmas.Bool.{true≢false}
 use Rattle.std.proofs.lemmas.Bool.{eqb-true}
 use Rattle.std.proofs.lemmas.Map.Steps.{length-le_from_distinct_below, le-length_from_below}
+use Rattle.std.proofs.lemmas.List.Elements.{All-contains, All-contains_itself, All-filter, filter_passes}
 use Rattle.digraph.specs.Leads.{here}
 use Rattle.digraph.proofs.Ways.{leads_trans}
 use Rattle.proto_desc.specs.declared.file.FileDesc.{FileDesc}
@@ -43,17 +44,11 @@ kept_by : (p : ℕ → Bool) (x : ℕ) (xs : List ℕ) (b : Bool) → p x ≡ b 
 kept_by p x xs b e = ap (λ t. cond t (x ∷ filter p xs) (filter p xs)) e
 
 -- a member of what a test keeps is a member that passes it, and the other way round
-kept_case : (p : ℕ → Bool) (x : ℕ) (xs : List ℕ) (z : ℕ) (b : Bool) → p x ≡ b → ((y : ℕ) → Contains (filter p xs) y → Contains xs y × (p y ≡ true))
-    → Contains (cond b (x ∷ filter p xs) (filter p xs)) z → Contains (x ∷ xs) z × (p z ≡ true)
-kept_case p x xs z false e rest w = let r = rest z w in (behind x xs z r.0, r.1)
-kept_case p x xs z true e rest w = elim (front_or_behind x (filter p xs) z w) [
-  | inl same ↦ (subst (Contains (x ∷ xs)) same (front x xs), ap p (sym same) ∙ e)
-  | inr later ↦ (let r = rest z later in (behind x xs z r.0, r.1))
-]
-
 pub kept_to : (p : ℕ → Bool) (xs : List ℕ) (z : ℕ) → Contains (filter p xs) z → Contains xs z × (p z ≡ true)
-kept_to p [] z w = absurd (none_in z w)
-kept_to p (x ∷ xs) z w = kept_case p x xs z (p x) refl (kept_to p xs) w
+kept_to p xs z w = (
+  All-contains (Contains xs) (filter p xs) z (All-filter p (Contains xs) xs (All-contains_itself xs)) w,
+  All-contains (λ y. p y ≡ true) (filter p xs) z (filter_passes p xs) w,
+)
 
 kept_back : (p : ℕ → Bool) (x : ℕ) (xs : List ℕ) (z : ℕ) (b : Bool) → p x ≡ b → (Contains xs z → Contains (filter p xs) z) → p z ≡ true → Contains (x ∷ xs) z
     → Contains (cond b (x ∷ filter p xs) (filter p xs)) z

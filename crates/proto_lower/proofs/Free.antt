@@ -16,15 +16,12 @@ use Rattle.std.proofs.lemmas.Map.Text.{btree_set_updates_text}
 use Rattle.std.proofs.lemmas.Bool.{false_from_ne_true, true≢false}
 use Rattle.std.proofs.lemmas.Bool.Decides.{nat_tests}
 use Rattle.std.proofs.lemmas.Slice.Eq.{bytes_eq-Decides}
+use Rattle.std.proofs.Math.Bool.{or-false}
 use Rattle.proto_lower.specs.Names.{first_free, with_underscore, behind_letters}
 use Rattle.proto_lower.specs.Taken.{begins_as_made, HoldsTaken}
 
 -- one more name
-or_false : (b : Bool) → (b || false) ≡ b
-or_false true = refl
-or_false false = refl
-
-or_by : (a b : Bool) → cond a true b ≡ (b || a)
+pub or_by : (a b : Bool) → cond a true b ≡ (b || a)
 or_by true true = refl
 or_by true false = refl
 or_by false true = refl
@@ -44,7 +41,7 @@ swapped xs ys = by_cases (bytes_eq xs ys) (bytes_eq ys xs) refl refl
 among_more : (names : List (List ℕ)) (one name : List ℕ)
     → is_member bytes_eq (names ++ one ∷ []) name ≡ (is_member bytes_eq names name || bytes_eq name one)
 among_more names one name = list_any-append (bytes_eq name) names (one ∷ [])
-    ∙ ap (λ b. is_member bytes_eq names name || b) (or_false (bytes_eq name one))
+    ∙ ap (λ b. is_member bytes_eq names name || b) (or-false (bytes_eq name one))
 
 -- a name that does not begin like those that are made is none of them
 pub taken_other : (names : List (List ℕ)) (one : List ℕ) (set : BTreeSet (String Global)) → begins_as_made one ≡ false → HoldsTaken names set
@@ -53,7 +50,7 @@ taken_other names one set differs members = record {
   members = λ name begins.
       let other : bytes_eq name one ≡ false = false_from_ne_true (bytes_eq name one)
       (λ same. true≢false (sym begins ∙ ap begins_as_made ((bytes_eq-Decides name one).0 same) ∙ differs)) in
-      members.members name begins ∙ sym (or_false (is_member bytes_eq names name))
+      members.members name begins ∙ sym (or-false (is_member bytes_eq names name))
       ∙ ap (λ b. is_member bytes_eq names name || b) (sym other)
       ∙ sym (among_more names one name);
 }

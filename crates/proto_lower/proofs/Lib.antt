@@ -1,7 +1,7 @@
 pub mod Nested
 mod NoneMade
 mod Raised
-mod Free
+pub mod Free
 mod OptionRows
 mod OptionsRise
 mod MadeOneofs

@@ -83,12 +83,12 @@ fn put_one<'s>(
     field: &FieldDesc<'s>,
     most: usize,
 ) -> Result<(), AllocError>
-    ensures oneof { OnOk result ((names : List (List ℕ)) → IsSetOf names taken.old
+    ensures oneof { OnOk result ((names : List (List ℕ)) → HoldsTaken names taken.old
         → most ≡ length names
         → oneofs.new.items ≡ oneofs.old.items ++ made_named names field.now ∷ []) }
-    ensures name { OnOk result ((names : List (List ℕ)) → IsSetOf names taken.old
+    ensures name { OnOk result ((names : List (List ℕ)) → HoldsTaken names taken.old
         → most ≡ length names
-        → IsSetOf (names ++ (made_named names field.now).name ∷ []) taken.new) }
+        → HoldsTaken (names ++ (made_named names field.now).name ∷ []) taken.new) }
 {
     let oneof = made(alloc, field, taken, most)?;
     take_name(alloc, taken, oneof.name.as_str())?;

@@ -18,27 +18,6 @@ pub record Chaining (os : List Occurrence) (count n : ℕ) (slots links : List �
   pub room : 0 < count
   pub chained : AreChained os n slots links
 
-none_last : (os : List Occurrence) (count slot next : ℕ) → next ≡ 0 → IsLast os count 0 slot next
-none_last os count slot next e = record {
-  within = omega (arith, e);
-  begins = λ h. absurd (omega (arith, h, e));
-  here = λ h. absurd (omega (arith, h, e));
-  last = λ k h g. absurd (omega (arith, g));
-}
-
-pub chaining_none : (os : List Occurrence) (count : ℕ) (slots links : List ℕ) → length slots ≡ count → 0 < count
-    → ((s : ℕ) → s < count → get_or slots s 0 ≡ 0) → links ≡ [] → Chaining os count 0 slots links
-chaining_none os count slots links size room zeros e = record {
-  size = size;
-  room = room;
-  chained = record {
-    some = omega (arith, size, room);
-    size = ap length e;
-    heads = λ s h. none_last os (length slots) s (get_or slots s 0) (zeros s (omega (arith, h, size)));
-    nexts = λ k h. absurd (omega (arith, h));
-  };
-}
-
 -- the chain of another slot
 last_other : (os : List Occurrence) (count n slot next : ℕ) → slot_of os count n ≢ slot → IsLast os count n slot next → IsLast os count (n + 1) slot next
 last_other os count n slot next other old = record {

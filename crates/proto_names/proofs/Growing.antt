@@ -11,6 +11,7 @@ use Rattle.proto_names.specs.Hashes.{hash_of}
 use Rattle.proto_names.specs.Occurrences.{Occurrence}
 use Rattle.proto_names.specs.declared.entry.Entry.{Entry}
 use Rattle.proto_names.proofs.Comparing.{scoped_some, scoped_none}
+use Rattle.digraph.proofs.Sharing.{length_kept}
 
 -- ---- what stands within the text stays
 
@@ -20,18 +21,13 @@ name_kept old more e within =
     let room : e.len ≤ length (drop e.start old) = rw (length-drop e.start old) (omega (arith, within)) in
     ap (take e.len) (drop-append-le e.start old more inside) ∙ take-append-le e.len (drop e.start old) more room
 
-pub length_more : (old new : List ℕ) → IsFrontOf old new → length old ≤ length new
-length_more old new prefix =
-    let long : length new ≡ length old + length prefix.0 = ap length prefix.1 ∙ length-append old prefix.0 in
-    omega (arith, long)
-
 name_more : (old new : List ℕ) (e : Entry) → IsFrontOf old new → IsEntryOf old e → name_at new e ≡ name_at old e
 name_more old new e prefix is = ap (λ (t : List ℕ). name_at t e) prefix.1 ∙ name_kept old prefix.0 e is.within
 
 entry_more : (old new : List ℕ) → IsFrontOf old new → (e : Entry) → IsEntryOf old e → IsEntryOf new e
 entry_more old new prefix e is =
     let same = name_more old new e prefix is in
-    let long = length_more old new prefix in
+    let long = length_kept old new prefix in
     let within = is.within in
     record {
       within = omega (arith, within, long);

@@ -3,15 +3,14 @@ use Rattle.std.proofs.Common.{◌≡◌, ◌∙◌, refl, sym, ap, subst, ℕ, �
 use Rattle.std.specs.Prelude.{All, Contains, ◌↔◌}
 use Rattle.std.proofs.lemmas.Bool.{cases_lt}
 use Rattle.std.proofs.lemmas.List.{get_or_append_left, get_or_default, get_or_push, length-drop, length_push, length-take-le}
-use Rattle.std.proofs.lemmas.Cmp.{ranked}
 use Rattle.std.specs.Ordering.{nat_cmp}
+use Rattle.std.proofs.lemmas.Map.Lookups.{exact_unsigned}
 use Rattle.bit_matrix.specs.Bits.{Bits, has}
 use Rattle.bit_matrix.specs.Changes.{Has, HasInserted, IsAsLarge, IsLonger, columns_of}
 use Rattle.proto_names.specs.Occurrences.{Occurrence, IsPackage}
-use Rattle.proto_names.specs.Packages.{ArePackagesOf, HasFilesOf, HasPackagePut, IsFileOf, IsPackageOf, occurrences_in, run_at}
+use Rattle.proto_names.specs.Packages.{ArePackagesOf, HasFilesOf, HasPackagePut, IsPackageOf, occurrences_in, run_at}
 use Rattle.proto_names.specs.Runs.{at, blank}
 use Rattle.proto_names.specs.declared.packages.Run.{Run}
-use Rattle.proto_names.proofs.Occurring.{occurs}
 
 -- ---- bits that are as they were
 
@@ -26,61 +25,14 @@ pub record Inserting (old : Bits) (row : ℕ) (os : List Occurrence) (n : ℕ) (
   pub kept : (r c : ℕ) → r < old.rows → c < columns_of old → (r ≡ row → ⊥) → has new r c ≡ has old r c
   pub files : (c : ℕ) → c < columns_of old → Has new row c ↔ (Has old row c ⊎ ((k : ℕ) × (k < n) × ((at os k).file ≡ c)))
 
-pub inserting_none : (old : Bits) (row : ℕ) (os : List Occurrence) → Inserting old row os 0 old
-inserting_none old row os = record {
-  large = record { rows = refl; width = refl };
-  kept = λ r c hr hc other. refl;
-  files = λ c hc. (λ w. inl w, λ w. (elim w [ inl w ↦ w | inr (k, none, is) ↦ absurd (omega (arith, none)) ]));
-}
-
 module _ (old : Bits) (row : ℕ) (os : List Occurrence) (n : ℕ) (now new : Bits) (is : Inserting old row os n now)
     (inserted : HasInserted now row (at os n).file new) where
   now_columns : (c : ℕ) → c < columns_of old → c < columns_of now
   now_columns c hc = subst (λ w. c < 64 * w) (sym is.large.width) hc
 
-  file_to : (c : ℕ) → c < columns_of old → Has new row c → Has old row c ⊎ ((k : ℕ) × (k < n + 1) × ((at os k).file ≡ c))
-  file_to c hc w = elim ((inserted.bits c (now_columns c hc)).0 w) [
-    | inl before ↦ elim ((is.files c hc).0 before) [
-      | inl first ↦ inl first
-      | inr (k, less, file) ↦ inr (k, omega (arith, less), file)
-    ]
-    | inr last ↦ inr (n, omega arith, last)
-  ]
-
-  file_from : (c : ℕ) → c < columns_of old → Has old row c ⊎ ((k : ℕ) × (k < n + 1) × ((at os k).file ≡ c)) → Has new row c
-  file_from c hc (inl first) = (inserted.bits c (now_columns c hc)).1 (inl ((is.files c hc).1 (inl first)))
-  file_from c hc (inr (k, less, file)) = (inserted.bits c (now_columns c hc)).1 (elim (cases_lt k n) [
-    | inl before ↦ inl ((is.files c hc).1 (inr (k, before, file)))
-    | inr last ↦ inr (let same : n ≡ k = omega (arith, last, less) in ap (λ i. (at os i).file) same ∙ file)
-  ])
-
-  pub inserting_more : Inserting old row os (n + 1) new
-  inserting_more = record {
-    large = record { rows = inserted.large.rows ∙ is.large.rows; width = inserted.large.width ∙ is.large.width };
-    kept = λ r c hr hc other. inserted.kept r c (subst (λ k. r < k) (sym is.large.rows) hr) (now_columns c hc) other ∙ is.kept r c hr hc other;
-    files = λ c hc. (file_to c hc, file_from c hc);
-  }
-
 -- what occurs stands at a position
 position_of : (os : List Occurrence) (o : Occurrence) → Contains os o → (k : ℕ) × (k < length os) × (at os k ≡ o)
 position_of os o (k, inside, is) = (k, inside, get_or_default os k blank o inside ∙ is)
-
-pub inserting_all : (old : Bits) (row : ℕ) (os : List Occurrence) (n : ℕ) (new : Bits) → n ≡ length os → Inserting old row os n new → HasFilesOf old row os new
-inserting_all old row os n new e is = record {
-  large = is.large;
-  kept = is.kept;
-  files = λ c hc. (
-    λ w. (elim ((is.files c hc).0 w) [
-      | inl first ↦ inl first
-      | inr (k, less, file) ↦ inr (at os k, occurs os k (omega (arith, less, e)), file)
-    ]),
-    λ w. (is.files c hc).1 (elim w [
-      | inl first ↦ inl first
-      | inr (o, there, file) ↦
-          let (k, inside, here) = position_of os o there in inr (k, omega (arith, inside, e), ap (λ (p : Occurrence). p.file) here ∙ file)
-    ]),
-  );
-}
 
 -- ---- one more package
 
@@ -90,52 +42,17 @@ module _ (os : List Occurrence) (start : ℕ) (runs new_runs : List Run) (old pu
   pushed_columns : (c : ℕ) → c < columns_of old → c < columns_of pushed
   pushed_columns c hc = subst (λ w. c < 64 * w) (sym longer.width) hc
 
-  old_columns : (c : ℕ) → c < columns_of new → c < columns_of old
-  old_columns c hc = subst (λ w. c < 64 * w) (set.large.width ∙ longer.width) hc
-
-  row_to : (c : ℕ) → c < columns_of old → Has new (length runs) c → IsFileOf os c
-  row_to c hc w = elim ((set.files c (pushed_columns c hc)).0 w) [
-    | inl clear ↦ absurd (longer.clear c hc (subst (λ r. Has pushed r c) (sym rows) clear))
-    | inr file ↦ file
-  ]
-
-  pub package_put : HasPackagePut os start runs old new_runs new
-  package_put = record {
-    longer = put;
-    rows = set.large.rows ∙ longer.rows;
-    width = set.large.width ∙ longer.width;
-    kept = λ r c hr hc. set.kept r c (omega (arith, hr, longer.rows)) (pushed_columns c hc) (λ same. omega (arith, same, hr, rows)) ∙ longer.kept r c hr hc;
-    put = record {
-      inside = omega (arith, set.large.rows, longer.rows);
-      packages = packages;
-      members = λ c hc. (
-        λ w. row_to c (old_columns c hc) (subst (λ r. Has new r c) rows w),
-        λ f. subst (λ r. Has new r c) (sym rows) ((set.files c (pushed_columns c (old_columns c hc))).1 (inr f)),
-      );
-      columns = λ k d h. subst (λ w. (get_or os k d).file < 64 * w) (sym (set.large.width ∙ longer.width)) (columns k d h);
-    };
-  }
-
 -- ---- a package that is found
-
-equal_numbers : (a b : ℕ) → nat_cmp a b ≡ Equal → a ≡ b
-equal_numbers a b e = ranked a b Equal (sym e)
 
 pub package_found : (os : List Occurrence) (runs : List Run) (files : Bits) (row start len : ℕ) → row < length runs
     → nat_cmp (run_at runs row).start start ≡ Equal → (run_at runs row).len ≡ len → ArePackagesOf os runs files
     → IsPackageOf (take len (drop start os)) files row
 package_found os runs files row start len inside found same are =
-    let begins : (run_at runs row).start ≡ start = equal_numbers (run_at runs row).start start found in
+    let begins : (run_at runs row).start ≡ start = exact_unsigned (run_at runs row).start start found in
     subst (λ l. IsPackageOf (take l (drop start os)) files row) same
     (subst (λ s. IsPackageOf (take (run_at runs row).len (drop s os)) files row) begins (are.each row inside))
 
 -- ---- packages among occurrences
-
-pub packages_none : (os : List Occurrence) (runs : List Run) (files : Bits) → runs ≡ [] → files.rows ≡ 0 → ArePackagesOf os runs files
-packages_none os runs files none rows = record {
-  rows = rw none rows;
-  each = λ k h. absurd (let size = ap length none in omega (arith, h, size));
-}
 
 -- a package's row in a matrix with one row more
 same_package : (os : List Occurrence) (old new : Bits) (k : ℕ) → k < old.rows → old.rows ≤ new.rows → new.width ≡ old.width

@@ -9,6 +9,7 @@ use Rattle.std.proofs.lemmas.Cmp.{tied_itself}
 use Rattle.std.proofs.lemmas.List.Sorted.{searchable_from_sorted}
 use Rattle.std.proofs.lemmas.List.{get_or-drop, get_or-take, get_or_default, length-drop, length-take}
 use Rattle.std.proofs.lemmas.Map.Lookups.{exact_bytes}
+use Rattle.std.specs.Cmp.{Equal-is}
 use Rattle.proto_links.proofs.NameRows.{equal_itself, less_not_equal}
 use Rattle.proto_names.proofs.NameOrder.{equal_alike, name_total, same_name}
 use Rattle.proto_names.specs.Chains.{IsStart, IsNowhere}
@@ -45,11 +46,6 @@ lt_less Greater h = absurd (true≢false (sym h))
 pub not_lt_less : (o : Ordering) → is_lt o ≡ false → o ≢ Less
 not_lt_less o h e = true≢false (ap is_lt (sym e) ∙ h)
 
-pub eq_equal : (o : Ordering) → is_eq o ≡ true → o ≡ Equal
-eq_equal Less h = absurd (true≢false (sym h))
-eq_equal Equal h = refl
-eq_equal Greater h = absurd (true≢false (sym h))
-
 pub not_eq_equal : (o : Ordering) → is_eq o ≡ false → o ≢ Equal
 not_eq_equal o h e = true≢false (ap is_eq (sym e) ∙ h)
 
@@ -74,7 +70,7 @@ less_point os target n p = (λ k d a b. lt_less _ (p.0 k d a b), λ k d a b. not
 pub equal_point : (os : List Occurrence) (target : List ℕ) (n : ℕ)
     → IsPartitionPoint (λ e. is_eq (slice_cmp nat_cmp (name_of e) target) ≡ true) (λ e. is_eq (slice_cmp nat_cmp (name_of e) target) ≡ false) os n
     → IsPartitionPoint (λ e. name_of e ≡ target) (λ e. name_of e ≢ target) os n
-equal_point os target n p = (λ k d a b. exact_bytes _ _ (eq_equal _ (p.0 k d a b)), λ k d a b e. not_eq_equal _ (p.1 k d a b) (equal_itself _ _ e))
+equal_point os target n p = (λ k d a b. exact_bytes _ _ ((Equal-is _).0 (p.0 k d a b)), λ k d a b e. not_eq_equal _ (p.1 k d a b) (equal_itself _ _ e))
 
 lower : (o p : Ordering) → ordering_index o ≤ ordering_index p → p ≡ Equal → o ≢ Equal → is_lt o ≡ true
 lower Less p h e n = refl
@@ -146,7 +142,7 @@ pub one_point : (os : List Occurrence) (target : List ℕ) → AreInHashOrder os
     → IsPartitionPoint (λ e. name_of e ≡ target) (λ e. name_of e ≢ target) os 1
 one_point os target up behind first second = (
   λ k d a b. (let zeroth : 0 ≡ k = omega arith in subst (λ i. name_of (get_or os i d) ≡ target) zeroth (first d)),
-  λ k d a b e. second d (omega (arith, a, b)) (exact_bytes _ _ (eq_equal _ (parted_equal os target up behind 1 k d a b (ap is_eq (equal_itself _ _ e))))),
+  λ k d a b e. second d (omega (arith, a, b)) (exact_bytes _ _ ((Equal-is _).0 (parted_equal os target up behind 1 k d a b (ap is_eq (equal_itself _ _ e))))),
 )
 
 nothing : (e : Occurrence) → Contains {X = Occurrence} [] e → ⊥

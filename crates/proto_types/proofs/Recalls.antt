@@ -4,6 +4,7 @@ use Rattle.std.specs.Prelude.{All, bytes_eq, find, string_bytes}
 use Rattle.std.proofs.Math.Bool.{cond}
 use Rattle.std.proofs.lemmas.List.Elements.{All-cons, All-head, All-nil, All-push, All-tail}
 use Rattle.std.proofs.lemmas.Slice.Eq.{bytes_eq-Decides}
+use Rattle.std.proofs.lemmas.Option.{none-some, same_Some}
 use Rattle.proto_names.specs.Occurrences.{Occurrence}
 use Rattle.proto_names.specs.declared.resolve.Resolved.{Resolved}
 use Rattle.proto_names.specs.Resolution.{IsType, Resolves}
@@ -51,32 +52,26 @@ meaning_by os Seen scope text place wanted options (Some r) m named is =
 
 -- ---- one among those that are recalled
 
-some_same : {X : Type 0} (y x : X) → Some y ≡ Some x → y ≡ x
-some_same y x is = cc
-
-none_some : {X : Type 0} (x : X) → None ≡ Some x → ⊥
-none_some x is = cc
-
 found_here : {X : Type 0} (P : X → Type 0) (b : Bool) (y x : X) (rest : Option X) → P y → (rest ≡ Some x → P x)
     → cond b (Some y) rest ≡ Some x → P x
-found_here P true y x rest here later is = subst P (some_same y x is) here
+found_here P true y x rest here later is = subst P (same_Some y x is) here
 found_here P false y x rest here later is = later is
 
 passes : {X : Type 0} (test : X → Bool) (b : Bool) (y x : X) (rest : Option X) → test y ≡ b
     → (rest ≡ Some x → test x ≡ true) → cond b (Some y) rest ≡ Some x → test x ≡ true
-passes test true y x rest here later is = sym (ap test (some_same y x is)) ∙ here
+passes test true y x rest here later is = sym (ap test (same_Some y x is)) ∙ here
 passes test false y x rest here later is = later is
 
 -- what holds of all holds of the one that is found
 pub found_has : {X : Type 0} (P : X → Type 0) (test : X → Bool) (xs : List X) (x : X) → All P xs
     → find test xs ≡ Some x → P x
-found_has P test [] x all is = absurd (none_some x is)
+found_has P test [] x all is = absurd (none-some x is)
 found_has P test (y ∷ ys) x all is =
     found_here P (test y) y x (find test ys) (All-head P y ys all)
     (λ later. found_has P test ys x (All-tail P y ys all) later) is
 
 pub found_passes : {X : Type 0} (test : X → Bool) (xs : List X) (x : X) → find test xs ≡ Some x → test x ≡ true
-found_passes test [] x is = absurd (none_some x is)
+found_passes test [] x is = absurd (none-some x is)
 found_passes test (y ∷ ys) x is =
     passes test (test y) y x (find test ys) refl (λ later. found_passes test ys x later) is
 

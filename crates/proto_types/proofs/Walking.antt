@@ -4,6 +4,7 @@ use Rattle.std.proofs.lemmas.List.{append-nil, take_more, take_more_set}
 use Rattle.std.proofs.lemmas.List.Concat.{flat_map-append}
 use Rattle.std.specs.List.{AllZip}
 use Rattle.std.specs.Prelude.{◌⊎◌, Option, Some, None, flat_map}
+use Rattle.std.proofs.lemmas.Slice.Zip.{all_zipped_more}
 use Rattle.proto_base.specs.declared.spot.Spot.{Spot}
 use Rattle.proto_base.specs.Lesser.{IsLesser}
 use Rattle.proto_base.proofs.Among.{least_append, least_nil, least_single}
@@ -21,12 +22,6 @@ use Rattle.proto_types.specs.declared.meaning.NamedType.{NamedType}
 flat_push : {X Y : Type 0} (f : X → List Y) (xs : List X) (x : X) → flat_map f (xs ++ x ∷ []) ≡ flat_map f xs ++ f x
 flat_push f xs x = flat_map-append f xs (x ∷ []) ∙ ap (λ z. flat_map f xs ++ z) (append-nil (f x))
 
-pub zip_push : {X Y : Type 0} (R : X → Y → Type 0) (xs : List X) (ys : List Y) (x : X) (y : Y) → AllZip R xs ys → R x y → AllZip R (xs ++ x ∷ []) (ys ++ y ∷ [])
-zip_push R [] [] x y all last = (last, tt)
-zip_push R [] (z ∷ ys) x y all last = absurd all
-zip_push R (z ∷ xs) [] x y all last = absurd all
-zip_push R (z ∷ xs) (w ∷ ys) x y all last = (all.0, zip_push R xs ys x y all.1 last)
-
 -- a fault is not lost
 lesser_right : (a r : Option Spot) (x : Spot) → IsLesser a (Some x) r → r ≡ None → ⊥
 lesser_right a r x w e = none_of (λ y. (a ≡ Some y) ⊎ (Some x ≡ Some y)) r w.least e x (inr refl)
@@ -34,26 +29,14 @@ lesser_right a r x w e = none_of (λ y. (a ≡ Some y) ⊎ (Some x ≡ Some y)) 
 -- ---- what is found
 
 module _ (os : List Occurrence) (Seen : ℕ → Type 0) where
-  pub finds_nil : (found : Found) → Finds os Seen [] found found
-  finds_nil found before h = rw (append-nil before) h
-
   pub finds_both : (rs qs : List Reference) (a b c : Found) → Finds os Seen rs a b → Finds os Seen qs b c → Finds os Seen (rs ++ qs) a c
   finds_both rs qs a b c h k before old = subst (λ xs. AreFound os Seen xs c) (append_assoc before rs qs) (k (before ++ rs) (h before old))
-
-  -- a walk over one more item of a list
-  pub finds_more : {X : Type 0} (f : X → List Reference) (xs : List X) (k : ℕ) (x : X) (a b c : Found) → k < length xs → x ≡ get_or xs k x
-      → Finds os Seen (flat_map f (take k xs)) a b
-      → Finds os Seen (f x) b c → Finds os Seen (flat_map f (take (k + 1) xs)) a c
-  finds_more f xs k x a b c below at so_far one =
-      let more : flat_map f (take (k + 1) xs) ≡ flat_map f (take k xs) ++ f x =
-      ap (flat_map f) (take_more xs k x below) ∙ flat_push f (take k xs) (get_or xs k x) ∙ ap (λ (y : _). flat_map f (take k xs) ++ f y) (sym at) in
-      rw more (finds_both (flat_map f (take k xs)) (f x) a b c so_far one)
 
   pub finds_one : (r : Reference) (m : Meaning) (old new : Found) → IsMeaning os Seen r m → Adds m old new → Finds os Seen (r ∷ []) old new
   finds_one r (Named t) old new h adds before so_far = record {
     least = rw adds.1 (least_append (ReferenceBreaks os Seen) before (r ∷ []) old.fault None old.fault so_far.least
         (least_single (ReferenceBreaks os Seen) r None h.0) (lesser_none old.fault));
-    means = λ none. rw adds.0 (zip_push (Means os Seen) before old.types.items r t (so_far.means (sym adds.1 ∙ none)) h.1);
+    means = λ none. rw adds.0 (all_zipped_more (Means os Seen) before old.types.items r t (so_far.means (sym adds.1 ∙ none)) h.1);
   }
   finds_one r (Wrong x) old new h adds before so_far = record {
     least = least_append (ReferenceBreaks os Seen) before (r ∷ []) old.fault (Some x) new.fault so_far.least
@@ -76,10 +59,6 @@ module _ (os : List Occurrence) (Seen : ℕ → Type 0) where
       let rest = zip_split rs qs types all.1 in
       (t ∷ rest.0, rest.1, ap (λ (zs : List NamedType). t ∷ zs) rest.2, (all.0, rest.3), rest.4)
 
-  pub puts_nil : (Made : Type 0) (old : List NamedType) → Made → Puts os Seen [] Made old old
-  puts_nil Made old made [] rest all is = (is, made)
-  puts_nil Made old made (t ∷ types) rest all is = absurd all
-
   pub puts_both : (rs qs : List Reference) (P Q R : Type 0) (a b c : List NamedType) → (P → Q → R) → Puts os Seen rs P a b → Puts os Seen qs Q b c
       → Puts os Seen (rs ++ qs) R a c
   puts_both rs qs P Q R a b c join h k types rest all is =
@@ -98,13 +77,10 @@ module _ (os : List Occurrence) (Seen : ℕ → Type 0) where
       → Puts os Seen (flat_map f (xs ++ x ∷ [])) (AllZip R (xs ++ x ∷ []) (ys ++ y ∷ [])) a c
   puts_more f R xs ys x y a b c h k =
       subst (λ zs. Puts os Seen zs (AllZip R (xs ++ x ∷ []) (ys ++ y ∷ [])) a c) (sym (flat_push f xs x))
-      (puts_both (flat_map f xs) (f x) (AllZip R xs ys) (R x y) (AllZip R (xs ++ x ∷ []) (ys ++ y ∷ [])) a b c (λ old new. zip_push R xs ys x y old new) h k)
+      (puts_both (flat_map f xs) (f x) (AllZip R xs ys) (R x y) (AllZip R (xs ++ x ∷ []) (ys ++ y ∷ [])) a b c
+      (λ old new. all_zipped_more R xs ys x y old new) h k)
 
 -- ---- what is filled
-
-pub filled_nil : {X : Type 0} (refs : List ℕ → X → List Reference) (Typed : List Occurrence → (ℕ → Type 0) → List ℕ → X → X → Type 0) (old : List NamedType)
-    → AreFilled refs Typed [] [] old old
-filled_nil refs Typed old = record { puts = λ os seen scope. puts_nil os (IsSeen seen) (AllZip (Typed os (IsSeen seen) scope) [] []) old tt }
 
 pub filled_more : {X : Type 0} (refs : List ℕ → X → List Reference) (Typed : List Occurrence → (ℕ → Type 0) → List ℕ → X → X → Type 0) (xs ys : List X)
     (x y : X) (a b c : List NamedType) → AreFilled refs Typed xs ys a b

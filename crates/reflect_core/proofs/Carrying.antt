@@ -6,6 +6,7 @@ use Rattle.std.proofs.lemmas.List.Elements.{All-contains, All-contains_itself, A
 use Rattle.std.proofs.lemmas.Option.{none-some, same_Some}
 use Rattle.first_reach.specs.Carried.{carried_from, reached, root_first}
 use Rattle.first_reach.specs.declared.mode.Mode.{Mode}
+use Rattle.proto_compile.proofs.Within.{some_of}
 
 pub record IsKept (reach : ℕ → List ℕ) (roots : List (Option ℕ)) (k : ℕ) (files : List ℕ) : Type 0 where
   pub root : Option ℕ
@@ -35,21 +36,12 @@ module _ (f : ℕ → List ℕ) where
   sum_of : (x : ℕ) (xs : List ℕ) → length (flat_map f (x ∷ xs)) ≡ length (f x) + length (flat_map f xs)
   sum_of x xs = length-append (f x) (flat_map f xs)
 
-  kept_step : (p : ℕ → Bool) (x : ℕ) (xs : List ℕ) (b : Bool) → length (flat_map f (filter p xs)) ≤ length (flat_map f xs)
-      → length (flat_map f (cond b (x ∷ filter p xs) (filter p xs))) ≤ length (flat_map f (x ∷ xs))
-  kept_step p x xs true rest = let a = sum_of x (filter p xs) in let b = sum_of x xs in omega (arith, a, b, rest)
-  kept_step p x xs false rest = let b = sum_of x xs in omega (arith, b, rest)
-
-  kept_short : (p : ℕ → Bool) (xs : List ℕ) → length (flat_map f (filter p xs)) ≤ length (flat_map f xs)
-  kept_short p [] = omega arith
-  kept_short p (x ∷ xs) = kept_step p x xs (p x) (kept_short p xs)
-
   moved_step : (r x : ℕ) (xs : List ℕ) (b : Bool) → b ≡ eqb x r → Contains (x ∷ xs) r
       → (Contains xs r → length (f r) + length (flat_map f (filter (λ g. not (eqb g r)) xs)) ≤ length (flat_map f xs))
       → length (f r) + length (flat_map f (cond (not b) (x ∷ filter (λ g. not (eqb g r)) xs) (filter (λ g. not (eqb g r)) xs))) ≤ length (flat_map f (x ∷ xs))
   moved_step r x xs true e w rest =
       let same = ap (λ y. length (f y)) (eqb-true x r (sym e)) in
-      let b = sum_of x xs in let less = kept_short (λ g. not (eqb g r)) xs in omega (arith, same, b, less)
+      let b = sum_of x xs in let less = some_of f (λ g. not (eqb g r)) xs in omega (arith, same, b, less)
   moved_step r x xs false e w rest = unpush x r xs w _
       (λ here. absurd (not_same x r here e))
       (λ later. let a = sum_of x (filter (λ g. not (eqb g r)) xs) in let b = sum_of x xs in let more = rest later in omega (arith, a, b, more))
@@ -63,7 +55,7 @@ module _ (f : ℕ → List ℕ) where
       → length (flat_map f (filter p (root_first reach (Some r)))) ≤ length (flat_map f (reach r))
   carried_short p reach r own =
       let others = filter (λ g. not (eqb g r)) (reach r) in
-      let some = kept_short p (r ∷ others) in let sum = sum_of r others in let moved = moved_short r (reach r) own in omega (arith, some, sum, moved)
+      let some = some_of f p (r ∷ others) in let sum = sum_of r others in let moved = moved_short r (reach r) own in omega (arith, some, sum, moved)
 
 -- what a reply carries is reached by its root
 pub carried_inside : (p : ℕ → Bool) (reach : ℕ → List ℕ) (r a : ℕ) → Contains (reach r) r → Contains (filter p (root_first reach (Some r))) a

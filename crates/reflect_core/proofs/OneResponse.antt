@@ -3,7 +3,7 @@ use Rattle.std.proofs.Common.{◌≡◌, ◌∙◌, ◌++◌, sym, ℕ, ◌<◌,
 use Rattle.std.specs.Set.{is_member}
 use Rattle.std.specs.Prelude.{Contains, flat_map, ◌==◌}
 use Rattle.std.specs.List.{AllZip}
-use Rattle.std.proofs.lemmas.Option.{none-some}
+use Rattle.std.proofs.lemmas.Option.{none-some, same_Some}
 use Rattle.first_reach.specs.Carried.{carried, carried_from, reached, repeats, root_first}
 use Rattle.first_reach.specs.declared.mode.Mode.{Mode}
 use Rattle.proto_base.specs.declared.limits.Limits.{Limits}
@@ -71,9 +71,6 @@ named_on c d same name a is = subst (λ files. IsNamed files name a) same.files 
 
 no_root : (r : ℕ) → None ≡ Some r → ⊥
 no_root r e = none-some r e
-
-some_root : (a r : ℕ) → Some a ≡ Some r → a ≡ r
-some_root a r e = cc
 
 module _ (c d : Compilation) (is : IsOne c d) where
   one_meaning : (ask : Ask) (x y : Answer) → Means c ask x → Means d ask y → x ≡ y
@@ -148,11 +145,11 @@ module _ (c d : Compilation) (is : IsOne c d) where
   -- roots are files
   pub root_inside : (ask : Ask) (x : Answer) (r : ℕ) → Means c ask x → root_of x ≡ Some r → r < length c.files
   root_inside (file_by_name name) x r meaning at = elim meaning [
-    | inl f ↦ (let same : f.0 ≡ r = some_root f.0 r (sym (ap root_of f.2) ∙ at) in let below = f.1.0 in omega (arith, same, below))
+    | inl f ↦ (let same : f.0 ≡ r = same_Some f.0 r (sym (ap root_of f.2) ∙ at) in let below = f.1.0 in omega (arith, same, below))
     | inr f ↦ absurd (no_root r (sym (ap root_of f.1) ∙ at))
   ]
   root_inside (file_by_symbol name) x r meaning at = elim meaning [
-    | inl f ↦ (let same : f.0.file ≡ r = some_root f.0.file r (sym (ap root_of f.2) ∙ at) in let below = is.inside f.0 f.1.declared in
+    | inl f ↦ (let same : f.0.file ≡ r = same_Some f.0.file r (sym (ap root_of f.2) ∙ at) in let below = is.inside f.0 f.1.declared in
         omega (arith, same, below))
     | inr f ↦ absurd (no_root r (sym (ap root_of f.1) ∙ at))
   ]

@@ -1,14 +1,12 @@
 -- The replies to some requests and to one more.
-use Rattle.std.proofs.Common.{◌≡◌, ◌∙◌, ℕ, zero, suc, ◌+◌, ◌<◌, List, [], ◌∷◌, ◌++◌, length, map, take, get_or, sym, ap, arith, refl, subst, append-nil, length-append, inl, inr}
+use Rattle.std.proofs.Common.{◌≡◌, ◌∙◌, ℕ, zero, suc, ◌+◌, ◌<◌, List, [], ◌∷◌, ◌++◌, length, map, take, get_or, sym, ap, arith, refl, subst, append-nil}
 use Rattle.std.specs.Prelude.{flat_map, Vec}
 use Rattle.std.specs.declared.alloc.Global.{Global}
-use Rattle.std.proofs.lemmas.Bool.{cases_lt}
-use Rattle.std.proofs.lemmas.List.{get_or_append_left, get_or_default, get_or_push}
 use Rattle.std.proofs.lemmas.List.Concat.{flat_map-append}
 use Rattle.proto_compile.specs.Compilation.{Compilation}
 use Rattle.reflect_core.specs.Reply.{Asked, contents_of, reply}
 use Rattle.reflect_core.specs.Response.{replies_to}
-use Rattle.reflect_core.specs.ResponseSteps.{AreContentsLengths, AreReplyable, HasContents, IsReplyable, asked_of, contents_length, files_of, reply_size}
+use Rattle.reflect_core.specs.ResponseSteps.{AreContentsLengths, AreReplyable, HasContents, IsReplyable, asked_of, files_of, reply_size}
 use Rattle.reflect_core.specs.declared.asked.Asked as rust
 use Rattle.reflect_requests.specs.Frames.{frame}
 use Rattle.reflect_core.proofs.ReplyParts.{reply_length}
@@ -44,25 +42,6 @@ replyable_at c services xs ys k a f files all below value is =
     subst (λ (l : List ℕ). IsReplyable c services (asked_of (get_or xs k a)) l) (sym (value ∙ ap files_of is)) (all.each k a f below)
 
 -- ---- how long is what members hold
-
-pub no_lengths : (c : Compilation) (xs : List rust.Asked) (ys : List (Vec ℕ Global)) → AreContentsLengths c xs ys [] 0
-no_lengths c xs ys = record { size = refl; each = λ k n a f below. absurd (omega (arith, below)) }
-
-pub length_more : (c : Compilation) (xs : List rust.Asked) (ys : List (Vec ℕ Global)) (lengths : List ℕ) (k own : ℕ) (a : rust.Asked) (f : Vec ℕ Global)
-    → k < length xs → k < length ys → AreContentsLengths c xs ys lengths k → own ≡ contents_length c (get_or xs k a) (get_or ys k f)
-    → AreContentsLengths c xs ys (lengths ++ own ∷ []) (k + 1)
-length_more c xs ys lengths k own a f below short so is =
-    record {
-      size = (let size = so.size in let sum = length-append lengths (own ∷ []) in omega (arith, size, sum));
-      each = λ j n b g within. elim (cases_lt j k) [
-        | inl less ↦ get_or_append_left lengths (own ∷ []) n j (let size = so.size in omega (arith, less, size)) ∙ so.each j n b g less
-        | inr most ↦ (
-            let same : k ≡ j = omega (arith, within, most) in
-            subst (λ i. get_or (lengths ++ own ∷ []) i n ≡ contents_length c (get_or xs i b) (get_or ys i g)) same
-            (get_or_push lengths own n k so.size ∙ is
-            ∙ (λ i. contents_length c (get_or_default xs k a b below i) (get_or_default ys k f g short i))))
-      ];
-    }
 
 -- what the member of a reply holds has room where the reply has
 pub has_contents : (c : Compilation) (services : List ℕ) (asked : Asked) (files : List ℕ) → IsReplyable c services asked files

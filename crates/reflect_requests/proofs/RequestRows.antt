@@ -1,27 +1,10 @@
 -- What reading a request keeps, over its list of fields.
-use Rattle.std.proofs.Common.{◌≡◌, ◌∙◌, sym, ℕ, ◌+◌, ◌<◌, ◌≤◌, List, [], ◌∷◌, length, drop, map, get_or, ap, refl, subst}
-use Rattle.std.specs.Prelude.{Option, Some, None}
-use Rattle.std.specs.List.{cons_option, filter_map, AllByRecursion}
-use Rattle.std.proofs.Math.ListN.{drop_of_length-le}
+use Rattle.std.proofs.Common.{◌≡◌, ◌∙◌, sym, ℕ, ◌+◌, ◌<◌, List, [], ◌∷◌, length, drop, map, get_or, ap, subst}
+use Rattle.std.specs.List.{filter_map, AllByRecursion}
 use Rattle.std.proofs.lemmas.List.{drop_more}
 use Rattle.wire_format.specs.Reading.{Value, IsRow}
-use Rattle.wire_format.specs.ProgramFields.{field_of}
-use Rattle.wire_format.specs.declared.reading.Field.{Field}
 use Rattle.wire_format.proofs.ReadingRows.{one_list}
-use Rattle.reflect_requests.specs.declared.request.Part.{Part}
 use Rattle.reflect_requests.specs.Request.{Ask, nothing, host_of, member_of, last_of, IsContainingTypeUtf8, IsExtensionRequest, IsWellFormed, ReadsRequest}
-use Rattle.reflect_requests.specs.RequestSteps.{host_in, member_in, Says}
-
--- ---- the last of a list
-
-pub next_or : {A : Type 0} → A → Option A → A
-next_or none None = none
-next_or none (Some x) = x
-
-last_cons : {A : Type 0} (none : A) (o : Option A) (xs : List A) → last_of none (cons_option o xs) ≡ last_of (next_or none o) xs
-unfolding next_or
-last_cons none None xs = refl
-last_cons none (Some x) xs = refl
 
 -- ---- a list whose items are tested one after the other
 
@@ -34,9 +17,6 @@ left_first P xs = record { ahead = λ all. all; back = λ all. all }
 
 pub left_next : {X : Type 0} (P : X → Type 0) (xs : List X) (x : X) (rest : List X) → P x → Left P xs (x ∷ rest) → Left P xs rest
 left_next P xs x rest here left = record { ahead = λ all. left.ahead (here, all); back = λ all. (left.back all).1 }
-
-pub left_none : {X : Type 0} (P : X → Type 0) (xs : List X) → Left P xs [] → AllByRecursion P xs
-left_none P xs left = left.ahead tt
 
 pub left_here : {X Y : Type 0} (P : Y → Type 0) (view : X → Y) (all : List Y) (xs : List X) (i : ℕ) (d : X) → i < length xs → Left P all (map view (drop i xs))
     → AllByRecursion P all → P (view (get_or xs i d))
@@ -72,30 +52,3 @@ pub record Decided (fields rest : List (ℕ × Value)) (host : List ℕ) (asked 
   pub known : Left IsWellFormed fields rest
   pub host_is : last_of host (filter_map host_of rest) ≡ last_of [] (filter_map host_of fields)
   pub asked_is : last_of asked (filter_map member_of rest) ≡ last_of nothing (filter_map member_of fields)
-
-pub decided_first : (fields : List (ℕ × Value)) → Decided fields fields [] nothing
-decided_first fields = record { known = left_first IsWellFormed fields; host_is = refl; asked_is = refl }
-
-decided_cons : (fields rest : List (ℕ × Value)) (field : ℕ × Value) (part : Part) (host : List ℕ) (asked : Ask) → Says field part
-    → Decided fields (field ∷ rest) host asked → Decided fields rest (next_or host (host_in part)) (next_or asked (member_in part))
-decided_cons fields rest field part host asked says decided = record {
-  known = left_next IsWellFormed fields field rest says.known decided.known;
-  host_is =
-      ap (λ o. last_of (next_or host o) (filter_map host_of rest)) says.host ∙ sym (last_cons host (host_of field) (filter_map host_of rest)) ∙ decided.host_is;
-  asked_is = ap (λ o. last_of (next_or asked o) (filter_map member_of rest)) says.member ∙ sym (last_cons asked (member_of field) (filter_map member_of rest))
-      ∙ decided.asked_is;
-}
-
-pub decided_next : (fields : List (ℕ × Value)) (items : List Field) (i : ℕ) (d : Field) (part : Part) (host : List ℕ) (asked : Ask) → i < length items
-    → Says (field_of (get_or items i d)) part
-    → Decided fields (map field_of (drop i items)) host asked
-    → Decided fields (map field_of (drop (i + 1) items)) (next_or host (host_in part)) (next_or asked (member_in part))
-decided_next fields items i d part host asked within says decided =
-    decided_cons fields (map field_of (drop (i + 1) items)) (field_of (get_or items i d)) part host asked says
-    (subst (λ xs. Decided fields (map field_of xs) host asked) (drop_more items i d within) decided)
-
-pub decided_last : (message : List ℕ) (fields : List (ℕ × Value)) (items : List Field) (i : ℕ) (host : List ℕ) (asked : Ask) → IsRow message fields
-    → length items ≤ i → Decided fields (map field_of (drop i items)) host asked → ReadsRequest message host asked
-decided_last message fields items i host asked row end decided =
-    let all : Decided fields [] host asked = subst (λ xs. Decided fields (map field_of xs) host asked) (drop_of_length-le items end) decided in
-    record { fields = fields; row = row; known = left_none IsWellFormed fields all.known; host_is = all.host_is; asked_is = all.asked_is }

@@ -1,5 +1,5 @@
 -- One block of a report after another.
-use Rattle.std.proofs.Common.{◌≡◌, ◌∙◌, sym, ap, subst, refl, ℕ, ◌+◌, ◌<◌, List, [], ◌∷◌, ◌++◌, length, take, get_or, append_assoc, Result, Ok, Err, IfOk, string_bytes}
+use Rattle.std.proofs.Common.{◌≡◌, ◌∙◌, sym, ap, subst, ℕ, ◌+◌, ◌<◌, List, [], ◌∷◌, ◌++◌, length, take, get_or, Result, Ok, Err, IfOk, string_bytes}
 use Rattle.std.proofs.lemmas.List.{append-nil, take_more}
 use Rattle.std.proofs.lemmas.List.Folds.{concat-append}
 use Rattle.std.proofs.lemmas.Slice.Zip.{all_zipped_more}
@@ -12,11 +12,10 @@ use Rattle.proto_base.specs.declared.limits.Limit.TheVariants.{FileBytes}
 use Rattle.proto_base.specs.declared.limits.Limits.{Limits}
 use Rattle.proto_compile.specs.Sources.{text_of}
 use Rattle.proto_compile.specs.declared.source.Source.{Source}
-use Rattle.schema_check.specs.Added.{AddsBlock, AddsSome}
-use Rattle.schema_check.specs.Reports.{IsBlock, IsHeadOf, IsPlaceOf, place_text, slash_behind}
+use Rattle.schema_check.specs.Added.{AddsBlock}
+use Rattle.schema_check.specs.Reports.{IsBlock, IsPlaceOf, place_text, slash_behind}
 use Rattle.schema_check.specs.Told.{ArePlaced, LiesWithin}
 use Rattle.schema_failure.specs.Lines.{shown_name}
-use Rattle.schema_failure.specs.Placed.{source_named}
 use Rattle.schema_sources.specs.Places.{folder_in}
 use Rattle.schema_sources.specs.declared.places.Places.{Places}
 
@@ -56,14 +55,6 @@ placed_text bytes limits places folder slash file f s e (Ok t) is within behind 
     ≡ place_text (folder_in places x) (slash_behind (folder_in places x)) (shown_name x) f.kind e in
     (e, is, subst R named (subst Q within (subst P behind said)))
 placed_text bytes limits places folder slash file f s e (Err x) is within behind named said = tt
-
--- a head, and what is put behind it
-pub head_and_more : (limits : Limits) (places : Places) (sources : List Source) (f : Fault) (old between new head : List ℕ)
-    → IsHeadOf limits places f (source_named sources (string_bytes f.file)) head → between ≡ old ++ head
-    → AddsSome between new → AddsBlock limits places sources f old new
-head_and_more limits places sources f old between new head is put (more, behind) =
-    let regroup : (old ++ head) ++ more ≡ old ++ (head ++ more) = simp append_assoc in
-    (head ++ more, (head, more, is, refl), behind ∙ ap (λ (xs : List ℕ). xs ++ more) put ∙ regroup)
 
 -- a told fault stands within the text of its file
 pub lies_within : (sources : List Source) (faults : List Fault) (k : ℕ) (f : Fault) → k < length faults → f ≡ get_or faults k f

@@ -1,7 +1,5 @@
 -- From the first fault of sources to those that are told.
-use Rattle.std.proofs.Common.{◌≡◌, ◌≢◌, ◌∙◌, sym, ap, subst, refl, zero, suc, List, [], ◌∷◌, inl, inr, Option, Some, map, arith}
-use Rattle.std.proofs.lemmas.List.{get_or-map, length-map}
-use Rattle.std.specs.Prelude.{Contains, string_bytes}
+use Rattle.std.proofs.Common.{◌≡◌, ◌≢◌, sym, ap, subst, refl, List, [], ◌∷◌, inl, inr, Option, Some, map, arith}
 use Rattle.file_faults.specs.FileFaults.{AreFileFaults, NamesDiffer}
 use Rattle.file_faults.proofs.Placing.{placed}
 use Rattle.file_faults.proofs.Telling.{SomeHas, every_fault, no_other}
@@ -13,7 +11,8 @@ use Rattle.proto_compile.specs.Sources.{name_at}
 use Rattle.proto_compile.specs.declared.error.CompileError.{CompileError}
 use Rattle.proto_compile.specs.declared.error.CompileError.TheVariants as errors
 use Rattle.proto_compile.specs.declared.source.Source.{Source}
-use Rattle.schema_check.specs.Told.{ArePlaced, AreTold, IsFirst, LiesWithin}
+use Rattle.schema_check.specs.Told.{ArePlaced, AreTold, IsFirst}
+use Rattle.share_work.proofs.Sums.{in_map, none_in}
 
 -- what is broken in the pass over each source by itself is a source's own fault
 own_fault : (limits : Limits) (sources : List Source) (x : SourceFault) → Breaks limits sources x → x.pass ≡ 1
@@ -31,15 +30,12 @@ own_fault limits sources _ (long_descriptor files typed links index a desc resol
     (omega (arith, pass))
 own_fault limits sources _ (long_set c written over) pass = absurd (omega (arith, pass))
 
-nothing_in : {X : Type 0} {x : X} → Contains [] x → ⊥
-nothing_in (k, inside, is) = omega (arith, inside)
-
 pub told_locally : (limits : Limits) (sources : List Source) (first : Fault) (faults : List Fault)
     → IsLeastFault limits sources (told_by first)
     → first.pass ≡ 1 → AreFileFaults limits sources (map told_by faults) → AreTold limits sources faults
 told_locally limits sources first [] least pass all =
     let (s, inside, has) = own_fault limits sources (told_by first) least.among.breaks pass in
-    absurd (nothing_in (every_fault limits sources [] s (told_by first) all inside has))
+    absurd (none_in (told_by first) (every_fault limits sources [] s (told_by first) all inside has))
 told_locally limits sources first (f ∷ faults) least pass all = (first, least, inl (pass, all))
 
 pub first_told : (limits : Limits) (sources : List Source) (e : CompileError) (first : Fault) → e ≡ errors.First first
@@ -56,14 +52,6 @@ told_alone limits sources first least later = (first, least, inr (later, refl, r
 
 -- ---- places
 
-contains_map : {X Y : Type 0} (g : X → Y) (xs : List X) (x : X) → Contains xs x → Contains (map g xs) (g x)
-contains_map g xs x (k, below, is) = (
-  k,
-  omega (arith, below, length-map xs g),
-  get_or-map g xs k x (g x) below
-      ∙ ap g is,
-)
-
 -- where a file's own fault is the first, no two files have one name
 names_differ : (limits : Limits) (sources : List Source) (x : SourceFault) → IsFault limits sources x → x.pass ≡ 1
     → NamesDiffer sources
@@ -76,7 +64,7 @@ pub placed_locally : (limits : Limits) (sources : List Source) (first : Fault) (
     → first.pass ≡ 1 → AreFileFaults limits sources (map told_by faults) → ArePlaced sources faults
 placed_locally limits sources first faults least pass all f inside =
     let differ = names_differ limits sources (told_by first) least.among pass in
-    let told = contains_map told_by faults f inside in
+    let told = in_map told_by faults f inside in
     let (t, there, own_one) = no_other limits sources (map told_by faults) (told_by f) all told in
     let (step, place, what, found, is) = own_one in
     let own = placed limits sources (map told_by faults) (told_by f) t differ all told there (sym (ap (λ
@@ -87,18 +75,8 @@ placed_locally limits sources first faults least pass all f inside =
       short = omega (arith, own.1, bound);
     }
 
-pub placed_alone : (limits : Limits) (sources : List Source) (first : Fault)
-    → IsPlaced limits sources (string_bytes first.file) first.place
-    → ArePlaced sources (first ∷ [])
-placed_alone limits sources first is f (zero, below, same) =
-    let P : Fault → Type 0 = λ g. LiesWithin sources g in
-    let bound = limits.file_bytes_bound in
-    let short = is.short in
-    subst P same (record { within = is.within; short = omega (arith, short, bound) })
-placed_alone limits sources first is f (suc k, below, same) = absurd (omega (arith, below))
-
 pub placed_none : (sources : List Source) → ArePlaced sources []
-placed_none sources f inside = absurd (nothing_in inside)
+placed_none sources f inside = absurd (none_in f inside)
 
 -- what was found, where something was
 pub first_is : (limits : Limits) (sources : List Source) (found : Option Fault) (first : Fault)

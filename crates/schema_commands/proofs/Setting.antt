@@ -1,10 +1,10 @@
 -- From the writing of each file to that of a set.
 use Rattle.std.proofs.Common.{◌≡◌, ◌∙◌, ℕ, suc, ◌+◌, ◌≤◌, List, [], ◌∷◌, ◌++◌, ◌<◌, length, get_or, sym, ap, subst, arith, refl}
-use Rattle.std.specs.Prelude.{take, drop, flat_map, Contains, Result, Ok, Err, OnOk, OnErr, IsErrAnd}
+use Rattle.std.specs.Prelude.{take, drop, flat_map, Result, Ok, Err, OnOk, OnErr, IsErrAnd}
 use Rattle.std.proofs.lemmas.Grind.{flat_map-append}
 use Rattle.std.specs.Io.KnownBytes.{Appends}
-use Rattle.std.proofs.KnownBytes.{Appends-nil, Appends-trans}
-use Rattle.std.proofs.lemmas.List.{append_assoc, append-nil, get_or_default, length-append, take-append-drop, take-append-le, take_more}
+use Rattle.std.proofs.KnownBytes.{Appends-trans}
+use Rattle.std.proofs.lemmas.List.{append_assoc, append-nil, length-append, take-append-drop, take-append-le, take_more}
 use Rattle.std.proofs.Math.Seq.{take-append-add}
 use Rattle.grpcweb_core.specs.Exchange.{IsWritten}
 use Rattle.grpcweb_core.specs.Streams.{Writes}
@@ -18,23 +18,12 @@ pub record IsTaken (old now : Writes) (bytes : List ℕ) : Type 0 where
   pub failures : now.failures ≡ old.failures
   pub contents : Appends old.contents now.contents bytes
 
-pub none_taken : (old : Writes) → IsTaken old old []
-none_taken old = record { taken = sym (append-nil old.bytes); failures = refl; contents = Appends-nil old.contents }
-
 pub of_written : (old now : Writes) (bytes : List ℕ) → IsWritten old now bytes → IsTaken old now bytes
 of_written old now bytes w = record { taken = w.taken; failures = w.failures; contents = w.contents }
 
 both_taken : (old now new : Writes) (xs ys : List ℕ) → now.bytes ≡ old.bytes ++ xs → new.bytes ≡ now.bytes ++ ys
     → new.bytes ≡ old.bytes ++ (xs ++ ys)
 both_taken old now new xs ys first more = more ∙ ap (λ l. l ++ ys) first ∙ append_assoc old.bytes xs ys
-
-pub more_taken : (old now new : Writes) (xs ys : List ℕ) → IsTaken old now xs → IsTaken now new ys
-    → IsTaken old new (xs ++ ys)
-more_taken old now new xs ys first more = record {
-  taken = both_taken old now new xs ys first.taken more.taken;
-  failures = more.failures ∙ first.failures;
-  contents = Appends-trans old.contents now.contents new.contents xs ys first.contents more.contents;
-}
 
 -- what is written after all of these bytes
 pub output_after : {B : Type 0} (old now new : Writes) (xs ys : List ℕ) (done : Result B Failure) → IsTaken old now xs
@@ -86,9 +75,6 @@ set_split f xs k h =
     ∙ ap (λ (t : List ℕ). flat_map f (take k xs) ++ t) last in
     ap (flat_map f) (sym (take-append-drop (k + 1) xs)) ∙ flat_map-append f (take (k + 1) xs) (drop (k + 1) xs)
     ∙ ap (λ (l : List ℕ). l ++ flat_map f (drop (k + 1) xs)) front
-
-pub one_of : (xs : List ℕ) (k d : ℕ) → k < length xs → Contains xs (get_or xs k d)
-one_of xs k d h = (k, h, get_or_default xs k (get_or xs k d) d h)
 
 -- ---- room
 

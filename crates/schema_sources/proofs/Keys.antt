@@ -1,5 +1,5 @@
 -- Names that are the keys of a set, in their order.
-use Rattle.std.proofs.Common.{◌≡◌, ◌∙◌, ap, arith, refl, ℕ, ◌+◌, ◌<◌, List, [], ◌∷◌, Ordering, get_or, length, map}
+use Rattle.std.proofs.Common.{◌≡◌, ◌∙◌, ap, arith, refl, ℕ, ◌+◌, ◌<◌, List, [], ◌∷◌, get_or, length, map}
 use Rattle.std.specs.Cmp.Lexicographic.{slice_cmp}
 use Rattle.std.specs.List.Sorted.{IsStrictlySortedBy}
 use Rattle.std.specs.Ordering.{nat_cmp}
@@ -7,12 +7,10 @@ use Rattle.std.proofs.lemmas.List.{get_or-map, length-map}
 use Rattle.std.proofs.lemmas.Map.Keys.{Less-from_sorted}
 use Rattle.proto_base.specs.NameOrder.{NamesRise}
 use denote.Ref.{Bor}
+use Rattle.proto_base.proofs.Sets.{text_cmp}
 
 abbrev pub text_of : Bor (List ℕ) → List ℕ
 text_of name = name.now
-
-abbrev pub text_cmp : Bor (List ℕ) → Bor (List ℕ) → Ordering
-text_cmp a b = slice_cmp nat_cmp a.now b.now
 
 no_neighbours : (k : ℕ) → k + 1 < 0 → ⊥
 no_neighbours k h = omega arith

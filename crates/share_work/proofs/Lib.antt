@@ -6,3 +6,4 @@ pub mod MarkSteps
 pub mod Paying
 pub mod PieceRows
 pub mod Together
+pub mod Giving

@@ -1,7 +1,9 @@
 -- How far a mark has come with what it owes.
-use Rattle.std.proofs.Common.{◌≡◌, ℕ, zero, suc, ◌+◌, ◌-◌, ◌<◌, ◌≤◌, ⊎_elim, Bool, cond, Option, List, [], ◌∷◌, ◌++◌, take, drop, length, slice_get, Some, None, ◌==◌, sym, refl, ap, ◌∙◌, arith, append_assoc, append-nil, add-one}
+use Rattle.std.proofs.Common.{◌≡◌, ℕ, zero, suc, ◌+◌, ◌-◌, ◌<◌, ◌≤◌, ⊎_elim, Bool, cond, Option, List, [], ◌∷◌, ◌++◌, take, drop, length, slice_get, Some, None, ◌==◌, sym, refl, ap, ◌∙◌, arith, append_assoc, append-nil, add-one, inl, inr}
 use Rattle.std.specs.Prelude.{Contains}
 use Rattle.std.proofs.lemmas.Bool.{eq-eqb, ne_eqb, cases_eq}
+use Rattle.std.proofs.lemmas.Option.{slice_get_cases}
+use Rattle.std.proofs.lemmas.List.{drop_all, take_all}
 use Rattle.share_work.specs.declared.views.Call.{Call}
 use Rattle.share_work.specs.declared.mark_view.MarkView.{MarkView}
 use Rattle.share_work.specs.Views.{call, make_view, posts_of}
@@ -24,26 +26,18 @@ get_some (x ∷ xs) zero g e =
     let is : x ≡ g = cc in (omega arith, ap (λ (y : ℕ). y ∷ []) is, ap (λ (y : ℕ). y ∷ xs) is, (0, omega arith, is))
 get_some (x ∷ xs) (suc k) g e = let r = get_some xs k g e in (omega (arith, r.0), ap (λ (l : List ℕ). x ∷ l) r.1, r.2, behind x xs g r.3)
 
+pub none_past : {X : Type 0} (xs : List X) (k : ℕ) → slice_get xs k ≡ None → length xs ≤ k
+none_past xs k e = elim (slice_get_cases xs k).1 [
+  | inl here ↦ let bad : Some here.0 ≡ None = sym here.2 ∙ e in cc
+  | inr past ↦ past.0
+]
+
 pub get_none : (files : List ℕ) (k : ℕ) → slice_get files k ≡ None → (take k files ≡ files) × (drop k files ≡ [])
-get_none [] zero e = (refl, refl)
-get_none [] (suc k) e = (refl, refl)
-get_none (x ∷ xs) zero e = absurd (cc)
-get_none (x ∷ xs) (suc k) e = let r = get_none xs k e in (ap (λ (l : List ℕ). x ∷ l) r.0, r.1)
+get_none files k e = let past = none_past files k e in (take_all k files past, drop_all k files past)
 
 pub some_length : (files : List ℕ) (g : ℕ) → Contains files g → 0 < length files
 some_length [] g h = absurd (none_in g h)
 some_length (x ∷ xs) g h = omega arith
-
-none_past : (files : List ℕ) (k : ℕ) → slice_get files k ≡ None → length files ≤ k
-none_past [] k e = omega arith
-none_past (x ∷ xs) zero e = absurd (cc)
-none_past (x ∷ xs) (suc k) e = let ih = none_past xs k e in omega arith
-
-drop_end : (files : List ℕ) (k : ℕ) → length files ≤ k → drop k files ≡ []
-drop_end [] zero h = refl
-drop_end [] (suc k) h = refl
-drop_end (x ∷ xs) zero h = absurd (omega arith)
-drop_end (x ∷ xs) (suc k) h = drop_end xs k (omega arith)
 
 pub posts-append : (xs ys : List Call) → posts_of (xs ++ ys) ≡ posts_of xs ++ posts_of ys
 posts-append [] ys = refl
@@ -100,7 +94,7 @@ owed_next list v root n k g last d e is =
     ap (λ (y : Option Debt). owed_by list y) (next_is root n k files v last d is) in
     path ∙ ⊎_elim
     (λ (end : k + 1 ≡ length files). ap (λ (b : Bool). owed_by list (cond b None (Some (make_debt root n (k + 1))))) (eq-eqb (k + 1) (length files) end)
-    ∙ ap (λ (l : List ℕ). at_each n l) (sym (drop_end files (suc k) (omega arith))))
+    ∙ ap (λ (l : List ℕ). at_each n l) (sym (drop_all (suc k) files (omega arith))))
     (λ (more : k + 1 ≡ length files → ⊥). ap (λ (b : Bool). owed_by list (cond b None (Some (make_debt root n (k + 1))))) (ne_eqb (k + 1) (length files) more)
     ∙ ap (λ (j : ℕ). at_each n (drop j files)) (add-one k))
     (cases_eq (k + 1) (length files))

@@ -1,5 +1,5 @@
 -- Facts on the row of one worker, and on the rows of some workers.
-use Rattle.std.proofs.Common.{map, ◌≡◌, ℕ, zero, suc, ◌+◌, ◌-◌, ◌*◌, ◌/◌, ◌%◌, ◌<◌, ◌≤◌, ◌⊎◌, min, List, [], ◌∷◌, ◌++◌, length, take, drop, slice_get, Some, None, Result, Ok, Err, IfOk, IsOkAnd, OnOk, length-append, get_or, refl, sym, ap, ◌∙◌, subst, arith, inl, inr, rules}
+use Rattle.std.proofs.Common.{map, ◌≡◌, ℕ, zero, suc, ◌+◌, ◌-◌, ◌*◌, ◌/◌, ◌%◌, ◌<◌, ◌≤◌, ◌⊎◌, min, List, [], ◌∷◌, ◌++◌, length, take, drop, slice_get, Some, None, Result, Ok, Err, IfOk, IsOkAnd, OnOk, length-append, get_or, refl, sym, ap, ◌∙◌, subst, arith, inl, inr, rules, set}
 use Rattle.std.specs.List.{slice_range}
 use Rattle.std.proofs.lemmas.List.{take_min, length-drop, length-take-le, map-append}
 use Rattle.std.proofs.lemmas.Option.{slice_get_within}
@@ -267,7 +267,7 @@ one_member (x ∷ []) e = (x, refl)
 one_member (x ∷ y ∷ xs) e = absurd (omega arith)
 
 module _ {S T : Type 0} (holds : S → ℕ → ℕ → Type 0) (adds : ℕ → T → ℕ → ℕ → Type 0) (workers cut : ℕ) (items : List T) where
-  pub one_gains : (w : ℕ) (s s' : S) → SeatGains holds adds workers cut items w s s' → SeatsGain holds adds workers cut items w (s ∷ []) (s' ∷ [])
+  one_gains : (w : ℕ) (s s' : S) → SeatGains holds adds workers cut items w s s' → SeatsGain holds adds workers cut items w (s ∷ []) (s' ∷ [])
   one_gains w s s' h = record { len = refl; each = one } where
     one : (j : ℕ) (a b : S) → slice_get (s ∷ []) j ≡ Some a → slice_get (s' ∷ []) j ≡ Some b → SeatGains holds adds workers cut items (w + j) a b
     one zero a b e e' =
@@ -278,6 +278,13 @@ module _ {S T : Type 0} (holds : S → ℕ → ℕ → Type 0) (adds : ℕ → T
         let same : w ≡ w + 0 = omega arith in
         subst P x (subst Q y (subst W same h))
     one (suc j) a b e e' = let bad : None ≡ Some a = e in absurd (search rules)
+
+  -- the same of a list's one seat, read with any default
+  pub only_gains : (w : ℕ) (seats : List S) (d s' : S) → length seats ≡ 1 → SeatGains holds adds workers cut items w (get_or seats 0 d) s'
+      → SeatsGain holds adds workers cut items w seats (set seats 0 s')
+  only_gains w [] d s' e h = absurd (omega arith)
+  only_gains w (x ∷ []) d s' e h = one_gains w x s' h
+  only_gains w (x ∷ y ∷ xs) d s' e h = absurd (omega arith)
 
   pub one_has : (w : ℕ) (s' : S) → SeatHas holds adds workers cut items w s' → SeatsHave holds adds workers cut items w (s' ∷ [])
   one_has w s' h = record { each = one } where

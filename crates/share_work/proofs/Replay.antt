@@ -1,8 +1,8 @@
 -- The calls at a word have an order in which each found the least number posted before it.
-use Rattle.std.proofs.Common.{◌≡◌, ℕ, zero, suc, ◌<◌, ◌≤◌, ◌⊎◌, inl, inr, ⊎_elim, Bool, true, false, cond, ◌==◌, List, [], ◌∷◌, length, get_or, take, filter, sym, ap, ◌∙◌, subst, arith, min}
+use Rattle.std.proofs.Common.{◌≡◌, ℕ, zero, suc, ◌<◌, ◌≤◌, ◌⊎◌, inl, inr, ⊎_elim, Bool, true, ◌==◌, List, [], ◌∷◌, length, get_or, take, filter, sym, ap, subst, arith, min}
 use Rattle.std.specs.Prelude.{AllPairs, Contains}
 use Rattle.std.specs.List.Sorted.{IsPermutation}
-use Rattle.std.proofs.lemmas.Bool.{eqb-true, eq-eqb, cases_Bool, cases_lt}
+use Rattle.std.proofs.lemmas.Bool.{eqb-true, eq-eqb, cases_lt}
 use Rattle.std.proofs.lemmas.List.Kept.{AllPairs-cons, AllPairs-filter}
 use Rattle.std.proofs.lemmas.List.Sorted.{Contains-permutation, IsPermutation-refl, IsPermutation-sym, IsPermutation-trans, IsPermutation-cons, IsPermutation-middle}
 use Rattle.share_work.specs.declared.views.Call.{Call}
@@ -10,29 +10,8 @@ use Rattle.share_work.specs.Posts.{NONE, least_at}
 use Rattle.share_work.specs.Views.{posts_of}
 use Rattle.share_work.specs.Rule.{IsLegalAt}
 use Rattle.share_work.specs.Order.{MayFollow, IsOrderAt, EachFindsLeast, CallsReplay}
-use Rattle.share_work.proofs.Sums.{none_in, front, behind, front_or_behind, all_of, pairs_first}
+use Rattle.share_work.proofs.Sums.{none_in, front, behind, front_or_behind, all_of, pairs_first, of_filter, in_filter}
 use Rattle.share_work.proofs.Legal.{Apart, FellTo, least_here, least_at-le-NONE}
-
-module _ {A : Type 0} (p : A → Bool) where
-  of_filter : (xs : List A) (x : A) → Contains (filter p xs) x → Contains xs x × (p x ≡ true)
-  of_filter [] x h = absurd (none_in x h)
-  of_filter (y ∷ ys) x h =
-      let P : Bool → Type 0 = λ b. Contains (cond b (y ∷ filter p ys) (filter p ys)) x in
-      let later : Contains (filter p ys) x → Contains (y ∷ ys) x × (p x ≡ true) = λ k. let r = of_filter ys x k in (behind y ys x r.0, r.1) in
-      ⊎_elim
-      (λ (t : p y ≡ true). ⊎_elim (λ (e : y ≡ x). (subst (Contains (y ∷ ys)) e (front y ys), ap p (sym e) ∙ t)) later
-      (front_or_behind y (filter p ys) x (subst P t h)))
-      (λ (f : p y ≡ false). later (subst P f h)) (cases_Bool (p y))
-
-  in_filter : (xs : List A) (x : A) → Contains xs x → p x ≡ true → Contains (filter p xs) x
-  in_filter [] x h t = absurd (none_in x h)
-  in_filter (y ∷ ys) x h t =
-      let P : Bool → Type 0 = λ b. Contains (cond b (y ∷ filter p ys) (filter p ys)) x in
-      ⊎_elim
-      (λ (e : y ≡ x). subst P (sym (ap p e ∙ t)) (subst (Contains (y ∷ filter p ys)) e (front y (filter p ys))))
-      (λ k. let r = in_filter ys x k t in
-      ⊎_elim (λ (s : p y ≡ true). subst P (sym s) (behind y (filter p ys) x r)) (λ (f : p y ≡ false). subst P (sym f) r) (cases_Bool (p y)))
-      (front_or_behind y ys x h)
 
 pairs_rest : {A : Type 0} (R : A → A → Type 0) (x : A) (xs : List A) → AllPairs R (x ∷ xs) → AllPairs R xs
 pairs_rest R x xs pairs i j d a b = pairs (suc i) (suc j) d (omega arith) (omega arith)

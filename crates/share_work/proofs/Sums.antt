@@ -1,9 +1,9 @@
 -- Members of lists, and sums over the lists of all views.
-use Rattle.std.proofs.Common.{◌≡◌, ℕ, zero, suc, ◌+◌, ◌<◌, ◌≤◌, ◌⊎◌, inl, inr, Bool, true, false, cond, eqb, ◌&&◌, List, [], ◌∷◌, map, set, sym, refl, ap, ◌∙◌, subst, arith}
+use Rattle.std.proofs.Common.{◌≡◌, ℕ, zero, suc, ◌+◌, ◌<◌, ◌≤◌, ◌⊎◌, inl, inr, Bool, true, false, cond, eqb, ◌&&◌, List, [], ◌∷◌, map, set, sym, refl, ap, ◌∙◌, subst, arith, filter, ⊎_elim}
 use Rattle.std.specs.Prelude.{All, AllPairs, Contains}
 use Rattle.std.specs.List.{flat_map, sum_by, count_by}
 use Rattle.std.proofs.lemmas.Bool.{and_parts, and_from, eqb-true, eq-eqb, cases_Bool}
-use Rattle.std.proofs.lemmas.List.Elements.{Contains-get_or, Contains-append_left, Contains-append_right, Contains-append_cases}
+use Rattle.std.proofs.lemmas.List.Elements.{Contains-get_or, Contains-append_left, Contains-append_right, Contains-append_cases, All-contains, All-contains_itself, All-filter, filter_passes}
 use Rattle.std.proofs.lemmas.List.Sums.{sum_by-cons, sum_by-append}
 use mathlib.Core.Option.{some, some-injective, some-ne-none}
 use lib.ListN.{get_elem?}
@@ -61,11 +61,23 @@ of_flat f (x ∷ xs) y h = elim (Contains-append_cases (f x) (flat_map f xs) y h
   | inr k ↦ let r = of_flat f xs y k in (r.0, behind x xs r.0 r.1, r.2)
 ]
 
--- ---- sums and counts
+pub of_filter : {A : Type 0} (p : A → Bool) (xs : List A) (x : A) → Contains (filter p xs) x → Contains xs x × (p x ≡ true)
+of_filter p xs x h = (
+  All-contains (Contains xs) (filter p xs) x (All-filter p (Contains xs) xs (All-contains_itself xs)) h,
+  All-contains (λ y. p y ≡ true) (filter p xs) x (filter_passes p xs) h,
+)
 
-pub sum_by-map : {A B : Type 0} (h : B → ℕ) (f : A → B) (xs : List A) → sum_by h (map f xs) ≡ sum_by (λ x. h (f x)) xs
-sum_by-map h f [] = refl
-sum_by-map h f (x ∷ xs) = omega (arith, sum_by-cons h (f x) (map f xs), sum_by-cons (λ y. h (f y)) x xs, sum_by-map h f xs)
+pub in_filter : {A : Type 0} (p : A → Bool) (xs : List A) (x : A) → Contains xs x → p x ≡ true → Contains (filter p xs) x
+in_filter p [] x h t = absurd (none_in x h)
+in_filter p (y ∷ ys) x h t =
+    let P : Bool → Type 0 = λ b. Contains (cond b (y ∷ filter p ys) (filter p ys)) x in
+    ⊎_elim
+    (λ (e : y ≡ x). subst P (sym (ap p e ∙ t)) (subst (Contains (y ∷ filter p ys)) e (front y (filter p ys))))
+    (λ k. let r = in_filter p ys x k t in
+    ⊎_elim (λ (s : p y ≡ true). subst P (sym s) (behind y (filter p ys) x r)) (λ (f : p y ≡ false). subst P (sym f) r) (cases_Bool (p y)))
+    (front_or_behind y ys x h)
+
+-- ---- sums and counts
 
 pub sum_by-flat_map : {A B : Type 0} (h : B → ℕ) (f : A → List B) (xs : List A) → sum_by h (flat_map f xs) ≡ sum_by (λ x. sum_by h (f x)) xs
 sum_by-flat_map h f [] = refl

@@ -10,6 +10,7 @@ mod least_table;
 mod mark_table;
 mod mark_view;
 mod order;
+pub mod phases;
 mod plan;
 mod reach;
 mod shares;

@@ -1,3 +1,3 @@
-mod Named
+pub mod Named
 mod Neighbours
 mod Taking

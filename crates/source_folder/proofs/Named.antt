@@ -14,7 +14,8 @@ as_many f g xs ys names =
     sym (length-map xs.items f) ∙ ap length names ∙ length-map ys.items g in
     omega (arith, same, xs.ok, ys.ok)
 
-unmapped : {X Y : Type 0} (f : X → Y) (P : Y → Type 0) (xs : List X) → All P (map f xs) → All (λ x. P (f x)) xs
+-- what holds of the elements of a mapped list
+pub unmapped : {X Y : Type 0} (f : X → Y) (P : Y → Type 0) (xs : List X) → All P (map f xs) → All (λ x. P (f x)) xs
 unmapped f P xs all k d h = subst P (get_or-map f xs k d (f d) h) (all k (f d) (omega (arith, h, length-map xs f)))
 
 -- texts of names that end in `.proto`

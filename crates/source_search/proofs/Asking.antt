@@ -16,6 +16,7 @@ use Rattle.std.proofs.lemmas.List.{append-nil, append_assoc, map-append, take_mo
 use Rattle.std.proofs.lemmas.List.Elements.{All-append, All-contains, All-cons, All-head, All-map, All-nil, All-push, All-weaker, Contains-append_left, Contains-push}
 use Rattle.std.proofs.lemmas.Map.Keys.{IsDistinct-push}
 use Rattle.std.proofs.lemmas.Map.Text.{btree_set_updates_text}
+use Rattle.std.proofs.lemmas.Option.{none-some, same_Some}
 use Rattle.proto_base.specs.declared.limits.Limits.{Limits}
 use Rattle.source_folder.specs.Folder.{name_of}
 use Rattle.source_folder.specs.declared.folder.NamedText.{NamedText}
@@ -84,12 +85,6 @@ not_given limits known given sources asked name new s there =
     (λ source at. All-contains (λ (one : Named). asked one.0 ≡ true) sources source s.asked_for at) given s.given_in) in
     true≢false (sym (All-contains (λ n. asked n ≡ true) (map name_in given) name each there) ∙ new)
 
-none_some : {X : Type 0} (x : X) → None ≡ Some x → ⊥
-none_some x e = cc
-
-some_same : {X : Type 0} (x y : X) → Some x ≡ Some y → x ≡ y
-some_same x y e = cc
-
 -- what is asked for now: the name, and what was asked for before
 more_asked : (asked later : List ℕ → Bool) (name : List ℕ) → ((other : List ℕ)
     → later other ≡ (if bytes_eq name other then true else asked other))
@@ -116,7 +111,7 @@ none_more limits known given sources asked later name is on s = record {
         → lookup other ≡ Some text
         → (bytes_eq name other ≡ true) ⊎ (asked other ≡ true) → Contains sources (other, text)
     by lookup at other text free has (inl same) =
-        absurd (none_some text (found_at known lookup name None at on ∙ ap lookup (same_bytes name other same) ∙ has))
+        absurd (none-some text (found_at known lookup name None at on ∙ ap lookup (same_bytes name other same) ∙ has))
     by lookup at other text free has (inr before) = s.found lookup at other text before free has
 
 -- a text was found under the name
@@ -156,7 +151,7 @@ some_more limits known given sources asked later name text new is on worth s = r
         → (bytes_eq name other ≡ true) ⊎ (asked other ≡ true) → Contains (sources ++ one ∷ []) (other, bytes)
     by lookup at other bytes free has (inl same) =
         let named : name ≡ other = same_bytes name other same in
-        let held : text.items ≡ bytes = some_same text.items bytes
+        let held : text.items ≡ bytes = same_Some text.items bytes
         (found_at known lookup name (Some text) at on ∙ ap lookup named ∙ has) in
         subst (λ b. Contains (sources ++ one ∷ []) (other, b)) held
         (subst (λ n. Contains (sources ++ one ∷ []) (n, text.items)) named (Contains-push sources one))

@@ -1,8 +1,7 @@
 -- What a text imports.
-use Rattle.std.proofs.Common.{◌≡◌, ◌∙◌, sym, ap, subst, ℕ, zero, suc, ◌<◌, List, [], ◌∷◌, length, map, get_or, Bool, true, false, cond, arith}
+use Rattle.std.proofs.Common.{◌≡◌, sym, subst, ℕ, List, [], map, true, arith}
 use Rattle.std.specs.Prelude.{flat_map, filter}
 use Rattle.std.specs.List.{Contains}
-use Rattle.std.proofs.lemmas.List.Elements.{All-contains, All-contains_itself, All-filter, Contains-append_right, filter_passes}
 use Rattle.proto_base.specs.Limits.{limit_of}
 use Rattle.proto_base.specs.declared.limits.Limit.TheVariants as limit
 use Rattle.proto_base.specs.declared.limits.Limits.{Limits}
@@ -18,25 +17,7 @@ use Rattle.proto_tree.specs.declared.file.FileTree.{FileTree}
 use Rattle.proto_tree.specs.declared.file.Statement.{Statement}
 use Rattle.source_folder.specs.Paths.{is_below}
 use Rattle.source_search.specs.Imports.{AreImportsOf, imported, path_of}
-
--- ---- what a filter keeps
-
-kept : {X : Type 0} (p : X → Bool) (xs : List X) (x : X) → Contains (filter p xs) x → Contains xs x × (p x ≡ true)
-kept p xs x there = (
-  All-contains (Contains xs) (filter p xs) x (All-filter p (Contains xs) xs (All-contains_itself xs)) there,
-  All-contains (λ y. p y ≡ true) (filter p xs) x (filter_passes p xs) there,
-)
-
-behind : {X : Type 0} (b : Bool) (y : X) (xs : List X) (x : X) → Contains xs x → Contains (cond b (y ∷ xs) xs) x
-behind true y xs x there = Contains-append_right (y ∷ []) xs x there
-behind false y xs x there = there
-
-keeps : {X : Type 0} (p : X → Bool) (xs : List X) (x : X) (k : ℕ) → k < length xs → get_or xs k x ≡ x → p x ≡ true
-    → Contains (filter p xs) x
-keeps p [] x k h e passes = absurd (omega (arith, h))
-keeps p (y ∷ xs) x zero h e passes =
-    subst (λ b. Contains (cond b (y ∷ filter p xs) (filter p xs)) x) (sym (ap p e ∙ passes)) (0, omega arith, e)
-keeps p (y ∷ xs) x (suc k) h e passes = behind (p y) y (filter p xs) x (keeps p xs x k (omega (arith, h)) e passes)
+use Rattle.share_work.proofs.Sums.{in_filter, of_filter}
 
 -- ---- the imports of a file's statements
 
@@ -79,7 +60,7 @@ pub file_imports : (limits : Limits) (text : List ℕ) (tokens : List Spelled)
     → ((x : Tree) → IsTreeOf (limit_of limits limit.Depth) tokens x → file_tree file ≡ x)
     → (names : List (List ℕ)) → names ≡ filter is_below (imported file) → AreImportsOf limits text names
 file_imports limits text tokens spelled only file tree one names is name = (
-  λ there. let both = kept is_below (imported file) name (subst (λ ns. Contains ns name) is there) in
+  λ there. let both = of_filter is_below (imported file) name (subst (λ ns. Contains ns name) is there) in
       ((file, (tokens, spelled, tree), both.0), both.1),
   λ both. subst (λ ns. Contains ns name) (sym is)
       (keep (subst (λ f. Contains (imported f) name) (sym (same both.0.0 both.0.1)) both.0.2) both.1),
@@ -89,4 +70,4 @@ file_imports limits text tokens spelled only file tree one names is name = (
     same other is' = same_file file other (one (file_tree other) (of_tokens limits text tokens only other is'))
 
     keep : Contains (imported file) name → is_below name ≡ true → Contains (filter is_below (imported file)) name
-    keep there below = keeps is_below (imported file) name there.0 there.1 there.2 below
+    keep = in_filter is_below (imported file) name

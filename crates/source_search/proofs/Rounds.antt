@@ -14,7 +14,9 @@ use Rattle.source_search.specs.Searching.{AsksFor, IsClosed, IsSearch, IsSearche
 use Rattle.source_search.specs.Shelves.{Known, Lookup}
 use Rattle.source_search.specs.Wanted.{AreWanted, IsWanted, Named, is_given, is_imported, named_bytes}
 use Rattle.source_search.specs.declared.search.Search.{Search}
-use Rattle.source_search.proofs.Lists.{all_halves, all_left, all_of, all_right, all_unmapped}
+use Rattle.source_search.proofs.Lists.{all_halves, all_left, all_right}
+use Rattle.share_work.proofs.Sums.{all_of}
+use Rattle.source_folder.proofs.Named.{unmapped}
 
 abbrev pub Lists : Type 0
 Lists = List (Vec (String Global) Global)
@@ -69,7 +71,7 @@ worth_all limits known given search sources lists done some zip s =
     wanted source there lookup at =
         let all : All (λ one. IsWanted limits lookup given (named_bytes one).0 (named_bytes one).1) search.sources.items
         =
-        all_unmapped named_bytes (λ (one : Named). IsWanted limits lookup given one.0 one.1) search.sources.items
+        unmapped named_bytes (λ (one : Named). IsWanted limits lookup given one.0 one.1) search.sources.items
         (s.wanted lookup at) in
         All-contains (λ one. IsWanted limits lookup given (name_of one) one.text.items)
         (drop done search.sources.items) source

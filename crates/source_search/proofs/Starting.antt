@@ -9,6 +9,7 @@ use Rattle.std.proofs.lemmas.List.Elements.{All-contains_itself, All-map, Contai
 use Rattle.std.proofs.lemmas.List.Folds.{list_any-append}
 use Rattle.std.proofs.lemmas.Map.Keys.{any_passes_from_place}
 use Rattle.std.proofs.lemmas.Option.{slice_get_read}
+use Rattle.std.proofs.Math.Bool.{or-false}
 use Rattle.proto_base.specs.declared.limits.Limits.{Limits}
 use Rattle.source_folder.specs.Folder.{name_of, names_of}
 use Rattle.proto_base.specs.NameOrder.{NamesRise}
@@ -16,22 +17,14 @@ use Rattle.source_folder.specs.declared.folder.NamedText.{NamedText}
 use Rattle.source_search.specs.Searching.{IsSearched}
 use Rattle.source_search.specs.Shelves.{Known}
 use Rattle.source_search.specs.Wanted.{IsWanted, Named, is_given, named_bytes}
-use Rattle.source_search.proofs.Lists.{all_of, all_unmapped}
 use Rattle.source_search.proofs.Naming.{bytes_same, rising_differ, same_bytes, same_names}
+use Rattle.proto_lower.proofs.Free.{or_by}
+use Rattle.share_work.proofs.Sums.{all_of}
+use Rattle.source_folder.proofs.Named.{unmapped}
 
 -- whether a name is one of these
 abbrev pub is_among : List (List ℕ) → List ℕ → Bool
 is_among names name = list_any (λ one. bytes_eq one name) names
-
-or_false : (b : Bool) → (b || false) ≡ b
-or_false true = refl
-or_false false = refl
-
-or_by : (a b : Bool) → (if a then true else b) ≡ (b || a)
-or_by true true = refl
-or_by true false = refl
-or_by false true = refl
-or_by false false = refl
 
 -- one more name
 pub among_more : (texts : List NamedText) (i : ℕ) (x : NamedText) (old new : List ℕ → Bool) → i < length texts
@@ -45,7 +38,7 @@ among_more texts i x old new h is before now name =
     ∙ map-append name_of (take i texts) (x ∷ []) in
     now name ∙ ap (λ b. if bytes_eq (name_of x) name then true else b) (before name)
     ∙ or_by (bytes_eq (name_of x) name) (is_among (names_of (take i texts)) name)
-    ∙ ap (λ b. is_among (names_of (take i texts)) name || b) (sym (or_false (bytes_eq (name_of x) name)))
+    ∙ ap (λ b. is_among (names_of (take i texts)) name || b) (sym (or-false (bytes_eq (name_of x) name)))
     ∙ sym (list_any-append (λ one. bytes_eq one name) (names_of (take i texts)) (name_of x ∷ []))
     ∙ ap (λ some. is_among some name) (sym names)
 
@@ -72,7 +65,7 @@ pub started : (limits : Limits) (known : Known) (given : List NamedText) (asked 
 started limits known given asked rising is = record {
   given_in = All-contains_itself (map named_bytes given);
   asked_for = All-map (λ (source : Named). asked source.0 ≡ true) named_bytes given
-      (all_unmapped name_of (λ name. asked name ≡ true) given
+      (unmapped name_of (λ name. asked name ≡ true) given
       (all_of (λ name. asked name ≡ true) (names_of given) (λ name there. is name
       ∙ among_there (names_of given) name there)));
   once = subst (λ names. IsDistinct bytes_eq names) (sym (same_names given)) (rising_differ (names_of given) rising);

@@ -1,15 +1,12 @@
 -- The bytes of a message, by those of its nested messages.
-use Rattle.std.proofs.Common.{◌≡◌, ◌∙◌, arith, length, ℕ, List, [], ◌∷◌, ◌++◌, map, ap, refl}
+use Rattle.std.proofs.Common.{◌≡◌, ◌∙◌, arith, length, ℕ, List, [], ◌∷◌, ◌++◌, ap}
 use Rattle.std.specs.Prelude.{flat_map}
+use Rattle.std.proofs.lemmas.List.Folds.{flat_map-map}
 use Rattle.proto_desc.specs.declared.message.MessageDesc.{MessageDesc}
 use Rattle.proto_desc.specs.declared.message.MessageDesc.TheViews.{out-MessageDesc}
 use Rattle.proto_desc.specs.declared.message.MessageDesc.TheFolds.{fold_out-MessageDesc}
 use Rattle.wire_format.specs.Field.{bytes_field}
 use Rattle.wire_bytes.specs.Descriptor.{field_desc_bytes, enum_desc_bytes, oneof_desc_bytes, range_bytes, options_field, message_options_bytes, message_step, message_desc_bytes}
-
-flat_map-map : {X Y A : Type 0} (f : Y → List A) (g : X → Y) (xs : List X) → flat_map f (map g xs) ≡ flat_map (λ x. f (g x)) xs
-flat_map-map f g [] = refl
-flat_map-map f g (x ∷ xs) = ap (λ ys. f (g x) ++ ys) (flat_map-map f g xs)
 
 pub message_desc_bytes_out : (m : MessageDesc) → message_desc_bytes m
     ≡ bytes_field 1 (out-MessageDesc m).name ++ flat_map (λ f. bytes_field 2 (field_desc_bytes f)) (out-MessageDesc m).fields

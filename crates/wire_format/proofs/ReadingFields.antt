@@ -4,9 +4,10 @@ use Rattle.std.specs.Prelude.{Option, Some, None, true, option_and_then, nat_lt,
 use Rattle.std.proofs.lemmas.Bool.{ne_eqb, eqb-true, eqb-false, ltb-true, ltb-false, lt-ltb, le-ltb}
 use Rattle.std.proofs.lemmas.Grind.{common_steps}
 use Rattle.std.proofs.lemmas.List.{take-append-drop, length-take-le, take_at, drop_at}
+use Rattle.std.proofs.lemmas.Option.{none-some, same_Some}
 use Rattle.wire_format.specs.Reading.{Value, number, bytes, Body, varint_body, eight_bytes, four_bytes, delimited, Spelled, wire_type, body_text, IsBody, IsSpelled, text_of, entry_of, entry_by}
 use Rattle.wire_format.specs.ReadingSteps.{varint_within, split_off, body_at, field_at}
-use Rattle.wire_format.proofs.ReadingVarints.{IsBytes, rest_bytes, some_inj, none_some, chosen, Taken, varint_takes, varint_again}
+use Rattle.wire_format.proofs.ReadingVarints.{IsBytes, rest_bytes, chosen, Taken, varint_takes, varint_again}
 
 tag_number : (n w : ℕ) → w < 8 → (n * 8 + w) / 8 ≡ n
 tag_number n w h = omega arith
@@ -59,14 +60,14 @@ pub record BodyTaken (kind n : ℕ) (text : List ℕ) (entry : Option (ℕ × Va
 
 split_takes : (n : ℕ) (text : List ℕ) (y : List ℕ × List ℕ) → split_off n text ≡ Some y → (length y.0 ≡ n) × (text ≡ y.0 ++ y.1)
 split_takes n text y e = elim (chosen (nat_lt (length text) n) None (Some (take n text, drop n text)) y e) [
-  | inl w ↦ absurd (none_some y w.1)
+  | inl w ↦ absurd (none-some y w.1)
   | inr w ↦ (let long = ltb-false (length text) n w.0 in
-      subst (λ (z : List ℕ × List ℕ). (length z.0 ≡ n) × (text ≡ z.0 ++ z.1)) (some_inj (take n text, drop n text) y w.1)
+      subst (λ (z : List ℕ × List ℕ). (length z.0 ≡ n) × (text ≡ z.0 ++ z.1)) (same_Some (take n text, drop n text) y w.1)
       (length-take-le n text long, sym (take-append-drop n text)))
 ]
 
 bound : {A B : Type 0} (f : A → Option B) (o : Option A) (y : B) → option_and_then f o ≡ Some y → (x : A) × (o ≡ Some x) × (f x ≡ Some y)
-bound f None y e = absurd (none_some y e)
+bound f None y e = absurd (none-some y e)
 bound f (Some x) y e = (x, refl, e)
 
 -- what is read at the front: an entry, and the bytes behind it
@@ -89,21 +90,21 @@ varint_taken n text y h e =
       entry_is = refl;
       split = taken.split;
     } in
-    subst (λ (z : Read). BodyTaken 0 n text z.0 z.1) (some_inj (Some (n, number x.0.0), x.0.1) y x.2) one
+    subst (λ (z : Read). BodyTaken 0 n text z.0 z.1) (same_Some (Some (n, number x.0.0), x.0.1) y x.2) one
 
 eight_taken : (n : ℕ) (text : List ℕ) (y : Read) → option_and_then (λ x. Some (None, x.1)) (split_off 8 text) ≡ Some y → BodyTaken 1 n text y.0 y.1
 eight_taken n text y e =
     let x = bound (λ (x : List ℕ × List ℕ). some_read (None, x.1)) (split_off 8 text) y e in
     let taken = split_takes 8 text x.0 x.1 in
     let one : BodyTaken 1 n text None x.0.1 = record { body = eight_bytes x.0.0; kind_is = refl; ok = taken.0; entry_is = refl; split = taken.1 } in
-    subst (λ (z : Read). BodyTaken 1 n text z.0 z.1) (some_inj (None, x.0.1) y x.2) one
+    subst (λ (z : Read). BodyTaken 1 n text z.0 z.1) (same_Some (None, x.0.1) y x.2) one
 
 four_taken : (n : ℕ) (text : List ℕ) (y : Read) → option_and_then (λ x. Some (None, x.1)) (split_off 4 text) ≡ Some y → BodyTaken 5 n text y.0 y.1
 four_taken n text y e =
     let x = bound (λ (x : List ℕ × List ℕ). some_read (None, x.1)) (split_off 4 text) y e in
     let taken = split_takes 4 text x.0 x.1 in
     let one : BodyTaken 5 n text None x.0.1 = record { body = four_bytes x.0.0; kind_is = refl; ok = taken.0; entry_is = refl; split = taken.1 } in
-    subst (λ (z : Read). BodyTaken 5 n text z.0 z.1) (some_inj (None, x.0.1) y x.2) one
+    subst (λ (z : Read). BodyTaken 5 n text z.0 z.1) (same_Some (None, x.0.1) y x.2) one
 
 delimited_taken : (n : ℕ) (text : List ℕ) (y : Read) → IsBytes text
     → option_and_then (λ x. option_and_then (λ y. Some (Some (n, bytes y.0), y.1)) (split_off x.0 x.1)) (varint_within 10 text) ≡ Some y
@@ -120,7 +121,7 @@ delimited_taken n text y h e =
       entry_is = refl;
       split = size.split ∙ ap (λ xs. size.prefix ++ xs) taken.1 ∙ sym (append_assoc size.prefix z.0.0 z.0.1);
     } in
-    subst (λ (z : Read). BodyTaken 2 n text z.0 z.1) (some_inj (Some (n, bytes z.0.0), z.0.1) y z.2) one
+    subst (λ (z : Read). BodyTaken 2 n text z.0 z.1) (same_Some (Some (n, bytes z.0.0), z.0.1) y z.2) one
 
 at_kind : (k kind n : ℕ) (text : List ℕ) (y : Read) → (kind == k) ≡ true → BodyTaken k n text y.0 y.1 → BodyTaken kind n text y.0 y.1
 at_kind k kind n text y e b = subst (λ (m : ℕ). BodyTaken m n text y.0 y.1) (sym (eqb-true kind k e)) b
@@ -134,7 +135,7 @@ body_takes kind n text y h e = elim (chosen (kind == 0) _ _ y e) [
       | inl u ↦ at_kind 2 kind n text y u.0 (delimited_taken n text y h u.1)
       | inr u ↦ elim (chosen (kind == 5) _ _ y u.1) [
         | inl t ↦ at_kind 5 kind n text y t.0 (four_taken n text y t.1)
-        | inr t ↦ absurd (none_some y t.1)
+        | inr t ↦ absurd (none-some y t.1)
       ]
     ]
   ]
@@ -174,9 +175,9 @@ field_takes text y h e =
     let tag = varint_takes 10 text x.0 h x.1 in
     elim (chosen (nat_lt x.0.0 (2 ^ 32)) _ _ y x.2) [
       | inl w ↦ elim (chosen (x.0.0 / 8 == 0) _ _ y w.1) [
-        | inl v ↦ absurd (none_some y v.1)
+        | inl v ↦ absurd (none-some y v.1)
         | inr v ↦ field_made text y tag (ltb-true x.0.0 (2 ^ 32) w.0) (eqb-false (x.0.0 / 8) 0 v.0)
             (body_takes (x.0.0 % 8) (x.0.0 / 8) x.0.1 y (rest_of_bytes tag.prefix x.0.1 (subst IsBytes tag.split h)) v.1)
       ]
-      | inr w ↦ absurd (none_some y w.1)
+      | inr w ↦ absurd (none-some y w.1)
     ]

@@ -3,10 +3,11 @@ use Rattle.std.proofs.Common.{◌≡◌, ◌∙◌, sym, ℕ, ◌+◌, ◌<◌, 
 use Rattle.std.specs.Prelude.{Option, Some, None, flat_map}
 use Rattle.std.specs.List.{filter_map, AllByRecursion}
 use Rattle.std.proofs.lemmas.Grind.{common_steps}
+use Rattle.std.proofs.lemmas.Option.{none-some, same_Some}
 use Rattle.wire_format.specs.Varint.{Spells}
 use Rattle.wire_format.specs.Reading.{Value, Spelled, body_text, IsSpelled, text_of, entry_of, IsRow}
 use Rattle.wire_format.specs.ReadingSteps.{field_at}
-use Rattle.wire_format.proofs.ReadingVarints.{IsBytes, some_inj, none_some, none_fit}
+use Rattle.wire_format.proofs.ReadingVarints.{IsBytes}
 use Rattle.wire_format.proofs.ReadingFields.{Read, some_read, FieldTaken, field_takes, field_again, rest_of_bytes}
 
 pub row_none : IsRow [] []
@@ -26,10 +27,10 @@ unfolding field_at
 field_at_none = refl
 
 pub row_back : (text : List ℕ) (y : Read) (fs : List (ℕ × Value)) → field_at text ≡ Some y → IsRow text fs → (more : List (ℕ × Value)) × IsRow y.1 more
-row_back text y fs e ([], ok, split, is) = absurd (none_some y (sym field_at_none ∙ ap field_at (sym split) ∙ e))
+row_back text y fs e ([], ok, split, is) = absurd (none-some y (sym field_at_none ∙ ap field_at (sym split) ∙ e))
 row_back text y fs e (s ∷ row, ok, split, is) =
     let again : Some (entry_of s, flat_map text_of row) ≡ Some y = sym (field_again s (flat_map text_of row) ok.0) ∙ ap field_at (sym split) ∙ e in
-    (filter_map entry_of row, (row, ok.1, ap (λ (z : Read). z.1) (sym (some_inj (entry_of s, flat_map text_of row) y again)), refl))
+    (filter_map entry_of row, (row, ok.1, ap (λ (z : Read). z.1) (sym (same_Some (entry_of s, flat_map text_of row) y again)), refl))
 
 empty_short : (text : List ℕ) → text ≡ [] → 0 < length text → ⊥
 empty_short text e h = let none = rw e at h in omega (arith, none)
@@ -37,7 +38,7 @@ empty_short text e h = let none = rw e at h in omega (arith, none)
 pub row_stop : (text : List ℕ) (fs : List (ℕ × Value)) → 0 < length text → field_at text ≡ None → IsRow text fs → ⊥
 row_stop text fs h e ([], ok, split, is) = empty_short text split h
 row_stop text fs h e (s ∷ row, ok, split, is) =
-    none_some (entry_of s, flat_map text_of row) (sym e ∙ ap field_at split ∙ field_again s (flat_map text_of row) ok.0)
+    none-some (entry_of s, flat_map text_of row) (sym e ∙ ap field_at split ∙ field_again s (flat_map text_of row) ok.0)
 
 spells_some : (xs : List ℕ) (n : ℕ) → Spells xs n → 0 < length xs
 spells_some [] n s = absurd s
@@ -90,26 +91,22 @@ kept_stop whole rest done fs kept h none row = row_stop rest (kept.back fs row).
 pub kept_all : (whole rest : List ℕ) (done : List (ℕ × Value)) → Kept whole rest done → rest ≡ [] → IsRow whole done
 kept_all whole rest done kept e = rw (← append-nil done) (kept.ahead [] (rw e row_none))
 
-pub nil_of_length : (xs : List ℕ) → length xs ≡ 0 → xs ≡ []
-nil_of_length [] e = refl
-nil_of_length (x ∷ xs) e = absurd (none_fit (length xs) (omega arith))
-
 -- one row of bytes, one list
 pub row_one : (row others : List Spelled) → AllByRecursion IsSpelled row → AllByRecursion IsSpelled others → flat_map text_of row ≡ flat_map text_of others
     → filter_map entry_of row ≡ filter_map entry_of others
 row_one [] [] h k e = refl
-row_one [] (t ∷ ts) h k e = absurd (none_some (entry_of t, flat_map text_of ts) (sym field_at_none ∙ ap field_at e ∙ field_again t (flat_map text_of ts) k.0))
+row_one [] (t ∷ ts) h k e = absurd (none-some (entry_of t, flat_map text_of ts) (sym field_at_none ∙ ap field_at e ∙ field_again t (flat_map text_of ts) k.0))
 row_one (s ∷ ss) [] h k e =
-    absurd (none_some (entry_of s, flat_map text_of ss) (sym field_at_none ∙ ap field_at (sym e) ∙ field_again s (flat_map text_of ss) h.0))
+    absurd (none-some (entry_of s, flat_map text_of ss) (sym field_at_none ∙ ap field_at (sym e) ∙ field_again s (flat_map text_of ss) h.0))
 row_one (s ∷ ss) (t ∷ ts) h k e =
-    let both = some_inj (entry_of s, flat_map text_of ss) (entry_of t, flat_map text_of ts)
+    let both = same_Some (entry_of s, flat_map text_of ss) (entry_of t, flat_map text_of ts)
     (sym (field_again s (flat_map text_of ss) h.0) ∙ ap field_at e ∙ field_again t (flat_map text_of ts) k.0) in
     let rest = row_one ss ts h.1 k.1 (ap (λ (z : Read). z.1) both) in
     rw (ap (λ (z : Read). z.0) both, rest) refl
 
 pub spelled_once : (s t : Spelled) (x : List ℕ) → IsSpelled s → IsSpelled t → text_of s ++ x ≡ text_of t → x ≡ []
 spelled_once s t x h k e =
-    let both = some_inj (entry_of s, x) (entry_of t, []) (sym (field_again s x h) ∙ ap field_at (e ∙ sym (append-nil (text_of t))) ∙ field_again t [] k) in
+    let both = same_Some (entry_of s, x) (entry_of t, []) (sym (field_again s x h) ∙ ap field_at (e ∙ sym (append-nil (text_of t))) ∙ field_again t [] k) in
     ap (λ (z : Read). z.1) both
 
 pub one_list : (text : List ℕ) (first second : List (ℕ × Value)) → IsRow text first → IsRow text second → first ≡ second

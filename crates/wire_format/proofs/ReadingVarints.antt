@@ -2,18 +2,16 @@
 use Rattle.std.proofs.Common.{◌≡◌, ℕ, zero, suc, ◌+◌, ◌-◌, ◌*◌, ◌^◌, ◌<◌, ◌≤◌, List, [], ◌∷◌, ◌++◌, length, get_or, ap, refl, subst, arith, cond, ◌⊎◌, inl, inr}
 use Rattle.std.specs.Prelude.{Option, Some, None, Bool, true, false, nat_lt}
 use Rattle.std.proofs.lemmas.Bool.{ltb-true, ltb-false, lt-ltb, le-ltb}
+use Rattle.std.proofs.lemmas.Option.{none-some, same_Some}
 use Rattle.wire_format.specs.Varint.{Spells}
 use Rattle.wire_format.specs.ReadingSteps.{joined, varint_within}
+use Rattle.wire_format.proofs.Varints.{spells_more}
 
 abbrev pub IsBytes : List ℕ → Type 0
 IsBytes bs = (i : ℕ) → get_or bs i 0 < 256
 
 pub rest_bytes : (b : ℕ) (bs : List ℕ) → IsBytes (b ∷ bs) → IsBytes bs
 rest_bytes b bs h i = h (suc i)
-
-spells_more : (b : ℕ) (prefix : List ℕ) (n high : ℕ) → 128 ≤ b → b < 256 → n + 128 ≡ b + 128 * high → Spells prefix high → Spells (b ∷ prefix) n
-spells_more b [] n high h k e s = absurd s
-spells_more b (c ∷ cs) n high h k e s = (h, k, high, e, s)
 
 pub record Taken (k : ℕ) (text : List ℕ) (n : ℕ) (rest : List ℕ) : Type 0 where
   pub prefix : List ℕ
@@ -22,12 +20,6 @@ pub record Taken (k : ℕ) (text : List ℕ) (n : ℕ) (rest : List ℕ) : Type 
   pub fits : n < 2 ^ 64
   pub split : text ≡ prefix ++ rest
 
-pub some_inj : {A : Type 0} (x y : A) → Some x ≡ Some y → x ≡ y
-some_inj x y e = cc
-
-pub none_some : {A : Type 0} (y : A) → None ≡ Some y → ⊥
-none_some y e = cc
-
 -- which way a choice went
 pub chosen : {A : Type 0} (b : Bool) (x y : Option A) (z : A) → cond b x y ≡ Some z → ((b ≡ true) × (x ≡ Some z)) ⊎ ((b ≡ false) × (y ≡ Some z))
 chosen true x y z e = inl (refl, e)
@@ -35,25 +27,25 @@ chosen false x y z e = inr (refl, e)
 
 joined_some : (b : ℕ) (o : Option (ℕ × List ℕ)) (y : ℕ × List ℕ) → joined b o ≡ Some y
     → (x : ℕ × List ℕ) × (o ≡ Some x) × (b - 128 + 128 * x.0 < 2 ^ 64) × ((b - 128 + 128 * x.0, x.1) ≡ y)
-joined_some b None y e = absurd (none_some y e)
+joined_some b None y e = absurd (none-some y e)
 joined_some b (Some x) y e = elim (chosen (nat_lt (b - 128 + 128 * x.0) (2 ^ 64)) (Some (b - 128 + 128 * x.0, x.1)) None y e) [
   | inl w ↦ (x, refl, ltb-true _ _ w.0, cc)
-  | inr w ↦ absurd (none_some y w.1)
+  | inr w ↦ absurd (none-some y w.1)
 ]
 
 pub varint_takes : (k : ℕ) (text : List ℕ) (y : ℕ × List ℕ) → IsBytes text → varint_within k text ≡ Some y → Taken k text y.0 y.1
-varint_takes zero text y h e = absurd (none_some y e)
-varint_takes (suc k) [] y h e = absurd (none_some y e)
+varint_takes zero text y h e = absurd (none-some y e)
+varint_takes (suc k) [] y h e = absurd (none-some y e)
 varint_takes (suc k) (b ∷ bs) y h e = elim (chosen (nat_lt b 128) (Some (b, bs)) (joined b (varint_within k bs)) y e) [
   | inl w ↦ (let small = ltb-true b 128 w.0 in
       let one : Taken (suc k) (b ∷ bs) b bs = record { prefix = b ∷ []; spelled = (small, refl); short = omega arith; fits = omega arith; split = refl } in
-      subst (λ (z : ℕ × List ℕ). Taken (suc k) (b ∷ bs) z.0 z.1) (some_inj (b, bs) y w.1) one)
+      subst (λ (z : ℕ × List ℕ). Taken (suc k) (b ∷ bs) z.0 z.1) (same_Some (b, bs) y w.1) one)
   | inr w ↦ (let large = ltb-false b 128 w.0 in
       let x = joined_some b (varint_within k bs) y w.1 in
       let more = varint_takes k bs x.0 (rest_bytes b bs h) x.1 in
       let whole : Taken (suc k) (b ∷ bs) (b - 128 + 128 * x.0.0) x.0.1 = record {
         prefix = b ∷ more.prefix;
-        spelled = spells_more b more.prefix (b - 128 + 128 * x.0.0) x.0.0 large (h 0) (omega arith) more.spelled;
+        spelled = spells_more b x.0.0 (b - 128 + 128 * x.0.0) more.prefix large (h 0) (omega arith) more.spelled;
         short = omega (arith, more.short);
         fits = x.2;
         split = ap (λ xs. b ∷ xs) more.split;

@@ -39,7 +39,7 @@ varint_bytes-step n fits h = groups-large 8 n h ∙ ap (λ r. (n % 128 + 128) �
 
 -- ---- what is written is the shortest spelling
 
-spells_more : (b high n : ℕ) (bytes : List ℕ) → 128 ≤ b → b < 256 → n + 128 ≡ b + 128 * high → Spells bytes high → Spells (b ∷ bytes) n
+pub spells_more : (b high n : ℕ) (bytes : List ℕ) → 128 ≤ b → b < 256 → n + 128 ≡ b + 128 * high → Spells bytes high → Spells (b ∷ bytes) n
 spells_more b high n [] large small split spelled = absurd spelled
 spells_more b high n (c ∷ bytes) large small split spelled = (large, small, high, split, spelled)
 

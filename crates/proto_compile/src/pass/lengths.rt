@@ -21,13 +21,11 @@ use crate::workers::Workers;
 use proto_base::{Kind, Limit, Limits};
 use proto_desc::file::FileDesc;
 use proto_file::FileError;
+use share_work::phases::WRITING;
 use share_work::{Gate, Work};
 use std::alloc::{AllocError, AllocGlobal, Global};
 use std::thread::Threads;
 use wire_bytes::file_bytes;
-
-/// The phase of this pass, as a gate is told it.
-const WRITING: u8 = 3;
 
 /// The bytes of a file's descriptor, if there are no more than the limit.
 fn write(alloc: Global, desc: &FileDesc, limits: &Limits) -> Result<Vec<u8>, FileError>

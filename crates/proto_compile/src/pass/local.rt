@@ -18,12 +18,10 @@ use crate::workers::Workers;
 use proto_base::Limits;
 use proto_desc::file::FileDesc;
 use proto_file::{FileError, describe};
+use share_work::phases::DESCRIBING;
 use share_work::{Gate, Work};
 use std::alloc::{AllocError, AllocGlobal, Global};
 use std::thread::Threads;
-
-/// The phase of this pass, as a gate is told it.
-const DESCRIBING: u8 = 1;
 
 /// What a source describes, or its first fault by itself.
 fn describe_one<'s>(

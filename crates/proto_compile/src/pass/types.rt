@@ -21,12 +21,10 @@ use proto_file::FileError;
 use proto_links::{FileId, Links};
 use proto_names::NameIndex;
 use proto_types::{NamedType, TypeError, resolve_types};
+use share_work::phases::RESOLVING;
 use share_work::{Gate, Work};
 use std::alloc::{AllocError, AllocGlobal, Global};
 use std::thread::Threads;
-
-/// The phase of this pass, as a gate is told it.
-const RESOLVING: u8 = 2;
 
 /// What the names of types in the file at a position mean, or the first rule of types that it breaks.
 fn resolve(

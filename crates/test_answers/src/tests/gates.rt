@@ -4,6 +4,7 @@ use super::fixtures::{THREE_FILES, compiled_by};
 use proto_base::Limits;
 use reflect_core::Mode;
 use schema_headline::response_to_sources;
+use share_work::phases::{DESCRIBING, MARKING, REPLYING, RESOLVING, WRITING};
 use share_work::{Gate, NoGate, Plan};
 use std::alloc::AllocGlobal;
 use std::process::Abort;
@@ -75,7 +76,7 @@ fn have_met(gate: &Held, found: &[u8], alone: &[u8]) -> bool {
 #[test]
 fn compilers_meet(rt: HostRuntime) {
     let alone = set_by(&rt, Plan::single(), &NoGate);
-    for phase in 1..4 {
+    for phase in [DESCRIBING, RESOLVING, WRITING] {
         let gate = holding(phase);
         let found = set_by(&rt, two_workers(&rt), &gate);
         assert!(rt; have_met(&gate, &found, &alone), "phase {phase}");
@@ -99,7 +100,7 @@ where
 #[test]
 fn workers_meet(rt: HostRuntime) {
     let alone = response_by(&rt, Plan::single(), &NoGate);
-    for phase in 4..6 {
+    for phase in [MARKING, REPLYING] {
         let gate = holding(phase);
         let found = response_by(&rt, two_workers(&rt), &gate);
         assert!(rt; have_met(&gate, &found, &alone), "phase {phase}");

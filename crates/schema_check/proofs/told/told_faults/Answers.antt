@@ -1,10 +1,10 @@
 use Rattle.std.proofs.Common.{List, map, subst, sym}
 use Rattle.std.specs.Prelude.{Vec}
 use Rattle.std.specs.declared.alloc.Global.{Global}
+use Rattle.std.proofs.lemmas.Result.{IfOk-weaker}
 use Rattle.file_faults.specs.FileFaults.{AreFileFaults}
 use Rattle.proto_base.specs.declared.fault.Fault.{Fault}
 use Rattle.proto_compile.specs.FaultSet.{told_by}
-use Rattle.proto_compile.proofs.Judging.{ok_map}
 use Rattle.schema_check.specs.Told.{ArePlaced, AreTold}
 use Rattle.schema_check.proofs.Telling.{first_is, placed_locally, told_alone, told_locally}
 use Rattle.schema_check.proofs.told.told_faults.Goals as goal
@@ -14,8 +14,8 @@ returns-then-first-eq-LOCAL-clause-told g c =
     let limits = c.args.limits.now in
     let sources = c.args.sources.now in
     let first = first_is limits sources c.in_ok-first.field-0 c.in-Some.first c.in_ok-first.ensures c.in-Some.is in
-    ok_map (λ (faults : Vec Fault Global). AreFileFaults limits sources (map told_by faults.items))
-    (λ faults. AreTold limits sources faults.items) c.faults_of_files.result
+    IfOk-weaker c.faults_of_files.result (λ (faults : Vec Fault Global). AreFileFaults limits sources (map told_by faults.items))
+    (λ faults. AreTold limits sources faults.items)
     (λ faults all. told_locally limits sources c.in-Some.first faults.items first.0 c.if-first-eq-LOCAL.true all)
     c.faults_of_files.ensures.each
 
@@ -24,8 +24,8 @@ returns-then-first-eq-LOCAL-clause-placed g c =
     let limits = c.args.limits.now in
     let sources = c.args.sources.now in
     let first = first_is limits sources c.in_ok-first.field-0 c.in-Some.first c.in_ok-first.ensures c.in-Some.is in
-    ok_map (λ (faults : Vec Fault Global). AreFileFaults limits sources (map told_by faults.items))
-    (λ faults. ArePlaced sources faults.items) c.faults_of_files.result
+    IfOk-weaker c.faults_of_files.result (λ (faults : Vec Fault Global). AreFileFaults limits sources (map told_by faults.items))
+    (λ faults. ArePlaced sources faults.items)
     (λ faults all. placed_locally limits sources c.in-Some.first faults.items first.0 c.if-first-eq-LOCAL.true all)
     c.faults_of_files.ensures.each
 

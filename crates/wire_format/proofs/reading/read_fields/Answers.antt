@@ -2,12 +2,12 @@ use Rattle.std.proofs.Common.{◌≡◌, sym, ap, List, [], ◌∷◌, ◌++◌,
 use Rattle.std.specs.Prelude.{option_map}
 use Rattle.std.proofs.lemmas.Grind.{common_steps}
 use Rattle.std.proofs.lemmas.Bool.{eqb-true, eqb-false}
-use Rattle.std.proofs.lemmas.List.{map-append}
+use Rattle.std.proofs.lemmas.List.{map-append, nil_from_length}
 use Rattle.wire_format.specs.ProgramFields.{field_of}
 use Rattle.wire_format.specs.ReadingSteps.{field_at}
 use Rattle.wire_format.specs.declared.reading.Field.{Field}
 use Rattle.wire_format.proofs.ReadingFields.{some_read}
-use Rattle.wire_format.proofs.ReadingRows.{kept_first, kept_some, kept_none, kept_stop, kept_all, field_shorter, nil_of_length}
+use Rattle.wire_format.proofs.ReadingRows.{kept_first, kept_some, kept_none, kept_stop, kept_all, field_shorter}
 use Rattle.wire_format.proofs.reading.read_fields.Goals as goal
 
 pub loop-rest-init : goal.loop-rest-init
@@ -49,4 +49,4 @@ loop-rest-preserved c =
 
 pub returns-clause-found : goal.returns-clause-found
 returns-clause-found c = kept_all c.args.bytes.now c.loop-rest.rest.now (map field_of c.loop-rest.fields.items) c.loop-rest.invariant
-    (nil_of_length c.loop-rest.rest.now (eqb-true _ _ (sym c.loop-rest-test.ensures)))
+    (nil_from_length c.loop-rest.rest.now (eqb-true _ _ (sym c.loop-rest-test.ensures)))

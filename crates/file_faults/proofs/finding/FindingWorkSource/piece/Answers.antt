@@ -2,7 +2,7 @@ use Rattle.std.proofs.Common.{◌+◌, arith, subst, sym, take}
 use Rattle.std.proofs.lemmas.List.{take_all}
 use Rattle.std.specs.List.{AllZip}
 use Rattle.file_faults.specs.Found.{IsFoundIn}
-use Rattle.proto_compile.proofs.Judging.{all_next, gives_of_all}
+use Rattle.share_work.proofs.Giving.{all_next, gives_of_all}
 use Rattle.file_faults.proofs.finding.FindingWorkSource.piece.Goals as goal
 
 pub loop-source-preserved : goal.loop-source-preserved

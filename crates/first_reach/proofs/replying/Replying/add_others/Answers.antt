@@ -2,10 +2,11 @@ use Rattle.std.proofs.Common.{◌≡◌, ℕ, ◌≤◌, ◌++◌, inl, inr, Som
 use Rattle.std.proofs.lemmas.Option.{slice_get_within}
 use Rattle.std.proofs.Math.Seq.{take-length}
 use Rattle.first_reach.specs.Reply.{others_at}
-use Rattle.first_reach.proofs.Lists.{none_past, contains_at}
+use Rattle.first_reach.proofs.Lists.{contains_at}
 use Rattle.first_reach.proofs.Others.{others_put, others_skip}
 use Rattle.first_reach.proofs.replying.Replying.add_others.Goals as goal
 use Rattle.first_reach.proofs.replying.Replying.add_others.Goals.{then-file-root+then-get-position+in_ok-push, else-file-root, else-file-root-via-then-file-root+else-get-position, else-file-root-via-else-file-root}
+use Rattle.share_work.proofs.Paying.{none_past}
 
 pub get-requires : goal.get-requires
 get-requires g c =

@@ -3,14 +3,15 @@ use Rattle.std.specs.Prelude.{slice_get}
 use Rattle.std.specs.Option.{option_map}
 use Rattle.std.proofs.lemmas.List.{append-nil, drop_all, length-map, take_all}
 use Rattle.std.proofs.lemmas.Option.{get_or_from_slice_get, slice_get-map, slice_get_within}
+use Rattle.std.proofs.lemmas.Result.{IfOk-weaker}
 use Rattle.share_work.specs.Shares.{GivesItems}
 use Rattle.proto_desc.specs.declared.file.FileDesc.{FileDesc}
 use Rattle.proto_types.specs.declared.meaning.NamedType.{NamedType}
 use Rattle.proto_compile.specs.Analysed.{AllZipFrom}
 use Rattle.proto_compile.specs.Outcomes.{AreTypesOf, IsTypedWhole}
 use Rattle.proto_compile.specs.declared.pass.filling.Untyped.{Untyped}
-use Rattle.proto_compile.proofs.Judging.{ok_map, zip_from_gives}
 use Rattle.proto_compile.proofs.pass.filling.put_types.Goals as goal
+use Rattle.share_work.proofs.Giving.{gives_each}
 
 -- what stands at a position of a map comes from what stands there
 mapped_at : {X Y : Type 0} (f : X → Y) (xs : List X) (i : ℕ) (y : Y) → slice_get (map f xs) i ≡ Some y
@@ -53,10 +54,11 @@ module _ (P : ℕ → FileDesc → Vec NamedType Global → Type 0) (Q : ℕ →
   filled_all : (descs typed : List FileDesc) (types : List (Vec NamedType Global)) → length new ≡ length old
       → map desc_in old ≡ descs → map types_in old ≡ types → typed ≡ map desc_in new → GivesItems P 0 descs types
       → AllZipFrom Q 0 descs typed
-  filled_all descs typed types size is own are gives = zip_from_gives Q 0 descs typed (
-    ap length are ∙ length-map new desc_in ∙ size ∙ sym (length-map old desc_in) ∙ ap length is,
-    λ i t o item out. filled_at i t o descs typed types is own are gives item out,
-  )
+  filled_all descs typed types size is own are gives =
+      gives_each Q (AllZipFrom Q) (λ a. tt) (λ a x y xs ys here rest. (here, rest)) 0 descs typed (
+        ap length are ∙ length-map new desc_in ∙ size ∙ sym (length-map old desc_in) ∙ ap length is,
+        λ i t o item out. filled_at i t o descs typed types is own are gives item out,
+      )
 
 -- what a slice of all items of a vector leaves there
 written : {X : Type 0} (n : ℕ) (old new : List X) → length new ≡ n → length old ≡ length new
@@ -66,7 +68,7 @@ written n old new size same =
     ap (λ (l : List _). take n (new ++ l)) none ∙ ap (take n) (append-nil new) ∙ take_all n new (omega (arith, size))
 
 pub returns : goal.returns
-returns g c = ok_map _ _ c.descriptors.result (λ typed are links index gives.
+returns g c = IfOk-weaker c.descriptors.result _ _ (λ typed are links index gives.
     let old = c.in_ok-files.files.items in
     let new = c.fill_all.new.files in
     let files = c.in_ok-files.ensures gives.0 in

@@ -3,6 +3,7 @@ use Rattle.std.specs.List.{AllZip}
 use Rattle.std.specs.Prelude.{Ok, Vec}
 use Rattle.std.specs.declared.alloc.Global.{Global}
 use Rattle.std.proofs.lemmas.List.Elements.{All-cons, All-nil}
+use Rattle.std.proofs.lemmas.Result.{IfOk-weaker}
 use Rattle.proto_base.specs.declared.limits.Limits.{Limits}
 use Rattle.proto_desc.specs.declared.file.FileDesc.{FileDesc}
 use Rattle.wire_bytes.specs.Descriptor.{file_desc_bytes}
@@ -10,7 +11,8 @@ use Rattle.proto_compile.specs.Compilation.{IsShort}
 use Rattle.proto_compile.specs.FaultSet.{IsLeastFault}
 use Rattle.proto_compile.specs.Outcomes.{IsFirstFound, IsWrittenShort}
 use Rattle.proto_compile.specs.Steps.{items_of}
-use Rattle.proto_compile.proofs.Judging.{all_of_gives, gives_well, err_tells, ok_map}
+use Rattle.share_work.proofs.Giving.{all_of_gives, gives_well}
+use Rattle.proto_compile.proofs.Judging.{err_tells}
 use Rattle.proto_compile.proofs.LeastFault.{first_long}
 use Rattle.proto_compile.proofs.pass.lengths.write_all.Goals as goal
 
@@ -42,9 +44,9 @@ returns g c =
     (gives_well (λ k. IsWrittenShort limits) descs all.items outcomes is given)) in
     let well = λ (all : Vec (Vec ℕ Global) Global). outcomes ≡ map Ok all.items in
     record {
-      bytes = ok_map well (λ all. map items_of all.items ≡ map file_desc_bytes descs) c.judge.result
+      bytes = IfOk-weaker c.judge.result well (λ all. map items_of all.items ≡ map file_desc_bytes descs)
           (λ all is. (written all is).0) c.judge.ensures.well;
-      short = ok_map well (λ all. All (IsShort limits) descs) c.judge.result (λ all is. (written all is).1)
+      short = IfOk-weaker c.judge.result well (λ all. All (IsShort limits) descs) (λ all is. (written all is).1)
           c.judge.ensures.well;
       first = λ sources links index resolved. err_tells (IsFirstFound 5 files outcomes) (IsLeastFault limits sources)
           c.judge.result (first_long limits sources files descs links index outcomes resolved given)

@@ -2,11 +2,13 @@ use Rattle.std.proofs.Common.{◌≡◌, sym, map}
 use Rattle.std.specs.List.{AllZip}
 use Rattle.std.specs.Prelude.{Ok, Vec}
 use Rattle.std.specs.declared.alloc.Global.{Global}
+use Rattle.std.proofs.lemmas.Result.{IfOk-weaker}
 use Rattle.proto_desc.specs.declared.file.FileDesc.{FileDesc}
 use Rattle.proto_compile.specs.Descriptions.{SourceDescribes}
 use Rattle.proto_compile.specs.FaultSet.{IsLeastFault}
 use Rattle.proto_compile.specs.Outcomes.{IsDescribed, IsFirstFound}
-use Rattle.proto_compile.proofs.Judging.{all_of_gives, gives_well, err_tells, ok_map}
+use Rattle.share_work.proofs.Giving.{all_of_gives, gives_well}
+use Rattle.proto_compile.proofs.Judging.{err_tells}
 use Rattle.proto_compile.proofs.LeastFault.{first_local}
 use Rattle.proto_compile.proofs.pass.local.describe_all.Goals as goal
 
@@ -18,8 +20,8 @@ returns-clause-described g c =
     let limits = c.args.limits.now in
     let files = c.args.files.now in
     let outcomes = c.in_ok-outcomes.outcomes.items in
-    ok_map (λ (descs : Vec FileDesc Global). outcomes ≡ map Ok descs.items)
-    (λ descs. AllZip (SourceDescribes limits) files descs.items) c.judge.result
+    IfOk-weaker c.judge.result (λ (descs : Vec FileDesc Global). outcomes ≡ map Ok descs.items)
+    (λ descs. AllZip (SourceDescribes limits) files descs.items)
     (λ descs is. all_of_gives (SourceDescribes limits) 0 files descs.items
     (gives_well (λ k. IsDescribed limits) files descs.items outcomes is c.in_ok-outcomes.ensures)) c.judge.ensures.well
 

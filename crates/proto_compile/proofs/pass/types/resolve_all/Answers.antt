@@ -7,7 +7,8 @@ use Rattle.proto_names.specs.Index.{Index}
 use Rattle.proto_compile.specs.Analysed.{AllZipFrom, AreTypedFrom}
 use Rattle.proto_compile.specs.FaultSet.{IsLeastFault}
 use Rattle.proto_compile.specs.Outcomes.{IsFirstFound, IsResolved, IsTypedWhole}
-use Rattle.proto_compile.proofs.Judging.{gives_well, tells_more}
+use Rattle.share_work.proofs.Giving.{gives_well}
+use Rattle.proto_compile.proofs.Judging.{tells_more}
 use Rattle.proto_compile.proofs.LeastFault.{first_break}
 use Rattle.proto_compile.proofs.pass.types.resolve_all.Goals as goal
 

@@ -4,8 +4,9 @@ use Rattle.proto_desc.specs.DeclaredNames.{scoped}
 use Rattle.proto_names.specs.Entries.{AreEntriesOf}
 use Rattle.proto_names.specs.Occurrences.{Occurrence}
 use Rattle.proto_names.specs.declared.entry.Entry.{Entry}
-use Rattle.proto_names.proofs.Growing.{length_more, entries_more, entries_pushed, occurrences_pushed, named}
+use Rattle.proto_names.proofs.Growing.{entries_more, entries_pushed, occurrences_pushed, named}
 use Rattle.proto_names.proofs.entries.Entries.push.Goals as goal
+use Rattle.digraph.proofs.Sharing.{length_kept}
 
 pub invariant_of-self : goal.invariant_of-self
 invariant_of-self c =
@@ -13,7 +14,7 @@ invariant_of-self c =
 
 pub overflow_sub-len : goal.overflow_sub-len
 overflow_sub-len c =
-    let long = length_more (string_bytes c.self.inside.text) (string_bytes c.push_name.new.full) c.push_name.ensures.kept in
+    let long = length_kept (string_bytes c.self.inside.text) (string_bytes c.push_name.new.full) c.push_name.ensures.kept in
     omega (arith, long, c.self.inside.text.bytes.ok.0, c.push_name.new.full.bytes.ok.0, c.len-start.ensures, c.len.ensures)
 
 pub invariant_of-self-in_err-push : goal.invariant_of-self-in_err-push

@@ -1,10 +1,11 @@
 use Rattle.std.proofs.Common.{◌≡◌, ◌∙◌, ◌+◌, ◌++◌, List, ℕ, [], Err, ap, append-nil, arith, get_or, subst, sym, take}
 use Rattle.std.specs.Prelude.{Contains, drop, flat_map}
 use Rattle.std.proofs.lemmas.List.{take_all}
+use Rattle.std.proofs.lemmas.List.Elements.{Contains-get_or}
 use Rattle.proto_compile.specs.Compilation.{bytes_at, set_of}
 use Rattle.wire_format.specs.Field.{bytes_field}
 use Rattle.schema_commands.specs.Runs.{IsOutput}
-use Rattle.schema_commands.proofs.Setting.{one_of, output_after, output_cut, set_split}
+use Rattle.schema_commands.proofs.Setting.{output_after, output_cut, set_split}
 use Rattle.schema_commands.proofs.set_writing.SetWriter.write.Goals as goal
 
 pub bytes_at-requires : goal.bytes_at-requires
@@ -12,7 +13,7 @@ bytes_at-requires g c =
     let order = c.set_order-file-items.result.now in
     let a = get_or order c.loop-file.file-index 0 in
     let same = c.set_order-file-items.ensures ∙ ap (λ l. l.set_order) c.links.ensures in
-    let among = one_of order c.loop-file.file-index 0 c.loop-file-test.true in
+    let among = Contains-get_or order c.loop-file.file-index 0 c.loop-file-test.true in
     let sound = c.is_sound.ensures in
     let below = sound.inside a (subst (λ (xs : List ℕ). Contains xs a) same among) in
     let linked = sound.linked in

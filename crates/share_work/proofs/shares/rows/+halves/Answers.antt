@@ -1,8 +1,8 @@
-use Rattle.std.proofs.Common.{rules, OnOk, ◌≡◌, ◌+◌, length, refl, sym, ap, get_or, [], ◌∷◌, ◌++◌, subst, arith, length-append}
+use Rattle.std.proofs.Common.{rules, OnOk, ◌≡◌, ◌+◌, length, refl, [], ◌++◌, arith, length-append}
 use Rattle.std.proofs.lemmas.List.Elements.{All-set, All-append}
-use Rattle.share_work.specs.Shares.{SeatsGain, SeatsHave}
+use Rattle.share_work.specs.Shares.{SeatsHave}
 use Rattle.share_work.specs.WorkerRows.{GivesRows}
-use Rattle.share_work.proofs.PieceRows.{OnOk-first, OnOk-second, OnOk-both, IfOk-both, one_member, one_gains, one_has, one_row, numbers_set}
+use Rattle.share_work.proofs.PieceRows.{OnOk-first, OnOk-second, OnOk-both, IfOk-both, one_member, only_gains, one_has, one_row, numbers_set}
 use Rattle.share_work.proofs.PieceRows.{rows_joined, gains_joined, haves_joined, numbers_joined}
 use Rattle.share_work.proofs.shares.rows.+halves.Goals as goal
 
@@ -41,36 +41,21 @@ both_halves-returns-clause-rows g t c =
 
 pub rows_from-returns-in_err-row_of-clause-gains : goal.rows_from-returns-in_err-row_of-clause-gains
 rows_from-returns-in_err-row_of-clause-gains g t c =
-    let one = one_member c.args.seats.now c.if-seats-eq1.true in
-    let seat = get_or c.args.seats.now 0 c.index-seats-0.result in
-    let was : one.0 ≡ seat = sym (ap (λ l. get_or l 0 c.index-seats-0.result) one.1) in
-    let gains = one_gains (g.W.Work.holds c.args.job.now.work.now) (g.W.Work.adds c.args.job.now.work.now) c.args.job.now.plan.workers c.args.job.now.plan.cut
-    c.args.job.now.items.now c.args.from seat c.row_of.new.seat
-    record { kept = c.in_err-row_of.ensures.kept; within = c.in_err-row_of.ensures.within } in
-    rw one.1 (subst (λ x. SeatsGain (g.W.Work.holds c.args.job.now.work.now) (g.W.Work.adds c.args.job.now.work.now) c.args.job.now.plan.workers
-    c.args.job.now.plan.cut c.args.job.now.items.now c.args.from (x ∷ []) (c.row_of.new.seat ∷ [])) (sym was) gains)
+    let job = c.args.job.now in
+    only_gains (g.W.Work.holds job.work.now) (g.W.Work.adds job.work.now) job.plan.workers job.plan.cut job.items.now c.args.from c.args.seats.now
+    c.index-seats-0.result c.row_of.new.seat c.if-seats-eq1.true record { kept = c.in_err-row_of.ensures.kept; within = c.in_err-row_of.ensures.within }
 
 pub rows_from-returns-in_err-push_back-clause-gains : goal.rows_from-returns-in_err-push_back-clause-gains
 rows_from-returns-in_err-push_back-clause-gains g t c =
-    let one = one_member c.args.seats.now c.if-seats-eq1.true in
-    let seat = get_or c.args.seats.now 0 c.index-seats-0.result in
-    let was : one.0 ≡ seat = sym (ap (λ l. get_or l 0 c.index-seats-0.result) one.1) in
-    let gains = one_gains (g.W.Work.holds c.args.job.now.work.now) (g.W.Work.adds c.args.job.now.work.now) c.args.job.now.plan.workers c.args.job.now.plan.cut
-    c.args.job.now.items.now c.args.from seat c.row_of.new.seat
-    record { kept = c.in_ok-row_of.ensures.kept; within = c.in_ok-row_of.ensures.within } in
-    rw one.1 (subst (λ x. SeatsGain (g.W.Work.holds c.args.job.now.work.now) (g.W.Work.adds c.args.job.now.work.now) c.args.job.now.plan.workers
-    c.args.job.now.plan.cut c.args.job.now.items.now c.args.from (x ∷ []) (c.row_of.new.seat ∷ [])) (sym was) gains)
+    let job = c.args.job.now in
+    only_gains (g.W.Work.holds job.work.now) (g.W.Work.adds job.work.now) job.plan.workers job.plan.cut job.items.now c.args.from c.args.seats.now
+    c.index-seats-0.result c.row_of.new.seat c.if-seats-eq1.true record { kept = c.in_ok-row_of.ensures.kept; within = c.in_ok-row_of.ensures.within }
 
 pub rows_from-returns-then-seats-eq1-clause-gains : goal.rows_from-returns-then-seats-eq1-clause-gains
 rows_from-returns-then-seats-eq1-clause-gains g t c =
-    let one = one_member c.args.seats.now c.if-seats-eq1.true in
-    let seat = get_or c.args.seats.now 0 c.index-seats-0.result in
-    let was : one.0 ≡ seat = sym (ap (λ l. get_or l 0 c.index-seats-0.result) one.1) in
-    let gains = one_gains (g.W.Work.holds c.args.job.now.work.now) (g.W.Work.adds c.args.job.now.work.now) c.args.job.now.plan.workers c.args.job.now.plan.cut
-    c.args.job.now.items.now c.args.from seat c.row_of.new.seat
-    record { kept = c.in_ok-row_of.ensures.kept; within = c.in_ok-row_of.ensures.within } in
-    rw one.1 (subst (λ x. SeatsGain (g.W.Work.holds c.args.job.now.work.now) (g.W.Work.adds c.args.job.now.work.now) c.args.job.now.plan.workers
-    c.args.job.now.plan.cut c.args.job.now.items.now c.args.from (x ∷ []) (c.row_of.new.seat ∷ [])) (sym was) gains)
+    let job = c.args.job.now in
+    only_gains (g.W.Work.holds job.work.now) (g.W.Work.adds job.work.now) job.plan.workers job.plan.cut job.items.now c.args.from c.args.seats.now
+    c.index-seats-0.result c.row_of.new.seat c.if-seats-eq1.true record { kept = c.in_ok-row_of.ensures.kept; within = c.in_ok-row_of.ensures.within }
 
 pub rows_from-returns-then-seats-eq1-clause-have : goal.rows_from-returns-then-seats-eq1-clause-have
 rows_from-returns-then-seats-eq1-clause-have g t c =
