@@ -43,6 +43,7 @@ pub of_every_fault : (limit : ℕ) (tokens : Tokens) (result : Result FileTree P
 of_every_fault limit tokens (Ok file) right k kind fault is_kind = fault.no_file (file_tree file) right
 of_every_fault limit tokens (Err (At place there)) (j, fault', is_kind', at) k kind fault is_kind =
     let p : j ≡ k = one_fault limit (tokens_of tokens) j k fault' fault in
-    (at ∙ ap (λ i. place_of_token (tokens_of tokens) i tokens.end.offset) p,
-     one_kind (tokens_of tokens) k there kind (subst (λ i. IsKindOf (tokens_of tokens) i there) p is_kind') is_kind)
+    let same : there ≡ kind =
+    one_kind (tokens_of tokens) k there kind (subst (λ i. IsKindOf (tokens_of tokens) i there) p is_kind') is_kind in
+    (at ∙ ap (λ i. place_of_token (tokens_of tokens) i tokens.end.offset) p, same)
 of_every_fault limit tokens (Err NoMemory) right k kind fault is_kind = tt

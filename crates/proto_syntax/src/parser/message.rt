@@ -14,9 +14,7 @@ use crate::parser::stop::Stop;
 use proto_base::Span;
 use proto_base::boxed::Boxed;
 use proto_base::row::Row;
-use proto_tree::{
-    Field, FieldType, FullName, MapField, Message, MessageItem, Name, TypeName,
-};
+use proto_tree::{Field, FieldType, FullName, MapField, Message, MessageItem, Name, TypeName};
 
 impl<'s, 't> Parser<'s, 't> {
     /// A map field, behind its first word.

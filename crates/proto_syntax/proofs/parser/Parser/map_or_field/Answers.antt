@@ -1,6 +1,5 @@
-use Rattle.std.proofs.Common.{ℕ, List, sym, ap, subst}
+use Rattle.std.proofs.Common.{ℕ, List, sym, subst}
 use Rattle.std.specs.Prelude.{codes}
-use Rattle.proto_base.specs.declared.place.Span.{Span}
 use Rattle.proto_tree.specs.Name.{Identifier}
 use Rattle.proto_syntax.specs.Grammar.{Tree}
 use Rattle.proto_syntax.specs.Reading.{mapped, read}
@@ -13,7 +12,7 @@ pub returns-then-at_symbol : goal.returns-then-at_symbol
 returns-then-at_symbol c =
     let first = c.in_ok-first.first in
     let By : Tree → Type 0 = λ w. Gives message_item_tree c.map_field.result c.map_field.new.self.rest.now
-        (mapped (behind_map w) (read map_rest (spellings c.word_name.new.self.rest.now))) in
+    (mapped (behind_map w) (read map_rest (spellings c.word_name.new.self.rest.now))) in
     subst (Gives message_item_tree c.map_field.result c.map_field.new.self.rest.now)
     (sym (map_behind (name_tree first) (spellings c.args.self.now.rest.now) (spellings c.word_name.new.self.rest.now)
     c.in_ok-first.ensures.gives))
