@@ -9,6 +9,7 @@ use share_work::{NoGate, Plan};
 use std::alloc::AllocGlobal;
 use std::io::{self, Read, Write};
 use std::process::Abort;
+use std::test::Fail;
 use std::thread::Threads;
 
 /// A request for a file.
@@ -151,9 +152,17 @@ fn is_handed_on<R: Threads + AllocGlobal + Sync>(
 }
 
 /// The response comes whole, however reader and writer cut their bytes.
-fn bytes_are_handed_on<R: Threads + AllocGlobal + Sync + Abort>(rt: &R, compiled: &Compiled) {
-    assert!(rt; is_handed_on(rt, compiled, 4_096, 4_096));
-    assert!(rt; is_handed_on(rt, compiled, 1, 7));
+fn bytes_are_handed_on<R: Threads + AllocGlobal + Sync + Abort>(
+    rt: &R,
+    compiled: &Compiled,
+) -> Result<(), Fail> {
+    for (read_step, write_step) in &[(4_096, 4_096), (1, 7)] {
+        assert!(rt;
+            is_handed_on(rt, compiled, *read_step, *write_step),
+            "{read_step} and {write_step} bytes a call"
+        );
+    }
+    Ok(())
 }
 
 /// Whether a reader that fails at a call ends the exchange before anything is written.
@@ -165,10 +174,14 @@ fn leaves_nothing<R: Threads + AllocGlobal + Sync>(rt: &R, compiled: &Compiled, 
 }
 
 /// A reader that fails at some call leaves nothing written.
-fn readers_fail<R: Threads + AllocGlobal + Sync + Abort>(rt: &R, compiled: &Compiled) {
+fn readers_fail<R: Threads + AllocGlobal + Sync + Abort>(
+    rt: &R,
+    compiled: &Compiled,
+) -> Result<(), Fail> {
     for call in 1..16 {
         assert!(rt; leaves_nothing(rt, compiled, call), "call {call}");
     }
+    Ok(())
 }
 
 /// How a writer fails, and how many bytes of the response it has taken by then.
@@ -224,19 +237,34 @@ fn tells_length<R: Threads + AllocGlobal + Sync>(
 }
 
 /// A writer that fails has taken a prefix of the response, whose length is told.
-fn writers_fail<R: Threads + AllocGlobal + Sync + Abort>(rt: &R, compiled: &Compiled) {
+fn writers_fail<R: Threads + AllocGlobal + Sync + Abort>(
+    rt: &R,
+    compiled: &Compiled,
+) -> Result<(), Fail> {
     for writer in &FAILING_WRITERS {
-        assert!(rt; tells_length(rt, compiled, *writer), "{}", writer.written);
+        assert!(rt;
+            tells_length(rt, compiled, *writer),
+            "{} bytes",
+            writer.written
+        );
     }
+    Ok(())
 }
 
 /// Exchanges over what the three files are compiled to.
+fn exchanges_over<R: Threads + AllocGlobal + Sync + Abort>(
+    rt: &R,
+    compiled: &Compiled,
+) -> Result<(), Fail> {
+    bytes_are_handed_on(rt, compiled)?;
+    readers_fail(rt, compiled)?;
+    writers_fail(rt, compiled)
+}
+
 #[test]
-fn exchanges(rt: HostRuntime) {
-    let compiled = compiled(&rt, &Limits::standard());
-    bytes_are_handed_on(&rt, &compiled);
-    readers_fail(&rt, &compiled);
-    writers_fail(&rt, &compiled);
+fn exchanges(rt: HostRuntime) -> Result<(), Fail> {
+    let compiled = compiled(&rt, &Limits::standard())?;
+    exchanges_over(&rt, &compiled)
 }
 
 /// Whether a body without end is refused after one byte over its limit, which is read by one byte a call.
@@ -252,8 +280,11 @@ fn is_refused_early<R: Threads + AllocGlobal + Sync>(rt: &R, compiled: &Compiled
 
 /// A reader without end is read to one byte over the limit of a body.
 #[test]
-fn endless_readers(rt: HostRuntime) {
-    let limits = Limits::standard().lowered(Limit::BodyBytes, 13);
-    let compiled = compiled(&rt, &limits.expect(&rt, "limits"));
+fn endless_readers(rt: HostRuntime) -> Result<(), Fail> {
+    let limits = Limits::standard()
+        .lowered(Limit::BodyBytes, 13)
+        .ok_or("limits")?;
+    let compiled = compiled(&rt, &limits)?;
     assert!(rt; is_refused_early(&rt, &compiled));
+    Ok(())
 }

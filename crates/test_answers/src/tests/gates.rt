@@ -1,13 +1,15 @@
 //! Workers that are held until another has come.
 
-use super::fixtures::{THREE_FILES, compiled_by};
+use super::fixtures::{compiled_by, three_files};
 use proto_base::Limits;
+use proto_compile::Compiled;
 use reflect_core::Mode;
 use schema_headline::response_to_sources;
 use share_work::{Gate, NoGate, Plan};
-use std::alloc::AllocGlobal;
+use std::alloc::{AllocGlobal, Global};
 use std::process::Abort;
 use std::sync::atomic::{AtomicU64, Ordering};
+use std::test::Fail;
 use std::thread::Threads;
 
 /// How often the worker of piece 0 looks for that of piece 1 before the test fails.
@@ -51,57 +53,61 @@ fn holding(phase: u8) -> Held {
     }
 }
 
+/// The set of what was compiled.
+fn set_of(alloc: Global, compiled: &Compiled) -> Result<Vec<u8>, Fail> {
+    Ok(compiled.set_bytes(alloc)?)
+}
+
 /// The set of the three files by the workers of a plan.
-fn set_by<R, G>(rt: &R, plan: Plan, gate: &G) -> Vec<u8>
+fn set_by<R, G>(rt: &R, plan: Plan, gate: &G) -> Result<Vec<u8>, Fail>
 where
-    R: Threads + AllocGlobal + Abort + Sync,
+    R: Threads + AllocGlobal + Sync,
     G: Gate + Sync,
 {
-    let compiled = compiled_by(rt, &Limits::standard(), plan, gate);
-    compiled.set_bytes(rt.alloc()).expect(rt, "memory")
+    let compiled = compiled_by(rt, &Limits::standard(), plan, gate)?;
+    set_of(rt.alloc(), &compiled)
 }
 
-/// Two workers.
-fn two_workers<R: Abort>(rt: &R) -> Plan {
-    Plan::new(2, 1).expect(rt, "a plan")
-}
-
-/// Whether the workers of a gate met, and found what one finds alone.
-fn have_met(gate: &Held, found: &[u8], alone: &[u8]) -> bool {
-    gate.missed.load(Ordering::SeqCst) == 0 && found == alone
+/// Whether the workers of a gate met.
+fn have_met(gate: &Held) -> bool {
+    gate.missed.load(Ordering::SeqCst) == 0
 }
 
 /// Sources are described, types resolved and descriptors written, each by two workers at once, and the set is that of one.
 #[test]
-fn compilers_meet(rt: HostRuntime) {
-    let alone = set_by(&rt, Plan::single(), &NoGate);
+fn compilers_meet(rt: HostRuntime) -> Result<(), Fail> {
+    let plan = Plan::new(2, 1).ok_or("a plan")?;
+    let alone = set_by(&rt, Plan::single(), &NoGate)?;
     for phase in 1..4 {
         let gate = holding(phase);
-        let found = set_by(&rt, two_workers(&rt), &gate);
-        assert!(rt; have_met(&gate, &found, &alone), "phase {phase}");
+        let found = set_by(&rt, plan, &gate)?;
+        assert!(rt; found == alone, "phase {phase}");
+        assert!(rt; have_met(&gate), "phase {phase}: nobody came");
     }
+    Ok(())
 }
 
 /// The response to the body by the workers of a plan.
-fn response_by<R, G>(rt: &R, plan: Plan, gate: &G) -> Vec<u8>
+fn response_by<R, G>(rt: &R, plan: Plan, gate: &G) -> Result<Vec<u8>, Fail>
 where
-    R: Threads + AllocGlobal + Abort + Sync,
+    R: Threads + AllocGlobal + Sync,
     G: Gate + Sync,
 {
+    let sources = three_files(rt.alloc())?;
     let limits = Limits::standard();
-    response_to_sources(rt, &THREE_FILES, &limits, plan, gate, Mode::Once, BODY).expect(
-        rt,
-        "a response",
-    )
+    Ok(response_to_sources(rt, &sources, &limits, plan, gate, Mode::Once, BODY)?)
 }
 
 /// Marks and replies are each made by two workers at once, and the response is that of one.
 #[test]
-fn workers_meet(rt: HostRuntime) {
-    let alone = response_by(&rt, Plan::single(), &NoGate);
+fn workers_meet(rt: HostRuntime) -> Result<(), Fail> {
+    let plan = Plan::new(2, 1).ok_or("a plan")?;
+    let alone = response_by(&rt, Plan::single(), &NoGate)?;
     for phase in 4..6 {
         let gate = holding(phase);
-        let found = response_by(&rt, two_workers(&rt), &gate);
-        assert!(rt; have_met(&gate, &found, &alone), "phase {phase}");
+        let found = response_by(&rt, plan, &gate)?;
+        assert!(rt; found == alone, "phase {phase}");
+        assert!(rt; have_met(&gate), "phase {phase}: nobody came");
     }
+    Ok(())
 }
