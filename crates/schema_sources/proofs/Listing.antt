@@ -1,6 +1,6 @@
 -- Laws of sources that are read under the names of a folder.
-use Rattle.std.proofs.Common.{◌≡◌, ◌∙◌, sym, ap, refl, subst, ℕ, ◌+◌, ◌<◌, All, Global, List, String, [], ◌∷◌, ◌++◌, arith, drop, get_or, inl, inr, length, map, string_bytes, take}
-use Rattle.std.specs.Prelude.{◌⊎◌, Ok, Err, Some, None}
+use Rattle.std.proofs.Common.{◌≡◌, ◌∙◌, sym, ap, refl, subst, ℕ, ◌+◌, ◌<◌, All, Global, List, String, [], ◌∷◌, ◌++◌, arith, drop, get_or, inr, length, map, string_bytes, take}
+use Rattle.std.specs.Prelude.{Ok, Err, Some, None}
 use Rattle.std.specs.List.{AllZip, Contains}
 use Rattle.std.proofs.lemmas.List.{drop_more, map-append, take-append-drop}
 use Rattle.std.proofs.lemmas.List.Elements.{All-contains, All-head, All-tail, Contains-get_or}
@@ -8,10 +8,9 @@ use Rattle.share_work.proofs.Giving.{all_of_gives}
 use Rattle.share_work.specs.Shares.{GivesItems}
 use Rattle.source_folder.specs.Folder.{name_of, names_of}
 use Rattle.source_folder.specs.declared.fault.FolderFault.{FolderFault}
-use Rattle.source_folder.specs.declared.fault.FolderFault.TheVariants as faults
 use Rattle.source_folder.specs.declared.folder.NamedText.{NamedText}
-use Rattle.schema_sources.specs.Reading.{IsFirstFault, IsReadFrom, Outcome}
-use Rattle.schema_sources.specs.Texts.{AreNamesOf, AreTextsOf, IsFirstTold, Known, Reads, TellsFirst, bytes_of, named_bytes}
+use Rattle.schema_sources.specs.Reading.{IsFirstFault, IsReadUnder, Outcome}
+use Rattle.schema_sources.specs.Texts.{AreNamesOf, AreTextsOf, Known, bytes_of, named_bytes}
 
 -- ---- outcomes
 
@@ -39,79 +38,57 @@ fault_behind outcomes k texts o fault before h at is =
 
 -- ---- the sources of a folder
 
-abbrev pub Under : Known → Reads → String Global → Outcome → Type 0
-Under known reads name = IsReadFrom known reads (string_bytes name)
+abbrev pub Under : Known → String Global → Outcome → Type 0
+Under known name = IsReadUnder known (string_bytes name)
 
-names_read : (known : Known) (reads : Reads) (names : List (String Global)) (texts : List NamedText)
-    → AllZip (Under known reads) names (map Ok texts) → names_of texts ≡ map string_bytes names
-names_read known reads [] [] all = refl
-names_read known reads [] (t ∷ texts) all = absurd all
-names_read known reads (n ∷ names) [] all = absurd all
-names_read known reads (n ∷ names) (t ∷ texts) all =
-    ap (λ m. m ∷ names_of texts) all.0.0.0
-    ∙ ap (λ (ms : List (List ℕ)). string_bytes n ∷ ms) (names_read known reads names texts all.1)
+names_read : (known : Known) (names : List (String Global)) (texts : List NamedText)
+    → AllZip (Under known) names (map Ok texts) → names_of texts ≡ map string_bytes names
+names_read known [] [] all = refl
+names_read known [] (t ∷ texts) all = absurd all
+names_read known (n ∷ names) [] all = absurd all
+names_read known (n ∷ names) (t ∷ texts) all =
+    ap (λ m. m ∷ names_of texts) all.0.0
+    ∙ ap (λ (ms : List (List ℕ)). string_bytes n ∷ ms) (names_read known names texts all.1)
 
-texts_read : (reads : Reads) (all rest : List (List ℕ × List ℕ)) (names : List (String Global)) (texts : List NamedText)
+texts_read : (all rest : List (List ℕ × List ℕ)) (names : List (String Global)) (texts : List NamedText)
     → All (Contains all) rest → map string_bytes names ≡ map (λ (source : List ℕ × List ℕ). source.0) rest
-    → AllZip (Under (Some all) reads) names (map Ok texts) → map named_bytes texts ≡ rest
-texts_read reads all [] [] [] inside same zip = refl
-texts_read reads all [] [] (t ∷ texts) inside same zip = absurd zip
-texts_read reads all [] (n ∷ names) texts inside same zip = absurd (omega (arith, ap length same))
-texts_read reads all (s ∷ rest) [] texts inside same zip = absurd (omega (arith, ap length same))
-texts_read reads all (s ∷ rest) (n ∷ names) [] inside same zip = absurd zip
-texts_read reads all (s ∷ rest) (n ∷ names) (t ∷ texts) inside same zip =
+    → AllZip (Under (Some all)) names (map Ok texts) → map named_bytes texts ≡ rest
+texts_read all [] [] [] inside same zip = refl
+texts_read all [] [] (t ∷ texts) inside same zip = absurd zip
+texts_read all [] (n ∷ names) texts inside same zip = absurd (omega (arith, ap length same))
+texts_read all (s ∷ rest) [] texts inside same zip = absurd (omega (arith, ap length same))
+texts_read all (s ∷ rest) (n ∷ names) [] inside same zip = absurd zip
+texts_read all (s ∷ rest) (n ∷ names) (t ∷ texts) inside same zip =
     let head : string_bytes n ≡ s.0 = ap (λ (ns : List (List ℕ)). get_or ns 0 []) same in
-    let name : name_of t ≡ s.0 = zip.0.0.0 ∙ head in
+    let name : name_of t ≡ s.0 = zip.0.0 ∙ head in
     let bytes : bytes_of t ≡ s.1 = All-contains (λ (source : List ℕ × List ℕ). source.0 ≡ string_bytes n
-    → bytes_of t ≡ source.1) all s zip.0.0.1 (All-head (Contains all) s rest inside) (sym head) in
+    → bytes_of t ≡ source.1) all s zip.0.1 (All-head (Contains all) s rest inside) (sym head) in
     let pair : named_bytes t ≡ s = ap (λ m. (m, bytes_of t)) name ∙ ap (λ b. (s.0, b)) bytes in
     let names_left = ap (λ (ns : List (List ℕ)). drop 1 ns) same in
     let rest_inside = All-tail (Contains all) s rest inside in
     ap (λ (p : List ℕ × List ℕ). p ∷ map named_bytes texts) pair
-    ∙ ap (λ (ps : List (List ℕ × List ℕ)). s ∷ ps) (texts_read reads all rest names texts rest_inside names_left zip.1)
+    ∙ ap (λ (ps : List (List ℕ × List ℕ)). s ∷ ps) (texts_read all rest names texts rest_inside names_left zip.1)
 
-texts_where_known : (known : Known) (reads : Reads) (names : List (String Global)) (texts : List NamedText) → AreNamesOf known names
-    → AllZip (Under known reads) names (map Ok texts) → AreTextsOf known texts
-texts_where_known None reads names texts same zip = tt
-texts_where_known (Some all) reads names texts same zip =
-    texts_read reads all all names texts (λ k d h. Contains-get_or all k d h) same zip
+texts_where_known : (known : Known) (names : List (String Global)) (texts : List NamedText) → AreNamesOf known names
+    → AllZip (Under known) names (map Ok texts) → AreTextsOf known texts
+texts_where_known None names texts same zip = tt
+texts_where_known (Some all) names texts same zip =
+    texts_read all all names texts (λ k d h. Contains-get_or all k d h) same zip
 
-well : (known : Known) (reads : Reads) (names : List (String Global)) (texts : List NamedText) (outcomes : List Outcome)
-    → GivesItems (λ k. Under known reads) 0 names outcomes → outcomes ≡ map Ok texts
-    → AllZip (Under known reads) names (map Ok texts)
-well known reads names texts outcomes gives read =
-    subst (AllZip (Under known reads) names) read (all_of_gives (Under known reads) 0 names outcomes gives)
+well : (known : Known) (names : List (String Global)) (texts : List NamedText) (outcomes : List Outcome)
+    → GivesItems (λ k. Under known) 0 names outcomes → outcomes ≡ map Ok texts
+    → AllZip (Under known) names (map Ok texts)
+well known names texts outcomes gives read =
+    subst (AllZip (Under known) names) read (all_of_gives (Under known) 0 names outcomes gives)
 
-pub are_texts : (known : Known) (reads : Reads) (names : List (String Global)) (texts : List NamedText) (outcomes : List Outcome)
-    → AreNamesOf known names → GivesItems (λ k. Under known reads) 0 names outcomes → outcomes ≡ map Ok texts
+pub are_texts : (known : Known) (names : List (String Global)) (texts : List NamedText) (outcomes : List Outcome)
+    → AreNamesOf known names → GivesItems (λ k. Under known) 0 names outcomes → outcomes ≡ map Ok texts
     → AreTextsOf known texts
-are_texts known reads names texts outcomes same gives read =
-    texts_where_known known reads names texts same (well known reads names texts outcomes gives read)
+are_texts known names texts outcomes same gives read =
+    texts_where_known known names texts same (well known names texts outcomes gives read)
 
-pub same_names : (known : Known) (reads : Reads) (names : List (String Global)) (texts : List NamedText) (outcomes : List Outcome)
-    → GivesItems (λ k. Under known reads) 0 names outcomes → outcomes ≡ map Ok texts
+pub same_names : (known : Known) (names : List (String Global)) (texts : List NamedText) (outcomes : List Outcome)
+    → GivesItems (λ k. Under known) 0 names outcomes → outcomes ≡ map Ok texts
     → names_of texts ≡ map string_bytes names
-same_names known reads names texts outcomes gives read =
-    names_read known reads names texts (well known reads names texts outcomes gives read)
-
--- ---- the fault that is told
-
-told_first : (known : Known) (reads : Reads) (names : List (String Global)) (texts : List NamedText) (rest : List Outcome)
-    (fault : FolderFault) → AllZip (Under known reads) names (map Ok texts ++ Err fault ∷ rest)
-    → (fault ≡ faults.NoMemory) ⊎ IsFirstTold reads (map string_bytes names) fault
-told_first known reads [] [] rest fault zip = absurd zip
-told_first known reads [] (t ∷ texts) rest fault zip = absurd zip
-told_first known reads (n ∷ names) [] rest fault zip = elim zip.0.1 [ inl short ↦ inl short | inr own ↦ inr (inl own) ]
-told_first known reads (n ∷ names) (t ∷ texts) rest fault zip = elim (told_first known reads names texts rest fault zip.1) [
-  | inl short ↦ inl short
-  | inr later ↦ inr (inr (zip.0.1, later))
-]
-
-pub tells_first : (known : Known) (reads : Reads) (names : List (String Global)) (outcomes : List Outcome) (fault : FolderFault)
-    → AreNamesOf known names → GivesItems (λ k. Under known reads) 0 names outcomes → IsFirstFault outcomes fault
-    → TellsFirst known reads fault
-tells_first None reads names outcomes fault same gives first = tt
-tells_first (Some all) reads names outcomes fault same gives (inl short) = inl short
-tells_first (Some all) reads names outcomes fault same gives (inr (texts, rest, is)) =
-    subst (λ ns. (fault ≡ faults.NoMemory) ⊎ IsFirstTold reads ns fault) same (told_first (Some all) reads names texts rest fault
-    (subst (AllZip (Under (Some all) reads) names) is (all_of_gives (Under (Some all) reads) 0 names outcomes gives)))
+same_names known names texts outcomes gives read =
+    names_read known names texts (well known names texts outcomes gives read)

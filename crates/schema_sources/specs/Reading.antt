@@ -4,7 +4,7 @@ use Rattle.source_folder.specs.Folder.{name_of}
 use Rattle.source_folder.specs.declared.fault.FolderFault.{FolderFault}
 use Rattle.source_folder.specs.declared.fault.FolderFault.TheVariants as faults
 use Rattle.source_folder.specs.declared.folder.NamedText.{NamedText}
-use Rattle.schema_sources.specs.Texts.{ComesOf, IsTextUnder, Known, Reads, bytes_of}
+use Rattle.schema_sources.specs.Texts.{IsTextUnder, Known, bytes_of}
 
 abbrev pub Outcome : Type 0
 Outcome = Result NamedText FolderFault
@@ -13,10 +13,6 @@ Outcome = Result NamedText FolderFault
 abbrev pub IsReadUnder : Known → List ℕ → Outcome → Type 0
 IsReadUnder known name outcome =
     IfOk outcome (λ source. (name_of source ≡ name) × IsTextUnder known name (bytes_of source))
-
--- the same, and what may come of reading it
-abbrev pub IsReadFrom : Known → Reads → List ℕ → Outcome → Type 0
-IsReadFrom known reads name outcome = IsReadUnder known name outcome × ComesOf (reads name) outcome
 
 -- the first fault: what comes before it are sources. Or memory was short
 abbrev pub IsFirstFault : List Outcome → FolderFault → Type 0

@@ -1,5 +1,5 @@
 -- The texts of a folder.
-use Rattle.std.specs.Prelude.{◌≡◌, ◌⊎◌, ℕ, List, [], ◌∷◌, map, Option, None, Some, Result, Ok, Err, IfSome, All, String, string_bytes}
+use Rattle.std.specs.Prelude.{◌≡◌, ℕ, List, map, Option, IfSome, All, String, string_bytes}
 use Rattle.std.specs.declared.alloc.Global.{Global}
 use Rattle.proto_base.specs.Limits.{limit_of}
 use Rattle.proto_base.specs.StandardLimits.{standard_of}
@@ -8,8 +8,6 @@ use Rattle.proto_base.specs.declared.limits.Limits.{Limits}
 use Rattle.proto_compile.specs.Sources.{name_of, text_of}
 use Rattle.proto_compile.specs.declared.source.Source.{Source}
 use Rattle.source_folder.specs.Folder.{names_of}
-use Rattle.source_folder.specs.declared.fault.FolderFault.{FolderFault}
-use Rattle.source_folder.specs.declared.fault.FolderFault.TheVariants as faults
 use Rattle.source_folder.specs.declared.folder.NamedText.{NamedText}
 
 -- the bytes of texts
@@ -34,25 +32,6 @@ AreNamesOf known names = IfSome known (λ sources. map string_bytes names ≡ ma
 -- a text that may be that of the folder's source of this name: the known one, where there is one
 abbrev pub IsTextUnder : Known → (name text : List ℕ) → Type 0
 IsTextUnder known name text = IfSome known (All (λ source. source.0 ≡ name → text ≡ source.1))
-
--- what may come of reading the source of a name: no fault, or this one
-abbrev pub Reads : Type 1
-Reads = List ℕ → Option FolderFault → Type 0
-
--- what came of reading is what may come, unless memory was short
-abbrev pub ComesOf : {T : Type 0} → (Option FolderFault → Type 0) → Result T FolderFault → Type 0
-ComesOf may (Ok text) = may None
-ComesOf may (Err fault) = (fault ≡ faults.NoMemory) ⊎ may (Some fault)
-
--- the fault is that of the first of these names of which one comes
-abbrev pub IsFirstTold : Reads → List (List ℕ) → FolderFault → Type 0
-IsFirstTold reads [] fault = ⊥
-IsFirstTold reads (name ∷ names) fault = reads name (Some fault) ⊎ (reads name None × IsFirstTold reads names fault)
-
--- of a folder whose sources are known, the fault is that of the least name of which one comes, or memory was short
-abbrev pub TellsFirst : Known → Reads → FolderFault → Type 0
-TellsFirst known reads fault = IfSome known (λ sources. (fault ≡ faults.NoMemory)
-    ⊎ IsFirstTold reads (map (λ source. source.0) sources) fault)
 
 -- sources with the names and the bytes of these texts, in their order
 pub record AreSourcesOf (texts : List NamedText) (sources : List Source) : Type 0 where

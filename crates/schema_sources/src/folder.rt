@@ -1,9 +1,7 @@
 //! Folders that sources are read from.
 
-ghost use Rattle.std.specs.Prelude.{◌≡◌, ℕ, List, Option, IfErr, IfOk, IfSome, IsTrue, None, map, string_bytes};
-ghost use Rattle.schema_sources.specs.Texts.{AreNamesOf, AreTextsOf, ComesOf, IsTextUnder, Known, TellsFirst};
-ghost use Rattle.source_folder.specs.declared.fault.FolderFault.{FolderFault};
-ghost use Rattle.source_folder.specs.declared.fault.FolderFault.TheVariants as faults;
+ghost use Rattle.std.specs.Prelude.{◌≡◌, IfOk, IsTrue, None, map, string_bytes};
+ghost use Rattle.schema_sources.specs.Texts.{AreNamesOf, AreTextsOf, IsTextUnder, Known};
 ghost use Rattle.proto_base.specs.NameOrder.{NamesRise};
 
 use crate::places::Elsewhere;
@@ -20,21 +18,14 @@ pub trait SourceFolder: Shelf {
     // Its sources, where they are known.
     ghost sources: { Self → Known };
 
-    // What may come of reading the source of a name: no fault, or this one.
-    ghost reads: { Self → List ℕ → Option FolderFault → Type 0 };
-
-    /// The names of its sources, in their order. What keeps them from being known is told before a source is read. Where they are
-    /// known to contracts, this is only want of memory.
+    /// The names of its sources, in their order. What keeps them from being known is told before a source is read.
     fn names(&self) -> Result<Vec<String>, FolderFault>
         ensures names { IfOk result (λ names. AreNamesOf (sources self.now) names.items) }
-        ensures order { IfOk result (λ names. NamesRise (map string_bytes names.items)) }
-        ensures fault { IfErr result (λ fault. IfSome (sources self.now)
-            (λ _. fault ≡ faults.NoMemory)) };
+        ensures order { IfOk result (λ names. NamesRise (map string_bytes names.items)) };
 
     /// Reads the source of one of these names. Any thread may ask for any of them.
     fn text(&self, name: &str, limits: &Limits) -> Result<Vec<u8>, FolderFault>
-        ensures text { IfOk result (λ text. IsTextUnder (sources self.now) name.now text.items) }
-        ensures comes { ComesOf (reads self.now name.now) result };
+        ensures { IfOk result (λ text. IsTextUnder (sources self.now) name.now text.items) };
 
     /// Which of these sources lie in another folder than the root.
     fn elsewhere<'t>(&'t self, texts: &'t [NamedText]) -> Result<Vec<Elsewhere<'t>>, AllocError>;
@@ -58,8 +49,7 @@ pub fn read_sources<R, F>(
 where
     R: Threads + AllocGlobal + Sync,
     F: SourceFolder + Sync,
-    ensures texts { IfOk result (λ texts. AreTextsOf (F.sources folder.now) texts.items) }
-    ensures first { IfErr result (TellsFirst (F.sources folder.now) (F.reads folder.now)) }
+    ensures { IfOk result (λ texts. AreTextsOf (F.sources folder.now) texts.items) }
 {
     let given = listed_sources(rt, folder, limits, plan)?;
     if !folder.has_shelf() {

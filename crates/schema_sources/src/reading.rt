@@ -4,8 +4,8 @@ ghost use Rattle.std.specs.Prelude.{◌≡◌, Ok, IfErr, IfOk, map, string_byte
 ghost use Rattle.proto_base.specs.NameOrder.{NamesRise};
 ghost use Rattle.share_work.specs.Shares.{GivesItems};
 ghost use Rattle.source_folder.specs.Folder.{names_of};
-ghost use Rattle.schema_sources.specs.Reading.{IsFirstFault, IsReadFrom, IsReadUnder};
-ghost use Rattle.schema_sources.specs.Texts.{AreTextsOf, ComesOf, TellsFirst};
+ghost use Rattle.schema_sources.specs.Reading.{IsFirstFault, IsReadUnder};
+ghost use Rattle.schema_sources.specs.Texts.{AreTextsOf};
 
 use crate::folder::SourceFolder;
 use proto_base::Limits;
@@ -21,8 +21,7 @@ fn source_under<F: SourceFolder>(
     name: &str,
     limits: &Limits,
 ) -> Result<NamedText, FolderFault>
-    ensures read { IsReadUnder (F.sources folder.now) name.now result }
-    ensures comes { ComesOf (F.reads folder.now name.now) result }
+    ensures { IsReadUnder (F.sources folder.now) name.now result }
 {
     let text = folder.text(name, limits)?;
     let name = String::from_str(alloc, name)?;
@@ -38,7 +37,7 @@ struct Reading<'f, F> {
 
 impl<F: SourceFolder> Work<String> for Reading<'_, F> {
     ghost use Rattle.std.specs.Prelude.{⊤, string_bytes};
-    ghost use Rattle.schema_sources.specs.Reading.{IsReadFrom};
+    ghost use Rattle.schema_sources.specs.Reading.{IsReadUnder};
 
     type Out = Result<NamedText, FolderFault>;
 
@@ -48,8 +47,8 @@ impl<F: SourceFolder> Work<String> for Reading<'_, F> {
 
     ghost fits = { λ _ _. ⊤ };
 
-    ghost gives = { λ work _ name outcome. IsReadFrom (F.sources work.folder.now)
-        (F.reads work.folder.now) (string_bytes name) outcome };
+    ghost gives = { λ work _ name outcome. IsReadUnder (F.sources work.folder.now)
+        (string_bytes name) outcome };
 
     ghost number = { λ _ _. 0 };
 
@@ -84,8 +83,8 @@ where
     R: Threads + AllocGlobal + Sync,
     F: SourceFolder + Sync,
     ensures { IfOk result (λ outcomes. GivesItems
-        (λ _ name. IsReadFrom (F.sources folder.now) (F.reads folder.now) (string_bytes name)) 0
-        names.now outcomes.items) }
+        (λ _ name. IsReadUnder (F.sources folder.now) (string_bytes name)) 0 names.now
+        outcomes.items) }
 {
     let work = Reading {
         folder,
@@ -125,7 +124,6 @@ where
     F: SourceFolder + Sync,
     ensures texts { IfOk result (λ texts. AreTextsOf (F.sources folder.now) texts.items) }
     ensures order { IfOk result (λ texts. NamesRise (names_of texts.items)) }
-    ensures first { IfErr result (TellsFirst (F.sources folder.now) (F.reads folder.now)) }
 {
     let names = folder.names()?;
     let outcomes = outcomes_of(rt, folder, &names, limits, plan)?;

@@ -172,11 +172,7 @@ impl<R: Files + AllocGlobal> Shelf for SystemFolder<'_, R> {
 }
 
 impl<R: Files + AllocGlobal> SourceFolder for SystemFolder<'_, R> {
-    ghost use Rattle.std.specs.Prelude.{⊤};
-
     ghost sources = { λ _. None };
-
-    ghost reads = { λ _ _ _. ⊤ };
 
     fn names(&self) -> Result<Vec<String>, FolderFault> {
         Ok(self.given_names()?)

@@ -5,4 +5,4 @@ use Rattle.schema_sources.proofs.reading.ReadingWorkString.piece.Given as goal
 
 abbrev pub invariant-loop-name : goal.invariant-loop-name
 invariant-loop-name g l =
-    AllZip (Under (g.F.SourceFolder.sources l.self.folder.now) (g.F.SourceFolder.reads l.self.folder.now)) (take l.name-index l.items) l.outcomes.items
+    AllZip (Under (g.F.SourceFolder.sources l.self.folder.now)) (take l.name-index l.items) l.outcomes.items
