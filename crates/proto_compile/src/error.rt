@@ -39,6 +39,9 @@ impl<T: Drop> From<AllocFailed<T>> for CompileError {
 /// The first byte of a source, where faults of a whole file stand.
 pub(crate) const START: Place = Place { offset: 0 };
 
+/// The step of each fault that a pass of one step finds.
+pub(crate) const ONLY_STEP: u8 = 0;
+
 /// The error of a fault, if there is memory for the file's name.
 pub(crate) fn refusal_of_step(
     alloc: Global,
@@ -72,5 +75,5 @@ pub(crate) fn refusal(
 ) -> CompileError
     ensures { Tells (of_file (number_of pass) file.now place kind) result }
 {
-    refusal_of_step(alloc, pass, file, 0, place, kind)
+    refusal_of_step(alloc, pass, file, ONLY_STEP, place, kind)
 }

@@ -12,7 +12,7 @@ ghost use Rattle.proto_links.specs.Linked.{Linked};
 ghost use Rattle.proto_names.specs.Index.{Index};
 ghost use Rattle.wire_bytes.specs.Descriptor.{file_desc_bytes};
 
-use crate::error::{CompileError, START};
+use crate::error::{CompileError, ONLY_STEP, START};
 use crate::letting_go::let_go;
 use crate::outcome::judge;
 use crate::pass::Pass;
@@ -34,7 +34,7 @@ fn write(alloc: Global, desc: &FileDesc, limits: &Limits) -> Result<Vec<u8>, Fil
 {
     let bytes = file_bytes(alloc, desc)?;
     if bytes.len() as u64 > limits.get(Limit::DescriptorBytes) {
-        return Err(FileError::At(0, START, Kind::DescriptorTooLong));
+        return Err(FileError::At(ONLY_STEP, START, Kind::DescriptorTooLong));
     }
     Ok(bytes)
 }

@@ -10,7 +10,7 @@ ghost use Rattle.proto_links.specs.Linked.{Linked, count_of};
 ghost use Rattle.proto_names.specs.Index.{Index};
 ghost use Rattle.proto_base.specs.declared.limits.Limits.{Limits};
 
-use crate::error::CompileError;
+use crate::error::{CompileError, ONLY_STEP};
 use crate::outcome::judge;
 use crate::pass::Pass;
 use crate::pass::filling::put_types;
@@ -40,7 +40,7 @@ fn resolve(
 {
     match resolve_types(alloc, index, links, file, desc) {
         Ok(types) => Ok(types),
-        Err(TypeError::At(place, kind)) => Err(FileError::At(0, place, kind)),
+        Err(TypeError::At(place, kind)) => Err(FileError::At(ONLY_STEP, place, kind)),
         Err(TypeError::NoMemory) => Err(FileError::NoMemory),
     }
 }
