@@ -1,5 +1,6 @@
 //! Fields, requests and bodies, and what they are answered.
 
+use crate::answers::{Answer, answer_of, bytes_answer, failed};
 use grpcweb_core::{Counted, HttpAnswer, IoFault, answer_io, respond};
 use proto_base::Limits;
 use proto_compile::Compiled;
@@ -34,11 +35,10 @@ const TRAILERS: &[u8] = b"\x80\x00\x00\x00\x0Fgrpc-status:0\r\n";
 const PATH: &str = "/grpc.reflection.v1.ServerReflection/ServerReflectionInfo";
 
 /// Whether what was put stands behind a byte, or nothing where there was no memory.
-fn is_put(put: Result<(), AllocError>, out: &[u8], wanted: &[u8]) -> Result<bool, AllocError> {
-    match (put, out) {
-        (Ok(()), [0xAA, added @ ..]) => Ok(added == wanted),
-        (Err(AllocError), [0xAA]) => Err(AllocError),
-        _ => Ok(false),
+fn put_answer(put: Result<(), AllocError>, out: &[u8], wanted: &[u8]) -> Answer {
+    match put {
+        Ok(()) => answer_of(out.strip_prefix(b"\xAA".as_slice()) == Some(wanted)),
+        Err(AllocError) => failed(out == b"\xAA".as_slice()),
     }
 }
 
@@ -47,16 +47,20 @@ fn full(alloc: Global) -> Result<Vec<u8>, AllocError> {
     Vec::from_slice(alloc, b"\xAA".as_slice())
 }
 
-pub(crate) fn puts_varint(alloc: Global) -> Result<bool, AllocError> {
-    let mut out = full(alloc)?;
+pub(crate) fn puts_varint(alloc: Global) -> Answer {
+    let Ok(mut out) = full(alloc) else {
+        return Answer::NoMemory;
+    };
     let put = put_varint(&mut out, 18_999);
-    is_put(put, &out, b"\xB7\x94\x01")
+    put_answer(put, &out, b"\xB7\x94\x01")
 }
 
-pub(crate) fn puts_field(alloc: Global) -> Result<bool, AllocError> {
-    let mut out = full(alloc)?;
+pub(crate) fn puts_field(alloc: Global) -> Answer {
+    let Ok(mut out) = full(alloc) else {
+        return Answer::NoMemory;
+    };
     let put = put_field(&mut out, 1, &FieldValue::Delimited(b"a.proto"));
-    is_put(put, &out, b"\x0A\x07a.proto")
+    put_answer(put, &out, b"\x0A\x07a.proto")
 }
 
 /// Whether these are the fields of the request.
@@ -70,11 +74,10 @@ fn are_fields(fields: &[Field]) -> bool {
     field.number == 3 && bytes == b"a.proto".as_slice()
 }
 
-pub(crate) fn has_fields(alloc: Global) -> Result<bool, AllocError> {
+pub(crate) fn has_fields(alloc: Global) -> Answer {
     match read_fields(alloc, REQUEST) {
-        Ok(fields) => Ok(are_fields(&fields)),
-        Err(WireError::NoMemory) => Err(AllocError),
-        Err(WireError::Malformed) => Ok(false),
+        Ok(fields) => answer_of(are_fields(&fields)),
+        Err(error) => failed(matches!(error, WireError::NoMemory)),
     }
 }
 
@@ -86,11 +89,10 @@ fn is_request(request: Request) -> bool {
     }
 }
 
-pub(crate) fn has_request(alloc: Global) -> Result<bool, AllocError> {
+pub(crate) fn has_request(alloc: Global) -> Answer {
     match read_request(alloc, REQUEST) {
-        Ok(request) => Ok(is_request(request)),
-        Err(WireError::NoMemory) => Err(AllocError),
-        Err(WireError::Malformed) => Ok(false),
+        Ok(request) => answer_of(is_request(request)),
+        Err(error) => failed(matches!(error, WireError::NoMemory)),
     }
 }
 
@@ -102,21 +104,20 @@ fn are_messages(messages: &[&[u8]]) -> bool {
     *first == REQUEST && *second == b"\x1A\x07b.proto".as_slice() && *third == REQUEST
 }
 
-pub(crate) fn has_frames(alloc: Global) -> Result<bool, AllocError> {
-    let frames = read_frames(alloc, BODY, &Limits::standard())?;
-    Ok(frames.status == 0 && are_messages(&frames.messages))
+pub(crate) fn has_frames(alloc: Global) -> Answer {
+    match read_frames(alloc, BODY, &Limits::standard()) {
+        Ok(frames) => answer_of(frames.status == 0 && are_messages(&frames.messages)),
+        Err(AllocError) => Answer::NoMemory,
+    }
 }
 
 /// The response by two workers.
-pub(crate) fn is_answered<R: Threads + AllocGlobal + Sync>(
-    rt: &R,
-    compiled: &Compiled,
-) -> Result<bool, AllocError> {
+pub(crate) fn is_answered<R: Threads + AllocGlobal + Sync>(rt: &R, compiled: &Compiled) -> Answer {
     let Some(plan) = Plan::new(2, 1) else {
-        return Ok(false);
+        return Answer::Other;
     };
-    let response = answer_body(rt, compiled, plan, &NoGate, Mode::Once, BODY)?;
-    Ok(response.as_slice() == RESPONSE)
+    let made = answer_body(rt, compiled, plan, &NoGate, Mode::Once, BODY);
+    bytes_answer(&made, RESPONSE)
 }
 
 fn is_http_answer(answer: &HttpAnswer) -> bool {
@@ -126,11 +127,15 @@ fn is_http_answer(answer: &HttpAnswer) -> bool {
         && answer.body.as_slice() == TRAILERS
 }
 
-pub(crate) fn is_responded<R: Threads + AllocGlobal + Sync>(
-    rt: &R,
-    compiled: &Compiled,
-) -> Result<bool, AllocError> {
-    let answer = respond(
+fn http_answer(made: &Result<HttpAnswer, AllocError>) -> Answer {
+    match made {
+        Ok(answer) => answer_of(is_http_answer(answer)),
+        Err(AllocError) => Answer::NoMemory,
+    }
+}
+
+pub(crate) fn is_responded<R: Threads + AllocGlobal + Sync>(rt: &R, compiled: &Compiled) -> Answer {
+    let made = respond(
         rt,
         compiled,
         Plan::single(),
@@ -140,8 +145,10 @@ pub(crate) fn is_responded<R: Threads + AllocGlobal + Sync>(
         PATH,
         Some("application/grpc-web; x=1"),
         b"",
-    )?;
-    Ok(is_http_answer(&answer))
+    );
+    let answer = http_answer(&made);
+    drop(made);
+    answer
 }
 
 /// A writer that takes no memory: it knows what is to come.
@@ -166,19 +173,19 @@ impl Write for Expecting {
 }
 
 /// Whether an exchange ended with all that was to come written, or without memory and nothing written.
-fn has_ended(end: Result<(), IoFault>, output: &Expecting) -> Result<bool, AllocError> {
-    let is_untouched = output.left.len() == TRAILERS.len();
+fn end_answer(end: Result<(), IoFault>, output: &Expecting) -> Answer {
+    if output.is_other {
+        return Answer::Other;
+    }
+    let left = output.left.len();
     match end {
-        Ok(()) => Ok(output.left.is_empty() && !output.is_other),
-        Err(IoFault::NoMemory) if is_untouched && !output.is_other => Err(AllocError),
-        Err(_) => Ok(false),
+        Ok(()) => answer_of(left == 0),
+        Err(IoFault::NoMemory) => failed(left == TRAILERS.len()),
+        Err(_) => Answer::Other,
     }
 }
 
-pub(crate) fn is_exchanged<R: Threads + AllocGlobal + Sync>(
-    rt: &R,
-    compiled: &Compiled,
-) -> Result<bool, AllocError> {
+pub(crate) fn is_exchanged<R: Threads + AllocGlobal + Sync>(rt: &R, compiled: &Compiled) -> Answer {
     let mut output = Expecting {
         left: TRAILERS,
         is_other: false,
@@ -194,5 +201,5 @@ pub(crate) fn is_exchanged<R: Threads + AllocGlobal + Sync>(
         &mut reader,
         &mut writer,
     );
-    has_ended(end, &output)
+    end_answer(end, &output)
 }

@@ -1,79 +1,141 @@
 //! The calls that may have no memory.
 
+use crate::answers::Answer;
 use crate::{bodies, files, one_file, tables};
 use proto_compile::Compiled;
 use proto_desc::file::FileDesc;
 use proto_tokens::Tokens;
 use proto_tree::FileTree;
-use std::alloc::{AllocError, AllocGlobal};
+use std::alloc::{AllocGlobal, Global};
 use std::rt::Files;
 use std::thread::Threads;
 
 /// A call, with what it is made on beside constants.
 #[derive(Clone, Copy)]
 pub(crate) enum Call<'a> {
+    Alone(Alone),
+    ReadFolder(&'a str),
+    OnFile(OnFile<'a>),
+    OnFiles(&'a [FileDesc<'static>], OnFiles),
+    OnCompiled(&'a Compiled, OnCompiled),
+}
+
+impl Call<'_> {
+    /// Makes the call, and tells what it answers.
+    pub(crate) fn make<R>(self, rt: &R) -> Answer
+    where
+        R: Threads + Files + AllocGlobal + Sync,
+    {
+        match self {
+            Call::Alone(call) => call.make(rt),
+            Call::ReadFolder(root) => files::are_read(rt, root),
+            Call::OnFile(call) => call.make(rt.alloc()),
+            Call::OnFiles(descs, call) => call.make(rt, descs),
+            Call::OnCompiled(compiled, call) => call.make(rt, compiled),
+        }
+    }
+}
+
+/// A call on constants alone.
+#[derive(Clone, Copy)]
+pub(crate) enum Alone {
     Tokenize,
-    Parse(&'a Tokens<'static>),
-    Lower(&'a FileTree<'static>),
-    FirstCheckFault(&'a FileTree<'static>, &'a FileDesc<'static>),
-    FileBytes(&'a FileDesc<'static>),
     JsonName,
     EntryName,
     OneofName,
     PutVarint,
     PutField,
     Compile,
-    SetBytes(&'a Compiled),
     Describe,
-    Link(&'a [FileDesc<'static>]),
-    Build(&'a [FileDesc<'static>]),
-    Resolve(&'a Compiled),
-    ReadFolder(&'a str),
     ReadFields,
     ReadRequest,
     ReadFrames,
-    AnswerBody(&'a Compiled),
-    Respond(&'a Compiled),
-    AnswerIo(&'a Compiled),
     InShares,
     LeastTable,
     MarkTable,
 }
 
-impl Call<'_> {
-    /// Makes the call, and tells whether it answers what is wanted.
-    pub(crate) fn make<R>(self, rt: &R) -> Result<bool, AllocError>
-    where
-        R: Threads + Files + AllocGlobal + Sync,
-    {
-        let alloc = rt.alloc();
+impl Alone {
+    fn make<R: Threads + AllocGlobal + Sync>(self, rt: &R) -> Answer {
         match self {
-            Call::Tokenize => one_file::has_tokens(alloc),
-            Call::Parse(tokens) => one_file::has_tree(alloc, tokens),
-            Call::Lower(tree) => one_file::has_descriptor(alloc, tree),
-            Call::FirstCheckFault(tree, desc) => one_file::has_no_fault(alloc, tree, desc),
-            Call::FileBytes(desc) => one_file::has_bytes(alloc, desc),
-            Call::JsonName => one_file::has_json_name(alloc),
-            Call::EntryName => one_file::has_entry_name(alloc),
-            Call::OneofName => one_file::has_oneof_name(alloc),
-            Call::PutVarint => bodies::puts_varint(alloc),
-            Call::PutField => bodies::puts_field(alloc),
-            Call::Compile => files::is_compiled(rt),
-            Call::SetBytes(compiled) => files::has_set(alloc, compiled),
-            Call::Describe => one_file::is_described(rt),
-            Call::Link(descs) => files::are_linked(alloc, descs),
-            Call::Build(descs) => files::are_indexed(rt, descs),
-            Call::Resolve(compiled) => files::is_resolved(alloc, compiled),
-            Call::ReadFolder(root) => files::are_read(rt, root),
-            Call::ReadFields => bodies::has_fields(alloc),
-            Call::ReadRequest => bodies::has_request(alloc),
-            Call::ReadFrames => bodies::has_frames(alloc),
-            Call::AnswerBody(compiled) => bodies::is_answered(rt, compiled),
-            Call::Respond(compiled) => bodies::is_responded(rt, compiled),
-            Call::AnswerIo(compiled) => bodies::is_exchanged(rt, compiled),
-            Call::InShares => tables::is_shared(rt),
-            Call::LeastTable => tables::has_least(alloc),
-            Call::MarkTable => tables::has_marks(alloc),
+            Alone::Tokenize => one_file::has_tokens(rt.alloc()),
+            Alone::JsonName => one_file::has_json_name(rt.alloc()),
+            Alone::EntryName => one_file::has_entry_name(rt.alloc()),
+            Alone::OneofName => one_file::has_oneof_name(rt.alloc()),
+            Alone::PutVarint => bodies::puts_varint(rt.alloc()),
+            Alone::PutField => bodies::puts_field(rt.alloc()),
+            Alone::Compile => files::is_compiled(rt),
+            Alone::Describe => one_file::is_described(rt),
+            Alone::ReadFields => bodies::has_fields(rt.alloc()),
+            Alone::ReadRequest => bodies::has_request(rt.alloc()),
+            Alone::ReadFrames => bodies::has_frames(rt.alloc()),
+            Alone::InShares => tables::is_shared(rt),
+            Alone::LeastTable => tables::has_least(rt.alloc()),
+            Alone::MarkTable => tables::has_marks(rt.alloc()),
+        }
+    }
+}
+
+/// A call on what is made of one file.
+#[derive(Clone, Copy)]
+pub(crate) enum OnFile<'a> {
+    Parse(&'a Tokens<'static>),
+    Lower(&'a FileTree<'static>),
+    FirstCheckFault(&'a FileTree<'static>, &'a FileDesc<'static>),
+    FileBytes(&'a FileDesc<'static>),
+}
+
+impl OnFile<'_> {
+    fn make(self, alloc: Global) -> Answer {
+        match self {
+            OnFile::Parse(tokens) => one_file::has_tree(alloc, tokens),
+            OnFile::Lower(tree) => one_file::has_descriptor(alloc, tree),
+            OnFile::FirstCheckFault(tree, desc) => one_file::has_no_fault(alloc, tree, desc),
+            OnFile::FileBytes(desc) => one_file::has_bytes(alloc, desc),
+        }
+    }
+}
+
+/// A call on descriptors of files that import each other.
+#[derive(Clone, Copy)]
+pub(crate) enum OnFiles {
+    Link,
+    Build,
+}
+
+impl OnFiles {
+    fn make<R>(self, rt: &R, descs: &[FileDesc<'static>]) -> Answer
+    where
+        R: Threads + AllocGlobal + Sync,
+    {
+        match self {
+            OnFiles::Link => files::are_linked(rt.alloc(), descs),
+            OnFiles::Build => files::are_indexed(rt, descs),
+        }
+    }
+}
+
+/// A call on what sources are compiled to.
+#[derive(Clone, Copy)]
+pub(crate) enum OnCompiled {
+    SetBytes,
+    Resolve,
+    AnswerBody,
+    Respond,
+    AnswerIo,
+}
+
+impl OnCompiled {
+    fn make<R>(self, rt: &R, compiled: &Compiled) -> Answer
+    where
+        R: Threads + AllocGlobal + Sync,
+    {
+        match self {
+            OnCompiled::SetBytes => files::has_set(rt.alloc(), compiled),
+            OnCompiled::Resolve => files::is_resolved(rt.alloc(), compiled),
+            OnCompiled::AnswerBody => bodies::is_answered(rt, compiled),
+            OnCompiled::Respond => bodies::is_responded(rt, compiled),
+            OnCompiled::AnswerIo => bodies::is_exchanged(rt, compiled),
         }
     }
 }

@@ -3,6 +3,7 @@
 ghost use Rattle.std.specs.Prelude.{◌≡◌};
 ghost use Rattle.proto_links.specs.Linked.{count_of};
 
+use crate::answers::{Answer, answer_of, failed};
 use crate::one_file::{BYTES, NAME, TEXT};
 use proto_base::Limits;
 use proto_compile::{CompileError, Compiled, Source, compile};
@@ -86,18 +87,26 @@ fn is_one_file(compiled: &Compiled) -> bool {
     compiled.bytes_of(NAME) == Some(BYTES)
 }
 
-pub(crate) fn is_compiled<R: Threads + AllocGlobal + Sync>(rt: &R) -> Result<bool, AllocError> {
-    match compile(rt, &ONE, &Limits::standard(), Plan::single(), &NoGate) {
-        Ok(compiled) => Ok(is_one_file(&compiled)),
-        Err(CompileError::NoMemory) => Err(AllocError),
-        Err(CompileError::First(_)) => Ok(false),
+fn compiled_answer(made: &Result<Compiled, CompileError>) -> Answer {
+    match made {
+        Ok(compiled) => answer_of(is_one_file(compiled)),
+        Err(error) => failed(matches!(error, CompileError::NoMemory)),
     }
 }
 
+pub(crate) fn is_compiled<R: Threads + AllocGlobal + Sync>(rt: &R) -> Answer {
+    let made = compile(rt, &ONE, &Limits::standard(), Plan::single(), &NoGate);
+    let answer = compiled_answer(&made);
+    drop(made);
+    answer
+}
+
 /// The set of the one file: a field that holds its 36 bytes.
-pub(crate) fn has_set(alloc: Global, compiled: &Compiled) -> Result<bool, AllocError> {
-    let set = compiled.set_bytes(alloc)?;
-    Ok(set.strip_prefix(b"\x0A\x24".as_slice()) == Some(BYTES))
+pub(crate) fn has_set(alloc: Global, compiled: &Compiled) -> Answer {
+    match compiled.set_bytes(alloc) {
+        Ok(set) => answer_of(set.strip_prefix(b"\x0A\x24".as_slice()) == Some(BYTES)),
+        Err(AllocError) => Answer::NoMemory,
+    }
 }
 
 /// Whether each file has its rank, and the first sees all of them.
@@ -117,15 +126,21 @@ fn are_links(links: &Links) -> bool {
         && are_ranked(links)
 }
 
-pub(crate) fn are_linked(alloc: Global, descs: &[FileDesc<'static>]) -> Result<bool, AllocError> {
+fn links_answer(made: &Result<Links, LinkError>) -> Answer {
+    match made {
+        Ok(links) => answer_of(are_links(links)),
+        Err(error) => failed(matches!(error, LinkError::NoMemory)),
+    }
+}
+
+pub(crate) fn are_linked(alloc: Global, descs: &[FileDesc<'static>]) -> Answer {
     if !in_name_order(descs) {
-        return Ok(false);
+        return Answer::Other;
     }
-    match link(alloc, descs) {
-        Ok(links) => Ok(are_links(&links)),
-        Err(LinkError::NoMemory) => Err(AllocError),
-        Err(LinkError::At(_, _, _)) => Ok(false),
-    }
+    let made = link(alloc, descs);
+    let answer = links_answer(&made);
+    drop(made);
+    answer
 }
 
 /// Whether a name is that of a message of this file.
@@ -136,34 +151,41 @@ fn is_message(index: &NameIndex, name: &str, wanted: usize) -> bool {
     }
 }
 
-pub(crate) fn are_indexed<R: Threads + AllocGlobal + Sync>(
-    rt: &R,
-    descs: &[FileDesc<'static>],
-) -> Result<bool, AllocError> {
-    match NameIndex::build(rt, descs, &Limits::standard()) {
-        Ok(index) => Ok(is_message(&index, "A", 0) && is_message(&index, "D", 3)),
-        Err(NameError::NoMemory) => Err(AllocError),
-        Err(NameError::At(_, _) | NameError::TooMany) => Ok(false),
+fn index_answer(made: &Result<NameIndex, NameError>) -> Answer {
+    match made {
+        Ok(index) => answer_of(is_message(index, "A", 0) && is_message(index, "D", 3)),
+        Err(error) => failed(matches!(error, NameError::NoMemory)),
     }
 }
 
+pub(crate) fn are_indexed<R: Threads + AllocGlobal + Sync>(
+    rt: &R,
+    descs: &[FileDesc<'static>],
+) -> Answer {
+    let made = NameIndex::build(rt, descs, &Limits::standard());
+    let answer = index_answer(&made);
+    drop(made);
+    answer
+}
+
 /// The type that the field of the first file has.
-pub(crate) fn is_resolved(alloc: Global, compiled: &Compiled) -> Result<bool, AllocError> {
+fn type_answer(made: &Result<Resolved, ResolveError>) -> Answer {
+    match made {
+        Ok(found) => {
+            answer_of(found.full_name.as_str() == "D" && found.kind == NameKind::Message)
+        }
+        Err(error) => failed(matches!(error, ResolveError::NoMemory)),
+    }
+}
+
+pub(crate) fn is_resolved(alloc: Global, compiled: &Compiled) -> Answer {
     compiled.is_sound();
     let links = compiled.links();
     if links.count() == 0 {
-        return Ok(false);
+        return Answer::Other;
     }
-    match compiled
-        .names()
-        .resolve(alloc, links, 0, "A", "D", Want::AnyType)
-    {
-        Ok(Resolved { full_name, kind }) => Ok(
-            full_name.as_str() == "D" && kind == NameKind::Message,
-        ),
-        Err(ResolveError::NoMemory) => Err(AllocError),
-        Err(ResolveError::TypeNotFound | ResolveError::TypeNotMessage) => Ok(false),
-    }
+    let names = compiled.names();
+    type_answer(&names.resolve(alloc, links, 0, "A", "D", Want::AnyType))
 }
 
 /// Whether these are the files of the folder.
@@ -176,10 +198,9 @@ fn are_texts(texts: &[NamedText]) -> bool {
     texts.len() == LINKED.len()
 }
 
-pub(crate) fn are_read<R: Files + AllocGlobal>(rt: &R, root: &str) -> Result<bool, AllocError> {
+pub(crate) fn are_read<R: Files + AllocGlobal>(rt: &R, root: &str) -> Answer {
     match read_folder(rt, root, &Limits::standard()) {
-        Ok(texts) => Ok(are_texts(&texts)),
-        Err(FolderFault::NoMemory) => Err(AllocError),
-        Err(FolderFault::Listing | FolderFault::Reading) => Ok(false),
+        Ok(texts) => answer_of(are_texts(&texts)),
+        Err(error) => failed(matches!(error, FolderFault::NoMemory)),
     }
 }

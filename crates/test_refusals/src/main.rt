@@ -6,6 +6,7 @@
 //! names the folder that is read, data/.
 #![tactic(auto)]
 
+mod answers;
 mod bodies;
 mod calls;
 mod files;
@@ -13,7 +14,7 @@ mod one_file;
 mod rounds;
 mod tables;
 
-use calls::Call;
+use calls::{Alone, Call, OnCompiled, OnFile, OnFiles};
 use files::{LINKED, ONE, REQUESTED, are_described};
 use one_file::{NAME, TEXT};
 use proto_base::Limits;
@@ -31,26 +32,42 @@ use std::rt::Files;
 use std::thread::Threads;
 use std::{env, io};
 
-/// Makes the calls that need nothing but constants and the folder.
-fn calls_alone<R>(rt: &R, console: &HostRuntime, root: &str) -> bool
+/// The calls on constants alone, by their names.
+static ALONE: [(&str, Alone); 14] = [
+    ("tokenize", Alone::Tokenize),
+    ("json_name", Alone::JsonName),
+    ("entry_name", Alone::EntryName),
+    ("oneof_name", Alone::OneofName),
+    ("put_varint", Alone::PutVarint),
+    ("put_field", Alone::PutField),
+    ("compile", Alone::Compile),
+    ("describe", Alone::Describe),
+    ("read_fields", Alone::ReadFields),
+    ("read_request", Alone::ReadRequest),
+    ("read_frames", Alone::ReadFrames),
+    ("in_shares", Alone::InShares),
+    ("LeastTable::new", Alone::LeastTable),
+    ("MarkTable::new", Alone::MarkTable),
+];
+
+/// Makes the calls on constants alone.
+fn calls_alone<R>(rt: &R, console: &HostRuntime) -> bool
 where
     R: Threads + Files + AllocGlobal + Sync,
 {
-    in_rounds(rt, console, "tokenize", Call::Tokenize)
-        & in_rounds(rt, console, "json_name", Call::JsonName)
-        & in_rounds(rt, console, "entry_name", Call::EntryName)
-        & in_rounds(rt, console, "oneof_name", Call::OneofName)
-        & in_rounds(rt, console, "put_varint", Call::PutVarint)
-        & in_rounds(rt, console, "put_field", Call::PutField)
-        & in_rounds(rt, console, "compile", Call::Compile)
-        & in_rounds(rt, console, "describe", Call::Describe)
-        & in_rounds(rt, console, "read_folder", Call::ReadFolder(root))
-        & in_rounds(rt, console, "read_fields", Call::ReadFields)
-        & in_rounds(rt, console, "read_request", Call::ReadRequest)
-        & in_rounds(rt, console, "read_frames", Call::ReadFrames)
-        & in_rounds(rt, console, "in_shares", Call::InShares)
-        & in_rounds(rt, console, "LeastTable::new", Call::LeastTable)
-        & in_rounds(rt, console, "MarkTable::new", Call::MarkTable)
+    let mut is_right = true;
+    for (name, call) in &ALONE {
+        is_right &= in_rounds(rt, console, name, Call::Alone(*call));
+    }
+    is_right
+}
+
+/// Makes a call on what is made of one file.
+fn on_file<R>(rt: &R, console: &HostRuntime, name: &str, call: OnFile<'_>) -> bool
+where
+    R: Threads + Files + AllocGlobal + Sync,
+{
+    in_rounds(rt, console, name, Call::OnFile(call))
 }
 
 /// Makes the calls on a file's descriptor.
@@ -63,12 +80,9 @@ fn calls_on_descriptor<R>(
 where
     R: Threads + Files + AllocGlobal + Sync,
 {
-    in_rounds(
-        rt,
-        console,
-        "first_check_fault",
-        Call::FirstCheckFault(tree, desc),
-    ) & in_rounds(rt, console, "file_bytes", Call::FileBytes(desc))
+    let call = OnFile::FirstCheckFault(tree, desc);
+    on_file(rt, console, "first_check_fault", call)
+        & on_file(rt, console, "file_bytes", OnFile::FileBytes(desc))
 }
 
 /// Makes the calls on a file's tree.
@@ -76,11 +90,14 @@ fn calls_on_tree<R>(rt: &R, console: &HostRuntime, tree: &FileTree<'static>) -> 
 where
     R: Threads + Files + AllocGlobal + Sync,
 {
-    let is_right = in_rounds(rt, console, "lower", Call::Lower(tree));
-    match lower(rt.alloc(), NAME, tree) {
-        Ok(desc) => is_right & calls_on_descriptor(rt, console, tree, &desc),
+    let is_right = on_file(rt, console, "lower", OnFile::Lower(tree));
+    let made = lower(rt.alloc(), NAME, tree);
+    let are_right = match &made {
+        Ok(desc) => calls_on_descriptor(rt, console, tree, desc),
         Err(_) => told(console, NAME, "no descriptor"),
-    }
+    };
+    drop(made);
+    is_right & are_right
 }
 
 /// Makes the calls on a file's tokens.
@@ -88,11 +105,14 @@ fn calls_on_tokens<R>(rt: &R, console: &HostRuntime, tokens: &Tokens<'static>) -
 where
     R: Threads + Files + AllocGlobal + Sync,
 {
-    let is_right = in_rounds(rt, console, "parse", Call::Parse(tokens));
-    match parse(rt.alloc(), tokens, &Limits::standard()) {
-        Ok(tree) => is_right & calls_on_tree(rt, console, &tree),
+    let is_right = on_file(rt, console, "parse", OnFile::Parse(tokens));
+    let made = parse(rt.alloc(), tokens, &Limits::standard());
+    let are_right = match &made {
+        Ok(tree) => calls_on_tree(rt, console, tree),
         Err(_) => told(console, NAME, "no tree"),
-    }
+    };
+    drop(made);
+    is_right & are_right
 }
 
 /// Makes the calls on one file.
@@ -111,8 +131,13 @@ fn calls_on_descriptors<R>(rt: &R, console: &HostRuntime, descs: &[FileDesc<'sta
 where
     R: Threads + Files + AllocGlobal + Sync,
 {
-    in_rounds(rt, console, "link", Call::Link(descs))
-        & in_rounds(rt, console, "NameIndex::build", Call::Build(descs))
+    in_rounds(rt, console, "link", Call::OnFiles(descs, OnFiles::Link))
+        & in_rounds(
+            rt,
+            console,
+            "NameIndex::build",
+            Call::OnFiles(descs, OnFiles::Build),
+        )
 }
 
 /// Makes the calls on files that import each other.
@@ -127,28 +152,29 @@ where
     calls_on_descriptors(rt, console, &descs)
 }
 
-/// The calls that are made on what sources are compiled to.
-#[derive(Clone, Copy)]
-enum Made {
-    SetBytes,
-    Resolve,
-    Answers,
-}
+/// Calls on what sources are compiled to, by their names.
+type Named = &'static [(&'static str, OnCompiled)];
+
+static SET: [(&str, OnCompiled); 1] = [("set_bytes", OnCompiled::SetBytes)];
+
+static TYPES: [(&str, OnCompiled); 1] = [("resolve", OnCompiled::Resolve)];
+
+static ANSWERS: [(&str, OnCompiled); 3] = [
+    ("answer_body", OnCompiled::AnswerBody),
+    ("respond", OnCompiled::Respond),
+    ("answer_io", OnCompiled::AnswerIo),
+];
 
 /// Makes calls on a compilation.
-fn calls_on_compiled<R>(rt: &R, console: &HostRuntime, compiled: &Compiled, made: Made) -> bool
+fn calls_on_compiled<R>(rt: &R, console: &HostRuntime, compiled: &Compiled, calls: Named) -> bool
 where
     R: Threads + Files + AllocGlobal + Sync,
 {
-    match made {
-        Made::SetBytes => in_rounds(rt, console, "set_bytes", Call::SetBytes(compiled)),
-        Made::Resolve => in_rounds(rt, console, "resolve", Call::Resolve(compiled)),
-        Made::Answers => {
-            in_rounds(rt, console, "answer_body", Call::AnswerBody(compiled))
-                & in_rounds(rt, console, "respond", Call::Respond(compiled))
-                & in_rounds(rt, console, "answer_io", Call::AnswerIo(compiled))
-        }
+    let mut is_right = true;
+    for (name, call) in calls {
+        is_right &= in_rounds(rt, console, name, Call::OnCompiled(compiled, *call));
     }
+    is_right
 }
 
 /// Makes calls on what sources are compiled to.
@@ -156,15 +182,18 @@ fn calls_on_sources<R>(
     rt: &R,
     console: &HostRuntime,
     sources: &[Source<'static>],
-    made: Made,
+    calls: Named,
 ) -> bool
 where
     R: Threads + Files + AllocGlobal + Sync,
 {
-    match compile(rt, sources, &Limits::standard(), Plan::single(), &NoGate) {
-        Ok(compiled) => calls_on_compiled(rt, console, &compiled, made),
+    let made = compile(rt, sources, &Limits::standard(), Plan::single(), &NoGate);
+    let is_right = match &made {
+        Ok(compiled) => calls_on_compiled(rt, console, compiled, calls),
         Err(_) => told(console, NAME, "no compilation"),
-    }
+    };
+    drop(made);
+    is_right
 }
 
 /// Makes all calls.
@@ -172,12 +201,13 @@ fn make_all<R>(rt: &R, console: &HostRuntime, root: &str) -> bool
 where
     R: Threads + Files + AllocGlobal + Sync,
 {
-    calls_alone(rt, console, root)
+    calls_alone(rt, console)
+        & in_rounds(rt, console, "read_folder", Call::ReadFolder(root))
         & calls_on_file(rt, console)
         & calls_on_files(rt, console)
-        & calls_on_sources(rt, console, &ONE, Made::SetBytes)
-        & calls_on_sources(rt, console, &LINKED, Made::Resolve)
-        & calls_on_sources(rt, console, &REQUESTED, Made::Answers)
+        & calls_on_sources(rt, console, &ONE, &SET)
+        & calls_on_sources(rt, console, &LINKED, &TYPES)
+        & calls_on_sources(rt, console, &REQUESTED, &ANSWERS)
 }
 
 fn words_of(rt: &HostRuntime) -> io::Result<Vec<String>> {

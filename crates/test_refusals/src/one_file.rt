@@ -1,5 +1,6 @@
 //! One file, from its text to the bytes of its descriptor, and the names that are made.
 
+use crate::answers::{Answer, answer_of, bytes_answer, failed, text_answer};
 use proto_base::Limits;
 use proto_base::scalar_type::ScalarType;
 use proto_checks::first_check_fault;
@@ -64,11 +65,10 @@ fn are_tokens(tokens: &[Token]) -> bool {
     tokens.len() == TOKENS.len()
 }
 
-pub(crate) fn has_tokens(alloc: Global) -> Result<bool, AllocError> {
+pub(crate) fn has_tokens(alloc: Global) -> Answer {
     match tokenize(alloc, TEXT, &Limits::standard()) {
-        Ok(tokens) => Ok(are_tokens(&tokens.items)),
-        Err(TokenError::NoMemory) => Err(AllocError),
-        Err(TokenError::At(_, _)) => Ok(false),
+        Ok(tokens) => answer_of(are_tokens(&tokens.items)),
+        Err(error) => failed(matches!(error, TokenError::NoMemory)),
     }
 }
 
@@ -97,12 +97,18 @@ fn is_tree(file: &FileTree) -> bool {
     }
 }
 
-pub(crate) fn has_tree(alloc: Global, tokens: &Tokens<'static>) -> Result<bool, AllocError> {
-    match parse(alloc, tokens, &Limits::standard()) {
-        Ok(file) => Ok(is_tree(&file)),
-        Err(ParseError::NoMemory) => Err(AllocError),
-        Err(ParseError::At(_, _)) => Ok(false),
+fn tree_answer(made: &Result<FileTree<'static>, ParseError>) -> Answer {
+    match made {
+        Ok(file) => answer_of(is_tree(file)),
+        Err(error) => failed(matches!(error, ParseError::NoMemory)),
     }
+}
+
+pub(crate) fn has_tree(alloc: Global, tokens: &Tokens<'static>) -> Answer {
+    let made = parse(alloc, tokens, &Limits::standard());
+    let answer = tree_answer(&made);
+    drop(made);
+    answer
 }
 
 fn is_field_desc(field: &FieldDesc) -> bool {
@@ -124,47 +130,54 @@ fn is_descriptor(file: &FileDesc) -> bool {
     file.name.as_str() == NAME && message.name.as_str() == "A" && is_field_desc(field)
 }
 
-pub(crate) fn has_descriptor(alloc: Global, tree: &FileTree<'static>) -> Result<bool, AllocError> {
-    let desc = lower(alloc, NAME, tree)?;
-    Ok(is_descriptor(&desc))
+fn descriptor_answer(made: &Result<FileDesc<'static>, AllocError>) -> Answer {
+    match made {
+        Ok(file) => answer_of(is_descriptor(file)),
+        Err(AllocError) => Answer::NoMemory,
+    }
+}
+
+pub(crate) fn has_descriptor(alloc: Global, tree: &FileTree<'static>) -> Answer {
+    let made = lower(alloc, NAME, tree);
+    let answer = descriptor_answer(&made);
+    drop(made);
+    answer
 }
 
 pub(crate) fn has_no_fault(
     alloc: Global,
     tree: &FileTree<'static>,
     desc: &FileDesc<'static>,
-) -> Result<bool, AllocError> {
-    let fault = first_check_fault(alloc, tree, desc, &Limits::standard())?;
-    Ok(fault.is_none())
+) -> Answer {
+    match first_check_fault(alloc, tree, desc, &Limits::standard()) {
+        Ok(fault) => answer_of(fault.is_none()),
+        Err(AllocError) => Answer::NoMemory,
+    }
 }
 
-pub(crate) fn has_bytes(alloc: Global, desc: &FileDesc<'static>) -> Result<bool, AllocError> {
+pub(crate) fn has_bytes(alloc: Global, desc: &FileDesc<'static>) -> Answer {
     if !is_resolved(desc) {
-        return Ok(false);
+        return Answer::Other;
     }
-    let bytes = file_bytes(alloc, desc)?;
-    Ok(bytes.as_slice() == BYTES)
+    bytes_answer(&file_bytes(alloc, desc), BYTES)
 }
 
-pub(crate) fn is_described<R: Threads + AllocGlobal + Sync>(rt: &R) -> Result<bool, AllocError> {
+pub(crate) fn is_described<R: Threads + AllocGlobal + Sync>(rt: &R) -> Answer {
     match describe(rt, NAME, TEXT, &Limits::standard()) {
-        Ok(bytes) => Ok(bytes.as_slice() == BYTES),
-        Err(CompileError::NoMemory) => Err(AllocError),
-        Err(CompileError::First(_)) => Ok(false),
+        Ok(bytes) => answer_of(bytes.as_slice() == BYTES),
+        Err(error) => failed(matches!(error, CompileError::NoMemory)),
     }
 }
 
-pub(crate) fn has_json_name(alloc: Global) -> Result<bool, AllocError> {
-    let name = json_name(alloc, "x")?;
-    Ok(name.as_str() == "x")
+pub(crate) fn has_json_name(alloc: Global) -> Answer {
+    text_answer(&json_name(alloc, "x"), "x")
 }
 
-pub(crate) fn has_entry_name(alloc: Global) -> Result<bool, AllocError> {
-    let name = entry_name(alloc, "my_map")?;
-    Ok(name.as_str() == "MyMapEntry")
+pub(crate) fn has_entry_name(alloc: Global) -> Answer {
+    text_answer(&entry_name(alloc, "my_map"), "MyMapEntry")
 }
 
-pub(crate) fn has_oneof_name(alloc: Global) -> Result<bool, AllocError> {
-    let name = oneof_name(alloc, "a", &["a", "_a", "k", "b"])?;
-    Ok(name.as_str() == "X_a")
+pub(crate) fn has_oneof_name(alloc: Global) -> Answer {
+    let made = oneof_name(alloc, "a", &["a", "_a", "k", "b"]);
+    text_answer(&made, "X_a")
 }

@@ -1,7 +1,8 @@
 //! Rounds of a call.
 
+use crate::answers::Answer;
 use crate::calls::Call;
-use std::alloc::{AllocError, AllocGlobal};
+use std::alloc::AllocGlobal;
 use std::io::{Eprint, Print, Read};
 use std::rt::Files;
 use std::thread::Threads;
@@ -15,6 +16,23 @@ fn has_byte(console: &HostRuntime) -> bool {
     matches!(console.stdin().read(&mut [0_u8]), Ok(1))
 }
 
+/// Tells what is wrong with the answers of a call that is made twice, of which the first may have been refused an
+/// allocation.
+fn wrong(first: Answer, is_refused: bool, again: Answer) -> Option<&'static str> {
+    let is_right = match first {
+        Answer::Wanted => true,
+        Answer::NoMemory => is_refused,
+        Answer::Other => false,
+    };
+    if !is_right {
+        return Some("another answer");
+    }
+    match again {
+        Answer::Wanted => None,
+        _ => Some("another answer when made again"),
+    }
+}
+
 /// Makes a call twice, and tells whether the first was refused an allocation, or what is wrong.
 fn round<R>(rt: &R, console: &HostRuntime, call: Call<'_>) -> Result<bool, &'static str>
 where
@@ -24,17 +42,10 @@ where
     let first = call.make(rt);
     let is_refused = has_byte(console);
     let again = call.make(rt);
-    let is_right = match first {
-        Ok(is_wanted) => is_wanted,
-        Err(AllocError) => is_refused,
-    };
-    if !is_right {
-        return Err("another answer");
+    match wrong(first, is_refused, again) {
+        Some(what) => Err(what),
+        None => Ok(is_refused),
     }
-    if !matches!(again, Ok(true)) {
-        return Err("another answer when made again");
-    }
-    Ok(is_refused)
 }
 
 /// Tells that something is wrong, which is false.

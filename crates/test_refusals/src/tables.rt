@@ -1,10 +1,11 @@
 //! Tables that threads share, and work in shares over one.
 
-ghost use Rattle.std.specs.Prelude.{◌≡◌, ◌<◌, All, IfOk, IfSome, length};
+ghost use Rattle.std.specs.Prelude.{◌≡◌, ◌<◌, All, IfSome, length};
 
+use crate::answers::{Answer, answer_of};
 use share_samples::posting::{Posting, join_seats, two_seats};
 use share_samples::two_files::Two;
-use share_work::{LeastSeat, LeastTable, MarkTable, NONE, NoGate, Plan, in_shares};
+use share_work::{LeastSeat, LeastTable, MarkSeat, MarkTable, NONE, NoGate, Plan, in_shares};
 use std::alloc::{AllocError, AllocGlobal, Global};
 use std::thread::Threads;
 
@@ -19,18 +20,20 @@ fn are_given<R: Threads + AllocGlobal + Sync>(
     rt: &R,
     table: &LeastTable,
     seats: &mut [LeastSeat],
-) -> Result<bool, AllocError>
+) -> Answer
     requires sizes { (0 < table.now.count) × (length seats.old ≡ 2) }
     requires tables { All (λ s. s.table ≡ table.now.table) seats.old }
     ensures { All (λ s. s.table ≡ table.now.table) seats.new }
 {
     let Some(plan) = Plan::new(2, 1) else {
-        return Ok(false);
+        return Answer::Other;
     };
     let refused = UNPOSTED;
     let work = Posting { table, refused };
-    let outs = in_shares(rt, plan, 1, &NoGate, &NUMBERS, &work, seats)?;
-    Ok(outs.as_slice() == NUMBERS.as_slice())
+    match in_shares(rt, plan, 1, &NoGate, &NUMBERS, &work, seats) {
+        Ok(outs) => answer_of(outs.as_slice() == NUMBERS.as_slice()),
+        Err(AllocError) => Answer::NoMemory,
+    }
 }
 
 /// Whether two workers gave the numbers, and the seat of all parts.
@@ -38,52 +41,89 @@ fn posted<R: Threads + AllocGlobal + Sync>(
     rt: &R,
     table: &LeastTable,
     seat: LeastSeat,
-) -> Result<(Result<bool, AllocError>, Option<LeastSeat>), AllocError>
+) -> (Answer, Option<LeastSeat>)
     requires { (0 < table.now.count) × (seat.table ≡ table.now.table) × (1 < seat.view.parts) }
-    ensures { IfOk result (λ r. IfSome r.1 (λ s. s.table ≡ table.now.table)) }
+    ensures { IfSome result.1 (λ s. s.table ≡ table.now.table) }
 {
-    let mut seats = two_seats(rt.alloc(), table, seat)?;
+    let Ok(mut seats) = two_seats(rt.alloc(), table, seat) else {
+        return (Answer::NoMemory, None);
+    };
     let given = are_given(rt, table, seats.as_mut_slice());
-    Ok((given, join_seats(table, seats)))
+    match join_seats(table, seats) {
+        Some(seat) => (given, Some(seat)),
+        None => (Answer::Other, None),
+    }
+}
+
+/// The answer, and another one where the seat does not close its table, or the answer is the wanted one and the least
+/// number is not 3.
+fn closed(table: LeastTable, seat: LeastSeat, answer: Answer) -> Answer
+    requires { (seat.table ≡ table.table) × (0 < table.count) }
+{
+    let Ok(words) = table.close(seat) else {
+        return Answer::Other;
+    };
+    match answer {
+        Answer::Wanted => answer_of(words.get(0) == 3),
+        _ => answer,
+    }
 }
 
 /// The outs come in order, and the lent seats, joined, close the table, also where a worker had no memory.
-pub(crate) fn is_shared<R: Threads + AllocGlobal + Sync>(rt: &R) -> Result<bool, AllocError> {
-    let (table, seat) = LeastTable::new(rt.alloc(), 1)?;
-    let (given, seat) = posted(rt, &table, seat)?;
-    let Some(seat) = seat else {
-        return Ok(false);
+pub(crate) fn is_shared<R: Threads + AllocGlobal + Sync>(rt: &R) -> Answer {
+    let Ok((table, seat)) = LeastTable::new(rt.alloc(), 1) else {
+        return Answer::NoMemory;
     };
-    let Ok(words) = table.close(seat) else {
-        return Ok(false);
-    };
-    Ok(given? && words.get(0) == 3)
+    let (given, seat) = posted(rt, &table, seat);
+    match seat {
+        Some(seat) => closed(table, seat, given),
+        None => given,
+    }
 }
 
-pub(crate) fn has_least(alloc: Global) -> Result<bool, AllocError> {
-    let (table, mut seat) = LeastTable::new(alloc, 1)?;
+/// Whether posts and a look answer what is wanted.
+fn are_least(table: &LeastTable, seat: &mut LeastSeat) -> bool
+    requires { (seat.old.table ≡ table.now.table) × (0 < table.now.count) }
+    ensures { seat.new.table ≡ seat.old.table }
+{
     let answers = [
-        table.post(&mut seat, 0, 5),
-        table.post(&mut seat, 0, 3),
-        table.least(&mut seat, 0),
+        table.post(seat, 0, 5),
+        table.post(seat, 0, 3),
+        table.least(seat, 0),
     ];
-    let Ok(words) = table.close(seat) else {
-        return Ok(false);
-    };
-    Ok(answers == [NONE, 5, 3] && words.get(0) == 3)
+    answers == [NONE, 5, 3]
 }
 
-pub(crate) fn has_marks(alloc: Global) -> Result<bool, AllocError> {
+pub(crate) fn has_least(alloc: Global) -> Answer {
+    let Ok((table, mut seat)) = LeastTable::new(alloc, 1) else {
+        return Answer::NoMemory;
+    };
+    let answer = answer_of(are_least(&table, &mut seat));
+    closed(table, seat, answer)
+}
+
+/// Whether marks answer what is wanted.
+fn are_marks(table: &MarkTable<'_, Two>, seat: &mut MarkSeat) -> bool
+    requires { seat.old.table ≡ table.now.table }
+    ensures { seat.new.table ≡ seat.old.table }
+{
+    let answers = [
+        table.mark(seat, 0, 5),
+        table.mark(seat, 0, 7),
+        table.mark(seat, 1, 3),
+        table.mark(seat, 0, 4),
+    ];
+    answers == [NONE, 5, 5, 5]
+}
+
+pub(crate) fn has_marks(alloc: Global) -> Answer {
     let reach = Two;
-    let (table, mut seat) = MarkTable::new(alloc, &reach)?;
-    let answers = [
-        table.mark(&mut seat, 0, 5),
-        table.mark(&mut seat, 0, 7),
-        table.mark(&mut seat, 1, 3),
-        table.mark(&mut seat, 0, 4),
-    ];
-    let Ok(words) = table.close(seat) else {
-        return Ok(false);
+    let Ok((table, mut seat)) = MarkTable::new(alloc, &reach) else {
+        return Answer::NoMemory;
     };
-    Ok(answers == [NONE, 5, 5, 5] && words.get(0) == 4 && words.get(1) == 3)
+    let are_marked = are_marks(&table, &mut seat);
+    match table.close(seat) {
+        Ok(words) => answer_of(are_marked && words.get(0) == 4 && words.get(1) == 3),
+        Err(_) => Answer::Other,
+    }
 }
