@@ -1,9 +1,8 @@
 -- What one token of look-ahead needs of each rule.
-use Rattle.std.proofs.Common.{◌≡◌, ◌-◌, ℕ, zero, suc, true, false, [], ◌∷◌, refl, arith}
+use Rattle.std.proofs.Common.{◌≡◌, ℕ, zero, suc, true, false, [], ◌∷◌, refl}
 use Rattle.std.specs.Prelude.{codes}
 use Rattle.proto_syntax.specs.Grammar.{OneOf, Grammar, ◌⨾◌, Many}
 use Rattle.proto_syntax.specs.Reading.{begins, goes_on, can_be_empty, decides}
-use Rattle.proto_syntax.specs.Gives.{block}
 use Rattle.proto_syntax.specs.Language.{symbol, list_of, range_of, str, parts, full, named_but, type_but, signed, constant_number, constant, setting, options, option, rpc_type, rpc_item, rpc_body, rpc, service_item, service, erange, ereserved, value, enum_item, range, reserved, declarator, member, oneof_item, oneof, map_type, map_or_field, field_head, field, message_item, message, import, syntax, statement, file}
 use Rattle.std.proofs.lemmas.List.{append-nil}
 
@@ -25,13 +24,6 @@ level (suc depth) = let h = level depth in record {
   decided =
       rw (h.begins_so, h.has_tokens, h.decided, h.ends_so) (refl {a = true});
 }
-
--- a message that has a level is a block
-pub message_block_of : (depth : ℕ) → ¬ (depth ≡ 0)
-    → message depth ≡ block (codes "message") (Many (message_item (message (depth - 1))) ⨾ symbol "}")
-unfolding message
-message_block_of zero h = absurd (h refl)
-message_block_of (suc depth) h = let e : suc depth - 1 ≡ depth = omega arith in rw e refl
 
 pub begins_message : (depth : ℕ) → begins (message depth) ≡ OneOf (codes "message" ∷ []) ∷ []
 begins_message depth = (level depth).begins_so

@@ -5,15 +5,12 @@ use Rattle.std.specs.Str.{byte}
 use Prim.Native.String.{String}
 use Rattle.proto_tokens.specs.Token.{Spelled}
 use Rattle.proto_tokens.specs.declared.token.Token.{Token}
-use Rattle.proto_base.specs.declared.place.Span.{Span}
-use Rattle.proto_tree.specs.Name.{Identifier}
 use Rattle.proto_syntax.specs.declared.parser.stop.Stop.{Stop}
 use Rattle.proto_syntax.specs.declared.parser.stop.Stop.TheVariants as stop
-use Rattle.proto_syntax.specs.Grammar.{OneOf, Symbol, Grammar, ◌⨾◌, Many, Tree, Pair, Left, Right}
+use Rattle.proto_syntax.specs.Grammar.{OneOf, Symbol, Grammar, Tree, Left, Right}
 use Rattle.proto_syntax.specs.Reading.{Outcome, Read, Stops, mapped, read, next_fits}
-use Rattle.proto_syntax.specs.Trees.{block_tree, row}
-use Rattle.proto_syntax.specs.Gives.{Fails, Gives, Makes, spellings, flat_item, map_rest, behind_map, block, headed, body_tree}
-use Rattle.proto_syntax.specs.Language.{word, symbol, number, signed, range_of, reserved_of, import, «package», option, enum, service, statement, oneof, reserved, range, map_or_field, field, ereserved, erange, value, enum_item}
+use Rattle.proto_syntax.specs.Gives.{Fails, Gives, spellings, flat_item}
+use Rattle.proto_syntax.specs.Language.{symbol, number, signed, range_of, reserved_of, import, «package», option, enum, service, statement, oneof, reserved, range, map_or_field, field, ereserved, erange, value, enum_item}
 use Rattle.proto_syntax.proofs.Levels.{IsLevel, begins_import, begins_option, begins_service, begins_oneof, begins_reserved, begins_map, begins_ereserved}
 
 -- what is read as the part of a choice behind n others
@@ -40,23 +37,6 @@ way_fails n stop.NoMemory rest o p i h = tt
 way_fails n stop.Unexpected rest o p i h = i ∙ ap (way n) h ∙ behind_stops n false (spellings rest)
 way_fails n stop.TooDeep rest o p i h = i ∙ ap (way n) h ∙ behind_stops n true (spellings rest)
 
--- a fault behind the head of a block is the fault of the block
-pub headed_fails : (w : List ℕ) (keyword : Span) (name : Identifier) (open_brace : Span) (e : Stop) (rest : List Token) (o p : Outcome)
-    → p ≡ headed w keyword name open_brace o → Fails e rest o → Fails e rest p
-headed_fails w keyword name open_brace stop.NoMemory rest o p i h = tt
-headed_fails w keyword name open_brace stop.Unexpected rest o p i h = i ∙ ap (headed w keyword name open_brace) h
-headed_fails w keyword name open_brace stop.TooDeep rest o p i h = i ∙ ap (headed w keyword name open_brace) h
-
--- the head of a block, and its items and brace, are the block
-pub block_gives : {A : Type 0} → (w : List ℕ) (f : A → Tree) (g : Grammar) (keyword : Span) (name : Identifier) (open_brace close_brace : Span)
-    (rows items : List A) (ts us vs : List Spelled)
-    → read (block w (Many g ⨾ symbol "}")) ts ≡ headed w keyword name open_brace (read (Many g ⨾ symbol "}") us)
-    → read (Many g ⨾ symbol "}") us ≡ Read (body_tree f items close_brace) vs → rows ≡ items
-    → read (block w (Many g ⨾ symbol "}")) ts ≡ Read (block_tree w keyword name open_brace (row f rows) close_brace) vs
-block_gives w f g keyword name open_brace close_brace rows items ts us vs i h e =
-    i ∙ ap (headed w keyword name open_brace) h
-    ∙ ap (λ xs. Read (block_tree w keyword name open_brace (row f xs) close_brace) vs) (sym e)
-
 -- What was read is given in a box, unless memory runs out.
 pub boxed_gives : {X : Type 0} → (tree : X → Tree) (boxed : Result X Stop) (x : X) (rest : List Token) (o : Outcome)
     → MatchResult boxed (λ y. y ≡ x) (λ e. e ≡ stop.NoMemory) → o ≡ Read (tree x) (spellings rest) → Gives tree boxed rest o
@@ -77,22 +57,6 @@ made_gives make tree whole change (Err e) made rest o p same stops i m h = rw m 
     fails stop.NoMemory h = tt
     fails stop.Unexpected h = i ∙ ap change h ∙ stops false
     fails stop.TooDeep h = i ∙ ap change h ∙ stops true
-
--- The same of an item that is made where its part is read.
-pub item_gives : {X Y : Type 0} → (make : X → Y) (tree : X → Tree) (whole : Y → Tree) (change : Outcome → Outcome) (g : Grammar)
-    (made : Result Y Stop) (old rest : List Token) (p : Outcome) → ((x : X) → read g (spellings old) ≡ Read (tree x) (spellings rest)
-    → change (Read (tree x) (spellings rest)) ≡ Read (whole (make x)) (spellings rest))
-    → ((d : Bool) → change (Stops d (spellings rest)) ≡ Stops d (spellings rest)) → p ≡ change (read g (spellings old))
-    → Makes tree g (λ x y. Unit {0} × (y ≡ make x)) made old rest → Gives whole made rest p
-item_gives {X} {Y} make tree whole change g made old rest p same stops i h =
-    made_gives make tree whole change h.0 made rest (read g (spellings old)) p same stops i (told h.0 made h.1.1) h.1.0
-  where
-    told : (found : Result X Stop) (made : Result Y Stop)
-        → MatchResult found (λ x. IsOkAnd made (λ y. Unit {0} × (y ≡ make x))) (λ e. made ≡ Err e)
-        → MatchResult found (λ x. IsOkAnd made (λ y. y ≡ make x)) (λ e. made ≡ Err e)
-    told (Ok x) (Ok y) m = m.1
-    told (Ok x) (Err e) m = m
-    told (Err e) made m = m
 
 -- whether the next token is that word
 abbrev pub At : String → List Spelled → Bool → Type 0
@@ -168,16 +132,6 @@ item_field ts e1 e2 e3 e4 e5 e6 = rw (e1, begins_option, e2, begins_oneof, e3, b
 pub as_map : (o : Outcome) → mapped (λ x. Right (Right (Right (Right (Right (Left x)))))) o ≡ way 5 o
 as_map (Read x us) = refl
 as_map (Stops d us) = refl
-
--- and is that word and what stands behind it
-pub map_behind : (w : Tree) (ts us : List Spelled) → read (word "map") ts ≡ Read w us
-    → mapped (λ x. Right (Right (Right (Right (Right (Left x)))))) (read map_or_field ts) ≡ mapped (behind_map w) (read map_rest us)
-unfolding map_or_field
-map_behind w ts us e = rw e (joined (read map_rest us))
-  where
-    joined : (o : Outcome) → mapped (λ x. Right (Right (Right (Right (Right (Left x)))))) (mapped (Pair w) o) ≡ mapped (behind_map w) o
-    joined (Read x vs) = refl
-    joined (Stops d vs) = refl
 
 -- the ways of a statement of an enum
 pub enum_option : (ts : List Spelled) → At "option" ts true → read enum_item ts ≡ way 0 (read option ts)

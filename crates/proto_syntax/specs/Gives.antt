@@ -1,17 +1,16 @@
 -- Words of private contracts: what a method of the parser promises.
-use Rattle.std.specs.Prelude.{◌≡◌, true, false, List, [], ◌∷◌, map, Result, Ok, Err, ℕ, slice_get, Option, None, Some, MatchResult, IsOkAnd}
+use Rattle.std.specs.Prelude.{◌≡◌, true, false, List, map, Result, Ok, Err, ℕ, slice_get, Option, None, Some}
 use Rattle.proto_base.specs.declared.place.Span.{Span}
 use Rattle.proto_tokens.specs.declared.token.Token.{Token}
 use Rattle.proto_tokens.specs.Token.{Spelled}
 use Rattle.proto_tokens.specs.ProgramTokens.{spelled, tokens_of}
-use Rattle.proto_tree.specs.Name.{Identifier}
 use Rattle.proto_syntax.specs.declared.parser.stop.Stop.{Stop}
 use Rattle.proto_syntax.specs.declared.parser.stop.Stop.TheVariants as stop
-use Rattle.proto_syntax.specs.Grammar.{OneOf, Grammar, One, ◌⨾◌, ◌∣◌, Tree, Pair, Left, Right}
-use Rattle.proto_syntax.specs.Language.{enum, option, oneof, reserved, map_type, parts, map_or_field, symbol, ident, declarator, field}
+use Rattle.proto_syntax.specs.Grammar.{Grammar, ◌⨾◌, ◌∣◌, Tree, Pair, Left, Right}
+use Rattle.proto_syntax.specs.Language.{enum, option, oneof, reserved, map_type, parts, map_or_field, symbol, declarator, field}
 use Rattle.std.specs.Str.{byte}
-use Rattle.proto_syntax.specs.Trees.{row, symbol_tree, word_tree, name_tree}
-use Rattle.proto_syntax.specs.Reading.{Outcome, Read, Stops, mapped, read}
+use Rattle.proto_syntax.specs.Trees.{row, symbol_tree}
+use Rattle.proto_syntax.specs.Reading.{Outcome, Read, Stops, read}
 use Rattle.proto_tokens.specs.declared.token.Tokens.{Tokens}
 use Rattle.proto_base.specs.declared.kind.Kind.{Kind}
 use Rattle.proto_base.specs.declared.kind.Kind.TheVariants.{UnexpectedEnd}
@@ -37,11 +36,6 @@ Gives tree (Err e) rest o = Fails e rest o
 -- A method took a tree of that grammar from the front of the tokens, or stopped at their fault.
 abbrev pub Reads : {X : Type 0} → (X → Tree) → Grammar → Result X Stop → List Token → List Token → Type 0
 Reads tree g result old new = Gives tree result new (read g (spellings old))
-
--- A method took a tree of that grammar, or stopped, and returned what is made of the tree's value.
-abbrev pub Makes : {X Y : Type 0} → (X → Tree) → Grammar → (X → Y → Type 0) → Result Y Stop → List Token → List Token → Type 0
-Makes {X} tree g Post result old new =
-    (found : Result X Stop) × (Reads tree g found old new × MatchResult found (λ x. IsOkAnd result (Post x)) (λ e. result ≡ Err e))
 
 -- a statement of a message that is no message
 abbrev pub flat_item : Grammar
@@ -72,14 +66,6 @@ TellsFault tokens k kind (At place told) =
 abbrev pub numbered_tree : {N O : Type 0} → (N → Tree) → (O → Tree) → Span → N → O → Span → Tree
 numbered_tree f g equals number options semicolon =
     Pair (symbol_tree (byte "=") equals) (Pair (f number) (Pair (g options) (symbol_tree (byte ";") semicolon)))
-
--- `word name {` and what stands behind it
-abbrev pub block : List ℕ → Grammar → Grammar
-block word rest = One (OneOf (word ∷ [])) ⨾ ident ⨾ symbol "{" ⨾ rest
-
-abbrev pub headed : List ℕ → Span → Identifier → Span → Outcome → Outcome
-headed word keyword name open_brace rest =
-    mapped (Pair (word_tree word keyword)) (mapped (Pair (name_tree name)) (mapped (Pair (symbol_tree (byte "{") open_brace)) rest))
 
 -- the statements of a block, and the brace that closes it
 abbrev pub body_tree : {A : Type 0} → (A → Tree) → List A → Span → Tree

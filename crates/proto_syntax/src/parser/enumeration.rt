@@ -36,16 +36,16 @@ impl<'s> Parse<'s> for EnumItem<'s> {
     #[tactic(auto, using(crate::proofs::Levels::signed_has_token))]
     fn parse(parser: &mut Parser<'s, '_>) -> Result<Self, Stop> {
         if parser.at_keyword("option") {
-            return parser.item(EnumItem::Option);
+            return Ok(EnumItem::Option(parser.boxed()?));
         }
         if parser.at_keyword("reserved") {
-            return parser.reserved().map(EnumItem::Reserved);
+            return Ok(EnumItem::Reserved(parser.reserved()?));
         }
         if parser.at_symbol(';') {
             let span = parser.symbol(';')?;
             return Ok(EnumItem::Empty(span));
         }
-        parser.item(EnumItem::Value)
+        Ok(EnumItem::Value(parser.boxed()?))
     }
 }
 
@@ -56,7 +56,9 @@ impl<'s> Parse<'s> for Enum<'s> {
 
     #[tactic(auto, using(crate::proofs::Levels::enum_block))]
     fn parse(parser: &mut Parser<'s, '_>) -> Result<Self, Stop> {
-        let (keyword, name, open_brace) = parser.block_head("enum")?;
+        let keyword = parser.keyword("enum")?;
+        let name = parser.name()?;
+        let open_brace = parser.symbol('{')?;
         let (items, close_brace) = parser.block_items()?;
         Ok(Enum {
             keyword,

@@ -35,22 +35,22 @@ impl<'s, 't> Parser<'s, 't> {
             self.new.rest.now }
     {
         if self.at_keyword("import") {
-            return self.item(Statement::Import);
+            return self.boxed().map(Statement::Import);
         }
         if self.at_keyword("package") {
-            return self.item(Statement::Package);
+            return self.boxed().map(Statement::Package);
         }
         if self.at_keyword("option") {
-            return self.item(Statement::Option);
+            return self.boxed().map(Statement::Option);
         }
         if self.at_keyword("message") {
             return self.message(depth).map(Statement::Message);
         }
         if self.at_keyword("enum") {
-            return self.item(Statement::Enum);
+            return self.boxed().map(Statement::Enum);
         }
         if self.at_keyword("service") {
-            return self.item(Statement::Service);
+            return self.boxed().map(Statement::Service);
         }
         let span = self.symbol(';')?;
         Ok(Statement::Empty(span))

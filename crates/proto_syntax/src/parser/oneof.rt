@@ -16,7 +16,9 @@ impl<'s> Parse<'s> for Oneof<'s> {
 
     #[tactic(auto, using(crate::proofs::Levels::oneof_block), unfolding(crate::specs::Language::oneof))]
     fn parse(parser: &mut Parser<'s, '_>) -> Result<Self, Stop> {
-        let (keyword, name, open_brace) = parser.block_head("oneof")?;
+        let keyword = parser.keyword("oneof")?;
+        let name = parser.name()?;
+        let open_brace = parser.symbol('{')?;
         let (items, close_brace) = parser.block_items()?;
         Ok(Oneof {
             keyword,

@@ -6,7 +6,7 @@ ghost use Rattle.proto_syntax.specs.Grammar.{◌⨾◌, One, Symbol, Optional, P
 ghost use Rattle.proto_syntax.specs.Reading.{read};
 ghost use Rattle.proto_syntax.specs.Language.{symbol};
 ghost use Rattle.proto_syntax.specs.Trees.{symbol_tree, optional};
-ghost use Rattle.proto_syntax.specs.Gives.{Reads, Makes, numbered_tree};
+ghost use Rattle.proto_syntax.specs.Gives.{Reads, numbered_tree};
 
 use crate::parser::Parser;
 use crate::parser::stop::Stop;
@@ -55,17 +55,6 @@ impl<'s, 't> Parser<'s, 't> {
     {
         let value = T::parse(self)?;
         self.in_box(value)
-    }
-
-    /// What is made of what the next tokens are by the rule of a type.
-    pub(crate) fn item<T: Parse<'s>, I, F: FnOnce(Boxed<T>) -> I>(
-        &mut self,
-        make: F,
-    ) -> Result<I, Stop>
-        requires { F.IsAlwaysCallable make }
-        ensures { Makes T.tree T.rule (F.post make) result self.old.rest.now self.new.rest.now }
-    {
-        self.boxed::<T>().map(make)
     }
 
     /// What the next tokens are by the rule of a type, and the symbol behind it.

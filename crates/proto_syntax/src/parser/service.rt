@@ -1,10 +1,10 @@
 //! Services (proto3 language specification, "Service definition").
 
 ghost use Rattle.std.specs.Prelude.{[], ◌∷◌, codes};
-ghost use Rattle.proto_syntax.specs.Grammar.{◌⨾◌, ◌∣◌, Pair};
+ghost use Rattle.proto_syntax.specs.Grammar.{◌⨾◌, ◌∣◌};
 ghost use Rattle.proto_syntax.specs.Reading.{read};
 ghost use Rattle.proto_syntax.specs.Language.{word, named_but, rpc_type, rpc_item, rpc_body, rpc, service_item, service};
-ghost use Rattle.proto_syntax.specs.Trees.{word_tree, streamed_tree, rpc_type_tree, rpc_item_tree, rpc_body_tree, rpc_tree, service_item_tree, service_tree};
+ghost use Rattle.proto_syntax.specs.Trees.{streamed_tree, rpc_type_tree, rpc_item_tree, rpc_body_tree, rpc_tree, service_item_tree, service_tree};
 ghost use Rattle.proto_syntax.specs.Gives.{Reads};
 
 use crate::parser::Parser;
@@ -64,18 +64,6 @@ impl<'s, 't> Parser<'s, 't> {
             close_brace,
         }))
     }
-
-    /// What stands behind the input of a method.
-    fn rpc_answer(&mut self) -> Result<(Span, RpcType<'s>, RpcBody<'s>), Stop>
-        ensures { Reads (λ p. Pair (word_tree (codes "returns") p.0)
-            (Pair (rpc_type_tree p.1) (rpc_body_tree p.2)))
-            (word "returns" ⨾ rpc_type ⨾ rpc_body) result self.old.rest.now self.new.rest.now }
-    {
-        let returns = self.keyword("returns")?;
-        let output = self.rpc_type()?;
-        let body = self.rpc_body()?;
-        Ok((returns, output, body))
-    }
 }
 
 impl<'s> Parse<'s> for Rpc<'s> {
@@ -88,7 +76,9 @@ impl<'s> Parse<'s> for Rpc<'s> {
         let keyword = parser.keyword("rpc")?;
         let name = parser.name()?;
         let input = parser.rpc_type()?;
-        let (returns, output, body) = parser.rpc_answer()?;
+        let returns = parser.keyword("returns")?;
+        let output = parser.rpc_type()?;
+        let body = parser.rpc_body()?;
         Ok(Rpc {
             keyword,
             name,
@@ -107,7 +97,9 @@ impl<'s> Parse<'s> for Service<'s> {
 
     #[tactic(auto, using(crate::proofs::Levels::service_block), unfolding(crate::specs::Language::service))]
     fn parse(parser: &mut Parser<'s, '_>) -> Result<Self, Stop> {
-        let (keyword, name, open_brace) = parser.block_head("service")?;
+        let keyword = parser.keyword("service")?;
+        let name = parser.name()?;
+        let open_brace = parser.symbol('{')?;
         let (items, close_brace) = parser.block_items()?;
         Ok(Service {
             keyword,

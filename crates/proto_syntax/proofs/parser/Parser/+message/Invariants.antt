@@ -8,16 +8,13 @@ use Rattle.proto_syntax.proofs.Loops.{Closes}
 use Rattle.proto_syntax.proofs.parser.Parser.+message.Given as goal
 
 abbrev pub decreases-message_body : goal.decreases-message_body
-decreases-message_body l = 4 * l.depth + 3
-
-abbrev pub decreases-put_item : goal.decreases-put_item
-decreases-put_item l = 4 * l.depth + 2
+decreases-message_body l = 3 * l.depth + 2
 
 abbrev pub decreases-message_item : goal.decreases-message_item
-decreases-message_item l = 4 * l.depth + 1
+decreases-message_item l = 3 * l.depth + 1
 
 abbrev pub decreases-message : goal.decreases-message
-decreases-message l = 4 * l.depth
+decreases-message l = 3 * l.depth
 
 abbrev pub invariant-message_body-each : goal.invariant-message_body-each
 invariant-message_body-each l = Closes message_item_tree (message_item (message l.depth)) (symbol "}") l.items.items (spellings l.self.rest.now)

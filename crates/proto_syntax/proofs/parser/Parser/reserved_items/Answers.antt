@@ -5,9 +5,3 @@ use Rattle.proto_syntax.proofs.parser.Parser.reserved_items.Goals as goal
 
 pub returns : goal.returns
 returns g c = grind (arith, common_steps, begins_ranges)
-
-pub returns-then-is_next : goal.returns-then-is_next
-returns-then-is_next g c = grind (arith, common_steps, begins_ranges)
-
-pub closed-requires-2 : goal.closed-requires-2
-closed-requires-2 g c = grind (arith, common_steps, begins_ranges)

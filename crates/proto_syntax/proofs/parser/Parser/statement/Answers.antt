@@ -2,65 +2,65 @@ use Rattle.std.proofs.Common.{sym, refl, ap, ◌∙◌}
 use Rattle.std.proofs.lemmas.Result.{err_from_is_err_and}
 use Rattle.proto_tree.specs.declared.file.Statement.TheVariants as of
 use Rattle.proto_syntax.specs.Gives.{spellings}
-use Rattle.proto_syntax.specs.Language.{import, «package», option, enum, service, message}
+use Rattle.proto_syntax.specs.Language.{message}
 use Rattle.proto_syntax.specs.Trees.{import_tree, package_tree, option_tree, message_tree, enum_tree, service_tree, statement_tree}
 use Rattle.proto_syntax.proofs.Levels.{level}
-use Rattle.proto_syntax.proofs.Ways.{behind, way, behind_fails, made_gives, item_gives, statement_import, statement_package, statement_option, statement_message, statement_enum, statement_service, statement_empty}
+use Rattle.proto_syntax.proofs.Ways.{behind, way, behind_fails, made_gives, statement_import, statement_package, statement_option, statement_message, statement_enum, statement_service, statement_empty}
 use Rattle.proto_syntax.proofs.parser.Parser.statement.Goals as goal
 
 pub returns-then-at_keyword : goal.returns-then-at_keyword
 returns-then-at_keyword c =
-    item_gives of.Import import_tree statement_tree (way 0) import
-    c.item.result c.args.self.now.rest.now c.item.new.self.rest.now _
+    made_gives of.Import import_tree statement_tree (way 0)
+    c.boxed.result c.map.result c.boxed.new.self.rest.now _ _
     (λ x e. refl) (λ d. refl) (statement_import (message c.args.depth) (spellings c.args.self.now.rest.now)
     (sym c.at_keyword.ensures ∙ c.if-at_keyword.true))
-    c.item.ensures
+    c.map.ensures.cases c.boxed.ensures
 
 pub returns-then-at_keyword-2 : goal.returns-then-at_keyword-2
 returns-then-at_keyword-2 c =
-    item_gives of.Package package_tree statement_tree (way 1) «package»
-    c.item-then-at_keyword-2.result c.args.self.now.rest.now c.item-then-at_keyword-2.new.self.rest.now _
+    made_gives of.Package package_tree statement_tree (way 1)
+    c.boxed-then-at_keyword-2.result c.map-then-at_keyword-2.result c.boxed-then-at_keyword-2.new.self.rest.now _ _
     (λ x e. refl) (λ d. refl) (statement_package (message c.args.depth) (spellings c.args.self.now.rest.now)
     (sym c.at_keyword.ensures ∙ c.if-at_keyword.false) (sym c.at_keyword-2.ensures ∙ c.if-at_keyword-2.true))
-    c.item-then-at_keyword-2.ensures
+    c.map-then-at_keyword-2.ensures.cases c.boxed-then-at_keyword-2.ensures
 
 pub returns-then-at_keyword-3 : goal.returns-then-at_keyword-3
 returns-then-at_keyword-3 c =
-    item_gives of.Option option_tree statement_tree (way 2) option
-    c.item-then-at_keyword-3.result c.args.self.now.rest.now c.item-then-at_keyword-3.new.self.rest.now _
+    made_gives of.Option option_tree statement_tree (way 2)
+    c.boxed-then-at_keyword-3.result c.map-then-at_keyword-3.result c.boxed-then-at_keyword-3.new.self.rest.now _ _
     (λ x e. refl) (λ d. refl) (statement_option (message c.args.depth) (spellings c.args.self.now.rest.now)
     (sym c.at_keyword.ensures ∙ c.if-at_keyword.false) (sym c.at_keyword-2.ensures ∙ c.if-at_keyword-2.false)
     (sym c.at_keyword-3.ensures ∙ c.if-at_keyword-3.true))
-    c.item-then-at_keyword-3.ensures
+    c.map-then-at_keyword-3.ensures.cases c.boxed-then-at_keyword-3.ensures
 
 pub returns-then-at_keyword-4 : goal.returns-then-at_keyword-4
 returns-then-at_keyword-4 c =
     made_gives of.Message message_tree statement_tree (way 3)
-    c.message.result c.map.result c.message.new.self.rest.now _ _
+    c.message.result c.map-then-at_keyword-4.result c.message.new.self.rest.now _ _
     (λ x e. refl) (λ d. refl) (statement_message (message c.args.depth) (level c.args.depth) (spellings c.args.self.now.rest.now)
     (sym c.at_keyword.ensures ∙ c.if-at_keyword.false) (sym c.at_keyword-2.ensures ∙ c.if-at_keyword-2.false)
     (sym c.at_keyword-3.ensures ∙ c.if-at_keyword-3.false) (sym c.at_keyword-4.ensures ∙ c.if-at_keyword-4.true))
-    c.map.ensures.cases c.message.ensures
+    c.map-then-at_keyword-4.ensures.cases c.message.ensures
 
 pub returns-then-at_keyword-5 : goal.returns-then-at_keyword-5
 returns-then-at_keyword-5 c =
-    item_gives of.Enum enum_tree statement_tree (way 4) enum
-    c.item-then-at_keyword-5.result c.args.self.now.rest.now c.item-then-at_keyword-5.new.self.rest.now _
+    made_gives of.Enum enum_tree statement_tree (way 4)
+    c.boxed-then-at_keyword-5.result c.map-then-at_keyword-5.result c.boxed-then-at_keyword-5.new.self.rest.now _ _
     (λ x e. refl) (λ d. refl) (statement_enum (message c.args.depth) (level c.args.depth) (spellings c.args.self.now.rest.now)
     (sym c.at_keyword.ensures ∙ c.if-at_keyword.false) (sym c.at_keyword-2.ensures ∙ c.if-at_keyword-2.false)
     (sym c.at_keyword-3.ensures ∙ c.if-at_keyword-3.false) (sym c.at_keyword-4.ensures ∙ c.if-at_keyword-4.false)
     (sym c.at_keyword-5.ensures ∙ c.if-at_keyword-5.true))
-    c.item-then-at_keyword-5.ensures
+    c.map-then-at_keyword-5.ensures.cases c.boxed-then-at_keyword-5.ensures
 
 pub returns-then-at_keyword-6 : goal.returns-then-at_keyword-6
 returns-then-at_keyword-6 c =
-    item_gives of.Service service_tree statement_tree (way 5) service
-    c.item-then-at_keyword-6.result c.args.self.now.rest.now c.item-then-at_keyword-6.new.self.rest.now _
+    made_gives of.Service service_tree statement_tree (way 5)
+    c.boxed-then-at_keyword-6.result c.map-then-at_keyword-6.result c.boxed-then-at_keyword-6.new.self.rest.now _ _
     (λ x e. refl) (λ d. refl) (statement_service (message c.args.depth) (level c.args.depth) (spellings c.args.self.now.rest.now)
     (sym c.at_keyword.ensures ∙ c.if-at_keyword.false) (sym c.at_keyword-2.ensures ∙ c.if-at_keyword-2.false)
     (sym c.at_keyword-3.ensures ∙ c.if-at_keyword-3.false) (sym c.at_keyword-4.ensures ∙ c.if-at_keyword-4.false)
     (sym c.at_keyword-5.ensures ∙ c.if-at_keyword-5.false) (sym c.at_keyword-6.ensures ∙ c.if-at_keyword-6.true))
-    c.item-then-at_keyword-6.ensures
+    c.map-then-at_keyword-6.ensures.cases c.boxed-then-at_keyword-6.ensures
 
 pub returns : goal.returns
 returns c =
