@@ -53,24 +53,27 @@ fn told<R: AllocGlobal + Abort>(rt: &R, fault: &Fault) -> String {
     )
 }
 
-/// Why there is no compilation.
-fn why<R: AllocGlobal + Abort>(rt: &R, error: &CompileError) -> String {
-    match error {
-        CompileError::First(fault) => told(rt, fault),
-        CompileError::NoMemory => panic!(rt; "no memory"),
+/// The names of the files in set order, or the first fault.
+fn shown<R>(rt: &R, made: &Result<Compiled, CompileError>, files: &[File]) -> String
+where
+    R: AllocGlobal + Abort,
+{
+    match made {
+        Ok(compiled) => set_order(rt, compiled, files),
+        Err(CompileError::First(fault)) => told(rt, fault),
+        Err(CompileError::NoMemory) => panic!(rt; "no memory"),
     }
 }
 
-/// What files are compiled to by a plan: their names in set order, or the first fault.
-fn answer<R>(rt: &R, files: &[File], limits: &Limits, plan: Plan) -> String
+/// What sources are compiled to by a plan, with the names of these files.
+fn answer<R>(rt: &R, sources: &[Source], files: &[File], limits: &Limits, plan: Plan) -> String
 where
     R: Threads + AllocGlobal + Abort + Sync,
 {
-    let sources = sources_of(rt, files);
-    match compile(rt, &sources, limits, plan, &NoGate) {
-        Ok(compiled) => set_order(rt, &compiled, files),
-        Err(error) => why(rt, &error),
-    }
+    let made = compile(rt, sources, limits, plan, &NoGate);
+    let answer = shown(rt, &made, files);
+    drop(made);
+    answer
 }
 
 struct Row {
@@ -418,18 +421,27 @@ where
     R: Threads + AllocGlobal + Sync + Abort,
 {
     let limits = limits_of(rt, row);
+    let sources = sources_of(rt, row.files);
     for (workers, cut) in &PLANS {
         let plan = Plan::new(*workers, *cut).expect(rt, "a plan");
-        let found = answer(rt, row.files, &limits, plan);
+        let found = answer(rt, &sources, row.files, &limits, plan);
         expect(rt, row.title, found.as_str(), row.answer);
+    }
+}
+
+/// Compares the answers of rows. It knows no table: a function that does has all its rows at each point.
+fn compare_rows<R>(rt: &R, rows: &[Row])
+where
+    R: Threads + AllocGlobal + Sync + Abort,
+{
+    for row in rows {
+        compare(rt, row);
     }
 }
 
 #[test]
 fn answers(rt: HostRuntime) {
-    for row in &ROWS {
-        compare(&rt, row);
-    }
+    compare_rows(&rt, &ROWS);
 }
 
 /// A file of a compilation: its name, its position, and the bytes of its descriptor.
@@ -468,16 +480,32 @@ fn has_set<R: AllocGlobal + Abort>(rt: &R, compiled: &Compiled, set: &[u8]) -> b
     written.as_slice() == set
 }
 
+/// Whether there is a compilation, with these files and this set.
+fn is_compiled_to<R>(
+    rt: &R,
+    made: &Result<Compiled, CompileError>,
+    wanted: &[Described],
+    set: &[u8],
+) -> bool
+where
+    R: AllocGlobal + Abort,
+{
+    match made {
+        Ok(compiled) => has_set(rt, compiled, set) && are_described(compiled, wanted),
+        Err(_) => false,
+    }
+}
+
 /// Whether files are compiled to these, and to this set.
 fn compiles_to<R>(rt: &R, files: &[File], wanted: &[Described], set: &[u8]) -> bool
 where
     R: Threads + AllocGlobal + Abort + Sync,
 {
     let sources = sources_of(rt, files);
-    match compile(rt, &sources, &Limits::standard(), Plan::single(), &NoGate) {
-        Ok(compiled) => has_set(rt, &compiled, set) && are_described(&compiled, wanted),
-        Err(_) => false,
-    }
+    let made = compile(rt, &sources, &Limits::standard(), Plan::single(), &NoGate);
+    let is_right = is_compiled_to(rt, &made, wanted, set);
+    drop(made);
+    is_right
 }
 
 /// The file of one message, its descriptor and its set.
@@ -527,17 +555,6 @@ fn compilations(rt: HostRuntime) {
     assert!(rt; compiles_to(&rt, &SEEN, &SEEN_DESCRIBED, SEEN_SET));
 }
 
-/// What sources are compiled to under limits: the fault, or that there is none.
-fn outcome<R>(rt: &R, sources: &[Source], limits: &Limits) -> String
-where
-    R: Threads + AllocGlobal + Abort + Sync,
-{
-    match compile(rt, sources, limits, Plan::single(), &NoGate) {
-        Ok(compiled) => set_order(rt, &compiled, &[]),
-        Err(error) => why(rt, &error),
-    }
-}
-
 /// A text of so many messages, each inside the one before.
 fn nested<R: AllocGlobal + Abort>(rt: &R, count: usize) -> String {
     let open = "message A { "
@@ -556,7 +573,7 @@ where
     let text = text.as_bytes();
     let name = "a.proto";
     let limits = lowered(rt, Limit::Depth, 32);
-    let found = outcome(rt, &[Source { name, text }], &limits);
+    let found = answer(rt, &[Source { name, text }], &[], &limits, Plan::single());
     expect(rt, "messages inside each other", found.as_str(), wanted);
 }
 
@@ -596,7 +613,7 @@ where
     let names = names_of(rt, count);
     let sources = empty_files(rt, &names);
     let limits = lowered(rt, Limit::Files, 4_096);
-    let found = outcome(rt, &sources, &limits);
+    let found = answer(rt, &sources, &[], &limits, Plan::single());
     expect(rt, "files", found.as_str(), wanted);
 }
 
