@@ -4,7 +4,7 @@ use Rattle.std.specs.Fmt.{decimal}
 use Rattle.std.specs.List.{AllZip, concat, ends_with}
 use Rattle.fault_report.specs.Excerpts.{IsExcerpt, rows_of}
 use Rattle.fault_report.specs.declared.excerpt.Excerpt.{Excerpt}
-use Rattle.proto_base.specs.KindNames.{name_of}
+use Rattle.proto_base.specs.Kind.{name_of}
 use Rattle.proto_base.specs.Limits.{limit_of}
 use Rattle.proto_base.specs.declared.fault.Fault.{Fault}
 use Rattle.proto_base.specs.declared.kind.Kind.{Kind}

@@ -4,7 +4,7 @@ use Rattle.std.specs.Char.{encode_utf8, is_ascii_control}
 use Rattle.std.specs.Fmt.{decimal, digits}
 use Rattle.std.specs.List.{flat_map}
 use Rattle.std.specs.Str.{chars}
-use Rattle.proto_base.specs.KindNames.{name_of}
+use Rattle.proto_base.specs.Kind.{name_of}
 use Rattle.schema_failure.specs.declared.failure.Failure.{Failure}
 use Rattle.schema_failure.specs.declared.failure.Failure.TheVariants as failure
 
