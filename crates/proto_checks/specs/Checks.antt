@@ -95,17 +95,21 @@ names_step m = record { fields = m.fields; reserved_names = m.reserved_names; en
 abbrev pub names_of : MessageDesc → List MessageNames
 names_of = fold-MessageDesc (List MessageNames) names_step
 
+-- what stands once for a file: its syntax, its package, its imports and its options
 abbrev pub HeadBreaks : FileTree → FileDesc → Spot → Type 0
 HeadBreaks tree desc = NotProto3Syntax tree.syntax ∪ PackageTwice (flat_map file_package tree.statements)
     ∪ ImportTwice desc.imports ∪ SettingsBreak element.File (flat_map file_setting tree.statements)
 
+-- its messages, enums and services
 abbrev pub ElementsBreak : List Statement → Spot → Type 0
 ElementsBreak statements = Each (flat_map file_message statements) MessageBreaks
     ∪ Each (flat_map file_enum statements) EnumBreaks ∪ Each (flat_map file_service statements) ServiceBreaks
 
+-- names that its messages and enums declare
 abbrev pub NamesBreak : FileDesc → Spot → Type 0
 NamesBreak desc = Each (flat_map names_of desc.messages) MessageNamesBreak ∪ Each desc.enums EnumNamesBreak
 
+-- names that are too long
 abbrev pub LengthsBreak : Limits → List Statement → FileDesc → Spot → Type 0
 LengthsBreak limits statements desc =
     Each (flat_map file_package statements) (PackageTooLong limits) ∪ Each (declared_by desc) (IsTooLong limits)

@@ -6,8 +6,8 @@ use Rattle.proto_tokens.specs.Token.{Spelled}
 use Rattle.proto_tokens.specs.ProgramTokens.{spelled, tokens_of}
 use Rattle.proto_syntax.specs.declared.parser.stop.Stop.{Stop}
 use Rattle.proto_syntax.specs.declared.parser.stop.Stop.TheVariants as stop
-use Rattle.proto_syntax.specs.Grammar.{Grammar, ◌⨾◌, ◌∣◌, Tree, Pair, Left, Right}
-use Rattle.proto_syntax.specs.Language.{enum, option, oneof, reserved, map_type, parts, map_or_field, symbol, declarator, field}
+use Rattle.proto_syntax.specs.Grammar.{Grammar, ◌∣◌, Tree, Pair}
+use Rattle.proto_syntax.specs.Language.{enum, option, oneof, reserved, map_or_field, symbol, field}
 use Rattle.std.specs.Str.{byte}
 use Rattle.proto_syntax.specs.Trees.{row, symbol_tree}
 use Rattle.proto_syntax.specs.Reading.{Outcome, Read, Stops, read}
@@ -40,13 +40,6 @@ Reads tree g result old new = Gives tree result new (read g (spellings old))
 -- a statement of a message that is no message
 abbrev pub flat_item : Grammar
 flat_item = enum ∣ option ∣ oneof ∣ reserved ∣ map_or_field ∣ symbol ";" ∣ field
-
--- what stands behind the word `map` of such a statement, and the statement by that word and what stands behind it
-abbrev pub map_rest : Grammar
-map_rest = (map_type ∣ parts) ⨾ declarator
-
-abbrev pub behind_map : Tree → Tree → Tree
-behind_map word t = Right (Right (Right (Right (Right (Left (Pair word t))))))
 
 -- the kind that the token at k shows, where it is not the depth
 abbrev pub kind_here : Option Spelled → Option Spelled → Kind
