@@ -2,7 +2,7 @@ pub mod Apart
 pub mod Around
 pub mod Built
 pub mod Collecting
-pub mod Chaining
+pub mod Starting
 pub mod Comparing
 pub mod Prefixes
 pub mod Growing

@@ -1,12 +1,12 @@
 -- Looking through what occurs by a name.
-use Rattle.std.proofs.Common.{◌≡◌, ◌∙◌, sym, ℕ, List, subst}
-use Rattle.std.specs.Prelude.{Bool, IsTrue, Option, Contains}
+use Rattle.std.proofs.Common.{◌≡◌, ◌∙◌, sym, ℕ, List, subst, inl, inr}
+use Rattle.std.specs.Prelude.{Bool, IsTrue, Option, None, Some, MatchOption, Contains}
 use Rattle.std.proofs.lemmas.List.{get_or_default}
 use Rattle.proto_desc.specs.declared.name_kind.NameKind.{NameKind}
 use Rattle.proto_names.specs.Occurrences.{Occurrence}
-use Rattle.proto_names.specs.Resolution.{Visible}
+use Rattle.proto_names.specs.Resolution.{IsType, Visible, is_message, is_type, message, enumeration}
 use Rattle.proto_names.specs.Runs.{at, blank}
-use Rattle.proto_names.specs.Steps.{HasOneIn}
+use Rattle.proto_names.specs.Steps.{HasNoType, HasOneIn, IsNoType, IsTypeAmong}
 use Rattle.proto_names.proofs.Occurring.{occurs}
 
 -- what stands at a position is not of such a kind in a file that is seen
@@ -39,3 +39,22 @@ visible_among os Seen accepts name named all (o, there, same, fitting, seen) =
       subst (λ (x : Occurrence). IsTrue (accepts x.kind)) (sym is) fitting,
       subst (λ (x : Occurrence). Seen x.file) (sym is) seen,
     )
+
+-- so the type among those of a name is that of the name
+pub type_visible : (os : List Occurrence) (Seen : ℕ → Type 0) (name : List ℕ) (named : List Occurrence) → AreOf os name named
+    → AreAllOf os name named → (found : Option NameKind) → MatchOption found (HasNoType named Seen) (IsTypeAmong named Seen)
+    → MatchOption found (IsNoType os Seen name) (IsType os Seen name)
+type_visible os Seen name named of all None none = (
+  λ v. none.0 (visible_among os Seen is_message name named all v),
+  λ v. none.1 (visible_among os Seen is_type name named all v),
+)
+type_visible os Seen name named of all (Some what) (inl (one, is)) =
+    subst (IsType os Seen name) (sym is) (message (among_visible os Seen is_message name named of one))
+type_visible os Seen name named of all (Some what) (inr (none, one, is)) =
+    subst (IsType os Seen name) (sym is)
+    (enumeration (among_visible os Seen is_type name named of one) (λ v. none (visible_among os Seen is_message name named all v)))
+
+pub no_type : (os : List Occurrence) (Seen : ℕ → Type 0) (name : List ℕ) → IsNoType os Seen name → (what : NameKind)
+    → IsType os Seen name what → ⊥
+no_type os Seen name none what (message v) = none.0 v
+no_type os Seen name none what (enumeration v other) = none.1 v

@@ -40,7 +40,7 @@ nat_case x y o false false e f h = let over = ltb-false x y e in let other = eqb
 nat_not_less : (x y : ℕ) (o : Ordering) → is_lt (ordering_then (nat_cmp x y) o) ≡ false → (y < x) ⊎ ((x ≡ y) × (is_lt o ≡ false))
 nat_not_less x y o h = nat_case x y o (nat_lt x y) (x == y) refl refl h
 
-last_case : (x y : ℕ) (b c : Bool) → nat_lt x y ≡ b → (x == y) ≡ c → is_lt (cond b Less (cond c Equal Greater)) ≡ false → y ≤ x
+pub last_case : (x y : ℕ) (b c : Bool) → nat_lt x y ≡ b → (x == y) ≡ c → is_lt (cond b Less (cond c Equal Greater)) ≡ false → y ≤ x
 last_case x y true c e f h = absurd (true≢false h)
 last_case x y false c e f h = ltb-false x y e
 

@@ -12,7 +12,7 @@ use Rattle.std.proofs.lemmas.Map.Lookups.{exact_bytes}
 use Rattle.std.specs.Cmp.{Equal-is}
 use Rattle.proto_links.proofs.NameRows.{equal_itself, less_not_equal}
 use Rattle.proto_names.proofs.NameOrder.{equal_alike, name_total, same_name}
-use Rattle.proto_names.specs.Chains.{IsStart, IsNowhere}
+use Rattle.proto_names.specs.Starts.{IsStart, IsNowhere}
 use Rattle.proto_names.specs.Index.{name_of}
 use Rattle.proto_names.specs.Occurrences.{Occurrence}
 use Rattle.proto_names.specs.Order.{AreInHashOrder, name_cmp}

@@ -1,4 +1,4 @@
-pub mod Chains
+pub mod Starts
 pub mod Collected
 pub mod Entries
 pub mod Hashes

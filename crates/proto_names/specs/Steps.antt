@@ -1,9 +1,13 @@
 -- Words of private contracts: the steps of a resolution.
-use Rattle.std.specs.Prelude.{◌≡◌, ℕ, ◌<◌, List, length, Bool, Option, IsTrue}
+use Rattle.std.specs.Prelude.{◌≡◌, ◌⊎◌, ℕ, ◌<◌, List, length, Bool, Option, IsTrue}
+use Rattle.proto_desc.specs.DeclaredNames.{scoped}
 use Rattle.proto_desc.specs.declared.name_kind.NameKind.{NameKind}
+use Rattle.proto_desc.specs.declared.name_kind.NameKind.TheVariants as kind
 use Rattle.proto_names.specs.Occurrences.{Occurrence}
-use Rattle.proto_names.specs.Resolution.{is_message, is_type, is_scope, Means}
+use Rattle.proto_names.specs.Resolution.{is_message, is_type, is_scope, Decides, IsType, Visible}
 use Rattle.proto_names.specs.Runs.{at}
+use Rattle.proto_names.specs.declared.resolve.Decision.{Decision}
+use Rattle.proto_names.specs.declared.resolve.Decision.TheVariants as decision
 use Rattle.proto_names.specs.declared.visible.Role.{Role}
 use Rattle.proto_names.specs.declared.visible.Role.TheVariants as role
 
@@ -18,10 +22,21 @@ abbrev pub HasOneIn : List Occurrence → (Option NameKind → Bool) → (ℕ �
 HasOneIn os accepts In =
     (k : ℕ) × (k < length os) × IsTrue (accepts (at os k).kind) × In (at os k).file
 
--- the one full name that a spelled one means
-pub record IsMeant (os : List Occurrence) (Seen : ℕ → Type 0) (scope spelled full : List ℕ) : Type 0 where
-  pub means : Means os Seen scope spelled full
-  pub only : (other : List ℕ) → Means os Seen scope spelled other → other ≡ full
+-- none of the occurrences is a type
+abbrev pub HasNoType : List Occurrence → (ℕ → Type 0) → Type 0
+HasNoType os In = (HasOneIn os is_message In → ⊥) × (HasOneIn os is_type In → ⊥)
 
-abbrev pub MeansNothing : List Occurrence → (ℕ → Type 0) → List ℕ → List ℕ → Type 0
-MeansNothing os Seen scope spelled = (full : List ℕ) → Means os Seen scope spelled full → ⊥
+-- one of the occurrences is a type, of this kind
+abbrev pub IsTypeAmong : List Occurrence → (ℕ → Type 0) → NameKind → Type 0
+IsTypeAmong os In what = (HasOneIn os is_message In × (what ≡ kind.Message))
+    ⊎ ((HasOneIn os is_message In → ⊥) × HasOneIn os is_type In × (what ≡ kind.Enum))
+
+-- a full name is no type
+abbrev pub IsNoType : List Occurrence → (ℕ → Type 0) → List ℕ → Type 0
+IsNoType os Seen full = (Visible os Seen is_message full → ⊥) × (Visible os Seen is_type full → ⊥)
+
+-- what a scope decides of a spelled name: that it is a type of a kind there, or only that it decides
+abbrev pub IsDecision : List Occurrence → (ℕ → Type 0) → List ℕ → List ℕ → Decision → Type 0
+IsDecision os Seen c spelled (decision.Known what) =
+    Decides os Seen c spelled × IsType os Seen (scoped c spelled) what
+IsDecision os Seen c spelled decision.Scope = Decides os Seen c spelled

@@ -10,7 +10,7 @@ use std::alloc::{AllocError, Global};
 use std::cmp::Ordering;
 
 /// Puts a name in a scope at the end of a text. Where there is no memory, a part of it may be put.
-pub(crate) fn push_name(full: &mut String, scope: &str, name: &str) -> Result<(), AllocError>
+pub fn push_name(full: &mut String, scope: &str, name: &str) -> Result<(), AllocError>
     ensures kept { IsFrontOf (string_bytes full.old) (string_bytes full.new) }
     ensures put { OnOk result (string_bytes full.new
         ≡ string_bytes full.old ++ scoped scope.now name.now) }

@@ -6,7 +6,7 @@ ghost use Rattle.std.specs.List.Sorted.{IsPartitionPoint};
 ghost use Rattle.std.specs.Ordering.{nat_cmp, is_eq, is_lt, ordering_then};
 ghost use Rattle.std.specs.declared.cmp.Ordering.TheVariants.{Less};
 ghost use Rattle.proto_desc.specs.DeclaredNames.{scoped};
-ghost use Rattle.proto_names.specs.Chains.{IsNowhere, IsStart};
+ghost use Rattle.proto_names.specs.Starts.{IsNowhere, IsStart};
 ghost use Rattle.proto_names.specs.Entries.{name_at};
 ghost use Rattle.proto_names.specs.Order.{AreInHashOrder, name_cmp};
 

@@ -3,7 +3,6 @@
 //! The standard is the proto3 language guide, "Packages and Name Resolution".
 #![tactic(auto)]
 
-mod chains;
 mod collect;
 mod entries;
 mod entry;
@@ -15,12 +14,13 @@ mod names;
 mod packages;
 mod resolve;
 mod scope;
+mod starts;
 mod table;
 mod threading;
 mod twice;
 mod visible;
 
-pub use full_name::name_in;
+pub use full_name::{name_in, push_name};
 pub use index::{Defined, NameError, NameIndex};
-pub use resolve::{ResolveError, Resolved, Want, resolution_is_unique};
+pub use resolve::{FoundType, ResolveError, Resolved, Want, resolution_is_unique};
 pub use threading::Threading;

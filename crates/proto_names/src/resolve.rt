@@ -6,17 +6,17 @@ ghost use Rattle.proto_desc.specs.declared.name_kind.NameKind.{NameKind};
 ghost use Rattle.proto_desc.specs.declared.name_kind.NameKind.TheVariants as kinds;
 ghost use Rattle.proto_links.specs.Linked.{count_of};
 ghost use Rattle.proto_names.specs.Occurrences.{Occurrence};
-ghost use Rattle.proto_names.specs.Resolution.{SeenBy, Decides, IsInnermost, IsType, Resolves, ResolvesNowhere, Visible};
+ghost use Rattle.proto_names.specs.Resolution.{SeenBy, Decides, IsAbsolute, IsInnermost, IsType, Resolves, ResolvesNowhere, Visible};
 ghost use Rattle.proto_names.specs.SeenAlike.{AreSeenAlike, IsSeen};
 ghost use Rattle.proto_names.specs.Scopes.{IsCandidate};
-ghost use Rattle.proto_names.specs.Steps.{IsMeant, MeansNothing, fits};
+ghost use Rattle.proto_names.specs.Steps.{IsDecision, IsNoType, fits};
 ghost use Rattle.proto_names.specs.declared.resolve.ResolveError.TheVariants as errors;
 ghost use Rattle.proto_names.specs.declared.resolve.Want.TheVariants as wants;
 
 use crate::full_name::name_in;
 use crate::index::NameIndex;
 use crate::scope::Scope;
-use crate::visible::{Role, sees_one};
+use crate::visible::{Role, sees_one, type_among};
 use proto_desc::name_kind::NameKind;
 use proto_links::{FileId, Links};
 use std::alloc::{AllocError, Global};
@@ -46,6 +46,24 @@ impl Want {
 pub struct Resolved {
     pub full_name: String,
     pub kind: NameKind,
+}
+
+/// A type, by the scope in which its name was found and the name there.
+#[derive(Clone, Copy)]
+pub struct FoundType<'n> {
+    /// The full name of the scope, empty where the name is a full name.
+    pub scope: &'n str,
+    pub name: &'n str,
+    pub kind: NameKind,
+}
+
+/// What a scope decides of a spelled name.
+#[derive(Clone, Copy)]
+enum Decision {
+    /// The name is a type of this kind there.
+    Known(NameKind),
+    /// The first part of the name is a scope there, in which the rest is looked up.
+    Scope,
 }
 
 /// Why a spelled name is no type.
@@ -79,38 +97,60 @@ impl NameIndex {
         sees_one(links, file, role, &self.entries.named(scope, name))
     }
 
-    /// Whether a scope decides what a spelled name means.
-    fn decides(&self, links: &Links, file: FileId, scope: Scope, spelled: &str) -> bool
+    /// The kind of the type of the name in a scope.
+    fn type_of(&self, links: &Links, file: FileId, scope: Scope, name: &str) -> Option<NameKind>
         requires links { count_of links.now ≡ self.now.files }
         requires file { file < self.now.files }
-        ensures { IsTrue result ↔ Decides self.now.occurrences (SeenBy links.now file)
-            scope.entry.text.now spelled.now }
+        ensures { MatchOption result (IsNoType self.now.occurrences (SeenBy links.now file)
+            (scoped scope.entry.text.now name.now)) (IsType self.now.occurrences
+            (SeenBy links.now file) (scoped scope.entry.text.now name.now)) }
+    {
+        type_among(links, file, &self.entries.named(scope, name))
+    }
+
+    /// What a scope decides of a spelled name, if it does.
+    fn decision(&self, links: &Links, file: FileId, scope: Scope, spelled: &str) -> Option<Decision>
+        requires links { count_of links.now ≡ self.now.files }
+        requires file { file < self.now.files }
+        ensures { MatchOption result (Decides self.now.occurrences (SeenBy links.now file)
+            scope.entry.text.now spelled.now → ⊥)
+            (IsDecision self.now.occurrences (SeenBy links.now file) scope.entry.text.now spelled.now) }
     {
         match spelled.split_once('.') {
-            Some((first, _)) => self.is_visible(links, file, Role::Scope, scope, first),
-            None => self.is_visible(links, file, Role::Type, scope, spelled),
+            Some((first, _)) => {
+                if self.is_visible(links, file, Role::Scope, scope, first) {
+                    Some(Decision::Scope)
+                } else {
+                    None
+                }
+            }
+            None => match self.type_of(links, file, scope, spelled) {
+                Some(kind) => Some(Decision::Known(kind)),
+                None => None,
+            },
         }
     }
 
-    /// The innermost scope that decides what a spelled name means.
+    /// The innermost scope that decides what a spelled name means, with what it decides.
     fn innermost<'s>(
         &self,
         links: &Links,
         file: FileId,
         scope: &'s str,
         spelled: &str,
-    ) -> Option<Scope<'s>>
+    ) -> Option<(Scope<'s>, Decision)>
         requires links { count_of links.now ≡ self.now.files }
         requires file { file < self.now.files }
         ensures { MatchOption result ((c : List ℕ) → IsCandidate c scope.now
             → Decides self.now.occurrences (SeenBy links.now file) c spelled.now → ⊥)
             (λ inner. IsInnermost self.now.occurrences (SeenBy links.now file) scope.now spelled.now
-            inner.text.now) }
+            inner.0.text.now × IsDecision self.now.occurrences (SeenBy links.now file)
+            inner.0.text.now spelled.now inner.1) }
     {
         let mut inner = Scope::new(scope);
         loop {
-            if self.decides(links, file, inner, spelled) {
-                return Some(inner);
+            if let Some(decision) = self.decision(links, file, inner, spelled) {
+                return Some((inner, decision));
             }
             match inner.parent() {
                 Some(outer) => inner = outer,
@@ -119,43 +159,58 @@ impl NameIndex {
         }
     }
 
-    /// The full name that a spelled one means, as a scope and the name in it.
-    fn meant<'s>(
+    /// The type that a spelled name without a leading dot means.
+    fn find_relative<'n>(
         &self,
         links: &Links,
         file: FileId,
-        scope: &'s str,
-        spelled: &'s str,
-    ) -> Option<(Scope<'s>, &'s str)>
+        scope: &'n str,
+        spelled: &'n str,
+    ) -> Option<FoundType<'n>>
         requires links { count_of links.now ≡ self.now.files }
         requires file { file < self.now.files }
-        ensures { MatchOption result (MeansNothing self.now.occurrences (SeenBy links.now file)
-            scope.now spelled.now) (λ full. IsMeant self.now.occurrences (SeenBy links.now file)
-            scope.now spelled.now (scoped full.0.text.now full.1.now)) }
+        requires relative { (rest : List ℕ) → IsAbsolute spelled.now rest → ⊥ }
+        ensures { MatchOption result (ResolvesNowhere self.now.occurrences (SeenBy links.now file)
+            scope.now spelled.now) (λ t. Resolves self.now.occurrences (SeenBy links.now file)
+            scope.now spelled.now (scoped t.scope.now t.name.now) t.kind) }
     {
-        if let Some(full) = spelled.strip_prefix('.') {
-            return Some((Scope::top(), full));
-        }
-        let inner = self.innermost(links, file, scope, spelled)?;
-        Some((inner, spelled))
+        let (inner, decision) = self.innermost(links, file, scope, spelled)?;
+        let kind = match decision {
+            Decision::Known(kind) => kind,
+            Decision::Scope => self.type_of(links, file, inner, spelled)?,
+        };
+        Some(FoundType {
+            scope: inner.text,
+            name: spelled,
+            kind,
+        })
     }
 
-    /// The kind of the type of the name in a scope.
-    fn type_of(&self, links: &Links, file: FileId, scope: Scope, name: &str) -> Option<NameKind>
+    /// The type that a spelled name means in a scope of a file (language guide, "Packages and Name Resolution"), among
+    /// what the file sees, if it means one. It takes no memory.
+    pub fn find_type<'n>(
+        &self,
+        links: &Links,
+        file: FileId,
+        scope: &'n str,
+        spelled: &'n str,
+    ) -> Option<FoundType<'n>>
         requires links { count_of links.now ≡ self.now.files }
         requires file { file < self.now.files }
-        ensures { MatchOption result ((kind : NameKind)
-            → IsType self.now.occurrences (SeenBy links.now file)
-            (scoped scope.entry.text.now name.now) kind → ⊥)
-            (IsType self.now.occurrences (SeenBy links.now file)
-            (scoped scope.entry.text.now name.now)) }
+        ensures { MatchOption result (ResolvesNowhere self.now.occurrences (SeenBy links.now file)
+            scope.now spelled.now) (λ t. Resolves self.now.occurrences (SeenBy links.now file)
+            scope.now spelled.now (scoped t.scope.now t.name.now) t.kind) }
     {
-        if self.is_visible(links, file, Role::Message, scope, name) {
-            Some(NameKind::Message)
-        } else if self.is_visible(links, file, Role::Type, scope, name) {
-            Some(NameKind::Enum)
-        } else {
-            None
+        match spelled.strip_prefix('.') {
+            Some(full) => {
+                let kind = self.type_of(links, file, Scope::top(), full)?;
+                Some(FoundType {
+                    scope: "",
+                    name: full,
+                    kind,
+                })
+            }
+            None => self.find_relative(links, file, scope, spelled),
         }
     }
 
@@ -183,17 +238,17 @@ impl NameIndex {
             × Resolves self.now.occurrences (SeenBy links.now file) scope.now spelled.now full
             kinds.Enum) }
     {
-        let Some((inner, name)) = self.meant(links, file, scope, spelled) else {
+        let Some(found) = self.find_type(links, file, scope, spelled) else {
             return Err(ResolveError::TypeNotFound);
         };
-        let Some(kind) = self.type_of(links, file, inner, name) else {
-            return Err(ResolveError::TypeNotFound);
-        };
-        if !want.allows(kind) {
+        if !want.allows(found.kind) {
             return Err(ResolveError::TypeNotMessage);
         }
-        let full_name = name_in(alloc, inner.text, name)?;
-        Ok(Resolved { full_name, kind })
+        let full_name = name_in(alloc, found.scope, found.name)?;
+        Ok(Resolved {
+            full_name,
+            kind: found.kind,
+        })
     }
 }
 

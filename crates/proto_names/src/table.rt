@@ -1,21 +1,21 @@
-//! The entries of an index, in the order of their names, with the chains by which those of one name are found, and the
+//! The entries of an index, in the order of their names, with the slots by which those of one name are found, and the
 //! packages that many files have.
 
 ghost use Rattle.std.specs.Prelude.{◌≡◌, ◌≢◌, ◌↔◌, ◌<◌, ◌≤◌, length, slice_index_or, All, Contains, IfOk, IfSome};
 ghost use Rattle.std.specs.List.Sorted.{IsPartitionPoint};
 ghost use Rattle.std.specs.declared.cmp.Ordering.TheVariants.{Less};
 ghost use Rattle.proto_desc.specs.DeclaredNames.{scoped};
-ghost use Rattle.proto_names.specs.Chains.{AreChained};
 ghost use Rattle.proto_names.specs.Order.{AreInHashOrder, AreInOrder, name_cmp};
 ghost use Rattle.proto_names.specs.Occurrences.{Occurrence};
 ghost use Rattle.proto_names.specs.Packages.{ArePackagesOf, IsPackageOf};
+ghost use Rattle.proto_names.specs.Starts.{AreStarts};
 
-use crate::chains::{Chains, chain_entries};
 use crate::entries::Entries;
 use crate::halving::count_named;
 use crate::names::Names;
 use crate::packages::{PackageFiles, Packages};
 use crate::scope::Scope;
+use crate::starts::{Starts, starts_of};
 use std::alloc::{AllocError, Global};
 use std::marker::Model;
 
@@ -30,24 +30,23 @@ pub(crate) struct Named<'t> {
 #[derive(Drop)]
 pub(crate) struct EntryTable {
     entries: Entries,
-    chains: Chains,
+    starts: Starts,
     packages: Packages,
 }
 
 impl Model for EntryTable {
     ghost use Rattle.std.specs.Prelude.{List, length};
-    ghost use Rattle.proto_names.specs.Chains.{AreChained};
     ghost use Rattle.proto_names.specs.Occurrences.{Occurrence};
     ghost use Rattle.proto_names.specs.Order.{AreInOrder};
     ghost use Rattle.proto_names.specs.Packages.{ArePackagesOf};
+    ghost use Rattle.proto_names.specs.Starts.{AreStarts};
 
     ghost Value = { List Occurrence };
 
     ghost view = { λ table. table.entries };
 
     ghost invariant = { λ table. AreInOrder table.entries
-        × AreChained table.entries (length table.entries) table.chains.slots.items
-        table.chains.links.items
+        × AreStarts table.entries table.starts.counts.items
         × ArePackagesOf table.entries table.packages.runs.items table.packages.files };
 }
 
@@ -63,11 +62,11 @@ impl EntryTable {
         requires files { All (λ o. o.file < files) entries }
         ensures { IfOk result (λ table. table ≡ entries) }
     {
-        let chains = chain_entries(alloc, &entries.names())?;
+        let starts = starts_of(alloc, &entries.names())?;
         let packages = Packages::among(alloc, &entries.names(), files)?;
         Ok(EntryTable {
             entries,
-            chains,
+            starts,
             packages,
         })
     }
@@ -82,7 +81,7 @@ impl EntryTable {
     {
         entries_named(
             &self.entries.names(),
-            &self.chains,
+            &self.starts,
             &self.packages,
             scope,
             name,
@@ -111,20 +110,19 @@ fn run_length(names: &Names, scope: &str, name: &str) -> usize
 /// The entries of the name in a scope.
 fn entries_named<'e>(
     names: &Names<'e>,
-    chains: &Chains,
+    starts: &Starts,
     packages: &'e Packages,
     scope: Scope,
     name: &str,
 ) -> Named<'e>
     requires order { AreInOrder names.now }
-    requires chains { AreChained names.now (length names.now) chains.now.slots.items
-        chains.now.links.items }
+    requires starts { AreStarts names.now starts.now.counts.items }
     requires packages { ArePackagesOf names.now packages.now.runs.items packages.now.files }
     ensures named { (o : Occurrence) → Contains result.names o
         ↔ (Contains names.now o × (o.name ≡ scoped scope.entry.text.now name.now)) }
     ensures files { IfSome result.files (λ p. IsPackageOf result.names p.files.now p.row) }
 {
-    match chains.start_of(names, scope, name) {
+    match starts.start_of(names, scope, name) {
         Some(start) => {
             let behind = names.skip(start);
             let names = behind.take(run_length(&behind, scope.text, name));

@@ -1,11 +1,11 @@
 //! What a file sees of the entries of a name.
 
-ghost use Rattle.std.specs.Prelude.{◌≡◌, ◌↔◌, ◌<◌, All, IfSome, IsTrue, length};
+ghost use Rattle.std.specs.Prelude.{◌≡◌, ◌↔◌, ◌<◌, All, IfSome, IsTrue, MatchOption, length};
 ghost use Rattle.proto_links.specs.Linked.{count_of};
 ghost use Rattle.proto_names.specs.Packages.{IsPackageOf};
 ghost use Rattle.proto_names.specs.Resolution.{SeenBy};
 ghost use Rattle.proto_names.specs.Runs.{at};
-ghost use Rattle.proto_names.specs.Steps.{HasOneIn, fits};
+ghost use Rattle.proto_names.specs.Steps.{HasNoType, HasOneIn, IsTypeAmong, fits};
 
 use crate::names::Names;
 use crate::table::Named;
@@ -71,5 +71,22 @@ pub(crate) fn sees_one(links: &Links, file: FileId, role: Role, named: &Named) -
     match &named.files {
         Some(package) => { role.fits(None) && links.sees_one_of(file, package.files, package.row) }
         None => sees_entry(links, file, role, &named.names),
+    }
+}
+
+/// The kind of the type that a file sees among the entries of a name.
+pub(crate) fn type_among(links: &Links, file: FileId, named: &Named) -> Option<NameKind>
+    requires file { file < count_of links.now }
+    requires entries { All (λ o. o.file < count_of links.now) named.now.names }
+    requires files { IfSome named.now.files (λ p. IsPackageOf named.now.names p.files.now p.row) }
+    ensures { MatchOption result (HasNoType named.now.names (SeenBy links.now file))
+        (IsTypeAmong named.now.names (SeenBy links.now file)) }
+{
+    if sees_one(links, file, Role::Message, named) {
+        Some(NameKind::Message)
+    } else if sees_one(links, file, Role::Type, named) {
+        Some(NameKind::Enum)
+    } else {
+        None
     }
 }

@@ -1,16 +1,17 @@
 -- What is recalled of a scope, and what it says of a field's type.
 use Rattle.std.proofs.Common.{◌≡◌, ◌∙◌, inl, inr, ℕ, List, [], ◌∷◌, Option, Some, None, Bool, true, false, refl, subst, sym, ap}
-use Rattle.std.specs.Prelude.{All, bytes_eq, find, string_bytes}
+use Rattle.std.specs.Prelude.{All, bytes_eq, find}
 use Rattle.std.proofs.Math.Bool.{cond}
 use Rattle.std.proofs.lemmas.List.Elements.{All-cons, All-head, All-nil, All-push, All-tail}
 use Rattle.std.proofs.lemmas.Slice.Eq.{bytes_eq-Decides}
 use Rattle.std.proofs.lemmas.Option.{none-some, same_Some}
 use Rattle.proto_names.specs.Occurrences.{Occurrence}
-use Rattle.proto_names.specs.declared.resolve.Resolved.{Resolved}
+use Rattle.proto_names.specs.declared.resolve.FoundType.{FoundType}
 use Rattle.proto_names.specs.Resolution.{IsType, Resolves}
 use Rattle.proto_names.specs.Resolution.IsType.{message, enumeration}
 use Rattle.proto_names.specs.declared.resolve.Want.{Want}
 use Rattle.proto_names.specs.declared.resolve.Want.TheVariants as want
+use Rattle.proto_desc.specs.DeclaredNames.{scoped}
 use Rattle.proto_desc.specs.declared.name_kind.NameKind.{NameKind}
 use Rattle.proto_desc.specs.declared.name_kind.NameKind.TheVariants as name_kind
 use Rattle.proto_desc.specs.declared.options.OptionDesc.{OptionDesc}
@@ -23,32 +24,32 @@ use Rattle.proto_types.specs.declared.recalled.Recalled.{Recalled}
 use Rattle.proto_types.proofs.Meanings.{naming_means, not_found, not_message}
 
 by_kind : (os : List Occurrence) (Seen : ℕ → Type 0) (scope text : List ℕ) (place : Place) (wanted : Want)
-    (options : List OptionDesc) (r : Resolved) (m : Meaning) (what : NameKind) → r.kind ≡ what
-    → IsType os Seen (string_bytes r.full_name) what
-    → Resolves os Seen scope text (string_bytes r.full_name) r.kind → IsMeaningBy wanted (Some r) place options m
+    (options : List OptionDesc) (t : FoundType) (m : Meaning) (what : NameKind) → t.kind ≡ what
+    → IsType os Seen (scoped t.scope.now t.name.now) what
+    → Resolves os Seen scope text (scoped t.scope.now t.name.now) t.kind → IsMeaningBy wanted (Some t) place options m
     → IsMeaning os Seen (reference_to scope text place wanted options) m
-by_kind os Seen scope text place want.AnyType options r m what same type named is =
-    let fits : Fits want.AnyType r.kind = λ e. let bad : want.AnyType ≡ want.MessageOnly = e in absurd (cc) in
-    naming_means os Seen (reference_to scope text place want.AnyType options) (string_bytes r.full_name) r.kind m named fits
+by_kind os Seen scope text place want.AnyType options t m what same type named is =
+    let fits : Fits want.AnyType t.kind = λ e. let bad : want.AnyType ≡ want.MessageOnly = e in absurd (cc) in
+    naming_means os Seen (reference_to scope text place want.AnyType options) (scoped t.scope.now t.name.now) t.kind m named fits
     (is.0 fits)
-by_kind os Seen scope text place want.MessageOnly options r m what same (message seen) named is =
-    naming_means os Seen (reference_to scope text place want.MessageOnly options) (string_bytes r.full_name) r.kind m named
+by_kind os Seen scope text place want.MessageOnly options t m what same (message seen) named is =
+    naming_means os Seen (reference_to scope text place want.MessageOnly options) (scoped t.scope.now t.name.now) t.kind m named
     (λ e. same) (is.0 (λ e. same))
-by_kind os Seen scope text place want.MessageOnly options r m what same (enumeration seen none) named is =
-    let other : r.kind ≡ name_kind.Message → ⊥ = λ e. let bad : name_kind.Enum ≡ name_kind.Message = sym same ∙ e in absurd (cc) in
+by_kind os Seen scope text place want.MessageOnly options t m what same (enumeration seen none) named is =
+    let other : t.kind ≡ name_kind.Message → ⊥ = λ e. let bad : name_kind.Enum ≡ name_kind.Message = sym same ∙ e in absurd (cc) in
     rw (is.1 (λ fits. other (fits refl)))
-    (not_message os Seen (reference_to scope text place want.MessageOnly options) (string_bytes r.full_name) refl
-    (subst (λ (k : NameKind). Resolves os Seen scope text (string_bytes r.full_name) k) same named))
+    (not_message os Seen (reference_to scope text place want.MessageOnly options) (scoped t.scope.now t.name.now) refl
+    (subst (λ (k : NameKind). Resolves os Seen scope text (scoped t.scope.now t.name.now) k) same named))
 
 -- what is made of what a name means is what a reference to it means
 pub meaning_by : (os : List Occurrence) (Seen : ℕ → Type 0) (scope text : List ℕ) (place : Place) (wanted : Want)
-    (options : List OptionDesc) (found : Option Resolved) (m : Meaning)
+    (options : List OptionDesc) (found : Option FoundType) (m : Meaning)
     → IsNamed os Seen scope text found → IsMeaningBy wanted found place options m
     → IsMeaning os Seen (reference_to scope text place wanted options) m
 meaning_by os Seen scope text place wanted options None m none is =
     rw is (not_found os Seen (reference_to scope text place wanted options) none)
-meaning_by os Seen scope text place wanted options (Some r) m named is =
-    by_kind os Seen scope text place wanted options r m r.kind refl named.type named is
+meaning_by os Seen scope text place wanted options (Some t) m named is =
+    by_kind os Seen scope text place wanted options t m t.kind refl named.type named is
 
 -- ---- one among those that are recalled
 

@@ -1,14 +1,15 @@
 -- Words of private contracts: the names that were looked up last in a scope.
-use Rattle.std.specs.Prelude.{◌≡◌, ◌⊎◌, ℕ, List, [], ◌∷◌, ◌++◌, Option, None, Some, All, string_bytes}
+use Rattle.std.specs.Prelude.{◌≡◌, ◌⊎◌, ℕ, List, [], ◌∷◌, ◌++◌, Option, None, Some, MatchOption, All}
 use Rattle.proto_base.specs.Least.{spot}
 use Rattle.proto_base.specs.declared.kind.Kind.TheVariants as kind
 use Rattle.proto_base.specs.declared.place.Place.{Place}
+use Rattle.proto_desc.specs.DeclaredNames.{scoped}
 use Rattle.proto_desc.specs.declared.name_kind.NameKind.{NameKind}
 use Rattle.proto_desc.specs.declared.name_kind.NameKind.TheVariants as name_kind
 use Rattle.proto_desc.specs.declared.options.OptionDesc.{OptionDesc}
 use Rattle.proto_names.specs.Occurrences.{Occurrence}
 use Rattle.proto_names.specs.Resolution.{Resolves, ResolvesNowhere}
-use Rattle.proto_names.specs.declared.resolve.Resolved.{Resolved}
+use Rattle.proto_names.specs.declared.resolve.FoundType.{FoundType}
 use Rattle.proto_names.specs.declared.resolve.Want.{Want}
 use Rattle.proto_names.specs.declared.resolve.Want.TheVariants as want
 use Rattle.proto_types.specs.Steps.{IsNaming, type_kind_of}
@@ -17,9 +18,9 @@ use Rattle.proto_types.specs.declared.meaning.Meaning.TheVariants.{Wrong}
 use Rattle.proto_types.specs.declared.recalled.Recalled.{Recalled}
 
 -- what a name means in a scope, as a type: this one, or none
-abbrev pub IsNamed : List Occurrence → (ℕ → Type 0) → (scope spelled : List ℕ) → Option Resolved → Type 0
-IsNamed os Seen scope spelled None = ResolvesNowhere os Seen scope spelled
-IsNamed os Seen scope spelled (Some r) = Resolves os Seen scope spelled (string_bytes r.full_name) r.kind
+abbrev pub IsNamed : List Occurrence → (ℕ → Type 0) → (scope spelled : List ℕ) → Option FoundType → Type 0
+IsNamed os Seen scope spelled found = MatchOption found (ResolvesNowhere os Seen scope spelled)
+    (λ t. Resolves os Seen scope spelled (scoped t.scope.now t.name.now) t.kind)
 
 -- names with what they mean in a scope
 abbrev pub AreRecalled : List Occurrence → (ℕ → Type 0) → List ℕ → List Recalled → Type 0
@@ -34,8 +35,8 @@ abbrev pub Fits : Want → NameKind → Type 0
 Fits wanted what = wanted ≡ want.MessageOnly → what ≡ name_kind.Message
 
 -- what was found, where such a type is wanted, with these options
-abbrev pub IsMeaningBy : Want → Option Resolved → Place → List OptionDesc → Meaning → Type 0
+abbrev pub IsMeaningBy : Want → Option FoundType → Place → List OptionDesc → Meaning → Type 0
 IsMeaningBy wanted None place options meaning = meaning ≡ Wrong (spot place kind.TypeNotFound)
-IsMeaningBy wanted (Some r) place options meaning =
-    (Fits wanted r.kind → IsNaming (string_bytes r.full_name) (type_kind_of r.kind) options meaning)
-    × ((Fits wanted r.kind → ⊥) → meaning ≡ Wrong (spot place kind.TypeNotMessage))
+IsMeaningBy wanted (Some t) place options meaning =
+    (Fits wanted t.kind → IsNaming (scoped t.scope.now t.name.now) (type_kind_of t.kind) options meaning)
+    × ((Fits wanted t.kind → ⊥) → meaning ≡ Wrong (spot place kind.TypeNotMessage))

@@ -21,7 +21,7 @@ use proto_desc::options::OptionDesc;
 use proto_desc::service::{MethodDesc, ServiceDesc};
 use proto_desc::type_name::TypeReference;
 use proto_links::{FileId, Links};
-use proto_names::{NameIndex, ResolveError, Resolved, Want, name_in};
+use proto_names::{FoundType, NameIndex, Want, name_in};
 use std::alloc::{AllocError, Global};
 
 /// The scope of what stands at the top of a file.
@@ -37,12 +37,12 @@ fn file_scope<'d>(declared: &'d Option<PackageDesc>) -> &'d str
 /// What a name means of which this was found, where such a type is wanted, with these options.
 fn meaning_by(
     alloc: Global,
-    found: &Option<Resolved>,
+    found: Option<FoundType>,
     place: Place,
     want: Want,
     options: &[OptionDesc],
 ) -> Result<Meaning, AllocError>
-    ensures { IfOk result (IsMeaningBy want found.now place options.now) }
+    ensures { IfOk result (IsMeaningBy want found.entry place options.now) }
 {
     let kind = match found {
         Some(found) if want == Want::AnyType || found.kind == NameKind::Message => {
@@ -66,29 +66,10 @@ pub(crate) struct Finder<'i> {
 }
 
 impl<'i> Finder<'i> {
-    /// The type that a name means in a scope, if any.
-    fn type_named(&self, scope: &str, text: &str) -> Result<Option<Resolved>, AllocError>
-        ensures { IfOk result (IsNamed self.now.index.now.occurrences
-            (SeenBy self.now.links.now self.now.file) scope.now text.now) }
-    {
-        match self.index.resolve(
-            self.alloc,
-            self.links,
-            self.file,
-            scope,
-            text,
-            Want::AnyType,
-        ) {
-            Ok(found) => Ok(Some(found)),
-            Err(ResolveError::TypeNotFound | ResolveError::TypeNotMessage) => Ok(None),
-            Err(ResolveError::NoMemory) => Err(AllocError),
-        }
-    }
-
     /// What a name means in a scope of which names are recalled, where such a type is wanted, with these options.
     fn meaning<'d>(
         &self,
-        scope: &str,
+        scope: &'d str,
         text: &'d str,
         place: Place,
         want: Want,
@@ -104,10 +85,10 @@ impl<'i> Finder<'i> {
             (SeenBy self.now.links.now self.now.file) scope.now recalled.new.items) }
     {
         if let Some(one) = recalled_as(recalled, text) {
-            return meaning_by(self.alloc, &one.found, place, want, options);
+            return meaning_by(self.alloc, one.found, place, want, options);
         }
-        let found = self.type_named(scope, text)?;
-        let meaning = meaning_by(self.alloc, &found, place, want, options)?;
+        let found = self.index.find_type(self.links, self.file, scope, text);
+        let meaning = meaning_by(self.alloc, found, place, want, options)?;
         remember(
             recalled,
             Recalled {
@@ -121,7 +102,7 @@ impl<'i> Finder<'i> {
     /// The name of a type, in a scope of which names are recalled.
     fn reference<'d>(
         &self,
-        scope: &str,
+        scope: &'d str,
         reference: &'d TypeReference,
         want: Want,
         options: &[OptionDesc],
@@ -147,7 +128,7 @@ impl<'i> Finder<'i> {
 
     fn field<'d>(
         &self,
-        scope: &str,
+        scope: &'d str,
         field: &'d FieldDesc,
         recalled: &mut Vec<Recalled<'d>>,
         found: &mut Found,
@@ -226,7 +207,7 @@ impl<'i> Finder<'i> {
     /// A method of the service of this full name, of which names are recalled.
     fn method<'d>(
         &self,
-        service: &str,
+        service: &'d str,
         method: &'d MethodDesc,
         recalled: &mut Vec<Recalled<'d>>,
         found: &mut Found,

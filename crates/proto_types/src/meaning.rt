@@ -1,6 +1,7 @@
 //! What one name of a type means, or what is wrong with it.
 
 ghost use Rattle.std.specs.Prelude.{◌≡◌, ◌↔◌, IsTrue, ◌∷◌, IfOk, string_bytes};
+ghost use Rattle.proto_desc.specs.DeclaredNames.{scoped};
 ghost use Rattle.proto_base.specs.Least.{IsLeast};
 ghost use Rattle.proto_base.specs.Sets.{Each};
 ghost use Rattle.proto_types.specs.References.{IsPacked};
@@ -10,7 +11,7 @@ use proto_base::{Kind, Spot, lesser};
 use proto_desc::name_kind::NameKind;
 use proto_desc::options::{OptionDesc, OptionValue};
 use proto_desc::type_name::TypeKind;
-use proto_names::Resolved;
+use proto_names::{FoundType, push_name};
 use std::alloc::{AllocError, Global};
 
 /// A type that a file names.
@@ -66,24 +67,25 @@ fn packed_fault(options: &[OptionDesc]) -> Option<Spot>
     first
 }
 
-/// A full name behind a leading dot.
-fn absolute(alloc: Global, full_name: &str) -> Result<String, AllocError>
-    ensures { IfOk result (λ absolute. string_bytes absolute ≡ 46 ∷ full_name.now) }
+/// The full name of a name in a scope, behind a leading dot.
+fn absolute(alloc: Global, scope: &str, name: &str) -> Result<String, AllocError>
+    ensures { IfOk result (λ absolute. string_bytes absolute ≡ 46 ∷ scoped scope.now name.now) }
 {
-    let mut absolute = String::with_capacity(alloc, full_name.len().saturating_add(1))?;
+    let room = scope.len().saturating_add(name.len()).saturating_add(2);
+    let mut absolute = String::with_capacity(alloc, room)?;
     absolute.push_str(".")?;
-    absolute.push_str(full_name)?;
+    push_name(&mut absolute, scope, name)?;
     Ok(absolute)
 }
 
 /// What a name was found to be, as the type of a field with these options.
 pub(crate) fn meaning_of(
     alloc: Global,
-    found: &Resolved,
+    found: FoundType,
     options: &[OptionDesc],
 ) -> Result<Meaning, AllocError>
-    ensures { IfOk result (IsNaming (string_bytes found.now.full_name) (type_kind_of found.now.kind)
-        options.now) }
+    ensures { IfOk result (IsNaming (scoped found.entry.scope.now found.entry.name.now)
+        (type_kind_of found.entry.kind) options.now) }
 {
     let kind = type_kind(found.kind);
     let fault = match kind {
@@ -93,7 +95,7 @@ pub(crate) fn meaning_of(
     match fault {
         Some(fault) => Ok(Meaning::Wrong(fault)),
         None => Ok(Meaning::Named(NamedType {
-            full_name: absolute(alloc, found.full_name.as_str())?,
+            full_name: absolute(alloc, found.scope, found.name)?,
             kind,
         })),
     }

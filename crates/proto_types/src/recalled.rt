@@ -3,14 +3,14 @@
 ghost use Rattle.std.specs.Prelude.{◌≡◌, OnOk, bytes_eq, find, option_map};
 ghost use Rattle.proto_types.specs.Recalling.{Remembers};
 
-use proto_names::Resolved;
+use proto_names::FoundType;
 use std::alloc::AllocError;
 
 /// A name as it is spelled, and the type that it means, if any.
 #[derive(Drop)]
 pub(crate) struct Recalled<'d> {
     pub(crate) spelled: &'d str,
-    pub(crate) found: Option<Resolved>,
+    pub(crate) found: Option<FoundType<'d>>,
 }
 
 /// How many names are recalled at a time. A scope seldom has more, and so few are compared one by one.

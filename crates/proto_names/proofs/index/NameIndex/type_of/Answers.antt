@@ -1,15 +1,27 @@
-use Rattle.std.proofs.Common.{◌∙◌, sym, arith}
-use Rattle.std.proofs.lemmas.Grind.{common_steps}
-use Rattle.std.proofs.lemmas.Bool.{false≢true}
-use Rattle.proto_names.specs.Resolution.{message, enumeration}
+use Rattle.std.proofs.Common.{◌≡◌, sym, ap, subst, List, get_or, arith}
+use Rattle.std.specs.Prelude.{MatchOption}
+use Rattle.std.proofs.lemmas.List.{get_or_default}
+use Rattle.proto_desc.specs.DeclaredNames.{scoped}
+use Rattle.proto_names.specs.Index.{Index}
+use Rattle.proto_names.specs.Occurrences.{Occurrence}
+use Rattle.proto_names.specs.Resolution.{IsType, SeenBy}
+use Rattle.proto_names.specs.Steps.{IsNoType}
+use Rattle.proto_names.proofs.Looking.{type_visible}
 use Rattle.proto_names.proofs.index.NameIndex.type_of.Goals as goal
 
-pub returns-then-is_visible : goal.returns-then-is_visible
-returns-then-is_visible c = message (c.is_visible.ensures.0 c.if-is_visible.true)
+pub type_among-requires-clause-entries : goal.type_among-requires-clause-entries
+type_among-requires-clause-entries c k d below =
+    let names = c.named.result.names in
+    let here = c.named.ensures.found (get_or names k d) (k, below, get_or_default names k (get_or names k d) d below) in
+    let inside = c.self.invariant.0.inside _ here.0 in
+    let files = ap (λ (index : Index). index.files) c.self.view_is in
+    omega (arith, inside, files, c.requires.links)
 
-pub returns-then-is_visible-2 : goal.returns-then-is_visible-2
-returns-then-is_visible-2 c =
-    enumeration (c.is_visible-else-is_visible.ensures.0 c.if-is_visible-2.true) (λ v. false≢true (sym c.if-is_visible.false ∙ c.is_visible.ensures.1 v))
-
-pub returns-else-is_visible-2 : goal.returns-else-is_visible-2
-returns-else-is_visible-2 c = grind (arith, common_steps)
+pub returns : goal.returns
+returns c =
+    let seen = SeenBy c.args.links.now c.args.file in
+    let name = scoped c.args.scope.text.now c.args.name.now in
+    let found = c.type_among.result in
+    subst (λ (os : List Occurrence). MatchOption found (IsNoType os seen name) (IsType os seen name))
+    (ap (λ (index : Index). index.occurrences) c.self.view_is)
+    (type_visible c.self.inside.entries seen name c.named.result.names c.named.ensures.found c.named.ensures.all found c.type_among.ensures)

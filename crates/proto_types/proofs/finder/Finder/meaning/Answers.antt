@@ -24,11 +24,11 @@ returns-clause-meaning c =
     let self = c.args.self.now in
     let a = c.args in
     meaning_by self.index.now.occurrences (SeenBy self.links.now self.file) a.scope.now a.text.now a.place a.want a.options.now
-    c.in_ok-found.found c.in_ok-meaning.meaning c.in_ok-found.ensures c.in_ok-meaning.ensures
+    c.find_type-found.result c.in_ok-meaning.meaning c.find_type-found.ensures c.in_ok-meaning.ensures
 
 pub returns-clause-recalled : goal.returns-clause-recalled
 returns-clause-recalled c =
     let self = c.args.self.now in
     let a = c.args in
     recalled_more self.index.now.occurrences (SeenBy self.links.now self.file) a.scope.now _ a.recalled.now.items
-    c.remember.new.recalled.items c.requires c.in_ok-found.ensures c.in_ok-remember.ensures
+    c.remember.new.recalled.items c.requires c.find_type-found.ensures c.in_ok-remember.ensures
