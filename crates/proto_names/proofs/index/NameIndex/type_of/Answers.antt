@@ -1,4 +1,4 @@
-use Rattle.std.proofs.Common.{◌≡◌, sym, ap, subst, List, get_or, arith}
+use Rattle.std.proofs.Common.{ap, subst, List, get_or, arith}
 use Rattle.std.specs.Prelude.{MatchOption}
 use Rattle.std.proofs.lemmas.List.{get_or_default}
 use Rattle.proto_desc.specs.DeclaredNames.{scoped}
