@@ -5,7 +5,7 @@ use Rattle.proto_desc.specs.declared.rules.Element.{Element}
 use Rattle.proto_desc.specs.declared.rules.OptionRule.{OptionRule}
 use Rattle.proto_desc.specs.Rules.{Rule, rule_of, rules_of}
 
-mapped : {A B : Type 0} (test : B → Bool) (view : A → B) (xs : List A)
+pub mapped : {A B : Type 0} (test : B → Bool) (view : A → B) (xs : List A)
     → list_any (λ x. test (view x)) xs ≡ list_any test (map view xs)
 mapped test view [] = refl
 mapped test view (x ∷ xs) = ap (λ b. test (view x) || b) (mapped test view xs)

@@ -1,5 +1,6 @@
 pub mod AnyRow
 pub mod Empty
+pub mod Few
 pub mod Halves
 pub mod Hits
 pub mod Intervals

@@ -13,7 +13,7 @@ ghost use Rattle.proto_base.specs.Sets.{Each};
 ghost use Rattle.proto_desc.specs.declared.rules.Element.{Element};
 ghost use Rattle.proto_tree.specs.declared.option.Setting.{Setting};
 
-use crate::marks::MarkedText;
+use crate::marks::{HasText, MarkedText};
 use crate::repeats::first_text_twice;
 use proto_base::text::Text;
 use proto_base::{Kind, Place, Spot, lesser};
@@ -131,20 +131,15 @@ pub(crate) fn judge<'s>(
     })
 }
 
-fn names<'t, 's>(
-    alloc: Global,
-    settings: &'t [Judged<'s>],
-) -> Result<Vec<MarkedText<'t>>, AllocError>
-    ensures { IfOk result (λ names. names.items ≡ map judged_name settings.now) }
-{
-    let mut names = Vec::new(alloc);
-    for setting in settings {
-        names.push(MarkedText {
-            text: setting.name.as_str(),
-            place: setting.place,
-        })?;
+impl<'s> HasText for Judged<'s> {
+    ghost mark = { judged_name };
+
+    fn marked_text(&self) -> MarkedText<'_> {
+        MarkedText {
+            text: self.name.as_str(),
+            place: self.place,
+        }
     }
-    Ok(names)
 }
 
 /// The first fault that a setting has by itself.
@@ -162,11 +157,7 @@ fn own_fault(settings: &[Judged]) -> Option<Spot>
 fn option_twice(alloc: Global, settings: &[Judged]) -> Result<Option<Spot>, AllocError>
     ensures { IfOk result (λ first. IsLeast (JudgedTwice settings.now) first) }
 {
-    if settings.len() < 2 {
-        return Ok(None);
-    }
-    let names = names(alloc, settings)?;
-    first_text_twice(alloc, Kind::OptionTwice, &names)
+    first_text_twice(alloc, Kind::OptionTwice, settings)
 }
 
 /// The first fault of an element's settings.
