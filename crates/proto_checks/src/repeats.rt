@@ -1,6 +1,6 @@
 //! Numbers and texts that stand more than once in a list.
 
-ghost use Rattle.std.specs.Prelude.{◌≡◌, IfOk, map, bytes_eq};
+ghost use Rattle.std.specs.Prelude.{◌≡◌, IfOk, map, bytes_eq, nat_eq};
 ghost use Rattle.std.specs.List.{list_any};
 ghost use Rattle.proto_base.specs.Least.{IsLeast};
 ghost use Rattle.proto_checks.specs.Marks.{NumberTwice, TextTwice};
@@ -13,6 +13,31 @@ use std::collections::BTreeSet;
 /// Up to so many are compared one by one. This takes no memory, and of so few less time than a set.
 pub(crate) const FEW: usize = 32;
 
+/// Whether a number is one of these.
+fn number_stands_in(numbers: &[MarkedNumber], number: u128) -> bool
+    ensures { result ≡ list_any (λ a. nat_eq a.number number) numbers.now }
+{
+    numbers.iter().any(|marked| marked.number == number)
+}
+
+/// The first number that an earlier one equals, each compared with all before it.
+fn first_of_few_numbers_twice(kind: Kind, numbers: &[MarkedNumber]) -> Option<Spot>
+    ensures { IsLeast (NumberTwice kind numbers.now) result }
+{
+    let mut first = None;
+    for index in 0..numbers.len() {
+        let marked = numbers[index];
+        if number_stands_in(&numbers[..index], marked.number) {
+            let here = Some(Spot {
+                place: marked.place,
+                kind,
+            });
+            first = lesser(first, here);
+        }
+    }
+    first
+}
+
 /// The first number that an earlier one equals.
 pub(crate) fn first_number_twice(
     alloc: Global,
@@ -24,6 +49,9 @@ pub(crate) fn first_number_twice(
     // Most lists rise, and those repeat nothing.
     if numbers.is_sorted_by(|a, b| a.number < b.number) {
         return Ok(None);
+    }
+    if numbers.len() <= FEW {
+        return Ok(first_of_few_numbers_twice(kind, numbers));
     }
     let mut seen = BTreeSet::new(alloc);
     let mut first = None;
