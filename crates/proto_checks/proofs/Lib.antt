@@ -1,4 +1,3 @@
-pub mod AnyRow
 pub mod Empty
 pub mod Few
 pub mod Halves
@@ -11,5 +10,6 @@ pub mod Named
 pub mod Packages
 pub mod Rising
 pub mod Settling
+pub mod Tested
 pub mod Three
 pub mod Whole

@@ -20,9 +20,9 @@ loop-index-preserved c =
     let told = λ (a : MarkedNumber). Decides-eqb a.number here.number in
     let stands = item_at ns n no_number (omega arith) in
     elim c.if-number_stands_in.branch [
-      | then-number_stands_in w ↦ rw w.first-is (few_clash ns same at test n here c.loop-index.first w.lesser-first.result
-          told stands (sym c.number_stands_in.ensures ∙ w.if-number_stands_in.true) c.loop-index.invariant
-          w.lesser-first.ensures)
+      | then-number_stands_in w ↦ rw w.first-is (few_clash ns same at test n here c.loop-index.first
+          w.lesser-first.result told stands (sym c.number_stands_in.ensures ∙ w.if-number_stands_in.true)
+          c.loop-index.invariant w.lesser-first.ensures)
       | else-number_stands_in w ↦ rw w.first-is (few_skip ns same at test n here c.loop-index.first told stands
           (sym c.number_stands_in.ensures ∙ w.if-number_stands_in.false) c.loop-index.invariant)
     ]

@@ -28,8 +28,9 @@ loop-index-preserved g c =
     let asked : c.text_stands_in.result ≡ list_any test (take n ts) =
     c.text_stands_in.ensures ∙ ap (list_any test) (sym (take-map mark n items)) in
     elim c.if-text_stands_in.branch [
-      | then-text_stands_in w ↦ rw w.first-is (few_clash ts same at test n here c.loop-index.first w.lesser-first.result told
-          stands (sym asked ∙ w.if-text_stands_in.true) c.loop-index.invariant w.lesser-first.ensures)
+      | then-text_stands_in w ↦ rw w.first-is (few_clash ts same at test n here c.loop-index.first
+          w.lesser-first.result told stands (sym asked ∙ w.if-text_stands_in.true)
+          c.loop-index.invariant w.lesser-first.ensures)
       | else-text_stands_in w ↦ rw w.first-is (few_skip ts same at test n here c.loop-index.first told stands
           (sym asked ∙ w.if-text_stands_in.false) c.loop-index.invariant)
     ]

@@ -20,13 +20,15 @@ loop-item-preserved g c =
     let text_of = λ (a : Marked). a.text in
     let stands : StandsAt ts n here = subst (StandsAt ts n) (sym (c.marked.view_is ∙ c.marked_text-marked.ensures))
     (stands_made mark c.args.items.now n c.item-item.result (omega arith) c.item-item.is) in
+    let stored = c.in_ok-insert.ensures.updates in
+    let added = c.in_ok-insert.ensures.added in
     elim c.if-not-branch.branch [
-      | then-not-branch w ↦ rw w.first-is (passed_clash text_cmp (λ k. k.now) text_of at ts c.loop-item.seen c.insert.new.self
-          n here key c.loop-item.first w.lesser-first.result exact_text stands refl c.in_ok-insert.ensures.updates
-          (not-false _ (sym c.in_ok-insert.ensures.added ∙ w.if-not-branch.true)) c.loop-item.invariant w.lesser-first.ensures)
-      | else-not-branch w ↦ rw w.first-is (passed_skip text_cmp (λ k. k.now) text_of at ts c.loop-item.seen c.insert.new.self
-          n here key c.loop-item.first exact_text stands refl c.in_ok-insert.ensures.updates
-          (not-true _ (sym c.in_ok-insert.ensures.added ∙ w.if-not-branch.false)) c.loop-item.invariant)
+      | then-not-branch w ↦ rw w.first-is (passed_clash text_cmp (λ k. k.now) text_of at ts c.loop-item.seen
+          c.insert.new.self n here key c.loop-item.first w.lesser-first.result exact_text stands refl stored
+          (not-false _ (sym added ∙ w.if-not-branch.true)) c.loop-item.invariant w.lesser-first.ensures)
+      | else-not-branch w ↦ rw w.first-is (passed_skip text_cmp (λ k. k.now) text_of at ts c.loop-item.seen
+          c.insert.new.self n here key c.loop-item.first exact_text stands refl stored
+          (not-true _ (sym added ∙ w.if-not-branch.false)) c.loop-item.invariant)
     ]
 
 pub returns : goal.returns

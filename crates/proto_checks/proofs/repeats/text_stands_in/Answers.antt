@@ -3,7 +3,7 @@ use Rattle.std.specs.Prelude.{bytes_eq}
 use Rattle.std.proofs.lemmas.Iterator.{YieldsList-from_slice}
 use Rattle.std.proofs.lemmas.Iterator.Search.{any_from_yields_List}
 use Rattle.proto_checks.specs.Marks.{Marked}
-use Rattle.proto_checks.proofs.AnyRow.{mapped}
+use Rattle.proto_checks.proofs.Tested.{mapped}
 use Rattle.proto_checks.proofs.repeats.text_stands_in.Goals as goal
 
 pub returns : goal.returns
