@@ -13,6 +13,9 @@ use std::collections::BTreeSet;
 /// Up to so many are compared one by one. This takes no memory, and of so few less time than a set.
 pub(crate) const FEW: usize = 32;
 
+/// The slots for lengths of texts. Of few texts, few share one.
+const SLOTS: usize = 64;
+
 /// Whether a number is one of these.
 fn number_stands_in(numbers: &[MarkedNumber], number: u128) -> bool
     ensures { result ≡ list_any (λ a. nat_eq a.number number) numbers.now }
@@ -20,7 +23,7 @@ fn number_stands_in(numbers: &[MarkedNumber], number: u128) -> bool
     numbers.iter().any(|marked| marked.number == number)
 }
 
-/// The first number that an earlier one equals, each compared with all before it.
+/// The first number that an earlier one equals, each looked for among those before it.
 fn first_of_few_numbers_twice(kind: Kind, numbers: &[MarkedNumber]) -> Option<Spot>
     ensures { IsLeast (NumberTwice kind numbers.now) result }
 {
@@ -74,20 +77,24 @@ fn text_stands_in<T: HasText>(items: &[T], text: &str) -> bool
     items.iter().any(|item| item.marked_text().text == text)
 }
 
-/// The first text that an earlier one equals, each compared with all before it.
+/// The first text that an earlier one equals, each looked for among those before it.
 fn first_of_few_texts_twice<T: HasText>(kind: Kind, items: &[T]) -> Option<Spot>
     ensures { IsLeast (TextTwice kind (map T.mark items.now)) result }
 {
     let mut first = None;
+    // Most differ in length from all before them, and need no look at those.
+    let mut is_taken = [false; SLOTS];
     for index in 0..items.len() {
         let marked = items[index].marked_text();
-        if text_stands_in(&items[..index], marked.text) {
+        let slot = marked.text.len() % SLOTS;
+        if is_taken[slot] && text_stands_in(&items[..index], marked.text) {
             let here = Some(Spot {
                 place: marked.place,
                 kind,
             });
             first = lesser(first, here);
         }
+        is_taken[slot] = true;
     }
     first
 }

@@ -15,7 +15,8 @@ returns-in-Some c =
     let n = c.args.number in
     let cover = rw c.in-Some.is at c.requires in
     let told = rw c.deref.ensures.value at c.is_reached.ensures in
-    (λ h. used_of rs c.in-Some.cover.items n cover (told.0 h), λ used. told.1 (of_used rs c.in-Some.cover.items n cover used))
+    let intervals = c.in-Some.cover.items in
+    (λ h. used_of rs intervals n cover (told.0 h), λ used. told.1 (of_used rs intervals n cover used))
 
 pub returns-in-None : goal.returns-in-None
 returns-in-None c =
@@ -26,7 +27,8 @@ returns-in-None c =
     (YieldsList-from_slice rs cc) (λ r b q k. search (rules, tests)) in (
       λ h. let found = Any-from_list_any test rs (sym asked ∙ h) in
           let parts = and_parts (leb found.1.start n) (leb n found.1.end) found.4 in
-          (found.0, found.1, (found.2, found.3), ((leb_iff found.1.start n).0 parts.0, (leb_iff n found.1.end).0 parts.1)),
+          let r = found.1 in
+          (found.0, r, (found.2, found.3), ((leb_iff r.start n).0 parts.0, (leb_iff n r.end).0 parts.1)),
       λ (i, r, there, held). asked ∙ list_any-from_Any test rs (
         i,
         r,
