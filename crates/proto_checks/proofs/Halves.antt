@@ -4,10 +4,10 @@ use Rattle.std.specs.Prelude.{Option}
 use Rattle.proto_base.specs.declared.spot.Spot.{Spot}
 use Rattle.proto_checks.specs.declared.covers.Interval.{Interval}
 use Rattle.proto_checks.specs.declared.marks.MarkedRange.{MarkedRange}
-use Rattle.proto_checks.specs.Covers.{IsCover, IsAcross, Reached}
+use Rattle.proto_checks.specs.Covers.{IsCover, IsAcross, IsUsed, Reached}
 use Rattle.proto_base.specs.Least.{IsLeast}
 use Rattle.proto_base.specs.Lesser.{IsLesser}
-use Rattle.proto_checks.specs.Marks.{Holds, Share, ReservedOverlap}
+use Rattle.proto_checks.specs.Marks.{Share, ReservedOverlap}
 use Rattle.proto_base.specs.Sets.{◌∪◌, StandsAt, Each}
 use Rattle.proto_base.proofs.Sets.{least_union, least_same}
 
@@ -57,10 +57,6 @@ pub halves_least : (xs ys zs : List MarkedRange) (a b p c r : Option Spot) → z
     → IsLesser a b p → IsLeast (Each ys (IsAcross xs)) c → IsLesser p c r → IsLeast (ReservedOverlap zs) r
 halves_least xs ys zs a b p c r e h k l m o = rw e (least_same (Halves xs ys) (ReservedOverlap (xs ++ ys)) r (halves_of xs ys) (of_halves xs ys)
     (least_union (least_union h k l) m o))
-
--- a range holds n
-abbrev pub IsUsed : List MarkedRange → ℕ → Type 0
-IsUsed rs n = (i : ℕ) × (r : MarkedRange) × StandsAt rs i r × Holds r n
 
 pub used_of : (rs : List MarkedRange) (cover : List Interval) (n : ℕ) → IsCover rs cover → Reached cover n n → IsUsed rs n
 used_of rs cover n h w =

@@ -1,5 +1,5 @@
-pub mod AnyRow
 pub mod Empty
+pub mod Few
 pub mod Halves
 pub mod Hits
 pub mod Intervals
@@ -10,5 +10,6 @@ pub mod Named
 pub mod Packages
 pub mod Rising
 pub mod Settling
+pub mod Tested
 pub mod Three
 pub mod Whole

@@ -1,92 +1,140 @@
 -- Settings by the rules of their element.
-use Rattle.std.proofs.Common.{◌≡◌, ◌∙◌, sym, Bool, true, false, List, map, ap, refl, subst, inl, inr}
-use Rattle.std.proofs.lemmas.Bool.{true≢false, false≢true, both_ways, and_from, and_parts, false_from_ne_true, true_from_ne_false}
-use Rattle.std.specs.Prelude.{not, Option, Some, None, Contains}
-use Rattle.std.specs.List.{list_any}
-use Rattle.std.specs.Option.{is_some}
-use Rattle.std.proofs.lemmas.List.Folds.{Any-from_list_any, list_any-from_Any}
+use Rattle.std.proofs.Common.{◌≡◌, ◌∙◌, sym, ap, refl, subst, inl, inr, arith, ℕ, zero, suc, ◌<◌}
+use Rattle.std.proofs.Common.{Bool, true, false, ◌&&◌, cond, List, [], ◌∷◌, map, length, get_or}
+use Rattle.std.proofs.lemmas.Bool.{false≢true, both_ways, and_parts, cond-true, cond-false, not-true}
+use Rattle.std.specs.Prelude.{not, Option, Some, None, Contains, bytes_eq}
+use Rattle.std.specs.List.{find, list_any}
+use Rattle.std.specs.Option.{option_map, unwrap_or}
+use Rattle.std.proofs.lemmas.List.Folds.{list_any-from_Any}
+use Rattle.std.proofs.lemmas.Slice.Eq.{bytes_eq-Decides}
 use Rattle.proto_base.specs.declared.kind.Kind.TheVariants as kind
 use Rattle.proto_tree.specs.declared.option.Setting.{Setting}
+use Rattle.proto_tree.specs.Text.{dotted, simple_name}
+use Rattle.proto_desc.specs.declared.options.OptionValue.{OptionValue}
 use Rattle.proto_desc.specs.declared.rules.Element.{Element}
-use Rattle.proto_options.specs.Options.{is_setting, value_of}
-use Rattle.proto_desc.specs.Rules.{rules_of}
+use Rattle.proto_desc.specs.declared.rules.Element.TheVariants as element
+use Rattle.proto_options.specs.Options.{value_of}
+use Rattle.proto_desc.specs.Rules.{Rule, rules_of}
 use Rattle.proto_base.specs.Least.{IsLeast, spot}
 use Rattle.proto_base.specs.Lesser.{IsLesser}
-use Rattle.proto_checks.specs.Options.{name_place, value_place, IsUnknown, IsMistaken, SettingBreaks, OptionTwice, SettingsBreak}
-use Rattle.proto_checks.specs.Judged.{is_known, is_known_by, is_mistaken, is_mistaken_by, setting_fault, judged, IsFaultOf, JudgedTwice}
+use Rattle.proto_checks.specs.Options.{name_place, value_place, SettingBreaks, OptionTwice, SettingsBreak}
+use Rattle.proto_checks.specs.Judged.{is_known_by, rule_named, fault_under, setting_fault}
+use Rattle.proto_checks.specs.Judged.{judged, IsFaultOf, JudgedTwice}
 use Rattle.proto_base.specs.Sets.{Each}
 use Rattle.proto_checks.specs.declared.options.Judged.{Judged}
 use Rattle.proto_base.specs.declared.spot.Spot.{Spot}
-use Rattle.proto_base.proofs.Among.{each_on, later_map}
-use Rattle.proto_base.proofs.Sets.{least_union}
+use Rattle.proto_base.proofs.Among.{each_on, later_map, later_short, least_single}
+use Rattle.proto_base.proofs.Sets.{least_known, least_union, lesser_none}
 
--- what a test of each element says
-pub none_of : {X : Type 0} (p : X → Bool) (xs : List X) (a : X) → list_any p xs ≡ false → Contains xs a → p a ≡ false
-none_of p xs a none held =
-    false_from_ne_true (p a) (λ h. both_ways (list_any p xs) none (list_any-from_Any p xs (held.0, a, held.1, held.2, h)))
+-- no two of these rules have one word
+abbrev differ : List Rule → Bool
+differ [] = true
+differ (r ∷ rs) = not (list_any (λ (q : Rule). bytes_eq r.word q.word) rs) && differ rs
 
-pub some_of : {X : Type 0} (p : X → Bool) (xs : List X) → list_any p xs ≡ true → (a : X) × Contains xs a × (p a ≡ true)
-some_of p xs any = let w = Any-from_list_any p xs any in (w.1, (w.0, w.2, w.3), w.4)
+words_differ : (e : Element) → differ (rules_of e) ≡ true
+words_differ element.File = refl
+words_differ element.Message = refl
+words_differ element.Field = refl
+words_differ element.Oneof = refl
+words_differ element.Enum = refl
+words_differ element.EnumValue = refl
+words_differ element.Service = refl
+words_differ element.Method = refl
 
-no_value : {X : Type 0} (o : Option X) → not (is_some o) ≡ true → o ≡ None
-no_value None h = refl
-no_value (Some x) h = absurd (false≢true h)
+one_word : (o : Option (List ℕ)) (v w : List ℕ) → unwrap_or (option_map (λ n. bytes_eq n v) o) false ≡ true
+    → unwrap_or (option_map (λ n. bytes_eq n w) o) false ≡ true → bytes_eq v w ≡ true
+one_word None v w h k = absurd (false≢true h)
+one_word (Some n) v w h k =
+    (bytes_eq-Decides v w).1 (sym ((bytes_eq-Decides n v).0 h) ∙ (bytes_eq-Decides n w).0 k)
 
-unknown_by : (e : Element) (s : Setting) → is_known e s ≡ false → IsUnknown e s
-unknown_by e s h r held = none_of (is_known_by s) (rules_of e) r h held
+passed_over : (s : Setting) (r : Rule) (rs : List Rule) (q : Rule) (b : Bool) → is_known_by s r ≡ b
+    → list_any (λ (p : Rule). bytes_eq r.word p.word) rs ≡ false → Contains rs q → is_known_by s q ≡ true
+    → find (is_known_by s) rs ≡ Some q → cond b (Some r) (find (is_known_by s) rs) ≡ Some q
+passed_over s r rs q true h none held named found =
+    let same = one_word (simple_name s.name.rest s.name.first) r.word q.word h named in
+    absurd (both_ways (list_any (λ (p : Rule). bytes_eq r.word p.word) rs) none
+    (list_any-from_Any (λ (p : Rule). bytes_eq r.word p.word) rs (held.0, q, held.1, held.2, same)))
+passed_over s r rs q false h none held named found = found
 
-mistaken_by : (e : Element) (s : Setting) → is_mistaken e s ≡ true → IsMistaken e s
-mistaken_by e s h =
-    let w = some_of (is_mistaken_by s) (rules_of e) h in
-    let parts = and_parts (is_setting w.0.word s) _ w.2 in (w.0, w.1, parts.0, no_value (value_of w.0.kind s.value) parts.1)
+-- a rule of the setting's name is the one that is found
+found_only : (s : Setting) (rs : List Rule) (i : ℕ) (q : Rule) → differ rs ≡ true → i < length rs → get_or rs i q ≡ q
+    → is_known_by s q ≡ true → find (is_known_by s) rs ≡ Some q
+found_only s [] i q apart below at named = absurd (omega arith)
+found_only s (r ∷ rs) zero q apart below at named =
+    cond-true (is_known_by s r) (Some r) (find (is_known_by s) rs) (ap (is_known_by s) at ∙ named) ∙ ap Some at
+found_only s (r ∷ rs) (suc i) q apart below at named =
+    let parts = and_parts (not (list_any (λ (p : Rule). bytes_eq r.word p.word) rs)) (differ rs) apart in
+    let inside : i < length rs = omega arith in
+    passed_over s r rs q (is_known_by s r) refl (not-true _ parts.0) (i, inside, at) named
+    (found_only s rs i q parts.1 inside at named)
 
-known_not_unknown : (e : Element) (s : Setting) → is_known e s ≡ true → IsUnknown e s → ⊥
-known_not_unknown e s h u = let w = some_of (is_known_by s) (rules_of e) h in true≢false (sym w.2 ∙ u w.0 w.1)
+none_by : {X : Type 0} (b : Bool) (x : X) (o : Option X) → cond b (Some x) o ≡ None → (b ≡ false) × (o ≡ None)
+none_by true x o e = absurd (cc)
+none_by false x o e = (refl, e)
 
-not_mistaken : (e : Element) (s : Setting) → is_mistaken e s ≡ false → IsMistaken e s → ⊥
-not_mistaken e s h m =
-    let passes : is_mistaken_by s m.0 ≡ true = and_from (is_setting m.0.word s) (not (is_some (value_of m.0.kind s.value))) m.2 (rw m.3 refl) in
-    true≢false (sym passes ∙ none_of (is_mistaken_by s) (rules_of e) m.0 h m.1)
+none_found : {X : Type 0} (p : X → Bool) (xs : List X) (i : ℕ) (a : X) → find p xs ≡ None → i < length xs
+    → get_or xs i a ≡ a → p a ≡ false
+none_found p [] i a e below at = absurd (omega arith)
+none_found p (x ∷ xs) zero a e below at = ap p (sym at) ∙ (none_by (p x) x (find p xs) e).0
+none_found p (x ∷ xs) (suc i) a e below at =
+    none_found p xs i a (none_by (p x) x (find p xs) e).1 (omega arith) at
 
-not_known : (e : Element) (s : Setting) → IsUnknown e s → is_known e s ≡ false
-not_known e s u = false_from_ne_true (is_known e s) (λ h. known_not_unknown e s h u)
+all_none : {X : Type 0} (p : X → Bool) (xs : List X) → ((a : X) → Contains xs a → p a ≡ false) → find p xs ≡ None
+all_none p [] h = refl
+all_none p (x ∷ xs) h = cond-false (p x) (Some x) (find p xs) (h x (0, omega arith, refl))
+    ∙ all_none p xs (λ a held. h a (suc held.0, omega (arith, held.1), held.2))
 
--- the test finds exactly what the rules say
-fault_unknown : (e : Element) (s : Setting) → is_known e s ≡ false → setting_fault e s ≡ Some (spot (name_place s) kind.UnknownOption)
+some_by : {X : Type 0} (p : X → Bool) (x : X) (xs : List X) (a : X) (b : Bool) → p x ≡ b
+    → cond b (Some x) (find p xs) ≡ Some a → (find p xs ≡ Some a → Contains xs a × (p a ≡ true))
+    → Contains (x ∷ xs) a × (p a ≡ true)
+some_by p x xs a true h e next = let same : x ≡ a = cc in ((0, omega arith, same), ap p (sym same) ∙ h)
+some_by p x xs a false h e next =
+    let w = next e in ((suc w.0.0, omega (arith, w.0.1), w.0.2), w.1)
+
+some_found : {X : Type 0} (p : X → Bool) (xs : List X) (a : X) → find p xs ≡ Some a → Contains xs a × (p a ≡ true)
+some_found p [] a e = absurd (cc)
+some_found p (x ∷ xs) a e = some_by p x xs a (p x) refl e (some_found p xs a)
+
+-- the rule that is found tells exactly what the rules say
+told : (e : Element) (s : Setting) (o : Option Rule) → rule_named e s ≡ o → setting_fault e s ≡ fault_under s o
 unfolding setting_fault
-fault_unknown e s h = rw h refl
+told e s o h = ap (fault_under s) h
 
-fault_mistaken : (e : Element) (s : Setting) → is_known e s ≡ true → is_mistaken e s ≡ true
-    → setting_fault e s ≡ Some (spot (value_place s.value) kind.BadOptionValue)
-unfolding setting_fault
-fault_mistaken e s h k = rw (h, k) refl
+mistaken : (s : Setting) (r : Rule) → value_of r.kind s.value ≡ None
+    → fault_under s (Some r) ≡ Some (spot (value_place s.value) kind.BadOptionValue)
+mistaken s r e = rw e refl
 
-fault_none : (e : Element) (s : Setting) → is_known e s ≡ true → is_mistaken e s ≡ false → setting_fault e s ≡ None
-unfolding setting_fault
-fault_none e s h k = rw (h, k) refl
-
-mistaken_by_test : (e : Element) (s : Setting) → IsMistaken e s → is_mistaken e s ≡ true
-mistaken_by_test e s m = true_from_ne_false (is_mistaken e s) (λ h. not_mistaken e s h m)
-
-mistaken_known : (e : Element) (s : Setting) → IsMistaken e s → is_known e s ≡ true
-mistaken_known e s m = true_from_ne_false (is_known e s) (λ h. true≢false (sym m.2 ∙ none_of (is_known_by s) (rules_of e) m.0 h m.1))
+taken : (s : Setting) (r : Rule) (v : OptionValue) → value_of r.kind s.value ≡ Some v → fault_under s (Some r) ≡ None
+taken s r v e = rw e refl
 
 fault_of : (e : Element) (s : Setting) (x : Spot) → SettingBreaks e s x → setting_fault e s ≡ Some x
-fault_of e s x (inl (u, at)) = fault_unknown e s (not_known e s u) ∙ ap Some (sym at)
-fault_of e s x (inr (m, at)) = fault_mistaken e s (mistaken_known e s m) (mistaken_by_test e s m) ∙ ap Some (sym at)
+fault_of e s x (inl (u, at)) = told e s None (all_none (is_known_by s) (rules_of e) u) ∙ ap Some (sym at)
+fault_of e s x (inr (m, at)) =
+    told e s (Some m.0) (found_only s (rules_of e) m.1.0 m.0 (words_differ e) m.1.1 m.1.2 m.2)
+    ∙ mistaken s m.0 m.3 ∙ ap Some (sym at)
 
 same_spot : (a b : Spot) → Some a ≡ Some b → a ≡ b
 same_spot a b e = cc
 
-breaks_by : (e : Element) (s : Setting) (x : Spot) (known wrong : Bool) → is_known e s ≡ known → is_mistaken e s ≡ wrong → setting_fault e s ≡ Some x
+ruled_by : (e : Element) (s : Setting) (x : Spot) (r : Rule) → Contains (rules_of e) r → is_known_by s r ≡ true
+    → (v : Option OptionValue) → value_of r.kind s.value ≡ v → fault_under s (Some r) ≡ Some x → SettingBreaks e s x
+ruled_by e s x r held named None none f = inr ((r, held, named, none), same_spot x _ (sym f ∙ mistaken s r none))
+ruled_by e s x r held named (Some v) some f = absurd (let no : Some x ≡ None = sym f ∙ taken s r v some in cc)
+
+breaks_by : (e : Element) (s : Setting) (x : Spot) (o : Option Rule) → rule_named e s ≡ o → setting_fault e s ≡ Some x
     → SettingBreaks e s x
-breaks_by e s x false wrong h k f = inl (unknown_by e s h, same_spot x _ (sym f ∙ fault_unknown e s h))
-breaks_by e s x true true h k f = inr (mistaken_by e s k, same_spot x _ (sym f ∙ fault_mistaken e s h k))
-breaks_by e s x true false h k f = absurd (let no : Some x ≡ None = sym f ∙ fault_none e s h k in cc)
+breaks_by e s x None h f = inl (
+  λ r held. none_found (is_known_by s) (rules_of e) held.0 r h held.1 held.2,
+  same_spot x _ (sym f ∙ told e s None h),
+)
+breaks_by e s x (Some r) h f =
+    let w = some_found (is_known_by s) (rules_of e) r h in
+    ruled_by e s x r w.0 w.1 (value_of r.kind s.value) refl (sym (told e s (Some r) h) ∙ f)
 
 pub setting_least : (e : Element) (ss : List Setting) (r : Option Spot) → IsLeast (Each (map (judged e) ss) IsFaultOf) r → IsLeast (Each ss (SettingBreaks e)) r
 setting_least e ss r h =
-    each_on (judged e) ss IsFaultOf (SettingBreaks e) r (λ s x f. breaks_by e s x (is_known e s) (is_mistaken e s) refl refl f) (fault_of e) h
+    each_on (judged e) ss IsFaultOf (SettingBreaks e) r (λ s x f. breaks_by e s x (rule_named e s) refl f)
+    (fault_of e) h
 
 pub twice_least : (e : Element) (ss : List Setting) (r : Option Spot) → IsLeast (JudgedTwice (map (judged e) ss)) r → IsLeast (OptionTwice ss) r
 twice_least e ss r h = later_map (λ (a b : Judged). a.name ≡ b.name) (λ b. spot b.place kind.OptionTwice) (judged e) ss r h
@@ -97,3 +145,10 @@ judged_least js a b r h k w e ss made =
     least_union
     (setting_least e ss a (subst (λ ys. IsLeast (Each ys IsFaultOf) a) made h))
     (twice_least e ss b (subst (λ ys. IsLeast (JudgedTwice ys) b) made k)) w
+
+pub one_least : (e : Element) (s : Setting) → IsLeast (SettingsBreak e (s ∷ [])) (setting_fault e s)
+one_least e s = least_union
+    (setting_least e (s ∷ []) (setting_fault e s)
+    (least_single IsFaultOf (judged e s) (setting_fault e s) (least_known (setting_fault e s))))
+    (later_short (s ∷ []) (λ (s t : Setting). dotted s.name ≡ dotted t.name)
+    (λ t. spot (name_place t) kind.OptionTwice) (omega arith)) (lesser_none (setting_fault e s))

@@ -43,6 +43,10 @@ pub record IsCover (rs : List MarkedRange) (cover : List Interval) : Type 0 wher
   pub ends : RisesByEnd cover
   pub reached : (n m : ℕ) → n ≤ m → Reached cover n m ↔ IsHeld rs n m
 
+-- a range holds n
+abbrev pub IsUsed : List MarkedRange → ℕ → Type 0
+IsUsed rs n = (i : ℕ) × (r : MarkedRange) × StandsAt rs i r × Holds r n
+
 -- a later range that shares a number with one of rs
 abbrev pub IsAcross : List MarkedRange → MarkedRange → Spot → Type 0
 IsAcross rs s x = ((i : ℕ) × (r : MarkedRange) × StandsAt rs i r × Share r s) × (x ≡ spot s.place kind.ReservedOverlap)

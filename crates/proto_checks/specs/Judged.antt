@@ -1,6 +1,6 @@
 -- A setting, judged by itself.
-use Rattle.std.specs.Prelude.{◌≡◌, Bool, ◌&&◌, not, List, Option, Some, None, if◌then◌else◌}
-use Rattle.std.specs.List.{list_any}
+use Rattle.std.specs.Prelude.{◌≡◌, Bool, List, Option, Some, None, if◌then◌else◌}
+use Rattle.std.specs.List.{find}
 use Rattle.std.specs.Option.{is_some}
 use Rattle.proto_base.specs.declared.kind.Kind.TheVariants as kind
 use Rattle.proto_tree.specs.declared.option.Setting.{Setting}
@@ -18,20 +18,19 @@ use Rattle.proto_base.specs.declared.spot.Spot.{Spot}
 abbrev pub is_known_by : Setting → Rule → Bool
 is_known_by s r = is_setting r.word s
 
-abbrev pub is_mistaken_by : Setting → Rule → Bool
-is_mistaken_by s r = is_setting r.word s && not (is_some (value_of r.kind s.value))
+-- the rule of its name
+abbrev pub rule_named : Element → Setting → Option Rule
+rule_named e s = find (is_known_by s) (rules_of e)
 
-abbrev pub is_known : Element → Setting → Bool
-is_known e s = list_any (is_known_by s) (rules_of e)
-
-abbrev pub is_mistaken : Element → Setting → Bool
-is_mistaken e s = list_any (is_mistaken_by s) (rules_of e)
+-- what it breaks under this rule
+abbrev pub fault_under : Setting → Option Rule → Option Spot
+fault_under s None = Some (spot (name_place s) kind.UnknownOption)
+fault_under s (Some r) =
+    if is_some (value_of r.kind s.value) then None else Some (spot (value_place s.value) kind.BadOptionValue)
 
 -- what it breaks
 unfoldable pub setting_fault : Element → Setting → Option Spot
-setting_fault e s =
-    if not (is_known e s) then Some (spot (name_place s) kind.UnknownOption)
-    else (if is_mistaken e s then Some (spot (value_place s.value) kind.BadOptionValue) else None)
+setting_fault e s = fault_under s (rule_named e s)
 
 abbrev pub judged : Element → Setting → Judged
 judged e s = record { name = dotted s.name; place = name_place s; fault = setting_fault e s }

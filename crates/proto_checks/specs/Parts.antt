@@ -1,5 +1,5 @@
 -- Words of private contracts: the rules of a file and of its elements in parts, each what one function looks at.
-use Rattle.std.specs.Prelude.{ℕ, Bool, true, false, List, Option, None}
+use Rattle.std.specs.Prelude.{ℕ, Bool, true, false, List, [], Option, None}
 use Rattle.proto_base.specs.Sets.{◌∪◌, Each}
 use Rattle.proto_base.specs.declared.spot.Spot.{Spot}
 use Rattle.proto_tree.specs.declared.constant.Constant.{Constant}
@@ -13,10 +13,12 @@ use Rattle.proto_tree.specs.declared.oneof.OneofField.{OneofField}
 use Rattle.proto_tree.specs.declared.oneof.OneofItem.{OneofItem}
 use Rattle.proto_tree.specs.declared.oneof.OneofItem.TheVariants as oneof_item
 use Rattle.proto_tree.specs.declared.option.Setting.{Setting}
+use Rattle.proto_desc.specs.DeclaredNames.{Declared}
 use Rattle.proto_desc.specs.declared.rules.ValueKind.{ValueKind}
 use Rattle.proto_options.specs.Options.{number_of}
 use Rattle.proto_options.specs.Statements.{file_message, file_enum, file_service, message_oneof, message_enum}
 use Rattle.proto_checks.specs.Elements.{OneofBreaks, EnumBreaks, MessageBreaks, ServiceBreaks}
+use Rattle.proto_checks.specs.Marks.{Marked}
 use Rattle.proto_checks.specs.Options.{IsWronglyPacked, IsWronglyTyped, FieldOptionsBreak, optioned_in_oneof, optioned_fields}
 
 -- the number that a constant stands for, if it is a name
@@ -42,6 +44,10 @@ is_value i = false
 -- what a statement of a message breaks by itself, unless it is a message or an option
 abbrev pub ItemBreaks : MessageItem → Spot → Type 0
 ItemBreaks i = Each (optioned_fields i) FieldOptionsBreak ∪ Each (message_oneof i) OneofBreaks ∪ Each (message_enum i) EnumBreaks
+
+-- the name that an element declares, in whichever scope, and where it stands
+abbrev pub name_mark : {A : Type 0} → (List ℕ → A → Declared) → A → Marked
+name_mark declared a = record { text = (declared [] a).name; place = (declared [] a).place }
 
 -- a part of a name
 abbrev pub part_name : NamePart → List ℕ

@@ -18,7 +18,7 @@ fn intervals_of(alloc: Global, ranges: &[MarkedRange]) -> Result<Vec<Interval>, 
     ensures members { IfOk result (λ intervals. AreIntervals ranges.now intervals.items) }
     ensures rises { IfOk result (λ intervals. RisesByStart intervals.items) }
 {
-    let mut intervals = Vec::new(alloc);
+    let mut intervals = Vec::with_capacity(alloc, ranges.len())?;
     for range in ranges {
         if range.start <= range.end {
             intervals.push(Interval {

@@ -1,9 +1,9 @@
 //! All rules of a file (proto3 language specification, "Proto File").
 
-ghost use Rattle.std.specs.Prelude.{◌≡◌, IfOk, map, flat_map};
+ghost use Rattle.std.specs.Prelude.{◌≡◌, IfOk, flat_map};
 ghost use Rattle.std.specs.Option.{option_map};
 ghost use Rattle.proto_desc.specs.DeclaredNames.{file_scope, declared_by};
-ghost use Rattle.proto_checks.specs.Checks.{NotProto3Syntax, ImportTwice, import_mark, MessageNamesBreak, names_of, IsTooLong, HeadBreaks, NamesBreak, LengthsBreak, FileBreaks};
+ghost use Rattle.proto_checks.specs.Checks.{NotProto3Syntax, import_mark, MessageNamesBreak, names_of, IsTooLong, HeadBreaks, NamesBreak, LengthsBreak, FileBreaks};
 ghost use Rattle.proto_checks.specs.Parts.{StatementBreaks};
 ghost use Rattle.proto_base.specs.Least.{IsLeast, spot};
 ghost use Rattle.proto_checks.specs.Lengths.{capped};
@@ -12,7 +12,7 @@ ghost use Rattle.proto_base.specs.Sets.{Each};
 use crate::body::message_fault;
 use crate::enumeration::enum_fault;
 use crate::lengths::{enums_fault, messages_fault, services_fault};
-use crate::marks::MarkedText;
+use crate::marks::{HasText, MarkedText};
 use crate::names::{enum_names_fault, message_names_fault};
 use crate::package::{package_lengths_fault, package_twice};
 use crate::repeats::first_text_twice;
@@ -39,30 +39,16 @@ fn syntax_fault(alloc: Global, syntax: &Syntax) -> Result<Option<Spot>, AllocErr
     }))
 }
 
-fn import_paths<'t, 's>(
-    alloc: Global,
-    imports: &'t [ImportDesc<'s>],
-) -> Result<Vec<MarkedText<'t>>, AllocError>
-    ensures { IfOk result (λ paths. paths.items ≡ map import_mark imports.now) }
-{
-    let mut paths = Vec::new(alloc);
-    for import in imports {
-        paths.push(MarkedText {
-            text: import.path.as_str(),
-            place: import.place,
-        })?;
-    }
-    Ok(paths)
-}
+/// The text of an import is its path.
+impl<'s> HasText for ImportDesc<'s> {
+    ghost mark = { import_mark };
 
-fn import_twice(alloc: Global, imports: &[ImportDesc]) -> Result<Option<Spot>, AllocError>
-    ensures { IfOk result (λ first. IsLeast (ImportTwice imports.now) first) }
-{
-    if imports.len() < 2 {
-        return Ok(None);
+    fn marked_text(&self) -> MarkedText<'_> {
+        MarkedText {
+            text: self.path.as_str(),
+            place: self.place,
+        }
     }
-    let paths = import_paths(alloc, imports)?;
-    first_text_twice(alloc, Kind::ImportTwice, &paths)
 }
 
 /// The first fault of the syntax, the packages, the imports and the options of a file.
@@ -72,7 +58,7 @@ fn head_fault(alloc: Global, tree: &FileTree, desc: &FileDesc) -> Result<Option<
     let statements = tree.statements.as_slice();
     let syntax = syntax_fault(alloc, &tree.syntax)?;
     let package = package_twice(statements);
-    let import = import_twice(alloc, desc.imports.as_slice())?;
+    let import = first_text_twice(alloc, Kind::ImportTwice, desc.imports.as_slice())?;
     let own = statement_settings_fault(alloc, Element::File, statements)?;
     let first = lesser(syntax, package);
     let first = lesser(first, import);

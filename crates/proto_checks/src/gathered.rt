@@ -51,7 +51,7 @@ pub(crate) fn field_numbers(
 ) -> Result<Vec<MarkedNumber>, AllocError>
     ensures { IfOk result (λ numbers. numbers.items ≡ field_numbers items.now) }
 {
-    let mut numbers = Vec::new(alloc);
+    let mut numbers = Vec::with_capacity(alloc, items.len())?;
     for item in items {
         match item {
             MessageItem::Field(field) => numbers.push(literal(field.get().declarator.number))?,
@@ -121,7 +121,7 @@ pub(crate) fn message_ranges(
     ensures { IfOk result (λ ranges. ranges.items
         ≡ map (marked_range literal greatest_field_number) listed.now) }
 {
-    let mut ranges = Vec::new(alloc);
+    let mut ranges = Vec::with_capacity(alloc, listed.len())?;
     for range in listed {
         ranges.push(message_range(range))?;
     }
@@ -181,7 +181,7 @@ pub(crate) fn value_numbers(
 ) -> Result<Vec<MarkedNumber>, AllocError>
     ensures { IfOk result (λ numbers. numbers.items ≡ value_numbers items.now) }
 {
-    let mut numbers = Vec::new(alloc);
+    let mut numbers = Vec::with_capacity(alloc, items.len())?;
     for item in items {
         if let EnumItem::Value(value) = item {
             numbers.push(signed_number(value.get().number))?;
@@ -233,7 +233,7 @@ pub(crate) fn enum_ranges(
     ensures { IfOk result (λ ranges. ranges.items
         ≡ map (marked_range signed_number greatest_value) listed.now) }
 {
-    let mut ranges = Vec::new(alloc);
+    let mut ranges = Vec::with_capacity(alloc, listed.len())?;
     for range in listed {
         ranges.push(enum_range(range))?;
     }

@@ -1,5 +1,7 @@
 //! Numbers, texts and ranges of numbers, each with the place at which it is at fault.
 
+ghost use Rattle.std.specs.Prelude.{◌≡◌};
+
 use proto_base::Place;
 use std::marker::Model;
 
@@ -32,4 +34,16 @@ impl<'a> Model for MarkedText<'a> {
     ghost Value = { Marked };
 
     ghost view = { λ a. record { text = a.text.now; place = a.place } };
+}
+
+/// What has a text that no later one may equal.
+pub(crate) trait HasText {
+    ghost use Rattle.proto_checks.specs.Marks.{Marked};
+
+    /// Its text, and the place at which it is at fault.
+    ghost mark: { Self → Marked };
+
+    /// Its text and that place, without memory.
+    fn marked_text(&self) -> MarkedText<'_>
+        ensures { result ≡ mark self.now };
 }

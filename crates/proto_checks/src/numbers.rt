@@ -55,6 +55,9 @@ fn first_message_range_fault(
     ensures { IfOk result (λ first. IsLeast (MessageRangesBreak items.now numbers.now) first) }
 {
     let listed = message_ranges_listed(alloc, items)?;
+    if listed.is_empty() {
+        return Ok(None);
+    }
     let bounds = message_bounds(alloc, &listed)?;
     let bound = first_outside(1, FIELD_MAX, Kind::FieldNumberRange, &bounds);
     let ranges = message_ranges(alloc, &listed)?;
@@ -132,6 +135,9 @@ fn first_enum_range_fault(
     ensures { IfOk result (λ first. IsLeast (EnumRangesBreak items.now numbers.now) first) }
 {
     let listed = enum_ranges_listed(alloc, items)?;
+    if listed.is_empty() {
+        return Ok(None);
+    }
     let bounds = enum_bounds(alloc, &listed)?;
     let bound = first_outside(VALUE_MIN, VALUE_MAX, Kind::EnumNumberRange, &bounds);
     let ranges = enum_ranges(alloc, &listed)?;

@@ -1,23 +1,24 @@
 //! Rules on the options of an element (`descriptor.proto`, `FileOptions` to `MethodOptions`).
 
 ghost use Rattle.std.specs.Prelude.{◌≡◌, ◌↔◌, Some, IsTrue, IfOk, List, map};
-ghost use Rattle.std.specs.Option.{is_some};
+ghost use Rattle.std.specs.Option.{is_some, option_map, option_copied};
+ghost use Rattle.proto_desc.specs.Rules.{rule_of};
 ghost use Rattle.proto_desc.specs.declared.options.OptionValue.TheVariants.{Number};
 ghost use Rattle.proto_desc.specs.declared.rules.ValueKind.TheVariants.{Bool};
 ghost use Rattle.proto_options.specs.Options.{is_setting, value_of};
 ghost use Rattle.proto_base.specs.Least.{IsLeast};
 ghost use Rattle.proto_checks.specs.Options.{name_place, value_place, SettingsBreak};
 ghost use Rattle.proto_checks.specs.Parts.{choice_of_value};
-ghost use Rattle.proto_checks.specs.Judged.{is_known, is_mistaken, setting_fault, judged, judged_name, IsFaultOf, JudgedTwice};
+ghost use Rattle.proto_checks.specs.Judged.{rule_named, setting_fault, judged, judged_name, IsFaultOf, JudgedTwice};
 ghost use Rattle.proto_base.specs.Sets.{Each};
 ghost use Rattle.proto_desc.specs.declared.rules.Element.{Element};
 ghost use Rattle.proto_tree.specs.declared.option.Setting.{Setting};
 
-use crate::marks::MarkedText;
+use crate::marks::{HasText, MarkedText};
 use crate::repeats::first_text_twice;
 use proto_base::text::Text;
 use proto_base::{Kind, Place, Spot, lesser};
-use proto_desc::rules::{Element, ValueKind, rules};
+use proto_desc::rules::{Element, OptionRule, ValueKind, rules};
 use proto_options::{is_setting, number_of};
 use proto_tree::text::dotted;
 use proto_tree::{Constant, Setting, Sign};
@@ -71,40 +72,30 @@ fn value_place(value: &Constant) -> Place
     }
 }
 
-/// Whether the element has an option of the setting's name.
-fn is_known(element: Element, setting: &Setting) -> bool
-    ensures { result ≡ is_known element setting.now }
+/// The rule of the setting's name, if the element has an option of this name.
+fn rule_named(element: Element, setting: &Setting) -> Option<&'static OptionRule>
+    ensures { option_map rule_of (option_copied result) ≡ rule_named element setting.now }
 {
     rules(element)
         .iter()
-        .any(|rule| is_setting(setting, rule.word))
-}
-
-/// Whether the element's option of the setting's name takes other values.
-fn is_mistaken(element: Element, setting: &Setting) -> bool
-    ensures { result ≡ is_mistaken element setting.now }
-{
-    rules(element).iter().any(|rule| is_setting(setting, rule.word)
-        && !is_taken(rule.kind, &setting.value))
+        .find(|rule| is_setting(setting, rule.word))
 }
 
 /// What a setting breaks by itself.
 #[tactic(auto, unfolding(crate::specs::Judged::setting_fault))]
-fn setting_fault(element: Element, setting: &Setting) -> Option<Spot>
+pub(crate) fn setting_fault(element: Element, setting: &Setting) -> Option<Spot>
     ensures { result ≡ setting_fault element setting.now }
 {
-    if !is_known(element, setting) {
-        Some(Spot {
+    match rule_named(element, setting) {
+        None => Some(Spot {
             place: name_place(setting),
             kind: Kind::UnknownOption,
-        })
-    } else if is_mistaken(element, setting) {
-        Some(Spot {
+        }),
+        Some(rule) if is_taken(rule.kind, &setting.value) => None,
+        Some(_) => Some(Spot {
             place: value_place(&setting.value),
             kind: Kind::BadOptionValue,
-        })
-    } else {
-        None
+        }),
     }
 }
 
@@ -131,20 +122,15 @@ pub(crate) fn judge<'s>(
     })
 }
 
-fn names<'t, 's>(
-    alloc: Global,
-    settings: &'t [Judged<'s>],
-) -> Result<Vec<MarkedText<'t>>, AllocError>
-    ensures { IfOk result (λ names. names.items ≡ map judged_name settings.now) }
-{
-    let mut names = Vec::new(alloc);
-    for setting in settings {
-        names.push(MarkedText {
-            text: setting.name.as_str(),
-            place: setting.place,
-        })?;
+impl<'s> HasText for Judged<'s> {
+    ghost mark = { judged_name };
+
+    fn marked_text(&self) -> MarkedText<'_> {
+        MarkedText {
+            text: self.name.as_str(),
+            place: self.place,
+        }
     }
-    Ok(names)
 }
 
 /// The first fault that a setting has by itself.
@@ -162,11 +148,7 @@ fn own_fault(settings: &[Judged]) -> Option<Spot>
 fn option_twice(alloc: Global, settings: &[Judged]) -> Result<Option<Spot>, AllocError>
     ensures { IfOk result (λ first. IsLeast (JudgedTwice settings.now) first) }
 {
-    if settings.len() < 2 {
-        return Ok(None);
-    }
-    let names = names(alloc, settings)?;
-    first_text_twice(alloc, Kind::OptionTwice, &names)
+    first_text_twice(alloc, Kind::OptionTwice, settings)
 }
 
 /// The first fault of an element's settings.

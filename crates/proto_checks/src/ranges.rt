@@ -1,13 +1,14 @@
 //! Ranges of reserved numbers: that none is backwards, that none share a number, and that no number in use is in one.
 
-ghost use Rattle.std.specs.Prelude.{IfOk};
-ghost use Rattle.proto_checks.specs.Covers.{IsAcross};
+ghost use Rattle.std.specs.Prelude.{◌↔◌, IfOk, IfSome, IsTrue};
+ghost use Rattle.proto_checks.specs.Covers.{IsAcross, IsCover, IsUsed};
 ghost use Rattle.proto_base.specs.Least.{IsLeast};
 ghost use Rattle.proto_checks.specs.Marks.{ReservedBackwards, ReservedNumberUsed, ReservedOverlap};
 ghost use Rattle.proto_base.specs.Sets.{Each};
 
-use crate::covers::{cover_of, is_reached};
+use crate::covers::{Interval, cover_of, is_reached};
 use crate::marks::{MarkedNumber, MarkedRange};
+use crate::repeats::FEW;
 use proto_base::{Kind, Spot, lesser};
 use std::alloc::{AllocError, Global};
 
@@ -28,6 +29,19 @@ pub(crate) fn first_backwards(ranges: &[MarkedRange]) -> Option<Spot>
     first
 }
 
+/// Whether one of the ranges holds a number: asks their cover, if there is one.
+fn is_held(ranges: &[MarkedRange], cover: &Option<Vec<Interval>>, number: u128) -> bool
+    requires { IfSome cover.now (λ intervals. IsCover ranges.now intervals.items) }
+    ensures { IsTrue result ↔ IsUsed ranges.now number }
+{
+    match cover {
+        Some(cover) => is_reached(cover, number, number),
+        None => ranges
+            .iter()
+            .any(|range| range.start <= number && number <= range.end),
+    }
+}
+
 /// The first number that one of the ranges holds.
 pub(crate) fn first_reserved_number(
     alloc: Global,
@@ -39,10 +53,14 @@ pub(crate) fn first_reserved_number(
     if ranges.is_empty() {
         return Ok(None);
     }
-    let cover = cover_of(alloc, ranges)?;
+    let cover = if ranges.len() > FEW {
+        Some(cover_of(alloc, ranges)?)
+    } else {
+        None
+    };
     let mut first = None;
     for marked in numbers {
-        if is_reached(&cover, marked.number, marked.number) {
+        if is_held(ranges, &cover, marked.number) {
             let here = Some(Spot {
                 place: marked.place,
                 kind: Kind::ReservedNumberUsed,

@@ -1,18 +1,19 @@
 //! Reserved names: that none is reserved twice, and that none is in use.
 
-ghost use Rattle.std.specs.Prelude.{◌≡◌, [], ◌∷◌, ◌++◌, IfOk, OnOk, map, string_bytes};
-ghost use Rattle.proto_tree.specs.Text.{joined};
+ghost use Rattle.std.specs.Prelude.{◌≡◌, ◌↔◌, [], ◌∷◌, ◌++◌, Contains, IfOk, IfSome, IsTrue, OnOk, map};
 ghost use Rattle.proto_base.specs.declared.kind.Kind.TheVariants.{ReservedNameTwice};
 ghost use Rattle.proto_checks.specs.Gathered.{reserved_name, message_reserved_names, enum_reserved_names};
 ghost use Rattle.proto_options.specs.Statements.{names_in};
 ghost use Rattle.proto_base.specs.Least.{IsLeast};
 ghost use Rattle.proto_checks.specs.Marks.{TextTwice, ReservedNameUsed};
 ghost use Rattle.proto_checks.specs.NameSets.{HoldsJust};
+ghost use Rattle.proto_checks.specs.Parts.{name_mark};
 
-use crate::marks::MarkedText;
-use crate::repeats::first_text_twice;
+use crate::marks::{HasText, MarkedText};
+use crate::repeats::{FEW, first_text_twice};
 use proto_base::text::Text;
 use proto_base::{Kind, Place, Spot, lesser};
+use proto_desc::Declares;
 use proto_tree::text::joined;
 use proto_tree::{EnumItem, MessageItem, ReservedItems, StringValue};
 use std::alloc::{AllocError, Global};
@@ -32,6 +33,17 @@ impl<'s> Model for ReservedName<'s> {
     ghost Value = { Marked };
 
     ghost view = { λ a. record { text = a.text; place = a.place } };
+}
+
+impl<'s> HasText for ReservedName<'s> {
+    ghost mark = { λ name. name };
+
+    fn marked_text(&self) -> MarkedText<'_> {
+        MarkedText {
+            text: self.text.as_str(),
+            place: self.place,
+        }
+    }
 }
 
 /// Adds a reserved name.
@@ -105,14 +117,7 @@ pub(crate) fn first_reserved_twice(
 ) -> Result<Option<Spot>, AllocError>
     ensures { IfOk result (λ first. IsLeast (TextTwice ReservedNameTwice names.now) first) }
 {
-    let mut texts = Vec::new(alloc);
-    for name in names {
-        texts.push(MarkedText {
-            text: name.text.as_str(),
-            place: name.place,
-        })?;
-    }
-    first_text_twice(alloc, Kind::ReservedNameTwice, &texts)
+    first_text_twice(alloc, Kind::ReservedNameTwice, names)
 }
 
 fn set_of<'a>(alloc: Global, names: &'a [Text]) -> Result<BTreeSet<&'a str>, AllocError>
@@ -125,23 +130,40 @@ fn set_of<'a>(alloc: Global, names: &'a [Text]) -> Result<BTreeSet<&'a str>, All
     Ok(set)
 }
 
-/// The first text that is one of the reserved names.
-pub(crate) fn first_reserved_name(
+/// Whether a name is reserved: asks the set of the reserved names, if there is one.
+fn is_reserved(reserved: &[Text], set: &Option<BTreeSet<&str>>, name: &str) -> bool
+    requires { IfSome set.now (HoldsJust reserved.now) }
+    ensures { IsTrue result ↔ Contains reserved.now name.now }
+{
+    match set {
+        Some(set) => set.contains(name),
+        None => reserved.iter().any(|text| name == text.as_str()),
+    }
+}
+
+/// The first element whose name is reserved.
+pub(crate) fn first_reserved_name<D: Declares>(
     alloc: Global,
     reserved: &[Text],
-    texts: &[MarkedText],
+    members: &[D],
 ) -> Result<Option<Spot>, AllocError>
-    ensures { IfOk result (λ first. IsLeast (ReservedNameUsed reserved.now texts.now) first) }
+    ensures { IfOk result (λ first. IsLeast
+        (ReservedNameUsed reserved.now (map (name_mark D.declared) members.now)) first) }
 {
     if reserved.is_empty() {
         return Ok(None);
     }
-    let names = set_of(alloc, reserved)?;
+    let set = if reserved.len() > FEW {
+        Some(set_of(alloc, reserved)?)
+    } else {
+        None
+    };
     let mut first = None;
-    for marked in texts {
-        if names.contains(marked.text) {
+    for member in members {
+        let declared = member.declared_name();
+        if is_reserved(reserved, &set, declared.name) {
             let here = Some(Spot {
-                place: marked.place,
+                place: declared.place,
                 kind: Kind::ReservedNameUsed,
             });
             first = lesser(first, here);

@@ -6,7 +6,7 @@ ghost use Rattle.proto_base.specs.Least.{IsLeast};
 ghost use Rattle.proto_checks.specs.Judged.{judged};
 ghost use Rattle.proto_checks.specs.Options.{SettingsBreak};
 
-use crate::options::{Judged, judge, settings_fault};
+use crate::options::{Judged, judge, setting_fault, settings_fault};
 use proto_base::Spot;
 use proto_desc::rules::Element;
 use proto_options::Item;
@@ -73,22 +73,6 @@ fn put_bracketed<'s>(
     Ok(())
 }
 
-/// Those of a field or of an enum value, which stand in brackets.
-fn bracketed_settings<'s>(
-    alloc: Global,
-    element: Element,
-    options: &Option<Options<'s>>,
-) -> Result<Vec<Judged<'s>>, AllocError>
-    ensures { IfOk result (λ settings. settings.items
-        ≡ map (judged element) (bracketed options.now)) }
-{
-    let mut settings = Vec::new(alloc);
-    if let Some(listed) = options {
-        put_bracketed(alloc, &mut settings, element, listed)?;
-    }
-    Ok(settings)
-}
-
 /// The first fault of the settings of a field or of an enum value.
 pub(crate) fn bracketed_settings_fault(
     alloc: Global,
@@ -98,6 +82,14 @@ pub(crate) fn bracketed_settings_fault(
     ensures { IfOk result (λ first. IsLeast
         (SettingsBreak element (bracketed options.now)) first) }
 {
-    let settings = bracketed_settings(alloc, element, options)?;
+    let Some(listed) = options else {
+        return Ok(None);
+    };
+    // Most stand alone, and so set nothing twice.
+    if listed.settings.rest.as_slice().is_empty() {
+        return Ok(setting_fault(element, &listed.settings.first));
+    }
+    let mut settings = Vec::new(alloc);
+    put_bracketed(alloc, &mut settings, element, listed)?;
     settings_fault(alloc, &settings)
 }

@@ -1,4 +1,4 @@
-use Rattle.std.proofs.Common.{arith, get_or, refl}
+use Rattle.std.proofs.Common.{◌∙◌, sym, arith, get_or}
 use Rattle.std.proofs.lemmas.Bool.{false≢true}
 use Rattle.proto_base.specs.declared.kind.Kind.TheVariants as kind
 use Rattle.proto_base.specs.Least.{spot}
@@ -6,9 +6,9 @@ use Rattle.proto_checks.specs.Marks.{IsReserved}
 use Rattle.proto_checks.specs.declared.marks.MarkedNumber.{MarkedNumber}
 use Rattle.proto_base.proofs.Sets.{item_at, each_all}
 use Rattle.proto_checks.proofs.Hits.{each_hit, each_miss, no_number}
-use Rattle.proto_checks.proofs.Halves.{IsUsed, used_of, of_used}
+use Rattle.proto_checks.specs.Covers.{IsUsed}
 use Rattle.proto_checks.proofs.ranges.first_reserved_number.Goals as goal
-use Rattle.proto_checks.proofs.ranges.first_reserved_number.Goals.{then-is_reached, else-is_reached}
+use Rattle.proto_checks.proofs.ranges.first_reserved_number.Goals.{then-is_held, else-is_held}
 
 pub loop-marked-preserved : goal.loop-marked-preserved
 loop-marked-preserved c =
@@ -19,14 +19,12 @@ loop-marked-preserved c =
     let stands = item_at ns n no_number (omega arith) in
     let P = λ (a : MarkedNumber). IsUsed rs a.number in
     let at = λ (a : MarkedNumber). spot a.place kind.ReservedNumberUsed in
-    let cover = c.in_ok-cover.cover.items in
-    elim c.if-is_reached.branch [
-      | then-is_reached w ↦ (let told = rw c.deref.ensures.value at w.if-is_reached.ensures in
-          rw w.first-is (each_hit ns P at n here c.loop-marked.first w.lesser-first.result stands
-          (used_of rs cover here.number c.in_ok-cover.ensures (told.0 refl)) c.loop-marked.invariant w.lesser-first.ensures))
-      | else-is_reached w ↦ (let told = rw c.deref.ensures.value at w.if-is_reached.ensures in
-          rw w.first-is (each_miss ns P at n here c.loop-marked.first stands
-          (λ used. false≢true (told.1 (of_used rs cover here.number c.in_ok-cover.ensures used))) c.loop-marked.invariant))
+    let told = c.is_held.ensures in
+    elim c.if-is_held.branch [
+      | then-is_held w ↦ rw w.first-is (each_hit ns P at n here c.loop-marked.first w.lesser-first.result stands
+          (told.0 w.if-is_held.true) c.loop-marked.invariant w.lesser-first.ensures)
+      | else-is_held w ↦ rw w.first-is (each_miss ns P at n here c.loop-marked.first stands
+          (λ used. false≢true (sym w.if-is_held.false ∙ told.1 used)) c.loop-marked.invariant)
     ]
 
 pub returns : goal.returns

@@ -1,7 +1,10 @@
+use Rattle.std.proofs.Common.{map}
 use Rattle.proto_base.specs.Least.{spot}
 use Rattle.proto_checks.specs.Marks.{Marked}
 use Rattle.proto_base.proofs.Sets.{Passed, text_cmp}
 use Rattle.proto_checks.proofs.repeats.first_text_twice.Given as goal
 
-abbrev pub invariant-loop-marked : goal.invariant-loop-marked
-invariant-loop-marked l = Passed text_cmp (λ k. k.now) (λ (a : Marked). a.text) (λ (a : Marked). spot a.place l.fn.kind) l.texts l.seen l.marked-index l.first
+abbrev pub invariant-loop-item : goal.invariant-loop-item
+invariant-loop-item g l =
+    Passed text_cmp (λ k. k.now) (λ (a : Marked). a.text) (λ (a : Marked). spot a.place l.fn.kind)
+    (map g.T.HasText.mark l.items) l.seen l.item-index l.first

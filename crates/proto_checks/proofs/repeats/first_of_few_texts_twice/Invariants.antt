@@ -1,0 +1,14 @@
+use Rattle.std.proofs.Common.{◌≡◌, map, length}
+use Rattle.proto_base.specs.Least.{IsLeast, spot}
+use Rattle.proto_base.proofs.Sets.{LaterTo}
+use Rattle.proto_checks.specs.Marks.{Marked}
+use Rattle.proto_checks.proofs.Few.{AreTaken}
+use Rattle.proto_checks.proofs.repeats.first_of_few_texts_twice.Given as goal
+
+abbrev pub invariant-loop-index : goal.invariant-loop-index
+invariant-loop-index g l = record {
+  least : IsLeast (LaterTo (map g.T.HasText.mark l.items) l.index (λ (a b : Marked). a.text ≡ b.text)
+      (λ (b : Marked). spot b.place l.kind)) l.first;
+  size : length l.is_taken ≡ 64;
+  taken : AreTaken (map g.T.HasText.mark l.items) l.index l.is_taken;
+}
