@@ -9,6 +9,7 @@ ghost use Rattle.proto_lower.specs.Messages.{lowered_message};
 ghost use Rattle.proto_lower.specs.Services.{lowered_service};
 
 use crate::enumeration::put_enum;
+use crate::field::inner_name;
 use crate::message::put_message;
 use crate::options::options_of;
 use crate::service::put_service;
@@ -54,12 +55,10 @@ fn lower_package<'s>(
 fn package_scope(alloc: Global, declared: &Option<PackageDesc>) -> Result<String, AllocError>
     ensures { IfOk result (λ scope. string_bytes scope ≡ package_scope declared.now) }
 {
-    let mut scope = String::new(alloc);
-    if let Some(package) = declared {
-        scope.push_str(".")?;
-        scope.push_str(package.name.as_str())?;
+    match declared {
+        Some(package) => inner_name(alloc, "", package.name.as_str()),
+        None => Ok(String::new(alloc)),
     }
-    Ok(scope)
 }
 
 /// Adds an import.

@@ -90,6 +90,13 @@ pub(crate) fn field_json_name<'s>(
     json_text(alloc, name)
 }
 
+fn bracketed_count(options: &Option<Options>) -> usize {
+    match options {
+        Some(options) => options.settings.rest.len().saturating_add(1),
+        None => 0,
+    }
+}
+
 /// The options of a field or an enum value.
 pub(crate) fn bracketed_options<'s>(
     alloc: Global,
@@ -98,11 +105,22 @@ pub(crate) fn bracketed_options<'s>(
 ) -> Result<Row<OptionDesc<'s>>, AllocError>
     ensures { IfOk result (λ set. set ≡ options_of element (bracketed options.now)) }
 {
-    let mut set = Vec::new(alloc);
-    for rule in rules(element) {
+    let rules = rules(element);
+    let mut set = Vec::with_capacity(alloc, bracketed_count(options).min(rules.len()))?;
+    for rule in rules {
         put_option(alloc, &mut set, rule, first_bracketed(options, rule.word))?;
     }
     Ok(Row::from_vec(set))
+}
+
+fn setting_count<'s, I: Item<'s>>(items: &[I]) -> usize {
+    let mut count = 0usize;
+    for item in items {
+        if item.setting().is_some() {
+            count = count.saturating_add(1);
+        }
+    }
+    count
 }
 
 /// The options that the statements of an element set.
@@ -113,8 +131,9 @@ pub(crate) fn options_of<'s, I: Item<'s>>(
 ) -> Result<Row<OptionDesc<'s>>, AllocError>
     ensures { IfOk result (λ set. set ≡ options_of element (flat_map I.setting_of items.now)) }
 {
-    let mut set = Vec::new(alloc);
-    for rule in rules(element) {
+    let rules = rules(element);
+    let mut set = Vec::with_capacity(alloc, setting_count(items).min(rules.len()))?;
+    for rule in rules {
         put_option(alloc, &mut set, rule, first_setting(items, rule.word))?;
     }
     Ok(Row::from_vec(set))

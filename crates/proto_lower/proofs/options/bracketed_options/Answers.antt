@@ -9,5 +9,5 @@ loop-rule-preserved c = grind (arith, common_steps)
 
 pub returns : goal.returns
 returns c =
-    rows_give (bracketed c.args.options.now) c.args.element c.rules-rule-items.result.now c.loop-rule.rule-index
-    c.from_vec.result (omega arith) (c.from_vec.ensures ∙ c.loop-rule.invariant) c.rules-rule-items.ensures
+    rows_give (bracketed c.args.options.now) c.args.element c.rules-rules.result.now c.loop-rule.rule-index
+    c.from_vec.result (omega arith) (c.from_vec.ensures ∙ c.loop-rule.invariant) c.rules-rules.ensures
