@@ -1,6 +1,7 @@
 -- Names without underscores are their own JSON names.
 use Rattle.std.proofs.Common.{length, inl, inr, ◌⊎◌, ◌≢◌, ◌≡◌, ◌∙◌, ℕ, List, [], ◌∷◌, ◌++◌, append_assoc, ap, sym, refl, true, false, arith, if◌then◌else◌}
 use Rattle.std.proofs.lemmas.List.{append-nil}
+use Rattle.std.proofs.lemmas.List.Folds.{list_any-append}
 use Rattle.std.specs.Prelude.{◌==◌, encode_utf8, encode_utf8_all}
 use Rattle.std.specs.Char.{to_ascii_uppercase}
 use Rattle.std.specs.List.{list_any}
@@ -16,21 +17,35 @@ letters_unchanged before (c ∷ cs) apart none =
     let rest : list_any (λ c. c == 95) cs ≡ false = grind (arith, nat_tests) in
     rw (here, apart) (ap (λ xs. c ∷ xs) (letters_unchanged c cs here rest))
 
-pub json_name_unchanged : (name : List ℕ) → IsUtf8 name → list_any (λ c. c == 95) (chars name) ≡ false → json_name_of name ≡ name
-json_name_unchanged name utf8 none = ap encode_utf8_all (letters_unchanged 32 (chars name) refl none) ∙ encodes-chars name utf8
+-- an underscore among the characters is one of the bytes
+none_of_letters : (cs : List ℕ) → list_any (λ c. c == 95) (encode_utf8_all cs) ≡ false → list_any (λ c. c == 95) cs ≡ false
+unfolding lib.Utf8.encode
+none_of_letters [] none = refl
+none_of_letters (c ∷ cs) none =
+    let parts = sym (list_any-append (λ b. b == 95) (encode_utf8 c) (encode_utf8_all cs)) ∙ none in
+    let byte : c ≡ 95 → list_any (λ b. b == 95) (encode_utf8 c) ≡ true = λ same. rw same refl in
+    let rest : list_any (λ b. b == 95) (encode_utf8_all cs) ≡ false = grind (arith, nat_tests) in
+    let others = none_of_letters cs rest in
+    grind (arith, nat_tests)
 
--- what was pushed, and what becomes of the rest of the name behind the character `before`, is the name, raised
-pub record IsSoFar (made : List ℕ) (before : ℕ) (rest name : List ℕ) (first : ℕ) : Type 0 where
+pub json_name_unchanged : (name : List ℕ) → IsUtf8 name → list_any (λ c. c == 95) name ≡ false → json_name_of name ≡ name
+json_name_unchanged name utf8 none =
+    let whole = encodes-chars name utf8 in
+    ap encode_utf8_all (letters_unchanged 32 (chars name) refl
+    (none_of_letters (chars name) (ap (list_any (λ c. c == 95)) whole ∙ none))) ∙ whole
+
+-- what was made, and what becomes of the rest of the name behind the character `before`, is all that is to be made
+pub record IsSoFar (made : List ℕ) (before : ℕ) (rest all : List ℕ) : Type 0 where
   pub letters : List ℕ
   pub spelled : encode_utf8_all letters ≡ rest
-  pub whole : made ++ encode_utf8_all (letters_behind before letters) ≡ raised first name
+  pub whole : made ++ encode_utf8_all (letters_behind before letters) ≡ all
 
-pub so_far_start : (name : List ℕ) (first : ℕ) → IsUtf8 name → IsSoFar [] first name name first
-so_far_start name first utf8 = record { letters = chars name; spelled = encodes-chars name utf8; whole = refl }
+pub so_far_start : (old name : List ℕ) (first : ℕ) → IsUtf8 name → IsSoFar old first name (old ++ raised first name)
+so_far_start old name first utf8 = record { letters = chars name; spelled = encodes-chars name utf8; whole = refl }
 
-pub so_far_dropped : (made : List ℕ) (before : ℕ) (rest name : List ℕ) (first c : ℕ) (more : List ℕ) → IsSoFar made before rest name first
-    → rest ≡ encode_utf8 c ++ more → c ≡ 95 → IsSoFar made c more name first
-so_far_dropped made before rest name first c more so_far next underscore =
+pub so_far_dropped : (made : List ℕ) (before : ℕ) (rest all : List ℕ) (c : ℕ) (more : List ℕ) → IsSoFar made before rest all
+    → rest ≡ encode_utf8 c ++ more → c ≡ 95 → IsSoFar made c more all
+so_far_dropped made before rest all c more so_far next underscore =
     let split = cons_from_encodes so_far.letters more c (so_far.spelled ∙ next) in
     let test : (c == 95) ≡ true = grind (arith, nat_tests) in
     let dropped : letters_behind before (c ∷ split.0) ≡ letters_behind c split.0 = rw test refl in
@@ -41,10 +56,10 @@ so_far_dropped made before rest name first c more so_far next underscore =
           (sym dropped ∙ ap (letters_behind before) (sym split.1)) ∙ so_far.whole;
     }
 
-pub so_far_pushed : (made : List ℕ) (before : ℕ) (rest name : List ℕ) (first c d : ℕ) (pushed more : List ℕ) → IsSoFar made before rest name first
+pub so_far_pushed : (made : List ℕ) (before : ℕ) (rest all : List ℕ) (c d : ℕ) (pushed more : List ℕ) → IsSoFar made before rest all
     → rest ≡ encode_utf8 c ++ more → (c == 95) ≡ false → d ≡ (if before == 95 then to_ascii_uppercase c else c) → pushed ≡ made ++ encode_utf8 d
-    → IsSoFar pushed c more name first
-so_far_pushed made before rest name first c d pushed more so_far next test raised_by pushed_is =
+    → IsSoFar pushed c more all
+so_far_pushed made before rest all c d pushed more so_far next test raised_by pushed_is =
     let split = cons_from_encodes so_far.letters more c (so_far.spelled ∙ next) in
     let kept : letters_behind before (c ∷ split.0) ≡ d ∷ letters_behind c split.0 = rw (test, raised_by) refl in
     record {
@@ -60,9 +75,8 @@ pub raised_as : (before c pushed : ℕ) → ((before ≡ 95) × (pushed ≡ to_a
 raised_as before c pushed (inl case) = let test : (before == 95) ≡ true = grind (arith, nat_tests) in rw test case.1
 raised_as before c pushed (inr case) = let test : (before == 95) ≡ false = grind (arith, nat_tests) in rw test case.1
 
-pub so_far_end : (made : List ℕ) (before : ℕ) (rest name : List ℕ) (first : ℕ) → IsSoFar made before rest name first → length rest ≡ 0
-    → made ≡ raised first name
-so_far_end made before [] name first so_far done =
+pub so_far_end : (made : List ℕ) (before : ℕ) (rest all : List ℕ) → IsSoFar made before rest all → length rest ≡ 0 → made ≡ all
+so_far_end made before [] all so_far done =
     let none : so_far.letters ≡ [] = encodes_same so_far.letters [] so_far.spelled in
     sym (append-nil made) ∙ ap (λ (ls : List ℕ). made ++ encode_utf8_all (letters_behind before ls)) (sym none) ∙ so_far.whole
-so_far_end made before (b ∷ rest) name first so_far done = absurd (omega (arith, done))
+so_far_end made before (b ∷ rest) all so_far done = absurd (omega (arith, done))

@@ -61,6 +61,13 @@ fn put_items<'s>(
     Ok(())
 }
 
+fn value_count(items: &[EnumItem]) -> usize {
+    items
+        .iter()
+        .filter(|item| matches!(item, EnumItem::Value(_)))
+        .count()
+}
+
 /// Adds the descriptor of an enum.
 pub(crate) fn put_enum<'s>(
     alloc: Global,
@@ -71,7 +78,7 @@ pub(crate) fn put_enum<'s>(
 {
     let items = declared.items.as_slice();
     let options = options_of(alloc, Element::Enum, items)?;
-    let mut values = Vec::with_capacity(alloc, items.len())?;
+    let mut values = Vec::with_capacity(alloc, value_count(items))?;
     let mut ranges = Vec::new(alloc);
     let mut names = Vec::new(alloc);
     put_items(alloc, &mut values, &mut ranges, &mut names, items)?;

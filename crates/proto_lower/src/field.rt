@@ -87,7 +87,9 @@ fn put_field<'s>(
 pub(crate) fn inner_name(alloc: Global, scope: &str, name: &str) -> Result<String, AllocError>
     ensures { IfOk result (λ full. string_bytes full ≡ inner scope.now name.now) }
 {
-    let mut full = String::from_str(alloc, scope)?;
+    let room = scope.len().saturating_add(name.len()).saturating_add(1);
+    let mut full = String::with_capacity(alloc, room)?;
+    full.push_str(scope)?;
     full.push_str(".")?;
     full.push_str(name)?;
     Ok(full)
@@ -155,6 +157,20 @@ pub(crate) fn real_count(items: &[MessageItem]) -> usize
         if matches!(item, MessageItem::Oneof(_)) {
             count += 1;
         }
+    }
+    count
+}
+
+/// How many fields these statements have at most.
+pub(crate) fn field_count(items: &[MessageItem]) -> usize {
+    let mut count = 0usize;
+    for item in items {
+        let more = match item {
+            MessageItem::Field(_) | MessageItem::Map(_) => 1,
+            MessageItem::Oneof(oneof) => oneof.get().items.len(),
+            _ => 0,
+        };
+        count = count.saturating_add(more);
     }
     count
 }

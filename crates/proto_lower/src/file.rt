@@ -9,6 +9,7 @@ ghost use Rattle.proto_lower.specs.Messages.{lowered_message};
 ghost use Rattle.proto_lower.specs.Services.{lowered_service};
 
 use crate::enumeration::put_enum;
+use crate::field::inner_name;
 use crate::message::put_message;
 use crate::options::options_of;
 use crate::service::put_service;
@@ -54,12 +55,10 @@ fn lower_package<'s>(
 fn package_scope(alloc: Global, declared: &Option<PackageDesc>) -> Result<String, AllocError>
     ensures { IfOk result (λ scope. string_bytes scope ≡ package_scope declared.now) }
 {
-    let mut scope = String::new(alloc);
-    if let Some(package) = declared {
-        scope.push_str(".")?;
-        scope.push_str(package.name.as_str())?;
+    match declared {
+        Some(package) => inner_name(alloc, "", package.name.as_str()),
+        None => Ok(String::new(alloc)),
     }
-    Ok(scope)
 }
 
 /// Adds an import.
@@ -85,6 +84,48 @@ struct Declared<'s> {
     messages: Vec<MessageDesc<'s>>,
     enums: Vec<EnumDesc<'s>>,
     services: Vec<ServiceDesc<'s>>,
+}
+
+/// How many statements of each kind there are.
+#[derive(Clone, Copy)]
+struct Counts {
+    imports: usize,
+    messages: usize,
+    enums: usize,
+    services: usize,
+}
+
+fn counts_of(statements: &[Statement]) -> Counts {
+    let mut counts = Counts {
+        imports: 0,
+        messages: 0,
+        enums: 0,
+        services: 0,
+    };
+    for statement in statements {
+        match statement {
+            Statement::Import(_) => counts.imports = counts.imports.saturating_add(1),
+            Statement::Message(_) => counts.messages = counts.messages.saturating_add(1),
+            Statement::Enum(_) => counts.enums = counts.enums.saturating_add(1),
+            Statement::Service(_) => counts.services = counts.services.saturating_add(1),
+            _ => {}
+        }
+    }
+    counts
+}
+
+/// Makes room for what these statements import and declare.
+fn make_room(out: &mut Declared, statements: &[Statement]) -> Result<(), AllocError>
+    ensures imports { OnOk result (out.new.imports.items ≡ out.old.imports.items) }
+    ensures messages { OnOk result (out.new.messages.items ≡ out.old.messages.items) }
+    ensures enums { OnOk result (out.new.enums.items ≡ out.old.enums.items) }
+    ensures services { OnOk result (out.new.services.items ≡ out.old.services.items) }
+{
+    let counts = counts_of(statements);
+    out.imports.reserve_exact(counts.imports)?;
+    out.messages.reserve_exact(counts.messages)?;
+    out.enums.reserve_exact(counts.enums)?;
+    out.services.reserve_exact(counts.services)
 }
 
 /// Adds what these statements import and declare, in this scope.
@@ -135,6 +176,7 @@ fn put_declared<'s>(
         ≡ out.old.services.items ++ map lowered_service (flat_map file_service statements.now)) }
 {
     let scope = package_scope(alloc, package)?;
+    make_room(out, statements)?;
     put_scoped(alloc, out, scope.as_str(), statements)
 }
 

@@ -9,7 +9,7 @@ ghost use Rattle.proto_options.specs.Statements.{message_enum, message_reserved,
 ghost use Rattle.proto_tree.specs.Text.{joined};
 
 use crate::enumeration::put_enum;
-use crate::field::{inner_name, put_fields, real_count};
+use crate::field::{field_count, inner_name, put_fields, real_count};
 use crate::names::entry_name;
 use crate::oneof::put_oneofs;
 use crate::options::options_of;
@@ -87,6 +87,14 @@ fn put_entry<'s>(
     Ok(())
 }
 
+/// How many of these statements declare an enum.
+fn enum_count(items: &[MessageItem]) -> usize {
+    items
+        .iter()
+        .filter(|item| matches!(item, MessageItem::Enum(_)))
+        .count()
+}
+
 /// Adds the enums among these statements.
 fn put_enums<'s>(
     alloc: Global,
@@ -96,6 +104,7 @@ fn put_enums<'s>(
     ensures { OnOk result (out.new.items
         ≡ out.old.items ++ map lowered_enum (flat_map message_enum items.now)) }
 {
+    out.reserve_exact(enum_count(items))?;
     for item in items {
         if let MessageItem::Enum(declared) = item {
             put_enum(alloc, out, declared.get())?;
@@ -158,7 +167,7 @@ fn put_message_of<'s>(
 {
     let options = options_of(alloc, Element::Message, items)?;
     let mut parts = Parts {
-        fields: Vec::with_capacity(alloc, items.len())?,
+        fields: Vec::with_capacity(alloc, field_count(items))?,
         oneofs: Vec::new(alloc),
         enums: Vec::new(alloc),
         reserved_ranges: Vec::new(alloc),
@@ -180,6 +189,14 @@ fn put_message_of<'s>(
     Ok(())
 }
 
+/// How many messages these statements declare, and entries their map fields have.
+fn nested_count(items: &[MessageItem]) -> usize {
+    items
+        .iter()
+        .filter(|item| matches!(item, MessageItem::Map(_) | MessageItem::Message(_)))
+        .count()
+}
+
 /// Adds the messages that these statements of the message with this full name declare, and the entries of its map fields.
 #[cycle(messages)]
 fn put_nested<'s>(
@@ -191,6 +208,7 @@ fn put_nested<'s>(
     ensures { OnOk result (out.new.items
         ≡ out.old.items ++ flat_map (nested_of full.now) items.now) }
 {
+    out.reserve_exact(nested_count(items))?;
     for item in items {
         match item {
             MessageItem::Map(map) => put_entry(alloc, out, map.get())?,

@@ -3,7 +3,7 @@
 ghost use Rattle.std.specs.Prelude.{◌≡◌, ◌==◌, ℕ, IfOk, OnOk, string_bytes, map, false, List, [], ◌∷◌, ◌++◌};
 ghost use Rattle.std.specs.List.{list_any};
 ghost use Rattle.std.specs.Set.{is_member};
-ghost use Rattle.std.specs.Str.{chars, bytes_eq};
+ghost use Rattle.std.specs.Str.{bytes_eq};
 ghost use Rattle.std.specs.BTreeSet.{contains_text};
 ghost use Rattle.proto_lower.specs.Names.{raised, json_name_of, entry_name_of, oneof_name_of, first_free, with_underscore};
 ghost use Rattle.proto_lower.specs.Taken.{begins_as_made, HoldsTaken};
@@ -13,17 +13,17 @@ use std::alloc::{AllocError, Global};
 use std::collections::BTreeSet;
 
 fn has_underscore(name: &str) -> bool
-    ensures { result ≡ list_any (λ c. c == 95) (chars name.now) }
+    ensures { result ≡ list_any (λ byte. byte == 95) name.now }
 {
-    name.chars().any(|letter| letter == '_')
+    name.as_bytes().contains(&b'_')
 }
 
-/// A name without its underscores, where a lower-case ASCII letter directly behind one is raised; the character `before`
-/// stands before the first.
-fn raised(alloc: Global, name: &str, first: char) -> Result<String, AllocError>
-    ensures { IfOk result (λ made. string_bytes made ≡ raised first name.now) }
+/// Adds a name without its underscores, where a lower-case ASCII letter directly behind one is raised; the character
+/// `first` stands before the first.
+fn push_raised(made: &mut String, name: &str, first: char) -> Result<(), AllocError>
+    ensures { OnOk result (string_bytes made.new
+        ≡ string_bytes made.old ++ raised first name.now) }
 {
-    let mut made = String::with_capacity(alloc, name.len())?;
     let mut before = first;
     for letter in name.chars() {
         if letter != '_' {
@@ -32,14 +32,16 @@ fn raised(alloc: Global, name: &str, first: char) -> Result<String, AllocError>
         }
         before = letter;
     }
-    Ok(made)
+    Ok(())
 }
 
 /// The JSON name of a field: underscores are dropped, and a lower-case ASCII letter directly behind one is raised.
 pub fn json_name(alloc: Global, name: &str) -> Result<String, AllocError>
     ensures { IfOk result (λ json. string_bytes json ≡ json_name_of name.now) }
 {
-    raised(alloc, name, ' ')
+    let mut json = String::with_capacity(alloc, name.len())?;
+    push_raised(&mut json, name, ' ')?;
+    Ok(json)
 }
 
 /// The JSON name of a field, which borrows a name without underscores.
@@ -52,14 +54,28 @@ pub(crate) fn json_text<'s>(alloc: Global, name: &'s str) -> Result<Text<'s>, Al
     Ok(Text::owned(json_name(alloc, name)?))
 }
 
+/// What the name of a map field's entry ends with.
+const ENTRY: &str = "Entry";
+
 /// The name of a map field's entry: underscores are dropped, a lower-case ASCII letter is raised at the start and directly
 /// behind an underscore, and `Entry` is added.
 pub fn entry_name(alloc: Global, field: &str) -> Result<String, AllocError>
     ensures { IfOk result (λ name. string_bytes name ≡ entry_name_of field.now) }
 {
-    let mut name = raised(alloc, field, '_')?;
-    name.push_str("Entry")?;
+    let mut name = String::with_capacity(alloc, field.len().saturating_add(ENTRY.len()))?;
+    push_raised(&mut name, field, '_')?;
+    name.push_str(ENTRY)?;
     Ok(name)
+}
+
+/// A name with a letter in front.
+fn with_letter(alloc: Global, letter: &str, name: &str) -> Result<String, AllocError>
+    ensures { IfOk result (λ made. string_bytes made ≡ letter.now ++ name.now) }
+{
+    let mut made = String::with_capacity(alloc, name.len().saturating_add(letter.len()))?;
+    made.push_str(letter)?;
+    made.push_str(name)?;
+    Ok(made)
 }
 
 pub(crate) fn with_underscore(alloc: Global, field: &str) -> Result<String, AllocError>
@@ -68,9 +84,7 @@ pub(crate) fn with_underscore(alloc: Global, field: &str) -> Result<String, Allo
     if field.as_bytes().first() == Some(&b'_') {
         return String::from_str(alloc, field);
     }
-    let mut name = String::from_str(alloc, "_")?;
-    name.push_str(field)?;
-    Ok(name)
+    with_letter(alloc, "_", field)
 }
 
 /// The first name that is not taken, of `name` and it with `X` in front once, twice and so on up to `most` times.
@@ -87,9 +101,7 @@ pub(crate) fn first_free(
         if !taken.contains(name.as_str()) {
             return Ok(name);
         }
-        let mut longer = String::from_str(alloc, "X")?;
-        longer.push_str(name.as_str())?;
-        name = longer;
+        name = with_letter(alloc, "X", name.as_str())?;
     }
     Ok(name)
 }

@@ -1,7 +1,7 @@
 //! Options of an element (`descriptor.proto`, `FileOptions` to `MethodOptions`): of each option that the element may have,
 //! the first setting counts, and one whose value is of another kind sets nothing.
 
-ghost use Rattle.std.specs.Prelude.{◌≡◌, ◌++◌, IfOk, OnOk, flat_map, Some};
+ghost use Rattle.std.specs.Prelude.{◌≡◌, ◌++◌, [], IfOk, OnOk, flat_map, Some};
 ghost use Rattle.std.specs.Option.{option_copied, option_to_list};
 ghost use Rattle.proto_options.specs.Options.{bracketed, value_of};
 ghost use Rattle.proto_lower.specs.Options.{option_by, options_of, json_name_by};
@@ -90,6 +90,15 @@ pub(crate) fn field_json_name<'s>(
     json_text(alloc, name)
 }
 
+fn bracketed_count(options: &Option<Options>) -> usize
+    ensures { result ≡ 0 → bracketed options.now ≡ [] }
+{
+    match options {
+        Some(options) => options.settings.rest.len().saturating_add(1),
+        None => 0,
+    }
+}
+
 /// The options of a field or an enum value.
 pub(crate) fn bracketed_options<'s>(
     alloc: Global,
@@ -98,11 +107,28 @@ pub(crate) fn bracketed_options<'s>(
 ) -> Result<Row<OptionDesc<'s>>, AllocError>
     ensures { IfOk result (λ set. set ≡ options_of element (bracketed options.now)) }
 {
-    let mut set = Vec::new(alloc);
-    for rule in rules(element) {
+    let count = bracketed_count(options);
+    if count == 0 {
+        return Ok(Row::new(alloc));
+    }
+    let rules = rules(element);
+    let mut set = Vec::with_capacity(alloc, count.min(rules.len()))?;
+    for rule in rules {
         put_option(alloc, &mut set, rule, first_bracketed(options, rule.word))?;
     }
     Ok(Row::from_vec(set))
+}
+
+fn setting_count<'s, I: Item<'s>>(items: &[I]) -> usize
+    ensures { result ≡ 0 → flat_map I.setting_of items.now ≡ [] }
+{
+    let mut count = 0usize;
+    for item in items {
+        if item.setting().is_some() {
+            count = count.saturating_add(1);
+        }
+    }
+    count
 }
 
 /// The options that the statements of an element set.
@@ -113,8 +139,13 @@ pub(crate) fn options_of<'s, I: Item<'s>>(
 ) -> Result<Row<OptionDesc<'s>>, AllocError>
     ensures { IfOk result (λ set. set ≡ options_of element (flat_map I.setting_of items.now)) }
 {
-    let mut set = Vec::new(alloc);
-    for rule in rules(element) {
+    let count = setting_count(items);
+    if count == 0 {
+        return Ok(Row::new(alloc));
+    }
+    let rules = rules(element);
+    let mut set = Vec::with_capacity(alloc, count.min(rules.len()))?;
+    for rule in rules {
         put_option(alloc, &mut set, rule, first_setting(items, rule.word))?;
     }
     Ok(Row::from_vec(set))

@@ -35,11 +35,18 @@ fn put_method<'s>(
     Ok(())
 }
 
+fn method_count(items: &[ServiceItem]) -> usize {
+    items
+        .iter()
+        .filter(|item| matches!(item, ServiceItem::Rpc(_)))
+        .count()
+}
+
 fn methods<'s>(alloc: Global, items: &[ServiceItem<'s>]) -> Result<Row<MethodDesc<'s>>, AllocError>
     ensures { IfOk result (λ methods. methods
         ≡ map method_desc (flat_map service_rpc items.now)) }
 {
-    let mut methods = Vec::new(alloc);
+    let mut methods = Vec::with_capacity(alloc, method_count(items))?;
     for item in items {
         if let ServiceItem::Rpc(rpc) = item {
             put_method(alloc, &mut methods, rpc.get())?;

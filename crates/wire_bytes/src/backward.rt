@@ -29,7 +29,7 @@ impl Model for Backward {
     ghost invariant = { λ out. out.room ≤ vec_len out.bytes };
 }
 
-/// Makes the free room of a buffer at least this long, by doubling the buffer, and gives its length.
+/// Makes the free room of a buffer at least this long, by a buffer of twice the length or more, and gives its length.
 #[cold]
 #[inline(never)]
 fn widen(bytes: &mut Vec<u8>, room: usize, needed: usize) -> Result<usize, AllocError>
@@ -43,8 +43,10 @@ fn widen(bytes: &mut Vec<u8>, room: usize, needed: usize) -> Result<usize, Alloc
     let len = bytes.len();
     let more = len.max(needed);
     let longer = len.checked_add(more).ok_or(AllocError)?;
-    bytes.resize(longer, 0)?;
-    bytes.copy_within(room..len, room + more);
+    let mut buffer = Vec::with_capacity(*bytes.allocator(), longer)?;
+    buffer.resize(room + more, 0)?;
+    buffer.extend_from_slice(&bytes[room..])?;
+    *bytes = buffer;
     Ok(room + more)
 }
 
@@ -116,16 +118,10 @@ impl Backward {
         }
     }
 
-    /// What is written, in the buffer that it was written to.
-    pub(crate) fn into_vec(self) -> Vec<u8>
-        ensures { result.items ≡ self }
+    /// What is written, in a vector of no more room than that. The buffer is let go.
+    pub(crate) fn into_vec(self) -> Result<Vec<u8>, AllocError>
+        ensures { IfOk result (λ bytes. bytes.items ≡ self) }
     {
-        let Backward { mut bytes, room } = self;
-        if room > 0 {
-            let len = bytes.len() - room;
-            bytes.copy_within(room.., 0);
-            bytes.truncate(len);
-        }
-        bytes
+        Vec::from_slice(*self.bytes.allocator(), &self.bytes[self.room..])
     }
 }

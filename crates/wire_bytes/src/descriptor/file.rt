@@ -9,7 +9,10 @@ use crate::backward::{Backward, Payload};
 use crate::descriptor::options::prepend_options;
 use proto_base::row::Row;
 use proto_base::text::Text;
+use proto_desc::enumeration::EnumDesc;
 use proto_desc::file::{FileDesc, ImportDesc, PackageDesc};
+use proto_desc::message::MessageDesc;
+use proto_desc::service::ServiceDesc;
 use std::alloc::{AllocError, Global};
 
 /// An import as a dependency is its path.
@@ -63,29 +66,49 @@ fn prepend_file(out: &mut Backward, file: &FileDesc) -> Result<(), AllocError>
     out.prepend_field(1, &file.name)
 }
 
-/// Room for what one element takes, such as a field with two names of ten bytes.
-const ELEMENT_ROOM: usize = 40;
+/// Room for what one element takes, such as a field with two names of twenty bytes.
+const ELEMENT_ROOM: usize = 64;
 
-/// About how many bytes a file takes, by how many messages, enums and services there are on top, and how many fields,
-/// values and methods these have. Where it falls short the buffer grows.
+/// How many enums there are, and values in them.
+fn enum_elements(enums: &Row<EnumDesc>) -> usize {
+    let mut elements = enums.len();
+    for declared in enums.as_slice() {
+        elements = elements.saturating_add(declared.values.len());
+    }
+    elements
+}
+
+/// How many services there are, and methods in them.
+fn service_elements(services: &Row<ServiceDesc>) -> usize {
+    let mut elements = services.len();
+    for service in services.as_slice() {
+        elements = elements.saturating_add(service.methods.len());
+    }
+    elements
+}
+
+/// How many messages there are, with the fields, enums and messages in them.
+fn message_elements(messages: &Row<MessageDesc>) -> usize {
+    let mut elements = messages.len();
+    for message in messages.as_slice() {
+        elements = elements
+            .saturating_add(message.fields.len())
+            .saturating_add(enum_elements(&message.enums))
+            .saturating_add(message_elements(&message.nested));
+    }
+    elements
+}
+
+/// About how many bytes a file takes: so many for itself, each import, and each element that it declares, at whatever
+/// depth. Where it falls short the buffer grows.
 fn expected_len(file: &FileDesc) -> usize {
-    let mut elements = 1usize;
-    for message in file.messages.as_slice() {
-        elements = elements
-            .saturating_add(1)
-            .saturating_add(message.fields.len());
-    }
-    for declared in file.enums.as_slice() {
-        elements = elements
-            .saturating_add(1)
-            .saturating_add(declared.values.len());
-    }
-    for service in file.services.as_slice() {
-        elements = elements
-            .saturating_add(1)
-            .saturating_add(service.methods.len());
-    }
-    elements.saturating_mul(ELEMENT_ROOM)
+    file.imports
+        .len()
+        .saturating_add(1)
+        .saturating_add(message_elements(&file.messages))
+        .saturating_add(enum_elements(&file.enums))
+        .saturating_add(service_elements(&file.services))
+        .saturating_mul(ELEMENT_ROOM)
 }
 
 /// The bytes of a file's descriptor (`descriptor.proto`, `FileDescriptorProto`): its fields by rising number, and in it
@@ -96,5 +119,5 @@ pub fn file_bytes(alloc: Global, file: &FileDesc) -> Result<Vec<u8>, AllocError>
 {
     let mut out = Backward::with_room(alloc, expected_len(file))?;
     prepend_file(&mut out, file)?;
-    Ok(out.into_vec())
+    out.into_vec()
 }

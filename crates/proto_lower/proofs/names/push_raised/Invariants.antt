@@ -1,0 +1,9 @@
+use Rattle.std.proofs.Common.{◌++◌}
+use Rattle.std.specs.Prelude.{string_bytes}
+use Rattle.proto_lower.specs.Names.{raised}
+use Rattle.proto_lower.proofs.Raised.{IsSoFar}
+use Rattle.proto_lower.proofs.names.push_raised.Given as goal
+
+abbrev pub invariant-loop-letter : goal.invariant-loop-letter
+invariant-loop-letter l =
+    IsSoFar (string_bytes l.made) l.before l.letter-iterator.rest.now (string_bytes l.initial.made ++ raised l.fn.first l.name)

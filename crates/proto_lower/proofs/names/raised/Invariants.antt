@@ -1,6 +1,0 @@
-use Rattle.std.specs.Prelude.{string_bytes}
-use Rattle.proto_lower.proofs.Raised.{IsSoFar}
-use Rattle.proto_lower.proofs.names.raised.Given as goal
-
-abbrev pub invariant-loop-letter : goal.invariant-loop-letter
-invariant-loop-letter l = IsSoFar (string_bytes l.made) l.before l.letter-iterator.rest.now l.name l.fn.first
