@@ -1,16 +1,16 @@
 -- Words of private contracts: what a method of the parser promises.
-use Rattle.std.specs.Prelude.{◌≡◌, true, false, List, map, Result, Ok, Err, ℕ, slice_get, Option, None, Some}
+use Rattle.std.specs.Prelude.{◌≡◌, true, false, List, [], ◌∷◌, map, Result, Ok, Err, ℕ, slice_get, Option, None, Some}
 use Rattle.proto_base.specs.declared.place.Span.{Span}
 use Rattle.proto_tokens.specs.declared.token.Token.{Token}
 use Rattle.proto_tokens.specs.Token.{Spelled}
 use Rattle.proto_tokens.specs.ProgramTokens.{spelled, tokens_of}
 use Rattle.proto_syntax.specs.declared.parser.stop.Stop.{Stop}
 use Rattle.proto_syntax.specs.declared.parser.stop.Stop.TheVariants as stop
-use Rattle.proto_syntax.specs.Grammar.{Grammar, ◌∣◌, Tree, Pair}
+use Rattle.proto_syntax.specs.Grammar.{Class, Grammar, One, ◌∣◌, Tree, Pair}
 use Rattle.proto_syntax.specs.Language.{enum, option, oneof, reserved, map_or_field, symbol, field}
 use Rattle.std.specs.Str.{byte}
 use Rattle.proto_syntax.specs.Trees.{row, symbol_tree}
-use Rattle.proto_syntax.specs.Reading.{Outcome, Read, Stops, read}
+use Rattle.proto_syntax.specs.Reading.{Outcome, Read, Stops, read, next_fits}
 use Rattle.proto_tokens.specs.declared.token.Tokens.{Tokens}
 use Rattle.proto_base.specs.declared.kind.Kind.{Kind}
 use Rattle.proto_base.specs.declared.kind.Kind.TheVariants.{UnexpectedEnd}
@@ -36,6 +36,12 @@ Gives tree (Err e) rest o = Fails e rest o
 -- A method took a tree of that grammar from the front of the tokens, or stopped at their fault.
 abbrev pub Reads : {X : Type 0} → (X → Tree) → Grammar → Result X Stop → List Token → List Token → Type 0
 Reads tree g result old new = Gives tree result new (read g (spellings old))
+
+-- A method took the next token, which is of that class, or left it, which is not.
+abbrev pub TakesIf : {X : Type 0} → (X → Tree) → Class → Option X → List Token → List Token → Type 0
+TakesIf tree c None old new = (next_fits (c ∷ []) (spellings old) ≡ false) × (new ≡ old)
+TakesIf tree c (Some x) old new =
+    (next_fits (c ∷ []) (spellings old) ≡ true) × (read (One c) (spellings old) ≡ Read (tree x) (spellings new))
 
 -- a statement of a message that is no message
 abbrev pub flat_item : Grammar

@@ -1,5 +1,5 @@
 -- Strings, part after part.
-use Rattle.std.proofs.Common.{◌≡◌, ℕ, zero, suc, ◌+◌, ◌<◌, ◌≤◌, true, false, Some, List, [], ◌∷◌, ◌++◌, length, get_or, take, drop, refl, sym, ap, subst, ◌∙◌, inl, inr, arith, append_assoc, length-take-le, length-drop, get_or-take, add-zero, zero-add, add-one}
+use Rattle.std.proofs.Common.{◌≡◌, ℕ, zero, suc, ◌+◌, ◌<◌, ◌≤◌, true, false, Some, List, [], ◌∷◌, ◌++◌, length, get_or, take, drop, ◌⊎◌, refl, sym, ap, subst, ◌∙◌, inl, inr, arith, append_assoc, length-take-le, length-drop, get_or-take, add-zero, zero-add, add-one}
 use Rattle.std.specs.Prelude.{slice_range, ◌-◌}
 use Rattle.std.specs.List.{prefix_len}
 use Rattle.std.proofs.lemmas.Bool.{both_ways}
@@ -75,6 +75,14 @@ read_run quote after value end (suc n) so_far le =
     ap (λ (v : List ℕ). value ++ v) taken ∙ sym (append_assoc value (take n (drop end after)) (b ∷ [])) in
     let place : end + suc n ≡ end + n + 1 = omega arith in
     rw (bytes, place) next
+
+-- the plain bytes at the front
+pub read_plain : (quote : ℕ) (after value : List ℕ) (n : ℕ) → n ≡ prefix_len (is_plain quote) after
+    → value ≡ take n after → IsReadUpTo quote after value n
+read_plain quote after value n n_is value_is =
+    let read = read_run quote after [] 0 n (read_none quote after) (omega (arith, n_is)) in
+    subst (λ (v : List ℕ). IsReadUpTo quote after v n) (sym value_is)
+    (subst (IsReadUpTo quote after (take n after)) (zero-add n) read)
 
 -- ---- where no part stands
 
@@ -175,16 +183,9 @@ not_text quote after value end closed no_text =
 pub plain_closed : (quote : ℕ) (after : List ℕ) (n : ℕ) → is_quote quote ≡ true → n ≡ prefix_len (is_plain quote) after → HasByteAt after n quote
     → IsClosed quote after (take n after) n
 plain_closed quote after n quote_is n_is closes =
-    let read = read_run quote after [] 0 n (read_none quote after) (omega (arith, n_is)) in
-    let within = closes.0 in (
+    let read = read_plain quote after (take n after) n n_is refl in (
       read.parts,
-      record {
-        begins_so = refl;
-        quote_is = quote_is;
-        cut =
-            subst (λ (i : ℕ). IsCutInto (IsPart quote) (λ p. p.len) after 0 read.parts i) (zero-add n) read.cut;
-        within = omega arith;
-      },
+      record { begins_so = refl; quote_is = quote_is; cut = read.cut; within = read.within },
       closes,
       read.value_is,
     )
@@ -223,14 +224,17 @@ pub not_text_here : (s : List ℕ) (quote : ℕ) (after value : List ℕ) (end a
 not_text_here s quote after value end at e s_is closed no_text e_is =
     rw (e_is, s_is) (0, not_text quote after value end closed (λ utf8. absurd (let h = no_text utf8 in cc)), sym (add-zero at))
 
--- the text ends before the string closes
-pub unclosed_here : (quote : ℕ) (after value : List ℕ) (end at : ℕ) (e : TokenError) → is_quote quote ≡ true → IsReadUpTo quote after value end
-    → length after ≤ end → e ≡ errors.At (record { offset = at }) kinds.UnclosedString → IsFaultAfter (quote ∷ after) at e
-unclosed_here quote after value end at e quote_is so_far past e_is =
+-- the text or its line ends before the string closes
+pub unclosed_here : (quote : ℕ) (after value : List ℕ) (end at : ℕ) (e : TokenError) → is_quote quote ≡ true
+    → IsReadUpTo quote after value end → (length after ≤ end) ⊎ HasByteAt after end 10
+    → e ≡ errors.At (record { offset = at }) kinds.UnclosedString → IsFaultAfter (quote ∷ after) at e
+unclosed_here quote after value end at e quote_is so_far ends e_is =
     let opened : IsOpened (quote ∷ after) quote after so_far.parts end =
     record { begins_so = refl; quote_is = quote_is; cut = so_far.cut; within = so_far.within } in
-    let whole : end ≡ length after = omega (arith, so_far.within) in
-    rw e_is (0, inr (inr (inr (inr (quote, after, so_far.parts, end, opened, inr (inr (inr (refl, refl, inl whole))))))), sym (add-zero at))
+    let stops : (end ≡ length after) ⊎ HasByteAt after end 10 =
+    elim ends [ inl past ↦ inl (omega (arith, so_far.within)) | inr line_feed ↦ inr line_feed ] in
+    let fault = inr (inr (inr (refl, refl, stops))) in
+    rw e_is (0, inr (inr (inr (inr (quote, after, so_far.parts, end, opened, fault)))), sym (add-zero at))
 
 -- a backslash at which no escape stands
 pub no_escape_here : (quote : ℕ) (after value behind : List ℕ) (end at : ℕ) (e : TokenError) → is_quote quote ≡ true → IsReadUpTo quote after value end

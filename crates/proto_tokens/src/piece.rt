@@ -17,6 +17,7 @@ use crate::bytes::{
 use crate::numeral::numeral_value;
 use crate::quoted::string;
 use crate::token::{TokenError, TokenKind, fault_at};
+use memchr::memmem;
 use proto_base::Kind;
 use std::alloc::Global;
 
@@ -35,12 +36,7 @@ fn number(rest: &[u8]) -> Result<(u64, usize), Kind>
 fn close_position(bytes: &[u8]) -> Option<usize>
     ensures { MatchOption result (HasNoClose bytes.now) (IsFirstClose bytes.now) }
 {
-    for at in 1..bytes.len() {
-        if bytes[at - 1] == b'*' && bytes[at] == b'/' {
-            return Some(at - 1);
-        }
-    }
-    None
+    memmem::find(bytes, b"*/")
 }
 
 /// The bytes of the source from a place on.

@@ -33,20 +33,24 @@ fn is_plain(quote: u8, byte: u8) -> bool
     !(byte == quote || matches!(byte, b'\\' | b'\n' | 0))
 }
 
-/// The value of the string whose opening quote stands at a place and has these bytes behind it, and where among them it closes.
+/// The value of the string whose opening quote stands at a place and has these bytes behind it, of which the first
+/// `plain` are plain, and where among them it closes.
 fn string_value(
     alloc: Global,
     quote: u8,
     after: &[u8],
+    plain: usize,
     at: usize,
 ) -> Result<(Vec<u8>, usize), TokenError>
     requires quote { IsTrue (is_quote quote) }
+    requires plain { plain ≡ prefix_len (is_plain quote) after.now }
+    requires within { plain ≤ length after.now }
     requires short { at + length after.now + 1 < 2 ^ 32 }
     ensures { MatchResult result (λ found. IsClosed quote after.now found.0.items found.1)
         (IsFaultAfter (quote ∷ after.now) at) }
 {
-    let mut value = Vec::new(alloc);
-    let mut end = 0;
+    let mut value = Vec::from_slice(alloc, &after[..plain])?;
+    let mut end = plain;
     while end < after.len() {
         let byte = after[end];
         if byte == quote {
@@ -94,7 +98,7 @@ pub(crate) fn string<'s>(
     if len < after.len() && after[len] == quote {
         return Ok((CowStr::Borrowed(&source[start..start + len]), len + 2));
     }
-    let (value, end) = string_value(alloc, quote, after, at)?;
+    let (value, end) = string_value(alloc, quote, after, len, at)?;
     match String::from_utf8(value) {
         Ok(value) => Ok((CowStr::Owned(value), end + 2)),
         Err(_) => Err(fault_at(at, Kind::BadEscape)),

@@ -58,8 +58,7 @@ impl<'s, 't> Parser<'s, 't> {
         ensures { Reads type_tree (type_but (excluded_words position)) result self.old.rest.now
             self.new.rest.now }
     {
-        if self.at_scalar() {
-            let (scalar, span) = self.scalar()?;
+        if let Some((scalar, span)) = self.optional_scalar() {
             return Ok(FieldType::Scalar(scalar, span));
         }
         let name = self.type_name(position)?;

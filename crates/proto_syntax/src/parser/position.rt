@@ -5,7 +5,7 @@ ghost use Rattle.proto_syntax.specs.Grammar.{among};
 ghost use Rattle.proto_syntax.specs.Language.{scalar_words, statement_words};
 ghost use Rattle.proto_syntax.specs.Position.{excluded_words};
 
-use crate::parser::scalar::scalar_type;
+use crate::parser::scalar::{initial, scalar_type};
 
 /// Where the name of a type stands.
 #[derive(Clone, Copy)]
@@ -38,20 +38,14 @@ pub fn is_enum_statement_word(text: &str) -> bool
 fn is_statement_word(text: &str) -> bool
     ensures { result ≡ among text.now statement_words }
 {
-    matches!(
-        text,
-        "message"
-            | "enum"
-            | "option"
-            | "oneof"
-            | "reserved"
-            | "extend"
-            | "extensions"
-            | "optional"
-            | "repeated"
-            | "required"
-            | "group"
-    )
+    match initial(text) {
+        b'e' => matches!(text, "enum" | "extend" | "extensions"),
+        b'g' => text == "group",
+        b'm' => text == "message",
+        b'o' => matches!(text, "option" | "oneof" | "optional"),
+        b'r' => matches!(text, "reserved" | "repeated" | "required"),
+        _ => false,
+    }
 }
 
 /// Whether this word begins something else at this position.

@@ -9,10 +9,10 @@ ghost use Rattle.proto_syntax.specs.Reading.{read, read_one, next_fits};
 ghost use Rattle.proto_syntax.specs.Language.{number, string_token, scalar_words, key_words};
 ghost use Rattle.proto_syntax.specs.Position.{excluded_words};
 ghost use Rattle.proto_syntax.specs.Trees.{symbol_tree, word_tree, name_tree, number_tree, string_tree, optional, word_of_scalar, word_of_key};
-ghost use Rattle.proto_syntax.specs.Gives.{Reads, spellings};
+ghost use Rattle.proto_syntax.specs.Gives.{Reads, TakesIf, spellings};
 
 use crate::parser::Parser;
-use crate::parser::position::{Position, is_enum_statement_word, is_excluded, is_scalar};
+use crate::parser::position::{Position, is_enum_statement_word, is_excluded};
 use crate::parser::rule::{Parse, Peek};
 use crate::parser::scalar::{key_type, scalar_type};
 use crate::parser::stop::Stop;
@@ -73,19 +73,6 @@ impl<'s, 't> Parser<'s, 't> {
     {
         match self.rest.first() {
             Some(token) => matches!(&token.kind, TokenKind::Identifier(_)),
-            None => false,
-        }
-    }
-
-    /// Whether the next token is the word of a scalar type.
-    pub(crate) fn at_scalar(&self) -> bool
-        ensures { result ≡ next_fits (OneOf scalar_words ∷ []) (spellings self.now.rest.now) }
-    {
-        match self.rest.first() {
-            Some(token) => match &token.kind {
-                TokenKind::Identifier(text) => is_scalar(text),
-                _ => false,
-            },
             None => false,
         }
     }
@@ -214,9 +201,9 @@ impl<'s, 't> Parser<'s, 't> {
         Err(Stop::Unexpected)
     }
 
-    /// The word of a scalar type.
-    pub(crate) fn scalar(&mut self) -> Result<(ScalarType, Span), Stop>
-        ensures { Reads (λ s. word_tree (word_of_scalar s.0) s.1) (One (OneOf scalar_words)) result
+    /// The word of a scalar type, if it is the next token.
+    pub(crate) fn optional_scalar(&mut self) -> Option<(ScalarType, Span)>
+        ensures { TakesIf (λ s. word_tree (word_of_scalar s.0) s.1) (OneOf scalar_words) result
             self.old.rest.now self.new.rest.now }
     {
         if let [token, rest @ ..] = self.rest
@@ -224,9 +211,9 @@ impl<'s, 't> Parser<'s, 't> {
             && let Some(scalar) = scalar_type(text)
         {
             self.rest = rest;
-            return Ok((scalar, token.span));
+            return Some((scalar, token.span));
         }
-        Err(Stop::Unexpected)
+        None
     }
 
     /// The word of the type of a map's key.

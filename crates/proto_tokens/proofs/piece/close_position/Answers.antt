@@ -1,5 +1,5 @@
-use Rattle.std.proofs.Common.{rules}
+use Rattle.proto_tokens.proofs.Searches.{close_found}
 use Rattle.proto_tokens.proofs.piece.close_position.Goals as goal
 
-pub loop-at-preserved : goal.loop-at-preserved
-loop-at-preserved c = search rules
+pub returns : goal.returns
+returns c = close_found c.args.bytes.now c.find.result c.find.ensures

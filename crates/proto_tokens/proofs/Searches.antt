@@ -1,0 +1,56 @@
+-- What the searches for a byte and for the end of a block comment find.
+use Rattle.std.proofs.Common.{◌≡◌, ℕ, zero, suc, ◌+◌, ◌<◌, ◌≤◌, true, List, [], ◌∷◌, Option, Some, None, length, get_or, sym, ap, ◌∙◌, arith, add-zero}
+use Rattle.std.specs.Prelude.{MatchOption}
+use Rattle.std.specs.List.{prefix_len}
+use Rattle.std.specs.Option.{unwrap_or}
+use Rattle.std.proofs.lemmas.Bool.{false_from_ne_true, not_from_false, not_from_true}
+use Rattle.std.proofs.lemmas.List.{get_or_past}
+use Rattle.std.proofs.lemmas.List.Sums.{prefix_len_is}
+use Rattle.memchr.specs.Find.{IsFirstByte, is_byte, FindsNeedle, OccursAt}
+use Rattle.proto_tokens.specs.Bytes.{is_in_line}
+use Rattle.proto_tokens.specs.Piece.{HasNoClose}
+use Rattle.proto_tokens.specs.Steps.{IsFirstClose}
+
+-- a byte that is no LF stands in a line
+stays : (b : ℕ) → (is_byte 10 b ≡ true → ⊥) → is_in_line b ≡ true
+stays b differs = not_from_false (is_byte 10 b) (false_from_ne_true (is_byte 10 b) differs)
+
+-- a line ends at its first LF, or where the text ends
+pub line_ends : (s : List ℕ) (r : Option ℕ) → IsFirstByte (is_byte 10) s r
+    → unwrap_or r (length s) ≡ prefix_len is_in_line s
+line_ends s None none =
+    sym (prefix_len_is is_in_line s (length s) 0 (omega arith)
+    (λ k lt. stays (get_or s k 0) (none k (omega arith) lt)) (λ lt. absurd (omega arith)))
+line_ends s (Some n) found =
+    let first = found.0 in
+    let within = first.high in
+    sym (prefix_len_is is_in_line s n 0 (omega arith)
+    (λ k lt. stays (get_or s k 0) (first.before k (omega arith) lt))
+    (λ lt. not_from_true (is_byte 10 (get_or s n 0)) found.1))
+
+-- `*` and `/` behind it are the needle
+close_reads : (s : List ℕ) (i : ℕ) → get_or s i 0 ≡ 42 → get_or s (i + 1) 0 ≡ 47 → (j : ℕ) → j < 2
+    → get_or s (i + j) 0 ≡ get_or (42 ∷ 47 ∷ []) j 0
+close_reads s i star slash zero lt = ap (λ k. get_or s k 0) (add-zero i) ∙ star
+close_reads s i star slash (suc zero) lt = slash
+close_reads s i star slash (suc (suc j)) lt = absurd (omega arith)
+
+close_occurs : (s : List ℕ) (i : ℕ) → get_or s i 0 ≡ 42 → get_or s (i + 1) 0 ≡ 47 → OccursAt s (42 ∷ 47 ∷ []) i
+close_occurs s i star slash =
+    let past : length s ≤ i + 1 → ⊥ = λ le. let e = sym (get_or_past s (i + 1) 0 le) ∙ slash in cc in
+    record { fits = omega (arith, past); reads = close_reads s i star slash }
+
+-- what a search for `*/` finds is its first place
+pub close_found : (s : List ℕ) (r : Option ℕ) → FindsNeedle s (42 ∷ 47 ∷ []) 0 r
+    → MatchOption r (HasNoClose s) (IsFirstClose s)
+close_found s None none = λ i star slash.
+    let here = close_occurs s i star slash in
+    none i (omega arith) (omega (arith, here.fits)) here
+close_found s (Some n) found =
+    let fits : n + 2 ≤ length s = found.1.fits in
+    record {
+      fits = omega arith;
+      star = ap (λ k. get_or s k 0) (sym (add-zero n)) ∙ found.1.reads 0 (omega arith);
+      slash = found.1.reads 1 (omega arith);
+      first = λ i lt star slash. found.0.before i (omega arith) lt (close_occurs s i star slash);
+    }
