@@ -5,11 +5,13 @@ use Rattle.std.specs.Str.{byte}
 use Prim.Native.String.{String}
 use Rattle.proto_tokens.specs.Token.{Spelled}
 use Rattle.proto_tokens.specs.declared.token.Token.{Token}
+use Rattle.proto_syntax.specs.declared.parser.item.ItemKind.{ItemKind}
+use Rattle.proto_syntax.specs.declared.parser.item.ItemKind.TheVariants as kind
 use Rattle.proto_syntax.specs.declared.parser.stop.Stop.{Stop}
 use Rattle.proto_syntax.specs.declared.parser.stop.Stop.TheVariants as stop
 use Rattle.proto_syntax.specs.Grammar.{OneOf, Symbol, Grammar, Tree, Left, Right}
 use Rattle.proto_syntax.specs.Reading.{Outcome, Read, Stops, mapped, read, next_fits}
-use Rattle.proto_syntax.specs.Gives.{Fails, Gives, spellings, flat_item}
+use Rattle.proto_syntax.specs.Gives.{BeginsItem, Fails, Gives, spellings, flat_item}
 use Rattle.proto_syntax.specs.Language.{symbol, number, signed, range_of, reserved_of, import, «package», option, enum, service, statement, oneof, reserved, range, map_or_field, field, ereserved, erange, value, enum_item}
 use Rattle.proto_syntax.proofs.Levels.{IsLevel, begins_import, begins_option, begins_service, begins_oneof, begins_reserved, begins_map, begins_ereserved}
 
@@ -99,34 +101,38 @@ pub statement_empty : (m : Grammar) → IsLevel m → (ts : List Spelled) → At
 statement_empty m h ts e1 e2 e3 e4 e5 e6 = rw (begins_import, e1, e2, begins_option, e3, h.begins_so, e4, e5, begins_service, e6) refl
 
 -- the ways of a statement of a message that is no message
-pub item_enum : (ts : List Spelled) → At "enum" ts true → mapped Right (read flat_item ts) ≡ way 1 (read enum ts)
+abbrev Begins : ItemKind → List Spelled → Type 0
+Begins k ts = BeginsItem k (λ class. next_fits (class ∷ []) ts)
+
+pub item_enum : (ts : List Spelled) → Begins kind.Enum ts → mapped Right (read flat_item ts) ≡ way 1 (read enum ts)
 item_enum ts e1 = rw e1 refl
 
-pub item_option : (ts : List Spelled) → At "enum" ts false → At "option" ts true → mapped Right (read flat_item ts) ≡ way 2 (read option ts)
-item_option ts e1 e2 = rw (e1, begins_option, e2) refl
+pub item_option : (ts : List Spelled) → Begins kind.Option ts
+    → mapped Right (read flat_item ts) ≡ way 2 (read option ts)
+item_option ts (e1, e2) = rw (e1, begins_option, e2) refl
 
-pub item_oneof : (ts : List Spelled) → At "enum" ts false → At "option" ts false → At "oneof" ts true
-    → mapped Right (read flat_item ts) ≡ way 3 (read oneof ts)
-item_oneof ts e1 e2 e3 = rw (e1, begins_option, e2, begins_oneof, e3) refl
+pub item_oneof : (ts : List Spelled) → Begins kind.Oneof ts → mapped Right (read flat_item ts) ≡ way 3 (read oneof ts)
+item_oneof ts (e1, e2, e3) = rw (e1, begins_option, e2, begins_oneof, e3) refl
 
-pub item_reserved : (ts : List Spelled) → At "enum" ts false → At "option" ts false → At "oneof" ts false → At "reserved" ts true
+pub item_reserved : (ts : List Spelled) → Begins kind.Reserved ts
     → mapped Right (read flat_item ts) ≡ way 4 (read (reserved_of (range_of number)) ts)
 unfolding reserved range
-item_reserved ts e1 e2 e3 e4 = rw (e1, begins_option, e2, begins_oneof, e3, begins_reserved, e4) refl
+item_reserved ts (e1, e2, e3, e4) = rw (e1, begins_option, e2, begins_oneof, e3, begins_reserved, e4) refl
 
-pub item_map : (ts : List Spelled) → At "enum" ts false → At "option" ts false → At "oneof" ts false → At "reserved" ts false → At "map" ts true
+pub item_map : (ts : List Spelled) → Begins kind.Map ts
     → mapped Right (read flat_item ts) ≡ way 5 (read map_or_field ts)
-item_map ts e1 e2 e3 e4 e5 = rw (e1, begins_option, e2, begins_oneof, e3, begins_reserved, e4, begins_map, e5) refl
+item_map ts ((e1, e2, e3, e4), e5) =
+    rw (e1, begins_option, e2, begins_oneof, e3, begins_reserved, e4, begins_map, e5) refl
 
-pub item_empty : (ts : List Spelled) → At "enum" ts false → At "option" ts false → At "oneof" ts false → At "reserved" ts false
-    → At "map" ts false → AtSign ";" ts true
+pub item_empty : (ts : List Spelled) → Begins kind.Empty ts
     → mapped Right (read flat_item ts) ≡ way 6 (read (symbol ";") ts)
-item_empty ts e1 e2 e3 e4 e5 e6 = rw (e1, begins_option, e2, begins_oneof, e3, begins_reserved, e4, begins_map, e5, e6) refl
+item_empty ts ((e1, e2, e3, e4), e5, e6) =
+    rw (e1, begins_option, e2, begins_oneof, e3, begins_reserved, e4, begins_map, e5, e6) refl
 
-pub item_field : (ts : List Spelled) → At "enum" ts false → At "option" ts false → At "oneof" ts false → At "reserved" ts false
-    → At "map" ts false → AtSign ";" ts false
+pub item_field : (ts : List Spelled) → Begins kind.Field ts
     → mapped Right (read flat_item ts) ≡ behind 7 (read field ts)
-item_field ts e1 e2 e3 e4 e5 e6 = rw (e1, begins_option, e2, begins_oneof, e3, begins_reserved, e4, begins_map, e5, e6) refl
+item_field ts ((e1, e2, e3, e4), e5, e6) =
+    rw (e1, begins_option, e2, begins_oneof, e3, begins_reserved, e4, begins_map, e5, e6) refl
 
 -- a statement that begins with the word `map` is that way
 pub as_map : (o : Outcome) → mapped (λ x. Right (Right (Right (Right (Right (Left x)))))) o ≡ way 5 o

@@ -1,14 +1,17 @@
 -- Words of private contracts: what a method of the parser promises.
-use Rattle.std.specs.Prelude.{◌≡◌, true, false, List, [], ◌∷◌, map, Result, Ok, Err, ℕ, slice_get, Option, None, Some}
+use Rattle.std.specs.Prelude.{◌≡◌, Bool, codes, true, false, List, [], ◌∷◌, map, Result, Ok, Err, ℕ, slice_get, Option, None, Some}
 use Rattle.proto_base.specs.declared.place.Span.{Span}
 use Rattle.proto_tokens.specs.declared.token.Token.{Token}
 use Rattle.proto_tokens.specs.Token.{Spelled}
 use Rattle.proto_tokens.specs.ProgramTokens.{spelled, tokens_of}
+use Rattle.proto_syntax.specs.declared.parser.item.ItemKind.{ItemKind}
+use Rattle.proto_syntax.specs.declared.parser.item.ItemKind.TheVariants as kind
 use Rattle.proto_syntax.specs.declared.parser.stop.Stop.{Stop}
 use Rattle.proto_syntax.specs.declared.parser.stop.Stop.TheVariants as stop
-use Rattle.proto_syntax.specs.Grammar.{Class, Grammar, One, ◌∣◌, Tree, Pair}
+use Rattle.proto_syntax.specs.Grammar.{Class, OneOf, Symbol, Grammar, One, ◌∣◌, Tree, Pair}
 use Rattle.proto_syntax.specs.Language.{enum, option, oneof, reserved, map_or_field, symbol, field}
 use Rattle.std.specs.Str.{byte}
+use Prim.Native.String.{String}
 use Rattle.proto_syntax.specs.Trees.{row, symbol_tree}
 use Rattle.proto_syntax.specs.Reading.{Outcome, Read, Stops, read, next_fits}
 use Rattle.proto_tokens.specs.declared.token.Tokens.{Tokens}
@@ -46,6 +49,27 @@ TakesIf tree c (Some x) old new =
 -- a statement of a message that is no message
 abbrev pub flat_item : Grammar
 flat_item = enum ∣ option ∣ oneof ∣ reserved ∣ map_or_field ∣ symbol ";" ∣ field
+
+-- A token is that word, or is not, where `at` tells whether it is of a class.
+abbrev pub IsAt : (Class → Bool) → String → Type 0
+IsAt at w = at (OneOf (codes w ∷ [])) ≡ true
+
+abbrev pub IsPast : (Class → Bool) → String → Type 0
+IsPast at w = at (OneOf (codes w ∷ [])) ≡ false
+
+-- it begins none of the first four parts of `flat_item`
+abbrev pub IsPastWords : (Class → Bool) → Type 0
+IsPastWords at = IsPast at "enum" × IsPast at "option" × IsPast at "oneof" × IsPast at "reserved"
+
+-- it begins that part of `flat_item`, and none before it
+abbrev pub BeginsItem : ItemKind → (Class → Bool) → Type 0
+BeginsItem kind.Enum at = IsAt at "enum"
+BeginsItem kind.Option at = IsPast at "enum" × IsAt at "option"
+BeginsItem kind.Oneof at = IsPast at "enum" × IsPast at "option" × IsAt at "oneof"
+BeginsItem kind.Reserved at = IsPast at "enum" × IsPast at "option" × IsPast at "oneof" × IsAt at "reserved"
+BeginsItem kind.Map at = IsPastWords at × IsAt at "map"
+BeginsItem kind.Empty at = IsPastWords at × IsPast at "map" × (at (Symbol (byte ";")) ≡ true)
+BeginsItem kind.Field at = IsPastWords at × IsPast at "map" × (at (Symbol (byte ";")) ≡ false)
 
 -- the kind that the token at k shows, where it is not the depth
 abbrev pub kind_here : Option Spelled → Option Spelled → Kind

@@ -17,6 +17,7 @@ mod enumeration;
 mod fault;
 mod field;
 mod file;
+mod item;
 mod list;
 mod literal;
 mod message;

@@ -8,6 +8,7 @@ ghost use Rattle.proto_syntax.specs.Trees.{message_item_tree, message_tree};
 ghost use Rattle.proto_syntax.specs.Gives.{Gives, Reads, flat_item, spellings, body_tree};
 
 use crate::parser::Parser;
+use crate::parser::item::ItemKind;
 use crate::parser::stop::Stop;
 use proto_base::Span;
 use proto_base::boxed::Boxed;
@@ -52,26 +53,18 @@ impl<'s, 't> Parser<'s, 't> {
         ensures { Gives message_item_tree result self.new.rest.now
             (mapped Right (read flat_item (spellings self.old.rest.now))) }
     {
-        if self.at_keyword("enum") {
-            return self.boxed().map(MessageItem::Enum);
+        match self.item_kind() {
+            ItemKind::Enum => self.boxed().map(MessageItem::Enum),
+            ItemKind::Option => self.boxed().map(MessageItem::Option),
+            ItemKind::Oneof => self.boxed().map(MessageItem::Oneof),
+            ItemKind::Reserved => self.reserved().map(MessageItem::Reserved),
+            ItemKind::Map => self.map_or_field(),
+            ItemKind::Empty => {
+                let span = self.symbol(';')?;
+                Ok(MessageItem::Empty(span))
+            }
+            ItemKind::Field => self.boxed().map(MessageItem::Field),
         }
-        if self.at_keyword("option") {
-            return self.boxed().map(MessageItem::Option);
-        }
-        if self.at_keyword("oneof") {
-            return self.boxed().map(MessageItem::Oneof);
-        }
-        if self.at_keyword("reserved") {
-            return self.reserved().map(MessageItem::Reserved);
-        }
-        if self.at_keyword("map") {
-            return self.map_or_field();
-        }
-        if self.at_symbol(';') {
-            let span = self.symbol(';')?;
-            return Ok(MessageItem::Empty(span));
-        }
-        self.boxed().map(MessageItem::Field)
     }
 
     /// A statement of a message.
