@@ -5,13 +5,16 @@ use Rattle.proto_names.proofs.Around.{candidate_trans}
 use Rattle.proto_names.proofs.index.NameIndex.innermost.Goals as goal
 
 pub loop-decision-preserved : goal.loop-decision-preserved
-loop-decision-preserved c = record {
-  within = candidate_trans c.in-Some-parent.outer.text.now c.loop-decision.inner.text.now c.args.scope.now c.in-Some-parent.ensures.0 c.loop-decision.invariant.within;
-  left = λ d h k.
-      (let at : (d ≡ c.loop-decision.inner.text.now) ⊎ IsCandidate d c.in-Some-parent.outer.text.now = c.in-Some-parent.ensures.2 d (c.loop-decision.invariant.left d h k) in
-      elim at [
-        | inl same ↦ absurd (c.in_default.ensures
-            (subst (λ (x : List ℕ). Decides c.args.self.now.occurrences (SeenBy c.args.links.now c.args.file) x c.args.spelled.now) same k))
-        | inr inside ↦ inside
-      ]);
-}
+loop-decision-preserved c =
+    let inner = c.loop-decision.inner.text.now in
+    let outer = c.in-Some-parent.outer.text.now in
+    let decides = Decides c.args.self.now.occurrences (SeenBy c.args.links.now c.args.file) in
+    record {
+      within = candidate_trans outer inner c.args.scope.now c.in-Some-parent.ensures.0 c.loop-decision.invariant.within;
+      left = λ d h k.
+          (let at : (d ≡ inner) ⊎ IsCandidate d outer = c.in-Some-parent.ensures.2 d (c.loop-decision.invariant.left d h k) in
+          elim at [
+            | inl same ↦ absurd (c.in_default.ensures (subst (λ (x : List ℕ). decides x c.args.spelled.now) same k))
+            | inr inside ↦ inside
+          ]);
+    }
