@@ -27,8 +27,8 @@ fn mark_len(text: &[u8]) -> usize
     }
 }
 
-/// How many bytes of a source there are for each of its tokens, or more: what is made room for at first.
-const BYTES_FOR_A_TOKEN: usize = 4;
+/// How many bytes a source without comments has for each of its tokens: room is made for so many at first.
+const BYTES_FOR_A_TOKEN: usize = 6;
 
 /// The tokens of a source from a place on.
 fn tokens_from<'s>(
