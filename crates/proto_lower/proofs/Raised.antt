@@ -18,7 +18,8 @@ letters_unchanged before (c ∷ cs) apart none =
     rw (here, apart) (ap (λ xs. c ∷ xs) (letters_unchanged c cs here rest))
 
 -- an underscore among the characters is one of the bytes
-none_of_letters : (cs : List ℕ) → list_any (λ c. c == 95) (encode_utf8_all cs) ≡ false → list_any (λ c. c == 95) cs ≡ false
+none_of_letters : (cs : List ℕ) → list_any (λ c. c == 95) (encode_utf8_all cs) ≡ false
+    → list_any (λ c. c == 95) cs ≡ false
 unfolding lib.Utf8.encode
 none_of_letters [] none = refl
 none_of_letters (c ∷ cs) none =
@@ -28,7 +29,8 @@ none_of_letters (c ∷ cs) none =
     let others = none_of_letters cs rest in
     grind (arith, nat_tests)
 
-pub json_name_unchanged : (name : List ℕ) → IsUtf8 name → list_any (λ c. c == 95) name ≡ false → json_name_of name ≡ name
+pub json_name_unchanged : (name : List ℕ) → IsUtf8 name → list_any (λ c. c == 95) name ≡ false
+    → json_name_of name ≡ name
 json_name_unchanged name utf8 none =
     let whole = encodes-chars name utf8 in
     ap encode_utf8_all (letters_unchanged 32 (chars name) refl
@@ -43,8 +45,8 @@ pub record IsSoFar (made : List ℕ) (before : ℕ) (rest all : List ℕ) : Type
 pub so_far_start : (old name : List ℕ) (first : ℕ) → IsUtf8 name → IsSoFar old first name (old ++ raised first name)
 so_far_start old name first utf8 = record { letters = chars name; spelled = encodes-chars name utf8; whole = refl }
 
-pub so_far_dropped : (made : List ℕ) (before : ℕ) (rest all : List ℕ) (c : ℕ) (more : List ℕ) → IsSoFar made before rest all
-    → rest ≡ encode_utf8 c ++ more → c ≡ 95 → IsSoFar made c more all
+pub so_far_dropped : (made : List ℕ) (before : ℕ) (rest all : List ℕ) (c : ℕ) (more : List ℕ)
+    → IsSoFar made before rest all → rest ≡ encode_utf8 c ++ more → c ≡ 95 → IsSoFar made c more all
 so_far_dropped made before rest all c more so_far next underscore =
     let split = cons_from_encodes so_far.letters more c (so_far.spelled ∙ next) in
     let test : (c == 95) ≡ true = grind (arith, nat_tests) in
@@ -56,8 +58,9 @@ so_far_dropped made before rest all c more so_far next underscore =
           (sym dropped ∙ ap (letters_behind before) (sym split.1)) ∙ so_far.whole;
     }
 
-pub so_far_pushed : (made : List ℕ) (before : ℕ) (rest all : List ℕ) (c d : ℕ) (pushed more : List ℕ) → IsSoFar made before rest all
-    → rest ≡ encode_utf8 c ++ more → (c == 95) ≡ false → d ≡ (if before == 95 then to_ascii_uppercase c else c) → pushed ≡ made ++ encode_utf8 d
+pub so_far_pushed : (made : List ℕ) (before : ℕ) (rest all : List ℕ) (c d : ℕ) (pushed more : List ℕ)
+    → IsSoFar made before rest all → rest ≡ encode_utf8 c ++ more → (c == 95) ≡ false
+    → d ≡ (if before == 95 then to_ascii_uppercase c else c) → pushed ≡ made ++ encode_utf8 d
     → IsSoFar pushed c more all
 so_far_pushed made before rest all c d pushed more so_far next test raised_by pushed_is =
     let split = cons_from_encodes so_far.letters more c (so_far.spelled ∙ next) in
@@ -75,7 +78,8 @@ pub raised_as : (before c pushed : ℕ) → ((before ≡ 95) × (pushed ≡ to_a
 raised_as before c pushed (inl case) = let test : (before == 95) ≡ true = grind (arith, nat_tests) in rw test case.1
 raised_as before c pushed (inr case) = let test : (before == 95) ≡ false = grind (arith, nat_tests) in rw test case.1
 
-pub so_far_end : (made : List ℕ) (before : ℕ) (rest all : List ℕ) → IsSoFar made before rest all → length rest ≡ 0 → made ≡ all
+pub so_far_end : (made : List ℕ) (before : ℕ) (rest all : List ℕ) → IsSoFar made before rest all → length rest ≡ 0
+    → made ≡ all
 so_far_end made before [] all so_far done =
     let none : so_far.letters ≡ [] = encodes_same so_far.letters [] so_far.spelled in
     sym (append-nil made) ∙ ap (λ (ls : List ℕ). made ++ encode_utf8_all (letters_behind before ls)) (sym none) ∙ so_far.whole

@@ -15,7 +15,8 @@ pub loop-preserved : goal.loop-preserved
 loop-preserved c = λ left here.
     let met : contains_text c.args.taken.now (string_bytes c.loop.name) ≡ true = grind (arith, common_steps) in
     let made : string_bytes c.in_ok-name.name ≡ 88 ∷ string_bytes c.loop.name = grind (arith, common_steps) in
-    sym (free_goes (contains_text c.args.taken.now) left (string_bytes c.loop.name) (string_bytes c.in_ok-name.name) met made)
+    sym (free_goes (contains_text c.args.taken.now) left (string_bytes c.loop.name) (string_bytes c.in_ok-name.name)
+    met made)
     ∙ c.loop.invariant (suc left) (omega arith)
 
 pub returns : goal.returns

@@ -9,8 +9,9 @@ loop-letter-init c = rw (c.into_iter-letter-iterator.ensures.into_iter_gives, c.
     (so_far_start _ c.args.name.now c.args.first c.utf8.name)
 
 pub loop-letter-preserved-in_ok-push : goal.loop-letter-preserved-in_ok-push
-loop-letter-preserved-in_ok-push c = so_far_pushed _ _ _ _ c.in-Some.letter c.if-before-eq95.push _ _ c.loop-letter.invariant c.in-Some.ensures.steps.0
-    (grind (arith, nat_tests)) (raised_as c.loop-letter.before c.in-Some.letter c.if-before-eq95.push
+loop-letter-preserved-in_ok-push c = so_far_pushed _ _ _ _ c.in-Some.letter c.if-before-eq95.push _ _
+    c.loop-letter.invariant c.in-Some.ensures.steps.0 (grind (arith, nat_tests))
+    (raised_as c.loop-letter.before c.in-Some.letter c.if-before-eq95.push
     (elim c.if-before-eq95.branch [
       | then-before-eq95 w ↦ inl (w.if-before-eq95.true, w.push-is ∙ c.to_ascii_uppercase-upper.ensures.value)
       | else-before-eq95
@@ -18,7 +19,8 @@ loop-letter-preserved-in_ok-push c = so_far_pushed _ _ _ _ c.in-Some.letter c.if
     ])) c.in_ok-push.ensures.bytes
 
 pub loop-letter-preserved : goal.loop-letter-preserved
-loop-letter-preserved c = so_far_dropped _ _ _ _ c.in-Some.letter _ c.loop-letter.invariant c.in-Some.ensures.steps.0 c.if-letter-ne95.false
+loop-letter-preserved c = so_far_dropped _ _ _ _ c.in-Some.letter _
+    c.loop-letter.invariant c.in-Some.ensures.steps.0 c.if-letter-ne95.false
 
 pub returns : goal.returns
 returns c = so_far_end _ _ _ _ c.loop-letter.invariant c.in-None.ensures.steps.0.0

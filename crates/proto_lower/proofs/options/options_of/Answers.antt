@@ -15,4 +15,5 @@ loop-rule-preserved g c = grind (arith, common_steps)
 pub returns : goal.returns
 returns g c =
     rows_give (flat_map g.I.Item.setting_of c.args.items.now) c.args.element c.rules-rules.result.now
-    c.loop-rule.rule-index c.from_vec.result (omega arith) (c.from_vec.ensures ∙ c.loop-rule.invariant) c.rules-rules.ensures
+    c.loop-rule.rule-index c.from_vec.result (omega arith) (c.from_vec.ensures ∙ c.loop-rule.invariant)
+    c.rules-rules.ensures
