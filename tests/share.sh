@@ -1,7 +1,7 @@
 #!/usr/bin/env bash
 # What is installed beside the program, below share/, by the lines of docs/GUIDE.md. man, groff and mandoc read the man page without a
 # warning; it has the commands, options and arguments of the program's help, and the completion for bash its commands, options and
-# kinds of faults: these, and no other.
+# kinds of faults: these, and no other. What malloc is told is the same text wherever it stands.
 set -u
 cd "$(dirname "$(readlink -f "$0")")/.." || exit 2
 . tests/common.bash
@@ -86,6 +86,12 @@ if command -v mandoc >/dev/null; then
     mandoc -T lint -W warning "$page" >"$folder/warnings" 2>/dev/null || fail "mandoc: $(<"$folder/warnings")"
 fi
 [ -n "$read_by" ] || untried 'man with groff, and no mandoc' 'no tool read the page'
+
+# What malloc is told, as ./schema_server tells it.
+tunables=$(sed -n 's/^tunables=//p' schema_server)
+for place in "$page" docs/GUIDE.md examples/service/schema-server.service; do
+    grep -qF -e "${tunables:?}" "$place" || fail "$place has other tunables than ./schema_server"
+done
 
 # The lines of docs/GUIDE.md that install it, with another folder for /usr/local.
 grep -o 'sudo install -D [^`]*' docs/GUIDE.md | sed "s|^sudo ||; s| /usr/local/| $folder/local/|" >"$folder/install"

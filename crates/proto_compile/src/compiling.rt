@@ -23,7 +23,7 @@ use crate::pass::list::files_by_name;
 use crate::set::is_set_within;
 use crate::source::Source;
 use crate::table::FileTable;
-use crate::workers::Workers;
+use crate::workers::{Leftovers, Workers};
 use proto_base::{Kind, Limit, Limits};
 use proto_desc::file::FileDesc;
 use proto_links::Links;
@@ -110,7 +110,31 @@ where
     ensures every_fault { (x : SourceFault) → IsLeastFault limits.now sources.now x
         → IsErrAnd result (TellsOf (λ y. y ≡ x)) }
 {
-    run_passes(&Workers { rt, plan, gate }, sources, limits)
+    compile_by(rt, sources, limits, plan, gate, Leftovers::LetGo)
+}
+
+/// As `compile`, which lets go of what is left. What becomes of it changes nothing of the answer.
+pub fn compile_by<R, G>(
+    rt: &R,
+    sources: &[Source],
+    limits: &Limits,
+    plan: Plan,
+    gate: &G,
+    leftovers: Leftovers,
+) -> Result<Compiled, CompileError>
+where
+    R: Threads + AllocGlobal + Sync,
+    G: Gate + Sync,
+    ensures compiled { IfOk result (IsCompiled limits.now sources.now) }
+    ensures first { IfErr result (TellsOf (IsLeastFault limits.now sources.now)) }
+{
+    let workers = Workers {
+        rt,
+        plan,
+        gate,
+        leftovers,
+    };
+    run_passes(&workers, sources, limits)
 }
 
 /// The table of files with the bytes of what they describe, of which none has more than the limit.

@@ -17,7 +17,8 @@ mod table;
 mod workers;
 
 pub use compiled::Compiled;
-pub use compiling::compile;
+pub use compiling::{compile, compile_by};
 pub use error::CompileError;
 pub use laws::compiling_is_unique;
 pub use source::Source;
+pub use workers::Leftovers;

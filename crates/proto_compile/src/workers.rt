@@ -8,12 +8,22 @@ use share_work::{Gate, Plan, Work, in_shares};
 use std::alloc::{AllocError, AllocGlobal};
 use std::thread::Threads;
 
-/// The workers of a plan, and the gate through which they go.
+/// What becomes of descriptors once their bytes are written.
+#[derive(Clone, Copy)]
+pub enum Leftovers {
+    /// Their memory is given back, by the workers.
+    LetGo,
+    /// Their memory stays taken: a process that ends with what it compiled saves the walk over them.
+    Forgotten,
+}
+
+/// The workers of a plan, the gate through which they go, and what they do with what is left.
 #[derive(Drop)]
 pub(crate) struct Workers<'a, R, G> {
     pub(crate) rt: &'a R,
     pub(crate) plan: Plan,
     pub(crate) gate: &'a G,
+    pub(crate) leftovers: Leftovers,
 }
 
 impl<R, G> Workers<'_, R, G>

@@ -8,7 +8,7 @@ use crate::set_writing::SetWriter;
 use crate::whole_file::write_whole;
 use grpcweb_core::{CountedRead, CountedWrite, Mode, answer_io, read_bytes, write_bytes};
 use proto_base::{Limit, Limits};
-use proto_compile::{CompileError, Compiled, Source, compile};
+use proto_compile::{CompileError, Compiled, Leftovers, Source, compile_by};
 use schema_explanation::{Topic, topics};
 use schema_failure::{Failure, locate};
 use schema_headline::describe;
@@ -72,6 +72,7 @@ fn compile_texts<R>(
     texts: &[NamedText],
     limits: &Limits,
     plan: Plan,
+    leftovers: Leftovers,
 ) -> Result<Compiled, Failure>
 where
     R: Threads + AllocGlobal + Sync,
@@ -80,7 +81,7 @@ where
 {
     let sources = sources_of(rt.alloc(), texts)?;
     let listed = sources.as_slice();
-    match compile(rt, listed, limits, plan, &NoGate) {
+    match compile_by(rt, listed, limits, plan, &NoGate, leftovers) {
         Ok(compiled) => Ok(compiled),
         Err(CompileError::NoMemory) => Err(Failure::NoMemory),
         Err(CompileError::First(fault)) => Err(locate(fault, listed)),
@@ -126,7 +127,7 @@ where
 {
     let limits = Limits::standard();
     let texts = read_sources(rt, folder, &limits, plan)?;
-    let compiled = compile_texts(rt, &texts, &limits, plan)?;
+    let compiled = compile_texts(rt, &texts, &limits, plan, Leftovers::Forgotten)?;
     let mut set = SetWriter::new(rt.alloc(), &compiled)?;
     let written = write_set(rt, file, &mut set, writer);
     drop(set);
@@ -149,7 +150,7 @@ where
     ensures refused { IfErr result (IsToldOfFolder limits.now (F.sources folder.now)) }
 {
     let texts = read_sources(rt, folder, limits, plan)?;
-    compile_texts(rt, &texts, limits, plan)
+    compile_texts(rt, &texts, limits, plan, Leftovers::LetGo)
 }
 
 /// Answers the request body that a reader gives over the sources of a folder.

@@ -30,9 +30,10 @@ pub(crate) type Row<O> = VecDeque<Vec<O>>;
 /// The outs of all items, in the order of the items.
 ///
 /// Seat `w` is that of worker `w`. Each worker goes through the gate with `phase` and the piece's number as it begins a piece.
-/// A worker that has a piece works in a thread of its own, but for the last of them, which works on the calling thread; so does
-/// one whose thread can't be started. Where there is no memory, the seats fit all the same, and have gained nothing but what the
-/// items add. All workers have ended when the answer comes, a refusal too; of that no contract tells.
+/// Where several workers have a piece, each of them works in a thread of its own, and the calling thread waits. One that has all
+/// pieces works on the calling thread, and so does one whose thread can't be started. Where there is no memory, the seats fit all
+/// the same, and have gained nothing but what the items add. All workers have ended when the answer comes, a refusal too; of that
+/// no contract tells.
 pub fn in_shares<R, G, T, W, O, S>(
     rt: &R,
     plan: Plan,

@@ -13,7 +13,7 @@ ghost use Rattle.proto_names.specs.Index.{Index};
 ghost use Rattle.wire_bytes.specs.Descriptor.{file_desc_bytes};
 
 use crate::error::{CompileError, ONLY_STEP, START};
-use crate::letting_go::let_go;
+use crate::letting_go::leave;
 use crate::outcome::judge;
 use crate::pass::Pass;
 use crate::source::Source;
@@ -81,7 +81,7 @@ impl<'s> Work<FileDesc<'s>> for Writing {
     }
 }
 
-/// The bytes of the descriptors, of which none has more than the limit, and lets go of these.
+/// The bytes of the descriptors, of which none has more than the limit. Of these nothing stays but what `Leftovers` says.
 pub(crate) fn write_all<R, G>(
     workers: &Workers<'_, R, G>,
     files: &[Source],
@@ -101,6 +101,6 @@ where
 {
     let work = Writing { limits: *limits };
     let outcomes = workers.each(WRITING, descs.as_slice(), &work)?;
-    let_go(workers, descs);
+    leave(workers, descs);
     judge(workers.rt.alloc(), Pass::Lengths, files, outcomes)
 }

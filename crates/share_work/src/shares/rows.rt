@@ -41,8 +41,42 @@ where
     let pieces = job.items.len().div_ceil(job.plan.cut() as usize);
     let busy = pieces.min(seats.len());
     let (lent, _idle) = seats.split_at_mut(busy);
-    let rows = rows_from(rt, job, 0, lent)?;
+    let rows = busy_rows(rt, job, lent)?;
     with_idle_rows(job, rows, busy)
+}
+
+/// The rows of the workers that have a piece, of which there is one at least. One alone starts no thread.
+fn busy_rows<R, G, T, W, O, S>(
+    rt: &R,
+    job: &Job<'_, G, T, W>,
+    seats: &mut [S],
+) -> Result<VecDeque<Row<O>>, AllocError>
+where
+    R: Threads + Sync,
+    G: Gate + Sync,
+    T: Sync,
+    W: Work<T, Out = O, Seat = S> + Sync,
+    O: Send + Drop,
+    S: Send + Drop,
+    requires some { 0 < length seats.old }
+    requires within { length seats.old ≤ job.now.plan.workers }
+    requires fit { All (W.fits job.now.work.now) seats.old }
+    requires takes { TakesAll (W.takes job.now.work.now) 0 job.now.items.now }
+    ensures fit { All (W.fits job.now.work.now) seats.new }
+    ensures numbers { KeepsNumbers (W.number job.now.work.now) seats.old seats.new }
+    ensures gains { SeatsGain (W.holds job.now.work.now) (W.adds job.now.work.now)
+        job.now.plan.workers job.now.plan.cut job.now.items.now 0 seats.old seats.new }
+    ensures have { OnOk result (SeatsHave (W.holds job.now.work.now) (W.adds job.now.work.now)
+        job.now.plan.workers job.now.plan.cut job.now.items.now 0 seats.new) }
+    ensures rows { IfOk result (λ rows. GivesRows (W.gives job.now.work.now) (λ v. v.items)
+        (λ r. r.items) job.now.plan.workers job.now.plan.cut job.now.items.now 0
+        (length seats.old) rows.items) }
+{
+    if seats.len() == 1 {
+        own_row(job, 0, seats)
+    } else {
+        rows_from(rt, job, 0, seats)
+    }
 }
 
 /// Adds an empty row for each worker that has no piece.
@@ -67,8 +101,38 @@ fn with_idle_rows<G, T, W: Work<T, Out = O>, O: Drop>(
     Ok(rows)
 }
 
-/// The rows of the workers whose seats these are; `from` is the first one's number.
-#[cycle(halves)]
+/// The row of one worker, whose seat is the only one of these; `from` is its number.
+fn own_row<G, T, W, O, S>(
+    job: &Job<'_, G, T, W>,
+    from: usize,
+    seats: &mut [S],
+) -> Result<VecDeque<Row<O>>, AllocError>
+where
+    G: Gate,
+    W: Work<T, Out = O, Seat = S>,
+    O: Drop,
+    requires one { length seats.old ≡ 1 }
+    requires within { from < job.now.plan.workers }
+    requires fit { All (W.fits job.now.work.now) seats.old }
+    requires takes { TakesAll (W.takes job.now.work.now) 0 job.now.items.now }
+    ensures fit { All (W.fits job.now.work.now) seats.new }
+    ensures numbers { KeepsNumbers (W.number job.now.work.now) seats.old seats.new }
+    ensures gains { SeatsGain (W.holds job.now.work.now) (W.adds job.now.work.now)
+        job.now.plan.workers job.now.plan.cut job.now.items.now from seats.old seats.new }
+    ensures have { OnOk result (SeatsHave (W.holds job.now.work.now) (W.adds job.now.work.now)
+        job.now.plan.workers job.now.plan.cut job.now.items.now from seats.new) }
+    ensures rows { IfOk result (λ rows. GivesRows (W.gives job.now.work.now) (λ v. v.items)
+        (λ r. r.items) job.now.plan.workers job.now.plan.cut job.now.items.now from
+        (length seats.old) rows.items) }
+{
+    let mut rows = VecDeque::new(job.alloc);
+    rows.push_back(row_of(job, from, &mut seats[0])?)?;
+    Ok(rows)
+}
+
+/// The rows of the workers whose seats these are, each by a thread of its own; `from` is the first one's number. The calling
+/// thread works on none of them and waits, since a thread that it has started may wait for its processor.
+#[cycle(chain)]
 fn rows_from<R, G, T, W, O, S>(
     rt: &R,
     job: &Job<'_, G, T, W>,
@@ -82,7 +146,6 @@ where
     W: Work<T, Out = O, Seat = S> + Sync,
     O: Send + Drop,
     S: Send + Drop,
-    requires some { 0 < length seats.old }
     requires within { from + length seats.old ≤ job.now.plan.workers }
     requires fit { All (W.fits job.now.work.now) seats.old }
     requires takes { TakesAll (W.takes job.now.work.now) 0 job.now.items.now }
@@ -96,18 +159,16 @@ where
         (λ r. r.items) job.now.plan.workers job.now.plan.cut job.now.items.now from
         (length seats.old) rows.items) }
 {
-    if seats.len() == 1 {
-        let mut rows = VecDeque::new(job.alloc);
-        rows.push_back(row_of(job, from, &mut seats[0])?)?;
-        return Ok(rows);
+    if seats.is_empty() {
+        return Ok(VecDeque::new(job.alloc));
     }
-    let middle = seats.len() / 2;
-    let (low, high) = seats.split_at_mut(middle);
-    both_halves(rt, job, from, low, high)
+    let (low, high) = seats.split_at_mut(1);
+    low_and_high(rt, job, from, low, high)
 }
 
-#[cycle(halves)]
-fn both_halves<R, G, T, W, O, S>(
+/// The row of the worker whose seat is `low`, and the rows of those behind it.
+#[cycle(chain)]
+fn low_and_high<R, G, T, W, O, S>(
     rt: &R,
     job: &Job<'_, G, T, W>,
     from: usize,
@@ -121,8 +182,7 @@ where
     W: Work<T, Out = O, Seat = S> + Sync,
     O: Send + Drop,
     S: Send + Drop,
-    requires some_low { 0 < length low.old }
-    requires some_high { 0 < length high.old }
+    requires one { length low.old ≡ 1 }
     requires within { from + length low.old + length high.old ≤ job.now.plan.workers }
     requires takes { TakesAll (W.takes job.now.work.now) 0 job.now.items.now }
     requires fit_low { All (W.fits job.now.work.now) low.old }
@@ -146,9 +206,8 @@ where
 {
     let up = from + low.len();
     let mut front = || -> Result<VecDeque<Row<O>>, AllocError>
-        requires { IsSync R.row × IsSync G.row × IsSync T.row × IsSync W.row × IsSend O.row
-            × IsSend S.row
-            × (0 < length low.now) × (from + length low.now ≤ job.now.plan.workers)
+        requires { IsSync G.row × IsSync T.row × IsSync W.row × IsSend O.row × IsSend S.row
+            × (length low.now ≡ 1) × (from < job.now.plan.workers)
             × All (W.fits job.now.work.now) low.now
             × TakesAll (W.takes job.now.work.now) 0 job.now.items.now }
         ensures { All (W.fits job.entry.now.work.now) low.exit.now
@@ -162,11 +221,11 @@ where
             × IfOk result (λ rows. GivesRows (W.gives job.entry.now.work.now) (λ v. v.items)
             (λ r. r.items) job.entry.now.plan.workers job.entry.now.plan.cut job.entry.now.items.now
             from (length low.entry.now) rows.items) }
-    { rows_from(rt, job, from, low) };
+    { own_row(job, from, low) };
     let mut back = || -> Result<VecDeque<Row<O>>, AllocError>
         requires { IsSync R.row × IsSync G.row × IsSync T.row × IsSync W.row × IsSend O.row
             × IsSend S.row
-            × (0 < length high.now) × (up + length high.now ≤ job.now.plan.workers)
+            × (up + length high.now ≤ job.now.plan.workers)
             × All (W.fits job.now.work.now) high.now
             × TakesAll (W.takes job.now.work.now) 0 job.now.items.now }
         ensures { All (W.fits job.entry.now.work.now) high.exit.now

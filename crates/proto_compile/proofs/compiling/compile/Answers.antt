@@ -3,16 +3,16 @@ use Rattle.proto_compile.proofs.compiling.compile.Goals as goal
 
 pub returns-clause-whole : goal.returns-clause-whole
 returns-clause-whole g c =
-    no_fault_left c.args.limits.now c.args.sources.now c.run_passes.result c.run_passes.ensures.compiled
+    no_fault_left c.args.limits.now c.args.sources.now c.compile_by.result c.compile_by.ensures.compiled
 
 pub returns-clause-placed : goal.returns-clause-placed
 returns-clause-placed g c =
-    placed c.args.limits.now c.args.sources.now c.run_passes.result c.run_passes.ensures.first
+    placed c.args.limits.now c.args.sources.now c.compile_by.result c.compile_by.ensures.first
 
 pub returns-clause-every_compilation : goal.returns-clause-every_compilation
-returns-clause-every_compilation g c = every_compilation c.args.limits.now c.args.sources.now c.run_passes.result
-    c.run_passes.ensures.compiled c.run_passes.ensures.first
+returns-clause-every_compilation g c = every_compilation c.args.limits.now c.args.sources.now c.compile_by.result
+    c.compile_by.ensures.compiled c.compile_by.ensures.first
 
 pub returns-clause-every_fault : goal.returns-clause-every_fault
-returns-clause-every_fault g c = every_fault c.args.limits.now c.args.sources.now c.run_passes.result
-    c.run_passes.ensures.compiled c.run_passes.ensures.first
+returns-clause-every_fault g c = every_fault c.args.limits.now c.args.sources.now c.compile_by.result
+    c.compile_by.ensures.compiled c.compile_by.ensures.first

@@ -36,7 +36,7 @@ returns-clause-have g c =
     let idle : SeatsHave holds adds job.plan.workers job.plan.cut job.items.now (0 + length low) high =
     haves_idle holds adds job.plan.workers job.plan.cut job.items.now (0 + length low) high (λ some_idle. let few : 0 + length low ≡ pieces = omega arith in
     rw few all) in
-    OnOk-all _ _ (haves_joined holds adds job.plan.workers job.plan.cut job.items.now 0 (0 + length low) low [] c.rows_from.new.seats high refl (search rules)
+    OnOk-all _ _ (haves_joined holds adds job.plan.workers job.plan.cut job.items.now 0 (0 + length low) low [] c.busy_rows.new.seats high refl (search rules)
     c.in_ok-rows.ensures.have idle)
 
 pub returns-in_err-rows-clause-numbers : goal.returns-in_err-rows-clause-numbers
