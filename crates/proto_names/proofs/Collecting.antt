@@ -1,9 +1,16 @@
 -- What a walk over files has put so far.
-use Rattle.std.proofs.Common.{◌≡◌, ◌∙◌, sym, ℕ, suc, ◌+◌, ◌<◌, ◌≤◌, List, [], ◌∷◌, ◌++◌, length, take, drop, get_or, append_assoc, length-append, ap, ap₂, refl, arith}
-use Rattle.std.proofs.lemmas.List.{take_more, take-append-drop, append-nil}
-use Rattle.std.proofs.lemmas.Grind.{common_steps}
+use Rattle.std.proofs.Common.{inl, inr, ◌≡◌, ◌∙◌, sym, ℕ, zero, suc, ◌-◌, ◌+◌, ◌<◌, ◌≤◌, List, [], ◌∷◌, ◌++◌, length, take, drop, get_or, append_assoc, length-append, ap, ap₂, refl, arith}
+use Rattle.std.specs.Prelude.{Option, slice_get, Some}
+use Rattle.std.proofs.lemmas.Bool.{cases_lt}
+use Rattle.std.proofs.Math.Seq.{get_or-append_seam, take-add, take-append_seam}
+use Rattle.std.proofs.lemmas.List.{get_or_append_left, take-append-le, take_more, take-append-drop, append-nil}
+use Rattle.std.proofs.lemmas.Option.{get_or_from_slice_get, slice_get-get_or, slice_get_within}
+use Rattle.std.proofs.lemmas.Grind.{common_steps, flat_map-append}
 use Rattle.proto_desc.specs.declared.file.FileDesc.{FileDesc}
+use Rattle.proto_names.specs.Collected.{ArePlaced, IsCollected, files_in}
+use Rattle.share_work.specs.Shares.{GivesItems}
 use Rattle.proto_names.specs.Occurrences.{Occurrence, occurrences_of, occurrences_from}
+use Rattle.proto_names.specs.declared.part.Part.{Part}
 
 pub occurrences_from-append : (first : ℕ) (xs ys : List FileDesc)
     → occurrences_from first (xs ++ ys) ≡ occurrences_from first xs ++ occurrences_from (first + length xs) ys
@@ -30,26 +37,80 @@ occurrences_prefix first files k =
     ap (occurrences_from first) (sym (take-append-drop k files)) ∙ occurrences_from-append first (take k files) (drop k files) in
     rw whole (grind (arith, common_steps))
 
--- those of two parts of the files
-module _ (limit first : ℕ) (before behind : List FileDesc) where
-  count : length (occurrences_from first (before ++ behind))
-      ≡ length (occurrences_from first before) + length (occurrences_from (first + length before) behind)
-  count = ap length (occurrences_from-append first before behind)
-      ∙ length-append (occurrences_from first before) (occurrences_from (first + length before) behind)
+-- ---- parts of files, collected one after the other
 
-  pub too_many_before : limit < length (occurrences_from first before) → limit < length (occurrences_from first (before ++ behind))
-  too_many_before many = omega (arith, many, count)
+-- a part, and those before it
+module _ (parts : List Part) (k : ℕ) (p : Part) (stands : slice_get parts k ≡ Some p) (placed : ArePlaced parts) where
+  abbrev before : List FileDesc
+  before = files_in (take k parts)
 
-  pub too_many_behind : limit < length (occurrences_from (first + length before) behind) → limit < length (occurrences_from first (before ++ behind))
-  too_many_behind many = omega (arith, many, count)
+  next : files_in (take (k + 1) parts) ≡ before ++ p.files.now
+  next =
+      let same : get_or parts k p ≡ p = get_or_from_slice_get parts k p p stands in
+      ap files_in (take_more parts k p (slice_get_within parts k p stands)) ∙ flat_map-append (λ p. p.files.now) (take k parts) (get_or parts k p ∷ [])
+      ∙ ap (λ (fs : List FileDesc). before ++ fs) (append-nil (get_or parts k p).files.now ∙ ap (λ (q : Part). q.files.now) same)
 
-  module _ (os ps : List Occurrence) (low : os ≡ occurrences_from first before) (high : ps ≡ occurrences_from (first + length before) behind) where
-    pub too_many_together : limit < length os + length ps → limit < length (occurrences_from first (before ++ behind))
-    too_many_together many = omega (arith, many, count, ap length low, ap length high)
+  all_next : occurrences_from 0 (files_in (take (k + 1) parts)) ≡ occurrences_from 0 before ++ occurrences_from p.first p.files.now
+  all_next =
+      let behind : 0 + length before ≡ p.first = omega (arith, placed k p stands) in
+      ap (occurrences_from 0) next ∙ occurrences_from-append 0 before p.files.now
+      ∙ ap (λ n. occurrences_from 0 before ++ occurrences_from n p.files.now) behind
 
-    pub all_together : (all : List Occurrence) → all ≡ os ++ ps → length os + length ps ≤ limit
-        → (all ≡ occurrences_from first (before ++ behind)) × (length all ≤ limit)
-    all_together all put few = (
-      put ∙ ap₂ (λ (xs ys : List Occurrence). xs ++ ys) low high ∙ sym (occurrences_from-append first before behind),
-      omega (arith, few, ap length put, length-append os ps),
-    )
+  few_next : length (occurrences_from 0 before) + length (occurrences_from p.first p.files.now) ≤ length (occurrences_from 0 (files_in parts))
+  few_next =
+      let front = files_in (take (k + 1) parts) in
+      let rest = files_in (drop (k + 1) parts) in
+      let whole : files_in parts ≡ front ++ rest =
+      ap files_in (sym (take-append-drop (k + 1) parts)) ∙ flat_map-append (λ p. p.files.now) (take (k + 1) parts) (drop (k + 1) parts) in
+      let all = ap length (ap (occurrences_from 0) whole ∙ occurrences_from-append 0 front rest)
+      ∙ length-append (occurrences_from 0 front) (occurrences_from (0 + length front) rest) in
+      let here = ap length all_next ∙ length-append (occurrences_from 0 before) (occurrences_from p.first p.files.now) in
+      omega (arith, all, here)
+
+  pub too_many_here : (limit : ℕ) → limit < length (occurrences_from p.first p.files.now) → limit < length (occurrences_from 0 (files_in parts))
+  too_many_here limit many = omega (arith, many, few_next)
+
+  module _ (os ps : List Occurrence) (low : os ≡ occurrences_from 0 before) (high : ps ≡ occurrences_from p.first p.files.now) where
+    pub too_many_together : (limit : ℕ) → limit - length os < length ps → limit < length (occurrences_from 0 (files_in parts))
+    too_many_together limit many = omega (arith, many, few_next, ap length low, ap length high)
+
+    pub all_together : (all : List Occurrence) → all ≡ os ++ ps → all ≡ occurrences_from 0 (files_in (take (k + 1) parts))
+    all_together all put = put ∙ ap₂ (λ (xs ys : List Occurrence). xs ++ ys) low high ∙ sym all_next
+
+part_at : (parts : List Part) (k : ℕ) → k < length parts → (p : Part) × (slice_get parts k ≡ Some p)
+part_at [] k within = absurd (omega (arith, within))
+part_at (p ∷ parts) zero within = (p, refl)
+part_at (p ∷ parts) (suc k) within = part_at parts k (omega (arith, within))
+
+-- what was collected in the part at a position
+pub collected_at : (limit : ℕ) (parts : List Part) (outs : List (Option (List Occurrence))) (k : ℕ) (out found : Option (List Occurrence))
+    → GivesItems (λ i part. IsCollected limit part.first part.files.now) 0 parts outs → k < length outs → out ≡ get_or outs k out → out ≡ found
+    → (p : Part) × (slice_get parts k ≡ Some p) × IsCollected limit p.first p.files.now found
+collected_at limit parts outs k out found given within at is =
+    let (p, stands) = part_at parts k (omega (arith, given.0, within)) in
+    (p, stands, given.1 k p found stands (slice_get-get_or outs k out within ∙ ap Some (sym at ∙ is)))
+
+-- ---- cutting files into parts
+
+-- one more part
+pub placed_more : (parts : List Part) (p : Part) → ArePlaced parts → p.first ≡ length (files_in parts) → ArePlaced (parts ++ p ∷ [])
+placed_more parts p placed here k q stands =
+    let grown = slice_get_within (parts ++ p ∷ []) k q stands in
+    let long = length-append parts (p ∷ []) in
+    let value = get_or_from_slice_get (parts ++ p ∷ []) k q q stands in
+    elim (cases_lt k (length parts)) [
+      | inl less ↦ (
+          let old : slice_get parts k ≡ Some q = slice_get-get_or parts k q less ∙ ap Some (sym (get_or_append_left parts (p ∷ []) q k less) ∙ value) in
+          placed k q old ∙ ap (λ (ps : List Part). length (files_in ps)) (sym (take-append-le k parts (p ∷ []) (omega (arith, less)))))
+      | inr over ↦ (
+          let last : k ≡ length parts = omega (arith, over, grown, long) in
+          let same : p ≡ q = sym (get_or-append_seam parts p [] q) ∙ ap (λ n. get_or (parts ++ p ∷ []) n q) (sym last) ∙ value in
+          ap (λ (r : Part). r.first) (sym same) ∙ here ∙ ap (λ (ps : List Part). length (files_in ps))
+          (sym (take-append_seam parts (p ∷ [])) ∙ ap (λ n. take n (parts ++ p ∷ [])) (sym last)))
+    ]
+
+pub files_more : (files : List FileDesc) (parts : List Part) (p : Part) (first count : ℕ) → files_in parts ≡ take first files
+    → p.files.now ≡ take count (drop first files) → files_in (parts ++ p ∷ []) ≡ take (first + count) files
+files_more files parts p first count so_far is =
+    flat_map-append (λ p. p.files.now) parts (p ∷ []) ∙ ap (λ (fs : List FileDesc). files_in parts ++ fs) (append-nil p.files.now)
+    ∙ ap₂ (λ (xs ys : List FileDesc). xs ++ ys) so_far is ∙ sym (take-add first count files)

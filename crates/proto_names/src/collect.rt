@@ -1,7 +1,6 @@
 //! The occurrences of names in files, as a walk over the files finds them.
 
 ghost use Rattle.std.specs.Prelude.{◌≡◌, ℕ, ◌+◌, ◌<◌, ◌^◌, ◌++◌, List, map, flat_map, length, IfOk, OnOk};
-ghost use Rattle.std.specs.Thread.{IsSync};
 ghost use Rattle.proto_desc.specs.declared.file.FileDesc.{FileDesc};
 ghost use Rattle.proto_names.specs.Collected.{IsCollected};
 ghost use Rattle.proto_desc.specs.DeclaredNames.{declared_by_enum, declared_by_message, declared_by_service, declared_in};
@@ -12,7 +11,6 @@ use crate::entries::Entries;
 use crate::entry::Location;
 use crate::full_name::name_in;
 use crate::scope::{Scope, shorter_prefix};
-use crate::threading::Threading;
 use proto_base::Place;
 use proto_desc::enumeration::EnumDesc;
 use proto_desc::file::{FileDesc, PackageDesc};
@@ -22,7 +20,6 @@ use proto_desc::service::ServiceDesc;
 use proto_desc::{DeclaredName, Declares};
 use proto_links::FileId;
 use std::alloc::{AllocError, Global};
-use std::thread::{Threads, join};
 
 /// Puts elements that declare their own names alone.
 fn put_members<D: Declares>(
@@ -228,7 +225,7 @@ fn put_file(
 
 /// The occurrences in files, the first of which has this position, or none where they are more than the limit. They are
 /// counted after each file, so memory holds no more than the limit and those of one file.
-fn collect_part(
+pub(crate) fn collect_files(
     alloc: Global,
     first: FileId,
     files: &[FileDesc],
@@ -245,104 +242,4 @@ fn collect_part(
         }
     }
     Ok(Some(entries))
-}
-
-/// The occurrences in two parts of the files, or none where they are more than the limit.
-fn joined(
-    low: Option<Entries>,
-    high: Option<Entries>,
-    limit: u64,
-) -> Result<Option<Entries>, AllocError>
-    ensures { (first : ℕ) (before behind : List FileDesc) → IsCollected limit first before low
-        → IsCollected limit (first + length before) behind high
-        → IfOk result (IsCollected limit first (before ++ behind)) }
-{
-    let Some(mut entries) = low else {
-        return Ok(None);
-    };
-    let Some(others) = high else {
-        return Ok(None);
-    };
-    if entries.len() as u64 + others.len() as u64 > limit {
-        return Ok(None);
-    }
-    entries.append(&others)?;
-    Ok(Some(entries))
-}
-
-/// Fewer files than this are not worth a thread.
-const LEAST: usize = 64;
-
-/// As `collect_part`, in threads that each take a half, so many times over.
-#[cycle(halves)]
-fn collect_halves<'s, R>(
-    rt: &R,
-    alloc: Global,
-    first: FileId,
-    files: &[FileDesc<'s>],
-    limit: u64,
-    depth: usize,
-) -> Result<Option<Entries>, AllocError>
-where
-    R: Threads + Sync,
-    requires { first + length files.now < 2 ^ 64 }
-    ensures { IfOk result (IsCollected limit first files.now) }
-{
-    if depth == 0 || files.len() < LEAST {
-        return collect_part(alloc, first, files, limit);
-    }
-    let (low, high) = files.split_at(files.len() / 2);
-    both_halves(rt, alloc, first, low, high, limit, depth)
-}
-
-#[cycle(halves)]
-fn both_halves<'s, R>(
-    rt: &R,
-    alloc: Global,
-    first: FileId,
-    low: &[FileDesc<'s>],
-    high: &[FileDesc<'s>],
-    limit: u64,
-    depth: usize,
-) -> Result<Option<Entries>, AllocError>
-where
-    R: Threads + Sync,
-    requires depth { 0 < depth }
-    requires files { first + length low.now + length high.now < 2 ^ 64 }
-    ensures { IfOk result (IsCollected limit first (low.now ++ high.now)) }
-{
-    let behind = first + low.len();
-    let front = || -> Result<Option<Entries>, AllocError>
-        requires { IsSync R.row × (0 < depth) × (first + length low.now < 2 ^ 64) }
-        ensures { IfOk result (IsCollected limit first low.entry.now) }
-    { collect_halves(rt, alloc, first, low, limit, depth - 1) };
-    let back = || -> Result<Option<Entries>, AllocError>
-        requires { IsSync R.row × (0 < depth) × (behind + length high.now < 2 ^ 64) }
-        ensures { IfOk result (IsCollected limit behind high.entry.now) }
-    { collect_halves(rt, alloc, behind, high, limit, depth - 1) };
-    let (one, other) = join(rt, front, back);
-    joined(one?, other?, limit)
-}
-
-/// How often files are halved: one thread collects, or four.
-fn halvings(threading: Threading) -> usize {
-    match threading {
-        Threading::Alone => 0,
-        Threading::Shared => 2,
-    }
-}
-
-/// The occurrences in files, or none where they are more than the limit.
-pub(crate) fn collect<R>(
-    rt: &R,
-    alloc: Global,
-    files: &[FileDesc],
-    limit: u64,
-    threading: Threading,
-) -> Result<Option<Entries>, AllocError>
-where
-    R: Threads + Sync,
-    ensures { IfOk result (IsCollected limit 0 files.now) }
-{
-    collect_halves(rt, alloc, 0, files, limit, halvings(threading))
 }

@@ -13,8 +13,8 @@ ghost use Rattle.proto_base.specs.Limits.{limit_of};
 ghost use Rattle.proto_base.specs.declared.limits.Limit.TheVariants as limit;
 ghost use Rattle.proto_base.specs.declared.place.Place.{Place};
 
-use crate::collect::collect;
 use crate::names::Names;
+use crate::parts::collect;
 use crate::scope::Scope;
 use crate::table::EntryTable;
 use crate::threading::Threading;
@@ -180,7 +180,7 @@ impl NameIndex {
     {
         let alloc = rt.alloc();
         let limit = limits.get(Limit::Names);
-        let Some(mut entries) = collect(rt, alloc, files, limit, threading)? else {
+        let Some(mut entries) = collect(rt, files, limit, threading)? else {
             return Err(NameError::TooMany);
         };
         entries.sort(rt, threading);

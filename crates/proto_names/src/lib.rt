@@ -12,6 +12,8 @@ mod hashing;
 mod index;
 mod names;
 mod packages;
+mod part;
+mod parts;
 mod resolve;
 mod scope;
 mod starts;

@@ -1,7 +1,7 @@
 use Rattle.std.proofs.Common.{◌≡◌, ◌+◌, ◌<◌, length, take, arith}
 use Rattle.proto_names.specs.Occurrences.{occurrences_from}
 use Rattle.proto_names.proofs.Collecting.{occurrences_more, occurrences_prefix}
-use Rattle.proto_names.proofs.collect.collect_part.Goals as goal
+use Rattle.proto_names.proofs.collect.collect_files.Goals as goal
 
 pub returns-then-len-limit : goal.returns-then-len-limit
 returns-then-len-limit c =

@@ -1,6 +1,6 @@
 use Rattle.std.proofs.Common.{◌≡◌, ◌≤◌, length, take}
 use Rattle.proto_names.specs.Occurrences.{occurrences_from}
-use Rattle.proto_names.proofs.collect.collect_part.Given as goal
+use Rattle.proto_names.proofs.collect.collect_files.Given as goal
 
 abbrev pub invariant-loop-k : goal.invariant-loop-k
 invariant-loop-k l = record {

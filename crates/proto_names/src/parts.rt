@@ -1,0 +1,157 @@
+//! Collecting the occurrences in files, which are dealt out to threads in parts.
+
+ghost use Rattle.std.specs.Prelude.{◌<◌, IfOk};
+ghost use Rattle.proto_names.specs.Collected.{ArePartsOf, ArePlaced, IsCollected, files_in};
+ghost use Rattle.share_work.specs.Shares.{GivesItems};
+
+use crate::collect::collect_files;
+use crate::entries::Entries;
+use crate::part::Part;
+use crate::threading::Threading;
+use proto_desc::file::FileDesc;
+use share_work::{NoGate, Plan, Work, in_shares};
+use std::alloc::{AllocError, AllocGlobal, Global};
+use std::thread::Threads;
+
+/// Collects the occurrences in parts, each by itself.
+#[derive(Drop)]
+struct Collecting {
+    limit: u64,
+}
+
+impl<'f, 's> Work<Part<'f, 's>> for Collecting {
+    ghost use Rattle.std.specs.Prelude.{⊤};
+    ghost use Rattle.proto_names.specs.Collected.{IsCollected};
+
+    type Out = Option<Entries>;
+
+    type Seat = ();
+
+    ghost takes = { λ _ _ _. ⊤ };
+
+    ghost fits = { λ _ _. ⊤ };
+
+    ghost gives = { λ work _ part out. IsCollected work.limit part.first part.files.now out };
+
+    ghost number = { λ _ _. 0 };
+
+    ghost holds = { λ _ _ _ _. ⊤ };
+
+    ghost adds = { λ _ _ _ _ _. ⊤ };
+
+    fn piece(
+        &self,
+        alloc: Global,
+        _seat: &mut (),
+        _first: usize,
+        items: &[Part<'f, 's>],
+    ) -> Result<Vec<Option<Entries>>, AllocError> {
+        let mut outs = Vec::with_capacity(alloc, items.len())?;
+        for part in items {
+            outs.push(collect_files(alloc, part.first, part.files, self.limit)?)?;
+        }
+        Ok(outs)
+    }
+}
+
+/// How many threads collect.
+const THREADS: u32 = 4;
+
+/// Fewer files than this are not worth a thread.
+const LEAST: usize = 64;
+
+/// Files in parts of so many.
+fn parts_of<'f, 's>(
+    alloc: Global,
+    files: &'f [FileDesc<'s>],
+    size: usize,
+) -> Result<Vec<Part<'f, 's>>, AllocError>
+    requires { 0 < size }
+    ensures { IfOk result (λ parts. ArePartsOf files.now parts.items) }
+{
+    let mut parts = Vec::new(alloc);
+    let mut first = 0;
+    while first < files.len() {
+        let count = size.min(files.len() - first);
+        parts.push(Part {
+            first,
+            files: &files[first..first + count],
+        })?;
+        first += count;
+    }
+    Ok(parts)
+}
+
+/// The occurrences in each part, or none where they are more than the limit.
+fn collect_each<R>(rt: &R, parts: &[Part], limit: u64) -> Result<Vec<Option<Entries>>, AllocError>
+where
+    R: Threads + AllocGlobal + Sync,
+    ensures { IfOk result (λ outs. GivesItems
+        (λ _ part. IsCollected limit part.first part.files.now) 0 parts.now outs.items) }
+{
+    let Some(plan) = Plan::new(THREADS, 1) else {
+        unreachable!()
+    };
+    let work = Collecting { limit };
+    let mut seats = Vec::from_elem(rt.alloc(), (), THREADS as usize)?;
+    in_shares(rt, plan, 0, &NoGate, parts, &work, seats.as_mut_slice())
+}
+
+/// The occurrences in all parts, one after the other, or none where they are more than the limit.
+fn joined(
+    alloc: Global,
+    parts: &[Part],
+    outs: &[Option<Entries>],
+    limit: u64,
+) -> Result<Option<Entries>, AllocError>
+    requires placed { ArePlaced parts.now }
+    requires outs { GivesItems (λ _ part. IsCollected limit part.first part.files.now) 0 parts.now
+        outs.now }
+    ensures { IfOk result (IsCollected limit 0 (files_in parts.now)) }
+{
+    let mut all = Entries::new(alloc);
+    for out in outs {
+        let Some(entries) = out else {
+            return Ok(None);
+        };
+        if entries.len() as u64 > limit - all.len() as u64 {
+            return Ok(None);
+        }
+        all.append(entries)?;
+    }
+    Ok(Some(all))
+}
+
+/// The occurrences in files, in threads, or none where they are more than the limit.
+fn collect_in_threads<R>(
+    rt: &R,
+    files: &[FileDesc],
+    limit: u64,
+) -> Result<Option<Entries>, AllocError>
+where
+    R: Threads + AllocGlobal + Sync,
+    ensures { IfOk result (IsCollected limit 0 files.now) }
+{
+    let alloc = rt.alloc();
+    let size = files.len() / THREADS as usize + 1;
+    let parts = parts_of(alloc, files, size)?;
+    let outs = collect_each(rt, &parts, limit)?;
+    joined(alloc, &parts, &outs, limit)
+}
+
+/// The occurrences in files, or none where they are more than the limit.
+pub(crate) fn collect<R>(
+    rt: &R,
+    files: &[FileDesc],
+    limit: u64,
+    threading: Threading,
+) -> Result<Option<Entries>, AllocError>
+where
+    R: Threads + AllocGlobal + Sync,
+    ensures { IfOk result (IsCollected limit 0 files.now) }
+{
+    match threading {
+        Threading::Shared if files.len() >= LEAST => collect_in_threads(rt, files, limit),
+        _ => collect_files(rt.alloc(), 0, files, limit),
+    }
+}
