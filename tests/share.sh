@@ -87,11 +87,13 @@ if command -v mandoc >/dev/null; then
 fi
 [ -n "$read_by" ] || untried 'man with groff, and no mandoc' 'no tool read the page'
 
-# What malloc is told, as ./schema_server tells it.
+# What malloc is told, as ./schema_server tells it. The man page has a line for each.
 tunables=$(sed -n 's/^tunables=//p' schema_server)
-for place in "$page" docs/GUIDE.md examples/service/schema-server.service; do
+for place in docs/GUIDE.md examples/service/schema-server.service; do
     grep -qF -e "${tunables:?}" "$place" || fail "$place has other tunables than ./schema_server"
 done
+sed -n 's/^\.Dl \(glibc\.\)/\1/p' "$page" | paste -sd : >"$folder/page.tunables"
+[ "$(<"$folder/page.tunables")" = "$tunables" ] || fail "$page has other tunables than ./schema_server"
 
 # The lines of docs/GUIDE.md that install it, with another folder for /usr/local.
 grep -o 'sudo install -D [^`]*' docs/GUIDE.md | sed "s|^sudo ||; s| /usr/local/| $folder/local/|" >"$folder/install"
