@@ -10,10 +10,12 @@ use Rattle.grpcweb_core.specs.declared.stream.IoFault.TheVariants as io
 use Rattle.proto_base.specs.declared.fault.Fault.{Fault}
 use Rattle.proto_base.specs.declared.limits.Limits.{Limits}
 use Rattle.proto_compile.specs.Compilation.{Compilation}
-use Rattle.proto_compile.specs.FaultSet.{IsLeastFault, TellsOf}
+use Rattle.proto_compile.specs.FaultSet.{IsLeastFault, IsPlaced, TellsOf, told_by as named_by}
 use Rattle.proto_compile.specs.declared.error.CompileError.{CompileError}
 use Rattle.proto_compile.specs.declared.error.CompileError.TheVariants as errors
 use Rattle.proto_compile.specs.declared.source.Source.{Source}
+use Rattle.proto_compile.proofs.Placing.{placed}
+use Rattle.std.specs.Prelude.{string_bytes}
 use Rattle.schema_commands.specs.Runs.{IsAnswerRun, IsCompileRun, IsCompiledTo, IsDescribeRun, IsFirstOf, IsInput, IsLineOf, IsToldOf, IsToldOfFolder, IsToldOfTexts}
 use Rattle.schema_sources.specs.Texts.{AreStandard, AreTextsOf, Known}
 use Rattle.schema_failure.specs.Faults.{of_exchange, of_folder}
@@ -35,6 +37,14 @@ pub told_by : (limits : Limits) (sources : List Source) (e : CompileError) (faul
 told_by limits sources e fault f same line first =
     let P : CompileError → Type 0 = λ x. TellsOf (IsLeastFault limits sources) x in
     told limits sources fault f line (subst P same first)
+
+-- where the first fault stands
+pub first_placed : (limits : Limits) (sources : List Source) (e : CompileError) (fault : Fault)
+    → e ≡ errors.First fault → TellsOf (IsLeastFault limits sources) e
+    → IsPlaced limits sources (string_bytes fault.file) fault.place
+first_placed limits sources e fault same first =
+    let least = subst (λ (x : CompileError). TellsOf (IsLeastFault limits sources) x) same first in
+    placed limits sources (named_by fault) least.among.breaks least.among.judged
 
 -- ---- describing
 

@@ -1,7 +1,7 @@
-use Rattle.std.proofs.Common.{List, refl, subst, sym, inl, inr}
+use Rattle.std.proofs.Common.{List, refl, rules, subst, sym, inl, inr}
 use Rattle.proto_compile.specs.declared.source.Source.{Source}
 use Rattle.schema_sources.specs.Texts.{AreSourcesOf}
-use Rattle.schema_commands.proofs.Telling.{handed_no_memory, told_by}
+use Rattle.schema_commands.proofs.Telling.{first_placed, handed_no_memory, told_by}
 use Rattle.schema_commands.proofs.commands.compile_texts.Goals as goal
 
 pub returns-in_err-sources-clause-refused : goal.returns-in_err-sources-clause-refused
@@ -26,3 +26,15 @@ returns-clause-refused g c =
       told_by c.args.limits.now sources c.in-Err-First.field-0 c.in-Err-First.fault c.locate.result c.in-Err-First.field-0-is
           c.locate.ensures c.in-Err-First.ensures.first,
     )
+
+pub locate-requires-clause-within : goal.locate-requires-clause-within
+locate-requires-clause-within g c =
+    (first_placed c.args.limits.now c.as_slice-listed.result.now c.in-Err-First.field-0 c.in-Err-First.fault c.in-Err-First.field-0-is
+    c.in-Err-First.ensures.first).within
+
+pub locate-requires-clause-short : goal.locate-requires-clause-short
+locate-requires-clause-short g c =
+    let placed = first_placed c.args.limits.now c.as_slice-listed.result.now c.in-Err-First.field-0 c.in-Err-First.fault c.in-Err-First.field-0-is
+    c.in-Err-First.ensures.first in
+    let short = placed.short in
+    search (rules, short)
