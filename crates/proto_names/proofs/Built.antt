@@ -1,7 +1,7 @@
 -- What the index of files holds.
-use Rattle.std.proofs.Common.{◌≡◌, ◌∙◌, sym, ℕ, ◌+◌, ◌<◌, List, [], ◌∷◌, length, get_or, map, ap, refl, arith, inl, inr}
-use Rattle.std.specs.Prelude.{Contains, IsPermutation, Option, None, Some, MatchOption}
-use Rattle.std.proofs.lemmas.List.{get_or-map, length-map}
+use Rattle.std.proofs.Common.{◌≡◌, ◌∙◌, sym, ℕ, ◌+◌, ◌<◌, List, [], ◌∷◌, length, get_or, map, ap, refl, subst, arith, inl, inr}
+use Rattle.std.specs.Prelude.{All, Contains, IsPermutation, Option, None, Some, MatchOption}
+use Rattle.std.proofs.lemmas.List.{get_or-map, get_or_default, length-map}
 use Rattle.std.proofs.lemmas.List.Elements.{Contains-append_cases}
 use Rattle.std.proofs.lemmas.List.Sorted.{Contains-permutation, IsPermutation-sym}
 use Rattle.proto_desc.specs.DeclaredNames.{declared_by}
@@ -45,6 +45,12 @@ pub below_files : (files : List FileDesc) (os : List Occurrence) → IsPermutati
     → o.file < length files
 below_files files os same o within =
     let below = below_from 0 files o (Contains-permutation os (occurrences files) o (IsPermutation-sym (occurrences files) os same) within) in
+    omega (arith, below)
+
+pub all_below : (files : List FileDesc) (os : List Occurrence) → os ≡ occurrences files → All (λ (o : Occurrence). o.file < length files) os
+all_below files os same k d within =
+    let below = below_from 0 files (get_or os k d)
+    (subst (λ ps. Contains ps (get_or os k d)) same (k, within, get_or_default os k (get_or os k d) d within)) in
     omega (arith, below)
 
 -- ---- in another order

@@ -1,13 +1,14 @@
 -- What a walk over files has put so far.
-use Rattle.std.proofs.Common.{inl, inr, ◌≡◌, ◌∙◌, sym, ℕ, zero, suc, ◌-◌, ◌+◌, ◌<◌, ◌≤◌, List, [], ◌∷◌, ◌++◌, length, take, drop, get_or, append_assoc, length-append, ap, ap₂, refl, arith}
+use Rattle.std.proofs.Common.{inl, inr, ◌≡◌, ◌∙◌, sym, ℕ, zero, suc, ◌-◌, ◌+◌, ◌<◌, ◌≤◌, List, [], ◌∷◌, ◌++◌, length, map, take, drop, get_or, append_assoc, length-append, ap, ap₂, refl, subst, arith}
 use Rattle.std.specs.Prelude.{Option, slice_get, Some}
 use Rattle.std.proofs.lemmas.Bool.{cases_lt}
 use Rattle.std.proofs.Math.Seq.{get_or-append_seam, take-add, take-append_seam}
-use Rattle.std.proofs.lemmas.List.{get_or_append_left, take-append-le, take_more, take-append-drop, append-nil}
+use Rattle.std.proofs.lemmas.List.{get_or_append_left, length-map, take-append-le, take_more, take-append-drop, append-nil}
 use Rattle.std.proofs.lemmas.Option.{get_or_from_slice_get, slice_get-get_or, slice_get_within}
 use Rattle.std.proofs.lemmas.Grind.{common_steps, flat_map-append}
 use Rattle.proto_desc.specs.declared.file.FileDesc.{FileDesc}
 use Rattle.proto_names.specs.Collected.{ArePlaced, IsCollected, files_in}
+use Rattle.proto_names.specs.Shares.{all_of}
 use Rattle.share_work.specs.Shares.{GivesItems}
 use Rattle.proto_names.specs.Occurrences.{Occurrence, occurrences_of, occurrences_from}
 use Rattle.proto_names.specs.declared.part.Part.{Part}
@@ -82,13 +83,25 @@ part_at [] k within = absurd (omega (arith, within))
 part_at (p ∷ parts) zero within = (p, refl)
 part_at (p ∷ parts) (suc k) within = part_at parts k (omega (arith, within))
 
--- what was collected in the part at a position
-pub collected_at : (limit : ℕ) (parts : List Part) (outs : List (Option (List Occurrence))) (k : ℕ) (out found : Option (List Occurrence))
-    → GivesItems (λ i part. IsCollected limit part.first part.files.now) 0 parts outs → k < length outs → out ≡ get_or outs k out → out ≡ found
-    → (p : Part) × (slice_get parts k ≡ Some p) × IsCollected limit p.first p.files.now found
-collected_at limit parts outs k out found given within at is =
+-- what was collected in the next part
+pub collected_next : (limit : ℕ) (parts : List Part) (outs rest : List (Option (List Occurrence))) (all : List (List Occurrence))
+    (out : Option (List Occurrence)) → GivesItems (λ i part. IsCollected limit part.first part.files.now) 0 parts outs
+    → map Some all ++ out ∷ rest ≡ outs
+    → (p : Part) × (slice_get parts (length all) ≡ Some p) × IsCollected limit p.first p.files.now out
+collected_next limit parts outs rest all out given whole =
+    let k = length (map Some all) in
+    let size = ap length (sym whole) ∙ length-append (map Some all) (out ∷ rest) in
+    let within : k < length outs = omega (arith, size) in
+    let at : slice_get outs k ≡ Some out =
+    slice_get-get_or outs k out within ∙ ap Some (ap (λ (l : List _). get_or l k out) (sym whole) ∙ get_or-append_seam (map Some all) out rest out) in
     let (p, stands) = part_at parts k (omega (arith, given.0, within)) in
-    (p, stands, given.1 k p found stands (slice_get-get_or outs k out within ∙ ap Some (sym at ∙ is)))
+    let same : k ≡ length all = length-map all Some in
+    (p, subst (λ n. slice_get parts n ≡ Some p) same stands, given.1 k p out stands at)
+
+-- the occurrences of parts, and those of one more
+pub all_more : (all more : List (List Occurrence)) (os : List Occurrence) → more ≡ all ++ os ∷ [] → all_of more ≡ all_of all ++ os
+all_more all more os put =
+    ap all_of put ∙ flat_map-append (λ os. os) all (os ∷ []) ∙ ap (λ (ps : List Occurrence). all_of all ++ ps) (append-nil os)
 
 -- ---- cutting files into parts
 

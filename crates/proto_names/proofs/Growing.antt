@@ -1,5 +1,5 @@
 -- Entries whose names stand in a text that only grows.
-use Rattle.std.proofs.Common.{◌≡◌, ◌∙◌, sym, ap, ap₂, subst, refl, ℕ, zero, suc, ◌+◌, ◌-◌, ◌<◌, ◌≤◌, List, [], ◌∷◌, ◌++◌, length, take, drop, map, arith, append_assoc, length-append, length-drop}
+use Rattle.std.proofs.Common.{◌≡◌, ◌∙◌, sym, ap, ap₂, subst, refl, ℕ, zero, suc, ◌+◌, ◌-◌, ◌<◌, ◌≤◌, List, [], ◌∷◌, ◌++◌, length, take, drop, map, arith, append_assoc, length-append, length-drop, length-take-le}
 use Rattle.std.specs.Prelude.{IsAscii, IsUtf8, Result, Ok, Err, OnOk, is_ok, if◌then◌else◌}
 use Rattle.std.proofs.lemmas.List.{drop-append-le, take-append-le, drop_at, take_all, map_push}
 use Rattle.std.proofs.lemmas.List.Elements.{All-head, All-tail, All-push, All-weaker}
@@ -47,6 +47,11 @@ occurrences_more old new [] prefix of = refl
 occurrences_more old new (e ∷ es) prefix of =
     let same : occurrence new e ≡ occurrence old e = ap (named e) (name_more old new e prefix (All-head (IsEntryOf old) e es of)) in
     ap₂ (λ (o : Occurrence) (os : List Occurrence). o ∷ os) same (occurrences_more old new es prefix (All-tail (IsEntryOf old) e es of))
+
+pub name_length : (text : List ℕ) (e : Entry) → IsEntryOf text e → length (name_at text e) ≡ e.len
+name_length text e is =
+    let within = is.within in
+    length-take-le e.len (drop e.start text) (rw (length-drop e.start text) (omega (arith, within)))
 
 -- ---- an entry more, whose name goes behind the text
 

@@ -6,7 +6,6 @@ pub mod Starting
 pub mod Comparing
 pub mod Prefixes
 pub mod Growing
-pub mod Joining
 pub mod Looking
 pub mod Meaning
 pub mod Occurring
@@ -16,6 +15,8 @@ pub mod Ordered
 pub mod Packing
 pub mod Repeating
 pub mod Searching
+pub mod Shared
 pub mod Standing
+pub mod Tabled
 pub mod Unhashing
 pub mod Unique

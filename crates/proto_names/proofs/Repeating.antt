@@ -1,12 +1,14 @@
 -- Runs of one name, and what is repeated in them.
-use Rattle.std.proofs.Common.{◌≡◌, ◌≢◌, ◌∙◌, sym, ℕ, ◌+◌, ◌-◌, ◌<◌, ◌≤◌, List, length, ap, refl, subst, arith, inl, inr, ◌⊎◌}
-use Rattle.std.specs.Prelude.{Bool, true, false, IsTrue, ◌↔◌, Option, None, Some, IfSome, IsSomeAnd, MatchOption, is_some, slice_get}
+use Rattle.std.proofs.Common.{◌≡◌, ◌≢◌, ◌∙◌, sym, ℕ, zero, suc, ◌+◌, ◌-◌, ◌<◌, ◌≤◌, List, [], ◌∷◌, ◌++◌, length, ap, refl, subst, arith, inl, inr, ◌⊎◌}
+use Rattle.std.specs.Prelude.{Contains, Bool, true, false, IsTrue, ◌↔◌, Option, None, Some, IfSome, IsSomeAnd, MatchOption, is_some, slice_get}
 use Rattle.std.proofs.lemmas.Bool.{cases_lt, false≢true}
+use Rattle.std.proofs.lemmas.List.Elements.{Contains-append_cases, Contains-append_left, Contains-append_right}
 use Rattle.std.proofs.lemmas.Option.{none-some, slice_get-get_or, slice_get_within, get_or_from_slice_get}
 use Rattle.proto_desc.specs.declared.name_kind.NameKind.{NameKind}
 use Rattle.proto_names.specs.Occurrences.{Occurrence, IsNoLater, IsPackage, IsTwice, NoneTwice}
 use Rattle.proto_names.specs.Repeated.{IsFirstTwice}
 use Rattle.proto_names.specs.Order.{AreInOrder, IsEarlierOf, NoLater, location_of}
+use Rattle.proto_names.specs.Shares.{IsEarliest, IsFirstOf}
 use Rattle.proto_names.specs.Runs.{IsRun, Repeats, at, blank}
 use Rattle.proto_names.specs.declared.entry.Location.{Location}
 use Rattle.proto_names.proofs.Ordered.{places_in_order, names_between}
@@ -166,7 +168,7 @@ passed_skip os n known none passed = record {
 }
 
 -- the order of occurrences is that of their locations
-no_later : (a b c : Occurrence) (s : Location) → a.file ≡ s.file → a.place ≡ s.place → NoLater s (location_of b)
+pub no_later : (a b c : Occurrence) (s : Location) → a.file ≡ s.file → a.place ≡ s.place → NoLater s (location_of b)
     → IsNoLater b c → IsNoLater a c
 no_later a b c s file place (inl h) (inl k) = inl (omega (arith, file))
 no_later a b c s file place (inl h) (inr k) = inl (omega (arith, file, k.0))
@@ -182,3 +184,50 @@ passed_all os n (Some s) whole passed =
     (let (k, inside, repeats, behind) = twice_repeats os c other in
     no_later b (at os k) c s file place (passed.least k (omega (arith, whole, inside)) repeats) behind) in
     (b, record { among = twice; least = least }, file, place)
+
+-- ---- the first of those that are known
+
+only : {X : Type 0} (x y : X) → Contains (x ∷ []) y → x ≡ y
+only x y (zero, inside, is) = is
+only x y (suc k, inside, is) = absurd (omega (arith, inside))
+
+no_later_itself : (l : Location) → NoLater l l
+no_later_itself l = inr (refl, omega arith)
+
+-- one more that is unknown
+pub first_kept : (known : List (Option Location)) (first : Option Location) → IsFirstOf known first → IsFirstOf (known ++ None ∷ []) first
+first_kept known first is = of first is where
+  old : (l : Location) → Contains (known ++ None ∷ []) (Some l) → Contains known (Some l)
+  old l within = elim (Contains-append_cases known (None ∷ []) (Some l) within) [
+    | inl before ↦ before
+    | inr last ↦ absurd (none-some l (only None (Some l) last))
+  ]
+
+  of : (first : Option Location) → IsFirstOf known first → IsFirstOf (known ++ None ∷ []) first
+  of None none = λ l within. none l (old l within)
+  of (Some f) earliest = record {
+    among = Contains-append_left known (None ∷ []) (Some f) earliest.among;
+    least = λ l within. earliest.least l (old l within);
+  }
+
+pub first_more : (known : List (Option Location)) (first : Option Location) (location f : Location) → IsFirstOf known first
+    → IsEarlierOf first location f → IsFirstOf (known ++ Some location ∷ []) (Some f)
+first_more known first location f is earlier = record {
+  among = (elim earlier.one [
+    | inl same ↦ Contains-append_left known (Some location ∷ []) (Some f) (among_known first is same)
+    | inr same ↦ Contains-append_right known (Some location ∷ []) (Some f) (0, omega arith, ap Some same)
+  ]);
+  least = λ l within. (elim (Contains-append_cases known (Some location ∷ []) (Some l) within) [
+    | inl before ↦ earlier.left l (later first is l before)
+    | inr last ↦ (let same : Some location ≡ Some l = only (Some location) (Some l) last in
+        let is_it : location ≡ l = cc in
+        earlier.right l (subst (λ (m : Location). NoLater location m) is_it (no_later_itself location)))
+  ]);
+} where
+  among_known : (first : Option Location) → IsFirstOf known first → first ≡ Some f → Contains known (Some f)
+  among_known None none same = absurd (none-some f same)
+  among_known (Some a) earliest same = let is_it : a ≡ f = cc in subst (λ (m : Location). Contains known (Some m)) is_it earliest.among
+
+  later : (first : Option Location) → IsFirstOf known first → (l : Location) → Contains known (Some l) → IsSomeAnd first (λ a. NoLater a l)
+  later None none l within = absurd (none l within)
+  later (Some a) earliest l within = earliest.least l within

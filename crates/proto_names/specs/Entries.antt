@@ -18,7 +18,3 @@ pub record IsEntryOf (text : List ℕ) (e : Entry) : Type 0 where
 
 abbrev pub AreEntriesOf : List ℕ → List Entry → Type 0
 AreEntriesOf text es = All (IsEntryOf text) es
-
--- an entry whose name stands further on in the text
-abbrev pub moved : ℕ → Entry → Entry
-moved by e = record { start = by + e.start; len = e.len; location = e.location; hash = e.hash; kind = e.kind }

@@ -9,6 +9,7 @@ pub mod Packages
 pub mod Resolution
 pub mod Runs
 pub mod Scopes
+pub mod Shares
 pub mod Steps
 pub mod Repeated
 pub mod SeenAlike

@@ -1,7 +1,8 @@
 //! The entries of an index: the occurrences of full names, which stand in one text.
 
 ghost use Rattle.std.specs.Prelude.{◌≡◌, ℕ, ◌+◌, ◌<◌, ◌^◌, ◌++◌, ◌∷◌, [], map, take, length, All, OnOk, IsPermutation, IsSorted};
-ghost use Rattle.proto_names.specs.Entries.{moved};
+ghost use Rattle.proto_names.specs.Entries.{IsEntryOf, occurrence};
+ghost use Rattle.proto_names.specs.Shares.{share_of};
 ghost use Rattle.proto_desc.specs.DeclaredNames.{scoped};
 ghost use Rattle.proto_names.specs.Order.{AreInOrder, entry_cmp};
 
@@ -9,13 +10,12 @@ use crate::entry::{Entry, Location};
 use crate::full_name::push_name;
 use crate::names::Names;
 use crate::scope::Scope;
-use crate::threading::Threading;
+use crate::share::Share;
 use proto_desc::name_kind::NameKind;
-use rayon::prelude::*;
 use std::alloc::{AllocError, Global};
 use std::cmp::Ordering;
 use std::marker::Model;
-use std::thread::Threads;
+use std::str;
 
 /// Entries and the text of their names, in which each name stands behind the last. Contracts see them as the
 /// occurrences that they stand for.
@@ -77,13 +77,31 @@ impl Entries {
         Ok(())
     }
 
-    /// Puts other entries behind these.
-    pub(crate) fn append(&mut self, other: &Entries) -> Result<(), AllocError>
-        ensures { OnOk result (self.new ≡ self.old ++ other.now) }
+    /// Puts an entry behind the others, whose name stands in another text.
+    fn push_copy(&mut self, text: &[u8], entry: &Entry) -> Result<(), AllocError>
+        requires { IsEntryOf text.now entry.now }
+        ensures { OnOk result (self.new ≡ self.old ++ occurrence text.now entry.now ∷ []) }
     {
+        let Ok(name) = str::from_utf8(entry.name(text)) else {
+            unreachable!()
+        };
         let start = self.text.len();
-        self.text.push_str(other.text.as_str())?;
-        put_moved(&mut self.entries, start, &other.entries)
+        self.text.push_str(name)?;
+        self.entries.push(Entry { start, ..*entry })?;
+        Ok(())
+    }
+
+    /// Puts those of other entries that are in a share behind these.
+    pub(crate) fn append_share(&mut self, others: &Entries, share: Share) -> Result<(), AllocError>
+        ensures { OnOk result (self.new ≡ self.old ++ share_of share.count share.position others.now) }
+    {
+        let text = others.text.as_bytes();
+        for entry in &others.entries {
+            if share.has(entry.hash) {
+                self.push_copy(text, entry)?;
+            }
+        }
+        Ok(())
     }
 
     /// How many entries there are.
@@ -101,33 +119,12 @@ impl Entries {
     }
 
     /// Sorts the entries by the hashes of their names, then by name, file and place.
-    pub(crate) fn sort<R>(&mut self, rt: &R, threading: Threading)
-    where
-        R: Threads + Sync,
+    pub(crate) fn sort(&mut self)
         ensures all { IsPermutation self.old self.new }
         ensures order { AreInOrder self.new }
     {
-        sort_entries(rt, self.text.as_bytes(), &mut self.entries, threading);
+        sort_entries(self.text.as_bytes(), &mut self.entries);
     }
-}
-
-/// Puts entries behind others, with their names so many bytes further on in the text. Where there is no memory, some of them
-/// may be put.
-fn put_moved(entries: &mut Vec<Entry>, by: usize, others: &[Entry]) -> Result<(), AllocError>
-    requires { All (λ e. by + e.start < 2 ^ 64) others.now }
-    ensures kept { (n : ℕ) × (entries.new.items
-        ≡ entries.old.items ++ map (moved by) (take n others.now)) }
-    ensures put { OnOk result (entries.new.items
-        ≡ entries.old.items ++ map (moved by) others.now) }
-{
-    entries.reserve(others.len())?;
-    for entry in others {
-        entries.push(Entry {
-            start: by + entry.start,
-            ..*entry
-        })?;
-    }
-    Ok(())
 }
 
 /// The order of entries by the hashes of their names, which stand in a text, then by name, file and place. The hash
@@ -144,8 +141,8 @@ fn compare_entries(text: &[u8], first: &Entry, second: &Entry) -> Ordering
     }
 }
 
-/// Sorts entries whose names stand in a text, in place, and starts no thread.
-fn sort_alone(text: &[u8], entries: &mut [Entry])
+/// Sorts entries whose names stand in a text, in place.
+fn sort_entries(text: &[u8], entries: &mut [Entry])
     ensures all { IsPermutation entries.old entries.new }
     ensures len { length entries.new ≡ length entries.old }
     ensures order { IsSorted (entry_cmp text.now) entries.new }
@@ -155,35 +152,4 @@ fn sort_alone(text: &[u8], entries: &mut [Entry])
             ensures { result ≡ entry_cmp text.entry.now first.now second.now }
         { compare_entries(text, first, second) },
     );
-}
-
-/// As `sort_alone`, in threads.
-fn sort_in_threads<R>(rt: &R, text: &[u8], entries: &mut [Entry])
-where
-    R: Threads + Sync,
-    ensures all { IsPermutation entries.old entries.new }
-    ensures len { length entries.new ≡ length entries.old }
-    ensures order { IsSorted (entry_cmp text.now) entries.new }
-{
-    par_sort_unstable_by(
-        rt,
-        entries,
-        |first: &Entry, second: &Entry| -> Ordering
-            ensures { result ≡ entry_cmp text.entry.now first.now second.now }
-        { compare_entries(text, first, second) },
-    );
-}
-
-/// Sorts entries whose names stand in a text, in place.
-fn sort_entries<R>(rt: &R, text: &[u8], entries: &mut [Entry], threading: Threading)
-where
-    R: Threads + Sync,
-    ensures all { IsPermutation entries.old entries.new }
-    ensures len { length entries.new ≡ length entries.old }
-    ensures order { IsSorted (entry_cmp text.now) entries.new }
-{
-    match threading {
-        Threading::Alone => sort_alone(text, entries),
-        Threading::Shared => sort_in_threads(rt, text, entries),
-    }
 }

@@ -1,10 +1,11 @@
 //! The index of the names of files.
 
-ghost use Rattle.std.specs.Prelude.{◌≡◌, ◌≢◌, ◌↔◌, ℕ, ◌<◌, List, map, Err, IfOk, IfSome, MatchOption, None, Some, Contains, string_bytes, length, IsPermutation, IsSorted};
+ghost use Rattle.std.specs.Prelude.{◌≡◌, ◌≢◌, ◌↔◌, ℕ, ◌<◌, List, flat_map, map, Err, IfOk, IfSome, MatchOption, None, Some, Contains, string_bytes, length, IsPermutation, IsSorted};
 ghost use Rattle.std.specs.Cmp.Lexicographic.{slice_cmp};
 ghost use Rattle.std.specs.Ordering.{nat_cmp};
 ghost use Rattle.proto_desc.specs.DeclaredNames.{scoped};
-ghost use Rattle.proto_names.specs.Index.{Indexes, is_service_kind, services_of};
+ghost use Rattle.proto_names.specs.Index.{Indexes, services_of};
+ghost use Rattle.proto_names.specs.Shares.{IsFirstOf, services_in, table_of, twice_of};
 ghost use Rattle.proto_names.specs.Repeated.{AreDeclaredOnce, IsRepeated};
 ghost use Rattle.proto_names.specs.declared.index.Defined.{Defined};
 ghost use Rattle.proto_names.specs.Occurrences.{Occurrence, IsPackage, occurrences};
@@ -13,17 +14,18 @@ ghost use Rattle.proto_base.specs.Limits.{limit_of};
 ghost use Rattle.proto_base.specs.declared.limits.Limit.TheVariants as limit;
 ghost use Rattle.proto_base.specs.declared.place.Place.{Place};
 
-use crate::names::Names;
-use crate::parts::collect;
+use crate::entry::Location;
 use crate::scope::Scope;
+use crate::shares::sorted_shares;
+use crate::sorted::SortedShare;
 use crate::table::EntryTable;
+use crate::tables::Tables;
 use crate::threading::Threading;
-use crate::twice::first_twice;
+use crate::twice::lesser;
 use proto_base::{Limit, Limits, Place};
 use proto_desc::file::FileDesc;
 use proto_desc::name_kind::NameKind;
 use proto_links::FileId;
-use rayon::prelude::*;
 use std::alloc::{AllocError, AllocGlobal, Global};
 use std::marker::Model;
 use std::thread::Threads;
@@ -50,57 +52,37 @@ impl From<AllocError> for NameError {
     }
 }
 
-/// Whether a name is declared for a service.
-fn is_service(kind: Option<NameKind>) -> bool
-    ensures { result ≡ is_service_kind kind }
+/// The first of the occurrences that occur twice, by the first of each share.
+fn first_of(shares: &[SortedShare]) -> Option<Location>
+    ensures { IsFirstOf (map twice_of shares.now) result }
 {
-    matches!(kind, Some(NameKind::Service))
-}
-
-/// The names of the services among entries, in the order of these.
-fn listed_services(alloc: Global, names: &Names) -> Result<Vec<String>, AllocError>
-    ensures { IfOk result (λ services. map string_bytes services.items ≡ services_of names.now) }
-{
-    let mut services = Vec::new(alloc);
-    for position in 0..names.len() {
-        if is_service(names.kind(position)) {
-            services.push(names.to_text(alloc, position)?)?;
+    let mut first = None;
+    for share in shares {
+        if let Some(location) = share.twice {
+            first = Some(lesser(first, location));
         }
     }
-    Ok(services)
+    first
 }
 
-/// Sorts texts in byte order.
-fn sort_texts<R>(rt: &R, texts: &mut [String], threading: Threading)
-where
-    R: Threads + Sync,
-    ensures permutation { IsPermutation texts.old texts.new }
-    ensures len { length texts.new ≡ length texts.old }
-    ensures sorted { IsSorted (λ a b. slice_cmp nat_cmp (string_bytes a) (string_bytes b)) texts.new }
-{
-    match threading {
-        Threading::Alone => texts.sort_unstable(),
-        Threading::Shared => par_sort_unstable(rt, texts),
-    }
-}
-
-/// The names of the services among entries, in byte order.
-fn service_names<R>(
-    rt: &R,
+/// Shares taken apart: their tables, and the names of all services in byte order.
+fn taken_apart(
     alloc: Global,
-    names: &Names,
-    threading: Threading,
-) -> Result<Vec<String>, AllocError>
-where
-    R: Threads + Sync,
-    ensures all { IfOk result (λ services. IsPermutation (services_of names.now)
-        (map string_bytes services.items)) }
-    ensures order { IfOk result (λ services. IsSorted (slice_cmp nat_cmp)
-        (map string_bytes services.items)) }
+    shares: Vec<SortedShare>,
+) -> Result<(Vec<EntryTable>, Vec<String>), AllocError>
+    ensures tables { IfOk result (λ r. r.0.items ≡ map table_of shares.items) }
+    ensures services { IfOk result (λ r. IsPermutation (flat_map services_in shares.items)
+        (map string_bytes r.1.items)) }
+    ensures order { IfOk result (λ r. IsSorted (slice_cmp nat_cmp) (map string_bytes r.1.items)) }
 {
-    let mut services = listed_services(alloc, names)?;
-    sort_texts(rt, &mut services, threading);
-    Ok(services)
+    let mut tables = Vec::with_capacity(alloc, shares.len())?;
+    let mut services = Vec::new(alloc);
+    for mut share in shares {
+        services.append(&mut share.services)?;
+        tables.push(share.table)?;
+    }
+    services.sort_unstable();
+    Ok((tables, services))
 }
 
 /// What a full name is declared for, and the file that declares it.
@@ -114,7 +96,7 @@ pub struct Defined {
 #[derive(Drop)]
 pub struct NameIndex {
     pub(crate) files: usize,
-    pub(crate) entries: EntryTable,
+    pub(crate) entries: Tables,
     /// The names of the services, in byte order.
     pub(crate) services: Vec<String>,
 }
@@ -180,19 +162,16 @@ impl NameIndex {
     {
         let alloc = rt.alloc();
         let limit = limits.get(Limit::Names);
-        let Some(mut entries) = collect(rt, files, limit, threading)? else {
+        let Some(shares) = sorted_shares(rt, files, limit, threading)? else {
             return Err(NameError::TooMany);
         };
-        entries.sort(rt, threading);
-        if let Some(location) = first_twice(&entries.names()) {
+        if let Some(location) = first_of(&shares) {
             return Err(NameError::At(location.file, location.place));
         }
-        let services = service_names(rt, alloc, &entries.names(), threading)?;
-        let files = files.len();
-        let entries = EntryTable::new(alloc, entries, files)?;
+        let (tables, services) = taken_apart(alloc, shares)?;
         Ok(NameIndex {
-            files,
-            entries,
+            files: files.len(),
+            entries: Tables::new(tables),
             services,
         })
     }

@@ -1,13 +1,13 @@
 //! Collecting the occurrences in files, which are dealt out to threads in parts.
 
 ghost use Rattle.std.specs.Prelude.{◌<◌, IfOk};
-ghost use Rattle.proto_names.specs.Collected.{ArePartsOf, ArePlaced, IsCollected, files_in};
+ghost use Rattle.std.specs.Option.{option_map};
+ghost use Rattle.proto_names.specs.Collected.{AreCollected, ArePartsOf, ArePlaced, IsCollected, files_in};
 ghost use Rattle.share_work.specs.Shares.{GivesItems};
 
 use crate::collect::collect_files;
 use crate::entries::Entries;
 use crate::part::Part;
-use crate::threading::Threading;
 use proto_desc::file::FileDesc;
 use share_work::{NoGate, Plan, Work, in_shares};
 use std::alloc::{AllocError, AllocGlobal, Global};
@@ -54,11 +54,8 @@ impl<'f, 's> Work<Part<'f, 's>> for Collecting {
     }
 }
 
-/// How many threads collect.
-const THREADS: u32 = 4;
-
-/// Fewer files than this are not worth a thread.
-const LEAST: usize = 64;
+/// How many threads collect, and then sort.
+pub(crate) const THREADS: u32 = 4;
 
 /// Files in parts of so many.
 fn parts_of<'f, 's>(
@@ -97,61 +94,49 @@ where
     in_shares(rt, plan, 0, &NoGate, parts, &work, seats.as_mut_slice())
 }
 
-/// The occurrences in all parts, one after the other, or none where they are more than the limit.
-fn joined(
+/// The occurrences in each part, or none where all of them are more than the limit.
+fn within(
     alloc: Global,
     parts: &[Part],
-    outs: &[Option<Entries>],
+    outs: Vec<Option<Entries>>,
     limit: u64,
-) -> Result<Option<Entries>, AllocError>
+) -> Result<Option<Vec<Entries>>, AllocError>
     requires placed { ArePlaced parts.now }
     requires outs { GivesItems (λ _ part. IsCollected limit part.first part.files.now) 0 parts.now
-        outs.now }
-    ensures { IfOk result (IsCollected limit 0 (files_in parts.now)) }
+        outs.items }
+    ensures { IfOk result (λ found. AreCollected limit (files_in parts.now)
+        (option_map (λ all. all.items) found)) }
 {
-    let mut all = Entries::new(alloc);
+    let mut all = Vec::with_capacity(alloc, outs.len())?;
+    let mut count = 0;
     for out in outs {
         let Some(entries) = out else {
             return Ok(None);
         };
-        if entries.len() as u64 > limit - all.len() as u64 {
+        let len = entries.len() as u64;
+        if len > limit - count {
             return Ok(None);
         }
-        all.append(entries)?;
+        count += len;
+        all.push(entries)?;
     }
     Ok(Some(all))
 }
 
-/// The occurrences in files, in threads, or none where they are more than the limit.
-fn collect_in_threads<R>(
+/// The occurrences in files, in parts, or none where they are more than the limit.
+pub(crate) fn collect_in_threads<R>(
     rt: &R,
     files: &[FileDesc],
     limit: u64,
-) -> Result<Option<Entries>, AllocError>
+) -> Result<Option<Vec<Entries>>, AllocError>
 where
     R: Threads + AllocGlobal + Sync,
-    ensures { IfOk result (IsCollected limit 0 files.now) }
+    ensures { IfOk result (λ found. AreCollected limit files.now
+        (option_map (λ all. all.items) found)) }
 {
     let alloc = rt.alloc();
     let size = files.len() / THREADS as usize + 1;
     let parts = parts_of(alloc, files, size)?;
     let outs = collect_each(rt, &parts, limit)?;
-    joined(alloc, &parts, &outs, limit)
-}
-
-/// The occurrences in files, or none where they are more than the limit.
-pub(crate) fn collect<R>(
-    rt: &R,
-    files: &[FileDesc],
-    limit: u64,
-    threading: Threading,
-) -> Result<Option<Entries>, AllocError>
-where
-    R: Threads + AllocGlobal + Sync,
-    ensures { IfOk result (IsCollected limit 0 files.now) }
-{
-    match threading {
-        Threading::Shared if files.len() >= LEAST => collect_in_threads(rt, files, limit),
-        _ => collect_files(rt.alloc(), 0, files, limit),
-    }
+    within(alloc, &parts, outs, limit)
 }

@@ -69,14 +69,20 @@ fn is_match(names: &Names, position: usize, hash: u32, scope: &str, name: &str) 
 const MOST: usize = 16;
 
 impl Starts {
-    /// Where the entries of the name in a scope begin.
-    pub(crate) fn start_of(&self, names: &Names, scope: Scope, name: &str) -> Option<usize>
+    /// Where the entries of the name in a scope, which has this hash, begin.
+    pub(crate) fn start_of(
+        &self,
+        names: &Names,
+        scope: Scope,
+        hash: u32,
+        name: &str,
+    ) -> Option<usize>
+        requires hash { hash ≡ hash_of (scoped scope.text.now name.now) }
         requires order { AreInHashOrder names.now }
         requires starts { AreStarts names.now self.now.counts.items }
         ensures { MatchOption result (IsNowhere names.now (scoped scope.entry.text.now name.now))
             (IsStart names.now (scoped scope.entry.text.now name.now)) }
     {
-        let hash = scope.hash_with(name);
         let slot = slot_of(self.counts.len() - 1, hash);
         let start = self.counts[slot] as usize;
         let end = self.counts[slot + 1] as usize;

@@ -5,6 +5,7 @@ ghost use Rattle.std.specs.Prelude.{◌≡◌, ◌≢◌, ◌↔◌, ◌<◌, �
 ghost use Rattle.std.specs.List.Sorted.{IsPartitionPoint};
 ghost use Rattle.std.specs.declared.cmp.Ordering.TheVariants.{Less};
 ghost use Rattle.proto_desc.specs.DeclaredNames.{scoped};
+ghost use Rattle.proto_names.specs.Hashes.{hash_of};
 ghost use Rattle.proto_names.specs.Order.{AreInHashOrder, AreInOrder, name_cmp};
 ghost use Rattle.proto_names.specs.Occurrences.{Occurrence};
 ghost use Rattle.proto_names.specs.Packages.{ArePackagesOf, IsPackageOf};
@@ -71,8 +72,9 @@ impl EntryTable {
         })
     }
 
-    /// The entries of the name in a scope.
-    pub(crate) fn named(&self, scope: Scope, name: &str) -> Named<'_>
+    /// The entries of the name in a scope, which has this hash.
+    pub(crate) fn named(&self, scope: Scope, hash: u32, name: &str) -> Named<'_>
+        requires hash { hash ≡ hash_of (scoped scope.text.now name.now) }
         ensures found { (o : Occurrence) → Contains result.names o
             → Contains self.now o × (o.name ≡ scoped scope.entry.text.now name.now) }
         ensures all { (o : Occurrence) → Contains self.now o
@@ -84,6 +86,7 @@ impl EntryTable {
             &self.starts,
             &self.packages,
             scope,
+            hash,
             name,
         )
     }
@@ -107,14 +110,16 @@ fn run_length(names: &Names, scope: &str, name: &str) -> usize
     }
 }
 
-/// The entries of the name in a scope.
+/// The entries of the name in a scope, which has this hash.
 fn entries_named<'e>(
     names: &Names<'e>,
     starts: &Starts,
     packages: &'e Packages,
     scope: Scope,
+    hash: u32,
     name: &str,
 ) -> Named<'e>
+    requires hash { hash ≡ hash_of (scoped scope.text.now name.now) }
     requires order { AreInOrder names.now }
     requires starts { AreStarts names.now starts.now.counts.items }
     requires packages { ArePackagesOf names.now packages.now.runs.items packages.now.files }
@@ -122,7 +127,7 @@ fn entries_named<'e>(
         ↔ (Contains names.now o × (o.name ≡ scoped scope.entry.text.now name.now)) }
     ensures files { IfSome result.files (λ p. IsPackageOf result.names p.files.now p.row) }
 {
-    match starts.start_of(names, scope, name) {
+    match starts.start_of(names, scope, hash, name) {
         Some(start) => {
             let behind = names.skip(start);
             let names = behind.take(run_length(&behind, scope.text, name));

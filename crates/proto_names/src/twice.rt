@@ -71,7 +71,7 @@ fn run_with(names: &Names, run: Run, position: usize) -> Run
 }
 
 /// The earlier of what is known and one more.
-fn lesser(first: Option<Location>, location: Location) -> Location
+pub(crate) fn lesser(first: Option<Location>, location: Location) -> Location
     ensures { IsEarlierOf first location result }
 {
     match first {

@@ -7,7 +7,7 @@ use Rattle.proto_names.proofs.Standing.{sorted_occurrences}
 use Rattle.proto_names.proofs.entries.Entries.sort.Goals as goal
 
 pub invariant_of-self : goal.invariant_of-self
-invariant_of-self g c =
+invariant_of-self c =
     let es = c.self.inside.entries in
     let new = c.sort_entries.new.entries in
     let len : length new ≡ length es.items = c.sort_entries.ensures.len ∙ ap length c.deref_mut.ensures.value in
@@ -15,7 +15,7 @@ invariant_of-self g c =
     (All-permutation (IsEntryOf (string_bytes c.self.inside.text)) es.items new (rw c.deref_mut.ensures.value at c.sort_entries.ensures.all) c.self.invariant)
 
 pub returns-clause-all : goal.returns-clause-all
-returns-clause-all g c =
+returns-clause-all c =
     let es = c.self.inside.entries in
     let new = c.sort_entries.new.entries in
     let len : length new ≡ length es.items = c.sort_entries.ensures.len ∙ ap length c.deref_mut.ensures.value in
@@ -23,7 +23,7 @@ returns-clause-all g c =
     (rw c.deref_mut.ensures.value at c.sort_entries.ensures.all))
 
 pub returns-clause-order : goal.returns-clause-order
-returns-clause-order g c =
+returns-clause-order c =
     let es = c.self.inside.entries in
     let new = c.sort_entries.new.entries in
     let text = string_bytes c.self.inside.text in

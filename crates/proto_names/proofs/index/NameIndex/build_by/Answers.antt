@@ -1,88 +1,74 @@
-use Rattle.std.proofs.Common.{◌≡◌, ◌∙◌, sym, subst, refl, arith, List, map, get_or}
-use Rattle.std.specs.Prelude.{IsPermutation, string_bytes}
-use Rattle.std.proofs.lemmas.List.{get_or_default}
-use Rattle.std.proofs.lemmas.List.Sorted.{length_permutation}
-use Rattle.proto_names.specs.Index.{services_of}
+use Rattle.std.proofs.Common.{◌≡◌, ◌∙◌, sym, ap, subst, refl, arith, List, ℕ, length, map}
+use Rattle.std.specs.Cmp.Lexicographic.{slice_cmp}
+use Rattle.std.specs.Ordering.{nat_cmp}
+use Rattle.std.specs.Prelude.{◌≤◌, Contains, IsPermutation, IsSorted, Some, flat_map, string_bytes}
+use Rattle.proto_base.specs.Limits.{limit_of}
+use Rattle.proto_base.specs.declared.limits.Limit.TheVariants as limit
+use Rattle.proto_base.specs.declared.limits.Limits.{Limits}
+use Rattle.proto_desc.specs.declared.file.FileDesc.{FileDesc}
+use Rattle.proto_names.specs.Index.{Indexes, services_of}
+use Rattle.proto_names.specs.declared.entry.Location.{Location}
+use Rattle.proto_names.specs.declared.sorted.SortedShare.{SortedShare}
 use Rattle.proto_names.specs.Occurrences.{Occurrence, occurrences}
+use Rattle.proto_names.specs.Shares.{AreInShares, AreSharesOf, all_of, services_in, table_of, twice_of}
 use Rattle.proto_names.proofs.Built.{below_files, none_moved, first_moved, not_some}
+use Rattle.proto_names.proofs.Tabled.{all_services, all_shares, first_twice_of, in_shares, none_twice}
 use Rattle.proto_names.proofs.index.NameIndex.build_by.Goals as goal
 
-pub returns-in-Some-first_twice-clause-twice : goal.returns-in-Some-first_twice-clause-twice
-returns-in-Some-first_twice-clause-twice g c file place e =
-    let collected = (rw c.in-Some.is at c.in_ok-entries.ensures).0 in
-    let within = (rw c.in-Some.is at c.in_ok-entries.ensures).1 in
-    let all = rw collected at c.sort.ensures.all in
-    let first = rw c.names.ensures at c.in-Some-first_twice.ensures in
-    let same_file : c.in-Some-first_twice.location.file ≡ file = cc in
-    let same_place : c.in-Some-first_twice.location.place ≡ place = cc in
+pub returns-in-Some-first_of-clause-twice : goal.returns-in-Some-first_of-clause-twice
+returns-in-Some-first_of-clause-twice g c file place e =
+    let os = occurrences c.args.files.now in
+    let shares = c.in-Some.shares.items in
+    let are = rw c.in-Some.is at c.in_ok-shares.ensures.shares in
+    let location = c.in-Some-first_of.location in
+    let first = rw (c.deref.ensures.value, c.in-Some-first_of.is) at c.first_of.ensures in
+    let same_file : location.file ≡ file = cc in
+    let same_place : location.place ≡ place = cc in
     record {
-      within = rw (collected, c.get-limit.ensures.value) at within;
-      twice =
-          rw (← same_file, ← same_place) (first_moved (occurrences c.args.files.now) c.sort.new.self c.in-Some-first_twice.location.file
-          c.in-Some-first_twice.location.place all first);
+      within = rw c.get-limit.ensures.value at (rw c.in-Some.is at c.in_ok-shares.ensures.within);
+      twice = rw (← same_file, ← same_place) (first_moved os (all_of (map table_of shares)) location.file location.place (all_shares os shares are)
+          (first_twice_of os shares are location first));
     }
 
-pub new-requires-clause-many : goal.new-requires-clause-many
-new-requires-clause-many g c =
-    let within = (rw c.in-Some.is at c.in_ok-entries.ensures).1 in
-    let all = c.sort.ensures.all in
-    let same = length_permutation _ _ all in
-    omega (arith, within, c.get-limit.ensures.within, same)
+pub new-requires : goal.new-requires
+new-requires g c =
+    subst AreInShares (sym c.in_ok-tables.ensures.tables)
+    (in_shares (occurrences c.args.files.now) c.in-Some.shares.items (rw c.in-Some.is at c.in_ok-shares.ensures.shares))
 
-pub invariant_of-result : goal.invariant_of-result
-invariant_of-result g c =
-    let collected = (rw c.in-Some.is at c.in_ok-entries.ensures).0 in
-    let kept = sym c.in_ok-entries-2.ensures in
-    let all = subst (IsPermutation (occurrences c.args.files.now)) kept (rw collected at c.sort.ensures.all) in
-    let within = (rw c.in-Some.is at c.in_ok-entries.ensures).1 in
-    let none = rw c.names.ensures at (not_some _ c.first_twice.result c.in_default-first_twice.not-Some c.first_twice.ensures) in (
-      record {
-        inside = below_files c.args.files.now c.in_ok-entries-2.entries all;
-        order = c.in_ok-services.ensures.order;
-        services = subst (λ (os : List Occurrence). IsPermutation (services_of os) (map string_bytes c.in_ok-services.services.items))
-            (c.names-2.ensures ∙ kept) c.in_ok-services.ensures.all;
-      },
-      (
-        c.args.files.now,
-        c.args.limits.now,
-        record {
-          files = refl;
-          within = rw (collected, c.get-limit.ensures.value) at within;
-          once = none_moved (occurrences c.args.files.now) c.sort.new.self (rw collected at c.sort.ensures.all) none;
-          all = all;
-          sound = record {
-            inside = below_files c.args.files.now c.in_ok-entries-2.entries all;
-            order = c.in_ok-services.ensures.order;
-            services = subst (λ (os : List Occurrence). IsPermutation (services_of os) (map string_bytes c.in_ok-services.services.items))
-                (c.names-2.ensures ∙ kept) c.in_ok-services.ensures.all;
-          };
-        },
-      ),
-    )
-
-pub returns-clause-indexed : goal.returns-clause-indexed
-returns-clause-indexed g c =
-    let collected = (rw c.in-Some.is at c.in_ok-entries.ensures).0 in
-    let within = (rw c.in-Some.is at c.in_ok-entries.ensures).1 in
-    let all = rw collected at c.sort.ensures.all in
-    let kept = sym c.in_ok-entries-2.ensures in
-    let moved = subst (IsPermutation (occurrences c.args.files.now)) kept all in
-    let none = rw c.names.ensures at (not_some _ c.first_twice.result c.in_default-first_twice.not-Some c.first_twice.ensures) in
+-- the index that comes of shares in which nothing is twice
+indexed : (files : List FileDesc) (limits : Limits) (shares : List SortedShare) (os : List Occurrence) (services : List (List ℕ))
+    → AreSharesOf (occurrences files) shares → length (occurrences files) ≤ limit_of limits limit.Names
+    → ((l : Location) → Contains (map twice_of shares) (Some l) → ⊥) → os ≡ all_of (map table_of shares)
+    → IsPermutation (flat_map services_in shares) services → IsSorted (slice_cmp nat_cmp) services
+    → Indexes files limits (record { files = length files; occurrences = os; services = services })
+indexed files limits shares os services are within none kept listed order =
+    let tables = all_of (map table_of shares) in
+    let all = all_shares (occurrences files) shares are in
+    let moved = subst (IsPermutation (occurrences files)) (sym kept) all in
     record {
       files = refl;
-      within = rw (collected, c.get-limit.ensures.value) at within;
-      once = none_moved (occurrences c.args.files.now) c.sort.new.self all none;
+      within = within;
+      once = none_moved (occurrences files) tables all (none_twice (occurrences files) shares are none);
       all = moved;
       sound = record {
-        inside = below_files c.args.files.now c.in_ok-entries-2.entries moved;
-        order = c.in_ok-services.ensures.order;
-        services = subst (λ (os : List Occurrence). IsPermutation (services_of os) (map string_bytes c.in_ok-services.services.items))
-            (c.names-2.ensures ∙ kept) c.in_ok-services.ensures.all;
+        inside = below_files files os moved;
+        order = order;
+        services = subst (λ (xs : List (List ℕ)). IsPermutation xs services)
+            (all_services (occurrences files) shares are ∙ ap services_of (sym kept)) listed;
       };
     }
 
-pub new-requires-clause-files : goal.new-requires-clause-files
-new-requires-clause-files g c k d h =
-    let collected = (rw c.in-Some.is at c.in_ok-entries.ensures).0 in
-    let all = rw collected at c.sort.ensures.all in
-    below_files c.args.files.now c.sort.new.self all (get_or c.sort.new.self k d) (k, h, get_or_default c.sort.new.self k (get_or c.sort.new.self k d) d h)
+pub returns-clause-indexed : goal.returns-clause-indexed
+returns-clause-indexed g c =
+    indexed c.args.files.now c.args.limits.now c.in-Some.shares.items c.new.result (map string_bytes c.in_ok-tables.services.items)
+    (rw c.in-Some.is at c.in_ok-shares.ensures.shares) (rw c.get-limit.ensures.value at (rw c.in-Some.is at c.in_ok-shares.ensures.within))
+    (rw c.deref.ensures.value at (not_some _ c.first_of.result c.in_default-first_of.not-Some c.first_of.ensures))
+    (c.new.ensures ∙ ap all_of c.in_ok-tables.ensures.tables) c.in_ok-tables.ensures.services c.in_ok-tables.ensures.order
+
+pub invariant_of-result : goal.invariant_of-result
+invariant_of-result g c =
+    let it = indexed c.args.files.now c.args.limits.now c.in-Some.shares.items c.new.result (map string_bytes c.in_ok-tables.services.items)
+    (rw c.in-Some.is at c.in_ok-shares.ensures.shares) (rw c.get-limit.ensures.value at (rw c.in-Some.is at c.in_ok-shares.ensures.within))
+    (rw c.deref.ensures.value at (not_some _ c.first_of.result c.in_default-first_of.not-Some c.first_of.ensures))
+    (c.new.ensures ∙ ap all_of c.in_ok-tables.ensures.tables) c.in_ok-tables.ensures.services c.in_ok-tables.ensures.order in
+    (it.sound, (c.args.files.now, c.args.limits.now, it))

@@ -1,7 +1,7 @@
 use Rattle.std.proofs.Common.{◌≡◌, map, take}
 use Rattle.std.specs.Prelude.{string_bytes}
 use Rattle.proto_names.specs.Index.{services_of}
-use Rattle.proto_names.proofs.index.listed_services.Given as goal
+use Rattle.proto_names.proofs.sorted.listed_services.Given as goal
 
 abbrev pub invariant-loop-position : goal.invariant-loop-position
 invariant-loop-position l = map string_bytes l.services.items ≡ services_of (take l.position l.names)

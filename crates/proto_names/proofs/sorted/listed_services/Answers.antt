@@ -2,8 +2,8 @@ use Rattle.std.proofs.Common.{◌∙◌, ap, ◌<◌, length, arith}
 use Rattle.std.proofs.lemmas.List.{take_all}
 use Rattle.proto_names.specs.Index.{services_of}
 use Rattle.proto_names.proofs.Occurring.{services_put, services_passed}
-use Rattle.proto_names.proofs.index.listed_services.Goals as goal
-use Rattle.proto_names.proofs.index.listed_services.Goals.{then-is_service+in_ok-to_text+in_ok-push, else-is_service}
+use Rattle.proto_names.proofs.sorted.listed_services.Goals as goal
+use Rattle.proto_names.proofs.sorted.listed_services.Goals.{then-is_service+in_ok-to_text+in_ok-push, else-is_service}
 
 pub loop-position-preserved : goal.loop-position-preserved
 loop-position-preserved c =

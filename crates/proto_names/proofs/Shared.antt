@@ -1,0 +1,72 @@
+-- Occurrences in shares: together they are all, and what is twice is twice in one of them.
+use Rattle.std.proofs.Common.{◌≡◌, ◌≢◌, ◌∙◌, sym, ap, ap₂, subst, refl, ℕ, zero, suc, ◌+◌, ◌%◌, ◌<◌, ◌≤◌, Bool, true, false, not, List, [], ◌∷◌, ◌++◌, length, map, take, get_or, cond, append-nil, length-append, arith, inl, inr}
+use Rattle.std.specs.Prelude.{◌==◌, All, Contains, IsPermutation, MatchOption, Option, None, Some, filter, flat_map, slice_get, string_bytes}
+use Rattle.std.proofs.lemmas.Bool.{cases_lt, eq-eqb, eqb-true}
+use Rattle.std.proofs.lemmas.List.{length-map}
+use Rattle.std.proofs.lemmas.List.Elements.{All-filter, All-head, All-tail, filter_more, filter_passes}
+use Rattle.std.proofs.lemmas.List.Sorted.{All-permutation, IsPermutation-append, IsPermutation-filter_both, IsPermutation-refl, IsPermutation-trans}
+use Rattle.std.proofs.lemmas.List.Sums.{count_by-le-length, length-filter}
+use Rattle.std.proofs.lemmas.Option.{slice_get_within}
+use Rattle.share_work.specs.Shares.{GivesItems}
+use Rattle.proto_names.specs.Hashes.{hash_of}
+use Rattle.proto_names.specs.Occurrences.{Occurrence}
+use Rattle.proto_names.specs.Runs.{at, blank}
+use Rattle.proto_names.specs.Shares.{AreAllShares, AreInShares, AreSharesOf, IsSortedOf, all_of, share_at, share_of, table_of}
+use Rattle.proto_names.specs.declared.share.Share.{Share}
+use Rattle.proto_names.specs.declared.sorted.SortedShare.{SortedShare}
+
+-- ---- one share
+
+-- of one occurrence more
+pub share_more : (count position k : ℕ) (os : List Occurrence) (told : Bool) → k < length os → told ≡ (share_at count (at os k) == position)
+    → share_of count position (take (k + 1) os) ≡ share_of count position (take k os) ++ cond told (at os k ∷ []) []
+share_more count position k os told below is =
+    filter_more (λ o. share_at count o == position) os k blank below
+    ∙ ap (λ (b : Bool). share_of count position (take k os) ++ cond b (at os k ∷ []) []) (sym is)
+
+pub share_few : (count position : ℕ) (os : List Occurrence) → length (share_of count position os) ≤ length os
+share_few count position os =
+    let p : Occurrence → Bool = λ o. share_at count o == position in
+    let same = length-filter p os in
+    let few = count_by-le-length p os in
+    omega (arith, same, few)
+
+kept_all : (p : Occurrence → Bool) (os : List Occurrence) → ((o : Occurrence) → p o ≡ true) → filter p os ≡ os
+kept_all p [] all = refl
+kept_all p (o ∷ os) all = ap (λ (b : Bool). cond b (o ∷ filter p os) (filter p os)) (all o) ∙ ap (λ (ps : List Occurrence). o ∷ ps) (kept_all p os all)
+
+-- one share has all
+pub one_share : (os : List Occurrence) → share_of 1 0 os ≡ os
+one_share os = kept_all (λ o. share_at 1 o == 0) os (λ o. eq-eqb (share_at 1 o) 0 (omega arith))
+
+-- ---- what workers give
+
+pub shares_given : (count : ℕ) (os : List Occurrence) (shares : List Share) (outs : List SortedShare) → 0 < count → AreAllShares count shares
+    → GivesItems (λ i s out. IsSortedOf (share_of s.count s.position os) out) 0 shares outs → AreSharesOf os outs
+shares_given count os shares outs some all given =
+    let many : length outs ≡ count = given.0 ∙ all.0 in
+    record {
+      some = omega (arith, many, some);
+      each = λ k out at.
+          (let within = slice_get_within outs k out at in
+          let (s, stands) = share_there k (omega (arith, given.0, within)) in
+          let same = all.1 k s stands in
+          subst (λ n. IsSortedOf (share_of n k os) out) (same.1 ∙ sym many)
+          (subst (λ n. IsSortedOf (share_of s.count n os) out) same.0 (given.1 k s out stands at)));
+    } where
+  there : (ss : List Share) (k : ℕ) → k < length ss → (s : Share) × (slice_get ss k ≡ Some s)
+  there [] k within = absurd (omega (arith, within))
+  there (s ∷ ss) zero within = (s, refl)
+  there (s ∷ ss) (suc k) within = there ss k (omega (arith, within))
+
+  share_there : (k : ℕ) → k < length shares → (s : Share) × (slice_get shares k ≡ Some s)
+  share_there k within = there shares k within
+
+pub alone_given : (os : List Occurrence) (s : SortedShare) → IsSortedOf os s → AreSharesOf os (s ∷ [])
+alone_given os s is = record {
+  some = omega arith;
+  each = each;
+} where
+  each : (k : ℕ) (t : SortedShare) → slice_get (s ∷ []) k ≡ Some t → IsSortedOf (share_of 1 k os) t
+  each zero t at = let same : s ≡ t = cc in subst (IsSortedOf (share_of 1 0 os)) same (subst (λ ps. IsSortedOf ps s) (sym (one_share os)) is)
+  each (suc k) t at = let within = slice_get_within (s ∷ []) (suc k) t at in absurd (omega (arith, within))

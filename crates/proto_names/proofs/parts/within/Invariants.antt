@@ -1,0 +1,14 @@
+use Rattle.std.proofs.Common.{◌≡◌, ◌≤◌, ◌++◌, length, map, take}
+use Rattle.std.specs.Prelude.{Some}
+use Rattle.proto_names.specs.Collected.{files_in}
+use Rattle.proto_names.specs.Occurrences.{occurrences_from}
+use Rattle.proto_names.specs.Shares.{all_of}
+use Rattle.proto_names.proofs.parts.within.Given as goal
+
+abbrev pub invariant-loop-out : goal.invariant-loop-out
+invariant-loop-out l = record {
+  outs : map Some l.all.items ++ l.out-iterator.rest.items ≡ l.fn.outs.items;
+  all : all_of l.all.items ≡ occurrences_from 0 (files_in (take (length l.all.items) l.parts));
+  count : l.count ≡ length (all_of l.all.items);
+  within : l.count ≤ l.limit;
+}

@@ -1,0 +1,62 @@
+//! Entries in the order of their names, with what is found by walks over them.
+
+ghost use Rattle.std.specs.Prelude.{◌≡◌, ◌<◌, ◌≤◌, All, IfOk, length, map, string_bytes};
+ghost use Rattle.proto_names.specs.Index.{is_service_kind, services_of};
+ghost use Rattle.proto_names.specs.Shares.{IsSortedOf};
+
+use crate::entries::Entries;
+use crate::entry::Location;
+use crate::names::Names;
+use crate::table::EntryTable;
+use crate::twice::first_twice;
+use proto_desc::name_kind::NameKind;
+use std::alloc::{AllocError, Global};
+
+/// The table of entries, the names of the services among them, and the first that occurs twice.
+#[derive(Drop)]
+pub(crate) struct SortedShare {
+    pub(crate) table: EntryTable,
+    pub(crate) services: Vec<String>,
+    pub(crate) twice: Option<Location>,
+}
+
+/// Whether a name is declared for a service.
+fn is_service(kind: Option<NameKind>) -> bool
+    ensures { result ≡ is_service_kind kind }
+{
+    matches!(kind, Some(NameKind::Service))
+}
+
+/// The names of the services among entries, in the order of these.
+fn listed_services(alloc: Global, names: &Names) -> Result<Vec<String>, AllocError>
+    ensures { IfOk result (λ services. map string_bytes services.items ≡ services_of names.now) }
+{
+    let mut services = Vec::new(alloc);
+    for position in 0..names.len() {
+        if is_service(names.kind(position)) {
+            services.push(names.to_text(alloc, position)?)?;
+        }
+    }
+    Ok(services)
+}
+
+/// Entries, which stand in so many files, in their order.
+pub(crate) fn sort_share(
+    alloc: Global,
+    mut entries: Entries,
+    files: usize,
+) -> Result<SortedShare, AllocError>
+    requires many { length entries ≤ 1_048_576 }
+    requires files { All (λ o. o.file < files) entries }
+    ensures { IfOk result (IsSortedOf entries) }
+{
+    entries.sort();
+    let twice = first_twice(&entries.names());
+    let services = listed_services(alloc, &entries.names())?;
+    let table = EntryTable::new(alloc, entries, files)?;
+    Ok(SortedShare {
+        table,
+        services,
+        twice,
+    })
+}
