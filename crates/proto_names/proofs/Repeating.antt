@@ -8,7 +8,7 @@ use Rattle.proto_desc.specs.declared.name_kind.NameKind.{NameKind}
 use Rattle.proto_names.specs.Occurrences.{Occurrence, IsNoLater, IsPackage, IsTwice, NoneTwice}
 use Rattle.proto_names.specs.Repeated.{IsFirstTwice}
 use Rattle.proto_names.specs.Order.{AreInOrder, IsEarlierOf, NoLater, location_of}
-use Rattle.proto_names.specs.Shares.{IsEarliest, IsFirstOf}
+use Rattle.proto_names.specs.Shares.{IsFirstOf}
 use Rattle.proto_names.specs.Runs.{IsRun, Repeats, at, blank}
 use Rattle.proto_names.specs.declared.entry.Location.{Location}
 use Rattle.proto_names.proofs.Ordered.{places_in_order, names_between}

@@ -1,17 +1,14 @@
 -- Occurrences in shares: together they are all, and what is twice is twice in one of them.
-use Rattle.std.proofs.Common.{◌≡◌, ◌≢◌, ◌∙◌, sym, ap, ap₂, subst, refl, ℕ, zero, suc, ◌+◌, ◌%◌, ◌<◌, ◌≤◌, Bool, true, false, not, List, [], ◌∷◌, ◌++◌, length, map, take, get_or, cond, append-nil, length-append, arith, inl, inr}
-use Rattle.std.specs.Prelude.{◌==◌, All, Contains, IsPermutation, MatchOption, Option, None, Some, filter, flat_map, slice_get, string_bytes}
-use Rattle.std.proofs.lemmas.Bool.{cases_lt, eq-eqb, eqb-true}
-use Rattle.std.proofs.lemmas.List.{length-map}
-use Rattle.std.proofs.lemmas.List.Elements.{All-filter, All-head, All-tail, filter_more, filter_passes}
-use Rattle.std.proofs.lemmas.List.Sorted.{All-permutation, IsPermutation-append, IsPermutation-filter_both, IsPermutation-refl, IsPermutation-trans}
+use Rattle.std.proofs.Common.{◌≡◌, ◌∙◌, sym, ap, subst, refl, ℕ, zero, suc, ◌+◌, ◌<◌, ◌≤◌, Bool, true, List, [], ◌∷◌, ◌++◌, length, take, cond, arith}
+use Rattle.std.specs.Prelude.{◌==◌, Some, filter, slice_get}
+use Rattle.std.proofs.lemmas.Bool.{eq-eqb}
+use Rattle.std.proofs.lemmas.List.Elements.{filter_more}
 use Rattle.std.proofs.lemmas.List.Sums.{count_by-le-length, length-filter}
 use Rattle.std.proofs.lemmas.Option.{slice_get_within}
 use Rattle.share_work.specs.Shares.{GivesItems}
-use Rattle.proto_names.specs.Hashes.{hash_of}
 use Rattle.proto_names.specs.Occurrences.{Occurrence}
 use Rattle.proto_names.specs.Runs.{at, blank}
-use Rattle.proto_names.specs.Shares.{AreAllShares, AreInShares, AreSharesOf, IsSortedOf, all_of, share_at, share_of, table_of}
+use Rattle.proto_names.specs.Shares.{AreAllShares, AreSharesOf, IsSortedOf, share_at, share_of}
 use Rattle.proto_names.specs.declared.share.Share.{Share}
 use Rattle.proto_names.specs.declared.sorted.SortedShare.{SortedShare}
 
@@ -54,13 +51,13 @@ shares_given count os shares outs some all given =
           subst (λ n. IsSortedOf (share_of n k os) out) (same.1 ∙ sym many)
           (subst (λ n. IsSortedOf (share_of s.count n os) out) same.0 (given.1 k s out stands at)));
     } where
-  there : (ss : List Share) (k : ℕ) → k < length ss → (s : Share) × (slice_get ss k ≡ Some s)
-  there [] k within = absurd (omega (arith, within))
-  there (s ∷ ss) zero within = (s, refl)
-  there (s ∷ ss) (suc k) within = there ss k (omega (arith, within))
+      there : (ss : List Share) (k : ℕ) → k < length ss → (s : Share) × (slice_get ss k ≡ Some s)
+      there [] k within = absurd (omega (arith, within))
+      there (s ∷ ss) zero within = (s, refl)
+      there (s ∷ ss) (suc k) within = there ss k (omega (arith, within))
 
-  share_there : (k : ℕ) → k < length shares → (s : Share) × (slice_get shares k ≡ Some s)
-  share_there k within = there shares k within
+      share_there : (k : ℕ) → k < length shares → (s : Share) × (slice_get shares k ≡ Some s)
+      share_there k within = there shares k within
 
 pub alone_given : (os : List Occurrence) (s : SortedShare) → IsSortedOf os s → AreSharesOf os (s ∷ [])
 alone_given os s is = record {

@@ -3,7 +3,6 @@ use Rattle.std.proofs.Common.{◌≡◌, ◌∙◌, sym, ap, ap₂, subst, refl,
 use Rattle.std.specs.Option.{option_map}
 use Rattle.std.specs.Prelude.{◌==◌, All, Contains, IsPermutation, MatchOption, Option, None, Some, filter, flat_map, slice_get}
 use Rattle.std.proofs.lemmas.Bool.{cases_lt, eq-eqb, eqb-true, not-true, true≢false}
-use Rattle.std.proofs.lemmas.Grind.{flat_map-append}
 use Rattle.std.proofs.lemmas.List.{get_or_append_left, length-map, map-append}
 use Rattle.std.proofs.lemmas.List.Elements.{All-filter, All-head, filter-append, filter_passes}
 use Rattle.std.proofs.lemmas.List.Sorted.{All-permutation, IsPermutation-append, IsPermutation-filter_both, IsPermutation-refl, IsPermutation-trans}
@@ -13,10 +12,10 @@ use Rattle.std.proofs.Math.Seq.{get_or-append-add}
 use Rattle.proto_base.specs.declared.place.Place.{Place}
 use Rattle.proto_names.specs.Hashes.{hash_of}
 use Rattle.proto_names.specs.Index.{is_service_kind, name_of, services_of}
-use Rattle.proto_names.specs.Occurrences.{Occurrence, ContainsBoth, IsNoLater, IsTwice, NoneTwice}
+use Rattle.proto_names.specs.Occurrences.{Occurrence, IsTwice, NoneTwice}
 use Rattle.proto_names.specs.Order.{NoLater, location_of}
 use Rattle.proto_names.specs.Repeated.{IsFirstTwice}
-use Rattle.proto_names.specs.Shares.{AreInShares, AreSharesOf, IsEarliest, IsFirstOf, IsSortedOf, all_of, share_at, services_in, share_of, table_of, twice_of}
+use Rattle.proto_names.specs.Shares.{AreInShares, AreSharesOf, IsEarliest, all_of, share_at, services_in, share_of, table_of, twice_of}
 use Rattle.proto_names.specs.declared.entry.Location.{Location}
 use Rattle.proto_names.specs.declared.sorted.SortedShare.{SortedShare}
 use Rattle.proto_names.proofs.Repeating.{no_later}
@@ -141,16 +140,16 @@ joined n k os (t ∷ ts) within each =
     (subst (λ m. IsPermutation (share_of n m os) u) next (each (suc j) u at)))) in
     IsPermutation-trans os (filter p os ++ filter q os) (t ++ all_of ts) (IsPermutation-filter_both p q (λ o. refl) os)
     (IsPermutation-append (filter p os) t (filter q os) (all_of ts) first rest) where
-  apart : (o : Occurrence) → not (share_at n o == k) ≡ true → share_at n o ≢ k
-  apart o other same = true≢false (sym (eq-eqb (share_at n o) k same) ∙ not-true (share_at n o == k) other)
+      apart : (o : Occurrence) → not (share_at n o == k) ≡ true → share_at n o ≢ k
+      apart o other same = true≢false (sym (eq-eqb (share_at n o) k same) ∙ not-true (share_at n o == k) other)
 
-  passes : (j : ℕ) (o : Occurrence) → (share_at n o == k + 1 + j) ≡ true → not (share_at n o == k) ≡ true
-  passes j o at =
-      let is = eqb-true (share_at n o) (k + 1 + j) at in
-      of (share_at n o == k) refl is where
-    of : (b : Bool) → (share_at n o == k) ≡ b → share_at n o ≡ k + 1 + j → not (share_at n o == k) ≡ true
-    of true e is = let here = eqb-true (share_at n o) k e in absurd (omega (arith, here, is))
-    of false e is = ap not e
+      passes : (j : ℕ) (o : Occurrence) → (share_at n o == k + 1 + j) ≡ true → not (share_at n o == k) ≡ true
+      passes j o at =
+          let is = eqb-true (share_at n o) (k + 1 + j) at in
+          of (share_at n o == k) refl is where
+            of : (b : Bool) → (share_at n o == k) ≡ b → share_at n o ≡ k + 1 + j → not (share_at n o == k) ≡ true
+            of true e is = let here = eqb-true (share_at n o) k e in absurd (omega (arith, here, is))
+            of false e is = ap not e
 
 -- ---- what is among the tables
 
@@ -208,14 +207,22 @@ twice_in_one tables b shared (a, (i, j, apart, first, second), clash) =
     let is : s.of ≡ t.of = cc in
     let left = s.is in
     let right = t.is in
-    let base = ap (before tables) same in
-    (t.table, t.of, t.at, (a, (
-      s.place,
-      t.place,
-      λ e. apart (omega (arith, left, right, base, e)),
-      subst (λ us. slice_get us s.place ≡ Some a) is s.here,
-      t.here,
-    ), clash))
+    let base = ap (before tables) same in (
+      t.table,
+      t.of,
+      t.at,
+      (
+        a,
+        (
+          s.place,
+          t.place,
+          λ e. apart (omega (arith, left, right, base, e)),
+          subst (λ us. slice_get us s.place ≡ Some a) is s.here,
+          t.here,
+        ),
+        clash,
+      ),
+    )
 
 module _ (os : List Occurrence) (shares : List SortedShare) (are : AreSharesOf os shares) where
   abbrev tables : List (List Occurrence)
@@ -274,8 +281,7 @@ module _ (os : List Occurrence) (shares : List SortedShare) (are : AreSharesOf o
   first_twice_of l earliest =
       let (i, known) = stands (map twice_of shares) (Some l) earliest.among in
       let (s, at, is) = of_map twice_of shares i (Some l) known in
-      let (b, first, file, place) = rw is at (are.each i s at).twice in
-      (
+      let (b, first, file, place) = rw is at (are.each i s at).twice in (
         b,
         record {
           among = twice_among tables i s.table b (in_map table_of shares i s at) first.among;

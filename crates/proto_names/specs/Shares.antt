@@ -1,9 +1,8 @@
 -- Words of private contracts: shares of occurrences, by the hashes of their names. All occurrences of a name are in one share.
-use Rattle.std.specs.Prelude.{◌≡◌, ◌==◌, ◌%◌, ℕ, ◌<◌, ◌≤◌, Bool, List, Option, Some, All, Contains, IsPermutation, MatchOption, String, Vec, filter, flat_map, length, map, slice_get, string_bytes}
-use Rattle.proto_desc.specs.declared.file.FileDesc.{FileDesc}
+use Rattle.std.specs.Prelude.{◌≡◌, ◌==◌, ◌%◌, ℕ, ◌<◌, List, Option, Some, All, Contains, IsPermutation, MatchOption, filter, flat_map, length, map, slice_get, string_bytes}
 use Rattle.proto_names.specs.Hashes.{hash_of}
 use Rattle.proto_names.specs.Index.{services_of}
-use Rattle.proto_names.specs.Occurrences.{Occurrence, NoneTwice, occurrences}
+use Rattle.proto_names.specs.Occurrences.{Occurrence, NoneTwice}
 use Rattle.proto_names.specs.Order.{NoLater}
 use Rattle.proto_names.specs.Repeated.{IsFirstTwice}
 use Rattle.proto_names.specs.declared.entry.Location.{Location}

@@ -85,7 +85,11 @@ fn all_shares(alloc: Global, count: u32) -> Result<Vec<Share>, AllocError>
 }
 
 /// The occurrences of parts, which stand in so many files, in sorted shares.
-fn sort_in_threads<R>(rt: &R, parts: &[Entries], files: usize) -> Result<Vec<SortedShare>, AllocError>
+fn sort_in_threads<R>(
+    rt: &R,
+    parts: &[Entries],
+    files: usize,
+) -> Result<Vec<SortedShare>, AllocError>
 where
     R: Threads + AllocGlobal + Sync,
     requires few { length (all_of parts.now) ≤ 1_048_576 }

@@ -1,8 +1,7 @@
-use Rattle.std.proofs.Common.{◌≡◌, ◌∙◌, sym, ap, arith, ℕ, ◌+◌, ◌<◌, ◌++◌, ◌∷◌, [], List, append_assoc, length, length-append, map, take}
+use Rattle.std.proofs.Common.{◌≡◌, ◌∙◌, sym, ap, arith, ◌+◌, ◌++◌, ◌∷◌, [], List, append_assoc, length, length-append, map}
 use Rattle.std.specs.Prelude.{Option, None, Some}
 use Rattle.std.proofs.lemmas.List.{map_push}
-use Rattle.proto_names.specs.Collected.{files_in}
-use Rattle.proto_names.specs.Occurrences.{Occurrence, occurrences_from}
+use Rattle.proto_names.specs.Occurrences.{Occurrence}
 use Rattle.proto_names.specs.Shares.{all_of}
 use Rattle.proto_names.proofs.Collecting.{all_more, all_together, collected_next, too_many_here, too_many_together}
 use Rattle.proto_names.proofs.parts.within.Goals as goal

@@ -1,4 +1,4 @@
-use Rattle.std.proofs.Common.{arith, subst}
+use Rattle.std.proofs.Common.{arith}
 use Rattle.std.proofs.lemmas.Result.{IfOk-weaker}
 use Rattle.proto_names.specs.Shares.{all_of}
 use Rattle.proto_names.proofs.Shared.{shares_given}

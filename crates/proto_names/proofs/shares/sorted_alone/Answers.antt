@@ -1,6 +1,5 @@
-use Rattle.std.proofs.Common.{◌≡◌, ◌∙◌, sym, subst, arith, List, [], ◌∷◌, ◌++◌, ◌<◌, length, get_or}
-use Rattle.std.specs.Prelude.{All}
-use Rattle.proto_names.specs.Occurrences.{Occurrence, occurrences}
+use Rattle.std.proofs.Common.{◌≡◌, sym, subst, [], ◌∷◌}
+use Rattle.proto_names.specs.Occurrences.{occurrences}
 use Rattle.proto_names.specs.Shares.{AreSharesOf, IsSortedOf}
 use Rattle.proto_names.proofs.Built.{all_below}
 use Rattle.proto_names.proofs.Shared.{alone_given}

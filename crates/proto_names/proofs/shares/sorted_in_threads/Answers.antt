@@ -1,4 +1,4 @@
-use Rattle.std.proofs.Common.{◌≡◌, ◌∙◌, ap}
+use Rattle.std.proofs.Common.{◌∙◌, ap}
 use Rattle.proto_names.specs.Shares.{all_of}
 use Rattle.proto_names.proofs.Built.{all_below}
 use Rattle.proto_names.proofs.shares.sorted_in_threads.Goals as goal

@@ -1,4 +1,4 @@
-use Rattle.std.proofs.Common.{◌≡◌, ◌∙◌, sym, ap, subst, arith, List, ◌<◌}
+use Rattle.std.proofs.Common.{◌∙◌, sym, ap, subst, arith, List, ◌<◌}
 use Rattle.std.specs.Prelude.{IsPermutation, MatchOption}
 use Rattle.std.proofs.lemmas.List.Sorted.{All-permutation, length_permutation}
 use Rattle.proto_names.specs.Index.{services_of}

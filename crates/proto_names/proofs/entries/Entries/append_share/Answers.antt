@@ -1,6 +1,6 @@
-use Rattle.std.proofs.Common.{◌≡◌, ◌∙◌, sym, ap, ap₂, append_assoc, append-nil, arith, Bool, true, false, ◌<◌, ◌%◌, ◌++◌, ◌∷◌, [], List, ℕ, cond, length, map, take}
+use Rattle.std.proofs.Common.{◌≡◌, ◌∙◌, sym, ap, ap₂, append_assoc, append-nil, arith, Bool, ◌<◌, ◌%◌, ◌++◌, ◌∷◌, [], List, ℕ, cond, length, take}
 use Rattle.std.specs.Prelude.{◌==◌, string_bytes}
-use Rattle.std.proofs.lemmas.List.{length-map, take_all}
+use Rattle.std.proofs.lemmas.List.{length-map}
 use Rattle.proto_names.specs.Entries.{occurrence}
 use Rattle.proto_names.specs.Occurrences.{Occurrence}
 use Rattle.proto_names.specs.Runs.{at}
@@ -32,5 +32,5 @@ loop-entry-preserved c =
           (at_entry text es os c.others.view_is k below _) ∙ append_assoc c.args.self.now (share_of count position (take k os)) (at os k ∷ [])
           ∙ ap (λ (ps : List Occurrence). c.args.self.now ++ ps) (sym (next ∙ ap more w.if-has.true))))
       | else-has w ↦ rw w.self-is (c.loop-entry.invariant
-        ∙ ap (λ (ps : List Occurrence). c.args.self.now ++ ps) (sym (next ∙ ap more w.if-has.false ∙ append-nil (share_of count position (take k os)))))
+          ∙ ap (λ (ps : List Occurrence). c.args.self.now ++ ps) (sym (next ∙ ap more w.if-has.false ∙ append-nil (share_of count position (take k os)))))
     ]

@@ -2,10 +2,8 @@ use Rattle.std.proofs.Common.{◌≡◌, ◌∙◌, sym, ap, arith, subst, ℕ, 
 use Rattle.std.specs.Prelude.{Contains, Some, slice_get}
 use Rattle.std.proofs.lemmas.Nat.{mod_below}
 use Rattle.std.proofs.lemmas.Option.{slice_get-get_or}
-use Rattle.proto_desc.specs.DeclaredNames.{scoped}
 use Rattle.proto_names.specs.Hashes.{hash_of}
 use Rattle.proto_names.specs.Occurrences.{Occurrence}
-use Rattle.proto_names.specs.Shares.{all_of}
 use Rattle.proto_names.proofs.Tabled.{among_all, among_one}
 use Rattle.proto_names.proofs.tables.Tables.named.Goals as goal
 
