@@ -1,9 +1,8 @@
 -- What sources are compiled to.
-use Rattle.std.proofs.Common.{◌≡◌, ◌∙◌, sym, ap, subst, refl, inl, inr, Bool, false, ℕ, ◌<◌, ◌≤◌, List, map, length, arith, All}
+use Rattle.std.proofs.Common.{◌≡◌, ◌∙◌, sym, ap, subst, refl, ℕ, ◌<◌, ◌≤◌, List, map, length, arith, All}
 use Rattle.std.specs.List.{AllZip}
-use Rattle.std.specs.Prelude.{◌↔◌, Contains, IsPermutation, IsTrue, Vec}
+use Rattle.std.specs.Prelude.{Contains, IsPermutation, Vec}
 use Rattle.std.specs.declared.alloc.Global.{Global}
-use Rattle.std.proofs.lemmas.Bool.{true≢false, cases_lt}
 use Rattle.std.proofs.lemmas.List.{length-map}
 use Rattle.proto_desc.specs.declared.file.FileDesc.{FileDesc}
 use Rattle.proto_links.specs.Imports as imports
@@ -99,10 +98,3 @@ pub written_length : (files : List Source) (descs : List FileDesc) (all : List (
     → length files ≡ length descs → map items_of all ≡ map file_desc_bytes descs → length files ≡ length all
 written_length files descs all size bytes =
     omega (arith, size, ap length bytes, length-map all items_of, length-map descs file_desc_bytes)
-
--- what a test of the length says where it fails
-pub too_long : (b : Bool) (n most : ℕ) → IsTrue b ↔ (n ≤ most) → b ≡ false → most < n
-too_long b n most is fails = elim (cases_lt most n) [
-  | inl less ↦ less
-  | inr within ↦ absurd (true≢false (sym (is.1 within) ∙ fails))
-]

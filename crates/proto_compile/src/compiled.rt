@@ -23,6 +23,9 @@ pub struct Compiled {
     pub(crate) links: Links,
     pub(crate) index: NameIndex,
     pub(crate) limits: Limits,
+    /// How many bytes the set has.
+    pub(crate) set_len: usize,
+    ghost measured: { set_len ≡ length (set_of files links) },
 }
 
 impl Model for Compiled {
@@ -58,7 +61,7 @@ impl Compiled {
     pub fn set_bytes(&self, alloc: Global) -> Result<Vec<u8>, AllocError>
         ensures { IfOk result (λ bytes. bytes.items ≡ set_of self.now.files self.now.links) }
     {
-        set_bytes(alloc, &self.files, &self.links)
+        set_bytes(alloc, &self.files, &self.links, self.set_len)
     }
 
     /// The position of the file of this name among all of them, in the order of names: its number in the links and in the

@@ -20,7 +20,7 @@ use crate::error::{CompileError, START, refusal};
 use crate::pass::Pass;
 use crate::pass::lengths::write_all;
 use crate::pass::list::files_by_name;
-use crate::set::is_set_within;
+use crate::set::set_len;
 use crate::source::Source;
 use crate::table::FileTable;
 use crate::workers::{Leftovers, Workers};
@@ -68,14 +68,15 @@ fn compilation_of(
         → IsWritten limits.now sources (compilation limits.now files links index)
         → IfErr result (TellsOf (IsLeastFault limits.now sources)) }
 {
-    if !is_set_within(&files, &links, limits.get(Limit::SetBytes)) {
+    let Some(set_len) = set_len(&files, &links, limits.get(Limit::SetBytes)) else {
         return Err(refusal(alloc, Pass::Set, "", START, Kind::SetTooLong));
-    }
+    };
     Ok(Compiled {
         files,
         links,
         index,
         limits: *limits,
+        set_len: set_len as usize,
     })
 }
 

@@ -24,12 +24,8 @@ where
     let mut descs = descs;
     let alloc = workers.rt.alloc();
     let each = move |_: usize, desc: &mut FileDesc| empty(alloc, desc);
-    for_each_mut(
-        workers.rt,
-        descs.as_mut_slice(),
-        workers.plan.workers() as usize,
-        &each,
-    );
+    let threads = workers.threads_for(descs.len());
+    for_each_mut(workers.rt, descs.as_mut_slice(), threads, &each);
 }
 
 /// Lets go of descriptors, or forgets them.

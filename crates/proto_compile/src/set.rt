@@ -1,6 +1,6 @@
 //! The set of descriptors: how long it is, and its bytes.
 
-ghost use Rattle.std.specs.Prelude.{◌≡◌, ◌↔◌, ℕ, ◌<◌, ◌≤◌, ◌^◌, IsTrue, IfOk, length, Contains};
+ghost use Rattle.std.specs.Prelude.{◌≡◌, ℕ, ◌<◌, ◌≤◌, ◌^◌, IfOk, MatchOption, length, Contains};
 ghost use Rattle.proto_compile.specs.Compilation.{set_of};
 
 use crate::table::FileTable;
@@ -11,32 +11,34 @@ use wire_format::{FieldValue, field_len, put_field};
 /// The number of the field `file` of a `FileDescriptorSet`.
 const FILE: u32 = 1;
 
-/// Whether the set has at most so many bytes.
-pub(crate) fn is_set_within(files: &FileTable, links: &Links, most: u64) -> bool
+/// How many bytes the set has, where these are at most so many.
+pub(crate) fn set_len(files: &FileTable, links: &Links, most: u64) -> Option<u64>
     requires most { most ≤ 2 ^ 32 }
     requires inside { (a : ℕ) → Contains links.now.set_order a → a < length files.now }
-    ensures { IsTrue result ↔ (length (set_of files.now links.now) ≤ most) }
+    ensures { MatchOption result (most < length (set_of files.now links.now))
+        (λ len. (len ≡ length (set_of files.now links.now)) × (len ≤ most)) }
 {
-    let mut length = 0;
+    let mut len = 0;
     for file in links.set_order() {
-        length += field_len(FILE, &FieldValue::Delimited(files.bytes(*file)));
-        if length > most {
-            return false;
+        len += field_len(FILE, &FieldValue::Delimited(files.bytes(*file)));
+        if len > most {
+            return None;
         }
     }
-    true
+    Some(len)
 }
 
-/// The bytes of the set (`descriptor.proto`, `FileDescriptorSet`), in set order.
+/// The bytes of the set (`descriptor.proto`, `FileDescriptorSet`), in set order, in room for so many.
 pub(crate) fn set_bytes(
     alloc: Global,
     files: &FileTable,
     links: &Links,
+    room: usize,
 ) -> Result<Vec<u8>, AllocError>
     requires { (a : ℕ) → Contains links.now.set_order a → a < length files.now }
     ensures { IfOk result (λ bytes. bytes.items ≡ set_of files.now links.now) }
 {
-    let mut out = Vec::new(alloc);
+    let mut out = Vec::with_capacity(alloc, room)?;
     for file in links.set_order() {
         put_field(&mut out, FILE, &FieldValue::Delimited(files.bytes(*file)))?;
     }

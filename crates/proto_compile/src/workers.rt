@@ -1,12 +1,15 @@
 //! The workers of a pass over files.
 
-ghost use Rattle.std.specs.Prelude.{IfOk};
+ghost use Rattle.std.specs.Prelude.{◌<◌, IfOk};
 ghost use Rattle.share_work.specs.Shares.{GivesItems, TakesAll};
 
 use proto_names::Threading;
 use share_work::{Gate, Plan, Work, in_shares};
 use std::alloc::{AllocError, AllocGlobal};
 use std::thread::Threads;
+
+/// Fewer items than this, each of which takes little, are not worth a thread.
+const LEAST: usize = 64;
 
 /// What becomes of descriptors once their bytes are written.
 #[derive(Clone, Copy)]
@@ -37,6 +40,17 @@ where
             Threading::Alone
         } else {
             Threading::Shared
+        }
+    }
+
+    /// How many threads so many items are worth, each of which takes little. One thread is the calling one.
+    pub(crate) fn threads_for(&self, items: usize) -> usize
+        ensures { 0 < result }
+    {
+        if items < LEAST {
+            1
+        } else {
+            self.plan.workers() as usize
         }
     }
 

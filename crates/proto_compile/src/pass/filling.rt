@@ -80,7 +80,7 @@ fn fill_all<R: Threads + Sync>(rt: &R, files: &mut [Untyped], threads: usize)
     thread::for_each_mut(rt, files, threads, &fill_one);
 }
 
-/// Puts types into descriptors, of which there is one list for each. One worker starts no thread.
+/// Puts types into descriptors, of which there is one list for each. One worker starts no thread, nor do few files.
 pub(crate) fn put_types<'s, R, G>(
     workers: &Workers<'_, R, G>,
     descs: Vec<FileDesc<'s>>,
@@ -95,10 +95,7 @@ where
 {
     let alloc = workers.rt.alloc();
     let mut files = with_types(alloc, descs, types)?;
-    fill_all(
-        workers.rt,
-        files.as_mut_slice(),
-        workers.plan.workers() as usize,
-    );
+    let threads = workers.threads_for(files.len());
+    fill_all(workers.rt, files.as_mut_slice(), threads);
     descriptors(alloc, files)
 }

@@ -17,7 +17,7 @@ use share_work::Gate;
 use std::alloc::AllocGlobal;
 use std::thread::Threads;
 
-/// The index of the names of what sources describe, whose imports are right.
+/// The index of the names of what sources describe. An error is their first fault where their imports are right.
 pub(crate) fn index_all<R, G>(
     workers: &Workers<'_, R, G>,
     descs: &[FileDesc],
@@ -26,9 +26,9 @@ pub(crate) fn index_all<R, G>(
 where
     R: Threads + AllocGlobal + Sync,
     G: Gate + Sync,
-    requires { NoneBad descs.now }
     ensures indexed { IfOk result (Indexes descs.now limits.now) }
-    ensures first { (sources files : List Source) → Describe limits.now sources files descs.now
+    ensures first { (sources files : List Source) → NoneBad descs.now
+        → Describe limits.now sources files descs.now
         → IfErr result (TellsOf (IsLeastFault limits.now sources)) }
 {
     let rt = workers.rt;

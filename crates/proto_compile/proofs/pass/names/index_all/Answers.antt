@@ -17,13 +17,13 @@ bounds-descs-at g c = repeated_within c.args.limits.now c.args.descs.now c.in-Er
     (c.in-Err-At.ensures.twice c.in-Err-At.at c.in-Err-At.place (ap Err c.in-Err-At.field-0-is))
 
 pub returns-in-Err-TooMany-clause-first : goal.returns-in-Err-TooMany-clause-first
-returns-in-Err-TooMany-clause-first g c sources files described =
+returns-in-Err-TooMany-clause-first g c sources files right described =
     told (IsLeastFault c.args.limits.now sources) (of_list 3 kind.TooManyNames) c.refusal.result c.refusal.ensures
-    (many_names_least c.args.limits.now sources files c.args.descs.now described c.requires
+    (many_names_least c.args.limits.now sources files c.args.descs.now described right
     (c.in-Err-TooMany.ensures.many (ap Err c.in-Err-TooMany.field-0-is)))
 
 pub returns-in-Err-At-clause-first : goal.returns-in-Err-At-clause-first
-returns-in-Err-At-clause-first g c sources files described =
+returns-in-Err-At-clause-first g c sources files right described =
     let limits = c.args.limits.now in
     let descs = c.args.descs.now in
     let at = c.in-Err-At.at in
@@ -34,4 +34,4 @@ returns-in-Err-At-clause-first g c sources files described =
     told (IsLeastFault limits sources) (of_file 3 _ place kind.NameTwice) c.refusal-in-Err-At.result
     c.refusal-in-Err-At.ensures
     (subst (λ (n : List ℕ). IsLeastFault limits sources (of_file 3 n place kind.NameTwice)) name
-    (name_twice_least limits sources files descs at place described c.requires twice))
+    (name_twice_least limits sources files descs at place described right twice))
