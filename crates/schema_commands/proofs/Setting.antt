@@ -3,20 +3,15 @@ use Rattle.std.proofs.Common.{◌≡◌, ◌∙◌, ℕ, suc, ◌+◌, ◌≤◌
 use Rattle.std.specs.Prelude.{take, drop, flat_map, Result, Ok, Err, OnOk, OnErr, IsErrAnd}
 use Rattle.std.proofs.lemmas.Grind.{flat_map-append}
 use Rattle.std.specs.Io.KnownBytes.{Appends}
-use Rattle.std.proofs.KnownBytes.{Appends-trans}
+use Rattle.std.proofs.KnownBytes.{Appends-nil, Appends-trans}
 use Rattle.std.proofs.lemmas.List.{append_assoc, append-nil, length-append, take-append-drop, take-append-le, take_more}
 use Rattle.std.proofs.Math.Seq.{take-append-add}
 use Rattle.grpcweb_core.specs.Exchange.{IsWritten}
 use Rattle.grpcweb_core.specs.Streams.{Writes}
+use Rattle.schema_commands.specs.Gathered.{IsGathered, IsTaken}
 use Rattle.schema_commands.specs.Runs.{IsOutput}
 use Rattle.schema_failure.specs.declared.failure.Failure.{Failure}
 use Rattle.wire_format.specs.Varint.{groups, varint_bytes}
-
--- all of these bytes were taken, and no call failed
-pub record IsTaken (old now : Writes) (bytes : List ℕ) : Type 0 where
-  pub taken : now.bytes ≡ old.bytes ++ bytes
-  pub failures : now.failures ≡ old.failures
-  pub contents : Appends old.contents now.contents bytes
 
 pub of_written : (old now : Writes) (bytes : List ℕ) → IsWritten old now bytes → IsTaken old now bytes
 of_written old now bytes w = record { taken = w.taken; failures = w.failures; contents = w.contents }
@@ -64,17 +59,71 @@ output_cut old new xs ys f (Err d) handed (e, n, p) =
       },
     )
 
+-- ---- bytes that wait
+
+none_taken : (w : Writes) → IsTaken w w []
+none_taken w = record { taken = sym (append-nil w.bytes); failures = refl; contents = Appends-nil w.contents }
+
+-- bytes that are only put behind those that wait
+pub only_put : {B : Type 0} (w : Writes) (waiting waiting' bytes : List ℕ) (b : B) → waiting' ≡ waiting ++ bytes
+    → IsGathered w w waiting waiting' bytes (Ok b)
+only_put w waiting waiting' bytes b put = ([], none_taken w, put)
+
+-- all that waits is written
+pub all_out : {B : Type 0} (old new : Writes) (waiting waiting' : List ℕ) (done : Result B Failure) → IsOutput old new waiting done
+    → OnOk done (waiting' ≡ []) → IsGathered old new waiting waiting' [] done
+all_out old new waiting waiting' (Ok b) w none = (waiting, of_written old new waiting w, ap (λ (l : List ℕ). waiting ++ l) none)
+all_out old new waiting waiting' (Err f) out none = subst (λ (l : List ℕ). IsOutput {B = Unit {0}} old new l (Err f)) (sym (append-nil waiting)) out
+
+-- bytes that are written where none wait
+pub straight_out : {B : Type 0} (old new : Writes) (waiting bytes : List ℕ) (done : Result B Failure) → waiting ≡ [] → IsOutput old new bytes done
+    → IsGathered old new waiting waiting bytes done
+straight_out old new waiting bytes (Ok b) none w =
+    (bytes, of_written old new bytes w, ap (λ (l : List ℕ). bytes ++ l) none ∙ append-nil bytes ∙ ap (λ (l : List ℕ). l ++ bytes) (sym none))
+straight_out old new waiting bytes (Err f) none out = subst (λ (l : List ℕ). IsOutput {B = Unit {0}} old new (l ++ bytes) (Err f)) (sym none) out
+
+-- one after the other
+pub gathered_after : {A B : Type 0} (old now new : Writes) (first second third xs ys : List ℕ) (a : A) (done : Result B Failure)
+    → IsGathered old now first second xs (Ok a) → IsGathered now new second third ys done → IsGathered old new first third (xs ++ ys) done
+gathered_after old now new first second third xs ys a (Ok b) (t, before, is) (u, after, next) = (
+  t ++ u,
+  record {
+    taken = both_taken old now new t u before.taken after.taken;
+    failures = after.failures ∙ before.failures;
+    contents = Appends-trans old.contents now.contents new.contents t u before.contents after.contents;
+  },
+  append_assoc t u third ∙ ap (λ (l : List ℕ). t ++ l) next ∙ sym (append_assoc t second ys) ∙ ap (λ (l : List ℕ). l ++ ys) is
+      ∙ append_assoc first xs ys,
+)
+gathered_after old now new first second third xs ys a (Err f) (t, before, is) out =
+    subst (λ (l : List ℕ). IsOutput {B = Unit {0}} old new l (Err f))
+    (sym (append_assoc t second ys) ∙ ap (λ (l : List ℕ). l ++ ys) is ∙ append_assoc first xs ys)
+    (output_after {B = Unit {0}} old now new t (second ++ ys) (Err f) before out)
+
+-- where a call fails, more that was to follow changes nothing
+pub gathered_cut : {B : Type 0} (old new : Writes) (first second third xs ys : List ℕ) (f : Failure) (done : Result B Failure)
+    → IsErrAnd done (λ e. e ≡ f) → IsGathered {B = Unit {0}} old new first second xs (Err f) → IsGathered old new first third (xs ++ ys) done
+gathered_cut old new first second third xs ys f (Ok b) handed out = absurd handed
+gathered_cut old new first second third xs ys f (Err d) handed out =
+    subst (λ (l : List ℕ). IsOutput {B = Unit {0}} old new l (Err d)) (append_assoc first xs ys)
+    (output_cut {B = Unit {0}} old new (first ++ xs) ys f (Err d) handed out)
+
 -- ---- the files of a set
 
--- those before one of them, this one, and those after it
+-- those before one of them, and this one
+pub set_more : (f : ℕ → List ℕ) (xs : List ℕ) (k : ℕ) → k < length xs
+    → flat_map f (take (k + 1) xs) ≡ flat_map f (take k xs) ++ f (get_or xs k 0)
+set_more f xs k h =
+    let last = append-nil (f (get_or xs k 0)) in
+    ap (flat_map f) (take_more xs k 0 h) ∙ flat_map-append f (take k xs) (get_or xs k 0 ∷ [])
+    ∙ ap (λ (t : List ℕ). flat_map f (take k xs) ++ t) last
+
+-- and those after it
 pub set_split : (f : ℕ → List ℕ) (xs : List ℕ) (k : ℕ) → k < length xs
     → flat_map f xs ≡ (flat_map f (take k xs) ++ f (get_or xs k 0)) ++ flat_map f (drop (k + 1) xs)
 set_split f xs k h =
-    let last = append-nil (f (get_or xs k 0)) in
-    let front = ap (flat_map f) (take_more xs k 0 h) ∙ flat_map-append f (take k xs) (get_or xs k 0 ∷ [])
-    ∙ ap (λ (t : List ℕ). flat_map f (take k xs) ++ t) last in
     ap (flat_map f) (sym (take-append-drop (k + 1) xs)) ∙ flat_map-append f (take (k + 1) xs) (drop (k + 1) xs)
-    ∙ ap (λ (l : List ℕ). l ++ flat_map f (drop (k + 1) xs)) front
+    ∙ ap (λ (l : List ℕ). l ++ flat_map f (drop (k + 1) xs)) (set_more f xs k h)
 
 -- ---- room
 
