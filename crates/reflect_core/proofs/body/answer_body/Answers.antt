@@ -1,7 +1,7 @@
 use Rattle.std.proofs.Common.{◌≡◌, ◌∙◌, ◌++◌, ap, map, sym, subst, All}
 use Rattle.std.specs.Prelude.{flat_map}
 use Rattle.std.specs.List.{AllZip}
-use Rattle.rayon.proofs.ListFacts.{IfOk-then}
+use Rattle.std.proofs.lemmas.Result.{IfOk-weaker}
 use Rattle.first_reach.specs.Carried.{carried}
 use Rattle.proto_links.specs.Linked.{Linked, count_of, reach_of}
 use Rattle.reflect_requests.specs.Frames.{ReadsBody, frame}
@@ -50,7 +50,7 @@ returns g c =
     let roots = c.deref-3.ensures.value ∙ c.in_ok-roots.ensures ∙ ap (λ l. map root (map asked_of l)) c.deref-2.ensures.value in
     let lists : map files_of ys ≡ carried c.args.mode (reach_of compiled.links) (map root (map asked_of xs)) =
     c.in_ok-carried.ensures ∙ (λ i. carried c.args.mode (reach_of (c.new-reach.ensures i)) (roots i)) in
-    IfOk-then c.response_to.result _ _ c.response_to.ensures (λ bytes is.
+    IfOk-weaker c.response_to.result _ _ (λ bytes is.
     answered c.args.mode compiled c.args.body.now bytes.items messages c.in_ok-stream.stream.status xs ys reads asked lists
     (is ∙ (λ i. flat_map (frame 0) (replies_to compiled (map asked_of (c.deref-5.ensures.value i)) (map files_of (c.deref-6.ensures.value i)))
-    ++ frame 128 (trailer c.in_ok-stream.stream.status))))
+    ++ frame 128 (trailer c.in_ok-stream.stream.status)))) c.response_to.ensures
