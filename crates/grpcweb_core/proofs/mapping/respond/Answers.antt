@@ -13,7 +13,8 @@ returns-then-not-is_reflection g c =
 pub returns-then-not-is_post : goal.returns-then-not-is_post
 returns-then-not-is_post g c =
     IfOk-weaker c.not_allowed.result _ _ (λ answer is.
-    as_said is (no_post (c.is_reflection.ensures.0 c.if-not-is_reflection.false) (λ post. true≢false (sym (c.is_post.ensures.1 post) ∙ c.if-not-is_post.true)))) c.not_allowed.ensures
+    as_said is (no_post (c.is_reflection.ensures.0 c.if-not-is_reflection.false)
+    (λ post. true≢false (sym (c.is_post.ensures.1 post) ∙ c.if-not-is_post.true)))) c.not_allowed.ensures
 
 pub returns-then-not-is_accepted : goal.returns-then-not-is_accepted
 returns-then-not-is_accepted g c =

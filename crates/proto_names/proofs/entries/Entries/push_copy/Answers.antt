@@ -10,7 +10,13 @@ pub invariant_of-self-2 : goal.invariant_of-self-2
 invariant_of-self-2 c =
     let old = string_bytes c.self.inside.text in
     let full = name_at c.args.text.now c.args.entry.now in
-    let e : Entry = record { start = c.len-start.result; len = c.args.entry.now.len; location = c.args.entry.now.location; hash = c.args.entry.now.hash; kind = c.args.entry.now.kind } in
+    let e : Entry = record {
+      start = c.len-start.result;
+      len = c.args.entry.now.len;
+      location = c.args.entry.now.location;
+      hash = c.args.entry.now.hash;
+      kind = c.args.entry.now.kind;
+    } in
     let whole : string_bytes c.push_str.new.self ≡ old ++ full =
     c.in_ok-push_str.ensures.bytes ∙ ap (λ (t : List ℕ). old ++ t) (c.in-Ok.ensures.cases.0 ∙ c.name.ensures) in
     let start : c.len-start.result ≡ length old = c.len-start.ensures ∙ c.self.inside.text.bytes.ok.0 in
@@ -23,7 +29,13 @@ pub returns : goal.returns
 returns c =
     let old = string_bytes c.self.inside.text in
     let full = name_at c.args.text.now c.args.entry.now in
-    let e : Entry = record { start = c.len-start.result; len = c.args.entry.now.len; location = c.args.entry.now.location; hash = c.args.entry.now.hash; kind = c.args.entry.now.kind } in
+    let e : Entry = record {
+      start = c.len-start.result;
+      len = c.args.entry.now.len;
+      location = c.args.entry.now.location;
+      hash = c.args.entry.now.hash;
+      kind = c.args.entry.now.kind;
+    } in
     let whole : string_bytes c.push_str.new.self ≡ old ++ full =
     c.in_ok-push_str.ensures.bytes ∙ ap (λ (t : List ℕ). old ++ t) (c.in-Ok.ensures.cases.0 ∙ c.name.ensures) in
     let start : c.len-start.result ≡ length old = c.len-start.ensures ∙ c.self.inside.text.bytes.ok.0 in

@@ -37,7 +37,8 @@ loop-file-preserved g c =
     c.bytes_at.ensures c.in_ok-put_file.ensures in
     subst (λ (l : List ℕ). IsGathered {B = Unit {0}} old new [] c.put_file.new.self.bytes.items l (Ok tt))
     (sym (set_more F order k c.loop-file-test.true))
-    (gathered_after {A = Unit {0}} {B = Unit {0}} old now new [] waiting c.put_file.new.self.bytes.items (flat_map F (take k order)) (F (get_or order k 0)) tt (Ok tt)
+    (gathered_after {A = Unit {0}} {B = Unit {0}} old now new [] waiting c.put_file.new.self.bytes.items (flat_map F (take k order))
+    (F (get_or order k 0)) tt (Ok tt)
     c.loop-file.invariant put)
 
 pub returns-in_err-put_file : goal.returns-in_err-put_file
@@ -56,7 +57,8 @@ returns-in_err-put_file g c =
     ≡ set_of compiled.files compiled.links = sym (set_split F order k c.loop-file-test.true) ∙ ap (flat_map F) same in
     let out = subst (λ (l : List ℕ). IsGathered {B = Unit {0}} now new waiting c.put_file.new.self.bytes.items (bytes_field 1 l) (Err f)) c.bytes_at.ensures
     c.in_err-put_file.ensures in
-    let far = gathered_after {A = Unit {0}} {B = Unit {0}} old now new [] waiting c.put_file.new.self.bytes.items (flat_map F (take k order)) (F (get_or order k 0)) tt
+    let far = gathered_after {A = Unit {0}} {B = Unit {0}} old now new [] waiting c.put_file.new.self.bytes.items (flat_map F (take k order))
+    (F (get_or order k 0)) tt
     (Err f) c.loop-file.invariant out in
     subst (λ (l : List ℕ). IsOutput old new l c.from_residual.result) whole
     (output_cut old new (flat_map F (take k order) ++ F (get_or order k 0)) (flat_map F (drop (k + 1) order)) f
