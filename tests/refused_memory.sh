@@ -48,6 +48,15 @@ for words in '--workers 1' '--workers 2 --cut 1'; do
     sweep REFUSE_AT 0 "$set" '' '' compile --root "$folder/sources" $words
 done
 sweep REFUSE_THREAD_AT 0 "$set" '' '' compile --root "$folder/sources" --workers 2 --cut 1
+# So many files that their names are sorted in shares, beside the links: what one worker writes.
+mkdir "$folder/shares"
+for ((number = 1; number <= 64; number++)); do
+    printf '%smessage M%d {}' "$P" "$number" >"$folder/shares/$number.proto"
+done
+"$program" compile --root "$folder/shares" --workers 1 >"$folder/shares.pb" || fail "64 files by one worker: status $?"
+shares=$(od -An -v -tx1 "$folder/shares.pb" | tr -d ' \n' | sed 's/../\\x&/g')
+sweep REFUSE_AT 0 "$shares" '' '' compile --root "$folder/shares" --workers 4
+sweep REFUSE_THREAD_AT 0 "$shares" '' '' compile --root "$folder/shares" --workers 4
 # An import from another folder, and a named file.
 mkdir "$folder/alone" && cp "$folder/sources/a.proto" "$folder/alone/"
 sweep REFUSE_AT 0 "$set" '' '' compile --root "$folder/alone" --include "$folder/sources" --workers 1
