@@ -24,7 +24,8 @@ rows_apart width row other = elim (cases_lt row other) [
   ]
 ]
 
-outside : (width r row k : ℕ) → k < width → (r ≡ row → ⊥) → (r * width + k < row * width) ⊎ (row * width + width ≤ r * width + k)
+outside : (width r row k : ℕ) → k < width → (r ≡ row → ⊥)
+    → (r * width + k < row * width) ⊎ (row * width + width ≤ r * width + k)
 outside width r row k small other = elim (cases_lt r row) [
   | inl before ↦ inl (let ends = behind width r row before in omega (arith, ends, small))
   | inr rest ↦ inr (let ends = behind width row r (omega (arith, rest, other)) in omega (arith, ends))
@@ -32,18 +33,21 @@ outside width r row k small other = elim (cases_lt r row) [
 
 -- ---- rows that are joined
 
-module _ (old : Bits) (row other : ℕ) (words : List ℕ) (are : AreJoined old.words (row * old.width) (other * old.width) old.width words) where
+module _ (old : Bits) (row other : ℕ) (words : List ℕ)
+    (are : AreJoined old.words (row * old.width) (other * old.width) old.width words) where
   abbrev pub joined_bits : Bits
   joined_bits = record { rows = old.rows; width = old.width; words = words }
 
-  word_joined : (c : ℕ) → c < columns_of old → word_of joined_bits row (c / 64) ≡ bit_or (word_of old row (c / 64)) (word_of old other (c / 64))
+  word_joined : (c : ℕ) → c < columns_of old
+      → word_of joined_bits row (c / 64) ≡ bit_or (word_of old row (c / 64)) (word_of old other (c / 64))
   word_joined c hc = are.joined (c / 64) (omega (arith, hc))
 
   bit_joined : (c : ℕ) → c < columns_of old
       → bit_of joined_bits row c ≡ bit_at (bit_or (word_of old row (c / 64)) (word_of old other (c / 64))) (c % 64)
   bit_joined c hc = ap (λ x. bit_at x (c % 64)) (word_joined c hc)
 
-  both : (c : ℕ) → c < columns_of old → (bit_of joined_bits row c ≡ 1) → (bit_of old row c ≡ 1) ⊎ (bit_of old other c ≡ 1)
+  both : (c : ℕ) → c < columns_of old → (bit_of joined_bits row c ≡ 1)
+      → (bit_of old row c ≡ 1) ⊎ (bit_of old other c ≡ 1)
   both c hc is = elim (cases_eq (bit_of old row c) 1) [
     | inl first ↦ inl first
     | inr none ↦ inr (
@@ -53,7 +57,8 @@ module _ (old : Bits) (row other : ℕ) (words : List ℕ) (are : AreJoined old.
         omega (arith, is, bit_joined c hc, or, low, second, none))
   ]
 
-  either : (c : ℕ) → c < columns_of old → (bit_of old row c ≡ 1) ⊎ (bit_of old other c ≡ 1) → bit_of joined_bits row c ≡ 1
+  either : (c : ℕ) → c < columns_of old → (bit_of old row c ≡ 1) ⊎ (bit_of old other c ≡ 1)
+      → bit_of joined_bits row c ≡ 1
   either c hc w =
       let or = bit_at_or (word_of old row (c / 64)) (word_of old other (c / 64)) (c % 64) in
       let low = bit_at-lt (word_of old row (c / 64)) (c % 64) in

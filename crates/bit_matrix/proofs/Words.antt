@@ -17,22 +17,27 @@ bit_of bits r c = bit_at (word_of bits r (c / 64)) (c % 64)
 pub has_is : (bits : Bits) (r c : ℕ) → Has bits r c ↔ (bit_of bits r c ≡ 1)
 has_is bits r c = (eqb-true (bit_of bits r c) 1, eq-eqb (bit_of bits r c) 1)
 
-pub tested : (bits : Bits) (r c word : ℕ) → word ≡ word_of bits r (c / 64) → nat_eq (bit_and (word / 2 ^ (c % 64)) 1) 1 ≡ has bits r c
+pub tested : (bits : Bits) (r c word : ℕ) → word ≡ word_of bits r (c / 64)
+    → nat_eq (bit_and (word / 2 ^ (c % 64)) 1) 1 ≡ has bits r c
 tested bits r c word is = ap (λ x. nat_eq x 1) (shr_and_one word (c % 64) ∙ ap (λ x. bit_at x (c % 64)) is)
 
-pub word_inside : (bits : Bits) → length bits.words ≡ bits.rows * bits.width → (r c : ℕ) → r < bits.rows → c < columns_of bits
+pub word_inside : (bits : Bits) → length bits.words ≡ bits.rows * bits.width → (r c : ℕ) → r < bits.rows
+    → c < columns_of bits
     → r * bits.width + c / 64 < length bits.words
-word_inside bits size r c hr hc = let fits = row_fits r bits.width bits.rows bits.width hr (omega arith) in omega (arith, fits, hc, size)
+word_inside bits size r c hr hc = let fits = row_fits r bits.width bits.rows bits.width hr (omega arith) in
+    omega (arith, fits, hc, size)
 
 -- words of other rows, or of another column, stand elsewhere
-elsewhere : (bits : Bits) (r c row column : ℕ) → c < columns_of bits → column < columns_of bits → ((r ≡ row) × (c / 64 ≡ column / 64) → ⊥)
+elsewhere : (bits : Bits) (r c row column : ℕ) → c < columns_of bits → column < columns_of bits
+    → ((r ≡ row) × (c / 64 ≡ column / 64) → ⊥)
     → (r * bits.width + c / 64 ≡ row * bits.width + column / 64) → ⊥
 elsewhere bits r c row column hc hcolumn other same =
     other (same_from_place r (c / 64) row (column / 64) bits.width (omega (arith, hc)) (omega (arith, hcolumn)) same)
 
 -- ---- a bit that is set
 
-module _ (bits : Bits) (size : length bits.words ≡ bits.rows * bits.width) (row column : ℕ) (hrow : row < bits.rows) (hcolumn : column < columns_of bits) where
+module _ (bits : Bits) (size : length bits.words ≡ bits.rows * bits.width) (row column : ℕ) (hrow : row < bits.rows)
+    (hcolumn : column < columns_of bits) where
   abbrev pub place : ℕ
   place = row * bits.width + column / 64
 
@@ -42,8 +47,10 @@ module _ (bits : Bits) (size : length bits.words ≡ bits.rows * bits.width) (ro
   abbrev pub with_bit : Bits
   with_bit = record { rows = bits.rows; width = bits.width; words = set bits.words place value }
 
-  other_word : (r c : ℕ) → c < columns_of bits → ((r ≡ row) × (c / 64 ≡ column / 64) → ⊥) → word_of with_bit r (c / 64) ≡ word_of bits r (c / 64)
-  other_word r c hc other = get_or-set_other bits.words place (r * bits.width + c / 64) value 0 (elsewhere bits r c row column hc hcolumn other)
+  other_word : (r c : ℕ) → c < columns_of bits → ((r ≡ row) × (c / 64 ≡ column / 64) → ⊥)
+      → word_of with_bit r (c / 64) ≡ word_of bits r (c / 64)
+  other_word r c hc other = get_or-set_other bits.words place (r * bits.width + c / 64) value 0
+      (elsewhere bits r c row column hc hcolumn other)
 
   same_word : (c : ℕ) → c / 64 ≡ column / 64 → word_of with_bit row (c / 64) ≡ value
   same_word c same = ap (λ k. get_or with_bit.words (row * bits.width + k) 0) same
@@ -73,7 +80,8 @@ module _ (bits : Bits) (size : length bits.words ≡ bits.rows * bits.width) (ro
           )
     ]
     | inr apart ↦ (
-        let kept : bit_of with_bit row c ≡ bit_of bits row c = ap (λ x. bit_at x (c % 64)) (other_word row c hc (λ w. apart w.1)) in (
+        let kept : bit_of with_bit row c ≡ bit_of bits row c =
+          ap (λ x. bit_at x (c % 64)) (other_word row c hc (λ w. apart w.1)) in (
           λ is. inl (sym kept ∙ is),
           λ w. (elim w [
             | inl old ↦ kept ∙ old

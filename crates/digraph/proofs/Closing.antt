@@ -27,22 +27,27 @@ use Rattle.digraph.proofs.Ways.{leads_trans, leads_le}
 abbrev pub InFirst : List (List ℕ) → List ℕ → ℕ → ℕ → Type 0
 InFirst lists nodes n c = (b : ℕ) × Among nodes n b × Contains (get_or lists b []) c
 
-pub record Gathered (lists : List (List ℕ)) (nodes : List ℕ) (n : ℕ) (marks : List Bool) (marked : List ℕ) : Type 0 where
+pub record Gathered (lists : List (List ℕ)) (nodes : List ℕ) (n : ℕ) (marks : List Bool)
+    (marked : List ℕ) : Type 0 where
   pub room : length lists ≤ length marks
   pub inside : (k : ℕ) → k < length nodes → get_or nodes k 0 < length lists
   pub are : AreMarked marks marked
   pub gathered : (c : ℕ) → Contains marked c ↔ InFirst lists nodes n c
 
-pub gathered_none : (lists : List (List ℕ)) (nodes : List ℕ) (marks : List Bool) (marked : List ℕ) → length lists ≤ length marks
-    → ((b : ℕ) → Contains nodes b → b < length lists) → AreMarked marks marked → marked ≡ [] → Gathered lists nodes 0 marks marked
+pub gathered_none : (lists : List (List ℕ)) (nodes : List ℕ) (marks : List Bool) (marked : List ℕ)
+    → length lists ≤ length marks
+    → ((b : ℕ) → Contains nodes b → b < length lists) → AreMarked marks marked → marked ≡ []
+    → Gathered lists nodes 0 marks marked
 gathered_none lists nodes marks marked room inside are e = record {
   room = room;
   inside = λ k h. inside (get_or nodes k 0) (Contains-get_or nodes k 0 h);
   are = are;
-  gathered = λ c. (λ w. (let at = subst (λ (xs : List ℕ). Contains xs c) e w in absurd (no_position at.0 at.1)), λ w. absurd (no_position w.1.0 w.1.1));
+  gathered = λ c. (λ w. (let at = subst (λ (xs : List ℕ). Contains xs c) e w in absurd (no_position at.0 at.1)),
+      λ w. absurd (no_position w.1.0 w.1.1));
 }
 
-first_more : (lists : List (List ℕ)) (nodes : List ℕ) (n c : ℕ) → InFirst lists nodes n c ⊎ Contains (get_or lists (get_or nodes n 0) []) c
+first_more : (lists : List (List ℕ)) (nodes : List ℕ) (n c : ℕ)
+    → InFirst lists nodes n c ⊎ Contains (get_or lists (get_or nodes n 0) []) c
     → InFirst lists nodes (n + 1) c
 first_more lists nodes n c (inl (b, w, r)) = (b, (among_more nodes n b).1 (inl w), r)
 first_more lists nodes n c (inr r) = (get_or nodes n 0, (among_more nodes n (get_or nodes n 0)).1 (inr refl), r)
@@ -56,7 +61,8 @@ first_less lists nodes n c (b, w, r) = elim ((among_more nodes n b).0 w) [
 
 pub gathered_more : (lists : List (List ℕ)) (nodes list : List ℕ) (n : ℕ) (marks new : List Bool) (marked ys : List ℕ)
     → list ≡ get_or lists (get_or nodes n 0) [] → length new ≡ length marks → AreMarked new ys
-    → ((c : ℕ) → Contains ys c ↔ (Contains marked c ⊎ Contains list c)) → Gathered lists nodes n marks marked → Gathered lists nodes (n + 1) new ys
+    → ((c : ℕ) → Contains ys c ↔ (Contains marked c ⊎ Contains list c)) → Gathered lists nodes n marks marked
+    → Gathered lists nodes (n + 1) new ys
 gathered_more lists nodes list n marks new marked ys e len are added g =
     let added' : (c : ℕ) → Contains ys c ↔ (Contains marked c ⊎ Contains (get_or lists (get_or nodes n 0) []) c) =
     subst (λ (xs : List ℕ). (c : ℕ) → Contains ys c ↔ (Contains marked c ⊎ Contains xs c)) e added in
@@ -65,14 +71,18 @@ gathered_more lists nodes list n marks new marked ys e len are added g =
       inside = g.inside;
       are = are;
       gathered = λ c. (
-        λ w. first_more lists nodes n c (elim ((added' c).0 w) [ inl old ↦ inl ((g.gathered c).0 old) | inr is ↦ inr is ]),
-        λ w. (added' c).1 (elim (first_less lists nodes n c w) [ inl old ↦ inl ((g.gathered c).1 old) | inr is ↦ inr is ]),
+        λ w. first_more lists nodes n c
+          (elim ((added' c).0 w) [ inl old ↦ inl ((g.gathered c).0 old) | inr is ↦ inr is ]),
+        λ w. (added' c).1
+          (elim (first_less lists nodes n c w) [ inl old ↦ inl ((g.gathered c).1 old) | inr is ↦ inr is ]),
       );
     }
 
 skipped : (lists : List (List ℕ)) (nodes : List ℕ) (n : ℕ) (marked : List ℕ) (c : ℕ) → AreClosed lists (length lists)
-    → ((k : ℕ) → k < length nodes → get_or nodes k 0 < length lists) → n ≤ length nodes → ((c : ℕ) → Contains marked c ↔ InFirst lists nodes n c)
-    → Contains marked (get_or nodes n 0) → InFirst lists nodes n c ⊎ Contains (get_or lists (get_or nodes n 0) []) c → Contains marked c
+    → ((k : ℕ) → k < length nodes → get_or nodes k 0 < length lists) → n ≤ length nodes
+    → ((c : ℕ) → Contains marked c ↔ InFirst lists nodes n c)
+    → Contains marked (get_or nodes n 0) → InFirst lists nodes n c ⊎ Contains (get_or lists (get_or nodes n 0) []) c
+    → Contains marked c
 skipped lists nodes n marked c closed inside h gathered found (inl old) = (gathered c).1 old
 skipped lists nodes n marked c closed inside h gathered found (inr is) =
     let by = (gathered (get_or nodes n 0)).0 found in
@@ -80,26 +90,32 @@ skipped lists nodes n marked c closed inside h gathered found (inr is) =
     let below = inside at.0 (omega (arith, at.1, h)) in
     (gathered c).1 (by.0, by.1, closed.closed by.0 (get_or nodes n 0) c (omega (arith, below, at.2)) by.2 is)
 
-pub gathered_skip : (lists : List (List ℕ)) (nodes : List ℕ) (n : ℕ) (marks new : List Bool) (marked ys : List ℕ) → AreClosed lists (length lists)
-    → n < length nodes → get_or marks (get_or nodes n 0) false ≡ true → new ≡ marks → ys ≡ marked → Gathered lists nodes n marks marked
+pub gathered_skip : (lists : List (List ℕ)) (nodes : List ℕ) (n : ℕ) (marks new : List Bool) (marked ys : List ℕ)
+    → AreClosed lists (length lists)
+    → n < length nodes → get_or marks (get_or nodes n 0) false ≡ true → new ≡ marks → ys ≡ marked
+    → Gathered lists nodes n marks marked
     → Gathered lists nodes (n + 1) new ys
 gathered_skip lists nodes n marks new marked ys closed h mark new_is ys_is g =
     let below = g.inside n h in
-    let found : Contains marked (get_or nodes n 0) = (g.are.same (get_or nodes n 0)).0 (omega (arith, below, g.room), mark) in
+    let found : Contains marked (get_or nodes n 0) =
+      (g.are.same (get_or nodes n 0)).0 (omega (arith, below, g.room), mark) in
     rw (new_is, ys_is) (record {
       room = g.room;
       inside = g.inside;
       are = g.are;
       gathered = λ c. (
         λ w. first_more lists nodes n c (inl ((g.gathered c).0 w)),
-        λ w. skipped lists nodes n marked c closed g.inside (omega arith) g.gathered found (first_less lists nodes n c w),
+        λ w. skipped lists nodes n marked c closed g.inside (omega arith) g.gathered found
+          (first_less lists nodes n c w),
       );
     })
 
-pub gathered_all : (lists : List (List ℕ)) (nodes : List ℕ) (n : ℕ) (marks : List Bool) (marked : List ℕ) → n ≡ length nodes
+pub gathered_all : (lists : List (List ℕ)) (nodes : List ℕ) (n : ℕ) (marks : List Bool) (marked : List ℕ)
+    → n ≡ length nodes
     → Gathered lists nodes n marks marked → (c : ℕ) → Contains marked c ↔ InLists lists nodes c
 gathered_all lists nodes n marks marked e g c =
-    (λ w. (let by = (g.gathered c).0 w in (by.0, (among_all nodes n by.0 e).1 by.1, by.2)), λ w. (g.gathered c).1 (w.0, (among_all nodes n w.0 e).0 w.1, w.2))
+    (λ w. (let by = (g.gathered c).0 w in (by.0, (among_all nodes n by.0 e).1 by.1, by.2)),
+      λ w. (g.gathered c).1 (w.0, (among_all nodes n w.0 e).0 w.1, w.2))
 
 -- ---- lists, one after the other
 
@@ -114,68 +130,87 @@ reach_closed g lists n falling all = record {
       ((all a h).members c).1 (leads_trans (Edge g) b c a ab bc));
 }
 
-union_to : (g : Graph) (lists : List (List ℕ)) (a c : ℕ) → IsFalling g → AreReaches g lists a → InLists lists (successors g a) c ⊎ (a ≡ c) → Leads (Edge g) c a
+union_to : (g : Graph) (lists : List (List ℕ)) (a c : ℕ) → IsFalling g → AreReaches g lists a
+    → InLists lists (successors g a) c ⊎ (a ≡ c) → Leads (Edge g) c a
 union_to g lists a c falling all (inl (b, edge, w)) = through a b edge (((all b (falling a b edge)).members c).0 w)
 union_to g lists a c falling all (inr e) = subst (λ (x : ℕ). Leads (Edge g) x a) e here
 
 union_from : (g : Graph) (lists : List (List ℕ)) (a c : ℕ) → IsFalling g → AreReaches g lists a → Leads (Edge g) c a
     → InLists lists (successors g a) c ⊎ (a ≡ c)
 union_from g lists _ c falling all here = inr refl
-union_from g lists _ c falling all (through a b edge more) = inl (b, edge, ((all b (falling a b edge)).members c).1 more)
+union_from g lists _ c falling all (through a b edge more) =
+    inl (b, edge, ((all b (falling a b edge)).members c).1 more)
 
-pub union_reach : (g : Graph) (lists : List (List ℕ)) (a : ℕ) (xs : List ℕ) → IsFalling g → AreReaches g lists a → IsUnion lists (successors g a) a xs
+pub union_reach : (g : Graph) (lists : List (List ℕ)) (a : ℕ) (xs : List ℕ) → IsFalling g → AreReaches g lists a
+    → IsUnion lists (successors g a) a xs
     → IsReach g a xs
 union_reach g lists a xs falling all u = record {
   rises = u.rises;
-  members = λ c. (λ w. union_to g lists a c falling all ((u.members c).0 w), λ r. (u.members c).1 (union_from g lists a c falling all r));
+  members =
+      λ c. (λ w. union_to g lists a c falling all ((u.members c).0 w),
+      λ r. (u.members c).1 (union_from g lists a c falling all r));
 }
 
-push_case : (P : ℕ → List ℕ → Type 0) (lists : List (List ℕ)) (xs : List ℕ) (n : ℕ) → length lists ≡ n → ((a : ℕ) → a < n → P a (get_or lists a [])) → P n xs
+push_case : (P : ℕ → List ℕ → Type 0) (lists : List (List ℕ)) (xs : List ℕ) (n : ℕ) → length lists ≡ n
+    → ((a : ℕ) → a < n → P a (get_or lists a [])) → P n xs
     → (a : ℕ) → a < n + 1 → (a < n) ⊎ (n ≤ a) → P a (get_or (lists ++ xs ∷ []) a [])
-push_case P lists xs n len all last a h (inl less) = subst (P a) (sym (get_or-append lists (xs ∷ []) [] a (omega arith))) (all a less)
+push_case P lists xs n len all last a h (inl less) =
+    subst (P a) (sym (get_or-append lists (xs ∷ []) [] a (omega arith))) (all a less)
 push_case P lists xs n len all last a h (inr over) =
     let at : a ≡ n = omega arith in
     subst (P a) (sym (get_or_push lists xs [] a (omega (arith, len, at)))) (subst (λ (k : ℕ). P k xs) (sym at) last)
 
 -- what holds of each list holds with one more
-pub each_push : (P : ℕ → List ℕ → Type 0) (lists new : List (List ℕ)) (xs : List ℕ) (n : ℕ) → new ≡ lists ++ xs ∷ [] → length lists ≡ n
+pub each_push : (P : ℕ → List ℕ → Type 0) (lists new : List (List ℕ)) (xs : List ℕ) (n : ℕ) → new ≡ lists ++ xs ∷ []
+    → length lists ≡ n
     → ((a : ℕ) → a < n → P a (get_or lists a [])) → P n xs → (a : ℕ) → a < n + 1 → P a (get_or new a [])
 each_push P lists new xs n e len all last a h =
-    subst (λ (ls : List (List ℕ)). P a (get_or ls a [])) (sym e) (push_case P lists xs n len all last a h (cases_lt a n))
+    subst (λ (ls : List (List ℕ)). P a (get_or ls a [])) (sym e)
+      (push_case P lists xs n len all last a h (cases_lt a n))
 
-pub length_push : (lists new : List (List ℕ)) (xs : List ℕ) (n : ℕ) → new ≡ lists ++ xs ∷ [] → length lists ≡ n → length new ≡ n + 1
+pub length_push : (lists new : List (List ℕ)) (xs : List ℕ) (n : ℕ) → new ≡ lists ++ xs ∷ [] → length lists ≡ n
+    → length new ≡ n + 1
 length_push lists new xs n e len =
-    let more : length (lists ++ xs ∷ []) ≡ length lists + 1 = grind (arith, common_steps) in ap length e ∙ more ∙ omega (arith, len)
+    let more : length (lists ++ xs ∷ []) ≡ length lists + 1 = grind (arith, common_steps) in
+    ap length e ∙ more ∙ omega (arith, len)
 
-union_members_to : (lists : List (List ℕ)) (nodes : List ℕ) (a c : ℕ) (gathered : List ℕ) → ((c : ℕ) → Contains gathered c ↔ InLists lists nodes c)
+union_members_to : (lists : List (List ℕ)) (nodes : List ℕ) (a c : ℕ) (gathered : List ℕ)
+    → ((c : ℕ) → Contains gathered c ↔ InLists lists nodes c)
     → Contains gathered c ⊎ Contains (a ∷ []) c → InLists lists nodes c ⊎ (a ≡ c)
 union_members_to lists nodes a c gathered g (inl w) = inl ((g c).0 w)
 union_members_to lists nodes a c gathered g (inr w) = inr (one_only a c w)
 
-union_members_from : (lists : List (List ℕ)) (nodes : List ℕ) (a c : ℕ) (gathered : List ℕ) → ((c : ℕ) → Contains gathered c ↔ InLists lists nodes c)
+union_members_from : (lists : List (List ℕ)) (nodes : List ℕ) (a c : ℕ) (gathered : List ℕ)
+    → ((c : ℕ) → Contains gathered c ↔ InLists lists nodes c)
     → InLists lists nodes c ⊎ (a ≡ c) → Contains gathered c ⊎ Contains (a ∷ []) c
 union_members_from lists nodes a c gathered g (inl w) = inl ((g c).1 w)
 union_members_from lists nodes a c gathered g (inr e) = inr (0, lit< tt, e)
 
-pub union_sorted : (lists : List (List ℕ)) (nodes : List ℕ) (a : ℕ) (gathered found sorted : List ℕ) → ((c : ℕ) → Contains gathered c ↔ InLists lists nodes c)
-    → ((c : ℕ) → Contains found c ↔ (Contains gathered c ⊎ Contains (a ∷ []) c)) → IsDistinct eqb found → IsPermutation found sorted → IsSorted nat_cmp sorted
+pub union_sorted : (lists : List (List ℕ)) (nodes : List ℕ) (a : ℕ) (gathered found sorted : List ℕ)
+    → ((c : ℕ) → Contains gathered c ↔ InLists lists nodes c)
+    → ((c : ℕ) → Contains found c ↔ (Contains gathered c ⊎ Contains (a ∷ []) c)) → IsDistinct eqb found
+    → IsPermutation found sorted → IsSorted nat_cmp sorted
     → IsUnion lists nodes a sorted
 union_sorted lists nodes a gathered found sorted g added once moved up = record {
   rises = IsStrictlyIncreasing-from_distinct sorted (IsNonDecreasingBy-from_sort (λ x. x) sorted up)
       (IsDistinct-IsPermutation eqb nat_eq_equiv.symm found sorted moved once);
   members = λ c. (
-    λ w. union_members_to lists nodes a c gathered g ((added c).0 (Contains-permutation sorted found c (IsPermutation-sym found sorted moved) w)),
+    λ w. union_members_to lists nodes a c gathered g
+      ((added c).0 (Contains-permutation sorted found c (IsPermutation-sym found sorted moved) w)),
     λ w. Contains-permutation found sorted c moved ((added c).1 (union_members_from lists nodes a c gathered g w)),
   );
 }
 
-one_member_to : (lists : List (List ℕ)) (b a c : ℕ) → Contains (get_or lists b []) c ⊎ Contains (a ∷ []) c → InLists lists (b ∷ []) c ⊎ (a ≡ c)
+one_member_to : (lists : List (List ℕ)) (b a c : ℕ) → Contains (get_or lists b []) c ⊎ Contains (a ∷ []) c
+    → InLists lists (b ∷ []) c ⊎ (a ≡ c)
 one_member_to lists b a c (inl w) = inl (b, (0, lit< tt, refl), w)
 one_member_to lists b a c (inr w) = inr (one_only a c w)
 
-one_member_from : (lists : List (List ℕ)) (b a c : ℕ) → InLists lists (b ∷ []) c ⊎ (a ≡ c) → Contains (get_or lists b [] ++ a ∷ []) c
+one_member_from : (lists : List (List ℕ)) (b a c : ℕ) → InLists lists (b ∷ []) c ⊎ (a ≡ c)
+    → Contains (get_or lists b [] ++ a ∷ []) c
 one_member_from lists b a c (inl (d, w, v)) =
-    Contains-append_left (get_or lists b []) (a ∷ []) c (subst (λ (x : ℕ). Contains (get_or lists x []) c) (sym (one_only b d w)) v)
+    Contains-append_left (get_or lists b []) (a ∷ []) c
+      (subst (λ (x : ℕ). Contains (get_or lists x []) c) (sym (one_only b d w)) v)
 one_member_from lists b a c (inr e) = Contains-append_right (get_or lists b []) (a ∷ []) c (0, lit< tt, e)
 
 pub one_long : (xs : List ℕ) → 1 ≤ length xs → length xs < 2 → xs ≡ get_or xs 0 0 ∷ []
@@ -184,8 +219,10 @@ one_long (x ∷ []) more less = refl
 one_long (x ∷ y ∷ xs) more less = absurd (omega arith)
 
 -- the union of one list with a number above it
-pub union_of_one : (lists : List (List ℕ)) (nodes : List ℕ) (b a : ℕ) (xs : List ℕ) → nodes ≡ b ∷ [] → xs ≡ get_or lists b [] ++ a ∷ []
-    → IsStrictlyIncreasing (get_or lists b []) → ((c : ℕ) → Contains (get_or lists b []) c → c < a) → IsUnion lists nodes a xs
+pub union_of_one : (lists : List (List ℕ)) (nodes : List ℕ) (b a : ℕ) (xs : List ℕ) → nodes ≡ b ∷ []
+    → xs ≡ get_or lists b [] ++ a ∷ []
+    → IsStrictlyIncreasing (get_or lists b []) → ((c : ℕ) → Contains (get_or lists b []) c → c < a)
+    → IsUnion lists nodes a xs
 union_of_one lists nodes b a xs one is up below = rw (one, is) (record {
   rises = rises_push (get_or lists b []) a up below;
   members = λ c. (

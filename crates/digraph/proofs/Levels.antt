@@ -63,7 +63,8 @@ empty_from [] none = refl
 empty_from (x ∷ xs) none = absurd (none x (0, omega arith, refl))
 
 leaf_ready : (g : Graph) (marks : List Bool) (leaves : List ℕ) → NoneMarked marks
-    → ((a : ℕ) → Contains leaves a ↔ ((a < length g) × (successors g a ≡ []))) → (a : ℕ) → Contains leaves a ↔ IsReady g marks a
+    → ((a : ℕ) → Contains leaves a ↔ ((a < length g) × (successors g a ≡ []))) → (a : ℕ)
+    → Contains leaves a ↔ IsReady g marks a
 leaf_ready g marks leaves none members a = (
   λ w. (let leaf = (members a).0 w in
       (leaf.0, none a, λ b edge. absurd (no_items b (subst (λ (xs : List ℕ). Contains xs b) leaf.1 edge)))),
@@ -78,8 +79,10 @@ zero_at (suc n) (suc a) = zero_at n a
 pub all_zero : (xs : List ℕ) (n : ℕ) → xs ≡ replicate n 0 → (a : ℕ) → get_or xs a 0 ≡ 0
 all_zero xs n e a = ap (λ ys. get_or ys a 0) e ∙ zero_at n a
 
-pub levels_start : (g : Graph) (marks : List Bool) (ranks order ready passed : List ℕ) → length marks ≡ length g → length ranks ≡ length g
-    → NoneMarked marks → order ≡ [] → IsStrictlyIncreasing ready → ((a : ℕ) → Contains ready a ↔ ((a < length g) × (successors g a ≡ [])))
+pub levels_start : (g : Graph) (marks : List Bool) (ranks order ready passed : List ℕ) → length marks ≡ length g
+    → length ranks ≡ length g
+    → NoneMarked marks → order ≡ [] → IsStrictlyIncreasing ready
+    → ((a : ℕ) → Contains ready a ↔ ((a < length g) × (successors g a ≡ [])))
     → length passed ≡ length g → ((a : ℕ) → get_or passed a 0 ≡ 0)
     → Levels g (record { marks = marks; ranks = ranks; order = order; ready = ready; passed = passed; round = 0 })
 levels_start g marks ranks order ready passed room size none empty rises members long zeros = rw empty (record {
@@ -113,15 +116,19 @@ pub record Round (g : Graph) (s t : Stage) : Type 0 where
   pub rises : IsStrictlyIncreasing t.ready
   pub members : (a : ℕ) → Contains t.ready a ↔ (GoesInto g s.ready a × AllMarked g t.marks a)
 
-kept : (g : Graph) (s t : Stage) → Levels g s → Round g s t → (a : ℕ) → IsMarked s.marks a → rank_in t.ranks a ≡ rank_in s.ranks a
+kept : (g : Graph) (s t : Stage) → Levels g s → Round g s t → (a : ℕ) → IsMarked s.marks a
+    → rank_in t.ranks a ≡ rank_in s.ranks a
 kept g s t l r a m = r.others a (λ w. ((l.ready a).0 w).1 m)
 
-above_next : (g : Graph) (s t : Stage) → Levels g s → Round g s t → (a b : ℕ) → IsMarked s.marks a ⊎ Contains s.ready a → Edge g a b
+above_next : (g : Graph) (s t : Stage) → Levels g s → Round g s t → (a b : ℕ) → IsMarked s.marks a ⊎ Contains s.ready a
+    → Edge g a b
     → IsMarked t.marks b × (rank_in t.ranks b < rank_in t.ranks a)
 above_next g s t l r a b (inl m) edge =
-    let was = l.above a b m edge in ((r.marked b).1 (inl was.0), omega (arith, was.1, kept g s t l r a m, kept g s t l r b was.0))
+    let was = l.above a b m edge in
+    ((r.marked b).1 (inl was.0), omega (arith, was.1, kept g s t l r a m, kept g s t l r b was.0))
 above_next g s t l r a b (inr w) edge =
-    let mark = ((l.ready a).0 w).2 b edge in ((r.marked b).1 (inl mark), omega (arith, l.below b mark, kept g s t l r b mark, r.ranked a w))
+    let mark = ((l.ready a).0 w).2 b edge in
+    ((r.marked b).1 (inl mark), omega (arith, l.below b mark, kept g s t l r b mark, r.ranked a w))
 
 least_next : (g : Graph) (s t : Stage) → Levels g s → Round g s t → (a : ℕ) → IsMarked s.marks a ⊎ Contains s.ready a
     → (rank_in t.ranks a ≡ 0) ⊎ ((b : ℕ) × Edge g a b × (rank_in t.ranks a ≡ rank_in t.ranks b + 1))
@@ -136,13 +143,15 @@ least_next g s t l r a (inr w) = elim (l.late a w) [
       inr (found.0, found.1, omega (arith, r.ranked a w, kept g s t l r found.0 mark, found.2)))
 ]
 
-below_next : (g : Graph) (s t : Stage) → Levels g s → Round g s t → (a : ℕ) → IsMarked s.marks a ⊎ Contains s.ready a → rank_in t.ranks a < t.round
+below_next : (g : Graph) (s t : Stage) → Levels g s → Round g s t → (a : ℕ) → IsMarked s.marks a ⊎ Contains s.ready a
+    → rank_in t.ranks a < t.round
 below_next g s t l r a (inl m) = omega (arith, l.below a m, kept g s t l r a m, r.next)
 below_next g s t l r a (inr w) = omega (arith, r.ranked a w, r.next)
 
 late_next : (g : Graph) (s t : Stage) → Round g s t → (a : ℕ) → Contains t.ready a
     → (t.round ≡ 0) ⊎ ((b : ℕ) × Edge g a b × (t.round ≡ rank_in t.ranks b + 1))
-late_next g s t r a w = let into = ((r.members a).0 w).0 in inr (into.0, into.2, omega (arith, r.next, r.ranked into.0 into.1))
+late_next g s t r a w = let into = ((r.members a).0 w).0 in
+    inr (into.0, into.2, omega (arith, r.next, r.ranked into.0 into.1))
 
 -- a node with an edge to one that was ready had no rank, and was not ready itself
 ready_to : (g : Graph) (s t : Stage) → Levels g s → Round g s t → (a : ℕ) → Contains t.ready a → IsReady g t.marks a
@@ -171,10 +180,12 @@ ready_from g s t l r a (h, out, all) = elim (row_cases g s.marks a) [
 order_left : (order ready : List ℕ) (k : ℕ) → k < length order → get_or (order ++ ready) k 0 ≡ get_or order k 0
 order_left order ready k h = get_or-append order ready 0 k h
 
-order_right : (order ready : List ℕ) (k : ℕ) → length order ≤ k → get_or (order ++ ready) k 0 ≡ get_or ready (k - length order) 0
+order_right : (order ready : List ℕ) (k : ℕ) → length order ≤ k
+    → get_or (order ++ ready) k 0 ≡ get_or ready (k - length order) 0
 order_right order ready k h = get_or-append_right order ready k 0 h
 
-before_same : (ranks new_ranks : List ℕ) (a b : ℕ) → rank_in new_ranks a ≡ rank_in ranks a → rank_in new_ranks b ≡ rank_in ranks b → IsBefore ranks a b
+before_same : (ranks new_ranks : List ℕ) (a b : ℕ) → rank_in new_ranks a ≡ rank_in ranks a
+    → rank_in new_ranks b ≡ rank_in ranks b → IsBefore ranks a b
     → IsBefore new_ranks a b
 before_same ranks new_ranks a b ea eb (inl less) = inl (omega (arith, less, ea, eb))
 before_same ranks new_ranks a b ea eb (inr (same, less)) = inr (ea ∙ same ∙ sym eb, less)
@@ -184,8 +195,10 @@ ordered_case : (g : Graph) (s t : Stage) → Levels g s → Round g s t → (k :
     → IsBefore t.ranks (get_or (s.order ++ s.ready) k 0) (get_or (s.order ++ s.ready) (k + 1) 0)
 ordered_case g s t l r k h (inl inside) near =
     let at : k < length s.order = omega arith in
-    let first = kept g s t l r (get_or s.order k 0) ((l.known (get_or s.order k 0)).1 (Contains-get_or s.order k 0 at)) in
-    let second = kept g s t l r (get_or s.order (k + 1) 0) ((l.known (get_or s.order (k + 1) 0)).1 (Contains-get_or s.order (k + 1) 0 inside)) in
+    let first = kept g s t l r (get_or s.order k 0)
+      ((l.known (get_or s.order k 0)).1 (Contains-get_or s.order k 0 at)) in
+    let second = kept g s t l r (get_or s.order (k + 1) 0)
+      ((l.known (get_or s.order (k + 1) 0)).1 (Contains-get_or s.order (k + 1) 0 inside)) in
     rw (order_left s.order s.ready k at, order_left s.order s.ready (k + 1) inside)
     (before_same s.ranks t.ranks (get_or s.order k 0) (get_or s.order (k + 1) 0) first second (l.ordered k inside))
 ordered_case g s t l r k h (inr over) (inl at) =
@@ -193,31 +206,40 @@ ordered_case g s t l r k h (inr over) (inl at) =
     let same = kept g s t l r (get_or s.order k 0) mark in
     let small = l.below (get_or s.order k 0) mark in
     let position : k + 1 - length s.order < length s.ready = omega arith in
-    let rank = r.ranked (get_or s.ready (k + 1 - length s.order) 0) (Contains-get_or s.ready (k + 1 - length s.order) 0 position) in
-    rw (order_left s.order s.ready k at, order_right s.order s.ready (k + 1) over) (inl (omega (arith, same, small, rank)))
+    let rank = r.ranked (get_or s.ready (k + 1 - length s.order) 0)
+      (Contains-get_or s.ready (k + 1 - length s.order) 0 position) in
+    rw (order_left s.order s.ready k at, order_right s.order s.ready (k + 1) over)
+      (inl (omega (arith, same, small, rank)))
 ordered_case g s t l r k h (inr over) (inr at) =
     let position : k - length s.order + 1 < length s.ready = omega arith in
     let next : k + 1 - length s.order ≡ k - length s.order + 1 = omega arith in
-    let first = r.ranked (get_or s.ready (k - length s.order) 0) (Contains-get_or s.ready (k - length s.order) 0 (omega arith)) in
-    let second = r.ranked (get_or s.ready (k - length s.order + 1) 0) (Contains-get_or s.ready (k - length s.order + 1) 0 position) in
+    let first = r.ranked (get_or s.ready (k - length s.order) 0)
+      (Contains-get_or s.ready (k - length s.order) 0 (omega arith)) in
+    let second = r.ranked (get_or s.ready (k - length s.order + 1) 0)
+      (Contains-get_or s.ready (k - length s.order + 1) 0 position) in
     rw (order_right s.order s.ready k at, order_right s.order s.ready (k + 1) over ∙ ap (λ j. get_or s.ready j 0) next)
     (inr (first ∙ sym second, l.rises (k - length s.order) position))
 
 ordered_next : (g : Graph) (s t : Stage) → Levels g s → Round g s t → (k : ℕ) → k + 1 < length t.order
     → IsBefore t.ranks (get_or t.order k 0) (get_or t.order (k + 1) 0)
 ordered_next g s t l r k h =
-    let long : length t.order ≡ length s.order + length s.ready = ap length r.appended ∙ length-append s.order s.ready in
+    let long : length t.order ≡ length s.order + length s.ready =
+      ap length r.appended ∙ length-append s.order s.ready in
     subst (λ (xs : List ℕ). IsBefore t.ranks (get_or xs k 0) (get_or xs (k + 1) 0)) (sym r.appended)
-    (ordered_case g s t l r k (omega (arith, h, long)) (cases_lt (k + 1) (length s.order)) (cases_lt k (length s.order)))
+    (ordered_case g s t l r k (omega (arith, h, long)) (cases_lt (k + 1) (length s.order))
+      (cases_lt k (length s.order)))
 
-known_to : (g : Graph) (s t : Stage) → Levels g s → Round g s t → (a : ℕ) → IsMarked s.marks a ⊎ Contains s.ready a → Contains t.order a
+known_to : (g : Graph) (s t : Stage) → Levels g s → Round g s t → (a : ℕ) → IsMarked s.marks a ⊎ Contains s.ready a
+    → Contains t.order a
 known_to g s t l r a w = subst (λ (xs : List ℕ). Contains xs a) (sym r.appended) (elim w [
   | inl m ↦ Contains-append_left s.order s.ready a ((l.known a).0 m)
   | inr ready ↦ Contains-append_right s.order s.ready a ready
 ])
 
-known_from : (g : Graph) (s t : Stage) → Levels g s → Round g s t → (a : ℕ) → Contains t.order a → IsMarked s.marks a ⊎ Contains s.ready a
-known_from g s t l r a w = elim (Contains-append_cases s.order s.ready a (subst (λ (xs : List ℕ). Contains xs a) r.appended w)) [
+known_from : (g : Graph) (s t : Stage) → Levels g s → Round g s t → (a : ℕ) → Contains t.order a
+    → IsMarked s.marks a ⊎ Contains s.ready a
+known_from g s t l r a w =
+    elim (Contains-append_cases s.order s.ready a (subst (λ (xs : List ℕ). Contains xs a) r.appended w)) [
   | inl old ↦ inl ((l.known a).1 old)
   | inr ready ↦ inr ready
 ]
@@ -230,7 +252,8 @@ levels_next g s t l r = record {
   rises = r.rises;
   ready = λ a. (ready_to g s t l r a, ready_from g s t l r a);
   passed = r.passed;
-  few = (let long : length t.order ≡ length s.order + length s.ready = ap length r.appended ∙ length-append s.order s.ready in
+  few = (let long : length t.order ≡ length s.order + length s.ready =
+      ap length r.appended ∙ length-append s.order s.ready in
       omega (arith, l.few, r.some, r.next, long));
   above = λ a b m. above_next g s t l r a b ((r.marked a).0 m);
   least = λ a m. least_next g s t l r a ((r.marked a).0 m);
@@ -245,17 +268,22 @@ before_other : (ranks : List ℕ) (a b : ℕ) → IsBefore ranks a b → a ≡ b
 before_other ranks a b (inl less) e = (let same = ap (rank_in ranks) e in omega (arith, less, same))
 before_other ranks a b (inr (same, less)) e = omega (arith, less, e)
 
-before_by : (g : Graph) (s : Stage) → Levels g s → (i d : ℕ) → i + suc d < length s.order → IsBefore s.ranks (get_or s.order i 0) (get_or s.order (i + suc d) 0)
+before_by : (g : Graph) (s : Stage) → Levels g s → (i d : ℕ) → i + suc d < length s.order
+    → IsBefore s.ranks (get_or s.order i 0) (get_or s.order (i + suc d) 0)
 before_by g s l i zero h = l.ordered i h
 before_by g s l i (suc d) h =
-    before_trans s.ranks (get_or s.order i 0) (get_or s.order (i + suc d) 0) (get_or s.order (i + suc (suc d)) 0) (before_by g s l i d (omega arith))
-    (subst (λ j. IsBefore s.ranks (get_or s.order (i + suc d) 0) (get_or s.order j 0)) (omega arith) (l.ordered (i + suc d) (omega arith)))
+    before_trans s.ranks (get_or s.order i 0) (get_or s.order (i + suc d) 0) (get_or s.order (i + suc (suc d)) 0)
+      (before_by g s l i d (omega arith))
+    (subst (λ j. IsBefore s.ranks (get_or s.order (i + suc d) 0) (get_or s.order j 0)) (omega arith)
+      (l.ordered (i + suc d) (omega arith)))
 
-apart : (g : Graph) (s : Stage) → Levels g s → (i j d : ℕ) → i < j → j < length s.order → eqb (get_or s.order i d) (get_or s.order j d) ≡ false
+apart : (g : Graph) (s : Stage) → Levels g s → (i j d : ℕ) → i < j → j < length s.order
+    → eqb (get_or s.order i d) (get_or s.order j d) ≡ false
 apart g s l i j d less inside =
     let split : i + suc (j - i - 1) ≡ j = omega arith in
     let before : IsBefore s.ranks (get_or s.order i 0) (get_or s.order j 0) =
-    subst (λ k. IsBefore s.ranks (get_or s.order i 0) (get_or s.order k 0)) split (before_by g s l i (j - i - 1) (omega arith)) in
+    subst (λ k. IsBefore s.ranks (get_or s.order i 0) (get_or s.order k 0)) split
+      (before_by g s l i (j - i - 1) (omega arith)) in
     let first : get_or s.order i d ≡ get_or s.order i 0 = default_same s.order i d 0 (omega arith) in
     let second : get_or s.order j d ≡ get_or s.order j 0 = default_same s.order j d 0 inside in
     ne_eqb (get_or s.order i d) (get_or s.order j d)
@@ -271,14 +299,17 @@ in_order : (g : Graph) (s : Stage) → Levels g s → (q : ℕ) → Contains s.o
 in_order g s l q w = let m = (l.known q).1 w in omega (arith, m.0, l.room)
 
 order_short : (g : Graph) (s : Stage) → Levels g s → length s.order ≤ length g
-order_short g s l = length-le_from_distinct_below s.order (length g) (order_distinct g s l) (λ q e. in_order g s l q (found_in s.order q e))
+order_short g s l = length-le_from_distinct_below s.order (length g) (order_distinct g s l)
+    (λ q e. in_order g s l q (found_in s.order q e))
 
-with_another : (g : Graph) (s : Stage) → Levels g s → (a q : ℕ) → a < length g → Contains s.order q ⊎ (a ≡ q) → q < length g
+with_another : (g : Graph) (s : Stage) → Levels g s → (a q : ℕ) → a < length g → Contains s.order q ⊎ (a ≡ q)
+    → q < length g
 with_another g s l a q h (inl old) = in_order g s l q old
 with_another g s l a q h (inr is) = omega arith
 
 -- where a node has no mark, the order has not all of them
-pub order_shorter : (g : Graph) (s : Stage) → Levels g s → (a : ℕ) → a < length g → (IsMarked s.marks a → ⊥) → length s.order < length g
+pub order_shorter : (g : Graph) (s : Stage) → Levels g s → (a : ℕ) → a < length g → (IsMarked s.marks a → ⊥)
+    → length s.order < length g
 order_shorter g s l a h out =
     let more = s.order ++ a ∷ [] in
     let once = distinct_push s.order a (order_distinct g s l) (λ w. out ((l.known a).1 w)) in
@@ -290,7 +321,8 @@ order_shorter g s l a h out =
 -- so a round that finds a node leaves fewer
 pub round_shorter : (g : Graph) (s : Stage) → Levels g s → 0 < length s.ready → length s.order < length g
 round_shorter g s l some =
-    let is = (l.ready (get_or s.ready 0 0)).0 (Contains-get_or s.ready 0 0 some) in order_shorter g s l (get_or s.ready 0 0) is.0 is.1
+    let is = (l.ready (get_or s.ready 0 0)).0 (Contains-get_or s.ready 0 0 some) in
+    order_shorter g s l (get_or s.ready 0 0) is.0 is.1
 
 -- what gets a rank is a node
 pub ready_below : (g : Graph) (s : Stage) → Levels g s → (a : ℕ) → Contains s.ready a → a < length g
@@ -323,7 +355,8 @@ levels_order g s l whole = record {
   );
 }
 
-stuck_at : (g : Graph) (s : Stage) → IsWithin g (length g) → Levels g s → length s.ready ≡ 0 → (a : ℕ) → (a < length g) × (IsMarked s.marks a → ⊥)
+stuck_at : (g : Graph) (s : Stage) → IsWithin g (length g) → Levels g s → length s.ready ≡ 0 → (a : ℕ)
+    → (a < length g) × (IsMarked s.marks a → ⊥)
     → (a < length g) × (b : ℕ) × Edge g a b × ((b < length g) × (IsMarked s.marks b → ⊥))
 stuck_at g s within l none a (h, out) = elim (row_cases g s.marks a) [
   | inl all ↦ (let w = (l.ready a).1 (h, out, all) in absurd (no_position w.0 (omega (arith, w.1, none))))
@@ -331,10 +364,13 @@ stuck_at g s within l none a (h, out) = elim (row_cases g s.marks a) [
 ]
 
 -- a node that no round found leads into a cycle
-pub levels_stuck : (g : Graph) (s : Stage) → IsWithin g (length g) → Levels g s → length s.ready ≡ 0 → length s.order < length g → HasNoCycle g → ⊥
+pub levels_stuck : (g : Graph) (s : Stage) → IsWithin g (length g) → Levels g s → length s.ready ≡ 0
+    → length s.order < length g → HasNoCycle g → ⊥
 levels_stuck g s within l none short acyclic =
-    let free = none_stuck g (length g) (λ a. (a < length g) × (IsMarked s.marks a → ⊥)) (stuck_at g s within l none) acyclic in
-    let long = le-length_from_below s.order (length g) (λ q h. list_any-from_Contains nat_eq_equiv q s.order ((l.known q).0 (elim (mark_cases s.marks q) [
+    let free = none_stuck g (length g) (λ a. (a < length g) × (IsMarked s.marks a → ⊥))
+      (stuck_at g s within l none) acyclic in
+    let long = le-length_from_below s.order (length g)
+      (λ q h. list_any-from_Contains nat_eq_equiv q s.order ((l.known q).0 (elim (mark_cases s.marks q) [
       | inl m ↦ m
       | inr out ↦ absurd (free q (h, out))
     ]))) in
@@ -342,13 +378,18 @@ levels_stuck g s within l none short acyclic =
 
 -- ---- the round as the code has it: the slices that it is given are the lists
 
-pub round_of : (g : Graph) (s t : Stage) (old_marks seen : List Bool) (old_ranks nodes new settled : List ℕ) → old_marks ≡ s.marks → seen ≡ t.marks
-    → old_ranks ≡ s.ranks → nodes ≡ s.ready → new ≡ s.ready → settled ≡ s.ready → t.round ≡ s.round + 1 → 0 < length s.ready → t.order ≡ s.order ++ new
+pub round_of : (g : Graph) (s t : Stage) (old_marks seen : List Bool) (old_ranks nodes new settled : List ℕ)
+    → old_marks ≡ s.marks → seen ≡ t.marks
+    → old_ranks ≡ s.ranks → nodes ≡ s.ready → new ≡ s.ready → settled ≡ s.ready → t.round ≡ s.round + 1
+    → 0 < length s.ready → t.order ≡ s.order ++ new
     → length t.marks ≡ length s.marks → length t.ranks ≡ length s.ranks
-    → ((c : ℕ) → IsMarked t.marks c ↔ (IsMarked old_marks c ⊎ Contains nodes c)) → ((c : ℕ) → Contains nodes c → rank_in t.ranks c ≡ s.round)
-    → ((c : ℕ) → (Contains nodes c → ⊥) → rank_in t.ranks c ≡ rank_in old_ranks c) → ArePassed g seen t.passed → IsStrictlyIncreasing t.ready
+    → ((c : ℕ) → IsMarked t.marks c ↔ (IsMarked old_marks c ⊎ Contains nodes c))
+    → ((c : ℕ) → Contains nodes c → rank_in t.ranks c ≡ s.round)
+    → ((c : ℕ) → (Contains nodes c → ⊥) → rank_in t.ranks c ≡ rank_in old_ranks c) → ArePassed g seen t.passed
+    → IsStrictlyIncreasing t.ready
     → ((a : ℕ) → Contains t.ready a ↔ (GoesInto g settled a × AllMarked g seen a)) → Round g s t
-round_of g s t old_marks seen old_ranks nodes new settled em es er en ew et next some appended marks_size ranks_size marked ranked others passed rises
+round_of g s t old_marks seen old_ranks nodes new settled em es er en ew et next some appended marks_size ranks_size
+  marked ranked others passed rises
     members = record {
       next = next;
       some = some;
@@ -363,5 +404,6 @@ round_of g s t old_marks seen old_ranks nodes new settled em es er en ew et next
       passed = subst (λ (m : List Bool). ArePassed g m t.passed) es passed;
       rises = rises;
       members = subst (λ (xs : List ℕ). (a : ℕ) → Contains t.ready a ↔ (GoesInto g xs a × AllMarked g t.marks a)) et
-          (subst (λ (m : List Bool). (a : ℕ) → Contains t.ready a ↔ (GoesInto g settled a × AllMarked g m a)) es members);
+          (subst (λ (m : List Bool). (a : ℕ) → Contains t.ready a ↔ (GoesInto g settled a × AllMarked g m a)) es
+            members);
     }

@@ -27,22 +27,27 @@ among_all xs n c e = (
 )
 
 at_mark : (marks : List Bool) (p c : ℕ) → p < length marks → p ≡ c → IsMarked (set marks p true) c
-at_mark marks p c h same = subst (λ (x : ℕ). IsMarked (set marks p true) x) same (omega (arith, length-set marks p true), get_or-set_same marks p true false h)
+at_mark marks p c h same = subst (λ (x : ℕ). IsMarked (set marks p true) x) same
+    (omega (arith, length-set marks p true), get_or-set_same marks p true false h)
 
-mark_to : (marks : List Bool) (p c : ℕ) → (p ≡ c) ⊎ (p ≡ c → ⊥) → IsMarked (set marks p true) c → IsMarked marks c ⊎ (p ≡ c)
+mark_to : (marks : List Bool) (p c : ℕ) → (p ≡ c) ⊎ (p ≡ c → ⊥) → IsMarked (set marks p true) c
+    → IsMarked marks c ⊎ (p ≡ c)
 mark_to marks p c (inl same) k = inr same
 mark_to marks p c (inr other) (below, t) =
     let ne : c ≢ p = λ e. other (sym e) in
     let under : c < length marks = omega (arith, below, length-set marks p true) in
     inl (under, sym (get_or-set_other marks p c true false ne) ∙ t)
 
-mark_from : (marks : List Bool) (p c : ℕ) → p < length marks → (p ≡ c) ⊎ (p ≡ c → ⊥) → IsMarked marks c ⊎ (p ≡ c) → IsMarked (set marks p true) c
+mark_from : (marks : List Bool) (p c : ℕ) → p < length marks → (p ≡ c) ⊎ (p ≡ c → ⊥) → IsMarked marks c ⊎ (p ≡ c)
+    → IsMarked (set marks p true) c
 mark_from marks p c h (inl same) k = at_mark marks p c h same
 mark_from marks p c h (inr other) (inr same) = at_mark marks p c h same
 mark_from marks p c h (inr other) (inl (below, t)) =
-    let ne : c ≢ p = λ e. other (sym e) in (omega (arith, below, length-set marks p true), get_or-set_other marks p c true false ne ∙ t)
+    let ne : c ≢ p = λ e. other (sym e) in
+    (omega (arith, below, length-set marks p true), get_or-set_other marks p c true false ne ∙ t)
 
-pub mark_one : (marks : List Bool) (p c : ℕ) → p < length marks → IsMarked (set marks p true) c ↔ (IsMarked marks c ⊎ (p ≡ c))
+pub mark_one : (marks : List Bool) (p c : ℕ) → p < length marks
+    → IsMarked (set marks p true) c ↔ (IsMarked marks c ⊎ (p ≡ c))
 mark_one marks p c h = (mark_to marks p c (cases_eq p c), mark_from marks p c h (cases_eq p c))
 
 step_to : {A B I M N P : Type 0} → A ↔ (B ⊎ P) → B ↔ (I ⊎ M) → N ↔ (M ⊎ P) → B ⊎ P → I ⊎ N

@@ -23,7 +23,8 @@ range_mapped f items r = ap (take r.1) (drop_map f r.0 items) ∙ take_map f r.1
 
 map_same : (f g : ℕ → ℕ) (xs : List ℕ) → ((k : ℕ) → Contains xs k → f k ≡ g k) → map f xs ≡ map g xs
 map_same f g [] same = refl
-map_same f g (x ∷ xs) same = rw (same x (0, omega arith, refl), map_same f g xs (λ k w. same k (suc w.0, omega (arith, w.1), w.2))) refl
+map_same f g (x ∷ xs) same =
+    rw (same x (0, omega arith, refl), map_same f g xs (λ k w. same k (suc w.0, omega (arith, w.1), w.2))) refl
 
 ranges_mapped : (f g : ℕ → ℕ) (items : List ℕ) (rs : List (ℕ × ℕ))
     → AllByRecursion (λ (r : ℕ × ℕ). (k : ℕ) → Contains (range_of items r) k → f k ≡ g k) rs
@@ -32,7 +33,8 @@ ranges_mapped f g items [] same = refl
 ranges_mapped f g items (r ∷ rs) same =
     rw (range_mapped f items r ∙ map_same f g (range_of items r) same.0, ranges_mapped f g items rs same.1) refl
 
-all_from : {X : Type 0} (P : X → Type 0) (xs : List X) (d : X) → ((k : ℕ) → k < length xs → P (get_or xs k d)) → AllByRecursion P xs
+all_from : {X : Type 0} (P : X → Type 0) (xs : List X) (d : X) → ((k : ℕ) → k < length xs → P (get_or xs k d))
+    → AllByRecursion P xs
 all_from P [] d each = tt
 all_from P (x ∷ xs) d each = (each 0 (omega arith), all_from P xs d (λ k h. each (suc k) (omega arith)))
 

@@ -29,15 +29,18 @@ before_by : (ranks order : List ℕ) → IsRankOrder ranks order → (i d : ℕ)
 before_by ranks order o i zero h = o.rises i h
 before_by ranks order o i (suc d) h =
     let first = before_by ranks order o i d (omega arith) in
-    let step : IsBefore ranks (node_at order (i + suc d)) (node_at order (i + suc d + 1)) = o.rises (i + suc d) (omega arith) in
+    let step : IsBefore ranks (node_at order (i + suc d)) (node_at order (i + suc d + 1)) =
+      o.rises (i + suc d) (omega arith) in
     let at : i + suc d + 1 ≡ i + suc (suc d) = omega arith in
     subst (λ k. IsBefore ranks (node_at order i) (node_at order k)) at
     (before_trans ranks (node_at order i) (node_at order (i + suc d)) (node_at order (i + suc d + 1)) first step)
 
-pub before_far : (ranks order : List ℕ) → IsRankOrder ranks order → (i j : ℕ) → i < j → j < length order → IsBefore ranks (node_at order i) (node_at order j)
+pub before_far : (ranks order : List ℕ) → IsRankOrder ranks order → (i j : ℕ) → i < j → j < length order
+    → IsBefore ranks (node_at order i) (node_at order j)
 before_far ranks order o i j h inside =
     let split : i + suc (j - i - 1) ≡ j = omega arith in
-    subst (λ k. IsBefore ranks (node_at order i) (node_at order k)) split (before_by ranks order o i (j - i - 1) (omega arith))
+    subst (λ k. IsBefore ranks (node_at order i) (node_at order k)) split
+      (before_by ranks order o i (j - i - 1) (omega arith))
 
 before_differs : (ranks : List ℕ) (a b : ℕ) → IsBefore ranks a b → a ≢ b
 before_differs ranks a b (inl less) e = let same = ap (rank_in ranks) e in omega (arith, less, same)
@@ -52,10 +55,13 @@ pub record Placed (order : List ℕ) (n : ℕ) (positions : List ℕ) : Type 0 w
 pub placed_none : (order positions : List ℕ) → length positions ≡ length order → Placed order 0 positions
 placed_none order positions size = record { size = size; placed = λ k h. absurd (no_position k h) }
 
-pub inside_order : (ranks order : List ℕ) → IsRankOrder ranks order → (k : ℕ) → k < length order → node_at order k < length order
-inside_order ranks order o k h = let below = (o.whole (node_at order k)).0 (Contains-get_or order k 0 h) in omega (arith, below, o.size)
+pub inside_order : (ranks order : List ℕ) → IsRankOrder ranks order → (k : ℕ) → k < length order
+    → node_at order k < length order
+inside_order ranks order o k h = let below = (o.whole (node_at order k)).0 (Contains-get_or order k 0 h) in
+    omega (arith, below, o.size)
 
-placed_case : (ranks order : List ℕ) (n : ℕ) (positions : List ℕ) → IsRankOrder ranks order → n < length order → Placed order n positions → (k : ℕ) → k < n + 1
+placed_case : (ranks order : List ℕ) (n : ℕ) (positions : List ℕ) → IsRankOrder ranks order → n < length order
+    → Placed order n positions → (k : ℕ) → k < n + 1
     → (k < n) ⊎ (n ≤ k) → get_or (set positions (node_at order n) n) (node_at order k) 0 ≡ k
 placed_case ranks order n positions o h p k below (inl less) =
     get_or-set_other positions (node_at order n) (node_at order k) n 0
@@ -66,21 +72,24 @@ placed_case ranks order n positions o h p k below (inr over) =
     subst (λ i. get_or (set positions (node_at order n) n) (node_at order i) 0 ≡ i) at
     (get_or-set_same positions (node_at order n) n 0 (omega (arith, inside, p.size)))
 
-pub placed_more : (ranks order : List ℕ) (n : ℕ) (positions : List ℕ) → IsRankOrder ranks order → n < length order → Placed order n positions
+pub placed_more : (ranks order : List ℕ) (n : ℕ) (positions : List ℕ) → IsRankOrder ranks order → n < length order
+    → Placed order n positions
     → Placed order (n + 1) (set positions (node_at order n) n)
 placed_more ranks order n positions o h p = record {
   size = length-set positions (node_at order n) n ∙ p.size;
   placed = λ k below. placed_case ranks order n positions o h p k below (cases_lt k n);
 }
 
-pub placed_all : (ranks order : List ℕ) (n : ℕ) (positions : List ℕ) → IsRankOrder ranks order → length order ≤ n → Placed order n positions
+pub placed_all : (ranks order : List ℕ) (n : ℕ) (positions : List ℕ) → IsRankOrder ranks order → length order ≤ n
+    → Placed order n positions
     → ArePositions order positions
 placed_all ranks order n positions o h p = record {
   size = p.size;
   position = λ k below. (inside_order ranks order o k below, p.placed k (omega arith));
   node = λ a below. (
       let at = (among_all order (length order) a refl).0 ((o.whole a).1 (omega (arith, below, o.size))) in
-      let same : get_or positions a 0 ≡ at.0 = ap (λ i. get_or positions i 0) (sym at.2) ∙ p.placed at.0 (omega (arith, at.1, h)) in
+      let same : get_or positions a 0 ≡ at.0 = ap (λ i. get_or positions i 0) (sym at.2)
+        ∙ p.placed at.0 (omega (arith, at.1, h)) in
       (omega (arith, same, at.1), ap (node_at order) same ∙ at.2));
 }
 
@@ -94,12 +103,15 @@ map_members f xs j = (
       (get_or xs at.0 0, Contains-get_or xs at.0 0 inside, sym (get_or-map f xs at.0 0 0 inside) ∙ at.2)),
   λ w. (let at = (among_all xs (length xs) w.0 refl).0 w.1 in
       let len : length (map f xs) ≡ length xs = grind (arith, common_steps) in
-      (among_all (map f xs) (length (map f xs)) j refl).1 (at.0, omega (arith, at.1, len), get_or-map f xs at.0 0 0 at.1 ∙ ap f at.2 ∙ w.2)),
+      (among_all (map f xs) (length (map f xs)) j refl).1
+        (at.0, omega (arith, at.1, len), get_or-map f xs at.0 0 0 at.1 ∙ ap f at.2 ∙ w.2)),
 )
 
-pub positions_members : (positions nodes row : List ℕ) → row ≡ map (λ b. get_or positions b 0) nodes → (j : ℕ) → Contains row j ↔ HasPosition positions nodes j
+pub positions_members : (positions nodes row : List ℕ) → row ≡ map (λ b. get_or positions b 0) nodes → (j : ℕ)
+    → Contains row j ↔ HasPosition positions nodes j
 positions_members positions nodes row e j =
-    subst (λ (xs : List ℕ). Contains xs j ↔ HasPosition positions nodes j) (sym e) (map_members (λ b. get_or positions b 0) nodes j)
+    subst (λ (xs : List ℕ). Contains xs j ↔ HasPosition positions nodes j) (sym e)
+      (map_members (λ b. get_or positions b 0) nodes j)
 
 -- rows of the first n positions
 pub record Rowed (g : Graph) (order positions : List ℕ) (n : ℕ) (rows : Graph) : Type 0 where
@@ -107,32 +119,42 @@ pub record Rowed (g : Graph) (order positions : List ℕ) (n : ℕ) (rows : Grap
   pub rowed : (k j : ℕ) → Edge rows k j ↔ ((k < n) × HasPosition positions (successors g (node_at order k)) j)
 
 rowed_to : (g : Graph) (order positions : List ℕ) (n k j : ℕ) (E : Type 0) (row : List ℕ)
-    → (E → (k < n) × HasPosition positions (successors g (node_at order k)) j) → (Contains row j → HasPosition positions (successors g (node_at order n)) j)
+    → (E → (k < n) × HasPosition positions (successors g (node_at order k)) j)
+    → (Contains row j → HasPosition positions (successors g (node_at order n)) j)
     → E ⊎ ((k ≡ n) × Contains row j) → (k < n + 1) × HasPosition positions (successors g (node_at order k)) j
 rowed_to g order positions n k j E row f h (inl e) = let w = f e in (omega (arith, w.0), w.1)
-rowed_to g order positions n k j E row f h (inr (e, w)) = (omega arith, subst (λ i. HasPosition positions (successors g (node_at order i)) j) (sym e) (h w))
+rowed_to g order positions n k j E row f h (inr (e, w)) =
+    (omega arith, subst (λ i. HasPosition positions (successors g (node_at order i)) j) (sym e) (h w))
 
 rowed_from : (g : Graph) (order positions : List ℕ) (n k j : ℕ) (E : Type 0) (row : List ℕ)
-    → ((k < n) × HasPosition positions (successors g (node_at order k)) j → E) → (HasPosition positions (successors g (node_at order n)) j → Contains row j)
-    → (k < n) ⊎ (n ≤ k) → (k < n + 1) × HasPosition positions (successors g (node_at order k)) j → E ⊎ ((k ≡ n) × Contains row j)
+    → ((k < n) × HasPosition positions (successors g (node_at order k)) j → E)
+    → (HasPosition positions (successors g (node_at order n)) j → Contains row j)
+    → (k < n) ⊎ (n ≤ k) → (k < n + 1) × HasPosition positions (successors g (node_at order k)) j
+    → E ⊎ ((k ≡ n) × Contains row j)
 rowed_from g order positions n k j E row f h (inl less) w = inl (f (less, w.1))
 rowed_from g order positions n k j E row f h (inr over) w =
-    let e : k ≡ n = omega (arith, w.0, over) in inr (e, h (subst (λ i. HasPosition positions (successors g (node_at order i)) j) e w.1))
+    let e : k ≡ n = omega (arith, w.0, over) in
+    inr (e, h (subst (λ i. HasPosition positions (successors g (node_at order i)) j) e w.1))
 
-pub rowed_more : (g : Graph) (order positions : List ℕ) (n : ℕ) (rows new : Graph) (row nodes : List ℕ) → new ≡ rows ++ row ∷ []
-    → nodes ≡ successors g (node_at order n) → ((j : ℕ) → Contains row j ↔ HasPosition positions nodes j) → Rowed g order positions n rows
+pub rowed_more : (g : Graph) (order positions : List ℕ) (n : ℕ) (rows new : Graph) (row nodes : List ℕ)
+    → new ≡ rows ++ row ∷ []
+    → nodes ≡ successors g (node_at order n) → ((j : ℕ) → Contains row j ↔ HasPosition positions nodes j)
+    → Rowed g order positions n rows
     → Rowed g order positions (n + 1) new
 rowed_more g order positions n rows new row nodes e is members r =
     let members' : (j : ℕ) → Contains row j ↔ HasPosition positions (successors g (node_at order n)) j =
     subst (λ (xs : List ℕ). (j : ℕ) → Contains row j ↔ HasPosition positions xs j) is members in
     let push : (k j : ℕ) → Edge new k j ↔ (Edge rows k j ⊎ ((k ≡ n) × Contains row j)) =
     λ k j. subst (λ (h : Graph). Edge h k j ↔ (Edge rows k j ⊎ ((k ≡ n) × Contains row j))) (sym e)
-    (subst (λ m. Edge (rows ++ row ∷ []) k j ↔ (Edge rows k j ⊎ ((k ≡ m) × Contains row j))) r.size (edge_push rows row k j)) in
+    (subst (λ m. Edge (rows ++ row ∷ []) k j ↔ (Edge rows k j ⊎ ((k ≡ m) × Contains row j))) r.size
+      (edge_push rows row k j)) in
     record {
-      size = (let more : length (rows ++ row ∷ []) ≡ length rows + 1 = grind (arith, common_steps) in ap length e ∙ more ∙ omega (arith, r.size));
+      size = (let more : length (rows ++ row ∷ []) ≡ length rows + 1 = grind (arith, common_steps) in
+          ap length e ∙ more ∙ omega (arith, r.size));
       rowed = λ k j. (
         λ edge. rowed_to g order positions n k j (Edge rows k j) row (r.rowed k j).0 (members' j).0 ((push k j).0 edge),
-        λ w. (push k j).1 (rowed_from g order positions n k j (Edge rows k j) row (r.rowed k j).1 (members' j).1 (cases_lt k n) w),
+        λ w. (push k j).1 (rowed_from g order positions n k j (Edge rows k j) row (r.rowed k j).1 (members' j).1
+          (cases_lt k n) w),
       );
     }
 
@@ -142,7 +164,8 @@ edges_to g order positions k j p within (b, edge, is) =
     let same : node_at order j ≡ b = ap (node_at order) (sym is) ∙ (p.node b (within (node_at order k) b edge)).1 in
     subst (Contains (successors g (node_at order k))) (sym same) edge
 
-pub rowed_all : (g : Graph) (order positions : List ℕ) (n : ℕ) (rows : Graph) → n ≡ length order → length g ≡ length order → IsWithin g (length g)
+pub rowed_all : (g : Graph) (order positions : List ℕ) (n : ℕ) (rows : Graph) → n ≡ length order
+    → length g ≡ length order → IsWithin g (length g)
     → ArePositions order positions → Rowed g order positions n rows → IsRenumbered g order rows
 rowed_all g order positions n rows e len within p r =
     let inside : IsWithin g (length order) = λ a b edge. (let below = within a b edge in omega (arith, below, len)) in
@@ -161,7 +184,8 @@ rowed_all g order positions n rows e len within p r =
 -- ---- what is renumbered
 
 -- where edges go to smaller ranks, they fall between positions
-falls_case : (ranks order : List ℕ) (k j : ℕ) → IsRankOrder ranks order → k < length order → rank_in ranks (node_at order j) < rank_in ranks (node_at order k)
+falls_case : (ranks order : List ℕ) (k j : ℕ) → IsRankOrder ranks order → k < length order
+    → rank_in ranks (node_at order j) < rank_in ranks (node_at order k)
     → (j < k) ⊎ (k ≤ j) → j < length order → j < k
 falls_case ranks order k j o h less (inl is) inside = is
 falls_case ranks order k j o h less (inr over) inside = elim (cases_eq k j) [
@@ -170,24 +194,30 @@ falls_case ranks order k j o h less (inr over) inside = elim (cases_eq k j) [
       elim before [ inl rises ↦ omega (arith, rises, less) | inr level ↦ omega (arith, level.0, less) ])
 ]
 
-pub renumbered_falls : (g h : Graph) (ranks order : List ℕ) (rows : Graph) → IsRanked g ranks → IsRankOrder ranks order → ((a b : ℕ) → Edge h a b → Edge g a b)
+pub renumbered_falls : (g h : Graph) (ranks order : List ℕ) (rows : Graph) → IsRanked g ranks → IsRankOrder ranks order
+    → ((a b : ℕ) → Edge h a b → Edge g a b)
     → IsRenumbered h order rows → IsFalling rows
 renumbered_falls g h ranks order rows ranked o sub r k j edge =
     let hk : k < length order = (let below = edge_below rows k j edge in omega (arith, below, r.size)) in
     let hj = r.within k j edge in
-    let less = ranked.above (node_at order k) (node_at order j) (sub (node_at order k) (node_at order j) ((r.edges k j hk hj).0 edge)) in
+    let less = ranked.above (node_at order k) (node_at order j)
+      (sub (node_at order k) (node_at order j) ((r.edges k j hk hj).0 edge)) in
     falls_case ranks order k j o hk less (cases_lt j k) hj
 
 -- ways between positions are ways between nodes
-pub ways_to : (g : Graph) (order : List ℕ) (rows : Graph) → IsRenumbered g order rows → (j k : ℕ) → Leads (Edge rows) j k
+pub ways_to : (g : Graph) (order : List ℕ) (rows : Graph) → IsRenumbered g order rows → (j k : ℕ)
+    → Leads (Edge rows) j k
     → Leads (Edge g) (node_at order j) (node_at order k)
 ways_to g order rows r j _ here = here
 ways_to g order rows r j _ (through k i edge more) =
     let hk : k < length order = (let below = edge_below rows k i edge in omega (arith, below, r.size)) in
-    through (node_at order k) (node_at order i) ((r.edges k i hk (r.within k i edge)).0 edge) (ways_to g order rows r j i more)
+    through (node_at order k) (node_at order i) ((r.edges k i hk (r.within k i edge)).0 edge)
+      (ways_to g order rows r j i more)
 
-pub ways_from : (g : Graph) (order positions : List ℕ) (rows : Graph) → ArePositions order positions → length g ≡ length order → IsWithin g (length g)
-    → IsRenumbered g order rows → (c a : ℕ) → a < length order → Leads (Edge g) c a → Leads (Edge rows) (get_or positions c 0) (get_or positions a 0)
+pub ways_from : (g : Graph) (order positions : List ℕ) (rows : Graph) → ArePositions order positions
+    → length g ≡ length order → IsWithin g (length g)
+    → IsRenumbered g order rows → (c a : ℕ) → a < length order → Leads (Edge g) c a
+    → Leads (Edge rows) (get_or positions c 0) (get_or positions a 0)
 ways_from g order positions rows p len within r c _ h here = here
 ways_from g order positions rows p len within r c _ h (through a b edge more) =
     let hb : b < length order = (let below = within a b edge in omega (arith, below, len)) in
@@ -195,11 +225,14 @@ ways_from g order positions rows p len within r c _ h (through a b edge more) =
     let pb = p.node b hb in
     let edge' : Edge g (node_at order (get_or positions a 0)) (node_at order (get_or positions b 0)) =
     subst (λ x. Edge g x (node_at order (get_or positions b 0))) (sym pa.1) (subst (Edge g a) (sym pb.1) edge) in
-    through (get_or positions a 0) (get_or positions b 0) ((r.edges (get_or positions a 0) (get_or positions b 0) pa.0 pb.0).1 edge')
+    through (get_or positions a 0) (get_or positions b 0)
+      ((r.edges (get_or positions a 0) (get_or positions b 0) pa.0 pb.0).1 edge')
     (ways_from g order positions rows p len within r c b hb more)
 
-pub members_moved : (positions nodes row sorted turned : List ℕ) → IsPermutation row sorted → IsPermutation sorted turned
-    → ((j : ℕ) → Contains row j ↔ HasPosition positions nodes j) → (j : ℕ) → Contains turned j ↔ HasPosition positions nodes j
+pub members_moved : (positions nodes row sorted turned : List ℕ) → IsPermutation row sorted
+    → IsPermutation sorted turned
+    → ((j : ℕ) → Contains row j ↔ HasPosition positions nodes j) → (j : ℕ)
+    → Contains turned j ↔ HasPosition positions nodes j
 members_moved positions nodes row sorted turned first second members j = (
   λ w. (members j).0 (Contains-permutation sorted row j (IsPermutation-sym row sorted first)
       (Contains-permutation turned sorted j (IsPermutation-sym sorted turned second) w)),

@@ -16,7 +16,8 @@ use Rattle.digraph.proofs.Visiting.{no_position, push_iff}
 -- ---- one row
 
 -- a row that is passed whole
-pub passed_all : (g : Graph) (marks : List Bool) (a n : ℕ) → n ≡ length (successors g a) → IsPassed marks (successors g a) n → AllMarked g marks a
+pub passed_all : (g : Graph) (marks : List Bool) (a n : ℕ) → n ≡ length (successors g a)
+    → IsPassed marks (successors g a) n → AllMarked g marks a
 passed_all g marks a n whole p b edge =
     let at = (among_all (successors g a) n b whole).0 edge in
     subst (IsMarked marks) at.2 (p.prefix at.0 at.1)
@@ -25,28 +26,34 @@ passed_all g marks a n whole p b edge =
 abbrev pub HasUnmarked : Graph → List Bool → ℕ → Type 0
 HasUnmarked g marks a = (b : ℕ) × Edge g a b × (IsMarked marks b → ⊥)
 
-unmarked_at : (g : Graph) (marks : List Bool) (a n : ℕ) → (n ≡ length (successors g a) → ⊥) → Stops marks (successors g a) n → HasUnmarked g marks a
+unmarked_at : (g : Graph) (marks : List Bool) (a n : ℕ) → (n ≡ length (successors g a) → ⊥)
+    → Stops marks (successors g a) n → HasUnmarked g marks a
 unmarked_at g marks a n part (inl whole) = absurd (part whole)
 unmarked_at g marks a n part (inr (h, out)) = (get_or (successors g a) n 0, Contains-get_or (successors g a) n 0 h, out)
 
 -- a row that is not passed whole
-pub stopped : (g : Graph) (marks : List Bool) (a n : ℕ) → (n ≡ length (successors g a) → ⊥) → Stops marks (successors g a) n → AllMarked g marks a → ⊥
+pub stopped : (g : Graph) (marks : List Bool) (a n : ℕ) → (n ≡ length (successors g a) → ⊥)
+    → Stops marks (successors g a) n → AllMarked g marks a → ⊥
 stopped g marks a n part stops all = let at = unmarked_at g marks a n part stops in at.2 (all at.0 at.1)
 
-known_mark : (marks : List Bool) (a : ℕ) → a < length marks → (b : Bool) → get_or marks a false ≡ b → IsMarked marks a ⊎ (IsMarked marks a → ⊥)
+known_mark : (marks : List Bool) (a : ℕ) → a < length marks → (b : Bool) → get_or marks a false ≡ b
+    → IsMarked marks a ⊎ (IsMarked marks a → ⊥)
 known_mark marks a h true e = inl (h, e)
 known_mark marks a h false e = inr (λ m. false≢true (sym e ∙ m.1))
 
-inside_cases : (marks : List Bool) (a : ℕ) → (a < length marks) ⊎ (length marks ≤ a) → IsMarked marks a ⊎ (IsMarked marks a → ⊥)
+inside_cases : (marks : List Bool) (a : ℕ) → (a < length marks) ⊎ (length marks ≤ a)
+    → IsMarked marks a ⊎ (IsMarked marks a → ⊥)
 inside_cases marks a (inl h) = known_mark marks a h (get_or marks a false) refl
 inside_cases marks a (inr h) = inr (λ m. no_position 0 (omega (arith, h, m.0)))
 
 pub mark_cases : (marks : List Bool) (a : ℕ) → IsMarked marks a ⊎ (IsMarked marks a → ⊥)
 mark_cases marks a = inside_cases marks a (cases_lt a (length marks))
 
-prefix_more : (marks : List Bool) (xs : List ℕ) (n : ℕ) → IsMarked marks (get_or xs n 0) → ((c : ℕ) → Among xs n c → IsMarked marks c) → (c : ℕ)
+prefix_more : (marks : List Bool) (xs : List ℕ) (n : ℕ) → IsMarked marks (get_or xs n 0)
+    → ((c : ℕ) → Among xs n c → IsMarked marks c) → (c : ℕ)
     → Among xs (n + 1) c → IsMarked marks c
-prefix_more marks xs n here all c w = elim ((among_more xs n c).0 w) [ inl more ↦ all c more | inr is ↦ subst (IsMarked marks) is here ]
+prefix_more marks xs n here all c w =
+    elim ((among_more xs n c).0 w) [ inl more ↦ all c more | inr is ↦ subst (IsMarked marks) is here ]
 
 -- the first n are marked, or one of the nodes is not
 prefix_cases : (marks : List Bool) (xs : List ℕ) (n : ℕ) → n ≤ length xs
@@ -71,7 +78,8 @@ row_cases g marks a =
 
 -- ---- nodes that get a rank
 
-pub record Settled (nodes : List ℕ) (rank : ℕ) (old : List Bool) (before : List ℕ) (n : ℕ) (marks : List Bool) (ranks : List ℕ) : Type 0 where
+pub record Settled (nodes : List ℕ) (rank : ℕ) (old : List Bool) (before : List ℕ) (n : ℕ) (marks : List Bool)
+    (ranks : List ℕ) : Type 0 where
   pub room : (k : ℕ) → k < length nodes → (get_or nodes k 0 < length marks) × (get_or nodes k 0 < length ranks)
   pub marked : (c : ℕ) → IsMarked marks c ↔ (IsMarked old c ⊎ Among nodes n c)
   pub ranked : (c : ℕ) → Among nodes n c → rank_in ranks c ≡ rank
@@ -81,7 +89,8 @@ none_among : (old : List Bool) (nodes : List ℕ) (c : ℕ) → IsMarked old c �
 none_among old nodes c (inl m) = m
 none_among old nodes c (inr w) = absurd (no_position w.0 w.1)
 
-pub settled_none : (nodes : List ℕ) (rank : ℕ) (marks : List Bool) (ranks : List ℕ) → ((c : ℕ) → Contains nodes c → (c < length marks) × (c < length ranks))
+pub settled_none : (nodes : List ℕ) (rank : ℕ) (marks : List Bool) (ranks : List ℕ)
+    → ((c : ℕ) → Contains nodes c → (c < length marks) × (c < length ranks))
     → Settled nodes rank marks ranks 0 marks ranks
 settled_none nodes rank marks ranks room = record {
   room = λ k h. room (get_or nodes k 0) (Contains-get_or nodes k 0 h);
@@ -90,67 +99,85 @@ settled_none nodes rank marks ranks room = record {
   others = λ c out. refl;
 }
 
-ranked_case : (nodes : List ℕ) (rank n : ℕ) (ranks : List ℕ) (c : ℕ) → get_or nodes n 0 < length ranks → ((c : ℕ) → Among nodes n c → rank_in ranks c ≡ rank)
-    → (c ≡ get_or nodes n 0) ⊎ (c ≢ get_or nodes n 0) → Among nodes (n + 1) c → rank_in (set ranks (get_or nodes n 0) rank) c ≡ rank
+ranked_case : (nodes : List ℕ) (rank n : ℕ) (ranks : List ℕ) (c : ℕ) → get_or nodes n 0 < length ranks
+    → ((c : ℕ) → Among nodes n c → rank_in ranks c ≡ rank)
+    → (c ≡ get_or nodes n 0) ⊎ (c ≢ get_or nodes n 0) → Among nodes (n + 1) c
+    → rank_in (set ranks (get_or nodes n 0) rank) c ≡ rank
 ranked_case nodes rank n ranks c h old (inl same) w =
     ap (λ i. get_or (set ranks (get_or nodes n 0) rank) i 0) same ∙ get_or-set_same ranks (get_or nodes n 0) rank 0 h
 ranked_case nodes rank n ranks c h old (inr other) w =
-    get_or-set_other ranks (get_or nodes n 0) c rank 0 other ∙ elim ((among_more nodes n c).0 w) [ inl more ↦ old c more | inr is ↦ absurd (other (sym is)) ]
+    get_or-set_other ranks (get_or nodes n 0) c rank 0 other
+      ∙ elim ((among_more nodes n c).0 w) [ inl more ↦ old c more | inr is ↦ absurd (other (sym is)) ]
 
-others_case : (nodes : List ℕ) (rank n : ℕ) (ranks before : List ℕ) (c : ℕ) → ((c : ℕ) → (Among nodes n c → ⊥) → rank_in ranks c ≡ rank_in before c)
+others_case : (nodes : List ℕ) (rank n : ℕ) (ranks before : List ℕ) (c : ℕ)
+    → ((c : ℕ) → (Among nodes n c → ⊥) → rank_in ranks c ≡ rank_in before c)
     → (Among nodes (n + 1) c → ⊥) → rank_in (set ranks (get_or nodes n 0) rank) c ≡ rank_in before c
 others_case nodes rank n ranks before c old out =
     let other : c ≢ get_or nodes n 0 = λ same. out ((among_more nodes n c).1 (inr (sym same))) in
     get_or-set_other ranks (get_or nodes n 0) c rank 0 other ∙ old c (λ w. out ((among_more nodes n c).1 (inl w)))
 
-pub settled_more : (nodes : List ℕ) (rank : ℕ) (old : List Bool) (before : List ℕ) (n : ℕ) (marks : List Bool) (ranks : List ℕ) → n < length nodes
-    → Settled nodes rank old before n marks ranks → Settled nodes rank old before (n + 1) (set marks (get_or nodes n 0) true)
+pub settled_more : (nodes : List ℕ) (rank : ℕ) (old : List Bool) (before : List ℕ) (n : ℕ) (marks : List Bool)
+    (ranks : List ℕ) → n < length nodes
+    → Settled nodes rank old before n marks ranks
+    → Settled nodes rank old before (n + 1) (set marks (get_or nodes n 0) true)
     (set ranks (get_or nodes n 0) rank)
 settled_more nodes rank old before n marks ranks h s =
     let p = get_or nodes n 0 in
     record {
-      room = λ k inside. (let room = s.room k inside in (omega (arith, room.0, length-set marks p true), omega (arith, room.1, length-set ranks p rank)));
+      room = λ k inside. (let room = s.room k inside in
+          (omega (arith, room.0, length-set marks p true), omega (arith, room.1, length-set ranks p rank)));
       marked = λ c. joined_step (mark_one marks p c (s.room n h).0) (s.marked c) (among_more nodes n c);
       ranked = λ c. ranked_case nodes rank n ranks c (s.room n h).1 s.ranked (cases_eq c p);
       others = λ c. others_case nodes rank n ranks before c s.others;
     }
 
-pub settled_marks : (nodes : List ℕ) (rank : ℕ) (old : List Bool) (before : List ℕ) (n : ℕ) (marks : List Bool) (ranks : List ℕ) → n ≡ length nodes
+pub settled_marks : (nodes : List ℕ) (rank : ℕ) (old : List Bool) (before : List ℕ) (n : ℕ) (marks : List Bool)
+    (ranks : List ℕ) → n ≡ length nodes
     → Settled nodes rank old before n marks ranks → (c : ℕ) → IsMarked marks c ↔ (IsMarked old c ⊎ Contains nodes c)
 settled_marks nodes rank old before n marks ranks e s c = joined_end (s.marked c) (among_all nodes n c e)
 
-pub settled_ranks : (nodes : List ℕ) (rank : ℕ) (old : List Bool) (before : List ℕ) (n : ℕ) (marks : List Bool) (ranks : List ℕ) → n ≡ length nodes
+pub settled_ranks : (nodes : List ℕ) (rank : ℕ) (old : List Bool) (before : List ℕ) (n : ℕ) (marks : List Bool)
+    (ranks : List ℕ) → n ≡ length nodes
     → Settled nodes rank old before n marks ranks → (c : ℕ) → Contains nodes c → rank_in ranks c ≡ rank
 settled_ranks nodes rank old before n marks ranks e s c w = s.ranked c ((among_all nodes n c e).0 w)
 
-pub settled_others : (nodes : List ℕ) (rank : ℕ) (old : List Bool) (before : List ℕ) (n : ℕ) (marks : List Bool) (ranks : List ℕ) → n ≡ length nodes
-    → Settled nodes rank old before n marks ranks → (c : ℕ) → (Contains nodes c → ⊥) → rank_in ranks c ≡ rank_in before c
+pub settled_others : (nodes : List ℕ) (rank : ℕ) (old : List Bool) (before : List ℕ) (n : ℕ) (marks : List Bool)
+    (ranks : List ℕ) → n ≡ length nodes
+    → Settled nodes rank old before n marks ranks → (c : ℕ) → (Contains nodes c → ⊥)
+    → rank_in ranks c ≡ rank_in before c
 settled_others nodes rank old before n marks ranks e s c out = s.others c (λ w. out ((among_all nodes n c e).1 w))
 
 -- ---- what is passed
 
-pub passed_none : (g : Graph) (marks : List Bool) (passed : List ℕ) → length passed ≡ length g → ((a : ℕ) → get_or passed a 0 ≡ 0) → ArePassed g marks passed
+pub passed_none : (g : Graph) (marks : List Bool) (passed : List ℕ) → length passed ≡ length g
+    → ((a : ℕ) → get_or passed a 0 ≡ 0) → ArePassed g marks passed
 passed_none g marks passed size zeros = record {
   size = size;
-  each = λ a. record { inside = omega (arith, zeros a); prefix = λ k h. absurd (no_position k (omega (arith, h, zeros a))) };
+  each = λ a. record { inside = omega (arith, zeros a);
+      prefix = λ k h. absurd (no_position k (omega (arith, h, zeros a))) };
 }
 
 -- marks that are added take nothing away
-pub passed_grows : (g : Graph) (marks new : List Bool) (passed : List ℕ) → ((c : ℕ) → IsMarked marks c → IsMarked new c) → ArePassed g marks passed
+pub passed_grows : (g : Graph) (marks new : List Bool) (passed : List ℕ) → ((c : ℕ) → IsMarked marks c → IsMarked new c)
+    → ArePassed g marks passed
     → ArePassed g new passed
 passed_grows g marks new passed f p = record {
   size = p.size;
-  each = λ a. record { inside = (p.each a).inside; prefix = λ k h. f (get_or (successors g a) k 0) ((p.each a).prefix k h) };
+  each = λ a. record { inside = (p.each a).inside;
+      prefix = λ k h. f (get_or (successors g a) k 0) ((p.each a).prefix k h) };
 }
 
-set_case : (g : Graph) (marks : List Bool) (passed : List ℕ) (p n a : ℕ) → p < length passed → IsPassed marks (successors g p) n → ArePassed g marks passed
+set_case : (g : Graph) (marks : List Bool) (passed : List ℕ) (p n a : ℕ) → p < length passed
+    → IsPassed marks (successors g p) n → ArePassed g marks passed
     → (a ≡ p) ⊎ (a ≢ p) → IsPassed marks (successors g a) (get_or (set passed p n) a 0)
-set_case g marks passed p n a h row old (inl same) = subst (λ (i : ℕ). IsPassed marks (successors g i) (get_or (set passed p n) i 0)) (sym same)
+set_case g marks passed p n a h row old (inl same) =
+    subst (λ (i : ℕ). IsPassed marks (successors g i) (get_or (set passed p n) i 0)) (sym same)
     (subst (IsPassed marks (successors g p)) (sym (get_or-set_same passed p n 0 h)) row)
 set_case g marks passed p n a h row old (inr other) =
     subst (IsPassed marks (successors g a)) (sym (get_or-set_other passed p a n 0 other)) (old.each a)
 
-pub passed_set : (g : Graph) (marks : List Bool) (passed : List ℕ) (p n : ℕ) → p < length passed → IsPassed marks (successors g p) n → ArePassed g marks passed
+pub passed_set : (g : Graph) (marks : List Bool) (passed : List ℕ) (p n : ℕ) → p < length passed
+    → IsPassed marks (successors g p) n → ArePassed g marks passed
     → ArePassed g marks (set passed p n)
 passed_set g marks passed p n h row old = record {
   size = length-set passed p n ∙ old.size;
@@ -164,11 +191,13 @@ pub record Appending (g : Graph) (marks : List Bool) (nodes old : List ℕ) (n :
   pub are : ArePassed g marks passed
   pub added : (a : ℕ) → Contains ready a ↔ (Contains old a ⊎ (Among nodes n a × AllMarked g marks a))
 
-none_ready : (g : Graph) (marks : List Bool) (nodes old : List ℕ) (a : ℕ) → Contains old a ⊎ (Among nodes 0 a × AllMarked g marks a) → Contains old a
+none_ready : (g : Graph) (marks : List Bool) (nodes old : List ℕ) (a : ℕ)
+    → Contains old a ⊎ (Among nodes 0 a × AllMarked g marks a) → Contains old a
 none_ready g marks nodes old a (inl w) = w
 none_ready g marks nodes old a (inr w) = absurd (no_position w.0.0 w.0.1)
 
-pub appending_none : (g : Graph) (marks : List Bool) (nodes old passed : List ℕ) → ((a : ℕ) → Contains nodes a → a < length g) → ArePassed g marks passed
+pub appending_none : (g : Graph) (marks : List Bool) (nodes old passed : List ℕ)
+    → ((a : ℕ) → Contains nodes a → a < length g) → ArePassed g marks passed
     → Appending g marks nodes old 0 passed old
 appending_none g marks nodes old passed room are = record {
   room = λ k h. (let below = room (get_or nodes k 0) (Contains-get_or nodes k 0 h) in omega (arith, below, are.size));
@@ -176,7 +205,8 @@ appending_none g marks nodes old passed room are = record {
   added = λ a. (λ w. inl w, none_ready g marks nodes old a);
 }
 
-ready_to : (g : Graph) (marks : List Bool) (nodes : List ℕ) (n a : ℕ) → AllMarked g marks (get_or nodes n 0) → Among nodes (n + 1) a × AllMarked g marks a
+ready_to : (g : Graph) (marks : List Bool) (nodes : List ℕ) (n a : ℕ) → AllMarked g marks (get_or nodes n 0)
+    → Among nodes (n + 1) a × AllMarked g marks a
     → (Among nodes n a × AllMarked g marks a) ⊎ (get_or nodes n 0 ≡ a)
 ready_to g marks nodes n a all (w, m) = elim ((among_more nodes n a).0 w) [ inl more ↦ inl (more, m) | inr is ↦ inr is ]
 
@@ -185,35 +215,46 @@ ready_from : (g : Graph) (marks : List Bool) (nodes : List ℕ) (n a : ℕ) → 
 ready_from g marks nodes n a all (inl (w, m)) = ((among_more nodes n a).1 (inl w), m)
 ready_from g marks nodes n a all (inr is) = ((among_more nodes n a).1 (inr is), subst (AllMarked g marks) is all)
 
-pub appending_push : (g : Graph) (marks : List Bool) (nodes old : List ℕ) (n k : ℕ) (passed new ready ys : List ℕ) → n < length nodes
-    → IsPassed marks (successors g (get_or nodes n 0)) k → AllMarked g marks (get_or nodes n 0) → new ≡ set passed (get_or nodes n 0) k
-    → ys ≡ ready ++ get_or nodes n 0 ∷ [] → Appending g marks nodes old n passed ready → Appending g marks nodes old (n + 1) new ys
+pub appending_push : (g : Graph) (marks : List Bool) (nodes old : List ℕ) (n k : ℕ) (passed new ready ys : List ℕ)
+    → n < length nodes
+    → IsPassed marks (successors g (get_or nodes n 0)) k → AllMarked g marks (get_or nodes n 0)
+    → new ≡ set passed (get_or nodes n 0) k
+    → ys ≡ ready ++ get_or nodes n 0 ∷ [] → Appending g marks nodes old n passed ready
+    → Appending g marks nodes old (n + 1) new ys
 appending_push g marks nodes old n k passed new ready ys h row all new_is ys_is v =
     let p = get_or nodes n 0 in
     rw (new_is, ys_is) (record {
       room = λ j inside. (let room = v.room j inside in omega (arith, room, length-set passed p k));
       are = passed_set g marks passed p k (v.room n h) row v.are;
-      added = λ a. joined_step (push_iff ready p a) (v.added a) (ready_to g marks nodes n a all, ready_from g marks nodes n a all);
+      added = λ a. joined_step (push_iff ready p a) (v.added a)
+          (ready_to g marks nodes n a all, ready_from g marks nodes n a all);
     })
 
-later_to : (g : Graph) (marks : List Bool) (nodes : List ℕ) (n a : ℕ) → (AllMarked g marks (get_or nodes n 0) → ⊥) → Among nodes (n + 1) a × AllMarked g marks a
+later_to : (g : Graph) (marks : List Bool) (nodes : List ℕ) (n a : ℕ) → (AllMarked g marks (get_or nodes n 0) → ⊥)
+    → Among nodes (n + 1) a × AllMarked g marks a
     → Among nodes n a × AllMarked g marks a
 later_to g marks nodes n a part (w, m) =
-    elim ((among_more nodes n a).0 w) [ inl more ↦ (more, m) | inr is ↦ absurd (part (subst (AllMarked g marks) (sym is) m)) ]
+    elim ((among_more nodes n a).0 w) [ inl more ↦ (more, m)
+      | inr is ↦ absurd (part (subst (AllMarked g marks) (sym is) m)) ]
 
-pub appending_skip : (g : Graph) (marks : List Bool) (nodes old : List ℕ) (n k : ℕ) (passed new ready ys : List ℕ) → n < length nodes
-    → IsPassed marks (successors g (get_or nodes n 0)) k → (AllMarked g marks (get_or nodes n 0) → ⊥) → new ≡ set passed (get_or nodes n 0) k → ys ≡ ready
+pub appending_skip : (g : Graph) (marks : List Bool) (nodes old : List ℕ) (n k : ℕ) (passed new ready ys : List ℕ)
+    → n < length nodes
+    → IsPassed marks (successors g (get_or nodes n 0)) k → (AllMarked g marks (get_or nodes n 0) → ⊥)
+    → new ≡ set passed (get_or nodes n 0) k → ys ≡ ready
     → Appending g marks nodes old n passed ready → Appending g marks nodes old (n + 1) new ys
 appending_skip g marks nodes old n k passed new ready ys h row part new_is ys_is v =
     let p = get_or nodes n 0 in
     rw (new_is, ys_is) (record {
       room = λ j inside. (let room = v.room j inside in omega (arith, room, length-set passed p k));
       are = passed_set g marks passed p k (v.room n h) row v.are;
-      added = λ a. joined_end (v.added a) (later_to g marks nodes n a part, λ w. ((among_more nodes n a).1 (inl w.0), w.1));
+      added = λ a. joined_end (v.added a) (later_to g marks nodes n a part,
+          λ w. ((among_more nodes n a).1 (inl w.0), w.1));
     })
 
-pub appending_all : (g : Graph) (marks : List Bool) (nodes old : List ℕ) (n : ℕ) (passed ready : List ℕ) → n ≡ length nodes
-    → Appending g marks nodes old n passed ready → (a : ℕ) → Contains ready a ↔ (Contains old a ⊎ (Contains nodes a × AllMarked g marks a))
+pub appending_all : (g : Graph) (marks : List Bool) (nodes old : List ℕ) (n : ℕ) (passed ready : List ℕ)
+    → n ≡ length nodes
+    → Appending g marks nodes old n passed ready → (a : ℕ)
+    → Contains ready a ↔ (Contains old a ⊎ (Contains nodes a × AllMarked g marks a))
 appending_all g marks nodes old n passed ready e v a =
     let same = among_all nodes n a e in joined_end (v.added a) (λ w. (same.0 w.0, w.1), λ w. (same.1 w.0, w.1))
 
@@ -227,7 +268,8 @@ pub record Collecting (g : Graph) (marks : List Bool) (nodes : List ℕ) (n : �
   pub are : ArePassed g marks passed
   pub found : (a : ℕ) → Contains ready a ↔ (GoesAmong g nodes n a × AllMarked g marks a)
 
-pub collecting_none : (g : Graph) (marks : List Bool) (nodes passed ready : List ℕ) → ready ≡ [] → ArePassed g marks passed
+pub collecting_none : (g : Graph) (marks : List Bool) (nodes passed ready : List ℕ) → ready ≡ []
+    → ArePassed g marks passed
     → Collecting g marks nodes 0 passed ready
 collecting_none g marks nodes passed ready e are = rw e (record {
   are = are;
@@ -235,11 +277,14 @@ collecting_none g marks nodes passed ready e are = rw e (record {
 })
 
 collected_to : (g : Graph) (marks : List Bool) (nodes : List ℕ) (n a : ℕ)
-    → (GoesAmong g nodes n a × AllMarked g marks a) ⊎ (Edge g a (get_or nodes n 0) × AllMarked g marks a) → GoesAmong g nodes (n + 1) a × AllMarked g marks a
+    → (GoesAmong g nodes n a × AllMarked g marks a) ⊎ (Edge g a (get_or nodes n 0) × AllMarked g marks a)
+    → GoesAmong g nodes (n + 1) a × AllMarked g marks a
 collected_to g marks nodes n a (inl ((b, w, edge), m)) = ((b, (among_more nodes n b).1 (inl w), edge), m)
-collected_to g marks nodes n a (inr (edge, m)) = ((get_or nodes n 0, (among_more nodes n (get_or nodes n 0)).1 (inr refl), edge), m)
+collected_to g marks nodes n a (inr (edge, m)) =
+    ((get_or nodes n 0, (among_more nodes n (get_or nodes n 0)).1 (inr refl), edge), m)
 
-collected_from : (g : Graph) (marks : List Bool) (nodes : List ℕ) (n a : ℕ) → GoesAmong g nodes (n + 1) a × AllMarked g marks a
+collected_from : (g : Graph) (marks : List Bool) (nodes : List ℕ) (n a : ℕ)
+    → GoesAmong g nodes (n + 1) a × AllMarked g marks a
     → (GoesAmong g nodes n a × AllMarked g marks a) ⊎ (Edge g a (get_or nodes n 0) × AllMarked g marks a)
 collected_from g marks nodes n a ((b, w, edge), m) = elim ((among_more nodes n b).0 w) [
   | inl more ↦ inl ((b, more, edge), m)
@@ -248,12 +293,14 @@ collected_from g marks nodes n a ((b, w, edge), m) = elim ((among_more nodes n b
 
 pub collecting_more : (g turned : Graph) (marks : List Bool) (nodes row : List ℕ) (n : ℕ) (passed new ready ys : List ℕ)
     → ((b a : ℕ) → Edge turned b a ↔ Edge g a b) → row ≡ successors turned (get_or nodes n 0) → ArePassed g marks new
-    → ((a : ℕ) → Contains ys a ↔ (Contains ready a ⊎ (Contains row a × AllMarked g marks a))) → Collecting g marks nodes n passed ready
+    → ((a : ℕ) → Contains ys a ↔ (Contains ready a ⊎ (Contains row a × AllMarked g marks a)))
+    → Collecting g marks nodes n passed ready
     → Collecting g marks nodes (n + 1) new ys
 collecting_more g turned marks nodes row n passed new ready ys back e are added v =
     let p = get_or nodes n 0 in
     let step : (a : ℕ) → Contains ys a ↔ (Contains ready a ⊎ (Edge turned p a × AllMarked g marks a)) =
-    subst (λ (xs : List ℕ). (a : ℕ) → Contains ys a ↔ (Contains ready a ⊎ (Contains xs a × AllMarked g marks a))) e added in
+    subst (λ (xs : List ℕ). (a : ℕ) → Contains ys a ↔ (Contains ready a ⊎ (Contains xs a × AllMarked g marks a))) e
+      added in
     record {
       are = are;
       found = λ a. (
@@ -292,7 +339,9 @@ pub record Leaves (g : Graph) (n : ℕ) (leaves : List ℕ) : Type 0 where
   pub members : (a : ℕ) → Contains leaves a ↔ ((a < n) × IsLeaf g a)
 
 pub leaves_none : (g : Graph) (leaves : List ℕ) → leaves ≡ [] → Leaves g 0 leaves
-leaves_none g leaves e = rw e (record { rises = rises_none; members = λ a. (λ w. absurd (no_position w.0 w.1), λ w. absurd (no_position a w.0)) })
+leaves_none g leaves e =
+    rw e (record { rises = rises_none; members =
+    λ a. (λ w. absurd (no_position w.0 w.1), λ w. absurd (no_position a w.0)) })
 
 leaf_to : (g : Graph) (n a : ℕ) → IsLeaf g n → ((a < n) × IsLeaf g a) ⊎ (n ≡ a) → (a < n + 1) × IsLeaf g a
 leaf_to g n a leaf (inl (h, w)) = (omega arith, w)
@@ -302,20 +351,26 @@ below_cases : (n a : ℕ) → a < n + 1 → (a < n) ⊎ (n ≤ a) → (a < n) �
 below_cases n a h (inl less) = inl less
 below_cases n a h (inr over) = inr (omega arith)
 
-pub leaves_push : (g : Graph) (n : ℕ) (leaves ys : List ℕ) → IsLeaf g n → ys ≡ leaves ++ n ∷ [] → Leaves g n leaves → Leaves g (n + 1) ys
+pub leaves_push : (g : Graph) (n : ℕ) (leaves ys : List ℕ) → IsLeaf g n → ys ≡ leaves ++ n ∷ [] → Leaves g n leaves
+    → Leaves g (n + 1) ys
 leaves_push g n leaves ys leaf e v = rw e (record {
   rises = rises_push leaves n v.rises (λ a w. ((v.members a).0 w).0);
   members = λ a. (
-    λ w. leaf_to g n a leaf (elim ((push_iff leaves n a).0 w) [ inl old ↦ inl ((v.members a).0 old) | inr is ↦ inr is ]),
-    λ w. (push_iff leaves n a).1 (elim (below_cases n a w.0 (cases_lt a n)) [ inl less ↦ inl ((v.members a).1 (less, w.1)) | inr is ↦ inr is ]),
+    λ w. leaf_to g n a leaf
+      (elim ((push_iff leaves n a).0 w) [ inl old ↦ inl ((v.members a).0 old) | inr is ↦ inr is ]),
+    λ w. (push_iff leaves n a).1
+      (elim (below_cases n a w.0 (cases_lt a n)) [ inl less ↦ inl ((v.members a).1 (less, w.1)) | inr is ↦ inr is ]),
   );
 })
 
-pub leaves_skip : (g : Graph) (n : ℕ) (leaves ys : List ℕ) → (IsLeaf g n → ⊥) → ys ≡ leaves → Leaves g n leaves → Leaves g (n + 1) ys
+pub leaves_skip : (g : Graph) (n : ℕ) (leaves ys : List ℕ) → (IsLeaf g n → ⊥) → ys ≡ leaves → Leaves g n leaves
+    → Leaves g (n + 1) ys
 leaves_skip g n leaves ys inner e v = rw e (record {
   rises = v.rises;
   members = λ a. (
     λ w. (let old = (v.members a).0 w in (omega (arith, old.0), old.1)),
-    λ w. (v.members a).1 (elim (below_cases n a w.0 (cases_lt a n)) [ inl less ↦ (less, w.1) | inr is ↦ absurd (inner (subst (IsLeaf g) (sym is) w.1)) ]),
+    λ w. (v.members a).1
+      (elim (below_cases n a w.0 (cases_lt a n)) [ inl less ↦ (less, w.1)
+      | inr is ↦ absurd (inner (subst (IsLeaf g) (sym is) w.1)) ]),
   );
 })

@@ -12,8 +12,10 @@ use Rattle.digraph.specs.Marks.{Among}
 use Rattle.digraph.proofs.Visiting.{no_position}
 use Rattle.digraph.proofs.Marking.{among_more, among_all, joined_step, joined_end}
 
-pub row_items : (rows : List (Vec ℕ Global)) (k : ℕ) (v : Vec ℕ Global) → v ≡ get_or rows k v → k < length rows → v.items ≡ successors (graph_of rows) k
-row_items rows k v e h = ap (λ (x : Vec ℕ Global). x.items) e ∙ sym (get_or-map (λ (x : Vec ℕ Global). x.items) rows k v [] h)
+pub row_items : (rows : List (Vec ℕ Global)) (k : ℕ) (v : Vec ℕ Global) → v ≡ get_or rows k v → k < length rows
+    → v.items ≡ successors (graph_of rows) k
+row_items rows k v e h = ap (λ (x : Vec ℕ Global). x.items) e
+    ∙ sym (get_or-map (λ (x : Vec ℕ Global). x.items) rows k v [] h)
 
 pub no_items : (b : ℕ) → Contains {X = ℕ} [] b → ⊥
 no_items b (k, h, e) = omega arith
@@ -44,18 +46,21 @@ push_last g xs a b h =
 push_length : (g : Graph) (xs : List ℕ) → length (g ++ xs ∷ []) ≡ length g + 1
 push_length g xs = grind (arith, common_steps)
 
-push_to : (g : Graph) (xs : List ℕ) (a b : ℕ) → (a < length g) ⊎ (length g ≤ a) → Edge (g ++ xs ∷ []) a b → Edge g a b ⊎ ((a ≡ length g) × Contains xs b)
+push_to : (g : Graph) (xs : List ℕ) (a b : ℕ) → (a < length g) ⊎ (length g ≤ a) → Edge (g ++ xs ∷ []) a b
+    → Edge g a b ⊎ ((a ≡ length g) × Contains xs b)
 push_to g xs a b (inl h) edge = inl ((push_inside g xs a b h).0 edge)
 push_to g xs a b (inr h) edge =
     let below = edge_below (g ++ xs ∷ []) a b edge in
     let last : a ≡ length g = omega (arith, below, push_length g xs) in
     inr (last, (push_last g xs a b last).0 edge)
 
-push_from : (g : Graph) (xs : List ℕ) (a b : ℕ) → Edge g a b ⊎ ((a ≡ length g) × Contains xs b) → Edge (g ++ xs ∷ []) a b
+push_from : (g : Graph) (xs : List ℕ) (a b : ℕ) → Edge g a b ⊎ ((a ≡ length g) × Contains xs b)
+    → Edge (g ++ xs ∷ []) a b
 push_from g xs a b (inl edge) = (push_inside g xs a b (edge_below g a b edge)).1 edge
 push_from g xs a b (inr (last, w)) = (push_last g xs a b last).1 w
 
-pub edge_push : (g : Graph) (xs : List ℕ) (a b : ℕ) → Edge (g ++ xs ∷ []) a b ↔ (Edge g a b ⊎ ((a ≡ length g) × Contains xs b))
+pub edge_push : (g : Graph) (xs : List ℕ) (a b : ℕ)
+    → Edge (g ++ xs ∷ []) a b ↔ (Edge g a b ⊎ ((a ≡ length g) × Contains xs b))
 edge_push g xs a b = (push_to g xs a b (cases_lt a (length g)), push_from g xs a b)
 
 -- what a loop keeps that appends empty rows
@@ -69,27 +74,34 @@ no_rows a b edge = let h = edge_below [] a b edge in omega (arith, h)
 pub empties_none : (rows : List (Vec ℕ Global)) → rows ≡ [] → Empties rows 0
 empties_none rows e = rw e (record { size = refl; empty = no_rows })
 
-one_empty : (rows : List (Vec ℕ Global)) (v : Vec ℕ Global) → v.items ≡ [] → ((a b : ℕ) → Edge (graph_of rows) a b → ⊥) → (a b : ℕ)
+one_empty : (rows : List (Vec ℕ Global)) (v : Vec ℕ Global) → v.items ≡ [] → ((a b : ℕ) → Edge (graph_of rows) a b → ⊥)
+    → (a b : ℕ)
     → Edge (graph_of rows) a b ⊎ ((a ≡ length (graph_of rows)) × Contains v.items b) → ⊥
 one_empty rows v e none a b (inl edge) = none a b edge
 one_empty rows v e none a b (inr (last, w)) = no_items b (subst (λ (ys : List ℕ). Contains ys b) e w)
 
-pub graph_push : (rows : List (Vec ℕ Global)) (v : Vec ℕ Global) → graph_of (rows ++ v ∷ []) ≡ graph_of rows ++ v.items ∷ []
+pub graph_push : (rows : List (Vec ℕ Global)) (v : Vec ℕ Global) → graph_of (rows ++ v ∷ []) ≡ graph_of rows
+    ++ v.items ∷ []
 graph_push rows v = map-append (λ (x : Vec ℕ Global). x.items) rows (v ∷ [])
 
-pub empties_push : (rows new : List (Vec ℕ Global)) (n : ℕ) (v : Vec ℕ Global) → new ≡ rows ++ v ∷ [] → v.items ≡ [] → Empties rows n → Empties new (n + 1)
+pub empties_push : (rows new : List (Vec ℕ Global)) (n : ℕ) (v : Vec ℕ Global) → new ≡ rows ++ v ∷ [] → v.items ≡ []
+    → Empties rows n → Empties new (n + 1)
 empties_push rows new n v e items old = rw e (record {
-  size = (let len : length (rows ++ v ∷ []) ≡ length rows + 1 = grind (arith, common_steps) in omega (arith, len, old.size));
+  size = (let len : length (rows ++ v ∷ []) ≡ length rows + 1 = grind (arith, common_steps) in
+      omega (arith, len, old.size));
   empty =
-      λ a b edge. one_empty rows v items old.empty a b ((edge_push (graph_of rows) v.items a b).0 (subst (λ (g : Graph). Edge g a b) (graph_push rows v) edge));
+      λ a b edge. one_empty rows v items old.empty a b
+        ((edge_push (graph_of rows) v.items a b).0 (subst (λ (g : Graph). Edge g a b) (graph_push rows v) edge));
 })
 
 -- ---- a row gets one node more
 
-set_same : (g : Graph) (s node b a : ℕ) → s < length g → b ≡ s → Edge (set g s (successors g s ++ node ∷ [])) b a ↔ (Edge g b a ⊎ ((b ≡ s) × (node ≡ a)))
+set_same : (g : Graph) (s node b a : ℕ) → s < length g → b ≡ s → Edge (set g s (successors g s ++ node ∷ [])) b a
+    ↔ (Edge g b a ⊎ ((b ≡ s) × (node ≡ a)))
 set_same g s node b a h same =
     let row : successors (set g s (successors g s ++ node ∷ [])) b ≡ successors g b ++ node ∷ [] =
-    ap (λ i. get_or (set g s (successors g s ++ node ∷ [])) i []) same ∙ get_or-set_same g s (successors g s ++ node ∷ []) [] h
+    ap (λ i. get_or (set g s (successors g s ++ node ∷ [])) i []) same
+      ∙ get_or-set_same g s (successors g s ++ node ∷ []) [] h
     ∙ ap (λ i. successors g i ++ node ∷ []) (sym same) in (
       λ edge. (elim (Contains-push_cases (successors g b) node a (subst (λ (ys : List ℕ). Contains ys a) row edge)) [
         | inl old ↦ inl old
@@ -103,9 +115,11 @@ set_same g s node b a h same =
       ]),
     )
 
-set_other : (g : Graph) (s node b a : ℕ) → b ≢ s → Edge (set g s (successors g s ++ node ∷ [])) b a ↔ (Edge g b a ⊎ ((b ≡ s) × (node ≡ a)))
+set_other : (g : Graph) (s node b a : ℕ) → b ≢ s → Edge (set g s (successors g s ++ node ∷ [])) b a
+    ↔ (Edge g b a ⊎ ((b ≡ s) × (node ≡ a)))
 set_other g s node b a other =
-    let row : successors (set g s (successors g s ++ node ∷ [])) b ≡ successors g b = get_or-set_other g s b (successors g s ++ node ∷ []) [] other in (
+    let row : successors (set g s (successors g s ++ node ∷ [])) b ≡ successors g b =
+      get_or-set_other g s b (successors g s ++ node ∷ []) [] other in (
       λ edge. inl (subst (λ (ys : List ℕ). Contains ys a) row edge),
       λ w. subst (λ (ys : List ℕ). Contains ys a) (sym row) (elim w [ inl old ↦ old | inr is ↦ absurd (other is.0) ]),
     )
@@ -115,17 +129,20 @@ set_cases : (g : Graph) (s node b a : ℕ) → s < length g → (b ≡ s) ⊎ (b
 set_cases g s node b a h (inl same) = set_same g s node b a h same
 set_cases g s node b a h (inr other) = set_other g s node b a other
 
-pub edge_set : (g : Graph) (s node b a : ℕ) → s < length g → Edge (set g s (successors g s ++ node ∷ [])) b a ↔ (Edge g b a ⊎ ((b ≡ s) × (node ≡ a)))
+pub edge_set : (g : Graph) (s node b a : ℕ) → s < length g → Edge (set g s (successors g s ++ node ∷ [])) b a
+    ↔ (Edge g b a ⊎ ((b ≡ s) × (node ≡ a)))
 edge_set g s node b a h = set_cases g s node b a h (cases_eq b s)
 
-pub graph_set : (rows : List (Vec ℕ Global)) (s : ℕ) (v : Vec ℕ Global) → graph_of (set rows s v) ≡ set (graph_of rows) s v.items
+pub graph_set : (rows : List (Vec ℕ Global)) (s : ℕ) (v : Vec ℕ Global)
+    → graph_of (set rows s v) ≡ set (graph_of rows) s v.items
 graph_set rows s v = map-set (λ (x : Vec ℕ Global). x.items) rows s v
 
 pub length_graph : (rows : List (Vec ℕ Global)) → length (graph_of rows) ≡ length rows
 length_graph rows = grind (arith, common_steps)
 
 -- a node is pushed to a row
-pub row_pushed : (rows : List (Vec ℕ Global)) (s node : ℕ) (v w : Vec ℕ Global) → v ≡ get_or rows s v → s < length rows → w.items ≡ v.items ++ node ∷ []
+pub row_pushed : (rows : List (Vec ℕ Global)) (s node : ℕ) (v w : Vec ℕ Global) → v ≡ get_or rows s v → s < length rows
+    → w.items ≡ v.items ++ node ∷ []
     → (b a : ℕ) → Edge (graph_of (set rows s w)) b a ↔ (Edge (graph_of rows) b a ⊎ ((b ≡ s) × (node ≡ a)))
 row_pushed rows s node v w e h items b a =
     let g = graph_of rows in
@@ -134,10 +151,13 @@ row_pushed rows s node v w e h items b a =
     graph_set rows s w ∙ ap (set g s) (items ∙ ap (λ xs. xs ++ node ∷ []) (row_items rows s v e h)) in
     subst (λ (k : Graph). Edge k b a ↔ (Edge g b a ⊎ ((b ≡ s) × (node ≡ a)))) (sym same) (edge_set g s node b a inside)
 
-among_to : (nodes : List ℕ) (n node b a : ℕ) → (a ≡ node) × Among nodes (n + 1) b → ((a ≡ node) × Among nodes n b) ⊎ ((b ≡ get_or nodes n 0) × (node ≡ a))
-among_to nodes n node b a (e, w) = elim ((among_more nodes n b).0 w) [ inl more ↦ inl (e, more) | inr is ↦ inr (sym is, sym e) ]
+among_to : (nodes : List ℕ) (n node b a : ℕ) → (a ≡ node) × Among nodes (n + 1) b
+    → ((a ≡ node) × Among nodes n b) ⊎ ((b ≡ get_or nodes n 0) × (node ≡ a))
+among_to nodes n node b a (e, w) =
+    elim ((among_more nodes n b).0 w) [ inl more ↦ inl (e, more) | inr is ↦ inr (sym is, sym e) ]
 
-among_from : (nodes : List ℕ) (n node b a : ℕ) → ((a ≡ node) × Among nodes n b) ⊎ ((b ≡ get_or nodes n 0) × (node ≡ a)) → (a ≡ node) × Among nodes (n + 1) b
+among_from : (nodes : List ℕ) (n node b a : ℕ) → ((a ≡ node) × Among nodes n b) ⊎ ((b ≡ get_or nodes n 0) × (node ≡ a))
+    → (a ≡ node) × Among nodes (n + 1) b
 among_from nodes n node b a (inl (e, more)) = (e, (among_more nodes n b).1 (inl more))
 among_from nodes n node b a (inr (is, e)) = (sym e, (among_more nodes n b).1 (inr (sym is)))
 
@@ -146,32 +166,40 @@ pub record Turning (nodes : List ℕ) (node : ℕ) (old : Graph) (n : ℕ) (rows
   pub room : (k : ℕ) → k < length nodes → get_or nodes k 0 < length rows
   pub edges : (b a : ℕ) → Edge (graph_of rows) b a ↔ (Edge old b a ⊎ ((a ≡ node) × Among nodes n b))
 
-none_turned : (nodes : List ℕ) (node : ℕ) (old : Graph) (b a : ℕ) → Edge old b a ⊎ ((a ≡ node) × Among nodes 0 b) → Edge old b a
+none_turned : (nodes : List ℕ) (node : ℕ) (old : Graph) (b a : ℕ) → Edge old b a ⊎ ((a ≡ node) × Among nodes 0 b)
+    → Edge old b a
 none_turned nodes node old b a (inl edge) = edge
 none_turned nodes node old b a (inr (e, w)) = absurd (no_position w.0 w.1)
 
-pub turning_none : (nodes : List ℕ) (node : ℕ) (rows : List (Vec ℕ Global)) → ((b : ℕ) → Contains nodes b → b < length rows)
+pub turning_none : (nodes : List ℕ) (node : ℕ) (rows : List (Vec ℕ Global))
+    → ((b : ℕ) → Contains nodes b → b < length rows)
     → Turning nodes node (graph_of rows) 0 rows
 turning_none nodes node rows room = record {
   room = λ k h. room (get_or nodes k 0) (Contains-get_or nodes k 0 h);
   edges = λ b a. (λ edge. inl edge, none_turned nodes node (graph_of rows) b a);
 }
 
-pub turning_more : (nodes : List ℕ) (node : ℕ) (old : Graph) (n : ℕ) (rows : List (Vec ℕ Global)) (v w : Vec ℕ Global) → n < length nodes
-    → v ≡ get_or rows (get_or nodes n 0) v → w.items ≡ (get_or rows (get_or nodes n 0) v).items ++ node ∷ [] → Turning nodes node old n rows
+pub turning_more : (nodes : List ℕ) (node : ℕ) (old : Graph) (n : ℕ) (rows : List (Vec ℕ Global)) (v w : Vec ℕ Global)
+    → n < length nodes
+    → v ≡ get_or rows (get_or nodes n 0) v → w.items ≡ (get_or rows (get_or nodes n 0) v).items ++ node ∷ []
+    → Turning nodes node old n rows
     → Turning nodes node old (n + 1) (set rows (get_or nodes n 0) w)
 turning_more nodes node old n rows v w h e items t =
     let s = get_or nodes n 0 in
     record {
       room = λ k inside. (let room = t.room k inside in omega (arith, room, length-set rows s w));
-      edges = λ b a. joined_step (row_pushed rows s node v w e (t.room n h) (items ∙ ap (λ (x : Vec ℕ Global). x.items ++ node ∷ []) (sym e)) b a) (t.edges b a)
+      edges = λ b a. joined_step
+          (row_pushed rows s node v w e (t.room n h) (items ∙ ap (λ (x : Vec ℕ Global). x.items ++ node ∷ []) (sym e)) b
+          a) (t.edges b a)
           (among_to nodes n node b a, among_from nodes n node b a);
     }
 
-all_to : (nodes : List ℕ) (n node b a : ℕ) → n ≡ length nodes → ((a ≡ node) × Contains nodes b) ↔ ((a ≡ node) × Among nodes n b)
+all_to : (nodes : List ℕ) (n node b a : ℕ) → n ≡ length nodes
+    → ((a ≡ node) × Contains nodes b) ↔ ((a ≡ node) × Among nodes n b)
 all_to nodes n node b a h = (λ (e, w). (e, (among_all nodes n b h).0 w), λ (e, w). (e, (among_all nodes n b h).1 w))
 
-pub turning_all : (nodes : List ℕ) (node : ℕ) (old : Graph) (n : ℕ) (rows : List (Vec ℕ Global)) → n ≡ length nodes → Turning nodes node old n rows → (b a : ℕ)
+pub turning_all : (nodes : List ℕ) (node : ℕ) (old : Graph) (n : ℕ) (rows : List (Vec ℕ Global)) → n ≡ length nodes
+    → Turning nodes node old n rows → (b a : ℕ)
     → Edge (graph_of rows) b a ↔ (Edge old b a ⊎ ((a ≡ node) × Contains nodes b))
 turning_all nodes node old n rows h t b a = joined_end (t.edges b a) (all_to nodes n node b a h)
 
@@ -180,22 +208,30 @@ pub record Turned (g : Graph) (n : ℕ) (rows : List (Vec ℕ Global)) : Type 0 
   pub size : length rows ≡ length g
   pub edges : (b a : ℕ) → Edge (graph_of rows) b a ↔ ((a < n) × Edge g a b)
 
-pub turned_none : (g : Graph) (rows : List (Vec ℕ Global)) → length rows ≡ length g → ((b a : ℕ) → Edge (graph_of rows) b a → ⊥) → Turned g 0 rows
-turned_none g rows size empty = record { size = size; edges = λ b a. (λ edge. absurd (empty b a edge), λ w. absurd (no_position a w.0)) }
+pub turned_none : (g : Graph) (rows : List (Vec ℕ Global)) → length rows ≡ length g
+    → ((b a : ℕ) → Edge (graph_of rows) b a → ⊥) → Turned g 0 rows
+turned_none g rows size empty =
+    record { size = size; edges = λ b a. (λ edge. absurd (empty b a edge), λ w. absurd (no_position a w.0)) }
 
-turn_to : (g : Graph) (n b a : ℕ) (E : Type 0) → (E → (a < n) × Edge g a b) → E ⊎ ((a ≡ n) × Edge g n b) → (a < n + 1) × Edge g a b
+turn_to : (g : Graph) (n b a : ℕ) (E : Type 0) → (E → (a < n) × Edge g a b) → E ⊎ ((a ≡ n) × Edge g n b)
+    → (a < n + 1) × Edge g a b
 turn_to g n b a E f (inl e) = let w = f e in (omega (arith, w.0), w.1)
 turn_to g n b a E f (inr (is, edge)) = (omega arith, subst (λ (x : ℕ). Edge g x b) (sym is) edge)
 
-turn_from : (g : Graph) (n b a : ℕ) (E : Type 0) → ((a < n) × Edge g a b → E) → (a < n) ⊎ (n ≤ a) → (a < n + 1) × Edge g a b → E ⊎ ((a ≡ n) × Edge g n b)
+turn_from : (g : Graph) (n b a : ℕ) (E : Type 0) → ((a < n) × Edge g a b → E) → (a < n) ⊎ (n ≤ a)
+    → (a < n + 1) × Edge g a b → E ⊎ ((a ≡ n) × Edge g n b)
 turn_from g n b a E f (inl h) (below, edge) = inl (f (h, edge))
-turn_from g n b a E f (inr h) (below, edge) = let is : a ≡ n = omega arith in inr (is, subst (λ (x : ℕ). Edge g x b) is edge)
+turn_from g n b a E f (inr h) (below, edge) = let is : a ≡ n = omega arith in
+    inr (is, subst (λ (x : ℕ). Edge g x b) is edge)
 
-pub turned_more : (g : Graph) (n : ℕ) (rows new : List (Vec ℕ Global)) (nodes : List ℕ) → nodes ≡ successors g n → length new ≡ length rows
-    → ((b a : ℕ) → Edge (graph_of new) b a ↔ (Edge (graph_of rows) b a ⊎ ((a ≡ n) × Contains nodes b))) → Turned g n rows → Turned g (n + 1) new
+pub turned_more : (g : Graph) (n : ℕ) (rows new : List (Vec ℕ Global)) (nodes : List ℕ) → nodes ≡ successors g n
+    → length new ≡ length rows
+    → ((b a : ℕ) → Edge (graph_of new) b a ↔ (Edge (graph_of rows) b a ⊎ ((a ≡ n) × Contains nodes b)))
+    → Turned g n rows → Turned g (n + 1) new
 turned_more g n rows new nodes e len step t =
     let step' : (b a : ℕ) → Edge (graph_of new) b a ↔ (Edge (graph_of rows) b a ⊎ ((a ≡ n) × Edge g n b)) =
-    subst (λ (xs : List ℕ). (b a : ℕ) → Edge (graph_of new) b a ↔ (Edge (graph_of rows) b a ⊎ ((a ≡ n) × Contains xs b))) e step in
+    subst (λ (xs : List ℕ). (b a : ℕ) → Edge (graph_of new) b a
+      ↔ (Edge (graph_of rows) b a ⊎ ((a ≡ n) × Contains xs b))) e step in
     record {
       size = len ∙ t.size;
       edges = λ b a. (
@@ -204,9 +240,14 @@ turned_more g n rows new nodes e len step t =
       );
     }
 
-pub turned_all : (g : Graph) (n : ℕ) (rows : List (Vec ℕ Global)) → length g ≤ n → Turned g n rows → (b a : ℕ) → Edge (graph_of rows) b a ↔ Edge g a b
-turned_all g n rows h t b a = (λ edge. ((t.edges b a).0 edge).1, λ edge. (t.edges b a).1 ((let below = edge_below g a b edge in omega (arith, below)), edge))
+pub turned_all : (g : Graph) (n : ℕ) (rows : List (Vec ℕ Global)) → length g ≤ n → Turned g n rows → (b a : ℕ)
+    → Edge (graph_of rows) b a ↔ Edge g a b
+turned_all g n rows h t b a =
+    (λ edge. ((t.edges b a).0 edge).1, λ edge. (t.edges b a).1
+    ((let below = edge_below g a b edge in omega (arith, below)), edge))
 
 -- what is written to all of a list replaces it
-pub written : {X : Type 0} (new items : List X) (n : ℕ) → n ≡ length items → length new ≡ length items → take n (new ++ drop (length new) items) ≡ new
-written new items n e len = ap (λ k. take k (new ++ drop (length new) items)) (e ∙ sym len) ∙ take-append_seam new (drop (length new) items)
+pub written : {X : Type 0} (new items : List X) (n : ℕ) → n ≡ length items → length new ≡ length items
+    → take n (new ++ drop (length new) items) ≡ new
+written new items n e len = ap (λ k. take k (new ++ drop (length new) items)) (e ∙ sym len)
+    ∙ take-append_seam new (drop (length new) items)

@@ -21,23 +21,28 @@ range_kept old more r h =
     let room : r.1 ≤ length (drop r.0 old) = rw (length-drop r.0 old) (omega arith) in
     rw (drop-append-le r.0 old more inside, take-append-le r.1 (drop r.0 old) more room) refl
 
-ranges_kept : (old more : List ℕ) (rs : List (ℕ × ℕ)) → AreWithin (length old) rs → ranges_of (old ++ more) rs ≡ ranges_of old rs
+ranges_kept : (old more : List ℕ) (rs : List (ℕ × ℕ)) → AreWithin (length old) rs
+    → ranges_of (old ++ more) rs ≡ ranges_of old rs
 ranges_kept old more [] w = refl
 ranges_kept old more (r ∷ rs) w = rw (range_kept old more r w.0, ranges_kept old more rs w.1) refl
 
-pub view_kept : (old new : List ℕ) (rs ss : List (ℕ × ℕ)) → IsFrontOf old new → ss ≡ rs → AreWithin (length old) rs → ranges_of new ss ≡ ranges_of old rs
+pub view_kept : (old new : List ℕ) (rs ss : List (ℕ × ℕ)) → IsFrontOf old new → ss ≡ rs → AreWithin (length old) rs
+    → ranges_of new ss ≡ ranges_of old rs
 view_kept old new rs ss prefix e w = rw (prefix.1, e) (ranges_kept old prefix.0 rs w)
 
 pub length_kept : (old new : List ℕ) → IsFrontOf old new → length old ≤ length new
 length_kept old new prefix = rw prefix.1 (rw (length-append old prefix.0) (omega arith))
 
-pub view_pushed : (old new : List ℕ) (rs ss : List (ℕ × ℕ)) (start : ℕ) (list : List ℕ) → IsFrontOf old new → Holds new start list
-    → ss ≡ rs ++ (start, length list) ∷ [] → AreWithin (length old) rs → ranges_of new ss ≡ ranges_of old rs ++ list ∷ []
+pub view_pushed : (old new : List ℕ) (rs ss : List (ℕ × ℕ)) (start : ℕ) (list : List ℕ) → IsFrontOf old new
+    → Holds new start list
+    → ss ≡ rs ++ (start, length list) ∷ [] → AreWithin (length old) rs
+    → ranges_of new ss ≡ ranges_of old rs ++ list ∷ []
 view_pushed old new rs ss start list prefix holds e w =
     let last : range_of new (start, length list) ≡ list = rw holds.0 (take_all (length list) list (omega arith)) in
     rw (e, map-append) (rw (view_kept old new rs rs prefix refl w, last) refl)
 
-pub within_pushed : (old new : List ℕ) (rs ss : List (ℕ × ℕ)) (start : ℕ) (list : List ℕ) → IsFrontOf old new → Holds new start list
+pub within_pushed : (old new : List ℕ) (rs ss : List (ℕ × ℕ)) (start : ℕ) (list : List ℕ) → IsFrontOf old new
+    → Holds new start list
     → ss ≡ rs ++ (start, length list) ∷ [] → AreWithin (length old) rs → AreWithin (length new) ss
 within_pushed old new rs ss start list prefix holds e w =
     rw e (all_push (λ (range : ℕ × ℕ). range.0 + range.1 ≤ length new) rs (start, length list)
@@ -48,10 +53,12 @@ same_numbers [] [] e = refl
 same_numbers [] (y ∷ ys) e = cc
 same_numbers (x ∷ xs) [] e = cc
 same_numbers (x ∷ xs) (y ∷ ys) e =
-    let both = and_parts (eqb x y) (pointwise eqb xs ys) e in let rest = same_numbers xs ys both.1 in let first = eqb-true x y both.0 in cc
+    let both = and_parts (eqb x y) (pointwise eqb xs ys) e in let rest = same_numbers xs ys both.1 in
+    let first = eqb-true x y both.0 in cc
 
 -- a list goes on where the positions end
-pub goes_on : (positions new prefix list : List ℕ) (last k : ℕ) → prefix ≡ drop k positions → k + length prefix ≡ length positions → list ≡ prefix ++ last ∷ []
+pub goes_on : (positions new prefix list : List ℕ) (last k : ℕ) → prefix ≡ drop k positions
+    → k + length prefix ≡ length positions → list ≡ prefix ++ last ∷ []
     → new ≡ positions ++ last ∷ [] → Holds new k list
 goes_on positions new prefix list last k e len whole pushed =
     let inside : k ≤ length positions = omega arith in (
@@ -60,14 +67,17 @@ goes_on positions new prefix list last k e len whole pushed =
     )
 
 -- the list at k, by its range
-pub list_at : (items : List ℕ) (rs : List (ℕ × ℕ)) (lists : List (List ℕ)) (k : ℕ) (r : ℕ × ℕ) → ranges_of items rs ≡ lists → r ≡ get_or rs k r
+pub list_at : (items : List ℕ) (rs : List (ℕ × ℕ)) (lists : List (List ℕ)) (k : ℕ) (r : ℕ × ℕ)
+    → ranges_of items rs ≡ lists → r ≡ get_or rs k r
     → k < length lists → range_of items r ≡ get_or lists k []
 list_at items rs lists k r e at h =
     let size : length (ranges_of items rs) ≡ length rs = grind (arith, common_steps) in
     let same = ap length e in
-    ap (range_of items) at ∙ sym (get_or-map (range_of items) rs k r [] (omega (arith, h, size, same))) ∙ ap (λ ls. get_or ls k []) e
+    ap (range_of items) at ∙ sym (get_or-map (range_of items) rs k r [] (omega (arith, h, size, same)))
+      ∙ ap (λ ls. get_or ls k []) e
 
-pub range_inside : (items : List ℕ) (rs : List (ℕ × ℕ)) (lists : List (List ℕ)) (k : ℕ) (r : ℕ × ℕ) → ranges_of items rs ≡ lists → r ≡ get_or rs k r
+pub range_inside : (items : List ℕ) (rs : List (ℕ × ℕ)) (lists : List (List ℕ)) (k : ℕ) (r : ℕ × ℕ)
+    → ranges_of items rs ≡ lists → r ≡ get_or rs k r
     → k < length lists → AreWithin (length items) rs → r.0 + r.1 ≤ length items
 range_inside items rs lists k r e at h w =
     let size : length (ranges_of items rs) ≡ length rs = grind (arith, common_steps) in
@@ -76,7 +86,8 @@ range_inside items rs lists k r e at h w =
     (All-from_recursion (λ (q : ℕ × ℕ). q.0 + q.1 ≤ length items) rs w k r (omega (arith, h, size, same)))
 
 -- a range and a number behind it
-pub extended_length : (items : List ℕ) (r : ℕ × ℕ) (number : ℕ) → r.0 + r.1 ≤ length items → r.1 + 1 ≡ length (range_of items r ++ number ∷ [])
+pub extended_length : (items : List ℕ) (r : ℕ × ℕ) (number : ℕ) → r.0 + r.1 ≤ length items
+    → r.1 + 1 ≡ length (range_of items r ++ number ∷ [])
 extended_length items r number h =
     let room : r.1 ≤ length (drop r.0 items) = rw (length-drop r.0 items) (omega arith) in
     let size : length (take r.1 (drop r.0 items)) ≡ r.1 = length-take-le r.1 (drop r.0 items) room in

@@ -25,7 +25,8 @@ pub record Visited (old nodes : List ℕ) (n : ℕ) (marks : List Bool) (marked 
   pub added : (c : ℕ) → Contains marked c ↔ (Contains old c ⊎ Among nodes n c)
 
 pub distinct_push : (xs : List ℕ) (x : ℕ) → IsDistinct eqb xs → (Contains xs x → ⊥) → IsDistinct eqb (xs ++ x ∷ [])
-distinct_push xs x d out = IsDistinct-push nat_eq_equiv xs x d (false_from_ne_true (list_any (eqb x) xs) (λ e. out (Contains-from_any eqb-true x xs e)))
+distinct_push xs x d out = IsDistinct-push nat_eq_equiv xs x d
+    (false_from_ne_true (list_any (eqb x) xs) (λ e. out (Contains-from_any eqb-true x xs e)))
 
 push_from : (xs : List ℕ) (p c : ℕ) → Contains xs c ⊎ (p ≡ c) → Contains (xs ++ p ∷ []) c
 push_from xs p c (inl h) = Contains-append_left xs (p ∷ []) c h
@@ -39,7 +40,8 @@ either_to f (inl a) = inl (f a)
 either_to f (inr c) = inr c
 
 -- the marks and the marked nodes after one more
-marked_push : (marks : List Bool) (marked : List ℕ) (p : ℕ) → p < length marks → (Contains marked p → ⊥) → AreMarked marks marked
+marked_push : (marks : List Bool) (marked : List ℕ) (p : ℕ) → p < length marks → (Contains marked p → ⊥)
+    → AreMarked marks marked
     → AreMarked (set marks p true) (marked ++ p ∷ [])
 marked_push marks marked p h fresh q = record {
   same = λ c. (
@@ -49,8 +51,10 @@ marked_push marks marked p h fresh q = record {
   once = distinct_push marked p q.once fresh;
 }
 
-pub visited_push : (old nodes : List ℕ) (n : ℕ) (marks new : List Bool) (marked ys : List ℕ) → n < length nodes → get_or marks (get_or nodes n 0) false ≡ false
-    → new ≡ set marks (get_or nodes n 0) true → ys ≡ marked ++ get_or nodes n 0 ∷ [] → Visited old nodes n marks marked → Visited old nodes (n + 1) new ys
+pub visited_push : (old nodes : List ℕ) (n : ℕ) (marks new : List Bool) (marked ys : List ℕ) → n < length nodes
+    → get_or marks (get_or nodes n 0) false ≡ false
+    → new ≡ set marks (get_or nodes n 0) true → ys ≡ marked ++ get_or nodes n 0 ∷ [] → Visited old nodes n marks marked
+    → Visited old nodes (n + 1) new ys
 visited_push old nodes n marks new marked ys h out new_is ys_is v =
     let p = get_or nodes n 0 in
     let below : p < length marks = v.room n h in
@@ -66,17 +70,20 @@ skip_to : (old nodes : List ℕ) (n c : ℕ) → Contains old c ⊎ Among nodes 
 skip_to old nodes n c (inl h) = inl h
 skip_to old nodes n c (inr h) = inr ((among_more nodes n c).1 (inl h))
 
-skip_last : (old nodes marked : List ℕ) (n c : ℕ) → Contains marked (get_or nodes n 0) → (Contains old c ⊎ Among nodes n c → Contains marked c)
+skip_last : (old nodes marked : List ℕ) (n c : ℕ) → Contains marked (get_or nodes n 0)
+    → (Contains old c ⊎ Among nodes n c → Contains marked c)
     → Among nodes n c ⊎ (get_or nodes n 0 ≡ c) → Contains marked c
 skip_last old nodes marked n c found f (inl h) = f (inr h)
 skip_last old nodes marked n c found f (inr e) = subst (Contains marked) e found
 
-skip_from : (old nodes marked : List ℕ) (n c : ℕ) → Contains marked (get_or nodes n 0) → (Contains old c ⊎ Among nodes n c → Contains marked c)
+skip_from : (old nodes marked : List ℕ) (n c : ℕ) → Contains marked (get_or nodes n 0)
+    → (Contains old c ⊎ Among nodes n c → Contains marked c)
     → Contains old c ⊎ Among nodes (n + 1) c → Contains marked c
 skip_from old nodes marked n c found f (inl h) = f (inl h)
 skip_from old nodes marked n c found f (inr h) = skip_last old nodes marked n c found f ((among_more nodes n c).0 h)
 
-pub visited_skip : (old nodes : List ℕ) (n : ℕ) (marks new : List Bool) (marked ys : List ℕ) → n < length nodes → get_or marks (get_or nodes n 0) false ≡ true
+pub visited_skip : (old nodes : List ℕ) (n : ℕ) (marks new : List Bool) (marked ys : List ℕ) → n < length nodes
+    → get_or marks (get_or nodes n 0) false ≡ true
     → new ≡ marks → ys ≡ marked → Visited old nodes n marks marked → Visited old nodes (n + 1) new ys
 visited_skip old nodes n marks new marked ys h inside new_is ys_is v =
     let found : Contains marked (get_or nodes n 0) = (v.are.same (get_or nodes n 0)).0 (v.room n h, inside) in
@@ -94,7 +101,8 @@ none_from : (old nodes : List ℕ) (c : ℕ) → Contains old c ⊎ Among nodes 
 none_from old nodes c (inl h) = h
 none_from old nodes c (inr h) = absurd (none_at nodes c h)
 
-pub visited_none : (old nodes : List ℕ) (marks : List Bool) → ((c : ℕ) → Contains nodes c → c < length marks) → AreMarked marks old
+pub visited_none : (old nodes : List ℕ) (marks : List Bool) → ((c : ℕ) → Contains nodes c → c < length marks)
+    → AreMarked marks old
     → Visited old nodes 0 marks old
 visited_none old nodes marks room are = record {
   room = λ k h. room (get_or nodes k 0) (Contains-get_or nodes k 0 h);
@@ -103,7 +111,8 @@ visited_none old nodes marks room are = record {
   added = λ c. (λ w. inl w, λ w. none_from old nodes c w);
 }
 
-pub visited_all : (old nodes : List ℕ) (n : ℕ) (marks : List Bool) (marked : List ℕ) → n ≡ length nodes → Visited old nodes n marks marked → (c : ℕ)
+pub visited_all : (old nodes : List ℕ) (n : ℕ) (marks : List Bool) (marked : List ℕ) → n ≡ length nodes
+    → Visited old nodes n marks marked → (c : ℕ)
     → Contains marked c ↔ (Contains old c ⊎ Contains nodes c)
 visited_all old nodes n marks marked e v c = joined_end (v.added c) (among_all nodes n c e)
 
@@ -120,22 +129,28 @@ cleared_none nodes marks are = record {
   left = λ c m. ((are.same c).0 m, none_at nodes c);
 }
 
-cleared_other : (nodes : List ℕ) (n : ℕ) (marks : List Bool) (c : ℕ) → Cleared nodes n marks → (c ≡ get_or nodes n 0) ⊎ (c ≢ get_or nodes n 0)
-    → get_or nodes n 0 < length marks → IsMarked (set marks (get_or nodes n 0) false) c → Contains nodes c × (Among nodes (n + 1) c → ⊥)
+cleared_other : (nodes : List ℕ) (n : ℕ) (marks : List Bool) (c : ℕ) → Cleared nodes n marks
+    → (c ≡ get_or nodes n 0) ⊎ (c ≢ get_or nodes n 0)
+    → get_or nodes n 0 < length marks → IsMarked (set marks (get_or nodes n 0) false) c
+    → Contains nodes c × (Among nodes (n + 1) c → ⊥)
 cleared_other nodes n marks c v (inl same) h (below, t) =
-    absurd (true≢false (sym t ∙ ap (λ i. get_or (set marks (get_or nodes n 0) false) i false) same ∙ get_or-set_same marks (get_or nodes n 0) false false h))
+    absurd (true≢false (sym t ∙ ap (λ i. get_or (set marks (get_or nodes n 0) false) i false) same
+      ∙ get_or-set_same marks (get_or nodes n 0) false false h))
 cleared_other nodes n marks c v (inr other) h (below, t) =
     let p = get_or nodes n 0 in
     let under : c < length marks = omega (arith, below, length-set marks p false) in
     let old = v.left c (under, sym (get_or-set_other marks p c false false other) ∙ t) in
     (old.0, λ w. (elim ((among_more nodes n c).0 w) [ inl more ↦ old.1 more | inr is ↦ other (sym is) ]))
 
-pub cleared_more : (nodes : List ℕ) (n : ℕ) (marks new : List Bool) → n < length nodes → new ≡ set marks (get_or nodes n 0) false → Cleared nodes n marks
+pub cleared_more : (nodes : List ℕ) (n : ℕ) (marks new : List Bool) → n < length nodes
+    → new ≡ set marks (get_or nodes n 0) false → Cleared nodes n marks
     → Cleared nodes (n + 1) new
 cleared_more nodes n marks new h new_is v = rw new_is (record {
-  room = λ k inside. (let old_room = v.room k inside in omega (arith, old_room, length-set marks (get_or nodes n 0) false));
+  room = λ k inside. (let old_room = v.room k inside in
+      omega (arith, old_room, length-set marks (get_or nodes n 0) false));
   left = λ c. cleared_other nodes n marks c v (cases_eq c (get_or nodes n 0)) (v.room n h);
 })
 
-pub cleared_all : (nodes : List ℕ) (n : ℕ) (marks : List Bool) → n ≡ length nodes → Cleared nodes n marks → NoneMarked marks
+pub cleared_all : (nodes : List ℕ) (n : ℕ) (marks : List Bool) → n ≡ length nodes → Cleared nodes n marks
+    → NoneMarked marks
 cleared_all nodes n marks e v c m = let old = v.left c m in old.1 ((among_all nodes n c e).0 old.0)

@@ -37,12 +37,15 @@ module _ (files : ℕ) (list : ℕ → List ℕ)
   own i r at = (has_is r (list r)).1 (reflexive r (root_below i (Some r) r at refl))
 
   -- what a root reaches, each root before it reaches that reaches the root
-  joins : (r g : ℕ) → Contains (list r) g → (k : ℕ) (root : Option ℕ) → slice_get roots k ≡ Some root → has r (reached list root) ≡ true
+  joins : (r g : ℕ) → Contains (list r) g → (k : ℕ) (root : Option ℕ) → slice_get roots k ≡ Some root
+      → has r (reached list root) ≡ true
       → has g (reached list root) ≡ true
   joins r g h k None at e = let bad : false ≡ true = e in cc
-  joins r g h k (Some x) at e = (has_is g (list x)).1 (transitive x r g (root_below k (Some x) x at refl) ((has_is r (list x)).0 e) h)
+  joins r g h k (Some x) at e = (has_is g (list x)).1
+      (transitive x r g (root_below k (Some x) x at refl) ((has_is r (list x)).0 e) h)
 
-  pub root_first_too : (i : ℕ) (root : Option ℕ) (r : ℕ) → slice_get roots i ≡ Some root → root ≡ Some r → (r < files) × RootIsFirstToo list least i r
+  pub root_first_too : (i : ℕ) (root : Option ℕ) (r : ℕ) → slice_get roots i ≡ Some root → root ≡ Some r
+      → (r < files) × RootIsFirstToo list least i r
   root_first_too i root r at is =
       let small = root_below i root r at is in
       let inside = slice_get_within roots i root at in
@@ -59,7 +62,8 @@ module _ (files : ℕ) (list : ℕ → List ℕ)
       ∙ ap (λ (l : List ℕ). Some l) (filter_on _ _ (root_first list root) (λ g h.
       ap (λ n. repeats mode root g || eqb n i) (sym (first g (file_below root at g
       (sym (has_root_first list root (λ r is. own i r (at ∙ ap (λ (x : Option ℕ). Some x) is)) g) ∙ h)))))) where
-        file_below : (root : Option ℕ) → slice_get roots i ≡ Some root → (g : ℕ) → has g (reached list root) ≡ true → g < files
+        file_below : (root : Option ℕ) → slice_get roots i ≡ Some root → (g : ℕ)
+            → has g (reached list root) ≡ true → g < files
         file_below None at g h = let bad : false ≡ true = h in cc
         file_below (Some r) at g h = within r g (root_below i (Some r) r at refl) ((has_is g (list r)).0 h)
 
@@ -67,7 +71,8 @@ module _ (files : ℕ) (list : ℕ → List ℕ)
       → GivesItems (λ i root out. items out ≡ reply_at mode list least i root) 0 roots outs
       → map items outs ≡ carried mode list roots
   carried_all items mode outs gives =
-      map_same items outs (carried mode list roots) (gives.0 ∙ sym (carried_length mode list [] roots)) (λ i out reply eo er.
+      map_same items outs (carried mode list roots) (gives.0 ∙ sym (carried_length mode list [] roots))
+        (λ i out reply eo er.
       let inside = slice_get_within outs i out eo in let len = gives.0 in
       let root = get_there roots i (omega arith) in
       let position : 0 + i ≡ i = omega arith in

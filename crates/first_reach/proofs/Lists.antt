@@ -34,7 +34,8 @@ filter_on p q (x ∷ xs) h =
 
 pub filter_filter : (p q : ℕ → Bool) (xs : List ℕ) → filter p (filter q xs) ≡ filter (λ x. q x && p x) xs
 filter_filter p q [] = refl
-filter_filter p q (x ∷ xs) = pick (q x) (filter q xs) ∙ (let ih = filter_filter p q xs in λ i. cond (q x && p x) (x ∷ ih i) (ih i)) where
+filter_filter p q (x ∷ xs) = pick (q x) (filter q xs)
+    ∙ (let ih = filter_filter p q xs in λ i. cond (q x && p x) (x ∷ ih i) (ih i)) where
   pick : (b : Bool) (ys : List ℕ) → filter p (cond b (x ∷ ys) ys) ≡ cond (b && p x) (x ∷ filter p ys) (filter p ys)
   pick true ys = refl
   pick false ys = refl
@@ -69,7 +70,8 @@ has_filter p g (x ∷ xs) =
     ∙ bools (p x) (p g) (eqb g x) (has g xs) (λ e. ap p (sym (eqb-true g x e)))
 
 -- root_first has the files that the root reaches
-pub has_root_first : (reach : ℕ → List ℕ) (root : Option ℕ) → ((r : ℕ) → root ≡ Some r → has r (reach r) ≡ true) → (g : ℕ)
+pub has_root_first : (reach : ℕ → List ℕ) (root : Option ℕ) → ((r : ℕ) → root ≡ Some r → has r (reach r) ≡ true)
+    → (g : ℕ)
     → has g (root_first reach root) ≡ has g (reached reach root)
 has_root_first reach None own g = refl
 has_root_first reach (Some r) own g =

@@ -18,20 +18,23 @@ use Rattle.first_reach.specs.First.{RootReaches}
 use Rattle.first_reach.specs.Seats.{HasPosted, Posts}
 use Rattle.first_reach.proofs.Lists.{all_get}
 
-take_under : {X : Type 0} (n : ℕ) (xs : List X) (o : ℕ) (t : X) → slice_get (take n xs) o ≡ Some t → (o < n) × (slice_get xs o ≡ Some t)
+take_under : {X : Type 0} (n : ℕ) (xs : List X) (o : ℕ) (t : X) → slice_get (take n xs) o ≡ Some t
+    → (o < n) × (slice_get xs o ≡ Some t)
 take_under zero xs o t e = let bad : None ≡ Some t = e in absurd (search rules)
 take_under (suc n) [] o t e = let bad : None ≡ Some t = e in absurd (search rules)
 take_under (suc n) (x ∷ xs) zero t e = (omega arith, e)
 take_under (suc n) (x ∷ xs) (suc o) t e = let r = take_under n xs o t e in (omega arith, r.1)
 
-take_there : {X : Type 0} (n : ℕ) (xs : List X) (o : ℕ) (t : X) → o < n → slice_get xs o ≡ Some t → slice_get (take n xs) o ≡ Some t
+take_there : {X : Type 0} (n : ℕ) (xs : List X) (o : ℕ) (t : X) → o < n → slice_get xs o ≡ Some t
+    → slice_get (take n xs) o ≡ Some t
 take_there zero xs o t h e = absurd (omega arith)
 take_there (suc n) [] o t h e = e
 take_there (suc n) (x ∷ xs) zero t h e = e
 take_there (suc n) (x ∷ xs) (suc o) t h e = take_there n xs o t (omega arith) e
 
 -- what one more item adds
-adds_more : {T : Type 0} (adds : ℕ → T → ℕ → ℕ → Type 0) (first k : ℕ) (items : List T) (t : T) → slice_get items k ≡ Some t → (x n : ℕ)
+adds_more : {T : Type 0} (adds : ℕ → T → ℕ → ℕ → Type 0) (first k : ℕ) (items : List T) (t : T)
+    → slice_get items k ≡ Some t → (x n : ℕ)
     → AddsSome adds first (take (k + 1) items) x n ↔ (AddsSome adds first (take k items) x n ⊎ adds (first + k) t x n)
 adds_more {T = T} adds first k items t e x n = (
   λ a.
@@ -40,26 +43,33 @@ adds_more {T = T} adds first k items t e x n = (
         | inl lt ↦ inl (a.0, a.1, take_there k items a.0 a.1 lt here.1, a.3)
         | inr ge ↦
             let at : a.0 ≡ k = omega arith in
-            let P : ℕ → Type 0 = λ j. adds (first + j) a.1 x n in let Q : ℕ → Type 0 = λ j. slice_get items j ≡ Some a.1 in
-            let got : slice_get items k ≡ Some a.1 = subst Q at here.1 in let same : a.1 ≡ t = let b : Some a.1 ≡ Some t = sym got ∙ e in cc in
+            let P : ℕ → Type 0 = λ j. adds (first + j) a.1 x n in
+            let Q : ℕ → Type 0 = λ j. slice_get items j ≡ Some a.1 in
+            let got : slice_get items k ≡ Some a.1 = subst Q at here.1 in
+            let same : a.1 ≡ t = let b : Some a.1 ≡ Some t = sym got ∙ e in cc in
             let R : T → Type 0 = λ y. adds (first + k) y x n in inr (subst R same (subst P at a.3))
       ],
   λ h. elim h [
-    | inl a ↦ let r = take_under k items a.0 a.1 a.2 in (a.0, a.1, take_there (k + 1) items a.0 a.1 (omega arith) r.1, a.3)
+    | inl a ↦ let r = take_under k items a.0 a.1 a.2 in
+        (a.0, a.1, take_there (k + 1) items a.0 a.1 (omega arith) r.1, a.3)
     | inr b ↦ (k, t, take_there (k + 1) items k t (omega arith) e, b)
   ],
 )
 
 -- the seat has posted what it had before and what the items add
 abbrev pub HasMarked : (ℕ → List ℕ) → ℕ → List (Option ℕ) → MarkSeatValue → MarkSeatValue → Type 0
-HasMarked reach first items old new = (x n : ℕ) → HasPosted reach new x n ↔ (HasPosted reach old x n ⊎ AddsSome (Posts reach) first items x n)
+HasMarked reach first items old new = (x n : ℕ)
+    → HasPosted reach new x n ↔ (HasPosted reach old x n ⊎ AddsSome (Posts reach) first items x n)
 
 -- one more item with a root
-pub marks_root : (reach : ℕ → List ℕ) (first k r : ℕ) (items : List (Option ℕ)) (old was new : MarkSeatValue) → slice_get items k ≡ Some (Some r)
-    → new.view.marks ≡ (r, first + k) ∷ was.view.marks → HasMarked reach first (take k items) old was → HasMarked reach first (take (k + 1) items) old new
+pub marks_root : (reach : ℕ → List ℕ) (first k r : ℕ) (items : List (Option ℕ)) (old was new : MarkSeatValue)
+    → slice_get items k ≡ Some (Some r)
+    → new.view.marks ≡ (r, first + k) ∷ was.view.marks → HasMarked reach first (take k items) old was
+    → HasMarked reach first (take (k + 1) items) old new
 marks_root reach first k r items old was new e marks before x n =
     let more = adds_more (Posts reach) first k items (Some r) e x n in
-    let now : List (ℕ × ℕ) = at_each (first + k) (reach r) in let had : List (ℕ × ℕ) = marked_posts reach was.view.marks in
+    let now : List (ℕ × ℕ) = at_each (first + k) (reach r) in
+    let had : List (ℕ × ℕ) = marked_posts reach was.view.marks in
     let P : List (ℕ × ℕ) → Type 0 = λ ms. Contains (marked_posts reach ms) (x, n) in (
       λ h. elim (Contains-append_cases now had (x, n) (subst P marks h)) [
         | inl new_one ↦ let t = each_to (first + k) (reach r) x n new_one in inr (more.1 (inr (sym t.0, t.1)))
@@ -69,13 +79,15 @@ marks_root reach first k r items old was new e marks before x n =
         | inl a ↦ Contains-append_right now had (x, n) ((before x n).1 (inl a))
         | inr b ↦ elim (more.0 b) [
           | inl c ↦ Contains-append_right now had (x, n) ((before x n).1 (inr c))
-          | inr d ↦ Contains-append_left now had (x, n) (subst (λ m. Contains now (x, m)) (sym d.0) (in_map (λ f. (f, first + k)) (reach r) x d.1))
+          | inr d ↦ Contains-append_left now had (x, n)
+              (subst (λ m. Contains now (x, m)) (sym d.0) (in_map (λ f. (f, first + k)) (reach r) x d.1))
         ]
       ]),
     )
 
 -- one more item without a root
-pub marks_none : (reach : ℕ → List ℕ) (first k : ℕ) (items : List (Option ℕ)) (old was new : MarkSeatValue) → slice_get items k ≡ Some None
+pub marks_none : (reach : ℕ → List ℕ) (first k : ℕ) (items : List (Option ℕ)) (old was new : MarkSeatValue)
+    → slice_get items k ≡ Some None
     → new ≡ was → HasMarked reach first (take k items) old was → HasMarked reach first (take (k + 1) items) old new
 marks_none reach first k items old was new e same before x n =
     let more = adds_more (Posts reach) first k items None e x n in
@@ -98,18 +110,22 @@ all_posted reach roots old new marks together none final g n =
       λ h.
           let post = marked_to reach (flat_map of_seat (reverse new)) g n (subst Q final h) in
           let by = of_flat of_seat (reverse new) (post.0, n) post.1 in
-          let seat = Contains-permutation (reverse new) new by.0 (IsPermutation-sym new (reverse new) (IsPermutation-reverse new)) by.1 in
-          let at : slice_get new seat.0 ≡ Some by.0 = slice_get-get_or new seat.0 by.0 seat.1 ∙ ap (λ (s : MarkSeatValue). Some s) seat.2 in
+          let seat = Contains-permutation (reverse new) new by.0
+            (IsPermutation-sym new (reverse new) (IsPermutation-reverse new)) by.1 in
+          let at : slice_get new seat.0 ≡ Some by.0 = slice_get-get_or new seat.0 by.0 seat.1
+            ∙ ap (λ (s : MarkSeatValue). Some s) seat.2 in
           elim ((together g n).0 (seat.0, by.0, at, marked_from reach by.0.view.marks post.0 g n by.2 post.2)) [
             | inl was ↦
-                absurd (none_in (g, n) (subst Q (all_get (λ (s : MarkSeatValue). s.view.marks ≡ []) old was.0 was.1 none was.2) was.3))
+                absurd (none_in (g, n)
+                  (subst Q (all_get (λ (s : MarkSeatValue). s.view.marks ≡ []) old was.0 was.1 none was.2) was.3))
             | inr a ↦
                 let same : a.0 ≡ n = let e = a.3.0 in omega arith in
                 let P : ℕ → Type 0 = λ k. slice_get roots k ≡ Some a.1 in (a.1, subst P same a.2, a.3.1)
           ],
       λ r.
           let got = (together g n).1 (inr (n, r.0, r.1, (omega arith, r.2))) in
-          let there : Contains new got.1 = (got.0, slice_get_within new got.0 got.1 got.2, get_or_from_slice_get new got.0 got.1 got.1 got.2) in
+          let there : Contains new got.1 =
+            (got.0, slice_get_within new got.0 got.1 got.2, get_or_from_slice_get new got.0 got.1 got.1 got.2) in
           let seat = Contains-permutation new (reverse new) got.1 (IsPermutation-reverse new) there in
           let post = marked_to reach got.1.view.marks g n got.3 in
           subst Q (sym final) (marked_from reach (flat_map of_seat (reverse new)) post.0 g n
@@ -122,12 +138,15 @@ same_sums f [] (y ∷ ys) e = let bad : [] ≡ f y ∷ map f ys = e in cc
 same_sums f (x ∷ xs) [] e = let bad : f x ∷ map f xs ≡ [] = e in cc
 same_sums f (x ∷ xs) (y ∷ ys) e =
     let all : f x ∷ map f xs ≡ f y ∷ map f ys = e in
-    let h : f x ≡ f y = cc in let t : map f xs ≡ map f ys = cc in omega (arith, sum_by-cons f x xs, sum_by-cons f y ys, same_sums f xs ys t)
+    let h : f x ≡ f y = cc in let t : map f xs ≡ map f ys = cc in
+    omega (arith, sum_by-cons f x xs, sum_by-cons f y ys, same_sums f xs ys t)
 
 -- a vector whose whole slice was written
-pub written : {X : Type 0} (items slice new : List X) (n : ℕ) → slice ≡ items → length slice ≡ n → length new ≡ length slice
+pub written : {X : Type 0} (items slice new : List X) (n : ℕ) → slice ≡ items → length slice ≡ n
+    → length new ≡ length slice
     → take n (new ++ drop (length new) items) ≡ new
 written items slice new n value len same =
     let all : length items ≡ length slice = ap (λ l. length l) (sym value) in
-    ap (λ l. take n (new ++ l)) (drop_of_length-le items (omega arith)) ∙ ap (λ l. take n l) (append-nil new) ∙ ap (λ k. take k new) (sym len ∙ sym same)
+    ap (λ l. take n (new ++ l)) (drop_of_length-le items (omega arith)) ∙ ap (λ l. take n l) (append-nil new)
+      ∙ ap (λ k. take k new) (sym len ∙ sym same)
     ∙ take-length new

@@ -20,10 +20,12 @@ suc_add k n = omega arith
 
 pub take_of_two : {A : Type 0} (xs ys : List A) (n : ℕ) → take (length xs + n) (xs ++ ys) ≡ xs ++ take n ys
 take_of_two [] ys n = ap (λ k. take k ys) (zero_add n)
-take_of_two (x ∷ xs) ys n = ap (λ k. take k (x ∷ (xs ++ ys))) (suc_add (length xs) n) ∙ ap (λ l. x ∷ l) (take_of_two xs ys n)
+take_of_two (x ∷ xs) ys n = ap (λ k. take k (x ∷ (xs ++ ys))) (suc_add (length xs) n)
+    ∙ ap (λ l. x ∷ l) (take_of_two xs ys n)
 
 consumes_nothing : (a b c : Option (List ℕ)) (xs : List ℕ) → Consumes a b xs → Consumes b c [] → Consumes a c xs
-consumes_nothing a b c xs first more = subst (λ l. Consumes a c l) (append-nil xs) (Consumes-trans a b c xs [] first more)
+consumes_nothing a b c xs first more =
+    subst (λ l. Consumes a c l) (append-nil xs) (Consumes-trans a b c xs [] first more)
 
 add_zero : (n : ℕ) → n + 0 ≡ n
 add_zero n = omega arith
@@ -40,12 +42,16 @@ pub record IsReading (old now : Reads) (room : List ℕ) (filled : ℕ) : Type 0
   pub failures : now.failures ≡ old.failures
   pub left : Consumes old.left now.left (take filled room)
 
-long_prefix : (room sub : List ℕ) (filled : ℕ) → filled ≤ length room → length (take filled room ++ sub) ≡ filled + length sub
-long_prefix room sub filled within = length-append (take filled room) sub ∙ ap (λ k. k + length sub) (length-take-le filled room within)
+long_prefix : (room sub : List ℕ) (filled : ℕ) → filled ≤ length room
+    → length (take filled room ++ sub) ≡ filled + length sub
+long_prefix room sub filled within = length-append (take filled room) sub
+    ∙ ap (λ k. k + length sub) (length-take-le filled room within)
 
-prefix_of : (room sub : List ℕ) (filled n : ℕ) → filled ≤ length room → take (filled + n) (take filled room ++ sub) ≡ take filled room ++ take n sub
+prefix_of : (room sub : List ℕ) (filled n : ℕ) → filled ≤ length room
+    → take (filled + n) (take filled room ++ sub) ≡ take filled room ++ take n sub
 prefix_of room sub filled n within =
-    subst (λ k. take (k + n) (take filled room ++ sub) ≡ take filled room ++ take n sub) (length-take-le filled room within)
+    subst (λ k. take (k + n) (take filled room ++ sub) ≡ take filled room ++ take n sub)
+      (length-take-le filled room within)
     (take_of_two (take filled room) sub n)
 
 pub read_more : (old now new : Reads) (room sub : List ℕ) (filled n : ℕ) → IsReading old now room filled
@@ -58,7 +64,8 @@ read_more old now new room sub filled n so short some once =
       within = (let h = long_prefix room sub filled so.within in omega (arith, h, short));
       bytes = once.bytes ∙ ap (λ l. l ++ take n sub) so.bytes ∙ append_assoc old.bytes (take filled room) (take n sub)
           ∙ ap (λ l. old.bytes ++ l) (sym (prefix_of room sub filled n so.within));
-      calls = (let h = ap length once.calls ∙ length-append now.calls (record { room = length sub; given = Some n } ∷ []) in let k = so.calls in
+      calls = (let h = ap length once.calls
+          ∙ length-append now.calls (record { room = length sub; given = Some n } ∷ []) in let k = so.calls in
           omega (arith, h, k, some));
       failures = once.failures ∙ so.failures;
       left = subst (λ l. Consumes old.left new.left l) (sym (prefix_of room sub filled n so.within))
@@ -69,23 +76,27 @@ pub read_none : (old now new : Reads) (room sub : List ℕ) (filled : ℕ) → I
     → 0 < length sub → IsGiven now new sub 0
     → IsRead (length (take filled room ++ sub)) old new (take filled (take filled room ++ sub))
 read_none old now new room sub filled so some once =
-    let prefix = subst (λ k. take k (take filled room ++ sub) ≡ take filled room ++ []) (add_zero filled) (prefix_of room sub filled 0 so.within)
+    let prefix = subst (λ k. take k (take filled room ++ sub) ≡ take filled room ++ []) (add_zero filled)
+      (prefix_of room sub filled 0 so.within)
     ∙ append-nil (take filled room) in
     let call : Call = record { room = length sub; given = Some 0 } in
     record {
       own = so.own ++ call ∷ [];
       calls = once.calls ∙ ap (λ l. l ++ call ∷ []) so.made ∙ append_assoc old.calls so.own (call ∷ []);
       given = once.bytes ∙ append-nil now.bytes ∙ so.bytes ∙ ap (λ l. old.bytes ++ l) (sym prefix);
-      within = (let h = long_prefix room sub filled so.within in let k = ap length prefix ∙ length-take-le filled room so.within in omega (arith, h, k));
+      within = (let h = long_prefix room sub filled so.within in
+          let k = ap length prefix ∙ length-take-le filled room so.within in omega (arith, h, k));
       whole = inr
-          (record { earlier = so.own; last = call; called = refl; room = some; nothing = refl; known = once.ended refl some });
+          (record { earlier = so.own; last = call; called = refl; room = some; nothing = refl;
+            known = once.ended refl some });
       failures = once.failures ∙ so.failures;
       left = subst (λ l. Consumes old.left new.left l) (sym prefix)
           (consumes_nothing old.left now.left new.left (take filled room) so.left once.left);
     }
 
 -- a room whose end was written anew
-pub put_end : (room sub : List ℕ) (filled : ℕ) → filled ≤ length room → put_mid filled (length room - filled) room sub ≡ take filled room ++ sub
+pub put_end : (room sub : List ℕ) (filled : ℕ) → filled ≤ length room
+    → put_mid filled (length room - filled) room sub ≡ take filled room ++ sub
 put_end room sub filled within = ap (λ l. take filled room ++ (sub ++ l))
     (drop_all (length room - filled) (drop filled room) (let h = length-drop filled room in omega (arith, h)))
     ∙ ap (λ l. take filled room ++ l) (append-nil sub)
@@ -115,7 +126,8 @@ written_more old now new response written n so short once =
           ∙ ap (λ l. old.bytes ++ l) (sym (back_of response written (suc n)));
       failures = (let h = once.failures in let k = so.failures in grind (arith, nat_tests));
       contents = subst (λ l. Appends old.contents new.contents l) (sym (back_of response written (suc n)))
-          (Appends-trans old.contents now.contents new.contents (take written response) (take (suc n) (drop written response)) so.contents once.contents);
+          (Appends-trans old.contents now.contents new.contents (take written response)
+            (take (suc n) (drop written response)) so.contents once.contents);
     }
 
 pub written_some : (old now new : Writes) (response : List ℕ) (written n : ℕ) {rest : List ℕ}

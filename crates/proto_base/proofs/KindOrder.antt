@@ -32,13 +32,15 @@ numbers = each_variant enum.parts tt (λ c. pos (number_of (enum.make c)))
 
 pub numbered : (k : Kind) → slice_index_or numbers (tag_of the_type k) (pos 0) ≡ pos (number_of k)
 numbered k =
-    at_variant enum.parts tt (λ c. pos (number_of (enum.make c))) (pos 0) (enum.as_values k) ∙ ap (λ l. pos (number_of l)) (enum.eta k)
+    at_variant enum.parts tt (λ c. pos (number_of (enum.make c))) (pos 0) (enum.as_values k)
+      ∙ ap (λ l. pos (number_of l)) (enum.eta k)
 
 compared : (m n : ℕ) → int_cmp (pos m) (pos n) ≡ nat_cmp m n
 compared m n = grind (arith, nat_tests)
 
 -- as the derived order compares kinds
-pub by_number : (a b : Kind) → int_cmp (number the_type numbers a) (number the_type numbers b) ≡ nat_cmp (number_of a) (number_of b)
+pub by_number : (a b : Kind) → int_cmp (number the_type numbers a) (number the_type numbers b)
+    ≡ nat_cmp (number_of a) (number_of b)
 by_number a b = rw (numbered a, numbered b) (compared (number_of a) (number_of b))
 
 pub one_number : (a b : Kind) → sameb the_type a b ≡ eq_by_cmp (on number_of nat_cmp) a b

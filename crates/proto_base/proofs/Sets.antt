@@ -40,7 +40,8 @@ at_most_on a b c (inr h) (inl k) = inl (omega (arith, h.0, k))
 at_most_on a b c (inr h) (inr k) = inr (h.0 ∙ k.0, omega (arith, h.1, k.1))
 
 -- what comes no later than the least comes no later than each
-least_after : (S : Spot → Type 0) (a : Option Spot) (c x : Spot) → IsLeast S a → ((y : Spot) → a ≡ Some y → AtMost c y) → S x → AtMost c x
+least_after : (S : Spot → Type 0) (a : Option Spot) (c x : Spot) → IsLeast S a → ((y : Spot) → a ≡ Some y → AtMost c y)
+    → S x → AtMost c x
 least_after S None c x p h s = absurd (p.is x s)
 least_after S (Some y) c x p h s = at_most_on c y x (h y refl) (p.is.least x s)
 
@@ -49,7 +50,8 @@ least_no S None x p h s = p.is x s
 least_no S (Some y) x p h s = h y refl
 
 -- U is the union of S and T
-pub least_or : (S T U : Spot → Type 0) (a b r : Option Spot) → ((x : Spot) → U x → S x ⊎ T x) → ((x : Spot) → S x → U x) → ((x : Spot) → T x → U x)
+pub least_or : (S T U : Spot → Type 0) (a b r : Option Spot) → ((x : Spot) → U x → S x ⊎ T x) → ((x : Spot) → S x → U x)
+    → ((x : Spot) → T x → U x)
     → IsLeast S a → IsLeast T b → IsLesser a b r → IsLeast U r
 least_or S T U a b None split left right p q w = least_none U (λ x u. elim (split x u) [
   | inl s ↦ least_no S a x p (λ y e. w.least.is y (inl e)) s
@@ -63,7 +65,8 @@ least_or S T U a b (Some c) split left right p q w = least_some U c
     ])
 
 -- two sets with the same elements
-pub least_same : (S U : Spot → Type 0) (a : Option Spot) → ((x : Spot) → U x → S x) → ((x : Spot) → S x → U x) → IsLeast S a → IsLeast U a
+pub least_same : (S U : Spot → Type 0) (a : Option Spot) → ((x : Spot) → U x → S x) → ((x : Spot) → S x → U x)
+    → IsLeast S a → IsLeast U a
 least_same S U None back on p = least_none U (λ x u. p.is x (back x u))
 least_same S U (Some a) back on p = least_some U a (on a p.is.among) (λ x u. p.is.least x (back x u))
 
@@ -82,23 +85,29 @@ each_none xs S = least_none (EachTo xs 0 S) (λ x w. omega (arith, w.2))
 pub one_at : {X : Type 0} (xs : List X) (i j : ℕ) (a b : X) → i ≡ j → StandsAt xs i a → StandsAt xs j b → a ≡ b
 one_at xs i j a b e s t = sym s.1 ∙ ap (λ k. get_or xs k a) e ∙ get_or_default xs j a b t.0 ∙ t.1
 
-each_split : {X : Type 0} (xs : List X) (S : X → Spot → Type 0) (n : ℕ) (a : X) → StandsAt xs n a → (x : Spot) → EachTo xs (n + 1) S x → EachTo xs n S x ⊎ S a x
+each_split : {X : Type 0} (xs : List X) (S : X → Spot → Type 0) (n : ℕ) (a : X) → StandsAt xs n a → (x : Spot)
+    → EachTo xs (n + 1) S x → EachTo xs n S x ⊎ S a x
 each_split xs S n a here x (i, b, below, there, s) = elim (cases_lt i n) [
   | inl old ↦ inl (i, b, old, there, s)
   | inr last ↦ inr (subst (λ y. S y x) (one_at xs i n b a (omega arith) there here) s)
 ]
 
-pub each_more : {X : Type 0} (xs : List X) (S : X → Spot → Type 0) (n : ℕ) (a : X) (p q r : Option Spot) → StandsAt xs n a → IsLeast (EachTo xs n S) p
+pub each_more : {X : Type 0} (xs : List X) (S : X → Spot → Type 0) (n : ℕ) (a : X) (p q r : Option Spot)
+    → StandsAt xs n a → IsLeast (EachTo xs n S) p
     → IsLeast (S a) q → IsLesser p q r → IsLeast (EachTo xs (n + 1) S) r
-each_more xs S n a p q r here h k w = least_or (EachTo xs n S) (S a) (EachTo xs (n + 1) S) p q r (each_split xs S n a here)
+each_more xs S n a p q r here h k w =
+    least_or (EachTo xs n S) (S a) (EachTo xs (n + 1) S) p q r (each_split xs S n a here)
     (λ x v. (v.0, v.1, omega (arith, v.2), v.3, v.4)) (λ x s. (n, a, omega arith, here, s)) h k w
 
-pub each_all : {X : Type 0} (xs : List X) (S : X → Spot → Type 0) (n : ℕ) (r : Option Spot) → length xs ≤ n → IsLeast (EachTo xs n S) r → IsLeast (Each xs S) r
-each_all xs S n r end h = least_same (EachTo xs n S) (Each xs S) r (λ x v. (v.0, v.1, omega (arith, v.2.0), v.2, v.3)) (λ x v. (v.0, v.1, v.3, v.4)) h
+pub each_all : {X : Type 0} (xs : List X) (S : X → Spot → Type 0) (n : ℕ) (r : Option Spot) → length xs ≤ n
+    → IsLeast (EachTo xs n S) r → IsLeast (Each xs S) r
+each_all xs S n r end h = least_same (EachTo xs n S) (Each xs S) r (λ x v. (v.0, v.1, omega (arith, v.2.0), v.2, v.3))
+    (λ x v. (v.0, v.1, v.3, v.4)) h
 
 -- clashes of the first n elements
 abbrev pub LaterTo : {X : Type 0} → List X → ℕ → (X → X → Type 0) → (X → Spot) → Spot → Type 0
-LaterTo {X} xs n R at x = (i j : ℕ) × (a b : X) × (i < j) × (j < n) × StandsAt xs i a × StandsAt xs j b × R a b × (x ≡ at b)
+LaterTo {X} xs n R at x = (i j : ℕ) × (a b : X) × (i < j) × (j < n) × StandsAt xs i a × StandsAt xs j b
+    × R a b × (x ≡ at b)
 
 -- an earlier element that clashes with b
 abbrev pub HasEarlier : {X : Type 0} → List X → ℕ → (X → X → Type 0) → X → Type 0
@@ -107,7 +116,8 @@ HasEarlier {X} xs n R b = (i : ℕ) × (a : X) × (i < n) × StandsAt xs i a × 
 pub later_none : {X : Type 0} (xs : List X) (R : X → X → Type 0) (at : X → Spot) → IsLeast (LaterTo xs 0 R at) None
 later_none xs R at = least_none (LaterTo xs 0 R at) (λ x w. omega (arith, w.5))
 
-later_split : {X : Type 0} (xs : List X) (R : X → X → Type 0) (at : X → Spot) (n : ℕ) (c : X) → StandsAt xs n c → (x : Spot) → LaterTo xs (n + 1) R at x
+later_split : {X : Type 0} (xs : List X) (R : X → X → Type 0) (at : X → Spot) (n : ℕ) (c : X) → StandsAt xs n c
+    → (x : Spot) → LaterTo xs (n + 1) R at x
     → LaterTo xs n R at x ⊎ (HasEarlier xs n R c × (x ≡ at c))
 later_split xs R at n c here x (i, j, a, b, before, below, there, then, r, e) = elim (cases_lt j n) [
   | inl old ↦ inl (i, j, a, b, before, old, there, then, r, e)
@@ -115,24 +125,30 @@ later_split xs R at n c here x (i, j, a, b, before, below, there, then, r, e) = 
       inr ((i, a, omega arith, there, subst (R a) same r), e ∙ ap at same))
 ]
 
-later_old : {X : Type 0} (xs : List X) (R : X → X → Type 0) (at : X → Spot) (n : ℕ) (x : Spot) → LaterTo xs n R at x → LaterTo xs (n + 1) R at x
-later_old xs R at n x (i, j, a, b, before, below, there, then, r, e) = (i, j, a, b, before, omega arith, there, then, r, e)
+later_old : {X : Type 0} (xs : List X) (R : X → X → Type 0) (at : X → Spot) (n : ℕ) (x : Spot) → LaterTo xs n R at x
+    → LaterTo xs (n + 1) R at x
+later_old xs R at n x (i, j, a, b, before, below, there, then, r, e) =
+    (i, j, a, b, before, omega arith, there, then, r, e)
 
-pub later_clash : {X : Type 0} (xs : List X) (R : X → X → Type 0) (at : X → Spot) (n : ℕ) (c : X) (p r : Option Spot) → StandsAt xs n c → HasEarlier xs n R c
+pub later_clash : {X : Type 0} (xs : List X) (R : X → X → Type 0) (at : X → Spot) (n : ℕ) (c : X) (p r : Option Spot)
+    → StandsAt xs n c → HasEarlier xs n R c
     → IsLeast (LaterTo xs n R at) p → IsLesser p (Some (at c)) r → IsLeast (LaterTo xs (n + 1) R at) r
-later_clash xs R at n c p r here early h w = least_or (LaterTo xs n R at) (λ x. x ≡ at c) (LaterTo xs (n + 1) R at) p (Some (at c)) r
+later_clash xs R at n c p r here early h w =
+    least_or (LaterTo xs n R at) (λ x. x ≡ at c) (LaterTo xs (n + 1) R at) p (Some (at c)) r
     (λ x v. elim (later_split xs R at n c here x v) [ inl old ↦ inl old | inr new ↦ inr new.1 ])
     (later_old xs R at n)
     (λ x e. (early.0, n, early.1, c, early.2, omega arith, early.3, here, early.4, e))
     h (least_one (at c)) w
 
-pub later_skip : {X : Type 0} (xs : List X) (R : X → X → Type 0) (at : X → Spot) (n : ℕ) (c : X) (p : Option Spot) → StandsAt xs n c → (HasEarlier xs n R c → ⊥)
+pub later_skip : {X : Type 0} (xs : List X) (R : X → X → Type 0) (at : X → Spot) (n : ℕ) (c : X) (p : Option Spot)
+    → StandsAt xs n c → (HasEarlier xs n R c → ⊥)
     → IsLeast (LaterTo xs n R at) p → IsLeast (LaterTo xs (n + 1) R at) p
 later_skip xs R at n c p here none h = least_same (LaterTo xs n R at) (LaterTo xs (n + 1) R at) p
     (λ x v. elim (later_split xs R at n c here x v) [ inl old ↦ old | inr new ↦ absurd (none new.0) ])
     (later_old xs R at n) h
 
-pub later_all : {X : Type 0} (xs : List X) (R : X → X → Type 0) (at : X → Spot) (n : ℕ) (r : Option Spot) → length xs ≤ n → IsLeast (LaterTo xs n R at) r
+pub later_all : {X : Type 0} (xs : List X) (R : X → X → Type 0) (at : X → Spot) (n : ℕ) (r : Option Spot)
+    → length xs ≤ n → IsLeast (LaterTo xs n R at) r
     → IsLeast (Later xs R at) r
 later_all xs R at n r end h = least_same (LaterTo xs n R at) (Later xs R at) r
     (λ x v. (v.0, v.1, v.2, v.3, v.4, omega (arith, v.6.0), v.5, v.6, v.7, v.8))
@@ -142,21 +158,28 @@ later_all xs R at n r end h = least_same (LaterTo xs n R at) (Later xs R at) r
 abbrev pub WithTo : {X : Type 0} → (Spot → Type 0) → List X → ℕ → (X → Spot → Type 0) → Spot → Type 0
 WithTo {X} B xs n S x = B x ⊎ EachTo xs n S x
 
-pub with_none : {X : Type 0} (B : Spot → Type 0) (xs : List X) (S : X → Spot → Type 0) (p : Option Spot) → IsLeast B p → IsLeast (WithTo B xs 0 S) p
-with_none B xs S p h = least_same B (WithTo B xs 0 S) p (λ x v. elim v [ inl b ↦ b | inr w ↦ absurd (omega (arith, w.2)) ]) (λ x b. inl b) h
+pub with_none : {X : Type 0} (B : Spot → Type 0) (xs : List X) (S : X → Spot → Type 0) (p : Option Spot) → IsLeast B p
+    → IsLeast (WithTo B xs 0 S) p
+with_none B xs S p h = least_same B (WithTo B xs 0 S) p
+    (λ x v. elim v [ inl b ↦ b | inr w ↦ absurd (omega (arith, w.2)) ]) (λ x b. inl b) h
 
-with_split : {X : Type 0} (B : Spot → Type 0) (xs : List X) (S : X → Spot → Type 0) (n : ℕ) (a : X) → StandsAt xs n a → (x : Spot) → WithTo B xs (n + 1) S x
+with_split : {X : Type 0} (B : Spot → Type 0) (xs : List X) (S : X → Spot → Type 0) (n : ℕ) (a : X) → StandsAt xs n a
+    → (x : Spot) → WithTo B xs (n + 1) S x
     → WithTo B xs n S x ⊎ S a x
 with_split B xs S n a here x (inl b) = inl (inl b)
-with_split B xs S n a here x (inr w) = elim (each_split xs S n a here x w) [ inl old ↦ inl (inr old) | inr new ↦ inr new ]
+with_split B xs S n a here x (inr w) =
+    elim (each_split xs S n a here x w) [ inl old ↦ inl (inr old) | inr new ↦ inr new ]
 
-with_old : {X : Type 0} (B : Spot → Type 0) (xs : List X) (S : X → Spot → Type 0) (n : ℕ) (x : Spot) → WithTo B xs n S x → WithTo B xs (n + 1) S x
+with_old : {X : Type 0} (B : Spot → Type 0) (xs : List X) (S : X → Spot → Type 0) (n : ℕ) (x : Spot) → WithTo B xs n S x
+    → WithTo B xs (n + 1) S x
 with_old B xs S n x (inl b) = inl b
 with_old B xs S n x (inr v) = inr (v.0, v.1, omega (arith, v.2), v.3, v.4)
 
-pub with_more : {X : Type 0} (B : Spot → Type 0) (xs : List X) (S : X → Spot → Type 0) (n : ℕ) (a : X) (p q r : Option Spot) → StandsAt xs n a
+pub with_more : {X : Type 0} (B : Spot → Type 0) (xs : List X) (S : X → Spot → Type 0) (n : ℕ) (a : X)
+    (p q r : Option Spot) → StandsAt xs n a
     → IsLeast (WithTo B xs n S) p → IsLeast (S a) q → IsLesser p q r → IsLeast (WithTo B xs (n + 1) S) r
-with_more B xs S n a p q r here h k w = least_or (WithTo B xs n S) (S a) (WithTo B xs (n + 1) S) p q r (with_split B xs S n a here) (with_old B xs S n)
+with_more B xs S n a p q r here h k w =
+    least_or (WithTo B xs n S) (S a) (WithTo B xs (n + 1) S) p q r (with_split B xs S n a here) (with_old B xs S n)
     (λ x s. inr (n, a, omega arith, here, s)) h k w
 
 -- keys that compare equal are those with one value
@@ -169,20 +192,25 @@ is_eq_true Equal h = refl
 is_eq_true Greater h = absurd (false≢true h)
 
 pub exact_number : Exact nat_cmp (λ n. n)
-exact_number k q = (λ h. exact_unsigned k q (is_eq_true (nat_cmp k q) h), λ e. rw e (ap is_eq (tied_itself nat_cmp_total q)))
+exact_number k q =
+    (λ h. exact_unsigned k q (is_eq_true (nat_cmp k q) h), λ e. rw e (ap is_eq (tied_itself nat_cmp_total q)))
 
 abbrev pub text_cmp : Bor (List ℕ) → Bor (List ℕ) → Ordering
 text_cmp x y = slice_cmp nat_cmp x.now y.now
 
 pub exact_text : Exact text_cmp (λ k. k.now)
-exact_text k q = (λ h. exact_bytes k.now q.now (is_eq_true (text_cmp k q) h), λ e. rw e (ap is_eq (tied_itself nat_list_cmp_total q.now)))
+exact_text k q =
+    (λ h. exact_bytes k.now q.now (is_eq_true (text_cmp k q) h),
+    λ e. rw e (ap is_eq (tied_itself nat_list_cmp_total q.now)))
 
 -- a table holds the keys of the first n elements
 abbrev pub Seen : {X K T : Type 0} → (K → K → Ordering) → (K → T) → (X → T) → List X → BTreeSet K → ℕ → Type 0
-Seen {X} {K} cmp show key xs s n = (q : K) → (contains cmp s q ≡ true) ↔ ((i : ℕ) × (a : X) × (i < n) × StandsAt xs i a × (key a ≡ show q))
+Seen {X} {K} cmp show key xs s n = (q : K)
+    → (contains cmp s q ≡ true) ↔ ((i : ℕ) × (a : X) × (i < n) × StandsAt xs i a × (key a ≡ show q))
 
 -- what a pass with a table keeps
-pub record Passed {X K T : Type 0} (cmp : K → K → Ordering) (show : K → T) (key : X → T) (at : X → Spot) (xs : List X) (s : BTreeSet K) (n : ℕ)
+pub record Passed {X K T : Type 0} (cmp : K → K → Ordering) (show : K → T) (key : X → T) (at : X → Spot) (xs : List X)
+    (s : BTreeSet K) (n : ℕ)
     (first : Option Spot) : Type 0 where
   pub least : IsLeast (LaterTo xs n (λ a b. key a ≡ key b) at) first
   pub seen : Seen cmp show key xs s n
@@ -195,12 +223,15 @@ pub cond_right : (b o : Bool) → o ≡ true → cond b true o ≡ true
 cond_right true o h = refl
 cond_right false o h = h
 
-pub seen_none : {X K T : Type 0} (cmp : K → K → Ordering) (show : K → T) (key : X → T) (xs : List X) (s : BTreeSet K) → ((q : K) → contains cmp s q ≡ false)
+pub seen_none : {X K T : Type 0} (cmp : K → K → Ordering) (show : K → T) (key : X → T) (xs : List X) (s : BTreeSet K)
+    → ((q : K) → contains cmp s q ≡ false)
     → Seen cmp show key xs s 0
 seen_none cmp show key xs s h q = (λ w. absurd (true≢false (sym w ∙ h q)), λ w. absurd (omega (arith, w.2)))
 
-seen_more : {X K T : Type 0} (cmp : K → K → Ordering) (show : K → T) (key : X → T) (xs : List X) (s t : BTreeSet K) (n : ℕ) (c : X) (k : K) → Exact cmp show
-    → StandsAt xs n c → show k ≡ key c → Updates cmp s t k true → Seen cmp show key xs s n → Seen cmp show key xs t (n + 1)
+seen_more : {X K T : Type 0} (cmp : K → K → Ordering) (show : K → T) (key : X → T) (xs : List X) (s t : BTreeSet K)
+    (n : ℕ) (c : X) (k : K) → Exact cmp show
+    → StandsAt xs n c → show k ≡ key c → Updates cmp s t k true → Seen cmp show key xs s n
+    → Seen cmp show key xs t (n + 1)
 seen_more cmp show key xs s t n c k exact here e new seen q = (
   λ h. elim (cond_or (is_eq (cmp k q)) (contains cmp s q) (sym (new.0 q) ∙ h)) [
     | inl same ↦ (n, c, omega arith, here, sym e ∙ (exact k q).0 same)
@@ -208,31 +239,39 @@ seen_more cmp show key xs s t n c k exact here e new seen q = (
   ],
   λ w. new.0 q ∙ elim (cases_lt w.0 n) [
     | inl old ↦ cond_right (is_eq (cmp k q)) (contains cmp s q) ((seen q).1 (w.0, w.1, old, w.3, w.4))
-    | inr last ↦ cond-true (is_eq (cmp k q)) true _ ((exact k q).1 (e ∙ ap key (one_at xs n w.0 c w.1 (omega (arith, w.2, last)) here w.3) ∙ w.4))
+    | inr last ↦ cond-true (is_eq (cmp k q)) true _
+        ((exact k q).1 (e ∙ ap key (one_at xs n w.0 c w.1 (omega (arith, w.2, last)) here w.3) ∙ w.4))
   ],
 )
 
-pub passed_clash : {X K T : Type 0} (cmp : K → K → Ordering) (show : K → T) (key : X → T) (at : X → Spot) (xs : List X) (s t : BTreeSet K) (n : ℕ) (c : X)
-    (k : K) (p r : Option Spot) → Exact cmp show → StandsAt xs n c → show k ≡ key c → Updates cmp s t k true → contains cmp s k ≡ true
+pub passed_clash : {X K T : Type 0} (cmp : K → K → Ordering) (show : K → T) (key : X → T) (at : X → Spot) (xs : List X)
+    (s t : BTreeSet K) (n : ℕ) (c : X)
+    (k : K) (p r : Option Spot) → Exact cmp show → StandsAt xs n c → show k ≡ key c → Updates cmp s t k true
+      → contains cmp s k ≡ true
     → Passed cmp show key at xs s n p → IsLesser p (Some (at c)) r → Passed cmp show key at xs t (n + 1) r
 passed_clash cmp show key at xs s t n c k p r exact here e new old h w =
     let early = (h.seen k).0 old in
     record {
-      least = later_clash xs (λ a b. key a ≡ key b) at n c p r here (early.0, early.1, early.2, early.3, early.4 ∙ e) h.least w;
+      least = later_clash xs (λ a b. key a ≡ key b) at n c p r here
+          (early.0, early.1, early.2, early.3, early.4 ∙ e) h.least w;
       seen = seen_more cmp show key xs s t n c k exact here e new h.seen;
     }
 
-pub passed_skip : {X K T : Type 0} (cmp : K → K → Ordering) (show : K → T) (key : X → T) (at : X → Spot) (xs : List X) (s t : BTreeSet K) (n : ℕ) (c : X)
-    (k : K) (p : Option Spot) → Exact cmp show → StandsAt xs n c → show k ≡ key c → Updates cmp s t k true → contains cmp s k ≡ false
+pub passed_skip : {X K T : Type 0} (cmp : K → K → Ordering) (show : K → T) (key : X → T) (at : X → Spot) (xs : List X)
+    (s t : BTreeSet K) (n : ℕ) (c : X)
+    (k : K) (p : Option Spot) → Exact cmp show → StandsAt xs n c → show k ≡ key c → Updates cmp s t k true
+      → contains cmp s k ≡ false
     → Passed cmp show key at xs s n p → Passed cmp show key at xs t (n + 1) p
 passed_skip cmp show key at xs s t n c k p exact here e new fresh h =
     record {
-      least = later_skip xs (λ a b. key a ≡ key b) at n c p here (λ w. true≢false (sym ((h.seen k).1 (w.0, w.1, w.2, w.3, w.4 ∙ sym e)) ∙ fresh)) h.least;
+      least = later_skip xs (λ a b. key a ≡ key b) at n c p here
+          (λ w. true≢false (sym ((h.seen k).1 (w.0, w.1, w.2, w.3, w.4 ∙ sym e)) ∙ fresh)) h.least;
       seen = seen_more cmp show key xs s t n c k exact here e new h.seen;
     }
 
 -- of two sets
-pub least_union : {S T : Spot → Type 0} {a b r : Option Spot} → IsLeast S a → IsLeast T b → IsLesser a b r → IsLeast (S ∪ T) r
+pub least_union : {S T : Spot → Type 0} {a b r : Option Spot} → IsLeast S a → IsLeast T b → IsLesser a b r
+    → IsLeast (S ∪ T) r
 least_union {S} {T} {a} {b} {r} p q w = least_or S T (S ∪ T) a b r (λ x v. v) (λ x s. inl s) (λ x t. inr t) p q w
 
 -- what a loop over plain structs reads at n

@@ -23,9 +23,11 @@ stands_split (x ∷ xs) ys (suc i) a s = let below = s.0 in elim (stands_split x
 pub stands_left : {X : Type 0} (xs ys : List X) (i : ℕ) (a : X) → StandsAt xs i a → StandsAt (xs ++ ys) i a
 stands_left [] ys i a s = let below = s.0 in absurd (omega arith)
 stands_left (x ∷ xs) ys zero a s = (omega arith, s.1)
-stands_left (x ∷ xs) ys (suc i) a s = let below = s.0 in let w = stands_left xs ys i a (omega arith, s.1) in (omega (arith, w.0), w.1)
+stands_left (x ∷ xs) ys (suc i) a s = let below = s.0 in let w = stands_left xs ys i a (omega arith, s.1) in
+    (omega (arith, w.0), w.1)
 
-pub stands_right : {X : Type 0} (xs ys : List X) (i k : ℕ) (a : X) → k ≡ length xs + i → StandsAt ys i a → StandsAt (xs ++ ys) k a
+pub stands_right : {X : Type 0} (xs ys : List X) (i k : ℕ) (a : X) → k ≡ length xs + i → StandsAt ys i a
+    → StandsAt (xs ++ ys) k a
 stands_right [] ys i k a e s = subst (λ n. StandsAt ys n a) (let e' : i ≡ k = omega arith in e') s
 stands_right (x ∷ xs) ys i zero a e s = absurd (omega arith)
 stands_right (x ∷ xs) ys i (suc k) a e s = let w = stands_right xs ys i k a (omega arith) s in (omega (arith, w.0), w.1)
@@ -47,31 +49,40 @@ halves_of xs ys x (i, j, a, b, before, there, then, r, e) = elim (stands_split x
 ]
 
 of_halves : (xs ys : List MarkedRange) (x : Spot) → Halves xs ys x → ReservedOverlap (xs ++ ys) x
-of_halves xs ys x (inl (inl (i, j, a, b, before, there, then, r, e))) = (i, j, a, b, before, stands_left xs ys i a there, stands_left xs ys j b then, r, e)
+of_halves xs ys x (inl (inl (i, j, a, b, before, there, then, r, e))) =
+    (i, j, a, b, before, stands_left xs ys i a there, stands_left xs ys j b then, r, e)
 of_halves xs ys x (inl (inr (i, j, a, b, before, there, then, r, e))) =
-    (length xs + i, length xs + j, a, b, omega arith, stands_right xs ys i (length xs + i) a refl there, stands_right xs ys j (length xs + j) b refl then, r, e)
+    (length xs + i, length xs + j, a, b, omega arith, stands_right xs ys i (length xs + i) a refl there,
+      stands_right xs ys j (length xs + j) b refl then, r, e)
 of_halves xs ys x (inr (j, b, then, ((i, a, there, r), e))) =
-    (i, length xs + j, a, b, omega (arith, there.0), stands_left xs ys i a there, stands_right xs ys j (length xs + j) b refl then, r, e)
+    (i, length xs + j, a, b, omega (arith, there.0), stands_left xs ys i a there,
+      stands_right xs ys j (length xs + j) b refl then, r, e)
 
-pub halves_least : (xs ys zs : List MarkedRange) (a b p c r : Option Spot) → zs ≡ xs ++ ys → IsLeast (ReservedOverlap xs) a → IsLeast (ReservedOverlap ys) b
+pub halves_least : (xs ys zs : List MarkedRange) (a b p c r : Option Spot) → zs ≡ xs ++ ys
+    → IsLeast (ReservedOverlap xs) a → IsLeast (ReservedOverlap ys) b
     → IsLesser a b p → IsLeast (Each ys (IsAcross xs)) c → IsLesser p c r → IsLeast (ReservedOverlap zs) r
-halves_least xs ys zs a b p c r e h k l m o = rw e (least_same (Halves xs ys) (ReservedOverlap (xs ++ ys)) r (halves_of xs ys) (of_halves xs ys)
+halves_least xs ys zs a b p c r e h k l m o =
+    rw e (least_same (Halves xs ys) (ReservedOverlap (xs ++ ys)) r (halves_of xs ys) (of_halves xs ys)
     (least_union (least_union h k l) m o))
 
-pub used_of : (rs : List MarkedRange) (cover : List Interval) (n : ℕ) → IsCover rs cover → Reached cover n n → IsUsed rs n
+pub used_of : (rs : List MarkedRange) (cover : List Interval) (n : ℕ) → IsCover rs cover
+    → Reached cover n n → IsUsed rs n
 used_of rs cover n h w =
     let (i, r, there, held) = (h.reached n n (omega arith)).0 w in
     let over = held.1 in let under = held.2 in let low = held.3.0 in let high = held.3.1 in
     (i, r, there, (omega arith, omega arith))
 
-pub of_used : (rs : List MarkedRange) (cover : List Interval) (n : ℕ) → IsCover rs cover → IsUsed rs n → Reached cover n n
-of_used rs cover n h (i, r, there, holds) = (h.reached n n (omega arith)).1 (i, r, there, (n, omega arith, omega arith, holds))
+pub of_used : (rs : List MarkedRange) (cover : List Interval) (n : ℕ) → IsCover rs cover → IsUsed rs n
+    → Reached cover n n
+of_used rs cover n h (i, r, there, holds) =
+    (h.reached n n (omega arith)).1 (i, r, there, (n, omega arith, omega arith, holds))
 
 -- a range shares a number with s
 abbrev pub IsShared : List MarkedRange → MarkedRange → Type 0
 IsShared rs s = (i : ℕ) × (r : MarkedRange) × StandsAt rs i r × Share r s
 
-pub shared_of : (rs : List MarkedRange) (cover : List Interval) (s : MarkedRange) → IsCover rs cover → s.start ≤ s.end → Reached cover s.start s.end
+pub shared_of : (rs : List MarkedRange) (cover : List Interval) (s : MarkedRange) → IsCover rs cover → s.start ≤ s.end
+    → Reached cover s.start s.end
     → IsShared rs s
 shared_of rs cover s h up w =
     let (i, r, there, held) = (h.reached s.start s.end up).0 w in

@@ -13,13 +13,17 @@ use Rattle.proto_base.proofs.Sets.{EachTo, each_more, least_hit, least_miss, les
 abbrev pub Hits : {X : Type 0} → (X → Type 0) → (X → Spot) → X → Spot → Type 0
 Hits P at a = Where (P a) (at a)
 
-pub each_hit : {X : Type 0} (xs : List X) (P : X → Type 0) (at : X → Spot) (n : ℕ) (a : X) (p r : Option Spot) → StandsAt xs n a → P a
+pub each_hit : {X : Type 0} (xs : List X) (P : X → Type 0) (at : X → Spot) (n : ℕ) (a : X) (p r : Option Spot)
+    → StandsAt xs n a → P a
     → IsLeast (EachTo xs n (Hits P at)) p → IsLesser p (Some (at a)) r → IsLeast (EachTo xs (n + 1) (Hits P at)) r
-each_hit xs P at n a p r here holds h w = each_more xs (Hits P at) n a p (Some (at a)) r here h (least_hit (P a) (at a) holds) w
+each_hit xs P at n a p r here holds h w =
+    each_more xs (Hits P at) n a p (Some (at a)) r here h (least_hit (P a) (at a) holds) w
 
-pub each_miss : {X : Type 0} (xs : List X) (P : X → Type 0) (at : X → Spot) (n : ℕ) (a : X) (p : Option Spot) → StandsAt xs n a → (P a → ⊥)
+pub each_miss : {X : Type 0} (xs : List X) (P : X → Type 0) (at : X → Spot) (n : ℕ) (a : X) (p : Option Spot)
+    → StandsAt xs n a → (P a → ⊥)
     → IsLeast (EachTo xs n (Hits P at)) p → IsLeast (EachTo xs (n + 1) (Hits P at)) p
-each_miss xs P at n a p here fails h = each_more xs (Hits P at) n a p None p here h (least_miss (P a) (at a) fails) (lesser_none p)
+each_miss xs P at n a p here fails h =
+    each_more xs (Hits P at) n a p None p here h (least_miss (P a) (at a) fails) (lesser_none p)
 
 -- what a list reads as past its end
 abbrev pub no_number : MarkedNumber

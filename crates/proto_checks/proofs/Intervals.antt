@@ -15,9 +15,12 @@ use Rattle.proto_base.proofs.Sets.{one_at}
 
 -- the intervals are those of the first n ranges that hold a number
 abbrev pub IntervalsTo : List MarkedRange → ℕ → List Interval → Type 0
-IntervalsTo rs n xs = (a : Interval) → Contains xs a ↔ ((i : ℕ) × (r : MarkedRange) × (i < n) × StandsAt rs i r × (r.start ≤ r.end) × (a ≡ interval_of r))
+IntervalsTo rs n xs = (a : Interval)
+    → Contains xs a ↔ ((i : ℕ) × (r : MarkedRange) × (i < n) × StandsAt rs i r × (r.start ≤ r.end)
+    × (a ≡ interval_of r))
 
-pub intervals_push : (rs : List MarkedRange) (n : ℕ) (xs : List Interval) (r : MarkedRange) → StandsAt rs n r → r.start ≤ r.end → IntervalsTo rs n xs
+pub intervals_push : (rs : List MarkedRange) (n : ℕ) (xs : List Interval) (r : MarkedRange) → StandsAt rs n r
+    → r.start ≤ r.end → IntervalsTo rs n xs
     → IntervalsTo rs (n + 1) (xs ++ interval_of r ∷ [])
 intervals_push rs n xs r here full h a = (
   λ w. elim (Contains-push_cases xs (interval_of r) a w) [
@@ -26,7 +29,8 @@ intervals_push rs n xs r here full h a = (
   ],
   λ v. elim (cases_lt v.0 n) [
     | inl old ↦ Contains-append_left xs (interval_of r ∷ []) a ((h a).1 (v.0, v.1, old, v.3, v.4, v.5))
-    | inr last ↦ subst (Contains (xs ++ interval_of r ∷ [])) (ap interval_of (one_at rs n v.0 r v.1 (omega (arith, v.2, last)) here v.3) ∙ sym v.5)
+    | inr last ↦ subst (Contains (xs ++ interval_of r ∷ []))
+        (ap interval_of (one_at rs n v.0 r v.1 (omega (arith, v.2, last)) here v.3) ∙ sym v.5)
         (Contains-push xs (interval_of r))
   ],
 )
@@ -34,7 +38,8 @@ intervals_push rs n xs r here full h a = (
 bad_full : (m n : ℕ) → n < m → m ≤ n → ⊥
 bad_full m n h k = omega arith
 
-pub intervals_skip : (rs : List MarkedRange) (n : ℕ) (xs : List Interval) (r : MarkedRange) → StandsAt rs n r → r.end < r.start → IntervalsTo rs n xs
+pub intervals_skip : (rs : List MarkedRange) (n : ℕ) (xs : List Interval) (r : MarkedRange) → StandsAt rs n r
+    → r.end < r.start → IntervalsTo rs n xs
     → IntervalsTo rs (n + 1) xs
 intervals_skip rs n xs r here back h a = (
   λ w. let v = (h a).0 w in (v.0, v.1, omega (arith, v.2), v.3, v.4, v.5),
@@ -45,10 +50,12 @@ intervals_skip rs n xs r here back h a = (
   ],
 )
 
-pub intervals_all : (rs : List MarkedRange) (n : ℕ) (xs sorted : List Interval) → length rs ≤ n → IntervalsTo rs n xs → IsPermutation xs sorted
+pub intervals_all : (rs : List MarkedRange) (n : ℕ) (xs sorted : List Interval) → length rs ≤ n → IntervalsTo rs n xs
+    → IsPermutation xs sorted
     → AreIntervals rs sorted
 intervals_all rs n xs sorted end h p a = (
-  λ w. let v = (h a).0 (Contains-permutation sorted xs a (IsPermutation-sym xs sorted p) w) in (v.0, v.1, v.3, v.4, v.5),
+  λ w. let v = (h a).0 (Contains-permutation sorted xs a (IsPermutation-sym xs sorted p) w) in
+  (v.0, v.1, v.3, v.4, v.5),
   λ v. Contains-permutation xs sorted a p ((h a).1 (v.0, v.1, omega (arith, v.2.0), v.2, v.3, v.4)),
 )
 
@@ -66,16 +73,19 @@ pub length-raised : (top : ℕ) (rest : List Interval) → length (raised top re
 length-raised top [] = refl
 length-raised top (a ∷ rest) = ap (λ n. suc n) (length-raised (max a.end top) rest)
 
-raised_start : (top : ℕ) (rest : List Interval) (k : ℕ) (d e : Interval) → k < length rest → (get_or (raised top rest) k d).start ≡ (get_or rest k e).start
+raised_start : (top : ℕ) (rest : List Interval) (k : ℕ) (d e : Interval) → k < length rest
+    → (get_or (raised top rest) k d).start ≡ (get_or rest k e).start
 raised_start top [] k d e h = absurd (omega arith)
 raised_start top (a ∷ rest) zero d e h = refl
 raised_start top (a ∷ rest) (suc k) d e h = raised_start (max a.end top) rest k d e (omega arith)
 
-raised_top : (top : ℕ) (rest : List Interval) (k : ℕ) (d : Interval) → k < length rest → top ≤ (get_or (raised top rest) k d).end
+raised_top : (top : ℕ) (rest : List Interval) (k : ℕ) (d : Interval) → k < length rest
+    → top ≤ (get_or (raised top rest) k d).end
 raised_top top [] k d h = absurd (omega arith)
 raised_top top (a ∷ rest) zero d h = let g : top ≤ max a.end top = omega arith in g
 raised_top top (a ∷ rest) (suc k) d h =
-    let below = raised_top (max a.end top) rest k d (omega arith) in let g : top ≤ max a.end top = omega arith in omega (arith, below, g)
+    let below = raised_top (max a.end top) rest k d (omega arith) in let g : top ≤ max a.end top = omega arith in
+    omega (arith, below, g)
 
 raised_rises : (top : ℕ) (rest : List Interval) (i j : ℕ) (d : Interval) → i ≤ j → j < length rest
     → (get_or (raised top rest) i d).end ≤ (get_or (raised top rest) j d).end
@@ -85,17 +95,20 @@ raised_rises top (a ∷ rest) zero (suc j) d h k = raised_top (max a.end top) re
 raised_rises top (a ∷ rest) (suc i) zero d h k = absurd (omega arith)
 raised_rises top (a ∷ rest) (suc i) (suc j) d h k = raised_rises (max a.end top) rest i j d (omega arith) (omega arith)
 
-raised_over : (top : ℕ) (rest : List Interval) (k : ℕ) (d e : Interval) → k < length rest → (get_or rest k e).end ≤ (get_or (raised top rest) k d).end
+raised_over : (top : ℕ) (rest : List Interval) (k : ℕ) (d e : Interval) → k < length rest
+    → (get_or rest k e).end ≤ (get_or (raised top rest) k d).end
 raised_over top [] k d e h = absurd (omega arith)
 raised_over top (a ∷ rest) zero d e h = let g : a.end ≤ max a.end top = omega arith in g
 raised_over top (a ∷ rest) (suc k) d e h = raised_over (max a.end top) rest k d e (omega arith)
 
 -- what reaches n when raised is the start's top, or an interval up to there
-raised_back : (top : ℕ) (rest : List Interval) (k n : ℕ) (d e : Interval) → k < length rest → n ≤ (get_or (raised top rest) k d).end
+raised_back : (top : ℕ) (rest : List Interval) (k n : ℕ) (d e : Interval) → k < length rest
+    → n ≤ (get_or (raised top rest) k d).end
     → (n ≤ top) ⊎ ((j : ℕ) × (j ≤ k) × (n ≤ (get_or rest j e).end))
 raised_back top [] k n d e h w = absurd (omega arith)
 raised_back top (a ∷ rest) zero n d e h w =
-    elim (cases_lt top n) [ inl over ↦ inr (0, omega arith, (let v : n ≤ max a.end top = w in omega arith)) | inr under ↦ inl under ]
+    elim (cases_lt top n) [ inl over ↦ inr (0, omega arith, (let v : n ≤ max a.end top = w in omega arith))
+      | inr under ↦ inl under ]
 raised_back top (a ∷ rest) (suc k) n d e h w = elim (raised_back (max a.end top) rest k n d e (omega arith) w) [
   | inl early ↦ (elim (cases_lt top n) [ inl over ↦ inr (0, omega arith, omega arith) | inr under ↦ inl under ])
   | inr v ↦ inr (suc v.0, omega (arith, v.1), v.2)
@@ -120,7 +133,8 @@ reached_back rest n m up (b, (k, below, is), low, high) =
     let start' : (get_or (raised 0 rest) k b).start ≡ b.start = ap (λ (s : Interval). s.start) is in
     let end' : (get_or (raised 0 rest) k b).end ≡ b.end = ap (λ (s : Interval). s.end) is in
     elim (raised_back 0 rest k n b b inside (omega arith)) [
-      | inl none ↦ (get_or rest k b, (k, inside, get_or_default rest k (get_or rest k b) b inside), omega arith, omega arith)
+      | inl none ↦ (get_or rest k b, (k, inside, get_or_default rest k (get_or rest k b) b inside),
+          omega arith, omega arith)
       | inr w ↦ (let j = w.0 in
           let here : j < length rest = omega (arith, w.1) in
           let rises = up j k b w.1 inside in
@@ -129,26 +143,32 @@ reached_back rest n m up (b, (k, below, is), low, high) =
 
 pub raised_is : (rest : List Interval) → RisesByStart rest → IsRaised rest (raised 0 rest)
 raised_is rest up = record {
-  starts = λ i j d h k. (let size = length-raised 0 rest in let inside : j < length rest = omega arith in let one = raised_start 0 rest i d d (omega arith) in
+  starts = λ i j d h k. (let size = length-raised 0 rest in let inside : j < length rest = omega arith in
+      let one = raised_start 0 rest i d d (omega arith) in
       let two = raised_start 0 rest j d d inside in let rises = up i j d h inside in omega arith);
   ends = λ i j d h k. (let size = length-raised 0 rest in raised_rises 0 rest i j d h (omega arith));
   reached = λ n m. (reached_back rest n m up, reached_on rest n m);
 }
 
 -- one more interval raised in place
-pub raised_more : (xs all : List Interval) (k top : ℕ) (d : Interval) → k < length xs → take k xs ++ raised top (drop k xs) ≡ all
+pub raised_more : (xs all : List Interval) (k top : ℕ) (d : Interval) → k < length xs
+    → take k xs ++ raised top (drop k xs) ≡ all
     → take (k + 1) (set xs k (record { start = (get_or xs k d).start; end = max (get_or xs k d).end top }))
-    ++ raised (max (get_or xs k d).end top) (drop (k + 1) (set xs k (record { start = (get_or xs k d).start; end = max (get_or xs k d).end top }))) ≡ all
+    ++ raised (max (get_or xs k d).end top)
+      (drop (k + 1) (set xs k (record { start = (get_or xs k d).start; end = max (get_or xs k d).end top }))) ≡ all
 raised_more xs all k top d h e =
     let a : Interval = record { start = (get_or xs k d).start; end = max (get_or xs k d).end top } in
     let whole = rw (raised_at top xs k d h) at e in
     rw (take_more_set xs k a h, drop-set-lt (k + 1) xs k a (omega arith)) (simp append_assoc whole)
 
-pub raised_all : (xs all : List Interval) (k top : ℕ) → length xs ≤ k → take k xs ++ raised top (drop k xs) ≡ all → xs ≡ all
-raised_all xs all k top h e = let gone : drop k xs ≡ [] = grind (arith, common_steps) in let e' = rw gone at e in grind (arith, common_steps)
+pub raised_all : (xs all : List Interval) (k top : ℕ) → length xs ≤ k → take k xs ++ raised top (drop k xs) ≡ all
+    → xs ≡ all
+raised_all xs all k top h e = let gone : drop k xs ≡ [] = grind (arith, common_steps) in let e' = rw gone at e in
+    grind (arith, common_steps)
 
 -- what the intervals reach is what the ranges hold
-pub cover_is : (rs : List MarkedRange) (xs cover : List Interval) → AreIntervals rs xs → IsRaised xs cover → IsCover rs cover
+pub cover_is : (rs : List MarkedRange) (xs cover : List Interval) → AreIntervals rs xs → IsRaised xs cover
+    → IsCover rs cover
 cover_is rs xs cover members h = record {
   starts = h.starts;
   ends = h.ends;
@@ -157,7 +177,8 @@ cover_is rs xs cover members h = record {
     λ u. (h.reached n m).1 (of_held rs xs n m members u),
   );
 } where
-  held_of : (rs : List MarkedRange) (xs : List Interval) (n m : ℕ) → AreIntervals rs xs → n ≤ m → Reached xs n m → IsHeld rs n m
+  held_of : (rs : List MarkedRange) (xs : List Interval) (n m : ℕ) → AreIntervals rs xs → n ≤ m → Reached xs n m
+      → IsHeld rs n m
   held_of rs xs n m members up (a, member, low, high) =
       let w = (members a).0 member in
       let start = ap (λ (s : Interval). s.start) w.4 in
@@ -194,9 +215,11 @@ blank = record { start = 0; end = 0 }
 
 -- those that begin by m stand before those that do not
 abbrev pub IsBegun : List Interval → (m begun : ℕ) → Type 0
-IsBegun cover m begun = IsPartitionPoint (λ (a : Interval). leb a.start m ≡ true) (λ (a : Interval). leb a.start m ≡ false) cover begun
+IsBegun cover m begun = IsPartitionPoint (λ (a : Interval). leb a.start m ≡ true)
+    (λ (a : Interval). leb a.start m ≡ false) cover begun
 
-pub reached_last : (cover : List Interval) (n m begun : ℕ) (d : Interval) → RisesByEnd cover → begun ≤ length cover → IsBegun cover m begun → Reached cover n m
+pub reached_last : (cover : List Interval) (n m begun : ℕ) (d : Interval) → RisesByEnd cover → begun ≤ length cover
+    → IsBegun cover m begun → Reached cover n m
     → (0 < begun) × (n ≤ (get_or cover (begun - 1) d).end)
 reached_last cover n m begun d up within begins (a, (k, below, is), low, high) =
     let start : (get_or cover k a).start ≡ a.start = ap (λ (s : Interval). s.start) is in
@@ -208,7 +231,8 @@ reached_last cover n m begun d up within begins (a, (k, below, is), low, high) =
       | inr more ↦ (let far = untested (get_or cover k a).start m (begins.1 k a more below) in absurd (omega arith))
     ]
 
-pub last_reached : (cover : List Interval) (n m begun : ℕ) (d : Interval) → begun ≤ length cover → IsBegun cover m begun → 0 < begun
+pub last_reached : (cover : List Interval) (n m begun : ℕ) (d : Interval) → begun ≤ length cover
+    → IsBegun cover m begun → 0 < begun
     → n ≤ (get_or cover (begun - 1) d).end → Reached cover n m
 last_reached cover n m begun d within begins some w =
     let inside : begun - 1 < length cover = omega arith in (

@@ -25,24 +25,33 @@ use Rattle.proto_checks.proofs.Three.{first_of_three, last_of_three, two_of_thre
 use Rattle.proto_base.proofs.Sets.{least_union}
 
 -- statements of a message
-pub item_field : (f : Field) (r : Option Spot) → IsLeast (FieldOptionsBreak (optioned_plain f)) r → IsLeast (ItemBreaks (of.Field f)) r
-item_field f r h = first_of_three (Each (optioned_plain f ∷ []) FieldOptionsBreak) (Each [] OneofBreaks) (Each [] EnumBreaks) r (among_of OneofBreaks [])
+pub item_field : (f : Field) (r : Option Spot) → IsLeast (FieldOptionsBreak (optioned_plain f)) r
+    → IsLeast (ItemBreaks (of.Field f)) r
+item_field f r h = first_of_three (Each (optioned_plain f ∷ []) FieldOptionsBreak) (Each [] OneofBreaks)
+    (Each [] EnumBreaks) r (among_of OneofBreaks [])
     (among_of EnumBreaks []) (least_single FieldOptionsBreak (optioned_plain f) r h)
 
-pub item_map : (m : MapField) (r : Option Spot) → IsLeast (FieldOptionsBreak (optioned m.declarator false false)) r → IsLeast (ItemBreaks (of.Map m)) r
-item_map m r h = first_of_three (Each (optioned m.declarator false false ∷ []) FieldOptionsBreak) (Each [] OneofBreaks) (Each [] EnumBreaks) r
-    (among_of OneofBreaks []) (among_of EnumBreaks []) (least_single FieldOptionsBreak (optioned m.declarator false false) r h)
+pub item_map : (m : MapField) (r : Option Spot) → IsLeast (FieldOptionsBreak (optioned m.declarator false false)) r
+    → IsLeast (ItemBreaks (of.Map m)) r
+item_map m r h = first_of_three (Each (optioned m.declarator false false ∷ []) FieldOptionsBreak) (Each [] OneofBreaks)
+    (Each [] EnumBreaks) r
+    (among_of OneofBreaks []) (among_of EnumBreaks [])
+      (least_single FieldOptionsBreak (optioned m.declarator false false) r h)
 
 pub item_enum : (e : Enum) (r : Option Spot) → IsLeast (EnumBreaks e) r → IsLeast (ItemBreaks (of.Enum e)) r
-item_enum e r h = last_of_three (Each [] FieldOptionsBreak) (Each [] OneofBreaks) (Each (e ∷ []) EnumBreaks) r (among_of FieldOptionsBreak [])
+item_enum e r h = last_of_three (Each [] FieldOptionsBreak) (Each [] OneofBreaks) (Each (e ∷ []) EnumBreaks) r
+    (among_of FieldOptionsBreak [])
     (among_of OneofBreaks []) (least_single EnumBreaks e r h)
 
-pub item_oneof : (o : Oneof) (a b r : Option Spot) → IsLeast (Each (flat_map oneof_field o.items) MemberBreaks) a → IsLeast (OneofBreaks o) b
+pub item_oneof : (o : Oneof) (a b r : Option Spot) → IsLeast (Each (flat_map oneof_field o.items) MemberBreaks) a
+    → IsLeast (OneofBreaks o) b
     → IsLesser a b r → IsLeast (ItemBreaks (of.Oneof o)) r
 item_oneof o a b r h k w =
     let members = map optioned_in_oneof (flat_map oneof_field o.items) in
-    two_of_three (Each members FieldOptionsBreak) (Each (o ∷ []) OneofBreaks) (Each [] EnumBreaks) r (among_of EnumBreaks [])
-    (least_union (each_map FieldOptionsBreak optioned_in_oneof (flat_map oneof_field o.items) a h) (least_single OneofBreaks o b k) w)
+    two_of_three (Each members FieldOptionsBreak) (Each (o ∷ []) OneofBreaks) (Each [] EnumBreaks) r
+      (among_of EnumBreaks [])
+    (least_union (each_map FieldOptionsBreak optioned_in_oneof (flat_map oneof_field o.items) a h)
+      (least_single OneofBreaks o b k) w)
 
 -- a message as a statement
 row_flat : (n : _) (row : Row_of-MessageItem n) → bodies_row row ≡ flat_map bodies_of (items-the_row-MessageItem n row)

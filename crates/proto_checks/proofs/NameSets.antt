@@ -10,7 +10,8 @@ use denote.Ref.{Bor}
 use Rattle.proto_checks.specs.NameSets.{HoldsJust}
 use Rattle.proto_base.proofs.Sets.{text_cmp, exact_text, cond_or, cond_right}
 
-pub set_push : (names : List (List ℕ)) (s t : BTreeSet (Bor (List ℕ))) (k : Bor (List ℕ)) → Updates text_cmp s t k true → HoldsJust names s
+pub set_push : (names : List (List ℕ)) (s t : BTreeSet (Bor (List ℕ))) (k : Bor (List ℕ)) → Updates text_cmp s t k true
+    → HoldsJust names s
     → HoldsJust (names ++ k.now ∷ []) t
 set_push names s t k new set name =
     let q : Bor (List ℕ) = record k { now = name } in (
@@ -24,6 +25,8 @@ set_push names s t k new set name =
       ],
     )
 
-pub set_more : (names : List (List ℕ)) (n : ℕ) (s t : BTreeSet (Bor (List ℕ))) (k : Bor (List ℕ)) → n < length names → k.now ≡ get_or names n k.now
+pub set_more : (names : List (List ℕ)) (n : ℕ) (s t : BTreeSet (Bor (List ℕ))) (k : Bor (List ℕ)) → n < length names
+    → k.now ≡ get_or names n k.now
     → Updates text_cmp s t k true → HoldsJust (take n names) s → HoldsJust (take (n + 1) names) t
-set_more names n s t k below is new set = rw (take_more names n k.now below, ← is) (set_push (take n names) s t k new set)
+set_more names n s t k below is new set =
+    rw (take_more names n k.now below, ← is) (set_push (take n names) s t k new set)

@@ -23,12 +23,14 @@ pub record Repeated (ps : List Package) (is_named : Bool) (first : Option Spot) 
   pub named : (is_named ≡ true) ↔ (0 < length ps)
   pub least : IsLeast (PackageTwice ps) first
 
-stands_left : {X : Type 0} (xs ys : List X) (i : ℕ) (a : X) → i < length xs → get_or xs i a ≡ a → get_or (xs ++ ys) i a ≡ a
+stands_left : {X : Type 0} (xs ys : List X) (i : ℕ) (a : X) → i < length xs → get_or xs i a ≡ a
+    → get_or (xs ++ ys) i a ≡ a
 stands_left [] ys i a within at = absurd (omega arith)
 stands_left (b ∷ rest) ys zero a within at = at
 stands_left (b ∷ rest) ys (suc i) a within at = stands_left rest ys i a (omega arith) at
 
-stands_back : {X : Type 0} (xs ys : List X) (i : ℕ) (a : X) → i < length xs → get_or (xs ++ ys) i a ≡ a → get_or xs i a ≡ a
+stands_back : {X : Type 0} (xs ys : List X) (i : ℕ) (a : X) → i < length xs → get_or (xs ++ ys) i a ≡ a
+    → get_or xs i a ≡ a
 stands_back [] ys i a within at = absurd (omega arith)
 stands_back (b ∷ rest) ys zero a within at = at
 stands_back (b ∷ rest) ys (suc i) a within at = stands_back rest ys i a (omega arith) at
@@ -53,11 +55,14 @@ old_pair ps p x (i, j, a, b, before, s, t, u, e) = (
 new_pair : (ps : List Package) (p : Package) (x : Spot) → 0 < length ps → x ≡ again p → PackageTwice (ps ++ p ∷ []) x
 new_pair [] p x some e = absurd (omega arith)
 new_pair (q ∷ qs) p x some e =
-    (0, length (q ∷ qs), q, p, some, (omega (arith, length_push (q ∷ qs) p), refl), (omega (arith, length_push (q ∷ qs) p), last_is (q ∷ qs) p p), tt, e)
+    (0, length (q ∷ qs), q, p, some, (omega (arith, length_push (q ∷ qs) p), refl),
+      (omega (arith, length_push (q ∷ qs) p), last_is (q ∷ qs) p p), tt, e)
 
-split_pair : (ps : List Package) (p : Package) (x : Spot) → PackageTwice (ps ++ p ∷ []) x → PackageTwice ps x ⊎ ((0 < length ps) × (x ≡ again p))
+split_pair : (ps : List Package) (p : Package) (x : Spot) → PackageTwice (ps ++ p ∷ []) x
+    → PackageTwice ps x ⊎ ((0 < length ps) × (x ≡ again p))
 split_pair ps p x (i, j, a, b, before, s, t, u, e) = elim (cases_lt j (length ps)) [
-  | inl old ↦ inl (i, j, a, b, before, (omega arith, stands_back ps (p ∷ []) i a (omega arith) s.1), (old, stands_back ps (p ∷ []) j b old t.1), u, e)
+  | inl old ↦ inl (i, j, a, b, before, (omega arith, stands_back ps (p ∷ []) i a (omega arith) s.1),
+      (old, stands_back ps (p ∷ []) j b old t.1), u, e)
   | inr last ↦ (
       let here : j ≡ length ps = omega (arith, t.0, length_push ps p) in
       let same : b ≡ p = sym t.1 ∙ ap (λ k. get_or (ps ++ p ∷ []) k b) here ∙ last_is ps p b in
@@ -82,19 +87,27 @@ repeated_none = record {
 }
 
 -- a loop over statements
-pub repeated_next : (ss : List Statement) (i : ℕ) (s : Statement) (p : Package) (is_named : Bool) (a b r : Option Spot) → i < length ss → s ≡ get_or ss i s
-    → file_package s ≡ p ∷ [] → Repeated (flat_map file_package (take i ss)) is_named a → IsLeast (Where (is_named ≡ true) (again p)) b → IsLesser a b r
+pub repeated_next : (ss : List Statement) (i : ℕ) (s : Statement) (p : Package) (is_named : Bool) (a b r : Option Spot)
+    → i < length ss → s ≡ get_or ss i s
+    → file_package s ≡ p ∷ [] → Repeated (flat_map file_package (take i ss)) is_named a
+    → IsLeast (Where (is_named ≡ true) (again p)) b → IsLesser a b r
     → Repeated (flat_map file_package (take (i + 1) ss)) true r
 repeated_next ss i s p is_named a b r within at one h k w =
-    subst (λ ps. Repeated ps true r) (sym (taken file_package ss i s within at ∙ ap (λ z. flat_map file_package (take i ss) ++ z) one))
+    subst (λ ps. Repeated ps true r)
+      (sym (taken file_package ss i s within at ∙ ap (λ z. flat_map file_package (take i ss) ++ z) one))
     (repeated_more (flat_map file_package (take i ss)) p is_named a b r h k w)
 
-pub repeated_skip : (ss : List Statement) (i : ℕ) (s : Statement) (is_named : Bool) (a : Option Spot) → i < length ss → s ≡ get_or ss i s → file_package s ≡ []
-    → Repeated (flat_map file_package (take i ss)) is_named a → Repeated (flat_map file_package (take (i + 1) ss)) is_named a
+pub repeated_skip : (ss : List Statement) (i : ℕ) (s : Statement) (is_named : Bool) (a : Option Spot) → i < length ss
+    → s ≡ get_or ss i s → file_package s ≡ []
+    → Repeated (flat_map file_package (take i ss)) is_named a
+    → Repeated (flat_map file_package (take (i + 1) ss)) is_named a
 repeated_skip ss i s is_named a within at none h =
-    subst (λ ps. Repeated ps is_named a) (sym (taken file_package ss i s within at ∙ ap (λ z. flat_map file_package (take i ss) ++ z) none
+    subst (λ ps. Repeated ps is_named a)
+      (sym (taken file_package ss i s within at ∙ ap (λ z. flat_map file_package (take i ss) ++ z) none
     ∙ append-nil (flat_map file_package (take i ss)))) h
 
-pub repeated_all : (ss : List Statement) (i : ℕ) (is_named : Bool) (a : Option Spot) → length ss ≤ i → Repeated (flat_map file_package (take i ss)) is_named a
+pub repeated_all : (ss : List Statement) (i : ℕ) (is_named : Bool) (a : Option Spot) → length ss ≤ i
+    → Repeated (flat_map file_package (take i ss)) is_named a
     → IsLeast (PackageTwice (flat_map file_package ss)) a
-repeated_all ss i is_named a end h = subst (λ ys. IsLeast (PackageTwice (flat_map file_package ys)) a) (take_all i ss end) h.least
+repeated_all ss i is_named a end h =
+    subst (λ ys. IsLeast (PackageTwice (flat_map file_package ys)) a) (take_all i ss end) h.least

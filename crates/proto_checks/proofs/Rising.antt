@@ -23,13 +23,16 @@ test_below : (a b : ℕ) → true ≡ nat_lt a b → a < b
 test_below a b e = search rules
 
 -- the tests of neighbours say that the numbers rise
-pub tested_rises : (ns : List MarkedNumber) → AllAdjacentBelow (λ (a b : MarkedNumber). true ≡ nat_lt a.number b.number) ns (length ns) → Rises ns
+pub tested_rises : (ns : List MarkedNumber)
+    → AllAdjacentBelow (λ (a b : MarkedNumber). true ≡ nat_lt a.number b.number) ns (length ns) → Rises ns
 tested_rises ns h = λ k d below. test_below (get_or ns k d).number (get_or ns (k + 1) d).number (h k d below)
 
-rises_far : (ns : List MarkedNumber) (i j : ℕ) (d : MarkedNumber) → Rises ns → i < j → j < length ns → (get_or ns i d).number < (get_or ns j d).number
+rises_far : (ns : List MarkedNumber) (i j : ℕ) (d : MarkedNumber) → Rises ns → i < j → j < length ns
+    → (get_or ns i d).number < (get_or ns j d).number
 rises_far ns i j d up before below =
     let one = up i d (omega arith) in
-    let rest = IsNonDecreasingBy-from_all_adjacent number_in ns (λ k e h. (let step = up k e h in omega arith)) (i + 1) j d (omega arith) below in
+    let rest = IsNonDecreasingBy-from_all_adjacent number_in ns (λ k e h. (let step = up k e h in omega arith))
+      (i + 1) j d (omega arith) below in
     omega arith
 
 -- so no number stands twice
@@ -50,7 +53,8 @@ AreApart rs = AllAdjacentBelow (λ a b. true ≡ is_apart a b) rs (length rs)
 apart_told : (a b : MarkedRange) → true ≡ is_apart a b → (a.start ≤ a.end) × (a.end < b.start)
 apart_told a b e = search rules
 
-apart_far : (rs : List MarkedRange) (i j : ℕ) (d : MarkedRange) → AreApart rs → i < j → j < length rs → (get_or rs i d).end < (get_or rs j d).start
+apart_far : (rs : List MarkedRange) (i j : ℕ) (d : MarkedRange) → AreApart rs → i < j → j < length rs
+    → (get_or rs i d).end < (get_or rs j d).start
 apart_far rs i zero d apart before below = absurd (omega arith)
 apart_far rs i (suc k) d apart before below =
     let step = apart_told (get_or rs k d) (get_or rs (k + 1) d) (apart k d (omega arith)) in
@@ -62,7 +66,8 @@ apart_far rs i (suc k) d apart before below =
 
 -- so no two share a number
 pub apart_none : (rs : List MarkedRange) → AreApart rs → IsLeast (ReservedOverlap rs) None
-apart_none rs apart = least_none (ReservedOverlap rs) (λ x (i, j, a, b, before, there, then, (n, (low, high), (low', high')), e). (
+apart_none rs apart = least_none (ReservedOverlap rs)
+    (λ x (i, j, a, b, before, there, then, (n, (low, high), (low', high')), e). (
     let far = apart_far rs i j a apart before then.0 in
     let one = ap (λ (r : MarkedRange). r.end) there.1 in
     let two = ap (λ (r : MarkedRange). r.start) (get_or_default rs j a b then.0 ∙ then.1) in

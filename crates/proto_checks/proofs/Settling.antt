@@ -131,15 +131,19 @@ breaks_by e s x (Some r) h f =
     let w = some_found (is_known_by s) (rules_of e) r h in
     ruled_by e s x r w.0 w.1 (value_of r.kind s.value) refl (sym (told e s (Some r) h) ∙ f)
 
-pub setting_least : (e : Element) (ss : List Setting) (r : Option Spot) → IsLeast (Each (map (judged e) ss) IsFaultOf) r → IsLeast (Each ss (SettingBreaks e)) r
+pub setting_least : (e : Element) (ss : List Setting) (r : Option Spot) → IsLeast (Each (map (judged e) ss) IsFaultOf) r
+    → IsLeast (Each ss (SettingBreaks e)) r
 setting_least e ss r h =
     each_on (judged e) ss IsFaultOf (SettingBreaks e) r (λ s x f. breaks_by e s x (rule_named e s) refl f)
     (fault_of e) h
 
-pub twice_least : (e : Element) (ss : List Setting) (r : Option Spot) → IsLeast (JudgedTwice (map (judged e) ss)) r → IsLeast (OptionTwice ss) r
-twice_least e ss r h = later_map (λ (a b : Judged). a.name ≡ b.name) (λ b. spot b.place kind.OptionTwice) (judged e) ss r h
+pub twice_least : (e : Element) (ss : List Setting) (r : Option Spot) → IsLeast (JudgedTwice (map (judged e) ss)) r
+    → IsLeast (OptionTwice ss) r
+twice_least e ss r h = later_map (λ (a b : Judged). a.name ≡ b.name) (λ b. spot b.place kind.OptionTwice)
+    (judged e) ss r h
 
-pub judged_least : (js : List Judged) (a b r : Option Spot) → IsLeast (Each js IsFaultOf) a → IsLeast (JudgedTwice js) b → IsLesser a b r
+pub judged_least : (js : List Judged) (a b r : Option Spot) → IsLeast (Each js IsFaultOf) a → IsLeast (JudgedTwice js) b
+    → IsLesser a b r
     → (e : Element) (ss : List Setting) → js ≡ map (judged e) ss → IsLeast (SettingsBreak e ss) r
 judged_least js a b r h k w e ss made =
     least_union

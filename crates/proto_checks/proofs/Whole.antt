@@ -18,20 +18,27 @@ use Rattle.proto_base.specs.declared.spot.Spot.{Spot}
 use Rattle.proto_base.proofs.Among.{among_of, least_single, least_append}
 use Rattle.proto_checks.proofs.Three.{first_of_three, second_of_three, last_of_three}
 
-pub statement_message : (m : Message) (r : Option Spot) → IsLeast (MessageBreaks m) r → IsLeast (StatementBreaks (statement.Message m)) r
-statement_message m r h = first_of_three (Each (m ∷ []) MessageBreaks) (Each [] EnumBreaks) (Each [] ServiceBreaks) r (among_of EnumBreaks [])
+pub statement_message : (m : Message) (r : Option Spot) → IsLeast (MessageBreaks m) r
+    → IsLeast (StatementBreaks (statement.Message m)) r
+statement_message m r h = first_of_three (Each (m ∷ []) MessageBreaks) (Each [] EnumBreaks) (Each [] ServiceBreaks) r
+    (among_of EnumBreaks [])
     (among_of ServiceBreaks []) (least_single MessageBreaks m r h)
 
-pub statement_enum : (e : Enum) (r : Option Spot) → IsLeast (EnumBreaks e) r → IsLeast (StatementBreaks (statement.Enum e)) r
-statement_enum e r h = second_of_three (Each [] MessageBreaks) (Each (e ∷ []) EnumBreaks) (Each [] ServiceBreaks) r (among_of MessageBreaks [])
+pub statement_enum : (e : Enum) (r : Option Spot) → IsLeast (EnumBreaks e) r
+    → IsLeast (StatementBreaks (statement.Enum e)) r
+statement_enum e r h = second_of_three (Each [] MessageBreaks) (Each (e ∷ []) EnumBreaks) (Each [] ServiceBreaks) r
+    (among_of MessageBreaks [])
     (among_of ServiceBreaks []) (least_single EnumBreaks e r h)
 
-pub statement_service : (s : Service) (r : Option Spot) → IsLeast (ServiceBreaks s) r → IsLeast (StatementBreaks (statement.Service s)) r
-statement_service s r h = last_of_three (Each [] MessageBreaks) (Each [] EnumBreaks) (Each (s ∷ []) ServiceBreaks) r (among_of MessageBreaks [])
+pub statement_service : (s : Service) (r : Option Spot) → IsLeast (ServiceBreaks s) r
+    → IsLeast (StatementBreaks (statement.Service s)) r
+statement_service s r h = last_of_three (Each [] MessageBreaks) (Each [] EnumBreaks) (Each (s ∷ []) ServiceBreaks) r
+    (among_of MessageBreaks [])
     (among_of EnumBreaks []) (least_single ServiceBreaks s r h)
 
 pub declared_least : (limits : Limits) (desc : FileDesc) (a b p ab r : Option Spot) →
-    IsLeast (Each (flat_map (λ m. declared_by_message m (file_scope desc.«package»)) desc.messages) (IsTooLong limits)) a →
+    IsLeast (Each (flat_map (λ m. declared_by_message m (file_scope desc.«package»)) desc.messages) (IsTooLong limits))
+      a →
     IsLeast (Each (flat_map (declared_by_enum (file_scope desc.«package»)) desc.enums) (IsTooLong limits)) b →
     IsLeast (Each (flat_map (declared_by_service (file_scope desc.«package»)) desc.services) (IsTooLong limits)) p →
     IsLesser a b ab → IsLesser ab p r → IsLeast (Each (declared_by desc) (IsTooLong limits)) r
@@ -40,4 +47,5 @@ declared_least limits desc a b p ab r h k m u w =
     let messages = flat_map (λ m. declared_by_message m scope) desc.messages in
     let enums = flat_map (declared_by_enum scope) desc.enums in
     let services = flat_map (declared_by_service scope) desc.services in
-    least_append (IsTooLong limits) (messages ++ enums) services ab p r (least_append (IsTooLong limits) messages enums a b ab h k u) m w
+    least_append (IsTooLong limits) (messages ++ enums) services ab p r
+      (least_append (IsTooLong limits) messages enums a b ab h k u) m w

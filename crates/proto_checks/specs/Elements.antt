@@ -38,7 +38,8 @@ EnumBreaks e = IsEmptyEnum e ∪ EnumNumbersBreak e.items ∪ SettingsBreak elem
 
 -- the fields, oneofs and enums of one message, without those of the messages within it
 abbrev pub MembersBreak : List MessageItem → Spot → Type 0
-MembersBreak items = Each (flat_map optioned_fields items) FieldOptionsBreak ∪ Each (flat_map message_oneof items) OneofBreaks
+MembersBreak items = Each (flat_map optioned_fields items) FieldOptionsBreak ∪ Each
+    (flat_map message_oneof items) OneofBreaks
     ∪ Each (flat_map message_enum items) EnumBreaks
 
 -- all statements of one message, without those of the messages within it
@@ -75,4 +76,5 @@ abbrev pub RpcBreaks : Rpc → Spot → Type 0
 RpcBreaks r = SettingsBreak element.Method (flat_map rpc_setting (rpc_items r.body))
 
 abbrev pub ServiceBreaks : Service → Spot → Type 0
-ServiceBreaks s = SettingsBreak element.Service (flat_map service_setting s.items) ∪ Each (flat_map service_rpc s.items) RpcBreaks
+ServiceBreaks s = SettingsBreak element.Service (flat_map service_setting s.items) ∪ Each
+    (flat_map service_rpc s.items) RpcBreaks

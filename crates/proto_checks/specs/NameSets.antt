@@ -7,4 +7,5 @@ use Rattle.std.specs.Ordering.{nat_cmp}
 
 -- the set holds these names and no other
 abbrev pub HoldsJust : List (List ℕ) → BTreeSet (Bor (List ℕ)) → Type 0
-HoldsJust names set = (name : List ℕ) → (contains_by (λ k. slice_cmp nat_cmp name k.now) set ≡ true) ↔ Contains names name
+HoldsJust names set = (name : List ℕ) → (contains_by (λ k. slice_cmp nat_cmp name k.now) set ≡ true)
+    ↔ Contains names name

@@ -43,7 +43,8 @@ is_value i = false
 
 -- what a statement of a message breaks by itself, unless it is a message or an option
 abbrev pub ItemBreaks : MessageItem → Spot → Type 0
-ItemBreaks i = Each (optioned_fields i) FieldOptionsBreak ∪ Each (message_oneof i) OneofBreaks ∪ Each (message_enum i) EnumBreaks
+ItemBreaks i = Each (optioned_fields i) FieldOptionsBreak ∪ Each (message_oneof i) OneofBreaks ∪ Each
+    (message_enum i) EnumBreaks
 
 -- the name that an element declares, in whichever scope, and where it stands
 abbrev pub name_mark : {A : Type 0} → (List ℕ → A → Declared) → A → Marked
@@ -55,4 +56,5 @@ part_name part = part.name.text
 
 -- what a statement of a file breaks
 abbrev pub StatementBreaks : Statement → Spot → Type 0
-StatementBreaks s = Each (file_message s) MessageBreaks ∪ Each (file_enum s) EnumBreaks ∪ Each (file_service s) ServiceBreaks
+StatementBreaks s = Each (file_message s) MessageBreaks ∪ Each (file_enum s) EnumBreaks ∪ Each
+    (file_service s) ServiceBreaks

@@ -72,7 +72,8 @@ has_is g xs = (λ e. Contains-from_any (λ a b h. eqb-true a b h) g xs e, λ w. 
 
 has_alike : (g : ℕ) (xs ys : List ℕ) → (Contains xs g → Contains ys g) → (Contains ys g → Contains xs g)
     → is_member ◌==◌ xs g ≡ is_member ◌==◌ ys g
-has_alike g xs ys to back = both_ways (is_member ◌==◌ xs g) (is_member ◌==◌ ys g) (λ h. (has_is g ys).1 (to ((has_is g xs).0 h)))
+has_alike g xs ys to back = both_ways (is_member ◌==◌ xs g) (is_member ◌==◌ ys g)
+    (λ h. (has_is g ys).1 (to ((has_is g xs).0 h)))
     (λ h. (has_is g xs).1 (back ((has_is g ys).0 h)))
 
 one_reach : (descs : List FileDesc) (links others : Linked) → AreLinked descs links → AreLinked descs others

@@ -11,4 +11,5 @@ use Rattle.proto_desc.specs.Resolved.{fields_resolved, resolved_step, message_re
 pub message_resolved_out : (m : MessageDesc) → message_resolved m
     ≡ (fields_resolved (out-MessageDesc m).fields && list_all message_resolved (out-MessageDesc m).nested)
 message_resolved_out m = fold_out-MessageDesc Bool resolved_step m
-    ∙ ap (λ b. fields_resolved (out-MessageDesc m).fields && b) (list_all-map (λ (b : Bool). b) message_resolved (out-MessageDesc m).nested)
+    ∙ ap (λ b. fields_resolved (out-MessageDesc m).fields && b)
+      (list_all-map (λ (b : Bool). b) message_resolved (out-MessageDesc m).nested)

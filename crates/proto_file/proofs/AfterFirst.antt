@@ -14,7 +14,8 @@ use Rattle.proto_file.proofs.PlacesWithin.{AreIn, BeginWithin, lowered_within, r
 abbrev pub IsAfter : ℕ → Type 0
 IsAfter place = 0 < place
 
-tokens_after : (s : List ℕ) (from : ℕ) (ps : List Piece) (to : ℕ) → IsCutIntoPieces s from ps to → 0 < from → BeginWithin IsAfter (tokens_from from ps)
+tokens_after : (s : List ℕ) (from : ℕ) (ps : List Piece) (to : ℕ) → IsCutIntoPieces s from ps to → 0 < from
+    → BeginWithin IsAfter (tokens_from from ps)
 tokens_after s from [] to cut h = tt
 tokens_after s from (p ∷ ps) to cut h =
     let later = tokens_after s (from + p.len) ps to cut.1 (omega (arith, h)) in
@@ -27,20 +28,26 @@ abbrev rest_of : List Spelled → List Spelled
 rest_of [] = []
 rest_of (t ∷ ts) = ts
 
-rest_after : (s : List ℕ) (from : ℕ) (ps : List Piece) (to : ℕ) → IsCutIntoPieces s from ps to → BeginWithin IsAfter (rest_of (tokens_from from ps))
+rest_after : (s : List ℕ) (from : ℕ) (ps : List Piece) (to : ℕ) → IsCutIntoPieces s from ps to
+    → BeginWithin IsAfter (rest_of (tokens_from from ps))
 rest_after s from [] to cut = tt
 rest_after s from (p ∷ ps) to cut =
     let some : 0 < p.len = piece_nonempty _ p.len p.is cut.0 in
-    elim p.is as (λ is. BeginWithin IsAfter (rest_of (with_token is from (from + p.len) (tokens_from (from + p.len) ps)))) [
+    elim p.is as
+      (λ is. BeginWithin IsAfter (rest_of (with_token is from (from + p.len) (tokens_from (from + p.len) ps)))) [
       | None ↦ rest_after s (from + p.len) ps to cut.1
       | Some lexeme ↦ tokens_after s (from + p.len) ps to cut.1 (omega (arith, some))
     ]
 
-pub places_after : (limits : Limits) (name text : List ℕ) (desc : FileDesc) → Describes limits name text desc → AreIn IsAfter (places_of desc)
+pub places_after : (limits : Limits) (name text : List ℕ) (desc : FileDesc) → Describes limits name text desc
+    → AreIn IsAfter (places_of desc)
 places_after limits name text desc (file, (ts, is, tree), unbroken, same) =
-    let spelled : tokens_from (mark_len text) is.spelled_so.0 ≡ flatten (file_tree file) = is.spelled_so.2 ∙ sym tree.tokens in
+    let spelled : tokens_from (mark_len text) is.spelled_so.0 ≡ flatten (file_tree file) =
+      is.spelled_so.2 ∙ sym tree.tokens in
     let after : BeginWithin IsAfter (rest_of (flatten (file_tree file))) =
-    subst (λ (us : List Spelled). BeginWithin IsAfter (rest_of us)) spelled (rest_after text (mark_len text) is.spelled_so.0 _ is.spelled_so.1) in
+    subst (λ (us : List Spelled). BeginWithin IsAfter (rest_of us)) spelled
+      (rest_after text (mark_len text) is.spelled_so.0 _ is.spelled_so.1) in
     let statements : BeginWithin IsAfter (flatten (row statement_tree file.statements)) =
-    rest (λ (t : Spelled). IsAfter t.start) (rest_of (flatten (syntax_tree file.syntax))) (flatten (row statement_tree file.statements)) after in
+    rest (λ (t : Spelled). IsAfter t.start) (rest_of (flatten (syntax_tree file.syntax)))
+      (flatten (row statement_tree file.statements)) after in
     subst (λ (d : FileDesc). AreIn IsAfter (places_of d)) (sym same) (lowered_within IsAfter name file statements)

@@ -18,7 +18,8 @@ use Rattle.proto_file.specs.Local.{IsLocalFault, of_grammar, IsUnbroken}
 use Rattle.proto_file.specs.declared.error.FileError.TheVariants as errors
 
 -- a fault that an error has
-pub answered : (limits : Limits) (name text : List ℕ) (a : ℕ) (p : Place) (k : Kind) (step : ℕ) (place : Place) (kind : Kind)
+pub answered : (limits : Limits) (name text : List ℕ) (a : ℕ) (p : Place) (k : Kind) (step : ℕ)
+    (place : Place) (kind : Kind)
     → IsLocalFault limits name text a p k
     → (errors.At a p k ≡ errors.At step place kind) → IsLocalFault limits name text step place kind
 answered limits name text a p k step place kind fault e =
@@ -30,9 +31,11 @@ answered limits name text a p k step place kind fault e =
 pub grammar_fault : (limits : Limits) (name text : List ℕ) (tokens : Tokens) (place : Place) (kind : Kind)
     → (k : ℕ) × IsFaultAt (limit_of limits limit.Depth) (tokens_of tokens) k × IsKindOf (tokens_of tokens) k kind
     × (place.offset ≡ place_of_token (tokens_of tokens) k tokens.end.offset)
-    → IsTokenList (limit_of limits limit.FileBytes) text (tokens_of tokens) → tokens.end.offset ≡ length text → IsLocalFault limits name text 1 place kind
+    → IsTokenList (limit_of limits limit.FileBytes) text (tokens_of tokens) → tokens.end.offset ≡ length text
+    → IsLocalFault limits name text 1 place kind
 grammar_fault limits name text tokens place kind (k, fault, is_kind, at) is end =
     of_grammar refl (tokens_of tokens, k, is, fault, is_kind, at ∙ ap (place_of_token (tokens_of tokens) k) end)
 
-pub unbroken_by : (limits : Limits) (name : List ℕ) (file : FileTree) → IsLeast (FileBreaks limits file (lowered name file)) None → IsUnbroken limits name file
+pub unbroken_by : (limits : Limits) (name : List ℕ) (file : FileTree)
+    → IsLeast (FileBreaks limits file (lowered name file)) None → IsUnbroken limits name file
 unbroken_by limits name file none x broken = none.is x broken

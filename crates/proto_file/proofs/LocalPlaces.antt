@@ -30,15 +30,19 @@ cut_grows : (s : List ℕ) (from : ℕ) (ps : List Piece) (to : ℕ) → IsCutIn
 cut_grows s from [] to cut = omega (arith, cut)
 cut_grows s from (p ∷ ps) to cut = omega (arith, cut_grows s (from + p.len) ps to cut.1)
 
-pieces_begin : (s : List ℕ) (from : ℕ) (ps : List Piece) (to : ℕ) → IsCutIntoPieces s from ps to → BeginWithin (upto to) (tokens_from from ps)
+pieces_begin : (s : List ℕ) (from : ℕ) (ps : List Piece) (to : ℕ) → IsCutIntoPieces s from ps to
+    → BeginWithin (upto to) (tokens_from from ps)
 pieces_begin s from [] to cut = tt
-pieces_begin s from (p ∷ ps) to cut = elim p.is as (λ is. BeginWithin (upto to) (with_token is from (from + p.len) (tokens_from (from + p.len) ps))) [
+pieces_begin s from (p ∷ ps) to cut =
+    elim p.is as (λ is. BeginWithin (upto to) (with_token is from (from + p.len) (tokens_from (from + p.len) ps))) [
   | None ↦ pieces_begin s (from + p.len) ps to cut.1
   | Some lexeme ↦ (cut_grows s from (p ∷ ps) to cut, pieces_begin s (from + p.len) ps to cut.1)
 ]
 
-tokens_begin : (bytes : ℕ) (text : List ℕ) (ts : List Spelled) → IsTokenList bytes text ts → BeginWithin (upto (length text)) ts
-tokens_begin bytes text ts is = subst (BeginWithin (upto (length text))) is.spelled_so.2 (pieces_begin text _ is.spelled_so.0 (length text) is.spelled_so.1)
+tokens_begin : (bytes : ℕ) (text : List ℕ) (ts : List Spelled) → IsTokenList bytes text ts
+    → BeginWithin (upto (length text)) ts
+tokens_begin bytes text ts is = subst (BeginWithin (upto (length text))) is.spelled_so.2
+    (pieces_begin text _ is.spelled_so.0 (length text) is.spelled_so.1)
 
 token_begins : (n : ℕ) (ts : List Spelled) (k : ℕ) → BeginWithin (upto n) ts → place_of_token ts k n ≤ n
 token_begins n [] zero begin = omega arith
@@ -47,10 +51,13 @@ token_begins n (t ∷ ts) zero begin = begin.0
 token_begins n (t ∷ ts) (suc k) begin = token_begins n ts k begin.1
 
 -- so do those of a file's tree
-tree_begins : (limits : Limits) (text : List ℕ) (file : FileTree) → IsFile limits text file → Within (upto (length text)) (file_tree file)
-tree_begins limits text file (ts, is, tree) = subst (BeginWithin (upto (length text))) (sym tree.tokens) (tokens_begin _ text ts is)
+tree_begins : (limits : Limits) (text : List ℕ) (file : FileTree) → IsFile limits text file
+    → Within (upto (length text)) (file_tree file)
+tree_begins limits text file (ts, is, tree) =
+    subst (BeginWithin (upto (length text))) (sym tree.tokens) (tokens_begin _ text ts is)
 
-file_short : (limits : Limits) (text : List ℕ) (file : FileTree) → IsFile limits text file → length text ≤ limit_of limits limit.FileBytes
+file_short : (limits : Limits) (text : List ℕ) (file : FileTree) → IsFile limits text file
+    → length text ≤ limit_of limits limit.FileBytes
 file_short limits text file (ts, is, tree) = is.short
 
 -- ---- faults of tokens
@@ -70,10 +77,12 @@ token_fault_within bytes s place kind (inl long) = omega (arith, long.1)
 token_fault_within bytes s place kind (inr (inl bad)) = omega (arith, bad.1, utf8_valid_len_le s)
 token_fault_within bytes s place kind (inr (inr (short, utf8, bad))) =
     let (ps, to, at, cut, fault, is) = bad in
-    omega (arith, is, cut_within s (mark_len s) ps to (mark_within s) cut, piece_fault_within (drop to s) at kind fault, length-drop to s)
+    omega (arith, is, cut_within s (mark_len s) ps to (mark_within s) cut, piece_fault_within (drop to s) at kind fault,
+      length-drop to s)
 
 -- that of a text that is too long stands at its start
-token_fault_short : (bytes : ℕ) (s : List ℕ) (place : ℕ) (kind : Kind) → IsFault bytes s place kind → place ≤ length s → place ≤ bytes
+token_fault_short : (bytes : ℕ) (s : List ℕ) (place : ℕ) (kind : Kind) → IsFault bytes s place kind → place ≤ length s
+    → place ≤ bytes
 token_fault_short bytes s place kind (inl long) within = omega (arith, long.1)
 token_fault_short bytes s place kind (inr (inl bad)) within = omega (arith, within, bad.2)
 token_fault_short bytes s place kind (inr (inr bad)) within = omega (arith, within, bad.0)
@@ -85,27 +94,36 @@ pub record IsInside (limits : Limits) (text : List ℕ) (place : Place) : Type 0
   pub within : place.offset ≤ length text
   pub short : place.offset ≤ limit_of limits limit.FileBytes
 
-inside_file : (limits : Limits) (text : List ℕ) (file : FileTree) (place : Place) → IsFile limits text file → place.offset ≤ length text
+inside_file : (limits : Limits) (text : List ℕ) (file : FileTree) (place : Place) → IsFile limits text file
+    → place.offset ≤ length text
     → IsInside limits text place
-inside_file limits text file place is within = record { within = within; short = omega (arith, within, file_short limits text file is) }
+inside_file limits text file place is within =
+    record { within = within; short = omega (arith, within, file_short limits text file is) }
 
-pub fault_inside : (limits : Limits) (name text : List ℕ) (step : ℕ) (place : Place) (kind : Kind) → IsLocalFault limits name text step place kind
+pub fault_inside : (limits : Limits) (name text : List ℕ) (step : ℕ) (place : Place) (kind : Kind)
+    → IsLocalFault limits name text step place kind
     → IsInside limits text place
 fault_inside limits name text step place kind (of_tokens at_step fault) =
     let within : place.offset ≤ length text = token_fault_within _ text place.offset kind fault in
     record { within = within; short = token_fault_short _ text place.offset kind fault within }
 fault_inside limits name text step place kind (of_grammar at_step (ts, k, is, fault, is_kind, at)) =
-    let within : place.offset ≤ length text = subst (λ p. p ≤ length text) (sym at) (token_begins (length text) ts k (tokens_begin _ text ts is)) in
+    let within : place.offset ≤ length text =
+      subst (λ p. p ≤ length text) (sym at) (token_begins (length text) ts k (tokens_begin _ text ts is)) in
     record { within = within; short = omega (arith, within, is.short) }
 fault_inside limits name text step place kind (of_checks at_step (file, is, least)) =
-    inside_file limits text file place is (breaks_within (length text) limits name file (spot place kind) (tree_begins limits text file is) least.is.among)
+    inside_file limits text file place is
+      (breaks_within (length text) limits name file (spot place kind) (tree_begins limits text file is) least.is.among)
 
 -- all places of a descriptor are those of its text
-pub places_within : (limits : Limits) (name text : List ℕ) (desc : FileDesc) → Describes limits name text desc → AllWithin (length text) (places_of desc)
+pub places_within : (limits : Limits) (name text : List ℕ) (desc : FileDesc) → Describes limits name text desc
+    → AllWithin (length text) (places_of desc)
 places_within limits name text desc (file, is, unbroken, same) =
     subst (λ d. AllWithin (length text) (places_of d)) (sym same) (lowered_within (upto (length text)) name file
-    (right_of (upto (length text)) (syntax_tree file.syntax) (row statement_tree file.statements) (tree_begins limits text file is)))
+    (right_of (upto (length text)) (syntax_tree file.syntax) (row statement_tree file.statements)
+      (tree_begins limits text file is)))
 
-pub place_inside : (limits : Limits) (name text : List ℕ) (desc : FileDesc) (place : Place) → Describes limits name text desc → place.offset ≤ length text
+pub place_inside : (limits : Limits) (name text : List ℕ) (desc : FileDesc) (place : Place)
+    → Describes limits name text desc → place.offset ≤ length text
     → IsInside limits text place
-place_inside limits name text desc place (file, is, unbroken, same) within = inside_file limits text file place is within
+place_inside limits name text desc place (file, is, unbroken, same) within =
+    inside_file limits text file place is within

@@ -25,64 +25,87 @@ use Rattle.proto_syntax.specs.Told.{place_of_token}
 one_file : (limits : Limits) (text : List ℕ) (f g : FileTree) → IsFile limits text f → IsFile limits text g → f ≡ g
 one_file limits text f g (ts, is, tree) (us, is', tree') =
     let same : us ≡ ts = tokens_one _ text us ts is' is in
-    same_file f g (only_tree _ ts (file_tree f) (file_tree g) tree (subst (λ vs. IsTreeOf (limit_of limits limit.Depth) vs (file_tree g)) same tree'))
+    same_file f g
+      (only_tree _ ts (file_tree f) (file_tree g) tree
+      (subst (λ vs. IsTreeOf (limit_of limits limit.Depth) vs (file_tree g)) same tree'))
 
 -- ---- a file has no fault of its tokens or of the grammar
 
 no_token_fault : (limits : Limits) (text : List ℕ) (f : FileTree) (place : ℕ) (kind : Kind) → IsFile limits text f
     → IsFault (limit_of limits limit.FileBytes) text place kind → ⊥
-no_token_fault limits text f place kind is fault = tokens_no_fault (limit_of limits limit.FileBytes) text is.0 place kind is.1 fault
+no_token_fault limits text f place kind is fault =
+    tokens_no_fault (limit_of limits limit.FileBytes) text is.0 place kind is.1 fault
 
-no_grammar_fault : (limits : Limits) (text : List ℕ) (f : FileTree) (place : ℕ) (kind : Kind) → IsFile limits text f → IsGrammarFault limits text place kind → ⊥
+no_grammar_fault : (limits : Limits) (text : List ℕ) (f : FileTree) (place : ℕ) (kind : Kind) → IsFile limits text f
+    → IsGrammarFault limits text place kind → ⊥
 no_grammar_fault limits text f place kind (ts, is, tree) (us, k, is', fault, is_kind, at) =
-    fault.no_file (file_tree f) (subst (λ vs. IsTreeOf (limit_of limits limit.Depth) vs (file_tree f)) (tokens_one _ text ts us is is') tree)
+    fault.no_file (file_tree f) (subst (λ vs. IsTreeOf (limit_of limits limit.Depth) vs (file_tree f))
+      (tokens_one _ text ts us is is') tree)
 
-one_grammar_fault : (limits : Limits) (text : List ℕ) (p q : ℕ) (a b : Kind) → IsGrammarFault limits text p a → IsGrammarFault limits text q b
+one_grammar_fault : (limits : Limits) (text : List ℕ) (p q : ℕ) (a b : Kind) → IsGrammarFault limits text p a
+    → IsGrammarFault limits text q b
     → (p ≡ q) × (a ≡ b)
 one_grammar_fault limits text p q a b (ts, j, is, fault, is_kind, at) (us, k, is', fault', is_kind', at') =
     let same : us ≡ ts = tokens_one _ text us ts is' is in
-    let token : k ≡ j = one_fault _ ts k j (subst (λ vs. IsFaultAt (limit_of limits limit.Depth) vs k) same fault') fault in
+    let token : k ≡ j = one_fault _ ts k j
+      (subst (λ vs. IsFaultAt (limit_of limits limit.Depth) vs k) same fault') fault in
     let kind' : IsKindOf ts j b = subst (λ i. IsKindOf ts i b) token (subst (λ vs. IsKindOf vs k b) same is_kind') in (
-      at ∙ sym (ap (λ i. place_of_token ts i (length text)) token) ∙ sym (ap (λ vs. place_of_token vs k (length text)) same) ∙ sym at',
+      at ∙ sym (ap (λ i. place_of_token ts i (length text)) token)
+        ∙ sym (ap (λ vs. place_of_token vs k (length text)) same) ∙ sym at',
       one_kind ts j a b is_kind kind',
     )
 
 -- ---- broken rules
 
-no_broken : (limits : Limits) (name text : List ℕ) (f : FileTree) (place : Place) (kind : Kind) → IsFile limits text f → IsUnbroken limits name f
+no_broken : (limits : Limits) (name text : List ℕ) (f : FileTree) (place : Place) (kind : Kind) → IsFile limits text f
+    → IsUnbroken limits name f
     → IsBrokenAt limits name text place kind → ⊥
 no_broken limits name text f place kind is unbroken (g, is', least) =
-    unbroken (spot place kind) (subst (λ h. FileBreaks limits h (lowered name h) (spot place kind)) (one_file limits text g f is' is) least.is.among)
+    unbroken (spot place kind) (subst (λ h. FileBreaks limits h (lowered name h) (spot place kind))
+      (one_file limits text g f is' is) least.is.among)
 
-one_broken : (limits : Limits) (name text : List ℕ) (p q : Place) (a b : Kind) → IsBrokenAt limits name text p a → IsBrokenAt limits name text q b
+one_broken : (limits : Limits) (name text : List ℕ) (p q : Place) (a b : Kind) → IsBrokenAt limits name text p a
+    → IsBrokenAt limits name text q b
     → (p ≡ q) × (a ≡ b)
 one_broken limits name text p q a b (f, is, least) (g, is', least') =
     let other : IsLeast (FileBreaks limits f (lowered name f)) (Some (spot q b)) =
-    subst (λ h. IsLeast (FileBreaks limits h (lowered name h)) (Some (spot q b))) (one_file limits text g f is' is) least' in
+    subst (λ h. IsLeast (FileBreaks limits h (lowered name h)) (Some (spot q b)))
+      (one_file limits text g f is' is) least' in
     one_spot p q a b (least.is.least (spot q b) other.is.among) (other.is.least (spot p a) least.is.among)
 
 -- ---- one source
 
-pub one_descriptor : (limits : Limits) (name text : List ℕ) (f g : FileDesc) → Describes limits name text f → Describes limits name text g → f ≡ g
+pub one_descriptor : (limits : Limits) (name text : List ℕ) (f g : FileDesc) → Describes limits name text f
+    → Describes limits name text g → f ≡ g
 one_descriptor limits name text f g (tree, is, unbroken, made) (other, is', unbroken', made') =
     made ∙ ap (lowered name) (one_file limits text tree other is is') ∙ sym made'
 
 -- a source that describes something has no fault by itself
-pub no_local : (limits : Limits) (name text : List ℕ) (desc : FileDesc) (step : ℕ) (place : Place) (kind : Kind) → Describes limits name text desc
+pub no_local : (limits : Limits) (name text : List ℕ) (desc : FileDesc) (step : ℕ) (place : Place) (kind : Kind)
+    → Describes limits name text desc
     → IsLocalFault limits name text step place kind → ⊥
-no_local limits name text desc step place kind (f, is, unbroken, made) (of_tokens s fault) = no_token_fault limits text f place.offset kind is fault
-no_local limits name text desc step place kind (f, is, unbroken, made) (of_grammar s fault) = no_grammar_fault limits text f place.offset kind is fault
-no_local limits name text desc step place kind (f, is, unbroken, made) (of_checks s broken) = no_broken limits name text f place kind is unbroken broken
+no_local limits name text desc step place kind (f, is, unbroken, made) (of_tokens s fault) =
+    no_token_fault limits text f place.offset kind is fault
+no_local limits name text desc step place kind (f, is, unbroken, made) (of_grammar s fault) =
+    no_grammar_fault limits text f place.offset kind is fault
+no_local limits name text desc step place kind (f, is, unbroken, made) (of_checks s broken) =
+    no_broken limits name text f place kind is unbroken broken
 
-pub one_local : (limits : Limits) (name text : List ℕ) (s t : ℕ) (p q : Place) (a b : Kind) → IsLocalFault limits name text s p a
+pub one_local : (limits : Limits) (name text : List ℕ) (s t : ℕ) (p q : Place) (a b : Kind)
+    → IsLocalFault limits name text s p a
     → IsLocalFault limits name text t q b → (s ≡ t) × (p ≡ q) × (a ≡ b)
 one_local limits name text s t p q a b (of_tokens step fault) (of_tokens step' fault') =
-    let same = file_fault_one _ text p.offset q.offset a b fault fault' in (step ∙ sym step', same_place p q same.0, same.1)
-one_local limits name text s t p q a b (of_tokens step fault) (of_grammar step' fault') = absurd (tokens_no_fault _ text fault'.0 p.offset a fault'.2 fault)
-one_local limits name text s t p q a b (of_tokens step fault) (of_checks step' broken) = absurd (no_token_fault limits text broken.0 p.offset a broken.1 fault)
-one_local limits name text s t p q a b (of_grammar step fault) (of_tokens step' fault') = absurd (tokens_no_fault _ text fault.0 q.offset b fault.2 fault')
+    let same = file_fault_one _ text p.offset q.offset a b fault fault' in
+    (step ∙ sym step', same_place p q same.0, same.1)
+one_local limits name text s t p q a b (of_tokens step fault) (of_grammar step' fault') =
+    absurd (tokens_no_fault _ text fault'.0 p.offset a fault'.2 fault)
+one_local limits name text s t p q a b (of_tokens step fault) (of_checks step' broken) =
+    absurd (no_token_fault limits text broken.0 p.offset a broken.1 fault)
+one_local limits name text s t p q a b (of_grammar step fault) (of_tokens step' fault') =
+    absurd (tokens_no_fault _ text fault.0 q.offset b fault.2 fault')
 one_local limits name text s t p q a b (of_grammar step fault) (of_grammar step' fault') =
-    let same = one_grammar_fault limits text p.offset q.offset a b fault fault' in (step ∙ sym step', same_place p q same.0, same.1)
+    let same = one_grammar_fault limits text p.offset q.offset a b fault fault' in
+    (step ∙ sym step', same_place p q same.0, same.1)
 one_local limits name text s t p q a b (of_grammar step fault) (of_checks step' broken) =
     absurd (no_grammar_fault limits text broken.0 p.offset a broken.1 fault)
 one_local limits name text s t p q a b (of_checks step broken) (of_tokens step' fault') =

@@ -27,7 +27,8 @@ use Rattle.proto_links.proofs.Targeting.{importer_inside}
 
 -- ---- one import
 
-only_missing : (files : List FileDesc) (a : ℕ) (i : ImportDesc) → ((b : ℕ) → IsNamed files i.path b → ⊥) → (k : Kind) → IsWrong files a i k
+only_missing : (files : List FileDesc) (a : ℕ) (i : ImportDesc) → ((b : ℕ) → IsNamed files i.path b → ⊥) → (k : Kind)
+    → IsWrong files a i k
     → k ≡ kind.ImportMissing
 only_missing files a i none _ (missing n) = refl
 only_missing files a i none _ (cyclic b n r) = absurd (none b n)
@@ -36,7 +37,8 @@ pub missing_fault : (files : List FileDesc) (a : ℕ) (i : ImportDesc) → ((b :
     → IsWrong files a i kind.ImportMissing × ((k : Kind) → IsWrong files a i k → k ≡ kind.ImportMissing)
 missing_fault files a i none = (missing none, only_missing files a i none)
 
-only_cyclic : (files : List FileDesc) (a : ℕ) (i : ImportDesc) (t : ℕ) → IsNamed files i.path t → (k : Kind) → IsWrong files a i k → k ≡ kind.ImportCycle
+only_cyclic : (files : List FileDesc) (a : ℕ) (i : ImportDesc) (t : ℕ) → IsNamed files i.path t → (k : Kind)
+    → IsWrong files a i k → k ≡ kind.ImportCycle
 only_cyclic files a i t n _ (missing none) = absurd (none t n)
 only_cyclic files a i t n _ (cyclic b m r) = refl
 
@@ -48,88 +50,110 @@ pub no_fault : (files : List FileDesc) (a : ℕ) (i : ImportDesc) (t : ℕ) → 
     → IsNamed files i.path t → (Reaches files t a → ⊥) → (k : Kind)
     → IsWrong files a i k → ⊥
 no_fault files a i t order n out _ (missing none) = none t n
-no_fault files a i t order n out _ (cyclic b m r) = out (subst (λ x. Reaches files x a) (named_once files i.path order b t m n) r)
+no_fault files a i t order n out _ (cyclic b m r) =
+    out (subst (λ x. Reaches files x a) (named_once files i.path order b t m n) r)
 
 -- ---- the imports of a file
 
-wrong_cases : (files : List FileDesc) (a : ℕ) (xs : List ImportDesc) (i : ImportDesc) (x : Spot) → IsWrongIn files a (xs ++ i ∷ []) x
+wrong_cases : (files : List FileDesc) (a : ℕ) (xs : List ImportDesc) (i : ImportDesc) (x : Spot)
+    → IsWrongIn files a (xs ++ i ∷ []) x
     → IsWrongIn files a xs x ⊎ IsWrongAt files a i x
 wrong_cases files a xs i x (j, w, at, wrong) = elim (Contains-push_cases xs i j w) [
   | inl old ↦ inl (j, old, at, wrong)
   | inr e ↦ inr (subst (λ (y : ImportDesc). IsWrongAt files a y x) (sym e) (at, wrong))
 ]
 
-wrong_more : (files : List FileDesc) (a : ℕ) (xs : List ImportDesc) (i : ImportDesc) (x : Spot) → IsWrongIn files a xs x → IsWrongIn files a (xs ++ i ∷ []) x
+wrong_more : (files : List FileDesc) (a : ℕ) (xs : List ImportDesc) (i : ImportDesc) (x : Spot) → IsWrongIn files a xs x
+    → IsWrongIn files a (xs ++ i ∷ []) x
 wrong_more files a xs i x (j, w, at, wrong) = (j, Contains-append_left xs (i ∷ []) j w, at, wrong)
 
-wrong_last : (files : List FileDesc) (a : ℕ) (xs : List ImportDesc) (i : ImportDesc) (x : Spot) → IsWrongAt files a i x → IsWrongIn files a (xs ++ i ∷ []) x
+wrong_last : (files : List FileDesc) (a : ℕ) (xs : List ImportDesc) (i : ImportDesc) (x : Spot) → IsWrongAt files a i x
+    → IsWrongIn files a (xs ++ i ∷ []) x
 wrong_last files a xs i x (at, wrong) = (i, Contains-push xs i, at, wrong)
 
-pub first_skip : (files : List FileDesc) (a : ℕ) (xs : List ImportDesc) (i : ImportDesc) (first : Option Spot) → ((k : Kind) → IsWrong files a i k → ⊥)
+pub first_skip : (files : List FileDesc) (a : ℕ) (xs : List ImportDesc) (i : ImportDesc) (first : Option Spot)
+    → ((k : Kind) → IsWrong files a i k → ⊥)
     → IsLeast (IsWrongIn files a xs) first → IsLeast (IsWrongIn files a (xs ++ i ∷ [])) first
 first_skip files a xs i first none least = least_same (IsWrongIn files a xs) (IsWrongIn files a (xs ++ i ∷ [])) first
-    (λ x w. elim (wrong_cases files a xs i x w) [ inl old ↦ old | inr new ↦ absurd (none x.kind new.1) ]) (wrong_more files a xs i) least
+    (λ x w. elim (wrong_cases files a xs i x w) [ inl old ↦ old | inr new ↦ absurd (none x.kind new.1) ])
+      (wrong_more files a xs i) least
 
 same_place : (i : ImportDesc) (k : Kind) (x : Spot) → i.place ≡ x.place → x.kind ≡ k → AtMost (spot i.place k) x
-same_place i k x at same = let o = ap (λ (p : Place). p.offset) at in let n = ap number_of same in inr (o, omega (arith, n))
+same_place i k x at same = let o = ap (λ (p : Place). p.offset) at in let n = ap number_of same in
+    inr (o, omega (arith, n))
 
 -- an import has one fault
-one_fault : (files : List FileDesc) (a : ℕ) (i : ImportDesc) (k : Kind) → IsWrong files a i k → ((l : Kind) → IsWrong files a i l → l ≡ k)
+one_fault : (files : List FileDesc) (a : ℕ) (i : ImportDesc) (k : Kind) → IsWrong files a i k
+    → ((l : Kind) → IsWrong files a i l → l ≡ k)
     → IsLeast (IsWrongAt files a i) (Some (spot i.place k))
 one_fault files a i k wrong only =
     least_some (IsWrongAt files a i) (spot i.place k) (refl, wrong) (λ x w. same_place i k x w.0 (only x.kind w.1))
 
-pub first_more : (files : List FileDesc) (a : ℕ) (xs : List ImportDesc) (i : ImportDesc) (first r : Option Spot) (k : Kind)
+pub first_more : (files : List FileDesc) (a : ℕ) (xs : List ImportDesc) (i : ImportDesc)
+    (first r : Option Spot) (k : Kind)
     → IsWrong files a i k × ((l : Kind) → IsWrong files a i l → l ≡ k) → IsLesser first (Some (spot i.place k)) r
     → IsLeast (IsWrongIn files a xs) first → IsLeast (IsWrongIn files a (xs ++ i ∷ [])) r
 first_more files a xs i first r k (wrong, only) lesser least =
-    least_or (IsWrongIn files a xs) (IsWrongAt files a i) (IsWrongIn files a (xs ++ i ∷ [])) first (Some (spot i.place k)) r (wrong_cases files a xs i)
+    least_or (IsWrongIn files a xs) (IsWrongAt files a i) (IsWrongIn files a (xs ++ i ∷ [])) first
+      (Some (spot i.place k)) r (wrong_cases files a xs i)
     (wrong_more files a xs i) (wrong_last files a xs i) least (one_fault files a i k wrong only) lesser
 
 -- ---- all files
 
-pub reaching_is : (files : List FileDesc) (g turned : Graph) (a : ℕ) → IsGraph files g → ((b c : ℕ) → Edge turned b c ↔ Edge g c b) → (b : ℕ)
+pub reaching_is : (files : List FileDesc) (g turned : Graph) (a : ℕ) → IsGraph files g
+    → ((b c : ℕ) → Edge turned b c ↔ Edge g c b) → (b : ℕ)
     → Leads (Edge turned) b a ↔ Reaches files b a
 reaching_is files g turned a is flipped b = (
-  λ w. leads_map (Edge g) (Imports files) (λ x y. (is.edges x y).0) a b (leads_turned (Edge turned) (Edge g) (λ x y. (flipped x y).0) b a w),
-  λ r. leads_turned (Edge g) (Edge turned) (λ x y. (flipped y x).1) a b (leads_map (Imports files) (Edge g) (λ x y. (is.edges x y).1) a b r),
+  λ w. leads_map (Edge g) (Imports files) (λ x y. (is.edges x y).0) a b
+    (leads_turned (Edge turned) (Edge g) (λ x y. (flipped x y).0) b a w),
+  λ r. leads_turned (Edge g) (Edge turned) (λ x y. (flipped y x).1) a b
+    (leads_map (Imports files) (Edge g) (λ x y. (is.edges x y).1) a b r),
 )
 
-pub turned_within : (g turned : Graph) → length turned ≡ length g → ((b c : ℕ) → Edge turned b c ↔ Edge g c b) → IsWithin turned (length turned)
-turned_within g turned size flipped b c edge = let below = edge_below g c b ((flipped b c).0 edge) in omega (arith, below, size)
+pub turned_within : (g turned : Graph) → length turned ≡ length g → ((b c : ℕ) → Edge turned b c ↔ Edge g c b)
+    → IsWithin turned (length turned)
+turned_within g turned size flipped b c edge = let below = edge_below g c b ((flipped b c).0 edge) in
+    omega (arith, below, size)
 
 -- what a loop over files keeps
 pub record NoneBefore (files : List FileDesc) (n : ℕ) : Type 0 where
   pub none : (a : ℕ) (p : Place) (k : Kind) → a < n → IsBad files a p k → ⊥
 
-pub none_more : (files : List FileDesc) (n : ℕ) (imports : List ImportDesc) (first : Option Spot) → imports ≡ imports_at files n → first ≡ None
+pub none_more : (files : List FileDesc) (n : ℕ) (imports : List ImportDesc) (first : Option Spot)
+    → imports ≡ imports_at files n → first ≡ None
     → IsLeast (IsWrongIn files n imports) first → NoneBefore files n → NoneBefore files (n + 1)
 none_more files n imports first e is f old = record {
   none = λ a p k h w. (elim (cases_lt a n) [
     | inl less ↦ old.none a p k less w
     | inr over ↦ (let at : a ≡ n = omega arith in
         let here = subst (λ m. IsBad files m p k) at w in
-        none_of (IsWrongIn files n imports) first f is (spot p k) (subst (λ (xs : List ImportDesc). IsWrongIn files n xs (spot p k)) (sym e) here))
+        none_of (IsWrongIn files n imports) first f is (spot p k)
+          (subst (λ (xs : List ImportDesc). IsWrongIn files n xs (spot p k)) (sym e) here))
   ]);
 }
 
 pub none_all : (files : List FileDesc) (n : ℕ) → length files ≤ n → NoneBefore files n → NoneBad files
 none_all files n h f a p k w = f.none a p k (let below = importer_inside files a w.0 w.1 in omega (arith, below, h)) w
 
-later_file : (files : List FileDesc) (n b : ℕ) (x : Spot) (q : Place) (l : Kind) (imports : List ImportDesc) → imports ≡ imports_at files n
-    → ((y : Spot) → IsWrongIn files n imports y → AtMost x y) → NoneBefore files n → IsBad files b q l → (b < n) ⊎ (n ≤ b)
+later_file : (files : List FileDesc) (n b : ℕ) (x : Spot) (q : Place) (l : Kind) (imports : List ImportDesc)
+    → imports ≡ imports_at files n
+    → ((y : Spot) → IsWrongIn files n imports y → AtMost x y) → NoneBefore files n → IsBad files b q l
+    → (b < n) ⊎ (n ≤ b)
     → IsNoLater (n, x) (b, spot q l)
 later_file files n b x q l imports e least old w (inl less) = absurd (old.none b q l less w)
 later_file files n b x q l imports e least old w (inr over) = elim (cases_eq n b) [
   | inl same ↦ inr (
     same,
-    least (spot q l) (subst (λ (xs : List ImportDesc). IsWrongIn files n xs (spot q l)) (sym e) (subst (λ m. IsBad files m q l) (sym same) w)),
+    least (spot q l) (subst (λ (xs : List ImportDesc). IsWrongIn files n xs (spot q l)) (sym e)
+      (subst (λ m. IsBad files m q l) (sym same) w)),
   )
   | inr other ↦ inl (omega (arith, over, other))
 ]
 
-pub first_bad_is : (files : List FileDesc) (n : ℕ) (imports : List ImportDesc) (first : Option Spot) (x : Spot) → imports ≡ imports_at files n
-    → first ≡ Some x → IsLeast (IsWrongIn files n imports) first → NoneBefore files n → IsFirstBad files n x.place x.kind
+pub first_bad_is : (files : List FileDesc) (n : ℕ) (imports : List ImportDesc) (first : Option Spot) (x : Spot)
+    → imports ≡ imports_at files n
+    → first ≡ Some x → IsLeast (IsWrongIn files n imports) first → NoneBefore files n
+    → IsFirstBad files n x.place x.kind
 first_bad_is files n imports first x e is f old =
     let found = least_of (IsWrongIn files n imports) first x f is in
     record {
@@ -138,8 +162,10 @@ first_bad_is files n imports first x e is f old =
     }
 
 -- the marks of a search over the turned edges are at the files that reach the one
-pub marks_are : (files : List FileDesc) (g : Graph) (turned rows : List (Vec ℕ Global)) (a : ℕ) (marks reaching : List Bool) → IsGraph files g
-    → ((b c : ℕ) → Edge (graph_of turned) b c ↔ Edge g c b) → rows ≡ turned → reaching ≡ marks → ((b : ℕ) → IsMarked marks b ↔ Leads (Edge (graph_of rows)) b a)
+pub marks_are : (files : List FileDesc) (g : Graph) (turned rows : List (Vec ℕ Global)) (a : ℕ)
+    (marks reaching : List Bool) → IsGraph files g
+    → ((b c : ℕ) → Edge (graph_of turned) b c ↔ Edge g c b) → rows ≡ turned → reaching ≡ marks
+    → ((b : ℕ) → IsMarked marks b ↔ Leads (Edge (graph_of rows)) b a)
     → (b : ℕ) → IsMarked reaching b ↔ Reaches files b a
 marks_are files g turned rows a marks reaching is flipped er em marked b =
     let at = reaching_is files g (graph_of turned) a is flipped b in

@@ -21,7 +21,8 @@ named_once files name order b c nb nc =
     let size = length-map files name_of in
     one_position (map name_of files) order b c (omega (arith, nb.0, size)) (omega (arith, nc.0, size)) (nb.1 ∙ sym nc.1)
 
-pub name_is : (files : List FileDesc) (k : ℕ) (d : FileDesc) → k < length files → name_at files k ≡ name_of (get_or files k d)
+pub name_is : (files : List FileDesc) (k : ℕ) (d : FileDesc) → k < length files
+    → name_at files k ≡ name_of (get_or files k d)
 name_is files k d h = get_or-map name_of files k d [] h
 
 not_after : (o : Ordering) → o ≡ Less → is_lt (ordering_reverse o) ≡ false
@@ -39,8 +40,10 @@ sorted_names files order k d low h =
     ap is_lt (nat_list_cmp_total.antisymm (name_of (get_or files (k + 1) d)) (name_of (get_or files k d)))
     ∙ not_after (slice_cmp nat_cmp (name_of (get_or files k d)) (name_of (get_or files (k + 1) d))) less
 
-order_case : (files : List FileDesc) (n : ℕ) → slice_cmp nat_cmp (name_at files (n - 1)) (name_at files n) ≡ Less → 0 < n
-    → ((k : ℕ) → k + 1 < n → slice_cmp nat_cmp (name_at files k) (name_at files (k + 1)) ≡ Less) → (k : ℕ) → k + 1 < n + 1 → (k + 1 < n) ⊎ (n ≤ k + 1)
+order_case : (files : List FileDesc) (n : ℕ) → slice_cmp nat_cmp (name_at files (n - 1)) (name_at files n) ≡ Less
+    → 0 < n
+    → ((k : ℕ) → k + 1 < n → slice_cmp nat_cmp (name_at files k) (name_at files (k + 1)) ≡ Less) → (k : ℕ)
+    → k + 1 < n + 1 → (k + 1 < n) ⊎ (n ≤ k + 1)
     → slice_cmp nat_cmp (name_at files k) (name_at files (k + 1)) ≡ Less
 order_case files n last some old k h (inl less) = old k less
 order_case files n last some old k h (inr over) =
@@ -50,19 +53,25 @@ order_case files n last some old k h (inr over) =
     (subst (λ i. slice_cmp nat_cmp (name_at files i) (name_at files n) ≡ Less) first last)
 
 -- one more pair of neighbours
-pub order_more : (files : List FileDesc) (n : ℕ) → slice_cmp nat_cmp (name_at files (n - 1)) (name_at files n) ≡ Less → 0 < n
-    → ((k : ℕ) → k + 1 < n → slice_cmp nat_cmp (name_at files k) (name_at files (k + 1)) ≡ Less) → (k : ℕ) → k + 1 < n + 1
+pub order_more : (files : List FileDesc) (n : ℕ) → slice_cmp nat_cmp (name_at files (n - 1)) (name_at files n) ≡ Less
+    → 0 < n
+    → ((k : ℕ) → k + 1 < n → slice_cmp nat_cmp (name_at files k) (name_at files (k + 1)) ≡ Less) → (k : ℕ)
+    → k + 1 < n + 1
     → slice_cmp nat_cmp (name_at files k) (name_at files (k + 1)) ≡ Less
 order_more files n last some old k h = order_case files n last some old k h (cases_lt (k + 1) n)
 
 -- names of neighbours as an index gives them
-pub pair_names : (files : List FileDesc) (n : ℕ) (f g : FileDesc) → 0 < n → n < length files → f ≡ get_or files (n - 1) f → g ≡ get_or files n g
-    → (slice_cmp nat_cmp (name_of f) (name_of g) ≡ Less) ↔ (slice_cmp nat_cmp (name_at files (n - 1)) (name_at files n) ≡ Less)
+pub pair_names : (files : List FileDesc) (n : ℕ) (f g : FileDesc) → 0 < n → n < length files
+    → f ≡ get_or files (n - 1) f → g ≡ get_or files n g
+    → (slice_cmp nat_cmp (name_of f) (name_of g) ≡ Less)
+      ↔ (slice_cmp nat_cmp (name_at files (n - 1)) (name_at files n) ≡ Less)
 pair_names files n f g some h ef eg =
     let first : name_at files (n - 1) ≡ name_of f = name_is files (n - 1) f (omega arith) ∙ ap name_of (sym ef) in
     let second : name_at files n ≡ name_of g = name_is files n g h ∙ ap name_of (sym eg) in (
-      λ less. subst (λ xs. slice_cmp nat_cmp xs (name_at files n) ≡ Less) (sym first) (subst (λ ys. slice_cmp nat_cmp (name_of f) ys ≡ Less) (sym second) less),
-      λ less. subst (λ xs. slice_cmp nat_cmp xs (name_of g) ≡ Less) first (subst (λ ys. slice_cmp nat_cmp (name_at files (n - 1)) ys ≡ Less) second less),
+      λ less. subst (λ xs. slice_cmp nat_cmp xs (name_at files n) ≡ Less) (sym first)
+        (subst (λ ys. slice_cmp nat_cmp (name_of f) ys ≡ Less) (sym second) less),
+      λ less. subst (λ xs. slice_cmp nat_cmp xs (name_of g) ≡ Less) first
+        (subst (λ ys. slice_cmp nat_cmp (name_at files (n - 1)) ys ≡ Less) second less),
     )
 
 pub last_pair : (files : List FileDesc) (n : ℕ) → 0 < n → n < length files → NamesRise (map name_of files)
@@ -84,8 +93,10 @@ greater_not_equal o h k = cc
 
 pub no_name : (files : List FileDesc) (at : ℕ) (name : List ℕ)
     → ((k : ℕ) (d : FileDesc) → 0 ≤ k → k < at → slice_cmp nat_cmp (name_of (get_or files k d)) name ≡ Less)
-    → ((k : ℕ) (d : FileDesc) → at ≤ k → k < length files → slice_cmp nat_cmp (name_of (get_or files k d)) name ≡ Greater) → (b : ℕ) → IsNamed files name b → ⊥
+    → ((k : ℕ) (d : FileDesc) → at ≤ k → k < length files
+    → slice_cmp nat_cmp (name_of (get_or files k d)) name ≡ Greater) → (b : ℕ) → IsNamed files name b → ⊥
 no_name [] at name left right b (h, same) = no_position b h
 no_name (f ∷ fs) at name left right b (h, same) =
     let equal = equal_itself (name_of (get_or (f ∷ fs) b f)) name (sym (name_is (f ∷ fs) b f h) ∙ same) in
-    elim (cases_lt b at) [ inl less ↦ less_not_equal _ (left b f (omega arith) less) equal | inr over ↦ greater_not_equal _ (right b f over h) equal ]
+    elim (cases_lt b at) [ inl less ↦ less_not_equal _ (left b f (omega arith) less) equal
+      | inr over ↦ greater_not_equal _ (right b f over h) equal ]

@@ -39,13 +39,16 @@ graph_within is a b edge = let named = ((is.edges a b).0 edge).2 in omega (arith
 pub public_within : {files : List FileDesc} {g : Graph} → IsPublicGraph files g → IsWithin g (length g)
 public_within is a b edge = let named = ((is.edges a b).0 edge).3 in omega (arith, named.0, is.size)
 
-pub rows_within : (rows : List (Vec ℕ Global)) → IsWithin (graph_of rows) (length (graph_of rows)) → IsWithin (graph_of rows) (length rows)
+pub rows_within : (rows : List (Vec ℕ Global)) → IsWithin (graph_of rows) (length (graph_of rows))
+    → IsWithin (graph_of rows) (length rows)
 rows_within rows within = subst (IsWithin (graph_of rows)) (length_graph rows) within
 
 -- a list has only positions
-pub positions_below : (g : Graph) (lists : List (List ℕ)) (n : ℕ) → IsFalling g → AreReaches g lists n → (a k : ℕ) → a < n → Contains (get_or lists a []) k
+pub positions_below : (g : Graph) (lists : List (List ℕ)) (n : ℕ) → IsFalling g → AreReaches g lists n → (a k : ℕ)
+    → a < n → Contains (get_or lists a []) k
     → k < n
-positions_below g lists n falls all a k h w = let le = leads_le g k a falls (((all a h).members k).0 w) in omega (arith, le, h)
+positions_below g lists n falls all a k h w = let le = leads_le g k a falls (((all a h).members k).0 w) in
+    omega (arith, le, h)
 
 -- ---- words
 
@@ -103,7 +106,8 @@ module _ {files : List FileDesc} {graph : ImportGraph} {ranking : Ranking} (r : 
 
 -- ---- files and positions
 
-module _ {files : List FileDesc} {graph : ImportGraph} {ranking : Ranking} {positioned : Positioned} (m : ArePositioned files graph ranking positioned) where
+module _ {files : List FileDesc} {graph : ImportGraph} {ranking : Ranking} {positioned : Positioned}
+    (m : ArePositioned files graph ranking positioned) where
   pub rows_size : length positioned.imports.items ≡ length ranking.order.items
   rows_size = omega (arith, m.imports.size, length_graph positioned.imports.items)
 
@@ -114,18 +118,22 @@ module _ {files : List FileDesc} {graph : ImportGraph} {ranking : Ranking} {posi
   pub rows_fall : IsFalling (import_rows positioned)
   rows_fall =
       let g = file_imports graph in
-      renumbered_falls g g ranking.ranks.items ranking.order.items (import_rows positioned) m.ranked.ranks m.ranked.order (λ a b edge. edge) m.imports
+      renumbered_falls g g ranking.ranks.items ranking.order.items
+        (import_rows positioned) m.ranked.ranks m.ranked.order (λ a b edge. edge) m.imports
 
   pub public_falls : IsFalling (public_rows positioned)
   public_falls =
       let sub : (a b : ℕ) → Edge (file_public_imports graph) a b → Edge (file_imports graph) a b =
-      λ a b edge. (m.ranked.imports.edges a b).1 (public_imports files a b ((m.ranked.public_imports.edges a b).0 edge)) in
-      renumbered_falls (file_imports graph) (file_public_imports graph) ranking.ranks.items ranking.order.items (public_rows positioned)
+      λ a b edge. (m.ranked.imports.edges a b).1
+        (public_imports files a b ((m.ranked.public_imports.edges a b).0 edge)) in
+      renumbered_falls (file_imports graph) (file_public_imports graph) ranking.ranks.items ranking.order.items
+        (public_rows positioned)
       m.ranked.ranks m.ranked.order sub m.public_imports
 
   -- each file has a position, and is the file there
   position_below : (a : ℕ) → a < length files → position_of positioned a < length positioned.imports.items
-  position_below a h = let at = m.positions.node a (omega (arith, h, order_size m.ranked)) in omega (arith, at.0, rows_size)
+  position_below a h = let at = m.positions.node a (omega (arith, h, order_size m.ranked)) in
+      omega (arith, at.0, rows_size)
 
   file_there : (a : ℕ) → a < length files → file_at ranking (position_of positioned a) ≡ a
   file_there a h = (m.positions.node a (omega (arith, h, order_size m.ranked))).1
@@ -138,7 +146,8 @@ module _ {files : List FileDesc} {graph : ImportGraph} {ranking : Ranking} {posi
       let real = (m.imports.edges k j (omega (arith, inside, m.imports.size)) (m.imports.within k j edge)).0 edge in
       (m.ranked.imports.edges (file_at ranking k) (file_at ranking j)).0 real
 
-  edge_from : (a b : ℕ) → a < length files → Imports files a b → Edge (import_rows positioned) (position_of positioned a) (position_of positioned b)
+  edge_from : (a b : ℕ) → a < length files → Imports files a b
+      → Edge (import_rows positioned) (position_of positioned a) (position_of positioned b)
   edge_from a b h i =
       let k = position_of positioned a in
       let j = position_of positioned b in
@@ -149,36 +158,46 @@ module _ {files : List FileDesc} {graph : ImportGraph} {ranking : Ranking} {posi
 
   way_to : (k j : ℕ) → Leads (Edge (import_rows positioned)) k j → Reaches files (file_at ranking j) (file_at ranking k)
   way_to k j way =
-      leads_map (Edge (file_imports graph)) (Imports files) (λ x y. (m.ranked.imports.edges x y).0) (file_at ranking k) (file_at ranking j)
+      leads_map (Edge (file_imports graph)) (Imports files) (λ x y. (m.ranked.imports.edges x y).0) (file_at ranking k)
+        (file_at ranking j)
       (ways_to (file_imports graph) ranking.order.items (import_rows positioned) m.imports k j way)
 
   way_from : (a c : ℕ) → a < length files → Reaches files a c
       → Leads (Edge (import_rows positioned)) (position_of positioned c) (position_of positioned a)
   way_from a c h way =
       ways_from (file_imports graph) ranking.order.items positioned.positions.items (import_rows positioned) m.positions
-      (omega (arith, m.ranked.imports.size, order_size m.ranked)) (graph_within m.ranked.imports) m.imports c a (omega (arith, h, order_size m.ranked))
+      (omega (arith, m.ranked.imports.size, order_size m.ranked)) (graph_within m.ranked.imports) m.imports c a
+        (omega (arith, h, order_size m.ranked))
       (leads_map (Imports files) (Edge (file_imports graph)) (λ x y. (m.ranked.imports.edges x y).1) c a way)
 
-  public_way_to : (k j : ℕ) → Leads (Edge (public_rows positioned)) k j → Leads (ImportsPublicly files) (file_at ranking k) (file_at ranking j)
+  public_way_to : (k j : ℕ) → Leads (Edge (public_rows positioned)) k j
+      → Leads (ImportsPublicly files) (file_at ranking k) (file_at ranking j)
   public_way_to k j way =
-      leads_map (Edge (file_public_imports graph)) (ImportsPublicly files) (λ x y. (m.ranked.public_imports.edges x y).0) (file_at ranking k)
-      (file_at ranking j) (ways_to (file_public_imports graph) ranking.order.items (public_rows positioned) m.public_imports k j way)
+      leads_map (Edge (file_public_imports graph)) (ImportsPublicly files)
+        (λ x y. (m.ranked.public_imports.edges x y).0) (file_at ranking k)
+      (file_at ranking j)
+        (ways_to (file_public_imports graph) ranking.order.items (public_rows positioned) m.public_imports k j way)
 
   public_way_from : (a c : ℕ) → a < length files → Leads (ImportsPublicly files) c a
       → Leads (Edge (public_rows positioned)) (position_of positioned c) (position_of positioned a)
   public_way_from a c h way =
-      ways_from (file_public_imports graph) ranking.order.items positioned.positions.items (public_rows positioned) m.positions
-      (omega (arith, m.ranked.public_imports.size, order_size m.ranked)) (public_within m.ranked.public_imports) m.public_imports c a
+      ways_from (file_public_imports graph) ranking.order.items positioned.positions.items
+        (public_rows positioned) m.positions
+      (omega (arith, m.ranked.public_imports.size, order_size m.ranked))
+        (public_within m.ranked.public_imports) m.public_imports c a
       (omega (arith, h, order_size m.ranked))
-      (leads_map (ImportsPublicly files) (Edge (file_public_imports graph)) (λ x y. (m.ranked.public_imports.edges x y).1) c a way)
+      (leads_map (ImportsPublicly files) (Edge (file_public_imports graph))
+        (λ x y. (m.ranked.public_imports.edges x y).1) c a way)
 
   -- ---- what a file reaches
 
-  reach_members : (a c : ℕ) (list : List ℕ) → a < length files → IsReachList (import_rows positioned) (position_of positioned a) list
+  reach_members : (a c : ℕ) (list : List ℕ) → a < length files
+      → IsReachList (import_rows positioned) (position_of positioned a) list
       → Contains (map (file_at ranking) list) c ↔ Reaches files a c
   reach_members a c list h is = (
     λ w. (let (k, inside, at) = (map_members (file_at ranking) list c).0 w in
-        subst (λ x. Reaches files x c) (file_there a h) (subst (Reaches files (file_at ranking (position_of positioned a))) at
+        subst (λ x. Reaches files x c) (file_there a h)
+          (subst (Reaches files (file_at ranking (position_of positioned a))) at
         (way_to k (position_of positioned a) ((is.members k).0 inside)))),
     λ way. (map_members (file_at ranking) list c).1 (
       position_of positioned c,
@@ -187,7 +206,8 @@ module _ {files : List FileDesc} {graph : ImportGraph} {ranking : Ranking} {posi
     ),
   )
 
-  reach_is : (a : ℕ) (list : List ℕ) → a < length files → IsReachList (import_rows positioned) (position_of positioned a) list
+  reach_is : (a : ℕ) (list : List ℕ) → a < length files
+      → IsReachList (import_rows positioned) (position_of positioned a) list
       → IsReach files (rank_of ranking) a (map (file_at ranking) list)
   reach_is a list h is = record {
     members = λ c. reach_members a c list h is;
@@ -197,7 +217,8 @@ module _ {files : List FileDesc} {graph : ImportGraph} {ranking : Ranking} {posi
         let below = leads_le (import_rows positioned) last (position_of positioned a) rows_fall
         ((is.members last).0 (k + 1, next, same_at list (k + 1) next)) in
         let inside = position_below a h in
-        let far = before_far ranking.ranks.items ranking.order.items m.ranked.order (get_or list k 0) last (is.rises k next)
+        let far = before_far ranking.ranks.items ranking.order.items m.ranked.order (get_or list k 0) last
+          (is.rises k next)
         (omega (arith, below, inside, rows_size)) in
         rw (map_at (file_at ranking) list k (omega (arith, next)), map_at (file_at ranking) list (k + 1) next) far);
   }
@@ -217,23 +238,29 @@ module _ {files : List FileDesc} {graph : ImportGraph} {ranking : Ranking} {posi
     column_inside b h = omega (arith, h, order_size m.ranked, s.reaches.columns)
 
     -- by public imports
-    reached_to : (k b : ℕ) → k < length positioned.imports.items → b < length files → Has s.reach k b → Leads (ImportsPublicly files) b (file_at ranking k)
+    reached_to : (k b : ℕ) → k < length positioned.imports.items → b < length files → Has s.reach k b
+        → Leads (ImportsPublicly files) b (file_at ranking k)
     reached_to k b hk hb w =
         let (j, way, at) = (s.reaches.members k b (row_inside k hk) (column_inside b hb)).0 w in
         subst (λ x. Leads (ImportsPublicly files) x (file_at ranking k)) at (public_way_to j k way)
 
-    reached_from : (d b : ℕ) → d < length files → b < length files → Leads (ImportsPublicly files) b d → Has s.reach (position_of positioned d) b
+    reached_from : (d b : ℕ) → d < length files → b < length files → Leads (ImportsPublicly files) b d
+        → Has s.reach (position_of positioned d) b
     reached_from d b hd hb way =
-        (s.reaches.members (position_of positioned d) b (row_inside (position_of positioned d) (position_below d hd)) (column_inside b hb)).1
+        (s.reaches.members (position_of positioned d) b (row_inside (position_of positioned d) (position_below d hd))
+          (column_inside b hb)).1
         (position_of positioned b, public_way_from d b hd way, file_there b hb)
 
     seen_to : (a b : ℕ) → a < length files → b < length files → Has seen (position_of positioned a) b → SeesBy files a b
     seen_to a b ha hb w =
         let p = position_of positioned a in
         elim ((s.joined.members p b (row_inside p (position_below a ha)) (column_inside b hb)).0 w) [
-          | inl own ↦ public_seen a b (subst (Leads (ImportsPublicly files) b) (file_there a ha) (reached_to p b (position_below a ha) hb own))
+          | inl own ↦
+              public_seen a b
+              (subst (Leads (ImportsPublicly files) b) (file_there a ha) (reached_to p b (position_below a ha) hb own))
           | inr (k, edge, v) ↦
-              let inside : k < length positioned.imports.items = (let below = m.imports.within p k edge in omega (arith, below, rows_size)) in
+              let inside : k < length positioned.imports.items =
+                (let below = m.imports.within p k edge in omega (arith, below, rows_size)) in
               inr (
                 file_at ranking k,
                 subst (λ x. Imports files x (file_at ranking k)) (file_there a ha) (edge_to p k edge),
@@ -241,7 +268,8 @@ module _ {files : List FileDesc} {graph : ImportGraph} {ranking : Ranking} {posi
               )
         ]
 
-    seen_from : (a b : ℕ) → a < length files → b < length files → SeesBy files a b → Has seen (position_of positioned a) b
+    seen_from : (a b : ℕ) → a < length files → b < length files → SeesBy files a b
+        → Has seen (position_of positioned a) b
     seen_from a b ha hb by =
         let p = position_of positioned a in
         (s.joined.members p b (row_inside p (position_below a ha)) (column_inside b hb)).1 (elim by [
@@ -251,19 +279,26 @@ module _ {files : List FileDesc} {graph : ImportGraph} {ranking : Ranking} {posi
 
     seen_is : (a b : ℕ) → a < length files → b < length files → Has seen (position_of positioned a) b ↔ Sees files a b
     seen_is a b ha hb =
-        let sees = sees_is files m.ranked.none_bad a b in (λ w. sees.0 (seen_to a b ha hb w), λ w. seen_from a b ha hb (sees.1 w))
+        let sees = sees_is files m.ranked.none_bad a b in
+        (λ w. sees.0 (seen_to a b ha hb w), λ w. seen_from a b ha hb (sees.1 w))
 
 -- ---- the links
 
-named_list : (f : ℕ → ℕ) (lists named : List (List ℕ)) (k : ℕ) → named ≡ map (λ (list : List ℕ). map f list) lists → k < length lists
+named_list : (f : ℕ → ℕ) (lists named : List (List ℕ)) (k : ℕ) → named ≡ map (λ (list : List ℕ). map f list) lists
+    → k < length lists
     → get_or named k [] ≡ map f (get_or lists k [])
-named_list f lists named k e h = ap (λ (ls : List (List ℕ)). get_or ls k []) e ∙ get_or-map (λ (list : List ℕ). map f list) lists k [] [] h
+named_list f lists named k e h = ap (λ (ls : List (List ℕ)). get_or ls k []) e
+    ∙ get_or-map (λ (list : List ℕ). map f list) lists k [] [] h
 
-named_length : (f : ℕ → ℕ) (lists named : List (List ℕ)) → named ≡ map (λ (list : List ℕ). map f list) lists → length named ≡ length lists
-named_length f lists named e = let len : length (map (λ (list : List ℕ). map f list) lists) ≡ length lists = grind (arith, common_steps) in ap length e ∙ len
+named_length : (f : ℕ → ℕ) (lists named : List (List ℕ)) → named ≡ map (λ (list : List ℕ). map f list) lists
+    → length named ≡ length lists
+named_length f lists named e = let len : length (map (λ (list : List ℕ). map f list) lists) ≡ length lists =
+    grind (arith, common_steps) in ap length e ∙ len
 
-module _ {files : List FileDesc} {graph : ImportGraph} {ranking : Ranking} {positioned : Positioned} {reach : List (List ℕ)} {seen : Bits}
-    (m : ArePositioned files graph ranking positioned) (r : AreFilesReached ranking positioned reach) (s : AreFilesSeen ranking positioned seen) where
+module _ {files : List FileDesc} {graph : ImportGraph} {ranking : Ranking} {positioned : Positioned}
+    {reach : List (List ℕ)} {seen : Bits}
+    (m : ArePositioned files graph ranking positioned) (r : AreFilesReached ranking positioned reach)
+    (s : AreFilesSeen ranking positioned seen) where
   ranks_size : length ranking.ranks.items ≡ length files
   ranks_size = omega (arith, m.ranked.order.size, order_size m.ranked)
 

@@ -41,7 +41,8 @@ module _ (files : List FileDesc) (none : NoneBad files) (a : ℕ) where
   sees_to _ (re_exported b c s other p) = sees_more b c (sees_to b s) other p
 
   -- an import leads to no file that imports it, so what it leads to is seen
-  sees_on : (d b e : ℕ) → Imports files a d → Reaches files d e → Sees files a e → Leads (ImportsPublicly files) b e → Sees files a b
+  sees_on : (d b e : ℕ) → Imports files a d → Reaches files d e → Sees files a e → Leads (ImportsPublicly files) b e
+      → Sees files a b
   sees_on d b _ i r s here = s
   sees_on d b _ i r s (through e f p more) =
       sees_on d b f i (leads_last (Imports files) e f d r (public_imports files e f p))
@@ -62,17 +63,20 @@ module _ {files : List FileDesc} {g : Graph} {ranks : List ℕ} (is : IsGraph fi
   rank_falls c _ (through a b i more) =
       let less = ranked.above a b ((is.edges a b).1 i) in let rest = rank_falls c b more in omega (arith, less, rest)
 
-  not_wrong : (a : ℕ) (i : ImportDesc) (k : Kind) → (HasMissing files (imports_at files a) → ⊥) → Contains (imports_at files a) i → IsWrong files a i k → ⊥
+  not_wrong : (a : ℕ) (i : ImportDesc) (k : Kind) → (HasMissing files (imports_at files a) → ⊥)
+      → Contains (imports_at files a) i → IsWrong files a i k → ⊥
   not_wrong a i _ whole w (missing none) = whole (i, w, none)
   not_wrong a i _ whole w (cyclic b n reach) =
-      let less = ranked.above a b ((is.edges a b).1 (i, w, n)) in let back = rank_falls a b reach in omega (arith, less, back)
+      let less = ranked.above a b ((is.edges a b).1 (i, w, n)) in let back = rank_falls a b reach in
+      omega (arith, less, back)
 
   pub none_bad : ((a : ℕ) → HasMissing files (imports_at files a) → ⊥) → NoneBad files
   none_bad whole a p k (i, w, at, wrong) = not_wrong a i k (whole a) w wrong
 
 pub no_cycle : {files : List FileDesc} {g : Graph} → IsGraph files g → NoneBad files → HasNoCycle g
 no_cycle {files} {g} is none a b edge way =
-    no_way_back files a b none ((is.edges a b).0 edge) (leads_map (Edge g) (Imports files) (λ x y. (is.edges x y).0) a b way)
+    no_way_back files a b none ((is.edges a b).0 edge)
+      (leads_map (Edge g) (Imports files) (λ x y. (is.edges x y).0) a b way)
 
 pub none_missing : (files : List FileDesc) → NoneBad files → (a : ℕ) → HasMissing files (imports_at files a) → ⊥
 none_missing files none a (i, w, n) = none a i.place _ (i, w, refl, missing n)

@@ -28,7 +28,8 @@ front_or_behind x xs z (suc k, inside, is) = inr (k, omega (arith, inside), is)
 
 -- ---- what stands behind comes later
 
-pub next_behind : {X : Type 0} (x : X) (xs : List X) (k : ℕ) (d : X) → get_or (x ∷ xs) (suc k + 1) d ≡ get_or xs (k + 1) d
+pub next_behind : {X : Type 0} (x : X) (xs : List X) (k : ℕ) (d : X)
+    → get_or (x ∷ xs) (suc k + 1) d ≡ get_or xs (k + 1) d
 next_behind x xs k d = let at : suc k + 1 ≡ suc (k + 1) = omega arith in ap (λ i. get_or (x ∷ xs) i d) at
 
 pub rest_rises : {X : Type 0} (R : X → X → Type 0) (x : X) (xs : List X) → Rises R (x ∷ xs) → Rises R xs
@@ -38,14 +39,17 @@ pub first_two : {X : Type 0} (R : X → X → Type 0) (x y : X) (xs : List X) �
 first_two R x y xs up = up zero x (omega arith)
 
 -- a list rises without its second member
-skip : {X : Type 0} (R : X → X → Type 0) → IsStrict R → (x y : X) (xs : List X) → Rises R (x ∷ y ∷ xs) → Rises R (x ∷ xs)
+skip : {X : Type 0} (R : X → X → Type 0) → IsStrict R → (x y : X) (xs : List X) → Rises R (x ∷ y ∷ xs)
+    → Rises R (x ∷ xs)
 skip R strict x y [] up k d h = absurd (omega (arith, h))
-skip R strict x y (z ∷ xs) up zero d h = strict.trans x y z (first_two R x y (z ∷ xs) up) (first_two R y z xs (rest_rises R x (y ∷ z ∷ xs) up))
+skip R strict x y (z ∷ xs) up zero d h =
+    strict.trans x y z (first_two R x y (z ∷ xs) up) (first_two R y z xs (rest_rises R x (y ∷ z ∷ xs) up))
 skip R strict x y (z ∷ xs) up (suc k) d h =
     let rest = rest_rises R y (z ∷ xs) (rest_rises R x (y ∷ z ∷ xs) up) k d (omega (arith, h)) in
     subst (R (get_or (z ∷ xs) k d)) (sym (next_behind x (z ∷ xs) k d)) rest
 
-pub first_before : {X : Type 0} (R : X → X → Type 0) → IsStrict R → (x : X) (xs : List X) → Rises R (x ∷ xs) → (z : X) → Contains xs z → R x z
+pub first_before : {X : Type 0} (R : X → X → Type 0) → IsStrict R → (x : X) (xs : List X) → Rises R (x ∷ xs) → (z : X)
+    → Contains xs z → R x z
 first_before R strict x [] up z w = absurd (none_in z w)
 first_before R strict x (y ∷ xs) up z w = elim (front_or_behind y xs z w) [
   | inl same ↦ subst (R x) same (first_two R x y xs up)
@@ -54,12 +58,14 @@ first_before R strict x (y ∷ xs) up z w = elim (front_or_behind y xs z w) [
 
 -- ---- one list
 
-same_first : {X : Type 0} (R : X → X → Type 0) → IsStrict R → (x y : X) (xs ys : List X) → Rises R (x ∷ xs) → Rises R (y ∷ ys) → (x ≡ y) ⊎ Contains xs y
+same_first : {X : Type 0} (R : X → X → Type 0) → IsStrict R → (x y : X) (xs ys : List X) → Rises R (x ∷ xs)
+    → Rises R (y ∷ ys) → (x ≡ y) ⊎ Contains xs y
     → (y ≡ x) ⊎ Contains ys x → x ≡ y
 same_first R strict x y xs ys up over (inl same) other = same
 same_first R strict x y xs ys up over (inr later) (inl same) = sym same
 same_first R strict x y xs ys up over (inr later) (inr after) =
-    absurd (strict.never x (strict.trans x y x (first_before R strict x xs up y later) (first_before R strict y ys over x after)))
+    absurd (strict.never x
+      (strict.trans x y x (first_before R strict x xs up y later) (first_before R strict y ys over x after)))
 
 same_rest : {X : Type 0} (R : X → X → Type 0) → IsStrict R → (x y : X) (xs ys : List X) → Rises R (x ∷ xs) → x ≡ y
     → ((z : X) → Contains (x ∷ xs) z → Contains (y ∷ ys) z) → (z : X) → Contains xs z → Contains ys z
@@ -68,13 +74,16 @@ same_rest R strict x y xs ys up same to z w = elim (front_or_behind y ys z (to z
   | inr later ↦ later
 ]
 
-pub one_rising : {X : Type 0} (R : X → X → Type 0) → IsStrict R → (xs ys : List X) → Rises R xs → Rises R ys → ((x : X) → Contains xs x → Contains ys x)
+pub one_rising : {X : Type 0} (R : X → X → Type 0) → IsStrict R → (xs ys : List X) → Rises R xs → Rises R ys
+    → ((x : X) → Contains xs x → Contains ys x)
     → ((x : X) → Contains ys x → Contains xs x) → xs ≡ ys
 one_rising R strict [] [] up over to from = refl
 one_rising R strict [] (y ∷ ys) up over to from = absurd (none_in y (from y (front y ys)))
 one_rising R strict (x ∷ xs) [] up over to from = absurd (none_in x (to x (front x xs)))
 one_rising R strict (x ∷ xs) (y ∷ ys) up over to from =
-    let same : x ≡ y = same_first R strict x y xs ys up over (front_or_behind x xs y (from y (front y ys))) (front_or_behind y ys x (to x (front x xs))) in
-    let rest : xs ≡ ys = one_rising R strict xs ys (rest_rises R x xs up) (rest_rises R y ys over) (same_rest R strict x y xs ys up same to)
+    let same : x ≡ y = same_first R strict x y xs ys up over (front_or_behind x xs y (from y (front y ys)))
+      (front_or_behind y ys x (to x (front x xs))) in
+    let rest : xs ≡ ys = one_rising R strict xs ys (rest_rises R x xs up) (rest_rises R y ys over)
+      (same_rest R strict x y xs ys up same to)
     (same_rest R strict y x ys xs over (sym same) from) in
     ap (λ z. z ∷ xs) same ∙ ap (λ zs. y ∷ zs) rest

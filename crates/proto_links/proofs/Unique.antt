@@ -14,7 +14,8 @@ use Rattle.proto_links.proofs.Rising.{IsStrict, Rises, one_rising}
 
 -- ---- ranks
 
-rank_le : (files : List FileDesc) (f g : ℕ → ℕ) → AreRanks files f → AreRanks files g → (rank a : ℕ) → a < length files → f a ≡ rank → f a ≤ g a
+rank_le : (files : List FileDesc) (f g : ℕ → ℕ) → AreRanks files f → AreRanks files g → (rank a : ℕ) → a < length files
+    → f a ≡ rank → f a ≤ g a
 rank_le files f g first second zero a h e = omega (arith, e)
 rank_le files f g first second (suc rank) a h e = elim (first.least a h) [
   | inl none ↦ omega (arith, none, e)
@@ -24,7 +25,8 @@ rank_le files f g first second (suc rank) a h e = elim (first.least a h) [
       omega (arith, below, above, more))
 ]
 
-one_rank : (files : List FileDesc) (f g : ℕ → ℕ) → AreRanks files f → AreRanks files g → (a : ℕ) → a < length files → f a ≡ g a
+one_rank : (files : List FileDesc) (f g : ℕ → ℕ) → AreRanks files f → AreRanks files g → (a : ℕ)
+    → a < length files → f a ≡ g a
 one_rank files f g first second a h =
     let up = rank_le files f g first second (f a) a h refl in
     let down = rank_le files g f second first (g a) a h refl in
@@ -55,7 +57,8 @@ order_rises rank order up k d h =
     (subst (IsBefore rank (get_or order k 0)) (get_or_default order (k + 1) 0 d h) (up k h))
 
 -- an order by ranks that are the same up to the count
-order_moved : (count : ℕ) (f g : ℕ → ℕ) (order : List ℕ) → ((a : ℕ) → a < count → f a ≡ g a) → IsSetOrder count f order → Rises (IsBefore g) order
+order_moved : (count : ℕ) (f g : ℕ → ℕ) (order : List ℕ) → ((a : ℕ) → a < count → f a ≡ g a) → IsSetOrder count f order
+    → Rises (IsBefore g) order
 order_moved count f g order same o k d h =
     let inside : k < length order = omega (arith, h) in
     same_before f g (get_or order k d) (get_or order (k + 1) d)
@@ -63,18 +66,21 @@ order_moved count f g order same o k d h =
     (same (get_or order (k + 1) d) ((o.every (get_or order (k + 1) d)).0 (Contains-get_or order (k + 1) d h)))
     (order_rises f order o.rises k d h)
 
-pub one_set_order : (files : List FileDesc) (links others : Linked) → AreLinked files links → AreLinked files others → links.set_order ≡ others.set_order
+pub one_set_order : (files : List FileDesc) (links others : Linked) → AreLinked files links → AreLinked files others
+    → links.set_order ≡ others.set_order
 one_set_order files links others first second =
     let rank = rank_of others in
     one_rising (IsBefore rank) (before_strict rank) links.set_order others.set_order
-    (order_moved (length files) (rank_of links) rank links.set_order (one_rank files (rank_of links) rank first.ranks second.ranks) first.order)
+    (order_moved (length files) (rank_of links) rank links.set_order
+      (one_rank files (rank_of links) rank first.ranks second.ranks) first.order)
     (order_rises rank others.set_order second.order.rises)
     (λ a w. (second.order.every a).1 ((first.order.every a).0 w))
     (λ a w. (first.order.every a).1 ((second.order.every a).0 w))
 
 -- ---- what a file sees
 
-pub sees_same : (files : List FileDesc) (links others : Linked) (a b : ℕ) → AreLinked files links → AreLinked files others → a < length files → b < length files
+pub sees_same : (files : List FileDesc) (links others : Linked) (a b : ℕ) → AreLinked files links
+    → AreLinked files others → a < length files → b < length files
     → IsTrue (sees links a b) → IsTrue (sees others a b)
 sees_same files links others a b first second ha hb seen = (second.sees a b ha hb).1 ((first.sees a b ha hb).0 seen)
 
@@ -85,9 +91,11 @@ one_import : (a b : ℕ) (p q : Place) (k l : Kind) → IsNoLater (a, spot p k) 
 one_import a b p q k l (inl before) (inl after) = absurd (omega (arith, before, after))
 one_import a b p q k l (inl before) (inr after) = absurd (omega (arith, before, after.0))
 one_import a b p q k l (inr before) (inl after) = absurd (omega (arith, before.0, after))
-one_import a b p q k l (inr before) (inr after) = let one = one_spot p q k l before.1 after.1 in (before.0, one.0, one.1)
+one_import a b p q k l (inr before) (inr after) = let one = one_spot p q k l before.1 after.1 in
+    (before.0, one.0, one.1)
 
-pub one_bad : (files : List FileDesc) (a b : ℕ) (place other : Place) (kind what : Kind) → IsFirstBad files a place kind → IsFirstBad files b other what
+pub one_bad : (files : List FileDesc) (a b : ℕ) (place other : Place) (kind what : Kind) → IsFirstBad files a place kind
+    → IsFirstBad files b other what
     → (a ≡ b) × (place ≡ other) × (kind ≡ what)
 one_bad files a b place other kind what first second =
     one_import a b place other kind what (first.least (b, spot other what) second.among)

@@ -26,21 +26,26 @@ unequal x y true e never = absurd (never (eqb-true x y e))
 
 all_apart : (x : ℕ) (xs : List ℕ) → ((y : ℕ) → Contains xs y → x ≡ y → ⊥) → AllByRecursion (λ y. x == y ≡ false) xs
 all_apart x [] never = tt
-all_apart x (y ∷ ys) never = (unequal x y (x == y) refl (never y (front y ys)), all_apart x ys (λ z w. never z (behind y ys z w)))
+all_apart x (y ∷ ys) never =
+    (unequal x y (x == y) refl (never y (front y ys)), all_apart x ys (λ z w. never z (behind y ys z w)))
 
 pub once_of : (R : ℕ → ℕ → Type 0) → IsStrict R → (xs : List ℕ) → Rises R xs → IsDistinct ◌==◌ xs
 unfolding IsDistinct
 once_of R strict [] up = tt
 once_of R strict (x ∷ xs) up =
-    (all_apart x xs (λ y w same. strict.never x (subst (R x) (sym same) (first_before R strict x xs up y w))), once_of R strict xs (rest_rises R x xs up))
+    (all_apart x xs (λ y w same. strict.never x (subst (R x) (sym same) (first_before R strict x xs up y w))),
+      once_of R strict xs (rest_rises R x xs up))
 
 -- what comes before all members of a list that rises comes in front of it
-rises_behind : {X : Type 0} (R : X → X → Type 0) (x : X) (xs : List X) → ((z : X) → Contains xs z → R x z) → Rises R xs → Rises R (x ∷ xs)
+rises_behind : {X : Type 0} (R : X → X → Type 0) (x : X) (xs : List X) → ((z : X) → Contains xs z → R x z) → Rises R xs
+    → Rises R (x ∷ xs)
 rises_behind R x [] before up k d h = absurd (omega (arith, h))
 rises_behind R x (y ∷ xs) before up zero d h = before y (front y xs)
-rises_behind R x (y ∷ xs) before up (suc k) d h = subst (R (get_or (y ∷ xs) k d)) (sym (next_behind x (y ∷ xs) k d)) (up k d (omega (arith, h)))
+rises_behind R x (y ∷ xs) before up (suc k) d h =
+    subst (R (get_or (y ∷ xs) k d)) (sym (next_behind x (y ∷ xs) k d)) (up k d (omega (arith, h)))
 
-kept_by : (p : ℕ → Bool) (x : ℕ) (xs : List ℕ) (b : Bool) → p x ≡ b → filter p (x ∷ xs) ≡ cond b (x ∷ filter p xs) (filter p xs)
+kept_by : (p : ℕ → Bool) (x : ℕ) (xs : List ℕ) (b : Bool) → p x ≡ b
+    → filter p (x ∷ xs) ≡ cond b (x ∷ filter p xs) (filter p xs)
 kept_by p x xs b e = ap (λ t. cond t (x ∷ filter p xs) (filter p xs)) e
 
 -- a member of what a test keeps is a member that passes it, and the other way round
@@ -50,7 +55,8 @@ kept_to p xs z w = (
   All-contains (λ y. p y ≡ true) (filter p xs) z (filter_passes p xs) w,
 )
 
-kept_back : (p : ℕ → Bool) (x : ℕ) (xs : List ℕ) (z : ℕ) (b : Bool) → p x ≡ b → (Contains xs z → Contains (filter p xs) z) → p z ≡ true → Contains (x ∷ xs) z
+kept_back : (p : ℕ → Bool) (x : ℕ) (xs : List ℕ) (z : ℕ) (b : Bool) → p x ≡ b
+    → (Contains xs z → Contains (filter p xs) z) → p z ≡ true → Contains (x ∷ xs) z
     → Contains (cond b (x ∷ filter p xs) (filter p xs)) z
 kept_back p x xs z false e rest passes w = elim (front_or_behind x xs z w) [
   | inl same ↦ absurd (true≢false (sym passes ∙ ap p (sym same) ∙ e))
@@ -66,10 +72,12 @@ kept_from p [] z passes w = absurd (none_in z w)
 kept_from p (x ∷ xs) z passes w = kept_back p x xs z (p x) refl (kept_from p xs z passes) passes w
 
 -- what a test keeps of a list that rises does
-kept_rise : (R : ℕ → ℕ → Type 0) → IsStrict R → (p : ℕ → Bool) (x : ℕ) (xs : List ℕ) (b : Bool) → Rises R (x ∷ xs) → Rises R (filter p xs)
+kept_rise : (R : ℕ → ℕ → Type 0) → IsStrict R → (p : ℕ → Bool) (x : ℕ) (xs : List ℕ) (b : Bool) → Rises R (x ∷ xs)
+    → Rises R (filter p xs)
     → Rises R (cond b (x ∷ filter p xs) (filter p xs))
 kept_rise R strict p x xs false up rest = rest
-kept_rise R strict p x xs true up rest = rises_behind R x (filter p xs) (λ z w. first_before R strict x xs up z (kept_to p xs z w).0) rest
+kept_rise R strict p x xs true up rest =
+    rises_behind R x (filter p xs) (λ z w. first_before R strict x xs up z (kept_to p xs z w).0) rest
 
 pub kept_rises : (R : ℕ → ℕ → Type 0) → IsStrict R → (p : ℕ → Bool) (xs : List ℕ) → Rises R xs → Rises R (filter p xs)
 kept_rises R strict p [] up = up
@@ -100,9 +108,11 @@ whole_of files links is =
       itself = λ a h. ((is.reach a (below a h)).members a).1 here;
       closed = λ a b c h w v. (
           let i = within a b h w in
-          ((is.reach a (below a h)).members c).1 (leads_trans (Imports files) b c a (((is.reach a (below a h)).members b).0 w)
+          ((is.reach a (below a h)).members c).1
+            (leads_trans (Imports files) b c a (((is.reach a (below a h)).members b).0 w)
           (((is.reach b (below b i)).members c).0 v)));
-      once = λ a h. once_of R strict (reach_of links a) (order_rises rank (reach_of links a) (is.reach a (below a h)).rises);
+      once = λ a h. once_of R strict (reach_of links a)
+          (order_rises rank (reach_of links a) (is.reach a (below a h)).rises);
       part = λ a h. one_rising R strict (reach_of links a) (filter (is_member ◌==◌ (reach_of links a)) links.set_order)
           (order_rises rank (reach_of links a) (is.reach a (below a h)).rises)
           (kept_rises R strict (is_member ◌==◌ (reach_of links a)) links.set_order order)
@@ -111,5 +121,6 @@ whole_of files links is =
           (λ b w. (has_is b (reach_of links a)).0 (kept_to (is_member ◌==◌ (reach_of links a)) links.set_order b w).1);
       every = λ a. (λ w. back a ((is.order.every a).0 w), λ h. (is.order.every a).1 (below a h));
       each_once = each;
-      size = size_of links.set_order (count_of links) each (λ a. (λ w. back a ((is.order.every a).0 w), λ h. (is.order.every a).1 (below a h)));
+      size = size_of links.set_order (count_of links) each
+          (λ a. (λ w. back a ((is.order.every a).0 w), λ h. (is.order.every a).1 (below a h)));
     }

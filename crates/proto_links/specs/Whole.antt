@@ -23,7 +23,8 @@ pub record AreReachesWhole (links : Linked) : Type 0 where
   pub closed : (a b c : ℕ) → a < count_of links → Contains (reach_of links a) b → Contains (reach_of links b) c
       → Contains (reach_of links a) c
   pub once : (a : ℕ) → a < count_of links → IsDistinct ◌==◌ (reach_of links a)
-  pub part : (a : ℕ) → a < count_of links → reach_of links a ≡ filter (is_member ◌==◌ (reach_of links a)) links.set_order
+  pub part : (a : ℕ) → a < count_of links
+      → reach_of links a ≡ filter (is_member ◌==◌ (reach_of links a)) links.set_order
   pub every : (a : ℕ) → Contains links.set_order a ↔ (a < count_of links)
   pub each_once : IsDistinct ◌==◌ links.set_order
   pub size : length links.set_order ≡ count_of links

@@ -44,7 +44,8 @@ among_more names one name = list_any-append (bytes_eq name) names (one ∷ [])
     ∙ ap (λ b. is_member bytes_eq names name || b) (or-false (bytes_eq name one))
 
 -- a name that does not begin like those that are made is none of them
-pub taken_other : (names : List (List ℕ)) (one : List ℕ) (set : BTreeSet (String Global)) → begins_as_made one ≡ false → HoldsTaken names set
+pub taken_other : (names : List (List ℕ)) (one : List ℕ) (set : BTreeSet (String Global)) → begins_as_made one ≡ false
+    → HoldsTaken names set
     → HoldsTaken (names ++ one ∷ []) set
 taken_other names one set differs members = record {
   members = λ name begins.
@@ -55,11 +56,13 @@ taken_other names one set differs members = record {
       ∙ sym (among_more names one name);
 }
 
-pub taken_more : (names : List (List ℕ)) (one : List ℕ) (key : String Global) (old new : BTreeSet (String Global)) → string_bytes key ≡ one
+pub taken_more : (names : List (List ℕ)) (one : List ℕ) (key : String Global) (old new : BTreeSet (String Global))
+    → string_bytes key ≡ one
     → sorted.Updates string_cmp old new key true → HoldsTaken names old → HoldsTaken (names ++ one ∷ []) new
 taken_more names one key old new same updates members = record {
   members = λ name begins. btree_set_updates_text one old new true
-      (subst (λ (bs : List ℕ). sorted.UpdatesBy string_cmp (λ k. slice_cmp nat_cmp bs (string_bytes k)) old new true) same updates) name
+      (subst (λ (bs : List ℕ). sorted.UpdatesBy string_cmp (λ k. slice_cmp nat_cmp bs (string_bytes k)) old new true)
+        same updates) name
       ∙ rw (members.members name begins, swapped one name) (or_by (bytes_eq name one) (is_member bytes_eq names name))
       ∙ sym (among_more names one name);
 }
@@ -67,7 +70,8 @@ taken_more names one key old new same updates members = record {
 longer_begins : (name : List ℕ) → begins_as_made (88 ∷ name) ≡ true
 longer_begins name = refl
 
-first_begins : (c : ℕ) (cs : List ℕ) (b : Bool) → (c == 95) ≡ b → begins_as_made (if b then c ∷ cs else 95 ∷ c ∷ cs) ≡ true
+first_begins : (c : ℕ) (cs : List ℕ) (b : Bool) → (c == 95) ≡ b
+    → begins_as_made (if b then c ∷ cs else 95 ∷ c ∷ cs) ≡ true
 first_begins c cs true same = rw same refl
 first_begins c cs false same = refl
 
@@ -169,7 +173,8 @@ pub free_is_free : (taken : List (List ℕ)) (name : List ℕ)
 free_is_free taken name = free_after taken (length taken) name (longer_all (length name) taken)
 
 -- a search by a set of the names that are taken
-pub found_by_set : (taken : List (List ℕ)) (set : BTreeSet (String Global)) (most : ℕ) (start field found : List ℕ) → HoldsTaken taken set → most ≡ length taken
+pub found_by_set : (taken : List (List ℕ)) (set : BTreeSet (String Global)) (most : ℕ) (start field found : List ℕ)
+    → HoldsTaken taken set → most ≡ length taken
     → start ≡ with_underscore field → found ≡ first_free (contains_text set) most start
     → found ≡ first_free (is_member bytes_eq taken) (length taken) (with_underscore field)
 found_by_set taken set most start field found members same same_start by_set =

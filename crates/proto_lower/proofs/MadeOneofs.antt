@@ -12,7 +12,8 @@ use Rattle.proto_lower.specs.Oneofs.{names_of_oneofs, made_named, with_one, with
 abbrev pub made_count : List FieldDesc → ℕ
 made_count fs = count_by (λ f. f.proto3_optional) fs
 
-pub made_count-cons : (f : FieldDesc) (fs : List FieldDesc) → made_count (f ∷ fs) ≡ cond f.proto3_optional 1 0 + made_count fs
+pub made_count-cons : (f : FieldDesc) (fs : List FieldDesc)
+    → made_count (f ∷ fs) ≡ cond f.proto3_optional 1 0 + made_count fs
 made_count-cons f fs = sum_by-cons (λ (g : FieldDesc). cond g.proto3_optional 1 0) f fs
 
 with_made-append : (names : List (List ℕ)) (so_far : List OneofDesc) (xs ys : List FieldDesc)
@@ -29,7 +30,8 @@ pub length-with_made : (names : List (List ℕ)) (so_far : List OneofDesc) (fs :
     → length (with_made names so_far fs) ≡ length so_far + made_count fs
 length-with_made names so_far [] = omega arith
 length-with_made names so_far (f ∷ fs) =
-    let rest : length (with_made names so_far (f ∷ fs)) ≡ length (with_one names so_far f f.proto3_optional) + made_count fs =
+    let rest : length (with_made names so_far (f ∷ fs))
+      ≡ length (with_one names so_far f f.proto3_optional) + made_count fs =
     length-with_made names (with_one names so_far f f.proto3_optional) fs in
     omega (arith, rest, length-with_one names so_far f f.proto3_optional, made_count-cons f fs)
 
@@ -48,7 +50,8 @@ with_made-start names so_far (f ∷ fs) =
     (one.0 ++ rest.0, rest.1 ∙ ap (λ xs. xs ++ rest.0) one.1 ∙ append_assoc so_far one.0 rest.0)
 
 -- the element behind a list, and the list before it
-get_seam : {A : Type 0} (xs : List A) (y : A) (ys : List A) (n : ℕ) → n ≡ length xs → slice_get (xs ++ y ∷ ys) n ≡ Some y
+get_seam : {A : Type 0} (xs : List A) (y : A) (ys : List A) (n : ℕ) → n ≡ length xs
+    → slice_get (xs ++ y ∷ ys) n ≡ Some y
 get_seam [] y ys n at = rw at refl
 get_seam (x ∷ xs) y ys zero at = absurd (omega arith)
 get_seam (x ∷ xs) y ys (suc n) at = get_seam xs y ys n (omega arith)
@@ -58,7 +61,8 @@ take_seam [] ys n at = rw at refl
 take_seam (x ∷ xs) ys zero at = absurd (omega arith)
 take_seam (x ∷ xs) ys (suc n) at = ap (λ zs. x ∷ zs) (take_seam xs ys n (omega arith))
 
-pub get_start : {A : Type 0} (xs ys : List A) (n : ℕ) (x : A) → slice_get xs n ≡ Some x → slice_get (xs ++ ys) n ≡ Some x
+pub get_start : {A : Type 0} (xs ys : List A) (n : ℕ) (x : A) → slice_get xs n ≡ Some x
+    → slice_get (xs ++ ys) n ≡ Some x
 get_start [] ys n x at = cc
 get_start (y ∷ xs) ys zero x at = at
 get_start (y ∷ xs) ys (suc n) x at = get_start xs ys n x at
@@ -69,7 +73,8 @@ with_one-made : (names : List (List ℕ)) (so_far : List OneofDesc) (f : FieldDe
 with_one-made names so_far f true here = refl
 with_one-made names so_far f false here = cc
 
-pub with_made-seam : (names : List (List ℕ)) (so_far : List OneofDesc) (before : List FieldDesc) (f : FieldDesc) (after : List FieldDesc)
+pub with_made-seam : (names : List (List ℕ)) (so_far : List OneofDesc) (before : List FieldDesc) (f : FieldDesc)
+    (after : List FieldDesc)
     → f.proto3_optional ≡ true
     → (more : List OneofDesc) × (with_made names so_far (before ++ f ∷ after)
     ≡ with_made names so_far before ++ made_named (names ++ names_of_oneofs (with_made names so_far before)) f ∷ more)
@@ -79,11 +84,13 @@ with_made-seam names so_far before f after optional =
     let rest = with_made-start names (with_one names done f f.proto3_optional) after in (
       rest.0,
       with_made-append names so_far before (f ∷ after) ∙ rest.1
-          ∙ ap (λ xs. xs ++ rest.0) (with_one-made names done f f.proto3_optional optional) ∙ append_assoc done (made ∷ []) rest.0,
+          ∙ ap (λ xs. xs ++ rest.0) (with_one-made names done f f.proto3_optional optional)
+          ∙ append_assoc done (made ∷ []) rest.0,
     )
 
 -- the oneof of an `optional` field stands behind those so far and those of the fields before it
-pub slice_get-with_made : (names : List (List ℕ)) (so_far : List OneofDesc) (before : List FieldDesc) (f : FieldDesc) (after : List FieldDesc) (index : ℕ)
+pub slice_get-with_made : (names : List (List ℕ)) (so_far : List OneofDesc) (before : List FieldDesc) (f : FieldDesc)
+    (after : List FieldDesc) (index : ℕ)
     → f.proto3_optional ≡ true → index ≡ length so_far + made_count before
     → slice_get (with_made names so_far (before ++ f ∷ after)) index
     ≡ Some (made_named (names ++ names_of_oneofs (take index (with_made names so_far (before ++ f ∷ after)))) f)

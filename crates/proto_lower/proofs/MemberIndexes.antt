@@ -18,7 +18,8 @@ use Rattle.proto_lower.specs.Oneofs.{real_named, real_oneofs}
 use Rattle.proto_lower.proofs.OneofIndexes.{made_index, made_by, members, apart, apart_above, passed, kept}
 
 -- the oneofs of the source, lowered
-pub slice_get-real_oneofs : (is : List MessageItem) (k : ℕ) (o : Oneof) → slice_get (flat_map message_oneof is) k ≡ Some o
+pub slice_get-real_oneofs : (is : List MessageItem) (k : ℕ) (o : Oneof)
+    → slice_get (flat_map message_oneof is) k ≡ Some o
     → slice_get (real_oneofs is) k ≡ Some (real_named o.name)
 slice_get-real_oneofs is k o at = slice_get-map (λ (p : Oneof). real_named p.name) (flat_map message_oneof is) k
     ∙ ap (option_map (λ (p : Oneof). real_named p.name)) at
@@ -50,17 +51,20 @@ made-apart k next true below = apart_above next k below
 made-apart k next false below = refl
 
 -- no field of statements that begin behind the oneof stands in it
-none-from : (full : List ℕ) (k real next : ℕ) (is : List MessageItem) → k < real → k < next → fields_in k (fields_from full real next is) ≡ []
+none-from : (full : List ℕ) (k real next : ℕ) (is : List MessageItem) → k < real → k < next
+    → fields_in k (fields_from full real next is) ≡ []
 none-from full k real next [] before below = refl
 none-from full k real next (message_item.Field f ∷ is) before below =
-    passed k (field_at next f) (fields_from full real (next + made_by (is_optional f.label)) is) (made-apart k next (is_optional f.label) below)
+    passed k (field_at next f) (fields_from full real (next + made_by (is_optional f.label)) is)
+      (made-apart k next (is_optional f.label) below)
     ∙ none-from full k real (next + made_by (is_optional f.label)) is before (omega (arith, below))
 none-from full k real next (message_item.Map m ∷ is) before below = none-from full k real next is before below
 none-from full k real next (message_item.Oneof o ∷ is) before below =
     other-members k real o.items (fields_from full (real + 1) next is) (apart_above real k before)
     ∙ none-from full k (real + 1) next is (omega (arith, before)) below
 none-from full k real next (message_item.Option o ∷ is) before below = none-from full k real next is before below
-none-from full k real next (message_item.Message' boxed message ∷ is) before below = none-from full k real next is before below
+none-from full k real next (message_item.Message' boxed message ∷ is) before below =
+    none-from full k real next is before below
 none-from full k real next (message_item.Enum e ∷ is) before below = none-from full k real next is before below
 none-from full k real next (message_item.Reserved r ∷ is) before below = none-from full k real next is before below
 none-from full k real next (message_item.Empty s ∷ is) before below = none-from full k real next is before below
@@ -70,9 +74,11 @@ members-from : (full : List ℕ) (real next j k : ℕ) (is : List MessageItem) (
     → slice_get (flat_map message_oneof is) j ≡ Some o → fields_in k (fields_from full real next is) ≡ members k o.items
 members-from full real next j k [] o at below stands = cc
 members-from full real next j k (message_item.Field f ∷ is) o at below stands =
-    passed k (field_at next f) (fields_from full real (next + made_by (is_optional f.label)) is) (made-apart k next (is_optional f.label) below)
+    passed k (field_at next f) (fields_from full real (next + made_by (is_optional f.label)) is)
+      (made-apart k next (is_optional f.label) below)
     ∙ members-from full real (next + made_by (is_optional f.label)) j k is o at (omega (arith, below)) stands
-members-from full real next j k (message_item.Map m ∷ is) o at below stands = members-from full real next j k is o at below stands
+members-from full real next j k (message_item.Map m ∷ is) o at below stands =
+    members-from full real next j k is o at below stands
 members-from full real next zero k (message_item.Oneof p ∷ is) o at below stands =
     let same : p ≡ o = cc in
     let here : real ≡ k = omega (arith, at) in
@@ -83,14 +89,20 @@ members-from full real next zero k (message_item.Oneof p ∷ is) o at below stan
 members-from full real next (suc j) k (message_item.Oneof p ∷ is) o at below stands =
     other-members k real p.items (fields_from full (real + 1) next is) (apart real k (omega (arith, at)))
     ∙ members-from full (real + 1) next j k is o (omega (arith, at)) below stands
-members-from full real next j k (message_item.Option p ∷ is) o at below stands = members-from full real next j k is o at below stands
+members-from full real next j k (message_item.Option p ∷ is) o at below stands =
+    members-from full real next j k is o at below stands
 members-from full real next j k (message_item.Message' boxed message ∷ is) o at below stands =
     members-from full real next j k is o at below stands
-members-from full real next j k (message_item.Enum e ∷ is) o at below stands = members-from full real next j k is o at below stands
-members-from full real next j k (message_item.Reserved r ∷ is) o at below stands = members-from full real next j k is o at below stands
-members-from full real next j k (message_item.Empty s ∷ is) o at below stands = members-from full real next j k is o at below stands
+members-from full real next j k (message_item.Enum e ∷ is) o at below stands =
+    members-from full real next j k is o at below stands
+members-from full real next j k (message_item.Reserved r ∷ is) o at below stands =
+    members-from full real next j k is o at below stands
+members-from full real next j k (message_item.Empty s ∷ is) o at below stands =
+    members-from full real next j k is o at below stands
 
-pub members-all : (full : List ℕ) (is : List MessageItem) (k : ℕ) (o : Oneof) → slice_get (flat_map message_oneof is) k ≡ Some o
+pub members-all : (full : List ℕ) (is : List MessageItem) (k : ℕ) (o : Oneof)
+    → slice_get (flat_map message_oneof is) k ≡ Some o
     → fields_in k (fields_from full 0 (real_count is) is) ≡ members k o.items
 members-all full is k o stands =
-    members-from full 0 (real_count is) k k is o (omega arith) (omega (arith, slice_get_within (flat_map message_oneof is) k o stands)) stands
+    members-from full 0 (real_count is) k k is o (omega arith)
+      (omega (arith, slice_get_within (flat_map message_oneof is) k o stands)) stands

@@ -14,10 +14,12 @@ use Rattle.proto_lower.proofs.MemberIndexes.{slice_get-real_oneofs, length-real_
 use Rattle.proto_lower.proofs.OneofIndexes.{members, AllIndexed, fields-indexed, optional-index, sole-member}
 
 oneofs-lowered : (scope : List ℕ) (m : Message) → oneofs_of (lowered_message scope m)
-    ≡ with_made (names_of_fields (all_fields (inner scope m.name.text) m.items)) (real_oneofs m.items) (all_fields (inner scope m.name.text) m.items)
+    ≡ with_made (names_of_fields (all_fields (inner scope m.name.text) m.items)) (real_oneofs m.items)
+      (all_fields (inner scope m.name.text) m.items)
 oneofs-lowered scope m = ap (λ d. d.oneofs) (out-roll-MessageDesc _)
 
-fields-lowered : (scope : List ℕ) (m : Message) → fields_of (lowered_message scope m) ≡ all_fields (inner scope m.name.text) m.items
+fields-lowered : (scope : List ℕ) (m : Message)
+    → fields_of (lowered_message scope m) ≡ all_fields (inner scope m.name.text) m.items
 fields-lowered scope m = ap (λ d. d.fields) (out-roll-MessageDesc _)
 
 message-indexed : (scope : List ℕ) (m : Message) (fs : List FieldDesc) → fields_of (lowered_message scope m) ≡ fs
@@ -29,18 +31,22 @@ message-indexed scope m fs is =
 pub optional-index-lowered : (scope : List ℕ) (m : Message) (before : List FieldDesc) (field : FieldDesc)
     → IsOptionalBehind before field (lowered_message scope m) → field.oneof_index ≡ Some (index_behind before m)
 optional-index-lowered scope m before field is =
-    optional-index (real_count m.items) (real_count m.items) before field is.after is.optional (message-indexed scope m _ is.stands)
+    optional-index (real_count m.items) (real_count m.items) before field is.after is.optional
+      (message-indexed scope m _ is.stands)
 
 pub sole-member-lowered : (scope : List ℕ) (m : Message) (before : List FieldDesc) (field : FieldDesc)
-    → IsOptionalBehind before field (lowered_message scope m) → fields_in (index_behind before m) (fields_of (lowered_message scope m)) ≡ field ∷ []
+    → IsOptionalBehind before field (lowered_message scope m)
+    → fields_in (index_behind before m) (fields_of (lowered_message scope m)) ≡ field ∷ []
 sole-member-lowered scope m before field is =
     ap (fields_in (index_behind before m)) is.stands
-    ∙ sole-member (real_count m.items) (real_count m.items) before field is.after (omega arith) is.optional (message-indexed scope m _ is.stands)
+    ∙ sole-member (real_count m.items) (real_count m.items) before field is.after (omega arith) is.optional
+      (message-indexed scope m _ is.stands)
 
 -- the oneofs of a message, of which these are the fields
 oneofs_by : (scope : List ℕ) (m : Message) (fs : List FieldDesc) → fields_of (lowered_message scope m) ≡ fs
     → oneofs_of (lowered_message scope m) ≡ with_made (names_of_fields fs) (real_oneofs m.items) fs
-oneofs_by scope m fs is = oneofs-lowered scope m ∙ ap (λ gs. with_made (names_of_fields gs) (real_oneofs m.items) gs) (sym (fields-lowered scope m) ∙ is)
+oneofs_by scope m fs is = oneofs-lowered scope m
+    ∙ ap (λ gs. with_made (names_of_fields gs) (real_oneofs m.items) gs) (sym (fields-lowered scope m) ∙ is)
 
 pub optional-oneof-lowered : (scope : List ℕ) (m : Message) (before : List FieldDesc) (field : FieldDesc)
     → IsOptionalBehind before field (lowered_message scope m)
@@ -49,21 +55,27 @@ pub optional-oneof-lowered : (scope : List ℕ) (m : Message) (before : List Fie
 optional-oneof-lowered scope m before field is =
     let fs : List FieldDesc = before ++ field ∷ is.after in
     rw (oneofs_by scope m fs is.stands, is.stands)
-    (slice_get-with_made (names_of_fields fs) (real_oneofs m.items) before field is.after (index_behind before m) is.optional
+    (slice_get-with_made (names_of_fields fs) (real_oneofs m.items) before field is.after
+      (index_behind before m) is.optional
     (omega (arith, length-real_oneofs m.items)))
 
-pub source-oneof-lowered : (scope : List ℕ) (m : Message) (index : ℕ) (o : Oneof) → slice_get (source_oneofs m) index ≡ Some o
+pub source-oneof-lowered : (scope : List ℕ) (m : Message) (index : ℕ) (o : Oneof)
+    → slice_get (source_oneofs m) index ≡ Some o
     → slice_get (oneofs_of (lowered_message scope m)) index ≡ Some (real_named o.name)
 source-oneof-lowered scope m index o stands =
     let fs : List FieldDesc = all_fields (inner scope m.name.text) m.items in
     let made = with_made-start (names_of_fields fs) (real_oneofs m.items) fs in
-    rw (oneofs-lowered scope m, made.1) (get_start (real_oneofs m.items) made.0 index (real_named o.name) (slice_get-real_oneofs m.items index o stands))
+    rw (oneofs-lowered scope m, made.1)
+      (get_start (real_oneofs m.items) made.0 index (real_named o.name) (slice_get-real_oneofs m.items index o stands))
 
-pub members-lowered : (scope : List ℕ) (m : Message) (index : ℕ) (o : Oneof) → slice_get (source_oneofs m) index ≡ Some o
+pub members-lowered : (scope : List ℕ) (m : Message) (index : ℕ) (o : Oneof)
+    → slice_get (source_oneofs m) index ≡ Some o
     → fields_in index (fields_of (lowered_message scope m)) ≡ members index o.items
-members-lowered scope m index o stands = ap (fields_in index) (fields-lowered scope m) ∙ members-all (inner scope m.name.text) m.items index o stands
+members-lowered scope m index o stands = ap (fields_in index) (fields-lowered scope m)
+    ∙ members-all (inner scope m.name.text) m.items index o stands
 
-pub count-lowered : (scope : List ℕ) (m : Message) → length (oneofs_of (lowered_message scope m)) ≡ index_behind (fields_of (lowered_message scope m)) m
+pub count-lowered : (scope : List ℕ) (m : Message)
+    → length (oneofs_of (lowered_message scope m)) ≡ index_behind (fields_of (lowered_message scope m)) m
 count-lowered scope m =
     let fs : List FieldDesc = fields_of (lowered_message scope m) in
     ap length (oneofs_by scope m fs refl) ∙ length-with_made (names_of_fields fs) (real_oneofs m.items) fs

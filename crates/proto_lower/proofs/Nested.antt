@@ -12,34 +12,42 @@ use Rattle.proto_lower.specs.Fields.{inner}
 use Rattle.proto_lower.specs.Messages.{message_of, nested_of, nested_row, lowered_message}
 use Rattle.proto_options.proofs.Rows.{row_of}
 
-row_flat : (full : List ℕ) (n : _) (row : Row_of-MessageItem n) → nested_row full row ≡ flat_map (nested_of full) (items-the_row-MessageItem n row)
+row_flat : (full : List ℕ) (n : _) (row : Row_of-MessageItem n)
+    → nested_row full row ≡ flat_map (nested_of full) (items-the_row-MessageItem n row)
 row_flat full n end_of-MessageItem = refl
 row_flat full n (more_of-MessageItem i rest) = ap (λ xs. nested_of full i ++ xs) (row_flat full _ rest)
 
 nested_boxed : (full : List ℕ) (boxed : (the_former this).Shape) (row : Row_of-Message (arity (the_former this) boxed))
     → nested_of full (Message' boxed row) ≡ flat_map (λ m. lowered_message full m ∷ []) (items-the_row-Message _ row)
 nested_boxed full boxed (more_of-Message keyword name open_brace shape is close_brace end_of-Message) =
-    ap (λ xs. message_of (inner full name.text) name (items-the_row-MessageItem _ is) xs ∷ []) (row_flat (inner full name.text) _ is)
+    ap (λ xs. message_of (inner full name.text) name (items-the_row-MessageItem _ is) xs ∷ [])
+      (row_flat (inner full name.text) _ is)
     ∙ ap (λ is. message_of (inner full name.text) name is (flat_map (nested_of (inner full name.text)) is) ∷ [])
     (sym (items_shown-the_row-MessageItem-0 shape is))
 
 pub nested_message : (full : List ℕ) (m : Message) → nested_of full (of.Message m) ≡ lowered_message full m ∷ []
 nested_message full m =
-    nested_boxed full _ (row_of (of.Message m)).1 ∙ ap (flat_map (λ m. lowered_message full m ∷ [])) (items_hidden-the_row-Message-1 m)
+    nested_boxed full _ (row_of (of.Message m)).1
+      ∙ ap (flat_map (λ m. lowered_message full m ∷ [])) (items_hidden-the_row-Message-1 m)
 
 -- what a statement gives is behind what those before it give
-next_given : {X Y : Type 0} (f : X → List Y) (xs : List X) (i : ℕ) (x : X) (new : List Y) → i < length xs → x ≡ get_or xs i x → new ≡ f x
+next_given : {X Y : Type 0} (f : X → List Y) (xs : List X) (i : ℕ) (x : X) (new : List Y) → i < length xs
+    → x ≡ get_or xs i x → new ≡ f x
     → flat_map f (take i xs) ++ new ≡ flat_map f (take (i + 1) xs)
 next_given f xs i x new within at gives =
     rw gives (ap (λ z. flat_map f (take i xs) ++ z) (sym (append-nil (f x)) ∙ ap (λ z. flat_map f (z ∷ [])) at)
     ∙ sym (flat_map-append f (take i xs) (get_or xs i x ∷ [])) ∙ ap (flat_map f) (sym (take_more xs i x within)))
 
 -- one more statement, and what it gives
-pub one_more : {X Y : Type 0} (f : X → List Y) (xs : List X) (i : ℕ) (x : X) (before done new : List Y) → i < length xs → x ≡ get_or xs i x
+pub one_more : {X Y : Type 0} (f : X → List Y) (xs : List X) (i : ℕ) (x : X) (before done new : List Y) → i < length xs
+    → x ≡ get_or xs i x
     → done ≡ before ++ flat_map f (take i xs) → new ≡ f x → done ++ new ≡ before ++ flat_map f (take (i + 1) xs)
 one_more f xs i x before done new within at so_far gives =
-    ap (λ z. z ++ new) so_far ∙ append_assoc before (flat_map f (take i xs)) new ∙ ap (λ z. before ++ z) (next_given f xs i x new within at gives)
+    ap (λ z. z ++ new) so_far ∙ append_assoc before (flat_map f (take i xs)) new
+      ∙ ap (λ z. before ++ z) (next_given f xs i x new within at gives)
 
-pub none_more : {X Y : Type 0} (f : X → List Y) (xs : List X) (i : ℕ) (x : X) (before done : List Y) → i < length xs → x ≡ get_or xs i x
+pub none_more : {X Y : Type 0} (f : X → List Y) (xs : List X) (i : ℕ) (x : X) (before done : List Y) → i < length xs
+    → x ≡ get_or xs i x
     → done ≡ before ++ flat_map f (take i xs) → f x ≡ [] → done ≡ before ++ flat_map f (take (i + 1) xs)
-none_more f xs i x before done within at so_far gives = sym (append-nil done) ∙ one_more f xs i x before done [] within at so_far (sym gives)
+none_more f xs i x before done within at so_far gives =
+    sym (append-nil done) ∙ one_more f xs i x before done [] within at so_far (sym gives)

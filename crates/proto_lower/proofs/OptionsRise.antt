@@ -22,7 +22,8 @@ rises_below : (low least : ℕ) (ns : List ℕ) → low ≤ least → RisesFrom 
 rises_below low least [] below rises = tt
 rises_below low least (n ∷ ns) below rises = (omega (arith, below, rises.0), rises.1)
 
-rises_at : (least : ℕ) (ns : List ℕ) (k : ℕ) → RisesFrom least ns → suc k < length ns → slice_index ns k < slice_index ns (suc k)
+rises_at : (least : ℕ) (ns : List ℕ) (k : ℕ) → RisesFrom least ns → suc k < length ns
+    → slice_index ns k < slice_index ns (suc k)
 rises_at least [] k rises within = absurd (omega arith)
 rises_at least (n ∷ []) k rises within = absurd (omega arith)
 rises_at least (n ∷ m ∷ ns) zero rises within = omega (arith, rises.1.0)
@@ -36,21 +37,26 @@ abbrev numbers : List OptionDesc → List ℕ
 numbers options = map (λ o. o.number) options
 
 -- an option in front of those with numbers above its own
-with_value : (least n : ℕ) (s : Setting) (value : Option OptionValue) (rest : List OptionDesc) → least ≤ n → RisesFrom (n + 1) (numbers rest)
+with_value : (least n : ℕ) (s : Setting) (value : Option OptionValue) (rest : List OptionDesc) → least ≤ n
+    → RisesFrom (n + 1) (numbers rest)
     → RisesFrom least (numbers (option_to_list (option_map (option_at n s) value) ++ rest))
 with_value least n s None rest at_least rises = rises_below least (n + 1) (numbers rest) (omega arith) rises
 with_value least n s (Some v) rest at_least rises = (at_least, rises)
 
-with_setting : (least n : ℕ) (kind : ValueKind) (found : Option Setting) (rest : List OptionDesc) → least ≤ n → RisesFrom (n + 1) (numbers rest)
+with_setting : (least n : ℕ) (kind : ValueKind) (found : Option Setting) (rest : List OptionDesc) → least ≤ n
+    → RisesFrom (n + 1) (numbers rest)
     → RisesFrom least (numbers (option_to_list (option_by (Some n) kind found) ++ rest))
 with_setting least n kind None rest at_least rises = rises_below least (n + 1) (numbers rest) (omega arith) rises
-with_setting least n kind (Some s) rest at_least rises = with_value least n s (value_of kind s.value) rest at_least rises
+with_setting least n kind (Some s) rest at_least rises =
+    with_value least n s (value_of kind s.value) rest at_least rises
 
-with_number : (least : ℕ) (number : Option ℕ) (kind : ValueKind) (found : Option Setting) (rest : List OptionDesc) (after : List ℕ)
+with_number : (least : ℕ) (number : Option ℕ) (kind : ValueKind) (found : Option Setting) (rest : List OptionDesc)
+    (after : List ℕ)
     → ((m : ℕ) → RisesFrom m after → RisesFrom m (numbers rest)) → RisesFrom least (option_to_list number ++ after)
     → RisesFrom least (numbers (option_to_list (option_by number kind found) ++ rest))
 with_number least None kind found rest after later rises = later least rises
-with_number least (Some n) kind found rest after later rises = with_setting least n kind found rest rises.0 (later (n + 1) rises.1)
+with_number least (Some n) kind found rest after later rises =
+    with_setting least n kind found rest rises.0 (later (n + 1) rises.1)
 
 under_rules : (settings : List Setting) (rs : List Rule) (least : ℕ) → RisesFrom least (flat_map rule_number rs)
     → RisesFrom least (numbers (flat_map (option_under settings) rs))
@@ -70,8 +76,10 @@ rules_rise element.EnumValue = search rules
 rules_rise element.Service = search rules
 rules_rise element.Method = search rules
 
-pub options_of-rise : (e : Element) (settings : List Setting) → IsStrictlyIncreasing (map (λ o. o.number) (options_of e settings))
+pub options_of-rise : (e : Element) (settings : List Setting)
+    → IsStrictlyIncreasing (map (λ o. o.number) (options_of e settings))
 unfolding options_of
 options_of-rise e settings = λ k within.
-    let rises : RisesFrom 0 (numbers (flat_map (option_under settings) (rules_of e))) = under_rules settings (rules_of e) 0 (rules_rise e) in
+    let rises : RisesFrom 0 (numbers (flat_map (option_under settings) (rules_of e))) =
+      under_rules settings (rules_of e) 0 (rules_rise e) in
     rw add-one (rises_at 0 (numbers (flat_map (option_under settings) (rules_of e))) k rises (omega (arith, within)))

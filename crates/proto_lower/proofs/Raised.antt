@@ -10,7 +10,8 @@ use Rattle.std.proofs.lemmas.Str.{encodes-chars, cons_from_encodes, encodes_same
 use Rattle.std.proofs.lemmas.Bool.Decides.{nat_tests}
 use Rattle.proto_lower.specs.Names.{letters_behind, raised, json_name_of}
 
-letters_unchanged : (before : ℕ) (cs : List ℕ) → (before == 95) ≡ false → list_any (λ c. c == 95) cs ≡ false → letters_behind before cs ≡ cs
+letters_unchanged : (before : ℕ) (cs : List ℕ) → (before == 95) ≡ false → list_any (λ c. c == 95) cs ≡ false
+  → letters_behind before cs ≡ cs
 letters_unchanged before [] apart none = refl
 letters_unchanged before (c ∷ cs) apart none =
     let here : (c == 95) ≡ false = grind (arith, nat_tests) in
@@ -70,10 +71,12 @@ so_far_pushed made before rest all c d pushed more so_far next test raised_by pu
       spelled = split.2;
       whole = ap (λ (xs : List ℕ). xs ++ encode_utf8_all (letters_behind c split.0)) pushed_is
           ∙ append_assoc made (encode_utf8 d) (encode_utf8_all (letters_behind c split.0))
-          ∙ ap (λ (ls : List ℕ). made ++ encode_utf8_all ls) (sym kept ∙ ap (letters_behind before) (sym split.1)) ∙ so_far.whole;
+          ∙ ap (λ (ls : List ℕ). made ++ encode_utf8_all ls) (sym kept ∙ ap (letters_behind before) (sym split.1))
+          ∙ so_far.whole;
     }
 
-pub raised_as : (before c pushed : ℕ) → ((before ≡ 95) × (pushed ≡ to_ascii_uppercase c)) ⊎ ((before ≢ 95) × (pushed ≡ c))
+pub raised_as : (before c pushed : ℕ) → ((before ≡ 95) × (pushed ≡ to_ascii_uppercase c))
+    ⊎ ((before ≢ 95) × (pushed ≡ c))
     → pushed ≡ (if before == 95 then to_ascii_uppercase c else c)
 raised_as before c pushed (inl case) = let test : (before == 95) ≡ true = grind (arith, nat_tests) in rw test case.1
 raised_as before c pushed (inr case) = let test : (before == 95) ≡ false = grind (arith, nat_tests) in rw test case.1
@@ -82,5 +85,6 @@ pub so_far_end : (made : List ℕ) (before : ℕ) (rest all : List ℕ) → IsSo
     → made ≡ all
 so_far_end made before [] all so_far done =
     let none : so_far.letters ≡ [] = encodes_same so_far.letters [] so_far.spelled in
-    sym (append-nil made) ∙ ap (λ (ls : List ℕ). made ++ encode_utf8_all (letters_behind before ls)) (sym none) ∙ so_far.whole
+    sym (append-nil made) ∙ ap (λ (ls : List ℕ). made ++ encode_utf8_all (letters_behind before ls)) (sym none)
+      ∙ so_far.whole
 so_far_end made before (b ∷ rest) all so_far done = absurd (omega (arith, done))

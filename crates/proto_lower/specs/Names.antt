@@ -35,7 +35,8 @@ with_underscore (c ∷ cs) = if c == 95 then c ∷ cs else 95 ∷ c ∷ cs
 abbrev pub behind_letters : (count : ℕ) → List ℕ → List ℕ
 behind_letters count name = replicate count 88 ++ name
 
--- the first name that is free, of this one and it with `X` in front once, twice and so on, `most` times at most: as many
+-- the first name that is free, of this one and it with `X` in front once, twice and so on, `most` times at most: as
+-- many
 -- are in front as names are taken before it
 abbrev pub first_free : (is_taken : List ℕ → Bool) → (most : ℕ) → List ℕ → List ℕ
 first_free is_taken most name =

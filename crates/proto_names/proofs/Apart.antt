@@ -35,15 +35,19 @@ moved os m n i o low high stands =
       | inl first ↦ (n, inl (first, refl), read n high (rw first swapped.1))
       | inr not_first ↦ elim (cases_eq i n) [
         | inl second ↦ (m, inr (inl (second, refl)), read m low (rw second swapped.0))
-        | inr not_second ↦ (i, inr (inr (not_first, not_second, refl)), read i within (swapped.2 i not_first not_second))
+        | inr not_second ↦ (i, inr (inr (not_first, not_second, refl)),
+            read i within (swapped.2 i not_first not_second))
       ]
     ]
 
-swapped_both : (a b : Occurrence) (os : List Occurrence) (m n : ℕ) → m < length os → n < length os → ContainsBoth os a b → ContainsBoth (swap os m n) a b
+swapped_both : (a b : Occurrence) (os : List Occurrence) (m n : ℕ) → m < length os → n < length os → ContainsBoth os a b
+    → ContainsBoth (swap os m n) a b
 swapped_both a b os m n low high (i, j, apart, first, second) =
     let one = moved os m n i a low high first in
     let other = moved os m n j b low high second in
     (one.0, other.0, moved_apart m n i j one.0 other.0 one.1 other.1 apart, one.2, other.2)
 
-pub ContainsBoth-permutation : (xs ys : List Occurrence) (a b : Occurrence) → IsPermutation xs ys → ContainsBoth xs a b → ContainsBoth ys a b
-ContainsBoth-permutation xs ys a b same both = IsPermutation-keeps xs (λ os. ContainsBoth os a b) both (swapped_both a b) ys same
+pub ContainsBoth-permutation : (xs ys : List Occurrence) (a b : Occurrence) → IsPermutation xs ys → ContainsBoth xs a b
+    → ContainsBoth ys a b
+ContainsBoth-permutation xs ys a b same both =
+    IsPermutation-keeps xs (λ os. ContainsBoth os a b) both (swapped_both a b) ys same

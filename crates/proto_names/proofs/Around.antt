@@ -25,7 +25,8 @@ before_dot d rest s k e below =
     inr (inr (
       take (k - length d - 1) rest,
       (let whole : length d + suc (k - length d - 1) ≡ k = omega arith in
-          rw e (subst (λ (n : ℕ). take n (d ++ 46 ∷ rest) ≡ d ++ 46 ∷ take (k - length d - 1) rest) whole (take_past d rest (k - length d - 1)))),
+          rw e (subst (λ (n : ℕ). take n (d ++ 46 ∷ rest) ≡ d ++ 46 ∷ take (k - length d - 1) rest) whole
+            (take_past d rest (k - length d - 1)))),
     ))
 
 no_room : (a rest : List ℕ) → a ++ 46 ∷ rest ≡ [] → ⊥
@@ -37,7 +38,8 @@ prefix_of d s (inl e) = rw e refl
 prefix_of d s (inr (inl e)) = rw (← e) (sym (take-length d))
 prefix_of d s (inr (inr (rest, e))) = rw e (sym (take-append_seam d (46 ∷ rest)))
 
-pub candidates_at_dot : (s d : List ℕ) (k : ℕ) → k < length s → NoDotAfter k s → IsCandidate d s → (d ≡ s) ⊎ IsCandidate d (take k s)
+pub candidates_at_dot : (s d : List ℕ) (k : ℕ) → k < length s → NoDotAfter k s → IsCandidate d s
+    → (d ≡ s) ⊎ IsCandidate d (take k s)
 candidates_at_dot s d k below none (inl e) = inr (inl e)
 candidates_at_dot s d k below none (inr (inl e)) = inl e
 candidates_at_dot s d k below none (inr (inr (rest, e))) =
@@ -49,12 +51,16 @@ candidates_at_dot s d k below none (inr (inr (rest, e))) =
     ]
 
 pub candidate_before_dot : (s : List ℕ) (k : ℕ) → k < length s → get_or s k 0 ≡ 46 → IsCandidate (take k s) s
-candidate_before_dot s k below dot = inr (inr (drop (k + 1) s, rw add-one (subst (λ (b : ℕ). s ≡ take k s ++ b ∷ drop (suc k) s) dot (split_at s k 0 below))))
+candidate_before_dot s k below dot =
+    inr (inr (drop (k + 1) s, rw add-one
+    (subst (λ (b : ℕ). s ≡ take k s ++ b ∷ drop (suc k) s) dot (split_at s k 0 below))))
 
-pub candidates_no_dot : (s d : List ℕ) → ((i : ℕ) → i < length s → get_or s i 0 ≢ 46) → IsCandidate d s → (d ≡ s) ⊎ IsCandidate d []
+pub candidates_no_dot : (s d : List ℕ) → ((i : ℕ) → i < length s → get_or s i 0 ≢ 46) → IsCandidate d s
+    → (d ≡ s) ⊎ IsCandidate d []
 candidates_no_dot s d none (inl e) = inr (inl e)
 candidates_no_dot s d none (inr (inl e)) = inl e
-candidates_no_dot s d none (inr (inr (rest, e))) = absurd (none (length d) (rw e (length_prefix d rest)) (dot_at d rest s e))
+candidates_no_dot s d none (inr (inr (rest, e))) =
+    absurd (none (length d) (rw e (length_prefix d rest)) (dot_at d rest s e))
 
 -- candidates of a candidate
 pub candidate_trans : (a b s : List ℕ) → IsCandidate a b → IsCandidate b s → IsCandidate a s

@@ -16,38 +16,49 @@ use Rattle.proto_names.proofs.Occurring.{first_of}
 -- ---- the files of occurrences
 
 -- what a function of one file makes
-made_in : {X : Type 0} (f : X → Occurrence) (file : ℕ) → ((x : X) → (f x).file ≡ file) → (xs : List X) (o : Occurrence) → Contains (map f xs) o → o.file ≡ file
+made_in : {X : Type 0} (f : X → Occurrence) (file : ℕ) → ((x : X) → (f x).file ≡ file) → (xs : List X) (o : Occurrence)
+    → Contains (map f xs) o → o.file ≡ file
 made_in f file same xs o (k, inside, is) =
     let l = length-map xs f in
     let low : k < length xs = omega (arith, l, inside) in
     let d = first_of xs k low in
     ap (λ (x : Occurrence). x.file) (sym is ∙ get_or-map f xs k d o low) ∙ same (get_or xs k d)
 
-packages_in : (file : ℕ) (declared : Option PackageDesc) (o : Occurrence) → Contains (package_occurrences file declared) o → o.file ≡ file
+packages_in : (file : ℕ) (declared : Option PackageDesc) (o : Occurrence)
+    → Contains (package_occurrences file declared) o → o.file ≡ file
 packages_in file None o (k, inside, is) = absurd (omega (arith, inside))
-packages_in file (Some p) o within = made_in (package_occurrence file p.place) file (λ x. refl) (prefixes p.name) o within
+packages_in file (Some p) o within =
+    made_in (package_occurrence file p.place) file (λ x. refl) (prefixes p.name) o within
 
 one_file : (file : ℕ) (f : FileDesc) (o : Occurrence) → Contains (occurrences_of file f) o → o.file ≡ file
-one_file file f o within = elim (Contains-append_cases (package_occurrences file f.«package») (map (declared_occurrence file) (declared_by f)) o within) [
+one_file file f o within =
+    elim (Contains-append_cases (package_occurrences file f.«package»)
+    (map (declared_occurrence file) (declared_by f)) o within) [
   | inl packed ↦ packages_in file f.«package» o packed
   | inr declared ↦ made_in (declared_occurrence file) file (λ x. refl) (declared_by f) o declared
 ]
 
-pub below_from : (first : ℕ) (files : List FileDesc) (o : Occurrence) → Contains (occurrences_from first files) o → o.file < first + length files
+pub below_from : (first : ℕ) (files : List FileDesc) (o : Occurrence) → Contains (occurrences_from first files) o
+    → o.file < first + length files
 below_from first [] o (k, inside, is) = absurd (omega (arith, inside))
-below_from first (f ∷ files) o within = elim (Contains-append_cases (occurrences_of first f) (occurrences_from (first + 1) files) o within) [
+below_from first (f ∷ files) o within =
+    elim (Contains-append_cases (occurrences_of first f) (occurrences_from (first + 1) files) o within) [
   | inl here ↦ (let same = one_file first f o here in omega (arith, same))
   | inr later ↦ (let below = below_from (first + 1) files o later in omega (arith, below))
 ]
 
 -- each occurrence is of one of the files
-pub below_files : (files : List FileDesc) (os : List Occurrence) → IsPermutation (occurrences files) os → (o : Occurrence) → Contains os o
+pub below_files : (files : List FileDesc) (os : List Occurrence) → IsPermutation (occurrences files) os
+    → (o : Occurrence) → Contains os o
     → o.file < length files
 below_files files os same o within =
-    let below = below_from 0 files o (Contains-permutation os (occurrences files) o (IsPermutation-sym (occurrences files) os same) within) in
+    let below =
+      below_from 0 files o
+      (Contains-permutation os (occurrences files) o (IsPermutation-sym (occurrences files) os same) within) in
     omega (arith, below)
 
-pub all_below : (files : List FileDesc) (os : List Occurrence) → os ≡ occurrences files → All (λ (o : Occurrence). o.file < length files) os
+pub all_below : (files : List FileDesc) (os : List Occurrence) → os ≡ occurrences files
+    → All (λ (o : Occurrence). o.file < length files) os
 all_below files os same k d within =
     let below = below_from 0 files (get_or os k d)
     (subst (λ ps. Contains ps (get_or os k d)) same (k, within, get_or_default os k (get_or os k d) d within)) in
@@ -73,6 +84,7 @@ first_moved xs ys file place same (b, first, its_file, its_place) = (
   its_place,
 )
 
-pub not_some : {X : Type 0} {A : Type 0} (B : X → Type 0) (r : Option X) → ((x : X) → r ≡ Some x → ⊥) → MatchOption r A B → A
+pub not_some : {X : Type 0} {A : Type 0} (B : X → Type 0) (r : Option X) → ((x : X) → r ≡ Some x → ⊥)
+    → MatchOption r A B → A
 not_some B None h a = a
 not_some B (Some x) h b = absurd (h x refl)

@@ -42,11 +42,14 @@ entries_more old new es prefix of = All-weaker (IsEntryOf old) (IsEntryOf new) (
 abbrev pub named : Entry → List ℕ → Occurrence
 named e name = record { name = name; file = e.location.file; place = e.location.place; kind = e.kind }
 
-pub occurrences_more : (old new : List ℕ) (es : List Entry) → IsFrontOf old new → AreEntriesOf old es → map (occurrence new) es ≡ map (occurrence old) es
+pub occurrences_more : (old new : List ℕ) (es : List Entry) → IsFrontOf old new → AreEntriesOf old es
+    → map (occurrence new) es ≡ map (occurrence old) es
 occurrences_more old new [] prefix of = refl
 occurrences_more old new (e ∷ es) prefix of =
-    let same : occurrence new e ≡ occurrence old e = ap (named e) (name_more old new e prefix (All-head (IsEntryOf old) e es of)) in
-    ap₂ (λ (o : Occurrence) (os : List Occurrence). o ∷ os) same (occurrences_more old new es prefix (All-tail (IsEntryOf old) e es of))
+    let same : occurrence new e ≡ occurrence old e =
+      ap (named e) (name_more old new e prefix (All-head (IsEntryOf old) e es of)) in
+    ap₂ (λ (o : Occurrence) (os : List Occurrence). o ∷ os) same
+      (occurrences_more old new es prefix (All-tail (IsEntryOf old) e es of))
 
 pub name_length : (text : List ℕ) (e : Entry) → IsEntryOf text e → length (name_at text e) ≡ e.len
 name_length text e is =
@@ -55,15 +58,18 @@ name_length text e is =
 
 -- ---- an entry more, whose name goes behind the text
 
-module _ (old new full : List ℕ) (es all : List Entry) (e : Entry) (whole : new ≡ old ++ full) (start : e.start ≡ length old)
-    (len : e.len ≡ length new - e.start) (hash : e.hash ≡ hash_of full) (is_text : IsUtf8 full) (put : all ≡ es ++ e ∷ []) (of : AreEntriesOf old es) where
+module _ (old new full : List ℕ) (es all : List Entry) (e : Entry) (whole : new ≡ old ++ full)
+    (start : e.start ≡ length old)
+    (len : e.len ≡ length new - e.start) (hash : e.hash ≡ hash_of full) (is_text : IsUtf8 full)
+    (put : all ≡ es ++ e ∷ []) (of : AreEntriesOf old es) where
   long : length new ≡ length old + length full
   long = ap length whole ∙ length-append old full
 
   last_name : name_at new e ≡ full
   last_name =
       let size : length full ≤ e.len = omega (arith, long, start, len) in
-      ap (λ (t : List ℕ). name_at t e) whole ∙ ap (take e.len) (drop_at old full e.start (sym start)) ∙ take_all e.len full size
+      ap (λ (t : List ℕ). name_at t e) whole ∙ ap (take e.len) (drop_at old full e.start (sym start))
+        ∙ take_all e.len full size
 
   last_entry : IsEntryOf new e
   last_entry = record {
@@ -73,35 +79,43 @@ module _ (old new full : List ℕ) (es all : List Entry) (e : Entry) (whole : ne
   }
 
   pub entries_pushed : AreEntriesOf new all
-  entries_pushed = subst (AreEntriesOf new) (sym put) (All-push (IsEntryOf new) es e (entries_more old new es (full, whole) of) last_entry)
+  entries_pushed = subst (AreEntriesOf new) (sym put)
+      (All-push (IsEntryOf new) es e (entries_more old new es (full, whole) of) last_entry)
 
   pub occurrences_pushed : map (occurrence new) all ≡ map (occurrence old) es ++ named e full ∷ []
   occurrences_pushed =
       ap (map (occurrence new)) put ∙ map_push (occurrence new) es e
-      ∙ ap₂ (λ (os : List Occurrence) (o : Occurrence). os ++ o ∷ []) (occurrences_more old new es (full, whole) of) (ap (named e) last_name)
+      ∙ ap₂ (λ (os : List Occurrence) (o : Occurrence). os ++ o ∷ []) (occurrences_more old new es (full, whole) of)
+        (ap (named e) last_name)
 
 -- ---- a name put behind the text in its parts
 
 pub prefix_more : (old base more new : List ℕ) → IsFrontOf old base → new ≡ base ++ more → IsFrontOf old new
-prefix_more old base more new prefix e = (prefix.0 ++ more, e ∙ ap (λ (t : List ℕ). t ++ more) prefix.1 ∙ append_assoc old prefix.0 more)
+prefix_more old base more new prefix e =
+    (prefix.0 ++ more, e ∙ ap (λ (t : List ℕ). t ++ more) prefix.1 ∙ append_assoc old prefix.0 more)
 
-pub put_kept : {T E : Type 0} (r : Result T E) (old base more new : List ℕ) → IsFrontOf old base → new ≡ (if is_ok r then base ++ more else base)
+pub put_kept : {T E : Type 0} (r : Result T E) (old base more new : List ℕ) → IsFrontOf old base
+    → new ≡ (if is_ok r then base ++ more else base)
     → IsFrontOf old new
 put_kept (Ok t) old base more new prefix e = prefix_more old base more new prefix e
 put_kept (Err d) old base more new prefix e = (prefix.0, e ∙ prefix.1)
 
-pub put_whole : {T E : Type 0} (r : Result T E) (base more new whole : List ℕ) → base ++ more ≡ whole → new ≡ (if is_ok r then base ++ more else base)
+pub put_whole : {T E : Type 0} (r : Result T E) (base more new whole : List ℕ) → base ++ more ≡ whole
+    → new ≡ (if is_ok r then base ++ more else base)
     → OnOk r (new ≡ whole)
 put_whole (Ok t) base more new whole is e = e ∙ is
 put_whole (Err d) base more new whole is e = tt
 
-pub scope_put : (old scope once base name : List ℕ) → 0 < length scope → once ≡ old ++ scope → base ≡ once ++ 46 ∷ [] → base ++ name ≡ old ++ scoped scope name
+pub scope_put : (old scope once base name : List ℕ) → 0 < length scope → once ≡ old ++ scope → base ≡ once ++ 46 ∷ []
+    → base ++ name ≡ old ++ scoped scope name
 scope_put old scope once base name some first second =
-    ap (λ (t : List ℕ). t ++ name) (second ∙ ap (λ (t : List ℕ). t ++ 46 ∷ []) first) ∙ append_assoc (old ++ scope) (46 ∷ []) name
+    ap (λ (t : List ℕ). t ++ name) (second ∙ ap (λ (t : List ℕ). t ++ 46 ∷ []) first)
+      ∙ append_assoc (old ++ scope) (46 ∷ []) name
     ∙ append_assoc old scope (46 ∷ name) ∙ ap (λ (t : List ℕ). old ++ t) (sym (scoped_some scope name some))
 
 pub no_scope : (old scope base name : List ℕ) → length scope ≡ 0 → base ≡ old → base ++ name ≡ old ++ scoped scope name
-no_scope old scope base name none same = ap (λ (t : List ℕ). t ++ name) same ∙ ap (λ (t : List ℕ). old ++ t) (sym (scoped_none scope name none))
+no_scope old scope base name none same = ap (λ (t : List ℕ). t ++ name) same
+    ∙ ap (λ (t : List ℕ). old ++ t) (sym (scoped_none scope name none))
 
 dot_ascii : IsAscii (46 ∷ [])
 dot_ascii zero = omega arith
@@ -110,4 +124,5 @@ dot_ascii (suc i) = omega arith
 pub scoped_text : (scope name : List ℕ) → IsUtf8 scope → IsUtf8 name → IsUtf8 (scoped scope name)
 scoped_text [] name outer inner = inner
 scoped_text (c ∷ cs) name outer inner =
-    IsUtf8-append (c ∷ cs) (46 ∷ name) outer (IsUtf8-append (46 ∷ []) name (IsUtf8-from_ascii (46 ∷ []) dot_ascii) inner)
+    IsUtf8-append (c ∷ cs) (46 ∷ name) outer
+      (IsUtf8-append (46 ∷ []) name (IsUtf8-from_ascii (46 ∷ []) dot_ascii) inner)

@@ -22,14 +22,16 @@ abbrev pub AreAllOf : List Occurrence → List ℕ → List Occurrence → Type 
 AreAllOf os name named = (o : Occurrence) → Contains os o → o.name ≡ name → Contains named o
 
 -- one of those of a name is visible
-pub among_visible : (os : List Occurrence) (Seen : ℕ → Type 0) (accepts : Option NameKind → Bool) (name : List ℕ) (named : List Occurrence)
+pub among_visible : (os : List Occurrence) (Seen : ℕ → Type 0) (accepts : Option NameKind → Bool) (name : List ℕ)
+    (named : List Occurrence)
     → AreOf os name named → HasOneIn named accepts Seen → Visible os Seen accepts name
 among_visible os Seen accepts name named found (k, below, fitting, seen) =
     let there = found (at named k) (occurs named k below) in
     (at named k, there.0, there.1, fitting, seen)
 
 -- and what is visible is one of them
-pub visible_among : (os : List Occurrence) (Seen : ℕ → Type 0) (accepts : Option NameKind → Bool) (name : List ℕ) (named : List Occurrence)
+pub visible_among : (os : List Occurrence) (Seen : ℕ → Type 0) (accepts : Option NameKind → Bool) (name : List ℕ)
+    (named : List Occurrence)
     → AreAllOf os name named → Visible os Seen accepts name → HasOneIn named accepts Seen
 visible_among os Seen accepts name named all (o, there, same, fitting, seen) =
     let here = all o there same in
@@ -41,8 +43,10 @@ visible_among os Seen accepts name named all (o, there, same, fitting, seen) =
     )
 
 -- so the type among those of a name is that of the name
-pub type_visible : (os : List Occurrence) (Seen : ℕ → Type 0) (name : List ℕ) (named : List Occurrence) → AreOf os name named
-    → AreAllOf os name named → (found : Option NameKind) → MatchOption found (HasNoType named Seen) (IsTypeAmong named Seen)
+pub type_visible : (os : List Occurrence) (Seen : ℕ → Type 0) (name : List ℕ) (named : List Occurrence)
+    → AreOf os name named
+    → AreAllOf os name named → (found : Option NameKind)
+    → MatchOption found (HasNoType named Seen) (IsTypeAmong named Seen)
     → MatchOption found (IsNoType os Seen name) (IsType os Seen name)
 type_visible os Seen name named of all None none = (
   λ v. none.0 (visible_among os Seen is_message name named all v),
@@ -52,7 +56,8 @@ type_visible os Seen name named of all (Some what) (inl (one, is)) =
     subst (IsType os Seen name) (sym is) (message (among_visible os Seen is_message name named of one))
 type_visible os Seen name named of all (Some what) (inr (none, one, is)) =
     subst (IsType os Seen name) (sym is)
-    (enumeration (among_visible os Seen is_type name named of one) (λ v. none (visible_among os Seen is_message name named all v)))
+    (enumeration (among_visible os Seen is_type name named of one)
+      (λ v. none (visible_among os Seen is_message name named all v)))
 
 pub no_type : (os : List Occurrence) (Seen : ℕ → Type 0) (name : List ℕ) → IsNoType os Seen name → (what : NameKind)
     → IsType os Seen name what → ⊥

@@ -7,32 +7,39 @@ use Rattle.proto_names.specs.Scopes.{IsCandidate}
 use Rattle.proto_names.proofs.Around.{candidates_same}
 
 -- the innermost scope is one
-pub innermost_same : (os : List Occurrence) (Seen : ℕ → Type 0) (scope spelled a b : List ℕ) → IsInnermost os Seen scope spelled a
+pub innermost_same : (os : List Occurrence) (Seen : ℕ → Type 0) (scope spelled a b : List ℕ)
+    → IsInnermost os Seen scope spelled a
     → IsInnermost os Seen scope spelled b → a ≡ b
 innermost_same os Seen scope spelled a b h k =
     let one = h.longest b k.candidate k.decides in
     let other = k.longest a h.candidate h.decides in
     candidates_same a b scope h.candidate k.candidate (omega arith)
 
-module _ (os : List Occurrence) (Seen : ℕ → Type 0) (scope spelled : List ℕ) (relative : (rest : List ℕ) → IsAbsolute spelled rest → ⊥) where
+module _ (os : List Occurrence) (Seen : ℕ → Type 0) (scope spelled : List ℕ)
+    (relative : (rest : List ℕ) → IsAbsolute spelled rest → ⊥) where
   -- a name means what it is in the innermost scope, and nothing else
-  pub means_innermost : (c : List ℕ) → IsInnermost os Seen scope spelled c → Means os Seen scope spelled (scoped c spelled)
+  pub means_innermost : (c : List ℕ) → IsInnermost os Seen scope spelled c
+      → Means os Seen scope spelled (scoped c spelled)
   means_innermost c inner = inr (relative, c, inner, refl)
 
-  pub only_innermost : (c full : List ℕ) → IsInnermost os Seen scope spelled c → Means os Seen scope spelled full → full ≡ scoped c spelled
+  pub only_innermost : (c full : List ℕ) → IsInnermost os Seen scope spelled c → Means os Seen scope spelled full
+      → full ≡ scoped c spelled
   only_innermost c full inner means = elim means [
     | inl e ↦ absurd (relative full e)
-    | inr inside ↦ inside.3 ∙ ap (λ x. scoped x spelled) (innermost_same os Seen scope spelled inside.1 c inside.2 inner)
+    | inr inside ↦ inside.3 ∙ ap (λ x. scoped x spelled)
+        (innermost_same os Seen scope spelled inside.1 c inside.2 inner)
   ]
 
-  pub means_nothing : ((c : List ℕ) → IsCandidate c scope → Decides os Seen c spelled → ⊥) → (full : List ℕ) → Means os Seen scope spelled full → ⊥
+  pub means_nothing : ((c : List ℕ) → IsCandidate c scope → Decides os Seen c spelled → ⊥) → (full : List ℕ)
+      → Means os Seen scope spelled full → ⊥
   means_nothing none full means = elim means [
     | inl e ↦ relative full e
     | inr inside ↦ none inside.1 inside.2.candidate inside.2.decides
   ]
 
 -- a name with a leading dot means what stands behind it
-pub only_absolute : (os : List Occurrence) (Seen : ℕ → Type 0) (scope spelled full other : List ℕ) → IsAbsolute spelled full
+pub only_absolute : (os : List Occurrence) (Seen : ℕ → Type 0) (scope spelled full other : List ℕ)
+    → IsAbsolute spelled full
     → Means os Seen scope spelled other → other ≡ full
 only_absolute os Seen scope spelled full other is means = elim means [
   | inl e ↦ (let same : 46 ∷ other ≡ 46 ∷ full = sym e ∙ is in cc)

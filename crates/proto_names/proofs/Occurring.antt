@@ -20,12 +20,14 @@ pub occurs : (os : List Occurrence) (k : ℕ) → k < length os → Contains os 
 occurs os k h = (k, h, get_or_default os k (at os k) blank h)
 
 -- what is all packages has only packages
-pub all_packages : (os : List Occurrence) (n : ℕ) → length os ≤ n → ((k : ℕ) → k < n → k < length os → IsPackage (at os k)) → (o : Occurrence)
+pub all_packages : (os : List Occurrence) (n : ℕ) → length os ≤ n
+    → ((k : ℕ) → k < n → k < length os → IsPackage (at os k)) → (o : Occurrence)
     → Contains os o → IsPackage o
 all_packages os n whole none o (k, inside, is) =
     subst IsPackage (get_or_default os k blank o inside ∙ is) (none k (omega (arith, whole, inside)) inside)
 
-pub defined_is : (d : Defined) (kind : NameKind) (file : ℕ) → Some (record { kind = kind; file = file }) ≡ Some d → (kind ≡ d.kind) × (file ≡ d.file)
+pub defined_is : (d : Defined) (kind : NameKind) (file : ℕ) → Some (record { kind = kind; file = file }) ≡ Some d
+    → (kind ≡ d.kind) × (file ≡ d.file)
 defined_is d kind file e = (cc, cc)
 
 -- ---- what holds where a call succeeds
@@ -38,14 +40,17 @@ on_ok_of (Err e) b = tt
 
 -- those of one occurrence more
 services_more : (os : List Occurrence) (k : ℕ) → k < length os
-    → services_of (take (k + 1) os) ≡ services_of (take k os) ++ map name_of (cond (is_service_kind (at os k).kind) (at os k ∷ []) [])
+    → services_of (take (k + 1) os) ≡ services_of (take k os)
+      ++ map name_of (cond (is_service_kind (at os k).kind) (at os k ∷ []) [])
 services_more os k h =
     let is_service = λ (o : Occurrence). is_service_kind o.kind in
     ap (map name_of) (filter_more is_service os k blank h)
     ∙ map-append name_of (filter is_service (take k os)) (cond (is_service_kind (at os k).kind) (at os k ∷ []) [])
 
-module _ {A : Type 0} (os : List Occurrence) (k : ℕ) (kind : Option NameKind) (told : Bool) (texts : List (String A)) (h : k < length os)
-    (is_kind : kind ≡ (at os k).kind) (tells : told ≡ is_service_kind kind) (so_far : map string_bytes texts ≡ services_of (take k os)) where
+module _ {A : Type 0} (os : List Occurrence) (k : ℕ) (kind : Option NameKind) (told : Bool) (texts : List (String A))
+    (h : k < length os)
+    (is_kind : kind ≡ (at os k).kind) (tells : told ≡ is_service_kind kind)
+    (so_far : map string_bytes texts ≡ services_of (take k os)) where
   is_service : told ≡ is_service_kind (at os k).kind
   is_service = tells ∙ ap is_service_kind is_kind
 
@@ -53,20 +58,25 @@ module _ {A : Type 0} (os : List Occurrence) (k : ℕ) (kind : Option NameKind) 
   more b = services_of (take k os) ++ map name_of (cond b (at os k ∷ []) [])
 
   -- a service, whose name is put behind the others
-  pub services_put : (text : String A) (all : List (String A)) → told ≡ true → string_bytes text ≡ (at os k).name → all ≡ texts ++ text ∷ []
+  pub services_put : (text : String A) (all : List (String A)) → told ≡ true → string_bytes text ≡ (at os k).name
+      → all ≡ texts ++ text ∷ []
       → map string_bytes all ≡ services_of (take (k + 1) os)
   services_put text all passes named put =
-      ap (map string_bytes) put ∙ map_push string_bytes texts text ∙ ap₂ (λ (xs : List (List ℕ)) (x : List ℕ). xs ++ x ∷ []) so_far named
+      ap (map string_bytes) put ∙ map_push string_bytes texts text
+        ∙ ap₂ (λ (xs : List (List ℕ)) (x : List ℕ). xs ++ x ∷ []) so_far named
       ∙ ap more (sym passes ∙ is_service) ∙ sym (services_more os k h)
 
   pub services_passed : told ≡ false → map string_bytes texts ≡ services_of (take (k + 1) os)
-  services_passed fails = so_far ∙ sym (append-nil (services_of (take k os))) ∙ ap more (sym fails ∙ is_service) ∙ sym (services_more os k h)
+  services_passed fails = so_far ∙ sym (append-nil (services_of (take k os))) ∙ ap more (sym fails ∙ is_service)
+      ∙ sym (services_more os k h)
 
 -- a sort of texts sorts their bytes
-pub sorted_texts : {A : Type 0} (texts : List (String A)) → IsSorted (λ a b. slice_cmp nat_cmp (string_bytes a) (string_bytes b)) texts
+pub sorted_texts : {A : Type 0} (texts : List (String A))
+    → IsSorted (λ a b. slice_cmp nat_cmp (string_bytes a) (string_bytes b)) texts
     → IsSorted (slice_cmp nat_cmp) (map string_bytes texts)
 sorted_texts texts up k d low inside =
     let l = length-map texts string_bytes in
     let room : k + 1 < length texts = omega (arith, l, inside) in
     let t = first_of texts (k + 1) room in
-    rw (get_or-map string_bytes texts k t d (omega arith), get_or-map string_bytes texts (k + 1) t d room) (up k t low room)
+    rw (get_or-map string_bytes texts k t d (omega arith), get_or-map string_bytes texts (k + 1) t d room)
+      (up k t low room)

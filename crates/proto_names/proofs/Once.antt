@@ -25,7 +25,8 @@ one_no_later o p = elim (cases_lt o.file p.file) [
 ]
 
 -- two of one name, at two positions, would clash
-alone : (os : List Occurrence) (i j : ℕ) (o p : Occurrence) → NoneTwice os → slice_get os i ≡ Some o → slice_get os j ≡ Some p
+alone : (os : List Occurrence) (i j : ℕ) (o p : Occurrence) → NoneTwice os → slice_get os i ≡ Some o
+    → slice_get os j ≡ Some p
     → o.name ≡ p.name → (IsPackage o → ⊥) → i ≡ j
 alone os i j o p none first second same element = elim (cases_eq i j) [
   | inl one ↦ one
@@ -43,10 +44,12 @@ alone os i j o p none first second same element = elim (cases_eq i j) [
   ]
 ]
 
-pub declared_once : (index : Index) (descs : List FileDesc) (limits : Limits) → Indexes descs limits index → AreDeclaredOnce index
+pub declared_once : (index : Index) (descs : List FileDesc) (limits : Limits) → Indexes descs limits index
+    → AreDeclaredOnce index
 declared_once index descs limits is =
     let none : NoneTwice index.occurrences =
-    none_moved index.occurrences (occurrences descs) (IsPermutation-sym (occurrences descs) index.occurrences is.all) is.once in
+    none_moved index.occurrences (occurrences descs)
+      (IsPermutation-sym (occurrences descs) index.occurrences is.all) is.once in
     record {
       one = λ o p here there same element.
           (let first = slice_get_read index.occurrences _ here.0 o refl here.1 (sym here.2) in

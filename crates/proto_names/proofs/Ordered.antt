@@ -14,10 +14,13 @@ use Rattle.proto_names.specs.Runs.{at, blank}
 
 occurrence_total : IsTotalOrder occurrence_cmp
 occurrence_total =
-    then_total (on_total (λ o. o.name) name_total) (then_total (on_total (λ o. o.file) nat_cmp_total) (on_total (λ o. o.place.offset) nat_cmp_total))
+    then_total (on_total (λ o. o.name) name_total)
+      (then_total (on_total (λ o. o.file) nat_cmp_total) (on_total (λ o. o.place.offset) nat_cmp_total))
 
-in_order : (os : List Occurrence) → AreInOrder os → (i j : ℕ) → i ≤ j → j < length os → is_lt (occurrence_cmp (at os j) (at os i)) ≡ false
-in_order os up i j h below = sorted_far (λ x y. is_lt (occurrence_cmp x y)) (ranks_by occurrence_total (λ o. o)) os up i j blank h below
+in_order : (os : List Occurrence) → AreInOrder os → (i j : ℕ) → i ≤ j → j < length os
+    → is_lt (occurrence_cmp (at os j) (at os i)) ≡ false
+in_order os up i j h below = sorted_far (λ x y. is_lt (occurrence_cmp x y))
+    (ranks_by occurrence_total (λ o. o)) os up i j blank h below
 
 -- ---- what the order says
 
@@ -31,16 +34,20 @@ first_not Greater p h = refl
 pub order_names : (os : List Occurrence) → AreInOrder os → AreInHashOrder os
 order_names os up k d low inside = first_not _ _ (up k d low inside)
 
-nat_case : (x y : ℕ) (o : Ordering) (b c : Bool) → nat_lt x y ≡ b → (x == y) ≡ c → is_lt (ordering_then (cond b Less (cond c Equal Greater)) o) ≡ false
+nat_case : (x y : ℕ) (o : Ordering) (b c : Bool) → nat_lt x y ≡ b → (x == y) ≡ c
+    → is_lt (ordering_then (cond b Less (cond c Equal Greater)) o) ≡ false
     → (y < x) ⊎ ((x ≡ y) × (is_lt o ≡ false))
 nat_case x y o true c e f h = absurd (true≢false h)
 nat_case x y o false true e f h = inr (eqb-true x y f, h)
-nat_case x y o false false e f h = let over = ltb-false x y e in let other = eqb-false x y f in inl (omega (arith, over, other))
+nat_case x y o false false e f h = let over = ltb-false x y e in let other = eqb-false x y f in
+    inl (omega (arith, over, other))
 
-nat_not_less : (x y : ℕ) (o : Ordering) → is_lt (ordering_then (nat_cmp x y) o) ≡ false → (y < x) ⊎ ((x ≡ y) × (is_lt o ≡ false))
+nat_not_less : (x y : ℕ) (o : Ordering) → is_lt (ordering_then (nat_cmp x y) o) ≡ false
+    → (y < x) ⊎ ((x ≡ y) × (is_lt o ≡ false))
 nat_not_less x y o h = nat_case x y o (nat_lt x y) (x == y) refl refl h
 
-pub last_case : (x y : ℕ) (b c : Bool) → nat_lt x y ≡ b → (x == y) ≡ c → is_lt (cond b Less (cond c Equal Greater)) ≡ false → y ≤ x
+pub last_case : (x y : ℕ) (b c : Bool) → nat_lt x y ≡ b → (x == y) ≡ c
+    → is_lt (cond b Less (cond c Equal Greater)) ≡ false → y ≤ x
 last_case x y true c e f h = absurd (true≢false h)
 last_case x y false c e f h = ltb-false x y e
 
@@ -50,7 +57,9 @@ pair_order a b h e =
     let h' = rw equal at h in
     elim (nat_not_less b.file a.file (nat_cmp b.place.offset a.place.offset) h') [
       | inl less ↦ inl less
-      | inr w ↦ inr (sym w.0, last_case b.place.offset a.place.offset (nat_lt b.place.offset a.place.offset) (b.place.offset == a.place.offset) refl refl w.1)
+      | inr w ↦
+          inr (sym w.0, last_case b.place.offset a.place.offset (nat_lt b.place.offset a.place.offset)
+          (b.place.offset == a.place.offset) refl refl w.1)
     ]
 
 pub places_in_order : (os : List Occurrence) → AreInOrder os → (i j : ℕ) → i ≤ j → j < length os
@@ -66,12 +75,17 @@ not_less : (o : Ordering) → is_lt o ≡ false → o ≡ Less → ⊥
 not_less o h e = true≢false (ap is_lt (sym e) ∙ h)
 
 -- what stands between two occurrences of one name has that name
-name_between : (a b c : Occurrence) → is_lt (occurrence_cmp b a) ≡ false → is_lt (occurrence_cmp c b) ≡ false → a.name ≡ c.name → a.name ≡ b.name
+name_between : (a b c : Occurrence) → is_lt (occurrence_cmp b a) ≡ false → is_lt (occurrence_cmp c b) ≡ false
+    → a.name ≡ c.name → a.name ≡ b.name
 name_between a b c h k e =
     let h' = not_less _ (first_not (name_cmp b.name a.name) _ h) in
-    let k' : name_cmp a.name b.name ≡ Less → ⊥ = λ w. not_less _ (first_not (name_cmp c.name b.name) _ k) (rw (← e) w) in
-    same_name a.name b.name (equal_case (name_cmp a.name b.name) (name_cmp b.name a.name) (name_total.antisymm b.name a.name) k' h')
+    let k' : name_cmp a.name b.name ≡ Less
+      → ⊥ = λ w. not_less _ (first_not (name_cmp c.name b.name) _ k) (rw (← e) w) in
+    same_name a.name b.name
+      (equal_case (name_cmp a.name b.name) (name_cmp b.name a.name) (name_total.antisymm b.name a.name) k' h')
 
-pub names_between : (os : List Occurrence) → AreInOrder os → (i j k : ℕ) → i ≤ j → j ≤ k → k < length os → (at os i).name ≡ (at os k).name
+pub names_between : (os : List Occurrence) → AreInOrder os → (i j k : ℕ) → i ≤ j → j ≤ k → k < length os
+    → (at os i).name ≡ (at os k).name
     → (at os i).name ≡ (at os j).name
-names_between os up i j k h g below e = name_between (at os i) (at os j) (at os k) (in_order os up i j h (omega arith)) (in_order os up j k g below) e
+names_between os up i j k h g below e =
+    name_between (at os i) (at os j) (at os k) (in_order os up i j h (omega arith)) (in_order os up j k g below) e

@@ -23,7 +23,8 @@ same_bit old new r c same = (λ t. sym same ∙ t, λ t. same ∙ t)
 pub record Inserting (old : Bits) (row : ℕ) (os : List Occurrence) (n : ℕ) (new : Bits) : Type 0 where
   pub large : IsAsLarge old new
   pub kept : (r c : ℕ) → r < old.rows → c < columns_of old → (r ≡ row → ⊥) → has new r c ≡ has old r c
-  pub files : (c : ℕ) → c < columns_of old → Has new row c ↔ (Has old row c ⊎ ((k : ℕ) × (k < n) × ((at os k).file ≡ c)))
+  pub files : (c : ℕ) → c < columns_of old
+      → Has new row c ↔ (Has old row c ⊎ ((k : ℕ) × (k < n) × ((at os k).file ≡ c)))
 
 module _ (old : Bits) (row : ℕ) (os : List Occurrence) (n : ℕ) (now new : Bits) (is : Inserting old row os n now)
     (inserted : HasInserted now row (at os n).file new) where
@@ -36,9 +37,12 @@ position_of os o (k, inside, is) = (k, inside, get_or_default os k blank o insid
 
 -- ---- one more package
 
-module _ (os : List Occurrence) (start : ℕ) (runs new_runs : List Run) (old pushed new : Bits) (rows : old.rows ≡ length runs)
-    (columns : All (λ (o : Occurrence). o.file < columns_of old) os) (packages : All IsPackage os) (longer : IsLonger old pushed)
-    (set : HasFilesOf pushed (length runs) os new) (put : new_runs ≡ runs ++ (record { start = start; len = length os }) ∷ []) where
+module _ (os : List Occurrence) (start : ℕ) (runs new_runs : List Run) (old pushed new : Bits)
+    (rows : old.rows ≡ length runs)
+    (columns : All (λ (o : Occurrence). o.file < columns_of old) os) (packages : All IsPackage os)
+    (longer : IsLonger old pushed)
+    (set : HasFilesOf pushed (length runs) os new)
+    (put : new_runs ≡ runs ++ (record { start = start; len = length os }) ∷ []) where
   pushed_columns : (c : ℕ) → c < columns_of old → c < columns_of pushed
   pushed_columns c hc = subst (λ w. c < 64 * w) (sym longer.width) hc
 
@@ -55,7 +59,8 @@ package_found os runs files row start len inside found same are =
 -- ---- packages among occurrences
 
 -- a package's row in a matrix with one row more
-same_package : (os : List Occurrence) (old new : Bits) (k : ℕ) → k < old.rows → old.rows ≤ new.rows → new.width ≡ old.width
+same_package : (os : List Occurrence) (old new : Bits) (k : ℕ) → k < old.rows → old.rows ≤ new.rows
+    → new.width ≡ old.width
     → ((c : ℕ) → c < columns_of old → has new k c ≡ has old k c) → IsPackageOf os old k → IsPackageOf os new k
 same_package os old new k inside more width kept is =
     let columns : (c : ℕ) → c < columns_of new → c < columns_of old = λ c hc. subst (λ w. c < 64 * w) width hc in
@@ -68,7 +73,8 @@ same_package os old new k inside more width kept is =
       columns = λ i d h. subst (λ w. (get_or os i d).file < 64 * w) (sym width) (is.columns i d h);
     }
 
-module _ (os : List Occurrence) (start len : ℕ) (runs new_runs : List Run) (old new : Bits) (within : start + len ≤ length os)
+module _ (os : List Occurrence) (start len : ℕ) (runs new_runs : List Run) (old new : Bits)
+    (within : start + len ≤ length os)
     (are : ArePackagesOf os runs old) (put : HasPackagePut (take len (drop start os)) start runs old new_runs new) where
   named_length : length (take len (drop start os)) ≡ len
   named_length = length-take-le len (drop start os) (omega (arith, within, length-drop start os))
@@ -77,7 +83,8 @@ module _ (os : List Occurrence) (start len : ℕ) (runs new_runs : List Run) (ol
   size = ap length put.longer ∙ length_push runs _
 
   old_run : (k : ℕ) → k < length runs → run_at new_runs k ≡ run_at runs k
-  old_run k h = ap (λ (rs : List Run). run_at rs k) put.longer ∙ get_or_append_left runs _ (record { start = 0; len = 0 }) k h
+  old_run k h = ap (λ (rs : List Run). run_at rs k) put.longer
+      ∙ get_or_append_left runs _ (record { start = 0; len = 0 }) k h
 
   last_run : run_at new_runs (length runs) ≡ record { start = start; len = len }
   last_run =
@@ -89,7 +96,8 @@ module _ (os : List Occurrence) (start len : ℕ) (runs new_runs : List Run) (ol
   each k h = elim (cases_lt k (length runs)) [
     | inl before ↦
         subst (λ (run : Run). IsPackageOf (occurrences_in os run) new k) (sym (old_run k before))
-        (same_package (occurrences_in os (run_at runs k)) old new k (omega (arith, before, are.rows)) (omega (arith, put.rows)) put.width
+        (same_package (occurrences_in os (run_at runs k)) old new k (omega (arith, before, are.rows))
+          (omega (arith, put.rows)) put.width
         (λ c hc. put.kept k c (omega (arith, before, are.rows)) hc) (are.each k before))
     | inr last ↦
         let at : length runs ≡ k = omega (arith, last, h, size) in

@@ -60,17 +60,22 @@ module _ (os : List Occurrence) (target : List ℕ) (up : AreInHashOrder os) whe
       → IsPartitionedBy (λ e. is_eq (slice_cmp nat_cmp (name_of e) target)) os
   parted_equal behind i j d h inside t =
       sym (equal_alike (name_of (get_or os i d)) target)
-      ∙ eq_index _ _ (rises i j d h inside) (behind i d (omega arith)) (equal_alike (name_of (get_or os j d)) target ∙ t)
+      ∙ eq_index _ _ (rises i j d h inside) (behind i d (omega arith))
+        (equal_alike (name_of (get_or os j d)) target ∙ t)
 
 pub less_point : (os : List Occurrence) (target : List ℕ) (n : ℕ)
-    → IsPartitionPoint (λ e. is_lt (name_cmp (name_of e) target) ≡ true) (λ e. is_lt (name_cmp (name_of e) target) ≡ false) os n
+    → IsPartitionPoint (λ e. is_lt (name_cmp (name_of e) target) ≡ true)
+      (λ e. is_lt (name_cmp (name_of e) target) ≡ false) os n
     → IsPartitionPoint (λ e. name_cmp (name_of e) target ≡ Less) (λ e. name_cmp (name_of e) target ≢ Less) os n
 less_point os target n p = (λ k d a b. lt_less _ (p.0 k d a b), λ k d a b. not_lt_less _ (p.1 k d a b))
 
 pub equal_point : (os : List Occurrence) (target : List ℕ) (n : ℕ)
-    → IsPartitionPoint (λ e. is_eq (slice_cmp nat_cmp (name_of e) target) ≡ true) (λ e. is_eq (slice_cmp nat_cmp (name_of e) target) ≡ false) os n
+    → IsPartitionPoint (λ e. is_eq (slice_cmp nat_cmp (name_of e) target) ≡ true)
+      (λ e. is_eq (slice_cmp nat_cmp (name_of e) target) ≡ false) os n
     → IsPartitionPoint (λ e. name_of e ≡ target) (λ e. name_of e ≢ target) os n
-equal_point os target n p = (λ k d a b. exact_bytes _ _ ((Equal-is _).0 (p.0 k d a b)), λ k d a b e. not_eq_equal _ (p.1 k d a b) (equal_itself _ _ e))
+equal_point os target n p =
+    (λ k d a b. exact_bytes _ _ ((Equal-is _).0 (p.0 k d a b)),
+    λ k d a b e. not_eq_equal _ (p.1 k d a b) (equal_itself _ _ e))
 
 lower : (o p : Ordering) → ordering_index o ≤ ordering_index p → p ≡ Equal → o ≢ Equal → is_lt o ≡ true
 lower Less p h e n = refl
@@ -80,7 +85,8 @@ lower Greater p h e n = let h' = rw e at h in absurd (omega (arith, h'))
 less_lt : (o : Ordering) → o ≡ Less → is_lt o ≡ true
 less_lt o e = ap is_lt e
 
-pub named_at : (os : List Occurrence) (k : ℕ) (d : Occurrence) → k < length os → (at os k).name ≡ name_of (get_or os k d)
+pub named_at : (os : List Occurrence) (k : ℕ) (d : Occurrence) → k < length os
+    → (at os k).name ≡ name_of (get_or os k d)
 named_at os k d h = ap name_of (get_or_default os k blank d h)
 
 -- where the first that does not come before a name has another one, none has it
@@ -91,7 +97,8 @@ nowhere_is [] target n up p other k within same = absurd (omega (arith, within))
 nowhere_is (d ∷ os) target n up p other k within same =
     let all : List Occurrence = d ∷ os in
     let below : k < length all = within in
-    let equal_k : name_cmp (name_of (get_or all k d)) target ≡ Equal = itself_equal _ _ (sym (named_at all k d below) ∙ same) in
+    let equal_k : name_cmp (name_of (get_or all k d)) target ≡ Equal =
+      itself_equal _ _ (sym (named_at all k d below) ∙ same) in
     elim (cases_lt k n) [
       | inl before ↦ less_not_equal _ (p.0 k d (omega arith) before) equal_k
       | inr behind ↦
@@ -111,7 +118,8 @@ module _ (os : List Occurrence) (target : List ℕ) (start : ℕ) (up : AreInHas
   equal d = itself_equal _ _ (sym (named_at os start d inside) ∙ is.named)
 
   differs : (d : Occurrence) → 0 < start → name_cmp (name_of (get_or os (start - 1) d)) target ≢ Equal
-  differs d some e = is.begins some (named_at os (start - 1) d (let h = inside in omega (arith, h)) ∙ same_name _ _ e ∙ sym is.named)
+  differs d some e = is.begins some (named_at os (start - 1) d (let h = inside in omega (arith, h)) ∙ same_name _ _ e
+      ∙ sym is.named)
 
   before : (k : ℕ) (d : Occurrence) → k < start → name_cmp (name_of (get_or os k d)) target ≡ Less
   before k d h =
@@ -121,15 +129,18 @@ module _ (os : List Occurrence) (target : List ℕ) (start : ℕ) (up : AreInHas
       lt_less _ (parted_less os target up k (start - 1) d (omega (arith, h)) (omega (arith, h, in_)) last)
 
   behind : (k : ℕ) (d : Occurrence) → start ≤ k → k < length os → name_cmp (name_of (get_or os k d)) target ≢ Less
-  behind k d h below less = less_not_equal _ (lt_less _ (parted_less os target up start k d h below (less_lt _ less))) (equal d)
+  behind k d h below less = less_not_equal _ (lt_less _ (parted_less os target up start k d h below (less_lt _ less)))
+      (equal d)
 
-  pub start_point : IsPartitionPoint (λ e. name_cmp (name_of e) target ≡ Less) (λ e. name_cmp (name_of e) target ≢ Less) os start
+  pub start_point : IsPartitionPoint (λ e. name_cmp (name_of e) target ≡ Less)
+      (λ e. name_cmp (name_of e) target ≢ Less) os start
   start_point = (λ k d a b. before k d b, λ k d a b. behind k d a b)
 
   pub start_below : start < length os
   start_below = inside
 
-pub start_named : (os : List Occurrence) (target : List ℕ) (start : ℕ) → IsStart os target start → start < length os → (d : Occurrence)
+pub start_named : (os : List Occurrence) (target : List ℕ) (start : ℕ) → IsStart os target start → start < length os
+    → (d : Occurrence)
     → name_of (get_or (drop start os) 0 d) ≡ target
 start_named os target start is below d =
     let back : start + 0 ≡ start = omega arith in
@@ -138,11 +149,13 @@ start_named os target start is below d =
 -- where the second has another name than the first, the first is alone
 pub one_point : (os : List Occurrence) (target : List ℕ) → AreInHashOrder os
     → ((k : ℕ) (d : Occurrence) → k < length os → name_cmp (name_of (get_or os k d)) target ≢ Less)
-    → ((d : Occurrence) → name_of (get_or os 0 d) ≡ target) → ((d : Occurrence) → 1 < length os → name_of (get_or os 1 d) ≢ target)
+    → ((d : Occurrence) → name_of (get_or os 0 d) ≡ target)
+    → ((d : Occurrence) → 1 < length os → name_of (get_or os 1 d) ≢ target)
     → IsPartitionPoint (λ e. name_of e ≡ target) (λ e. name_of e ≢ target) os 1
 one_point os target up behind first second = (
   λ k d a b. (let zeroth : 0 ≡ k = omega arith in subst (λ i. name_of (get_or os i d) ≡ target) zeroth (first d)),
-  λ k d a b e. second d (omega (arith, a, b)) (exact_bytes _ _ ((Equal-is _).0 (parted_equal os target up behind 1 k d a b (ap is_eq (equal_itself _ _ e))))),
+  λ k d a b e. second d (omega (arith, a, b))
+    (exact_bytes _ _ ((Equal-is _).0 (parted_equal os target up behind 1 k d a b (ap is_eq (equal_itself _ _ e))))),
 )
 
 nothing : (e : Occurrence) → Contains {X = Occurrence} [] e → ⊥
@@ -168,7 +181,8 @@ pub drop_behind : (os : List Occurrence) (target : List ℕ) (n : ℕ) → n ≤
     → (k : ℕ) (d : Occurrence) → k < length (drop n os) → name_cmp (name_of (get_or (drop n os) k d)) target ≢ Less
 drop_behind os target n h p k d inside =
     let l = length-drop n os in
-    subst (λ (e : Occurrence). name_cmp (name_of e) target ≢ Less) (sym (get_or-drop n os k d)) (p.1 (n + k) d (omega arith) (omega (arith, l, inside)))
+    subst (λ (e : Occurrence). name_cmp (name_of e) target ≢ Less) (sym (get_or-drop n os k d))
+      (p.1 (n + k) d (omega arith) (omega (arith, l, inside)))
 
 -- the run of a name
 module _ (os : List Occurrence) (target : List ℕ) (n m : ℕ) (h : n ≤ length os) (g : m ≤ length (drop n os))
@@ -180,11 +194,14 @@ module _ (os : List Occurrence) (target : List ℕ) (n m : ℕ) (h : n ≤ lengt
       let l' = length-drop n os in
       let low : k < m = omega (arith, l, inside) in
       let at : get_or (drop n os) k e ≡ e = sym (get_or-take m (drop n os) k e low) ∙ is in
-      ((n + k, omega (arith, l', low, g), sym (get_or-drop n os k e) ∙ at), subst (λ (x : Occurrence). name_of x ≡ target) at (same.0 k e (omega arith) low))
+      ((n + k, omega (arith, l', low, g), sym (get_or-drop n os k e) ∙ at),
+        subst (λ (x : Occurrence). name_of x ≡ target) at (same.0 k e (omega arith) low))
 
   run_all : (e : Occurrence) → Contains os e → name_of e ≡ target → Contains (take m (drop n os)) e
   run_all e (j, inside, is) name = elim (cases_lt j n) [
-    | inl less ↦ absurd (less_not_equal _ (subst (λ (x : Occurrence). name_cmp (name_of x) target ≡ Less) is (before.0 j e (omega arith) less))
+    | inl less ↦
+        absurd (less_not_equal _
+        (subst (λ (x : Occurrence). name_cmp (name_of x) target ≡ Less) is (before.0 j e (omega arith) less))
         (itself_equal (name_of e) target name))
     | inr over ↦ (
         let l = length-take m (drop n os) in

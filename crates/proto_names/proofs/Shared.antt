@@ -15,7 +15,8 @@ use Rattle.proto_names.specs.declared.sorted.SortedShare.{SortedShare}
 -- ---- one share
 
 -- of one occurrence more
-pub share_more : (count position k : ℕ) (os : List Occurrence) (told : Bool) → k < length os → told ≡ (share_at count (at os k) == position)
+pub share_more : (count position k : ℕ) (os : List Occurrence) (told : Bool) → k < length os
+    → told ≡ (share_at count (at os k) == position)
     → share_of count position (take (k + 1) os) ≡ share_of count position (take k os) ++ cond told (at os k ∷ []) []
 share_more count position k os told below is =
     filter_more (λ o. share_at count o == position) os k blank below
@@ -30,7 +31,8 @@ share_few count position os =
 
 kept_all : (p : Occurrence → Bool) (os : List Occurrence) → ((o : Occurrence) → p o ≡ true) → filter p os ≡ os
 kept_all p [] all = refl
-kept_all p (o ∷ os) all = ap (λ (b : Bool). cond b (o ∷ filter p os) (filter p os)) (all o) ∙ ap (λ (ps : List Occurrence). o ∷ ps) (kept_all p os all)
+kept_all p (o ∷ os) all = ap (λ (b : Bool). cond b (o ∷ filter p os) (filter p os)) (all o)
+    ∙ ap (λ (ps : List Occurrence). o ∷ ps) (kept_all p os all)
 
 -- one share has all
 pub one_share : (os : List Occurrence) → share_of 1 0 os ≡ os
@@ -38,7 +40,8 @@ one_share os = kept_all (λ o. share_at 1 o == 0) os (λ o. eq-eqb (share_at 1 o
 
 -- ---- what workers give
 
-pub shares_given : (count : ℕ) (os : List Occurrence) (shares : List Share) (outs : List SortedShare) → 0 < count → AreAllShares count shares
+pub shares_given : (count : ℕ) (os : List Occurrence) (shares : List Share) (outs : List SortedShare) → 0 < count
+    → AreAllShares count shares
     → GivesItems (λ i s out. IsSortedOf (share_of s.count s.position os) out) 0 shares outs → AreSharesOf os outs
 shares_given count os shares outs some all given =
     let many : length outs ≡ count = given.0 ∙ all.0 in
@@ -65,5 +68,6 @@ alone_given os s is = record {
   each = each;
 } where
   each : (k : ℕ) (t : SortedShare) → slice_get (s ∷ []) k ≡ Some t → IsSortedOf (share_of 1 k os) t
-  each zero t at = let same : s ≡ t = cc in subst (IsSortedOf (share_of 1 0 os)) same (subst (λ ps. IsSortedOf ps s) (sym (one_share os)) is)
+  each zero t at = let same : s ≡ t = cc in
+      subst (IsSortedOf (share_of 1 0 os)) same (subst (λ ps. IsSortedOf ps s) (sym (one_share os)) is)
   each (suc k) t at = let within = slice_get_within (s ∷ []) (suc k) t at in absurd (omega (arith, within))

@@ -32,7 +32,8 @@ hashes_rise : (os : List Occurrence) → AreInHashOrder os → (i j : ℕ) → i
 hashes_rise os up i j h below =
     let a = hash_of (at os i).name in
     let b = hash_of (at os j).name in
-    let far = sorted_far (λ x y. is_lt (name_cmp (name_of x) (name_of y))) (ranks_by name_total name_of) os up i j blank h below in
+    let far = sorted_far (λ x y. is_lt (name_cmp (name_of x) (name_of y)))
+      (ranks_by name_total name_of) os up i j blank h below in
     last_case b a (nat_lt b a) (b == a) refl refl (first_not _ _ far)
 
 pub slots_rise : (os : List Occurrence) (count : ℕ) → AreInHashOrder os → (i j : ℕ) → i ≤ j → j < length os
@@ -52,18 +53,21 @@ module _ (os : List Occurrence) (count n : ℕ) (old : List ℕ) (size : ℕ) wh
   longer = old ++ replicate (size - length old) n
 
   longer_length : length longer ≡ length old + (size - length old)
-  longer_length = length-append old (replicate (size - length old) n) ∙ ap (λ m. length old + m) (length-replicate (size - length old) n)
+  longer_length = length-append old (replicate (size - length old) n)
+      ∙ ap (λ m. length old + m) (length-replicate (size - length old) n)
 
   longer_each : ((s : ℕ) → s < length old → BeginsSlot os count s (get_or old s 0))
       → ((s : ℕ) → length old ≤ s → s < size → BeginsSlot os count s n)
       → (s : ℕ) → s < length longer → BeginsSlot os count s (get_or longer s 0)
   longer_each before new s h = elim (cases_lt s (length old)) [
-    | inl less ↦ subst (BeginsSlot os count s) (sym (get_or-append old (replicate (size - length old) n) 0 s less)) (before s less)
+    | inl less ↦ subst (BeginsSlot os count s) (sym (get_or-append old (replicate (size - length old) n) 0 s less))
+        (before s less)
     | inr over ↦ (
         let long = longer_length in
         let inside : s - length old < size - length old = omega (arith, h, long, over) in
         subst (BeginsSlot os count s)
-        (sym (get_or-append_right old (replicate (size - length old) n) s 0 over ∙ get_or-replicate (size - length old) (s - length old) n 0 inside))
+        (sym (get_or-append_right old (replicate (size - length old) n) s 0 over
+          ∙ get_or-replicate (size - length old) (s - length old) n 0 inside))
         (new s over (omega (arith, inside, over))))
   ]
 
@@ -71,7 +75,8 @@ pub starts_more : (os : List Occurrence) (count n slot : ℕ) (old new : List �
     → slot ≡ slot_at os count n → slot < count → new ≡ old ++ replicate (slot + 1 - length old) n
     → StartsTo os count n old → StartsTo os count (n + 1) new
 starts_more os count n slot old new up below is few made so_far =
-    let long : length new ≡ length old + (slot + 1 - length old) = ap length made ∙ longer_length os count n old (slot + 1) in
+    let long : length new ≡ length old + (slot + 1 - length old) =
+      ap length made ∙ longer_length os count n old (slot + 1) in
     record {
       within = (let w = so_far.within in omega (arith, long, w, few));
       each = rw made (longer_each os count n old (slot + 1) so_far.each (λ s over under. record {
@@ -88,11 +93,14 @@ starts_more os count n slot old new up below is few made so_far =
       ]);
     }
 
-pub starts_whole : (os : List Occurrence) (count n all : ℕ) (old new : List ℕ) → n ≡ length os → all ≡ length os → 0 < count
-    → count < 4294967296 → new ≡ old ++ replicate (count + 1 - length old) all → StartsTo os count n old → AreStarts os new
+pub starts_whole : (os : List Occurrence) (count n all : ℕ) (old new : List ℕ) → n ≡ length os
+    → all ≡ length os → 0 < count
+    → count < 4294967296 → new ≡ old ++ replicate (count + 1 - length old) all → StartsTo os count n old
+    → AreStarts os new
 starts_whole os count n all old new whole is some few made so_far =
     let w = so_far.within in
-    let long : length new ≡ length old + (count + 1 - length old) = ap length made ∙ longer_length os count all old (count + 1) in
+    let long : length new ≡ length old + (count + 1 - length old) =
+      ap length made ∙ longer_length os count all old (count + 1) in
     let size : count ≡ length new - 1 = omega (arith, long, w) in
     let found : (s : ℕ) → s < length new → BeginsSlot os count s (get_or new s 0) =
     rw made (longer_each os count all old (count + 1) so_far.each (λ s over under. record {
@@ -116,7 +124,8 @@ named_slot : (os : List Occurrence) (count slot : ℕ) (name : List ℕ) (k : �
     → (at os k).name ≡ name → slot_at os count k ≡ slot
 named_slot os count slot name k is same = ap (λ b. slot_of count (hash_of b)) same ∙ sym is
 
-pub none_before_slot : (os : List Occurrence) (count slot start : ℕ) (name : List ℕ) → slot ≡ slot_of count (hash_of name)
+pub none_before_slot : (os : List Occurrence) (count slot start : ℕ) (name : List ℕ)
+    → slot ≡ slot_of count (hash_of name)
     → BeginsSlot os count slot start → NoneBefore os name start
 none_before_slot os count slot start name is begins k h same =
     let low = begins.before k h in
@@ -133,7 +142,8 @@ none_at_all os count slot end n name is next past none k h same = elim (cases_lt
       absurd (omega (arith, high, here)))
 ]
 
-pub starts_here : (os : List Occurrence) (name : List ℕ) (k : ℕ) → k < length os → (at os k).name ≡ name → NoneBefore os name k
+pub starts_here : (os : List Occurrence) (name : List ℕ) (k : ℕ) → k < length os → (at os k).name ≡ name
+    → NoneBefore os name k
     → IsStart os name k
 starts_here os name k below named none = record {
   within = below;

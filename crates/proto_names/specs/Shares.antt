@@ -1,4 +1,5 @@
--- Words of private contracts: shares of occurrences, by the hashes of their names. All occurrences of a name are in one share.
+-- Words of private contracts: shares of occurrences, by the hashes of their names. All occurrences of a name are in one
+-- share.
 use Rattle.std.specs.Prelude.{◌≡◌, ◌==◌, ◌%◌, ℕ, ◌<◌, List, Option, Some, All, Contains, IsPermutation, MatchOption, filter, flat_map, length, map, slice_get, string_bytes}
 use Rattle.proto_names.specs.Hashes.{hash_of}
 use Rattle.proto_names.specs.Index.{services_of}

@@ -8,22 +8,26 @@ use Rattle.proto_syntax.specs.Grammar.{Class, OneOf, NoneOf, Symbol, among, fits
 use Rattle.proto_syntax.specs.Reading.{none_among, all_among, apart}
 
 -- a word among one list is not among another that shares none with it
-none_among_same : (u : List ℕ) (ws vs : List (List ℕ)) → none_among ws vs ≡ true → among u ws ≡ true → among u vs ≡ false
+none_among_same : (u : List ℕ) (ws vs : List (List ℕ)) → none_among ws vs ≡ true → among u ws ≡ true
+    → among u vs ≡ false
 none_among_same u [] vs h i = cc
 none_among_same u (w ∷ ws) vs h i = elim (or_cases (bytes_eq u w) (among u ws) i) [
-  | inl e ↦ subst (λ x. among x vs ≡ false) (sym ((bytes_eq-Decides u w).0 e)) (not-true (among w vs) (and_parts (not (among w vs)) (none_among ws vs) h).0)
+  | inl e ↦ subst (λ x. among x vs ≡ false) (sym ((bytes_eq-Decides u w).0 e))
+      (not-true (among w vs) (and_parts (not (among w vs)) (none_among ws vs) h).0)
   | inr e ↦ none_among_same u ws vs (and_parts (not (among w vs)) (none_among ws vs) h).1 e
 ]
 
 all_among_same : (u : List ℕ) (ws vs : List (List ℕ)) → all_among ws vs ≡ true → among u ws ≡ true → among u vs ≡ true
 all_among_same u [] vs h i = cc
 all_among_same u (w ∷ ws) vs h i = elim (or_cases (bytes_eq u w) (among u ws) i) [
-  | inl e ↦ subst (λ x. among x vs ≡ true) (sym ((bytes_eq-Decides u w).0 e)) (and_parts (among w vs) (all_among ws vs) h).0
+  | inl e ↦ subst (λ x. among x vs ≡ true) (sym ((bytes_eq-Decides u w).0 e))
+      (and_parts (among w vs) (all_among ws vs) h).0
   | inr e ↦ all_among_same u ws vs (and_parts (among w vs) (all_among ws vs) h).1 e
 ]
 
 -- u is not among ws, all of which are among vs, if it is not among vs
-not_all_among : (u : List ℕ) (ws vs : List (List ℕ)) → all_among ws vs ≡ true → not (among u vs) ≡ true → among u ws ≡ false
+not_all_among : (u : List ℕ) (ws vs : List (List ℕ)) → all_among ws vs ≡ true → not (among u vs) ≡ true
+    → among u ws ≡ false
 not_all_among u ws vs h i =
     false_from_ne_true (among u ws) (λ e. both_ways (among u vs) (not-true (among u vs) i) (all_among_same u ws vs h e))
 
@@ -32,5 +36,6 @@ apart_means (OneOf ws) (OneOf vs) (identifier u) h i = none_among_same u ws vs h
 apart_means (OneOf ws) (NoneOf vs) (identifier u) h i = not_from_true (among u vs) (all_among_same u ws vs h i)
 apart_means (NoneOf vs) (OneOf ws) (identifier u) h i = not_all_among u ws vs h i
 apart_means (Symbol b) (Symbol c) (punctuation x) h i =
-    false_from_ne_true (nat_eq c x) (λ e. let k : nat_eq b c ≡ false = not-true (nat_eq b c) h in grind (arith, eqb-true))
+    false_from_ne_true (nat_eq c x) (λ e. let k : nat_eq b c ≡ false = not-true (nat_eq b c) h in
+      grind (arith, eqb-true))
 apart_means c d w h i = grind arith

@@ -21,7 +21,8 @@ any_right (c ∷ cs) ds w h = or_right (fits c w) (fits_any (cs ++ ds) w) (any_r
 pub not_any_left : (cs ds : List Class) (w : Lexeme) → fits_any (cs ++ ds) w ≡ false → fits_any cs w ≡ false
 not_any_left [] ds w h = refl
 not_any_left (c ∷ cs) ds w h =
-    let p = or_parts (fits c w) (fits_any (cs ++ ds) w) h in or_from (fits c w) (fits_any cs w) p.0 (not_any_left cs ds w p.1)
+    let p = or_parts (fits c w) (fits_any (cs ++ ds) w) h in
+    or_from (fits c w) (fits_any cs w) p.0 (not_any_left cs ds w p.1)
 
 pub not_any_right : (cs ds : List Class) (w : Lexeme) → fits_any (cs ++ ds) w ≡ false → fits_any ds w ≡ false
 not_any_right [] ds w h = h
@@ -35,7 +36,8 @@ pub next_right : (cs ds : List Class) (ts : List Spelled) → next_fits (cs ++ d
 next_right cs ds [] h = refl
 next_right cs ds (t ∷ ts) h = not_any_right cs ds t.lexeme h
 
-from_all_means : (c : Class) (ds : List Class) (w : Lexeme) → apart_from_all c ds ≡ true → fits c w ≡ true → fits_any ds w ≡ false
+from_all_means : (c : Class) (ds : List Class) (w : Lexeme) → apart_from_all c ds ≡ true → fits c w ≡ true
+    → fits_any ds w ≡ false
 from_all_means c [] w h i = refl
 from_all_means c (d ∷ ds) w h i = let p = and_parts (apart c d) (apart_from_all c ds) h in
     or_from (fits d w) (fits_any ds w) (apart_means c d w p.0 i) (from_all_means c ds w p.1 i)
@@ -48,7 +50,8 @@ all_means (c ∷ cs) ds w h i = elim (or_cases (fits c w) (fits_any cs w) i) [
 ]
 
 -- a token that fits one of the second is none of the first
-pub apart_other : (cs ds : List Class) (w : Lexeme) → all_apart cs ds ≡ true → fits_any ds w ≡ true → fits_any cs w ≡ false
+pub apart_other : (cs ds : List Class) (w : Lexeme) → all_apart cs ds ≡ true → fits_any ds w ≡ true
+    → fits_any cs w ≡ false
 apart_other cs ds w h i = false_from_ne_true (fits_any cs w) (λ e. both_ways (fits_any ds w) (all_means cs ds w h e) i)
 
 -- what a list of tokens of the rule begins with: nothing, if the rule can be empty, or a token that fits
@@ -77,11 +80,13 @@ more_starts a (t ∷ us) vs h i = h
 pub tree_starts : {g : Grammar} {x : Tree} → IsTree g x → Starts g (flatten x)
 tree_starts (one {c = c} {t = t} h) = or_left (fits c t.lexeme) false h
 tree_starts nothing = refl
-tree_starts (both {a = a} {b = b} {x = x} {y = y} ix iy) = seq_starts a b (flatten x) (flatten y) (tree_starts ix) (tree_starts iy)
+tree_starts (both {a = a} {b = b} {x = x} {y = y} ix iy) =
+    seq_starts a b (flatten x) (flatten y) (tree_starts ix) (tree_starts iy)
 tree_starts (first {a = a} {b = b} {x = x} ix) = left_starts a b (flatten x) (tree_starts ix)
 tree_starts (second {a = a} {b = b} {x = x} ix) = right_starts a b (flatten x) (tree_starts ix)
 tree_starts none = refl
-tree_starts (more {a = a} {x = x} {y = y} ix iy) = more_starts a (flatten x) (flatten y) (tree_starts ix) (tree_starts iy)
+tree_starts (more {a = a} {x = x} {y = y} ix iy) =
+    more_starts a (flatten x) (flatten y) (tree_starts ix) (tree_starts iy)
 
 -- what a front begins with, unless it is empty
 abbrev pub Opens : Grammar → List Spelled → Type 0
@@ -114,10 +119,12 @@ pub front_opens : {g : Grammar} {ts : List Spelled} → IsFront g ts → Opens g
 front_opens empty = tt
 front_opens (token {c = c} {t = t} h) = or_left (fits c t.lexeme) false h
 front_opens (within {a = a} {b = b} {ts = ts} f) = within_opens a b ts (front_opens f)
-front_opens (past {a = a} {b = b} {x = x} {us = us} ix f e) = subst (Opens (a ⨾ b)) (sym e) (past_opens a b (flatten x) us (tree_starts ix) (front_opens f))
+front_opens (past {a = a} {b = b} {x = x} {us = us} ix f e) =
+    subst (Opens (a ⨾ b)) (sym e) (past_opens a b (flatten x) us (tree_starts ix) (front_opens f))
 front_opens (of_first {a = a} {b = b} {ts = ts} f) = left_opens a b ts (front_opens f)
 front_opens (of_second {a = a} {b = b} {ts = ts} f) = right_opens a b ts (front_opens f)
-front_opens (items {a = a} {x = x} {us = us} ix f e) = subst (Opens (Many a)) (sym e) (items_opens a (flatten x) us (tree_starts ix) (front_opens f))
+front_opens (items {a = a} {x = x} {us = us} ix f e) =
+    subst (Opens (Many a)) (sym e) (items_opens a (flatten x) us (tree_starts ix) (front_opens f))
 
 -- a tree's tokens are a front
 pub tree_front : {g : Grammar} {x : Tree} → IsTree g x → IsFront g (flatten x)

@@ -13,15 +13,19 @@ pub data Deeper : Grammar → Grammar → Type 0 where
   in_both : {a a' b b' : Grammar} → Deeper a a' → Deeper b b' → Deeper (a ⨾ b) (a' ⨾ b')
   in_either : {a a' b b' : Grammar} → Deeper a a' → Deeper b b' → Deeper (a ∣ b) (a' ∣ b')
   in_many : {a a' : Grammar} → Deeper a a' → Deeper (Many a) (Many a')
-  allowed : {c : Class} {g : Grammar} → begins g ≡ c ∷ [] → can_be_empty g ≡ false → ((t : Spelled) → fits c t.lexeme ≡ true → IsFront g (t ∷ []))
-      → ((t : Spelled) (ts : List Spelled) → fits c t.lexeme ≡ false → read g (t ∷ ts) ≡ Stops false (t ∷ ts)) → read g [] ≡ Stops false []
+  allowed : {c : Class} {g : Grammar} → begins g ≡ c ∷ [] → can_be_empty g ≡ false
+      → ((t : Spelled) → fits c t.lexeme ≡ true → IsFront g (t ∷ []))
+      → ((t : Spelled) (ts : List Spelled) → fits c t.lexeme ≡ false → read g (t ∷ ts) ≡ Stops false (t ∷ ts))
+      → read g [] ≡ Stops false []
       → Deeper (Beyond c) g
 
 pub deeper_begins : {g g' : Grammar} → Deeper g g' → (begins g ≡ begins g') × (can_be_empty g ≡ can_be_empty g')
 deeper_begins same_one = (refl, refl)
 deeper_begins same_nothing = (refl, refl)
-deeper_begins (in_both h i) = let p = deeper_begins h in let q = deeper_begins i in (rw (p.0, p.1, q.0) refl, rw (p.1, q.1) refl)
-deeper_begins (in_either h i) = let p = deeper_begins h in let q = deeper_begins i in (rw (p.0, q.0) refl, rw (p.1, q.1) refl)
+deeper_begins (in_both h i) = let p = deeper_begins h in let q = deeper_begins i in
+    (rw (p.0, p.1, q.0) refl, rw (p.1, q.1) refl)
+deeper_begins (in_either h i) = let p = deeper_begins h in let q = deeper_begins i in
+    (rw (p.0, q.0) refl, rw (p.1, q.1) refl)
 deeper_begins (in_many h) = ((deeper_begins h).0, refl)
 deeper_begins (allowed e h f n m) = (sym e, sym h)
 
@@ -53,7 +57,8 @@ pub record GoesOn (g : Grammar) (ts us : List Spelled) : Type 0 where
   pub here : us ≡ token ∷ later
   pub front : IsFront g (before ++ (token ∷ []))
 
--- What is read with a larger limit: the same, but where reading stops at the limit, the grammar goes on with that token.
+-- What is read with a larger limit: the same, but where reading stops at the limit, the grammar goes on with that
+-- token.
 abbrev pub Sees : Grammar → List Spelled → Outcome → Outcome → Type 0
 Sees g ts (Read x us) o = o ≡ Read x us
 Sees g ts (Stops false us) o = o ≡ Stops false us
@@ -63,12 +68,14 @@ one_sees : (c : Class) (ts : List Spelled) → Sees (One c) ts (read_one c ts) (
 one_sees c [] = refl
 one_sees c (t ∷ ts) = by_cases (fits c t.lexeme)
   where
-    by_cases : (b : Bool) → Sees (One c) (t ∷ ts) (cond b (Read (Leaf t) ts) (Stops false (t ∷ ts))) (cond b (Read (Leaf t) ts) (Stops false (t ∷ ts)))
+    by_cases : (b : Bool) → Sees (One c) (t ∷ ts) (cond b (Read (Leaf t) ts) (Stops false (t ∷ ts)))
+        (cond b (Read (Leaf t) ts) (Stops false (t ∷ ts)))
     by_cases true = refl
     by_cases false = refl
 
 -- the second part, after a first that is read
-second_sees : (a b : Grammar) (x : Tree) (ts us : List Spelled) → IsTree a x → ts ≡ flatten x ++ us → (o o' : Outcome) → Sees b us o o'
+second_sees : (a b : Grammar) (x : Tree) (ts us : List Spelled) → IsTree a x → ts ≡ flatten x ++ us → (o o' : Outcome)
+    → Sees b us o o'
     → Sees (a ⨾ b) ts (mapped (Pair x) o) (mapped (Pair x) o')
 second_sees a b x ts us ix e (Read y vs) o' h = ap (mapped (Pair x)) h
 second_sees a b x ts us ix e (Stops false vs) o' h = ap (mapped (Pair x)) h
@@ -83,32 +90,42 @@ second_sees a b x ts us ix e (Stops true vs) o' h = record {
 
 seq_sees : (a b a' b' : Grammar) (ts : List Spelled) → Deeper a a' → (o o' : Outcome) → o ≡ read a ts → Sees a' ts o o'
     → ((us : List Spelled) → Sees b' us (read b us) (read b' us))
-    → Sees (a' ⨾ b') ts (after o (λ x us. mapped (Pair x) (read b us))) (after o' (λ x us. mapped (Pair x) (read b' us)))
+    → Sees (a' ⨾ b') ts (after o (λ x us. mapped (Pair x) (read b us)))
+      (after o' (λ x us. mapped (Pair x) (read b' us)))
 seq_sees a b a' b' ts d (Read x us) o' q h k =
     let s = read_found a ts x us (sym q) in
-    subst (λ z. Sees (a' ⨾ b') ts (mapped (Pair x) (read b us)) (after z (λ x us. mapped (Pair x) (read b' us)))) (sym h)
+    subst (λ z. Sees (a' ⨾ b') ts (mapped (Pair x) (read b us)) (after z (λ x us. mapped (Pair x) (read b' us))))
+      (sym h)
     (second_sees a' b' x ts us (deeper_tree d s.0) s.1 (read b us) (read b' us) (k us))
 seq_sees a b a' b' ts d (Stops false us) o' q h k = ap (λ z. after z (λ x us. mapped (Pair x) (read b' us))) h
 seq_sees a b a' b' ts d (Stops true us) o' q h k =
-    record { before = h.before; token = h.token; later = h.later; parts = h.parts; here = h.here; front = within h.front }
+    record { before = h.before; token = h.token; later = h.later; parts = h.parts; here = h.here;
+        front = within h.front }
 
-left_sees : (a b : Grammar) (ts : List Spelled) (o o' : Outcome) → Sees a ts o o' → Sees (a ∣ b) ts (mapped Left o) (mapped Left o')
+left_sees : (a b : Grammar) (ts : List Spelled) (o o' : Outcome) → Sees a ts o o'
+    → Sees (a ∣ b) ts (mapped Left o) (mapped Left o')
 left_sees a b ts (Read x us) o' h = ap (mapped Left) h
 left_sees a b ts (Stops false us) o' h = ap (mapped Left) h
-left_sees a b ts (Stops true us) o' h = record { before = h.before; token = h.token; later = h.later; parts = h.parts; here = h.here; front = of_first h.front }
+left_sees a b ts (Stops true us) o' h =
+    record { before = h.before; token = h.token; later = h.later; parts = h.parts; here = h.here;
+    front = of_first h.front }
 
-right_sees : (a b : Grammar) (ts : List Spelled) (o o' : Outcome) → Sees b ts o o' → Sees (a ∣ b) ts (mapped Right o) (mapped Right o')
+right_sees : (a b : Grammar) (ts : List Spelled) (o o' : Outcome) → Sees b ts o o'
+    → Sees (a ∣ b) ts (mapped Right o) (mapped Right o')
 right_sees a b ts (Read x us) o' h = ap (mapped Right) h
 right_sees a b ts (Stops false us) o' h = ap (mapped Right) h
 right_sees a b ts (Stops true us) o' h =
-    record { before = h.before; token = h.token; later = h.later; parts = h.parts; here = h.here; front = of_second h.front }
+    record { before = h.before; token = h.token; later = h.later; parts = h.parts; here = h.here;
+        front = of_second h.front }
 
-choice_sees : (a b : Grammar) (ts : List Spelled) (z : Bool) (oa oa' ob ob' : Outcome) → Sees a ts oa oa' → Sees b ts ob ob'
+choice_sees : (a b : Grammar) (ts : List Spelled) (z : Bool) (oa oa' ob ob' : Outcome) → Sees a ts oa oa'
+    → Sees b ts ob ob'
     → Sees (a ∣ b) ts (cond z (mapped Left oa) (mapped Right ob)) (cond z (mapped Left oa') (mapped Right ob'))
 choice_sees a b ts true oa oa' ob ob' h i = left_sees a b ts oa oa' h
 choice_sees a b ts false oa oa' ob ob' h i = right_sees a b ts ob ob' i
 
-rest_sees : (a : Grammar) (x : Tree) (ts us : List Spelled) → IsTree a x → ts ≡ flatten x ++ us → (o o' : Outcome) → Sees (Many a) us o o'
+rest_sees : (a : Grammar) (x : Tree) (ts us : List Spelled) → IsTree a x → ts ≡ flatten x ++ us → (o o' : Outcome)
+    → Sees (Many a) us o o'
     → Sees (Many a) ts (mapped (Pair x) o) (mapped (Pair x) o')
 rest_sees a x ts us ix e (Read y vs) o' h = ap (mapped (Pair x)) h
 rest_sees a x ts us ix e (Stops false vs) o' h = ap (mapped (Pair x)) h
@@ -118,10 +135,12 @@ rest_sees a x ts us ix e (Stops true vs) o' h = record {
   later = h.later;
   parts = rw (e, h.parts) (sym (append_assoc (flatten x) h.before vs));
   here = h.here;
-  front = subst (IsFront (Many a)) (sym (append_assoc (flatten x) h.before (h.token ∷ []))) (after_item a x (h.before ++ (h.token ∷ [])) ix h.front);
+  front = subst (IsFront (Many a)) (sym (append_assoc (flatten x) h.before (h.token ∷ [])))
+      (after_item a x (h.before ++ (h.token ∷ [])) ix h.front);
 }
 
-item_sees : (a a' : Grammar) (ts : List Spelled) → Deeper a a' → (o o' : Outcome) → o ≡ read a ts → Sees a' ts o o' → (next next' : List Spelled → Outcome)
+item_sees : (a a' : Grammar) (ts : List Spelled) → Deeper a a' → (o o' : Outcome) → o ≡ read a ts → Sees a' ts o o'
+    → (next next' : List Spelled → Outcome)
     → ((us : List Spelled) → Sees (Many a') us (next us) (next' us))
     → Sees (Many a') ts (after o (λ x us. mapped (Pair x) (next us))) (after o' (λ x us. mapped (Pair x) (next' us)))
 item_sees a a' ts d (Read x us) o' q h next next' k =
@@ -130,41 +149,52 @@ item_sees a a' ts d (Read x us) o' q h next next' k =
     (rest_sees a' x ts us (deeper_tree d s.0) s.1 (next us) (next' us) (k us))
 item_sees a a' ts d (Stops false us) o' q h next next' k = ap (λ z. after z (λ x us. mapped (Pair x) (next' us))) h
 item_sees a a' ts d (Stops true us) o' q h next next' k =
-    record { before = h.before; token = h.token; later = h.later; parts = h.parts; here = h.here; front = items none h.front refl }
+    record { before = h.before; token = h.token; later = h.later; parts = h.parts; here = h.here;
+        front = items none h.front refl }
 
 turn_sees : (a : Grammar) (ts : List Spelled) (z : Bool) (o o' : Outcome) → Sees (Many a) ts o o'
     → Sees (Many a) ts (cond z o (Read Empty ts)) (cond z o' (Read Empty ts))
 turn_sees a ts true o o' h = h
 turn_sees a ts false o o' h = refl
 
-many_sees : (a a' : Grammar) → Deeper a a' → ((ts : List Spelled) → Sees a' ts (read a ts) (read a' ts)) → (n : ℕ) (ts : List Spelled)
+many_sees : (a a' : Grammar) → Deeper a a' → ((ts : List Spelled) → Sees a' ts (read a ts) (read a' ts))
+    → (n : ℕ) (ts : List Spelled)
     → Sees (Many a') ts (read_many (read a) (begins a) n ts) (read_many (read a') (begins a') n ts)
 many_sees a a' d h zero ts = refl
 many_sees a a' d h (suc n) ts =
-    subst (λ cs. Sees (Many a') ts (cond (next_fits (begins a) ts) (after (read a ts) (λ x us. mapped (Pair x) (read_many (read a) (begins a) n us)))
-    (Read Empty ts)) (cond (next_fits cs ts) (after (read a' ts) (λ x us. mapped (Pair x) (read_many (read a') (begins a') n us))) (Read Empty ts)))
+    subst (λ cs. Sees (Many a') ts
+      (cond (next_fits (begins a) ts) (after (read a ts) (λ x us. mapped (Pair x) (read_many (read a) (begins a) n us)))
+    (Read Empty ts))
+      (cond (next_fits cs ts) (after (read a' ts) (λ x us. mapped (Pair x) (read_many (read a') (begins a') n us)))
+      (Read Empty ts)))
     (deeper_begins d).0
-    (turn_sees a' ts (next_fits (begins a) ts) (after (read a ts) (λ x us. mapped (Pair x) (read_many (read a) (begins a) n us)))
+    (turn_sees a' ts (next_fits (begins a) ts)
+      (after (read a ts) (λ x us. mapped (Pair x) (read_many (read a) (begins a) n us)))
     (after (read a' ts) (λ x us. mapped (Pair x) (read_many (read a') (begins a') n us)))
-    (item_sees a a' ts d (read a ts) (read a' ts) refl (h ts) (read_many (read a) (begins a) n) (read_many (read a') (begins a') n) (many_sees a a' d h n)))
+    (item_sees a a' ts d (read a ts) (read a' ts) refl (h ts) (read_many (read a) (begins a) n)
+      (read_many (read a') (begins a') n) (many_sees a a' d h n)))
 
 abbrev IsFrontOf : Class → Grammar → Type 0
 IsFrontOf c g = (t : Spelled) → fits c t.lexeme ≡ true → IsFront g (t ∷ [])
 
 beyond_sees : (c : Class) (g : Grammar) (t : Spelled) (ts : List Spelled) → IsFrontOf c g
-    → ((t : Spelled) (ts : List Spelled) → fits c t.lexeme ≡ false → read g (t ∷ ts) ≡ Stops false (t ∷ ts)) → (b : Bool) → fits c t.lexeme ≡ b
+    → ((t : Spelled) (ts : List Spelled) → fits c t.lexeme ≡ false → read g (t ∷ ts) ≡ Stops false (t ∷ ts))
+    → (b : Bool) → fits c t.lexeme ≡ b
     → Sees g (t ∷ ts) (Stops b (t ∷ ts)) (read g (t ∷ ts))
-beyond_sees c g t ts f n true e = record { before = []; token = t; later = ts; parts = refl; here = refl; front = f t e }
+beyond_sees c g t ts f n true e = record { before = []; token = t; later = ts; parts = refl; here = refl;
+    front = f t e }
 beyond_sees c g t ts f n false e = n t ts e
 
 pub sees : {g g' : Grammar} → Deeper g g' → (ts : List Spelled) → Sees g' ts (read g ts) (read g' ts)
 sees (same_one {c = c}) ts = one_sees c ts
 sees same_nothing ts = refl
-sees (in_both {a = a} {a' = a'} {b = b} {b' = b'} h i) ts = seq_sees a b a' b' ts h (read a ts) (read a' ts) refl (sees h ts) (sees i)
+sees (in_both {a = a} {a' = a'} {b = b} {b' = b'} h i) ts =
+    seq_sees a b a' b' ts h (read a ts) (read a' ts) refl (sees h ts) (sees i)
 sees (in_either {a = a} {a' = a'} {b = b} {b' = b'} h i) ts =
     subst (λ cs. Sees (a' ∣ b') ts (cond (next_fits (begins a) ts) (mapped Left (read a ts)) (mapped Right (read b ts)))
     (cond (next_fits cs ts) (mapped Left (read a' ts)) (mapped Right (read b' ts)))) (deeper_begins h).0
-    (choice_sees a' b' ts (next_fits (begins a) ts) (read a ts) (read a' ts) (read b ts) (read b' ts) (sees h ts) (sees i ts))
+    (choice_sees a' b' ts (next_fits (begins a) ts) (read a ts) (read a' ts) (read b ts) (read b' ts)
+      (sees h ts) (sees i ts))
 sees (in_many {a = a} {a' = a'} h) ts = many_sees a a' h (sees h) (length ts) ts
 sees (allowed {c = c} {g = g} e h f n m) [] = m
 sees (allowed {c = c} {g = g} e h f n m) (t ∷ ts) = beyond_sees c g t ts f n (fits c t.lexeme) refl

@@ -19,24 +19,31 @@ use Rattle.proto_syntax.proofs.Deeper.{deeper_front, GoesOn, Sees, sees}
 use Rattle.proto_syntax.proofs.Limits.{above, file_deeper, file_deeper_other}
 
 -- a token that is left after a tree is the fault too
-left_over : (g : Grammar) (ts : List Spelled) (x : Tree) (t : Spelled) (vs : List Spelled) → decides g ≡ true → read g ts ≡ Read x (t ∷ vs)
+left_over : (g : Grammar) (ts : List Spelled) (x : Tree) (t : Spelled) (vs : List Spelled) → decides g ≡ true
+    → read g ts ≡ Read x (t ∷ vs)
     → IsFault g ts (t ∷ vs)
 left_over g ts x t vs h e =
     let s = read_found g ts x (t ∷ vs) e in
     record { before = flatten x; parts = s.1; front = tree_front s.0; no_further = λ u ws q f. no_more u ws q f s.1 }
   where
-    no_more : (u : Spelled) (ws : List Spelled) → t ∷ vs ≡ u ∷ ws → IsFront g (flatten x ++ (u ∷ [])) → ts ≡ flatten x ++ (t ∷ vs) → ⊥
+    no_more : (u : Spelled) (ws : List Spelled) → t ∷ vs ≡ u ∷ ws → IsFront g (flatten x ++ (u ∷ []))
+        → ts ≡ flatten x ++ (t ∷ vs) → ⊥
     no_more u ws q f p =
-        let r : Left_at_most (length ws) (read g ((flatten x ++ (u ∷ [])) ++ ws)) = reaches g (flatten x ++ (u ∷ [])) f h ws in
-        let a : (flatten x ++ (u ∷ [])) ++ ws ≡ ts = append_assoc (flatten x) (u ∷ []) ws ∙ ap (λ z. flatten x ++ z) (sym q) ∙ sym p in
-        let b : Left_at_most (length ws) (Read x (t ∷ vs)) = subst (Left_at_most (length ws)) e (subst (λ z. Left_at_most (length ws) (read g z)) a r) in
+        let r : Left_at_most (length ws) (read g ((flatten x ++ (u ∷ [])) ++ ws)) =
+          reaches g (flatten x ++ (u ∷ [])) f h ws in
+        let a : (flatten x ++ (u ∷ [])) ++ ws ≡ ts = append_assoc (flatten x) (u ∷ []) ws
+          ∙ ap (λ z. flatten x ++ z) (sym q) ∙ sym p in
+        let b : Left_at_most (length ws) (Read x (t ∷ vs)) =
+          subst (Left_at_most (length ws)) e (subst (λ z. Left_at_most (length ws) (read g z)) a r) in
         let c : length (t ∷ vs) ≡ length (u ∷ ws) = ap length q in
         omega arith
 
-ended_fault : (g : Grammar) (ts : List Spelled) (b : Bool) (us : List Spelled) → decides g ≡ true → (o : Outcome) → read g ts ≡ o → ended o ≡ Stops b us
+ended_fault : (g : Grammar) (ts : List Spelled) (b : Bool) (us : List Spelled) → decides g ≡ true → (o : Outcome)
+    → read g ts ≡ o → ended o ≡ Stops b us
     → IsFault g ts us
 ended_fault g ts b us h (Read x []) e q = cc
-ended_fault g ts b us h (Read x (t ∷ vs)) e q = let p : t ∷ vs ≡ us = cc in subst (IsFault g ts) p (left_over g ts x t vs h e)
+ended_fault g ts b us h (Read x (t ∷ vs)) e q = let p : t ∷ vs ≡ us = cc in
+    subst (IsFault g ts) p (left_over g ts x t vs h e)
 ended_fault g ts b us h (Stops d vs) e q = let p : vs ≡ us = cc in subst (IsFault g ts) p (fault_found g ts d vs h e)
 
 take_front : (before us ts : List Spelled) (k : ℕ) → ts ≡ before ++ us → k + length us ≡ length ts → take k ts ≡ before
@@ -44,14 +51,16 @@ take_front before us ts k e l =
     let n : k ≡ length before = omega (arith, ap length e, length-append before us) in
     rw (n, e) (take-append_seam before us)
 
-take_more : (before : List Spelled) (t : Spelled) (us ts : List Spelled) (k : ℕ) → ts ≡ before ++ (t ∷ us) → k + length (t ∷ us) ≡ length ts
+take_more : (before : List Spelled) (t : Spelled) (us ts : List Spelled) (k : ℕ) → ts ≡ before ++ (t ∷ us)
+    → k + length (t ∷ us) ≡ length ts
     → take (k + 1) ts ≡ before ++ (t ∷ [])
 take_more before t us ts k e l =
     let n : k ≡ length before = omega (arith, ap length e, length-append before (t ∷ us)) in
     rw (n, e) (take-append-add before (t ∷ us) 1)
 
 -- the fault, by its number
-module _ (limit : ℕ) (ts us : List Spelled) (b : Bool) (k : ℕ) (e : ended (read (file limit) ts) ≡ Stops b us) (l : k + length us ≡ length ts) where
+module _ (limit : ℕ) (ts us : List Spelled) (b : Bool) (k : ℕ) (e : ended (read (file limit) ts) ≡ Stops b us)
+    (l : k + length us ≡ length ts) where
   pub the_fault : IsFault (file limit) ts us
   the_fault = ended_fault (file limit) ts b us (file_decides limit) (read (file limit) ts) refl e
 
@@ -60,7 +69,8 @@ module _ (limit : ℕ) (ts us : List Spelled) (b : Bool) (k : ℕ) (e : ended (r
   no_front_here (t ∷ vs) q h f =
       let p = the_fault.parts in
       let m : take (k + 1) ts ≡ the_fault.before ++ (t ∷ []) =
-      take_more the_fault.before t vs ts k (p ∙ ap (λ z. the_fault.before ++ z) (sym q)) (ap (λ z. k + length z) q ∙ l) in
+      take_more the_fault.before t vs ts k (p ∙ ap (λ z. the_fault.before ++ z) (sym q))
+        (ap (λ z. k + length z) q ∙ l) in
       the_fault.no_further t vs (sym q) (subst (IsFront (file limit)) m f)
 
   no_file_here : (x : Tree) → IsTreeOf limit ts x → ⊥
@@ -78,12 +88,14 @@ module _ (limit : ℕ) (ts us : List Spelled) (b : Bool) (k : ℕ) (e : ended (r
   }
 
 -- what is seen at the end of the tokens
-ended_sees : (g : Grammar) (ts us : List Spelled) (o o' : Outcome) → Sees g ts o o' → ended o ≡ Stops false us → ended o' ≡ Stops false us
+ended_sees : (g : Grammar) (ts us : List Spelled) (o o' : Outcome) → Sees g ts o o' → ended o ≡ Stops false us
+    → ended o' ≡ Stops false us
 ended_sees g ts us (Read x vs) o' h e = ap ended h ∙ e
 ended_sees g ts us (Stops false vs) o' h e = ap ended h ∙ e
 ended_sees g ts us (Stops true vs) o' h e = cc
 
-ended_goes_on : (g : Grammar) (ts us : List Spelled) (o o' : Outcome) → Sees g ts o o' → ended o ≡ Stops true us → GoesOn g ts us
+ended_goes_on : (g : Grammar) (ts us : List Spelled) (o o' : Outcome) → Sees g ts o o' → ended o ≡ Stops true us
+    → GoesOn g ts us
 ended_goes_on g ts us (Read x []) o' h e = cc
 ended_goes_on g ts us (Read x (t ∷ vs)) o' h e = cc
 ended_goes_on g ts us (Stops false vs) o' h e = cc
@@ -94,54 +106,70 @@ slice_get_front : (before us : List Spelled) → slice_get (before ++ us) (lengt
 slice_get_front [] us = refl
 slice_get_front (t ∷ before) us = slice_get_front before us
 
-get_front : (before us ts : List Spelled) (k : ℕ) → ts ≡ before ++ us → k + length us ≡ length ts → slice_get ts k ≡ slice_get us 0
+get_front : (before us ts : List Spelled) (k : ℕ) → ts ≡ before ++ us → k + length us ≡ length ts
+    → slice_get ts k ≡ slice_get us 0
 get_front before us ts k e l =
     let n : k ≡ length before = omega (arith, ap length e, length-append before us) in
     rw (n, e) (slice_get_front before us)
 
-kind_front : (limit : ℕ) (ts us : List Spelled) (k : ℕ) → ended (read (file limit) ts) ≡ Stops false us → k + length us ≡ length ts → (vs : List Spelled)
+kind_front : (limit : ℕ) (ts us : List Spelled) (k : ℕ) → ended (read (file limit) ts) ≡ Stops false us
+    → k + length us ≡ length ts → (vs : List Spelled)
     → us ≡ vs → slice_get ts k ≡ slice_get vs 0 → IsKindOf ts k (kind_here (token_before ts k) (slice_get vs 0))
 kind_front limit ts us k e l [] q d = at_end (let n : length us ≡ 0 = ap length q in omega arith)
 kind_front limit ts us k e l (t ∷ vs) q d =
     other d
     (λ (n, f).
     let h : k < length ts = (let m : length us ≡ length (t ∷ vs) = ap length q in omega arith) in
-    let s = ended_sees (file (above limit n)) ts us (read (file limit) ts) (read (file (above limit n)) ts) (sees (file_deeper limit n) ts) e in
+    let s = ended_sees (file (above limit n)) ts us (read (file limit) ts) (read (file (above limit n)) ts)
+      (sees (file_deeper limit n) ts) e in
     (fault_at (above limit n) ts us false k s l).no_front h (deeper_front (file_deeper_other limit n) f))
 
-pub kind_found : (limit : ℕ) (ts us : List Spelled) (k : ℕ) → ended (read (file limit) ts) ≡ Stops false us → k + length us ≡ length ts
+pub kind_found : (limit : ℕ) (ts us : List Spelled) (k : ℕ) → ended (read (file limit) ts) ≡ Stops false us
+    → k + length us ≡ length ts
     → IsKindOf ts k (kind_at ts k)
 kind_found limit ts us k e l =
     let g = get_front (the_fault limit ts us false k e l).before us ts k (the_fault limit ts us false k e l).parts l in
     subst (λ o. IsKindOf ts k (kind_here (token_before ts k) o)) (sym g) (kind_front limit ts us k e l us refl g)
 
-pub kind_deep : (limit : ℕ) (ts us : List Spelled) (k : ℕ) → ended (read (file limit) ts) ≡ Stops true us → k + length us ≡ length ts → IsKindOf ts k TooDeep
+pub kind_deep : (limit : ℕ) (ts us : List Spelled) (k : ℕ) → ended (read (file limit) ts) ≡ Stops true us
+    → k + length us ≡ length ts → IsKindOf ts k TooDeep
 kind_deep limit ts us k e l =
-    let g = ended_goes_on (file (above limit 0)) ts us (read (file limit) ts) (read (file (above limit 0)) ts) (sees (file_deeper limit 0) ts) e in
+    let g = ended_goes_on (file (above limit 0)) ts us (read (file limit) ts) (read (file (above limit 0)) ts)
+      (sees (file_deeper limit 0) ts) e in
     let n : k + length (g.token ∷ g.later) ≡ length ts = ap (λ z. k + length z) (sym g.here) ∙ l in
     too_deep (omega arith)
-    (above limit 0, subst (IsFront (file (above limit 0))) (sym (take_more g.before g.token g.later ts k (g.parts ∙ ap (λ z. g.before ++ z) g.here) n)) g.front)
+    (above limit 0, subst (IsFront (file (above limit 0)))
+      (sym (take_more g.before g.token g.later ts k (g.parts ∙ ap (λ z. g.before ++ z) g.here) n)) g.front)
 
 -- the same of the tokens of the code
-pub fewer_than : (limit : ℕ) (ts us : List Token) (b : Bool) → ended (read (file limit) (spellings ts)) ≡ Stops b (spellings us) → length us ≤ length ts
+pub fewer_than : (limit : ℕ) (ts us : List Token) (b : Bool)
+    → ended (read (file limit) (spellings ts)) ≡ Stops b (spellings us) → length us ≤ length ts
 fewer_than limit ts us b e =
-    let f = ended_fault (file limit) (spellings ts) b (spellings us) (file_decides limit) (read (file limit) (spellings ts)) refl e in
-    omega (arith, ap length f.parts, length-append f.before (spellings us), length-map us spelled, length-map ts spelled)
+    let f = ended_fault (file limit) (spellings ts) b (spellings us) (file_decides limit)
+      (read (file limit) (spellings ts)) refl e in
+    omega (arith, ap length f.parts, length-append f.before (spellings us), length-map us spelled,
+      length-map ts spelled)
 
-counted : (ts us : List Token) → length us ≤ length ts → (length ts - length us) + length (spellings us) ≡ length (spellings ts)
+counted : (ts us : List Token) → length us ≤ length ts
+    → (length ts - length us) + length (spellings us) ≡ length (spellings ts)
 counted ts us h = omega (arith, length-map us spelled, length-map ts spelled)
 
-pub unexpected_at : (limit : ℕ) (ts us : List Token) → ended (read (file limit) (spellings ts)) ≡ Stops false (spellings us)
-    → IsFaultAt limit (spellings ts) (length ts - length us) × IsKindOf (spellings ts) (length ts - length us) (kind_at (spellings ts) (length ts - length us))
+pub unexpected_at : (limit : ℕ) (ts us : List Token)
+    → ended (read (file limit) (spellings ts)) ≡ Stops false (spellings us)
+    → IsFaultAt limit (spellings ts) (length ts - length us)
+      × IsKindOf (spellings ts) (length ts - length us) (kind_at (spellings ts) (length ts - length us))
 unexpected_at limit ts us e =
     let l = counted ts us (fewer_than limit ts us false e) in
-    (fault_at limit (spellings ts) (spellings us) false (length ts - length us) e l, kind_found limit (spellings ts) (spellings us) (length ts - length us) e l)
+    (fault_at limit (spellings ts) (spellings us) false (length ts - length us) e l,
+      kind_found limit (spellings ts) (spellings us) (length ts - length us) e l)
 
-pub too_deep_at : (limit : ℕ) (ts us : List Token) → ended (read (file limit) (spellings ts)) ≡ Stops true (spellings us)
+pub too_deep_at : (limit : ℕ) (ts us : List Token)
+    → ended (read (file limit) (spellings ts)) ≡ Stops true (spellings us)
     → IsFaultAt limit (spellings ts) (length ts - length us) × IsKindOf (spellings ts) (length ts - length us) TooDeep
 too_deep_at limit ts us e =
     let l = counted ts us (fewer_than limit ts us true e) in
-    (fault_at limit (spellings ts) (spellings us) true (length ts - length us) e l, kind_deep limit (spellings ts) (spellings us) (length ts - length us) e l)
+    (fault_at limit (spellings ts) (spellings us) true (length ts - length us) e l,
+      kind_deep limit (spellings ts) (spellings us) (length ts - length us) e l)
 
 -- what is read is the tokens
 ended_read : (o : Outcome) (x : Tree) (us : List Spelled) → ended o ≡ Read x us → o ≡ Read x []
@@ -149,7 +177,8 @@ ended_read (Read y []) x us e = let p : y ≡ x = cc in ap (λ z. Read z []) p
 ended_read (Read y (t ∷ vs)) x us e = cc
 ended_read (Stops d vs) x us e = cc
 
-pub tree_found : (limit : ℕ) (ts us : List Spelled) (x : Tree) → ended (read (file limit) ts) ≡ Read x us → IsTreeOf limit ts x
+pub tree_found : (limit : ℕ) (ts us : List Spelled) (x : Tree) → ended (read (file limit) ts) ≡ Read x us
+    → IsTreeOf limit ts x
 tree_found limit ts us x e =
     let s = read_found (file limit) ts x [] (ended_read (read (file limit) ts) x us e) in
     record { tree = s.0; tokens = sym (s.1 ∙ append-nil (flatten x)) }

@@ -31,37 +31,50 @@ row_map f [] = refl
 row_map f (x ∷ xs) = ap (Pair (f x)) (row_map f xs)
 
 pub item_enum : (e : Enum) → message_item_tree (of.Enum e) ≡ Right (Left (enum_tree e))
-item_enum e = ap message_item_tree (sym (of.rolls-Enum e)) ∙ fold-roll-MessageItem Tree Tree item_step message_step (opened.Enum e)
+item_enum e = ap message_item_tree (sym (of.rolls-Enum e))
+    ∙ fold-roll-MessageItem Tree Tree item_step message_step (opened.Enum e)
 
 pub item_option : (o : OptionStatement) → message_item_tree (of.Option o) ≡ Right (Right (Left (option_tree o)))
-item_option o = ap message_item_tree (sym (of.rolls-Option o)) ∙ fold-roll-MessageItem Tree Tree item_step message_step (opened.Option o)
+item_option o = ap message_item_tree (sym (of.rolls-Option o))
+    ∙ fold-roll-MessageItem Tree Tree item_step message_step (opened.Option o)
 
 pub item_oneof : (o : Oneof) → message_item_tree (of.Oneof o) ≡ Right (Right (Right (Left (oneof_tree o))))
-item_oneof o = ap message_item_tree (sym (of.rolls-Oneof o)) ∙ fold-roll-MessageItem Tree Tree item_step message_step (opened.Oneof o)
+item_oneof o = ap message_item_tree (sym (of.rolls-Oneof o))
+    ∙ fold-roll-MessageItem Tree Tree item_step message_step (opened.Oneof o)
 
-pub item_reserved : (r : Reserved NumberLiteral) → message_item_tree (of.Reserved r) ≡ Right (Right (Right (Right (Left (reserved_tree number_tree r)))))
-item_reserved r = ap message_item_tree (sym (of.rolls-Reserved r)) ∙ fold-roll-MessageItem Tree Tree item_step message_step (opened.Reserved r)
+pub item_reserved : (r : Reserved NumberLiteral)
+    → message_item_tree (of.Reserved r) ≡ Right (Right (Right (Right (Left (reserved_tree number_tree r)))))
+item_reserved r = ap message_item_tree (sym (of.rolls-Reserved r))
+    ∙ fold-roll-MessageItem Tree Tree item_step message_step (opened.Reserved r)
 
 pub item_map : (m : MapField) → message_item_tree (of.Map m) ≡ Right (Right (Right (Right (Right (Left (map_tree m))))))
-item_map m = ap message_item_tree (sym (of.rolls-Map m)) ∙ fold-roll-MessageItem Tree Tree item_step message_step (opened.Map m)
+item_map m = ap message_item_tree (sym (of.rolls-Map m))
+    ∙ fold-roll-MessageItem Tree Tree item_step message_step (opened.Map m)
 
-pub item_empty : (s : Span) → message_item_tree (of.Empty s) ≡ Right (Right (Right (Right (Right (Right (Left (symbol_tree 59 s)))))))
-item_empty s = ap message_item_tree (sym (of.rolls-Empty s)) ∙ fold-roll-MessageItem Tree Tree item_step message_step (opened.Empty s)
+pub item_empty : (s : Span) → message_item_tree (of.Empty s)
+    ≡ Right (Right (Right (Right (Right (Right (Left (symbol_tree 59 s)))))))
+item_empty s = ap message_item_tree (sym (of.rolls-Empty s))
+    ∙ fold-roll-MessageItem Tree Tree item_step message_step (opened.Empty s)
 
-pub item_field : (f : Field) → message_item_tree (of.Field f) ≡ Right (Right (Right (Right (Right (field_statement_tree f.label f.field_type f.declarator)))))
-item_field f = ap message_item_tree (sym (of.rolls-Field f)) ∙ fold-roll-MessageItem Tree Tree item_step message_step (opened.Field f)
+pub item_field : (f : Field) → message_item_tree (of.Field f)
+    ≡ Right (Right (Right (Right (Right (field_statement_tree f.label f.field_type f.declarator)))))
+item_field f = ap message_item_tree (sym (of.rolls-Field f))
+    ∙ fold-roll-MessageItem Tree Tree item_step message_step (opened.Field f)
 
 pub fold_message : (m : Message) → fold-Message Tree Tree item_step message_step m ≡ message_tree m
 fold_message m = fold_out-Message Tree Tree item_step message_step m
-    ∙ ap (λ r. block_tree (codes "message") m.keyword m.name m.open_brace r m.close_brace) (row_map message_item_tree m.items)
+    ∙ ap (λ r. block_tree (codes "message") m.keyword m.name m.open_brace r m.close_brace)
+      (row_map message_item_tree m.items)
 
 pub item_message : (m : Message) → message_item_tree (of.Message m) ≡ Left (message_tree m)
 item_message m =
-    ap message_item_tree (sym (of.rolls-Message m)) ∙ fold-roll-MessageItem Tree Tree item_step message_step (opened.Message m) ∙ ap Left (fold_message m)
+    ap message_item_tree (sym (of.rolls-Message m))
+      ∙ fold-roll-MessageItem Tree Tree item_step message_step (opened.Message m) ∙ ap Left (fold_message m)
 
 -- a field whose type begins with the word `map`
 named_map : (n : FullName) (d : Declarator) → n.first.text ≡ codes "map"
-    → unlabelled_tree None n d ≡ Left (Pair (name_tree n.first) (Pair (Right (row part_tree n.rest)) (declarator_tree d)))
+    → unlabelled_tree None n d
+      ≡ Left (Pair (name_tree n.first) (Pair (Right (row part_tree n.rest)) (declarator_tree d)))
 named_map n d e = by_cases (bytes_eq n.first.text (codes "map")) ((bytes_eq-Decides n.first.text (codes "map")).1 e)
     (Left (Pair (name_tree n.first) (Pair (Right (row part_tree n.rest)) (declarator_tree d))))
     (Right (Right (Pair (Right (Right (Right (full_tree n)))) (declarator_tree d))))
@@ -71,15 +84,20 @@ named_map n d e = by_cases (bytes_eq n.first.text (codes "map")) ((bytes_eq-Deci
     by_cases false h x y = cc
 
 pub item_named : (n : FullName) (d : Declarator) → n.first.text ≡ codes "map"
-    → message_item_tree (of.Field (record { label = None; field_type = Named (record { dot = None; name = n }); declarator = d }))
-    ≡ Right (Right (Right (Right (Right (Left (Pair (name_tree n.first) (Pair (Right (row part_tree n.rest)) (declarator_tree d))))))))
-item_named n d e = item_field (record { label = None; field_type = Named (record { dot = None; name = n }); declarator = d })
+    → message_item_tree
+      (of.Field (record { label = None; field_type = Named (record { dot = None; name = n }); declarator = d }))
+    ≡ Right (Right
+      (Right (Right
+      (Right (Left (Pair (name_tree n.first) (Pair (Right (row part_tree n.rest)) (declarator_tree d))))))))
+item_named n d e =
+    item_field (record { label = None; field_type = Named (record { dot = None; name = n }); declarator = d })
     ∙ ap (λ x. Right (Right (Right (Right (Right x))))) (named_map n d e)
 
 -- and one whose type does not
 not_named : (n : FullName) (d : Declarator) → bytes_eq n.first.text (codes "map") ≡ false
     → unlabelled_tree None n d ≡ Right (Right (Pair (Right (Right (Right (full_tree n)))) (declarator_tree d)))
-not_named n d e = by_cases (bytes_eq n.first.text (codes "map")) e (Left (Pair (name_tree n.first) (Pair (Right (row part_tree n.rest)) (declarator_tree d))))
+not_named n d e = by_cases (bytes_eq n.first.text (codes "map")) e
+    (Left (Pair (name_tree n.first) (Pair (Right (row part_tree n.rest)) (declarator_tree d))))
     (Right (Right (Pair (Right (Right (Right (full_tree n)))) (declarator_tree d))))
   where
     by_cases : (b : Bool) → b ≡ false → (x y : Tree) → cond b x y ≡ y
@@ -98,11 +116,15 @@ not_among_right : (w : List ℕ) (us vs : List (List ℕ)) → not (among w (us 
 not_among_right w [] vs h = h
 not_among_right w (u ∷ us) vs h = not_among_right w us vs (not_or_right (bytes_eq w u) (among w (us ++ vs)) h)
 
-not_map : (w : List ℕ) → not (among w (scalar_words ++ (codes "map" ∷ statement_words))) ≡ true → bytes_eq w (codes "map") ≡ false
-not_map w h = not_or_left (bytes_eq w (codes "map")) (among w statement_words) (not_among_right w scalar_words (codes "map" ∷ statement_words) h)
+not_map : (w : List ℕ) → not (among w (scalar_words ++ (codes "map" ∷ statement_words))) ≡ true
+    → bytes_eq w (codes "map") ≡ false
+not_map w h = not_or_left (bytes_eq w (codes "map")) (among w statement_words)
+    (not_among_right w scalar_words (codes "map" ∷ statement_words) h)
 
-unlabelled_of : (dot : Option Span) (n : FullName) (d : Declarator) → IsTree field_head (field_head_tree None (Named (record { dot = dot; name = n })))
-    → unlabelled_tree dot n d ≡ Right (Right (Pair (field_head_tree None (Named (record { dot = dot; name = n }))) (declarator_tree d)))
+unlabelled_of : (dot : Option Span) (n : FullName) (d : Declarator)
+    → IsTree field_head (field_head_tree None (Named (record { dot = dot; name = n })))
+    → unlabelled_tree dot n d
+      ≡ Right (Right (Pair (field_head_tree None (Named (record { dot = dot; name = n }))) (declarator_tree d)))
 unfolding field_head type_but named_but
 unlabelled_of None n d (second (second (second (both (one h) i)))) = not_named n d (not_map n.first.text h)
 unlabelled_of (Some dot) n d i = refl
@@ -113,11 +135,13 @@ statement_of None (Named n) d i = unlabelled_of n.dot n.name d i
 statement_of None (Scalar s span) d i = refl
 statement_of (Some l) t d i = refl
 
-field_of : (f : Field) → IsTree field (field_tree f) → field_statement_tree f.label f.field_type f.declarator ≡ Right (Right (field_tree f))
+field_of : (f : Field) → IsTree field (field_tree f)
+    → field_statement_tree f.label f.field_type f.declarator ≡ Right (Right (field_tree f))
 unfolding field
 field_of f (both i j) = statement_of f.label f.field_type f.declarator i
 
 -- a field, where the rule of fields has it
 pub item_other : (f : Field) (ts us : List Spelled) → read field ts ≡ Read (field_tree f) us
     → message_item_tree (of.Field f) ≡ Right (Right (Right (Right (Right (Right (Right (field_tree f)))))))
-item_other f ts us e = item_field f ∙ ap (λ x. Right (Right (Right (Right (Right x))))) (field_of f (read_found field ts (field_tree f) us e).0)
+item_other f ts us e = item_field f ∙ ap (λ x. Right (Right (Right (Right (Right x)))))
+    (field_of f (read_found field ts (field_tree f) us e).0)

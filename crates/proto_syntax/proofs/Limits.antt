@@ -32,7 +32,8 @@ above_is zero k = omega arith
 above_is (suc d) k = omega (arith, above_is d k)
 
 item_deeper : (m m' : Grammar) → Deeper m m' → Deeper (message_item m) (message_item m')
-unfolding str parts full named_but type_but signed constant_number constant setting options option erange ereserved value range reserved declarator member oneof
+unfolding str parts full named_but type_but signed constant_number constant setting options option erange ereserved
+  value range reserved declarator member oneof
     map_type map_or_field field_head field
 item_deeper m m' h = in_either h (kept (enum ∣ option ∣ oneof ∣ reserved ∣ map_or_field ∣ symbol ";" ∣ field) refl)
 
@@ -40,17 +41,25 @@ message_deeper : (d k : ℕ) → Deeper (message d) (message (above d k))
 unfolding message
 message_deeper zero k = allowed refl refl (λ t h. within (token h)) (λ t ts h. rw h refl) refl
 message_deeper (suc d) k =
-    in_both same_one (in_both same_one (in_both same_one (in_both (in_many (item_deeper (message d) (message (above d k)) (message_deeper d k))) same_one)))
+    in_both same_one
+      (in_both same_one
+      (in_both same_one
+      (in_both (in_many (item_deeper (message d) (message (above d k)) (message_deeper d k))) same_one)))
 
 statement_deeper : (m m' : Grammar) → Deeper m m' → Deeper (statement m) (statement m')
-unfolding str parts full named_but signed constant_number constant setting options option rpc_type rpc_body rpc service erange ereserved value import
+unfolding str parts full named_but signed constant_number constant setting options option rpc_type rpc_body rpc service
+  erange ereserved value import
 statement_deeper m m' h =
-    in_either (kept import refl) (in_either (kept «package» refl) (in_either (kept option refl) (in_either h (kept (enum ∣ service ∣ symbol ";") refl))))
+    in_either (kept import refl)
+      (in_either (kept «package» refl)
+      (in_either (kept option refl) (in_either h (kept (enum ∣ service ∣ symbol ";") refl))))
 
 pub file_deeper : (d k : ℕ) → Deeper (file d) (file (above d k))
 unfolding syntax str file
-file_deeper d k = in_both (kept syntax refl) (in_many (statement_deeper (message d) (message (above d k)) (message_deeper d k)))
+file_deeper d k = in_both (kept syntax refl)
+    (in_many (statement_deeper (message d) (message (above d k)) (message_deeper d k)))
 
 -- a limit above both
 pub file_deeper_other : (d k : ℕ) → Deeper (file k) (file (above d k))
-file_deeper_other d k = let e : above k d ≡ above d k = omega (arith, above_is d k, above_is k d) in subst (λ n. Deeper (file k) (file n)) e (file_deeper k d)
+file_deeper_other d k = let e : above k d ≡ above d k = omega (arith, above_is d k, above_is k d) in
+    subst (λ n. Deeper (file k) (file n)) e (file_deeper k d)

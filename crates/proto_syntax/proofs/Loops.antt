@@ -14,15 +14,18 @@ use Rattle.proto_syntax.proofs.Complete.{not_empty_longer}
 use Rattle.proto_syntax.proofs.Reach.{read_found}
 
 -- a part that is not empty takes a token
-pub shorter : (g : Grammar) (x : Tree) (ts us : List Spelled) → can_be_empty g ≡ false → read g ts ≡ Read x us → length us < length ts
+pub shorter : (g : Grammar) (x : Tree) (ts us : List Spelled) → can_be_empty g ≡ false → read g ts ≡ Read x us
+    → length us < length ts
 shorter g x ts us h e =
     let s = read_found g ts x us e in
     subst (λ ws. length us < length ws) (sym s.1) (not_empty_longer g (flatten x) us (tree_starts s.0) h)
 
 -- how far the counter goes doesn't matter, if it goes far enough
 same_after : (g : Grammar) (m n : ℕ) (ts : List Spelled) → (o : Outcome) → read g ts ≡ o
-    → ((x : Tree) (us : List Spelled) → read g ts ≡ Read x us → read_many (read g) (begins g) m us ≡ read_many (read g) (begins g) n us)
-    → after o (λ x us. mapped (Pair x) (read_many (read g) (begins g) m us)) ≡ after o (λ x us. mapped (Pair x) (read_many (read g) (begins g) n us))
+    → ((x : Tree) (us : List Spelled) → read g ts ≡ Read x us
+    → read_many (read g) (begins g) m us ≡ read_many (read g) (begins g) n us)
+    → after o (λ x us. mapped (Pair x) (read_many (read g) (begins g) m us)) ≡ after o
+      (λ x us. mapped (Pair x) (read_many (read g) (begins g) n us))
 same_after g m n ts (Read x us) e h = ap (mapped (Pair x)) (h x us e)
 same_after g m n ts (Stops d us) e h = refl
 
@@ -38,19 +41,22 @@ same_many g h zero (suc n) (t ∷ ts) i j = absurd (omega arith)
 same_many g h (suc m) zero [] i j = refl
 same_many g h (suc m) zero (t ∷ ts) i j = absurd (omega arith)
 same_many g h (suc m) (suc n) ts i j =
-    same_turn (next_fits (begins g) ts) (after (read g ts) (λ x us. mapped (Pair x) (read_many (read g) (begins g) m us)))
+    same_turn (next_fits (begins g) ts)
+      (after (read g ts) (λ x us. mapped (Pair x) (read_many (read g) (begins g) m us)))
     (after (read g ts) (λ x us. mapped (Pair x) (read_many (read g) (begins g) n us))) (Read Empty ts)
     (λ _. same_after g m n ts (read g ts) refl (λ x us e. let k : length us < length ts = shorter g x ts us h e in
     same_many g h m n us (omega arith) (omega arith)))
 
-pub many_more : (g : Grammar) (x : Tree) (ts us : List Spelled) → can_be_empty g ≡ false → next_fits (begins g) ts ≡ true → read g ts ≡ Read x us
+pub many_more : (g : Grammar) (x : Tree) (ts us : List Spelled) → can_be_empty g ≡ false
+    → next_fits (begins g) ts ≡ true → read g ts ≡ Read x us
     → read (Many g) ts ≡ mapped (Pair x) (read (Many g) us)
 many_more g x [] us h e i = cc
 many_more g x (t ∷ ts) us h e i =
     let k : length us < length (t ∷ ts) = shorter g x (t ∷ ts) us h i in
     rw (e, i) (ap (mapped (Pair x)) (same_many g h (length ts) (length us) us (omega arith) (omega arith)))
 
-pub many_stops : (g : Grammar) (d : Bool) (ts us : List Spelled) → next_fits (begins g) ts ≡ true → read g ts ≡ Stops d us → read (Many g) ts ≡ Stops d us
+pub many_stops : (g : Grammar) (d : Bool) (ts us : List Spelled) → next_fits (begins g) ts ≡ true
+    → read g ts ≡ Stops d us → read (Many g) ts ≡ Stops d us
 many_stops g d [] us e i = cc
 many_stops g d (t ∷ ts) us e i = rw (e, i) refl
 
@@ -58,7 +64,8 @@ pub many_ends : (g : Grammar) (ts : List Spelled) → next_fits (begins g) ts �
 many_ends g [] e = refl
 many_ends g (t ∷ ts) e = rw e refl
 
-before_push : {A : Type 0} → (f : A → Tree) (xs : List A) (x : A) (t : Tree) → before f (xs ++ (x ∷ [])) t ≡ before f xs (Pair (f x) t)
+before_push : {A : Type 0} → (f : A → Tree) (xs : List A) (x : A) (t : Tree)
+    → before f (xs ++ (x ∷ [])) t ≡ before f xs (Pair (f x) t)
 before_push f [] x t = refl
 before_push f (y ∷ xs) x t = ap (Pair (f y)) (before_push f xs x t)
 
@@ -71,15 +78,19 @@ mapped_push f xs x (Stops d us) = refl
 abbrev pub Rows : {A : Type 0} → (A → Tree) → Grammar → List A → List Spelled → Outcome
 Rows f g xs ts = mapped (before f xs) (read (Many g) ts)
 
-pub rows_more : {A : Type 0} → (f : A → Tree) (g : Grammar) (xs : List A) (x : A) (ts us : List Spelled) (o : Outcome) → can_be_empty g ≡ false
+pub rows_more : {A : Type 0} → (f : A → Tree) (g : Grammar) (xs : List A) (x : A) (ts us : List Spelled) (o : Outcome)
+    → can_be_empty g ≡ false
     → next_fits (begins g) ts ≡ true → read g ts ≡ Read (f x) us → Rows f g xs ts ≡ o → Rows f g (xs ++ (x ∷ [])) us ≡ o
-rows_more f g xs x ts us o h e i k = mapped_push f xs x (read (Many g) us) ∙ ap (mapped (before f xs)) (sym (many_more g (f x) ts us h e i)) ∙ k
+rows_more f g xs x ts us o h e i k = mapped_push f xs x (read (Many g) us)
+    ∙ ap (mapped (before f xs)) (sym (many_more g (f x) ts us h e i)) ∙ k
 
-pub rows_stop : {A : Type 0} → (f : A → Tree) (g : Grammar) (xs : List A) (d : Bool) (ts us : List Spelled) (o : Outcome) → next_fits (begins g) ts ≡ true
+pub rows_stop : {A : Type 0} → (f : A → Tree) (g : Grammar) (xs : List A) (d : Bool) (ts us : List Spelled)
+    (o : Outcome) → next_fits (begins g) ts ≡ true
     → read g ts ≡ Stops d us → Rows f g xs ts ≡ o → o ≡ Stops d us
 rows_stop f g xs d ts us o e i k = sym k ∙ ap (mapped (before f xs)) (many_stops g d ts us e i)
 
-pub rows_end : {A : Type 0} → (f : A → Tree) (g : Grammar) (xs : List A) (ts : List Spelled) (o : Outcome) → next_fits (begins g) ts ≡ false
+pub rows_end : {A : Type 0} → (f : A → Tree) (g : Grammar) (xs : List A) (ts : List Spelled) (o : Outcome)
+    → next_fits (begins g) ts ≡ false
     → Rows f g xs ts ≡ o → o ≡ Read (before f xs Empty) ts
 rows_end f g xs ts o e k = sym k ∙ ap (mapped (before f xs)) (many_ends g ts e)
 
@@ -91,13 +102,16 @@ rows_none f g ts = by_cases (read (Many g) ts)
     by_cases (Stops d us) = refl
 
 -- the same of the tokens of the code
-pub fewer_left : (g : Grammar) (x : Tree) (ts us : List Token) → can_be_empty g ≡ false → read g (spellings ts) ≡ Read x (spellings us) → length us < length ts
+pub fewer_left : (g : Grammar) (x : Tree) (ts us : List Token) → can_be_empty g ≡ false
+    → read g (spellings ts) ≡ Read x (spellings us) → length us < length ts
 fewer_left g x ts us h e = let k : length (spellings us) < length (spellings ts) =
     shorter g x (spellings ts) (spellings us) h e in omega (arith, length-map us spelled, length-map ts spelled)
 
--- A token with which a part does not begin is left: by a part that can be empty, with nothing read, and by another as its fault.
+-- A token with which a part does not begin is left: by a part that can be empty, with nothing read, and by another as
+-- its fault.
 abbrev pub Passes : Grammar → List Spelled → Type 0
-Passes g ts = (can_be_empty g ≡ true → (x : Tree) × (read g ts ≡ Read x ts)) × (can_be_empty g ≡ false → read g ts ≡ Stops false ts)
+Passes g ts = (can_be_empty g ≡ true → (x : Tree) × (read g ts ≡ Read x ts))
+    × (can_be_empty g ≡ false → read g ts ≡ Stops false ts)
 
 pub one_passes : (c : Class) (ts : List Spelled) → next_fits (c ∷ []) ts ≡ false → read_one c ts ≡ Stops false ts
 one_passes c [] h = refl
@@ -107,27 +121,32 @@ beyond_passes : (c : Class) (ts : List Spelled) → next_fits (c ∷ []) ts ≡ 
 beyond_passes c [] h = refl
 beyond_passes c (t ∷ ts) h = rw (or_parts (fits c t.lexeme) false h).0 refl
 
-seq_skips : (a b : Grammar) (x y : Tree) (ts : List Spelled) → read a ts ≡ Read x ts → read b ts ≡ Read y ts → read (a ⨾ b) ts ≡ Read (Pair x y) ts
+seq_skips : (a b : Grammar) (x y : Tree) (ts : List Spelled) → read a ts ≡ Read x ts → read b ts ≡ Read y ts
+    → read (a ⨾ b) ts ≡ Read (Pair x y) ts
 seq_skips a b x y ts h i = rw (h, i) refl
 
 seq_stops : (a b : Grammar) (d : Bool) (ts us : List Spelled) → read a ts ≡ Stops d us → read (a ⨾ b) ts ≡ Stops d us
 seq_stops a b d ts us h = rw h refl
 
-seq_stops_later : (a b : Grammar) (x : Tree) (d : Bool) (ts us vs : List Spelled) → read a ts ≡ Read x us → read b us ≡ Stops d vs
+seq_stops_later : (a b : Grammar) (x : Tree) (d : Bool) (ts us vs : List Spelled) → read a ts ≡ Read x us
+    → read b us ≡ Stops d vs
     → read (a ⨾ b) ts ≡ Stops d vs
 seq_stops_later a b x d ts us vs h i = rw (h, i) refl
 
-right_skips : (a b : Grammar) (y : Tree) (ts : List Spelled) → next_fits (begins a) ts ≡ false → read b ts ≡ Read y ts → read (a ∣ b) ts ≡ Read (Right y) ts
+right_skips : (a b : Grammar) (y : Tree) (ts : List Spelled) → next_fits (begins a) ts ≡ false → read b ts ≡ Read y ts
+    → read (a ∣ b) ts ≡ Read (Right y) ts
 right_skips a b y ts e h = rw (e, h) refl
 
-right_stops : (a b : Grammar) (d : Bool) (ts us : List Spelled) → next_fits (begins a) ts ≡ false → read b ts ≡ Stops d us → read (a ∣ b) ts ≡ Stops d us
+right_stops : (a b : Grammar) (d : Bool) (ts us : List Spelled) → next_fits (begins a) ts ≡ false
+    → read b ts ≡ Stops d us → read (a ∣ b) ts ≡ Stops d us
 right_stops a b d ts us e h = rw (e, h) refl
 
 and_cases : (a b : Bool) → (a && b) ≡ false → (a ≡ false) ⊎ ((a ≡ true) × (b ≡ false))
 and_cases true b h = inr (refl, h)
 and_cases false b h = inl refl
 
-seq_passes : (a b : Grammar) (ts : List Spelled) → next_fits (begins a ++ cond (can_be_empty a) (begins b) []) ts ≡ false → Passes a ts
+seq_passes : (a b : Grammar) (ts : List Spelled)
+    → next_fits (begins a ++ cond (can_be_empty a) (begins b) []) ts ≡ false → Passes a ts
     → (next_fits (begins b) ts ≡ false → Passes b ts) → Passes (a ⨾ b) ts
 seq_passes a b ts h p q = (
   λ e. let w = and_parts (can_be_empty a) (can_be_empty b) e in
@@ -141,9 +160,11 @@ seq_passes a b ts h p q = (
 )
   where
     rest : can_be_empty a ≡ true → next_fits (begins b) ts ≡ false
-    rest e = let k : next_fits (cond (can_be_empty a) (begins b) []) ts ≡ false = next_right (begins a) (cond (can_be_empty a) (begins b) []) ts h in rw e at k
+    rest e = let k : next_fits (cond (can_be_empty a) (begins b) []) ts ≡ false =
+        next_right (begins a) (cond (can_be_empty a) (begins b) []) ts h in rw e at k
 
-choice_passes : (a b : Grammar) (ts : List Spelled) → can_be_empty a ≡ false → next_fits (begins a) ts ≡ false → Passes b ts → Passes (a ∣ b) ts
+choice_passes : (a b : Grammar) (ts : List Spelled) → can_be_empty a ≡ false → next_fits (begins a) ts ≡ false
+    → Passes b ts → Passes (a ∣ b) ts
 choice_passes a b ts ea e q = (
   λ h. let k : can_be_empty b ≡ true = rw ea at h in let y = q.0 k in (Right y.0, right_skips a b y.0 ts e y.1),
   λ h. let k : can_be_empty b ≡ false = rw ea at h in right_stops a b false ts ts e (q.1 k),
@@ -159,7 +180,8 @@ passes (a ⨾ b) d ts h =
 passes (a ∣ b) d ts h =
     let w = and_parts (decides a) (decides b && (not (can_be_empty a) && all_apart (begins a) (begins b))) d in
     let v = and_parts (decides b) (not (can_be_empty a) && all_apart (begins a) (begins b)) w.1 in
-    choice_passes a b ts (not-true (can_be_empty a) (and_parts (not (can_be_empty a)) (all_apart (begins a) (begins b)) v.1).0)
+    choice_passes a b ts
+      (not-true (can_be_empty a) (and_parts (not (can_be_empty a)) (all_apart (begins a) (begins b)) v.1).0)
     (next_left (begins a) (begins b) ts h) (passes b v.0 ts (next_right (begins a) (begins b) ts h))
 passes (Many a) d ts h = (λ _. (Empty, many_ends a ts h), λ e. cc)
 passes (Beyond c) d ts h = (λ e. cc, λ _. beyond_passes c ts h)
@@ -176,7 +198,8 @@ items_not_empty g c d =
     let v = and_parts (decides g) (not (can_be_empty g) && all_apart (goes_on g) (begins g)) w.0 in
     not-true (can_be_empty g) (and_parts (not (can_be_empty g)) (all_apart (goes_on g) (begins g)) v.1).0
 
-pub items_closed : (g c : Grammar) → decides (Many g ⨾ c) ≡ true → (ts : List Spelled) → next_fits (begins c) ts ≡ true → next_fits (begins g) ts ≡ false
+pub items_closed : (g c : Grammar) → decides (Many g ⨾ c) ≡ true → (ts : List Spelled) → next_fits (begins c) ts ≡ true
+    → next_fits (begins g) ts ≡ false
 items_closed g c d [] e = refl
 items_closed g c d (t ∷ ts) e =
     let w = and_parts (decides (Many g)) (decides c && all_apart (begins g ++ goes_on g) (begins c)) d in
@@ -187,14 +210,17 @@ items_closed g c d (t ∷ ts) e =
 abbrev pub Closes : {A : Type 0} → (A → Tree) → Grammar → Grammar → List A → List Spelled → Outcome
 Closes f g c xs ts = after (Rows f g xs ts) (λ x us. mapped (Pair x) (read c us))
 
-after_ap : (o o' : Outcome) (c : Grammar) → o ≡ o' → after o (λ x us. mapped (Pair x) (read c us)) ≡ after o' (λ x us. mapped (Pair x) (read c us))
+after_ap : (o o' : Outcome) (c : Grammar) → o ≡ o'
+    → after o (λ x us. mapped (Pair x) (read c us)) ≡ after o' (λ x us. mapped (Pair x) (read c us))
 after_ap o o' c e = ap (λ z. after z (λ x us. mapped (Pair x) (read c us))) e
 
-pub closes_none : {A : Type 0} → (f : A → Tree) (g c : Grammar) (ts : List Spelled) → Closes f g c [] ts ≡ read (Many g ⨾ c) ts
+pub closes_none : {A : Type 0} → (f : A → Tree) (g c : Grammar) (ts : List Spelled)
+    → Closes f g c [] ts ≡ read (Many g ⨾ c) ts
 closes_none f g c ts = after_ap (Rows f g [] ts) (read (Many g) ts) c (rows_none f g ts)
 
 -- a token that is read begins the part
-read_begins : (g : Grammar) (x : Tree) (ts us : List Spelled) → decides g ≡ true → can_be_empty g ≡ false → read g ts ≡ Read x us
+read_begins : (g : Grammar) (x : Tree) (ts us : List Spelled) → decides g ≡ true → can_be_empty g ≡ false
+    → read g ts ≡ Read x us
     → next_fits (begins g) ts ≡ true
 read_begins g x ts us d h e = by_cases (next_fits (begins g) ts) refl
   where
@@ -202,7 +228,8 @@ read_begins g x ts us d h e = by_cases (next_fits (begins g) ts) refl
     by_cases true i = refl
     by_cases false i = let k : read g ts ≡ Stops false ts = (passes g d ts i).1 h in cc
 
-pub closes_more : {A : Type 0} → (f : A → Tree) (g c : Grammar) (xs : List A) (x : A) (ts us : List Spelled) (o : Outcome) → decides (Many g ⨾ c) ≡ true
+pub closes_more : {A : Type 0} → (f : A → Tree) (g c : Grammar) (xs : List A) (x : A) (ts us : List Spelled)
+    (o : Outcome) → decides (Many g ⨾ c) ≡ true
     → read g ts ≡ Read (f x) us → Closes f g c xs ts ≡ o → Closes f g c (xs ++ (x ∷ [])) us ≡ o
 closes_more f g c xs x ts us o d i k =
     let h = items_not_empty g c d in
@@ -210,22 +237,29 @@ closes_more f g c xs x ts us o d i k =
     (rows_more f g xs x ts us (Rows f g xs ts) h (read_begins g (f x) ts us (items_decide g c d) h i) i refl)
     ∙ k
 
-closes_at : {A : Type 0} → (f : A → Tree) (g c : Grammar) (xs : List A) (ts : List Spelled) → next_fits (begins g) ts ≡ false
+closes_at : {A : Type 0} → (f : A → Tree) (g c : Grammar) (xs : List A) (ts : List Spelled)
+    → next_fits (begins g) ts ≡ false
     → Closes f g c xs ts ≡ mapped (Pair (before f xs Empty)) (read c ts)
-closes_at f g c xs ts e = after_ap (Rows f g xs ts) (Read (before f xs Empty) ts) c (rows_end f g xs ts (Rows f g xs ts) e refl)
+closes_at f g c xs ts e = after_ap (Rows f g xs ts) (Read (before f xs Empty) ts) c
+    (rows_end f g xs ts (Rows f g xs ts) e refl)
 
-pub closes_stop : {A : Type 0} → (f : A → Tree) (g c : Grammar) (xs : List A) (b : Bool) (ts us : List Spelled) (o : Outcome) → decides (Many g ⨾ c) ≡ true
+pub closes_stop : {A : Type 0} → (f : A → Tree) (g c : Grammar) (xs : List A) (b : Bool) (ts us : List Spelled)
+    (o : Outcome) → decides (Many g ⨾ c) ≡ true
     → read c ts ≡ Stops false ts → read g ts ≡ Stops b us → Closes f g c xs ts ≡ o → o ≡ Stops b us
 closes_stop f g c xs b ts us o d j i k = by_cases (next_fits (begins g) ts) refl
   where
     by_cases : (z : Bool) → next_fits (begins g) ts ≡ z → o ≡ Stops b us
-    by_cases true e = sym k ∙ after_ap (Rows f g xs ts) (Stops b us) c (rows_stop f g xs b ts us (Rows f g xs ts) e i refl)
+    by_cases true e = sym k ∙ after_ap (Rows f g xs ts) (Stops b us) c
+        (rows_stop f g xs b ts us (Rows f g xs ts) e i refl)
     by_cases false e = sym k ∙ closes_at f g c xs ts e ∙ ap (mapped (Pair (before f xs Empty))) j
         ∙ sym ((passes g (items_decide g c d) ts e).1 (items_not_empty g c d)) ∙ i
 
-pub closes_end : {A : Type 0} → (f : A → Tree) (g c : Grammar) (xs : List A) (y : Tree) (ts us : List Spelled) (o : Outcome) → decides (Many g ⨾ c) ≡ true
-    → next_fits (begins c) ts ≡ true → read c ts ≡ Read y us → Closes f g c xs ts ≡ o → o ≡ Read (Pair (before f xs Empty) y) us
-closes_end f g c xs y ts us o d e i k = sym k ∙ closes_at f g c xs ts (items_closed g c d ts e) ∙ ap (mapped (Pair (before f xs Empty))) i
+pub closes_end : {A : Type 0} → (f : A → Tree) (g c : Grammar) (xs : List A) (y : Tree) (ts us : List Spelled)
+    (o : Outcome) → decides (Many g ⨾ c) ≡ true
+    → next_fits (begins c) ts ≡ true → read c ts ≡ Read y us → Closes f g c xs ts ≡ o
+    → o ≡ Read (Pair (before f xs Empty) y) us
+closes_end f g c xs y ts us o d e i k = sym k ∙ closes_at f g c xs ts (items_closed g c d ts e)
+    ∙ ap (mapped (Pair (before f xs Empty))) i
 
 pub ended_mapped : (f : Tree → Tree) (o : Outcome) → ended (mapped f o) ≡ mapped f (ended o)
 ended_mapped f (Read x []) = refl
@@ -236,17 +270,22 @@ ended_mapped f (Stops d us) = refl
 abbrev pub Ends : {A : Type 0} → (A → Tree) → Grammar → List A → List Spelled → Outcome
 Ends f g xs ts = ended (Rows f g xs ts)
 
-pub ends_none : {A : Type 0} → (f : A → Tree) (g : Grammar) (ts : List Spelled) → Ends f g [] ts ≡ ended (read (Many g) ts)
+pub ends_none : {A : Type 0} → (f : A → Tree) (g : Grammar) (ts : List Spelled)
+    → Ends f g [] ts ≡ ended (read (Many g) ts)
 ends_none f g ts = ap ended (rows_none f g ts)
 
-pub ends_more : {A : Type 0} → (f : A → Tree) (g : Grammar) (xs : List A) (x : A) (ts us : List Spelled) (o : Outcome) → decides g ≡ true
+pub ends_more : {A : Type 0} → (f : A → Tree) (g : Grammar) (xs : List A) (x : A) (ts us : List Spelled) (o : Outcome)
+    → decides g ≡ true
     → can_be_empty g ≡ false → read g ts ≡ Read (f x) us → Ends f g xs ts ≡ o → Ends f g (xs ++ (x ∷ [])) us ≡ o
-ends_more f g xs x ts us o d h i k = ap ended (rows_more f g xs x ts us (Rows f g xs ts) h (read_begins g (f x) ts us d h i) i refl) ∙ k
+ends_more f g xs x ts us o d h i k =
+    ap ended (rows_more f g xs x ts us (Rows f g xs ts) h (read_begins g (f x) ts us d h i) i refl) ∙ k
 
-pub ends_stop : {A : Type 0} → (f : A → Tree) (g : Grammar) (xs : List A) (d : Bool) (t : Spelled) (ts us : List Spelled) (o : Outcome) → decides g ≡ true
+pub ends_stop : {A : Type 0} → (f : A → Tree) (g : Grammar) (xs : List A) (d : Bool) (t : Spelled)
+    (ts us : List Spelled) (o : Outcome) → decides g ≡ true
     → can_be_empty g ≡ false → read g (t ∷ ts) ≡ Stops d us → Ends f g xs (t ∷ ts) ≡ o → o ≡ Stops d us
 ends_stop f g xs d t ts us o dg h i k = by_cases (next_fits (begins g) (t ∷ ts)) refl
   where
     by_cases : (z : Bool) → next_fits (begins g) (t ∷ ts) ≡ z → o ≡ Stops d us
     by_cases true e = sym k ∙ ap ended (rows_stop f g xs d (t ∷ ts) us (Rows f g xs (t ∷ ts)) e i refl)
-    by_cases false e = sym k ∙ ap ended (rows_end f g xs (t ∷ ts) (Rows f g xs (t ∷ ts)) e refl) ∙ sym ((passes g dg (t ∷ ts) e).1 h) ∙ i
+    by_cases false e = sym k ∙ ap ended (rows_end f g xs (t ∷ ts) (Rows f g xs (t ∷ ts)) e refl)
+        ∙ sym ((passes g dg (t ∷ ts) e).1 h) ∙ i

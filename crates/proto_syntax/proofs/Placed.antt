@@ -11,15 +11,18 @@ use Rattle.proto_syntax.specs.Trees.{file_tree}
 use Rattle.proto_syntax.specs.declared.error.ParseError.{ParseError}
 use Rattle.proto_syntax.specs.declared.error.ParseError.TheVariants.{NoMemory, At}
 
-start_within : (n end : ℕ) (tokens : List Token) (k : ℕ) → ((j : ℕ) (d : Token) → j < length tokens → (get_or tokens j d).span.start.offset ≤ n)
+start_within : (n end : ℕ) (tokens : List Token) (k : ℕ)
+    → ((j : ℕ) (d : Token) → j < length tokens → (get_or tokens j d).span.start.offset ≤ n)
     → end ≤ n → place_of_token (map spelled tokens) k end ≤ n
 start_within n end [] zero begin last = last
 start_within n end [] (suc k) begin last = last
 start_within n end (t ∷ tokens) zero begin last = begin 0 t (omega arith)
-start_within n end (t ∷ tokens) (suc k) begin last = start_within n end tokens k (λ j d h. begin (suc j) d (omega (arith, h))) last
+start_within n end (t ∷ tokens) (suc k) begin last =
+    start_within n end tokens k (λ j d h. begin (suc j) d (omega (arith, h))) last
 
 pub fault_within : (n depth : ℕ) (tokens : Tokens) (r : Result FileTree ParseError) → LieWithin n tokens
-    → MatchResult r (λ file. IsTreeOf depth (tokens_of tokens) (file_tree file)) (IsFaultOf depth tokens) → IfErr r (IsPlacedWithin n)
+    → MatchResult r (λ file. IsTreeOf depth (tokens_of tokens) (file_tree file)) (IsFaultOf depth tokens)
+    → IfErr r (IsPlacedWithin n)
 fault_within n depth tokens (Ok file) within answer = tt
 fault_within n depth tokens (Err NoMemory) within answer = tt
 fault_within n depth tokens (Err (At place kind)) within (k, fault, is_kind, at) =

@@ -31,22 +31,26 @@ empty_prefix : (g : Grammar) (a b : List Spelled) → [] ≡ a ++ b → IsFront 
 empty_prefix g [] b e = empty
 empty_prefix g (t ∷ a) b e = cc
 
-one_prefix : (c : Class) (t : Spelled) → fits c t.lexeme ≡ true → (a b : List Spelled) → t ∷ [] ≡ a ++ b → IsFront (One c) a
+one_prefix : (c : Class) (t : Spelled) → fits c t.lexeme ≡ true → (a b : List Spelled) → t ∷ [] ≡ a ++ b
+    → IsFront (One c) a
 one_prefix c t h [] b e = empty
 one_prefix c t h (u ∷ []) b e = let p : t ≡ u = cc in subst (λ z. IsFront (One c) (z ∷ [])) p (token h)
 one_prefix c t h (u ∷ v ∷ a) b e = cc
 
-past_prefix : (g h : Grammar) → Closed g → Closed h → (x : Tree) (us : List Spelled) → IsTree g x → IsFront h us → (a b : List Spelled)
+past_prefix : (g h : Grammar) → Closed g → Closed h → (x : Tree) (us : List Spelled) → IsTree g x → IsFront h us
+    → (a b : List Spelled)
     → Cuts (flatten x) us a b → IsFront (g ⨾ h) a
 past_prefix g h p q x us ix f a b (inl (c, e)) = within (p (flatten x) (tree_front ix) a c e)
 past_prefix g h p q x us ix f a b (inr (c, e, k)) = past ix (q us f c b k) e
 
 more_prefix : (g : Grammar) → Closed g → (x y : Tree) → IsTree g x → (us : List Spelled) (a b : List Spelled)
-    → ((c d : List Spelled) → flatten y ++ us ≡ c ++ d → IsFront (Many g) c) → Cuts (flatten x) (flatten y ++ us) a b → IsFront (Many g) a
+    → ((c d : List Spelled) → flatten y ++ us ≡ c ++ d → IsFront (Many g) c) → Cuts (flatten x) (flatten y ++ us) a b
+    → IsFront (Many g) a
 more_prefix g p x y ix us a b h (inl (c, k)) = items none (p (flatten x) (tree_front ix) a c k) refl
 more_prefix g p x y ix us a b h (inr (c, k, l)) = subst (IsFront (Many g)) (sym k) (after_item g x c ix (h c b l))
 
-items_prefix : (g : Grammar) → Closed g → (x : Tree) → IsTree (Many g) x → (us : List Spelled) → IsFront g us → (a b : List Spelled) → flatten x ++ us ≡ a ++ b
+items_prefix : (g : Grammar) → Closed g → (x : Tree) → IsTree (Many g) x → (us : List Spelled) → IsFront g us
+    → (a b : List Spelled) → flatten x ++ us ≡ a ++ b
     → IsFront (Many g) a
 items_prefix g p _ none us f a b e = items none (p us f a b e) refl
 items_prefix g p _ (more {x = x} {y = y} ix iy) us f a b e =
@@ -57,7 +61,8 @@ pub closed : (g : Grammar) → Closed g
 closed g _ empty a b e = empty_prefix g a b e
 closed (One c) _ (token {t = t} h) a b e = one_prefix c t h a b e
 closed (g ⨾ h) ts (within f) a b e = within (closed g ts f a b e)
-closed (g ⨾ h) ts (past {x = x} {us = us} ix f k) a b e = past_prefix g h (closed g) (closed h) x us ix f a b (cuts (flatten x) us a b (sym k ∙ e))
+closed (g ⨾ h) ts (past {x = x} {us = us} ix f k) a b e =
+    past_prefix g h (closed g) (closed h) x us ix f a b (cuts (flatten x) us a b (sym k ∙ e))
 closed (g ∣ h) ts (of_first f) a b e = of_first (closed g ts f a b e)
 closed (g ∣ h) ts (of_second f) a b e = of_second (closed h ts f a b e)
 closed (Many g) ts (items {x = x} {us = us} ix f k) a b e = items_prefix g (closed g) x ix us f a b (sym k ∙ e)
@@ -70,10 +75,12 @@ take_take (suc j) (suc k) (t ∷ ts) h = ap (λ z. t ∷ z) (take_take j k ts (o
 
 shorter_front : (g : Grammar) (ts : List Spelled) (j k : ℕ) → j ≤ k → IsFront g (take k ts) → IsFront g (take j ts)
 shorter_front g ts j k h f =
-    closed g (take k ts) f (take j ts) (drop j (take k ts)) (sym (take-append-drop j (take k ts)) ∙ ap (λ z. z ++ drop j (take k ts)) (take_take j k ts h))
+    closed g (take k ts) f (take j ts) (drop j (take k ts))
+      (sym (take-append-drop j (take k ts)) ∙ ap (λ z. z ++ drop j (take k ts)) (take_take j k ts h))
 
 no_earlier : (limit : ℕ) (ts : List Spelled) (j k : ℕ) → IsFaultAt limit ts j → IsFaultAt limit ts k → j < k → ⊥
-no_earlier limit ts j k h i l = h.no_front (let n : k ≤ length ts = i.within in omega arith) (shorter_front (file limit) ts (j + 1) k (omega arith) i.front)
+no_earlier limit ts j k h i l = h.no_front (let n : k ≤ length ts = i.within in omega arith)
+    (shorter_front (file limit) ts (j + 1) k (omega arith) i.front)
 
 pub one_fault : (limit : ℕ) (ts : List Spelled) (j k : ℕ) → IsFaultAt limit ts j → IsFaultAt limit ts k → j ≡ k
 one_fault limit ts j k h i =

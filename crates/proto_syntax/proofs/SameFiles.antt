@@ -38,7 +38,8 @@ unfolding as_field
 as_field_statement None (Named n) d = unlabelled n.dot n.name
   where
     by_cases : (b : Bool) (w r : Tree) → as_field (cond b (Left (Pair w (Pair (Right r) (declarator_tree d))))
-        (Right (Right (Pair (Right (Right (Right (Pair w r)))) (declarator_tree d))))) ≡ Pair (Right (Right (Right (Pair w r)))) (declarator_tree d)
+        (Right (Right (Pair (Right (Right (Right (Pair w r)))) (declarator_tree d)))))
+          ≡ Pair (Right (Right (Right (Pair w r)))) (declarator_tree d)
     by_cases true w r = refl
     by_cases false w r = refl
 
@@ -57,11 +58,13 @@ same_field_head (Some l) (Some m) t u e =
 same_field_head None (Some m) t u e = cc
 same_field_head (Some l) None t u e = cc
 
-same_field : (x y : Field) → field_statement_tree x.label x.field_type x.declarator ≡ field_statement_tree y.label y.field_type y.declarator → x ≡ y
+same_field : (x y : Field) → field_statement_tree x.label x.field_type x.declarator
+    ≡ field_statement_tree y.label y.field_type y.declarator → x ≡ y
 same_field x y e =
     let p : Pair (field_head_tree x.label x.field_type) (declarator_tree x.declarator)
     ≡ Pair (field_head_tree y.label y.field_type) (declarator_tree y.declarator) =
-    sym (as_field_statement x.label x.field_type x.declarator) ∙ ap as_field e ∙ as_field_statement y.label y.field_type y.declarator in
+    sym (as_field_statement x.label x.field_type x.declarator) ∙ ap as_field e
+      ∙ as_field_statement y.label y.field_type y.declarator in
     let head = same_field_head x.label y.label x.field_type y.field_type (left_same p) in
     let label_same : x.label ≡ y.label = head.0 in
     let type_same : x.field_type ≡ y.field_type = head.1 in
@@ -69,14 +72,18 @@ same_field x y e =
     λ i. record { label = label_same i; field_type = type_same i; declarator = declarator_same i }
 
 -- a field is no map and no empty statement
-field_no_map : (f : Field) (m : MapField) → field_statement_tree f.label f.field_type f.declarator ≡ Left (map_tree m) → ⊥
+field_no_map : (f : Field) (m : MapField) → field_statement_tree f.label f.field_type f.declarator ≡ Left (map_tree m)
+    → ⊥
 unfolding as_field
-field_no_map f m e = let p : Pair (field_head_tree f.label f.field_type) (declarator_tree f.declarator) ≡ Left (map_tree m) =
+field_no_map f m e = let p : Pair (field_head_tree f.label f.field_type) (declarator_tree f.declarator)
+    ≡ Left (map_tree m) =
     sym (as_field_statement f.label f.field_type f.declarator) ∙ ap as_field e in cc
 
-field_not_empty : (f : Field) (s : Span) → field_statement_tree f.label f.field_type f.declarator ≡ Right (Left (symbol_tree (byte ";") s)) → ⊥
+field_not_empty : (f : Field) (s : Span)
+    → field_statement_tree f.label f.field_type f.declarator ≡ Right (Left (symbol_tree (byte ";") s)) → ⊥
 unfolding as_field
-field_not_empty f s e = let p : Pair (field_head_tree f.label f.field_type) (declarator_tree f.declarator) ≡ Right (Left (symbol_tree (byte ";") s)) =
+field_not_empty f s e = let p : Pair (field_head_tree f.label f.field_type) (declarator_tree f.declarator)
+    ≡ Right (Left (symbol_tree (byte ";") s)) =
     sym (as_field_statement f.label f.field_type f.declarator) ∙ ap as_field e in cc
 
 -- The statements of a message: by induction, from the statements of the messages in it.
@@ -95,10 +102,12 @@ layer_tree (opened.Oneof o) = Right (Right (Right (Left (oneof_tree o))))
 layer_tree (opened.Reserved r) = Right (Right (Right (Right (Left (reserved_tree number_tree r)))))
 layer_tree (opened.Map m) = Right (Right (Right (Right (Right (Left (map_tree m))))))
 layer_tree (opened.Empty s) = Right (Right (Right (Right (Right (Right (Left (symbol_tree (byte ";") s)))))))
-layer_tree (opened.Field f) = Right (Right (Right (Right (Right (field_statement_tree f.label f.field_type f.declarator)))))
+layer_tree (opened.Field f) =
+    Right (Right (Right (Right (Right (field_statement_tree f.label f.field_type f.declarator)))))
 
 layer : (x : MessageItem-F MessageItem Message) → message_item_tree (roll-MessageItem x) ≡ layer_tree x
-layer (opened.Message m) = fold-roll-MessageItem Tree Tree item_step message_step (opened.Message m) ∙ ap Left (fold_message m)
+layer (opened.Message m) = fold-roll-MessageItem Tree Tree item_step message_step (opened.Message m)
+    ∙ ap Left (fold_message m)
 layer (opened.Enum e) = fold-roll-MessageItem Tree Tree item_step message_step (opened.Enum e)
 layer (opened.Option o) = fold-roll-MessageItem Tree Tree item_step message_step (opened.Option o)
 layer (opened.Oneof o) = fold-roll-MessageItem Tree Tree item_step message_step (opened.Oneof o)
@@ -116,9 +125,11 @@ same_layer (opened.Message m) (opened.Message n) h e = ap opened.Message (h n (c
 same_layer (opened.Enum a) (opened.Enum b) h e = ap opened.Enum (same_enum a b (cc))
 same_layer (opened.Option a) (opened.Option b) h e = ap opened.Option (same_option a b (cc))
 same_layer (opened.Oneof a) (opened.Oneof b) h e = ap opened.Oneof (same_oneof a b (cc))
-same_layer (opened.Reserved a) (opened.Reserved b) h e = ap opened.Reserved (same_reserved number_tree same_number a b (cc))
+same_layer (opened.Reserved a) (opened.Reserved b) h e =
+    ap opened.Reserved (same_reserved number_tree same_number a b (cc))
 same_layer (opened.Map a) (opened.Map b) h e = ap opened.Map (same_map a b (cc))
-same_layer (opened.Empty a) (opened.Empty b) h e = ap opened.Empty (same_span a b (left_of (right_of (right_of (right_of (right_of (right_of (right_of e))))))))
+same_layer (opened.Empty a) (opened.Empty b) h e =
+    ap opened.Empty (same_span a b (left_of (right_of (right_of (right_of (right_of (right_of (right_of e))))))))
 same_layer (opened.Field a) (opened.Field b) h e = ap opened.Field (same_field a b (cc))
 same_layer (opened.Field f) (opened.Map m) h e = absurd (field_no_map f m (cc))
 same_layer (opened.Map m) (opened.Field f) h e = absurd (field_no_map f m (cc))
@@ -132,7 +143,8 @@ item_same x h j e =
     (sym (layer x) ∙ e ∙ ap message_item_tree (sym (roll-out-MessageItem j)) ∙ layer (out-MessageItem j)))
     ∙ roll-out-MessageItem j
 
-same_items : (xs : List ((i : MessageItem) × ItemSame i)) (ys : List MessageItem) → row message_item_tree (map (λ e. e.0) xs) ≡ row message_item_tree ys
+same_items : (xs : List ((i : MessageItem) × ItemSame i)) (ys : List MessageItem)
+    → row message_item_tree (map (λ e. e.0) xs) ≡ row message_item_tree ys
     → map (λ e. e.0) xs ≡ ys
 same_items [] [] e = refl
 same_items [] (y ∷ ys) e = cc
@@ -148,14 +160,20 @@ message_same k n o xs c m e =
     let keyword_same : k ≡ m.keyword = same_span k m.keyword (left_same e) in
     let name_same : n ≡ m.name = same_name n m.name (left_same (right_same e)) in
     let open_same : o ≡ m.open_brace = same_span o m.open_brace (left_same (right_same (right_same e))) in
-    let items_same : map (λ e. e.0) xs ≡ m.items = same_items xs m.items (left_same (right_same (right_same (right_same e)))) in
-    let close_same : c ≡ m.close_brace = same_span c m.close_brace (right_same (right_same (right_same (right_same e)))) in
-    λ i. record { keyword = keyword_same i; name = name_same i; open_brace = open_same i; items = items_same i; close_brace = close_same i }
+    let items_same : map (λ e. e.0) xs ≡ m.items =
+      same_items xs m.items (left_same (right_same (right_same (right_same e)))) in
+    let close_same : c ≡ m.close_brace =
+      same_span c m.close_brace (right_same (right_same (right_same (right_same e)))) in
+    λ i. record { keyword = keyword_same i; name = name_same i; open_brace = open_same i; items = items_same i;
+      close_brace = close_same i }
 
-same_item_step : (x : MessageItem-F MessageItem Message) (y : MessageItem-F ((i : MessageItem) × ItemSame i) ((m : Message) × MessageSame m))
-    → map-MessageItem ((i : MessageItem) × ItemSame i) ((m : Message) × MessageSame m) MessageItem Message (λ e. e.0) (λ e. e.0) y ≡ x
+same_item_step : (x : MessageItem-F MessageItem Message)
+    (y : MessageItem-F ((i : MessageItem) × ItemSame i) ((m : Message) × MessageSame m))
+    → map-MessageItem ((i : MessageItem) × ItemSame i) ((m : Message) × MessageSame m) MessageItem Message (λ e. e.0)
+      (λ e. e.0) y ≡ x
     → ItemSame (roll-MessageItem x)
-same_item_step x (opened.Message m) e = subst (λ z. ItemSame (roll-MessageItem z)) e (item_same (opened.Message m.0) m.1)
+same_item_step x (opened.Message m) e =
+    subst (λ z. ItemSame (roll-MessageItem z)) e (item_same (opened.Message m.0) m.1)
 same_item_step x (opened.Enum a) e = subst (λ z. ItemSame (roll-MessageItem z)) e (item_same (opened.Enum a) tt)
 same_item_step x (opened.Option a) e = subst (λ z. ItemSame (roll-MessageItem z)) e (item_same (opened.Option a) tt)
 same_item_step x (opened.Oneof a) e = subst (λ z. ItemSame (roll-MessageItem z)) e (item_same (opened.Oneof a) tt)
@@ -164,10 +182,13 @@ same_item_step x (opened.Map a) e = subst (λ z. ItemSame (roll-MessageItem z)) 
 same_item_step x (opened.Empty a) e = subst (λ z. ItemSame (roll-MessageItem z)) e (item_same (opened.Empty a) tt)
 same_item_step x (opened.Field a) e = subst (λ z. ItemSame (roll-MessageItem z)) e (item_same (opened.Field a) tt)
 
-same_message_step : (x : Message-F MessageItem Message) (y : Message-F ((i : MessageItem) × ItemSame i) ((m : Message) × MessageSame m))
-    → map-Message ((i : MessageItem) × ItemSame i) ((m : Message) × MessageSame m) MessageItem Message (λ e. e.0) (λ e. e.0) y ≡ x
+same_message_step : (x : Message-F MessageItem Message)
+    (y : Message-F ((i : MessageItem) × ItemSame i) ((m : Message) × MessageSame m))
+    → map-Message ((i : MessageItem) × ItemSame i) ((m : Message) × MessageSame m) MessageItem Message (λ e. e.0)
+      (λ e. e.0) y ≡ x
     → MessageSame (roll-Message x)
-same_message_step x y e = subst (λ z. MessageSame (roll-Message z)) e (message_same y.keyword y.name y.open_brace y.items y.close_brace)
+same_message_step x y e = subst (λ z. MessageSame (roll-Message z)) e
+    (message_same y.keyword y.name y.open_brace y.items y.close_brace)
 
 same_message : (m : Message) → MessageSame m
 same_message = ind-Message ItemSame MessageSame same_item_step same_message_step
@@ -182,9 +203,11 @@ same_package x y e =
 same_import : (x y : Import) → import_tree x ≡ import_tree y → x ≡ y
 same_import x y e =
     let keyword_same : x.keyword ≡ y.keyword = same_span x.keyword y.keyword (left_same e) in
-    let public_same : x.public ≡ y.public = same_optional (word_tree (codes "public")) same_span x.public y.public (left_same (right_same e)) in
+    let public_same : x.public ≡ y.public =
+      same_optional (word_tree (codes "public")) same_span x.public y.public (left_same (right_same e)) in
     let path_same : x.path ≡ y.path = same_str x.path y.path (left_same (right_same (right_same e))) in
-    let semicolon_same : x.semicolon ≡ y.semicolon = same_span x.semicolon y.semicolon (right_same (right_same (right_same e))) in
+    let semicolon_same : x.semicolon ≡ y.semicolon =
+      same_span x.semicolon y.semicolon (right_same (right_same (right_same e))) in
     λ i. record { keyword = keyword_same i; public = public_same i; path = path_same i; semicolon = semicolon_same i }
 
 same_syntax : (x y : Syntax) → syntax_tree x ≡ syntax_tree y → x ≡ y
@@ -192,15 +215,21 @@ same_syntax x y e =
     let keyword_same : x.keyword ≡ y.keyword = same_span x.keyword y.keyword (left_same e) in
     let equals_same : x.equals ≡ y.equals = same_span x.equals y.equals (left_same (right_same e)) in
     let version_same : x.version ≡ y.version = same_str x.version y.version (left_same (right_same (right_same e))) in
-    let semicolon_same : x.semicolon ≡ y.semicolon = same_span x.semicolon y.semicolon (right_same (right_same (right_same e))) in
-    λ i. record { keyword = keyword_same i; equals = equals_same i; version = version_same i; semicolon = semicolon_same i }
+    let semicolon_same : x.semicolon ≡ y.semicolon =
+      same_span x.semicolon y.semicolon (right_same (right_same (right_same e))) in
+    λ i. record { keyword = keyword_same i; equals = equals_same i; version = version_same i;
+      semicolon = semicolon_same i }
 
 same_statement : (x y : Statement) → statement_tree x ≡ statement_tree y → x ≡ y
 same_statement (statement.Import a) (statement.Import b) e = ap statement.Import (same_import a b (left_of e))
-same_statement (statement.Package a) (statement.Package b) e = ap statement.Package (same_package a b (left_of (right_of e)))
-same_statement (statement.Option a) (statement.Option b) e = ap statement.Option (same_option a b (left_of (right_of (right_of e))))
-same_statement (statement.Message a) (statement.Message b) e = ap statement.Message (same_message a b (left_of (right_of (right_of (right_of e)))))
-same_statement (statement.Enum a) (statement.Enum b) e = ap statement.Enum (same_enum a b (left_of (right_of (right_of (right_of (right_of e))))))
+same_statement (statement.Package a) (statement.Package b) e =
+    ap statement.Package (same_package a b (left_of (right_of e)))
+same_statement (statement.Option a) (statement.Option b) e =
+    ap statement.Option (same_option a b (left_of (right_of (right_of e))))
+same_statement (statement.Message a) (statement.Message b) e =
+    ap statement.Message (same_message a b (left_of (right_of (right_of (right_of e)))))
+same_statement (statement.Enum a) (statement.Enum b) e =
+    ap statement.Enum (same_enum a b (left_of (right_of (right_of (right_of (right_of e))))))
 same_statement (statement.Service a) (statement.Service b) e =
     ap statement.Service (same_service a b (left_of (right_of (right_of (right_of (right_of (right_of e)))))))
 same_statement (statement.Empty a) (statement.Empty b) e =
@@ -210,5 +239,6 @@ same_statement x y e = cc
 pub same_file : (x y : FileTree) → file_tree x ≡ file_tree y → x ≡ y
 same_file x y e =
     let syntax_same : x.syntax ≡ y.syntax = same_syntax x.syntax y.syntax (left_same e) in
-    let statements_same : x.statements ≡ y.statements = same_row statement_tree same_statement x.statements y.statements (right_same e) in
+    let statements_same : x.statements ≡ y.statements =
+      same_row statement_tree same_statement x.statements y.statements (right_same e) in
     λ i. record { syntax = syntax_same i; statements = statements_same i }

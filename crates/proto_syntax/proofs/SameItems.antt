@@ -49,7 +49,8 @@ use Rattle.proto_syntax.proofs.SameNames.{left_same, right_same, left_of, right_
 
 pub same_signed : (x y : SignedNumber) → signed_tree x ≡ signed_tree y → x ≡ y
 same_signed x y e =
-    let minus_same : x.minus ≡ y.minus = same_optional (symbol_tree (byte "-")) same_span x.minus y.minus (left_same e) in
+    let minus_same : x.minus ≡ y.minus =
+      same_optional (symbol_tree (byte "-")) same_span x.minus y.minus (left_same e) in
     let number_same : x.number ≡ y.number = same_number x.number y.number (right_same e) in
     λ i. record { minus = minus_same i; number = number_same i }
 
@@ -66,7 +67,8 @@ same_constant_number x y e =
 
 pub same_constant : (x y : Constant) → constant_tree x ≡ constant_tree y → x ≡ y
 same_constant (constant.Name a) (constant.Name b) e = ap constant.Name (same_full a b (left_of e))
-same_constant (constant.Number a) (constant.Number b) e = ap constant.Number (same_constant_number a b (left_of (right_of e)))
+same_constant (constant.Number a) (constant.Number b) e =
+    ap constant.Number (same_constant_number a b (left_of (right_of e)))
 same_constant (constant.String a) (constant.String b) e = ap constant.String (same_str a b (right_of (right_of e)))
 same_constant x y e = cc
 
@@ -80,8 +82,10 @@ same_setting x y e =
 pub same_options : (x y : Options) → options_tree x ≡ options_tree y → x ≡ y
 same_options x y e =
     let open_bracket_same : x.open_bracket ≡ y.open_bracket = same_span x.open_bracket y.open_bracket (left_same e) in
-    let settings_same : x.settings ≡ y.settings = same_separated setting_tree same_setting x.settings y.settings (left_same (right_same e)) in
-    let close_bracket_same : x.close_bracket ≡ y.close_bracket = same_span x.close_bracket y.close_bracket (right_same (right_same e)) in
+    let settings_same : x.settings ≡ y.settings =
+      same_separated setting_tree same_setting x.settings y.settings (left_same (right_same e)) in
+    let close_bracket_same : x.close_bracket ≡ y.close_bracket =
+      same_span x.close_bracket y.close_bracket (right_same (right_same e)) in
     λ i. record { open_bracket = open_bracket_same i; settings = settings_same i; close_bracket = close_bracket_same i }
 
 pub same_option : (x y : OptionStatement) → option_tree x ≡ option_tree y → x ≡ y
@@ -94,7 +98,8 @@ same_option x y e =
 pub same_streamed : (d c : Option Span) (n m : TypeName) → streamed_tree d n ≡ streamed_tree c m → (d ≡ c) × (n ≡ m)
 same_streamed None None n m e = (refl, same_named n m (cc))
 same_streamed (Some d) (Some c) n m e =
-    let p : Pair (word_tree (codes "stream") d) (named_tree n) ≡ Pair (word_tree (codes "stream") c) (named_tree m) = cc in
+    let p : Pair (word_tree (codes "stream") d) (named_tree n) ≡ Pair (word_tree (codes "stream") c) (named_tree m) =
+      cc in
     (ap Some (same_span d c (left_same p)), same_named n m (right_same p))
 same_streamed None (Some c) n m e = cc
 same_streamed (Some d) None n m e = cc
@@ -105,7 +110,8 @@ same_rpc_type x y e =
     let open_same : x.open_paren ≡ y.open_paren = same_span x.open_paren y.open_paren (left_same e) in
     let stream_same : x.stream ≡ y.stream = p.0 in
     let name_same : x.name ≡ y.name = p.1 in
-    let close_same : x.close_paren ≡ y.close_paren = same_span x.close_paren y.close_paren (right_same (right_same e)) in
+    let close_same : x.close_paren ≡ y.close_paren =
+      same_span x.close_paren y.close_paren (right_same (right_same e)) in
     λ i. record { open_paren = open_same i; stream = stream_same i; name = name_same i; close_paren = close_same i }
 
 pub same_rpc_item : (x y : RpcItem) → rpc_item_tree x ≡ rpc_item_tree y → x ≡ y
@@ -116,8 +122,10 @@ same_rpc_item x y e = cc
 pub same_rpc_block : (x y : RpcBlock) → rpc_block_tree x ≡ rpc_block_tree y → x ≡ y
 same_rpc_block x y e =
     let open_brace_same : x.open_brace ≡ y.open_brace = same_span x.open_brace y.open_brace (left_same e) in
-    let items_same : x.items ≡ y.items = same_row rpc_item_tree same_rpc_item x.items y.items (left_same (right_same e)) in
-    let close_brace_same : x.close_brace ≡ y.close_brace = same_span x.close_brace y.close_brace (right_same (right_same e)) in
+    let items_same : x.items ≡ y.items =
+      same_row rpc_item_tree same_rpc_item x.items y.items (left_same (right_same e)) in
+    let close_brace_same : x.close_brace ≡ y.close_brace =
+      same_span x.close_brace y.close_brace (right_same (right_same e)) in
     λ i. record { open_brace = open_brace_same i; items = items_same i; close_brace = close_brace_same i }
 
 pub same_rpc_body : (x y : RpcBody) → rpc_body_tree x ≡ rpc_body_tree y → x ≡ y
@@ -130,38 +138,52 @@ same_rpc x y e =
     let keyword_same : x.keyword ≡ y.keyword = same_span x.keyword y.keyword (left_same e) in
     let name_same : x.name ≡ y.name = same_name x.name y.name (left_same (right_same e)) in
     let input_same : x.input ≡ y.input = same_rpc_type x.input y.input (left_same (right_same (right_same e))) in
-    let returns_same : x.returns ≡ y.returns = same_span x.returns y.returns (left_same (right_same (right_same (right_same e)))) in
-    let output_same : x.output ≡ y.output = same_rpc_type x.output y.output (left_same (right_same (right_same (right_same (right_same e))))) in
-    let body_same : x.body ≡ y.body = same_rpc_body x.body y.body (right_same (right_same (right_same (right_same (right_same e))))) in
-    λ i. record { keyword = keyword_same i; name = name_same i; input = input_same i; returns = returns_same i; output = output_same i; body = body_same i }
+    let returns_same : x.returns ≡ y.returns =
+      same_span x.returns y.returns (left_same (right_same (right_same (right_same e)))) in
+    let output_same : x.output ≡ y.output =
+      same_rpc_type x.output y.output (left_same (right_same (right_same (right_same (right_same e))))) in
+    let body_same : x.body ≡ y.body = same_rpc_body x.body y.body
+      (right_same (right_same (right_same (right_same (right_same e))))) in
+    λ i. record { keyword = keyword_same i; name = name_same i; input = input_same i; returns = returns_same i;
+      output = output_same i; body = body_same i }
 
 pub same_service_item : (x y : ServiceItem) → service_item_tree x ≡ service_item_tree y → x ≡ y
 same_service_item (service_item.Rpc a) (service_item.Rpc b) e = ap service_item.Rpc (same_rpc a b (left_of e))
-same_service_item (service_item.Option a) (service_item.Option b) e = ap service_item.Option (same_option a b (left_of (right_of e)))
-same_service_item (service_item.Empty a) (service_item.Empty b) e = ap service_item.Empty (same_span a b (right_of (right_of e)))
+same_service_item (service_item.Option a) (service_item.Option b) e =
+    ap service_item.Option (same_option a b (left_of (right_of e)))
+same_service_item (service_item.Empty a) (service_item.Empty b) e =
+    ap service_item.Empty (same_span a b (right_of (right_of e)))
 same_service_item x y e = cc
 
 pub same_service : (x y : Service) → service_tree x ≡ service_tree y → x ≡ y
 same_service x y e =
     let keyword_same : x.keyword ≡ y.keyword = same_span x.keyword y.keyword (left_same e) in
     let name_same : x.name ≡ y.name = same_name x.name y.name (left_same (right_same e)) in
-    let open_brace_same : x.open_brace ≡ y.open_brace = same_span x.open_brace y.open_brace (left_same (right_same (right_same e))) in
-    let items_same : x.items ≡ y.items = same_row service_item_tree same_service_item x.items y.items (left_same (right_same (right_same (right_same e)))) in
-    let close_brace_same : x.close_brace ≡ y.close_brace = same_span x.close_brace y.close_brace (right_same (right_same (right_same (right_same e)))) in
-    λ i. record { keyword = keyword_same i; name = name_same i; open_brace = open_brace_same i; items = items_same i; close_brace = close_brace_same i }
+    let open_brace_same : x.open_brace ≡ y.open_brace =
+      same_span x.open_brace y.open_brace (left_same (right_same (right_same e))) in
+    let items_same : x.items ≡ y.items =
+      same_row service_item_tree same_service_item x.items y.items
+      (left_same (right_same (right_same (right_same e)))) in
+    let close_brace_same : x.close_brace ≡ y.close_brace =
+      same_span x.close_brace y.close_brace (right_same (right_same (right_same (right_same e)))) in
+    λ i. record { keyword = keyword_same i; name = name_same i; open_brace = open_brace_same i; items = items_same i;
+      close_brace = close_brace_same i }
 
-pub same_bound : {N : Type 0} (f : N → Tree) (h : (x y : N) → f x ≡ f y → x ≡ y) (x y : UpperBound N) → bound_tree f x ≡ bound_tree f y → x ≡ y
+pub same_bound : {N : Type 0} (f : N → Tree) (h : (x y : N) → f x ≡ f y → x ≡ y) (x y : UpperBound N)
+    → bound_tree f x ≡ bound_tree f y → x ≡ y
 same_bound f h (upper_bound.Number a) (upper_bound.Number b) e = ap upper_bound.Number (h a b (left_of e))
 same_bound f h (upper_bound.Max a) (upper_bound.Max b) e = ap upper_bound.Max (same_span a b (right_of e))
 same_bound f h x y e = cc
 
-pub same_range_end : {N : Type 0} (f : N → Tree) (h : (x y : N) → f x ≡ f y → x ≡ y) (x y : RangeEnd N) → range_end_tree f x ≡ range_end_tree f y → x ≡ y
+pub same_range_end : {N : Type 0} (f : N → Tree) (h : (x y : N) → f x ≡ f y → x ≡ y) (x y : RangeEnd N)
+    → range_end_tree f x ≡ range_end_tree f y → x ≡ y
 same_range_end f h x y e =
     let to_same : x.to ≡ y.to = same_span x.to y.to (left_same e) in
     let bound_same : x.bound ≡ y.bound = same_bound f h x.bound y.bound (right_same e) in
     λ i. record { to = to_same i; bound = bound_same i }
 
-pub same_range : {N : Type 0} (f : N → Tree) (h : (x y : N) → f x ≡ f y → x ≡ y) (x y : Range N) → range_tree f x ≡ range_tree f y → x ≡ y
+pub same_range : {N : Type 0} (f : N → Tree) (h : (x y : N) → f x ≡ f y → x ≡ y) (x y : Range N)
+    → range_tree f x ≡ range_tree f y → x ≡ y
 same_range f h x y e =
     let start_same : x.start ≡ y.start = h x.start y.start (left_same e) in
     let end_same : x.end ≡ y.end = same_optional (range_end_tree f) (same_range_end f h) x.end y.end (right_same e) in
@@ -171,10 +193,12 @@ pub same_reserved_items : {N : Type 0} (f : N → Tree) (h : (x y : N) → f x �
     → reserved_items_tree f x ≡ reserved_items_tree f y → x ≡ y
 same_reserved_items f h (reserved_items.Ranges a) (reserved_items.Ranges b) e =
     ap reserved_items.Ranges (same_separated (range_tree f) (same_range f h) a b (left_of e))
-same_reserved_items f h (reserved_items.Names a) (reserved_items.Names b) e = ap reserved_items.Names (same_separated str_tree same_str a b (right_of e))
+same_reserved_items f h (reserved_items.Names a) (reserved_items.Names b) e =
+    ap reserved_items.Names (same_separated str_tree same_str a b (right_of e))
 same_reserved_items f h x y e = cc
 
-pub same_reserved : {N : Type 0} (f : N → Tree) (h : (x y : N) → f x ≡ f y → x ≡ y) (x y : Reserved N) → reserved_tree f x ≡ reserved_tree f y → x ≡ y
+pub same_reserved : {N : Type 0} (f : N → Tree) (h : (x y : N) → f x ≡ f y → x ≡ y) (x y : Reserved N)
+    → reserved_tree f x ≡ reserved_tree f y → x ≡ y
 same_reserved f h x y e =
     let keyword_same : x.keyword ≡ y.keyword = same_span x.keyword y.keyword (left_same e) in
     let items_same : x.items ≡ y.items = same_reserved_items f h x.items y.items (left_same (right_same e)) in
@@ -188,24 +212,33 @@ same_value x y e =
     let number_same : x.number ≡ y.number = same_signed x.number y.number (left_same (right_same (right_same e))) in
     let options_same : x.options ≡ y.options =
     same_optional options_tree same_options x.options y.options (left_same (right_same (right_same (right_same e)))) in
-    let semicolon_same : x.semicolon ≡ y.semicolon = same_span x.semicolon y.semicolon (right_same (right_same (right_same (right_same e)))) in
-    λ i. record { name = name_same i; equals = equals_same i; number = number_same i; options = options_same i; semicolon = semicolon_same i }
+    let semicolon_same : x.semicolon ≡ y.semicolon =
+      same_span x.semicolon y.semicolon (right_same (right_same (right_same (right_same e)))) in
+    λ i. record { name = name_same i; equals = equals_same i; number = number_same i; options = options_same i;
+      semicolon = semicolon_same i }
 
 pub same_enum_item : (x y : EnumItem) → enum_item_tree x ≡ enum_item_tree y → x ≡ y
 same_enum_item (enum_item.Option a) (enum_item.Option b) e = ap enum_item.Option (same_option a b (left_of e))
-same_enum_item (enum_item.Reserved a) (enum_item.Reserved b) e = ap enum_item.Reserved (same_reserved signed_tree same_signed a b (left_of (right_of e)))
-same_enum_item (enum_item.Empty a) (enum_item.Empty b) e = ap enum_item.Empty (same_span a b (left_of (right_of (right_of e))))
-same_enum_item (enum_item.Value a) (enum_item.Value b) e = ap enum_item.Value (same_value a b (right_of (right_of (right_of e))))
+same_enum_item (enum_item.Reserved a) (enum_item.Reserved b) e =
+    ap enum_item.Reserved (same_reserved signed_tree same_signed a b (left_of (right_of e)))
+same_enum_item (enum_item.Empty a) (enum_item.Empty b) e =
+    ap enum_item.Empty (same_span a b (left_of (right_of (right_of e))))
+same_enum_item (enum_item.Value a) (enum_item.Value b) e =
+    ap enum_item.Value (same_value a b (right_of (right_of (right_of e))))
 same_enum_item x y e = cc
 
 pub same_enum : (x y : Enum) → enum_tree x ≡ enum_tree y → x ≡ y
 same_enum x y e =
     let keyword_same : x.keyword ≡ y.keyword = same_span x.keyword y.keyword (left_same e) in
     let name_same : x.name ≡ y.name = same_name x.name y.name (left_same (right_same e)) in
-    let open_brace_same : x.open_brace ≡ y.open_brace = same_span x.open_brace y.open_brace (left_same (right_same (right_same e))) in
-    let items_same : x.items ≡ y.items = same_row enum_item_tree same_enum_item x.items y.items (left_same (right_same (right_same (right_same e)))) in
-    let close_brace_same : x.close_brace ≡ y.close_brace = same_span x.close_brace y.close_brace (right_same (right_same (right_same (right_same e)))) in
-    λ i. record { keyword = keyword_same i; name = name_same i; open_brace = open_brace_same i; items = items_same i; close_brace = close_brace_same i }
+    let open_brace_same : x.open_brace ≡ y.open_brace =
+      same_span x.open_brace y.open_brace (left_same (right_same (right_same e))) in
+    let items_same : x.items ≡ y.items =
+      same_row enum_item_tree same_enum_item x.items y.items (left_same (right_same (right_same (right_same e)))) in
+    let close_brace_same : x.close_brace ≡ y.close_brace =
+      same_span x.close_brace y.close_brace (right_same (right_same (right_same (right_same e)))) in
+    λ i. record { keyword = keyword_same i; name = name_same i; open_brace = open_brace_same i; items = items_same i;
+      close_brace = close_brace_same i }
 
 pub same_declarator : (x y : Declarator) → declarator_tree x ≡ declarator_tree y → x ≡ y
 same_declarator x y e =
@@ -214,8 +247,10 @@ same_declarator x y e =
     let number_same : x.number ≡ y.number = same_number x.number y.number (left_same (right_same (right_same e))) in
     let options_same : x.options ≡ y.options =
     same_optional options_tree same_options x.options y.options (left_same (right_same (right_same (right_same e)))) in
-    let semicolon_same : x.semicolon ≡ y.semicolon = same_span x.semicolon y.semicolon (right_same (right_same (right_same (right_same e)))) in
-    λ i. record { name = name_same i; equals = equals_same i; number = number_same i; options = options_same i; semicolon = semicolon_same i }
+    let semicolon_same : x.semicolon ≡ y.semicolon =
+      same_span x.semicolon y.semicolon (right_same (right_same (right_same (right_same e)))) in
+    λ i. record { name = name_same i; equals = equals_same i; number = number_same i; options = options_same i;
+      semicolon = semicolon_same i }
 
 pub same_member : (x y : OneofField) → member_tree x ≡ member_tree y → x ≡ y
 same_member x y e =
@@ -226,17 +261,22 @@ same_member x y e =
 pub same_oneof_item : (x y : OneofItem) → oneof_item_tree x ≡ oneof_item_tree y → x ≡ y
 same_oneof_item (oneof_item.Option a) (oneof_item.Option b) e = ap oneof_item.Option (same_option a b (left_of e))
 same_oneof_item (oneof_item.Empty a) (oneof_item.Empty b) e = ap oneof_item.Empty (same_span a b (left_of (right_of e)))
-same_oneof_item (oneof_item.Field a) (oneof_item.Field b) e = ap oneof_item.Field (same_member a b (right_of (right_of e)))
+same_oneof_item (oneof_item.Field a) (oneof_item.Field b) e =
+    ap oneof_item.Field (same_member a b (right_of (right_of e)))
 same_oneof_item x y e = cc
 
 pub same_oneof : (x y : Oneof) → oneof_tree x ≡ oneof_tree y → x ≡ y
 same_oneof x y e =
     let keyword_same : x.keyword ≡ y.keyword = same_span x.keyword y.keyword (left_same e) in
     let name_same : x.name ≡ y.name = same_name x.name y.name (left_same (right_same e)) in
-    let open_brace_same : x.open_brace ≡ y.open_brace = same_span x.open_brace y.open_brace (left_same (right_same (right_same e))) in
-    let items_same : x.items ≡ y.items = same_row oneof_item_tree same_oneof_item x.items y.items (left_same (right_same (right_same (right_same e)))) in
-    let close_brace_same : x.close_brace ≡ y.close_brace = same_span x.close_brace y.close_brace (right_same (right_same (right_same (right_same e)))) in
-    λ i. record { keyword = keyword_same i; name = name_same i; open_brace = open_brace_same i; items = items_same i; close_brace = close_brace_same i }
+    let open_brace_same : x.open_brace ≡ y.open_brace =
+      same_span x.open_brace y.open_brace (left_same (right_same (right_same e))) in
+    let items_same : x.items ≡ y.items =
+      same_row oneof_item_tree same_oneof_item x.items y.items (left_same (right_same (right_same (right_same e)))) in
+    let close_brace_same : x.close_brace ≡ y.close_brace =
+      same_span x.close_brace y.close_brace (right_same (right_same (right_same (right_same e)))) in
+    λ i. record { keyword = keyword_same i; name = name_same i; open_brace = open_brace_same i; items = items_same i;
+      close_brace = close_brace_same i }
 
 pub same_map_type : (x y : MapType) → map_type_tree x ≡ map_type_tree y → x ≡ y
 same_map_type x y e =
@@ -245,8 +285,10 @@ same_map_type x y e =
     let key_same : x.key ≡ y.key = same_key x.key y.key (same_identifier (same_lexeme key_tree_same)) in
     let key_span_same : x.key_span ≡ y.key_span = same_span x.key_span y.key_span key_tree_same in
     let comma_same : x.comma ≡ y.comma = same_span x.comma y.comma (left_same (right_same (right_same e))) in
-    let value_same : x.value ≡ y.value = same_type x.value y.value (left_same (right_same (right_same (right_same e)))) in
-    let close_same : x.close_angle ≡ y.close_angle = same_span x.close_angle y.close_angle (right_same (right_same (right_same (right_same e)))) in
+    let value_same : x.value ≡ y.value =
+      same_type x.value y.value (left_same (right_same (right_same (right_same e)))) in
+    let close_same : x.close_angle ≡ y.close_angle =
+      same_span x.close_angle y.close_angle (right_same (right_same (right_same (right_same e)))) in
     λ i. record {
       open_angle = open_same i;
       key = key_same i;
@@ -260,8 +302,10 @@ same_map_type x y e =
 pub same_map : (x y : MapField) → map_tree x ≡ map_tree y → x ≡ y
 same_map x y e =
     let keyword_same : x.keyword ≡ y.keyword = same_span x.keyword y.keyword (left_same e) in
-    let map_type_same : x.map_type ≡ y.map_type = same_map_type x.map_type y.map_type (left_of (left_same (right_same e))) in
-    let declarator_same : x.declarator ≡ y.declarator = same_declarator x.declarator y.declarator (right_same (right_same e)) in
+    let map_type_same : x.map_type ≡ y.map_type =
+      same_map_type x.map_type y.map_type (left_of (left_same (right_same e))) in
+    let declarator_same : x.declarator ≡ y.declarator =
+      same_declarator x.declarator y.declarator (right_same (right_same e)) in
     λ i. record { keyword = keyword_same i; map_type = map_type_same i; declarator = declarator_same i }
 
 pub same_label : (x y : Label) → label_tree x ≡ label_tree y → x ≡ y

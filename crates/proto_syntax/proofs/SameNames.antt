@@ -73,7 +73,8 @@ same_string x y e =
     let span_same : x.span ≡ y.span = same_span x.span y.span e in
     λ i. record { value = value_same i; span = span_same i }
 
-pub same_row : {A : Type 0} (f : A → Tree) → ((x y : A) → f x ≡ f y → x ≡ y) → (xs ys : List A) → row f xs ≡ row f ys → xs ≡ ys
+pub same_row : {A : Type 0} (f : A → Tree) → ((x y : A) → f x ≡ f y → x ≡ y) → (xs ys : List A)
+    → row f xs ≡ row f ys → xs ≡ ys
 same_row f h [] [] e = refl
 same_row f h [] (y ∷ ys) e = cc
 same_row f h (x ∷ xs) [] e = cc
@@ -82,18 +83,21 @@ same_row f h (x ∷ xs) (y ∷ ys) e =
     let rest_same : xs ≡ ys = same_row f h xs ys (right_same e) in
     λ i. first_same i ∷ rest_same i
 
-pub same_optional : {A : Type 0} (f : A → Tree) → ((x y : A) → f x ≡ f y → x ≡ y) → (x y : Option A) → optional f x ≡ optional f y → x ≡ y
+pub same_optional : {A : Type 0} (f : A → Tree) → ((x y : A) → f x ≡ f y → x ≡ y) → (x y : Option A)
+    → optional f x ≡ optional f y → x ≡ y
 same_optional f h None None e = refl
 same_optional f h (Some x) (Some y) e = ap Some (h x y (cc))
 same_optional f h x y e = cc
 
-pub same_next : {A : Type 0} (f : A → Tree) (h : (x y : A) → f x ≡ f y → x ≡ y) (x y : Next A) → next_tree f x ≡ next_tree f y → x ≡ y
+pub same_next : {A : Type 0} (f : A → Tree) (h : (x y : A) → f x ≡ f y → x ≡ y) (x y : Next A)
+    → next_tree f x ≡ next_tree f y → x ≡ y
 same_next f h x y e =
     let comma_same : x.comma ≡ y.comma = same_span x.comma y.comma (left_same e) in
     let item_same : x.item ≡ y.item = h x.item y.item (right_same e) in
     λ i. record { comma = comma_same i; item = item_same i }
 
-pub same_separated : {A : Type 0} (f : A → Tree) (h : (x y : A) → f x ≡ f y → x ≡ y) (x y : Separated A) → separated_tree f x ≡ separated_tree f y → x ≡ y
+pub same_separated : {A : Type 0} (f : A → Tree) (h : (x y : A) → f x ≡ f y → x ≡ y) (x y : Separated A)
+    → separated_tree f x ≡ separated_tree f y → x ≡ y
 same_separated f h x y e =
     let first_same : x.first ≡ y.first = h x.first y.first (left_same e) in
     let rest_same : x.rest ≡ y.rest = same_row (next_tree f) (same_next f h) x.rest y.rest (right_same e) in

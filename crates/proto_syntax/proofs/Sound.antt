@@ -14,12 +14,16 @@ one_sound : (c : Class) (t : Spelled) (ts : List Spelled) (b : Bool) → fits c 
 one_sound c t ts true e = (one e, refl)
 one_sound c t ts false e = ([], refl, empty)
 
-second_sound : (a b : Grammar) (x : Tree) (ts us : List Spelled) → IsTree a x → ts ≡ flatten x ++ us → (o : Outcome) → Sound b us o
+second_sound : (a b : Grammar) (x : Tree) (ts us : List Spelled) → IsTree a x → ts ≡ flatten x ++ us → (o : Outcome)
+    → Sound b us o
     → Sound (a ⨾ b) ts (mapped (Pair x) o)
-second_sound a b x ts us ix e (Read y vs) (iy, e') = (both ix iy, rw (e, e') (sym (append_assoc (flatten x) (flatten y) vs)))
-second_sound a b x ts us ix e (Stops d vs) (fs, e', f) = (flatten x ++ fs, rw (e, e') (sym (append_assoc (flatten x) fs vs)), past ix f refl)
+second_sound a b x ts us ix e (Read y vs) (iy, e') =
+    (both ix iy, rw (e, e') (sym (append_assoc (flatten x) (flatten y) vs)))
+second_sound a b x ts us ix e (Stops d vs) (fs, e', f) =
+    (flatten x ++ fs, rw (e, e') (sym (append_assoc (flatten x) fs vs)), past ix f refl)
 
-seq_sound : (a b : Grammar) (ts : List Spelled) (o : Outcome) → Sound a ts o → ((us : List Spelled) → Sound b us (read b us))
+seq_sound : (a b : Grammar) (ts : List Spelled) (o : Outcome) → Sound a ts o
+    → ((us : List Spelled) → Sound b us (read b us))
     → Sound (a ⨾ b) ts (after o (λ x us. mapped (Pair x) (read b us)))
 seq_sound a b ts (Read x us) (ix, e) h = second_sound a b x ts us ix e (read b us) (h us)
 seq_sound a b ts (Stops d us) (fs, e, f) h = (fs, e, within f)
@@ -38,28 +42,36 @@ choice_sound a b ts true ha hb = left_sound a b ts (read a ts) ha
 choice_sound a b ts false ha hb = right_sound a b ts (read b ts) hb
 
 -- an item, and then a front of the others
-pub after_item : (a : Grammar) (x : Tree) (fs : List Spelled) → IsTree a x → IsFront (Many a) fs → IsFront (Many a) (flatten x ++ fs)
+pub after_item : (a : Grammar) (x : Tree) (fs : List Spelled) → IsTree a x → IsFront (Many a) fs
+    → IsFront (Many a) (flatten x ++ fs)
 after_item a x fs ix empty = items (more ix none) empty (sym (append-nil (flatten x ++ [])))
-after_item a x fs ix (items {x = y} {us = ws} iy f' q) = items (more ix iy) f' (rw q (sym (append_assoc (flatten x) (flatten y) ws)))
+after_item a x fs ix (items {x = y} {us = ws} iy f' q) =
+    items (more ix iy) f' (rw q (sym (append_assoc (flatten x) (flatten y) ws)))
 
-rest_sound : (a : Grammar) (x : Tree) (ts us : List Spelled) → IsTree a x → ts ≡ flatten x ++ us → (o : Outcome) → Sound (Many a) us o
+rest_sound : (a : Grammar) (x : Tree) (ts us : List Spelled) → IsTree a x → ts ≡ flatten x ++ us → (o : Outcome)
+    → Sound (Many a) us o
     → Sound (Many a) ts (mapped (Pair x) o)
-rest_sound a x ts us ix e (Read y vs) (iy, e') = (more ix iy, rw (e, e') (sym (append_assoc (flatten x) (flatten y) vs)))
-rest_sound a x ts us ix e (Stops d vs) (fs, e', f) = (flatten x ++ fs, rw (e, e') (sym (append_assoc (flatten x) fs vs)), after_item a x fs ix f)
+rest_sound a x ts us ix e (Read y vs) (iy, e') =
+    (more ix iy, rw (e, e') (sym (append_assoc (flatten x) (flatten y) vs)))
+rest_sound a x ts us ix e (Stops d vs) (fs, e', f) =
+    (flatten x ++ fs, rw (e, e') (sym (append_assoc (flatten x) fs vs)), after_item a x fs ix f)
 
 item_sound : (a : Grammar) (ts : List Spelled) (o : Outcome) → Sound a ts o → (next : List Spelled → Outcome)
-    → ((us : List Spelled) → Sound (Many a) us (next us)) → Sound (Many a) ts (after o (λ x us. mapped (Pair x) (next us)))
+    → ((us : List Spelled) → Sound (Many a) us (next us))
+    → Sound (Many a) ts (after o (λ x us. mapped (Pair x) (next us)))
 item_sound a ts (Read x us) (ix, e) next h = rest_sound a x ts us ix e (next us) (h us)
 item_sound a ts (Stops d us) (fs, e, f) next h = (fs, e, items none f refl)
 
-turn_sound : (a : Grammar) (ts : List Spelled) (z : Bool) (o : Outcome) → Sound (Many a) ts o → Sound (Many a) ts (cond z o (Read Empty ts))
+turn_sound : (a : Grammar) (ts : List Spelled) (z : Bool) (o : Outcome) → Sound (Many a) ts o
+    → Sound (Many a) ts (cond z o (Read Empty ts))
 turn_sound a ts true o h = h
 turn_sound a ts false o h = (none, refl)
 
 pub many_sound : (a : Grammar) (h : (ts : List Spelled) → Sound a ts (read a ts)) (n : ℕ) (ts : List Spelled)
     → Sound (Many a) ts (read_many (read a) (begins a) n ts)
 many_sound a h zero ts = (none, refl)
-many_sound a h (suc n) ts = turn_sound a ts (next_fits (begins a) ts) (after (read a ts) (λ x us. mapped (Pair x) (read_many (read a) (begins a) n us)))
+many_sound a h (suc n) ts = turn_sound a ts (next_fits (begins a) ts)
+    (after (read a ts) (λ x us. mapped (Pair x) (read_many (read a) (begins a) n us)))
     (item_sound a ts (read a ts) (h ts) (read_many (read a) (begins a) n) (many_sound a h n))
 
 pub sound : (g : Grammar) (ts : List Spelled) → Sound g ts (read g ts)

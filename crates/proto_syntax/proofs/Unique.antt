@@ -20,16 +20,19 @@ use Rattle.proto_syntax.proofs.Prefix.{one_fault}
 pub one_kind : (ts : List Spelled) (k : ℕ) (a b : Kind) → IsKindOf ts k a → IsKindOf ts k b → a ≡ b
 one_kind ts k _ _ (at_end e) (at_end f) = refl
 one_kind ts k _ _ (at_end e) (too_deep l g) = absurd (omega arith)
-one_kind ts k _ _ (at_end e) (other {t = t} f g) = let l : k < length ts = slice_get_within ts k t f in absurd (omega arith)
+one_kind ts k _ _ (at_end e) (other {t = t} f g) = let l : k < length ts = slice_get_within ts k t f in
+    absurd (omega arith)
 one_kind ts k _ _ (too_deep l g) (at_end e) = absurd (omega arith)
 one_kind ts k _ _ (too_deep l g) (too_deep m h) = refl
 one_kind ts k _ _ (too_deep l g) (other e h) = absurd (h g)
-one_kind ts k _ _ (other {t = t} f g) (at_end e) = let l : k < length ts = slice_get_within ts k t f in absurd (omega arith)
+one_kind ts k _ _ (other {t = t} f g) (at_end e) = let l : k < length ts = slice_get_within ts k t f in
+    absurd (omega arith)
 one_kind ts k _ _ (other f g) (too_deep l h) = absurd (g h)
 one_kind ts k _ _ (other {t = t} e g) (other {t = u} f h) = let p : t ≡ u = cc in ap (kind_of (token_before ts k)) p
 
 pub of_every_tree : (limit : ℕ) (tokens : Tokens) (result : Result FileTree ParseError)
-    → MatchResult result (λ file. IsTreeOf limit (tokens_of tokens) (file_tree file)) (IsFaultOf limit tokens) → (x : Tree)
+    → MatchResult result (λ file. IsTreeOf limit (tokens_of tokens) (file_tree file)) (IsFaultOf limit tokens)
+    → (x : Tree)
     → IsTreeOf limit (tokens_of tokens) x
     → MatchResult result (λ file. file_tree file ≡ x) (λ e. e ≡ NoMemory)
 of_every_tree limit tokens (Ok file) right x is = only_tree limit (tokens_of tokens) (file_tree file) x right is
@@ -37,7 +40,8 @@ of_every_tree limit tokens (Err (At place kind)) (k, fault, is_kind, at) x is = 
 of_every_tree limit tokens (Err NoMemory) right x is = refl
 
 pub of_every_fault : (limit : ℕ) (tokens : Tokens) (result : Result FileTree ParseError)
-    → MatchResult result (λ file. IsTreeOf limit (tokens_of tokens) (file_tree file)) (IsFaultOf limit tokens) → (k : ℕ) (kind : Kind)
+    → MatchResult result (λ file. IsTreeOf limit (tokens_of tokens) (file_tree file)) (IsFaultOf limit tokens)
+    → (k : ℕ) (kind : Kind)
     → IsFaultAt limit (tokens_of tokens) k → IsKindOf (tokens_of tokens) k kind
     → IsErrAnd result (TellsFault tokens k kind)
 of_every_fault limit tokens (Ok file) right k kind fault is_kind = fault.no_file (file_tree file) right

@@ -29,7 +29,8 @@ behind_stops zero d us = refl
 behind_stops (suc n) d us = ap (mapped Right) (behind_stops n d us)
 
 -- a fault of a way is the fault of the choice
-pub behind_fails : (n : ℕ) (e : Stop) (rest : List Token) (o p : Outcome) → p ≡ behind n o → Fails e rest o → Fails e rest p
+pub behind_fails : (n : ℕ) (e : Stop) (rest : List Token) (o p : Outcome) → p ≡ behind n o → Fails e rest o
+    → Fails e rest p
 behind_fails n stop.NoMemory rest o p i h = tt
 behind_fails n stop.Unexpected rest o p i h = i ∙ ap (behind n) h ∙ behind_stops n false (spellings rest)
 behind_fails n stop.TooDeep rest o p i h = i ∙ ap (behind n) h ∙ behind_stops n true (spellings rest)
@@ -41,17 +42,21 @@ way_fails n stop.TooDeep rest o p i h = i ∙ ap (way n) h ∙ behind_stops n tr
 
 -- What was read is given in a box, unless memory runs out.
 pub boxed_gives : {X : Type 0} → (tree : X → Tree) (boxed : Result X Stop) (x : X) (rest : List Token) (o : Outcome)
-    → MatchResult boxed (λ y. y ≡ x) (λ e. e ≡ stop.NoMemory) → o ≡ Read (tree x) (spellings rest) → Gives tree boxed rest o
+    → MatchResult boxed (λ y. y ≡ x) (λ e. e ≡ stop.NoMemory) → o ≡ Read (tree x) (spellings rest)
+    → Gives tree boxed rest o
 boxed_gives tree (Ok y) x rest o m h = h ∙ ap (λ z. Read (tree z) (spellings rest)) (sym m)
 boxed_gives tree (Err e) x rest o m h = rw m tt
 
 -- What was read, made into an item, is the choice's where its outcome is that of the way.
-pub made_gives : {X Y : Type 0} → (make : X → Y) (tree : X → Tree) (whole : Y → Tree) (change : Outcome → Outcome) (found : Result X Stop)
+pub made_gives : {X Y : Type 0} → (make : X → Y) (tree : X → Tree) (whole : Y → Tree) (change : Outcome → Outcome)
+    (found : Result X Stop)
     (made : Result Y Stop) (rest : List Token) (o p : Outcome) → ((x : X) → o ≡ Read (tree x) (spellings rest)
     → change (Read (tree x) (spellings rest)) ≡ Read (whole (make x)) (spellings rest))
     → ((d : Bool) → change (Stops d (spellings rest)) ≡ Stops d (spellings rest)) → p ≡ change o
-    → MatchResult found (λ x. IsOkAnd made (λ y. y ≡ make x)) (λ e. made ≡ Err e) → Gives tree found rest o → Gives whole made rest p
-made_gives make tree whole change (Ok x) (Ok y) rest o p same stops i m h = i ∙ ap change h ∙ same x h ∙ ap (λ z. Read (whole z) (spellings rest)) (sym m)
+    → MatchResult found (λ x. IsOkAnd made (λ y. y ≡ make x)) (λ e. made ≡ Err e) → Gives tree found rest o
+    → Gives whole made rest p
+made_gives make tree whole change (Ok x) (Ok y) rest o p same stops i m h =
+    i ∙ ap change h ∙ same x h ∙ ap (λ z. Read (whole z) (spellings rest)) (sym m)
 made_gives make tree whole change (Ok x) (Err e) rest o p same stops i m h = absurd m
 made_gives make tree whole change (Err e) made rest o p same stops i m h = rw m (fails e h)
   where
@@ -69,36 +74,44 @@ abbrev pub AtSign : String → List Spelled → Bool → Type 0
 AtSign s ts b = next_fits (Symbol (byte s) ∷ []) ts ≡ b
 
 -- the ways of a statement of a file
-pub statement_import : (m : Grammar) → (ts : List Spelled) → At "import" ts true → read (statement m) ts ≡ way 0 (read import ts)
+pub statement_import : (m : Grammar) → (ts : List Spelled) → At "import" ts true
+    → read (statement m) ts ≡ way 0 (read import ts)
 statement_import m ts e1 = rw (begins_import, e1) refl
 
 pub statement_package : (m : Grammar) → (ts : List Spelled) → At "import" ts false → At "package" ts true
     → read (statement m) ts ≡ way 1 (read «package» ts)
 statement_package m ts e1 e2 = rw (begins_import, e1, e2) refl
 
-pub statement_option : (m : Grammar) → (ts : List Spelled) → At "import" ts false → At "package" ts false → At "option" ts true
+pub statement_option : (m : Grammar) → (ts : List Spelled) → At "import" ts false → At "package" ts false
+    → At "option" ts true
     → read (statement m) ts ≡ way 2 (read option ts)
 statement_option m ts e1 e2 e3 = rw (begins_import, e1, e2, begins_option, e3) refl
 
-pub statement_message : (m : Grammar) → IsLevel m → (ts : List Spelled) → At "import" ts false → At "package" ts false → At "option" ts false
+pub statement_message : (m : Grammar) → IsLevel m → (ts : List Spelled) → At "import" ts false → At "package" ts false
+    → At "option" ts false
     → At "message" ts true
     → read (statement m) ts ≡ way 3 (read m ts)
 statement_message m h ts e1 e2 e3 e4 = rw (begins_import, e1, e2, begins_option, e3, h.begins_so, e4) refl
 
-pub statement_enum : (m : Grammar) → IsLevel m → (ts : List Spelled) → At "import" ts false → At "package" ts false → At "option" ts false
+pub statement_enum : (m : Grammar) → IsLevel m → (ts : List Spelled) → At "import" ts false → At "package" ts false
+    → At "option" ts false
     → At "message" ts false → At "enum" ts true
     → read (statement m) ts ≡ way 4 (read enum ts)
 statement_enum m h ts e1 e2 e3 e4 e5 = rw (begins_import, e1, e2, begins_option, e3, h.begins_so, e4, e5) refl
 
-pub statement_service : (m : Grammar) → IsLevel m → (ts : List Spelled) → At "import" ts false → At "package" ts false → At "option" ts false
+pub statement_service : (m : Grammar) → IsLevel m → (ts : List Spelled) → At "import" ts false → At "package" ts false
+    → At "option" ts false
     → At "message" ts false → At "enum" ts false → At "service" ts true
     → read (statement m) ts ≡ way 5 (read service ts)
-statement_service m h ts e1 e2 e3 e4 e5 e6 = rw (begins_import, e1, e2, begins_option, e3, h.begins_so, e4, e5, begins_service, e6) refl
+statement_service m h ts e1 e2 e3 e4 e5 e6 =
+    rw (begins_import, e1, e2, begins_option, e3, h.begins_so, e4, e5, begins_service, e6) refl
 
-pub statement_empty : (m : Grammar) → IsLevel m → (ts : List Spelled) → At "import" ts false → At "package" ts false → At "option" ts false
+pub statement_empty : (m : Grammar) → IsLevel m → (ts : List Spelled) → At "import" ts false → At "package" ts false
+    → At "option" ts false
     → At "message" ts false → At "enum" ts false → At "service" ts false
     → read (statement m) ts ≡ behind 6 (read (symbol ";") ts)
-statement_empty m h ts e1 e2 e3 e4 e5 e6 = rw (begins_import, e1, e2, begins_option, e3, h.begins_so, e4, e5, begins_service, e6) refl
+statement_empty m h ts e1 e2 e3 e4 e5 e6 =
+    rw (begins_import, e1, e2, begins_option, e3, h.begins_so, e4, e5, begins_service, e6) refl
 
 -- the ways of a statement of a message that is no message
 abbrev Begins : ItemKind → List Spelled → Type 0

@@ -8,7 +8,8 @@ use Rattle.proto_syntax.specs.Grammar.{OneOf, fits}
 
 -- a token that fits a word is that word
 pub fits_word : (w : Lexeme) (text : List ℕ) → fits (OneOf (text ∷ [])) w ≡ true → w ≡ identifier text
-fits_word (identifier u) text h = elim (or_cases (bytes_eq u text) false h) [ inl e ↦ ap identifier ((bytes_eq-Decides u text).0 e) | inr e ↦ cc ]
+fits_word (identifier u) text h = elim (or_cases (bytes_eq u text) false h)
+    [ inl e ↦ ap identifier ((bytes_eq-Decides u text).0 e) | inr e ↦ cc ]
 fits_word (number n) text h = cc
 fits_word (string_literal s) text h = cc
 fits_word (punctuation b) text h = cc

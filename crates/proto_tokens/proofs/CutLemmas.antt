@@ -28,9 +28,11 @@ pub record IsCutUpTo (s : List ℕ) (start at : ℕ) (ts : List Spelled) : Type 
 pub piece_nonempty : (s : List ℕ) (n : ℕ) (piece : Option Lexeme) → IsLongestPiece s n piece → 0 < n
 piece_nonempty s n piece is = omega (arith, (starts s n piece is.piece_is).0, length-take-le n s is.fits)
 
-pub cut_more : {P : Type 0} (IsPart : List ℕ → P → Type 0) (len : P → ℕ) (s : List ℕ) (from : ℕ) (ps : List P) (to : ℕ) (p : P)
+pub cut_more : {P : Type 0} (IsPart : List ℕ → P → Type 0) (len : P → ℕ) (s : List ℕ) (from : ℕ) (ps : List P)
+    (to : ℕ) (p : P)
     → IsCutInto IsPart len s from ps to → IsPart (drop to s) p → IsCutInto IsPart len s from (ps ++ p ∷ []) (to + len p)
-cut_more IsPart len s from [] to p cut is = (subst (λ (i : ℕ). IsPart (drop i s) p) (sym cut) is, ap (λ i. i + len p) cut)
+cut_more IsPart len s from [] to p cut is =
+    (subst (λ (i : ℕ). IsPart (drop i s) p) (sym cut) is, ap (λ i. i + len p) cut)
 cut_more IsPart len s from (q ∷ ps) to p cut is = (cut.0, cut_more IsPart len s (from + len q) ps to p cut.1 is)
 
 with_token-append : (piece : Option Lexeme) (start end : ℕ) (ts us : List Spelled)
@@ -48,7 +50,8 @@ tokens_more s from (q ∷ ps) to p cut =
 pub cut_start : (s : List ℕ) (start : ℕ) → start ≤ length s → IsCutUpTo s start start []
 cut_start s start within = record { within = within; pieces = []; cut = refl; tokens = refl }
 
-cut_on : (s : List ℕ) (start at n : ℕ) (piece : Option Lexeme) (ts : List Spelled) → IsCutUpTo s start at ts → IsLongestPiece (drop at s) n piece
+cut_on : (s : List ℕ) (start at n : ℕ) (piece : Option Lexeme) (ts : List Spelled) → IsCutUpTo s start at ts
+    → IsLongestPiece (drop at s) n piece
     → IsCutUpTo s start (at + n) (ts ++ with_token piece at (at + n) [])
 cut_on s start at n piece ts so_far is =
     let p : Piece = record { len = n; is = piece } in
@@ -56,54 +59,70 @@ cut_on s start at n piece ts so_far is =
       within = omega (arith, is.fits, length-drop at s, so_far.within);
       pieces = so_far.pieces ++ p ∷ [];
       cut = cut_more (λ rest p. IsLongestPiece rest p.len p.is) (λ p. p.len) s start so_far.pieces at p so_far.cut is;
-      tokens = tokens_more s start so_far.pieces at p so_far.cut ∙ ap (λ us. us ++ with_token piece at (at + n) []) so_far.tokens;
+      tokens = tokens_more s start so_far.pieces at p so_far.cut
+          ∙ ap (λ us. us ++ with_token piece at (at + n) []) so_far.tokens;
     }
 
-pub cut_gap : (s : List ℕ) (start at n : ℕ) (ts : List Spelled) → IsCutUpTo s start at ts → IsLongestPiece (drop at s) n None → IsCutUpTo s start (at + n) ts
-cut_gap s start at n ts so_far is = subst (λ us. IsCutUpTo s start (at + n) us) (append-nil ts) (cut_on s start at n None ts so_far is)
+pub cut_gap : (s : List ℕ) (start at n : ℕ) (ts : List Spelled) → IsCutUpTo s start at ts
+    → IsLongestPiece (drop at s) n None → IsCutUpTo s start (at + n) ts
+cut_gap s start at n ts so_far is = subst (λ us. IsCutUpTo s start (at + n) us) (append-nil ts)
+    (cut_on s start at n None ts so_far is)
 
-pub cut_token : (s : List ℕ) (start at n : ℕ) (lexeme : Lexeme) (ts : List Spelled) → IsCutUpTo s start at ts → IsLongestPiece (drop at s) n (Some lexeme)
+pub cut_token : (s : List ℕ) (start at n : ℕ) (lexeme : Lexeme) (ts : List Spelled) → IsCutUpTo s start at ts
+    → IsLongestPiece (drop at s) n (Some lexeme)
     → IsCutUpTo s start (at + n) (ts ++ record { start = at; end = at + n; lexeme = lexeme } ∷ [])
 cut_token s start at n lexeme ts so_far is = cut_on s start at n (Some lexeme) ts so_far is
 
-pub cut_all : (s : List ℕ) (start at : ℕ) (ts : List Spelled) → IsCutUpTo s start at ts → length s ≤ at → SpellsFrom s start ts
+pub cut_all : (s : List ℕ) (start at : ℕ) (ts : List Spelled) → IsCutUpTo s start at ts
+    → length s ≤ at → SpellsFrom s start ts
 cut_all s start at ts so_far le =
     let same : at ≡ length s = omega (arith, so_far.within) in
     (so_far.pieces, subst (IsCutIntoPieces s start so_far.pieces) same so_far.cut, so_far.tokens)
 
-pub cut_fault : (s : List ℕ) (start at : ℕ) (ts : List Spelled) (e : TokenError) → IsCutUpTo s start at ts → IsFaultAfter (drop at s) at e
+pub cut_fault : (s : List ℕ) (start at : ℕ) (ts : List Spelled) (e : TokenError) → IsCutUpTo s start at ts
+    → IsFaultAfter (drop at s) at e
     → IsFaultFrom s start e
 cut_fault s start at ts (errors.At place kind) so_far fault = (so_far.pieces, at, fault.0, so_far.cut, fault.1, fault.2)
 cut_fault s start at ts errors.NoMemory so_far fault = tt
 
 pub gap_passed : (s : List ℕ) (start at n : ℕ) (ts : List Spelled) (kind : Option TokenKind) → IsCutUpTo s start at ts
     → IsLongestPiece (drop at s) n (option_map lexeme_of kind) → kind ≡ None → IsCutUpTo s start (at + n) ts
-gap_passed s start at n ts kind so_far is none = cut_gap s start at n ts so_far (subst (λ k. IsLongestPiece (drop at s) n (option_map lexeme_of k)) none is)
+gap_passed s start at n ts kind so_far is none =
+    cut_gap s start at n ts so_far (subst (λ k. IsLongestPiece (drop at s) n (option_map lexeme_of k)) none is)
 
-pub token_pushed : (s : List ℕ) (start at n : ℕ) (items more : List Token) (kind : Option TokenKind) (k : TokenKind) → IsCutUpTo s start at (map spelled items)
+pub token_pushed : (s : List ℕ) (start at n : ℕ) (items more : List Token) (kind : Option TokenKind) (k : TokenKind)
+    → IsCutUpTo s start at (map spelled items)
     → IsLongestPiece (drop at s) n (option_map lexeme_of kind) → kind ≡ Some k
-    → more ≡ items ++ record { kind = k; span = record { start = record { offset = at }; end = record { offset = at + n } } } ∷ []
+    → more ≡ items
+      ++ record { kind = k; span = record { start = record { offset = at }; end = record { offset = at + n } } } ∷ []
     → IsCutUpTo s start (at + n) (map spelled more)
 token_pushed s start at n items more kind k so_far is some more_is =
-    let t : Token = record { kind = k; span = record { start = record { offset = at }; end = record { offset = at + n } } } in
-    let made : map spelled more ≡ map spelled items ++ spelled t ∷ [] = ap (map spelled) more_is ∙ map_push spelled items t in
-    rw made (cut_token s start at n (lexeme_of k) (map spelled items) so_far (subst (λ k. IsLongestPiece (drop at s) n (option_map lexeme_of k)) some is))
+    let t : Token =
+      record { kind = k; span = record { start = record { offset = at }; end = record { offset = at + n } } } in
+    let made : map spelled more ≡ map spelled items ++ spelled t ∷ [] =
+      ap (map spelled) more_is ∙ map_push spelled items t in
+    rw made (cut_token s start at n (lexeme_of k) (map spelled items) so_far
+      (subst (λ k. IsLongestPiece (drop at s) n (option_map lexeme_of k)) some is))
 
-fault_of : (limit : ℕ) (s : List ℕ) (e : TokenError) → length s ≤ limit → IsUtf8 s → IsFaultFrom s (mark_len s) e → IsFaultOf limit s e
+fault_of : (limit : ℕ) (s : List ℕ) (e : TokenError) → length s ≤ limit → IsUtf8 s → IsFaultFrom s (mark_len s) e
+    → IsFaultOf limit s e
 fault_of limit s (errors.At place kind) short utf8 fault = inr (inr (short, utf8, fault))
 fault_of limit s errors.NoMemory short utf8 fault = tt
 
 -- what the cutting answers of a fault is the text's fault, where the text is short and UTF-8
-pub fault_answer : (limit : ℕ) (s source : List ℕ) (mark : ℕ) (e : TokenError) → length s ≤ limit → IsUtf8 s → source ≡ s → mark ≡ mark_len s
+pub fault_answer : (limit : ℕ) (s source : List ℕ) (mark : ℕ) (e : TokenError) → length s ≤ limit → IsUtf8 s
+    → source ≡ s → mark ≡ mark_len s
     → IsFaultFrom source mark e → IsFaultOf limit s e
 fault_answer limit s source mark e short utf8 same mark_is fault =
     fault_of limit s e short utf8 (rw (← mark_is) (subst (λ (l : List ℕ). IsFaultFrom l mark e) same fault))
 
 -- ---- places
 
-pub cut_within : (s : List ℕ) (from : ℕ) (ps : List Piece) (to : ℕ) → from ≤ length s → IsCutIntoPieces s from ps to → to ≤ length s
+pub cut_within : (s : List ℕ) (from : ℕ) (ps : List Piece) (to : ℕ) → from ≤ length s → IsCutIntoPieces s from ps to
+    → to ≤ length s
 cut_within s from [] to within cut = omega (arith, cut)
-cut_within s from (p ∷ ps) to within cut = cut_within s (from + p.len) ps to (omega (arith, cut.0.fits, length-drop from s)) cut.1
+cut_within s from (p ∷ ps) to within cut =
+    cut_within s (from + p.len) ps to (omega (arith, cut.0.fits, length-drop from s)) cut.1
 
 string_fault_within : (s : List ℕ) (at : ℕ) (kind : Kind) → IsStringFault s at kind → at ≤ length s
 string_fault_within s at kind (quote, after, parts, end, opened, fault) =
@@ -122,10 +141,14 @@ piece_fault_within s at kind (inr (inr (inl big))) = omega (arith, big.1)
 piece_fault_within s at kind (inr (inr (inr (inl open_)))) = omega (arith, open_.1)
 piece_fault_within s at kind (inr (inr (inr (inr fault)))) = string_fault_within s at kind fault
 
-fault_within : (s : List ℕ) (from : ℕ) (e : TokenError) → from ≤ length s → IsFaultFrom s from e → IsPlacedWithin (length s) e
+fault_within : (s : List ℕ) (from : ℕ) (e : TokenError) → from ≤ length s → IsFaultFrom s from e
+    → IsPlacedWithin (length s) e
 fault_within s from (errors.At place kind) within fault =
-    omega (arith, cut_within s from fault.0 fault.1 within fault.3, piece_fault_within (drop fault.1 s) fault.2 kind fault.4, fault.5, length-drop fault.1 s)
+    omega (arith, cut_within s from fault.0 fault.1 within fault.3,
+      piece_fault_within (drop fault.1 s) fault.2 kind fault.4, fault.5, length-drop fault.1 s)
 fault_within s from errors.NoMemory within fault = tt
 
-pub placed_within : (s source : List ℕ) (mark : ℕ) (e : TokenError) → source ≡ s → mark ≤ length s → IsFaultFrom source mark e → IsPlacedWithin (length s) e
-placed_within s source mark e same within fault = fault_within s mark e within (subst (λ (l : List ℕ). IsFaultFrom l mark e) same fault)
+pub placed_within : (s source : List ℕ) (mark : ℕ) (e : TokenError) → source ≡ s → mark ≤ length s
+    → IsFaultFrom source mark e → IsPlacedWithin (length s) e
+placed_within s source mark e same within fault =
+    fault_within s mark e within (subst (λ (l : List ℕ). IsFaultFrom l mark e) same fault)

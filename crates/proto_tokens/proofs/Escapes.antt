@@ -30,7 +30,8 @@ escape_begins bs (character n) unicode = rw unicode.2 (omega arith, refl)
 -- the first bytes of the text are fixed, and from one to most digits of a base may follow
 pub record EscapesByDigits (s digits : List ℕ) (head most base : ℕ) : Type 0 where
   pub long : length s ≡ head + length digits
-  pub into : (j n : ℕ) → 0 < j → j ≤ most → j ≤ length digits → Writes base (take j digits) n → IsEscape (take (head + j) s) (byte n)
+  pub into : (j n : ℕ) → 0 < j → j ≤ most → j ≤ length digits → Writes base (take j digits) n
+      → IsEscape (take (head + j) s) (byte n)
   pub out : (k : ℕ) (e : Escaped) → k ≤ length s → IsEscape (take k s) e
       → (j : ℕ) × (n : ℕ) × (k ≡ head + j) × (0 < j) × (j ≤ most) × (e ≡ byte n) × Writes base (take j digits) n
 
@@ -45,20 +46,25 @@ module _ (s digits : List ℕ) (head most base : ℕ) (by : EscapesByDigits s di
   all_written =
       let runs = run_passes (λ d. is_digit d base) (take most digits) in
       let here : AllPass (λ d. is_digit d base) (take m (take most digits)) = rw m_is runs in
-      record { digits_of_base = subst (λ (l : List ℕ). AllPass (λ d. is_digit d base) l) (take-take m most digits m_fits.0) here; value = refl }
+      record { digits_of_base = subst (λ (l : List ℕ). AllPass (λ d. is_digit d base) l)
+          (take-take m most digits m_fits.0) here; value = refl }
 
   no_more : (j n : ℕ) → j ≤ most → j ≤ length digits → Writes base (take j digits) n → j ≤ m
   no_more j n at_most within writes =
-      let all : AllPass (λ d. is_digit d base) (take j (take most digits)) = rw (take-take j most digits at_most) writes.digits_of_base in
-      omega (arith, run_longest (λ d. is_digit d base) (take most digits) j (omega (arith, length-take most digits)) all, m_is)
+      let all : AllPass (λ d. is_digit d base) (take j (take most digits)) =
+        rw (take-take j most digits at_most) writes.digits_of_base in
+      omega (arith, run_longest (λ d. is_digit d base) (take most digits) j
+        (omega (arith, length-take most digits)) all, m_is)
 
-  pub digits_found : (v : ℕ) → 0 < m → v ≡ digits_value base (take m digits) → v < 256 → IsAllowedEscape s (head + m) (byte v)
+  pub digits_found : (v : ℕ) → 0 < m → v ≡ digits_value base (take m digits) → v < 256
+      → IsAllowedEscape s (head + m) (byte v)
   digits_found v pos v_is small =
       let fits = m_fits in (
         record {
           fits = omega (arith, by.long);
           escape_is = by.into m v pos fits.0 fits.1 (rw v_is all_written);
-          longest = λ k other lt within is. let o = by.out k other within is in omega (arith, o.2, no_more o.0 o.1 o.4 (omega (arith, by.long, o.2)) o.6);
+          longest = λ k other lt within is. let o = by.out k other within is in
+              omega (arith, o.2, no_more o.0 o.1 o.4 (omega (arith, by.long, o.2)) o.6);
         },
         small,
       )
@@ -72,10 +78,12 @@ module _ (s digits : List ℕ) (head most base : ℕ) (by : EscapesByDigits s di
       let le = no_more o.0 o.1 o.4 within o.6 in
       let m_bounds = m_fits in
       let pos : 0 < m = omega (arith, o.3) in
-      let whole : o.0 < m → ⊥ = λ lt. longest.longest (head + m) (byte (digits_value base (take m digits))) (omega (arith, o.2)) (omega (arith, by.long))
+      let whole : o.0 < m → ⊥ = λ lt. longest.longest (head + m) (byte (digits_value base (take m digits)))
+        (omega (arith, o.2)) (omega (arith, by.long))
       (by.into m (digits_value base (take m digits)) pos m_bounds.0 m_bounds.1 all_written) in
       let same : o.0 ≡ m = omega (arith, whole, le) in
-      let value : o.1 ≡ digits_value base (take m digits) = o.6.value ∙ ap (λ j. digits_value base (take j digits)) same in
+      let value : o.1 ≡ digits_value base (take m digits) =
+        o.6.value ∙ ap (λ j. digits_value base (take j digits)) same in
       let small : o.1 < 256 = subst IsAllowed o.5 allowed.1 in
       omega (arith, value, big pos)
 
@@ -107,14 +115,16 @@ module _ (digits : List ℕ) (begins_so : begins (λ d. is_digit d 8) digits ≡
   octal_out bs (character n) k bs_is unicode pos =
       let same : bs ≡ unicode.0 ∷ unicode.1 = let e : 92 ∷ bs ≡ 92 ∷ unicode.0 ∷ unicode.1 = unicode.2 in cc in
       let digit = first_digit k pos unicode.0 unicode.1 (sym bs_is ∙ same) in
-      absurd (elim unicode.3 [ inl u ↦ let v = u.0 in grind (arith, nat_tests) | inr u ↦ let v = u.0 in grind (arith, nat_tests) ])
+      absurd (elim unicode.3 [ inl u ↦ let v = u.0 in grind (arith, nat_tests) | inr u ↦ let v = u.0 in
+        grind (arith, nat_tests) ])
 
   pub octal_by_digits : EscapesByDigits (92 ∷ digits) digits 1 3 8
   octal_by_digits = record {
     long = omega arith;
     into = λ j n pos at_most within writes.
         let same : 1 + j ≡ suc j = omega arith in
-        rw same (inr (inl (take j digits, refl, omega (arith, length-take-le j digits within), omega (arith, length-take-le j digits within), writes)));
+        rw same (inr (inl (take j digits, refl, omega (arith, length-take-le j digits within),
+          omega (arith, length-take-le j digits within), writes)));
     out = out;
   }
     where
@@ -128,14 +138,16 @@ module _ (digits : List ℕ) (begins_so : begins (λ d. is_digit d 8) digits ≡
           (j, o.0, omega arith, omega (arith, two, len), omega (arith, o.1, len), o.2, o.3)
 
 module _ (x : ℕ) (form : (x ≡ 120) ⊎ (x ≡ 88)) (digits : List ℕ) where
-  pub hex_out : (bs : List ℕ) (e : Escaped) → IsEscape (92 ∷ x ∷ bs) e → (n : ℕ) × (0 < length bs) × (length bs ≤ 2) × (e ≡ byte n) × Writes 16 bs n
+  pub hex_out : (bs : List ℕ) (e : Escaped) → IsEscape (92 ∷ x ∷ bs) e → (n : ℕ) × (0 < length bs) × (length bs ≤ 2)
+      × (e ≡ byte n) × Writes 16 bs n
   hex_out bs (byte n) (inl simple) =
       let same : x ≡ simple.0 = let e : 92 ∷ x ∷ bs ≡ 92 ∷ simple.0 ∷ [] = simple.1 in cc in
       let none : simple_escape x ≡ None = elim form [ inl e ↦ ap simple_escape e | inr e ↦ ap simple_escape e ] in
       absurd (let e : Some n ≡ None = sym simple.2 ∙ ap simple_escape (sym same) ∙ none in cc)
   hex_out bs (byte n) (inr (inl octal)) =
       let same : x ∷ bs ≡ octal.0 = let e : 92 ∷ x ∷ bs ≡ 92 ∷ octal.0 = octal.1 in cc in
-      let digit = All-head (λ d. is_digit d 8 ≡ true) x bs (subst (λ (l : List ℕ). AllPass (λ d. is_digit d 8) l) (sym same) octal.4.digits_of_base) in
+      let digit = All-head (λ d. is_digit d 8 ≡ true) x bs
+        (subst (λ (l : List ℕ). AllPass (λ d. is_digit d 8) l) (sym same) octal.4.digits_of_base) in
       absurd (elim form [ inl e ↦ grind (arith, nat_tests) | inr e ↦ grind (arith, nat_tests) ])
   hex_out bs (byte n) (inr (inr hex)) =
       let same : bs ≡ hex.1 = let e : 92 ∷ x ∷ bs ≡ 92 ∷ hex.0 ∷ hex.1 = hex.2 in cc in
@@ -178,18 +190,21 @@ module _ (u count : ℕ) (form : ((u ≡ 117) × (count ≡ 4)) ⊎ ((u ≡ 85) 
   u_is : (u ≡ 117) ⊎ (u ≡ 85)
   u_is = elim form [ inl f ↦ inl f.0 | inr f ↦ inr f.0 ]
 
-  pub unicode_out : (bs : List ℕ) (e : Escaped) → IsEscape (92 ∷ u ∷ bs) e → (n : ℕ) × (length bs ≡ count) × (e ≡ character n) × Writes 16 bs n
+  pub unicode_out : (bs : List ℕ) (e : Escaped) → IsEscape (92 ∷ u ∷ bs) e
+      → (n : ℕ) × (length bs ≡ count) × (e ≡ character n) × Writes 16 bs n
   unicode_out bs (byte n) (inl simple) =
       let same : u ≡ simple.0 = let e : 92 ∷ u ∷ bs ≡ 92 ∷ simple.0 ∷ [] = simple.1 in cc in
       let none : simple_escape u ≡ None = elim u_is [ inl e ↦ ap simple_escape e | inr e ↦ ap simple_escape e ] in
       absurd (let e : Some n ≡ None = sym simple.2 ∙ ap simple_escape (sym same) ∙ none in cc)
   unicode_out bs (byte n) (inr (inl octal)) =
       let same : u ∷ bs ≡ octal.0 = let e : 92 ∷ u ∷ bs ≡ 92 ∷ octal.0 = octal.1 in cc in
-      let digit = All-head (λ d. is_digit d 8 ≡ true) u bs (subst (λ (l : List ℕ). AllPass (λ d. is_digit d 8) l) (sym same) octal.4.digits_of_base) in
+      let digit = All-head (λ d. is_digit d 8 ≡ true) u bs
+        (subst (λ (l : List ℕ). AllPass (λ d. is_digit d 8) l) (sym same) octal.4.digits_of_base) in
       absurd (elim u_is [ inl e ↦ grind (arith, nat_tests) | inr e ↦ grind (arith, nat_tests) ])
   unicode_out bs (byte n) (inr (inr hex)) =
       let same : u ≡ hex.0 = let e : 92 ∷ u ∷ bs ≡ 92 ∷ hex.0 ∷ hex.1 = hex.2 in cc in
-      absurd (elim u_is [ inl e ↦ elim hex.3 [ inl x ↦ omega arith | inr x ↦ omega arith ] | inr e ↦ elim hex.3 [ inl x ↦ omega arith | inr x ↦ omega arith ] ])
+      absurd (elim u_is [ inl e ↦ elim hex.3 [ inl x ↦ omega arith | inr x ↦ omega arith ]
+        | inr e ↦ elim hex.3 [ inl x ↦ omega arith | inr x ↦ omega arith ] ])
   unicode_out bs (character n) unicode =
       let first : u ≡ unicode.0 = let e : 92 ∷ u ∷ bs ≡ 92 ∷ unicode.0 ∷ unicode.1 = unicode.2 in cc in
       let same : bs ≡ unicode.1 = let e : 92 ∷ u ∷ bs ≡ 92 ∷ unicode.0 ∷ unicode.1 = unicode.2 in cc in
@@ -224,7 +239,8 @@ module _ (u count : ℕ) (form : ((u ≡ 117) × (count ≡ 4)) ⊎ ((u ≡ 85) 
         scalar,
       )
 
-  pub character_refused : ((n : ℕ) → count ≤ length digits → Writes 16 (take count digits) n → IsScalar n → ⊥) → HasNoEscape (92 ∷ u ∷ digits)
+  pub character_refused : ((n : ℕ) → count ≤ length digits → Writes 16 (take count digits) n → IsScalar n → ⊥)
+      → HasNoEscape (92 ∷ u ∷ digits)
   character_refused none n e allowed =
       let o = unicode_at n e allowed.0.fits allowed.0.escape_is in
       let fits = allowed.0.fits in
@@ -232,8 +248,10 @@ module _ (u count : ℕ) (form : ((u ≡ 117) × (count ≡ 4)) ⊎ ((u ≡ 85) 
 
 -- ---- the simple escapes
 
-module _ (c : ℕ) (rest : List ℕ) (no_digit : is_digit c 8 ≡ false) (no_x : c ≢ 120) (no_X : c ≢ 88) (no_u : c ≢ 117) (no_U : c ≢ 85) where
-  pub simple_out : (bs : List ℕ) (e : Escaped) → IsEscape (92 ∷ c ∷ bs) e → (n : ℕ) × (length bs ≡ 0) × (e ≡ byte n) × (simple_escape c ≡ Some n)
+module _ (c : ℕ) (rest : List ℕ) (no_digit : is_digit c 8 ≡ false) (no_x : c ≢ 120) (no_X : c ≢ 88) (no_u : c ≢ 117)
+    (no_U : c ≢ 85) where
+  pub simple_out : (bs : List ℕ) (e : Escaped) → IsEscape (92 ∷ c ∷ bs) e → (n : ℕ) × (length bs ≡ 0) × (e ≡ byte n)
+      × (simple_escape c ≡ Some n)
   simple_out bs (byte n) (inl simple) =
       let same : c ≡ simple.0 = let e : 92 ∷ c ∷ bs ≡ 92 ∷ simple.0 ∷ [] = simple.1 in cc in
       let nothing : bs ≡ [] = let e : 92 ∷ c ∷ bs ≡ 92 ∷ simple.0 ∷ [] = simple.1 in cc in
@@ -277,11 +295,13 @@ nothing_behind n e allowed =
     let two = escape_two (take n (92 ∷ [])) e allowed.0.escape_is in
     omega (arith, allowed.0.fits, length-take-le {A = ℕ} n (92 ∷ []) allowed.0.fits)
 
-pub digits_begin : (digits : List ℕ) (most m : ℕ) → begins (λ d. is_digit d 8) digits ≡ true → 0 < most → m ≡ prefix_len (λ d. is_digit d 8) (take most digits)
+pub digits_begin : (digits : List ℕ) (most m : ℕ) → begins (λ d. is_digit d 8) digits ≡ true → 0 < most
+    → m ≡ prefix_len (λ d. is_digit d 8) (take most digits)
     → 0 < m
 digits_begin digits zero m e pos m_is = absurd (omega arith)
 digits_begin [] (suc most) m e pos m_is = absurd cc
-digits_begin (d ∷ digits) (suc most) m e pos m_is = omega (arith, m_is, run_nonempty (λ d. is_digit d 8) (d ∷ take most digits) e)
+digits_begin (d ∷ digits) (suc most) m e pos m_is =
+    omega (arith, m_is, run_nonempty (λ d. is_digit d 8) (d ∷ take most digits) e)
 
 -- the byte behind the backslash is none of those that begin a longer escape
 pub record IsSimpleForm (c : ℕ) : Type 0 where
@@ -295,14 +315,17 @@ no_octal : (c : ℕ) → (c < 48) ⊎ (56 ≤ c) → is_digit c 8 ≡ false
 no_octal c (inl below) = grind (arith, nat_tests)
 no_octal c (inr above) = grind (arith, nat_tests)
 
-pub simple_behind : (after : List ℕ) (c n : ℕ) → Some c ≡ slice_get after 0 → IsSimpleForm c → Some n ≡ simple_escape c → n < 256
+pub simple_behind : (after : List ℕ) (c n : ℕ) → Some c ≡ slice_get after 0 → IsSimpleForm c
+    → Some n ≡ simple_escape c → n < 256
     → IsAllowedEscape (92 ∷ after) 2 (byte n)
 simple_behind [] c n at form simple small = absurd cc
 simple_behind (b ∷ after) c n at form simple small =
     let same : c ≡ b = cc in
-    rw (← same) (simple_found c after (no_octal c form.no_digit) form.no_x form.no_X form.no_u form.no_U n (sym simple) small)
+    rw (← same) (simple_found c after (no_octal c form.no_digit) form.no_x form.no_X form.no_u form.no_U n
+      (sym simple) small)
 
-pub none_behind : (after : List ℕ) (c : ℕ) → Some c ≡ slice_get after 0 → IsSimpleForm c → None ≡ simple_escape c → HasNoEscape (92 ∷ after)
+pub none_behind : (after : List ℕ) (c : ℕ) → Some c ≡ slice_get after 0 → IsSimpleForm c → None ≡ simple_escape c
+    → HasNoEscape (92 ∷ after)
 none_behind [] c at form none = absurd cc
 none_behind (b ∷ after) c at form none =
     let same : c ≡ b = cc in

@@ -30,25 +30,31 @@ step_grows base n (d ∷ ds) pos =
     let once : n * 1 ≤ n * base = mul-le-mul_left n pos in
     omega (arith, rest, once)
 
-pub digits_value_prefix : (base : ℕ) (ds : List ℕ) (i : ℕ) → 0 < base → digits_value base (take i ds) ≤ digits_value base ds
+pub digits_value_prefix : (base : ℕ) (ds : List ℕ) (i : ℕ) → 0 < base
+    → digits_value base (take i ds) ≤ digits_value base ds
 digits_value_prefix base ds i pos =
     let joined : fold (step base) 0 ds ≡ fold (step base) (fold (step base) 0 (take i ds)) (drop i ds) =
-    ap (λ (l : List ℕ). fold (step base) 0 l) (sym (take-append-drop i ds)) ∙ fold-append (step base) 0 (take i ds) (drop i ds) in
+    ap (λ (l : List ℕ). fold (step base) 0 l) (sym (take-append-drop i ds))
+      ∙ fold-append (step base) 0 (take i ds) (drop i ds) in
     omega (arith, joined, step_grows base (fold (step base) 0 (take i ds)) (drop i ds) pos)
 
 -- one step past the greatest number, so the whole is past it too
-pub too_big_from_step : (base : ℕ) (ds : List ℕ) (i value factor : ℕ) → 0 < base → i < length ds → value ≡ digits_value base (take i ds) → factor ≡ base
+pub too_big_from_step : (base : ℕ) (ds : List ℕ) (i value factor : ℕ) → 0 < base → i < length ds
+    → value ≡ digits_value base (take i ds) → factor ≡ base
     → 2 ^ 64 ≤ value * factor + digit_value (get_or ds i 0) → 2 ^ 64 ≤ digits_value base ds
 too_big_from_step base ds i value factor pos lt value_is factor_is big =
     let product : value * factor ≡ digits_value base (take i ds) * base = (λ k. value_is k * factor_is k) in
     omega (arith, digits_value_more base ds i lt, digits_value_prefix base ds (i + 1) pos, product)
 
 pub not_digits : (base : ℕ) (ds : List ℕ) (n : ℕ) → list_all (λ d. is_digit d base) ds ≡ false → Writes base ds n → ⊥
-not_digits base ds n off w = absurd (false≢true (sym off ∙ list_all-from_AllPass (λ d. is_digit d base) ds w.digits_of_base))
+not_digits base ds n off w =
+    absurd (false≢true (sym off ∙ list_all-from_AllPass (λ d. is_digit d base) ds w.digits_of_base))
 
-pub has_value : (bs : List ℕ) (base : ℕ) (ds : List ℕ) (value : Option ℕ) (result : Result ℕ Kind) → list_all (λ d. is_digit d base) ds ≡ true
+pub has_value : (bs : List ℕ) (base : ℕ) (ds : List ℕ) (value : Option ℕ) (result : Result ℕ Kind)
+    → list_all (λ d. is_digit d base) ds ≡ true
     → ((n : ℕ) → IsNumeral bs n ↔ Writes base ds n)
-    → MatchOption value (2 ^ 64 ≤ digits_value base ds) (λ n. n ≡ digits_value base ds) → result ≡ ok_or value NumberTooBig
+    → MatchOption value (2 ^ 64 ≤ digits_value base ds) (λ n. n ≡ digits_value base ds)
+    → result ≡ ok_or value NumberTooBig
     → MatchResult result (IsNumeral bs) (IsNumeralFault bs)
 has_value bs base ds None result on parts big e = rw e (inr (
   refl,
@@ -60,5 +66,7 @@ has_value bs base ds None result on parts big e = rw e (inr (
 has_value bs base ds (Some n) result on parts same e =
     rw e ((parts n).1 (record { digits_of_base = AllPass-from_list_all (λ d. is_digit d base) ds on; value = same }))
 
-pub are_written : (base : ℕ) (ds : List ℕ) (n : ℕ) → list_all (λ d. is_digit d base) ds ≡ true → n ≡ digits_value base ds → Writes base ds n
-are_written base ds n on value = record { digits_of_base = AllPass-from_list_all (λ d. is_digit d base) ds on; value = value }
+pub are_written : (base : ℕ) (ds : List ℕ) (n : ℕ) → list_all (λ d. is_digit d base) ds ≡ true
+    → n ≡ digits_value base ds → Writes base ds n
+are_written base ds n on value = record { digits_of_base = AllPass-from_list_all (λ d. is_digit d base) ds on;
+    value = value }

@@ -36,7 +36,8 @@ read_none quote after = record { within = omega arith; parts = []; cut = refl; v
 value_of-push : (ps : List Part) (p : Part) → value_of (ps ++ p ∷ []) ≡ value_of ps ++ p.value
 value_of-push ps p = sym (flat_map_more (λ (p : Part). p.value) [] ps p)
 
-read_part : (quote : ℕ) (after value : List ℕ) (end : ℕ) (p : Part) → IsReadUpTo quote after value end → IsPart quote (drop end after) p
+read_part : (quote : ℕ) (after value : List ℕ) (end : ℕ) (p : Part) → IsReadUpTo quote after value end
+    → IsPart quote (drop end after) p
     → end + p.len ≤ length after → IsReadUpTo quote after (value ++ p.value) (end + p.len)
 read_part quote after value end p so_far is within = record {
   within = within;
@@ -45,17 +46,22 @@ read_part quote after value end p so_far is within = record {
   value_is = ap (λ (v : List ℕ). v ++ p.value) so_far.value_is ∙ sym (value_of-push so_far.parts p);
 }
 
-pub read_escape : (quote : ℕ) (after value more : List ℕ) (end len : ℕ) (e : Escaped) → IsReadUpTo quote after value end → end < length after
+pub read_escape : (quote : ℕ) (after value more : List ℕ) (end len : ℕ) (e : Escaped) → IsReadUpTo quote after value end
+    → end < length after
     → get_or after end 0 ≡ 92 → IsAllowedEscape (92 ∷ drop (end + 1) after) len e
     → more ≡ value ++ escaped_bytes e → IsReadUpTo quote after more (end + len)
 read_escape quote after value more end len e so_far lt backslash allowed more_is =
     let p : Part = record { len = len; value = escaped_bytes e } in
-    let here : drop end after ≡ 92 ∷ drop (end + 1) after = drop_more after end 0 lt ∙ ap (λ b. b ∷ drop (end + 1) after) backslash in
-    let is : IsAllowedEscape (drop end after) len e = subst (λ (l : List ℕ). IsAllowedEscape l len e) (sym here) allowed in
-    rw more_is (read_part quote after value end p so_far (inr (e, is, refl)) (omega (arith, is.0.fits, length-drop end after)))
+    let here : drop end after ≡ 92 ∷ drop (end + 1) after =
+      drop_more after end 0 lt ∙ ap (λ b. b ∷ drop (end + 1) after) backslash in
+    let is : IsAllowedEscape (drop end after) len e =
+      subst (λ (l : List ℕ). IsAllowedEscape l len e) (sym here) allowed in
+    rw more_is
+      (read_part quote after value end p so_far (inr (e, is, refl)) (omega (arith, is.0.fits, length-drop end after)))
 
 -- one plain byte after another
-pub read_run : (quote : ℕ) (after value : List ℕ) (end n : ℕ) → IsReadUpTo quote after value end → n ≤ prefix_len (is_plain quote) (drop end after)
+pub read_run : (quote : ℕ) (after value : List ℕ) (end n : ℕ) → IsReadUpTo quote after value end
+    → n ≤ prefix_len (is_plain quote) (drop end after)
     → IsReadUpTo quote after (value ++ take n (drop end after)) (end + n)
 read_run quote after value end zero so_far le = rw (append-nil value, add-zero end) so_far
 read_run quote after value end (suc n) so_far le =
@@ -64,9 +70,11 @@ read_run quote after value end (suc n) so_far le =
     let longest = prefix_len-le-length (is_plain quote) (drop end after) in
     let lt : end + n < length after = omega (arith, longest, length-drop end after) in
     let plain : is_plain quote b ≡ true =
-    ap (is_plain quote) (sym (get_or-drop end after n 0)) ∙ prefix_len_passes (is_plain quote) (drop end after) n 0 (omega arith) in
+    ap (is_plain quote) (sym (get_or-drop end after n 0))
+      ∙ prefix_len_passes (is_plain quote) (drop end after) n 0 (omega arith) in
     let p : Part = record { len = 1; value = b ∷ [] } in
-    let is : IsPart quote (drop (end + n) after) p = inl (b, drop (end + n + 1) after, drop_more after (end + n) 0 lt, plain, refl, refl) in
+    let is : IsPart quote (drop (end + n) after) p =
+      inl (b, drop (end + n + 1) after, drop_more after (end + n) 0 lt, plain, refl, refl) in
     let next = read_part quote after (value ++ take n (drop end after)) (end + n) p before is (omega arith) in
     let taken : take (suc n) (drop end after) ≡ take n (drop end after) ++ b ∷ [] =
     ap (λ k. take k (drop end after)) (sym (add-one n)) ∙ take_more (drop end after) n 0 (omega (arith, longest))
@@ -87,7 +95,8 @@ read_plain quote after value n n_is value_is =
 -- ---- where no part stands
 
 -- an escape begins with a backslash
-pub escape_first : (s : List ℕ) (b : ℕ) (rest : List ℕ) (n : ℕ) (e : Escaped) → s ≡ b ∷ rest → IsAllowedEscape s n e → b ≡ 92
+pub escape_first : (s : List ℕ) (b : ℕ) (rest : List ℕ) (n : ℕ) (e : Escaped) → s ≡ b ∷ rest
+    → IsAllowedEscape s n e → b ≡ 92
 escape_first s b rest n e s_is allowed =
     let first = escape_begins (take n s) e allowed.0.escape_is in
     let pos : 0 < n = omega (arith, first.0, length-take-le n s allowed.0.fits) in
@@ -96,7 +105,8 @@ escape_first s b rest n e s_is allowed =
 pub not_plain : (quote b : ℕ) → b ≡ 92 → is_plain quote b ≡ false
 not_plain quote b e = grind (arith, nat_tests)
 
-pub no_part : (quote : ℕ) (s : List ℕ) (b : ℕ) (rest : List ℕ) → s ≡ b ∷ rest → is_plain quote b ≡ false → (b ≡ 92 → HasNoEscape s) → (p : Part)
+pub no_part : (quote : ℕ) (s : List ℕ) (b : ℕ) (rest : List ℕ) → s ≡ b ∷ rest → is_plain quote b ≡ false
+    → (b ≡ 92 → HasNoEscape s) → (p : Part)
     → IsPart quote s p → ⊥
 no_part quote s b rest s_is not_plain none p (inl plain) =
     let same : b ≡ plain.0 = let e : b ∷ rest ≡ plain.0 ∷ plain.1 = sym s_is ∙ plain.2 in cc in
@@ -126,22 +136,29 @@ part_len quote s p q (inr a) (inl b) =
 part_len quote s p q (inr a) (inr b) = same_longest s p.len q.len a.0 b.0 a.1.0 b.1.0
 
 -- two cuttings that end where no part stands end at one place
-cut_end : (quote : ℕ) (s : List ℕ) (from : ℕ) (ps qs : List Part) (m n : ℕ) → IsCutInto (IsPart quote) (λ p. p.len) s from ps m
+cut_end : (quote : ℕ) (s : List ℕ) (from : ℕ) (ps qs : List Part) (m n : ℕ)
+    → IsCutInto (IsPart quote) (λ p. p.len) s from ps m
     → IsCutInto (IsPart quote) (λ p. p.len) s from qs n
     → ((p : Part) → IsPart quote (drop m s) p → ⊥) → ((p : Part) → IsPart quote (drop n s) p → ⊥) → m ≡ n
 cut_end quote s from [] [] m n a b no_m no_n = sym a ∙ b
-cut_end quote s from [] (q ∷ qs) m n a b no_m no_n = absurd (no_m q (subst (λ (i : ℕ). IsPart quote (drop i s) q) a b.0))
-cut_end quote s from (p ∷ ps) [] m n a b no_m no_n = absurd (no_n p (subst (λ (i : ℕ). IsPart quote (drop i s) p) b a.0))
+cut_end quote s from [] (q ∷ qs) m n a b no_m no_n =
+    absurd (no_m q (subst (λ (i : ℕ). IsPart quote (drop i s) q) a b.0))
+cut_end quote s from (p ∷ ps) [] m n a b no_m no_n =
+    absurd (no_n p (subst (λ (i : ℕ). IsPart quote (drop i s) p) b a.0))
 cut_end quote s from (p ∷ ps) (q ∷ qs) m n a b no_m no_n =
     let same = part_len quote (drop from s) p q a.0 b.0 in
-    cut_end quote s (from + p.len) ps qs m n a.1 (subst (λ (i : ℕ). IsCutInto (IsPart quote) (λ p. p.len) s (from + i) qs n) (sym same) b.1) no_m no_n
+    cut_end quote s (from + p.len) ps qs m n a.1
+      (subst (λ (i : ℕ). IsCutInto (IsPart quote) (λ p. p.len) s (from + i) qs n) (sym same) b.1) no_m no_n
 
 -- no part stands at the closing quote
-pub no_part_at_quote : (quote : ℕ) (after : List ℕ) (end : ℕ) → is_quote quote ≡ true → HasByteAt after end quote → (p : Part) → IsPart quote (drop end after) p
+pub no_part_at_quote : (quote : ℕ) (after : List ℕ) (end : ℕ) → is_quote quote ≡ true → HasByteAt after end quote
+    → (p : Part) → IsPart quote (drop end after) p
     → ⊥
 no_part_at_quote quote after end quote_is closes p is =
-    no_part quote (drop end after) (get_or after end 0) (drop (end + 1) after) (drop_more after end 0 closes.0) (let e = closes.1 in grind (arith, nat_tests))
-    (λ backslash. absurd (both_ways (is_quote 92) refl (subst (λ (b : ℕ). is_quote b ≡ true) (sym closes.1 ∙ backslash) quote_is))) p is
+    no_part quote (drop end after) (get_or after end 0) (drop (end + 1) after) (drop_more after end 0 closes.0)
+      (let e = closes.1 in grind (arith, nat_tests))
+    (λ backslash. absurd
+      (both_ways (is_quote 92) refl (subst (λ (b : ℕ). is_quote b ≡ true) (sym closes.1 ∙ backslash) quote_is))) p is
 
 module _ (s : List ℕ) (n : ℕ) (value : List ℕ) (is : IsString s n value) where
   string_longest : (k : ℕ) (other : List ℕ) → n < k → IsString s k other → ⊥
@@ -153,8 +170,10 @@ module _ (s : List ℕ) (n : ℕ) (value : List ℕ) (is : IsString s n value) w
       subst (λ (q : ℕ). IsCutInto (IsPart q) (λ p. p.len) is.1 0 more.2 more.3) quote
       (subst (λ (l : List ℕ). IsCutInto (IsPart more.0) (λ p. p.len) l 0 more.2 more.3) after more.4.cut) in
       let closes : HasByteAt is.1 more.3 is.0 =
-      subst (λ (q : ℕ). HasByteAt is.1 more.3 q) quote (subst (λ (l : List ℕ). HasByteAt l more.3 more.0) after more.5) in
-      let same = cut_end is.0 is.1 0 is.2 more.2 is.3 more.3 is.4.cut cut (no_part_at_quote is.0 is.1 is.3 is.4.quote_is is.5)
+      subst (λ (q : ℕ). HasByteAt is.1 more.3 q) quote
+        (subst (λ (l : List ℕ). HasByteAt l more.3 more.0) after more.5) in
+      let same = cut_end is.0 is.1 0 is.2 more.2 is.3 more.3 is.4.cut cut
+        (no_part_at_quote is.0 is.1 is.3 is.4.quote_is is.5)
       (no_part_at_quote is.0 is.1 more.3 is.4.quote_is closes) in
       omega (arith, is.6, more.6, same)
 
@@ -163,7 +182,8 @@ module _ (s : List ℕ) (n : ℕ) (value : List ℕ) (is : IsString s n value) w
     fits = let h = is.5.0 in omega (arith, is.6, ap length is.4.begins_so, h);
     piece_is = is;
     longest = λ k other lt within other_is.
-        let first : is_quote (get_or s 0 0) ≡ true = ap (λ (l : List ℕ). is_quote (get_or l 0 0)) is.4.begins_so ∙ is.4.quote_is in
+        let first : is_quote (get_or s 0 0) ≡ true = ap (λ (l : List ℕ). is_quote (get_or l 0 0)) is.4.begins_so
+          ∙ is.4.quote_is in
         let same = quote_alone (get_or s 0 0) other first (starts s k other other_is).2 in
         string_longest k same.0 lt (subst (IsPiece s k) same.1 other_is);
   }
@@ -171,16 +191,20 @@ module _ (s : List ℕ) (n : ℕ) (value : List ℕ) (is : IsString s n value) w
 pub closed_string : (quote : ℕ) (after value : List ℕ) (end : ℕ) → IsClosed quote after value end → IsUtf8 value
     → IsLongestPiece (quote ∷ after) (end + 2) (Some (string_literal value))
 closed_string quote after value end closed utf8 =
-    longest_string (quote ∷ after) (end + 2) value (quote, after, closed.0, end, closed.1, closed.2, refl, closed.3, utf8)
+    longest_string (quote ∷ after) (end + 2) value
+      (quote, after, closed.0, end, closed.1, closed.2, refl, closed.3, utf8)
 
 -- a string that closes with a value that is no text
 pub not_text : (quote : ℕ) (after value : List ℕ) (end : ℕ) → IsClosed quote after value end → (IsUtf8 value → ⊥)
     → IsPieceFault (quote ∷ after) 0 kinds.BadEscape
 not_text quote after value end closed no_text =
-    inr (inr (inr (inr (quote, after, closed.0, end, closed.1, inr (inl (refl, refl, closed.2, λ utf8. no_text (rw closed.3 utf8)))))))
+    inr (inr
+      (inr (inr (quote, after, closed.0, end, closed.1,
+      inr (inl (refl, refl, closed.2, λ utf8. no_text (rw closed.3 utf8)))))))
 
 -- a string without escapes
-pub plain_closed : (quote : ℕ) (after : List ℕ) (n : ℕ) → is_quote quote ≡ true → n ≡ prefix_len (is_plain quote) after → HasByteAt after n quote
+pub plain_closed : (quote : ℕ) (after : List ℕ) (n : ℕ) → is_quote quote ≡ true → n ≡ prefix_len (is_plain quote) after
+    → HasByteAt after n quote
     → IsClosed quote after (take n after) n
 plain_closed quote after n quote_is n_is closes =
     let read = read_plain quote after (take n after) n n_is refl in (
@@ -191,24 +215,28 @@ plain_closed quote after n quote_is n_is closes =
     )
 
 -- what stands behind a quote at a place
-pub quote_here : (source : List ℕ) (at : ℕ) (bytes after : List ℕ) → at < length source → bytes ≡ source → after ≡ drop (at + 1) bytes
+pub quote_here : (source : List ℕ) (at : ℕ) (bytes after : List ℕ) → at < length source → bytes ≡ source
+    → after ≡ drop (at + 1) bytes
     → drop at source ≡ get_or bytes at 0 ∷ after
 quote_here source at bytes after lt same after_is = drop_more source at 0 lt ∙ rw (after_is, same) refl
 
-pub begins_quote : (source : List ℕ) (at : ℕ) (b : ℕ) (after : List ℕ) → begins is_quote (drop at source) ≡ true → drop at source ≡ b ∷ after
+pub begins_quote : (source : List ℕ) (at : ℕ) (b : ℕ) (after : List ℕ) → begins is_quote (drop at source) ≡ true
+    → drop at source ≡ b ∷ after
     → is_quote b ≡ true
 begins_quote source at b after e here = ap (begins is_quote) (sym here) ∙ e
 
 quote_ascii : (b : ℕ) → is_quote b ≡ true → b < 128
 quote_ascii b e = grind (arith, nat_tests)
 
-pub after_quote_boundary : (source : List ℕ) (at : ℕ) → IsUtf8 source → at < length source → begins is_quote (drop at source) ≡ true
+pub after_quote_boundary : (source : List ℕ) (at : ℕ) → IsUtf8 source → at < length source
+    → begins is_quote (drop at source) ≡ true
     → IsCharBoundary source (at + 1)
 after_quote_boundary source at utf8 lt e =
     IsCharBoundary-after_ascii source at utf8 lt (quote_ascii (get_or source at 0)
     (begins_quote source at (get_or source at 0) (drop (at + 1) source) e (drop_more source at 0 lt)))
 
-pub found_string : (s : List ℕ) (quote : ℕ) (after value bytes : List ℕ) (end : ℕ) → s ≡ quote ∷ after → IsClosed quote after value end → bytes ≡ value
+pub found_string : (s : List ℕ) (quote : ℕ) (after value bytes : List ℕ) (end : ℕ) → s ≡ quote ∷ after
+    → IsClosed quote after value end → bytes ≡ value
     → IsUtf8 bytes → IsLongestPiece s (end + 2) (Some (string_literal bytes))
 found_string s quote after value bytes end s_is closed same utf8 =
     rw (s_is, same) (closed_string quote after value end closed (subst IsUtf8 same utf8))
@@ -219,10 +247,12 @@ slice_behind source bytes after at len same after_is =
     let size : at + 1 + len - (at + 1) ≡ len = omega arith in
     rw (size, after_is, same) refl
 
-pub not_text_here : (s : List ℕ) (quote : ℕ) (after value : List ℕ) (end at : ℕ) (e : TokenError) → s ≡ quote ∷ after → IsClosed quote after value end
+pub not_text_here : (s : List ℕ) (quote : ℕ) (after value : List ℕ) (end at : ℕ) (e : TokenError) → s ≡ quote ∷ after
+    → IsClosed quote after value end
     → (IsUtf8 value → false ≡ true) → e ≡ errors.At (record { offset = at }) kinds.BadEscape → IsFaultAfter s at e
 not_text_here s quote after value end at e s_is closed no_text e_is =
-    rw (e_is, s_is) (0, not_text quote after value end closed (λ utf8. absurd (let h = no_text utf8 in cc)), sym (add-zero at))
+    rw (e_is, s_is) (0, not_text quote after value end closed (λ utf8. absurd (let h = no_text utf8 in cc)),
+      sym (add-zero at))
 
 -- the text or its line ends before the string closes
 pub unclosed_here : (quote : ℕ) (after value : List ℕ) (end at : ℕ) (e : TokenError) → is_quote quote ≡ true
@@ -237,7 +267,8 @@ unclosed_here quote after value end at e quote_is so_far ends e_is =
     rw e_is (0, inr (inr (inr (inr (quote, after, so_far.parts, end, opened, fault)))), sym (add-zero at))
 
 -- a backslash at which no escape stands
-pub no_escape_here : (quote : ℕ) (after value behind : List ℕ) (end at : ℕ) (e : TokenError) → is_quote quote ≡ true → IsReadUpTo quote after value end
+pub no_escape_here : (quote : ℕ) (after value behind : List ℕ) (end at : ℕ) (e : TokenError) → is_quote quote ≡ true
+    → IsReadUpTo quote after value end
     → end < length after → get_or after end 0 ≡ 92 → behind ≡ drop (end + 1) after → HasNoEscape (92 ∷ behind)
     → e ≡ errors.At (record { offset = at + (end + 1) }) kinds.BadEscape → IsFaultAfter (quote ∷ after) at e
 no_escape_here quote after value behind end at e quote_is so_far lt backslash behind_is none e_is =
@@ -247,4 +278,5 @@ no_escape_here quote after value behind end at e quote_is so_far lt backslash be
     record { begins_so = refl; quote_is = quote_is; cut = so_far.cut; within = so_far.within } in
     let no : (p : Part) → IsPart quote (drop end after) p → ⊥ =
     λ p is. no_part quote (drop end after) 92 behind here (not_plain quote 92 refl) (λ b. none') p is in
-    rw e_is (end + 1, inr (inr (inr (inr (quote, after, so_far.parts, end, opened, inl (refl, refl, (lt, backslash), no))))), refl)
+    rw e_is (end + 1,
+      inr (inr (inr (inr (quote, after, so_far.parts, end, opened, inl (refl, refl, (lt, backslash), no))))), refl)

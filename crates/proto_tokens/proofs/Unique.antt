@@ -32,7 +32,8 @@ use Rattle.proto_tokens.proofs.Pieces.{Starts, starts, numeral_numeric, slash_al
 
 x_no_digit : (x : ℕ) (digits ds : List ℕ) (n : ℕ) → (x ≡ 120) ⊎ (x ≡ 88) → x ∷ digits ≡ ds → Writes 8 ds n → ⊥
 x_no_digit x digits ds n form same writes =
-    let digit = All-head (λ d. is_digit d 8 ≡ true) x digits (subst (λ (l : List ℕ). AllPass (λ d. is_digit d 8) l) (sym same) writes.digits_of_base) in
+    let digit = All-head (λ d. is_digit d 8 ≡ true) x digits
+      (subst (λ (l : List ℕ). AllPass (λ d. is_digit d 8) l) (sym same) writes.digits_of_base) in
     elim form [ inl e ↦ grind (arith, nat_tests) | inr e ↦ grind (arith, nat_tests) ]
 
 numeral_one : (bs : List ℕ) (m n : ℕ) → IsNumeral bs m → IsNumeral bs n → m ≡ n
@@ -43,7 +44,8 @@ numeral_one bs m n (inl a) (inr (inl b)) =
     let same : a.0 ∷ a.1 ≡ b.0 = let e : 48 ∷ a.0 ∷ a.1 ≡ 48 ∷ b.0 = sym a.2 ∙ b.1 in cc in
     absurd (x_no_digit a.0 a.1 b.0 n a.3 same b.2)
 numeral_one bs m n (inl a) (inr (inr b)) =
-    let first : 48 ≡ b.0 = let e : 48 ∷ a.0 ∷ a.1 ≡ b.0 ∷ b.1 = sym a.2 ∙ b.2 in cc in absurd (omega (arith, b.3.0, first))
+    let first : 48 ≡ b.0 = let e : 48 ∷ a.0 ∷ a.1 ≡ b.0 ∷ b.1 = sym a.2 ∙ b.2 in cc in
+    absurd (omega (arith, b.3.0, first))
 numeral_one bs m n (inr (inl a)) (inl b) =
     let same : b.0 ∷ b.1 ≡ a.0 = let e : 48 ∷ b.0 ∷ b.1 ≡ 48 ∷ a.0 = sym b.2 ∙ a.1 in cc in
     absurd (x_no_digit b.0 b.1 a.0 m b.3 same a.2)
@@ -53,30 +55,38 @@ numeral_one bs m n (inr (inl a)) (inr (inl b)) =
 numeral_one bs m n (inr (inl a)) (inr (inr b)) =
     let first : 48 ≡ b.0 = let e : 48 ∷ a.0 ≡ b.0 ∷ b.1 = sym a.1 ∙ b.2 in cc in absurd (omega (arith, b.3.0, first))
 numeral_one bs m n (inr (inr a)) (inl b) =
-    let first : 48 ≡ a.0 = let e : 48 ∷ b.0 ∷ b.1 ≡ a.0 ∷ a.1 = sym b.2 ∙ a.2 in cc in absurd (omega (arith, a.3.0, first))
+    let first : 48 ≡ a.0 = let e : 48 ∷ b.0 ∷ b.1 ≡ a.0 ∷ a.1 = sym b.2 ∙ a.2 in cc in
+    absurd (omega (arith, a.3.0, first))
 numeral_one bs m n (inr (inr a)) (inr (inl b)) =
     let first : 48 ≡ a.0 = let e : 48 ∷ b.0 ≡ a.0 ∷ a.1 = sym b.1 ∙ a.2 in cc in absurd (omega (arith, a.3.0, first))
 numeral_one bs m n (inr (inr a)) (inr (inr b)) = a.4.value ∙ sym b.4.value
 
 -- ---- escapes
 
-simple_no_form : (c n : ℕ) → simple_escape c ≡ Some n → (is_digit c 8 ≡ false) × (c ≢ 120) × (c ≢ 88) × (c ≢ 117) × (c ≢ 85)
+simple_no_form : (c n : ℕ) → simple_escape c ≡ Some n → (is_digit c 8 ≡ false) × (c ≢ 120) × (c ≢ 88)
+    × (c ≢ 117) × (c ≢ 85)
 simple_no_form c n e = (
   false_from_ne_true (is_digit c 8) (λ digit. no_simple_digit c n digit e),
-  (λ same. let none : simple_escape c ≡ None = ap simple_escape same in let f : Some n ≡ None = sym e ∙ none in absurd cc),
-  (λ same. let none : simple_escape c ≡ None = ap simple_escape same in let f : Some n ≡ None = sym e ∙ none in absurd cc),
-  (λ same. let none : simple_escape c ≡ None = ap simple_escape same in let f : Some n ≡ None = sym e ∙ none in absurd cc),
-  (λ same. let none : simple_escape c ≡ None = ap simple_escape same in let f : Some n ≡ None = sym e ∙ none in absurd cc),
+  (λ same. let none : simple_escape c ≡ None = ap simple_escape same in let f : Some n ≡ None = sym e ∙ none in
+    absurd cc),
+  (λ same. let none : simple_escape c ≡ None = ap simple_escape same in let f : Some n ≡ None = sym e ∙ none in
+    absurd cc),
+  (λ same. let none : simple_escape c ≡ None = ap simple_escape same in let f : Some n ≡ None = sym e ∙ none in
+    absurd cc),
+  (λ same. let none : simple_escape c ≡ None = ap simple_escape same in let f : Some n ≡ None = sym e ∙ none in
+    absurd cc),
 )
 
-octal_begins : (digits : List ℕ) (n : ℕ) → 0 < length digits → Writes 8 digits n → begins (λ d. is_digit d 8) digits ≡ true
+octal_begins : (digits : List ℕ) (n : ℕ) → 0 < length digits → Writes 8 digits n
+    → begins (λ d. is_digit d 8) digits ≡ true
 octal_begins [] n long writes = absurd (omega arith)
 octal_begins (d ∷ digits) n long writes = All-head (λ d. is_digit d 8 ≡ true) d digits writes.digits_of_base
 
 escape_one : (bs : List ℕ) (d e : Escaped) → IsEscape bs d → IsEscape bs e → d ≡ e
 escape_one bs (byte m) e (inl simple) other =
     let no = simple_no_form simple.0 m simple.2 in
-    let o = simple_out simple.0 [] no.0 no.1 no.2 no.3 no.4 [] e (subst (λ (l : List ℕ). IsEscape l e) simple.1 other) in
+    let o = simple_out simple.0 [] no.0 no.1 no.2 no.3 no.4 [] e
+      (subst (λ (l : List ℕ). IsEscape l e) simple.1 other) in
     let same : Some m ≡ Some o.0 = sym simple.2 ∙ o.3 in
     let value : m ≡ o.0 = cc in
     ap byte value ∙ sym o.2
@@ -84,7 +94,8 @@ escape_one bs (byte m) e (inr (inl octal)) other =
     let digits = octal.0 in
     let all : digits ≡ take (length digits) digits = sym (take_all (length digits) digits (omega arith)) in
     let o =
-    octal_out digits (octal_begins digits m octal.2 octal.4) digits e (length digits) all (subst (λ (l : List ℕ). IsEscape l e) octal.1 other) octal.2 in
+    octal_out digits (octal_begins digits m octal.2 octal.4) digits e (length digits) all
+      (subst (λ (l : List ℕ). IsEscape l e) octal.1 other) octal.2 in
     let value : m ≡ o.0 = octal.4.value ∙ sym o.3.value in
     ap byte value ∙ sym o.2
 escape_one bs (byte m) e (inr (inr hex)) other =
@@ -92,7 +103,8 @@ escape_one bs (byte m) e (inr (inr hex)) other =
     let value : m ≡ o.0 = hex.6.value ∙ sym o.4.value in
     ap byte value ∙ sym o.3
 escape_one bs (character m) e unicode other =
-    let o = unicode_out unicode.0 (length unicode.1) (elim unicode.3 [ inl f ↦ inl (f.0, f.1) | inr f ↦ inr (f.0, f.1) ]) [] unicode.1 e
+    let o = unicode_out unicode.0 (length unicode.1)
+      (elim unicode.3 [ inl f ↦ inl (f.0, f.1) | inr f ↦ inr (f.0, f.1) ]) [] unicode.1 e
     (subst (λ (l : List ℕ). IsEscape l e) unicode.2 other) in
     let value : m ≡ o.0 = unicode.4.value ∙ sym o.3.value in
     ap character value ∙ sym o.2
@@ -100,15 +112,20 @@ escape_one bs (character m) e unicode other =
 -- ---- cuttings
 
 -- where one part at most stands at a place, a text has one cutting that can't go on
-pub cut_one : {P : Type 0} (IsPart : List ℕ → P → Type 0) (len : P → ℕ) → ((s : List ℕ) (p q : P) → IsPart s p → IsPart s q → p ≡ q)
-    → (s : List ℕ) (from : ℕ) (ps qs : List P) (m n : ℕ) → IsCutInto IsPart len s from ps m → IsCutInto IsPart len s from qs n
+pub cut_one : {P : Type 0} (IsPart : List ℕ → P → Type 0) (len : P → ℕ)
+    → ((s : List ℕ) (p q : P) → IsPart s p → IsPart s q → p ≡ q)
+    → (s : List ℕ) (from : ℕ) (ps qs : List P) (m n : ℕ) → IsCutInto IsPart len s from ps m
+    → IsCutInto IsPart len s from qs n
     → ((p : P) → IsPart (drop m s) p → ⊥) → ((p : P) → IsPart (drop n s) p → ⊥) → (ps ≡ qs) × (m ≡ n)
 cut_one IsPart len one s from [] [] m n a b no_m no_n = (refl, sym a ∙ b)
-cut_one IsPart len one s from [] (q ∷ qs) m n a b no_m no_n = absurd (no_m q (subst (λ (i : ℕ). IsPart (drop i s) q) a b.0))
-cut_one IsPart len one s from (p ∷ ps) [] m n a b no_m no_n = absurd (no_n p (subst (λ (i : ℕ). IsPart (drop i s) p) b a.0))
+cut_one IsPart len one s from [] (q ∷ qs) m n a b no_m no_n =
+    absurd (no_m q (subst (λ (i : ℕ). IsPart (drop i s) q) a b.0))
+cut_one IsPart len one s from (p ∷ ps) [] m n a b no_m no_n =
+    absurd (no_n p (subst (λ (i : ℕ). IsPart (drop i s) p) b a.0))
 cut_one {P} IsPart len one s from (p ∷ ps) (q ∷ qs) m n a b no_m no_n =
     let same = one (drop from s) p q a.0 b.0 in
-    let rest = cut_one IsPart len one s (from + len p) ps qs m n a.1 (subst (λ (r : P). IsCutInto IsPart len s (from + len r) qs n) (sym same) b.1) no_m no_n in
+    let rest = cut_one IsPart len one s (from + len p) ps qs m n a.1
+      (subst (λ (r : P). IsCutInto IsPart len s (from + len r) qs n) (sym same) b.1) no_m no_n in
     ((λ i. same i ∷ rest.0 i), rest.1)
 
 same_part : (p q : Part) → p.len ≡ q.len → p.value ≡ q.value → p ≡ q
@@ -126,48 +143,59 @@ part_one quote s p q (inr a) (inl b) =
     absurd (both_ways (is_plain quote b.0) (not_plain quote b.0 backslash) b.3)
 part_one quote s p q (inr a) (inr b) =
     let len = same_longest s p.len q.len a.0 b.0 a.1.0 b.1.0 in
-    let e = escape_one (take q.len s) a.0 b.0 (subst (λ (n : ℕ). IsEscape (take n s) a.0) len a.1.0.escape_is) b.1.0.escape_is in
+    let e = escape_one (take q.len s) a.0 b.0 (subst (λ (n : ℕ). IsEscape (take n s) a.0) len a.1.0.escape_is)
+      b.1.0.escape_is in
     same_part p q len (a.2 ∙ ap escaped_bytes e ∙ sym b.2)
 
 -- ---- strings
 
-opened_one : (s : List ℕ) (q r : ℕ) (a b : List ℕ) (ps qs : List Part) (m n : ℕ) → IsOpened s q a ps m → IsOpened s r b qs n
+opened_one : (s : List ℕ) (q r : ℕ) (a b : List ℕ) (ps qs : List Part) (m n : ℕ) → IsOpened s q a ps m
+    → IsOpened s r b qs n
     → ((p : Part) → IsPart q (drop m a) p → ⊥) → ((p : Part) → IsPart r (drop n b) p → ⊥)
     → (q ≡ r) × (a ≡ b) × (ps ≡ qs) × (m ≡ n)
 opened_one s q r a b ps qs m n x y no_m no_n =
     let same : q ∷ a ≡ r ∷ b = sym x.begins_so ∙ y.begins_so in
     let quote : q ≡ r = cc in
     let after : a ≡ b = cc in
-    let cut : IsCutInto (IsPart q) (λ p. p.len) a 0 qs n = subst (λ (c : ℕ). IsCutInto (IsPart c) (λ p. p.len) a 0 qs n) (sym quote)
+    let cut : IsCutInto (IsPart q) (λ p. p.len) a 0 qs n =
+      subst (λ (c : ℕ). IsCutInto (IsPart c) (λ p. p.len) a 0 qs n) (sym quote)
     (subst (λ (l : List ℕ). IsCutInto (IsPart r) (λ p. p.len) l 0 qs n) (sym after) y.cut) in
     let no_n' : (p : Part) → IsPart q (drop n a) p → ⊥ =
-    λ p is. no_n p (subst (λ (c : ℕ). IsPart c (drop n b) p) quote (subst (λ (l : List ℕ). IsPart q (drop n l) p) after is)) in
+    λ p is. no_n p
+      (subst (λ (c : ℕ). IsPart c (drop n b) p) quote (subst (λ (l : List ℕ). IsPart q (drop n l) p) after is)) in
     let one = cut_one (IsPart q) (λ p. p.len) (part_one q) a 0 ps qs m n x.cut cut no_m no_n' in
     (quote, after, one.0, one.1)
 
 string_one : (s : List ℕ) (m n : ℕ) (v w : List ℕ) → IsString s m v → IsString s n w → v ≡ w
 string_one s m n v w a b =
     let one =
-    opened_one s a.0 b.0 a.1 b.1 a.2 b.2 a.3 b.3 a.4 b.4 (no_part_at_quote a.0 a.1 a.3 a.4.quote_is a.5) (no_part_at_quote b.0 b.1 b.3 b.4.quote_is b.5) in
+    opened_one s a.0 b.0 a.1 b.1 a.2 b.2 a.3 b.3 a.4 b.4 (no_part_at_quote a.0 a.1 a.3 a.4.quote_is a.5)
+      (no_part_at_quote b.0 b.1 b.3 b.4.quote_is b.5) in
     a.7 ∙ ap value_of one.2 ∙ sym b.7
 
-no_part_at_end : (quote : ℕ) (after : List ℕ) (end : ℕ) (p : Part) → length after ≤ end → IsPart quote (drop end after) p → ⊥
-no_part_at_end quote after end p le (inl plain) = let e : 0 ≡ suc (length plain.1) = ap length (sym (drop_all end after le) ∙ plain.2) in omega arith
+no_part_at_end : (quote : ℕ) (after : List ℕ) (end : ℕ) (p : Part) → length after ≤ end
+    → IsPart quote (drop end after) p → ⊥
+no_part_at_end quote after end p le (inl plain) = let e : 0 ≡ suc (length plain.1) =
+    ap length (sym (drop_all end after le) ∙ plain.2) in omega arith
 no_part_at_end quote after end p le (inr escape) =
     let long = (escape_begins (take p.len (drop end after)) escape.0 escape.1.0.escape_is).0 in
-    omega (arith, long, length-take-le p.len (drop end after) escape.1.0.fits, escape.1.0.fits, ap length (drop_all end after le))
+    omega (arith, long, length-take-le p.len (drop end after) escape.1.0.fits, escape.1.0.fits,
+      ap length (drop_all end after le))
 
-no_part_at_byte : (quote : ℕ) (after : List ℕ) (end b : ℕ) → HasByteAt after end b → is_plain quote b ≡ false → (b ≡ 92 → ⊥) → (p : Part)
+no_part_at_byte : (quote : ℕ) (after : List ℕ) (end b : ℕ) → HasByteAt after end b → is_plain quote b ≡ false
+    → (b ≡ 92 → ⊥) → (p : Part)
     → IsPart quote (drop end after) p → ⊥
 no_part_at_byte quote after end b here not_plain no_backslash p is =
-    no_part quote (drop end after) (get_or after end 0) (drop (end + 1) after) (drop_more after end 0 here.0) (ap (is_plain quote) here.1 ∙ not_plain)
+    no_part quote (drop end after) (get_or after end 0) (drop (end + 1) after) (drop_more after end 0 here.0)
+      (ap (is_plain quote) here.1 ∙ not_plain)
     (λ e. absurd (no_backslash (sym here.1 ∙ e))) p is
 
 -- where a string's fault lies no part stands
 no_part_at_fault : (quote : ℕ) (after : List ℕ) (parts : List Part) (end at : ℕ) (kind : Kind) → is_quote quote ≡ true
     → IsPartFault quote after parts end at kind → (p : Part) → IsPart quote (drop end after) p → ⊥
 no_part_at_fault quote after parts end at kind quote_is (inl escape) p is = escape.3 p is
-no_part_at_fault quote after parts end at kind quote_is (inr (inl closed)) p is = no_part_at_quote quote after end quote_is closed.2 p is
+no_part_at_fault quote after parts end at kind quote_is (inr (inl closed)) p is =
+    no_part_at_quote quote after end quote_is closed.2 p is
 no_part_at_fault quote after parts end at kind quote_is (inr (inr (inl zero_byte))) p is =
     no_part_at_byte quote after end 0 zero_byte.2 (grind (arith, nat_tests)) (λ e. omega arith) p is
 no_part_at_fault quote after parts end at kind quote_is (inr (inr (inr open_))) p is =
@@ -178,14 +206,17 @@ no_part_at_fault quote after parts end at kind quote_is (inr (inr (inr open_))) 
     ]
 
 -- the byte where a fault lies is not the closing quote, or else the value is no text
-not_closed : (quote : ℕ) (after : List ℕ) (parts : List Part) (end at : ℕ) (kind : Kind) → is_quote quote ≡ true → IsPartFault quote after parts end at kind
+not_closed : (quote : ℕ) (after : List ℕ) (parts : List Part) (end at : ℕ) (kind : Kind) → is_quote quote ≡ true
+    → IsPartFault quote after parts end at kind
     → HasByteAt after end quote → IsUtf8 (value_of parts) → ⊥
-not_closed quote after parts end at kind quote_is (inl escape) closes utf8 = let e : quote ≡ 92 = sym closes.1 ∙ escape.2.1 in grind (arith, nat_tests)
+not_closed quote after parts end at kind quote_is (inl escape) closes utf8 = let e : quote ≡ 92 =
+    sym closes.1 ∙ escape.2.1 in grind (arith, nat_tests)
 not_closed quote after parts end at kind quote_is (inr (inl closed)) closes utf8 = closed.3 utf8
 not_closed quote after parts end at kind quote_is (inr (inr (inl zero_byte))) closes utf8 =
     let e : quote ≡ 0 = sym closes.1 ∙ zero_byte.2.1 in grind (arith, nat_tests)
 not_closed quote after parts end at kind quote_is (inr (inr (inr open_))) closes utf8 =
-    elim open_.2 [ inl ends ↦ omega (arith, closes.0) | inr line ↦ (let e : quote ≡ 10 = sym closes.1 ∙ line.1 in grind (arith, nat_tests)) ]
+    elim open_.2 [ inl ends ↦ omega (arith, closes.0)
+      | inr line ↦ (let e : quote ≡ 10 = sym closes.1 ∙ line.1 in grind (arith, nat_tests)) ]
 
 -- a string with a fault is no string
 no_string : (s : List ℕ) (n at : ℕ) (v : List ℕ) (kind : Kind) → IsString s n v → IsStringFault s at kind → ⊥
@@ -193,7 +224,8 @@ no_string s n at v kind a b =
     let one = opened_one s a.0 b.0 a.1 b.1 a.2 b.2 a.3 b.3 a.4 b.4 (no_part_at_quote a.0 a.1 a.3 a.4.quote_is a.5)
     (no_part_at_fault b.0 b.1 b.2 b.3 at kind b.4.quote_is b.5) in
     let closes : HasByteAt b.1 b.3 b.0 =
-    subst (λ (q : ℕ). HasByteAt b.1 b.3 q) one.0 (subst (λ (i : ℕ). HasByteAt b.1 i a.0) one.3 (subst (λ (l : List ℕ). HasByteAt l a.3 a.0) one.1 a.5)) in
+    subst (λ (q : ℕ). HasByteAt b.1 b.3 q) one.0
+      (subst (λ (i : ℕ). HasByteAt b.1 i a.0) one.3 (subst (λ (l : List ℕ). HasByteAt l a.3 a.0) one.1 a.5)) in
     not_closed b.0 b.1 b.2 b.3 at kind b.4.quote_is b.5 closes (subst IsUtf8 (a.7 ∙ ap value_of one.2) a.8)
 
 -- ---- pieces
@@ -220,11 +252,14 @@ none_one s n (Some (string_literal v)) a b = absurd (elim (starts s n None a).2 
 ])
 none_one s n (Some (punctuation c)) (inl blanks) b = absurd (elim (starts s n None (inl blanks)).2 [
   | inl blank ↦ (let f = (starts s n (Some (punctuation c)) b).2 in grind (arith, nat_tests))
-  | inr slash ↦ (let f = All-get_or (λ b. is_blank b ≡ true) (take n s) 0 0 blanks.0 blanks.1 in let g : is_blank c ≡ true =
+  | inr slash ↦ (let f = All-get_or (λ b. is_blank b ≡ true) (take n s) 0 0 blanks.0 blanks.1 in
+      let g : is_blank c ≡ true =
       sym (ap (λ (l : List ℕ). is_blank (get_or l 0 0)) b.0) ∙ f in let h = b.1 in grind (arith, nat_tests))
 ])
-none_one s n (Some (punctuation c)) (inr (inl line)) b = let e : 47 ∷ 47 ∷ line.0 ≡ c ∷ [] = sym line.1 ∙ b.0 in absurd cc
-none_one s n (Some (punctuation c)) (inr (inr block)) b = let e : 47 ∷ 42 ∷ (block.0 ++ 42 ∷ 47 ∷ []) ≡ c ∷ [] = sym block.1 ∙ b.0 in absurd cc
+none_one s n (Some (punctuation c)) (inr (inl line)) b = let e : 47 ∷ 47 ∷ line.0 ≡ c ∷ [] = sym line.1 ∙ b.0 in
+    absurd cc
+none_one s n (Some (punctuation c)) (inr (inr block)) b = let e : 47 ∷ 42 ∷ (block.0 ++ 42 ∷ 47 ∷ []) ≡ c ∷ [] =
+    sym block.1 ∙ b.0 in absurd cc
 
 piece_one : (s : List ℕ) (n : ℕ) (v w : Option Lexeme) → IsPiece s n v → IsPiece s n w → v ≡ w
 piece_one s n None w a b = sym (none_one s n w a b)
@@ -265,9 +300,11 @@ no_piece_at_end : (s : List ℕ) (p : Piece) → IsLongestPiece (drop (length s)
 no_piece_at_end s p is = omega (arith, (starts (drop (length s) s) p.len p.is is.piece_is).1, length-drop (length s) s)
 
 -- a text spells one list of tokens
-pub spelling_one : (s : List ℕ) (from : ℕ) (ts us : List Spelled) → SpellsFrom s from ts → SpellsFrom s from us → ts ≡ us
+pub spelling_one : (s : List ℕ) (from : ℕ) (ts us : List Spelled) → SpellsFrom s from ts
+    → SpellsFrom s from us → ts ≡ us
 spelling_one s from ts us a b =
-    let one = cut_one (λ rest (p : Piece). IsLongestPiece rest p.len p.is) (λ p. p.len) longest_one s from a.0 b.0 (length s) (length s) a.1 b.1
+    let one = cut_one (λ rest (p : Piece). IsLongestPiece rest p.len p.is) (λ p. p.len) longest_one s from a.0 b.0
+      (length s) (length s) a.1 b.1
     (no_piece_at_end s) (no_piece_at_end s) in
     sym a.2 ∙ ap (tokens_from from) one.0 ∙ b.2
 
@@ -276,17 +313,22 @@ spelling_one s from ts us a b =
 -- what decides a fault in a string
 abbrev PartFaultCase : ℕ → List ℕ → ℕ → ℕ → Kind → Type 0
 PartFaultCase quote after end at kind =
-    (HasByteAt after end 92 × (kind ≡ kinds.BadEscape) × (at ≡ end + 1)) ⊎ ((HasByteAt after end quote × (kind ≡ kinds.BadEscape) × (at ≡ 0))
+    (HasByteAt after end 92 × (kind ≡ kinds.BadEscape) × (at ≡ end + 1))
+      ⊎ ((HasByteAt after end quote × (kind ≡ kinds.BadEscape) × (at ≡ 0))
     ⊎ ((HasByteAt after end 0 × (kind ≡ kinds.BadByte) × (at ≡ end + 1))
     ⊎ (((b : ℕ) → HasByteAt after end b → b ≡ 10) × (kind ≡ kinds.UnclosedString) × (at ≡ 0))))
 
-part_fault_case : (quote : ℕ) (after : List ℕ) (parts : List Part) (end at : ℕ) (kind : Kind) → IsPartFault quote after parts end at kind
+part_fault_case : (quote : ℕ) (after : List ℕ) (parts : List Part) (end at : ℕ) (kind : Kind)
+    → IsPartFault quote after parts end at kind
     → PartFaultCase quote after end at kind
 part_fault_case quote after parts end at kind (inl escape) = inl (escape.2, escape.0, escape.1)
 part_fault_case quote after parts end at kind (inr (inl closed)) = inr (inl (closed.2, closed.0, closed.1))
-part_fault_case quote after parts end at kind (inr (inr (inl zero_byte))) = inr (inr (inl (zero_byte.2, zero_byte.0, zero_byte.1)))
+part_fault_case quote after parts end at kind (inr (inr (inl zero_byte))) =
+    inr (inr (inl (zero_byte.2, zero_byte.0, zero_byte.1)))
 part_fault_case quote after parts end at kind (inr (inr (inr open_))) =
-    inr (inr (inr ((λ b here. elim open_.2 [ inl ends ↦ absurd (omega (arith, here.0)) | inr line ↦ sym here.1 ∙ line.1 ]), open_.0, open_.1)))
+    inr (inr
+      (inr ((λ b here. elim open_.2 [ inl ends ↦ absurd (omega (arith, here.0)) | inr line ↦ sym here.1 ∙ line.1 ]),
+      open_.0, open_.1)))
 
 same_byte : (after : List ℕ) (end b c : ℕ) → HasByteAt after end b → HasByteAt after end c → b ≡ c
 same_byte after end b c x y = sym x.1 ∙ y.1
@@ -294,28 +336,40 @@ same_byte after end b c x y = sym x.1 ∙ y.1
 quote_other : (quote b : ℕ) → is_quote quote ≡ true → quote ≡ b → is_quote b ≡ false → ⊥
 quote_other quote b e same other = both_ways (is_quote b) other (sym (ap is_quote same) ∙ e)
 
-part_fault_one : (quote : ℕ) (after : List ℕ) (end m n : ℕ) (j k : Kind) → is_quote quote ≡ true → PartFaultCase quote after end m j
+part_fault_one : (quote : ℕ) (after : List ℕ) (end m n : ℕ) (j k : Kind) → is_quote quote ≡ true
+    → PartFaultCase quote after end m j
     → PartFaultCase quote after end n k → (m ≡ n) × (j ≡ k)
 part_fault_one quote after end m n j k q (inl a) (inl b) = (a.2 ∙ sym b.2, a.1 ∙ sym b.1)
-part_fault_one quote after end m n j k q (inl a) (inr (inl b)) = absurd (quote_other quote 92 q (same_byte after end quote 92 b.0 a.0) refl)
-part_fault_one quote after end m n j k q (inl a) (inr (inr (inl b))) = let e = same_byte after end 92 0 a.0 b.0 in absurd (omega arith)
+part_fault_one quote after end m n j k q (inl a) (inr (inl b)) =
+    absurd (quote_other quote 92 q (same_byte after end quote 92 b.0 a.0) refl)
+part_fault_one quote after end m n j k q (inl a) (inr (inr (inl b))) = let e = same_byte after end 92 0 a.0 b.0 in
+    absurd (omega arith)
 part_fault_one quote after end m n j k q (inl a) (inr (inr (inr b))) = let e = b.0 92 a.0 in absurd (omega arith)
-part_fault_one quote after end m n j k q (inr (inl a)) (inl b) = absurd (quote_other quote 92 q (same_byte after end quote 92 a.0 b.0) refl)
+part_fault_one quote after end m n j k q (inr (inl a)) (inl b) =
+    absurd (quote_other quote 92 q (same_byte after end quote 92 a.0 b.0) refl)
 part_fault_one quote after end m n j k q (inr (inl a)) (inr (inl b)) = (a.2 ∙ sym b.2, a.1 ∙ sym b.1)
-part_fault_one quote after end m n j k q (inr (inl a)) (inr (inr (inl b))) = absurd (quote_other quote 0 q (same_byte after end quote 0 a.0 b.0) refl)
-part_fault_one quote after end m n j k q (inr (inl a)) (inr (inr (inr b))) = absurd (quote_other quote 10 q (b.0 quote a.0) refl)
-part_fault_one quote after end m n j k q (inr (inr (inl a))) (inl b) = let e = same_byte after end 92 0 b.0 a.0 in absurd (omega arith)
-part_fault_one quote after end m n j k q (inr (inr (inl a))) (inr (inl b)) = absurd (quote_other quote 0 q (same_byte after end quote 0 b.0 a.0) refl)
+part_fault_one quote after end m n j k q (inr (inl a)) (inr (inr (inl b))) =
+    absurd (quote_other quote 0 q (same_byte after end quote 0 a.0 b.0) refl)
+part_fault_one quote after end m n j k q (inr (inl a)) (inr (inr (inr b))) =
+    absurd (quote_other quote 10 q (b.0 quote a.0) refl)
+part_fault_one quote after end m n j k q (inr (inr (inl a))) (inl b) = let e = same_byte after end 92 0 b.0 a.0 in
+    absurd (omega arith)
+part_fault_one quote after end m n j k q (inr (inr (inl a))) (inr (inl b)) =
+    absurd (quote_other quote 0 q (same_byte after end quote 0 b.0 a.0) refl)
 part_fault_one quote after end m n j k q (inr (inr (inl a))) (inr (inr (inl b))) = (a.2 ∙ sym b.2, a.1 ∙ sym b.1)
-part_fault_one quote after end m n j k q (inr (inr (inl a))) (inr (inr (inr b))) = let e = b.0 0 a.0 in absurd (omega arith)
+part_fault_one quote after end m n j k q (inr (inr (inl a))) (inr (inr (inr b))) = let e = b.0 0 a.0 in
+    absurd (omega arith)
 part_fault_one quote after end m n j k q (inr (inr (inr a))) (inl b) = let e = a.0 92 b.0 in absurd (omega arith)
-part_fault_one quote after end m n j k q (inr (inr (inr a))) (inr (inl b)) = absurd (quote_other quote 10 q (a.0 quote b.0) refl)
-part_fault_one quote after end m n j k q (inr (inr (inr a))) (inr (inr (inl b))) = let e = a.0 0 b.0 in absurd (omega arith)
+part_fault_one quote after end m n j k q (inr (inr (inr a))) (inr (inl b)) =
+    absurd (quote_other quote 10 q (a.0 quote b.0) refl)
+part_fault_one quote after end m n j k q (inr (inr (inr a))) (inr (inr (inl b))) = let e = a.0 0 b.0 in
+    absurd (omega arith)
 part_fault_one quote after end m n j k q (inr (inr (inr a))) (inr (inr (inr b))) = (a.2 ∙ sym b.2, a.1 ∙ sym b.1)
 
 string_fault_one : (s : List ℕ) (m n : ℕ) (j k : Kind) → IsStringFault s m j → IsStringFault s n k → (m ≡ n) × (j ≡ k)
 string_fault_one s m n j k a b =
-    let one = opened_one s a.0 b.0 a.1 b.1 a.2 b.2 a.3 b.3 a.4 b.4 (no_part_at_fault a.0 a.1 a.2 a.3 m j a.4.quote_is a.5)
+    let one = opened_one s a.0 b.0 a.1 b.1 a.2 b.2 a.3 b.3 a.4 b.4
+      (no_part_at_fault a.0 a.1 a.2 a.3 m j a.4.quote_is a.5)
     (no_part_at_fault b.0 b.1 b.2 b.3 n k b.4.quote_is b.5) in
     let case_a = part_fault_case a.0 a.1 a.2 a.3 m j a.5 in
     let case_b : PartFaultCase a.0 a.1 a.3 n k = subst (λ (q : ℕ). PartFaultCase q a.1 a.3 n k) (sym one.0)
@@ -347,7 +401,8 @@ piece_fault_case : (s : List ℕ) (at : ℕ) (kind : Kind) → IsPieceFault s at
 piece_fault_case s at kind (inl bad) = inl (bad.2.1, bad.2.2, bad.0, bad.1)
 piece_fault_case s at kind (inr (inl bad)) = inr (inl ((begins_first is_ascii_digit s bad.2.0).1, bad.2, bad.0, bad.1))
 piece_fault_case s at kind (inr (inr (inl big))) = inr (inr (inl (too_big_digit s big.2, big.2, big.0, big.1)))
-piece_fault_case s at kind (inr (inr (inr (inl open_)))) = inr (inr (inr (inl (open_.2.0, open_.2.1, open_.2.2, open_.0, open_.1))))
+piece_fault_case s at kind (inr (inr (inr (inl open_)))) =
+    inr (inr (inr (inl (open_.2.0, open_.2.1, open_.2.2, open_.0, open_.1))))
 piece_fault_case s at kind (inr (inr (inr (inr fault)))) = inr (inr (inr (inr (fault_quote s at kind fault, fault))))
 
 no_number_both : (s : List ℕ) → IsBadNumber s → IsTooBig s → ⊥
@@ -383,9 +438,11 @@ no_start (Some (number v)) b e f g = grind (arith, nat_tests)
 no_start (Some (string_literal v)) b e f g = grind (arith, nat_tests)
 no_start (Some (punctuation c)) b e f g = grind (arith, nat_tests)
 
-no_lone_slash : (rest : List ℕ) (n c : ℕ) → n ≤ length (47 ∷ 42 ∷ rest) → IsPiece (47 ∷ 42 ∷ rest) n (Some (punctuation c)) → ⊥
+no_lone_slash : (rest : List ℕ) (n c : ℕ) → n ≤ length (47 ∷ 42 ∷ rest)
+    → IsPiece (47 ∷ 42 ∷ rest) n (Some (punctuation c)) → ⊥
 no_lone_slash rest zero c within is = let e : [] ≡ c ∷ [] = is.0 in absurd cc
-no_lone_slash rest (suc zero) c within is = let e : c ≡ 47 = let f : 47 ∷ [] ≡ c ∷ [] = is.0 in cc in both_ways (is_slash_or_star 42) (is.2 e) refl
+no_lone_slash rest (suc zero) c within is = let e : c ≡ 47 = let f : 47 ∷ [] ≡ c ∷ [] = is.0 in cc in
+    both_ways (is_slash_or_star 42) (is.2 e) refl
 no_lone_slash rest (suc (suc n)) c within is = let e : 47 ∷ 42 ∷ take n rest ≡ c ∷ [] = is.0 in absurd cc
 
 fault_long : (s : List ℕ) (at : ℕ) (kind : Kind) → IsPieceFault s at kind → s ≡ [] → ⊥
@@ -398,34 +455,46 @@ fault_long s at kind (inr (inr (inl big))) empty = omega (
   big.2.2,
   ap length empty,
 )
-fault_long s at kind (inr (inr (inr (inl open_)))) empty = let e : 0 ≡ suc (suc (length open_.2.0)) = ap length (sym empty ∙ open_.2.1) in omega arith
-fault_long s at kind (inr (inr (inr (inr fault)))) empty = let e : 0 ≡ suc (length fault.1) = ap length (sym empty ∙ fault.4.begins_so) in omega arith
+fault_long s at kind (inr (inr (inr (inl open_)))) empty = let e : 0 ≡ suc (suc (length open_.2.0)) =
+    ap length (sym empty ∙ open_.2.1) in omega arith
+fault_long s at kind (inr (inr (inr (inr fault)))) empty = let e : 0 ≡ suc (length fault.1) =
+    ap length (sym empty ∙ fault.4.begins_so) in omega arith
 
 fault_case_one : (s : List ℕ) (m n : ℕ) (j k : Kind) → PieceFaultCase s m j → PieceFaultCase s n k → (m ≡ n) × (j ≡ k)
 fault_case_one s m n j k (inl a) (inl b) = (a.3 ∙ sym b.3, a.2 ∙ sym b.2)
 fault_case_one s m n j k (inl a) (inr (inl b)) = absurd (apart_graphic_digit (get_or s 0 0) a.1 b.0)
 fault_case_one s m n j k (inl a) (inr (inr (inl b))) = absurd (apart_graphic_digit (get_or s 0 0) a.1 b.0)
-fault_case_one s m n j k (inl a) (inr (inr (inr (inl b)))) = absurd (apart_graphic_slash (get_or s 0 0) a.1 (first_slash s b.0 b.1))
+fault_case_one s m n j k (inl a) (inr (inr (inr (inl b)))) =
+    absurd (apart_graphic_slash (get_or s 0 0) a.1 (first_slash s b.0 b.1))
 fault_case_one s m n j k (inl a) (inr (inr (inr (inr b)))) = absurd (apart_graphic_quote (get_or s 0 0) a.1 b.0)
 fault_case_one s m n j k (inr (inl a)) (inl b) = absurd (apart_graphic_digit (get_or s 0 0) b.1 a.0)
 fault_case_one s m n j k (inr (inl a)) (inr (inl b)) = (a.3 ∙ sym b.3, a.2 ∙ sym b.2)
 fault_case_one s m n j k (inr (inl a)) (inr (inr (inl b))) = absurd (no_number_both s a.1 b.1)
-fault_case_one s m n j k (inr (inl a)) (inr (inr (inr (inl b)))) = absurd (apart_digit_slash (get_or s 0 0) a.0 (first_slash s b.0 b.1))
+fault_case_one s m n j k (inr (inl a)) (inr (inr (inr (inl b)))) =
+    absurd (apart_digit_slash (get_or s 0 0) a.0 (first_slash s b.0 b.1))
 fault_case_one s m n j k (inr (inl a)) (inr (inr (inr (inr b)))) = absurd (apart_digit_quote (get_or s 0 0) a.0 b.0)
 fault_case_one s m n j k (inr (inr (inl a))) (inl b) = absurd (apart_graphic_digit (get_or s 0 0) b.1 a.0)
 fault_case_one s m n j k (inr (inr (inl a))) (inr (inl b)) = absurd (no_number_both s b.1 a.1)
 fault_case_one s m n j k (inr (inr (inl a))) (inr (inr (inl b))) = (a.3 ∙ sym b.3, a.2 ∙ sym b.2)
-fault_case_one s m n j k (inr (inr (inl a))) (inr (inr (inr (inl b)))) = absurd (apart_digit_slash (get_or s 0 0) a.0 (first_slash s b.0 b.1))
-fault_case_one s m n j k (inr (inr (inl a))) (inr (inr (inr (inr b)))) = absurd (apart_digit_quote (get_or s 0 0) a.0 b.0)
-fault_case_one s m n j k (inr (inr (inr (inl a)))) (inl b) = absurd (apart_graphic_slash (get_or s 0 0) b.1 (first_slash s a.0 a.1))
-fault_case_one s m n j k (inr (inr (inr (inl a)))) (inr (inl b)) = absurd (apart_digit_slash (get_or s 0 0) b.0 (first_slash s a.0 a.1))
-fault_case_one s m n j k (inr (inr (inr (inl a)))) (inr (inr (inl b))) = absurd (apart_digit_slash (get_or s 0 0) b.0 (first_slash s a.0 a.1))
+fault_case_one s m n j k (inr (inr (inl a))) (inr (inr (inr (inl b)))) =
+    absurd (apart_digit_slash (get_or s 0 0) a.0 (first_slash s b.0 b.1))
+fault_case_one s m n j k (inr (inr (inl a))) (inr (inr (inr (inr b)))) =
+    absurd (apart_digit_quote (get_or s 0 0) a.0 b.0)
+fault_case_one s m n j k (inr (inr (inr (inl a)))) (inl b) =
+    absurd (apart_graphic_slash (get_or s 0 0) b.1 (first_slash s a.0 a.1))
+fault_case_one s m n j k (inr (inr (inr (inl a)))) (inr (inl b)) =
+    absurd (apart_digit_slash (get_or s 0 0) b.0 (first_slash s a.0 a.1))
+fault_case_one s m n j k (inr (inr (inr (inl a)))) (inr (inr (inl b))) =
+    absurd (apart_digit_slash (get_or s 0 0) b.0 (first_slash s a.0 a.1))
 fault_case_one s m n j k (inr (inr (inr (inl a)))) (inr (inr (inr (inl b)))) = (a.4 ∙ sym b.4, a.3 ∙ sym b.3)
-fault_case_one s m n j k (inr (inr (inr (inl a)))) (inr (inr (inr (inr b)))) = absurd (apart_slash_quote (get_or s 0 0) (first_slash s a.0 a.1) b.0)
+fault_case_one s m n j k (inr (inr (inr (inl a)))) (inr (inr (inr (inr b)))) =
+    absurd (apart_slash_quote (get_or s 0 0) (first_slash s a.0 a.1) b.0)
 fault_case_one s m n j k (inr (inr (inr (inr a)))) (inl b) = absurd (apart_graphic_quote (get_or s 0 0) b.1 a.0)
 fault_case_one s m n j k (inr (inr (inr (inr a)))) (inr (inl b)) = absurd (apart_digit_quote (get_or s 0 0) b.0 a.0)
-fault_case_one s m n j k (inr (inr (inr (inr a)))) (inr (inr (inl b))) = absurd (apart_digit_quote (get_or s 0 0) b.0 a.0)
-fault_case_one s m n j k (inr (inr (inr (inr a)))) (inr (inr (inr (inl b)))) = absurd (apart_slash_quote (get_or s 0 0) (first_slash s b.0 b.1) a.0)
+fault_case_one s m n j k (inr (inr (inr (inr a)))) (inr (inr (inl b))) =
+    absurd (apart_digit_quote (get_or s 0 0) b.0 a.0)
+fault_case_one s m n j k (inr (inr (inr (inr a)))) (inr (inr (inr (inl b)))) =
+    absurd (apart_slash_quote (get_or s 0 0) (first_slash s b.0 b.1) a.0)
 fault_case_one s m n j k (inr (inr (inr (inr a)))) (inr (inr (inr (inr b)))) = string_fault_one s m n j k a.1 b.1
 
 -- a piece has one fault
@@ -433,10 +502,12 @@ pub piece_fault_one : (s : List ℕ) (m n : ℕ) (j k : Kind) → IsPieceFault s
 piece_fault_one s m n j k a b = fault_case_one s m n j k (piece_fault_case s m j a) (piece_fault_case s n k b)
 
 -- a prefix of numeric bytes that no such byte follows is the whole run
-whole_run : (s : List ℕ) (k : ℕ) → k ≤ length s → AllPass is_numeric (take k s) → begins is_numeric (drop k s) ≡ false → k ≡ prefix_len is_numeric s
+whole_run : (s : List ℕ) (k : ℕ) → k ≤ length s → AllPass is_numeric (take k s) → begins is_numeric (drop k s) ≡ false
+    → k ≡ prefix_len is_numeric s
 whole_run s k within all stops =
     let le = run_longest is_numeric s k within all in
-    let no_less : k < prefix_len is_numeric s → ⊥ = λ lt. both_ways (begins is_numeric (drop k s)) stops (within_run is_numeric s k lt) in
+    let no_less : k < prefix_len is_numeric s
+      → ⊥ = λ lt. both_ways (begins is_numeric (drop k s)) stops (within_run is_numeric s k lt) in
     omega (arith, le, no_less)
 
 no_small_number : (s : List ℕ) (n v : ℕ) → n ≤ length s → IsTooBig s → IsPiece s n (Some (number v)) → ⊥
@@ -447,7 +518,8 @@ no_small_number s n v within big is =
     let value = numeral_one (take n s) big.1 v (subst (λ (k : ℕ). IsNumeral (take k s) big.1) same big.3) is.0 in
     omega (arith, big.5, value, is.1)
 
-no_comment_open : (rest : List ℕ) (n : ℕ) (w : Option Lexeme) → HasNoClose rest → n ≤ length (47 ∷ 42 ∷ rest) → IsPiece (47 ∷ 42 ∷ rest) n w → w ≡ None → ⊥
+no_comment_open : (rest : List ℕ) (n : ℕ) (w : Option Lexeme) → HasNoClose rest → n ≤ length (47 ∷ 42 ∷ rest)
+    → IsPiece (47 ∷ 42 ∷ rest) n w → w ≡ None → ⊥
 no_comment_open rest n None none within (inl blanks) e = let first = (starts (47 ∷ 42 ∷ rest) n None (inl blanks)).0 in
     both_ways (is_blank 47) refl (sym (ap is_blank (get_or-take n (47 ∷ 42 ∷ rest) 0 0 first))
     ∙ All-get_or (λ b. is_blank b ≡ true) (take n (47 ∷ 42 ∷ rest)) 0 0 blanks.0 blanks.1)
@@ -458,16 +530,21 @@ no_comment_open rest n None none within (inr (inl line)) e =
     omega arith
 no_comment_open rest n None none within (inr (inr block)) e =
     let body = block.0 in
-    let len : n ≡ suc (suc (length (body ++ 42 ∷ 47 ∷ []))) = sym (length-take-le n (47 ∷ 42 ∷ rest) within) ∙ ap length block.1 in
+    let len : n ≡ suc (suc (length (body ++ 42 ∷ 47 ∷ []))) = sym (length-take-le n (47 ∷ 42 ∷ rest) within)
+      ∙ ap length block.1 in
     let size = length-append body (42 ∷ 47 ∷ []) in
     let at : (i : ℕ) → i < length body + 2 → get_or rest i 0 ≡ get_or (body ++ 42 ∷ 47 ∷ []) i 0 =
-    λ i lt. sym (get_or-take n (47 ∷ 42 ∷ rest) (suc (suc i)) 0 (omega arith)) ∙ ap (λ (l : List ℕ). get_or l (suc (suc i)) 0) block.1 in
-    let star : get_or rest (length body) 0 ≡ 42 = at (length body) (omega arith) ∙ get_or_at body 42 (47 ∷ []) 0 (length body) refl in
-    let slash : get_or rest (length body + 1) 0 ≡ 47 = at (length body + 1) (omega arith) ∙ get_or-append-add body (42 ∷ 47 ∷ []) 1 0 in
+    λ i lt. sym (get_or-take n (47 ∷ 42 ∷ rest) (suc (suc i)) 0 (omega arith))
+      ∙ ap (λ (l : List ℕ). get_or l (suc (suc i)) 0) block.1 in
+    let star : get_or rest (length body) 0 ≡ 42 = at (length body) (omega arith)
+      ∙ get_or_at body 42 (47 ∷ []) 0 (length body) refl in
+    let slash : get_or rest (length body + 1) 0 ≡ 47 = at (length body + 1) (omega arith)
+      ∙ get_or-append-add body (42 ∷ 47 ∷ []) 1 0 in
     none (length body) star slash
 no_comment_open rest n (Some lexeme) none within is e = absurd cc
 
-no_piece_in_case : (s : List ℕ) (at : ℕ) (kind : Kind) (n : ℕ) (w : Option Lexeme) → n ≤ length s → IsPiece s n w → PieceFaultCase s at kind → ⊥
+no_piece_in_case : (s : List ℕ) (at : ℕ) (kind : Kind) (n : ℕ) (w : Option Lexeme) → n ≤ length s → IsPiece s n w
+    → PieceFaultCase s at kind → ⊥
 no_piece_in_case s at kind n w within is (inl bad) = no_start w (get_or s 0 0) bad.0 bad.1 (starts s n w is).2
 no_piece_in_case s at kind n w within is (inr (inl bad)) =
     let same = digit_alone (get_or s 0 0) w bad.0 (starts s n w is).2 in
@@ -488,36 +565,47 @@ no_piece_in_case s at kind n w within is (inr (inr (inr (inr fault)))) =
     no_string s n at same.0 kind (subst (IsPiece s n) same.1 is) fault.1
 
 -- where a fault lies no piece can be made
-pub no_piece_at_fault : (s : List ℕ) (at : ℕ) (kind : Kind) (p : Piece) → IsPieceFault s at kind → IsLongestPiece s p.len p.is → ⊥
-no_piece_at_fault s at kind p fault is = no_piece_in_case s at kind p.len p.is is.fits is.piece_is (piece_fault_case s at kind fault)
+pub no_piece_at_fault : (s : List ℕ) (at : ℕ) (kind : Kind) (p : Piece) → IsPieceFault s at kind
+    → IsLongestPiece s p.len p.is → ⊥
+no_piece_at_fault s at kind p fault is =
+    no_piece_in_case s at kind p.len p.is is.fits is.piece_is (piece_fault_case s at kind fault)
 
 -- ---- one answer
 
-pub no_spelling : (s : List ℕ) (from place : ℕ) (kind : Kind) (ts : List Spelled) → SpellsFrom s from ts → HasPieceFault s from place kind → ⊥
+pub no_spelling : (s : List ℕ) (from place : ℕ) (kind : Kind) (ts : List Spelled) → SpellsFrom s from ts
+    → HasPieceFault s from place kind → ⊥
 no_spelling s from place kind ts a b =
-    let one = cut_one (λ rest (p : Piece). IsLongestPiece rest p.len p.is) (λ p. p.len) longest_one s from a.0 b.0 (length s) b.1 a.1 b.3 (no_piece_at_end s)
+    let one = cut_one (λ rest (p : Piece). IsLongestPiece rest p.len p.is) (λ p. p.len) longest_one s from a.0 b.0
+      (length s) b.1 a.1 b.3 (no_piece_at_end s)
     (λ p. no_piece_at_fault (drop b.1 s) b.2 kind p b.4) in
     let nothing : drop b.1 s ≡ [] = drop_all b.1 s (omega (arith, one.1)) in
     fault_long (drop b.1 s) b.2 kind b.4 nothing
 
-pub fault_one : (s : List ℕ) (from m n : ℕ) (j k : Kind) → HasPieceFault s from m j → HasPieceFault s from n k → (m ≡ n) × (j ≡ k)
+pub fault_one : (s : List ℕ) (from m n : ℕ) (j k : Kind) → HasPieceFault s from m j → HasPieceFault s from n k
+    → (m ≡ n) × (j ≡ k)
 fault_one s from m n j k a b =
-    let one = cut_one (λ rest (p : Piece). IsLongestPiece rest p.len p.is) (λ p. p.len) longest_one s from a.0 b.0 a.1 b.1 a.3 b.3
+    let one = cut_one (λ rest (p : Piece). IsLongestPiece rest p.len p.is)
+      (λ p. p.len) longest_one s from a.0 b.0 a.1 b.1 a.3 b.3
     (λ p. no_piece_at_fault (drop a.1 s) a.2 j p a.4) (λ p. no_piece_at_fault (drop b.1 s) b.2 k p b.4) in
-    let same = piece_fault_one (drop a.1 s) a.2 b.2 j k a.4 (subst (λ (i : ℕ). IsPieceFault (drop i s) b.2 k) (sym one.1) b.4) in
+    let same = piece_fault_one (drop a.1 s) a.2 b.2 j k a.4
+      (subst (λ (i : ℕ). IsPieceFault (drop i s) b.2 k) (sym one.1) b.4) in
     (a.5 ∙ (λ i. one.1 i + same.0 i) ∙ sym b.5, same.1)
 
 -- ---- whole answers
 
-pub tokens_one : (limit : ℕ) (s : List ℕ) (ts us : List Spelled) → IsTokenList limit s ts → IsTokenList limit s us → ts ≡ us
+pub tokens_one : (limit : ℕ) (s : List ℕ) (ts us : List Spelled) → IsTokenList limit s ts
+    → IsTokenList limit s us → ts ≡ us
 tokens_one limit s ts us a b = spelling_one s (mark_len s) ts us a.spelled_so b.spelled_so
 
-pub tokens_no_fault : (limit : ℕ) (s : List ℕ) (ts : List Spelled) (place : ℕ) (kind : Kind) → IsTokenList limit s ts → IsFault limit s place kind → ⊥
+pub tokens_no_fault : (limit : ℕ) (s : List ℕ) (ts : List Spelled) (place : ℕ) (kind : Kind) → IsTokenList limit s ts
+    → IsFault limit s place kind → ⊥
 tokens_no_fault limit s ts place kind a (inl long) = omega (arith, a.short, long.2)
 tokens_no_fault limit s ts place kind a (inr (inl no_utf8)) = no_utf8.3 a.utf8
-tokens_no_fault limit s ts place kind a (inr (inr fault)) = no_spelling s (mark_len s) place kind ts a.spelled_so fault.2
+tokens_no_fault limit s ts place kind a (inr (inr fault)) =
+    no_spelling s (mark_len s) place kind ts a.spelled_so fault.2
 
-pub file_fault_one : (limit : ℕ) (s : List ℕ) (m n : ℕ) (j k : Kind) → IsFault limit s m j → IsFault limit s n k → (m ≡ n) × (j ≡ k)
+pub file_fault_one : (limit : ℕ) (s : List ℕ) (m n : ℕ) (j k : Kind) → IsFault limit s m j → IsFault limit s n k
+    → (m ≡ n) × (j ≡ k)
 file_fault_one limit s m n j k (inl a) (inl b) = (a.1 ∙ sym b.1, a.0 ∙ sym b.0)
 file_fault_one limit s m n j k (inl a) (inr (inl b)) = absurd (omega (arith, a.2, b.2))
 file_fault_one limit s m n j k (inl a) (inr (inr b)) = absurd (omega (arith, a.2, b.0))
@@ -531,15 +619,20 @@ file_fault_one limit s m n j k (inr (inr a)) (inr (inr b)) = fault_one s (mark_l
 -- what an answer that is right says of every spelling and of every fault
 
 pub of_every_spelling : (limit : ℕ) (s : List ℕ) (result : Result Tokens TokenError)
-    → MatchResult result (λ tokens. IsTokenList limit s (tokens_of tokens)) (IsFaultOf limit s) → (ts : List Spelled) → IsTokenList limit s ts
+    → MatchResult result (λ tokens. IsTokenList limit s (tokens_of tokens)) (IsFaultOf limit s) → (ts : List Spelled)
+    → IsTokenList limit s ts
     → MatchResult result (λ tokens. tokens_of tokens ≡ ts) (λ e. e ≡ errors.NoMemory)
 of_every_spelling limit s (Ok tokens) right ts is = tokens_one limit s (tokens_of tokens) ts right is
-of_every_spelling limit s (Err (errors.At place kind)) right ts is = absurd (tokens_no_fault limit s ts place.offset kind is right)
+of_every_spelling limit s (Err (errors.At place kind)) right ts is =
+    absurd (tokens_no_fault limit s ts place.offset kind is right)
 of_every_spelling limit s (Err errors.NoMemory) right ts is = refl
 
 pub of_every_fault : (limit : ℕ) (s : List ℕ) (result : Result Tokens TokenError)
-    → MatchResult result (λ tokens. IsTokenList limit s (tokens_of tokens)) (IsFaultOf limit s) → (place : ℕ) (kind : Kind) → IsFault limit s place kind
+    → MatchResult result (λ tokens. IsTokenList limit s (tokens_of tokens)) (IsFaultOf limit s)
+    → (place : ℕ) (kind : Kind) → IsFault limit s place kind
     → IsErrAnd result (TellsFault place kind)
-of_every_fault limit s (Ok tokens) right place kind fault = tokens_no_fault limit s (tokens_of tokens) place kind right fault
-of_every_fault limit s (Err (errors.At there other)) right place kind fault = file_fault_one limit s there.offset place other kind right fault
+of_every_fault limit s (Ok tokens) right place kind fault =
+    tokens_no_fault limit s (tokens_of tokens) place kind right fault
+of_every_fault limit s (Err (errors.At there other)) right place kind fault =
+    file_fault_one limit s there.offset place other kind right fault
 of_every_fault limit s (Err errors.NoMemory) right place kind fault = tt

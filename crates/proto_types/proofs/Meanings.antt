@@ -20,13 +20,16 @@ use Rattle.proto_types.specs.declared.meaning.Meaning.TheVariants.{Named, Wrong}
 use Rattle.proto_types.specs.Typed.{named_by}
 
 -- a name of a message names no enum
-pub apart : (os : List Occurrence) (Seen : ℕ → Type 0) (scope spelled a b : List ℕ) → Resolves os Seen scope spelled a name_kind.Message
+pub apart : (os : List Occurrence) (Seen : ℕ → Type 0) (scope spelled a b : List ℕ)
+    → Resolves os Seen scope spelled a name_kind.Message
     → Resolves os Seen scope spelled b name_kind.Enum → ⊥
 apart os Seen scope spelled a b h k =
-    let same : name_kind.Message ≡ name_kind.Enum = (resolves_one os Seen scope spelled a b name_kind.Message name_kind.Enum h k).1 in cc
+    let same : name_kind.Message ≡ name_kind.Enum =
+      (resolves_one os Seen scope spelled a b name_kind.Message name_kind.Enum h k).1 in cc
 
 -- what a name of a type is declared for
-pub kind_named : (os : List Occurrence) (Seen : ℕ → Type 0) (full : List ℕ) (k : NameKind) → IsType os Seen full k → named_by (type_kind_of k) ≡ k
+pub kind_named : (os : List Occurrence) (Seen : ℕ → Type 0) (full : List ℕ) (k : NameKind) → IsType os Seen full k
+    → named_by (type_kind_of k) ≡ k
 kind_named os Seen full k (message seen) = refl
 kind_named os Seen full k (enumeration seen none) = refl
 
@@ -34,7 +37,8 @@ kind_named os Seen full k (enumeration seen none) = refl
 
 pub not_found : (os : List Occurrence) (Seen : ℕ → Type 0) (r : Reference) → ResolvesNowhere os Seen r.scope r.text
     → IsLeast (ReferenceBreaks os Seen r) (Some (spot r.place kind.TypeNotFound))
-not_found os Seen r none = least_same (λ x. x ≡ spot r.place kind.TypeNotFound) (ReferenceBreaks os Seen r) (Some (spot r.place kind.TypeNotFound))
+not_found os Seen r none = least_same (λ x. x ≡ spot r.place kind.TypeNotFound) (ReferenceBreaks os Seen r)
+    (Some (spot r.place kind.TypeNotFound))
     (λ x w. elim w [
       | inl found ↦ found.1
       | inr (inl enum) ↦ absurd (none enum.1.0 name_kind.Enum enum.1.1)
@@ -43,10 +47,13 @@ not_found os Seen r none = least_same (λ x. x ≡ spot r.place kind.TypeNotFoun
     (λ x e. inl (none, e))
     (least_one (spot r.place kind.TypeNotFound))
 
-pub not_message : (os : List Occurrence) (Seen : ℕ → Type 0) (r : Reference) (full : List ℕ) → r.wanted ≡ want.MessageOnly
-    → Resolves os Seen r.scope r.text full name_kind.Enum → IsLeast (ReferenceBreaks os Seen r) (Some (spot r.place kind.TypeNotMessage))
+pub not_message : (os : List Occurrence) (Seen : ℕ → Type 0) (r : Reference) (full : List ℕ)
+    → r.wanted ≡ want.MessageOnly
+    → Resolves os Seen r.scope r.text full name_kind.Enum
+    → IsLeast (ReferenceBreaks os Seen r) (Some (spot r.place kind.TypeNotMessage))
 not_message os Seen r full only found =
-    least_same (λ x. x ≡ spot r.place kind.TypeNotMessage) (ReferenceBreaks os Seen r) (Some (spot r.place kind.TypeNotMessage))
+    least_same (λ x. x ≡ spot r.place kind.TypeNotMessage) (ReferenceBreaks os Seen r)
+      (Some (spot r.place kind.TypeNotMessage))
     (λ x w. elim w [
       | inl none ↦ absurd (none.0 full name_kind.Enum found)
       | inr (inl enum) ↦ enum.2
@@ -55,7 +62,8 @@ not_message os Seen r full only found =
     (λ x e. inr (inl (only, (full, found), e)))
     (least_one (spot r.place kind.TypeNotMessage))
 
-pub found_enum : (os : List Occurrence) (Seen : ℕ → Type 0) (r : Reference) (full : List ℕ) → (r.wanted ≡ want.MessageOnly → ⊥)
+pub found_enum : (os : List Occurrence) (Seen : ℕ → Type 0) (r : Reference) (full : List ℕ)
+    → (r.wanted ≡ want.MessageOnly → ⊥)
     → Resolves os Seen r.scope r.text full name_kind.Enum → IsLeast (ReferenceBreaks os Seen r) None
 found_enum os Seen r full any found = least_none (ReferenceBreaks os Seen r)
     (λ x w. elim w [
@@ -65,8 +73,10 @@ found_enum os Seen r full any found = least_none (ReferenceBreaks os Seen r)
     ])
 
 pub found_message : (os : List Occurrence) (Seen : ℕ → Type 0) (r : Reference) (full : List ℕ) (first : Option Spot)
-    → Resolves os Seen r.scope r.text full name_kind.Message → IsLeast (Each r.options SetsPacked) first → IsLeast (ReferenceBreaks os Seen r) first
-found_message os Seen r full first found least = least_same (Each r.options SetsPacked) (ReferenceBreaks os Seen r) first
+    → Resolves os Seen r.scope r.text full name_kind.Message → IsLeast (Each r.options SetsPacked) first
+    → IsLeast (ReferenceBreaks os Seen r) first
+found_message os Seen r full first found least =
+    least_same (Each r.options SetsPacked) (ReferenceBreaks os Seen r) first
     (λ x w. elim w [
       | inl none ↦ absurd (none.0 full name_kind.Message found)
       | inr (inl enum) ↦ absurd (apart os Seen r.scope r.text full enum.1.0 found enum.1.1)
@@ -75,21 +85,27 @@ found_message os Seen r full first found least = least_same (Each r.options Sets
     (λ x w. inr (inr ((full, found), w.1, (w.0, w.2.0, w.2.1), w.3.0, w.3.1)))
     least
 
-resolved_least : (os : List Occurrence) (Seen : ℕ → Type 0) (r : Reference) (full : List ℕ) (k : NameKind) (fault : Option Spot)
-    → Resolves os Seen r.scope r.text full k → IsType os Seen full k → (r.wanted ≡ want.MessageOnly → k ≡ name_kind.Message)
+resolved_least : (os : List Occurrence) (Seen : ℕ → Type 0) (r : Reference) (full : List ℕ) (k : NameKind)
+    (fault : Option Spot)
+    → Resolves os Seen r.scope r.text full k → IsType os Seen full k
+    → (r.wanted ≡ want.MessageOnly → k ≡ name_kind.Message)
     → IsPackedFault (type_kind_of k) r.options fault → IsLeast (ReferenceBreaks os Seen r) fault
 resolved_least os Seen r full k fault found (message seen) only packed = found_message os Seen r full fault found packed
 resolved_least os Seen r full k fault found (enumeration seen none) only packed =
-    rw packed (found_enum os Seen r full (λ e. let bad : name_kind.Enum ≡ name_kind.Message = only e in absurd (cc)) found)
+    rw packed
+      (found_enum os Seen r full (λ e. let bad : name_kind.Enum ≡ name_kind.Message = only e in absurd (cc)) found)
 
 -- ---- what one name means
 
 -- what is found of a full name is what a reference to it means
-pub naming_means : (os : List Occurrence) (Seen : ℕ → Type 0) (r : Reference) (full : List ℕ) (k : NameKind) (m : Meaning)
-    → Resolves os Seen r.scope r.text full k → (r.wanted ≡ want.MessageOnly → k ≡ name_kind.Message) → IsNaming full (type_kind_of k) r.options m
+pub naming_means : (os : List Occurrence) (Seen : ℕ → Type 0) (r : Reference) (full : List ℕ)
+    (k : NameKind) (m : Meaning)
+    → Resolves os Seen r.scope r.text full k → (r.wanted ≡ want.MessageOnly → k ≡ name_kind.Message)
+    → IsNaming full (type_kind_of k) r.options m
     → IsMeaning os Seen r m
 naming_means os Seen r full k (Named t) found only naming = (
   resolved_least os Seen r full k None found found.type only naming.0,
   (full, rw naming.2 (rw (kind_named os Seen full k found.type) found), naming.1),
 )
-naming_means os Seen r full k (Wrong x) found only naming = resolved_least os Seen r full k (Some x) found found.type only naming
+naming_means os Seen r full k (Wrong x) found only naming =
+    resolved_least os Seen r full k (Some x) found found.type only naming

@@ -30,13 +30,16 @@ by_kind : (os : List Occurrence) (Seen : ℕ → Type 0) (scope text : List ℕ)
     → IsMeaning os Seen (reference_to scope text place wanted options) m
 by_kind os Seen scope text place want.AnyType options t m what same type named is =
     let fits : Fits want.AnyType t.kind = λ e. let bad : want.AnyType ≡ want.MessageOnly = e in absurd (cc) in
-    naming_means os Seen (reference_to scope text place want.AnyType options) (scoped t.scope.now t.name.now) t.kind m named fits
+    naming_means os Seen (reference_to scope text place want.AnyType options)
+      (scoped t.scope.now t.name.now) t.kind m named fits
     (is.0 fits)
 by_kind os Seen scope text place want.MessageOnly options t m what same (message seen) named is =
-    naming_means os Seen (reference_to scope text place want.MessageOnly options) (scoped t.scope.now t.name.now) t.kind m named
+    naming_means os Seen (reference_to scope text place want.MessageOnly options)
+      (scoped t.scope.now t.name.now) t.kind m named
     (λ e. same) (is.0 (λ e. same))
 by_kind os Seen scope text place want.MessageOnly options t m what same (enumeration seen none) named is =
-    let other : t.kind ≡ name_kind.Message → ⊥ = λ e. let bad : name_kind.Enum ≡ name_kind.Message = sym same ∙ e in absurd (cc) in
+    let other : t.kind ≡ name_kind.Message → ⊥ = λ e. let bad : name_kind.Enum ≡ name_kind.Message = sym same ∙ e in
+    absurd (cc) in
     rw (is.1 (λ fits. other (fits refl)))
     (not_message os Seen (reference_to scope text place want.MessageOnly options) (scoped t.scope.now t.name.now) refl
     (subst (λ (k : NameKind). Resolves os Seen scope text (scoped t.scope.now t.name.now) k) same named))
@@ -77,17 +80,20 @@ found_passes test (y ∷ ys) x is =
     passes test (test y) y x (find test ys) refl (λ later. found_passes test ys x later) is
 
 -- the one that is recalled of a name says what it means
-pub recalled_type : (os : List Occurrence) (Seen : ℕ → Type 0) (scope text : List ℕ) (recalled : List Recalled) (one : Recalled)
+pub recalled_type : (os : List Occurrence) (Seen : ℕ → Type 0) (scope text : List ℕ) (recalled : List Recalled)
+    (one : Recalled)
     → AreRecalled os Seen scope recalled → find (λ r. bytes_eq r.spelled.now text) recalled ≡ Some one
     → IsNamed os Seen scope text one.found
 recalled_type os Seen scope text recalled one all is =
     let same : one.spelled.now ≡ text =
     (bytes_eq-Decides one.spelled.now text).0 (found_passes (λ r. bytes_eq r.spelled.now text) recalled one is) in
     subst (λ (t : List ℕ). IsNamed os Seen scope t one.found) same
-    (found_has (λ r. IsNamed os Seen scope r.spelled.now r.found) (λ r. bytes_eq r.spelled.now text) recalled one all is)
+    (found_has (λ r. IsNamed os Seen scope r.spelled.now r.found)
+      (λ r. bytes_eq r.spelled.now text) recalled one all is)
 
 -- what is recalled after one more name
-pub recalled_more : (os : List Occurrence) (Seen : ℕ → Type 0) (scope : List ℕ) (one : Recalled) (old new : List Recalled)
+pub recalled_more : (os : List Occurrence) (Seen : ℕ → Type 0) (scope : List ℕ) (one : Recalled)
+    (old new : List Recalled)
     → AreRecalled os Seen scope old → IsNamed os Seen scope one.spelled.now one.found → Remembers one old new
     → AreRecalled os Seen scope new
 recalled_more os Seen scope one old new all is (inl alone) =

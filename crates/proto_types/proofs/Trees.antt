@@ -28,16 +28,19 @@ use Rattle.proto_types.specs.Typed.AreTypedMessages.{none, more}
 
 -- those of a message's own fields
 abbrev pub own_references : MessageDesc → List ℕ → List Reference
-own_references m scope = flat_map (references_of_field (field_scope scope (out-MessageDesc m))) (out-MessageDesc m).fields
+own_references m scope = flat_map (references_of_field (field_scope scope (out-MessageDesc m)))
+    (out-MessageDesc m).fields
 
 pub references_out : (m : MessageDesc) (scope : List ℕ) → references_by_message m scope ≡ own_references m scope
     ++ flat_map (λ n. references_by_message n (scope_in m scope)) (out-MessageDesc m).nested
 references_out m scope =
     ap (λ (f : List ℕ → List Reference). f scope) (fold_out-MessageDesc (List ℕ → List Reference) references_step m)
-    ∙ ap (λ xs. own_references m scope ++ xs) (flat_map-map (λ (g : List ℕ → List Reference). g (scope_in m scope)) references_by_message
+    ∙ ap (λ xs. own_references m scope ++ xs)
+      (flat_map-map (λ (g : List ℕ → List Reference). g (scope_in m scope)) references_by_message
     (out-MessageDesc m).nested)
 
-pub messages_typed : (os : List Occurrence) (Seen : ℕ → Type 0) (scope : List ℕ) (ms gs : List MessageDesc) → AllZip (IsTypedMessage os Seen scope) ms gs
+pub messages_typed : (os : List Occurrence) (Seen : ℕ → Type 0) (scope : List ℕ) (ms gs : List MessageDesc)
+    → AllZip (IsTypedMessage os Seen scope) ms gs
     → AreTypedMessages os Seen scope ms gs
 messages_typed os Seen scope [] [] h = none scope
 messages_typed os Seen scope [] (g ∷ gs) h = absurd h
@@ -59,10 +62,12 @@ remade m fields nested = record {
 }
 
 -- a message of which the fields and the messages within it are made
-pub remade_typed : (os : List Occurrence) (Seen : ℕ → Type 0) (scope : List ℕ) (m : MessageDesc) (x : MessageDesc-F MessageDesc) (fields : List FieldDesc)
+pub remade_typed : (os : List Occurrence) (Seen : ℕ → Type 0) (scope : List ℕ) (m : MessageDesc)
+    (x : MessageDesc-F MessageDesc) (fields : List FieldDesc)
     (nested : List MessageDesc) → x ≡ remade (out-MessageDesc m) fields nested
     → AllZip (IsTypedField os Seen (field_scope scope (out-MessageDesc m))) (out-MessageDesc m).fields fields
-    → AllZip (IsTypedMessage os Seen (scope_in m scope)) (out-MessageDesc m).nested nested → IsTypedMessage os Seen scope m (roll-MessageDesc x)
+    → AllZip (IsTypedMessage os Seen (scope_in m scope)) (out-MessageDesc m).nested nested
+    → IsTypedMessage os Seen scope m (roll-MessageDesc x)
 remade_typed os Seen scope m x fields nested e own inside =
     let r : MessageDesc-F MessageDesc = remade (out-MessageDesc m) fields nested in
     let at : out-MessageDesc (roll-MessageDesc r) ≡ r = out-roll-MessageDesc r in
@@ -82,47 +87,62 @@ remade_typed os Seen scope m x fields nested e own inside =
 
 -- ---- what is typed is resolved
 
-reference_typed : (os : List Occurrence) (Seen : ℕ → Type 0) (scope : List ℕ) (r g : TypeReference) → IsTyped os Seen scope r g → reference_resolved g ≡ true
+reference_typed : (os : List Occurrence) (Seen : ℕ → Type 0) (scope : List ℕ) (r g : TypeReference)
+    → IsTyped os Seen scope r g → reference_resolved g ≡ true
 reference_typed os Seen scope (Spelled text place) g h = rw h.3 refl
 reference_typed os Seen scope (Resolved full_name what) g h = rw h refl
 
-kind_typed : (os : List Occurrence) (Seen : ℕ → Type 0) (scope : List ℕ) (k g : FieldKind) → IsTypedKind os Seen scope k g → kind_resolved g ≡ true
+kind_typed : (os : List Occurrence) (Seen : ℕ → Type 0) (scope : List ℕ) (k g : FieldKind)
+    → IsTypedKind os Seen scope k g → kind_resolved g ≡ true
 kind_typed os Seen scope (Scalar s) g h = rw h refl
 kind_typed os Seen scope (Named r) g h = rw h.2 (reference_typed os Seen scope r h.0 h.1)
 
-field_typed : (os : List Occurrence) (Seen : ℕ → Type 0) (scope : List ℕ) (f g : FieldDesc) → IsTypedField os Seen scope f g → field_resolved g ≡ true
+field_typed : (os : List Occurrence) (Seen : ℕ → Type 0) (scope : List ℕ) (f g : FieldDesc)
+    → IsTypedField os Seen scope f g → field_resolved g ≡ true
 field_typed os Seen scope f g h = rw h.2 (kind_typed os Seen scope f.field_type h.0 h.1)
 
-method_typed : (os : List Occurrence) (Seen : ℕ → Type 0) (scope : List ℕ) (m g : MethodDesc) → IsTypedMethod os Seen scope m g → method_resolved g ≡ true
+method_typed : (os : List Occurrence) (Seen : ℕ → Type 0) (scope : List ℕ) (m g : MethodDesc)
+    → IsTypedMethod os Seen scope m g → method_resolved g ≡ true
 method_typed os Seen scope m g h = and_from (reference_resolved g.input) (reference_resolved g.output)
-    (reference_typed os Seen scope m.input g.input h.input_typed) (reference_typed os Seen scope m.output g.output h.output_typed)
+    (reference_typed os Seen scope m.input g.input h.input_typed)
+      (reference_typed os Seen scope m.output g.output h.output_typed)
 
 -- all of a list, where each is what another is typed as
-zip_all : {X : Type 0} (R : X → X → Type 0) (p : X → Bool) → ((x y : X) → R x y → p y ≡ true) → (xs ys : List X) → AllZip R xs ys → list_all p ys ≡ true
+zip_all : {X : Type 0} (R : X → X → Type 0) (p : X → Bool) → ((x y : X) → R x y → p y ≡ true) → (xs ys : List X)
+    → AllZip R xs ys → list_all p ys ≡ true
 zip_all R p turn [] [] h = refl
 zip_all R p turn [] (y ∷ ys) h = absurd h
 zip_all R p turn (x ∷ xs) [] h = absurd h
 zip_all R p turn (x ∷ xs) (y ∷ ys) h = and_from (p y) (list_all p ys) (turn x y h.0) (zip_all R p turn xs ys h.1)
 
-service_typed : (os : List Occurrence) (Seen : ℕ → Type 0) (scope : List ℕ) (s g : ServiceDesc) → IsTypedService os Seen scope s g → service_resolved g ≡ true
+service_typed : (os : List Occurrence) (Seen : ℕ → Type 0) (scope : List ℕ) (s g : ServiceDesc)
+    → IsTypedService os Seen scope s g → service_resolved g ≡ true
 service_typed os Seen scope s g h =
-    zip_all (IsTypedMethod os Seen (scoped scope s.name)) method_resolved (method_typed os Seen (scoped scope s.name)) s.methods g.methods h.methods_typed
+    zip_all (IsTypedMethod os Seen (scoped scope s.name)) method_resolved
+      (method_typed os Seen (scoped scope s.name)) s.methods g.methods h.methods_typed
 
 mutual
-  message_typed : (os : List Occurrence) (Seen : ℕ → Type 0) (scope : List ℕ) (m g : MessageDesc) → IsTypedMessage os Seen scope m g → message_resolved g ≡ true
+  message_typed : (os : List Occurrence) (Seen : ℕ → Type 0) (scope : List ℕ) (m g : MessageDesc)
+      → IsTypedMessage os Seen scope m g → message_resolved g ≡ true
   message_typed os Seen scope m g (message s n o body nested) =
-      message_resolved_out g ∙ and_from (fields_resolved (out-MessageDesc g).fields) (list_all message_resolved (out-MessageDesc g).nested)
-      (zip_all (IsTypedField os Seen (field_scope scope (out-MessageDesc m))) field_resolved (field_typed os Seen (field_scope scope (out-MessageDesc m)))
+      message_resolved_out g ∙ and_from (fields_resolved (out-MessageDesc g).fields)
+        (list_all message_resolved (out-MessageDesc g).nested)
+      (zip_all (IsTypedField os Seen (field_scope scope (out-MessageDesc m))) field_resolved
+        (field_typed os Seen (field_scope scope (out-MessageDesc m)))
       (out-MessageDesc m).fields (out-MessageDesc g).fields body.fields_typed)
       (all_typed os Seen (scope_in m scope) (out-MessageDesc m).nested (out-MessageDesc g).nested nested)
 
-  all_typed : (os : List Occurrence) (Seen : ℕ → Type 0) (scope : List ℕ) (ms gs : List MessageDesc) → AreTypedMessages os Seen scope ms gs
+  all_typed : (os : List Occurrence) (Seen : ℕ → Type 0) (scope : List ℕ) (ms gs : List MessageDesc)
+      → AreTypedMessages os Seen scope ms gs
       → list_all message_resolved gs ≡ true
   all_typed os Seen scope ms gs (none s) = refl
   all_typed os Seen scope ms gs (more s m g rest made one others) =
-      and_from (message_resolved g) (list_all message_resolved made) (message_typed os Seen scope m g one) (all_typed os Seen scope rest made others)
+      and_from (message_resolved g) (list_all message_resolved made) (message_typed os Seen scope m g one)
+        (all_typed os Seen scope rest made others)
 
-pub typed_resolved : (os : List Occurrence) (Seen : ℕ → Type 0) (scope : List ℕ) (f g : FileDesc) → IsTypedIn os Seen scope f g → file_resolved g ≡ true
+pub typed_resolved : (os : List Occurrence) (Seen : ℕ → Type 0) (scope : List ℕ) (f g : FileDesc)
+    → IsTypedIn os Seen scope f g → file_resolved g ≡ true
 typed_resolved os Seen scope f g h = and_from (list_all message_resolved g.messages) (services_resolved g.services)
     (all_typed os Seen scope f.messages g.messages h.messages_typed)
-    (zip_all (IsTypedService os Seen scope) service_resolved (service_typed os Seen scope) f.services g.services h.services_typed)
+    (zip_all (IsTypedService os Seen scope) service_resolved
+      (service_typed os Seen scope) f.services g.services h.services_typed)

@@ -33,28 +33,34 @@ named_same type_kind.Message type_kind.Enum e = cc
 named_same type_kind.Enum type_kind.Message e = cc
 named_same type_kind.Enum type_kind.Enum e = refl
 
-reference_same : (os ps : List Occurrence) (Seen Sees : ℕ → Type 0) → AreSeenAlike os Seen ps Sees → (scope : List ℕ) (r g h : TypeReference)
+reference_same : (os ps : List Occurrence) (Seen Sees : ℕ → Type 0) → AreSeenAlike os Seen ps Sees
+    → (scope : List ℕ) (r g h : TypeReference)
     → IsTyped os Seen scope r g → IsTyped ps Sees scope r h → g ≡ h
-reference_same os ps Seen Sees alike scope (Spelled text place) g h (full, what, found, made) (other, kind, found_too, made_too) =
-    let one = resolves_same os ps Seen Sees alike scope text full other (named_by what) (named_by kind) found found_too in
+reference_same os ps Seen Sees alike scope (Spelled text place) g h (full, what, found, made)
+  (other, kind, found_too, made_too) =
+    let one = resolves_same os ps Seen Sees alike scope text full other (named_by what)
+      (named_by kind) found found_too in
     let same_name : full ≡ other = one.0 in
     let same_kind : what ≡ kind = named_same what kind one.1 in
     made ∙ (λ i. Resolved (46 ∷ same_name i) (same_kind i)) ∙ sym made_too
 reference_same os ps Seen Sees alike scope (Resolved full_name what) g h made made_too = made ∙ sym made_too
 
-kind_same : (os ps : List Occurrence) (Seen Sees : ℕ → Type 0) → AreSeenAlike os Seen ps Sees → (scope : List ℕ) (k g h : FieldKind)
+kind_same : (os ps : List Occurrence) (Seen Sees : ℕ → Type 0) → AreSeenAlike os Seen ps Sees
+    → (scope : List ℕ) (k g h : FieldKind)
     → IsTypedKind os Seen scope k g → IsTypedKind ps Sees scope k h → g ≡ h
 kind_same os ps Seen Sees alike scope (Scalar s) g h made made_too = made ∙ sym made_too
 kind_same os ps Seen Sees alike scope (Named r) g h (t, typed, made) (u, typed_too, made_too) =
     made ∙ ap Named (reference_same os ps Seen Sees alike scope r t u typed typed_too) ∙ sym made_too
 
-field_same : (os ps : List Occurrence) (Seen Sees : ℕ → Type 0) → AreSeenAlike os Seen ps Sees → (scope : List ℕ) (f g h : FieldDesc)
+field_same : (os ps : List Occurrence) (Seen Sees : ℕ → Type 0) → AreSeenAlike os Seen ps Sees
+    → (scope : List ℕ) (f g h : FieldDesc)
     → IsTypedField os Seen scope f g → IsTypedField ps Sees scope f h → g ≡ h
 field_same os ps Seen Sees alike scope f g h (t, typed, made) (u, typed_too, made_too) =
     made ∙ ap (with_type f) (kind_same os ps Seen Sees alike scope f.field_type t u typed typed_too) ∙ sym made_too
 
 -- lists of what one list is made into
-zip_same : {X : Type 0} (R S : X → X → Type 0) → ((x y z : X) → R x y → S x z → y ≡ z) → (xs ys zs : List X) → AllZip R xs ys → AllZip S xs zs → ys ≡ zs
+zip_same : {X : Type 0} (R S : X → X → Type 0) → ((x y z : X) → R x y → S x z → y ≡ z) → (xs ys zs : List X)
+    → AllZip R xs ys → AllZip S xs zs → ys ≡ zs
 zip_same R S one [] [] [] h k = refl
 zip_same R S one [] [] (z ∷ zs) h k = absurd k
 zip_same R S one [] (y ∷ ys) zs h k = absurd h
@@ -70,13 +76,15 @@ out_same : (m n : MessageDesc) → out-MessageDesc m ≡ out-MessageDesc n → m
 out_same m n e = sym (roll-out-MessageDesc m) ∙ ap roll-MessageDesc e ∙ roll-out-MessageDesc n
 
 -- what is made of a message, where what is made of those within it is the same
-body_same : (os ps : List Occurrence) (Seen Sees : ℕ → Type 0) → AreSeenAlike os Seen ps Sees → (scope : List ℕ) (m g h : MessageDesc-F MessageDesc)
+body_same : (os ps : List Occurrence) (Seen Sees : ℕ → Type 0) → AreSeenAlike os Seen ps Sees
+    → (scope : List ℕ) (m g h : MessageDesc-F MessageDesc)
     → IsTypedBody os Seen scope m g → IsTypedBody ps Sees scope m h → g.nested ≡ h.nested → g ≡ h
 body_same os ps Seen Sees alike scope m g h a b nested =
     let name : g.name ≡ h.name = a.same_name ∙ sym b.same_name in
     let place : g.place ≡ h.place = a.same_place ∙ sym b.same_place in
     let inner = field_scope scope m in
-    let fields : g.fields ≡ h.fields = zip_same (IsTypedField os Seen inner) (IsTypedField ps Sees inner) (field_same os ps Seen Sees alike inner) m.fields
+    let fields : g.fields ≡ h.fields = zip_same (IsTypedField os Seen inner) (IsTypedField ps Sees inner)
+      (field_same os ps Seen Sees alike inner) m.fields
     g.fields h.fields a.fields_typed b.fields_typed in
     let enums : g.enums ≡ h.enums = a.same_enums ∙ sym b.same_enums in
     let oneofs : g.oneofs ≡ h.oneofs = a.same_oneofs ∙ sym b.same_oneofs in
@@ -98,17 +106,22 @@ body_same os ps Seen Sees alike scope m g h a b nested =
     }
 
 mutual
-  message_same : (os ps : List Occurrence) (Seen Sees : ℕ → Type 0) → AreSeenAlike os Seen ps Sees → (scope : List ℕ) (m g h : MessageDesc)
+  message_same : (os ps : List Occurrence) (Seen Sees : ℕ → Type 0) → AreSeenAlike os Seen ps Sees
+      → (scope : List ℕ) (m g h : MessageDesc)
       → IsTypedMessage os Seen scope m g → IsTypedMessage ps Sees scope m h → g ≡ h
   message_same os ps Seen Sees alike scope m g h (message s n o body nested) (message s2 n2 o2 body_too nested_too) =
-      out_same g h (body_same os ps Seen Sees alike scope (out-MessageDesc m) (out-MessageDesc g) (out-MessageDesc h) body body_too
-      (messages_same os ps Seen Sees alike (scoped scope (out-MessageDesc m).name) (out-MessageDesc m).nested (out-MessageDesc g).nested
+      out_same g h (body_same os ps Seen Sees alike scope (out-MessageDesc m) (out-MessageDesc g)
+        (out-MessageDesc h) body body_too
+      (messages_same os ps Seen Sees alike (scoped scope (out-MessageDesc m).name) (out-MessageDesc m).nested
+        (out-MessageDesc g).nested
       (out-MessageDesc h).nested nested nested_too))
 
-  messages_same : (os ps : List Occurrence) (Seen Sees : ℕ → Type 0) → AreSeenAlike os Seen ps Sees → (scope : List ℕ) (ms gs hs : List MessageDesc)
+  messages_same : (os ps : List Occurrence) (Seen Sees : ℕ → Type 0) → AreSeenAlike os Seen ps Sees
+      → (scope : List ℕ) (ms gs hs : List MessageDesc)
       → AreTypedMessages os Seen scope ms gs → AreTypedMessages ps Sees scope ms hs → gs ≡ hs
   messages_same os ps Seen Sees alike scope ms gs hs (none s) (none t) = refl
-  messages_same os ps Seen Sees alike scope ms gs hs (more s m g rest made one others) (more t n h remaining made_too one_too others_too) =
+  messages_same os ps Seen Sees alike scope ms gs hs (more s m g rest made one others)
+    (more t n h remaining made_too one_too others_too) =
       let first : g ≡ h = message_same os ps Seen Sees alike scope m g h one one_too in
       let behind : made ≡ made_too = messages_same os ps Seen Sees alike scope rest made made_too others others_too in
       λ i. first i ∷ behind i
@@ -126,50 +139,66 @@ method_with m input output = record {
   server_streaming = m.server_streaming;
 }
 
-method_same : (os ps : List Occurrence) (Seen Sees : ℕ → Type 0) → AreSeenAlike os Seen ps Sees → (scope : List ℕ) (m g h : MethodDesc)
+method_same : (os ps : List Occurrence) (Seen Sees : ℕ → Type 0) → AreSeenAlike os Seen ps Sees
+    → (scope : List ℕ) (m g h : MethodDesc)
     → IsTypedMethod os Seen scope m g → IsTypedMethod ps Sees scope m h → g ≡ h
 method_same os ps Seen Sees alike scope m g h a b =
-    let input : g.input ≡ h.input = reference_same os ps Seen Sees alike scope m.input g.input h.input a.input_typed b.input_typed in
-    let output : g.output ≡ h.output = reference_same os ps Seen Sees alike scope m.output g.output h.output a.output_typed b.output_typed in
-    let types : method_with m g.input g.output ≡ method_with m h.input h.output = λ i. method_with m (input i) (output i) in
+    let input : g.input ≡ h.input = reference_same os ps Seen Sees alike scope m.input g.input h.input a.input_typed
+      b.input_typed in
+    let output : g.output ≡ h.output = reference_same os ps Seen Sees alike scope m.output g.output h.output
+      a.output_typed b.output_typed in
+    let types : method_with m g.input g.output ≡ method_with m h.input h.output =
+      λ i. method_with m (input i) (output i) in
     a.same ∙ types ∙ sym b.same
 
 -- a service with its methods
 abbrev service_with : ServiceDesc → List MethodDesc → ServiceDesc
 service_with s methods = record { name = s.name; place = s.place; methods = methods; options = s.options }
 
-service_same : (os ps : List Occurrence) (Seen Sees : ℕ → Type 0) → AreSeenAlike os Seen ps Sees → (scope : List ℕ) (s g h : ServiceDesc)
+service_same : (os ps : List Occurrence) (Seen Sees : ℕ → Type 0) → AreSeenAlike os Seen ps Sees
+    → (scope : List ℕ) (s g h : ServiceDesc)
     → IsTypedService os Seen scope s g → IsTypedService ps Sees scope s h → g ≡ h
 service_same os ps Seen Sees alike scope s g h a b =
     let inner = scoped scope s.name in
-    let methods : g.methods ≡ h.methods = zip_same (IsTypedMethod os Seen inner) (IsTypedMethod ps Sees inner) (method_same os ps Seen Sees alike inner)
+    let methods : g.methods ≡ h.methods =
+      zip_same (IsTypedMethod os Seen inner) (IsTypedMethod ps Sees inner) (method_same os ps Seen Sees alike inner)
     s.methods g.methods h.methods a.methods_typed b.methods_typed in
     a.same ∙ ap (service_with s) methods ∙ sym b.same
 
 -- a file with its messages and services
 abbrev file_with : FileDesc → List MessageDesc → List ServiceDesc → FileDesc
 file_with f messages services =
-    record { name = f.name; «package» = f.«package»; imports = f.imports; messages = messages; enums = f.enums; services = services; options = f.options }
+    record { name = f.name; «package» = f.«package»; imports = f.imports; messages = messages; enums = f.enums;
+        services = services; options = f.options }
 
-pub file_same : (os ps : List Occurrence) (Seen Sees : ℕ → Type 0) → AreSeenAlike os Seen ps Sees → (scope : List ℕ) (f g h : FileDesc)
+pub file_same : (os ps : List Occurrence) (Seen Sees : ℕ → Type 0) → AreSeenAlike os Seen ps Sees
+    → (scope : List ℕ) (f g h : FileDesc)
     → IsTypedIn os Seen scope f g → IsTypedIn ps Sees scope f h → g ≡ h
 file_same os ps Seen Sees alike scope f g h a b =
-    let messages : g.messages ≡ h.messages = messages_same os ps Seen Sees alike scope f.messages g.messages h.messages a.messages_typed b.messages_typed in
-    let services : g.services ≡ h.services = zip_same (IsTypedService os Seen scope) (IsTypedService ps Sees scope) (service_same os ps Seen Sees alike scope)
+    let messages : g.messages ≡ h.messages =
+      messages_same os ps Seen Sees alike scope f.messages g.messages h.messages a.messages_typed b.messages_typed in
+    let services : g.services ≡ h.services =
+      zip_same (IsTypedService os Seen scope) (IsTypedService ps Sees scope) (service_same os ps Seen Sees alike scope)
     f.services g.services h.services a.services_typed b.services_typed in
-    let made : file_with f g.messages g.services ≡ file_with f h.messages h.services = λ i. file_with f (messages i) (services i) in
+    let made : file_with f g.messages g.services ≡ file_with f h.messages h.services =
+      λ i. file_with f (messages i) (services i) in
     a.same ∙ made ∙ sym b.same
 
 -- ---- the same rules are broken
 
-reference_alike : (os ps : List Occurrence) (Seen Sees : ℕ → Type 0) → AreSeenAlike os Seen ps Sees → (r : Reference) (x : Spot) → ReferenceBreaks os Seen r x
+reference_alike : (os ps : List Occurrence) (Seen Sees : ℕ → Type 0) → AreSeenAlike os Seen ps Sees
+    → (r : Reference) (x : Spot) → ReferenceBreaks os Seen r x
     → ReferenceBreaks ps Sees r x
-reference_alike os ps Seen Sees alike r x (inl missing) = inl (nowhere_alike os ps Seen Sees alike r.scope r.text missing.0, missing.1)
+reference_alike os ps Seen Sees alike r x (inl missing) =
+    inl (nowhere_alike os ps Seen Sees alike r.scope r.text missing.0, missing.1)
 reference_alike os ps Seen Sees alike r x (inr (inl (only, (full, found), at))) =
     inr (inl (only, (full, resolves_alike os ps Seen Sees alike r.scope r.text full name_kind.Enum found), at))
 reference_alike os ps Seen Sees alike r x (inr (inr ((full, found), o, there, packed, at))) =
-    inr (inr ((full, resolves_alike os ps Seen Sees alike r.scope r.text full name_kind.Message found), o, there, packed, at))
+    inr (inr ((full, resolves_alike os ps Seen Sees alike r.scope r.text full name_kind.Message found), o,
+      there, packed, at))
 
-pub breaks_alike : (os ps : List Occurrence) (Seen Sees : ℕ → Type 0) → AreSeenAlike os Seen ps Sees → (f : FileDesc) (x : Spot) → TypesBreak os Seen f x
+pub breaks_alike : (os ps : List Occurrence) (Seen Sees : ℕ → Type 0) → AreSeenAlike os Seen ps Sees
+    → (f : FileDesc) (x : Spot) → TypesBreak os Seen f x
     → TypesBreak ps Sees f x
-breaks_alike os ps Seen Sees alike f x (i, r, there, broken) = (i, r, there, reference_alike os ps Seen Sees alike r x broken)
+breaks_alike os ps Seen Sees alike f x (i, r, there, broken) =
+    (i, r, there, reference_alike os ps Seen Sees alike r x broken)

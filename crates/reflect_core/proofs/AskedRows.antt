@@ -4,8 +4,10 @@ use Rattle.std.specs.List.{AllZip}
 use Rattle.std.proofs.lemmas.List.{take_more, map-append}
 use Rattle.proto_compile.proofs.Zipping.{zip_end}
 
-pub zip_more : {A B X Y : Type 0} (R : X → Y → Type 0) (f : A → X) (g : B → Y) (xs : List A) (bs : List B) (k : ℕ) (d : A) (b : B) → k < length xs
-    → AllZip R (map f (take k xs)) (map g bs) → R (f (get_or xs k d)) (g b) → AllZip R (map f (take (k + 1) xs)) (map g (bs ++ b ∷ []))
+pub zip_more : {A B X Y : Type 0} (R : X → Y → Type 0) (f : A → X) (g : B → Y) (xs : List A) (bs : List B) (k : ℕ)
+    (d : A) (b : B) → k < length xs
+    → AllZip R (map f (take k xs)) (map g bs) → R (f (get_or xs k d)) (g b)
+    → AllZip R (map f (take (k + 1) xs)) (map g (bs ++ b ∷ []))
 zip_more R f g xs bs k d b below before here =
     let longer = ap (map f) (take_more xs k d below) ∙ map-append f (take k xs) (get_or xs k d ∷ []) in
     let more = map-append g bs (b ∷ []) in

@@ -16,7 +16,8 @@ pub record Found (c : Compilation) (name : List ℕ) (d : Defined) : Type 0 wher
   pub same_file : occurrence.file ≡ d.file
 
 pub found_is : (c : Compilation) (index : Index) (name : List ℕ) (d : Defined) → index ≡ c.index
-    → (o : Occurrence) × Contains index.occurrences o × (o.name ≡ name) × (o.kind ≡ Some d.kind) × (o.file ≡ d.file) → Found c name d
+    → (o : Occurrence) × Contains index.occurrences o × (o.name ≡ name) × (o.kind ≡ Some d.kind) × (o.file ≡ d.file)
+    → Found c name d
 found_is c index name d is w = record {
   occurrence = w.0;
   declares = record {
@@ -29,12 +30,16 @@ found_is c index name d is w = record {
 }
 
 pub none_is : (c : Compilation) (index : Index) (name : List ℕ) → index ≡ c.index
-    → ((o : Occurrence) → Contains index.occurrences o → o.name ≡ name → IsPackage o) → (o : Occurrence) → Declares c name o → ⊥
-none_is c index name is all o d = d.element (all o (subst (λ (x : Index). Contains x.occurrences o) (sym is) d.declared) d.named)
+    → ((o : Occurrence) → Contains index.occurrences o → o.name ≡ name → IsPackage o) → (o : Occurrence)
+    → Declares c name o → ⊥
+none_is c index name is all o d =
+    d.element (all o (subst (λ (x : Index). Contains x.occurrences o) (sym is) d.declared) d.named)
 
 -- two elements of one name are one
-pub one_is : (c : Compilation) (index : Index) (name : List ℕ) → index ≡ c.index → AreDeclaredOnce index → (o p : Occurrence) → Declares c name o
+pub one_is : (c : Compilation) (index : Index) (name : List ℕ) → index ≡ c.index → AreDeclaredOnce index
+    → (o p : Occurrence) → Declares c name o
     → Declares c name p → o ≡ p
 one_is c index name is once o p d e =
-    once.one o p (subst (λ (x : Index). Contains x.occurrences o) (sym is) d.declared) (subst (λ (x : Index). Contains x.occurrences p) (sym is) e.declared)
+    once.one o p (subst (λ (x : Index). Contains x.occurrences o) (sym is) d.declared)
+      (subst (λ (x : Index). Contains x.occurrences p) (sym is) e.declared)
     (d.named ∙ sym e.named) d.element

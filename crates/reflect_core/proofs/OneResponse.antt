@@ -29,9 +29,11 @@ use Rattle.reflect_core.specs.Response.{IsAsked, IsResponse, replies, replies_to
 
 -- what an answer is, by its ask
 abbrev pub Means : Compilation → Ask → Answer → Type 0
-Means c (file_by_name name) x = ((a : ℕ) × IsNamed c.files name a × (x ≡ answers.file a)) ⊎ (((a : ℕ) → IsNamed c.files name a → ⊥) × (x ≡ answers.not_found))
+Means c (file_by_name name) x = ((a : ℕ) × IsNamed c.files name a × (x ≡ answers.file a))
+    ⊎ (((a : ℕ) → IsNamed c.files name a → ⊥) × (x ≡ answers.not_found))
 Means c (file_by_symbol name) x =
-    ((o : Occurrence) × Declares c name o × (x ≡ answers.file o.file)) ⊎ (((o : Occurrence) → Declares c name o → ⊥) × (x ≡ answers.not_found))
+    ((o : Occurrence) × Declares c name o × (x ≡ answers.file o.file))
+      ⊎ (((o : Occurrence) → Declares c name o → ⊥) × (x ≡ answers.not_found))
 Means c file_by_extension x = x ≡ answers.not_found
 Means c (extension_numbers name) x =
     ((o : Occurrence) × Declares c name o × (o.kind ≡ Some kind.Message) × (x ≡ answers.no_extensions name))
@@ -57,16 +59,22 @@ pub record IsOne (c d : Compilation) : Type 0 where
   pub one : (name : List ℕ) (o p : Occurrence) → Declares c name o → Declares c name p → o ≡ p
   pub inside : (o : Occurrence) → Contains c.index.occurrences o → o.file < length c.files
 
-declares_back : (c d : Compilation) → AreAlike c d → (name : List ℕ) (o : Occurrence) → Declares d name o → Declares c name o
-declares_back c d same name o is = record { declared = (same.occurrences o).1 is.declared; named = is.named; element = is.element }
+declares_back : (c d : Compilation) → AreAlike c d → (name : List ℕ) (o : Occurrence) → Declares d name o
+    → Declares c name o
+declares_back c d same name o is = record { declared = (same.occurrences o).1 is.declared; named = is.named;
+    element = is.element }
 
-declares_on : (c d : Compilation) → AreAlike c d → (name : List ℕ) (o : Occurrence) → Declares c name o → Declares d name o
-declares_on c d same name o is = record { declared = (same.occurrences o).0 is.declared; named = is.named; element = is.element }
+declares_on : (c d : Compilation) → AreAlike c d → (name : List ℕ) (o : Occurrence) → Declares c name o
+    → Declares d name o
+declares_on c d same name o is = record { declared = (same.occurrences o).0 is.declared; named = is.named;
+    element = is.element }
 
-named_back : (c d : Compilation) → AreAlike c d → (name : List ℕ) (a : ℕ) → IsNamed d.files name a → IsNamed c.files name a
+named_back : (c d : Compilation) → AreAlike c d → (name : List ℕ) (a : ℕ) → IsNamed d.files name a
+    → IsNamed c.files name a
 named_back c d same name a is = subst (λ files. IsNamed files name a) (sym same.files) is
 
-named_on : (c d : Compilation) → AreAlike c d → (name : List ℕ) (a : ℕ) → IsNamed c.files name a → IsNamed d.files name a
+named_on : (c d : Compilation) → AreAlike c d → (name : List ℕ) (a : ℕ) → IsNamed c.files name a
+    → IsNamed d.files name a
 named_on c d same name a is = subst (λ files. IsNamed files name a) same.files is
 
 no_root : (r : ℕ) → None ≡ Some r → ⊥
@@ -86,7 +94,8 @@ module _ (c d : Compilation) (is : IsOne c d) where
   ]
   one_meaning (file_by_symbol name) x y first second = elim first [
     | inl f ↦ elim second [
-      | inl g ↦ f.2 ∙ ap (λ (o : Occurrence). answers.file o.file) (is.one name f.0 g.0 f.1 (declares_back c d is.same name g.0 g.1)) ∙ sym g.2
+      | inl g ↦ f.2 ∙ ap (λ (o : Occurrence). answers.file o.file)
+          (is.one name f.0 g.0 f.1 (declares_back c d is.same name g.0 g.1)) ∙ sym g.2
       | inr g ↦ absurd (g.0 f.0 (declares_on c d is.same name f.0 f.1))
     ]
     | inr f ↦ elim second [
@@ -113,18 +122,21 @@ module _ (c d : Compilation) (is : IsOne c d) where
       let same = first.same ∙ sym second.same in
       let host = one_host message x.host y.host first.ask second.ask first.reads second.reads in
       let ask = one_ask message x.host y.host first.ask second.ask first.reads second.reads in
-      let answer = one_meaning second.ask x.answer y.answer (means c second.ask x.answer (subst (λ a. IsAnswer c a x.answer) ask first.answered))
+      let answer = one_meaning second.ask x.answer y.answer
+        (means c second.ask x.answer (subst (λ a. IsAnswer c a x.answer) ask first.answered))
       (means d second.ask y.answer second.answered) in
       λ i. record { message = same i; host = host i; answer = answer i }
 
-  all_asked : (messages : List (List ℕ)) (xs ys : List Asked) → AllZip (IsAsked c) messages xs → AllZip (IsAsked d) messages ys → xs ≡ ys
+  all_asked : (messages : List (List ℕ)) (xs ys : List Asked) → AllZip (IsAsked c) messages xs
+      → AllZip (IsAsked d) messages ys → xs ≡ ys
   all_asked [] [] [] first second = refl
   all_asked [] [] (y ∷ ys) first second = absurd second
   all_asked [] (x ∷ xs) ys first second = absurd first
   all_asked (m ∷ ms) [] ys first second = absurd first
   all_asked (m ∷ ms) (x ∷ xs) [] first second = absurd second
   all_asked (m ∷ ms) (x ∷ xs) (y ∷ ys) first second =
-      let head = one_asked m x y first.0 second.0 in let rest = all_asked ms xs ys first.1 second.1 in λ i. head i ∷ rest i
+      let head = one_asked m x y first.0 second.0 in let rest = all_asked ms xs ys first.1 second.1 in
+      λ i. head i ∷ rest i
 
   -- ---- one list of replies
 
@@ -140,16 +152,19 @@ module _ (c d : Compilation) (is : IsOne c d) where
   replies_alike : (asked : List Asked) (lists : List (List ℕ)) → replies_to c asked lists ≡ replies_to d asked lists
   replies_alike [] lists = refl
   replies_alike (a ∷ asked) [] = refl
-  replies_alike (a ∷ asked) (files ∷ lists) = let head = reply_alike a files in let rest = replies_alike asked lists in λ i. head i ∷ rest i
+  replies_alike (a ∷ asked) (files ∷ lists) = let head = reply_alike a files in let rest = replies_alike asked lists in
+      λ i. head i ∷ rest i
 
   -- roots are files
   pub root_inside : (ask : Ask) (x : Answer) (r : ℕ) → Means c ask x → root_of x ≡ Some r → r < length c.files
   root_inside (file_by_name name) x r meaning at = elim meaning [
-    | inl f ↦ (let same : f.0 ≡ r = same_Some f.0 r (sym (ap root_of f.2) ∙ at) in let below = f.1.0 in omega (arith, same, below))
+    | inl f ↦ (let same : f.0 ≡ r = same_Some f.0 r (sym (ap root_of f.2) ∙ at) in let below = f.1.0 in
+        omega (arith, same, below))
     | inr f ↦ absurd (no_root r (sym (ap root_of f.1) ∙ at))
   ]
   root_inside (file_by_symbol name) x r meaning at = elim meaning [
-    | inl f ↦ (let same : f.0.file ≡ r = same_Some f.0.file r (sym (ap root_of f.2) ∙ at) in let below = is.inside f.0 f.1.declared in
+    | inl f ↦ (let same : f.0.file ≡ r = same_Some f.0.file r (sym (ap root_of f.2) ∙ at) in
+        let below = is.inside f.0 f.1.declared in
         omega (arith, same, below))
     | inr f ↦ absurd (no_root r (sym (ap root_of f.1) ∙ at))
   ]
@@ -161,22 +176,29 @@ module _ (c d : Compilation) (is : IsOne c d) where
   root_inside list_services x r meaning at = absurd (no_root r (sym (ap root_of meaning) ∙ at))
   root_inside nothing x r meaning at = absurd (no_root r (sym (ap root_of meaning) ∙ at))
 
-  reached_alike : (o : Option ℕ) → ((r : ℕ) → o ≡ Some r → r < length c.files) → reached (reach_of c.links) o ≡ reached (reach_of d.links) o
+  reached_alike : (o : Option ℕ) → ((r : ℕ) → o ≡ Some r → r < length c.files)
+      → reached (reach_of c.links) o ≡ reached (reach_of d.links) o
   reached_alike None inside = refl
   reached_alike (Some r) inside = is.same.reach r (inside r refl)
 
-  root_first_alike : (o : Option ℕ) → ((r : ℕ) → o ≡ Some r → r < length c.files) → root_first (reach_of c.links) o ≡ root_first (reach_of d.links) o
+  root_first_alike : (o : Option ℕ) → ((r : ℕ) → o ≡ Some r → r < length c.files)
+      → root_first (reach_of c.links) o ≡ root_first (reach_of d.links) o
   root_first_alike None inside = refl
-  root_first_alike (Some r) inside = ap (λ files. r ∷ filter (λ g. not (eqb g r)) files) (is.same.reach r (inside r refl))
+  root_first_alike (Some r) inside = ap (λ files. r ∷ filter (λ g. not (eqb g r)) files)
+      (is.same.reach r (inside r refl))
 
-  carried_alike : (mode : Mode) (sent : List ℕ) (messages : List (List ℕ)) (xs : List Asked) → AllZip (IsAsked c) messages xs
-      → carried_from mode (reach_of c.links) sent (map root xs) ≡ carried_from mode (reach_of d.links) sent (map root xs)
+  carried_alike : (mode : Mode) (sent : List ℕ) (messages : List (List ℕ)) (xs : List Asked)
+      → AllZip (IsAsked c) messages xs
+      → carried_from mode (reach_of c.links) sent (map root xs) ≡ carried_from mode
+        (reach_of d.links) sent (map root xs)
   carried_alike mode sent [] [] all = refl
   carried_alike mode sent [] (x ∷ xs) all = absurd all
   carried_alike mode sent (m ∷ ms) [] all = absurd all
   carried_alike mode sent (m ∷ ms) (x ∷ xs) all =
-      let inside : (r : ℕ) → root x ≡ Some r → r < length c.files = λ r at. root_inside all.0.ask x.answer r (means c all.0.ask x.answer all.0.answered) at in
-      let head = ap (filter (λ g. repeats mode (root x) g || not (is_member ◌==◌ sent g))) (root_first_alike (root x) inside) in
+      let inside : (r : ℕ) → root x ≡ Some r → r < length c.files =
+        λ r at. root_inside all.0.ask x.answer r (means c all.0.ask x.answer all.0.answered) at in
+      let head = ap (filter (λ g. repeats mode (root x) g || not (is_member ◌==◌ sent g)))
+        (root_first_alike (root x) inside) in
       let rest = carried_alike mode (sent ++ reached (reach_of c.links) (root x)) ms xs all.1
       ∙ ap (λ l. carried_from mode (reach_of d.links) (sent ++ l) (map root xs)) (reached_alike (root x) inside) in
       λ i. head i ∷ rest i
@@ -186,7 +208,8 @@ module _ (c d : Compilation) (is : IsOne c d) where
       let bound = c.limits.message_bytes_bound in
       let read = one_reading c.limits (omega (arith, bound)) body x.messages y.messages x.status y.status x.read
       (subst (λ l. ReadsBody l body y.messages y.status) (sym is.same.limits) y.read) in
-      let asked = all_asked x.messages x.asked y.asked x.requests (subst (λ ms. AllZip (IsAsked d) ms y.asked) (sym read.0) y.requests) in
+      let asked = all_asked x.messages x.asked y.asked x.requests
+        (subst (λ ms. AllZip (IsAsked d) ms y.asked) (sym read.0) y.requests) in
       let all : replies mode c x.asked ≡ replies mode d y.asked =
       ap (replies_to c x.asked) (carried_alike mode [] x.messages x.asked x.requests)
       ∙ replies_alike x.asked (carried mode (reach_of d.links) (map root x.asked))
@@ -195,7 +218,8 @@ module _ (c d : Compilation) (is : IsOne c d) where
 
 -- ---- of the same sources
 
-pub is_one : (limits : Limits) (sources : List Source) (c d : Compilation) → IsCompiled limits sources c → IsCompiled limits sources d → IsOne c d
+pub is_one : (limits : Limits) (sources : List Source) (c d : Compilation) → IsCompiled limits sources c
+    → IsCompiled limits sources d → IsOne c d
 is_one limits sources c d first second =
     let written = first.written in
     let analysed = written.resolved.analysed in
@@ -204,11 +228,15 @@ is_one limits sources c d first second =
     record {
       same = alike limits sources c d first second;
       once = named_once written.sorted c.files analysed.described.by_name.rises written.names;
-      one = λ name o p x y. (declared_once c.index written.resolved.descs limits indexed).one o p x.declared y.declared (x.named ∙ sym y.named) x.element;
-      inside = λ o w. let below = indexed.sound.inside o w in let files = indexed.files in omega (arith, below, files, count);
+      one = λ name o p x y. (declared_once c.index written.resolved.descs limits indexed).one o p x.declared y.declared
+          (x.named ∙ sym y.named) x.element;
+      inside = λ o w. let below = indexed.sound.inside o w in let files = indexed.files in
+          omega (arith, below, files, count);
     }
 
-pub one_response : (limits : Limits) (sources : List Source) (c d : Compilation) (mode : Mode) (body a b : List ℕ) → IsCompiled limits sources c
+pub one_response : (limits : Limits) (sources : List Source) (c d : Compilation) (mode : Mode) (body a b : List ℕ)
+    → IsCompiled limits sources c
     → IsCompiled limits sources d
     → IsResponse mode c body a → IsResponse mode d body b → a ≡ b
-one_response limits sources c d mode body a b first second = one_response_of c d (is_one limits sources c d first second) mode body a b
+one_response limits sources c d mode body a b first second =
+    one_response_of c d (is_one limits sources c d first second) mode body a b

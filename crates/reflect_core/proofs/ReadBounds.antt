@@ -10,12 +10,14 @@ abbrev pub value_len : ℕ × Value → ℕ
 value_len (n, number value) = 0
 value_len (n, bytes text) = length text
 
-module _ {A : Type 0} (size : A → ℕ) (f : ℕ × Value → Option A) (most : ℕ) (bound : (e : ℕ × Value) (a : A) → f e ≡ Some a → size a ≤ value_len e) where
+module _ {A : Type 0} (size : A → ℕ) (f : ℕ × Value → Option A) (most : ℕ)
+    (bound : (e : ℕ × Value) (a : A) → f e ≡ Some a → size a ≤ value_len e) where
   last_step : (e : ℕ × Value) (x : A) (row : List Spelled) (o : Option A) → o ≡ f e → value_len e ≤ most → size x ≤ most
       → ((y : A) → size y ≤ most → size (last_of y (filter_map f (filter_map entry_of row))) ≤ most)
       → size (last_of x (filter_map f (e ∷ filter_map entry_of row))) ≤ most
   last_step e x row None is short here rest =
-      subst (λ (l : List A). size (last_of x l) ≤ most) (sym (skip e (filter_map entry_of row) (sym is))) (rest x here) where
+      subst (λ (l : List A). size (last_of x l) ≤ most) (sym (skip e (filter_map entry_of row) (sym is)))
+        (rest x here) where
         skip : (e : ℕ × Value) (es : List (ℕ × Value)) → f e ≡ None → filter_map f (e ∷ es) ≡ filter_map f es
         skip e es n = rw n refl
   last_step e x row (Some a) is short here rest =
@@ -24,7 +26,8 @@ module _ {A : Type 0} (size : A → ℕ) (f : ℕ × Value → Option A) (most :
         keep : (e : ℕ × Value) (es : List (ℕ × Value)) → f e ≡ Some a → filter_map f (e ∷ es) ≡ a ∷ filter_map f es
         keep e es n = rw n refl
 
-  last_go : (s : Spelled) (row : List Spelled) (x : A) → size x ≤ most → length (text_of s ++ flat_map text_of row) ≤ most
+  last_go : (s : Spelled) (row : List Spelled) (x : A) → size x ≤ most
+      → length (text_of s ++ flat_map text_of row) ≤ most
       → ((y : A) → size y ≤ most → size (last_of y (filter_map f (filter_map entry_of row))) ≤ most)
       → (b : Body) → s.body ≡ b → size (last_of x (filter_map f (filter_map entry_of (s ∷ row)))) ≤ most
   last_go s row x here long rest (varint_body text value) is =
@@ -34,7 +37,8 @@ module _ {A : Type 0} (size : A → ℕ) (f : ℕ × Value → Option A) (most :
       let split = length-append (text_of s) (flat_map text_of row) in
       let own = length-append s.tag (body_text s.body) in
       let len = ap (λ b. length (body_text b)) is ∙ length-append count contents in
-      rw is (last_step (s.number, bytes contents) x row (f (s.number, bytes contents)) refl (omega (arith, long, split, own, len)) here rest)
+      rw is (last_step (s.number, bytes contents) x row (f (s.number, bytes contents)) refl
+        (omega (arith, long, split, own, len)) here rest)
   last_go s row x here long rest (four_bytes text) is = rw is (rest x here)
 
   pub last_within : (row : List Spelled) (x : A) → size x ≤ most → length (flat_map text_of row) ≤ most
@@ -65,8 +69,11 @@ member_bound (n, bytes text) a is = pick (nat_eq n 3) (nat_eq n 4) (nat_eq n 5) 
   small : (x : Ask) → ask_size x ≤ length text → Some x ≡ Some a → ask_size a ≤ length text
   small x h e = subst (λ y. ask_size y ≤ length text) (same_Some _ _ e) h
 
-  pick : (b3 b4 b5 b6 b7 : Bool) → (if b3 then Some (file_by_name text) else if b4 then Some (file_by_symbol text) else if b5 then Some file_by_extension
-      else if b6 then Some (extension_numbers text) else if b7 then Some list_services else None) ≡ Some a → ask_size a ≤ length text
+  pick : (b3 b4 b5 b6 b7 : Bool)
+      → (if b3 then Some (file_by_name text) else if b4 then Some (file_by_symbol text) else if b5 then
+      Some file_by_extension
+      else if b6 then Some (extension_numbers text) else if b7 then Some list_services else None) ≡ Some a
+        → ask_size a ≤ length text
   pick true b4 b5 b6 b7 e = small (file_by_name text) (omega arith) e
   pick false true b5 b6 b7 e = small (file_by_symbol text) (omega arith) e
   pick false false true b6 b7 e = small file_by_extension (omega arith) e
@@ -86,7 +93,9 @@ read_bounds message host asked reads =
     let asks = reads.asked_is ∙ ap (λ fs. last_of nothing (filter_map member_of fs)) reads.row.3 in
     record {
       short_host = subst (λ (l : List ℕ). length l ≤ length message) (sym hosts)
-          (last_within (λ (l : List ℕ). length l) host_of (length message) host_bound row [] (omega arith) (omega (arith, whole)));
+          (last_within (λ (l : List ℕ). length l) host_of (length message) host_bound row [] (omega arith)
+            (omega (arith, whole)));
       short_ask = subst (λ a. ask_size a ≤ length message) (sym asks)
-          (last_within ask_size member_of (length message) member_bound row nothing (omega arith) (omega (arith, whole)));
+          (last_within ask_size member_of (length message) member_bound row nothing (omega arith)
+            (omega (arith, whole)));
     }

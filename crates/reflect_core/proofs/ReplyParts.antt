@@ -13,13 +13,17 @@ field_length n bytes =
 
 parts_length : (host message contents : List ℕ) (member : ℕ)
     → length (host ++ bytes_field 2 message ++ bytes_field member contents)
-    ≡ length host + (length (bytes_field 2 message) + (length (varint_bytes (member * 8 + 2)) + (length (varint_bytes (length contents)) + length contents)))
+    ≡ length host
+      + (length (bytes_field 2 message)
+      + (length (varint_bytes (member * 8 + 2)) + (length (varint_bytes (length contents)) + length contents)))
 parts_length host message contents member =
-    let whole = length-append (host ++ bytes_field 2 message) (bytes_field member contents) in let prefix = length-append host (bytes_field 2 message) in
+    let whole = length-append (host ++ bytes_field 2 message) (bytes_field member contents) in
+    let prefix = length-append host (bytes_field 2 message) in
     let field = field_length member contents in omega (arith, whole, prefix, field)
 
 pub reply_length : (c : Compilation) (asked : Asked) (files : List ℕ)
     → length (reply c asked files) ≡ length (host_field asked.host) + (length (bytes_field 2 asked.message)
     + (length (varint_bytes (member_of asked.answer * 8 + 2)) +
     (length (varint_bytes (length (contents_of c files asked.answer))) + length (contents_of c files asked.answer))))
-reply_length c asked files = parts_length (host_field asked.host) asked.message (contents_of c files asked.answer) (member_of asked.answer)
+reply_length c asked files = parts_length (host_field asked.host) asked.message (contents_of c files asked.answer)
+    (member_of asked.answer)

@@ -14,7 +14,8 @@ use Rattle.reflect_core.proofs.ReplyParts.{field_length, reply_length}
 
 field_short : (n : ℕ) (bytes : List ℕ) → length (bytes_field n bytes) ≤ 20 + length bytes
 field_short n bytes =
-    let parts = field_length n bytes in let tag = varint_short (n * 8 + 2) in let len = varint_short (length bytes) in omega (arith, parts, tag, len)
+    let parts = field_length n bytes in let tag = varint_short (n * 8 + 2) in let len = varint_short (length bytes) in
+    omega (arith, parts, tag, len)
 
 abbrev pub service : List ℕ → List ℕ
 service name = bytes_field 1 (bytes_field 1 name)
@@ -32,7 +33,8 @@ list_short most (name ∷ names) all =
 
 pub services_short : (c : Compilation) → IsSound c → length (services_bytes c) ≤ 1114636288
 services_short c sound =
-    let list = list_short 1023 c.index.services (λ name w. let h = sound.short_services name w in let most = c.limits.full_name_bytes_bound in
+    let list = list_short 1023 c.index.services
+      (λ name w. let h = sound.short_services name w in let most = c.limits.full_name_bytes_bound in
     omega (arith, h, most)) in
     let few = sound.few_services in let most = c.limits.names_bound in
     omega (arith, list, few, most)
@@ -45,7 +47,8 @@ answer_size services = 0
 answer_size not_found = 0
 answer_size empty_request = 0
 
-pub answer_bound : (c : Compilation) (ask : Ask) (answer : Answer) → IsAnswer c ask answer → answer_size answer ≤ ask_size ask
+pub answer_bound : (c : Compilation) (ask : Ask) (answer : Answer) → IsAnswer c ask answer
+    → answer_size answer ≤ ask_size ask
 answer_bound c ask answer (named name a is) = omega arith
 answer_bound c ask answer (not_named name none) = omega arith
 answer_bound c ask answer (declared name o is) = omega arith
@@ -56,24 +59,29 @@ answer_bound c ask answer (no_message name none) = omega arith
 answer_bound c ask answer listed = omega arith
 answer_bound c ask answer nothing_asked = omega arith
 
-contents_short : (c : Compilation) (files : List ℕ) (answer : Answer) → IsSound c → length (files_bytes c files) ≤ 1073741824 → answer_size answer ≤ 65536
+contents_short : (c : Compilation) (files : List ℕ) (answer : Answer) → IsSound c
+    → length (files_bytes c files) ≤ 1073741824 → answer_size answer ≤ 65536
     → length (contents_of c files answer) ≤ 1114636288
 contents_short c files (file a) sound short size = omega (arith, short)
 contents_short c files (no_extensions name) sound short size = let f = field_short 1 name in omega (arith, f, size)
 contents_short c files services sound short size = services_short c sound
-contents_short c files not_found sound short size = let e = ap (λ (l : List ℕ). length l) not_found_is in omega (arith, e)
-contents_short c files empty_request sound short size = let e = ap (λ (l : List ℕ). length l) empty_request_is in omega (arith, e)
+contents_short c files not_found sound short size = let e = ap (λ (l : List ℕ). length l) not_found_is in
+    omega (arith, e)
+contents_short c files empty_request sound short size = let e = ap (λ (l : List ℕ). length l) empty_request_is in
+    omega (arith, e)
 
 host_short : (host : List ℕ) → length (host_field host) ≤ 20 + length host
 host_short [] = omega arith
 host_short (x ∷ xs) = field_short 1 (x ∷ xs)
 
-pub reply_short : (c : Compilation) (asked : Asked) (files : List ℕ) → IsSound c → length asked.message ≤ 65536 → length asked.host ≤ length asked.message
+pub reply_short : (c : Compilation) (asked : Asked) (files : List ℕ) → IsSound c → length asked.message ≤ 65536
+    → length asked.host ≤ length asked.message
     → answer_size asked.answer ≤ length asked.message
     → length (files_bytes c files) ≤ 1073741824 → length (reply c asked files) < 4294967296
 reply_short c asked files sound small host size short =
     let parts = reply_length c asked files in
     let h = host_short asked.host in let m = field_short 2 asked.message in
     let contents = contents_short c files asked.answer sound short (omega (arith, small, size)) in
-    let tag = varint_short (member_of asked.answer * 8 + 2) in let len = varint_short (length (contents_of c files asked.answer)) in
+    let tag = varint_short (member_of asked.answer * 8 + 2) in
+    let len = varint_short (length (contents_of c files asked.answer)) in
     omega (arith, parts, h, m, contents, tag, len, small, host)

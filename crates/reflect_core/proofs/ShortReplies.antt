@@ -38,14 +38,16 @@ IsShort reply = length reply < 4294967296
 
 module _ (c : Compilation) (holds : HoldsReplies c) where
   one_short : (message : List ℕ) (x : Asked) (kept : ℕ → Bool) → IsAllowed c.limits message → IsAsked c message x
-      → IsRootWithin (count_of c.links) (root x) → IsShort (reply c x (filter kept (root_first (reach_of c.links) (root x))))
+      → IsRootWithin (count_of c.links) (root x)
+      → IsShort (reply c x (filter kept (root_first (reach_of c.links) (root x))))
   one_short message x kept allowed asked within =
       let bounds = read_bounds message x.host asked.ask asked.reads in
       let most = c.limits.message_bytes_bound in let short = allowed.short in
       let same = ap (λ (l : List ℕ). length l) asked.same in
       let name = answer_bound c asked.ask x.answer asked.answered in
       let host = bounds.short_host in let ask = bounds.short_ask in
-      reply_short c x _ holds.sound (omega (arith, most, short, same)) (omega (arith, host, same)) (omega (arith, name, ask, same))
+      reply_short c x _ holds.sound (omega (arith, most, short, same)) (omega (arith, host, same))
+        (omega (arith, name, ask, same))
       (good_from c holds kept (root x) within).short
 
   all_short : (mode : Mode) (sent : List ℕ) (messages : List (List ℕ)) (xs : List Asked)
@@ -57,15 +59,20 @@ module _ (c : Compilation) (holds : HoldsReplies c) where
   all_short mode sent (m ∷ ms) [] within allowed asked = absurd asked
   all_short mode sent (m ∷ ms) (x ∷ xs) within allowed asked =
       All-cons IsShort _ _
-      (one_short m x (λ g. repeats mode (root x) g || not (is_member ◌==◌ sent g)) (All-head (IsAllowed c.limits) m ms allowed) asked.0 (within m x asked.0))
-      (all_short mode (sent ++ reached (reach_of c.links) (root x)) ms xs within (All-tail (IsAllowed c.limits) m ms allowed) asked.1)
+      (one_short m x (λ g. repeats mode (root x) g || not (is_member ◌==◌ sent g))
+        (All-head (IsAllowed c.limits) m ms allowed) asked.0 (within m x asked.0))
+      (all_short mode (sent ++ reached (reach_of c.links) (root x)) ms xs within
+        (All-tail (IsAllowed c.limits) m ms allowed) asked.1)
 
-pub replies_short : (limits : Limits) (sources : List Source) (c : Compilation) (mode : Mode) (body bytes : List ℕ) → IsCompiled limits sources c
-    → (response : IsResponse mode c body bytes) → All (λ reply. length reply < 4294967296) (replies mode c response.asked)
+pub replies_short : (limits : Limits) (sources : List Source) (c : Compilation) (mode : Mode) (body bytes : List ℕ)
+    → IsCompiled limits sources c
+    → (response : IsResponse mode c body bytes)
+    → All (λ reply. length reply < 4294967296) (replies mode c response.asked)
 replies_short limits sources c mode body bytes of response =
     let holds = holds_of limits sources c of in
     let one = is_one limits sources c c of of in
     all_short c holds mode [] response.messages response.asked
-    (λ message x asked r at. let below = root_inside c c one asked.ask x.answer r (means c asked.ask x.answer asked.answered) at in
+    (λ message x asked r at. let below =
+      root_inside c c one asked.ask x.answer r (means c asked.ask x.answer asked.answered) at in
     let linked = holds.sound.linked in omega (arith, below, linked))
     (allowed_of c body response.messages response.status response.read) response.requests

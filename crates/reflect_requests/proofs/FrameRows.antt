@@ -20,7 +20,8 @@ pub record Cut (more message after : List ℕ) : Type 0 where
   pub back : drop 4 more ≡ message ++ after
   pub len : length more ≡ 4 + (length message + length after)
 
-pub cut : (more message after : List ℕ) → length message < 4294967296 → more ≡ (to_be_bytes w32 (length message) ++ message) ++ after → Cut more message after
+pub cut : (more message after : List ℕ) → length message < 4294967296
+    → more ≡ (to_be_bytes w32 (length message) ++ message) ++ after → Cut more message after
 cut more message after small is = record {
   size = ap (λ l. from_be_bytes w32 (take 4 l)) is ∙ from_be_bytes-to_be_bytes_4 (length message) small;
   four = ap (λ l. take 4 l) is;
@@ -34,17 +35,21 @@ get_take_bound (suc n) [] h i = omega arith
 get_take_bound (suc n) (x ∷ xs) h zero = h 0
 get_take_bound (suc n) (x ∷ xs) h (suc i) = get_take_bound n xs (λ j. h (suc j)) i
 
-pub frame_is : (rest more size after m z : List ℕ) (flag n : ℕ) → rest ≡ flag ∷ more → flag ≡ 0 → size ≡ take 4 more → after ≡ drop 4 more → 4 ≤ length more
-    → ((i : ℕ) → get_or rest i 0 < 256) → n ≡ from_be_bytes w32 size → m ≡ take n after → z ≡ drop n after → length m ≡ n → rest ≡ frame 0 m ++ z
+pub frame_is : (rest more size after m z : List ℕ) (flag n : ℕ) → rest ≡ flag ∷ more → flag ≡ 0 → size ≡ take 4 more
+    → after ≡ drop 4 more → 4 ≤ length more
+    → ((i : ℕ) → get_or rest i 0 < 256) → n ≡ from_be_bytes w32 size → m ≡ take n after → z ≡ drop n after
+    → length m ≡ n → rest ≡ frame 0 m ++ z
 frame_is rest more size after m z flag n is zero_flag size_is after_is long bytes n_is m_is z_is len =
     let below : (i : ℕ) → get_or more i 0 < 256 = λ i. subst (λ l. get_or l (suc i) 0 < 256) is (bytes (suc i)) in
     let four : length size ≡ 4 = ap (λ (l : List ℕ). length l) size_is ∙ length-take-le 4 more long in
     let spelled : to_be_bytes w32 (length m) ≡ take 4 more =
-    ap (λ k. to_be_bytes w32 k) len ∙ be_bytes_4 size n four (subst (λ l. (i : ℕ) → get_or l i 0 < 256) (sym size_is) (get_take_bound 4 more below)) n_is
+    ap (λ k. to_be_bytes w32 k) len ∙ be_bytes_4 size n four
+      (subst (λ l. (i : ℕ) → get_or l i 0 < 256) (sym size_is) (get_take_bound 4 more below)) n_is
     ∙ size_is in
     is ∙ (λ i. zero_flag i ∷ more)
     ∙ sym ((λ i. 0 ∷ ((spelled i ++ m_is i) ++ z_is i))
-    ∙ ap (λ l. 0 ∷ l) (append_assoc (take 4 more) (take n after) (drop n after) ∙ ap (λ l. take 4 more ++ l) (take-append-drop n after ∙ after_is)
+    ∙ ap (λ l. 0 ∷ l) (append_assoc (take 4 more) (take n after) (drop n after)
+    ∙ ap (λ l. take 4 more ++ l) (take-append-drop n after ∙ after_is)
     ∙ take-append-drop 4 more))
 
 take_prefix : (xs ys : List ℕ) → take (length xs) (xs ++ ys) ≡ xs
@@ -58,38 +63,46 @@ drop_prefix (x ∷ xs) ys = drop_prefix xs ys
 tail_is : (x y : ℕ) (xs ys : List ℕ) → x ∷ xs ≡ y ∷ ys → xs ≡ ys
 tail_is x y xs ys e = cc
 
-pub one_frame : (m n X Y : List ℕ) → length m < 4294967296 → length n < 4294967296 → frame 0 m ++ X ≡ frame 0 n ++ Y → (m ≡ n) × (X ≡ Y)
+pub one_frame : (m n X Y : List ℕ) → length m < 4294967296 → length n < 4294967296 → frame 0 m ++ X ≡ frame 0 n ++ Y
+    → (m ≡ n) × (X ≡ Y)
 one_frame m n X Y short_m short_n both =
     let more = (to_be_bytes w32 (length m) ++ m) ++ X in
     let is : more ≡ (to_be_bytes w32 (length n) ++ n) ++ Y = tail_is 0 0 _ _ both in
     let cm = cut more m X short_m refl in let cn = cut more n Y short_n is in
     let len : length m ≡ length n = sym cm.size ∙ cn.size in
     let same : m ++ X ≡ n ++ Y = sym cm.back ∙ cn.back in
-    (sym (take_prefix m X) ∙ (λ i. take (len i) (same i)) ∙ take_prefix n Y, sym (drop_prefix m X) ∙ (λ i. drop (len i) (same i)) ∙ drop_prefix n Y)
+    (sym (take_prefix m X) ∙ (λ i. take (len i) (same i)) ∙ take_prefix n Y, sym (drop_prefix m X)
+      ∙ (λ i. drop (len i) (same i)) ∙ drop_prefix n Y)
 
 module _ (limits : Limits) (small : limit_of limits MessageBytes < 4294967296) where
-  unique_from : (k : ℕ) (ms ns : List (List ℕ)) (a b : List ℕ) → All (IsAllowed limits) ms → All (IsAllowed limits) ns → length ms ≤ k → length ns ≤ k
+  unique_from : (k : ℕ) (ms ns : List (List ℕ)) (a b : List ℕ) → All (IsAllowed limits) ms → All (IsAllowed limits) ns
+      → length ms ≤ k → length ns ≤ k
       → (length ms < k → (message after : List ℕ) → IsAllowed limits message → a ≡ frame 0 message ++ after → ⊥)
       → (length ns < k → (message after : List ℕ) → IsAllowed limits message → b ≡ frame 0 message ++ after → ⊥)
       → flat_map (frame 0) ms ++ a ≡ flat_map (frame 0) ns ++ b → (ms ≡ ns) × (a ≡ b)
   unique_from k [] [] a b pm pn fm fn la lb e = (refl, e)
   unique_from k [] (n ∷ ns) a b pm pn fm fn la lb e =
-      absurd (la (omega arith) n (flat_map (frame 0) ns ++ b) (pn 0 n (omega arith)) (e ∙ append_assoc (frame 0 n) (flat_map (frame 0) ns) b))
+      absurd (la (omega arith) n (flat_map (frame 0) ns ++ b) (pn 0 n (omega arith))
+        (e ∙ append_assoc (frame 0 n) (flat_map (frame 0) ns) b))
   unique_from k (m ∷ ms) [] a b pm pn fm fn la lb e =
-      absurd (lb (omega arith) m (flat_map (frame 0) ms ++ a) (pm 0 m (omega arith)) (sym e ∙ append_assoc (frame 0 m) (flat_map (frame 0) ms) a))
+      absurd (lb (omega arith) m (flat_map (frame 0) ms ++ a) (pm 0 m (omega arith))
+        (sym e ∙ append_assoc (frame 0 m) (flat_map (frame 0) ms) a))
   unique_from k (m ∷ ms) (n ∷ ns) a b pm pn fm fn la lb e =
       let X = flat_map (frame 0) ms ++ a in let Y = flat_map (frame 0) ns ++ b in
       let both : frame 0 m ++ X ≡ frame 0 n ++ Y =
-      sym (append_assoc (frame 0 m) (flat_map (frame 0) ms) a) ∙ e ∙ append_assoc (frame 0 n) (flat_map (frame 0) ns) b in
+      sym (append_assoc (frame 0 m) (flat_map (frame 0) ms) a) ∙ e
+        ∙ append_assoc (frame 0 n) (flat_map (frame 0) ns) b in
       let short_m = (pm 0 m (omega arith)).short in let short_n = (pn 0 n (omega arith)).short in
       let head = one_frame m n X Y (omega arith) (omega arith) both in
-      let r = unique_from (k - 1) ms ns a b (λ j d h. pm (suc j) d (omega arith)) (λ j d h. pn (suc j) d (omega arith)) (omega arith) (omega arith)
+      let r = unique_from (k - 1) ms ns a b (λ j d h. pm (suc j) d (omega arith)) (λ j d h. pn (suc j) d (omega arith))
+        (omega arith) (omega arith)
       (λ h. la (omega arith)) (λ h. lb (omega arith)) head.1 in
       (λ i. head.0 i ∷ r.0 i, r.1)
 
 pub one_row : (limits : Limits) → limit_of limits MessageBytes < 4294967296 → HasOneRow limits
 one_row limits small body ms ns a b f g =
-    unique_from limits small (limit_of limits Requests) ms ns a b f.allowed g.allowed f.few g.few f.longest g.longest (sym f.row ∙ g.row)
+    unique_from limits small (limit_of limits Requests) ms ns a b f.allowed g.allowed f.few g.few f.longest g.longest
+      (sym f.row ∙ g.row)
 
 pub one_reading : (limits : Limits) → limit_of limits MessageBytes < 4294967296 → HasOneReading limits
 one_reading limits small body ms ns s t f g = elim (cases_lt (limit_of limits BodyBytes) (length body)) [
@@ -101,11 +114,13 @@ one_reading limits small body ms ns s t f g = elim (cases_lt (limit_of limits Bo
 
 -- ---- a frame whose message is no request
 
-size_status : (limits : Limits) (more message after : List ℕ) → Cut more message after → length message ≤ limit_of limits MessageBytes
+size_status : (limits : Limits) (more message after : List ℕ) → Cut more message after
+    → length message ≤ limit_of limits MessageBytes
     → status_of_size limits more ≡ 3
 size_status limits more message after cut short =
     let long : 4 ≤ length more = omega (arith, cut.len) in
-    let whole : length message ≤ length (message ++ after) = (let e = length-append message after in omega (arith, e)) in
+    let whole : length message ≤ length (message ++ after) =
+      (let e = length-append message after in omega (arith, e)) in
     rw (
       le-ltb (length more) 4 long,
       cut.size,
@@ -114,10 +129,12 @@ size_status limits more message after cut short =
       le-ltb (length (message ++ after)) (length message) whole,
     ) refl
 
-status_at : (limits : Limits) (count : ℕ) (more : List ℕ) → count < limit_of limits Requests → status_of limits count (0 ∷ more) ≡ status_of_size limits more
+status_at : (limits : Limits) (count : ℕ) (more : List ℕ) → count < limit_of limits Requests
+    → status_of limits count (0 ∷ more) ≡ status_of_size limits more
 status_at limits count more room = rw (lt-ltb count (limit_of limits Requests) room) refl
 
-pub other_message : (limits : Limits) (count : ℕ) (rest message after : List ℕ) → limit_of limits MessageBytes < 4294967296
+pub other_message : (limits : Limits) (count : ℕ) (rest message after : List ℕ)
+    → limit_of limits MessageBytes < 4294967296
     → IsCut limits count rest message after → (IsRequest message → ⊥) → IsEnd limits count rest InvalidArgument
 other_message limits count rest message after small is other =
     let short : length message < 4294967296 = (let h = is.short in omega (arith, h, small)) in
@@ -126,6 +143,7 @@ other_message limits count rest message after small is other =
       status_is = sym (ap (λ r. status_of limits count r) is.row ∙ status_at limits count more is.room
           ∙ size_status limits more message after (cut more message after short refl) is.short);
       none = λ room m z allowed row.
-          let same = one_frame message m after z short (let h = allowed.short in omega (arith, h, small)) (sym is.row ∙ row) in
+          let same = one_frame message m after z short (let h = allowed.short in omega (arith, h, small))
+            (sym is.row ∙ row) in
           other (subst IsRequest (sym same.0) allowed.request);
     }

@@ -26,7 +26,8 @@ IsBody limits places sources faults body = (blocks : List (List ℕ)) × AllZip
 
 pub block_more : (limits : Limits) (places : Places) (sources : List Source) (faults : List Fault) (k : ℕ) (f : Fault)
     (old new : List ℕ) → k < length faults
-    → f ≡ get_or faults k f → IsBody limits places sources (take k faults) old → AddsBlock limits places sources f old new
+    → f ≡ get_or faults k f → IsBody limits places sources (take k faults) old
+    → AddsBlock limits places sources f old new
     → IsBody limits places sources (take (k + 1) faults) new
 block_more limits places sources faults k f old new h is (blocks, all, so_far) (block, said, added) =
     let more : AllZip (IsBlock limits places sources) (take k faults ++ f ∷ []) (blocks ++ block ∷ []) =
@@ -57,6 +58,7 @@ placed_text bytes limits places folder slash file f s e (Ok t) is within behind 
 placed_text bytes limits places folder slash file f s e (Err x) is within behind named said = tt
 
 -- a told fault stands within the text of its file
-pub lies_within : (sources : List Source) (faults : List Fault) (k : ℕ) (f : Fault) → k < length faults → f ≡ get_or faults k f
+pub lies_within : (sources : List Source) (faults : List Fault) (k : ℕ) (f : Fault) → k < length faults
+    → f ≡ get_or faults k f
     → ArePlaced sources faults → LiesWithin sources f
 lies_within sources faults k f h is placed = placed f (k, h, sym is)

@@ -31,7 +31,8 @@ unwritten limits places texts old new judged report (io.WriteFault written) (Err
 unwritten limits places texts old new judged report io.NoMemory (Err e) handed is run = absurd run
 
 -- and of a folder that could not be read
-pub unread : (writes : Writes) (fault : FolderFault) (r : Result Verdict Failure) → IsErrAnd r (λ e. e ≡ of_folder fault)
+pub unread : (writes : Writes) (fault : FolderFault) (r : Result Verdict Failure)
+    → IsErrAnd r (λ e. e ≡ of_folder fault)
     → IsErrAnd r (λ f. ((f ≡ failure.Folder) ⊎ (f ≡ failure.NoMemory)) × (writes ≡ writes))
 unread writes fault (Ok a) handed = absurd handed
 unread writes faults.Listing (Err e) handed = (inl handed, refl)

@@ -37,7 +37,8 @@ IsCheckRun limits places texts old new (Err failure.Output) = (judged : Verdict)
     × IsFound limits places texts judged report × (written : ℕ) × IsWrittenInPart old new report written
 IsCheckRun limits places texts old new (Err other) = ⊥
 
--- `check`: the folder could not be read, or memory was short, and nothing was written; or its texts were checked, some of
+-- `check`: the folder could not be read, or memory was short, and nothing was written; or its texts were checked, some
+-- of
 -- which may lie elsewhere than in the root
 abbrev pub IsFolderCheck : Known → List ℕ → Writes → Writes → Result Verdict Failure → Type 0
 IsFolderCheck known root old new done =

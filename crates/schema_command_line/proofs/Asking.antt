@@ -11,7 +11,8 @@ use Rattle.schema_command_line.specs.declared.task.Task.{Task}
 
 pub asked : {E : Type 0} (matches : ArgMatches) (name : List ℕ) (found : Found) (r : Result (Option Task) E)
     → subcommand_name_of matches ≡ Some name
-    → option_map (λ row. row.1) (subcommand_rows_of matches) ≡ Some (rows_of found) → IfOk r (λ t. IfSome t (IsTaskNamed name found))
+    → option_map (λ row. row.1) (subcommand_rows_of matches) ≡ Some (rows_of found)
+    → IfOk r (λ t. IfSome t (IsTaskNamed name found))
     → IfOk r (λ t. IfSome t (IsAsked matches))
 asked matches name found (Ok (Some t)) called rows is = record {
   name = name;

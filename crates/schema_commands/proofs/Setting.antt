@@ -36,7 +36,8 @@ output_after old now new xs ys (Err f) first (e, n, p) =
       record {
         within = (let all = length-append xs ys in let few = p.within in omega (arith, all, few));
         taken =
-            subst (λ l. new.bytes ≡ old.bytes ++ l) (sym cut) (both_taken old now new xs (take n ys) first.taken p.taken);
+            subst (λ l. new.bytes ≡ old.bytes ++ l) (sym cut)
+              (both_taken old now new xs (take n ys) first.taken p.taken);
         failures = p.failures ∙ ap (λ k. suc k) first.failures;
         contents = subst (λ l. Appends old.contents new.contents l) (sym cut)
             (Appends-trans old.contents now.contents new.contents xs (take n ys) first.contents p.contents);
@@ -70,21 +71,29 @@ pub only_put : {B : Type 0} (w : Writes) (waiting waiting' bytes : List ℕ) (b 
 only_put w waiting waiting' bytes b put = ([], none_taken w, put)
 
 -- all that waits is written
-pub all_out : {B : Type 0} (old new : Writes) (waiting waiting' : List ℕ) (done : Result B Failure) → IsOutput old new waiting done
+pub all_out : {B : Type 0} (old new : Writes) (waiting waiting' : List ℕ) (done : Result B Failure)
+    → IsOutput old new waiting done
     → OnOk done (waiting' ≡ []) → IsGathered old new waiting waiting' [] done
-all_out old new waiting waiting' (Ok b) w none = (waiting, of_written old new waiting w, ap (λ (l : List ℕ). waiting ++ l) none)
-all_out old new waiting waiting' (Err f) out none = subst (λ (l : List ℕ). IsOutput {B = Unit {0}} old new l (Err f)) (sym (append-nil waiting)) out
+all_out old new waiting waiting' (Ok b) w none =
+    (waiting, of_written old new waiting w, ap (λ (l : List ℕ). waiting ++ l) none)
+all_out old new waiting waiting' (Err f) out none =
+    subst (λ (l : List ℕ). IsOutput {B = Unit {0}} old new l (Err f)) (sym (append-nil waiting)) out
 
 -- bytes that are written where none wait
-pub straight_out : {B : Type 0} (old new : Writes) (waiting bytes : List ℕ) (done : Result B Failure) → waiting ≡ [] → IsOutput old new bytes done
+pub straight_out : {B : Type 0} (old new : Writes) (waiting bytes : List ℕ) (done : Result B Failure) → waiting ≡ []
+    → IsOutput old new bytes done
     → IsGathered old new waiting waiting bytes done
 straight_out old new waiting bytes (Ok b) none w =
-    (bytes, of_written old new bytes w, ap (λ (l : List ℕ). bytes ++ l) none ∙ append-nil bytes ∙ ap (λ (l : List ℕ). l ++ bytes) (sym none))
-straight_out old new waiting bytes (Err f) none out = subst (λ (l : List ℕ). IsOutput {B = Unit {0}} old new (l ++ bytes) (Err f)) (sym none) out
+    (bytes, of_written old new bytes w, ap (λ (l : List ℕ). bytes ++ l) none ∙ append-nil bytes
+      ∙ ap (λ (l : List ℕ). l ++ bytes) (sym none))
+straight_out old new waiting bytes (Err f) none out =
+    subst (λ (l : List ℕ). IsOutput {B = Unit {0}} old new (l ++ bytes) (Err f)) (sym none) out
 
 -- one after the other
-pub gathered_after : {A B : Type 0} (old now new : Writes) (first second third xs ys : List ℕ) (a : A) (done : Result B Failure)
-    → IsGathered old now first second xs (Ok a) → IsGathered now new second third ys done → IsGathered old new first third (xs ++ ys) done
+pub gathered_after : {A B : Type 0} (old now new : Writes) (first second third xs ys : List ℕ) (a : A)
+    (done : Result B Failure)
+    → IsGathered old now first second xs (Ok a) → IsGathered now new second third ys done
+    → IsGathered old new first third (xs ++ ys) done
 gathered_after old now new first second third xs ys a (Ok b) (t, before, is) (u, after, next) = (
   t ++ u,
   record {
@@ -92,7 +101,8 @@ gathered_after old now new first second third xs ys a (Ok b) (t, before, is) (u,
     failures = after.failures ∙ before.failures;
     contents = Appends-trans old.contents now.contents new.contents t u before.contents after.contents;
   },
-  append_assoc t u third ∙ ap (λ (l : List ℕ). t ++ l) next ∙ sym (append_assoc t second ys) ∙ ap (λ (l : List ℕ). l ++ ys) is
+  append_assoc t u third ∙ ap (λ (l : List ℕ). t ++ l) next ∙ sym (append_assoc t second ys)
+    ∙ ap (λ (l : List ℕ). l ++ ys) is
       ∙ append_assoc first xs ys,
 )
 gathered_after old now new first second third xs ys a (Err f) (t, before, is) out =
@@ -101,8 +111,10 @@ gathered_after old now new first second third xs ys a (Err f) (t, before, is) ou
     (output_after {B = Unit {0}} old now new t (second ++ ys) (Err f) before out)
 
 -- where a call fails, more that was to follow changes nothing
-pub gathered_cut : {B : Type 0} (old new : Writes) (first second third xs ys : List ℕ) (f : Failure) (done : Result B Failure)
-    → IsErrAnd done (λ e. e ≡ f) → IsGathered {B = Unit {0}} old new first second xs (Err f) → IsGathered old new first third (xs ++ ys) done
+pub gathered_cut : {B : Type 0} (old new : Writes) (first second third xs ys : List ℕ) (f : Failure)
+    (done : Result B Failure)
+    → IsErrAnd done (λ e. e ≡ f) → IsGathered {B = Unit {0}} old new first second xs (Err f)
+    → IsGathered old new first third (xs ++ ys) done
 gathered_cut old new first second third xs ys f (Ok b) handed out = absurd handed
 gathered_cut old new first second third xs ys f (Err d) handed out =
     subst (λ (l : List ℕ). IsOutput {B = Unit {0}} old new l (Err d)) (append_assoc first xs ys)

@@ -76,7 +76,8 @@ refused name reads reads' writes limits source failure.Folder input told = absur
 refused name reads reads' writes limits source failure.Listen input told = absurd told
 refused name reads reads' writes limits source failure.Accept input told = absurd told
 
-pub refused_by : (name : List ℕ) (reads reads' : Reads) (writes : Writes) (limits : Limits) (source : Source) (f : Failure)
+pub refused_by : (name : List ℕ) (reads reads' : Reads) (writes : Writes) (limits : Limits)
+    (source : Source) (f : Failure)
     (r : Result (Unit {0}) Failure) → IsErrAnd r (λ e. e ≡ f) → IsInput name reads reads' limits source
     → IsToldOf limits (source ∷ []) f → IsDescribeRun name reads reads' writes writes r
 refused_by name reads reads' writes limits source f (Ok a) handed input told = absurd handed
@@ -132,7 +133,8 @@ refused_run known file writes limits f (Err e) handed standard told =
     let P : Failure → Type 0 = λ x. IsToldOfFolder limits known x in
     (limits, standard, inl (subst P (sym handed) told, refl))
 
-pub unread_run : {A : Type 0} (known : Known) (file : Option A) (writes : Writes) (limits : Limits) (fault : FolderFault)
+pub unread_run : {A : Type 0} (known : Known) (file : Option A) (writes : Writes) (limits : Limits)
+    (fault : FolderFault)
     (r : Result (Unit {0}) Failure) → IsErrAnd r (λ e. e ≡ of_folder fault) → AreStandard limits
     → IsCompileRun known file writes writes r
 unread_run known file writes limits fault r handed standard =
@@ -151,8 +153,10 @@ refused_answer known mode reads writes limits f (Err e) handed standard told =
 
 pub failed_answer : (known : Known) (mode : Mode) (reads reads' : Reads) (writes writes' : Writes) (limits : Limits)
     (c : Compilation) (fault : IoFault) (r : Result (Unit {0}) Failure) → IsErrAnd r (λ e. e ≡ of_exchange fault)
-    → AreStandard limits → IsCompiledTo limits known c → IsExchange {A = Unit {0}} mode c reads reads' writes writes' (Err fault)
+    → AreStandard limits → IsCompiledTo limits known c
+    → IsExchange {A = Unit {0}} mode c reads reads' writes writes' (Err fault)
     → IsAnswerRun known mode reads reads' writes writes' r
-failed_answer known mode reads reads' writes writes' limits c fault (Ok a) handed standard compiled exchange = absurd handed
+failed_answer known mode reads reads' writes writes' limits c fault (Ok a) handed standard compiled exchange =
+    absurd handed
 failed_answer known mode reads reads' writes writes' limits c fault (Err e) handed standard compiled exchange =
     (limits, standard, inr (c, compiled, fault, handed, exchange))

@@ -105,7 +105,8 @@ IsCompileRun known file writes writes' done =
     ⊎ ((texts : List NamedText) × AreTextsOf known texts × (set : List ℕ) × IsSetOfTexts limits texts set
     × IsSetRun file writes writes' set done))
 
--- `answer`: the exchange over what the folder's texts are compiled to; or their first fault, and nothing read or written
+-- `answer`: the exchange over what the folder's texts are compiled to; or their first fault, and nothing read or
+-- written
 abbrev pub IsAnswerRun : {A : Type 0} → Known → Mode → Reads → Reads → Writes → Writes → Result A Failure → Type 0
 IsAnswerRun known mode reads reads' writes writes' (Ok a) =
     (limits : Limits) × AreStandard limits × (c : Compilation) × IsCompiledTo limits known c

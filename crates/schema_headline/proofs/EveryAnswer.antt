@@ -11,8 +11,10 @@ use Rattle.proto_compile.specs.declared.source.Source.{Source}
 use Rattle.proto_compile.proofs.LeastFault.{no_fault_at_all, one_least}
 
 -- P is what compiled sources give, and they give one thing
-module _ (limits : Limits) (sources : List Source) (P : List ℕ → Type 0) (compiled : (a : List ℕ) → P a → (c : Compilation) × IsCompiled limits sources c) where
-  pub every_answer : ((a b : List ℕ) → P a → P b → a ≡ b) → (r : Result (Vec ℕ Global) CompileError) → IfOk r (λ bytes. P bytes.items)
+module _ (limits : Limits) (sources : List Source) (P : List ℕ → Type 0)
+    (compiled : (a : List ℕ) → P a → (c : Compilation) × IsCompiled limits sources c) where
+  pub every_answer : ((a b : List ℕ) → P a → P b → a ≡ b) → (r : Result (Vec ℕ Global) CompileError)
+      → IfOk r (λ bytes. P bytes.items)
       → IfErr r (TellsOf (IsLeastFault limits sources))
       → (answer : List ℕ) → P answer → MatchResult r (λ bytes. bytes.items ≡ answer) (λ e. e ≡ errors.NoMemory)
   every_answer one (Ok bytes) gives first answer is = one bytes.items answer gives is
@@ -20,8 +22,10 @@ module _ (limits : Limits) (sources : List Source) (P : List ℕ → Type 0) (co
       absurd (no_fault_at_all limits sources w.0 (told_by fault) w.1 first.among.breaks)
   every_answer one (Err errors.NoMemory) gives first answer is = refl
 
-  pub every_fault : (r : Result (Vec ℕ Global) CompileError) → IfOk r (λ bytes. P bytes.items) → IfErr r (TellsOf (IsLeastFault limits sources))
+  pub every_fault : (r : Result (Vec ℕ Global) CompileError) → IfOk r (λ bytes. P bytes.items)
+      → IfErr r (TellsOf (IsLeastFault limits sources))
       → (x : SourceFault) → IsLeastFault limits sources x → IsErrAnd r (TellsOf (λ y. y ≡ x))
-  every_fault (Ok bytes) gives first x fault = let w = compiled bytes.items gives in absurd (no_fault_at_all limits sources w.0 x w.1 fault.among.breaks)
+  every_fault (Ok bytes) gives first x fault = let w = compiled bytes.items gives in
+      absurd (no_fault_at_all limits sources w.0 x w.1 fault.among.breaks)
   every_fault (Err (errors.First found)) gives first x fault = one_least limits sources (told_by found) x first fault
   every_fault (Err errors.NoMemory) gives first x fault = tt

@@ -12,7 +12,8 @@ use Rattle.schema_headline.specs.Headline.{IsResponseOf, IsSetOf}
 use Rattle.schema_headline.proofs.Describing.{only_file}
 use Rattle.wire_format.specs.Field.{bytes_field}
 
-pub one_descriptor : (limits : Limits) (s : Source) (a b : List ℕ) → IsDescribedBy limits s a → IsDescribedBy limits s b → a ≡ b
+pub one_descriptor : (limits : Limits) (s : Source) (a b : List ℕ) → IsDescribedBy limits s a
+    → IsDescribedBy limits s b → a ≡ b
 one_descriptor limits s a b (c, is, i, named, at) (d, is', j, named', at') =
     let same = (one_compilation limits (s ∷ []) c d is is').0 in
     let one = only_file limits s c is in
@@ -20,22 +21,28 @@ one_descriptor limits s a b (c, is, i, named, at) (d, is', j, named', at') =
     let position : i ≡ j = omega (arith, named.0, named'.0, one, one') in
     at ∙ ap (bytes_at c.files) position ∙ ap (λ (files : List CompiledFile). bytes_at files j) same ∙ sym at'
 
-pub one_set : (limits : Limits) (sources : List Source) (a b : List ℕ) → IsSetOf limits sources a → IsSetOf limits sources b → a ≡ b
+pub one_set : (limits : Limits) (sources : List Source) (a b : List ℕ) → IsSetOf limits sources a
+    → IsSetOf limits sources b → a ≡ b
 one_set limits sources a b (c, is, at) (d, is', at') =
     let same = one_compilation limits sources c d is is' in
     at ∙ (λ i. flat_map (λ f. bytes_field 1 (bytes_at (same.0 i) f)) (same.1 i)) ∙ sym at'
 
-pub one_response_of : (mode : Mode) (limits : Limits) (sources : List Source) (body a b : List ℕ) → IsResponseOf mode limits sources body a
+pub one_response_of : (mode : Mode) (limits : Limits) (sources : List Source) (body a b : List ℕ)
+    → IsResponseOf mode limits sources body a
     → IsResponseOf mode limits sources body b → a ≡ b
-one_response_of mode limits sources body a b (c, is, at) (d, is', at') = one_response limits sources c d mode body a b is is' at at'
+one_response_of mode limits sources body a b (c, is, at) (d, is', at') =
+    one_response limits sources c d mode body a b is is' at at'
 
 -- what is given is of sources that are compiled
-pub described_from : (limits : Limits) (s : Source) (a : List ℕ) → IsDescribedBy limits s a → (c : Compilation) × IsCompiled limits (s ∷ []) c
+pub described_from : (limits : Limits) (s : Source) (a : List ℕ) → IsDescribedBy limits s a
+    → (c : Compilation) × IsCompiled limits (s ∷ []) c
 described_from limits s a w = (w.0, w.1)
 
-pub set_from : (limits : Limits) (sources : List Source) (a : List ℕ) → IsSetOf limits sources a → (c : Compilation) × IsCompiled limits sources c
+pub set_from : (limits : Limits) (sources : List Source) (a : List ℕ) → IsSetOf limits sources a
+    → (c : Compilation) × IsCompiled limits sources c
 set_from limits sources a w = (w.0, w.1)
 
-pub response_from : (mode : Mode) (limits : Limits) (sources : List Source) (body a : List ℕ) → IsResponseOf mode limits sources body a
+pub response_from : (mode : Mode) (limits : Limits) (sources : List Source) (body a : List ℕ)
+    → IsResponseOf mode limits sources body a
     → (c : Compilation) × IsCompiled limits sources c
 response_from mode limits sources body a w = (w.0, w.1)

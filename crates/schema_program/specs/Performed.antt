@@ -40,7 +40,8 @@ IsPerformed (task.Describe name) reads reads' writes writes' =
 IsPerformed (task.Explain topic) reads reads' writes writes' =
     EndsSound (λ done. IsExplainRun writes writes' done)
 
--- the words were no task: a text was written, as help is; or the command line is wrong, or memory was short, and nothing was
+-- the words were no task: a text was written, as help is; or the command line is wrong, or memory was short, and
+-- nothing was
 -- written; or a call of the writer failed
 abbrev pub IsUsageRun : Writes → Writes → ExitStatus → Type 0
 IsUsageRun writes writes' status.Done = (text : List ℕ) × IsWritten writes writes' text
@@ -49,7 +50,8 @@ IsUsageRun writes writes' status.CommandLine = writes' ≡ writes
 IsUsageRun writes writes' status.Device = (text : List ℕ) × (written : ℕ) × IsWrittenInPart writes writes' text written
 IsUsageRun writes writes' status.NoMemory = writes' ≡ writes
 
--- what became of what the words ask for: a task was performed, and the status is that of how it ended; or they ask for none
+-- what became of what the words ask for: a task was performed, and the status is that of how it ended; or they ask for
+-- none
 abbrev pub IsEndOf : Option Task → Reads → Reads → Writes → Writes → ExitStatus → Type 0
 IsEndOf (Some asked) reads reads' writes writes' ended =
     (done : Result Verdict Failure) × IsPerformed asked reads reads' writes writes' done × (ended ≡ status_after done)

@@ -21,11 +21,13 @@ rising_keys [] sorted k h = absurd (no_neighbours k h)
 rising_keys (n ∷ names) sorted k h =
     let all : List (Bor (List ℕ)) = n ∷ names in
     let inside : k + 1 < length all = omega (arith, h, length-map all text_of) in
-    ap (λ a. slice_cmp nat_cmp a (get_or (map text_of all) (k + 1) [])) (get_or-map text_of all k n [] (omega (arith, inside)))
+    ap (λ a. slice_cmp nat_cmp a (get_or (map text_of all) (k + 1) []))
+      (get_or-map text_of all k n [] (omega (arith, inside)))
     ∙ ap (λ b. slice_cmp nat_cmp (text_of (get_or all k n)) b) (get_or-map text_of all (k + 1) n [] inside)
     ∙ Less-from_sorted text_cmp all k (k + 1) n sorted (omega arith) inside
 
 -- what references to references of names lead to
-pub twice_now : (names : List (Bor (Bor (List ℕ)))) → map (λ name. name.now.now) names ≡ map text_of (map (λ name. name.now) names)
+pub twice_now : (names : List (Bor (Bor (List ℕ))))
+    → map (λ name. name.now.now) names ≡ map text_of (map (λ name. name.now) names)
 twice_now [] = refl
 twice_now (n ∷ names) = ap (λ rest. n.now.now ∷ rest) (twice_now names)

@@ -21,15 +21,18 @@ least_else w p ps n = ap (λ (b : Bool). cond b (min p.1 (least_at w ps)) (least
 pub least_at-le-NONE : (w : ℕ) (ps : List (ℕ × ℕ)) → least_at w ps ≤ NONE
 least_at-le-NONE w [] = omega arith
 least_at-le-NONE w (p ∷ ps) = let ih = least_at-le-NONE w ps in
-    ⊎_elim (λ (e : p.0 ≡ w). omega (arith, least_here w p ps e)) (λ (n : p.0 ≡ w → ⊥). omega (arith, least_else w p ps n)) (cases_eq p.0 w)
+    ⊎_elim (λ (e : p.0 ≡ w). omega (arith, least_here w p ps e))
+      (λ (n : p.0 ≡ w → ⊥). omega (arith, least_else w p ps n)) (cases_eq p.0 w)
 
 -- a bound of all the numbers at the word bounds the least
-pub least_at-above : (w m : ℕ) (ps : List (ℕ × ℕ)) → m ≤ NONE → ((x : ℕ) → Contains ps (w, x) → m ≤ x) → m ≤ least_at w ps
+pub least_at-above : (w m : ℕ) (ps : List (ℕ × ℕ)) → m ≤ NONE → ((x : ℕ) → Contains ps (w, x) → m ≤ x)
+    → m ≤ least_at w ps
 least_at-above w m [] top each = top
 least_at-above w m (p ∷ ps) top each =
     let ih = least_at-above w m ps top (λ x h. each x (behind p ps (w, x) h)) in
     ⊎_elim
-    (λ (e : p.0 ≡ w). let here : m ≤ p.1 = each p.1 (subst (λ y. Contains (p ∷ ps) (y, p.1)) e (front p ps)) in omega (arith, least_here w p ps e))
+    (λ (e : p.0 ≡ w). let here : m ≤ p.1 = each p.1 (subst (λ y. Contains (p ∷ ps) (y, p.1)) e (front p ps)) in
+      omega (arith, least_here w p ps e))
     (λ (n : p.0 ≡ w → ⊥). omega (arith, least_else w p ps n)) (cases_eq p.0 w)
 
 pub least_at-below : (w x : ℕ) (ps : List (ℕ × ℕ)) → Contains ps (w, x) → least_at w ps ≤ x
@@ -37,7 +40,8 @@ least_at-below w x [] h = absurd (none_in (w, x) h)
 least_at-below w x (p ∷ ps) h = ⊎_elim
     (λ (e : p ≡ (w, x)). omega (arith, least_here w p ps (λ i. (e i).0), ap (λ (q : ℕ × ℕ). q.1) e))
     (λ (k : Contains ps (w, x)). let ih = least_at-below w x ps k in
-    ⊎_elim (λ (e : p.0 ≡ w). omega (arith, least_here w p ps e)) (λ (n : p.0 ≡ w → ⊥). omega (arith, least_else w p ps n)) (cases_eq p.0 w))
+    ⊎_elim (λ (e : p.0 ≡ w). omega (arith, least_here w p ps e))
+      (λ (n : p.0 ≡ w → ⊥). omega (arith, least_else w p ps n)) (cases_eq p.0 w))
     (front_or_behind p ps (w, x) h)
 
 pub least_at-reached : (w : ℕ) (ps : List (ℕ × ℕ)) → (least_at w ps ≡ NONE) ⊎ Contains ps (w, least_at w ps)
@@ -54,8 +58,10 @@ least_at-reached w (p ∷ ps) =
     (cases_lt p.1 m))
     (λ (n : p.0 ≡ w → ⊥). subst P (sym (least_else w p ps n)) rest) (cases_eq p.0 w)
 
-least_le : (w : ℕ) (ps qs : List (ℕ × ℕ)) → ((x : ℕ) → Contains qs (w, x) → Contains ps (w, x)) → least_at w ps ≤ least_at w qs
-least_le w ps qs here = least_at-above w (least_at w ps) qs (least_at-le-NONE w ps) (λ x h. least_at-below w x ps (here x h))
+least_le : (w : ℕ) (ps qs : List (ℕ × ℕ)) → ((x : ℕ) → Contains qs (w, x) → Contains ps (w, x))
+    → least_at w ps ≤ least_at w qs
+least_le w ps qs here = least_at-above w (least_at w ps) qs (least_at-le-NONE w ps)
+    (λ x h. least_at-below w x ps (here x h))
 
 -- the least depends on the set of the pairs alone
 pub least_at-members : (w : ℕ) (ps qs : List (ℕ × ℕ)) → ((x : ℕ) → Contains ps (w, x) → Contains qs (w, x))
@@ -74,13 +80,15 @@ same_in xs ys same = calls_in xs ys (λ h. omega (arith, same h))
 pub post_in : (w : ℕ) (xs : List Call) (c : Call) → Contains xs c → c.word ≡ w → Contains (posts_of xs) (w, c.number)
 post_in w xs c h e = subst (λ y. Contains (posts_of xs) (y, c.number)) e (in_map (λ d. (d.word, d.number)) xs c h)
 
-pub posts_same : (xs ys : List Call) → SameCalls xs ys → (p : ℕ × ℕ) → Contains (posts_of xs) p → Contains (posts_of ys) p
+pub posts_same : (xs ys : List Call) → SameCalls xs ys → (p : ℕ × ℕ) → Contains (posts_of xs) p
+    → Contains (posts_of ys) p
 posts_same xs ys same p h = let r = of_map (λ (c : Call). (c.word, c.number)) xs p h in
     subst (Contains (posts_of ys)) r.2 (in_map (λ c. (c.word, c.number)) ys r.0 (same_in xs ys same r.0 r.1))
 
 pub least_at-same : (w : ℕ) (xs ys : List Call) → SameCalls xs ys → least_at w (posts_of xs) ≡ least_at w (posts_of ys)
 least_at-same w xs ys same =
-    least_at-members w (posts_of xs) (posts_of ys) (λ x. posts_same xs ys same (w, x)) (λ x. posts_same ys xs (λ h. sym (same h)) (w, x))
+    least_at-members w (posts_of xs) (posts_of ys) (λ x. posts_same xs ys same (w, x))
+      (λ x. posts_same ys xs (λ h. sym (same h)) (w, x))
 
 -- if both fell, they found different numbers
 abbrev pub Apart : ℕ → Call → Call → Type 0
@@ -91,7 +99,8 @@ falls_from w x c = (c.word == w) && ((c.found == x) && ltb c.number c.found)
 
 from_is : (w x : ℕ) (c : Call) → falls_from w x c ≡ true → FallsAt w c × (c.found ≡ x)
 from_is w x c e = let t = and_parts (c.word == w) ((c.found == x) && ltb c.number c.found) e in
-    let u = and_parts (c.found == x) (ltb c.number c.found) t.1 in ((eqb-true c.word w t.0, ltb-true c.number c.found u.1), eqb-true c.found x u.0)
+    let u = and_parts (c.found == x) (ltb c.number c.found) t.1 in
+    ((eqb-true c.word w t.0, ltb-true c.number c.found u.1), eqb-true c.found x u.0)
 
 from_true : (w x : ℕ) (c : Call) → FallsAt w c → c.found ≡ x → falls_from w x c ≡ true
 from_true w x c f e = and_from (c.word == w) ((c.found == x) && ltb c.number c.found) (eq-eqb c.word w f.0)
@@ -116,14 +125,16 @@ once_from : (w : ℕ) (cs : List Call) → ((x : ℕ) → count_by (falls_from w
 once_from w [] once = λ i j d a b. absurd (omega arith)
 once_from w (c ∷ cs) once = AllPairs-cons (Apart w) c cs
     (all_of (Apart w c) cs (λ d k mine its e. let p : Call → Bool = falls_from w c.found in
-    absurd (omega (arith, once c.found, count_by-yes p c cs (from_true w c.found c mine refl), count_in p cs d k (from_true w c.found d its (sym e))))))
+    absurd (omega (arith, once c.found, count_by-yes p c cs (from_true w c.found c mine refl),
+      count_in p cs d k (from_true w c.found d its (sym e))))))
     (once_from w cs (λ x. omega (arith, once x, sum_by-cons (λ d. cond (falls_from w x d) 1 0) c cs)))
 
 pub IsLegal-same : (xs ys : List Call) → SameCalls xs ys → IsLegal xs → IsLegal ys
 IsLegal-same xs ys same l = λ w. let back : SameCalls ys xs = λ f. sym (same f) in record {
   under = λ c h. (l w).under c (same_in ys xs back c h);
   once = once_from w ys (λ x. omega (arith, same (λ c. cond (falls_from w x c) 1 0), once_of w x xs (l w).once));
-  linked = λ c h at. ⊎_elim (λ a. inl a) (λ b. inr (b.0, same_in xs ys same b.0 b.1, b.2, b.3)) ((l w).linked c (same_in ys xs back c h) at);
+  linked = λ c h at. ⊎_elim (λ a. inl a) (λ b. inr (b.0, same_in xs ys same b.0 b.1, b.2, b.3))
+      ((l w).linked c (same_in ys xs back c h) at);
 }
 
 -- some call fell to x
@@ -131,7 +142,8 @@ abbrev pub FellTo : ℕ → List Call → ℕ → Type 0
 FellTo w xs x = (d : Call) × Contains xs d × FallsAt w d × (d.number ≡ x)
 
 -- what a word holds is NONE or the number of a call that fell
-pub least_falls : (w : ℕ) (xs : List Call) → IsLegalAt w xs → (least_at w (posts_of xs) ≡ NONE) ⊎ FellTo w xs (least_at w (posts_of xs))
+pub least_falls : (w : ℕ) (xs : List Call) → IsLegalAt w xs
+    → (least_at w (posts_of xs) ≡ NONE) ⊎ FellTo w xs (least_at w (posts_of xs))
 least_falls w xs l = let m : ℕ = least_at w (posts_of xs) in
     ⊎_elim (λ e. inl e)
     (λ (h : Contains (posts_of xs) (w, m)).
@@ -142,18 +154,22 @@ least_falls w xs l = let m : ℕ = least_at w (posts_of xs) in
     (λ (ge : d.found ≤ d.number).
     ⊎_elim
     (λ (e : d.found ≡ NONE). inl (omega (arith, least_at-le-NONE w (posts_of xs))))
-    (λ (f : FellTo w xs d.found). inr (f.0, f.1, f.2, omega (arith, least_at-below w f.0.number (posts_of xs) (post_in w xs f.0 f.1 f.2.0), f.3)))
+    (λ (f : FellTo w xs d.found). inr (f.0, f.1, f.2,
+      omega (arith, least_at-below w f.0.number (posts_of xs) (post_in w xs f.0 f.1 f.2.0), f.3)))
     (l.linked d r.1 at_w))
     (cases_lt d.number d.found))
     (least_at-reached w (posts_of xs))
 
 -- a call that finds what the word holds
-pub IsLegal-post : (w n : ℕ) (xs : List Call) → n < NONE → IsLegal xs → IsLegal (call w (least_at w (posts_of xs)) n ∷ xs)
+pub IsLegal-post : (w n : ℕ) (xs : List Call) → n < NONE → IsLegal xs
+    → IsLegal (call w (least_at w (posts_of xs)) n ∷ xs)
 IsLegal-post w n xs lt l = λ v. let m : ℕ = least_at w (posts_of xs) in let c : Call = call w m n in record {
-  under = λ d h at. ⊎_elim (λ (e : c ≡ d). omega (arith, ap (λ (f : Call). f.number) e)) (λ k. (l v).under d k at) (front_or_behind c xs d h);
+  under = λ d h at. ⊎_elim (λ (e : c ≡ d). omega (arith, ap (λ (f : Call). f.number) e)) (λ k. (l v).under d k at)
+      (front_or_behind c xs d h);
   once = AllPairs-cons (Apart v) c xs
       (all_of (Apart v c) xs (λ d k mine its e.
-      absurd (omega (arith, e, its.1, least_at-below w d.number (posts_of xs) (post_in w xs d k (its.0 ∙ sym mine.0))))))
+      absurd (omega (arith, e, its.1, least_at-below w d.number (posts_of xs)
+        (post_in w xs d k (its.0 ∙ sym mine.0))))))
       (l v).once;
   linked = λ d h at. ⊎_elim
       (λ (e : c ≡ d).

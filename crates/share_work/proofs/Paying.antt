@@ -20,11 +20,13 @@ pub record IsPaying (v u : MarkView) (root n k : ℕ) (files : List ℕ) : Type 
   pub position : k ≤ length files
 
 pub get_some : (files : List ℕ) (k g : ℕ) → slice_get files k ≡ Some g
-    → (k < length files) × (take (suc k) files ≡ take k files ++ g ∷ []) × (drop k files ≡ g ∷ drop (suc k) files) × Contains files g
+    → (k < length files) × (take (suc k) files ≡ take k files ++ g ∷ []) × (drop k files ≡ g ∷ drop (suc k) files)
+      × Contains files g
 get_some [] k g e = absurd (cc)
 get_some (x ∷ xs) zero g e =
     let is : x ≡ g = cc in (omega arith, ap (λ (y : ℕ). y ∷ []) is, ap (λ (y : ℕ). y ∷ xs) is, (0, omega arith, is))
-get_some (x ∷ xs) (suc k) g e = let r = get_some xs k g e in (omega (arith, r.0), ap (λ (l : List ℕ). x ∷ l) r.1, r.2, behind x xs g r.3)
+get_some (x ∷ xs) (suc k) g e = let r = get_some xs k g e in
+    (omega (arith, r.0), ap (λ (l : List ℕ). x ∷ l) r.1, r.2, behind x xs g r.3)
 
 pub none_past : {X : Type 0} (xs : List X) (k : ℕ) → slice_get xs k ≡ None → length xs ≤ k
 none_past xs k e = elim (slice_get_cases xs k).1 [
@@ -47,7 +49,8 @@ each-append : (n : ℕ) (xs ys : List ℕ) → at_each n (xs ++ ys) ≡ at_each 
 each-append n [] ys = refl
 each-append n (x ∷ xs) ys = ap (λ (l : List (ℕ × ℕ)). (x, n) ∷ l) (each-append n xs ys)
 
-pub paying_none : (v : MarkView) (root n : ℕ) (files : List ℕ) → 0 < length files → v.debt ≡ Some (make_debt root n 0) → IsPaying v v root n 0 files
+pub paying_none : (v : MarkView) (root n : ℕ) (files : List ℕ) → 0 < length files → v.debt ≡ Some (make_debt root n 0)
+    → IsPaying v v root n 0 files
 paying_none v root n files some_file e = record {
   later = [];
   posted = refl;
@@ -58,34 +61,44 @@ paying_none v root n files some_file e = record {
 }
 
 -- the debt while a file is left
-pub debt_now : (v u : MarkView) (root n k : ℕ) (files : List ℕ) → IsPaying v u root n k files → k < length files → u.debt ≡ Some (make_debt root n k)
+pub debt_now : (v u : MarkView) (root n k : ℕ) (files : List ℕ) → IsPaying v u root n k files → k < length files
+    → u.debt ≡ Some (make_debt root n k)
 debt_now v u root n k files p lt = ap (λ (y : MarkView). y.debt) p.view
-    ∙ ap (λ (b : Bool). cond b None (Some (make_debt root n k))) (ne_eqb k (length files) (λ (z : k ≡ length files). absurd (omega arith)))
+    ∙ ap (λ (b : Bool). cond b None (Some (make_debt root n k)))
+      (ne_eqb k (length files) (λ (z : k ≡ length files). absurd (omega arith)))
 
-pub paying_more : (v u w : MarkView) (root n k : ℕ) (files : List ℕ) (g found : ℕ) → IsPaying v u root n k files → slice_get files k ≡ Some g
+pub paying_more : (v u w : MarkView) (root n k : ℕ) (files : List ℕ) (g found : ℕ) → IsPaying v u root n k files
+    → slice_get files k ≡ Some g
     → w ≡ with_calls u (call g found n ∷ []) (debt_at root n (k + 1) files) → IsPaying v w root n (k + 1) files
 paying_more v u w root n k files g found p e is =
     let s = get_some files k g e in let c : Call = call g found n in
     record {
       later = p.later ++ c ∷ [];
-      posted = posts-append p.later (c ∷ []) ∙ ap (λ (l : List (ℕ × ℕ)). l ++ (g, n) ∷ []) p.posted ∙ sym (each-append n (take k files) (g ∷ []))
+      posted = posts-append p.later (c ∷ []) ∙ ap (λ (l : List (ℕ × ℕ)). l ++ (g, n) ∷ []) p.posted
+          ∙ sym (each-append n (take k files) (g ∷ []))
           ∙ ap (λ (l : List ℕ). at_each n l) (sym s.1 ∙ ap (λ (j : ℕ). take j files) (sym (add-one k)));
       view = is
           ∙ ap (λ (y : MarkView). with_calls y (c ∷ []) (debt_at root n (k + 1) files)) p.view
-          ∙ (λ i. mark_view (make_view v.least.parts (append_assoc v.least.calls p.later (c ∷ []) i) v.least.told) v.marks (debt_at root n (k + 1) files));
+          ∙ (λ i. mark_view (make_view v.least.parts (append_assoc v.least.calls p.later (c ∷ []) i) v.least.told)
+            v.marks (debt_at root n (k + 1) files));
       position = omega (arith, s.0);
     }
 
 -- what the debt owes at a position, and after it
-pub owed_here : (list : ℕ → List ℕ) (v : MarkView) (root n k g : ℕ) → v.debt ≡ Some (make_debt root n k) → slice_get (list root) k ≡ Some g
+pub owed_here : (list : ℕ → List ℕ) (v : MarkView) (root n k g : ℕ) → v.debt ≡ Some (make_debt root n k)
+    → slice_get (list root) k ≡ Some g
     → owed_of list v ≡ (g, n) ∷ at_each n (drop (suc k) (list root))
-owed_here list v root n k g d e = ap (λ (y : Option Debt). owed_by list y) d ∙ ap (λ (l : List ℕ). at_each n l) (get_some (list root) k g e).2
+owed_here list v root n k g d e = ap (λ (y : Option Debt). owed_by list y) d
+    ∙ ap (λ (l : List ℕ). at_each n l) (get_some (list root) k g e).2
 
-next_is : (root n k : ℕ) (files : List ℕ) (v : MarkView) (last : Bool) → v.debt ≡ Some (make_debt root n k) → last ≡ (k + 1 == length files)
+next_is : (root n k : ℕ) (files : List ℕ) (v : MarkView) (last : Bool) → v.debt ≡ Some (make_debt root n k)
+    → last ≡ (k + 1 == length files)
     → next_debt last v.debt ≡ debt_at root n (k + 1) files
-next_is root n k files v last d is = ap (λ (y : Option Debt). next_debt last y) d ∙ ap (λ (b : Bool). cond b None (Some (make_debt root n (k + 1)))) is
+next_is root n k files v last d is = ap (λ (y : Option Debt). next_debt last y) d
+    ∙ ap (λ (b : Bool). cond b None (Some (make_debt root n (k + 1)))) is
 
-pub owed_next : (list : ℕ → List ℕ) (v : MarkView) (root n k g : ℕ) (last : Bool) → v.debt ≡ Some (make_debt root n k) → slice_get (list root) k ≡ Some g
+pub owed_next : (list : ℕ → List ℕ) (v : MarkView) (root n k g : ℕ) (last : Bool) → v.debt ≡ Some (make_debt root n k)
+    → slice_get (list root) k ≡ Some g
     → last ≡ (k + 1 == length (list root))
     → owed_by list (next_debt last v.debt) ≡ at_each n (drop (suc k) (list root))
 owed_next list v root n k g last d e is =
@@ -93,24 +106,30 @@ owed_next list v root n k g last d e is =
     let path : owed_by list (next_debt last v.debt) ≡ owed_by list (debt_at root n (k + 1) files) =
     ap (λ (y : Option Debt). owed_by list y) (next_is root n k files v last d is) in
     path ∙ ⊎_elim
-    (λ (end : k + 1 ≡ length files). ap (λ (b : Bool). owed_by list (cond b None (Some (make_debt root n (k + 1))))) (eq-eqb (k + 1) (length files) end)
+    (λ (end : k + 1 ≡ length files). ap (λ (b : Bool). owed_by list (cond b None (Some (make_debt root n (k + 1)))))
+      (eq-eqb (k + 1) (length files) end)
     ∙ ap (λ (l : List ℕ). at_each n l) (sym (drop_all (suc k) files (omega arith))))
-    (λ (more : k + 1 ≡ length files → ⊥). ap (λ (b : Bool). owed_by list (cond b None (Some (make_debt root n (k + 1))))) (ne_eqb (k + 1) (length files) more)
+    (λ (more : k + 1 ≡ length files → ⊥). ap
+      (λ (b : Bool). owed_by list (cond b None (Some (make_debt root n (k + 1))))) (ne_eqb (k + 1) (length files) more)
     ∙ ap (λ (j : ℕ). at_each n (drop j files)) (add-one k))
     (cases_eq (k + 1) (length files))
 
-pub paid_is : (root n k g found : ℕ) (files : List ℕ) (v w : MarkView) (last : Bool) → v.debt ≡ Some (make_debt root n k) → last ≡ (k + 1 == length files)
+pub paid_is : (root n k g found : ℕ) (files : List ℕ) (v w : MarkView) (last : Bool)
+    → v.debt ≡ Some (make_debt root n k) → last ≡ (k + 1 == length files)
     → w ≡ with_paid last (g + 1 - 1) found n v
     → w ≡ with_calls v (call g found n ∷ []) (debt_at root n (k + 1) files)
 paid_is root n k g found files v w last d is e = let back : g + 1 - 1 ≡ g = omega arith in
     e ∙ ap (λ (y : ℕ). with_paid last y found n v) back
-    ∙ (λ i. mark_view (make_view v.least.parts (v.least.calls ++ call g found n ∷ []) v.least.told) v.marks (next_is root n k files v last d is i))
+    ∙ (λ i. mark_view (make_view v.least.parts (v.least.calls ++ call g found n ∷ []) v.least.told) v.marks
+      (next_is root n k files v last d is i))
 
-pub paying_all : (v u : MarkView) (root n k : ℕ) (files : List ℕ) → IsPaying v u root n k files → slice_get files k ≡ None
+pub paying_all : (v u : MarkView) (root n k : ℕ) (files : List ℕ) → IsPaying v u root n k files
+    → slice_get files k ≡ None
     → (later : List Call) × (posts_of later ≡ at_each n files) × (u ≡ with_calls v later None)
 paying_all v u root n k files p e = let r = get_none files k e in
     let end : k ≡ length files = omega (arith, none_past files k e, p.position) in (
       p.later,
       p.posted ∙ ap (λ (l : List ℕ). at_each n l) r.0,
-      p.view ∙ ap (λ (b : Bool). with_calls v p.later (cond b None (Some (make_debt root n k)))) (eq-eqb k (length files) end),
+      p.view ∙ ap (λ (b : Bool). with_calls v p.later (cond b None (Some (make_debt root n k))))
+        (eq-eqb k (length files) end),
     )

@@ -23,7 +23,8 @@ module _ {V : Type 0} where
   each_push P (x ∷ xs) y all last (suc k) v e = each_push (λ n. P (suc n)) xs y (λ n w. all (suc n) w) last k v e
 
 -- the items from a on, c of them as far as there are
-pub range_piece : {X : Type 0} (xs : List X) (a c : ℕ) → slice_range xs a (a + min c (length xs - a)) ≡ take c (drop a xs)
+pub range_piece : {X : Type 0} (xs : List X) (a c : ℕ)
+    → slice_range xs a (a + min c (length xs - a)) ≡ take c (drop a xs)
 range_piece xs a c =
     let e : a + min c (length xs - a) - a ≡ min c (length xs - a) = omega arith in
     ap (λ n. take n (drop a xs)) (e ∙ ap (λ n. min c n) (sym (length-drop a xs))) ∙ take_min c (drop a xs)
@@ -37,7 +38,8 @@ rising w k n W c le =
     let b : c * (w + n * W) ≤ c * (w + k * W) = mul-le-mul_left c (rw (mul_comm n W, mul_comm k W) (omega arith)) in
     rw (mul_comm (w + n * W) c, mul_comm (w + k * W) c) b
 
-pub length_pushed : {V : Type 0} (row : List V) (y : V) (more : List V) → more ≡ row ++ y ∷ [] → length more ≡ length row + 1
+pub length_pushed : {V : Type 0} (row : List V) (y : V) (more : List V) → more ≡ row ++ y ∷ []
+    → length more ≡ length row + 1
 length_pushed row y more is = rw is (length-append row (y ∷ []))
 
 -- a row of pieces of at most 4,096 items each, for at most 64 workers, has few items
@@ -49,12 +51,15 @@ pub whole_at : (w n W c len k : ℕ) → len ≤ (w + n * W) * c → (w + k * W)
 whole_at w n W c len k past inside =
     elim (cases_lt k n) [ inl lt ↦ lt | inr le ↦ let up = rising w k n W c le in absurd (omega arith) ]
 
-module _ {T O V : Type 0} (gives : ℕ → T → O → Type 0) (outs_of : V → List O) (workers cut : ℕ) (items : List T) (w : ℕ) where
+module _ {T O V : Type 0} (gives : ℕ → T → O → Type 0) (outs_of : V → List O) (workers cut : ℕ)
+    (items : List T) (w : ℕ) where
   -- a row and the outs of one more piece
   pub pushed : (row : List V) (y : V) (first : ℕ) (part : List T)
-      → first ≡ (w + length row * workers) * cut → part ≡ take cut (drop first items) → GivesItems gives first part (outs_of y)
+      → first ≡ (w + length row * workers) * cut → part ≡ take cut (drop first items)
+      → GivesItems gives first part (outs_of y)
       → ((k : ℕ) (v : V) → slice_get row k ≡ Some v → GivesPiece gives cut items (w + k * workers) (outs_of v))
-      → (k : ℕ) (v : V) → slice_get (row ++ y ∷ []) k ≡ Some v → GivesPiece gives cut items (w + k * workers) (outs_of v)
+      → (k : ℕ) (v : V) → slice_get (row ++ y ∷ []) k ≡ Some v
+      → GivesPiece gives cut items (w + k * workers) (outs_of v)
   pushed row y first part at is h all =
       let P : ℕ → Type 0 = λ n. GivesItems gives n (take cut (drop n items)) (outs_of y) in
       let Q : List T → Type 0 = λ p. GivesItems gives first p (outs_of y) in
@@ -67,10 +72,12 @@ found_in [] ys k v e = inr (k, omega arith, e)
 found_in (x ∷ xs) ys zero v e = inl e
 found_in (x ∷ xs) ys (suc k) v e = elim (found_in xs ys k v e) [ inl h ↦ inl h | inr h ↦ inr (h.0, grind arith, h.2) ]
 
-module _ {T O V R : Type 0} (gives : ℕ → T → O → Type 0) (outs_of : V → List O) (parts_of : R → List V) (workers cut : ℕ) (items : List T) where
+module _ {T O V R : Type 0} (gives : ℕ → T → O → Type 0) (outs_of : V → List O) (parts_of : R → List V)
+    (workers cut : ℕ) (items : List T) where
   -- the rows of some workers and those of the next ones
   pub rows_joined : (from n up m : ℕ) (low high : List R) → up ≡ from + n
-      → GivesRows gives outs_of parts_of workers cut items from n low → GivesRows gives outs_of parts_of workers cut items up m high
+      → GivesRows gives outs_of parts_of workers cut items from n low
+      → GivesRows gives outs_of parts_of workers cut items up m high
       → GivesRows gives outs_of parts_of workers cut items from (n + m) (low ++ high)
   rows_joined from n up m low high at a b = record {
     len = length-append low high ∙ ap (λ k. k + length high) a.len ∙ ap (λ k. n + k) b.len;
@@ -86,7 +93,8 @@ module _ {T O V R : Type 0} (gives : ℕ → T → O → Type 0) (outs_of : V �
 
 module _ {T O V : Type 0} (gives : ℕ → T → O → Type 0) (outs_of : V → List O) (workers cut : ℕ) (items : List T) where
   -- a row without its first piece
-  pub row_tail : (w : ℕ) (y : V) (ys : List V) → GivesRow gives outs_of workers cut items w (y ∷ ys) → GivesRow gives outs_of workers cut items (w + workers) ys
+  pub row_tail : (w : ℕ) (y : V) (ys : List V) → GivesRow gives outs_of workers cut items w (y ∷ ys)
+      → GivesRow gives outs_of workers cut items (w + workers) ys
   row_tail w y ys r = record {
     pieces = λ k v e.
         let P : ℕ → Type 0 = λ p. GivesPiece gives cut items p (outs_of v) in
@@ -140,10 +148,13 @@ module _ {T O : Type 0} (gives : ℕ → T → O → Type 0) where
       ] in
       subst P split (items_append (p * cut) (take (p * cut) items) (take cut (drop (p * cut) items)) a b positions f h)
 
-module _ {T O V R : Type 0} (gives : ℕ → T → O → Type 0) (outs_of : V → List O) (parts_of : R → List V) (workers cut : ℕ) (items : List T) where
+module _ {T O V R : Type 0} (gives : ℕ → T → O → Type 0) (outs_of : V → List O) (parts_of : R → List V)
+    (workers cut : ℕ) (items : List T) where
   -- the first row is moved to the end, without its first piece
-  pub rows_turned : (p : ℕ) (r r' : R) (rest : List R) (y : V) → GivesRows gives outs_of parts_of workers cut items p workers (r ∷ rest)
-      → parts_of r ≡ y ∷ parts_of r' → GivesRows gives outs_of parts_of workers cut items (p + 1) workers (rest ++ r' ∷ [])
+  pub rows_turned : (p : ℕ) (r r' : R) (rest : List R) (y : V)
+      → GivesRows gives outs_of parts_of workers cut items p workers (r ∷ rest)
+      → parts_of r ≡ y ∷ parts_of r' → GivesRows gives outs_of parts_of workers cut items (p + 1) workers
+        (rest ++ r' ∷ [])
   rows_turned p r r' rest y h is = record {
     len = length-append rest (r' ∷ []) ∙ (let n = h.len in omega arith);
     each = λ j q e. elim (found_in rest (r' ∷ []) j q e) [
@@ -170,7 +181,8 @@ module _ {T O V R : Type 0} (gives : ℕ → T → O → Type 0) (outs_of : V �
 
 take_over : {X : Type 0} (n : ℕ) (xs : List X) → length xs ≤ n → take n xs ≡ xs
 take_over n xs le =
-    sym (take_min n xs) ∙ ap (λ k. take k xs) (let e : min n (length xs) ≡ length xs = omega arith in e) ∙ take-length xs
+    sym (take_min n xs) ∙ ap (λ k. take k xs) (let e : min n (length xs) ≡ length xs = omega arith in e)
+      ∙ take-length xs
 
 module _ {T O : Type 0} (gives : ℕ → T → O → Type 0) (cut : ℕ) (items : List T) where
   pub gives_none : GivesUpTo gives cut items 0 []
@@ -180,8 +192,10 @@ module _ {T O : Type 0} (gives : ℕ → T → O → Type 0) (cut : ℕ) (items 
       subst P none (refl, λ i t o e f. let bad : None ≡ Some t = e in absurd (search rules))
 
   -- the outs of all pieces are those of all items
-  pub gives_all : (p : ℕ) (a : List O) → length items ≤ p * cut → GivesUpTo gives cut items p a → GivesItems gives 0 items a
-  gives_all p a past f = let P : List T → Type 0 = λ l. GivesItems gives 0 l a in subst P (take_over (p * cut) items past) f
+  pub gives_all : (p : ℕ) (a : List O) → length items ≤ p * cut → GivesUpTo gives cut items p a
+      → GivesItems gives 0 items a
+  gives_all p a past f = let P : List T → Type 0 = λ l. GivesItems gives 0 l a in
+      subst P (take_over (p * cut) items past) f
 
 pub piece_inside : (len c p : ℕ) → 0 < c → p < len / c + min 1 (len % c) → p * c < len
 piece_inside len c p some below =
@@ -192,7 +206,8 @@ piece_inside len c p some below =
 
 module _ {T : Type 0} (adds : ℕ → T → ℕ → ℕ → Type 0) (workers cut : ℕ) (items : List T) (w : ℕ) where
   -- what a piece adds, the row adds
-  pub adds_piece : (len first : ℕ) (part : List T) → first ≡ (w + len * workers) * cut → part ≡ take cut (drop first items)
+  pub adds_piece : (len first : ℕ) (part : List T) → first ≡ (w + len * workers) * cut
+      → part ≡ take cut (drop first items)
       → (x n : ℕ) → AddsSome adds first part x n → AddsInRow adds workers cut items w x n
   adds_piece len first part at is x n h =
       let P : ℕ → Type 0 = λ f. AddsSome adds f (take cut (drop f items)) x n in
@@ -200,21 +215,26 @@ module _ {T : Type 0} (adds : ℕ → T → ℕ → ℕ → Type 0) (workers cut
       (len, subst P at (subst Q is h))
 
   -- and a piece is added where its number is that of the piece
-  pub piece_adds : (len first : ℕ) (part : List T) → first ≡ (w + len * workers) * cut → part ≡ take cut (drop first items)
-      → (x n k : ℕ) → k ≡ len → AddsSome adds ((w + k * workers) * cut) (take cut (drop ((w + k * workers) * cut) items)) x n → AddsSome adds first part x n
+  pub piece_adds : (len first : ℕ) (part : List T) → first ≡ (w + len * workers) * cut
+      → part ≡ take cut (drop first items)
+      → (x n k : ℕ) → k ≡ len → AddsSome adds ((w + k * workers) * cut)
+        (take cut (drop ((w + k * workers) * cut) items)) x n → AddsSome adds first part x n
   piece_adds len first part at is x n k same h =
       let P : ℕ → Type 0 = λ f. AddsSome adds f (take cut (drop f items)) x n in
       let Q : List T → Type 0 = λ p. AddsSome adds first p x n in
-      let K : ℕ → Type 0 = λ j. AddsSome adds ((w + j * workers) * cut) (take cut (drop ((w + j * workers) * cut) items)) x n in
+      let K : ℕ → Type 0 = λ j. AddsSome adds ((w + j * workers) * cut)
+        (take cut (drop ((w + j * workers) * cut) items)) x n in
       subst Q (sym is) (subst P (sym at) (subst K same h))
 
   -- past the end nothing is added
-  pub adds_within : (x n k : ℕ) → AddsSome adds ((w + k * workers) * cut) (take cut (drop ((w + k * workers) * cut) items)) x n
+  pub adds_within : (x n k : ℕ) → AddsSome adds ((w + k * workers) * cut)
+      (take cut (drop ((w + k * workers) * cut) items)) x n
       → (w + k * workers) * cut < length items
   adds_within x n k h = elim (cases_lt ((w + k * workers) * cut) (length items)) [
     | inl lt ↦ lt
     | inr le ↦
-        let none : take cut (drop ((w + k * workers) * cut) items) ≡ [] = ap (λ l. take cut l) (drop_of_length-le items le) ∙ take-nil cut in
+        let none : take cut (drop ((w + k * workers) * cut) items) ≡ [] =
+          ap (λ l. take cut l) (drop_of_length-le items le) ∙ take-nil cut in
         let Q : List T → Type 0 = λ l. slice_get l h.0 ≡ Some h.1 in
         let bad : None ≡ Some h.1 = subst Q none h.2 in absurd (search rules)
   ]
@@ -223,12 +243,14 @@ pub OnOk-all : {X E : Type 0} (r : Result X E) (P : Type 0) → P → OnOk r P
 OnOk-all (Ok x) P h = h
 OnOk-all (Err e) P h = tt
 
-module _ {S T : Type 0} (holds : S → ℕ → ℕ → Type 0) (adds : ℕ → T → ℕ → ℕ → Type 0) (workers cut : ℕ) (items : List T) where
+module _ {S T : Type 0} (holds : S → ℕ → ℕ → Type 0) (adds : ℕ → T → ℕ → ℕ → Type 0) (workers cut : ℕ)
+    (items : List T) where
   pub gains_joined : (from up : ℕ) (low high low' high' : List S) → up ≡ from + length low
       → SeatsGain holds adds workers cut items from low low' → SeatsGain holds adds workers cut items up high high'
       → SeatsGain holds adds workers cut items from (low ++ high) (low' ++ high')
   gains_joined from up low high low' high' at a b = record {
-    len = let x = a.len in let y = b.len in length-append low' high' ∙ ap (λ n. n + length high') x ∙ ap (λ n. length low + n) y ∙ sym (length-append low high);
+    len = let x = a.len in let y = b.len in length-append low' high' ∙ ap (λ n. n + length high') x
+        ∙ ap (λ n. length low + n) y ∙ sym (length-append low high);
     each = λ j s s' e e'. elim (found_in low high j s e) [
       | inl h ↦ elim (found_in low' high' j s' e') [
         | inl h' ↦ a.each j s s' h h'
@@ -266,10 +288,13 @@ one_member [] e = absurd (omega arith)
 one_member (x ∷ []) e = (x, refl)
 one_member (x ∷ y ∷ xs) e = absurd (omega arith)
 
-module _ {S T : Type 0} (holds : S → ℕ → ℕ → Type 0) (adds : ℕ → T → ℕ → ℕ → Type 0) (workers cut : ℕ) (items : List T) where
-  one_gains : (w : ℕ) (s s' : S) → SeatGains holds adds workers cut items w s s' → SeatsGain holds adds workers cut items w (s ∷ []) (s' ∷ [])
+module _ {S T : Type 0} (holds : S → ℕ → ℕ → Type 0) (adds : ℕ → T → ℕ → ℕ → Type 0) (workers cut : ℕ)
+    (items : List T) where
+  one_gains : (w : ℕ) (s s' : S) → SeatGains holds adds workers cut items w s s'
+      → SeatsGain holds adds workers cut items w (s ∷ []) (s' ∷ [])
   one_gains w s s' h = record { len = refl; each = one } where
-    one : (j : ℕ) (a b : S) → slice_get (s ∷ []) j ≡ Some a → slice_get (s' ∷ []) j ≡ Some b → SeatGains holds adds workers cut items (w + j) a b
+    one : (j : ℕ) (a b : S) → slice_get (s ∷ []) j ≡ Some a → slice_get (s' ∷ []) j ≡ Some b
+        → SeatGains holds adds workers cut items (w + j) a b
     one zero a b e e' =
         let x : s ≡ a = cc in let y : s' ≡ b = cc in
         let P : S → Type 0 = λ v. SeatGains holds adds workers cut items (w + 0) v b in
@@ -280,13 +305,15 @@ module _ {S T : Type 0} (holds : S → ℕ → ℕ → Type 0) (adds : ℕ → T
     one (suc j) a b e e' = let bad : None ≡ Some a = e in absurd (search rules)
 
   -- the same of a list's one seat, read with any default
-  pub only_gains : (w : ℕ) (seats : List S) (d s' : S) → length seats ≡ 1 → SeatGains holds adds workers cut items w (get_or seats 0 d) s'
+  pub only_gains : (w : ℕ) (seats : List S) (d s' : S) → length seats ≡ 1
+      → SeatGains holds adds workers cut items w (get_or seats 0 d) s'
       → SeatsGain holds adds workers cut items w seats (set seats 0 s')
   only_gains w [] d s' e h = absurd (omega arith)
   only_gains w (x ∷ []) d s' e h = one_gains w x s' h
   only_gains w (x ∷ y ∷ xs) d s' e h = absurd (omega arith)
 
-  pub one_has : (w : ℕ) (s' : S) → SeatHas holds adds workers cut items w s' → SeatsHave holds adds workers cut items w (s' ∷ [])
+  pub one_has : (w : ℕ) (s' : S) → SeatHas holds adds workers cut items w s'
+      → SeatsHave holds adds workers cut items w (s' ∷ [])
   one_has w s' h = record { each = one } where
     one : (j : ℕ) (b : S) → slice_get (s' ∷ []) j ≡ Some b → SeatHas holds adds workers cut items (w + j) b
     one zero b e =
@@ -297,10 +324,13 @@ module _ {S T : Type 0} (holds : S → ℕ → ℕ → Type 0) (adds : ℕ → T
         subst Q y (subst W same h)
     one (suc j) b e = let bad : None ≡ Some b = e in absurd (search rules)
 
-module _ {T O V R : Type 0} (gives : ℕ → T → O → Type 0) (outs_of : V → List O) (parts_of : R → List V) (workers cut : ℕ) (items : List T) where
-  pub one_row : (w : ℕ) (r : R) → GivesRow gives outs_of workers cut items w (parts_of r) → GivesRows gives outs_of parts_of workers cut items w 1 (r ∷ [])
+module _ {T O V R : Type 0} (gives : ℕ → T → O → Type 0) (outs_of : V → List O) (parts_of : R → List V)
+    (workers cut : ℕ) (items : List T) where
+  pub one_row : (w : ℕ) (r : R) → GivesRow gives outs_of workers cut items w (parts_of r)
+      → GivesRows gives outs_of parts_of workers cut items w 1 (r ∷ [])
   one_row w r h = record { len = refl; each = one } where
-    one : (j : ℕ) (b : R) → slice_get (r ∷ []) j ≡ Some b → GivesRow gives outs_of workers cut items (w + j) (parts_of b)
+    one : (j : ℕ) (b : R) → slice_get (r ∷ []) j ≡ Some b
+        → GivesRow gives outs_of workers cut items (w + j) (parts_of b)
     one zero b e =
         let y : r ≡ b = cc in
         let Q : R → Type 0 = λ v. GivesRow gives outs_of workers cut items (w + 0) (parts_of v) in
@@ -311,7 +341,8 @@ module _ {T O V R : Type 0} (gives : ℕ → T → O → Type 0) (outs_of : V �
 
 module _ {S : Type 0} (number : S → ℕ) where
   -- the numbers stay where the first seat keeps its own
-  pub numbers_set : (seats : List S) (s d : S) → number s ≡ number (get_or seats 0 d) → KeepsNumbers number seats (set seats 0 s)
+  pub numbers_set : (seats : List S) (s d : S) → number s ≡ number (get_or seats 0 d)
+      → KeepsNumbers number seats (set seats 0 s)
   numbers_set [] s d same = refl
   numbers_set (x ∷ seats) s d same = ap (λ n. n ∷ map number seats) same
 
@@ -319,23 +350,27 @@ module _ {S : Type 0} (number : S → ℕ) where
   pub numbers_joined : (low high low' high' : List S) → KeepsNumbers number low low' → KeepsNumbers number high high'
       → KeepsNumbers number (low ++ high) (low' ++ high')
   numbers_joined low high low' high' a b =
-      map-append number low' high' ∙ ap (λ l. l ++ map number high') a ∙ ap (λ l. map number low ++ l) b ∙ sym (map-append number low high)
+      map-append number low' high' ∙ ap (λ l. l ++ map number high') a ∙ ap (λ l. map number low ++ l) b
+        ∙ sym (map-append number low high)
 
 -- where what stands on two results went well, both did
-pub OnOk-first : {A B C E : Type 0} (r : Result C E) (a : Result A E) (b : Result B E) (R : A → B → C → Type 0) (P : Type 0)
+pub OnOk-first : {A B C E : Type 0} (r : Result C E) (a : Result A E) (b : Result B E)
+    (R : A → B → C → Type 0) (P : Type 0)
     → IfOk r (λ z. IsOkAnd a (λ x. IsOkAnd b (λ y. R x y z))) → OnOk a P → OnOk r P
 OnOk-first (Ok z) (Ok x) b R P h p = p
 OnOk-first (Ok z) (Err e) b R P h p = absurd h
 OnOk-first (Err e) a b R P h p = tt
 
-pub OnOk-second : {A B C E : Type 0} (r : Result C E) (a : Result A E) (b : Result B E) (R : A → B → C → Type 0) (P : Type 0)
+pub OnOk-second : {A B C E : Type 0} (r : Result C E) (a : Result A E) (b : Result B E)
+    (R : A → B → C → Type 0) (P : Type 0)
     → IfOk r (λ z. IsOkAnd a (λ x. IsOkAnd b (λ y. R x y z))) → OnOk b P → OnOk r P
 OnOk-second (Ok z) (Ok x) (Ok y) R P h p = p
 OnOk-second (Ok z) (Ok x) (Err e) R P h p = absurd h
 OnOk-second (Ok z) (Err e) b R P h p = absurd h
 OnOk-second (Err e) a b R P h p = tt
 
-pub IfOk-both : {A B C E : Type 0} (r : Result C E) (a : Result A E) (b : Result B E) (R : A → B → C → Type 0) (P : A → Type 0) (Q : B → Type 0) (Z : C
+pub IfOk-both : {A B C E : Type 0} (r : Result C E) (a : Result A E) (b : Result B E) (R : A → B → C → Type 0)
+    (P : A → Type 0) (Q : B → Type 0) (Z : C
     → Type 0) → IfOk r (λ z. IsOkAnd a (λ x. IsOkAnd b (λ y. R x y z))) → IfOk a P → IfOk b Q
     → ((x : A) (y : B) (z : C) → R x y z → P x → Q y → Z z) → IfOk r Z
 IfOk-both (Ok z) (Ok x) (Ok y) R P Q Z h p q f = f x y z h p q
@@ -350,23 +385,29 @@ OnOk-both (Err e) P Q Z p q f = p
 pub get_drop : {X : Type 0} (p : ℕ) (xs : List X) (o : ℕ) → slice_get (drop p xs) o ≡ slice_get xs (p + o)
 get_drop zero xs o = ap (λ k. slice_get xs k) (let e : o ≡ 0 + o = omega arith in e)
 get_drop (suc p) [] o = refl
-get_drop (suc p) (x ∷ xs) o = get_drop p xs o ∙ ap (λ k. slice_get (x ∷ xs) k) (let e : suc (p + o) ≡ suc p + o = omega arith in e)
+get_drop (suc p) (x ∷ xs) o = get_drop p xs o
+    ∙ ap (λ k. slice_get (x ∷ xs) k) (let e : suc (p + o) ≡ suc p + o = omega arith in e)
 
-pub take_get : {X : Type 0} (n : ℕ) (xs : List X) (o : ℕ) (t : X) → slice_get (take n xs) o ≡ Some t → slice_get xs o ≡ Some t
+pub take_get : {X : Type 0} (n : ℕ) (xs : List X) (o : ℕ) (t : X) → slice_get (take n xs) o ≡ Some t
+    → slice_get xs o ≡ Some t
 take_get zero xs o t e = let bad : None ≡ Some t = e in absurd (search rules)
 take_get (suc n) [] o t e = e
 take_get (suc n) (x ∷ xs) zero t e = e
 take_get (suc n) (x ∷ xs) (suc o) t e = take_get n xs o t e
 
 -- what is taken of all items is taken of a piece
-pub takes_part : {T : Type 0} (takes : ℕ → T → Type 0) (items part : List T) (first c : ℕ) → part ≡ take c (drop first items) → TakesAll takes 0 items
+pub takes_part : {T : Type 0} (takes : ℕ → T → Type 0) (items part : List T) (first c : ℕ)
+    → part ≡ take c (drop first items) → TakesAll takes 0 items
     → TakesAll takes first part
 takes_part takes items part first c is all i t e =
-    let at : slice_get items (first + i) ≡ Some t = sym (get_drop first items i) ∙ take_get c (drop first items) i t (ap (λ l. slice_get l i) (sym is) ∙ e) in
-    let P : ℕ → Type 0 = λ k. takes k t in let same : 0 + (first + i) ≡ first + i = omega arith in subst P same (all (first + i) t at)
+    let at : slice_get items (first + i) ≡ Some t = sym (get_drop first items i)
+      ∙ take_get c (drop first items) i t (ap (λ l. slice_get l i) (sym is) ∙ e) in
+    let P : ℕ → Type 0 = λ k. takes k t in let same : 0 + (first + i) ≡ first + i = omega arith in
+    subst P same (all (first + i) t at)
 
 -- what no item is left for
-module _ {S T : Type 0} (holds : S → ℕ → ℕ → Type 0) (adds : ℕ → T → ℕ → ℕ → Type 0) (workers cut : ℕ) (items : List T) where
+module _ {S T : Type 0} (holds : S → ℕ → ℕ → Type 0) (adds : ℕ → T → ℕ → ℕ → Type 0) (workers cut : ℕ)
+    (items : List T) where
   -- seats that stay as they are gain nothing
   pub gains_same : (from : ℕ) (seats : List S) → SeatsGain holds adds workers cut items from seats seats
   gains_same from seats = record {
@@ -378,7 +419,8 @@ module _ {S T : Type 0} (holds : S → ℕ → ℕ → Type 0) (adds : ℕ → T
   }
 
   -- and have all that there is, where the items end before their first piece
-  pub haves_idle : (from : ℕ) (seats : List S) → (0 < length seats → length items ≤ from * cut) → SeatsHave holds adds workers cut items from seats
+  pub haves_idle : (from : ℕ) (seats : List S) → (0 < length seats → length items ≤ from * cut)
+      → SeatsHave holds adds workers cut items from seats
   haves_idle from seats past = record {
     each = λ j s e. record {
       gained = λ x n h.
@@ -386,21 +428,25 @@ module _ {S T : Type 0} (holds : S → ℕ → ℕ → Type 0) (adds : ℕ → T
           let within = slice_get_within seats j s e in
           let end = past (omega arith) in
           let up = rising (from + j) h.0 0 workers cut (omega arith) in
-          let on : from * cut ≤ (from + j + 0 * workers) * cut = mul-le-mul_right cut (let none : 0 * workers ≡ 0 = zero-mul workers in omega arith) in
+          let on : from * cut ≤ (from + j + 0 * workers) * cut =
+            mul-le-mul_right cut (let none : 0 * workers ≡ 0 = zero-mul workers in omega arith) in
           absurd (omega arith);
     };
   }
 
-module _ {T O V R : Type 0} (gives : ℕ → T → O → Type 0) (outs_of : V → List O) (parts_of : R → List V) (workers cut : ℕ) (items : List T) where
+module _ {T O V R : Type 0} (gives : ℕ → T → O → Type 0) (outs_of : V → List O) (parts_of : R → List V)
+    (workers cut : ℕ) (items : List T) where
   -- one more row, of a worker that has no piece
   pub rows_idle : (from n : ℕ) (rows : List R) (r : R) → parts_of r ≡ [] → length items ≤ (from + n) * cut
-      → GivesRows gives outs_of parts_of workers cut items from n rows → GivesRows gives outs_of parts_of workers cut items from (n + 1) (rows ++ r ∷ [])
+      → GivesRows gives outs_of parts_of workers cut items from n rows
+      → GivesRows gives outs_of parts_of workers cut items from (n + 1) (rows ++ r ∷ [])
   rows_idle from n rows r none past h =
       let idle : GivesRow gives outs_of workers cut items (from + n) [] = record {
         pieces = λ k v e. let bad : None ≡ Some v = e in absurd (search rules);
         whole = λ k inside.
             let up = rising (from + n) k 0 workers cut (omega arith) in
-            let on : (from + n) * cut ≤ (from + n + 0 * workers) * cut = mul-le-mul_right cut (let zeros : 0 * workers ≡ 0 = zero-mul workers in omega arith) in
+            let on : (from + n) * cut ≤ (from + n + 0 * workers) * cut =
+              mul-le-mul_right cut (let zeros : 0 * workers ≡ 0 = zero-mul workers in omega arith) in
             absurd (omega arith);
       } in
       let P : List V → Type 0 = λ l. GivesRow gives outs_of workers cut items (from + n) l in

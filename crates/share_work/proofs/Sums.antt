@@ -25,7 +25,8 @@ front_or_behind x xs y (suc k, inside, is) = inr (k, omega (arith, inside), is)
 pub all_of : {A : Type 0} (P : A → Type 0) (xs : List A) → ((x : A) → Contains xs x → P x) → All P xs
 all_of P xs f k d inside = f _ (Contains-get_or xs k d inside)
 
-pub pairs_first : {A : Type 0} (R : A → A → Type 0) (x : A) (xs : List A) → AllPairs R (x ∷ xs) → (y : A) → Contains xs y → R x y
+pub pairs_first : {A : Type 0} (R : A → A → Type 0) (x : A) (xs : List A) → AllPairs R (x ∷ xs) → (y : A)
+    → Contains xs y → R x y
 pairs_first R x xs pairs y (k, inside, is) = subst (R x) is (pairs 0 (suc k) y (omega arith) (omega (arith, inside)))
 
 pub at_in : {A : Type 0} (xs : List A) (i : ℕ) (x : A) → get_elem? xs i ≡ some x → Contains xs x
@@ -40,53 +41,63 @@ in_map f (y ∷ ys) x h = elim (front_or_behind y ys x h) [
   | inr k ↦ behind (f y) (map f ys) (f x) (in_map f ys x k)
 ]
 
-pub of_map : {A B : Type 0} (f : A → B) (xs : List A) (y : B) → Contains (map f xs) y → (x : A) × Contains xs x × (f x ≡ y)
+pub of_map : {A B : Type 0} (f : A → B) (xs : List A) (y : B) → Contains (map f xs) y
+    → (x : A) × Contains xs x × (f x ≡ y)
 of_map f [] y h = absurd (none_in y h)
 of_map f (x ∷ xs) y h = elim (front_or_behind (f x) (map f xs) y h) [
   | inl e ↦ (x, front x xs, e)
   | inr k ↦ let r = of_map f xs y k in (r.0, behind x xs r.0 r.1, r.2)
 ]
 
-pub in_flat : {A B : Type 0} (f : A → List B) (xs : List A) (x : A) (y : B) → Contains xs x → Contains (f x) y → Contains (flat_map f xs) y
+pub in_flat : {A B : Type 0} (f : A → List B) (xs : List A) (x : A) (y : B) → Contains xs x → Contains (f x) y
+    → Contains (flat_map f xs) y
 in_flat f [] x y h k = absurd (none_in x h)
 in_flat f (z ∷ zs) x y h k = elim (front_or_behind z zs x h) [
   | inl e ↦ Contains-append_left (f z) (flat_map f zs) y (subst (λ u. Contains (f u) y) (sym e) k)
   | inr r ↦ Contains-append_right (f z) (flat_map f zs) y (in_flat f zs x y r k)
 ]
 
-pub of_flat : {A B : Type 0} (f : A → List B) (xs : List A) (y : B) → Contains (flat_map f xs) y → (x : A) × Contains xs x × Contains (f x) y
+pub of_flat : {A B : Type 0} (f : A → List B) (xs : List A) (y : B) → Contains (flat_map f xs) y
+    → (x : A) × Contains xs x × Contains (f x) y
 of_flat f [] y h = absurd (none_in y h)
 of_flat f (x ∷ xs) y h = elim (Contains-append_cases (f x) (flat_map f xs) y h) [
   | inl e ↦ (x, front x xs, e)
   | inr k ↦ let r = of_flat f xs y k in (r.0, behind x xs r.0 r.1, r.2)
 ]
 
-pub of_filter : {A : Type 0} (p : A → Bool) (xs : List A) (x : A) → Contains (filter p xs) x → Contains xs x × (p x ≡ true)
+pub of_filter : {A : Type 0} (p : A → Bool) (xs : List A) (x : A) → Contains (filter p xs) x
+    → Contains xs x × (p x ≡ true)
 of_filter p xs x h = (
   All-contains (Contains xs) (filter p xs) x (All-filter p (Contains xs) xs (All-contains_itself xs)) h,
   All-contains (λ y. p y ≡ true) (filter p xs) x (filter_passes p xs) h,
 )
 
-pub in_filter : {A : Type 0} (p : A → Bool) (xs : List A) (x : A) → Contains xs x → p x ≡ true → Contains (filter p xs) x
+pub in_filter : {A : Type 0} (p : A → Bool) (xs : List A) (x : A) → Contains xs x → p x ≡ true
+    → Contains (filter p xs) x
 in_filter p [] x h t = absurd (none_in x h)
 in_filter p (y ∷ ys) x h t =
     let P : Bool → Type 0 = λ b. Contains (cond b (y ∷ filter p ys) (filter p ys)) x in
     ⊎_elim
     (λ (e : y ≡ x). subst P (sym (ap p e ∙ t)) (subst (Contains (y ∷ filter p ys)) e (front y (filter p ys))))
     (λ k. let r = in_filter p ys x k t in
-    ⊎_elim (λ (s : p y ≡ true). subst P (sym s) (behind y (filter p ys) x r)) (λ (f : p y ≡ false). subst P (sym f) r) (cases_Bool (p y)))
+    ⊎_elim (λ (s : p y ≡ true). subst P (sym s) (behind y (filter p ys) x r)) (λ (f : p y ≡ false). subst P (sym f) r)
+      (cases_Bool (p y)))
     (front_or_behind y ys x h)
 
 -- ---- sums and counts
 
-pub sum_by-flat_map : {A B : Type 0} (h : B → ℕ) (f : A → List B) (xs : List A) → sum_by h (flat_map f xs) ≡ sum_by (λ x. sum_by h (f x)) xs
+pub sum_by-flat_map : {A B : Type 0} (h : B → ℕ) (f : A → List B) (xs : List A)
+    → sum_by h (flat_map f xs) ≡ sum_by (λ x. sum_by h (f x)) xs
 sum_by-flat_map h f [] = refl
-sum_by-flat_map h f (x ∷ xs) = omega (arith, sum_by-append h (f x) (flat_map f xs), sum_by-flat_map h f xs, sum_by-cons (λ y. sum_by h (f y)) x xs)
+sum_by-flat_map h f (x ∷ xs) =
+    omega (arith, sum_by-append h (f x) (flat_map f xs), sum_by-flat_map h f xs, sum_by-cons (λ y. sum_by h (f y)) x xs)
 
-pub sum_by-at_set : {A : Type 0} (f : A → ℕ) (xs : List A) (i : ℕ) (v w : A) → get_elem? xs i ≡ some v → sum_by f (set xs i w) + f v ≡ sum_by f xs + f w
+pub sum_by-at_set : {A : Type 0} (f : A → ℕ) (xs : List A) (i : ℕ) (v w : A) → get_elem? xs i ≡ some v
+    → sum_by f (set xs i w) + f v ≡ sum_by f xs + f w
 sum_by-at_set f [] i v w e = absurd (some-ne-none v (sym e))
 sum_by-at_set f (x ∷ xs) zero v w e = omega (arith, sum_by-cons f w xs, sum_by-cons f x xs, ap f (some-injective x v e))
-sum_by-at_set f (x ∷ xs) (suc i) v w e = omega (arith, sum_by-cons f x (set xs i w), sum_by-cons f x xs, sum_by-at_set f xs i v w e)
+sum_by-at_set f (x ∷ xs) (suc i) v w e =
+    omega (arith, sum_by-cons f x (set xs i w), sum_by-cons f x xs, sum_by-at_set f xs i v w e)
 
 pub sum_by-at : {A : Type 0} (f : A → ℕ) (xs : List A) (i : ℕ) (v : A) → get_elem? xs i ≡ some v → f v ≤ sum_by f xs
 sum_by-at f [] i v e = absurd (some-ne-none v (sym e))
@@ -95,10 +106,12 @@ sum_by-at f (x ∷ xs) (suc i) v e = omega (arith, sum_by-cons f x xs, sum_by-at
 
 module _ {A : Type 0} (p : A → Bool) where
   pub count_by-no : (x : A) (xs : List A) → p x ≡ false → count_by p (x ∷ xs) ≡ count_by p xs
-  count_by-no x xs e = let one : Bool → ℕ = λ b. cond b 1 0 in omega (arith, sum_by-cons (λ y. one (p y)) x xs, ap one e)
+  count_by-no x xs e = let one : Bool → ℕ = λ b. cond b 1 0 in
+      omega (arith, sum_by-cons (λ y. one (p y)) x xs, ap one e)
 
   pub count_by-yes : (x : A) (xs : List A) → p x ≡ true → count_by p (x ∷ xs) ≡ 1 + count_by p xs
-  count_by-yes x xs e = let one : Bool → ℕ = λ b. cond b 1 0 in omega (arith, sum_by-cons (λ y. one (p y)) x xs, ap one e)
+  count_by-yes x xs e = let one : Bool → ℕ = λ b. cond b 1 0 in
+      omega (arith, sum_by-cons (λ y. one (p y)) x xs, ap one e)
 
   pub count_in : (xs : List A) (x : A) → Contains xs x → p x ≡ true → 0 < count_by p xs
   count_in [] x h t = absurd (none_in x h)
@@ -118,7 +131,8 @@ module _ {A : Type 0} (p : A → Bool) where
 abbrev pub Within : {A : Type 0} → List A → List A → Type 0
 Within {A} xs ys = (h : A → ℕ) → sum_by h xs ≤ sum_by h ys
 
-within_by : {A : Type 0} (p : A → A → Bool) → ((x : A) → p x x ≡ true) → ((x y : A) → p x y ≡ true → x ≡ y) → (xs ys : List A) → Within xs ys
+within_by : {A : Type 0} (p : A → A → Bool) → ((x : A) → p x x ≡ true) → ((x y : A) → p x y ≡ true → x ≡ y)
+    → (xs ys : List A) → Within xs ys
     → (x : A) → Contains xs x → Contains ys x
 within_by p self is xs ys le x h =
     let r = count_of (p x) ys (omega (arith, le (λ y. cond (p x y) 1 0), count_in (p x) xs x h (self x))) in
@@ -132,7 +146,9 @@ pairs_in = within_by (λ p q. eqb p.0 q.0 && eqb p.1 q.1)
 pub calls_in : (xs ys : List Call) → Within xs ys → (c : Call) → Contains xs c → Contains ys c
 calls_in = within_by (λ c d. eqb c.word d.word && (eqb c.found d.found && eqb c.number d.number))
     (λ c. and_from (eqb c.word c.word) (eqb c.found c.found && eqb c.number c.number) (eq-eqb c.word c.word refl)
-    (and_from (eqb c.found c.found) (eqb c.number c.number) (eq-eqb c.found c.found refl) (eq-eqb c.number c.number refl)))
+    (and_from (eqb c.found c.found) (eqb c.number c.number) (eq-eqb c.found c.found refl)
+      (eq-eqb c.number c.number refl)))
     (λ c d e. let t = and_parts (eqb c.word d.word) (eqb c.found d.found && eqb c.number d.number) e in
     let u = and_parts (eqb c.found d.found) (eqb c.number d.number) t.1 in
-    λ i. record { word = eqb-true c.word d.word t.0 i; found = eqb-true c.found d.found u.0 i; number = eqb-true c.number d.number u.1 i })
+    λ i. record { word = eqb-true c.word d.word t.0 i; found = eqb-true c.found d.found u.0 i;
+      number = eqb-true c.number d.number u.1 i })

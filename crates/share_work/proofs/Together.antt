@@ -29,7 +29,8 @@ module _ {S T : Type 0} (holds : S → ℕ → ℕ → Type 0) (adds : ℕ → T
   abbrev pub HoldTogether : List S → List S → Type 0
   HoldTogether old new = (x n : ℕ) → SomeHolds holds new x n ↔ (SomeHolds holds old x n ⊎ AddsSome adds 0 items x n)
 
-module _ {S T : Type 0} (holds : S → ℕ → ℕ → Type 0) (adds : ℕ → T → ℕ → ℕ → Type 0) (workers cut : ℕ) (items : List T) (old new : List S) where
+module _ {S T : Type 0} (holds : S → ℕ → ℕ → Type 0) (adds : ℕ → T → ℕ → ℕ → Type 0) (workers cut : ℕ) (items : List T)
+    (old new : List S) where
   -- what a seat holds it held before, or an item adds it
   pub held_within : SeatsGain holds adds workers cut items 0 old new → HoldWithin holds adds items old new
   held_within gain x n h =
@@ -40,17 +41,20 @@ module _ {S T : Type 0} (holds : S → ℕ → ℕ → Type 0) (adds : ℕ → T
         | inl b ↦ inl (h.0, was.0, was.1, b)
         | inr a ↦
             let p : ℕ = (0 + h.0 + a.0 * workers) * cut in
-            let at : slice_get items (p + a.1.0) ≡ Some a.1.1 = sym (get_drop p items a.1.0) ∙ take_get cut (drop p items) a.1.0 a.1.1 a.1.2 in
+            let at : slice_get items (p + a.1.0) ≡ Some a.1.1 = sym (get_drop p items a.1.0)
+              ∙ take_get cut (drop p items) a.1.0 a.1.1 a.1.2 in
             let P : ℕ → Type 0 = λ q. adds q a.1.1 x n in
             let same : p + a.1.0 ≡ 0 + (p + a.1.0) = omega arith in
             inr (p + a.1.0, a.1.1, at, subst P same a.1.3)
       ]
 
   -- what an item adds, one of the seats holds
-  added_held : 0 < workers → 0 < cut → length new ≡ workers → SeatsHave holds adds workers cut items 0 new → (x n : ℕ) → AddsSome adds 0 items x n
+  added_held : 0 < workers → 0 < cut → length new ≡ workers → SeatsHave holds adds workers cut items 0 new → (x n : ℕ)
+      → AddsSome adds 0 items x n
       → SomeHolds holds new x n
   added_held some_workers some_items len have x n a =
-      let i : ℕ = a.0 in let piece : ℕ = i / cut in let w : ℕ = piece % workers in let k : ℕ = piece / workers in let o : ℕ = i % cut in
+      let i : ℕ = a.0 in let piece : ℕ = i / cut in let w : ℕ = piece % workers in let k : ℕ = piece / workers in
+      let o : ℕ = i % cut in
       let small : w < workers = mod_below piece workers some_workers in
       let inside : o < cut = mod_below i cut some_items in
       let p : ℕ = (0 + w + k * workers) * cut in
@@ -58,13 +62,15 @@ module _ {S T : Type 0} (holds : S → ℕ → ℕ → Type 0) (adds : ℕ → T
       let at : p + o ≡ i = ap (λ q. q * cut + o) whole ∙ div-add-mod' i cut in
       let seat = get_there new w (omega arith) in
       let P : ℕ → Type 0 = λ q. slice_get items q ≡ Some a.1 in
-      let got : slice_get (take cut (drop p items)) o ≡ Some a.1 = get_take cut (drop p items) o inside ∙ get_drop p items o ∙ subst P (sym at) a.2 in
+      let got : slice_get (take cut (drop p items)) o ≡ Some a.1 = get_take cut (drop p items) o inside
+        ∙ get_drop p items o ∙ subst P (sym at) a.2 in
       let Q : ℕ → Type 0 = λ q. adds q a.1 x n in
       let position : 0 + i ≡ p + o = omega arith in
       (w, seat.0, seat.1, (have.each w seat.0 seat.1).gained x n (k, (o, a.1, got, subst Q position a.3)))
 
   -- what a seat held it still holds
-  held_kept : SeatsGain holds adds workers cut items 0 old new → (x n : ℕ) → SomeHolds holds old x n → SomeHolds holds new x n
+  held_kept : SeatsGain holds adds workers cut items 0 old new → (x n : ℕ) → SomeHolds holds old x n
+      → SomeHolds holds new x n
   held_kept gain x n h =
       let within = slice_get_within old h.0 h.1 h.2 in
       let len = gain.len in

@@ -26,18 +26,22 @@ one_source path kind.Device = at_most_one (ends_in_proto path) path
 one_source path kind.Nowhere = at_most_one (ends_in_proto path) path
 one_source path (kind.Unknown reason) = at_most_one (ends_in_proto path) path
 
-grown : {X Y : Type 0} (f : X → Y) (old new : List X) (more : List Y) → map f new ≡ map f old ++ more → length new ≡ length old + length more
+grown : {X Y : Type 0} (f : X → Y) (old new : List X) (more : List Y) → map f new ≡ map f old ++ more
+    → length new ≡ length old + length more
 grown f old new more is =
-    sym (length-map new f) ∙ ap length is ∙ length-append (map f old) more ∙ ap (λ n. n + length more) (length-map old f)
+    sym (length-map new f) ∙ ap length is ∙ length-append (map f old) more
+      ∙ ap (λ n. n + length more) (length-map old f)
 
 -- an entry that is a folder is one entry less
-pub taken_falls : (path : List ℕ) (depth : ℕ) (k : EntryKind) (old new : Walk) → TakesIn path depth k old new → steps_left new ≤ steps_left old
+pub taken_falls : (path : List ℕ) (depth : ℕ) (k : EntryKind) (old new : Walk) → TakesIn path depth k old new
+    → steps_left new ≤ steps_left old
 taken_falls path depth k old new taken =
     let size = grown folder_parts old.folders.items new.folders.items (added_folders path depth k) taken.folders in
     omega (arith, size, one_folder path depth k, taken.counted, old.folders.ok, new.folders.ok)
 
 -- an entry that is a source is one entry less
-pub taken_counts : (path : List ℕ) (depth : ℕ) (k : EntryKind) (old new : Walk) → TakesIn path depth k old new → most_sources new ≤ most_sources old
+pub taken_counts : (path : List ℕ) (depth : ℕ) (k : EntryKind) (old new : Walk) → TakesIn path depth k old new
+    → most_sources new ≤ most_sources old
 taken_counts path depth k old new taken =
     let size = grown path_of old.sources.items new.sources.items (added_sources path k) taken.sources in
     omega (arith, size, one_source path k, taken.counted, old.sources.ok, new.sources.ok)

@@ -26,11 +26,13 @@ split_again n prefix rest e =
     let long : n ≤ length (prefix ++ rest) = grind (arith, common_steps) in
     rw (le-ltb (length (prefix ++ rest)) n long, take_at prefix rest n e, drop_at prefix rest n e) refl
 
-body_again : (b : Body) (n : ℕ) (rest : List ℕ) → IsBody b → body_at (wire_type b) n (body_text b ++ rest) ≡ Some (entry_by n b, rest)
+body_again : (b : Body) (n : ℕ) (rest : List ℕ) → IsBody b
+    → body_at (wire_type b) n (body_text b ++ rest) ≡ Some (entry_by n b, rest)
 body_again (varint_body t v) n rest h = rw (varint_again 10 t v rest h.spelled h.short h.fits) refl
 body_again (eight_bytes t) n rest h = rw (split_again 8 t rest h) refl
 body_again (delimited s c) n rest h =
-    rw (append_assoc, varint_again 10 s (length c) (c ++ rest) h.spelled h.short h.fits, split_again (length c) c rest refl) refl
+    rw (append_assoc, varint_again 10 s (length c) (c ++ rest) h.spelled h.short h.fits,
+      split_again (length c) c rest refl) refl
 body_again (four_bytes t) n rest h = rw (split_again 4 t rest h) refl
 
 pub field_again : (s : Spelled) (rest : List ℕ) → IsSpelled s → field_at (text_of s ++ rest) ≡ Some (entry_of s, rest)
@@ -42,7 +44,8 @@ field_again s rest h =
     let some : s.number ≢ 0 = omega (arith, h.positive) in
     rw (
       append_assoc,
-      varint_again 10 s.tag (s.number * 8 + wire_type s.body) (body_text s.body ++ rest) h.tag.spelled h.tag.short h.tag.fits,
+      varint_again 10 s.tag (s.number * 8 + wire_type s.body)
+        (body_text s.body ++ rest) h.tag.spelled h.tag.short h.tag.fits,
       lt-ltb (s.number * 8 + wire_type s.body) (2 ^ 32) h.small,
       number_is,
       ne_eqb s.number 0 some,
@@ -58,15 +61,18 @@ pub record BodyTaken (kind n : ℕ) (text : List ℕ) (entry : Option (ℕ × Va
   pub entry_is : entry_by n body ≡ entry
   pub split : text ≡ body_text body ++ rest
 
-split_takes : (n : ℕ) (text : List ℕ) (y : List ℕ × List ℕ) → split_off n text ≡ Some y → (length y.0 ≡ n) × (text ≡ y.0 ++ y.1)
+split_takes : (n : ℕ) (text : List ℕ) (y : List ℕ × List ℕ) → split_off n text ≡ Some y
+    → (length y.0 ≡ n) × (text ≡ y.0 ++ y.1)
 split_takes n text y e = elim (chosen (nat_lt (length text) n) None (Some (take n text, drop n text)) y e) [
   | inl w ↦ absurd (none-some y w.1)
   | inr w ↦ (let long = ltb-false (length text) n w.0 in
-      subst (λ (z : List ℕ × List ℕ). (length z.0 ≡ n) × (text ≡ z.0 ++ z.1)) (same_Some (take n text, drop n text) y w.1)
+      subst (λ (z : List ℕ × List ℕ). (length z.0 ≡ n) × (text ≡ z.0 ++ z.1))
+        (same_Some (take n text, drop n text) y w.1)
       (length-take-le n text long, sym (take-append-drop n text)))
 ]
 
-bound : {A B : Type 0} (f : A → Option B) (o : Option A) (y : B) → option_and_then f o ≡ Some y → (x : A) × (o ≡ Some x) × (f x ≡ Some y)
+bound : {A B : Type 0} (f : A → Option B) (o : Option A) (y : B) → option_and_then f o ≡ Some y
+    → (x : A) × (o ≡ Some x) × (f x ≡ Some y)
 bound f None y e = absurd (none-some y e)
 bound f (Some x) y e = (x, refl, e)
 
@@ -77,7 +83,8 @@ Read = Option (ℕ × Value) × List ℕ
 abbrev pub some_read : Read → Option Read
 some_read r = Some r
 
-varint_taken : (n : ℕ) (text : List ℕ) (y : Read) → IsBytes text → option_and_then (λ x. Some (Some (n, number x.0), x.1)) (varint_within 10 text) ≡ Some y
+varint_taken : (n : ℕ) (text : List ℕ) (y : Read) → IsBytes text
+    → option_and_then (λ x. Some (Some (n, number x.0), x.1)) (varint_within 10 text) ≡ Some y
     → BodyTaken 0 n text y.0 y.1
 varint_taken n text y h e =
     let x = bound (λ (x : ℕ × List ℕ). some_read (Some (n, number x.0), x.1)) (varint_within 10 text) y e in
@@ -92,25 +99,31 @@ varint_taken n text y h e =
     } in
     subst (λ (z : Read). BodyTaken 0 n text z.0 z.1) (same_Some (Some (n, number x.0.0), x.0.1) y x.2) one
 
-eight_taken : (n : ℕ) (text : List ℕ) (y : Read) → option_and_then (λ x. Some (None, x.1)) (split_off 8 text) ≡ Some y → BodyTaken 1 n text y.0 y.1
+eight_taken : (n : ℕ) (text : List ℕ) (y : Read) → option_and_then (λ x. Some (None, x.1)) (split_off 8 text) ≡ Some y
+    → BodyTaken 1 n text y.0 y.1
 eight_taken n text y e =
     let x = bound (λ (x : List ℕ × List ℕ). some_read (None, x.1)) (split_off 8 text) y e in
     let taken = split_takes 8 text x.0 x.1 in
-    let one : BodyTaken 1 n text None x.0.1 = record { body = eight_bytes x.0.0; kind_is = refl; ok = taken.0; entry_is = refl; split = taken.1 } in
+    let one : BodyTaken 1 n text None x.0.1 =
+      record { body = eight_bytes x.0.0; kind_is = refl; ok = taken.0; entry_is = refl; split = taken.1 } in
     subst (λ (z : Read). BodyTaken 1 n text z.0 z.1) (same_Some (None, x.0.1) y x.2) one
 
-four_taken : (n : ℕ) (text : List ℕ) (y : Read) → option_and_then (λ x. Some (None, x.1)) (split_off 4 text) ≡ Some y → BodyTaken 5 n text y.0 y.1
+four_taken : (n : ℕ) (text : List ℕ) (y : Read) → option_and_then (λ x. Some (None, x.1)) (split_off 4 text) ≡ Some y
+    → BodyTaken 5 n text y.0 y.1
 four_taken n text y e =
     let x = bound (λ (x : List ℕ × List ℕ). some_read (None, x.1)) (split_off 4 text) y e in
     let taken = split_takes 4 text x.0 x.1 in
-    let one : BodyTaken 5 n text None x.0.1 = record { body = four_bytes x.0.0; kind_is = refl; ok = taken.0; entry_is = refl; split = taken.1 } in
+    let one : BodyTaken 5 n text None x.0.1 =
+      record { body = four_bytes x.0.0; kind_is = refl; ok = taken.0; entry_is = refl; split = taken.1 } in
     subst (λ (z : Read). BodyTaken 5 n text z.0 z.1) (same_Some (None, x.0.1) y x.2) one
 
 delimited_taken : (n : ℕ) (text : List ℕ) (y : Read) → IsBytes text
-    → option_and_then (λ x. option_and_then (λ y. Some (Some (n, bytes y.0), y.1)) (split_off x.0 x.1)) (varint_within 10 text) ≡ Some y
+    → option_and_then (λ x. option_and_then (λ y. Some (Some (n, bytes y.0), y.1)) (split_off x.0 x.1))
+      (varint_within 10 text) ≡ Some y
     → BodyTaken 2 n text y.0 y.1
 delimited_taken n text y h e =
-    let x = bound (λ (x : ℕ × List ℕ). option_and_then (λ y. some_read (Some (n, bytes y.0), y.1)) (split_off x.0 x.1)) (varint_within 10 text) y e in
+    let x = bound (λ (x : ℕ × List ℕ). option_and_then (λ y. some_read (Some (n, bytes y.0), y.1)) (split_off x.0 x.1))
+      (varint_within 10 text) y e in
     let size = varint_takes 10 text x.0 h x.1 in
     let z = bound (λ (y : List ℕ × List ℕ). some_read (Some (n, bytes y.0), y.1)) (split_off x.0.0 x.0.1) y x.2 in
     let taken = split_takes x.0.0 x.0.1 z.0 z.1 in
@@ -123,10 +136,12 @@ delimited_taken n text y h e =
     } in
     subst (λ (z : Read). BodyTaken 2 n text z.0 z.1) (same_Some (Some (n, bytes z.0.0), z.0.1) y z.2) one
 
-at_kind : (k kind n : ℕ) (text : List ℕ) (y : Read) → (kind == k) ≡ true → BodyTaken k n text y.0 y.1 → BodyTaken kind n text y.0 y.1
+at_kind : (k kind n : ℕ) (text : List ℕ) (y : Read) → (kind == k) ≡ true → BodyTaken k n text y.0 y.1
+    → BodyTaken kind n text y.0 y.1
 at_kind k kind n text y e b = subst (λ (m : ℕ). BodyTaken m n text y.0 y.1) (sym (eqb-true kind k e)) b
 
-body_takes : (kind n : ℕ) (text : List ℕ) (y : Read) → IsBytes text → body_at kind n text ≡ Some y → BodyTaken kind n text y.0 y.1
+body_takes : (kind n : ℕ) (text : List ℕ) (y : Read) → IsBytes text → body_at kind n text ≡ Some y
+    → BodyTaken kind n text y.0 y.1
 body_takes kind n text y h e = elim (chosen (kind == 0) _ _ y e) [
   | inl w ↦ at_kind 0 kind n text y w.0 (varint_taken n text y h w.1)
   | inr w ↦ elim (chosen (kind == 1) _ _ y w.1) [
@@ -151,7 +166,8 @@ pub rest_of_bytes : (prefix rest : List ℕ) → IsBytes (prefix ++ rest) → Is
 rest_of_bytes [] rest h = h
 rest_of_bytes (b ∷ bs) rest h = rest_of_bytes bs rest (rest_bytes b (bs ++ rest) h)
 
-field_made : {t : ℕ} {rest : List ℕ} (text : List ℕ) (y : Read) → Taken 10 text t rest → t < 2 ^ 32 → (t / 8 ≡ 0 → ⊥) → BodyTaken (t % 8) (t / 8) rest y.0 y.1
+field_made : {t : ℕ} {rest : List ℕ} (text : List ℕ) (y : Read) → Taken 10 text t rest → t < 2 ^ 32 → (t / 8 ≡ 0 → ⊥)
+    → BodyTaken (t % 8) (t / 8) rest y.0 y.1
     → FieldTaken text y.0 y.1
 field_made {t} {rest} text y tag small some body =
     let whole : (t / 8) * 8 + wire_type body.body ≡ t = rw body.kind_is (omega arith) in
@@ -164,20 +180,23 @@ field_made {t} {rest} text y tag small some body =
         body = body.ok;
       };
       entry_is = body.entry_is;
-      split = tag.split ∙ ap (λ xs. tag.prefix ++ xs) body.split ∙ sym (append_assoc tag.prefix (body_text body.body) y.1);
+      split = tag.split ∙ ap (λ xs. tag.prefix ++ xs) body.split
+          ∙ sym (append_assoc tag.prefix (body_text body.body) y.1);
     }
 
 pub field_takes : (text : List ℕ) (y : Read) → IsBytes text → field_at text ≡ Some y → FieldTaken text y.0 y.1
 unfolding field_at
 field_takes text y h e =
-    let x = bound (λ (x : ℕ × List ℕ). if nat_lt x.0 (2 ^ 32) then (if x.0 / 8 == 0 then None else body_at (x.0 % 8) (x.0 / 8) x.1) else None)
+    let x = bound (λ (x : ℕ × List ℕ). if nat_lt x.0 (2 ^ 32) then
+      (if x.0 / 8 == 0 then None else body_at (x.0 % 8) (x.0 / 8) x.1) else None)
     (varint_within 10 text) y e in
     let tag = varint_takes 10 text x.0 h x.1 in
     elim (chosen (nat_lt x.0.0 (2 ^ 32)) _ _ y x.2) [
       | inl w ↦ elim (chosen (x.0.0 / 8 == 0) _ _ y w.1) [
         | inl v ↦ absurd (none-some y v.1)
         | inr v ↦ field_made text y tag (ltb-true x.0.0 (2 ^ 32) w.0) (eqb-false (x.0.0 / 8) 0 v.0)
-            (body_takes (x.0.0 % 8) (x.0.0 / 8) x.0.1 y (rest_of_bytes tag.prefix x.0.1 (subst IsBytes tag.split h)) v.1)
+            (body_takes (x.0.0 % 8) (x.0.0 / 8) x.0.1 y
+              (rest_of_bytes tag.prefix x.0.1 (subst IsBytes tag.split h)) v.1)
       ]
       | inr w ↦ absurd (none-some y w.1)
     ]

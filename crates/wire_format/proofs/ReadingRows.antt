@@ -13,24 +13,31 @@ use Rattle.wire_format.proofs.ReadingFields.{Read, some_read, FieldTaken, field_
 pub row_none : IsRow [] []
 row_none = ([], tt, refl, refl)
 
-pub row_ahead_some : (text : List ℕ) (e : ℕ × Value) (rest : List ℕ) (fs : List (ℕ × Value)) → FieldTaken text (Some e) rest → IsRow rest fs
+pub row_ahead_some : (text : List ℕ) (e : ℕ × Value) (rest : List ℕ) (fs : List (ℕ × Value))
+    → FieldTaken text (Some e) rest → IsRow rest fs
     → IsRow text (e ∷ fs)
 row_ahead_some text e rest fs taken (row, ok, split, is) =
-    (taken.field ∷ row, (taken.ok, ok), taken.split ∙ ap (λ xs. text_of taken.field ++ xs) split, rw (taken.entry_is, is) refl)
+    (taken.field ∷ row, (taken.ok, ok), taken.split ∙ ap (λ xs. text_of taken.field ++ xs) split,
+      rw (taken.entry_is, is) refl)
 
-pub row_ahead_none : (text rest : List ℕ) (fs : List (ℕ × Value)) → FieldTaken text None rest → IsRow rest fs → IsRow text fs
+pub row_ahead_none : (text rest : List ℕ) (fs : List (ℕ × Value)) → FieldTaken text None rest → IsRow rest fs
+    → IsRow text fs
 row_ahead_none text rest fs taken (row, ok, split, is) =
-    (taken.field ∷ row, (taken.ok, ok), taken.split ∙ ap (λ xs. text_of taken.field ++ xs) split, rw (taken.entry_is, is) refl)
+    (taken.field ∷ row, (taken.ok, ok), taken.split ∙ ap (λ xs. text_of taken.field ++ xs) split,
+      rw (taken.entry_is, is) refl)
 
 field_at_none : field_at [] ≡ None
 unfolding field_at
 field_at_none = refl
 
-pub row_back : (text : List ℕ) (y : Read) (fs : List (ℕ × Value)) → field_at text ≡ Some y → IsRow text fs → (more : List (ℕ × Value)) × IsRow y.1 more
+pub row_back : (text : List ℕ) (y : Read) (fs : List (ℕ × Value)) → field_at text ≡ Some y → IsRow text fs
+    → (more : List (ℕ × Value)) × IsRow y.1 more
 row_back text y fs e ([], ok, split, is) = absurd (none-some y (sym field_at_none ∙ ap field_at (sym split) ∙ e))
 row_back text y fs e (s ∷ row, ok, split, is) =
-    let again : Some (entry_of s, flat_map text_of row) ≡ Some y = sym (field_again s (flat_map text_of row) ok.0) ∙ ap field_at (sym split) ∙ e in
-    (filter_map entry_of row, (row, ok.1, ap (λ (z : Read). z.1) (sym (same_Some (entry_of s, flat_map text_of row) y again)), refl))
+    let again : Some (entry_of s, flat_map text_of row) ≡ Some y = sym (field_again s (flat_map text_of row) ok.0)
+      ∙ ap field_at (sym split) ∙ e in
+    (filter_map entry_of row,
+      (row, ok.1, ap (λ (z : Read). z.1) (sym (same_Some (entry_of s, flat_map text_of row) y again)), refl))
 
 empty_short : (text : List ℕ) → text ≡ [] → 0 < length text → ⊥
 empty_short text e h = let none = rw e at h in omega (arith, none)
@@ -44,10 +51,12 @@ spells_some : (xs : List ℕ) (n : ℕ) → Spells xs n → 0 < length xs
 spells_some [] n s = absurd s
 spells_some (x ∷ xs) n s = omega arith
 
-pub taken_shorter : (text : List ℕ) (e : Option (ℕ × Value)) (rest : List ℕ) → FieldTaken text e rest → length rest < length text
+pub taken_shorter : (text : List ℕ) (e : Option (ℕ × Value)) (rest : List ℕ) → FieldTaken text e rest
+    → length rest < length text
 taken_shorter text e rest taken =
     let some = spells_some taken.field.tag _ taken.ok.tag.spelled in
-    let len : length text ≡ length taken.field.tag + length (body_text taken.field.body) + length rest = rw taken.split (grind (arith, common_steps)) in
+    let len : length text ≡ length taken.field.tag + length (body_text taken.field.body) + length rest =
+      rw taken.split (grind (arith, common_steps)) in
     omega (arith, some, len)
 
 -- what reading keeps: fields that are read, and a row that is left
@@ -59,20 +68,24 @@ pub record Kept (whole rest : List ℕ) (done : List (ℕ × Value)) : Type 0 wh
 pub kept_first : (whole : List ℕ) (done : List (ℕ × Value)) → done ≡ [] → IsBytes whole → Kept whole whole done
 kept_first whole done e h = rw e (record { within = h; ahead = λ fs row. row; back = λ fs row. (fs, row) })
 
-within_rest : (text : List ℕ) (e : Option (ℕ × Value)) (rest : List ℕ) → FieldTaken text e rest → IsBytes text → IsBytes rest
+within_rest : (text : List ℕ) (e : Option (ℕ × Value)) (rest : List ℕ) → FieldTaken text e rest → IsBytes text
+    → IsBytes rest
 within_rest text e rest taken h = rest_of_bytes (text_of taken.field) rest (subst IsBytes taken.split h)
 
-pub kept_some : (whole rest others : List ℕ) (done : List (ℕ × Value)) (e : ℕ × Value) → field_at rest ≡ some_read (Some e, others) → Kept whole rest done
+pub kept_some : (whole rest others : List ℕ) (done : List (ℕ × Value)) (e : ℕ × Value)
+    → field_at rest ≡ some_read (Some e, others) → Kept whole rest done
     → Kept whole others (done ++ e ∷ [])
 kept_some whole rest others done e read kept =
     let taken : FieldTaken rest (Some e) others = field_takes rest (Some e, others) kept.within read in
     record {
       within = within_rest rest (Some e) others taken kept.within;
-      ahead = λ fs row. rw (append_assoc done (e ∷ []) fs) (kept.ahead (e ∷ fs) (row_ahead_some rest e others fs taken row));
+      ahead = λ fs row. rw (append_assoc done (e ∷ []) fs)
+          (kept.ahead (e ∷ fs) (row_ahead_some rest e others fs taken row));
       back = λ fs row. row_back rest (Some e, others) (kept.back fs row).0 read (kept.back fs row).1;
     }
 
-pub kept_none : (whole rest others : List ℕ) (done : List (ℕ × Value)) → field_at rest ≡ some_read (None, others) → Kept whole rest done
+pub kept_none : (whole rest others : List ℕ) (done : List (ℕ × Value)) → field_at rest ≡ some_read (None, others)
+    → Kept whole rest done
     → Kept whole others done
 kept_none whole rest others done read kept =
     let taken : FieldTaken rest None others = field_takes rest (None, others) kept.within read in
@@ -82,22 +95,28 @@ kept_none whole rest others done read kept =
       back = λ fs row. row_back rest (None, others) (kept.back fs row).0 read (kept.back fs row).1;
     }
 
-pub field_shorter : (rest others : List ℕ) (e : Option (ℕ × Value)) → IsBytes rest → field_at rest ≡ some_read (e, others) → length others < length rest
+pub field_shorter : (rest others : List ℕ) (e : Option (ℕ × Value)) → IsBytes rest
+    → field_at rest ≡ some_read (e, others) → length others < length rest
 field_shorter rest others e h read = taken_shorter rest e others (field_takes rest (e, others) h read)
 
-pub kept_stop : (whole rest : List ℕ) (done fs : List (ℕ × Value)) → Kept whole rest done → 0 < length rest → field_at rest ≡ None → IsRow whole fs → ⊥
+pub kept_stop : (whole rest : List ℕ) (done fs : List (ℕ × Value)) → Kept whole rest done → 0 < length rest
+    → field_at rest ≡ None → IsRow whole fs → ⊥
 kept_stop whole rest done fs kept h none row = row_stop rest (kept.back fs row).0 h none (kept.back fs row).1
 
 pub kept_all : (whole rest : List ℕ) (done : List (ℕ × Value)) → Kept whole rest done → rest ≡ [] → IsRow whole done
 kept_all whole rest done kept e = rw (← append-nil done) (kept.ahead [] (rw e row_none))
 
 -- one row of bytes, one list
-pub row_one : (row others : List Spelled) → AllByRecursion IsSpelled row → AllByRecursion IsSpelled others → flat_map text_of row ≡ flat_map text_of others
+pub row_one : (row others : List Spelled) → AllByRecursion IsSpelled row → AllByRecursion IsSpelled others
+    → flat_map text_of row ≡ flat_map text_of others
     → filter_map entry_of row ≡ filter_map entry_of others
 row_one [] [] h k e = refl
-row_one [] (t ∷ ts) h k e = absurd (none-some (entry_of t, flat_map text_of ts) (sym field_at_none ∙ ap field_at e ∙ field_again t (flat_map text_of ts) k.0))
+row_one [] (t ∷ ts) h k e =
+    absurd (none-some (entry_of t, flat_map text_of ts)
+    (sym field_at_none ∙ ap field_at e ∙ field_again t (flat_map text_of ts) k.0))
 row_one (s ∷ ss) [] h k e =
-    absurd (none-some (entry_of s, flat_map text_of ss) (sym field_at_none ∙ ap field_at (sym e) ∙ field_again s (flat_map text_of ss) h.0))
+    absurd (none-some (entry_of s, flat_map text_of ss)
+      (sym field_at_none ∙ ap field_at (sym e) ∙ field_again s (flat_map text_of ss) h.0))
 row_one (s ∷ ss) (t ∷ ts) h k e =
     let both = same_Some (entry_of s, flat_map text_of ss) (entry_of t, flat_map text_of ts)
     (sym (field_again s (flat_map text_of ss) h.0) ∙ ap field_at e ∙ field_again t (flat_map text_of ts) k.0) in
@@ -106,8 +125,10 @@ row_one (s ∷ ss) (t ∷ ts) h k e =
 
 pub spelled_once : (s t : Spelled) (x : List ℕ) → IsSpelled s → IsSpelled t → text_of s ++ x ≡ text_of t → x ≡ []
 spelled_once s t x h k e =
-    let both = same_Some (entry_of s, x) (entry_of t, []) (sym (field_again s x h) ∙ ap field_at (e ∙ sym (append-nil (text_of t))) ∙ field_again t [] k) in
+    let both = same_Some (entry_of s, x) (entry_of t, [])
+      (sym (field_again s x h) ∙ ap field_at (e ∙ sym (append-nil (text_of t))) ∙ field_again t [] k) in
     ap (λ (z : Read). z.1) both
 
 pub one_list : (text : List ℕ) (first second : List (ℕ × Value)) → IsRow text first → IsRow text second → first ≡ second
-one_list text first second (row, ok, split, is) (others, fine, cut, same) = is ∙ row_one row others ok fine (sym split ∙ cut) ∙ sym same
+one_list text first second (row, ok, split, is) (others, fine, cut, same) =
+    is ∙ row_one row others ok fine (sym split ∙ cut) ∙ sym same

@@ -8,7 +8,8 @@ use Rattle.wire_format.specs.Varint.{Spells, groups, varint_bytes}
 
 small_rest : (k n : ℕ) → n < 128 ^ suc (suc k) → n / 128 < 128 ^ suc k
 small_rest k n h =
-    (div-lt_iff_lt-mul {k = 128} {x = n} {y = 128 ^ suc k} (lit< tt)).1 (let e : 128 ^ suc (suc k) ≡ 128 ^ suc k * 128 = grind arith in omega (arith, h, e))
+    (div-lt_iff_lt-mul {k = 128} {x = n} {y = 128 ^ suc k} (lit< tt)).1
+      (let e : 128 ^ suc (suc k) ≡ 128 ^ suc k * 128 = grind arith in omega (arith, h, e))
 
 groups-small : (k n : ℕ) → n < 128 → groups k n ≡ n ∷ []
 unfolding groups
@@ -22,11 +23,14 @@ groups-large k n h = grind (arith, nat_tests)
 -- one more group changes nothing where the number has room
 pub groups-more : (k n : ℕ) → n < 128 ^ suc k → groups k n ≡ groups (suc k) n
 groups-more zero n h = let small : n < 128 = omega (arith, h) in groups-small 0 n small ∙ sym (groups-small 1 n small)
-groups-more (suc k) n h = let more : n / 128 < 128 ^ suc k → groups k (n / 128) ≡ groups (suc k) (n / 128) = groups-more k (n / 128) in
+groups-more (suc k) n h = let more : n / 128 < 128 ^ suc k → groups k (n / 128) ≡ groups (suc k) (n / 128) =
+    groups-more k (n / 128) in
     let split : (b : Bool) → nat_lt n 128 ≡ b → groups (suc k) n ≡ groups (suc (suc k)) n = elim [
-      | true ↦ λ e. let small = ltb-true n 128 e in groups-small (suc k) n small ∙ sym (groups-small (suc (suc k)) n small)
+      | true ↦ λ e. let small = ltb-true n 128 e in
+          groups-small (suc k) n small ∙ sym (groups-small (suc (suc k)) n small)
       | false ↦ λ e. let large =
-          ltb-false n 128 e in groups-large k n large ∙ ap (λ r. (n % 128 + 128) ∷ r) (more (small_rest k n h)) ∙ sym (groups-large (suc k) n large)
+          ltb-false n 128 e in groups-large k n large ∙ ap (λ r. (n % 128 + 128) ∷ r) (more (small_rest k n h))
+            ∙ sym (groups-large (suc k) n large)
     ] in split (nat_lt n 128) refl
 
 pub varint_bytes-small : (n : ℕ) → n < 128 → varint_bytes n ≡ n ∷ []
@@ -39,7 +43,8 @@ varint_bytes-step n fits h = groups-large 8 n h ∙ ap (λ r. (n % 128 + 128) �
 
 -- ---- what is written is the shortest spelling
 
-pub spells_more : (b high n : ℕ) (bytes : List ℕ) → 128 ≤ b → b < 256 → n + 128 ≡ b + 128 * high → Spells bytes high → Spells (b ∷ bytes) n
+pub spells_more : (b high n : ℕ) (bytes : List ℕ) → 128 ≤ b → b < 256 → n + 128 ≡ b + 128 * high → Spells bytes high
+    → Spells (b ∷ bytes) n
 spells_more b high n [] large small split spelled = absurd spelled
 spells_more b high n (c ∷ bytes) large small split spelled = (large, small, high, split, spelled)
 
@@ -50,7 +55,8 @@ groups_spelled (suc k) n h =
     let split : (b : Bool) → nat_lt n 128 ≡ b → Spells (groups (suc k) n) n = elim [
       | true ↦ λ e. let small : n < 128 = ltb-true n 128 e in rw (groups-small (suc k) n small) (small, refl)
       | false ↦ λ e. let large : 128 ≤ n = ltb-false n 128 e in
-          rw (groups-large k n large) (spells_more (n % 128 + 128) (n / 128) n (groups k (n / 128)) (omega arith) (omega arith) (omega arith)
+          rw (groups-large k n large) (spells_more (n % 128 + 128) (n / 128) n (groups k (n / 128)) (omega arith)
+            (omega arith) (omega arith)
           (groups_spelled k (n / 128) (small_rest k n h)))
     ] in split (nat_lt n 128) refl
 
@@ -72,7 +78,8 @@ groups_shortest (suc k) n (b ∷ c ∷ bytes) h spelled =
       | true ↦ λ e. rw (groups-small (suc k) n (ltb-true n 128 e)) (omega arith)
       | false ↦ λ e. let high : spelled.2 ≡ n / 128 = omega (arith, spelled.0, spelled.1, spelled.3) in
           let rest : Spells (c ∷ bytes) (n / 128) = subst (λ m. Spells (c ∷ bytes) m) high spelled.4 in
-          rw (groups-large k n (ltb-false n 128 e)) (omega (arith, groups_shortest k (n / 128) (c ∷ bytes) (small_rest k n h) rest))
+          rw (groups-large k n (ltb-false n 128 e))
+            (omega (arith, groups_shortest k (n / 128) (c ∷ bytes) (small_rest k n h) rest))
     ] in split (nat_lt n 128) refl
 
 pub varint_spelled : (n : ℕ) → n < 2 ^ 64 → Spells (varint_bytes n) n

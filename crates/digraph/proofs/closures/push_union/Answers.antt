@@ -5,7 +5,8 @@ use Rattle.digraph.proofs.Closing.{one_long, union_of_one}
 use Rattle.digraph.proofs.closures.push_union.Goals as goal
 
 pub push_extended-requires : goal.push_extended-requires
-push_extended-requires c = c.requires.nodes (get_or c.args.nodes.now 0 0) (Contains-get_or c.args.nodes.now 0 0 (omega (arith, c.in-len1.len_at_least)))
+push_extended-requires c = c.requires.nodes (get_or c.args.nodes.now 0 0)
+    (Contains-get_or c.args.nodes.now 0 0 (omega (arith, c.in-len1.len_at_least)))
 
 pub returns-in-len1-clause-union : goal.returns-in-len1-clause-union
 returns-in-len1-clause-union c =
@@ -16,6 +17,7 @@ returns-in-len1-clause-union c =
     on_ok_weaker c.push_extended.result (λ (appended : c.push_extended.new.self ≡ lists ++ list ∷ []). (
       list,
       appended,
-      union_of_one lists c.args.nodes.now node c.args.own list (one_long c.args.nodes.now c.in-len1.len_at_least c.in-len1.len_below) refl
+      union_of_one lists c.args.nodes.now node c.args.own list
+        (one_long c.args.nodes.now c.in-len1.len_at_least c.in-len1.len_below) refl
           (c.requires.rises node inside) (λ x w. c.requires.below node x inside w),
     )) c.push_extended.ensures.appended

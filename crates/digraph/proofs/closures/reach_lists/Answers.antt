@@ -18,7 +18,8 @@ push_union-requires-clause-closed c = subst (AreClosed c.loop-own.lists) (sym c.
     (reach_closed (graph_of c.args.graph.now) c.loop-own.lists c.loop-own.own c.requires c.loop-own.invariant.reaches)
 
 pub push_union-requires-clause-rises : goal.push_union-requires-clause-rises
-push_union-requires-clause-rises c b h = (c.loop-own.invariant.reaches b (omega (arith, h, c.loop-own.invariant.size))).rises
+push_union-requires-clause-rises c b h =
+    (c.loop-own.invariant.reaches b (omega (arith, h, c.loop-own.invariant.size))).rises
 
 pub push_union-requires-clause-below : goal.push_union-requires-clause-below
 push_union-requires-clause-below c b x h w =
@@ -33,11 +34,13 @@ loop-own-preserved c =
     let room : length c.push_union.new.marks ≡ length c.loop-own.marks.items = omega (arith, c.deref_mut.ensures.len) in
     let same = written c.push_union.new.marks c.loop-own.marks.items c.loop-own.marks.len c.loop-own.marks.ok.0 room in
     let union = c.in_ok-push_union.ensures.union in
-    let reach : IsReach g own union.0 = union_reach g c.loop-own.lists own union.0 c.requires c.loop-own.invariant.reaches
+    let reach : IsReach g own union.0 = union_reach g c.loop-own.lists own union.0 c.requires
+      c.loop-own.invariant.reaches
     (subst (λ (xs : List ℕ). IsUnion c.loop-own.lists xs own union.0) c.row.ensures union.2) in
     record {
       room = ap length same ∙ room ∙ c.loop-own.invariant.room;
       none = subst NoneMarked (sym same) c.in_ok-push_union.ensures.none;
       size = length_push c.loop-own.lists c.push_union.new.lists union.0 own union.1 c.loop-own.invariant.size;
-      reaches = each_push (IsReach g) c.loop-own.lists c.push_union.new.lists union.0 own union.1 c.loop-own.invariant.size c.loop-own.invariant.reaches reach;
+      reaches = each_push (IsReach g) c.loop-own.lists c.push_union.new.lists union.0 own union.1
+          c.loop-own.invariant.size c.loop-own.invariant.reaches reach;
     }

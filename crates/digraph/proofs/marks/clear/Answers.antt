@@ -6,7 +6,8 @@ pub loop-node-init : goal.loop-node-init
 loop-node-init c = cleared_none c.args.nodes.now c.args.marks.now c.requires
 
 pub loop-node-preserved : goal.loop-node-preserved
-loop-node-preserved c = cleared_more c.args.nodes.now c.loop-node.node-index c.loop-node.marks _ (omega arith) refl c.loop-node.invariant
+loop-node-preserved c = cleared_more c.args.nodes.now c.loop-node.node-index c.loop-node.marks _
+    (omega arith) refl c.loop-node.invariant
 
 pub returns : goal.returns
 returns c = cleared_all c.args.nodes.now c.loop-node.node-index c.loop-node.marks (omega arith) c.loop-node.invariant

@@ -3,4 +3,5 @@ use Rattle.digraph.proofs.Rounding.{Appending}
 use Rattle.digraph.proofs.ranks.append_ready.Given as goal
 
 abbrev pub invariant-loop-node : goal.invariant-loop-node
-invariant-loop-node l = Appending (graph_of l.graph) l.marks l.nodes l.fn.ready.items l.node-index l.passed l.ready.items
+invariant-loop-node l = Appending (graph_of l.graph) l.marks l.nodes l.fn.ready.items l.node-index
+    l.passed l.ready.items

@@ -7,7 +7,8 @@ use Rattle.digraph.proofs.Joining.{reaching_none, reaching_more, reaching_all}
 use Rattle.digraph.proofs.reachable.reach_rows.Goals as goal
 
 pub loop-node-init : goal.loop-node-init
-loop-node-init c = reaching_none (graph_of c.args.graph.now) c.args.labels.now c.new-matrix.result c.new-matrix.ensures.rows c.new-matrix.ensures.columns
+loop-node-init c = reaching_none (graph_of c.args.graph.now) c.args.labels.now c.new-matrix.result
+    c.new-matrix.ensures.rows c.new-matrix.ensures.columns
 
 pub push_joined-requires-clause-successors : goal.push_joined-requires-clause-successors
 push_joined-requires-clause-successors c b w =
@@ -16,10 +17,13 @@ push_joined-requires-clause-successors c b w =
 pub loop-node-preserved : goal.loop-node-preserved
 loop-node-preserved c =
     let g = graph_of c.args.graph.now in
-    reaching_more g c.args.labels.now c.loop-node.node c.loop-node.matrix c.push_joined.new.matrix c.requires.falls c.loop-node.invariant
-    (subst (λ (xs : List ℕ). HasRowPushed c.loop-node.matrix (node_at c.args.labels.now c.loop-node.node) xs c.push_joined.new.matrix) c.row.ensures
+    reaching_more g c.args.labels.now c.loop-node.node c.loop-node.matrix c.push_joined.new.matrix c.requires.falls
+      c.loop-node.invariant
+    (subst (λ (xs : List ℕ). HasRowPushed c.loop-node.matrix
+      (node_at c.args.labels.now c.loop-node.node) xs c.push_joined.new.matrix) c.row.ensures
     c.in_ok-push_joined.ensures)
 
 pub returns : goal.returns
 returns c =
-    reaching_all (graph_of c.args.graph.now) c.args.labels.now c.loop-node.node c.loop-node.matrix (omega (arith, c.requires.size)) c.loop-node.invariant
+    reaching_all (graph_of c.args.graph.now) c.args.labels.now c.loop-node.node c.loop-node.matrix
+      (omega (arith, c.requires.size)) c.loop-node.invariant

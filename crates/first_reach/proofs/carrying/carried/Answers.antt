@@ -14,7 +14,8 @@ in_shares-requires-clause-takes g c = λ κs lives i root at.
     let position : 0 + i ≡ i = omega arith in (
       omega arith,
       λ r is.
-          let too = root_first_too (g.F.Reach.files reach) (g.F.Reach.list reach) (laws.within reach) (laws.reflexive reach) (laws.transitive reach) roots few
+          let too = root_first_too (g.F.Reach.files reach) (g.F.Reach.list reach) (laws.within reach)
+            (laws.reflexive reach) (laws.transitive reach) roots few
           c.requires c.in_ok-least.least c.in_ok-least.ensures.first i root r at is in
           (too.0, λ x h e. too.1 x h (e ∙ position) ∙ sym position),
     )
@@ -25,6 +26,7 @@ returns g c =
     let laws = g.met.F.Reach g.world.𝓛 g.world.𝓜 g.world.𝓡 ((λ s x. x), (λ x. x), (λ x. x), λ x. x) in
     let few : length roots ≤ NONE = omega arith in
     IfOk-weaker c.in_shares.result _ _ (λ lists gives.
-    carried_all (g.F.Reach.files reach) (g.F.Reach.list reach) (laws.within reach) (laws.reflexive reach) (laws.transitive reach) roots few c.requires
+    carried_all (g.F.Reach.files reach) (g.F.Reach.list reach) (laws.within reach) (laws.reflexive reach)
+      (laws.transitive reach) roots few c.requires
     c.in_ok-least.least c.in_ok-least.ensures.first
     (λ (v : Vec ℕ Global). v.items) c.args.mode lists.items gives) c.in_shares.ensures.outs

@@ -16,25 +16,51 @@ loop-item-preserved t c =
     elim c.match-item.branch [
       | in-Message+in_ok-message_fault-in-Message w ↦ (
           let here : IsLeast (Each (bodies_of c.item-item.result) BodyBreaks) w.in_ok-message_fault-in-Message.field-0 =
-          rw w.in-Message.is (rw (nested_bodies w.in-Message.nested) (rw w.get.ensures at w.in_ok-message_fault-in-Message.ensures)) in
-          rw w.first-is (behind_more BodyBreaks bodies_of (items ∷ []) items c.loop-item.item-index c.item-item.result c.loop-item.first
-          w.in_ok-message_fault-in-Message.field-0 w.lesser-first.result (omega arith) c.item-item.is c.loop-item.invariant here w.lesser-first.ensures))
-      | in-Field w ↦ rw w.first-is (behind_skip BodyBreaks bodies_of (items ∷ []) items c.loop-item.item-index c.item-item.result c.loop-item.first
+          rw w.in-Message.is
+            (rw (nested_bodies w.in-Message.nested) (rw w.get.ensures at w.in_ok-message_fault-in-Message.ensures)) in
+          rw w.first-is
+            (behind_more BodyBreaks bodies_of (items ∷ []) items c.loop-item.item-index c.item-item.result
+            c.loop-item.first
+          w.in_ok-message_fault-in-Message.field-0 w.lesser-first.result
+            (omega arith) c.item-item.is c.loop-item.invariant here w.lesser-first.ensures))
+      | in-Field w ↦
+          rw w.first-is
+          (behind_skip BodyBreaks bodies_of (items ∷ []) items c.loop-item.item-index c.item-item.result
+          c.loop-item.first
           (omega arith) c.item-item.is (rw w.in-Field.is refl) c.loop-item.invariant)
-      | in-Map w ↦ rw w.first-is (behind_skip BodyBreaks bodies_of (items ∷ []) items c.loop-item.item-index c.item-item.result c.loop-item.first (omega arith)
+      | in-Map w ↦
+          rw w.first-is
+          (behind_skip BodyBreaks bodies_of (items ∷ []) items c.loop-item.item-index c.item-item.result
+          c.loop-item.first (omega arith)
           c.item-item.is (rw w.in-Map.is refl) c.loop-item.invariant)
-      | in-Oneof w ↦ rw w.first-is (behind_skip BodyBreaks bodies_of (items ∷ []) items c.loop-item.item-index c.item-item.result c.loop-item.first
+      | in-Oneof w ↦
+          rw w.first-is
+          (behind_skip BodyBreaks bodies_of (items ∷ []) items c.loop-item.item-index c.item-item.result
+          c.loop-item.first
           (omega arith) c.item-item.is (rw w.in-Oneof.is refl) c.loop-item.invariant)
-      | in-Option w ↦ rw w.first-is (behind_skip BodyBreaks bodies_of (items ∷ []) items c.loop-item.item-index c.item-item.result c.loop-item.first
+      | in-Option w ↦
+          rw w.first-is
+          (behind_skip BodyBreaks bodies_of (items ∷ []) items c.loop-item.item-index c.item-item.result
+          c.loop-item.first
           (omega arith) c.item-item.is (rw w.in-Option.is refl) c.loop-item.invariant)
-      | in-Enum w ↦ rw w.first-is (behind_skip BodyBreaks bodies_of (items ∷ []) items c.loop-item.item-index c.item-item.result c.loop-item.first (omega arith)
+      | in-Enum w ↦
+          rw w.first-is
+          (behind_skip BodyBreaks bodies_of (items ∷ []) items c.loop-item.item-index c.item-item.result
+          c.loop-item.first (omega arith)
           c.item-item.is (rw w.in-Enum.is refl) c.loop-item.invariant)
-      | in-Reserved w ↦ rw w.first-is (behind_skip BodyBreaks bodies_of (items ∷ []) items c.loop-item.item-index c.item-item.result c.loop-item.first
+      | in-Reserved w ↦
+          rw w.first-is
+          (behind_skip BodyBreaks bodies_of (items ∷ []) items c.loop-item.item-index c.item-item.result
+          c.loop-item.first
           (omega arith) c.item-item.is (rw w.in-Reserved.is refl) c.loop-item.invariant)
-      | in-Empty w ↦ rw w.first-is (behind_skip BodyBreaks bodies_of (items ∷ []) items c.loop-item.item-index c.item-item.result c.loop-item.first
+      | in-Empty w ↦
+          rw w.first-is
+          (behind_skip BodyBreaks bodies_of (items ∷ []) items c.loop-item.item-index c.item-item.result
+          c.loop-item.first
           (omega arith) c.item-item.is (rw w.in-Empty.is refl) c.loop-item.invariant)
     ]
 
 pub returns : goal.returns
 returns t c =
-    rw (take_all c.loop-item.item-index c.as_slice-items.result.now (omega arith), c.as_slice-items.ensures) at c.loop-item.invariant
+    rw (take_all c.loop-item.item-index c.as_slice-items.result.now (omega arith),
+      c.as_slice-items.ensures) at c.loop-item.invariant

@@ -3,7 +3,8 @@ use Rattle.proto_checks.proofs.Items.{item_field, item_map, item_enum}
 use Rattle.proto_checks.proofs.body.item_fault.Goals as goal
 
 pub returns-in-Field : goal.returns-in-Field
-returns-in-Field c = if_ok c.field_fault.result (rw c.get.ensures at c.field_fault.ensures) (λ first h. rw c.in-Field.is (item_field c.in-Field.field first h))
+returns-in-Field c = if_ok c.field_fault.result (rw c.get.ensures at c.field_fault.ensures)
+    (λ first h. rw c.in-Field.is (item_field c.in-Field.field first h))
 
 pub returns-in-Map : goal.returns-in-Map
 returns-in-Map c =

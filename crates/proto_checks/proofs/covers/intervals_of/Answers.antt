@@ -15,13 +15,18 @@ loop-range-preserved c =
     let stands = item_at rs n no_range (omega arith) in
     elim c.if-range.branch [
       | then-range+in_ok-push w ↦ (let e = w.in_ok-push.ensures.items in let v = w.intervals-is in
-          rw v (rw e (intervals_push rs n c.loop-range.intervals.items here stands w.if-range.true c.loop-range.invariant)))
-      | else-range w ↦ rw w.intervals-is (intervals_skip rs n c.loop-range.intervals.items here stands w.if-range.false c.loop-range.invariant)
+          rw v (rw e
+            (intervals_push rs n c.loop-range.intervals.items here stands w.if-range.true c.loop-range.invariant)))
+      | else-range w ↦
+          rw w.intervals-is
+          (intervals_skip rs n c.loop-range.intervals.items here stands w.if-range.false c.loop-range.invariant)
     ]
 
 pub returns-clause-members : goal.returns-clause-members
-returns-clause-members c = intervals_all c.args.ranges.now c.loop-range.range-index c.loop-range.intervals.items c.sort_by_key.new.self.items (omega arith)
+returns-clause-members c = intervals_all c.args.ranges.now c.loop-range.range-index c.loop-range.intervals.items
+    c.sort_by_key.new.self.items (omega arith)
     c.loop-range.invariant c.in_ok-sort_by_key.ensures.permutation
 
 pub returns-clause-rises : goal.returns-clause-rises
-returns-clause-rises c = IsNonDecreasingBy-from_sort_by_key (λ (a : Interval). a.start) _ c.in_ok-sort_by_key.ensures.sorted (λ a r q k. search rules)
+returns-clause-rises c = IsNonDecreasingBy-from_sort_by_key (λ (a : Interval). a.start) _
+    c.in_ok-sort_by_key.ensures.sorted (λ a r q k. search rules)

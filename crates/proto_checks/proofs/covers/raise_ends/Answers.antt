@@ -4,9 +4,11 @@ use Rattle.proto_checks.proofs.Intervals.{raised, raised_is, raised_more, raised
 use Rattle.proto_checks.proofs.covers.raise_ends.Goals as goal
 
 pub loop-interval-preserved : goal.loop-interval-preserved
-loop-interval-preserved c = rw c.max-top.ensures (raised_more c.loop-interval.intervals (raised 0 c.args.intervals.now) c.loop-interval.interval-index
+loop-interval-preserved c = rw c.max-top.ensures
+    (raised_more c.loop-interval.intervals (raised 0 c.args.intervals.now) c.loop-interval.interval-index
     c.loop-interval.top blank (omega arith) c.loop-interval.invariant)
 
 pub returns : goal.returns
-returns c = subst (IsRaised c.args.intervals.now) (sym (raised_all c.loop-interval.intervals (raised 0 c.args.intervals.now) c.loop-interval.interval-index
+returns c = subst (IsRaised c.args.intervals.now)
+    (sym (raised_all c.loop-interval.intervals (raised 0 c.args.intervals.now) c.loop-interval.interval-index
     c.loop-interval.top (omega arith) c.loop-interval.invariant)) (raised_is c.args.intervals.now c.requires)

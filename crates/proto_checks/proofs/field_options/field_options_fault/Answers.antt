@@ -14,5 +14,7 @@ returns c =
     let wide = c.args.is_wide_integer in
     let first = c.bracketed_fault-on_field.result in
     let settings = bracketed c.args.declarator.now.options in
-    let on_field = subst (λ o. IsLeast (Each (bracketed o) (IsWrongOnField packed wide)) first) (sym c.in-Some.is) c.bracketed_fault-on_field.ensures in
-    least_union (each_union (IsWronglyPacked packed) (IsWronglyTyped wide) settings first on_field) c.in_ok-own.ensures c.lesser.ensures
+    let on_field = subst (λ o. IsLeast (Each (bracketed o) (IsWrongOnField packed wide)) first)
+      (sym c.in-Some.is) c.bracketed_fault-on_field.ensures in
+    least_union (each_union (IsWronglyPacked packed) (IsWronglyTyped wide) settings first on_field) c.in_ok-own.ensures
+      c.lesser.ensures

@@ -6,4 +6,5 @@ use Rattle.proto_base.specs.Sets.{Each}
 use Rattle.proto_checks.proofs.file.messages_names_fault.Given as goal
 
 abbrev pub invariant-loop-message : goal.invariant-loop-message
-invariant-loop-message l = IsLeast (Each (flat_map names_of (take l.message-index l.messages)) MessageNamesBreak) l.first
+invariant-loop-message l = IsLeast (Each (flat_map names_of (take l.message-index l.messages)) MessageNamesBreak)
+    l.first

@@ -7,4 +7,5 @@ use Rattle.proto_base.specs.Sets.{Each}
 use Rattle.proto_checks.proofs.package.package_lengths_fault.Given as goal
 
 abbrev pub invariant-loop-statement : goal.invariant-loop-statement
-invariant-loop-statement l = IsLeast (Each (flat_map file_package (take l.statement-index l.statements)) (PackageTooLong l.limits)) l.first
+invariant-loop-statement l =
+    IsLeast (Each (flat_map file_package (take l.statement-index l.statements)) (PackageTooLong l.limits)) l.first

@@ -5,7 +5,8 @@ use Rattle.proto_checks.proofs.Rising.{is_apart, apart_none}
 use Rattle.proto_checks.proofs.ranges.+first_overlap.Goals as goal
 
 pub returns-then-is_sorted_by : goal.returns-then-is_sorted_by
-returns-then-is_sorted_by t c = apart_none c.args.ranges.now (c.if-is_sorted_by.ensures.cases is_apart (answers_always _ _ _ (λ f a r g called. search rules)))
+returns-then-is_sorted_by t c = apart_none c.args.ranges.now
+    (c.if-is_sorted_by.ensures.cases is_apart (answers_always _ _ _ (λ f a r g called. search rules)))
 
 pub first_overlap-requires : goal.first_overlap-requires
 first_overlap-requires t c =
@@ -20,6 +21,8 @@ first_overlap-requires-2 t c =
     search rules
 
 pub returns : goal.returns
-returns t c = halves_least c.split_at.result.0.now c.split_at.result.1.now c.args.ranges.now c.in_ok-first_overlap.field-0 c.in_ok-first_overlap-2.field-0
-    c.lesser-inside.result c.in_ok-first_across.field-0 c.lesser.result c.split_at.ensures.by_index.0 c.in_ok-first_overlap.ensures
+returns t c = halves_least c.split_at.result.0.now c.split_at.result.1.now c.args.ranges.now
+    c.in_ok-first_overlap.field-0 c.in_ok-first_overlap-2.field-0
+    c.lesser-inside.result c.in_ok-first_across.field-0 c.lesser.result c.split_at.ensures.by_index.0
+      c.in_ok-first_overlap.ensures
     c.in_ok-first_overlap-2.ensures c.lesser-inside.ensures c.in_ok-first_across.ensures c.lesser.ensures

@@ -28,4 +28,5 @@ loop-marked-preserved c =
     ]
 
 pub returns : goal.returns
-returns c = each_all c.args.numbers.now (IsReserved c.args.ranges.now) c.loop-marked.marked-index c.loop-marked.first (omega arith) c.loop-marked.invariant
+returns c = each_all c.args.numbers.now (IsReserved c.args.ranges.now) c.loop-marked.marked-index c.loop-marked.first
+    (omega arith) c.loop-marked.invariant

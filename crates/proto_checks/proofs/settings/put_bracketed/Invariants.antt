@@ -4,4 +4,5 @@ use Rattle.proto_checks.specs.Judged.{judged}
 use Rattle.proto_checks.proofs.settings.put_bracketed.Given as goal
 
 abbrev pub invariant-loop-next : goal.invariant-loop-next
-invariant-loop-next l = l.settings.items ≡ l.initial.settings.items ++ map (judged l.fn.element) (map next_item (take l.next-index l.next-items))
+invariant-loop-next l = l.settings.items ≡ l.initial.settings.items
+    ++ map (judged l.fn.element) (map next_item (take l.next-index l.next-items))

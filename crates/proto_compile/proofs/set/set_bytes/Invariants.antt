@@ -5,4 +5,5 @@ use Rattle.wire_format.specs.Field.{bytes_field}
 use Rattle.proto_compile.proofs.set.set_bytes.Given as goal
 
 abbrev pub invariant-loop-file : goal.invariant-loop-file
-invariant-loop-file l = l.out.items ≡ flat_map (λ a. bytes_field 1 (bytes_at l.files a)) (take l.file-index l.file-items)
+invariant-loop-file l = l.out.items ≡ flat_map (λ a. bytes_field 1 (bytes_at l.files a))
+    (take l.file-index l.file-items)

@@ -8,7 +8,8 @@ pub returns-then-not-fields_resolved : goal.returns-then-not-fields_resolved
 returns-then-not-fields_resolved t c = rw (message_resolved_out c.args.message.now) (grind (arith, common_steps))
 
 pub returns-then-not-message_resolved : goal.returns-then-not-message_resolved
-returns-then-not-message_resolved t c = rw (message_resolved_out c.args.message.now) (grind (arith, common_steps, list_all_at))
+returns-then-not-message_resolved t c =
+    rw (message_resolved_out c.args.message.now) (grind (arith, common_steps, list_all_at))
 
 pub returns : goal.returns
 returns t c = rw (message_resolved_out c.args.message.now) (grind (arith, common_steps))

@@ -16,11 +16,17 @@ loop-import-preserved c =
     let inside : k < length imports = omega arith in
     let next : k + 1 ≡ suc k = omega arith in
     let step : take (k + 1) imports ≡ take k imports ++ i ∷ [] =
-    ap (λ n. take n imports) next ∙ take-suc imports k i inside ∙ ap (λ (x : ImportDesc). take k imports ++ x ∷ []) (sym c.import-item.is) in
+    ap (λ n. take n imports) next ∙ take-suc imports k i inside
+      ∙ ap (λ (x : ImportDesc). take k imports ++ x ∷ []) (sym c.import-item.is) in
     rw step (elim c.match-fault_of.branch [
-      | in-Some w ↦ rw w.first-is (first_more c.args.files.now c.args.file (take k imports) i c.loop-import.first w.lesser-first.result w.in-Some.kind
+      | in-Some w ↦
+          rw w.first-is
+          (first_more c.args.files.now c.args.file (take k imports) i c.loop-import.first w.lesser-first.result
+          w.in-Some.kind
           w.in-Some.ensures w.lesser-first.ensures c.loop-import.invariant)
-      | in_default w ↦ rw w.first-is (first_skip c.args.files.now c.args.file (take k imports) i c.loop-import.first w.in_default.ensures
+      | in_default w ↦
+          rw w.first-is
+          (first_skip c.args.files.now c.args.file (take k imports) i c.loop-import.first w.in_default.ensures
           c.loop-import.invariant)
     ])
 

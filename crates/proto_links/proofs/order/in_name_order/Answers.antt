@@ -9,7 +9,8 @@ pub returns-then-not-is_before : goal.returns-then-not-is_before
 returns-then-not-is_before c = (
   λ t. absurd (false≢true t),
   λ order. absurd (both_ways _ c.if-not-is_before.true (c.is_before.ensures.1
-      ((pair_names c.args.files.now c.loop-next.next c.index-files-next.result c.index-files-next-in-loop-next.result c.loop-next.invariant.some (omega arith)
+      ((pair_names c.args.files.now c.loop-next.next c.index-files-next.result c.index-files-next-in-loop-next.result
+        c.loop-next.invariant.some (omega arith)
       c.index-files-next.is c.index-files-next-in-loop-next.is).1
       (last_pair c.args.files.now c.loop-next.next c.loop-next.invariant.some (omega arith) order)))),
 )
@@ -17,8 +18,10 @@ returns-then-not-is_before c = (
 pub loop-next-preserved : goal.loop-next-preserved
 loop-next-preserved c = record {
   some = omega arith;
-  pairs = order_more c.args.files.now c.loop-next.next ((pair_names c.args.files.now c.loop-next.next c.index-files-next.result
-      c.index-files-next-in-loop-next.result c.loop-next.invariant.some (omega arith) c.index-files-next.is c.index-files-next-in-loop-next.is).0
+  pairs = order_more c.args.files.now c.loop-next.next
+      ((pair_names c.args.files.now c.loop-next.next c.index-files-next.result
+      c.index-files-next-in-loop-next.result c.loop-next.invariant.some
+        (omega arith) c.index-files-next.is c.index-files-next-in-loop-next.is).0
       (c.is_before.ensures.0 c.if-not-is_before.false)) c.loop-next.invariant.some c.loop-next.invariant.pairs;
 }
 

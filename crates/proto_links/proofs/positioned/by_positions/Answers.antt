@@ -4,11 +4,13 @@ use Rattle.proto_links.proofs.Positions.{graph_within, public_within, rows_withi
 use Rattle.proto_links.proofs.positioned.by_positions.Goals as goal
 
 pub renumber_rows-requires-clause-within : goal.renumber_rows-requires-clause-within
-renumber_rows-requires-clause-within c = rw c.deref.ensures.value (rows_within c.args.graph.now.imports.items (graph_within c.requires.imports))
+renumber_rows-requires-clause-within c =
+    rw c.deref.ensures.value (rows_within c.args.graph.now.imports.items (graph_within c.requires.imports))
 
 pub renumber_rows-requires-2-clause-within : goal.renumber_rows-requires-2-clause-within
 renumber_rows-requires-2-clause-within c =
-    rw c.deref-4.ensures.value (rows_within c.args.graph.now.public_imports.items (public_within c.requires.public_imports))
+    rw c.deref-4.ensures.value
+      (rows_within c.args.graph.now.public_imports.items (public_within c.requires.public_imports))
 
 pub returns : goal.returns
 returns c = record {

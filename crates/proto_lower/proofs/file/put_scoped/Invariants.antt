@@ -9,8 +9,12 @@ use Rattle.proto_lower.proofs.file.put_scoped.Given as goal
 
 abbrev pub invariant-loop-statement : goal.invariant-loop-statement
 invariant-loop-statement l = record {
-  imports : l.out.imports.items ≡ l.initial.out.imports.items ++ flat_map import_of (take l.statement-index l.statements);
-  messages : l.out.messages.items ≡ l.initial.out.messages.items ++ map (lowered_message l.scope) (flat_map file_message (take l.statement-index l.statements));
-  enums : l.out.enums.items ≡ l.initial.out.enums.items ++ map lowered_enum (flat_map file_enum (take l.statement-index l.statements));
-  services : l.out.services.items ≡ l.initial.out.services.items ++ map lowered_service (flat_map file_service (take l.statement-index l.statements));
+  imports : l.out.imports.items ≡ l.initial.out.imports.items
+      ++ flat_map import_of (take l.statement-index l.statements);
+  messages : l.out.messages.items ≡ l.initial.out.messages.items
+      ++ map (lowered_message l.scope) (flat_map file_message (take l.statement-index l.statements));
+  enums : l.out.enums.items ≡ l.initial.out.enums.items
+      ++ map lowered_enum (flat_map file_enum (take l.statement-index l.statements));
+  services : l.out.services.items ≡ l.initial.out.services.items
+      ++ map lowered_service (flat_map file_service (take l.statement-index l.statements));
 }

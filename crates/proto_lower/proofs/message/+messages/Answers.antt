@@ -14,16 +14,28 @@ put_nested-loop-item-preserved t c = elim c.match-item.branch [
       (one_more (nested_of c.args.full.now) c.args.items.now c.loop-item.item-index c.item-item.result
       c.args.out.now.items c.loop-item.out.items _ (omega arith) c.item-item.is c.loop-item.invariant
       (rw (w.in-Message.is, w.get-in-Message.ensures) (sym (nested_message c.args.full.now w.in-Message.inner))))
-  | put_nested-in-Field w ↦ rw w.out-is (none_more (nested_of c.args.full.now) c.args.items.now c.loop-item.item-index c.item-item.result
-      c.args.out.now.items c.loop-item.out.items (omega arith) c.item-item.is c.loop-item.invariant (rw w.in-Field.is refl))
-  | put_nested-in-Oneof w ↦ rw w.out-is (none_more (nested_of c.args.full.now) c.args.items.now c.loop-item.item-index c.item-item.result
-      c.args.out.now.items c.loop-item.out.items (omega arith) c.item-item.is c.loop-item.invariant (rw w.in-Oneof.is refl))
-  | put_nested-in-Option w ↦ rw w.out-is (none_more (nested_of c.args.full.now) c.args.items.now c.loop-item.item-index c.item-item.result
-      c.args.out.now.items c.loop-item.out.items (omega arith) c.item-item.is c.loop-item.invariant (rw w.in-Option.is refl))
-  | put_nested-in-Enum w ↦ rw w.out-is (none_more (nested_of c.args.full.now) c.args.items.now c.loop-item.item-index c.item-item.result
-      c.args.out.now.items c.loop-item.out.items (omega arith) c.item-item.is c.loop-item.invariant (rw w.in-Enum.is refl))
-  | put_nested-in-Reserved w ↦ rw w.out-is (none_more (nested_of c.args.full.now) c.args.items.now c.loop-item.item-index c.item-item.result
-      c.args.out.now.items c.loop-item.out.items (omega arith) c.item-item.is c.loop-item.invariant (rw w.in-Reserved.is refl))
-  | put_nested-in-Empty w ↦ rw w.out-is (none_more (nested_of c.args.full.now) c.args.items.now c.loop-item.item-index c.item-item.result
-      c.args.out.now.items c.loop-item.out.items (omega arith) c.item-item.is c.loop-item.invariant (rw w.in-Empty.is refl))
+  | put_nested-in-Field w ↦ rw w.out-is
+      (none_more (nested_of c.args.full.now) c.args.items.now c.loop-item.item-index c.item-item.result
+      c.args.out.now.items c.loop-item.out.items (omega arith) c.item-item.is c.loop-item.invariant
+        (rw w.in-Field.is refl))
+  | put_nested-in-Oneof w ↦ rw w.out-is
+      (none_more (nested_of c.args.full.now) c.args.items.now c.loop-item.item-index c.item-item.result
+      c.args.out.now.items c.loop-item.out.items (omega arith) c.item-item.is c.loop-item.invariant
+        (rw w.in-Oneof.is refl))
+  | put_nested-in-Option w ↦ rw w.out-is
+      (none_more (nested_of c.args.full.now) c.args.items.now c.loop-item.item-index c.item-item.result
+      c.args.out.now.items c.loop-item.out.items (omega arith) c.item-item.is c.loop-item.invariant
+        (rw w.in-Option.is refl))
+  | put_nested-in-Enum w ↦ rw w.out-is
+      (none_more (nested_of c.args.full.now) c.args.items.now c.loop-item.item-index c.item-item.result
+      c.args.out.now.items c.loop-item.out.items (omega arith) c.item-item.is c.loop-item.invariant
+        (rw w.in-Enum.is refl))
+  | put_nested-in-Reserved w ↦ rw w.out-is
+      (none_more (nested_of c.args.full.now) c.args.items.now c.loop-item.item-index c.item-item.result
+      c.args.out.now.items c.loop-item.out.items (omega arith) c.item-item.is c.loop-item.invariant
+        (rw w.in-Reserved.is refl))
+  | put_nested-in-Empty w ↦ rw w.out-is
+      (none_more (nested_of c.args.full.now) c.args.items.now c.loop-item.item-index c.item-item.result
+      c.args.out.now.items c.loop-item.out.items (omega arith) c.item-item.is c.loop-item.invariant
+        (rw w.in-Empty.is refl))
 ]

@@ -4,4 +4,5 @@ use Rattle.proto_lower.specs.Reserveds.{enum_range}
 use Rattle.proto_lower.proofs.reserved.put_enum_ranges.Given as goal
 
 abbrev pub invariant-loop-next : goal.invariant-loop-next
-invariant-loop-next l = l.out.items ≡ l.initial.out.items ++ map enum_range (map next_item (take l.next-index l.next-items))
+invariant-loop-next l = l.out.items ≡ l.initial.out.items
+    ++ map enum_range (map next_item (take l.next-index l.next-items))

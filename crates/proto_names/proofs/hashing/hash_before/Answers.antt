@@ -12,6 +12,8 @@ loop-end-preserved c =
     let below : last < length bytes = omega (arith, some, c.loop-end.invariant.within) in
     record {
       within = omega (arith, below);
-      so_far = λ prefix whole. c.without_byte-hash.ensures (hash_of (prefix ++ take last bytes)) (hash_below (prefix ++ take last bytes))
-          (c.loop-end.invariant.so_far prefix whole ∙ ap (λ n. hash_of (prefix ++ take n bytes)) is ∙ hash_end prefix bytes last _ below);
+      so_far = λ prefix whole. c.without_byte-hash.ensures (hash_of (prefix ++ take last bytes))
+          (hash_below (prefix ++ take last bytes))
+          (c.loop-end.invariant.so_far prefix whole ∙ ap (λ n. hash_of (prefix ++ take n bytes)) is
+            ∙ hash_end prefix bytes last _ below);
     }

@@ -9,7 +9,8 @@ use Rattle.proto_names.proofs.index.first_of.Goals as goal
 use Rattle.proto_names.proofs.index.first_of.Goals.{in-Some, in_default}
 
 -- what is known of one share more
-known_more : (shares : List SortedShare) (k : ℕ) (d : SortedShare) (t : Option Location) → k < length shares → twice_of (get_or shares k d) ≡ t
+known_more : (shares : List SortedShare) (k : ℕ) (d : SortedShare) (t : Option Location) → k < length shares
+    → twice_of (get_or shares k d) ≡ t
     → map twice_of (take (k + 1) shares) ≡ map twice_of (take k shares) ++ t ∷ []
 known_more shares k d t below is =
     ap (map twice_of) (take_more shares k d below) ∙ map_push twice_of (take k shares) (get_or shares k d)
@@ -25,10 +26,12 @@ loop-share-preserved c =
     let below : k < length shares = omega arith in
     elim c.match-share.branch [
       | in-Some w ↦ rw w.first-is (subst (λ (ts : List (Option Location)). IsFirstOf ts (Some w.lesser.result))
-          (sym (known_more shares k item (Some w.in-Some.location) below (ap twice_of (sym c.share-item.is) ∙ w.in-Some.is)))
+          (sym (known_more shares k item (Some w.in-Some.location) below
+            (ap twice_of (sym c.share-item.is) ∙ w.in-Some.is)))
           (first_more known first w.in-Some.location w.lesser.result c.loop-share.invariant w.lesser.ensures))
       | in_default w ↦ rw w.first-is (subst (λ (ts : List (Option Location)). IsFirstOf ts first)
-          (sym (known_more shares k item None below (ap twice_of (sym c.share-item.is) ∙ w.in_default.is))) (first_kept known first c.loop-share.invariant))
+          (sym (known_more shares k item None below (ap twice_of (sym c.share-item.is) ∙ w.in_default.is)))
+            (first_kept known first c.loop-share.invariant))
     ]
 
 pub returns : goal.returns

@@ -16,7 +16,8 @@ loop-first-preserved c =
     let here : first ≡ length (files_in parts) = sym (ap length so_far.whole ∙ short) in
     let same : first + count - first ≡ count = omega arith in
     record {
-      whole = rw c.in_ok-push.ensures.items (files_more files parts _ first count so_far.whole (ap (λ n. take n (drop first files)) same));
+      whole = rw c.in_ok-push.ensures.items
+          (files_more files parts _ first count so_far.whole (ap (λ n. take n (drop first files)) same));
       placed = rw c.in_ok-push.ensures.items (placed_more parts _ so_far.placed here);
       within = omega (arith, c.min-count.ensures, within);
     }

@@ -7,4 +7,5 @@ returns-clause-one c os ps seen sees scope spelled full other what kind alike r 
     resolves_same os ps (IsSeen seen) (IsSeen sees) alike scope spelled full other what kind r s
 
 pub returns-clause-same : goal.returns-clause-same
-returns-clause-same c os ps seen sees scope spelled full what alike r = resolves_alike os ps (IsSeen seen) (IsSeen sees) alike scope spelled full what r
+returns-clause-same c os ps seen sees scope spelled full what alike r =
+    resolves_alike os ps (IsSeen seen) (IsSeen sees) alike scope spelled full what r

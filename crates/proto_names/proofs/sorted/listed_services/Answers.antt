@@ -12,12 +12,16 @@ loop-position-preserved c =
     let texts = c.loop-position.services.items in
     let below : k < length os = omega arith in
     elim c.if-is_service.branch [
-      | then-is_service+in_ok-to_text+in_ok-push w ↦ rw w.services-is (services_put os k c.kind.result c.is_service.result texts below c.kind.ensures
-          c.is_service.ensures c.loop-position.invariant w.in_ok-to_text.field-0 w.push.new.self.items w.if-is_service.true w.in_ok-to_text.ensures
+      | then-is_service+in_ok-to_text+in_ok-push w ↦
+          rw w.services-is (services_put os k c.kind.result c.is_service.result texts below c.kind.ensures
+          c.is_service.ensures c.loop-position.invariant w.in_ok-to_text.field-0 w.push.new.self.items
+            w.if-is_service.true w.in_ok-to_text.ensures
           w.in_ok-push.ensures.items)
-      | else-is_service w ↦ rw w.services-is (services_passed os k c.kind.result c.is_service.result texts below c.kind.ensures c.is_service.ensures
+      | else-is_service w ↦ rw w.services-is
+          (services_passed os k c.kind.result c.is_service.result texts below c.kind.ensures c.is_service.ensures
           c.loop-position.invariant w.if-is_service.false)
     ]
 
 pub returns : goal.returns
-returns c = c.loop-position.invariant ∙ ap services_of (take_all c.loop-position.position c.args.names.now (omega arith))
+returns c = c.loop-position.invariant
+    ∙ ap services_of (take_all c.loop-position.position c.args.names.now (omega arith))

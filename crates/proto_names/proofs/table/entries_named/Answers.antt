@@ -15,14 +15,16 @@ pub skip-behind-requires : goal.skip-behind-requires
 skip-behind-requires c =
     let os = c.args.names.now in
     let sorted = order_names os c.requires.order in
-    let below = start_below os (scoped c.args.scope.text.now c.args.name.now) c.in-Some.start sorted c.in-Some.ensures in
+    let below = start_below os (scoped c.args.scope.text.now c.args.name.now) c.in-Some.start sorted
+      c.in-Some.ensures in
     omega (arith, below)
 
 pub run_length-requires-clause-order : goal.run_length-requires-clause-order
 run_length-requires-clause-order c =
     let os = c.args.names.now in
     let sorted = order_names os c.requires.order in
-    let below = start_below os (scoped c.args.scope.text.now c.args.name.now) c.in-Some.start sorted c.in-Some.ensures in
+    let below = start_below os (scoped c.args.scope.text.now c.args.name.now) c.in-Some.start sorted
+      c.in-Some.ensures in
     subst AreInHashOrder (sym c.skip-behind.ensures) (drop_sorted os c.in-Some.start (omega (arith, below)) sorted)
 
 pub run_length-requires-clause-behind : goal.run_length-requires-clause-behind
@@ -32,13 +34,15 @@ run_length-requires-clause-behind c =
     let sorted = order_names os c.requires.order in
     let below = start_below os target c.in-Some.start sorted c.in-Some.ensures in
     subst (λ (ps : List Occurrence). All (λ o. name_cmp o.name target ≢ Less) ps) (sym c.skip-behind.ensures)
-    (drop_behind os target c.in-Some.start (omega (arith, below)) (start_point os target c.in-Some.start sorted c.in-Some.ensures))
+    (drop_behind os target c.in-Some.start (omega (arith, below))
+      (start_point os target c.in-Some.start sorted c.in-Some.ensures))
 
 pub run_length-requires-clause-some : goal.run_length-requires-clause-some
 run_length-requires-clause-some c =
     let os = c.args.names.now in
     let sorted = order_names os c.requires.order in
-    let below = start_below os (scoped c.args.scope.text.now c.args.name.now) c.in-Some.start sorted c.in-Some.ensures in
+    let below = start_below os (scoped c.args.scope.text.now c.args.name.now) c.in-Some.start sorted
+      c.in-Some.ensures in
     let l = length-drop c.in-Some.start os in
     let same = ap length c.skip-behind.ensures in
     omega (arith, l, below, same)
@@ -51,7 +55,8 @@ run_length-requires-clause-first c =
     subst (λ (ps : List Occurrence). (d : Occurrence) → (get_or ps 0 d).name ≡ target) (sym c.skip-behind.ensures)
     (start_named os target c.in-Some.start c.in-Some.ensures below)
 
-named_run : (c : goal.After-files_of-files) (o : Occurrence) → Contains (take c.run_length.result (drop c.in-Some.start c.args.names.now)) o
+named_run : (c : goal.After-files_of-files) (o : Occurrence)
+    → Contains (take c.run_length.result (drop c.in-Some.start c.args.names.now)) o
     ↔ (Contains c.args.names.now o × (o.name ≡ scoped c.args.scope.text.now c.args.name.now))
 named_run c =
     let os = c.args.names.now in
@@ -62,20 +67,23 @@ named_run c =
     let below = start_below os target start sorted c.in-Some.ensures in
     let behind = c.skip-behind.ensures in
     let bound = subst (λ (ps : List Occurrence). n ≤ length ps) behind c.run_length.ensures.bound in
-    let point = subst (λ (ps : List Occurrence). IsPartitionPoint (λ o. o.name ≡ target) (λ o. o.name ≢ target) ps n) behind c.run_length.ensures.point in
+    let point = subst (λ (ps : List Occurrence). IsPartitionPoint (λ o. o.name ≡ target) (λ o. o.name ≢ target) ps n)
+      behind c.run_length.ensures.point in
     run_is os target start n (omega (arith, below)) bound (start_point os target start sorted c.in-Some.ensures) point
 
 pub returns-in-Some-clause-named : goal.returns-in-Some-clause-named
 returns-in-Some-clause-named c =
     let target = scoped c.args.scope.text.now c.args.name.now in
-    subst (λ (ps : List Occurrence). (o : Occurrence) → Contains ps o ↔ (Contains c.args.names.now o × (o.name ≡ target)))
+    subst (λ (ps : List Occurrence). (o : Occurrence)
+      → Contains ps o ↔ (Contains c.args.names.now o × (o.name ≡ target)))
     (sym (c.take-names.ensures ∙ ap (take c.run_length.result) c.skip-behind.ensures)) (named_run c)
 
 pub returns-in-None-clause-named : goal.returns-in-None-clause-named
 returns-in-None-clause-named c =
     let os = c.args.names.now in
     let target = scoped c.args.scope.text.now c.args.name.now in
-    subst (λ (ps : List Occurrence). (o : Occurrence) → Contains ps o ↔ (Contains os o × (o.name ≡ target))) (sym c.take.ensures)
+    subst (λ (ps : List Occurrence). (o : Occurrence) → Contains ps o ↔ (Contains os o × (o.name ≡ target)))
+      (sym c.take.ensures)
     (none_is os target c.in-None.ensures)
 
 pub returns-in-Some-clause-files : goal.returns-in-Some-clause-files
@@ -85,8 +93,10 @@ returns-in-Some-clause-files c =
     let start = c.in-Some.start in
     let n = c.run_length.result in
     let below = start_below os target start (order_names os c.requires.order) c.in-Some.ensures in
-    let named : c.take-names.result ≡ take n (drop start os) = c.take-names.ensures ∙ ap (take n) c.skip-behind.ensures in
+    let named : c.take-names.result ≡ take n (drop start os) =
+      c.take-names.ensures ∙ ap (take n) c.skip-behind.ensures in
     let bound = subst (λ (ps : List Occurrence). n ≤ length ps) c.skip-behind.ensures c.run_length.ensures.bound in
     let len : c.len.result ≡ n = c.len.ensures ∙ ap length named ∙ length-take-le n (drop start os) bound in
     IfSome_then c.files_of-files.result c.files_of-files.ensures
-    (λ p is. rw named (subst (λ k. IsPackageOf (take k (drop start os)) p.files.now p.row) len (is os c.requires.packages)))
+    (λ p is. rw named (subst (λ k. IsPackageOf (take k (drop start os)) p.files.now p.row) len
+      (is os c.requires.packages)))

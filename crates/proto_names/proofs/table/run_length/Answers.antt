@@ -15,7 +15,8 @@ returns-else-len-gt1-clause-point c =
     let target = scoped c.args.scope.now c.args.name.now in
     let other : (d : Occurrence) → 1 < length os → name_of (get_or os 1 d) ≢ target = elim c.else-len-gt1.branch [
       | else-len-gt1-via-then-len-gt1+else-has_name w ↦
-          (λ d h e. true≢false (sym (w.has_name.ensures.1 (ap name_of (get_or_default os 1 blank d h) ∙ e)) ∙ w.if-has_name.false))
+          (λ d h e. true≢false (sym (w.has_name.ensures.1 (ap name_of (get_or_default os 1 blank d h) ∙ e))
+            ∙ w.if-has_name.false))
       | else-len-gt1-via-else-len-gt1 w ↦ (λ d h. let past = w.if-len-gt1.false in absurd (omega (arith, h, past)))
     ] in
     one_point os target c.requires.order c.requires.behind c.requires.first other

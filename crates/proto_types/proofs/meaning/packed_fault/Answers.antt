@@ -13,14 +13,22 @@ pub loop-option-preserved : goal.loop-option-preserved
 loop-option-preserved c =
     let o = c.option-item.result in
     elim c.if-is_packed.branch [
-      | then-is_packed w ↦ rw w.first-is (each_more c.args.options.now SetsPacked c.loop-option.option-index o c.loop-option.first
-          (Some (spot o.place kind.PackedOnMessage)) w.lesser-first.result (omega arith, sym c.option-item.is) c.loop-option.invariant
-          (least_hit (IsPacked o) (spot o.place kind.PackedOnMessage) (c.is_packed.ensures.0 w.if-is_packed.true)) w.lesser-first.ensures)
-      | else-is_packed w ↦ rw w.first-is (each_more c.args.options.now SetsPacked c.loop-option.option-index o c.loop-option.first None c.loop-option.first
+      | then-is_packed w ↦
+          rw w.first-is (each_more c.args.options.now SetsPacked c.loop-option.option-index o c.loop-option.first
+          (Some (spot o.place kind.PackedOnMessage)) w.lesser-first.result
+            (omega arith, sym c.option-item.is) c.loop-option.invariant
+          (least_hit (IsPacked o) (spot o.place kind.PackedOnMessage) (c.is_packed.ensures.0 w.if-is_packed.true))
+            w.lesser-first.ensures)
+      | else-is_packed w ↦
+          rw w.first-is
+          (each_more c.args.options.now SetsPacked c.loop-option.option-index o c.loop-option.first None
+          c.loop-option.first
           (omega arith, sym c.option-item.is) c.loop-option.invariant
-          (least_miss (IsPacked o) (spot o.place kind.PackedOnMessage) (λ packed. false≢true (sym w.if-is_packed.false ∙ c.is_packed.ensures.1 packed)))
+          (least_miss (IsPacked o) (spot o.place kind.PackedOnMessage)
+            (λ packed. false≢true (sym w.if-is_packed.false ∙ c.is_packed.ensures.1 packed)))
           (lesser_none c.loop-option.first))
     ]
 
 pub returns : goal.returns
-returns c = each_all c.args.options.now SetsPacked c.loop-option.option-index c.loop-option.first (omega arith) c.loop-option.invariant
+returns c = each_all c.args.options.now SetsPacked c.loop-option.option-index c.loop-option.first
+    (omega arith) c.loop-option.invariant

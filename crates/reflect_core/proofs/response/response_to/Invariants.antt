@@ -7,4 +7,5 @@ use Rattle.reflect_core.proofs.response.response_to.Given as goal
 
 abbrev pub invariant-loop-position : goal.invariant-loop-position
 invariant-loop-position l =
-    l.out.items ≡ flat_map (frame 0) (replies_to l.fn.material.compiled.now (map asked_of (take l.position l.asked)) (map files_of (take l.position l.carried)))
+    l.out.items ≡ flat_map (frame 0) (replies_to l.fn.material.compiled.now (map asked_of (take l.position l.asked))
+      (map files_of (take l.position l.carried)))

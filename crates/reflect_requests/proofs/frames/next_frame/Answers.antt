@@ -10,5 +10,6 @@ pub returns-in-None : goal.returns-in-None
 returns-in-None c =
     let message = c.in-Ok.cut.0.now in
     other_message c.args.limits.now c.args.count c.args.rest.now message c.in-Ok.cut.1.now (omega arith) c.in-Ok.ensures
-    (subst (λ (o : Option Request). MatchOption o (IsRequest message → ⊥) (λ request. ReadsRequest message request.host.now (ask_of request.ask))) c.in-None.is
+    (subst (λ (o : Option Request). MatchOption o (IsRequest message → ⊥)
+      (λ request. ReadsRequest message request.host.now (ask_of request.ask))) c.in-None.is
     c.in_ok-request.ensures)

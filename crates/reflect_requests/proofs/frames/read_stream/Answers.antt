@@ -13,11 +13,13 @@ pub loop-messages-preserved : goal.loop-messages-preserved
 loop-messages-preserved c =
     let old = c.loop-messages.messages.items in
     let m = c.in-Frame.message in
-    let next = subst (IsNext c.args.limits.now c.len.result c.loop-messages.rest.now) c.in-Frame.is c.in_ok-message.ensures in
+    let next = subst (IsNext c.args.limits.now c.len.result c.loop-messages.rest.now) c.in-Frame.is
+      c.in_ok-message.ensures in
     let pushed = sym c.in_ok-push-in-Frame.ensures.items in
     let inv = c.loop-messages.invariant in
     record {
-      row = subst (λ (xs : List Message). c.args.body.now ≡ flat_map (frame 0) (map bytes_of xs) ++ c.in-Frame.after.now) pushed
+      row = subst (λ (xs : List Message). c.args.body.now ≡ flat_map (frame 0) (map bytes_of xs)
+          ++ c.in-Frame.after.now) pushed
           (row_longer c.args.body.now c.loop-messages.rest.now c.in-Frame.after.now old m inv.row next.0.row);
       allowed = subst (λ (xs : List Message). All (IsAllowed c.args.limits.now) (map bytes_of xs)) pushed
           (subst (λ xs. All (IsAllowed c.args.limits.now) xs) (sym (longer old m))
@@ -29,7 +31,8 @@ loop-messages-preserved c =
 pub returns-in-End-clause-body : goal.returns-in-End-clause-body
 returns-in-End-clause-body c =
     let old = c.loop-messages.messages.items in
-    let next = subst (IsNext c.args.limits.now c.len.result c.loop-messages.rest.now) c.in-End.is c.in_ok-message.ensures in
+    let next = subst (IsNext c.args.limits.now c.len.result c.loop-messages.rest.now) c.in-End.is
+      c.in_ok-message.ensures in
     let inv = c.loop-messages.invariant in
     let count : length (map bytes_of old) ≡ length old = length-map old bytes_of in
     record {
@@ -43,7 +46,8 @@ returns-in-End-clause-body c =
           longest =
               λ room. next.none (let len = c.len.ensures in omega (arith, room, count, len));
         },
-        c.number-in-End.ensures ∙ next.status_is ∙ ap (λ k. status_of c.args.limits.now k c.loop-messages.rest.now) (let len = c.len.ensures in
+        c.number-in-End.ensures ∙ next.status_is
+          ∙ ap (λ k. status_of c.args.limits.now k c.loop-messages.rest.now) (let len = c.len.ensures in
             let same : c.len.result ≡ length (map bytes_of old) = omega (arith, len, count) in same),
       );
     }

@@ -8,6 +8,7 @@ use Rattle.reflect_requests.proofs.request.read_request.Given as goal
 
 abbrev pub invariant-loop-field : goal.invariant-loop-field
 invariant-loop-field l = record {
-  decided : Decided (map field_of l.field-items) (map field_of (drop l.field-index l.field-items)) l.host (ask_of l.ask);
+  decided : Decided (map field_of l.field-items) (map field_of (drop l.field-index l.field-items)) l.host
+      (ask_of l.ask);
   utf8 : shadow (Utf8 l.host);
 }

@@ -5,7 +5,8 @@ use Rattle.schema_command_line.proofs.task.connections_in.Goals as goal
 
 pub returns : goal.returns
 returns c = record {
-  counted = λ n small has. number_read (λ bs r. ExplainsUnsignedError 10 bs r) (λ bs r. HasUnsignedDigitsIfOk bs r) 64 n c.get_one.result small small
+  counted = λ n small has. number_read (λ bs r. ExplainsUnsignedError 10 bs r)
+      (λ bs r. HasUnsignedDigitsIfOk bs r) 64 n c.get_one.result small small
       (c.get_one.ensures.value (decimal n) has);
   endless = c.get_one.ensures.none;
 }

@@ -15,7 +15,9 @@ returns g c =
       described = described;
       first = first;
       placed = c.first_answer.ensures.placed;
-      every_descriptor = every_answer limits (s ∷ []) (IsDescribedBy limits s) (described_from limits s) (one_descriptor limits s) c.first_answer.result
+      every_descriptor = every_answer limits (s ∷ []) (IsDescribedBy limits s) (described_from limits s)
+          (one_descriptor limits s) c.first_answer.result
           described first;
-      every_fault = every_fault limits (s ∷ []) (IsDescribedBy limits s) (described_from limits s) c.first_answer.result described first;
+      every_fault = every_fault limits (s ∷ []) (IsDescribedBy limits s)
+          (described_from limits s) c.first_answer.result described first;
     }

@@ -8,7 +8,8 @@ get_from [] i x e = absurd (some-ne-none x (sym e))
 get_from (y ∷ ys) zero x e = some-injective y x e
 get_from (y ∷ ys) (suc i) x e = get_from ys i x e
 
-copied : (xs ws : List ℕ) (i x : ℕ) → i < length xs → get_elem? ws (i + 1) ≡ some x → ((k : ℕ) → k < i → slice_index xs k ≡ slice_index ws (k + 1))
+copied : (xs ws : List ℕ) (i x : ℕ) → i < length xs → get_elem? ws (i + 1) ≡ some x
+    → ((k : ℕ) → k < i → slice_index xs k ≡ slice_index ws (k + 1))
     → (k : ℕ) → k < i + 1 → slice_index (set xs i x) k ≡ slice_index ws (k + 1)
 copied xs ws i x lt e old = below_more _ _
     (λ k h. let ne : k ≢ i = omega arith in rw get_or-set_other (old k h))
@@ -16,4 +17,5 @@ copied xs ws i x lt e old = below_more _ _
 
 pub loop-i-preserved : goal.loop-i-preserved
 loop-i-preserved g c = let long = c.loop-i.invariant.0 in
-    (length-set c.loop-i.spare.items c.loop-i.i c.word.result ∙ long, copied _ _ _ _ (omega arith) c.word.ensures c.loop-i.invariant.1)
+    (length-set c.loop-i.spare.items c.loop-i.i c.word.result ∙ long,
+      copied _ _ _ _ (omega arith) c.word.ensures c.loop-i.invariant.1)

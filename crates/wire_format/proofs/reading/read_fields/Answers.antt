@@ -11,24 +11,29 @@ use Rattle.wire_format.proofs.ReadingRows.{kept_first, kept_some, kept_none, kep
 use Rattle.wire_format.proofs.reading.read_fields.Goals as goal
 
 pub loop-rest-init : goal.loop-rest-init
-loop-rest-init c = kept_first c.args.bytes.now (map field_of c.new-fields.result.items) (ap (λ (xs : List Field). map field_of xs) c.new-fields.ensures.items)
+loop-rest-init c = kept_first c.args.bytes.now (map field_of c.new-fields.result.items)
+    (ap (λ (xs : List Field). map field_of xs) c.new-fields.ensures.items)
     (λ i. omega (arith, c.type_inv.bytes i))
 
 pub returns-in_err-field-clause-malformed : goal.returns-in_err-field-clause-malformed
 returns-in_err-field-clause-malformed c e fs row =
-    let read : field_at c.loop-rest.rest.now ≡ None = grind (arith, common_steps, c.field_at.ensures, c.in_err-field.ensures.ok_part) in
-    kept_stop c.args.bytes.now c.loop-rest.rest.now (map field_of c.loop-rest.fields.items) fs c.loop-rest.invariant (let some =
+    let read : field_at c.loop-rest.rest.now ≡ None =
+      grind (arith, common_steps, c.field_at.ensures, c.in_err-field.ensures.ok_part) in
+    kept_stop c.args.bytes.now c.loop-rest.rest.now (map field_of c.loop-rest.fields.items) fs c.loop-rest.invariant
+      (let some =
     eqb-false _ _ (sym c.loop-rest-test.ensures) in omega (arith, some)) read row
 
 pub loop-rest-smaller-in_ok-push : goal.loop-rest-smaller-in_ok-push
 loop-rest-smaller-in_ok-push c =
-    let read : field_at c.loop-rest.rest.now ≡ some_read (option_map field_of c.in_ok-field.field, c.in_ok-field.behind.now) =
+    let read : field_at c.loop-rest.rest.now
+      ≡ some_read (option_map field_of c.in_ok-field.field, c.in_ok-field.behind.now) =
     grind (arith, common_steps, c.field_at.ensures, c.in_ok-field.ensures.ok_part) in
     field_shorter c.loop-rest.rest.now c.in_ok-field.behind.now _ c.loop-rest.invariant.within read
 
 pub loop-rest-smaller : goal.loop-rest-smaller
 loop-rest-smaller c =
-    let read : field_at c.loop-rest.rest.now ≡ some_read (option_map field_of c.in_ok-field.field, c.in_ok-field.behind.now) =
+    let read : field_at c.loop-rest.rest.now
+      ≡ some_read (option_map field_of c.in_ok-field.field, c.in_ok-field.behind.now) =
     grind (arith, common_steps, c.field_at.ensures, c.in_ok-field.ensures.ok_part) in
     field_shorter c.loop-rest.rest.now c.in_ok-field.behind.now _ c.loop-rest.invariant.within read
 
@@ -36,17 +41,21 @@ pub loop-rest-preserved-in_ok-push : goal.loop-rest-preserved-in_ok-push
 loop-rest-preserved-in_ok-push c =
     let read : field_at c.loop-rest.rest.now ≡ some_read (Some (field_of c.in-Some.field), c.in_ok-field.behind.now) =
     grind (arith, common_steps, c.field_at.ensures, c.in_ok-field.ensures.ok_part, c.in-Some.is) in
-    let kept = kept_some c.args.bytes.now c.loop-rest.rest.now c.in_ok-field.behind.now (map field_of c.loop-rest.fields.items) (field_of c.in-Some.field) read
+    let kept = kept_some c.args.bytes.now c.loop-rest.rest.now c.in_ok-field.behind.now
+      (map field_of c.loop-rest.fields.items) (field_of c.in-Some.field) read
     c.loop-rest.invariant in
-    let items : c.push.new.self.items ≡ c.loop-rest.fields.items ++ c.in-Some.field ∷ [] = grind (arith, common_steps) in
+    let items : c.push.new.self.items ≡ c.loop-rest.fields.items ++ c.in-Some.field ∷ [] =
+      grind (arith, common_steps) in
     rw (items, map-append) kept
 
 pub loop-rest-preserved : goal.loop-rest-preserved
 loop-rest-preserved c =
     let read : field_at c.loop-rest.rest.now ≡ some_read (None, c.in_ok-field.behind.now) =
     grind (arith, common_steps, c.field_at.ensures, c.in_ok-field.ensures.ok_part, c.in_default.is) in
-    kept_none c.args.bytes.now c.loop-rest.rest.now c.in_ok-field.behind.now (map field_of c.loop-rest.fields.items) read c.loop-rest.invariant
+    kept_none c.args.bytes.now c.loop-rest.rest.now c.in_ok-field.behind.now
+      (map field_of c.loop-rest.fields.items) read c.loop-rest.invariant
 
 pub returns-clause-found : goal.returns-clause-found
-returns-clause-found c = kept_all c.args.bytes.now c.loop-rest.rest.now (map field_of c.loop-rest.fields.items) c.loop-rest.invariant
+returns-clause-found c = kept_all c.args.bytes.now c.loop-rest.rest.now
+    (map field_of c.loop-rest.fields.items) c.loop-rest.invariant
     (nil_from_length c.loop-rest.rest.now (eqb-true _ _ (sym c.loop-rest-test.ensures)))

@@ -9,14 +9,16 @@ loop-rest-preserved c = let step = varint_bytes-step c.loop-rest.rest (omega ari
     grind (arith, common_steps, step)
 
 pub returns-clause-appended : goal.returns-clause-appended
-returns-clause-appended c = let step = varint_bytes-small c.loop-rest.rest (omega arith) in grind (arith, common_steps, step)
+returns-clause-appended c = let step = varint_bytes-small c.loop-rest.rest (omega arith) in
+    grind (arith, common_steps, step)
 
 pub returns-in_err-push-clause-full : goal.returns-in_err-push-clause-full
 returns-in_err-push-clause-full c =
     let step = ap length (varint_bytes-step c.loop-rest.rest (omega arith) (omega arith)) in
     let whole = simp length-append at (ap length c.loop-rest.invariant.whole) in
     let refused = c.in_err-push.ensures.full in
-    let full : vec_capacity c.args.out.now < vec_len c.args.out.now + length (varint_bytes c.args.value) = omega (arith, step, whole, refused) in
+    let full : vec_capacity c.args.out.now < vec_len c.args.out.now + length (varint_bytes c.args.value) =
+      omega (arith, step, whole, refused) in
     grind (arith, common_steps, full)
 
 pub returns-in_err-push-2-clause-full : goal.returns-in_err-push-2-clause-full
@@ -24,5 +26,6 @@ returns-in_err-push-2-clause-full c =
     let step = ap length (varint_bytes-small c.loop-rest.rest (omega arith)) in
     let whole = simp length-append at (ap length c.loop-rest.invariant.whole) in
     let refused = c.in_err-push-2.ensures.full in
-    let full : vec_capacity c.args.out.now < vec_len c.args.out.now + length (varint_bytes c.args.value) = omega (arith, step, whole, refused) in
+    let full : vec_capacity c.args.out.now < vec_len c.args.out.now + length (varint_bytes c.args.value) =
+      omega (arith, step, whole, refused) in
     grind (arith, common_steps, full)

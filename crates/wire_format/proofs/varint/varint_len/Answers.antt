@@ -11,7 +11,8 @@ loop-rest-preserved c =
     omega (arith, c.loop-rest.invariant, step)
 
 pub returns-clause-len : goal.returns-clause-len
-returns-clause-len c = let last = ap length (varint_bytes-small c.loop-rest.rest (omega arith)) in omega (arith, c.loop-rest.invariant, last)
+returns-clause-len c = let last = ap length (varint_bytes-small c.loop-rest.rest (omega arith)) in
+    omega (arith, c.loop-rest.invariant, last)
 
 pub returns-clause-most : goal.returns-clause-most
 returns-clause-most c =

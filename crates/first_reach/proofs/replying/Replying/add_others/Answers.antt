@@ -11,7 +11,8 @@ use Rattle.share_work.proofs.Paying.{none_past}
 pub get-requires : goal.get-requires
 get-requires g c =
     let reach = c.args.self.now.reach.now in
-    let at : slice_get (g.F.Reach.list reach c.args.root) c.loop-file.k ≡ Some c.in-Some.file = sym c.reached.ensures ∙ c.in-Some.is in
+    let at : slice_get (g.F.Reach.list reach c.args.root) c.loop-file.k ≡ Some c.in-Some.file =
+      sym c.reached.ensures ∙ c.in-Some.is in
     let inside = g.met.F.Reach.within reach c.args.root c.in-Some.file c.requires.root
     (contains_at (g.F.Reach.list reach c.args.root) c.loop-file.k c.in-Some.file at) in
     omega (arith, inside)
@@ -33,7 +34,8 @@ loop-file-preserved g c =
     elim c.if-file-root.branch [
       | then-file-root+then-get-position+in_ok-push w ↦ (
         omega arith,
-        others_put first c.args.position c.args.root c.loop-file.k c.in-Some.file list start was c.if-file-root.files.items at
+        others_put first c.args.position c.args.root c.loop-file.k c.in-Some.file list start was
+          c.if-file-root.files.items at
             w.if-file-root.true (sym w.get.ensures ∙ w.if-get-position.true) c.loop-file.invariant.1
             (ap (λ (v : Vec ℕ Global). v.items) w.files-is ∙ w.in_ok-push.ensures.items),
       )
@@ -42,12 +44,14 @@ loop-file-preserved g c =
           elim w.else-file-root.branch [
             | else-file-root-via-then-file-root+else-get-position w' ↦ (
               omega arith,
-              others_skip first c.args.position c.args.root c.loop-file.k c.in-Some.file list start was c.if-file-root.files.items at
+              others_skip first c.args.position c.args.root c.loop-file.k c.in-Some.file list start was
+                c.if-file-root.files.items at
                   (inr (λ e. w'.if-get-position.false (w'.get.ensures ∙ e))) c.loop-file.invariant.1 same,
             )
             | else-file-root-via-else-file-root w' ↦ (
               omega arith,
-              others_skip first c.args.position c.args.root c.loop-file.k c.in-Some.file list start was c.if-file-root.files.items at
+              others_skip first c.args.position c.args.root c.loop-file.k c.in-Some.file list start was
+                c.if-file-root.files.items at
                   (inl w'.if-file-root.false) c.loop-file.invariant.1 same,
             )
           ]
@@ -57,5 +61,7 @@ pub returns : goal.returns
 returns g c =
     let list = g.F.Reach.list c.args.self.now.reach.now c.args.root in
     let past : length list ≤ c.loop-file.k = none_past list c.loop-file.k (sym c.reached.ensures ∙ c.in_default.is) in
-    let all : take c.loop-file.k list ≡ list = ap (λ k. take k list) (let e : c.loop-file.k ≡ length list = omega arith in e) ∙ take-length list in
-    c.loop-file.invariant.1 ∙ ap (λ l. c.args.files.now.items ++ others_at c.args.self.now.least.now c.args.position c.args.root l) all
+    let all : take c.loop-file.k list ≡ list =
+      ap (λ k. take k list) (let e : c.loop-file.k ≡ length list = omega arith in e) ∙ take-length list in
+    c.loop-file.invariant.1
+      ∙ ap (λ l. c.args.files.now.items ++ others_at c.args.self.now.least.now c.args.position c.args.root l) all

@@ -28,7 +28,8 @@ desc_in f = f.desc
 abbrev types_in : Untyped → Vec NamedType Global
 types_in f = f.types
 
-module _ (P : ℕ → FileDesc → Vec NamedType Global → Type 0) (Q : ℕ → FileDesc → FileDesc → Type 0) (old new : List Untyped)
+module _ (P : ℕ → FileDesc → Vec NamedType Global → Type 0) (Q : ℕ → FileDesc → FileDesc → Type 0)
+    (old new : List Untyped)
     (each : (i : ℕ) (d : Untyped) → i < length old → (a : ℕ) → P a (get_or old i d).desc (get_or old i d).types
     → Q a (get_or old i d).desc (get_or new i d).desc) where
   -- a descriptor at its position, filled with the types that are given for it
@@ -74,8 +75,10 @@ returns g c = IfOk-weaker c.descriptors.result _ _ (λ typed are links index giv
     let files = c.in_ok-files.ensures gives.0 in
     let is = c.as_mut_slice.ensures.value in
     let size = c.fill_all.ensures.size ∙ ap length is in
-    let all = written c.in_ok-files.files.len old new (c.fill_all.ensures.size ∙ c.as_mut_slice.ensures.len) (sym size) in
+    let all = written c.in_ok-files.files.len old new (c.fill_all.ensures.size ∙ c.as_mut_slice.ensures.len)
+      (sym size) in
     let each = c.fill_all.ensures.each in
     filled_all (AreTypesOf links index) (IsTypedWhole links index) old new
-    (λ i d h a w. rw is at (each i d (rw (sym is) at h) links index a (rw (sym is) at w))) c.args.descs.items typed.items
+    (λ i d h a w. rw is at (each i d (rw (sym is) at h) links index a (rw (sym is) at w)))
+      c.args.descs.items typed.items
     c.args.types.items size files.0 files.1 (are ∙ ap (map desc_in) all) gives) c.descriptors.ensures

@@ -8,6 +8,7 @@ use Rattle.proto_compile.proofs.pass.list.sorted.Goals as goal
 pub returns : goal.returns
 returns c = record {
   all = rw (← c.in_ok-files.ensures.items) c.in_ok-sort.ensures.permutation;
-  rises = sorted_names _ c.sort.new.self.items (λ a b. first_not (slice_cmp nat_cmp (name_of a) (name_of b)) (slice_cmp nat_cmp (text_of a) (text_of b)))
+  rises = sorted_names _ c.sort.new.self.items
+      (λ a b. first_not (slice_cmp nat_cmp (name_of a) (name_of b)) (slice_cmp nat_cmp (text_of a) (text_of b)))
       c.in_ok-sort.ensures.sorted;
 }

@@ -21,8 +21,10 @@ invariant_of-self-2 c =
     c.in_ok-push_str.ensures.bytes ∙ ap (λ (t : List ℕ). old ++ t) (c.in-Ok.ensures.cases.0 ∙ c.name.ensures) in
     let start : c.len-start.result ≡ length old = c.len-start.ensures ∙ c.self.inside.text.bytes.ok.0 in
     let long = ap length whole ∙ length-append old full in
-    entries_pushed old (string_bytes c.push_str.new.self) full c.self.inside.entries.items c.push.new.self.items e whole start
-    (omega (arith, long, start, name_length c.args.text.now c.args.entry.now c.requires)) c.requires.hashed c.requires.is_text
+    entries_pushed old (string_bytes c.push_str.new.self) full c.self.inside.entries.items
+      c.push.new.self.items e whole start
+    (omega (arith, long, start, name_length c.args.text.now c.args.entry.now c.requires)) c.requires.hashed
+      c.requires.is_text
     c.in_ok-push.ensures.items c.self.invariant
 
 pub returns : goal.returns
@@ -40,7 +42,9 @@ returns c =
     c.in_ok-push_str.ensures.bytes ∙ ap (λ (t : List ℕ). old ++ t) (c.in-Ok.ensures.cases.0 ∙ c.name.ensures) in
     let start : c.len-start.result ≡ length old = c.len-start.ensures ∙ c.self.inside.text.bytes.ok.0 in
     let long = ap length whole ∙ length-append old full in
-    occurrences_pushed old (string_bytes c.push_str.new.self) full c.self.inside.entries.items c.push.new.self.items e whole start
-    (omega (arith, long, start, name_length c.args.text.now c.args.entry.now c.requires)) c.requires.hashed c.requires.is_text
+    occurrences_pushed old (string_bytes c.push_str.new.self) full c.self.inside.entries.items
+      c.push.new.self.items e whole start
+    (omega (arith, long, start, name_length c.args.text.now c.args.entry.now c.requires)) c.requires.hashed
+      c.requires.is_text
     c.in_ok-push.ensures.items c.self.invariant
     ∙ ap (λ (os : List Occurrence). os ++ occurrence c.args.text.now c.args.entry.now ∷ []) c.self.view_is

@@ -26,7 +26,8 @@ returns-in-Some-first_of-clause-twice g c file place e =
     let same_place : location.place ≡ place = cc in
     record {
       within = rw c.get-limit.ensures.value at (rw c.in-Some.is at c.in_ok-shares.ensures.within);
-      twice = rw (← same_file, ← same_place) (first_moved os (all_of (map table_of shares)) location.file location.place (all_shares os shares are)
+      twice = rw (← same_file, ← same_place)
+          (first_moved os (all_of (map table_of shares)) location.file location.place (all_shares os shares are)
           (first_twice_of os shares are location first));
     }
 
@@ -36,7 +37,8 @@ new-requires g c =
     (in_shares (occurrences c.args.files.now) c.in-Some.shares.items (rw c.in-Some.is at c.in_ok-shares.ensures.shares))
 
 -- the index that comes of shares in which nothing is twice
-indexed : (files : List FileDesc) (limits : Limits) (shares : List SortedShare) (os : List Occurrence) (services : List (List ℕ))
+indexed : (files : List FileDesc) (limits : Limits) (shares : List SortedShare) (os : List Occurrence)
+    (services : List (List ℕ))
     → AreSharesOf (occurrences files) shares → length (occurrences files) ≤ limit_of limits limit.Names
     → ((l : Location) → Contains (map twice_of shares) (Some l) → ⊥) → os ≡ all_of (map table_of shares)
     → IsPermutation (flat_map services_in shares) services → IsSorted (slice_cmp nat_cmp) services
@@ -60,15 +62,21 @@ indexed files limits shares os services are within none kept listed order =
 
 pub returns-clause-indexed : goal.returns-clause-indexed
 returns-clause-indexed g c =
-    indexed c.args.files.now c.args.limits.now c.in-Some.shares.items c.new.result (map string_bytes c.in_ok-tables.services.items)
-    (rw c.in-Some.is at c.in_ok-shares.ensures.shares) (rw c.get-limit.ensures.value at (rw c.in-Some.is at c.in_ok-shares.ensures.within))
+    indexed c.args.files.now c.args.limits.now c.in-Some.shares.items c.new.result
+      (map string_bytes c.in_ok-tables.services.items)
+    (rw c.in-Some.is at c.in_ok-shares.ensures.shares)
+      (rw c.get-limit.ensures.value at (rw c.in-Some.is at c.in_ok-shares.ensures.within))
     (rw c.deref.ensures.value at (not_some _ c.first_of.result c.in_default-first_of.not-Some c.first_of.ensures))
-    (c.new.ensures ∙ ap all_of c.in_ok-tables.ensures.tables) c.in_ok-tables.ensures.services c.in_ok-tables.ensures.order
+    (c.new.ensures ∙ ap all_of c.in_ok-tables.ensures.tables) c.in_ok-tables.ensures.services
+      c.in_ok-tables.ensures.order
 
 pub invariant_of-result : goal.invariant_of-result
 invariant_of-result g c =
-    let it = indexed c.args.files.now c.args.limits.now c.in-Some.shares.items c.new.result (map string_bytes c.in_ok-tables.services.items)
-    (rw c.in-Some.is at c.in_ok-shares.ensures.shares) (rw c.get-limit.ensures.value at (rw c.in-Some.is at c.in_ok-shares.ensures.within))
+    let it = indexed c.args.files.now c.args.limits.now c.in-Some.shares.items c.new.result
+      (map string_bytes c.in_ok-tables.services.items)
+    (rw c.in-Some.is at c.in_ok-shares.ensures.shares)
+      (rw c.get-limit.ensures.value at (rw c.in-Some.is at c.in_ok-shares.ensures.within))
     (rw c.deref.ensures.value at (not_some _ c.first_of.result c.in_default-first_of.not-Some c.first_of.ensures))
-    (c.new.ensures ∙ ap all_of c.in_ok-tables.ensures.tables) c.in_ok-tables.ensures.services c.in_ok-tables.ensures.order in
+    (c.new.ensures ∙ ap all_of c.in_ok-tables.ensures.tables) c.in_ok-tables.ensures.services
+      c.in_ok-tables.ensures.order in
     (it.sound, (c.args.files.now, c.args.limits.now, it))

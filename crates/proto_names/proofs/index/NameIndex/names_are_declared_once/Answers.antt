@@ -4,4 +4,5 @@ use Rattle.proto_names.proofs.Once.{declared_once}
 use Rattle.proto_names.proofs.index.NameIndex.names_are_declared_once.Goals as goal
 
 pub returns : goal.returns
-returns c = subst AreDeclaredOnce c.self.view_is (declared_once _ c.self.invariant.1.0 c.self.invariant.1.1 c.self.invariant.1.2)
+returns c = subst AreDeclaredOnce c.self.view_is
+    (declared_once _ c.self.invariant.1.0 c.self.invariant.1.1 c.self.invariant.1.2)

@@ -24,4 +24,5 @@ returns c =
     let found = c.type_among.result in
     subst (λ (os : List Occurrence). MatchOption found (IsNoType os seen name) (IsType os seen name))
     (ap (λ (index : Index). index.occurrences) c.self.view_is)
-    (type_visible c.self.inside.entries seen name c.named.result.names c.named.ensures.found c.named.ensures.all found c.type_among.ensures)
+    (type_visible c.self.inside.entries seen name c.named.result.names c.named.ensures.found c.named.ensures.all found
+      c.type_among.ensures)

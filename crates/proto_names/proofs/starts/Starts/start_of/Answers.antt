@@ -25,20 +25,24 @@ loop-position-init c =
     let size : c.len.result ≡ length counts = omega (arith, c.len.ensures, c.args.self.now.counts.ok.0) in
     let below : c.slot_of-slot.result < length counts = omega (arith, c.slot_of-slot.ensures.within, size) in
     none_before_slot c.args.names.now (length counts - 1) c.slot_of-slot.result c.index.result.now name
-    (slot_is c.len.result (length counts) c.args.hash c.slot_of-slot.result name size c.requires.hash c.slot_of-slot.ensures.slot)
+    (slot_is c.len.result (length counts) c.args.hash c.slot_of-slot.result name size c.requires.hash
+      c.slot_of-slot.ensures.slot)
     (begins c.args.names.now counts c.slot_of-slot.result c.index.result.now c.requires.starts below c.index.ensures)
 
 pub loop-position-preserved : goal.loop-position-preserved
-loop-position-preserved c = below_more _ _ c.loop-position.invariant (λ same. false≢true (sym c.if-is_match.false ∙ c.is_match.ensures.1 same))
+loop-position-preserved c = below_more _ _ c.loop-position.invariant
+    (λ same. false≢true (sym c.if-is_match.false ∙ c.is_match.ensures.1 same))
 
 pub returns-then-is_match : goal.returns-then-is_match
 returns-then-is_match c =
     let counts = c.args.self.now.counts.items in
     let size : c.len.result ≡ length counts = omega (arith, c.len.ensures, c.args.self.now.counts.ok.0) in
     let below : c.slot_of-slot.result + 1 < length counts = omega (arith, c.slot_of-slot.ensures.within, size) in
-    let next = begins c.args.names.now counts (c.slot_of-slot.result + 1) c.index-2.result.now c.requires.starts below c.index-2.ensures in
+    let next = begins c.args.names.now counts (c.slot_of-slot.result + 1) c.index-2.result.now c.requires.starts below
+      c.index-2.ensures in
     let within = next.within in
-    starts_here c.args.names.now (scoped c.args.scope.text.now c.args.name.now) c.loop-position.position (omega (arith, within))
+    starts_here c.args.names.now (scoped c.args.scope.text.now c.args.name.now) c.loop-position.position
+      (omega (arith, within))
     (c.is_match.ensures.0 c.if-is_match.true) c.loop-position.invariant
 
 pub returns : goal.returns
@@ -47,7 +51,10 @@ returns c =
     let name = scoped c.args.scope.text.now c.args.name.now in
     let size : c.len.result ≡ length counts = omega (arith, c.len.ensures, c.args.self.now.counts.ok.0) in
     let below : c.slot_of-slot.result + 1 < length counts = omega (arith, c.slot_of-slot.ensures.within, size) in
-    none_at_all c.args.names.now (length counts - 1) c.slot_of-slot.result c.index-2.result.now c.loop-position.position name
-    (slot_is c.len.result (length counts) c.args.hash c.slot_of-slot.result name size c.requires.hash c.slot_of-slot.ensures.slot)
-    (begins c.args.names.now counts (c.slot_of-slot.result + 1) c.index-2.result.now c.requires.starts below c.index-2.ensures)
+    none_at_all c.args.names.now (length counts - 1) c.slot_of-slot.result c.index-2.result.now
+      c.loop-position.position name
+    (slot_is c.len.result (length counts) c.args.hash c.slot_of-slot.result name size c.requires.hash
+      c.slot_of-slot.ensures.slot)
+    (begins c.args.names.now counts (c.slot_of-slot.result + 1) c.index-2.result.now c.requires.starts below
+      c.index-2.ensures)
     (omega arith) c.loop-position.invariant

@@ -17,7 +17,8 @@ abbrev pub decreases-message : goal.decreases-message
 decreases-message l = 3 * l.depth
 
 abbrev pub invariant-message_body-each : goal.invariant-message_body-each
-invariant-message_body-each l = Closes message_item_tree (message_item (message l.depth)) (symbol "}") l.items.items (spellings l.self.rest.now)
+invariant-message_body-each l = Closes message_item_tree (message_item (message l.depth)) (symbol "}") l.items.items
+    (spellings l.self.rest.now)
     ≡ read (Many (message_item (message l.fn.depth)) ⨾ symbol "}") (spellings l.fn.self.rest.now)
 
 abbrev pub decreases-message_body-each : goal.decreases-message_body-each

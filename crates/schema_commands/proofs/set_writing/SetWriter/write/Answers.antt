@@ -21,7 +21,8 @@ bytes_at-requires g c =
     omega (arith, linked, below)
 
 pub loop-file-init : goal.loop-file-init
-loop-file-init g c = only_put {B = Unit {0}} (g.O.CountedWrite.writes c.args.writer.now) [] c.clear.new.self.bytes.items [] tt c.clear.ensures
+loop-file-init g c = only_put {B = Unit {0}} (g.O.CountedWrite.writes c.args.writer.now) [] c.clear.new.self.bytes.items
+    [] tt c.clear.ensures
 
 pub loop-file-preserved : goal.loop-file-preserved
 loop-file-preserved g c =
@@ -33,11 +34,14 @@ loop-file-preserved g c =
     let now = g.O.CountedWrite.writes c.loop-file.writer in
     let new = g.O.CountedWrite.writes c.put_file.new.writer in
     let waiting = c.loop-file.self.chunk.bytes.items in
-    let put = subst (λ (l : List ℕ). IsGathered {B = Unit {0}} now new waiting c.put_file.new.self.bytes.items (bytes_field 1 l) (Ok tt))
+    let put =
+      subst (λ (l : List ℕ). IsGathered {B = Unit {0}} now new waiting c.put_file.new.self.bytes.items
+      (bytes_field 1 l) (Ok tt))
     c.bytes_at.ensures c.in_ok-put_file.ensures in
     subst (λ (l : List ℕ). IsGathered {B = Unit {0}} old new [] c.put_file.new.self.bytes.items l (Ok tt))
     (sym (set_more F order k c.loop-file-test.true))
-    (gathered_after {A = Unit {0}} {B = Unit {0}} old now new [] waiting c.put_file.new.self.bytes.items (flat_map F (take k order))
+    (gathered_after {A = Unit {0}} {B = Unit {0}} old now new [] waiting c.put_file.new.self.bytes.items
+      (flat_map F (take k order))
     (F (get_or order k 0)) tt (Ok tt)
     c.loop-file.invariant put)
 
@@ -55,9 +59,12 @@ returns-in_err-put_file g c =
     let same = c.set_order-file-items.ensures ∙ ap (λ l. l.set_order) c.links.ensures in
     let whole : (flat_map F (take k order) ++ F (get_or order k 0)) ++ flat_map F (drop (k + 1) order)
     ≡ set_of compiled.files compiled.links = sym (set_split F order k c.loop-file-test.true) ∙ ap (flat_map F) same in
-    let out = subst (λ (l : List ℕ). IsGathered {B = Unit {0}} now new waiting c.put_file.new.self.bytes.items (bytes_field 1 l) (Err f)) c.bytes_at.ensures
+    let out =
+      subst (λ (l : List ℕ). IsGathered {B = Unit {0}} now new waiting c.put_file.new.self.bytes.items (bytes_field 1 l)
+      (Err f)) c.bytes_at.ensures
     c.in_err-put_file.ensures in
-    let far = gathered_after {A = Unit {0}} {B = Unit {0}} old now new [] waiting c.put_file.new.self.bytes.items (flat_map F (take k order))
+    let far = gathered_after {A = Unit {0}} {B = Unit {0}} old now new [] waiting c.put_file.new.self.bytes.items
+      (flat_map F (take k order))
     (F (get_or order k 0)) tt
     (Err f) c.loop-file.invariant out in
     subst (λ (l : List ℕ). IsOutput old new l c.from_residual.result) whole
@@ -77,4 +84,5 @@ returns g c =
     let same = c.set_order-file-items.ensures ∙ ap (λ l. l.set_order) c.links.ensures in
     let all = take_all k order (omega arith) in
     subst (λ (l : List ℕ). IsOutput old new l c.write_out.result) (is ∙ ap (flat_map F) (all ∙ same))
-    (output_after old now new taken c.loop-file.self.chunk.bytes.items c.write_out.result before c.write_out.ensures.written)
+    (output_after old now new taken c.loop-file.self.chunk.bytes.items c.write_out.result before
+      c.write_out.ensures.written)

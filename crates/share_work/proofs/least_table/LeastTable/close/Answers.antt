@@ -6,7 +6,8 @@ use Rattle.share_work.specs.Rule.{IsLegal, IsPosted}
 use Rattle.share_work.proofs.Steps.{IsClosed, closes}
 use Rattle.share_work.proofs.least_table.LeastTable.close.Goals as goal
 
-closed : (c : goal.After-words_at_close) → IsClosed c.self.inside.table.shared.key (c.words_at_close.ensures.words.0) c.seat.inside.seat.me.0
+closed : (c : goal.After-words_at_close)
+    → IsClosed c.self.inside.table.shared.key (c.words_at_close.ensures.words.0) c.seat.inside.seat.me.0
 closed c =
     let parts : c.seat.inside.seat.me.0.parts ≡ 2 ^ 32 = omega arith in
     closes _ _ _ _ _ parts c.words_at_close.ensures.words.1.1.0
@@ -14,11 +15,15 @@ closed c =
 pub returns-clause-least : goal.returns-clause-least
 returns-clause-least c =
     let count = ap (λ (b : TableValue). b.count) c.self.view_is in let k = closed c in
-    let P : View → Type 0 = λ v. (w : ℕ) → w < c.args.self.count → slice_index c.words_at_close.result w ≡ least_at w (posts_of v.calls) in
-    subst P (ap (λ (t : SeatValue). t.view) c.seat.view_is) (λ w h. c.words_at_close.ensures.words.1.1.1 w (omega arith) ∙ k.least w (omega arith))
+    let P : View → Type 0 = λ v. (w : ℕ) → w < c.args.self.count
+      → slice_index c.words_at_close.result w ≡ least_at w (posts_of v.calls) in
+    subst P (ap (λ (t : SeatValue). t.view) c.seat.view_is)
+      (λ w h. c.words_at_close.ensures.words.1.1.1 w (omega arith) ∙ k.least w (omega arith))
 
 pub returns-clause-legal : goal.returns-clause-legal
-returns-clause-legal c = subst (λ (v : View). IsLegal v.calls) (ap (λ (t : SeatValue). t.view) c.seat.view_is) (closed c).legal
+returns-clause-legal c = subst (λ (v : View). IsLegal v.calls) (ap (λ (t : SeatValue). t.view) c.seat.view_is)
+    (closed c).legal
 
 pub returns-clause-told : goal.returns-clause-told
-returns-clause-told c = subst (λ (v : View). IsPosted v.told v.calls) (ap (λ (t : SeatValue). t.view) c.seat.view_is) (closed c).told
+returns-clause-told c = subst (λ (v : View). IsPosted v.told v.calls) (ap (λ (t : SeatValue). t.view) c.seat.view_is)
+    (closed c).told

@@ -9,7 +9,8 @@ use Rattle.share_work.proofs.mark_table.MarkTable.close.Given as given
 use Rattle.share_work.proofs.mark_table.MarkTable.close.Goals as goal
 
 closed : (g : given.Over) (c : goal.After-words_at_close g)
-    → IsMarkClosed (g.R.Reach.files c.self.inside.table.shared.key) (g.R.Reach.list c.self.inside.table.shared.key) c.words_at_close.ensures.words.0
+    → IsMarkClosed (g.R.Reach.files c.self.inside.table.shared.key)
+      (g.R.Reach.list c.self.inside.table.shared.key) c.words_at_close.ensures.words.0
     c.seat.inside.seat.me.0
 closed g c =
     let parts : c.seat.inside.seat.me.0.least.parts ≡ 2 ^ 32 = omega arith in
@@ -22,8 +23,10 @@ returns-clause-least g c =
     let view_is = ap (λ (t : MarkSeatValue). t.view) c.seat.view_is in
     let k = closed g c in
     let P : g.row.R.Denot → MarkView → Type 0 =
-    λ y u. (w : ℕ) → w < g.R.Reach.files y → slice_index c.words_at_close.result w ≡ least_at w (marked_posts (g.R.Reach.list y) u.marks) in
-    let here : P key v = λ w h. c.words_at_close.ensures.words.1.1.1 w (omega (arith, h, c.self.invariant.2)) ∙ k.least w h in
+    λ y u. (w : ℕ) → w < g.R.Reach.files y
+      → slice_index c.words_at_close.result w ≡ least_at w (marked_posts (g.R.Reach.list y) u.marks) in
+    let here : P key v = λ w h. c.words_at_close.ensures.words.1.1.1 w (omega (arith, h, c.self.invariant.2))
+      ∙ k.least w h in
     subst (λ (u : MarkView). P c.args.self.reach u) view_is (subst (λ (y : g.row.R.Denot). P y v) key_is here)
 
 pub returns-clause-posted : goal.returns-clause-posted
@@ -33,12 +36,16 @@ returns-clause-posted g c =
     let view_is = ap (λ (t : MarkSeatValue). t.view) c.seat.view_is in
     let k = closed g c in
     let P : g.row.R.Denot → MarkView → Type 0 =
-    λ y u. (w : ℕ) → w < g.R.Reach.files y → slice_index c.words_at_close.result w ≡ least_at w (posts_of u.least.calls) in
-    let here : P key v = λ w h. c.words_at_close.ensures.words.1.1.1 w (omega (arith, h, c.self.invariant.2)) ∙ k.posted w h in
+    λ y u. (w : ℕ) → w < g.R.Reach.files y
+      → slice_index c.words_at_close.result w ≡ least_at w (posts_of u.least.calls) in
+    let here : P key v = λ w h. c.words_at_close.ensures.words.1.1.1 w (omega (arith, h, c.self.invariant.2))
+      ∙ k.posted w h in
     subst (λ (u : MarkView). P c.args.self.reach u) view_is (subst (λ (y : g.row.R.Denot). P y v) key_is here)
 
 pub returns-clause-legal : goal.returns-clause-legal
-returns-clause-legal g c = subst (λ (v : MarkView). IsLegal v.least.calls) (ap (λ (t : MarkSeatValue). t.view) c.seat.view_is) (closed g c).legal
+returns-clause-legal g c = subst (λ (v : MarkView). IsLegal v.least.calls)
+    (ap (λ (t : MarkSeatValue). t.view) c.seat.view_is) (closed g c).legal
 
 pub returns-clause-told : goal.returns-clause-told
-returns-clause-told g c = subst (λ (v : MarkView). IsPosted v.least.told v.least.calls) (ap (λ (t : MarkSeatValue). t.view) c.seat.view_is) (closed g c).told
+returns-clause-told g c = subst (λ (v : MarkView). IsPosted v.least.told v.least.calls)
+    (ap (λ (t : MarkSeatValue). t.view) c.seat.view_is) (closed g c).told

@@ -9,18 +9,22 @@ use Rattle.share_work.proofs.shares.rows.+chain.Goals as goal
 pub low_and_high-returns-clause-have_low : goal.low_and_high-returns-clause-have_low
 low_and_high-returns-clause-have_low g t c =
     let job = c.args.job.now in
-    let have : OnOk c.join_rows.result (SeatsHave (g.W.Work.holds job.work.now) (g.W.Work.adds job.work.now) job.plan.workers job.plan.cut job.items.now
+    let have : OnOk c.join_rows.result
+      (SeatsHave (g.W.Work.holds job.work.now) (g.W.Work.adds job.work.now) job.plan.workers job.plan.cut job.items.now
     c.args.from c.join_mut-first.new.f.2.now) =
-    OnOk-first c.join_rows.result c.join_mut-first.result.0 c.join_mut-first.result.1 (λ low high rows. rows.items ≡ low.items ++ high.items) _
+    OnOk-first c.join_rows.result c.join_mut-first.result.0 c.join_mut-first.result.1
+      (λ low high rows. rows.items ≡ low.items ++ high.items) _
     c.join_rows.ensures c.join_mut-first.ensures.0.met.1.3 in
     search (rules, have)
 
 pub low_and_high-returns-clause-have_high : goal.low_and_high-returns-clause-have_high
 low_and_high-returns-clause-have_high g t c =
     let job = c.args.job.now in
-    let have : OnOk c.join_rows.result (SeatsHave (g.W.Work.holds job.work.now) (g.W.Work.adds job.work.now) job.plan.workers job.plan.cut job.items.now
+    let have : OnOk c.join_rows.result
+      (SeatsHave (g.W.Work.holds job.work.now) (g.W.Work.adds job.work.now) job.plan.workers job.plan.cut job.items.now
     (c.args.from + length c.args.low.now) c.join_mut-first.new.g.3.now) =
-    OnOk-second c.join_rows.result c.join_mut-first.result.0 c.join_mut-first.result.1 (λ low high rows. rows.items ≡ low.items ++ high.items) _
+    OnOk-second c.join_rows.result c.join_mut-first.result.0 c.join_mut-first.result.1
+      (λ low high rows. rows.items ≡ low.items ++ high.items) _
     c.join_rows.ensures c.join_mut-first.ensures.1.met.1.3 in
     search (rules, have)
 
@@ -31,26 +35,35 @@ low_and_high-returns-clause-rows g t c =
     let from = c.args.from in
     let low = c.args.low.now in
     let high = c.args.high.now in
-    IfOk-both c.join_rows.result c.join_mut-first.result.0 c.join_mut-first.result.1 (λ low high rows. rows.items ≡ low.items ++ high.items)
-    (λ rows. GivesRows gives (λ v. v.items) (λ r. r.items) job.plan.workers job.plan.cut job.items.now from (length low) rows.items)
-    (λ rows. GivesRows gives (λ v. v.items) (λ r. r.items) job.plan.workers job.plan.cut job.items.now (from + length low) (length high) rows.items)
-    (λ rows. GivesRows gives (λ v. v.items) (λ r. r.items) job.plan.workers job.plan.cut job.items.now from (length low + length high) rows.items)
+    IfOk-both c.join_rows.result c.join_mut-first.result.0 c.join_mut-first.result.1
+      (λ low high rows. rows.items ≡ low.items ++ high.items)
+    (λ rows. GivesRows gives (λ v. v.items) (λ r. r.items) job.plan.workers job.plan.cut job.items.now from
+      (length low) rows.items)
+    (λ rows. GivesRows gives (λ v. v.items) (λ r. r.items) job.plan.workers job.plan.cut job.items.now
+      (from + length low) (length high) rows.items)
+    (λ rows. GivesRows gives (λ v. v.items) (λ r. r.items) job.plan.workers job.plan.cut job.items.now from
+      (length low + length high) rows.items)
     c.join_rows.ensures c.join_mut-first.ensures.0.met.1.4 c.join_mut-first.ensures.1.met.1.4
-    (λ ls hs rs is first second. rw is (rows_joined gives (λ v. v.items) (λ r. r.items) job.plan.workers job.plan.cut job.items.now from (length low)
+    (λ ls hs rs is first second. rw is
+      (rows_joined gives (λ v. v.items) (λ r. r.items) job.plan.workers job.plan.cut job.items.now from (length low)
     (from + length low) (length high) ls.items hs.items refl first second))
 
 pub rows_from-returns-clause-gains : goal.rows_from-returns-clause-gains
 rows_from-returns-clause-gains g t c =
     rw c.split_at_mut-low.ensures.value
-    (gains_joined (g.W.Work.holds c.args.job.now.work.now) (g.W.Work.adds c.args.job.now.work.now) c.args.job.now.plan.workers c.args.job.now.plan.cut
-    c.args.job.now.items.now c.args.from _ _ _ _ _ refl c.low_and_high.ensures.gains_low c.low_and_high.ensures.gains_high)
+    (gains_joined (g.W.Work.holds c.args.job.now.work.now)
+      (g.W.Work.adds c.args.job.now.work.now) c.args.job.now.plan.workers c.args.job.now.plan.cut
+    c.args.job.now.items.now c.args.from _ _ _ _ _ refl c.low_and_high.ensures.gains_low
+      c.low_and_high.ensures.gains_high)
 
 pub rows_from-returns-clause-have : goal.rows_from-returns-clause-have
 rows_from-returns-clause-have g t c =
     OnOk-both c.low_and_high.result _ _ _ c.low_and_high.ensures.have_low c.low_and_high.ensures.have_high
-    (λ low high. haves_joined (g.W.Work.holds c.args.job.now.work.now) (g.W.Work.adds c.args.job.now.work.now) c.args.job.now.plan.workers
+    (λ low high. haves_joined (g.W.Work.holds c.args.job.now.work.now)
+      (g.W.Work.adds c.args.job.now.work.now) c.args.job.now.plan.workers
     c.args.job.now.plan.cut c.args.job.now.items.now
-    c.args.from _ c.split_at_mut-low.result.0.now [] c.low_and_high.new.low c.low_and_high.new.high refl (search rules) low high)
+    c.args.from _ c.split_at_mut-low.result.0.now [] c.low_and_high.new.low c.low_and_high.new.high refl
+      (search rules) low high)
 
 pub low_and_high-returns-clause-fit_low : goal.low_and_high-returns-clause-fit_low
 low_and_high-returns-clause-fit_low g t c = let fact = c.join_mut-first.ensures.0.met.1.0 in search (rules, fact)
@@ -77,7 +90,9 @@ pub low_and_high-back-returns : goal.low_and_high-back-returns
 low_and_high-back-returns g t c = let e = c.rows_from.ensures in (e.fit, e.numbers, e.gains, e.have, e.rows)
 
 pub rows_from-returns-clause-fit : goal.rows_from-returns-clause-fit
-rows_from-returns-clause-fit g t c = All-append (g.W.Work.fits c.args.job.now.work.now) _ _ c.low_and_high.ensures.fit_low c.low_and_high.ensures.fit_high
+rows_from-returns-clause-fit g t c =
+    All-append (g.W.Work.fits c.args.job.now.work.now) _ _ c.low_and_high.ensures.fit_low
+    c.low_and_high.ensures.fit_high
 
 pub rows_from-returns-clause-numbers : goal.rows_from-returns-clause-numbers
 rows_from-returns-clause-numbers g t c =
@@ -86,4 +101,5 @@ rows_from-returns-clause-numbers g t c =
 
 pub rows_from-returns-clause-rows : goal.rows_from-returns-clause-rows
 rows_from-returns-clause-rows g t c =
-    rw (c.split_at_mut-low.ensures.value, length-append c.split_at_mut-low.result.0.now c.split_at_mut-low.result.1.now) c.low_and_high.ensures.rows
+    rw (c.split_at_mut-low.ensures.value, length-append c.split_at_mut-low.result.0.now c.split_at_mut-low.result.1.now)
+      c.low_and_high.ensures.rows

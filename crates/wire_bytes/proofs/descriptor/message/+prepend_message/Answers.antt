@@ -7,7 +7,8 @@ use Rattle.wire_bytes.proofs.Parts.{eight_parts}
 use Rattle.wire_bytes.proofs.descriptor.message.+prepend_message.Goals as goal
 
 pub returns : goal.returns
-returns t c = let nested = all_written (λ m. bytes_field 3 (message_desc_bytes m)) _ c.loop-nested.out _ c.in-None.ensures.steps.0 c.loop-nested.invariant in
+returns t c = let nested = all_written (λ m. bytes_field 3 (message_desc_bytes m)) _ c.loop-nested.out _
+    c.in-None.ensures.steps.0 c.loop-nested.invariant in
     IfOk-equal c.prepend_field.result _ _ _ c.prepend_field.ensures
     (rw (
       c.in_ok-prepend_fields-5.ensures,

@@ -7,5 +7,6 @@ use Rattle.wire_format.specs.Field.{bytes_field}
 use Rattle.wire_bytes.proofs.descriptor.message.+prepend_message.Given as goal
 
 abbrev pub invariant-loop-nested : goal.invariant-loop-nested
-invariant-loop-nested l = flat_map (λ m. bytes_field 3 (message_desc_bytes m)) (iter_rest l.nested-iterator.iter) ++ l.out
+invariant-loop-nested l = flat_map (λ m. bytes_field 3 (message_desc_bytes m)) (iter_rest l.nested-iterator.iter)
+    ++ l.out
     ≡ flat_map (λ m. bytes_field 3 (message_desc_bytes m)) (out-MessageDesc l.message).nested ++ l.initial.out

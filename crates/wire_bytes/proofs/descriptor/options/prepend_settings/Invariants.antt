@@ -5,4 +5,5 @@ use Rattle.wire_bytes.specs.Descriptor.{option_bytes}
 use Rattle.wire_bytes.proofs.descriptor.options.prepend_settings.Given as goal
 
 abbrev pub invariant-loop-option : goal.invariant-loop-option
-invariant-loop-option l = flat_map option_bytes (iter_rest l.option-iterator.iter) ++ l.out ≡ flat_map option_bytes l.options ++ l.initial.out
+invariant-loop-option l = flat_map option_bytes (iter_rest l.option-iterator.iter)
+    ++ l.out ≡ flat_map option_bytes l.options ++ l.initial.out
