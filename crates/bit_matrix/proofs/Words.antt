@@ -81,7 +81,7 @@ module _ (bits : Bits) (size : length bits.words ≡ bits.rows * bits.width) (ro
     ]
     | inr apart ↦ (
         let kept : bit_of with_bit row c ≡ bit_of bits row c =
-          ap (λ x. bit_at x (c % 64)) (other_word row c hc (λ w. apart w.1)) in (
+        ap (λ x. bit_at x (c % 64)) (other_word row c hc (λ w. apart w.1)) in (
           λ is. inl (sym kept ∙ is),
           λ w. (elim w [
             | inl old ↦ kept ∙ old

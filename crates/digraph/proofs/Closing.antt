@@ -42,8 +42,10 @@ gathered_none lists nodes marks marked room inside are e = record {
   room = room;
   inside = λ k h. inside (get_or nodes k 0) (Contains-get_or nodes k 0 h);
   are = are;
-  gathered = λ c. (λ w. (let at = subst (λ (xs : List ℕ). Contains xs c) e w in absurd (no_position at.0 at.1)),
-      λ w. absurd (no_position w.1.0 w.1.1));
+  gathered = λ c. (
+    λ w. (let at = subst (λ (xs : List ℕ). Contains xs c) e w in absurd (no_position at.0 at.1)),
+    λ w. absurd (no_position w.1.0 w.1.1),
+  );
 }
 
 first_more : (lists : List (List ℕ)) (nodes : List ℕ) (n c : ℕ)
@@ -72,9 +74,9 @@ gathered_more lists nodes list n marks new marked ys e len are added g =
       are = are;
       gathered = λ c. (
         λ w. first_more lists nodes n c
-          (elim ((added' c).0 w) [ inl old ↦ inl ((g.gathered c).0 old) | inr is ↦ inr is ]),
+            (elim ((added' c).0 w) [ inl old ↦ inl ((g.gathered c).0 old) | inr is ↦ inr is ]),
         λ w. (added' c).1
-          (elim (first_less lists nodes n c w) [ inl old ↦ inl ((g.gathered c).1 old) | inr is ↦ inr is ]),
+            (elim (first_less lists nodes n c w) [ inl old ↦ inl ((g.gathered c).1 old) | inr is ↦ inr is ]),
       );
     }
 
@@ -98,7 +100,7 @@ pub gathered_skip : (lists : List (List ℕ)) (nodes : List ℕ) (n : ℕ) (mark
 gathered_skip lists nodes n marks new marked ys closed h mark new_is ys_is g =
     let below = g.inside n h in
     let found : Contains marked (get_or nodes n 0) =
-      (g.are.same (get_or nodes n 0)).0 (omega (arith, below, g.room), mark) in
+    (g.are.same (get_or nodes n 0)).0 (omega (arith, below, g.room), mark) in
     rw (new_is, ys_is) (record {
       room = g.room;
       inside = g.inside;
@@ -106,16 +108,17 @@ gathered_skip lists nodes n marks new marked ys closed h mark new_is ys_is g =
       gathered = λ c. (
         λ w. first_more lists nodes n c (inl ((g.gathered c).0 w)),
         λ w. skipped lists nodes n marked c closed g.inside (omega arith) g.gathered found
-          (first_less lists nodes n c w),
+            (first_less lists nodes n c w),
       );
     })
 
 pub gathered_all : (lists : List (List ℕ)) (nodes : List ℕ) (n : ℕ) (marks : List Bool) (marked : List ℕ)
     → n ≡ length nodes
     → Gathered lists nodes n marks marked → (c : ℕ) → Contains marked c ↔ InLists lists nodes c
-gathered_all lists nodes n marks marked e g c =
-    (λ w. (let by = (g.gathered c).0 w in (by.0, (among_all nodes n by.0 e).1 by.1, by.2)),
-      λ w. (g.gathered c).1 (w.0, (among_all nodes n w.0 e).0 w.1, w.2))
+gathered_all lists nodes n marks marked e g c = (
+  λ w. (let by = (g.gathered c).0 w in (by.0, (among_all nodes n by.0 e).1 by.1, by.2)),
+  λ w. (g.gathered c).1 (w.0, (among_all nodes n w.0 e).0 w.1, w.2),
+)
 
 -- ---- lists, one after the other
 
@@ -147,8 +150,10 @@ pub union_reach : (g : Graph) (lists : List (List ℕ)) (a : ℕ) (xs : List ℕ
 union_reach g lists a xs falling all u = record {
   rises = u.rises;
   members =
-      λ c. (λ w. union_to g lists a c falling all ((u.members c).0 w),
-      λ r. (u.members c).1 (union_from g lists a c falling all r));
+      λ c. (
+        λ w. union_to g lists a c falling all ((u.members c).0 w),
+        λ r. (u.members c).1 (union_from g lists a c falling all r),
+      );
 }
 
 push_case : (P : ℕ → List ℕ → Type 0) (lists : List (List ℕ)) (xs : List ℕ) (n : ℕ) → length lists ≡ n
@@ -166,7 +171,7 @@ pub each_push : (P : ℕ → List ℕ → Type 0) (lists new : List (List ℕ)) 
     → ((a : ℕ) → a < n → P a (get_or lists a [])) → P n xs → (a : ℕ) → a < n + 1 → P a (get_or new a [])
 each_push P lists new xs n e len all last a h =
     subst (λ (ls : List (List ℕ)). P a (get_or ls a [])) (sym e)
-      (push_case P lists xs n len all last a h (cases_lt a n))
+    (push_case P lists xs n len all last a h (cases_lt a n))
 
 pub length_push : (lists new : List (List ℕ)) (xs : List ℕ) (n : ℕ) → new ≡ lists ++ xs ∷ [] → length lists ≡ n
     → length new ≡ n + 1
@@ -196,7 +201,7 @@ union_sorted lists nodes a gathered found sorted g added once moved up = record 
       (IsDistinct-IsPermutation eqb nat_eq_equiv.symm found sorted moved once);
   members = λ c. (
     λ w. union_members_to lists nodes a c gathered g
-      ((added c).0 (Contains-permutation sorted found c (IsPermutation-sym found sorted moved) w)),
+        ((added c).0 (Contains-permutation sorted found c (IsPermutation-sym found sorted moved) w)),
     λ w. Contains-permutation found sorted c moved ((added c).1 (union_members_from lists nodes a c gathered g w)),
   );
 }
@@ -210,7 +215,7 @@ one_member_from : (lists : List (List ℕ)) (b a c : ℕ) → InLists lists (b �
     → Contains (get_or lists b [] ++ a ∷ []) c
 one_member_from lists b a c (inl (d, w, v)) =
     Contains-append_left (get_or lists b []) (a ∷ []) c
-      (subst (λ (x : ℕ). Contains (get_or lists x []) c) (sym (one_only b d w)) v)
+    (subst (λ (x : ℕ). Contains (get_or lists x []) c) (sym (one_only b d w)) v)
 one_member_from lists b a c (inr e) = Contains-append_right (get_or lists b []) (a ∷ []) c (0, lit< tt, e)
 
 pub one_long : (xs : List ℕ) → 1 ≤ length xs → length xs < 2 → xs ≡ get_or xs 0 0 ∷ []

@@ -110,7 +110,7 @@ module _ (old pushed set new : Bits) (label : ℕ) (others : List ℕ) (hlabel :
   set_same : (a k : ℕ) → a < old.rows → k < columns_of old → has set a k ≡ has old a k
   set_same a k ha hk =
       inserted.kept a k (omega (arith, ha, longer.rows)) (pushed_columns k hk) (λ same. omega (arith, same, ha))
-        ∙ longer.kept a k ha hk
+      ∙ longer.kept a k ha hk
 
   new_bit : (k : ℕ) → k < columns_of old → Has new old.rows k → (label ≡ k) ⊎ InRows old others k
   new_bit k hk w = elim ((joined.bits k (set_columns k hk)).0 w) [
@@ -177,7 +177,7 @@ module _ (g : Graph) (labels : List ℕ) (n : ℕ) (old new : Bits) (falls : IsF
   member a k ha hk = elim (cases_lt a n) [
     | inl before ↦
         let same =
-          same_bit old new a k (pushed.kept a k (subst (λ r. a < r) (sym is.rows) before) (columns_same k hk)) in
+        same_bit old new a k (pushed.kept a k (subst (λ r. a < r) (sym is.rows) before) (columns_same k hk)) in
         let old_is = is.members a k before (columns_same k hk) in (λ w. old_is.0 (same.0 w), λ v. same.1 (old_is.1 v))
     | inr last ↦ let at : n ≡ a = omega (arith, last, ha) in
         subst (λ x. Has new x k ↔ LeadsToLabel g labels x k) at (own_to k hk, own_from k hk)
@@ -235,7 +235,7 @@ module _ (g : Graph) (old : Bits) (n : ℕ) (now new : Bits) (falls : IsFalling 
   first_from k hk (inr (b, edge, v)) =
       let less = falls n b edge in
       (joined.bits k (succeeding_columns k hk)).1
-        (inr (b, edge, is.before b k (omega (arith, less)) (omega (arith, less, h)) hk ∙ v))
+      (inr (b, edge, is.before b k (omega (arith, less)) (omega (arith, less, h)) hk ∙ v))
 
   rest : (a k : ℕ) → (a ≡ n → ⊥) → a < old.rows → k < columns_of old → has new a k ≡ has now a k
   rest a k other ha hk = joined.kept a k (rows_below a ha) (succeeding_columns k hk) other
@@ -245,7 +245,7 @@ module _ (g : Graph) (old : Bits) (n : ℕ) (now new : Bits) (falls : IsFalling 
   succeeding_member a k from ha hk = elim (cases_eq a n) [
     | inl at ↦
         subst (λ x. Has new x k ↔ (Has old x k ⊎ ((b : ℕ) × Edge g x b × Has old b k))) (sym at)
-          (first_to k hk, first_from k hk)
+        (first_to k hk, first_from k hk)
     | inr other ↦
         let same = same_bit now new a k (rest a k other ha hk) in
         let old_is = is.members a k (omega (arith, from, other)) ha hk in

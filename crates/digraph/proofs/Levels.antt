@@ -196,9 +196,9 @@ ordered_case : (g : Graph) (s t : Stage) → Levels g s → Round g s t → (k :
 ordered_case g s t l r k h (inl inside) near =
     let at : k < length s.order = omega arith in
     let first = kept g s t l r (get_or s.order k 0)
-      ((l.known (get_or s.order k 0)).1 (Contains-get_or s.order k 0 at)) in
+    ((l.known (get_or s.order k 0)).1 (Contains-get_or s.order k 0 at)) in
     let second = kept g s t l r (get_or s.order (k + 1) 0)
-      ((l.known (get_or s.order (k + 1) 0)).1 (Contains-get_or s.order (k + 1) 0 inside)) in
+    ((l.known (get_or s.order (k + 1) 0)).1 (Contains-get_or s.order (k + 1) 0 inside)) in
     rw (order_left s.order s.ready k at, order_left s.order s.ready (k + 1) inside)
     (before_same s.ranks t.ranks (get_or s.order k 0) (get_or s.order (k + 1) 0) first second (l.ordered k inside))
 ordered_case g s t l r k h (inr over) (inl at) =
@@ -207,16 +207,16 @@ ordered_case g s t l r k h (inr over) (inl at) =
     let small = l.below (get_or s.order k 0) mark in
     let position : k + 1 - length s.order < length s.ready = omega arith in
     let rank = r.ranked (get_or s.ready (k + 1 - length s.order) 0)
-      (Contains-get_or s.ready (k + 1 - length s.order) 0 position) in
+    (Contains-get_or s.ready (k + 1 - length s.order) 0 position) in
     rw (order_left s.order s.ready k at, order_right s.order s.ready (k + 1) over)
-      (inl (omega (arith, same, small, rank)))
+    (inl (omega (arith, same, small, rank)))
 ordered_case g s t l r k h (inr over) (inr at) =
     let position : k - length s.order + 1 < length s.ready = omega arith in
     let next : k + 1 - length s.order ≡ k - length s.order + 1 = omega arith in
     let first = r.ranked (get_or s.ready (k - length s.order) 0)
-      (Contains-get_or s.ready (k - length s.order) 0 (omega arith)) in
+    (Contains-get_or s.ready (k - length s.order) 0 (omega arith)) in
     let second = r.ranked (get_or s.ready (k - length s.order + 1) 0)
-      (Contains-get_or s.ready (k - length s.order + 1) 0 position) in
+    (Contains-get_or s.ready (k - length s.order + 1) 0 position) in
     rw (order_right s.order s.ready k at, order_right s.order s.ready (k + 1) over ∙ ap (λ j. get_or s.ready j 0) next)
     (inr (first ∙ sym second, l.rises (k - length s.order) position))
 
@@ -224,10 +224,10 @@ ordered_next : (g : Graph) (s t : Stage) → Levels g s → Round g s t → (k :
     → IsBefore t.ranks (get_or t.order k 0) (get_or t.order (k + 1) 0)
 ordered_next g s t l r k h =
     let long : length t.order ≡ length s.order + length s.ready =
-      ap length r.appended ∙ length-append s.order s.ready in
+    ap length r.appended ∙ length-append s.order s.ready in
     subst (λ (xs : List ℕ). IsBefore t.ranks (get_or xs k 0) (get_or xs (k + 1) 0)) (sym r.appended)
     (ordered_case g s t l r k (omega (arith, h, long)) (cases_lt (k + 1) (length s.order))
-      (cases_lt k (length s.order)))
+    (cases_lt k (length s.order)))
 
 known_to : (g : Graph) (s t : Stage) → Levels g s → Round g s t → (a : ℕ) → IsMarked s.marks a ⊎ Contains s.ready a
     → Contains t.order a
@@ -240,9 +240,9 @@ known_from : (g : Graph) (s t : Stage) → Levels g s → Round g s t → (a : �
     → IsMarked s.marks a ⊎ Contains s.ready a
 known_from g s t l r a w =
     elim (Contains-append_cases s.order s.ready a (subst (λ (xs : List ℕ). Contains xs a) r.appended w)) [
-  | inl old ↦ inl ((l.known a).1 old)
-  | inr ready ↦ inr ready
-]
+      | inl old ↦ inl ((l.known a).1 old)
+      | inr ready ↦ inr ready
+    ]
 
 pub levels_next : (g : Graph) (s t : Stage) → Levels g s → Round g s t → Levels g t
 levels_next g s t l r = record {
@@ -273,9 +273,9 @@ before_by : (g : Graph) (s : Stage) → Levels g s → (i d : ℕ) → i + suc d
 before_by g s l i zero h = l.ordered i h
 before_by g s l i (suc d) h =
     before_trans s.ranks (get_or s.order i 0) (get_or s.order (i + suc d) 0) (get_or s.order (i + suc (suc d)) 0)
-      (before_by g s l i d (omega arith))
+    (before_by g s l i d (omega arith))
     (subst (λ j. IsBefore s.ranks (get_or s.order (i + suc d) 0) (get_or s.order j 0)) (omega arith)
-      (l.ordered (i + suc d) (omega arith)))
+    (l.ordered (i + suc d) (omega arith)))
 
 apart : (g : Graph) (s : Stage) → Levels g s → (i j d : ℕ) → i < j → j < length s.order
     → eqb (get_or s.order i d) (get_or s.order j d) ≡ false
@@ -283,7 +283,7 @@ apart g s l i j d less inside =
     let split : i + suc (j - i - 1) ≡ j = omega arith in
     let before : IsBefore s.ranks (get_or s.order i 0) (get_or s.order j 0) =
     subst (λ k. IsBefore s.ranks (get_or s.order i 0) (get_or s.order k 0)) split
-      (before_by g s l i (j - i - 1) (omega arith)) in
+    (before_by g s l i (j - i - 1) (omega arith)) in
     let first : get_or s.order i d ≡ get_or s.order i 0 = default_same s.order i d 0 (omega arith) in
     let second : get_or s.order j d ≡ get_or s.order j 0 = default_same s.order j d 0 inside in
     ne_eqb (get_or s.order i d) (get_or s.order j d)
@@ -368,9 +368,9 @@ pub levels_stuck : (g : Graph) (s : Stage) → IsWithin g (length g) → Levels 
     → length s.order < length g → HasNoCycle g → ⊥
 levels_stuck g s within l none short acyclic =
     let free = none_stuck g (length g) (λ a. (a < length g) × (IsMarked s.marks a → ⊥))
-      (stuck_at g s within l none) acyclic in
+    (stuck_at g s within l none) acyclic in
     let long = le-length_from_below s.order (length g)
-      (λ q h. list_any-from_Contains nat_eq_equiv q s.order ((l.known q).0 (elim (mark_cases s.marks q) [
+    (λ q h. list_any-from_Contains nat_eq_equiv q s.order ((l.known q).0 (elim (mark_cases s.marks q) [
       | inl m ↦ m
       | inr out ↦ absurd (free q (h, out))
     ]))) in
@@ -389,7 +389,7 @@ pub round_of : (g : Graph) (s t : Stage) (old_marks seen : List Bool) (old_ranks
     → IsStrictlyIncreasing t.ready
     → ((a : ℕ) → Contains t.ready a ↔ (GoesInto g settled a × AllMarked g seen a)) → Round g s t
 round_of g s t old_marks seen old_ranks nodes new settled em es er en ew et next some appended marks_size ranks_size
-  marked ranked others passed rises
+    marked ranked others passed rises
     members = record {
       next = next;
       some = some;
@@ -405,5 +405,5 @@ round_of g s t old_marks seen old_ranks nodes new settled em es er en ew et next
       rises = rises;
       members = subst (λ (xs : List ℕ). (a : ℕ) → Contains t.ready a ↔ (GoesInto g xs a × AllMarked g t.marks a)) et
           (subst (λ (m : List Bool). (a : ℕ) → Contains t.ready a ↔ (GoesInto g settled a × AllMarked g m a)) es
-            members);
+          members);
     }

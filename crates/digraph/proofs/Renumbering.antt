@@ -30,7 +30,7 @@ before_by ranks order o i zero h = o.rises i h
 before_by ranks order o i (suc d) h =
     let first = before_by ranks order o i d (omega arith) in
     let step : IsBefore ranks (node_at order (i + suc d)) (node_at order (i + suc d + 1)) =
-      o.rises (i + suc d) (omega arith) in
+    o.rises (i + suc d) (omega arith) in
     let at : i + suc d + 1 ≡ i + suc (suc d) = omega arith in
     subst (λ k. IsBefore ranks (node_at order i) (node_at order k)) at
     (before_trans ranks (node_at order i) (node_at order (i + suc d)) (node_at order (i + suc d + 1)) first step)
@@ -40,7 +40,7 @@ pub before_far : (ranks order : List ℕ) → IsRankOrder ranks order → (i j :
 before_far ranks order o i j h inside =
     let split : i + suc (j - i - 1) ≡ j = omega arith in
     subst (λ k. IsBefore ranks (node_at order i) (node_at order k)) split
-      (before_by ranks order o i (j - i - 1) (omega arith))
+    (before_by ranks order o i (j - i - 1) (omega arith))
 
 before_differs : (ranks : List ℕ) (a b : ℕ) → IsBefore ranks a b → a ≢ b
 before_differs ranks a b (inl less) e = let same = ap (rank_in ranks) e in omega (arith, less, same)
@@ -89,7 +89,7 @@ placed_all ranks order n positions o h p = record {
   node = λ a below. (
       let at = (among_all order (length order) a refl).0 ((o.whole a).1 (omega (arith, below, o.size))) in
       let same : get_or positions a 0 ≡ at.0 = ap (λ i. get_or positions i 0) (sym at.2)
-        ∙ p.placed at.0 (omega (arith, at.1, h)) in
+      ∙ p.placed at.0 (omega (arith, at.1, h)) in
       (omega (arith, same, at.1), ap (node_at order) same ∙ at.2));
 }
 
@@ -104,14 +104,14 @@ map_members f xs j = (
   λ w. (let at = (among_all xs (length xs) w.0 refl).0 w.1 in
       let len : length (map f xs) ≡ length xs = grind (arith, common_steps) in
       (among_all (map f xs) (length (map f xs)) j refl).1
-        (at.0, omega (arith, at.1, len), get_or-map f xs at.0 0 0 at.1 ∙ ap f at.2 ∙ w.2)),
+      (at.0, omega (arith, at.1, len), get_or-map f xs at.0 0 0 at.1 ∙ ap f at.2 ∙ w.2)),
 )
 
 pub positions_members : (positions nodes row : List ℕ) → row ≡ map (λ b. get_or positions b 0) nodes → (j : ℕ)
     → Contains row j ↔ HasPosition positions nodes j
 positions_members positions nodes row e j =
     subst (λ (xs : List ℕ). Contains xs j ↔ HasPosition positions nodes j) (sym e)
-      (map_members (λ b. get_or positions b 0) nodes j)
+    (map_members (λ b. get_or positions b 0) nodes j)
 
 -- rows of the first n positions
 pub record Rowed (g : Graph) (order positions : List ℕ) (n : ℕ) (rows : Graph) : Type 0 where
@@ -147,14 +147,14 @@ rowed_more g order positions n rows new row nodes e is members r =
     let push : (k j : ℕ) → Edge new k j ↔ (Edge rows k j ⊎ ((k ≡ n) × Contains row j)) =
     λ k j. subst (λ (h : Graph). Edge h k j ↔ (Edge rows k j ⊎ ((k ≡ n) × Contains row j))) (sym e)
     (subst (λ m. Edge (rows ++ row ∷ []) k j ↔ (Edge rows k j ⊎ ((k ≡ m) × Contains row j))) r.size
-      (edge_push rows row k j)) in
+    (edge_push rows row k j)) in
     record {
       size = (let more : length (rows ++ row ∷ []) ≡ length rows + 1 = grind (arith, common_steps) in
           ap length e ∙ more ∙ omega (arith, r.size));
       rowed = λ k j. (
         λ edge. rowed_to g order positions n k j (Edge rows k j) row (r.rowed k j).0 (members' j).0 ((push k j).0 edge),
         λ w. (push k j).1 (rowed_from g order positions n k j (Edge rows k j) row (r.rowed k j).1 (members' j).1
-          (cases_lt k n) w),
+            (cases_lt k n) w),
       );
     }
 
@@ -201,7 +201,7 @@ renumbered_falls g h ranks order rows ranked o sub r k j edge =
     let hk : k < length order = (let below = edge_below rows k j edge in omega (arith, below, r.size)) in
     let hj = r.within k j edge in
     let less = ranked.above (node_at order k) (node_at order j)
-      (sub (node_at order k) (node_at order j) ((r.edges k j hk hj).0 edge)) in
+    (sub (node_at order k) (node_at order j) ((r.edges k j hk hj).0 edge)) in
     falls_case ranks order k j o hk less (cases_lt j k) hj
 
 -- ways between positions are ways between nodes
@@ -212,7 +212,7 @@ ways_to g order rows r j _ here = here
 ways_to g order rows r j _ (through k i edge more) =
     let hk : k < length order = (let below = edge_below rows k i edge in omega (arith, below, r.size)) in
     through (node_at order k) (node_at order i) ((r.edges k i hk (r.within k i edge)).0 edge)
-      (ways_to g order rows r j i more)
+    (ways_to g order rows r j i more)
 
 pub ways_from : (g : Graph) (order positions : List ℕ) (rows : Graph) → ArePositions order positions
     → length g ≡ length order → IsWithin g (length g)
@@ -226,7 +226,7 @@ ways_from g order positions rows p len within r c _ h (through a b edge more) =
     let edge' : Edge g (node_at order (get_or positions a 0)) (node_at order (get_or positions b 0)) =
     subst (λ x. Edge g x (node_at order (get_or positions b 0))) (sym pa.1) (subst (Edge g a) (sym pb.1) edge) in
     through (get_or positions a 0) (get_or positions b 0)
-      ((r.edges (get_or positions a 0) (get_or positions b 0) pa.0 pb.0).1 edge')
+    ((r.edges (get_or positions a 0) (get_or positions b 0) pa.0 pb.0).1 edge')
     (ways_from g order positions rows p len within r c b hb more)
 
 pub members_moved : (positions nodes row sorted turned : List ℕ) → IsPermutation row sorted

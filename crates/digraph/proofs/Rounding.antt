@@ -107,7 +107,7 @@ ranked_case nodes rank n ranks c h old (inl same) w =
     ap (λ i. get_or (set ranks (get_or nodes n 0) rank) i 0) same ∙ get_or-set_same ranks (get_or nodes n 0) rank 0 h
 ranked_case nodes rank n ranks c h old (inr other) w =
     get_or-set_other ranks (get_or nodes n 0) c rank 0 other
-      ∙ elim ((among_more nodes n c).0 w) [ inl more ↦ old c more | inr is ↦ absurd (other (sym is)) ]
+    ∙ elim ((among_more nodes n c).0 w) [ inl more ↦ old c more | inr is ↦ absurd (other (sym is)) ]
 
 others_case : (nodes : List ℕ) (rank n : ℕ) (ranks before : List ℕ) (c : ℕ)
     → ((c : ℕ) → (Among nodes n c → ⊥) → rank_in ranks c ≡ rank_in before c)
@@ -153,8 +153,10 @@ pub passed_none : (g : Graph) (marks : List Bool) (passed : List ℕ) → length
     → ((a : ℕ) → get_or passed a 0 ≡ 0) → ArePassed g marks passed
 passed_none g marks passed size zeros = record {
   size = size;
-  each = λ a. record { inside = omega (arith, zeros a);
-      prefix = λ k h. absurd (no_position k (omega (arith, h, zeros a))) };
+  each = λ a. record {
+    inside = omega (arith, zeros a);
+    prefix = λ k h. absurd (no_position k (omega (arith, h, zeros a)));
+  };
 }
 
 -- marks that are added take nothing away
@@ -163,8 +165,10 @@ pub passed_grows : (g : Graph) (marks new : List Bool) (passed : List ℕ) → (
     → ArePassed g new passed
 passed_grows g marks new passed f p = record {
   size = p.size;
-  each = λ a. record { inside = (p.each a).inside;
-      prefix = λ k h. f (get_or (successors g a) k 0) ((p.each a).prefix k h) };
+  each = λ a. record {
+    inside = (p.each a).inside;
+    prefix = λ k h. f (get_or (successors g a) k 0) ((p.each a).prefix k h);
+  };
 }
 
 set_case : (g : Graph) (marks : List Bool) (passed : List ℕ) (p n a : ℕ) → p < length passed
@@ -234,8 +238,10 @@ later_to : (g : Graph) (marks : List Bool) (nodes : List ℕ) (n a : ℕ) → (A
     → Among nodes (n + 1) a × AllMarked g marks a
     → Among nodes n a × AllMarked g marks a
 later_to g marks nodes n a part (w, m) =
-    elim ((among_more nodes n a).0 w) [ inl more ↦ (more, m)
-      | inr is ↦ absurd (part (subst (AllMarked g marks) (sym is) m)) ]
+    elim ((among_more nodes n a).0 w) [
+      | inl more ↦ (more, m)
+      | inr is ↦ absurd (part (subst (AllMarked g marks) (sym is) m))
+    ]
 
 pub appending_skip : (g : Graph) (marks : List Bool) (nodes old : List ℕ) (n k : ℕ) (passed new ready ys : List ℕ)
     → n < length nodes
@@ -247,8 +253,10 @@ appending_skip g marks nodes old n k passed new ready ys h row part new_is ys_is
     rw (new_is, ys_is) (record {
       room = λ j inside. (let room = v.room j inside in omega (arith, room, length-set passed p k));
       are = passed_set g marks passed p k (v.room n h) row v.are;
-      added = λ a. joined_end (v.added a) (later_to g marks nodes n a part,
-          λ w. ((among_more nodes n a).1 (inl w.0), w.1));
+      added = λ a. joined_end (v.added a) (
+        later_to g marks nodes n a part,
+        λ w. ((among_more nodes n a).1 (inl w.0), w.1),
+      );
     })
 
 pub appending_all : (g : Graph) (marks : List Bool) (nodes old : List ℕ) (n : ℕ) (passed ready : List ℕ)
@@ -300,7 +308,7 @@ collecting_more g turned marks nodes row n passed new ready ys back e are added 
     let p = get_or nodes n 0 in
     let step : (a : ℕ) → Contains ys a ↔ (Contains ready a ⊎ (Edge turned p a × AllMarked g marks a)) =
     subst (λ (xs : List ℕ). (a : ℕ) → Contains ys a ↔ (Contains ready a ⊎ (Contains xs a × AllMarked g marks a))) e
-      added in
+    added in
     record {
       are = are;
       found = λ a. (
@@ -340,8 +348,11 @@ pub record Leaves (g : Graph) (n : ℕ) (leaves : List ℕ) : Type 0 where
 
 pub leaves_none : (g : Graph) (leaves : List ℕ) → leaves ≡ [] → Leaves g 0 leaves
 leaves_none g leaves e =
-    rw e (record { rises = rises_none; members =
-    λ a. (λ w. absurd (no_position w.0 w.1), λ w. absurd (no_position a w.0)) })
+    rw e (record {
+      rises = rises_none;
+      members =
+          λ a. (λ w. absurd (no_position w.0 w.1), λ w. absurd (no_position a w.0));
+    })
 
 leaf_to : (g : Graph) (n a : ℕ) → IsLeaf g n → ((a < n) × IsLeaf g a) ⊎ (n ≡ a) → (a < n + 1) × IsLeaf g a
 leaf_to g n a leaf (inl (h, w)) = (omega arith, w)
@@ -357,9 +368,9 @@ leaves_push g n leaves ys leaf e v = rw e (record {
   rises = rises_push leaves n v.rises (λ a w. ((v.members a).0 w).0);
   members = λ a. (
     λ w. leaf_to g n a leaf
-      (elim ((push_iff leaves n a).0 w) [ inl old ↦ inl ((v.members a).0 old) | inr is ↦ inr is ]),
+        (elim ((push_iff leaves n a).0 w) [ inl old ↦ inl ((v.members a).0 old) | inr is ↦ inr is ]),
     λ w. (push_iff leaves n a).1
-      (elim (below_cases n a w.0 (cases_lt a n)) [ inl less ↦ inl ((v.members a).1 (less, w.1)) | inr is ↦ inr is ]),
+        (elim (below_cases n a w.0 (cases_lt a n)) [ inl less ↦ inl ((v.members a).1 (less, w.1)) | inr is ↦ inr is ]),
   );
 })
 
@@ -370,7 +381,9 @@ leaves_skip g n leaves ys inner e v = rw e (record {
   members = λ a. (
     λ w. (let old = (v.members a).0 w in (omega (arith, old.0), old.1)),
     λ w. (v.members a).1
-      (elim (below_cases n a w.0 (cases_lt a n)) [ inl less ↦ (less, w.1)
-      | inr is ↦ absurd (inner (subst (IsLeaf g) (sym is) w.1)) ]),
+        (elim (below_cases n a w.0 (cases_lt a n)) [
+          | inl less ↦ (less, w.1)
+          | inr is ↦ absurd (inner (subst (IsLeaf g) (sym is) w.1))
+        ]),
   );
 })

@@ -91,7 +91,7 @@ empties_push rows new n v e items old = rw e (record {
       omega (arith, len, old.size));
   empty =
       λ a b edge. one_empty rows v items old.empty a b
-        ((edge_push (graph_of rows) v.items a b).0 (subst (λ (g : Graph). Edge g a b) (graph_push rows v) edge));
+      ((edge_push (graph_of rows) v.items a b).0 (subst (λ (g : Graph). Edge g a b) (graph_push rows v) edge));
 })
 
 -- ---- a row gets one node more
@@ -101,7 +101,7 @@ set_same : (g : Graph) (s node b a : ℕ) → s < length g → b ≡ s → Edge 
 set_same g s node b a h same =
     let row : successors (set g s (successors g s ++ node ∷ [])) b ≡ successors g b ++ node ∷ [] =
     ap (λ i. get_or (set g s (successors g s ++ node ∷ [])) i []) same
-      ∙ get_or-set_same g s (successors g s ++ node ∷ []) [] h
+    ∙ get_or-set_same g s (successors g s ++ node ∷ []) [] h
     ∙ ap (λ i. successors g i ++ node ∷ []) (sym same) in (
       λ edge. (elim (Contains-push_cases (successors g b) node a (subst (λ (ys : List ℕ). Contains ys a) row edge)) [
         | inl old ↦ inl old
@@ -119,7 +119,7 @@ set_other : (g : Graph) (s node b a : ℕ) → b ≢ s → Edge (set g s (succes
     ↔ (Edge g b a ⊎ ((b ≡ s) × (node ≡ a)))
 set_other g s node b a other =
     let row : successors (set g s (successors g s ++ node ∷ [])) b ≡ successors g b =
-      get_or-set_other g s b (successors g s ++ node ∷ []) [] other in (
+    get_or-set_other g s b (successors g s ++ node ∷ []) [] other in (
       λ edge. inl (subst (λ (ys : List ℕ). Contains ys a) row edge),
       λ w. subst (λ (ys : List ℕ). Contains ys a) (sym row) (elim w [ inl old ↦ old | inr is ↦ absurd (other is.0) ]),
     )
@@ -231,7 +231,7 @@ pub turned_more : (g : Graph) (n : ℕ) (rows new : List (Vec ℕ Global)) (node
 turned_more g n rows new nodes e len step t =
     let step' : (b a : ℕ) → Edge (graph_of new) b a ↔ (Edge (graph_of rows) b a ⊎ ((a ≡ n) × Edge g n b)) =
     subst (λ (xs : List ℕ). (b a : ℕ) → Edge (graph_of new) b a
-      ↔ (Edge (graph_of rows) b a ⊎ ((a ≡ n) × Contains xs b))) e step in
+    ↔ (Edge (graph_of rows) b a ⊎ ((a ≡ n) × Contains xs b))) e step in
     record {
       size = len ∙ t.size;
       edges = λ b a. (
@@ -242,9 +242,11 @@ turned_more g n rows new nodes e len step t =
 
 pub turned_all : (g : Graph) (n : ℕ) (rows : List (Vec ℕ Global)) → length g ≤ n → Turned g n rows → (b a : ℕ)
     → Edge (graph_of rows) b a ↔ Edge g a b
-turned_all g n rows h t b a =
-    (λ edge. ((t.edges b a).0 edge).1, λ edge. (t.edges b a).1
-    ((let below = edge_below g a b edge in omega (arith, below)), edge))
+turned_all g n rows h t b a = (
+  λ edge. ((t.edges b a).0 edge).1,
+  λ edge. (t.edges b a).1
+      ((let below = edge_below g a b edge in omega (arith, below)), edge),
+)
 
 -- what is written to all of a list replaces it
 pub written : {X : Type 0} (new items : List X) (n : ℕ) → n ≡ length items → length new ≡ length items

@@ -41,7 +41,7 @@ pub found_short : (g : Graph) (n start : ℕ) (marks : List Bool) (found : List 
     → Searching g n start marks found next → length found ≤ n
 found_short g n start marks found next r =
     length-le_from_distinct_below found n r.are.once
-      (λ q e. (let inside = ((r.are.same q).1 (Contains-from_any (λ a b h. eqb-true a b h) q found e)).0 in
+    (λ q e. (let inside = ((r.are.same q).1 (Contains-from_any (λ a b h. eqb-true a b h) q found e)).0 in
     omega (arith, inside, r.room)))
 
 pub one_only : (s c : ℕ) → Contains (s ∷ []) c → s ≡ c
@@ -76,13 +76,13 @@ next_done : (g : Graph) (next k b : ℕ) (found new : List ℕ) → next < lengt
     → (k < next) ⊎ (next ≤ k) → k < next + 1 → Edge g (get_or new k 0) b → Contains new b
 next_done g next k b found new h prefix add done (inl old) below w =
     let same : get_or new k 0 ≡ get_or found k 0 = ap (λ xs. get_or xs k 0) prefix.1
-      ∙ get_or-append found prefix.0 0 k (omega arith) in
+    ∙ get_or-append found prefix.0 0 k (omega arith) in
     add b (inl (done k b old (subst (λ (x : ℕ). Edge g x b) same w)))
 next_done g next k b found new h prefix add done (inr last) below w =
     let at : k ≡ next = omega arith in
     let same : get_or new k 0 ≡ get_or found next 0 =
     ap (λ xs. get_or xs k 0) prefix.1 ∙ get_or-append found prefix.0 0 k (omega arith)
-      ∙ ap (λ i. get_or found i 0) at in
+    ∙ ap (λ i. get_or found i 0) at in
     add b (inr (subst (λ (x : ℕ). Edge g x b) same w))
 
 pub searching_next : (g : Graph) (n start : ℕ) (marks new : List Bool) (found ys xs : List ℕ) (next : ℕ)
@@ -110,7 +110,7 @@ closed g found next c h done _ here w = w
 closed g found next c h done _ (through a b edge more) w =
     let at = (among_all found (length found) a refl).0 w in
     closed g found next c h done b more
-      (done at.0 b (omega (arith, at.1)) (subst (λ (x : ℕ). Edge g x b) (sym at.2) edge))
+    (done at.0 b (omega (arith, at.1)) (subst (λ (x : ℕ). Edge g x b) (sym at.2) edge))
 
 pub searching_all : (g : Graph) (n start : ℕ) (marks : List Bool) (found : List ℕ) (next : ℕ) → length found ≤ next
     → Searching g n start marks found next

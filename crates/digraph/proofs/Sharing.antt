@@ -74,7 +74,7 @@ list_at items rs lists k r e at h =
     let size : length (ranges_of items rs) ≡ length rs = grind (arith, common_steps) in
     let same = ap length e in
     ap (range_of items) at ∙ sym (get_or-map (range_of items) rs k r [] (omega (arith, h, size, same)))
-      ∙ ap (λ ls. get_or ls k []) e
+    ∙ ap (λ ls. get_or ls k []) e
 
 pub range_inside : (items : List ℕ) (rs : List (ℕ × ℕ)) (lists : List (List ℕ)) (k : ℕ) (r : ℕ × ℕ)
     → ranges_of items rs ≡ lists → r ≡ get_or rs k r

@@ -26,8 +26,10 @@ IsStuck g n R = (a : ℕ) → R a → (a < n) × (b : ℕ) × Edge g a b × R b
 any_all : (P : ℕ → Type 0) (q : ℕ) (xs : List ℕ) → AllByRecursion P xs → list_any (eqb q) xs ≡ true → P q
 any_all P q [] h e = absurd (false≢true e)
 any_all P q (x ∷ xs) h e =
-    elim (or_cases (eqb q x) (list_any (eqb q) xs) e) [ inl same ↦ subst P (sym (eqb-true q x same)) h.0
-      | inr rest ↦ any_all P q xs h.1 rest ]
+    elim (or_cases (eqb q x) (list_any (eqb q) xs) e) [
+      | inl same ↦ subst P (sym (eqb-true q x same)) h.0
+      | inr rest ↦ any_all P q xs h.1 rest
+    ]
 
 -- distinct numbers below n that all reach the head
 record Path (g : Graph) (n : ℕ) (R : ℕ → Type 0) (head : ℕ) (xs : List ℕ) : Type 0 where
@@ -41,20 +43,30 @@ longer : (g : Graph) (n : ℕ) (R : ℕ → Type 0) → HasNoCycle g → (head b
     → Path g n R b (b ∷ xs)
 longer g n R acyclic head b xs edge rb under path = record {
   first = rb;
-  reach =
-      (here, all_map (λ x. Leads (Edge g) head x) (λ x. Leads (Edge g) b x)
-        (λ x r. leads_trans (Edge g) head b x r (through head b edge here)) xs path.reach);
+  reach = (
+    here,
+    all_map (λ x. Leads (Edge g) head x) (λ x. Leads (Edge g) b x)
+        (λ x r. leads_trans (Edge g) head b x r (through head b edge here)) xs path.reach,
+  );
   below = (under, path.below);
   distinct = IsDistinct-cons eqb b xs (all_map (λ x. Leads (Edge g) head x) (λ x. eqb b x ≡ false)
       (λ x r. ne_eqb b x (λ e. acyclic head b edge (subst (Leads (Edge g) head) (sym e) r))) xs path.reach)
-        path.distinct;
+      path.distinct;
 }
 
 walk : (g : Graph) (n : ℕ) (R : ℕ → Type 0) → IsStuck g n R → HasNoCycle g → (a : ℕ) → R a → (k : ℕ)
     → (head : ℕ) × (xs : List ℕ) × Path g n R head xs × (length xs ≡ suc k)
-walk g n R stuck acyclic a ra zero =
-    (a, a ∷ [], record { first = ra; reach = (here, tt); below = ((stuck a ra).0, tt);
-      distinct = IsDistinct-cons eqb a [] tt IsDistinct_none }, refl)
+walk g n R stuck acyclic a ra zero = (
+  a,
+  a ∷ [],
+  record {
+    first = ra;
+    reach = (here, tt);
+    below = ((stuck a ra).0, tt);
+    distinct = IsDistinct-cons eqb a [] tt IsDistinct_none;
+  },
+  refl,
+)
 walk g n R stuck acyclic a ra (suc k) =
     let w = walk g n R stuck acyclic a ra k in
     let step = stuck w.0 w.2.first in

@@ -135,7 +135,7 @@ cleared_other : (nodes : List ℕ) (n : ℕ) (marks : List Bool) (c : ℕ) → C
     → Contains nodes c × (Among nodes (n + 1) c → ⊥)
 cleared_other nodes n marks c v (inl same) h (below, t) =
     absurd (true≢false (sym t ∙ ap (λ i. get_or (set marks (get_or nodes n 0) false) i false) same
-      ∙ get_or-set_same marks (get_or nodes n 0) false false h))
+    ∙ get_or-set_same marks (get_or nodes n 0) false false h))
 cleared_other nodes n marks c v (inr other) h (below, t) =
     let p = get_or nodes n 0 in
     let under : c < length marks = omega (arith, below, length-set marks p false) in

@@ -72,7 +72,7 @@ module _ (files : ℕ) (list : ℕ → List ℕ)
       → map items outs ≡ carried mode list roots
   carried_all items mode outs gives =
       map_same items outs (carried mode list roots) (gives.0 ∙ sym (carried_length mode list [] roots))
-        (λ i out reply eo er.
+      (λ i out reply eo er.
       let inside = slice_get_within outs i out eo in let len = gives.0 in
       let root = get_there roots i (omega arith) in
       let position : 0 + i ≡ i = omega arith in

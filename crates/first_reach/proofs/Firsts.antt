@@ -12,18 +12,18 @@ pub first_above : (reach : ℕ → List ℕ) (roots : List (Option ℕ)) (i g : 
 first_above reach [] i g top = omega arith
 first_above reach (r ∷ roots) i g top =
     pick (has g (reached reach r)) (first_above reach roots (i + 1) g (omega arith)) where
-  pick : (b : Bool) → i + 1 ≤ first_from reach (i + 1) roots g → i ≤ cond b i (first_from reach (i + 1) roots g)
-  pick true ih = omega arith
-  pick false ih = omega arith
+      pick : (b : Bool) → i + 1 ≤ first_from reach (i + 1) roots g → i ≤ cond b i (first_from reach (i + 1) roots g)
+      pick true ih = omega arith
+      pick false ih = omega arith
 
 first_top : (reach : ℕ → List ℕ) (roots : List (Option ℕ)) (i g : ℕ) → i + length roots ≤ NONE
     → first_from reach i roots g ≤ NONE
 first_top reach [] i g top = omega arith
 first_top reach (r ∷ roots) i g top =
     pick (has g (reached reach r)) (first_top reach roots (i + 1) g (omega arith)) where
-  pick : (b : Bool) → first_from reach (i + 1) roots g ≤ NONE → cond b i (first_from reach (i + 1) roots g) ≤ NONE
-  pick true ih = omega arith
-  pick false ih = ih
+      pick : (b : Bool) → first_from reach (i + 1) roots g ≤ NONE → cond b i (first_from reach (i + 1) roots g) ≤ NONE
+      pick true ih = omega arith
+      pick false ih = ih
 
 -- root k reaches the file where it is the first
 pub first_hits : (reach : ℕ → List ℕ) (roots : List (Option ℕ)) (i g k : ℕ) (root : Option ℕ) → i + length roots ≤ NONE
@@ -55,14 +55,14 @@ first_below reach (r ∷ roots) i g zero root top e h =
     let same : r ≡ root = cc in
     let here : has g (reached reach r) ≡ true = ap (λ x. has g (reached reach x)) same ∙ h in
     let is : cond (has g (reached reach r)) i (first_from reach (i + 1) roots g) ≡ i =
-      ap (λ b. cond b i (first_from reach (i + 1) roots g)) here in
+    ap (λ b. cond b i (first_from reach (i + 1) roots g)) here in
     omega arith
 first_below reach (r ∷ roots) i g (suc k) root top e h =
     pick (has g (reached reach r)) (first_below reach roots (i + 1) g k root (omega arith) e h) where
-  pick : (b : Bool) → first_from reach (i + 1) roots g ≤ i + 1 + k
-      → cond b i (first_from reach (i + 1) roots g) ≤ i + suc k
-  pick true ih = omega arith
-  pick false ih = omega arith
+      pick : (b : Bool) → first_from reach (i + 1) roots g ≤ i + 1 + k
+          → cond b i (first_from reach (i + 1) roots g) ≤ i + suc k
+      pick true ih = omega arith
+      pick false ih = omega arith
 
 -- the first root is one of them
 pub first_found : (reach : ℕ → List ℕ) (roots : List (Option ℕ)) (i g : ℕ)
@@ -95,7 +95,7 @@ first_spreads reach roots i r g top at joins own under is =
       | inr found ↦
           let e = found.1 in
           let low = first_below reach roots 0 g found.0 found.2.0 (omega arith) found.2.1
-            (joins found.0 found.2.0 found.2.1 found.2.2) in omega arith
+          (joins found.0 found.2.0 found.2.1 found.2.2) in omega arith
     ]
 
 pub least_is : LeastIsFirst
@@ -105,7 +105,7 @@ least_is reach roots top pairs same g =
     (λ x h.
     let r = (same g x).0 h in
     let low = first_below reach roots 0 g x r.0 (omega arith) r.1 ((has_is g (reached reach r.0)).1 r.2) in
-      omega arith) in
+    omega arith) in
     elim (first_found reach roots 0 g) [
       | inl none ↦ let top' = least_at-le-NONE g pairs in omega arith
       | inr at ↦

@@ -36,9 +36,9 @@ pub filter_filter : (p q : ℕ → Bool) (xs : List ℕ) → filter p (filter q 
 filter_filter p q [] = refl
 filter_filter p q (x ∷ xs) = pick (q x) (filter q xs)
     ∙ (let ih = filter_filter p q xs in λ i. cond (q x && p x) (x ∷ ih i) (ih i)) where
-  pick : (b : Bool) (ys : List ℕ) → filter p (cond b (x ∷ ys) ys) ≡ cond (b && p x) (x ∷ filter p ys) (filter p ys)
-  pick true ys = refl
-  pick false ys = refl
+      pick : (b : Bool) (ys : List ℕ) → filter p (cond b (x ∷ ys) ys) ≡ cond (b && p x) (x ∷ filter p ys) (filter p ys)
+      pick true ys = refl
+      pick false ys = refl
 
 -- a test that no member passes keeps none
 pub filter_none : (p : ℕ → Bool) (xs : List ℕ) → ((x : ℕ) → has x xs ≡ true → p x ≡ false) → filter p xs ≡ []

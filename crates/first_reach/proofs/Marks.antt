@@ -111,13 +111,13 @@ all_posted reach roots old new marks together none final g n =
           let post = marked_to reach (flat_map of_seat (reverse new)) g n (subst Q final h) in
           let by = of_flat of_seat (reverse new) (post.0, n) post.1 in
           let seat = Contains-permutation (reverse new) new by.0
-            (IsPermutation-sym new (reverse new) (IsPermutation-reverse new)) by.1 in
+          (IsPermutation-sym new (reverse new) (IsPermutation-reverse new)) by.1 in
           let at : slice_get new seat.0 ≡ Some by.0 = slice_get-get_or new seat.0 by.0 seat.1
-            ∙ ap (λ (s : MarkSeatValue). Some s) seat.2 in
+          ∙ ap (λ (s : MarkSeatValue). Some s) seat.2 in
           elim ((together g n).0 (seat.0, by.0, at, marked_from reach by.0.view.marks post.0 g n by.2 post.2)) [
             | inl was ↦
                 absurd (none_in (g, n)
-                  (subst Q (all_get (λ (s : MarkSeatValue). s.view.marks ≡ []) old was.0 was.1 none was.2) was.3))
+                (subst Q (all_get (λ (s : MarkSeatValue). s.view.marks ≡ []) old was.0 was.1 none was.2) was.3))
             | inr a ↦
                 let same : a.0 ≡ n = let e = a.3.0 in omega arith in
                 let P : ℕ → Type 0 = λ k. slice_get roots k ≡ Some a.1 in (a.1, subst P same a.2, a.3.1)
@@ -125,7 +125,7 @@ all_posted reach roots old new marks together none final g n =
       λ r.
           let got = (together g n).1 (inr (n, r.0, r.1, (omega arith, r.2))) in
           let there : Contains new got.1 =
-            (got.0, slice_get_within new got.0 got.1 got.2, get_or_from_slice_get new got.0 got.1 got.1 got.2) in
+          (got.0, slice_get_within new got.0 got.1 got.2, get_or_from_slice_get new got.0 got.1 got.1 got.2) in
           let seat = Contains-permutation new (reverse new) got.1 (IsPermutation-reverse new) there in
           let post = marked_to reach got.1.view.marks g n got.3 in
           subst Q (sym final) (marked_from reach (flat_map of_seat (reverse new)) post.0 g n
@@ -148,5 +148,5 @@ pub written : {X : Type 0} (items slice new : List X) (n : ℕ) → slice ≡ it
 written items slice new n value len same =
     let all : length items ≡ length slice = ap (λ l. length l) (sym value) in
     ap (λ l. take n (new ++ l)) (drop_of_length-le items (omega arith)) ∙ ap (λ l. take n l) (append-nil new)
-      ∙ ap (λ k. take k new) (sym len ∙ sym same)
+    ∙ ap (λ k. take k new) (sym len ∙ sym same)
     ∙ take-length new

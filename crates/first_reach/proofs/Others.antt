@@ -12,7 +12,7 @@ use Rattle.first_reach.proofs.Lists.{filter_on, filter_filter, filter_none, has_
 -- one more file
 others_more : (first : List ℕ) (i r k file : ℕ) (files : List ℕ) → slice_get files k ≡ Some file
     → others_at first i r (take (k + 1) files) ≡ others_at first i r (take k files)
-      ++ cond (not (eqb file r) && eqb (slice_index first file) i) (file ∷ []) []
+    ++ cond (not (eqb file r) && eqb (slice_index first file) i) (file ∷ []) []
 others_more first i r k file files at =
     let p : ℕ → Bool = λ g. not (eqb g r) && eqb (slice_index first g) i in
     filter_more p files k file (slice_get_within files k file at)
@@ -27,8 +27,8 @@ others_put first i r k file files start was new at other here before put =
     (λ j. not (ne_eqb file r other j) && eqb (slice_index first file) i) ∙ eq-eqb _ _ here in
     put ∙ ap (λ l. l ++ file ∷ []) before ∙ append_assoc start (others_at first i r (take k files)) (file ∷ [])
     ∙ ap (λ l. start ++ l)
-      (sym (others_more first i r k file files at ∙ ap (λ b. others_at first i r (take k files)
-      ++ cond b (file ∷ []) []) test))
+    (sym (others_more first i r k file files at ∙ ap (λ b. others_at first i r (take k files)
+    ++ cond b (file ∷ []) []) test))
 
 pub others_skip : (first : List ℕ) (i r k file : ℕ) (files start was new : List ℕ) → slice_get files k ≡ Some file
     → (file ≡ r) ⊎ (slice_index first file ≡ i → ⊥)
@@ -42,20 +42,20 @@ others_skip first i r k file files start was new at why before same =
     ] in
     same ∙ before
     ∙ ap (λ l. start ++ l)
-      (sym (others_more first i r k file files at ∙ ap (λ b. others_at first i r (take k files)
-      ++ cond b (file ∷ []) []) test
+    (sym (others_more first i r k file files at ∙ ap (λ b. others_at first i r (take k files)
+    ++ cond b (file ∷ []) []) test
     ∙ append-nil (others_at first i r (take k files))))
 
 -- a reply is its root, where it carries that, and the others
 parts : (mode : Mode) (reach : ℕ → List ℕ) (first : List ℕ) (i r : ℕ)
     → reply_at mode reach first i (Some r) ≡ cond (repeats mode (Some r) r || eqb (slice_index first r) i)
-      (r ∷ others_at first i r (reach r))
+    (r ∷ others_at first i r (reach r))
     (others_at first i r (reach r))
 parts mode reach first i r =
     let test : ℕ → Bool = λ g. repeats mode (Some r) g || eqb (slice_index first g) i in
     let rest : filter test (filter (λ g. not (eqb g r)) (reach r)) ≡ others_at first i r (reach r) =
     filter_filter test (λ g. not (eqb g r)) (reach r)
-      ∙ filter_on _ _ (reach r) (λ g h. once mode g (eqb (slice_index first g) i)) in
+    ∙ filter_on _ _ (reach r) (λ g h. once mode g (eqb (slice_index first g) i)) in
     ap (λ l. cond (test r) (r ∷ l) l) rest where
       pick : (a b : Bool) → (not a && (a || b)) ≡ (not a && b)
       pick true b = refl
@@ -78,7 +78,7 @@ no_others : (reach : ℕ → List ℕ) (first : List ℕ) (i r : ℕ) → (slice
     → others_at first i r (reach r) ≡ []
 no_others reach first i r later spreads = filter_none _ (reach r) (λ g h.
     and_right (not (eqb g r)) (eqb (slice_index first g) i)
-      (ne_eqb (slice_index first g) i (λ e. later (spreads g ((has_is g (reach r)).0 h) e))))
+    (ne_eqb (slice_index first g) i (λ e. later (spreads g ((has_is g (reach r)).0 h) e))))
 
 -- where it isn't, the reply has nothing but a root that is repeated
 pub reply_again : (mode : Mode) (reach : ℕ → List ℕ) (first : List ℕ) (i r : ℕ) → mode ≡ Repeat
@@ -87,7 +87,7 @@ pub reply_again : (mode : Mode) (reach : ℕ → List ℕ) (first : List ℕ) (i
 reply_again mode reach first i r repeat later spreads =
     ap (λ m. reply_at m reach first i (Some r)) repeat ∙ parts Repeat reach first i r
     ∙ ap (λ b. cond b (r ∷ others_at first i r (reach r)) (others_at first i r (reach r)))
-      (ap (λ b. b || eqb (slice_index first r) i) (eq-eqb r r refl))
+    (ap (λ b. b || eqb (slice_index first r) i) (eq-eqb r r refl))
     ∙ ap (λ l. r ∷ l) (no_others reach first i r later spreads)
 
 pub reply_none : (mode : Mode) (reach : ℕ → List ℕ) (first : List ℕ) (i r : ℕ) → mode ≡ Once
@@ -96,5 +96,5 @@ pub reply_none : (mode : Mode) (reach : ℕ → List ℕ) (first : List ℕ) (i 
 reply_none mode reach first i r once later spreads =
     ap (λ m. reply_at m reach first i (Some r)) once ∙ parts Once reach first i r
     ∙ ap (λ b. cond b (r ∷ others_at first i r (reach r)) (others_at first i r (reach r)))
-      (ne_eqb (slice_index first r) i later)
+    (ne_eqb (slice_index first r) i later)
     ∙ no_others reach first i r later spreads

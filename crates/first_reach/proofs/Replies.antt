@@ -33,38 +33,38 @@ replies_are : (mode : Mode) (reach : ℕ → List ℕ) (roots : List (Option ℕ
     → slice_get roots k ≡ Some root
     → slice_get (carried_from mode reach sent roots) k
     ≡ Some (filter (λ g. repeats mode root g || (not (has g sent) && eqb (first_from reach i roots g) (i + k)))
-      (root_first reach root))
+    (root_first reach root))
 replies_are mode reach [] sent i k root own e = let bad : None ≡ Some root = e in absurd (search rules)
 replies_are mode reach (r ∷ roots) sent i zero root own e =
     let same : r ≡ root = cc in
     let F : ℕ → ℕ = λ g. first_from reach (i + 1) roots g in
     let q : Option ℕ → ℕ → Bool = λ x g.
-      repeats mode x g || (not (has g sent) && eqb (cond (has g (reached reach r)) i (F g)) (i + 0)) in
+    repeats mode x g || (not (has g sent) && eqb (cond (has g (reached reach r)) i (F g)) (i + 0)) in
     let f : filter (λ g. repeats mode r g || not (has g sent)) (root_first reach r) ≡ filter (q r)
-      (root_first reach r) =
+    (root_first reach r) =
     filter_on _ _ (root_first reach r) (λ g h.
     let in_r : has g (reached reach r) ≡ true =
-      sym (has_root_first reach r (λ x is. own 0 x (ap (λ (y : Option ℕ). Some y) is)) g) ∙ h in
+    sym (has_root_first reach r (λ x is. own 0 x (ap (λ (y : Option ℕ). Some y) is)) g) ∙ h in
     let none : i ≡ i + 0 = omega arith in
     ap (λ b. repeats mode r g || b) (and_true (not (has g sent)) _ (eq-eqb _ _ (ap (λ b. cond b i (F g)) in_r ∙ none))))
-      in
+    in
     λ j. Some ((f ∙ ap (λ x. filter (q x) (root_first reach x)) same) j)
 replies_are mode reach (r ∷ roots) sent i (suc k) root own e =
     replies_are mode reach roots (sent ++ reached reach r) (i + 1) k root (λ j x is. own (suc j) x is) e
     ∙ ap (λ (l : List ℕ). Some l) (filter_on _ _ (root_first reach root) (λ g h. ap (λ b. repeats mode root g || b) (
     ap (λ b. not b && eqb (first_from reach (i + 1) roots g) (i + 1 + k))
-      (list_any-append (eqb g) sent (reached reach r))
+    (list_any-append (eqb g) sent (reached reach r))
     ∙ step (has g sent) (has g (reached reach r)) i k (first_from reach (i + 1) roots g))))
 
 pub reply_is : (mode : Mode) (reach : ℕ → List ℕ) (roots : List (Option ℕ)) (i : ℕ) (root : Option ℕ) → Own reach roots
     → slice_get roots i ≡ Some root
     → slice_get (carried mode reach roots) i
-      ≡ Some (filter (λ g. repeats mode root g || eqb (first_reach reach roots g) i) (root_first reach root))
+    ≡ Some (filter (λ g. repeats mode root g || eqb (first_reach reach roots g) i) (root_first reach root))
 reply_is mode reach roots i root own e =
     let position : 0 + i ≡ i = omega arith in
     replies_are mode reach roots [] 0 i root own e
     ∙ ap (λ n. Some (filter (λ g. repeats mode root g || eqb (first_reach reach roots g) n) (root_first reach root)))
-      position
+    position
 
 pub carried_length : (mode : Mode) (reach : ℕ → List ℕ) (sent : List ℕ) (roots : List (Option ℕ))
     → length (carried_from mode reach sent roots) ≡ length roots
@@ -85,7 +85,7 @@ says mode reach roots i g root files own at e =
     let test : ℕ → Bool = λ x. repeats mode root x || eqb (first_reach reach roots x) i in
     let kept : List ℕ = filter test (root_first reach root) in
     let same : kept ≡ files = let a = reply_is mode reach roots i root own at in let b : Some kept ≡ Some files =
-      sym a ∙ e in cc in
+    sym a ∙ e in cc in
     ap (has g) (sym same) ∙ has_filter test g (root_first reach root)
     ∙ ap (λ b. b && test g) (has_root_first reach root (λ r is. own i r (at ∙ ap (λ (x : Option ℕ). Some x) is)) g)
 
@@ -96,9 +96,9 @@ carries reach roots top own i g files e =
     let root = get_there roots i (omega arith) in
     let is = says Once reach roots i g root.0 files (own_of reach roots own) root.1 e in (
       λ h. eqb-true _ _ (and_parts (has g (reached reach root.0)) (eqb (first_reach reach roots g) i)
-        (sym is ∙ (has_is g files).1 h)).1,
+          (sym is ∙ (has_is g files).1 h)).1,
       λ h. (has_is g files).0
-        (is ∙ and_from _ _ (first_hits reach roots 0 g i root.0 (omega arith) root.1 (omega arith)) (eq-eqb _ _ h)),
+          (is ∙ and_from _ _ (first_hits reach roots 0 g i root.0 (omega arith) root.1 (omega arith)) (eq-eqb _ _ h)),
     )
 
 repeated : (root : Option ℕ) (g : ℕ) → repeats Repeat root g ≡ true → root ≡ Some g
@@ -110,7 +110,8 @@ carries_roots reach roots top own i g root files at e =
     let first : Bool = eqb (first_reach reach roots g) i in
     let is = says Repeat reach roots i g root files (own_of reach roots own) at e in (
       λ h. elim
-        (or_cases (repeats Repeat root g) first (and_parts (has g (reached reach root)) (repeats Repeat root g || first)
+          (or_cases (repeats Repeat root g) first
+          (and_parts (has g (reached reach root)) (repeats Repeat root g || first)
           (sym is ∙ (has_is g files).1 h)).1) [
             | inl a ↦ inl (repeated root g a)
             | inr b ↦ inr (eqb-true _ _ b)
@@ -121,6 +122,6 @@ carries_roots reach roots top own i g root files at e =
             (or_left _ _ (ap (λ x. repeats Repeat x g) r ∙ eq-eqb g g refl))
         | inr n ↦ is ∙ and_from (has g (reached reach root)) (repeats Repeat root g || first)
             (first_hits reach roots 0 g i root (omega arith) at (omega arith))
-              (or_right (repeats Repeat root g) _ (eq-eqb _ _ n))
+            (or_right (repeats Repeat root g) _ (eq-eqb _ _ n))
       ]),
     )

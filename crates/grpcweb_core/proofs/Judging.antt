@@ -15,22 +15,25 @@ use Rattle.proto_compile.specs.Compilation.{Compilation}
 pub of_path : (path target query : List ℕ) → take (length path) target ≡ path → query ≡ drop (length path) target
     → IsEmptyOrBegins 63 query
     → IsTargetOf path target
-of_path path target query prefix rest begins =
-    (query, sym (take-append-drop (length path) target) ∙ ap (λ l. l ++ drop (length path) target) prefix
-      ∙ ap (λ l. path ++ l) (sym rest), begins)
+of_path path target query prefix rest begins = (
+  query,
+  sym (take-append-drop (length path) target) ∙ ap (λ l. l ++ drop (length path) target) prefix
+      ∙ ap (λ l. path ++ l) (sym rest),
+  begins,
+)
 
 pub query_of : (path target query : List ℕ) → query ≡ drop (length path) target → IsTargetOf path target
     → IsEmptyOrBegins 63 query
 query_of path target query rest (other, is, begins) =
     subst (IsEmptyOrBegins 63) (sym (rest ∙ ap (λ l. drop (length path) l) is ∙ drop_at path other (length path) refl))
-      begins
+    begins
 
 pub not_of_path : (path target : List ℕ) → bytes_eq (take (length path) target) path ≡ false
     → IsTargetOf path target → ⊥
 not_of_path path target other (query, is, begins) =
     true≢false
-      (sym ((bytes_eq-Decides (take (length path) target) path).1
-      (ap (λ l. take (length path) l) is ∙ take_at path query (length path) refl)) ∙ other)
+    (sym ((bytes_eq-Decides (take (length path) target) path).1
+    (ap (λ l. take (length path) l) is ∙ take_at path query (length path) refl)) ∙ other)
 
 -- ---- content types
 
@@ -78,7 +81,7 @@ parts_of media text (name, behind, is, same, left) =
     let long = name_long media name same in (
       (let h = ap length is ∙ length-append name behind in omega (arith, h, long)),
       ap (λ l. map to_ascii_lowercase l) (ap (λ l. take (length media) l) is ∙ take_at name behind (length media) long)
-        ∙ same,
+          ∙ same,
       subst IsBehindType (sym (ap (λ l. drop (length media) l) is ∙ drop_at name behind (length media) long)) left,
     )
 
@@ -98,7 +101,7 @@ of_parts media text name behind {shown = shown} is prefix back same left = (
   name,
   behind,
   is ∙ sym (take-append-drop (length media) shown) ∙ ap (λ l. l ++ drop (length media) shown) (sym prefix)
-    ∙ ap (λ l. name ++ l) (sym back),
+      ∙ ap (λ l. name ++ l) (sym back),
   same,
   left,
 )

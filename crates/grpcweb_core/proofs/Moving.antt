@@ -51,7 +51,7 @@ prefix_of : (room sub : List ℕ) (filled n : ℕ) → filled ≤ length room
     → take (filled + n) (take filled room ++ sub) ≡ take filled room ++ take n sub
 prefix_of room sub filled n within =
     subst (λ k. take (k + n) (take filled room ++ sub) ≡ take filled room ++ take n sub)
-      (length-take-le filled room within)
+    (length-take-le filled room within)
     (take_of_two (take filled room) sub n)
 
 pub read_more : (old now new : Reads) (room sub : List ℕ) (filled n : ℕ) → IsReading old now room filled
@@ -77,7 +77,7 @@ pub read_none : (old now new : Reads) (room sub : List ℕ) (filled : ℕ) → I
     → IsRead (length (take filled room ++ sub)) old new (take filled (take filled room ++ sub))
 read_none old now new room sub filled so some once =
     let prefix = subst (λ k. take k (take filled room ++ sub) ≡ take filled room ++ []) (add_zero filled)
-      (prefix_of room sub filled 0 so.within)
+    (prefix_of room sub filled 0 so.within)
     ∙ append-nil (take filled room) in
     let call : Call = record { room = length sub; given = Some 0 } in
     record {
@@ -87,8 +87,14 @@ read_none old now new room sub filled so some once =
       within = (let h = long_prefix room sub filled so.within in
           let k = ap length prefix ∙ length-take-le filled room so.within in omega (arith, h, k));
       whole = inr
-          (record { earlier = so.own; last = call; called = refl; room = some; nothing = refl;
-            known = once.ended refl some });
+          (record {
+            earlier = so.own;
+            last = call;
+            called = refl;
+            room = some;
+            nothing = refl;
+            known = once.ended refl some;
+          });
       failures = once.failures ∙ so.failures;
       left = subst (λ l. Consumes old.left new.left l) (sym prefix)
           (consumes_nothing old.left now.left new.left (take filled room) so.left once.left);
@@ -127,7 +133,7 @@ written_more old now new response written n so short once =
       failures = (let h = once.failures in let k = so.failures in grind (arith, nat_tests));
       contents = subst (λ l. Appends old.contents new.contents l) (sym (back_of response written (suc n)))
           (Appends-trans old.contents now.contents new.contents (take written response)
-            (take (suc n) (drop written response)) so.contents once.contents);
+          (take (suc n) (drop written response)) so.contents once.contents);
     }
 
 pub written_some : (old now new : Writes) (response : List ℕ) (written n : ℕ) {rest : List ℕ}

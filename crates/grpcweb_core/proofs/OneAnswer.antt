@@ -27,13 +27,13 @@ one_answer limits sources c d mode request a b of too (no_grpc_web here post typ
 one_answer limits sources c d mode request a b of too (no_grpc_web here post type) (no_grpc_web here' post' type') =
     refl
 one_answer limits sources c d mode request a b of too (no_grpc_web here post type)
-  (answered response here' post' type' is) = absurd (type type')
+    (answered response here' post' type' is) = absurd (type type')
 one_answer limits sources c d mode request a b of too (answered response here post type is) (elsewhere out) =
     absurd (out here)
 one_answer limits sources c d mode request a b of too (answered response here post type is) (no_post here' method) =
     absurd (method post)
 one_answer limits sources c d mode request a b of too (answered response here post type is)
-  (no_grpc_web here' post' type') = absurd (type' type)
+    (no_grpc_web here' post' type') = absurd (type' type)
 one_answer limits sources c d mode request a b of too (answered response here post type is)
-  (answered response' here' post' type' is') =
+    (answered response' here' post' type' is') =
     ap framed (one_response limits sources c d mode request.body response response' of too is is')

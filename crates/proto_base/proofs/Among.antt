@@ -60,8 +60,10 @@ pub least_append : {X : Type 0} (S : X → Spot → Type 0) (xs ys : List X) (p 
     → IsLeast (Each ys S) q → IsLesser p q r
     → IsLeast (Each (xs ++ ys) S) r
 least_append S xs ys p q r h k w = least_or (Each xs S) (Each ys S) (Each (xs ++ ys) S) p q r
-    (λ x v. elim (among_split S xs ys x (among_of S (xs ++ ys) x v)) [ inl u ↦ inl (each_of S xs x u)
-      | inr u ↦ inr (each_of S ys x u) ])
+    (λ x v. elim (among_split S xs ys x (among_of S (xs ++ ys) x v)) [
+      | inl u ↦ inl (each_of S xs x u)
+      | inr u ↦ inr (each_of S ys x u)
+    ])
     (λ x v. each_of S (xs ++ ys) x (among_left S xs ys x (among_of S xs x v)))
     (λ x v. each_of S (xs ++ ys) x (among_right S xs ys x (among_of S ys x v)))
     h k w
@@ -84,15 +86,15 @@ pub flat_more : {X Y : Type 0} (S : Y → Spot → Type 0) (f : X → List Y) (x
     → IsLeast (Each (flat_map f (take (i + 1) xs)) S) r
 flat_more S f xs i x p q r within at h k w =
     subst (λ ys. IsLeast (Each ys S) r) (sym (taken f xs i x within at))
-      (least_append S (flat_map f (take i xs)) (f x) p q r h k w)
+    (least_append S (flat_map f (take i xs)) (f x) p q r h k w)
 
 pub flat_skip : {X Y : Type 0} (S : Y → Spot → Type 0) (f : X → List Y) (xs : List X) (i : ℕ) (x : X) (p : Option Spot)
     → i < length xs → x ≡ get_or xs i x
     → f x ≡ [] → IsLeast (Each (flat_map f (take i xs)) S) p → IsLeast (Each (flat_map f (take (i + 1) xs)) S) p
 flat_skip S f xs i x p within at none h =
     subst (λ ys. IsLeast (Each ys S) p)
-      (sym (taken f xs i x within at ∙ ap (λ z. flat_map f (take i xs) ++ z) none
-      ∙ append-nil (flat_map f (take i xs)))) h
+    (sym (taken f xs i x within at ∙ ap (λ z. flat_map f (take i xs) ++ z) none
+    ∙ append-nil (flat_map f (take i xs)))) h
 
 pub flat_all : {X Y : Type 0} (S : Y → Spot → Type 0) (f : X → List Y) (xs : List X) (i : ℕ) (p : Option Spot)
     → length xs ≤ i
@@ -134,11 +136,28 @@ pub later_map : {X Y : Type 0} (R : Y → Y → Type 0) (at : Y → Spot) (f : X
     → IsLeast (Later (map f xs) R at) r
     → IsLeast (Later xs (λ a b. R (f a) (f b)) (λ b. at (f b))) r
 later_map R at f xs r h = least_same (Later (map f xs) R at) (Later xs (λ a b. R (f a) (f b)) (λ b. at (f b))) r
-    (λ x v. (v.0, v.1, f v.2, f v.3, v.4, stands_map f xs v.0 v.2 v.5.0 v.5.1, stands_map f xs v.1 v.3 v.6.0 v.6.1, v.7,
-      v.8))
-    (λ x v. let p = stands_on f xs v.0 v.2 v.5.0 v.5.1 in let q = stands_on f xs v.1 v.3 v.6.0 v.6.1 in
-    (v.0, v.1, p.0, q.0, v.4, p.1, q.1, subst (λ z. R z (f q.0)) (sym p.2) (subst (R v.2) (sym q.2) v.7),
-      v.8 ∙ ap at (sym q.2))) h
+    (λ x v. (
+      v.0,
+      v.1,
+      f v.2,
+      f v.3,
+      v.4,
+      stands_map f xs v.0 v.2 v.5.0 v.5.1,
+      stands_map f xs v.1 v.3 v.6.0 v.6.1,
+      v.7,
+      v.8,
+    ))
+    (λ x v. let p = stands_on f xs v.0 v.2 v.5.0 v.5.1 in let q = stands_on f xs v.1 v.3 v.6.0 v.6.1 in (
+      v.0,
+      v.1,
+      p.0,
+      q.0,
+      v.4,
+      p.1,
+      q.1,
+      subst (λ z. R z (f q.0)) (sym p.2) (subst (R v.2) (sym q.2) v.7),
+      v.8 ∙ ap at (sym q.2),
+    )) h
 
 -- what a function makes of an element breaks what the element breaks
 pub each_on : {X Y : Type 0} (f : X → Y) (xs : List X) (S : Y → Spot → Type 0) (T : X → Spot → Type 0) (r : Option Spot)
@@ -147,7 +166,7 @@ pub each_on : {X Y : Type 0} (f : X → Y) (xs : List X) (S : Y → Spot → Typ
 each_on f xs S T r on back h = least_same (Each (map f xs) S) (Each xs T) r
     (λ x v. (v.0, f v.1, stands_map f xs v.0 v.1 v.2.0 v.2.1, back v.1 x v.3))
     (λ x v. let w = stands_on f xs v.0 v.1 v.2.0 v.2.1 in (v.0, w.0, w.1, on w.0 x (subst (λ y. S y x) (sym w.2) v.3)))
-      h
+    h
 
 none_later : (n i j : ℕ) → n < 2 → i < j → j < n → ⊥
 none_later n i j short before within = omega arith
@@ -185,8 +204,10 @@ flat_of S f (a ∷ rest) x (inr w) = among_right S (f a) (flat_map f rest) x (fl
 of_flat : {X Y : Type 0} (S : Y → Spot → Type 0) (f : X → List Y) (xs : List X) (x : Spot) → Among (flat_map f xs) S x
     → Among xs (λ a. Each (f a) S) x
 of_flat S f [] x w = absurd w
-of_flat S f (a ∷ rest) x w = elim (among_split S (f a) (flat_map f rest) x w) [ inl v ↦ inl (each_of S (f a) x v)
-    | inr v ↦ inr (of_flat S f rest x v) ]
+of_flat S f (a ∷ rest) x w = elim (among_split S (f a) (flat_map f rest) x w) [
+  | inl v ↦ inl (each_of S (f a) x v)
+  | inr v ↦ inr (of_flat S f rest x v)
+]
 
 pub each_flat : {X Y : Type 0} (S : Y → Spot → Type 0) (f : X → List Y) (xs : List X) (x : Spot)
     → Each xs (λ a. Each (f a) S) x → Each (flat_map f xs) S x
@@ -216,7 +237,7 @@ pub behind_skip : {X Y : Type 0} (S : Y → Spot → Type 0) (f : X → List Y) 
     → IsLeast (Each (done ++ flat_map f (take (i + 1) xs)) S) p
 behind_skip S f done xs i x p within at none h = subst (λ ys. IsLeast (Each (done ++ ys) S) p)
     (sym (taken f xs i x within at ∙ ap (λ z. flat_map f (take i xs) ++ z) none ∙ append-nil (flat_map f (take i xs))))
-      h
+    h
 
 pub behind_all : {X Y : Type 0} (S : Y → Spot → Type 0) (f : X → List Y) (done : List Y) (xs : List X) (i : ℕ)
     (p : Option Spot) → length xs ≤ i

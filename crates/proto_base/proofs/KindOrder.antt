@@ -33,7 +33,7 @@ numbers = each_variant enum.parts tt (λ c. pos (number_of (enum.make c)))
 pub numbered : (k : Kind) → slice_index_or numbers (tag_of the_type k) (pos 0) ≡ pos (number_of k)
 numbered k =
     at_variant enum.parts tt (λ c. pos (number_of (enum.make c))) (pos 0) (enum.as_values k)
-      ∙ ap (λ l. pos (number_of l)) (enum.eta k)
+    ∙ ap (λ l. pos (number_of l)) (enum.eta k)
 
 compared : (m n : ℕ) → int_cmp (pos m) (pos n) ≡ nat_cmp m n
 compared m n = grind (arith, nat_tests)

@@ -199,9 +199,10 @@ abbrev pub text_cmp : Bor (List ℕ) → Bor (List ℕ) → Ordering
 text_cmp x y = slice_cmp nat_cmp x.now y.now
 
 pub exact_text : Exact text_cmp (λ k. k.now)
-exact_text k q =
-    (λ h. exact_bytes k.now q.now (is_eq_true (text_cmp k q) h),
-    λ e. rw e (ap is_eq (tied_itself nat_list_cmp_total q.now)))
+exact_text k q = (
+  λ h. exact_bytes k.now q.now (is_eq_true (text_cmp k q) h),
+  λ e. rw e (ap is_eq (tied_itself nat_list_cmp_total q.now)),
+)
 
 -- a table holds the keys of the first n elements
 abbrev pub Seen : {X K T : Type 0} → (K → K → Ordering) → (K → T) → (X → T) → List X → BTreeSet K → ℕ → Type 0
@@ -247,7 +248,7 @@ seen_more cmp show key xs s t n c k exact here e new seen q = (
 pub passed_clash : {X K T : Type 0} (cmp : K → K → Ordering) (show : K → T) (key : X → T) (at : X → Spot) (xs : List X)
     (s t : BTreeSet K) (n : ℕ) (c : X)
     (k : K) (p r : Option Spot) → Exact cmp show → StandsAt xs n c → show k ≡ key c → Updates cmp s t k true
-      → contains cmp s k ≡ true
+    → contains cmp s k ≡ true
     → Passed cmp show key at xs s n p → IsLesser p (Some (at c)) r → Passed cmp show key at xs t (n + 1) r
 passed_clash cmp show key at xs s t n c k p r exact here e new old h w =
     let early = (h.seen k).0 old in
@@ -260,7 +261,7 @@ passed_clash cmp show key at xs s t n c k p r exact here e new old h w =
 pub passed_skip : {X K T : Type 0} (cmp : K → K → Ordering) (show : K → T) (key : X → T) (at : X → Spot) (xs : List X)
     (s t : BTreeSet K) (n : ℕ) (c : X)
     (k : K) (p : Option Spot) → Exact cmp show → StandsAt xs n c → show k ≡ key c → Updates cmp s t k true
-      → contains cmp s k ≡ false
+    → contains cmp s k ≡ false
     → Passed cmp show key at xs s n p → Passed cmp show key at xs t (n + 1) p
 passed_skip cmp show key at xs s t n c k p exact here e new fresh h =
     record {

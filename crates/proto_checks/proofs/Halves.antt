@@ -51,12 +51,28 @@ halves_of xs ys x (i, j, a, b, before, there, then, r, e) = elim (stands_split x
 of_halves : (xs ys : List MarkedRange) (x : Spot) → Halves xs ys x → ReservedOverlap (xs ++ ys) x
 of_halves xs ys x (inl (inl (i, j, a, b, before, there, then, r, e))) =
     (i, j, a, b, before, stands_left xs ys i a there, stands_left xs ys j b then, r, e)
-of_halves xs ys x (inl (inr (i, j, a, b, before, there, then, r, e))) =
-    (length xs + i, length xs + j, a, b, omega arith, stands_right xs ys i (length xs + i) a refl there,
-      stands_right xs ys j (length xs + j) b refl then, r, e)
-of_halves xs ys x (inr (j, b, then, ((i, a, there, r), e))) =
-    (i, length xs + j, a, b, omega (arith, there.0), stands_left xs ys i a there,
-      stands_right xs ys j (length xs + j) b refl then, r, e)
+of_halves xs ys x (inl (inr (i, j, a, b, before, there, then, r, e))) = (
+  length xs + i,
+  length xs + j,
+  a,
+  b,
+  omega arith,
+  stands_right xs ys i (length xs + i) a refl there,
+  stands_right xs ys j (length xs + j) b refl then,
+  r,
+  e,
+)
+of_halves xs ys x (inr (j, b, then, ((i, a, there, r), e))) = (
+  i,
+  length xs + j,
+  a,
+  b,
+  omega (arith, there.0),
+  stands_left xs ys i a there,
+  stands_right xs ys j (length xs + j) b refl then,
+  r,
+  e,
+)
 
 pub halves_least : (xs ys zs : List MarkedRange) (a b p c r : Option Spot) → zs ≡ xs ++ ys
     → IsLeast (ReservedOverlap xs) a → IsLeast (ReservedOverlap ys) b

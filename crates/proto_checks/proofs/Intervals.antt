@@ -55,7 +55,7 @@ pub intervals_all : (rs : List MarkedRange) (n : ℕ) (xs sorted : List Interval
     → AreIntervals rs sorted
 intervals_all rs n xs sorted end h p a = (
   λ w. let v = (h a).0 (Contains-permutation sorted xs a (IsPermutation-sym xs sorted p) w) in
-  (v.0, v.1, v.3, v.4, v.5),
+      (v.0, v.1, v.3, v.4, v.5),
   λ v. Contains-permutation xs sorted a p ((h a).1 (v.0, v.1, omega (arith, v.2.0), v.2, v.3, v.4)),
 )
 
@@ -107,8 +107,10 @@ raised_back : (top : ℕ) (rest : List Interval) (k n : ℕ) (d e : Interval) �
     → (n ≤ top) ⊎ ((j : ℕ) × (j ≤ k) × (n ≤ (get_or rest j e).end))
 raised_back top [] k n d e h w = absurd (omega arith)
 raised_back top (a ∷ rest) zero n d e h w =
-    elim (cases_lt top n) [ inl over ↦ inr (0, omega arith, (let v : n ≤ max a.end top = w in omega arith))
-      | inr under ↦ inl under ]
+    elim (cases_lt top n) [
+      | inl over ↦ inr (0, omega arith, (let v : n ≤ max a.end top = w in omega arith))
+      | inr under ↦ inl under
+    ]
 raised_back top (a ∷ rest) (suc k) n d e h w = elim (raised_back (max a.end top) rest k n d e (omega arith) w) [
   | inl early ↦ (elim (cases_lt top n) [ inl over ↦ inr (0, omega arith, omega arith) | inr under ↦ inl under ])
   | inr v ↦ inr (suc v.0, omega (arith, v.1), v.2)
@@ -133,8 +135,12 @@ reached_back rest n m up (b, (k, below, is), low, high) =
     let start' : (get_or (raised 0 rest) k b).start ≡ b.start = ap (λ (s : Interval). s.start) is in
     let end' : (get_or (raised 0 rest) k b).end ≡ b.end = ap (λ (s : Interval). s.end) is in
     elim (raised_back 0 rest k n b b inside (omega arith)) [
-      | inl none ↦ (get_or rest k b, (k, inside, get_or_default rest k (get_or rest k b) b inside),
-          omega arith, omega arith)
+      | inl none ↦ (
+        get_or rest k b,
+        (k, inside, get_or_default rest k (get_or rest k b) b inside),
+        omega arith,
+        omega arith,
+      )
       | inr w ↦ (let j = w.0 in
           let here : j < length rest = omega (arith, w.1) in
           let rises = up j k b w.1 inside in
@@ -155,7 +161,7 @@ pub raised_more : (xs all : List Interval) (k top : ℕ) (d : Interval) → k < 
     → take k xs ++ raised top (drop k xs) ≡ all
     → take (k + 1) (set xs k (record { start = (get_or xs k d).start; end = max (get_or xs k d).end top }))
     ++ raised (max (get_or xs k d).end top)
-      (drop (k + 1) (set xs k (record { start = (get_or xs k d).start; end = max (get_or xs k d).end top }))) ≡ all
+    (drop (k + 1) (set xs k (record { start = (get_or xs k d).start; end = max (get_or xs k d).end top }))) ≡ all
 raised_more xs all k top d h e =
     let a : Interval = record { start = (get_or xs k d).start; end = max (get_or xs k d).end top } in
     let whole = rw (raised_at top xs k d h) at e in

@@ -36,7 +36,7 @@ pub item_map : (m : MapField) (r : Option Spot) → IsLeast (FieldOptionsBreak (
 item_map m r h = first_of_three (Each (optioned m.declarator false false ∷ []) FieldOptionsBreak) (Each [] OneofBreaks)
     (Each [] EnumBreaks) r
     (among_of OneofBreaks []) (among_of EnumBreaks [])
-      (least_single FieldOptionsBreak (optioned m.declarator false false) r h)
+    (least_single FieldOptionsBreak (optioned m.declarator false false) r h)
 
 pub item_enum : (e : Enum) (r : Option Spot) → IsLeast (EnumBreaks e) r → IsLeast (ItemBreaks (of.Enum e)) r
 item_enum e r h = last_of_three (Each [] FieldOptionsBreak) (Each [] OneofBreaks) (Each (e ∷ []) EnumBreaks) r
@@ -49,9 +49,9 @@ pub item_oneof : (o : Oneof) (a b r : Option Spot) → IsLeast (Each (flat_map o
 item_oneof o a b r h k w =
     let members = map optioned_in_oneof (flat_map oneof_field o.items) in
     two_of_three (Each members FieldOptionsBreak) (Each (o ∷ []) OneofBreaks) (Each [] EnumBreaks) r
-      (among_of EnumBreaks [])
+    (among_of EnumBreaks [])
     (least_union (each_map FieldOptionsBreak optioned_in_oneof (flat_map oneof_field o.items) a h)
-      (least_single OneofBreaks o b k) w)
+    (least_single OneofBreaks o b k) w)
 
 -- a message as a statement
 row_flat : (n : _) (row : Row_of-MessageItem n) → bodies_row row ≡ flat_map bodies_of (items-the_row-MessageItem n row)

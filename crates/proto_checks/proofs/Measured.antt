@@ -22,6 +22,6 @@ pub inside_least : (limits : Limits) (full : List ℕ) (fields : List FieldDesc)
     → IsLeast (Each (declared_inside_of full fields oneofs enums) (IsTooLong limits)) r
 inside_least limits full fields oneofs enums a b p ab r h k m u w =
     least_append (IsTooLong limits) (map (declared_field full) fields ++ map (declared_oneof full) oneofs)
-      (flat_map (declared_by_enum full) enums) ab p r
+    (flat_map (declared_by_enum full) enums) ab p r
     (least_append (IsTooLong limits) (map (declared_field full) fields) (map (declared_oneof full) oneofs) a b ab h k u)
-      m w
+    m w

@@ -54,15 +54,32 @@ old_pair ps p x (i, j, a, b, before, s, t, u, e) = (
 
 new_pair : (ps : List Package) (p : Package) (x : Spot) → 0 < length ps → x ≡ again p → PackageTwice (ps ++ p ∷ []) x
 new_pair [] p x some e = absurd (omega arith)
-new_pair (q ∷ qs) p x some e =
-    (0, length (q ∷ qs), q, p, some, (omega (arith, length_push (q ∷ qs) p), refl),
-      (omega (arith, length_push (q ∷ qs) p), last_is (q ∷ qs) p p), tt, e)
+new_pair (q ∷ qs) p x some e = (
+  0,
+  length (q ∷ qs),
+  q,
+  p,
+  some,
+  (omega (arith, length_push (q ∷ qs) p), refl),
+  (omega (arith, length_push (q ∷ qs) p), last_is (q ∷ qs) p p),
+  tt,
+  e,
+)
 
 split_pair : (ps : List Package) (p : Package) (x : Spot) → PackageTwice (ps ++ p ∷ []) x
     → PackageTwice ps x ⊎ ((0 < length ps) × (x ≡ again p))
 split_pair ps p x (i, j, a, b, before, s, t, u, e) = elim (cases_lt j (length ps)) [
-  | inl old ↦ inl (i, j, a, b, before, (omega arith, stands_back ps (p ∷ []) i a (omega arith) s.1),
-      (old, stands_back ps (p ∷ []) j b old t.1), u, e)
+  | inl old ↦ inl (
+    i,
+    j,
+    a,
+    b,
+    before,
+    (omega arith, stands_back ps (p ∷ []) i a (omega arith) s.1),
+    (old, stands_back ps (p ∷ []) j b old t.1),
+    u,
+    e,
+  )
   | inr last ↦ (
       let here : j ≡ length ps = omega (arith, t.0, length_push ps p) in
       let same : b ≡ p = sym t.1 ∙ ap (λ k. get_or (ps ++ p ∷ []) k b) here ∙ last_is ps p b in
@@ -94,7 +111,7 @@ pub repeated_next : (ss : List Statement) (i : ℕ) (s : Statement) (p : Package
     → Repeated (flat_map file_package (take (i + 1) ss)) true r
 repeated_next ss i s p is_named a b r within at one h k w =
     subst (λ ps. Repeated ps true r)
-      (sym (taken file_package ss i s within at ∙ ap (λ z. flat_map file_package (take i ss) ++ z) one))
+    (sym (taken file_package ss i s within at ∙ ap (λ z. flat_map file_package (take i ss) ++ z) one))
     (repeated_more (flat_map file_package (take i ss)) p is_named a b r h k w)
 
 pub repeated_skip : (ss : List Statement) (i : ℕ) (s : Statement) (is_named : Bool) (a : Option Spot) → i < length ss
@@ -103,7 +120,7 @@ pub repeated_skip : (ss : List Statement) (i : ℕ) (s : Statement) (is_named : 
     → Repeated (flat_map file_package (take (i + 1) ss)) is_named a
 repeated_skip ss i s is_named a within at none h =
     subst (λ ps. Repeated ps is_named a)
-      (sym (taken file_package ss i s within at ∙ ap (λ z. flat_map file_package (take i ss) ++ z) none
+    (sym (taken file_package ss i s within at ∙ ap (λ z. flat_map file_package (take i ss) ++ z) none
     ∙ append-nil (flat_map file_package (take i ss)))) h
 
 pub repeated_all : (ss : List Statement) (i : ℕ) (is_named : Bool) (a : Option Spot) → length ss ≤ i

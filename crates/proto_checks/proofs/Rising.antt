@@ -32,7 +32,7 @@ rises_far : (ns : List MarkedNumber) (i j : ℕ) (d : MarkedNumber) → Rises ns
 rises_far ns i j d up before below =
     let one = up i d (omega arith) in
     let rest = IsNonDecreasingBy-from_all_adjacent number_in ns (λ k e h. (let step = up k e h in omega arith))
-      (i + 1) j d (omega arith) below in
+    (i + 1) j d (omega arith) below in
     omega arith
 
 -- so no number stands twice

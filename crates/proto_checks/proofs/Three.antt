@@ -13,14 +13,14 @@ pub first_of_three : (A B C : Spot → Type 0) (r : Option Spot) → ((x : Spot)
     → IsLeast (A ∪ B ∪ C) r
 first_of_three A B C r none never h = least_same A (A ∪ B ∪ C) r
     (λ x v. elim v [ inl s ↦ elim s [ inl a ↦ a | inr b ↦ absurd (none x b) ] | inr c ↦ absurd (never x c) ])
-      (λ x a. inl (inl a)) h
+    (λ x a. inl (inl a)) h
 
 pub last_of_three : (A B C : Spot → Type 0) (r : Option Spot) → ((x : Spot) → A x → ⊥)
     → ((x : Spot) → B x → ⊥) → IsLeast C r
     → IsLeast (A ∪ B ∪ C) r
 last_of_three A B C r none never h = least_same C (A ∪ B ∪ C) r
     (λ x v. elim v [ inl s ↦ elim s [ inl a ↦ absurd (none x a) | inr b ↦ absurd (never x b) ] | inr c ↦ c ])
-      (λ x c. inr c) h
+    (λ x c. inr c) h
 
 pub two_of_three : (A B C : Spot → Type 0) (r : Option Spot) → ((x : Spot) → C x → ⊥) → IsLeast (A ∪ B) r
     → IsLeast (A ∪ B ∪ C) r
@@ -32,7 +32,7 @@ pub second_of_three : (A B C : Spot → Type 0) (r : Option Spot) → ((x : Spot
     → IsLeast (A ∪ B ∪ C) r
 second_of_three A B C r none never h = least_same B (A ∪ B ∪ C) r
     (λ x v. elim v [ inl s ↦ elim s [ inl a ↦ absurd (none x a) | inr b ↦ b ] | inr c ↦ absurd (never x c) ])
-      (λ x b. inl (inr b)) h
+    (λ x b. inl (inr b)) h
 
 -- what statements break, by the kinds of their elements
 split_three : {X A B C : Type 0} (S : A → Spot → Type 0) (T : B → Spot → Type 0) (U : C → Spot → Type 0)

@@ -38,7 +38,7 @@ statement_service s r h = last_of_three (Each [] MessageBreaks) (Each [] EnumBre
 
 pub declared_least : (limits : Limits) (desc : FileDesc) (a b p ab r : Option Spot) →
     IsLeast (Each (flat_map (λ m. declared_by_message m (file_scope desc.«package»)) desc.messages) (IsTooLong limits))
-      a →
+    a →
     IsLeast (Each (flat_map (declared_by_enum (file_scope desc.«package»)) desc.enums) (IsTooLong limits)) b →
     IsLeast (Each (flat_map (declared_by_service (file_scope desc.«package»)) desc.services) (IsTooLong limits)) p →
     IsLesser a b ab → IsLesser ab p r → IsLeast (Each (declared_by desc) (IsTooLong limits)) r
@@ -48,4 +48,4 @@ declared_least limits desc a b p ab r h k m u w =
     let enums = flat_map (declared_by_enum scope) desc.enums in
     let services = flat_map (declared_by_service scope) desc.services in
     least_append (IsTooLong limits) (messages ++ enums) services ab p r
-      (least_append (IsTooLong limits) messages enums a b ab h k u) m w
+    (least_append (IsTooLong limits) messages enums a b ab h k u) m w

@@ -22,11 +22,11 @@ method_at : (region : ℕ → Type 0) (scope : List ℕ) (m : MethodDesc) → Me
     → AllByRecursion (ReferenceAt region) (references_of_method scope m)
 method_at region scope m at =
     both (ReferenceAt region) (references_of_type scope want.MessageOnly [] m.input)
-      (references_of_type scope want.MessageOnly [] m.output)
+    (references_of_type scope want.MessageOnly [] m.output)
     (type_at region scope want.MessageOnly [] m.input
-      (prefix region (reference_places m.input) (reference_places m.output) at.1) tt)
+    (prefix region (reference_places m.input) (reference_places m.output) at.1) tt)
     (type_at region scope want.MessageOnly [] m.output
-      (rest region (reference_places m.input) (reference_places m.output) at.1) tt)
+    (rest region (reference_places m.input) (reference_places m.output) at.1) tt)
 
 service_declares : (region : ℕ → Type 0) (scope : List ℕ) (s : ServiceDesc) → ServiceWithin region s
     → AllByRecursion (DeclaredAt region) (declared_by_service scope s)
@@ -34,7 +34,7 @@ service_declares region scope s at = (
   at.0,
   each_map (DeclaredAt region) (declared_method (scoped scope s.name)) s.methods
       (each_weaker (MethodWithin region) (λ (m : MethodDesc). IsIn region m.place) s.methods (λ m w. w.0)
-        (each_places region method_places s.methods at.1)),
+      (each_places region method_places s.methods at.1)),
 )
 
 service_refers : (region : ℕ → Type 0) (scope : List ℕ) (s : ServiceDesc) → ServiceWithin region s
@@ -56,13 +56,13 @@ record FileAt (region : ℕ → Type 0) (d : FileDesc) : Type 0 where
 file_at : (region : ℕ → Type 0) (d : FileDesc) → AreIn region (places_of d) → FileAt region d
 file_at region d at =
     let upto_enums =
-      prefix region (package_places d.«package» ++ map import_place d.imports ++ flat_map message_places d.messages
+    prefix region (package_places d.«package» ++ map import_place d.imports ++ flat_map message_places d.messages
     ++ flat_map enum_places d.enums) (flat_map service_places d.services) at in
     let upto_messages =
-      prefix region (package_places d.«package» ++ map import_place d.imports ++ flat_map message_places d.messages)
+    prefix region (package_places d.«package» ++ map import_place d.imports ++ flat_map message_places d.messages)
     (flat_map enum_places d.enums) upto_enums in
     let upto_imports = prefix region (package_places d.«package» ++ map import_place d.imports)
-      (flat_map message_places d.messages) upto_messages in
+    (flat_map message_places d.messages) upto_messages in
     record {
       package_at = prefix region (package_places d.«package») (map import_place d.imports) upto_imports;
       imports = rest region (package_places d.«package») (map import_place d.imports) upto_imports;
@@ -70,10 +70,10 @@ file_at region d at =
           (flat_map message_places d.messages) upto_messages;
       enums = each_places region enum_places d.enums (rest region
           (package_places d.«package» ++ map import_place d.imports ++ flat_map message_places d.messages)
-            (flat_map enum_places d.enums) upto_enums);
+          (flat_map enum_places d.enums) upto_enums);
       services = each_places region service_places d.services (rest region
           (package_places d.«package» ++ map import_place d.imports ++ flat_map message_places d.messages
-            ++ flat_map enum_places d.enums)
+          ++ flat_map enum_places d.enums)
           (flat_map service_places d.services) at);
     }
 
@@ -86,11 +86,11 @@ declared_at : (region : ℕ → Type 0) (d : FileDesc) → FileAt region d
 declared_at region d at =
     let scope : List ℕ = file_scope d.«package» in
     let messages =
-      (messages_at region scope d.messages (each_of (MessageAt region) (message_at region) d.messages) at.messages).0 in
+    (messages_at region scope d.messages (each_of (MessageAt region) (message_at region) d.messages) at.messages).0 in
     let enums = each_given (EnumWithin region) (DeclaredAt region) (declared_by_enum scope) d.enums
-      (enum_at region scope) at.enums in
+    (enum_at region scope) at.enums in
     let services = each_given (ServiceWithin region) (DeclaredAt region) (declared_by_service scope) d.services
-      (service_declares region scope) at.services in
+    (service_declares region scope) at.services in
     both (DeclaredAt region) _ _ (both (DeclaredAt region) _ _ messages enums) services
 
 pub references_at : (region : ℕ → Type 0) (d : FileDesc) → AreIn region (places_of d)
@@ -99,8 +99,8 @@ references_at region d at =
     let own = file_at region d at in
     let scope : List ℕ = file_scope d.«package» in
     let messages =
-      (messages_at region scope d.messages (each_of (MessageAt region) (message_at region) d.messages) own.messages).1
-      in
+    (messages_at region scope d.messages (each_of (MessageAt region) (message_at region) d.messages) own.messages).1
+    in
     both (ReferenceAt region) _ _ messages (each_given (ServiceWithin region) (ReferenceAt region)
     (references_of_service scope) d.services (service_refers region scope) own.services)
 
@@ -114,14 +114,14 @@ package_occurrences_at region file None at = tt
 package_occurrences_at region file (Some p) at =
     each_map (OccurrenceAt region file) (package_occurrence file p.place) (prefixes p.name)
     (each_of (λ name. OccurrenceAt region file (package_occurrence file p.place name)) (λ name. (refl, at.0))
-      (prefixes p.name))
+    (prefixes p.name))
 
 pub occurrences_at : (region : ℕ → Type 0) (file : ℕ) (d : FileDesc) → AreIn region (places_of d)
     → AllByRecursion (OccurrenceAt region file) (occurrences_of file d)
 occurrences_at region file d at =
     let own = file_at region d at in
     both (OccurrenceAt region file) (package_occurrences file d.«package»)
-      (map (declared_occurrence file) (declared_by d))
+    (map (declared_occurrence file) (declared_by d))
     (package_occurrences_at region file d.«package» own.package_at)
     (each_map (OccurrenceAt region file) (declared_occurrence file) (declared_by d)
     (each_weaker (DeclaredAt region) (λ e. OccurrenceAt region file (declared_occurrence file e)) (declared_by d)

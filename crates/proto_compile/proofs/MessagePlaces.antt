@@ -65,9 +65,9 @@ field_at : (region : ℕ → Type 0) (scope : List ℕ) (f : FieldDesc) → Fiel
     → AllByRecursion (ReferenceAt region) (references_of_field scope f)
 field_at region scope f at =
     kind_at region scope f.options f.field_type
-      (prefix region (kind_places f.field_type) (map option_place f.options) at.1)
+    (prefix region (kind_places f.field_type) (map option_place f.options) at.1)
     (each_place region option_place f.options
-      (rest region (kind_places f.field_type) (map option_place f.options) at.1))
+    (rest region (kind_places f.field_type) (map option_place f.options) at.1))
 
 pub enum_at : (region : ℕ → Type 0) (scope : List ℕ) (e : EnumDesc) → EnumWithin region e
     → AllByRecursion (DeclaredAt region) (declared_by_enum scope e)
@@ -86,14 +86,14 @@ record OwnAt (region : ℕ → Type 0) (m : MessageDesc-F MessageDesc) : Type 0 
 
 own_at : (region : ℕ → Type 0) (m : MessageDesc-F MessageDesc) → AreIn region
     (m.place.offset ∷ (flat_map field_places m.fields ++ map oneof_place m.oneofs ++ flat_map enum_places m.enums
-      ++ flat_map message_places m.nested))
+    ++ flat_map message_places m.nested))
     → OwnAt region m
 own_at region m at =
     let upto_enums =
-      prefix region (flat_map field_places m.fields ++ map oneof_place m.oneofs ++ flat_map enum_places m.enums)
+    prefix region (flat_map field_places m.fields ++ map oneof_place m.oneofs ++ flat_map enum_places m.enums)
     (flat_map message_places m.nested) at.1 in
     let upto_oneofs = prefix region (flat_map field_places m.fields ++ map oneof_place m.oneofs)
-      (flat_map enum_places m.enums) upto_enums in
+    (flat_map enum_places m.enums) upto_enums in
     record {
       place = at.0;
       fields = each_places region field_places m.fields
@@ -113,9 +113,9 @@ own_declared_at : (region : ℕ → Type 0) (scope : List ℕ) (m : MessageDesc)
 own_declared_at region scope m own =
     let fields = each_map (DeclaredAt region) (declared_field (scope_in m scope)) (out-MessageDesc m).fields
     (each_weaker (FieldWithin region) (λ (f : FieldDesc). IsIn region f.place) (out-MessageDesc m).fields
-      (λ f at. at.0) own.fields) in
+    (λ f at. at.0) own.fields) in
     let oneofs = each_map (DeclaredAt region) (declared_oneof (scope_in m scope))
-      (out-MessageDesc m).oneofs own.oneofs in
+    (out-MessageDesc m).oneofs own.oneofs in
     let enums = each_given (EnumWithin region) (DeclaredAt region) (declared_by_enum (scope_in m scope))
     (out-MessageDesc m).enums (enum_at region (scope_in m scope)) own.enums in
     (own.place, both (DeclaredAt region) _ _ (both (DeclaredAt region) _ _ fields oneofs) enums)
@@ -130,7 +130,7 @@ pub messages_at : (region : ℕ → Type 0) (scope : List ℕ) (ms : List Messag
 messages_at region scope [] each at = (tt, tt)
 messages_at region scope (m ∷ ms) each at =
     two region (declared_by_message m scope) (flat_map (λ m. declared_by_message m scope) ms)
-      (references_by_message m scope)
+    (references_by_message m scope)
     (flat_map (λ m. references_by_message m scope) ms)
     (each.0 (prefix region (message_places m) (flat_map message_places ms) at) scope)
     (messages_at region scope ms each.1 (rest region (message_places m) (flat_map message_places ms) at))
@@ -146,7 +146,7 @@ message_out region m each at scope =
       subst (AllByRecursion (DeclaredAt region)) (sym (declared_out m scope))
           (both (DeclaredAt region) (declared_before m scope) _ (own_declared_at region scope m own) nested.0),
       subst (AllByRecursion (ReferenceAt region)) (sym (references_out m scope))
-        (both (ReferenceAt region) (own_references m scope) _ references nested.1),
+          (both (ReferenceAt region) (own_references m scope) _ references nested.1),
     )
 
 abbrev Known : (ℕ → Type 0) → Type 0
@@ -160,9 +160,9 @@ message_step : (region : ℕ → Type 0) (x : MessageDesc-F MessageDesc) (y : Me
     → map-MessageDesc (Known region) MessageDesc (λ e. e.0) y ≡ x → MessageAt region (roll-MessageDesc x)
 message_step region x y e = message_out region (roll-MessageDesc x)
     (subst (λ (m : MessageDesc-F MessageDesc). AllByRecursion (MessageAt region) m.nested)
-      (sym (out-roll-MessageDesc x))
+    (sym (out-roll-MessageDesc x))
     (subst (λ (m : MessageDesc-F MessageDesc). AllByRecursion (MessageAt region) m.nested) e
-      (known_at region y.nested)))
+    (known_at region y.nested)))
 
 pub message_at : (region : ℕ → Type 0) (m : MessageDesc) → MessageAt region m
 message_at region = ind-MessageDesc (MessageAt region) (message_step region)

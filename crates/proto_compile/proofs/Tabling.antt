@@ -42,7 +42,7 @@ pushed (e ∷ es) key value none = by (string_eq key e.0) refl
         → map compiled_file (insert_entry string_eq es key value) ≡ map compiled_file es
         ++ compiled_file (key, value) ∷ []
         → map compiled_file (if b then (e.0, value) ∷ es else e ∷ insert_entry string_eq es key value) ≡ compiled_file e
-          ∷ map compiled_file es
+        ∷ map compiled_file es
         ++ compiled_file (key, value) ∷ []
     by true same rest =
         absurd (none 0 (omega arith, sym ((bytes_eq-Decides (string_bytes key) (string_bytes e.0)).0 same)))
@@ -54,7 +54,7 @@ name_is : (es : List Entry) (a : ℕ) (e : Entry) → a < length es
     → get_or (map file_name (map compiled_file es)) a [] ≡ string_bytes (get_or (keys_of es) a e.0)
 name_is es a e h =
     let first = get_or-map file_name (map compiled_file es) a (compiled_file e) []
-      (let l = length-map es compiled_file in omega (arith, l, h)) in
+    (let l = length-map es compiled_file in omega (arith, l, h)) in
     let second = get_or-map compiled_file es a e (compiled_file e) h in
     let third = get_or-map key_of es a e e.0 h in
     first ∙ ap file_name second ∙ sym (ap (λ (k : String Global). string_bytes k) third)
@@ -67,7 +67,7 @@ none_named (e ∷ es) name none a (below, is) =
     let files = length-map (e ∷ es) compiled_file in
     let past : length (keys_of (e ∷ es)) ≤ position_or_len (has_name name) (keys_of (e ∷ es)) =
     ltb-false _ _
-      (not_some (nat_lt (position_or_len (has_name name) (keys_of (e ∷ es))) (length (keys_of (e ∷ es)))) none) in
+    (not_some (nat_lt (position_or_len (has_name name) (keys_of (e ∷ es))) (length (keys_of (e ∷ es)))) none) in
     let fails = fails_before_first (has_name name) (keys_of (e ∷ es)) a e.0 (omega (arith, past, keys, files, below)) in
     let at = name_is (e ∷ es) a e (omega (arith, files, below)) in
     true≢false (sym ((bytes_eq-Decides name (string_bytes (get_or (keys_of (e ∷ es)) a e.0))).1 (sym is ∙ at)) ∙ fails)
@@ -83,9 +83,11 @@ one_named (e ∷ es) name a some =
     let keys = length-map (e ∷ es) key_of in
     let files = length-map (e ∷ es) compiled_file in
     let first = position-Some (has_name name) (keys_of (e ∷ es)) a e.0 some in
-    let below : a < length (e ∷ es) = omega (arith, keys, first.0) in
-    (omega (arith, files, below), name_is (e ∷ es) a e below
-      ∙ sym ((bytes_eq-Decides name (string_bytes (get_or (keys_of (e ∷ es)) a e.0))).0 first.1))
+    let below : a < length (e ∷ es) = omega (arith, keys, first.0) in (
+      omega (arith, files, below),
+      name_is (e ∷ es) a e below
+          ∙ sym ((bytes_eq-Decides name (string_bytes (get_or (keys_of (e ∷ es)) a e.0))).0 first.1),
+    )
 
 pub positioned : (es : List Entry) (name : List ℕ) (o : Option ℕ) → o ≡ position (has_name name) (keys_of es)
     → MatchOption o ((a : ℕ) → IsNamed (map compiled_file es) name a → ⊥) (IsNamed (map compiled_file es) name)
@@ -99,7 +101,7 @@ pub bytes_are : (es : List Entry) (a : ℕ) (e : Entry) → slice_get es a ≡ S
 bytes_are es a e some =
     let below = slice_get_within es a e some in
     let first = get_or-map file_bytes (map compiled_file es) a (compiled_file e) []
-      (let l = length-map es compiled_file in omega (arith, l, below)) in
+    (let l = length-map es compiled_file in omega (arith, l, below)) in
     let second = get_or-map compiled_file es a e (compiled_file e) below in
     let third = get_or_from_slice_get es a e e some in
     sym (first ∙ ap file_bytes second ∙ ap (λ (x : Entry). x.1.items) third)

@@ -9,8 +9,12 @@ use Rattle.proto_desc.specs.declared.message.MessageDesc.TheFolds.{fold_out-Mess
 use Rattle.proto_desc.specs.declared.name_kind.NameKind.TheVariants as kind
 
 abbrev pub own_declared : MessageDesc → List ℕ → Declared
-own_declared m scope = record { scope = scope; name = (out-MessageDesc m).name; kind = kind.Message;
-    place = (out-MessageDesc m).place }
+own_declared m scope = record {
+  scope = scope;
+  name = (out-MessageDesc m).name;
+  kind = kind.Message;
+  place = (out-MessageDesc m).place;
+}
 
 -- the scope of what stands in a message
 abbrev pub scope_in : MessageDesc → List ℕ → List ℕ
@@ -28,5 +32,5 @@ pub declared_out : (m : MessageDesc) (scope : List ℕ) → declared_by_message 
 declared_out m scope =
     ap (λ (f : List ℕ → List Declared). f scope) (fold_out-MessageDesc (List ℕ → List Declared) declared_step m)
     ∙ ap (λ xs. declared_before m scope ++ xs)
-      (flat_map-map (λ (g : List ℕ → List Declared). g (scope_in m scope)) declared_by_message
+    (flat_map-map (λ (g : List ℕ → List Declared). g (scope_in m scope)) declared_by_message
     (out-MessageDesc m).nested)

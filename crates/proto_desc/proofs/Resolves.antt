@@ -12,4 +12,4 @@ pub message_resolved_out : (m : MessageDesc) → message_resolved m
     ≡ (fields_resolved (out-MessageDesc m).fields && list_all message_resolved (out-MessageDesc m).nested)
 message_resolved_out m = fold_out-MessageDesc Bool resolved_step m
     ∙ ap (λ b. fields_resolved (out-MessageDesc m).fields && b)
-      (list_all-map (λ (b : Bool). b) message_resolved (out-MessageDesc m).nested)
+    (list_all-map (λ (b : Bool). b) message_resolved (out-MessageDesc m).nested)

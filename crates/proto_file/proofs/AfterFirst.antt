@@ -34,7 +34,7 @@ rest_after s from [] to cut = tt
 rest_after s from (p ∷ ps) to cut =
     let some : 0 < p.len = piece_nonempty _ p.len p.is cut.0 in
     elim p.is as
-      (λ is. BeginWithin IsAfter (rest_of (with_token is from (from + p.len) (tokens_from (from + p.len) ps)))) [
+    (λ is. BeginWithin IsAfter (rest_of (with_token is from (from + p.len) (tokens_from (from + p.len) ps)))) [
       | None ↦ rest_after s (from + p.len) ps to cut.1
       | Some lexeme ↦ tokens_after s (from + p.len) ps to cut.1 (omega (arith, some))
     ]
@@ -43,11 +43,11 @@ pub places_after : (limits : Limits) (name text : List ℕ) (desc : FileDesc) �
     → AreIn IsAfter (places_of desc)
 places_after limits name text desc (file, (ts, is, tree), unbroken, same) =
     let spelled : tokens_from (mark_len text) is.spelled_so.0 ≡ flatten (file_tree file) =
-      is.spelled_so.2 ∙ sym tree.tokens in
+    is.spelled_so.2 ∙ sym tree.tokens in
     let after : BeginWithin IsAfter (rest_of (flatten (file_tree file))) =
     subst (λ (us : List Spelled). BeginWithin IsAfter (rest_of us)) spelled
-      (rest_after text (mark_len text) is.spelled_so.0 _ is.spelled_so.1) in
+    (rest_after text (mark_len text) is.spelled_so.0 _ is.spelled_so.1) in
     let statements : BeginWithin IsAfter (flatten (row statement_tree file.statements)) =
     rest (λ (t : Spelled). IsAfter t.start) (rest_of (flatten (syntax_tree file.syntax)))
-      (flatten (row statement_tree file.statements)) after in
+    (flatten (row statement_tree file.statements)) after in
     subst (λ (d : FileDesc). AreIn IsAfter (places_of d)) (sym same) (lowered_within IsAfter name file statements)

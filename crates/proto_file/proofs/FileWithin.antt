@@ -63,7 +63,7 @@ LayerBodies n x = Unit {0}
 item_bodies : (n : ℕ) (x : MessageItem-F MessageItem Message) → LayerBodies n x → ItemBodies n (roll-MessageItem x)
 item_bodies n (opened.Message m) h =
     subst (ItemBodies n) (sym (of.rolls-Message m))
-      (λ all. subst (BodiesWithin n) (sym (nested_bodies m)) (h (subst (Within (upto n)) (item_message m) all)))
+    (λ all. subst (BodiesWithin n) (sym (nested_bodies m)) (h (subst (Within (upto n)) (item_message m) all)))
 item_bodies n (opened.Map a) h = subst (ItemBodies n) (sym (of.rolls-Map a)) (λ all. tt)
 item_bodies n (opened.Enum a) h = subst (ItemBodies n) (sym (of.rolls-Enum a)) (λ all. tt)
 item_bodies n (opened.Option a) h = subst (ItemBodies n) (sym (of.rolls-Option a)) (λ all. tt)
@@ -88,7 +88,7 @@ message_bodies : (n : ℕ) (k : Span) (name : Identifier) (o : Span) (xs : List 
     → MessageBodies n (record { keyword = k; name = name; open_brace = o; items = map (λ e. e.0) xs; close_brace = c })
 message_bodies n k name o xs c all =
     let items : ItemsWithin n (map (λ e. e.0) xs) =
-      each_row (ItemWithin (upto n)) message_item_tree (upto n) (map (λ e. e.0) xs) (λ i w. w)
+    each_row (ItemWithin (upto n)) message_item_tree (upto n) (map (λ e. e.0) xs) (λ i w. w)
     (left_of (upto n) (row message_item_tree (map (λ e. e.0) xs)) (symbol_tree (byte "}") c) all.1.1.1) in
     (items, all_bodies n xs items)
 
@@ -130,7 +130,7 @@ marks_within n mark xs all = each_map (λ (t : Marked). Placed n t.place) mark x
 enum_names_break : (n : ℕ) (x : Spot) (e : EnumDesc) → EnumWithin (upto n) e → EnumNamesBreak e x → SpotWithin n x
 enum_names_break n x e all b =
     name_used n e.reserved_names (map value_mark e.values) x
-      (marks_within n value_mark e.values (each_place (upto n) value_place e.values all.1)) b
+    (marks_within n value_mark e.values (each_place (upto n) value_place e.values all.1)) b
 
 abbrev NamesAt : ℕ → MessageNames → Type 0
 NamesAt n m = AllByRecursion (λ (f : FieldDesc). Placed n f.place) m.fields
@@ -171,16 +171,16 @@ own_places m =
 own_at : (n : ℕ) (m : MessageDesc-F MessageDesc) → AllWithin n (own_places m) → OwnAt n m
 own_at n m all =
     let upto_enums = prefix (λ p. p ≤ n)
-      (flat_map field_places m.fields ++ map oneof_place m.oneofs ++ flat_map enum_places m.enums)
+    (flat_map field_places m.fields ++ map oneof_place m.oneofs ++ flat_map enum_places m.enums)
     (flat_map message_places m.nested) all.1 in
     let upto_oneofs = prefix (λ p. p ≤ n) (flat_map field_places m.fields ++ map oneof_place m.oneofs)
-      (flat_map enum_places m.enums) upto_enums in
+    (flat_map enum_places m.enums) upto_enums in
     record {
       place = all.0;
       fields = each_weaker (λ f. AllWithin n (field_places f)) (λ (f : FieldDesc). Placed n f.place) m.fields
           (λ f w. w.0)
           (each_places (upto n) field_places m.fields
-            (prefix (λ p. p ≤ n) (flat_map field_places m.fields) (map oneof_place m.oneofs) upto_oneofs));
+          (prefix (λ p. p ≤ n) (flat_map field_places m.fields) (map oneof_place m.oneofs) upto_oneofs));
       oneofs = each_place (upto n) oneof_place m.oneofs
           (rest (λ p. p ≤ n) (flat_map field_places m.fields) (map oneof_place m.oneofs) upto_oneofs);
       enums = each_places (upto n) enum_places m.enums
@@ -222,23 +222,23 @@ nested_declared n scope (x ∷ xs) all = both (λ (d : Declared). Placed n d.pla
     (flat_map (λ m. declared_by_message m scope) (map (λ e. e.0) xs))
     ((x.1 (prefix (λ p. p ≤ n) (message_places x.0) (flat_map message_places (map (λ e. e.0) xs)) all)).1 scope)
     (nested_declared n scope xs
-      (rest (λ p. p ≤ n) (message_places x.0) (flat_map message_places (map (λ e. e.0) xs)) all))
+    (rest (λ p. p ≤ n) (message_places x.0) (flat_map message_places (map (λ e. e.0) xs)) all))
 
 declares : (n : ℕ) (scope : List ℕ) (m : MessageDesc-F MessageDesc) → OwnAt n m
     → DeclaredAt n (flat_map (λ nested. declared_by_message nested (scoped scope m.name)) m.nested)
     → DeclaredAt n (declared_own scope m)
 declares n scope m own nested =
     let fields = each_map (λ (d : Declared). Placed n d.place)
-      (declared_field (scoped scope m.name)) m.fields own.fields in
+    (declared_field (scoped scope m.name)) m.fields own.fields in
     let oneofs = each_map (λ (d : Declared). Placed n d.place)
-      (declared_oneof (scoped scope m.name)) m.oneofs own.oneofs in
+    (declared_oneof (scoped scope m.name)) m.oneofs own.oneofs in
     let enums = each_given (EnumWithin (upto n)) (λ (d : Declared). Placed n d.place)
-      (declared_by_enum (scoped scope m.name)) m.enums
+    (declared_by_enum (scoped scope m.name)) m.enums
     (enum_declares n (scoped scope m.name)) own.enums in (
       own.place,
       both (λ (d : Declared). Placed n d.place) _ _
           (both (λ (d : Declared). Placed n d.place) _ _ (both (λ (d : Declared). Placed n d.place) _ _ fields oneofs)
-            enums) nested,
+          enums) nested,
     )
 
 desc_step : (n : ℕ) (x : MessageDesc-F MessageDesc) (y : MessageDesc-F (Known n))
@@ -250,16 +250,19 @@ desc_step n x y e = subst (λ z. DescAt n (roll-MessageDesc z)) e (λ all.
     (subst (λ m. AllWithin n (own_places m)) (out-roll-MessageDesc (map-MessageDesc (Known n) MessageDesc (λ e. e.0) y))
     (subst (AllWithin n) (places_out (roll-MessageDesc (map-MessageDesc (Known n) MessageDesc (λ e. e.0) y))) all)) in (
       subst (AllByRecursion (NamesAt n))
-        (sym (names_out (roll-MessageDesc (map-MessageDesc (Known n) MessageDesc (λ e. e.0) y))
-          ∙ ap (λ (m : MessageDesc-F MessageDesc). record { fields = m.fields; reserved_names = m.reserved_names;
-            enums = m.enums }
+          (sym (names_out (roll-MessageDesc (map-MessageDesc (Known n) MessageDesc (λ e. e.0) y))
+          ∙ ap (λ (m : MessageDesc-F MessageDesc). record {
+            fields = m.fields;
+            reserved_names = m.reserved_names;
+            enums = m.enums;
+          }
           ∷ flat_map names_of m.nested) (out-roll-MessageDesc (map-MessageDesc (Known n) MessageDesc (λ e. e.0) y))))
           ((own.fields, own.enums), nested_names n y.nested own.nested),
       λ scope. subst (DeclaredAt n)
-        (sym (declared_out (roll-MessageDesc (map-MessageDesc (Known n) MessageDesc (λ e. e.0) y)) scope
+          (sym (declared_out (roll-MessageDesc (map-MessageDesc (Known n) MessageDesc (λ e. e.0) y)) scope
           ∙ ap (declared_own scope) (out-roll-MessageDesc (map-MessageDesc (Known n) MessageDesc (λ e. e.0) y))))
           (declares n scope (map-MessageDesc (Known n) MessageDesc (λ e. e.0) y) own
-            (nested_declared n (scoped scope y.name) y.nested own.nested)),
+          (nested_declared n (scoped scope y.name) y.nested own.nested)),
     ))
 
 desc_at : (n : ℕ) (m : MessageDesc) → DescAt n m
@@ -325,13 +328,13 @@ record DescPlaces (n : ℕ) (d : FileDesc) : Type 0 where
 desc_places : (n : ℕ) (d : FileDesc) → AllWithin n (places_of d) → DescPlaces n d
 desc_places n d all =
     let upto_enums = prefix (λ p. p ≤ n)
-      (package_places d.«package» ++ map import_place d.imports ++ flat_map message_places d.messages
+    (package_places d.«package» ++ map import_place d.imports ++ flat_map message_places d.messages
     ++ flat_map enum_places d.enums) (flat_map service_places d.services) all in
     let upto_messages = prefix (λ p. p ≤ n)
-      (package_places d.«package» ++ map import_place d.imports ++ flat_map message_places d.messages)
+    (package_places d.«package» ++ map import_place d.imports ++ flat_map message_places d.messages)
     (flat_map enum_places d.enums) upto_enums in
     let upto_imports = prefix (λ p. p ≤ n) (package_places d.«package» ++ map import_place d.imports)
-      (flat_map message_places d.messages) upto_messages in
+    (flat_map message_places d.messages) upto_messages in
     record {
       imports = rest (λ p. p ≤ n) (package_places d.«package») (map import_place d.imports) upto_imports;
       messages = rest (λ p. p ≤ n) (package_places d.«package» ++ map import_place d.imports)
@@ -348,17 +351,17 @@ desc_places n d all =
 declared_at : (n : ℕ) (d : FileDesc) → DescPlaces n d → DeclaredAt n (declared_by d)
 declared_at n d at =
     let messages = each_given (λ m. AllWithin n (message_places m)) (λ (x : Declared). Placed n x.place)
-      (λ m. declared_by_message m (file_scope d.«package»))
+    (λ m. declared_by_message m (file_scope d.«package»))
     d.messages (λ m w. (desc_at n m w).1 (file_scope d.«package»))
-      (each_places (upto n) message_places d.messages at.messages) in
+    (each_places (upto n) message_places d.messages at.messages) in
     let enums = each_given (EnumWithin (upto n)) (λ (x : Declared). Placed n x.place)
-      (declared_by_enum (file_scope d.«package»)) d.enums
+    (declared_by_enum (file_scope d.«package»)) d.enums
     (enum_declares n (file_scope d.«package»)) (each_places (upto n) enum_places d.enums at.enums) in
     let services = each_given (λ s. AllWithin n (service_places s)) (λ (x : Declared). Placed n x.place)
     (declared_by_service (file_scope d.«package»)) d.services
     (service_declares n (file_scope d.«package»)) (each_places (upto n) service_places d.services at.services) in
     both (λ (x : Declared). Placed n x.place) _ _
-      (both (λ (x : Declared). Placed n x.place) _ _ messages enums) services
+    (both (λ (x : Declared). Placed n x.place) _ _ messages enums) services
 
 statements_within : (n : ℕ) (tree : FileTree) → Within (upto n) (file_tree tree)
     → AllByRecursion (StatementWithin (upto n)) tree.statements
@@ -375,7 +378,7 @@ lowered_places : (n : ℕ) (name : List ℕ) (tree : FileTree) → Within (upto 
     → DescPlaces n (lowered name tree)
 lowered_places n name tree all = desc_places n (lowered name tree)
     (lowered_within (upto n) name tree
-      (right_of (upto n) (syntax_tree tree.syntax) (row statement_tree tree.statements) all))
+    (right_of (upto n) (syntax_tree tree.syntax) (row statement_tree tree.statements) all))
 
 head_breaks : (n : ℕ) (name : List ℕ) (tree : FileTree) (x : Spot) → Within (upto n) (file_tree tree)
     → HeadBreaks tree (lowered name tree) x
@@ -390,27 +393,27 @@ head_breaks n name tree x all (inl (inr b)) =
     let imports = (lowered name tree).imports in
     text_twice n _ (map import_mark imports) x
     (marks_within n import_mark imports
-      (each_place (upto n) import_place imports (lowered_places n name tree all).imports)) b
+    (each_place (upto n) import_place imports (lowered_places n name tree all).imports)) b
 head_breaks n name tree x all (inr b) = settings_break n element.File (flat_map file_setting tree.statements) x
     (each_given (StatementWithin (upto n)) (SettingWithin n) file_setting tree.statements (file_setting_within n)
-      (statements_within n tree all)) b
+    (statements_within n tree all)) b
 
 elements_break : (n : ℕ) (tree : FileTree) (x : Spot) → Within (upto n) (file_tree tree)
     → ElementsBreak tree.statements x → SpotWithin n x
 elements_break n tree x all (inl (inl b)) =
     each_within (MessageWithin n) MessageBreaks n (flat_map file_message tree.statements) x
     (each_given (StatementWithin (upto n)) (MessageWithin n) file_message tree.statements (file_message_within n)
-      (statements_within n tree all))
+    (statements_within n tree all))
     (λ m within c. each_within (ItemsWithin n) BodyBreaks n (bodies m.items) x within (body_breaks n x) c) b
 elements_break n tree x all (inl (inr b)) =
     each_within (λ e. Within (upto n) (enum_tree e)) EnumBreaks n (flat_map file_enum tree.statements) x
     (each_given (StatementWithin (upto n)) (λ e. Within (upto n) (enum_tree e)) file_enum tree.statements
-      (file_enum_within n)
+    (file_enum_within n)
     (statements_within n tree all)) (enum_breaks n x) b
 elements_break n tree x all (inr b) =
     each_within (λ t. Within (upto n) (service_tree t)) ServiceBreaks n (flat_map file_service tree.statements) x
     (each_given (StatementWithin (upto n)) (λ t. Within (upto n) (service_tree t)) file_service tree.statements
-      (file_service_within n)
+    (file_service_within n)
     (statements_within n tree all)) (service_breaks n x) b
 
 described_names_break : (n : ℕ) (d : FileDesc) (x : Spot) → DescPlaces n d → NamesBreak d x → SpotWithin n x
@@ -425,12 +428,12 @@ lengths_break : (n : ℕ) (limits : Limits) (name : List ℕ) (tree : FileTree) 
     → LengthsBreak limits tree.statements (lowered name tree) x → SpotWithin n x
 lengths_break n limits name tree x all (inl b) =
     each_within (λ p. Within (upto n) (package_tree p)) (PackageTooLong limits) n
-      (flat_map file_package tree.statements) x
+    (flat_map file_package tree.statements) x
     (packages_within n tree all) (package_long n limits x) b
 lengths_break n limits name tree x all (inr b) =
     each_within (λ (d : Declared). Placed n d.place) (IsTooLong limits) n (declared_by (lowered name tree)) x
     (declared_at n (lowered name tree) (lowered_places n name tree all))
-      (λ d within s. at_spot n d.place _ x within s.1) b
+    (λ d within s. at_spot n d.place _ x within s.1) b
 
 pub breaks_within : (n : ℕ) (limits : Limits) (name : List ℕ) (tree : FileTree) (x : Spot)
     → Within (upto n) (file_tree tree)

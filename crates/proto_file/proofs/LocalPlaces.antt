@@ -35,9 +35,9 @@ pieces_begin : (s : List ℕ) (from : ℕ) (ps : List Piece) (to : ℕ) → IsCu
 pieces_begin s from [] to cut = tt
 pieces_begin s from (p ∷ ps) to cut =
     elim p.is as (λ is. BeginWithin (upto to) (with_token is from (from + p.len) (tokens_from (from + p.len) ps))) [
-  | None ↦ pieces_begin s (from + p.len) ps to cut.1
-  | Some lexeme ↦ (cut_grows s from (p ∷ ps) to cut, pieces_begin s (from + p.len) ps to cut.1)
-]
+      | None ↦ pieces_begin s (from + p.len) ps to cut.1
+      | Some lexeme ↦ (cut_grows s from (p ∷ ps) to cut, pieces_begin s (from + p.len) ps to cut.1)
+    ]
 
 tokens_begin : (bytes : ℕ) (text : List ℕ) (ts : List Spelled) → IsTokenList bytes text ts
     → BeginWithin (upto (length text)) ts
@@ -77,8 +77,13 @@ token_fault_within bytes s place kind (inl long) = omega (arith, long.1)
 token_fault_within bytes s place kind (inr (inl bad)) = omega (arith, bad.1, utf8_valid_len_le s)
 token_fault_within bytes s place kind (inr (inr (short, utf8, bad))) =
     let (ps, to, at, cut, fault, is) = bad in
-    omega (arith, is, cut_within s (mark_len s) ps to (mark_within s) cut, piece_fault_within (drop to s) at kind fault,
-      length-drop to s)
+    omega (
+      arith,
+      is,
+      cut_within s (mark_len s) ps to (mark_within s) cut,
+      piece_fault_within (drop to s) at kind fault,
+      length-drop to s,
+    )
 
 -- that of a text that is too long stands at its start
 token_fault_short : (bytes : ℕ) (s : List ℕ) (place : ℕ) (kind : Kind) → IsFault bytes s place kind → place ≤ length s
@@ -108,11 +113,11 @@ fault_inside limits name text step place kind (of_tokens at_step fault) =
     record { within = within; short = token_fault_short _ text place.offset kind fault within }
 fault_inside limits name text step place kind (of_grammar at_step (ts, k, is, fault, is_kind, at)) =
     let within : place.offset ≤ length text =
-      subst (λ p. p ≤ length text) (sym at) (token_begins (length text) ts k (tokens_begin _ text ts is)) in
+    subst (λ p. p ≤ length text) (sym at) (token_begins (length text) ts k (tokens_begin _ text ts is)) in
     record { within = within; short = omega (arith, within, is.short) }
 fault_inside limits name text step place kind (of_checks at_step (file, is, least)) =
     inside_file limits text file place is
-      (breaks_within (length text) limits name file (spot place kind) (tree_begins limits text file is) least.is.among)
+    (breaks_within (length text) limits name file (spot place kind) (tree_begins limits text file is) least.is.among)
 
 -- all places of a descriptor are those of its text
 pub places_within : (limits : Limits) (name text : List ℕ) (desc : FileDesc) → Describes limits name text desc
@@ -120,7 +125,7 @@ pub places_within : (limits : Limits) (name text : List ℕ) (desc : FileDesc) �
 places_within limits name text desc (file, is, unbroken, same) =
     subst (λ d. AllWithin (length text) (places_of d)) (sym same) (lowered_within (upto (length text)) name file
     (right_of (upto (length text)) (syntax_tree file.syntax) (row statement_tree file.statements)
-      (tree_begins limits text file is)))
+    (tree_begins limits text file is)))
 
 pub place_inside : (limits : Limits) (name text : List ℕ) (desc : FileDesc) (place : Place)
     → Describes limits name text desc → place.offset ≤ length text

@@ -26,8 +26,8 @@ one_file : (limits : Limits) (text : List ℕ) (f g : FileTree) → IsFile limit
 one_file limits text f g (ts, is, tree) (us, is', tree') =
     let same : us ≡ ts = tokens_one _ text us ts is' is in
     same_file f g
-      (only_tree _ ts (file_tree f) (file_tree g) tree
-      (subst (λ vs. IsTreeOf (limit_of limits limit.Depth) vs (file_tree g)) same tree'))
+    (only_tree _ ts (file_tree f) (file_tree g) tree
+    (subst (λ vs. IsTreeOf (limit_of limits limit.Depth) vs (file_tree g)) same tree'))
 
 -- ---- a file has no fault of its tokens or of the grammar
 
@@ -40,7 +40,7 @@ no_grammar_fault : (limits : Limits) (text : List ℕ) (f : FileTree) (place : �
     → IsGrammarFault limits text place kind → ⊥
 no_grammar_fault limits text f place kind (ts, is, tree) (us, k, is', fault, is_kind, at) =
     fault.no_file (file_tree f) (subst (λ vs. IsTreeOf (limit_of limits limit.Depth) vs (file_tree f))
-      (tokens_one _ text ts us is is') tree)
+    (tokens_one _ text ts us is is') tree)
 
 one_grammar_fault : (limits : Limits) (text : List ℕ) (p q : ℕ) (a b : Kind) → IsGrammarFault limits text p a
     → IsGrammarFault limits text q b
@@ -48,10 +48,10 @@ one_grammar_fault : (limits : Limits) (text : List ℕ) (p q : ℕ) (a b : Kind)
 one_grammar_fault limits text p q a b (ts, j, is, fault, is_kind, at) (us, k, is', fault', is_kind', at') =
     let same : us ≡ ts = tokens_one _ text us ts is' is in
     let token : k ≡ j = one_fault _ ts k j
-      (subst (λ vs. IsFaultAt (limit_of limits limit.Depth) vs k) same fault') fault in
+    (subst (λ vs. IsFaultAt (limit_of limits limit.Depth) vs k) same fault') fault in
     let kind' : IsKindOf ts j b = subst (λ i. IsKindOf ts i b) token (subst (λ vs. IsKindOf vs k b) same is_kind') in (
       at ∙ sym (ap (λ i. place_of_token ts i (length text)) token)
-        ∙ sym (ap (λ vs. place_of_token vs k (length text)) same) ∙ sym at',
+          ∙ sym (ap (λ vs. place_of_token vs k (length text)) same) ∙ sym at',
       one_kind ts j a b is_kind kind',
     )
 
@@ -62,7 +62,7 @@ no_broken : (limits : Limits) (name text : List ℕ) (f : FileTree) (place : Pla
     → IsBrokenAt limits name text place kind → ⊥
 no_broken limits name text f place kind is unbroken (g, is', least) =
     unbroken (spot place kind) (subst (λ h. FileBreaks limits h (lowered name h) (spot place kind))
-      (one_file limits text g f is' is) least.is.among)
+    (one_file limits text g f is' is) least.is.among)
 
 one_broken : (limits : Limits) (name text : List ℕ) (p q : Place) (a b : Kind) → IsBrokenAt limits name text p a
     → IsBrokenAt limits name text q b
@@ -70,7 +70,7 @@ one_broken : (limits : Limits) (name text : List ℕ) (p q : Place) (a b : Kind)
 one_broken limits name text p q a b (f, is, least) (g, is', least') =
     let other : IsLeast (FileBreaks limits f (lowered name f)) (Some (spot q b)) =
     subst (λ h. IsLeast (FileBreaks limits h (lowered name h)) (Some (spot q b)))
-      (one_file limits text g f is' is) least' in
+    (one_file limits text g f is' is) least' in
     one_spot p q a b (least.is.least (spot q b) other.is.among) (other.is.least (spot p a) least.is.among)
 
 -- ---- one source

@@ -155,9 +155,10 @@ each_place region place (x ∷ xs) all = (all.0, each_place region place xs all.
 pub each_places : {X : Type 0} (region : ℕ → Type 0) (places : X → List ℕ) (xs : List X)
     → AreIn region (flat_map places xs) → AllByRecursion (λ x. AreIn region (places x)) xs
 each_places region places [] all = tt
-each_places region places (x ∷ xs) all =
-    (prefix region (places x) (flat_map places xs) all,
-      each_places region places xs (rest region (places x) (flat_map places xs) all))
+each_places region places (x ∷ xs) all = (
+  prefix region (places x) (flat_map places xs) all,
+  each_places region places xs (rest region (places x) (flat_map places xs) all),
+)
 
 pub each_given : {X Y : Type 0} (Q : X → Type 0) (P : Y → Type 0) (f : X → List Y) (xs : List X)
     → ((x : X) → Q x → AllByRecursion P (f x)) → AllByRecursion Q xs → AllByRecursion P (flat_map f xs)
@@ -185,7 +186,7 @@ pub bracketed_within : (region : ℕ → Type 0) (o : Option Options) → Within
 bracketed_within region None all = tt
 bracketed_within region (Some o) all =
     separated_within region o.settings
-      (left_of region (separated_tree setting_tree o.settings) (symbol_tree (byte "]") o.close_bracket) all.1)
+    (left_of region (separated_tree setting_tree o.settings) (symbol_tree (byte "]") o.close_bracket) all.1)
 
 first_within : (region : ℕ → Type 0) (word : List ℕ) (ss : List Setting) (s : Setting)
     → AllByRecursion (NameWithin region) ss → first_setting word ss ≡ Some s → NameWithin region s
@@ -219,9 +220,10 @@ options_within region e ss all = each_flat (OptionWithin region) (option_under s
   where
     each : (rs : List Rule) → AllByRecursion (λ r. AllByRecursion (OptionWithin region) (option_under ss r)) rs
     each [] = tt
-    each (r ∷ rs) =
-        (by_within region r.number r.kind (first_setting r.word ss) (λ s h. first_within region r.word ss s all h),
-        each rs)
+    each (r ∷ rs) = (
+      by_within region r.number r.kind (first_setting r.word ss) (λ s h. first_within region r.word ss s all h),
+      each rs,
+    )
 
 -- ---- types
 
@@ -315,7 +317,7 @@ fields_within : (region : ℕ → Type 0) (full : List ℕ) (real made : ℕ) (i
 fields_within region full real made [] all = tt
 fields_within region full real made (message_item.Field f ∷ is) all =
     let parts = statement_field_within region f.label f.field_type f.declarator
-      (subst (Within region) (item_field f) all.0) in (
+    (subst (Within region) (item_field f) all.0) in (
       described_within region f.declarator (label_of f.label) (kind_of f.field_type)
           (cond (is_optional f.label) (Some made) None) (is_optional f.label) parts.1 parts.0,
       fields_within region full real (made + cond (is_optional f.label) 1 0) is all.1,
@@ -323,17 +325,17 @@ fields_within region full real made (message_item.Field f ∷ is) all =
 fields_within region full real made (message_item.Map m ∷ is) all =
     let tree : Within region (map_tree m) = subst (Within region) (item_map m) all.0 in (
       described_within region m.declarator Repeated
-        (Named (Resolved (inner full (entry_name_of m.declarator.name.text)) type_kind.Message)) None false
+          (Named (Resolved (inner full (entry_name_of m.declarator.name.text)) type_kind.Message)) None false
           (right_of region (Left (map_type_tree m.map_type)) (declarator_tree m.declarator) tree.1) tt,
       fields_within region full real made is all.1,
     )
 fields_within region full real made (message_item.Oneof o ∷ is) all =
     both (FieldWithin region) (map (member_at real) (flat_map oneof_field o.items))
-      (fields_from full (real + 1) made is)
+    (fields_from full (real + 1) made is)
     (each_map (FieldWithin region) (member_at real) (flat_map oneof_field o.items)
-      (each_flat (λ f. FieldWithin region (member_at real f)) oneof_field o.items
+    (each_flat (λ f. FieldWithin region (member_at real f)) oneof_field o.items
     (each_row (λ i. AllByRecursion (λ f. FieldWithin region (member_at real f)) (oneof_field i)) oneof_item_tree
-      region o.items
+    region o.items
     (member_within region real) (oneof_items_within region o (subst (Within region) (item_oneof o) all.0)))))
     (fields_within region full (real + 1) made is all.1)
 fields_within region full real made (i ∷ is) all = fields_within region full real made is all.1
@@ -361,7 +363,7 @@ made_within : (region : ℕ → Type 0) (names : List (List ℕ)) (so_far : List
 made_within region names so_far [] made fields = made
 made_within region names so_far (f ∷ fs) made fields =
     made_within region names (with_one names so_far f f.proto3_optional) fs
-      (one_within region names so_far f f.proto3_optional made fields.0) fields.1
+    (one_within region names so_far f f.proto3_optional made fields.0) fields.1
 
 value_within : (region : ℕ → Type 0) (i : EnumItem) → Within region (enum_item_tree i)
     → AllByRecursion (λ v. region (value_place (value_desc v))) (enum_value i)
@@ -380,7 +382,7 @@ enum_within region e all = (
       (each_map (λ v. region (value_place v)) value_desc (flat_map enum_value e.items)
       (each_flat (λ v. region (value_place (value_desc v))) enum_value e.items
       (each_row (λ i. AllByRecursion (λ v. region (value_place (value_desc v))) (enum_value i)) enum_item_tree region
-        e.items (value_within region)
+      e.items (value_within region)
       (left_of region (row enum_item_tree e.items) (symbol_tree (byte "}") e.close_brace) all.1.1.1)))),
 )
 
@@ -402,24 +404,24 @@ OwnWithin region m = region (m.place.offset) × AllByRecursion (FieldWithin regi
 
 pub places_out : (m : MessageDesc) → message_places m
     ≡ (out-MessageDesc m).place.offset
-      ∷ (flat_map field_places (out-MessageDesc m).fields ++ map oneof_place (out-MessageDesc m).oneofs
+    ∷ (flat_map field_places (out-MessageDesc m).fields ++ map oneof_place (out-MessageDesc m).oneofs
     ++ flat_map enum_places (out-MessageDesc m).enums ++ flat_map message_places (out-MessageDesc m).nested)
 places_out m = fold_out-MessageDesc (List ℕ) places_step m
     ∙ ap (λ xs. (out-MessageDesc m).place.offset
-      ∷ (flat_map field_places (out-MessageDesc m).fields ++ map oneof_place (out-MessageDesc m).oneofs
+    ∷ (flat_map field_places (out-MessageDesc m).fields ++ map oneof_place (out-MessageDesc m).oneofs
     ++ flat_map enum_places (out-MessageDesc m).enums ++ xs))
-      (flat_map-map (λ (places : List ℕ). places) message_places (out-MessageDesc m).nested)
+    (flat_map-map (λ (places : List ℕ). places) message_places (out-MessageDesc m).nested)
 
 out_within : (region : ℕ → Type 0) (m : MessageDesc) → OwnWithin region (out-MessageDesc m) → DescWithin region m
 out_within region m (place, fields, oneofs, enums, nested) =
     let of_fields : AreIn region (flat_map field_places (out-MessageDesc m).fields) =
-      each_flat region field_places (out-MessageDesc m).fields fields in
+    each_flat region field_places (out-MessageDesc m).fields fields in
     let of_oneofs : AreIn region (map oneof_place (out-MessageDesc m).oneofs) =
-      each_map region oneof_place (out-MessageDesc m).oneofs oneofs in
+    each_map region oneof_place (out-MessageDesc m).oneofs oneofs in
     let of_enums : AreIn region (flat_map enum_places (out-MessageDesc m).enums) =
-      each_flat region enum_places (out-MessageDesc m).enums enums in
+    each_flat region enum_places (out-MessageDesc m).enums enums in
     let of_nested : AreIn region (flat_map message_places (out-MessageDesc m).nested) =
-      each_flat region message_places (out-MessageDesc m).nested nested in
+    each_flat region message_places (out-MessageDesc m).nested nested in
     subst (AreIn region) (sym (places_out m))
     (place, both region _ _ (both region _ _ (both region _ _ of_fields of_oneofs) of_enums) of_nested)
 
@@ -431,13 +433,13 @@ desc_within region m own = out_within region (roll-MessageDesc m)
 entry_within : (region : ℕ → Type 0) (m : MapField) → Within region (map_tree m) → DescWithin region (entry_of m)
 entry_within region m all =
     let name : region (m.declarator.name.span.start.offset) =
-      (right_of region (Left (map_type_tree m.map_type)) (declarator_tree m.declarator) all.1).0 in
+    (right_of region (Left (map_type_tree m.map_type)) (declarator_tree m.declarator) all.1).0 in
     let value : AreIn region (kind_places (kind_of m.map_type.value)) =
     kind_within region m.map_type.value
-      (left_of region (type_tree m.map_type.value) (symbol_tree (byte ">") m.map_type.close_angle)
+    (left_of region (type_tree m.map_type.value) (symbol_tree (byte ">") m.map_type.close_angle)
     (left_of region (Left (map_type_tree m.map_type)) (declarator_tree m.declarator) all.1).1.1.1) in
     desc_within region _
-      (name, ((name, tt), ((name, both region (kind_places (kind_of m.map_type.value)) [] value tt), tt)), tt, tt, tt)
+    (name, ((name, tt), ((name, both region (kind_places (kind_of m.map_type.value)) [] value tt), tt)), tt, tt, tt)
 
 -- the nested messages of a statement, by induction on messages
 abbrev ItemNested : (ℕ → Type 0) → MessageItem → Type 0
@@ -455,7 +457,7 @@ item_nested : (region : ℕ → Type 0) (x : MessageItem-F MessageItem Message) 
     → ItemNested region (roll-MessageItem x)
 item_nested region (opened.Message m) h = subst (ItemNested region) (sym (of.rolls-Message m))
     (λ all full. subst (AllByRecursion (DescWithin region)) (sym (nested_message full m))
-      (h (subst (Within region) (item_message m) all) full, tt))
+    (h (subst (Within region) (item_message m) all) full, tt))
 item_nested region (opened.Map m) h = subst (ItemNested region) (sym (of.rolls-Map m))
     (λ all full. (entry_within region m (subst (Within region) (item_map m) all), tt))
 item_nested region (opened.Enum a) h = subst (ItemNested region) (sym (of.rolls-Enum a)) (λ all full. tt)
@@ -479,12 +481,12 @@ all_nested region full (x ∷ xs) all =
     both (DescWithin region) (nested_of full x.0) (flat_map (nested_of full) (map (λ e. e.0) xs))
     (x.1 (left_of region (message_item_tree x.0) (row message_item_tree (map (λ e. e.0) xs)) all) full)
     (all_nested region full xs
-      (right_of region (message_item_tree x.0) (row message_item_tree (map (λ e. e.0) xs)) all))
+    (right_of region (message_item_tree x.0) (row message_item_tree (map (λ e. e.0) xs)) all))
 
 message_nested : (region : ℕ → Type 0) (k : Span) (name : Identifier) (o : Span)
     (xs : List (KnownItem region)) (c : Span)
     → MessageNested region
-      (record { keyword = k; name = name; open_brace = o; items = map (λ e. e.0) xs; close_brace = c })
+    (record { keyword = k; name = name; open_brace = o; items = map (λ e. e.0) xs; close_brace = c })
 message_nested region k name o xs c all scope =
     let items : List MessageItem = map (λ e. e.0) xs in
     let full : List ℕ = inner scope name.text in
@@ -500,10 +502,10 @@ message_nested region k name o xs c all scope =
       made_within region _ (real_oneofs (map (λ e. e.0) xs)) (all_fields (inner scope name.text) (map (λ e. e.0) xs))
           (each_map (OneofWithin region) (λ o. real_named o.name) (flat_map message_oneof (map (λ e. e.0) xs))
           (each_given (ItemWithin region) (λ o. OneofWithin region (real_named o.name)) message_oneof
-            (map (λ e. e.0) xs) (real_within region) each)) fields,
+          (map (λ e. e.0) xs) (real_within region) each)) fields,
       each_map (EnumWithin region) lowered_enum (flat_map message_enum (map (λ e. e.0) xs))
           (each_given (ItemWithin region) (λ e. EnumWithin region (lowered_enum e)) message_enum (map (λ e. e.0) xs)
-            (message_enum_within region) each),
+          (message_enum_within region) each),
       all_nested region (inner scope name.text) xs rows,
     )
 
@@ -587,7 +589,7 @@ service_within region s all = (
       (each_map (MethodWithin region) method_desc (flat_map service_rpc s.items)
       (each_flat (λ r. MethodWithin region (method_desc r)) service_rpc s.items
       (each_row (λ i. AllByRecursion (λ r. MethodWithin region (method_desc r)) (service_rpc i)) service_item_tree
-        region s.items (method_within region)
+      region s.items (method_within region)
       (left_of region (row service_item_tree s.items) (symbol_tree (byte "}") s.close_brace) all.1.1.1)))),
 )
 
@@ -609,7 +611,7 @@ package_within region (statement.Empty s ∷ ss) all = package_within region ss 
 
 import_within : (region : ℕ → Type 0) (public : Option Span) (path : StringValue) (semicolon : Span)
     → Within region
-      (Pair (optional (word_tree (codes "public")) public) (Pair (str_tree path) (symbol_tree (byte ";") semicolon)))
+    (Pair (optional (word_tree (codes "public")) public) (Pair (str_tree path) (symbol_tree (byte ";") semicolon)))
     → region (path.first.span.start.offset)
 import_within region None path semicolon all = all.0
 import_within region (Some s) path semicolon all = all.1.0
@@ -650,23 +652,23 @@ lowered_within region name file all =
     let scope : List ℕ = package_scope (package_of file.statements) in
     let of_imports : AreIn region (map import_place (flat_map import_of file.statements)) =
     each_map region import_place _ (given region (λ i. region (import_place i)) import_of file.statements
-      (import_of_within region) ss) in
+    (import_of_within region) ss) in
     let of_messages : AreIn region
-      (flat_map message_places (map (lowered_message scope) (flat_map file_message file.statements))) =
+    (flat_map message_places (map (lowered_message scope) (flat_map file_message file.statements))) =
     each_flat region message_places _
-      (each_map (DescWithin region) (lowered_message scope) (flat_map file_message file.statements)
+    (each_map (DescWithin region) (lowered_message scope) (flat_map file_message file.statements)
     (given region (λ m. DescWithin region (lowered_message scope m)) file_message file.statements
-      (file_message_within region scope) ss)) in
+    (file_message_within region scope) ss)) in
     let of_enums : AreIn region (flat_map enum_places (map lowered_enum (flat_map file_enum file.statements))) =
     each_flat region enum_places _ (each_map (EnumWithin region) lowered_enum (flat_map file_enum file.statements)
     (given region (λ e. EnumWithin region (lowered_enum e)) file_enum file.statements (file_enum_within region) ss)) in
     let of_services : AreIn region
-      (flat_map service_places (map lowered_service (flat_map file_service file.statements))) =
+    (flat_map service_places (map lowered_service (flat_map file_service file.statements))) =
     each_flat region service_places _
-      (each_map (ServiceWithin region) lowered_service (flat_map file_service file.statements)
+    (each_map (ServiceWithin region) lowered_service (flat_map file_service file.statements)
     (given region (λ t. ServiceWithin region (lowered_service t)) file_service file.statements
-      (file_service_within region) ss)) in
+    (file_service_within region) ss)) in
     both region _ _
-      (both region _ _
-      (both region _ _ (both region _ _ (package_within region file.statements ss) of_imports) of_messages)
+    (both region _ _
+    (both region _ _ (both region _ _ (package_within region file.statements ss) of_imports) of_messages)
     of_enums) of_services

@@ -56,7 +56,7 @@ pub outside : (n least greatest : ℕ) (k : Kind) (ns : List MarkedNumber) (x : 
     → Outside least greatest k ns x → SpotWithin n x
 outside n least greatest k ns x all broken =
     each_within (λ (m : MarkedNumber). Placed n m.place) (IsOutside least greatest k) n ns x all
-      (λ m within s. at_spot n m.place k x within s.1) broken
+    (λ m within s. at_spot n m.place k x within s.1) broken
 
 pub overlap : (n : ℕ) (rs : List MarkedRange) (x : Spot) → RangesWithin n rs → ReservedOverlap rs x → SpotWithin n x
 overlap n rs x all broken = later_within _ (λ (r : MarkedRange). r.place) _ n rs x all broken
@@ -69,10 +69,10 @@ pub number_used : (n : ℕ) (rs : List MarkedRange) (ns : List MarkedNumber) (x 
     → ReservedNumberUsed rs ns x → SpotWithin n x
 number_used n rs ns x all broken =
     each_within (λ (m : MarkedNumber). Placed n m.place) (IsReserved rs) n ns x all
-      (λ m within s. at_spot n m.place _ x within s.1) broken
+    (λ m within s. at_spot n m.place _ x within s.1) broken
 
 pub name_used : (n : ℕ) (reserved : List (List ℕ)) (ts : List Marked) (x : Spot) → TextsWithin n ts
     → ReservedNameUsed reserved ts x → SpotWithin n x
 name_used n reserved ts x all broken =
     each_within (λ (t : Marked). Placed n t.place) (IsReservedName reserved) n ts x all
-      (λ t within s. at_spot n t.place _ x within s.1) broken
+    (λ t within s. at_spot n t.place _ x within s.1) broken

@@ -88,9 +88,11 @@ value_within n (constant.Number c) all = number_within n c.sign c.number all
 value_within n (constant.String s) all = all.0
 
 setting_within : (n : ℕ) (s : Setting) → Within (upto n) (setting_tree s) → SettingWithin n s
-setting_within n s all =
-    (all.0, value_within n s.value
-      (right_of (upto n) (full_tree s.name) (Pair (symbol_tree (byte "=") s.equals) (constant_tree s.value)) all).1)
+setting_within n s all = (
+  all.0,
+  value_within n s.value
+      (right_of (upto n) (full_tree s.name) (Pair (symbol_tree (byte "=") s.equals) (constant_tree s.value)) all).1,
+)
 
 pub statement_within : (n : ℕ) (o : OptionStatement) → Within (upto n) (option_tree o) → SettingWithin n o.setting
 statement_within n o all = setting_within n o.setting
@@ -113,7 +115,7 @@ settings_break n e ss x all (inl broken) =
     each_within (SettingWithin n) (SettingBreaks e) n ss x all (λ s within b. setting_breaks n e x s within b) broken
 settings_break n e ss x all (inr broken) =
     later_within _ name_place kind.OptionTwice n ss x
-      (each_weaker (SettingWithin n) (λ s. Placed n (name_place s)) ss (λ s within. within.0) all) broken
+    (each_weaker (SettingWithin n) (λ s. Placed n (name_place s)) ss (λ s within. within.0) all) broken
 
 -- ---- fields
 
@@ -125,9 +127,11 @@ abbrev OptionedWithin : ℕ → OptionedField → Type 0
 OptionedWithin n f = DeclaratorWithin n f.declarator
 
 declarator_within : (n : ℕ) (d : Declarator) → Within (upto n) (declarator_tree d) → DeclaratorWithin n d
-declarator_within n d all =
-    (all.1.1.0, bracketed_within n d.options
-      (left_of (upto n) (optional options_tree d.options) (symbol_tree (byte ";") d.semicolon) all.1.1.1))
+declarator_within n d all = (
+  all.1.1.0,
+  bracketed_within n d.options
+      (left_of (upto n) (optional options_tree d.options) (symbol_tree (byte ";") d.semicolon) all.1.1.1),
+)
 
 optioned_breaks : (n : ℕ) (x : Spot) (f : OptionedField) → OptionedWithin n f → FieldOptionsBreak f x → SpotWithin n x
 optioned_breaks n x f all (inl (inl broken)) =
@@ -155,10 +159,12 @@ oneof_field_within n (oneof_item.Empty s) all = tt
 
 optioned_within : (n : ℕ) (i : MessageItem) → ItemWithin (upto n) i
     → AllByRecursion (OptionedWithin n) (optioned_fields i)
-optioned_within n (message_item.Field f) all =
-    (declarator_within n f.declarator
+optioned_within n (message_item.Field f) all = (
+  declarator_within n f.declarator
       (statement_field_within (upto n) f.label f.field_type f.declarator
-      (subst (Within (upto n)) (item_field f) all)).1, tt)
+      (subst (Within (upto n)) (item_field f) all)).1,
+  tt,
+)
 optioned_within n (message_item.Map m) all = (
   declarator_within n m.declarator
       (right_of (upto n) (Left (map_type_tree m.map_type)) (declarator_tree m.declarator)
@@ -168,7 +174,7 @@ optioned_within n (message_item.Map m) all = (
 optioned_within n (message_item.Oneof o) all =
     each_map (OptionedWithin n) optioned_in_oneof (flat_map oneof_field o.items)
     (each_given (λ i. Within (upto n) (oneof_item_tree i)) (λ f. OptionedWithin n (optioned_in_oneof f)) oneof_field
-      o.items (oneof_field_within n)
+    o.items (oneof_field_within n)
     (member_tree_within n o (subst (Within (upto n)) (item_oneof o) all)))
 optioned_within n i all = tt
 
@@ -225,7 +231,7 @@ all_bounds_within : {N : Type 0} (f : N → Tree) (mark : N → MarkedNumber) (n
 all_bounds_within {N} f mark n is h all =
     each_map (λ (m : MarkedNumber). Placed n m.place) mark (flat_map bounds_of (flat_map ranges_in is))
     (each_given (λ r. Within (upto n) (range_tree f r)) (λ (x : N). Placed n (mark x).place) bounds_of
-      (flat_map ranges_in is)
+    (flat_map ranges_in is)
     (λ r w. each_weaker (λ x. Within (upto n) (f x)) (λ (x : N). Placed n (mark x).place) (bounds_of r) h
     (bounds_within f n r w)) (listed_within f n is all))
 
@@ -235,7 +241,7 @@ all_ranges_within : {N : Type 0} (f : N → Tree) (mark : N → MarkedNumber) (g
 all_ranges_within {N} f mark greatest n is h all =
     each_map (λ (r : MarkedRange). Placed n r.place) (marked_range mark greatest) (flat_map ranges_in is)
     (each_weaker (λ r. Within (upto n) (range_tree f r)) (λ (r : Range N). Placed n (mark r.start).place)
-      (flat_map ranges_in is)
+    (flat_map ranges_in is)
     (λ r w. h r.start (left_of (upto n) (f r.start) (optional (range_end_tree f) r.end) w)) (listed_within f n is all))
 
 all_names_within : {N : Type 0} (f : N → Tree) (n : ℕ) (is : List (ReservedItems N))
@@ -243,7 +249,7 @@ all_names_within : {N : Type 0} (f : N → Tree) (n : ℕ) (is : List (ReservedI
     → TextsWithin n (map reserved_name (flat_map names_in is))
 all_names_within f n is all = each_map (λ (t : Marked). Placed n t.place) reserved_name (flat_map names_in is)
     (each_given (ReservedWithin f n) (λ (s : StringValue). Placed n s.first.span.start) names_in is
-      (names_within f n) all)
+    (names_within f n) all)
 
 ranges_break : (n : ℕ) (ranges : List MarkedRange) (used : List MarkedNumber) (x : Spot) → RangesWithin n ranges
     → NumbersWithin n used
@@ -276,7 +282,7 @@ field_numbers_within : (n : ℕ) (is : List MessageItem) → ItemsWithin n is �
 field_numbers_within n is all = each_map (λ (m : MarkedNumber). Placed n m.place) field_number
     (flat_map optioned_fields is)
     (each_weaker (OptionedWithin n) (λ (f : OptionedField). Placed n f.declarator.number.span.start)
-      (flat_map optioned_fields is) (λ f w. w.0)
+    (flat_map optioned_fields is) (λ f w. w.0)
     (all_optioned_within n is all))
 
 literal_within : (n : ℕ) (x : NumberLiteral) → Within (upto n) (number_tree x) → Placed n (literal x).place
@@ -286,7 +292,7 @@ field_numbers_break : (n : ℕ) (is : List MessageItem) (x : Spot) → ItemsWith
     → SpotWithin n x
 field_numbers_break n is x all (inl (inl (inl b))) =
     each_within (λ (m : MarkedNumber). Placed n m.place) IsNoFieldNumber n (field_numbers is) x
-      (field_numbers_within n is all)
+    (field_numbers_within n is all)
     (λ m within s. at_spot n m.place _ x within s.1) b
 field_numbers_break n is x all (inl (inl (inr b))) =
     number_twice n _ (field_numbers is) x (field_numbers_within n is all) b
@@ -297,7 +303,7 @@ field_numbers_break n is x all (inl (inr (inl b))) =
 field_numbers_break n is x all (inl (inr (inr b))) =
     ranges_break n (message_ranges is) (field_numbers is) x
     (all_ranges_within number_tree literal greatest_field_number n (flat_map message_reserved is) (literal_within n)
-      (all_reserved_within n is all))
+    (all_reserved_within n is all))
     (field_numbers_within n is all) b
 field_numbers_break n is x all (inr b) = text_twice n _ (message_reserved_names is) x
     (all_names_within number_tree n (flat_map message_reserved is) (all_reserved_within n is all)) b
@@ -326,12 +332,12 @@ value_within_enum : (n : ℕ) (i : EnumItem) → EnumItemWithin n i → AllByRec
 value_within_enum n (enum_item.Value v) all = (
   (
     signed_within n v.number
-      (left_of (upto n) (signed_tree v.number)
-      (Pair (optional options_tree v.options) (symbol_tree (byte ";") v.semicolon)) all.1.1),
+        (left_of (upto n) (signed_tree v.number)
+        (Pair (optional options_tree v.options) (symbol_tree (byte ";") v.semicolon)) all.1.1),
     bracketed_within n v.options
-      (left_of (upto n) (optional options_tree v.options) (symbol_tree (byte ";") v.semicolon)
+        (left_of (upto n) (optional options_tree v.options) (symbol_tree (byte ";") v.semicolon)
         (right_of (upto n) (signed_tree v.number)
-          (Pair (optional options_tree v.options) (symbol_tree (byte ";") v.semicolon)) all.1.1)),
+        (Pair (optional options_tree v.options) (symbol_tree (byte ";") v.semicolon)) all.1.1)),
   ),
   tt,
 )
@@ -365,7 +371,7 @@ enum_numbers_break : (n : ℕ) (is : List EnumItem) (x : Spot) → EnumItemsWith
     → SpotWithin n x
 enum_numbers_break n is x all (inl (inl (inl (inl b)))) =
     at_spot n b.0.place _ x (standing (λ (m : MarkedNumber). Placed n m.place) (value_numbers is) 0 b.0
-      (values_within n is all) b.1) b.3
+    (values_within n is all) b.1) b.3
 enum_numbers_break n is x all (inl (inl (inl (inr b)))) =
     outside n _ _ _ (value_numbers is) x (values_within n is all) b
 enum_numbers_break n is x all (inl (inl (inr b))) = number_twice n _ (value_numbers is) x (values_within n is all) b.1
@@ -376,7 +382,7 @@ enum_numbers_break n is x all (inl (inr (inl b))) =
 enum_numbers_break n is x all (inl (inr (inr b))) =
     ranges_break n (enum_ranges is) (value_numbers is) x
     (all_ranges_within signed_tree signed_number greatest_value n (flat_map enum_reserved is) (signed_within n)
-      (all_enum_reserved_within n is all))
+    (all_enum_reserved_within n is all))
     (values_within n is all) b
 enum_numbers_break n is x all (inr b) = text_twice n _ (enum_reserved_names is) x
     (all_names_within signed_tree n (flat_map enum_reserved is) (all_enum_reserved_within n is all)) b
@@ -399,10 +405,10 @@ enum_breaks n x e all (inl (inl (inl b))) = at_spot n e.name.span.start _ x all.
 enum_breaks n x e all (inl (inl (inr b))) = enum_numbers_break n e.items x (enum_items_within n e all) b
 enum_breaks n x e all (inl (inr b)) = settings_break n element.Enum (flat_map enum_setting e.items) x
     (each_given (EnumItemWithin n) (SettingWithin n) enum_setting e.items (enum_setting_within n)
-      (enum_items_within n e all)) b
+    (enum_items_within n e all)) b
 enum_breaks n x e all (inr b) =
     each_within (ValueWithin n) ValueBreaks n (flat_map enum_value e.items) x
-      (all_values_within n e.items (enum_items_within n e all))
+    (all_values_within n e.items (enum_items_within n e all))
     (λ v within s. settings_break n element.EnumValue (bracketed v.options) x within.1 s) b
 
 oneof_setting_within : (n : ℕ) (i : OneofItem) → Within (upto n) (oneof_item_tree i)
@@ -415,7 +421,7 @@ oneof_breaks : (n : ℕ) (x : Spot) (o : Oneof) → Within (upto n) (oneof_tree 
 oneof_breaks n x o all (inl b) = at_spot n o.name.span.start _ x all.1.0 b.1
 oneof_breaks n x o all (inr b) = settings_break n element.Oneof (flat_map oneof_setting o.items) x
     (each_given (λ i. Within (upto n) (oneof_item_tree i)) (SettingWithin n) oneof_setting o.items
-      (oneof_setting_within n) (member_tree_within n o all)) b
+    (oneof_setting_within n) (member_tree_within n o all)) b
 
 message_setting_within : (n : ℕ) (i : MessageItem) → ItemWithin (upto n) i
     → AllByRecursion (SettingWithin n) (message_setting i)
@@ -443,11 +449,11 @@ body_breaks n x is all (inr (inl (inl b))) =
 body_breaks n x is all (inr (inl (inr b))) =
     each_within (λ o. Within (upto n) (oneof_tree o)) OneofBreaks n (flat_map message_oneof is) x
     (each_given (ItemWithin (upto n)) (λ o. Within (upto n) (oneof_tree o)) message_oneof is
-      (message_oneof_within n) all) (oneof_breaks n x) b
+    (message_oneof_within n) all) (oneof_breaks n x) b
 body_breaks n x is all (inr (inr b)) =
     each_within (λ e. Within (upto n) (enum_tree e)) EnumBreaks n (flat_map message_enum is) x
     (each_given (ItemWithin (upto n)) (λ e. Within (upto n) (enum_tree e)) message_enum is (message_enum_within n) all)
-      (enum_breaks n x) b
+    (enum_breaks n x) b
 
 -- ---- services
 
@@ -461,7 +467,7 @@ rpc_body_within : (n : ℕ) (b : RpcBody) → Within (upto n) (rpc_body_tree b)
 rpc_body_within n (rpc_body.Semicolon s) all = tt
 rpc_body_within n (rpc_body.Block b) all =
     each_given (λ i. Within (upto n) (rpc_item_tree i)) (SettingWithin n) rpc_setting b.items
-      (rpc_item_setting_within n)
+    (rpc_item_setting_within n)
     (each_row (λ i. Within (upto n) (rpc_item_tree i)) rpc_item_tree (upto n) b.items (λ i w. w)
     (left_of (upto n) (row rpc_item_tree b.items) (symbol_tree (byte "}") b.close_brace) all.1))
 
@@ -497,5 +503,5 @@ service_breaks n x s all (inl b) = settings_break n element.Service (flat_map se
     (service_setting_within n) (service_items_within n s all)) b
 service_breaks n x s all (inr b) = each_within (RpcWithin n) RpcBreaks n (flat_map service_rpc s.items) x
     (each_given (λ i. Within (upto n) (service_item_tree i)) (RpcWithin n) service_rpc s.items (service_rpc_within n)
-      (service_items_within n s all))
+    (service_items_within n s all))
     (λ r within t. settings_break n element.Method (flat_map rpc_setting (rpc_items r.body)) x within t) b

@@ -76,7 +76,7 @@ pub first_skip : (files : List FileDesc) (a : ℕ) (xs : List ImportDesc) (i : I
     → IsLeast (IsWrongIn files a xs) first → IsLeast (IsWrongIn files a (xs ++ i ∷ [])) first
 first_skip files a xs i first none least = least_same (IsWrongIn files a xs) (IsWrongIn files a (xs ++ i ∷ [])) first
     (λ x w. elim (wrong_cases files a xs i x w) [ inl old ↦ old | inr new ↦ absurd (none x.kind new.1) ])
-      (wrong_more files a xs i) least
+    (wrong_more files a xs i) least
 
 same_place : (i : ImportDesc) (k : Kind) (x : Spot) → i.place ≡ x.place → x.kind ≡ k → AtMost (spot i.place k) x
 same_place i k x at same = let o = ap (λ (p : Place). p.offset) at in let n = ap number_of same in
@@ -95,7 +95,7 @@ pub first_more : (files : List FileDesc) (a : ℕ) (xs : List ImportDesc) (i : I
     → IsLeast (IsWrongIn files a xs) first → IsLeast (IsWrongIn files a (xs ++ i ∷ [])) r
 first_more files a xs i first r k (wrong, only) lesser least =
     least_or (IsWrongIn files a xs) (IsWrongAt files a i) (IsWrongIn files a (xs ++ i ∷ [])) first
-      (Some (spot i.place k)) r (wrong_cases files a xs i)
+    (Some (spot i.place k)) r (wrong_cases files a xs i)
     (wrong_more files a xs i) (wrong_last files a xs i) least (one_fault files a i k wrong only) lesser
 
 -- ---- all files
@@ -105,9 +105,9 @@ pub reaching_is : (files : List FileDesc) (g turned : Graph) (a : ℕ) → IsGra
     → Leads (Edge turned) b a ↔ Reaches files b a
 reaching_is files g turned a is flipped b = (
   λ w. leads_map (Edge g) (Imports files) (λ x y. (is.edges x y).0) a b
-    (leads_turned (Edge turned) (Edge g) (λ x y. (flipped x y).0) b a w),
+      (leads_turned (Edge turned) (Edge g) (λ x y. (flipped x y).0) b a w),
   λ r. leads_turned (Edge g) (Edge turned) (λ x y. (flipped y x).1) a b
-    (leads_map (Imports files) (Edge g) (λ x y. (is.edges x y).1) a b r),
+      (leads_map (Imports files) (Edge g) (λ x y. (is.edges x y).1) a b r),
 )
 
 pub turned_within : (g turned : Graph) → length turned ≡ length g → ((b c : ℕ) → Edge turned b c ↔ Edge g c b)
@@ -128,7 +128,7 @@ none_more files n imports first e is f old = record {
     | inr over ↦ (let at : a ≡ n = omega arith in
         let here = subst (λ m. IsBad files m p k) at w in
         none_of (IsWrongIn files n imports) first f is (spot p k)
-          (subst (λ (xs : List ImportDesc). IsWrongIn files n xs (spot p k)) (sym e) here))
+        (subst (λ (xs : List ImportDesc). IsWrongIn files n xs (spot p k)) (sym e) here))
   ]);
 }
 
@@ -145,7 +145,7 @@ later_file files n b x q l imports e least old w (inr over) = elim (cases_eq n b
   | inl same ↦ inr (
     same,
     least (spot q l) (subst (λ (xs : List ImportDesc). IsWrongIn files n xs (spot q l)) (sym e)
-      (subst (λ m. IsBad files m q l) (sym same) w)),
+        (subst (λ m. IsBad files m q l) (sym same) w)),
   )
   | inr other ↦ inl (omega (arith, over, other))
 ]

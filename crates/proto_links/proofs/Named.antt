@@ -64,14 +64,14 @@ order_more files n last some old k h = order_case files n last some old k h (cas
 pub pair_names : (files : List FileDesc) (n : ℕ) (f g : FileDesc) → 0 < n → n < length files
     → f ≡ get_or files (n - 1) f → g ≡ get_or files n g
     → (slice_cmp nat_cmp (name_of f) (name_of g) ≡ Less)
-      ↔ (slice_cmp nat_cmp (name_at files (n - 1)) (name_at files n) ≡ Less)
+    ↔ (slice_cmp nat_cmp (name_at files (n - 1)) (name_at files n) ≡ Less)
 pair_names files n f g some h ef eg =
     let first : name_at files (n - 1) ≡ name_of f = name_is files (n - 1) f (omega arith) ∙ ap name_of (sym ef) in
     let second : name_at files n ≡ name_of g = name_is files n g h ∙ ap name_of (sym eg) in (
       λ less. subst (λ xs. slice_cmp nat_cmp xs (name_at files n) ≡ Less) (sym first)
-        (subst (λ ys. slice_cmp nat_cmp (name_of f) ys ≡ Less) (sym second) less),
+          (subst (λ ys. slice_cmp nat_cmp (name_of f) ys ≡ Less) (sym second) less),
       λ less. subst (λ xs. slice_cmp nat_cmp xs (name_of g) ≡ Less) first
-        (subst (λ ys. slice_cmp nat_cmp (name_at files (n - 1)) ys ≡ Less) second less),
+          (subst (λ ys. slice_cmp nat_cmp (name_at files (n - 1)) ys ≡ Less) second less),
     )
 
 pub last_pair : (files : List FileDesc) (n : ℕ) → 0 < n → n < length files → NamesRise (map name_of files)
@@ -98,5 +98,7 @@ pub no_name : (files : List FileDesc) (at : ℕ) (name : List ℕ)
 no_name [] at name left right b (h, same) = no_position b h
 no_name (f ∷ fs) at name left right b (h, same) =
     let equal = equal_itself (name_of (get_or (f ∷ fs) b f)) name (sym (name_is (f ∷ fs) b f h) ∙ same) in
-    elim (cases_lt b at) [ inl less ↦ less_not_equal _ (left b f (omega arith) less) equal
-      | inr over ↦ greater_not_equal _ (right b f over h) equal ]
+    elim (cases_lt b at) [
+      | inl less ↦ less_not_equal _ (left b f (omega arith) less) equal
+      | inr over ↦ greater_not_equal _ (right b f over h) equal
+    ]

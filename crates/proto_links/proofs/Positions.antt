@@ -119,15 +119,15 @@ module _ {files : List FileDesc} {graph : ImportGraph} {ranking : Ranking} {posi
   rows_fall =
       let g = file_imports graph in
       renumbered_falls g g ranking.ranks.items ranking.order.items
-        (import_rows positioned) m.ranked.ranks m.ranked.order (λ a b edge. edge) m.imports
+      (import_rows positioned) m.ranked.ranks m.ranked.order (λ a b edge. edge) m.imports
 
   pub public_falls : IsFalling (public_rows positioned)
   public_falls =
       let sub : (a b : ℕ) → Edge (file_public_imports graph) a b → Edge (file_imports graph) a b =
       λ a b edge. (m.ranked.imports.edges a b).1
-        (public_imports files a b ((m.ranked.public_imports.edges a b).0 edge)) in
+      (public_imports files a b ((m.ranked.public_imports.edges a b).0 edge)) in
       renumbered_falls (file_imports graph) (file_public_imports graph) ranking.ranks.items ranking.order.items
-        (public_rows positioned)
+      (public_rows positioned)
       m.ranked.ranks m.ranked.order sub m.public_imports
 
   -- each file has a position, and is the file there
@@ -159,7 +159,7 @@ module _ {files : List FileDesc} {graph : ImportGraph} {ranking : Ranking} {posi
   way_to : (k j : ℕ) → Leads (Edge (import_rows positioned)) k j → Reaches files (file_at ranking j) (file_at ranking k)
   way_to k j way =
       leads_map (Edge (file_imports graph)) (Imports files) (λ x y. (m.ranked.imports.edges x y).0) (file_at ranking k)
-        (file_at ranking j)
+      (file_at ranking j)
       (ways_to (file_imports graph) ranking.order.items (import_rows positioned) m.imports k j way)
 
   way_from : (a c : ℕ) → a < length files → Reaches files a c
@@ -167,27 +167,27 @@ module _ {files : List FileDesc} {graph : ImportGraph} {ranking : Ranking} {posi
   way_from a c h way =
       ways_from (file_imports graph) ranking.order.items positioned.positions.items (import_rows positioned) m.positions
       (omega (arith, m.ranked.imports.size, order_size m.ranked)) (graph_within m.ranked.imports) m.imports c a
-        (omega (arith, h, order_size m.ranked))
+      (omega (arith, h, order_size m.ranked))
       (leads_map (Imports files) (Edge (file_imports graph)) (λ x y. (m.ranked.imports.edges x y).1) c a way)
 
   public_way_to : (k j : ℕ) → Leads (Edge (public_rows positioned)) k j
       → Leads (ImportsPublicly files) (file_at ranking k) (file_at ranking j)
   public_way_to k j way =
       leads_map (Edge (file_public_imports graph)) (ImportsPublicly files)
-        (λ x y. (m.ranked.public_imports.edges x y).0) (file_at ranking k)
+      (λ x y. (m.ranked.public_imports.edges x y).0) (file_at ranking k)
       (file_at ranking j)
-        (ways_to (file_public_imports graph) ranking.order.items (public_rows positioned) m.public_imports k j way)
+      (ways_to (file_public_imports graph) ranking.order.items (public_rows positioned) m.public_imports k j way)
 
   public_way_from : (a c : ℕ) → a < length files → Leads (ImportsPublicly files) c a
       → Leads (Edge (public_rows positioned)) (position_of positioned c) (position_of positioned a)
   public_way_from a c h way =
       ways_from (file_public_imports graph) ranking.order.items positioned.positions.items
-        (public_rows positioned) m.positions
+      (public_rows positioned) m.positions
       (omega (arith, m.ranked.public_imports.size, order_size m.ranked))
-        (public_within m.ranked.public_imports) m.public_imports c a
+      (public_within m.ranked.public_imports) m.public_imports c a
       (omega (arith, h, order_size m.ranked))
       (leads_map (ImportsPublicly files) (Edge (file_public_imports graph))
-        (λ x y. (m.ranked.public_imports.edges x y).1) c a way)
+      (λ x y. (m.ranked.public_imports.edges x y).1) c a way)
 
   -- ---- what a file reaches
 
@@ -197,7 +197,7 @@ module _ {files : List FileDesc} {graph : ImportGraph} {ranking : Ranking} {posi
   reach_members a c list h is = (
     λ w. (let (k, inside, at) = (map_members (file_at ranking) list c).0 w in
         subst (λ x. Reaches files x c) (file_there a h)
-          (subst (Reaches files (file_at ranking (position_of positioned a))) at
+        (subst (Reaches files (file_at ranking (position_of positioned a))) at
         (way_to k (position_of positioned a) ((is.members k).0 inside)))),
     λ way. (map_members (file_at ranking) list c).1 (
       position_of positioned c,
@@ -218,7 +218,7 @@ module _ {files : List FileDesc} {graph : ImportGraph} {ranking : Ranking} {posi
         ((is.members last).0 (k + 1, next, same_at list (k + 1) next)) in
         let inside = position_below a h in
         let far = before_far ranking.ranks.items ranking.order.items m.ranked.order (get_or list k 0) last
-          (is.rises k next)
+        (is.rises k next)
         (omega (arith, below, inside, rows_size)) in
         rw (map_at (file_at ranking) list k (omega (arith, next)), map_at (file_at ranking) list (k + 1) next) far);
   }
@@ -248,7 +248,7 @@ module _ {files : List FileDesc} {graph : ImportGraph} {ranking : Ranking} {posi
         → Has s.reach (position_of positioned d) b
     reached_from d b hd hb way =
         (s.reaches.members (position_of positioned d) b (row_inside (position_of positioned d) (position_below d hd))
-          (column_inside b hb)).1
+        (column_inside b hb)).1
         (position_of positioned b, public_way_from d b hd way, file_there b hb)
 
     seen_to : (a b : ℕ) → a < length files → b < length files → Has seen (position_of positioned a) b → SeesBy files a b
@@ -260,7 +260,7 @@ module _ {files : List FileDesc} {graph : ImportGraph} {ranking : Ranking} {posi
               (subst (Leads (ImportsPublicly files) b) (file_there a ha) (reached_to p b (position_below a ha) hb own))
           | inr (k, edge, v) ↦
               let inside : k < length positioned.imports.items =
-                (let below = m.imports.within p k edge in omega (arith, below, rows_size)) in
+              (let below = m.imports.within p k edge in omega (arith, below, rows_size)) in
               inr (
                 file_at ranking k,
                 subst (λ x. Imports files x (file_at ranking k)) (file_there a ha) (edge_to p k edge),

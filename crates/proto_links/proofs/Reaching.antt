@@ -76,7 +76,7 @@ module _ {files : List FileDesc} {g : Graph} {ranks : List ℕ} (is : IsGraph fi
 pub no_cycle : {files : List FileDesc} {g : Graph} → IsGraph files g → NoneBad files → HasNoCycle g
 no_cycle {files} {g} is none a b edge way =
     no_way_back files a b none ((is.edges a b).0 edge)
-      (leads_map (Edge g) (Imports files) (λ x y. (is.edges x y).0) a b way)
+    (leads_map (Edge g) (Imports files) (λ x y. (is.edges x y).0) a b way)
 
 pub none_missing : (files : List FileDesc) → NoneBad files → (a : ℕ) → HasMissing files (imports_at files a) → ⊥
 none_missing files none a (i, w, n) = none a i.place _ (i, w, refl, missing n)

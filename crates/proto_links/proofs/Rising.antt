@@ -65,7 +65,7 @@ same_first R strict x y xs ys up over (inl same) other = same
 same_first R strict x y xs ys up over (inr later) (inl same) = sym same
 same_first R strict x y xs ys up over (inr later) (inr after) =
     absurd (strict.never x
-      (strict.trans x y x (first_before R strict x xs up y later) (first_before R strict y ys over x after)))
+    (strict.trans x y x (first_before R strict x xs up y later) (first_before R strict y ys over x after)))
 
 same_rest : {X : Type 0} (R : X → X → Type 0) → IsStrict R → (x y : X) (xs ys : List X) → Rises R (x ∷ xs) → x ≡ y
     → ((z : X) → Contains (x ∷ xs) z → Contains (y ∷ ys) z) → (z : X) → Contains xs z → Contains ys z
@@ -82,8 +82,8 @@ one_rising R strict [] (y ∷ ys) up over to from = absurd (none_in y (from y (f
 one_rising R strict (x ∷ xs) [] up over to from = absurd (none_in x (to x (front x xs)))
 one_rising R strict (x ∷ xs) (y ∷ ys) up over to from =
     let same : x ≡ y = same_first R strict x y xs ys up over (front_or_behind x xs y (from y (front y ys)))
-      (front_or_behind y ys x (to x (front x xs))) in
+    (front_or_behind y ys x (to x (front x xs))) in
     let rest : xs ≡ ys = one_rising R strict xs ys (rest_rises R x xs up) (rest_rises R y ys over)
-      (same_rest R strict x y xs ys up same to)
+    (same_rest R strict x y xs ys up same to)
     (same_rest R strict y x ys xs over (sym same) from) in
     ap (λ z. z ∷ xs) same ∙ ap (λ zs. y ∷ zs) rest

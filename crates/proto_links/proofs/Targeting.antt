@@ -21,9 +21,10 @@ iff : {A B C : Type 0} → A ↔ B → B ↔ C → A ↔ C
 iff f h = (λ a. h.0 (f.0 a), λ c. f.1 (h.1 c))
 
 either : {A B C D : Type 0} → A ↔ B → C ↔ D → (A ⊎ C) ↔ (B ⊎ D)
-either f h =
-    (λ w. (elim w [ inl a ↦ inl (f.0 a) | inr c ↦ inr (h.0 c) ]),
-    λ w. (elim w [ inl b ↦ inl (f.1 b) | inr d ↦ inr (h.1 d) ]))
+either f h = (
+  λ w. (elim w [ inl a ↦ inl (f.0 a) | inr c ↦ inr (h.0 c) ]),
+  λ w. (elim w [ inl b ↦ inl (f.1 b) | inr d ↦ inr (h.1 d) ]),
+)
 
 flip : {A B : Type 0} → A ↔ B → B ↔ A
 flip f = (f.1, f.0)
@@ -34,10 +35,14 @@ targets_more : (files : List FileDesc) (xs : List ImportDesc) (i : ImportDesc) (
     → Targets files (xs ++ i ∷ []) b ↔ (Targets files xs b ⊎ IsNamed files i.path b)
 targets_more files xs i b = (
   λ (j, w, n).
-    (elim (Contains-push_cases xs i j w) [ inl old ↦ inl (j, old, n)
-    | inr e ↦ inr (subst (λ (x : ImportDesc). IsNamed files x.path b) (sym e) n) ]),
-  λ w. (elim w [ inl old ↦ (old.0, Contains-append_left xs (i ∷ []) old.0 old.1, old.2)
-    | inr n ↦ (i, Contains-push xs i, n) ]),
+      (elim (Contains-push_cases xs i j w) [
+        | inl old ↦ inl (j, old, n)
+        | inr e ↦ inr (subst (λ (x : ImportDesc). IsNamed files x.path b) (sym e) n)
+      ]),
+  λ w. (elim w [
+    | inl old ↦ (old.0, Contains-append_left xs (i ∷ []) old.0 old.1, old.2)
+    | inr n ↦ (i, Contains-push xs i, n)
+  ]),
 )
 
 public_more : (files : List FileDesc) (xs : List ImportDesc) (i : ImportDesc) (b : ℕ)
@@ -48,8 +53,10 @@ public_more files xs i b = (
     | inr e ↦
         inr (subst (λ (x : ImportDesc). IsTrue x.is_public × IsNamed files x.path b) (sym e) (p, n))
   ]),
-  λ w. (elim w [ inl old ↦ (old.0, Contains-append_left xs (i ∷ []) old.0 old.1, old.2, old.3)
-    | inr n ↦ (i, Contains-push xs i, n.0, n.1) ]),
+  λ w. (elim w [
+    | inl old ↦ (old.0, Contains-append_left xs (i ∷ []) old.0 old.1, old.2, old.3)
+    | inr n ↦ (i, Contains-push xs i, n.0, n.1)
+  ]),
 )
 
 missing_more : (files : List FileDesc) (xs : List ImportDesc) (i : ImportDesc) → HasMissing files (xs ++ i ∷ [])
@@ -143,8 +150,11 @@ pub record Rows (P : ℕ → ℕ → Type 0) (n : ℕ) (g : Graph) : Type 0 wher
 
 pub rows_none : (P : ℕ → ℕ → Type 0) (g : Graph) → g ≡ [] → Rows P 0 g
 rows_none P g e =
-    rw e (record { size = refl; edges = λ a b.
-    (λ edge. absurd (no_position a (edge_below [] a b edge)), λ w. absurd (no_position a w.0)) })
+    rw e (record {
+      size = refl;
+      edges = λ a b.
+          (λ edge. absurd (no_position a (edge_below [] a b edge)), λ w. absurd (no_position a w.0));
+    })
 
 rows_to : (P : ℕ → ℕ → Type 0) (n a b : ℕ) (E : Type 0) (row : List ℕ) → (E → (a < n) × P a b)
     → (Contains row b → P n b) → E ⊎ ((a ≡ n) × Contains row b)
@@ -215,23 +225,26 @@ found_more files n xs e old last a h m = elim (cases_lt a n) [
 pub graphing_more : (files : List FileDesc) (n : ℕ) (imports public new_imports new_public : List (Vec ℕ Global))
     (whole part now : Bool) (xs : List ImportDesc)
     (all some : List ℕ) → xs ≡ imports_at files n → graph_of new_imports ≡ graph_of imports ++ all ∷ []
-      → graph_of new_public ≡ graph_of public ++ some ∷ []
+    → graph_of new_public ≡ graph_of public ++ some ∷ []
     → (IsTrue now → IsTrue whole × IsTrue part) → ((b : ℕ) → Contains all b ↔ Targets files xs b)
     → ((b : ℕ) → Contains some b ↔ PublicTargets files xs b)
     → (IsTrue part → HasMissing files xs → ⊥) → (now ≡ false → (whole ≡ false) ⊎ (part ≡ false))
     → (part ≡ false → HasMissing files xs)
     → Graphing files n imports public whole → Graphing files (n + 1) new_imports new_public now
 graphing_more files n imports public new_imports new_public whole part now xs all some e ei ep both are_all are_public
-  found either_part lacking g = record {
-  all_rows = rows_more (Imports files) n (graph_of imports) (graph_of new_imports) all ei
-      (subst (λ (ys : List ImportDesc). (b : ℕ) → Contains all b ↔ Targets files ys b) e are_all) g.all_rows;
-  public_rows = rows_more (ImportsPublicly files) n (graph_of public) (graph_of new_public) some ep
-      (subst (λ (ys : List ImportDesc). (b : ℕ) → Contains some b ↔ PublicTargets files ys b) e are_public)
-        g.public_rows;
-  found = λ t. found_more files n xs e (g.found (both t).0) (found (both t).1);
-  lacking =
-      λ f. (elim (either_part f) [ inl old ↦ g.lacking old | inr new ↦ (n, subst (HasMissing files) e (lacking new)) ]);
-}
+    found either_part lacking g = record {
+      all_rows = rows_more (Imports files) n (graph_of imports) (graph_of new_imports) all ei
+          (subst (λ (ys : List ImportDesc). (b : ℕ) → Contains all b ↔ Targets files ys b) e are_all) g.all_rows;
+      public_rows = rows_more (ImportsPublicly files) n (graph_of public) (graph_of new_public) some ep
+          (subst (λ (ys : List ImportDesc). (b : ℕ) → Contains some b ↔ PublicTargets files ys b) e are_public)
+          g.public_rows;
+      found = λ t. found_more files n xs e (g.found (both t).0) (found (both t).1);
+      lacking =
+          λ f. (elim (either_part f) [
+            | inl old ↦ g.lacking old
+            | inr new ↦ (n, subst (HasMissing files) e (lacking new))
+          ]);
+    }
 
 pub graphing_all : (files : List FileDesc) (n : ℕ) (imports public : List (Vec ℕ Global)) (whole : Bool)
     → n ≡ length files
@@ -239,8 +252,10 @@ pub graphing_all : (files : List FileDesc) (n : ℕ) (imports public : List (Vec
 graphing_all files n imports public whole e g = record {
   size = g.all_rows.size ∙ e;
   edges =
-      λ a b. (λ edge. ((g.all_rows.edges a b).0 edge).1,
-        λ i. (g.all_rows.edges a b).1 ((let h = importer_inside files a i.0 i.1 in omega (arith, h, e)), i));
+      λ a b. (
+        λ edge. ((g.all_rows.edges a b).0 edge).1,
+        λ i. (g.all_rows.edges a b).1 ((let h = importer_inside files a i.0 i.1 in omega (arith, h, e)), i),
+      );
 }
 
 pub graphing_public : (files : List FileDesc) (n : ℕ) (imports public : List (Vec ℕ Global)) (whole : Bool)

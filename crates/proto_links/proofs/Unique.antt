@@ -72,7 +72,7 @@ one_set_order files links others first second =
     let rank = rank_of others in
     one_rising (IsBefore rank) (before_strict rank) links.set_order others.set_order
     (order_moved (length files) (rank_of links) rank links.set_order
-      (one_rank files (rank_of links) rank first.ranks second.ranks) first.order)
+    (one_rank files (rank_of links) rank first.ranks second.ranks) first.order)
     (order_rises rank others.set_order second.order.rises)
     (λ a w. (second.order.every a).1 ((first.order.every a).0 w))
     (λ a w. (first.order.every a).1 ((second.order.every a).0 w))

@@ -32,9 +32,10 @@ all_apart x (y ∷ ys) never =
 pub once_of : (R : ℕ → ℕ → Type 0) → IsStrict R → (xs : List ℕ) → Rises R xs → IsDistinct ◌==◌ xs
 unfolding IsDistinct
 once_of R strict [] up = tt
-once_of R strict (x ∷ xs) up =
-    (all_apart x xs (λ y w same. strict.never x (subst (R x) (sym same) (first_before R strict x xs up y w))),
-      once_of R strict xs (rest_rises R x xs up))
+once_of R strict (x ∷ xs) up = (
+  all_apart x xs (λ y w same. strict.never x (subst (R x) (sym same) (first_before R strict x xs up y w))),
+  once_of R strict xs (rest_rises R x xs up),
+)
 
 -- what comes before all members of a list that rises comes in front of it
 rises_behind : {X : Type 0} (R : X → X → Type 0) (x : X) (xs : List X) → ((z : X) → Contains xs z → R x z) → Rises R xs
@@ -109,7 +110,7 @@ whole_of files links is =
       closed = λ a b c h w v. (
           let i = within a b h w in
           ((is.reach a (below a h)).members c).1
-            (leads_trans (Imports files) b c a (((is.reach a (below a h)).members b).0 w)
+          (leads_trans (Imports files) b c a (((is.reach a (below a h)).members b).0 w)
           (((is.reach b (below b i)).members c).0 v)));
       once = λ a h. once_of R strict (reach_of links a)
           (order_rises rank (reach_of links a) (is.reach a (below a h)).rises);

@@ -62,7 +62,7 @@ pub taken_more : (names : List (List ℕ)) (one : List ℕ) (key : String Global
 taken_more names one key old new same updates members = record {
   members = λ name begins. btree_set_updates_text one old new true
       (subst (λ (bs : List ℕ). sorted.UpdatesBy string_cmp (λ k. slice_cmp nat_cmp bs (string_bytes k)) old new true)
-        same updates) name
+      same updates) name
       ∙ rw (members.members name begins, swapped one name) (or_by (bytes_eq name one) (is_member bytes_eq names name))
       ∙ sym (among_more names one name);
 }

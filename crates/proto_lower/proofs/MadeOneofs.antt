@@ -31,7 +31,7 @@ pub length-with_made : (names : List (List ℕ)) (so_far : List OneofDesc) (fs :
 length-with_made names so_far [] = omega arith
 length-with_made names so_far (f ∷ fs) =
     let rest : length (with_made names so_far (f ∷ fs))
-      ≡ length (with_one names so_far f f.proto3_optional) + made_count fs =
+    ≡ length (with_one names so_far f f.proto3_optional) + made_count fs =
     length-with_made names (with_one names so_far f f.proto3_optional) fs in
     omega (arith, rest, length-with_one names so_far f f.proto3_optional, made_count-cons f fs)
 

@@ -56,7 +56,7 @@ none-from : (full : List ℕ) (k real next : ℕ) (is : List MessageItem) → k 
 none-from full k real next [] before below = refl
 none-from full k real next (message_item.Field f ∷ is) before below =
     passed k (field_at next f) (fields_from full real (next + made_by (is_optional f.label)) is)
-      (made-apart k next (is_optional f.label) below)
+    (made-apart k next (is_optional f.label) below)
     ∙ none-from full k real (next + made_by (is_optional f.label)) is before (omega (arith, below))
 none-from full k real next (message_item.Map m ∷ is) before below = none-from full k real next is before below
 none-from full k real next (message_item.Oneof o ∷ is) before below =
@@ -75,7 +75,7 @@ members-from : (full : List ℕ) (real next j k : ℕ) (is : List MessageItem) (
 members-from full real next j k [] o at below stands = cc
 members-from full real next j k (message_item.Field f ∷ is) o at below stands =
     passed k (field_at next f) (fields_from full real (next + made_by (is_optional f.label)) is)
-      (made-apart k next (is_optional f.label) below)
+    (made-apart k next (is_optional f.label) below)
     ∙ members-from full real (next + made_by (is_optional f.label)) j k is o at (omega (arith, below)) stands
 members-from full real next j k (message_item.Map m ∷ is) o at below stands =
     members-from full real next j k is o at below stands
@@ -105,4 +105,4 @@ pub members-all : (full : List ℕ) (is : List MessageItem) (k : ℕ) (o : Oneof
     → fields_in k (fields_from full 0 (real_count is) is) ≡ members k o.items
 members-all full is k o stands =
     members-from full 0 (real_count is) k k is o (omega arith)
-      (omega (arith, slice_get_within (flat_map message_oneof is) k o stands)) stands
+    (omega (arith, slice_get_within (flat_map message_oneof is) k o stands)) stands

@@ -15,7 +15,7 @@ use Rattle.proto_lower.proofs.OneofIndexes.{members, AllIndexed, fields-indexed,
 
 oneofs-lowered : (scope : List ℕ) (m : Message) → oneofs_of (lowered_message scope m)
     ≡ with_made (names_of_fields (all_fields (inner scope m.name.text) m.items)) (real_oneofs m.items)
-      (all_fields (inner scope m.name.text) m.items)
+    (all_fields (inner scope m.name.text) m.items)
 oneofs-lowered scope m = ap (λ d. d.oneofs) (out-roll-MessageDesc _)
 
 fields-lowered : (scope : List ℕ) (m : Message)
@@ -32,7 +32,7 @@ pub optional-index-lowered : (scope : List ℕ) (m : Message) (before : List Fie
     → IsOptionalBehind before field (lowered_message scope m) → field.oneof_index ≡ Some (index_behind before m)
 optional-index-lowered scope m before field is =
     optional-index (real_count m.items) (real_count m.items) before field is.after is.optional
-      (message-indexed scope m _ is.stands)
+    (message-indexed scope m _ is.stands)
 
 pub sole-member-lowered : (scope : List ℕ) (m : Message) (before : List FieldDesc) (field : FieldDesc)
     → IsOptionalBehind before field (lowered_message scope m)
@@ -40,7 +40,7 @@ pub sole-member-lowered : (scope : List ℕ) (m : Message) (before : List FieldD
 sole-member-lowered scope m before field is =
     ap (fields_in (index_behind before m)) is.stands
     ∙ sole-member (real_count m.items) (real_count m.items) before field is.after (omega arith) is.optional
-      (message-indexed scope m _ is.stands)
+    (message-indexed scope m _ is.stands)
 
 -- the oneofs of a message, of which these are the fields
 oneofs_by : (scope : List ℕ) (m : Message) (fs : List FieldDesc) → fields_of (lowered_message scope m) ≡ fs
@@ -56,7 +56,7 @@ optional-oneof-lowered scope m before field is =
     let fs : List FieldDesc = before ++ field ∷ is.after in
     rw (oneofs_by scope m fs is.stands, is.stands)
     (slice_get-with_made (names_of_fields fs) (real_oneofs m.items) before field is.after
-      (index_behind before m) is.optional
+    (index_behind before m) is.optional
     (omega (arith, length-real_oneofs m.items)))
 
 pub source-oneof-lowered : (scope : List ℕ) (m : Message) (index : ℕ) (o : Oneof)
@@ -66,7 +66,7 @@ source-oneof-lowered scope m index o stands =
     let fs : List FieldDesc = all_fields (inner scope m.name.text) m.items in
     let made = with_made-start (names_of_fields fs) (real_oneofs m.items) fs in
     rw (oneofs-lowered scope m, made.1)
-      (get_start (real_oneofs m.items) made.0 index (real_named o.name) (slice_get-real_oneofs m.items index o stands))
+    (get_start (real_oneofs m.items) made.0 index (real_named o.name) (slice_get-real_oneofs m.items index o stands))
 
 pub members-lowered : (scope : List ℕ) (m : Message) (index : ℕ) (o : Oneof)
     → slice_get (source_oneofs m) index ≡ Some o

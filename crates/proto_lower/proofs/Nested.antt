@@ -21,14 +21,14 @@ nested_boxed : (full : List ℕ) (boxed : (the_former this).Shape) (row : Row_of
     → nested_of full (Message' boxed row) ≡ flat_map (λ m. lowered_message full m ∷ []) (items-the_row-Message _ row)
 nested_boxed full boxed (more_of-Message keyword name open_brace shape is close_brace end_of-Message) =
     ap (λ xs. message_of (inner full name.text) name (items-the_row-MessageItem _ is) xs ∷ [])
-      (row_flat (inner full name.text) _ is)
+    (row_flat (inner full name.text) _ is)
     ∙ ap (λ is. message_of (inner full name.text) name is (flat_map (nested_of (inner full name.text)) is) ∷ [])
     (sym (items_shown-the_row-MessageItem-0 shape is))
 
 pub nested_message : (full : List ℕ) (m : Message) → nested_of full (of.Message m) ≡ lowered_message full m ∷ []
 nested_message full m =
     nested_boxed full _ (row_of (of.Message m)).1
-      ∙ ap (flat_map (λ m. lowered_message full m ∷ [])) (items_hidden-the_row-Message-1 m)
+    ∙ ap (flat_map (λ m. lowered_message full m ∷ [])) (items_hidden-the_row-Message-1 m)
 
 -- what a statement gives is behind what those before it give
 next_given : {X Y : Type 0} (f : X → List Y) (xs : List X) (i : ℕ) (x : X) (new : List Y) → i < length xs
@@ -44,7 +44,7 @@ pub one_more : {X Y : Type 0} (f : X → List Y) (xs : List X) (i : ℕ) (x : X)
     → done ≡ before ++ flat_map f (take i xs) → new ≡ f x → done ++ new ≡ before ++ flat_map f (take (i + 1) xs)
 one_more f xs i x before done new within at so_far gives =
     ap (λ z. z ++ new) so_far ∙ append_assoc before (flat_map f (take i xs)) new
-      ∙ ap (λ z. before ++ z) (next_given f xs i x new within at gives)
+    ∙ ap (λ z. before ++ z) (next_given f xs i x new within at gives)
 
 pub none_more : {X Y : Type 0} (f : X → List Y) (xs : List X) (i : ℕ) (x : X) (before done : List Y) → i < length xs
     → x ≡ get_or xs i x

@@ -64,13 +64,15 @@ members-indexed least next real (oneof_item.Empty s ∷ is) rest below indexed =
 pub fields-indexed : (full : List ℕ) (least real next : ℕ) (is : List MessageItem) → real + real_count is ≤ least
     → AllIndexed least next (fields_from full real next is)
 fields-indexed full least real next [] within = tt
-fields-indexed full least real next (message_item.Field f ∷ is) within =
-    (field-indexed least next (is_optional f.label),
-      fields-indexed full least real (next + made_by (is_optional f.label)) is within)
+fields-indexed full least real next (message_item.Field f ∷ is) within = (
+  field-indexed least next (is_optional f.label),
+  fields-indexed full least real (next + made_by (is_optional f.label)) is within,
+)
 fields-indexed full least real next (message_item.Map m ∷ is) within =
-    let later = fields-indexed full least real next is within in
-    ((λ (k : ℕ) (above : least ≤ k). refl),
-      subst (λ (n : ℕ). AllIndexed least n (fields_from full real next is)) (omega arith) later)
+    let later = fields-indexed full least real next is within in (
+      (λ (k : ℕ) (above : least ≤ k). refl),
+      subst (λ (n : ℕ). AllIndexed least n (fields_from full real next is)) (omega arith) later,
+    )
 fields-indexed full least real next (message_item.Oneof o ∷ is) within =
     members-indexed least next real o.items (fields_from full (real + 1) next is) (omega (arith, within))
     (fields-indexed full least (real + 1) next is (omega (arith, within)))
@@ -103,7 +105,7 @@ optional-index least next [] f after optional indexed =
     index_by least next f.proto3_optional f.oneof_index optional indexed.0 ∙ ap Some (omega arith)
 optional-index least next (b ∷ before) f after optional indexed =
     optional-index least (next + made_by b.proto3_optional) before f after optional indexed.1
-      ∙ ap Some (next_index next b before)
+    ∙ ap Some (next_index next b before)
 
 -- a field whose oneof has another index is passed over
 passed_by : (b : Bool) (f : FieldDesc) (fs : List FieldDesc) → b ≡ false → cond b (f ∷ fs) fs ≡ fs
@@ -135,7 +137,7 @@ none_below : (least next k : ℕ) (fs : List FieldDesc) → least ≤ k → k < 
 none_below least next k [] above below indexed = refl
 none_below least next k (f ∷ fs) above below indexed =
     passed k f fs
-      (other_index least next k f.proto3_optional f.oneof_index above (λ flag. apart_above next k below) indexed.0)
+    (other_index least next k f.proto3_optional f.oneof_index above (λ flag. apart_above next k below) indexed.0)
     ∙ none_below least (next + made_by f.proto3_optional) k fs above (omega (arith, below)) indexed.1
 
 above_flag : (next n : ℕ) (b : Bool) → b ≡ true → (next == next + made_by b + n) ≡ false
@@ -150,9 +152,9 @@ sole-member least next [] f after within optional indexed =
     let own : f.oneof_index ≡ Some next = index_by least next f.proto3_optional f.oneof_index optional indexed.0 in
     let start : next + made_count [] ≡ next = omega arith in
     let more : AllIndexed least (next + 1) after =
-      subst (λ (b : Bool). AllIndexed least (next + made_by b) after) optional indexed.1 in
+    subst (λ (b : Bool). AllIndexed least (next + made_by b) after) optional indexed.1 in
     ap (λ k. fields_in k (f ∷ after)) start ∙ kept next f after own
-      ∙ ap (λ fs. f ∷ fs) (none_below least (next + 1) next after within (omega arith) more)
+    ∙ ap (λ fs. f ∷ fs) (none_below least (next + 1) next after within (omega arith) more)
 sole-member least next (b ∷ before) f after within optional indexed =
     let k : ℕ = next + made_by b.proto3_optional + made_count before in
     ap (λ n. fields_in n (b ∷ before ++ f ∷ after)) (sym (next_index next b before))

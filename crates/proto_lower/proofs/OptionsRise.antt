@@ -81,5 +81,5 @@ pub options_of-rise : (e : Element) (settings : List Setting)
 unfolding options_of
 options_of-rise e settings = λ k within.
     let rises : RisesFrom 0 (numbers (flat_map (option_under settings) (rules_of e))) =
-      under_rules settings (rules_of e) 0 (rules_rise e) in
+    under_rules settings (rules_of e) 0 (rules_rise e) in
     rw add-one (rises_at 0 (numbers (flat_map (option_under settings) (rules_of e))) k rises (omega (arith, within)))

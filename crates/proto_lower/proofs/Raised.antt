@@ -11,7 +11,7 @@ use Rattle.std.proofs.lemmas.Bool.Decides.{nat_tests}
 use Rattle.proto_lower.specs.Names.{letters_behind, raised, json_name_of}
 
 letters_unchanged : (before : ℕ) (cs : List ℕ) → (before == 95) ≡ false → list_any (λ c. c == 95) cs ≡ false
-  → letters_behind before cs ≡ cs
+    → letters_behind before cs ≡ cs
 letters_unchanged before [] apart none = refl
 letters_unchanged before (c ∷ cs) apart none =
     let here : (c == 95) ≡ false = grind (arith, nat_tests) in
@@ -86,5 +86,5 @@ pub so_far_end : (made : List ℕ) (before : ℕ) (rest all : List ℕ) → IsSo
 so_far_end made before [] all so_far done =
     let none : so_far.letters ≡ [] = encodes_same so_far.letters [] so_far.spelled in
     sym (append-nil made) ∙ ap (λ (ls : List ℕ). made ++ encode_utf8_all (letters_behind before ls)) (sym none)
-      ∙ so_far.whole
+    ∙ so_far.whole
 so_far_end made before (b ∷ rest) all so_far done = absurd (omega (arith, done))

@@ -35,8 +35,11 @@ moved os m n i o low high stands =
       | inl first ↦ (n, inl (first, refl), read n high (rw first swapped.1))
       | inr not_first ↦ elim (cases_eq i n) [
         | inl second ↦ (m, inr (inl (second, refl)), read m low (rw second swapped.0))
-        | inr not_second ↦ (i, inr (inr (not_first, not_second, refl)),
-            read i within (swapped.2 i not_first not_second))
+        | inr not_second ↦ (
+          i,
+          inr (inr (not_first, not_second, refl)),
+          read i within (swapped.2 i not_first not_second),
+        )
       ]
     ]
 

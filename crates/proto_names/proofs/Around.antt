@@ -26,7 +26,7 @@ before_dot d rest s k e below =
       take (k - length d - 1) rest,
       (let whole : length d + suc (k - length d - 1) ≡ k = omega arith in
           rw e (subst (λ (n : ℕ). take n (d ++ 46 ∷ rest) ≡ d ++ 46 ∷ take (k - length d - 1) rest) whole
-            (take_past d rest (k - length d - 1)))),
+          (take_past d rest (k - length d - 1)))),
     ))
 
 no_room : (a rest : List ℕ) → a ++ 46 ∷ rest ≡ [] → ⊥
@@ -52,8 +52,11 @@ candidates_at_dot s d k below none (inr (inr (rest, e))) =
 
 pub candidate_before_dot : (s : List ℕ) (k : ℕ) → k < length s → get_or s k 0 ≡ 46 → IsCandidate (take k s) s
 candidate_before_dot s k below dot =
-    inr (inr (drop (k + 1) s, rw add-one
-    (subst (λ (b : ℕ). s ≡ take k s ++ b ∷ drop (suc k) s) dot (split_at s k 0 below))))
+    inr (inr (
+      drop (k + 1) s,
+      rw add-one
+          (subst (λ (b : ℕ). s ≡ take k s ++ b ∷ drop (suc k) s) dot (split_at s k 0 below)),
+    ))
 
 pub candidates_no_dot : (s d : List ℕ) → ((i : ℕ) → i < length s → get_or s i 0 ≢ 46) → IsCandidate d s
     → (d ≡ s) ⊎ IsCandidate d []

@@ -34,18 +34,18 @@ one_file : (file : ℕ) (f : FileDesc) (o : Occurrence) → Contains (occurrence
 one_file file f o within =
     elim (Contains-append_cases (package_occurrences file f.«package»)
     (map (declared_occurrence file) (declared_by f)) o within) [
-  | inl packed ↦ packages_in file f.«package» o packed
-  | inr declared ↦ made_in (declared_occurrence file) file (λ x. refl) (declared_by f) o declared
-]
+      | inl packed ↦ packages_in file f.«package» o packed
+      | inr declared ↦ made_in (declared_occurrence file) file (λ x. refl) (declared_by f) o declared
+    ]
 
 pub below_from : (first : ℕ) (files : List FileDesc) (o : Occurrence) → Contains (occurrences_from first files) o
     → o.file < first + length files
 below_from first [] o (k, inside, is) = absurd (omega (arith, inside))
 below_from first (f ∷ files) o within =
     elim (Contains-append_cases (occurrences_of first f) (occurrences_from (first + 1) files) o within) [
-  | inl here ↦ (let same = one_file first f o here in omega (arith, same))
-  | inr later ↦ (let below = below_from (first + 1) files o later in omega (arith, below))
-]
+      | inl here ↦ (let same = one_file first f o here in omega (arith, same))
+      | inr later ↦ (let below = below_from (first + 1) files o later in omega (arith, below))
+    ]
 
 -- each occurrence is of one of the files
 pub below_files : (files : List FileDesc) (os : List Occurrence) → IsPermutation (occurrences files) os
@@ -53,8 +53,8 @@ pub below_files : (files : List FileDesc) (os : List Occurrence) → IsPermutati
     → o.file < length files
 below_files files os same o within =
     let below =
-      below_from 0 files o
-      (Contains-permutation os (occurrences files) o (IsPermutation-sym (occurrences files) os same) within) in
+    below_from 0 files o
+    (Contains-permutation os (occurrences files) o (IsPermutation-sym (occurrences files) os same) within) in
     omega (arith, below)
 
 pub all_below : (files : List FileDesc) (os : List Occurrence) → os ≡ occurrences files

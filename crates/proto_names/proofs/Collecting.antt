@@ -21,7 +21,7 @@ occurrences_from-append first (x ∷ xs) ys =
     ap (λ os. occurrences_of first x ++ os) (occurrences_from-append (first + 1) xs ys
     ∙ ap (λ n. occurrences_from (first + 1) xs ++ occurrences_from n ys) behind)
     ∙ sym (append_assoc (occurrences_of first x) (occurrences_from (first + 1) xs)
-      (occurrences_from (first + suc (length xs)) ys))
+    (occurrences_from (first + suc (length xs)) ys))
 
 -- those of one more file
 pub occurrences_more : (first : ℕ) (files : List FileDesc) (k : ℕ) (f : FileDesc) (now next : List Occurrence)
@@ -32,17 +32,22 @@ occurrences_more first files k f now next within at so_far put =
     let position : first + length (take k files) ≡ first + k = grind (arith, common_steps) in
     let last : occurrences_from (first + length (take k files)) (get_or files k f ∷ []) ≡ occurrences_of (first + k) f =
     rw (position, ← at) (append-nil (occurrences_of (first + k) f)) in
-    rw (put, so_far, take_more files k f within, occurrences_from-append first (take k files) (get_or files k f ∷ []),
-      last) refl
+    rw (
+      put,
+      so_far,
+      take_more files k f within,
+      occurrences_from-append first (take k files) (get_or files k f ∷ []),
+      last,
+    ) refl
 
 -- the first files have no more than all
 pub occurrences_prefix : (first : ℕ) (files : List FileDesc) (k : ℕ)
     → length (occurrences_from first (take k files)) ≤ length (occurrences_from first files)
 occurrences_prefix first files k =
     let whole : occurrences_from first files ≡ occurrences_from first (take k files)
-      ++ occurrences_from (first + length (take k files)) (drop k files) =
+    ++ occurrences_from (first + length (take k files)) (drop k files) =
     ap (occurrences_from first) (sym (take-append-drop k files))
-      ∙ occurrences_from-append first (take k files) (drop k files) in
+    ∙ occurrences_from-append first (take k files) (drop k files) in
     rw whole (grind (arith, common_steps))
 
 -- ---- parts of files, collected one after the other
@@ -56,9 +61,9 @@ module _ (parts : List Part) (k : ℕ) (p : Part) (stands : slice_get parts k �
   next =
       let same : get_or parts k p ≡ p = get_or_from_slice_get parts k p p stands in
       ap files_in (take_more parts k p (slice_get_within parts k p stands))
-        ∙ flat_map-append (λ p. p.files.now) (take k parts) (get_or parts k p ∷ [])
+      ∙ flat_map-append (λ p. p.files.now) (take k parts) (get_or parts k p ∷ [])
       ∙ ap (λ (fs : List FileDesc). before ++ fs)
-        (append-nil (get_or parts k p).files.now ∙ ap (λ (q : Part). q.files.now) same)
+      (append-nil (get_or parts k p).files.now ∙ ap (λ (q : Part). q.files.now) same)
 
   all_next : occurrences_from 0 (files_in (take (k + 1) parts)) ≡ occurrences_from 0 before
       ++ occurrences_from p.first p.files.now
@@ -74,11 +79,11 @@ module _ (parts : List Part) (k : ℕ) (p : Part) (stands : slice_get parts k �
       let rest = files_in (drop (k + 1) parts) in
       let whole : files_in parts ≡ front ++ rest =
       ap files_in (sym (take-append-drop (k + 1) parts))
-        ∙ flat_map-append (λ p. p.files.now) (take (k + 1) parts) (drop (k + 1) parts) in
+      ∙ flat_map-append (λ p. p.files.now) (take (k + 1) parts) (drop (k + 1) parts) in
       let all = ap length (ap (occurrences_from 0) whole ∙ occurrences_from-append 0 front rest)
       ∙ length-append (occurrences_from 0 front) (occurrences_from (0 + length front) rest) in
       let here = ap length all_next ∙ length-append (occurrences_from 0 before)
-        (occurrences_from p.first p.files.now) in
+      (occurrences_from p.first p.files.now) in
       omega (arith, all, here)
 
   pub too_many_here : (limit : ℕ) → limit < length (occurrences_from p.first p.files.now)
@@ -112,7 +117,7 @@ collected_next limit parts outs rest all out given whole =
     let within : k < length outs = omega (arith, size) in
     let at : slice_get outs k ≡ Some out =
     slice_get-get_or outs k out within ∙ ap Some
-      (ap (λ (l : List _). get_or l k out) (sym whole) ∙ get_or-append_seam (map Some all) out rest out) in
+    (ap (λ (l : List _). get_or l k out) (sym whole) ∙ get_or-append_seam (map Some all) out rest out) in
     let (p, stands) = part_at parts k (omega (arith, given.0, within)) in
     let same : k ≡ length all = length-map all Some in
     (p, subst (λ n. slice_get parts n ≡ Some p) same stands, given.1 k p out stands at)
@@ -122,7 +127,7 @@ pub all_more : (all more : List (List Occurrence)) (os : List Occurrence) → mo
     → all_of more ≡ all_of all ++ os
 all_more all more os put =
     ap all_of put ∙ flat_map-append (λ os. os) all (os ∷ [])
-      ∙ ap (λ (ps : List Occurrence). all_of all ++ ps) (append-nil os)
+    ∙ ap (λ (ps : List Occurrence). all_of all ++ ps) (append-nil os)
 
 -- ---- cutting files into parts
 
@@ -136,13 +141,13 @@ placed_more parts p placed here k q stands =
     elim (cases_lt k (length parts)) [
       | inl less ↦ (
           let old : slice_get parts k ≡ Some q = slice_get-get_or parts k q less
-            ∙ ap Some (sym (get_or_append_left parts (p ∷ []) q k less) ∙ value) in
+          ∙ ap Some (sym (get_or_append_left parts (p ∷ []) q k less) ∙ value) in
           placed k q old ∙ ap (λ (ps : List Part). length (files_in ps))
-            (sym (take-append-le k parts (p ∷ []) (omega (arith, less)))))
+          (sym (take-append-le k parts (p ∷ []) (omega (arith, less)))))
       | inr over ↦ (
           let last : k ≡ length parts = omega (arith, over, grown, long) in
           let same : p ≡ q = sym (get_or-append_seam parts p [] q) ∙ ap (λ n. get_or (parts ++ p ∷ []) n q) (sym last)
-            ∙ value in
+          ∙ value in
           ap (λ (r : Part). r.first) (sym same) ∙ here ∙ ap (λ (ps : List Part). length (files_in ps))
           (sym (take-append_seam parts (p ∷ [])) ∙ ap (λ n. take n (parts ++ p ∷ [])) (sym last)))
     ]
@@ -152,5 +157,5 @@ pub files_more : (files : List FileDesc) (parts : List Part) (p : Part) (first c
     → p.files.now ≡ take count (drop first files) → files_in (parts ++ p ∷ []) ≡ take (first + count) files
 files_more files parts p first count so_far is =
     flat_map-append (λ p. p.files.now) parts (p ∷ [])
-      ∙ ap (λ (fs : List FileDesc). files_in parts ++ fs) (append-nil p.files.now)
+    ∙ ap (λ (fs : List FileDesc). files_in parts ++ fs) (append-nil p.files.now)
     ∙ ap₂ (λ (xs ys : List FileDesc). xs ++ ys) so_far is ∙ sym (take-add first count files)

@@ -29,7 +29,7 @@ short_all [] (s ∷ ss) name h = refl
 short_all (x ∷ xs) [] name h = absurd (omega (arith, h))
 short_all (x ∷ xs) (s ∷ ss) name h =
     ap (ordering_then (nat_cmp x s)) (short_all xs ss name (omega (arith, h)))
-      ∙ then_then (nat_cmp x s) (slice_cmp nat_cmp xs ss) Less
+    ∙ then_then (nat_cmp x s) (slice_cmp nat_cmp xs ss) Less
 
 -- a text that is no longer than the scope
 pub short : (text scope name : List ℕ) → 0 < length scope → length text ≤ length scope
@@ -38,19 +38,19 @@ short text scope name some h = rw (scoped_some scope name some) (sym (short_all 
 
 pub both : (prefix scope rest more : List ℕ) → length prefix ≡ length scope
     → slice_cmp nat_cmp (prefix ++ rest) (scope ++ more) ≡ ordering_then (slice_cmp nat_cmp prefix scope)
-      (slice_cmp nat_cmp rest more)
+    (slice_cmp nat_cmp rest more)
 both [] [] rest more h = refl
 both [] (s ∷ ss) rest more h = absurd (omega (arith, h))
 both (x ∷ xs) [] rest more h = absurd (omega (arith, h))
 both (x ∷ xs) (s ∷ ss) rest more h =
     ap (ordering_then (nat_cmp x s)) (both xs ss rest more (omega (arith, h)))
-      ∙ then_then (nat_cmp x s) (slice_cmp nat_cmp xs ss) (slice_cmp nat_cmp rest more)
+    ∙ then_then (nat_cmp x s) (slice_cmp nat_cmp xs ss) (slice_cmp nat_cmp rest more)
 
 -- a text whose prefix is as long as the scope
 pub long : (text prefix scope name rest : List ℕ) → 0 < length scope → text ≡ prefix ++ rest
     → length prefix ≡ length scope
     → slice_cmp nat_cmp text (scoped scope name) ≡ ordering_then (slice_cmp nat_cmp prefix scope)
-      (slice_cmp nat_cmp rest (46 ∷ name))
+    (slice_cmp nat_cmp rest (46 ∷ name))
 long text prefix scope name rest some is h = rw (is, scoped_some scope name some) (both prefix scope rest (46 ∷ name) h)
 
 pub long_equal : (text prefix scope name rest : List ℕ) (o r : Ordering) → 0 < length scope → text ≡ prefix ++ rest
@@ -59,12 +59,12 @@ pub long_equal : (text prefix scope name rest : List ℕ) (o r : Ordering) → 0
     → r ≡ slice_cmp nat_cmp text (scoped scope name)
 long_equal text prefix scope name rest o r some is h compared equal behind =
     behind ∙ ap (λ p. ordering_then p (slice_cmp nat_cmp rest (46 ∷ name))) (sym equal ∙ compared)
-      ∙ sym (long text prefix scope name rest some is h)
+    ∙ sym (long text prefix scope name rest some is h)
 
 pub long_unequal : (text prefix scope name rest : List ℕ) (o : Ordering) → 0 < length scope → text ≡ prefix ++ rest
     → length prefix ≡ length scope
     → o ≡ slice_cmp nat_cmp prefix scope → o ≢ Equal → o ≡ slice_cmp nat_cmp text (scoped scope name)
 long_unequal text prefix scope name rest o some is h compared unequal =
     sym (then_unequal o (slice_cmp nat_cmp rest (46 ∷ name)) unequal)
-      ∙ ap (λ p. ordering_then p (slice_cmp nat_cmp rest (46 ∷ name))) compared
+    ∙ ap (λ p. ordering_then p (slice_cmp nat_cmp rest (46 ∷ name))) compared
     ∙ sym (long text prefix scope name rest some is h)

@@ -47,9 +47,9 @@ pub occurrences_more : (old new : List ℕ) (es : List Entry) → IsFrontOf old 
 occurrences_more old new [] prefix of = refl
 occurrences_more old new (e ∷ es) prefix of =
     let same : occurrence new e ≡ occurrence old e =
-      ap (named e) (name_more old new e prefix (All-head (IsEntryOf old) e es of)) in
+    ap (named e) (name_more old new e prefix (All-head (IsEntryOf old) e es of)) in
     ap₂ (λ (o : Occurrence) (os : List Occurrence). o ∷ os) same
-      (occurrences_more old new es prefix (All-tail (IsEntryOf old) e es of))
+    (occurrences_more old new es prefix (All-tail (IsEntryOf old) e es of))
 
 pub name_length : (text : List ℕ) (e : Entry) → IsEntryOf text e → length (name_at text e) ≡ e.len
 name_length text e is =
@@ -69,7 +69,7 @@ module _ (old new full : List ℕ) (es all : List Entry) (e : Entry) (whole : ne
   last_name =
       let size : length full ≤ e.len = omega (arith, long, start, len) in
       ap (λ (t : List ℕ). name_at t e) whole ∙ ap (take e.len) (drop_at old full e.start (sym start))
-        ∙ take_all e.len full size
+      ∙ take_all e.len full size
 
   last_entry : IsEntryOf new e
   last_entry = record {
@@ -86,7 +86,7 @@ module _ (old new full : List ℕ) (es all : List Entry) (e : Entry) (whole : ne
   occurrences_pushed =
       ap (map (occurrence new)) put ∙ map_push (occurrence new) es e
       ∙ ap₂ (λ (os : List Occurrence) (o : Occurrence). os ++ o ∷ []) (occurrences_more old new es (full, whole) of)
-        (ap (named e) last_name)
+      (ap (named e) last_name)
 
 -- ---- a name put behind the text in its parts
 
@@ -110,7 +110,7 @@ pub scope_put : (old scope once base name : List ℕ) → 0 < length scope → o
     → base ++ name ≡ old ++ scoped scope name
 scope_put old scope once base name some first second =
     ap (λ (t : List ℕ). t ++ name) (second ∙ ap (λ (t : List ℕ). t ++ 46 ∷ []) first)
-      ∙ append_assoc (old ++ scope) (46 ∷ []) name
+    ∙ append_assoc (old ++ scope) (46 ∷ []) name
     ∙ append_assoc old scope (46 ∷ name) ∙ ap (λ (t : List ℕ). old ++ t) (sym (scoped_some scope name some))
 
 pub no_scope : (old scope base name : List ℕ) → length scope ≡ 0 → base ≡ old → base ++ name ≡ old ++ scoped scope name
@@ -125,4 +125,4 @@ pub scoped_text : (scope name : List ℕ) → IsUtf8 scope → IsUtf8 name → I
 scoped_text [] name outer inner = inner
 scoped_text (c ∷ cs) name outer inner =
     IsUtf8-append (c ∷ cs) (46 ∷ name) outer
-      (IsUtf8-append (46 ∷ []) name (IsUtf8-from_ascii (46 ∷ []) dot_ascii) inner)
+    (IsUtf8-append (46 ∷ []) name (IsUtf8-from_ascii (46 ∷ []) dot_ascii) inner)

@@ -57,7 +57,7 @@ type_visible os Seen name named of all (Some what) (inl (one, is)) =
 type_visible os Seen name named of all (Some what) (inr (none, one, is)) =
     subst (IsType os Seen name) (sym is)
     (enumeration (among_visible os Seen is_type name named of one)
-      (λ v. none (visible_among os Seen is_message name named all v)))
+    (λ v. none (visible_among os Seen is_message name named all v)))
 
 pub no_type : (os : List Occurrence) (Seen : ℕ → Type 0) (name : List ℕ) → IsNoType os Seen name → (what : NameKind)
     → IsType os Seen name what → ⊥

@@ -41,7 +41,7 @@ on_ok_of (Err e) b = tt
 -- those of one occurrence more
 services_more : (os : List Occurrence) (k : ℕ) → k < length os
     → services_of (take (k + 1) os) ≡ services_of (take k os)
-      ++ map name_of (cond (is_service_kind (at os k).kind) (at os k ∷ []) [])
+    ++ map name_of (cond (is_service_kind (at os k).kind) (at os k ∷ []) [])
 services_more os k h =
     let is_service = λ (o : Occurrence). is_service_kind o.kind in
     ap (map name_of) (filter_more is_service os k blank h)
@@ -63,7 +63,7 @@ module _ {A : Type 0} (os : List Occurrence) (k : ℕ) (kind : Option NameKind) 
       → map string_bytes all ≡ services_of (take (k + 1) os)
   services_put text all passes named put =
       ap (map string_bytes) put ∙ map_push string_bytes texts text
-        ∙ ap₂ (λ (xs : List (List ℕ)) (x : List ℕ). xs ++ x ∷ []) so_far named
+      ∙ ap₂ (λ (xs : List (List ℕ)) (x : List ℕ). xs ++ x ∷ []) so_far named
       ∙ ap more (sym passes ∙ is_service) ∙ sym (services_more os k h)
 
   pub services_passed : told ≡ false → map string_bytes texts ≡ services_of (take (k + 1) os)
@@ -79,4 +79,4 @@ sorted_texts texts up k d low inside =
     let room : k + 1 < length texts = omega (arith, l, inside) in
     let t = first_of texts (k + 1) room in
     rw (get_or-map string_bytes texts k t d (omega arith), get_or-map string_bytes texts (k + 1) t d room)
-      (up k t low room)
+    (up k t low room)

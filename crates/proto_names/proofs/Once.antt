@@ -49,7 +49,7 @@ pub declared_once : (index : Index) (descs : List FileDesc) (limits : Limits) â†
 declared_once index descs limits is =
     let none : NoneTwice index.occurrences =
     none_moved index.occurrences (occurrences descs)
-      (IsPermutation-sym (occurrences descs) index.occurrences is.all) is.once in
+    (IsPermutation-sym (occurrences descs) index.occurrences is.all) is.once in
     record {
       one = Î» o p here there same element.
           (let first = slice_get_read index.occurrences _ here.0 o refl here.1 (sym here.2) in

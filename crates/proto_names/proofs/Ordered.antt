@@ -15,7 +15,7 @@ use Rattle.proto_names.specs.Runs.{at, blank}
 occurrence_total : IsTotalOrder occurrence_cmp
 occurrence_total =
     then_total (on_total (λ o. o.name) name_total)
-      (then_total (on_total (λ o. o.file) nat_cmp_total) (on_total (λ o. o.place.offset) nat_cmp_total))
+    (then_total (on_total (λ o. o.file) nat_cmp_total) (on_total (λ o. o.place.offset) nat_cmp_total))
 
 in_order : (os : List Occurrence) → AreInOrder os → (i j : ℕ) → i ≤ j → j < length os
     → is_lt (occurrence_cmp (at os j) (at os i)) ≡ false
@@ -58,8 +58,11 @@ pair_order a b h e =
     elim (nat_not_less b.file a.file (nat_cmp b.place.offset a.place.offset) h') [
       | inl less ↦ inl less
       | inr w ↦
-          inr (sym w.0, last_case b.place.offset a.place.offset (nat_lt b.place.offset a.place.offset)
-          (b.place.offset == a.place.offset) refl refl w.1)
+          inr (
+            sym w.0,
+            last_case b.place.offset a.place.offset (nat_lt b.place.offset a.place.offset)
+                (b.place.offset == a.place.offset) refl refl w.1,
+          )
     ]
 
 pub places_in_order : (os : List Occurrence) → AreInOrder os → (i j : ℕ) → i ≤ j → j < length os
@@ -80,9 +83,9 @@ name_between : (a b c : Occurrence) → is_lt (occurrence_cmp b a) ≡ false →
 name_between a b c h k e =
     let h' = not_less _ (first_not (name_cmp b.name a.name) _ h) in
     let k' : name_cmp a.name b.name ≡ Less
-      → ⊥ = λ w. not_less _ (first_not (name_cmp c.name b.name) _ k) (rw (← e) w) in
+    → ⊥ = λ w. not_less _ (first_not (name_cmp c.name b.name) _ k) (rw (← e) w) in
     same_name a.name b.name
-      (equal_case (name_cmp a.name b.name) (name_cmp b.name a.name) (name_total.antisymm b.name a.name) k' h')
+    (equal_case (name_cmp a.name b.name) (name_cmp b.name a.name) (name_total.antisymm b.name a.name) k' h')
 
 pub names_between : (os : List Occurrence) → AreInOrder os → (i j k : ℕ) → i ≤ j → j ≤ k → k < length os
     → (at os i).name ≡ (at os k).name

@@ -97,7 +97,7 @@ module _ (os : List Occurrence) (start len : ℕ) (runs new_runs : List Run) (ol
     | inl before ↦
         subst (λ (run : Run). IsPackageOf (occurrences_in os run) new k) (sym (old_run k before))
         (same_package (occurrences_in os (run_at runs k)) old new k (omega (arith, before, are.rows))
-          (omega (arith, put.rows)) put.width
+        (omega (arith, put.rows)) put.width
         (λ c hc. put.kept k c (omega (arith, before, are.rows)) hc) (are.each k before))
     | inr last ↦
         let at : length runs ≡ k = omega (arith, last, h, size) in

@@ -30,9 +30,9 @@ pub prefixes_at_dot : (s : List ℕ) (k : ℕ) → k < length s → get_or s k 0
     → prefixes s ≡ s ∷ prefixes (take k s)
 prefixes_at_dot s k within dot none =
     let whole : s ≡ take k s ++ 46 ∷ drop (suc k) s =
-      subst (λ (b : ℕ). s ≡ take k s ++ b ∷ drop (suc k) s) dot (split_at s k 0 within) in
+    subst (λ (b : ℕ). s ≡ take k s ++ b ∷ drop (suc k) s) dot (split_at s k 0 within) in
     let rest : NoDot (drop (suc k) s) = λ i below. rw (get_or-drop (suc k) s i 0)
     (none (suc k + i) (omega arith) (let inside : i < length s - suc k = rw (length-drop (suc k) s) at below in
-      omega arith)) in
+    omega arith)) in
     subst (λ (x : List ℕ). prefixes x ≡ x ∷ prefixes (take k s)) (sym whole)
-      (prefixes_dotted (take k s) (drop (suc k) s) rest)
+    (prefixes_dotted (take k s) (drop (suc k) s) rest)

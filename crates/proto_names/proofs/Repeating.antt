@@ -140,8 +140,12 @@ twice_repeats os b (a, (i, j, apart, first, second), clash) =
       | inr over ↦ (
         i,
         slice_get_within os i a first,
-        (j, omega (arith, over, apart), rw (here, there) (sym clash.same),
-          rw (here, there) (λ p q. clash.not_packages q p)),
+        (
+          j,
+          omega (arith, over, apart),
+          rw (here, there) (sym clash.same),
+          rw (here, there) (λ p q. clash.not_packages q p),
+        ),
         rw here clash.no_later,
       )
     ]
@@ -174,7 +178,7 @@ passed_twice os n known location first is twice lesser passed = record {
     | inl less ↦ lesser.left (location_of (at os k)) (passed.least k less w)
     | inr over ↦ (let last : k ≡ n = omega (arith, over, h) in
         lesser.right (location_of (at os k))
-          (subst (λ (s : Location). NoLater s (location_of (at os k))) (ap (λ j. location_of (at os j)) last ∙ is)
+        (subst (λ (s : Location). NoLater s (location_of (at os k))) (ap (λ j. location_of (at os j)) last ∙ is)
         (inr (refl, omega arith))))
   ]);
 }

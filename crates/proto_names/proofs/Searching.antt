@@ -61,21 +61,22 @@ module _ (os : List Occurrence) (target : List ℕ) (up : AreInHashOrder os) whe
   parted_equal behind i j d h inside t =
       sym (equal_alike (name_of (get_or os i d)) target)
       ∙ eq_index _ _ (rises i j d h inside) (behind i d (omega arith))
-        (equal_alike (name_of (get_or os j d)) target ∙ t)
+      (equal_alike (name_of (get_or os j d)) target ∙ t)
 
 pub less_point : (os : List Occurrence) (target : List ℕ) (n : ℕ)
     → IsPartitionPoint (λ e. is_lt (name_cmp (name_of e) target) ≡ true)
-      (λ e. is_lt (name_cmp (name_of e) target) ≡ false) os n
+    (λ e. is_lt (name_cmp (name_of e) target) ≡ false) os n
     → IsPartitionPoint (λ e. name_cmp (name_of e) target ≡ Less) (λ e. name_cmp (name_of e) target ≢ Less) os n
 less_point os target n p = (λ k d a b. lt_less _ (p.0 k d a b), λ k d a b. not_lt_less _ (p.1 k d a b))
 
 pub equal_point : (os : List Occurrence) (target : List ℕ) (n : ℕ)
     → IsPartitionPoint (λ e. is_eq (slice_cmp nat_cmp (name_of e) target) ≡ true)
-      (λ e. is_eq (slice_cmp nat_cmp (name_of e) target) ≡ false) os n
+    (λ e. is_eq (slice_cmp nat_cmp (name_of e) target) ≡ false) os n
     → IsPartitionPoint (λ e. name_of e ≡ target) (λ e. name_of e ≢ target) os n
-equal_point os target n p =
-    (λ k d a b. exact_bytes _ _ ((Equal-is _).0 (p.0 k d a b)),
-    λ k d a b e. not_eq_equal _ (p.1 k d a b) (equal_itself _ _ e))
+equal_point os target n p = (
+  λ k d a b. exact_bytes _ _ ((Equal-is _).0 (p.0 k d a b)),
+  λ k d a b e. not_eq_equal _ (p.1 k d a b) (equal_itself _ _ e),
+)
 
 lower : (o p : Ordering) → ordering_index o ≤ ordering_index p → p ≡ Equal → o ≢ Equal → is_lt o ≡ true
 lower Less p h e n = refl
@@ -98,7 +99,7 @@ nowhere_is (d ∷ os) target n up p other k within same =
     let all : List Occurrence = d ∷ os in
     let below : k < length all = within in
     let equal_k : name_cmp (name_of (get_or all k d)) target ≡ Equal =
-      itself_equal _ _ (sym (named_at all k d below) ∙ same) in
+    itself_equal _ _ (sym (named_at all k d below) ∙ same) in
     elim (cases_lt k n) [
       | inl before ↦ less_not_equal _ (p.0 k d (omega arith) before) equal_k
       | inr behind ↦
@@ -155,7 +156,7 @@ pub one_point : (os : List Occurrence) (target : List ℕ) → AreInHashOrder os
 one_point os target up behind first second = (
   λ k d a b. (let zeroth : 0 ≡ k = omega arith in subst (λ i. name_of (get_or os i d) ≡ target) zeroth (first d)),
   λ k d a b e. second d (omega (arith, a, b))
-    (exact_bytes _ _ ((Equal-is _).0 (parted_equal os target up behind 1 k d a b (ap is_eq (equal_itself _ _ e))))),
+      (exact_bytes _ _ ((Equal-is _).0 (parted_equal os target up behind 1 k d a b (ap is_eq (equal_itself _ _ e))))),
 )
 
 nothing : (e : Occurrence) → Contains {X = Occurrence} [] e → ⊥
@@ -182,7 +183,7 @@ pub drop_behind : (os : List Occurrence) (target : List ℕ) (n : ℕ) → n ≤
 drop_behind os target n h p k d inside =
     let l = length-drop n os in
     subst (λ (e : Occurrence). name_cmp (name_of e) target ≢ Less) (sym (get_or-drop n os k d))
-      (p.1 (n + k) d (omega arith) (omega (arith, l, inside)))
+    (p.1 (n + k) d (omega arith) (omega (arith, l, inside)))
 
 -- the run of a name
 module _ (os : List Occurrence) (target : List ℕ) (n m : ℕ) (h : n ≤ length os) (g : m ≤ length (drop n os))
@@ -193,9 +194,10 @@ module _ (os : List Occurrence) (target : List ℕ) (n m : ℕ) (h : n ≤ lengt
       let l = length-take m (drop n os) in
       let l' = length-drop n os in
       let low : k < m = omega (arith, l, inside) in
-      let at : get_or (drop n os) k e ≡ e = sym (get_or-take m (drop n os) k e low) ∙ is in
-      ((n + k, omega (arith, l', low, g), sym (get_or-drop n os k e) ∙ at),
-        subst (λ (x : Occurrence). name_of x ≡ target) at (same.0 k e (omega arith) low))
+      let at : get_or (drop n os) k e ≡ e = sym (get_or-take m (drop n os) k e low) ∙ is in (
+        (n + k, omega (arith, l', low, g), sym (get_or-drop n os k e) ∙ at),
+        subst (λ (x : Occurrence). name_of x ≡ target) at (same.0 k e (omega arith) low),
+      )
 
   run_all : (e : Occurrence) → Contains os e → name_of e ≡ target → Contains (take m (drop n os)) e
   run_all e (j, inside, is) name = elim (cases_lt j n) [

@@ -25,7 +25,7 @@ pub name_cut : (text behind part : List ℕ) (start len m n : ℕ) → m ≡ min
     → part ≡ take n behind → part ≡ take len (drop start text)
 name_cut text behind part start len m n first at_first size cut =
     cut ∙ ap (λ (k : ℕ). take k behind) size ∙ take_min len behind
-      ∙ ap (take len) (at_first ∙ ap (λ (k : ℕ). drop k text) first ∙ drop_min start text)
+    ∙ ap (take len) (at_first ∙ ap (λ (k : ℕ). drop k text) first ∙ drop_min start text)
 
 -- ---- what stands at a position
 
@@ -87,7 +87,7 @@ pub name_order : (text : List ℕ) (es : List Entry) (target : List ℕ) (hash k
     ≡ name_cmp (name_at text (get_or es k d)) target
 name_order text es target hash k d h of is =
     ap₂ (λ (a b : ℕ). ordering_then (nat_cmp a b) (slice_cmp nat_cmp (name_at text (get_or es k d)) target))
-      (of k d h).hashed is
+    (of k d h).hashed is
 
 -- ---- the order of entries
 
@@ -95,7 +95,7 @@ entry_total : (text : List ℕ) → IsTotalOrder (entry_cmp text)
 entry_total text =
     then_total (on_total (λ e. e.hash) nat_cmp_total) (then_total (on_total (λ e. name_at text e) nat_list_cmp_total)
     (then_total (on_total (λ e. e.location.file) nat_cmp_total)
-      (on_total (λ e. e.location.place.offset) nat_cmp_total)))
+    (on_total (λ e. e.location.place.offset) nat_cmp_total)))
 
 -- a sort by a closure that answers this order
 pub sorted_by : {F : Type 0} {g : Mut F (Bor Entry × (Bor Entry × Unit {0})) Ordering} {f : F} (text : List ℕ)
@@ -107,14 +107,14 @@ pub sorted_by : {F : Type 0} {g : Mut F (Bor Entry × (Bor Entry × Unit {0})) O
 sorted_by {g = g} {f = f} text es up h =
     up (λ a b. is_lt (entry_cmp text a b)) (ranks_by (entry_total text) (λ e. e))
     (always_returns_same g (λ a r. is_lt r ≡ is_lt (entry_cmp text a.0.now a.1.0.now)) f
-      (λ a r f' k. (ap is_lt (h a r f' k).0, (h a r f' k).1)))
+    (λ a r f' k. (ap is_lt (h a r f' k).0, (h a r f' k).1)))
 
 same_order : (text : List ℕ) (a b : Entry) → a.hash ≡ hash_of (name_at text a) → b.hash ≡ hash_of (name_at text b)
     → entry_cmp text a b ≡ occurrence_cmp (occurrence text a) (occurrence text b)
 same_order text a b first second =
     let names = slice_cmp nat_cmp (name_at text a) (name_at text b) in
     let locations = ordering_then (nat_cmp a.location.file b.location.file)
-      (nat_cmp a.location.place.offset b.location.place.offset) in
+    (nat_cmp a.location.place.offset b.location.place.offset) in
     ap₂ (λ (x y : ℕ). ordering_then (nat_cmp x y) (ordering_then names locations)) first second
     ∙ then_then (nat_cmp (hash_of (name_at text a)) (hash_of (name_at text b))) names locations
 
@@ -129,8 +129,8 @@ sorted_occurrences text es of up k d low inside =
     let a = get_or es (k + 1) e in
     let b = get_or es k e in
     let here : get_or (map (occurrence text) es) k d ≡ occurrence text b =
-      get_or-map (occurrence text) es k e d under in
+    get_or-map (occurrence text) es k e d under in
     let next : get_or (map (occurrence text) es) (k + 1) d ≡ occurrence text a =
-      get_or-map (occurrence text) es (k + 1) e d room in
+    get_or-map (occurrence text) es (k + 1) e d room in
     ap₂ (λ (x y : Occurrence). is_lt (occurrence_cmp x y)) next here
     ∙ ap is_lt (sym (same_order text a b (of (k + 1) e room).hashed (of k e under).hashed)) ∙ up k e low room

@@ -33,7 +33,7 @@ hashes_rise os up i j h below =
     let a = hash_of (at os i).name in
     let b = hash_of (at os j).name in
     let far = sorted_far (λ x y. is_lt (name_cmp (name_of x) (name_of y)))
-      (ranks_by name_total name_of) os up i j blank h below in
+    (ranks_by name_total name_of) os up i j blank h below in
     last_case b a (nat_lt b a) (b == a) refl refl (first_not _ _ far)
 
 pub slots_rise : (os : List Occurrence) (count : ℕ) → AreInHashOrder os → (i j : ℕ) → i ≤ j → j < length os
@@ -67,7 +67,7 @@ module _ (os : List Occurrence) (count n : ℕ) (old : List ℕ) (size : ℕ) wh
         let inside : s - length old < size - length old = omega (arith, h, long, over) in
         subst (BeginsSlot os count s)
         (sym (get_or-append_right old (replicate (size - length old) n) s 0 over
-          ∙ get_or-replicate (size - length old) (s - length old) n 0 inside))
+        ∙ get_or-replicate (size - length old) (s - length old) n 0 inside))
         (new s over (omega (arith, inside, over))))
   ]
 
@@ -76,7 +76,7 @@ pub starts_more : (os : List Occurrence) (count n slot : ℕ) (old new : List �
     → StartsTo os count n old → StartsTo os count (n + 1) new
 starts_more os count n slot old new up below is few made so_far =
     let long : length new ≡ length old + (slot + 1 - length old) =
-      ap length made ∙ longer_length os count n old (slot + 1) in
+    ap length made ∙ longer_length os count n old (slot + 1) in
     record {
       within = (let w = so_far.within in omega (arith, long, w, few));
       each = rw made (longer_each os count n old (slot + 1) so_far.each (λ s over under. record {
@@ -100,7 +100,7 @@ pub starts_whole : (os : List Occurrence) (count n all : ℕ) (old new : List �
 starts_whole os count n all old new whole is some few made so_far =
     let w = so_far.within in
     let long : length new ≡ length old + (count + 1 - length old) =
-      ap length made ∙ longer_length os count all old (count + 1) in
+    ap length made ∙ longer_length os count all old (count + 1) in
     let size : count ≡ length new - 1 = omega (arith, long, w) in
     let found : (s : ℕ) → s < length new → BeginsSlot os count s (get_or new s 0) =
     rw made (longer_each os count all old (count + 1) so_far.each (λ s over under. record {

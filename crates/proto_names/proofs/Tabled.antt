@@ -51,7 +51,7 @@ module _ {X : Type 0} (p q : List X) where
       let less = slice_get_within p n x at in
       let long = length-append p q in
       slice_get-get_or (p ++ q) n x (omega (arith, long, less))
-        ∙ ap Some (get_or_append_left p q x n less ∙ get_or_from_slice_get p n x x at)
+      ∙ ap Some (get_or_append_left p q x n less ∙ get_or_from_slice_get p n x x at)
 
   high : (n : ℕ) (x : X) → length p ≤ n → slice_get (p ++ q) n ≡ Some x → slice_get q (n - length p) ≡ Some x
   high n x over at =
@@ -68,7 +68,7 @@ module _ {X : Type 0} (p q : List X) where
       let less = slice_get_within q m x at in
       let long = length-append p q in
       slice_get-get_or (p ++ q) (length p + m) x (omega (arith, long, less))
-        ∙ ap Some (get_or-append-add p q m x ∙ get_or_from_slice_get q m x x at)
+      ∙ ap Some (get_or-append-add p q m x ∙ get_or_from_slice_get q m x x at)
 
 -- how many stand before a table
 abbrev pub before : List (List Occurrence) → ℕ → ℕ
@@ -82,12 +82,12 @@ within_all (t ∷ ts) zero j os o at here =
     let same : t ≡ os = cc in
     let place : j ≡ before (t ∷ ts) 0 + j = omega arith in
     subst (λ n. slice_get (t ++ all_of ts) n ≡ Some o) place
-      (low_back t (all_of ts) j o (subst (λ us. slice_get us j ≡ Some o) (sym same) here))
+    (low_back t (all_of ts) j o (subst (λ us. slice_get us j ≡ Some o) (sym same) here))
 within_all (t ∷ ts) (suc k) j os o at here =
     let size = length-append t (all_of (take k ts)) in
     let place : length t + (before ts k + j) ≡ before (t ∷ ts) (suc k) + j = omega (arith, size) in
     subst (λ n. slice_get (t ++ all_of ts) n ≡ Some o) place
-      (high_back t (all_of ts) (before ts k + j) o (within_all ts k j os o at here))
+    (high_back t (all_of ts) (before ts k + j) o (within_all ts k j os o at here))
 
 -- where what stands at a position stands in its table
 pub record Stands (tables : List (List Occurrence)) (n : ℕ) (o : Occurrence) : Type 0 where
@@ -102,14 +102,26 @@ pub standing : (tables : List (List Occurrence)) (n : ℕ) (o : Occurrence) → 
     → Stands tables n o
 standing [] n o at = let none = slice_get_within [] n o at in absurd (omega (arith, none))
 standing (t ∷ ts) n o at = elim (cases_lt n (length t)) [
-  | inl less ↦ record { table = 0; of = t; place = n; at = refl; here = low t (all_of ts) n o less at;
-      is = omega arith }
+  | inl less ↦ record {
+    table = 0;
+    of = t;
+    place = n;
+    at = refl;
+    here = low t (all_of ts) n o less at;
+    is = omega arith;
+  }
   | inr over ↦ (
       let s = standing ts (n - length t) o (high t (all_of ts) n o over at) in
       let size = length-append t (all_of (take s.table ts)) in
       let is = s.is in
-      record { table = suc s.table; of = s.of; place = s.place; at = s.at; here = s.here;
-          is = omega (arith, size, is, over) })
+      record {
+        table = suc s.table;
+        of = s.of;
+        place = s.place;
+        at = s.at;
+        here = s.here;
+        is = omega (arith, size, is, over);
+      })
 ]
 
 -- ---- together they are all
@@ -150,11 +162,11 @@ joined n k os (t ∷ ts) within each =
     let later : All (IsBetween n (k + 1) (k + 1 + length ts)) (filter q os) =
     λ i d h. (let (low, high) = All-filter q (IsBetween n k (k + suc (length ts))) os within i d h in
     let other = apart (get_or (filter q os) i d) (filter_passes q os i d h) in
-      (omega (arith, low, other), omega (arith, high))) in
+    (omega (arith, low, other), omega (arith, high))) in
     let rest : IsPermutation (filter q os) (all_of ts) = joined n (k + 1) (filter q os) ts later
     (λ j u at. (let next : k + suc j ≡ k + 1 + j = omega arith in
     subst (λ (ps : List Occurrence). IsPermutation ps u)
-      (sym (kept_twice (λ o. share_at n o == k + 1 + j) q (passes j) os))
+    (sym (kept_twice (λ o. share_at n o == k + 1 + j) q (passes j) os))
     (subst (λ m. IsPermutation (share_of n m os) u) next (each (suc j) u at)))) in
     IsPermutation-trans os (filter p os ++ filter q os) (t ++ all_of ts) (IsPermutation-filter_both p q (λ o. refl) os)
     (IsPermutation-append (filter p os) t (filter q os) (all_of ts) first rest) where
@@ -184,7 +196,7 @@ share_here : (tables : List (List Occurrence)) (n : ℕ) (o : Occurrence) → Ar
 share_here tables n o shared s =
     let inside = slice_get_within s.of s.place o s.here in
     ap (share_at (length tables)) (sym (get_or_from_slice_get s.of s.place o o s.here))
-      ∙ shared.each s.table s.of s.at s.place o inside
+    ∙ shared.each s.table s.of s.at s.place o inside
 
 -- what has a name is in the table of its share
 pub among_one : (tables : List (List Occurrence)) (k : ℕ) (os : List Occurrence) (o : Occurrence) → AreInShares tables
@@ -224,7 +236,7 @@ twice_in_one tables b shared (a, (i, j, apart, first, second), clash) =
     let s = standing tables i a first in
     let t = standing tables j b second in
     let key : share_at (length tables) a ≡ share_at (length tables) b =
-      ap (λ (name : List ℕ). hash_of name % length tables) clash.same in
+    ap (λ (name : List ℕ). hash_of name % length tables) clash.same in
     let same : s.table ≡ t.table = sym (share_here tables i a shared s) ∙ key ∙ share_here tables j b shared t in
     let one : Some s.of ≡ Some t.of = sym s.at ∙ ap (slice_get tables) same ∙ t.at in
     let is : s.of ≡ t.of = cc in
@@ -261,20 +273,20 @@ module _ (os : List Occurrence) (shares : List SortedShare) (are : AreSharesOf o
         (let (s, stands, is) = of_map table_of shares k t at in
         let count = length shares in
         let in_share = All-permutation (λ o. share_at count o ≡ k) (share_of count k os) s.table
-          (are.each k s stands).all
+        (are.each k s stands).all
         (λ i d h. eqb-true (share_at count (get_or (share_of count k os) i d)) k
-          (filter_passes (λ o. share_at count o == k) os i d h)) in
+        (filter_passes (λ o. share_at count o == k) os i d h)) in
         subst (λ n. All (λ o. share_at n o ≡ k) t) (sym many) (subst (All (λ o. share_at count o ≡ k)) is in_share));
   }
 
   pub all_shares : IsPermutation os (all_of tables)
   all_shares = joined (length shares) 0 os tables
       (λ i d h. (let high = mod_below (hash_of (get_or os i d).name) (length shares) are.some in
-        (omega arith, omega (arith, high, many))))
+      (omega arith, omega (arith, high, many))))
       (λ j t at. (let (s, stands, is) = of_map table_of shares j t at in
       let here : j ≡ 0 + j = omega arith in
       subst (λ m. IsPermutation (share_of (length shares) m os) t) here
-        (subst (IsPermutation (share_of (length shares) j os)) is (are.each j s stands).all)))
+      (subst (IsPermutation (share_of (length shares) j os)) is (are.each j s stands).all)))
 
   -- the services of the tables
   pub all_services : flat_map services_in shares ≡ services_of (all_of tables)
@@ -320,7 +332,7 @@ module _ (os : List Occurrence) (shares : List SortedShare) (are : AreSharesOf o
               (let (k, t, there, here) = twice_in_one tables c in_shares twice in
               let (r, stands, same) = of_map table_of shares k t there in
               let (m, of, (d, least, its_file, its_place)) =
-                in_share k r c stands (subst (λ us. IsTwice us c) (sym same) here) in
+              in_share k r c stands (subst (λ us. IsTwice us c) (sym same) here) in
               let its : location_of d ≡ m = ap₂ (λ (f : ℕ) (p : Place). the_location f p) its_file its_place in
               no_later b d c l file place (subst (NoLater l) (sym its) (earliest.least m of))
               (least.least c (subst (λ us. IsTwice us c) (sym same) here)));

@@ -12,7 +12,7 @@ undone : (before : ℕ) → before < 4294967296 → (before * 16777619 % 4294967
 undone before small =
     let both : before * 16777619 * 899433627 ≡ before + before * 3513497 * 4294967296 = omega arith in
     mul-mod_first (before * 16777619) 899433627 4294967296 ∙ ap (λ n. n % 4294967296) both
-      ∙ add-mul-mod_self_right before (before * 3513497) 4294967296
+    ∙ add-mul-mod_self_right before (before * 3513497) 4294967296
     ∙ mod-eq_of_lt small
 
 -- a hash before its last byte came
@@ -22,7 +22,7 @@ without hash byte before few small is =
     let x = before * 16777619 in
     let d = 4294967296 - byte in
     let apart : hash + 4294967296 - byte ≡ (x + byte) % 4294967296 + d = ap (λ n. n + 4294967296 - byte) is
-      ∙ omega (arith, few) in
+    ∙ omega (arith, few) in
     let whole : x + byte + d ≡ x + 4294967296 = omega (arith, few) in
     let same : ((x + byte) % 4294967296 + d) % 4294967296 ≡ x % 4294967296 =
     mod-add-mod (x + byte) 4294967296 d ∙ ap (λ n. n % 4294967296) whole ∙ add-mod_right x 4294967296 in
@@ -43,7 +43,7 @@ pub hash_end : (prefix bytes : List ℕ) (k d : ℕ) → k < length bytes
     → hash_of (prefix ++ take (k + 1) bytes) ≡ hash_step (hash_of (prefix ++ take k bytes)) (get_or bytes k d)
 hash_end prefix bytes k d within =
     ap (λ xs. hash_of (prefix ++ xs)) (take_more bytes k d within)
-      ∙ ap hash_of (append-end prefix (take k bytes) (get_or bytes k d))
+    ∙ ap hash_of (append-end prefix (take k bytes) (get_or bytes k d))
     ∙ fold-append hash_step 0 (prefix ++ take k bytes) (get_or bytes k d ∷ [])
   where
     append-end : (xs ys : List ℕ) (b : ℕ) → xs ++ (ys ++ b ∷ []) ≡ (xs ++ ys) ++ b ∷ []

@@ -61,9 +61,9 @@ decides_alike os ps Seen Sees alike c spelled =
     match_turn (position is_dot spelled)
     (Visible os Seen is_type (scoped c spelled)) (Visible ps Sees is_type (scoped c spelled))
     (λ k. Visible os Seen is_scope (scoped c (take k spelled)))
-      (λ k. Visible ps Sees is_scope (scoped c (take k spelled)))
+    (λ k. Visible ps Sees is_scope (scoped c (take k spelled)))
     (visible_alike os ps Seen Sees alike is_type (scoped c spelled))
-      (λ k. visible_alike os ps Seen Sees alike is_scope (scoped c (take k spelled)))
+    (λ k. visible_alike os ps Seen Sees alike is_scope (scoped c (take k spelled)))
 
 innermost_alike : (os ps : List Occurrence) (Seen Sees : ℕ → Type 0) → AreSeenAlike os Seen ps Sees
     → (scope spelled c : List ℕ)
@@ -112,4 +112,4 @@ pub resolves_same : (os ps : List Occurrence) (Seen Sees : ℕ → Type 0) → A
     → (full ≡ other) × (what ≡ kind)
 resolves_same os ps Seen Sees alike scope spelled full other what kind r s =
     resolves_one ps Sees scope spelled full other what kind
-      (resolves_alike os ps Seen Sees alike scope spelled full what r) s
+    (resolves_alike os ps Seen Sees alike scope spelled full what r) s

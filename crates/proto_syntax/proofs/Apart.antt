@@ -37,5 +37,5 @@ apart_means (OneOf ws) (NoneOf vs) (identifier u) h i = not_from_true (among u v
 apart_means (NoneOf vs) (OneOf ws) (identifier u) h i = not_all_among u ws vs h i
 apart_means (Symbol b) (Symbol c) (punctuation x) h i =
     false_from_ne_true (nat_eq c x) (λ e. let k : nat_eq b c ≡ false = not-true (nat_eq b c) h in
-      grind (arith, eqb-true))
+    grind (arith, eqb-true))
 apart_means c d w h i = grind arith

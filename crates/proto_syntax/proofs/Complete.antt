@@ -17,7 +17,7 @@ goes_on_left : (a b : Grammar) (us : List Spelled)
     → next_fits (goes_on a) us ≡ false
 goes_on_left a b us h e =
     let k : next_fits (cond (can_be_empty b) (goes_on a) []) us ≡ false =
-      next_right (goes_on b) (cond (can_be_empty b) (goes_on a) []) us h in rw e at k
+    next_right (goes_on b) (cond (can_be_empty b) (goes_on a) []) us h in rw e at k
 
 begins_follows : (a b : Grammar) (us : List Spelled)
     → next_fits ((goes_on a ++ goes_on b) ++ cond (can_be_empty b) (begins a) []) us ≡ false
@@ -76,18 +76,18 @@ many_complete : (a : Grammar) → Complete a → decides a ≡ true → can_be_e
 many_complete a ih d e p n _ none us l h = many_end a n us (next_left (begins a) (goes_on a) us h)
 many_complete a ih d e p zero _ (more {x = x} {y = y} ix iy) us l h =
     let k : length (flatten y ++ us) < length (flatten x ++ (flatten y ++ us)) =
-      not_empty_longer a (flatten x) (flatten y ++ us) (tree_starts ix) e in
+    not_empty_longer a (flatten x) (flatten y ++ us) (tree_starts ix) e in
     let m : length (flatten x ++ (flatten y ++ us)) ≤ 0 = rw append_assoc at l in absurd (omega arith)
 many_complete a ih d e p (suc n) _ (more {x = x} {y = y} ix iy) us l h =
     let k : length (flatten y ++ us) < length (flatten x ++ (flatten y ++ us)) =
-      not_empty_longer a (flatten x) (flatten y ++ us) (tree_starts ix) e in
+    not_empty_longer a (flatten x) (flatten y ++ us) (tree_starts ix) e in
     let m : length (flatten x ++ (flatten y ++ us)) ≤ suc n = rw append_assoc at l in
     let q : next_fits (goes_on a) (flatten y ++ us) ≡ false =
     follows (goes_on a) (Many a) (flatten y) us (tree_starts iy) p (λ z. next_right (begins a) (goes_on a) us h) in
     subst (λ ts. read_many (read a) (begins a) (suc n) ts ≡ Read (Pair x y) us)
-      (sym (append_assoc (flatten x) (flatten y) us))
+    (sym (append_assoc (flatten x) (flatten y) us))
     (many_turn a x y n (flatten x ++ (flatten y ++ us)) (flatten y ++ us) us
-      (starts_next a (flatten x) (flatten y ++ us) (tree_starts ix) e)
+    (starts_next a (flatten x) (flatten y ++ us) (tree_starts ix) e)
     (ih x ix d (flatten y ++ us) q) (many_complete a ih d e p n y iy us (omega arith) h))
 
 pub complete : (g : Grammar) → Complete g
@@ -98,7 +98,7 @@ complete (a ⨾ b) _ (both {x = x} {y = y} ix iy) d us n =
     let v = and_parts (decides b) (all_apart (goes_on a) (begins b)) w.1 in
     seq_complete a b x y ((flatten x ++ flatten y) ++ us) (flatten y ++ us) us (append_assoc (flatten x) (flatten y) us)
     (complete a x ix w.0 (flatten y ++ us)
-      (follows (goes_on a) b (flatten y) us (tree_starts iy) v.1 (goes_on_left a b us n)))
+    (follows (goes_on a) b (flatten y) us (tree_starts iy) v.1 (goes_on_left a b us n)))
     (complete b y iy v.0 us (next_left (goes_on b) (cond (can_be_empty b) (goes_on a) []) us n))
 complete (a ∣ b) _ (first {x = x} ix) d us n =
     let w = and_parts (decides a) (decides b && (not (can_be_empty a) && all_apart (begins a) (begins b))) d in
@@ -106,20 +106,20 @@ complete (a ∣ b) _ (first {x = x} ix) d us n =
     choice_first a b x (flatten x ++ us) us (starts_next a (flatten x) us (tree_starts ix)
     (not-true (can_be_empty a) (and_parts (not (can_be_empty a)) (all_apart (begins a) (begins b)) v.1).0))
     (complete a x ix w.0 us
-      (next_left (goes_on a) (goes_on b) us
-      (next_left (goes_on a ++ goes_on b) (cond (can_be_empty b) (begins a) []) us n)))
+    (next_left (goes_on a) (goes_on b) us
+    (next_left (goes_on a ++ goes_on b) (cond (can_be_empty b) (begins a) []) us n)))
 complete (a ∣ b) _ (second {x = x} ix) d us n =
     let w = and_parts (decides a) (decides b && (not (can_be_empty a) && all_apart (begins a) (begins b))) d in
     let v = and_parts (decides b) (not (can_be_empty a) && all_apart (begins a) (begins b)) w.1 in
     choice_second a b x (flatten x ++ us) us
     (follows (begins a) b (flatten x) us (tree_starts ix)
-      (and_parts (not (can_be_empty a)) (all_apart (begins a) (begins b)) v.1).1 (begins_follows a b us n))
+    (and_parts (not (can_be_empty a)) (all_apart (begins a) (begins b)) v.1).1 (begins_follows a b us n))
     (complete b x ix v.0 us
-      (next_right (goes_on a) (goes_on b) us
-      (next_left (goes_on a ++ goes_on b) (cond (can_be_empty b) (begins a) []) us n)))
+    (next_right (goes_on a) (goes_on b) us
+    (next_left (goes_on a ++ goes_on b) (cond (can_be_empty b) (begins a) []) us n)))
 complete (Many a) x ix d us n =
     let w = and_parts (decides a) (not (can_be_empty a) && all_apart (goes_on a) (begins a)) d in
     let v = and_parts (not (can_be_empty a)) (all_apart (goes_on a) (begins a)) w.1 in
     many_complete a (complete a) w.0 (not-true (can_be_empty a) v.0) v.1 (length (flatten x ++ us)) x ix us
-      (omega arith) n
+    (omega arith) n
 complete (Beyond c) x ix d us n = elim ix [ ]

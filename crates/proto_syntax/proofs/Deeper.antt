@@ -91,32 +91,50 @@ second_sees a b x ts us ix e (Stops true vs) o' h = record {
 seq_sees : (a b a' b' : Grammar) (ts : List Spelled) → Deeper a a' → (o o' : Outcome) → o ≡ read a ts → Sees a' ts o o'
     → ((us : List Spelled) → Sees b' us (read b us) (read b' us))
     → Sees (a' ⨾ b') ts (after o (λ x us. mapped (Pair x) (read b us)))
-      (after o' (λ x us. mapped (Pair x) (read b' us)))
+    (after o' (λ x us. mapped (Pair x) (read b' us)))
 seq_sees a b a' b' ts d (Read x us) o' q h k =
     let s = read_found a ts x us (sym q) in
     subst (λ z. Sees (a' ⨾ b') ts (mapped (Pair x) (read b us)) (after z (λ x us. mapped (Pair x) (read b' us))))
-      (sym h)
+    (sym h)
     (second_sees a' b' x ts us (deeper_tree d s.0) s.1 (read b us) (read b' us) (k us))
 seq_sees a b a' b' ts d (Stops false us) o' q h k = ap (λ z. after z (λ x us. mapped (Pair x) (read b' us))) h
 seq_sees a b a' b' ts d (Stops true us) o' q h k =
-    record { before = h.before; token = h.token; later = h.later; parts = h.parts; here = h.here;
-        front = within h.front }
+    record {
+      before = h.before;
+      token = h.token;
+      later = h.later;
+      parts = h.parts;
+      here = h.here;
+      front = within h.front;
+    }
 
 left_sees : (a b : Grammar) (ts : List Spelled) (o o' : Outcome) → Sees a ts o o'
     → Sees (a ∣ b) ts (mapped Left o) (mapped Left o')
 left_sees a b ts (Read x us) o' h = ap (mapped Left) h
 left_sees a b ts (Stops false us) o' h = ap (mapped Left) h
 left_sees a b ts (Stops true us) o' h =
-    record { before = h.before; token = h.token; later = h.later; parts = h.parts; here = h.here;
-    front = of_first h.front }
+    record {
+      before = h.before;
+      token = h.token;
+      later = h.later;
+      parts = h.parts;
+      here = h.here;
+      front = of_first h.front;
+    }
 
 right_sees : (a b : Grammar) (ts : List Spelled) (o o' : Outcome) → Sees b ts o o'
     → Sees (a ∣ b) ts (mapped Right o) (mapped Right o')
 right_sees a b ts (Read x us) o' h = ap (mapped Right) h
 right_sees a b ts (Stops false us) o' h = ap (mapped Right) h
 right_sees a b ts (Stops true us) o' h =
-    record { before = h.before; token = h.token; later = h.later; parts = h.parts; here = h.here;
-        front = of_second h.front }
+    record {
+      before = h.before;
+      token = h.token;
+      later = h.later;
+      parts = h.parts;
+      here = h.here;
+      front = of_second h.front;
+    }
 
 choice_sees : (a b : Grammar) (ts : List Spelled) (z : Bool) (oa oa' ob ob' : Outcome) → Sees a ts oa oa'
     → Sees b ts ob ob'
@@ -149,8 +167,14 @@ item_sees a a' ts d (Read x us) o' q h next next' k =
     (rest_sees a' x ts us (deeper_tree d s.0) s.1 (next us) (next' us) (k us))
 item_sees a a' ts d (Stops false us) o' q h next next' k = ap (λ z. after z (λ x us. mapped (Pair x) (next' us))) h
 item_sees a a' ts d (Stops true us) o' q h next next' k =
-    record { before = h.before; token = h.token; later = h.later; parts = h.parts; here = h.here;
-        front = items none h.front refl }
+    record {
+      before = h.before;
+      token = h.token;
+      later = h.later;
+      parts = h.parts;
+      here = h.here;
+      front = items none h.front refl;
+    }
 
 turn_sees : (a : Grammar) (ts : List Spelled) (z : Bool) (o o' : Outcome) → Sees (Many a) ts o o'
     → Sees (Many a) ts (cond z o (Read Empty ts)) (cond z o' (Read Empty ts))
@@ -163,16 +187,16 @@ many_sees : (a a' : Grammar) → Deeper a a' → ((ts : List Spelled) → Sees a
 many_sees a a' d h zero ts = refl
 many_sees a a' d h (suc n) ts =
     subst (λ cs. Sees (Many a') ts
-      (cond (next_fits (begins a) ts) (after (read a ts) (λ x us. mapped (Pair x) (read_many (read a) (begins a) n us)))
+    (cond (next_fits (begins a) ts) (after (read a ts) (λ x us. mapped (Pair x) (read_many (read a) (begins a) n us)))
     (Read Empty ts))
-      (cond (next_fits cs ts) (after (read a' ts) (λ x us. mapped (Pair x) (read_many (read a') (begins a') n us)))
-      (Read Empty ts)))
+    (cond (next_fits cs ts) (after (read a' ts) (λ x us. mapped (Pair x) (read_many (read a') (begins a') n us)))
+    (Read Empty ts)))
     (deeper_begins d).0
     (turn_sees a' ts (next_fits (begins a) ts)
-      (after (read a ts) (λ x us. mapped (Pair x) (read_many (read a) (begins a) n us)))
+    (after (read a ts) (λ x us. mapped (Pair x) (read_many (read a) (begins a) n us)))
     (after (read a' ts) (λ x us. mapped (Pair x) (read_many (read a') (begins a') n us)))
     (item_sees a a' ts d (read a ts) (read a' ts) refl (h ts) (read_many (read a) (begins a) n)
-      (read_many (read a') (begins a') n) (many_sees a a' d h n)))
+    (read_many (read a') (begins a') n) (many_sees a a' d h n)))
 
 abbrev IsFrontOf : Class → Grammar → Type 0
 IsFrontOf c g = (t : Spelled) → fits c t.lexeme ≡ true → IsFront g (t ∷ [])
@@ -181,8 +205,14 @@ beyond_sees : (c : Class) (g : Grammar) (t : Spelled) (ts : List Spelled) → Is
     → ((t : Spelled) (ts : List Spelled) → fits c t.lexeme ≡ false → read g (t ∷ ts) ≡ Stops false (t ∷ ts))
     → (b : Bool) → fits c t.lexeme ≡ b
     → Sees g (t ∷ ts) (Stops b (t ∷ ts)) (read g (t ∷ ts))
-beyond_sees c g t ts f n true e = record { before = []; token = t; later = ts; parts = refl; here = refl;
-    front = f t e }
+beyond_sees c g t ts f n true e = record {
+  before = [];
+  token = t;
+  later = ts;
+  parts = refl;
+  here = refl;
+  front = f t e;
+}
 beyond_sees c g t ts f n false e = n t ts e
 
 pub sees : {g g' : Grammar} → Deeper g g' → (ts : List Spelled) → Sees g' ts (read g ts) (read g' ts)
@@ -194,7 +224,7 @@ sees (in_either {a = a} {a' = a'} {b = b} {b' = b'} h i) ts =
     subst (λ cs. Sees (a' ∣ b') ts (cond (next_fits (begins a) ts) (mapped Left (read a ts)) (mapped Right (read b ts)))
     (cond (next_fits cs ts) (mapped Left (read a' ts)) (mapped Right (read b' ts)))) (deeper_begins h).0
     (choice_sees a' b' ts (next_fits (begins a) ts) (read a ts) (read a' ts) (read b ts) (read b' ts)
-      (sees h ts) (sees i ts))
+    (sees h ts) (sees i ts))
 sees (in_many {a = a} {a' = a'} h) ts = many_sees a a' h (sees h) (length ts) ts
 sees (allowed {c = c} {g = g} e h f n m) [] = m
 sees (allowed {c = c} {g = g} e h f n m) (t ∷ ts) = beyond_sees c g t ts f n (fits c t.lexeme) refl

@@ -30,11 +30,11 @@ left_over g ts x t vs h e =
         → ts ≡ flatten x ++ (t ∷ vs) → ⊥
     no_more u ws q f p =
         let r : Left_at_most (length ws) (read g ((flatten x ++ (u ∷ [])) ++ ws)) =
-          reaches g (flatten x ++ (u ∷ [])) f h ws in
+        reaches g (flatten x ++ (u ∷ [])) f h ws in
         let a : (flatten x ++ (u ∷ [])) ++ ws ≡ ts = append_assoc (flatten x) (u ∷ []) ws
-          ∙ ap (λ z. flatten x ++ z) (sym q) ∙ sym p in
+        ∙ ap (λ z. flatten x ++ z) (sym q) ∙ sym p in
         let b : Left_at_most (length ws) (Read x (t ∷ vs)) =
-          subst (Left_at_most (length ws)) e (subst (λ z. Left_at_most (length ws) (read g z)) a r) in
+        subst (Left_at_most (length ws)) e (subst (λ z. Left_at_most (length ws) (read g z)) a r) in
         let c : length (t ∷ vs) ≡ length (u ∷ ws) = ap length q in
         omega arith
 
@@ -70,7 +70,7 @@ module _ (limit : ℕ) (ts us : List Spelled) (b : Bool) (k : ℕ) (e : ended (r
       let p = the_fault.parts in
       let m : take (k + 1) ts ≡ the_fault.before ++ (t ∷ []) =
       take_more the_fault.before t vs ts k (p ∙ ap (λ z. the_fault.before ++ z) (sym q))
-        (ap (λ z. k + length z) q ∙ l) in
+      (ap (λ z. k + length z) q ∙ l) in
       the_fault.no_further t vs (sym q) (subst (IsFront (file limit)) m f)
 
   no_file_here : (x : Tree) → IsTreeOf limit ts x → ⊥
@@ -121,7 +121,7 @@ kind_front limit ts us k e l (t ∷ vs) q d =
     (λ (n, f).
     let h : k < length ts = (let m : length us ≡ length (t ∷ vs) = ap length q in omega arith) in
     let s = ended_sees (file (above limit n)) ts us (read (file limit) ts) (read (file (above limit n)) ts)
-      (sees (file_deeper limit n) ts) e in
+    (sees (file_deeper limit n) ts) e in
     (fault_at (above limit n) ts us false k s l).no_front h (deeper_front (file_deeper_other limit n) f))
 
 pub kind_found : (limit : ℕ) (ts us : List Spelled) (k : ℕ) → ended (read (file limit) ts) ≡ Stops false us
@@ -135,20 +135,27 @@ pub kind_deep : (limit : ℕ) (ts us : List Spelled) (k : ℕ) → ended (read (
     → k + length us ≡ length ts → IsKindOf ts k TooDeep
 kind_deep limit ts us k e l =
     let g = ended_goes_on (file (above limit 0)) ts us (read (file limit) ts) (read (file (above limit 0)) ts)
-      (sees (file_deeper limit 0) ts) e in
+    (sees (file_deeper limit 0) ts) e in
     let n : k + length (g.token ∷ g.later) ≡ length ts = ap (λ z. k + length z) (sym g.here) ∙ l in
-    too_deep (omega arith)
-    (above limit 0, subst (IsFront (file (above limit 0)))
-      (sym (take_more g.before g.token g.later ts k (g.parts ∙ ap (λ z. g.before ++ z) g.here) n)) g.front)
+    too_deep (omega arith) (
+      above limit 0,
+      subst (IsFront (file (above limit 0)))
+          (sym (take_more g.before g.token g.later ts k (g.parts ∙ ap (λ z. g.before ++ z) g.here) n)) g.front,
+    )
 
 -- the same of the tokens of the code
 pub fewer_than : (limit : ℕ) (ts us : List Token) (b : Bool)
     → ended (read (file limit) (spellings ts)) ≡ Stops b (spellings us) → length us ≤ length ts
 fewer_than limit ts us b e =
     let f = ended_fault (file limit) (spellings ts) b (spellings us) (file_decides limit)
-      (read (file limit) (spellings ts)) refl e in
-    omega (arith, ap length f.parts, length-append f.before (spellings us), length-map us spelled,
-      length-map ts spelled)
+    (read (file limit) (spellings ts)) refl e in
+    omega (
+      arith,
+      ap length f.parts,
+      length-append f.before (spellings us),
+      length-map us spelled,
+      length-map ts spelled,
+    )
 
 counted : (ts us : List Token) → length us ≤ length ts
     → (length ts - length us) + length (spellings us) ≡ length (spellings ts)
@@ -157,19 +164,21 @@ counted ts us h = omega (arith, length-map us spelled, length-map ts spelled)
 pub unexpected_at : (limit : ℕ) (ts us : List Token)
     → ended (read (file limit) (spellings ts)) ≡ Stops false (spellings us)
     → IsFaultAt limit (spellings ts) (length ts - length us)
-      × IsKindOf (spellings ts) (length ts - length us) (kind_at (spellings ts) (length ts - length us))
+    × IsKindOf (spellings ts) (length ts - length us) (kind_at (spellings ts) (length ts - length us))
 unexpected_at limit ts us e =
-    let l = counted ts us (fewer_than limit ts us false e) in
-    (fault_at limit (spellings ts) (spellings us) false (length ts - length us) e l,
-      kind_found limit (spellings ts) (spellings us) (length ts - length us) e l)
+    let l = counted ts us (fewer_than limit ts us false e) in (
+      fault_at limit (spellings ts) (spellings us) false (length ts - length us) e l,
+      kind_found limit (spellings ts) (spellings us) (length ts - length us) e l,
+    )
 
 pub too_deep_at : (limit : ℕ) (ts us : List Token)
     → ended (read (file limit) (spellings ts)) ≡ Stops true (spellings us)
     → IsFaultAt limit (spellings ts) (length ts - length us) × IsKindOf (spellings ts) (length ts - length us) TooDeep
 too_deep_at limit ts us e =
-    let l = counted ts us (fewer_than limit ts us true e) in
-    (fault_at limit (spellings ts) (spellings us) true (length ts - length us) e l,
-      kind_deep limit (spellings ts) (spellings us) (length ts - length us) e l)
+    let l = counted ts us (fewer_than limit ts us true e) in (
+      fault_at limit (spellings ts) (spellings us) true (length ts - length us) e l,
+      kind_deep limit (spellings ts) (spellings us) (length ts - length us) e l,
+    )
 
 -- what is read is the tokens
 ended_read : (o : Outcome) (x : Tree) (us : List Spelled) → ended o ≡ Read x us → o ≡ Read x []

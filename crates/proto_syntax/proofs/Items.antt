@@ -64,17 +64,17 @@ item_field f = ap message_item_tree (sym (of.rolls-Field f))
 pub fold_message : (m : Message) → fold-Message Tree Tree item_step message_step m ≡ message_tree m
 fold_message m = fold_out-Message Tree Tree item_step message_step m
     ∙ ap (λ r. block_tree (codes "message") m.keyword m.name m.open_brace r m.close_brace)
-      (row_map message_item_tree m.items)
+    (row_map message_item_tree m.items)
 
 pub item_message : (m : Message) → message_item_tree (of.Message m) ≡ Left (message_tree m)
 item_message m =
     ap message_item_tree (sym (of.rolls-Message m))
-      ∙ fold-roll-MessageItem Tree Tree item_step message_step (opened.Message m) ∙ ap Left (fold_message m)
+    ∙ fold-roll-MessageItem Tree Tree item_step message_step (opened.Message m) ∙ ap Left (fold_message m)
 
 -- a field whose type begins with the word `map`
 named_map : (n : FullName) (d : Declarator) → n.first.text ≡ codes "map"
     → unlabelled_tree None n d
-      ≡ Left (Pair (name_tree n.first) (Pair (Right (row part_tree n.rest)) (declarator_tree d)))
+    ≡ Left (Pair (name_tree n.first) (Pair (Right (row part_tree n.rest)) (declarator_tree d)))
 named_map n d e = by_cases (bytes_eq n.first.text (codes "map")) ((bytes_eq-Decides n.first.text (codes "map")).1 e)
     (Left (Pair (name_tree n.first) (Pair (Right (row part_tree n.rest)) (declarator_tree d))))
     (Right (Right (Pair (Right (Right (Right (full_tree n)))) (declarator_tree d))))
@@ -85,10 +85,10 @@ named_map n d e = by_cases (bytes_eq n.first.text (codes "map")) ((bytes_eq-Deci
 
 pub item_named : (n : FullName) (d : Declarator) → n.first.text ≡ codes "map"
     → message_item_tree
-      (of.Field (record { label = None; field_type = Named (record { dot = None; name = n }); declarator = d }))
+    (of.Field (record { label = None; field_type = Named (record { dot = None; name = n }); declarator = d }))
     ≡ Right (Right
-      (Right (Right
-      (Right (Left (Pair (name_tree n.first) (Pair (Right (row part_tree n.rest)) (declarator_tree d))))))))
+    (Right (Right
+    (Right (Left (Pair (name_tree n.first) (Pair (Right (row part_tree n.rest)) (declarator_tree d))))))))
 item_named n d e =
     item_field (record { label = None; field_type = Named (record { dot = None; name = n }); declarator = d })
     ∙ ap (λ x. Right (Right (Right (Right (Right x))))) (named_map n d e)
@@ -124,7 +124,7 @@ not_map w h = not_or_left (bytes_eq w (codes "map")) (among w statement_words)
 unlabelled_of : (dot : Option Span) (n : FullName) (d : Declarator)
     → IsTree field_head (field_head_tree None (Named (record { dot = dot; name = n })))
     → unlabelled_tree dot n d
-      ≡ Right (Right (Pair (field_head_tree None (Named (record { dot = dot; name = n }))) (declarator_tree d)))
+    ≡ Right (Right (Pair (field_head_tree None (Named (record { dot = dot; name = n }))) (declarator_tree d)))
 unfolding field_head type_but named_but
 unlabelled_of None n d (second (second (second (both (one h) i)))) = not_named n d (not_map n.first.text h)
 unlabelled_of (Some dot) n d i = refl

@@ -15,7 +15,7 @@ pub record IsLevel (m : Grammar) : Type 0 where
 
 pub level : (depth : ℕ) → IsLevel (message depth)
 unfolding str parts full named_but type_but signed constant_number constant setting options option erange ereserved
-  value range reserved declarator member oneof
+    value range reserved declarator member oneof
     map_type map_or_field field_head field message
 level zero = record { begins_so = refl; ends_so = refl; has_tokens = refl; decided = refl }
 level (suc depth) = let h = level depth in record {
@@ -31,13 +31,13 @@ begins_message depth = (level depth).begins_so
 
 pub message_block : (m : Grammar) → IsLevel m → decides (Many (message_item m) ⨾ symbol "}") ≡ true
 unfolding str parts full named_but type_but signed constant_number constant setting options option erange ereserved
-  value range reserved declarator member oneof
+    value range reserved declarator member oneof
     map_type map_or_field field_head field
 message_block m h = rw (h.begins_so, h.has_tokens, h.decided, h.ends_so) (refl {a = true})
 
 pub statement_decides : (m : Grammar) → IsLevel m → decides (statement m) ≡ true
 unfolding str parts full named_but type_but signed constant_number constant setting options option rpc_type rpc_body rpc
-  service erange ereserved value import
+    service erange ereserved value import
 statement_decides m h = rw (h.begins_so, h.has_tokens, h.decided) refl
 
 pub statement_not_empty : (m : Grammar) → IsLevel m → can_be_empty (statement m) ≡ false
@@ -46,7 +46,7 @@ statement_not_empty m h = rw h.has_tokens refl
 
 pub file_decides : (depth : ℕ) → decides (file depth) ≡ true
 unfolding str parts full named_but type_but signed constant_number constant setting options option rpc_type rpc_body rpc
-  service erange ereserved value import
+    service erange ereserved value import
     syntax file
 file_decides depth = let h = level depth in rw (h.begins_so, h.has_tokens, h.decided, h.ends_so) (refl {a = true})
 

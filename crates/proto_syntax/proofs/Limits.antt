@@ -33,7 +33,7 @@ above_is (suc d) k = omega (arith, above_is d k)
 
 item_deeper : (m m' : Grammar) → Deeper m m' → Deeper (message_item m) (message_item m')
 unfolding str parts full named_but type_but signed constant_number constant setting options option erange ereserved
-  value range reserved declarator member oneof
+    value range reserved declarator member oneof
     map_type map_or_field field_head field
 item_deeper m m' h = in_either h (kept (enum ∣ option ∣ oneof ∣ reserved ∣ map_or_field ∣ symbol ";" ∣ field) refl)
 
@@ -42,17 +42,17 @@ unfolding message
 message_deeper zero k = allowed refl refl (λ t h. within (token h)) (λ t ts h. rw h refl) refl
 message_deeper (suc d) k =
     in_both same_one
-      (in_both same_one
-      (in_both same_one
-      (in_both (in_many (item_deeper (message d) (message (above d k)) (message_deeper d k))) same_one)))
+    (in_both same_one
+    (in_both same_one
+    (in_both (in_many (item_deeper (message d) (message (above d k)) (message_deeper d k))) same_one)))
 
 statement_deeper : (m m' : Grammar) → Deeper m m' → Deeper (statement m) (statement m')
 unfolding str parts full named_but signed constant_number constant setting options option rpc_type rpc_body rpc service
-  erange ereserved value import
+    erange ereserved value import
 statement_deeper m m' h =
     in_either (kept import refl)
-      (in_either (kept «package» refl)
-      (in_either (kept option refl) (in_either h (kept (enum ∣ service ∣ symbol ";") refl))))
+    (in_either (kept «package» refl)
+    (in_either (kept option refl) (in_either h (kept (enum ∣ service ∣ symbol ";") refl))))
 
 pub file_deeper : (d k : ℕ) → Deeper (file d) (file (above d k))
 unfolding syntax str file

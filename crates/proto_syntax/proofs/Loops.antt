@@ -25,7 +25,7 @@ same_after : (g : Grammar) (m n : ℕ) (ts : List Spelled) → (o : Outcome) →
     → ((x : Tree) (us : List Spelled) → read g ts ≡ Read x us
     → read_many (read g) (begins g) m us ≡ read_many (read g) (begins g) n us)
     → after o (λ x us. mapped (Pair x) (read_many (read g) (begins g) m us)) ≡ after o
-      (λ x us. mapped (Pair x) (read_many (read g) (begins g) n us))
+    (λ x us. mapped (Pair x) (read_many (read g) (begins g) n us))
 same_after g m n ts (Read x us) e h = ap (mapped (Pair x)) (h x us e)
 same_after g m n ts (Stops d us) e h = refl
 
@@ -42,7 +42,7 @@ same_many g h (suc m) zero [] i j = refl
 same_many g h (suc m) zero (t ∷ ts) i j = absurd (omega arith)
 same_many g h (suc m) (suc n) ts i j =
     same_turn (next_fits (begins g) ts)
-      (after (read g ts) (λ x us. mapped (Pair x) (read_many (read g) (begins g) m us)))
+    (after (read g ts) (λ x us. mapped (Pair x) (read_many (read g) (begins g) m us)))
     (after (read g ts) (λ x us. mapped (Pair x) (read_many (read g) (begins g) n us))) (Read Empty ts)
     (λ _. same_after g m n ts (read g ts) refl (λ x us e. let k : length us < length ts = shorter g x ts us h e in
     same_many g h m n us (omega arith) (omega arith)))
@@ -181,7 +181,7 @@ passes (a ∣ b) d ts h =
     let w = and_parts (decides a) (decides b && (not (can_be_empty a) && all_apart (begins a) (begins b))) d in
     let v = and_parts (decides b) (not (can_be_empty a) && all_apart (begins a) (begins b)) w.1 in
     choice_passes a b ts
-      (not-true (can_be_empty a) (and_parts (not (can_be_empty a)) (all_apart (begins a) (begins b)) v.1).0)
+    (not-true (can_be_empty a) (and_parts (not (can_be_empty a)) (all_apart (begins a) (begins b)) v.1).0)
     (next_left (begins a) (begins b) ts h) (passes b v.0 ts (next_right (begins a) (begins b) ts h))
 passes (Many a) d ts h = (λ _. (Empty, many_ends a ts h), λ e. cc)
 passes (Beyond c) d ts h = (λ e. cc, λ _. beyond_passes c ts h)

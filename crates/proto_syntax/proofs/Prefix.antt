@@ -76,7 +76,7 @@ take_take (suc j) (suc k) (t ∷ ts) h = ap (λ z. t ∷ z) (take_take j k ts (o
 shorter_front : (g : Grammar) (ts : List Spelled) (j k : ℕ) → j ≤ k → IsFront g (take k ts) → IsFront g (take j ts)
 shorter_front g ts j k h f =
     closed g (take k ts) f (take j ts) (drop j (take k ts))
-      (sym (take-append-drop j (take k ts)) ∙ ap (λ z. z ++ drop j (take k ts)) (take_take j k ts h))
+    (sym (take-append-drop j (take k ts)) ∙ ap (λ z. z ++ drop j (take k ts)) (take_take j k ts h))
 
 no_earlier : (limit : ℕ) (ts : List Spelled) (j k : ℕ) → IsFaultAt limit ts j → IsFaultAt limit ts k → j < k → ⊥
 no_earlier limit ts j k h i l = h.no_front (let n : k ≤ length ts = i.within in omega arith)

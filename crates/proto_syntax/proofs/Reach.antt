@@ -43,7 +43,7 @@ any_left_of g us = sound_left g us (read g us) (sound g us)
 then_left : (a b : Grammar) (n : ℕ) (us : List Spelled) → Left_at_most n (read a us) → Left_at_most n (read (a ⨾ b) us)
 then_left a b n us h =
     after_left n (read a us) (λ x vs. mapped (Pair x) (read b vs)) h
-      (λ x vs. mapped_left (Pair x) (length vs) (read b vs) (any_left_of b vs))
+    (λ x vs. mapped_left (Pair x) (length vs) (read b vs) (any_left_of b vs))
 
 many_left_of : (a : Grammar) (n : ℕ) (us : List Spelled) → Left_at_most (length us) (read_many (read a) (begins a) n us)
 many_left_of a n us = sound_left (Many a) us (read_many (read a) (begins a) n us) (many_sound a (sound a) n us)
@@ -94,7 +94,7 @@ second_reach : (a b : Grammar) → Reaches b → decides b ≡ true → all_apar
 second_reach a b hb db p [] us f = any_left_of (a ∣ b) us
 second_reach a b hb db p (t ∷ zs) us f = let e : fits_any (begins a) t.lexeme ≡ false =
     apart_other (begins a) (begins b) t.lexeme p (front_opens f) in
-      rw e (mapped_left Right (length us) (read b ((t ∷ zs) ++ us)) (hb (t ∷ zs) f db us))
+    rw e (mapped_left Right (length us) (read b ((t ∷ zs) ++ us)) (hb (t ∷ zs) f db us))
 
 -- one item that is not whole
 item_reach : (a : Grammar) → Reaches a → decides a ≡ true → (n : ℕ) (zs us : List Spelled) → IsFront a zs
@@ -117,9 +117,9 @@ items_turn a ha da e p x ix (t ∷ ws) us o h zero l =
     not_empty_longer a (flatten x) ((t ∷ ws) ++ us) (tree_starts ix) e in absurd (omega arith)
 items_turn a ha da e p x ix (t ∷ ws) us o h (suc n) l =
     let k : length ((t ∷ ws) ++ us) < length (flatten x ++ ((t ∷ ws) ++ us)) =
-      not_empty_longer a (flatten x) ((t ∷ ws) ++ us) (tree_starts ix) e in
+    not_empty_longer a (flatten x) ((t ∷ ws) ++ us) (tree_starts ix) e in
     turn_next a n (length us) x (flatten x ++ ((t ∷ ws) ++ us)) ((t ∷ ws) ++ us)
-      (starts_next a (flatten x) ((t ∷ ws) ++ us) (tree_starts ix) e)
+    (starts_next a (flatten x) ((t ∷ ws) ++ us) (tree_starts ix) e)
     (complete a x ix da ((t ∷ ws) ++ us) (apart_other (goes_on a) (begins a) t.lexeme p o))
     (h n (omega arith))
 
@@ -138,22 +138,22 @@ items_reach a ha da e p n _ (more {x = x} {y = y} ix iy) vs f us l =
     let k : length (flatten x ++ ((flatten y ++ vs) ++ us)) ≤ n = subst (λ ts. length ts ≤ n) q l in
     subst (λ ts. Left_at_most (length us) (read_many (read a) (begins a) n ts)) (sym q)
     (items_turn a ha da e p x ix (flatten y ++ vs) us (front_opens (items iy f refl))
-      (λ m i. items_reach a ha da e p m y iy vs f us i) n k)
+    (λ m i. items_reach a ha da e p m y iy vs f us i) n k)
 
 pub reaches : (g : Grammar) → Reaches g
 reaches g _ empty d us = any_left_of g us
 reaches (One c) _ (token {t = t} h) d us = rw h (omega arith)
 reaches (a ⨾ b) _ (within {ts = zs} f) d us =
     then_left a b (length us) (zs ++ us)
-      (reaches a zs f (and_parts (decides a) (decides b && all_apart (goes_on a) (begins b)) d).0 us)
+    (reaches a zs f (and_parts (decides a) (decides b && all_apart (goes_on a) (begins b)) d).0 us)
 reaches (a ⨾ b) zs (past {x = x} {us = vs} ix f e) d us =
     let w = and_parts (decides a) (decides b && all_apart (goes_on a) (begins b)) d in
     let v = and_parts (decides b) (all_apart (goes_on a) (begins b)) w.1 in
     subst (λ ts. Left_at_most (length us) (read (a ⨾ b) (ts ++ us))) (sym e)
-      (past_reach a b (reaches a) (reaches b) w.0 v.0 v.1 x ix vs f us)
+    (past_reach a b (reaches a) (reaches b) w.0 v.0 v.1 x ix vs f us)
 reaches (a ∣ b) zs (of_first f) d us =
     first_reach a b (reaches a)
-      (and_parts (decides a) (decides b && (not (can_be_empty a) && all_apart (begins a) (begins b))) d).0 zs us f
+    (and_parts (decides a) (decides b && (not (can_be_empty a) && all_apart (begins a) (begins b))) d).0 zs us f
 reaches (a ∣ b) zs (of_second f) d us =
     let w = and_parts (decides a) (decides b && (not (can_be_empty a) && all_apart (begins a) (begins b))) d in
     let v = and_parts (decides b) (not (can_be_empty a) && all_apart (begins a) (begins b)) w.1 in
@@ -163,7 +163,7 @@ reaches (Many a) zs (items {x = x} {us = vs} ix f e) d us =
     let v = and_parts (not (can_be_empty a)) (all_apart (goes_on a) (begins a)) w.1 in
     subst (λ ts. Left_at_most (length us) (read (Many a) (ts ++ us))) (sym e)
     (items_reach a (reaches a) w.0 (not-true (can_be_empty a) v.0) v.1 (length ((flatten x ++ vs) ++ us)) x ix vs f us
-      (omega arith))
+    (omega arith))
 
 -- A fault is where the fronts end.
 pub record IsFault (g : Grammar) (ts us : List Spelled) : Type 0 where
@@ -179,7 +179,7 @@ no_front g d fs t vs h e f =
     let r : Left_at_most (length vs) (read g ((fs ++ (t ∷ [])) ++ vs)) = reaches g (fs ++ (t ∷ [])) f h vs in
     let q : (fs ++ (t ∷ [])) ++ vs ≡ fs ++ (t ∷ vs) = append_assoc fs (t ∷ []) vs in
     let s : Left_at_most (length vs) (read g (fs ++ (t ∷ vs))) =
-      subst (λ ts. Left_at_most (length vs) (read g ts)) q r in
+    subst (λ ts. Left_at_most (length vs) (read g ts)) q r in
     let u : suc (length vs) ≤ length vs = subst (Left_at_most (length vs)) e s in omega arith
 
 stops_sound : (g : Grammar) (ts : List Spelled) (d : Bool) (us : List Spelled) → (o : Outcome) → o ≡ Stops d us
@@ -196,7 +196,7 @@ fault_found g ts d us h e =
       front = s.2;
       no_further =
           λ t vs q f. no_front g d s.0 t vs h
-            (subst (λ ws. read g (s.0 ++ ws) ≡ Stops d ws) q (subst (λ ws. read g ws ≡ Stops d us) s.1 e)) f;
+          (subst (λ ws. read g (s.0 ++ ws) ≡ Stops d ws) q (subst (λ ws. read g ws ≡ Stops d us) s.1 e)) f;
     }
 
 -- what is read is spelled so

@@ -39,7 +39,7 @@ as_field_statement None (Named n) d = unlabelled n.dot n.name
   where
     by_cases : (b : Bool) (w r : Tree) → as_field (cond b (Left (Pair w (Pair (Right r) (declarator_tree d))))
         (Right (Right (Pair (Right (Right (Right (Pair w r)))) (declarator_tree d)))))
-          ≡ Pair (Right (Right (Right (Pair w r)))) (declarator_tree d)
+        ≡ Pair (Right (Right (Right (Pair w r)))) (declarator_tree d)
     by_cases true w r = refl
     by_cases false w r = refl
 
@@ -64,7 +64,7 @@ same_field x y e =
     let p : Pair (field_head_tree x.label x.field_type) (declarator_tree x.declarator)
     ≡ Pair (field_head_tree y.label y.field_type) (declarator_tree y.declarator) =
     sym (as_field_statement x.label x.field_type x.declarator) ∙ ap as_field e
-      ∙ as_field_statement y.label y.field_type y.declarator in
+    ∙ as_field_statement y.label y.field_type y.declarator in
     let head = same_field_head x.label y.label x.field_type y.field_type (left_same p) in
     let label_same : x.label ≡ y.label = head.0 in
     let type_same : x.field_type ≡ y.field_type = head.1 in
@@ -161,16 +161,21 @@ message_same k n o xs c m e =
     let name_same : n ≡ m.name = same_name n m.name (left_same (right_same e)) in
     let open_same : o ≡ m.open_brace = same_span o m.open_brace (left_same (right_same (right_same e))) in
     let items_same : map (λ e. e.0) xs ≡ m.items =
-      same_items xs m.items (left_same (right_same (right_same (right_same e)))) in
+    same_items xs m.items (left_same (right_same (right_same (right_same e)))) in
     let close_same : c ≡ m.close_brace =
-      same_span c m.close_brace (right_same (right_same (right_same (right_same e)))) in
-    λ i. record { keyword = keyword_same i; name = name_same i; open_brace = open_same i; items = items_same i;
-      close_brace = close_same i }
+    same_span c m.close_brace (right_same (right_same (right_same (right_same e)))) in
+    λ i. record {
+      keyword = keyword_same i;
+      name = name_same i;
+      open_brace = open_same i;
+      items = items_same i;
+      close_brace = close_same i;
+    }
 
 same_item_step : (x : MessageItem-F MessageItem Message)
     (y : MessageItem-F ((i : MessageItem) × ItemSame i) ((m : Message) × MessageSame m))
     → map-MessageItem ((i : MessageItem) × ItemSame i) ((m : Message) × MessageSame m) MessageItem Message (λ e. e.0)
-      (λ e. e.0) y ≡ x
+    (λ e. e.0) y ≡ x
     → ItemSame (roll-MessageItem x)
 same_item_step x (opened.Message m) e =
     subst (λ z. ItemSame (roll-MessageItem z)) e (item_same (opened.Message m.0) m.1)
@@ -185,7 +190,7 @@ same_item_step x (opened.Field a) e = subst (λ z. ItemSame (roll-MessageItem z)
 same_message_step : (x : Message-F MessageItem Message)
     (y : Message-F ((i : MessageItem) × ItemSame i) ((m : Message) × MessageSame m))
     → map-Message ((i : MessageItem) × ItemSame i) ((m : Message) × MessageSame m) MessageItem Message (λ e. e.0)
-      (λ e. e.0) y ≡ x
+    (λ e. e.0) y ≡ x
     → MessageSame (roll-Message x)
 same_message_step x y e = subst (λ z. MessageSame (roll-Message z)) e
     (message_same y.keyword y.name y.open_brace y.items y.close_brace)
@@ -204,10 +209,10 @@ same_import : (x y : Import) → import_tree x ≡ import_tree y → x ≡ y
 same_import x y e =
     let keyword_same : x.keyword ≡ y.keyword = same_span x.keyword y.keyword (left_same e) in
     let public_same : x.public ≡ y.public =
-      same_optional (word_tree (codes "public")) same_span x.public y.public (left_same (right_same e)) in
+    same_optional (word_tree (codes "public")) same_span x.public y.public (left_same (right_same e)) in
     let path_same : x.path ≡ y.path = same_str x.path y.path (left_same (right_same (right_same e))) in
     let semicolon_same : x.semicolon ≡ y.semicolon =
-      same_span x.semicolon y.semicolon (right_same (right_same (right_same e))) in
+    same_span x.semicolon y.semicolon (right_same (right_same (right_same e))) in
     λ i. record { keyword = keyword_same i; public = public_same i; path = path_same i; semicolon = semicolon_same i }
 
 same_syntax : (x y : Syntax) → syntax_tree x ≡ syntax_tree y → x ≡ y
@@ -216,9 +221,13 @@ same_syntax x y e =
     let equals_same : x.equals ≡ y.equals = same_span x.equals y.equals (left_same (right_same e)) in
     let version_same : x.version ≡ y.version = same_str x.version y.version (left_same (right_same (right_same e))) in
     let semicolon_same : x.semicolon ≡ y.semicolon =
-      same_span x.semicolon y.semicolon (right_same (right_same (right_same e))) in
-    λ i. record { keyword = keyword_same i; equals = equals_same i; version = version_same i;
-      semicolon = semicolon_same i }
+    same_span x.semicolon y.semicolon (right_same (right_same (right_same e))) in
+    λ i. record {
+      keyword = keyword_same i;
+      equals = equals_same i;
+      version = version_same i;
+      semicolon = semicolon_same i;
+    }
 
 same_statement : (x y : Statement) → statement_tree x ≡ statement_tree y → x ≡ y
 same_statement (statement.Import a) (statement.Import b) e = ap statement.Import (same_import a b (left_of e))
@@ -240,5 +249,5 @@ pub same_file : (x y : FileTree) → file_tree x ≡ file_tree y → x ≡ y
 same_file x y e =
     let syntax_same : x.syntax ≡ y.syntax = same_syntax x.syntax y.syntax (left_same e) in
     let statements_same : x.statements ≡ y.statements =
-      same_row statement_tree same_statement x.statements y.statements (right_same e) in
+    same_row statement_tree same_statement x.statements y.statements (right_same e) in
     λ i. record { syntax = syntax_same i; statements = statements_same i }

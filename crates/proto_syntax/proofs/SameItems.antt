@@ -50,7 +50,7 @@ use Rattle.proto_syntax.proofs.SameNames.{left_same, right_same, left_of, right_
 pub same_signed : (x y : SignedNumber) → signed_tree x ≡ signed_tree y → x ≡ y
 same_signed x y e =
     let minus_same : x.minus ≡ y.minus =
-      same_optional (symbol_tree (byte "-")) same_span x.minus y.minus (left_same e) in
+    same_optional (symbol_tree (byte "-")) same_span x.minus y.minus (left_same e) in
     let number_same : x.number ≡ y.number = same_number x.number y.number (right_same e) in
     λ i. record { minus = minus_same i; number = number_same i }
 
@@ -83,9 +83,9 @@ pub same_options : (x y : Options) → options_tree x ≡ options_tree y → x �
 same_options x y e =
     let open_bracket_same : x.open_bracket ≡ y.open_bracket = same_span x.open_bracket y.open_bracket (left_same e) in
     let settings_same : x.settings ≡ y.settings =
-      same_separated setting_tree same_setting x.settings y.settings (left_same (right_same e)) in
+    same_separated setting_tree same_setting x.settings y.settings (left_same (right_same e)) in
     let close_bracket_same : x.close_bracket ≡ y.close_bracket =
-      same_span x.close_bracket y.close_bracket (right_same (right_same e)) in
+    same_span x.close_bracket y.close_bracket (right_same (right_same e)) in
     λ i. record { open_bracket = open_bracket_same i; settings = settings_same i; close_bracket = close_bracket_same i }
 
 pub same_option : (x y : OptionStatement) → option_tree x ≡ option_tree y → x ≡ y
@@ -99,7 +99,7 @@ pub same_streamed : (d c : Option Span) (n m : TypeName) → streamed_tree d n �
 same_streamed None None n m e = (refl, same_named n m (cc))
 same_streamed (Some d) (Some c) n m e =
     let p : Pair (word_tree (codes "stream") d) (named_tree n) ≡ Pair (word_tree (codes "stream") c) (named_tree m) =
-      cc in
+    cc in
     (ap Some (same_span d c (left_same p)), same_named n m (right_same p))
 same_streamed None (Some c) n m e = cc
 same_streamed (Some d) None n m e = cc
@@ -111,7 +111,7 @@ same_rpc_type x y e =
     let stream_same : x.stream ≡ y.stream = p.0 in
     let name_same : x.name ≡ y.name = p.1 in
     let close_same : x.close_paren ≡ y.close_paren =
-      same_span x.close_paren y.close_paren (right_same (right_same e)) in
+    same_span x.close_paren y.close_paren (right_same (right_same e)) in
     λ i. record { open_paren = open_same i; stream = stream_same i; name = name_same i; close_paren = close_same i }
 
 pub same_rpc_item : (x y : RpcItem) → rpc_item_tree x ≡ rpc_item_tree y → x ≡ y
@@ -123,9 +123,9 @@ pub same_rpc_block : (x y : RpcBlock) → rpc_block_tree x ≡ rpc_block_tree y 
 same_rpc_block x y e =
     let open_brace_same : x.open_brace ≡ y.open_brace = same_span x.open_brace y.open_brace (left_same e) in
     let items_same : x.items ≡ y.items =
-      same_row rpc_item_tree same_rpc_item x.items y.items (left_same (right_same e)) in
+    same_row rpc_item_tree same_rpc_item x.items y.items (left_same (right_same e)) in
     let close_brace_same : x.close_brace ≡ y.close_brace =
-      same_span x.close_brace y.close_brace (right_same (right_same e)) in
+    same_span x.close_brace y.close_brace (right_same (right_same e)) in
     λ i. record { open_brace = open_brace_same i; items = items_same i; close_brace = close_brace_same i }
 
 pub same_rpc_body : (x y : RpcBody) → rpc_body_tree x ≡ rpc_body_tree y → x ≡ y
@@ -139,13 +139,19 @@ same_rpc x y e =
     let name_same : x.name ≡ y.name = same_name x.name y.name (left_same (right_same e)) in
     let input_same : x.input ≡ y.input = same_rpc_type x.input y.input (left_same (right_same (right_same e))) in
     let returns_same : x.returns ≡ y.returns =
-      same_span x.returns y.returns (left_same (right_same (right_same (right_same e)))) in
+    same_span x.returns y.returns (left_same (right_same (right_same (right_same e)))) in
     let output_same : x.output ≡ y.output =
-      same_rpc_type x.output y.output (left_same (right_same (right_same (right_same (right_same e))))) in
+    same_rpc_type x.output y.output (left_same (right_same (right_same (right_same (right_same e))))) in
     let body_same : x.body ≡ y.body = same_rpc_body x.body y.body
-      (right_same (right_same (right_same (right_same (right_same e))))) in
-    λ i. record { keyword = keyword_same i; name = name_same i; input = input_same i; returns = returns_same i;
-      output = output_same i; body = body_same i }
+    (right_same (right_same (right_same (right_same (right_same e))))) in
+    λ i. record {
+      keyword = keyword_same i;
+      name = name_same i;
+      input = input_same i;
+      returns = returns_same i;
+      output = output_same i;
+      body = body_same i;
+    }
 
 pub same_service_item : (x y : ServiceItem) → service_item_tree x ≡ service_item_tree y → x ≡ y
 same_service_item (service_item.Rpc a) (service_item.Rpc b) e = ap service_item.Rpc (same_rpc a b (left_of e))
@@ -160,14 +166,19 @@ same_service x y e =
     let keyword_same : x.keyword ≡ y.keyword = same_span x.keyword y.keyword (left_same e) in
     let name_same : x.name ≡ y.name = same_name x.name y.name (left_same (right_same e)) in
     let open_brace_same : x.open_brace ≡ y.open_brace =
-      same_span x.open_brace y.open_brace (left_same (right_same (right_same e))) in
+    same_span x.open_brace y.open_brace (left_same (right_same (right_same e))) in
     let items_same : x.items ≡ y.items =
-      same_row service_item_tree same_service_item x.items y.items
-      (left_same (right_same (right_same (right_same e)))) in
+    same_row service_item_tree same_service_item x.items y.items
+    (left_same (right_same (right_same (right_same e)))) in
     let close_brace_same : x.close_brace ≡ y.close_brace =
-      same_span x.close_brace y.close_brace (right_same (right_same (right_same (right_same e)))) in
-    λ i. record { keyword = keyword_same i; name = name_same i; open_brace = open_brace_same i; items = items_same i;
-      close_brace = close_brace_same i }
+    same_span x.close_brace y.close_brace (right_same (right_same (right_same (right_same e)))) in
+    λ i. record {
+      keyword = keyword_same i;
+      name = name_same i;
+      open_brace = open_brace_same i;
+      items = items_same i;
+      close_brace = close_brace_same i;
+    }
 
 pub same_bound : {N : Type 0} (f : N → Tree) (h : (x y : N) → f x ≡ f y → x ≡ y) (x y : UpperBound N)
     → bound_tree f x ≡ bound_tree f y → x ≡ y
@@ -213,9 +224,14 @@ same_value x y e =
     let options_same : x.options ≡ y.options =
     same_optional options_tree same_options x.options y.options (left_same (right_same (right_same (right_same e)))) in
     let semicolon_same : x.semicolon ≡ y.semicolon =
-      same_span x.semicolon y.semicolon (right_same (right_same (right_same (right_same e)))) in
-    λ i. record { name = name_same i; equals = equals_same i; number = number_same i; options = options_same i;
-      semicolon = semicolon_same i }
+    same_span x.semicolon y.semicolon (right_same (right_same (right_same (right_same e)))) in
+    λ i. record {
+      name = name_same i;
+      equals = equals_same i;
+      number = number_same i;
+      options = options_same i;
+      semicolon = semicolon_same i;
+    }
 
 pub same_enum_item : (x y : EnumItem) → enum_item_tree x ≡ enum_item_tree y → x ≡ y
 same_enum_item (enum_item.Option a) (enum_item.Option b) e = ap enum_item.Option (same_option a b (left_of e))
@@ -232,13 +248,18 @@ same_enum x y e =
     let keyword_same : x.keyword ≡ y.keyword = same_span x.keyword y.keyword (left_same e) in
     let name_same : x.name ≡ y.name = same_name x.name y.name (left_same (right_same e)) in
     let open_brace_same : x.open_brace ≡ y.open_brace =
-      same_span x.open_brace y.open_brace (left_same (right_same (right_same e))) in
+    same_span x.open_brace y.open_brace (left_same (right_same (right_same e))) in
     let items_same : x.items ≡ y.items =
-      same_row enum_item_tree same_enum_item x.items y.items (left_same (right_same (right_same (right_same e)))) in
+    same_row enum_item_tree same_enum_item x.items y.items (left_same (right_same (right_same (right_same e)))) in
     let close_brace_same : x.close_brace ≡ y.close_brace =
-      same_span x.close_brace y.close_brace (right_same (right_same (right_same (right_same e)))) in
-    λ i. record { keyword = keyword_same i; name = name_same i; open_brace = open_brace_same i; items = items_same i;
-      close_brace = close_brace_same i }
+    same_span x.close_brace y.close_brace (right_same (right_same (right_same (right_same e)))) in
+    λ i. record {
+      keyword = keyword_same i;
+      name = name_same i;
+      open_brace = open_brace_same i;
+      items = items_same i;
+      close_brace = close_brace_same i;
+    }
 
 pub same_declarator : (x y : Declarator) → declarator_tree x ≡ declarator_tree y → x ≡ y
 same_declarator x y e =
@@ -248,9 +269,14 @@ same_declarator x y e =
     let options_same : x.options ≡ y.options =
     same_optional options_tree same_options x.options y.options (left_same (right_same (right_same (right_same e)))) in
     let semicolon_same : x.semicolon ≡ y.semicolon =
-      same_span x.semicolon y.semicolon (right_same (right_same (right_same (right_same e)))) in
-    λ i. record { name = name_same i; equals = equals_same i; number = number_same i; options = options_same i;
-      semicolon = semicolon_same i }
+    same_span x.semicolon y.semicolon (right_same (right_same (right_same (right_same e)))) in
+    λ i. record {
+      name = name_same i;
+      equals = equals_same i;
+      number = number_same i;
+      options = options_same i;
+      semicolon = semicolon_same i;
+    }
 
 pub same_member : (x y : OneofField) → member_tree x ≡ member_tree y → x ≡ y
 same_member x y e =
@@ -270,13 +296,18 @@ same_oneof x y e =
     let keyword_same : x.keyword ≡ y.keyword = same_span x.keyword y.keyword (left_same e) in
     let name_same : x.name ≡ y.name = same_name x.name y.name (left_same (right_same e)) in
     let open_brace_same : x.open_brace ≡ y.open_brace =
-      same_span x.open_brace y.open_brace (left_same (right_same (right_same e))) in
+    same_span x.open_brace y.open_brace (left_same (right_same (right_same e))) in
     let items_same : x.items ≡ y.items =
-      same_row oneof_item_tree same_oneof_item x.items y.items (left_same (right_same (right_same (right_same e)))) in
+    same_row oneof_item_tree same_oneof_item x.items y.items (left_same (right_same (right_same (right_same e)))) in
     let close_brace_same : x.close_brace ≡ y.close_brace =
-      same_span x.close_brace y.close_brace (right_same (right_same (right_same (right_same e)))) in
-    λ i. record { keyword = keyword_same i; name = name_same i; open_brace = open_brace_same i; items = items_same i;
-      close_brace = close_brace_same i }
+    same_span x.close_brace y.close_brace (right_same (right_same (right_same (right_same e)))) in
+    λ i. record {
+      keyword = keyword_same i;
+      name = name_same i;
+      open_brace = open_brace_same i;
+      items = items_same i;
+      close_brace = close_brace_same i;
+    }
 
 pub same_map_type : (x y : MapType) → map_type_tree x ≡ map_type_tree y → x ≡ y
 same_map_type x y e =
@@ -286,9 +317,9 @@ same_map_type x y e =
     let key_span_same : x.key_span ≡ y.key_span = same_span x.key_span y.key_span key_tree_same in
     let comma_same : x.comma ≡ y.comma = same_span x.comma y.comma (left_same (right_same (right_same e))) in
     let value_same : x.value ≡ y.value =
-      same_type x.value y.value (left_same (right_same (right_same (right_same e)))) in
+    same_type x.value y.value (left_same (right_same (right_same (right_same e)))) in
     let close_same : x.close_angle ≡ y.close_angle =
-      same_span x.close_angle y.close_angle (right_same (right_same (right_same (right_same e)))) in
+    same_span x.close_angle y.close_angle (right_same (right_same (right_same (right_same e)))) in
     λ i. record {
       open_angle = open_same i;
       key = key_same i;
@@ -303,9 +334,9 @@ pub same_map : (x y : MapField) → map_tree x ≡ map_tree y → x ≡ y
 same_map x y e =
     let keyword_same : x.keyword ≡ y.keyword = same_span x.keyword y.keyword (left_same e) in
     let map_type_same : x.map_type ≡ y.map_type =
-      same_map_type x.map_type y.map_type (left_of (left_same (right_same e))) in
+    same_map_type x.map_type y.map_type (left_of (left_same (right_same e))) in
     let declarator_same : x.declarator ≡ y.declarator =
-      same_declarator x.declarator y.declarator (right_same (right_same e)) in
+    same_declarator x.declarator y.declarator (right_same (right_same e)) in
     λ i. record { keyword = keyword_same i; map_type = map_type_same i; declarator = declarator_same i }
 
 pub same_label : (x y : Label) → label_tree x ≡ label_tree y → x ≡ y

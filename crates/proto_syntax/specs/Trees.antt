@@ -183,7 +183,7 @@ setting_tree s = full_tree s.name ▹ symbol_tree (byte "=") s.equals ▹ consta
 abbrev pub options_tree : Options → Tree
 options_tree o =
     symbol_tree (byte "[") o.open_bracket ▹ separated_tree setting_tree o.settings ▹ symbol_tree
-      (byte "]") o.close_bracket
+    (byte "]") o.close_bracket
 
 abbrev pub option_tree : OptionStatement → Tree
 option_tree o = word_tree (codes "option") o.keyword ▹ setting_tree o.setting ▹ symbol_tree (byte ";") o.semicolon
@@ -192,7 +192,7 @@ option_tree o = word_tree (codes "option") o.keyword ▹ setting_tree o.setting 
 abbrev pub block_tree : List ℕ → Span → Identifier → Span → Tree → Span → Tree
 block_tree word keyword name open_brace items close_brace =
     word_tree word keyword ▹ name_tree name ▹ symbol_tree (byte "{") open_brace ▹ items ▹ symbol_tree
-      (byte "}") close_brace
+    (byte "}") close_brace
 
 abbrev pub streamed_tree : Option Span → TypeName → Tree
 streamed_tree None n = Right (named_tree n)

@@ -94,15 +94,15 @@ pub token_pushed : (s : List ℕ) (start at n : ℕ) (items more : List Token) (
     → IsCutUpTo s start at (map spelled items)
     → IsLongestPiece (drop at s) n (option_map lexeme_of kind) → kind ≡ Some k
     → more ≡ items
-      ++ record { kind = k; span = record { start = record { offset = at }; end = record { offset = at + n } } } ∷ []
+    ++ record { kind = k; span = record { start = record { offset = at }; end = record { offset = at + n } } } ∷ []
     → IsCutUpTo s start (at + n) (map spelled more)
 token_pushed s start at n items more kind k so_far is some more_is =
     let t : Token =
-      record { kind = k; span = record { start = record { offset = at }; end = record { offset = at + n } } } in
+    record { kind = k; span = record { start = record { offset = at }; end = record { offset = at + n } } } in
     let made : map spelled more ≡ map spelled items ++ spelled t ∷ [] =
-      ap (map spelled) more_is ∙ map_push spelled items t in
+    ap (map spelled) more_is ∙ map_push spelled items t in
     rw made (cut_token s start at n (lexeme_of k) (map spelled items) so_far
-      (subst (λ k. IsLongestPiece (drop at s) n (option_map lexeme_of k)) some is))
+    (subst (λ k. IsLongestPiece (drop at s) n (option_map lexeme_of k)) some is))
 
 fault_of : (limit : ℕ) (s : List ℕ) (e : TokenError) → length s ≤ limit → IsUtf8 s → IsFaultFrom s (mark_len s) e
     → IsFaultOf limit s e
@@ -144,8 +144,13 @@ piece_fault_within s at kind (inr (inr (inr (inr fault)))) = string_fault_within
 fault_within : (s : List ℕ) (from : ℕ) (e : TokenError) → from ≤ length s → IsFaultFrom s from e
     → IsPlacedWithin (length s) e
 fault_within s from (errors.At place kind) within fault =
-    omega (arith, cut_within s from fault.0 fault.1 within fault.3,
-      piece_fault_within (drop fault.1 s) fault.2 kind fault.4, fault.5, length-drop fault.1 s)
+    omega (
+      arith,
+      cut_within s from fault.0 fault.1 within fault.3,
+      piece_fault_within (drop fault.1 s) fault.2 kind fault.4,
+      fault.5,
+      length-drop fault.1 s,
+    )
 fault_within s from errors.NoMemory within fault = tt
 
 pub placed_within : (s source : List ℕ) (mark : ℕ) (e : TokenError) → source ≡ s → mark ≤ length s

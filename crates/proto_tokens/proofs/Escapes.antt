@@ -46,15 +46,22 @@ module _ (s digits : List ℕ) (head most base : ℕ) (by : EscapesByDigits s di
   all_written =
       let runs = run_passes (λ d. is_digit d base) (take most digits) in
       let here : AllPass (λ d. is_digit d base) (take m (take most digits)) = rw m_is runs in
-      record { digits_of_base = subst (λ (l : List ℕ). AllPass (λ d. is_digit d base) l)
-          (take-take m most digits m_fits.0) here; value = refl }
+      record {
+        digits_of_base = subst (λ (l : List ℕ). AllPass (λ d. is_digit d base) l)
+            (take-take m most digits m_fits.0) here;
+        value = refl;
+      }
 
   no_more : (j n : ℕ) → j ≤ most → j ≤ length digits → Writes base (take j digits) n → j ≤ m
   no_more j n at_most within writes =
       let all : AllPass (λ d. is_digit d base) (take j (take most digits)) =
-        rw (take-take j most digits at_most) writes.digits_of_base in
-      omega (arith, run_longest (λ d. is_digit d base) (take most digits) j
-        (omega (arith, length-take most digits)) all, m_is)
+      rw (take-take j most digits at_most) writes.digits_of_base in
+      omega (
+        arith,
+        run_longest (λ d. is_digit d base) (take most digits) j
+            (omega (arith, length-take most digits)) all,
+        m_is,
+      )
 
   pub digits_found : (v : ℕ) → 0 < m → v ≡ digits_value base (take m digits) → v < 256
       → IsAllowedEscape s (head + m) (byte v)
@@ -79,11 +86,11 @@ module _ (s digits : List ℕ) (head most base : ℕ) (by : EscapesByDigits s di
       let m_bounds = m_fits in
       let pos : 0 < m = omega (arith, o.3) in
       let whole : o.0 < m → ⊥ = λ lt. longest.longest (head + m) (byte (digits_value base (take m digits)))
-        (omega (arith, o.2)) (omega (arith, by.long))
+      (omega (arith, o.2)) (omega (arith, by.long))
       (by.into m (digits_value base (take m digits)) pos m_bounds.0 m_bounds.1 all_written) in
       let same : o.0 ≡ m = omega (arith, whole, le) in
       let value : o.1 ≡ digits_value base (take m digits) =
-        o.6.value ∙ ap (λ j. digits_value base (take j digits)) same in
+      o.6.value ∙ ap (λ j. digits_value base (take j digits)) same in
       let small : o.1 < 256 = subst IsAllowed o.5 allowed.1 in
       omega (arith, value, big pos)
 
@@ -115,16 +122,24 @@ module _ (digits : List ℕ) (begins_so : begins (λ d. is_digit d 8) digits ≡
   octal_out bs (character n) k bs_is unicode pos =
       let same : bs ≡ unicode.0 ∷ unicode.1 = let e : 92 ∷ bs ≡ 92 ∷ unicode.0 ∷ unicode.1 = unicode.2 in cc in
       let digit = first_digit k pos unicode.0 unicode.1 (sym bs_is ∙ same) in
-      absurd (elim unicode.3 [ inl u ↦ let v = u.0 in grind (arith, nat_tests) | inr u ↦ let v = u.0 in
-        grind (arith, nat_tests) ])
+      absurd (elim unicode.3 [
+        | inl u ↦ let v = u.0 in grind (arith, nat_tests)
+        | inr u ↦ let v = u.0 in
+            grind (arith, nat_tests)
+      ])
 
   pub octal_by_digits : EscapesByDigits (92 ∷ digits) digits 1 3 8
   octal_by_digits = record {
     long = omega arith;
     into = λ j n pos at_most within writes.
         let same : 1 + j ≡ suc j = omega arith in
-        rw same (inr (inl (take j digits, refl, omega (arith, length-take-le j digits within),
-          omega (arith, length-take-le j digits within), writes)));
+        rw same (inr (inl (
+          take j digits,
+          refl,
+          omega (arith, length-take-le j digits within),
+          omega (arith, length-take-le j digits within),
+          writes,
+        )));
     out = out;
   }
     where
@@ -147,7 +162,7 @@ module _ (x : ℕ) (form : (x ≡ 120) ⊎ (x ≡ 88)) (digits : List ℕ) where
   hex_out bs (byte n) (inr (inl octal)) =
       let same : x ∷ bs ≡ octal.0 = let e : 92 ∷ x ∷ bs ≡ 92 ∷ octal.0 = octal.1 in cc in
       let digit = All-head (λ d. is_digit d 8 ≡ true) x bs
-        (subst (λ (l : List ℕ). AllPass (λ d. is_digit d 8) l) (sym same) octal.4.digits_of_base) in
+      (subst (λ (l : List ℕ). AllPass (λ d. is_digit d 8) l) (sym same) octal.4.digits_of_base) in
       absurd (elim form [ inl e ↦ grind (arith, nat_tests) | inr e ↦ grind (arith, nat_tests) ])
   hex_out bs (byte n) (inr (inr hex)) =
       let same : bs ≡ hex.1 = let e : 92 ∷ x ∷ bs ≡ 92 ∷ hex.0 ∷ hex.1 = hex.2 in cc in
@@ -199,12 +214,14 @@ module _ (u count : ℕ) (form : ((u ≡ 117) × (count ≡ 4)) ⊎ ((u ≡ 85) 
   unicode_out bs (byte n) (inr (inl octal)) =
       let same : u ∷ bs ≡ octal.0 = let e : 92 ∷ u ∷ bs ≡ 92 ∷ octal.0 = octal.1 in cc in
       let digit = All-head (λ d. is_digit d 8 ≡ true) u bs
-        (subst (λ (l : List ℕ). AllPass (λ d. is_digit d 8) l) (sym same) octal.4.digits_of_base) in
+      (subst (λ (l : List ℕ). AllPass (λ d. is_digit d 8) l) (sym same) octal.4.digits_of_base) in
       absurd (elim u_is [ inl e ↦ grind (arith, nat_tests) | inr e ↦ grind (arith, nat_tests) ])
   unicode_out bs (byte n) (inr (inr hex)) =
       let same : u ≡ hex.0 = let e : 92 ∷ u ∷ bs ≡ 92 ∷ hex.0 ∷ hex.1 = hex.2 in cc in
-      absurd (elim u_is [ inl e ↦ elim hex.3 [ inl x ↦ omega arith | inr x ↦ omega arith ]
-        | inr e ↦ elim hex.3 [ inl x ↦ omega arith | inr x ↦ omega arith ] ])
+      absurd (elim u_is [
+        | inl e ↦ elim hex.3 [ inl x ↦ omega arith | inr x ↦ omega arith ]
+        | inr e ↦ elim hex.3 [ inl x ↦ omega arith | inr x ↦ omega arith ]
+      ])
   unicode_out bs (character n) unicode =
       let first : u ≡ unicode.0 = let e : 92 ∷ u ∷ bs ≡ 92 ∷ unicode.0 ∷ unicode.1 = unicode.2 in cc in
       let same : bs ≡ unicode.1 = let e : 92 ∷ u ∷ bs ≡ 92 ∷ unicode.0 ∷ unicode.1 = unicode.2 in cc in
@@ -322,7 +339,7 @@ simple_behind [] c n at form simple small = absurd cc
 simple_behind (b ∷ after) c n at form simple small =
     let same : c ≡ b = cc in
     rw (← same) (simple_found c after (no_octal c form.no_digit) form.no_x form.no_X form.no_u form.no_U n
-      (sym simple) small)
+    (sym simple) small)
 
 pub none_behind : (after : List ℕ) (c : ℕ) → Some c ≡ slice_get after 0 → IsSimpleForm c → None ≡ simple_escape c
     → HasNoEscape (92 ∷ after)

@@ -35,7 +35,7 @@ pub digits_value_prefix : (base : ℕ) (ds : List ℕ) (i : ℕ) → 0 < base
 digits_value_prefix base ds i pos =
     let joined : fold (step base) 0 ds ≡ fold (step base) (fold (step base) 0 (take i ds)) (drop i ds) =
     ap (λ (l : List ℕ). fold (step base) 0 l) (sym (take-append-drop i ds))
-      ∙ fold-append (step base) 0 (take i ds) (drop i ds) in
+    ∙ fold-append (step base) 0 (take i ds) (drop i ds) in
     omega (arith, joined, step_grows base (fold (step base) 0 (take i ds)) (drop i ds) pos)
 
 -- one step past the greatest number, so the whole is past it too
@@ -68,5 +68,7 @@ has_value bs base ds (Some n) result on parts same e =
 
 pub are_written : (base : ℕ) (ds : List ℕ) (n : ℕ) → list_all (λ d. is_digit d base) ds ≡ true
     → n ≡ digits_value base ds → Writes base ds n
-are_written base ds n on value = record { digits_of_base = AllPass-from_list_all (λ d. is_digit d base) ds on;
-    value = value }
+are_written base ds n on value = record {
+  digits_of_base = AllPass-from_list_all (λ d. is_digit d base) ds on;
+  value = value;
+}

@@ -47,11 +47,13 @@ numeral_numeric bs n (inl hex) =
       refl,
     )
 numeral_numeric bs n (inr (inl octal)) =
-    rw octal.1 (All-cons (λ d. is_numeric d ≡ true) 48 octal.0 refl (digits_numeric 8 octal.0 n (omega arith) octal.2),
-      refl)
+    rw octal.1 (
+      All-cons (λ d. is_numeric d ≡ true) 48 octal.0 refl (digits_numeric 8 octal.0 n (omega arith) octal.2),
+      refl,
+    )
 numeral_numeric bs n (inr (inr decimal)) =
     let first : begins is_ascii_digit bs ≡ true =
-      rw decimal.2 (let low = decimal.3.0 in let high = decimal.3.1 in grind (arith, nat_tests)) in
+    rw decimal.2 (let low = decimal.3.0 in let high = decimal.3.1 in grind (arith, nat_tests)) in
     (digits_numeric 10 bs n (omega arith) decimal.4, first)
 
 -- a string begins with its quote
@@ -151,8 +153,10 @@ no_comment : (s : List ℕ) (k : ℕ) → 0 < k → is_blank (get_or s 0 0) ≡ 
     → IsLineComment (take k s) ⊎ IsBlockComment (take k s) → ⊥
 no_comment s k pos blank comment =
     let first : get_or (take k s) 0 0 ≡ 47 =
-    elim comment [ inl line ↦ ap (λ (l : List ℕ). get_or l 0 0) line.1
-      | inr block ↦ ap (λ (l : List ℕ). get_or l 0 0) block.1 ] in
+    elim comment [
+      | inl line ↦ ap (λ (l : List ℕ). get_or l 0 0) line.1
+      | inr block ↦ ap (λ (l : List ℕ). get_or l 0 0) block.1
+    ] in
     both_ways (is_blank (get_or s 0 0)) (ap is_blank (sym (get_or-take k s 0 0 pos) ∙ first)) blank
 
 -- a `/` that neither `/` nor `*` follows begins no comment
@@ -160,16 +164,16 @@ lone_slash : (s : List ℕ) (k : ℕ) → 1 < k → k ≤ length s → get_or s 
     → begins is_slash_or_star (drop 1 s) ≡ false → IsPiece s k None → ⊥
 lone_slash s k lt within slash alone (inl blanks) =
     let first : is_blank (get_or (take k s) 0 0) ≡ true =
-      All-get_or (λ b. is_blank b ≡ true) (take k s) 0 0 blanks.0 blanks.1 in
+    All-get_or (λ b. is_blank b ≡ true) (take k s) 0 0 blanks.0 blanks.1 in
     both_ways (is_blank 47) refl (sym (ap is_blank (get_or-take k s 0 0 (omega arith) ∙ slash)) ∙ first)
 lone_slash s k lt within slash alone (inr (inl line)) =
     let second : get_or s 1 0 ≡ 47 = sym (get_or-take k s 1 0 lt) ∙ ap (λ (l : List ℕ). get_or l 1 0) line.1 in
     both_ways (begins is_slash_or_star (drop 1 s)) alone
-      (begins_second is_slash_or_star s (omega arith) (ap is_slash_or_star second))
+    (begins_second is_slash_or_star s (omega arith) (ap is_slash_or_star second))
 lone_slash s k lt within slash alone (inr (inr block)) =
     let second : get_or s 1 0 ≡ 42 = sym (get_or-take k s 1 0 lt) ∙ ap (λ (l : List ℕ). get_or l 1 0) block.1 in
     both_ways (begins is_slash_or_star (drop 1 s)) alone
-      (begins_second is_slash_or_star s (omega arith) (ap is_slash_or_star second))
+    (begins_second is_slash_or_star s (omega arith) (ap is_slash_or_star second))
 
 module _ (s : List ℕ) where
   pub longest_identifier : begins is_letter s ≡ true
@@ -180,7 +184,7 @@ module _ (s : List ℕ) where
       let pos = run_nonempty is_word s (begins_from is_word s first.0 word) in
       let fits = prefix_len-le-length is_word s in
       let begins_so = begins_from is_letter (take (prefix_len is_word s) s)
-        (omega (arith, length-take-le (prefix_len is_word s) s fits))
+      (omega (arith, length-take-le (prefix_len is_word s) s fits))
       (ap is_letter (get_or-take (prefix_len is_word s) s 0 0 pos) ∙ first.1) in
       record {
         fits = fits;
@@ -215,7 +219,7 @@ module _ (s : List ℕ) where
       let first = begins_first is_ascii_digit (take (prefix_len is_numeric s) s) (numeral_numeric _ n numeral).1 in
       let pos : 0 < prefix_len is_numeric s = omega (arith, length-take-le (prefix_len is_numeric s) s fits) in
       let digit : is_ascii_digit (get_or s 0 0) ≡ true =
-        sym (ap is_ascii_digit (get_or-take (prefix_len is_numeric s) s 0 0 pos)) ∙ first.1 in
+      sym (ap is_ascii_digit (get_or-take (prefix_len is_numeric s) s 0 0 pos)) ∙ first.1 in
       record {
         fits = fits;
         piece_is = (numeral, small, run_stops is_numeric s);
@@ -232,7 +236,7 @@ module _ (s : List ℕ) where
     λ k n within numeral.
         let k_le = run_longest is_numeric s k within (numeral_numeric (take k s) n numeral).0 in
         let k_ne : k ≢ prefix_len is_numeric s =
-          λ same. none n (subst (λ (j : ℕ). IsNumeral (take j s) n) same numeral) in
+        λ same. none n (subst (λ (j : ℕ). IsNumeral (take j s) n) same numeral) in
         within_run is_numeric s k (omega arith),
   )
 
@@ -241,8 +245,18 @@ module _ (s : List ℕ) where
   number_fault kind e (inl bad) = inr (inl (bad.0, refl, bad_number e bad.1))
   number_fault kind e (inr big) =
       inr (inr
-        (inl (big.0, refl, (prefix_len is_numeric s, big.1, prefix_len-le-length is_numeric s, big.2,
-        run_stops is_numeric s, big.3))))
+      (inl (
+        big.0,
+        refl,
+        (
+          prefix_len is_numeric s,
+          big.1,
+          prefix_len-le-length is_numeric s,
+          big.2,
+          run_stops is_numeric s,
+          big.3,
+        ),
+      )))
 
   pub longest_punctuation : (b : ℕ) → begins is_punctuation s ≡ true → b ≡ get_or s 0 0
       → (b ≡ 47 → begins is_slash_or_star (drop 1 s) ≡ false)
@@ -290,8 +304,11 @@ module _ (body : List ℕ) where
               (All-get_or (λ b. is_blank b ≡ true) (47 ∷ 47 ∷ take k body) 0 0 blanks.0 blanks.1)
           in_line k lt within (inr (inl line)) =
               let same : line.0 ≡ take k body = let e : 47 ∷ 47 ∷ take k body ≡ 47 ∷ 47 ∷ line.0 = line.1 in cc in
-              omega (arith, run_longest is_in_line body k within
-                (subst (λ (l : List ℕ). AllPass is_in_line l) same line.2))
+              omega (
+                arith,
+                run_longest is_in_line body k within
+                    (subst (λ (l : List ℕ). AllPass is_in_line l) same line.2),
+              )
           in_line k lt within (inr (inr block)) =
               let second : get_or (47 ∷ 47 ∷ take k body) 1 0 ≡ 42 = ap (λ (l : List ℕ). get_or l 1 0) block.1 in
               absurd (omega arith)
@@ -302,7 +319,7 @@ module _ (rest : List ℕ) (m : ℕ) (close : IsFirstClose rest m) where
       let fits = close.fits in
       let one : take (m + 1) rest ≡ take m rest ++ get_or rest m 0 ∷ [] = take_more rest m 0 (omega arith) in
       let two : take (m + 1 + 1) rest ≡ take (m + 1) rest ++ get_or rest (m + 1) 0 ∷ [] =
-        take_more rest (m + 1) 0 fits in
+      take_more rest (m + 1) 0 fits in
       let same : suc (suc m) ≡ m + 1 + 1 = omega arith in
       rw same (two ∙ rw (one, close.star, close.slash) (append_assoc (take m rest) (42 ∷ []) (47 ∷ [])))
 
@@ -322,9 +339,9 @@ module _ (rest : List ℕ) (m : ℕ) (close : IsFirstClose rest m) where
   no_longer_block k body lt within e none =
       let fits = close.fits in
       let len : k ≡ length body + 2 = sym (length-take-le k rest within) ∙ ap length e
-        ∙ length-append body (42 ∷ 47 ∷ []) in
+      ∙ length-append body (42 ∷ 47 ∷ []) in
       let star : get_or body m 0 ≡ 42 = sym (get_or_append_left body (42 ∷ 47 ∷ []) 0 m (omega arith))
-        ∙ ap (λ (l : List ℕ). get_or l m 0) (sym e)
+      ∙ ap (λ (l : List ℕ). get_or l m 0) (sym e)
       ∙ get_or-take k rest m 0 (omega arith) ∙ close.star in
       elim (cases_lt (m + 1) (length body)) [
         | inl in_body ↦ none m star (sym (get_or_append_left body (42 ∷ 47 ∷ []) 0 (m + 1) in_body)
@@ -333,10 +350,10 @@ module _ (rest : List ℕ) (m : ℕ) (close : IsFirstClose rest m) where
         | inr past ↦
             let here : length body ≡ m + 1 = omega arith in
             let star_again : get_or (body ++ 42 ∷ 47 ∷ []) (m + 1) 0 ≡ 42 =
-              get_or_at body 42 (47 ∷ []) 0 (m + 1) here in
+            get_or_at body 42 (47 ∷ []) 0 (m + 1) here in
             let slash : get_or (body ++ 42 ∷ 47 ∷ []) (m + 1) 0 ≡ 47 =
             ap (λ (l : List ℕ). get_or l (m + 1) 0) (sym e) ∙ get_or-take k rest (m + 1) 0 (omega arith)
-              ∙ close.slash in
+            ∙ close.slash in
             absurd (omega arith)
       ]
 
@@ -367,7 +384,7 @@ module _ (rest : List ℕ) (m : ℕ) (close : IsFirstClose rest m) where
               absurd (omega arith)
           in_block k lt within (inr (inr block)) =
               let same : take k rest ≡ block.0 ++ 42 ∷ 47 ∷ [] = let e : 47 ∷ 42 ∷ take k rest ≡ 47 ∷ 42
-                ∷ (block.0 ++ 42 ∷ 47 ∷ []) = block.1 in cc in
+              ∷ (block.0 ++ 42 ∷ 47 ∷ []) = block.1 in cc in
               no_longer_block k block.0 lt within same block.2
 
 -- ---- where a source may be cut
@@ -385,7 +402,7 @@ identifier_boundary source at utf8 e =
     let n = prefix_len is_word s in
     let first = begins_first is_letter s e in
     let pos : 0 < n = run_nonempty is_word s
-      (begins_from is_word s first.0 (let f = first.1 in grind (arith, nat_tests))) in
+    (begins_from is_word s first.0 (let f = first.1 in grind (arith, nat_tests))) in
     let fits = identifier_fits source at e in
     let last : is_word (get_or source (at + (n - 1)) 0) ≡ true =
     ap is_word (sym (get_or-drop at source (n - 1) 0)) ∙ prefix_len_passes is_word s (n - 1) 0 (omega arith) in
@@ -413,7 +430,7 @@ line_found s n long first second n_is =
     let body = take (length s - 2) (drop 2 s) in
     let same : n + 2 ≡ suc (suc (prefix_len is_in_line body)) = omega (arith, n_is) in
     rw same (subst (λ (l : List ℕ). IsLongestPiece l (suc (suc (prefix_len is_in_line body))) None)
-      (sym (two_more s 47 47 long first second))
+    (sym (two_more s 47 47 long first second))
     (longest_line body))
 
 pub block_found : (s : List ℕ) (m : ℕ) → 2 ≤ length s → get_or s 0 0 ≡ 47 → get_or s 1 0 ≡ 42
@@ -422,7 +439,7 @@ pub block_found : (s : List ℕ) (m : ℕ) → 2 ≤ length s → get_or s 0 0 �
 block_found s m long first second close =
     let same : m + 4 ≡ suc (suc (suc (suc m))) = omega arith in
     rw same (subst (λ (l : List ℕ). IsLongestPiece l (suc (suc (suc (suc m)))) None)
-      (sym (two_more s 47 42 long first second))
+    (sym (two_more s 47 42 long first second))
     (longest_block (take (length s - 2) (drop 2 s)) m close))
 
 -- a byte that no `/` or `*` follows
@@ -453,5 +470,5 @@ pub found_identifier : (s name : List ℕ) → begins is_letter s ≡ true → n
     → IsLongestPiece s (length name) (Some (identifier name))
 found_identifier s name e name_is =
     let len : length name ≡ prefix_len is_word s =
-      ap length name_is ∙ length-take-le (prefix_len is_word s) s (prefix_len-le-length is_word s) in
+    ap length name_is ∙ length-take-le (prefix_len is_word s) s (prefix_len-le-length is_word s) in
     rw (len, name_is) (longest_identifier s e)

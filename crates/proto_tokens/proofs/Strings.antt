@@ -53,11 +53,11 @@ pub read_escape : (quote : ℕ) (after value more : List ℕ) (end len : ℕ) (e
 read_escape quote after value more end len e so_far lt backslash allowed more_is =
     let p : Part = record { len = len; value = escaped_bytes e } in
     let here : drop end after ≡ 92 ∷ drop (end + 1) after =
-      drop_more after end 0 lt ∙ ap (λ b. b ∷ drop (end + 1) after) backslash in
+    drop_more after end 0 lt ∙ ap (λ b. b ∷ drop (end + 1) after) backslash in
     let is : IsAllowedEscape (drop end after) len e =
-      subst (λ (l : List ℕ). IsAllowedEscape l len e) (sym here) allowed in
+    subst (λ (l : List ℕ). IsAllowedEscape l len e) (sym here) allowed in
     rw more_is
-      (read_part quote after value end p so_far (inr (e, is, refl)) (omega (arith, is.0.fits, length-drop end after)))
+    (read_part quote after value end p so_far (inr (e, is, refl)) (omega (arith, is.0.fits, length-drop end after)))
 
 -- one plain byte after another
 pub read_run : (quote : ℕ) (after value : List ℕ) (end n : ℕ) → IsReadUpTo quote after value end
@@ -71,10 +71,10 @@ read_run quote after value end (suc n) so_far le =
     let lt : end + n < length after = omega (arith, longest, length-drop end after) in
     let plain : is_plain quote b ≡ true =
     ap (is_plain quote) (sym (get_or-drop end after n 0))
-      ∙ prefix_len_passes (is_plain quote) (drop end after) n 0 (omega arith) in
+    ∙ prefix_len_passes (is_plain quote) (drop end after) n 0 (omega arith) in
     let p : Part = record { len = 1; value = b ∷ [] } in
     let is : IsPart quote (drop (end + n) after) p =
-      inl (b, drop (end + n + 1) after, drop_more after (end + n) 0 lt, plain, refl, refl) in
+    inl (b, drop (end + n + 1) after, drop_more after (end + n) 0 lt, plain, refl, refl) in
     let next = read_part quote after (value ++ take n (drop end after)) (end + n) p before is (omega arith) in
     let taken : take (suc n) (drop end after) ≡ take n (drop end after) ++ b ∷ [] =
     ap (λ k. take k (drop end after)) (sym (add-one n)) ∙ take_more (drop end after) n 0 (omega (arith, longest))
@@ -148,7 +148,7 @@ cut_end quote s from (p ∷ ps) [] m n a b no_m no_n =
 cut_end quote s from (p ∷ ps) (q ∷ qs) m n a b no_m no_n =
     let same = part_len quote (drop from s) p q a.0 b.0 in
     cut_end quote s (from + p.len) ps qs m n a.1
-      (subst (λ (i : ℕ). IsCutInto (IsPart quote) (λ p. p.len) s (from + i) qs n) (sym same) b.1) no_m no_n
+    (subst (λ (i : ℕ). IsCutInto (IsPart quote) (λ p. p.len) s (from + i) qs n) (sym same) b.1) no_m no_n
 
 -- no part stands at the closing quote
 pub no_part_at_quote : (quote : ℕ) (after : List ℕ) (end : ℕ) → is_quote quote ≡ true → HasByteAt after end quote
@@ -156,9 +156,9 @@ pub no_part_at_quote : (quote : ℕ) (after : List ℕ) (end : ℕ) → is_quote
     → ⊥
 no_part_at_quote quote after end quote_is closes p is =
     no_part quote (drop end after) (get_or after end 0) (drop (end + 1) after) (drop_more after end 0 closes.0)
-      (let e = closes.1 in grind (arith, nat_tests))
+    (let e = closes.1 in grind (arith, nat_tests))
     (λ backslash. absurd
-      (both_ways (is_quote 92) refl (subst (λ (b : ℕ). is_quote b ≡ true) (sym closes.1 ∙ backslash) quote_is))) p is
+    (both_ways (is_quote 92) refl (subst (λ (b : ℕ). is_quote b ≡ true) (sym closes.1 ∙ backslash) quote_is))) p is
 
 module _ (s : List ℕ) (n : ℕ) (value : List ℕ) (is : IsString s n value) where
   string_longest : (k : ℕ) (other : List ℕ) → n < k → IsString s k other → ⊥
@@ -171,9 +171,9 @@ module _ (s : List ℕ) (n : ℕ) (value : List ℕ) (is : IsString s n value) w
       (subst (λ (l : List ℕ). IsCutInto (IsPart more.0) (λ p. p.len) l 0 more.2 more.3) after more.4.cut) in
       let closes : HasByteAt is.1 more.3 is.0 =
       subst (λ (q : ℕ). HasByteAt is.1 more.3 q) quote
-        (subst (λ (l : List ℕ). HasByteAt l more.3 more.0) after more.5) in
+      (subst (λ (l : List ℕ). HasByteAt l more.3 more.0) after more.5) in
       let same = cut_end is.0 is.1 0 is.2 more.2 is.3 more.3 is.4.cut cut
-        (no_part_at_quote is.0 is.1 is.3 is.4.quote_is is.5)
+      (no_part_at_quote is.0 is.1 is.3 is.4.quote_is is.5)
       (no_part_at_quote is.0 is.1 more.3 is.4.quote_is closes) in
       omega (arith, is.6, more.6, same)
 
@@ -183,7 +183,7 @@ module _ (s : List ℕ) (n : ℕ) (value : List ℕ) (is : IsString s n value) w
     piece_is = is;
     longest = λ k other lt within other_is.
         let first : is_quote (get_or s 0 0) ≡ true = ap (λ (l : List ℕ). is_quote (get_or l 0 0)) is.4.begins_so
-          ∙ is.4.quote_is in
+        ∙ is.4.quote_is in
         let same = quote_alone (get_or s 0 0) other first (starts s k other other_is).2 in
         string_longest k same.0 lt (subst (IsPiece s k) same.1 other_is);
   }
@@ -192,15 +192,21 @@ pub closed_string : (quote : ℕ) (after value : List ℕ) (end : ℕ) → IsClo
     → IsLongestPiece (quote ∷ after) (end + 2) (Some (string_literal value))
 closed_string quote after value end closed utf8 =
     longest_string (quote ∷ after) (end + 2) value
-      (quote, after, closed.0, end, closed.1, closed.2, refl, closed.3, utf8)
+    (quote, after, closed.0, end, closed.1, closed.2, refl, closed.3, utf8)
 
 -- a string that closes with a value that is no text
 pub not_text : (quote : ℕ) (after value : List ℕ) (end : ℕ) → IsClosed quote after value end → (IsUtf8 value → ⊥)
     → IsPieceFault (quote ∷ after) 0 kinds.BadEscape
 not_text quote after value end closed no_text =
     inr (inr
-      (inr (inr (quote, after, closed.0, end, closed.1,
-      inr (inl (refl, refl, closed.2, λ utf8. no_text (rw closed.3 utf8)))))))
+    (inr (inr (
+      quote,
+      after,
+      closed.0,
+      end,
+      closed.1,
+      inr (inl (refl, refl, closed.2, λ utf8. no_text (rw closed.3 utf8))),
+    ))))
 
 -- a string without escapes
 pub plain_closed : (quote : ℕ) (after : List ℕ) (n : ℕ) → is_quote quote ≡ true → n ≡ prefix_len (is_plain quote) after
@@ -251,8 +257,11 @@ pub not_text_here : (s : List ℕ) (quote : ℕ) (after value : List ℕ) (end a
     → IsClosed quote after value end
     → (IsUtf8 value → false ≡ true) → e ≡ errors.At (record { offset = at }) kinds.BadEscape → IsFaultAfter s at e
 not_text_here s quote after value end at e s_is closed no_text e_is =
-    rw (e_is, s_is) (0, not_text quote after value end closed (λ utf8. absurd (let h = no_text utf8 in cc)),
-      sym (add-zero at))
+    rw (e_is, s_is) (
+      0,
+      not_text quote after value end closed (λ utf8. absurd (let h = no_text utf8 in cc)),
+      sym (add-zero at),
+    )
 
 -- the text or its line ends before the string closes
 pub unclosed_here : (quote : ℕ) (after value : List ℕ) (end at : ℕ) (e : TokenError) → is_quote quote ≡ true
@@ -278,5 +287,8 @@ no_escape_here quote after value behind end at e quote_is so_far lt backslash be
     record { begins_so = refl; quote_is = quote_is; cut = so_far.cut; within = so_far.within } in
     let no : (p : Part) → IsPart quote (drop end after) p → ⊥ =
     λ p is. no_part quote (drop end after) 92 behind here (not_plain quote 92 refl) (λ b. none') p is in
-    rw e_is (end + 1,
-      inr (inr (inr (inr (quote, after, so_far.parts, end, opened, inl (refl, refl, (lt, backslash), no))))), refl)
+    rw e_is (
+      end + 1,
+      inr (inr (inr (inr (quote, after, so_far.parts, end, opened, inl (refl, refl, (lt, backslash), no))))),
+      refl,
+    )

@@ -33,7 +33,7 @@ use Rattle.proto_tokens.proofs.Pieces.{Starts, starts, numeral_numeric, slash_al
 x_no_digit : (x : ℕ) (digits ds : List ℕ) (n : ℕ) → (x ≡ 120) ⊎ (x ≡ 88) → x ∷ digits ≡ ds → Writes 8 ds n → ⊥
 x_no_digit x digits ds n form same writes =
     let digit = All-head (λ d. is_digit d 8 ≡ true) x digits
-      (subst (λ (l : List ℕ). AllPass (λ d. is_digit d 8) l) (sym same) writes.digits_of_base) in
+    (subst (λ (l : List ℕ). AllPass (λ d. is_digit d 8) l) (sym same) writes.digits_of_base) in
     elim form [ inl e ↦ grind (arith, nat_tests) | inr e ↦ grind (arith, nat_tests) ]
 
 numeral_one : (bs : List ℕ) (m n : ℕ) → IsNumeral bs m → IsNumeral bs n → m ≡ n
@@ -68,13 +68,13 @@ simple_no_form : (c n : ℕ) → simple_escape c ≡ Some n → (is_digit c 8 �
 simple_no_form c n e = (
   false_from_ne_true (is_digit c 8) (λ digit. no_simple_digit c n digit e),
   (λ same. let none : simple_escape c ≡ None = ap simple_escape same in let f : Some n ≡ None = sym e ∙ none in
-    absurd cc),
+      absurd cc),
   (λ same. let none : simple_escape c ≡ None = ap simple_escape same in let f : Some n ≡ None = sym e ∙ none in
-    absurd cc),
+      absurd cc),
   (λ same. let none : simple_escape c ≡ None = ap simple_escape same in let f : Some n ≡ None = sym e ∙ none in
-    absurd cc),
+      absurd cc),
   (λ same. let none : simple_escape c ≡ None = ap simple_escape same in let f : Some n ≡ None = sym e ∙ none in
-    absurd cc),
+      absurd cc),
 )
 
 octal_begins : (digits : List ℕ) (n : ℕ) → 0 < length digits → Writes 8 digits n
@@ -86,7 +86,7 @@ escape_one : (bs : List ℕ) (d e : Escaped) → IsEscape bs d → IsEscape bs e
 escape_one bs (byte m) e (inl simple) other =
     let no = simple_no_form simple.0 m simple.2 in
     let o = simple_out simple.0 [] no.0 no.1 no.2 no.3 no.4 [] e
-      (subst (λ (l : List ℕ). IsEscape l e) simple.1 other) in
+    (subst (λ (l : List ℕ). IsEscape l e) simple.1 other) in
     let same : Some m ≡ Some o.0 = sym simple.2 ∙ o.3 in
     let value : m ≡ o.0 = cc in
     ap byte value ∙ sym o.2
@@ -95,7 +95,7 @@ escape_one bs (byte m) e (inr (inl octal)) other =
     let all : digits ≡ take (length digits) digits = sym (take_all (length digits) digits (omega arith)) in
     let o =
     octal_out digits (octal_begins digits m octal.2 octal.4) digits e (length digits) all
-      (subst (λ (l : List ℕ). IsEscape l e) octal.1 other) octal.2 in
+    (subst (λ (l : List ℕ). IsEscape l e) octal.1 other) octal.2 in
     let value : m ≡ o.0 = octal.4.value ∙ sym o.3.value in
     ap byte value ∙ sym o.2
 escape_one bs (byte m) e (inr (inr hex)) other =
@@ -104,7 +104,7 @@ escape_one bs (byte m) e (inr (inr hex)) other =
     ap byte value ∙ sym o.3
 escape_one bs (character m) e unicode other =
     let o = unicode_out unicode.0 (length unicode.1)
-      (elim unicode.3 [ inl f ↦ inl (f.0, f.1) | inr f ↦ inr (f.0, f.1) ]) [] unicode.1 e
+    (elim unicode.3 [ inl f ↦ inl (f.0, f.1) | inr f ↦ inr (f.0, f.1) ]) [] unicode.1 e
     (subst (λ (l : List ℕ). IsEscape l e) unicode.2 other) in
     let value : m ≡ o.0 = unicode.4.value ∙ sym o.3.value in
     ap character value ∙ sym o.2
@@ -125,7 +125,7 @@ cut_one IsPart len one s from (p ∷ ps) [] m n a b no_m no_n =
 cut_one {P} IsPart len one s from (p ∷ ps) (q ∷ qs) m n a b no_m no_n =
     let same = one (drop from s) p q a.0 b.0 in
     let rest = cut_one IsPart len one s (from + len p) ps qs m n a.1
-      (subst (λ (r : P). IsCutInto IsPart len s (from + len r) qs n) (sym same) b.1) no_m no_n in
+    (subst (λ (r : P). IsCutInto IsPart len s (from + len r) qs n) (sym same) b.1) no_m no_n in
     ((λ i. same i ∷ rest.0 i), rest.1)
 
 same_part : (p q : Part) → p.len ≡ q.len → p.value ≡ q.value → p ≡ q
@@ -144,7 +144,7 @@ part_one quote s p q (inr a) (inl b) =
 part_one quote s p q (inr a) (inr b) =
     let len = same_longest s p.len q.len a.0 b.0 a.1.0 b.1.0 in
     let e = escape_one (take q.len s) a.0 b.0 (subst (λ (n : ℕ). IsEscape (take n s) a.0) len a.1.0.escape_is)
-      b.1.0.escape_is in
+    b.1.0.escape_is in
     same_part p q len (a.2 ∙ ap escaped_bytes e ∙ sym b.2)
 
 -- ---- strings
@@ -158,11 +158,11 @@ opened_one s q r a b ps qs m n x y no_m no_n =
     let quote : q ≡ r = cc in
     let after : a ≡ b = cc in
     let cut : IsCutInto (IsPart q) (λ p. p.len) a 0 qs n =
-      subst (λ (c : ℕ). IsCutInto (IsPart c) (λ p. p.len) a 0 qs n) (sym quote)
+    subst (λ (c : ℕ). IsCutInto (IsPart c) (λ p. p.len) a 0 qs n) (sym quote)
     (subst (λ (l : List ℕ). IsCutInto (IsPart r) (λ p. p.len) l 0 qs n) (sym after) y.cut) in
     let no_n' : (p : Part) → IsPart q (drop n a) p → ⊥ =
     λ p is. no_n p
-      (subst (λ (c : ℕ). IsPart c (drop n b) p) quote (subst (λ (l : List ℕ). IsPart q (drop n l) p) after is)) in
+    (subst (λ (c : ℕ). IsPart c (drop n b) p) quote (subst (λ (l : List ℕ). IsPart q (drop n l) p) after is)) in
     let one = cut_one (IsPart q) (λ p. p.len) (part_one q) a 0 ps qs m n x.cut cut no_m no_n' in
     (quote, after, one.0, one.1)
 
@@ -170,7 +170,7 @@ string_one : (s : List ℕ) (m n : ℕ) (v w : List ℕ) → IsString s m v → 
 string_one s m n v w a b =
     let one =
     opened_one s a.0 b.0 a.1 b.1 a.2 b.2 a.3 b.3 a.4 b.4 (no_part_at_quote a.0 a.1 a.3 a.4.quote_is a.5)
-      (no_part_at_quote b.0 b.1 b.3 b.4.quote_is b.5) in
+    (no_part_at_quote b.0 b.1 b.3 b.4.quote_is b.5) in
     a.7 ∙ ap value_of one.2 ∙ sym b.7
 
 no_part_at_end : (quote : ℕ) (after : List ℕ) (end : ℕ) (p : Part) → length after ≤ end
@@ -179,15 +179,20 @@ no_part_at_end quote after end p le (inl plain) = let e : 0 ≡ suc (length plai
     ap length (sym (drop_all end after le) ∙ plain.2) in omega arith
 no_part_at_end quote after end p le (inr escape) =
     let long = (escape_begins (take p.len (drop end after)) escape.0 escape.1.0.escape_is).0 in
-    omega (arith, long, length-take-le p.len (drop end after) escape.1.0.fits, escape.1.0.fits,
-      ap length (drop_all end after le))
+    omega (
+      arith,
+      long,
+      length-take-le p.len (drop end after) escape.1.0.fits,
+      escape.1.0.fits,
+      ap length (drop_all end after le),
+    )
 
 no_part_at_byte : (quote : ℕ) (after : List ℕ) (end b : ℕ) → HasByteAt after end b → is_plain quote b ≡ false
     → (b ≡ 92 → ⊥) → (p : Part)
     → IsPart quote (drop end after) p → ⊥
 no_part_at_byte quote after end b here not_plain no_backslash p is =
     no_part quote (drop end after) (get_or after end 0) (drop (end + 1) after) (drop_more after end 0 here.0)
-      (ap (is_plain quote) here.1 ∙ not_plain)
+    (ap (is_plain quote) here.1 ∙ not_plain)
     (λ e. absurd (no_backslash (sym here.1 ∙ e))) p is
 
 -- where a string's fault lies no part stands
@@ -215,8 +220,10 @@ not_closed quote after parts end at kind quote_is (inr (inl closed)) closes utf8
 not_closed quote after parts end at kind quote_is (inr (inr (inl zero_byte))) closes utf8 =
     let e : quote ≡ 0 = sym closes.1 ∙ zero_byte.2.1 in grind (arith, nat_tests)
 not_closed quote after parts end at kind quote_is (inr (inr (inr open_))) closes utf8 =
-    elim open_.2 [ inl ends ↦ omega (arith, closes.0)
-      | inr line ↦ (let e : quote ≡ 10 = sym closes.1 ∙ line.1 in grind (arith, nat_tests)) ]
+    elim open_.2 [
+      | inl ends ↦ omega (arith, closes.0)
+      | inr line ↦ (let e : quote ≡ 10 = sym closes.1 ∙ line.1 in grind (arith, nat_tests))
+    ]
 
 -- a string with a fault is no string
 no_string : (s : List ℕ) (n at : ℕ) (v : List ℕ) (kind : Kind) → IsString s n v → IsStringFault s at kind → ⊥
@@ -225,7 +232,7 @@ no_string s n at v kind a b =
     (no_part_at_fault b.0 b.1 b.2 b.3 at kind b.4.quote_is b.5) in
     let closes : HasByteAt b.1 b.3 b.0 =
     subst (λ (q : ℕ). HasByteAt b.1 b.3 q) one.0
-      (subst (λ (i : ℕ). HasByteAt b.1 i a.0) one.3 (subst (λ (l : List ℕ). HasByteAt l a.3 a.0) one.1 a.5)) in
+    (subst (λ (i : ℕ). HasByteAt b.1 i a.0) one.3 (subst (λ (l : List ℕ). HasByteAt l a.3 a.0) one.1 a.5)) in
     not_closed b.0 b.1 b.2 b.3 at kind b.4.quote_is b.5 closes (subst IsUtf8 (a.7 ∙ ap value_of one.2) a.8)
 
 -- ---- pieces
@@ -304,7 +311,7 @@ pub spelling_one : (s : List ℕ) (from : ℕ) (ts us : List Spelled) → Spells
     → SpellsFrom s from us → ts ≡ us
 spelling_one s from ts us a b =
     let one = cut_one (λ rest (p : Piece). IsLongestPiece rest p.len p.is) (λ p. p.len) longest_one s from a.0 b.0
-      (length s) (length s) a.1 b.1
+    (length s) (length s) a.1 b.1
     (no_piece_at_end s) (no_piece_at_end s) in
     sym a.2 ∙ ap (tokens_from from) one.0 ∙ b.2
 
@@ -314,7 +321,7 @@ spelling_one s from ts us a b =
 abbrev PartFaultCase : ℕ → List ℕ → ℕ → ℕ → Kind → Type 0
 PartFaultCase quote after end at kind =
     (HasByteAt after end 92 × (kind ≡ kinds.BadEscape) × (at ≡ end + 1))
-      ⊎ ((HasByteAt after end quote × (kind ≡ kinds.BadEscape) × (at ≡ 0))
+    ⊎ ((HasByteAt after end quote × (kind ≡ kinds.BadEscape) × (at ≡ 0))
     ⊎ ((HasByteAt after end 0 × (kind ≡ kinds.BadByte) × (at ≡ end + 1))
     ⊎ (((b : ℕ) → HasByteAt after end b → b ≡ 10) × (kind ≡ kinds.UnclosedString) × (at ≡ 0))))
 
@@ -327,8 +334,11 @@ part_fault_case quote after parts end at kind (inr (inr (inl zero_byte))) =
     inr (inr (inl (zero_byte.2, zero_byte.0, zero_byte.1)))
 part_fault_case quote after parts end at kind (inr (inr (inr open_))) =
     inr (inr
-      (inr ((λ b here. elim open_.2 [ inl ends ↦ absurd (omega (arith, here.0)) | inr line ↦ sym here.1 ∙ line.1 ]),
-      open_.0, open_.1)))
+    (inr (
+      (λ b here. elim open_.2 [ inl ends ↦ absurd (omega (arith, here.0)) | inr line ↦ sym here.1 ∙ line.1 ]),
+      open_.0,
+      open_.1,
+    )))
 
 same_byte : (after : List ℕ) (end b c : ℕ) → HasByteAt after end b → HasByteAt after end c → b ≡ c
 same_byte after end b c x y = sym x.1 ∙ y.1
@@ -369,7 +379,7 @@ part_fault_one quote after end m n j k q (inr (inr (inr a))) (inr (inr (inr b)))
 string_fault_one : (s : List ℕ) (m n : ℕ) (j k : Kind) → IsStringFault s m j → IsStringFault s n k → (m ≡ n) × (j ≡ k)
 string_fault_one s m n j k a b =
     let one = opened_one s a.0 b.0 a.1 b.1 a.2 b.2 a.3 b.3 a.4 b.4
-      (no_part_at_fault a.0 a.1 a.2 a.3 m j a.4.quote_is a.5)
+    (no_part_at_fault a.0 a.1 a.2 a.3 m j a.4.quote_is a.5)
     (no_part_at_fault b.0 b.1 b.2 b.3 n k b.4.quote_is b.5) in
     let case_a = part_fault_case a.0 a.1 a.2 a.3 m j a.5 in
     let case_b : PartFaultCase a.0 a.1 a.3 n k = subst (λ (q : ℕ). PartFaultCase q a.1 a.3 n k) (sym one.0)
@@ -507,7 +517,7 @@ whole_run : (s : List ℕ) (k : ℕ) → k ≤ length s → AllPass is_numeric (
 whole_run s k within all stops =
     let le = run_longest is_numeric s k within all in
     let no_less : k < prefix_len is_numeric s
-      → ⊥ = λ lt. both_ways (begins is_numeric (drop k s)) stops (within_run is_numeric s k lt) in
+    → ⊥ = λ lt. both_ways (begins is_numeric (drop k s)) stops (within_run is_numeric s k lt) in
     omega (arith, le, no_less)
 
 no_small_number : (s : List ℕ) (n v : ℕ) → n ≤ length s → IsTooBig s → IsPiece s n (Some (number v)) → ⊥
@@ -531,15 +541,15 @@ no_comment_open rest n None none within (inr (inl line)) e =
 no_comment_open rest n None none within (inr (inr block)) e =
     let body = block.0 in
     let len : n ≡ suc (suc (length (body ++ 42 ∷ 47 ∷ []))) = sym (length-take-le n (47 ∷ 42 ∷ rest) within)
-      ∙ ap length block.1 in
+    ∙ ap length block.1 in
     let size = length-append body (42 ∷ 47 ∷ []) in
     let at : (i : ℕ) → i < length body + 2 → get_or rest i 0 ≡ get_or (body ++ 42 ∷ 47 ∷ []) i 0 =
     λ i lt. sym (get_or-take n (47 ∷ 42 ∷ rest) (suc (suc i)) 0 (omega arith))
-      ∙ ap (λ (l : List ℕ). get_or l (suc (suc i)) 0) block.1 in
+    ∙ ap (λ (l : List ℕ). get_or l (suc (suc i)) 0) block.1 in
     let star : get_or rest (length body) 0 ≡ 42 = at (length body) (omega arith)
-      ∙ get_or_at body 42 (47 ∷ []) 0 (length body) refl in
+    ∙ get_or_at body 42 (47 ∷ []) 0 (length body) refl in
     let slash : get_or rest (length body + 1) 0 ≡ 47 = at (length body + 1) (omega arith)
-      ∙ get_or-append-add body (42 ∷ 47 ∷ []) 1 0 in
+    ∙ get_or-append-add body (42 ∷ 47 ∷ []) 1 0 in
     none (length body) star slash
 no_comment_open rest n (Some lexeme) none within is e = absurd cc
 
@@ -576,7 +586,7 @@ pub no_spelling : (s : List ℕ) (from place : ℕ) (kind : Kind) (ts : List Spe
     → HasPieceFault s from place kind → ⊥
 no_spelling s from place kind ts a b =
     let one = cut_one (λ rest (p : Piece). IsLongestPiece rest p.len p.is) (λ p. p.len) longest_one s from a.0 b.0
-      (length s) b.1 a.1 b.3 (no_piece_at_end s)
+    (length s) b.1 a.1 b.3 (no_piece_at_end s)
     (λ p. no_piece_at_fault (drop b.1 s) b.2 kind p b.4) in
     let nothing : drop b.1 s ≡ [] = drop_all b.1 s (omega (arith, one.1)) in
     fault_long (drop b.1 s) b.2 kind b.4 nothing
@@ -585,10 +595,10 @@ pub fault_one : (s : List ℕ) (from m n : ℕ) (j k : Kind) → HasPieceFault s
     → (m ≡ n) × (j ≡ k)
 fault_one s from m n j k a b =
     let one = cut_one (λ rest (p : Piece). IsLongestPiece rest p.len p.is)
-      (λ p. p.len) longest_one s from a.0 b.0 a.1 b.1 a.3 b.3
+    (λ p. p.len) longest_one s from a.0 b.0 a.1 b.1 a.3 b.3
     (λ p. no_piece_at_fault (drop a.1 s) a.2 j p a.4) (λ p. no_piece_at_fault (drop b.1 s) b.2 k p b.4) in
     let same = piece_fault_one (drop a.1 s) a.2 b.2 j k a.4
-      (subst (λ (i : ℕ). IsPieceFault (drop i s) b.2 k) (sym one.1) b.4) in
+    (subst (λ (i : ℕ). IsPieceFault (drop i s) b.2 k) (sym one.1) b.4) in
     (a.5 ∙ (λ i. one.1 i + same.0 i) ∙ sym b.5, same.1)
 
 -- ---- whole answers

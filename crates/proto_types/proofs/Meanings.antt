@@ -25,7 +25,7 @@ pub apart : (os : List Occurrence) (Seen : ℕ → Type 0) (scope spelled a b : 
     → Resolves os Seen scope spelled b name_kind.Enum → ⊥
 apart os Seen scope spelled a b h k =
     let same : name_kind.Message ≡ name_kind.Enum =
-      (resolves_one os Seen scope spelled a b name_kind.Message name_kind.Enum h k).1 in cc
+    (resolves_one os Seen scope spelled a b name_kind.Message name_kind.Enum h k).1 in cc
 
 -- what a name of a type is declared for
 pub kind_named : (os : List Occurrence) (Seen : ℕ → Type 0) (full : List ℕ) (k : NameKind) → IsType os Seen full k
@@ -53,7 +53,7 @@ pub not_message : (os : List Occurrence) (Seen : ℕ → Type 0) (r : Reference)
     → IsLeast (ReferenceBreaks os Seen r) (Some (spot r.place kind.TypeNotMessage))
 not_message os Seen r full only found =
     least_same (λ x. x ≡ spot r.place kind.TypeNotMessage) (ReferenceBreaks os Seen r)
-      (Some (spot r.place kind.TypeNotMessage))
+    (Some (spot r.place kind.TypeNotMessage))
     (λ x w. elim w [
       | inl none ↦ absurd (none.0 full name_kind.Enum found)
       | inr (inl enum) ↦ enum.2
@@ -93,7 +93,7 @@ resolved_least : (os : List Occurrence) (Seen : ℕ → Type 0) (r : Reference) 
 resolved_least os Seen r full k fault found (message seen) only packed = found_message os Seen r full fault found packed
 resolved_least os Seen r full k fault found (enumeration seen none) only packed =
     rw packed
-      (found_enum os Seen r full (λ e. let bad : name_kind.Enum ≡ name_kind.Message = only e in absurd (cc)) found)
+    (found_enum os Seen r full (λ e. let bad : name_kind.Enum ≡ name_kind.Message = only e in absurd (cc)) found)
 
 -- ---- what one name means
 

@@ -31,11 +31,11 @@ by_kind : (os : List Occurrence) (Seen : ℕ → Type 0) (scope text : List ℕ)
 by_kind os Seen scope text place want.AnyType options t m what same type named is =
     let fits : Fits want.AnyType t.kind = λ e. let bad : want.AnyType ≡ want.MessageOnly = e in absurd (cc) in
     naming_means os Seen (reference_to scope text place want.AnyType options)
-      (scoped t.scope.now t.name.now) t.kind m named fits
+    (scoped t.scope.now t.name.now) t.kind m named fits
     (is.0 fits)
 by_kind os Seen scope text place want.MessageOnly options t m what same (message seen) named is =
     naming_means os Seen (reference_to scope text place want.MessageOnly options)
-      (scoped t.scope.now t.name.now) t.kind m named
+    (scoped t.scope.now t.name.now) t.kind m named
     (λ e. same) (is.0 (λ e. same))
 by_kind os Seen scope text place want.MessageOnly options t m what same (enumeration seen none) named is =
     let other : t.kind ≡ name_kind.Message → ⊥ = λ e. let bad : name_kind.Enum ≡ name_kind.Message = sym same ∙ e in
@@ -89,7 +89,7 @@ recalled_type os Seen scope text recalled one all is =
     (bytes_eq-Decides one.spelled.now text).0 (found_passes (λ r. bytes_eq r.spelled.now text) recalled one is) in
     subst (λ (t : List ℕ). IsNamed os Seen scope t one.found) same
     (found_has (λ r. IsNamed os Seen scope r.spelled.now r.found)
-      (λ r. bytes_eq r.spelled.now text) recalled one all is)
+    (λ r. bytes_eq r.spelled.now text) recalled one all is)
 
 -- what is recalled after one more name
 pub recalled_more : (os : List Occurrence) (Seen : ℕ → Type 0) (scope : List ℕ) (one : Recalled)

@@ -36,7 +36,7 @@ pub references_out : (m : MessageDesc) (scope : List ℕ) → references_by_mess
 references_out m scope =
     ap (λ (f : List ℕ → List Reference). f scope) (fold_out-MessageDesc (List ℕ → List Reference) references_step m)
     ∙ ap (λ xs. own_references m scope ++ xs)
-      (flat_map-map (λ (g : List ℕ → List Reference). g (scope_in m scope)) references_by_message
+    (flat_map-map (λ (g : List ℕ → List Reference). g (scope_in m scope)) references_by_message
     (out-MessageDesc m).nested)
 
 pub messages_typed : (os : List Occurrence) (Seen : ℕ → Type 0) (scope : List ℕ) (ms gs : List MessageDesc)
@@ -105,7 +105,7 @@ method_typed : (os : List Occurrence) (Seen : ℕ → Type 0) (scope : List ℕ)
     → IsTypedMethod os Seen scope m g → method_resolved g ≡ true
 method_typed os Seen scope m g h = and_from (reference_resolved g.input) (reference_resolved g.output)
     (reference_typed os Seen scope m.input g.input h.input_typed)
-      (reference_typed os Seen scope m.output g.output h.output_typed)
+    (reference_typed os Seen scope m.output g.output h.output_typed)
 
 -- all of a list, where each is what another is typed as
 zip_all : {X : Type 0} (R : X → X → Type 0) (p : X → Bool) → ((x y : X) → R x y → p y ≡ true) → (xs ys : List X)
@@ -119,16 +119,16 @@ service_typed : (os : List Occurrence) (Seen : ℕ → Type 0) (scope : List ℕ
     → IsTypedService os Seen scope s g → service_resolved g ≡ true
 service_typed os Seen scope s g h =
     zip_all (IsTypedMethod os Seen (scoped scope s.name)) method_resolved
-      (method_typed os Seen (scoped scope s.name)) s.methods g.methods h.methods_typed
+    (method_typed os Seen (scoped scope s.name)) s.methods g.methods h.methods_typed
 
 mutual
   message_typed : (os : List Occurrence) (Seen : ℕ → Type 0) (scope : List ℕ) (m g : MessageDesc)
       → IsTypedMessage os Seen scope m g → message_resolved g ≡ true
   message_typed os Seen scope m g (message s n o body nested) =
       message_resolved_out g ∙ and_from (fields_resolved (out-MessageDesc g).fields)
-        (list_all message_resolved (out-MessageDesc g).nested)
+      (list_all message_resolved (out-MessageDesc g).nested)
       (zip_all (IsTypedField os Seen (field_scope scope (out-MessageDesc m))) field_resolved
-        (field_typed os Seen (field_scope scope (out-MessageDesc m)))
+      (field_typed os Seen (field_scope scope (out-MessageDesc m)))
       (out-MessageDesc m).fields (out-MessageDesc g).fields body.fields_typed)
       (all_typed os Seen (scope_in m scope) (out-MessageDesc m).nested (out-MessageDesc g).nested nested)
 
@@ -138,11 +138,11 @@ mutual
   all_typed os Seen scope ms gs (none s) = refl
   all_typed os Seen scope ms gs (more s m g rest made one others) =
       and_from (message_resolved g) (list_all message_resolved made) (message_typed os Seen scope m g one)
-        (all_typed os Seen scope rest made others)
+      (all_typed os Seen scope rest made others)
 
 pub typed_resolved : (os : List Occurrence) (Seen : ℕ → Type 0) (scope : List ℕ) (f g : FileDesc)
     → IsTypedIn os Seen scope f g → file_resolved g ≡ true
 typed_resolved os Seen scope f g h = and_from (list_all message_resolved g.messages) (services_resolved g.services)
     (all_typed os Seen scope f.messages g.messages h.messages_typed)
     (zip_all (IsTypedService os Seen scope) service_resolved
-      (service_typed os Seen scope) f.services g.services h.services_typed)
+    (service_typed os Seen scope) f.services g.services h.services_typed)

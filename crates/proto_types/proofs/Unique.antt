@@ -37,9 +37,9 @@ reference_same : (os ps : List Occurrence) (Seen Sees : ℕ → Type 0) → AreS
     → (scope : List ℕ) (r g h : TypeReference)
     → IsTyped os Seen scope r g → IsTyped ps Sees scope r h → g ≡ h
 reference_same os ps Seen Sees alike scope (Spelled text place) g h (full, what, found, made)
-  (other, kind, found_too, made_too) =
+    (other, kind, found_too, made_too) =
     let one = resolves_same os ps Seen Sees alike scope text full other (named_by what)
-      (named_by kind) found found_too in
+    (named_by kind) found found_too in
     let same_name : full ≡ other = one.0 in
     let same_kind : what ≡ kind = named_same what kind one.1 in
     made ∙ (λ i. Resolved (46 ∷ same_name i) (same_kind i)) ∙ sym made_too
@@ -84,7 +84,7 @@ body_same os ps Seen Sees alike scope m g h a b nested =
     let place : g.place ≡ h.place = a.same_place ∙ sym b.same_place in
     let inner = field_scope scope m in
     let fields : g.fields ≡ h.fields = zip_same (IsTypedField os Seen inner) (IsTypedField ps Sees inner)
-      (field_same os ps Seen Sees alike inner) m.fields
+    (field_same os ps Seen Sees alike inner) m.fields
     g.fields h.fields a.fields_typed b.fields_typed in
     let enums : g.enums ≡ h.enums = a.same_enums ∙ sym b.same_enums in
     let oneofs : g.oneofs ≡ h.oneofs = a.same_oneofs ∙ sym b.same_oneofs in
@@ -111,9 +111,9 @@ mutual
       → IsTypedMessage os Seen scope m g → IsTypedMessage ps Sees scope m h → g ≡ h
   message_same os ps Seen Sees alike scope m g h (message s n o body nested) (message s2 n2 o2 body_too nested_too) =
       out_same g h (body_same os ps Seen Sees alike scope (out-MessageDesc m) (out-MessageDesc g)
-        (out-MessageDesc h) body body_too
+      (out-MessageDesc h) body body_too
       (messages_same os ps Seen Sees alike (scoped scope (out-MessageDesc m).name) (out-MessageDesc m).nested
-        (out-MessageDesc g).nested
+      (out-MessageDesc g).nested
       (out-MessageDesc h).nested nested nested_too))
 
   messages_same : (os ps : List Occurrence) (Seen Sees : ℕ → Type 0) → AreSeenAlike os Seen ps Sees
@@ -121,7 +121,7 @@ mutual
       → AreTypedMessages os Seen scope ms gs → AreTypedMessages ps Sees scope ms hs → gs ≡ hs
   messages_same os ps Seen Sees alike scope ms gs hs (none s) (none t) = refl
   messages_same os ps Seen Sees alike scope ms gs hs (more s m g rest made one others)
-    (more t n h remaining made_too one_too others_too) =
+      (more t n h remaining made_too one_too others_too) =
       let first : g ≡ h = message_same os ps Seen Sees alike scope m g h one one_too in
       let behind : made ≡ made_too = messages_same os ps Seen Sees alike scope rest made made_too others others_too in
       λ i. first i ∷ behind i
@@ -144,11 +144,11 @@ method_same : (os ps : List Occurrence) (Seen Sees : ℕ → Type 0) → AreSeen
     → IsTypedMethod os Seen scope m g → IsTypedMethod ps Sees scope m h → g ≡ h
 method_same os ps Seen Sees alike scope m g h a b =
     let input : g.input ≡ h.input = reference_same os ps Seen Sees alike scope m.input g.input h.input a.input_typed
-      b.input_typed in
+    b.input_typed in
     let output : g.output ≡ h.output = reference_same os ps Seen Sees alike scope m.output g.output h.output
-      a.output_typed b.output_typed in
+    a.output_typed b.output_typed in
     let types : method_with m g.input g.output ≡ method_with m h.input h.output =
-      λ i. method_with m (input i) (output i) in
+    λ i. method_with m (input i) (output i) in
     a.same ∙ types ∙ sym b.same
 
 -- a service with its methods
@@ -161,27 +161,34 @@ service_same : (os ps : List Occurrence) (Seen Sees : ℕ → Type 0) → AreSee
 service_same os ps Seen Sees alike scope s g h a b =
     let inner = scoped scope s.name in
     let methods : g.methods ≡ h.methods =
-      zip_same (IsTypedMethod os Seen inner) (IsTypedMethod ps Sees inner) (method_same os ps Seen Sees alike inner)
+    zip_same (IsTypedMethod os Seen inner) (IsTypedMethod ps Sees inner) (method_same os ps Seen Sees alike inner)
     s.methods g.methods h.methods a.methods_typed b.methods_typed in
     a.same ∙ ap (service_with s) methods ∙ sym b.same
 
 -- a file with its messages and services
 abbrev file_with : FileDesc → List MessageDesc → List ServiceDesc → FileDesc
 file_with f messages services =
-    record { name = f.name; «package» = f.«package»; imports = f.imports; messages = messages; enums = f.enums;
-        services = services; options = f.options }
+    record {
+      name = f.name;
+      «package» = f.«package»;
+      imports = f.imports;
+      messages = messages;
+      enums = f.enums;
+      services = services;
+      options = f.options;
+    }
 
 pub file_same : (os ps : List Occurrence) (Seen Sees : ℕ → Type 0) → AreSeenAlike os Seen ps Sees
     → (scope : List ℕ) (f g h : FileDesc)
     → IsTypedIn os Seen scope f g → IsTypedIn ps Sees scope f h → g ≡ h
 file_same os ps Seen Sees alike scope f g h a b =
     let messages : g.messages ≡ h.messages =
-      messages_same os ps Seen Sees alike scope f.messages g.messages h.messages a.messages_typed b.messages_typed in
+    messages_same os ps Seen Sees alike scope f.messages g.messages h.messages a.messages_typed b.messages_typed in
     let services : g.services ≡ h.services =
-      zip_same (IsTypedService os Seen scope) (IsTypedService ps Sees scope) (service_same os ps Seen Sees alike scope)
+    zip_same (IsTypedService os Seen scope) (IsTypedService ps Sees scope) (service_same os ps Seen Sees alike scope)
     f.services g.services h.services a.services_typed b.services_typed in
     let made : file_with f g.messages g.services ≡ file_with f h.messages h.services =
-      λ i. file_with f (messages i) (services i) in
+    λ i. file_with f (messages i) (services i) in
     a.same ∙ made ∙ sym b.same
 
 -- ---- the same rules are broken
@@ -194,8 +201,13 @@ reference_alike os ps Seen Sees alike r x (inl missing) =
 reference_alike os ps Seen Sees alike r x (inr (inl (only, (full, found), at))) =
     inr (inl (only, (full, resolves_alike os ps Seen Sees alike r.scope r.text full name_kind.Enum found), at))
 reference_alike os ps Seen Sees alike r x (inr (inr ((full, found), o, there, packed, at))) =
-    inr (inr ((full, resolves_alike os ps Seen Sees alike r.scope r.text full name_kind.Message found), o,
-      there, packed, at))
+    inr (inr (
+      (full, resolves_alike os ps Seen Sees alike r.scope r.text full name_kind.Message found),
+      o,
+      there,
+      packed,
+      at,
+    ))
 
 pub breaks_alike : (os ps : List Occurrence) (Seen Sees : ℕ → Type 0) → AreSeenAlike os Seen ps Sees
     → (f : FileDesc) (x : Spot) → TypesBreak os Seen f x

@@ -59,7 +59,7 @@ module _ (os : List Occurrence) (Seen : ℕ → Type 0) where
   -- what two lists mean, one behind the other
   zip_split : (rs qs : List Reference) (types : List NamedType) → AllZip (Means os Seen) (rs ++ qs) types
       → (ts : List NamedType) × (us : List NamedType) × (types ≡ ts ++ us) × AllZip (Means os Seen) rs ts
-        × AllZip (Means os Seen) qs us
+      × AllZip (Means os Seen) qs us
   zip_split [] qs types all = ([], types, refl, tt, all)
   zip_split (r ∷ rs) qs [] all = absurd all
   zip_split (r ∷ rs) qs (t ∷ types) all =
@@ -72,7 +72,7 @@ module _ (os : List Occurrence) (Seen : ℕ → Type 0) where
   puts_both rs qs P Q R a b c join h k types rest all is =
       let two = zip_split rs qs types all in
       let first = h two.0 (two.1 ++ rest) two.3
-        (is ∙ ap (λ (zs : List NamedType). zs ++ rest) two.2 ∙ append_assoc two.0 two.1 rest) in
+      (is ∙ ap (λ (zs : List NamedType). zs ++ rest) two.2 ∙ append_assoc two.0 two.1 rest) in
       let second = k two.1 rest two.4 first.0 in
       (second.0, join first.1 second.1)
 
@@ -119,7 +119,7 @@ rest_next now before k y rest j d behind =
 pub filled_next : {X : Type 0} (refs : List ℕ → X → List Reference)
     (Typed : List Occurrence → (ℕ → Type 0) → List ℕ → X → X → Type 0)
     (before now : List X) (k : ℕ) (x y : X) (a b c : List NamedType) → k < length now → x ≡ get_or now k x
-      → length now ≡ length before
+    → length now ≡ length before
     → ((j : ℕ) (d : X) → k ≤ j → get_or now j d ≡ get_or before j d)
     → AreFilled refs Typed (take k before) (take k now) a b → IsFilled refs Typed x y b c
     → AreFilled refs Typed (take (k + 1) before) (take (k + 1) (set now k y)) a c
@@ -127,18 +127,18 @@ filled_next refs Typed before now k x y a b c below at size rest so_far one =
     let within : k < length before = omega arith in
     let here : get_or before k x ≡ x = sym (at ∙ rest k x (le_refl k)) in
     let prefix : take (k + 1) before ≡ take k before ++ x ∷ [] = take_more before k x within
-      ∙ ap (λ z. take k before ++ z ∷ []) here in
+    ∙ ap (λ z. take k before ++ z ∷ []) here in
     rw (prefix, take_more_set now k y below) (filled_more refs Typed (take k before) (take k now) x y a b c so_far one)
 
 -- all items of a list
 pub filled_all : {X : Type 0} (refs : List ℕ → X → List Reference)
     (Typed : List Occurrence → (ℕ → Type 0) → List ℕ → X → X → Type 0)
     (old before now new : List X) (k : ℕ) (a b : List NamedType) → length before ≤ k → before ≡ old → new ≡ now
-      → length now ≡ length before
+    → length now ≡ length before
     → AreFilled refs Typed (take k before) (take k now) a b → AreFilled refs Typed old new a b
 filled_all refs Typed old before now new k a b past is made size all =
     let past_now : length now ≤ k = omega arith in
     let first : take k before ≡ old = take_all k before past ∙ is in
     let last : take k now ≡ new = take_all k now past_now ∙ sym made in
     subst (λ (zs : List _). AreFilled refs Typed zs new a b) first
-      (subst (λ (zs : List _). AreFilled refs Typed (take k before) zs a b) last all)
+    (subst (λ (zs : List _). AreFilled refs Typed (take k before) zs a b) last all)

@@ -53,8 +53,12 @@ asked_at c [] (x ∷ xs) k a all below = absurd all
 asked_at c (m ∷ ms) (x ∷ xs) zero a all below = record { message = m; listed = (0, omega arith, refl); asked = all.0 }
 asked_at c (m ∷ ms) (x ∷ xs) (suc k) a all below =
     let rest = asked_at c ms xs k a all.1 (omega arith) in
-    record { message = rest.message; listed =
-        (suc rest.listed.0, (let h = rest.listed.1 in omega arith), rest.listed.2); asked = rest.asked }
+    record {
+      message = rest.message;
+      listed =
+          (suc rest.listed.0, (let h = rest.listed.1 in omega arith), rest.listed.2);
+      asked = rest.asked;
+    }
 
 -- what is carried at a position
 files_at : (ys : List (Vec ℕ Global)) (k : ℕ) (f : Vec ℕ Global) → k < length ys
@@ -99,7 +103,7 @@ module _ (c : Compilation) (holds : HoldsReplies c) where
       let long = carried_length mode (reach_of c.links) [] (map root (map asked_of xs)) in
       let size : length ys ≡ length xs =
       sym (length-map ys files_of) ∙ ap (λ (l : List (List ℕ)). length l) lists ∙ long
-        ∙ length-map (map asked_of xs) root ∙ length-map xs asked_of in
+      ∙ length-map (map asked_of xs) root ∙ length-map xs asked_of in
       record {
         size = size;
         each = λ k a f below.
@@ -113,7 +117,7 @@ module _ (c : Compilation) (holds : HoldsReplies c) where
             let carried_here = kept_of mode (reach_of c.links) [] (map root (map asked_of xs)) k (get_or ys k f).items
             (ap (λ l. slice_get l k) (sym lists) ∙ files_at ys k f (omega (arith, size, below))) in
             let root_here : root (asked_of (get_or xs k a)) ≡ carried_here.root =
-              same_Some _ _ (sym (root_is xs k a below) ∙ carried_here.at) in
+            same_Some _ _ (sym (root_is xs k a below) ∙ carried_here.at) in
             let good = subst (AreGood c) (sym carried_here.is) (good_from carried_here.kept carried_here.root
             (subst (IsRootWithin (count_of c.links)) root_here (within k a below))) in
             record {

@@ -41,15 +41,15 @@ module _ (f : ℕ → List ℕ) where
   moved_step : (r x : ℕ) (xs : List ℕ) (b : Bool) → b ≡ eqb x r → Contains (x ∷ xs) r
       → (Contains xs r → length (f r) + length (flat_map f (filter (λ g. not (eqb g r)) xs)) ≤ length (flat_map f xs))
       → length (f r)
-        + length (flat_map f (cond (not b) (x ∷ filter (λ g. not (eqb g r)) xs) (filter (λ g. not (eqb g r)) xs)))
-        ≤ length (flat_map f (x ∷ xs))
+      + length (flat_map f (cond (not b) (x ∷ filter (λ g. not (eqb g r)) xs) (filter (λ g. not (eqb g r)) xs)))
+      ≤ length (flat_map f (x ∷ xs))
   moved_step r x xs true e w rest =
       let same = ap (λ y. length (f y)) (eqb-true x r (sym e)) in
       let b = sum_of x xs in let less = some_of f (λ g. not (eqb g r)) xs in omega (arith, same, b, less)
   moved_step r x xs false e w rest = unpush x r xs w _
       (λ here. absurd (not_same x r here e))
       (λ later. let a = sum_of x (filter (λ g. not (eqb g r)) xs) in let b = sum_of x xs in let more = rest later in
-        omega (arith, a, b, more))
+      omega (arith, a, b, more))
 
   moved_short : (r : ℕ) (xs : List ℕ) → Contains xs r
       → length (f r) + length (flat_map f (filter (λ g. not (eqb g r)) xs)) ≤ length (flat_map f xs)

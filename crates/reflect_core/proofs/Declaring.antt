@@ -41,5 +41,5 @@ pub one_is : (c : Compilation) (index : Index) (name : List ℕ) → index ≡ c
     → Declares c name p → o ≡ p
 one_is c index name is once o p d e =
     once.one o p (subst (λ (x : Index). Contains x.occurrences o) (sym is) d.declared)
-      (subst (λ (x : Index). Contains x.occurrences p) (sym is) e.declared)
+    (subst (λ (x : Index). Contains x.occurrences p) (sym is) e.declared)
     (d.named ∙ sym e.named) d.element

@@ -33,7 +33,7 @@ Means c (file_by_name name) x = ((a : ℕ) × IsNamed c.files name a × (x ≡ a
     ⊎ (((a : ℕ) → IsNamed c.files name a → ⊥) × (x ≡ answers.not_found))
 Means c (file_by_symbol name) x =
     ((o : Occurrence) × Declares c name o × (x ≡ answers.file o.file))
-      ⊎ (((o : Occurrence) → Declares c name o → ⊥) × (x ≡ answers.not_found))
+    ⊎ (((o : Occurrence) → Declares c name o → ⊥) × (x ≡ answers.not_found))
 Means c file_by_extension x = x ≡ answers.not_found
 Means c (extension_numbers name) x =
     ((o : Occurrence) × Declares c name o × (o.kind ≡ Some kind.Message) × (x ≡ answers.no_extensions name))
@@ -61,13 +61,19 @@ pub record IsOne (c d : Compilation) : Type 0 where
 
 declares_back : (c d : Compilation) → AreAlike c d → (name : List ℕ) (o : Occurrence) → Declares d name o
     → Declares c name o
-declares_back c d same name o is = record { declared = (same.occurrences o).1 is.declared; named = is.named;
-    element = is.element }
+declares_back c d same name o is = record {
+  declared = (same.occurrences o).1 is.declared;
+  named = is.named;
+  element = is.element;
+}
 
 declares_on : (c d : Compilation) → AreAlike c d → (name : List ℕ) (o : Occurrence) → Declares c name o
     → Declares d name o
-declares_on c d same name o is = record { declared = (same.occurrences o).0 is.declared; named = is.named;
-    element = is.element }
+declares_on c d same name o is = record {
+  declared = (same.occurrences o).0 is.declared;
+  named = is.named;
+  element = is.element;
+}
 
 named_back : (c d : Compilation) → AreAlike c d → (name : List ℕ) (a : ℕ) → IsNamed d.files name a
     → IsNamed c.files name a
@@ -123,7 +129,7 @@ module _ (c d : Compilation) (is : IsOne c d) where
       let host = one_host message x.host y.host first.ask second.ask first.reads second.reads in
       let ask = one_ask message x.host y.host first.ask second.ask first.reads second.reads in
       let answer = one_meaning second.ask x.answer y.answer
-        (means c second.ask x.answer (subst (λ a. IsAnswer c a x.answer) ask first.answered))
+      (means c second.ask x.answer (subst (λ a. IsAnswer c a x.answer) ask first.answered))
       (means d second.ask y.answer second.answered) in
       λ i. record { message = same i; host = host i; answer = answer i }
 
@@ -190,15 +196,15 @@ module _ (c d : Compilation) (is : IsOne c d) where
   carried_alike : (mode : Mode) (sent : List ℕ) (messages : List (List ℕ)) (xs : List Asked)
       → AllZip (IsAsked c) messages xs
       → carried_from mode (reach_of c.links) sent (map root xs) ≡ carried_from mode
-        (reach_of d.links) sent (map root xs)
+      (reach_of d.links) sent (map root xs)
   carried_alike mode sent [] [] all = refl
   carried_alike mode sent [] (x ∷ xs) all = absurd all
   carried_alike mode sent (m ∷ ms) [] all = absurd all
   carried_alike mode sent (m ∷ ms) (x ∷ xs) all =
       let inside : (r : ℕ) → root x ≡ Some r → r < length c.files =
-        λ r at. root_inside all.0.ask x.answer r (means c all.0.ask x.answer all.0.answered) at in
+      λ r at. root_inside all.0.ask x.answer r (means c all.0.ask x.answer all.0.answered) at in
       let head = ap (filter (λ g. repeats mode (root x) g || not (is_member ◌==◌ sent g)))
-        (root_first_alike (root x) inside) in
+      (root_first_alike (root x) inside) in
       let rest = carried_alike mode (sent ++ reached (reach_of c.links) (root x)) ms xs all.1
       ∙ ap (λ l. carried_from mode (reach_of d.links) (sent ++ l) (map root xs)) (reached_alike (root x) inside) in
       λ i. head i ∷ rest i
@@ -209,7 +215,7 @@ module _ (c d : Compilation) (is : IsOne c d) where
       let read = one_reading c.limits (omega (arith, bound)) body x.messages y.messages x.status y.status x.read
       (subst (λ l. ReadsBody l body y.messages y.status) (sym is.same.limits) y.read) in
       let asked = all_asked x.messages x.asked y.asked x.requests
-        (subst (λ ms. AllZip (IsAsked d) ms y.asked) (sym read.0) y.requests) in
+      (subst (λ ms. AllZip (IsAsked d) ms y.asked) (sym read.0) y.requests) in
       let all : replies mode c x.asked ≡ replies mode d y.asked =
       ap (replies_to c x.asked) (carried_alike mode [] x.messages x.asked x.requests)
       ∙ replies_alike x.asked (carried mode (reach_of d.links) (map root x.asked))

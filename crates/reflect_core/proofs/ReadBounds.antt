@@ -17,7 +17,7 @@ module _ {A : Type 0} (size : A → ℕ) (f : ℕ × Value → Option A) (most :
       → size (last_of x (filter_map f (e ∷ filter_map entry_of row))) ≤ most
   last_step e x row None is short here rest =
       subst (λ (l : List A). size (last_of x l) ≤ most) (sym (skip e (filter_map entry_of row) (sym is)))
-        (rest x here) where
+      (rest x here) where
         skip : (e : ℕ × Value) (es : List (ℕ × Value)) → f e ≡ None → filter_map f (e ∷ es) ≡ filter_map f es
         skip e es n = rw n refl
   last_step e x row (Some a) is short here rest =
@@ -38,7 +38,7 @@ module _ {A : Type 0} (size : A → ℕ) (f : ℕ × Value → Option A) (most :
       let own = length-append s.tag (body_text s.body) in
       let len = ap (λ b. length (body_text b)) is ∙ length-append count contents in
       rw is (last_step (s.number, bytes contents) x row (f (s.number, bytes contents)) refl
-        (omega (arith, long, split, own, len)) here rest)
+      (omega (arith, long, split, own, len)) here rest)
   last_go s row x here long rest (four_bytes text) is = rw is (rest x here)
 
   pub last_within : (row : List Spelled) (x : A) → size x ≤ most → length (flat_map text_of row) ≤ most
@@ -73,7 +73,7 @@ member_bound (n, bytes text) a is = pick (nat_eq n 3) (nat_eq n 4) (nat_eq n 5) 
       → (if b3 then Some (file_by_name text) else if b4 then Some (file_by_symbol text) else if b5 then
       Some file_by_extension
       else if b6 then Some (extension_numbers text) else if b7 then Some list_services else None) ≡ Some a
-        → ask_size a ≤ length text
+      → ask_size a ≤ length text
   pick true b4 b5 b6 b7 e = small (file_by_name text) (omega arith) e
   pick false true b5 b6 b7 e = small (file_by_symbol text) (omega arith) e
   pick false false true b6 b7 e = small file_by_extension (omega arith) e
@@ -94,8 +94,8 @@ read_bounds message host asked reads =
     record {
       short_host = subst (λ (l : List ℕ). length l ≤ length message) (sym hosts)
           (last_within (λ (l : List ℕ). length l) host_of (length message) host_bound row [] (omega arith)
-            (omega (arith, whole)));
+          (omega (arith, whole)));
       short_ask = subst (λ a. ask_size a ≤ length message) (sym asks)
           (last_within ask_size member_of (length message) member_bound row nothing (omega arith)
-            (omega (arith, whole)));
+          (omega (arith, whole)));
     }

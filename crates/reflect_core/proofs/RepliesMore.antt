@@ -44,7 +44,7 @@ pub replyable_at : (c : Compilation) (services : List ℕ) (xs : List rust.Asked
     → k < length xs → files ≡ f.items → f ≡ get_or ys k f → IsReplyable c services (asked_of (get_or xs k a)) files
 replyable_at c services xs ys k a f files all below value is =
     subst (λ (l : List ℕ). IsReplyable c services (asked_of (get_or xs k a)) l) (sym (value ∙ ap files_of is))
-      (all.each k a f below)
+    (all.each k a f below)
 
 -- ---- how long is what members hold
 
@@ -73,14 +73,14 @@ pub short_at : (c : Compilation) (services : List ℕ) (xs : List rust.Asked) (y
 short_at c services xs [] lengths k n a all are below = absurd (let size = all.size in omega (arith, size, below))
 short_at c services xs (y ∷ ys) lengths k n a all are below =
     size_short c services (asked_of (get_or xs k a)) (get_or (y ∷ ys) k y).items (get_or lengths k n)
-      (all.each k a y below) (are.each k n a y below)
+    (all.each k a y below) (are.each k n a y below)
 
 pub length_at : (c : Compilation) (xs : List rust.Asked) (ys : List (Vec ℕ Global)) (lengths : List ℕ) (k n : ℕ)
     (a : rust.Asked) (f : Vec ℕ Global)
     (files : List ℕ) → AreContentsLengths c xs ys lengths (length xs) → k < length xs → files ≡ f.items
-      → f ≡ get_or ys k f
+    → f ≡ get_or ys k f
     → get_or lengths k n ≡ length (contents_of c files (asked_of (get_or xs k a)).answer)
 length_at c xs ys lengths k n a f files are below value is =
     subst (λ (l : List ℕ). get_or lengths k n ≡ length (contents_of c l (asked_of (get_or xs k a)).answer))
-      (sym (value ∙ ap files_of is))
+    (sym (value ∙ ap files_of is))
     (are.each k n a f below)

@@ -14,8 +14,8 @@ field_length n bytes =
 parts_length : (host message contents : List ℕ) (member : ℕ)
     → length (host ++ bytes_field 2 message ++ bytes_field member contents)
     ≡ length host
-      + (length (bytes_field 2 message)
-      + (length (varint_bytes (member * 8 + 2)) + (length (varint_bytes (length contents)) + length contents)))
+    + (length (bytes_field 2 message)
+    + (length (varint_bytes (member * 8 + 2)) + (length (varint_bytes (length contents)) + length contents)))
 parts_length host message contents member =
     let whole = length-append (host ++ bytes_field 2 message) (bytes_field member contents) in
     let prefix = length-append host (bytes_field 2 message) in

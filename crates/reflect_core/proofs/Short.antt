@@ -34,7 +34,7 @@ list_short most (name ∷ names) all =
 pub services_short : (c : Compilation) → IsSound c → length (services_bytes c) ≤ 1114636288
 services_short c sound =
     let list = list_short 1023 c.index.services
-      (λ name w. let h = sound.short_services name w in let most = c.limits.full_name_bytes_bound in
+    (λ name w. let h = sound.short_services name w in let most = c.limits.full_name_bytes_bound in
     omega (arith, h, most)) in
     let few = sound.few_services in let most = c.limits.names_bound in
     omega (arith, list, few, most)

@@ -47,7 +47,7 @@ module _ (c : Compilation) (holds : HoldsReplies c) where
       let name = answer_bound c asked.ask x.answer asked.answered in
       let host = bounds.short_host in let ask = bounds.short_ask in
       reply_short c x _ holds.sound (omega (arith, most, short, same)) (omega (arith, host, same))
-        (omega (arith, name, ask, same))
+      (omega (arith, name, ask, same))
       (good_from c holds kept (root x) within).short
 
   all_short : (mode : Mode) (sent : List ℕ) (messages : List (List ℕ)) (xs : List Asked)
@@ -60,9 +60,9 @@ module _ (c : Compilation) (holds : HoldsReplies c) where
   all_short mode sent (m ∷ ms) (x ∷ xs) within allowed asked =
       All-cons IsShort _ _
       (one_short m x (λ g. repeats mode (root x) g || not (is_member ◌==◌ sent g))
-        (All-head (IsAllowed c.limits) m ms allowed) asked.0 (within m x asked.0))
+      (All-head (IsAllowed c.limits) m ms allowed) asked.0 (within m x asked.0))
       (all_short mode (sent ++ reached (reach_of c.links) (root x)) ms xs within
-        (All-tail (IsAllowed c.limits) m ms allowed) asked.1)
+      (All-tail (IsAllowed c.limits) m ms allowed) asked.1)
 
 pub replies_short : (limits : Limits) (sources : List Source) (c : Compilation) (mode : Mode) (body bytes : List ℕ)
     → IsCompiled limits sources c
@@ -73,6 +73,6 @@ replies_short limits sources c mode body bytes of response =
     let one = is_one limits sources c c of of in
     all_short c holds mode [] response.messages response.asked
     (λ message x asked r at. let below =
-      root_inside c c one asked.ask x.answer r (means c asked.ask x.answer asked.answered) at in
+    root_inside c c one asked.ask x.answer r (means c asked.ask x.answer asked.answered) at in
     let linked = holds.sound.linked in omega (arith, below, linked))
     (allowed_of c body response.messages response.status response.read) response.requests

@@ -44,7 +44,7 @@ frame_is rest more size after m z flag n is zero_flag size_is after_is long byte
     let four : length size ≡ 4 = ap (λ (l : List ℕ). length l) size_is ∙ length-take-le 4 more long in
     let spelled : to_be_bytes w32 (length m) ≡ take 4 more =
     ap (λ k. to_be_bytes w32 k) len ∙ be_bytes_4 size n four
-      (subst (λ l. (i : ℕ) → get_or l i 0 < 256) (sym size_is) (get_take_bound 4 more below)) n_is
+    (subst (λ l. (i : ℕ) → get_or l i 0 < 256) (sym size_is) (get_take_bound 4 more below)) n_is
     ∙ size_is in
     is ∙ (λ i. zero_flag i ∷ more)
     ∙ sym ((λ i. 0 ∷ ((spelled i ++ m_is i) ++ z_is i))
@@ -70,9 +70,11 @@ one_frame m n X Y short_m short_n both =
     let is : more ≡ (to_be_bytes w32 (length n) ++ n) ++ Y = tail_is 0 0 _ _ both in
     let cm = cut more m X short_m refl in let cn = cut more n Y short_n is in
     let len : length m ≡ length n = sym cm.size ∙ cn.size in
-    let same : m ++ X ≡ n ++ Y = sym cm.back ∙ cn.back in
-    (sym (take_prefix m X) ∙ (λ i. take (len i) (same i)) ∙ take_prefix n Y, sym (drop_prefix m X)
-      ∙ (λ i. drop (len i) (same i)) ∙ drop_prefix n Y)
+    let same : m ++ X ≡ n ++ Y = sym cm.back ∙ cn.back in (
+      sym (take_prefix m X) ∙ (λ i. take (len i) (same i)) ∙ take_prefix n Y,
+      sym (drop_prefix m X)
+          ∙ (λ i. drop (len i) (same i)) ∙ drop_prefix n Y,
+    )
 
 module _ (limits : Limits) (small : limit_of limits MessageBytes < 4294967296) where
   unique_from : (k : ℕ) (ms ns : List (List ℕ)) (a b : List ℕ) → All (IsAllowed limits) ms → All (IsAllowed limits) ns
@@ -83,26 +85,26 @@ module _ (limits : Limits) (small : limit_of limits MessageBytes < 4294967296) w
   unique_from k [] [] a b pm pn fm fn la lb e = (refl, e)
   unique_from k [] (n ∷ ns) a b pm pn fm fn la lb e =
       absurd (la (omega arith) n (flat_map (frame 0) ns ++ b) (pn 0 n (omega arith))
-        (e ∙ append_assoc (frame 0 n) (flat_map (frame 0) ns) b))
+      (e ∙ append_assoc (frame 0 n) (flat_map (frame 0) ns) b))
   unique_from k (m ∷ ms) [] a b pm pn fm fn la lb e =
       absurd (lb (omega arith) m (flat_map (frame 0) ms ++ a) (pm 0 m (omega arith))
-        (sym e ∙ append_assoc (frame 0 m) (flat_map (frame 0) ms) a))
+      (sym e ∙ append_assoc (frame 0 m) (flat_map (frame 0) ms) a))
   unique_from k (m ∷ ms) (n ∷ ns) a b pm pn fm fn la lb e =
       let X = flat_map (frame 0) ms ++ a in let Y = flat_map (frame 0) ns ++ b in
       let both : frame 0 m ++ X ≡ frame 0 n ++ Y =
       sym (append_assoc (frame 0 m) (flat_map (frame 0) ms) a) ∙ e
-        ∙ append_assoc (frame 0 n) (flat_map (frame 0) ns) b in
+      ∙ append_assoc (frame 0 n) (flat_map (frame 0) ns) b in
       let short_m = (pm 0 m (omega arith)).short in let short_n = (pn 0 n (omega arith)).short in
       let head = one_frame m n X Y (omega arith) (omega arith) both in
       let r = unique_from (k - 1) ms ns a b (λ j d h. pm (suc j) d (omega arith)) (λ j d h. pn (suc j) d (omega arith))
-        (omega arith) (omega arith)
+      (omega arith) (omega arith)
       (λ h. la (omega arith)) (λ h. lb (omega arith)) head.1 in
       (λ i. head.0 i ∷ r.0 i, r.1)
 
 pub one_row : (limits : Limits) → limit_of limits MessageBytes < 4294967296 → HasOneRow limits
 one_row limits small body ms ns a b f g =
     unique_from limits small (limit_of limits Requests) ms ns a b f.allowed g.allowed f.few g.few f.longest g.longest
-      (sym f.row ∙ g.row)
+    (sym f.row ∙ g.row)
 
 pub one_reading : (limits : Limits) → limit_of limits MessageBytes < 4294967296 → HasOneReading limits
 one_reading limits small body ms ns s t f g = elim (cases_lt (limit_of limits BodyBytes) (length body)) [
@@ -120,7 +122,7 @@ size_status : (limits : Limits) (more message after : List ℕ) → Cut more mes
 size_status limits more message after cut short =
     let long : 4 ≤ length more = omega (arith, cut.len) in
     let whole : length message ≤ length (message ++ after) =
-      (let e = length-append message after in omega (arith, e)) in
+    (let e = length-append message after in omega (arith, e)) in
     rw (
       le-ltb (length more) 4 long,
       cut.size,
@@ -144,6 +146,6 @@ other_message limits count rest message after small is other =
           ∙ size_status limits more message after (cut more message after short refl) is.short);
       none = λ room m z allowed row.
           let same = one_frame message m after z short (let h = allowed.short in omega (arith, h, small))
-            (sym is.row ∙ row) in
+          (sym is.row ∙ row) in
           other (subst IsRequest (sym same.0) allowed.request);
     }

@@ -45,13 +45,13 @@ request_is message host asked fields row request =
 pub one_host : (message h k : List ℕ) (a b : Ask) → ReadsRequest message h a → ReadsRequest message k b → h ≡ k
 one_host message h k a b first second =
     first.host_is ∙ ap (λ fields. last_of [] (filter_map host_of fields))
-      (one_list message first.fields second.fields first.row second.row)
+    (one_list message first.fields second.fields first.row second.row)
     ∙ sym second.host_is
 
 pub one_ask : (message h k : List ℕ) (a b : Ask) → ReadsRequest message h a → ReadsRequest message k b → a ≡ b
 one_ask message h k a b first second =
     first.asked_is ∙ ap (λ fields. last_of nothing (filter_map member_of fields))
-      (one_list message first.fields second.fields first.row second.row)
+    (one_list message first.fields second.fields first.row second.row)
     ∙ sym second.asked_is
 
 -- behind some fields: those that are left decide the host and the ask

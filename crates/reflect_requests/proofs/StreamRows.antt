@@ -20,4 +20,4 @@ row_longer body rest after xs m is cut =
     ap (λ l. flat_map (frame 0) l) (longer xs m) ∙ flat_map-append (frame 0) (map bytes_of xs) (bytes_of m ∷ [])
     ∙ ap (λ l. prefix ++ l) (append-nil (frame 0 (bytes_of m))) in
     is ∙ ap (λ l. prefix ++ l) cut ∙ sym (append_assoc prefix (frame 0 (bytes_of m)) after)
-      ∙ ap (λ l. l ++ after) (sym last)
+    ∙ ap (λ l. l ++ after) (sym last)

@@ -37,7 +37,7 @@ output_after old now new xs ys (Err f) first (e, n, p) =
         within = (let all = length-append xs ys in let few = p.within in omega (arith, all, few));
         taken =
             subst (λ l. new.bytes ≡ old.bytes ++ l) (sym cut)
-              (both_taken old now new xs (take n ys) first.taken p.taken);
+            (both_taken old now new xs (take n ys) first.taken p.taken);
         failures = p.failures ∙ ap (λ k. suc k) first.failures;
         contents = subst (λ l. Appends old.contents new.contents l) (sym cut)
             (Appends-trans old.contents now.contents new.contents xs (take n ys) first.contents p.contents);
@@ -83,9 +83,12 @@ all_out old new waiting waiting' (Err f) out none =
 pub straight_out : {B : Type 0} (old new : Writes) (waiting bytes : List ℕ) (done : Result B Failure) → waiting ≡ []
     → IsOutput old new bytes done
     → IsGathered old new waiting waiting bytes done
-straight_out old new waiting bytes (Ok b) none w =
-    (bytes, of_written old new bytes w, ap (λ (l : List ℕ). bytes ++ l) none ∙ append-nil bytes
-      ∙ ap (λ (l : List ℕ). l ++ bytes) (sym none))
+straight_out old new waiting bytes (Ok b) none w = (
+  bytes,
+  of_written old new bytes w,
+  ap (λ (l : List ℕ). bytes ++ l) none ∙ append-nil bytes
+      ∙ ap (λ (l : List ℕ). l ++ bytes) (sym none),
+)
 straight_out old new waiting bytes (Err f) none out =
     subst (λ (l : List ℕ). IsOutput {B = Unit {0}} old new (l ++ bytes) (Err f)) (sym none) out
 
@@ -102,7 +105,7 @@ gathered_after old now new first second third xs ys a (Ok b) (t, before, is) (u,
     contents = Appends-trans old.contents now.contents new.contents t u before.contents after.contents;
   },
   append_assoc t u third ∙ ap (λ (l : List ℕ). t ++ l) next ∙ sym (append_assoc t second ys)
-    ∙ ap (λ (l : List ℕ). l ++ ys) is
+      ∙ ap (λ (l : List ℕ). l ++ ys) is
       ∙ append_assoc first xs ys,
 )
 gathered_after old now new first second third xs ys a (Err f) (t, before, is) out =

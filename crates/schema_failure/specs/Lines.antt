@@ -19,7 +19,7 @@ shown_name name = flat_map shown_char (chars name)
 abbrev pub line_of : Failure → List ℕ
 line_of (failure.Source file line column kind) =
     shown_name (string_bytes file)
-      ++ (codes ":" ++ (decimal line ++ (codes ":" ++ (decimal column ++ (codes ": " ++ name_of kind)))))
+    ++ (codes ":" ++ (decimal line ++ (codes ":" ++ (decimal column ++ (codes ": " ++ name_of kind)))))
 line_of failure.Input = codes "device: input"
 line_of failure.Output = codes "device: output"
 line_of failure.Folder = codes "device: folder"

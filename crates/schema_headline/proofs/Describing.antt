@@ -34,9 +34,11 @@ only_file limits s c is = sym (length-map c.files file_name) ∙ ap length (one_
 -- which has the source's name
 pub first_file : (limits : Limits) (s : Source) (c : Compilation) → IsCompiled limits (s ∷ []) c
     → IsNamed c.files (name_of s) 0
-first_file limits s c is =
-    (let one = only_file limits s c is in
-    omega (arith, one), ap (λ (ns : List (List ℕ)). get_or ns 0 []) (one_name limits s c is))
+first_file limits s c is = (
+  let one = only_file limits s c is in
+      omega (arith, one),
+  ap (λ (ns : List (List ℕ)). get_or ns 0 []) (one_name limits s c is),
+)
 
 pub is_linked : (limits : Limits) (s : Source) (c : Compilation) → IsCompiled limits (s ∷ []) c → 0 < count_of c.links
 is_linked limits s c is =

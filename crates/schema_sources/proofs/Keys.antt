@@ -22,7 +22,7 @@ rising_keys (n ∷ names) sorted k h =
     let all : List (Bor (List ℕ)) = n ∷ names in
     let inside : k + 1 < length all = omega (arith, h, length-map all text_of) in
     ap (λ a. slice_cmp nat_cmp a (get_or (map text_of all) (k + 1) []))
-      (get_or-map text_of all k n [] (omega (arith, inside)))
+    (get_or-map text_of all k n [] (omega (arith, inside)))
     ∙ ap (λ b. slice_cmp nat_cmp (text_of (get_or all k n)) b) (get_or-map text_of all (k + 1) n [] inside)
     ∙ Less-from_sorted text_cmp all k (k + 1) n sorted (omega arith) inside
 

@@ -20,7 +20,7 @@ gives_each R P none more a (x ∷ xs) (y ∷ ys) gives =
     more a x y xs ys (subst (λ k. R k x y) here (gives.1 0 x y refl refl)) (gives_each R P none more (a + 1) xs ys (
       omega (arith, gives.0),
       λ i t o item out. let next : a + suc i ≡ a + 1 + i = omega arith in
-      subst (λ k. R k t o) next (gives.1 (suc i) t o item out),
+          subst (λ k. R k t o) next (gives.1 (suc i) t o item out),
     ))
 
 -- where positions do not matter

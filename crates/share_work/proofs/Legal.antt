@@ -22,7 +22,7 @@ pub least_at-le-NONE : (w : ℕ) (ps : List (ℕ × ℕ)) → least_at w ps ≤ 
 least_at-le-NONE w [] = omega arith
 least_at-le-NONE w (p ∷ ps) = let ih = least_at-le-NONE w ps in
     ⊎_elim (λ (e : p.0 ≡ w). omega (arith, least_here w p ps e))
-      (λ (n : p.0 ≡ w → ⊥). omega (arith, least_else w p ps n)) (cases_eq p.0 w)
+    (λ (n : p.0 ≡ w → ⊥). omega (arith, least_else w p ps n)) (cases_eq p.0 w)
 
 -- a bound of all the numbers at the word bounds the least
 pub least_at-above : (w m : ℕ) (ps : List (ℕ × ℕ)) → m ≤ NONE → ((x : ℕ) → Contains ps (w, x) → m ≤ x)
@@ -32,7 +32,7 @@ least_at-above w m (p ∷ ps) top each =
     let ih = least_at-above w m ps top (λ x h. each x (behind p ps (w, x) h)) in
     ⊎_elim
     (λ (e : p.0 ≡ w). let here : m ≤ p.1 = each p.1 (subst (λ y. Contains (p ∷ ps) (y, p.1)) e (front p ps)) in
-      omega (arith, least_here w p ps e))
+    omega (arith, least_here w p ps e))
     (λ (n : p.0 ≡ w → ⊥). omega (arith, least_else w p ps n)) (cases_eq p.0 w)
 
 pub least_at-below : (w x : ℕ) (ps : List (ℕ × ℕ)) → Contains ps (w, x) → least_at w ps ≤ x
@@ -41,7 +41,7 @@ least_at-below w x (p ∷ ps) h = ⊎_elim
     (λ (e : p ≡ (w, x)). omega (arith, least_here w p ps (λ i. (e i).0), ap (λ (q : ℕ × ℕ). q.1) e))
     (λ (k : Contains ps (w, x)). let ih = least_at-below w x ps k in
     ⊎_elim (λ (e : p.0 ≡ w). omega (arith, least_here w p ps e))
-      (λ (n : p.0 ≡ w → ⊥). omega (arith, least_else w p ps n)) (cases_eq p.0 w))
+    (λ (n : p.0 ≡ w → ⊥). omega (arith, least_else w p ps n)) (cases_eq p.0 w))
     (front_or_behind p ps (w, x) h)
 
 pub least_at-reached : (w : ℕ) (ps : List (ℕ × ℕ)) → (least_at w ps ≡ NONE) ⊎ Contains ps (w, least_at w ps)
@@ -88,7 +88,7 @@ posts_same xs ys same p h = let r = of_map (λ (c : Call). (c.word, c.number)) x
 pub least_at-same : (w : ℕ) (xs ys : List Call) → SameCalls xs ys → least_at w (posts_of xs) ≡ least_at w (posts_of ys)
 least_at-same w xs ys same =
     least_at-members w (posts_of xs) (posts_of ys) (λ x. posts_same xs ys same (w, x))
-      (λ x. posts_same ys xs (λ h. sym (same h)) (w, x))
+    (λ x. posts_same ys xs (λ h. sym (same h)) (w, x))
 
 -- if both fell, they found different numbers
 abbrev pub Apart : ℕ → Call → Call → Type 0
@@ -125,8 +125,12 @@ once_from : (w : ℕ) (cs : List Call) → ((x : ℕ) → count_by (falls_from w
 once_from w [] once = λ i j d a b. absurd (omega arith)
 once_from w (c ∷ cs) once = AllPairs-cons (Apart w) c cs
     (all_of (Apart w c) cs (λ d k mine its e. let p : Call → Bool = falls_from w c.found in
-    absurd (omega (arith, once c.found, count_by-yes p c cs (from_true w c.found c mine refl),
-      count_in p cs d k (from_true w c.found d its (sym e))))))
+    absurd (omega (
+      arith,
+      once c.found,
+      count_by-yes p c cs (from_true w c.found c mine refl),
+      count_in p cs d k (from_true w c.found d its (sym e)),
+    ))))
     (once_from w cs (λ x. omega (arith, once x, sum_by-cons (λ d. cond (falls_from w x d) 1 0) c cs)))
 
 pub IsLegal-same : (xs ys : List Call) → SameCalls xs ys → IsLegal xs → IsLegal ys
@@ -154,8 +158,12 @@ least_falls w xs l = let m : ℕ = least_at w (posts_of xs) in
     (λ (ge : d.found ≤ d.number).
     ⊎_elim
     (λ (e : d.found ≡ NONE). inl (omega (arith, least_at-le-NONE w (posts_of xs))))
-    (λ (f : FellTo w xs d.found). inr (f.0, f.1, f.2,
-      omega (arith, least_at-below w f.0.number (posts_of xs) (post_in w xs f.0 f.1 f.2.0), f.3)))
+    (λ (f : FellTo w xs d.found). inr (
+      f.0,
+      f.1,
+      f.2,
+      omega (arith, least_at-below w f.0.number (posts_of xs) (post_in w xs f.0 f.1 f.2.0), f.3),
+    ))
     (l.linked d r.1 at_w))
     (cases_lt d.number d.found))
     (least_at-reached w (posts_of xs))
@@ -168,8 +176,13 @@ IsLegal-post w n xs lt l = λ v. let m : ℕ = least_at w (posts_of xs) in let c
       (front_or_behind c xs d h);
   once = AllPairs-cons (Apart v) c xs
       (all_of (Apart v c) xs (λ d k mine its e.
-      absurd (omega (arith, e, its.1, least_at-below w d.number (posts_of xs)
-        (post_in w xs d k (its.0 ∙ sym mine.0))))))
+      absurd (omega (
+        arith,
+        e,
+        its.1,
+        least_at-below w d.number (posts_of xs)
+            (post_in w xs d k (its.0 ∙ sym mine.0)),
+      ))))
       (l v).once;
   linked = λ d h at. ⊎_elim
       (λ (e : c ≡ d).

@@ -67,7 +67,7 @@ empty_set : (views : List MarkView) (id : ℕ) (w : MarkView) → (w.least.parts
     → EmptyIfSpent (set views id w)
 empty_set views id w mine old j u e = ⊎_elim
     (λ (x : (j ≡ id) × (w ≡ u)). subst (λ (y : MarkView). y.least.parts ≡ 0 → (y.marks ≡ []) × (y.debt ≡ None)) x.1
-      mine)
+    mine)
     (λ (x : (j ≢ id) × (get_elem? views j ≡ some u)). old j u x.1)
     (at_set views id j w u e)
 
@@ -75,15 +75,23 @@ module _ (views : List MarkView) (id : ℕ) (v : MarkView) (at : get_elem? views
   marks_set : (w : MarkView) (h : ℕ × ℕ → ℕ)
       → sum_by h (all_marks (set views id w)) + sum_by h v.marks ≡ sum_by h (all_marks views) + sum_by h w.marks
   marks_set w h = let f : MarkView → List (ℕ × ℕ) = λ u. u.marks in
-      omega (arith, sum_by-flat_map h f (set views id w), sum_by-flat_map h f views,
-        sum_by-at_set (λ (u : MarkView). sum_by h (f u)) views id v w at)
+      omega (
+        arith,
+        sum_by-flat_map h f (set views id w),
+        sum_by-flat_map h f views,
+        sum_by-at_set (λ (u : MarkView). sum_by h (f u)) views id v w at,
+      )
 
   owed_set : (list : ℕ → List ℕ) (w : MarkView) (h : ℕ × ℕ → ℕ)
       → sum_by h (all_owed list (set views id w)) + sum_by h (owed_of list v) ≡ sum_by h
-        (all_owed list views) + sum_by h (owed_of list w)
+      (all_owed list views) + sum_by h (owed_of list w)
   owed_set list w h = let f : MarkView → List (ℕ × ℕ) = λ u. owed_of list u in
-      omega (arith, sum_by-flat_map h f (set views id w), sum_by-flat_map h f views,
-        sum_by-at_set (λ (u : MarkView). sum_by h (f u)) views id v w at)
+      omega (
+        arith,
+        sum_by-flat_map h f (set views id w),
+        sum_by-flat_map h f views,
+        sum_by-at_set (λ (u : MarkView). sum_by h (f u)) views id v w at,
+      )
 
   -- a post of the new calls is an old one or the new call's
   posted_set : (w : MarkView) (c : Call) → w.least ≡ with_call v.least c → (p : ℕ × ℕ)
@@ -94,10 +102,14 @@ module _ (views : List MarkView) (id : ℕ) (v : MarkView) (at : get_elem? views
       let us : List View = set old id new in
       let k : Contains (posts_of (all_calls us)) p =
       subst (λ (l : List View). Contains (posts_of (all_calls l)) p)
-        (map-set views id w ∙ ap (λ (u : View). set old id u) is) h in
+      (map-set views id w ∙ ap (λ (u : View). set old id u) is) h in
       front_or_behind (c.word, c.number) (posts_of (all_calls old)) p (posts_same (all_calls us) (c ∷ all_calls old)
-      (λ f. omega (arith, calls_set old id v.least (at_view views id v at) new f, sum_by_push f v.least.calls c,
-        sum_by-cons f c (all_calls old))) p k)
+      (λ f. omega (
+        arith,
+        calls_set old id v.least (at_view views id v at) new f,
+        sum_by_push f v.least.calls c,
+        sum_by-cons f c (all_calls old),
+      )) p k)
 
 in_cond : (b : Bool) (ps : List (ℕ × ℕ)) (p : ℕ × ℕ) → Contains (cond b ps []) p → Contains ps p
 in_cond true ps p h = h
@@ -142,7 +154,7 @@ module _ (words : List ℕ) (g n : ℕ) (inside : g + 1 < length words) where
             omega (arith, word_here) in subst P (sym e) here),
       ))
       (λ (ge : slice_index words (g + 1) ≤ n). inr
-        (let P : ℕ → Type 0 = λ y. slice_index after (y + 1) ≡ slice_index words (y + 1) in let here : P g =
+      (let P : ℕ → Type 0 = λ y. slice_index after (y + 1) ≡ slice_index words (y + 1) in let here : P g =
       omega (arith, word_here) in subst P (sym e) here))
       (cases_lt n (slice_index words (g + 1))))
       (λ (ne : h ≡ g → ⊥). inr (word_else h ne)) (cases_eq h g)
@@ -165,18 +177,18 @@ module _ (count : ℕ) (list : ℕ → List ℕ) (words : List ℕ) (views : Lis
 
   pub IsMarked-root : ((r : ℕ) → r < count → Contains (list r) r) → v.debt ≡ None → (r n : ℕ) → r < count → n < NONE
       → IsMarked count list (set words (r + 1) (min (slice_index words (r + 1)) n))
-        (set views id (with_root r (slice_index words (r + 1)) n v))
+      (set views id (with_root r (slice_index words (r + 1)) n v))
   IsMarked-root refl_ none r n inside lt =
       let m : ℕ = slice_index words (r + 1) in let c : Call = call r m n in let w : MarkView = with_root r m n v in
       let ow : List (ℕ × ℕ) = cond (ltb n m) (at_each n (list r)) [] in let ow_is : owed_of list w ≡ ow =
-        owed_root list r n (ltb n m) in
+      owed_root list r n (ltb n m) in
       let ms : List (ℕ × ℕ) = all_marks views in let ms' : List (ℕ × ℕ) = all_marks (set views id w) in
       let room : r + 1 < length words = omega (arith, k.kept.size) in let words' : List ℕ = after words r n room in
       let os : List (ℕ × ℕ) = all_owed list views in let os' : List (ℕ × ℕ) = all_owed list (set views id w) in
       let mark : (h : ℕ × ℕ → ℕ) → sum_by h ms' ≡ sum_by h ((r, n) ∷ ms) =
       λ h. omega (arith, marks_set views id v at w h, sum_by-cons h (r, n) v.marks, sum_by-cons h (r, n) ms) in
       let more : (p : ℕ × ℕ) → Contains ((r, n) ∷ ms) p → Contains ms' p =
-        pairs_in ((r, n) ∷ ms) ms' (λ h. omega (arith, mark h)) in
+      pairs_in ((r, n) ∷ ms) ms' (λ h. omega (arith, mark h)) in
       let later : (p : ℕ × ℕ) → Contains ms p → Contains ms' p = λ p m. more p (behind (r, n) ms p m) in
       let new : Contains ms' (r, n) = more (r, n) (front (r, n) ms) in
       let owe : (h : ℕ × ℕ → ℕ) → sum_by h os' ≡ sum_by h (os ++ ow) = λ h. omega (
@@ -187,26 +199,26 @@ module _ (count : ℕ) (list : ℕ → List ℕ) (words : List ℕ) (views : Lis
         sum_by-append h os ow,
       ) in
       let still : (p : ℕ × ℕ) → Contains (os ++ ow) p → Contains os' p =
-        pairs_in (os ++ ow) os' (λ h. omega (arith, owe h)) in
+      pairs_in (os ++ ow) os' (λ h. omega (arith, owe h)) in
       record {
         kept = kept_post w r n inside lt refl;
         posted = λ g x h. ⊎_elim
             (λ (e : (r, n) ≡ (g, x)). subst (Contains (marked_posts list ms')) e
-              (marked_from list ms' r r n new (refl_ r inside)))
+            (marked_from list ms' r r n new (refl_ r inside)))
             (λ o. marked_more list ms ms' later g x (k.posted g x o))
             (posted_set views id v at w c refl (g, x) h);
         owed = λ g x h. ⊎_elim
             (λ (o : Contains os (g, x)). marked_more list ms ms' later g x (k.owed g x o))
             (λ (o : Contains ow (g, x)). let t =
-              each_to n (list r) g x (in_cond (ltb n m) (at_each n (list r)) (g, x) o) in
+            each_to n (list r) g x (in_cond (ltb n m) (at_each n (list r)) (g, x) o) in
             subst (λ (b : ℕ). Contains (marked_posts list ms') (g, b)) t.0 (marked_from list ms' r g n new t.1))
             (Contains-append_cases os ow (g, x) (pairs_in os' (os ++ ow) (λ h. omega (arith, owe h)) (g, x) h));
         marks = λ s x h. ⊎_elim
             (λ (e : (r, n) ≡ (s, x)). let P : ℕ × ℕ → Type 0 = λ p. (p.0 < count) × (p.1 < NONE)
-              × (slice_index words' (p.0 + 1) ≤ p.1) in
+            × (slice_index words' (p.0 + 1) ≤ p.1) in
             subst P e (inside, lt, omega (arith, word_here words r n room)))
             (λ (o : Contains ms (s, x)). let t = k.marks s x o in
-              (t.0, t.1, omega (arith, word_falls words r n room s, t.2)))
+            (t.0, t.1, omega (arith, word_falls words r n room s, t.2)))
             (front_or_behind (r, n) ms (s, x) (pairs_in ms' ((r, n) ∷ ms) (λ h. omega (arith, mark h)) (s, x) h));
         spread = λ s g in_s reach less. ⊎_elim
             (λ (e : (s ≡ r) × (n < m) × (slice_index words' (s + 1) ≡ n)).
@@ -226,7 +238,7 @@ module _ (count : ℕ) (list : ℕ → List ℕ) (words : List ℕ) (views : Lis
       → (last : Bool) (g n : ℕ) (rest : List (ℕ × ℕ)) → owed_of list v ≡ (g, n) ∷ rest
       → owed_by list (next_debt last v.debt) ≡ rest → g < count
       → IsMarked count list (set words (g + 1) (min (slice_index words (g + 1)) n))
-        (set views id (with_paid last g (slice_index words (g + 1)) n v))
+      (set views id (with_paid last g (slice_index words (g + 1)) n v))
   IsMarked-paid trans last g n rest is rest_is inside =
       let m : ℕ = slice_index words (g + 1) in let c : Call = call g m n in let w : MarkView = with_paid last g m n v in
       let ms : List (ℕ × ℕ) = all_marks views in let ms' : List (ℕ × ℕ) = all_marks (set views id w) in
@@ -243,7 +255,7 @@ module _ (count : ℕ) (list : ℕ → List ℕ) (words : List ℕ) (views : Lis
         sum_by-cons h (g, n) os',
       ) in
       let was : (p : ℕ × ℕ) → Contains ((g, n) ∷ os') p → Contains os p =
-        pairs_in ((g, n) ∷ os') os (λ h. omega (arith, owe h)) in
+      pairs_in ((g, n) ∷ os') os (λ h. omega (arith, owe h)) in
       let was_owed : Contains os (g, n) = was (g, n) (front (g, n) os') in
       let of = marked_to list ms g n (k.owed g n was_owed) in let root : ℕ = of.0 in let its = k.marks root n of.1 in
       -- what was owed still is, or it was this
@@ -253,7 +265,7 @@ module _ (count : ℕ) (list : ℕ → List ℕ) (words : List ℕ) (views : Lis
         kept = kept_post w g n inside its.1 refl;
         posted = λ a x h. ⊎_elim
             (λ (e : (g, n) ≡ (a, x)). subst (Contains (marked_posts list ms')) e
-              (marked_more list ms ms' more g n (k.owed g n was_owed)))
+            (marked_more list ms ms' more g n (k.owed g n was_owed)))
             (λ o. marked_more list ms ms' more a x (k.posted a x o))
             (posted_set views id v at w c refl (a, x) h);
         owed = λ a x h. marked_more list ms ms' more a x (k.owed a x (was (a, x) (behind (g, n) os' (a, x) h)));
@@ -268,13 +280,13 @@ module _ (count : ℕ) (list : ℕ → List ℕ) (words : List ℕ) (views : Lis
             (λ (o : (x : ℕ) × Contains os (a, x) × (x ≤ y)). ⊎_elim
             (λ (q : (g, n) ≡ (a, o.0)). inl (let P : ℕ → Type 0 = λ b. slice_index words' (b + 1) ≤ y in
             let here : P g = omega (arith, word_here words g n room, ap (λ (p : ℕ × ℕ). p.1) q, o.2) in
-              subst P (λ i. (q i).0) here))
+            subst P (λ i. (q i).0) here))
             (λ (p : Contains os' (a, o.0)). inr (o.0, p, o.2))
             (still (a, o.0) o.1)) o in
             ⊎_elim
             (λ (e : (s ≡ g) × (n < m) × (slice_index words' (s + 1) ≡ n)).
             let through : Contains (list root) a =
-              trans root g a its.0 of.2 (subst (λ (b : ℕ). Contains (list b) a) e.0 reach) in
+            trans root g a its.0 of.2 (subst (λ (b : ℕ). Contains (list b) a) e.0 reach) in
             let y : ℕ = slice_index words (root + 1) in
             let small : y ≤ n = its.2 in
             ⊎_elim (λ le. inl (omega (arith, e.2)))
@@ -282,7 +294,7 @@ module _ (count : ℕ) (list : ℕ → List ℕ) (words : List ℕ) (views : Lis
             (settle y (k.spread root a its.0 through (omega (arith, its.1)))))
             (λ (e : slice_index words' (s + 1) ≡ slice_index words (s + 1)). ⊎_elim (λ le. inl (omega arith))
             (λ (o : (x : ℕ) × Contains os' (a, x) × (x ≤ slice_index words (s + 1))). inr
-              (o.0, o.1, omega (arith, o.2)))
+            (o.0, o.1, omega (arith, o.2)))
             (settle (slice_index words (s + 1)) (k.spread s a in_s reach (omega arith))))
             (word_cases words g n room s);
         empty = empty_set views id w (λ (z : w.least.parts ≡ 0). absurd (omega arith)) k.empty;
@@ -324,13 +336,13 @@ module _ (count : ℕ) (list : ℕ → List ℕ) (words : List ℕ) (views : Lis
   IsMarked-split j pos lt =
       let l : MarkView =
       mark_left j v in let r : MarkView = mark_right j v in let vs : List MarkView = set views id l in
-          let views' : List MarkView = vs ++ r ∷ [] in
+      let views' : List MarkView = vs ++ r ∷ [] in
       let old : List View = all_views views in
       let path : set old id l.least ++ r.least ∷ [] ≡ all_views views' =
       ap (λ (u : List View). u ++ r.least ∷ []) (sym (map-set views id l)) ∙ sym (map-last vs r) in
       IsMarked-views count list words views id v at some_part k views'
       (subst (λ (u : List View). IsKept count words u) path
-        (IsKept-split count words old id v.least (at_view views id v at) some_part k.kept j pos lt))
+      (IsKept-split count words old id v.least (at_view views id v at) some_part k.kept j pos lt))
       (subst (λ (u : List View). SameCalls (all_calls u) (all_calls old)) path (λ f.
       let calls : View → List Call = λ u. u.calls in let us : List View = set old id l.least in omega (
         arith,
@@ -340,8 +352,13 @@ module _ (count : ℕ) (list : ℕ → List ℕ) (words : List ℕ) (views : Lis
         sum_by_push (λ (u : View). sum_by f (calls u)) us r.least,
       )))
       (λ h. let f : MarkView → List (ℕ × ℕ) = λ u. u.marks in
-      omega (arith, marks_set views id v at l h, sum_by-flat_map h f views', sum_by-flat_map h f vs,
-        sum_by_push (λ (u : MarkView). sum_by h (f u)) vs r))
+      omega (
+        arith,
+        marks_set views id v at l h,
+        sum_by-flat_map h f views',
+        sum_by-flat_map h f vs,
+        sum_by_push (λ (u : MarkView). sum_by h (f u)) vs r,
+      ))
       (λ h. let f : MarkView → List (ℕ × ℕ) = λ u. owed_of list u in
       omega (
         arith,
@@ -352,17 +369,17 @@ module _ (count : ℕ) (list : ℕ → List ℕ) (words : List ℕ) (views : Lis
         sum_by_push (λ (u : MarkView). sum_by h (f u)) vs r,
       ))
       (λ i u e z. ⊎_elim
-        (λ (x : get_elem? vs i ≡ some u). empty_set views id l
-        (λ (b : l.least.parts ≡ 0). absurd (omega arith)) k.empty i u x z)
+      (λ (x : get_elem? vs i ≡ some u). empty_set views id l
+      (λ (b : l.least.parts ≡ 0). absurd (omega arith)) k.empty i u x z)
       (λ (x : r ≡ u). let b : j ≡ u.least.parts = ap (λ (y : MarkView). y.least.parts) x in absurd (omega arith))
-        (at_snoc vs r u i e))
+      (at_snoc vs r u i e))
 
   pub IsMarked-join : (other : ℕ) (w : MarkView) → w.debt ≡ None
       → get_elem? (set views id (mark_both v w)) other ≡ some w
       → (¬ (other ≡ id)) → IsMarked count list words (set (set views id (mark_both v w)) other mark_spent)
   IsMarked-join other w none' at' apart =
       let b : MarkView = mark_both v w in let vs : List MarkView = set views id b in let views' : List MarkView =
-        set vs other mark_spent in
+      set vs other mark_spent in
       let old : List View = all_views views in let us : List View = set old id b.least in
       let path : set us other spent ≡ all_views views' =
       ap (λ (u : List View). set u other spent) (sym (map-set views id b)) ∙ sym (map-set vs other mark_spent) in
@@ -370,7 +387,7 @@ module _ (count : ℕ) (list : ℕ → List ℕ) (words : List ℕ) (views : Lis
       subst (λ (u : List View). get_elem? u other ≡ some w.least) (map-set views id b) (at_view vs other w at') in
       IsMarked-views count list words views id v at some_part k views'
       (subst (λ (u : List View). IsKept count words u) path
-        (IsKept-join count words old id v.least (at_view views id v at) some_part k.kept other w.least
+      (IsKept-join count words old id v.least (at_view views id v at) some_part k.kept other w.least
       at_w))
       (subst (λ (u : List View). SameCalls (all_calls u) (all_calls old)) path (λ f. omega (
         arith,
@@ -378,8 +395,12 @@ module _ (count : ℕ) (list : ℕ → List ℕ) (words : List ℕ) (views : Lis
         calls_set us other w.least at_w spent f,
         sum_by-append f v.least.calls w.least.calls,
       )))
-      (λ h. omega (arith, marks_set views id v at b h, marks_set vs other w at' mark_spent h,
-        sum_by-append h v.marks w.marks))
+      (λ h. omega (
+        arith,
+        marks_set views id v at b h,
+        marks_set vs other w at' mark_spent h,
+        sum_by-append h v.marks w.marks,
+      ))
       (λ h. omega (
         arith,
         owed_set views id v at list b h,
@@ -388,7 +409,7 @@ module _ (count : ℕ) (list : ℕ → List ℕ) (words : List ℕ) (views : Lis
         ap (λ (y : Option Debt). sum_by h (owed_by list y)) none',
       ))
       (empty_set vs other mark_spent (λ z. (refl, refl))
-        (empty_set views id b (λ (z : b.least.parts ≡ 0). absurd (omega arith)) k.empty))
+      (empty_set views id b (λ (z : b.least.parts ≡ 0). absurd (omega arith)) k.empty))
 
 abbrev pub mark_holds : ℕ → (ℕ → List ℕ) → State (Unit {0}) MarkView → Type 0
 mark_holds count list s = IsMarked count list s.words s.views
@@ -404,11 +425,11 @@ module _ (count : ℕ) (list : ℕ → List ℕ) (slots id : ℕ) (v : MarkView)
         keeps,
         tt,
         subst (λ (y : ℕ). IsMarked count list (set s.words (r + 1) (min m n)) (set s.views id (with_root y m n v)))
-          (back r)
+            (back r)
             (IsMarked-root count list s.words s.views id v at pos k refl_ none r n inside lt),
         (
           subst (λ (y : ℕ). m ≤ known y v.least) (back r)
-            (held-le-known count s.words (all_views s.views) id v.least (at_view s.views id v at) pos k.kept r
+              (held-le-known count s.words (all_views s.views) id v.least (at_view s.views id v at) pos k.kept r
               inside),
           refl,
         ),
@@ -418,14 +439,14 @@ module _ (count : ℕ) (list : ℕ → List ℕ) (slots id : ℕ) (v : MarkView)
       → (last : Bool) (g n : ℕ) (rest : List (ℕ × ℕ)) → owed_of list v ≡ (g, n) ∷ rest
       → owed_by list (next_debt last v.debt) ≡ rest → g < count
       → Allows (mark_holds count list) slots id (v, cs) (g + 1) (λ x. min x n)
-        (λ found after. after ≡ (with_paid last (g + 1 - 1) found n v, cs))
+      (λ found after. after ≡ (with_paid last (g + 1 - 1) found n v, cs))
   paid_allows trans last g n rest is rest_is inside s k homes at small =
       let m : ℕ = slice_index s.words (g + 1) in (
         with_paid last (g + 1 - 1) m n v,
         keeps,
         tt,
         subst (λ (y : ℕ). IsMarked count list (set s.words (g + 1) (min m n)) (set s.views id (with_paid last y m n v)))
-          (back g)
+            (back g)
             (IsMarked-paid count list s.words s.views id v at pos k trans last g n rest is rest_is inside),
         refl,
       )
@@ -436,13 +457,19 @@ module _ (count : ℕ) (list : ℕ → List ℕ) (slots id : ℕ) (v : MarkView)
   mark_count_allows s k homes at small =
       let m : ℕ = slice_index s.words 0 in
       let words : IsMarked count list (set s.words 0 m) s.views =
-        subst (λ (l : List ℕ). IsMarked count list l s.views) (sym (set-get_or s.words 0 0)) k in (
+      subst (λ (l : List ℕ). IsMarked count list l s.views) (sym (set-get_or s.words 0 0)) k in (
         v,
         keeps,
         tt,
         subst (λ (l : List MarkView). IsMarked count list (set s.words 0 m) l) (sym (set_again s.views id v at)) words,
-        (omega (arith, sum_by-at (λ (u : View). u.parts) (all_views s.views) id v.least (at_view s.views id v at),
-          k.kept.parts), refl),
+        (
+          omega (
+            arith,
+            sum_by-at (λ (u : View). u.parts) (all_views s.views) id v.least (at_view s.views id v at),
+            k.kept.parts,
+          ),
+          refl,
+        ),
       )
 
 pub mark_splits : (count : ℕ) (list : ℕ → List ℕ) (id j : ℕ) (v : MarkView) → v.debt ≡ None → 0 < j → j < v.least.parts
@@ -475,9 +502,11 @@ only_one list [] id v at empty e = absurd (some-ne-none v (sym at))
 only_one list (u ∷ us) zero v at empty e =
     let same = some-injective u v at in let parts = sum_by-cons (λ (u : View). u.parts) u.least (all_views us) in
     let rest = none_left list us (λ id w a. empty (suc id) w a)
-      (omega (arith, ap (λ (y : MarkView). y.least.parts) same)) in
-    ((λ i. (same i).marks ++ rest.0 i) ∙ append-nil v.marks, (λ i. owed_of list (same i) ++ rest.1 i)
-      ∙ append-nil (owed_of list v))
+    (omega (arith, ap (λ (y : MarkView). y.least.parts) same)) in (
+      (λ i. (same i).marks ++ rest.0 i) ∙ append-nil v.marks,
+      (λ i. owed_of list (same i) ++ rest.1 i)
+          ∙ append-nil (owed_of list v),
+    )
 only_one list (u ∷ us) (suc id) v at empty e =
     let parts = sum_by-cons (λ (u : View). u.parts) u.least (all_views us) in let mine =
     sum_by-at (λ (u : View). u.parts) (all_views us) id v.least (at_view us id v at) in
@@ -509,23 +538,23 @@ mark_closes count list id v ws xs all none f =
       size = base.size;
       least = λ w inside.
           let word : slice_index s.words (w + 1) ≡ slice_index ws (w + 1) =
-            ap (λ (l : List ℕ). slice_index l (w + 1)) f.2 in
+          ap (λ (l : List ℕ). slice_index l (w + 1)) f.2 in
           let it : ℕ = slice_index s.words (w + 1) in
           let ps : List (ℕ × ℕ) = marked_posts list (all_marks s.views) in
           let cs : List Call = all_calls (all_views s.views) in
           let is : it ≡ least_at w (posts_of cs) = k.kept.least w inside in
           let low : least_at w ps ≤ it = ⊎_elim
-            (λ (e : least_at w (posts_of cs) ≡ NONE). omega (arith, least_at-le-NONE w ps))
+          (λ (e : least_at w (posts_of cs) ≡ NONE). omega (arith, least_at-le-NONE w ps))
           (λ (h : Contains (posts_of cs) (w, least_at w (posts_of cs))). omega
           (arith, least_at-below w (least_at w (posts_of cs)) ps (k.posted w (least_at w (posts_of cs)) h)))
           (least_at-reached w (posts_of cs)) in
           let high : it ≤ least_at w ps = least_at-above w it ps (omega (arith, least_at-le-NONE w (posts_of cs)))
-            (λ x h.
+          (λ x h.
           let t = marked_to list (all_marks s.views) w x h in let m = k.marks t.0 x t.1 in
           ⊎_elim (λ le. omega (arith, m.2))
           (λ (o : (y : ℕ) × Contains (all_owed list s.views) (w, y) × (y ≤ slice_index s.words (t.0 + 1))).
           absurd (none_in (w, o.0)
-            (subst (λ l. Contains l (w, o.0)) (only.1 ∙ ap (λ (y : Option Debt). owed_by list y) none) o.1)))
+          (subst (λ l. Contains l (w, o.0)) (only.1 ∙ ap (λ (y : Option Debt). owed_by list y) none) o.1)))
           (k.spread t.0 w m.0 t.2 (omega (arith, m.1, m.2)))) in
           omega (arith, word, low, high, ap (λ (l : List (ℕ × ℕ)). least_at w (marked_posts list l)) only.0);
       posted = base.least;

@@ -21,7 +21,7 @@ pub record IsPaying (v u : MarkView) (root n k : ℕ) (files : List ℕ) : Type 
 
 pub get_some : (files : List ℕ) (k g : ℕ) → slice_get files k ≡ Some g
     → (k < length files) × (take (suc k) files ≡ take k files ++ g ∷ []) × (drop k files ≡ g ∷ drop (suc k) files)
-      × Contains files g
+    × Contains files g
 get_some [] k g e = absurd (cc)
 get_some (x ∷ xs) zero g e =
     let is : x ≡ g = cc in (omega arith, ap (λ (y : ℕ). y ∷ []) is, ap (λ (y : ℕ). y ∷ xs) is, (0, omega arith, is))
@@ -65,7 +65,7 @@ pub debt_now : (v u : MarkView) (root n k : ℕ) (files : List ℕ) → IsPaying
     → u.debt ≡ Some (make_debt root n k)
 debt_now v u root n k files p lt = ap (λ (y : MarkView). y.debt) p.view
     ∙ ap (λ (b : Bool). cond b None (Some (make_debt root n k)))
-      (ne_eqb k (length files) (λ (z : k ≡ length files). absurd (omega arith)))
+    (ne_eqb k (length files) (λ (z : k ≡ length files). absurd (omega arith)))
 
 pub paying_more : (v u w : MarkView) (root n k : ℕ) (files : List ℕ) (g found : ℕ) → IsPaying v u root n k files
     → slice_get files k ≡ Some g
@@ -80,7 +80,7 @@ paying_more v u w root n k files g found p e is =
       view = is
           ∙ ap (λ (y : MarkView). with_calls y (c ∷ []) (debt_at root n (k + 1) files)) p.view
           ∙ (λ i. mark_view (make_view v.least.parts (append_assoc v.least.calls p.later (c ∷ []) i) v.least.told)
-            v.marks (debt_at root n (k + 1) files));
+          v.marks (debt_at root n (k + 1) files));
       position = omega (arith, s.0);
     }
 
@@ -107,10 +107,10 @@ owed_next list v root n k g last d e is =
     ap (λ (y : Option Debt). owed_by list y) (next_is root n k files v last d is) in
     path ∙ ⊎_elim
     (λ (end : k + 1 ≡ length files). ap (λ (b : Bool). owed_by list (cond b None (Some (make_debt root n (k + 1)))))
-      (eq-eqb (k + 1) (length files) end)
+    (eq-eqb (k + 1) (length files) end)
     ∙ ap (λ (l : List ℕ). at_each n l) (sym (drop_all (suc k) files (omega arith))))
     (λ (more : k + 1 ≡ length files → ⊥). ap
-      (λ (b : Bool). owed_by list (cond b None (Some (make_debt root n (k + 1))))) (ne_eqb (k + 1) (length files) more)
+    (λ (b : Bool). owed_by list (cond b None (Some (make_debt root n (k + 1))))) (ne_eqb (k + 1) (length files) more)
     ∙ ap (λ (j : ℕ). at_each n (drop j files)) (add-one k))
     (cases_eq (k + 1) (length files))
 
@@ -121,7 +121,7 @@ pub paid_is : (root n k g found : ℕ) (files : List ℕ) (v w : MarkView) (last
 paid_is root n k g found files v w last d is e = let back : g + 1 - 1 ≡ g = omega arith in
     e ∙ ap (λ (y : ℕ). with_paid last y found n v) back
     ∙ (λ i. mark_view (make_view v.least.parts (v.least.calls ++ call g found n ∷ []) v.least.told) v.marks
-      (next_is root n k files v last d is i))
+    (next_is root n k files v last d is i))
 
 pub paying_all : (v u : MarkView) (root n k : ℕ) (files : List ℕ) → IsPaying v u root n k files
     → slice_get files k ≡ None
@@ -131,5 +131,5 @@ paying_all v u root n k files p e = let r = get_none files k e in
       p.later,
       p.posted ∙ ap (λ (l : List ℕ). at_each n l) r.0,
       p.view ∙ ap (λ (b : Bool). with_calls v p.later (cond b None (Some (make_debt root n k))))
-        (eq-eqb k (length files) end),
+          (eq-eqb k (length files) end),
     )

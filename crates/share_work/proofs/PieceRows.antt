@@ -154,7 +154,7 @@ module _ {T O V R : Type 0} (gives : ℕ → T → O → Type 0) (outs_of : V �
   pub rows_turned : (p : ℕ) (r r' : R) (rest : List R) (y : V)
       → GivesRows gives outs_of parts_of workers cut items p workers (r ∷ rest)
       → parts_of r ≡ y ∷ parts_of r' → GivesRows gives outs_of parts_of workers cut items (p + 1) workers
-        (rest ++ r' ∷ [])
+      (rest ++ r' ∷ [])
   rows_turned p r r' rest y h is = record {
     len = length-append rest (r' ∷ []) ∙ (let n = h.len in omega arith);
     each = λ j q e. elim (found_in rest (r' ∷ []) j q e) [
@@ -182,7 +182,7 @@ module _ {T O V R : Type 0} (gives : ℕ → T → O → Type 0) (outs_of : V �
 take_over : {X : Type 0} (n : ℕ) (xs : List X) → length xs ≤ n → take n xs ≡ xs
 take_over n xs le =
     sym (take_min n xs) ∙ ap (λ k. take k xs) (let e : min n (length xs) ≡ length xs = omega arith in e)
-      ∙ take-length xs
+    ∙ take-length xs
 
 module _ {T O : Type 0} (gives : ℕ → T → O → Type 0) (cut : ℕ) (items : List T) where
   pub gives_none : GivesUpTo gives cut items 0 []
@@ -218,12 +218,12 @@ module _ {T : Type 0} (adds : ℕ → T → ℕ → ℕ → Type 0) (workers cut
   pub piece_adds : (len first : ℕ) (part : List T) → first ≡ (w + len * workers) * cut
       → part ≡ take cut (drop first items)
       → (x n k : ℕ) → k ≡ len → AddsSome adds ((w + k * workers) * cut)
-        (take cut (drop ((w + k * workers) * cut) items)) x n → AddsSome adds first part x n
+      (take cut (drop ((w + k * workers) * cut) items)) x n → AddsSome adds first part x n
   piece_adds len first part at is x n k same h =
       let P : ℕ → Type 0 = λ f. AddsSome adds f (take cut (drop f items)) x n in
       let Q : List T → Type 0 = λ p. AddsSome adds first p x n in
       let K : ℕ → Type 0 = λ j. AddsSome adds ((w + j * workers) * cut)
-        (take cut (drop ((w + j * workers) * cut) items)) x n in
+      (take cut (drop ((w + j * workers) * cut) items)) x n in
       subst Q (sym is) (subst P (sym at) (subst K same h))
 
   -- past the end nothing is added
@@ -234,7 +234,7 @@ module _ {T : Type 0} (adds : ℕ → T → ℕ → ℕ → Type 0) (workers cut
     | inl lt ↦ lt
     | inr le ↦
         let none : take cut (drop ((w + k * workers) * cut) items) ≡ [] =
-          ap (λ l. take cut l) (drop_of_length-le items le) ∙ take-nil cut in
+        ap (λ l. take cut l) (drop_of_length-le items le) ∙ take-nil cut in
         let Q : List T → Type 0 = λ l. slice_get l h.0 ≡ Some h.1 in
         let bad : None ≡ Some h.1 = subst Q none h.2 in absurd (search rules)
   ]
@@ -351,7 +351,7 @@ module _ {S : Type 0} (number : S → ℕ) where
       → KeepsNumbers number (low ++ high) (low' ++ high')
   numbers_joined low high low' high' a b =
       map-append number low' high' ∙ ap (λ l. l ++ map number high') a ∙ ap (λ l. map number low ++ l) b
-        ∙ sym (map-append number low high)
+      ∙ sym (map-append number low high)
 
 -- where what stands on two results went well, both did
 pub OnOk-first : {A B C E : Type 0} (r : Result C E) (a : Result A E) (b : Result B E)
@@ -401,7 +401,7 @@ pub takes_part : {T : Type 0} (takes : ℕ → T → Type 0) (items part : List 
     → TakesAll takes first part
 takes_part takes items part first c is all i t e =
     let at : slice_get items (first + i) ≡ Some t = sym (get_drop first items i)
-      ∙ take_get c (drop first items) i t (ap (λ l. slice_get l i) (sym is) ∙ e) in
+    ∙ take_get c (drop first items) i t (ap (λ l. slice_get l i) (sym is) ∙ e) in
     let P : ℕ → Type 0 = λ k. takes k t in let same : 0 + (first + i) ≡ first + i = omega arith in
     subst P same (all (first + i) t at)
 
@@ -429,7 +429,7 @@ module _ {S T : Type 0} (holds : S → ℕ → ℕ → Type 0) (adds : ℕ → T
           let end = past (omega arith) in
           let up = rising (from + j) h.0 0 workers cut (omega arith) in
           let on : from * cut ≤ (from + j + 0 * workers) * cut =
-            mul-le-mul_right cut (let none : 0 * workers ≡ 0 = zero-mul workers in omega arith) in
+          mul-le-mul_right cut (let none : 0 * workers ≡ 0 = zero-mul workers in omega arith) in
           absurd (omega arith);
     };
   }
@@ -446,7 +446,7 @@ module _ {T O V R : Type 0} (gives : ℕ → T → O → Type 0) (outs_of : V �
         whole = λ k inside.
             let up = rising (from + n) k 0 workers cut (omega arith) in
             let on : (from + n) * cut ≤ (from + n + 0 * workers) * cut =
-              mul-le-mul_right cut (let zeros : 0 * workers ≡ 0 = zero-mul workers in omega arith) in
+            mul-le-mul_right cut (let zeros : 0 * workers ≡ 0 = zero-mul workers in omega arith) in
             absurd (omega arith);
       } in
       let P : List V → Type 0 = λ l. GivesRow gives outs_of workers cut items (from + n) l in

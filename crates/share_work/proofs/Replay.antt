@@ -55,9 +55,11 @@ module _ (w m : ℕ) (c : Call) (cs : List Call) (pairs : AllPairs MayFollow (c 
 
 finds_least : (w m : ℕ) (ys : List Call) → AllPairs MayFollow ys → LinkedFrom w m ys → Finds m ys
 finds_least w m [] pairs linked = tt
-finds_least w m (c ∷ cs) pairs linked =
-    (first_finds w m c cs pairs linked, finds_least w (min m c.number) cs (pairs_rest MayFollow c cs pairs)
-      (next_linked w m c cs pairs linked))
+finds_least w m (c ∷ cs) pairs linked = (
+  first_finds w m c cs pairs linked,
+  finds_least w (min m c.number) cs (pairs_rest MayFollow c cs pairs)
+      (next_linked w m c cs pairs linked),
+)
 
 each_finds : (w m : ℕ) (ys : List Call) → m ≤ NONE → ((c : Call) → Contains ys c → c.word ≡ w) → Finds m ys
     → (i : ℕ) (d : Call) → i < length ys
@@ -76,8 +78,12 @@ replays w calls l ys o =
     λ c h. of_filter at_w calls c (Contains-permutation ys zs c (IsPermutation-sym zs ys o.same) h) in
     let at : (c : Call) → Contains ys c → c.word ≡ w = λ c h. eqb-true c.word w (was c h).1 in
     let linked : LinkedFrom w NONE ys = λ c h. ⊎_elim (λ a. inl a)
-    (λ b. inr (b.0, Contains-permutation zs ys b.0 o.same (in_filter at_w calls b.0 b.1 (eq-eqb b.0.word w b.2.0)), b.2,
-      b.3))
+    (λ b. inr (
+      b.0,
+      Contains-permutation zs ys b.0 o.same (in_filter at_w calls b.0 b.1 (eq-eqb b.0.word w b.2.0)),
+      b.2,
+      b.3,
+    ))
     (l.linked c (was c h).0 (at c h)) in
     λ i d h. omega (
       arith,
@@ -100,7 +106,7 @@ either w c d cw dw apart = ⊎_elim (λ (a : d.found < c.found). inl (inl a))
     (λ (ge : d.found ≤ c.found). let same : c.found ≡ d.found = omega arith in
     ⊎_elim (λ (cf : c.number < c.found).
     ⊎_elim (λ (df : d.number < d.found). absurd (apart (cw, cf) (dw, df) same))
-      (λ (dn : d.found ≤ d.number). inr (inr (same, dn)))
+    (λ (dn : d.found ≤ d.number). inr (inr (same, dn)))
     (cases_lt d.number d.found))
     (λ (cn : c.found ≤ c.number). inl (inr (sym same, cn))) (cases_lt c.number c.found))
     (cases_lt c.found d.found)) (cases_lt d.found c.found)
@@ -111,21 +117,23 @@ Ordered xs = (ys : List Call) × IsPermutation xs ys × AllPairs MayFollow ys
 
 placed : (c : Call) (ys : List Call) → ((d : Call) → Contains ys d → MayFollow c d ⊎ MayFollow d c)
     → AllPairs MayFollow ys → Ordered (c ∷ ys)
-placed c [] f pairs =
-    (c ∷ [], IsPermutation-refl (c ∷ []),
-    AllPairs-cons MayFollow c [] (all_of (MayFollow c) [] (λ d h. absurd (none_in d h))) pairs)
+placed c [] f pairs = (
+  c ∷ [],
+  IsPermutation-refl (c ∷ []),
+  AllPairs-cons MayFollow c [] (all_of (MayFollow c) [] (λ d h. absurd (none_in d h))) pairs,
+)
 placed c (d ∷ ds) f pairs = ⊎_elim
     (λ (a : MayFollow c d). (
       c ∷ d ∷ ds,
       IsPermutation-refl (c ∷ d ∷ ds),
       AllPairs-cons MayFollow c (d ∷ ds)
-        (all_of (MayFollow c) (d ∷ ds) (λ e h. ⊎_elim (λ (s : d ≡ e). subst (MayFollow c) s a)
+          (all_of (MayFollow c) (d ∷ ds) (λ e h. ⊎_elim (λ (s : d ≡ e). subst (MayFollow c) s a)
           (λ k. follows_on c d e a (pairs_first MayFollow d ds pairs e k)) (front_or_behind d ds e h))) pairs,
     ))
     (λ (b : MayFollow d c). let r = placed c ds (λ e h. f e (behind d ds e h)) (pairs_rest MayFollow d ds pairs) in (
       d ∷ r.0,
       IsPermutation-trans (c ∷ d ∷ ds) (d ∷ c ∷ ds) (d ∷ r.0) (IsPermutation-middle (c ∷ []) d ds)
-        (IsPermutation-cons d (c ∷ ds) r.0 r.1),
+          (IsPermutation-cons d (c ∷ ds) r.0 r.1),
       AllPairs-cons MayFollow d r.0 (all_of (MayFollow d) r.0 (λ e h. ⊎_elim (λ (s : c ≡ e). subst (MayFollow d) s b)
           (λ k. pairs_first MayFollow d ds pairs e k)
           (front_or_behind c ds e (Contains-permutation r.0 (c ∷ ds) e (IsPermutation-sym (c ∷ ds) r.0 r.1) h)))) r.2,
@@ -144,5 +152,5 @@ pub calls_replay : CallsReplay
 calls_replay w calls l =
     let at_w : Call → Bool = λ c. c.word == w in
     let o = ordered w (filter at_w calls) (λ c h. eqb-true c.word w (of_filter at_w calls c h).1)
-      (AllPairs-filter (Apart w) at_w calls l.once) in
+    (AllPairs-filter (Apart w) at_w calls l.once) in
     ((o.0, record { same = o.1; falling_last = o.2 }), replays w calls l)

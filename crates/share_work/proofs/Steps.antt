@@ -27,13 +27,13 @@ module _ (views : List View) (id : ℕ) (v : View) (at : get_elem? views id ≡ 
       let calls : List Call = all_calls views in
       let P : ℕ × ℕ → Type 0 = λ p. (p.1 ≡ NONE) ⊎ Contains (posts_of calls) p in
       let in_all : (c : Call) → Contains v.calls c → Contains calls c =
-        λ c k. in_flat (λ (u : View). u.calls) views v c (at_in views id v at) k in
+      λ c k. in_flat (λ (u : View). u.calls) views v c (at_in views id v at) k in
       ⊎_elim
       (λ k. ⊎_elim
       (λ j. let r = of_map (λ (c : Call). (c.word, c.found)) v.calls (w, x) j in
       subst P r.2
-        (⊎_elim (λ a. inl a)
-        (λ b. inr (subst (λ y. Contains (posts_of calls) (r.0.word, y)) b.3 (post_in r.0.word calls b.0 b.1 b.2.0)))
+      (⊎_elim (λ a. inl a)
+      (λ b. inr (subst (λ y. Contains (posts_of calls) (r.0.word, y)) b.3 (post_in r.0.word calls b.0 b.1 b.2.0)))
       ((l r.0.word).linked r.0 (in_all r.0 r.1) refl)))
       (λ j. let r = of_map (λ (c : Call). (c.word, c.number)) v.calls (w, x) j in
       subst P r.2 (inr (post_in r.0.word calls r.0 (in_all r.0 r.1) refl)))
@@ -46,20 +46,28 @@ module _ (views : List View) (id : ℕ) (v : View) (at : get_elem? views id ≡ 
   least-le-known w l t = let ps : List (ℕ × ℕ) = posts_of (all_calls views) in
       least_at-above w (least_at w ps) (pairs_of v) (least_at-le-NONE w ps)
       (λ x h. ⊎_elim (λ (e : x ≡ NONE). omega (arith, least_at-le-NONE w ps)) (λ k. least_at-below w x ps k)
-        (pairs_posted l t w x h))
+      (pairs_posted l t w x h))
 
   -- a view in its place
   pub calls_set : (w : View) (h : Call → ℕ)
       → sum_by h (all_calls (set views id w)) + sum_by h v.calls ≡ sum_by h (all_calls views) + sum_by h w.calls
   calls_set w h = let f : View → List Call = λ u. u.calls in
-      omega (arith, sum_by-flat_map h f (set views id w), sum_by-flat_map h f views,
-        sum_by-at_set (λ (u : View). sum_by h (f u)) views id v w at)
+      omega (
+        arith,
+        sum_by-flat_map h f (set views id w),
+        sum_by-flat_map h f views,
+        sum_by-at_set (λ (u : View). sum_by h (f u)) views id v w at,
+      )
 
   pub told_set : (w : View) (h : ℕ × ℕ → ℕ)
       → sum_by h (all_told (set views id w)) + sum_by h v.told ≡ sum_by h (all_told views) + sum_by h w.told
   told_set w h = let f : View → List (ℕ × ℕ) = λ u. u.told in
-      omega (arith, sum_by-flat_map h f (set views id w), sum_by-flat_map h f views,
-        sum_by-at_set (λ (u : View). sum_by h (f u)) views id v w at)
+      omega (
+        arith,
+        sum_by-flat_map h f (set views id w),
+        sum_by-flat_map h f views,
+        sum_by-at_set (λ (u : View). sum_by h (f u)) views id v w at,
+      )
 
   parts_set : (w : View) → sum_by (λ (u : View). u.parts) (set views id w) + v.parts ≡ sum_by (λ (u : View). u.parts)
       views + w.parts
@@ -106,7 +114,7 @@ module _ (count : ℕ) (words : List ℕ) (views : List View) (id : ℕ) (v : Vi
 
     pub IsKept-post : (n : ℕ) → n < NONE
         → IsKept count (set words (w + 1) (min (slice_index words (w + 1)) n))
-          (set views id (with_call v (call w (slice_index words (w + 1)) n)))
+        (set views id (with_call v (call w (slice_index words (w + 1)) n)))
     IsKept-post n lt =
         let m : ℕ = slice_index words (w + 1) in let c : Call = call w m n in let v' : View = with_call v c in
         let xs : List Call = all_calls views in let views' : List View = set views id v' in
@@ -115,7 +123,7 @@ module _ (count : ℕ) (words : List ℕ) (views : List View) (id : ℕ) (v : Vi
         let same : SameCalls (c ∷ xs) ys = λ h. let a = calls_set views id v at v' h in
         omega (arith, a, sum_by_push h v.calls c, sum_by-cons h c xs) in
         let now : IsLegal (c ∷ xs) = subst (λ (y : ℕ). IsLegal (call w y n ∷ xs)) (sym is_m)
-          (IsLegal-post w n xs lt k.legal) in
+        (IsLegal-post w n xs lt k.legal) in
         let words' : List ℕ = set words (w + 1) (min m n) in
         record {
           size = length-set words (w + 1) (min m n) ∙ k.size;
@@ -126,20 +134,20 @@ module _ (count : ℕ) (words : List ℕ) (views : List View) (id : ℕ) (v : Vi
               let P : ℕ → Type 0 = λ y. slice_index words' (y + 1) ≡ least_at y (posts_of (c ∷ xs)) in
               let here : P w =
               (rw get_or-set_same (let q : min m n ≡ min n (least_at w (posts_of xs)) = omega arith in
-                q ∙ sym (least_here w (w, n) (posts_of xs) refl))) in
+              q ∙ sym (least_here w (w, n) (posts_of xs) refl))) in
               subst P (sym e) here ∙ least_at-same u (c ∷ xs) ys same)
               (λ (n' : u ≡ w → ⊥).
               let ne : u + 1 ≢ w + 1 = λ (e : u + 1 ≡ w + 1). n' (omega arith) in
               let other : slice_index words' (u + 1) ≡ slice_index words (u + 1) = rw get_or-set_other refl in
               other ∙ k.least u h ∙ sym (least_else u (w, n) (posts_of xs) (λ (e : w ≡ u). n' (sym e)))
-                ∙ least_at-same u (c ∷ xs) ys same)
+              ∙ least_at-same u (c ∷ xs) ys same)
               (cases_eq u w);
           legal = IsLegal-same (c ∷ xs) ys same now;
           told = λ u x h. ⊎_elim (λ e. inl e)
               (λ p. inr (posts_same (c ∷ xs) ys same (u, x) (behind (w, n) (posts_of xs) (u, x) p)))
               (k.told u x
-                (pairs_in (all_told views') (all_told views) (λ g. omega (arith, told_set views id v at v' g))
-                (u, x) h));
+              (pairs_in (all_told views') (all_told views) (λ g. omega (arith, told_set views id v at v' g))
+              (u, x) h));
           parts = parts_kept v' refl;
           spent = spent_kept v' refl;
         }
@@ -155,8 +163,12 @@ module _ (count : ℕ) (words : List ℕ) (views : List View) (id : ℕ) (v : Vi
         subst P e (subst (λ (y : ℕ). P (w, y)) (sym is_m) (least_at-reached w (posts_of xs))))
         (λ (old : Contains (all_told views) (u, x)). k.told u x old)
         (front_or_behind (w, m) (all_told views) (u, x) (pairs_in (all_told (set views id v')) ((w, m) ∷ all_told views)
-        (λ g. omega (arith, told_set views id v at v' g, sum_by-cons g (w, m) v.told,
-          sum_by-cons g (w, m) (all_told views))) (u, x) h)))
+        (λ g. omega (
+          arith,
+          told_set views id v at v' g,
+          sum_by-cons g (w, m) v.told,
+          sum_by-cons g (w, m) (all_told views),
+        )) (u, x) h)))
         (parts_kept v' refl) (spent_kept v' refl)
 
   pub IsKept-split : (j : ℕ) → 0 < j → j < v.parts
@@ -165,13 +177,18 @@ module _ (count : ℕ) (words : List ℕ) (views : List View) (id : ℕ) (v : Vi
       let l : View = left_of j v in let r : View = right_of j v in let vs : List View = set views id l in
       IsKept-views (vs ++ r ∷ [])
       (λ h. let f : View → List Call = λ u. u.calls in
-      omega (arith, calls_set views id v at l h, sum_by-flat_map h f (vs ++ r ∷ []), sum_by-flat_map h f vs,
-        sum_by_push (λ (u : View). sum_by h (f u)) vs r))
+      omega (
+        arith,
+        calls_set views id v at l h,
+        sum_by-flat_map h f (vs ++ r ∷ []),
+        sum_by-flat_map h f vs,
+        sum_by_push (λ (u : View). sum_by h (f u)) vs r,
+      ))
       (λ u x h. let f : View → List (ℕ × ℕ) = λ y. y.told in
       ⊎_elim (λ (old : Contains (all_told views) (u, x)). k.told u x old)
       (λ (new : Contains (pairs_of v) (u, x)). pairs_posted views id v at k.legal k.told u x new)
       (Contains-append_cases (all_told views) (pairs_of v) (u, x)
-        (pairs_in (all_told (vs ++ r ∷ [])) (all_told views ++ pairs_of v)
+      (pairs_in (all_told (vs ++ r ∷ [])) (all_told views ++ pairs_of v)
       (λ g. omega (
         arith,
         told_set views id v at l g,
@@ -182,8 +199,8 @@ module _ (count : ℕ) (words : List ℕ) (views : List View) (id : ℕ) (v : Vi
       )) (u, x) h)))
       (omega (arith, parts_set views id v at l, k.parts, sum_by_push (λ (u : View). u.parts) vs r))
       (λ i u e z. ⊎_elim
-        (λ (x : get_elem? vs i ≡ some u). spent_set views id l
-        (λ (b : l.parts ≡ 0). absurd (omega arith)) k.spent i u x z)
+      (λ (x : get_elem? vs i ≡ some u). spent_set views id l
+      (λ (b : l.parts ≡ 0). absurd (omega arith)) k.spent i u x z)
       (λ (x : r ≡ u). let b : j ≡ u.parts = ap (λ (y : View). y.parts) x in absurd (omega arith)) (at_snoc vs r u i e))
 
   pub IsKept-join : (other : ℕ) (w : View) → get_elem? (set views id (both_of v w)) other ≡ some w
@@ -192,14 +209,18 @@ module _ (count : ℕ) (words : List ℕ) (views : List View) (id : ℕ) (v : Vi
       let b : View = both_of v w in let vs : List View = set views id b in
       let views' : List View = set vs other spent in
       IsKept-views views'
-      (λ h. omega (arith, calls_set views id v at b h, calls_set vs other w at' spent h,
-        sum_by-append h v.calls w.calls))
+      (λ h. omega (
+        arith,
+        calls_set views id v at b h,
+        calls_set vs other w at' spent h,
+        sum_by-append h v.calls w.calls,
+      ))
       (λ u x h. k.told u x (pairs_in (all_told views') (all_told views)
       (λ g. omega (arith, told_set views id v at b g, told_set vs other w at' spent g, sum_by-append g v.told w.told))
-        (u, x) h))
+      (u, x) h))
       (omega (arith, parts_set views id v at b, parts_set vs other w at' spent, k.parts))
       (spent_set vs other spent (λ z. (refl, refl))
-        (spent_set views id b (λ (z : b.parts ≡ 0). absurd (omega arith)) k.spent))
+      (spent_set views id b (λ (z : b.parts ≡ 0). absurd (omega arith)) k.spent))
 
 abbrev pub holds : ℕ → State (Unit {0}) View → Type 0
 holds count s = IsKept count s.words s.views
@@ -217,14 +238,14 @@ post_allows count slots id v cs w n pos inside lt s k homes at small =
       keeps,
       tt,
       subst (λ (y : ℕ). IsKept count (set s.words (w + 1) (min m n)) (set s.views id (with_call v (call y m n))))
-        (back w)
+          (back w)
           (IsKept-post count s.words s.views id v at pos k w inside n lt),
       (subst (λ (y : ℕ). m ≤ known y v) (back w) (held-le-known count s.words s.views id v at pos k w inside), refl),
     )
 
 pub look_allows : (count slots id : ℕ) (v : View) (cs : List (ℕ × Unit {0})) (w : ℕ) → 0 < v.parts → w < count
     → Allows (holds count) slots id (v, cs) (w + 1) (λ x. x)
-      (λ found after. (found ≤ known (w + 1 - 1) v) × (after ≡ (with_told v (w + 1 - 1) found, cs)))
+    (λ found after. (found ≤ known (w + 1 - 1) v) × (after ≡ (with_told v (w + 1 - 1) found, cs)))
 look_allows count slots id v cs w pos inside s k homes at small =
     let m : ℕ = slice_index s.words (w + 1) in
     let now : IsKept count (set s.words (w + 1) m) (set s.views id (with_told v w m)) =
@@ -242,7 +263,7 @@ pub count_allows : (count slots id : ℕ) (v : View) (cs : List (ℕ × Unit {0}
 count_allows count slots id v cs s k homes at small =
     let m : ℕ = slice_index s.words 0 in
     let words : IsKept count (set s.words 0 m) s.views =
-      subst (λ (l : List ℕ). IsKept count l s.views) (sym (set-get_or s.words 0 0)) k in (
+    subst (λ (l : List ℕ). IsKept count l s.views) (sym (set-get_or s.words 0 0)) k in (
       v,
       keeps,
       tt,
@@ -296,8 +317,8 @@ closes count id v ws xs all f =
     let ws_is : s.words ≡ ws = f.2 in
     let P : List ℕ → List Call → List (ℕ × ℕ) → Type 0 =
     λ l c t. (length l ≡ count + 1) × ((w : ℕ) → w < count → slice_index l (w + 1) ≡ least_at w (posts_of c))
-      × IsLegal c × IsPosted t c in
+    × IsLegal c × IsPosted t c in
     let was : P s.words (all_calls s.views) (all_told s.views) = (k.size, k.least, k.legal, k.told) in
     let now : P ws v.calls v.told = subst (λ (y : List ℕ × List Call × List (ℕ × ℕ)). P y.0 y.1 y.2)
-      (λ i. (ws_is i, only.0 i, only.1 i)) was in
+    (λ i. (ws_is i, only.0 i, only.1 i)) was in
     record { size = now.0; least = now.1; legal = now.2; told = now.3 }

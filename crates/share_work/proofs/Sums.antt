@@ -81,7 +81,7 @@ in_filter p (y ∷ ys) x h t =
     (λ (e : y ≡ x). subst P (sym (ap p e ∙ t)) (subst (Contains (y ∷ filter p ys)) e (front y (filter p ys))))
     (λ k. let r = in_filter p ys x k t in
     ⊎_elim (λ (s : p y ≡ true). subst P (sym s) (behind y (filter p ys) x r)) (λ (f : p y ≡ false). subst P (sym f) r)
-      (cases_Bool (p y)))
+    (cases_Bool (p y)))
     (front_or_behind y ys x h)
 
 -- ---- sums and counts
@@ -147,8 +147,11 @@ pub calls_in : (xs ys : List Call) → Within xs ys → (c : Call) → Contains 
 calls_in = within_by (λ c d. eqb c.word d.word && (eqb c.found d.found && eqb c.number d.number))
     (λ c. and_from (eqb c.word c.word) (eqb c.found c.found && eqb c.number c.number) (eq-eqb c.word c.word refl)
     (and_from (eqb c.found c.found) (eqb c.number c.number) (eq-eqb c.found c.found refl)
-      (eq-eqb c.number c.number refl)))
+    (eq-eqb c.number c.number refl)))
     (λ c d e. let t = and_parts (eqb c.word d.word) (eqb c.found d.found && eqb c.number d.number) e in
     let u = and_parts (eqb c.found d.found) (eqb c.number d.number) t.1 in
-    λ i. record { word = eqb-true c.word d.word t.0 i; found = eqb-true c.found d.found u.0 i;
-      number = eqb-true c.number d.number u.1 i })
+    λ i. record {
+      word = eqb-true c.word d.word t.0 i;
+      found = eqb-true c.found d.found u.0 i;
+      number = eqb-true c.number d.number u.1 i;
+    })

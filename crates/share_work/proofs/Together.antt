@@ -42,7 +42,7 @@ module _ {S T : Type 0} (holds : S → ℕ → ℕ → Type 0) (adds : ℕ → T
         | inr a ↦
             let p : ℕ = (0 + h.0 + a.0 * workers) * cut in
             let at : slice_get items (p + a.1.0) ≡ Some a.1.1 = sym (get_drop p items a.1.0)
-              ∙ take_get cut (drop p items) a.1.0 a.1.1 a.1.2 in
+            ∙ take_get cut (drop p items) a.1.0 a.1.1 a.1.2 in
             let P : ℕ → Type 0 = λ q. adds q a.1.1 x n in
             let same : p + a.1.0 ≡ 0 + (p + a.1.0) = omega arith in
             inr (p + a.1.0, a.1.1, at, subst P same a.1.3)
@@ -63,7 +63,7 @@ module _ {S T : Type 0} (holds : S → ℕ → ℕ → Type 0) (adds : ℕ → T
       let seat = get_there new w (omega arith) in
       let P : ℕ → Type 0 = λ q. slice_get items q ≡ Some a.1 in
       let got : slice_get (take cut (drop p items)) o ≡ Some a.1 = get_take cut (drop p items) o inside
-        ∙ get_drop p items o ∙ subst P (sym at) a.2 in
+      ∙ get_drop p items o ∙ subst P (sym at) a.2 in
       let Q : ℕ → Type 0 = λ q. adds q a.1 x n in
       let position : 0 + i ≡ p + o = omega arith in
       (w, seat.0, seat.1, (have.each w seat.0 seat.1).gained x n (k, (o, a.1, got, subst Q position a.3)))

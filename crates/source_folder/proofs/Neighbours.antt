@@ -19,9 +19,12 @@ path_is sources k d h = get_or-map path_of sources k d [] h
 pub twins_at : (sources : List ProtoEntry) (n : ℕ) (f g : ProtoEntry) → 0 < n → n < length sources
     → pointwise nat_eq (path_of (get_or sources (n - 1) f)) (path_of (get_or sources n g)) ≡ true → HaveTwins sources
 twins_at sources n f g some h same =
-    let next : n ≡ n - 1 + 1 = omega arith in
-    (n - 1, omega arith, path_is sources (n - 1) f (omega arith) ∙ (bytes_decides _ _).0 same
-      ∙ sym (path_is sources n g h) ∙ ap (path_at sources) next)
+    let next : n ≡ n - 1 + 1 = omega arith in (
+      n - 1,
+      omega arith,
+      path_is sources (n - 1) f (omega arith) ∙ (bytes_decides _ _).0 same
+          ∙ sym (path_is sources n g h) ∙ ap (path_at sources) next,
+    )
 
 -- two neighbours with two paths
 pub apart_at : (sources : List ProtoEntry) (n : ℕ) (f g : ProtoEntry) → 0 < n → n < length sources
@@ -29,7 +32,7 @@ pub apart_at : (sources : List ProtoEntry) (n : ℕ) (f g : ProtoEntry) → 0 < 
     → path_at sources (n - 1) ≡ path_at sources n → ⊥
 apart_at sources n f g some h other same =
     false≢true
-      (sym other ∙ (bytes_decides _ _).1 (sym (path_is sources (n - 1) f (omega arith)) ∙ same ∙ path_is sources n g h))
+    (sym other ∙ (bytes_decides _ _).1 (sym (path_is sources (n - 1) f (omega arith)) ∙ same ∙ path_is sources n g h))
 
 apart_case : (sources : List ProtoEntry) (n : ℕ) → (path_at sources (n - 1) ≡ path_at sources n → ⊥) → 0 < n
     → ((k : ℕ) → k + 1 < n → path_at sources k ≡ path_at sources (k + 1) → ⊥) → (k : ℕ) → k + 1 < n + 1
@@ -62,7 +65,7 @@ rising_at sources d order apart k h =
     let low = order k d (omega arith) h in
     less_from _ _ (nat_list_cmp_total.antisymm (path_at sources k) (path_at sources (k + 1)))
     (ap is_lt (ap (λ xs. slice_cmp nat_cmp xs (path_at sources k)) second
-      ∙ ap (λ ys. slice_cmp nat_cmp (path_of (get_or sources (k + 1) d)) ys) first) ∙ low)
+    ∙ ap (λ ys. slice_cmp nat_cmp (path_of (get_or sources (k + 1) d)) ys) first) ∙ low)
     (λ same. apart (k, h, sym (exact_bytes _ _ same)))
 
 pub no_neighbours : (k : ℕ) → k + 1 < 0 → ⊥

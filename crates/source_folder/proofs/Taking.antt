@@ -30,7 +30,7 @@ grown : {X Y : Type 0} (f : X → Y) (old new : List X) (more : List Y) → map 
     → length new ≡ length old + length more
 grown f old new more is =
     sym (length-map new f) ∙ ap length is ∙ length-append (map f old) more
-      ∙ ap (λ n. n + length more) (length-map old f)
+    ∙ ap (λ n. n + length more) (length-map old f)
 
 -- an entry that is a folder is one entry less
 pub taken_falls : (path : List ℕ) (depth : ℕ) (k : EntryKind) (old new : Walk) → TakesIn path depth k old new

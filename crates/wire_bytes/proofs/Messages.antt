@@ -10,7 +10,7 @@ use Rattle.wire_bytes.specs.Descriptor.{field_desc_bytes, enum_desc_bytes, oneof
 
 pub message_desc_bytes_out : (m : MessageDesc) → message_desc_bytes m
     ≡ bytes_field 1 (out-MessageDesc m).name
-      ++ flat_map (λ f. bytes_field 2 (field_desc_bytes f)) (out-MessageDesc m).fields
+    ++ flat_map (λ f. bytes_field 2 (field_desc_bytes f)) (out-MessageDesc m).fields
     ++ flat_map (λ n. bytes_field 3 (message_desc_bytes n)) (out-MessageDesc m).nested
     ++ flat_map (λ e. bytes_field 4 (enum_desc_bytes e)) (out-MessageDesc m).enums
     ++ options_field 7 (message_options_bytes (out-MessageDesc m).options (out-MessageDesc m).is_map_entry)
@@ -19,7 +19,7 @@ pub message_desc_bytes_out : (m : MessageDesc) → message_desc_bytes m
     ++ flat_map (bytes_field 10) (out-MessageDesc m).reserved_names
 message_desc_bytes_out m = fold_out-MessageDesc (List ℕ) message_step m
     ∙ ap (λ nested. bytes_field 1 (out-MessageDesc m).name
-      ++ flat_map (λ f. bytes_field 2 (field_desc_bytes f)) (out-MessageDesc m).fields ++ nested
+    ++ flat_map (λ f. bytes_field 2 (field_desc_bytes f)) (out-MessageDesc m).fields ++ nested
     ++ flat_map (λ e. bytes_field 4 (enum_desc_bytes e)) (out-MessageDesc m).enums
     ++ options_field 7 (message_options_bytes (out-MessageDesc m).options (out-MessageDesc m).is_map_entry)
     ++ flat_map (λ o. bytes_field 8 (oneof_desc_bytes o)) (out-MessageDesc m).oneofs

@@ -31,8 +31,11 @@ body_again : (b : Body) (n : ℕ) (rest : List ℕ) → IsBody b
 body_again (varint_body t v) n rest h = rw (varint_again 10 t v rest h.spelled h.short h.fits) refl
 body_again (eight_bytes t) n rest h = rw (split_again 8 t rest h) refl
 body_again (delimited s c) n rest h =
-    rw (append_assoc, varint_again 10 s (length c) (c ++ rest) h.spelled h.short h.fits,
-      split_again (length c) c rest refl) refl
+    rw (
+      append_assoc,
+      varint_again 10 s (length c) (c ++ rest) h.spelled h.short h.fits,
+      split_again (length c) c rest refl,
+    ) refl
 body_again (four_bytes t) n rest h = rw (split_again 4 t rest h) refl
 
 pub field_again : (s : Spelled) (rest : List ℕ) → IsSpelled s → field_at (text_of s ++ rest) ≡ Some (entry_of s, rest)
@@ -45,7 +48,7 @@ field_again s rest h =
     rw (
       append_assoc,
       varint_again 10 s.tag (s.number * 8 + wire_type s.body)
-        (body_text s.body ++ rest) h.tag.spelled h.tag.short h.tag.fits,
+          (body_text s.body ++ rest) h.tag.spelled h.tag.short h.tag.fits,
       lt-ltb (s.number * 8 + wire_type s.body) (2 ^ 32) h.small,
       number_is,
       ne_eqb s.number 0 some,
@@ -67,7 +70,7 @@ split_takes n text y e = elim (chosen (nat_lt (length text) n) None (Some (take 
   | inl w ↦ absurd (none-some y w.1)
   | inr w ↦ (let long = ltb-false (length text) n w.0 in
       subst (λ (z : List ℕ × List ℕ). (length z.0 ≡ n) × (text ≡ z.0 ++ z.1))
-        (same_Some (take n text, drop n text) y w.1)
+      (same_Some (take n text, drop n text) y w.1)
       (length-take-le n text long, sym (take-append-drop n text)))
 ]
 
@@ -105,7 +108,7 @@ eight_taken n text y e =
     let x = bound (λ (x : List ℕ × List ℕ). some_read (None, x.1)) (split_off 8 text) y e in
     let taken = split_takes 8 text x.0 x.1 in
     let one : BodyTaken 1 n text None x.0.1 =
-      record { body = eight_bytes x.0.0; kind_is = refl; ok = taken.0; entry_is = refl; split = taken.1 } in
+    record { body = eight_bytes x.0.0; kind_is = refl; ok = taken.0; entry_is = refl; split = taken.1 } in
     subst (λ (z : Read). BodyTaken 1 n text z.0 z.1) (same_Some (None, x.0.1) y x.2) one
 
 four_taken : (n : ℕ) (text : List ℕ) (y : Read) → option_and_then (λ x. Some (None, x.1)) (split_off 4 text) ≡ Some y
@@ -114,16 +117,16 @@ four_taken n text y e =
     let x = bound (λ (x : List ℕ × List ℕ). some_read (None, x.1)) (split_off 4 text) y e in
     let taken = split_takes 4 text x.0 x.1 in
     let one : BodyTaken 5 n text None x.0.1 =
-      record { body = four_bytes x.0.0; kind_is = refl; ok = taken.0; entry_is = refl; split = taken.1 } in
+    record { body = four_bytes x.0.0; kind_is = refl; ok = taken.0; entry_is = refl; split = taken.1 } in
     subst (λ (z : Read). BodyTaken 5 n text z.0 z.1) (same_Some (None, x.0.1) y x.2) one
 
 delimited_taken : (n : ℕ) (text : List ℕ) (y : Read) → IsBytes text
     → option_and_then (λ x. option_and_then (λ y. Some (Some (n, bytes y.0), y.1)) (split_off x.0 x.1))
-      (varint_within 10 text) ≡ Some y
+    (varint_within 10 text) ≡ Some y
     → BodyTaken 2 n text y.0 y.1
 delimited_taken n text y h e =
     let x = bound (λ (x : ℕ × List ℕ). option_and_then (λ y. some_read (Some (n, bytes y.0), y.1)) (split_off x.0 x.1))
-      (varint_within 10 text) y e in
+    (varint_within 10 text) y e in
     let size = varint_takes 10 text x.0 h x.1 in
     let z = bound (λ (y : List ℕ × List ℕ). some_read (Some (n, bytes y.0), y.1)) (split_off x.0.0 x.0.1) y x.2 in
     let taken = split_takes x.0.0 x.0.1 z.0 z.1 in
@@ -188,7 +191,7 @@ pub field_takes : (text : List ℕ) (y : Read) → IsBytes text → field_at tex
 unfolding field_at
 field_takes text y h e =
     let x = bound (λ (x : ℕ × List ℕ). if nat_lt x.0 (2 ^ 32) then
-      (if x.0 / 8 == 0 then None else body_at (x.0 % 8) (x.0 / 8) x.1) else None)
+    (if x.0 / 8 == 0 then None else body_at (x.0 % 8) (x.0 / 8) x.1) else None)
     (varint_within 10 text) y e in
     let tag = varint_takes 10 text x.0 h x.1 in
     elim (chosen (nat_lt x.0.0 (2 ^ 32)) _ _ y x.2) [
@@ -196,7 +199,7 @@ field_takes text y h e =
         | inl v ↦ absurd (none-some y v.1)
         | inr v ↦ field_made text y tag (ltb-true x.0.0 (2 ^ 32) w.0) (eqb-false (x.0.0 / 8) 0 v.0)
             (body_takes (x.0.0 % 8) (x.0.0 / 8) x.0.1 y
-              (rest_of_bytes tag.prefix x.0.1 (subst IsBytes tag.split h)) v.1)
+            (rest_of_bytes tag.prefix x.0.1 (subst IsBytes tag.split h)) v.1)
       ]
       | inr w ↦ absurd (none-some y w.1)
     ]

@@ -16,15 +16,21 @@ row_none = ([], tt, refl, refl)
 pub row_ahead_some : (text : List ℕ) (e : ℕ × Value) (rest : List ℕ) (fs : List (ℕ × Value))
     → FieldTaken text (Some e) rest → IsRow rest fs
     → IsRow text (e ∷ fs)
-row_ahead_some text e rest fs taken (row, ok, split, is) =
-    (taken.field ∷ row, (taken.ok, ok), taken.split ∙ ap (λ xs. text_of taken.field ++ xs) split,
-      rw (taken.entry_is, is) refl)
+row_ahead_some text e rest fs taken (row, ok, split, is) = (
+  taken.field ∷ row,
+  (taken.ok, ok),
+  taken.split ∙ ap (λ xs. text_of taken.field ++ xs) split,
+  rw (taken.entry_is, is) refl,
+)
 
 pub row_ahead_none : (text rest : List ℕ) (fs : List (ℕ × Value)) → FieldTaken text None rest → IsRow rest fs
     → IsRow text fs
-row_ahead_none text rest fs taken (row, ok, split, is) =
-    (taken.field ∷ row, (taken.ok, ok), taken.split ∙ ap (λ xs. text_of taken.field ++ xs) split,
-      rw (taken.entry_is, is) refl)
+row_ahead_none text rest fs taken (row, ok, split, is) = (
+  taken.field ∷ row,
+  (taken.ok, ok),
+  taken.split ∙ ap (λ xs. text_of taken.field ++ xs) split,
+  rw (taken.entry_is, is) refl,
+)
 
 field_at_none : field_at [] ≡ None
 unfolding field_at
@@ -35,9 +41,10 @@ pub row_back : (text : List ℕ) (y : Read) (fs : List (ℕ × Value)) → field
 row_back text y fs e ([], ok, split, is) = absurd (none-some y (sym field_at_none ∙ ap field_at (sym split) ∙ e))
 row_back text y fs e (s ∷ row, ok, split, is) =
     let again : Some (entry_of s, flat_map text_of row) ≡ Some y = sym (field_again s (flat_map text_of row) ok.0)
-      ∙ ap field_at (sym split) ∙ e in
-    (filter_map entry_of row,
-      (row, ok.1, ap (λ (z : Read). z.1) (sym (same_Some (entry_of s, flat_map text_of row) y again)), refl))
+    ∙ ap field_at (sym split) ∙ e in (
+      filter_map entry_of row,
+      (row, ok.1, ap (λ (z : Read). z.1) (sym (same_Some (entry_of s, flat_map text_of row) y again)), refl),
+    )
 
 empty_short : (text : List ℕ) → text ≡ [] → 0 < length text → ⊥
 empty_short text e h = let none = rw e at h in omega (arith, none)
@@ -56,7 +63,7 @@ pub taken_shorter : (text : List ℕ) (e : Option (ℕ × Value)) (rest : List �
 taken_shorter text e rest taken =
     let some = spells_some taken.field.tag _ taken.ok.tag.spelled in
     let len : length text ≡ length taken.field.tag + length (body_text taken.field.body) + length rest =
-      rw taken.split (grind (arith, common_steps)) in
+    rw taken.split (grind (arith, common_steps)) in
     omega (arith, some, len)
 
 -- what reading keeps: fields that are read, and a row that is left
@@ -116,7 +123,7 @@ row_one [] (t ∷ ts) h k e =
     (sym field_at_none ∙ ap field_at e ∙ field_again t (flat_map text_of ts) k.0))
 row_one (s ∷ ss) [] h k e =
     absurd (none-some (entry_of s, flat_map text_of ss)
-      (sym field_at_none ∙ ap field_at (sym e) ∙ field_again s (flat_map text_of ss) h.0))
+    (sym field_at_none ∙ ap field_at (sym e) ∙ field_again s (flat_map text_of ss) h.0))
 row_one (s ∷ ss) (t ∷ ts) h k e =
     let both = same_Some (entry_of s, flat_map text_of ss) (entry_of t, flat_map text_of ts)
     (sym (field_again s (flat_map text_of ss) h.0) ∙ ap field_at e ∙ field_again t (flat_map text_of ts) k.0) in
@@ -126,7 +133,7 @@ row_one (s ∷ ss) (t ∷ ts) h k e =
 pub spelled_once : (s t : Spelled) (x : List ℕ) → IsSpelled s → IsSpelled t → text_of s ++ x ≡ text_of t → x ≡ []
 spelled_once s t x h k e =
     let both = same_Some (entry_of s, x) (entry_of t, [])
-      (sym (field_again s x h) ∙ ap field_at (e ∙ sym (append-nil (text_of t))) ∙ field_again t [] k) in
+    (sym (field_again s x h) ∙ ap field_at (e ∙ sym (append-nil (text_of t))) ∙ field_again t [] k) in
     ap (λ (z : Read). z.1) both
 
 pub one_list : (text : List ℕ) (first second : List (ℕ × Value)) → IsRow text first → IsRow text second → first ≡ second

@@ -31,9 +31,9 @@ joined_some : (b : ℕ) (o : Option (ℕ × List ℕ)) (y : ℕ × List ℕ) →
 joined_some b None y e = absurd (none-some y e)
 joined_some b (Some x) y e =
     elim (chosen (nat_lt (b - 128 + 128 * x.0) (2 ^ 64)) (Some (b - 128 + 128 * x.0, x.1)) None y e) [
-  | inl w ↦ (x, refl, ltb-true _ _ w.0, cc)
-  | inr w ↦ absurd (none-some y w.1)
-]
+      | inl w ↦ (x, refl, ltb-true _ _ w.0, cc)
+      | inr w ↦ absurd (none-some y w.1)
+    ]
 
 pub varint_takes : (k : ℕ) (text : List ℕ) (y : ℕ × List ℕ) → IsBytes text → varint_within k text ≡ Some y
     → Taken k text y.0 y.1
@@ -42,7 +42,7 @@ varint_takes (suc k) [] y h e = absurd (none-some y e)
 varint_takes (suc k) (b ∷ bs) y h e = elim (chosen (nat_lt b 128) (Some (b, bs)) (joined b (varint_within k bs)) y e) [
   | inl w ↦ (let small = ltb-true b 128 w.0 in
       let one : Taken (suc k) (b ∷ bs) b bs =
-        record { prefix = b ∷ []; spelled = (small, refl); short = omega arith; fits = omega arith; split = refl } in
+      record { prefix = b ∷ []; spelled = (small, refl); short = omega arith; fits = omega arith; split = refl } in
       subst (λ (z : ℕ × List ℕ). Taken (suc k) (b ∷ bs) z.0 z.1) (same_Some (b, bs) y w.1) one)
   | inr w ↦ (let large = ltb-false b 128 w.0 in
       let x = joined_some b (varint_within k bs) y w.1 in

@@ -9,7 +9,7 @@ use Rattle.wire_format.specs.Varint.{Spells, groups, varint_bytes}
 small_rest : (k n : ℕ) → n < 128 ^ suc (suc k) → n / 128 < 128 ^ suc k
 small_rest k n h =
     (div-lt_iff_lt-mul {k = 128} {x = n} {y = 128 ^ suc k} (lit< tt)).1
-      (let e : 128 ^ suc (suc k) ≡ 128 ^ suc k * 128 = grind arith in omega (arith, h, e))
+    (let e : 128 ^ suc (suc k) ≡ 128 ^ suc k * 128 = grind arith in omega (arith, h, e))
 
 groups-small : (k n : ℕ) → n < 128 → groups k n ≡ n ∷ []
 unfolding groups
@@ -30,7 +30,7 @@ groups-more (suc k) n h = let more : n / 128 < 128 ^ suc k → groups k (n / 128
           groups-small (suc k) n small ∙ sym (groups-small (suc (suc k)) n small)
       | false ↦ λ e. let large =
           ltb-false n 128 e in groups-large k n large ∙ ap (λ r. (n % 128 + 128) ∷ r) (more (small_rest k n h))
-            ∙ sym (groups-large (suc k) n large)
+          ∙ sym (groups-large (suc k) n large)
     ] in split (nat_lt n 128) refl
 
 pub varint_bytes-small : (n : ℕ) → n < 128 → varint_bytes n ≡ n ∷ []
@@ -56,7 +56,7 @@ groups_spelled (suc k) n h =
       | true ↦ λ e. let small : n < 128 = ltb-true n 128 e in rw (groups-small (suc k) n small) (small, refl)
       | false ↦ λ e. let large : 128 ≤ n = ltb-false n 128 e in
           rw (groups-large k n large) (spells_more (n % 128 + 128) (n / 128) n (groups k (n / 128)) (omega arith)
-            (omega arith) (omega arith)
+          (omega arith) (omega arith)
           (groups_spelled k (n / 128) (small_rest k n h)))
     ] in split (nat_lt n 128) refl
 
@@ -79,7 +79,7 @@ groups_shortest (suc k) n (b ∷ c ∷ bytes) h spelled =
       | false ↦ λ e. let high : spelled.2 ≡ n / 128 = omega (arith, spelled.0, spelled.1, spelled.3) in
           let rest : Spells (c ∷ bytes) (n / 128) = subst (λ m. Spells (c ∷ bytes) m) high spelled.4 in
           rw (groups-large k n (ltb-false n 128 e))
-            (omega (arith, groups_shortest k (n / 128) (c ∷ bytes) (small_rest k n h) rest))
+          (omega (arith, groups_shortest k (n / 128) (c ∷ bytes) (small_rest k n h) rest))
     ] in split (nat_lt n 128) refl
 
 pub varint_spelled : (n : ℕ) → n < 2 ^ 64 → Spells (varint_bytes n) n

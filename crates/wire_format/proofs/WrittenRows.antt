@@ -27,8 +27,11 @@ written_body (number n) = varint_body (varint_bytes n) n
 written_body (bytes contents) = delimited (varint_bytes (length contents)) contents
 
 abbrev written_field : ℕ × Value → Spelled
-written_field field = record { tag = varint_bytes (field.0 * 8 + wire_type (written_body field.1)); number = field.0;
-    body = written_body field.1 }
+written_field field = record {
+  tag = varint_bytes (field.0 * 8 + wire_type (written_body field.1));
+  number = field.0;
+  body = written_body field.1;
+}
 
 written_text : (field : ℕ × Value) → text_of (written_field field) ≡ entry_bytes field
 written_text (n, number value) = let kind : n * 8 + 0 ≡ n * 8 = omega arith in rw kind refl
@@ -52,8 +55,12 @@ written_is_spelled : (field : ℕ × Value) → IsMessageField field → IsSpell
 written_is_spelled field ok =
     let kind = written_kind field.1 in
     let small : field.0 * 8 + wire_type (written_body field.1) < 2 ^ 32 = omega (arith, kind, ok.small) in
-    record { tag = varint_written _ (omega (arith, small)); small = small; positive = ok.positive;
-        body = written_is_body field.1 ok.fits }
+    record {
+      tag = varint_written _ (omega (arith, small));
+      small = small;
+      positive = ok.positive;
+      body = written_is_body field.1 ok.fits;
+    }
 
 -- a written field before a row
 one_more : (field : ℕ × Value) (text : List ℕ) (fields : List (ℕ × Value)) → IsSpelled (written_field field)
@@ -66,7 +73,7 @@ pub written_row : (fields : List (ℕ × Value)) → All IsMessageField fields �
 written_row [] ok = row_none
 written_row (field ∷ fields) ok =
     one_more field _ fields (written_is_spelled field (All-head IsMessageField field fields ok))
-      (written_row fields (All-tail IsMessageField field fields ok))
+    (written_row fields (All-tail IsMessageField field fields ok))
 
 pub only_written : (fields read : List (ℕ × Value)) → All IsMessageField fields → IsRow (row_bytes fields) read
     → read ≡ fields

@@ -18,6 +18,6 @@ returns-in-len1-clause-union c =
       list,
       appended,
       union_of_one lists c.args.nodes.now node c.args.own list
-        (one_long c.args.nodes.now c.in-len1.len_at_least c.in-len1.len_below) refl
+          (one_long c.args.nodes.now c.in-len1.len_at_least c.in-len1.len_below) refl
           (c.requires.rises node inside) (λ x w. c.requires.below node x inside w),
     )) c.push_extended.ensures.appended

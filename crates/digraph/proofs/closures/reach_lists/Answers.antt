@@ -35,7 +35,7 @@ loop-own-preserved c =
     let same = written c.push_union.new.marks c.loop-own.marks.items c.loop-own.marks.len c.loop-own.marks.ok.0 room in
     let union = c.in_ok-push_union.ensures.union in
     let reach : IsReach g own union.0 = union_reach g c.loop-own.lists own union.0 c.requires
-      c.loop-own.invariant.reaches
+    c.loop-own.invariant.reaches
     (subst (λ (xs : List ℕ). IsUnion c.loop-own.lists xs own union.0) c.row.ensures union.2) in
     record {
       room = ap length same ∙ room ∙ c.loop-own.invariant.room;

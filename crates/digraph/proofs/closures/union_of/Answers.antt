@@ -10,5 +10,5 @@ pub returns-clause-union : goal.returns-clause-union
 returns-clause-union c = union_sorted c.args.lists.now c.args.nodes.now c.args.own c.gather.new.marked.items
     c.visit.new.marked.items
     c.sort_unstable.new.self.items c.in_ok-gather.ensures.gathered c.in_ok-visit.ensures.added
-      c.in_ok-visit.ensures.marked.once
+    c.in_ok-visit.ensures.marked.once
     c.sort_unstable.ensures.permutation c.sort_unstable.ensures.sorted

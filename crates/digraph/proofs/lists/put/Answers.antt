@@ -16,7 +16,7 @@ returns-then-ends_with-clause-holds c =
     let len : length c.as_slice.result.now ≡ length items = ap length c.as_slice.ensures.value in
     goes_on items c.push.new.self.items prefix c.args.list.now c.in-Some.last.now (c.len.result - length prefix)
     (subst (λ (n : ℕ). prefix ≡ drop n items) k_is there) (omega (arith, size, fits, len)) c.in-Some.ensures.cases.0
-      c.in_ok-push.ensures.items
+    c.in_ok-push.ensures.items
 
 pub returns-clause-holds : goal.returns-clause-holds
 returns-clause-holds c = grind (arith, common_steps)

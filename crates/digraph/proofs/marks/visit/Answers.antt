@@ -23,4 +23,4 @@ loop-node-preserved c = elim c.if-not-marks-node.branch [
 pub returns-clause-added : goal.returns-clause-added
 returns-clause-added c =
     visited_all c.args.marked.now.items c.args.nodes.now c.loop-node.node-index c.loop-node.marks
-      c.loop-node.marked.items (omega arith) c.loop-node.invariant
+    c.loop-node.marked.items (omega arith) c.loop-node.invariant

@@ -11,13 +11,13 @@ use Rattle.digraph.proofs.ranks.append_ready.Goals.{then-count-successors+in_ok-
 pub loop-node-init : goal.loop-node-init
 loop-node-init c =
     appending_none (graph_of c.args.graph.now) c.args.marks.now c.args.nodes.now c.args.ready.now.items
-      c.args.passed.now
+    c.args.passed.now
     (λ a w. (let below = c.requires.nodes a w in omega (arith, below, length_graph c.args.graph.now))) c.requires.passed
 
 pub row-successors-requires : goal.row-successors-requires
 row-successors-requires c =
     c.requires.nodes (get_or c.args.nodes.now c.loop-node.node-index 0)
-      (Contains-get_or c.args.nodes.now c.loop-node.node-index 0 (omega arith))
+    (Contains-get_or c.args.nodes.now c.loop-node.node-index 0 (omega arith))
 
 pub pass-count-requires-clause-room : goal.pass-count-requires-clause-room
 pass-count-requires-clause-room c b w =
@@ -27,7 +27,7 @@ pub pass-count-requires-clause-passed : goal.pass-count-requires-clause-passed
 pass-count-requires-clause-passed c =
     let node = get_or c.args.nodes.now c.loop-node.node-index 0 in
     subst (λ (row : List ℕ). IsPassed c.args.marks.now row (get_or c.loop-node.passed node 0))
-      (sym c.row-successors.ensures)
+    (sym c.row-successors.ensures)
     (c.loop-node.invariant.are.each node)
 
 pub loop-node-preserved : goal.loop-node-preserved
@@ -40,9 +40,9 @@ loop-node-preserved c =
     let count = c.pass-count.result in
     let row_is : c.row-successors.result.now ≡ successors g node = c.row-successors.ensures in
     let passed : IsPassed marks (successors g node) count =
-      subst (λ (row : List ℕ). IsPassed marks row count) row_is c.pass-count.ensures.passed in
+    subst (λ (row : List ℕ). IsPassed marks row count) row_is c.pass-count.ensures.passed in
     let stops : Stops marks (successors g node) count =
-      subst (λ (row : List ℕ). Stops marks row count) row_is c.pass-count.ensures.stops in
+    subst (λ (row : List ℕ). Stops marks row count) row_is c.pass-count.ensures.stops in
     let size : length c.row-successors.result.now ≡ length (successors g node) = ap length row_is in
     elim c.if-count-successors.branch [
       | then-count-successors+in_ok-push w ↦ (
@@ -52,7 +52,7 @@ loop-node-preserved c =
           (ap (λ (v : Vec ℕ Global). v.items) w.ready-is ∙ w.in_ok-push.ensures.items) c.loop-node.invariant)
       | else-count-successors w ↦ (
           let part : count ≡ length (successors g node)
-            → ⊥ = λ e. omega (arith, size, e, w.if-count-successors.false) in
+          → ⊥ = λ e. omega (arith, size, e, w.if-count-successors.false) in
           appending_skip g marks nodes c.args.ready.now.items k count c.loop-node.passed _ c.loop-node.ready.items
           c.if-count-successors.ready.items (omega arith) passed (stopped g marks node count part stops) refl
           (ap (λ (v : Vec ℕ Global). v.items) w.ready-is) c.loop-node.invariant)

@@ -14,16 +14,16 @@ loop-node-preserved c =
     elim c.if-is_empty.branch [
       | then-is_empty+in_ok-push w ↦ leaves_push g c.loop-node.node c.loop-node.leaves.items c.if-is_empty.leaves.items
           (empty_row c.row.result.now (successors g c.loop-node.node) c.row.ensures
-            (grind (arith, c.is_empty.ensures, w.if-is_empty.true)))
+          (grind (arith, c.is_empty.ensures, w.if-is_empty.true)))
           (ap (λ (v : Vec ℕ Global). v.items) w.leaves-is ∙ w.in_ok-push.ensures.items) c.loop-node.invariant
       | else-is_empty w ↦ leaves_skip g c.loop-node.node c.loop-node.leaves.items c.if-is_empty.leaves.items
           (inner_row c.row.result.now (successors g c.loop-node.node) c.row.ensures
-            (grind (arith, c.is_empty.ensures, w.if-is_empty.false)))
+          (grind (arith, c.is_empty.ensures, w.if-is_empty.false)))
           (ap (λ (v : Vec ℕ Global). v.items) w.leaves-is) c.loop-node.invariant
     ]
 
 pub returns-clause-members : goal.returns-clause-members
 returns-clause-members c = let end : c.loop-node.node ≡ length c.args.graph.now = omega arith in
     subst (λ (n : ℕ). (a : ℕ) → Contains c.loop-node.leaves.items a
-      ↔ ((a < n) × (successors (graph_of c.args.graph.now) a ≡ []))) end
+    ↔ ((a < n) × (successors (graph_of c.args.graph.now) a ≡ []))) end
     c.loop-node.invariant.members

@@ -18,13 +18,13 @@ loop-node-init c = collecting_none (graph_of c.args.graph.now) c.args.marks.now 
 pub row-requires : goal.row-requires
 row-requires c =
     c.requires.settled (get_or c.args.settled.now c.loop-node.node-index 0)
-      (Contains-get_or c.args.settled.now c.loop-node.node-index 0 (omega arith))
+    (Contains-get_or c.args.settled.now c.loop-node.node-index 0 (omega arith))
 
 pub append_ready-requires-clause-nodes : goal.append_ready-requires-clause-nodes
 append_ready-requires-clause-nodes c a w =
     let turned = graph_of c.args.turned.now in
     let edge : Edge turned (get_or c.args.settled.now c.loop-node.node-index 0) a =
-      subst (λ (xs : List ℕ). Contains xs a) c.row.ensures w in
+    subst (λ (xs : List ℕ). Contains xs a) c.row.ensures w in
     let below = edge_below (graph_of c.args.graph.now) a _ ((c.requires.turned _ a).0 edge) in
     omega (arith, below, length_graph c.args.graph.now)
 
@@ -32,7 +32,7 @@ pub loop-node-preserved : goal.loop-node-preserved
 loop-node-preserved c = collecting_more (graph_of c.args.graph.now)
     (graph_of c.args.turned.now) c.args.marks.now c.args.settled.now c.row.result.now
     c.loop-node.node-index c.loop-node.passed _ c.loop-node.ready.items c.append_ready.new.ready.items
-      c.requires.turned c.row.ensures
+    c.requires.turned c.row.ensures
     c.in_ok-append_ready.ensures.passed c.in_ok-append_ready.ensures.ready c.loop-node.invariant
 
 pub returns-clause-rises : goal.returns-clause-rises
@@ -44,7 +44,7 @@ returns-clause-members c a =
     let is = dedup_is _ _ _ c.dedup.ensures.filtered in
     let moved = c.sort_unstable.ensures.permutation in
     let found = collecting_all (graph_of c.args.graph.now) c.args.marks.now c.args.settled.now c.loop-node.node-index
-      c.loop-node.passed
+    c.loop-node.passed
     c.loop-node.ready.items (omega arith) c.loop-node.invariant a in (
       λ w. found.0 (Contains-permutation _ _ a (IsPermutation-sym _ _ moved) (Contains-from_dedup _ _ a (rw is at w))),
       λ w. rw is (Contains-dedup_nat _ a (Contains-permutation _ _ a moved (found.1 w))),

@@ -12,12 +12,12 @@ pub loop-alloc-init : goal.loop-alloc-init
 loop-alloc-init c =
     let len = length_graph c.args.graph.now in
     levels_start (graph_of c.args.graph.now) c.in_ok-marks.marks.items c.in_ok-ranks.ranks.items
-      c.new-order.result.items c.in_ok-ready.ready.items
+    c.new-order.result.items c.in_ok-ready.ready.items
     c.in_ok-passed.passed.items (omega (arith, len, c.in_ok-marks.ensures.size))
-      (omega (arith, len, c.in_ok-ranks.ensures.len, c.in_ok-ranks.ranks.ok.0))
+    (omega (arith, len, c.in_ok-ranks.ensures.len, c.in_ok-ranks.ranks.ok.0))
     c.in_ok-marks.ensures.none c.new-order.ensures.items c.in_ok-ready.ensures.rises
     (λ a. subst (λ (n : ℕ). Contains c.in_ok-ready.ready.items a
-      ↔ ((a < n) × (successors (graph_of c.args.graph.now) a ≡ []))) (sym len)
+    ↔ ((a < n) × (successors (graph_of c.args.graph.now) a ≡ []))) (sym len)
     (c.in_ok-ready.ensures.members a))
     (omega (arith, len, c.in_ok-passed.ensures.len, c.in_ok-passed.passed.ok.0))
     (all_zero c.in_ok-passed.passed.items _ (c.in_ok-passed.ensures.items_if_clones_equal (λ y h. h)))
@@ -26,10 +26,15 @@ pub settle-requires : goal.settle-requires
 settle-requires c = record {
   room = λ k w. (
       let below = ready_below (graph_of c.args.graph.now) _ c.loop-alloc.invariant k
-        (subst (λ (xs : List ℕ). Contains xs k) c.deref.ensures.value w) in (
+      (subst (λ (xs : List ℕ). Contains xs k) c.deref.ensures.value w) in (
         omega (arith, below, c.loop-alloc.invariant.room, c.deref_mut.ensures.len, c.loop-alloc.marks.ok.0),
-        omega (arith, below, c.loop-alloc.invariant.size, c.deref_mut-in-loop-alloc.ensures.len,
-          c.loop-alloc.ranks.ok.0),
+        omega (
+          arith,
+          below,
+          c.loop-alloc.invariant.size,
+          c.deref_mut-in-loop-alloc.ensures.len,
+          c.loop-alloc.ranks.ok.0,
+        ),
       ));
 }
 
@@ -50,8 +55,14 @@ pub next_ready-requires-clause-settled : goal.next_ready-requires-clause-settled
 next_ready-requires-clause-settled c b w =
     let below = ready_below (graph_of c.args.graph.now) _ c.loop-alloc.invariant b
     (subst (λ (xs : List ℕ). Contains xs b) c.deref-in-loop-alloc-4.ensures.value w) in
-    omega (arith, below, c.deref-in-loop-alloc-2.ensures.len, c.in_ok-turned.ensures.size, c.in_ok-turned.turned.ok.0,
-      length_graph c.args.graph.now)
+    omega (
+      arith,
+      below,
+      c.deref-in-loop-alloc-2.ensures.len,
+      c.in_ok-turned.ensures.size,
+      c.in_ok-turned.turned.ok.0,
+      length_graph c.args.graph.now,
+    )
 
 pub next_ready-requires-clause-passed : goal.next_ready-requires-clause-passed
 next_ready-requires-clause-passed c =
@@ -61,10 +72,10 @@ next_ready-requires-clause-passed c =
     ∙ written c.settle.new.marks c.loop-alloc.marks.items c.loop-alloc.marks.len c.loop-alloc.marks.ok.0 len in
     let grown = passed_grows g c.loop-alloc.marks.items c.settle.new.marks c.loop-alloc.passed.items
     (λ k m. (c.settle.ensures.marked k).1
-      (inl (subst (λ (ms : List Bool). IsMarked ms k) (sym c.deref_mut.ensures.value) m)))
-      c.loop-alloc.invariant.passed in
+    (inl (subst (λ (ms : List Bool). IsMarked ms k) (sym c.deref_mut.ensures.value) m)))
+    c.loop-alloc.invariant.passed in
     subst (λ (xs : List ℕ). ArePassed g c.deref-in-loop-alloc-3.result.now xs)
-      (sym c.deref_mut-in-loop-alloc-2.ensures.value)
+    (sym c.deref_mut-in-loop-alloc-2.ensures.value)
     (subst (λ (ms : List Bool). ArePassed g ms c.loop-alloc.passed.items) (sym seen) grown)
 
 pub loop-alloc-smaller : goal.loop-alloc-smaller
@@ -72,8 +83,8 @@ loop-alloc-smaller c =
     let some : 0 < length c.loop-alloc.ready.items = grind (arith, c.is_empty.ensures, c.loop-alloc-test.true) in
     let short = round_shorter (graph_of c.args.graph.now) _ c.loop-alloc.invariant some in
     let more =
-      ap length (c.in_ok-extend_from_slice.ensures.items
-      ∙ ap (λ (xs : List ℕ). c.loop-alloc.order.items ++ xs) c.deref-in-loop-alloc.ensures.value)
+    ap length (c.in_ok-extend_from_slice.ensures.items
+    ∙ ap (λ (xs : List ℕ). c.loop-alloc.order.items ++ xs) c.deref-in-loop-alloc.ensures.value)
     ∙ length-append c.loop-alloc.order.items c.loop-alloc.ready.items in
     omega (arith, some, short, more, length_graph c.args.graph.now)
 
@@ -82,13 +93,13 @@ loop-alloc-preserved c =
     let g = graph_of c.args.graph.now in
     let some : 0 < length c.loop-alloc.ready.items = grind (arith, c.is_empty.ensures, c.loop-alloc-test.true) in
     let marks_len : length c.settle.new.marks ≡ length c.loop-alloc.marks.items =
-      omega (arith, c.deref_mut.ensures.len) in
+    omega (arith, c.deref_mut.ensures.len) in
     let ranks_len : length c.settle.new.ranks ≡ length c.loop-alloc.ranks.items =
-      omega (arith, c.deref_mut-in-loop-alloc.ensures.len) in
+    omega (arith, c.deref_mut-in-loop-alloc.ensures.len) in
     let passed_len : length c.next_ready.new.passed ≡ length c.loop-alloc.passed.items =
-      omega (arith, c.deref_mut-in-loop-alloc-2.ensures.len) in
+    omega (arith, c.deref_mut-in-loop-alloc-2.ensures.len) in
     let marks_is = written c.settle.new.marks c.loop-alloc.marks.items c.loop-alloc.marks.len
-      c.loop-alloc.marks.ok.0 marks_len in
+    c.loop-alloc.marks.ok.0 marks_len in
     let old : Stage = record {
       marks = c.loop-alloc.marks.items;
       ranks = c.loop-alloc.ranks.items;
@@ -109,24 +120,24 @@ loop-alloc-preserved c =
       marks_is,
       written c.settle.new.ranks c.loop-alloc.ranks.items c.loop-alloc.ranks.len c.loop-alloc.ranks.ok.0 ranks_len,
       written c.next_ready.new.passed c.loop-alloc.passed.items c.loop-alloc.passed.len
-        c.loop-alloc.passed.ok.0 passed_len,
+          c.loop-alloc.passed.ok.0 passed_len,
     )
     (levels_next g old new c.loop-alloc.invariant
     (round_of g old new c.deref_mut.result.now c.deref-in-loop-alloc-3.result.now c.deref_mut-in-loop-alloc.result.now
-      c.deref.result.now
+    c.deref.result.now
     c.deref-in-loop-alloc.result.now c.deref-in-loop-alloc-4.result.now
     c.deref_mut.ensures.value (c.deref-in-loop-alloc-3.ensures.value ∙ marks_is) c.deref_mut-in-loop-alloc.ensures.value
-      c.deref.ensures.value
+    c.deref.ensures.value
     c.deref-in-loop-alloc.ensures.value c.deref-in-loop-alloc-4.ensures.value refl some
-      c.in_ok-extend_from_slice.ensures.items marks_len ranks_len
+    c.in_ok-extend_from_slice.ensures.items marks_len ranks_len
     c.settle.ensures.marked c.settle.ensures.ranked c.settle.ensures.others c.in_ok-ready-2.ensures.passed
-      c.in_ok-ready-2.ensures.rises
+    c.in_ok-ready-2.ensures.rises
     c.in_ok-ready-2.ensures.members))
 
 pub returns-then-len-graph-clause-none : goal.returns-then-len-graph-clause-none
 returns-then-len-graph-clause-none c = levels_stuck (graph_of c.args.graph.now) _
     (λ a b edge. (let within = c.requires a b edge in omega (arith, within, length_graph c.args.graph.now)))
-      c.loop-alloc.invariant
+    c.loop-alloc.invariant
     (grind (arith, c.is_empty.ensures, c.loop-alloc-test.false))
     (omega (arith, c.len.ensures, c.if-len-graph.true, c.loop-alloc.order.ok.0, length_graph c.args.graph.now))
 

@@ -18,7 +18,7 @@ join-requires-clause-other c =
 pub loop-other-preserved : goal.loop-other-preserved
 loop-other-preserved c =
     joining_more c.args.matrix.now c.args.row c.args.others.now c.loop-other.other-index c.loop-other.matrix
-      c.join.new.self c.loop-other-test.true
+    c.join.new.self c.loop-other-test.true
     c.requires.row c.requires.others c.loop-other.invariant c.join.ensures
 
 pub returns : goal.returns

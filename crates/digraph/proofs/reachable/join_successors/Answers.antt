@@ -22,13 +22,13 @@ loop-node-preserved c =
     let n : ℕ = c.loop-node.node - 1 in
     let back : c.loop-node.node ≡ n + 1 = omega arith in
     succeeding_more g c.args.matrix.now n c.loop-node.matrix c.join_rows.new.matrix c.requires.falls
-      (omega (arith, c.requires.size))
+    (omega (arith, c.requires.size))
     (subst (λ k. Succeeding g c.args.matrix.now k c.loop-node.matrix) back c.loop-node.invariant)
     (subst (λ (xs : List ℕ). HasRowsJoined c.loop-node.matrix n xs c.join_rows.new.matrix) c.row.ensures
-      c.join_rows.ensures)
+    c.join_rows.ensures)
 
 pub returns : goal.returns
 returns c =
     succeeding_all (graph_of c.args.graph.now) c.args.matrix.now c.loop-node.matrix
     (subst (λ k. Succeeding (graph_of c.args.graph.now) c.args.matrix.now k c.loop-node.matrix)
-      (omega arith) c.loop-node.invariant)
+    (omega arith) c.loop-node.invariant)

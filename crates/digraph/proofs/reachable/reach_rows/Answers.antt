@@ -18,12 +18,12 @@ pub loop-node-preserved : goal.loop-node-preserved
 loop-node-preserved c =
     let g = graph_of c.args.graph.now in
     reaching_more g c.args.labels.now c.loop-node.node c.loop-node.matrix c.push_joined.new.matrix c.requires.falls
-      c.loop-node.invariant
+    c.loop-node.invariant
     (subst (λ (xs : List ℕ). HasRowPushed c.loop-node.matrix
-      (node_at c.args.labels.now c.loop-node.node) xs c.push_joined.new.matrix) c.row.ensures
+    (node_at c.args.labels.now c.loop-node.node) xs c.push_joined.new.matrix) c.row.ensures
     c.in_ok-push_joined.ensures)
 
 pub returns : goal.returns
 returns c =
     reaching_all (graph_of c.args.graph.now) c.args.labels.now c.loop-node.node c.loop-node.matrix
-      (omega (arith, c.requires.size)) c.loop-node.invariant
+    (omega (arith, c.requires.size)) c.loop-node.invariant

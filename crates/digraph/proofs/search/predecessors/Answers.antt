@@ -20,13 +20,13 @@ loop-node-preserved c =
     let len : length c.turn.new.rows ≡ length c.loop-node.rows.items = omega (arith, c.deref_mut.ensures.len) in
     rw (written c.turn.new.rows c.loop-node.rows.items c.loop-node.rows.len c.loop-node.rows.ok.0 len)
     (turned_more (graph_of c.args.graph.now) c.loop-node.node c.loop-node.rows.items c.turn.new.rows c.row.result.now
-      c.row.ensures len
+    c.row.ensures len
     (subst (λ (rs : List (Vec ℕ Global)). (b a : ℕ) → Edge (graph_of c.turn.new.rows) b a
     ↔ (Edge (graph_of rs) b a ⊎ ((a ≡ c.loop-node.node) × Contains c.row.result.now b))) c.deref_mut.ensures.value
-      c.in_ok-turn.ensures)
+    c.in_ok-turn.ensures)
     c.loop-node.invariant)
 
 pub returns-clause-turned : goal.returns-clause-turned
 returns-clause-turned c =
     turned_all (graph_of c.args.graph.now) c.loop-node.node c.loop-node.rows.items
-      (omega (arith, length_graph c.args.graph.now)) c.loop-node.invariant
+    (omega (arith, length_graph c.args.graph.now)) c.loop-node.invariant

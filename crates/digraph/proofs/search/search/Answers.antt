@@ -16,11 +16,11 @@ loop-next-init c = searching_start (graph_of c.args.graph.now)
 pub row-requires : goal.row-requires
 row-requires c =
     let inside : c.loop-next.next < length c.loop-next.found.items =
-      omega (arith, c.loop-next.found.ok.0, c.len.ensures) in
+    omega (arith, c.loop-next.found.ok.0, c.len.ensures) in
     let at : c.index-node.result.now ≡ get_or c.loop-next.found.items c.loop-next.next 0 =
     c.index-node.ensures ∙ get_or_default c.loop-next.found.items c.loop-next.next c.index-node.result.now 0 inside in
     let below = found_below (graph_of c.args.graph.now) (length c.args.graph.now) c.args.start c.loop-next.marks
-      c.loop-next.found.items c.loop-next.next
+    c.loop-next.found.items c.loop-next.next
     c.loop-next.next c.loop-next.invariant inside in
     omega (arith, at, below)
 
@@ -37,15 +37,15 @@ loop-next-smaller c = let short = found_short (graph_of c.args.graph.now)
 pub loop-next-preserved : goal.loop-next-preserved
 loop-next-preserved c =
     let inside : c.loop-next.next < length c.loop-next.found.items =
-      omega (arith, c.loop-next.found.ok.0, c.len.ensures) in
+    omega (arith, c.loop-next.found.ok.0, c.len.ensures) in
     let at : c.index-node.result.now ≡ get_or c.loop-next.found.items c.loop-next.next 0 =
     c.index-node.ensures ∙ get_or_default c.loop-next.found.items c.loop-next.next c.index-node.result.now 0 inside in
     searching_next (graph_of c.args.graph.now) (length c.args.graph.now) c.args.start c.loop-next.marks
-      c.visit-in-loop-next.new.marks c.loop-next.found.items
+    c.visit-in-loop-next.new.marks c.loop-next.found.items
     c.visit-in-loop-next.new.marked.items c.row.result.now c.loop-next.next inside
-      (c.row.ensures ∙ ap (successors (graph_of c.args.graph.now)) at)
+    (c.row.ensures ∙ ap (successors (graph_of c.args.graph.now)) at)
     (omega (arith, c.loop-next.invariant.room)) c.in_ok-visit-2.ensures.marked c.in_ok-visit-2.ensures.prefix
-      c.in_ok-visit-2.ensures.added
+    c.in_ok-visit-2.ensures.added
     c.loop-next.invariant
 
 pub returns : goal.returns

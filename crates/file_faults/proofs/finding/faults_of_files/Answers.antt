@@ -23,7 +23,7 @@ returns-clause-each g c =
     let P : List (Option LocalFault) → Type 0 = λ fs. AllZip (IsFoundIn limits) files fs in
     let lent : AllZip (IsFoundIn limits) files c.deref.result.now = subst P (sym c.deref.ensures.value) each in
     IfOk-weaker c.all_named.result
-      (λ (faults : Vec Fault Global). map told_by faults.items ≡ faults_in files c.deref.result.now)
+    (λ (faults : Vec Fault Global). map told_by faults.items ≡ faults_in files c.deref.result.now)
     (λ faults. AreFileFaults limits files (map told_by faults.items))
     (λ faults is. subst (AreFileFaults limits files) (sym is)
     (are_told limits files c.deref.result.now lent)) c.all_named.ensures
@@ -33,7 +33,7 @@ returns-clause-first g c sources few order =
     let limits = c.args.limits.now in
     let files = c.args.files.now in
     IfOk-weaker c.all_named.result
-      (λ (faults : Vec Fault Global). AreFileFaults limits files (map told_by faults.items))
+    (λ (faults : Vec Fault Global). AreFileFaults limits files (map told_by faults.items))
     (λ faults. (f : Fault) (rest : List Fault) → faults.items ≡ f ∷ rest
     → IsLeastFault limits sources (told_by f))
     (λ faults all. least_of_files limits sources files faults.items few order all) (returns-clause-each g c)

@@ -15,7 +15,7 @@ in_shares-requires-clause-takes g c = λ κs lives i root at.
       omega arith,
       λ r is.
           let too = root_first_too (g.F.Reach.files reach) (g.F.Reach.list reach) (laws.within reach)
-            (laws.reflexive reach) (laws.transitive reach) roots few
+          (laws.reflexive reach) (laws.transitive reach) roots few
           c.requires c.in_ok-least.least c.in_ok-least.ensures.first i root r at is in
           (too.0, λ x h e. too.1 x h (e ∙ position) ∙ sym position),
     )
@@ -27,6 +27,6 @@ returns g c =
     let few : length roots ≤ NONE = omega arith in
     IfOk-weaker c.in_shares.result _ _ (λ lists gives.
     carried_all (g.F.Reach.files reach) (g.F.Reach.list reach) (laws.within reach) (laws.reflexive reach)
-      (laws.transitive reach) roots few c.requires
+    (laws.transitive reach) roots few c.requires
     c.in_ok-least.least c.in_ok-least.ensures.first
     (λ (v : Vec ℕ Global). v.items) c.args.mode lists.items gives) c.in_shares.ensures.outs

@@ -17,23 +17,25 @@ pub in_shares-requires-clause-takes : goal.in_shares-requires-clause-takes
 in_shares-requires-clause-takes g c = λ κs lives i root at.
     let inside = slice_get_within c.args.roots.now i root at in
     let below = all_get (λ (x : Option ℕ). ForSome x (λ r. r < g.F.Reach.files c.args.reach.now)) c.args.roots.now i
-      root c.requires at in
-    (omega arith, λ r is. subst (λ (s : g.row.F.Denot). r < g.F.Reach.files s)
-      (sym c.in_ok-table.ensures.0) (below r is))
+    root c.requires at in (
+      omega arith,
+      λ r is. subst (λ (s : g.row.F.Denot). r < g.F.Reach.files s)
+          (sym c.in_ok-table.ensures.0) (below r is),
+    )
 
 pub unreachable-requires-in_default-close : goal.unreachable-requires-in_default-close
 unreachable-requires-in_default-close g c =
     let parts : List MarkSeatValue → ℕ = λ l. sum_by (λ s. s.view.least.parts) l in
     let all : parts c.in_shares.new.seats ≡ parts c.as_mut_slice.result.now =
     same_sums (λ (s : MarkSeatValue). s.view.least.parts) c.in_shares.new.seats c.as_mut_slice.result.now
-      c.in_shares.ensures.numbers in
+    c.in_shares.ensures.numbers in
     let start : parts c.as_mut_slice.result.now ≡ 2 ^ 32 = ap parts c.as_mut_slice.ensures.value
-      ∙ c.in_ok-seats.ensures.parts in
+    ∙ c.in_ok-seats.ensures.parts in
     let back = written c.in_ok-seats.seats.items c.as_mut_slice.result.now c.in_shares.new.seats c.in_ok-seats.seats.len
-      c.as_mut_slice.ensures.value
+    c.as_mut_slice.ensures.value
     c.as_mut_slice.ensures.len c.in_shares.ensures.gains.len in
     let mine : c.in-Some.seat.view.least.parts ≡ parts c.in_shares.new.seats =
-      c.in-Some.ensures.parts ∙ ap parts back in
+    c.in-Some.ensures.parts ∙ ap parts back in
     let few : c.in-Some.seat.view.least.parts < 2 ^ 32 = c.in_default-close.ensures.refused.0 refl in
     omega arith
 
@@ -43,16 +45,16 @@ returns-clause-first g c = λ w below.
     let top : length roots ≤ NONE = omega arith in
     let list = g.F.Reach.list c.in_ok-table.table.reach in
     let back = written c.in_ok-seats.seats.items c.as_mut_slice.result.now seats c.in_ok-seats.seats.len
-      c.as_mut_slice.ensures.value
+    c.as_mut_slice.ensures.value
     c.as_mut_slice.ensures.len c.in_shares.ensures.gains.len in
     let none = subst (λ (l : List MarkSeatValue). All (λ s. s.view.marks ≡ []) l)
-      (sym c.as_mut_slice.ensures.value) c.in_ok-seats.ensures.marks in
+    (sym c.as_mut_slice.ensures.value) c.in_ok-seats.ensures.marks in
     let pairs = marked_posts list c.in-Some.seat.view.marks in
     let together = held_together (λ s x n. HasPosted list s x n) (Posts list) c.args.plan.workers c.args.plan.cut roots
-      c.as_mut_slice.result.now seats
+    c.as_mut_slice.result.now seats
     c.args.plan.some_workers c.args.plan.some_items
     (ap (λ (l : List MarkSeatValue). length l) c.as_mut_slice.ensures.value ∙ c.in_ok-seats.ensures.len
-      ∙ c.workers.ensures)
+    ∙ c.workers.ensures)
     c.in_shares.ensures.gains c.in_ok-in_shares.ensures.have in
     let same = all_posted list roots c.as_mut_slice.result.now seats c.in-Some.seat.view.marks together none
     (c.in-Some.ensures.marks ∙ ap (λ (l : List MarkSeatValue). flat_map (λ s. s.view.marks) (reverse l)) back) in

@@ -14,7 +14,7 @@ pub returns : goal.returns
 returns c =
     let past = c.loop-byte-test.false in (
       λ yes. all_blank c.args.text.now
-        (subst (All IsBlank) (take_all c.loop-byte.byte-index c.args.text.now (omega (arith, past)))
-        c.loop-byte.invariant),
+          (subst (All IsBlank) (take_all c.loop-byte.byte-index c.args.text.now (omega (arith, past)))
+          c.loop-byte.invariant),
       λ behind. refl,
     )

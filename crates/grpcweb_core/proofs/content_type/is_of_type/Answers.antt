@@ -16,5 +16,5 @@ returns-then-eq_ignore_ascii_case c =
           (same ∙ ap (λ l. map to_ascii_lowercase l) c.as_bytes-in-Some.ensures.value) (c.is_behind_type.ensures.0 yes),
       λ of. c.is_behind_type.ensures.1 (subst IsBehindType
           (sym (cases.2 ∙ ap (λ l. drop (length c.args.media.now) l) c.as_bytes.ensures.value))
-            (parts_of c.args.media.now c.args.content_type.now of).2),
+          (parts_of c.args.media.now c.args.content_type.now of).2),
     )

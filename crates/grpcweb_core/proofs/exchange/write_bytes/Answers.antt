@@ -8,6 +8,6 @@ loop-written-preserved g c =
     let writes = g.O.CountedWrite.writes in
     let some = c.in-Ok.count-is in
     written_some (writes c.args.writer.now) (writes c.loop-written.writer)
-      (writes c.write.new.self) c.args.bytes.now c.loop-written.written c.in-Ok.count
+    (writes c.write.new.self) c.args.bytes.now c.loop-written.written c.in-Ok.count
     c.loop-written.invariant (omega (arith, some))
     (take_rest c.args.bytes.now c.loop-written.written) c.in-Ok.ensures.bound c.in-Ok.ensures.once

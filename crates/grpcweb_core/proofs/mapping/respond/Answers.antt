@@ -9,7 +9,7 @@ returns-then-not-is_reflection g c =
     IfOk-weaker c.in_frames.result _ _ (λ answer is.
     as_said (is ∙ ap framed c.in_ok-response_without_replies.ensures)
     (elsewhere (λ known. true≢false (sym (c.is_reflection.ensures.1 known) ∙ c.if-not-is_reflection.true))))
-      c.in_frames.ensures
+    c.in_frames.ensures
 
 pub returns-then-not-is_post : goal.returns-then-not-is_post
 returns-then-not-is_post g c =
@@ -20,12 +20,12 @@ returns-then-not-is_post g c =
 pub returns-then-not-is_accepted : goal.returns-then-not-is_accepted
 returns-then-not-is_accepted g c =
     as_said c.unsupported.ensures (no_grpc_web (c.is_reflection.ensures.0 c.if-not-is_reflection.false)
-      (c.is_post.ensures.0 c.if-not-is_post.false)
+    (c.is_post.ensures.0 c.if-not-is_post.false)
     (λ web. true≢false (sym (c.is_accepted.ensures.1 web) ∙ c.if-not-is_accepted.true)))
 
 pub returns : goal.returns
 returns g c =
     IfOk-weaker c.in_frames-2.result _ _ (λ answer is.
     as_said is (answered c.in_ok-response.response.items (c.is_reflection.ensures.0 c.if-not-is_reflection.false)
-      (c.is_post.ensures.0 c.if-not-is_post.false)
+    (c.is_post.ensures.0 c.if-not-is_post.false)
     (c.is_accepted.ensures.0 c.if-not-is_accepted.false) c.in_ok-response.ensures)) c.in_frames-2.ensures

@@ -13,11 +13,11 @@ returns-in-Some c =
     let cases = c.in-Some.ensures.cases in
     let prefix = (bytes_eq-Decides (take (length path) target) path).0 cases.0 in (
       λ yes. subst (λ p. IsTargetOf p c.args.target.now) c.as_bytes-2.ensures.value
-        (subst (IsTargetOf path) c.as_bytes.ensures.value
+          (subst (IsTargetOf path) c.as_bytes.ensures.value
           (of_path path target query prefix cases.1 (c.is_empty_or_begins.ensures.0 yes))),
       λ of. c.is_empty_or_begins.ensures.1 (query_of path target query cases.1
           (subst (λ p. IsTargetOf p target) (sym c.as_bytes-2.ensures.value)
-            (subst (IsTargetOf c.args.path.now) (sym c.as_bytes.ensures.value) of))),
+          (subst (IsTargetOf c.args.path.now) (sym c.as_bytes.ensures.value) of))),
     )
 
 pub returns-in-None : goal.returns-in-None
@@ -27,5 +27,5 @@ returns-in-None c =
       λ yes. absurd (true≢false (sym yes)),
       λ of. absurd (not_of_path path target c.in-None.ensures.cases
           (subst (λ p. IsTargetOf p target) (sym c.as_bytes-2.ensures.value)
-            (subst (IsTargetOf c.args.path.now) (sym c.as_bytes.ensures.value) of))),
+          (subst (IsTargetOf c.args.path.now) (sym c.as_bytes.ensures.value) of))),
     )

@@ -13,6 +13,6 @@ returns-in-Some-Some c =
     let y : Spot = c.in-Some-Some.y in
     let places = nat_cmp y.place.offset x.place.offset in
     let chosen : c.min.result ≡ cond (is_lt (ordering_then places (nat_cmp (number_of y.kind) (number_of x.kind)))) y
-      x =
+    x =
     c.min.ensures ∙ ap (λ o. cond (is_lt (ordering_then places o)) y x) (by_number y.kind x.kind) in
     grind (arith, common_steps)

@@ -17,12 +17,12 @@ loop-item-preserved t c =
       | in-Message+in_ok-message_fault-in-Message w ↦ (
           let here : IsLeast (Each (bodies_of c.item-item.result) BodyBreaks) w.in_ok-message_fault-in-Message.field-0 =
           rw w.in-Message.is
-            (rw (nested_bodies w.in-Message.nested) (rw w.get.ensures at w.in_ok-message_fault-in-Message.ensures)) in
+          (rw (nested_bodies w.in-Message.nested) (rw w.get.ensures at w.in_ok-message_fault-in-Message.ensures)) in
           rw w.first-is
-            (behind_more BodyBreaks bodies_of (items ∷ []) items c.loop-item.item-index c.item-item.result
-            c.loop-item.first
+          (behind_more BodyBreaks bodies_of (items ∷ []) items c.loop-item.item-index c.item-item.result
+          c.loop-item.first
           w.in_ok-message_fault-in-Message.field-0 w.lesser-first.result
-            (omega arith) c.item-item.is c.loop-item.invariant here w.lesser-first.ensures))
+          (omega arith) c.item-item.is c.loop-item.invariant here w.lesser-first.ensures))
       | in-Field w ↦
           rw w.first-is
           (behind_skip BodyBreaks bodies_of (items ∷ []) items c.loop-item.item-index c.item-item.result
@@ -62,5 +62,7 @@ loop-item-preserved t c =
 
 pub returns : goal.returns
 returns t c =
-    rw (take_all c.loop-item.item-index c.as_slice-items.result.now (omega arith),
-      c.as_slice-items.ensures) at c.loop-item.invariant
+    rw (
+      take_all c.loop-item.item-index c.as_slice-items.result.now (omega arith),
+      c.as_slice-items.ensures,
+    ) at c.loop-item.invariant

@@ -13,16 +13,16 @@ loop-item-preserved c = elim c.match-item.branch [
   | in-Field+in_ok-member_fault w ↦ (
       let here : IsLeast (Each (oneof_field c.item-item.result) MemberBreaks) w.in_ok-member_fault.field-0 =
       rw w.in-Field.is
-        (least_single MemberBreaks _ w.in_ok-member_fault.field-0 (rw w.get.ensures at w.in_ok-member_fault.ensures)) in
+      (least_single MemberBreaks _ w.in_ok-member_fault.field-0 (rw w.get.ensures at w.in_ok-member_fault.ensures)) in
       rw w.first-is
-        (flat_more MemberBreaks oneof_field c.args.items.now c.loop-item.item-index c.item-item.result c.loop-item.first
+      (flat_more MemberBreaks oneof_field c.args.items.now c.loop-item.item-index c.item-item.result c.loop-item.first
       w.in_ok-member_fault.field-0 w.lesser-first.result (omega arith) c.item-item.is c.loop-item.invariant here
-        w.lesser-first.ensures))
+      w.lesser-first.ensures))
   | in_default w ↦ (
       let none : oneof_field c.item-item.result ≡ [] = grind (arith, common_steps) in
       rw w.first-is
-        (flat_skip MemberBreaks oneof_field c.args.items.now c.loop-item.item-index c.item-item.result c.loop-item.first
-        (omega arith)
+      (flat_skip MemberBreaks oneof_field c.args.items.now c.loop-item.item-index c.item-item.result c.loop-item.first
+      (omega arith)
       c.item-item.is none c.loop-item.invariant))
 ]
 

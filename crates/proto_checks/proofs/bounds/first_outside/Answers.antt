@@ -18,13 +18,14 @@ loop-marked-preserved c =
     elim c.if-marked-least.branch [
       | then-marked-least w ↦ rw w.first-is
           (each_hit ns P at n here c.loop-marked.first w.lesser-first.result stands (elim w.then-marked-least.branch [
-        | then-marked-least-via-then-marked-least v ↦ (λ h. let below = v.if-marked-least.true in omega (arith, h.0))
-        | then-marked-least-via-else-marked-least+then-marked-greatest v ↦
-            (λ h. let above = v.if-marked-greatest.true in omega (arith, h.1))
-      ]) c.loop-marked.invariant w.lesser-first.ensures)
+            | then-marked-least-via-then-marked-least v ↦
+                (λ h. let below = v.if-marked-least.true in omega (arith, h.0))
+            | then-marked-least-via-else-marked-least+then-marked-greatest v ↦
+                (λ h. let above = v.if-marked-greatest.true in omega (arith, h.1))
+          ]) c.loop-marked.invariant w.lesser-first.ensures)
       | else-marked-least+else-marked-greatest w ↦ rw w.first-is
           (each_miss ns P at n here c.loop-marked.first stands
-            (λ out. out (w.if-marked-least.false, w.if-marked-greatest.false)) c.loop-marked.invariant)
+          (λ out. out (w.if-marked-least.false, w.if-marked-greatest.false)) c.loop-marked.invariant)
     ]
 
 pub returns : goal.returns

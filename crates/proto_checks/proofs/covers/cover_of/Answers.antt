@@ -10,4 +10,4 @@ returns c =
     let size : length raised ≡ c.in_ok-cover.cover.len = c.raise_ends.auto.intervals ∙ c.deref_mut.ensures.len in
     let told = rw c.deref_mut.ensures.value at c.raise_ends.ensures in
     rw (take_at raised _ c.in_ok-cover.cover.len size)
-      (cover_is c.args.ranges.now xs raised c.in_ok-cover.ensures.members told)
+    (cover_is c.args.ranges.now xs raised c.in_ok-cover.ensures.members told)

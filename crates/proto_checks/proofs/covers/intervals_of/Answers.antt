@@ -16,7 +16,7 @@ loop-range-preserved c =
     elim c.if-range.branch [
       | then-range+in_ok-push w ↦ (let e = w.in_ok-push.ensures.items in let v = w.intervals-is in
           rw v (rw e
-            (intervals_push rs n c.loop-range.intervals.items here stands w.if-range.true c.loop-range.invariant)))
+          (intervals_push rs n c.loop-range.intervals.items here stands w.if-range.true c.loop-range.invariant)))
       | else-range w ↦
           rw w.intervals-is
           (intervals_skip rs n c.loop-range.intervals.items here stands w.if-range.false c.loop-range.invariant)

@@ -13,16 +13,16 @@ loop-item-preserved c = elim c.match-item.branch [
   | in-Value+in_ok-value_fault w ↦ (
       let here : IsLeast (Each (enum_value c.item-item.result) ValueBreaks) w.in_ok-value_fault.field-0 =
       rw w.in-Value.is
-        (least_single ValueBreaks _ w.in_ok-value_fault.field-0 (rw w.get.ensures at w.in_ok-value_fault.ensures)) in
+      (least_single ValueBreaks _ w.in_ok-value_fault.field-0 (rw w.get.ensures at w.in_ok-value_fault.ensures)) in
       rw w.first-is
-        (flat_more ValueBreaks enum_value c.args.items.now c.loop-item.item-index c.item-item.result c.loop-item.first
+      (flat_more ValueBreaks enum_value c.args.items.now c.loop-item.item-index c.item-item.result c.loop-item.first
       w.in_ok-value_fault.field-0 w.lesser-first.result (omega arith) c.item-item.is c.loop-item.invariant here
-        w.lesser-first.ensures))
+      w.lesser-first.ensures))
   | in_default w ↦ (
       let none : enum_value c.item-item.result ≡ [] = grind (arith, common_steps) in
       rw w.first-is
-        (flat_skip ValueBreaks enum_value c.args.items.now c.loop-item.item-index c.item-item.result c.loop-item.first
-        (omega arith)
+      (flat_skip ValueBreaks enum_value c.args.items.now c.loop-item.item-index c.item-item.result c.loop-item.first
+      (omega arith)
       c.item-item.is none c.loop-item.invariant))
 ]
 

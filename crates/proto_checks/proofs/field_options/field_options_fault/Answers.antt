@@ -15,6 +15,6 @@ returns c =
     let first = c.bracketed_fault-on_field.result in
     let settings = bracketed c.args.declarator.now.options in
     let on_field = subst (λ o. IsLeast (Each (bracketed o) (IsWrongOnField packed wide)) first)
-      (sym c.in-Some.is) c.bracketed_fault-on_field.ensures in
+    (sym c.in-Some.is) c.bracketed_fault-on_field.ensures in
     least_union (each_union (IsWronglyPacked packed) (IsWronglyTyped wide) settings first on_field) c.in_ok-own.ensures
-      c.lesser.ensures
+    c.lesser.ensures

@@ -11,5 +11,5 @@ returns c =
     let enums = rw c.as_slice-2.ensures at (c.enums_fault-enums.ensures scope len) in
     let services = rw c.as_slice-3.ensures at (c.services_fault-services.ensures scope len) in
     declared_least c.args.limits.now desc c.messages_fault-messages.result c.enums_fault-enums.result
-      c.services_fault-services.result c.lesser-types.result
+    c.services_fault-services.result c.lesser-types.result
     c.lesser.result messages enums services c.lesser-types.ensures c.lesser.ensures

@@ -11,9 +11,9 @@ returns c =
     let statements = c.args.tree.now.statements in
     let each = rw c.as_slice-statements.ensures at c.in_ok-elements.ensures in
     let elements = each_three MessageBreaks EnumBreaks ServiceBreaks file_message file_enum file_service statements
-      c.in_ok-elements.elements each in
+    c.in_ok-elements.elements each in
     let lengths = rw c.as_slice-statements.ensures at c.lengths_fault-lengths.ensures in
     least_union
-      (least_union (least_union c.in_ok-head.ensures elements c.lesser-first.ensures) c.in_ok-names.ensures
-      c.lesser-first-2.ensures) lengths
+    (least_union (least_union c.in_ok-head.ensures elements c.lesser-first.ensures) c.in_ok-names.ensures
+    c.lesser-first-2.ensures) lengths
     c.lesser.ensures

@@ -7,7 +7,7 @@ pub loop-message-preserved : goal.loop-message-preserved
 loop-message-preserved c = flat_more MessageNamesBreak names_of c.args.messages.now c.loop-message.message-index
     c.message-item.result c.loop-message.first
     c.in_ok-message_names_fault.field-0 c.lesser-first.result (omega arith) c.message-item.is c.loop-message.invariant
-      c.in_ok-message_names_fault.ensures
+    c.in_ok-message_names_fault.ensures
     c.lesser-first.ensures
 
 pub returns : goal.returns

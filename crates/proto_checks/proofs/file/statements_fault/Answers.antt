@@ -7,7 +7,7 @@ pub loop-statement-preserved : goal.loop-statement-preserved
 loop-statement-preserved c = each_more c.args.statements.now StatementBreaks c.loop-statement.statement-index
     c.statement-item.result c.loop-statement.first
     c.in_ok-statement_fault.field-0 c.lesser-first.result
-      (omega arith, sym c.statement-item.is) c.loop-statement.invariant c.in_ok-statement_fault.ensures
+    (omega arith, sym c.statement-item.is) c.loop-statement.invariant c.in_ok-statement_fault.ensures
     c.lesser-first.ensures
 
 pub returns : goal.returns

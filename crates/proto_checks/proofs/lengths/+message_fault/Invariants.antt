@@ -11,5 +11,5 @@ use Rattle.proto_checks.proofs.lengths.+message_fault.Given as goal
 abbrev pub invariant-loop-nested : goal.invariant-loop-nested
 invariant-loop-nested l = (scope : List ℕ) → l.fn.scope_len ≡ capped scope
     → IsLeast (Each (declared_before l.message scope
-      ++ flat_map (λ n. declared_by_message n (scope_in l.message scope)) (take l.nested-index l.nested-items))
+    ++ flat_map (λ n. declared_by_message n (scope_in l.message scope)) (take l.nested-index l.nested-items))
     (IsTooLong l.limits)) l.first

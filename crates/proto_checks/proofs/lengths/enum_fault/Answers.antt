@@ -11,6 +11,6 @@ returns c = λ scope at.
     let own = rw c.as_str.ensures at (c.name_fault-own.ensures scope at) in
     let values = rw c.as_slice.ensures at (c.members_fault-values.ensures scope at) in
     least_cons (IsTooLong c.args.limits.now)
-      (record { scope = scope; name = e.name; kind = name_kind.Enum; place = e.place })
+    (record { scope = scope; name = e.name; kind = name_kind.Enum; place = e.place })
     (map (declared_value scope) e.values) c.name_fault-own.result c.members_fault-values.result c.lesser.result own
-      values c.lesser.ensures
+    values c.lesser.ensures

@@ -8,7 +8,7 @@ pub loop-declared-preserved : goal.loop-declared-preserved
 loop-declared-preserved c = λ scope at. flat_more (IsTooLong c.args.limits.now)
     (declared_by_enum scope) c.args.enums.now c.loop-declared.declared-index
     c.declared-item.result c.loop-declared.first c.enum_fault.result c.lesser-first.result
-      (omega arith) c.declared-item.is (c.loop-declared.invariant scope at)
+    (omega arith) c.declared-item.is (c.loop-declared.invariant scope at)
     (c.enum_fault.ensures scope at) c.lesser-first.ensures
 
 pub returns : goal.returns

@@ -6,5 +6,5 @@ returns c = λ scope at. inside_least c.args.limits.now scope c.args.fields.now 
     c.members_fault-field.result
     c.members_fault-oneof.result c.enums_fault-declared.result c.lesser-member.result c.lesser.result
     (c.members_fault-field.ensures scope at) (c.members_fault-oneof.ensures scope at)
-      (c.enums_fault-declared.ensures scope at) c.lesser-member.ensures
+    (c.enums_fault-declared.ensures scope at) c.lesser-member.ensures
     c.lesser.ensures

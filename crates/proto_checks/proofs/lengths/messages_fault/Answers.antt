@@ -8,7 +8,7 @@ pub loop-message-preserved : goal.loop-message-preserved
 loop-message-preserved c = λ scope at. flat_more (IsTooLong c.args.limits.now)
     (λ m. declared_by_message m scope) c.args.messages.now
     c.loop-message.message-index c.message-item.result c.loop-message.first c.message_fault.result c.lesser-first.result
-      (omega arith) c.message-item.is
+    (omega arith) c.message-item.is
     (c.loop-message.invariant scope at) (c.message_fault.ensures scope at) c.lesser-first.ensures
 
 pub returns : goal.returns

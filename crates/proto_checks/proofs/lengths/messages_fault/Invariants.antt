@@ -10,4 +10,4 @@ use Rattle.proto_checks.proofs.lengths.messages_fault.Given as goal
 abbrev pub invariant-loop-message : goal.invariant-loop-message
 invariant-loop-message l = (scope : List ℕ) → l.fn.scope_len ≡ capped scope
     → IsLeast (Each (flat_map (λ m. declared_by_message m scope) (take l.message-index l.messages))
-      (IsTooLong l.limits)) l.first
+    (IsTooLong l.limits)) l.first

@@ -12,7 +12,7 @@ returns c = λ scope at.
     let len = rw c.as_str-name.ensures at (c.full_len-len.ensures scope at) in
     let methods = rw c.as_slice.ensures at (c.members_fault-methods.ensures (scoped scope s.name) len) in
     least_cons (IsTooLong c.args.limits.now)
-      (record { scope = scope; name = s.name; kind = name_kind.Service; place = s.place })
+    (record { scope = scope; name = s.name; kind = name_kind.Service; place = s.place })
     (map (declared_method (scoped scope s.name)) s.methods) c.name_fault-own.result c.members_fault-methods.result
-      c.lesser.result own methods
+    c.lesser.result own methods
     c.lesser.ensures

@@ -8,7 +8,7 @@ pub loop-service-preserved : goal.loop-service-preserved
 loop-service-preserved c = λ scope at. flat_more (IsTooLong c.args.limits.now)
     (declared_by_service scope) c.args.services.now c.loop-service.service-index
     c.service-item.result c.loop-service.first c.service_fault.result c.lesser-first.result
-      (omega arith) c.service-item.is (c.loop-service.invariant scope at)
+    (omega arith) c.service-item.is (c.loop-service.invariant scope at)
     (c.service_fault.ensures scope at) c.lesser-first.ensures
 
 pub returns : goal.returns

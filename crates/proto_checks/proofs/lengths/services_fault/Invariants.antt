@@ -10,4 +10,4 @@ use Rattle.proto_checks.proofs.lengths.services_fault.Given as goal
 abbrev pub invariant-loop-service : goal.invariant-loop-service
 invariant-loop-service l = (scope : List ℕ) → l.fn.scope_len ≡ capped scope
     → IsLeast (Each (flat_map (declared_by_service scope) (take l.service-index l.services)) (IsTooLong l.limits))
-      l.first
+    l.first

@@ -7,7 +7,7 @@ pub loop-declared-preserved : goal.loop-declared-preserved
 loop-declared-preserved c =
     let here = rw (c.as_slice-reserved.ensures, c.as_slice.ensures) at c.in_ok-here.ensures in
     each_more c.args.enums.now EnumNamesBreak c.loop-declared.declared-index c.declared-item.result
-      c.loop-declared.first c.in_ok-here.here
+    c.loop-declared.first c.in_ok-here.here
     c.lesser-first.result (omega arith, sym c.declared-item.is) c.loop-declared.invariant here c.lesser-first.ensures
 
 pub returns : goal.returns

@@ -8,7 +8,7 @@ pub loop-setting-preserved : goal.loop-setting-preserved
 loop-setting-preserved c = each_more c.args.settings.now IsFaultOf c.loop-setting.setting-index c.setting-item.result
     c.loop-setting.first
     c.setting-item.result.fault c.lesser-first.result (omega arith, sym c.setting-item.is) c.loop-setting.invariant
-      (least_known c.setting-item.result.fault)
+    (least_known c.setting-item.result.fault)
     c.lesser-first.ensures
 
 pub returns : goal.returns

@@ -15,13 +15,13 @@ loop-statement-preserved c =
       | in-Package w ↦ rw (w.first-is, w.is_named-is)
           (repeated_next ss c.loop-statement.statement-index c.statement-item.result w.in-Package.«package»
           c.loop-statement.is_named c.loop-statement.first w.again_fault.result w.lesser-first.result
-            (omega arith) c.statement-item.is
+          (omega arith) c.statement-item.is
           (rw w.in-Package.is refl) c.loop-statement.invariant
-            (rw w.get.ensures at w.again_fault.ensures) w.lesser-first.ensures)
+          (rw w.get.ensures at w.again_fault.ensures) w.lesser-first.ensures)
       | in_default w ↦ (
           let none : file_package c.statement-item.result ≡ [] = grind (arith, common_steps) in
           rw (w.first-is, w.is_named-is)
-            (repeated_skip ss c.loop-statement.statement-index c.statement-item.result c.loop-statement.is_named
+          (repeated_skip ss c.loop-statement.statement-index c.statement-item.result c.loop-statement.is_named
           c.loop-statement.first (omega arith) c.statement-item.is none c.loop-statement.invariant))
     ]
 

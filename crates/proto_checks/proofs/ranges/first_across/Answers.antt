@@ -24,7 +24,7 @@ loop-range-preserved c =
       | then-range+then-is_reached w ↦ (let told = rw w.deref.ensures.value at w.if-is_reached.ensures in
           rw w.first-is (each_hit ss P at n here c.loop-range.first w.lesser-first.result stands
           (shared_of rs cover here c.in_ok-cover.ensures w.if-range.true (told.0 refl)) c.loop-range.invariant
-            w.lesser-first.ensures))
+          w.lesser-first.ensures))
       | else-range w ↦ rw w.first-is (each_miss ss P at n here c.loop-range.first stands (elim w.else-range.branch [
         | else-range-via-then-range+else-is_reached v ↦
             (λ shared. let told = rw v.deref.ensures.value at v.if-is_reached.ensures in

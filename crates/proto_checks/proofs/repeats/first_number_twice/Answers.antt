@@ -29,12 +29,12 @@ loop-marked-preserved c =
           (passed_clash nat_cmp (λ k. k) number_in at ns c.loop-marked.seen c.insert.new.self n here here.number
           c.loop-marked.first w.lesser-first.result exact_number stands refl c.in_ok-insert.ensures.updates
           (not-false _ (sym c.in_ok-insert.ensures.added ∙ w.if-not-branch.true)) c.loop-marked.invariant
-            w.lesser-first.ensures)
+          w.lesser-first.ensures)
       | else-not-branch w ↦
           rw w.first-is
           (passed_skip nat_cmp (λ k. k) number_in at ns c.loop-marked.seen c.insert.new.self n here here.number
           c.loop-marked.first exact_number stands refl c.in_ok-insert.ensures.updates
-            (not-true _ (sym c.in_ok-insert.ensures.added ∙ w.if-not-branch.false))
+          (not-true _ (sym c.in_ok-insert.ensures.added ∙ w.if-not-branch.false))
           c.loop-marked.invariant)
     ]
 

@@ -13,10 +13,10 @@ loop-item-preserved c = elim c.match-item.branch [
   | in-Rpc+in_ok-method_fault w ↦ (
       let here : IsLeast (Each (service_rpc c.item-item.result) RpcBreaks) w.in_ok-method_fault.field-0 =
       rw w.in-Rpc.is
-        (least_single RpcBreaks _ w.in_ok-method_fault.field-0 (rw w.get.ensures at w.in_ok-method_fault.ensures)) in
+      (least_single RpcBreaks _ w.in_ok-method_fault.field-0 (rw w.get.ensures at w.in_ok-method_fault.ensures)) in
       rw w.first-is
-        (flat_more RpcBreaks service_rpc c.args.items.now c.loop-item.item-index c.item-item.result c.loop-item.first
-        w.in_ok-method_fault.field-0
+      (flat_more RpcBreaks service_rpc c.args.items.now c.loop-item.item-index c.item-item.result c.loop-item.first
+      w.in_ok-method_fault.field-0
       w.lesser-first.result (omega arith) c.item-item.is c.loop-item.invariant here w.lesser-first.ensures))
   | in_default w ↦ (
       let none : service_rpc c.item-item.result ≡ [] = grind (arith, common_steps) in

@@ -14,32 +14,32 @@ push-requires c a named =
     let gives = c.into_iter-bytes-iterator.ensures.into_iter_gives in
     let all = YieldsList-from_vec c.args.written.items gives.0 (omega (arith, gives.1)) in
     let turn = YieldsList-turn all c.loop-bytes.yielded c.loop-bytes.bytes-iterator c.loop-bytes.yielded_by
-      c.next.result c.next.new.self c.in-Some.bytes
+    c.next.result c.next.new.self c.in-Some.bytes
     c.in-Some.is c.next.ensures.steps in
     let count = same_count c.loop-bytes.files c.loop-bytes.yielded c.loop-bytes.invariant.bytes in
     let at : c.len-file.result ≡ length c.loop-bytes.yielded = c.len-file.ensures ∙ count in
     let below : c.len-file.result < length c.args.sources.now = omega (arith, at, turn.0, c.requires.length) in
     let names = subst (λ n. map file_name c.loop-bytes.files ≡ take n (map name_of c.args.sources.now))
-      (sym at) c.loop-bytes.invariant.names in
+    (sym at) c.loop-bytes.invariant.names in
     fresh c.args.sources.now c.loop-bytes.files c.len-file.result c.requires.names below
-      (sym c.len-file.ensures) names a
+    (sym c.len-file.ensures) names a
     (subst (λ (name : List ℕ). IsNamed c.loop-bytes.files name a)
-      (sym (name_is c.args.sources.now c.len-file.result _ below)) named)
+    (sym (name_is c.args.sources.now c.len-file.result _ below)) named)
 
 pub loop-bytes-preserved : goal.loop-bytes-preserved
 loop-bytes-preserved c =
     let gives = c.into_iter-bytes-iterator.ensures.into_iter_gives in
     let all = YieldsList-from_vec c.args.written.items gives.0 (omega (arith, gives.1)) in
     let turn = YieldsList-turn all c.loop-bytes.yielded c.loop-bytes.bytes-iterator c.loop-bytes.yielded_by
-      c.next.result c.next.new.self c.in-Some.bytes
+    c.next.result c.next.new.self c.in-Some.bytes
     c.in-Some.is c.next.ensures.steps in
     let at : c.len-file.result ≡ length c.loop-bytes.yielded =
     c.len-file.ensures ∙ same_count c.loop-bytes.files c.loop-bytes.yielded c.loop-bytes.invariant.bytes in
     let below : c.len-file.result < length c.args.sources.now = omega (arith, at, turn.0, c.requires.length) in
     let names = subst (λ n. map file_name c.loop-bytes.files ≡ take n (map name_of c.args.sources.now))
-      (sym at) c.loop-bytes.invariant.names in
+    (sym at) c.loop-bytes.invariant.names in
     let pushed =
-      c.in_ok-push.ensures ∙ ap (λ (name : List ℕ). c.loop-bytes.files ++ entry name c.in-Some.bytes.items ∷ [])
+    c.in_ok-push.ensures ∙ ap (λ (name : List ℕ). c.loop-bytes.files ++ entry name c.in-Some.bytes.items ∷ [])
     (sym (name_is c.args.sources.now c.len-file.result _ below)) in
     let more : length (c.loop-bytes.yielded ++ c.in-Some.bytes ∷ []) ≡ c.len-file.result + 1 =
     length-append c.loop-bytes.yielded (c.in-Some.bytes ∷ []) ∙ ap (λ n. n + 1) (sym at) in

@@ -14,17 +14,21 @@ predecessors-requires c a b edge =
 pub mark_reached-requires-clause-within : goal.mark_reached-requires-clause-within
 mark_reached-requires-clause-within c a b edge =
     let within = turned_within (graph_of c.args.imports.now) (graph_of c.in_ok-turned.turned.items)
-    (omega (arith, c.in_ok-turned.ensures.size, length_graph c.args.imports.now,
-      length_graph c.in_ok-turned.turned.items)) c.in_ok-turned.ensures.turned a
+    (omega (
+      arith,
+      c.in_ok-turned.ensures.size,
+      length_graph c.args.imports.now,
+      length_graph c.in_ok-turned.turned.items,
+    )) c.in_ok-turned.ensures.turned a
     b (subst (λ (rows : List (Vec ℕ Global)). Edge (graph_of rows) a b) c.deref.ensures.value edge) in
     omega (arith, within, length_graph c.in_ok-turned.turned.items, c.deref.ensures.len)
 
 pub first_wrong-first-requires-clause-reaching : goal.first_wrong-first-requires-clause-reaching
 first_wrong-first-requires-clause-reaching c =
     marks_are c.args.files.now (graph_of c.args.imports.now) c.in_ok-turned.turned.items c.deref.result.now
-      c.loop-file.file c.in_ok-reaching.reaching.items
+    c.loop-file.file c.in_ok-reaching.reaching.items
     c.deref-in-loop-file.result.now c.requires.graph c.in_ok-turned.ensures.turned c.deref.ensures.value
-      c.deref-in-loop-file.ensures.value
+    c.deref-in-loop-file.ensures.value
     c.in_ok-reaching.ensures.marked
 
 pub returns-in-Some : goal.returns-in-Some
@@ -32,7 +36,7 @@ returns-in-Some c =
     let inside : c.loop-file.file < length c.args.files.now = omega arith in
     first_bad_is c.args.files.now c.loop-file.file c.as_slice.result.now c.first_wrong-first.result c.in-Some.spot
     (c.as_slice.ensures ∙ sym (imports_is c.args.files.now c.loop-file.file c.index-files-file.result inside))
-      c.in-Some.is c.first_wrong-first.ensures
+    c.in-Some.is c.first_wrong-first.ensures
     c.loop-file.invariant
 
 pub loop-file-preserved : goal.loop-file-preserved
@@ -40,7 +44,7 @@ loop-file-preserved c =
     let inside : c.loop-file.file < length c.args.files.now = omega arith in
     none_more c.args.files.now c.loop-file.file c.as_slice.result.now c.first_wrong-first.result
     (c.as_slice.ensures ∙ sym (imports_is c.args.files.now c.loop-file.file c.index-files-file.result inside))
-      c.in_default.is c.first_wrong-first.ensures
+    c.in_default.is c.first_wrong-first.ensures
     c.loop-file.invariant
 
 pub returns : goal.returns

@@ -17,7 +17,7 @@ loop-import-preserved c =
     let next : k + 1 ≡ suc k = omega arith in
     let step : take (k + 1) imports ≡ take k imports ++ i ∷ [] =
     ap (λ n. take n imports) next ∙ take-suc imports k i inside
-      ∙ ap (λ (x : ImportDesc). take k imports ++ x ∷ []) (sym c.import-item.is) in
+    ∙ ap (λ (x : ImportDesc). take k imports ++ x ∷ []) (sym c.import-item.is) in
     rw step (elim c.match-fault_of.branch [
       | in-Some w ↦
           rw w.first-is

@@ -18,31 +18,31 @@ loop-import-preserved c =
     let next : k + 1 ≡ suc k = omega arith in
     let step : take (k + 1) imports ≡ take k imports ++ i ∷ [] =
     ap (λ n. take n imports) next ∙ take-suc imports k i inside
-      ∙ ap (λ (x : ImportDesc). take k imports ++ x ∷ []) (sym c.import-item.is) in
+    ∙ ap (λ (x : ImportDesc). take k imports ++ x ∷ []) (sym c.import-item.is) in
     rw step (elim c.match-file_named.branch [
       | in-Some+in_ok-push-in-Some+then-import+in_ok-push-in-Some-2 w ↦
           targeting_public files (take k imports) i w.in-Some.target c.loop-import.all.items c.loop-import.public.items
-            c.match-file_named.all.items
+          c.match-file_named.all.items
           c.match-file_named.public.items c.match-file_named.is_whole c.requires
           (subst (λ name. IsNamed files name w.in-Some.target) c.as_str.ensures w.in-Some.ensures) w.if-import.true
           (ap (λ (v : Vec ℕ Global). v.items) w.all-is ∙ w.in_ok-push-in-Some.ensures.items)
           (ap (λ (v : Vec ℕ Global). v.items) w.public-is ∙ w.in_ok-push-in-Some-2.ensures.items)
-            (rw w.is_whole-is c.loop-import.invariant)
+          (rw w.is_whole-is c.loop-import.invariant)
       | in-Some+in_ok-push-in-Some+else-import w ↦
           targeting_private files (take k imports) i w.in-Some.target c.loop-import.all.items c.loop-import.public.items
-            c.match-file_named.all.items
+          c.match-file_named.all.items
           c.match-file_named.public.items c.match-file_named.is_whole c.requires
           (subst (λ name. IsNamed files name w.in-Some.target) c.as_str.ensures w.in-Some.ensures) w.if-import.false
           (ap (λ (v : Vec ℕ Global). v.items) w.all-is ∙ w.in_ok-push-in-Some.ensures.items)
-            (ap (λ (v : Vec ℕ Global). v.items) w.public-is)
+          (ap (λ (v : Vec ℕ Global). v.items) w.public-is)
           (rw w.is_whole-is c.loop-import.invariant)
       | in-None w ↦
           targeting_missing files (take k imports) i c.loop-import.all.items c.loop-import.public.items
-            c.match-file_named.all.items
+          c.match-file_named.all.items
           c.match-file_named.public.items c.loop-import.is_whole c.match-file_named.is_whole
           (subst (λ name. (b : ℕ) → IsNamed files name b → ⊥) c.as_str.ensures w.in-None.ensures)
           (ap (λ (v : Vec ℕ Global). v.items) w.all-is) (ap (λ (v : Vec ℕ Global). v.items) w.public-is) w.is_whole-is
-            c.loop-import.invariant
+          c.loop-import.invariant
     ])
 
 pub returns-clause-all : goal.returns-clause-all

@@ -14,7 +14,7 @@ rank_nodes-requires c = rw c.deref.ensures.value
 pub link_files-requires : goal.link_files-requires
 link_files-requires c =
     let ranks : IsRanked (graph_of c.in_ok-graph.graph.imports.items) c.in-Some.ranking.ranks.items =
-      rw c.deref.ensures.value at
+    rw c.deref.ensures.value at
     (rw c.in-Some.is at c.in_ok-ranking.ensures.ranks) in
     record {
       none_bad = none_bad c.in_ok-graph.ensures.imports ranks (c.in_ok-graph.ensures.whole c.if-graph.true);
@@ -32,6 +32,6 @@ unreachable-requires c =
           none_missing c.args.files.now none file lacking)
       | in_default w ↦ (
           let cyclic : HasNoCycle (graph_of c.deref.result.now)
-            → ⊥ = rw w.in_default.is at c.in_ok-ranking.ensures.none in
+          → ⊥ = rw w.in_default.is at c.in_ok-ranking.ensures.none in
           cyclic (rw c.deref.ensures.value (no_cycle c.in_ok-graph.ensures.imports none)))
     ]

@@ -11,16 +11,16 @@ use Rattle.proto_links.proofs.order.file_named.Goals as goal
 pub returns-in-Ok : goal.returns-in-Ok
 returns-in-Ok c =
     let found =
-      rw c.in-Ok.is at (c.binary_search_by.ensures.position (λ f. slice_cmp nat_cmp (name_of f) c.args.name.now)
+    rw c.in-Ok.is at (c.binary_search_by.ensures.position (λ f. slice_cmp nat_cmp (name_of f) c.args.name.now)
     (always_returns_same _ _ _ (λ a r g called. search rules))) in
     found_name c.args.files.now c.in-Ok.at c.args.name.now c.in-Ok.ensures.bound found
 
 pub returns-in-Err : goal.returns-in-Err
 returns-in-Err c =
     let found =
-      rw c.in-Err.is at (c.binary_search_by.ensures.position (λ f. slice_cmp nat_cmp (name_of f) c.args.name.now)
+    rw c.in-Err.is at (c.binary_search_by.ensures.position (λ f. slice_cmp nat_cmp (name_of f) c.args.name.now)
     (always_returns_same _ _ _ (λ a r g called. search rules))) in
     let split =
-      found (searchable_from_sorted nat_list_cmp_total name_of c.args.files.now c.args.name.now
-      (sorted_names c.args.files.now c.requires)) in
+    found (searchable_from_sorted nat_list_cmp_total name_of c.args.files.now c.args.name.now
+    (sorted_names c.args.files.now c.requires)) in
     no_name c.args.files.now c.in-Err.field-0 c.args.name.now split.0 split.1

@@ -10,7 +10,7 @@ returns-then-not-is_before c = (
   λ t. absurd (false≢true t),
   λ order. absurd (both_ways _ c.if-not-is_before.true (c.is_before.ensures.1
       ((pair_names c.args.files.now c.loop-next.next c.index-files-next.result c.index-files-next-in-loop-next.result
-        c.loop-next.invariant.some (omega arith)
+      c.loop-next.invariant.some (omega arith)
       c.index-files-next.is c.index-files-next-in-loop-next.is).1
       (last_pair c.args.files.now c.loop-next.next c.loop-next.invariant.some (omega arith) order)))),
 )
@@ -21,7 +21,7 @@ loop-next-preserved c = record {
   pairs = order_more c.args.files.now c.loop-next.next
       ((pair_names c.args.files.now c.loop-next.next c.index-files-next.result
       c.index-files-next-in-loop-next.result c.loop-next.invariant.some
-        (omega arith) c.index-files-next.is c.index-files-next-in-loop-next.is).0
+      (omega arith) c.index-files-next.is c.index-files-next-in-loop-next.is).0
       (c.is_before.ensures.0 c.if-not-is_before.false)) c.loop-next.invariant.some c.loop-next.invariant.pairs;
 }
 

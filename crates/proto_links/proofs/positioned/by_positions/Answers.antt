@@ -10,7 +10,7 @@ renumber_rows-requires-clause-within c =
 pub renumber_rows-requires-2-clause-within : goal.renumber_rows-requires-2-clause-within
 renumber_rows-requires-2-clause-within c =
     rw c.deref-4.ensures.value
-      (rows_within c.args.graph.now.public_imports.items (public_within c.requires.public_imports))
+    (rows_within c.args.graph.now.public_imports.items (public_within c.requires.public_imports))
 
 pub returns : goal.returns
 returns c = record {

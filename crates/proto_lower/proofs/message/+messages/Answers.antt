@@ -17,25 +17,25 @@ put_nested-loop-item-preserved t c = elim c.match-item.branch [
   | put_nested-in-Field w ↦ rw w.out-is
       (none_more (nested_of c.args.full.now) c.args.items.now c.loop-item.item-index c.item-item.result
       c.args.out.now.items c.loop-item.out.items (omega arith) c.item-item.is c.loop-item.invariant
-        (rw w.in-Field.is refl))
+      (rw w.in-Field.is refl))
   | put_nested-in-Oneof w ↦ rw w.out-is
       (none_more (nested_of c.args.full.now) c.args.items.now c.loop-item.item-index c.item-item.result
       c.args.out.now.items c.loop-item.out.items (omega arith) c.item-item.is c.loop-item.invariant
-        (rw w.in-Oneof.is refl))
+      (rw w.in-Oneof.is refl))
   | put_nested-in-Option w ↦ rw w.out-is
       (none_more (nested_of c.args.full.now) c.args.items.now c.loop-item.item-index c.item-item.result
       c.args.out.now.items c.loop-item.out.items (omega arith) c.item-item.is c.loop-item.invariant
-        (rw w.in-Option.is refl))
+      (rw w.in-Option.is refl))
   | put_nested-in-Enum w ↦ rw w.out-is
       (none_more (nested_of c.args.full.now) c.args.items.now c.loop-item.item-index c.item-item.result
       c.args.out.now.items c.loop-item.out.items (omega arith) c.item-item.is c.loop-item.invariant
-        (rw w.in-Enum.is refl))
+      (rw w.in-Enum.is refl))
   | put_nested-in-Reserved w ↦ rw w.out-is
       (none_more (nested_of c.args.full.now) c.args.items.now c.loop-item.item-index c.item-item.result
       c.args.out.now.items c.loop-item.out.items (omega arith) c.item-item.is c.loop-item.invariant
-        (rw w.in-Reserved.is refl))
+      (rw w.in-Reserved.is refl))
   | put_nested-in-Empty w ↦ rw w.out-is
       (none_more (nested_of c.args.full.now) c.args.items.now c.loop-item.item-index c.item-item.result
       c.args.out.now.items c.loop-item.out.items (omega arith) c.item-item.is c.loop-item.invariant
-        (rw w.in-Empty.is refl))
+      (rw w.in-Empty.is refl))
 ]

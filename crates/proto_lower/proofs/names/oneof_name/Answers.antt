@@ -16,6 +16,6 @@ returns-clause-value c = if_ok c.first_free.result c.first_free.ensures
 pub returns-clause-free : goal.returns-clause-free
 returns-clause-free c = if_ok c.first_free.result c.first_free.ensures (λ name by_set.
     ap (is_member bytes_eq _)
-      (found_by_set _ c.in_ok-set.set _ _ c.args.field.now (string_bytes name) c.in_ok-set.ensures
+    (found_by_set _ c.in_ok-set.set _ _ c.args.field.now (string_bytes name) c.in_ok-set.ensures
     (sym (length-map c.args.taken.now (λ name. name.now))) c.in_ok-start.ensures by_set)
     ∙ free_is_free _ (with_underscore c.args.field.now))

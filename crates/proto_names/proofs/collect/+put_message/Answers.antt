@@ -7,4 +7,4 @@ pub returns : goal.returns
 returns t c =
     let all = take_all c.loop-nested.nested-index c.as_slice-nested-items.result.now (omega arith) in
     rw (declared_out c.args.message.now c.args.scope.text.now)
-      (rw (all, c.as_slice-nested-items.ensures) at c.loop-nested.invariant)
+    (rw (all, c.as_slice-nested-items.ensures) at c.loop-nested.invariant)

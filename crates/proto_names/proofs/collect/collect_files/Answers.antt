@@ -9,10 +9,10 @@ returns-then-len-limit c =
     let files = c.args.files.now in
     let so_far : c.put_file.new.entries ≡ occurrences_from c.args.first (take (k + 1) files) =
     occurrences_more c.args.first files k c.index-files-k.result c.loop-k.entries c.put_file.new.entries
-      (omega arith) c.index-files-k.is
+    (omega arith) c.index-files-k.is
     c.loop-k.invariant.all c.in_ok-put_file.ensures in
     let many : c.args.limit < length (occurrences_from c.args.first (take (k + 1) files)) =
-      rw (← so_far) (omega arith) in
+    rw (← so_far) (omega arith) in
     omega (arith, occurrences_prefix c.args.first files (k + 1), many)
 
 pub loop-k-preserved : goal.loop-k-preserved

@@ -7,4 +7,4 @@ use Rattle.proto_names.proofs.collect.put_enums.Given as goal
 abbrev pub invariant-loop-declared : goal.invariant-loop-declared
 invariant-loop-declared l =
     l.entries ≡ l.initial.entries ++ map (declared_occurrence l.file)
-      (flat_map (declared_by_enum l.scope.text.now) (take l.declared-index l.enums))
+    (flat_map (declared_by_enum l.scope.text.now) (take l.declared-index l.enums))

@@ -7,4 +7,4 @@ use Rattle.proto_names.proofs.collect.put_messages.Given as goal
 abbrev pub invariant-loop-message : goal.invariant-loop-message
 invariant-loop-message l =
     l.entries ≡ l.initial.entries ++ map (declared_occurrence l.file)
-      (flat_map (λ m. declared_by_message m l.scope.text.now) (take l.message-index l.messages))
+    (flat_map (λ m. declared_by_message m l.scope.text.now) (take l.message-index l.messages))

@@ -7,4 +7,4 @@ use Rattle.proto_names.proofs.collect.put_services.Given as goal
 abbrev pub invariant-loop-service : goal.invariant-loop-service
 invariant-loop-service l =
     l.entries ≡ l.initial.entries ++ map (declared_occurrence l.file)
-      (flat_map (declared_by_service l.scope.text.now) (take l.service-index l.services))
+    (flat_map (declared_by_service l.scope.text.now) (take l.service-index l.services))

@@ -9,13 +9,13 @@ returns-then-full-scope c = grind (arith, common_steps, short c.args.full.now c.
 pub returns-in-Equal : goal.returns-in-Equal
 returns-in-Equal c =
     long_equal c.args.full.now c.split_at.result.0.now c.args.scope.now c.args.name.now c.split_at.result.1.now
-      c.cmp-2.result c.compare_behind.result
+    c.cmp-2.result c.compare_behind.result
     (grind (arith, common_steps)) (grind (arith, common_steps)) (grind (arith, common_steps))
-      (grind (arith, common_steps)) c.in-Equal.is
+    (grind (arith, common_steps)) c.in-Equal.is
     c.compare_behind.ensures
 
 pub returns-in_default : goal.returns-in_default
 returns-in_default c = long_unequal c.args.full.now c.split_at.result.0.now c.args.scope.now c.args.name.now
     c.split_at.result.1.now c.cmp-2.result
     (grind (arith, common_steps)) (grind (arith, common_steps)) (grind (arith, common_steps))
-      (grind (arith, common_steps)) c.in_default.not-Equal
+    (grind (arith, common_steps)) c.in_default.not-Equal

@@ -20,7 +20,7 @@ returns-clause-kept c =
       | else-not-is_empty w ↦ rw w.full-is ([], sym (append-nil old))
     ] in
     put_kept c.push_str-2.result old base c.args.name.now
-      (string_bytes c.push_str-2.new.self) prefix c.push_str-2.ensures.bytes
+    (string_bytes c.push_str-2.new.self) prefix c.push_str-2.ensures.bytes
 
 pub returns-clause-put : goal.returns-clause-put
 returns-clause-put c =
@@ -32,12 +32,12 @@ returns-clause-put c =
       | then-not-is_empty+in_ok-push_str+in_ok-push_str-2 w ↦
           (let once = string_bytes w.push_str.new.self in
           rw w.full-is (scope_put old scope once (string_bytes w.push_str-then-not-is_empty.new.self) name
-            (grind (arith, common_steps))
+          (grind (arith, common_steps))
           w.in_ok-push_str.ensures.bytes w.in_ok-push_str-2.ensures.bytes))
       | else-not-is_empty w ↦ rw w.full-is (no_scope old scope old name (grind (arith, common_steps)) refl)
     ] in
     put_whole c.push_str-2.result base name (string_bytes c.push_str-2.new.self)
-      (old ++ scoped scope name) whole c.push_str-2.ensures.bytes
+    (old ++ scoped scope name) whole c.push_str-2.ensures.bytes
 
 pub returns-clause-is_text : goal.returns-clause-is_text
 returns-clause-is_text c = on_ok_of c.push_str-2.result

@@ -31,12 +31,12 @@ returns-clause-point c =
     let p = λ (e : Entry). is_lt (ordering_then (nat_cmp e.hash hash) (slice_cmp nat_cmp (name_at text e) target)) in
     let q = λ (o : Occurrence). is_lt (name_cmp (name_of o) target) in
     let same = λ (k : ℕ) (d : Entry) (h : k < length es). ap is_lt
-      (name_order text es target hash k d h c.names.invariant c.hash_with-hash.ensures) in
+    (name_order text es target hash k d h c.names.invariant c.hash_with-hash.ensures) in
     let up = subst AreInHashOrder (sym c.names.view_is) c.requires in
     let parted = parted_entries text es p q same (parted_less os target up) in
     let point = IsPartitionPoint-from_clause p es n c.partition_point.ensures.partitioned parted
-      (λ a r f called. search rules) in
+    (λ a r f called. search rules) in
     subst (λ (ps : List Occurrence). IsPartitionPoint (λ o. name_cmp (name_of o) target ≡ Less)
-      (λ o. name_cmp (name_of o) target ≢ Less) ps n)
+    (λ o. name_cmp (name_of o) target ≢ Less) ps n)
     c.names.view_is
-      (less_point os target n (point_occurrences text es p q same n c.partition_point.ensures.bound point))
+    (less_point os target n (point_occurrences text es p q same n c.partition_point.ensures.bound point))

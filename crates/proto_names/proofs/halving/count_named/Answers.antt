@@ -32,10 +32,10 @@ returns-clause-point c =
     let q = λ (o : Occurrence). is_eq (slice_cmp nat_cmp (name_of o) target) in
     let up = subst AreInHashOrder (sym c.names.view_is) c.requires.order in
     let behind = subst (λ (ps : List Occurrence). All (λ o. name_cmp (name_of o) target ≢ Less) ps)
-      (sym c.names.view_is) c.requires.behind in
+    (sym c.names.view_is) c.requires.behind in
     let parted = parted_entries text es p q (λ k d h. refl) (parted_equal os target up behind) in
     let point = IsPartitionPoint-from_clause p es n c.partition_point.ensures.partitioned parted
-      (λ a r f called. search rules) in
+    (λ a r f called. search rules) in
     subst (λ (ps : List Occurrence). IsPartitionPoint (λ o. name_of o ≡ target) (λ o. name_of o ≢ target) ps n)
-      c.names.view_is
+    c.names.view_is
     (equal_point os target n (point_occurrences text es p q (λ k d h. refl) n c.partition_point.ensures.bound point))

@@ -16,7 +16,7 @@ returns-else-start-len c =
     (λ o below is same. elim c.else-start-len.branch [
       | else-start-len-via-then-start-len+else-has_name w ↦
           false≢true
-            (sym w.if-has_name.false
-            ∙ w.has_name.ensures.1 (ap name_of (get_or_default os start blank o below ∙ sym is) ∙ same))
+          (sym w.if-has_name.false
+          ∙ w.has_name.ensures.1 (ap name_of (get_or_default os start blank o below ∙ sym is) ∙ same))
       | else-start-len-via-else-start-len w ↦ (let past = w.if-start-len.false in absurd (omega (arith, past, below)))
     ])

@@ -15,5 +15,5 @@ loop-end-preserved c =
       so_far = λ prefix whole. c.without_byte-hash.ensures (hash_of (prefix ++ take last bytes))
           (hash_below (prefix ++ take last bytes))
           (c.loop-end.invariant.so_far prefix whole ∙ ap (λ n. hash_of (prefix ++ take n bytes)) is
-            ∙ hash_end prefix bytes last _ below);
+          ∙ hash_end prefix bytes last _ below);
     }

@@ -27,11 +27,11 @@ loop-share-preserved c =
     elim c.match-share.branch [
       | in-Some w ↦ rw w.first-is (subst (λ (ts : List (Option Location)). IsFirstOf ts (Some w.lesser.result))
           (sym (known_more shares k item (Some w.in-Some.location) below
-            (ap twice_of (sym c.share-item.is) ∙ w.in-Some.is)))
+          (ap twice_of (sym c.share-item.is) ∙ w.in-Some.is)))
           (first_more known first w.in-Some.location w.lesser.result c.loop-share.invariant w.lesser.ensures))
       | in_default w ↦ rw w.first-is (subst (λ (ts : List (Option Location)). IsFirstOf ts first)
           (sym (known_more shares k item None below (ap twice_of (sym c.share-item.is) ∙ w.in_default.is)))
-            (first_kept known first c.loop-share.invariant))
+          (first_kept known first c.loop-share.invariant))
     ]
 
 pub returns : goal.returns

@@ -15,7 +15,7 @@ returns-clause-services c =
     let l = c.loop-share in
     let rest = l.share-iterator.rest in
     let all = all_taken l.yielded rest.items c.args.shares.items l.invariant.whole
-      (omega (arith, rest.ok.0, c.in-None.ensures.steps.0)) in
+    (omega (arith, rest.ok.0, c.in-None.ensures.steps.0)) in
     subst (λ (xs : List (List ℕ)). IsPermutation xs (map string_bytes c.sort_unstable.new.self.items))
     (l.invariant.services ∙ ap (flat_map services_in) all)
     (IsPermutation-map string_bytes l.services.items c.sort_unstable.new.self.items c.sort_unstable.ensures.permutation)

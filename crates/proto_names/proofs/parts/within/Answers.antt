@@ -26,7 +26,7 @@ returns-then-len-limit c =
     let (p, stands, part) = collected_next c.args.limit parts c.args.outs.items rest all (Some os) c.requires.outs
     (ap (λ (l : List (Option (List Occurrence))). map Some all ++ l) (sym next) ∙ c.loop-out.invariant.outs) in
     too_many_together parts (length all) p stands c.requires.placed
-      (all_of all) os c.loop-out.invariant.all part.0 c.args.limit
+    (all_of all) os c.loop-out.invariant.all part.0 c.args.limit
     (omega (arith, c.if-len-limit.true, c.len-len.ensures, c.loop-out.invariant.count))
 
 pub loop-out-preserved : goal.loop-out-preserved
@@ -37,9 +37,9 @@ loop-out-preserved c =
     let os = c.in-Some-out.entries in
     let next = c.in-Some.ensures.steps.0 ∙ ap (λ (o : Option (List Occurrence)). o ∷ rest) c.in-Some-out.is in
     let whole = ap (λ (l : List (Option (List Occurrence))). map Some all ++ l) (sym next)
-      ∙ c.loop-out.invariant.outs in
+    ∙ c.loop-out.invariant.outs in
     let (p, stands, part) = collected_next c.args.limit parts c.args.outs.items rest all
-      (Some os) c.requires.outs whole in
+    (Some os) c.requires.outs whole in
     let put = c.in_ok-push.ensures.items in
     let long : length c.push.new.self.items ≡ length all + 1 = ap length put ∙ length-append all (os ∷ []) in
     let more = all_more all c.push.new.self.items os put in

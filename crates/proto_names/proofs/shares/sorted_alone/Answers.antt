@@ -13,7 +13,7 @@ pub returns-clause-shares : goal.returns-clause-shares
 returns-clause-shares c =
     let collected = (rw c.in-Some.is at c.in_ok-entries.ensures).0 in
     let items : c.push.new.self.items ≡ c.in_ok-sort_share.field-0 ∷ [] =
-      rw c.in_ok-outs.ensures.items at c.in_ok-push.ensures.items in
+    rw c.in_ok-outs.ensures.items at c.in_ok-push.ensures.items in
     subst (AreSharesOf (occurrences c.args.files.now)) (sym items)
     (alone_given (occurrences c.args.files.now) c.in_ok-sort_share.field-0
     (subst (λ os. IsSortedOf os c.in_ok-sort_share.field-0) collected c.in_ok-sort_share.ensures))

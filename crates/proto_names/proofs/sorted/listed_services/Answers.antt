@@ -15,7 +15,7 @@ loop-position-preserved c =
       | then-is_service+in_ok-to_text+in_ok-push w ↦
           rw w.services-is (services_put os k c.kind.result c.is_service.result texts below c.kind.ensures
           c.is_service.ensures c.loop-position.invariant w.in_ok-to_text.field-0 w.push.new.self.items
-            w.if-is_service.true w.in_ok-to_text.ensures
+          w.if-is_service.true w.in_ok-to_text.ensures
           w.in_ok-push.ensures.items)
       | else-is_service w ↦ rw w.services-is
           (services_passed os k c.kind.result c.is_service.result texts below c.kind.ensures c.is_service.ensures

@@ -16,7 +16,7 @@ skip-behind-requires c =
     let os = c.args.names.now in
     let sorted = order_names os c.requires.order in
     let below = start_below os (scoped c.args.scope.text.now c.args.name.now) c.in-Some.start sorted
-      c.in-Some.ensures in
+    c.in-Some.ensures in
     omega (arith, below)
 
 pub run_length-requires-clause-order : goal.run_length-requires-clause-order
@@ -24,7 +24,7 @@ run_length-requires-clause-order c =
     let os = c.args.names.now in
     let sorted = order_names os c.requires.order in
     let below = start_below os (scoped c.args.scope.text.now c.args.name.now) c.in-Some.start sorted
-      c.in-Some.ensures in
+    c.in-Some.ensures in
     subst AreInHashOrder (sym c.skip-behind.ensures) (drop_sorted os c.in-Some.start (omega (arith, below)) sorted)
 
 pub run_length-requires-clause-behind : goal.run_length-requires-clause-behind
@@ -35,14 +35,14 @@ run_length-requires-clause-behind c =
     let below = start_below os target c.in-Some.start sorted c.in-Some.ensures in
     subst (λ (ps : List Occurrence). All (λ o. name_cmp o.name target ≢ Less) ps) (sym c.skip-behind.ensures)
     (drop_behind os target c.in-Some.start (omega (arith, below))
-      (start_point os target c.in-Some.start sorted c.in-Some.ensures))
+    (start_point os target c.in-Some.start sorted c.in-Some.ensures))
 
 pub run_length-requires-clause-some : goal.run_length-requires-clause-some
 run_length-requires-clause-some c =
     let os = c.args.names.now in
     let sorted = order_names os c.requires.order in
     let below = start_below os (scoped c.args.scope.text.now c.args.name.now) c.in-Some.start sorted
-      c.in-Some.ensures in
+    c.in-Some.ensures in
     let l = length-drop c.in-Some.start os in
     let same = ap length c.skip-behind.ensures in
     omega (arith, l, below, same)
@@ -68,14 +68,14 @@ named_run c =
     let behind = c.skip-behind.ensures in
     let bound = subst (λ (ps : List Occurrence). n ≤ length ps) behind c.run_length.ensures.bound in
     let point = subst (λ (ps : List Occurrence). IsPartitionPoint (λ o. o.name ≡ target) (λ o. o.name ≢ target) ps n)
-      behind c.run_length.ensures.point in
+    behind c.run_length.ensures.point in
     run_is os target start n (omega (arith, below)) bound (start_point os target start sorted c.in-Some.ensures) point
 
 pub returns-in-Some-clause-named : goal.returns-in-Some-clause-named
 returns-in-Some-clause-named c =
     let target = scoped c.args.scope.text.now c.args.name.now in
     subst (λ (ps : List Occurrence). (o : Occurrence)
-      → Contains ps o ↔ (Contains c.args.names.now o × (o.name ≡ target)))
+    → Contains ps o ↔ (Contains c.args.names.now o × (o.name ≡ target)))
     (sym (c.take-names.ensures ∙ ap (take c.run_length.result) c.skip-behind.ensures)) (named_run c)
 
 pub returns-in-None-clause-named : goal.returns-in-None-clause-named
@@ -83,7 +83,7 @@ returns-in-None-clause-named c =
     let os = c.args.names.now in
     let target = scoped c.args.scope.text.now c.args.name.now in
     subst (λ (ps : List Occurrence). (o : Occurrence) → Contains ps o ↔ (Contains os o × (o.name ≡ target)))
-      (sym c.take.ensures)
+    (sym c.take.ensures)
     (none_is os target c.in-None.ensures)
 
 pub returns-in-Some-clause-files : goal.returns-in-Some-clause-files
@@ -94,9 +94,9 @@ returns-in-Some-clause-files c =
     let n = c.run_length.result in
     let below = start_below os target start (order_names os c.requires.order) c.in-Some.ensures in
     let named : c.take-names.result ≡ take n (drop start os) =
-      c.take-names.ensures ∙ ap (take n) c.skip-behind.ensures in
+    c.take-names.ensures ∙ ap (take n) c.skip-behind.ensures in
     let bound = subst (λ (ps : List Occurrence). n ≤ length ps) c.skip-behind.ensures c.run_length.ensures.bound in
     let len : c.len.result ≡ n = c.len.ensures ∙ ap length named ∙ length-take-le n (drop start os) bound in
     IfSome_then c.files_of-files.result c.files_of-files.ensures
     (λ p is. rw named (subst (λ k. IsPackageOf (take k (drop start os)) p.files.now p.row) len
-      (is os c.requires.packages)))
+    (is os c.requires.packages)))

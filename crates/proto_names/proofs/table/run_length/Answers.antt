@@ -16,7 +16,7 @@ returns-else-len-gt1-clause-point c =
     let other : (d : Occurrence) → 1 < length os → name_of (get_or os 1 d) ≢ target = elim c.else-len-gt1.branch [
       | else-len-gt1-via-then-len-gt1+else-has_name w ↦
           (λ d h e. true≢false (sym (w.has_name.ensures.1 (ap name_of (get_or_default os 1 blank d h) ∙ e))
-            ∙ w.if-has_name.false))
+          ∙ w.if-has_name.false))
       | else-len-gt1-via-else-len-gt1 w ↦ (λ d h. let past = w.if-len-gt1.false in absurd (omega (arith, h, past)))
     ] in
     one_point os target c.requires.order c.requires.behind c.requires.first other

@@ -17,7 +17,7 @@ loop-position-preserved c =
         | then-is_twice w ↦
             (let twice = repeats_twice os n c.requires (omega arith) (c.is_twice.ensures.0 w.if-is_twice.true) in
             rw w.first-is (passed_twice os n c.loop-position.first w.location.result w.lesser.result
-              (sym w.location.ensures) twice w.lesser.ensures
+            (sym w.location.ensures) twice w.lesser.ensures
             c.loop-position.invariant.passed))
         | else-is_twice w ↦
             rw w.first-is

@@ -12,6 +12,6 @@ pub returns-else-run : goal.returns-else-run
 returns-else-run c =
     let os = c.args.names.now in
     subst (IsRun os c.args.position (c.args.position + 1) c.args.run.start)
-      (sym (c.is_some.ensures ∙ ap is_some c.kind.ensures))
+    (sym (c.is_some.ensures ∙ ap is_some c.kind.ensures))
     (run_more os c.args.position c.args.run.start c.args.run.has_element
-      (at os c.args.position).kind c.if-run.false refl c.requires.run)
+    (at os c.args.position).kind c.if-run.false refl c.requires.run)

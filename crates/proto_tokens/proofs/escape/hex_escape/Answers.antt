@@ -6,19 +6,19 @@ pub returns-then-len-eq0 : goal.returns-then-len-eq0
 returns-then-len-eq0 c =
     let d = c.args.digits.now in
     digits_refused (92 ∷ c.args.form ∷ d) d 2 2 16 (hex_by_digits c.args.form c.requires d) c.digits_len-len.result
-      c.digits_len-len.ensures.run
+    c.digits_len-len.ensures.run
     (λ pos. absurd (omega (arith, pos, c.if-len-eq0.true)))
 
 pub returns-in_err-byte : goal.returns-in_err-byte
 returns-in_err-byte c =
     let d = c.args.digits.now in
     rw c.from_residual.ensures
-      (digits_refused (92 ∷ c.args.form ∷ d) d 2 2 16 (hex_by_digits c.args.form c.requires d) c.digits_len-len.result
+    (digits_refused (92 ∷ c.args.form ∷ d) d 2 2 16 (hex_by_digits c.args.form c.requires d) c.digits_len-len.result
     c.digits_len-len.ensures.run (λ pos. c.in_err-byte.ensures))
 
 pub returns : goal.returns
 returns c =
     let d = c.args.digits.now in
     rw (add_comm c.digits_len-len.result 2)
-      (digits_found (92 ∷ c.args.form ∷ d) d 2 2 16 (hex_by_digits c.args.form c.requires d) c.digits_len-len.result
+    (digits_found (92 ∷ c.args.form ∷ d) d 2 2 16 (hex_by_digits c.args.form c.requires d) c.digits_len-len.result
     c.digits_len-len.ensures.run c.in_ok-byte.byte (omega arith) c.in_ok-byte.ensures (omega arith))

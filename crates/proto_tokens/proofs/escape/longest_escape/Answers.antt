@@ -26,7 +26,7 @@ returns-in_err-simple_escape-in_default c =
     ] in
     rw c.from_residual-in_err-simple_escape-in_default.ensures
     (none_behind c.args.after.now c.in_ok-form.field-0.now c.in_ok-form.ensures.value form
-      c.in_err-simple_escape-in_default.ensures)
+    c.in_err-simple_escape-in_default.ensures)
 
 pub returns-in_ok-simple_escape-in_default : goal.returns-in_ok-simple_escape-in_default
 returns-in_ok-simple_escape-in_default c =
@@ -49,7 +49,7 @@ returns-in_ok-simple_escape-in_default c =
       }
     ] in
     simple_behind c.args.after.now c.in_ok-form.field-0.now c.in_ok-simple_escape-in_default.field-0
-      c.in_ok-form.ensures.value form
+    c.in_ok-form.ensures.value form
     c.in_ok-simple_escape-in_default.ensures (omega arith)
 
 pub returns-in-120 : goal.returns-in-120

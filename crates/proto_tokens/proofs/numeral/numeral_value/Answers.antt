@@ -13,5 +13,5 @@ returns-then-not-are_digits c = inl (
 pub returns : goal.returns
 returns c =
     has_value c.args.bytes.now c.numeral_parts-base.result.0 c.numeral_parts-base.result.1.now c.digits_value.result
-      c.ok_or.result
+    c.ok_or.result
     (sym c.if-not-are_digits.ensures) c.numeral_parts-base.ensures.parts c.digits_value.ensures c.ok_or.ensures.value

@@ -10,11 +10,11 @@ returns-in_err-value c =
     let p = err_from_is_err_and c.from_residual.result c.from_residual.ensures.1 in
     rw (p.1, p.2) (number_fault c.args.rest.now c.in_err-value.field-0.0 c.requires
     (subst (λ (k : ℕ). IsNumeralFault (take k c.args.rest.now) c.in_err-value.field-0.0) c.numeric_len-len.ensures.run
-      c.in_err-value.ensures))
+    c.in_err-value.ensures))
 
 pub returns : goal.returns
 returns c =
     let small : c.in_ok-value.value < 2 ^ 64 = omega arith in
     rw c.numeric_len-len.ensures.run (longest_number c.args.rest.now c.in_ok-value.value
     (subst (λ (k : ℕ). IsNumeral (take k c.args.rest.now) c.in_ok-value.value) c.numeric_len-len.ensures.run
-      c.in_ok-value.ensures) small)
+    c.in_ok-value.ensures) small)

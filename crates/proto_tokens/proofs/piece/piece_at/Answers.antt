@@ -15,7 +15,7 @@ pub returns-then-is_letter : goal.returns-then-is_letter
 returns-then-is_letter c =
     let s = drop c.args.at c.args.source.now in
     let first = ap (λ (l : List ℕ). is_letter (get_or l 0 0)) (sym c.bytes_from-rest.ensures.rest)
-      ∙ sym c.if-is_letter.ensures in
+    ∙ sym c.if-is_letter.ensures in
     let begins_so = begins_from is_letter s (omega (arith, length-drop c.args.at c.args.source.now)) first in
     found_identifier s c.identifier-name.result.now begins_so c.identifier-name.ensures
 
@@ -31,5 +31,5 @@ returns-in-Err-comment_or_punctuation c =
 pub returns : goal.returns
 returns c = fault_here _ _ c.args.at _ _ c.bytes_from-rest.ensures.rest
     (bad_byte c.bytes_from-rest.result.now (omega arith) (sym c.if-is_blank.ensures) (sym c.if-is_letter.ensures)
-      (sym c.if-is_ascii_digit.ensures.value)
+    (sym c.if-is_ascii_digit.ensures.value)
     (sym c.if-is_quote.ensures) (sym c.if-is_punctuation.ensures)) c.fault_at-2.ensures

@@ -17,37 +17,37 @@ returns-then-after-len c =
     let after = c.bytes_behind-after.result.now in
     let quote = get_or bytes c.args.at 0 in
     let here = quote_here source c.args.at bytes after c.requires.within c.as_bytes-bytes.ensures.value
-      c.bytes_behind-after.ensures.rest in
+    c.bytes_behind-after.ensures.rest in
     let quote_is = begins_quote source c.args.at quote after c.requires.quote here in
     let closed = plain_closed quote after c.plain_len-len.result quote_is c.plain_len-len.ensures.run
-      (c.if-len-after.true, c.if-after-len.true) in
+    (c.if-len-after.true, c.if-after-len.true) in
     let value = c.range.ensures.value ∙ slice_behind source bytes after c.args.at c.plain_len-len.result
-      c.as_bytes-bytes.ensures.value
+    c.as_bytes-bytes.ensures.value
     c.bytes_behind-after.ensures.rest in
     found_string (drop c.args.at source) quote after (take c.plain_len-len.result after) c.range.result.now
-      c.plain_len-len.result here closed value
+    c.plain_len-len.result here closed value
     c.range.utf8
 
 pub returns-in-Ok : goal.returns-in-Ok
 returns-in-Ok c =
     let here = quote_here c.args.source.now c.args.at c.as_bytes-bytes.result.now c.bytes_behind-after.result.now
-      c.requires.within
+    c.requires.within
     c.as_bytes-bytes.ensures.value c.bytes_behind-after.ensures.rest in
     found_string (drop c.args.at c.args.source.now)
-      (get_or c.as_bytes-bytes.result.now c.args.at 0) c.bytes_behind-after.result.now c.in_ok-value.value.items
+    (get_or c.as_bytes-bytes.result.now c.args.at 0) c.bytes_behind-after.result.now c.in_ok-value.value.items
     (string_bytes c.in-Ok.value) c.in_ok-value.end here c.in_ok-value.ensures
-      (ap (λ (v : Vec ℕ). v.items) c.in-Ok.ensures.ok)
+    (ap (λ (v : Vec ℕ). v.items) c.in-Ok.ensures.ok)
     (IsUtf8-string_bytes c.in-Ok.value)
 
 pub returns : goal.returns
 returns c =
     let here = quote_here c.args.source.now c.args.at c.as_bytes-bytes.result.now c.bytes_behind-after.result.now
-      c.requires.within
+    c.requires.within
     c.as_bytes-bytes.ensures.value c.bytes_behind-after.ensures.rest in
     not_text_here (drop c.args.at c.args.source.now)
-      (get_or c.as_bytes-bytes.result.now c.args.at 0) c.bytes_behind-after.result.now c.in_ok-value.value.items
+    (get_or c.as_bytes-bytes.result.now c.args.at 0) c.bytes_behind-after.result.now c.in_ok-value.value.items
     c.in_ok-value.end c.args.at c.fault_at.result here c.in_ok-value.ensures c.in-Err.ensures.succeeds
-      c.fault_at.ensures
+    c.fault_at.ensures
 
 pub range-requires-clause-end_boundary : goal.range-requires-clause-end_boundary
 range-requires-clause-end_boundary c = grind (arith, common_steps)

@@ -4,7 +4,7 @@ use Rattle.proto_tokens.proofs.tokenizer.tokenize.Goals as goal
 pub returns-clause-every_spelling : goal.returns-clause-every_spelling
 returns-clause-every_spelling c =
     rw (← c.get.ensures.value)
-      (of_every_spelling c.get.result c.args.text.now c.first_answer.result c.first_answer.ensures.tokens)
+    (of_every_spelling c.get.result c.args.text.now c.first_answer.result c.first_answer.ensures.tokens)
 
 pub returns-clause-every_fault : goal.returns-clause-every_fault
 returns-clause-every_fault c = rw (← c.get.ensures.value)

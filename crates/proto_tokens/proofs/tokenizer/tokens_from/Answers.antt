@@ -7,13 +7,13 @@ use Rattle.proto_tokens.proofs.tokenizer.tokens_from.Goals as goal
 pub loop-at-preserved-in_ok-push : goal.loop-at-preserved-in_ok-push
 loop-at-preserved-in_ok-push c =
     token_pushed c.args.source.now c.args.start c.loop-at.at c.in_ok-kind.len c.loop-at.tokens.items
-      c.push.new.self.items c.in_ok-kind.kind c.in-Some.kind
+    c.push.new.self.items c.in_ok-kind.kind c.in-Some.kind
     c.loop-at.invariant c.in_ok-kind.ensures c.in-Some.is c.in_ok-push.ensures.items
 
 pub loop-at-preserved : goal.loop-at-preserved
 loop-at-preserved c =
     gap_passed c.args.source.now c.args.start c.loop-at.at c.in_ok-kind.len
-      (map spelled c.loop-at.tokens.items) c.in_ok-kind.kind c.loop-at.invariant
+    (map spelled c.loop-at.tokens.items) c.in_ok-kind.kind c.loop-at.invariant
     c.in_ok-kind.ensures c.in_default.is
 
 pub overflow_add-end : goal.overflow_add-end

@@ -16,9 +16,9 @@ returns c =
     record {
       puts = λ os seen scope.
           puts_both os (IsSeen seen) (flat_map (λ m. references_by_message m scope) f.messages)
-            (flat_map (references_of_service scope) f.services)
+          (flat_map (references_of_service scope) f.services)
           (AllZip (IsTypedMessage os (IsSeen seen) scope) f.messages messages)
-            (AllZip (IsTypedService os (IsSeen seen) scope) f.services services)
+          (AllZip (IsTypedService os (IsSeen seen) scope) f.services services)
           (IsTypedIn os (IsSeen seen) scope f (record {
             name = f.name;
             «package» = f.«package»;
@@ -29,7 +29,10 @@ returns c =
             options = f.options;
           }))
           c.args.types.now.items c.fill_messages.new.types.items c.fill_services.new.types.items
-          (λ ms ss. record { messages_typed = messages_typed os (IsSeen seen) scope f.messages messages ms;
-            services_typed = ss; same = refl })
+          (λ ms ss. record {
+            messages_typed = messages_typed os (IsSeen seen) scope f.messages messages ms;
+            services_typed = ss;
+            same = refl;
+          })
           (c.fill_messages.ensures.puts os seen scope) (c.fill_services.ensures.puts os seen scope);
     }

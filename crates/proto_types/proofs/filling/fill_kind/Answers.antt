@@ -15,8 +15,8 @@ returns-in-Named c = λ options.
     (record {
       puts = λ os seen scope.
           puts_as os (IsSeen seen) (references_of_type scope want.AnyType options r)
-            (IsTyped os (IsSeen seen) scope r typed)
+          (IsTyped os (IsSeen seen) scope r typed)
           (IsTypedKind os (IsSeen seen) scope (Named r) (Named typed)) c.args.types.now.items
-            c.fill_reference.new.types.items
+          c.fill_reference.new.types.items
           (λ h. (typed, h, refl)) ((c.fill_reference.ensures want.AnyType options).puts os seen scope);
     })

@@ -15,7 +15,7 @@ returns c =
     record {
       puts = λ os seen scope.
           puts_both os (IsSeen seen) (references_of_type scope want.MessageOnly [] m.input)
-            (references_of_type scope want.MessageOnly [] m.output)
+          (references_of_type scope want.MessageOnly [] m.output)
           (IsTyped os (IsSeen seen) scope m.input input) (IsTyped os (IsSeen seen) scope m.output output)
           (IsTypedMethod os (IsSeen seen) scope m (record {
             name = m.name;
@@ -29,5 +29,5 @@ returns c =
           c.args.types.now.items after c.fill_reference-2.new.types.items
           (λ h k. record { input_typed = h; output_typed = k; same = refl })
           ((c.fill_reference.ensures want.MessageOnly []).puts os seen scope)
-            ((c.fill_reference-2.ensures want.MessageOnly []).puts os seen scope);
+          ((c.fill_reference-2.ensures want.MessageOnly []).puts os seen scope);
     }

@@ -14,10 +14,10 @@ returns c =
     record {
       puts = λ os seen scope.
           puts_as os (IsSeen seen) (references_of_service scope s)
-            (AllZip (IsTypedMethod os (IsSeen seen) (scoped scope s.name)) s.methods filled)
+          (AllZip (IsTypedMethod os (IsSeen seen) (scoped scope s.name)) s.methods filled)
           (IsTypedService os (IsSeen seen) scope s
-            (record { name = s.name; place = s.place; methods = filled; options = s.options })) c.args.types.now.items
+          (record { name = s.name; place = s.place; methods = filled; options = s.options })) c.args.types.now.items
           c.fill_methods.new.types.items
           (λ methods. record { methods_typed = methods; same = refl })
-            (c.fill_methods.ensures.puts os seen (scoped scope s.name));
+          (c.fill_methods.ensures.puts os seen (scoped scope s.name));
     }

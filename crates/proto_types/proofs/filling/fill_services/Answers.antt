@@ -12,16 +12,16 @@ loop-position-preserved c =
       length-set l.list.items l.position filled ∙ l.invariant.0,
       rest_next l.list.items before l.position filled l.invariant.1,
       filled_next references_of_service IsTypedService before l.list.items l.position c.index_mut.result.now filled
-        c.args.types.now.items l.types.items
+          c.args.types.now.items l.types.items
           c.fill_service.new.types.items (search (rules, arith)) c.index_mut.ensures.value l.invariant.0 l.invariant.1
-            l.invariant.2 c.fill_service.ensures,
+          l.invariant.2 c.fill_service.ensures,
     )
 
 pub returns : goal.returns
 returns c =
     let l = c.loop-position in
     filled_all references_of_service IsTypedService c.args.services.now c.into_vec-list.result.items l.list.items _
-      l.position c.args.types.now.items
+    l.position c.args.types.now.items
     l.types.items (search (rules, arith)) (c.into_vec-list.ensures ∙ c.replace.ensures.value)
-      (c.swap.ensures.x_after ∙ c.from_vec-filled.ensures)
+    (c.swap.ensures.x_after ∙ c.from_vec-filled.ensures)
     l.invariant.0 l.invariant.2

@@ -10,4 +10,4 @@ invariant-loop-position l =
     (length l.list.items ≡ length l.initial.list.items)
     × ((k : ℕ) (d : ServiceDesc) → l.position ≤ k → get_or l.list.items k d ≡ get_or l.initial.list.items k d)
     × AreFilled references_of_service IsTypedService (take l.position l.initial.list.items)
-      (take l.position l.list.items) l.initial.types.items l.types.items
+    (take l.position l.list.items) l.initial.types.items l.types.items

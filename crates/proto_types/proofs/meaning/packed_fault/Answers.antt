@@ -16,16 +16,16 @@ loop-option-preserved c =
       | then-is_packed w ↦
           rw w.first-is (each_more c.args.options.now SetsPacked c.loop-option.option-index o c.loop-option.first
           (Some (spot o.place kind.PackedOnMessage)) w.lesser-first.result
-            (omega arith, sym c.option-item.is) c.loop-option.invariant
+          (omega arith, sym c.option-item.is) c.loop-option.invariant
           (least_hit (IsPacked o) (spot o.place kind.PackedOnMessage) (c.is_packed.ensures.0 w.if-is_packed.true))
-            w.lesser-first.ensures)
+          w.lesser-first.ensures)
       | else-is_packed w ↦
           rw w.first-is
           (each_more c.args.options.now SetsPacked c.loop-option.option-index o c.loop-option.first None
           c.loop-option.first
           (omega arith, sym c.option-item.is) c.loop-option.invariant
           (least_miss (IsPacked o) (spot o.place kind.PackedOnMessage)
-            (λ packed. false≢true (sym w.if-is_packed.false ∙ c.is_packed.ensures.1 packed)))
+          (λ packed. false≢true (sym w.if-is_packed.false ∙ c.is_packed.ensures.1 packed)))
           (lesser_none c.loop-option.first))
     ]
 

@@ -9,7 +9,7 @@ pub returns-clause-typed : goal.returns-clause-typed
 returns-clause-typed c = λ os seen means.
     let types = c.args.types.items in
     (c.fill_file.ensures.puts os seen (file_scope c.args.desc.now.«package») types [] means
-      (c.from.ensures.0 ∙ sym (append-nil types))).1
+    (c.from.ensures.0 ∙ sym (append-nil types))).1
 
 pub returns-clause-resolved : goal.returns-clause-resolved
 returns-clause-resolved c = λ os seen means.

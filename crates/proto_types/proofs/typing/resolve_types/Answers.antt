@@ -6,14 +6,14 @@ use Rattle.proto_types.proofs.typing.resolve_types.Goals as goal
 pub returns-in-None-clause-types : goal.returns-in-None-clause-types
 returns-in-None-clause-types c =
     let found = found_all c.args.index.now.occurrences (SeenBy c.args.links.now c.args.file) _ c.new-found.result
-      c.file.new.found c.new-found.ensures.types
+    c.file.new.found c.new-found.ensures.types
     c.new-found.ensures.fault c.in_ok-file.ensures in
     found.means c.in-None.is
 
 pub returns-in-None-clause-whole : goal.returns-in-None-clause-whole
 returns-in-None-clause-whole c = λ x broken.
     let found = found_all c.args.index.now.occurrences (SeenBy c.args.links.now c.args.file) _ c.new-found.result
-      c.file.new.found c.new-found.ensures.types
+    c.file.new.found c.new-found.ensures.types
     c.new-found.ensures.fault c.in_ok-file.ensures in
     let least = rw c.in-None.is at found.least in
     least.is x broken
@@ -21,7 +21,7 @@ returns-in-None-clause-whole c = λ x broken.
 pub returns-in-Some-clause-first : goal.returns-in-Some-clause-first
 returns-in-Some-clause-first c = λ place kind e.
     let found = found_all c.args.index.now.occurrences (SeenBy c.args.links.now c.args.file) _ c.new-found.result
-      c.file.new.found c.new-found.ensures.types
+    c.file.new.found c.new-found.ensures.types
     c.new-found.ensures.fault c.in_ok-file.ensures in
     let least = rw c.in-Some.is at found.least in
     let at : c.in-Some.fault.place ≡ place = cc in

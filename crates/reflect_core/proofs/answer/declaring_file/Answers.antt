@@ -9,9 +9,9 @@ returns-in-Some-clause-answer c =
     let w = found_is c.args.compiled.now c.names.result.now c.args.symbol.now c.in-Some.defined c.names.ensures
     (c.find.ensures.found c.in-Some.defined c.in-Some.is) in
     subst (λ (a : ℕ). IsAnswer c.args.compiled.now (file_by_symbol c.args.symbol.now) (file a)) w.same_file
-      (declared c.args.symbol.now w.occurrence w.declares)
+    (declared c.args.symbol.now w.occurrence w.declares)
 
 pub returns-in-None-clause-answer : goal.returns-in-None-clause-answer
 returns-in-None-clause-answer c =
     not_declared c.args.symbol.now (none_is c.args.compiled.now c.names.result.now c.args.symbol.now c.names.ensures
-      (c.find.ensures.none c.in-None.is))
+    (c.find.ensures.none c.in-None.is))

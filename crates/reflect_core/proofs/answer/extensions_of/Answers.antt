@@ -20,12 +20,12 @@ returns-in_default-clause-answer c =
     elim c.in_default.branch [
       | in_default-via-in-Some+else-is_message w ↦
           let found = found_is compiled index name w.in-Some.defined c.names-2.ensures
-            (c.find.ensures.found w.in-Some.defined w.in-Some.is) in
+          (c.find.ensures.found w.in-Some.defined w.in-Some.is) in
           no_message name (λ o d k.
           let same = one_is compiled c.names.result.now name c.names.ensures c.names_are_declared_once.ensures o
-            found.occurrence d found.declares in
+          found.occurrence d found.declares in
           let kind : Some w.in-Some.defined.kind ≡ Some Message =
-            sym found.kind ∙ ap (λ (x : Occurrence). x.kind) (sym same) ∙ k in
+          sym found.kind ∙ ap (λ (x : Occurrence). x.kind) (sym same) ∙ k in
           false≢true (sym w.if-is_message.false ∙ w.is_message.ensures.1 (same_Some _ _ kind)))
       | in_default-via-in_default w ↦ no_message name
           (λ o d k. none_is compiled index name c.names-2.ensures (c.find.ensures.none w.in_default.is) o d)

@@ -20,8 +20,12 @@ loop-message-preserved c =
       asked = subst (λ (l : List rust.Asked). AllZip (IsAsked compiled) (map bytes_of (take (k + 1) messages))
           (map asked_of l)) pushed
           (zip_more (IsAsked compiled) bytes_of asked_of messages old k _ _ (omega arith) c.loop-message.invariant.asked
-          (record { same = refl; ask = _; reads = All-get_or Reads messages k _ (omega arith) c.requires;
-            answered = c.answer_to.ensures.answer }));
+          (record {
+            same = refl;
+            ask = _;
+            reads = All-get_or Reads messages k _ (omega arith) c.requires;
+            answered = c.answer_to.ensures.answer;
+          }));
       within = subst (λ (l : List rust.Asked). All within l) pushed
           (All-push within old _ c.loop-message.invariant.within c.answer_to.ensures.within);
     }

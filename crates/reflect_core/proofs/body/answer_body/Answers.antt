@@ -26,18 +26,18 @@ response_to-requires g c =
     let ys = c.in_ok-carried.carried.items in
     let services = c.in_ok-services.services.items in
     let reads = subst (λ l. ReadsBody l c.args.body.now messages c.in_ok-stream.stream.status) c.limits.ensures
-      c.in_ok-stream.ensures.body in
+    c.in_ok-stream.ensures.body in
     let asked : AllZip (IsAsked compiled) messages (map asked_of xs) =
     subst (λ l. AllZip (IsAsked compiled) (map bytes_of l) (map asked_of xs)) c.deref.ensures.value
-      c.in_ok-asked.ensures.asked in
+    c.in_ok-asked.ensures.asked in
     let roots = c.deref-3.ensures.value ∙ c.in_ok-roots.ensures
-      ∙ ap (λ l. map root (map asked_of l)) c.deref-2.ensures.value in
+    ∙ ap (λ l. map root (map asked_of l)) c.deref-2.ensures.value in
     let lists : map files_of ys ≡ carried c.args.mode (reach_of compiled.links) (map root (map asked_of xs)) =
     c.in_ok-carried.ensures ∙ (λ i. carried c.args.mode (reach_of (c.new-reach.ensures i)) (roots i)) in
     let listed = subst (λ l. AreServicesFor compiled l services) c.deref-4.ensures.value c.in_ok-services.ensures in
     let all = replyable compiled c.holds_replies.ensures messages xs ys services c.args.mode
     (allowed_of compiled c.args.body.now messages c.in_ok-stream.stream.status reads) asked c.in_ok-asked.ensures.within
-      lists listed in
+    lists listed in
     subst (λ l. AreReplyable compiled l c.deref-5.result.now c.deref-6.result.now) (sym c.as_slice.ensures.value)
     (subst (λ l. AreReplyable compiled services l c.deref-6.result.now) (sym c.deref-5.ensures.value)
     (subst (λ l. AreReplyable compiled services xs l) (sym c.deref-6.ensures.value) all))
@@ -49,17 +49,17 @@ returns g c =
     let xs = c.in_ok-asked.asked.items in
     let ys = c.in_ok-carried.carried.items in
     let reads = subst (λ l. ReadsBody l c.args.body.now messages c.in_ok-stream.stream.status) c.limits.ensures
-      c.in_ok-stream.ensures.body in
+    c.in_ok-stream.ensures.body in
     let asked : AllZip (IsAsked compiled) messages (map asked_of xs) =
     subst (λ l. AllZip (IsAsked compiled) (map bytes_of l) (map asked_of xs)) c.deref.ensures.value
-      c.in_ok-asked.ensures.asked in
+    c.in_ok-asked.ensures.asked in
     let roots = c.deref-3.ensures.value ∙ c.in_ok-roots.ensures
-      ∙ ap (λ l. map root (map asked_of l)) c.deref-2.ensures.value in
+    ∙ ap (λ l. map root (map asked_of l)) c.deref-2.ensures.value in
     let lists : map files_of ys ≡ carried c.args.mode (reach_of compiled.links) (map root (map asked_of xs)) =
     c.in_ok-carried.ensures ∙ (λ i. carried c.args.mode (reach_of (c.new-reach.ensures i)) (roots i)) in
     IfOk-weaker c.response_to.result _ _ (λ bytes is.
     answered c.args.mode compiled c.args.body.now bytes.items messages c.in_ok-stream.stream.status xs ys
-      reads asked lists
+    reads asked lists
     (is ∙ (λ i. flat_map (frame 0)
-      (replies_to compiled (map asked_of (c.deref-5.ensures.value i)) (map files_of (c.deref-6.ensures.value i)))
+    (replies_to compiled (map asked_of (c.deref-5.ensures.value i)) (map files_of (c.deref-6.ensures.value i)))
     ++ frame 128 (trailer c.in_ok-stream.stream.status)))) c.response_to.ensures

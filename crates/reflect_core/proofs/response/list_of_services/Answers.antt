@@ -9,5 +9,5 @@ pub returns : goal.returns
 returns c =
     let all = λ (names : List (List ℕ)). flat_map (λ name. bytes_field 1 (bytes_field 1 name)) names in
     c.loop-name.invariant ∙ ap (λ l. all (map string_bytes l))
-      (take_all c.loop-name.name-index c.services-name-items.result.now c.loop-name-test.false)
+    (take_all c.loop-name.name-index c.services-name-items.result.now c.loop-name-test.false)
     ∙ ap all c.services-name-items.ensures.listed ∙ ap (λ (i : Index). all i.services) c.names.ensures

@@ -22,11 +22,11 @@ returns c =
     let len = c.len.ensures in
     let size : c.len.result ≡ length (trailer c.args.status) = omega (arith, whole, len) in
     let head : c.to_be_bytes.result ≡ to_be_bytes w32 (length (trailer c.args.status)) =
-      c.to_be_bytes.ensures ∙ ap (λ n. to_be_bytes w32 n) size in
+    c.to_be_bytes.ensures ∙ ap (λ n. to_be_bytes w32 n) size in
     let all = frame_pushed c.args.out.now.items c.push.new.self.items c.extend_from_slice.new.self.items _
-      c.to_be_bytes.result c.as_bytes.result.now 128
+    c.to_be_bytes.result c.as_bytes.result.now 128
     c.in_ok-push.ensures.items c.in_ok-extend_from_slice.ensures.items refl in
     subst (λ (l : List ℕ). OnOk c.extend_from_slice-2.result (c.extend_from_slice-2.new.self.items ≡ l))
     (all ∙ (λ i. c.args.out.now.items ++ 128 ∷ (head i ++ message i)))
     (on_ok c.extend_from_slice-2.result c.extend_from_slice-2.new.self.items c.extend_from_slice.new.self.items _
-      c.extend_from_slice-2.ensures.items)
+    c.extend_from_slice-2.ensures.items)

@@ -11,7 +11,7 @@ returns c =
           c.in-Some-split_first_chunk.after.now c.split_at.result.0.now
           c.split_at.result.1.now c.in-Some.flag.now c.from_be_bytes-size.result
           first.0 (omega arith) chunk.0 chunk.1 (omega arith)
-            (λ i. let h = c.type_inv.rest i in omega arith) c.from_be_bytes-size.ensures
+          (λ i. let h = c.type_inv.rest i in omega arith) c.from_be_bytes-size.ensures
           c.split_at.ensures.front c.split_at.ensures.back len;
       short = omega arith;
       room = omega arith;

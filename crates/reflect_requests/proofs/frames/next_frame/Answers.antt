@@ -11,5 +11,5 @@ returns-in-None c =
     let message = c.in-Ok.cut.0.now in
     other_message c.args.limits.now c.args.count c.args.rest.now message c.in-Ok.cut.1.now (omega arith) c.in-Ok.ensures
     (subst (λ (o : Option Request). MatchOption o (IsRequest message → ⊥)
-      (λ request. ReadsRequest message request.host.now (ask_of request.ask))) c.in-None.is
+    (λ request. ReadsRequest message request.host.now (ask_of request.ask))) c.in-None.is
     c.in_ok-request.ensures)

@@ -14,7 +14,7 @@ loop-messages-preserved c =
     let old = c.loop-messages.messages.items in
     let m = c.in-Frame.message in
     let next = subst (IsNext c.args.limits.now c.len.result c.loop-messages.rest.now) c.in-Frame.is
-      c.in_ok-message.ensures in
+    c.in_ok-message.ensures in
     let pushed = sym c.in_ok-push-in-Frame.ensures.items in
     let inv = c.loop-messages.invariant in
     record {
@@ -32,7 +32,7 @@ pub returns-in-End-clause-body : goal.returns-in-End-clause-body
 returns-in-End-clause-body c =
     let old = c.loop-messages.messages.items in
     let next = subst (IsNext c.args.limits.now c.len.result c.loop-messages.rest.now) c.in-End.is
-      c.in_ok-message.ensures in
+    c.in_ok-message.ensures in
     let inv = c.loop-messages.invariant in
     let count : length (map bytes_of old) ≡ length old = length-map old bytes_of in
     record {
@@ -47,7 +47,7 @@ returns-in-End-clause-body c =
               λ room. next.none (let len = c.len.ensures in omega (arith, room, count, len));
         },
         c.number-in-End.ensures ∙ next.status_is
-          ∙ ap (λ k. status_of c.args.limits.now k c.loop-messages.rest.now) (let len = c.len.ensures in
+            ∙ ap (λ k. status_of c.args.limits.now k c.loop-messages.rest.now) (let len = c.len.ensures in
             let same : c.len.result ≡ length (map bytes_of old) = omega (arith, len, count) in same),
       );
     }

@@ -9,14 +9,14 @@ use Rattle.reflect_requests.proofs.request.check_extension.Goals as goal
 pub returns-in_err-fields-clause-malformed : goal.returns-in_err-fields-clause-malformed
 returns-in_err-fields-clause-malformed c e request =
     c.in_err-fields.ensures.malformed (grind (arith, common_steps, c.from_residual.ensures, e))
-      request.fields request.row
+    request.fields request.row
 
 pub returns-in_err-check_containing_type-clause-malformed : goal.returns-in_err-check_containing_type-clause-malformed
 returns-in_err-check_containing_type-clause-malformed c e request =
     let items = c.deref-field-items.result.now in
     let row : IsRow c.args.message.now (map field_of items) =
-      rw c.deref-field-items.ensures.value c.in_ok-fields.ensures.found in
+    rw c.deref-field-items.ensures.value c.in_ok-fields.ensures.found in
     let whole = extension_is c.args.message.now (map field_of items) row request in
     c.in_err-check_containing_type.ensures.other
-      (left_here IsContainingTypeUtf8 field_of (map field_of items) items c.loop-field.field-index _
+    (left_here IsContainingTypeUtf8 field_of (map field_of items) items c.loop-field.field-index _
     c.loop-field-test.true c.loop-field.invariant whole)

@@ -9,15 +9,15 @@ use Rattle.reflect_requests.proofs.request.read_request.Goals as goal
 pub returns-in_err-fields-clause-malformed : goal.returns-in_err-fields-clause-malformed
 returns-in_err-fields-clause-malformed c e host asked request =
     c.in_err-fields.ensures.malformed (grind (arith, common_steps, c.from_residual.ensures, e))
-      request.fields request.row
+    request.fields request.row
 
 pub returns-in_err-text-clause-malformed : goal.returns-in_err-text-clause-malformed
 returns-in_err-text-clause-malformed c e host asked request =
     let items = c.deref-field-items.result.now in
     let row : IsRow c.args.message.now (map field_of items) =
-      rw c.deref-field-items.ensures.value c.in_ok-fields.ensures.found in
+    rw c.deref-field-items.ensures.value c.in_ok-fields.ensures.found in
     let whole = request_is c.args.message.now host asked (map field_of items) row request in
     let known = left_here IsWellFormed field_of
-      (map field_of items) items c.loop-field.field-index _ c.loop-field-test.true
+    (map field_of items) items c.loop-field.field-index _ c.loop-field-test.true
     c.loop-field.invariant.decided.known whole in
     c.in_err-text.ensures.malformed (grind (arith, common_steps, c.from_residual-in_err-text.ensures, e)) known

@@ -12,7 +12,7 @@ returns-in_err-write_bytes g c =
     let P : List Source → Type 0 = λ sources. AreSourcesOf c.args.texts.now sources in
     let Q : List ℕ → Type 0 = λ report. IsFound c.args.limits.now c.args.places.now c.args.texts.now judged report in
     unwritten c.args.limits.now c.args.places.now c.args.texts.now (writes c.args.output.now)
-      (writes c.write_bytes.new.writer)
+    (writes c.write_bytes.new.writer)
     judged c.as_bytes.result.now c.in_err-write_bytes.field-0.0 c.from_residual-in_err-write_bytes.result
     c.from_residual-in_err-write_bytes.ensures.1
     (subst Q (sym c.as_bytes.ensures.value)

@@ -15,7 +15,7 @@ returns-then-first-eq-LOCAL-clause-told g c =
     let sources = c.args.sources.now in
     let first = first_is limits sources c.in_ok-first.field-0 c.in-Some.first c.in_ok-first.ensures c.in-Some.is in
     IfOk-weaker c.faults_of_files.result
-      (λ (faults : Vec Fault Global). AreFileFaults limits sources (map told_by faults.items))
+    (λ (faults : Vec Fault Global). AreFileFaults limits sources (map told_by faults.items))
     (λ faults. AreTold limits sources faults.items)
     (λ faults all. told_locally limits sources c.in-Some.first faults.items first.0 c.if-first-eq-LOCAL.true all)
     c.faults_of_files.ensures.each
@@ -26,7 +26,7 @@ returns-then-first-eq-LOCAL-clause-placed g c =
     let sources = c.args.sources.now in
     let first = first_is limits sources c.in_ok-first.field-0 c.in-Some.first c.in_ok-first.ensures c.in-Some.is in
     IfOk-weaker c.faults_of_files.result
-      (λ (faults : Vec Fault Global). AreFileFaults limits sources (map told_by faults.items))
+    (λ (faults : Vec Fault Global). AreFileFaults limits sources (map told_by faults.items))
     (λ faults. ArePlaced sources faults.items)
     (λ faults all. placed_locally limits sources c.in-Some.first faults.items first.0 c.if-first-eq-LOCAL.true all)
     c.faults_of_files.ensures.each

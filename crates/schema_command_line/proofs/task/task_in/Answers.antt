@@ -6,5 +6,5 @@ use Rattle.schema_command_line.proofs.task.task_in.Goals as goal
 pub returns-in-Some : goal.returns-in-Some
 returns-in-Some c =
     asked c.args.matches.now c.in-Some.name.now (found_of c.in-Some.found.now) c.task_named.result
-      (sym c.in-Some.ensures.name)
+    (sym c.in-Some.ensures.name)
     (sym c.in-Some.ensures.rows) c.task_named.ensures

@@ -7,7 +7,7 @@ use Rattle.schema_commands.proofs.commands.compile_folder.Goals as goal
 pub returns-in_err-texts-clause-refused : goal.returns-in_err-texts-clause-refused
 returns-in_err-texts-clause-refused g c =
     handed_folder c.args.limits.now (g.F.SourceFolder.sources c.args.folder.now) c.in_err-texts.field-0.0
-      c.from_residual.result
+    c.from_residual.result
     c.from_residual.ensures.1
 
 pub returns-clause-refused : goal.returns-clause-refused

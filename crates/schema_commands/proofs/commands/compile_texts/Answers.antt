@@ -10,9 +10,11 @@ returns-in_err-sources-clause-refused g c =
 
 pub returns-in-Ok-clause-compiled : goal.returns-in-Ok-clause-compiled
 returns-in-Ok-clause-compiled g c =
-    let S : List Source → Type 0 = λ xs. AreSourcesOf c.args.texts.now xs in
-    (c.as_slice-listed.result.now, subst S (sym c.as_slice-listed.ensures.value) c.in_ok-sources.ensures,
-      c.in-Ok.ensures.compiled)
+    let S : List Source → Type 0 = λ xs. AreSourcesOf c.args.texts.now xs in (
+      c.as_slice-listed.result.now,
+      subst S (sym c.as_slice-listed.ensures.value) c.in_ok-sources.ensures,
+      c.in-Ok.ensures.compiled,
+    )
 
 pub returns-in-Err-NoMemory-clause-refused : goal.returns-in-Err-NoMemory-clause-refused
 returns-in-Err-NoMemory-clause-refused g c = inl refl
@@ -25,20 +27,20 @@ returns-clause-refused g c =
       sources,
       subst S (sym c.as_slice-listed.ensures.value) c.in_ok-sources.ensures,
       told_by c.args.limits.now sources c.in-Err-First.field-0 c.in-Err-First.fault c.locate.result
-        c.in-Err-First.field-0-is
+          c.in-Err-First.field-0-is
           c.locate.ensures c.in-Err-First.ensures.first,
     )
 
 pub locate-requires-clause-within : goal.locate-requires-clause-within
 locate-requires-clause-within g c =
     (first_placed c.args.limits.now c.as_slice-listed.result.now c.in-Err-First.field-0 c.in-Err-First.fault
-      c.in-Err-First.field-0-is
+    c.in-Err-First.field-0-is
     c.in-Err-First.ensures.first).within
 
 pub locate-requires-clause-short : goal.locate-requires-clause-short
 locate-requires-clause-short g c =
     let placed = first_placed c.args.limits.now c.as_slice-listed.result.now c.in-Err-First.field-0 c.in-Err-First.fault
-      c.in-Err-First.field-0-is
+    c.in-Err-First.field-0-is
     c.in-Err-First.ensures.first in
     let short = placed.short in
     search (rules, short)

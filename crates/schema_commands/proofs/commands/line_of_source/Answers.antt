@@ -7,5 +7,5 @@ pub returns-in-Err-First-clause-refused : goal.returns-in-Err-First-clause-refus
 returns-in-Err-First-clause-refused g c =
     let s : Source = record { name = c.args.name; text = c.args.text } in
     told_by c.args.limits.now (s ∷ []) c.in-Err-First.field-0 c.in-Err-First.fault c.locate.result
-      c.in-Err-First.field-0-is
+    c.in-Err-First.field-0-is
     c.locate.ensures c.in-Err-First.ensures.first

@@ -5,7 +5,7 @@ pub returns-in_err-compiled : goal.returns-in_err-compiled
 returns-in_err-compiled g c =
     refused_answer (g.F.SourceFolder.sources c.args.folder.now) c.args.mode (g.I.CountedRead.reads c.args.reader.now)
     (g.O.CountedWrite.writes c.args.writer.now) c.standard-limits.result c.in_err-compiled.field-0.0
-      c.from_residual.result
+    c.from_residual.result
     c.from_residual.ensures.1 c.standard-limits.ensures c.in_err-compiled.ensures.refused
 
 pub returns-in_err-answer_io : goal.returns-in_err-answer_io

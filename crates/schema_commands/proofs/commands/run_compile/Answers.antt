@@ -11,7 +11,7 @@ pub returns-in_err-texts : goal.returns-in_err-texts
 returns-in_err-texts g c =
     unread_run (g.F.SourceFolder.sources c.args.folder.now) c.args.file (g.O.CountedWrite.writes c.args.writer.now)
     c.standard-limits.result c.in_err-texts.field-0.0 c.from_residual.result c.from_residual.ensures.1
-      c.standard-limits.ensures
+    c.standard-limits.ensures
 
 pub returns-in_err-compiled : goal.returns-in_err-compiled
 returns-in_err-compiled g c =
@@ -40,7 +40,7 @@ returns g c =
     let old = g.O.CountedWrite.writes c.args.writer.now in
     let new = g.O.CountedWrite.writes c.write_set-written.new.writer in
     let Q : Compilation → Type 0 = λ x. IsSetRun c.args.file old new
-      (set_of x.files x.links) c.write_set-written.result in
+    (set_of x.files x.links) c.write_set-written.result in
     let of = c.in_ok-compiled.ensures.compiled in (
       limits,
       c.standard-limits.ensures,

@@ -16,7 +16,7 @@ returns-in_err-line g c =
     let P : List ℕ → Type 0 = λ bytes. IsRead (limit_of limits FileBytes + 1) reads reads' bytes in
     let Q : ℕ → Type 0 = λ most. IsRead (most + 1) reads reads' c.in_ok-text.text.items in
     refused_by c.args.name.now reads reads' (g.O.CountedWrite.writes c.args.writer.now) limits source
-      c.in_err-line.field-0.0
+    c.in_err-line.field-0.0
     c.from_residual-in_err-line.result c.from_residual-in_err-line.ensures.1
     (record {
       standard = c.standard-limits.ensures;
@@ -36,7 +36,7 @@ returns-in_err-write_bytes g c =
     let L : List ℕ → Type 0 = λ line. IsLineOf limits source line in
     unwritten c.args.name.now reads reads' (g.O.CountedWrite.writes c.args.writer.now)
     (g.O.CountedWrite.writes c.write_bytes.new.writer) limits source c.as_bytes.result.now
-      c.in_err-write_bytes.field-0.0
+    c.in_err-write_bytes.field-0.0
     c.from_residual-in_err-write_bytes.result c.from_residual-in_err-write_bytes.ensures.1
     (record {
       standard = c.standard-limits.ensures;

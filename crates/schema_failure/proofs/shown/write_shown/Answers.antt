@@ -9,8 +9,8 @@ use Rattle.schema_failure.proofs.shown.write_shown.Goals as goal
 pub returns : goal.returns
 returns g c = λ plain done.
     let end = YieldsList-end (YieldsList-from_chars c.args.name.now c.utf8.name cc) c.loop-c.yielded _
-      c.loop-c.yielded_by _ _
+    c.loop-c.yielded_by _ _
     c.in-None.is c.next.ensures.steps in
     let P : List ℕ → Type 0 = λ cs. HasWritten g.W.Write.write_str_gives c.args.f.now
-      (flat_map shown_char cs) c.loop-c.f in
+    (flat_map shown_char cs) c.loop-c.f in
     subst P (sym (map-id c.loop-c.yielded) ∙ end.0) (c.loop-c.invariant plain)

@@ -7,11 +7,11 @@ pub returns-clause-every_set : goal.returns-clause-every_set
 returns-clause-every_set g c =
     let limits = c.args.limits.now in let sources = c.args.sources.now in
     every_answer limits sources (IsSetOf limits sources) (set_from limits sources)
-      (one_set limits sources) c.first_set.result c.first_set.ensures.set
+    (one_set limits sources) c.first_set.result c.first_set.ensures.set
     c.first_set.ensures.first
 
 pub returns-clause-every_fault : goal.returns-clause-every_fault
 returns-clause-every_fault g c =
     let limits = c.args.limits.now in let sources = c.args.sources.now in
     every_fault limits sources (IsSetOf limits sources)
-      (set_from limits sources) c.first_set.result c.first_set.ensures.set c.first_set.ensures.first
+    (set_from limits sources) c.first_set.result c.first_set.ensures.set c.first_set.ensures.first

@@ -9,7 +9,7 @@ bytes_at-bytes-requires g c = is_linked c.args.limits.now c.args.source c.in_ok-
 pub returns-clause-described : goal.returns-clause-described
 returns-clause-described g c =
     described c.args.limits.now c.args.source c.in_ok-compiled.compiled c.in_ok-from_slice.field-0.items
-      c.in_ok-compiled.ensures.compiled
+    c.in_ok-compiled.ensures.compiled
     (c.in_ok-from_slice.ensures.items ∙ c.bytes_at-bytes.ensures)
 
 pub returns-in_err-from_slice-clause-first : goal.returns-in_err-from_slice-clause-first

@@ -8,7 +8,7 @@ returns-in-Compile g c =
     let writes = g.O.CountedWrite.writes in
     rw c.in-Compile.is
     (ends_sound (λ done. IsCompileRun None c.in-Compile.file (writes c.args.output.now)
-      (writes c.run_compile.new.writer) done)
+    (writes c.run_compile.new.writer) done)
     c.run_compile.result c.sound.result c.sound.ensures c.run_compile.ensures)
 
 pub returns-in-Answer : goal.returns-in-Answer

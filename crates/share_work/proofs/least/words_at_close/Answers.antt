@@ -16,6 +16,7 @@ copied xs ws i x lt e old = below_more _ _
     (rw get_or-set_same (sym (get_from ws (i + 1) x e)))
 
 pub loop-i-preserved : goal.loop-i-preserved
-loop-i-preserved g c = let long = c.loop-i.invariant.0 in
-    (length-set c.loop-i.spare.items c.loop-i.i c.word.result ∙ long,
-      copied _ _ _ _ (omega arith) c.word.ensures c.loop-i.invariant.1)
+loop-i-preserved g c = let long = c.loop-i.invariant.0 in (
+  length-set c.loop-i.spare.items c.loop-i.i c.word.result ∙ long,
+  copied _ _ _ _ (omega arith) c.word.ensures c.loop-i.invariant.1,
+)

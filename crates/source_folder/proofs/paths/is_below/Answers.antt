@@ -8,5 +8,5 @@ pub returns : goal.returns
 returns c =
     all_from_yields_List is_entry _ _ _ c.all.ensures.ran
     (YieldsList-from_str_split 47 c.args.name.now (lit< tt) c.split.ensures.text c.split.ensures.has_more
-      c.split.ensures.pattern)
+    c.split.ensures.pattern)
     (λ x b q k. search (rules, tests))

@@ -18,22 +18,22 @@ loop-rest-init c = kept_first c.args.bytes.now (map field_of c.new-fields.result
 pub returns-in_err-field-clause-malformed : goal.returns-in_err-field-clause-malformed
 returns-in_err-field-clause-malformed c e fs row =
     let read : field_at c.loop-rest.rest.now ≡ None =
-      grind (arith, common_steps, c.field_at.ensures, c.in_err-field.ensures.ok_part) in
+    grind (arith, common_steps, c.field_at.ensures, c.in_err-field.ensures.ok_part) in
     kept_stop c.args.bytes.now c.loop-rest.rest.now (map field_of c.loop-rest.fields.items) fs c.loop-rest.invariant
-      (let some =
+    (let some =
     eqb-false _ _ (sym c.loop-rest-test.ensures) in omega (arith, some)) read row
 
 pub loop-rest-smaller-in_ok-push : goal.loop-rest-smaller-in_ok-push
 loop-rest-smaller-in_ok-push c =
     let read : field_at c.loop-rest.rest.now
-      ≡ some_read (option_map field_of c.in_ok-field.field, c.in_ok-field.behind.now) =
+    ≡ some_read (option_map field_of c.in_ok-field.field, c.in_ok-field.behind.now) =
     grind (arith, common_steps, c.field_at.ensures, c.in_ok-field.ensures.ok_part) in
     field_shorter c.loop-rest.rest.now c.in_ok-field.behind.now _ c.loop-rest.invariant.within read
 
 pub loop-rest-smaller : goal.loop-rest-smaller
 loop-rest-smaller c =
     let read : field_at c.loop-rest.rest.now
-      ≡ some_read (option_map field_of c.in_ok-field.field, c.in_ok-field.behind.now) =
+    ≡ some_read (option_map field_of c.in_ok-field.field, c.in_ok-field.behind.now) =
     grind (arith, common_steps, c.field_at.ensures, c.in_ok-field.ensures.ok_part) in
     field_shorter c.loop-rest.rest.now c.in_ok-field.behind.now _ c.loop-rest.invariant.within read
 
@@ -42,10 +42,10 @@ loop-rest-preserved-in_ok-push c =
     let read : field_at c.loop-rest.rest.now ≡ some_read (Some (field_of c.in-Some.field), c.in_ok-field.behind.now) =
     grind (arith, common_steps, c.field_at.ensures, c.in_ok-field.ensures.ok_part, c.in-Some.is) in
     let kept = kept_some c.args.bytes.now c.loop-rest.rest.now c.in_ok-field.behind.now
-      (map field_of c.loop-rest.fields.items) (field_of c.in-Some.field) read
+    (map field_of c.loop-rest.fields.items) (field_of c.in-Some.field) read
     c.loop-rest.invariant in
     let items : c.push.new.self.items ≡ c.loop-rest.fields.items ++ c.in-Some.field ∷ [] =
-      grind (arith, common_steps) in
+    grind (arith, common_steps) in
     rw (items, map-append) kept
 
 pub loop-rest-preserved : goal.loop-rest-preserved
@@ -53,7 +53,7 @@ loop-rest-preserved c =
     let read : field_at c.loop-rest.rest.now ≡ some_read (None, c.in_ok-field.behind.now) =
     grind (arith, common_steps, c.field_at.ensures, c.in_ok-field.ensures.ok_part, c.in_default.is) in
     kept_none c.args.bytes.now c.loop-rest.rest.now c.in_ok-field.behind.now
-      (map field_of c.loop-rest.fields.items) read c.loop-rest.invariant
+    (map field_of c.loop-rest.fields.items) read c.loop-rest.invariant
 
 pub returns-clause-found : goal.returns-clause-found
 returns-clause-found c = kept_all c.args.bytes.now c.loop-rest.rest.now

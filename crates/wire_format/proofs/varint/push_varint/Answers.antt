@@ -18,7 +18,7 @@ returns-in_err-push-clause-full c =
     let whole = simp length-append at (ap length c.loop-rest.invariant.whole) in
     let refused = c.in_err-push.ensures.full in
     let full : vec_capacity c.args.out.now < vec_len c.args.out.now + length (varint_bytes c.args.value) =
-      omega (arith, step, whole, refused) in
+    omega (arith, step, whole, refused) in
     grind (arith, common_steps, full)
 
 pub returns-in_err-push-2-clause-full : goal.returns-in_err-push-2-clause-full
@@ -27,5 +27,5 @@ returns-in_err-push-2-clause-full c =
     let whole = simp length-append at (ap length c.loop-rest.invariant.whole) in
     let refused = c.in_err-push-2.ensures.full in
     let full : vec_capacity c.args.out.now < vec_len c.args.out.now + length (varint_bytes c.args.value) =
-      omega (arith, step, whole, refused) in
+    omega (arith, step, whole, refused) in
     grind (arith, common_steps, full)

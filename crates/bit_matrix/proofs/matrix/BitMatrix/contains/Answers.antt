@@ -11,9 +11,9 @@ returns c =
     let bits : Bits = the_view c.self.inside in
     let row : c.args.row < bits.rows = subst (λ (b : Bits). c.args.row < b.rows) (sym c.self.view_is) c.requires.row in
     let column : c.args.column < columns_of bits =
-      subst (λ (b : Bits). c.args.column < columns_of b) (sym c.self.view_is) c.requires.column in
+    subst (λ (b : Bits). c.args.column < columns_of b) (sym c.self.view_is) c.requires.column in
     let place : ℕ = c.args.row * bits.width + c.args.column / 64 in
     tested bits c.args.row c.args.column c.index.result.now
     (c.index.ensures ∙ get_or_default bits.words place c.index.result.now 0
-      (word_inside bits c.self.invariant.1 c.args.row c.args.column row column))
+    (word_inside bits c.self.invariant.1 c.args.row c.args.column row column))
     ∙ ap (λ (b : Bits). has b c.args.row c.args.column) c.self.view_is

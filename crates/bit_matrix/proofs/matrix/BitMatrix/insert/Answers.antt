@@ -11,11 +11,11 @@ returns c =
     let old : Bits = the_view c.self.inside in
     let row : c.args.row < old.rows = subst (λ (b : Bits). c.args.row < b.rows) (sym c.self.view_is) c.requires.row in
     let column : c.args.column < columns_of old =
-      subst (λ (b : Bits). c.args.column < columns_of b) (sym c.self.view_is) c.requires.column in
+    subst (λ (b : Bits). c.args.column < columns_of b) (sym c.self.view_is) c.requires.column in
     let at : ℕ = c.args.row * old.width + c.args.column / 64 in
     let word = c.index_mut.ensures.value
     ∙ get_or_default old.words at c.index_mut.result.now 0
-      (word_inside old c.self.invariant.1 c.args.row c.args.column row column) in
+    (word_inside old c.self.invariant.1 c.args.row c.args.column row column) in
     subst (λ (b : Bits). HasInserted b c.args.row c.args.column (record {
       rows = old.rows;
       width = old.width;

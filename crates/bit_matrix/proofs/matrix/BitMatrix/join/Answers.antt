@@ -16,10 +16,10 @@ returns c =
     let old : Bits = the_view c.self.inside in
     let are : AreJoined old.words (c.args.row * old.width) (c.args.other * old.width) old.width c.join_words.new.words =
     subst (λ (ws : List ℕ). AreJoined ws (c.args.row * old.width)
-      (c.args.other * old.width) old.width c.join_words.new.words)
+    (c.args.other * old.width) old.width c.join_words.new.words)
     c.deref_mut.ensures.value c.join_words.ensures in
     let written = with_items_is c.self.inside.words c.join_words.new.words
-      (omega (arith, are.size, c.self.inside.words.ok.0)) in
+    (omega (arith, are.size, c.self.inside.words.ok.0)) in
     subst (λ (b : Bits). HasJoined b c.args.row c.args.other (the_view record {
       rows = old.rows;
       width = old.width;

@@ -14,17 +14,17 @@ returns-then-bits-index-ne0 c =
     let k : ℕ = c.loop-word.word in
     let row : c.args.row < first.rows = subst (λ (b : Bits). c.args.row < b.rows) (sym c.self.view_is) c.requires.row in
     let other : c.args.other_row < second.rows =
-      subst (λ (b : Bits). c.args.other_row < b.rows) (sym c.other.view_is) c.requires.other in
+    subst (λ (b : Bits). c.args.other_row < b.rows) (sym c.other.view_is) c.requires.other in
     let hk : k < first.width = omega (arith, c.loop-word-test.true, c.min-word-end.ensures) in
     let hl : k < second.width = omega (arith, c.loop-word-test.true, c.min-word-end.ensures) in
     let fits = row_fits c.args.row first.width first.rows first.width row (omega arith) in
     let fits_other = row_fits c.args.other_row second.width second.rows second.width other (omega arith) in
     let word : c.index-bits.result.now ≡ word_of first c.args.row k = c.index-bits.ensures
     ∙ get_or_default first.words (c.args.row * first.width + k) c.index-bits.result.now 0
-      (omega (arith, fits, hk, c.self.invariant.1)) in
+    (omega (arith, fits, hk, c.self.invariant.1)) in
     let other_word : c.index.result.now ≡ word_of second c.args.other_row k = c.index.ensures
     ∙ get_or_default second.words (c.args.other_row * second.width + k) c.index.result.now 0
-      (omega (arith, fits_other, hl, c.other.invariant.1)) in
+    (omega (arith, fits_other, hl, c.other.invariant.1)) in
     let some : bit_and (word_of first c.args.row k) (word_of second c.args.other_row k) ≡ 0 → ⊥ =
     λ none. c.if-bits-index-ne0.true (rw (word, other_word) none) in
     let fits64 : c.index-bits.result.now < 2 ^ 64 = search rules in
@@ -42,9 +42,9 @@ returns c =
     let none : Meet first c.args.row second c.args.other_row → ⊥ =
     meet_nowhere first c.args.row second c.args.other_row c.loop-word.word every
     (subst (λ (b : Bits). (k : ℕ) → k < c.loop-word.word
-      → bit_and (word_of b c.args.row k) (word_of second c.args.other_row k) ≡ 0) (sym c.self.view_is)
+    → bit_and (word_of b c.args.row k) (word_of second c.args.other_row k) ≡ 0) (sym c.self.view_is)
     (subst (λ (b : Bits). (k : ℕ) → k < c.loop-word.word
-      → bit_and (word_of c.args.self.now c.args.row k) (word_of b c.args.other_row k) ≡ 0)
+    → bit_and (word_of c.args.self.now c.args.row k) (word_of b c.args.other_row k) ≡ 0)
     (sym c.other.view_is) c.loop-word.invariant)) in
     let nowhere : Meet c.args.self.now c.args.row c.args.other.now c.args.other_row → ⊥ =
     subst (λ (b : Bits). Meet b c.args.row c.args.other.now c.args.other_row → ⊥) c.self.view_is

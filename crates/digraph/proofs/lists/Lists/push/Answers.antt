@@ -5,13 +5,13 @@ use Rattle.digraph.proofs.lists.Lists.push.Goals as goal
 pub returns-in_err-start-clause-unchanged : goal.returns-in_err-start-clause-unchanged
 returns-in_err-start-clause-unchanged c = always_on_err c.from_residual.result _
     (view_kept c.self.inside.items.items c.put.new.items.items c.self.inside.ranges.items c.self.inside.ranges.items
-      c.put.ensures.kept refl c.self.invariant
+    c.put.ensures.kept refl c.self.invariant
     ∙ c.self.view_is)
 
 pub returns-in_err-push-clause-unchanged : goal.returns-in_err-push-clause-unchanged
 returns-in_err-push-clause-unchanged c = always_on_err c.from_residual-in_err-push.result _
     (view_kept c.self.inside.items.items c.put.new.items.items c.self.inside.ranges.items c.push.new.self.items
-      c.put.ensures.kept c.in_err-push.ensures.items
+    c.put.ensures.kept c.in_err-push.ensures.items
     c.self.invariant ∙ c.self.view_is)
 
 pub invariant_of-self-in_err-push : goal.invariant_of-self-in_err-push

@@ -7,14 +7,14 @@ use Rattle.digraph.proofs.lists.Lists.push_extended.Goals as goal
 pub returns-in_err-start-clause-unchanged : goal.returns-in_err-start-clause-unchanged
 returns-in_err-start-clause-unchanged c = always_on_err c.from_residual.result _
     (view_kept c.self.inside.items.items c.put_extended.new.items.items c.self.inside.ranges.items
-      c.self.inside.ranges.items c.put_extended.ensures.kept refl
+    c.self.inside.ranges.items c.put_extended.ensures.kept refl
     c.self.invariant
     ∙ c.self.view_is)
 
 pub returns-in_err-push-clause-unchanged : goal.returns-in_err-push-clause-unchanged
 returns-in_err-push-clause-unchanged c = always_on_err c.from_residual-in_err-push.result _
     (view_kept c.self.inside.items.items c.put_extended.new.items.items c.self.inside.ranges.items c.push.new.self.items
-      c.put_extended.ensures.kept
+    c.put_extended.ensures.kept
     c.in_err-push.ensures.items c.self.invariant
     ∙ c.self.view_is)
 
@@ -29,13 +29,13 @@ invariant_of-self-2 c =
     let ranges = c.self.inside.ranges.items in
     let range = c.index.result.now in
     let inside = range_inside items ranges c.args.self.now c.args.position range c.self.view_is c.index.ensures
-      c.requires c.self.invariant in
+    c.requires c.self.invariant in
     let long : range.1 + 1 ≡ length (range_of items range ++ c.args.number ∷ []) =
-      extended_length items range c.args.number inside in
+    extended_length items range c.args.number inside in
     within_pushed items c.put_extended.new.items.items ranges c.push.new.self.items c.in_ok-start.start
-      (range_of items range ++ c.args.number ∷ [])
+    (range_of items range ++ c.args.number ∷ [])
     c.put_extended.ensures.kept c.in_ok-start.ensures.holds
-      (c.in_ok-push.ensures.items ∙ ap (λ (n : ℕ). ranges ++ (c.in_ok-start.start, n) ∷ []) long)
+    (c.in_ok-push.ensures.items ∙ ap (λ (n : ℕ). ranges ++ (c.in_ok-start.start, n) ∷ []) long)
     c.self.invariant
 
 pub returns-clause-appended : goal.returns-clause-appended
@@ -44,14 +44,14 @@ returns-clause-appended c =
     let ranges = c.self.inside.ranges.items in
     let range = c.index.result.now in
     let inside = range_inside items ranges c.args.self.now c.args.position range c.self.view_is c.index.ensures
-      c.requires c.self.invariant in
+    c.requires c.self.invariant in
     let long : range.1 + 1 ≡ length (range_of items range ++ c.args.number ∷ []) =
-      extended_length items range c.args.number inside in
+    extended_length items range c.args.number inside in
     let list = list_at items ranges c.args.self.now c.args.position range c.self.view_is c.index.ensures c.requires in
     view_pushed items c.put_extended.new.items.items ranges c.push.new.self.items c.in_ok-start.start
-      (range_of items range ++ c.args.number ∷ [])
+    (range_of items range ++ c.args.number ∷ [])
     c.put_extended.ensures.kept c.in_ok-start.ensures.holds
-      (c.in_ok-push.ensures.items ∙ ap (λ (n : ℕ). ranges ++ (c.in_ok-start.start, n) ∷ []) long)
+    (c.in_ok-push.ensures.items ∙ ap (λ (n : ℕ). ranges ++ (c.in_ok-start.start, n) ∷ []) long)
     c.self.invariant
     ∙ ap (λ (xs : List (List ℕ)). xs ++ (range_of items range ++ c.args.number ∷ []) ∷ []) c.self.view_is
     ∙ ap (λ (xs : List ℕ). c.args.self.now ++ (xs ++ c.args.number ∷ []) ∷ []) list

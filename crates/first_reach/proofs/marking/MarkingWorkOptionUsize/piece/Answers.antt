@@ -26,7 +26,7 @@ loop-k-preserved g c =
             ap (λ (s : MarkSeatValue). s.table) same ∙ inv.0,
             ap (λ (s : MarkSeatValue). s.view.least.parts) same ∙ inv.1,
             marks_none reach c.args.first k items c.args.seat.now c.loop-k.seat c.match-root.seat
-              (at ∙ ap (λ (x : Option ℕ). Some x) w.in_default.is) same
+                (at ∙ ap (λ (x : Option ℕ). Some x) w.in_default.is) same
                 inv.2,
           )
     ]
@@ -34,13 +34,13 @@ loop-k-preserved g c =
 -- the seat has the marks of all items
 all_marked : (g : given.Over) (c : goal.After-loop-k g)
     → HasMarked (g.F.Reach.list c.args.self.now.table.now.reach) c.args.first c.args.items.now
-      c.args.seat.now c.loop-k.seat
+    c.args.seat.now c.loop-k.seat
 all_marked g c =
     let items = c.args.items.now in
     let all : take c.loop-k.k items ≡ items =
-      ap (λ k. take k items) (let e : c.loop-k.k ≡ length items = omega arith in e) ∙ take-length items in
+    ap (λ k. take k items) (let e : c.loop-k.k ≡ length items = omega arith in e) ∙ take-length items in
     subst (λ (xs : List (Option ℕ)). HasMarked (g.F.Reach.list c.args.self.now.table.now.reach) c.args.first xs
-      c.args.seat.now c.loop-k.seat) all
+    c.args.seat.now c.loop-k.seat) all
     c.loop-k.invariant.2
 
 pub returns-clause-kept : goal.returns-clause-kept

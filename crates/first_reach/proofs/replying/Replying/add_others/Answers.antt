@@ -12,7 +12,7 @@ pub get-requires : goal.get-requires
 get-requires g c =
     let reach = c.args.self.now.reach.now in
     let at : slice_get (g.F.Reach.list reach c.args.root) c.loop-file.k ≡ Some c.in-Some.file =
-      sym c.reached.ensures ∙ c.in-Some.is in
+    sym c.reached.ensures ∙ c.in-Some.is in
     let inside = g.met.F.Reach.within reach c.args.root c.in-Some.file c.requires.root
     (contains_at (g.F.Reach.list reach c.args.root) c.loop-file.k c.in-Some.file at) in
     omega (arith, inside)
@@ -35,7 +35,7 @@ loop-file-preserved g c =
       | then-file-root+then-get-position+in_ok-push w ↦ (
         omega arith,
         others_put first c.args.position c.args.root c.loop-file.k c.in-Some.file list start was
-          c.if-file-root.files.items at
+            c.if-file-root.files.items at
             w.if-file-root.true (sym w.get.ensures ∙ w.if-get-position.true) c.loop-file.invariant.1
             (ap (λ (v : Vec ℕ Global). v.items) w.files-is ∙ w.in_ok-push.ensures.items),
       )
@@ -45,13 +45,13 @@ loop-file-preserved g c =
             | else-file-root-via-then-file-root+else-get-position w' ↦ (
               omega arith,
               others_skip first c.args.position c.args.root c.loop-file.k c.in-Some.file list start was
-                c.if-file-root.files.items at
+                  c.if-file-root.files.items at
                   (inr (λ e. w'.if-get-position.false (w'.get.ensures ∙ e))) c.loop-file.invariant.1 same,
             )
             | else-file-root-via-else-file-root w' ↦ (
               omega arith,
               others_skip first c.args.position c.args.root c.loop-file.k c.in-Some.file list start was
-                c.if-file-root.files.items at
+                  c.if-file-root.files.items at
                   (inl w'.if-file-root.false) c.loop-file.invariant.1 same,
             )
           ]
@@ -62,6 +62,6 @@ returns g c =
     let list = g.F.Reach.list c.args.self.now.reach.now c.args.root in
     let past : length list ≤ c.loop-file.k = none_past list c.loop-file.k (sym c.reached.ensures ∙ c.in_default.is) in
     let all : take c.loop-file.k list ≡ list =
-      ap (λ k. take k list) (let e : c.loop-file.k ≡ length list = omega arith in e) ∙ take-length list in
+    ap (λ k. take k list) (let e : c.loop-file.k ≡ length list = omega arith in e) ∙ take-length list in
     c.loop-file.invariant.1
-      ∙ ap (λ l. c.args.files.now.items ++ others_at c.args.self.now.least.now c.args.position c.args.root l) all
+    ∙ ap (λ l. c.args.files.now.items ++ others_at c.args.self.now.least.now c.args.position c.args.root l) all

@@ -76,9 +76,9 @@ returns g c = IfOk-weaker c.descriptors.result _ _ (λ typed are links index giv
     let is = c.as_mut_slice.ensures.value in
     let size = c.fill_all.ensures.size ∙ ap length is in
     let all = written c.in_ok-files.files.len old new (c.fill_all.ensures.size ∙ c.as_mut_slice.ensures.len)
-      (sym size) in
+    (sym size) in
     let each = c.fill_all.ensures.each in
     filled_all (AreTypesOf links index) (IsTypedWhole links index) old new
     (λ i d h a w. rw is at (each i d (rw (sym is) at h) links index a (rw (sym is) at w)))
-      c.args.descs.items typed.items
+    c.args.descs.items typed.items
     c.args.types.items size files.0 files.1 (are ∙ ap (map desc_in) all) gives) c.descriptors.ensures

@@ -21,10 +21,14 @@ both_ended f g files xs lefts ys rights left right same end =
     let a : length files + length lefts ≡ length xs = sizes f files lefts xs left in
     let b : length files + length rights ≡ length ys = sizes g files rights ys right in
     elim end [
-      | inl none ↦ (ended (map f files) xs lefts left none,
-          ended (map g files) ys rights right (omega (arith, a, b, same, none)))
-      | inr none ↦ (ended (map f files) xs lefts left (omega (arith, a, b, same, none)),
-          ended (map g files) ys rights right none)
+      | inl none ↦ (
+        ended (map f files) xs lefts left none,
+        ended (map g files) ys rights right (omega (arith, a, b, same, none)),
+      )
+      | inr none ↦ (
+        ended (map f files) xs lefts left (omega (arith, a, b, same, none)),
+        ended (map g files) ys rights right none,
+      )
     ]
 
 pub returns : goal.returns
@@ -32,7 +36,7 @@ returns c = λ same.
     let left = c.loop-desc.desc-iterator.a.rest in
     let right = c.loop-desc.desc-iterator.b.rest in
     both_ended (λ (f : Untyped). f.desc) (λ (f : Untyped). f.types) c.loop-desc.files.items c.args.descs.items
-      left.items c.args.types.items
+    left.items c.args.types.items
     right.items c.loop-desc.invariant.descs c.loop-desc.invariant.types same (elim c.in-None.ensures.steps [
       | inl none ↦ inl (omega (arith, left.ok.0, none.1.0))
       | inr none ↦ inr (omega (arith, right.ok.0, none.1.0))

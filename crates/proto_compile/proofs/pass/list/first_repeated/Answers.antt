@@ -11,4 +11,4 @@ loop-next-preserved c = pairs_more c.args.files.now c.loop-next.next (omega arit
 pub returns-then-is_repeated : goal.returns-then-is_repeated
 returns-then-is_repeated c =
     first_pair c.args.files.now c.loop-next.next (omega arith) (omega arith)
-      (c.is_repeated.ensures.0 c.if-is_repeated.true) c.loop-next.invariant
+    (c.is_repeated.ensures.0 c.if-is_repeated.true) c.loop-next.invariant

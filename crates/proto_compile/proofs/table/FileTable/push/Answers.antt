@@ -9,7 +9,7 @@ pub returns : goal.returns
 returns c =
     let entries = ap (map compiled_file) c.in_ok-insert.ensures.entries in
     let none : (a : ℕ) → IsNamed (map compiled_file c.self.inside.entries.entries)
-      (string_bytes c.in_ok-from_str.field-0) a → ⊥ =
+    (string_bytes c.in_ok-from_str.field-0) a → ⊥ =
     rw (c.in_ok-from_str.ensures.ok, c.self.view_is) c.requires in
     rw (← c.self.view_is, ← c.in_ok-from_str.ensures.ok)
-      (entries ∙ pushed c.self.inside.entries.entries c.in_ok-from_str.field-0 c.args.bytes none)
+    (entries ∙ pushed c.self.inside.entries.entries c.in_ok-from_str.field-0 c.args.bytes none)

@@ -20,7 +20,7 @@ loop-entry-preserved c =
     let position = c.args.share.position in
     let many : length os ≡ length es = ap length (sym c.others.view_is) ∙ length-map es (occurrence text) in
     let below : k < length os =
-      omega (arith, many, c.loop-entry-test.true, ap length c.deref-entry-items.ensures.value) in
+    omega (arith, many, c.loop-entry-test.true, ap length c.deref-entry-items.ensures.value) in
     let told : c.has.result ≡ (share_at count (at os k) == position) =
     rw c.deref-entry-items.ensures.value at c.has.ensures
     ∙ ap (λ (h : ℕ). h % count == position) (hash_here text es os c.others.view_is k below c.others.invariant _) in
@@ -29,12 +29,12 @@ loop-entry-preserved c =
     elim c.if-has.branch [
       | then-has+in_ok-push_copy w ↦
           (let put =
-            rw (c.deref-entry-items.ensures.value, c.as_bytes-text.ensures.value) at w.in_ok-push_copy.ensures in
+          rw (c.deref-entry-items.ensures.value, c.as_bytes-text.ensures.value) at w.in_ok-push_copy.ensures in
           rw w.self-is (put ∙ ap₂ (λ (ps : List Occurrence) (o : Occurrence). ps ++ o ∷ []) c.loop-entry.invariant
           (at_entry text es os c.others.view_is k below _)
-            ∙ append_assoc c.args.self.now (share_of count position (take k os)) (at os k ∷ [])
+          ∙ append_assoc c.args.self.now (share_of count position (take k os)) (at os k ∷ [])
           ∙ ap (λ (ps : List Occurrence). c.args.self.now ++ ps) (sym (next ∙ ap more w.if-has.true))))
       | else-has w ↦ rw w.self-is (c.loop-entry.invariant
           ∙ ap (λ (ps : List Occurrence). c.args.self.now ++ ps)
-            (sym (next ∙ ap more w.if-has.false ∙ append-nil (share_of count position (take k os)))))
+          (sym (next ∙ ap more w.if-has.false ∙ append-nil (share_of count position (take k os)))))
     ]

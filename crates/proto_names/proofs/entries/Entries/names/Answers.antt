@@ -9,4 +9,4 @@ new-requires c = rw (c.as_bytes.ensures.value, c.as_slice.ensures.value) c.self.
 pub returns : goal.returns
 returns c =
     c.new.ensures ∙ ap₂ (λ (text : List ℕ) (es : List Entry). map (occurrence text) es) c.as_bytes.ensures.value
-      c.as_slice.ensures.value ∙ c.self.view_is
+    c.as_slice.ensures.value ∙ c.self.view_is

@@ -11,33 +11,44 @@ use Rattle.digraph.proofs.Sharing.{length_kept}
 pub invariant_of-self : goal.invariant_of-self
 invariant_of-self c =
     entries_more (string_bytes c.self.inside.text) (string_bytes c.push_name.new.full) c.self.inside.entries.items
-      c.push_name.ensures.kept c.self.invariant
+    c.push_name.ensures.kept c.self.invariant
 
 pub overflow_sub-len : goal.overflow_sub-len
 overflow_sub-len c =
     let long = length_kept (string_bytes c.self.inside.text)
-      (string_bytes c.push_name.new.full) c.push_name.ensures.kept in
-    omega (arith, long, c.self.inside.text.bytes.ok.0, c.push_name.new.full.bytes.ok.0, c.len-start.ensures,
-      c.len.ensures)
+    (string_bytes c.push_name.new.full) c.push_name.ensures.kept in
+    omega (
+      arith,
+      long,
+      c.self.inside.text.bytes.ok.0,
+      c.push_name.new.full.bytes.ok.0,
+      c.len-start.ensures,
+      c.len.ensures,
+    )
 
 pub invariant_of-self-in_err-push : goal.invariant_of-self-in_err-push
 invariant_of-self-in_err-push c = subst (AreEntriesOf (string_bytes c.push_name.new.full))
     (sym c.in_err-push.ensures.items)
     (entries_more (string_bytes c.self.inside.text) (string_bytes c.push_name.new.full) c.self.inside.entries.items
-      c.push_name.ensures.kept c.self.invariant)
+    c.push_name.ensures.kept c.self.invariant)
 
 pub invariant_of-self-2 : goal.invariant_of-self-2
 invariant_of-self-2 c =
     let start = c.len-start.result in
     let len = c.len.result - start in
-    let e : Entry = record { start = start; len = len; location = c.args.location; hash = c.hash_with-hash.result;
-      kind = c.args.kind } in
+    let e : Entry = record {
+      start = start;
+      len = len;
+      location = c.args.location;
+      hash = c.hash_with-hash.result;
+      kind = c.args.kind;
+    } in
     entries_pushed (string_bytes c.self.inside.text) (string_bytes c.push_name.new.full)
-      (scoped c.args.scope.text.now c.args.name.now)
+    (scoped c.args.scope.text.now c.args.name.now)
     c.self.inside.entries.items c.push.new.self.items e c.in_ok-push_name.ensures.put
-      (c.len-start.ensures ∙ c.self.inside.text.bytes.ok.0)
+    (c.len-start.ensures ∙ c.self.inside.text.bytes.ok.0)
     (ap (λ (n : ℕ). n - start) (c.len.ensures ∙ c.push_name.new.full.bytes.ok.0)) c.hash_with-hash.ensures
-      c.in_ok-push_name.ensures.is_text
+    c.in_ok-push_name.ensures.is_text
     c.in_ok-push.ensures.items c.self.invariant
 
 pub returns : goal.returns
@@ -45,12 +56,17 @@ returns c =
     let start = c.len-start.result in
     let len = c.len.result - start in
     let full = scoped c.args.scope.text.now c.args.name.now in
-    let e : Entry = record { start = start; len = len; location = c.args.location; hash = c.hash_with-hash.result;
-      kind = c.args.kind } in
+    let e : Entry = record {
+      start = start;
+      len = len;
+      location = c.args.location;
+      hash = c.hash_with-hash.result;
+      kind = c.args.kind;
+    } in
     occurrences_pushed (string_bytes c.self.inside.text) (string_bytes c.push_name.new.full) full
     c.self.inside.entries.items c.push.new.self.items e c.in_ok-push_name.ensures.put
-      (c.len-start.ensures ∙ c.self.inside.text.bytes.ok.0)
+    (c.len-start.ensures ∙ c.self.inside.text.bytes.ok.0)
     (ap (λ (n : ℕ). n - start) (c.len.ensures ∙ c.push_name.new.full.bytes.ok.0)) c.hash_with-hash.ensures
-      c.in_ok-push_name.ensures.is_text
+    c.in_ok-push_name.ensures.is_text
     c.in_ok-push.ensures.items c.self.invariant
     ∙ ap (λ (os : List Occurrence). os ++ named e full ∷ []) c.self.view_is

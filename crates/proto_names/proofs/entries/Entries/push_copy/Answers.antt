@@ -22,9 +22,9 @@ invariant_of-self-2 c =
     let start : c.len-start.result ≡ length old = c.len-start.ensures ∙ c.self.inside.text.bytes.ok.0 in
     let long = ap length whole ∙ length-append old full in
     entries_pushed old (string_bytes c.push_str.new.self) full c.self.inside.entries.items
-      c.push.new.self.items e whole start
+    c.push.new.self.items e whole start
     (omega (arith, long, start, name_length c.args.text.now c.args.entry.now c.requires)) c.requires.hashed
-      c.requires.is_text
+    c.requires.is_text
     c.in_ok-push.ensures.items c.self.invariant
 
 pub returns : goal.returns
@@ -43,8 +43,8 @@ returns c =
     let start : c.len-start.result ≡ length old = c.len-start.ensures ∙ c.self.inside.text.bytes.ok.0 in
     let long = ap length whole ∙ length-append old full in
     occurrences_pushed old (string_bytes c.push_str.new.self) full c.self.inside.entries.items
-      c.push.new.self.items e whole start
+    c.push.new.self.items e whole start
     (omega (arith, long, start, name_length c.args.text.now c.args.entry.now c.requires)) c.requires.hashed
-      c.requires.is_text
+    c.requires.is_text
     c.in_ok-push.ensures.items c.self.invariant
     ∙ ap (λ (os : List Occurrence). os ++ occurrence c.args.text.now c.args.entry.now ∷ []) c.self.view_is

@@ -13,7 +13,7 @@ invariant_of-self c =
     let len : length new ≡ length es.items = c.sort_entries.ensures.len ∙ ap length c.deref_mut.ensures.value in
     rw (written new es.items es.len es.ok.0 len)
     (All-permutation (IsEntryOf (string_bytes c.self.inside.text)) es.items new
-      (rw c.deref_mut.ensures.value at c.sort_entries.ensures.all) c.self.invariant)
+    (rw c.deref_mut.ensures.value at c.sort_entries.ensures.all) c.self.invariant)
 
 pub returns-clause-all : goal.returns-clause-all
 returns-clause-all c =
@@ -21,7 +21,7 @@ returns-clause-all c =
     let new = c.sort_entries.new.entries in
     let len : length new ≡ length es.items = c.sort_entries.ensures.len ∙ ap length c.deref_mut.ensures.value in
     rw (← c.self.view_is, written new es.items es.len es.ok.0 len)
-      (IsPermutation-map (occurrence (string_bytes c.self.inside.text)) es.items new
+    (IsPermutation-map (occurrence (string_bytes c.self.inside.text)) es.items new
     (rw c.deref_mut.ensures.value at c.sort_entries.ensures.all))
 
 pub returns-clause-order : goal.returns-clause-order
@@ -31,6 +31,6 @@ returns-clause-order c =
     let text = string_bytes c.self.inside.text in
     let len : length new ≡ length es.items = c.sort_entries.ensures.len ∙ ap length c.deref_mut.ensures.value in
     let of = All-permutation (IsEntryOf text) es.items new (rw c.deref_mut.ensures.value at c.sort_entries.ensures.all)
-      c.self.invariant in
+    c.self.invariant in
     rw (written new es.items es.len es.ok.0 len)
-      (sorted_occurrences text new of (rw c.as_bytes.ensures.value at c.sort_entries.ensures.order))
+    (sorted_occurrences text new of (rw c.as_bytes.ensures.value at c.sort_entries.ensures.order))

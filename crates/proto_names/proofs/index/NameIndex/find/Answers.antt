@@ -23,7 +23,7 @@ pub returns-clause-none : goal.returns-clause-none
 returns-clause-none c e o within name =
     all_packages c.named.result.names c.loop-position.position (omega arith) c.loop-position.invariant o
     (c.named.ensures.all o (subst (λ (index : Index). Contains index.occurrences o) (sym c.self.view_is) within)
-      (rw c.top.ensures name))
+    (rw c.top.ensures name))
 
 pub returns-in-Some-clause-within : goal.returns-in-Some-clause-within
 returns-in-Some-clause-within c =

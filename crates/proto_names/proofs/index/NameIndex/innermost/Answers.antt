@@ -13,7 +13,7 @@ loop-decision-preserved c =
       within = candidate_trans outer inner c.args.scope.now c.in-Some-parent.ensures.0 c.loop-decision.invariant.within;
       left = λ d h k.
           (let at : (d ≡ inner) ⊎ IsCandidate d outer =
-            c.in-Some-parent.ensures.2 d (c.loop-decision.invariant.left d h k) in
+          c.in-Some-parent.ensures.2 d (c.loop-decision.invariant.left d h k) in
           elim at [
             | inl same ↦ absurd (c.in_default.ensures (subst (λ (x : List ℕ). decides x c.args.spelled.now) same k))
             | inr inside ↦ inside

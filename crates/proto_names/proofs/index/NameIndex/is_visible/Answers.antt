@@ -23,8 +23,8 @@ returns c =
     let is = ap (λ (index : Index). index.occurrences) c.self.view_is in (
       λ t. subst (λ (os : List Occurrence). Visible os seen (fits c.args.role) name) is
           (among_visible c.self.inside.entries seen (fits c.args.role) name c.named.result.names c.named.ensures.found
-            (c.sees_one.ensures.0 t)),
+          (c.sees_one.ensures.0 t)),
       λ v. c.sees_one.ensures.1
-        (visible_among c.self.inside.entries seen (fits c.args.role) name c.named.result.names c.named.ensures.all
+          (visible_among c.self.inside.entries seen (fits c.args.role) name c.named.result.names c.named.ensures.all
           (subst (λ (os : List Occurrence). Visible os seen (fits c.args.role) name) (sym is) v)),
     )

@@ -25,4 +25,4 @@ returns c =
     subst (λ (os : List Occurrence). MatchOption found (IsNoType os seen name) (IsType os seen name))
     (ap (λ (index : Index). index.occurrences) c.self.view_is)
     (type_visible c.self.inside.entries seen name c.named.result.names c.named.ensures.found c.named.ensures.all found
-      c.type_among.ensures)
+    c.type_among.ensures)

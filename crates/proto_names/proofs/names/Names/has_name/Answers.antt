@@ -11,6 +11,6 @@ returns c =
     let text = c.name.result.now in
     let target = scoped c.args.scope.now c.args.name.now in (
       λ t. sym c.name.ensures ∙ exact_bytes text target
-        (sym c.compare.ensures ∙ (Equal-is c.compare.result).0 (sym c.is_eq.ensures ∙ t)),
+          (sym c.compare.ensures ∙ (Equal-is c.compare.result).0 (sym c.is_eq.ensures ∙ t)),
       λ e. c.is_eq.ensures ∙ ap is_eq (c.compare.ensures ∙ equal_itself text target (c.name.ensures ∙ e)),
     )

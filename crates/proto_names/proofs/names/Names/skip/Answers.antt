@@ -13,4 +13,4 @@ pub returns : goal.returns
 returns c =
     let es = c.self.inside.entries.now in
     rw (take_rest es c.args.count) (sym (drop-map (occurrence c.self.inside.text.now) c.args.count es)
-      ∙ ap (drop c.args.count) c.self.view_is)
+    ∙ ap (drop c.args.count) c.self.view_is)

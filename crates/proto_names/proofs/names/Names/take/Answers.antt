@@ -11,4 +11,4 @@ invariant_of-result c = All-take (IsEntryOf c.self.inside.text.now) c.args.count
 pub returns : goal.returns
 returns c =
     sym (take-map (occurrence c.self.inside.text.now) c.args.count c.self.inside.entries.now)
-      ∙ ap (take c.args.count) c.self.view_is
+    ∙ ap (take c.args.count) c.self.view_is

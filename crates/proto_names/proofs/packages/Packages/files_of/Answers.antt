@@ -11,11 +11,11 @@ returns-in-Ok c os are =
     let runs = c.args.self.now.runs.items in
     let row = c.in-Ok.row in
     let found =
-      rw c.in-Ok.is at (c.binary_search_by-found.ensures.position (λ (run : Run). nat_cmp run.start c.args.start)
+    rw c.in-Ok.is at (c.binary_search_by-found.ensures.position (λ (run : Run). nat_cmp run.start c.args.start)
     (always_returns_same _ _ _ (λ a r g called. search rules))) in
     let inside = rw c.deref.ensures.value at c.in-Ok.ensures.bound in
     let first : Run = record { start = 0; len = 0 } in
     let at = c.index.ensures ∙ get_or_default runs row c.index.result.now first inside in
     package_found os runs c.args.self.now.files row c.args.start c.args.len inside
-      (rw c.deref.ensures.value at (found first))
+    (rw c.deref.ensures.value at (found first))
     (sym (ap (λ (run : Run). run.len) at) ∙ c.if-index-len.true) are

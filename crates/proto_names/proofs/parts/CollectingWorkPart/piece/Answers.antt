@@ -12,7 +12,7 @@ loop-part-preserved c =
     let Gives = λ (part : Part). IsCollected limit part.first part.files.now in
     subst (AllZip Gives (take (l.part-index + 1) c.args.items.now)) (sym c.in_ok-push.ensures.items)
     (all_next Gives c.args.items.now l.part-index c.part-item.result l.outs.items c.in_ok-collect_files.field-0
-      (omega arith)
+    (omega arith)
     l.invariant (subst (λ part. Gives part c.in_ok-collect_files.field-0) c.part-item.is c.in_ok-collect_files.ensures))
 
 pub returns-clause-outs : goal.returns-clause-outs

@@ -22,24 +22,24 @@ sort_share-requires-clause-files c =
     let within = λ (o : Occurrence). o.file < c.args.self.now.files in
     subst (All within) (sym c.in_ok-entries.ensures)
     (All-filter (λ (o : Occurrence). share_at s.count o == s.position) within
-      (all_of c.args.self.now.parts.now) c.args.self.now.inside)
+    (all_of c.args.self.now.parts.now) c.args.self.now.inside)
 
 pub loop-share-preserved : goal.loop-share-preserved
 loop-share-preserved c =
     let l = c.loop-share in
     let Gives = λ (share : Share). IsSortedOf
-      (share_of share.count share.position (all_of c.args.self.now.parts.now)) in
+    (share_of share.count share.position (all_of c.args.self.now.parts.now)) in
     let sorted = subst (λ (os : List Occurrence). IsSortedOf os c.in_ok-sort_share.field-0) c.in_ok-entries.ensures
-      c.in_ok-sort_share.ensures in
+    c.in_ok-sort_share.ensures in
     subst (AllZip Gives (take (l.share-index + 1) c.args.items.now)) (sym c.in_ok-push.ensures.items)
     (all_next Gives c.args.items.now l.share-index c.share-item.result l.outs.items c.in_ok-sort_share.field-0
-      (omega arith)
+    (omega arith)
     l.invariant (subst (λ share. Gives share c.in_ok-sort_share.field-0) c.share-item.is sorted))
 
 pub returns-clause-outs : goal.returns-clause-outs
 returns-clause-outs c =
     let l = c.loop-share in
     gives_of_all
-      (λ (share : Share). IsSortedOf (share_of share.count share.position (all_of c.args.self.now.parts.now)))
-      c.args._first c.args.items.now
+    (λ (share : Share). IsSortedOf (share_of share.count share.position (all_of c.args.self.now.parts.now)))
+    c.args._first c.args.items.now
     l.outs.items (rw (take_all l.share-index c.args.items.now (omega arith)) at l.invariant)

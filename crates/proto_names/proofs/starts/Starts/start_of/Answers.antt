@@ -26,7 +26,7 @@ loop-position-init c =
     let below : c.slot_of-slot.result < length counts = omega (arith, c.slot_of-slot.ensures.within, size) in
     none_before_slot c.args.names.now (length counts - 1) c.slot_of-slot.result c.index.result.now name
     (slot_is c.len.result (length counts) c.args.hash c.slot_of-slot.result name size c.requires.hash
-      c.slot_of-slot.ensures.slot)
+    c.slot_of-slot.ensures.slot)
     (begins c.args.names.now counts c.slot_of-slot.result c.index.result.now c.requires.starts below c.index.ensures)
 
 pub loop-position-preserved : goal.loop-position-preserved
@@ -39,10 +39,10 @@ returns-then-is_match c =
     let size : c.len.result ≡ length counts = omega (arith, c.len.ensures, c.args.self.now.counts.ok.0) in
     let below : c.slot_of-slot.result + 1 < length counts = omega (arith, c.slot_of-slot.ensures.within, size) in
     let next = begins c.args.names.now counts (c.slot_of-slot.result + 1) c.index-2.result.now c.requires.starts below
-      c.index-2.ensures in
+    c.index-2.ensures in
     let within = next.within in
     starts_here c.args.names.now (scoped c.args.scope.text.now c.args.name.now) c.loop-position.position
-      (omega (arith, within))
+    (omega (arith, within))
     (c.is_match.ensures.0 c.if-is_match.true) c.loop-position.invariant
 
 pub returns : goal.returns
@@ -52,9 +52,9 @@ returns c =
     let size : c.len.result ≡ length counts = omega (arith, c.len.ensures, c.args.self.now.counts.ok.0) in
     let below : c.slot_of-slot.result + 1 < length counts = omega (arith, c.slot_of-slot.ensures.within, size) in
     none_at_all c.args.names.now (length counts - 1) c.slot_of-slot.result c.index-2.result.now
-      c.loop-position.position name
+    c.loop-position.position name
     (slot_is c.len.result (length counts) c.args.hash c.slot_of-slot.result name size c.requires.hash
-      c.slot_of-slot.ensures.slot)
+    c.slot_of-slot.ensures.slot)
     (begins c.args.names.now counts (c.slot_of-slot.result + 1) c.index-2.result.now c.requires.starts below
-      c.index-2.ensures)
+    c.index-2.ensures)
     (omega arith) c.loop-position.invariant

@@ -15,4 +15,4 @@ returns-clause-found c o within =
 pub returns-clause-all : goal.returns-clause-all
 returns-clause-all c o within name =
     (c.entries_named.ensures.named o).1
-      (subst (λ (os : List Occurrence). Contains os o) (sym (c.names.ensures ∙ c.self.view_is)) within, name)
+    (subst (λ (os : List Occurrence). Contains os o) (sym (c.names.ensures ∙ c.self.view_is)) within, name)

@@ -21,20 +21,22 @@ returns-clause-found c o within =
     let tables = c.self.inside.tables.items in
     let w = c.named.ensures.found o within in
     let here = at tables c.len.result (c.len.ensures ∙ c.self.inside.tables.ok.0) c.self.invariant.some
-      c.hash_with-hash.result c.index.result.now
-    c.index.ensures in
-    (subst (λ os. Contains os o) c.self.view_is
-      (among_all tables (c.hash_with-hash.result % c.len.result) c.index.result.now o here w.0), w.1)
+    c.hash_with-hash.result c.index.result.now
+    c.index.ensures in (
+      subst (λ os. Contains os o) c.self.view_is
+          (among_all tables (c.hash_with-hash.result % c.len.result) c.index.result.now o here w.0),
+      w.1,
+    )
 
 pub returns-clause-all : goal.returns-clause-all
 returns-clause-all c o within name =
     let tables = c.self.inside.tables.items in
     let len : c.len.result ≡ length tables = c.len.ensures ∙ c.self.inside.tables.ok.0 in
     let here = at tables c.len.result len c.self.invariant.some c.hash_with-hash.result c.index.result.now
-      c.index.ensures in
+    c.index.ensures in
     let key : hash_of o.name % length tables ≡ c.hash_with-hash.result % c.len.result =
     ap (λ (n : List ℕ). hash_of n % length tables) name ∙ ap (λ h. h % length tables) (sym c.hash_with-hash.ensures)
     ∙ ap (λ n. c.hash_with-hash.result % n) (sym len) in
     c.named.ensures.all o
-      (among_one tables (c.hash_with-hash.result % c.len.result) c.index.result.now o c.self.invariant here key
+    (among_one tables (c.hash_with-hash.result % c.len.result) c.index.result.now o c.self.invariant here key
     (subst (λ os. Contains os o) (sym c.self.view_is) within)) name

@@ -15,16 +15,16 @@ pub message_body-each-smaller : goal.message_body-each-smaller
 message_body-each-smaller t c = fewer_left (message_item (message c.args.depth))
     (message_item_tree c.in_ok-item.item) c.each.self.rest.now
     c.message_item.new.self.rest.now
-      (items_not_empty (message_item (message c.args.depth)) (symbol "}") (message_block _ (level c.args.depth)))
+    (items_not_empty (message_item (message c.args.depth)) (symbol "}") (message_block _ (level c.args.depth)))
     c.in_ok-item.ensures
 
 pub message_body-each-preserved : goal.message_body-each-preserved
 message_body-each-preserved t c =
     rw c.in_ok-push.ensures.items
     (closes_more message_item_tree (message_item (message c.args.depth))
-      (symbol "}") c.each.items.items c.in_ok-item.item (spellings c.each.self.rest.now)
+    (symbol "}") c.each.items.items c.in_ok-item.item (spellings c.each.self.rest.now)
     (spellings c.message_item.new.self.rest.now)
-      (read (Many (message_item (message c.args.depth)) ⨾ symbol "}") (spellings c.args.self.now.rest.now))
+    (read (Many (message_item (message c.args.depth)) ⨾ symbol "}") (spellings c.args.self.now.rest.now))
     (message_block _ (level c.args.depth)) c.in_ok-item.ensures c.each.invariant)
 
 pub message_body-returns-in_err-item : goal.message_body-returns-in_err-item
@@ -32,18 +32,18 @@ message_body-returns-in_err-item t c =
     let p = err_from_is_err_and c.from_residual.result c.from_residual.ensures.1 in
     rw (p.1, p.2)
     (closes_fails message_item_tree (message_item (message c.args.depth)) (symbol "}") c.each.items.items
-      (spellings c.each.self.rest.now)
+    (spellings c.each.self.rest.now)
     c.message_item.new.self.rest.now c.in_err-item.field-0.0
     (read (Many (message_item (message c.args.depth)) ⨾ symbol "}") (spellings c.args.self.now.rest.now))
     (message_block _ (level c.args.depth))
     (one_passes (Symbol (byte "}")) (spellings c.each.self.rest.now) (sym c.at_symbol.ensures ∙ c.each-test.true))
-      c.in_err-item.ensures c.each.invariant)
+    c.in_err-item.ensures c.each.invariant)
 
 pub message_body-returns : goal.message_body-returns
 message_body-returns t c =
     closes_end message_item_tree (message_item (message c.args.depth)) (symbol "}") c.each.items.items
-      (symbol_tree (byte "}") c.in_ok-close.close)
+    (symbol_tree (byte "}") c.in_ok-close.close)
     (spellings c.each.self.rest.now) (spellings c.symbol.new.self.rest.now)
     (read (Many (message_item (message c.args.depth)) ⨾ symbol "}") (spellings c.args.self.now.rest.now))
     (message_block _ (level c.args.depth)) (sym c.at_symbol.ensures ∙ c.each-test.false) c.in_ok-close.ensures
-      c.each.invariant
+    c.each.invariant

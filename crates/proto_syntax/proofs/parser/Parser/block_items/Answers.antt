@@ -19,9 +19,9 @@ pub each-preserved : goal.each-preserved
 each-preserved g c =
     rw c.in_ok-push.ensures.items
     (closes_more g.I.Parse.tree g.I.Parse.rule (symbol "}") c.each.items.items c.in_ok-item.item
-      (spellings c.each.self.rest.now)
+    (spellings c.each.self.rest.now)
     (spellings c.parse.new.parser.rest.now)
-      (read (Many g.I.Parse.rule ⨾ symbol "}") (spellings c.args.self.now.rest.now))
+    (read (Many g.I.Parse.rule ⨾ symbol "}") (spellings c.args.self.now.rest.now))
     c.requires
     c.in_ok-item.ensures c.each.invariant)
 
@@ -30,7 +30,7 @@ returns-in_err-item g c =
     let p = err_from_is_err_and c.from_residual.result c.from_residual.ensures.1 in
     rw (p.1, p.2)
     (closes_fails g.I.Parse.tree g.I.Parse.rule (symbol "}") c.each.items.items
-      (spellings c.each.self.rest.now) c.parse.new.parser.rest.now
+    (spellings c.each.self.rest.now) c.parse.new.parser.rest.now
     c.in_err-item.field-0.0 (read (Many g.I.Parse.rule ⨾ symbol "}") (spellings c.args.self.now.rest.now))
     c.requires
     (one_passes (Symbol (byte "}")) (spellings c.each.self.rest.now) (sym c.at_symbol.ensures ∙ c.each-test.true))
@@ -39,7 +39,7 @@ returns-in_err-item g c =
 pub returns : goal.returns
 returns g c =
     closes_end g.I.Parse.tree g.I.Parse.rule (symbol "}") c.each.items.items
-      (symbol_tree (byte "}") c.in_ok-close.close) (spellings c.each.self.rest.now)
+    (symbol_tree (byte "}") c.in_ok-close.close) (spellings c.each.self.rest.now)
     (spellings c.symbol.new.self.rest.now)
-      (read (Many g.I.Parse.rule ⨾ symbol "}") (spellings c.args.self.now.rest.now))
+    (read (Many g.I.Parse.rule ⨾ symbol "}") (spellings c.args.self.now.rest.now))
     c.requires (sym c.at_symbol.ensures ∙ c.each-test.false) c.in_ok-close.ensures c.each.invariant

@@ -15,4 +15,4 @@ each-preserved g c =
 pub each-smaller : goal.each-smaller
 each-smaller g c =
     fewer_left g.I.Parse.rule (g.I.Parse.tree c.in_ok-item.item) c.each.self.rest.now c.parse.new.parser.rest.now
-      c.requires c.in_ok-item.ensures
+    c.requires c.in_ok-item.ensures

@@ -38,7 +38,7 @@ returns-then-at_keyword-4 c =
     made_gives of.Message message_tree statement_tree (way 3)
     c.message.result c.map-then-at_keyword-4.result c.message.new.self.rest.now _ _
     (λ x e. refl) (λ d. refl)
-      (statement_message (message c.args.depth) (level c.args.depth) (spellings c.args.self.now.rest.now)
+    (statement_message (message c.args.depth) (level c.args.depth) (spellings c.args.self.now.rest.now)
     (sym c.at_keyword.ensures ∙ c.if-at_keyword.false) (sym c.at_keyword-2.ensures ∙ c.if-at_keyword-2.false)
     (sym c.at_keyword-3.ensures ∙ c.if-at_keyword-3.false) (sym c.at_keyword-4.ensures ∙ c.if-at_keyword-4.true))
     c.map-then-at_keyword-4.ensures.cases c.message.ensures
@@ -48,7 +48,7 @@ returns-then-at_keyword-5 c =
     made_gives of.Enum enum_tree statement_tree (way 4)
     c.boxed-then-at_keyword-5.result c.map-then-at_keyword-5.result c.boxed-then-at_keyword-5.new.self.rest.now _ _
     (λ x e. refl) (λ d. refl)
-      (statement_enum (message c.args.depth) (level c.args.depth) (spellings c.args.self.now.rest.now)
+    (statement_enum (message c.args.depth) (level c.args.depth) (spellings c.args.self.now.rest.now)
     (sym c.at_keyword.ensures ∙ c.if-at_keyword.false) (sym c.at_keyword-2.ensures ∙ c.if-at_keyword-2.false)
     (sym c.at_keyword-3.ensures ∙ c.if-at_keyword-3.false) (sym c.at_keyword-4.ensures ∙ c.if-at_keyword-4.false)
     (sym c.at_keyword-5.ensures ∙ c.if-at_keyword-5.true))
@@ -59,7 +59,7 @@ returns-then-at_keyword-6 c =
     made_gives of.Service service_tree statement_tree (way 5)
     c.boxed-then-at_keyword-6.result c.map-then-at_keyword-6.result c.boxed-then-at_keyword-6.new.self.rest.now _ _
     (λ x e. refl) (λ d. refl)
-      (statement_service (message c.args.depth) (level c.args.depth) (spellings c.args.self.now.rest.now)
+    (statement_service (message c.args.depth) (level c.args.depth) (spellings c.args.self.now.rest.now)
     (sym c.at_keyword.ensures ∙ c.if-at_keyword.false) (sym c.at_keyword-2.ensures ∙ c.if-at_keyword-2.false)
     (sym c.at_keyword-3.ensures ∙ c.if-at_keyword-3.false) (sym c.at_keyword-4.ensures ∙ c.if-at_keyword-4.false)
     (sym c.at_keyword-5.ensures ∙ c.if-at_keyword-5.false) (sym c.at_keyword-6.ensures ∙ c.if-at_keyword-6.true))
@@ -82,4 +82,4 @@ returns-in_err-span c =
     (sym c.at_keyword.ensures ∙ c.if-at_keyword.false) (sym c.at_keyword-2.ensures ∙ c.if-at_keyword-2.false)
     (sym c.at_keyword-3.ensures ∙ c.if-at_keyword-3.false) (sym c.at_keyword-4.ensures ∙ c.if-at_keyword-4.false)
     (sym c.at_keyword-5.ensures ∙ c.if-at_keyword-5.false) (sym c.at_keyword-6.ensures ∙ c.if-at_keyword-6.false))
-      c.in_err-span.ensures)
+    c.in_err-span.ensures)

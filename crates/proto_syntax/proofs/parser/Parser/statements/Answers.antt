@@ -19,20 +19,20 @@ pub each-preserved : goal.each-preserved
 each-preserved c =
     rw c.in_ok-push.ensures.items
     (ends_more statement_tree (statement (message c.args.depth)) c.each.statements.items c.in_ok-statement.statement
-      (spellings c.each.self.rest.now)
+    (spellings c.each.self.rest.now)
     (spellings c.statement.new.self.rest.now)
-      (ended (read (Many (statement (message c.args.depth))) (spellings c.args.self.now.rest.now)))
+    (ended (read (Many (statement (message c.args.depth))) (spellings c.args.self.now.rest.now)))
     (statement_decides _ (level c.args.depth)) (statement_not_empty _ (level c.args.depth)) c.in_ok-statement.ensures
-      c.each.invariant)
+    c.each.invariant)
 
 pub returns-in_err-statement : goal.returns-in_err-statement
 returns-in_err-statement c =
     let p = err_from_is_err_and c.from_residual.result c.from_residual.ensures.1 in
     rw (p.1, p.2)
     (ends_fails statement_tree (statement (message c.args.depth)) c.each.statements.items c.each.self.rest.now
-      c.statement.new.self.rest.now
+    c.statement.new.self.rest.now
     c.in_err-statement.field-0.0
-      (ended (read (Many (statement (message c.args.depth))) (spellings c.args.self.now.rest.now)))
+    (ended (read (Many (statement (message c.args.depth))) (spellings c.args.self.now.rest.now)))
     (statement_decides _ (level c.args.depth)) (statement_not_empty _ (level c.args.depth))
-      (sym c.is_empty.ensures ∙ c.each-test.true)
+    (sym c.is_empty.ensures ∙ c.each-test.true)
     c.in_err-statement.ensures c.each.invariant)

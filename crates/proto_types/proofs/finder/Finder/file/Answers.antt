@@ -15,6 +15,6 @@ returns c =
     let services = rw (c.file_scope-scope.ensures, c.as_slice-2.ensures) at c.services.ensures in
     on_ok_weaker c.services.result
     (λ found. finds_both self.index.now.occurrences (SeenBy self.links.now self.file)
-      (flat_map (λ m. references_by_message m scope) f.messages)
+    (flat_map (λ m. references_by_message m scope) f.messages)
     (flat_map (references_of_service scope) f.services)
     c.args.found.now c.messages.new.found c.services.new.found messages found) services

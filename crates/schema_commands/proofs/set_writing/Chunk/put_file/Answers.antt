@@ -37,7 +37,7 @@ returns-in_err-write_out g c =
     let f = c.in_err-write_out.field-0.0 in
     let done = c.from_residual-in_err-write_out.result in
     let put = gathered_after {A = Unit {0}} {B = Unit {0}} old now now w0 w1 w2 [] head tt
-      (Ok tt) c.in_ok-make_room.ensures.gathered
+    (Ok tt) c.in_ok-make_room.ensures.gathered
     (only_put {B = Unit {0}} now w1 w2 head tt c.put_head.ensures) in
     let out = gathered_after {A = Unit {0}} {B = Unit {0}} old now new w0 w2 w3 head [] tt (Err f) put
     (all_out {B = Unit {0}} now new w2 w3 (Err f) c.in_err-write_out.ensures.written tt) in
@@ -58,7 +58,7 @@ returns-then-bytes g c =
     let w3 = c.write_out.new.self.bytes.items in
     let done = c.write_part.result in
     let put = gathered_after {A = Unit {0}} {B = Unit {0}} old now now w0 w1 w2 [] head tt
-      (Ok tt) c.in_ok-make_room.ensures.gathered
+    (Ok tt) c.in_ok-make_room.ensures.gathered
     (only_put {B = Unit {0}} now w1 w2 head tt c.put_head.ensures) in
     let out = gathered_after {A = Unit {0}} {B = Unit {0}} old now next w0 w2 w3 head [] tt (Ok tt) put
     (all_out {B = Unit {0}} now next w2 w3 (Ok tt) c.in_ok-write_out.ensures.written c.in_ok-write_out.ensures.anew) in

@@ -17,7 +17,15 @@ returns c =
     let second = with_room c.put_varint-2.result _ (vec_capacity c.put_varint.new.out)
     (vec_len c.put_varint.new.out + length (varint_bytes c.args.len)) c.put_varint-2.ensures.appended
     c.put_varint-2.ensures.full
-    (omega (arith, c.args.self.now.room, c.requires, size, c.put_varint.ensures.capacity, one,
-      c.put_varint.new.out.ok.0, long)) in
+    (omega (
+      arith,
+      c.args.self.now.room,
+      c.requires,
+      size,
+      c.put_varint.ensures.capacity,
+      one,
+      c.put_varint.new.out.ok.0,
+      long,
+    )) in
     second ∙ ap (λ (l : List ℕ). l ++ varint_bytes c.args.len) first
     ∙ append_assoc old.items (varint_bytes 10) (varint_bytes c.args.len)

@@ -35,13 +35,13 @@ loop-file-preserved g c =
     let new = g.O.CountedWrite.writes c.put_file.new.writer in
     let waiting = c.loop-file.self.chunk.bytes.items in
     let put =
-      subst (λ (l : List ℕ). IsGathered {B = Unit {0}} now new waiting c.put_file.new.self.bytes.items
-      (bytes_field 1 l) (Ok tt))
+    subst (λ (l : List ℕ). IsGathered {B = Unit {0}} now new waiting c.put_file.new.self.bytes.items
+    (bytes_field 1 l) (Ok tt))
     c.bytes_at.ensures c.in_ok-put_file.ensures in
     subst (λ (l : List ℕ). IsGathered {B = Unit {0}} old new [] c.put_file.new.self.bytes.items l (Ok tt))
     (sym (set_more F order k c.loop-file-test.true))
     (gathered_after {A = Unit {0}} {B = Unit {0}} old now new [] waiting c.put_file.new.self.bytes.items
-      (flat_map F (take k order))
+    (flat_map F (take k order))
     (F (get_or order k 0)) tt (Ok tt)
     c.loop-file.invariant put)
 
@@ -60,11 +60,11 @@ returns-in_err-put_file g c =
     let whole : (flat_map F (take k order) ++ F (get_or order k 0)) ++ flat_map F (drop (k + 1) order)
     ≡ set_of compiled.files compiled.links = sym (set_split F order k c.loop-file-test.true) ∙ ap (flat_map F) same in
     let out =
-      subst (λ (l : List ℕ). IsGathered {B = Unit {0}} now new waiting c.put_file.new.self.bytes.items (bytes_field 1 l)
-      (Err f)) c.bytes_at.ensures
+    subst (λ (l : List ℕ). IsGathered {B = Unit {0}} now new waiting c.put_file.new.self.bytes.items (bytes_field 1 l)
+    (Err f)) c.bytes_at.ensures
     c.in_err-put_file.ensures in
     let far = gathered_after {A = Unit {0}} {B = Unit {0}} old now new [] waiting c.put_file.new.self.bytes.items
-      (flat_map F (take k order))
+    (flat_map F (take k order))
     (F (get_or order k 0)) tt
     (Err f) c.loop-file.invariant out in
     subst (λ (l : List ℕ). IsOutput old new l c.from_residual.result) whole
@@ -85,4 +85,4 @@ returns g c =
     let all = take_all k order (omega arith) in
     subst (λ (l : List ℕ). IsOutput old new l c.write_out.result) (is ∙ ap (flat_map F) (all ∙ same))
     (output_after old now new taken c.loop-file.self.chunk.bytes.items c.write_out.result before
-      c.write_out.ensures.written)
+    c.write_out.ensures.written)

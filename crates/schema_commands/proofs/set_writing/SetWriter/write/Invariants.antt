@@ -8,5 +8,5 @@ use Rattle.schema_commands.proofs.set_writing.SetWriter.write.Given as goal
 abbrev pub invariant-loop-file : goal.invariant-loop-file
 invariant-loop-file g l =
     IsGathered {B = Unit {0}} (g.O.CountedWrite.writes l.fn.writer)
-      (g.O.CountedWrite.writes l.writer) [] l.self.chunk.bytes.items
+    (g.O.CountedWrite.writes l.writer) [] l.self.chunk.bytes.items
     (flat_map (λ a. bytes_field 1 (bytes_at l.compiled.files a)) (take l.file-index l.file-items)) (Ok tt)

@@ -16,9 +16,9 @@ pub returns-clause-least : goal.returns-clause-least
 returns-clause-least c =
     let count = ap (λ (b : TableValue). b.count) c.self.view_is in let k = closed c in
     let P : View → Type 0 = λ v. (w : ℕ) → w < c.args.self.count
-      → slice_index c.words_at_close.result w ≡ least_at w (posts_of v.calls) in
+    → slice_index c.words_at_close.result w ≡ least_at w (posts_of v.calls) in
     subst P (ap (λ (t : SeatValue). t.view) c.seat.view_is)
-      (λ w h. c.words_at_close.ensures.words.1.1.1 w (omega arith) ∙ k.least w (omega arith))
+    (λ w h. c.words_at_close.ensures.words.1.1.1 w (omega arith) ∙ k.least w (omega arith))
 
 pub returns-clause-legal : goal.returns-clause-legal
 returns-clause-legal c = subst (λ (v : View). IsLegal v.calls) (ap (λ (t : SeatValue). t.view) c.seat.view_is)

@@ -10,7 +10,7 @@ use Rattle.share_work.proofs.mark_table.MarkTable.close.Goals as goal
 
 closed : (g : given.Over) (c : goal.After-words_at_close g)
     → IsMarkClosed (g.R.Reach.files c.self.inside.table.shared.key)
-      (g.R.Reach.list c.self.inside.table.shared.key) c.words_at_close.ensures.words.0
+    (g.R.Reach.list c.self.inside.table.shared.key) c.words_at_close.ensures.words.0
     c.seat.inside.seat.me.0
 closed g c =
     let parts : c.seat.inside.seat.me.0.least.parts ≡ 2 ^ 32 = omega arith in
@@ -24,9 +24,9 @@ returns-clause-least g c =
     let k = closed g c in
     let P : g.row.R.Denot → MarkView → Type 0 =
     λ y u. (w : ℕ) → w < g.R.Reach.files y
-      → slice_index c.words_at_close.result w ≡ least_at w (marked_posts (g.R.Reach.list y) u.marks) in
+    → slice_index c.words_at_close.result w ≡ least_at w (marked_posts (g.R.Reach.list y) u.marks) in
     let here : P key v = λ w h. c.words_at_close.ensures.words.1.1.1 w (omega (arith, h, c.self.invariant.2))
-      ∙ k.least w h in
+    ∙ k.least w h in
     subst (λ (u : MarkView). P c.args.self.reach u) view_is (subst (λ (y : g.row.R.Denot). P y v) key_is here)
 
 pub returns-clause-posted : goal.returns-clause-posted
@@ -37,9 +37,9 @@ returns-clause-posted g c =
     let k = closed g c in
     let P : g.row.R.Denot → MarkView → Type 0 =
     λ y u. (w : ℕ) → w < g.R.Reach.files y
-      → slice_index c.words_at_close.result w ≡ least_at w (posts_of u.least.calls) in
+    → slice_index c.words_at_close.result w ≡ least_at w (posts_of u.least.calls) in
     let here : P key v = λ w h. c.words_at_close.ensures.words.1.1.1 w (omega (arith, h, c.self.invariant.2))
-      ∙ k.posted w h in
+    ∙ k.posted w h in
     subst (λ (u : MarkView). P c.args.self.reach u) view_is (subst (λ (y : g.row.R.Denot). P y v) key_is here)
 
 pub returns-clause-legal : goal.returns-clause-legal

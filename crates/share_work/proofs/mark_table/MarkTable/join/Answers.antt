@@ -14,7 +14,7 @@ join_seat-requires g c =
       c.other.invariant.0,
       omega arith,
       mark_joins (g.R.Reach.files key) (g.R.Reach.list key) s.id s.me.0 o.id o.me.0
-        (omega arith) c.seat.invariant.4 c.other.invariant.4,
+          (omega arith) c.seat.invariant.4 c.other.invariant.4,
     )
 
 pub load-requires : goal.load-requires

@@ -55,7 +55,7 @@ loop-file-preserved g c =
       e.0 ∙ c.loop-file.invariant.0,
       ap (λ (y : Me (Unit {0}) MarkView). y.1) e.1.1 ∙ c.loop-file.invariant.1,
       paying_more _ _ _ _ _ _ _ c.in-Some.file e.1.0
-        c.loop-file.invariant.2 at (ap (λ (y : Me (Unit {0}) MarkView). y.0) e.1.1),
+          c.loop-file.invariant.2 at (ap (λ (y : Me (Unit {0}) MarkView). y.0) e.1.1),
     )
 
 pub returns : goal.returns
@@ -64,6 +64,6 @@ returns g c =
     let root : ℕ = c.args.root in let k : ℕ = c.loop-file.k in
     let At : g.row.R.Denot → Type 0 = λ y. slice_get (g.R.Reach.list y root) k ≡ None in
     let at_self : At c.args.self.now.reach =
-      subst At (c.self.invariant.3 ∙ key_is) (sym c.reached.ensures ∙ c.in_default.is) in
+    subst At (c.self.invariant.3 ∙ key_is) (sym c.reached.ensures ∙ c.in_default.is) in
     let all = paying_all _ _ _ _ _ _ c.loop-file.invariant.2 at_self in
     (all.0, all.1, (λ i. (all.2 i, c.loop-file.invariant.1 i)), c.loop-file.invariant.0)

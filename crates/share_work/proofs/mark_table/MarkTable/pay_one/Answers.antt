@@ -16,7 +16,7 @@ overflow_add-file g c =
     let at_key : At key = subst At (sym key_is) c.requires.debt.1 in
     let here = get_some (g.R.Reach.list key root) k file at_key in
     let in_key : root < g.R.Reach.files key =
-      subst (λ (y : g.row.R.Denot). root < g.R.Reach.files y) (sym key_is) c.requires.seat.2 in
+    subst (λ (y : g.row.R.Denot). root < g.R.Reach.files y) (sym key_is) c.requires.seat.2 in
     let inside : file < g.R.Reach.files key = g.met.R.Reach.within key root file in_key here.3 in
     omega (arith, inside, c.self.invariant.2, c.self.invariant.0)
 
@@ -30,7 +30,7 @@ fetch_min-requires g c =
     let at_key : At key = subst At (sym key_is) c.requires.debt.1 in
     let here = get_some (g.R.Reach.list key root) k file at_key in
     let in_key : root < g.R.Reach.files key =
-      subst (λ (y : g.row.R.Denot). root < g.R.Reach.files y) (sym key_is) c.requires.seat.2 in
+    subst (λ (y : g.row.R.Denot). root < g.R.Reach.files y) (sym key_is) c.requires.seat.2 in
     let inside : file < g.R.Reach.files key = g.met.R.Reach.within key root file in_key here.3 in
     let s = c.args.seat.now in let n : ℕ = c.args.number in let list : ℕ → List ℕ = g.R.Reach.list key in
     let last : g.G.Paid.last ≡ (k + 1 == length (list root)) =
@@ -38,9 +38,9 @@ fetch_min-requires g c =
       c.requires.seat.0 ∙ sym two,
       omega (arith, inside, c.self.invariant.0),
       paid_allows (g.R.Reach.files key) list _ s.id s.me.0 s.me.1 c.requires.seat.1
-        (g.met.R.Reach.transitive key) g.G.Paid.last file n _
+          (g.met.R.Reach.transitive key) g.G.Paid.last file n _
           (owed_here list s.me.0 root n k file c.requires.debt.0 at_key)
-            (owed_next list s.me.0 root n k file g.G.Paid.last c.requires.debt.0 at_key last)
+          (owed_next list s.me.0 root n k file g.G.Paid.last c.requires.debt.0 at_key last)
           inside,
     )
 
@@ -48,7 +48,7 @@ pub returns : goal.returns
 returns g c =
     let s = c.args.seat.now in let me = c.fetch_min.ensures.2 in let k : ℕ = c.args.position in
     let view = paid_is c.args.root c.args.number k c.args.file c.fetch_min.result
-      (g.R.Reach.list c.args.self.now.reach c.args.root) s.me.0
+    (g.R.Reach.list c.args.self.now.reach c.args.root) s.me.0
     c.fetch_min.new.seat.me.0 g.G.Paid.last c.requires.debt.0 c.requires.debt.2
     (ap (λ (y : Me (Unit {0}) MarkView). y.0) me) in
     (c.fetch_min.ensures.0, (c.fetch_min.result, (λ i. (view i, (ap (λ (y : Me (Unit {0}) MarkView). y.1) me) i))))

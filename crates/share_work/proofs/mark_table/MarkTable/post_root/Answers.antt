@@ -9,10 +9,10 @@ fetch_min-requires g c =
     let key_is = ap (λ (b : MarkTableValue g.row.R.Denot). b.reach) c.self.view_is in
     let s = c.args.seat.now in let key = c.self.inside.table.shared.key in
     let inside : c.args.root < g.R.Reach.files key =
-      subst (λ (y : g.row.R.Denot). c.args.root < g.R.Reach.files y) (sym key_is) c.requires.mark.0 in (
+    subst (λ (y : g.row.R.Denot). c.args.root < g.R.Reach.files y) (sym key_is) c.requires.mark.0 in (
       c.requires.seat.0 ∙ sym two,
       omega arith,
       root_allows (g.R.Reach.files key) (g.R.Reach.list key) _ s.id s.me.0 s.me.1 c.requires.seat.1
-        (g.met.R.Reach.reflexive key) c.requires.seat.2 c.args.root
+          (g.met.R.Reach.reflexive key) c.requires.seat.2 c.args.root
           c.args.number inside c.requires.mark.1,
     )

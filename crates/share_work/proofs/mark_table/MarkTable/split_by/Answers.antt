@@ -12,6 +12,6 @@ split_seat-other-requires g c =
       one ∙ c.requires.0 ∙ sym two,
       omega arith,
       mark_splits (g.R.Reach.files key) (g.R.Reach.list key) s.id g.G.MarkGiven.parts s.me.0 c.seat.invariant.4
-        (omega (arith, c.requires.1))
+          (omega (arith, c.requires.1))
           (omega (arith, c.requires.1)),
     )

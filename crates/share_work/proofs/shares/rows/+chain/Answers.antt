@@ -10,10 +10,10 @@ pub low_and_high-returns-clause-have_low : goal.low_and_high-returns-clause-have
 low_and_high-returns-clause-have_low g t c =
     let job = c.args.job.now in
     let have : OnOk c.join_rows.result
-      (SeatsHave (g.W.Work.holds job.work.now) (g.W.Work.adds job.work.now) job.plan.workers job.plan.cut job.items.now
+    (SeatsHave (g.W.Work.holds job.work.now) (g.W.Work.adds job.work.now) job.plan.workers job.plan.cut job.items.now
     c.args.from c.join_mut-first.new.f.2.now) =
     OnOk-first c.join_rows.result c.join_mut-first.result.0 c.join_mut-first.result.1
-      (λ low high rows. rows.items ≡ low.items ++ high.items) _
+    (λ low high rows. rows.items ≡ low.items ++ high.items) _
     c.join_rows.ensures c.join_mut-first.ensures.0.met.1.3 in
     search (rules, have)
 
@@ -21,10 +21,10 @@ pub low_and_high-returns-clause-have_high : goal.low_and_high-returns-clause-hav
 low_and_high-returns-clause-have_high g t c =
     let job = c.args.job.now in
     let have : OnOk c.join_rows.result
-      (SeatsHave (g.W.Work.holds job.work.now) (g.W.Work.adds job.work.now) job.plan.workers job.plan.cut job.items.now
+    (SeatsHave (g.W.Work.holds job.work.now) (g.W.Work.adds job.work.now) job.plan.workers job.plan.cut job.items.now
     (c.args.from + length c.args.low.now) c.join_mut-first.new.g.3.now) =
     OnOk-second c.join_rows.result c.join_mut-first.result.0 c.join_mut-first.result.1
-      (λ low high rows. rows.items ≡ low.items ++ high.items) _
+    (λ low high rows. rows.items ≡ low.items ++ high.items) _
     c.join_rows.ensures c.join_mut-first.ensures.1.met.1.3 in
     search (rules, have)
 
@@ -36,34 +36,34 @@ low_and_high-returns-clause-rows g t c =
     let low = c.args.low.now in
     let high = c.args.high.now in
     IfOk-both c.join_rows.result c.join_mut-first.result.0 c.join_mut-first.result.1
-      (λ low high rows. rows.items ≡ low.items ++ high.items)
+    (λ low high rows. rows.items ≡ low.items ++ high.items)
     (λ rows. GivesRows gives (λ v. v.items) (λ r. r.items) job.plan.workers job.plan.cut job.items.now from
-      (length low) rows.items)
+    (length low) rows.items)
     (λ rows. GivesRows gives (λ v. v.items) (λ r. r.items) job.plan.workers job.plan.cut job.items.now
-      (from + length low) (length high) rows.items)
+    (from + length low) (length high) rows.items)
     (λ rows. GivesRows gives (λ v. v.items) (λ r. r.items) job.plan.workers job.plan.cut job.items.now from
-      (length low + length high) rows.items)
+    (length low + length high) rows.items)
     c.join_rows.ensures c.join_mut-first.ensures.0.met.1.4 c.join_mut-first.ensures.1.met.1.4
     (λ ls hs rs is first second. rw is
-      (rows_joined gives (λ v. v.items) (λ r. r.items) job.plan.workers job.plan.cut job.items.now from (length low)
+    (rows_joined gives (λ v. v.items) (λ r. r.items) job.plan.workers job.plan.cut job.items.now from (length low)
     (from + length low) (length high) ls.items hs.items refl first second))
 
 pub rows_from-returns-clause-gains : goal.rows_from-returns-clause-gains
 rows_from-returns-clause-gains g t c =
     rw c.split_at_mut-low.ensures.value
     (gains_joined (g.W.Work.holds c.args.job.now.work.now)
-      (g.W.Work.adds c.args.job.now.work.now) c.args.job.now.plan.workers c.args.job.now.plan.cut
+    (g.W.Work.adds c.args.job.now.work.now) c.args.job.now.plan.workers c.args.job.now.plan.cut
     c.args.job.now.items.now c.args.from _ _ _ _ _ refl c.low_and_high.ensures.gains_low
-      c.low_and_high.ensures.gains_high)
+    c.low_and_high.ensures.gains_high)
 
 pub rows_from-returns-clause-have : goal.rows_from-returns-clause-have
 rows_from-returns-clause-have g t c =
     OnOk-both c.low_and_high.result _ _ _ c.low_and_high.ensures.have_low c.low_and_high.ensures.have_high
     (λ low high. haves_joined (g.W.Work.holds c.args.job.now.work.now)
-      (g.W.Work.adds c.args.job.now.work.now) c.args.job.now.plan.workers
+    (g.W.Work.adds c.args.job.now.work.now) c.args.job.now.plan.workers
     c.args.job.now.plan.cut c.args.job.now.items.now
     c.args.from _ c.split_at_mut-low.result.0.now [] c.low_and_high.new.low c.low_and_high.new.high refl
-      (search rules) low high)
+    (search rules) low high)
 
 pub low_and_high-returns-clause-fit_low : goal.low_and_high-returns-clause-fit_low
 low_and_high-returns-clause-fit_low g t c = let fact = c.join_mut-first.ensures.0.met.1.0 in search (rules, fact)
@@ -102,4 +102,4 @@ rows_from-returns-clause-numbers g t c =
 pub rows_from-returns-clause-rows : goal.rows_from-returns-clause-rows
 rows_from-returns-clause-rows g t c =
     rw (c.split_at_mut-low.ensures.value, length-append c.split_at_mut-low.result.0.now c.split_at_mut-low.result.1.now)
-      c.low_and_high.ensures.rows
+    c.low_and_high.ensures.rows

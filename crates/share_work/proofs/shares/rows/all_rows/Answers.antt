@@ -32,15 +32,15 @@ returns-clause-have g c =
     let pieces = c.div_ceil-pieces.result in
     let all : length job.items.now ≤ pieces * job.plan.cut =
     rw (c.div_ceil-pieces.ensures, c.cut.ensures)
-      ((div_ceil_times (length job.items.now) job.plan.cut job.plan.some_items).0) in
+    ((div_ceil_times (length job.items.now) job.plan.cut job.plan.some_items).0) in
     let least = c.min-busy.ensures in let front = c.split_at_mut-lent.ensures.front_len in
     let back = c.split_at_mut-lent.ensures.back_len in
     let idle : SeatsHave holds adds job.plan.workers job.plan.cut job.items.now (0 + length low) high =
     haves_idle holds adds job.plan.workers job.plan.cut job.items.now (0 + length low) high
-      (λ some_idle. let few : 0 + length low ≡ pieces = omega arith in
+    (λ some_idle. let few : 0 + length low ≡ pieces = omega arith in
     rw few all) in
     OnOk-all _ _ (haves_joined holds adds job.plan.workers job.plan.cut job.items.now 0
-      (0 + length low) low [] c.busy_rows.new.seats high refl (search rules)
+    (0 + length low) low [] c.busy_rows.new.seats high refl (search rules)
     c.in_ok-rows.ensures.have idle)
 
 pub returns-in_err-rows-clause-numbers : goal.returns-in_err-rows-clause-numbers

@@ -13,14 +13,16 @@ module _ {T S : Type 0} (holds : S → ℕ → ℕ → Type 0) (adds : ℕ → T
       → ((x n : ℕ) → holds new x n → holds old x n ⊎ AddsSome adds first part x n)
       → (x n : ℕ) → holds new x n → holds entry x n ⊎ AddsInRow adds workers cut items w x n
   within_more before step x n h =
-      elim (step x n h) [ inl there ↦ before x n there
-        | inr added ↦ inr (adds_piece adds workers cut items w len first part at is x n added) ]
+      elim (step x n h) [
+        | inl there ↦ before x n there
+        | inr added ↦ inr (adds_piece adds workers cut items w len first part at is x n added)
+      ]
 
   gained_more : ((x n k : ℕ) → k < len
       → AddsSome adds ((w + k * workers) * cut) (take cut (drop ((w + k * workers) * cut) items)) x n → holds old x n)
       → ((x n : ℕ) → holds old x n → holds new x n) → ((x n : ℕ) → AddsSome adds first part x n → holds new x n)
       → (x n k : ℕ) → k < len + 1 → AddsSome adds ((w + k * workers) * cut)
-        (take cut (drop ((w + k * workers) * cut) items)) x n → holds new x n
+      (take cut (drop ((w + k * workers) * cut) items)) x n → holds new x n
   gained_more before keeps step x n k below h = elim (cases_lt k len) [
     | inl lt ↦ keeps x n (before x n k lt h)
     | inr le ↦ step x n (piece_adds adds workers cut items w len first part at is x n k (omega arith) h)
@@ -32,10 +34,10 @@ returns-in_err-push_back-clause-within g c =
     let C = c.cut-cut.result in let items = c.args.job.now.items.now in
     rw (← inv.0, ← inv.1)
     (within_more (g.W.Work.holds c.args.job.now.work.now)
-      (g.W.Work.adds c.args.job.now.work.now) c.workers-workers.result C items c.args.worker _
+    (g.W.Work.adds c.args.job.now.work.now) c.workers-workers.result C items c.args.worker _
     c.loop-first.first _
     inv.3 (rw c.min-count.ensures (range_piece items c.loop-first.first C)) c.args.seat.now c.loop-first.seat
-      c.piece.new.seat inv.9
+    c.piece.new.seat inv.9
     c.in_ok-outs.ensures.within)
 
 pub returns-then-items-first-clause-within : goal.returns-then-items-first-clause-within
@@ -44,10 +46,10 @@ returns-then-items-first-clause-within g c =
     let C = c.cut-cut.result in let items = c.args.job.now.items.now in
     rw (← inv.0, ← inv.1)
     (within_more (g.W.Work.holds c.args.job.now.work.now)
-      (g.W.Work.adds c.args.job.now.work.now) c.workers-workers.result C items c.args.worker _
+    (g.W.Work.adds c.args.job.now.work.now) c.workers-workers.result C items c.args.worker _
     c.loop-first.first _
     inv.3 (rw c.min-count.ensures (range_piece items c.loop-first.first C)) c.args.seat.now c.loop-first.seat
-      c.piece.new.seat inv.9
+    c.piece.new.seat inv.9
     c.in_ok-outs.ensures.within)
 
 pub returns-then-items-first-clause-gained : goal.returns-then-items-first-clause-gained
@@ -64,10 +66,10 @@ returns-then-items-first-clause-gained g c =
     rw (← inv.0, ← inv.1) (λ x n h.
     gained_more (g.W.Work.holds c.args.job.now.work.now) adds W C items c.args.worker (length row) c.loop-first.first _
     inv.3 (rw c.min-count.ensures (range_piece items c.loop-first.first C)) c.args.seat.now c.loop-first.seat
-      c.piece.new.seat
+    c.piece.new.seat
     inv.10 c.in_ok-outs.ensures.kept c.in_ok-outs.ensures.gained x n h.0
     (whole_at c.args.worker (length row + 1) W C (length items) h.0 past
-      (adds_within adds W C items c.args.worker x n h.0 h.1)) h.1)
+    (adds_within adds W C items c.args.worker x n h.0 h.1)) h.1)
 
 pub returns-clause-gained : goal.returns-clause-gained
 returns-clause-gained g c =
@@ -81,8 +83,8 @@ returns-clause-gained g c =
     let past : length items ≤ (c.args.worker + length row * W) * C = rw (← at) ended in
     rw (← inv.0, ← inv.1) (λ x n h.
     inv.10 x n h.0
-      (whole_at c.args.worker (length row) W C (length items) h.0 past
-      (adds_within adds W C items c.args.worker x n h.0 h.1)) h.1)
+    (whole_at c.args.worker (length row) W C (length items) h.0 past
+    (adds_within adds W C items c.args.worker x n h.0 h.1)) h.1)
 
 pub returns-then-items-first-clause-row : goal.returns-then-items-first-clause-row
 returns-then-items-first-clause-row g c =
@@ -96,9 +98,9 @@ returns-then-items-first-clause-row g c =
     let few = c.if-items-first.true in
     let at = inv.3 in
     let past : length items ≤ (c.args.worker + length c.push_back.new.self.items * W) * C =
-      rw (longer, step) (omega arith) in
+    rw (longer, step) (omega arith) in
     let found = pushed (g.W.Work.gives c.args.job.now.work.now)
-      (λ v. v.items) W C items c.args.worker row c.in_ok-outs.outs c.loop-first.first _
+    (λ v. v.items) W C items c.args.worker row c.in_ok-outs.outs c.loop-first.first _
     inv.3 (rw c.min-count.ensures (range_piece items c.loop-first.first C)) c.in_ok-outs.ensures.outs inv.5 in
     rw (← inv.0, ← inv.1) record {
       pieces = rw c.in_ok-push_back.ensures.items found;
@@ -118,25 +120,25 @@ loop-first-preserved g c =
     let step = next_first c.args.worker (length row) W C in
     let at = inv.3 in
     let found = pushed (g.W.Work.gives c.args.job.now.work.now)
-      (λ v. v.items) W C items c.args.worker row c.in_ok-outs.outs c.loop-first.first _
+    (λ v. v.items) W C items c.args.worker row c.in_ok-outs.outs c.loop-first.first _
     inv.3 (rw c.min-count.ensures (range_piece items c.loop-first.first C)) c.in_ok-outs.ensures.outs inv.5 in (
       inv.0,
       inv.1,
       refl,
       rw (longer, step) (ap (λ n. n + W * C) at),
       let more : W ≤ W * C = le-mul_of_pos_right W (rw inv.1 c.args.job.now.plan.some_items) in
-      let under = inv.4 in omega arith,
+          let under = inv.4 in omega arith,
       rw c.in_ok-push_back.ensures.items found,
       c.in_ok-outs.ensures.fits,
       c.in_ok-outs.ensures.number ∙ inv.7,
       λ x n h. c.in_ok-outs.ensures.kept x n (inv.8 x n h),
       within_more holds adds W C items c.args.worker (length row) c.loop-first.first _
           inv.3 (rw c.min-count.ensures (range_piece items c.loop-first.first C)) c.args.seat.now c.loop-first.seat
-            c.piece.new.seat inv.9
+          c.piece.new.seat inv.9
           c.in_ok-outs.ensures.within,
       rw longer (gained_more holds adds W C items c.args.worker (length row) c.loop-first.first _
           inv.3 (rw c.min-count.ensures (range_piece items c.loop-first.first C)) c.args.seat.now c.loop-first.seat
-            c.piece.new.seat
+          c.piece.new.seat
           inv.10 c.in_ok-outs.ensures.kept c.in_ok-outs.ensures.gained),
     )
 
@@ -144,7 +146,7 @@ pub piece-requires-clause-takes : goal.piece-requires-clause-takes
 piece-requires-clause-takes g c =
     let C = c.cut-cut.result in let items = c.args.job.now.items.now in
     takes_part (g.W.Work.takes c.args.job.now.work.now) items _ c.loop-first.first C
-      (rw c.min-count.ensures (range_piece items c.loop-first.first C))
+    (rw c.min-count.ensures (range_piece items c.loop-first.first C))
     c.requires.takes
 
 pub returns-in_err-outs-clause-fits : goal.returns-in_err-outs-clause-fits
@@ -193,7 +195,7 @@ pub overflow_mul-first : goal.overflow_mul-first
 overflow_mul-first g c =
     let plan = c.args.job.now.plan in
     let few : c.args.worker * c.cut-cut.result ≤ 262144 =
-      few_items c.args.worker c.cut-cut.result (omega arith) (omega arith) in omega arith
+    few_items c.args.worker c.cut-cut.result (omega arith) (omega arith) in omega arith
 
 pub loop-first-init : goal.loop-first-init
 loop-first-init g c =
@@ -227,10 +229,10 @@ returns-in_err-outs-clause-within g c =
     let C = c.cut-cut.result in let items = c.args.job.now.items.now in
     rw (← inv.0, ← inv.1)
     (within_more (g.W.Work.holds c.args.job.now.work.now)
-      (g.W.Work.adds c.args.job.now.work.now) c.workers-workers.result C items c.args.worker _
+    (g.W.Work.adds c.args.job.now.work.now) c.workers-workers.result C items c.args.worker _
     c.loop-first.first _
     inv.3 (rw c.min-count.ensures (range_piece items c.loop-first.first C)) c.args.seat.now c.loop-first.seat
-      c.piece.new.seat inv.9
+    c.piece.new.seat inv.9
     c.in_err-outs.ensures.within)
 
 pub returns-clause-row : goal.returns-clause-row

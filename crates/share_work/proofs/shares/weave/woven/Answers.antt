@@ -24,7 +24,7 @@ unreachable-requires-in_default-pop_front g c =
     let first : slice_get c.loop-piece.rows.items 0 ≡ Some c.in-Some.row = rw c.in-Some.ensures.items refl in
     let whole = (c.loop-piece.invariant.0.each 0 c.in-Some.row first).whole 0
     (let e : (c.loop-piece._piece + 0 + 0 * job.plan.workers) * job.plan.cut ≡ c.loop-piece._piece * job.plan.cut =
-      grind arith in rw e inside) in
+    grind arith in rw e inside) in
     search rules
 
 pub loop-piece-preserved : goal.loop-piece-preserved
@@ -34,17 +34,17 @@ loop-piece-preserved g c =
     let p = c.loop-piece._piece in
     let first : slice_get c.loop-piece.rows.items 0 ≡ Some c.in-Some.row = rw c.in-Some.ensures.items refl in
     let part = (c.loop-piece.invariant.0.each 0 c.in-Some.row first).pieces 0 c.in-Some-pop_front.part
-      (rw c.in-Some-pop_front.ensures.items refl) in
+    (rw c.in-Some-pop_front.ensures.items refl) in
     let same : p + 0 + 0 * job.plan.workers ≡ p = grind arith in
     let P : ℕ → Type 0 = λ n. GivesPiece gives job.plan.cut job.items.now n c.in-Some-pop_front.part.items in
     let rows = rw c.in-Some.ensures.items at c.loop-piece.invariant.0 in (
       rw c.in_ok-push_back.ensures.items
           (rows_turned gives (λ v. v.items) (λ r. r.items) job.plan.workers job.plan.cut job.items.now p c.in-Some.row _
-            _ c.in-Some-pop_front.part rows
+          _ c.in-Some-pop_front.part rows
           c.in-Some-pop_front.ensures.items),
       rw c.in_ok-append.ensures.items
-        (one_piece_more gives job.plan.cut job.items.now p c.loop-piece.all.items _ c.loop-piece.invariant.1
-        (subst P same part)),
+          (one_piece_more gives job.plan.cut job.items.now p c.loop-piece.all.items _ c.loop-piece.invariant.1
+          (subst P same part)),
     )
 
 pub returns : goal.returns

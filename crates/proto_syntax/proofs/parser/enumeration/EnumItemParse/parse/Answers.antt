@@ -31,7 +31,7 @@ returns-in_err-reserved c =
     (way_fails 1 c.in_err-reserved.field-0.0 c.reserved.new.self.rest.now _ _
     (enum_reserved (spellings c.args.parser.now.rest.now)
     (sym c.at_keyword.ensures ∙ c.if-at_keyword.false) (sym c.at_keyword-2.ensures ∙ c.if-at_keyword-2.true))
-      c.in_err-reserved.ensures)
+    c.in_err-reserved.ensures)
 
 pub returns-then-at_symbol : goal.returns-then-at_symbol
 returns-then-at_symbol c =
