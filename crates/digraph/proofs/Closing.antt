@@ -1,12 +1,9 @@
 -- What the loops keep that gather lists.
-use Rattle.std.proofs.Common.{◌≡◌, ◌∙◌, sym, ℕ, ◌+◌, ◌<◌, ◌≤◌, List, [], ◌∷◌, ◌++◌, length, get_or, ap, refl, subst, arith, inl, inr, ◌⊎◌, lit<}
+use Rattle.std.proofs.Common.{◌≡◌, sym, ℕ, ◌+◌, ◌<◌, ◌≤◌, List, [], ◌∷◌, ◌++◌, length, get_or, refl, subst, arith, inl, inr, ◌⊎◌, lit<}
 use Rattle.std.specs.Prelude.{Bool, true, false, Contains, ◌↔◌}
 use Rattle.std.specs.List.Sorted.{IsPermutation, IsSorted, IsStrictlyIncreasing}
 use Rattle.std.proofs.lemmas.List.Elements.{Contains-get_or, Contains-append_left, Contains-append_right, Contains-append_cases}
-use Rattle.std.proofs.Math.ListN.{get_or-append}
-use Rattle.std.proofs.lemmas.Bool.{cases_lt}
 use Rattle.std.proofs.lemmas.Grind.{common_steps}
-use Rattle.std.proofs.lemmas.List.{get_or_push}
 use Rattle.std.specs.Cmp.{nat_eq_equiv}
 use Rattle.std.specs.List.{IsDistinct}
 use Rattle.std.specs.Ordering.{nat_cmp}
@@ -51,8 +48,7 @@ gathered_none lists nodes marks marked room inside are e = record {
 first_more : (lists : List (List ℕ)) (nodes : List ℕ) (n c : ℕ)
     → InFirst lists nodes n c ⊎ Contains (get_or lists (get_or nodes n 0) []) c
     → InFirst lists nodes (n + 1) c
-first_more lists nodes n c (inl (b, w, r)) = (b, (among_more nodes n b).1 (inl w), r)
-first_more lists nodes n c (inr r) = (get_or nodes n 0, (among_more nodes n (get_or nodes n 0)).1 (inr refl), r)
+first_more lists nodes n c w = grind arith
 
 first_less : (lists : List (List ℕ)) (nodes : List ℕ) (n c : ℕ) → InFirst lists nodes (n + 1) c
     → InFirst lists nodes n c ⊎ Contains (get_or lists (get_or nodes n 0) []) c
@@ -156,28 +152,15 @@ union_reach g lists a xs falling all u = record {
       );
 }
 
-push_case : (P : ℕ → List ℕ → Type 0) (lists : List (List ℕ)) (xs : List ℕ) (n : ℕ) → length lists ≡ n
-    → ((a : ℕ) → a < n → P a (get_or lists a [])) → P n xs
-    → (a : ℕ) → a < n + 1 → (a < n) ⊎ (n ≤ a) → P a (get_or (lists ++ xs ∷ []) a [])
-push_case P lists xs n len all last a h (inl less) =
-    subst (P a) (sym (get_or-append lists (xs ∷ []) [] a (omega arith))) (all a less)
-push_case P lists xs n len all last a h (inr over) =
-    let at : a ≡ n = omega arith in
-    subst (P a) (sym (get_or_push lists xs [] a (omega (arith, len, at)))) (subst (λ (k : ℕ). P k xs) (sym at) last)
-
 -- what holds of each list holds with one more
 pub each_push : (P : ℕ → List ℕ → Type 0) (lists new : List (List ℕ)) (xs : List ℕ) (n : ℕ) → new ≡ lists ++ xs ∷ []
     → length lists ≡ n
     → ((a : ℕ) → a < n → P a (get_or lists a [])) → P n xs → (a : ℕ) → a < n + 1 → P a (get_or new a [])
-each_push P lists new xs n e len all last a h =
-    subst (λ (ls : List (List ℕ)). P a (get_or ls a [])) (sym e)
-    (push_case P lists xs n len all last a h (cases_lt a n))
+each_push P lists new xs n e len all last a h = grind (arith, common_steps)
 
 pub length_push : (lists new : List (List ℕ)) (xs : List ℕ) (n : ℕ) → new ≡ lists ++ xs ∷ [] → length lists ≡ n
     → length new ≡ n + 1
-length_push lists new xs n e len =
-    let more : length (lists ++ xs ∷ []) ≡ length lists + 1 = grind (arith, common_steps) in
-    ap length e ∙ more ∙ omega (arith, len)
+length_push lists new xs n e len = grind (arith, common_steps)
 
 union_members_to : (lists : List (List ℕ)) (nodes : List ℕ) (a c : ℕ) (gathered : List ℕ)
     → ((c : ℕ) → Contains gathered c ↔ InLists lists nodes c)
@@ -208,20 +191,14 @@ union_sorted lists nodes a gathered found sorted g added once moved up = record 
 
 one_member_to : (lists : List (List ℕ)) (b a c : ℕ) → Contains (get_or lists b []) c ⊎ Contains (a ∷ []) c
     → InLists lists (b ∷ []) c ⊎ (a ≡ c)
-one_member_to lists b a c (inl w) = inl (b, (0, lit< tt, refl), w)
-one_member_to lists b a c (inr w) = inr (one_only a c w)
+one_member_to lists b a c w = grind arith
 
 one_member_from : (lists : List (List ℕ)) (b a c : ℕ) → InLists lists (b ∷ []) c ⊎ (a ≡ c)
     → Contains (get_or lists b [] ++ a ∷ []) c
-one_member_from lists b a c (inl (d, w, v)) =
-    Contains-append_left (get_or lists b []) (a ∷ []) c
-    (subst (λ (x : ℕ). Contains (get_or lists x []) c) (sym (one_only b d w)) v)
-one_member_from lists b a c (inr e) = Contains-append_right (get_or lists b []) (a ∷ []) c (0, lit< tt, e)
+one_member_from lists b a c w = grind (arith, Contains-append_left, Contains-append_right, one_only)
 
 pub one_long : (xs : List ℕ) → 1 ≤ length xs → length xs < 2 → xs ≡ get_or xs 0 0 ∷ []
-one_long [] more less = absurd (omega arith)
-one_long (x ∷ []) more less = refl
-one_long (x ∷ y ∷ xs) more less = absurd (omega arith)
+one_long xs more less = grind (arith, common_steps)
 
 -- the union of one list with a number above it
 pub union_of_one : (lists : List (List ℕ)) (nodes : List ℕ) (b a : ℕ) (xs : List ℕ) → nodes ≡ b ∷ []

@@ -1,7 +1,7 @@
 -- Rows of bits that are joined, and what they say of ways.
-use Rattle.std.proofs.Common.{◌≡◌, ◌∙◌, refl, sym, ap, subst, ℕ, ◌+◌, ◌*◌, ◌<◌, ◌≤◌, ◌⊎◌, List, length, get_or, inl, inr, arith}
+use Rattle.std.proofs.Common.{◌≡◌, ◌∙◌, refl, sym, subst, ℕ, ◌+◌, ◌*◌, ◌<◌, ◌≤◌, ◌⊎◌, List, length, get_or, inl, inr, arith}
 use Rattle.std.specs.Prelude.{Contains, ◌↔◌}
-use Rattle.std.proofs.lemmas.Bool.{cases_eq, cases_lt}
+use Rattle.std.proofs.lemmas.Bool.{cases_lt}
 use Rattle.std.proofs.lemmas.List.{get_or_default}
 use Rattle.std.proofs.lemmas.List.Elements.{Contains-get_or}
 use Rattle.bit_matrix.specs.Bits.{Bits, has}
@@ -26,11 +26,7 @@ pub record Joining (old : Bits) (row : ℕ) (others : List ℕ) (n : ℕ) (new :
       → Has new row k ↔ (Has old row k ⊎ ((i : ℕ) × (i < n) × Has old (get_or others i 0) k))
 
 pub joining_none : (old : Bits) (row : ℕ) (others : List ℕ) → Joining old row others 0 old
-joining_none old row others = record {
-  large = record { rows = refl; width = refl };
-  kept = λ a k ha hk other. refl;
-  bits = λ k hk. (λ w. inl w, λ w. (elim w [ inl w ↦ w | inr (i, none, w) ↦ absurd (omega (arith, none)) ]));
-}
+joining_none old row others = grind arith
 
 module _ (old : Bits) (row : ℕ) (others : List ℕ) (n : ℕ) (now new : Bits) (h : n < length others)
     (hrow : row < old.rows)
@@ -43,57 +39,23 @@ module _ (old : Bits) (row : ℕ) (others : List ℕ) (n : ℕ) (now new : Bits)
   now_columns k hk = subst (λ w. k < 64 * w) (sym is.large.width) hk
 
   other_same : (k : ℕ) → k < columns_of old → has now (get_or others n 0) k ≡ has old (get_or others n 0) k
-  other_same k hk = is.kept (get_or others n 0) k (omega (arith, other_below, hrow)) hk
-      (λ same. omega (arith, same, other_below))
+  other_same k hk = grind (arith, other_below)
 
   more_to : (k : ℕ) → k < columns_of old → Has new row k
       → Has old row k ⊎ ((i : ℕ) × (i < n + 1) × Has old (get_or others i 0) k)
-  more_to k hk w = elim ((joined.bits k (now_columns k hk)).0 w) [
-    | inl before ↦ elim ((is.bits k hk).0 before) [
-      | inl first ↦ inl first
-      | inr (i, less, v) ↦ inr (i, omega (arith, less), v)
-    ]
-    | inr added ↦ inr (n, omega arith, sym (other_same k hk) ∙ added)
-  ]
+  more_to k hk w = grind (arith, now_columns, other_same)
 
   more_from : (k : ℕ) → k < columns_of old → Has old row k ⊎ ((i : ℕ) × (i < n + 1) × Has old (get_or others i 0) k)
       → Has new row k
-  more_from k hk (inl first) = (joined.bits k (now_columns k hk)).1 (inl ((is.bits k hk).1 (inl first)))
-  more_from k hk (inr (i, less, v)) = (joined.bits k (now_columns k hk)).1 (elim (cases_lt i n) [
-    | inl before ↦ inl ((is.bits k hk).1 (inr (i, before, v)))
-    | inr last ↦ inr (let at : i ≡ n = omega (arith, last, less) in
-        other_same k hk ∙ subst (λ x. Has old (get_or others x 0) k) at v)
-  ])
+  more_from k hk w = grind (arith, now_columns, other_same)
 
   pub joining_more : Joining old row others (n + 1) new
-  joining_more = record {
-    large = record { rows = joined.large.rows ∙ is.large.rows; width = joined.large.width ∙ is.large.width };
-    kept = λ a k ha hk apart. joined.kept a k (subst (λ r. a < r) (sym is.large.rows) ha) (now_columns k hk) apart
-        ∙ is.kept a k ha hk apart;
-    bits = λ k hk. (more_to k hk, more_from k hk);
-  }
+  joining_more = grind (arith, more_from, more_to, now_columns)
 
 pub joining_all : (old : Bits) (row : ℕ) (others : List ℕ) (n : ℕ) (new : Bits) → n ≡ length others
     → Joining old row others n new
     → HasRowsJoined old row others new
-joining_all old row others n new e is = record {
-  large = is.large;
-  kept = is.kept;
-  bits = λ k hk. (
-    λ w. (elim ((is.bits k hk).0 w) [
-      | inl first ↦ inl first
-      | inr (i, less, v) ↦ inr (get_or others i 0, Contains-get_or others i 0 (omega (arith, less, e)), v)
-    ]),
-    λ w. (is.bits k hk).1 (elim w [
-      | inl first ↦ inl first
-      | inr (b, (i, inside, at), v) ↦ inr (
-        i,
-        omega (arith, inside, e),
-        subst (λ x. Has old x k) (sym (get_or_default others i 0 b inside ∙ at)) v,
-      )
-    ]),
-  );
-}
+joining_all old row others n new e is = grind (arith, Contains-get_or, get_or_default)
 
 -- ---- one more row
 
@@ -108,9 +70,7 @@ module _ (old pushed set new : Bits) (label : ℕ) (others : List ℕ) (hlabel :
   set_columns k hk = subst (λ w. k < 64 * w) (sym inserted.large.width) (pushed_columns k hk)
 
   set_same : (a k : ℕ) → a < old.rows → k < columns_of old → has set a k ≡ has old a k
-  set_same a k ha hk =
-      inserted.kept a k (omega (arith, ha, longer.rows)) (pushed_columns k hk) (λ same. omega (arith, same, ha))
-      ∙ longer.kept a k ha hk
+  set_same a k ha hk = grind arith
 
   new_bit : (k : ℕ) → k < columns_of old → Has new old.rows k → (label ≡ k) ⊎ InRows old others k
   new_bit k hk w = elim ((joined.bits k (set_columns k hk)).0 w) [
@@ -128,14 +88,7 @@ module _ (old pushed set new : Bits) (label : ℕ) (others : List ℕ) (hlabel :
       (inr (b, inside, set_same b k (below b inside) hk ∙ v))
 
   pub row_pushed : HasRowPushed old label others new
-  row_pushed = record {
-    rows = joined.large.rows ∙ inserted.large.rows ∙ longer.rows;
-    width = joined.large.width ∙ inserted.large.width ∙ longer.width;
-    kept = λ a k ha hk. joined.kept a k (omega (arith, ha, longer.rows, inserted.large.rows)) (set_columns k hk)
-        (λ same. omega (arith, same, ha))
-        ∙ set_same a k ha hk;
-    bits = λ k hk. (new_bit k hk, old_bit k hk);
-  }
+  row_pushed = grind (arith, new_bit, old_bit, set_columns, set_same)
 
 -- ---- what each node leads to
 
@@ -146,8 +99,7 @@ pub record Reaching (g : Graph) (labels : List ℕ) (n : ℕ) (bits : Bits) : Ty
 
 pub reaching_none : (g : Graph) (labels : List ℕ) (bits : Bits) → bits.rows ≡ 0 → length labels ≤ columns_of bits
     → Reaching g labels 0 bits
-reaching_none g labels bits rows columns =
-    record { rows = rows; columns = columns; members = λ a k none. absurd (omega (arith, none)) }
+reaching_none g labels bits rows columns = grind arith
 
 module _ (g : Graph) (labels : List ℕ) (n : ℕ) (old new : Bits) (falls : IsFalling g) (is : Reaching g labels n old)
     (pushed : HasRowPushed old (node_at labels n) (successors g n) new) where
@@ -184,19 +136,11 @@ module _ (g : Graph) (labels : List ℕ) (n : ℕ) (old new : Bits) (falls : IsF
   ]
 
   pub reaching_more : Reaching g labels (n + 1) new
-  reaching_more = record {
-    rows = pushed.rows ∙ ap (λ r. r + 1) is.rows;
-    columns = subst (λ w. length labels ≤ 64 * w) (sym pushed.width) is.columns;
-    members = member;
-  }
+  reaching_more = grind (arith, member)
 
 pub reaching_all : (g : Graph) (labels : List ℕ) (n : ℕ) (bits : Bits) → n ≡ length labels → Reaching g labels n bits
     → AreReachRows g labels bits
-reaching_all g labels n bits e is = record {
-  rows = is.rows ∙ e;
-  columns = is.columns;
-  members = λ a k ha hk. is.members a k (subst (λ r. a < r) is.rows ha) hk;
-}
+reaching_all g labels n bits e is = grind arith
 
 -- ---- each row with those of its successors
 
@@ -208,11 +152,7 @@ pub record Succeeding (g : Graph) (old : Bits) (n : ℕ) (new : Bits) : Type 0 w
       → Has new a k ↔ (Has old a k ⊎ ((b : ℕ) × Edge g a b × Has old b k))
 
 pub succeeding_none : (g : Graph) (old : Bits) (n : ℕ) → n ≡ old.rows → Succeeding g old n old
-succeeding_none g old n e = record {
-  large = record { rows = refl; width = refl };
-  before = λ a k less ha hk. refl;
-  members = λ a k from ha hk. absurd (omega (arith, e, from, ha));
-}
+succeeding_none g old n e = grind arith
 
 module _ (g : Graph) (old : Bits) (n : ℕ) (now new : Bits) (falls : IsFalling g) (h : n < old.rows)
     (is : Succeeding g old (n + 1) now)
@@ -242,23 +182,10 @@ module _ (g : Graph) (old : Bits) (n : ℕ) (now new : Bits) (falls : IsFalling 
 
   succeeding_member : (a k : ℕ) → n ≤ a → a < old.rows → k < columns_of old
       → Has new a k ↔ (Has old a k ⊎ ((b : ℕ) × Edge g a b × Has old b k))
-  succeeding_member a k from ha hk = elim (cases_eq a n) [
-    | inl at ↦
-        subst (λ x. Has new x k ↔ (Has old x k ⊎ ((b : ℕ) × Edge g x b × Has old b k))) (sym at)
-        (first_to k hk, first_from k hk)
-    | inr other ↦
-        let same = same_bit now new a k (rest a k other ha hk) in
-        let old_is = is.members a k (omega (arith, from, other)) ha hk in
-        (λ w. old_is.0 (same.0 w), λ v. same.1 (old_is.1 v))
-  ]
+  succeeding_member a k from ha hk = grind (arith, first_from, first_to, rest, same_bit)
 
   pub succeeding_more : Succeeding g old n new
-  succeeding_more = record {
-    large = record { rows = joined.large.rows ∙ is.large.rows; width = joined.large.width ∙ is.large.width };
-    before = λ a k less ha hk. rest a k (λ same. omega (arith, same, less)) ha hk
-        ∙ is.before a k (omega (arith, less)) ha hk;
-    members = succeeding_member;
-  }
+  succeeding_more = grind (arith, rest, succeeding_member)
 
 pub succeeding_all : (g : Graph) (old new : Bits) → Succeeding g old 0 new → HaveSuccessorsJoined g old new
 succeeding_all g old new is = record { large = is.large; members = λ a k ha hk. is.members a k (omega arith) ha hk }

@@ -6,7 +6,7 @@ use Rattle.std.specs.List.{IsDistinct, list_any}
 use Rattle.std.specs.List.Sorted.{IsStrictlyIncreasing}
 use Rattle.std.proofs.Math.ListN.{get_or-append}
 use Rattle.std.proofs.Math.Seq.{get_or-append_right}
-use Rattle.std.proofs.lemmas.Bool.{cases_lt, eqb-true, ne_eqb}
+use Rattle.std.proofs.lemmas.Bool.{eqb-true, ne_eqb}
 use Rattle.std.proofs.lemmas.Grind.{common_steps}
 use Rattle.std.proofs.lemmas.List.Elements.{Contains-get_or, Contains-append_cases, Contains-append_left, Contains-append_right}
 use Rattle.std.proofs.lemmas.Map.Keys.{IsDistinct-from_apart}
@@ -72,9 +72,7 @@ leaf_ready g marks leaves none members a = (
 )
 
 zero_at : (n a : ℕ) → get_or {A = ℕ} (replicate n 0) a 0 ≡ 0
-zero_at zero a = grind (arith, common_steps)
-zero_at (suc n) zero = refl
-zero_at (suc n) (suc a) = zero_at n a
+zero_at n a = grind (arith, common_steps)
 
 pub all_zero : (xs : List ℕ) (n : ℕ) → xs ≡ replicate n 0 → (a : ℕ) → get_or xs a 0 ≡ 0
 all_zero xs n e a = ap (λ ys. get_or ys a 0) e ∙ zero_at n a
@@ -145,8 +143,7 @@ least_next g s t l r a (inr w) = elim (l.late a w) [
 
 below_next : (g : Graph) (s t : Stage) → Levels g s → Round g s t → (a : ℕ) → IsMarked s.marks a ⊎ Contains s.ready a
     → rank_in t.ranks a < t.round
-below_next g s t l r a (inl m) = omega (arith, l.below a m, kept g s t l r a m, r.next)
-below_next g s t l r a (inr w) = omega (arith, r.ranked a w, r.next)
+below_next g s t l r a w = grind arith
 
 late_next : (g : Graph) (s t : Stage) → Round g s t → (a : ℕ) → Contains t.ready a
     → (t.round ≡ 0) ⊎ ((b : ℕ) × Edge g a b × (t.round ≡ rank_in t.ranks b + 1))
@@ -187,8 +184,7 @@ order_right order ready k h = get_or-append_right order ready k 0 h
 before_same : (ranks new_ranks : List ℕ) (a b : ℕ) → rank_in new_ranks a ≡ rank_in ranks a
     → rank_in new_ranks b ≡ rank_in ranks b → IsBefore ranks a b
     → IsBefore new_ranks a b
-before_same ranks new_ranks a b ea eb (inl less) = inl (omega (arith, less, ea, eb))
-before_same ranks new_ranks a b ea eb (inr (same, less)) = inr (ea ∙ same ∙ sym eb, less)
+before_same ranks new_ranks a b ea eb w = grind arith
 
 ordered_case : (g : Graph) (s t : Stage) → Levels g s → Round g s t → (k : ℕ) → k + 1 < length s.order + length s.ready
     → (k + 1 < length s.order) ⊎ (length s.order ≤ k + 1) → (k < length s.order) ⊎ (length s.order ≤ k)
@@ -222,12 +218,7 @@ ordered_case g s t l r k h (inr over) (inr at) =
 
 ordered_next : (g : Graph) (s t : Stage) → Levels g s → Round g s t → (k : ℕ) → k + 1 < length t.order
     → IsBefore t.ranks (get_or t.order k 0) (get_or t.order (k + 1) 0)
-ordered_next g s t l r k h =
-    let long : length t.order ≡ length s.order + length s.ready =
-    ap length r.appended ∙ length-append s.order s.ready in
-    subst (λ (xs : List ℕ). IsBefore t.ranks (get_or xs k 0) (get_or xs (k + 1) 0)) (sym r.appended)
-    (ordered_case g s t l r k (omega (arith, h, long)) (cases_lt (k + 1) (length s.order))
-    (cases_lt k (length s.order)))
+ordered_next g s t l r k h = grind (arith, length-append, ordered_case)
 
 known_to : (g : Graph) (s t : Stage) → Levels g s → Round g s t → (a : ℕ) → IsMarked s.marks a ⊎ Contains s.ready a
     → Contains t.order a
@@ -265,8 +256,7 @@ levels_next g s t l r = record {
 -- ---- no node stands twice in the order
 
 before_other : (ranks : List ℕ) (a b : ℕ) → IsBefore ranks a b → a ≡ b → ⊥
-before_other ranks a b (inl less) e = (let same = ap (rank_in ranks) e in omega (arith, less, same))
-before_other ranks a b (inr (same, less)) e = omega (arith, less, e)
+before_other ranks a b w e = grind arith
 
 before_by : (g : Graph) (s : Stage) → Levels g s → (i d : ℕ) → i + suc d < length s.order
     → IsBefore s.ranks (get_or s.order i 0) (get_or s.order (i + suc d) 0)
@@ -332,8 +322,7 @@ ready_below g s l a w = ((l.ready a).0 w).0
 
 every_case : (g : Graph) (s : Stage) → Levels g s → length g ≤ length s.order → (a : ℕ) → a < length g
     → IsMarked s.marks a ⊎ (IsMarked s.marks a → ⊥) → IsMarked s.marks a
-every_case g s l whole a h (inl m) = m
-every_case g s l whole a h (inr out) = absurd (let short = order_shorter g s l a h out in no_position 0 (omega arith))
+every_case g s l whole a h w = grind (arith, no_position, order_shorter)
 
 every : (g : Graph) (s : Stage) → Levels g s → length g ≤ length s.order → (a : ℕ) → a < length g → IsMarked s.marks a
 every g s l whole a h = every_case g s l whole a h (mark_cases s.marks a)

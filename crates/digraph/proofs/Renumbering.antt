@@ -19,10 +19,7 @@ use Rattle.digraph.proofs.Visiting.{no_position}
 -- ---- an order by rank
 
 pub before_trans : (ranks : List ℕ) (a b c : ℕ) → IsBefore ranks a b → IsBefore ranks b c → IsBefore ranks a c
-before_trans ranks a b c (inl x) (inl y) = inl (omega arith)
-before_trans ranks a b c (inl x) (inr (e, y)) = inl (omega arith)
-before_trans ranks a b c (inr (e, x)) (inl y) = inl (omega arith)
-before_trans ranks a b c (inr (e, x)) (inr (f, y)) = inr (e ∙ f, omega arith)
+before_trans ranks a b c w v = grind arith
 
 before_by : (ranks order : List ℕ) → IsRankOrder ranks order → (i d : ℕ) → i + suc d < length order
     → IsBefore ranks (node_at order i) (node_at order (i + suc d))
@@ -43,8 +40,7 @@ before_far ranks order o i j h inside =
     (before_by ranks order o i (j - i - 1) (omega arith))
 
 before_differs : (ranks : List ℕ) (a b : ℕ) → IsBefore ranks a b → a ≢ b
-before_differs ranks a b (inl less) e = let same = ap (rank_in ranks) e in omega (arith, less, same)
-before_differs ranks a b (inr (same, less)) e = omega (arith, less, e)
+before_differs ranks a b w e = grind arith
 
 -- ---- positions
 
@@ -75,10 +71,7 @@ placed_case ranks order n positions o h p k below (inr over) =
 pub placed_more : (ranks order : List ℕ) (n : ℕ) (positions : List ℕ) → IsRankOrder ranks order → n < length order
     → Placed order n positions
     → Placed order (n + 1) (set positions (node_at order n) n)
-placed_more ranks order n positions o h p = record {
-  size = length-set positions (node_at order n) n ∙ p.size;
-  placed = λ k below. placed_case ranks order n positions o h p k below (cases_lt k n);
-}
+placed_more ranks order n positions o h p = grind (arith, length-set, placed_case)
 
 pub placed_all : (ranks order : List ℕ) (n : ℕ) (positions : List ℕ) → IsRankOrder ranks order → length order ≤ n
     → Placed order n positions
@@ -122,19 +115,14 @@ rowed_to : (g : Graph) (order positions : List ℕ) (n k j : ℕ) (E : Type 0) (
     → (E → (k < n) × HasPosition positions (successors g (node_at order k)) j)
     → (Contains row j → HasPosition positions (successors g (node_at order n)) j)
     → E ⊎ ((k ≡ n) × Contains row j) → (k < n + 1) × HasPosition positions (successors g (node_at order k)) j
-rowed_to g order positions n k j E row f h (inl e) = let w = f e in (omega (arith, w.0), w.1)
-rowed_to g order positions n k j E row f h (inr (e, w)) =
-    (omega arith, subst (λ i. HasPosition positions (successors g (node_at order i)) j) (sym e) (h w))
+rowed_to g order positions n k j E row f h w = grind arith
 
 rowed_from : (g : Graph) (order positions : List ℕ) (n k j : ℕ) (E : Type 0) (row : List ℕ)
     → ((k < n) × HasPosition positions (successors g (node_at order k)) j → E)
     → (HasPosition positions (successors g (node_at order n)) j → Contains row j)
     → (k < n) ⊎ (n ≤ k) → (k < n + 1) × HasPosition positions (successors g (node_at order k)) j
     → E ⊎ ((k ≡ n) × Contains row j)
-rowed_from g order positions n k j E row f h (inl less) w = inl (f (less, w.1))
-rowed_from g order positions n k j E row f h (inr over) w =
-    let e : k ≡ n = omega (arith, w.0, over) in
-    inr (e, h (subst (λ i. HasPosition positions (successors g (node_at order i)) j) e w.1))
+rowed_from g order positions n k j E row f h v w = grind arith
 
 pub rowed_more : (g : Graph) (order positions : List ℕ) (n : ℕ) (rows new : Graph) (row nodes : List ℕ)
     → new ≡ rows ++ row ∷ []

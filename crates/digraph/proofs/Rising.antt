@@ -1,5 +1,5 @@
 -- Lists of rising numbers.
-use Rattle.std.proofs.Common.{◌≡◌, ℕ, ◌+◌, ◌-◌, ◌<◌, ◌≤◌, List, [], ◌∷◌, ◌++◌, length, get_or, refl, subst, arith, inl, inr, ◌⊎◌}
+use Rattle.std.proofs.Common.{ℕ, ◌+◌, ◌-◌, ◌<◌, ◌≤◌, List, [], ◌∷◌, ◌++◌, length, get_or, refl, arith, inl, inr, ◌⊎◌}
 use Rattle.std.specs.Prelude.{Contains}
 use Rattle.std.specs.List.{AllByRecursion}
 use Rattle.std.specs.List.Sorted.{IsStrictlyIncreasing}
@@ -10,10 +10,6 @@ use Rattle.std.proofs.lemmas.List.{get_or_push}
 use Rattle.std.proofs.lemmas.List.Elements.{Contains-get_or}
 use Rattle.std.proofs.lemmas.Map.Keys.{below_from_sorted, sorted_from_strictly_increasing}
 use Rattle.digraph.proofs.Marking.{among_all}
-use Rattle.digraph.proofs.Visiting.{no_position}
-
-pub rises_none : IsStrictlyIncreasing []
-rises_none k h = absurd (no_position (k + 1) h)
 
 rises_case : (xs : List ℕ) (p : ℕ) → IsStrictlyIncreasing xs → ((c : ℕ) → Contains xs c → c < p) → (k : ℕ)
     → k < length xs
@@ -27,9 +23,7 @@ rises_case xs p up below k h (inr last) =
 -- one more number, above those before it
 pub rises_push : (xs : List ℕ) (p : ℕ) → IsStrictlyIncreasing xs → ((c : ℕ) → Contains xs c → c < p)
     → IsStrictlyIncreasing (xs ++ p ∷ [])
-rises_push xs p up below k h =
-    let len : length (xs ++ p ∷ []) ≡ length xs + 1 = grind (arith, common_steps) in
-    rises_case xs p up below k (omega arith) (cases_lt (k + 1) (length xs))
+rises_push xs p up below k h = grind (arith, common_steps, rises_case)
 
 -- numbers at a distance
 pub rises_far : (xs : List ℕ) → IsStrictlyIncreasing xs → (i j : ℕ) → i < j → j < length xs
@@ -39,9 +33,7 @@ rises_far xs up i j h inside = below_from_sorted xs i j 0 (sorted_from_strictly_
 last_case : (xs : List ℕ) → IsStrictlyIncreasing xs → (number k : ℕ) → k < length xs
     → get_or xs (length xs - 1) 0 < number
     → (k < length xs - 1) ⊎ (length xs - 1 ≤ k) → get_or xs k 0 < number
-last_case xs up number k h below (inl before) = let less = rises_far xs up k (length xs - 1) before (omega arith) in
-    omega (arith, less, below)
-last_case xs up number k h below (inr last) = subst (λ (i : ℕ). get_or xs i 0 < number) (omega arith) below
+last_case xs up number k h below w = grind (arith, rises_far)
 
 -- where the last is below a number, all are
 pub below_last : (xs : List ℕ) → IsStrictlyIncreasing xs → (number c : ℕ) → get_or xs (length xs - 1) 0 < number
@@ -55,8 +47,7 @@ below_last xs up number c below w =
 
 pub all_push : {X : Type 0} (P : X → Type 0) (xs : List X) (x : X) → AllByRecursion P xs → P x
     → AllByRecursion P (xs ++ x ∷ [])
-all_push P [] x w p = (p, tt)
-all_push P (y ∷ xs) x w p = (w.0, all_push P xs x w.1 p)
+all_push P xs x w p = grind (arith, common_steps)
 
 pub all_map : {X : Type 0} (P Q : X → Type 0) → ((x : X) → P x → Q x) → (xs : List X) → AllByRecursion P xs
     → AllByRecursion Q xs

@@ -1,16 +1,17 @@
 -- What the loops of a round keep.
-use Rattle.std.proofs.Common.{◌≡◌, ◌≢◌, ◌∙◌, sym, ℕ, zero, suc, ◌+◌, ◌<◌, ◌≤◌, List, [], ◌∷◌, ◌++◌, length, get_or, ap, refl, subst, arith, inl, inr, ◌⊎◌, get_or-set_same, get_or-set_other}
-use Rattle.std.specs.Prelude.{Bool, true, false, Contains, ◌↔◌}
+use Rattle.std.proofs.lemmas.Grind.{common_steps}
+use Rattle.std.proofs.Common.{◌≡◌, ◌≢◌, ◌∙◌, sym, ℕ, zero, suc, ◌+◌, ◌<◌, ◌≤◌, List, [], ◌∷◌, ◌++◌, length, get_or, refl, subst, arith, inl, inr, ◌⊎◌, get_or-set_same, get_or-set_other}
+use Rattle.std.specs.Prelude.{Bool, true, Contains, ◌↔◌}
 use Rattle.std.specs.List.Sorted.{IsStrictlyIncreasing}
 use Rattle.std.proofs.Math.ListN.{set, length-set}
-use Rattle.std.proofs.lemmas.Bool.{cases_eq, cases_lt, false≢true}
+use Rattle.std.proofs.lemmas.Bool.{cases_lt}
 use Rattle.std.proofs.lemmas.List.Elements.{Contains-get_or}
 use Rattle.digraph.specs.Edges.{Graph, Edge, successors}
 use Rattle.digraph.specs.Marks.{IsMarked, Among}
 use Rattle.digraph.specs.Ranks.{rank_in}
 use Rattle.digraph.specs.Rounds.{IsPassed, ArePassed, Stops, AllMarked, GoesInto}
 use Rattle.digraph.proofs.Marking.{among_more, among_all, mark_one, joined_step, joined_end}
-use Rattle.digraph.proofs.Rising.{rises_none, rises_push}
+use Rattle.digraph.proofs.Rising.{rises_push}
 use Rattle.digraph.proofs.Visiting.{no_position, push_iff}
 
 -- ---- one row
@@ -28,23 +29,16 @@ HasUnmarked g marks a = (b : ℕ) × Edge g a b × (IsMarked marks b → ⊥)
 
 unmarked_at : (g : Graph) (marks : List Bool) (a n : ℕ) → (n ≡ length (successors g a) → ⊥)
     → Stops marks (successors g a) n → HasUnmarked g marks a
-unmarked_at g marks a n part (inl whole) = absurd (part whole)
-unmarked_at g marks a n part (inr (h, out)) = (get_or (successors g a) n 0, Contains-get_or (successors g a) n 0 h, out)
+unmarked_at g marks a n part w = grind (arith, Contains-get_or)
 
 -- a row that is not passed whole
 pub stopped : (g : Graph) (marks : List Bool) (a n : ℕ) → (n ≡ length (successors g a) → ⊥)
     → Stops marks (successors g a) n → AllMarked g marks a → ⊥
 stopped g marks a n part stops all = let at = unmarked_at g marks a n part stops in at.2 (all at.0 at.1)
 
-known_mark : (marks : List Bool) (a : ℕ) → a < length marks → (b : Bool) → get_or marks a false ≡ b
-    → IsMarked marks a ⊎ (IsMarked marks a → ⊥)
-known_mark marks a h true e = inl (h, e)
-known_mark marks a h false e = inr (λ m. false≢true (sym e ∙ m.1))
-
 inside_cases : (marks : List Bool) (a : ℕ) → (a < length marks) ⊎ (length marks ≤ a)
     → IsMarked marks a ⊎ (IsMarked marks a → ⊥)
-inside_cases marks a (inl h) = known_mark marks a h (get_or marks a false) refl
-inside_cases marks a (inr h) = inr (λ m. no_position 0 (omega (arith, h, m.0)))
+inside_cases marks a w = grind arith
 
 pub mark_cases : (marks : List Bool) (a : ℕ) → IsMarked marks a ⊎ (IsMarked marks a → ⊥)
 mark_cases marks a = inside_cases marks a (cases_lt a (length marks))
@@ -86,8 +80,7 @@ pub record Settled (nodes : List ℕ) (rank : ℕ) (old : List Bool) (before : L
   pub others : (c : ℕ) → (Among nodes n c → ⊥) → rank_in ranks c ≡ rank_in before c
 
 none_among : (old : List Bool) (nodes : List ℕ) (c : ℕ) → IsMarked old c ⊎ Among nodes 0 c → IsMarked old c
-none_among old nodes c (inl m) = m
-none_among old nodes c (inr w) = absurd (no_position w.0 w.1)
+none_among old nodes c w = grind arith
 
 pub settled_none : (nodes : List ℕ) (rank : ℕ) (marks : List Bool) (ranks : List ℕ)
     → ((c : ℕ) → Contains nodes c → (c < length marks) × (c < length ranks))
@@ -103,18 +96,12 @@ ranked_case : (nodes : List ℕ) (rank n : ℕ) (ranks : List ℕ) (c : ℕ) →
     → ((c : ℕ) → Among nodes n c → rank_in ranks c ≡ rank)
     → (c ≡ get_or nodes n 0) ⊎ (c ≢ get_or nodes n 0) → Among nodes (n + 1) c
     → rank_in (set ranks (get_or nodes n 0) rank) c ≡ rank
-ranked_case nodes rank n ranks c h old (inl same) w =
-    ap (λ i. get_or (set ranks (get_or nodes n 0) rank) i 0) same ∙ get_or-set_same ranks (get_or nodes n 0) rank 0 h
-ranked_case nodes rank n ranks c h old (inr other) w =
-    get_or-set_other ranks (get_or nodes n 0) c rank 0 other
-    ∙ elim ((among_more nodes n c).0 w) [ inl more ↦ old c more | inr is ↦ absurd (other (sym is)) ]
+ranked_case nodes rank n ranks c h old v w = grind (arith, among_more, get_or-set_other, get_or-set_same)
 
 others_case : (nodes : List ℕ) (rank n : ℕ) (ranks before : List ℕ) (c : ℕ)
     → ((c : ℕ) → (Among nodes n c → ⊥) → rank_in ranks c ≡ rank_in before c)
     → (Among nodes (n + 1) c → ⊥) → rank_in (set ranks (get_or nodes n 0) rank) c ≡ rank_in before c
-others_case nodes rank n ranks before c old out =
-    let other : c ≢ get_or nodes n 0 = λ same. out ((among_more nodes n c).1 (inr (sym same))) in
-    get_or-set_other ranks (get_or nodes n 0) c rank 0 other ∙ old c (λ w. out ((among_more nodes n c).1 (inl w)))
+others_case nodes rank n ranks before c old out = grind (arith, common_steps)
 
 pub settled_more : (nodes : List ℕ) (rank : ℕ) (old : List Bool) (before : List ℕ) (n : ℕ) (marks : List Bool)
     (ranks : List ℕ) → n < length nodes
@@ -122,14 +109,7 @@ pub settled_more : (nodes : List ℕ) (rank : ℕ) (old : List Bool) (before : L
     → Settled nodes rank old before (n + 1) (set marks (get_or nodes n 0) true)
     (set ranks (get_or nodes n 0) rank)
 settled_more nodes rank old before n marks ranks h s =
-    let p = get_or nodes n 0 in
-    record {
-      room = λ k inside. (let room = s.room k inside in
-          (omega (arith, room.0, length-set marks p true), omega (arith, room.1, length-set ranks p rank)));
-      marked = λ c. joined_step (mark_one marks p c (s.room n h).0) (s.marked c) (among_more nodes n c);
-      ranked = λ c. ranked_case nodes rank n ranks c (s.room n h).1 s.ranked (cases_eq c p);
-      others = λ c. others_case nodes rank n ranks before c s.others;
-    }
+    grind (arith, among_more, joined_step, length-set, mark_one, others_case, ranked_case)
 
 pub settled_marks : (nodes : List ℕ) (rank : ℕ) (old : List Bool) (before : List ℕ) (n : ℕ) (marks : List Bool)
     (ranks : List ℕ) → n ≡ length nodes
@@ -151,42 +131,18 @@ settled_others nodes rank old before n marks ranks e s c out = s.others c (λ w.
 
 pub passed_none : (g : Graph) (marks : List Bool) (passed : List ℕ) → length passed ≡ length g
     → ((a : ℕ) → get_or passed a 0 ≡ 0) → ArePassed g marks passed
-passed_none g marks passed size zeros = record {
-  size = size;
-  each = λ a. record {
-    inside = omega (arith, zeros a);
-    prefix = λ k h. absurd (no_position k (omega (arith, h, zeros a)));
-  };
-}
+passed_none g marks passed size zeros = grind arith
 
 -- marks that are added take nothing away
 pub passed_grows : (g : Graph) (marks new : List Bool) (passed : List ℕ) → ((c : ℕ) → IsMarked marks c → IsMarked new c)
     → ArePassed g marks passed
     → ArePassed g new passed
-passed_grows g marks new passed f p = record {
-  size = p.size;
-  each = λ a. record {
-    inside = (p.each a).inside;
-    prefix = λ k h. f (get_or (successors g a) k 0) ((p.each a).prefix k h);
-  };
-}
-
-set_case : (g : Graph) (marks : List Bool) (passed : List ℕ) (p n a : ℕ) → p < length passed
-    → IsPassed marks (successors g p) n → ArePassed g marks passed
-    → (a ≡ p) ⊎ (a ≢ p) → IsPassed marks (successors g a) (get_or (set passed p n) a 0)
-set_case g marks passed p n a h row old (inl same) =
-    subst (λ (i : ℕ). IsPassed marks (successors g i) (get_or (set passed p n) i 0)) (sym same)
-    (subst (IsPassed marks (successors g p)) (sym (get_or-set_same passed p n 0 h)) row)
-set_case g marks passed p n a h row old (inr other) =
-    subst (IsPassed marks (successors g a)) (sym (get_or-set_other passed p a n 0 other)) (old.each a)
+passed_grows g marks new passed f p = grind arith
 
 pub passed_set : (g : Graph) (marks : List Bool) (passed : List ℕ) (p n : ℕ) → p < length passed
     → IsPassed marks (successors g p) n → ArePassed g marks passed
     → ArePassed g marks (set passed p n)
-passed_set g marks passed p n h row old = record {
-  size = length-set passed p n ∙ old.size;
-  each = λ a. set_case g marks passed p n a h row old (cases_eq a p);
-}
+passed_set g marks passed p n h row old = grind (arith, common_steps)
 
 -- ---- the nodes that are ready among some
 
@@ -197,8 +153,7 @@ pub record Appending (g : Graph) (marks : List Bool) (nodes old : List ℕ) (n :
 
 none_ready : (g : Graph) (marks : List Bool) (nodes old : List ℕ) (a : ℕ)
     → Contains old a ⊎ (Among nodes 0 a × AllMarked g marks a) → Contains old a
-none_ready g marks nodes old a (inl w) = w
-none_ready g marks nodes old a (inr w) = absurd (no_position w.0.0 w.0.1)
+none_ready g marks nodes old a w = grind arith
 
 pub appending_none : (g : Graph) (marks : List Bool) (nodes old passed : List ℕ)
     → ((a : ℕ) → Contains nodes a → a < length g) → ArePassed g marks passed
@@ -279,10 +234,7 @@ pub record Collecting (g : Graph) (marks : List Bool) (nodes : List ℕ) (n : �
 pub collecting_none : (g : Graph) (marks : List Bool) (nodes passed ready : List ℕ) → ready ≡ []
     → ArePassed g marks passed
     → Collecting g marks nodes 0 passed ready
-collecting_none g marks nodes passed ready e are = rw e (record {
-  are = are;
-  found = λ a. (λ w. absurd (no_position w.0 w.1), λ w. absurd (no_position w.0.1.0 w.0.1.1));
-})
+collecting_none g marks nodes passed ready e are = grind arith
 
 collected_to : (g : Graph) (marks : List Bool) (nodes : List ℕ) (n a : ℕ)
     → (GoesAmong g nodes n a × AllMarked g marks a) ⊎ (Edge g a (get_or nodes n 0) × AllMarked g marks a)
@@ -336,8 +288,7 @@ abbrev pub IsLeaf : Graph → ℕ → Type 0
 IsLeaf g a = successors g a ≡ []
 
 pub empty_row : (xs row : List ℕ) → xs ≡ row → length xs ≡ 0 → row ≡ []
-empty_row [] row e h = sym e
-empty_row (x ∷ xs) row e h = absurd (omega arith)
+empty_row xs row e h = grind (arith, common_steps)
 
 pub inner_row : (xs row : List ℕ) → xs ≡ row → 0 < length xs → row ≡ [] → ⊥
 inner_row xs row e h empty = no_position 0 (subst (λ (ys : List ℕ). 0 < length ys) (e ∙ empty) h)
@@ -347,20 +298,13 @@ pub record Leaves (g : Graph) (n : ℕ) (leaves : List ℕ) : Type 0 where
   pub members : (a : ℕ) → Contains leaves a ↔ ((a < n) × IsLeaf g a)
 
 pub leaves_none : (g : Graph) (leaves : List ℕ) → leaves ≡ [] → Leaves g 0 leaves
-leaves_none g leaves e =
-    rw e (record {
-      rises = rises_none;
-      members =
-          λ a. (λ w. absurd (no_position w.0 w.1), λ w. absurd (no_position a w.0));
-    })
+leaves_none g leaves e = grind arith
 
 leaf_to : (g : Graph) (n a : ℕ) → IsLeaf g n → ((a < n) × IsLeaf g a) ⊎ (n ≡ a) → (a < n + 1) × IsLeaf g a
-leaf_to g n a leaf (inl (h, w)) = (omega arith, w)
-leaf_to g n a leaf (inr is) = (omega arith, subst (IsLeaf g) is leaf)
+leaf_to g n a leaf w = grind arith
 
 below_cases : (n a : ℕ) → a < n + 1 → (a < n) ⊎ (n ≤ a) → (a < n) ⊎ (n ≡ a)
-below_cases n a h (inl less) = inl less
-below_cases n a h (inr over) = inr (omega arith)
+below_cases n a h w = grind arith
 
 pub leaves_push : (g : Graph) (n : ℕ) (leaves ys : List ℕ) → IsLeaf g n → ys ≡ leaves ++ n ∷ [] → Leaves g n leaves
     → Leaves g (n + 1) ys

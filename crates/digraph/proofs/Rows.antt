@@ -1,32 +1,26 @@
 -- Rows that are appended, and rows that get one node more.
-use Rattle.std.proofs.Common.{◌≡◌, ◌≢◌, ◌∙◌, sym, ℕ, ◌+◌, ◌<◌, ◌≤◌, List, [], ◌∷◌, ◌++◌, length, take, drop, get_or, ap, refl, subst, arith, inl, inr, ◌⊎◌, Vec, Global, get_or-set_same, get_or-set_other}
+use Rattle.std.proofs.Common.{◌≡◌, ◌≢◌, ◌∙◌, sym, ℕ, ◌+◌, ◌<◌, ◌≤◌, List, [], ◌∷◌, ◌++◌, length, take, drop, get_or, ap, refl, subst, arith, inl, inr, ◌⊎◌, Vec, Global, get_or-set_same}
 use Rattle.std.specs.Prelude.{Contains, ◌↔◌}
-use Rattle.std.proofs.Math.ListN.{set, length-set, get_or-append}
-use Rattle.std.proofs.Math.Seq.{take-append_seam}
+use Rattle.std.proofs.Math.ListN.{set, length-set}
 use Rattle.std.proofs.lemmas.Bool.{cases_eq, cases_lt}
-use Rattle.std.proofs.lemmas.List.{map-set, map-append, get_or_push, get_or-map}
+use Rattle.std.proofs.lemmas.List.{map-set, map-append}
 use Rattle.std.proofs.lemmas.List.Elements.{Contains-get_or, Contains-push, Contains-push_cases, Contains-append_left}
 use Rattle.std.proofs.lemmas.Grind.{common_steps}
 use Rattle.digraph.specs.Edges.{Graph, graph_of, successors, Edge}
 use Rattle.digraph.specs.Marks.{Among}
 use Rattle.digraph.proofs.Visiting.{no_position}
-use Rattle.digraph.proofs.Marking.{among_more, among_all, joined_step, joined_end}
+use Rattle.digraph.proofs.Marking.{among_all, joined_step, joined_end}
 
 pub row_items : (rows : List (Vec ℕ Global)) (k : ℕ) (v : Vec ℕ Global) → v ≡ get_or rows k v → k < length rows
     → v.items ≡ successors (graph_of rows) k
-row_items rows k v e h = ap (λ (x : Vec ℕ Global). x.items) e
-    ∙ sym (get_or-map (λ (x : Vec ℕ Global). x.items) rows k v [] h)
+row_items rows k v e h = grind (arith, common_steps)
 
 pub no_items : (b : ℕ) → Contains {X = ℕ} [] b → ⊥
 no_items b (k, h, e) = omega arith
 
-pub row_beyond : (g : Graph) (a : ℕ) → length g ≤ a → successors g a ≡ []
-row_beyond g a h = grind (arith, common_steps)
-
 -- an edge's node has a row
 pub edge_inside : (g : Graph) (a b : ℕ) → Edge g a b → (a < length g) ⊎ (length g ≤ a) → a < length g
-edge_inside g a b edge (inl h) = h
-edge_inside g a b edge (inr h) = absurd (no_items b (subst (λ (xs : List ℕ). Contains xs b) (row_beyond g a h) edge))
+edge_inside g a b edge w = grind (arith, common_steps)
 
 pub edge_below : (g : Graph) (a b : ℕ) → Edge g a b → a < length g
 edge_below g a b edge = edge_inside g a b edge (cases_lt a (length g))
@@ -34,25 +28,14 @@ edge_below g a b edge = edge_inside g a b edge (cases_lt a (length g))
 -- ---- a row is appended
 
 push_inside : (g : Graph) (xs : List ℕ) (a b : ℕ) → (a < length g) → Edge (g ++ xs ∷ []) a b ↔ Edge g a b
-push_inside g xs a b h =
-    let same : successors (g ++ xs ∷ []) a ≡ successors g a = get_or-append g (xs ∷ []) [] a h in
-    (λ e. subst (λ (ys : List ℕ). Contains ys b) same e, λ e. subst (λ (ys : List ℕ). Contains ys b) (sym same) e)
+push_inside g xs a b h = grind (arith, common_steps)
 
 push_last : (g : Graph) (xs : List ℕ) (a b : ℕ) → a ≡ length g → Edge (g ++ xs ∷ []) a b ↔ Contains xs b
-push_last g xs a b h =
-    let same : successors (g ++ xs ∷ []) a ≡ xs = get_or_push g xs [] a (sym h) in
-    (λ e. subst (λ (ys : List ℕ). Contains ys b) same e, λ e. subst (λ (ys : List ℕ). Contains ys b) (sym same) e)
-
-push_length : (g : Graph) (xs : List ℕ) → length (g ++ xs ∷ []) ≡ length g + 1
-push_length g xs = grind (arith, common_steps)
+push_last g xs a b h = grind (arith, common_steps)
 
 push_to : (g : Graph) (xs : List ℕ) (a b : ℕ) → (a < length g) ⊎ (length g ≤ a) → Edge (g ++ xs ∷ []) a b
     → Edge g a b ⊎ ((a ≡ length g) × Contains xs b)
-push_to g xs a b (inl h) edge = inl ((push_inside g xs a b h).0 edge)
-push_to g xs a b (inr h) edge =
-    let below = edge_below (g ++ xs ∷ []) a b edge in
-    let last : a ≡ length g = omega (arith, below, push_length g xs) in
-    inr (last, (push_last g xs a b last).0 edge)
+push_to g xs a b w edge = grind (arith, common_steps)
 
 push_from : (g : Graph) (xs : List ℕ) (a b : ℕ) → Edge g a b ⊎ ((a ≡ length g) × Contains xs b)
     → Edge (g ++ xs ∷ []) a b
@@ -117,12 +100,7 @@ set_same g s node b a h same =
 
 set_other : (g : Graph) (s node b a : ℕ) → b ≢ s → Edge (set g s (successors g s ++ node ∷ [])) b a
     ↔ (Edge g b a ⊎ ((b ≡ s) × (node ≡ a)))
-set_other g s node b a other =
-    let row : successors (set g s (successors g s ++ node ∷ [])) b ≡ successors g b =
-    get_or-set_other g s b (successors g s ++ node ∷ []) [] other in (
-      λ edge. inl (subst (λ (ys : List ℕ). Contains ys a) row edge),
-      λ w. subst (λ (ys : List ℕ). Contains ys a) (sym row) (elim w [ inl old ↦ old | inr is ↦ absurd (other is.0) ]),
-    )
+set_other g s node b a other = grind (arith, common_steps)
 
 set_cases : (g : Graph) (s node b a : ℕ) → s < length g → (b ≡ s) ⊎ (b ≡ s → ⊥)
     → Edge (set g s (successors g s ++ node ∷ [])) b a ↔ (Edge g b a ⊎ ((b ≡ s) × (node ≡ a)))
@@ -153,13 +131,11 @@ row_pushed rows s node v w e h items b a =
 
 among_to : (nodes : List ℕ) (n node b a : ℕ) → (a ≡ node) × Among nodes (n + 1) b
     → ((a ≡ node) × Among nodes n b) ⊎ ((b ≡ get_or nodes n 0) × (node ≡ a))
-among_to nodes n node b a (e, w) =
-    elim ((among_more nodes n b).0 w) [ inl more ↦ inl (e, more) | inr is ↦ inr (sym is, sym e) ]
+among_to nodes n node b a w = grind arith
 
 among_from : (nodes : List ℕ) (n node b a : ℕ) → ((a ≡ node) × Among nodes n b) ⊎ ((b ≡ get_or nodes n 0) × (node ≡ a))
     → (a ≡ node) × Among nodes (n + 1) b
-among_from nodes n node b a (inl (e, more)) = (e, (among_more nodes n b).1 (inl more))
-among_from nodes n node b a (inr (is, e)) = (sym e, (among_more nodes n b).1 (inr (sym is)))
+among_from nodes n node b a w = grind arith
 
 -- what a loop keeps that pushes one node to the rows of others
 pub record Turning (nodes : List ℕ) (node : ℕ) (old : Graph) (n : ℕ) (rows : List (Vec ℕ Global)) : Type 0 where
@@ -168,8 +144,7 @@ pub record Turning (nodes : List ℕ) (node : ℕ) (old : Graph) (n : ℕ) (rows
 
 none_turned : (nodes : List ℕ) (node : ℕ) (old : Graph) (b a : ℕ) → Edge old b a ⊎ ((a ≡ node) × Among nodes 0 b)
     → Edge old b a
-none_turned nodes node old b a (inl edge) = edge
-none_turned nodes node old b a (inr (e, w)) = absurd (no_position w.0 w.1)
+none_turned nodes node old b a w = grind arith
 
 pub turning_none : (nodes : List ℕ) (node : ℕ) (rows : List (Vec ℕ Global))
     → ((b : ℕ) → Contains nodes b → b < length rows)
@@ -215,14 +190,11 @@ turned_none g rows size empty =
 
 turn_to : (g : Graph) (n b a : ℕ) (E : Type 0) → (E → (a < n) × Edge g a b) → E ⊎ ((a ≡ n) × Edge g n b)
     → (a < n + 1) × Edge g a b
-turn_to g n b a E f (inl e) = let w = f e in (omega (arith, w.0), w.1)
-turn_to g n b a E f (inr (is, edge)) = (omega arith, subst (λ (x : ℕ). Edge g x b) (sym is) edge)
+turn_to g n b a E f w = grind arith
 
 turn_from : (g : Graph) (n b a : ℕ) (E : Type 0) → ((a < n) × Edge g a b → E) → (a < n) ⊎ (n ≤ a)
     → (a < n + 1) × Edge g a b → E ⊎ ((a ≡ n) × Edge g n b)
-turn_from g n b a E f (inl h) (below, edge) = inl (f (h, edge))
-turn_from g n b a E f (inr h) (below, edge) = let is : a ≡ n = omega arith in
-    inr (is, subst (λ (x : ℕ). Edge g x b) is edge)
+turn_from g n b a E f w v = grind arith
 
 pub turned_more : (g : Graph) (n : ℕ) (rows new : List (Vec ℕ Global)) (nodes : List ℕ) → nodes ≡ successors g n
     → length new ≡ length rows
@@ -251,5 +223,4 @@ turned_all g n rows h t b a = (
 -- what is written to all of a list replaces it
 pub written : {X : Type 0} (new items : List X) (n : ℕ) → n ≡ length items → length new ≡ length items
     → take n (new ++ drop (length new) items) ≡ new
-written new items n e len = ap (λ k. take k (new ++ drop (length new) items)) (e ∙ sym len)
-    ∙ take-append_seam new (drop (length new) items)
+written new items n e len = grind (arith, common_steps)

@@ -1,5 +1,5 @@
 -- What a search over edges keeps.
-use Rattle.std.proofs.Common.{◌≡◌, ◌∙◌, sym, ℕ, zero, suc, ◌+◌, ◌<◌, ◌≤◌, List, [], ◌∷◌, length, get_or, ap, refl, subst, arith, inl, inr, ◌⊎◌, lit<}
+use Rattle.std.proofs.Common.{◌≡◌, ◌∙◌, sym, ℕ, ◌+◌, ◌<◌, ◌≤◌, List, [], ◌∷◌, length, get_or, ap, refl, subst, arith, inl, inr, ◌⊎◌, lit<}
 use Rattle.std.specs.Prelude.{Bool, Contains, ◌↔◌}
 use Rattle.std.proofs.lemmas.Bool.{cases_lt, eqb-true}
 use Rattle.std.proofs.lemmas.Map.Views.{Contains-from_any}
@@ -19,8 +19,7 @@ no_member xs c e w = let here' = subst (λ (ys : List ℕ). Contains ys c) e w i
 
 -- no node is marked, and none is in the list
 pub none_are : (marks : List Bool) (nodes : List ℕ) → NoneMarked marks → nodes ≡ [] → AreMarked marks nodes
-none_are marks nodes none e =
-    rw e (record { same = λ c. (λ m. absurd (none c m), λ w. absurd (no_member [] c refl w)); once = IsDistinct_none })
+none_are marks nodes none e = grind (arith, IsDistinct_none, no_member)
 
 -- all that was found is led to, and what the first `next` of it go to was found
 pub record Searching (g : Graph) (n start : ℕ) (marks : List Bool) (found : List ℕ) (next : ℕ) : Type 0 where
@@ -45,8 +44,7 @@ found_short g n start marks found next r =
     omega (arith, inside, r.room)))
 
 pub one_only : (s c : ℕ) → Contains (s ∷ []) c → s ≡ c
-one_only s c (zero, h, e) = e
-one_only s c (suc k, h, e) = absurd (no_position k (omega arith))
+one_only s c w = grind arith
 
 start_sound : (g : Graph) (start c : ℕ) (old : List ℕ) → old ≡ [] → Contains old c ⊎ Contains (start ∷ []) c
     → Leads (Edge g) c start

@@ -3,7 +3,7 @@ use Rattle.std.proofs.Common.{◌≡◌, ◌≢◌, ◌∙◌, sym, ℕ, ◌+◌
 use Rattle.std.specs.Prelude.{Bool, true, false, Contains, ◌↔◌}
 use Rattle.std.specs.List.{IsDistinct, list_any}
 use Rattle.std.proofs.Math.ListN.{set, length-set}
-use Rattle.std.proofs.lemmas.Bool.{true≢false, eqb-true, cases_eq, false_from_ne_true}
+use Rattle.std.proofs.lemmas.Bool.{true≢false, eqb-true, false_from_ne_true}
 use Rattle.std.proofs.lemmas.List.Elements.{Contains-get_or, Contains-push, Contains-push_cases, Contains-append_left}
 use Rattle.std.proofs.lemmas.Map.Views.{Contains-from_any}
 use Rattle.std.specs.Cmp.{nat_eq_equiv}
@@ -36,8 +36,7 @@ pub push_iff : (xs : List ℕ) (p c : ℕ) → Contains (xs ++ p ∷ []) c ↔ (
 push_iff xs p c = (Contains-push_cases xs p c, push_from xs p c)
 
 either_to : {A B C : Type 0} → (A → B) → (A ⊎ C) → (B ⊎ C)
-either_to f (inl a) = inl (f a)
-either_to f (inr c) = inr c
+either_to f w = grind arith
 
 -- the marks and the marked nodes after one more
 marked_push : (marks : List Bool) (marked : List ℕ) (p : ℕ) → p < length marks → (Contains marked p → ⊥)
@@ -67,20 +66,12 @@ visited_push old nodes n marks new marked ys h out new_is ys_is v =
     })
 
 skip_to : (old nodes : List ℕ) (n c : ℕ) → Contains old c ⊎ Among nodes n c → Contains old c ⊎ Among nodes (n + 1) c
-skip_to old nodes n c (inl h) = inl h
-skip_to old nodes n c (inr h) = inr ((among_more nodes n c).1 (inl h))
-
-skip_last : (old nodes marked : List ℕ) (n c : ℕ) → Contains marked (get_or nodes n 0)
-    → (Contains old c ⊎ Among nodes n c → Contains marked c)
-    → Among nodes n c ⊎ (get_or nodes n 0 ≡ c) → Contains marked c
-skip_last old nodes marked n c found f (inl h) = f (inr h)
-skip_last old nodes marked n c found f (inr e) = subst (Contains marked) e found
+skip_to old nodes n c w = grind arith
 
 skip_from : (old nodes marked : List ℕ) (n c : ℕ) → Contains marked (get_or nodes n 0)
     → (Contains old c ⊎ Among nodes n c → Contains marked c)
     → Contains old c ⊎ Among nodes (n + 1) c → Contains marked c
-skip_from old nodes marked n c found f (inl h) = f (inl h)
-skip_from old nodes marked n c found f (inr h) = skip_last old nodes marked n c found f ((among_more nodes n c).0 h)
+skip_from old nodes marked n c found f w = grind arith
 
 pub visited_skip : (old nodes : List ℕ) (n : ℕ) (marks new : List Bool) (marked ys : List ℕ) → n < length nodes
     → get_or marks (get_or nodes n 0) false ≡ true
@@ -98,8 +89,7 @@ none_at : (nodes : List ℕ) (c : ℕ) → Among nodes 0 c → ⊥
 none_at nodes c (k, h, e) = no_position k h
 
 none_from : (old nodes : List ℕ) (c : ℕ) → Contains old c ⊎ Among nodes 0 c → Contains old c
-none_from old nodes c (inl h) = h
-none_from old nodes c (inr h) = absurd (none_at nodes c h)
+none_from old nodes c w = grind arith
 
 pub visited_none : (old nodes : List ℕ) (marks : List Bool) → ((c : ℕ) → Contains nodes c → c < length marks)
     → AreMarked marks old
@@ -133,23 +123,13 @@ cleared_other : (nodes : List ℕ) (n : ℕ) (marks : List Bool) (c : ℕ) → C
     → (c ≡ get_or nodes n 0) ⊎ (c ≢ get_or nodes n 0)
     → get_or nodes n 0 < length marks → IsMarked (set marks (get_or nodes n 0) false) c
     → Contains nodes c × (Among nodes (n + 1) c → ⊥)
-cleared_other nodes n marks c v (inl same) h (below, t) =
-    absurd (true≢false (sym t ∙ ap (λ i. get_or (set marks (get_or nodes n 0) false) i false) same
-    ∙ get_or-set_same marks (get_or nodes n 0) false false h))
-cleared_other nodes n marks c v (inr other) h (below, t) =
-    let p = get_or nodes n 0 in
-    let under : c < length marks = omega (arith, below, length-set marks p false) in
-    let old = v.left c (under, sym (get_or-set_other marks p c false false other) ∙ t) in
-    (old.0, λ w. (elim ((among_more nodes n c).0 w) [ inl more ↦ old.1 more | inr is ↦ other (sym is) ]))
+cleared_other nodes n marks c v w h u =
+    grind (arith, among_more, get_or-set_other, get_or-set_same, length-set, true≢false)
 
 pub cleared_more : (nodes : List ℕ) (n : ℕ) (marks new : List Bool) → n < length nodes
     → new ≡ set marks (get_or nodes n 0) false → Cleared nodes n marks
     → Cleared nodes (n + 1) new
-cleared_more nodes n marks new h new_is v = rw new_is (record {
-  room = λ k inside. (let old_room = v.room k inside in
-      omega (arith, old_room, length-set marks (get_or nodes n 0) false));
-  left = λ c. cleared_other nodes n marks c v (cases_eq c (get_or nodes n 0)) (v.room n h);
-})
+cleared_more nodes n marks new h new_is v = grind (arith, cleared_other, length-set)
 
 pub cleared_all : (nodes : List ℕ) (n : ℕ) (marks : List Bool) → n ≡ length nodes → Cleared nodes n marks
     → NoneMarked marks
