@@ -1,5 +1,7 @@
 -- What the loops keep that gather lists.
-use Rattle.std.proofs.Common.{◌≡◌, sym, ℕ, ◌+◌, ◌<◌, ◌≤◌, List, [], ◌∷◌, ◌++◌, length, get_or, refl, subst, arith, inl, inr, ◌⊎◌, lit<}
+use Rattle.digraph.proofs.Marking.{among_some, among_some_all}
+use Rattle.digraph.proofs.Gathering.{joined_more}
+use Rattle.std.proofs.Common.{◌≡◌, ℕ, ◌+◌, ◌<◌, ◌≤◌, List, [], ◌∷◌, ◌++◌, length, get_or, refl, subst, arith, inl, inr, ◌⊎◌, lit<}
 use Rattle.std.specs.Prelude.{Bool, true, false, Contains, ◌↔◌}
 use Rattle.std.specs.List.Sorted.{IsPermutation, IsSorted, IsStrictlyIncreasing}
 use Rattle.std.proofs.lemmas.List.Elements.{Contains-get_or, Contains-append_left, Contains-append_right, Contains-append_cases}
@@ -14,7 +16,6 @@ use Rattle.digraph.specs.Edges.{Graph, Edge, IsFalling, successors}
 use Rattle.digraph.specs.Leads.{Leads, here, through}
 use Rattle.digraph.specs.Reaches.{IsReach, AreReaches, InLists, IsUnion, AreClosed}
 use Rattle.digraph.specs.Marks.{AreMarked, Among}
-use Rattle.digraph.proofs.Marking.{among_more, among_all}
 use Rattle.digraph.proofs.Visiting.{no_position}
 use Rattle.digraph.proofs.Rising.{rises_push}
 use Rattle.digraph.proofs.Searching.{one_only}
@@ -45,36 +46,16 @@ gathered_none lists nodes marks marked room inside are e = record {
   );
 }
 
-first_more : (lists : List (List ℕ)) (nodes : List ℕ) (n c : ℕ)
-    → InFirst lists nodes n c ⊎ Contains (get_or lists (get_or nodes n 0) []) c
-    → InFirst lists nodes (n + 1) c
-first_more lists nodes n c w = grind arith
-
-first_less : (lists : List (List ℕ)) (nodes : List ℕ) (n c : ℕ) → InFirst lists nodes (n + 1) c
-    → InFirst lists nodes n c ⊎ Contains (get_or lists (get_or nodes n 0) []) c
-first_less lists nodes n c (b, w, r) = elim ((among_more nodes n b).0 w) [
-  | inl more ↦ inl (b, more, r)
-  | inr is ↦ inr (subst (λ (x : ℕ). Contains (get_or lists x []) c) (sym is) r)
-]
-
 pub gathered_more : (lists : List (List ℕ)) (nodes list : List ℕ) (n : ℕ) (marks new : List Bool) (marked ys : List ℕ)
     → list ≡ get_or lists (get_or nodes n 0) [] → length new ≡ length marks → AreMarked new ys
     → ((c : ℕ) → Contains ys c ↔ (Contains marked c ⊎ Contains list c)) → Gathered lists nodes n marks marked
     → Gathered lists nodes (n + 1) new ys
-gathered_more lists nodes list n marks new marked ys e len are added g =
-    let added' : (c : ℕ) → Contains ys c ↔ (Contains marked c ⊎ Contains (get_or lists (get_or nodes n 0) []) c) =
-    subst (λ (xs : List ℕ). (c : ℕ) → Contains ys c ↔ (Contains marked c ⊎ Contains xs c)) e added in
-    record {
-      room = omega (arith, len, g.room);
-      inside = g.inside;
-      are = are;
-      gathered = λ c. (
-        λ w. first_more lists nodes n c
-            (elim ((added' c).0 w) [ inl old ↦ inl ((g.gathered c).0 old) | inr is ↦ inr is ]),
-        λ w. (added' c).1
-            (elim (first_less lists nodes n c w) [ inl old ↦ inl ((g.gathered c).1 old) | inr is ↦ inr is ]),
-      );
-    }
+gathered_more lists nodes list n marks new marked ys e len are added g = record {
+  room = omega (arith, len, g.room);
+  inside = g.inside;
+  are = are;
+  gathered = λ c. joined_more (rw e at (added c)) (g.gathered c) (among_some (λ b. Contains (get_or lists b []) c) nodes n);
+}
 
 skipped : (lists : List (List ℕ)) (nodes : List ℕ) (n : ℕ) (marked : List ℕ) (c : ℕ) → AreClosed lists (length lists)
     → ((k : ℕ) → k < length nodes → get_or nodes k 0 < length lists) → n ≤ length nodes
@@ -102,19 +83,18 @@ gathered_skip lists nodes n marks new marked ys closed h mark new_is ys_is g =
       inside = g.inside;
       are = g.are;
       gathered = λ c. (
-        λ w. first_more lists nodes n c (inl ((g.gathered c).0 w)),
+        λ w. (among_some (λ b. Contains (get_or lists b []) c) nodes n).1 (inl ((g.gathered c).0 w)),
         λ w. skipped lists nodes n marked c closed g.inside (omega arith) g.gathered found
-            (first_less lists nodes n c w),
+            ((among_some (λ b. Contains (get_or lists b []) c) nodes n).0 w),
       );
     })
 
 pub gathered_all : (lists : List (List ℕ)) (nodes : List ℕ) (n : ℕ) (marks : List Bool) (marked : List ℕ)
     → n ≡ length nodes
     → Gathered lists nodes n marks marked → (c : ℕ) → Contains marked c ↔ InLists lists nodes c
-gathered_all lists nodes n marks marked e g c = (
-  λ w. (let by = (g.gathered c).0 w in (by.0, (among_all nodes n by.0 e).1 by.1, by.2)),
-  λ w. (g.gathered c).1 (w.0, (among_all nodes n w.0 e).0 w.1, w.2),
-)
+gathered_all lists nodes n marks marked e g c =
+    let all = among_some_all (λ b. Contains (get_or lists b []) c) nodes n e in
+    (λ w. all.1 ((g.gathered c).0 w), λ w. (g.gathered c).1 (all.0 w))
 
 -- ---- lists, one after the other
 

@@ -1,4 +1,5 @@
 pub mod Closing
+pub mod Gathering
 pub mod Levels
 pub mod Joining
 pub mod Marking

@@ -1,4 +1,6 @@
 -- Lists of nodes, and marks at nodes.
+use Rattle.std.proofs.Common.{inl, inr}
+use Rattle.std.proofs.Common.{refl, sym, subst}
 use Rattle.std.proofs.Common.{◌≡◌, ℕ, ◌+◌, ◌<◌, List, length, get_or, arith, ◌⊎◌}
 use Rattle.std.specs.Prelude.{Bool, true, Contains, ◌↔◌}
 use Rattle.std.proofs.lemmas.Grind.{common_steps}
@@ -27,21 +29,18 @@ pub mark_one : (marks : List Bool) (p c : ℕ) → p < length marks
     → IsMarked (set marks p true) c ↔ (IsMarked marks c ⊎ (p ≡ c))
 mark_one marks p c h = (mark_to marks p c (cases_eq p c), mark_from marks p c h (cases_eq p c))
 
-step_to : {A B I M N P : Type 0} → A ↔ (B ⊎ P) → B ↔ (I ⊎ M) → N ↔ (M ⊎ P) → B ⊎ P → I ⊎ N
-step_to f g h w = grind arith
+-- what holds of one of the first n
+pub among_some : (Q : ℕ → Type 0) (xs : List ℕ) (n : ℕ)
+    → ((c : ℕ) × Among xs (n + 1) c × Q c) ↔ (((c : ℕ) × Among xs n c × Q c) ⊎ Q (get_or xs n 0))
+among_some Q xs n = (
+  λ (c, w, q). elim ((among_more xs n c).0 w) [ inl more ↦ inl (c, more, q) | inr is ↦ inr (subst Q (sym is) q) ],
+  λ w. elim w [
+    | inl (c, more, q) ↦ (c, (among_more xs n c).1 (inl more), q)
+    | inr q ↦ (get_or xs n 0, (n, omega arith, refl), q)
+  ],
+)
 
-step_from : {A B I M N P : Type 0} → A ↔ (B ⊎ P) → B ↔ (I ⊎ M) → N ↔ (M ⊎ P) → I ⊎ N → B ⊎ P
-step_from f g h w = grind arith
-
--- a step of a loop that joins what it meets to what it has
-pub joined_step : {A B I M N P : Type 0} → A ↔ (B ⊎ P) → B ↔ (I ⊎ M) → N ↔ (M ⊎ P) → A ↔ (I ⊎ N)
-joined_step f g h = (λ a. step_to f g h (f.0 a), λ w. f.1 (step_from f g h w))
-
-end_to : {I M N : Type 0} → N ↔ M → I ⊎ M → I ⊎ N
-end_to h w = grind arith
-
-end_from : {I M N : Type 0} → N ↔ M → I ⊎ N → I ⊎ M
-end_from h w = grind arith
-
-pub joined_end : {A I M N : Type 0} → A ↔ (I ⊎ M) → N ↔ M → A ↔ (I ⊎ N)
-joined_end f h = (λ a. end_to h (f.0 a), λ w. f.1 (end_from h w))
+pub among_some_all : (Q : ℕ → Type 0) (xs : List ℕ) (n : ℕ) → n ≡ length xs
+    → ((c : ℕ) × Contains xs c × Q c) ↔ ((c : ℕ) × Among xs n c × Q c)
+among_some_all Q xs n e =
+    (λ (c, w, q). (c, (among_all xs n c e).0 w, q), λ (c, w, q). (c, (among_all xs n c e).1 w, q))

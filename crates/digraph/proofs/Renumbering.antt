@@ -1,4 +1,5 @@
 -- Laws of positions in an order.
+use Rattle.digraph.proofs.Gathering.{below_more}
 use Rattle.std.proofs.Common.{◌≡◌, ◌≢◌, ◌∙◌, sym, ℕ, zero, suc, ◌+◌, ◌-◌, ◌<◌, ◌≤◌, List, [], ◌∷◌, ◌++◌, length, map, get_or, ap, refl, subst, arith, inl, inr, ◌⊎◌, get_or-set_same, get_or-set_other}
 use Rattle.std.specs.Prelude.{Contains, ◌↔◌}
 use Rattle.std.specs.List.Sorted.{IsPermutation}
@@ -111,19 +112,6 @@ pub record Rowed (g : Graph) (order positions : List ℕ) (n : ℕ) (rows : Grap
   pub size : length rows ≡ n
   pub rowed : (k j : ℕ) → Edge rows k j ↔ ((k < n) × HasPosition positions (successors g (node_at order k)) j)
 
-rowed_to : (g : Graph) (order positions : List ℕ) (n k j : ℕ) (E : Type 0) (row : List ℕ)
-    → (E → (k < n) × HasPosition positions (successors g (node_at order k)) j)
-    → (Contains row j → HasPosition positions (successors g (node_at order n)) j)
-    → E ⊎ ((k ≡ n) × Contains row j) → (k < n + 1) × HasPosition positions (successors g (node_at order k)) j
-rowed_to g order positions n k j E row f h w = grind arith
-
-rowed_from : (g : Graph) (order positions : List ℕ) (n k j : ℕ) (E : Type 0) (row : List ℕ)
-    → ((k < n) × HasPosition positions (successors g (node_at order k)) j → E)
-    → (HasPosition positions (successors g (node_at order n)) j → Contains row j)
-    → (k < n) ⊎ (n ≤ k) → (k < n + 1) × HasPosition positions (successors g (node_at order k)) j
-    → E ⊎ ((k ≡ n) × Contains row j)
-rowed_from g order positions n k j E row f h v w = grind arith
-
 pub rowed_more : (g : Graph) (order positions : List ℕ) (n : ℕ) (rows new : Graph) (row nodes : List ℕ)
     → new ≡ rows ++ row ∷ []
     → nodes ≡ successors g (node_at order n) → ((j : ℕ) → Contains row j ↔ HasPosition positions nodes j)
@@ -139,11 +127,8 @@ rowed_more g order positions n rows new row nodes e is members r =
     record {
       size = (let more : length (rows ++ row ∷ []) ≡ length rows + 1 = grind (arith, common_steps) in
           ap length e ∙ more ∙ omega (arith, r.size));
-      rowed = λ k j. (
-        λ edge. rowed_to g order positions n k j (Edge rows k j) row (r.rowed k j).0 (members' j).0 ((push k j).0 edge),
-        λ w. (push k j).1 (rowed_from g order positions n k j (Edge rows k j) row (r.rowed k j).1 (members' j).1
-            (cases_lt k n) w),
-      );
+      rowed = λ k j. below_more (λ i. HasPosition positions (successors g (node_at order i)) j) n k (push k j)
+          (r.rowed k j) (members' j);
     }
 
 edges_to : (g : Graph) (order positions : List ℕ) (k j : ℕ) → ArePositions order positions → IsWithin g (length order)

@@ -1,16 +1,17 @@
 -- What the loops of a round keep.
+use Rattle.digraph.proofs.Marking.{among_some, among_some_all}
+use Rattle.digraph.proofs.Gathering.{joined_none, joined_step, joined_end, joined_where, where_more, where_skip, below_push, below_skip}
 use Rattle.std.proofs.lemmas.Grind.{common_steps}
-use Rattle.std.proofs.Common.{◌≡◌, ◌≢◌, ◌∙◌, sym, ℕ, zero, suc, ◌+◌, ◌<◌, ◌≤◌, List, [], ◌∷◌, ◌++◌, length, get_or, refl, subst, arith, inl, inr, ◌⊎◌, get_or-set_same, get_or-set_other}
+use Rattle.std.proofs.Common.{◌≡◌, ℕ, zero, suc, ◌+◌, ◌<◌, ◌≤◌, List, [], ◌∷◌, ◌++◌, length, get_or, refl, subst, arith, inl, inr, ◌⊎◌, get_or-set_same, get_or-set_other}
 use Rattle.std.specs.Prelude.{Bool, true, Contains, ◌↔◌}
 use Rattle.std.specs.List.Sorted.{IsStrictlyIncreasing}
 use Rattle.std.proofs.Math.ListN.{set, length-set}
-use Rattle.std.proofs.lemmas.Bool.{cases_lt}
 use Rattle.std.proofs.lemmas.List.Elements.{Contains-get_or}
 use Rattle.digraph.specs.Edges.{Graph, Edge, successors}
 use Rattle.digraph.specs.Marks.{IsMarked, Among}
 use Rattle.digraph.specs.Ranks.{rank_in}
 use Rattle.digraph.specs.Rounds.{IsPassed, ArePassed, Stops, AllMarked, GoesInto}
-use Rattle.digraph.proofs.Marking.{among_more, among_all, mark_one, joined_step, joined_end}
+use Rattle.digraph.proofs.Marking.{among_more, among_all, mark_one}
 use Rattle.digraph.proofs.Rising.{rises_push}
 use Rattle.digraph.proofs.Visiting.{no_position, push_iff}
 
@@ -27,21 +28,13 @@ passed_all g marks a n whole p b edge =
 abbrev pub HasUnmarked : Graph → List Bool → ℕ → Type 0
 HasUnmarked g marks a = (b : ℕ) × Edge g a b × (IsMarked marks b → ⊥)
 
-unmarked_at : (g : Graph) (marks : List Bool) (a n : ℕ) → (n ≡ length (successors g a) → ⊥)
-    → Stops marks (successors g a) n → HasUnmarked g marks a
-unmarked_at g marks a n part w = grind (arith, Contains-get_or)
-
 -- a row that is not passed whole
 pub stopped : (g : Graph) (marks : List Bool) (a n : ℕ) → (n ≡ length (successors g a) → ⊥)
     → Stops marks (successors g a) n → AllMarked g marks a → ⊥
-stopped g marks a n part stops all = let at = unmarked_at g marks a n part stops in at.2 (all at.0 at.1)
-
-inside_cases : (marks : List Bool) (a : ℕ) → (a < length marks) ⊎ (length marks ≤ a)
-    → IsMarked marks a ⊎ (IsMarked marks a → ⊥)
-inside_cases marks a w = grind arith
+stopped g marks a n part stops all = grind (arith, Contains-get_or)
 
 pub mark_cases : (marks : List Bool) (a : ℕ) → IsMarked marks a ⊎ (IsMarked marks a → ⊥)
-mark_cases marks a = inside_cases marks a (cases_lt a (length marks))
+mark_cases marks a = grind arith
 
 prefix_more : (marks : List Bool) (xs : List ℕ) (n : ℕ) → IsMarked marks (get_or xs n 0)
     → ((c : ℕ) → Among xs n c → IsMarked marks c) → (c : ℕ)
@@ -79,29 +72,15 @@ pub record Settled (nodes : List ℕ) (rank : ℕ) (old : List Bool) (before : L
   pub ranked : (c : ℕ) → Among nodes n c → rank_in ranks c ≡ rank
   pub others : (c : ℕ) → (Among nodes n c → ⊥) → rank_in ranks c ≡ rank_in before c
 
-none_among : (old : List Bool) (nodes : List ℕ) (c : ℕ) → IsMarked old c ⊎ Among nodes 0 c → IsMarked old c
-none_among old nodes c w = grind arith
-
 pub settled_none : (nodes : List ℕ) (rank : ℕ) (marks : List Bool) (ranks : List ℕ)
     → ((c : ℕ) → Contains nodes c → (c < length marks) × (c < length ranks))
     → Settled nodes rank marks ranks 0 marks ranks
 settled_none nodes rank marks ranks room = record {
   room = λ k h. room (get_or nodes k 0) (Contains-get_or nodes k 0 h);
-  marked = λ c. (λ m. inl m, none_among marks nodes c);
-  ranked = λ c w. absurd (no_position w.0 w.1);
+  marked = λ c. grind arith;
+  ranked = λ c w. grind arith;
   others = λ c out. refl;
 }
-
-ranked_case : (nodes : List ℕ) (rank n : ℕ) (ranks : List ℕ) (c : ℕ) → get_or nodes n 0 < length ranks
-    → ((c : ℕ) → Among nodes n c → rank_in ranks c ≡ rank)
-    → (c ≡ get_or nodes n 0) ⊎ (c ≢ get_or nodes n 0) → Among nodes (n + 1) c
-    → rank_in (set ranks (get_or nodes n 0) rank) c ≡ rank
-ranked_case nodes rank n ranks c h old v w = grind (arith, among_more, get_or-set_other, get_or-set_same)
-
-others_case : (nodes : List ℕ) (rank n : ℕ) (ranks before : List ℕ) (c : ℕ)
-    → ((c : ℕ) → (Among nodes n c → ⊥) → rank_in ranks c ≡ rank_in before c)
-    → (Among nodes (n + 1) c → ⊥) → rank_in (set ranks (get_or nodes n 0) rank) c ≡ rank_in before c
-others_case nodes rank n ranks before c old out = grind (arith, common_steps)
 
 pub settled_more : (nodes : List ℕ) (rank : ℕ) (old : List Bool) (before : List ℕ) (n : ℕ) (marks : List Bool)
     (ranks : List ℕ) → n < length nodes
@@ -109,23 +88,18 @@ pub settled_more : (nodes : List ℕ) (rank : ℕ) (old : List Bool) (before : L
     → Settled nodes rank old before (n + 1) (set marks (get_or nodes n 0) true)
     (set ranks (get_or nodes n 0) rank)
 settled_more nodes rank old before n marks ranks h s =
-    grind (arith, among_more, joined_step, length-set, mark_one, others_case, ranked_case)
+    grind (arith, among_more, joined_step, mark_one, length-set, get_or-set_other, get_or-set_same)
 
-pub settled_marks : (nodes : List ℕ) (rank : ℕ) (old : List Bool) (before : List ℕ) (n : ℕ) (marks : List Bool)
-    (ranks : List ℕ) → n ≡ length nodes
-    → Settled nodes rank old before n marks ranks → (c : ℕ) → IsMarked marks c ↔ (IsMarked old c ⊎ Contains nodes c)
-settled_marks nodes rank old before n marks ranks e s c = joined_end (s.marked c) (among_all nodes n c e)
+module _ (nodes : List ℕ) (rank : ℕ) (old : List Bool) (before : List ℕ) (n : ℕ) (marks : List Bool) (ranks : List ℕ)
+    (e : n ≡ length nodes) (s : Settled nodes rank old before n marks ranks) where
+  pub settled_marks : (c : ℕ) → IsMarked marks c ↔ (IsMarked old c ⊎ Contains nodes c)
+  settled_marks c = joined_end (s.marked c) (among_all nodes n c e)
 
-pub settled_ranks : (nodes : List ℕ) (rank : ℕ) (old : List Bool) (before : List ℕ) (n : ℕ) (marks : List Bool)
-    (ranks : List ℕ) → n ≡ length nodes
-    → Settled nodes rank old before n marks ranks → (c : ℕ) → Contains nodes c → rank_in ranks c ≡ rank
-settled_ranks nodes rank old before n marks ranks e s c w = s.ranked c ((among_all nodes n c e).0 w)
+  pub settled_ranks : (c : ℕ) → Contains nodes c → rank_in ranks c ≡ rank
+  settled_ranks c w = s.ranked c ((among_all nodes n c e).0 w)
 
-pub settled_others : (nodes : List ℕ) (rank : ℕ) (old : List Bool) (before : List ℕ) (n : ℕ) (marks : List Bool)
-    (ranks : List ℕ) → n ≡ length nodes
-    → Settled nodes rank old before n marks ranks → (c : ℕ) → (Contains nodes c → ⊥)
-    → rank_in ranks c ≡ rank_in before c
-settled_others nodes rank old before n marks ranks e s c out = s.others c (λ w. out ((among_all nodes n c e).1 w))
+  pub settled_others : (c : ℕ) → (Contains nodes c → ⊥) → rank_in ranks c ≡ rank_in before c
+  settled_others c out = s.others c (λ w. out ((among_all nodes n c e).1 w))
 
 -- ---- what is passed
 
@@ -151,68 +125,35 @@ pub record Appending (g : Graph) (marks : List Bool) (nodes old : List ℕ) (n :
   pub are : ArePassed g marks passed
   pub added : (a : ℕ) → Contains ready a ↔ (Contains old a ⊎ (Among nodes n a × AllMarked g marks a))
 
-none_ready : (g : Graph) (marks : List Bool) (nodes old : List ℕ) (a : ℕ)
-    → Contains old a ⊎ (Among nodes 0 a × AllMarked g marks a) → Contains old a
-none_ready g marks nodes old a w = grind arith
-
 pub appending_none : (g : Graph) (marks : List Bool) (nodes old passed : List ℕ)
     → ((a : ℕ) → Contains nodes a → a < length g) → ArePassed g marks passed
     → Appending g marks nodes old 0 passed old
 appending_none g marks nodes old passed room are = record {
   room = λ k h. (let below = room (get_or nodes k 0) (Contains-get_or nodes k 0 h) in omega (arith, below, are.size));
   are = are;
-  added = λ a. (λ w. inl w, none_ready g marks nodes old a);
+  added = λ a. joined_none (λ w. no_position w.0.0 w.0.1);
 }
 
-ready_to : (g : Graph) (marks : List Bool) (nodes : List ℕ) (n a : ℕ) → AllMarked g marks (get_or nodes n 0)
-    → Among nodes (n + 1) a × AllMarked g marks a
-    → (Among nodes n a × AllMarked g marks a) ⊎ (get_or nodes n 0 ≡ a)
-ready_to g marks nodes n a all (w, m) = elim ((among_more nodes n a).0 w) [ inl more ↦ inl (more, m) | inr is ↦ inr is ]
+module _ (g : Graph) (marks : List Bool) (nodes old : List ℕ) (n k : ℕ) (passed new ready ys : List ℕ)
+    (h : n < length nodes) (row : IsPassed marks (successors g (get_or nodes n 0)) k) where
+  pub appending_push : AllMarked g marks (get_or nodes n 0) → new ≡ set passed (get_or nodes n 0) k
+      → ys ≡ ready ++ get_or nodes n 0 ∷ [] → Appending g marks nodes old n passed ready
+      → Appending g marks nodes old (n + 1) new ys
+  appending_push all new_is ys_is v = rw (new_is, ys_is) (record {
+    room = λ j inside. rw length-set (v.room j inside);
+    are = passed_set g marks passed (get_or nodes n 0) k (v.room n h) row v.are;
+    added = λ a. joined_step (push_iff ready (get_or nodes n 0) a) (v.added a)
+        (where_more (AllMarked g marks) (get_or nodes n 0) a (among_more nodes n a) all);
+  })
 
-ready_from : (g : Graph) (marks : List Bool) (nodes : List ℕ) (n a : ℕ) → AllMarked g marks (get_or nodes n 0)
-    → (Among nodes n a × AllMarked g marks a) ⊎ (get_or nodes n 0 ≡ a) → Among nodes (n + 1) a × AllMarked g marks a
-ready_from g marks nodes n a all (inl (w, m)) = ((among_more nodes n a).1 (inl w), m)
-ready_from g marks nodes n a all (inr is) = ((among_more nodes n a).1 (inr is), subst (AllMarked g marks) is all)
-
-pub appending_push : (g : Graph) (marks : List Bool) (nodes old : List ℕ) (n k : ℕ) (passed new ready ys : List ℕ)
-    → n < length nodes
-    → IsPassed marks (successors g (get_or nodes n 0)) k → AllMarked g marks (get_or nodes n 0)
-    → new ≡ set passed (get_or nodes n 0) k
-    → ys ≡ ready ++ get_or nodes n 0 ∷ [] → Appending g marks nodes old n passed ready
-    → Appending g marks nodes old (n + 1) new ys
-appending_push g marks nodes old n k passed new ready ys h row all new_is ys_is v =
-    let p = get_or nodes n 0 in
-    rw (new_is, ys_is) (record {
-      room = λ j inside. (let room = v.room j inside in omega (arith, room, length-set passed p k));
-      are = passed_set g marks passed p k (v.room n h) row v.are;
-      added = λ a. joined_step (push_iff ready p a) (v.added a)
-          (ready_to g marks nodes n a all, ready_from g marks nodes n a all);
-    })
-
-later_to : (g : Graph) (marks : List Bool) (nodes : List ℕ) (n a : ℕ) → (AllMarked g marks (get_or nodes n 0) → ⊥)
-    → Among nodes (n + 1) a × AllMarked g marks a
-    → Among nodes n a × AllMarked g marks a
-later_to g marks nodes n a part (w, m) =
-    elim ((among_more nodes n a).0 w) [
-      | inl more ↦ (more, m)
-      | inr is ↦ absurd (part (subst (AllMarked g marks) (sym is) m))
-    ]
-
-pub appending_skip : (g : Graph) (marks : List Bool) (nodes old : List ℕ) (n k : ℕ) (passed new ready ys : List ℕ)
-    → n < length nodes
-    → IsPassed marks (successors g (get_or nodes n 0)) k → (AllMarked g marks (get_or nodes n 0) → ⊥)
-    → new ≡ set passed (get_or nodes n 0) k → ys ≡ ready
-    → Appending g marks nodes old n passed ready → Appending g marks nodes old (n + 1) new ys
-appending_skip g marks nodes old n k passed new ready ys h row part new_is ys_is v =
-    let p = get_or nodes n 0 in
-    rw (new_is, ys_is) (record {
-      room = λ j inside. (let room = v.room j inside in omega (arith, room, length-set passed p k));
-      are = passed_set g marks passed p k (v.room n h) row v.are;
-      added = λ a. joined_end (v.added a) (
-        later_to g marks nodes n a part,
-        λ w. ((among_more nodes n a).1 (inl w.0), w.1),
-      );
-    })
+  pub appending_skip : (AllMarked g marks (get_or nodes n 0) → ⊥) → new ≡ set passed (get_or nodes n 0) k → ys ≡ ready
+      → Appending g marks nodes old n passed ready → Appending g marks nodes old (n + 1) new ys
+  appending_skip part new_is ys_is v = rw (new_is, ys_is) (record {
+    room = λ j inside. rw length-set (v.room j inside);
+    are = passed_set g marks passed (get_or nodes n 0) k (v.room n h) row v.are;
+    added = λ a. joined_end (v.added a)
+        (where_skip (AllMarked g marks) (get_or nodes n 0) a (among_more nodes n a) part);
+  })
 
 pub appending_all : (g : Graph) (marks : List Bool) (nodes old : List ℕ) (n : ℕ) (passed ready : List ℕ)
     → n ≡ length nodes
@@ -236,50 +177,21 @@ pub collecting_none : (g : Graph) (marks : List Bool) (nodes passed ready : List
     → Collecting g marks nodes 0 passed ready
 collecting_none g marks nodes passed ready e are = grind arith
 
-collected_to : (g : Graph) (marks : List Bool) (nodes : List ℕ) (n a : ℕ)
-    → (GoesAmong g nodes n a × AllMarked g marks a) ⊎ (Edge g a (get_or nodes n 0) × AllMarked g marks a)
-    → GoesAmong g nodes (n + 1) a × AllMarked g marks a
-collected_to g marks nodes n a (inl ((b, w, edge), m)) = ((b, (among_more nodes n b).1 (inl w), edge), m)
-collected_to g marks nodes n a (inr (edge, m)) =
-    ((get_or nodes n 0, (among_more nodes n (get_or nodes n 0)).1 (inr refl), edge), m)
-
-collected_from : (g : Graph) (marks : List Bool) (nodes : List ℕ) (n a : ℕ)
-    → GoesAmong g nodes (n + 1) a × AllMarked g marks a
-    → (GoesAmong g nodes n a × AllMarked g marks a) ⊎ (Edge g a (get_or nodes n 0) × AllMarked g marks a)
-collected_from g marks nodes n a ((b, w, edge), m) = elim ((among_more nodes n b).0 w) [
-  | inl more ↦ inl ((b, more, edge), m)
-  | inr is ↦ inr (subst (Edge g a) (sym is) edge, m)
-]
-
 pub collecting_more : (g turned : Graph) (marks : List Bool) (nodes row : List ℕ) (n : ℕ) (passed new ready ys : List ℕ)
     → ((b a : ℕ) → Edge turned b a ↔ Edge g a b) → row ≡ successors turned (get_or nodes n 0) → ArePassed g marks new
     → ((a : ℕ) → Contains ys a ↔ (Contains ready a ⊎ (Contains row a × AllMarked g marks a)))
     → Collecting g marks nodes n passed ready
     → Collecting g marks nodes (n + 1) new ys
-collecting_more g turned marks nodes row n passed new ready ys back e are added v =
-    let p = get_or nodes n 0 in
-    let step : (a : ℕ) → Contains ys a ↔ (Contains ready a ⊎ (Edge turned p a × AllMarked g marks a)) =
-    subst (λ (xs : List ℕ). (a : ℕ) → Contains ys a ↔ (Contains ready a ⊎ (Contains xs a × AllMarked g marks a))) e
-    added in
-    record {
-      are = are;
-      found = λ a. (
-        λ w. collected_to g marks nodes n a (elim ((step a).0 w) [
-          | inl old ↦ inl ((v.found a).0 old)
-          | inr is ↦ inr ((back p a).0 is.0, is.1)
-        ]),
-        λ w. (step a).1 (elim (collected_from g marks nodes n a w) [
-          | inl old ↦ inl ((v.found a).1 old)
-          | inr is ↦ inr ((back p a).1 is.0, is.1)
-        ]),
-      );
-    }
+collecting_more g turned marks nodes row n passed new ready ys back e are added v = record {
+  are = are;
+  found = λ a. joined_where (rw e at (added a)) (v.found a) (back (get_or nodes n 0) a) (among_some (Edge g a) nodes n);
+}
 
 pub collecting_all : (g : Graph) (marks : List Bool) (nodes : List ℕ) (n : ℕ) (passed ready : List ℕ) → n ≡ length nodes
     → Collecting g marks nodes n passed ready → (a : ℕ) → Contains ready a ↔ (GoesInto g nodes a × AllMarked g marks a)
 collecting_all g marks nodes n passed ready e v a = (
-  λ w. (let at = (v.found a).0 w in ((at.0.0, (among_all nodes n at.0.0 e).1 at.0.1, at.0.2), at.1)),
-  λ w. (v.found a).1 ((w.0.0, (among_all nodes n w.0.0 e).0 w.0.1, w.0.2), w.1),
+  λ w. (let at = (v.found a).0 w in ((among_some_all (Edge g a) nodes n e).1 at.0, at.1)),
+  λ w. (v.found a).1 ((among_some_all (Edge g a) nodes n e).0 w.0, w.1),
 )
 
 -- ---- the nodes without a successor
@@ -291,7 +203,7 @@ pub empty_row : (xs row : List ℕ) → xs ≡ row → length xs ≡ 0 → row �
 empty_row xs row e h = grind (arith, common_steps)
 
 pub inner_row : (xs row : List ℕ) → xs ≡ row → 0 < length xs → row ≡ [] → ⊥
-inner_row xs row e h empty = no_position 0 (subst (λ (ys : List ℕ). 0 < length ys) (e ∙ empty) h)
+inner_row xs row e h empty = grind arith
 
 pub record Leaves (g : Graph) (n : ℕ) (leaves : List ℕ) : Type 0 where
   pub rises : IsStrictlyIncreasing leaves
@@ -300,34 +212,14 @@ pub record Leaves (g : Graph) (n : ℕ) (leaves : List ℕ) : Type 0 where
 pub leaves_none : (g : Graph) (leaves : List ℕ) → leaves ≡ [] → Leaves g 0 leaves
 leaves_none g leaves e = grind arith
 
-leaf_to : (g : Graph) (n a : ℕ) → IsLeaf g n → ((a < n) × IsLeaf g a) ⊎ (n ≡ a) → (a < n + 1) × IsLeaf g a
-leaf_to g n a leaf w = grind arith
-
-below_cases : (n a : ℕ) → a < n + 1 → (a < n) ⊎ (n ≤ a) → (a < n) ⊎ (n ≡ a)
-below_cases n a h w = grind arith
-
 pub leaves_push : (g : Graph) (n : ℕ) (leaves ys : List ℕ) → IsLeaf g n → ys ≡ leaves ++ n ∷ [] → Leaves g n leaves
     → Leaves g (n + 1) ys
 leaves_push g n leaves ys leaf e v = rw e (record {
   rises = rises_push leaves n v.rises (λ a w. ((v.members a).0 w).0);
-  members = λ a. (
-    λ w. leaf_to g n a leaf
-        (elim ((push_iff leaves n a).0 w) [ inl old ↦ inl ((v.members a).0 old) | inr is ↦ inr is ]),
-    λ w. (push_iff leaves n a).1
-        (elim (below_cases n a w.0 (cases_lt a n)) [ inl less ↦ inl ((v.members a).1 (less, w.1)) | inr is ↦ inr is ]),
-  );
+  members = λ a. below_push (IsLeaf g) n a (push_iff leaves n a) (v.members a) leaf;
 })
 
 pub leaves_skip : (g : Graph) (n : ℕ) (leaves ys : List ℕ) → (IsLeaf g n → ⊥) → ys ≡ leaves → Leaves g n leaves
     → Leaves g (n + 1) ys
-leaves_skip g n leaves ys inner e v = rw e (record {
-  rises = v.rises;
-  members = λ a. (
-    λ w. (let old = (v.members a).0 w in (omega (arith, old.0), old.1)),
-    λ w. (v.members a).1
-        (elim (below_cases n a w.0 (cases_lt a n)) [
-          | inl less ↦ (less, w.1)
-          | inr is ↦ absurd (inner (subst (IsLeaf g) (sym is) w.1))
-        ]),
-  );
-})
+leaves_skip g n leaves ys inner e v =
+    rw e (record { rises = v.rises; members = λ a. below_skip (IsLeaf g) n a (v.members a) inner })

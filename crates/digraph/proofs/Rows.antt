@@ -1,4 +1,5 @@
 -- Rows that are appended, and rows that get one node more.
+use Rattle.digraph.proofs.Gathering.{joined_none, joined_step, joined_end, below_more}
 use Rattle.std.proofs.Common.{◌≡◌, ◌≢◌, ◌∙◌, sym, ℕ, ◌+◌, ◌<◌, ◌≤◌, List, [], ◌∷◌, ◌++◌, length, take, drop, get_or, ap, refl, subst, arith, inl, inr, ◌⊎◌, Vec, Global, get_or-set_same}
 use Rattle.std.specs.Prelude.{Contains, ◌↔◌}
 use Rattle.std.proofs.Math.ListN.{set, length-set}
@@ -9,7 +10,7 @@ use Rattle.std.proofs.lemmas.Grind.{common_steps}
 use Rattle.digraph.specs.Edges.{Graph, graph_of, successors, Edge}
 use Rattle.digraph.specs.Marks.{Among}
 use Rattle.digraph.proofs.Visiting.{no_position}
-use Rattle.digraph.proofs.Marking.{among_all, joined_step, joined_end}
+use Rattle.digraph.proofs.Marking.{among_all}
 
 pub row_items : (rows : List (Vec ℕ Global)) (k : ℕ) (v : Vec ℕ Global) → v ≡ get_or rows k v → k < length rows
     → v.items ≡ successors (graph_of rows) k
@@ -142,16 +143,12 @@ pub record Turning (nodes : List ℕ) (node : ℕ) (old : Graph) (n : ℕ) (rows
   pub room : (k : ℕ) → k < length nodes → get_or nodes k 0 < length rows
   pub edges : (b a : ℕ) → Edge (graph_of rows) b a ↔ (Edge old b a ⊎ ((a ≡ node) × Among nodes n b))
 
-none_turned : (nodes : List ℕ) (node : ℕ) (old : Graph) (b a : ℕ) → Edge old b a ⊎ ((a ≡ node) × Among nodes 0 b)
-    → Edge old b a
-none_turned nodes node old b a w = grind arith
-
 pub turning_none : (nodes : List ℕ) (node : ℕ) (rows : List (Vec ℕ Global))
     → ((b : ℕ) → Contains nodes b → b < length rows)
     → Turning nodes node (graph_of rows) 0 rows
 turning_none nodes node rows room = record {
   room = λ k h. room (get_or nodes k 0) (Contains-get_or nodes k 0 h);
-  edges = λ b a. (λ edge. inl edge, none_turned nodes node (graph_of rows) b a);
+  edges = λ b a. joined_none (λ w. no_position w.1.0 w.1.1);
 }
 
 pub turning_more : (nodes : List ℕ) (node : ℕ) (old : Graph) (n : ℕ) (rows : List (Vec ℕ Global)) (v w : Vec ℕ Global)
@@ -188,29 +185,14 @@ pub turned_none : (g : Graph) (rows : List (Vec ℕ Global)) → length rows ≡
 turned_none g rows size empty =
     record { size = size; edges = λ b a. (λ edge. absurd (empty b a edge), λ w. absurd (no_position a w.0)) }
 
-turn_to : (g : Graph) (n b a : ℕ) (E : Type 0) → (E → (a < n) × Edge g a b) → E ⊎ ((a ≡ n) × Edge g n b)
-    → (a < n + 1) × Edge g a b
-turn_to g n b a E f w = grind arith
-
-turn_from : (g : Graph) (n b a : ℕ) (E : Type 0) → ((a < n) × Edge g a b → E) → (a < n) ⊎ (n ≤ a)
-    → (a < n + 1) × Edge g a b → E ⊎ ((a ≡ n) × Edge g n b)
-turn_from g n b a E f w v = grind arith
-
 pub turned_more : (g : Graph) (n : ℕ) (rows new : List (Vec ℕ Global)) (nodes : List ℕ) → nodes ≡ successors g n
     → length new ≡ length rows
     → ((b a : ℕ) → Edge (graph_of new) b a ↔ (Edge (graph_of rows) b a ⊎ ((a ≡ n) × Contains nodes b)))
     → Turned g n rows → Turned g (n + 1) new
-turned_more g n rows new nodes e len step t =
-    let step' : (b a : ℕ) → Edge (graph_of new) b a ↔ (Edge (graph_of rows) b a ⊎ ((a ≡ n) × Edge g n b)) =
-    subst (λ (xs : List ℕ). (b a : ℕ) → Edge (graph_of new) b a
-    ↔ (Edge (graph_of rows) b a ⊎ ((a ≡ n) × Contains xs b))) e step in
-    record {
-      size = len ∙ t.size;
-      edges = λ b a. (
-        λ edge. turn_to g n b a (Edge (graph_of rows) b a) (t.edges b a).0 ((step' b a).0 edge),
-        λ w. (step' b a).1 (turn_from g n b a (Edge (graph_of rows) b a) (t.edges b a).1 (cases_lt a n) w),
-      );
-    }
+turned_more g n rows new nodes e len step t = record {
+  size = len ∙ t.size;
+  edges = λ b a. below_more (λ x. Edge g x b) n a (step b a) (t.edges b a) (rw e (λ w. w, λ w. w));
+}
 
 pub turned_all : (g : Graph) (n : ℕ) (rows : List (Vec ℕ Global)) → length g ≤ n → Turned g n rows → (b a : ℕ)
     → Edge (graph_of rows) b a ↔ Edge g a b

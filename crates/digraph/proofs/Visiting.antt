@@ -1,4 +1,5 @@
 -- What the loops keep that mark nodes and take marks away.
+use Rattle.digraph.proofs.Gathering.{joined_none, joined_step, joined_end}
 use Rattle.std.proofs.Common.{◌≡◌, ◌≢◌, ◌∙◌, sym, ℕ, ◌+◌, ◌<◌, List, [], ◌∷◌, ◌++◌, length, get_or, ap, subst, arith, inl, inr, ◌⊎◌, append_assoc, append-nil, get_or-set_same, get_or-set_other}
 use Rattle.std.specs.Prelude.{Bool, true, false, Contains, ◌↔◌}
 use Rattle.std.specs.List.{IsDistinct, list_any}
@@ -10,7 +11,7 @@ use Rattle.std.specs.Cmp.{nat_eq_equiv}
 use Rattle.std.proofs.lemmas.Map.Keys.{IsDistinct-push}
 use lib.Dec.{eqb}
 use Rattle.digraph.specs.Marks.{IsMarked, AreMarked, Among, IsFrontOf, NoneMarked}
-use Rattle.digraph.proofs.Marking.{among_more, among_all, mark_one, joined_step, joined_end}
+use Rattle.digraph.proofs.Marking.{among_more, among_all, mark_one}
 
 pub no_position : (k : ℕ) → k < 0 → ⊥
 no_position k h = omega arith
@@ -88,9 +89,6 @@ visited_skip old nodes n marks new marked ys h inside new_is ys_is v =
 none_at : (nodes : List ℕ) (c : ℕ) → Among nodes 0 c → ⊥
 none_at nodes c (k, h, e) = no_position k h
 
-none_from : (old nodes : List ℕ) (c : ℕ) → Contains old c ⊎ Among nodes 0 c → Contains old c
-none_from old nodes c w = grind arith
-
 pub visited_none : (old nodes : List ℕ) (marks : List Bool) → ((c : ℕ) → Contains nodes c → c < length marks)
     → AreMarked marks old
     → Visited old nodes 0 marks old
@@ -98,7 +96,7 @@ visited_none old nodes marks room are = record {
   room = λ k h. room (get_or nodes k 0) (Contains-get_or nodes k 0 h);
   are = are;
   prefix = ([], sym (append-nil old));
-  added = λ c. (λ w. inl w, λ w. none_from old nodes c w);
+  added = λ c. joined_none (none_at nodes c);
 }
 
 pub visited_all : (old nodes : List ℕ) (n : ℕ) (marks : List Bool) (marked : List ℕ) → n ≡ length nodes

@@ -1,7 +1,6 @@
 -- What work in shares gives for items, and what holds of each item and what is given for it.
-use Rattle.std.proofs.Common.{◌≡◌, ◌∙◌, sym, ap, subst, refl, ℕ, suc, ◌+◌, ◌<◌, List, [], ◌∷◌, ◌++◌, length, take, get_or, map, arith}
+use Rattle.std.proofs.Common.{◌≡◌, ◌∙◌, sym, subst, refl, ℕ, suc, ◌+◌, ◌<◌, List, [], ◌∷◌, ◌++◌, length, take, get_or, map, arith}
 use Rattle.std.specs.List.{AllZip}
-use Rattle.std.specs.Option.{option_map}
 use Rattle.std.specs.Prelude.{Result, Ok, IsSomeAnd, Option, slice_get}
 use Rattle.std.proofs.lemmas.List.{get_or_default, length-map, take_more}
 use Rattle.std.proofs.lemmas.Option.{MatchOption-at_some, slice_get-map, slice_get_read}
@@ -39,8 +38,7 @@ gives_of_all {Y = Y} R first xs ys all = (
 -- one more of each, read with any default
 pub all_next : {X Y : Type 0} (R : X → Y → Type 0) (xs : List X) (k : ℕ) (d : X) (ys : List Y) (y : Y) → k < length xs
     → AllZip R (take k xs) ys → R (get_or xs k d) y → AllZip R (take (k + 1) xs) (ys ++ y ∷ [])
-all_next R xs k d ys y h all last =
-    rw (take_more xs k d h) (all_zipped_more R (take k xs) ys (get_or xs k d) y all last)
+all_next R xs k d ys y h all last = grind (arith, all_zipped_more, take_more)
 
 -- what stands at a position in both, the given with any default
 pub given_at : {X Y : Type 0} (R : ℕ → X → Y → Type 0) (xs : List X) (ys : List Y) (k : ℕ) (x : X) (d y : Y)
@@ -54,8 +52,4 @@ given_at R xs ys k x d y gives h at is =
 -- where each is given `Ok`
 pub gives_well : {X T E : Type 0} (R : ℕ → X → Result T E → Type 0) (xs : List X) (ts : List T) (os : List (Result T E))
     → os ≡ map Ok ts → GivesItems R 0 xs os → GivesItems (λ k x t. R k x (Ok t)) 0 xs ts
-gives_well {T = T} {E = E} R xs ts os well gives = (
-  sym (length-map ts Ok) ∙ ap length (sym well) ∙ gives.0,
-  λ i x t item out. gives.1 i x (Ok t) item
-      (ap (λ (l : List (Result T E)). slice_get l i) well ∙ slice_get-map Ok ts i ∙ ap (option_map Ok) out),
-)
+gives_well R xs ts os well gives = grind (arith, length-map, slice_get-map)

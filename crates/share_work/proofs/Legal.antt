@@ -2,7 +2,7 @@
 use Rattle.std.proofs.Common.{◌≡◌, ◌≢◌, ℕ, suc, ◌<◌, ◌≤◌, ◌⊎◌, inl, inr, ⊎_elim, Bool, true, false, cond, ◌==◌, ◌&&◌, ltb, List, [], ◌∷◌, sym, refl, ap, ◌∙◌, subst, arith, min}
 use Rattle.std.specs.Prelude.{AllPairs, Contains}
 use Rattle.std.specs.List.{sum_by, count_by}
-use Rattle.std.proofs.lemmas.Bool.{ltb-true, eqb-true, eq-eqb, ne_eqb, lt-ltb, and_parts, and_from, cases_Bool, cases_lt, cases_eq}
+use Rattle.std.proofs.lemmas.Bool.{eq-eqb, ne_eqb, cases_Bool, cases_lt, cases_eq}
 use Rattle.std.proofs.lemmas.List.Kept.{AllPairs-cons}
 use Rattle.std.proofs.lemmas.List.Sums.{sum_by-cons}
 use Rattle.share_work.specs.declared.views.Call.{Call}
@@ -98,13 +98,10 @@ abbrev falls_from : ℕ → ℕ → Call → Bool
 falls_from w x c = (c.word == w) && ((c.found == x) && ltb c.number c.found)
 
 from_is : (w x : ℕ) (c : Call) → falls_from w x c ≡ true → FallsAt w c × (c.found ≡ x)
-from_is w x c e = let t = and_parts (c.word == w) ((c.found == x) && ltb c.number c.found) e in
-    let u = and_parts (c.found == x) (ltb c.number c.found) t.1 in
-    ((eqb-true c.word w t.0, ltb-true c.number c.found u.1), eqb-true c.found x u.0)
+from_is w x c e = grind arith
 
 from_true : (w x : ℕ) (c : Call) → FallsAt w c → c.found ≡ x → falls_from w x c ≡ true
-from_true w x c f e = and_from (c.word == w) ((c.found == x) && ltb c.number c.found) (eq-eqb c.word w f.0)
-    (and_from (c.found == x) (ltb c.number c.found) (eq-eqb c.found x e) (lt-ltb c.number c.found f.1))
+from_true w x c f e = grind arith
 
 -- at most one call that fell found x, where all are apart
 once_of : (w x : ℕ) (cs : List Call) → AllPairs (Apart w) cs → count_by (falls_from w x) cs ≤ 1

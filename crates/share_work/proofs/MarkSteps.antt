@@ -1,8 +1,9 @@
 -- Each kind of step keeps the rule of the marks.
-use Rattle.std.proofs.Common.{◌≡◌, ◌≢◌, ℕ, zero, suc, ◌+◌, ◌-◌, ◌^◌, ◌<◌, ◌≤◌, ◌⊎◌, inl, inr, ⊎_elim, Bool, true, false, cond, ltb, List, [], ◌∷◌, ◌++◌, length, set, slice_index, sym, refl, ap, ◌∙◌, subst, arith, min, get_or-set_same, get_or-set_other, append-nil}
+use Rattle.std.proofs.lemmas.Grind.{common_steps}
+use Rattle.std.proofs.Common.{◌≡◌, ℕ, zero, suc, ◌+◌, ◌-◌, ◌^◌, ◌<◌, ◌≤◌, ◌⊎◌, inl, inr, ⊎_elim, Bool, true, cond, ltb, List, [], ◌∷◌, ◌++◌, length, set, slice_index, sym, refl, ap, ◌∙◌, subst, arith, min, get_or-set_same, append-nil}
 use Rattle.std.specs.Prelude.{Option, None, Some as just, Contains}
 use Rattle.std.specs.List.{sum_by}
-use Rattle.std.proofs.lemmas.Bool.{cases_eq, cases_lt, lt-ltb}
+use Rattle.std.proofs.lemmas.Bool.{lt-ltb}
 use Rattle.std.proofs.lemmas.List.{set-get_or}
 use Rattle.std.proofs.lemmas.List.Elements.{Contains-append_left, Contains-append_right, Contains-append_cases}
 use Rattle.std.proofs.lemmas.List.Sums.{sum_by-cons, sum_by-append, sum_by_push}
@@ -65,33 +66,17 @@ EmptyIfSpent views = (id : ℕ) (v : MarkView) → get_elem? views id ≡ some v
 empty_set : (views : List MarkView) (id : ℕ) (w : MarkView) → (w.least.parts ≡ 0 → (w.marks ≡ []) × (w.debt ≡ None))
     → EmptyIfSpent views
     → EmptyIfSpent (set views id w)
-empty_set views id w mine old j u e = ⊎_elim
-    (λ (x : (j ≡ id) × (w ≡ u)). subst (λ (y : MarkView). y.least.parts ≡ 0 → (y.marks ≡ []) × (y.debt ≡ None)) x.1
-    mine)
-    (λ (x : (j ≢ id) × (get_elem? views j ≡ some u)). old j u x.1)
-    (at_set views id j w u e)
+empty_set views id w mine old j u e = grind (arith, at_set, get_elem?, some)
 
 module _ (views : List MarkView) (id : ℕ) (v : MarkView) (at : get_elem? views id ≡ some v) where
   marks_set : (w : MarkView) (h : ℕ × ℕ → ℕ)
       → sum_by h (all_marks (set views id w)) + sum_by h v.marks ≡ sum_by h (all_marks views) + sum_by h w.marks
-  marks_set w h = let f : MarkView → List (ℕ × ℕ) = λ u. u.marks in
-      omega (
-        arith,
-        sum_by-flat_map h f (set views id w),
-        sum_by-flat_map h f views,
-        sum_by-at_set (λ (u : MarkView). sum_by h (f u)) views id v w at,
-      )
+  marks_set w h = grind (arith, sum_by-at_set, sum_by-flat_map)
 
   owed_set : (list : ℕ → List ℕ) (w : MarkView) (h : ℕ × ℕ → ℕ)
       → sum_by h (all_owed list (set views id w)) + sum_by h (owed_of list v) ≡ sum_by h
       (all_owed list views) + sum_by h (owed_of list w)
-  owed_set list w h = let f : MarkView → List (ℕ × ℕ) = λ u. owed_of list u in
-      omega (
-        arith,
-        sum_by-flat_map h f (set views id w),
-        sum_by-flat_map h f views,
-        sum_by-at_set (λ (u : MarkView). sum_by h (f u)) views id v w at,
-      )
+  owed_set list w h = grind (arith, sum_by-at_set, sum_by-flat_map)
 
   -- a post of the new calls is an old one or the new call's
   posted_set : (w : MarkView) (c : Call) → w.least ≡ with_call v.least c → (p : ℕ × ℕ)
@@ -112,8 +97,7 @@ module _ (views : List MarkView) (id : ℕ) (v : MarkView) (at : get_elem? views
       )) p k)
 
 in_cond : (b : Bool) (ps : List (ℕ × ℕ)) (p : ℕ × ℕ) → Contains (cond b ps []) p → Contains ps p
-in_cond true ps p h = h
-in_cond false ps p h = absurd (none_in p h)
+in_cond b ps p h = grind arith
 
 to_cond : (b : Bool) (ps : List (ℕ × ℕ)) (p : ℕ × ℕ) → b ≡ true → Contains ps p → Contains (cond b ps []) p
 to_cond b ps p e h = subst (λ (y : Bool). Contains (cond y ps []) p) (sym e) h
@@ -121,8 +105,7 @@ to_cond b ps p e h = subst (λ (y : Bool). Contains (cond y ps []) p) (sym e) h
 -- what a root's post leaves owed
 owed_root : (list : ℕ → List ℕ) (r n : ℕ) (b : Bool)
     → owed_by list (cond b (just (make_debt r n 0)) None) ≡ cond b (at_each n (list r)) []
-owed_root list r n true = refl
-owed_root list r n false = refl
+owed_root list r n b = grind arith
 
 -- a word after a post
 module _ (words : List ℕ) (g n : ℕ) (inside : g + 1 < length words) where
@@ -132,32 +115,13 @@ module _ (words : List ℕ) (g n : ℕ) (inside : g + 1 < length words) where
   word_here : slice_index after (g + 1) ≡ min (slice_index words (g + 1)) n
   word_here = rw get_or-set_same refl
 
-  word_else : (h : ℕ) → (h ≡ g → ⊥) → slice_index after (h + 1) ≡ slice_index words (h + 1)
-  word_else h ne = let n' : h + 1 ≢ g + 1 = λ (e : h + 1 ≡ g + 1). ne (omega arith) in rw get_or-set_other refl
-
   word_falls : (h : ℕ) → slice_index after (h + 1) ≤ slice_index words (h + 1)
-  word_falls h =
-      ⊎_elim (λ (e : h ≡ g). let P : ℕ → Type 0 = λ y. slice_index after (y + 1) ≤ slice_index words (y + 1) in
-      let here : P g =
-      omega (arith, word_here) in subst P (sym e) here)
-      (λ (ne : h ≡ g → ⊥). omega (arith, word_else h ne)) (cases_eq h g)
+  word_falls h = grind (arith, common_steps)
 
   -- it fell to n, or stayed
   word_cases : (h : ℕ) → ((h ≡ g) × (n < slice_index words (g + 1)) × (slice_index after (h + 1) ≡ n))
       ⊎ (slice_index after (h + 1) ≡ slice_index words (h + 1))
-  word_cases h = ⊎_elim
-      (λ (e : h ≡ g). ⊎_elim
-      (λ (lt : n < slice_index words (g + 1)). inl (
-        e,
-        lt,
-        (let P : ℕ → Type 0 = λ y. slice_index after (y + 1) ≡ n in let here : P g =
-            omega (arith, word_here) in subst P (sym e) here),
-      ))
-      (λ (ge : slice_index words (g + 1) ≤ n). inr
-      (let P : ℕ → Type 0 = λ y. slice_index after (y + 1) ≡ slice_index words (y + 1) in let here : P g =
-      omega (arith, word_here) in subst P (sym e) here))
-      (cases_lt n (slice_index words (g + 1))))
-      (λ (ne : h ≡ g → ⊥). inr (word_else h ne)) (cases_eq h g)
+  word_cases h = grind (arith, common_steps)
 
 module _ (count : ℕ) (list : ℕ → List ℕ) (words : List ℕ) (views : List MarkView) (id : ℕ) (v : MarkView)
     (at : get_elem? views id ≡ some v)
@@ -171,9 +135,6 @@ module _ (count : ℕ) (list : ℕ → List ℕ) (words : List ℕ) (views : Lis
       IsKept-post count words (all_views views) id v.least (at_view views id v at) some_part k.kept g inside n lt in
       subst (λ (l : List View). IsKept count (set words (g + 1) (min m n)) l)
       (ap (λ (u : View). set (all_views views) id u) (sym is) ∙ sym (map-set views id w)) now
-
-  parts_of : (w : MarkView) (c : Call) → w.least ≡ with_call v.least c → w.least.parts ≡ v.least.parts
-  parts_of w c is = ap (λ (u : View). u.parts) is
 
   pub IsMarked-root : ((r : ℕ) → r < count → Contains (list r) r) → v.debt ≡ None → (r n : ℕ) → r < count → n < NONE
       → IsMarked count list (set words (r + 1) (min (slice_index words (r + 1)) n))
@@ -325,8 +286,7 @@ module _ (count : ℕ) (list : ℕ → List ℕ) (words : List ℕ) (views : Lis
       }
 
 map-last : (views : List MarkView) (r : MarkView) → all_views (views ++ r ∷ []) ≡ all_views views ++ r.least ∷ []
-map-last [] r = refl
-map-last (x ∷ xs) r = ap (λ (l : List View). x.least ∷ l) (map-last xs r)
+map-last views r = grind (arith, common_steps)
 
 module _ (count : ℕ) (list : ℕ → List ℕ) (words : List ℕ) (views : List MarkView) (id : ℕ) (v : MarkView)
     (at : get_elem? views id ≡ some v)

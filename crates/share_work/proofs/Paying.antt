@@ -1,7 +1,8 @@
 -- How far a mark has come with what it owes.
-use Rattle.std.proofs.Common.{◌≡◌, ℕ, zero, suc, ◌+◌, ◌-◌, ◌<◌, ◌≤◌, ⊎_elim, Bool, cond, Option, List, [], ◌∷◌, ◌++◌, take, drop, length, slice_get, Some, None, ◌==◌, sym, refl, ap, ◌∙◌, arith, append_assoc, append-nil, add-one, inl, inr}
+use Rattle.std.proofs.lemmas.Grind.{common_steps}
+use Rattle.std.proofs.Common.{◌≡◌, ℕ, zero, suc, ◌+◌, ◌-◌, ◌<◌, ◌≤◌, Bool, cond, Option, List, [], ◌∷◌, ◌++◌, take, drop, length, slice_get, Some, None, ◌==◌, sym, ap, ◌∙◌, arith, append_assoc, add-one}
 use Rattle.std.specs.Prelude.{Contains}
-use Rattle.std.proofs.lemmas.Bool.{eq-eqb, ne_eqb, cases_eq}
+use Rattle.std.proofs.lemmas.Bool.{eq-eqb}
 use Rattle.std.proofs.lemmas.Option.{slice_get_cases}
 use Rattle.std.proofs.lemmas.List.{drop_all, take_all}
 use Rattle.share_work.specs.declared.views.Call.{Call}
@@ -10,7 +11,7 @@ use Rattle.share_work.specs.Views.{call, make_view, posts_of}
 use Rattle.share_work.specs.Marks.{at_each, mark_view, owed_by, owed_of}
 use Rattle.share_work.specs.Steps.{make_debt, debt_at, next_debt, with_calls, with_paid}
 use Rattle.share_work.specs.declared.mark_view.Debt.{Debt}
-use Rattle.share_work.proofs.Sums.{none_in, behind}
+use Rattle.share_work.proofs.Sums.{behind}
 
 -- the first k files have their posts, and the rest is owed
 pub record IsPaying (v u : MarkView) (root n k : ℕ) (files : List ℕ) : Type 0 where
@@ -29,43 +30,28 @@ get_some (x ∷ xs) (suc k) g e = let r = get_some xs k g e in
     (omega (arith, r.0), ap (λ (l : List ℕ). x ∷ l) r.1, r.2, behind x xs g r.3)
 
 pub none_past : {X : Type 0} (xs : List X) (k : ℕ) → slice_get xs k ≡ None → length xs ≤ k
-none_past xs k e = elim (slice_get_cases xs k).1 [
-  | inl here ↦ let bad : Some here.0 ≡ None = sym here.2 ∙ e in cc
-  | inr past ↦ past.0
-]
+none_past xs k e = grind (arith, slice_get_cases)
 
 pub get_none : (files : List ℕ) (k : ℕ) → slice_get files k ≡ None → (take k files ≡ files) × (drop k files ≡ [])
 get_none files k e = let past = none_past files k e in (take_all k files past, drop_all k files past)
 
 pub some_length : (files : List ℕ) (g : ℕ) → Contains files g → 0 < length files
-some_length [] g h = absurd (none_in g h)
-some_length (x ∷ xs) g h = omega arith
+some_length files g h = grind arith
 
 pub posts-append : (xs ys : List Call) → posts_of (xs ++ ys) ≡ posts_of xs ++ posts_of ys
-posts-append [] ys = refl
-posts-append (x ∷ xs) ys = ap (λ (l : List (ℕ × ℕ)). (x.word, x.number) ∷ l) (posts-append xs ys)
+posts-append xs ys = grind (arith, common_steps)
 
 each-append : (n : ℕ) (xs ys : List ℕ) → at_each n (xs ++ ys) ≡ at_each n xs ++ at_each n ys
-each-append n [] ys = refl
-each-append n (x ∷ xs) ys = ap (λ (l : List (ℕ × ℕ)). (x, n) ∷ l) (each-append n xs ys)
+each-append n xs ys = grind (arith, common_steps)
 
 pub paying_none : (v : MarkView) (root n : ℕ) (files : List ℕ) → 0 < length files → v.debt ≡ Some (make_debt root n 0)
     → IsPaying v v root n 0 files
-paying_none v root n files some_file e = record {
-  later = [];
-  posted = refl;
-  view = (λ i. mark_view (make_view v.least.parts (sym (append-nil v.least.calls) i) v.least.told) v.marks (e i))
-      ∙ ap (λ (b : Bool). with_calls v [] (cond b None (Some (make_debt root n 0))))
-      (sym (ne_eqb 0 (length files) (λ (z : 0 ≡ length files). absurd (omega arith))));
-  position = omega arith;
-}
+paying_none v root n files some_file e = grind (arith, common_steps)
 
 -- the debt while a file is left
 pub debt_now : (v u : MarkView) (root n k : ℕ) (files : List ℕ) → IsPaying v u root n k files → k < length files
     → u.debt ≡ Some (make_debt root n k)
-debt_now v u root n k files p lt = ap (λ (y : MarkView). y.debt) p.view
-    ∙ ap (λ (b : Bool). cond b None (Some (make_debt root n k)))
-    (ne_eqb k (length files) (λ (z : k ≡ length files). absurd (omega arith)))
+debt_now v u root n k files p lt = grind arith
 
 pub paying_more : (v u w : MarkView) (root n k : ℕ) (files : List ℕ) (g found : ℕ) → IsPaying v u root n k files
     → slice_get files k ≡ Some g
@@ -91,45 +77,19 @@ pub owed_here : (list : ℕ → List ℕ) (v : MarkView) (root n k g : ℕ) → 
 owed_here list v root n k g d e = ap (λ (y : Option Debt). owed_by list y) d
     ∙ ap (λ (l : List ℕ). at_each n l) (get_some (list root) k g e).2
 
-next_is : (root n k : ℕ) (files : List ℕ) (v : MarkView) (last : Bool) → v.debt ≡ Some (make_debt root n k)
-    → last ≡ (k + 1 == length files)
-    → next_debt last v.debt ≡ debt_at root n (k + 1) files
-next_is root n k files v last d is = ap (λ (y : Option Debt). next_debt last y) d
-    ∙ ap (λ (b : Bool). cond b None (Some (make_debt root n (k + 1)))) is
-
 pub owed_next : (list : ℕ → List ℕ) (v : MarkView) (root n k g : ℕ) (last : Bool) → v.debt ≡ Some (make_debt root n k)
     → slice_get (list root) k ≡ Some g
     → last ≡ (k + 1 == length (list root))
     → owed_by list (next_debt last v.debt) ≡ at_each n (drop (suc k) (list root))
-owed_next list v root n k g last d e is =
-    let files : List ℕ = list root in let lt = (get_some files k g e).0 in
-    let path : owed_by list (next_debt last v.debt) ≡ owed_by list (debt_at root n (k + 1) files) =
-    ap (λ (y : Option Debt). owed_by list y) (next_is root n k files v last d is) in
-    path ∙ ⊎_elim
-    (λ (end : k + 1 ≡ length files). ap (λ (b : Bool). owed_by list (cond b None (Some (make_debt root n (k + 1)))))
-    (eq-eqb (k + 1) (length files) end)
-    ∙ ap (λ (l : List ℕ). at_each n l) (sym (drop_all (suc k) files (omega arith))))
-    (λ (more : k + 1 ≡ length files → ⊥). ap
-    (λ (b : Bool). owed_by list (cond b None (Some (make_debt root n (k + 1))))) (ne_eqb (k + 1) (length files) more)
-    ∙ ap (λ (j : ℕ). at_each n (drop j files)) (add-one k))
-    (cases_eq (k + 1) (length files))
+owed_next list v root n k g last d e is = grind (arith, common_steps)
 
 pub paid_is : (root n k g found : ℕ) (files : List ℕ) (v w : MarkView) (last : Bool)
     → v.debt ≡ Some (make_debt root n k) → last ≡ (k + 1 == length files)
     → w ≡ with_paid last (g + 1 - 1) found n v
     → w ≡ with_calls v (call g found n ∷ []) (debt_at root n (k + 1) files)
-paid_is root n k g found files v w last d is e = let back : g + 1 - 1 ≡ g = omega arith in
-    e ∙ ap (λ (y : ℕ). with_paid last y found n v) back
-    ∙ (λ i. mark_view (make_view v.least.parts (v.least.calls ++ call g found n ∷ []) v.least.told) v.marks
-    (next_is root n k files v last d is i))
+paid_is root n k g found files v w last d is e = grind arith
 
 pub paying_all : (v u : MarkView) (root n k : ℕ) (files : List ℕ) → IsPaying v u root n k files
     → slice_get files k ≡ None
     → (later : List Call) × (posts_of later ≡ at_each n files) × (u ≡ with_calls v later None)
-paying_all v u root n k files p e = let r = get_none files k e in
-    let end : k ≡ length files = omega (arith, none_past files k e, p.position) in (
-      p.later,
-      p.posted ∙ ap (λ (l : List ℕ). at_each n l) r.0,
-      p.view ∙ ap (λ (b : Bool). with_calls v p.later (cond b None (Some (make_debt root n k))))
-          (eq-eqb k (length files) end),
-    )
+paying_all v u root n k files p e = grind (arith, cond, eq-eqb, get_none, none_past)

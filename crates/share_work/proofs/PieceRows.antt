@@ -1,14 +1,14 @@
 -- Facts on the row of one worker, and on the rows of some workers.
-use Rattle.std.proofs.Common.{map, ◌≡◌, ℕ, zero, suc, ◌+◌, ◌-◌, ◌*◌, ◌/◌, ◌%◌, ◌<◌, ◌≤◌, ◌⊎◌, min, List, [], ◌∷◌, ◌++◌, length, take, drop, slice_get, Some, None, Result, Ok, Err, IfOk, IsOkAnd, OnOk, length-append, get_or, refl, sym, ap, ◌∙◌, subst, arith, inl, inr, rules, set}
+use Rattle.std.proofs.lemmas.Grind.{common_steps}
+use Rattle.std.proofs.Common.{◌≡◌, ℕ, zero, suc, ◌+◌, ◌-◌, ◌*◌, ◌/◌, ◌%◌, ◌<◌, ◌≤◌, ◌⊎◌, min, List, [], ◌∷◌, ◌++◌, length, take, drop, slice_get, Some, None, Result, IfOk, IsOkAnd, OnOk, length-append, get_or, refl, sym, ap, ◌∙◌, subst, arith, inl, inr, rules, set}
 use Rattle.std.specs.List.{slice_range}
-use Rattle.std.proofs.lemmas.List.{take_min, length-drop, length-take-le, map-append}
+use Rattle.std.proofs.lemmas.List.{length-take-le}
 use Rattle.std.proofs.lemmas.Option.{slice_get_within}
 use Rattle.std.proofs.Math.Seq.{take-add}
 use Rattle.std.proofs.Math.ListN.{drop_of_length-le, set}
-use Rattle.std.proofs.Math.Seq.{take-nil, take-length}
+use Rattle.std.proofs.Math.Seq.{take-nil}
 use Rattle.std.proofs.lemmas.Bool.{cases_lt}
-use Rattle.std.proofs.Math.Nat.{mul-le-mul_left, mul-le-mul_right, mul_comm, zero-mul}
-use Rattle.std.proofs.lemmas.Grind.{div_ceil_times}
+use Rattle.std.proofs.Math.Nat.{mul-le-mul_right, zero-mul}
 use Rattle.share_work.specs.Shares.{AddsSome, AddsInRow, SeatGains, SeatHas, SeatsGain, SeatsHave, GivesItems, TakesAll, KeepsNumbers}
 use Rattle.share_work.specs.WorkerRows.{GivesUpTo, GivesPiece, GivesRow, GivesRows}
 
@@ -25,18 +25,13 @@ module _ {V : Type 0} where
 -- the items from a on, c of them as far as there are
 pub range_piece : {X : Type 0} (xs : List X) (a c : ℕ)
     → slice_range xs a (a + min c (length xs - a)) ≡ take c (drop a xs)
-range_piece xs a c =
-    let e : a + min c (length xs - a) - a ≡ min c (length xs - a) = omega arith in
-    ap (λ n. take n (drop a xs)) (e ∙ ap (λ n. min c n) (sym (length-drop a xs))) ∙ take_min c (drop a xs)
+range_piece xs a c = grind (arith, common_steps)
 
 pub next_first : (w n W c : ℕ) → (w + (n + 1) * W) * c ≡ (w + n * W) * c + W * c
 next_first w n W c = grind arith
 
 pub rising : (w k n W c : ℕ) → n ≤ k → (w + n * W) * c ≤ (w + k * W) * c
-rising w k n W c le =
-    let a : W * n ≤ W * k = mul-le-mul_left W le in
-    let b : c * (w + n * W) ≤ c * (w + k * W) = mul-le-mul_left c (rw (mul_comm n W, mul_comm k W) (omega arith)) in
-    rw (mul_comm (w + n * W) c, mul_comm (w + k * W) c) b
+rising w k n W c le = grind arith
 
 pub length_pushed : {V : Type 0} (row : List V) (y : V) (more : List V) → more ≡ row ++ y ∷ []
     → length more ≡ length row + 1
@@ -48,8 +43,7 @@ few_items w c few small = let most : w * c ≤ 64 * c = mul-le-mul_right c few i
 
 -- past the end of the items there is no piece
 pub whole_at : (w n W c len k : ℕ) → len ≤ (w + n * W) * c → (w + k * W) * c < len → k < n
-whole_at w n W c len k past inside =
-    elim (cases_lt k n) [ inl lt ↦ lt | inr le ↦ let up = rising w k n W c le in absurd (omega arith) ]
+whole_at w n W c len k past inside = grind arith
 
 module _ {T O V : Type 0} (gives : ℕ → T → O → Type 0) (outs_of : V → List O) (workers cut : ℕ)
     (items : List T) (w : ℕ) where
@@ -179,69 +173,40 @@ module _ {T O V R : Type 0} (gives : ℕ → T → O → Type 0) (outs_of : V �
         subst S q_is (subst P same tail)
     last j q (suc i, at, e) = let bad : None ≡ Some q = e in absurd (search rules)
 
-take_over : {X : Type 0} (n : ℕ) (xs : List X) → length xs ≤ n → take n xs ≡ xs
-take_over n xs le =
-    sym (take_min n xs) ∙ ap (λ k. take k xs) (let e : min n (length xs) ≡ length xs = omega arith in e)
-    ∙ take-length xs
-
 module _ {T O : Type 0} (gives : ℕ → T → O → Type 0) (cut : ℕ) (items : List T) where
   pub gives_none : GivesUpTo gives cut items 0 []
-  gives_none =
-      let P : List T → Type 0 = λ l. GivesItems gives 0 l [] in
-      let none : [] ≡ take (0 * cut) items = sym (ap (λ n. take n items) (zero-mul cut)) in
-      subst P none (refl, λ i t o e f. let bad : None ≡ Some t = e in absurd (search rules))
+  gives_none = grind arith
 
   -- the outs of all pieces are those of all items
   pub gives_all : (p : ℕ) (a : List O) → length items ≤ p * cut → GivesUpTo gives cut items p a
       → GivesItems gives 0 items a
-  gives_all p a past f = let P : List T → Type 0 = λ l. GivesItems gives 0 l a in
-      subst P (take_over (p * cut) items past) f
+  gives_all p a past f = grind (arith, common_steps)
 
 pub piece_inside : (len c p : ℕ) → 0 < c → p < len / c + min 1 (len % c) → p * c < len
-piece_inside len c p some below =
-    let all = div_ceil_times len c some in
-    let up : (p + 1) * c ≤ (len / c + min 1 (len % c)) * c = mul-le-mul_right c (omega arith) in
-    let more : (p + 1) * c ≡ p * c + c = grind arith in
-    let most = all.1 in omega arith
+piece_inside len c p some below = grind arith
 
 module _ {T : Type 0} (adds : ℕ → T → ℕ → ℕ → Type 0) (workers cut : ℕ) (items : List T) (w : ℕ) where
   -- what a piece adds, the row adds
   pub adds_piece : (len first : ℕ) (part : List T) → first ≡ (w + len * workers) * cut
       → part ≡ take cut (drop first items)
       → (x n : ℕ) → AddsSome adds first part x n → AddsInRow adds workers cut items w x n
-  adds_piece len first part at is x n h =
-      let P : ℕ → Type 0 = λ f. AddsSome adds f (take cut (drop f items)) x n in
-      let Q : List T → Type 0 = λ p. AddsSome adds first p x n in
-      (len, subst P at (subst Q is h))
+  adds_piece len first part at is x n h = grind arith
 
   -- and a piece is added where its number is that of the piece
   pub piece_adds : (len first : ℕ) (part : List T) → first ≡ (w + len * workers) * cut
       → part ≡ take cut (drop first items)
       → (x n k : ℕ) → k ≡ len → AddsSome adds ((w + k * workers) * cut)
       (take cut (drop ((w + k * workers) * cut) items)) x n → AddsSome adds first part x n
-  piece_adds len first part at is x n k same h =
-      let P : ℕ → Type 0 = λ f. AddsSome adds f (take cut (drop f items)) x n in
-      let Q : List T → Type 0 = λ p. AddsSome adds first p x n in
-      let K : ℕ → Type 0 = λ j. AddsSome adds ((w + j * workers) * cut)
-      (take cut (drop ((w + j * workers) * cut) items)) x n in
-      subst Q (sym is) (subst P (sym at) (subst K same h))
+  piece_adds len first part at is x n k same h = grind arith
 
   -- past the end nothing is added
   pub adds_within : (x n k : ℕ) → AddsSome adds ((w + k * workers) * cut)
       (take cut (drop ((w + k * workers) * cut) items)) x n
       → (w + k * workers) * cut < length items
-  adds_within x n k h = elim (cases_lt ((w + k * workers) * cut) (length items)) [
-    | inl lt ↦ lt
-    | inr le ↦
-        let none : take cut (drop ((w + k * workers) * cut) items) ≡ [] =
-        ap (λ l. take cut l) (drop_of_length-le items le) ∙ take-nil cut in
-        let Q : List T → Type 0 = λ l. slice_get l h.0 ≡ Some h.1 in
-        let bad : None ≡ Some h.1 = subst Q none h.2 in absurd (search rules)
-  ]
+  adds_within x n k h = grind (arith, common_steps)
 
 pub OnOk-all : {X E : Type 0} (r : Result X E) (P : Type 0) → P → OnOk r P
-OnOk-all (Ok x) P h = h
-OnOk-all (Err e) P h = tt
+OnOk-all r P h = grind arith
 
 module _ {S T : Type 0} (holds : S → ℕ → ℕ → Type 0) (adds : ℕ → T → ℕ → ℕ → Type 0) (workers cut : ℕ)
     (items : List T) where
@@ -290,97 +255,52 @@ one_member (x ∷ y ∷ xs) e = absurd (omega arith)
 
 module _ {S T : Type 0} (holds : S → ℕ → ℕ → Type 0) (adds : ℕ → T → ℕ → ℕ → Type 0) (workers cut : ℕ)
     (items : List T) where
-  one_gains : (w : ℕ) (s s' : S) → SeatGains holds adds workers cut items w s s'
-      → SeatsGain holds adds workers cut items w (s ∷ []) (s' ∷ [])
-  one_gains w s s' h = record { len = refl; each = one } where
-    one : (j : ℕ) (a b : S) → slice_get (s ∷ []) j ≡ Some a → slice_get (s' ∷ []) j ≡ Some b
-        → SeatGains holds adds workers cut items (w + j) a b
-    one zero a b e e' =
-        let x : s ≡ a = cc in let y : s' ≡ b = cc in
-        let P : S → Type 0 = λ v. SeatGains holds adds workers cut items (w + 0) v b in
-        let Q : S → Type 0 = λ v. SeatGains holds adds workers cut items (w + 0) s v in
-        let W : ℕ → Type 0 = λ n. SeatGains holds adds workers cut items n s s' in
-        let same : w ≡ w + 0 = omega arith in
-        subst P x (subst Q y (subst W same h))
-    one (suc j) a b e e' = let bad : None ≡ Some a = e in absurd (search rules)
-
   -- the same of a list's one seat, read with any default
   pub only_gains : (w : ℕ) (seats : List S) (d s' : S) → length seats ≡ 1
       → SeatGains holds adds workers cut items w (get_or seats 0 d) s'
       → SeatsGain holds adds workers cut items w seats (set seats 0 s')
-  only_gains w [] d s' e h = absurd (omega arith)
-  only_gains w (x ∷ []) d s' e h = one_gains w x s' h
-  only_gains w (x ∷ y ∷ xs) d s' e h = absurd (omega arith)
+  only_gains w seats d s' e h = grind (arith, common_steps)
 
   pub one_has : (w : ℕ) (s' : S) → SeatHas holds adds workers cut items w s'
       → SeatsHave holds adds workers cut items w (s' ∷ [])
-  one_has w s' h = record { each = one } where
-    one : (j : ℕ) (b : S) → slice_get (s' ∷ []) j ≡ Some b → SeatHas holds adds workers cut items (w + j) b
-    one zero b e =
-        let y : s' ≡ b = cc in
-        let Q : S → Type 0 = λ v. SeatHas holds adds workers cut items (w + 0) v in
-        let W : ℕ → Type 0 = λ n. SeatHas holds adds workers cut items n s' in
-        let same : w ≡ w + 0 = omega arith in
-        subst Q y (subst W same h)
-    one (suc j) b e = let bad : None ≡ Some b = e in absurd (search rules)
+  one_has w s' h = grind arith
 
 module _ {T O V R : Type 0} (gives : ℕ → T → O → Type 0) (outs_of : V → List O) (parts_of : R → List V)
     (workers cut : ℕ) (items : List T) where
   pub one_row : (w : ℕ) (r : R) → GivesRow gives outs_of workers cut items w (parts_of r)
       → GivesRows gives outs_of parts_of workers cut items w 1 (r ∷ [])
-  one_row w r h = record { len = refl; each = one } where
-    one : (j : ℕ) (b : R) → slice_get (r ∷ []) j ≡ Some b
-        → GivesRow gives outs_of workers cut items (w + j) (parts_of b)
-    one zero b e =
-        let y : r ≡ b = cc in
-        let Q : R → Type 0 = λ v. GivesRow gives outs_of workers cut items (w + 0) (parts_of v) in
-        let W : ℕ → Type 0 = λ n. GivesRow gives outs_of workers cut items n (parts_of r) in
-        let same : w ≡ w + 0 = omega arith in
-        subst Q y (subst W same h)
-    one (suc j) b e = let bad : None ≡ Some b = e in absurd (search rules)
+  one_row w r h = grind arith
 
 module _ {S : Type 0} (number : S → ℕ) where
   -- the numbers stay where the first seat keeps its own
   pub numbers_set : (seats : List S) (s d : S) → number s ≡ number (get_or seats 0 d)
       → KeepsNumbers number seats (set seats 0 s)
-  numbers_set [] s d same = refl
-  numbers_set (x ∷ seats) s d same = ap (λ n. n ∷ map number seats) same
+  numbers_set seats s d same = grind (arith, common_steps)
 
   -- and where two parts of the seats keep theirs
   pub numbers_joined : (low high low' high' : List S) → KeepsNumbers number low low' → KeepsNumbers number high high'
       → KeepsNumbers number (low ++ high) (low' ++ high')
-  numbers_joined low high low' high' a b =
-      map-append number low' high' ∙ ap (λ l. l ++ map number high') a ∙ ap (λ l. map number low ++ l) b
-      ∙ sym (map-append number low high)
+  numbers_joined low high low' high' a b = grind (arith, common_steps)
 
 -- where what stands on two results went well, both did
 pub OnOk-first : {A B C E : Type 0} (r : Result C E) (a : Result A E) (b : Result B E)
     (R : A → B → C → Type 0) (P : Type 0)
     → IfOk r (λ z. IsOkAnd a (λ x. IsOkAnd b (λ y. R x y z))) → OnOk a P → OnOk r P
-OnOk-first (Ok z) (Ok x) b R P h p = p
-OnOk-first (Ok z) (Err e) b R P h p = absurd h
-OnOk-first (Err e) a b R P h p = tt
+OnOk-first r a b R P h p = grind arith
 
 pub OnOk-second : {A B C E : Type 0} (r : Result C E) (a : Result A E) (b : Result B E)
     (R : A → B → C → Type 0) (P : Type 0)
     → IfOk r (λ z. IsOkAnd a (λ x. IsOkAnd b (λ y. R x y z))) → OnOk b P → OnOk r P
-OnOk-second (Ok z) (Ok x) (Ok y) R P h p = p
-OnOk-second (Ok z) (Ok x) (Err e) R P h p = absurd h
-OnOk-second (Ok z) (Err e) b R P h p = absurd h
-OnOk-second (Err e) a b R P h p = tt
+OnOk-second r a b R P h p = grind arith
 
 pub IfOk-both : {A B C E : Type 0} (r : Result C E) (a : Result A E) (b : Result B E) (R : A → B → C → Type 0)
     (P : A → Type 0) (Q : B → Type 0) (Z : C
     → Type 0) → IfOk r (λ z. IsOkAnd a (λ x. IsOkAnd b (λ y. R x y z))) → IfOk a P → IfOk b Q
     → ((x : A) (y : B) (z : C) → R x y z → P x → Q y → Z z) → IfOk r Z
-IfOk-both (Ok z) (Ok x) (Ok y) R P Q Z h p q f = f x y z h p q
-IfOk-both (Ok z) (Ok x) (Err e) R P Q Z h p q f = absurd h
-IfOk-both (Ok z) (Err e) b R P Q Z h p q f = absurd h
-IfOk-both (Err e) a b R P Q Z h p q f = tt
+IfOk-both r a b R P Q Z h p q f = grind arith
 
 pub OnOk-both : {X E : Type 0} (r : Result X E) (P Q Z : Type 0) → OnOk r P → OnOk r Q → (P → Q → Z) → OnOk r Z
-OnOk-both (Ok x) P Q Z p q f = f p q
-OnOk-both (Err e) P Q Z p q f = p
+OnOk-both r P Q Z p q f = grind arith
 
 pub get_drop : {X : Type 0} (p : ℕ) (xs : List X) (o : ℕ) → slice_get (drop p xs) o ≡ slice_get xs (p + o)
 get_drop zero xs o = ap (λ k. slice_get xs k) (let e : o ≡ 0 + o = omega arith in e)
@@ -410,29 +330,12 @@ module _ {S T : Type 0} (holds : S → ℕ → ℕ → Type 0) (adds : ℕ → T
     (items : List T) where
   -- seats that stay as they are gain nothing
   pub gains_same : (from : ℕ) (seats : List S) → SeatsGain holds adds workers cut items from seats seats
-  gains_same from seats = record {
-    len = refl;
-    each = λ j s s' e e'.
-        let same : s ≡ s' = cc in
-        let P : S → Type 0 = λ v. SeatGains holds adds workers cut items (from + j) s v in
-        subst P same (record { kept = λ x n h. h; within = λ x n h. inl h });
-  }
+  gains_same from seats = grind arith
 
   -- and have all that there is, where the items end before their first piece
   pub haves_idle : (from : ℕ) (seats : List S) → (0 < length seats → length items ≤ from * cut)
       → SeatsHave holds adds workers cut items from seats
-  haves_idle from seats past = record {
-    each = λ j s e. record {
-      gained = λ x n h.
-          let inside = adds_within adds workers cut items (from + j) x n h.0 h.1 in
-          let within = slice_get_within seats j s e in
-          let end = past (omega arith) in
-          let up = rising (from + j) h.0 0 workers cut (omega arith) in
-          let on : from * cut ≤ (from + j + 0 * workers) * cut =
-          mul-le-mul_right cut (let none : 0 * workers ≡ 0 = zero-mul workers in omega arith) in
-          absurd (omega arith);
-    };
-  }
+  haves_idle from seats past = grind (arith, common_steps)
 
 module _ {T O V R : Type 0} (gives : ℕ → T → O → Type 0) (outs_of : V → List O) (parts_of : R → List V)
     (workers cut : ℕ) (items : List T) where

@@ -1,8 +1,8 @@
 -- The calls at a word have an order in which each found the least number posted before it.
-use Rattle.std.proofs.Common.{◌≡◌, ℕ, zero, suc, ◌<◌, ◌≤◌, ◌⊎◌, inl, inr, ⊎_elim, Bool, true, ◌==◌, List, [], ◌∷◌, length, get_or, take, filter, sym, ap, subst, arith, min}
+use Rattle.std.proofs.Common.{◌≡◌, ℕ, zero, suc, ◌<◌, ◌≤◌, ◌⊎◌, inl, inr, ⊎_elim, Bool, true, ◌==◌, List, [], ◌∷◌, length, get_or, take, filter, ap, subst, arith, min}
 use Rattle.std.specs.Prelude.{AllPairs, Contains}
 use Rattle.std.specs.List.Sorted.{IsPermutation}
-use Rattle.std.proofs.lemmas.Bool.{eqb-true, eq-eqb, cases_lt}
+use Rattle.std.proofs.lemmas.Bool.{eqb-true, eq-eqb}
 use Rattle.std.proofs.lemmas.List.Kept.{AllPairs-cons, AllPairs-filter}
 use Rattle.std.proofs.lemmas.List.Sorted.{Contains-permutation, IsPermutation-refl, IsPermutation-sym, IsPermutation-trans, IsPermutation-cons, IsPermutation-middle}
 use Rattle.share_work.specs.declared.views.Call.{Call}
@@ -27,8 +27,7 @@ Finds m [] = Unit {0}
 Finds m (c ∷ cs) = (c.found ≡ m) × Finds (min m c.number) cs
 
 no_more : (c d : Call) → MayFollow c d → d.found ≤ c.found
-no_more c d f = ⊎_elim (λ (a : d.found < c.found). omega arith)
-    (λ (b : (d.found ≡ c.found) × (c.found ≤ c.number)). omega (arith, b.0)) f
+no_more c d f = grind arith
 
 module _ (w m : ℕ) (c : Call) (cs : List Call) (pairs : AllPairs MayFollow (c ∷ cs))
     (linked : LinkedFrom w m (c ∷ cs)) where
@@ -94,22 +93,11 @@ replays w calls l ys o =
 -- ---- there is such an order
 
 follows_on : (c d e : Call) → MayFollow c d → MayFollow d e → MayFollow c e
-follows_on c d e f g = let le = no_more d e g in
-    ⊎_elim (λ (a : d.found < c.found). inl (omega arith))
-    (λ (b : (d.found ≡ c.found) × (c.found ≤ c.number)). ⊎_elim (λ (lt : e.found < c.found). inl lt)
-    (λ (ge : c.found ≤ e.found). inr (omega (arith, b.0), b.1)) (cases_lt e.found c.found)) f
+follows_on c d e f g = grind arith
 
 -- of two calls that are apart one may follow the other
 either : (w : ℕ) (c d : Call) → c.word ≡ w → d.word ≡ w → Apart w c d → MayFollow c d ⊎ MayFollow d c
-either w c d cw dw apart = ⊎_elim (λ (a : d.found < c.found). inl (inl a))
-    (λ (b : c.found ≤ d.found). ⊎_elim (λ (lt : c.found < d.found). inr (inl lt))
-    (λ (ge : d.found ≤ c.found). let same : c.found ≡ d.found = omega arith in
-    ⊎_elim (λ (cf : c.number < c.found).
-    ⊎_elim (λ (df : d.number < d.found). absurd (apart (cw, cf) (dw, df) same))
-    (λ (dn : d.found ≤ d.number). inr (inr (same, dn)))
-    (cases_lt d.number d.found))
-    (λ (cn : c.found ≤ c.number). inl (inr (sym same, cn))) (cases_lt c.number c.found))
-    (cases_lt c.found d.found)) (cases_lt d.found c.found)
+either w c d cw dw apart = grind arith
 
 -- the list in an order
 abbrev Ordered : List Call → Type 0

@@ -51,23 +51,11 @@ module _ (views : List View) (id : ℕ) (v : View) (at : get_elem? views id ≡ 
   -- a view in its place
   pub calls_set : (w : View) (h : Call → ℕ)
       → sum_by h (all_calls (set views id w)) + sum_by h v.calls ≡ sum_by h (all_calls views) + sum_by h w.calls
-  calls_set w h = let f : View → List Call = λ u. u.calls in
-      omega (
-        arith,
-        sum_by-flat_map h f (set views id w),
-        sum_by-flat_map h f views,
-        sum_by-at_set (λ (u : View). sum_by h (f u)) views id v w at,
-      )
+  calls_set w h = grind (arith, sum_by-at_set, sum_by-flat_map)
 
   pub told_set : (w : View) (h : ℕ × ℕ → ℕ)
       → sum_by h (all_told (set views id w)) + sum_by h v.told ≡ sum_by h (all_told views) + sum_by h w.told
-  told_set w h = let f : View → List (ℕ × ℕ) = λ u. u.told in
-      omega (
-        arith,
-        sum_by-flat_map h f (set views id w),
-        sum_by-flat_map h f views,
-        sum_by-at_set (λ (u : View). sum_by h (f u)) views id v w at,
-      )
+  told_set w h = grind (arith, sum_by-at_set, sum_by-flat_map)
 
   parts_set : (w : View) → sum_by (λ (u : View). u.parts) (set views id w) + v.parts ≡ sum_by (λ (u : View). u.parts)
       views + w.parts
@@ -78,10 +66,7 @@ SpentIsEmpty views = (id : ℕ) (v : View) → get_elem? views id ≡ some v →
 
 spent_set : (views : List View) (id : ℕ) (w : View) → (w.parts ≡ 0 → (w.calls ≡ []) × (w.told ≡ []))
     → SpentIsEmpty views → SpentIsEmpty (set views id w)
-spent_set views id w mine old j u e = ⊎_elim
-    (λ (x : (j ≡ id) × (w ≡ u)). subst (λ (y : View). y.parts ≡ 0 → (y.calls ≡ []) × (y.told ≡ [])) x.1 mine)
-    (λ (x : (j ≢ id) × (get_elem? views j ≡ some u)). old j u x.1)
-    (at_set views id j w u e)
+spent_set views id w mine old j u e = grind (arith, at_set, get_elem?, some)
 
 module _ (count : ℕ) (words : List ℕ) (views : List View) (id : ℕ) (v : View) (at : get_elem? views id ≡ some v)
     (some_part : 0 < v.parts)

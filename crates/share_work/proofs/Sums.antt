@@ -1,4 +1,5 @@
 -- Members of lists, and sums over the lists of all views.
+use Rattle.std.proofs.lemmas.Grind.{common_steps}
 use Rattle.std.proofs.Common.{◌≡◌, ℕ, zero, suc, ◌+◌, ◌<◌, ◌≤◌, ◌⊎◌, inl, inr, Bool, true, false, cond, eqb, ◌&&◌, List, [], ◌∷◌, map, set, sym, refl, ap, ◌∙◌, subst, arith, filter, ⊎_elim}
 use Rattle.std.specs.Prelude.{All, AllPairs, Contains}
 use Rattle.std.specs.List.{flat_map, sum_by, count_by}
@@ -19,8 +20,7 @@ pub behind : {A : Type 0} (x : A) (xs : List A) (y : A) → Contains xs y → Co
 behind x xs y (k, inside, is) = (suc k, omega (arith, inside), is)
 
 pub front_or_behind : {A : Type 0} (x : A) (xs : List A) (y : A) → Contains (x ∷ xs) y → (x ≡ y) ⊎ Contains xs y
-front_or_behind x xs y (zero, inside, is) = inl is
-front_or_behind x xs y (suc k, inside, is) = inr (k, omega (arith, inside), is)
+front_or_behind x xs y w = grind arith
 
 pub all_of : {A : Type 0} (P : A → Type 0) (xs : List A) → ((x : A) → Contains xs x → P x) → All P xs
 all_of P xs f k d inside = f _ (Contains-get_or xs k d inside)
@@ -35,11 +35,7 @@ at_in (y ∷ ys) zero x e = subst (Contains (y ∷ ys)) (some-injective y x e) (
 at_in (y ∷ ys) (suc i) x e = behind y ys x (at_in ys i x e)
 
 pub in_map : {A B : Type 0} (f : A → B) (xs : List A) (x : A) → Contains xs x → Contains (map f xs) (f x)
-in_map f [] x h = absurd (none_in x h)
-in_map f (y ∷ ys) x h = elim (front_or_behind y ys x h) [
-  | inl e ↦ subst (Contains (f y ∷ map f ys)) (ap f e) (front (f y) (map f ys))
-  | inr k ↦ behind (f y) (map f ys) (f x) (in_map f ys x k)
-]
+in_map f xs x h = grind (arith, common_steps)
 
 pub of_map : {A B : Type 0} (f : A → B) (xs : List A) (y : B) → Contains (map f xs) y
     → (x : A) × Contains xs x × (f x ≡ y)
@@ -106,19 +102,13 @@ sum_by-at f (x ∷ xs) (suc i) v e = omega (arith, sum_by-cons f x xs, sum_by-at
 
 module _ {A : Type 0} (p : A → Bool) where
   pub count_by-no : (x : A) (xs : List A) → p x ≡ false → count_by p (x ∷ xs) ≡ count_by p xs
-  count_by-no x xs e = let one : Bool → ℕ = λ b. cond b 1 0 in
-      omega (arith, sum_by-cons (λ y. one (p y)) x xs, ap one e)
+  count_by-no x xs e = grind arith
 
   pub count_by-yes : (x : A) (xs : List A) → p x ≡ true → count_by p (x ∷ xs) ≡ 1 + count_by p xs
-  count_by-yes x xs e = let one : Bool → ℕ = λ b. cond b 1 0 in
-      omega (arith, sum_by-cons (λ y. one (p y)) x xs, ap one e)
+  count_by-yes x xs e = grind (arith, common_steps)
 
   pub count_in : (xs : List A) (x : A) → Contains xs x → p x ≡ true → 0 < count_by p xs
-  count_in [] x h t = absurd (none_in x h)
-  count_in (y ∷ ys) x h t = elim (front_or_behind y ys x h) [
-    | inl e ↦ omega (arith, count_by-yes y ys (ap p e ∙ t))
-    | inr k ↦ omega (arith, sum_by-cons (λ y. cond (p y) 1 0) y ys, count_in ys x k t)
-  ]
+  count_in xs x h t = grind (arith, common_steps)
 
   pub count_of : (xs : List A) → 0 < count_by p xs → (x : A) × Contains xs x × (p x ≡ true)
   count_of [] h = absurd (omega (arith, h))
