@@ -54,7 +54,8 @@ gathered_more lists nodes list n marks new marked ys e len are added g = record 
   room = omega (arith, len, g.room);
   inside = g.inside;
   are = are;
-  gathered = λ c. joined_more (rw e at (added c)) (g.gathered c) (among_some (λ b. Contains (get_or lists b []) c) nodes n);
+  gathered = λ c. joined_more (rw e at (added c)) (g.gathered c)
+      (among_some (λ b. Contains (get_or lists b []) c) nodes n);
 }
 
 skipped : (lists : List (List ℕ)) (nodes : List ℕ) (n : ℕ) (marked : List ℕ) (c : ℕ) → AreClosed lists (length lists)

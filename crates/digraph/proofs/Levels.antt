@@ -1,5 +1,5 @@
 -- What the rounds keep that find the ranks.
-use Rattle.std.proofs.Common.{◌≡◌, ◌∙◌, sym, ℕ, zero, suc, ◌+◌, ◌-◌, ◌<◌, ◌≤◌, List, [], ◌∷◌, ◌++◌, length, get_or, ap, refl, subst, arith, inl, inr, ◌⊎◌, length-append}
+use Rattle.std.proofs.Common.{◌≡◌, ◌∙◌, sym, ℕ, ◌+◌, ◌-◌, ◌<◌, ◌≤◌, List, [], ◌∷◌, ◌++◌, length, get_or, ap, refl, subst, arith, inl, inr, ◌⊎◌, length-append}
 use Rattle.std.specs.Prelude.{Bool, true, false, replicate, Contains, ◌↔◌}
 use Rattle.std.specs.Cmp.{nat_eq_equiv}
 use Rattle.std.specs.List.{IsDistinct, list_any}
@@ -19,7 +19,7 @@ use Rattle.digraph.specs.Marks.{IsMarked, NoneMarked}
 use Rattle.digraph.specs.Ranks.{rank_in, IsBefore, IsRanked, IsRankOrder}
 use Rattle.digraph.specs.Rounds.{ArePassed, AllMarked, GoesInto}
 use Rattle.digraph.proofs.Marking.{default_same}
-use Rattle.digraph.proofs.Renumbering.{before_trans}
+use Rattle.digraph.proofs.Renumbering.{before_apart, before_differs}
 use Rattle.digraph.proofs.Rounding.{mark_cases, row_cases, passed_none}
 use Rattle.digraph.proofs.Rows.{edge_below, no_items}
 use Rattle.digraph.proofs.Stuck.{none_stuck}
@@ -114,66 +114,6 @@ pub record Round (g : Graph) (s t : Stage) : Type 0 where
   pub rises : IsStrictlyIncreasing t.ready
   pub members : (a : ℕ) → Contains t.ready a ↔ (GoesInto g s.ready a × AllMarked g t.marks a)
 
-kept : (g : Graph) (s t : Stage) → Levels g s → Round g s t → (a : ℕ) → IsMarked s.marks a
-    → rank_in t.ranks a ≡ rank_in s.ranks a
-kept g s t l r a m = r.others a (λ w. ((l.ready a).0 w).1 m)
-
-above_next : (g : Graph) (s t : Stage) → Levels g s → Round g s t → (a b : ℕ) → IsMarked s.marks a ⊎ Contains s.ready a
-    → Edge g a b
-    → IsMarked t.marks b × (rank_in t.ranks b < rank_in t.ranks a)
-above_next g s t l r a b (inl m) edge =
-    let was = l.above a b m edge in
-    ((r.marked b).1 (inl was.0), omega (arith, was.1, kept g s t l r a m, kept g s t l r b was.0))
-above_next g s t l r a b (inr w) edge =
-    let mark = ((l.ready a).0 w).2 b edge in
-    ((r.marked b).1 (inl mark), omega (arith, l.below b mark, kept g s t l r b mark, r.ranked a w))
-
-least_next : (g : Graph) (s t : Stage) → Levels g s → Round g s t → (a : ℕ) → IsMarked s.marks a ⊎ Contains s.ready a
-    → (rank_in t.ranks a ≡ 0) ⊎ ((b : ℕ) × Edge g a b × (rank_in t.ranks a ≡ rank_in t.ranks b + 1))
-least_next g s t l r a (inl m) = elim (l.least a m) [
-  | inl e ↦ inl (kept g s t l r a m ∙ e)
-  | inr found ↦ (let mark = (l.above a found.0 m found.1).0 in
-      inr (found.0, found.1, omega (arith, kept g s t l r a m, kept g s t l r found.0 mark, found.2)))
-]
-least_next g s t l r a (inr w) = elim (l.late a w) [
-  | inl e ↦ inl (r.ranked a w ∙ e)
-  | inr found ↦ (let mark = ((l.ready a).0 w).2 found.0 found.1 in
-      inr (found.0, found.1, omega (arith, r.ranked a w, kept g s t l r found.0 mark, found.2)))
-]
-
-below_next : (g : Graph) (s t : Stage) → Levels g s → Round g s t → (a : ℕ) → IsMarked s.marks a ⊎ Contains s.ready a
-    → rank_in t.ranks a < t.round
-below_next g s t l r a w = grind arith
-
-late_next : (g : Graph) (s t : Stage) → Round g s t → (a : ℕ) → Contains t.ready a
-    → (t.round ≡ 0) ⊎ ((b : ℕ) × Edge g a b × (t.round ≡ rank_in t.ranks b + 1))
-late_next g s t r a w = let into = ((r.members a).0 w).0 in
-    inr (into.0, into.2, omega (arith, r.next, r.ranked into.0 into.1))
-
--- a node with an edge to one that was ready had no rank, and was not ready itself
-ready_to : (g : Graph) (s t : Stage) → Levels g s → Round g s t → (a : ℕ) → Contains t.ready a → IsReady g t.marks a
-ready_to g s t l r a w =
-    let is = (r.members a).0 w in
-    let into = is.0 in
-    let out : IsMarked s.marks into.0 → ⊥ = ((l.ready into.0).0 into.1).1 in (
-      edge_below g a into.0 into.2,
-      λ m. (elim ((r.marked a).0 m) [
-        | inl old ↦ out (l.above a into.0 old into.2).0
-        | inr ready ↦ out (((l.ready a).0 ready).2 into.0 into.2)
-      ]),
-      is.1,
-    )
-
--- a node that is ready now and was not before has an edge to one that was
-ready_from : (g : Graph) (s t : Stage) → Levels g s → Round g s t → (a : ℕ) → IsReady g t.marks a → Contains t.ready a
-ready_from g s t l r a (h, out, all) = elim (row_cases g s.marks a) [
-  | inl before ↦ absurd (out ((r.marked a).1 (inr ((l.ready a).1 (h, (λ m. out ((r.marked a).1 (inl m))), before)))))
-  | inr found ↦ elim ((r.marked found.0).0 (all found.0 found.1)) [
-    | inl old ↦ absurd (found.2 old)
-    | inr ready ↦ (r.members a).1 ((found.0, ready, found.1), all)
-  ]
-]
-
 order_left : (order ready : List ℕ) (k : ℕ) → k < length order → get_or (order ++ ready) k 0 ≡ get_or order k 0
 order_left order ready k h = get_or-append order ready 0 k h
 
@@ -186,98 +126,141 @@ before_same : (ranks new_ranks : List ℕ) (a b : ℕ) → rank_in new_ranks a �
     → IsBefore new_ranks a b
 before_same ranks new_ranks a b ea eb w = grind arith
 
-ordered_case : (g : Graph) (s t : Stage) → Levels g s → Round g s t → (k : ℕ) → k + 1 < length s.order + length s.ready
-    → (k + 1 < length s.order) ⊎ (length s.order ≤ k + 1) → (k < length s.order) ⊎ (length s.order ≤ k)
-    → IsBefore t.ranks (get_or (s.order ++ s.ready) k 0) (get_or (s.order ++ s.ready) (k + 1) 0)
-ordered_case g s t l r k h (inl inside) near =
-    let at : k < length s.order = omega arith in
-    let first = kept g s t l r (get_or s.order k 0)
-    ((l.known (get_or s.order k 0)).1 (Contains-get_or s.order k 0 at)) in
-    let second = kept g s t l r (get_or s.order (k + 1) 0)
-    ((l.known (get_or s.order (k + 1) 0)).1 (Contains-get_or s.order (k + 1) 0 inside)) in
-    rw (order_left s.order s.ready k at, order_left s.order s.ready (k + 1) inside)
-    (before_same s.ranks t.ranks (get_or s.order k 0) (get_or s.order (k + 1) 0) first second (l.ordered k inside))
-ordered_case g s t l r k h (inr over) (inl at) =
-    let mark = (l.known (get_or s.order k 0)).1 (Contains-get_or s.order k 0 at) in
-    let same = kept g s t l r (get_or s.order k 0) mark in
-    let small = l.below (get_or s.order k 0) mark in
-    let position : k + 1 - length s.order < length s.ready = omega arith in
-    let rank = r.ranked (get_or s.ready (k + 1 - length s.order) 0)
-    (Contains-get_or s.ready (k + 1 - length s.order) 0 position) in
-    rw (order_left s.order s.ready k at, order_right s.order s.ready (k + 1) over)
-    (inl (omega (arith, same, small, rank)))
-ordered_case g s t l r k h (inr over) (inr at) =
-    let position : k - length s.order + 1 < length s.ready = omega arith in
-    let next : k + 1 - length s.order ≡ k - length s.order + 1 = omega arith in
-    let first = r.ranked (get_or s.ready (k - length s.order) 0)
-    (Contains-get_or s.ready (k - length s.order) 0 (omega arith)) in
-    let second = r.ranked (get_or s.ready (k - length s.order + 1) 0)
-    (Contains-get_or s.ready (k - length s.order + 1) 0 position) in
-    rw (order_right s.order s.ready k at, order_right s.order s.ready (k + 1) over ∙ ap (λ j. get_or s.ready j 0) next)
-    (inr (first ∙ sym second, l.rises (k - length s.order) position))
+module _ (g : Graph) (s t : Stage) (l : Levels g s) (r : Round g s t) where
+  kept : (a : ℕ) → IsMarked s.marks a → rank_in t.ranks a ≡ rank_in s.ranks a
+  kept a m = r.others a (λ w. ((l.ready a).0 w).1 m)
 
-ordered_next : (g : Graph) (s t : Stage) → Levels g s → Round g s t → (k : ℕ) → k + 1 < length t.order
-    → IsBefore t.ranks (get_or t.order k 0) (get_or t.order (k + 1) 0)
-ordered_next g s t l r k h = grind (arith, length-append, ordered_case)
+  above_next : (a b : ℕ) → IsMarked s.marks a ⊎ Contains s.ready a → Edge g a b
+      → IsMarked t.marks b × (rank_in t.ranks b < rank_in t.ranks a)
+  above_next a b (inl m) edge =
+      let was = l.above a b m edge in
+      ((r.marked b).1 (inl was.0), omega (arith, was.1, kept a m, kept b was.0))
+  above_next a b (inr w) edge =
+      let mark = ((l.ready a).0 w).2 b edge in
+      ((r.marked b).1 (inl mark), omega (arith, l.below b mark, kept b mark, r.ranked a w))
 
-known_to : (g : Graph) (s t : Stage) → Levels g s → Round g s t → (a : ℕ) → IsMarked s.marks a ⊎ Contains s.ready a
-    → Contains t.order a
-known_to g s t l r a w = subst (λ (xs : List ℕ). Contains xs a) (sym r.appended) (elim w [
-  | inl m ↦ Contains-append_left s.order s.ready a ((l.known a).0 m)
-  | inr ready ↦ Contains-append_right s.order s.ready a ready
-])
+  least_next : (a : ℕ) → IsMarked s.marks a ⊎ Contains s.ready a
+      → (rank_in t.ranks a ≡ 0) ⊎ ((b : ℕ) × Edge g a b × (rank_in t.ranks a ≡ rank_in t.ranks b + 1))
+  least_next a (inl m) = elim (l.least a m) [
+    | inl e ↦ inl (kept a m ∙ e)
+    | inr found ↦ (let mark = (l.above a found.0 m found.1).0 in
+        inr (found.0, found.1, omega (arith, kept a m, kept found.0 mark, found.2)))
+  ]
+  least_next a (inr w) = elim (l.late a w) [
+    | inl e ↦ inl (r.ranked a w ∙ e)
+    | inr found ↦ (let mark = ((l.ready a).0 w).2 found.0 found.1 in
+        inr (found.0, found.1, omega (arith, r.ranked a w, kept found.0 mark, found.2)))
+  ]
 
-known_from : (g : Graph) (s t : Stage) → Levels g s → Round g s t → (a : ℕ) → Contains t.order a
-    → IsMarked s.marks a ⊎ Contains s.ready a
-known_from g s t l r a w =
-    elim (Contains-append_cases s.order s.ready a (subst (λ (xs : List ℕ). Contains xs a) r.appended w)) [
-      | inl old ↦ inl ((l.known a).1 old)
-      | inr ready ↦ inr ready
+  below_next : (a : ℕ) → IsMarked s.marks a ⊎ Contains s.ready a → rank_in t.ranks a < t.round
+  below_next a w = grind arith
+
+  late_next : (a : ℕ) → Contains t.ready a
+      → (t.round ≡ 0) ⊎ ((b : ℕ) × Edge g a b × (t.round ≡ rank_in t.ranks b + 1))
+  late_next a w = let into = ((r.members a).0 w).0 in
+      inr (into.0, into.2, omega (arith, r.next, r.ranked into.0 into.1))
+
+  -- a node with an edge to one that was ready had no rank, and was not ready itself
+  ready_to : (a : ℕ) → Contains t.ready a → IsReady g t.marks a
+  ready_to a w =
+      let is = (r.members a).0 w in
+      let into = is.0 in
+      let out : IsMarked s.marks into.0 → ⊥ = ((l.ready into.0).0 into.1).1 in (
+        edge_below g a into.0 into.2,
+        λ m. (elim ((r.marked a).0 m) [
+          | inl old ↦ out (l.above a into.0 old into.2).0
+          | inr ready ↦ out (((l.ready a).0 ready).2 into.0 into.2)
+        ]),
+        is.1,
+      )
+
+  -- a node that is ready now and was not before has an edge to one that was
+  ready_from : (a : ℕ) → IsReady g t.marks a → Contains t.ready a
+  ready_from a (h, out, all) = elim (row_cases g s.marks a) [
+    | inl before ↦ absurd (out ((r.marked a).1 (inr ((l.ready a).1 (h, (λ m. out ((r.marked a).1 (inl m))), before)))))
+    | inr found ↦ elim ((r.marked found.0).0 (all found.0 found.1)) [
+      | inl old ↦ absurd (found.2 old)
+      | inr ready ↦ (r.members a).1 ((found.0, ready, found.1), all)
     ]
+  ]
 
-pub levels_next : (g : Graph) (s t : Stage) → Levels g s → Round g s t → Levels g t
-levels_next g s t l r = record {
-  room = r.marks_size ∙ l.room;
-  size = r.ranks_size ∙ l.size;
-  known = λ a. (λ m. known_to g s t l r a ((r.marked a).0 m), λ w. (r.marked a).1 (known_from g s t l r a w));
-  rises = r.rises;
-  ready = λ a. (ready_to g s t l r a, ready_from g s t l r a);
-  passed = r.passed;
-  few = (let long : length t.order ≡ length s.order + length s.ready =
-      ap length r.appended ∙ length-append s.order s.ready in
-      omega (arith, l.few, r.some, r.next, long));
-  above = λ a b m. above_next g s t l r a b ((r.marked a).0 m);
-  least = λ a m. least_next g s t l r a ((r.marked a).0 m);
-  below = λ a m. below_next g s t l r a ((r.marked a).0 m);
-  late = late_next g s t r;
-  ordered = ordered_next g s t l r;
-}
+  ordered_case : (k : ℕ) → k + 1 < length s.order + length s.ready
+      → (k + 1 < length s.order) ⊎ (length s.order ≤ k + 1) → (k < length s.order) ⊎ (length s.order ≤ k)
+      → IsBefore t.ranks (get_or (s.order ++ s.ready) k 0) (get_or (s.order ++ s.ready) (k + 1) 0)
+  ordered_case k h (inl inside) near =
+      let at : k < length s.order = omega arith in
+      let first = kept (get_or s.order k 0)
+      ((l.known (get_or s.order k 0)).1 (Contains-get_or s.order k 0 at)) in
+      let second = kept (get_or s.order (k + 1) 0)
+      ((l.known (get_or s.order (k + 1) 0)).1 (Contains-get_or s.order (k + 1) 0 inside)) in
+      rw (order_left s.order s.ready k at, order_left s.order s.ready (k + 1) inside)
+      (before_same s.ranks t.ranks (get_or s.order k 0) (get_or s.order (k + 1) 0) first second (l.ordered k inside))
+  ordered_case k h (inr over) (inl at) =
+      let mark = (l.known (get_or s.order k 0)).1 (Contains-get_or s.order k 0 at) in
+      let same = kept (get_or s.order k 0) mark in
+      let small = l.below (get_or s.order k 0) mark in
+      let position : k + 1 - length s.order < length s.ready = omega arith in
+      let rank = r.ranked (get_or s.ready (k + 1 - length s.order) 0)
+      (Contains-get_or s.ready (k + 1 - length s.order) 0 position) in
+      rw (order_left s.order s.ready k at, order_right s.order s.ready (k + 1) over)
+      (inl (omega (arith, same, small, rank)))
+  ordered_case k h (inr over) (inr at) =
+      let position : k - length s.order + 1 < length s.ready = omega arith in
+      let next : k + 1 - length s.order ≡ k - length s.order + 1 = omega arith in
+      let first = r.ranked (get_or s.ready (k - length s.order) 0)
+      (Contains-get_or s.ready (k - length s.order) 0 (omega arith)) in
+      let second = r.ranked (get_or s.ready (k - length s.order + 1) 0)
+      (Contains-get_or s.ready (k - length s.order + 1) 0 position) in
+      rw (
+        order_right s.order s.ready k at,
+        order_right s.order s.ready (k + 1) over ∙ ap (λ j. get_or s.ready j 0) next,
+      )
+      (inr (first ∙ sym second, l.rises (k - length s.order) position))
+
+  ordered_next : (k : ℕ) → k + 1 < length t.order → IsBefore t.ranks (get_or t.order k 0) (get_or t.order (k + 1) 0)
+  ordered_next k h = grind (arith, length-append, ordered_case)
+
+  known_to : (a : ℕ) → IsMarked s.marks a ⊎ Contains s.ready a → Contains t.order a
+  known_to a w = subst (λ (xs : List ℕ). Contains xs a) (sym r.appended) (elim w [
+    | inl m ↦ Contains-append_left s.order s.ready a ((l.known a).0 m)
+    | inr ready ↦ Contains-append_right s.order s.ready a ready
+  ])
+
+  known_from : (a : ℕ) → Contains t.order a → IsMarked s.marks a ⊎ Contains s.ready a
+  known_from a w =
+      elim (Contains-append_cases s.order s.ready a (subst (λ (xs : List ℕ). Contains xs a) r.appended w)) [
+        | inl old ↦ inl ((l.known a).1 old)
+        | inr ready ↦ inr ready
+      ]
+
+  pub levels_next : Levels g t
+  levels_next = record {
+    room = r.marks_size ∙ l.room;
+    size = r.ranks_size ∙ l.size;
+    known = λ a. (λ m. known_to a ((r.marked a).0 m), λ w. (r.marked a).1 (known_from a w));
+    rises = r.rises;
+    ready = λ a. (ready_to a, ready_from a);
+    passed = r.passed;
+    few = (let long : length t.order ≡ length s.order + length s.ready =
+        ap length r.appended ∙ length-append s.order s.ready in
+        omega (arith, l.few, r.some, r.next, long));
+    above = λ a b m. above_next a b ((r.marked a).0 m);
+    least = λ a m. least_next a ((r.marked a).0 m);
+    below = λ a m. below_next a ((r.marked a).0 m);
+    late = late_next;
+    ordered = ordered_next;
+  }
 
 -- ---- no node stands twice in the order
-
-before_other : (ranks : List ℕ) (a b : ℕ) → IsBefore ranks a b → a ≡ b → ⊥
-before_other ranks a b w e = grind arith
-
-before_by : (g : Graph) (s : Stage) → Levels g s → (i d : ℕ) → i + suc d < length s.order
-    → IsBefore s.ranks (get_or s.order i 0) (get_or s.order (i + suc d) 0)
-before_by g s l i zero h = l.ordered i h
-before_by g s l i (suc d) h =
-    before_trans s.ranks (get_or s.order i 0) (get_or s.order (i + suc d) 0) (get_or s.order (i + suc (suc d)) 0)
-    (before_by g s l i d (omega arith))
-    (subst (λ j. IsBefore s.ranks (get_or s.order (i + suc d) 0) (get_or s.order j 0)) (omega arith)
-    (l.ordered (i + suc d) (omega arith)))
 
 apart : (g : Graph) (s : Stage) → Levels g s → (i j d : ℕ) → i < j → j < length s.order
     → eqb (get_or s.order i d) (get_or s.order j d) ≡ false
 apart g s l i j d less inside =
-    let split : i + suc (j - i - 1) ≡ j = omega arith in
-    let before : IsBefore s.ranks (get_or s.order i 0) (get_or s.order j 0) =
-    subst (λ k. IsBefore s.ranks (get_or s.order i 0) (get_or s.order k 0)) split
-    (before_by g s l i (j - i - 1) (omega arith)) in
     let first : get_or s.order i d ≡ get_or s.order i 0 = default_same s.order i d 0 (omega arith) in
     let second : get_or s.order j d ≡ get_or s.order j 0 = default_same s.order j d 0 inside in
     ne_eqb (get_or s.order i d) (get_or s.order j d)
-    (λ e. before_other s.ranks (get_or s.order i 0) (get_or s.order j 0) before (sym first ∙ e ∙ second))
+    (λ e. before_differs s.ranks (get_or s.order i 0) (get_or s.order j 0)
+    (before_apart s.ranks s.order l.ordered i j less inside) (sym first ∙ e ∙ second))
 
 order_distinct : (g : Graph) (s : Stage) → Levels g s → IsDistinct eqb s.order
 order_distinct g s l = IsDistinct-from_apart eqb s.order (apart g s l)

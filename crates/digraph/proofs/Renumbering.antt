@@ -1,6 +1,6 @@
 -- Laws of positions in an order.
 use Rattle.digraph.proofs.Gathering.{below_more}
-use Rattle.std.proofs.Common.{◌≡◌, ◌≢◌, ◌∙◌, sym, ℕ, zero, suc, ◌+◌, ◌-◌, ◌<◌, ◌≤◌, List, [], ◌∷◌, ◌++◌, length, map, get_or, ap, refl, subst, arith, inl, inr, ◌⊎◌, get_or-set_same, get_or-set_other}
+use Rattle.std.proofs.Common.{◌≡◌, ◌≢◌, ◌∙◌, sym, ℕ, zero, suc, ◌+◌, ◌<◌, ◌≤◌, List, [], ◌∷◌, ◌++◌, length, map, get_or, ap, refl, subst, arith, inl, inr, ◌⊎◌, get_or-set_same, get_or-set_other}
 use Rattle.std.specs.Prelude.{Contains, ◌↔◌}
 use Rattle.std.specs.List.Sorted.{IsPermutation}
 use Rattle.std.proofs.Math.ListN.{set, length-set}
@@ -22,25 +22,25 @@ use Rattle.digraph.proofs.Visiting.{no_position}
 pub before_trans : (ranks : List ℕ) (a b c : ℕ) → IsBefore ranks a b → IsBefore ranks b c → IsBefore ranks a c
 before_trans ranks a b c w v = grind arith
 
-before_by : (ranks order : List ℕ) → IsRankOrder ranks order → (i d : ℕ) → i + suc d < length order
-    → IsBefore ranks (node_at order i) (node_at order (i + suc d))
-before_by ranks order o i zero h = o.rises i h
-before_by ranks order o i (suc d) h =
-    let first = before_by ranks order o i d (omega arith) in
-    let step : IsBefore ranks (node_at order (i + suc d)) (node_at order (i + suc d + 1)) =
-    o.rises (i + suc d) (omega arith) in
-    let at : i + suc d + 1 ≡ i + suc (suc d) = omega arith in
-    subst (λ k. IsBefore ranks (node_at order i) (node_at order k)) at
-    (before_trans ranks (node_at order i) (node_at order (i + suc d)) (node_at order (i + suc d + 1)) first step)
+module _ (ranks order : List ℕ)
+    (rises : (k : ℕ) → k + 1 < length order → IsBefore ranks (node_at order k) (node_at order (k + 1))) where
+  pub before_apart : (i j : ℕ) → i < j → j < length order → IsBefore ranks (node_at order i) (node_at order j)
+  before_apart i zero h inside = absurd (omega arith)
+  before_apart i (suc j) h inside =
+      let next : j + 1 ≡ suc j = omega arith in
+      let step = subst (λ k. IsBefore ranks (node_at order j) (node_at order k)) next (rises j (omega arith)) in
+      elim (cases_lt i j) [
+        | inl less ↦ before_trans ranks (node_at order i) (node_at order j) (node_at order (suc j))
+            (before_apart i j less (omega arith)) step
+        | inr over ↦ let at : j ≡ i = omega arith in
+            subst (λ k. IsBefore ranks (node_at order k) (node_at order (suc j))) at step
+      ]
 
 pub before_far : (ranks order : List ℕ) → IsRankOrder ranks order → (i j : ℕ) → i < j → j < length order
     → IsBefore ranks (node_at order i) (node_at order j)
-before_far ranks order o i j h inside =
-    let split : i + suc (j - i - 1) ≡ j = omega arith in
-    subst (λ k. IsBefore ranks (node_at order i) (node_at order k)) split
-    (before_by ranks order o i (j - i - 1) (omega arith))
+before_far ranks order o = before_apart ranks order o.rises
 
-before_differs : (ranks : List ℕ) (a b : ℕ) → IsBefore ranks a b → a ≢ b
+pub before_differs : (ranks : List ℕ) (a b : ℕ) → IsBefore ranks a b → a ≢ b
 before_differs ranks a b w e = grind arith
 
 -- ---- positions

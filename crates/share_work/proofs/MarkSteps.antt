@@ -1,13 +1,14 @@
 -- Each kind of step keeps the rule of the marks.
+use Rattle.share_work.proofs.Sums.{only_one, sum_by-map}
 use Rattle.std.proofs.lemmas.Grind.{common_steps}
-use Rattle.std.proofs.Common.{◌≡◌, ℕ, zero, suc, ◌+◌, ◌-◌, ◌^◌, ◌<◌, ◌≤◌, ◌⊎◌, inl, inr, ⊎_elim, Bool, true, cond, ltb, List, [], ◌∷◌, ◌++◌, length, set, slice_index, sym, refl, ap, ◌∙◌, subst, arith, min, get_or-set_same, append-nil}
+use Rattle.std.proofs.Common.{◌≡◌, ℕ, zero, suc, ◌+◌, ◌-◌, ◌^◌, ◌<◌, ◌≤◌, ◌⊎◌, inl, inr, ⊎_elim, Bool, true, cond, ltb, List, [], ◌∷◌, ◌++◌, length, set, slice_index, sym, refl, ap, ◌∙◌, subst, arith, min, get_or-set_same}
 use Rattle.std.specs.Prelude.{Option, None, Some as just, Contains}
 use Rattle.std.specs.List.{sum_by}
 use Rattle.std.proofs.lemmas.Bool.{lt-ltb}
 use Rattle.std.proofs.lemmas.List.{set-get_or}
 use Rattle.std.proofs.lemmas.List.Elements.{Contains-append_left, Contains-append_right, Contains-append_cases}
 use Rattle.std.proofs.lemmas.List.Sums.{sum_by-cons, sum_by-append, sum_by_push}
-use mathlib.Core.Option.{some, some-injective, some-ne-none}
+use mathlib.Core.Option.{some}
 use lib.ListN.{get_elem?}
 use Rattle.atomic_table.specs.Table.{State, keeps, Allows, Splits, Joins, Final, Seen}
 use Rattle.atomic_table.proofs.Lists.{at_set, at_snoc, at_map, set_again}
@@ -443,37 +444,6 @@ pub mark_joins : (count : ℕ) (list : ℕ → List ℕ) (id : ℕ) (v : MarkVie
 mark_joins count list id v other w pos none none' s k at apart at' =
     IsMarked-join count list s.words s.views id v at pos k none other w none' at' apart
 
--- where one view has all the parts, the others have no marks and owe nothing
-none_left : (list : ℕ → List ℕ) (views : List MarkView) → EmptyIfSpent views
-    → sum_by (λ (u : View). u.parts) (all_views views) ≡ 0
-    → (all_marks views ≡ []) × (all_owed list views ≡ [])
-none_left list [] empty e = (refl, refl)
-none_left list (u ∷ us) empty e =
-    let parts = sum_by-cons (λ (u : View). u.parts) u.least (all_views us) in
-    let here = empty 0 u refl (omega arith) in
-    let rest = none_left list us (λ id w at. empty (suc id) w at) (omega arith) in
-    ((λ i. here.0 i ++ rest.0 i), λ i. owed_by list (here.1 i) ++ rest.1 i)
-
-only_one : (list : ℕ → List ℕ) (views : List MarkView) (id : ℕ) (v : MarkView) → get_elem? views id ≡ some v
-    → EmptyIfSpent views
-    → sum_by (λ (u : View). u.parts) (all_views views) ≡ v.least.parts
-    → (all_marks views ≡ v.marks) × (all_owed list views ≡ owed_of list v)
-only_one list [] id v at empty e = absurd (some-ne-none v (sym at))
-only_one list (u ∷ us) zero v at empty e =
-    let same = some-injective u v at in let parts = sum_by-cons (λ (u : View). u.parts) u.least (all_views us) in
-    let rest = none_left list us (λ id w a. empty (suc id) w a)
-    (omega (arith, ap (λ (y : MarkView). y.least.parts) same)) in (
-      (λ i. (same i).marks ++ rest.0 i) ∙ append-nil v.marks,
-      (λ i. owed_of list (same i) ++ rest.1 i)
-          ∙ append-nil (owed_of list v),
-    )
-only_one list (u ∷ us) (suc id) v at empty e =
-    let parts = sum_by-cons (λ (u : View). u.parts) u.least (all_views us) in let mine =
-    sum_by-at (λ (u : View). u.parts) (all_views us) id v.least (at_view us id v at) in
-    let here = empty 0 u refl (omega arith) in
-    let rest = only_one list us id v at (λ j w a. empty (suc j) w a) (omega arith) in
-    ((λ i. here.0 i ++ rest.0 i), λ i. owed_by list (here.1 i) ++ rest.1 i)
-
 pub record IsMarkClosed (count : ℕ) (list : ℕ → List ℕ) (words : List ℕ) (v : MarkView) : Type 0 where
   pub size : length words ≡ count + 1
   pub least : (w : ℕ) → w < count → slice_index words (w + 1) ≡ least_at w (marked_posts list v.marks)
@@ -486,7 +456,11 @@ pub mark_closes : (count : ℕ) (list : ℕ → List ℕ) (id : ℕ) (v : MarkVi
     → Final (Seen (mark_holds count list) id v) ws xs → IsMarkClosed count list ws v
 mark_closes count list id v ws xs all none f =
     let s = f.0 in let k : IsMarked count list s.words s.views = f.1.0 in
-    let only = only_one list s.views id v f.1.1 k.empty (omega (arith, k.kept.parts)) in
+    let parts = sum_by-map (λ (u : View). u.parts) (λ (u : MarkView). u.least) s.views in
+    let marks = only_one (λ (u : MarkView). u.least.parts) (λ u. u.marks) s.views id v f.1.1
+    (λ i u a z. (k.empty i u a z).0) (omega (arith, k.kept.parts)) in
+    let owed = only_one (λ (u : MarkView). u.least.parts) (owed_of list) s.views id v f.1.1
+    (λ i u a z. ap (owed_by list) (k.empty i u a z).1) (omega (arith, k.kept.parts)) in
     let base = closes count id v.least ws xs all (
       record { words = s.words; homes = s.homes; views = all_views s.views },
       (k.kept, at_view s.views id v f.1.1),
@@ -514,9 +488,9 @@ mark_closes count list id v ws xs all none f =
           ⊎_elim (λ le. omega (arith, m.2))
           (λ (o : (y : ℕ) × Contains (all_owed list s.views) (w, y) × (y ≤ slice_index s.words (t.0 + 1))).
           absurd (none_in (w, o.0)
-          (subst (λ l. Contains l (w, o.0)) (only.1 ∙ ap (λ (y : Option Debt). owed_by list y) none) o.1)))
+          (subst (λ l. Contains l (w, o.0)) (owed ∙ ap (λ (y : Option Debt). owed_by list y) none) o.1)))
           (k.spread t.0 w m.0 t.2 (omega (arith, m.1, m.2)))) in
-          omega (arith, word, low, high, ap (λ (l : List (ℕ × ℕ)). least_at w (marked_posts list l)) only.0);
+          omega (arith, word, low, high, ap (λ (l : List (ℕ × ℕ)). least_at w (marked_posts list l)) marks);
       posted = base.least;
       legal = base.legal;
       told = base.told;

@@ -1,12 +1,13 @@
 -- Each kind of step keeps the rule.
-use Rattle.std.proofs.Common.{◌≡◌, ◌≢◌, ℕ, zero, suc, ◌+◌, ◌-◌, ◌^◌, ◌<◌, ◌≤◌, ◌⊎◌, inl, inr, ⊎_elim, List, [], ◌∷◌, ◌++◌, length, set, slice_index, sym, refl, ap, ◌∙◌, subst, arith, min, length-set, get_or-set_same, get_or-set_other, append-nil}
+use Rattle.share_work.proofs.Sums.{only_one}
+use Rattle.std.proofs.Common.{◌≡◌, ◌≢◌, ℕ, ◌+◌, ◌-◌, ◌^◌, ◌<◌, ◌≤◌, ◌⊎◌, inl, inr, ⊎_elim, List, [], ◌∷◌, ◌++◌, length, set, slice_index, sym, refl, ap, ◌∙◌, subst, arith, min, length-set, get_or-set_same, get_or-set_other}
 use Rattle.std.specs.Prelude.{Contains}
 use Rattle.std.specs.List.{sum_by}
 use Rattle.std.proofs.lemmas.Bool.{cases_eq}
 use Rattle.std.proofs.lemmas.List.{set-get_or}
 use Rattle.std.proofs.lemmas.List.Elements.{Contains-append_cases}
 use Rattle.std.proofs.lemmas.List.Sums.{sum_by-cons, sum_by-append, sum_by_push}
-use mathlib.Core.Option.{some, some-injective, some-ne-none}
+use mathlib.Core.Option.{some}
 use lib.ListN.{get_elem?}
 use Rattle.atomic_table.specs.Table.{State, keeps, Allows, Splits, Joins, Final, Seen}
 use Rattle.atomic_table.proofs.Lists.{at_set, at_snoc, set_again}
@@ -263,30 +264,6 @@ pub joins : (count id : ℕ) (v : View) (other : ℕ) (w : View) → 0 < v.parts
     → Joins (holds count) id v other w (both_of v w) spent
 joins count id v other w pos s k at apart at' = IsKept-join count s.words s.views id v at pos k other w at'
 
--- where one view has all the parts, the others have no calls and were told nothing
-none_left : (views : List View) → SpentIsEmpty views → sum_by (λ (u : View). u.parts) views ≡ 0
-    → (all_calls views ≡ []) × (all_told views ≡ [])
-none_left [] empty e = (refl, refl)
-none_left (u ∷ us) empty e =
-    let parts = sum_by-cons (λ (u : View). u.parts) u us in
-    let here = empty 0 u refl (omega arith) in
-    let rest = none_left us (λ id w at. empty (suc id) w at) (omega arith) in
-    ((λ i. here.0 i ++ rest.0 i), λ i. here.1 i ++ rest.1 i)
-
-only_one : (views : List View) (id : ℕ) (v : View) → get_elem? views id ≡ some v → SpentIsEmpty views
-    → sum_by (λ (u : View). u.parts) views ≡ v.parts
-    → (all_calls views ≡ v.calls) × (all_told views ≡ v.told)
-only_one [] id v at empty e = absurd (some-ne-none v (sym at))
-only_one (u ∷ us) zero v at empty e =
-    let same = some-injective u v at in let parts = sum_by-cons (λ (u : View). u.parts) u us in
-    let rest = none_left us (λ id w a. empty (suc id) w a) (omega (arith, ap (λ (y : View). y.parts) same)) in
-    ((λ i. (same i).calls ++ rest.0 i) ∙ append-nil v.calls, (λ i. (same i).told ++ rest.1 i) ∙ append-nil v.told)
-only_one (u ∷ us) (suc id) v at empty e =
-    let parts = sum_by-cons (λ (u : View). u.parts) u us in let mine = sum_by-at (λ (u : View). u.parts) us id v at in
-    let here = empty 0 u refl (omega arith) in
-    let rest = only_one us id v at (λ j w a. empty (suc j) w a) (omega arith) in
-    ((λ i. here.0 i ++ rest.0 i), λ i. here.1 i ++ rest.1 i)
-
 -- the words of a table that was closed with the whole view
 pub record IsClosed (count : ℕ) (words : List ℕ) (v : View) : Type 0 where
   pub size : length words ≡ count + 1
@@ -298,12 +275,15 @@ pub closes : (count id : ℕ) (v : View) (ws : List ℕ) (xs : List (Unit {0})) 
     → Final (Seen (holds count) id v) ws xs → IsClosed count ws v
 closes count id v ws xs all f =
     let s = f.0 in let k : IsKept count s.words s.views = f.1.0 in
-    let only = only_one s.views id v f.1.1 k.spent (omega (arith, k.parts)) in
+    let calls = only_one (λ (u : View). u.parts) (λ u. u.calls) s.views id v f.1.1 (λ i u a z. (k.spent i u a z).0)
+    (omega (arith, k.parts)) in
+    let told = only_one (λ (u : View). u.parts) (λ u. u.told) s.views id v f.1.1 (λ i u a z. (k.spent i u a z).1)
+    (omega (arith, k.parts)) in
     let ws_is : s.words ≡ ws = f.2 in
     let P : List ℕ → List Call → List (ℕ × ℕ) → Type 0 =
     λ l c t. (length l ≡ count + 1) × ((w : ℕ) → w < count → slice_index l (w + 1) ≡ least_at w (posts_of c))
     × IsLegal c × IsPosted t c in
     let was : P s.words (all_calls s.views) (all_told s.views) = (k.size, k.least, k.legal, k.told) in
     let now : P ws v.calls v.told = subst (λ (y : List ℕ × List Call × List (ℕ × ℕ)). P y.0 y.1 y.2)
-    (λ i. (ws_is i, only.0 i, only.1 i)) was in
+    (λ i. (ws_is i, calls i, told i)) was in
     record { size = now.0; least = now.1; legal = now.2; told = now.3 }

@@ -1,4 +1,5 @@
 -- Members of lists, and sums over the lists of all views.
+use Rattle.std.proofs.Common.{append-nil, ◌++◌}
 use Rattle.std.proofs.lemmas.Grind.{common_steps}
 use Rattle.std.proofs.Common.{◌≡◌, ℕ, zero, suc, ◌+◌, ◌<◌, ◌≤◌, ◌⊎◌, inl, inr, Bool, true, false, cond, eqb, ◌&&◌, List, [], ◌∷◌, map, set, sym, refl, ap, ◌∙◌, subst, arith, filter, ⊎_elim}
 use Rattle.std.specs.Prelude.{All, AllPairs, Contains}
@@ -99,6 +100,35 @@ pub sum_by-at : {A : Type 0} (f : A → ℕ) (xs : List A) (i : ℕ) (v : A) →
 sum_by-at f [] i v e = absurd (some-ne-none v (sym e))
 sum_by-at f (x ∷ xs) zero v e = omega (arith, sum_by-cons f x xs, ap f (some-injective x v e))
 sum_by-at f (x ∷ xs) (suc i) v e = omega (arith, sum_by-cons f x xs, sum_by-at f xs i v e)
+
+pub sum_by-map : {A B : Type 0} (f : B → ℕ) (g : A → B) (xs : List A) → sum_by f (map g xs) ≡ sum_by (λ x. f (g x)) xs
+sum_by-map f g [] = refl
+sum_by-map f g (x ∷ xs) =
+    omega (arith, sum_by-cons f (g x) (map g xs), sum_by-cons (λ y. f (g y)) x xs, sum_by-map f g xs)
+
+-- where one view has all the parts, and a view without parts has no items, all items are that view's
+module _ {V A : Type 0} (parts : V → ℕ) (items : V → List A) where
+  abbrev EmptyIfSpent : List V → Type 0
+  EmptyIfSpent views = (id : ℕ) (v : V) → get_elem? views id ≡ some v → parts v ≡ 0 → items v ≡ []
+
+  none_left : (views : List V) → EmptyIfSpent views → sum_by parts views ≡ 0 → flat_map items views ≡ []
+  none_left [] empty e = refl
+  none_left (u ∷ us) empty e =
+      let sum = sum_by-cons parts u us in
+      let here = empty 0 u refl (omega arith) in
+      let rest = none_left us (λ id w at. empty (suc id) w at) (omega arith) in λ i. here i ++ rest i
+
+  pub only_one : (views : List V) (id : ℕ) (v : V) → get_elem? views id ≡ some v → EmptyIfSpent views
+      → sum_by parts views ≡ parts v → flat_map items views ≡ items v
+  only_one [] id v at empty e = absurd (some-ne-none v (sym at))
+  only_one (u ∷ us) zero v at empty e =
+      let same = some-injective u v at in let sum = sum_by-cons parts u us in
+      let rest = none_left us (λ id w a. empty (suc id) w a) (omega (arith, ap parts same)) in
+      (λ i. items (same i) ++ rest i) ∙ append-nil (items v)
+  only_one (u ∷ us) (suc id) v at empty e =
+      let sum = sum_by-cons parts u us in let mine = sum_by-at parts us id v at in
+      let here = empty 0 u refl (omega arith) in
+      let rest = only_one us id v at (λ j w a. empty (suc j) w a) (omega arith) in λ i. here i ++ rest i
 
 module _ {A : Type 0} (p : A → Bool) where
   pub count_by-no : (x : A) (xs : List A) → p x ≡ false → count_by p (x ∷ xs) ≡ count_by p xs

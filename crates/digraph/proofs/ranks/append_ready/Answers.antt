@@ -1,6 +1,6 @@
-use Rattle.std.proofs.Common.{◌≡◌, ◌∙◌, ap, sym, subst, ℕ, List, length, get_or, arith, refl, Vec, Global}
+use Rattle.std.proofs.lemmas.Grind.{common_steps}
+use Rattle.std.proofs.Common.{◌≡◌, ◌∙◌, ap, subst, ℕ, List, length, get_or, arith, refl, Vec, Global}
 use Rattle.std.specs.Prelude.{Contains}
-use Rattle.std.proofs.lemmas.List.Elements.{Contains-get_or}
 use Rattle.digraph.specs.Edges.{graph_of, successors}
 use Rattle.digraph.specs.Rounds.{IsPassed, Stops}
 use Rattle.digraph.proofs.Rounding.{appending_none, appending_push, appending_skip, appending_all, passed_all, stopped}
@@ -15,20 +15,14 @@ loop-node-init c =
     (λ a w. (let below = c.requires.nodes a w in omega (arith, below, length_graph c.args.graph.now))) c.requires.passed
 
 pub row-successors-requires : goal.row-successors-requires
-row-successors-requires c =
-    c.requires.nodes (get_or c.args.nodes.now c.loop-node.node-index 0)
-    (Contains-get_or c.args.nodes.now c.loop-node.node-index 0 (omega arith))
+row-successors-requires c = grind (arith, common_steps)
 
 pub pass-count-requires-clause-room : goal.pass-count-requires-clause-room
 pass-count-requires-clause-room c b w =
     c.requires.within _ b (subst (λ (xs : List ℕ). Contains xs b) c.row-successors.ensures w)
 
 pub pass-count-requires-clause-passed : goal.pass-count-requires-clause-passed
-pass-count-requires-clause-passed c =
-    let node = get_or c.args.nodes.now c.loop-node.node-index 0 in
-    subst (λ (row : List ℕ). IsPassed c.args.marks.now row (get_or c.loop-node.passed node 0))
-    (sym c.row-successors.ensures)
-    (c.loop-node.invariant.are.each node)
+pass-count-requires-clause-passed c = grind (arith, common_steps)
 
 pub loop-node-preserved : goal.loop-node-preserved
 loop-node-preserved c =

@@ -1,3 +1,4 @@
+use Rattle.std.proofs.lemmas.Grind.{common_steps}
 use Rattle.std.proofs.Common.{ℕ, List, get_or, arith, subst}
 use Rattle.std.specs.Prelude.{Contains}
 use Rattle.std.proofs.lemmas.List.Filters.{dedup_is}
@@ -6,14 +7,12 @@ use Rattle.std.proofs.lemmas.List.Sorted.{Contains-permutation, IsPermutation-sy
 use Rattle.std.proofs.lemmas.Map.Keys.{IsStrictlyIncreasing-dedup}
 use Rattle.std.proofs.lemmas.List.Elements.{Contains-get_or}
 use Rattle.digraph.specs.Edges.{Edge, graph_of}
-use Rattle.digraph.proofs.Rounding.{collecting_none, collecting_more, collecting_all}
+use Rattle.digraph.proofs.Rounding.{collecting_more, collecting_all}
 use Rattle.digraph.proofs.Rows.{edge_below, length_graph}
 use Rattle.digraph.proofs.ranks.next_ready.Goals as goal
 
 pub loop-node-init : goal.loop-node-init
-loop-node-init c = collecting_none (graph_of c.args.graph.now) c.args.marks.now c.args.settled.now c.args.passed.now
-    c.new-ready.result.items
-    c.new-ready.ensures.items c.requires.passed
+loop-node-init c = grind (arith, common_steps)
 
 pub row-requires : goal.row-requires
 row-requires c =

@@ -1,10 +1,8 @@
-use Rattle.std.proofs.Common.{◌≡◌, ◌∙◌, ap, sym, subst, ℕ, ◌+◌, ◌<◌, List, [], ◌++◌, length, length-append, arith, refl, inl, Vec, Global}
-use Rattle.std.specs.Prelude.{Bool, Contains, ◌↔◌}
+use Rattle.std.proofs.lemmas.Grind.{common_steps}
+use Rattle.std.proofs.Common.{◌≡◌, ◌∙◌, ap, sym, subst, ℕ, ◌+◌, ◌<◌, List, [], ◌++◌, length, length-append, arith, refl, Vec, Global}
+use Rattle.std.specs.Prelude.{Contains, ◌↔◌}
 use Rattle.digraph.specs.Edges.{graph_of, Edge, successors}
-use Rattle.digraph.specs.Marks.{IsMarked}
-use Rattle.digraph.specs.Rounds.{ArePassed}
 use Rattle.digraph.proofs.Levels.{Stage, all_zero, levels_start, levels_next, levels_ranked, levels_order, levels_stuck, round_of, round_shorter, ready_below}
-use Rattle.digraph.proofs.Rounding.{passed_grows}
 use Rattle.digraph.proofs.Rows.{written, length_graph}
 use Rattle.digraph.proofs.ranks.rank_nodes.Goals as goal
 
@@ -65,18 +63,7 @@ next_ready-requires-clause-settled c b w =
     )
 
 pub next_ready-requires-clause-passed : goal.next_ready-requires-clause-passed
-next_ready-requires-clause-passed c =
-    let g = graph_of c.args.graph.now in
-    let len : length c.settle.new.marks ≡ length c.loop-alloc.marks.items = omega (arith, c.deref_mut.ensures.len) in
-    let seen = c.deref-in-loop-alloc-3.ensures.value
-    ∙ written c.settle.new.marks c.loop-alloc.marks.items c.loop-alloc.marks.len c.loop-alloc.marks.ok.0 len in
-    let grown = passed_grows g c.loop-alloc.marks.items c.settle.new.marks c.loop-alloc.passed.items
-    (λ k m. (c.settle.ensures.marked k).1
-    (inl (subst (λ (ms : List Bool). IsMarked ms k) (sym c.deref_mut.ensures.value) m)))
-    c.loop-alloc.invariant.passed in
-    subst (λ (xs : List ℕ). ArePassed g c.deref-in-loop-alloc-3.result.now xs)
-    (sym c.deref_mut-in-loop-alloc-2.ensures.value)
-    (subst (λ (ms : List Bool). ArePassed g ms c.loop-alloc.passed.items) (sym seen) grown)
+next_ready-requires-clause-passed c = grind (arith, common_steps)
 
 pub loop-alloc-smaller : goal.loop-alloc-smaller
 loop-alloc-smaller c =

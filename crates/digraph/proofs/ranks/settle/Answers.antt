@@ -6,9 +6,7 @@ pub loop-node-init : goal.loop-node-init
 loop-node-init c = settled_none c.args.nodes.now c.args.rank c.args.marks.now c.args.ranks.now c.requires.room
 
 pub loop-node-preserved : goal.loop-node-preserved
-loop-node-preserved c = settled_more c.args.nodes.now c.args.rank c.args.marks.now c.args.ranks.now
-    c.loop-node.node-index c.loop-node.marks c.loop-node.ranks
-    (omega arith) c.loop-node.invariant
+loop-node-preserved c = grind (arith, settled_more)
 
 pub returns-clause-marked : goal.returns-clause-marked
 returns-clause-marked c = settled_marks c.args.nodes.now c.args.rank c.args.marks.now c.args.ranks.now
@@ -16,11 +14,7 @@ returns-clause-marked c = settled_marks c.args.nodes.now c.args.rank c.args.mark
     c.loop-node.ranks (omega arith) c.loop-node.invariant
 
 pub returns-clause-ranked : goal.returns-clause-ranked
-returns-clause-ranked c = settled_ranks c.args.nodes.now c.args.rank c.args.marks.now c.args.ranks.now
-    c.loop-node.node-index c.loop-node.marks
-    c.loop-node.ranks (omega arith) c.loop-node.invariant
+returns-clause-ranked c = grind (arith, settled_ranks)
 
 pub returns-clause-others : goal.returns-clause-others
-returns-clause-others c = settled_others c.args.nodes.now c.args.rank c.args.marks.now c.args.ranks.now
-    c.loop-node.node-index c.loop-node.marks
-    c.loop-node.ranks (omega arith) c.loop-node.invariant
+returns-clause-others c = grind (arith, settled_others)

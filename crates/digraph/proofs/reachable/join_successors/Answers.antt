@@ -1,8 +1,9 @@
+use Rattle.std.proofs.lemmas.Grind.{common_steps}
 use Rattle.std.proofs.Common.{◌≡◌, ◌+◌, ◌-◌, ℕ, List, length, sym, subst, arith}
 use Rattle.std.specs.Prelude.{Contains}
 use Rattle.digraph.specs.Edges.{graph_of}
 use Rattle.digraph.specs.ReachRows.{HasRowsJoined}
-use Rattle.digraph.proofs.Joining.{Succeeding, succeeding_none, succeeding_more, succeeding_all}
+use Rattle.digraph.proofs.Joining.{Succeeding, succeeding_none, succeeding_more}
 use Rattle.digraph.proofs.reachable.join_successors.Goals as goal
 
 pub loop-node-init : goal.loop-node-init
@@ -28,7 +29,4 @@ loop-node-preserved c =
     c.join_rows.ensures)
 
 pub returns : goal.returns
-returns c =
-    succeeding_all (graph_of c.args.graph.now) c.args.matrix.now c.loop-node.matrix
-    (subst (λ k. Succeeding (graph_of c.args.graph.now) c.args.matrix.now k c.loop-node.matrix)
-    (omega arith) c.loop-node.invariant)
+returns c = grind (arith, common_steps)

@@ -1,9 +1,10 @@
+use Rattle.std.proofs.lemmas.Grind.{common_steps}
 use Rattle.std.proofs.Common.{ℕ, List, subst, arith}
 use Rattle.std.specs.Prelude.{Contains}
 use Rattle.digraph.specs.Edges.{graph_of}
 use Rattle.digraph.specs.ReachRows.{HasRowPushed}
 use Rattle.digraph.specs.Renumbered.{node_at}
-use Rattle.digraph.proofs.Joining.{reaching_none, reaching_more, reaching_all}
+use Rattle.digraph.proofs.Joining.{reaching_none, reaching_more}
 use Rattle.digraph.proofs.reachable.reach_rows.Goals as goal
 
 pub loop-node-init : goal.loop-node-init
@@ -24,6 +25,4 @@ loop-node-preserved c =
     c.in_ok-push_joined.ensures)
 
 pub returns : goal.returns
-returns c =
-    reaching_all (graph_of c.args.graph.now) c.args.labels.now c.loop-node.node c.loop-node.matrix
-    (omega (arith, c.requires.size)) c.loop-node.invariant
+returns c = grind (arith, common_steps)

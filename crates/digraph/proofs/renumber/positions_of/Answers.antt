@@ -1,21 +1,15 @@
+use Rattle.std.proofs.lemmas.Grind.{common_steps}
 use Rattle.std.proofs.Common.{sym, subst, ℕ, List, arith}
 use Rattle.digraph.specs.Ranks.{IsRankOrder}
 use Rattle.digraph.specs.Renumbered.{ArePositions}
-use Rattle.digraph.proofs.Renumbering.{placed_none, placed_more, placed_all, inside_order}
+use Rattle.digraph.proofs.Renumbering.{placed_more, placed_all, inside_order}
 use Rattle.digraph.proofs.renumber.positions_of.Goals as goal
 
 pub loop-position-init : goal.loop-position-init
-loop-position-init c =
-    placed_none c.as_slice-order.result.now c.in_ok-positions.positions.items
-    (omega (arith, c.in_ok-positions.ensures.len, c.in_ok-positions.positions.ok.0))
+loop-position-init c = grind (arith, common_steps)
 
 pub index_mut-requires : goal.index_mut-requires
-index_mut-requires c =
-    let order : IsRankOrder c.args.ranking.now.ranks.items c.as_slice-order.result.now =
-    subst (IsRankOrder c.args.ranking.now.ranks.items) (sym c.as_slice-order.ensures.value) c.requires in
-    let inside = inside_order c.args.ranking.now.ranks.items c.as_slice-order.result.now order c.loop-position.position
-    c.loop-position-test.true in
-    omega (arith, inside, c.loop-position.invariant.size, c.loop-position.positions.ok.0)
+index_mut-requires c = grind (arith, inside_order)
 
 pub loop-position-preserved : goal.loop-position-preserved
 loop-position-preserved c = placed_more c.args.ranking.now.ranks.items c.as_slice-order.result.now

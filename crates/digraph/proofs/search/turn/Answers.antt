@@ -7,10 +7,7 @@ pub loop-successor-init : goal.loop-successor-init
 loop-successor-init c = turning_none c.args.nodes.now c.args.node c.args.rows.now c.requires.room
 
 pub loop-successor-preserved : goal.loop-successor-preserved
-loop-successor-preserved c = turning_more c.args.nodes.now c.args.node
-    (graph_of c.args.rows.now) c.loop-successor.successor-index c.loop-successor.rows
-    c.index-rows-successor.result c.push.new.self (omega arith) c.index-rows-successor.is c.in_ok-push.ensures.items
-    c.loop-successor.invariant
+loop-successor-preserved c = grind (arith, turning_more)
 
 pub returns : goal.returns
 returns c = turning_all c.args.nodes.now c.args.node (graph_of c.args.rows.now) c.loop-successor.successor-index
