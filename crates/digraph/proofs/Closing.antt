@@ -18,7 +18,7 @@ use Rattle.digraph.specs.Reaches.{IsReach, AreReaches, InLists, IsUnion, AreClos
 use Rattle.digraph.specs.Marks.{AreMarked, Among}
 use Rattle.digraph.proofs.Visiting.{no_position}
 use Rattle.digraph.proofs.Rising.{rises_push}
-use Rattle.digraph.proofs.Searching.{one_only}
+use Rattle.digraph.proofs.Rising.{one_only}
 use Rattle.digraph.proofs.Ways.{leads_trans, leads_le}
 
 -- c stands in the list of one of the first n nodes

@@ -18,6 +18,17 @@ joined_more f g h = grind arith
 pub joined_where : {A B M N O P Q : Type 0} → A ↔ (B ⊎ (O × Q)) → B ↔ (M × Q) → O ↔ P → N ↔ (M ⊎ P) → A ↔ (N × Q)
 joined_where f g e h = grind arith
 
+-- one more of what holds where S does
+pub joined_if : {A B P S : Type 0} → A ↔ (B ⊎ P) → S → A ↔ (B ⊎ (S × P))
+joined_if f s = grind arith
+
+pub joined_first : {B P S : Type 0} → (B → ⊥) → S → P ↔ (B ⊎ (S × P))
+joined_first out s = grind arith
+
+-- what is met is there already
+pub joined_again : {A I M N P : Type 0} → A ↔ (I ⊎ M) → N ↔ (M ⊎ P) → (P → A) → A ↔ (I ⊎ N)
+joined_again f g h = grind arith
+
 pub joined_end : {A I M N : Type 0} → A ↔ (I ⊎ M) → N ↔ M → A ↔ (I ⊎ N)
 joined_end f h = grind arith
 

@@ -8,7 +8,7 @@ use Rattle.bit_matrix.specs.Bits.{Bits, has}
 use Rattle.bit_matrix.specs.Changes.{Has, HasInserted, HasJoined, IsAsLarge, IsLonger, columns_of}
 use Rattle.digraph.specs.Edges.{Graph, Edge, IsFalling, successors}
 use Rattle.digraph.specs.Leads.{Leads, here, through}
-use Rattle.digraph.specs.ReachRows.{AreReachRows, HasRowPushed, HasRowsJoined, HaveSuccessorsJoined, InRows, LeadsToLabel}
+use Rattle.digraph.specs.ReachRows.{HasRowPushed, HasRowsJoined, InRows, LeadsToLabel}
 use Rattle.digraph.specs.Renumbered.{node_at}
 
 -- ---- bits that are as they were
@@ -138,10 +138,6 @@ module _ (g : Graph) (labels : List ℕ) (n : ℕ) (old new : Bits) (falls : IsF
   pub reaching_more : Reaching g labels (n + 1) new
   reaching_more = grind (arith, member)
 
-pub reaching_all : (g : Graph) (labels : List ℕ) (n : ℕ) (bits : Bits) → n ≡ length labels → Reaching g labels n bits
-    → AreReachRows g labels bits
-reaching_all g labels n bits e is = grind arith
-
 -- ---- each row with those of its successors
 
 -- the rows from n on are joined
@@ -186,6 +182,3 @@ module _ (g : Graph) (old : Bits) (n : ℕ) (now new : Bits) (falls : IsFalling 
 
   pub succeeding_more : Succeeding g old n new
   succeeding_more = grind (arith, rest, succeeding_member)
-
-pub succeeding_all : (g : Graph) (old new : Bits) → Succeeding g old 0 new → HaveSuccessorsJoined g old new
-succeeding_all g old new is = record { large = is.large; members = λ a k ha hk. is.members a k (omega arith) ha hk }

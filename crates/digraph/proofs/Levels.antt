@@ -1,14 +1,15 @@
 -- What the rounds keep that find the ranks.
-use Rattle.std.proofs.Common.{◌≡◌, ◌∙◌, sym, ℕ, ◌+◌, ◌-◌, ◌<◌, ◌≤◌, List, [], ◌∷◌, ◌++◌, length, get_or, ap, refl, subst, arith, inl, inr, ◌⊎◌, length-append}
+use Rattle.digraph.proofs.Visiting.{append_iff}
+use Rattle.digraph.proofs.Gathering.{joined_more}
+use Rattle.digraph.proofs.Rising.{steps_append}
+use Rattle.std.proofs.Common.{◌≡◌, ◌∙◌, sym, ℕ, ◌+◌, ◌<◌, ◌≤◌, List, [], ◌∷◌, ◌++◌, length, get_or, ap, refl, subst, arith, inl, inr, ◌⊎◌, length-append}
 use Rattle.std.specs.Prelude.{Bool, true, false, replicate, Contains, ◌↔◌}
 use Rattle.std.specs.Cmp.{nat_eq_equiv}
 use Rattle.std.specs.List.{IsDistinct, list_any}
 use Rattle.std.specs.List.Sorted.{IsStrictlyIncreasing}
-use Rattle.std.proofs.Math.ListN.{get_or-append}
-use Rattle.std.proofs.Math.Seq.{get_or-append_right}
 use Rattle.std.proofs.lemmas.Bool.{eqb-true, ne_eqb}
 use Rattle.std.proofs.lemmas.Grind.{common_steps}
-use Rattle.std.proofs.lemmas.List.Elements.{Contains-get_or, Contains-append_cases, Contains-append_left, Contains-append_right}
+use Rattle.std.proofs.lemmas.List.Elements.{Contains-get_or}
 use Rattle.std.proofs.lemmas.Map.Keys.{IsDistinct-from_apart}
 use Rattle.std.proofs.lemmas.Map.Steps.{length-le_from_distinct_below, le-length_from_below}
 use Rattle.std.proofs.lemmas.Map.Views.{Contains-from_any, list_any-from_Contains}
@@ -114,13 +115,6 @@ pub record Round (g : Graph) (s t : Stage) : Type 0 where
   pub rises : IsStrictlyIncreasing t.ready
   pub members : (a : ℕ) → Contains t.ready a ↔ (GoesInto g s.ready a × AllMarked g t.marks a)
 
-order_left : (order ready : List ℕ) (k : ℕ) → k < length order → get_or (order ++ ready) k 0 ≡ get_or order k 0
-order_left order ready k h = get_or-append order ready 0 k h
-
-order_right : (order ready : List ℕ) (k : ℕ) → length order ≤ k
-    → get_or (order ++ ready) k 0 ≡ get_or ready (k - length order) 0
-order_right order ready k h = get_or-append_right order ready k 0 h
-
 before_same : (ranks new_ranks : List ℕ) (a b : ℕ) → rank_in new_ranks a ≡ rank_in ranks a
     → rank_in new_ranks b ≡ rank_in ranks b → IsBefore ranks a b
     → IsBefore new_ranks a b
@@ -184,60 +178,20 @@ module _ (g : Graph) (s t : Stage) (l : Levels g s) (r : Round g s t) where
     ]
   ]
 
-  ordered_case : (k : ℕ) → k + 1 < length s.order + length s.ready
-      → (k + 1 < length s.order) ⊎ (length s.order ≤ k + 1) → (k < length s.order) ⊎ (length s.order ≤ k)
-      → IsBefore t.ranks (get_or (s.order ++ s.ready) k 0) (get_or (s.order ++ s.ready) (k + 1) 0)
-  ordered_case k h (inl inside) near =
-      let at : k < length s.order = omega arith in
-      let first = kept (get_or s.order k 0)
-      ((l.known (get_or s.order k 0)).1 (Contains-get_or s.order k 0 at)) in
-      let second = kept (get_or s.order (k + 1) 0)
-      ((l.known (get_or s.order (k + 1) 0)).1 (Contains-get_or s.order (k + 1) 0 inside)) in
-      rw (order_left s.order s.ready k at, order_left s.order s.ready (k + 1) inside)
-      (before_same s.ranks t.ranks (get_or s.order k 0) (get_or s.order (k + 1) 0) first second (l.ordered k inside))
-  ordered_case k h (inr over) (inl at) =
-      let mark = (l.known (get_or s.order k 0)).1 (Contains-get_or s.order k 0 at) in
-      let same = kept (get_or s.order k 0) mark in
-      let small = l.below (get_or s.order k 0) mark in
-      let position : k + 1 - length s.order < length s.ready = omega arith in
-      let rank = r.ranked (get_or s.ready (k + 1 - length s.order) 0)
-      (Contains-get_or s.ready (k + 1 - length s.order) 0 position) in
-      rw (order_left s.order s.ready k at, order_right s.order s.ready (k + 1) over)
-      (inl (omega (arith, same, small, rank)))
-  ordered_case k h (inr over) (inr at) =
-      let position : k - length s.order + 1 < length s.ready = omega arith in
-      let next : k + 1 - length s.order ≡ k - length s.order + 1 = omega arith in
-      let first = r.ranked (get_or s.ready (k - length s.order) 0)
-      (Contains-get_or s.ready (k - length s.order) 0 (omega arith)) in
-      let second = r.ranked (get_or s.ready (k - length s.order + 1) 0)
-      (Contains-get_or s.ready (k - length s.order + 1) 0 position) in
-      rw (
-        order_right s.order s.ready k at,
-        order_right s.order s.ready (k + 1) over ∙ ap (λ j. get_or s.ready j 0) next,
-      )
-      (inr (first ∙ sym second, l.rises (k - length s.order) position))
+  ordered_kept : (k : ℕ) → k + 1 < length s.order → IsBefore t.ranks (get_or s.order k 0) (get_or s.order (k + 1) 0)
+  ordered_kept k h = before_same s.ranks t.ranks (get_or s.order k 0) (get_or s.order (k + 1) 0)
+      (kept (get_or s.order k 0) ((l.known (get_or s.order k 0)).1 (Contains-get_or s.order k 0 (omega arith))))
+      (kept (get_or s.order (k + 1) 0) ((l.known (get_or s.order (k + 1) 0)).1 (Contains-get_or s.order (k + 1) 0 h)))
+      (l.ordered k h)
 
-  ordered_next : (k : ℕ) → k + 1 < length t.order → IsBefore t.ranks (get_or t.order k 0) (get_or t.order (k + 1) 0)
-  ordered_next k h = grind (arith, length-append, ordered_case)
-
-  known_to : (a : ℕ) → IsMarked s.marks a ⊎ Contains s.ready a → Contains t.order a
-  known_to a w = subst (λ (xs : List ℕ). Contains xs a) (sym r.appended) (elim w [
-    | inl m ↦ Contains-append_left s.order s.ready a ((l.known a).0 m)
-    | inr ready ↦ Contains-append_right s.order s.ready a ready
-  ])
-
-  known_from : (a : ℕ) → Contains t.order a → IsMarked s.marks a ⊎ Contains s.ready a
-  known_from a w =
-      elim (Contains-append_cases s.order s.ready a (subst (λ (xs : List ℕ). Contains xs a) r.appended w)) [
-        | inl old ↦ inl ((l.known a).1 old)
-        | inr ready ↦ inr ready
-      ]
+  ready_rank : (k : ℕ) → k < length s.ready → rank_in t.ranks (get_or s.ready k 0) ≡ s.round
+  ready_rank k h = r.ranked (get_or s.ready k 0) (Contains-get_or s.ready k 0 h)
 
   pub levels_next : Levels g t
   levels_next = record {
     room = r.marks_size ∙ l.room;
     size = r.ranks_size ∙ l.size;
-    known = λ a. (λ m. known_to a ((r.marked a).0 m), λ w. (r.marked a).1 (known_from a w));
+    known = λ a. joined_more (r.marked a) (l.known a) (rw r.appended (append_iff s.order s.ready a));
     rises = r.rises;
     ready = λ a. (ready_to a, ready_from a);
     passed = r.passed;
@@ -248,84 +202,82 @@ module _ (g : Graph) (s t : Stage) (l : Levels g s) (r : Round g s t) where
     least = λ a m. least_next a ((r.marked a).0 m);
     below = λ a m. below_next a ((r.marked a).0 m);
     late = late_next;
-    ordered = ordered_next;
+    ordered = rw r.appended (steps_append (IsBefore t.ranks) s.order s.ready ordered_kept
+        (λ k h. inr (ready_rank k (omega arith) ∙ sym (ready_rank (k + 1) h), l.rises k h))
+        (λ a b w v. (let m = (l.known a).1 w in inl (omega (arith, kept a m, l.below a m, r.ranked b v)))));
   }
 
 -- ---- no node stands twice in the order
 
-apart : (g : Graph) (s : Stage) → Levels g s → (i j d : ℕ) → i < j → j < length s.order
-    → eqb (get_or s.order i d) (get_or s.order j d) ≡ false
-apart g s l i j d less inside =
-    let first : get_or s.order i d ≡ get_or s.order i 0 = default_same s.order i d 0 (omega arith) in
-    let second : get_or s.order j d ≡ get_or s.order j 0 = default_same s.order j d 0 inside in
-    ne_eqb (get_or s.order i d) (get_or s.order j d)
-    (λ e. before_differs s.ranks (get_or s.order i 0) (get_or s.order j 0)
-    (before_apart s.ranks s.order l.ordered i j less inside) (sym first ∙ e ∙ second))
-
-order_distinct : (g : Graph) (s : Stage) → Levels g s → IsDistinct eqb s.order
-order_distinct g s l = IsDistinct-from_apart eqb s.order (apart g s l)
-
 found_in : (xs : List ℕ) (q : ℕ) → list_any (eqb q) xs ≡ true → Contains xs q
 found_in xs q e = Contains-from_any (λ a b h. eqb-true a b h) q xs e
 
-in_order : (g : Graph) (s : Stage) → Levels g s → (q : ℕ) → Contains s.order q → q < length g
-in_order g s l q w = let m = (l.known q).1 w in omega (arith, m.0, l.room)
+module _ (g : Graph) (s : Stage) (l : Levels g s) where
+  apart : (i j d : ℕ) → i < j → j < length s.order → eqb (get_or s.order i d) (get_or s.order j d) ≡ false
+  apart i j d less inside =
+      let first : get_or s.order i d ≡ get_or s.order i 0 = default_same s.order i d 0 (omega arith) in
+      let second : get_or s.order j d ≡ get_or s.order j 0 = default_same s.order j d 0 inside in
+      ne_eqb (get_or s.order i d) (get_or s.order j d)
+      (λ e. before_differs s.ranks (get_or s.order i 0) (get_or s.order j 0)
+      (before_apart s.ranks s.order l.ordered i j less inside) (sym first ∙ e ∙ second))
 
-order_short : (g : Graph) (s : Stage) → Levels g s → length s.order ≤ length g
-order_short g s l = length-le_from_distinct_below s.order (length g) (order_distinct g s l)
-    (λ q e. in_order g s l q (found_in s.order q e))
+  order_distinct : IsDistinct eqb s.order
+  order_distinct = IsDistinct-from_apart eqb s.order apart
 
-with_another : (g : Graph) (s : Stage) → Levels g s → (a q : ℕ) → a < length g → Contains s.order q ⊎ (a ≡ q)
-    → q < length g
-with_another g s l a q h (inl old) = in_order g s l q old
-with_another g s l a q h (inr is) = omega arith
+  in_order : (q : ℕ) → Contains s.order q → q < length g
+  in_order q w = let m = (l.known q).1 w in omega (arith, m.0, l.room)
 
--- where a node has no mark, the order has not all of them
-pub order_shorter : (g : Graph) (s : Stage) → Levels g s → (a : ℕ) → a < length g → (IsMarked s.marks a → ⊥)
-    → length s.order < length g
-order_shorter g s l a h out =
-    let more = s.order ++ a ∷ [] in
-    let once = distinct_push s.order a (order_distinct g s l) (λ w. out ((l.known a).1 w)) in
-    let size : length (s.order ++ a ∷ []) ≡ length s.order + 1 = grind (arith, common_steps) in
-    let short = length-le_from_distinct_below (s.order ++ a ∷ []) (length g) once
-    (λ q e. with_another g s l a q h ((push_iff s.order a q).0 (found_in (s.order ++ a ∷ []) q e))) in
-    omega (arith, short, size)
+  order_short : length s.order ≤ length g
+  order_short = length-le_from_distinct_below s.order (length g) order_distinct
+      (λ q e. in_order q (found_in s.order q e))
 
--- so a round that finds a node leaves fewer
-pub round_shorter : (g : Graph) (s : Stage) → Levels g s → 0 < length s.ready → length s.order < length g
-round_shorter g s l some =
-    let is = (l.ready (get_or s.ready 0 0)).0 (Contains-get_or s.ready 0 0 some) in
-    order_shorter g s l (get_or s.ready 0 0) is.0 is.1
+  -- where a node has no mark, the order has not all of them
+  pub order_shorter : (a : ℕ) → a < length g → (IsMarked s.marks a → ⊥) → length s.order < length g
+  order_shorter a h out =
+      let more = s.order ++ a ∷ [] in
+      let once = distinct_push s.order a order_distinct (λ w. out ((l.known a).1 w)) in
+      let size : length (s.order ++ a ∷ []) ≡ length s.order + 1 = grind (arith, common_steps) in
+      let short = length-le_from_distinct_below (s.order ++ a ∷ []) (length g) once
+      (λ q e. elim ((push_iff s.order a q).0 (found_in (s.order ++ a ∷ []) q e)) [
+        | inl old ↦ in_order q old
+        | inr is ↦ omega (arith, is, h)
+      ]) in
+      omega (arith, short, size)
 
--- what gets a rank is a node
-pub ready_below : (g : Graph) (s : Stage) → Levels g s → (a : ℕ) → Contains s.ready a → a < length g
-ready_below g s l a w = ((l.ready a).0 w).0
+  -- so a round that finds a node leaves fewer
+  pub round_shorter : 0 < length s.ready → length s.order < length g
+  round_shorter some =
+      let is = (l.ready (get_or s.ready 0 0)).0 (Contains-get_or s.ready 0 0 some) in
+      order_shorter (get_or s.ready 0 0) is.0 is.1
 
--- ---- after the last round
+  -- what gets a rank is a node
+  pub ready_below : (a : ℕ) → Contains s.ready a → a < length g
+  ready_below a w = ((l.ready a).0 w).0
 
-every_case : (g : Graph) (s : Stage) → Levels g s → length g ≤ length s.order → (a : ℕ) → a < length g
-    → IsMarked s.marks a ⊎ (IsMarked s.marks a → ⊥) → IsMarked s.marks a
-every_case g s l whole a h w = grind (arith, no_position, order_shorter)
+  -- ---- after the last round
 
-every : (g : Graph) (s : Stage) → Levels g s → length g ≤ length s.order → (a : ℕ) → a < length g → IsMarked s.marks a
-every g s l whole a h = every_case g s l whole a h (mark_cases s.marks a)
+  every : length g ≤ length s.order → (a : ℕ) → a < length g → IsMarked s.marks a
+  every whole a h = elim (mark_cases s.marks a) [
+    | inl m ↦ m
+    | inr out ↦ absurd (let short = order_shorter a h out in omega (arith, short, whole))
+  ]
 
-pub levels_ranked : (g : Graph) (s : Stage) → Levels g s → length g ≤ length s.order → IsRanked g s.ranks
-levels_ranked g s l whole = record {
-  size = l.size;
-  above = λ a b edge. (l.above a b (every g s l whole a (edge_below g a b edge)) edge).1;
-  least = λ a h. l.least a (every g s l whole a h);
-}
+  pub levels_ranked : length g ≤ length s.order → IsRanked g s.ranks
+  levels_ranked whole = record {
+    size = l.size;
+    above = λ a b edge. (l.above a b (every whole a (edge_below g a b edge)) edge).1;
+    least = λ a h. l.least a (every whole a h);
+  }
 
-pub levels_order : (g : Graph) (s : Stage) → Levels g s → length g ≤ length s.order → IsRankOrder s.ranks s.order
-levels_order g s l whole = record {
-  size = (let short = order_short g s l in omega (arith, short, whole, l.size));
-  rises = l.ordered;
-  whole = λ a. (
-    λ w. (let h = in_order g s l a w in omega (arith, h, l.size)),
-    λ h. (l.known a).0 (every g s l whole a (omega (arith, h, l.size))),
-  );
-}
+  pub levels_order : length g ≤ length s.order → IsRankOrder s.ranks s.order
+  levels_order whole = record {
+    size = omega (arith, order_short, whole, l.size);
+    rises = l.ordered;
+    whole = λ a. (
+      λ w. (let h = in_order a w in omega (arith, h, l.size)),
+      λ h. (l.known a).0 (every whole a (omega (arith, h, l.size))),
+    );
+  }
 
 stuck_at : (g : Graph) (s : Stage) → IsWithin g (length g) → Levels g s → length s.ready ≡ 0 → (a : ℕ)
     → (a < length g) × (IsMarked s.marks a → ⊥)
@@ -368,14 +320,10 @@ round_of g s t old_marks seen old_ranks nodes new settled em es er en ew et next
       appended = appended ∙ ap (λ xs. s.order ++ xs) ew;
       marks_size = marks_size;
       ranks_size = ranks_size;
-      marked = subst (λ (xs : List ℕ). (c : ℕ) → IsMarked t.marks c ↔ (IsMarked s.marks c ⊎ Contains xs c)) en
-          (subst (λ (m : List Bool). (c : ℕ) → IsMarked t.marks c ↔ (IsMarked m c ⊎ Contains nodes c)) em marked);
-      ranked = subst (λ (xs : List ℕ). (c : ℕ) → Contains xs c → rank_in t.ranks c ≡ s.round) en ranked;
-      others = subst (λ (xs : List ℕ). (c : ℕ) → (Contains xs c → ⊥) → rank_in t.ranks c ≡ rank_in s.ranks c) en
-          (subst (λ (rs : List ℕ). (c : ℕ) → (Contains nodes c → ⊥) → rank_in t.ranks c ≡ rank_in rs c) er others);
-      passed = subst (λ (m : List Bool). ArePassed g m t.passed) es passed;
+      marked = rw (em, en) at marked;
+      ranked = rw en at ranked;
+      others = rw (er, en) at others;
+      passed = rw es at passed;
       rises = rises;
-      members = subst (λ (xs : List ℕ). (a : ℕ) → Contains t.ready a ↔ (GoesInto g xs a × AllMarked g t.marks a)) et
-          (subst (λ (m : List Bool). (a : ℕ) → Contains t.ready a ↔ (GoesInto g settled a × AllMarked g m a)) es
-          members);
+      members = rw (es, et) at members;
     }

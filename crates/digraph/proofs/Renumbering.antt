@@ -15,7 +15,6 @@ use Rattle.digraph.specs.Ranks.{rank_in, IsBefore, IsRanked, IsRankOrder}
 use Rattle.digraph.specs.Renumbered.{node_at, ArePositions, HasPosition, IsRenumbered}
 use Rattle.digraph.proofs.Marking.{among_all}
 use Rattle.digraph.proofs.Rows.{edge_below, edge_push}
-use Rattle.digraph.proofs.Visiting.{no_position}
 
 -- ---- an order by rank
 
@@ -48,9 +47,6 @@ before_differs ranks a b w e = grind arith
 pub record Placed (order : List ℕ) (n : ℕ) (positions : List ℕ) : Type 0 where
   pub size : length positions ≡ length order
   pub placed : (k : ℕ) → k < n → get_or positions (node_at order k) 0 ≡ k
-
-pub placed_none : (order positions : List ℕ) → length positions ≡ length order → Placed order 0 positions
-placed_none order positions size = record { size = size; placed = λ k h. absurd (no_position k h) }
 
 pub inside_order : (ranks order : List ℕ) → IsRankOrder ranks order → (k : ℕ) → k < length order
     → node_at order k < length order

@@ -107,12 +107,6 @@ pub passed_none : (g : Graph) (marks : List Bool) (passed : List ℕ) → length
     → ((a : ℕ) → get_or passed a 0 ≡ 0) → ArePassed g marks passed
 passed_none g marks passed size zeros = grind arith
 
--- marks that are added take nothing away
-pub passed_grows : (g : Graph) (marks new : List Bool) (passed : List ℕ) → ((c : ℕ) → IsMarked marks c → IsMarked new c)
-    → ArePassed g marks passed
-    → ArePassed g new passed
-passed_grows g marks new passed f p = grind arith
-
 pub passed_set : (g : Graph) (marks : List Bool) (passed : List ℕ) (p n : ℕ) → p < length passed
     → IsPassed marks (successors g p) n → ArePassed g marks passed
     → ArePassed g marks (set passed p n)
@@ -171,11 +165,6 @@ GoesAmong g nodes n a = (b : ℕ) × Among nodes n b × Edge g a b
 pub record Collecting (g : Graph) (marks : List Bool) (nodes : List ℕ) (n : ℕ) (passed ready : List ℕ) : Type 0 where
   pub are : ArePassed g marks passed
   pub found : (a : ℕ) → Contains ready a ↔ (GoesAmong g nodes n a × AllMarked g marks a)
-
-pub collecting_none : (g : Graph) (marks : List Bool) (nodes passed ready : List ℕ) → ready ≡ []
-    → ArePassed g marks passed
-    → Collecting g marks nodes 0 passed ready
-collecting_none g marks nodes passed ready e are = grind arith
 
 pub collecting_more : (g turned : Graph) (marks : List Bool) (nodes row : List ℕ) (n : ℕ) (passed new ready ys : List ℕ)
     → ((b a : ℕ) → Edge turned b a ↔ Edge g a b) → row ≡ successors turned (get_or nodes n 0) → ArePassed g marks new

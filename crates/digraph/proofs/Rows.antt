@@ -1,11 +1,20 @@
 -- Rows that are appended, and rows that get one node more.
+use Rattle.std.proofs.lemmas.Bool.{cases_lt}
+use Rattle.digraph.proofs.Gathering.{joined_first}
+use Rattle.std.proofs.lemmas.List.{get_or_push}
+use Rattle.std.proofs.Common.{length-append}
+use Rattle.std.proofs.Math.ListN.{get_or-append}
+use Rattle.digraph.proofs.Gathering.{joined_if}
+use Rattle.digraph.proofs.Marking.{among_more}
+use Rattle.std.proofs.Common.{get_or-set_other}
+use Rattle.digraph.proofs.Visiting.{push_iff}
 use Rattle.digraph.proofs.Gathering.{joined_none, joined_step, joined_end, below_more}
-use Rattle.std.proofs.Common.{◌≡◌, ◌≢◌, ◌∙◌, sym, ℕ, ◌+◌, ◌<◌, ◌≤◌, List, [], ◌∷◌, ◌++◌, length, take, drop, get_or, ap, refl, subst, arith, inl, inr, ◌⊎◌, Vec, Global, get_or-set_same}
+use Rattle.std.proofs.Common.{◌≡◌, ◌∙◌, sym, ℕ, ◌+◌, ◌<◌, ◌≤◌, List, [], ◌∷◌, ◌++◌, length, take, drop, get_or, ap, refl, subst, arith, inl, inr, ◌⊎◌, Vec, Global, get_or-set_same}
 use Rattle.std.specs.Prelude.{Contains, ◌↔◌}
 use Rattle.std.proofs.Math.ListN.{set, length-set}
 use Rattle.std.proofs.lemmas.Bool.{cases_eq, cases_lt}
 use Rattle.std.proofs.lemmas.List.{map-set, map-append}
-use Rattle.std.proofs.lemmas.List.Elements.{Contains-get_or, Contains-push, Contains-push_cases, Contains-append_left}
+use Rattle.std.proofs.lemmas.List.Elements.{Contains-get_or}
 use Rattle.std.proofs.lemmas.Grind.{common_steps}
 use Rattle.digraph.specs.Edges.{Graph, graph_of, successors, Edge}
 use Rattle.digraph.specs.Marks.{Among}
@@ -19,33 +28,26 @@ row_items rows k v e h = grind (arith, common_steps)
 pub no_items : (b : ℕ) → Contains {X = ℕ} [] b → ⊥
 no_items b (k, h, e) = omega arith
 
--- an edge's node has a row
-pub edge_inside : (g : Graph) (a b : ℕ) → Edge g a b → (a < length g) ⊎ (length g ≤ a) → a < length g
-edge_inside g a b edge w = grind (arith, common_steps)
-
 pub edge_below : (g : Graph) (a b : ℕ) → Edge g a b → a < length g
-edge_below g a b edge = edge_inside g a b edge (cases_lt a (length g))
+edge_below g a b edge = grind (arith, common_steps)
 
 -- ---- a row is appended
 
-push_inside : (g : Graph) (xs : List ℕ) (a b : ℕ) → (a < length g) → Edge (g ++ xs ∷ []) a b ↔ Edge g a b
-push_inside g xs a b h = grind (arith, common_steps)
-
-push_last : (g : Graph) (xs : List ℕ) (a b : ℕ) → a ≡ length g → Edge (g ++ xs ∷ []) a b ↔ Contains xs b
-push_last g xs a b h = grind (arith, common_steps)
-
-push_to : (g : Graph) (xs : List ℕ) (a b : ℕ) → (a < length g) ⊎ (length g ≤ a) → Edge (g ++ xs ∷ []) a b
-    → Edge g a b ⊎ ((a ≡ length g) × Contains xs b)
-push_to g xs a b w edge = grind (arith, common_steps)
-
-push_from : (g : Graph) (xs : List ℕ) (a b : ℕ) → Edge g a b ⊎ ((a ≡ length g) × Contains xs b)
-    → Edge (g ++ xs ∷ []) a b
-push_from g xs a b (inl edge) = (push_inside g xs a b (edge_below g a b edge)).1 edge
-push_from g xs a b (inr (last, w)) = (push_last g xs a b last).1 w
-
 pub edge_push : (g : Graph) (xs : List ℕ) (a b : ℕ)
     → Edge (g ++ xs ∷ []) a b ↔ (Edge g a b ⊎ ((a ≡ length g) × Contains xs b))
-edge_push g xs a b = (push_to g xs a b (cases_lt a (length g)), push_from g xs a b)
+edge_push g xs a b =
+    let old : length g ≤ a → Edge g a b → ⊥ =
+    λ over e. (let below = edge_below g a b e in omega (arith, below, over)) in
+    elim (cases_lt a (length g)) [
+      | inl inside ↦ rw (get_or-append g (xs ∷ []) [] a inside) (joined_none (λ w. omega (arith, w.0)))
+      | inr over ↦ elim (cases_eq a (length g)) [
+        | inl last ↦ rw (get_or_push g xs [] a (sym last)) (joined_first (old over) last)
+        | inr other ↦ (
+          λ e. absurd (let below = edge_below (g ++ xs ∷ []) a b e in omega (arith, below, length-append g (xs ∷ []))),
+          λ w. absurd (elim w [ inl e ↦ old over e | inr new ↦ other new.0 ]),
+        )
+      ]
+    ]
 
 -- what a loop keeps that appends empty rows
 pub record Empties (rows : List (Vec ℕ Global)) (n : ℕ) : Type 0 where
@@ -80,37 +82,15 @@ empties_push rows new n v e items old = rw e (record {
 
 -- ---- a row gets one node more
 
-set_same : (g : Graph) (s node b a : ℕ) → s < length g → b ≡ s → Edge (set g s (successors g s ++ node ∷ [])) b a
-    ↔ (Edge g b a ⊎ ((b ≡ s) × (node ≡ a)))
-set_same g s node b a h same =
-    let row : successors (set g s (successors g s ++ node ∷ [])) b ≡ successors g b ++ node ∷ [] =
-    ap (λ i. get_or (set g s (successors g s ++ node ∷ [])) i []) same
-    ∙ get_or-set_same g s (successors g s ++ node ∷ []) [] h
-    ∙ ap (λ i. successors g i ++ node ∷ []) (sym same) in (
-      λ edge. (elim (Contains-push_cases (successors g b) node a (subst (λ (ys : List ℕ). Contains ys a) row edge)) [
-        | inl old ↦ inl old
-        | inr is ↦
-            inr (same, is)
-      ]),
-      λ w. subst (λ (ys : List ℕ). Contains ys a) (sym row) (elim w [
-        | inl old ↦ Contains-append_left (successors g b) (node ∷ []) a old
-        | inr is ↦
-            subst (Contains (successors g b ++ node ∷ [])) is.1 (Contains-push (successors g b) node)
-      ]),
-    )
-
-set_other : (g : Graph) (s node b a : ℕ) → b ≢ s → Edge (set g s (successors g s ++ node ∷ [])) b a
-    ↔ (Edge g b a ⊎ ((b ≡ s) × (node ≡ a)))
-set_other g s node b a other = grind (arith, common_steps)
-
-set_cases : (g : Graph) (s node b a : ℕ) → s < length g → (b ≡ s) ⊎ (b ≡ s → ⊥)
-    → Edge (set g s (successors g s ++ node ∷ [])) b a ↔ (Edge g b a ⊎ ((b ≡ s) × (node ≡ a)))
-set_cases g s node b a h (inl same) = set_same g s node b a h same
-set_cases g s node b a h (inr other) = set_other g s node b a other
-
 pub edge_set : (g : Graph) (s node b a : ℕ) → s < length g → Edge (set g s (successors g s ++ node ∷ [])) b a
     ↔ (Edge g b a ⊎ ((b ≡ s) × (node ≡ a)))
-edge_set g s node b a h = set_cases g s node b a h (cases_eq b s)
+edge_set g s node b a h = elim (cases_eq b s) [
+  | inl same ↦
+      let row : successors (set g s (successors g s ++ node ∷ [])) b ≡ successors g b ++ node ∷ [] =
+      rw same (get_or-set_same g s (successors g s ++ node ∷ []) [] h) in
+      joined_if (rw row (push_iff (successors g b) node a)) same
+  | inr other ↦ rw (get_or-set_other g s b (successors g s ++ node ∷ []) [] other) (joined_none (λ w. other w.0))
+]
 
 pub graph_set : (rows : List (Vec ℕ Global)) (s : ℕ) (v : Vec ℕ Global)
     → graph_of (set rows s v) ≡ set (graph_of rows) s v.items
@@ -129,14 +109,6 @@ row_pushed rows s node v w e h items b a =
     let same : graph_of (set rows s w) ≡ set g s (successors g s ++ node ∷ []) =
     graph_set rows s w ∙ ap (set g s) (items ∙ ap (λ xs. xs ++ node ∷ []) (row_items rows s v e h)) in
     subst (λ (k : Graph). Edge k b a ↔ (Edge g b a ⊎ ((b ≡ s) × (node ≡ a)))) (sym same) (edge_set g s node b a inside)
-
-among_to : (nodes : List ℕ) (n node b a : ℕ) → (a ≡ node) × Among nodes (n + 1) b
-    → ((a ≡ node) × Among nodes n b) ⊎ ((b ≡ get_or nodes n 0) × (node ≡ a))
-among_to nodes n node b a w = grind arith
-
-among_from : (nodes : List ℕ) (n node b a : ℕ) → ((a ≡ node) × Among nodes n b) ⊎ ((b ≡ get_or nodes n 0) × (node ≡ a))
-    → (a ≡ node) × Among nodes (n + 1) b
-among_from nodes n node b a w = grind arith
 
 -- what a loop keeps that pushes one node to the rows of others
 pub record Turning (nodes : List ℕ) (node : ℕ) (old : Graph) (n : ℕ) (rows : List (Vec ℕ Global)) : Type 0 where
@@ -163,7 +135,7 @@ turning_more nodes node old n rows v w h e items t =
       edges = λ b a. joined_step
           (row_pushed rows s node v w e (t.room n h) (items ∙ ap (λ (x : Vec ℕ Global). x.items ++ node ∷ []) (sym e)) b
           a) (t.edges b a)
-          (among_to nodes n node b a, among_from nodes n node b a);
+          (λ w. grind (arith, among_more), λ w. grind (arith, among_more));
     }
 
 all_to : (nodes : List ℕ) (n node b a : ℕ) → n ≡ length nodes

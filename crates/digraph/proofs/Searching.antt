@@ -1,4 +1,5 @@
 -- What a search over edges keeps.
+use Rattle.digraph.proofs.Rising.{one_only}
 use Rattle.std.proofs.Common.{◌≡◌, ◌∙◌, sym, ℕ, ◌+◌, ◌<◌, ◌≤◌, List, [], ◌∷◌, length, get_or, ap, refl, subst, arith, inl, inr, ◌⊎◌, lit<}
 use Rattle.std.specs.Prelude.{Bool, Contains, ◌↔◌}
 use Rattle.std.proofs.lemmas.Bool.{cases_lt, eqb-true}
@@ -42,9 +43,6 @@ found_short g n start marks found next r =
     length-le_from_distinct_below found n r.are.once
     (λ q e. (let inside = ((r.are.same q).1 (Contains-from_any (λ a b h. eqb-true a b h) q found e)).0 in
     omega (arith, inside, r.room)))
-
-pub one_only : (s c : ℕ) → Contains (s ∷ []) c → s ≡ c
-one_only s c w = grind arith
 
 start_sound : (g : Graph) (start c : ℕ) (old : List ℕ) → old ≡ [] → Contains old c ⊎ Contains (start ∷ []) c
     → Leads (Edge g) c start

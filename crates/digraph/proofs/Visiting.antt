@@ -1,5 +1,6 @@
 -- What the loops keep that mark nodes and take marks away.
-use Rattle.digraph.proofs.Gathering.{joined_none, joined_step, joined_end}
+use Rattle.std.proofs.lemmas.List.Elements.{Contains-append_cases, Contains-append_right}
+use Rattle.digraph.proofs.Gathering.{joined_none, joined_step, joined_more, joined_again, joined_end}
 use Rattle.std.proofs.Common.{◌≡◌, ◌≢◌, ◌∙◌, sym, ℕ, ◌+◌, ◌<◌, List, [], ◌∷◌, ◌++◌, length, get_or, ap, subst, arith, inl, inr, ◌⊎◌, append_assoc, append-nil, get_or-set_same, get_or-set_other}
 use Rattle.std.specs.Prelude.{Bool, true, false, Contains, ◌↔◌}
 use Rattle.std.specs.List.{IsDistinct, list_any}
@@ -29,6 +30,15 @@ pub distinct_push : (xs : List ℕ) (x : ℕ) → IsDistinct eqb xs → (Contain
 distinct_push xs x d out = IsDistinct-push nat_eq_equiv xs x d
     (false_from_ne_true (list_any (eqb x) xs) (λ e. out (Contains-from_any eqb-true x xs e)))
 
+pub append_iff : (xs ys : List ℕ) (c : ℕ) → Contains (xs ++ ys) c ↔ (Contains xs c ⊎ Contains ys c)
+append_iff xs ys c = (
+  Contains-append_cases xs ys c,
+  λ w. elim w [
+    | inl first ↦ Contains-append_left xs ys c first
+    | inr second ↦ Contains-append_right xs ys c second
+  ],
+)
+
 push_from : (xs : List ℕ) (p c : ℕ) → Contains xs c ⊎ (p ≡ c) → Contains (xs ++ p ∷ []) c
 push_from xs p c (inl h) = Contains-append_left xs (p ∷ []) c h
 push_from xs p c (inr e) = subst (Contains (xs ++ p ∷ [])) e (Contains-push xs p)
@@ -36,18 +46,12 @@ push_from xs p c (inr e) = subst (Contains (xs ++ p ∷ [])) e (Contains-push xs
 pub push_iff : (xs : List ℕ) (p c : ℕ) → Contains (xs ++ p ∷ []) c ↔ (Contains xs c ⊎ (p ≡ c))
 push_iff xs p c = (Contains-push_cases xs p c, push_from xs p c)
 
-either_to : {A B C : Type 0} → (A → B) → (A ⊎ C) → (B ⊎ C)
-either_to f w = grind arith
-
 -- the marks and the marked nodes after one more
 marked_push : (marks : List Bool) (marked : List ℕ) (p : ℕ) → p < length marks → (Contains marked p → ⊥)
     → AreMarked marks marked
     → AreMarked (set marks p true) (marked ++ p ∷ [])
 marked_push marks marked p h fresh q = record {
-  same = λ c. (
-    λ m. push_from marked p c (either_to (q.same c).0 ((mark_one marks p c h).0 m)),
-    λ w. (mark_one marks p c h).1 (either_to (q.same c).1 (Contains-push_cases marked p c w)),
-  );
+  same = λ c. joined_more (mark_one marks p c h) (q.same c) (push_iff marked p c);
   once = distinct_push marked p q.once fresh;
 }
 
@@ -66,14 +70,6 @@ visited_push old nodes n marks new marked ys h out new_is ys_is v =
       added = λ c. joined_step (push_iff marked p c) (v.added c) (among_more nodes n c);
     })
 
-skip_to : (old nodes : List ℕ) (n c : ℕ) → Contains old c ⊎ Among nodes n c → Contains old c ⊎ Among nodes (n + 1) c
-skip_to old nodes n c w = grind arith
-
-skip_from : (old nodes marked : List ℕ) (n c : ℕ) → Contains marked (get_or nodes n 0)
-    → (Contains old c ⊎ Among nodes n c → Contains marked c)
-    → Contains old c ⊎ Among nodes (n + 1) c → Contains marked c
-skip_from old nodes marked n c found f w = grind arith
-
 pub visited_skip : (old nodes : List ℕ) (n : ℕ) (marks new : List Bool) (marked ys : List ℕ) → n < length nodes
     → get_or marks (get_or nodes n 0) false ≡ true
     → new ≡ marks → ys ≡ marked → Visited old nodes n marks marked → Visited old nodes (n + 1) new ys
@@ -83,7 +79,7 @@ visited_skip old nodes n marks new marked ys h inside new_is ys_is v =
       room = v.room;
       are = v.are;
       prefix = v.prefix;
-      added = λ c. (λ w. skip_to old nodes n c ((v.added c).0 w), skip_from old nodes marked n c found (v.added c).1);
+      added = λ c. joined_again (v.added c) (among_more nodes n c) (λ e. subst (Contains marked) e found);
     })
 
 none_at : (nodes : List ℕ) (c : ℕ) → Among nodes 0 c → ⊥

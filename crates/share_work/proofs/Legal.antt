@@ -20,9 +20,7 @@ least_else w p ps n = ap (λ (b : Bool). cond b (min p.1 (least_at w ps)) (least
 
 pub least_at-le-NONE : (w : ℕ) (ps : List (ℕ × ℕ)) → least_at w ps ≤ NONE
 least_at-le-NONE w [] = omega arith
-least_at-le-NONE w (p ∷ ps) = let ih = least_at-le-NONE w ps in
-    ⊎_elim (λ (e : p.0 ≡ w). omega (arith, least_here w p ps e))
-    (λ (n : p.0 ≡ w → ⊥). omega (arith, least_else w p ps n)) (cases_eq p.0 w)
+least_at-le-NONE w (p ∷ ps) = grind (arith, least_else, least_here, least_at-le-NONE w ps)
 
 -- a bound of all the numbers at the word bounds the least
 pub least_at-above : (w m : ℕ) (ps : List (ℕ × ℕ)) → m ≤ NONE → ((x : ℕ) → Contains ps (w, x) → m ≤ x)

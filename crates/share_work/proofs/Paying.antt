@@ -1,14 +1,14 @@
 -- How far a mark has come with what it owes.
 use Rattle.std.proofs.lemmas.Grind.{common_steps}
-use Rattle.std.proofs.Common.{◌≡◌, ℕ, zero, suc, ◌+◌, ◌-◌, ◌<◌, ◌≤◌, Bool, cond, Option, List, [], ◌∷◌, ◌++◌, take, drop, length, slice_get, Some, None, ◌==◌, sym, ap, ◌∙◌, arith, append_assoc, add-one}
+use Rattle.std.proofs.Common.{◌≡◌, ℕ, zero, suc, ◌+◌, ◌-◌, ◌<◌, ◌≤◌, Bool, cond, Option, List, [], ◌∷◌, ◌++◌, take, drop, length, slice_get, Some, None, ◌==◌, ap, ◌∙◌, arith, append_assoc, add-one}
 use Rattle.std.specs.Prelude.{Contains}
 use Rattle.std.proofs.lemmas.Bool.{eq-eqb}
 use Rattle.std.proofs.lemmas.Option.{slice_get_cases}
 use Rattle.std.proofs.lemmas.List.{drop_all, take_all}
 use Rattle.share_work.specs.declared.views.Call.{Call}
 use Rattle.share_work.specs.declared.mark_view.MarkView.{MarkView}
-use Rattle.share_work.specs.Views.{call, make_view, posts_of}
-use Rattle.share_work.specs.Marks.{at_each, mark_view, owed_by, owed_of}
+use Rattle.share_work.specs.Views.{call, posts_of}
+use Rattle.share_work.specs.Marks.{at_each, owed_by, owed_of}
 use Rattle.share_work.specs.Steps.{make_debt, debt_at, next_debt, with_calls, with_paid}
 use Rattle.share_work.specs.declared.mark_view.Debt.{Debt}
 use Rattle.share_work.proofs.Sums.{behind}
@@ -24,10 +24,8 @@ pub get_some : (files : List ℕ) (k g : ℕ) → slice_get files k ≡ Some g
     → (k < length files) × (take (suc k) files ≡ take k files ++ g ∷ []) × (drop k files ≡ g ∷ drop (suc k) files)
     × Contains files g
 get_some [] k g e = absurd (cc)
-get_some (x ∷ xs) zero g e =
-    let is : x ≡ g = cc in (omega arith, ap (λ (y : ℕ). y ∷ []) is, ap (λ (y : ℕ). y ∷ xs) is, (0, omega arith, is))
-get_some (x ∷ xs) (suc k) g e = let r = get_some xs k g e in
-    (omega (arith, r.0), ap (λ (l : List ℕ). x ∷ l) r.1, r.2, behind x xs g r.3)
+get_some (x ∷ xs) zero g e = grind arith
+get_some (x ∷ xs) (suc k) g e = grind (arith, behind, get_some xs k g e)
 
 pub none_past : {X : Type 0} (xs : List X) (k : ℕ) → slice_get xs k ≡ None → length xs ≤ k
 none_past xs k e = grind (arith, slice_get_cases)
@@ -60,13 +58,8 @@ paying_more v u w root n k files g found p e is =
     let s = get_some files k g e in let c : Call = call g found n in
     record {
       later = p.later ++ c ∷ [];
-      posted = posts-append p.later (c ∷ []) ∙ ap (λ (l : List (ℕ × ℕ)). l ++ (g, n) ∷ []) p.posted
-          ∙ sym (each-append n (take k files) (g ∷ []))
-          ∙ ap (λ (l : List ℕ). at_each n l) (sym s.1 ∙ ap (λ (j : ℕ). take j files) (sym (add-one k)));
-      view = is
-          ∙ ap (λ (y : MarkView). with_calls y (c ∷ []) (debt_at root n (k + 1) files)) p.view
-          ∙ (λ i. mark_view (make_view v.least.parts (append_assoc v.least.calls p.later (c ∷ []) i) v.least.told)
-          v.marks (debt_at root n (k + 1) files));
+      posted = grind (arith, add-one, each-append, posts-append);
+      view = grind (arith, append_assoc);
       position = omega (arith, s.0);
     }
 

@@ -214,8 +214,7 @@ module _ {S T : Type 0} (holds : S → ℕ → ℕ → Type 0) (adds : ℕ → T
       → SeatsGain holds adds workers cut items from low low' → SeatsGain holds adds workers cut items up high high'
       → SeatsGain holds adds workers cut items from (low ++ high) (low' ++ high')
   gains_joined from up low high low' high' at a b = record {
-    len = let x = a.len in let y = b.len in length-append low' high' ∙ ap (λ n. n + length high') x
-        ∙ ap (λ n. length low + n) y ∙ sym (length-append low high);
+    len = grind (arith, length-append);
     each = λ j s s' e e'. elim (found_in low high j s e) [
       | inl h ↦ elim (found_in low' high' j s' e') [
         | inl h' ↦ a.each j s s' h h'
@@ -305,8 +304,7 @@ OnOk-both r P Q Z p q f = grind arith
 pub get_drop : {X : Type 0} (p : ℕ) (xs : List X) (o : ℕ) → slice_get (drop p xs) o ≡ slice_get xs (p + o)
 get_drop zero xs o = ap (λ k. slice_get xs k) (let e : o ≡ 0 + o = omega arith in e)
 get_drop (suc p) [] o = refl
-get_drop (suc p) (x ∷ xs) o = get_drop p xs o
-    ∙ ap (λ k. slice_get (x ∷ xs) k) (let e : suc (p + o) ≡ suc p + o = omega arith in e)
+get_drop (suc p) (x ∷ xs) o = grind (arith, slice_get, get_drop p xs o)
 
 pub take_get : {X : Type 0} (n : ℕ) (xs : List X) (o : ℕ) (t : X) → slice_get (take n xs) o ≡ Some t
     → slice_get xs o ≡ Some t
@@ -346,11 +344,7 @@ module _ {T O V R : Type 0} (gives : ℕ → T → O → Type 0) (outs_of : V �
   rows_idle from n rows r none past h =
       let idle : GivesRow gives outs_of workers cut items (from + n) [] = record {
         pieces = λ k v e. let bad : None ≡ Some v = e in absurd (search rules);
-        whole = λ k inside.
-            let up = rising (from + n) k 0 workers cut (omega arith) in
-            let on : (from + n) * cut ≤ (from + n + 0 * workers) * cut =
-            mul-le-mul_right cut (let zeros : 0 * workers ≡ 0 = zero-mul workers in omega arith) in
-            absurd (omega arith);
+        whole = grind (arith, mul-le-mul_right, rising, zero-mul);
       } in
       let P : List V → Type 0 = λ l. GivesRow gives outs_of workers cut items (from + n) l in
       rows_joined gives outs_of parts_of workers cut items from n (from + n) 1 rows (r ∷ []) refl h

@@ -86,15 +86,13 @@ in_filter p (y ∷ ys) x h t =
 pub sum_by-flat_map : {A B : Type 0} (h : B → ℕ) (f : A → List B) (xs : List A)
     → sum_by h (flat_map f xs) ≡ sum_by (λ x. sum_by h (f x)) xs
 sum_by-flat_map h f [] = refl
-sum_by-flat_map h f (x ∷ xs) =
-    omega (arith, sum_by-append h (f x) (flat_map f xs), sum_by-flat_map h f xs, sum_by-cons (λ y. sum_by h (f y)) x xs)
+sum_by-flat_map h f (x ∷ xs) = grind (arith, common_steps, sum_by-append, sum_by-cons, sum_by-flat_map h f xs)
 
 pub sum_by-at_set : {A : Type 0} (f : A → ℕ) (xs : List A) (i : ℕ) (v w : A) → get_elem? xs i ≡ some v
     → sum_by f (set xs i w) + f v ≡ sum_by f xs + f w
 sum_by-at_set f [] i v w e = absurd (some-ne-none v (sym e))
 sum_by-at_set f (x ∷ xs) zero v w e = omega (arith, sum_by-cons f w xs, sum_by-cons f x xs, ap f (some-injective x v e))
-sum_by-at_set f (x ∷ xs) (suc i) v w e =
-    omega (arith, sum_by-cons f x (set xs i w), sum_by-cons f x xs, sum_by-at_set f xs i v w e)
+sum_by-at_set f (x ∷ xs) (suc i) v w e = grind (arith, sum_by-cons, sum_by-at_set f xs i v w e)
 
 pub sum_by-at : {A : Type 0} (f : A → ℕ) (xs : List A) (i : ℕ) (v : A) → get_elem? xs i ≡ some v → f v ≤ sum_by f xs
 sum_by-at f [] i v e = absurd (some-ne-none v (sym e))
@@ -103,8 +101,7 @@ sum_by-at f (x ∷ xs) (suc i) v e = omega (arith, sum_by-cons f x xs, sum_by-at
 
 pub sum_by-map : {A B : Type 0} (f : B → ℕ) (g : A → B) (xs : List A) → sum_by f (map g xs) ≡ sum_by (λ x. f (g x)) xs
 sum_by-map f g [] = refl
-sum_by-map f g (x ∷ xs) =
-    omega (arith, sum_by-cons f (g x) (map g xs), sum_by-cons (λ y. f (g y)) x xs, sum_by-map f g xs)
+sum_by-map f g (x ∷ xs) = grind (arith, common_steps, sum_by-cons, sum_by-map f g xs)
 
 -- where one view has all the parts, and a view without parts has no items, all items are that view's
 module _ {V A : Type 0} (parts : V → ℕ) (items : V → List A) where
