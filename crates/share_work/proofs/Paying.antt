@@ -1,6 +1,6 @@
 -- How far a mark has come with what it owes.
 use Rattle.std.proofs.lemmas.Grind.{common_steps}
-use Rattle.std.proofs.Common.{◌≡◌, ℕ, zero, suc, ◌+◌, ◌-◌, ◌<◌, ◌≤◌, Bool, cond, Option, List, [], ◌∷◌, ◌++◌, take, drop, length, slice_get, Some, None, ◌==◌, ap, ◌∙◌, arith, append_assoc, add-one}
+use Rattle.std.proofs.Common.{◌≡◌, ℕ, zero, suc, ◌+◌, ◌<◌, ◌≤◌, Bool, cond, Option, List, [], ◌∷◌, ◌++◌, take, drop, length, slice_get, Some, None, ◌==◌, ap, ◌∙◌, arith, append_assoc, add-one}
 use Rattle.std.specs.Prelude.{Contains}
 use Rattle.std.proofs.lemmas.Bool.{eq-eqb}
 use Rattle.std.proofs.lemmas.Option.{slice_get_cases}
@@ -9,7 +9,7 @@ use Rattle.share_work.specs.declared.views.Call.{Call}
 use Rattle.share_work.specs.declared.mark_view.MarkView.{MarkView}
 use Rattle.share_work.specs.Views.{call, posts_of}
 use Rattle.share_work.specs.Marks.{at_each, owed_by, owed_of}
-use Rattle.share_work.specs.Steps.{make_debt, debt_at, next_debt, with_calls, with_paid}
+use Rattle.share_work.specs.Steps.{make_debt, debt_at, next_debt, with_calls}
 use Rattle.share_work.specs.declared.mark_view.Debt.{Debt}
 use Rattle.share_work.proofs.Sums.{behind}
 
@@ -75,12 +75,6 @@ pub owed_next : (list : ℕ → List ℕ) (v : MarkView) (root n k g : ℕ) (las
     → last ≡ (k + 1 == length (list root))
     → owed_by list (next_debt last v.debt) ≡ at_each n (drop (suc k) (list root))
 owed_next list v root n k g last d e is = grind (arith, common_steps)
-
-pub paid_is : (root n k g found : ℕ) (files : List ℕ) (v w : MarkView) (last : Bool)
-    → v.debt ≡ Some (make_debt root n k) → last ≡ (k + 1 == length files)
-    → w ≡ with_paid last (g + 1 - 1) found n v
-    → w ≡ with_calls v (call g found n ∷ []) (debt_at root n (k + 1) files)
-paid_is root n k g found files v w last d is e = grind arith
 
 pub paying_all : (v u : MarkView) (root n k : ℕ) (files : List ℕ) → IsPaying v u root n k files
     → slice_get files k ≡ None

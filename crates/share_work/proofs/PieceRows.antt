@@ -9,7 +9,7 @@ use Rattle.std.proofs.Math.ListN.{drop_of_length-le, set}
 use Rattle.std.proofs.Math.Seq.{take-nil}
 use Rattle.std.proofs.lemmas.Bool.{cases_lt}
 use Rattle.std.proofs.Math.Nat.{mul-le-mul_right, zero-mul}
-use Rattle.share_work.specs.Shares.{AddsSome, AddsInRow, SeatGains, SeatHas, SeatsGain, SeatsHave, GivesItems, TakesAll, KeepsNumbers}
+use Rattle.share_work.specs.Shares.{AddsSome, SeatGains, SeatHas, SeatsGain, SeatsHave, GivesItems, TakesAll}
 use Rattle.share_work.specs.WorkerRows.{GivesUpTo, GivesPiece, GivesRow, GivesRows}
 
 module _ {V : Type 0} where
@@ -65,25 +65,6 @@ pub found_in : {V : Type 0} (xs ys : List V) (k : ℕ) (v : V) → slice_get (xs
 found_in [] ys k v e = inr (k, omega arith, e)
 found_in (x ∷ xs) ys zero v e = inl e
 found_in (x ∷ xs) ys (suc k) v e = elim (found_in xs ys k v e) [ inl h ↦ inl h | inr h ↦ inr (h.0, grind arith, h.2) ]
-
-module _ {T O V R : Type 0} (gives : ℕ → T → O → Type 0) (outs_of : V → List O) (parts_of : R → List V)
-    (workers cut : ℕ) (items : List T) where
-  -- the rows of some workers and those of the next ones
-  pub rows_joined : (from n up m : ℕ) (low high : List R) → up ≡ from + n
-      → GivesRows gives outs_of parts_of workers cut items from n low
-      → GivesRows gives outs_of parts_of workers cut items up m high
-      → GivesRows gives outs_of parts_of workers cut items from (n + m) (low ++ high)
-  rows_joined from n up m low high at a b = record {
-    len = length-append low high ∙ ap (λ k. k + length high) a.len ∙ ap (λ k. n + k) b.len;
-    each = λ j r e. elim (found_in low high j r e) [
-      | inl h ↦ a.each j r h
-      | inr h ↦
-          let P : ℕ → Type 0 = λ p. GivesRow gives outs_of workers cut items p (parts_of r) in
-          let x = a.len in
-          let same : up + h.0 ≡ from + j = let y = h.1 in omega arith in
-          subst P same (b.each h.0 r h.2)
-    ];
-  }
 
 module _ {T O V : Type 0} (gives : ℕ → T → O → Type 0) (outs_of : V → List O) (workers cut : ℕ) (items : List T) where
   -- a row without its first piece
@@ -144,6 +125,23 @@ module _ {T O : Type 0} (gives : ℕ → T → O → Type 0) where
 
 module _ {T O V R : Type 0} (gives : ℕ → T → O → Type 0) (outs_of : V → List O) (parts_of : R → List V)
     (workers cut : ℕ) (items : List T) where
+  -- the rows of some workers and those of the next ones
+  pub rows_joined : (from n up m : ℕ) (low high : List R) → up ≡ from + n
+      → GivesRows gives outs_of parts_of workers cut items from n low
+      → GivesRows gives outs_of parts_of workers cut items up m high
+      → GivesRows gives outs_of parts_of workers cut items from (n + m) (low ++ high)
+  rows_joined from n up m low high at a b = record {
+    len = length-append low high ∙ ap (λ k. k + length high) a.len ∙ ap (λ k. n + k) b.len;
+    each = λ j r e. elim (found_in low high j r e) [
+      | inl h ↦ a.each j r h
+      | inr h ↦
+          let P : ℕ → Type 0 = λ p. GivesRow gives outs_of workers cut items p (parts_of r) in
+          let x = a.len in
+          let same : up + h.0 ≡ from + j = let y = h.1 in omega arith in
+          subst P same (b.each h.0 r h.2)
+    ];
+  }
+
   -- the first row is moved to the end, without its first piece
   pub rows_turned : (p : ℕ) (r r' : R) (rest : List R) (y : V)
       → GivesRows gives outs_of parts_of workers cut items p workers (r ∷ rest)
@@ -173,10 +171,24 @@ module _ {T O V R : Type 0} (gives : ℕ → T → O → Type 0) (outs_of : V �
         subst S q_is (subst P same tail)
     last j q (suc i, at, e) = let bad : None ≡ Some q = e in absurd (search rules)
 
-module _ {T O : Type 0} (gives : ℕ → T → O → Type 0) (cut : ℕ) (items : List T) where
-  pub gives_none : GivesUpTo gives cut items 0 []
-  gives_none = grind arith
+  pub one_row : (w : ℕ) (r : R) → GivesRow gives outs_of workers cut items w (parts_of r)
+      → GivesRows gives outs_of parts_of workers cut items w 1 (r ∷ [])
+  one_row w r h = grind arith
 
+  -- one more row, of a worker that has no piece
+  pub rows_idle : (from n : ℕ) (rows : List R) (r : R) → parts_of r ≡ [] → length items ≤ (from + n) * cut
+      → GivesRows gives outs_of parts_of workers cut items from n rows
+      → GivesRows gives outs_of parts_of workers cut items from (n + 1) (rows ++ r ∷ [])
+  rows_idle from n rows r none past h =
+      let idle : GivesRow gives outs_of workers cut items (from + n) [] = record {
+        pieces = λ k v e. let bad : None ≡ Some v = e in absurd (search rules);
+        whole = grind (arith, mul-le-mul_right, rising, zero-mul);
+      } in
+      let P : List V → Type 0 = λ l. GivesRow gives outs_of workers cut items (from + n) l in
+      rows_joined from n (from + n) 1 rows (r ∷ []) refl h
+      (one_row (from + n) r (subst P (sym none) idle))
+
+module _ {T O : Type 0} (gives : ℕ → T → O → Type 0) (cut : ℕ) (items : List T) where
   -- the outs of all pieces are those of all items
   pub gives_all : (p : ℕ) (a : List O) → length items ≤ p * cut → GivesUpTo gives cut items p a
       → GivesItems gives 0 items a
@@ -186,13 +198,7 @@ pub piece_inside : (len c p : ℕ) → 0 < c → p < len / c + min 1 (len % c) �
 piece_inside len c p some below = grind arith
 
 module _ {T : Type 0} (adds : ℕ → T → ℕ → ℕ → Type 0) (workers cut : ℕ) (items : List T) (w : ℕ) where
-  -- what a piece adds, the row adds
-  pub adds_piece : (len first : ℕ) (part : List T) → first ≡ (w + len * workers) * cut
-      → part ≡ take cut (drop first items)
-      → (x n : ℕ) → AddsSome adds first part x n → AddsInRow adds workers cut items w x n
-  adds_piece len first part at is x n h = grind arith
-
-  -- and a piece is added where its number is that of the piece
+  -- what the row adds at its number, a piece adds
   pub piece_adds : (len first : ℕ) (part : List T) → first ≡ (w + len * workers) * cut
       → part ≡ take cut (drop first items)
       → (x n k : ℕ) → k ≡ len → AddsSome adds ((w + k * workers) * cut)
@@ -246,14 +252,6 @@ module _ {S T : Type 0} (holds : S → ℕ → ℕ → Type 0) (adds : ℕ → T
     ];
   }
 
--- a list of one member
-pub one_member : {X : Type 0} (xs : List X) → length xs ≡ 1 → (x : X) × (xs ≡ x ∷ [])
-one_member [] e = absurd (omega arith)
-one_member (x ∷ []) e = (x, refl)
-one_member (x ∷ y ∷ xs) e = absurd (omega arith)
-
-module _ {S T : Type 0} (holds : S → ℕ → ℕ → Type 0) (adds : ℕ → T → ℕ → ℕ → Type 0) (workers cut : ℕ)
-    (items : List T) where
   -- the same of a list's one seat, read with any default
   pub only_gains : (w : ℕ) (seats : List S) (d s' : S) → length seats ≡ 1
       → SeatGains holds adds workers cut items w (get_or seats 0 d) s'
@@ -264,33 +262,20 @@ module _ {S T : Type 0} (holds : S → ℕ → ℕ → Type 0) (adds : ℕ → T
       → SeatsHave holds adds workers cut items w (s' ∷ [])
   one_has w s' h = grind arith
 
-module _ {T O V R : Type 0} (gives : ℕ → T → O → Type 0) (outs_of : V → List O) (parts_of : R → List V)
-    (workers cut : ℕ) (items : List T) where
-  pub one_row : (w : ℕ) (r : R) → GivesRow gives outs_of workers cut items w (parts_of r)
-      → GivesRows gives outs_of parts_of workers cut items w 1 (r ∷ [])
-  one_row w r h = grind arith
+  -- seats that stay as they are gain nothing
+  pub gains_same : (from : ℕ) (seats : List S) → SeatsGain holds adds workers cut items from seats seats
+  gains_same from seats = grind arith
 
-module _ {S : Type 0} (number : S → ℕ) where
-  -- the numbers stay where the first seat keeps its own
-  pub numbers_set : (seats : List S) (s d : S) → number s ≡ number (get_or seats 0 d)
-      → KeepsNumbers number seats (set seats 0 s)
-  numbers_set seats s d same = grind (arith, common_steps)
+  -- and have all that there is, where the items end before their first piece
+  pub haves_idle : (from : ℕ) (seats : List S) → (0 < length seats → length items ≤ from * cut)
+      → SeatsHave holds adds workers cut items from seats
+  haves_idle from seats past = grind (arith, common_steps)
 
-  -- and where two parts of the seats keep theirs
-  pub numbers_joined : (low high low' high' : List S) → KeepsNumbers number low low' → KeepsNumbers number high high'
-      → KeepsNumbers number (low ++ high) (low' ++ high')
-  numbers_joined low high low' high' a b = grind (arith, common_steps)
-
--- where what stands on two results went well, both did
-pub OnOk-first : {A B C E : Type 0} (r : Result C E) (a : Result A E) (b : Result B E)
-    (R : A → B → C → Type 0) (P : Type 0)
-    → IfOk r (λ z. IsOkAnd a (λ x. IsOkAnd b (λ y. R x y z))) → OnOk a P → OnOk r P
-OnOk-first r a b R P h p = grind arith
-
-pub OnOk-second : {A B C E : Type 0} (r : Result C E) (a : Result A E) (b : Result B E)
-    (R : A → B → C → Type 0) (P : Type 0)
-    → IfOk r (λ z. IsOkAnd a (λ x. IsOkAnd b (λ y. R x y z))) → OnOk b P → OnOk r P
-OnOk-second r a b R P h p = grind arith
+-- a list of one member
+pub one_member : {X : Type 0} (xs : List X) → length xs ≡ 1 → (x : X) × (xs ≡ x ∷ [])
+one_member [] e = absurd (omega arith)
+one_member (x ∷ []) e = (x, refl)
+one_member (x ∷ y ∷ xs) e = absurd (omega arith)
 
 pub IfOk-both : {A B C E : Type 0} (r : Result C E) (a : Result A E) (b : Result B E) (R : A → B → C → Type 0)
     (P : A → Type 0) (Q : B → Type 0) (Z : C
@@ -322,30 +307,3 @@ takes_part takes items part first c is all i t e =
     ∙ take_get c (drop first items) i t (ap (λ l. slice_get l i) (sym is) ∙ e) in
     let P : ℕ → Type 0 = λ k. takes k t in let same : 0 + (first + i) ≡ first + i = omega arith in
     subst P same (all (first + i) t at)
-
--- what no item is left for
-module _ {S T : Type 0} (holds : S → ℕ → ℕ → Type 0) (adds : ℕ → T → ℕ → ℕ → Type 0) (workers cut : ℕ)
-    (items : List T) where
-  -- seats that stay as they are gain nothing
-  pub gains_same : (from : ℕ) (seats : List S) → SeatsGain holds adds workers cut items from seats seats
-  gains_same from seats = grind arith
-
-  -- and have all that there is, where the items end before their first piece
-  pub haves_idle : (from : ℕ) (seats : List S) → (0 < length seats → length items ≤ from * cut)
-      → SeatsHave holds adds workers cut items from seats
-  haves_idle from seats past = grind (arith, common_steps)
-
-module _ {T O V R : Type 0} (gives : ℕ → T → O → Type 0) (outs_of : V → List O) (parts_of : R → List V)
-    (workers cut : ℕ) (items : List T) where
-  -- one more row, of a worker that has no piece
-  pub rows_idle : (from n : ℕ) (rows : List R) (r : R) → parts_of r ≡ [] → length items ≤ (from + n) * cut
-      → GivesRows gives outs_of parts_of workers cut items from n rows
-      → GivesRows gives outs_of parts_of workers cut items from (n + 1) (rows ++ r ∷ [])
-  rows_idle from n rows r none past h =
-      let idle : GivesRow gives outs_of workers cut items (from + n) [] = record {
-        pieces = λ k v e. let bad : None ≡ Some v = e in absurd (search rules);
-        whole = grind (arith, mul-le-mul_right, rising, zero-mul);
-      } in
-      let P : List V → Type 0 = λ l. GivesRow gives outs_of workers cut items (from + n) l in
-      rows_joined gives outs_of parts_of workers cut items from n (from + n) 1 rows (r ∷ []) refl h
-      (one_row gives outs_of parts_of workers cut items (from + n) r (subst P (sym none) idle))

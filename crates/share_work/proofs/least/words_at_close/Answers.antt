@@ -1,4 +1,4 @@
-use Rattle.std.proofs.Common.{◌≡◌, ◌≢◌, ℕ, zero, suc, ◌+◌, ◌<◌, List, [], ◌∷◌, length, length-set, set, get_or, get_or-set_same, get_or-set_other, slice_index, below_more, sym, ◌∙◌, arith}
+use Rattle.std.proofs.Common.{◌≡◌, ℕ, zero, suc, ◌+◌, ◌<◌, List, [], ◌∷◌, length, length-set, set, get_or, get_or-set_same, get_or-set_other, slice_index, below_more, sym, arith}
 use mathlib.Core.Option.{some, some-injective, some-ne-none}
 use lib.ListN.{get_elem?}
 use Rattle.share_work.proofs.least.words_at_close.Goals as goal
@@ -11,12 +11,7 @@ get_from (y ∷ ys) (suc i) x e = get_from ys i x e
 copied : (xs ws : List ℕ) (i x : ℕ) → i < length xs → get_elem? ws (i + 1) ≡ some x
     → ((k : ℕ) → k < i → slice_index xs k ≡ slice_index ws (k + 1))
     → (k : ℕ) → k < i + 1 → slice_index (set xs i x) k ≡ slice_index ws (k + 1)
-copied xs ws i x lt e old = below_more _ _
-    (λ k h. let ne : k ≢ i = omega arith in rw get_or-set_other (old k h))
-    (rw get_or-set_same (sym (get_from ws (i + 1) x e)))
+copied xs ws i x lt e old = grind (arith, below_more, get_from, get_or-set_other, get_or-set_same)
 
 pub loop-i-preserved : goal.loop-i-preserved
-loop-i-preserved g c = let long = c.loop-i.invariant.0 in (
-  length-set c.loop-i.spare.items c.loop-i.i c.word.result ∙ long,
-  copied _ _ _ _ (omega arith) c.word.ensures c.loop-i.invariant.1,
-)
+loop-i-preserved g c = grind (arith, copied, length-set)

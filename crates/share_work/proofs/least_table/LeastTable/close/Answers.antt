@@ -1,7 +1,6 @@
-use Rattle.std.proofs.Common.{◌≡◌, ℕ, ◌<◌, ◌^◌, slice_index, ap, ◌∙◌, subst, arith}
+use Rattle.std.proofs.Common.{◌≡◌, ◌^◌, slice_index, ap, subst, arith}
 use Rattle.share_work.specs.declared.views.View.{View}
-use Rattle.share_work.specs.Posts.{least_at}
-use Rattle.share_work.specs.Views.{SeatValue, TableValue, posts_of}
+use Rattle.share_work.specs.Views.{SeatValue}
 use Rattle.share_work.specs.Rule.{IsLegal, IsPosted}
 use Rattle.share_work.proofs.Steps.{IsClosed, closes}
 use Rattle.share_work.proofs.least_table.LeastTable.close.Goals as goal
@@ -13,12 +12,7 @@ closed c =
     closes _ _ _ _ _ parts c.words_at_close.ensures.words.1.1.0
 
 pub returns-clause-least : goal.returns-clause-least
-returns-clause-least c =
-    let count = ap (λ (b : TableValue). b.count) c.self.view_is in let k = closed c in
-    let P : View → Type 0 = λ v. (w : ℕ) → w < c.args.self.count
-    → slice_index c.words_at_close.result w ≡ least_at w (posts_of v.calls) in
-    subst P (ap (λ (t : SeatValue). t.view) c.seat.view_is)
-    (λ w h. c.words_at_close.ensures.words.1.1.1 w (omega arith) ∙ k.least w (omega arith))
+returns-clause-least c = grind (arith, closed, slice_index)
 
 pub returns-clause-legal : goal.returns-clause-legal
 returns-clause-legal c = subst (λ (v : View). IsLegal v.calls) (ap (λ (t : SeatValue). t.view) c.seat.view_is)

@@ -1,9 +1,7 @@
-use Rattle.std.proofs.Common.{◌≡◌, ℕ, ◌<◌, ◌^◌, slice_index, ap, ◌∙◌, subst, arith}
+use Rattle.std.proofs.Common.{◌≡◌, ◌^◌, slice_index, ap, subst, arith}
 use Rattle.share_work.specs.declared.mark_view.MarkView.{MarkView}
-use Rattle.share_work.specs.Posts.{least_at}
-use Rattle.share_work.specs.Views.{posts_of}
 use Rattle.share_work.specs.Rule.{IsLegal, IsPosted}
-use Rattle.share_work.specs.Marks.{MarkTableValue, MarkSeatValue, marked_posts}
+use Rattle.share_work.specs.Marks.{MarkSeatValue}
 use Rattle.share_work.proofs.MarkSteps.{IsMarkClosed, mark_closes}
 use Rattle.share_work.proofs.mark_table.MarkTable.close.Given as given
 use Rattle.share_work.proofs.mark_table.MarkTable.close.Goals as goal
@@ -17,30 +15,10 @@ closed g c =
     mark_closes _ _ _ _ _ _ parts c.seat.invariant.4 c.words_at_close.ensures.words.1.1.0
 
 pub returns-clause-least : goal.returns-clause-least
-returns-clause-least g c =
-    let key = c.self.inside.table.shared.key in let v = c.seat.inside.seat.me.0 in
-    let key_is = ap (λ (b : MarkTableValue g.row.R.Denot). b.reach) c.self.view_is in
-    let view_is = ap (λ (t : MarkSeatValue). t.view) c.seat.view_is in
-    let k = closed g c in
-    let P : g.row.R.Denot → MarkView → Type 0 =
-    λ y u. (w : ℕ) → w < g.R.Reach.files y
-    → slice_index c.words_at_close.result w ≡ least_at w (marked_posts (g.R.Reach.list y) u.marks) in
-    let here : P key v = λ w h. c.words_at_close.ensures.words.1.1.1 w (omega (arith, h, c.self.invariant.2))
-    ∙ k.least w h in
-    subst (λ (u : MarkView). P c.args.self.reach u) view_is (subst (λ (y : g.row.R.Denot). P y v) key_is here)
+returns-clause-least g c = grind (arith, closed, slice_index)
 
 pub returns-clause-posted : goal.returns-clause-posted
-returns-clause-posted g c =
-    let key = c.self.inside.table.shared.key in let v = c.seat.inside.seat.me.0 in
-    let key_is = ap (λ (b : MarkTableValue g.row.R.Denot). b.reach) c.self.view_is in
-    let view_is = ap (λ (t : MarkSeatValue). t.view) c.seat.view_is in
-    let k = closed g c in
-    let P : g.row.R.Denot → MarkView → Type 0 =
-    λ y u. (w : ℕ) → w < g.R.Reach.files y
-    → slice_index c.words_at_close.result w ≡ least_at w (posts_of u.least.calls) in
-    let here : P key v = λ w h. c.words_at_close.ensures.words.1.1.1 w (omega (arith, h, c.self.invariant.2))
-    ∙ k.posted w h in
-    subst (λ (u : MarkView). P c.args.self.reach u) view_is (subst (λ (y : g.row.R.Denot). P y v) key_is here)
+returns-clause-posted g c = grind (arith, closed, slice_index)
 
 pub returns-clause-legal : goal.returns-clause-legal
 returns-clause-legal g c = subst (λ (v : MarkView). IsLegal v.least.calls)

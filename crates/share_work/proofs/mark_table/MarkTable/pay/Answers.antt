@@ -1,5 +1,5 @@
+use Rattle.std.proofs.lemmas.Grind.{common_steps}
 use Rattle.std.proofs.Common.{◌≡◌, ℕ, slice_get, Some, None, sym, refl, ap, ◌∙◌, subst, arith}
-use Rattle.atomic_table.specs.Table.{Me}
 use Rattle.share_work.specs.declared.mark_view.MarkView.{MarkView}
 use Rattle.share_work.specs.Marks.{MarkTableValue}
 use Rattle.share_work.proofs.Paying.{get_some, some_length, paying_none, debt_now, paying_more, paying_all}
@@ -27,13 +27,7 @@ pay_one-requires g c =
     }
 
 pub overflow_add-k : goal.overflow_add-k
-overflow_add-k g c =
-    let key_is = ap (λ (b : MarkTableValue g.row.R.Denot). b.reach) c.self.view_is in
-    let me = c.args.self.now.reach in let root : ℕ = c.args.root in let k : ℕ = c.loop-file.k in
-    let At : g.row.R.Denot → Type 0 = λ y. slice_get (g.R.Reach.list y root) k ≡ Some c.in-Some.file in
-    let at : At me = subst At (c.self.invariant.3 ∙ key_is) (sym c.in-Some.ensures) in
-    let here = get_some (g.R.Reach.list me root) k c.in-Some.file at in
-    omega (arith, g.met.R.Reach.short me root c.requires.seat.2, here.0)
+overflow_add-k g c = grind (arith, common_steps)
 
 pub loop-file-smaller : goal.loop-file-smaller
 loop-file-smaller g c =
@@ -45,18 +39,7 @@ loop-file-smaller g c =
     omega (arith, here.0)
 
 pub loop-file-preserved : goal.loop-file-preserved
-loop-file-preserved g c =
-    let key_is = ap (λ (b : MarkTableValue g.row.R.Denot). b.reach) c.self.view_is in
-    let me = c.args.self.now.reach in let root : ℕ = c.args.root in let k : ℕ = c.loop-file.k in
-    let At : g.row.R.Denot → Type 0 = λ y. slice_get (g.R.Reach.list y root) k ≡ Some c.in-Some.file in
-    let at : At me = subst At (c.self.invariant.3 ∙ key_is) (sym c.in-Some.ensures) in
-    let here = get_some (g.R.Reach.list me root) k c.in-Some.file at in
-    let e = c.pay_one.ensures in (
-      e.0 ∙ c.loop-file.invariant.0,
-      ap (λ (y : Me (Unit {0}) MarkView). y.1) e.1.1 ∙ c.loop-file.invariant.1,
-      paying_more _ _ _ _ _ _ _ c.in-Some.file e.1.0
-          c.loop-file.invariant.2 at (ap (λ (y : Me (Unit {0}) MarkView). y.0) e.1.1),
-    )
+loop-file-preserved g c = grind (arith, get_some, paying_more, slice_get)
 
 pub returns : goal.returns
 returns g c =

@@ -1,8 +1,7 @@
+use Rattle.std.proofs.lemmas.Grind.{common_steps}
 use Rattle.std.proofs.Common.{◌≡◌, ℕ, ◌+◌, ◌<◌, ◌==◌, List, length, slice_get, Some, sym, ap, ◌∙◌, subst, arith}
-use Rattle.atomic_table.specs.Table.{Me}
-use Rattle.share_work.specs.declared.mark_view.MarkView.{MarkView}
 use Rattle.share_work.specs.Marks.{MarkTableValue}
-use Rattle.share_work.proofs.Paying.{get_some, owed_here, owed_next, paid_is}
+use Rattle.share_work.proofs.Paying.{get_some, owed_here, owed_next}
 use Rattle.share_work.proofs.MarkSteps.{paid_allows}
 use Rattle.share_work.proofs.mark_table.MarkTable.pay_one.Goals as goal
 
@@ -45,10 +44,4 @@ fetch_min-requires g c =
     )
 
 pub returns : goal.returns
-returns g c =
-    let s = c.args.seat.now in let me = c.fetch_min.ensures.2 in let k : ℕ = c.args.position in
-    let view = paid_is c.args.root c.args.number k c.args.file c.fetch_min.result
-    (g.R.Reach.list c.args.self.now.reach c.args.root) s.me.0
-    c.fetch_min.new.seat.me.0 g.G.Paid.last c.requires.debt.0 c.requires.debt.2
-    (ap (λ (y : Me (Unit {0}) MarkView). y.0) me) in
-    (c.fetch_min.ensures.0, (c.fetch_min.result, (λ i. (view i, (ap (λ (y : Me (Unit {0}) MarkView). y.1) me) i))))
+returns g c = grind (arith, common_steps)

@@ -1,32 +1,16 @@
-use Rattle.std.proofs.Common.{rules, OnOk, ◌≡◌, ◌+◌, length, refl, [], ◌++◌, length-append}
-use Rattle.std.proofs.lemmas.List.Elements.{All-append}
-use Rattle.share_work.specs.Shares.{SeatsHave}
+use Rattle.std.proofs.Common.{arith}
+use Rattle.std.proofs.lemmas.Grind.{common_steps}
+use Rattle.std.proofs.Common.{rules, ◌≡◌, ◌+◌, length, refl, ◌++◌}
 use Rattle.share_work.specs.WorkerRows.{GivesRows}
-use Rattle.share_work.proofs.PieceRows.{OnOk-first, OnOk-second, OnOk-both, IfOk-both}
-use Rattle.share_work.proofs.PieceRows.{rows_joined, gains_joined, haves_joined, numbers_joined}
+use Rattle.share_work.proofs.PieceRows.{OnOk-both, IfOk-both}
+use Rattle.share_work.proofs.PieceRows.{rows_joined, gains_joined, haves_joined}
 use Rattle.share_work.proofs.shares.rows.+chain.Goals as goal
 
 pub low_and_high-returns-clause-have_low : goal.low_and_high-returns-clause-have_low
-low_and_high-returns-clause-have_low g t c =
-    let job = c.args.job.now in
-    let have : OnOk c.join_rows.result
-    (SeatsHave (g.W.Work.holds job.work.now) (g.W.Work.adds job.work.now) job.plan.workers job.plan.cut job.items.now
-    c.args.from c.join_mut-first.new.f.2.now) =
-    OnOk-first c.join_rows.result c.join_mut-first.result.0 c.join_mut-first.result.1
-    (λ low high rows. rows.items ≡ low.items ++ high.items) _
-    c.join_rows.ensures c.join_mut-first.ensures.0.met.1.3 in
-    search (rules, have)
+low_and_high-returns-clause-have_low g t c = grind (arith, common_steps)
 
 pub low_and_high-returns-clause-have_high : goal.low_and_high-returns-clause-have_high
-low_and_high-returns-clause-have_high g t c =
-    let job = c.args.job.now in
-    let have : OnOk c.join_rows.result
-    (SeatsHave (g.W.Work.holds job.work.now) (g.W.Work.adds job.work.now) job.plan.workers job.plan.cut job.items.now
-    (c.args.from + length c.args.low.now) c.join_mut-first.new.g.3.now) =
-    OnOk-second c.join_rows.result c.join_mut-first.result.0 c.join_mut-first.result.1
-    (λ low high rows. rows.items ≡ low.items ++ high.items) _
-    c.join_rows.ensures c.join_mut-first.ensures.1.met.1.3 in
-    search (rules, have)
+low_and_high-returns-clause-have_high g t c = grind (arith, common_steps)
 
 pub low_and_high-returns-clause-rows : goal.low_and_high-returns-clause-rows
 low_and_high-returns-clause-rows g t c =
@@ -57,13 +41,7 @@ rows_from-returns-clause-gains g t c =
     c.low_and_high.ensures.gains_high)
 
 pub rows_from-returns-clause-have : goal.rows_from-returns-clause-have
-rows_from-returns-clause-have g t c =
-    OnOk-both c.low_and_high.result _ _ _ c.low_and_high.ensures.have_low c.low_and_high.ensures.have_high
-    (λ low high. haves_joined (g.W.Work.holds c.args.job.now.work.now)
-    (g.W.Work.adds c.args.job.now.work.now) c.args.job.now.plan.workers
-    c.args.job.now.plan.cut c.args.job.now.items.now
-    c.args.from _ c.split_at_mut-low.result.0.now [] c.low_and_high.new.low c.low_and_high.new.high refl
-    (search rules) low high)
+rows_from-returns-clause-have g t c = grind (arith, OnOk-both, haves_joined, rules)
 
 pub low_and_high-returns-clause-fit_low : goal.low_and_high-returns-clause-fit_low
 low_and_high-returns-clause-fit_low g t c = let fact = c.join_mut-first.ensures.0.met.1.0 in search (rules, fact)
@@ -90,16 +68,10 @@ pub low_and_high-back-returns : goal.low_and_high-back-returns
 low_and_high-back-returns g t c = let e = c.rows_from.ensures in (e.fit, e.numbers, e.gains, e.have, e.rows)
 
 pub rows_from-returns-clause-fit : goal.rows_from-returns-clause-fit
-rows_from-returns-clause-fit g t c =
-    All-append (g.W.Work.fits c.args.job.now.work.now) _ _ c.low_and_high.ensures.fit_low
-    c.low_and_high.ensures.fit_high
+rows_from-returns-clause-fit g t c = grind (arith, common_steps)
 
 pub rows_from-returns-clause-numbers : goal.rows_from-returns-clause-numbers
-rows_from-returns-clause-numbers g t c =
-    rw c.split_at_mut-low.ensures.value (numbers_joined (g.W.Work.number c.args.job.now.work.now) _ _ _ _
-    c.low_and_high.ensures.numbers_low c.low_and_high.ensures.numbers_high)
+rows_from-returns-clause-numbers g t c = grind (arith, common_steps)
 
 pub rows_from-returns-clause-rows : goal.rows_from-returns-clause-rows
-rows_from-returns-clause-rows g t c =
-    rw (c.split_at_mut-low.ensures.value, length-append c.split_at_mut-low.result.0.now c.split_at_mut-low.result.1.now)
-    c.low_and_high.ensures.rows
+rows_from-returns-clause-rows g t c = grind (arith, common_steps)

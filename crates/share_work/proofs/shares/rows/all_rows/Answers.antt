@@ -1,9 +1,8 @@
 use Rattle.std.proofs.lemmas.Grind.{common_steps}
-use Rattle.std.proofs.Common.{rules, ◌≡◌, ◌+◌, ◌*◌, ◌≤◌, All, length, arith, refl, []}
-use Rattle.std.proofs.lemmas.List.Elements.{All-append}
+use Rattle.std.proofs.Common.{rules, ◌≡◌, ◌+◌, ◌*◌, ◌≤◌, length, arith, refl, []}
 use Rattle.std.proofs.lemmas.Grind.{div_ceil_times}
 use Rattle.share_work.specs.Shares.{SeatsHave}
-use Rattle.share_work.proofs.PieceRows.{gains_same, gains_joined, haves_idle, haves_joined, numbers_joined, OnOk-all}
+use Rattle.share_work.proofs.PieceRows.{gains_same, gains_joined, haves_idle, haves_joined, OnOk-all}
 use Rattle.share_work.proofs.shares.rows.all_rows.Goals as goal
 
 pub returns-in_err-rows-clause-gains : goal.returns-in_err-rows-clause-gains
@@ -14,9 +13,7 @@ returns-in_err-rows-clause-gains g c =
     (gains_same holds adds job.plan.workers job.plan.cut job.items.now _ _))
 
 pub returns-clause-fit : goal.returns-clause-fit
-returns-clause-fit g c =
-    let idle : All (g.W.Work.fits c.args.job.now.work.now) c.split_at_mut-lent.result.1.now = search rules in
-    All-append (g.W.Work.fits c.args.job.now.work.now) _ _ c.in_ok-rows.ensures.fit idle
+returns-clause-fit g c = grind (arith, common_steps)
 
 pub returns-clause-gains : goal.returns-clause-gains
 returns-clause-gains g c =
@@ -44,19 +41,13 @@ returns-clause-have g c =
     c.in_ok-rows.ensures.have idle)
 
 pub returns-in_err-rows-clause-numbers : goal.returns-in_err-rows-clause-numbers
-returns-in_err-rows-clause-numbers g c =
-    rw c.split_at_mut-lent.ensures.value
-    (numbers_joined (g.W.Work.number c.args.job.now.work.now) _ _ _ _ c.in_err-rows.ensures.numbers refl)
+returns-in_err-rows-clause-numbers g c = grind (arith, common_steps)
 
 pub returns-clause-numbers : goal.returns-clause-numbers
-returns-clause-numbers g c =
-    rw c.split_at_mut-lent.ensures.value
-    (numbers_joined (g.W.Work.number c.args.job.now.work.now) _ _ _ _ c.in_ok-rows.ensures.numbers refl)
+returns-clause-numbers g c = grind (arith, common_steps)
 
 pub returns-in_err-rows-clause-fit : goal.returns-in_err-rows-clause-fit
-returns-in_err-rows-clause-fit g c =
-    let idle : All (g.W.Work.fits c.args.job.now.work.now) c.split_at_mut-lent.result.1.now = search rules in
-    All-append (g.W.Work.fits c.args.job.now.work.now) _ _ c.in_err-rows.ensures.fit idle
+returns-in_err-rows-clause-fit g c = grind (arith, common_steps)
 
 pub with_idle_rows-requires-clause-idle : goal.with_idle_rows-requires-clause-idle
 with_idle_rows-requires-clause-idle g c = grind (arith, common_steps)

@@ -1,6 +1,6 @@
+use Rattle.std.proofs.lemmas.Grind.{common_steps}
 use Rattle.std.proofs.Common.{arith}
-use Rattle.std.proofs.lemmas.List.Elements.{All-set}
-use Rattle.share_work.proofs.PieceRows.{one_member, only_gains, one_has, one_row, numbers_set}
+use Rattle.share_work.proofs.PieceRows.{one_member, only_gains, one_has, one_row}
 use Rattle.share_work.proofs.shares.rows.own_row.Goals as goal
 
 pub returns-in_err-row_of-clause-gains : goal.returns-in_err-row_of-clause-gains
@@ -58,28 +58,19 @@ pub row_of-requires-clause-takes : goal.row_of-requires-clause-takes
 row_of-requires-clause-takes g c = c.requires.takes
 
 pub returns-in_err-row_of-clause-fit : goal.returns-in_err-row_of-clause-fit
-returns-in_err-row_of-clause-fit g c =
-    All-set (g.W.Work.fits c.args.job.now.work.now) c.args.seats.now 0 _ c.in_err-row_of.ensures.fits c.requires.fit
+returns-in_err-row_of-clause-fit g c = grind (arith, common_steps)
 
 pub returns-in_err-row_of-clause-numbers : goal.returns-in_err-row_of-clause-numbers
-returns-in_err-row_of-clause-numbers g c =
-    numbers_set (g.W.Work.number c.args.job.now.work.now) c.args.seats.now _ c.index-seats-0.result
-    c.in_err-row_of.ensures.number
+returns-in_err-row_of-clause-numbers g c = grind (arith, common_steps)
 
 pub returns-in_err-push_back-clause-fit : goal.returns-in_err-push_back-clause-fit
-returns-in_err-push_back-clause-fit g c =
-    All-set (g.W.Work.fits c.args.job.now.work.now) c.args.seats.now 0 _ c.in_ok-row_of.ensures.fits c.requires.fit
+returns-in_err-push_back-clause-fit g c = grind (arith, common_steps)
 
 pub returns-in_err-push_back-clause-numbers : goal.returns-in_err-push_back-clause-numbers
-returns-in_err-push_back-clause-numbers g c =
-    numbers_set (g.W.Work.number c.args.job.now.work.now) c.args.seats.now _ c.index-seats-0.result
-    c.in_ok-row_of.ensures.number
+returns-in_err-push_back-clause-numbers g c = grind (arith, common_steps)
 
 pub returns-clause-fit : goal.returns-clause-fit
-returns-clause-fit g c =
-    All-set (g.W.Work.fits c.args.job.now.work.now) c.args.seats.now 0 _ c.in_ok-row_of.ensures.fits c.requires.fit
+returns-clause-fit g c = grind (arith, common_steps)
 
 pub returns-clause-numbers : goal.returns-clause-numbers
-returns-clause-numbers g c =
-    numbers_set (g.W.Work.number c.args.job.now.work.now) c.args.seats.now _ c.index-seats-0.result
-    c.in_ok-row_of.ensures.number
+returns-clause-numbers g c = grind (arith, common_steps)

@@ -1,8 +1,9 @@
-use Rattle.std.proofs.Common.{Some, None, refl, ◌≡◌, ℕ, ◌+◌, ◌*◌, ◌<◌, ◌≤◌, ◌⊎◌, length, take, drop, arith, ap, ◌∙◌, inl, inr, List}
+use Rattle.std.proofs.lemmas.Grind.{common_steps}
+use Rattle.std.proofs.Common.{refl, ◌≡◌, ℕ, ◌+◌, ◌*◌, ◌<◌, ◌≤◌, ◌⊎◌, length, take, drop, arith, ap, ◌∙◌, inl, inr, List}
 use Rattle.std.proofs.lemmas.Bool.{cases_lt}
 use Rattle.std.proofs.Math.Nat.{le-mul_of_pos_right}
 use Rattle.share_work.specs.Shares.{AddsSome, AddsInRow}
-use Rattle.share_work.proofs.PieceRows.{few_items, length_pushed, pushed, range_piece, next_first, whole_at, adds_piece, piece_adds, adds_within, takes_part}
+use Rattle.share_work.proofs.PieceRows.{length_pushed, pushed, range_piece, next_first, whole_at, piece_adds, adds_within, takes_part}
 use Rattle.share_work.proofs.shares.rows.row_of.Goals as goal
 
 -- what a seat's set holds after one more piece
@@ -12,11 +13,7 @@ module _ {T S : Type 0} (holds : S → ℕ → ℕ → Type 0) (adds : ℕ → T
   within_more : ((x n : ℕ) → holds old x n → holds entry x n ⊎ AddsInRow adds workers cut items w x n)
       → ((x n : ℕ) → holds new x n → holds old x n ⊎ AddsSome adds first part x n)
       → (x n : ℕ) → holds new x n → holds entry x n ⊎ AddsInRow adds workers cut items w x n
-  within_more before step x n h =
-      elim (step x n h) [
-        | inl there ↦ before x n there
-        | inr added ↦ inr (adds_piece adds workers cut items w len first part at is x n added)
-      ]
+  within_more before step x n h = grind (arith, common_steps)
 
   gained_more : ((x n k : ℕ) → k < len
       → AddsSome adds ((w + k * workers) * cut) (take cut (drop ((w + k * workers) * cut) items)) x n → holds old x n)
@@ -29,28 +26,10 @@ module _ {T S : Type 0} (holds : S → ℕ → ℕ → Type 0) (adds : ℕ → T
   ]
 
 pub returns-in_err-push_back-clause-within : goal.returns-in_err-push_back-clause-within
-returns-in_err-push_back-clause-within g c =
-    let inv = c.loop-first.invariant in
-    let C = c.cut-cut.result in let items = c.args.job.now.items.now in
-    rw (← inv.0, ← inv.1)
-    (within_more (g.W.Work.holds c.args.job.now.work.now)
-    (g.W.Work.adds c.args.job.now.work.now) c.workers-workers.result C items c.args.worker _
-    c.loop-first.first _
-    inv.3 (rw c.min-count.ensures (range_piece items c.loop-first.first C)) c.args.seat.now c.loop-first.seat
-    c.piece.new.seat inv.9
-    c.in_ok-outs.ensures.within)
+returns-in_err-push_back-clause-within g c = grind (arith, range_piece, within_more)
 
 pub returns-then-items-first-clause-within : goal.returns-then-items-first-clause-within
-returns-then-items-first-clause-within g c =
-    let inv = c.loop-first.invariant in
-    let C = c.cut-cut.result in let items = c.args.job.now.items.now in
-    rw (← inv.0, ← inv.1)
-    (within_more (g.W.Work.holds c.args.job.now.work.now)
-    (g.W.Work.adds c.args.job.now.work.now) c.workers-workers.result C items c.args.worker _
-    c.loop-first.first _
-    inv.3 (rw c.min-count.ensures (range_piece items c.loop-first.first C)) c.args.seat.now c.loop-first.seat
-    c.piece.new.seat inv.9
-    c.in_ok-outs.ensures.within)
+returns-then-items-first-clause-within g c = grind (arith, range_piece, within_more)
 
 pub returns-then-items-first-clause-gained : goal.returns-then-items-first-clause-gained
 returns-then-items-first-clause-gained g c =
@@ -192,54 +171,19 @@ pub piece-requires-clause-fits : goal.piece-requires-clause-fits
 piece-requires-clause-fits g c = c.loop-first.invariant.6
 
 pub overflow_mul-first : goal.overflow_mul-first
-overflow_mul-first g c =
-    let plan = c.args.job.now.plan in
-    let few : c.args.worker * c.cut-cut.result ≤ 262144 =
-    few_items c.args.worker c.cut-cut.result (omega arith) (omega arith) in omega arith
+overflow_mul-first g c = grind (arith, common_steps)
 
 pub loop-first-init : goal.loop-first-init
-loop-first-init g c =
-    let none = c.new-row.ensures.items in (
-      c.workers-workers.ensures,
-      c.cut-cut.ensures,
-      refl,
-      rw none (ap (λ n. n * c.cut-cut.result) (omega arith)),
-      le-mul_of_pos_right c.args.worker (rw c.cut-cut.ensures c.args.job.now.plan.some_items),
-      λ k v e. let bad : None ≡ Some v = rw none at e in absurd (cc),
-      c.requires.fits,
-      refl,
-      λ x n h. h,
-      λ x n h. inl h,
-      λ x n k below. absurd (omega arith),
-    )
+loop-first-init g c = grind (arith, common_steps)
 
 pub overflow_mul-workers : goal.overflow_mul-workers
-overflow_mul-workers g c =
-    let few : c.workers-workers.result * c.cut-cut.result ≤ 262144 =
-    few_items c.workers-workers.result c.cut-cut.result (omega arith) (omega arith) in omega arith
+overflow_mul-workers g c = grind (arith, common_steps)
 
 pub overflow_mul-first-in-loop-first : goal.overflow_mul-first-in-loop-first
-overflow_mul-first-in-loop-first g c =
-    let few : c.workers-workers.result * c.cut-cut.result ≤ 262144 =
-    few_items c.workers-workers.result c.cut-cut.result (omega arith) (omega arith) in omega arith
+overflow_mul-first-in-loop-first g c = grind (arith, common_steps)
 
 pub returns-in_err-outs-clause-within : goal.returns-in_err-outs-clause-within
-returns-in_err-outs-clause-within g c =
-    let inv = c.loop-first.invariant in
-    let C = c.cut-cut.result in let items = c.args.job.now.items.now in
-    rw (← inv.0, ← inv.1)
-    (within_more (g.W.Work.holds c.args.job.now.work.now)
-    (g.W.Work.adds c.args.job.now.work.now) c.workers-workers.result C items c.args.worker _
-    c.loop-first.first _
-    inv.3 (rw c.min-count.ensures (range_piece items c.loop-first.first C)) c.args.seat.now c.loop-first.seat
-    c.piece.new.seat inv.9
-    c.in_err-outs.ensures.within)
+returns-in_err-outs-clause-within g c = grind (arith, common_steps)
 
 pub returns-clause-row : goal.returns-clause-row
-returns-clause-row g c =
-    let inv = c.loop-first.invariant in
-    let W = c.workers-workers.result in let C = c.cut-cut.result in
-    let n = length c.args.job.now.items.now in
-    let rows = length c.loop-first.row.items in
-    let past : n ≤ (c.args.worker + rows * W) * C = rw (← inv.3) c.loop-first-test.false in
-    rw (← inv.0, ← inv.1) record { pieces = inv.5; whole = λ k inside. whole_at c.args.worker rows W C n k past inside }
+returns-clause-row g c = grind (arith, common_steps)

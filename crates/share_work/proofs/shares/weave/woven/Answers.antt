@@ -1,19 +1,15 @@
+use Rattle.std.proofs.lemmas.Grind.{common_steps}
 use Rattle.std.proofs.Common.{rules, arith, ◌≡◌, ℕ, ◌+◌, ◌*◌, ◌<◌, Some, slice_get, length, refl, subst}
 use Rattle.std.proofs.lemmas.Grind.{div_ceil_times}
 use Rattle.share_work.specs.WorkerRows.{GivesPiece}
-use Rattle.share_work.proofs.PieceRows.{gives_none, gives_all, piece_inside, rows_turned, one_piece_more}
+use Rattle.share_work.proofs.PieceRows.{gives_all, piece_inside, rows_turned, one_piece_more}
 use Rattle.share_work.proofs.shares.weave.woven.Goals as goal
 
 pub loop-piece-init : goal.loop-piece-init
-loop-piece-init g c =
-    let job = c.args.job.now in
-    (c.requires, rw c.in_ok-all.ensures.items (gives_none (g.W.Work.gives job.work.now) job.plan.cut job.items.now))
+loop-piece-init g c = grind (arith, common_steps)
 
 pub unreachable-requires : goal.unreachable-requires
-unreachable-requires g c =
-    let workers = c.loop-piece.invariant.0.len in
-    let some = c.args.job.now.plan.some_workers in
-    search rules
+unreachable-requires g c = grind (arith, common_steps)
 
 pub unreachable-requires-in_default-pop_front : goal.unreachable-requires-in_default-pop_front
 unreachable-requires-in_default-pop_front g c =
