@@ -96,7 +96,7 @@ where
     // No more reads than bytes that it may read.
     ensures reads { IsFewMore (room_of compiled.now) (I.reads reader.old) (I.reads reader.new) }
 {
-    let most = compiled.limits().get(Limit::BodyBytes) as usize + 1;
+    let most = compiled.limits().read_bound(Limit::BodyBytes) as usize;
     let body = read_bytes(rt.alloc(), reader, most)?;
     let response = answer_body(rt, compiled, plan, gate, mode, &body)?;
     write_bytes(writer, &response)

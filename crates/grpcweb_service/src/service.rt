@@ -28,7 +28,7 @@ fn serve_each<R, T>(
     runtime: &mut Runtime,
     listener: TcpListener,
     responder: &Arc<T>,
-    limit: usize,
+    most: usize,
     connections: Option<u64>,
 ) -> Result<u64, ServeFault>
 where
@@ -43,13 +43,13 @@ where
     match connections {
         Some(count) => {
             for _ in 0..count {
-                serve_next(rt, runtime, &mut listener, &http, responder, limit)?;
+                serve_next(rt, runtime, &mut listener, &http, responder, most)?;
             }
             Ok(count)
         }
         None => {
             for _ in rt.forever() {
-                serve_next(rt, runtime, &mut listener, &http, responder, limit)?;
+                serve_next(rt, runtime, &mut listener, &http, responder, most)?;
             }
             unreachable!()
         }
@@ -77,11 +77,11 @@ where
     G: Gate + Copy + Sync,
     ensures { IfOk result (λ count. connections ≡ Some count) }
 {
-    let limit = compiled.limits().get(Limit::BodyBytes) as usize;
+    let most = compiled.limits().read_bound(Limit::BodyBytes) as usize;
     let own_rt = rt.clone()?;
     let responder = move |request: &Request<Vec<u8>>| -> Result<Response<Vec<u8>>, AllocError>
         requires { IsSync R.row × IsSync G.row }
     { response_to(&own_rt, &compiled, plan, &gate, mode, request) };
     let responder = Arc::new(rt.alloc(), responder).map_err(|_| ServeFault::NoMemory)?;
-    serve_each(rt, runtime, listener, &responder, limit, connections)
+    serve_each(rt, runtime, listener, &responder, most, connections)
 }

@@ -16,16 +16,15 @@ use tokio::runtime::Runtime;
 
 /// Accepts a connection and serves it to its end.
 ///
-/// It carries one request, whose body is read to its end or to one byte over the limit, and is closed behind the response.
-/// What goes wrong with it, want of memory in its response too, is its client's to see. A client that sends nothing holds the
-/// service.
+/// It carries one request, of whose body so many bytes are read at most, and is closed behind the response. What goes wrong
+/// with it, want of memory in its response too, is its client's to see. A client that sends nothing holds the service.
 pub fn serve_next<R, T>(
     rt: &R,
     runtime: &mut Runtime,
     listener: &mut TcpListener,
     http: &http1::Builder,
     responder: &Arc<T>,
-    limit: usize,
+    most: usize,
 ) -> Result<(), ServeFault>
 where
     R: Wait + Threads + Clock + RandomSource + AllocGlobal + Sync,
@@ -36,7 +35,7 @@ where
     let service = ResponderService {
         alloc: rt.alloc(),
         responder: Arc::try_clone(responder)?,
-        limit,
+        most,
     };
     let connection = http.serve_connection(socket, service);
     let _ = runtime.block_on(rt, connection)?;

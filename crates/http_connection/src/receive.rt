@@ -1,4 +1,4 @@
-//! Receiving a request: its head, and its body to the end or to one byte over the limit.
+//! Receiving a request: its head, and its body to the end or to so many bytes.
 
 ghost use Rattle.std.specs.Prelude.{◌≡◌};
 ghost use Rattle.hyper.specs.Incoming.{IncomingNeeds};
@@ -19,22 +19,22 @@ pub(crate) struct Receiving<I> {
     head: Option<Parts>,
     incoming: Incoming<I>,
     body: Option<Vec<u8>>,
-    /// One byte more than a body may have.
+    /// How many bytes of a body are read at most.
     most: usize,
 }
 
-/// Receives a request whose body may have so many bytes.
+/// Receives a request, of whose body so many bytes are read at most.
 pub(crate) fn receive<I: Drop>(
     alloc: Global,
     request: Request<Incoming<I>>,
-    limit: usize,
+    most: usize,
 ) -> Receiving<I> {
     let (head, incoming) = request.into_parts();
     Receiving {
         head: Some(head),
         incoming,
         body: Some(Vec::new(alloc)),
-        most: limit.saturating_add(1),
+        most,
     }
 }
 
@@ -54,7 +54,7 @@ impl<I> Receiving<I> {
             .is_some_and(|body| body.len() >= self.most)
     }
 
-    /// The request, whose body was read to its end, or to one byte over the limit.
+    /// The request, whose body was read to its end, or to so many bytes.
     fn take_request(&mut self) -> Result<Request<Vec<u8>>, ConnectionFault>
         ensures { self.new.incoming ≡ self.old.incoming }
     {

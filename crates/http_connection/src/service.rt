@@ -25,7 +25,7 @@ pub(crate) struct ResponderService<T> {
     pub(crate) alloc: Global,
     pub(crate) responder: Arc<T>,
     /// How many bytes a body may have.
-    pub(crate) limit: usize,
+    pub(crate) most: usize,
 }
 
 /// A request that comes in, and is answered then.
@@ -64,7 +64,7 @@ impl<T: Responder> Service<Request<Incoming>> for ResponderService<T> {
     fn call(&self, request: Request<Incoming>) -> ResponseFuture<T> {
         ResponseFuture {
             responder: Arc::try_clone(&self.responder).ok(),
-            receiving: receive(self.alloc, request, self.limit),
+            receiving: receive(self.alloc, request, self.most),
         }
     }
 }

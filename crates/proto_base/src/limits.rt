@@ -1,6 +1,6 @@
 //! Limits on what is compiled and answered.
 
-ghost use Rattle.std.specs.Prelude.{◌≡◌, ◌≢◌, ◌<◌, ◌≤◌, ◌↔◌, IsSome, IfSome};
+ghost use Rattle.std.specs.Prelude.{◌≡◌, ◌≢◌, ◌+◌, ◌<◌, ◌≤◌, ◌↔◌, IsSome, IfSome};
 
 /// One of the limits.
 #[derive(Clone, Copy, Debug, PartialEq, Eq)]
@@ -98,6 +98,14 @@ impl Limits {
             Limit::MessageBytes => self.message_bytes,
             Limit::Requests => self.requests,
         }
+    }
+
+    /// How much is read of what has a limit: one more than it may have, so that one that is too long is noticed.
+    pub fn read_bound(&self, limit: Limit) -> u64
+        ensures value { result ≡ limit_of self.now limit + 1 }
+        ensures within { result ≤ standard_of limit + 1 }
+    {
+        self.get(limit) + 1
     }
 
     /// These limits with a lower one. A limit is never 0 and never rises.

@@ -3,6 +3,7 @@
 -- Numbers of an enum may be negative. They are counted here from -2 ^ 64 on, which is 0, so that their order is that of
 -- numbers without a sign.
 use Rattle.std.specs.Prelude.{ℕ, ◌+◌, ◌-◌, ◌^◌, List, [], ◌∷◌, map, flat_map, Option, Some, None}
+use Rattle.std.specs.Option.{option_map_or, option_to_list}
 use Rattle.proto_base.specs.declared.place.Span.{Span}
 use Rattle.proto_tree.specs.declared.enumeration.EnumItem.{EnumItem}
 use Rattle.proto_tree.specs.declared.literal.NumberLiteral.{NumberLiteral}
@@ -10,7 +11,9 @@ use Rattle.proto_tree.specs.declared.literal.SignedNumber.{SignedNumber}
 use Rattle.proto_tree.specs.declared.literal.StringValue.{StringValue}
 use Rattle.proto_tree.specs.declared.message.MessageItem.{MessageItem}
 use Rattle.proto_tree.specs.declared.reserved.Range.{Range}
-use Rattle.proto_options.specs.Statements.{enum_value, message_reserved, enum_reserved, ranges_in, names_in, greatest_field_number, greatest_value_number, end_by}
+use Rattle.proto_tree.specs.declared.reserved.RangeEnd.{RangeEnd}
+use Rattle.proto_options.specs.Statements.{enum_value, message_reserved, enum_reserved, ranges_in, names_in, greatest_field_number, greatest_value_number}
+use Rattle.proto_tree.specs.Ranges.{last_number, number_of_bound}
 use Rattle.proto_tree.specs.Text.{joined}
 use Rattle.proto_checks.specs.Marks.{Marked}
 use Rattle.proto_checks.specs.Options.{OptionedField, optioned_fields}
@@ -45,17 +48,22 @@ field_numbers is = map field_number (flat_map optioned_fields is)
 abbrev pub value_numbers : List EnumItem → List MarkedNumber
 value_numbers is = map (λ v. signed_number v.number) (flat_map enum_value is)
 
--- a range by its bounds; one without an end ends at its start
+-- a range by its bounds
 abbrev pub marked_range : {N : Type 0} → (mark : N → MarkedNumber) → (greatest : ℕ) → Range N → MarkedRange
 marked_range mark greatest r = record {
   start = (mark r.start).number;
-  end = end_by (mark r.start).number (λ n. (mark n).number) greatest r.end;
+  end = option_map_or (λ n. (mark n).number) (last_number r.start r.end) greatest;
   place = (mark r.start).place;
 }
 
+-- the number of a range's end that it has and that is no `max`
+abbrev pub end_bound : {N : Type 0} → Option (RangeEnd N) → List N
+end_bound None = []
+end_bound (Some e) = option_to_list (number_of_bound e.bound)
+
 -- the bounds of a range that are numbers; `max` is in range
 abbrev pub bounds_of : {N : Type 0} → Range N → List N
-bounds_of r = r.start ∷ end_by [] (λ n. n ∷ []) [] r.end
+bounds_of r = r.start ∷ end_bound r.end
 
 abbrev pub reserved_name : StringValue → Marked
 reserved_name s = record { text = joined s; place = s.first.span.start }

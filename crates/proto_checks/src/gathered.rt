@@ -7,7 +7,7 @@ ghost use Rattle.proto_checks.specs.Options.{optioned_in_oneof};
 
 use crate::marks::{MarkedNumber, MarkedRange};
 use proto_tree::{
-    EnumItem, MessageItem, NumberLiteral, OneofItem, Range, ReservedItems, SignedNumber, UpperBound,
+    EnumItem, MessageItem, NumberLiteral, OneofItem, Range, ReservedItems, SignedNumber,
 };
 use std::alloc::{AllocError, Global};
 
@@ -99,12 +99,9 @@ fn message_range(range: &Range<NumberLiteral>) -> MarkedRange
     ensures { result ≡ marked_range literal greatest_field_number range.now }
 {
     let start = range.start.value as u128;
-    let end = match range.end {
-        None => start,
-        Some(end) => match end.bound {
-            UpperBound::Number(number) => number.value as u128,
-            UpperBound::Max(_) => FIELD_MAX,
-        },
+    let end = match range.last() {
+        Some(number) => number.value as u128,
+        None => FIELD_MAX,
     };
     MarkedRange {
         start,
@@ -136,7 +133,7 @@ fn bounds_of<N: Copy>(alloc: Global, listed: &[Range<N>]) -> Result<Vec<N>, Allo
     for range in listed {
         bounds.push(range.start)?;
         if let Some(end) = &range.end {
-            if let UpperBound::Number(number) = end.bound {
+            if let Some(number) = end.bound.number() {
                 bounds.push(number)?;
             }
         }
@@ -211,12 +208,9 @@ fn enum_range(range: &Range<SignedNumber>) -> MarkedRange
     ensures { result ≡ marked_range signed_number greatest_value range.now }
 {
     let start = signed_number(range.start);
-    let end = match range.end {
-        None => start.number,
-        Some(end) => match end.bound {
-            UpperBound::Number(number) => signed_number(number).number,
-            UpperBound::Max(_) => VALUE_MAX,
-        },
+    let end = match range.last() {
+        Some(number) => signed_number(number).number,
+        None => VALUE_MAX,
     };
     MarkedRange {
         start: start.number,

@@ -3,13 +3,10 @@
 ghost use Rattle.std.specs.Prelude.{◌<◌, IfOk};
 ghost use Rattle.share_work.specs.Shares.{GivesItems, TakesAll};
 
-use proto_names::Threading;
+use proto_names::{FEWEST, Threading};
 use share_work::{Gate, Plan, Work, in_shares};
 use std::alloc::{AllocError, AllocGlobal};
 use std::thread::Threads;
-
-/// Fewer items than this, each of which takes little, are not worth a thread.
-const LEAST: usize = 64;
 
 /// What becomes of descriptors once their bytes are written.
 #[derive(Clone, Copy)]
@@ -47,7 +44,7 @@ where
     pub(crate) fn threads_for(&self, items: usize) -> usize
         ensures { 0 < result }
     {
-        if items < LEAST {
+        if items < FEWEST {
             1
         } else {
             self.plan.workers() as usize

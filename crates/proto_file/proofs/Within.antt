@@ -1,7 +1,8 @@
 -- The spots of a file's broken rules lie within a text in which the tokens of its tree begin: what stands in the tree.
-use Rattle.std.proofs.Common.{subst, ℕ, List, [], ◌∷◌, map, inl, inr}
+use Rattle.std.proofs.Common.{subst, ℕ, List, map, inl, inr}
 use Rattle.std.specs.Prelude.{flat_map, Option, None, Some}
 use Rattle.std.specs.List.{AllByRecursion}
+use Rattle.std.specs.Option.{option_to_list}
 use Rattle.std.specs.Str.{byte}
 use Rattle.proto_base.specs.declared.kind.Kind.TheVariants as kind
 use Rattle.proto_base.specs.declared.place.Span.{Span}
@@ -36,6 +37,7 @@ use Rattle.proto_tree.specs.declared.reserved.ReservedItems.{ReservedItems}
 use Rattle.proto_tree.specs.declared.reserved.ReservedItems.TheVariants as reserved_items
 use Rattle.proto_tree.specs.declared.reserved.UpperBound.{UpperBound}
 use Rattle.proto_tree.specs.declared.reserved.UpperBound.TheVariants as upper_bound
+use Rattle.proto_tree.specs.Ranges.{number_of_bound}
 use Rattle.proto_tree.specs.declared.service.Rpc.{Rpc}
 use Rattle.proto_tree.specs.declared.service.RpcBody.{RpcBody}
 use Rattle.proto_tree.specs.declared.service.RpcBody.TheVariants as rpc_body
@@ -48,10 +50,10 @@ use Rattle.proto_syntax.proofs.Items.{item_field, item_map, item_oneof, item_enu
 use Rattle.proto_desc.specs.declared.rules.Element.{Element}
 use Rattle.proto_desc.specs.declared.rules.Element.TheVariants as element
 use Rattle.proto_options.specs.Options.{next_item, separated, bracketed, message_setting, enum_setting, service_setting, rpc_setting, oneof_setting}
-use Rattle.proto_options.specs.Statements.{message_oneof, message_enum, oneof_field, enum_value, service_rpc, rpc_items, message_reserved, enum_reserved, ranges_in, names_in, greatest_field_number, bound_by, end_by}
+use Rattle.proto_options.specs.Statements.{message_oneof, message_enum, oneof_field, enum_value, service_rpc, rpc_items, message_reserved, enum_reserved, ranges_in, names_in, greatest_field_number}
 use Rattle.proto_file.proofs.PlacesWithin.{Within, left_of, right_of, each_given, each_row, each_map, each_weaker, upto, ItemWithin, oneof_items_within, statement_field_within, returns_tree}
 use Rattle.proto_checks.specs.Elements.{OneofBreaks, ValueBreaks, EnumBreaks, BodyBreaks, RpcBreaks, ServiceBreaks}
-use Rattle.proto_checks.specs.Gathered.{literal, with_sign, signed_number, greatest_value, field_number, field_numbers, value_numbers, marked_range, bounds_of, reserved_name, message_ranges, message_bounds, message_reserved_names, enum_ranges, enum_bounds, enum_reserved_names}
+use Rattle.proto_checks.specs.Gathered.{literal, with_sign, signed_number, greatest_value, field_number, field_numbers, value_numbers, marked_range, end_bound, bounds_of, reserved_name, message_ranges, message_bounds, message_reserved_names, enum_ranges, enum_bounds, enum_reserved_names}
 use Rattle.proto_checks.specs.Numbers.{RangesBreak, FieldNumbersBreak, EnumNumbersBreak, IsNoFieldNumber}
 use Rattle.proto_checks.specs.Options.{name_place, value_place, SettingBreaks, SettingsBreak, OptionedField, optioned_in_oneof, optioned_fields, FieldOptionsBreak, IsWronglyPacked, IsWronglyTyped}
 use Rattle.proto_checks.specs.Marks.{Marked}
@@ -199,12 +201,12 @@ names_within f n (reserved_items.Names s) all =
 
 end_within : {N : Type 0} (f : N → Tree) (n : ℕ) (e : Option (RangeEnd N))
     → Within (upto n) (optional (range_end_tree f) e)
-    → AllByRecursion (λ x. Within (upto n) (f x)) (end_by [] (λ x. x ∷ []) [] e)
+    → AllByRecursion (λ x. Within (upto n) (f x)) (end_bound e)
 end_within {N} f n None all = tt
 end_within {N} f n (Some e) all = by_bound e.bound all.1
   where
     by_bound : (b : UpperBound N) → Within (upto n) (bound_tree f b)
-        → AllByRecursion (λ x. Within (upto n) (f x)) (bound_by (λ x. x ∷ []) [] b)
+        → AllByRecursion (λ x. Within (upto n) (f x)) (option_to_list (number_of_bound b))
     by_bound (upper_bound.Number x) w = (w, tt)
     by_bound (upper_bound.Max s) w = tt
 

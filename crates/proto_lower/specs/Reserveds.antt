@@ -1,19 +1,21 @@
 -- Reserved ranges, and the numbers of literals with a sign.
 use Rattle.std.specs.Prelude.{false}
-use Rattle.std.specs.Option.{is_some}
+use Rattle.std.specs.Option.{is_some, option_map_or}
 use Rattle.proto_tree.specs.declared.literal.NumberLiteral.{NumberLiteral}
 use Rattle.proto_tree.specs.declared.literal.SignedNumber.{SignedNumber}
 use Rattle.proto_tree.specs.declared.reserved.Range.{Range}
+use Rattle.proto_tree.specs.Ranges.{last_number}
 use Rattle.proto_desc.specs.declared.enumeration.EnumReservedRange.{EnumReservedRange}
 use Rattle.proto_desc.specs.declared.message.ReservedRange.{ReservedRange}
 use Rattle.proto_desc.specs.declared.whole_number.WholeNumber.{WholeNumber}
 use Rattle.proto_desc.specs.WholeNumber.{signed}
-use Rattle.proto_options.specs.Statements.{greatest_field_number, greatest_value_number, end_by}
+use Rattle.proto_options.specs.Statements.{greatest_field_number, greatest_value_number}
 
--- a range without an end ends at its start
 abbrev pub message_range : Range NumberLiteral → ReservedRange
-message_range r =
-    record { start = r.start.value; end = end_by r.start.value (λ n. n.value) greatest_field_number r.end }
+message_range r = record {
+  start = r.start.value;
+  end = option_map_or (λ n. n.value) (last_number r.start r.end) greatest_field_number;
+}
 
 abbrev pub number_of_literal : SignedNumber → WholeNumber
 number_of_literal n = signed (is_some n.minus) n.number.value
@@ -21,5 +23,5 @@ number_of_literal n = signed (is_some n.minus) n.number.value
 abbrev pub enum_range : Range SignedNumber → EnumReservedRange
 enum_range r = record {
   start = number_of_literal r.start;
-  end = end_by (number_of_literal r.start) number_of_literal (signed false greatest_value_number) r.end;
+  end = option_map_or number_of_literal (last_number r.start r.end) (signed false greatest_value_number);
 }

@@ -11,21 +11,16 @@ use proto_desc::message::ReservedRange;
 use proto_desc::whole_number::WholeNumber;
 use proto_options::{FIELD_MAX, VALUE_MAX};
 use proto_tree::text::joined;
-use proto_tree::{
-    MessageItem, NumberLiteral, Range, ReservedItems, SignedNumber, StringValue, UpperBound,
-};
+use proto_tree::{MessageItem, NumberLiteral, Range, ReservedItems, SignedNumber, StringValue};
 use std::alloc::{AllocError, Global};
 
 fn message_range(range: &Range<NumberLiteral>) -> ReservedRange
     ensures { result ≡ message_range range.now }
 {
     let start = range.start.value;
-    let end = match range.end {
-        None => start,
-        Some(end) => match end.bound {
-            UpperBound::Number(number) => number.value,
-            UpperBound::Max(_) => FIELD_MAX,
-        },
+    let end = match range.last() {
+        Some(number) => number.value,
+        None => FIELD_MAX,
     };
     ReservedRange { start, end }
 }
@@ -41,12 +36,9 @@ fn enum_range(range: &Range<SignedNumber>) -> EnumReservedRange
     ensures { result ≡ enum_range range.now }
 {
     let start = number_of_literal(range.start);
-    let end = match range.end {
-        None => start,
-        Some(end) => match end.bound {
-            UpperBound::Number(number) => number_of_literal(number),
-            UpperBound::Max(_) => WholeNumber::signed(false, VALUE_MAX),
-        },
+    let end = match range.last() {
+        Some(number) => number_of_literal(number),
+        None => WholeNumber::signed(false, VALUE_MAX),
     };
     EnumReservedRange { start, end }
 }

@@ -1,5 +1,5 @@
 -- What a walk over files has put so far.
-use Rattle.std.proofs.Common.{inl, inr, ◌≡◌, ◌∙◌, sym, ℕ, zero, suc, ◌-◌, ◌+◌, ◌<◌, ◌≤◌, List, [], ◌∷◌, ◌++◌, length, map, take, drop, get_or, append_assoc, length-append, ap, ap₂, refl, subst, arith}
+use Rattle.std.proofs.Common.{inl, inr, ◌≡◌, ◌∙◌, sym, ℕ, suc, ◌-◌, ◌+◌, ◌<◌, ◌≤◌, List, [], ◌∷◌, ◌++◌, length, map, take, drop, get_or, append_assoc, length-append, ap, ap₂, refl, subst, arith}
 use Rattle.std.specs.Prelude.{Option, slice_get, Some}
 use Rattle.std.proofs.lemmas.Bool.{cases_lt}
 use Rattle.std.proofs.Math.Seq.{get_or-append_seam, take-add, take-append_seam}
@@ -10,6 +10,7 @@ use Rattle.proto_desc.specs.declared.file.FileDesc.{FileDesc}
 use Rattle.proto_names.specs.Collected.{ArePlaced, IsCollected, files_in}
 use Rattle.proto_names.specs.Shares.{all_of}
 use Rattle.share_work.specs.Shares.{GivesItems}
+use Rattle.share_work.proofs.Together.{get_there}
 use Rattle.proto_names.specs.Occurrences.{Occurrence, occurrences_of, occurrences_from}
 use Rattle.proto_names.specs.declared.part.Part.{Part}
 
@@ -100,11 +101,6 @@ module _ (parts : List Part) (k : ℕ) (p : Part) (stands : slice_get parts k �
         → all ≡ occurrences_from 0 (files_in (take (k + 1) parts))
     all_together all put = put ∙ ap₂ (λ (xs ys : List Occurrence). xs ++ ys) low high ∙ sym all_next
 
-part_at : (parts : List Part) (k : ℕ) → k < length parts → (p : Part) × (slice_get parts k ≡ Some p)
-part_at [] k within = absurd (omega (arith, within))
-part_at (p ∷ parts) zero within = (p, refl)
-part_at (p ∷ parts) (suc k) within = part_at parts k (omega (arith, within))
-
 -- what was collected in the next part
 pub collected_next : (limit : ℕ) (parts : List Part) (outs rest : List (Option (List Occurrence)))
     (all : List (List Occurrence))
@@ -118,7 +114,7 @@ collected_next limit parts outs rest all out given whole =
     let at : slice_get outs k ≡ Some out =
     slice_get-get_or outs k out within ∙ ap Some
     (ap (λ (l : List _). get_or l k out) (sym whole) ∙ get_or-append_seam (map Some all) out rest out) in
-    let (p, stands) = part_at parts k (omega (arith, given.0, within)) in
+    let (p, stands) = get_there parts k (omega (arith, given.0, within)) in
     let same : k ≡ length all = length-map all Some in
     (p, subst (λ n. slice_get parts n ≡ Some p) same stands, given.1 k p out stands at)
 

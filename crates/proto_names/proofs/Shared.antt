@@ -6,6 +6,7 @@ use Rattle.std.proofs.lemmas.List.Elements.{filter_more}
 use Rattle.std.proofs.lemmas.List.Sums.{count_by-le-length, length-filter}
 use Rattle.std.proofs.lemmas.Option.{slice_get_within}
 use Rattle.share_work.specs.Shares.{GivesItems}
+use Rattle.share_work.proofs.Together.{get_there}
 use Rattle.proto_names.specs.Occurrences.{Occurrence}
 use Rattle.proto_names.specs.Runs.{at, blank}
 use Rattle.proto_names.specs.Shares.{AreAllShares, AreSharesOf, IsSortedOf, share_at, share_of}
@@ -49,18 +50,11 @@ shares_given count os shares outs some all given =
       some = omega (arith, many, some);
       each = λ k out at.
           (let within = slice_get_within outs k out at in
-          let (s, stands) = share_there k (omega (arith, given.0, within)) in
+          let (s, stands) = get_there shares k (omega (arith, given.0, within)) in
           let same = all.1 k s stands in
           subst (λ n. IsSortedOf (share_of n k os) out) (same.1 ∙ sym many)
           (subst (λ n. IsSortedOf (share_of s.count n os) out) same.0 (given.1 k s out stands at)));
-    } where
-      there : (ss : List Share) (k : ℕ) → k < length ss → (s : Share) × (slice_get ss k ≡ Some s)
-      there [] k within = absurd (omega (arith, within))
-      there (s ∷ ss) zero within = (s, refl)
-      there (s ∷ ss) (suc k) within = there ss k (omega (arith, within))
-
-      share_there : (k : ℕ) → k < length shares → (s : Share) × (slice_get shares k ≡ Some s)
-      share_there k within = there shares k within
+    }
 
 pub alone_given : (os : List Occurrence) (s : SortedShare) → IsSortedOf os s → AreSharesOf os (s ∷ [])
 alone_given os s is = record {

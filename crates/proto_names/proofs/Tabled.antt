@@ -3,7 +3,7 @@ use Rattle.std.proofs.Common.{◌≡◌, ◌∙◌, sym, ap, ap₂, subst, refl,
 use Rattle.std.specs.Option.{option_map}
 use Rattle.std.specs.Prelude.{◌==◌, All, Contains, IsPermutation, MatchOption, Option, None, Some, filter, flat_map, slice_get}
 use Rattle.std.proofs.lemmas.Bool.{cases_lt, eq-eqb, eqb-true, not-true, true≢false}
-use Rattle.std.proofs.lemmas.List.{get_or_append_left, length-map, map-append}
+use Rattle.std.proofs.lemmas.List.{append-nil, get_or_append_left, length-map, map-append}
 use Rattle.std.proofs.lemmas.List.Elements.{All-filter, All-head, filter-append, filter_passes}
 use Rattle.std.proofs.lemmas.List.Sorted.{All-permutation, IsPermutation-append, IsPermutation-filter_both, IsPermutation-refl, IsPermutation-trans}
 use Rattle.std.proofs.lemmas.Nat.{mod_below}
@@ -36,6 +36,11 @@ of_map f xs k y at = of (slice_get xs k) refl where
   of None none = let bad : None ≡ Some y = sym (slice_get-map f xs k ∙ ap (option_map f) none) ∙ at in absurd (cc)
   of (Some x) some = let same : Some (f x) ≡ Some y = sym (slice_get-map f xs k ∙ ap (option_map f) some) ∙ at in
       (x, some, cc)
+
+-- all of a list are taken where none are left
+pub all_taken : {X : Type 0} (taken rest xs : List X) → taken ++ rest ≡ xs → length rest ≡ 0 → taken ≡ xs
+all_taken taken [] xs whole none = sym (append-nil taken) ∙ whole
+all_taken taken (x ∷ rest) xs whole none = absurd (omega (arith, none))
 
 pub in_map : {X Y : Type 0} (f : X → Y) (xs : List X) (k : ℕ) (x : X) → slice_get xs k ≡ Some x
     → slice_get (map f xs) k ≡ Some (f x)

@@ -10,7 +10,7 @@ use crate::entries::Entries;
 use crate::parts::{THREADS, collect_in_threads};
 use crate::share::Share;
 use crate::sorted::{SortedShare, sort_share};
-use crate::threading::Threading;
+use crate::threading::{FEWEST, Threading};
 use proto_desc::file::FileDesc;
 use share_work::{NoGate, Plan, Work, in_shares};
 use std::alloc::{AllocError, AllocGlobal, Global};
@@ -145,9 +145,6 @@ fn sorted_alone(
     Ok(Some(outs))
 }
 
-/// Fewer files than this are not worth a thread.
-const LEAST: usize = 64;
-
 /// The occurrences in files, in sorted shares, or none where they are more than the limit.
 pub(crate) fn sorted_shares<R>(
     rt: &R,
@@ -164,7 +161,7 @@ where
         (λ shares. AreSharesOf (occurrences files.now) shares.items)) }
 {
     match threading {
-        Threading::Shared if files.len() >= LEAST => sorted_in_threads(rt, files, limit),
+        Threading::Shared if files.len() >= FEWEST => sorted_in_threads(rt, files, limit),
         _ => sorted_alone(rt.alloc(), files, limit),
     }
 }

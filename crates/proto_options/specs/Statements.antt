@@ -1,5 +1,5 @@
 -- Statements by their kinds, the statements of a method, and what `reserved` statements list.
-use Rattle.std.specs.Prelude.{List, [], ◌∷◌, ℕ, Option, Some, None}
+use Rattle.std.specs.Prelude.{List, [], ◌∷◌, ℕ}
 use Rattle.proto_tree.specs.declared.enumeration.Enum.{Enum}
 use Rattle.proto_tree.specs.declared.enumeration.EnumItem.{EnumItem}
 use Rattle.proto_tree.specs.declared.enumeration.EnumItem.TheVariants as enum_item
@@ -18,11 +18,8 @@ use Rattle.proto_tree.specs.declared.oneof.OneofField.{OneofField}
 use Rattle.proto_tree.specs.declared.oneof.OneofItem.{OneofItem}
 use Rattle.proto_tree.specs.declared.oneof.OneofItem.TheVariants as oneof_item
 use Rattle.proto_tree.specs.declared.reserved.Range.{Range}
-use Rattle.proto_tree.specs.declared.reserved.RangeEnd.{RangeEnd}
 use Rattle.proto_tree.specs.declared.reserved.ReservedItems.{ReservedItems}
 use Rattle.proto_tree.specs.declared.reserved.ReservedItems.TheVariants as reserved_items
-use Rattle.proto_tree.specs.declared.reserved.UpperBound.{UpperBound}
-use Rattle.proto_tree.specs.declared.reserved.UpperBound.TheVariants as upper_bound
 use Rattle.proto_tree.specs.declared.service.Rpc.{Rpc}
 use Rattle.proto_tree.specs.declared.service.RpcBody.{RpcBody}
 use Rattle.proto_tree.specs.declared.service.RpcBody.TheVariants.{Semicolon, Block}
@@ -99,12 +96,3 @@ greatest_field_number = 536870911
 
 abbrev pub greatest_value_number : ℕ
 greatest_value_number = 2147483647
-
--- what a range's end gives: nothing where the range has none, else what its number or `max` gives
-abbrev pub bound_by : {N A : Type 0} → (number : N → A) → (max : A) → UpperBound N → A
-bound_by number max (upper_bound.Number n) = number n
-bound_by number max (upper_bound.Max s) = max
-
-abbrev pub end_by : {N A : Type 0} → (none : A) → (number : N → A) → (max : A) → Option (RangeEnd N) → A
-end_by none number max None = none
-end_by none number max (Some e) = bound_by number max e.bound

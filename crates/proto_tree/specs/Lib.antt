@@ -1,3 +1,4 @@
 pub mod KeyTypes
 pub mod Name
+pub mod Ranges
 pub mod Text

@@ -1,5 +1,8 @@
 //! Reserved numbers and names (proto3 language specification, "Reserved").
 
+ghost use Rattle.std.specs.Prelude.{◌≡◌};
+ghost use Rattle.proto_tree.specs.Ranges.{last_number, number_of_bound};
+
 use crate::list::Separated;
 use crate::literal::StringValue;
 use proto_base::Span;
@@ -9,6 +12,18 @@ use proto_base::Span;
 pub enum UpperBound<N> {
     Number(N),
     Max(Span),
+}
+
+impl<N: Copy> UpperBound<N> {
+    /// The number, unless it is `max`.
+    pub fn number(&self) -> Option<N>
+        ensures { result ≡ number_of_bound self.now }
+    {
+        match *self {
+            UpperBound::Number(number) => Some(number),
+            UpperBound::Max(_) => None,
+        }
+    }
 }
 
 /// The end of a range behind `to`.
@@ -23,6 +38,18 @@ pub struct RangeEnd<N> {
 pub struct Range<N> {
     pub start: N,
     pub end: Option<RangeEnd<N>>,
+}
+
+impl<N: Copy> Range<N> {
+    /// The last number, unless it is `max`. A range without an end ends at its start.
+    pub fn last(&self) -> Option<N>
+        ensures { result ≡ last_number self.now.start self.now.end }
+    {
+        match &self.end {
+            None => Some(self.start),
+            Some(end) => end.bound.number(),
+        }
+    }
 }
 
 /// What a `reserved` statement lists.

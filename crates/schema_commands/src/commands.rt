@@ -59,7 +59,7 @@ where
         (O.writes writer.old) (O.writes writer.new) result }
 {
     let limits = Limits::standard();
-    let most = limits.get(Limit::FileBytes) as usize + 1;
+    let most = limits.read_bound(Limit::FileBytes) as usize;
     let text = read_bytes(rt.alloc(), reader, most)?;
     let line = line_of_source(rt, name, &text, &limits)?;
     write_bytes(writer, line.as_bytes())?;

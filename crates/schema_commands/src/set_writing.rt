@@ -1,4 +1,5 @@
-//! The set of a compilation, written file by file, small ones together: it never stands in memory as a whole.
+//! The set of a compilation, written file by file: it never stands in memory as a whole. To a writer small files go together,
+//! to a file of `--output` each head and each descriptor by itself.
 
 ghost use Rattle.std.specs.Prelude.{◌≡◌, ◌+◌, ◌-◌, ◌<◌, ◌≤◌, ◌^◌, ◌++◌, [], IfOk, OnOk, length, vec_capacity};
 ghost use Rattle.proto_compile.specs.Compilation.{set_of};

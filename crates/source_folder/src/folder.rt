@@ -32,7 +32,7 @@ pub struct NamedText {
 fn most_bytes(limits: &Limits) -> u32
     ensures { result ≡ limit_of limits.now Limit.FileBytes + 1 }
 {
-    limits.get(Limit::FileBytes) as u32 + 1
+    limits.read_bound(Limit::FileBytes) as u32
 }
 
 /// The first bytes of what is read, at most so many. There may be about as many as the size.

@@ -1,14 +1,10 @@
-use Rattle.std.proofs.Common.{◌≡◌, ◌∙◌, sym, ap, arith, append-nil, length, map, subst, ◌++◌, ◌∷◌, [], List, ℕ}
+use Rattle.std.proofs.Common.{◌∙◌, ap, arith, map, subst, List, ℕ}
 use Rattle.std.specs.Prelude.{IsPermutation, flat_map, string_bytes}
 use Rattle.std.proofs.lemmas.List.Sorted.{IsPermutation-map}
 use Rattle.proto_names.specs.Shares.{services_in}
 use Rattle.proto_names.proofs.Occurring.{sorted_texts}
+use Rattle.proto_names.proofs.Tabled.{all_taken}
 use Rattle.proto_names.proofs.index.taken_apart.Goals as goal
-
--- all are taken where none are left
-all_taken : {X : Type 0} (taken rest xs : List X) → taken ++ rest ≡ xs → length rest ≡ 0 → taken ≡ xs
-all_taken taken [] xs whole none = sym (append-nil taken) ∙ whole
-all_taken taken (x ∷ rest) xs whole none = absurd (omega (arith, none))
 
 pub returns-clause-services : goal.returns-clause-services
 returns-clause-services c =

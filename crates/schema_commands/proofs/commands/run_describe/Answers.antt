@@ -14,14 +14,14 @@ returns-in_err-line g c =
     let reads = g.I.CountedRead.reads c.args.reader.now in
     let reads' = g.I.CountedRead.reads c.read_bytes.new.reader in
     let P : List ℕ → Type 0 = λ bytes. IsRead (limit_of limits FileBytes + 1) reads reads' bytes in
-    let Q : ℕ → Type 0 = λ most. IsRead (most + 1) reads reads' c.in_ok-text.text.items in
+    let Q : ℕ → Type 0 = λ most. IsRead most reads reads' c.in_ok-text.text.items in
     refused_by c.args.name.now reads reads' (g.O.CountedWrite.writes c.args.writer.now) limits source
     c.in_err-line.field-0.0
     c.from_residual-in_err-line.result c.from_residual-in_err-line.ensures.1
     (record {
       standard = c.standard-limits.ensures;
       named = refl;
-      read = subst P (sym c.deref.ensures.value) (subst Q c.get.ensures.value c.in_ok-text.ensures.run);
+      read = subst P (sym c.deref.ensures.value) (subst Q c.read_bound.ensures.value c.in_ok-text.ensures.run);
     })
     c.in_err-line.ensures.refused
 
@@ -32,7 +32,7 @@ returns-in_err-write_bytes g c =
     let reads = g.I.CountedRead.reads c.args.reader.now in
     let reads' = g.I.CountedRead.reads c.read_bytes.new.reader in
     let P : List ℕ → Type 0 = λ bytes. IsRead (limit_of limits FileBytes + 1) reads reads' bytes in
-    let Q : ℕ → Type 0 = λ most. IsRead (most + 1) reads reads' c.in_ok-text.text.items in
+    let Q : ℕ → Type 0 = λ most. IsRead most reads reads' c.in_ok-text.text.items in
     let L : List ℕ → Type 0 = λ line. IsLineOf limits source line in
     unwritten c.args.name.now reads reads' (g.O.CountedWrite.writes c.args.writer.now)
     (g.O.CountedWrite.writes c.write_bytes.new.writer) limits source c.as_bytes.result.now
@@ -41,7 +41,7 @@ returns-in_err-write_bytes g c =
     (record {
       standard = c.standard-limits.ensures;
       named = refl;
-      read = subst P (sym c.deref.ensures.value) (subst Q c.get.ensures.value c.in_ok-text.ensures.run);
+      read = subst P (sym c.deref.ensures.value) (subst Q c.read_bound.ensures.value c.in_ok-text.ensures.run);
     })
     (subst L (sym c.as_bytes.ensures.value) c.in_ok-line.ensures.line) c.in_err-write_bytes.ensures
 
@@ -52,14 +52,14 @@ returns g c =
     let reads = g.I.CountedRead.reads c.args.reader.now in
     let reads' = g.I.CountedRead.reads c.read_bytes.new.reader in
     let P : List ℕ → Type 0 = λ bytes. IsRead (limit_of limits FileBytes + 1) reads reads' bytes in
-    let Q : ℕ → Type 0 = λ most. IsRead (most + 1) reads reads' c.in_ok-text.text.items in
+    let Q : ℕ → Type 0 = λ most. IsRead most reads reads' c.in_ok-text.text.items in
     let L : List ℕ → Type 0 = λ line. IsLineOf limits source line in (
       limits,
       source,
       record {
         standard = c.standard-limits.ensures;
         named = refl;
-        read = subst P (sym c.deref.ensures.value) (subst Q c.get.ensures.value c.in_ok-text.ensures.run);
+        read = subst P (sym c.deref.ensures.value) (subst Q c.read_bound.ensures.value c.in_ok-text.ensures.run);
       },
       c.as_bytes.result.now,
       subst L (sym c.as_bytes.ensures.value) c.in_ok-line.ensures.line,

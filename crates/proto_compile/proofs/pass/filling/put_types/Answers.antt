@@ -1,4 +1,4 @@
-use Rattle.std.proofs.Common.{Global, Vec, ◌≡◌, ◌∙◌, ℕ, ◌+◌, ◌<◌, ◌++◌, List, Option, None, Some, ap, drop, get_or, length, map, refl, subst, sym, take, arith}
+use Rattle.std.proofs.Common.{Global, Vec, ◌≡◌, ◌∙◌, ℕ, ◌+◌, ◌<◌, ◌++◌, List, Some, ap, drop, get_or, length, map, subst, sym, take, arith}
 use Rattle.std.specs.Prelude.{slice_get}
 use Rattle.std.specs.Option.{option_map}
 use Rattle.std.proofs.lemmas.List.{append-nil, drop_all, length-map, take_all}
@@ -12,15 +12,7 @@ use Rattle.proto_compile.specs.Outcomes.{AreTypesOf, IsTypedWhole}
 use Rattle.proto_compile.specs.declared.pass.filling.Untyped.{Untyped}
 use Rattle.proto_compile.proofs.pass.filling.put_types.Goals as goal
 use Rattle.share_work.proofs.Giving.{gives_each}
-
--- what stands at a position of a map comes from what stands there
-mapped_at : {X Y : Type 0} (f : X → Y) (xs : List X) (i : ℕ) (y : Y) → slice_get (map f xs) i ≡ Some y
-    → (x : X) × (slice_get xs i ≡ Some x) × (f x ≡ y)
-mapped_at f xs i y at = of (slice_get xs i) refl where
-  of : (o : Option _) → slice_get xs i ≡ o → (x : _) × (slice_get xs i ≡ Some x) × (f x ≡ y)
-  of None none = let bad : None ≡ Some y = sym (slice_get-map f xs i ∙ ap (option_map f) none) ∙ at in absurd (cc)
-  of (Some x) some =
-      let same : Some (f x) ≡ Some y = sym (slice_get-map f xs i ∙ ap (option_map f) some) ∙ at in (x, some, cc)
+use Rattle.proto_names.proofs.Tabled.{of_map}
 
 abbrev desc_in : Untyped → FileDesc
 desc_in f = f.desc
@@ -37,8 +29,8 @@ module _ (P : ℕ → FileDesc → Vec NamedType Global → Type 0) (Q : ℕ →
       → map desc_in old ≡ descs → map types_in old ≡ types → typed ≡ map desc_in new → GivesItems P 0 descs types
       → slice_get descs i ≡ Some t → slice_get typed i ≡ Some o → Q (0 + i) t o
   filled_at i t o descs typed types is own are gives item out =
-      let from = mapped_at desc_in old i t (subst (λ (l : List _). slice_get l i ≡ Some t) (sym is) item) in
-      let to = mapped_at desc_in new i o (subst (λ (l : List _). slice_get l i ≡ Some o) are out) in
+      let from = of_map desc_in old i t (subst (λ (l : List _). slice_get l i ≡ Some t) (sym is) item) in
+      let to = of_map desc_in new i o (subst (λ (l : List _). slice_get l i ≡ Some o) are out) in
       let f = from.0 in
       let below = slice_get_within old i f from.1 in
       let before : get_or old i f ≡ f = get_or_from_slice_get old i f f from.1 in

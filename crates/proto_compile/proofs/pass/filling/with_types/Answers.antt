@@ -1,12 +1,8 @@
-use Rattle.std.proofs.Common.{◌≡◌, ◌∙◌, ◌⊎◌, ◌+◌, ◌++◌, List, [], ◌∷◌, ap, arith, inl, inr, length, map, sym}
-use Rattle.std.proofs.lemmas.List.{append-nil, length-append, length-map}
+use Rattle.std.proofs.Common.{◌≡◌, ◌∙◌, ◌⊎◌, ◌+◌, ◌++◌, List, ap, arith, inl, inr, length, map, sym}
+use Rattle.std.proofs.lemmas.List.{length-append, length-map}
 use Rattle.proto_compile.specs.declared.pass.filling.Untyped.{Untyped}
+use Rattle.proto_names.proofs.Tabled.{all_taken}
 use Rattle.proto_compile.proofs.pass.filling.with_types.Goals as goal
-
--- what is left has ended
-ended : {X : Type 0} (xs ys rest : List X) → xs ++ rest ≡ ys → length rest ≡ 0 → xs ≡ ys
-ended xs ys [] e none = sym (append-nil xs) ∙ e
-ended xs ys (r ∷ rest) e none = absurd (omega (arith, none))
 
 sizes : {F X : Type 0} (f : F → X) (files : List F) (rest xs : List X) → map f files ++ rest ≡ xs
     → length files + length rest ≡ length xs
@@ -22,12 +18,12 @@ both_ended f g files xs lefts ys rights left right same end =
     let b : length files + length rights ≡ length ys = sizes g files rights ys right in
     elim end [
       | inl none ↦ (
-        ended (map f files) xs lefts left none,
-        ended (map g files) ys rights right (omega (arith, a, b, same, none)),
+        all_taken (map f files) lefts xs left none,
+        all_taken (map g files) rights ys right (omega (arith, a, b, same, none)),
       )
       | inr none ↦ (
-        ended (map f files) xs lefts left (omega (arith, a, b, same, none)),
-        ended (map g files) ys rights right none,
+        all_taken (map f files) lefts xs left (omega (arith, a, b, same, none)),
+        all_taken (map g files) rights ys right none,
       )
     ]
 
