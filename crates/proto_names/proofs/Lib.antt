@@ -20,3 +20,4 @@ pub mod Standing
 pub mod Tabled
 pub mod Unhashing
 pub mod Unique
+pub mod Keying

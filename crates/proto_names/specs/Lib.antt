@@ -3,6 +3,7 @@ pub mod Collected
 pub mod Entries
 pub mod Hashes
 pub mod Index
+pub mod Keys
 pub mod Occurrences
 pub mod Order
 pub mod Packages

@@ -1,6 +1,6 @@
 //! The entries of an index: the occurrences of full names, which stand in one text.
 
-ghost use Rattle.std.specs.Prelude.{◌≡◌, ℕ, ◌+◌, ◌<◌, ◌^◌, ◌++◌, ◌∷◌, [], map, take, length, All, OnOk, IsPermutation, IsSorted};
+ghost use Rattle.std.specs.Prelude.{◌≡◌, ℕ, ◌+◌, ◌<◌, ◌≤◌, ◌^◌, ◌++◌, ◌∷◌, [], map, take, length, All, OnOk, IsPermutation, IsSorted};
 ghost use Rattle.proto_names.specs.Entries.{IsEntryOf, occurrence};
 ghost use Rattle.proto_names.specs.Shares.{share_of};
 ghost use Rattle.proto_desc.specs.DeclaredNames.{scoped};
@@ -8,6 +8,7 @@ ghost use Rattle.proto_names.specs.Order.{AreInOrder, entry_cmp};
 
 use crate::entry::{Entry, Location};
 use crate::full_name::push_name;
+use crate::keys::by_hashes;
 use crate::names::Names;
 use crate::scope::Scope;
 use crate::share::Share;
@@ -119,11 +120,15 @@ impl Entries {
     }
 
     /// Sorts the entries by the hashes of their names, then by name, file and place.
-    pub(crate) fn sort(&mut self)
-        ensures all { IsPermutation self.old self.new }
-        ensures order { AreInOrder self.new }
+    pub(crate) fn sort(&mut self, alloc: Global) -> Result<(), AllocError>
+        requires { length self.old ≤ 1_048_576 }
+        ensures all { OnOk result (IsPermutation self.old self.new) }
+        ensures order { OnOk result (AreInOrder self.new) }
     {
-        sort_entries(self.text.as_bytes(), &mut self.entries);
+        let mut entries = by_hashes(alloc, &self.entries)?;
+        sort_entries(self.text.as_bytes(), &mut entries);
+        self.entries = entries;
+        Ok(())
     }
 }
 

@@ -10,6 +10,7 @@ mod full_name;
 mod halving;
 mod hashing;
 mod index;
+mod keys;
 mod names;
 mod packages;
 mod part;

@@ -50,7 +50,7 @@ pub(crate) fn sort_share(
     requires files { All (λ o. o.file < files) entries }
     ensures { IfOk result (IsSortedOf entries) }
 {
-    entries.sort();
+    entries.sort(alloc)?;
     let twice = first_twice(&entries.names());
     let services = listed_services(alloc, &entries.names())?;
     let table = EntryTable::new(alloc, entries, files)?;

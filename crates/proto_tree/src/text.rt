@@ -23,6 +23,16 @@ pub fn joined<'s>(alloc: Global, value: &StringValue<'s>) -> Result<Text<'s>, Al
     Ok(Text::owned(text))
 }
 
+/// How many bytes a name takes with its dots, so that its room is taken once.
+fn room_for(name: &FullName) -> usize {
+    let mut room = name.first.text.len();
+    for part in name.rest.as_slice() {
+        room = room.saturating_add(part.name.text.len()).saturating_add(1);
+    }
+    room
+}
+
+/// Adds the parts of a name, each behind a dot.
 fn put_parts(text: &mut String, parts: &[NamePart]) -> Result<(), AllocError>
     ensures { OnOk result (string_bytes text.new ≡ string_bytes text.old
         ++ flat_map part_text parts.now) }
@@ -34,6 +44,17 @@ fn put_parts(text: &mut String, parts: &[NamePart]) -> Result<(), AllocError>
     Ok(())
 }
 
+/// A text that begins so, with a name behind it.
+fn with_name(alloc: Global, start: &str, name: &FullName) -> Result<String, AllocError>
+    ensures { IfOk result (λ text. string_bytes text ≡ start.now ++ dotted name.now) }
+{
+    let mut text = String::with_capacity(alloc, room_for(name).saturating_add(start.len()))?;
+    text.push_str(start)?;
+    text.push_str(name.first.text)?;
+    put_parts(&mut text, name.rest.as_slice())?;
+    Ok(text)
+}
+
 /// A name with dots between its parts, borrowed if it has one part.
 pub fn dotted<'s>(alloc: Global, name: &FullName<'s>) -> Result<Text<'s>, AllocError>
     ensures { IfOk result (λ text. text ≡ dotted name.now) }
@@ -42,9 +63,7 @@ pub fn dotted<'s>(alloc: Global, name: &FullName<'s>) -> Result<Text<'s>, AllocE
     if parts.is_empty() {
         return Ok(Text::borrowed(name.first.text));
     }
-    let mut text = String::from_str(alloc, name.first.text)?;
-    put_parts(&mut text, parts)?;
-    Ok(Text::owned(text))
+    Ok(Text::owned(with_name(alloc, "", name)?))
 }
 
 /// The name of a type with its dots, borrowed if it is one identifier.
@@ -54,10 +73,7 @@ pub fn spelled<'s>(alloc: Global, name: &TypeName<'s>) -> Result<Text<'s>, Alloc
     if name.dot.is_none() {
         return dotted(alloc, &name.name);
     }
-    let mut text = String::from_str(alloc, ".")?;
-    text.push_str(name.name.first.text)?;
-    put_parts(&mut text, name.name.rest.as_slice())?;
-    Ok(Text::owned(text))
+    Ok(Text::owned(with_name(alloc, ".", &name.name)?))
 }
 
 /// The identifier that a name of one part is.

@@ -7,18 +7,18 @@ use Rattle.proto_names.specs.Repeated.{IsFirstTwice}
 use Rattle.proto_names.proofs.sorted.sort_share.Goals as goal
 
 pub new-requires-clause-many : goal.new-requires-clause-many
-new-requires-clause-many c = let same = length_permutation _ _ c.sort.ensures.all in
+new-requires-clause-many c = let same = length_permutation _ _ c.in_ok-sort.ensures.all in
     omega (arith, same, c.requires.many)
 
 pub new-requires-clause-files : goal.new-requires-clause-files
 new-requires-clause-files c = All-permutation (λ (o : Occurrence). o.file < c.args.files) c.args.entries c.sort.new.self
-    c.sort.ensures.all c.requires.files
+    c.in_ok-sort.ensures.all c.requires.files
 
 pub returns : goal.returns
 returns c =
     let kept = sym c.in_ok-table.ensures in
     record {
-      all = subst (IsPermutation c.args.entries) kept c.sort.ensures.all;
+      all = subst (IsPermutation c.args.entries) kept c.in_ok-sort.ensures.all;
       services = c.in_ok-services.ensures ∙ ap services_of (c.names-2.ensures ∙ kept);
       twice = subst (λ (os : List Occurrence). MatchOption c.first_twice-twice.result (NoneTwice os)
           (λ l. IsFirstTwice os l.file l.place))
