@@ -24,7 +24,7 @@ use tokio::net::TcpStream;
 pub(crate) struct ResponderService<T> {
     pub(crate) alloc: Global,
     pub(crate) responder: Arc<T>,
-    /// How many bytes a body may have.
+    /// How many bytes of a body are read at most.
     pub(crate) most: usize,
 }
 
