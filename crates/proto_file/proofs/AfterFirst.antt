@@ -9,20 +9,11 @@ use Rattle.proto_tokens.proofs.CutLemmas.{piece_nonempty}
 use Rattle.proto_tokens.specs.Spelling.{Piece, IsCutIntoPieces, mark_len, with_token, tokens_from}
 use Rattle.proto_tokens.specs.Token.{Spelled}
 use Rattle.proto_file.specs.Local.{Describes}
-use Rattle.proto_file.proofs.PlacesWithin.{AreIn, BeginWithin, lowered_within, rest}
+use Rattle.proto_file.proofs.LocalPlaces.{pieces_in}
+use Rattle.proto_file.proofs.PlacesWithin.{AreIn, BeginWithin, begun, lowered_within, rest}
 
 abbrev pub IsAfter : ℕ → Type 0
 IsAfter place = 0 < place
-
-tokens_after : (s : List ℕ) (from : ℕ) (ps : List Piece) (to : ℕ) → IsCutIntoPieces s from ps to → 0 < from
-    → BeginWithin IsAfter (tokens_from from ps)
-tokens_after s from [] to cut h = tt
-tokens_after s from (p ∷ ps) to cut h =
-    let later = tokens_after s (from + p.len) ps to cut.1 (omega (arith, h)) in
-    elim p.is as (λ is. BeginWithin IsAfter (with_token is from (from + p.len) (tokens_from (from + p.len) ps))) [
-      | None ↦ later
-      | Some lexeme ↦ (h, later)
-    ]
 
 abbrev rest_of : List Spelled → List Spelled
 rest_of [] = []
@@ -36,7 +27,7 @@ rest_after s from (p ∷ ps) to cut =
     elim p.is as
     (λ is. BeginWithin IsAfter (rest_of (with_token is from (from + p.len) (tokens_from (from + p.len) ps)))) [
       | None ↦ rest_after s (from + p.len) ps to cut.1
-      | Some lexeme ↦ tokens_after s (from + p.len) ps to cut.1 (omega (arith, some))
+      | Some lexeme ↦ pieces_in IsAfter s (from + p.len) ps to (λ k low high. omega (arith, some, low)) cut.1
     ]
 
 pub places_after : (limits : Limits) (name text : List ℕ) (desc : FileDesc) → Describes limits name text desc
@@ -50,4 +41,5 @@ places_after limits name text desc (file, (ts, is, tree), unbroken, same) =
     let statements : BeginWithin IsAfter (flatten (row statement_tree file.statements)) =
     rest (λ (t : Spelled). IsAfter t.start) (rest_of (flatten (syntax_tree file.syntax)))
     (flatten (row statement_tree file.statements)) after in
-    subst (λ (d : FileDesc). AreIn IsAfter (places_of d)) (sym same) (lowered_within IsAfter name file statements)
+    subst (λ (d : FileDesc). AreIn IsAfter (places_of d)) (sym same)
+    (lowered_within IsAfter name file (begun IsAfter (row statement_tree file.statements) statements))

@@ -13,12 +13,12 @@ use Rattle.proto_base.specs.declared.kind.Kind.{Kind}
 use Rattle.proto_base.specs.declared.limits.Limit.TheVariants as limit
 use Rattle.proto_base.specs.declared.limits.Limits.{Limits}
 use Rattle.proto_base.specs.declared.place.Place.{Place}
-use Rattle.proto_syntax.specs.Trees.{file_tree, row, statement_tree, syntax_tree}
+use Rattle.proto_syntax.specs.Trees.{file_tree}
 use Rattle.proto_tree.specs.declared.file.FileTree.{FileTree}
 use Rattle.proto_desc.specs.Places.{places_of}
 use Rattle.proto_desc.specs.declared.file.FileDesc.{FileDesc}
 use Rattle.proto_file.specs.Places.{AllWithin}
-use Rattle.proto_file.proofs.PlacesWithin.{BeginWithin, Within, lowered_within, right_of, upto}
+use Rattle.proto_file.proofs.PlacesWithin.{BeginWithin, Within, begun, lowered_within, upto}
 use Rattle.proto_base.specs.Least.{spot}
 use Rattle.proto_file.proofs.FileWithin.{breaks_within}
 use Rattle.proto_file.specs.Local.{Describes, IsFile, IsLocalFault, of_tokens, of_grammar, of_checks}
@@ -30,19 +30,22 @@ cut_grows : (s : List ℕ) (from : ℕ) (ps : List Piece) (to : ℕ) → IsCutIn
 cut_grows s from [] to cut = omega (arith, cut)
 cut_grows s from (p ∷ ps) to cut = omega (arith, cut_grows s (from + p.len) ps to cut.1)
 
-pieces_begin : (s : List ℕ) (from : ℕ) (ps : List Piece) (to : ℕ) → IsCutIntoPieces s from ps to
-    → BeginWithin (upto to) (tokens_from from ps)
-pieces_begin s from [] to cut = tt
-pieces_begin s from (p ∷ ps) to cut =
-    elim p.is as (λ is. BeginWithin (upto to) (with_token is from (from + p.len) (tokens_from (from + p.len) ps))) [
-      | None ↦ pieces_begin s (from + p.len) ps to cut.1
-      | Some lexeme ↦ (cut_grows s from (p ∷ ps) to cut, pieces_begin s (from + p.len) ps to cut.1)
+-- tokens begin in a region that holds each place from the first piece to the end of the last
+pub pieces_in : (region : ℕ → Type 0) (s : List ℕ) (from : ℕ) (ps : List Piece) (to : ℕ)
+    → ((k : ℕ) → from ≤ k → k ≤ to → region k) → IsCutIntoPieces s from ps to
+    → BeginWithin region (tokens_from from ps)
+pieces_in region s from [] to h cut = tt
+pieces_in region s from (p ∷ ps) to h cut =
+    let later = pieces_in region s (from + p.len) ps to (λ k low high. h k (omega (arith, low)) high) cut.1 in
+    elim p.is as (λ is. BeginWithin region (with_token is from (from + p.len) (tokens_from (from + p.len) ps))) [
+      | None ↦ later
+      | Some lexeme ↦ (h from (omega arith) (cut_grows s from (p ∷ ps) to cut), later)
     ]
 
 tokens_begin : (bytes : ℕ) (text : List ℕ) (ts : List Spelled) → IsTokenList bytes text ts
     → BeginWithin (upto (length text)) ts
 tokens_begin bytes text ts is = subst (BeginWithin (upto (length text))) is.spelled_so.2
-    (pieces_begin text _ is.spelled_so.0 (length text) is.spelled_so.1)
+    (pieces_in (upto (length text)) text _ is.spelled_so.0 (length text) (λ k low high. high) is.spelled_so.1)
 
 token_begins : (n : ℕ) (ts : List Spelled) (k : ℕ) → BeginWithin (upto n) ts → place_of_token ts k n ≤ n
 token_begins n [] zero begin = omega arith
@@ -54,7 +57,8 @@ token_begins n (t ∷ ts) (suc k) begin = token_begins n ts k begin.1
 tree_begins : (limits : Limits) (text : List ℕ) (file : FileTree) → IsFile limits text file
     → Within (upto (length text)) (file_tree file)
 tree_begins limits text file (ts, is, tree) =
-    subst (BeginWithin (upto (length text))) (sym tree.tokens) (tokens_begin _ text ts is)
+    begun (upto (length text)) (file_tree file)
+    (subst (BeginWithin (upto (length text))) (sym tree.tokens) (tokens_begin _ text ts is))
 
 file_short : (limits : Limits) (text : List ℕ) (file : FileTree) → IsFile limits text file
     → length text ≤ limit_of limits limit.FileBytes
@@ -123,9 +127,8 @@ fault_inside limits name text step place kind (of_checks at_step (file, is, leas
 pub places_within : (limits : Limits) (name text : List ℕ) (desc : FileDesc) → Describes limits name text desc
     → AllWithin (length text) (places_of desc)
 places_within limits name text desc (file, is, unbroken, same) =
-    subst (λ d. AllWithin (length text) (places_of d)) (sym same) (lowered_within (upto (length text)) name file
-    (right_of (upto (length text)) (syntax_tree file.syntax) (row statement_tree file.statements)
-    (tree_begins limits text file is)))
+    subst (λ d. AllWithin (length text) (places_of d)) (sym same)
+    (lowered_within (upto (length text)) name file (tree_begins limits text file is).1)
 
 pub place_inside : (limits : Limits) (name text : List ℕ) (desc : FileDesc) (place : Place)
     → Describes limits name text desc → place.offset ≤ length text
