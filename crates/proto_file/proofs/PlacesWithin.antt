@@ -350,7 +350,7 @@ module _ (region : ℕ → Type 0) where
   described_within d label kind oneof is_optional all of_kind = (
     all.0,
     both region (kind_places kind) _ of_kind
-      (each_map region option_place (options_of element.Field (bracketed d.options))
+        (each_map region option_place (options_of element.Field (bracketed d.options))
         (options_within element.Field (bracketed d.options) (bracketed_of d.options all.1.1.1.0))),
   )
 
@@ -539,7 +539,7 @@ module _ (region : ℕ → Type 0) where
     where
       path : (public : Option Span) → Within region
           (Pair (optional (word_tree (codes "public")) public)
-            (Pair (str_tree i.path) (symbol_tree (byte ";") i.semicolon)))
+          (Pair (str_tree i.path) (symbol_tree (byte ";") i.semicolon)))
           → region (i.path.first.span.start.offset)
       path public all = all.1.0.0
   import_within s all = tt

@@ -11,7 +11,8 @@ moved : (c : goal.After-drop-self-inside) → IsPermutation c.self.inside.entrie
 moved c = IsPermutation-trans c.self.inside.entries.items c.in_ok-entries.entries.items c.sort_entries.new.entries
     (rw c.deref.ensures.value at c.in_ok-entries.ensures) (rw c.deref_mut.ensures.value at c.sort_entries.ensures.all)
 
-length_same : (c : goal.After-drop-self-inside) → length c.sort_entries.new.entries ≡ length c.in_ok-entries.entries.items
+length_same : (c : goal.After-drop-self-inside)
+    → length c.sort_entries.new.entries ≡ length c.in_ok-entries.entries.items
 length_same c = c.sort_entries.ensures.len ∙ ap length c.deref_mut.ensures.value
 
 pub invariant_of-self : goal.invariant_of-self
