@@ -1,6 +1,10 @@
 -- How a text compares with a name in a scope.
-use Rattle.std.proofs.Common.{◌≡◌, ◌≢◌, ◌∙◌, sym, ℕ, ◌<◌, ◌≤◌, List, [], ◌∷◌, ◌++◌, length, ap, refl, arith, Ordering, Less, Equal, Greater}
-use Rattle.std.specs.Cmp.Lexicographic.{slice_cmp}
+use Rattle.std.proofs.Common.{◌≡◌, ◌≢◌, ◌∙◌, sym, ℕ, ◌-◌, ◌<◌, ◌≤◌, Bool, false, nat_eq, List, [], ◌∷◌, ◌++◌, length, take, drop, get_or, ap, ap₂, refl, arith, Ordering, Less, Equal, Greater}
+use Rattle.std.specs.Prelude.{◌↔◌, IsTrue}
+use Rattle.std.specs.Cmp.Lexicographic.{slice_cmp, pointwise, bytes_decides}
+use Rattle.std.proofs.lemmas.Bool.{true≢false}
+use Rattle.std.proofs.lemmas.List.{take_all}
+use Rattle.std.proofs.Math.Seq.{drop-append_seam, take-append_seam}
 use Rattle.std.specs.Ordering.{nat_cmp, ordering_then}
 use Rattle.proto_desc.specs.DeclaredNames.{scoped}
 
@@ -68,3 +72,35 @@ long_unequal text prefix scope name rest o some is h compared unequal =
     sym (then_unequal o (slice_cmp nat_cmp rest (46 ∷ name)) unequal)
     ∙ ap (λ p. ordering_then p (slice_cmp nat_cmp rest (46 ∷ name))) compared
     ∙ sym (long text prefix scope name rest some is h)
+
+-- ---- whether a text is a name in a scope
+
+pub behind_is : (rest name : List ℕ) (told : Bool) → 1 ≤ length rest → get_or rest 0 0 ≡ 46
+    → told ≡ pointwise nat_eq (take (length rest - 1) (drop 1 rest)) name → IsTrue told ↔ (rest ≡ 46 ∷ name)
+behind_is [] name told some dot is = absurd (omega (arith, some))
+behind_is (b ∷ bs) name told some dot is =
+    let all : take (length (b ∷ bs) - 1) bs ≡ bs = take_all (length (b ∷ bs) - 1) bs (omega arith) in
+    let decided : told ≡ pointwise nat_eq bs name = is ∙ ap (λ (xs : List ℕ). pointwise nat_eq xs name) all in
+    let first : b ≡ 46 = dot in (
+      λ t. let same : bs ≡ name = (bytes_decides bs name).0 (sym decided ∙ t) in cc,
+      λ e. let same : bs ≡ name = cc in decided ∙ (bytes_decides bs name).1 same,
+    )
+
+module _ (full prefix scope name rest : List ℕ) (told : Bool) (some : 0 < length scope) (whole : full ≡ prefix ++ rest)
+    (long : length prefix ≡ length scope) where
+  front : full ≡ scoped scope name → prefix ≡ scope
+  front e = sym (take-append_seam prefix rest) ∙ ap (take (length prefix)) (sym whole ∙ e ∙ scoped_some scope name some)
+      ∙ ap (λ (n : ℕ). take n (scope ++ 46 ∷ name)) long ∙ take-append_seam scope (46 ∷ name)
+
+  back : full ≡ scoped scope name → rest ≡ 46 ∷ name
+  back e = sym (drop-append_seam prefix rest) ∙ ap (drop (length prefix)) (sym whole ∙ e ∙ scoped_some scope name some)
+      ∙ ap (λ (n : ℕ). drop n (scope ++ 46 ∷ name)) long ∙ drop-append_seam scope (46 ∷ name)
+
+  pub in_scope : prefix ≡ scope → IsTrue told ↔ (rest ≡ 46 ∷ name) → IsTrue told ↔ (full ≡ scoped scope name)
+  in_scope same behind = (
+    λ t. whole ∙ ap₂ (λ (xs ys : List ℕ). xs ++ ys) same (behind.0 t) ∙ sym (scoped_some scope name some),
+    λ e. behind.1 (back e),
+  )
+
+  pub in_no_scope : prefix ≢ scope → told ≡ false → IsTrue told ↔ (full ≡ scoped scope name)
+  in_no_scope other is = (λ t. absurd (true≢false (sym t ∙ is)), λ e. absurd (other (front e)))

@@ -1,6 +1,6 @@
 //! Full names: names in scopes.
 
-ghost use Rattle.std.specs.Prelude.{◌≡◌, ◌++◌, ◌∷◌, IfOk, OnOk, IsUtf8, string_bytes};
+ghost use Rattle.std.specs.Prelude.{◌≡◌, ◌↔◌, ◌++◌, ◌∷◌, IfOk, OnOk, IsTrue, IsUtf8, string_bytes};
 ghost use Rattle.std.specs.Cmp.Lexicographic.{slice_cmp};
 ghost use Rattle.std.specs.Ordering.{nat_cmp};
 ghost use Rattle.digraph.specs.Marks.{IsFrontOf};
@@ -31,6 +31,30 @@ pub fn name_in(alloc: Global, scope: &str, name: &str) -> Result<String, AllocEr
     let mut full = String::with_capacity(alloc, room)?;
     push_name(&mut full, scope, name)?;
     Ok(full)
+}
+
+/// Whether a dot stands behind a scope, with the name behind it.
+fn is_behind(rest: &[u8], name: &str) -> bool
+    ensures { IsTrue result ↔ (rest.now ≡ 46 ∷ name.now) }
+{
+    match rest {
+        [b'.', last @ ..] => last == name.as_bytes(),
+        _ => false,
+    }
+}
+
+/// Whether these are the bytes of the name in a scope, which is not built.
+pub(crate) fn is_name_in(full: &[u8], scope: &str, name: &str) -> bool
+    ensures { IsTrue result ↔ (full.now ≡ scoped scope.now name.now) }
+{
+    if scope.is_empty() {
+        return full == name.as_bytes();
+    }
+    if full.len() <= scope.len() {
+        return false;
+    }
+    let (prefix, rest) = full.split_at(scope.len());
+    prefix == scope.as_bytes() && is_behind(rest, name)
 }
 
 /// The order of what stands behind a scope, and a dot with a name behind it.

@@ -8,7 +8,7 @@ ghost use Rattle.proto_names.specs.Order.{location_of};
 ghost use Rattle.proto_names.specs.Runs.{at};
 
 use crate::entry::{Entry, Location};
-use crate::full_name::compare;
+use crate::full_name::is_name_in;
 use proto_desc::name_kind::NameKind;
 use std::alloc::{AllocError, Global};
 use std::marker::Model;
@@ -98,7 +98,7 @@ impl<'e> Names<'e> {
         requires { position < length self.now }
         ensures { IsTrue result ↔ ((at self.now position).name ≡ scoped scope.now name.now) }
     {
-        compare(self.name(position), scope, name).is_eq()
+        is_name_in(self.name(position), scope, name)
     }
 
     /// Whether the entries at two positions have one name, by their hashes first.

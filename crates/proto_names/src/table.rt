@@ -103,7 +103,7 @@ fn run_length(names: &Names, scope: &str, name: &str) -> usize
     ensures point { IsPartitionPoint (λ o. o.name ≡ scoped scope.now name.now)
         (λ o. o.name ≢ scoped scope.now name.now) names.now result }
 {
-    if names.len() > 1 && names.has_name(1, scope, name) {
+    if names.len() > 1 && names.hash(1) == names.hash(0) && names.has_name(1, scope, name) {
         count_named(names, scope, name)
     } else {
         1

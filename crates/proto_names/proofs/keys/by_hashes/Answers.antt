@@ -1,4 +1,4 @@
-use Rattle.std.proofs.Common.{◌≡◌, ◌∙◌, sym, ap, subst, ◌<◌, length, map, arith}
+use Rattle.std.proofs.Common.{◌∙◌, sym, ap, subst, map, arith}
 use Rattle.std.specs.Prelude.{IsPermutation, Some}
 use Rattle.std.proofs.lemmas.List.{take_all}
 use Rattle.proto_names.specs.Keys.{found_by}

@@ -1,4 +1,4 @@
-use Rattle.std.proofs.Common.{◌<◌, length, arith}
+use Rattle.std.proofs.Common.{arith}
 use Rattle.proto_names.proofs.Keying.{keys_more}
 use Rattle.proto_names.proofs.keys.keys_of.Goals as goal
 
