@@ -1,4 +1,5 @@
 -- What is wrong with imports, and which of it comes first.
+use Rattle.std.proofs.lemmas.Grind.{common_steps}
 use Rattle.std.proofs.Common.{◌≡◌, sym, ℕ, ◌+◌, ◌<◌, ◌≤◌, List, [], ◌∷◌, ◌++◌, length, ap, refl, subst, arith, inl, inr, ◌⊎◌, Vec, Global, map}
 use Rattle.std.specs.Prelude.{Bool, Option, Some, None, ◌↔◌}
 use Rattle.std.proofs.lemmas.Bool.{cases_lt, cases_eq}
@@ -23,7 +24,7 @@ use Rattle.proto_links.specs.Imports.{IsNamed, Imports, Reaches, IsWrong, missin
 use Rattle.proto_links.specs.Bad.{IsFirstBad, IsNoLater}
 use Rattle.proto_base.specs.NameOrder.{NamesRise}
 use Rattle.proto_links.proofs.Named.{named_once}
-use Rattle.proto_links.proofs.Targeting.{importer_inside}
+use Rattle.proto_links.proofs.Targeting.{importer_inside, some_both}
 
 -- ---- one import
 
@@ -55,39 +56,22 @@ no_fault files a i t order n out _ (cyclic b m r) =
 
 -- ---- the imports of a file
 
-wrong_cases : (files : List FileDesc) (a : ℕ) (xs : List ImportDesc) (i : ImportDesc) (x : Spot)
-    → IsWrongIn files a (xs ++ i ∷ []) x
-    → IsWrongIn files a xs x ⊎ IsWrongAt files a i x
-wrong_cases files a xs i x (j, w, at, wrong) = elim (Contains-push_cases xs i j w) [
-  | inl old ↦ inl (j, old, at, wrong)
-  | inr e ↦ inr (subst (λ (y : ImportDesc). IsWrongAt files a y x) (sym e) (at, wrong))
-]
-
-wrong_more : (files : List FileDesc) (a : ℕ) (xs : List ImportDesc) (i : ImportDesc) (x : Spot) → IsWrongIn files a xs x
-    → IsWrongIn files a (xs ++ i ∷ []) x
-wrong_more files a xs i x (j, w, at, wrong) = (j, Contains-append_left xs (i ∷ []) j w, at, wrong)
-
-wrong_last : (files : List FileDesc) (a : ℕ) (xs : List ImportDesc) (i : ImportDesc) (x : Spot) → IsWrongAt files a i x
-    → IsWrongIn files a (xs ++ i ∷ []) x
-wrong_last files a xs i x (at, wrong) = (i, Contains-push xs i, at, wrong)
+wrong_more : (files : List FileDesc) (a : ℕ) (xs : List ImportDesc) (i : ImportDesc) (x : Spot)
+    → IsWrongIn files a (xs ++ i ∷ []) x ↔ (IsWrongIn files a xs x ⊎ IsWrongAt files a i x)
+wrong_more files a xs i x = some_both (λ j. j.place ≡ x.place) (λ j. IsWrong files a j x.kind) xs i
 
 pub first_skip : (files : List FileDesc) (a : ℕ) (xs : List ImportDesc) (i : ImportDesc) (first : Option Spot)
     → ((k : Kind) → IsWrong files a i k → ⊥)
     → IsLeast (IsWrongIn files a xs) first → IsLeast (IsWrongIn files a (xs ++ i ∷ [])) first
 first_skip files a xs i first none least = least_same (IsWrongIn files a xs) (IsWrongIn files a (xs ++ i ∷ [])) first
-    (λ x w. elim (wrong_cases files a xs i x w) [ inl old ↦ old | inr new ↦ absurd (none x.kind new.1) ])
-    (wrong_more files a xs i) least
-
-same_place : (i : ImportDesc) (k : Kind) (x : Spot) → i.place ≡ x.place → x.kind ≡ k → AtMost (spot i.place k) x
-same_place i k x at same = let o = ap (λ (p : Place). p.offset) at in let n = ap number_of same in
-    inr (o, omega (arith, n))
+    (λ x w. elim ((wrong_more files a xs i x).0 w) [ inl old ↦ old | inr new ↦ absurd (none x.kind new.1) ])
+    (λ x w. (wrong_more files a xs i x).1 (inl w)) least
 
 -- an import has one fault
 one_fault : (files : List FileDesc) (a : ℕ) (i : ImportDesc) (k : Kind) → IsWrong files a i k
     → ((l : Kind) → IsWrong files a i l → l ≡ k)
     → IsLeast (IsWrongAt files a i) (Some (spot i.place k))
-one_fault files a i k wrong only =
-    least_some (IsWrongAt files a i) (spot i.place k) (refl, wrong) (λ x w. same_place i k x w.0 (only x.kind w.1))
+one_fault files a i k wrong only = grind (arith, common_steps)
 
 pub first_more : (files : List FileDesc) (a : ℕ) (xs : List ImportDesc) (i : ImportDesc)
     (first r : Option Spot) (k : Kind)
@@ -95,8 +79,9 @@ pub first_more : (files : List FileDesc) (a : ℕ) (xs : List ImportDesc) (i : I
     → IsLeast (IsWrongIn files a xs) first → IsLeast (IsWrongIn files a (xs ++ i ∷ [])) r
 first_more files a xs i first r k (wrong, only) lesser least =
     least_or (IsWrongIn files a xs) (IsWrongAt files a i) (IsWrongIn files a (xs ++ i ∷ [])) first
-    (Some (spot i.place k)) r (wrong_cases files a xs i)
-    (wrong_more files a xs i) (wrong_last files a xs i) least (one_fault files a i k wrong only) lesser
+    (Some (spot i.place k)) r (λ x. (wrong_more files a xs i x).0)
+    (λ x w. (wrong_more files a xs i x).1 (inl w)) (λ x w. (wrong_more files a xs i x).1 (inr w)) least
+    (one_fault files a i k wrong only) lesser
 
 -- ---- all files
 

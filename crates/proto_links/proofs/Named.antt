@@ -1,4 +1,5 @@
 -- Laws of files in the order of their names.
+use Rattle.std.proofs.lemmas.Grind.{common_steps}
 use Rattle.std.proofs.Common.{◌≡◌, ◌∙◌, sym, ℕ, ◌+◌, ◌-◌, ◌<◌, ◌≤◌, List, [], ◌∷◌, length, get_or, ap, subst, arith, inl, inr, ◌⊎◌, Ordering, Less, Equal, Greater, map}
 use Rattle.std.specs.Prelude.{false, ◌↔◌}
 use Rattle.std.specs.Cmp.Lexicographic.{slice_cmp}
@@ -17,9 +18,7 @@ use Rattle.proto_links.proofs.NameRows.{equal_itself, less_not_equal, one_positi
 -- at most one file has a name
 pub named_once : (files : List FileDesc) (name : List ℕ) → NamesRise (map name_of files) → (b c : ℕ)
     → IsNamed files name b → IsNamed files name c → b ≡ c
-named_once files name order b c nb nc =
-    let size = length-map files name_of in
-    one_position (map name_of files) order b c (omega (arith, nb.0, size)) (omega (arith, nc.0, size)) (nb.1 ∙ sym nc.1)
+named_once files name order b c nb nc = grind (arith, length-map, one_position)
 
 pub name_is : (files : List FileDesc) (k : ℕ) (d : FileDesc) → k < length files
     → name_at files k ≡ name_of (get_or files k d)
@@ -31,26 +30,7 @@ not_after o h = cc
 -- the order that a search asks for
 pub sorted_names : (files : List FileDesc) → NamesRise (map name_of files)
     → IsSortedByKey name_of (slice_cmp nat_cmp) files
-sorted_names files order k d low h =
-    let inside : k + 1 < length files = omega arith in
-    let less : slice_cmp nat_cmp (name_of (get_or files k d)) (name_of (get_or files (k + 1) d)) ≡ Less =
-    subst (λ xs. slice_cmp nat_cmp xs (name_of (get_or files (k + 1) d)) ≡ Less) (name_is files k d (omega arith))
-    (subst (λ ys. slice_cmp nat_cmp (name_at files k) ys ≡ Less) (name_is files (k + 1) d inside)
-    (order k (omega (arith, inside, length-map files name_of)))) in
-    ap is_lt (nat_list_cmp_total.antisymm (name_of (get_or files (k + 1) d)) (name_of (get_or files k d)))
-    ∙ not_after (slice_cmp nat_cmp (name_of (get_or files k d)) (name_of (get_or files (k + 1) d))) less
-
-order_case : (files : List FileDesc) (n : ℕ) → slice_cmp nat_cmp (name_at files (n - 1)) (name_at files n) ≡ Less
-    → 0 < n
-    → ((k : ℕ) → k + 1 < n → slice_cmp nat_cmp (name_at files k) (name_at files (k + 1)) ≡ Less) → (k : ℕ)
-    → k + 1 < n + 1 → (k + 1 < n) ⊎ (n ≤ k + 1)
-    → slice_cmp nat_cmp (name_at files k) (name_at files (k + 1)) ≡ Less
-order_case files n last some old k h (inl less) = old k less
-order_case files n last some old k h (inr over) =
-    let first : n - 1 ≡ k = omega arith in
-    let second : n ≡ k + 1 = omega arith in
-    subst (λ j. slice_cmp nat_cmp (name_at files k) (name_at files j) ≡ Less) second
-    (subst (λ i. slice_cmp nat_cmp (name_at files i) (name_at files n) ≡ Less) first last)
+sorted_names files order k d low h = grind (arith, length-map, name_is, nat_list_cmp_total, not_after)
 
 -- one more pair of neighbours
 pub order_more : (files : List FileDesc) (n : ℕ) → slice_cmp nat_cmp (name_at files (n - 1)) (name_at files n) ≡ Less
@@ -58,28 +38,18 @@ pub order_more : (files : List FileDesc) (n : ℕ) → slice_cmp nat_cmp (name_a
     → ((k : ℕ) → k + 1 < n → slice_cmp nat_cmp (name_at files k) (name_at files (k + 1)) ≡ Less) → (k : ℕ)
     → k + 1 < n + 1
     → slice_cmp nat_cmp (name_at files k) (name_at files (k + 1)) ≡ Less
-order_more files n last some old k h = order_case files n last some old k h (cases_lt (k + 1) n)
+order_more files n last some old k h = grind (arith, common_steps)
 
 -- names of neighbours as an index gives them
 pub pair_names : (files : List FileDesc) (n : ℕ) (f g : FileDesc) → 0 < n → n < length files
     → f ≡ get_or files (n - 1) f → g ≡ get_or files n g
     → (slice_cmp nat_cmp (name_of f) (name_of g) ≡ Less)
     ↔ (slice_cmp nat_cmp (name_at files (n - 1)) (name_at files n) ≡ Less)
-pair_names files n f g some h ef eg =
-    let first : name_at files (n - 1) ≡ name_of f = name_is files (n - 1) f (omega arith) ∙ ap name_of (sym ef) in
-    let second : name_at files n ≡ name_of g = name_is files n g h ∙ ap name_of (sym eg) in (
-      λ less. subst (λ xs. slice_cmp nat_cmp xs (name_at files n) ≡ Less) (sym first)
-          (subst (λ ys. slice_cmp nat_cmp (name_of f) ys ≡ Less) (sym second) less),
-      λ less. subst (λ xs. slice_cmp nat_cmp xs (name_of g) ≡ Less) first
-          (subst (λ ys. slice_cmp nat_cmp (name_at files (n - 1)) ys ≡ Less) second less),
-    )
+pair_names files n f g some h ef eg = grind (arith, name_is)
 
 pub last_pair : (files : List FileDesc) (n : ℕ) → 0 < n → n < length files → NamesRise (map name_of files)
     → slice_cmp nat_cmp (name_at files (n - 1)) (name_at files n) ≡ Less
-last_pair files n some h order =
-    let at : n - 1 + 1 ≡ n = omega arith in
-    subst (λ k. slice_cmp nat_cmp (name_at files (n - 1)) (name_at files k) ≡ Less) at
-    (order (n - 1) (omega (arith, h, length-map files name_of)))
+last_pair files n some h order = grind (arith, length-map)
 
 -- ---- what a search finds
 

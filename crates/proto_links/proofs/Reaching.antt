@@ -32,8 +32,7 @@ SeesBy files a b = (a ≡ b) ⊎ ((d : ℕ) × Imports files a d × Leads (Impor
 
 module _ (files : List FileDesc) (none : NoneBad files) (a : ℕ) where
   sees_more : (b c : ℕ) → SeesBy files a b → (b ≡ a → ⊥) → ImportsPublicly files b c → SeesBy files a c
-  sees_more b c (inl same) other p = absurd (other (sym same))
-  sees_more b c (inr (d, i, way)) other p = inr (d, i, leads_last (ImportsPublicly files) b c d way p)
+  sees_more b c seen other p = grind (arith, leads_last)
 
   sees_to : (b : ℕ) → Sees files a b → SeesBy files a b
   sees_to _ itself = inl refl

@@ -1,4 +1,5 @@
 -- Lists that rise by one order and have the same members are the same.
+use Rattle.std.proofs.lemmas.Grind.{common_steps}
 use Rattle.std.proofs.Common.{◌≡◌, ◌∙◌, sym, ℕ, zero, suc, ◌+◌, ◌<◌, List, [], ◌∷◌, length, get_or, ap, refl, subst, arith, inl, inr, ◌⊎◌}
 use Rattle.std.specs.Prelude.{Contains}
 
@@ -23,8 +24,7 @@ pub behind : {X : Type 0} (x : X) (xs : List X) (z : X) → Contains xs z → Co
 behind x xs z (k, inside, is) = (suc k, omega (arith, inside), is)
 
 pub front_or_behind : {X : Type 0} (x : X) (xs : List X) (z : X) → Contains (x ∷ xs) z → (x ≡ z) ⊎ Contains xs z
-front_or_behind x xs z (zero, inside, is) = inl is
-front_or_behind x xs z (suc k, inside, is) = inr (k, omega (arith, inside), is)
+front_or_behind x xs z w = grind (arith, common_steps)
 
 -- ---- what stands behind comes later
 

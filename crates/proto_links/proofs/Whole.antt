@@ -1,4 +1,5 @@
 -- What the links of any files reach.
+use Rattle.std.proofs.lemmas.Grind.{common_steps}
 use Rattle.std.proofs.Common.{◌≡◌, ◌∙◌, sym, ℕ, zero, suc, ◌<◌, Bool, true, false, List, [], ◌∷◌, length, get_or, ap, refl, subst, arith, inl, inr}
 use Rattle.std.specs.Set.{is_member}
 use Rattle.std.specs.Prelude.{Contains, filter, ◌==◌, cond, ◌↔◌}
@@ -21,8 +22,7 @@ use Rattle.proto_links.proofs.Unique.{before_strict, order_rises}
 -- ---- lists that rise
 
 unequal : (x y : ℕ) (b : Bool) → (x == y) ≡ b → (x ≡ y → ⊥) → (x == y) ≡ false
-unequal x y false e never = e
-unequal x y true e never = absurd (never (eqb-true x y e))
+unequal x y b e never = grind (arith, eqb-true)
 
 all_apart : (x : ℕ) (xs : List ℕ) → ((y : ℕ) → Contains xs y → x ≡ y → ⊥) → AllByRecursion (λ y. x == y ≡ false) xs
 all_apart x [] never = tt
@@ -40,14 +40,7 @@ once_of R strict (x ∷ xs) up = (
 -- what comes before all members of a list that rises comes in front of it
 rises_behind : {X : Type 0} (R : X → X → Type 0) (x : X) (xs : List X) → ((z : X) → Contains xs z → R x z) → Rises R xs
     → Rises R (x ∷ xs)
-rises_behind R x [] before up k d h = absurd (omega (arith, h))
-rises_behind R x (y ∷ xs) before up zero d h = before y (front y xs)
-rises_behind R x (y ∷ xs) before up (suc k) d h =
-    subst (R (get_or (y ∷ xs) k d)) (sym (next_behind x (y ∷ xs) k d)) (up k d (omega (arith, h)))
-
-kept_by : (p : ℕ → Bool) (x : ℕ) (xs : List ℕ) (b : Bool) → p x ≡ b
-    → filter p (x ∷ xs) ≡ cond b (x ∷ filter p xs) (filter p xs)
-kept_by p x xs b e = ap (λ t. cond t (x ∷ filter p xs) (filter p xs)) e
+rises_behind R x xs before up k d h = grind (arith, common_steps, front, next_behind)
 
 -- a member of what a test keeps is a member that passes it, and the other way round
 pub kept_to : (p : ℕ → Bool) (xs : List ℕ) (z : ℕ) → Contains (filter p xs) z → Contains xs z × (p z ≡ true)
@@ -59,14 +52,8 @@ kept_to p xs z w = (
 kept_back : (p : ℕ → Bool) (x : ℕ) (xs : List ℕ) (z : ℕ) (b : Bool) → p x ≡ b
     → (Contains xs z → Contains (filter p xs) z) → p z ≡ true → Contains (x ∷ xs) z
     → Contains (cond b (x ∷ filter p xs) (filter p xs)) z
-kept_back p x xs z false e rest passes w = elim (front_or_behind x xs z w) [
-  | inl same ↦ absurd (true≢false (sym passes ∙ ap p (sym same) ∙ e))
-  | inr later ↦ rest later
-]
-kept_back p x xs z true e rest passes w = elim (front_or_behind x xs z w) [
-  | inl same ↦ subst (Contains (x ∷ filter p xs)) same (front x (filter p xs))
-  | inr later ↦ behind x (filter p xs) z (rest later)
-]
+kept_back p x xs z false e rest passes w = grind (arith, front_or_behind, true≢false)
+kept_back p x xs z true e rest passes w = grind (arith, behind, front, front_or_behind)
 
 pub kept_from : (p : ℕ → Bool) (xs : List ℕ) (z : ℕ) → p z ≡ true → Contains xs z → Contains (filter p xs) z
 kept_from p [] z passes w = absurd (none_in z w)
