@@ -1,4 +1,5 @@
 -- What workers' marks post.
+use Rattle.std.proofs.lemmas.Grind.{common_steps}
 use Rattle.std.proofs.Common.{◌≡◌, ℕ, zero, suc, ◌+◌, ◌<◌, ◌⊎◌, inl, inr, ◌↔◌, Option, Some, None, List, [], ◌∷◌, ◌++◌, take, length, reverse, refl, sym, ap, subst, ◌∙◌, arith, rules, slice_get, All, drop, map, sum_by, append-nil}
 use Rattle.std.specs.Prelude.{Contains}
 use Rattle.std.specs.List.{flat_map}
@@ -145,8 +146,4 @@ same_sums f (x ∷ xs) (y ∷ ys) e =
 pub written : {X : Type 0} (items slice new : List X) (n : ℕ) → slice ≡ items → length slice ≡ n
     → length new ≡ length slice
     → take n (new ++ drop (length new) items) ≡ new
-written items slice new n value len same =
-    let all : length items ≡ length slice = ap (λ l. length l) (sym value) in
-    ap (λ l. take n (new ++ l)) (drop_of_length-le items (omega arith)) ∙ ap (λ l. take n l) (append-nil new)
-    ∙ ap (λ k. take k new) (sym len ∙ sym same)
-    ∙ take-length new
+written items slice new n value len same = grind (arith, append-nil, drop_of_length-le, take-length)

@@ -39,22 +39,15 @@ loop-file-preserved g c =
             w.if-file-root.true (sym w.get.ensures ∙ w.if-get-position.true) c.loop-file.invariant.1
             (ap (λ (v : Vec ℕ Global). v.items) w.files-is ∙ w.in_ok-push.ensures.items),
       )
-      | else-file-root w ↦
-          let same = ap (λ (v : Vec ℕ Global). v.items) w.files-is in
-          elim w.else-file-root.branch [
-            | else-file-root-via-then-file-root+else-get-position w' ↦ (
-              omega arith,
-              others_skip first c.args.position c.args.root c.loop-file.k c.in-Some.file list start was
-                  c.if-file-root.files.items at
-                  (inr (λ e. w'.if-get-position.false (w'.get.ensures ∙ e))) c.loop-file.invariant.1 same,
-            )
-            | else-file-root-via-else-file-root w' ↦ (
-              omega arith,
-              others_skip first c.args.position c.args.root c.loop-file.k c.in-Some.file list start was
-                  c.if-file-root.files.items at
-                  (inl w'.if-file-root.false) c.loop-file.invariant.1 same,
-            )
-          ]
+      | else-file-root w ↦ (
+        omega arith,
+        others_skip first c.args.position c.args.root c.loop-file.k c.in-Some.file list start was
+            c.if-file-root.files.items at
+            (elim w.else-file-root.branch [
+              | else-file-root-via-then-file-root+else-get-position w' ↦ inr (λ e. w'.if-get-position.false (w'.get.ensures ∙ e))
+              | else-file-root-via-else-file-root w' ↦ inl w'.if-file-root.false
+            ]) c.loop-file.invariant.1 (ap (λ (v : Vec ℕ Global). v.items) w.files-is),
+      )
     ]
 
 pub returns : goal.returns
