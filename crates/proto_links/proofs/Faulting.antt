@@ -104,10 +104,10 @@ turned_within g turned size flipped b c edge = let below = edge_below g c b ((fl
 pub record NoneBefore (files : List FileDesc) (n : ℕ) : Type 0 where
   pub none : (a : ℕ) (p : Place) (k : Kind) → a < n → IsBad files a p k → ⊥
 
-pub none_more : (files : List FileDesc) (n : ℕ) (imports : List ImportDesc) (first : Option Spot)
+pub none_more : {files : List FileDesc} {n : ℕ} {imports : List ImportDesc} {first : Option Spot}
     → imports ≡ imports_at files n → first ≡ None
     → IsLeast (IsWrongIn files n imports) first → NoneBefore files n → NoneBefore files (n + 1)
-none_more files n imports first e is f old = record {
+none_more {files} {n} {imports} {first} e is f old = record {
   none = λ a p k h w. (elim (cases_lt a n) [
     | inl less ↦ old.none a p k less w
     | inr over ↦ (let at : a ≡ n = omega arith in
@@ -135,11 +135,11 @@ later_file files n b x q l imports e least old w (inr over) = elim (cases_eq n b
   | inr other ↦ inl (omega (arith, over, other))
 ]
 
-pub first_bad_is : (files : List FileDesc) (n : ℕ) (imports : List ImportDesc) (first : Option Spot) (x : Spot)
+pub first_bad_is : {files : List FileDesc} {n : ℕ} {imports : List ImportDesc} {first : Option Spot} {x : Spot}
     → imports ≡ imports_at files n
     → first ≡ Some x → IsLeast (IsWrongIn files n imports) first → NoneBefore files n
     → IsFirstBad files n x.place x.kind
-first_bad_is files n imports first x e is f old =
+first_bad_is {files} {n} {imports} {first} {x} e is f old =
     let found = least_of (IsWrongIn files n imports) first x f is in
     record {
       among = subst (λ (xs : List ImportDesc). IsWrongIn files n xs x) e found.among;
@@ -147,12 +147,12 @@ first_bad_is files n imports first x e is f old =
     }
 
 -- the marks of a search over the turned edges are at the files that reach the one
-pub marks_are : (files : List FileDesc) (g : Graph) (turned rows : List (Vec ℕ Global)) (a : ℕ)
-    (marks reaching : List Bool) → IsGraph files g
+pub marks_are : {files : List FileDesc} {g : Graph} {turned rows : List (Vec ℕ Global)} {a : ℕ}
+    {marks reaching : List Bool} → IsGraph files g
     → ((b c : ℕ) → Edge (graph_of turned) b c ↔ Edge g c b) → rows ≡ turned → reaching ≡ marks
     → ((b : ℕ) → IsMarked marks b ↔ Leads (Edge (graph_of rows)) b a)
     → (b : ℕ) → IsMarked reaching b ↔ Reaches files b a
-marks_are files g turned rows a marks reaching is flipped er em marked b =
+marks_are {files} {g} {turned} {a = a} is flipped er em marked b =
     let at = reaching_is files g (graph_of turned) a is flipped b in
-    let mark = subst (λ (rs : List (Vec ℕ Global)). IsMarked marks b ↔ Leads (Edge (graph_of rs)) b a) er (marked b) in
-    subst (λ (ms : List Bool). IsMarked ms b ↔ Reaches files b a) (sym em) (λ m. at.0 (mark.0 m), λ r. mark.1 (at.1 r))
+    let mark = rw er at (marked b) in
+    rw em (λ m. at.0 (mark.0 m), λ r. mark.1 (at.1 r))

@@ -58,9 +58,6 @@ pub found_name : (files : List FileDesc) (k : ℕ) (name : List ℕ) → k < len
 found_name [] k name h found = absurd (no_position k h)
 found_name (f ∷ fs) k name h found = (h, name_is (f ∷ fs) k f h ∙ exact_bytes _ _ (found f))
 
-greater_not_equal : (o : Ordering) → o ≡ Greater → o ≡ Equal → ⊥
-greater_not_equal o h k = cc
-
 pub no_name : (files : List FileDesc) (at : ℕ) (name : List ℕ)
     → ((k : ℕ) (d : FileDesc) → 0 ≤ k → k < at → slice_cmp nat_cmp (name_of (get_or files k d)) name ≡ Less)
     → ((k : ℕ) (d : FileDesc) → at ≤ k → k < length files
@@ -68,7 +65,4 @@ pub no_name : (files : List FileDesc) (at : ℕ) (name : List ℕ)
 no_name [] at name left right b (h, same) = no_position b h
 no_name (f ∷ fs) at name left right b (h, same) =
     let equal = equal_itself (name_of (get_or (f ∷ fs) b f)) name (sym (name_is (f ∷ fs) b f h) ∙ same) in
-    elim (cases_lt b at) [
-      | inl less ↦ less_not_equal _ (left b f (omega arith) less) equal
-      | inr over ↦ greater_not_equal _ (right b f over h) equal
-    ]
+    grind (arith, left b f, right b f)

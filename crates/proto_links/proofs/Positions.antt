@@ -67,12 +67,6 @@ layout ranking positioned reach seen =
 
 -- ---- lists
 
-map_at : (f : ℕ → ℕ) (list : List ℕ) (k : ℕ) → k < length list → get_or (map f list) k 0 ≡ f (get_or list k 0)
-map_at f list k h = get_or-map f list k 0 0 h
-
-same_at : (xs : List ℕ) (k : ℕ) → k < length xs → get_or xs k (get_or xs k 0) ≡ get_or xs k 0
-same_at xs k h = grind (arith, common_steps)
-
 -- `has` is membership
 pub has_is : (x : ℕ) (xs : List ℕ) → IsTrue (is_member ◌==◌ xs x) ↔ Contains xs x
 has_is x xs = (λ e. Contains-from_any (λ a b h. eqb-true a b h) x xs e, λ w. list_any-from_Contains nat_eq_equiv x xs w)
@@ -95,10 +89,7 @@ module _ {files : List FileDesc} {graph : ImportGraph} {ranking : Ranking} (r : 
   order_is : IsSetOrder (length files) (rank_of ranking) ranking.order.items
   order_is = record {
     rises = r.order.rises;
-    every = λ a. (
-      λ w. (let h = (r.order.whole a).0 w in omega (arith, h, r.order.size, order_size)),
-      λ h. (r.order.whole a).1 (omega (arith, h, r.order.size, order_size)),
-    );
+    every = λ a. (let whole = r.order.whole a in grind (arith, order_size));
   }
 
 -- ---- files and positions
@@ -195,12 +186,15 @@ module _ {files : List FileDesc} {graph : ImportGraph} {ranking : Ranking} {posi
         let next : k + 1 < length list = omega (arith, more, length-map list (file_at ranking)) in
         let last = get_or list (k + 1) 0 in
         let below = leads_le (import_rows positioned) last (position_of positioned a) rows_fall
-        ((is.members last).0 (k + 1, next, same_at list (k + 1) next)) in
+        ((is.members last).0 (k + 1, next, grind (arith, common_steps))) in
         let inside = position_below a h in
         let far = before_far ranking.ranks.items ranking.order.items m.ranked.order (get_or list k 0) last
         (is.rises k next)
         (omega (arith, below, inside, rows_size)) in
-        rw (map_at (file_at ranking) list k (omega (arith, next)), map_at (file_at ranking) list (k + 1) next) far);
+        rw (
+          get_or-map (file_at ranking) list k 0 0 (omega (arith, next)),
+          get_or-map (file_at ranking) list (k + 1) 0 0 next,
+        ) far);
   }
 
   -- ---- what a file sees

@@ -90,6 +90,8 @@ whole_of files links is =
     let back : (a : ℕ) → a < length files → a < count_of links = λ a h. omega (arith, h, is.count) in
     let within : (a b : ℕ) → a < count_of links → Contains (reach_of links a) b → b < count_of links =
     λ a b h w. back b (leads_inside files b a (below a h) (((is.reach a (below a h)).members b).0 w)) in
+    let every : (a : ℕ) → Contains links.set_order a ↔ (a < count_of links) =
+    λ a. (λ w. back a ((is.order.every a).0 w), λ h. (is.order.every a).1 (below a h)) in
     let each : IsDistinct ◌==◌ links.set_order = once_of R strict links.set_order order in
     record {
       within = within;
@@ -107,8 +109,7 @@ whole_of files links is =
           (λ b w. kept_from (is_member ◌==◌ (reach_of links a)) links.set_order b ((has_is b (reach_of links a)).1 w)
           ((is.order.every b).1 (below b (within a b h w))))
           (λ b w. (has_is b (reach_of links a)).0 (kept_to (is_member ◌==◌ (reach_of links a)) links.set_order b w).1);
-      every = λ a. (λ w. back a ((is.order.every a).0 w), λ h. (is.order.every a).1 (below a h));
+      every = every;
       each_once = each;
-      size = size_of links.set_order (count_of links) each
-          (λ a. (λ w. back a ((is.order.every a).0 w), λ h. (is.order.every a).1 (below a h)));
+      size = size_of links.set_order (count_of links) each every;
     }

@@ -10,8 +10,6 @@ returns c =
     let file = subst (λ (l : Linked). c.args.file < count_of l) (sym c.self.view_is) c.requires.file in
     let other = subst (λ (l : Linked). c.args.other < count_of l) (sym c.self.view_is) c.requires.other in
     let inside : c.args.file < length c.self.inside.positions.items = omega (arith, file, c.self.invariant.0.size) in
-    let positions = c.self.inside.positions.items in
-    let position = c.index.ensures ∙ get_or_default positions c.args.file c.index.result.now 0 inside in
-    c.contains.ensures ∙ ap (λ p. has c.self.inside.seen p c.args.other) position
-    ∙ sym (sees_there c.self.inside c.args.file inside c.args.other (omega (arith, other, c.self.invariant.0.columns)))
-    ∙ ap (λ (l : Linked). sees l c.args.file c.args.other) c.self.view_is
+    let there = sees_there c.self.inside c.args.file inside c.args.other
+    (omega (arith, other, c.self.invariant.0.columns)) in
+    grind (arith, get_or_default)
