@@ -20,9 +20,7 @@ has_is g (x ∷ xs) = grind (arith, behind, eqb-true, front, front_or_behind, ha
 pub filter_on : (p q : ℕ → Bool) (xs : List ℕ) → ((x : ℕ) → has x xs ≡ true → p x ≡ q x) → filter p xs ≡ filter q xs
 filter_on p q [] h = refl
 filter_on p q (x ∷ xs) h =
-    let here : p x ≡ q x = h x (ap (λ b. b || has x xs) (eq-eqb x x refl)) in
-    let rest : filter p xs ≡ filter q xs = filter_on p q xs (λ y e. h y (or_right (eqb y x) (has y xs) e)) in
-    λ i. cond (here i) (x ∷ rest i) (rest i)
+    grind (arith, eq-eqb, filter_on p q xs (λ y e. h y (or_right (eqb y x) (has y xs) e)))
 
 pub filter_filter : (p q : ℕ → Bool) (xs : List ℕ) → filter p (filter q xs) ≡ filter (λ x. q x && p x) xs
 filter_filter p q [] = refl

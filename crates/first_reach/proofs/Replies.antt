@@ -77,11 +77,9 @@ says : (mode : Mode) (reach : ℕ → List ℕ) (roots : List (Option ℕ)) (i g
     → has g files ≡ (has g (reached reach root) && (repeats mode root g || eqb (first_reach reach roots g) i))
 says mode reach roots i g root files own at e =
     let test : ℕ → Bool = λ x. repeats mode root x || eqb (first_reach reach roots x) i in
-    let kept : List ℕ = filter test (root_first reach root) in
-    let same : kept ≡ files = let a = reply_is mode reach roots i root own at in let b : Some kept ≡ Some files =
-    sym a ∙ e in cc in
-    ap (has g) (sym same) ∙ has_filter test g (root_first reach root)
-    ∙ ap (λ b. b && test g) (has_root_first reach root (λ r is. own i r (at ∙ ap (λ (x : Option ℕ). Some x) is)) g)
+    let kept = reply_is mode reach roots i root own at in
+    let of_root = has_root_first reach root (λ r is. own i r (at ∙ ap (λ (x : Option ℕ). Some x) is)) g in
+    grind (arith, has_filter test g (root_first reach root))
 
 pub carries : CarriesFirsts
 carries reach roots top own i g files e =

@@ -51,28 +51,23 @@ skip R strict x y (z ∷ xs) up (suc k) d h =
 pub first_before : {X : Type 0} (R : X → X → Type 0) → IsStrict R → (x : X) (xs : List X) → Rises R (x ∷ xs) → (z : X)
     → Contains xs z → R x z
 first_before R strict x [] up z w = absurd (none_in z w)
-first_before R strict x (y ∷ xs) up z w = elim (front_or_behind y xs z w) [
-  | inl same ↦ subst (R x) same (first_two R x y xs up)
-  | inr later ↦ first_before R strict x xs (skip R strict x y xs up) z later
-]
+first_before R strict x (y ∷ xs) up z w =
+    let cases = front_or_behind y xs z w in
+    grind (arith, first_two R x y xs up, first_before R strict x xs (skip R strict x y xs up) z)
 
 -- ---- one list
 
 same_first : {X : Type 0} (R : X → X → Type 0) → IsStrict R → (x y : X) (xs ys : List X) → Rises R (x ∷ xs)
     → Rises R (y ∷ ys) → (x ≡ y) ⊎ Contains xs y
     → (y ≡ x) ⊎ Contains ys x → x ≡ y
-same_first R strict x y xs ys up over (inl same) other = same
-same_first R strict x y xs ys up over (inr later) (inl same) = sym same
-same_first R strict x y xs ys up over (inr later) (inr after) =
-    absurd (strict.never x
-    (strict.trans x y x (first_before R strict x xs up y later) (first_before R strict y ys over x after)))
+same_first R strict x y xs ys up over first other =
+    grind (arith, first_before R strict x xs up y, first_before R strict y ys over x, strict.never x, strict.trans x y x)
 
 same_rest : {X : Type 0} (R : X → X → Type 0) → IsStrict R → (x y : X) (xs ys : List X) → Rises R (x ∷ xs) → x ≡ y
     → ((z : X) → Contains (x ∷ xs) z → Contains (y ∷ ys) z) → (z : X) → Contains xs z → Contains ys z
-same_rest R strict x y xs ys up same to z w = elim (front_or_behind y ys z (to z (behind x xs z w))) [
-  | inl first ↦ absurd (strict.never x (subst (R x) (sym (same ∙ first)) (first_before R strict x xs up z w)))
-  | inr later ↦ later
-]
+same_rest R strict x y xs ys up same to z w =
+    let cases = front_or_behind y ys z (to z (behind x xs z w)) in
+    grind (arith, first_before R strict x xs up z w, strict.never x)
 
 pub one_rising : {X : Type 0} (R : X → X → Type 0) → IsStrict R → (xs ys : List X) → Rises R xs → Rises R ys
     → ((x : X) → Contains xs x → Contains ys x)

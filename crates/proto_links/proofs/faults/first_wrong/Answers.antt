@@ -24,5 +24,5 @@ loop-import-preserved c =
     ])
 
 pub returns : goal.returns
-returns c = subst (λ xs. IsLeast (IsWrongIn c.args.files.now c.args.file xs) c.loop-import.first)
-    (whole_prefix c.args.imports.now c.loop-import.import-index (omega arith)) c.loop-import.invariant
+returns c =
+    rw (whole_prefix c.args.imports.now c.loop-import.import-index (omega arith)) at c.loop-import.invariant

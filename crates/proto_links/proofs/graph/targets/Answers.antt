@@ -38,13 +38,12 @@ loop-import-preserved c =
     ])
 
 pub returns-clause-all : goal.returns-clause-all
-returns-clause-all c = subst (λ xs. (b : ℕ) → Contains c.loop-import.all.items b ↔ Targets c.args.files.now xs b)
-    (whole_prefix c.args.imports.now c.loop-import.import-index (omega arith)) c.loop-import.invariant.all_are
+returns-clause-all c =
+    rw (whole_prefix c.args.imports.now c.loop-import.import-index (omega arith)) at c.loop-import.invariant.all_are
 
 pub returns-clause-public : goal.returns-clause-public
 returns-clause-public c =
-    subst (λ xs. (b : ℕ) → Contains c.loop-import.public.items b ↔ PublicTargets c.args.files.now xs b)
-    (whole_prefix c.args.imports.now c.loop-import.import-index (omega arith)) c.loop-import.invariant.public_are
+    rw (whole_prefix c.args.imports.now c.loop-import.import-index (omega arith)) at c.loop-import.invariant.public_are
 
 pub returns-clause-whole : goal.returns-clause-whole
 returns-clause-whole c = grind (arith, common_steps)

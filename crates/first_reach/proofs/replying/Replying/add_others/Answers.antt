@@ -18,10 +18,7 @@ get-requires g c =
     omega (arith, inside)
 
 pub loop-file-smaller : goal.loop-file-smaller
-loop-file-smaller g c =
-    let list = g.F.Reach.list c.args.self.now.reach.now c.args.root in
-    let at : slice_get list c.loop-file.k ≡ Some c.in-Some.file = sym c.reached.ensures ∙ c.in-Some.is in
-    let inside = slice_get_within list c.loop-file.k c.in-Some.file at in omega arith
+loop-file-smaller g c = grind (arith, slice_get_within)
 
 pub loop-file-preserved : goal.loop-file-preserved
 loop-file-preserved g c =
