@@ -44,13 +44,9 @@ parts mode reach first i r =
     filter_filter test (λ g. not (eqb g r)) (reach r)
     ∙ filter_on _ _ (reach r) (λ g h. once mode g (eqb (slice_index first g) i)) in
     ap (λ l. cond (test r) (r ∷ l) l) rest where
-      pick : (a b : Bool) → (not a && (a || b)) ≡ (not a && b)
-      pick true b = refl
-      pick false b = refl
-
       once : (mode : Mode) (g : ℕ) (b : Bool) → (not (eqb g r) && (repeats mode (Some r) g || b)) ≡ (not (eqb g r) && b)
       once Once g b = refl
-      once Repeat g b = pick (eqb g r) b
+      once Repeat g b = grind arith
 
 -- where the root at position i is the first to reach its own file
 pub reply_first : (mode : Mode) (reach : ℕ → List ℕ) (first : List ℕ) (i r : ℕ) → slice_index first r ≡ i

@@ -19,9 +19,6 @@ use Rattle.first_reach.proofs.Firsts.{first_hits}
 abbrev pub Own : (ℕ → List ℕ) → List (Option ℕ) → Type 0
 Own reach roots = (k r : ℕ) → slice_get roots k ≡ Some (Some r) → has r (reach r) ≡ true
 
-and_true : (a b : Bool) → b ≡ true → a ≡ (a && b)
-and_true a b e = grind (arith, common_steps)
-
 step : (a b : Bool) (i k F : ℕ) → (not (a || b) && eqb F (i + 1 + k)) ≡ (not a && eqb (cond b i F) (i + suc k))
 step a b i k F = grind (arith, common_steps)
 
@@ -41,18 +38,17 @@ replies_are mode reach (r ∷ roots) sent i zero root own e =
     let f : filter (λ g. repeats mode r g || not (has g sent)) (root_first reach r) ≡ filter (q r)
     (root_first reach r) =
     filter_on _ _ (root_first reach r) (λ g h.
-    let in_r : has g (reached reach r) ≡ true =
-    sym (has_root_first reach r (λ x is. own 0 x (ap (λ (y : Option ℕ). Some y) is)) g) ∙ h in
-    let none : i ≡ i + 0 = omega arith in
-    ap (λ b. repeats mode r g || b) (and_true (not (has g sent)) _ (eq-eqb _ _ (ap (λ b. cond b i (F g)) in_r ∙ none))))
-    in
+    let of_root = has_root_first reach r (λ x is. own 0 x (ap (λ (y : Option ℕ). Some y) is)) g in
+    grind (arith, eq-eqb)) in
     λ j. Some ((f ∙ ap (λ x. filter (q x) (root_first reach x)) same) j)
 replies_are mode reach (r ∷ roots) sent i (suc k) root own e =
     replies_are mode reach roots (sent ++ reached reach r) (i + 1) k root (λ j x is. own (suc j) x is) e
-    ∙ ap (λ (l : List ℕ). Some l) (filter_on _ _ (root_first reach root) (λ g h. ap (λ b. repeats mode root g || b) (
-    ap (λ b. not b && eqb (first_from reach (i + 1) roots g) (i + 1 + k))
-    (list_any-append (eqb g) sent (reached reach r))
-    ∙ step (has g sent) (has g (reached reach r)) i k (first_from reach (i + 1) roots g))))
+    ∙ ap (λ (l : List ℕ). Some l) (filter_on _ _ (root_first reach root) (λ g h.
+    grind (
+      arith,
+      list_any-append (eqb g) sent (reached reach r),
+      step (has g sent) (has g (reached reach r)) i k (first_from reach (i + 1) roots g),
+    )))
 
 pub reply_is : (mode : Mode) (reach : ℕ → List ℕ) (roots : List (Option ℕ)) (i : ℕ) (root : Option ℕ) → Own reach roots
     → slice_get roots i ≡ Some root

@@ -7,7 +7,7 @@ use Rattle.std.proofs.lemmas.Grind.{common_steps}
 use Rattle.std.proofs.lemmas.List.{get_or-map, get_or_past}
 use Rattle.std.proofs.lemmas.List.Elements.{Contains-push, Contains-push_cases, Contains-append_left}
 use Rattle.digraph.specs.Edges.{Graph, Edge, graph_of}
-use Rattle.digraph.proofs.Gathering.{below_more, joined_none}
+use Rattle.digraph.proofs.Gathering.{below_more, joined_end, joined_more, joined_none}
 use Rattle.digraph.proofs.Rows.{edge_push}
 use Rattle.digraph.proofs.Visiting.{push_iff}
 use Rattle.proto_desc.specs.declared.file.FileDesc.{FileDesc}
@@ -17,12 +17,6 @@ use Rattle.proto_links.specs.Imports.{imports_of, imports_at, IsNamed, Targets, 
 use Rattle.proto_base.specs.NameOrder.{NamesRise}
 use Rattle.proto_links.proofs.Named.{named_once}
 use Rattle.proto_links.proofs.Rising.{none_in}
-
-joined : {A B M N P : Type 0} → A ↔ (B ⊎ P) → B ↔ M → N ↔ (M ⊎ P) → A ↔ N
-joined f g h = grind arith
-
-also : {A B P Q : Type 0} → A ↔ (B ⊎ P) → P ↔ Q → A ↔ (B ⊎ Q)
-also f g = grind arith
 
 -- ---- one import more
 
@@ -57,21 +51,19 @@ pub record Targeting (files : List FileDesc) (xs : List ImportDesc) (all public 
   pub found : IsTrue whole → HasMissing files xs → ⊥
   pub lacking : whole ≡ false → HasMissing files xs
 
-pub targeting_more : {files : List FileDesc} {xs : List ImportDesc} {all public new_all new_public : List ℕ} {whole now : Bool}
-    (i : ImportDesc) → ((b : ℕ) → Contains new_all b ↔ (Contains all b ⊎ IsNamed files i.path b))
+pub targeting_more : {files : List FileDesc} {xs : List ImportDesc} {all public new_all new_public : List ℕ}
+    {whole now : Bool} (i : ImportDesc)
+    → ((b : ℕ) → Contains new_all b ↔ (Contains all b ⊎ IsNamed files i.path b))
     → ((b : ℕ) → Contains new_public b ↔ (Contains public b ⊎ (IsTrue i.is_public × IsNamed files i.path b)))
     → ((now ≡ whole) × ((t : ℕ) × IsNamed files i.path t)) ⊎ ((now ≡ false) × ((b : ℕ) → IsNamed files i.path b → ⊥))
     → Targeting files xs all public whole → Targeting files (xs ++ i ∷ []) new_all new_public now
 targeting_more {files} {xs} i all_more public_more which r =
     let missing = some_more (λ j. (b : ℕ) → IsNamed files j.path b → ⊥) xs i in
     record {
-      all_are = λ b. joined (all_more b) (r.all_are b) (some_more (λ j. IsNamed files j.path b) xs i);
-      public_are = λ b. joined (public_more b) (r.public_are b)
+      all_are = λ b. joined_more (all_more b) (r.all_are b) (some_more (λ j. IsNamed files j.path b) xs i);
+      public_are = λ b. joined_more (public_more b) (r.public_are b)
           (some_both (λ j. IsTrue j.is_public) (λ j. IsNamed files j.path b) xs i);
-      found = λ w m. (elim (missing.0 m) [
-        | inl old ↦ (elim which [ inl one ↦ r.found (sym one.0 ∙ w) old | inr none ↦ false≢true (sym none.0 ∙ w) ])
-        | inr out ↦ (elim which [ inl one ↦ out one.1.0 one.1.1 | inr none ↦ false≢true (sym none.0 ∙ w) ])
-      ]);
+      found = λ w m. (let cases = missing.0 m in grind (arith, r.found));
       lacking = λ e. missing.1 (elim which [ inl one ↦ inl (r.lacking (sym one.0 ∙ e)) | inr none ↦ inr none.1 ]);
     }
 
@@ -80,7 +72,7 @@ pub one_more : (files : List FileDesc) {name new : List ℕ} (xs : List ℕ) (t 
     → IsNamed files name t → new ≡ xs ++ t ∷ []
     → Contains new b ↔ (Contains xs b ⊎ IsNamed files name b)
 one_more files {name} xs t b order n e =
-    rw e (also (push_iff xs t b) (λ e. subst (IsNamed files name) e n, λ m. named_once files name order t b n m))
+    rw e (joined_end (push_iff xs t b) (named_once files name order t b n, λ e. subst (IsNamed files name) e n))
 
 pub nothing_more : {xs new : List ℕ} {P : Type 0} (b : ℕ) → new ≡ xs → (P → ⊥) → Contains new b ↔ (Contains xs b ⊎ P)
 nothing_more b e out = rw e (joined_none out)
@@ -139,10 +131,9 @@ pub graphing_more : {files : List FileDesc} {n : ℕ} {imports public new_import
 graphing_more {files} {n} {imports} {public} {new_imports} {new_public} {whole} {part} {now} {xs} all some g e ei ep which
     are_all are_public found lacking = record {
       all_rows = rows_more (Imports files) n (graph_of imports) (graph_of new_imports) all ei
-          (subst (λ (ys : List ImportDesc). (b : ℕ) → Contains all b ↔ Targets files ys b) e are_all) g.all_rows;
+          (rw e at are_all) g.all_rows;
       public_rows = rows_more (ImportsPublicly files) n (graph_of public) (graph_of new_public) some ep
-          (subst (λ (ys : List ImportDesc). (b : ℕ) → Contains some b ↔ PublicTargets files ys b) e are_public)
-          g.public_rows;
+          (rw e at are_public) g.public_rows;
       found = λ t. (let both : IsTrue whole × IsTrue part = grind arith in
           found_more files n xs e (g.found both.0) (found both.1));
       lacking = λ f. (elim which [

@@ -18,13 +18,9 @@ use Rattle.proto_links.proofs.Rising.{IsStrict, Rises, one_rising}
 rank_le : (files : List FileDesc) (f g : ℕ → ℕ) → AreRanks files f → AreRanks files g → (rank a : ℕ) → a < length files
     → f a ≡ rank → f a ≤ g a
 rank_le files f g first second zero a h e = omega (arith, e)
-rank_le files f g first second (suc rank) a h e = elim (first.least a h) [
-  | inl none ↦ omega (arith, none, e)
-  | inr (b, i, more) ↦ (
-      let below = rank_le files f g first second rank b i.2.0 (omega (arith, more, e)) in
-      let above = second.above a b i in
-      omega (arith, below, above, more))
-]
+rank_le files f g first second (suc rank) a h e =
+    let least = first.least a h in
+    grind (arith, rank_le files f g first second rank, second.above a)
 
 one_rank : (files : List FileDesc) (f g : ℕ → ℕ) → AreRanks files f → AreRanks files g → (a : ℕ)
     → a < length files → f a ≡ g a
