@@ -1,5 +1,5 @@
 -- The first root that reaches a file.
-use Rattle.std.proofs.Common.{◌≡◌, ℕ, zero, suc, ◌+◌, ◌<◌, ◌≤◌, ◌⊎◌, inl, inr, Bool, true, false, cond, Option, Some, None, List, [], ◌∷◌, length, refl, sym, ap, ◌∙◌, arith, rules, slice_get, IsTrue}
+use Rattle.std.proofs.Common.{◌≡◌, ℕ, zero, suc, ◌+◌, ◌<◌, ◌≤◌, ◌⊎◌, inl, inr, Bool, true, false, cond, Option, Some, None, List, [], ◌∷◌, length, refl, sym, arith, rules, slice_get, IsTrue}
 use Rattle.share_work.specs.Posts.{NONE, least_at}
 use Rattle.share_work.proofs.Legal.{least_at-le-NONE, least_at-above, least_at-below}
 use Rattle.first_reach.specs.Carried.{reached}

@@ -1,6 +1,7 @@
 -- What workers' marks post.
-use Rattle.std.proofs.lemmas.Grind.{common_steps}
-use Rattle.std.proofs.Common.{◌≡◌, ℕ, zero, suc, ◌+◌, ◌<◌, ◌⊎◌, inl, inr, ◌↔◌, Option, Some, None, List, [], ◌∷◌, ◌++◌, take, length, reverse, refl, sym, ap, subst, ◌∙◌, arith, rules, slice_get, All, drop, map, sum_by, append-nil}
+use Rattle.std.proofs.lemmas.List.{length-take}
+use Rattle.share_work.proofs.PieceRows.{take_get}
+use Rattle.std.proofs.Common.{◌≡◌, ℕ, zero, suc, ◌+◌, ◌<◌, ◌⊎◌, inl, inr, ◌↔◌, Option, Some, None, List, [], ◌∷◌, ◌++◌, take, length, reverse, refl, sym, ap, subst, ◌∙◌, arith, slice_get, All, drop, map, sum_by, append-nil}
 use Rattle.std.specs.Prelude.{Contains}
 use Rattle.std.specs.List.{flat_map}
 use Rattle.std.proofs.lemmas.Bool.{cases_lt}
@@ -21,10 +22,8 @@ use Rattle.first_reach.proofs.Lists.{all_get}
 
 take_under : {X : Type 0} (n : ℕ) (xs : List X) (o : ℕ) (t : X) → slice_get (take n xs) o ≡ Some t
     → (o < n) × (slice_get xs o ≡ Some t)
-take_under zero xs o t e = let bad : None ≡ Some t = e in absurd (search rules)
-take_under (suc n) [] o t e = let bad : None ≡ Some t = e in absurd (search rules)
-take_under (suc n) (x ∷ xs) zero t e = (omega arith, e)
-take_under (suc n) (x ∷ xs) (suc o) t e = let r = take_under n xs o t e in (omega arith, r.1)
+take_under n xs o t e =
+    let inside = slice_get_within (take n xs) o t e in (omega (arith, length-take n xs), take_get n xs o t e)
 
 take_there : {X : Type 0} (n : ℕ) (xs : List X) (o : ℕ) (t : X) → o < n → slice_get xs o ≡ Some t
     → slice_get (take n xs) o ≡ Some t

@@ -1,7 +1,6 @@
 -- The files of a reply but its root.
-use Rattle.std.proofs.Common.{arith}
-use Rattle.std.proofs.Common.{◌≡◌, ℕ, ◌+◌, ◌⊎◌, inl, inr, ◌||◌, ◌&&◌, not, Bool, true, false, cond, Some, List, [], ◌∷◌, ◌++◌, filter, take, refl, sym, ap, ◌∙◌, eq-eqb, eqb, slice_get, slice_index, append_assoc, append-nil}
-use Rattle.std.proofs.lemmas.Bool.{ne_eqb, and_right, or_right}
+use Rattle.std.proofs.Common.{arith, ◌≡◌, ℕ, ◌+◌, ◌⊎◌, ◌||◌, ◌&&◌, not, Bool, cond, Some, List, [], ◌∷◌, ◌++◌, filter, take, refl, ap, ◌∙◌, eqb, slice_get, slice_index, append_assoc, append-nil}
+use Rattle.std.proofs.lemmas.Bool.{ne_eqb, and_right}
 use Rattle.std.proofs.lemmas.List.Elements.{filter_more}
 use Rattle.std.proofs.lemmas.Option.{slice_get_within, get_or_from_slice_get}
 use Rattle.first_reach.specs.declared.mode.Mode.{Mode}

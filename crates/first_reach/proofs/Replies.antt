@@ -1,7 +1,6 @@
 -- Each reply by itself.
 use Rattle.std.proofs.lemmas.Grind.{common_steps}
-use Rattle.std.proofs.Common.{◌≡◌, ℕ, zero, suc, ◌+◌, inl, inr, ◌||◌, ◌&&◌, not, Bool, true, false, cond, Option, Some, None, List, [], ◌∷◌, ◌++◌, filter, length, refl, sym, ap, ◌∙◌, arith, rules, eq-eqb, eqb-true, eqb, slice_get}
-use Rattle.std.proofs.lemmas.Bool.{ne_eqb, and_parts, and_from, or_left, or_right, or_cases}
+use Rattle.std.proofs.Common.{◌≡◌, ℕ, zero, suc, ◌+◌, ◌||◌, ◌&&◌, not, Bool, true, cond, Option, Some, None, List, [], ◌∷◌, ◌++◌, filter, length, refl, ap, ◌∙◌, arith, rules, eq-eqb, eqb-true, eqb, slice_get}
 use Rattle.std.proofs.lemmas.List.Folds.{list_any-append}
 use Rattle.std.specs.Prelude.{Contains}
 use Rattle.std.specs.Option.{ForSome}

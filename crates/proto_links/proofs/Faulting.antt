@@ -1,9 +1,8 @@
 -- What is wrong with imports, and which of it comes first.
 use Rattle.std.proofs.lemmas.Grind.{common_steps}
-use Rattle.std.proofs.Common.{◌≡◌, sym, ℕ, ◌+◌, ◌<◌, ◌≤◌, List, [], ◌∷◌, ◌++◌, length, ap, refl, subst, arith, inl, inr, ◌⊎◌, Vec, Global, map}
+use Rattle.std.proofs.Common.{◌≡◌, sym, ℕ, ◌+◌, ◌<◌, ◌≤◌, List, [], ◌∷◌, ◌++◌, length, refl, subst, arith, inl, inr, ◌⊎◌, Vec, Global, map}
 use Rattle.std.specs.Prelude.{Bool, Option, Some, None, ◌↔◌}
 use Rattle.std.proofs.lemmas.Bool.{cases_lt, cases_eq}
-use Rattle.std.proofs.lemmas.List.Elements.{Contains-push, Contains-push_cases, Contains-append_left}
 use Rattle.digraph.specs.Edges.{Graph, Edge, IsWithin, graph_of}
 use Rattle.digraph.specs.Marks.{IsMarked}
 use Rattle.digraph.specs.Leads.{Leads}
@@ -11,14 +10,13 @@ use Rattle.digraph.proofs.Rows.{edge_below}
 use Rattle.digraph.proofs.Ways.{leads_map, leads_turned}
 use Rattle.proto_desc.specs.declared.file.FileDesc.{FileDesc}
 use Rattle.proto_desc.specs.declared.file.ImportDesc.{ImportDesc}
-use Rattle.proto_base.specs.Kind.{number_of}
 use Rattle.proto_base.specs.declared.kind.Kind.{Kind}
 use Rattle.proto_base.specs.declared.kind.Kind.TheVariants as kind
 use Rattle.proto_base.specs.declared.place.Place.{Place}
 use Rattle.proto_base.specs.Least.{AtMost, IsLeast, spot}
 use Rattle.proto_base.specs.Lesser.{IsLesser}
 use Rattle.proto_base.specs.declared.spot.Spot.{Spot}
-use Rattle.proto_base.proofs.Sets.{least_of, least_or, least_same, least_some, none_of}
+use Rattle.proto_base.proofs.Sets.{least_of, least_or, least_same, none_of}
 use Rattle.proto_links.specs.Graphs.{IsGraph, IsWrongAt, IsWrongIn}
 use Rattle.proto_links.specs.Imports.{IsNamed, Imports, Reaches, IsWrong, missing, cyclic, IsBad, NoneBad, imports_at, name_of}
 use Rattle.proto_links.specs.Bad.{IsFirstBad, IsNoLater}

@@ -1,11 +1,10 @@
 -- Laws of files in the order of their names.
 use Rattle.std.proofs.lemmas.Grind.{common_steps}
-use Rattle.std.proofs.Common.{◌≡◌, ◌∙◌, sym, ℕ, ◌+◌, ◌-◌, ◌<◌, ◌≤◌, List, [], ◌∷◌, length, get_or, ap, subst, arith, inl, inr, ◌⊎◌, Ordering, Less, Equal, Greater, map}
-use Rattle.std.specs.Prelude.{false, ◌↔◌}
+use Rattle.std.proofs.Common.{◌≡◌, ◌∙◌, sym, ℕ, ◌+◌, ◌-◌, ◌<◌, ◌≤◌, List, [], ◌∷◌, length, get_or, arith, Less, Equal, Greater, map}
+use Rattle.std.specs.Prelude.{◌↔◌}
 use Rattle.std.specs.Cmp.Lexicographic.{slice_cmp}
 use Rattle.std.specs.List.Sorted.{IsSortedByKey}
-use Rattle.std.specs.Ordering.{nat_cmp, ordering_reverse, is_lt}
-use Rattle.std.proofs.lemmas.Bool.{cases_lt}
+use Rattle.std.specs.Ordering.{nat_cmp}
 use Rattle.std.proofs.lemmas.Cmp.{nat_list_cmp_total}
 use Rattle.std.proofs.lemmas.Map.Lookups.{exact_bytes}
 use Rattle.std.proofs.lemmas.List.{get_or-map, length-map}
@@ -13,7 +12,7 @@ use Rattle.digraph.proofs.Visiting.{no_position}
 use Rattle.proto_desc.specs.declared.file.FileDesc.{FileDesc}
 use Rattle.proto_links.specs.Imports.{name_of, name_at, IsNamed}
 use Rattle.proto_base.specs.NameOrder.{NamesRise}
-use Rattle.proto_links.proofs.NameRows.{equal_itself, less_not_equal, one_position}
+use Rattle.proto_links.proofs.NameRows.{equal_itself, one_position}
 
 -- at most one file has a name
 pub named_once : (files : List FileDesc) (name : List ℕ) → NamesRise (map name_of files) → (b c : ℕ)
@@ -24,13 +23,10 @@ pub name_is : (files : List FileDesc) (k : ℕ) (d : FileDesc) → k < length fi
     → name_at files k ≡ name_of (get_or files k d)
 name_is files k d h = get_or-map name_of files k d [] h
 
-not_after : (o : Ordering) → o ≡ Less → is_lt (ordering_reverse o) ≡ false
-not_after o h = cc
-
 -- the order that a search asks for
 pub sorted_names : (files : List FileDesc) → NamesRise (map name_of files)
     → IsSortedByKey name_of (slice_cmp nat_cmp) files
-sorted_names files order k d low h = grind (arith, length-map, name_is, nat_list_cmp_total, not_after)
+sorted_names files order k d low h = grind (arith, length-map, name_is, nat_list_cmp_total)
 
 -- one more pair of neighbours
 pub order_more : (files : List FileDesc) (n : ℕ) → slice_cmp nat_cmp (name_at files (n - 1)) (name_at files n) ≡ Less

@@ -1,5 +1,5 @@
 -- Files by their positions in set order, and what lists of positions say of files.
-use Rattle.std.proofs.Common.{◌≡◌, ◌∙◌, sym, refl, ℕ, ◌+◌, ◌*◌, ◌<◌, ◌≤◌, List, [], length, map, get_or, ap, subst, arith, inl, inr, Vec, Global}
+use Rattle.std.proofs.Common.{◌≡◌, ◌∙◌, sym, refl, ℕ, ◌+◌, ◌<◌, List, [], length, map, get_or, subst, arith, inl, inr, Vec, Global}
 use Rattle.std.specs.Set.{is_member}
 use Rattle.std.specs.Prelude.{Contains, ◌↔◌, IsTrue, ◌==◌}
 use Rattle.std.specs.Cmp.{nat_eq_equiv}
@@ -105,18 +105,14 @@ module _ {files : List FileDesc} {graph : ImportGraph} {ranking : Ranking} {posi
   -- imports go to lower positions
   pub rows_fall : IsFalling (import_rows positioned)
   rows_fall =
-      let g = file_imports graph in
-      renumbered_falls g g ranking.ranks.items ranking.order.items
+      renumbered_falls (file_imports graph) (file_imports graph) ranking.ranks.items ranking.order.items
       (import_rows positioned) m.ranked.ranks m.ranked.order (λ a b edge. edge) m.imports
 
   pub public_falls : IsFalling (public_rows positioned)
   public_falls =
-      let sub : (a b : ℕ) → Edge (file_public_imports graph) a b → Edge (file_imports graph) a b =
-      λ a b edge. (m.ranked.imports.edges a b).1
-      (public_imports files a b ((m.ranked.public_imports.edges a b).0 edge)) in
       renumbered_falls (file_imports graph) (file_public_imports graph) ranking.ranks.items ranking.order.items
-      (public_rows positioned)
-      m.ranked.ranks m.ranked.order sub m.public_imports
+      (public_rows positioned) m.ranked.ranks m.ranked.order (λ a b edge. (m.ranked.imports.edges a b).1
+      (public_imports files a b ((m.ranked.public_imports.edges a b).0 edge))) m.public_imports
 
   -- each file has a position, and is the file there
   position_below : (a : ℕ) → a < length files → position_of positioned a < length positioned.imports.items

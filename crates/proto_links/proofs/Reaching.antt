@@ -1,5 +1,5 @@
 -- What files reach and see, and when none of their imports is bad.
-use Rattle.std.proofs.Common.{◌≡◌, sym, ℕ, ◌<◌, ◌≤◌, List, length, refl, subst, arith, inl, inr, ◌⊎◌}
+use Rattle.std.proofs.Common.{◌≡◌, ℕ, ◌<◌, ◌≤◌, List, length, refl, subst, arith, inl, inr, ◌⊎◌}
 use Rattle.std.specs.Prelude.{Contains, ◌↔◌}
 use Rattle.digraph.specs.Edges.{Graph, Edge}
 use Rattle.digraph.specs.Leads.{Leads, here, through}

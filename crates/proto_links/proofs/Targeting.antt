@@ -1,10 +1,10 @@
 -- What the loops keep that find the files of imports.
-use Rattle.std.proofs.Common.{◌≡◌, ◌∙◌, sym, ℕ, ◌+◌, ◌<◌, ◌≤◌, List, [], ◌∷◌, ◌++◌, length, map, take, get_or, ap, refl, subst, arith, inl, inr, ◌⊎◌, Vec, Global}
+use Rattle.std.proofs.Common.{◌≡◌, ◌∙◌, sym, ℕ, ◌+◌, ◌<◌, List, [], ◌∷◌, ◌++◌, length, map, take, get_or, ap, subst, arith, inl, inr, ◌⊎◌, Vec, Global}
 use Rattle.std.specs.Prelude.{Bool, true, false, Contains, ◌↔◌, IsTrue}
 use Rattle.std.proofs.Math.Seq.{take-length}
-use Rattle.std.proofs.lemmas.Bool.{cases_lt, false≢true}
+use Rattle.std.proofs.lemmas.Bool.{cases_lt}
 use Rattle.std.proofs.lemmas.Grind.{common_steps}
-use Rattle.std.proofs.lemmas.List.{get_or-map, get_or_past}
+use Rattle.std.proofs.lemmas.List.{get_or-map}
 use Rattle.std.proofs.lemmas.List.Elements.{Contains-push, Contains-push_cases, Contains-append_left}
 use Rattle.digraph.specs.Edges.{Graph, Edge, graph_of}
 use Rattle.digraph.proofs.Gathering.{below_more, joined_end, joined_more, joined_none}
@@ -16,7 +16,6 @@ use Rattle.proto_links.specs.Graphs.{HasMissing, IsGraph, IsPublicGraph}
 use Rattle.proto_links.specs.Imports.{imports_of, imports_at, IsNamed, Targets, PublicTargets, Imports, ImportsPublicly, name_of}
 use Rattle.proto_base.specs.NameOrder.{NamesRise}
 use Rattle.proto_links.proofs.Named.{named_once}
-use Rattle.proto_links.proofs.Rising.{none_in}
 
 -- ---- one import more
 

@@ -1,11 +1,10 @@
 -- What the links of any files reach.
 use Rattle.std.proofs.lemmas.Grind.{common_steps}
-use Rattle.std.proofs.Common.{◌≡◌, ◌∙◌, sym, ℕ, zero, suc, ◌<◌, Bool, true, false, List, [], ◌∷◌, length, get_or, ap, refl, subst, arith, inl, inr}
+use Rattle.std.proofs.Common.{◌≡◌, sym, ℕ, ◌<◌, Bool, true, false, List, [], ◌∷◌, length, refl, subst, arith}
 use Rattle.std.specs.Set.{is_member}
 use Rattle.std.specs.Prelude.{Contains, filter, ◌==◌, cond, ◌↔◌}
 use Rattle.std.specs.List.{IsDistinct, AllByRecursion}
-use Rattle.std.proofs.lemmas.Bool.{true≢false}
-use Rattle.std.proofs.lemmas.Bool.{eqb-true}
+use Rattle.std.proofs.lemmas.Bool.{true≢false, eqb-true}
 use Rattle.std.proofs.lemmas.Map.Steps.{length-le_from_distinct_below, le-length_from_below}
 use Rattle.std.proofs.lemmas.List.Elements.{All-contains, All-contains_itself, All-filter, filter_passes}
 use Rattle.digraph.specs.Leads.{here}
@@ -21,13 +20,10 @@ use Rattle.proto_links.proofs.Unique.{before_strict, order_rises}
 
 -- ---- lists that rise
 
-unequal : (x y : ℕ) (b : Bool) → (x == y) ≡ b → (x ≡ y → ⊥) → (x == y) ≡ false
-unequal x y b e never = grind (arith, eqb-true)
-
 all_apart : (x : ℕ) (xs : List ℕ) → ((y : ℕ) → Contains xs y → x ≡ y → ⊥) → AllByRecursion (λ y. x == y ≡ false) xs
 all_apart x [] never = tt
 all_apart x (y ∷ ys) never =
-    (unequal x y (x == y) refl (never y (front y ys)), all_apart x ys (λ z w. never z (behind y ys z w)))
+    (grind (arith, eqb-true, never y (front y ys)), all_apart x ys (λ z w. never z (behind y ys z w)))
 
 pub once_of : (R : ℕ → ℕ → Type 0) → IsStrict R → (xs : List ℕ) → Rises R xs → IsDistinct ◌==◌ xs
 unfolding IsDistinct
@@ -59,17 +55,12 @@ pub kept_from : (p : ℕ → Bool) (xs : List ℕ) (z : ℕ) → p z ≡ true �
 kept_from p [] z passes w = absurd (none_in z w)
 kept_from p (x ∷ xs) z passes w = kept_back p x xs z (p x) refl (kept_from p xs z passes) passes w
 
--- what a test keeps of a list that rises does
-kept_rise : (R : ℕ → ℕ → Type 0) → IsStrict R → (p : ℕ → Bool) (x : ℕ) (xs : List ℕ) (b : Bool) → Rises R (x ∷ xs)
-    → Rises R (filter p xs)
-    → Rises R (cond b (x ∷ filter p xs) (filter p xs))
-kept_rise R strict p x xs false up rest = rest
-kept_rise R strict p x xs true up rest =
-    rises_behind R x (filter p xs) (λ z w. first_before R strict x xs up z (kept_to p xs z w).0) rest
-
 pub kept_rises : (R : ℕ → ℕ → Type 0) → IsStrict R → (p : ℕ → Bool) (xs : List ℕ) → Rises R xs → Rises R (filter p xs)
 kept_rises R strict p [] up = up
-kept_rises R strict p (x ∷ xs) up = kept_rise R strict p x xs (p x) up (kept_rises R strict p xs (rest_rises R x xs up))
+kept_rises R strict p (x ∷ xs) up =
+    let rest = kept_rises R strict p xs (rest_rises R x xs up) in
+    let led = rises_behind R x (filter p xs) (λ z w. first_before R strict x xs up z (kept_to p xs z w).0) rest in
+    grind arith
 
 -- as many as there are numbers below n
 size_of : (xs : List ℕ) (n : ℕ) → IsDistinct ◌==◌ xs → ((a : ℕ) → Contains xs a ↔ (a < n)) → length xs ≡ n

@@ -1,5 +1,5 @@
 use Rattle.std.proofs.lemmas.Grind.{common_steps}
-use Rattle.std.proofs.Common.{◌∙◌, sym, subst, ℕ, ◌<◌, List, length, arith, Vec, Global}
+use Rattle.std.proofs.Common.{◌∙◌, sym, subst, ℕ, List, arith, Vec, Global}
 use Rattle.digraph.specs.Edges.{graph_of, Edge}
 use Rattle.digraph.proofs.Rows.{length_graph}
 use Rattle.proto_links.proofs.Faulting.{turned_within, none_more, none_all, first_bad_is, marks_are}

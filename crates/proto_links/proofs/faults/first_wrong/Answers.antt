@@ -1,6 +1,4 @@
-use Rattle.std.proofs.Common.{◌≡◌, ◌∙◌, sym, ap, subst, suc, ◌+◌, ◌<◌, [], ◌∷◌, ◌++◌, length, take, arith}
-use Rattle.proto_base.specs.Least.{IsLeast}
-use Rattle.proto_links.specs.Graphs.{IsWrongIn}
+use Rattle.std.proofs.Common.{take, arith}
 use Rattle.proto_links.proofs.Faulting.{first_more, first_skip}
 use Rattle.proto_links.proofs.Targeting.{prefix_more, whole_prefix}
 use Rattle.proto_links.proofs.faults.first_wrong.Goals as goal

@@ -1,9 +1,8 @@
 use Rattle.std.proofs.lemmas.Grind.{common_steps}
-use Rattle.std.proofs.Common.{◌≡◌, ◌∙◌, sym, ap, subst, ℕ, suc, ◌+◌, ◌<◌, [], ◌∷◌, ◌++◌, length, take, arith, inl, inr, Vec, Global}
-use Rattle.std.specs.Prelude.{Contains, ◌↔◌}
+use Rattle.std.proofs.Common.{◌∙◌, sym, ap, subst, ℕ, arith, inl, inr, Vec, Global}
 use Rattle.std.proofs.lemmas.Bool.{false≢true}
 use Rattle.digraph.proofs.Gathering.{joined_if}
-use Rattle.proto_links.specs.Imports.{IsNamed, Targets, PublicTargets}
+use Rattle.proto_links.specs.Imports.{IsNamed}
 use Rattle.proto_links.proofs.Targeting.{nothing_more, one_more, prefix_more, targeting_more, whole_prefix}
 use Rattle.proto_links.proofs.graph.targets.Goals as goal
 use Rattle.proto_links.proofs.graph.targets.Goals.{in-Some+in_ok-push-in-Some+then-import+in_ok-push-in-Some-2, in-Some+in_ok-push-in-Some+else-import, in-None}

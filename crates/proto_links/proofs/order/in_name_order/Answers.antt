@@ -2,7 +2,6 @@ use Rattle.std.specs.Cmp.Lexicographic.{slice_cmp}
 use Rattle.std.specs.Ordering.{nat_cmp}
 use Rattle.std.proofs.Common.{◌≡◌, ◌-◌, Less, arith, refl}
 use Rattle.std.proofs.lemmas.List.{length-map}
-use Rattle.std.proofs.lemmas.Bool.{both_ways, false≢true}
 use Rattle.proto_links.specs.Imports.{name_at, name_of}
 use Rattle.proto_links.proofs.Named.{order_more, pair_names, last_pair}
 use Rattle.proto_links.proofs.order.in_name_order.Goals as goal

@@ -1,5 +1,4 @@
-use Rattle.std.proofs.Common.{arith, ◌≡◌, ℕ, ◌++◌, ◌∷◌, [], List, sym, ap, ◌∙◌, Vec, Global}
-use Rattle.first_reach.specs.Reply.{others_at}
+use Rattle.std.proofs.Common.{arith, ℕ, List, Vec, Global}
 use Rattle.first_reach.proofs.Others.{reply_first, reply_again, reply_none}
 use Rattle.first_reach.proofs.replying.Replying.reply.Goals as goal
 use Rattle.first_reach.proofs.replying.Replying.reply.Goals.{then-get-position+in_ok-push+in_ok-add_others, else-get-position+in-Repeat+in_ok-push-2, else-get-position+in_default}

@@ -1,7 +1,6 @@
-use Rattle.std.proofs.Common.{◌∙◌, sym, ap, subst, ◌<◌, length, arith}
+use Rattle.std.proofs.Common.{sym, subst, ◌<◌, length, arith}
 use Rattle.std.proofs.lemmas.List.{get_or_default}
-use Rattle.bit_matrix.specs.Bits.{has}
-use Rattle.proto_links.specs.Linked.{Linked, count_of, sees}
+use Rattle.proto_links.specs.Linked.{Linked, count_of}
 use Rattle.proto_links.proofs.Laying.{sees_there}
 use Rattle.proto_links.proofs.links.Links.sees.Goals as goal
 
