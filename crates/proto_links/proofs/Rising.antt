@@ -61,7 +61,8 @@ same_first : {X : Type 0} (R : X → X → Type 0) → IsStrict R → (x y : X) 
     → Rises R (y ∷ ys) → (x ≡ y) ⊎ Contains xs y
     → (y ≡ x) ⊎ Contains ys x → x ≡ y
 same_first R strict x y xs ys up over first other =
-    grind (arith, first_before R strict x xs up y, first_before R strict y ys over x, strict.never x, strict.trans x y x)
+    let before = first_before R strict x xs up y in let after = first_before R strict y ys over x in
+    grind (arith, strict.never x, strict.trans x y x)
 
 same_rest : {X : Type 0} (R : X → X → Type 0) → IsStrict R → (x y : X) (xs ys : List X) → Rises R (x ∷ xs) → x ≡ y
     → ((z : X) → Contains (x ∷ xs) z → Contains (y ∷ ys) z) → (z : X) → Contains xs z → Contains ys z

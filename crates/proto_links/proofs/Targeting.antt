@@ -127,8 +127,8 @@ pub graphing_more : {files : List FileDesc} {n : ℕ} {imports public new_import
     → ((b : ℕ) → Contains all b ↔ Targets files xs b) → ((b : ℕ) → Contains some b ↔ PublicTargets files xs b)
     → (IsTrue part → HasMissing files xs → ⊥) → (part ≡ false → HasMissing files xs)
     → Graphing files (n + 1) new_imports new_public now
-graphing_more {files} {n} {imports} {public} {new_imports} {new_public} {whole} {part} {now} {xs} all some g e ei ep which
-    are_all are_public found lacking = record {
+graphing_more {files} {n} {imports} {public} {new_imports} {new_public} {whole} {part} {now} {xs} all some g e ei ep
+    which are_all are_public found lacking = record {
       all_rows = rows_more (Imports files) n (graph_of imports) (graph_of new_imports) all ei
           (rw e at are_all) g.all_rows;
       public_rows = rows_more (ImportsPublicly files) n (graph_of public) (graph_of new_public) some ep

@@ -13,20 +13,22 @@ loop-import-preserved c =
     let imports = c.args.imports.now in
     let i = c.import-item.result in
     let items = λ (v : Vec ℕ Global). v.items in
-    rw (prefix_more imports c.loop-import.import-index i (omega arith) c.import-item.is) (elim c.match-file_named.branch [
+    let all = c.loop-import.all.items in let public = c.loop-import.public.items in
+    let k = c.loop-import.import-index in
+    rw (prefix_more imports k i (omega arith) c.import-item.is) (elim c.match-file_named.branch [
       | in-Some+in_ok-push-in-Some+then-import+in_ok-push-in-Some-2 w ↦
           let t = w.in-Some.target in
           let named = subst (λ name. IsNamed files name t) c.as_str.ensures w.in-Some.ensures in
           targeting_more i
-          (λ b. one_more files c.loop-import.all.items t b c.requires named (ap items w.all-is ∙ w.in_ok-push-in-Some.ensures.items))
-          (λ b. joined_if
-          (one_more files c.loop-import.public.items t b c.requires named (ap items w.public-is ∙ w.in_ok-push-in-Some-2.ensures.items)) w.if-import.true)
+          (λ b. one_more files all t b c.requires named (ap items w.all-is ∙ w.in_ok-push-in-Some.ensures.items))
+          (λ b. joined_if (one_more files public t b c.requires named
+          (ap items w.public-is ∙ w.in_ok-push-in-Some-2.ensures.items)) w.if-import.true)
           (inl (w.is_whole-is, (t, named))) c.loop-import.invariant
       | in-Some+in_ok-push-in-Some+else-import w ↦
           let t = w.in-Some.target in
           let named = subst (λ name. IsNamed files name t) c.as_str.ensures w.in-Some.ensures in
           targeting_more i
-          (λ b. one_more files c.loop-import.all.items t b c.requires named (ap items w.all-is ∙ w.in_ok-push-in-Some.ensures.items))
+          (λ b. one_more files all t b c.requires named (ap items w.all-is ∙ w.in_ok-push-in-Some.ensures.items))
           (λ b. nothing_more b (ap items w.public-is) (λ p. false≢true (sym w.if-import.false ∙ p.0)))
           (inl (w.is_whole-is, (t, named))) c.loop-import.invariant
       | in-None w ↦

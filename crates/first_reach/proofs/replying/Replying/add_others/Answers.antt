@@ -41,7 +41,8 @@ loop-file-preserved g c =
         others_skip first c.args.position c.args.root c.loop-file.k c.in-Some.file list start was
             c.if-file-root.files.items at
             (elim w.else-file-root.branch [
-              | else-file-root-via-then-file-root+else-get-position w' ↦ inr (λ e. w'.if-get-position.false (w'.get.ensures ∙ e))
+              | else-file-root-via-then-file-root+else-get-position w' ↦
+                  inr (λ e. w'.if-get-position.false (w'.get.ensures ∙ e))
               | else-file-root-via-else-file-root w' ↦ inl w'.if-file-root.false
             ]) c.loop-file.invariant.1 (ap (λ (v : Vec ℕ Global). v.items) w.files-is),
       )
