@@ -19,6 +19,7 @@ use Rattle.proto_links.proofs.Named.{named_once}
 
 -- ---- one import more
 
+-- some import has P where one before does, or the new one
 pub some_more : (P : ImportDesc → Type 0) (xs : List ImportDesc) (i : ImportDesc)
     → ((j : ImportDesc) × Contains (xs ++ i ∷ []) j × P j) ↔ (((j : ImportDesc) × Contains xs j × P j) ⊎ P i)
 some_more P xs i = (
