@@ -1,5 +1,5 @@
 -- The replies of all roots, over a reach.
-use Rattle.std.proofs.Common.{◌≡◌, ℕ, suc, ◌+◌, ◌<◌, ◌≤◌, ◌||◌, true, false, Option, Some, None, List, [], ◌∷◌, map, length, refl, sym, ap, ◌∙◌, arith, eqb, slice_get, slice_index, All}
+use Rattle.std.proofs.Common.{◌≡◌, ℕ, suc, ◌<◌, ◌≤◌, ◌||◌, true, false, Option, Some, None, List, [], ◌∷◌, map, length, refl, sym, ap, ◌∙◌, arith, eqb, slice_get, slice_index, All}
 use Rattle.std.specs.Prelude.{Contains}
 use Rattle.std.specs.Option.{ForSome}
 use Rattle.std.proofs.lemmas.Option.{slice_get_within}
@@ -20,9 +20,7 @@ map_same f [] [] len same = refl
 map_same f [] (y ∷ ys) len same = absurd (omega arith)
 map_same f (x ∷ xs) [] len same = absurd (omega arith)
 map_same f (x ∷ xs) (y ∷ ys) len same =
-    let head = same 0 x y refl refl in
-    let rest = map_same f xs ys (omega arith) (λ i a b e e'. same (suc i) a b e e') in
-    λ i. head i ∷ rest i
+    grind (arith, same 0 x y refl refl, map_same f xs ys (omega arith) (λ i a b e e'. same (suc i) a b e e'))
 
 module _ (files : ℕ) (list : ℕ → List ℕ)
     (within : (r g : ℕ) → r < files → Contains (list r) g → g < files)
@@ -75,7 +73,4 @@ module _ (files : ℕ) (list : ℕ → List ℕ)
       (λ i out reply eo er.
       let inside = slice_get_within outs i out eo in let len = gives.0 in
       let root = get_there roots i (omega arith) in
-      let position : 0 + i ≡ i = omega arith in
-      let both : Some (reply_at mode list least i root.0) ≡ Some reply = sym (reply_same mode i root.0 root.1) ∙ er in
-      let same : reply_at mode list least i root.0 ≡ reply = cc in
-      gives.1 i root.0 out root.1 eo ∙ ap (λ n. reply_at mode list least n root.0) position ∙ same)
+      grind (arith, gives.1 i root.0 out root.1 eo, reply_same mode i root.0 root.1))

@@ -1,5 +1,5 @@
 -- The first root that reaches a file.
-use Rattle.std.proofs.Common.{◌≡◌, ℕ, zero, suc, ◌+◌, ◌<◌, ◌≤◌, ◌⊎◌, inl, inr, Bool, true, false, cond, Option, Some, None, List, [], ◌∷◌, length, refl, sym, ap, ◌∙◌, arith, rules, slice_get, IsTrue}
+use Rattle.std.proofs.Common.{◌≡◌, ℕ, zero, suc, ◌+◌, ◌<◌, ◌≤◌, ◌⊎◌, inl, inr, Bool, true, false, cond, Option, Some, None, List, [], ◌∷◌, length, refl, sym, arith, rules, slice_get, IsTrue}
 use Rattle.share_work.specs.Posts.{NONE, least_at}
 use Rattle.share_work.proofs.Legal.{least_at-le-NONE, least_at-above, least_at-below}
 use Rattle.first_reach.specs.Carried.{reached}
@@ -10,59 +10,30 @@ use Rattle.first_reach.proofs.Lists.{has, has_is}
 pub first_above : (reach : ℕ → List ℕ) (roots : List (Option ℕ)) (i g : ℕ) → i + length roots ≤ NONE
     → i ≤ first_from reach i roots g
 first_above reach [] i g top = omega arith
-first_above reach (r ∷ roots) i g top =
-    pick (has g (reached reach r)) (first_above reach roots (i + 1) g (omega arith)) where
-      pick : (b : Bool) → i + 1 ≤ first_from reach (i + 1) roots g → i ≤ cond b i (first_from reach (i + 1) roots g)
-      pick true ih = omega arith
-      pick false ih = omega arith
+first_above reach (r ∷ roots) i g top = grind (arith, first_above reach roots (i + 1) g (omega arith))
 
 first_top : (reach : ℕ → List ℕ) (roots : List (Option ℕ)) (i g : ℕ) → i + length roots ≤ NONE
     → first_from reach i roots g ≤ NONE
 first_top reach [] i g top = omega arith
-first_top reach (r ∷ roots) i g top =
-    pick (has g (reached reach r)) (first_top reach roots (i + 1) g (omega arith)) where
-      pick : (b : Bool) → first_from reach (i + 1) roots g ≤ NONE → cond b i (first_from reach (i + 1) roots g) ≤ NONE
-      pick true ih = omega arith
-      pick false ih = ih
+first_top reach (r ∷ roots) i g top = grind (arith, first_top reach roots (i + 1) g (omega arith))
 
 -- root k reaches the file where it is the first
 pub first_hits : (reach : ℕ → List ℕ) (roots : List (Option ℕ)) (i g k : ℕ) (root : Option ℕ) → i + length roots ≤ NONE
     → slice_get roots k ≡ Some root
     → first_from reach i roots g ≡ i + k → has g (reached reach root) ≡ true
 first_hits reach [] i g k root top e is = let bad : None ≡ Some root = e in absurd (search rules)
-first_hits reach (r ∷ roots) i g zero root top e is =
-    pick (has g (reached reach r)) refl is (first_above reach roots (i + 1) g (omega arith))
-    (let same : r ≡ root = cc in same) where
-      pick : (b : Bool) → b ≡ has g (reached reach r) → cond b i (first_from reach (i + 1) roots g) ≡ i + 0
-          → i + 1 ≤ first_from reach (i + 1) roots g
-          → r ≡ root → has g (reached reach root) ≡ true
-      pick true t h up same = ap (λ x. has g (reached reach x)) (sym same) ∙ sym t
-      pick false t h up same = absurd (omega arith)
+first_hits reach (r ∷ roots) i g zero root top e is = grind (arith, first_above)
 first_hits reach (r ∷ roots) i g (suc k) root top e is =
-    pick (has g (reached reach r)) is (λ h. first_hits reach roots (i + 1) g k root (omega arith) e h) where
-      pick : (b : Bool) → cond b i (first_from reach (i + 1) roots g) ≡ i + suc k
-          → (first_from reach (i + 1) roots g ≡ i + 1 + k → has g (reached reach root) ≡ true)
-          → has g (reached reach root) ≡ true
-      pick true h ih = absurd (omega arith)
-      pick false h ih = ih (omega arith)
+    grind (arith, first_hits reach roots (i + 1) g k root (omega arith) e)
 
 -- no root before the first one reaches the file
 pub first_below : (reach : ℕ → List ℕ) (roots : List (Option ℕ)) (i g k : ℕ) (root : Option ℕ) → i + length roots ≤ NONE
     → slice_get roots k ≡ Some root
     → has g (reached reach root) ≡ true → first_from reach i roots g ≤ i + k
 first_below reach [] i g k root top e h = let bad : None ≡ Some root = e in absurd (search rules)
-first_below reach (r ∷ roots) i g zero root top e h =
-    let same : r ≡ root = cc in
-    let here : has g (reached reach r) ≡ true = ap (λ x. has g (reached reach x)) same ∙ h in
-    let is : cond (has g (reached reach r)) i (first_from reach (i + 1) roots g) ≡ i =
-    ap (λ b. cond b i (first_from reach (i + 1) roots g)) here in
-    omega arith
+first_below reach (r ∷ roots) i g zero root top e h = grind arith
 first_below reach (r ∷ roots) i g (suc k) root top e h =
-    pick (has g (reached reach r)) (first_below reach roots (i + 1) g k root (omega arith) e h) where
-      pick : (b : Bool) → first_from reach (i + 1) roots g ≤ i + 1 + k
-          → cond b i (first_from reach (i + 1) roots g) ≤ i + suc k
-      pick true ih = omega arith
-      pick false ih = omega arith
+    grind (arith, first_below reach roots (i + 1) g k root (omega arith) e h)
 
 -- the first root is one of them
 pub first_found : (reach : ℕ → List ℕ) (roots : List (Option ℕ)) (i g : ℕ)
@@ -90,13 +61,8 @@ pub first_spreads : (reach : ℕ → List ℕ) (roots : List (Option ℕ)) (i r 
     → has r (reach r) ≡ true → i < NONE → first_reach reach roots g ≡ i → first_reach reach roots r ≡ i
 first_spreads reach roots i r g top at joins own under is =
     let below = first_below reach roots 0 r i (Some r) (omega arith) at own in
-    elim (first_found reach roots 0 r) [
-      | inl none ↦ absurd (omega arith)
-      | inr found ↦
-          let e = found.1 in
-          let low = first_below reach roots 0 g found.0 found.2.0 (omega arith) found.2.1
-          (joins found.0 found.2.0 found.2.1 found.2.2) in omega arith
-    ]
+    let found = first_found reach roots 0 r in
+    grind (arith, first_below reach roots 0 g, joins)
 
 pub least_is : LeastIsFirst
 least_is reach roots top pairs same g =

@@ -1,5 +1,7 @@
 -- What workers' marks post.
-use Rattle.std.proofs.Common.{◌≡◌, ℕ, zero, suc, ◌+◌, ◌<◌, ◌⊎◌, inl, inr, ◌↔◌, Option, Some, None, List, [], ◌∷◌, ◌++◌, take, length, reverse, refl, sym, ap, subst, ◌∙◌, arith, rules, slice_get, All, drop, map, sum_by, append-nil}
+use Rattle.std.proofs.lemmas.List.{length-take}
+use Rattle.share_work.proofs.PieceRows.{take_get}
+use Rattle.std.proofs.Common.{◌≡◌, ℕ, zero, suc, ◌+◌, ◌<◌, ◌⊎◌, inl, inr, ◌↔◌, Option, Some, None, List, [], ◌∷◌, ◌++◌, take, length, reverse, refl, sym, ap, subst, ◌∙◌, arith, slice_get, All, drop, map, sum_by, append-nil}
 use Rattle.std.specs.Prelude.{Contains}
 use Rattle.std.specs.List.{flat_map}
 use Rattle.std.proofs.lemmas.Bool.{cases_lt}
@@ -20,10 +22,8 @@ use Rattle.first_reach.proofs.Lists.{all_get}
 
 take_under : {X : Type 0} (n : ℕ) (xs : List X) (o : ℕ) (t : X) → slice_get (take n xs) o ≡ Some t
     → (o < n) × (slice_get xs o ≡ Some t)
-take_under zero xs o t e = let bad : None ≡ Some t = e in absurd (search rules)
-take_under (suc n) [] o t e = let bad : None ≡ Some t = e in absurd (search rules)
-take_under (suc n) (x ∷ xs) zero t e = (omega arith, e)
-take_under (suc n) (x ∷ xs) (suc o) t e = let r = take_under n xs o t e in (omega arith, r.1)
+take_under n xs o t e =
+    let inside = slice_get_within (take n xs) o t e in (omega (arith, length-take n xs), take_get n xs o t e)
 
 take_there : {X : Type 0} (n : ℕ) (xs : List X) (o : ℕ) (t : X) → o < n → slice_get xs o ≡ Some t
     → slice_get (take n xs) o ≡ Some t
@@ -42,12 +42,7 @@ adds_more {T = T} adds first k items t e x n = (
       elim (cases_lt a.0 k) [
         | inl lt ↦ inl (a.0, a.1, take_there k items a.0 a.1 lt here.1, a.3)
         | inr ge ↦
-            let at : a.0 ≡ k = omega arith in
-            let P : ℕ → Type 0 = λ j. adds (first + j) a.1 x n in
-            let Q : ℕ → Type 0 = λ j. slice_get items j ≡ Some a.1 in
-            let got : slice_get items k ≡ Some a.1 = subst Q at here.1 in
-            let same : a.1 ≡ t = let b : Some a.1 ≡ Some t = sym got ∙ e in cc in
-            let R : T → Type 0 = λ y. adds (first + k) y x n in inr (subst R same (subst P at a.3))
+            let at : a.0 ≡ k = omega arith in let same : a.1 ≡ t = grind arith in inr (grind arith)
       ],
   λ h. elim h [
     | inl a ↦ let r = take_under k items a.0 a.1 a.2 in
@@ -61,43 +56,32 @@ abbrev pub HasMarked : (ℕ → List ℕ) → ℕ → List (Option ℕ) → Mark
 HasMarked reach first items old new = (x n : ℕ)
     → HasPosted reach new x n ↔ (HasPosted reach old x n ⊎ AddsSome (Posts reach) first items x n)
 
+step_some : {A H M N O P W : Type 0} → (A → W ⊎ H) → (W → A) → (H → A) → H ↔ (O ⊎ M) → N ↔ (M ⊎ P) → (W → P) → (P → W)
+    → A ↔ (O ⊎ N)
+step_some cases left right before more to from = grind arith
+
+step_none : {H M N O P : Type 0} → H ↔ (O ⊎ M) → N ↔ (M ⊎ P) → (P → ⊥) → H ↔ (O ⊎ N)
+step_none before more out = grind arith
+
 -- one more item with a root
 pub marks_root : (reach : ℕ → List ℕ) (first k r : ℕ) (items : List (Option ℕ)) (old was new : MarkSeatValue)
     → slice_get items k ≡ Some (Some r)
     → new.view.marks ≡ (r, first + k) ∷ was.view.marks → HasMarked reach first (take k items) old was
     → HasMarked reach first (take (k + 1) items) old new
 marks_root reach first k r items old was new e marks before x n =
-    let more = adds_more (Posts reach) first k items (Some r) e x n in
     let now : List (ℕ × ℕ) = at_each (first + k) (reach r) in
     let had : List (ℕ × ℕ) = marked_posts reach was.view.marks in
-    let P : List (ℕ × ℕ) → Type 0 = λ ms. Contains (marked_posts reach ms) (x, n) in (
-      λ h. elim (Contains-append_cases now had (x, n) (subst P marks h)) [
-        | inl new_one ↦ let t = each_to (first + k) (reach r) x n new_one in inr (more.1 (inr (sym t.0, t.1)))
-        | inr old_one ↦ elim ((before x n).0 old_one) [ inl a ↦ inl a | inr b ↦ inr (more.1 (inl b)) ]
-      ],
-      λ h. subst P (sym marks) (elim h [
-        | inl a ↦ Contains-append_right now had (x, n) ((before x n).1 (inl a))
-        | inr b ↦ elim (more.0 b) [
-          | inl c ↦ Contains-append_right now had (x, n) ((before x n).1 (inr c))
-          | inr d ↦ Contains-append_left now had (x, n)
-              (subst (λ m. Contains now (x, m)) (sym d.0) (in_map (λ f. (f, first + k)) (reach r) x d.1))
-        ]
-      ]),
-    )
+    rw marks (step_some (Contains-append_cases now had (x, n)) (Contains-append_left now had (x, n))
+    (Contains-append_right now had (x, n)) (before x n) (adds_more (Posts reach) first k items (Some r) e x n)
+    (λ w. let t = each_to (first + k) (reach r) x n w in (sym t.0, t.1))
+    (λ d. subst (λ m. Contains now (x, m)) (sym d.0) (in_map (λ f. (f, first + k)) (reach r) x d.1)))
 
 -- one more item without a root
 pub marks_none : (reach : ℕ → List ℕ) (first k : ℕ) (items : List (Option ℕ)) (old was new : MarkSeatValue)
     → slice_get items k ≡ Some None
     → new ≡ was → HasMarked reach first (take k items) old was → HasMarked reach first (take (k + 1) items) old new
 marks_none reach first k items old was new e same before x n =
-    let more = adds_more (Posts reach) first k items None e x n in
-    let P : MarkSeatValue → Type 0 = λ s. HasPosted reach s x n in (
-      λ h. elim ((before x n).0 (subst P same h)) [ inl a ↦ inl a | inr b ↦ inr (more.1 (inl b)) ],
-      λ h. subst P (sym same) (elim h [
-        | inl a ↦ (before x n).1 (inl a)
-        | inr b ↦ elim (more.0 b) [ inl c ↦ (before x n).1 (inr c) | inr d ↦ absurd (none_in x d.1) ]
-      ]),
-    )
+    rw same (step_none (before x n) (adds_more (Posts reach) first k items None e x n) (λ d. none_in x d.1))
 
 -- all seats together have posted n at g exactly where root n reaches g
 pub all_posted : (reach : ℕ → List ℕ) (roots : List (Option ℕ)) (old new : List MarkSeatValue) (marks : List (ℕ × ℕ))
@@ -136,17 +120,10 @@ pub same_sums : {X : Type 0} (f : X → ℕ) (xs ys : List X) → map f xs ≡ m
 same_sums f [] [] e = refl
 same_sums f [] (y ∷ ys) e = let bad : [] ≡ f y ∷ map f ys = e in cc
 same_sums f (x ∷ xs) [] e = let bad : f x ∷ map f xs ≡ [] = e in cc
-same_sums f (x ∷ xs) (y ∷ ys) e =
-    let all : f x ∷ map f xs ≡ f y ∷ map f ys = e in
-    let h : f x ≡ f y = cc in let t : map f xs ≡ map f ys = cc in
-    omega (arith, sum_by-cons f x xs, sum_by-cons f y ys, same_sums f xs ys t)
+same_sums f (x ∷ xs) (y ∷ ys) e = grind (arith, sum_by-cons, same_sums f xs ys)
 
 -- a vector whose whole slice was written
 pub written : {X : Type 0} (items slice new : List X) (n : ℕ) → slice ≡ items → length slice ≡ n
     → length new ≡ length slice
     → take n (new ++ drop (length new) items) ≡ new
-written items slice new n value len same =
-    let all : length items ≡ length slice = ap (λ l. length l) (sym value) in
-    ap (λ l. take n (new ++ l)) (drop_of_length-le items (omega arith)) ∙ ap (λ l. take n l) (append-nil new)
-    ∙ ap (λ k. take k new) (sym len ∙ sym same)
-    ∙ take-length new
+written items slice new n value len same = grind (arith, append-nil, drop_of_length-le, take-length)

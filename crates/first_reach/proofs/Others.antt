@@ -1,6 +1,6 @@
 -- The files of a reply but its root.
-use Rattle.std.proofs.Common.{◌≡◌, ℕ, ◌+◌, ◌⊎◌, inl, inr, ◌||◌, ◌&&◌, not, Bool, true, false, cond, Some, List, [], ◌∷◌, ◌++◌, filter, take, refl, sym, ap, ◌∙◌, eq-eqb, eqb, slice_get, slice_index, append_assoc, append-nil}
-use Rattle.std.proofs.lemmas.Bool.{ne_eqb, and_right, or_right}
+use Rattle.std.proofs.Common.{arith, ◌≡◌, ℕ, ◌+◌, ◌⊎◌, ◌||◌, ◌&&◌, not, Bool, cond, Some, List, [], ◌∷◌, ◌++◌, filter, take, refl, ap, ◌∙◌, eqb, slice_get, slice_index, append_assoc, append-nil}
+use Rattle.std.proofs.lemmas.Bool.{ne_eqb, and_right}
 use Rattle.std.proofs.lemmas.List.Elements.{filter_more}
 use Rattle.std.proofs.lemmas.Option.{slice_get_within, get_or_from_slice_get}
 use Rattle.first_reach.specs.declared.mode.Mode.{Mode}
@@ -23,28 +23,14 @@ pub others_put : (first : List ℕ) (i r k file : ℕ) (files start was new : Li
     → was ≡ start ++ others_at first i r (take k files) → new ≡ was ++ file ∷ []
     → new ≡ start ++ others_at first i r (take (k + 1) files)
 others_put first i r k file files start was new at other here before put =
-    let test : (not (eqb file r) && eqb (slice_index first file) i) ≡ true =
-    (λ j. not (ne_eqb file r other j) && eqb (slice_index first file) i) ∙ eq-eqb _ _ here in
-    put ∙ ap (λ l. l ++ file ∷ []) before ∙ append_assoc start (others_at first i r (take k files)) (file ∷ [])
-    ∙ ap (λ l. start ++ l)
-    (sym (others_more first i r k file files at ∙ ap (λ b. others_at first i r (take k files)
-    ++ cond b (file ∷ []) []) test))
+    grind (arith, append_assoc, others_more first i r k file files at)
 
 pub others_skip : (first : List ℕ) (i r k file : ℕ) (files start was new : List ℕ) → slice_get files k ≡ Some file
     → (file ≡ r) ⊎ (slice_index first file ≡ i → ⊥)
     → was ≡ start ++ others_at first i r (take k files) → new ≡ was
     → new ≡ start ++ others_at first i r (take (k + 1) files)
 others_skip first i r k file files start was new at why before same =
-    let test : (not (eqb file r) && eqb (slice_index first file) i) ≡ false = elim why [
-      | inl root ↦ (λ j. not (eq-eqb file r root j) && eqb (slice_index first file) i)
-      | inr later ↦ and_right (not (eqb file r)) (eqb (slice_index first file) i)
-          (ne_eqb (slice_index first file) i later)
-    ] in
-    same ∙ before
-    ∙ ap (λ l. start ++ l)
-    (sym (others_more first i r k file files at ∙ ap (λ b. others_at first i r (take k files)
-    ++ cond b (file ∷ []) []) test
-    ∙ append-nil (others_at first i r (take k files))))
+    grind (arith, append-nil, others_more first i r k file files at)
 
 -- a reply is its root, where it carries that, and the others
 parts : (mode : Mode) (reach : ℕ → List ℕ) (first : List ℕ) (i r : ℕ)
@@ -57,44 +43,29 @@ parts mode reach first i r =
     filter_filter test (λ g. not (eqb g r)) (reach r)
     ∙ filter_on _ _ (reach r) (λ g h. once mode g (eqb (slice_index first g) i)) in
     ap (λ l. cond (test r) (r ∷ l) l) rest where
-      pick : (a b : Bool) → (not a && (a || b)) ≡ (not a && b)
-      pick true b = refl
-      pick false b = refl
-
       once : (mode : Mode) (g : ℕ) (b : Bool) → (not (eqb g r) && (repeats mode (Some r) g || b)) ≡ (not (eqb g r) && b)
       once Once g b = refl
-      once Repeat g b = pick (eqb g r) b
+      once Repeat g b = grind arith
 
 -- where the root at position i is the first to reach its own file
 pub reply_first : (mode : Mode) (reach : ℕ → List ℕ) (first : List ℕ) (i r : ℕ) → slice_index first r ≡ i
     → reply_at mode reach first i (Some r) ≡ r ∷ others_at first i r (reach r)
-reply_first mode reach first i r is =
-    parts mode reach first i r
-    ∙ ap (λ b. cond b (r ∷ others_at first i r (reach r)) (others_at first i r (reach r)))
-    (or_right (repeats mode (Some r) r) _ (eq-eqb (slice_index first r) i is))
+reply_first mode reach first i r is = grind (arith, parts mode reach first i r)
 
 no_others : (reach : ℕ → List ℕ) (first : List ℕ) (i r : ℕ) → (slice_index first r ≡ i → ⊥)
     → RootIsFirstToo reach first i r
     → others_at first i r (reach r) ≡ []
-no_others reach first i r later spreads = filter_none _ (reach r) (λ g h.
-    and_right (not (eqb g r)) (eqb (slice_index first g) i)
-    (ne_eqb (slice_index first g) i (λ e. later (spreads g ((has_is g (reach r)).0 h) e))))
+no_others reach first i r later spreads = grind (arith, and_right, filter_none, has_is, ne_eqb)
 
 -- where it isn't, the reply has nothing but a root that is repeated
 pub reply_again : (mode : Mode) (reach : ℕ → List ℕ) (first : List ℕ) (i r : ℕ) → mode ≡ Repeat
     → (slice_index first r ≡ i → ⊥) → RootIsFirstToo reach first i r
     → reply_at mode reach first i (Some r) ≡ r ∷ []
 reply_again mode reach first i r repeat later spreads =
-    ap (λ m. reply_at m reach first i (Some r)) repeat ∙ parts Repeat reach first i r
-    ∙ ap (λ b. cond b (r ∷ others_at first i r (reach r)) (others_at first i r (reach r)))
-    (ap (λ b. b || eqb (slice_index first r) i) (eq-eqb r r refl))
-    ∙ ap (λ l. r ∷ l) (no_others reach first i r later spreads)
+    grind (arith, no_others reach first i r later spreads, parts Repeat reach first i r)
 
 pub reply_none : (mode : Mode) (reach : ℕ → List ℕ) (first : List ℕ) (i r : ℕ) → mode ≡ Once
     → (slice_index first r ≡ i → ⊥) → RootIsFirstToo reach first i r
     → reply_at mode reach first i (Some r) ≡ []
 reply_none mode reach first i r once later spreads =
-    ap (λ m. reply_at m reach first i (Some r)) once ∙ parts Once reach first i r
-    ∙ ap (λ b. cond b (r ∷ others_at first i r (reach r)) (others_at first i r (reach r)))
-    (ne_eqb (slice_index first r) i later)
-    ∙ no_others reach first i r later spreads
+    grind (arith, no_others reach first i r later spreads, parts Once reach first i r)

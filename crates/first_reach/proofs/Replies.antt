@@ -1,6 +1,6 @@
 -- Each reply by itself.
-use Rattle.std.proofs.Common.{◌≡◌, ℕ, zero, suc, ◌+◌, inl, inr, ◌||◌, ◌&&◌, not, Bool, true, false, cond, Option, Some, None, List, [], ◌∷◌, ◌++◌, filter, length, refl, sym, ap, ◌∙◌, arith, rules, eq-eqb, eqb-true, eqb, slice_get}
-use Rattle.std.proofs.lemmas.Bool.{ne_eqb, and_parts, and_from, or_left, or_right, or_cases}
+use Rattle.std.proofs.lemmas.Grind.{common_steps}
+use Rattle.std.proofs.Common.{◌≡◌, ℕ, zero, suc, ◌+◌, ◌||◌, ◌&&◌, not, Bool, true, cond, Option, Some, None, List, [], ◌∷◌, ◌++◌, filter, length, refl, ap, ◌∙◌, arith, rules, eq-eqb, eqb-true, eqb, slice_get}
 use Rattle.std.proofs.lemmas.List.Folds.{list_any-append}
 use Rattle.std.specs.Prelude.{Contains}
 use Rattle.std.specs.Option.{ForSome}
@@ -18,14 +18,8 @@ use Rattle.first_reach.proofs.Firsts.{first_hits}
 abbrev pub Own : (ℕ → List ℕ) → List (Option ℕ) → Type 0
 Own reach roots = (k r : ℕ) → slice_get roots k ≡ Some (Some r) → has r (reach r) ≡ true
 
-and_true : (a b : Bool) → b ≡ true → a ≡ (a && b)
-and_true true b e = sym e
-and_true false b e = refl
-
 step : (a b : Bool) (i k F : ℕ) → (not (a || b) && eqb F (i + 1 + k)) ≡ (not a && eqb (cond b i F) (i + suc k))
-step true b i k F = refl
-step false true i k F = sym (ne_eqb i (i + suc k) (λ h. omega arith))
-step false false i k F = ap (λ n. eqb F n) (let e : i + 1 + k ≡ i + suc k = omega arith in e)
+step a b i k F = grind (arith, common_steps)
 
 -- each reply, where some files were sent before
 replies_are : (mode : Mode) (reach : ℕ → List ℕ) (roots : List (Option ℕ)) (sent : List ℕ) (i k : ℕ) (root : Option ℕ)
@@ -43,28 +37,23 @@ replies_are mode reach (r ∷ roots) sent i zero root own e =
     let f : filter (λ g. repeats mode r g || not (has g sent)) (root_first reach r) ≡ filter (q r)
     (root_first reach r) =
     filter_on _ _ (root_first reach r) (λ g h.
-    let in_r : has g (reached reach r) ≡ true =
-    sym (has_root_first reach r (λ x is. own 0 x (ap (λ (y : Option ℕ). Some y) is)) g) ∙ h in
-    let none : i ≡ i + 0 = omega arith in
-    ap (λ b. repeats mode r g || b) (and_true (not (has g sent)) _ (eq-eqb _ _ (ap (λ b. cond b i (F g)) in_r ∙ none))))
-    in
+    let of_root = has_root_first reach r (λ x is. own 0 x (ap (λ (y : Option ℕ). Some y) is)) g in
+    grind (arith, eq-eqb)) in
     λ j. Some ((f ∙ ap (λ x. filter (q x) (root_first reach x)) same) j)
 replies_are mode reach (r ∷ roots) sent i (suc k) root own e =
     replies_are mode reach roots (sent ++ reached reach r) (i + 1) k root (λ j x is. own (suc j) x is) e
-    ∙ ap (λ (l : List ℕ). Some l) (filter_on _ _ (root_first reach root) (λ g h. ap (λ b. repeats mode root g || b) (
-    ap (λ b. not b && eqb (first_from reach (i + 1) roots g) (i + 1 + k))
-    (list_any-append (eqb g) sent (reached reach r))
-    ∙ step (has g sent) (has g (reached reach r)) i k (first_from reach (i + 1) roots g))))
+    ∙ ap (λ (l : List ℕ). Some l) (filter_on _ _ (root_first reach root) (λ g h.
+    grind (
+      arith,
+      list_any-append (eqb g) sent (reached reach r),
+      step (has g sent) (has g (reached reach r)) i k (first_from reach (i + 1) roots g),
+    )))
 
 pub reply_is : (mode : Mode) (reach : ℕ → List ℕ) (roots : List (Option ℕ)) (i : ℕ) (root : Option ℕ) → Own reach roots
     → slice_get roots i ≡ Some root
     → slice_get (carried mode reach roots) i
     ≡ Some (filter (λ g. repeats mode root g || eqb (first_reach reach roots g) i) (root_first reach root))
-reply_is mode reach roots i root own e =
-    let position : 0 + i ≡ i = omega arith in
-    replies_are mode reach roots [] 0 i root own e
-    ∙ ap (λ n. Some (filter (λ g. repeats mode root g || eqb (first_reach reach roots g) n) (root_first reach root)))
-    position
+reply_is mode reach roots i root own e = grind (arith, replies_are mode reach roots [] 0 i root own e)
 
 pub carried_length : (mode : Mode) (reach : ℕ → List ℕ) (sent : List ℕ) (roots : List (Option ℕ))
     → length (carried_from mode reach sent roots) ≡ length roots
@@ -83,45 +72,25 @@ says : (mode : Mode) (reach : ℕ → List ℕ) (roots : List (Option ℕ)) (i g
     → has g files ≡ (has g (reached reach root) && (repeats mode root g || eqb (first_reach reach roots g) i))
 says mode reach roots i g root files own at e =
     let test : ℕ → Bool = λ x. repeats mode root x || eqb (first_reach reach roots x) i in
-    let kept : List ℕ = filter test (root_first reach root) in
-    let same : kept ≡ files = let a = reply_is mode reach roots i root own at in let b : Some kept ≡ Some files =
-    sym a ∙ e in cc in
-    ap (has g) (sym same) ∙ has_filter test g (root_first reach root)
-    ∙ ap (λ b. b && test g) (has_root_first reach root (λ r is. own i r (at ∙ ap (λ (x : Option ℕ). Some x) is)) g)
+    let kept = reply_is mode reach roots i root own at in
+    let of_root = has_root_first reach root (λ r is. own i r (at ∙ ap (λ (x : Option ℕ). Some x) is)) g in
+    grind (arith, has_filter test g (root_first reach root))
 
 pub carries : CarriesFirsts
 carries reach roots top own i g files e =
     let inside = slice_get_within (carried Once reach roots) i files e in
     let len = carried_length Once reach [] roots in
     let root = get_there roots i (omega arith) in
-    let is = says Once reach roots i g root.0 files (own_of reach roots own) root.1 e in (
-      λ h. eqb-true _ _ (and_parts (has g (reached reach root.0)) (eqb (first_reach reach roots g) i)
-          (sym is ∙ (has_is g files).1 h)).1,
-      λ h. (has_is g files).0
-          (is ∙ and_from _ _ (first_hits reach roots 0 g i root.0 (omega arith) root.1 (omega arith)) (eq-eqb _ _ h)),
-    )
+    let is = says Once reach roots i g root.0 files (own_of reach roots own) root.1 e in
+    let back = first_hits reach roots 0 g i root.0 (omega arith) root.1 in
+    grind (arith, eqb-true, has_is g files)
 
 repeated : (root : Option ℕ) (g : ℕ) → repeats Repeat root g ≡ true → root ≡ Some g
-repeated None g e = let bad : false ≡ true = e in cc
-repeated (Some r) g e = ap (λ (x : ℕ). Some x) (sym (eqb-true g r e))
+repeated root g e = grind (arith, eqb-true)
 
 pub carries_roots : RepeatCarriesRoots
 carries_roots reach roots top own i g root files at e =
-    let first : Bool = eqb (first_reach reach roots g) i in
-    let is = says Repeat reach roots i g root files (own_of reach roots own) at e in (
-      λ h. elim
-          (or_cases (repeats Repeat root g) first
-          (and_parts (has g (reached reach root)) (repeats Repeat root g || first)
-          (sym is ∙ (has_is g files).1 h)).1) [
-            | inl a ↦ inl (repeated root g a)
-            | inr b ↦ inr (eqb-true _ _ b)
-          ],
-      λ h. (has_is g files).0 (elim h [
-        | inl r ↦ is ∙ and_from (has g (reached reach root)) (repeats Repeat root g || first)
-            (ap (λ x. has g (reached reach x)) r ∙ own_of reach roots own i g (at ∙ ap (λ (x : Option ℕ). Some x) r))
-            (or_left _ _ (ap (λ x. repeats Repeat x g) r ∙ eq-eqb g g refl))
-        | inr n ↦ is ∙ and_from (has g (reached reach root)) (repeats Repeat root g || first)
-            (first_hits reach roots 0 g i root (omega arith) at (omega arith))
-            (or_right (repeats Repeat root g) _ (eq-eqb _ _ n))
-      ]),
-    )
+    let is = says Repeat reach roots i g root files (own_of reach roots own) at e in
+    let back = first_hits reach roots 0 g i root (omega arith) at in
+    let mine = own_of reach roots own i g in
+    grind (arith, eqb-true, has_is g files, repeated root g)

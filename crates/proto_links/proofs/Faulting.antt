@@ -1,8 +1,8 @@
 -- What is wrong with imports, and which of it comes first.
-use Rattle.std.proofs.Common.{◌≡◌, sym, ℕ, ◌+◌, ◌<◌, ◌≤◌, List, [], ◌∷◌, ◌++◌, length, ap, refl, subst, arith, inl, inr, ◌⊎◌, Vec, Global, map}
+use Rattle.std.proofs.lemmas.Grind.{common_steps}
+use Rattle.std.proofs.Common.{◌≡◌, sym, ℕ, ◌+◌, ◌<◌, ◌≤◌, List, [], ◌∷◌, ◌++◌, length, refl, subst, arith, inl, inr, ◌⊎◌, Vec, Global, map}
 use Rattle.std.specs.Prelude.{Bool, Option, Some, None, ◌↔◌}
 use Rattle.std.proofs.lemmas.Bool.{cases_lt, cases_eq}
-use Rattle.std.proofs.lemmas.List.Elements.{Contains-push, Contains-push_cases, Contains-append_left}
 use Rattle.digraph.specs.Edges.{Graph, Edge, IsWithin, graph_of}
 use Rattle.digraph.specs.Marks.{IsMarked}
 use Rattle.digraph.specs.Leads.{Leads}
@@ -10,20 +10,19 @@ use Rattle.digraph.proofs.Rows.{edge_below}
 use Rattle.digraph.proofs.Ways.{leads_map, leads_turned}
 use Rattle.proto_desc.specs.declared.file.FileDesc.{FileDesc}
 use Rattle.proto_desc.specs.declared.file.ImportDesc.{ImportDesc}
-use Rattle.proto_base.specs.Kind.{number_of}
 use Rattle.proto_base.specs.declared.kind.Kind.{Kind}
 use Rattle.proto_base.specs.declared.kind.Kind.TheVariants as kind
 use Rattle.proto_base.specs.declared.place.Place.{Place}
 use Rattle.proto_base.specs.Least.{AtMost, IsLeast, spot}
 use Rattle.proto_base.specs.Lesser.{IsLesser}
 use Rattle.proto_base.specs.declared.spot.Spot.{Spot}
-use Rattle.proto_base.proofs.Sets.{least_of, least_or, least_same, least_some, none_of}
+use Rattle.proto_base.proofs.Sets.{least_of, least_or, least_same, none_of}
 use Rattle.proto_links.specs.Graphs.{IsGraph, IsWrongAt, IsWrongIn}
 use Rattle.proto_links.specs.Imports.{IsNamed, Imports, Reaches, IsWrong, missing, cyclic, IsBad, NoneBad, imports_at, name_of}
 use Rattle.proto_links.specs.Bad.{IsFirstBad, IsNoLater}
 use Rattle.proto_base.specs.NameOrder.{NamesRise}
 use Rattle.proto_links.proofs.Named.{named_once}
-use Rattle.proto_links.proofs.Targeting.{importer_inside}
+use Rattle.proto_links.proofs.Targeting.{importer_inside, some_both}
 
 -- ---- one import
 
@@ -55,39 +54,22 @@ no_fault files a i t order n out _ (cyclic b m r) =
 
 -- ---- the imports of a file
 
-wrong_cases : (files : List FileDesc) (a : ℕ) (xs : List ImportDesc) (i : ImportDesc) (x : Spot)
-    → IsWrongIn files a (xs ++ i ∷ []) x
-    → IsWrongIn files a xs x ⊎ IsWrongAt files a i x
-wrong_cases files a xs i x (j, w, at, wrong) = elim (Contains-push_cases xs i j w) [
-  | inl old ↦ inl (j, old, at, wrong)
-  | inr e ↦ inr (subst (λ (y : ImportDesc). IsWrongAt files a y x) (sym e) (at, wrong))
-]
-
-wrong_more : (files : List FileDesc) (a : ℕ) (xs : List ImportDesc) (i : ImportDesc) (x : Spot) → IsWrongIn files a xs x
-    → IsWrongIn files a (xs ++ i ∷ []) x
-wrong_more files a xs i x (j, w, at, wrong) = (j, Contains-append_left xs (i ∷ []) j w, at, wrong)
-
-wrong_last : (files : List FileDesc) (a : ℕ) (xs : List ImportDesc) (i : ImportDesc) (x : Spot) → IsWrongAt files a i x
-    → IsWrongIn files a (xs ++ i ∷ []) x
-wrong_last files a xs i x (at, wrong) = (i, Contains-push xs i, at, wrong)
+wrong_more : (files : List FileDesc) (a : ℕ) (xs : List ImportDesc) (i : ImportDesc) (x : Spot)
+    → IsWrongIn files a (xs ++ i ∷ []) x ↔ (IsWrongIn files a xs x ⊎ IsWrongAt files a i x)
+wrong_more files a xs i x = some_both (λ j. j.place ≡ x.place) (λ j. IsWrong files a j x.kind) xs i
 
 pub first_skip : (files : List FileDesc) (a : ℕ) (xs : List ImportDesc) (i : ImportDesc) (first : Option Spot)
     → ((k : Kind) → IsWrong files a i k → ⊥)
     → IsLeast (IsWrongIn files a xs) first → IsLeast (IsWrongIn files a (xs ++ i ∷ [])) first
 first_skip files a xs i first none least = least_same (IsWrongIn files a xs) (IsWrongIn files a (xs ++ i ∷ [])) first
-    (λ x w. elim (wrong_cases files a xs i x w) [ inl old ↦ old | inr new ↦ absurd (none x.kind new.1) ])
-    (wrong_more files a xs i) least
-
-same_place : (i : ImportDesc) (k : Kind) (x : Spot) → i.place ≡ x.place → x.kind ≡ k → AtMost (spot i.place k) x
-same_place i k x at same = let o = ap (λ (p : Place). p.offset) at in let n = ap number_of same in
-    inr (o, omega (arith, n))
+    (λ x w. elim ((wrong_more files a xs i x).0 w) [ inl old ↦ old | inr new ↦ absurd (none x.kind new.1) ])
+    (λ x w. (wrong_more files a xs i x).1 (inl w)) least
 
 -- an import has one fault
 one_fault : (files : List FileDesc) (a : ℕ) (i : ImportDesc) (k : Kind) → IsWrong files a i k
     → ((l : Kind) → IsWrong files a i l → l ≡ k)
     → IsLeast (IsWrongAt files a i) (Some (spot i.place k))
-one_fault files a i k wrong only =
-    least_some (IsWrongAt files a i) (spot i.place k) (refl, wrong) (λ x w. same_place i k x w.0 (only x.kind w.1))
+one_fault files a i k wrong only = grind (arith, common_steps)
 
 pub first_more : (files : List FileDesc) (a : ℕ) (xs : List ImportDesc) (i : ImportDesc)
     (first r : Option Spot) (k : Kind)
@@ -95,8 +77,9 @@ pub first_more : (files : List FileDesc) (a : ℕ) (xs : List ImportDesc) (i : I
     → IsLeast (IsWrongIn files a xs) first → IsLeast (IsWrongIn files a (xs ++ i ∷ [])) r
 first_more files a xs i first r k (wrong, only) lesser least =
     least_or (IsWrongIn files a xs) (IsWrongAt files a i) (IsWrongIn files a (xs ++ i ∷ [])) first
-    (Some (spot i.place k)) r (wrong_cases files a xs i)
-    (wrong_more files a xs i) (wrong_last files a xs i) least (one_fault files a i k wrong only) lesser
+    (Some (spot i.place k)) r (λ x. (wrong_more files a xs i x).0)
+    (λ x w. (wrong_more files a xs i x).1 (inl w)) (λ x w. (wrong_more files a xs i x).1 (inr w)) least
+    (one_fault files a i k wrong only) lesser
 
 -- ---- all files
 
@@ -119,10 +102,10 @@ turned_within g turned size flipped b c edge = let below = edge_below g c b ((fl
 pub record NoneBefore (files : List FileDesc) (n : ℕ) : Type 0 where
   pub none : (a : ℕ) (p : Place) (k : Kind) → a < n → IsBad files a p k → ⊥
 
-pub none_more : (files : List FileDesc) (n : ℕ) (imports : List ImportDesc) (first : Option Spot)
+pub none_more : {files : List FileDesc} {n : ℕ} {imports : List ImportDesc} {first : Option Spot}
     → imports ≡ imports_at files n → first ≡ None
     → IsLeast (IsWrongIn files n imports) first → NoneBefore files n → NoneBefore files (n + 1)
-none_more files n imports first e is f old = record {
+none_more {files} {n} {imports} {first} e is f old = record {
   none = λ a p k h w. (elim (cases_lt a n) [
     | inl less ↦ old.none a p k less w
     | inr over ↦ (let at : a ≡ n = omega arith in
@@ -150,11 +133,11 @@ later_file files n b x q l imports e least old w (inr over) = elim (cases_eq n b
   | inr other ↦ inl (omega (arith, over, other))
 ]
 
-pub first_bad_is : (files : List FileDesc) (n : ℕ) (imports : List ImportDesc) (first : Option Spot) (x : Spot)
+pub first_bad_is : {files : List FileDesc} {n : ℕ} {imports : List ImportDesc} {first : Option Spot} {x : Spot}
     → imports ≡ imports_at files n
     → first ≡ Some x → IsLeast (IsWrongIn files n imports) first → NoneBefore files n
     → IsFirstBad files n x.place x.kind
-first_bad_is files n imports first x e is f old =
+first_bad_is {files} {n} {imports} {first} {x} e is f old =
     let found = least_of (IsWrongIn files n imports) first x f is in
     record {
       among = subst (λ (xs : List ImportDesc). IsWrongIn files n xs x) e found.among;
@@ -162,12 +145,12 @@ first_bad_is files n imports first x e is f old =
     }
 
 -- the marks of a search over the turned edges are at the files that reach the one
-pub marks_are : (files : List FileDesc) (g : Graph) (turned rows : List (Vec ℕ Global)) (a : ℕ)
-    (marks reaching : List Bool) → IsGraph files g
+pub marks_are : {files : List FileDesc} {g : Graph} {turned rows : List (Vec ℕ Global)} {a : ℕ}
+    {marks reaching : List Bool} → IsGraph files g
     → ((b c : ℕ) → Edge (graph_of turned) b c ↔ Edge g c b) → rows ≡ turned → reaching ≡ marks
     → ((b : ℕ) → IsMarked marks b ↔ Leads (Edge (graph_of rows)) b a)
     → (b : ℕ) → IsMarked reaching b ↔ Reaches files b a
-marks_are files g turned rows a marks reaching is flipped er em marked b =
+marks_are {files} {g} {turned} {a = a} is flipped er em marked b =
     let at = reaching_is files g (graph_of turned) a is flipped b in
-    let mark = subst (λ (rs : List (Vec ℕ Global)). IsMarked marks b ↔ Leads (Edge (graph_of rs)) b a) er (marked b) in
-    subst (λ (ms : List Bool). IsMarked ms b ↔ Reaches files b a) (sym em) (λ m. at.0 (mark.0 m), λ r. mark.1 (at.1 r))
+    let mark = rw er at (marked b) in
+    rw em (λ m. at.0 (mark.0 m), λ r. mark.1 (at.1 r))

@@ -1,5 +1,5 @@
 -- Names in the order of their bytes, and rows of names that rise.
-use Rattle.std.proofs.Common.{◌≡◌, ◌≢◌, sym, ℕ, zero, suc, ◌+◌, ◌-◌, ◌<◌, List, [], length, get_or, subst, arith, inl, inr, Ordering, Less, Equal}
+use Rattle.std.proofs.Common.{◌≡◌, ◌≢◌, ℕ, zero, suc, ◌+◌, ◌-◌, ◌<◌, List, [], length, get_or, subst, arith, Ordering, Less, Equal}
 use Rattle.std.specs.Cmp.Lexicographic.{slice_cmp}
 use Rattle.std.specs.Ordering.{nat_cmp}
 use Rattle.std.proofs.lemmas.Bool.{cases_order}
@@ -23,11 +23,7 @@ module _ (names : List (List ℕ)) (rise : NamesRise names) where
 
   apart_by : (i d : ℕ) → i + suc d < length names → slice_cmp nat_cmp (name i) (name (i + suc d)) ≡ Less
   apart_by i zero h = rise i h
-  apart_by i (suc d) h =
-      let next : i + suc d + 1 ≡ i + suc (suc d) = omega arith in
-      subst (λ k. slice_cmp nat_cmp (name i) (name k) ≡ Less) next
-      (nat_list_cmp_total.trans (name i) (name (i + suc d)) (name (i + suc d + 1)) (apart_by i d (omega arith))
-      (rise (i + suc d) (omega arith)))
+  apart_by i (suc d) h = grind (arith, nat_list_cmp_total, apart_by i d (omega arith))
 
   -- any two of them
   pub rise_far : (i j : ℕ) → i < j → j < length names → slice_cmp nat_cmp (name i) (name j) ≡ Less
@@ -41,8 +37,4 @@ module _ (names : List (List ℕ)) (rise : NamesRise names) where
       not_less_itself (name j) (subst (λ xs. slice_cmp nat_cmp xs (name j) ≡ Less) e (rise_far i j less h))
 
   pub one_position : (i j : ℕ) → i < length names → j < length names → name i ≡ name j → i ≡ j
-  one_position i j hi hj e = elim (cases_order i j) [
-    | inl same ↦ same
-    | inr (inl less) ↦ absurd (names_differ i j less hj e)
-    | inr (inr over) ↦ absurd (names_differ j i over hi (sym e))
-  ]
+  one_position i j hi hj e = grind (arith, cases_order, names_differ)

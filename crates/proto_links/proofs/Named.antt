@@ -1,10 +1,10 @@
 -- Laws of files in the order of their names.
-use Rattle.std.proofs.Common.{◌≡◌, ◌∙◌, sym, ℕ, ◌+◌, ◌-◌, ◌<◌, ◌≤◌, List, [], ◌∷◌, length, get_or, ap, subst, arith, inl, inr, ◌⊎◌, Ordering, Less, Equal, Greater, map}
-use Rattle.std.specs.Prelude.{false, ◌↔◌}
+use Rattle.std.proofs.lemmas.Grind.{common_steps}
+use Rattle.std.proofs.Common.{◌≡◌, ◌∙◌, sym, ℕ, ◌+◌, ◌-◌, ◌<◌, ◌≤◌, List, [], ◌∷◌, length, get_or, arith, Less, Equal, Greater, map}
+use Rattle.std.specs.Prelude.{◌↔◌}
 use Rattle.std.specs.Cmp.Lexicographic.{slice_cmp}
 use Rattle.std.specs.List.Sorted.{IsSortedByKey}
-use Rattle.std.specs.Ordering.{nat_cmp, ordering_reverse, is_lt}
-use Rattle.std.proofs.lemmas.Bool.{cases_lt}
+use Rattle.std.specs.Ordering.{nat_cmp}
 use Rattle.std.proofs.lemmas.Cmp.{nat_list_cmp_total}
 use Rattle.std.proofs.lemmas.Map.Lookups.{exact_bytes}
 use Rattle.std.proofs.lemmas.List.{get_or-map, length-map}
@@ -12,45 +12,21 @@ use Rattle.digraph.proofs.Visiting.{no_position}
 use Rattle.proto_desc.specs.declared.file.FileDesc.{FileDesc}
 use Rattle.proto_links.specs.Imports.{name_of, name_at, IsNamed}
 use Rattle.proto_base.specs.NameOrder.{NamesRise}
-use Rattle.proto_links.proofs.NameRows.{equal_itself, less_not_equal, one_position}
+use Rattle.proto_links.proofs.NameRows.{equal_itself, one_position}
 
 -- at most one file has a name
 pub named_once : (files : List FileDesc) (name : List ℕ) → NamesRise (map name_of files) → (b c : ℕ)
     → IsNamed files name b → IsNamed files name c → b ≡ c
-named_once files name order b c nb nc =
-    let size = length-map files name_of in
-    one_position (map name_of files) order b c (omega (arith, nb.0, size)) (omega (arith, nc.0, size)) (nb.1 ∙ sym nc.1)
+named_once files name order b c nb nc = grind (arith, length-map, one_position)
 
 pub name_is : (files : List FileDesc) (k : ℕ) (d : FileDesc) → k < length files
     → name_at files k ≡ name_of (get_or files k d)
 name_is files k d h = get_or-map name_of files k d [] h
 
-not_after : (o : Ordering) → o ≡ Less → is_lt (ordering_reverse o) ≡ false
-not_after o h = cc
-
 -- the order that a search asks for
 pub sorted_names : (files : List FileDesc) → NamesRise (map name_of files)
     → IsSortedByKey name_of (slice_cmp nat_cmp) files
-sorted_names files order k d low h =
-    let inside : k + 1 < length files = omega arith in
-    let less : slice_cmp nat_cmp (name_of (get_or files k d)) (name_of (get_or files (k + 1) d)) ≡ Less =
-    subst (λ xs. slice_cmp nat_cmp xs (name_of (get_or files (k + 1) d)) ≡ Less) (name_is files k d (omega arith))
-    (subst (λ ys. slice_cmp nat_cmp (name_at files k) ys ≡ Less) (name_is files (k + 1) d inside)
-    (order k (omega (arith, inside, length-map files name_of)))) in
-    ap is_lt (nat_list_cmp_total.antisymm (name_of (get_or files (k + 1) d)) (name_of (get_or files k d)))
-    ∙ not_after (slice_cmp nat_cmp (name_of (get_or files k d)) (name_of (get_or files (k + 1) d))) less
-
-order_case : (files : List FileDesc) (n : ℕ) → slice_cmp nat_cmp (name_at files (n - 1)) (name_at files n) ≡ Less
-    → 0 < n
-    → ((k : ℕ) → k + 1 < n → slice_cmp nat_cmp (name_at files k) (name_at files (k + 1)) ≡ Less) → (k : ℕ)
-    → k + 1 < n + 1 → (k + 1 < n) ⊎ (n ≤ k + 1)
-    → slice_cmp nat_cmp (name_at files k) (name_at files (k + 1)) ≡ Less
-order_case files n last some old k h (inl less) = old k less
-order_case files n last some old k h (inr over) =
-    let first : n - 1 ≡ k = omega arith in
-    let second : n ≡ k + 1 = omega arith in
-    subst (λ j. slice_cmp nat_cmp (name_at files k) (name_at files j) ≡ Less) second
-    (subst (λ i. slice_cmp nat_cmp (name_at files i) (name_at files n) ≡ Less) first last)
+sorted_names files order k d low h = grind (arith, length-map, name_is, nat_list_cmp_total)
 
 -- one more pair of neighbours
 pub order_more : (files : List FileDesc) (n : ℕ) → slice_cmp nat_cmp (name_at files (n - 1)) (name_at files n) ≡ Less
@@ -58,28 +34,18 @@ pub order_more : (files : List FileDesc) (n : ℕ) → slice_cmp nat_cmp (name_a
     → ((k : ℕ) → k + 1 < n → slice_cmp nat_cmp (name_at files k) (name_at files (k + 1)) ≡ Less) → (k : ℕ)
     → k + 1 < n + 1
     → slice_cmp nat_cmp (name_at files k) (name_at files (k + 1)) ≡ Less
-order_more files n last some old k h = order_case files n last some old k h (cases_lt (k + 1) n)
+order_more files n last some old k h = grind (arith, common_steps)
 
 -- names of neighbours as an index gives them
 pub pair_names : (files : List FileDesc) (n : ℕ) (f g : FileDesc) → 0 < n → n < length files
     → f ≡ get_or files (n - 1) f → g ≡ get_or files n g
     → (slice_cmp nat_cmp (name_of f) (name_of g) ≡ Less)
     ↔ (slice_cmp nat_cmp (name_at files (n - 1)) (name_at files n) ≡ Less)
-pair_names files n f g some h ef eg =
-    let first : name_at files (n - 1) ≡ name_of f = name_is files (n - 1) f (omega arith) ∙ ap name_of (sym ef) in
-    let second : name_at files n ≡ name_of g = name_is files n g h ∙ ap name_of (sym eg) in (
-      λ less. subst (λ xs. slice_cmp nat_cmp xs (name_at files n) ≡ Less) (sym first)
-          (subst (λ ys. slice_cmp nat_cmp (name_of f) ys ≡ Less) (sym second) less),
-      λ less. subst (λ xs. slice_cmp nat_cmp xs (name_of g) ≡ Less) first
-          (subst (λ ys. slice_cmp nat_cmp (name_at files (n - 1)) ys ≡ Less) second less),
-    )
+pair_names files n f g some h ef eg = grind (arith, name_is)
 
 pub last_pair : (files : List FileDesc) (n : ℕ) → 0 < n → n < length files → NamesRise (map name_of files)
     → slice_cmp nat_cmp (name_at files (n - 1)) (name_at files n) ≡ Less
-last_pair files n some h order =
-    let at : n - 1 + 1 ≡ n = omega arith in
-    subst (λ k. slice_cmp nat_cmp (name_at files (n - 1)) (name_at files k) ≡ Less) at
-    (order (n - 1) (omega (arith, h, length-map files name_of)))
+last_pair files n some h order = grind (arith, length-map)
 
 -- ---- what a search finds
 
@@ -88,9 +54,6 @@ pub found_name : (files : List FileDesc) (k : ℕ) (name : List ℕ) → k < len
 found_name [] k name h found = absurd (no_position k h)
 found_name (f ∷ fs) k name h found = (h, name_is (f ∷ fs) k f h ∙ exact_bytes _ _ (found f))
 
-greater_not_equal : (o : Ordering) → o ≡ Greater → o ≡ Equal → ⊥
-greater_not_equal o h k = cc
-
 pub no_name : (files : List FileDesc) (at : ℕ) (name : List ℕ)
     → ((k : ℕ) (d : FileDesc) → 0 ≤ k → k < at → slice_cmp nat_cmp (name_of (get_or files k d)) name ≡ Less)
     → ((k : ℕ) (d : FileDesc) → at ≤ k → k < length files
@@ -98,7 +61,4 @@ pub no_name : (files : List FileDesc) (at : ℕ) (name : List ℕ)
 no_name [] at name left right b (h, same) = no_position b h
 no_name (f ∷ fs) at name left right b (h, same) =
     let equal = equal_itself (name_of (get_or (f ∷ fs) b f)) name (sym (name_is (f ∷ fs) b f h) ∙ same) in
-    elim (cases_lt b at) [
-      | inl less ↦ less_not_equal _ (left b f (omega arith) less) equal
-      | inr over ↦ greater_not_equal _ (right b f over h) equal
-    ]
+    grind (arith, left b f, right b f)

@@ -1,11 +1,11 @@
 -- Files by their positions in set order, and what lists of positions say of files.
-use Rattle.std.proofs.Common.{◌≡◌, ◌∙◌, sym, refl, ℕ, ◌+◌, ◌*◌, ◌<◌, ◌≤◌, List, [], length, map, get_or, ap, subst, arith, inl, inr, Vec, Global}
+use Rattle.std.proofs.Common.{◌≡◌, ◌∙◌, sym, refl, ℕ, ◌+◌, ◌<◌, List, [], length, map, get_or, subst, arith, inl, inr, Vec, Global}
 use Rattle.std.specs.Set.{is_member}
 use Rattle.std.specs.Prelude.{Contains, ◌↔◌, IsTrue, ◌==◌}
 use Rattle.std.specs.Cmp.{nat_eq_equiv}
 use Rattle.std.proofs.lemmas.Bool.{eqb-true}
 use Rattle.std.proofs.lemmas.Grind.{common_steps}
-use Rattle.std.proofs.lemmas.List.{get_or-map, get_or_default}
+use Rattle.std.proofs.lemmas.List.{get_or-map, get_or_default, length-map}
 use Rattle.std.proofs.lemmas.Map.Views.{Contains-from_any, list_any-from_Contains}
 use Rattle.bit_matrix.specs.Bits.{Bits}
 use Rattle.bit_matrix.specs.Changes.{Has, columns_of}
@@ -13,7 +13,7 @@ use Rattle.digraph.specs.Edges.{Graph, Edge, IsFalling, IsWithin, graph_of}
 use Rattle.digraph.specs.Leads.{Leads, here, through}
 use Rattle.digraph.specs.Reaches.{IsReach as IsReachList, AreReaches}
 use Rattle.digraph.specs.Ranks.{rank_in}
-use Rattle.digraph.specs.Renumbered.{node_at}
+use Rattle.digraph.specs.Renumbered.{IsRenumbered, node_at}
 use Rattle.digraph.specs.declared.ranks.Ranking.{Ranking}
 use Rattle.digraph.proofs.Renumbering.{before_far, map_members, renumbered_falls, ways_to, ways_from}
 use Rattle.digraph.proofs.Rows.{edge_below, length_graph}
@@ -67,15 +67,6 @@ layout ranking positioned reach seen =
 
 -- ---- lists
 
-map_at : (f : ℕ → ℕ) (list : List ℕ) (k : ℕ) → k < length list → get_or (map f list) k 0 ≡ f (get_or list k 0)
-map_at f list k h = get_or-map f list k 0 0 h
-
-same_at : (xs : List ℕ) (k : ℕ) → k < length xs → get_or xs k (get_or xs k 0) ≡ get_or xs k 0
-same_at xs k h = grind (arith, common_steps)
-
-length_map : (f : ℕ → ℕ) (list : List ℕ) → length (map f list) ≡ length list
-length_map f list = grind (arith, common_steps)
-
 -- `has` is membership
 pub has_is : (x : ℕ) (xs : List ℕ) → IsTrue (is_member ◌==◌ xs x) ↔ Contains xs x
 has_is x xs = (λ e. Contains-from_any (λ a b h. eqb-true a b h) x xs e, λ w. list_any-from_Contains nat_eq_equiv x xs w)
@@ -98,10 +89,7 @@ module _ {files : List FileDesc} {graph : ImportGraph} {ranking : Ranking} (r : 
   order_is : IsSetOrder (length files) (rank_of ranking) ranking.order.items
   order_is = record {
     rises = r.order.rises;
-    every = λ a. (
-      λ w. (let h = (r.order.whole a).0 w in omega (arith, h, r.order.size, order_size)),
-      λ h. (r.order.whole a).1 (omega (arith, h, r.order.size, order_size)),
-    );
+    every = λ a. (let whole = r.order.whole a in grind (arith, order_size));
   }
 
 -- ---- files and positions
@@ -117,23 +105,18 @@ module _ {files : List FileDesc} {graph : ImportGraph} {ranking : Ranking} {posi
   -- imports go to lower positions
   pub rows_fall : IsFalling (import_rows positioned)
   rows_fall =
-      let g = file_imports graph in
-      renumbered_falls g g ranking.ranks.items ranking.order.items
+      renumbered_falls (file_imports graph) (file_imports graph) ranking.ranks.items ranking.order.items
       (import_rows positioned) m.ranked.ranks m.ranked.order (λ a b edge. edge) m.imports
 
   pub public_falls : IsFalling (public_rows positioned)
   public_falls =
-      let sub : (a b : ℕ) → Edge (file_public_imports graph) a b → Edge (file_imports graph) a b =
-      λ a b edge. (m.ranked.imports.edges a b).1
-      (public_imports files a b ((m.ranked.public_imports.edges a b).0 edge)) in
       renumbered_falls (file_imports graph) (file_public_imports graph) ranking.ranks.items ranking.order.items
-      (public_rows positioned)
-      m.ranked.ranks m.ranked.order sub m.public_imports
+      (public_rows positioned) m.ranked.ranks m.ranked.order (λ a b edge. (m.ranked.imports.edges a b).1
+      (public_imports files a b ((m.ranked.public_imports.edges a b).0 edge))) m.public_imports
 
   -- each file has a position, and is the file there
   position_below : (a : ℕ) → a < length files → position_of positioned a < length positioned.imports.items
-  position_below a h = let at = m.positions.node a (omega (arith, h, order_size m.ranked)) in
-      omega (arith, at.0, rows_size)
+  position_below a h = grind (arith, order_size, rows_size)
 
   file_there : (a : ℕ) → a < length files → file_at ranking (position_of positioned a) ≡ a
   file_there a h = (m.positions.node a (omega (arith, h, order_size m.ranked))).1
@@ -156,38 +139,21 @@ module _ {files : List FileDesc} {graph : ImportGraph} {ranking : Ranking} {posi
       (m.imports.edges k j (omega (arith, hk, rows_size)) (omega (arith, hj, rows_size))).1
       (rw (file_there a h, file_there b i.2.0) ((m.ranked.imports.edges a b).1 i))
 
-  way_to : (k j : ℕ) → Leads (Edge (import_rows positioned)) k j → Reaches files (file_at ranking j) (file_at ranking k)
-  way_to k j way =
-      leads_map (Edge (file_imports graph)) (Imports files) (λ x y. (m.ranked.imports.edges x y).0) (file_at ranking k)
-      (file_at ranking j)
-      (ways_to (file_imports graph) ranking.order.items (import_rows positioned) m.imports k j way)
+  way_to : {P : ℕ → ℕ → Type 0} {g rows : Graph} → IsRenumbered g ranking.order.items rows
+      → ((a b : ℕ) → Edge g a b ↔ P a b) → (k j : ℕ) → Leads (Edge rows) k j
+      → Leads P (file_at ranking k) (file_at ranking j)
+  way_to {P = P} {g = g} {rows = rows} r edges k j way =
+      leads_map (Edge g) P (λ x y. (edges x y).0) (file_at ranking k) (file_at ranking j)
+      (ways_to g ranking.order.items rows r k j way)
 
-  way_from : (a c : ℕ) → a < length files → Reaches files a c
-      → Leads (Edge (import_rows positioned)) (position_of positioned c) (position_of positioned a)
-  way_from a c h way =
-      ways_from (file_imports graph) ranking.order.items positioned.positions.items (import_rows positioned) m.positions
-      (omega (arith, m.ranked.imports.size, order_size m.ranked)) (graph_within m.ranked.imports) m.imports c a
-      (omega (arith, h, order_size m.ranked))
-      (leads_map (Imports files) (Edge (file_imports graph)) (λ x y. (m.ranked.imports.edges x y).1) c a way)
-
-  public_way_to : (k j : ℕ) → Leads (Edge (public_rows positioned)) k j
-      → Leads (ImportsPublicly files) (file_at ranking k) (file_at ranking j)
-  public_way_to k j way =
-      leads_map (Edge (file_public_imports graph)) (ImportsPublicly files)
-      (λ x y. (m.ranked.public_imports.edges x y).0) (file_at ranking k)
-      (file_at ranking j)
-      (ways_to (file_public_imports graph) ranking.order.items (public_rows positioned) m.public_imports k j way)
-
-  public_way_from : (a c : ℕ) → a < length files → Leads (ImportsPublicly files) c a
-      → Leads (Edge (public_rows positioned)) (position_of positioned c) (position_of positioned a)
-  public_way_from a c h way =
-      ways_from (file_public_imports graph) ranking.order.items positioned.positions.items
-      (public_rows positioned) m.positions
-      (omega (arith, m.ranked.public_imports.size, order_size m.ranked))
-      (public_within m.ranked.public_imports) m.public_imports c a
-      (omega (arith, h, order_size m.ranked))
-      (leads_map (ImportsPublicly files) (Edge (file_public_imports graph))
-      (λ x y. (m.ranked.public_imports.edges x y).1) c a way)
+  way_from : {P : ℕ → ℕ → Type 0} {g rows : Graph} → IsRenumbered g ranking.order.items rows
+      → ((a b : ℕ) → Edge g a b ↔ P a b) → length g ≡ length files → IsWithin g (length g) → (a c : ℕ)
+      → a < length files → Leads P c a
+      → Leads (Edge rows) (position_of positioned c) (position_of positioned a)
+  way_from {P = P} {g = g} {rows = rows} r edges size within a c h way =
+      ways_from g ranking.order.items positioned.positions.items rows m.positions
+      (omega (arith, size, order_size m.ranked)) within r c a (omega (arith, h, order_size m.ranked))
+      (leads_map P (Edge g) (λ x y. (edges x y).1) c a way)
 
   -- ---- what a file reaches
 
@@ -198,10 +164,11 @@ module _ {files : List FileDesc} {graph : ImportGraph} {ranking : Ranking} {posi
     λ w. (let (k, inside, at) = (map_members (file_at ranking) list c).0 w in
         subst (λ x. Reaches files x c) (file_there a h)
         (subst (Reaches files (file_at ranking (position_of positioned a))) at
-        (way_to k (position_of positioned a) ((is.members k).0 inside)))),
+        (way_to m.imports m.ranked.imports.edges k (position_of positioned a) ((is.members k).0 inside)))),
     λ way. (map_members (file_at ranking) list c).1 (
       position_of positioned c,
-      (is.members (position_of positioned c)).1 (way_from a c h way),
+      (is.members (position_of positioned c)).1
+          (way_from m.imports m.ranked.imports.edges m.ranked.imports.size (graph_within m.ranked.imports) a c h way),
       file_there c (leads_inside files c a h way),
     ),
   )
@@ -212,15 +179,18 @@ module _ {files : List FileDesc} {graph : ImportGraph} {ranking : Ranking} {posi
   reach_is a list h is = record {
     members = λ c. reach_members a c list h is;
     rises = λ k more. (
-        let next : k + 1 < length list = omega (arith, more, length_map (file_at ranking) list) in
+        let next : k + 1 < length list = omega (arith, more, length-map list (file_at ranking)) in
         let last = get_or list (k + 1) 0 in
         let below = leads_le (import_rows positioned) last (position_of positioned a) rows_fall
-        ((is.members last).0 (k + 1, next, same_at list (k + 1) next)) in
+        ((is.members last).0 (k + 1, next, grind (arith, common_steps))) in
         let inside = position_below a h in
         let far = before_far ranking.ranks.items ranking.order.items m.ranked.order (get_or list k 0) last
         (is.rises k next)
         (omega (arith, below, inside, rows_size)) in
-        rw (map_at (file_at ranking) list k (omega (arith, next)), map_at (file_at ranking) list (k + 1) next) far);
+        rw (
+          get_or-map (file_at ranking) list k 0 0 (omega (arith, next)),
+          get_or-map (file_at ranking) list (k + 1) 0 0 next,
+        ) far);
   }
 
   -- ---- what a file sees
@@ -242,14 +212,19 @@ module _ {files : List FileDesc} {graph : ImportGraph} {ranking : Ranking} {posi
         → Leads (ImportsPublicly files) b (file_at ranking k)
     reached_to k b hk hb w =
         let (j, way, at) = (s.reaches.members k b (row_inside k hk) (column_inside b hb)).0 w in
-        subst (λ x. Leads (ImportsPublicly files) x (file_at ranking k)) at (public_way_to j k way)
+        subst (λ x. Leads (ImportsPublicly files) x (file_at ranking k)) at
+        (way_to m.public_imports m.ranked.public_imports.edges j k way)
 
     reached_from : (d b : ℕ) → d < length files → b < length files → Leads (ImportsPublicly files) b d
         → Has s.reach (position_of positioned d) b
     reached_from d b hd hb way =
         (s.reaches.members (position_of positioned d) b (row_inside (position_of positioned d) (position_below d hd))
-        (column_inside b hb)).1
-        (position_of positioned b, public_way_from d b hd way, file_there b hb)
+        (column_inside b hb)).1 (
+          position_of positioned b,
+          way_from m.public_imports m.ranked.public_imports.edges m.ranked.public_imports.size
+              (public_within m.ranked.public_imports) d b hd way,
+          file_there b hb,
+        )
 
     seen_to : (a b : ℕ) → a < length files → b < length files → Has seen (position_of positioned a) b → SeesBy files a b
     seen_to a b ha hb w =
@@ -287,13 +262,11 @@ module _ {files : List FileDesc} {graph : ImportGraph} {ranking : Ranking} {posi
 named_list : (f : ℕ → ℕ) (lists named : List (List ℕ)) (k : ℕ) → named ≡ map (λ (list : List ℕ). map f list) lists
     → k < length lists
     → get_or named k [] ≡ map f (get_or lists k [])
-named_list f lists named k e h = ap (λ (ls : List (List ℕ)). get_or ls k []) e
-    ∙ get_or-map (λ (list : List ℕ). map f list) lists k [] [] h
+named_list f lists named k e h = grind (arith, get_or-map)
 
 named_length : (f : ℕ → ℕ) (lists named : List (List ℕ)) → named ≡ map (λ (list : List ℕ). map f list) lists
     → length named ≡ length lists
-named_length f lists named e = let len : length (map (λ (list : List ℕ). map f list) lists) ≡ length lists =
-    grind (arith, common_steps) in ap length e ∙ len
+named_length f lists named e = grind (arith, common_steps)
 
 module _ {files : List FileDesc} {graph : ImportGraph} {ranking : Ranking} {positioned : Positioned}
     {reach : List (List ℕ)} {seen : Bits}
@@ -310,21 +283,11 @@ module _ {files : List FileDesc} {graph : ImportGraph} {ranking : Ranking} {posi
 
   position_inside : (k d : ℕ) → k < length positioned.positions.items
       → get_or positioned.positions.items k d < length positioned.imports.items
-  position_inside k d h =
-      let inside = position_below m k (omega (arith, h, positions_size)) in
-      rw (get_or_default positioned.positions.items k d 0 h) inside
+  position_inside k d h = grind (arith, get_or_default, position_below, positions_size)
 
   pub laid_out : IsLaidOut kept
-  laid_out = record {
-    size = omega (arith, positions_size, ranks_size);
-    lists = λ k d h. (
-        let inside = position_inside k d h in
-        omega (arith, inside, r.size, named_length (file_at ranking) r.lists reach r.named));
-    rows = λ k d h. (
-        let inside = position_inside k d h in omega (arith, inside, rows_size m, s.reaches.rows, s.joined.large.rows));
-    columns = subst (λ w. length ranking.ranks.items ≤ 64 * w) (sym s.joined.large.width)
-        (omega (arith, ranks_size, order_size m.ranked, s.reaches.columns));
-  }
+  laid_out =
+      grind (arith, common_steps, named_length, order_size, position_inside, positions_size, ranks_size, rows_size)
 
   reach_of_file : (a : ℕ) → a < length files → IsReach files (rank_of ranking) a (reach_of (linked kept) a)
   reach_of_file a h =

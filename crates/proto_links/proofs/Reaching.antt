@@ -1,5 +1,5 @@
 -- What files reach and see, and when none of their imports is bad.
-use Rattle.std.proofs.Common.{◌≡◌, sym, ℕ, ◌<◌, ◌≤◌, List, length, refl, subst, arith, inl, inr, ◌⊎◌}
+use Rattle.std.proofs.Common.{◌≡◌, ℕ, ◌<◌, ◌≤◌, List, length, refl, subst, arith, inl, inr, ◌⊎◌}
 use Rattle.std.specs.Prelude.{Contains, ◌↔◌}
 use Rattle.digraph.specs.Edges.{Graph, Edge}
 use Rattle.digraph.specs.Leads.{Leads, here, through}
@@ -32,8 +32,7 @@ SeesBy files a b = (a ≡ b) ⊎ ((d : ℕ) × Imports files a d × Leads (Impor
 
 module _ (files : List FileDesc) (none : NoneBad files) (a : ℕ) where
   sees_more : (b c : ℕ) → SeesBy files a b → (b ≡ a → ⊥) → ImportsPublicly files b c → SeesBy files a c
-  sees_more b c (inl same) other p = absurd (other (sym same))
-  sees_more b c (inr (d, i, way)) other p = inr (d, i, leads_last (ImportsPublicly files) b c d way p)
+  sees_more b c seen other p = grind (arith, leads_last)
 
   sees_to : (b : ℕ) → Sees files a b → SeesBy files a b
   sees_to _ itself = inl refl

@@ -1,5 +1,6 @@
 -- Lists that rise by one order and have the same members are the same.
-use Rattle.std.proofs.Common.{◌≡◌, ◌∙◌, sym, ℕ, zero, suc, ◌+◌, ◌<◌, List, [], ◌∷◌, length, get_or, ap, refl, subst, arith, inl, inr, ◌⊎◌}
+use Rattle.std.proofs.lemmas.Grind.{common_steps}
+use Rattle.std.proofs.Common.{◌≡◌, ◌∙◌, sym, ℕ, zero, suc, ◌+◌, ◌<◌, List, [], ◌∷◌, length, get_or, ap, refl, subst, arith, ◌⊎◌}
 use Rattle.std.specs.Prelude.{Contains}
 
 -- each comes before the next one
@@ -23,8 +24,7 @@ pub behind : {X : Type 0} (x : X) (xs : List X) (z : X) → Contains xs z → Co
 behind x xs z (k, inside, is) = (suc k, omega (arith, inside), is)
 
 pub front_or_behind : {X : Type 0} (x : X) (xs : List X) (z : X) → Contains (x ∷ xs) z → (x ≡ z) ⊎ Contains xs z
-front_or_behind x xs z (zero, inside, is) = inl is
-front_or_behind x xs z (suc k, inside, is) = inr (k, omega (arith, inside), is)
+front_or_behind x xs z w = grind (arith, common_steps)
 
 -- ---- what stands behind comes later
 
@@ -51,28 +51,24 @@ skip R strict x y (z ∷ xs) up (suc k) d h =
 pub first_before : {X : Type 0} (R : X → X → Type 0) → IsStrict R → (x : X) (xs : List X) → Rises R (x ∷ xs) → (z : X)
     → Contains xs z → R x z
 first_before R strict x [] up z w = absurd (none_in z w)
-first_before R strict x (y ∷ xs) up z w = elim (front_or_behind y xs z w) [
-  | inl same ↦ subst (R x) same (first_two R x y xs up)
-  | inr later ↦ first_before R strict x xs (skip R strict x y xs up) z later
-]
+first_before R strict x (y ∷ xs) up z w =
+    let cases = front_or_behind y xs z w in
+    grind (arith, first_two R x y xs up, first_before R strict x xs (skip R strict x y xs up) z)
 
 -- ---- one list
 
 same_first : {X : Type 0} (R : X → X → Type 0) → IsStrict R → (x y : X) (xs ys : List X) → Rises R (x ∷ xs)
     → Rises R (y ∷ ys) → (x ≡ y) ⊎ Contains xs y
     → (y ≡ x) ⊎ Contains ys x → x ≡ y
-same_first R strict x y xs ys up over (inl same) other = same
-same_first R strict x y xs ys up over (inr later) (inl same) = sym same
-same_first R strict x y xs ys up over (inr later) (inr after) =
-    absurd (strict.never x
-    (strict.trans x y x (first_before R strict x xs up y later) (first_before R strict y ys over x after)))
+same_first R strict x y xs ys up over first other =
+    let before = first_before R strict x xs up y in let after = first_before R strict y ys over x in
+    grind (arith, strict.never x, strict.trans x y x)
 
 same_rest : {X : Type 0} (R : X → X → Type 0) → IsStrict R → (x y : X) (xs ys : List X) → Rises R (x ∷ xs) → x ≡ y
     → ((z : X) → Contains (x ∷ xs) z → Contains (y ∷ ys) z) → (z : X) → Contains xs z → Contains ys z
-same_rest R strict x y xs ys up same to z w = elim (front_or_behind y ys z (to z (behind x xs z w))) [
-  | inl first ↦ absurd (strict.never x (subst (R x) (sym (same ∙ first)) (first_before R strict x xs up z w)))
-  | inr later ↦ later
-]
+same_rest R strict x y xs ys up same to z w =
+    let cases = front_or_behind y ys z (to z (behind x xs z w)) in
+    grind (arith, first_before R strict x xs up z w, strict.never x)
 
 pub one_rising : {X : Type 0} (R : X → X → Type 0) → IsStrict R → (xs ys : List X) → Rises R xs → Rises R ys
     → ((x : X) → Contains xs x → Contains ys x)

@@ -1,5 +1,6 @@
 -- Files have one set order, and one first bad import.
-use Rattle.std.proofs.Common.{◌≡◌, ℕ, zero, suc, ◌+◌, ◌<◌, ◌≤◌, List, length, get_or, refl, subst, arith, inl, inr}
+use Rattle.std.proofs.lemmas.Grind.{common_steps}
+use Rattle.std.proofs.Common.{◌≡◌, ℕ, zero, suc, ◌+◌, ◌<◌, ◌≤◌, List, length, get_or, refl, arith}
 use Rattle.std.specs.Prelude.{IsTrue}
 use Rattle.std.proofs.lemmas.List.{get_or_default}
 use Rattle.std.proofs.lemmas.List.Elements.{Contains-get_or}
@@ -17,13 +18,9 @@ use Rattle.proto_links.proofs.Rising.{IsStrict, Rises, one_rising}
 rank_le : (files : List FileDesc) (f g : ℕ → ℕ) → AreRanks files f → AreRanks files g → (rank a : ℕ) → a < length files
     → f a ≡ rank → f a ≤ g a
 rank_le files f g first second zero a h e = omega (arith, e)
-rank_le files f g first second (suc rank) a h e = elim (first.least a h) [
-  | inl none ↦ omega (arith, none, e)
-  | inr (b, i, more) ↦ (
-      let below = rank_le files f g first second rank b i.2.0 (omega (arith, more, e)) in
-      let above = second.above a b i in
-      omega (arith, below, above, more))
-]
+rank_le files f g first second (suc rank) a h e =
+    let least = first.least a h in
+    grind (arith, rank_le files f g first second rank, second.above a)
 
 one_rank : (files : List FileDesc) (f g : ℕ → ℕ) → AreRanks files f → AreRanks files g → (a : ℕ)
     → a < length files → f a ≡ g a
@@ -34,27 +31,17 @@ one_rank files f g first second a h =
 
 -- ---- set order
 
-before_itself : (rank : ℕ → ℕ) (a : ℕ) → IsBefore rank a a → ⊥
-before_itself rank a (inl less) = omega (arith, less)
-before_itself rank a (inr same) = omega (arith, same.1)
-
 before_trans : (rank : ℕ → ℕ) (a b c : ℕ) → IsBefore rank a b → IsBefore rank b c → IsBefore rank a c
-before_trans rank a b c (inl less) (inl more) = inl (omega (arith, less, more))
-before_trans rank a b c (inl less) (inr more) = inl (omega (arith, less, more.0))
-before_trans rank a b c (inr less) (inl more) = inl (omega (arith, less.0, more))
-before_trans rank a b c (inr less) (inr more) = inr (omega (arith, less.0, more.0), omega (arith, less.1, more.1))
+before_trans rank a b c before after = grind (arith, common_steps)
 
 pub before_strict : (rank : ℕ → ℕ) → IsStrict (IsBefore rank)
-before_strict rank = record { never = before_itself rank; trans = before_trans rank }
+before_strict rank = record { never = λ a before. grind (arith, common_steps); trans = before_trans rank }
 
 same_before : (f g : ℕ → ℕ) (a b : ℕ) → f a ≡ g a → f b ≡ g b → IsBefore f a b → IsBefore g a b
-same_before f g a b ea eb (inl less) = inl (omega (arith, less, ea, eb))
-same_before f g a b ea eb (inr less) = inr (omega (arith, less.0, ea, eb), less.1)
+same_before f g a b ea eb before = grind (arith, common_steps)
 
 pub order_rises : (rank : ℕ → ℕ) (order : List ℕ) → IsInSetOrder rank order → Rises (IsBefore rank) order
-order_rises rank order up k d h =
-    subst (λ a. IsBefore rank a (get_or order (k + 1) d)) (get_or_default order k 0 d (omega (arith, h)))
-    (subst (IsBefore rank (get_or order k 0)) (get_or_default order (k + 1) 0 d h) (up k h))
+order_rises rank order up k d h = grind (arith, get_or_default)
 
 -- an order by ranks that are the same up to the count
 order_moved : (count : ℕ) (f g : ℕ → ℕ) (order : List ℕ) → ((a : ℕ) → a < count → f a ≡ g a) → IsSetOrder count f order
@@ -88,11 +75,7 @@ sees_same files links others a b first second ha hb seen = (second.sees a b ha h
 
 one_import : (a b : ℕ) (p q : Place) (k l : Kind) → IsNoLater (a, spot p k) (b, spot q l)
     → IsNoLater (b, spot q l) (a, spot p k) → (a ≡ b) × (p ≡ q) × (k ≡ l)
-one_import a b p q k l (inl before) (inl after) = absurd (omega (arith, before, after))
-one_import a b p q k l (inl before) (inr after) = absurd (omega (arith, before, after.0))
-one_import a b p q k l (inr before) (inl after) = absurd (omega (arith, before.0, after))
-one_import a b p q k l (inr before) (inr after) = let one = one_spot p q k l before.1 after.1 in
-    (before.0, one.0, one.1)
+one_import a b p q k l before after = grind (arith, one_spot)
 
 pub one_bad : (files : List FileDesc) (a b : ℕ) (place other : Place) (kind what : Kind) → IsFirstBad files a place kind
     → IsFirstBad files b other what

@@ -1,10 +1,10 @@
 -- What the links of any files reach.
-use Rattle.std.proofs.Common.{◌≡◌, ◌∙◌, sym, ℕ, zero, suc, ◌<◌, Bool, true, false, List, [], ◌∷◌, length, get_or, ap, refl, subst, arith, inl, inr}
+use Rattle.std.proofs.lemmas.Grind.{common_steps}
+use Rattle.std.proofs.Common.{◌≡◌, sym, ℕ, ◌<◌, Bool, true, false, List, [], ◌∷◌, length, refl, subst, arith}
 use Rattle.std.specs.Set.{is_member}
 use Rattle.std.specs.Prelude.{Contains, filter, ◌==◌, cond, ◌↔◌}
 use Rattle.std.specs.List.{IsDistinct, AllByRecursion}
-use Rattle.std.proofs.lemmas.Bool.{true≢false}
-use Rattle.std.proofs.lemmas.Bool.{eqb-true}
+use Rattle.std.proofs.lemmas.Bool.{true≢false, eqb-true}
 use Rattle.std.proofs.lemmas.Map.Steps.{length-le_from_distinct_below, le-length_from_below}
 use Rattle.std.proofs.lemmas.List.Elements.{All-contains, All-contains_itself, All-filter, filter_passes}
 use Rattle.digraph.specs.Leads.{here}
@@ -20,14 +20,10 @@ use Rattle.proto_links.proofs.Unique.{before_strict, order_rises}
 
 -- ---- lists that rise
 
-unequal : (x y : ℕ) (b : Bool) → (x == y) ≡ b → (x ≡ y → ⊥) → (x == y) ≡ false
-unequal x y false e never = e
-unequal x y true e never = absurd (never (eqb-true x y e))
-
 all_apart : (x : ℕ) (xs : List ℕ) → ((y : ℕ) → Contains xs y → x ≡ y → ⊥) → AllByRecursion (λ y. x == y ≡ false) xs
 all_apart x [] never = tt
 all_apart x (y ∷ ys) never =
-    (unequal x y (x == y) refl (never y (front y ys)), all_apart x ys (λ z w. never z (behind y ys z w)))
+    (grind (arith, eqb-true, never y (front y ys)), all_apart x ys (λ z w. never z (behind y ys z w)))
 
 pub once_of : (R : ℕ → ℕ → Type 0) → IsStrict R → (xs : List ℕ) → Rises R xs → IsDistinct ◌==◌ xs
 unfolding IsDistinct
@@ -40,14 +36,7 @@ once_of R strict (x ∷ xs) up = (
 -- what comes before all members of a list that rises comes in front of it
 rises_behind : {X : Type 0} (R : X → X → Type 0) (x : X) (xs : List X) → ((z : X) → Contains xs z → R x z) → Rises R xs
     → Rises R (x ∷ xs)
-rises_behind R x [] before up k d h = absurd (omega (arith, h))
-rises_behind R x (y ∷ xs) before up zero d h = before y (front y xs)
-rises_behind R x (y ∷ xs) before up (suc k) d h =
-    subst (R (get_or (y ∷ xs) k d)) (sym (next_behind x (y ∷ xs) k d)) (up k d (omega (arith, h)))
-
-kept_by : (p : ℕ → Bool) (x : ℕ) (xs : List ℕ) (b : Bool) → p x ≡ b
-    → filter p (x ∷ xs) ≡ cond b (x ∷ filter p xs) (filter p xs)
-kept_by p x xs b e = ap (λ t. cond t (x ∷ filter p xs) (filter p xs)) e
+rises_behind R x xs before up k d h = grind (arith, common_steps, front, next_behind)
 
 -- a member of what a test keeps is a member that passes it, and the other way round
 pub kept_to : (p : ℕ → Bool) (xs : List ℕ) (z : ℕ) → Contains (filter p xs) z → Contains xs z × (p z ≡ true)
@@ -59,30 +48,19 @@ kept_to p xs z w = (
 kept_back : (p : ℕ → Bool) (x : ℕ) (xs : List ℕ) (z : ℕ) (b : Bool) → p x ≡ b
     → (Contains xs z → Contains (filter p xs) z) → p z ≡ true → Contains (x ∷ xs) z
     → Contains (cond b (x ∷ filter p xs) (filter p xs)) z
-kept_back p x xs z false e rest passes w = elim (front_or_behind x xs z w) [
-  | inl same ↦ absurd (true≢false (sym passes ∙ ap p (sym same) ∙ e))
-  | inr later ↦ rest later
-]
-kept_back p x xs z true e rest passes w = elim (front_or_behind x xs z w) [
-  | inl same ↦ subst (Contains (x ∷ filter p xs)) same (front x (filter p xs))
-  | inr later ↦ behind x (filter p xs) z (rest later)
-]
+kept_back p x xs z false e rest passes w = grind (arith, front_or_behind, true≢false)
+kept_back p x xs z true e rest passes w = grind (arith, behind, front, front_or_behind)
 
 pub kept_from : (p : ℕ → Bool) (xs : List ℕ) (z : ℕ) → p z ≡ true → Contains xs z → Contains (filter p xs) z
 kept_from p [] z passes w = absurd (none_in z w)
 kept_from p (x ∷ xs) z passes w = kept_back p x xs z (p x) refl (kept_from p xs z passes) passes w
 
--- what a test keeps of a list that rises does
-kept_rise : (R : ℕ → ℕ → Type 0) → IsStrict R → (p : ℕ → Bool) (x : ℕ) (xs : List ℕ) (b : Bool) → Rises R (x ∷ xs)
-    → Rises R (filter p xs)
-    → Rises R (cond b (x ∷ filter p xs) (filter p xs))
-kept_rise R strict p x xs false up rest = rest
-kept_rise R strict p x xs true up rest =
-    rises_behind R x (filter p xs) (λ z w. first_before R strict x xs up z (kept_to p xs z w).0) rest
-
 pub kept_rises : (R : ℕ → ℕ → Type 0) → IsStrict R → (p : ℕ → Bool) (xs : List ℕ) → Rises R xs → Rises R (filter p xs)
 kept_rises R strict p [] up = up
-kept_rises R strict p (x ∷ xs) up = kept_rise R strict p x xs (p x) up (kept_rises R strict p xs (rest_rises R x xs up))
+kept_rises R strict p (x ∷ xs) up =
+    let rest = kept_rises R strict p xs (rest_rises R x xs up) in
+    let led = rises_behind R x (filter p xs) (λ z w. first_before R strict x xs up z (kept_to p xs z w).0) rest in
+    grind arith
 
 -- as many as there are numbers below n
 size_of : (xs : List ℕ) (n : ℕ) → IsDistinct ◌==◌ xs → ((a : ℕ) → Contains xs a ↔ (a < n)) → length xs ≡ n
@@ -103,6 +81,8 @@ whole_of files links is =
     let back : (a : ℕ) → a < length files → a < count_of links = λ a h. omega (arith, h, is.count) in
     let within : (a b : ℕ) → a < count_of links → Contains (reach_of links a) b → b < count_of links =
     λ a b h w. back b (leads_inside files b a (below a h) (((is.reach a (below a h)).members b).0 w)) in
+    let every : (a : ℕ) → Contains links.set_order a ↔ (a < count_of links) =
+    λ a. (λ w. back a ((is.order.every a).0 w), λ h. (is.order.every a).1 (below a h)) in
     let each : IsDistinct ◌==◌ links.set_order = once_of R strict links.set_order order in
     record {
       within = within;
@@ -120,8 +100,7 @@ whole_of files links is =
           (λ b w. kept_from (is_member ◌==◌ (reach_of links a)) links.set_order b ((has_is b (reach_of links a)).1 w)
           ((is.order.every b).1 (below b (within a b h w))))
           (λ b w. (has_is b (reach_of links a)).0 (kept_to (is_member ◌==◌ (reach_of links a)) links.set_order b w).1);
-      every = λ a. (λ w. back a ((is.order.every a).0 w), λ h. (is.order.every a).1 (below a h));
+      every = every;
       each_once = each;
-      size = size_of links.set_order (count_of links) each
-          (λ a. (λ w. back a ((is.order.every a).0 w), λ h. (is.order.every a).1 (below a h)));
+      size = size_of links.set_order (count_of links) each every;
     }

@@ -29,15 +29,11 @@ unreachable-requires-in_default-close g c =
     let all : parts c.in_shares.new.seats ≡ parts c.as_mut_slice.result.now =
     same_sums (λ (s : MarkSeatValue). s.view.least.parts) c.in_shares.new.seats c.as_mut_slice.result.now
     c.in_shares.ensures.numbers in
-    let start : parts c.as_mut_slice.result.now ≡ 2 ^ 32 = ap parts c.as_mut_slice.ensures.value
-    ∙ c.in_ok-seats.ensures.parts in
     let back = written c.in_ok-seats.seats.items c.as_mut_slice.result.now c.in_shares.new.seats c.in_ok-seats.seats.len
     c.as_mut_slice.ensures.value
     c.as_mut_slice.ensures.len c.in_shares.ensures.gains.len in
-    let mine : c.in-Some.seat.view.least.parts ≡ parts c.in_shares.new.seats =
-    c.in-Some.ensures.parts ∙ ap parts back in
     let few : c.in-Some.seat.view.least.parts < 2 ^ 32 = c.in_default-close.ensures.refused.0 refl in
-    omega arith
+    grind arith
 
 pub returns-clause-first : goal.returns-clause-first
 returns-clause-first g c = λ w below.

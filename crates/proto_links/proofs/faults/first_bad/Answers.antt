@@ -1,5 +1,5 @@
 use Rattle.std.proofs.lemmas.Grind.{common_steps}
-use Rattle.std.proofs.Common.{◌∙◌, sym, subst, ℕ, ◌<◌, List, length, arith, Vec, Global}
+use Rattle.std.proofs.Common.{◌∙◌, sym, subst, ℕ, List, arith, Vec, Global}
 use Rattle.digraph.specs.Edges.{graph_of, Edge}
 use Rattle.digraph.proofs.Rows.{length_graph}
 use Rattle.proto_links.proofs.Faulting.{turned_within, none_more, none_all, first_bad_is, marks_are}
@@ -25,27 +25,20 @@ mark_reached-requires-clause-within c a b edge =
 
 pub first_wrong-first-requires-clause-reaching : goal.first_wrong-first-requires-clause-reaching
 first_wrong-first-requires-clause-reaching c =
-    marks_are c.args.files.now (graph_of c.args.imports.now) c.in_ok-turned.turned.items c.deref.result.now
-    c.loop-file.file c.in_ok-reaching.reaching.items
-    c.deref-in-loop-file.result.now c.requires.graph c.in_ok-turned.ensures.turned c.deref.ensures.value
-    c.deref-in-loop-file.ensures.value
+    marks_are c.requires.graph c.in_ok-turned.ensures.turned c.deref.ensures.value c.deref-in-loop-file.ensures.value
     c.in_ok-reaching.ensures.marked
 
 pub returns-in-Some : goal.returns-in-Some
 returns-in-Some c =
-    let inside : c.loop-file.file < length c.args.files.now = omega arith in
-    first_bad_is c.args.files.now c.loop-file.file c.as_slice.result.now c.first_wrong-first.result c.in-Some.spot
-    (c.as_slice.ensures ∙ sym (imports_is c.args.files.now c.loop-file.file c.index-files-file.result inside))
-    c.in-Some.is c.first_wrong-first.ensures
-    c.loop-file.invariant
+    first_bad_is
+    (c.as_slice.ensures ∙ sym (imports_is c.args.files.now c.loop-file.file c.index-files-file.result (omega arith)))
+    c.in-Some.is c.first_wrong-first.ensures c.loop-file.invariant
 
 pub loop-file-preserved : goal.loop-file-preserved
 loop-file-preserved c =
-    let inside : c.loop-file.file < length c.args.files.now = omega arith in
-    none_more c.args.files.now c.loop-file.file c.as_slice.result.now c.first_wrong-first.result
-    (c.as_slice.ensures ∙ sym (imports_is c.args.files.now c.loop-file.file c.index-files-file.result inside))
-    c.in_default.is c.first_wrong-first.ensures
-    c.loop-file.invariant
+    none_more
+    (c.as_slice.ensures ∙ sym (imports_is c.args.files.now c.loop-file.file c.index-files-file.result (omega arith)))
+    c.in_default.is c.first_wrong-first.ensures c.loop-file.invariant
 
 pub returns : goal.returns
 returns c = none_all c.args.files.now c.loop-file.file (omega arith) c.loop-file.invariant

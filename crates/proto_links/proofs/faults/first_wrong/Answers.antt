@@ -1,10 +1,6 @@
-use Rattle.std.proofs.Common.{◌≡◌, ◌∙◌, sym, ap, subst, suc, ◌+◌, ◌<◌, [], ◌∷◌, ◌++◌, length, take, arith}
-use Rattle.std.proofs.Math.Seq.{take-suc}
-use Rattle.proto_desc.specs.declared.file.ImportDesc.{ImportDesc}
-use Rattle.proto_base.specs.Least.{IsLeast}
-use Rattle.proto_links.specs.Graphs.{IsWrongIn}
+use Rattle.std.proofs.Common.{take, arith}
 use Rattle.proto_links.proofs.Faulting.{first_more, first_skip}
-use Rattle.proto_links.proofs.Targeting.{whole_prefix}
+use Rattle.proto_links.proofs.Targeting.{prefix_more, whole_prefix}
 use Rattle.proto_links.proofs.faults.first_wrong.Goals as goal
 use Rattle.proto_links.proofs.faults.first_wrong.Goals.{in-Some, in_default}
 
@@ -13,12 +9,7 @@ loop-import-preserved c =
     let imports = c.args.imports.now in
     let k = c.loop-import.import-index in
     let i = c.import-item.result in
-    let inside : k < length imports = omega arith in
-    let next : k + 1 ≡ suc k = omega arith in
-    let step : take (k + 1) imports ≡ take k imports ++ i ∷ [] =
-    ap (λ n. take n imports) next ∙ take-suc imports k i inside
-    ∙ ap (λ (x : ImportDesc). take k imports ++ x ∷ []) (sym c.import-item.is) in
-    rw step (elim c.match-fault_of.branch [
+    rw (prefix_more imports k i (omega arith) c.import-item.is) (elim c.match-fault_of.branch [
       | in-Some w ↦
           rw w.first-is
           (first_more c.args.files.now c.args.file (take k imports) i c.loop-import.first w.lesser-first.result
@@ -31,5 +22,5 @@ loop-import-preserved c =
     ])
 
 pub returns : goal.returns
-returns c = subst (λ xs. IsLeast (IsWrongIn c.args.files.now c.args.file xs) c.loop-import.first)
-    (whole_prefix c.args.imports.now c.loop-import.import-index (omega arith)) c.loop-import.invariant
+returns c =
+    rw (whole_prefix c.args.imports.now c.loop-import.import-index (omega arith)) at c.loop-import.invariant

@@ -18,10 +18,7 @@ get-requires g c =
     omega (arith, inside)
 
 pub loop-file-smaller : goal.loop-file-smaller
-loop-file-smaller g c =
-    let list = g.F.Reach.list c.args.self.now.reach.now c.args.root in
-    let at : slice_get list c.loop-file.k ≡ Some c.in-Some.file = sym c.reached.ensures ∙ c.in-Some.is in
-    let inside = slice_get_within list c.loop-file.k c.in-Some.file at in omega arith
+loop-file-smaller g c = grind (arith, slice_get_within)
 
 pub loop-file-preserved : goal.loop-file-preserved
 loop-file-preserved g c =
@@ -39,22 +36,16 @@ loop-file-preserved g c =
             w.if-file-root.true (sym w.get.ensures ∙ w.if-get-position.true) c.loop-file.invariant.1
             (ap (λ (v : Vec ℕ Global). v.items) w.files-is ∙ w.in_ok-push.ensures.items),
       )
-      | else-file-root w ↦
-          let same = ap (λ (v : Vec ℕ Global). v.items) w.files-is in
-          elim w.else-file-root.branch [
-            | else-file-root-via-then-file-root+else-get-position w' ↦ (
-              omega arith,
-              others_skip first c.args.position c.args.root c.loop-file.k c.in-Some.file list start was
-                  c.if-file-root.files.items at
-                  (inr (λ e. w'.if-get-position.false (w'.get.ensures ∙ e))) c.loop-file.invariant.1 same,
-            )
-            | else-file-root-via-else-file-root w' ↦ (
-              omega arith,
-              others_skip first c.args.position c.args.root c.loop-file.k c.in-Some.file list start was
-                  c.if-file-root.files.items at
-                  (inl w'.if-file-root.false) c.loop-file.invariant.1 same,
-            )
-          ]
+      | else-file-root w ↦ (
+        omega arith,
+        others_skip first c.args.position c.args.root c.loop-file.k c.in-Some.file list start was
+            c.if-file-root.files.items at
+            (elim w.else-file-root.branch [
+              | else-file-root-via-then-file-root+else-get-position w' ↦
+                  inr (λ e. w'.if-get-position.false (w'.get.ensures ∙ e))
+              | else-file-root-via-else-file-root w' ↦ inl w'.if-file-root.false
+            ]) c.loop-file.invariant.1 (ap (λ (v : Vec ℕ Global). v.items) w.files-is),
+      )
     ]
 
 pub returns : goal.returns

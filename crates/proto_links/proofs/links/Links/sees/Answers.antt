@@ -1,7 +1,6 @@
-use Rattle.std.proofs.Common.{◌∙◌, sym, ap, subst, ◌<◌, length, arith}
+use Rattle.std.proofs.Common.{sym, subst, ◌<◌, length, arith}
 use Rattle.std.proofs.lemmas.List.{get_or_default}
-use Rattle.bit_matrix.specs.Bits.{has}
-use Rattle.proto_links.specs.Linked.{Linked, count_of, sees}
+use Rattle.proto_links.specs.Linked.{Linked, count_of}
 use Rattle.proto_links.proofs.Laying.{sees_there}
 use Rattle.proto_links.proofs.links.Links.sees.Goals as goal
 
@@ -10,8 +9,6 @@ returns c =
     let file = subst (λ (l : Linked). c.args.file < count_of l) (sym c.self.view_is) c.requires.file in
     let other = subst (λ (l : Linked). c.args.other < count_of l) (sym c.self.view_is) c.requires.other in
     let inside : c.args.file < length c.self.inside.positions.items = omega (arith, file, c.self.invariant.0.size) in
-    let positions = c.self.inside.positions.items in
-    let position = c.index.ensures ∙ get_or_default positions c.args.file c.index.result.now 0 inside in
-    c.contains.ensures ∙ ap (λ p. has c.self.inside.seen p c.args.other) position
-    ∙ sym (sees_there c.self.inside c.args.file inside c.args.other (omega (arith, other, c.self.invariant.0.columns)))
-    ∙ ap (λ (l : Linked). sees l c.args.file c.args.other) c.self.view_is
+    let there = sees_there c.self.inside c.args.file inside c.args.other
+    (omega (arith, other, c.self.invariant.0.columns)) in
+    grind (arith, get_or_default)
