@@ -1,5 +1,5 @@
 -- Bits of the words of rows.
-use Rattle.std.proofs.Common.{◌≡◌, ◌∙◌, refl, sym, ap, ℕ, ◌+◌, ◌*◌, ◌/◌, ◌%◌, ◌^◌, ◌<◌, ◌⊎◌, length, get_or, set, inl, inr, arith, w64, nat_eq, bit_and, bit_or}
+use Rattle.std.proofs.Common.{◌≡◌, ℕ, ◌+◌, ◌*◌, ◌/◌, ◌%◌, ◌^◌, ◌<◌, ◌⊎◌, length, get_or, set, inl, inr, arith, w64, nat_eq, bit_and, bit_or}
 use Rattle.std.specs.Prelude.{◌↔◌}
 use Rattle.std.specs.Int.{bit_at}
 use Rattle.std.proofs.lemmas.Bool.{cases_eq, eqb-true, eq-eqb}
@@ -19,13 +19,12 @@ has_is bits r c = (eqb-true (bit_of bits r c) 1, eq-eqb (bit_of bits r c) 1)
 
 pub tested : (bits : Bits) (r c word : ℕ) → word ≡ word_of bits r (c / 64)
     → nat_eq (bit_and (word / 2 ^ (c % 64)) 1) 1 ≡ has bits r c
-tested bits r c word is = ap (λ x. nat_eq x 1) (shr_and_one word (c % 64) ∙ ap (λ x. bit_at x (c % 64)) is)
+tested bits r c word is = grind (arith, shr_and_one)
 
 pub word_inside : (bits : Bits) → length bits.words ≡ bits.rows * bits.width → (r c : ℕ) → r < bits.rows
     → c < columns_of bits
     → r * bits.width + c / 64 < length bits.words
-word_inside bits size r c hr hc = let fits = row_fits r bits.width bits.rows bits.width hr (omega arith) in
-    omega (arith, fits, hc, size)
+word_inside bits size r c hr hc = grind (arith, row_fits)
 
 -- words of other rows, or of another column, stand elsewhere
 elsewhere : (bits : Bits) (r c row column : ℕ) → c < columns_of bits → column < columns_of bits
@@ -49,60 +48,20 @@ module _ (bits : Bits) (size : length bits.words ≡ bits.rows * bits.width) (ro
 
   other_word : (r c : ℕ) → c < columns_of bits → ((r ≡ row) × (c / 64 ≡ column / 64) → ⊥)
       → word_of with_bit r (c / 64) ≡ word_of bits r (c / 64)
-  other_word r c hc other = get_or-set_other bits.words place (r * bits.width + c / 64) value 0
-      (elsewhere bits r c row column hc hcolumn other)
+  other_word r c hc other = grind (arith, get_or-set_other, elsewhere)
 
   same_word : (c : ℕ) → c / 64 ≡ column / 64 → word_of with_bit row (c / 64) ≡ value
-  same_word c same = ap (λ k. get_or with_bit.words (row * bits.width + k) 0) same
-      ∙ get_or-set_same bits.words place value 0 (word_inside bits size row column hrow hcolumn)
-
-  old_word : (c : ℕ) → c / 64 ≡ column / 64 → word_of bits row (c / 64) ≡ get_or bits.words place 0
-  old_word c same = ap (λ k. get_or bits.words (row * bits.width + k) 0) same
+  same_word c same = grind (arith, get_or-set_same, word_inside)
 
   bit_inserted : (c : ℕ) → c < columns_of bits → (bit_of with_bit row c ≡ 1) ↔ ((bit_of bits row c ≡ 1) ⊎ (column ≡ c))
-  bit_inserted c hc = elim (cases_eq (c / 64) (column / 64)) [
-    | inl same ↦ elim (cases_eq (c % 64) (column % 64)) [
-      | inl here ↦ (
-        λ _. inr (omega (arith, same, here)),
-        λ _. ap (λ x. bit_at x (c % 64)) (same_word c same) ∙ ap (bit_at value) here
-            ∙ bit_at_set_same w64 (get_or bits.words place 0) (column % 64) (omega arith),
-      )
-      | inr apart ↦ (
-          let kept : bit_of with_bit row c ≡ bit_of bits row c = ap (λ x. bit_at x (c % 64)) (same_word c same)
-          ∙ bit_at_set_other w64 (get_or bits.words place 0) (column % 64) (omega arith) (c % 64) apart
-          ∙ ap (λ x. bit_at x (c % 64)) (sym (old_word c same)) in (
-            λ is. inl (sym kept ∙ is),
-            λ w. (elim w [
-              | inl old ↦ kept ∙ old
-              | inr new ↦ absurd (apart (ap (λ k. k % 64) (sym new)))
-            ]),
-          )
-          )
-    ]
-    | inr apart ↦ (
-        let kept : bit_of with_bit row c ≡ bit_of bits row c =
-        ap (λ x. bit_at x (c % 64)) (other_word row c hc (λ w. apart w.1)) in (
-          λ is. inl (sym kept ∙ is),
-          λ w. (elim w [
-            | inl old ↦ kept ∙ old
-            | inr new ↦ absurd (apart (ap (λ k. k / 64) (sym new)))
-          ]),
-        )
-        )
-  ]
+  bit_inserted c hc =
+      let word = get_or bits.words place 0 in
+      let here = bit_at_set_same w64 word (column % 64) (omega arith) in
+      let apart = bit_at_set_other w64 word (column % 64) (omega arith) (c % 64) in
+      elim (cases_eq (c / 64) (column / 64)) [
+        | inl same ↦ grind (arith, same_word c same, here, apart)
+        | inr other ↦ grind (arith, other_word row c hc (λ w. other w.1))
+      ]
 
   pub inserted : HasInserted bits row column with_bit
-  inserted = record {
-    large = record { rows = refl; width = refl };
-    kept = λ r c hr hc other. ap (λ x. nat_eq (bit_at x (c % 64)) 1) (other_word r c hc (λ w. other w.0));
-    bits = λ c hc. (
-      λ t. (elim ((bit_inserted c hc).0 ((has_is with_bit row c).0 t)) [
-        | inl old ↦ inl ((has_is bits row c).1 old)
-        | inr new ↦ inr new
-      ]),
-      λ w. (has_is with_bit row c).1 ((bit_inserted c hc).1 (elim w [
-        | inl old ↦ inl ((has_is bits row c).0 old)
-        | inr new ↦ inr new
-      ])),
-    );
-  }
+  inserted = grind (arith, other_word, bit_inserted, has_is)

@@ -1,5 +1,5 @@
 -- The faults of one reference, by what its name means.
-use Rattle.std.proofs.Common.{◌≡◌, ℕ, List, refl, inl, inr}
+use Rattle.std.proofs.Common.{arith, ◌≡◌, ℕ, List, inl, inr}
 use Rattle.std.specs.Prelude.{Option, Some, None}
 use Rattle.proto_base.specs.declared.kind.Kind.TheVariants as kind
 use Rattle.proto_desc.specs.declared.name_kind.NameKind.{NameKind}
@@ -24,53 +24,32 @@ pub apart : (os : List Occurrence) (Seen : ℕ → Type 0) (scope spelled a b : 
     → Resolves os Seen scope spelled a name_kind.Message
     → Resolves os Seen scope spelled b name_kind.Enum → ⊥
 apart os Seen scope spelled a b h k =
-    let same : name_kind.Message ≡ name_kind.Enum =
-    (resolves_one os Seen scope spelled a b name_kind.Message name_kind.Enum h k).1 in cc
+    let same = (resolves_one os Seen scope spelled a b name_kind.Message name_kind.Enum h k).1 in cc
 
 -- what a name of a type is declared for
 pub kind_named : (os : List Occurrence) (Seen : ℕ → Type 0) (full : List ℕ) (k : NameKind) → IsType os Seen full k
     → named_by (type_kind_of k) ≡ k
-kind_named os Seen full k (message seen) = refl
-kind_named os Seen full k (enumeration seen none) = refl
+kind_named os Seen full k type = grind arith
 
 -- ---- of one reference
 
 pub not_found : (os : List Occurrence) (Seen : ℕ → Type 0) (r : Reference) → ResolvesNowhere os Seen r.scope r.text
     → IsLeast (ReferenceBreaks os Seen r) (Some (spot r.place kind.TypeNotFound))
-not_found os Seen r none = least_same (λ x. x ≡ spot r.place kind.TypeNotFound) (ReferenceBreaks os Seen r)
-    (Some (spot r.place kind.TypeNotFound))
-    (λ x w. elim w [
-      | inl found ↦ found.1
-      | inr (inl enum) ↦ absurd (none enum.1.0 name_kind.Enum enum.1.1)
-      | inr (inr packed) ↦ absurd (none packed.0.0 name_kind.Message packed.0.1)
-    ])
-    (λ x e. inl (none, e))
-    (least_one (spot r.place kind.TypeNotFound))
+not_found os Seen r none = grind (arith, least_same, least_one)
 
 pub not_message : (os : List Occurrence) (Seen : ℕ → Type 0) (r : Reference) (full : List ℕ)
     → r.wanted ≡ want.MessageOnly
     → Resolves os Seen r.scope r.text full name_kind.Enum
     → IsLeast (ReferenceBreaks os Seen r) (Some (spot r.place kind.TypeNotMessage))
 not_message os Seen r full only found =
-    least_same (λ x. x ≡ spot r.place kind.TypeNotMessage) (ReferenceBreaks os Seen r)
-    (Some (spot r.place kind.TypeNotMessage))
-    (λ x w. elim w [
-      | inl none ↦ absurd (none.0 full name_kind.Enum found)
-      | inr (inl enum) ↦ enum.2
-      | inr (inr packed) ↦ absurd (apart os Seen r.scope r.text packed.0.0 full packed.0.1 found)
-    ])
-    (λ x e. inr (inl (only, (full, found), e)))
-    (least_one (spot r.place kind.TypeNotMessage))
+    let one = apart os Seen r.scope r.text in
+    grind (arith, least_same (λ x. x ≡ spot r.place kind.TypeNotMessage) (ReferenceBreaks os Seen r), least_one, one)
 
 pub found_enum : (os : List Occurrence) (Seen : ℕ → Type 0) (r : Reference) (full : List ℕ)
     → (r.wanted ≡ want.MessageOnly → ⊥)
     → Resolves os Seen r.scope r.text full name_kind.Enum → IsLeast (ReferenceBreaks os Seen r) None
 found_enum os Seen r full any found = least_none (ReferenceBreaks os Seen r)
-    (λ x w. elim w [
-      | inl none ↦ none.0 full name_kind.Enum found
-      | inr (inl enum) ↦ any enum.0
-      | inr (inr packed) ↦ apart os Seen r.scope r.text packed.0.0 full packed.0.1 found
-    ])
+    (λ x w. grind (arith, apart os Seen r.scope r.text))
 
 pub found_message : (os : List Occurrence) (Seen : ℕ → Type 0) (r : Reference) (full : List ℕ) (first : Option Spot)
     → Resolves os Seen r.scope r.text full name_kind.Message → IsLeast (Each r.options SetsPacked) first
@@ -92,8 +71,7 @@ resolved_least : (os : List Occurrence) (Seen : ℕ → Type 0) (r : Reference) 
     → IsPackedFault (type_kind_of k) r.options fault → IsLeast (ReferenceBreaks os Seen r) fault
 resolved_least os Seen r full k fault found (message seen) only packed = found_message os Seen r full fault found packed
 resolved_least os Seen r full k fault found (enumeration seen none) only packed =
-    rw packed
-    (found_enum os Seen r full (λ e. let bad : name_kind.Enum ≡ name_kind.Message = only e in absurd (cc)) found)
+    rw packed (found_enum os Seen r full (λ e. cc (only e)) found)
 
 -- ---- what one name means
 

@@ -5,6 +5,7 @@ use Rattle.std.specs.Int.{w32, to_be_bytes, from_be_bytes}
 use Rattle.std.proofs.lemmas.Nat.{from_be_bytes-to_be_bytes_4, be_bytes_4}
 use Rattle.std.proofs.lemmas.Bool.{cases_lt, lt-ltb, le-ltb}
 use Rattle.std.proofs.lemmas.List.{take-append-drop, length-take-le}
+use Rattle.std.proofs.Math.Seq.{take-append_seam, drop-append_seam}
 use Rattle.proto_base.specs.Limits.{limit_of}
 use Rattle.proto_base.specs.declared.limits.Limits.{Limits}
 use Rattle.proto_base.specs.declared.limits.Limit.TheVariants.{BodyBytes, MessageBytes, Requests}
@@ -22,12 +23,7 @@ pub record Cut (more message after : List ℕ) : Type 0 where
 
 pub cut : (more message after : List ℕ) → length message < 4294967296
     → more ≡ (to_be_bytes w32 (length message) ++ message) ++ after → Cut more message after
-cut more message after small is = record {
-  size = ap (λ l. from_be_bytes w32 (take 4 l)) is ∙ from_be_bytes-to_be_bytes_4 (length message) small;
-  four = ap (λ l. take 4 l) is;
-  back = ap (λ l. drop 4 l) is;
-  len = ap (λ l. length l) is ∙ (let e = length-append message after in omega arith);
-}
+cut more message after small is = grind (arith, from_be_bytes-to_be_bytes_4, length-append)
 
 get_take_bound : (n : ℕ) (xs : List ℕ) → ((i : ℕ) → get_or xs i 0 < 256) → (i : ℕ) → get_or (take n xs) i 0 < 256
 get_take_bound zero xs h i = omega arith
@@ -52,29 +48,16 @@ frame_is rest more size after m z flag n is zero_flag size_is after_is long byte
     ∙ ap (λ l. take 4 more ++ l) (take-append-drop n after ∙ after_is)
     ∙ take-append-drop 4 more))
 
-take_prefix : (xs ys : List ℕ) → take (length xs) (xs ++ ys) ≡ xs
-take_prefix [] ys = refl
-take_prefix (x ∷ xs) ys = ap (λ l. x ∷ l) (take_prefix xs ys)
-
-drop_prefix : (xs ys : List ℕ) → drop (length xs) (xs ++ ys) ≡ ys
-drop_prefix [] ys = refl
-drop_prefix (x ∷ xs) ys = drop_prefix xs ys
-
-tail_is : (x y : ℕ) (xs ys : List ℕ) → x ∷ xs ≡ y ∷ ys → xs ≡ ys
-tail_is x y xs ys e = cc
-
 pub one_frame : (m n X Y : List ℕ) → length m < 4294967296 → length n < 4294967296 → frame 0 m ++ X ≡ frame 0 n ++ Y
     → (m ≡ n) × (X ≡ Y)
 one_frame m n X Y short_m short_n both =
     let more = (to_be_bytes w32 (length m) ++ m) ++ X in
-    let is : more ≡ (to_be_bytes w32 (length n) ++ n) ++ Y = tail_is 0 0 _ _ both in
+    let is : more ≡ (to_be_bytes w32 (length n) ++ n) ++ Y = cc in
     let cm = cut more m X short_m refl in let cn = cut more n Y short_n is in
-    let len : length m ≡ length n = sym cm.size ∙ cn.size in
-    let same : m ++ X ≡ n ++ Y = sym cm.back ∙ cn.back in (
-      sym (take_prefix m X) ∙ (λ i. take (len i) (same i)) ∙ take_prefix n Y,
-      sym (drop_prefix m X)
-          ∙ (λ i. drop (len i) (same i)) ∙ drop_prefix n Y,
-    )
+    let len : length m ≡ length n = cc in
+    let same : m ++ X ≡ n ++ Y = cc in
+    let front = take-append_seam in let back = drop-append_seam in
+    (cc (front m X, front n Y), cc (back m X, back n Y))
 
 module _ (limits : Limits) (small : limit_of limits MessageBytes < 4294967296) where
   unique_from : (k : ℕ) (ms ns : List (List ℕ)) (a b : List ℕ) → All (IsAllowed limits) ms → All (IsAllowed limits) ns
@@ -83,23 +66,18 @@ module _ (limits : Limits) (small : limit_of limits MessageBytes < 4294967296) w
       → (length ns < k → (message after : List ℕ) → IsAllowed limits message → b ≡ frame 0 message ++ after → ⊥)
       → flat_map (frame 0) ms ++ a ≡ flat_map (frame 0) ns ++ b → (ms ≡ ns) × (a ≡ b)
   unique_from k [] [] a b pm pn fm fn la lb e = (refl, e)
-  unique_from k [] (n ∷ ns) a b pm pn fm fn la lb e =
-      absurd (la (omega arith) n (flat_map (frame 0) ns ++ b) (pn 0 n (omega arith))
-      (e ∙ append_assoc (frame 0 n) (flat_map (frame 0) ns) b))
-  unique_from k (m ∷ ms) [] a b pm pn fm fn la lb e =
-      absurd (lb (omega arith) m (flat_map (frame 0) ms ++ a) (pm 0 m (omega arith))
-      (sym e ∙ append_assoc (frame 0 m) (flat_map (frame 0) ms) a))
+  unique_from k [] (n ∷ ns) a b pm pn fm fn la lb e = absurd (la (omega arith) n (flat_map (frame 0) ns ++ b)
+      (pn 0 n (omega arith)) (e ∙ append_assoc (frame 0 n) (flat_map (frame 0) ns) b))
+  unique_from k (m ∷ ms) [] a b pm pn fm fn la lb e = absurd (lb (omega arith) m (flat_map (frame 0) ms ++ a)
+      (pm 0 m (omega arith)) (sym e ∙ append_assoc (frame 0 m) (flat_map (frame 0) ms) a))
   unique_from k (m ∷ ms) (n ∷ ns) a b pm pn fm fn la lb e =
       let X = flat_map (frame 0) ms ++ a in let Y = flat_map (frame 0) ns ++ b in
-      let both : frame 0 m ++ X ≡ frame 0 n ++ Y =
-      sym (append_assoc (frame 0 m) (flat_map (frame 0) ms) a) ∙ e
-      ∙ append_assoc (frame 0 n) (flat_map (frame 0) ns) b in
+      let both : frame 0 m ++ X ≡ frame 0 n ++ Y = simp append_assoc at e in
       let short_m = (pm 0 m (omega arith)).short in let short_n = (pn 0 n (omega arith)).short in
       let head = one_frame m n X Y (omega arith) (omega arith) both in
       let r = unique_from (k - 1) ms ns a b (λ j d h. pm (suc j) d (omega arith)) (λ j d h. pn (suc j) d (omega arith))
-      (omega arith) (omega arith)
-      (λ h. la (omega arith)) (λ h. lb (omega arith)) head.1 in
-      (λ i. head.0 i ∷ r.0 i, r.1)
+      (omega arith) (omega arith) (λ h. la (omega arith)) (λ h. lb (omega arith)) head.1 in
+      (cc, r.1)
 
 pub one_row : (limits : Limits) → limit_of limits MessageBytes < 4294967296 → HasOneRow limits
 one_row limits small body ms ns a b f g =
@@ -108,10 +86,9 @@ one_row limits small body ms ns a b f g =
 
 pub one_reading : (limits : Limits) → limit_of limits MessageBytes < 4294967296 → HasOneReading limits
 one_reading limits small body ms ns s t f g = elim (cases_lt (limit_of limits BodyBytes) (length body)) [
-  | inl over ↦ (let first = f.over over in let second = g.over over in (first.0 ∙ sym second.0, first.1 ∙ sym second.1))
+  | inl over ↦ (let first = f.over over in let second = g.over over in (cc, cc))
   | inr within ↦ (let first = f.within within in let second = g.within within in
-      let same = one_row limits small body ms ns first.0 second.0 first.1 second.1 in
-      (same.0, first.2 ∙ (λ i. status_of limits (length (same.0 i)) (same.1 i)) ∙ sym second.2))
+      let same = one_row limits small body ms ns first.0 second.0 first.1 second.1 in (same.0, cc))
 ]
 
 -- ---- a frame whose message is no request
@@ -119,21 +96,11 @@ one_reading limits small body ms ns s t f g = elim (cases_lt (limit_of limits Bo
 size_status : (limits : Limits) (more message after : List ℕ) → Cut more message after
     → length message ≤ limit_of limits MessageBytes
     → status_of_size limits more ≡ 3
-size_status limits more message after cut short =
-    let long : 4 ≤ length more = omega (arith, cut.len) in
-    let whole : length message ≤ length (message ++ after) =
-    (let e = length-append message after in omega (arith, e)) in
-    rw (
-      le-ltb (length more) 4 long,
-      cut.size,
-      le-ltb (limit_of limits MessageBytes) (length message) short,
-      cut.back,
-      le-ltb (length (message ++ after)) (length message) whole,
-    ) refl
+size_status limits more message after cut short = grind (arith, length-append, le-ltb)
 
 status_at : (limits : Limits) (count : ℕ) (more : List ℕ) → count < limit_of limits Requests
     → status_of limits count (0 ∷ more) ≡ status_of_size limits more
-status_at limits count more room = rw (lt-ltb count (limit_of limits Requests) room) refl
+status_at limits count more room = grind (arith, lt-ltb)
 
 pub other_message : (limits : Limits) (count : ℕ) (rest message after : List ℕ)
     → limit_of limits MessageBytes < 4294967296
@@ -142,10 +109,12 @@ other_message limits count rest message after small is other =
     let short : length message < 4294967296 = (let h = is.short in omega (arith, h, small)) in
     let more = (to_be_bytes w32 (length message) ++ message) ++ after in
     record {
-      status_is = sym (ap (λ r. status_of limits count r) is.row ∙ status_at limits count more is.room
-          ∙ size_status limits more message after (cut more message after short refl) is.short);
+      status_is = rw (
+        is.row,
+        status_at limits count more is.room,
+        size_status limits more message after (cut more message after short refl) is.short,
+      ) refl;
       none = λ room m z allowed row.
-          let same = one_frame message m after z short (let h = allowed.short in omega (arith, h, small))
-          (sym is.row ∙ row) in
-          other (subst IsRequest (sym same.0) allowed.request);
+          let same = one_frame message m after z short (let h = allowed.short in omega (arith, h, small)) (cc) in
+          other (rw same.0 allowed.request);
     }

@@ -1,5 +1,4 @@
-use Rattle.std.proofs.Common.{arith, sym, ◌∙◌}
-use Rattle.std.proofs.lemmas.Bool.{false≢true}
+use Rattle.std.proofs.Common.{arith, sym}
 use Rattle.std.specs.Prelude.{Some, None}
 use Rattle.proto_base.specs.declared.kind.Kind.TheVariants as kind
 use Rattle.proto_base.specs.Least.{spot}
@@ -12,20 +11,17 @@ use Rattle.proto_types.proofs.meaning.packed_fault.Goals.{then-is_packed, else-i
 pub loop-option-preserved : goal.loop-option-preserved
 loop-option-preserved c =
     let o = c.option-item.result in
+    let more = each_more c.args.options.now SetsPacked c.loop-option.option-index o c.loop-option.first in
     elim c.if-is_packed.branch [
       | then-is_packed w ↦
-          rw w.first-is (each_more c.args.options.now SetsPacked c.loop-option.option-index o c.loop-option.first
-          (Some (spot o.place kind.PackedOnMessage)) w.lesser-first.result
+          rw w.first-is (more (Some (spot o.place kind.PackedOnMessage)) w.lesser-first.result
           (omega arith, sym c.option-item.is) c.loop-option.invariant
           (least_hit (IsPacked o) (spot o.place kind.PackedOnMessage) (c.is_packed.ensures.0 w.if-is_packed.true))
           w.lesser-first.ensures)
       | else-is_packed w ↦
-          rw w.first-is
-          (each_more c.args.options.now SetsPacked c.loop-option.option-index o c.loop-option.first None
-          c.loop-option.first
-          (omega arith, sym c.option-item.is) c.loop-option.invariant
+          rw w.first-is (more None c.loop-option.first (omega arith, sym c.option-item.is) c.loop-option.invariant
           (least_miss (IsPacked o) (spot o.place kind.PackedOnMessage)
-          (λ packed. false≢true (sym w.if-is_packed.false ∙ c.is_packed.ensures.1 packed)))
+          (λ packed. cc (c.is_packed.ensures.1 packed, w.if-is_packed.false)))
           (lesser_none c.loop-option.first))
     ]
 

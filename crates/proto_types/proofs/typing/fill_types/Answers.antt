@@ -14,7 +14,5 @@ returns-clause-typed c = λ os seen means.
 pub returns-clause-resolved : goal.returns-clause-resolved
 returns-clause-resolved c = λ os seen means.
     let f = c.args.desc.now in
-    let types = c.args.types.items in
-    let scope = file_scope f.«package» in
-    typed_resolved os (IsSeen seen) scope f c.fill_file.new.file
-    ((c.fill_file.ensures.puts os seen scope types [] means (c.from.ensures.0 ∙ sym (append-nil types))).1)
+    typed_resolved os (IsSeen seen) (file_scope f.«package») f c.fill_file.new.file
+    (returns-clause-typed c os seen means)

@@ -1,28 +1,21 @@
 use Rattle.std.proofs.Common.{◌≡◌}
-use Rattle.proto_names.specs.Resolution.{SeenBy}
 use Rattle.proto_types.proofs.Walking.{found_all}
 use Rattle.proto_types.proofs.typing.resolve_types.Goals as goal
 
 pub returns-in-None-clause-types : goal.returns-in-None-clause-types
 returns-in-None-clause-types c =
-    let found = found_all c.args.index.now.occurrences (SeenBy c.args.links.now c.args.file) _ c.new-found.result
-    c.file.new.found c.new-found.ensures.types
-    c.new-found.ensures.fault c.in_ok-file.ensures in
+    let found = found_all c.new-found.ensures.types c.new-found.ensures.fault c.in_ok-file.ensures in
     found.means c.in-None.is
 
 pub returns-in-None-clause-whole : goal.returns-in-None-clause-whole
 returns-in-None-clause-whole c = λ x broken.
-    let found = found_all c.args.index.now.occurrences (SeenBy c.args.links.now c.args.file) _ c.new-found.result
-    c.file.new.found c.new-found.ensures.types
-    c.new-found.ensures.fault c.in_ok-file.ensures in
+    let found = found_all c.new-found.ensures.types c.new-found.ensures.fault c.in_ok-file.ensures in
     let least = rw c.in-None.is at found.least in
     least.is x broken
 
 pub returns-in-Some-clause-first : goal.returns-in-Some-clause-first
 returns-in-Some-clause-first c = λ place kind e.
-    let found = found_all c.args.index.now.occurrences (SeenBy c.args.links.now c.args.file) _ c.new-found.result
-    c.file.new.found c.new-found.ensures.types
-    c.new-found.ensures.fault c.in_ok-file.ensures in
+    let found = found_all c.new-found.ensures.types c.new-found.ensures.fault c.in_ok-file.ensures in
     let least = rw c.in-Some.is at found.least in
     let at : c.in-Some.fault.place ≡ place = cc in
     let what : c.in-Some.fault.kind ≡ kind = cc in

@@ -3,7 +3,7 @@ use Rattle.std.proofs.lemmas.Grind.{common_steps}
 use Rattle.wire_format.specs.Reading.{IsRow}
 use Rattle.wire_format.specs.ProgramFields.{field_of}
 use Rattle.reflect_requests.specs.Request.{IsContainingTypeUtf8}
-use Rattle.reflect_requests.proofs.RequestRows.{left_here, extension_is}
+use Rattle.reflect_requests.proofs.RequestRows.{left_here, all_of_row}
 use Rattle.reflect_requests.proofs.request.check_extension.Goals as goal
 
 pub returns-in_err-fields-clause-malformed : goal.returns-in_err-fields-clause-malformed
@@ -16,7 +16,8 @@ returns-in_err-check_containing_type-clause-malformed c e request =
     let items = c.deref-field-items.result.now in
     let row : IsRow c.args.message.now (map field_of items) =
     rw c.deref-field-items.ensures.value c.in_ok-fields.ensures.found in
-    let whole = extension_is c.args.message.now (map field_of items) row request in
+    let whole = all_of_row IsContainingTypeUtf8 c.args.message.now (map field_of items) request.fields row request.row
+    request.known in
     c.in_err-check_containing_type.ensures.other
     (left_here IsContainingTypeUtf8 field_of (map field_of items) items c.loop-field.field-index _
     c.loop-field-test.true c.loop-field.invariant whole)

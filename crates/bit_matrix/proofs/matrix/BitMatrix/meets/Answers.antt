@@ -1,8 +1,8 @@
-use Rattle.std.proofs.Common.{◌≡◌, ◌∙◌, sym, subst, refl, ℕ, ◌+◌, ◌*◌, ◌/◌, ◌^◌, ◌<◌, arith, bit_and, true≢false, rules}
+use Rattle.std.proofs.Common.{◌≡◌, ◌∙◌, sym, refl, ℕ, ◌+◌, ◌*◌, ◌/◌, ◌^◌, ◌<◌, arith, bit_and, true≢false, rules}
 use Rattle.std.proofs.lemmas.List.{get_or_default}
 use Rattle.std.proofs.lemmas.Nat.{row_fits}
 use Rattle.bit_matrix.specs.Bits.{Bits, word_of}
-use Rattle.bit_matrix.specs.Changes.{Meet, columns_of}
+use Rattle.bit_matrix.specs.Changes.{columns_of}
 use Rattle.bit_matrix.specs.contracts.matrix.BitMatrix.{the_view}
 use Rattle.bit_matrix.proofs.Joining.{meet_here, meet_nowhere}
 use Rattle.bit_matrix.proofs.matrix.BitMatrix.meets.Goals as goal
@@ -12,9 +12,8 @@ returns-then-bits-index-ne0 c =
     let first : Bits = the_view c.self.inside in
     let second : Bits = the_view c.other.inside in
     let k : ℕ = c.loop-word.word in
-    let row : c.args.row < first.rows = subst (λ (b : Bits). c.args.row < b.rows) (sym c.self.view_is) c.requires.row in
-    let other : c.args.other_row < second.rows =
-    subst (λ (b : Bits). c.args.other_row < b.rows) (sym c.other.view_is) c.requires.other in
+    let row = rw (← c.self.view_is) at c.requires.row in
+    let other = rw (← c.other.view_is) at c.requires.other in
     let hk : k < first.width = omega (arith, c.loop-word-test.true, c.min-word-end.ensures) in
     let hl : k < second.width = omega (arith, c.loop-word-test.true, c.min-word-end.ensures) in
     let fits = row_fits c.args.row first.width first.rows first.width row (omega arith) in
@@ -28,10 +27,8 @@ returns-then-bits-index-ne0 c =
     let some : bit_and (word_of first c.args.row k) (word_of second c.args.other_row k) ≡ 0 → ⊥ =
     λ none. c.if-bits-index-ne0.true (rw (word, other_word) none) in
     let fits64 : c.index-bits.result.now < 2 ^ 64 = search rules in
-    let meet = meet_here first c.args.row second c.args.other_row k hk hl (subst (λ x. x < 2 ^ 64) word fits64) some in
-    let both = subst (λ (b : Bits). Meet b c.args.row c.args.other.now c.args.other_row) c.self.view_is
-    (subst (λ (b : Bits). Meet first c.args.row b c.args.other_row) c.other.view_is meet) in
-    (λ _. both, λ _. refl)
+    let meet = meet_here first c.args.row second c.args.other_row k hk hl (rw word at fits64) some in
+    rw (← c.self.view_is, ← c.other.view_is) (λ _. meet, λ _. refl)
 
 pub returns : goal.returns
 returns c =
@@ -39,14 +36,6 @@ returns c =
     let second : Bits = the_view c.other.inside in
     let every : (x : ℕ) → x < columns_of first → x < columns_of second → x / 64 < c.loop-word.word =
     λ x h l. omega (arith, h, l, c.loop-word-test.false, c.min-word-end.ensures) in
-    let none : Meet first c.args.row second c.args.other_row → ⊥ =
-    meet_nowhere first c.args.row second c.args.other_row c.loop-word.word every
-    (subst (λ (b : Bits). (k : ℕ) → k < c.loop-word.word
-    → bit_and (word_of b c.args.row k) (word_of second c.args.other_row k) ≡ 0) (sym c.self.view_is)
-    (subst (λ (b : Bits). (k : ℕ) → k < c.loop-word.word
-    → bit_and (word_of c.args.self.now c.args.row k) (word_of b c.args.other_row k) ≡ 0)
-    (sym c.other.view_is) c.loop-word.invariant)) in
-    let nowhere : Meet c.args.self.now c.args.row c.args.other.now c.args.other_row → ⊥ =
-    subst (λ (b : Bits). Meet b c.args.row c.args.other.now c.args.other_row → ⊥) c.self.view_is
-    (subst (λ (b : Bits). Meet first c.args.row b c.args.other_row → ⊥) c.other.view_is none) in
-    (λ t. absurd (true≢false (sym t)), λ meet. absurd (nowhere meet))
+    let none = rw (← c.self.view_is, ← c.other.view_is) at c.loop-word.invariant in
+    let nowhere = meet_nowhere first c.args.row second c.args.other_row c.loop-word.word every none in
+    rw (← c.self.view_is, ← c.other.view_is) (λ t. absurd (true≢false (sym t)), λ meet. absurd (nowhere meet))

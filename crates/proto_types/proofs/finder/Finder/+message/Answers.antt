@@ -1,19 +1,16 @@
 use Rattle.std.proofs.Common.{◌≡◌, arith, refl}
 use Rattle.std.proofs.lemmas.Grind.{common_steps}
 use Rattle.std.proofs.lemmas.List.{take_all}
-use Rattle.std.specs.Prelude.{flat_map}
 use Rattle.proto_desc.specs.declared.message.MessageDesc.TheViews.{out-MessageDesc}
 use Rattle.proto_desc.proofs.Declared.{scope_in}
-use Rattle.proto_names.specs.Resolution.{SeenBy}
-use Rattle.proto_types.specs.References.{field_scope, references_by_message}
-use Rattle.proto_types.proofs.Trees.{own_references, references_out}
+use Rattle.proto_types.specs.References.{field_scope}
+use Rattle.proto_types.proofs.Trees.{references_out}
 use Rattle.proto_types.proofs.Walking.{finds_both}
 use Rattle.proto_types.proofs.finder.Finder.+message.Goals as goal
 use Rattle.proto_types.proofs.finder.Finder.+message.Goals.{then-message, else-message}
 
 pub returns : goal.returns
 returns t c =
-    let self = c.args.self.now in
     let m = c.args.message.now in
     let scope = c.args.scope.now in
     let searched : c.if-message.searched.now ≡ field_scope scope (out-MessageDesc m) = elim c.if-message.branch [
@@ -24,7 +21,4 @@ returns t c =
     let all = take_all c.loop-nested.nested-index c.as_slice-nested-items.result.now (omega arith) in
     let own = rw (searched, c.as_slice.ensures) at c.in_ok-fields.ensures in
     let inside = rw (all, c.as_slice-nested-items.ensures, inner) at c.loop-nested.invariant in
-    rw (references_out m scope)
-    (finds_both self.index.now.occurrences (SeenBy self.links.now self.file) (own_references m scope)
-    (flat_map (λ n. references_by_message n (scope_in m scope)) (out-MessageDesc m).nested)
-    c.args.found.now c.fields.new.found c.loop-nested.found own inside)
+    rw (references_out m scope) (finds_both own inside)
