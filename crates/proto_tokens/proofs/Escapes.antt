@@ -1,4 +1,5 @@
 -- Escapes: which is the longest, and where none stands.
+use Rattle.std.proofs.lemmas.Grind.{common_steps}
 use Rattle.std.proofs.Common.{◌≡◌, ◌≢◌, ℕ, zero, suc, ◌+◌, ◌<◌, ◌≤◌, ◌⊎◌, true, false, None, Some, List, [], ◌∷◌, length, get_or, take, refl, sym, ap, subst, ◌∙◌, inl, inr, arith, length-take-le, get_or-take}
 use Rattle.std.specs.Prelude.{slice_get}
 use Rattle.std.specs.List.{AllPass, prefix_len}
@@ -16,16 +17,10 @@ use Rattle.proto_tokens.proofs.Runs.{begins_first, run_passes, run_longest, run_
 
 -- an escape has at least two bytes
 escape_two : (bs : List ℕ) (e : Escaped) → IsEscape bs e → 2 ≤ length bs
-escape_two bs (byte n) (inl simple) = rw simple.1 (omega arith)
-escape_two bs (byte n) (inr (inl octal)) = let long = octal.2 in rw octal.1 (omega arith)
-escape_two bs (byte n) (inr (inr hex)) = rw hex.2 (omega arith)
-escape_two bs (character n) unicode = rw unicode.2 (omega arith)
+escape_two bs e unicode = grind arith
 
 pub escape_begins : (bs : List ℕ) (e : Escaped) → IsEscape bs e → (0 < length bs) × (get_or bs 0 0 ≡ 92)
-escape_begins bs (byte n) (inl simple) = rw simple.1 (omega arith, refl)
-escape_begins bs (byte n) (inr (inl octal)) = rw octal.1 (omega arith, refl)
-escape_begins bs (byte n) (inr (inr hex)) = rw hex.2 (omega arith, refl)
-escape_begins bs (character n) unicode = rw unicode.2 (omega arith, refl)
+escape_begins bs e unicode = grind arith
 
 -- the first bytes of the text are fixed, and from one to most digits of a base may follow
 pub record EscapesByDigits (s digits : List ℕ) (head most base : ℕ) : Type 0 where
@@ -38,9 +33,7 @@ pub record EscapesByDigits (s digits : List ℕ) (head most base : ℕ) : Type 0
 module _ (s digits : List ℕ) (head most base : ℕ) (by : EscapesByDigits s digits head most base) (m : ℕ)
     (m_is : m ≡ prefix_len (λ d. is_digit d base) (take most digits)) where
   m_fits : (m ≤ most) × (m ≤ length digits)
-  m_fits =
-      let le = prefix_len-le-length (λ d. is_digit d base) (take most digits) in
-      (omega (arith, length-take most digits, le, m_is), omega (arith, length-take most digits, le, m_is))
+  m_fits = grind (arith, length-take, prefix_len-le-length)
 
   all_written : Writes base (take m digits) (digits_value base (take m digits))
   all_written =
@@ -53,15 +46,7 @@ module _ (s digits : List ℕ) (head most base : ℕ) (by : EscapesByDigits s di
       }
 
   no_more : (j n : ℕ) → j ≤ most → j ≤ length digits → Writes base (take j digits) n → j ≤ m
-  no_more j n at_most within writes =
-      let all : AllPass (λ d. is_digit d base) (take j (take most digits)) =
-      rw (take-take j most digits at_most) writes.digits_of_base in
-      omega (
-        arith,
-        run_longest (λ d. is_digit d base) (take most digits) j
-            (omega (arith, length-take most digits)) all,
-        m_is,
-      )
+  no_more j n at_most within writes = grind (arith, length-take, run_longest, take-take)
 
   pub digits_found : (v : ℕ) → 0 < m → v ≡ digits_value base (take m digits) → v < 256
       → IsAllowedEscape s (head + m) (byte v)
@@ -97,15 +82,11 @@ module _ (s digits : List ℕ) (head most base : ℕ) (by : EscapesByDigits s di
 -- ---- which escapes a byte after the backslash begins
 
 pub no_simple_digit : (c n : ℕ) → is_digit c 8 ≡ true → simple_escape c ≡ Some n → ⊥
-no_simple_digit c n digit simple =
-    let none : simple_escape c ≡ None = grind (arith, nat_tests) in
-    absurd (let e : Some n ≡ None = sym simple ∙ none in cc)
+no_simple_digit c n digit simple = grind (arith, nat_tests)
 
 module _ (digits : List ℕ) (begins_so : begins (λ d. is_digit d 8) digits ≡ true) where
   first_digit : (k : ℕ) → 0 < k → (c : ℕ) (rest : List ℕ) → take k digits ≡ c ∷ rest → is_digit c 8 ≡ true
-  first_digit k pos c rest e =
-      let first = begins_first (λ d. is_digit d 8) digits begins_so in
-      ap (λ d. is_digit d 8) (ap (λ (l : List ℕ). get_or l 0 0) (sym e) ∙ get_or-take k digits 0 0 pos) ∙ first.1
+  first_digit k pos c rest e = grind (arith, common_steps, begins_first, get_or-take)
 
   pub octal_out : (bs : List ℕ) (e : Escaped) (k : ℕ) → bs ≡ take k digits → IsEscape (92 ∷ bs) e → 0 < k
       → (n : ℕ) × (length bs ≤ 3) × (e ≡ byte n) × Writes 8 bs n
@@ -129,28 +110,7 @@ module _ (digits : List ℕ) (begins_so : begins (λ d. is_digit d 8) digits ≡
       ])
 
   pub octal_by_digits : EscapesByDigits (92 ∷ digits) digits 1 3 8
-  octal_by_digits = record {
-    long = omega arith;
-    into = λ j n pos at_most within writes.
-        let same : 1 + j ≡ suc j = omega arith in
-        rw same (inr (inl (
-          take j digits,
-          refl,
-          omega (arith, length-take-le j digits within),
-          omega (arith, length-take-le j digits within),
-          writes,
-        )));
-    out = out;
-  }
-    where
-      out : (k : ℕ) (e : Escaped) → k ≤ length (92 ∷ digits) → IsEscape (take k (92 ∷ digits)) e
-          → (j : ℕ) × (n : ℕ) × (k ≡ 1 + j) × (0 < j) × (j ≤ 3) × (e ≡ byte n) × Writes 8 (take j digits) n
-      out zero e within is = absurd (omega (arith, escape_two [] e is))
-      out (suc j) e within is =
-          let two = escape_two (92 ∷ take j digits) e is in
-          let len = length-take-le j digits (omega arith) in
-          let o = octal_out (take j digits) e j refl is (omega (arith, two, len)) in
-          (j, o.0, omega arith, omega (arith, two, len), omega (arith, o.1, len), o.2, o.3)
+  octal_by_digits = grind (arith, common_steps, escape_two, length-take-le, octal_out)
 
 module _ (x : ℕ) (form : (x ≡ 120) ⊎ (x ≡ 88)) (digits : List ℕ) where
   pub hex_out : (bs : List ℕ) (e : Escaped) → IsEscape (92 ∷ x ∷ bs) e → (n : ℕ) × (0 < length bs) × (length bs ≤ 2)
@@ -243,25 +203,11 @@ module _ (u count : ℕ) (form : ((u ≡ 117) × (count ≡ 4)) ⊎ ((u ≡ 85) 
 
   pub character_found : (n : ℕ) → count ≤ length digits → Writes 16 (take count digits) n → IsScalar n
       → IsAllowedEscape (92 ∷ u ∷ digits) (count + 2) (character n)
-  character_found n within writes scalar =
-      let two : count + 2 ≡ suc (suc count) = omega arith in
-      let len = length-take-le count digits within in
-      let sizes : ((u ≡ 117) × (length (take count digits) ≡ 4)) ⊎ ((u ≡ 85) × (length (take count digits) ≡ 8)) =
-      elim form [ inl f ↦ inl (f.0, omega (arith, f.1, len)) | inr f ↦ inr (f.0, omega (arith, f.1, len)) ] in (
-        record {
-          fits = omega arith;
-          escape_is = rw two (u, take count digits, refl, sizes, writes);
-          longest = λ k other lt fits is. omega (arith, (unicode_at k other fits is).1);
-        },
-        scalar,
-      )
+  character_found n within writes scalar = grind (arith, length-take-le, unicode_at)
 
   pub character_refused : ((n : ℕ) → count ≤ length digits → Writes 16 (take count digits) n → IsScalar n → ⊥)
       → HasNoEscape (92 ∷ u ∷ digits)
-  character_refused none n e allowed =
-      let o = unicode_at n e allowed.0.fits allowed.0.escape_is in
-      let fits = allowed.0.fits in
-      none o.0 (omega (arith, o.1)) o.3 (subst IsAllowed o.2 allowed.1)
+  character_refused none n e allowed = grind (arith, unicode_at)
 
 -- ---- the simple escapes
 
@@ -293,32 +239,18 @@ module _ (c : ℕ) (rest : List ℕ) (no_digit : is_digit c 8 ≡ false) (no_x :
       (o.0, omega (arith, length-take-le j rest (omega arith), o.1), o.2, o.3)
 
   pub simple_found : (n : ℕ) → simple_escape c ≡ Some n → n < 256 → IsAllowedEscape (92 ∷ c ∷ rest) 2 (byte n)
-  simple_found n simple small = (
-    record {
-      fits = omega arith;
-      escape_is = inl (c, refl, simple);
-      longest = λ k other lt fits is. omega (arith, (simple_at k other fits is).1);
-    },
-    small,
-  )
+  simple_found n simple small = grind (arith, simple_at)
 
   pub simple_refused : simple_escape c ≡ None → HasNoEscape (92 ∷ c ∷ rest)
-  simple_refused none n e allowed =
-      let o = simple_at n e allowed.0.fits allowed.0.escape_is in
-      absurd (let f : Some o.0 ≡ None = sym o.3 ∙ none in cc)
+  simple_refused none n e allowed = grind (arith, simple_at)
 
 pub nothing_behind : HasNoEscape (92 ∷ [])
-nothing_behind n e allowed =
-    let two = escape_two (take n (92 ∷ [])) e allowed.0.escape_is in
-    omega (arith, allowed.0.fits, length-take-le {A = ℕ} n (92 ∷ []) allowed.0.fits)
+nothing_behind n e allowed = grind (arith, escape_two, length-take-le)
 
 pub digits_begin : (digits : List ℕ) (most m : ℕ) → begins (λ d. is_digit d 8) digits ≡ true → 0 < most
     → m ≡ prefix_len (λ d. is_digit d 8) (take most digits)
     → 0 < m
-digits_begin digits zero m e pos m_is = absurd (omega arith)
-digits_begin [] (suc most) m e pos m_is = absurd cc
-digits_begin (d ∷ digits) (suc most) m e pos m_is =
-    omega (arith, m_is, run_nonempty (λ d. is_digit d 8) (d ∷ take most digits) e)
+digits_begin digits most m e pos m_is = grind (arith, common_steps, run_nonempty)
 
 -- the byte behind the backslash is none of those that begin a longer escape
 pub record IsSimpleForm (c : ℕ) : Type 0 where
@@ -329,8 +261,7 @@ pub record IsSimpleForm (c : ℕ) : Type 0 where
   pub no_U : c ≢ 85
 
 no_octal : (c : ℕ) → (c < 48) ⊎ (56 ≤ c) → is_digit c 8 ≡ false
-no_octal c (inl below) = grind (arith, nat_tests)
-no_octal c (inr above) = grind (arith, nat_tests)
+no_octal c apart = grind (arith, nat_tests)
 
 pub simple_behind : (after : List ℕ) (c n : ℕ) → Some c ≡ slice_get after 0 → IsSimpleForm c
     → Some n ≡ simple_escape c → n < 256

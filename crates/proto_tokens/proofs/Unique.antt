@@ -1,4 +1,5 @@
 -- A text has one list of tokens or one fault.
+use Rattle.std.proofs.lemmas.Grind.{common_steps}
 use Rattle.std.proofs.Common.{◌≡◌, ◌≢◌, ℕ, zero, suc, ◌+◌, ◌<◌, ◌≤◌, ◌⊎◌, true, false, Option, None, Some, List, [], ◌∷◌, ◌++◌, length, get_or, take, drop, refl, sym, ap, subst, ◌∙◌, inl, inr, arith, length-take-le, length-drop, get_or-take}
 use Rattle.std.specs.List.{AllPass, prefix_len}
 use Rattle.std.specs.Char.{is_digit, is_ascii_digit, is_ascii_graphic}
@@ -11,14 +12,14 @@ use Rattle.std.proofs.lemmas.Bool.Decides.{nat_tests}
 use Rattle.std.proofs.lemmas.List.Elements.{All-head, All-get_or}
 use Rattle.proto_tokens.specs.Bytes.{begins, is_blank, is_quote, is_numeric, is_slash_or_star}
 use Rattle.proto_tokens.specs.Cut.{IsCutInto}
-use Rattle.proto_tokens.specs.Numeral.{Writes, IsNumeral, digits_value}
+use Rattle.proto_tokens.specs.Numeral.{Writes, IsNumeral}
 use Rattle.proto_tokens.specs.Quoted.{Part, IsPart, IsOpened, HasByteAt, IsString, IsStringFault, IsPartFault, is_plain, value_of}
 use Rattle.proto_tokens.specs.Token.{Lexeme, identifier, number, string_literal, punctuation, Spelled}
 use Rattle.proto_tokens.specs.ProgramTokens.{tokens_of}
 use Rattle.proto_tokens.specs.Piece.{IsPiece, IsLongestPiece, IsPieceFault, IsBadNumber, IsTooBig, HasNoClose}
 use Rattle.proto_tokens.specs.Spelling.{Piece, tokens_from, SpellsFrom, HasPieceFault, IsTokenList, IsFault, mark_len}
 use Rattle.proto_tokens.specs.Told.{IsFaultOf, TellsFault}
-use Rattle.proto_tokens.specs.Escape.{Escaped, byte, character, simple_escape, IsEscape, escaped_bytes}
+use Rattle.proto_tokens.specs.Escape.{Escaped, byte, character, simple_escape, IsEscape}
 use Rattle.proto_tokens.specs.declared.token.Tokens.{Tokens}
 use Rattle.std.specs.Prelude.{Result, Ok, Err, MatchResult, IsErrAnd}
 use Rattle.proto_tokens.specs.declared.token.TokenError.{TokenError}
@@ -31,56 +32,20 @@ use Rattle.proto_tokens.proofs.Pieces.{Starts, starts, numeral_numeric, slash_al
 -- ---- numerals
 
 x_no_digit : (x : ℕ) (digits ds : List ℕ) (n : ℕ) → (x ≡ 120) ⊎ (x ≡ 88) → x ∷ digits ≡ ds → Writes 8 ds n → ⊥
-x_no_digit x digits ds n form same writes =
-    let digit = All-head (λ d. is_digit d 8 ≡ true) x digits
-    (subst (λ (l : List ℕ). AllPass (λ d. is_digit d 8) l) (sym same) writes.digits_of_base) in
-    elim form [ inl e ↦ grind (arith, nat_tests) | inr e ↦ grind (arith, nat_tests) ]
+x_no_digit x digits ds n form same writes = grind (arith, All-head, nat_tests)
 
 numeral_one : (bs : List ℕ) (m n : ℕ) → IsNumeral bs m → IsNumeral bs n → m ≡ n
-numeral_one bs m n (inl a) (inl b) =
-    let same : a.1 ≡ b.1 = let e : 48 ∷ a.0 ∷ a.1 ≡ 48 ∷ b.0 ∷ b.1 = sym a.2 ∙ b.2 in cc in
-    a.5.value ∙ ap (digits_value 16) same ∙ sym b.5.value
-numeral_one bs m n (inl a) (inr (inl b)) =
-    let same : a.0 ∷ a.1 ≡ b.0 = let e : 48 ∷ a.0 ∷ a.1 ≡ 48 ∷ b.0 = sym a.2 ∙ b.1 in cc in
-    absurd (x_no_digit a.0 a.1 b.0 n a.3 same b.2)
-numeral_one bs m n (inl a) (inr (inr b)) =
-    let first : 48 ≡ b.0 = let e : 48 ∷ a.0 ∷ a.1 ≡ b.0 ∷ b.1 = sym a.2 ∙ b.2 in cc in
-    absurd (omega (arith, b.3.0, first))
-numeral_one bs m n (inr (inl a)) (inl b) =
-    let same : b.0 ∷ b.1 ≡ a.0 = let e : 48 ∷ b.0 ∷ b.1 ≡ 48 ∷ a.0 = sym b.2 ∙ a.1 in cc in
-    absurd (x_no_digit b.0 b.1 a.0 m b.3 same a.2)
-numeral_one bs m n (inr (inl a)) (inr (inl b)) =
-    let same : a.0 ≡ b.0 = let e : 48 ∷ a.0 ≡ 48 ∷ b.0 = sym a.1 ∙ b.1 in cc in
-    a.2.value ∙ ap (digits_value 8) same ∙ sym b.2.value
-numeral_one bs m n (inr (inl a)) (inr (inr b)) =
-    let first : 48 ≡ b.0 = let e : 48 ∷ a.0 ≡ b.0 ∷ b.1 = sym a.1 ∙ b.2 in cc in absurd (omega (arith, b.3.0, first))
-numeral_one bs m n (inr (inr a)) (inl b) =
-    let first : 48 ≡ a.0 = let e : 48 ∷ b.0 ∷ b.1 ≡ a.0 ∷ a.1 = sym b.2 ∙ a.2 in cc in
-    absurd (omega (arith, a.3.0, first))
-numeral_one bs m n (inr (inr a)) (inr (inl b)) =
-    let first : 48 ≡ a.0 = let e : 48 ∷ b.0 ≡ a.0 ∷ a.1 = sym b.1 ∙ a.2 in cc in absurd (omega (arith, a.3.0, first))
-numeral_one bs m n (inr (inr a)) (inr (inr b)) = a.4.value ∙ sym b.4.value
+numeral_one bs m n a b = grind (arith, x_no_digit)
 
 -- ---- escapes
 
 simple_no_form : (c n : ℕ) → simple_escape c ≡ Some n → (is_digit c 8 ≡ false) × (c ≢ 120) × (c ≢ 88)
     × (c ≢ 117) × (c ≢ 85)
-simple_no_form c n e = (
-  false_from_ne_true (is_digit c 8) (λ digit. no_simple_digit c n digit e),
-  (λ same. let none : simple_escape c ≡ None = ap simple_escape same in let f : Some n ≡ None = sym e ∙ none in
-      absurd cc),
-  (λ same. let none : simple_escape c ≡ None = ap simple_escape same in let f : Some n ≡ None = sym e ∙ none in
-      absurd cc),
-  (λ same. let none : simple_escape c ≡ None = ap simple_escape same in let f : Some n ≡ None = sym e ∙ none in
-      absurd cc),
-  (λ same. let none : simple_escape c ≡ None = ap simple_escape same in let f : Some n ≡ None = sym e ∙ none in
-      absurd cc),
-)
+simple_no_form c n e = grind (arith, common_steps, false_from_ne_true, no_simple_digit)
 
 octal_begins : (digits : List ℕ) (n : ℕ) → 0 < length digits → Writes 8 digits n
     → begins (λ d. is_digit d 8) digits ≡ true
-octal_begins [] n long writes = absurd (omega arith)
-octal_begins (d ∷ digits) n long writes = All-head (λ d. is_digit d 8 ≡ true) d digits writes.digits_of_base
+octal_begins digits n long writes = grind (arith, All-head)
 
 escape_one : (bs : List ℕ) (d e : Escaped) → IsEscape bs d → IsEscape bs e → d ≡ e
 escape_one bs (byte m) e (inl simple) other =
@@ -132,20 +97,7 @@ same_part : (p q : Part) → p.len ≡ q.len → p.value ≡ q.value → p ≡ q
 same_part p q len value = λ i. record { len = len i; value = value i }
 
 part_one : (quote : ℕ) (s : List ℕ) (p q : Part) → IsPart quote s p → IsPart quote s q → p ≡ q
-part_one quote s p q (inl a) (inl b) =
-    let first : a.0 ≡ b.0 = let e : a.0 ∷ a.1 ≡ b.0 ∷ b.1 = sym a.2 ∙ b.2 in cc in
-    same_part p q (a.4 ∙ sym b.4) (a.5 ∙ ap (λ c. c ∷ []) first ∙ sym b.5)
-part_one quote s p q (inl a) (inr b) =
-    let backslash = escape_first s a.0 a.1 q.len b.0 a.2 b.1 in
-    absurd (both_ways (is_plain quote a.0) (not_plain quote a.0 backslash) a.3)
-part_one quote s p q (inr a) (inl b) =
-    let backslash = escape_first s b.0 b.1 p.len a.0 b.2 a.1 in
-    absurd (both_ways (is_plain quote b.0) (not_plain quote b.0 backslash) b.3)
-part_one quote s p q (inr a) (inr b) =
-    let len = same_longest s p.len q.len a.0 b.0 a.1.0 b.1.0 in
-    let e = escape_one (take q.len s) a.0 b.0 (subst (λ (n : ℕ). IsEscape (take n s) a.0) len a.1.0.escape_is)
-    b.1.0.escape_is in
-    same_part p q len (a.2 ∙ ap escaped_bytes e ∙ sym b.2)
+part_one quote s p q a b = grind (arith, both_ways, escape_first, escape_one, not_plain, same_longest, same_part)
 
 -- ---- strings
 
@@ -175,17 +127,7 @@ string_one s m n v w a b =
 
 no_part_at_end : (quote : ℕ) (after : List ℕ) (end : ℕ) (p : Part) → length after ≤ end
     → IsPart quote (drop end after) p → ⊥
-no_part_at_end quote after end p le (inl plain) = let e : 0 ≡ suc (length plain.1) =
-    ap length (sym (drop_all end after le) ∙ plain.2) in omega arith
-no_part_at_end quote after end p le (inr escape) =
-    let long = (escape_begins (take p.len (drop end after)) escape.0 escape.1.0.escape_is).0 in
-    omega (
-      arith,
-      long,
-      length-take-le p.len (drop end after) escape.1.0.fits,
-      escape.1.0.fits,
-      ap length (drop_all end after le),
-    )
+no_part_at_end quote after end p le is = grind (arith, drop_all, escape_begins, length-take-le)
 
 no_part_at_byte : (quote : ℕ) (after : List ℕ) (end b : ℕ) → HasByteAt after end b → is_plain quote b ≡ false
     → (b ≡ 92 → ⊥) → (p : Part)
@@ -214,16 +156,7 @@ no_part_at_fault quote after parts end at kind quote_is (inr (inr (inr open_))) 
 not_closed : (quote : ℕ) (after : List ℕ) (parts : List Part) (end at : ℕ) (kind : Kind) → is_quote quote ≡ true
     → IsPartFault quote after parts end at kind
     → HasByteAt after end quote → IsUtf8 (value_of parts) → ⊥
-not_closed quote after parts end at kind quote_is (inl escape) closes utf8 = let e : quote ≡ 92 =
-    sym closes.1 ∙ escape.2.1 in grind (arith, nat_tests)
-not_closed quote after parts end at kind quote_is (inr (inl closed)) closes utf8 = closed.3 utf8
-not_closed quote after parts end at kind quote_is (inr (inr (inl zero_byte))) closes utf8 =
-    let e : quote ≡ 0 = sym closes.1 ∙ zero_byte.2.1 in grind (arith, nat_tests)
-not_closed quote after parts end at kind quote_is (inr (inr (inr open_))) closes utf8 =
-    elim open_.2 [
-      | inl ends ↦ omega (arith, closes.0)
-      | inr line ↦ (let e : quote ≡ 10 = sym closes.1 ∙ line.1 in grind (arith, nat_tests))
-    ]
+not_closed quote after parts end at kind quote_is fault closes utf8 = grind (arith, nat_tests)
 
 -- a string with a fault is no string
 no_string : (s : List ℕ) (n at : ℕ) (v : List ℕ) (kind : Kind) → IsString s n v → IsStringFault s at kind → ⊥
@@ -293,13 +226,7 @@ same_piece : (p q : Piece) → p.len ≡ q.len → p.is ≡ q.is → p ≡ q
 same_piece p q len is = λ i. record { len = len i; is = is i }
 
 longest_one : (s : List ℕ) (p q : Piece) → IsLongestPiece s p.len p.is → IsLongestPiece s q.len q.is → p ≡ q
-longest_one s p q a b =
-    let fits_a = a.fits in
-    let fits_b = b.fits in
-    let no_less : p.len < q.len → ⊥ = λ lt. a.longest q.len q.is lt b.fits b.piece_is in
-    let no_more : q.len < p.len → ⊥ = λ lt. b.longest p.len p.is lt a.fits a.piece_is in
-    let len : p.len ≡ q.len = omega (arith, no_less, no_more) in
-    same_piece p q len (piece_one s q.len p.is q.is (subst (λ (n : ℕ). IsPiece s n p.is) len a.piece_is) b.piece_is)
+longest_one s p q a b = grind (arith, piece_one, same_piece)
 
 -- ---- whole texts
 
@@ -328,17 +255,7 @@ PartFaultCase quote after end at kind =
 part_fault_case : (quote : ℕ) (after : List ℕ) (parts : List Part) (end at : ℕ) (kind : Kind)
     → IsPartFault quote after parts end at kind
     → PartFaultCase quote after end at kind
-part_fault_case quote after parts end at kind (inl escape) = inl (escape.2, escape.0, escape.1)
-part_fault_case quote after parts end at kind (inr (inl closed)) = inr (inl (closed.2, closed.0, closed.1))
-part_fault_case quote after parts end at kind (inr (inr (inl zero_byte))) =
-    inr (inr (inl (zero_byte.2, zero_byte.0, zero_byte.1)))
-part_fault_case quote after parts end at kind (inr (inr (inr open_))) =
-    inr (inr
-    (inr (
-      (λ b here. elim open_.2 [ inl ends ↦ absurd (omega (arith, here.0)) | inr line ↦ sym here.1 ∙ line.1 ]),
-      open_.0,
-      open_.1,
-    )))
+part_fault_case quote after parts end at kind fault = grind arith
 
 same_byte : (after : List ℕ) (end b c : ℕ) → HasByteAt after end b → HasByteAt after end c → b ≡ c
 same_byte after end b c x y = sym x.1 ∙ y.1
@@ -349,32 +266,7 @@ quote_other quote b e same other = both_ways (is_quote b) other (sym (ap is_quot
 part_fault_one : (quote : ℕ) (after : List ℕ) (end m n : ℕ) (j k : Kind) → is_quote quote ≡ true
     → PartFaultCase quote after end m j
     → PartFaultCase quote after end n k → (m ≡ n) × (j ≡ k)
-part_fault_one quote after end m n j k q (inl a) (inl b) = (a.2 ∙ sym b.2, a.1 ∙ sym b.1)
-part_fault_one quote after end m n j k q (inl a) (inr (inl b)) =
-    absurd (quote_other quote 92 q (same_byte after end quote 92 b.0 a.0) refl)
-part_fault_one quote after end m n j k q (inl a) (inr (inr (inl b))) = let e = same_byte after end 92 0 a.0 b.0 in
-    absurd (omega arith)
-part_fault_one quote after end m n j k q (inl a) (inr (inr (inr b))) = let e = b.0 92 a.0 in absurd (omega arith)
-part_fault_one quote after end m n j k q (inr (inl a)) (inl b) =
-    absurd (quote_other quote 92 q (same_byte after end quote 92 a.0 b.0) refl)
-part_fault_one quote after end m n j k q (inr (inl a)) (inr (inl b)) = (a.2 ∙ sym b.2, a.1 ∙ sym b.1)
-part_fault_one quote after end m n j k q (inr (inl a)) (inr (inr (inl b))) =
-    absurd (quote_other quote 0 q (same_byte after end quote 0 a.0 b.0) refl)
-part_fault_one quote after end m n j k q (inr (inl a)) (inr (inr (inr b))) =
-    absurd (quote_other quote 10 q (b.0 quote a.0) refl)
-part_fault_one quote after end m n j k q (inr (inr (inl a))) (inl b) = let e = same_byte after end 92 0 b.0 a.0 in
-    absurd (omega arith)
-part_fault_one quote after end m n j k q (inr (inr (inl a))) (inr (inl b)) =
-    absurd (quote_other quote 0 q (same_byte after end quote 0 b.0 a.0) refl)
-part_fault_one quote after end m n j k q (inr (inr (inl a))) (inr (inr (inl b))) = (a.2 ∙ sym b.2, a.1 ∙ sym b.1)
-part_fault_one quote after end m n j k q (inr (inr (inl a))) (inr (inr (inr b))) = let e = b.0 0 a.0 in
-    absurd (omega arith)
-part_fault_one quote after end m n j k q (inr (inr (inr a))) (inl b) = let e = a.0 92 b.0 in absurd (omega arith)
-part_fault_one quote after end m n j k q (inr (inr (inr a))) (inr (inl b)) =
-    absurd (quote_other quote 10 q (a.0 quote b.0) refl)
-part_fault_one quote after end m n j k q (inr (inr (inr a))) (inr (inr (inl b))) = let e = a.0 0 b.0 in
-    absurd (omega arith)
-part_fault_one quote after end m n j k q (inr (inr (inr a))) (inr (inr (inr b))) = (a.2 ∙ sym b.2, a.1 ∙ sym b.1)
+part_fault_one quote after end m n j k q a b = grind (arith, quote_other, same_byte)
 
 string_fault_one : (s : List ℕ) (m n : ℕ) (j k : Kind) → IsStringFault s m j → IsStringFault s n k → (m ≡ n) × (j ≡ k)
 string_fault_one s m n j k a b =
@@ -408,12 +300,7 @@ too_big_digit s big =
     ap is_ascii_digit (sym (get_or-take big.0 s 0 0 pos)) ∙ first.1
 
 piece_fault_case : (s : List ℕ) (at : ℕ) (kind : Kind) → IsPieceFault s at kind → PieceFaultCase s at kind
-piece_fault_case s at kind (inl bad) = inl (bad.2.1, bad.2.2, bad.0, bad.1)
-piece_fault_case s at kind (inr (inl bad)) = inr (inl ((begins_first is_ascii_digit s bad.2.0).1, bad.2, bad.0, bad.1))
-piece_fault_case s at kind (inr (inr (inl big))) = inr (inr (inl (too_big_digit s big.2, big.2, big.0, big.1)))
-piece_fault_case s at kind (inr (inr (inr (inl open_)))) =
-    inr (inr (inr (inl (open_.2.0, open_.2.1, open_.2.2, open_.0, open_.1))))
-piece_fault_case s at kind (inr (inr (inr (inr fault)))) = inr (inr (inr (inr (fault_quote s at kind fault, fault))))
+piece_fault_case s at kind fault = grind (arith, begins_first, fault_quote, too_big_digit)
 
 no_number_both : (s : List ℕ) → IsBadNumber s → IsTooBig s → ⊥
 no_number_both s bad big = both_ways (begins is_numeric (drop big.0 s)) big.4 (bad.1 big.0 big.1 big.2 big.3)
@@ -441,12 +328,7 @@ apart_slash_quote : (b : ℕ) → b ≡ 47 → is_quote b ≡ true → ⊥
 apart_slash_quote b e f = grind (arith, nat_tests)
 
 no_start : (w : Option Lexeme) (b : ℕ) → is_blank b ≡ false → is_ascii_graphic b ≡ false → Starts w b → ⊥
-no_start None b e f (inl blank) = both_ways (is_blank b) e blank
-no_start None b e f (inr slash) = grind (arith, nat_tests)
-no_start (Some (identifier name)) b e f g = grind (arith, nat_tests)
-no_start (Some (number v)) b e f g = grind (arith, nat_tests)
-no_start (Some (string_literal v)) b e f g = grind (arith, nat_tests)
-no_start (Some (punctuation c)) b e f g = grind (arith, nat_tests)
+no_start w b e f g = grind (arith, both_ways, nat_tests)
 
 no_lone_slash : (rest : List ℕ) (n c : ℕ) → n ≤ length (47 ∷ 42 ∷ rest)
     → IsPiece (47 ∷ 42 ∷ rest) n (Some (punctuation c)) → ⊥
@@ -456,19 +338,7 @@ no_lone_slash rest (suc zero) c within is = let e : c ≡ 47 = let f : 47 ∷ []
 no_lone_slash rest (suc (suc n)) c within is = let e : 47 ∷ 42 ∷ take n rest ≡ c ∷ [] = is.0 in absurd cc
 
 fault_long : (s : List ℕ) (at : ℕ) (kind : Kind) → IsPieceFault s at kind → s ≡ [] → ⊥
-fault_long s at kind (inl bad) empty = omega (arith, bad.2.0, ap length empty)
-fault_long s at kind (inr (inl bad)) empty = omega (arith, (begins_first is_ascii_digit s bad.2.0).0, ap length empty)
-fault_long s at kind (inr (inr (inl big))) empty = omega (
-  arith,
-  (begins_first is_ascii_digit (take big.2.0 s) (numeral_numeric (take big.2.0 s) big.2.1 big.2.3).1).0,
-  length-take-le big.2.0 s big.2.2,
-  big.2.2,
-  ap length empty,
-)
-fault_long s at kind (inr (inr (inr (inl open_)))) empty = let e : 0 ≡ suc (suc (length open_.2.0)) =
-    ap length (sym empty ∙ open_.2.1) in omega arith
-fault_long s at kind (inr (inr (inr (inr fault)))) empty = let e : 0 ≡ suc (length fault.1) =
-    ap length (sym empty ∙ fault.4.begins_so) in omega arith
+fault_long s at kind fault empty = grind (arith, begins_first, length-take-le, numeral_numeric)
 
 fault_case_one : (s : List ℕ) (m n : ℕ) (j k : Kind) → PieceFaultCase s m j → PieceFaultCase s n k → (m ≡ n) × (j ≡ k)
 fault_case_one s m n j k (inl a) (inl b) = (a.3 ∙ sym b.3, a.2 ∙ sym b.2)
@@ -514,11 +384,7 @@ piece_fault_one s m n j k a b = fault_case_one s m n j k (piece_fault_case s m j
 -- a prefix of numeric bytes that no such byte follows is the whole run
 whole_run : (s : List ℕ) (k : ℕ) → k ≤ length s → AllPass is_numeric (take k s) → begins is_numeric (drop k s) ≡ false
     → k ≡ prefix_len is_numeric s
-whole_run s k within all stops =
-    let le = run_longest is_numeric s k within all in
-    let no_less : k < prefix_len is_numeric s
-    → ⊥ = λ lt. both_ways (begins is_numeric (drop k s)) stops (within_run is_numeric s k lt) in
-    omega (arith, le, no_less)
+whole_run s k within all stops = grind (arith, both_ways, run_longest, within_run)
 
 no_small_number : (s : List ℕ) (n v : ℕ) → n ≤ length s → IsTooBig s → IsPiece s n (Some (number v)) → ⊥
 no_small_number s n v within big is =
