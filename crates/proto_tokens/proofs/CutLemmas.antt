@@ -31,9 +31,23 @@ piece_nonempty s n piece is = omega (arith, (starts s n piece is.piece_is).0, le
 pub cut_more : {P : Type 0} (IsPart : List ℕ → P → Type 0) (len : P → ℕ) (s : List ℕ) (from : ℕ) (ps : List P)
     (to : ℕ) (p : P)
     → IsCutInto IsPart len s from ps to → IsPart (drop to s) p → IsCutInto IsPart len s from (ps ++ p ∷ []) (to + len p)
-cut_more IsPart len s from [] to p cut is =
-    (subst (λ (i : ℕ). IsPart (drop i s) p) (sym cut) is, ap (λ i. i + len p) cut)
+cut_more IsPart len s from [] to p cut is = grind arith
 cut_more IsPart len s from (q ∷ ps) to p cut is = (cut.0, cut_more IsPart len s (from + len q) ps to p cut.1 is)
+
+-- where one part at most stands at a place, a text has one cutting that can't go on
+pub cut_one : {P : Type 0} (IsPart : List ℕ → P → Type 0) (len : P → ℕ)
+    → ((s : List ℕ) (p q : P) → IsPart s p → IsPart s q → p ≡ q)
+    → (s : List ℕ) (from : ℕ) (ps qs : List P) (m n : ℕ) → IsCutInto IsPart len s from ps m
+    → IsCutInto IsPart len s from qs n
+    → ((p : P) → IsPart (drop m s) p → ⊥) → ((p : P) → IsPart (drop n s) p → ⊥) → (ps ≡ qs) × (m ≡ n)
+cut_one IsPart len one s from [] [] m n a b no_m no_n = (refl, sym a ∙ b)
+cut_one IsPart len one s from [] (q ∷ qs) m n a b no_m no_n = grind arith
+cut_one IsPart len one s from (p ∷ ps) [] m n a b no_m no_n = grind arith
+cut_one {P} IsPart len one s from (p ∷ ps) (q ∷ qs) m n a b no_m no_n =
+    let same = one (drop from s) p q a.0 b.0 in
+    let rest = cut_one IsPart len one s (from + len p) ps qs m n a.1
+    (subst (λ (r : P). IsCutInto IsPart len s (from + len r) qs n) (sym same) b.1) no_m no_n in
+    ((λ i. same i ∷ rest.0 i), rest.1)
 
 with_token-append : (piece : Option Lexeme) (start end : ℕ) (ts us : List Spelled)
     → with_token piece start end (ts ++ us) ≡ with_token piece start end ts ++ us

@@ -4,9 +4,9 @@ use Rattle.std.proofs.Common.{◌≡◌, ◌≢◌, ℕ, zero, suc, ◌+◌, ◌
 use Rattle.std.specs.Prelude.{slice_get}
 use Rattle.std.specs.List.{AllPass, prefix_len}
 use Rattle.std.specs.Char.{is_digit, IsScalar}
-use Rattle.std.proofs.lemmas.Bool.{both_ways}
+use Rattle.std.proofs.lemmas.Bool.{both_ways, false_from_ne_true}
 use Rattle.std.proofs.lemmas.Bool.Decides.{nat_tests}
-use Rattle.std.proofs.lemmas.List.{take-take, length-take}
+use Rattle.std.proofs.lemmas.List.{take_all, take-take, length-take}
 use Rattle.std.proofs.lemmas.List.Sums.{prefix_len-le-length}
 use Rattle.std.proofs.lemmas.List.Elements.{All-head}
 use Rattle.proto_tokens.specs.Bytes.{begins}
@@ -93,9 +93,7 @@ module _ (digits : List ℕ) (begins_so : begins (λ d. is_digit d 8) digits ≡
   octal_out bs (byte n) k bs_is (inl simple) pos =
       let alone : bs ≡ simple.0 ∷ [] = let e : 92 ∷ bs ≡ 92 ∷ simple.0 ∷ [] = simple.1 in cc in
       absurd (no_simple_digit simple.0 n (first_digit k pos simple.0 [] (sym bs_is ∙ alone)) simple.2)
-  octal_out bs (byte n) k bs_is (inr (inl octal)) pos =
-      let same : bs ≡ octal.0 = let e : 92 ∷ bs ≡ 92 ∷ octal.0 = octal.1 in cc in
-      (n, omega (arith, ap length same, octal.3), refl, rw same octal.4)
+  octal_out bs (byte n) k bs_is (inr (inl octal)) pos = grind arith
   octal_out bs (byte n) k bs_is (inr (inr hex)) pos =
       let same : bs ≡ hex.0 ∷ hex.1 = let e : 92 ∷ bs ≡ 92 ∷ hex.0 ∷ hex.1 = hex.2 in cc in
       let digit = first_digit k pos hex.0 hex.1 (sym bs_is ∙ same) in
@@ -115,25 +113,14 @@ module _ (digits : List ℕ) (begins_so : begins (λ d. is_digit d 8) digits ≡
 module _ (x : ℕ) (form : (x ≡ 120) ⊎ (x ≡ 88)) (digits : List ℕ) where
   pub hex_out : (bs : List ℕ) (e : Escaped) → IsEscape (92 ∷ x ∷ bs) e → (n : ℕ) × (0 < length bs) × (length bs ≤ 2)
       × (e ≡ byte n) × Writes 16 bs n
-  hex_out bs (byte n) (inl simple) =
-      let same : x ≡ simple.0 = let e : 92 ∷ x ∷ bs ≡ 92 ∷ simple.0 ∷ [] = simple.1 in cc in
-      let none : simple_escape x ≡ None = elim form [ inl e ↦ ap simple_escape e | inr e ↦ ap simple_escape e ] in
-      absurd (let e : Some n ≡ None = sym simple.2 ∙ ap simple_escape (sym same) ∙ none in cc)
+  hex_out bs (byte n) (inl simple) = grind arith
   hex_out bs (byte n) (inr (inl octal)) =
       let same : x ∷ bs ≡ octal.0 = let e : 92 ∷ x ∷ bs ≡ 92 ∷ octal.0 = octal.1 in cc in
       let digit = All-head (λ d. is_digit d 8 ≡ true) x bs
       (subst (λ (l : List ℕ). AllPass (λ d. is_digit d 8) l) (sym same) octal.4.digits_of_base) in
       absurd (elim form [ inl e ↦ grind (arith, nat_tests) | inr e ↦ grind (arith, nat_tests) ])
-  hex_out bs (byte n) (inr (inr hex)) =
-      let same : bs ≡ hex.1 = let e : 92 ∷ x ∷ bs ≡ 92 ∷ hex.0 ∷ hex.1 = hex.2 in cc in
-      (n, omega (arith, ap length same, hex.4), omega (arith, ap length same, hex.5), refl, rw same hex.6)
-  hex_out bs (character n) unicode =
-      let same : x ≡ unicode.0 = let e : 92 ∷ x ∷ bs ≡ 92 ∷ unicode.0 ∷ unicode.1 = unicode.2 in cc in
-      absurd (elim form [
-        | inl e ↦ elim unicode.3 [ inl u ↦ omega (arith, u.0) | inr u ↦ omega (arith, u.0) ]
-        | inr e ↦
-            elim unicode.3 [ inl u ↦ omega (arith, u.0) | inr u ↦ omega (arith, u.0) ]
-      ])
+  hex_out bs (byte n) (inr (inr hex)) = grind arith
+  hex_out bs (character n) unicode = grind arith
 
   pub hex_by_digits : EscapesByDigits (92 ∷ x ∷ digits) digits 2 2 16
   hex_by_digits = record {
@@ -167,39 +154,20 @@ module _ (u count : ℕ) (form : ((u ≡ 117) × (count ≡ 4)) ⊎ ((u ≡ 85) 
 
   pub unicode_out : (bs : List ℕ) (e : Escaped) → IsEscape (92 ∷ u ∷ bs) e
       → (n : ℕ) × (length bs ≡ count) × (e ≡ character n) × Writes 16 bs n
-  unicode_out bs (byte n) (inl simple) =
-      let same : u ≡ simple.0 = let e : 92 ∷ u ∷ bs ≡ 92 ∷ simple.0 ∷ [] = simple.1 in cc in
-      let none : simple_escape u ≡ None = elim u_is [ inl e ↦ ap simple_escape e | inr e ↦ ap simple_escape e ] in
-      absurd (let e : Some n ≡ None = sym simple.2 ∙ ap simple_escape (sym same) ∙ none in cc)
+  unicode_out bs (byte n) (inl simple) = grind (arith, u_is)
   unicode_out bs (byte n) (inr (inl octal)) =
       let same : u ∷ bs ≡ octal.0 = let e : 92 ∷ u ∷ bs ≡ 92 ∷ octal.0 = octal.1 in cc in
       let digit = All-head (λ d. is_digit d 8 ≡ true) u bs
       (subst (λ (l : List ℕ). AllPass (λ d. is_digit d 8) l) (sym same) octal.4.digits_of_base) in
       absurd (elim u_is [ inl e ↦ grind (arith, nat_tests) | inr e ↦ grind (arith, nat_tests) ])
-  unicode_out bs (byte n) (inr (inr hex)) =
-      let same : u ≡ hex.0 = let e : 92 ∷ u ∷ bs ≡ 92 ∷ hex.0 ∷ hex.1 = hex.2 in cc in
-      absurd (elim u_is [
-        | inl e ↦ elim hex.3 [ inl x ↦ omega arith | inr x ↦ omega arith ]
-        | inr e ↦ elim hex.3 [ inl x ↦ omega arith | inr x ↦ omega arith ]
-      ])
-  unicode_out bs (character n) unicode =
-      let first : u ≡ unicode.0 = let e : 92 ∷ u ∷ bs ≡ 92 ∷ unicode.0 ∷ unicode.1 = unicode.2 in cc in
-      let same : bs ≡ unicode.1 = let e : 92 ∷ u ∷ bs ≡ 92 ∷ unicode.0 ∷ unicode.1 = unicode.2 in cc in
-      let len : length unicode.1 ≡ count = elim form [
-        | inl f ↦ elim unicode.3 [ inl g ↦ omega (arith, f, g) | inr g ↦ omega (arith, f, g) ]
-        | inr f ↦
-            elim unicode.3 [ inl g ↦ omega (arith, f, g) | inr g ↦ omega (arith, f, g) ]
-      ] in
-      (n, ap length same ∙ len, refl, rw same unicode.4)
+  unicode_out bs (byte n) (inr (inr hex)) = grind (arith, u_is)
+  unicode_out bs (character n) unicode = grind arith
 
   unicode_at : (k : ℕ) (e : Escaped) → k ≤ length (92 ∷ u ∷ digits) → IsEscape (take k (92 ∷ u ∷ digits)) e
       → (n : ℕ) × (k ≡ count + 2) × (e ≡ character n) × Writes 16 (take count digits) n
   unicode_at zero e within is = absurd (omega (arith, escape_two [] e is))
   unicode_at (suc zero) e within is = absurd (omega (arith, escape_two (92 ∷ []) e is))
-  unicode_at (suc (suc j)) e within is =
-      let o = unicode_out (take j digits) e is in
-      let same : j ≡ count = omega (arith, length-take-le j digits (omega arith), o.1) in
-      (o.0, omega arith, o.2, subst (λ i. Writes 16 (take i digits) o.0) same o.3)
+  unicode_at (suc (suc j)) e within is = grind (arith, length-take-le, unicode_out)
 
   pub character_found : (n : ℕ) → count ≤ length digits → Writes 16 (take count digits) n → IsScalar n
       → IsAllowedEscape (92 ∷ u ∷ digits) (count + 2) (character n)
@@ -223,20 +191,14 @@ module _ (c : ℕ) (rest : List ℕ) (no_digit : is_digit c 8 ≡ false) (no_x :
       let same : c ∷ bs ≡ octal.0 = let e : 92 ∷ c ∷ bs ≡ 92 ∷ octal.0 = octal.1 in cc in
       absurd (both_ways (is_digit c 8) no_digit (All-head (λ d. is_digit d 8 ≡ true) c bs
       (subst (λ (l : List ℕ). AllPass (λ d. is_digit d 8) l) (sym same) octal.4.digits_of_base)))
-  simple_out bs (byte n) (inr (inr hex)) =
-      let same : c ≡ hex.0 = let e : 92 ∷ c ∷ bs ≡ 92 ∷ hex.0 ∷ hex.1 = hex.2 in cc in
-      absurd (elim hex.3 [ inl x ↦ no_x (same ∙ x) | inr x ↦ no_X (same ∙ x) ])
-  simple_out bs (character n) unicode =
-      let same : c ≡ unicode.0 = let e : 92 ∷ c ∷ bs ≡ 92 ∷ unicode.0 ∷ unicode.1 = unicode.2 in cc in
-      absurd (elim unicode.3 [ inl g ↦ no_u (same ∙ g.0) | inr g ↦ no_U (same ∙ g.0) ])
+  simple_out bs (byte n) (inr (inr hex)) = grind arith
+  simple_out bs (character n) unicode = grind arith
 
   simple_at : (k : ℕ) (e : Escaped) → k ≤ length (92 ∷ c ∷ rest) → IsEscape (take k (92 ∷ c ∷ rest)) e
       → (n : ℕ) × (k ≡ 2) × (e ≡ byte n) × (simple_escape c ≡ Some n)
   simple_at zero e within is = absurd (omega (arith, escape_two [] e is))
   simple_at (suc zero) e within is = absurd (omega (arith, escape_two (92 ∷ []) e is))
-  simple_at (suc (suc j)) e within is =
-      let o = simple_out (take j rest) e is in
-      (o.0, omega (arith, length-take-le j rest (omega arith), o.1), o.2, o.3)
+  simple_at (suc (suc j)) e within is = grind (arith, length-take-le, simple_out)
 
   pub simple_found : (n : ℕ) → simple_escape c ≡ Some n → n < 256 → IsAllowedEscape (92 ∷ c ∷ rest) 2 (byte n)
   simple_found n simple small = grind (arith, simple_at)
@@ -275,6 +237,26 @@ simple_behind (b ∷ after) c n at form simple small =
 pub none_behind : (after : List ℕ) (c : ℕ) → Some c ≡ slice_get after 0 → IsSimpleForm c → None ≡ simple_escape c
     → HasNoEscape (92 ∷ after)
 none_behind [] c at form none = absurd cc
-none_behind (b ∷ after) c at form none =
-    let same : c ≡ b = cc in
-    rw (← same) (simple_refused c after (no_octal c form.no_digit) form.no_x form.no_X form.no_u form.no_U (sym none))
+none_behind (b ∷ after) c at form none = grind (arith, no_octal, simple_refused)
+
+-- ---- one escape alone
+
+simple_no_form : (c n : ℕ) → simple_escape c ≡ Some n → (is_digit c 8 ≡ false) × (c ≢ 120) × (c ≢ 88)
+    × (c ≢ 117) × (c ≢ 85)
+simple_no_form c n e = grind (arith, common_steps, false_from_ne_true, no_simple_digit)
+
+octal_begins : (digits : List ℕ) (n : ℕ) → 0 < length digits → Writes 8 digits n
+    → begins (λ d. is_digit d 8) digits ≡ true
+octal_begins digits n long writes = grind (arith, All-head)
+
+pub escape_one : (bs : List ℕ) (d e : Escaped) → IsEscape bs d → IsEscape bs e → d ≡ e
+escape_one bs (byte m) e (inl simple) other = grind (arith, nat_tests, simple_no_form, simple_out)
+escape_one bs (byte m) e (inr (inl octal)) other =
+    let digits = octal.0 in
+    let all : digits ≡ take (length digits) digits = sym (take_all (length digits) digits (omega arith)) in
+    let o =
+    octal_out digits (octal_begins digits m octal.2 octal.4) digits e (length digits) all
+    (subst (λ (l : List ℕ). IsEscape l e) octal.1 other) octal.2 in
+    grind arith
+escape_one bs (byte m) e (inr (inr hex)) other = grind (arith, hex_out)
+escape_one bs (character m) e unicode other = grind (arith, unicode_out)

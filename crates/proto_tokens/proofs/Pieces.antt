@@ -39,22 +39,9 @@ digits_numeric base ds n small w = grind (arith, common_steps, All-weaker, digit
 
 -- a numeral is letters and digits, and begins with a digit
 pub numeral_numeric : (bs : List ℕ) (n : ℕ) → IsNumeral bs n → AllPass is_numeric bs × (begins is_ascii_digit bs ≡ true)
-numeral_numeric bs n (inl hex) =
-    let x_numeric : is_numeric hex.0 ≡ true = elim hex.3 [ inl e ↦ ap is_numeric e | inr e ↦ ap is_numeric e ] in
-    rw hex.2 (
-      All-cons (λ d. is_numeric d ≡ true) 48 (hex.0 ∷ hex.1) refl
-          (All-cons (λ d. is_numeric d ≡ true) hex.0 hex.1 x_numeric (digits_numeric 16 hex.1 n (omega arith) hex.5)),
-      refl,
-    )
-numeral_numeric bs n (inr (inl octal)) =
-    rw octal.1 (
-      All-cons (λ d. is_numeric d ≡ true) 48 octal.0 refl (digits_numeric 8 octal.0 n (omega arith) octal.2),
-      refl,
-    )
-numeral_numeric bs n (inr (inr decimal)) =
-    let first : begins is_ascii_digit bs ≡ true =
-    rw decimal.2 (let low = decimal.3.0 in let high = decimal.3.1 in grind (arith, nat_tests)) in
-    (digits_numeric 10 bs n (omega arith) decimal.4, first)
+numeral_numeric bs n (inl hex) = grind (arith, nat_tests, All-cons, digits_numeric)
+numeral_numeric bs n (inr (inl octal)) = grind (arith, nat_tests, All-cons, digits_numeric)
+numeral_numeric bs n (inr (inr decimal)) = grind (arith, digits_numeric, nat_tests)
 
 -- a string begins with its quote
 string_starts : (s : List ℕ) (n : ℕ) (value : List ℕ) → IsString s n value

@@ -21,12 +21,7 @@ pub line_ends : (s : List ℕ) (r : Option ℕ) → IsFirstByte (is_byte 10) s r
 line_ends s None none =
     sym (prefix_len_is is_in_line s (length s) 0 (omega arith)
     (λ k lt. stays (get_or s k 0) (none k (omega arith) lt)) (λ lt. absurd (omega arith)))
-line_ends s (Some n) found =
-    let first = found.0 in
-    let within = first.high in
-    sym (prefix_len_is is_in_line s n 0 (omega arith)
-    (λ k lt. stays (get_or s k 0) (first.before k (omega arith) lt))
-    (λ lt. not_from_true (is_byte 10 (get_or s n 0)) found.1))
+line_ends s (Some n) found = grind (arith, not_from_true, prefix_len_is, stays)
 
 -- `*` and `/` behind it are the needle
 close_reads : (s : List ℕ) (i : ℕ) → get_or s i 0 ≡ 42 → get_or s (i + 1) 0 ≡ 47 → (j : ℕ) → j < 2

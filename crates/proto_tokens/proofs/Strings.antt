@@ -19,8 +19,8 @@ use Rattle.proto_tokens.specs.Piece.{IsPiece, IsLongestPiece, IsPieceFault}
 use Rattle.std.specs.Str.{IsUtf8}
 use Rattle.proto_tokens.specs.Escape.{Escaped, IsLongestEscape, IsAllowedEscape, escaped_bytes}
 use Rattle.proto_tokens.specs.Steps.{HasNoEscape, IsClosed, IsFaultAfter}
-use Rattle.proto_tokens.proofs.CutLemmas.{cut_more}
-use Rattle.proto_tokens.proofs.Escapes.{escape_begins}
+use Rattle.proto_tokens.proofs.CutLemmas.{cut_more, cut_one}
+use Rattle.proto_tokens.proofs.Escapes.{escape_begins, escape_one}
 use Rattle.proto_tokens.proofs.Pieces.{starts, quote_alone}
 
 -- behind the quote the bytes up to a place have this value
@@ -112,24 +112,17 @@ no_part quote s b rest s_is not_plain none p is = grind (arith, both_ways, escap
 pub same_longest : (s : List ℕ) (m n : ℕ) (d e : Escaped) → IsLongestEscape s m d → IsLongestEscape s n e → m ≡ n
 same_longest s m n d e a b = grind arith
 
--- two parts at one place are as long
-part_len : (quote : ℕ) (s : List ℕ) (p q : Part) → IsPart quote s p → IsPart quote s q → p.len ≡ q.len
-part_len quote s p q a b = grind (arith, both_ways, escape_first, not_plain, same_longest)
+part_one : (quote : ℕ) (s : List ℕ) (p q : Part) → IsPart quote s p → IsPart quote s q → p ≡ q
+part_one quote s p q a b = grind (arith, both_ways, escape_first, escape_one, not_plain, same_longest)
 
--- two cuttings that end where no part stands end at one place
-cut_end : (quote : ℕ) (s : List ℕ) (from : ℕ) (ps qs : List Part) (m n : ℕ)
-    → IsCutInto (IsPart quote) (λ p. p.len) s from ps m
-    → IsCutInto (IsPart quote) (λ p. p.len) s from qs n
-    → ((p : Part) → IsPart quote (drop m s) p → ⊥) → ((p : Part) → IsPart quote (drop n s) p → ⊥) → m ≡ n
-cut_end quote s from [] [] m n a b no_m no_n = sym a ∙ b
-cut_end quote s from [] (q ∷ qs) m n a b no_m no_n =
-    absurd (no_m q (subst (λ (i : ℕ). IsPart quote (drop i s) q) a b.0))
-cut_end quote s from (p ∷ ps) [] m n a b no_m no_n =
-    absurd (no_n p (subst (λ (i : ℕ). IsPart quote (drop i s) p) b a.0))
-cut_end quote s from (p ∷ ps) (q ∷ qs) m n a b no_m no_n =
-    let same = part_len quote (drop from s) p q a.0 b.0 in
-    cut_end quote s (from + p.len) ps qs m n a.1
-    (subst (λ (i : ℕ). IsCutInto (IsPart quote) (λ p. p.len) s (from + i) qs n) (sym same) b.1) no_m no_n
+pub opened_one : (s : List ℕ) (q r : ℕ) (a b : List ℕ) (ps qs : List Part) (m n : ℕ) → IsOpened s q a ps m
+    → IsOpened s r b qs n
+    → ((p : Part) → IsPart q (drop m a) p → ⊥) → ((p : Part) → IsPart r (drop n b) p → ⊥)
+    → (q ≡ r) × (a ≡ b) × (ps ≡ qs) × (m ≡ n)
+opened_one s q r a b ps qs m n x y no_m no_n =
+    let one = cut_one (IsPart q) (λ p. p.len) (part_one q) a 0 ps qs m n x.cut (grind arith) no_m
+    (λ p is. no_n p (grind arith)) in
+    grind arith
 
 -- no part stands at the closing quote
 pub no_part_at_quote : (quote : ℕ) (after : List ℕ) (end : ℕ) → is_quote quote ≡ true → HasByteAt after end quote
@@ -144,19 +137,10 @@ no_part_at_quote quote after end quote_is closes p is =
 module _ (s : List ℕ) (n : ℕ) (value : List ℕ) (is : IsString s n value) where
   string_longest : (k : ℕ) (other : List ℕ) → n < k → IsString s k other → ⊥
   string_longest k other lt more =
-      let same_cons : is.0 ∷ is.1 ≡ more.0 ∷ more.1 = sym is.4.begins_so ∙ more.4.begins_so in
-      let quote : more.0 ≡ is.0 = cc in
-      let after : more.1 ≡ is.1 = cc in
-      let cut : IsCutInto (IsPart is.0) (λ p. p.len) is.1 0 more.2 more.3 =
-      subst (λ (q : ℕ). IsCutInto (IsPart q) (λ p. p.len) is.1 0 more.2 more.3) quote
-      (subst (λ (l : List ℕ). IsCutInto (IsPart more.0) (λ p. p.len) l 0 more.2 more.3) after more.4.cut) in
-      let closes : HasByteAt is.1 more.3 is.0 =
-      subst (λ (q : ℕ). HasByteAt is.1 more.3 q) quote
-      (subst (λ (l : List ℕ). HasByteAt l more.3 more.0) after more.5) in
-      let same = cut_end is.0 is.1 0 is.2 more.2 is.3 more.3 is.4.cut cut
+      let one = opened_one s is.0 more.0 is.1 more.1 is.2 more.2 is.3 more.3 is.4 more.4
       (no_part_at_quote is.0 is.1 is.3 is.4.quote_is is.5)
-      (no_part_at_quote is.0 is.1 more.3 is.4.quote_is closes) in
-      omega (arith, is.6, more.6, same)
+      (no_part_at_quote more.0 more.1 more.3 more.4.quote_is more.5) in
+      omega (arith, is.6, more.6, one)
 
   pub longest_string : IsLongestPiece s n (Some (string_literal value))
   longest_string = record {
