@@ -53,24 +53,13 @@ first_taken : (s : List ℕ) (n : ℕ) → 0 < length (take n s)
     → (0 < n) × (0 < length s) × (get_or (take n s) 0 0 ≡ get_or s 0 0)
 first_taken s n long = grind arith
 
+prefix_starts : (s : List ℕ) (n : ℕ) (piece : Option Lexeme) → IsPiece s n piece
+    → (0 < length (take n s)) × Starts piece (get_or (take n s) 0 0)
+prefix_starts s n piece is = grind (arith, All-get_or, begins_first, numeral_numeric, string_starts)
+
 pub starts : (s : List ℕ) (n : ℕ) (piece : Option Lexeme) → IsPiece s n piece
     → (0 < n) × (0 < length s) × Starts piece (get_or s 0 0)
-starts s n piece is =
-    let prefix = prefix_starts s n piece is in
-    let first = first_taken s n prefix.0 in
-    (first.0, first.1, subst (Starts piece) first.2 prefix.1)
-  where
-    prefix_starts : (s : List ℕ) (n : ℕ) (piece : Option Lexeme) → IsPiece s n piece
-        → (0 < length (take n s)) × Starts piece (get_or (take n s) 0 0)
-    prefix_starts s n None (inl blanks) =
-        (blanks.0, inl (All-get_or (λ b. is_blank b ≡ true) (take n s) 0 0 blanks.0 blanks.1))
-    prefix_starts s n None (inr (inl line)) = rw line.1 (omega arith, inr refl)
-    prefix_starts s n None (inr (inr block)) = rw block.1 (omega arith, inr refl)
-    prefix_starts s n (Some (identifier name)) is = begins_first is_letter (take n s) is.0.0
-    prefix_starts s n (Some (number value)) is =
-        begins_first is_ascii_digit (take n s) (numeral_numeric (take n s) value is.0).1
-    prefix_starts s n (Some (string_literal value)) is = string_starts s n value is
-    prefix_starts s n (Some (punctuation b)) is = rw is.0 (omega arith, is.1)
+starts s n piece is = let prefix = prefix_starts s n piece is in grind (arith, first_taken)
 
 -- ---- longest pieces
 
@@ -151,13 +140,11 @@ module _ (s : List ℕ) where
   pub longest_number : (n : ℕ) → IsNumeral (take (prefix_len is_numeric s) s) n → n < 2 ^ 64
       → IsLongestPiece s (prefix_len is_numeric s) (Some (number n))
   longest_number n numeral small =
-      let fits = prefix_len-le-length is_numeric s in
       let first = begins_first is_ascii_digit (take (prefix_len is_numeric s) s) (numeral_numeric _ n numeral).1 in
-      let pos : 0 < prefix_len is_numeric s = omega (arith, length-take-le (prefix_len is_numeric s) s fits) in
       let digit : is_ascii_digit (get_or s 0 0) ≡ true =
-      sym (ap is_ascii_digit (get_or-take (prefix_len is_numeric s) s 0 0 pos)) ∙ first.1 in
+      grind (arith, get_or-take, length-take-le, prefix_len-le-length) in
       record {
-        fits = fits;
+        fits = prefix_len-le-length is_numeric s;
         piece_is = (numeral, small, run_stops is_numeric s);
         longest = λ k other lt within is.
             let same = digit_alone (get_or s 0 0) other digit (starts s k other is).2 in
@@ -246,23 +233,12 @@ module _ (rest : List ℕ) (m : ℕ) (close : IsFirstClose rest m) where
       → HasNoClose body → ⊥
   no_longer_block k body lt within e none =
       let fits = close.fits in
-      let len : k ≡ length body + 2 = sym (length-take-le k rest within) ∙ ap length e
-      ∙ length-append body (42 ∷ 47 ∷ []) in
-      let star : get_or body m 0 ≡ 42 = sym (get_or_append_left body (42 ∷ 47 ∷ []) 0 m (omega arith))
-      ∙ ap (λ (l : List ℕ). get_or l m 0) (sym e)
-      ∙ get_or-take k rest m 0 (omega arith) ∙ close.star in
+      let len = ap length e ∙ length-append body (42 ∷ 47 ∷ []) in
+      let star = get_or-take k rest m 0 in
+      let slash = get_or-take k rest (m + 1) 0 in
       elim (cases_lt (m + 1) (length body)) [
-        | inl in_body ↦ none m star (sym (get_or_append_left body (42 ∷ 47 ∷ []) 0 (m + 1) in_body)
-            ∙ ap (λ (l : List ℕ). get_or l (m + 1) 0) (sym e)
-            ∙ get_or-take k rest (m + 1) 0 (omega arith) ∙ close.slash)
-        | inr past ↦
-            let here : length body ≡ m + 1 = omega arith in
-            let star_again : get_or (body ++ 42 ∷ 47 ∷ []) (m + 1) 0 ≡ 42 =
-            get_or_at body 42 (47 ∷ []) 0 (m + 1) here in
-            let slash : get_or (body ++ 42 ∷ 47 ∷ []) (m + 1) 0 ≡ 47 =
-            ap (λ (l : List ℕ). get_or l (m + 1) 0) (sym e) ∙ get_or-take k rest (m + 1) 0 (omega arith)
-            ∙ close.slash in
-            absurd (omega arith)
+        | inl in_body ↦ grind (arith, get_or_append_left, length-take-le)
+        | inr past ↦ grind (arith, get_or_at, length-take-le)
       ]
 
   pub longest_block : IsLongestPiece (47 ∷ 42 ∷ rest) (suc (suc (suc (suc m)))) None
@@ -287,13 +263,7 @@ module _ (rest : List ℕ) (m : ℕ) (close : IsFirstClose rest m) where
           in_block : (k : ℕ) → suc (suc m) < k → k ≤ length rest → IsPiece (47 ∷ 42 ∷ rest) (suc (suc k)) None → ⊥
           in_block k lt within (inl blanks) = both_ways (is_blank 47) refl
               (All-get_or (λ b. is_blank b ≡ true) (47 ∷ 42 ∷ take k rest) 0 0 blanks.0 blanks.1)
-          in_block k lt within (inr (inl line)) =
-              let second : get_or (47 ∷ 42 ∷ take k rest) 1 0 ≡ 47 = ap (λ (l : List ℕ). get_or l 1 0) line.1 in
-              absurd (omega arith)
-          in_block k lt within (inr (inr block)) =
-              let same : take k rest ≡ block.0 ++ 42 ∷ 47 ∷ [] = let e : 47 ∷ 42 ∷ take k rest ≡ 47 ∷ 42
-              ∷ (block.0 ++ 42 ∷ 47 ∷ []) = block.1 in cc in
-              no_longer_block k block.0 lt within same block.2
+          in_block k lt within (inr comment) = grind (arith, no_longer_block)
 
 -- ---- where a source may be cut
 
@@ -335,10 +305,9 @@ pub block_found : (s : List ℕ) (m : ℕ) → 2 ≤ length s → get_or s 0 0 �
     → IsFirstClose (take (length s - 2) (drop 2 s)) m
     → IsLongestPiece s (m + 4) None
 block_found s m long first second close =
-    let same : m + 4 ≡ suc (suc (suc (suc m))) = omega arith in
-    rw same (subst (λ (l : List ℕ). IsLongestPiece l (suc (suc (suc (suc m)))) None)
-    (sym (two_more s 47 42 long first second))
-    (longest_block (take (length s - 2) (drop 2 s)) m close))
+    let here = two_more s 47 42 long first second in
+    let found = longest_block (take (length s - 2) (drop 2 s)) m close in
+    grind arith
 
 -- a byte that no `/` or `*` follows
 pub alone_short : (s : List ℕ) → length s < 2 → begins is_slash_or_star (drop 1 s) ≡ false
