@@ -18,7 +18,6 @@ use Rattle.proto_tokens.specs.ProgramTokens.{tokens_of}
 use Rattle.proto_tokens.specs.Piece.{IsUnclosedComment, IsPiece, IsLongestPiece, IsPieceFault, IsBadNumber, IsTooBig, HasNoClose}
 use Rattle.proto_tokens.specs.Spelling.{Piece, tokens_from, SpellsFrom, HasPieceFault, IsTokenList, IsFault, mark_len}
 use Rattle.proto_tokens.specs.Told.{IsFaultOf, TellsFault}
-use Rattle.proto_tokens.specs.Escape.{byte}
 use Rattle.proto_tokens.specs.declared.token.Tokens.{Tokens}
 use Rattle.std.specs.Prelude.{Result, Ok, Err, MatchResult, IsErrAnd}
 use Rattle.proto_tokens.specs.declared.token.TokenError.{TokenError}

@@ -1,6 +1,6 @@
 use Rattle.std.proofs.lemmas.Grind.{common_steps}
 use Rattle.std.proofs.Common.{ℕ, List, drop, ap, sym, ◌∙◌, arith, get_or, length-drop}
-use Rattle.proto_tokens.specs.Bytes.{is_blank, is_letter}
+use Rattle.proto_tokens.specs.Bytes.{is_letter}
 use Rattle.proto_tokens.proofs.Runs.{begins_from}
 use Rattle.proto_tokens.proofs.Pieces.{longest_blanks, found_identifier, fault_here, bad_byte}
 use Rattle.proto_tokens.proofs.piece.piece_at.Goals as goal
