@@ -60,9 +60,6 @@ tokens_more s from (q ∷ ps) to p cut =
     ap (with_token q.is from (from + q.len)) (tokens_more s (from + q.len) ps to p cut.1)
     ∙ with_token-append q.is from (from + q.len) (tokens_from (from + q.len) ps) (with_token p.is to (to + p.len) [])
 
-pub cut_start : (s : List ℕ) (start : ℕ) → start ≤ length s → IsCutUpTo s start start []
-cut_start s start within = record { within = within; pieces = []; cut = refl; tokens = refl }
-
 cut_on : (s : List ℕ) (start at n : ℕ) (piece : Option Lexeme) (ts : List Spelled) → IsCutUpTo s start at ts
     → IsLongestPiece (drop at s) n piece
     → IsCutUpTo s start (at + n) (ts ++ with_token piece at (at + n) [])
@@ -85,15 +82,6 @@ pub cut_token : (s : List ℕ) (start at n : ℕ) (lexeme : Lexeme) (ts : List S
     → IsLongestPiece (drop at s) n (Some lexeme)
     → IsCutUpTo s start (at + n) (ts ++ record { start = at; end = at + n; lexeme = lexeme } ∷ [])
 cut_token s start at n lexeme ts so_far is = cut_on s start at n (Some lexeme) ts so_far is
-
-pub cut_all : (s : List ℕ) (start at : ℕ) (ts : List Spelled) → IsCutUpTo s start at ts
-    → length s ≤ at → SpellsFrom s start ts
-cut_all s start at ts so_far le = grind arith
-
-pub cut_fault : (s : List ℕ) (start at : ℕ) (ts : List Spelled) (e : TokenError) → IsCutUpTo s start at ts
-    → IsFaultAfter (drop at s) at e
-    → IsFaultFrom s start e
-cut_fault s start at ts e so_far fault = grind arith
 
 pub gap_passed : (s : List ℕ) (start at n : ℕ) (ts : List Spelled) (kind : Option TokenKind) → IsCutUpTo s start at ts
     → IsLongestPiece (drop at s) n (option_map lexeme_of kind) → kind ≡ None → IsCutUpTo s start (at + n) ts

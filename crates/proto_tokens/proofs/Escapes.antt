@@ -55,8 +55,7 @@ module _ (s digits : List ℕ) (head most base : ℕ) (by : EscapesByDigits s di
         record {
           fits = omega (arith, by.long);
           escape_is = by.into m v pos fits.0 fits.1 (rw v_is all_written);
-          longest = λ k other lt within is. let o = by.out k other within is in
-              omega (arith, o.2, no_more o.0 o.1 o.4 (omega (arith, by.long, o.2)) o.6);
+          longest = λ k other lt within is. let o = by.out k other within is in grind (arith, no_more, by.long);
         },
         small,
       )
@@ -95,17 +94,9 @@ module _ (digits : List ℕ) (begins_so : begins (λ d. is_digit d 8) digits ≡
       absurd (no_simple_digit simple.0 n (first_digit k pos simple.0 [] (sym bs_is ∙ alone)) simple.2)
   octal_out bs (byte n) k bs_is (inr (inl octal)) pos = grind arith
   octal_out bs (byte n) k bs_is (inr (inr hex)) pos =
-      let same : bs ≡ hex.0 ∷ hex.1 = let e : 92 ∷ bs ≡ 92 ∷ hex.0 ∷ hex.1 = hex.2 in cc in
-      let digit = first_digit k pos hex.0 hex.1 (sym bs_is ∙ same) in
-      absurd (elim hex.3 [ inl x ↦ grind (arith, nat_tests) | inr x ↦ grind (arith, nat_tests) ])
+      let digit = first_digit k pos hex.0 hex.1 (grind arith) in absurd (grind (arith, nat_tests))
   octal_out bs (character n) k bs_is unicode pos =
-      let same : bs ≡ unicode.0 ∷ unicode.1 = let e : 92 ∷ bs ≡ 92 ∷ unicode.0 ∷ unicode.1 = unicode.2 in cc in
-      let digit = first_digit k pos unicode.0 unicode.1 (sym bs_is ∙ same) in
-      absurd (elim unicode.3 [
-        | inl u ↦ let v = u.0 in grind (arith, nat_tests)
-        | inr u ↦ let v = u.0 in
-            grind (arith, nat_tests)
-      ])
+      let digit = first_digit k pos unicode.0 unicode.1 (grind arith) in absurd (grind (arith, nat_tests))
 
   pub octal_by_digits : EscapesByDigits (92 ∷ digits) digits 1 3 8
   octal_by_digits = grind (arith, common_steps, escape_two, length-take-le, octal_out)
@@ -122,31 +113,19 @@ module _ (x : ℕ) (form : (x ≡ 120) ⊎ (x ≡ 88)) (digits : List ℕ) where
   hex_out bs (byte n) (inr (inr hex)) = grind arith
   hex_out bs (character n) unicode = grind arith
 
+  hex_at : (k : ℕ) (e : Escaped) → k ≤ length (92 ∷ x ∷ digits) → IsEscape (take k (92 ∷ x ∷ digits)) e
+      → (j : ℕ) × (n : ℕ) × (k ≡ 2 + j) × (0 < j) × (j ≤ 2) × (e ≡ byte n) × Writes 16 (take j digits) n
+  hex_at zero e within is = absurd (omega (arith, escape_two [] e is))
+  hex_at (suc zero) e within is = absurd (omega (arith, escape_two (92 ∷ []) e is))
+  hex_at (suc (suc j)) e within is = let o = hex_out (take j digits) e is in grind (arith, length-take-le)
+
   pub hex_by_digits : EscapesByDigits (92 ∷ x ∷ digits) digits 2 2 16
   hex_by_digits = record {
     long = omega arith;
     into = λ j n pos at_most within writes.
-        let same : 2 + j ≡ suc (suc j) = omega arith in
-        rw same (inr (inr (
-          x,
-          take j digits,
-          refl,
-          form,
-          omega (arith, length-take-le j digits within),
-          omega (arith, length-take-le j digits within),
-          writes,
-        )));
-    out = out;
+        let len = length-take-le j digits within in let same : 2 + j ≡ suc (suc j) = omega arith in rw same (grind arith);
+    out = hex_at;
   }
-    where
-      out : (k : ℕ) (e : Escaped) → k ≤ length (92 ∷ x ∷ digits) → IsEscape (take k (92 ∷ x ∷ digits)) e
-          → (j : ℕ) × (n : ℕ) × (k ≡ 2 + j) × (0 < j) × (j ≤ 2) × (e ≡ byte n) × Writes 16 (take j digits) n
-      out zero e within is = absurd (omega (arith, escape_two [] e is))
-      out (suc zero) e within is = absurd (omega (arith, escape_two (92 ∷ []) e is))
-      out (suc (suc j)) e within is =
-          let len = length-take-le j digits (omega arith) in
-          let o = hex_out (take j digits) e is in
-          (j, o.0, omega arith, omega (arith, o.1, len), omega (arith, o.2, len), o.3, o.4)
 
 module _ (u count : ℕ) (form : ((u ≡ 117) × (count ≡ 4)) ⊎ ((u ≡ 85) × (count ≡ 8))) (digits : List ℕ) where
   u_is : (u ≡ 117) ⊎ (u ≡ 85)
@@ -205,9 +184,6 @@ module _ (c : ℕ) (rest : List ℕ) (no_digit : is_digit c 8 ≡ false) (no_x :
 
   pub simple_refused : simple_escape c ≡ None → HasNoEscape (92 ∷ c ∷ rest)
   simple_refused none n e allowed = grind (arith, simple_at)
-
-pub nothing_behind : HasNoEscape (92 ∷ [])
-nothing_behind n e allowed = grind (arith, escape_two, length-take-le)
 
 pub digits_begin : (digits : List ℕ) (most m : ℕ) → begins (λ d. is_digit d 8) digits ≡ true → 0 < most
     → m ≡ prefix_len (λ d. is_digit d 8) (take most digits)
