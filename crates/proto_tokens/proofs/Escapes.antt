@@ -123,7 +123,9 @@ module _ (x : ℕ) (form : (x ≡ 120) ⊎ (x ≡ 88)) (digits : List ℕ) where
   hex_by_digits = record {
     long = omega arith;
     into = λ j n pos at_most within writes.
-        let len = length-take-le j digits within in let same : 2 + j ≡ suc (suc j) = omega arith in rw same (grind arith);
+        let len = length-take-le j digits within in
+        let same : 2 + j ≡ suc (suc j) = omega arith in
+        rw same (grind arith);
     out = hex_at;
   }
 
