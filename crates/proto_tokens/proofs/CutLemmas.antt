@@ -1,5 +1,5 @@
 -- A text cut into pieces, one after another.
-use Rattle.std.proofs.Common.{inl, inr, suc, ◌≡◌, ℕ, ◌+◌, ◌<◌, ◌≤◌, Option, None, Some, List, [], ◌∷◌, ◌++◌, length, drop, map, refl, sym, ap, subst, ◌∙◌, arith, length-drop, length-take-le}
+use Rattle.std.proofs.Common.{◌≡◌, ℕ, ◌+◌, ◌<◌, ◌≤◌, Option, None, Some, List, [], ◌∷◌, ◌++◌, length, drop, map, refl, sym, ap, subst, ◌∙◌, arith, length-drop, length-take-le}
 use Rattle.std.proofs.lemmas.List.{append-nil, map_push}
 use Rattle.std.specs.Option.{option_map}
 use Rattle.std.specs.Str.{IsUtf8}
@@ -31,14 +31,27 @@ piece_nonempty s n piece is = omega (arith, (starts s n piece is.piece_is).0, le
 pub cut_more : {P : Type 0} (IsPart : List ℕ → P → Type 0) (len : P → ℕ) (s : List ℕ) (from : ℕ) (ps : List P)
     (to : ℕ) (p : P)
     → IsCutInto IsPart len s from ps to → IsPart (drop to s) p → IsCutInto IsPart len s from (ps ++ p ∷ []) (to + len p)
-cut_more IsPart len s from [] to p cut is =
-    (subst (λ (i : ℕ). IsPart (drop i s) p) (sym cut) is, ap (λ i. i + len p) cut)
+cut_more IsPart len s from [] to p cut is = grind arith
 cut_more IsPart len s from (q ∷ ps) to p cut is = (cut.0, cut_more IsPart len s (from + len q) ps to p cut.1 is)
+
+-- where one part at most stands at a place, a text has one cutting that can't go on
+pub cut_one : {P : Type 0} (IsPart : List ℕ → P → Type 0) (len : P → ℕ)
+    → ((s : List ℕ) (p q : P) → IsPart s p → IsPart s q → p ≡ q)
+    → (s : List ℕ) (from : ℕ) (ps qs : List P) (m n : ℕ) → IsCutInto IsPart len s from ps m
+    → IsCutInto IsPart len s from qs n
+    → ((p : P) → IsPart (drop m s) p → ⊥) → ((p : P) → IsPart (drop n s) p → ⊥) → (ps ≡ qs) × (m ≡ n)
+cut_one IsPart len one s from [] [] m n a b no_m no_n = (refl, sym a ∙ b)
+cut_one IsPart len one s from [] (q ∷ qs) m n a b no_m no_n = grind arith
+cut_one IsPart len one s from (p ∷ ps) [] m n a b no_m no_n = grind arith
+cut_one {P} IsPart len one s from (p ∷ ps) (q ∷ qs) m n a b no_m no_n =
+    let same = one (drop from s) p q a.0 b.0 in
+    let rest = cut_one IsPart len one s (from + len p) ps qs m n a.1
+    (subst (λ (r : P). IsCutInto IsPart len s (from + len r) qs n) (sym same) b.1) no_m no_n in
+    ((λ i. same i ∷ rest.0 i), rest.1)
 
 with_token-append : (piece : Option Lexeme) (start end : ℕ) (ts us : List Spelled)
     → with_token piece start end (ts ++ us) ≡ with_token piece start end ts ++ us
-with_token-append None start end ts us = refl
-with_token-append (Some lexeme) start end ts us = refl
+with_token-append piece start end ts us = grind arith
 
 tokens_more : (s : List ℕ) (from : ℕ) (ps : List Piece) (to : ℕ) (p : Piece) → IsCutIntoPieces s from ps to
     → tokens_from from (ps ++ p ∷ []) ≡ tokens_from from ps ++ with_token p.is to (to + p.len) []
@@ -46,9 +59,6 @@ tokens_more s from [] to p cut = ap (λ i. with_token p.is i (i + p.len) []) cut
 tokens_more s from (q ∷ ps) to p cut =
     ap (with_token q.is from (from + q.len)) (tokens_more s (from + q.len) ps to p cut.1)
     ∙ with_token-append q.is from (from + q.len) (tokens_from (from + q.len) ps) (with_token p.is to (to + p.len) [])
-
-pub cut_start : (s : List ℕ) (start : ℕ) → start ≤ length s → IsCutUpTo s start start []
-cut_start s start within = record { within = within; pieces = []; cut = refl; tokens = refl }
 
 cut_on : (s : List ℕ) (start at n : ℕ) (piece : Option Lexeme) (ts : List Spelled) → IsCutUpTo s start at ts
     → IsLongestPiece (drop at s) n piece
@@ -73,22 +83,9 @@ pub cut_token : (s : List ℕ) (start at n : ℕ) (lexeme : Lexeme) (ts : List S
     → IsCutUpTo s start (at + n) (ts ++ record { start = at; end = at + n; lexeme = lexeme } ∷ [])
 cut_token s start at n lexeme ts so_far is = cut_on s start at n (Some lexeme) ts so_far is
 
-pub cut_all : (s : List ℕ) (start at : ℕ) (ts : List Spelled) → IsCutUpTo s start at ts
-    → length s ≤ at → SpellsFrom s start ts
-cut_all s start at ts so_far le =
-    let same : at ≡ length s = omega (arith, so_far.within) in
-    (so_far.pieces, subst (IsCutIntoPieces s start so_far.pieces) same so_far.cut, so_far.tokens)
-
-pub cut_fault : (s : List ℕ) (start at : ℕ) (ts : List Spelled) (e : TokenError) → IsCutUpTo s start at ts
-    → IsFaultAfter (drop at s) at e
-    → IsFaultFrom s start e
-cut_fault s start at ts (errors.At place kind) so_far fault = (so_far.pieces, at, fault.0, so_far.cut, fault.1, fault.2)
-cut_fault s start at ts errors.NoMemory so_far fault = tt
-
 pub gap_passed : (s : List ℕ) (start at n : ℕ) (ts : List Spelled) (kind : Option TokenKind) → IsCutUpTo s start at ts
     → IsLongestPiece (drop at s) n (option_map lexeme_of kind) → kind ≡ None → IsCutUpTo s start (at + n) ts
-gap_passed s start at n ts kind so_far is none =
-    cut_gap s start at n ts so_far (subst (λ k. IsLongestPiece (drop at s) n (option_map lexeme_of k)) none is)
+gap_passed s start at n ts kind so_far is none = grind (arith, cut_gap)
 
 pub token_pushed : (s : List ℕ) (start at n : ℕ) (items more : List Token) (kind : Option TokenKind) (k : TokenKind)
     → IsCutUpTo s start at (map spelled items)
@@ -96,25 +93,17 @@ pub token_pushed : (s : List ℕ) (start at n : ℕ) (items more : List Token) (
     → more ≡ items
     ++ record { kind = k; span = record { start = record { offset = at }; end = record { offset = at + n } } } ∷ []
     → IsCutUpTo s start (at + n) (map spelled more)
-token_pushed s start at n items more kind k so_far is some more_is =
-    let t : Token =
-    record { kind = k; span = record { start = record { offset = at }; end = record { offset = at + n } } } in
-    let made : map spelled more ≡ map spelled items ++ spelled t ∷ [] =
-    ap (map spelled) more_is ∙ map_push spelled items t in
-    rw made (cut_token s start at n (lexeme_of k) (map spelled items) so_far
-    (subst (λ k. IsLongestPiece (drop at s) n (option_map lexeme_of k)) some is))
+token_pushed s start at n items more kind k so_far is some more_is = grind (arith, cut_token, map_push)
 
 fault_of : (limit : ℕ) (s : List ℕ) (e : TokenError) → length s ≤ limit → IsUtf8 s → IsFaultFrom s (mark_len s) e
     → IsFaultOf limit s e
-fault_of limit s (errors.At place kind) short utf8 fault = inr (inr (short, utf8, fault))
-fault_of limit s errors.NoMemory short utf8 fault = tt
+fault_of limit s e short utf8 fault = grind arith
 
 -- what the cutting answers of a fault is the text's fault, where the text is short and UTF-8
 pub fault_answer : (limit : ℕ) (s source : List ℕ) (mark : ℕ) (e : TokenError) → length s ≤ limit → IsUtf8 s
     → source ≡ s → mark ≡ mark_len s
     → IsFaultFrom source mark e → IsFaultOf limit s e
-fault_answer limit s source mark e short utf8 same mark_is fault =
-    fault_of limit s e short utf8 (rw (← mark_is) (subst (λ (l : List ℕ). IsFaultFrom l mark e) same fault))
+fault_answer limit s source mark e short utf8 same mark_is fault = grind (arith, fault_of)
 
 -- ---- places
 
@@ -125,21 +114,10 @@ cut_within s from (p ∷ ps) to within cut =
     cut_within s (from + p.len) ps to (omega (arith, cut.0.fits, length-drop from s)) cut.1
 
 string_fault_within : (s : List ℕ) (at : ℕ) (kind : Kind) → IsStringFault s at kind → at ≤ length s
-string_fault_within s at kind (quote, after, parts, end, opened, fault) =
-    let len : length s ≡ suc (length after) = ap length opened.begins_so in
-    elim fault [
-      | inl escape ↦ omega (arith, len, escape.1, escape.2.0)
-      | inr (inl value) ↦ omega (arith, value.1)
-      | inr (inr (inl zero_byte)) ↦ omega (arith, len, zero_byte.1, zero_byte.2.0)
-      | inr (inr (inr unclosed)) ↦ omega (arith, unclosed.1)
-    ]
+string_fault_within s at kind fault = grind arith
 
 pub piece_fault_within : (s : List ℕ) (at : ℕ) (kind : Kind) → IsPieceFault s at kind → at ≤ length s
-piece_fault_within s at kind (inl bad) = omega (arith, bad.1)
-piece_fault_within s at kind (inr (inl bad)) = omega (arith, bad.1)
-piece_fault_within s at kind (inr (inr (inl big))) = omega (arith, big.1)
-piece_fault_within s at kind (inr (inr (inr (inl open_)))) = omega (arith, open_.1)
-piece_fault_within s at kind (inr (inr (inr (inr fault)))) = string_fault_within s at kind fault
+piece_fault_within s at kind fault = grind (arith, string_fault_within)
 
 fault_within : (s : List ℕ) (from : ℕ) (e : TokenError) → from ≤ length s → IsFaultFrom s from e
     → IsPlacedWithin (length s) e
@@ -155,5 +133,4 @@ fault_within s from errors.NoMemory within fault = tt
 
 pub placed_within : (s source : List ℕ) (mark : ℕ) (e : TokenError) → source ≡ s → mark ≤ length s
     → IsFaultFrom source mark e → IsPlacedWithin (length s) e
-placed_within s source mark e same within fault =
-    fault_within s mark e within (subst (λ (l : List ℕ). IsFaultFrom l mark e) same fault)
+placed_within s source mark e same within fault = grind (arith, fault_within)

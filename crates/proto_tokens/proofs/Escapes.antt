@@ -1,11 +1,12 @@
 -- Escapes: which is the longest, and where none stands.
+use Rattle.std.proofs.lemmas.Grind.{common_steps}
 use Rattle.std.proofs.Common.{◌≡◌, ◌≢◌, ℕ, zero, suc, ◌+◌, ◌<◌, ◌≤◌, ◌⊎◌, true, false, None, Some, List, [], ◌∷◌, length, get_or, take, refl, sym, ap, subst, ◌∙◌, inl, inr, arith, length-take-le, get_or-take}
 use Rattle.std.specs.Prelude.{slice_get}
 use Rattle.std.specs.List.{AllPass, prefix_len}
 use Rattle.std.specs.Char.{is_digit, IsScalar}
-use Rattle.std.proofs.lemmas.Bool.{both_ways}
+use Rattle.std.proofs.lemmas.Bool.{both_ways, false_from_ne_true}
 use Rattle.std.proofs.lemmas.Bool.Decides.{nat_tests}
-use Rattle.std.proofs.lemmas.List.{take-take, length-take}
+use Rattle.std.proofs.lemmas.List.{take_all, take-take, length-take}
 use Rattle.std.proofs.lemmas.List.Sums.{prefix_len-le-length}
 use Rattle.std.proofs.lemmas.List.Elements.{All-head}
 use Rattle.proto_tokens.specs.Bytes.{begins}
@@ -16,16 +17,10 @@ use Rattle.proto_tokens.proofs.Runs.{begins_first, run_passes, run_longest, run_
 
 -- an escape has at least two bytes
 escape_two : (bs : List ℕ) (e : Escaped) → IsEscape bs e → 2 ≤ length bs
-escape_two bs (byte n) (inl simple) = rw simple.1 (omega arith)
-escape_two bs (byte n) (inr (inl octal)) = let long = octal.2 in rw octal.1 (omega arith)
-escape_two bs (byte n) (inr (inr hex)) = rw hex.2 (omega arith)
-escape_two bs (character n) unicode = rw unicode.2 (omega arith)
+escape_two bs e unicode = grind arith
 
 pub escape_begins : (bs : List ℕ) (e : Escaped) → IsEscape bs e → (0 < length bs) × (get_or bs 0 0 ≡ 92)
-escape_begins bs (byte n) (inl simple) = rw simple.1 (omega arith, refl)
-escape_begins bs (byte n) (inr (inl octal)) = rw octal.1 (omega arith, refl)
-escape_begins bs (byte n) (inr (inr hex)) = rw hex.2 (omega arith, refl)
-escape_begins bs (character n) unicode = rw unicode.2 (omega arith, refl)
+escape_begins bs e unicode = grind arith
 
 -- the first bytes of the text are fixed, and from one to most digits of a base may follow
 pub record EscapesByDigits (s digits : List ℕ) (head most base : ℕ) : Type 0 where
@@ -38,9 +33,7 @@ pub record EscapesByDigits (s digits : List ℕ) (head most base : ℕ) : Type 0
 module _ (s digits : List ℕ) (head most base : ℕ) (by : EscapesByDigits s digits head most base) (m : ℕ)
     (m_is : m ≡ prefix_len (λ d. is_digit d base) (take most digits)) where
   m_fits : (m ≤ most) × (m ≤ length digits)
-  m_fits =
-      let le = prefix_len-le-length (λ d. is_digit d base) (take most digits) in
-      (omega (arith, length-take most digits, le, m_is), omega (arith, length-take most digits, le, m_is))
+  m_fits = grind (arith, length-take, prefix_len-le-length)
 
   all_written : Writes base (take m digits) (digits_value base (take m digits))
   all_written =
@@ -53,15 +46,7 @@ module _ (s digits : List ℕ) (head most base : ℕ) (by : EscapesByDigits s di
       }
 
   no_more : (j n : ℕ) → j ≤ most → j ≤ length digits → Writes base (take j digits) n → j ≤ m
-  no_more j n at_most within writes =
-      let all : AllPass (λ d. is_digit d base) (take j (take most digits)) =
-      rw (take-take j most digits at_most) writes.digits_of_base in
-      omega (
-        arith,
-        run_longest (λ d. is_digit d base) (take most digits) j
-            (omega (arith, length-take most digits)) all,
-        m_is,
-      )
+  no_more j n at_most within writes = grind (arith, length-take, run_longest, take-take)
 
   pub digits_found : (v : ℕ) → 0 < m → v ≡ digits_value base (take m digits) → v < 256
       → IsAllowedEscape s (head + m) (byte v)
@@ -70,8 +55,7 @@ module _ (s digits : List ℕ) (head most base : ℕ) (by : EscapesByDigits s di
         record {
           fits = omega (arith, by.long);
           escape_is = by.into m v pos fits.0 fits.1 (rw v_is all_written);
-          longest = λ k other lt within is. let o = by.out k other within is in
-              omega (arith, o.2, no_more o.0 o.1 o.4 (omega (arith, by.long, o.2)) o.6);
+          longest = λ k other lt within is. let o = by.out k other within is in grind (arith, no_more, by.long);
         },
         small,
       )
@@ -97,109 +81,53 @@ module _ (s digits : List ℕ) (head most base : ℕ) (by : EscapesByDigits s di
 -- ---- which escapes a byte after the backslash begins
 
 pub no_simple_digit : (c n : ℕ) → is_digit c 8 ≡ true → simple_escape c ≡ Some n → ⊥
-no_simple_digit c n digit simple =
-    let none : simple_escape c ≡ None = grind (arith, nat_tests) in
-    absurd (let e : Some n ≡ None = sym simple ∙ none in cc)
+no_simple_digit c n digit simple = grind (arith, nat_tests)
 
 module _ (digits : List ℕ) (begins_so : begins (λ d. is_digit d 8) digits ≡ true) where
   first_digit : (k : ℕ) → 0 < k → (c : ℕ) (rest : List ℕ) → take k digits ≡ c ∷ rest → is_digit c 8 ≡ true
-  first_digit k pos c rest e =
-      let first = begins_first (λ d. is_digit d 8) digits begins_so in
-      ap (λ d. is_digit d 8) (ap (λ (l : List ℕ). get_or l 0 0) (sym e) ∙ get_or-take k digits 0 0 pos) ∙ first.1
+  first_digit k pos c rest e = grind (arith, common_steps, begins_first, get_or-take)
 
   pub octal_out : (bs : List ℕ) (e : Escaped) (k : ℕ) → bs ≡ take k digits → IsEscape (92 ∷ bs) e → 0 < k
       → (n : ℕ) × (length bs ≤ 3) × (e ≡ byte n) × Writes 8 bs n
   octal_out bs (byte n) k bs_is (inl simple) pos =
       let alone : bs ≡ simple.0 ∷ [] = let e : 92 ∷ bs ≡ 92 ∷ simple.0 ∷ [] = simple.1 in cc in
       absurd (no_simple_digit simple.0 n (first_digit k pos simple.0 [] (sym bs_is ∙ alone)) simple.2)
-  octal_out bs (byte n) k bs_is (inr (inl octal)) pos =
-      let same : bs ≡ octal.0 = let e : 92 ∷ bs ≡ 92 ∷ octal.0 = octal.1 in cc in
-      (n, omega (arith, ap length same, octal.3), refl, rw same octal.4)
+  octal_out bs (byte n) k bs_is (inr (inl octal)) pos = grind arith
   octal_out bs (byte n) k bs_is (inr (inr hex)) pos =
-      let same : bs ≡ hex.0 ∷ hex.1 = let e : 92 ∷ bs ≡ 92 ∷ hex.0 ∷ hex.1 = hex.2 in cc in
-      let digit = first_digit k pos hex.0 hex.1 (sym bs_is ∙ same) in
-      absurd (elim hex.3 [ inl x ↦ grind (arith, nat_tests) | inr x ↦ grind (arith, nat_tests) ])
+      let digit = first_digit k pos hex.0 hex.1 (grind arith) in absurd (grind (arith, nat_tests))
   octal_out bs (character n) k bs_is unicode pos =
-      let same : bs ≡ unicode.0 ∷ unicode.1 = let e : 92 ∷ bs ≡ 92 ∷ unicode.0 ∷ unicode.1 = unicode.2 in cc in
-      let digit = first_digit k pos unicode.0 unicode.1 (sym bs_is ∙ same) in
-      absurd (elim unicode.3 [
-        | inl u ↦ let v = u.0 in grind (arith, nat_tests)
-        | inr u ↦ let v = u.0 in
-            grind (arith, nat_tests)
-      ])
+      let digit = first_digit k pos unicode.0 unicode.1 (grind arith) in absurd (grind (arith, nat_tests))
 
   pub octal_by_digits : EscapesByDigits (92 ∷ digits) digits 1 3 8
-  octal_by_digits = record {
-    long = omega arith;
-    into = λ j n pos at_most within writes.
-        let same : 1 + j ≡ suc j = omega arith in
-        rw same (inr (inl (
-          take j digits,
-          refl,
-          omega (arith, length-take-le j digits within),
-          omega (arith, length-take-le j digits within),
-          writes,
-        )));
-    out = out;
-  }
-    where
-      out : (k : ℕ) (e : Escaped) → k ≤ length (92 ∷ digits) → IsEscape (take k (92 ∷ digits)) e
-          → (j : ℕ) × (n : ℕ) × (k ≡ 1 + j) × (0 < j) × (j ≤ 3) × (e ≡ byte n) × Writes 8 (take j digits) n
-      out zero e within is = absurd (omega (arith, escape_two [] e is))
-      out (suc j) e within is =
-          let two = escape_two (92 ∷ take j digits) e is in
-          let len = length-take-le j digits (omega arith) in
-          let o = octal_out (take j digits) e j refl is (omega (arith, two, len)) in
-          (j, o.0, omega arith, omega (arith, two, len), omega (arith, o.1, len), o.2, o.3)
+  octal_by_digits = grind (arith, common_steps, escape_two, length-take-le, octal_out)
 
 module _ (x : ℕ) (form : (x ≡ 120) ⊎ (x ≡ 88)) (digits : List ℕ) where
   pub hex_out : (bs : List ℕ) (e : Escaped) → IsEscape (92 ∷ x ∷ bs) e → (n : ℕ) × (0 < length bs) × (length bs ≤ 2)
       × (e ≡ byte n) × Writes 16 bs n
-  hex_out bs (byte n) (inl simple) =
-      let same : x ≡ simple.0 = let e : 92 ∷ x ∷ bs ≡ 92 ∷ simple.0 ∷ [] = simple.1 in cc in
-      let none : simple_escape x ≡ None = elim form [ inl e ↦ ap simple_escape e | inr e ↦ ap simple_escape e ] in
-      absurd (let e : Some n ≡ None = sym simple.2 ∙ ap simple_escape (sym same) ∙ none in cc)
+  hex_out bs (byte n) (inl simple) = grind arith
   hex_out bs (byte n) (inr (inl octal)) =
       let same : x ∷ bs ≡ octal.0 = let e : 92 ∷ x ∷ bs ≡ 92 ∷ octal.0 = octal.1 in cc in
       let digit = All-head (λ d. is_digit d 8 ≡ true) x bs
       (subst (λ (l : List ℕ). AllPass (λ d. is_digit d 8) l) (sym same) octal.4.digits_of_base) in
       absurd (elim form [ inl e ↦ grind (arith, nat_tests) | inr e ↦ grind (arith, nat_tests) ])
-  hex_out bs (byte n) (inr (inr hex)) =
-      let same : bs ≡ hex.1 = let e : 92 ∷ x ∷ bs ≡ 92 ∷ hex.0 ∷ hex.1 = hex.2 in cc in
-      (n, omega (arith, ap length same, hex.4), omega (arith, ap length same, hex.5), refl, rw same hex.6)
-  hex_out bs (character n) unicode =
-      let same : x ≡ unicode.0 = let e : 92 ∷ x ∷ bs ≡ 92 ∷ unicode.0 ∷ unicode.1 = unicode.2 in cc in
-      absurd (elim form [
-        | inl e ↦ elim unicode.3 [ inl u ↦ omega (arith, u.0) | inr u ↦ omega (arith, u.0) ]
-        | inr e ↦
-            elim unicode.3 [ inl u ↦ omega (arith, u.0) | inr u ↦ omega (arith, u.0) ]
-      ])
+  hex_out bs (byte n) (inr (inr hex)) = grind arith
+  hex_out bs (character n) unicode = grind arith
+
+  hex_at : (k : ℕ) (e : Escaped) → k ≤ length (92 ∷ x ∷ digits) → IsEscape (take k (92 ∷ x ∷ digits)) e
+      → (j : ℕ) × (n : ℕ) × (k ≡ 2 + j) × (0 < j) × (j ≤ 2) × (e ≡ byte n) × Writes 16 (take j digits) n
+  hex_at zero e within is = absurd (omega (arith, escape_two [] e is))
+  hex_at (suc zero) e within is = absurd (omega (arith, escape_two (92 ∷ []) e is))
+  hex_at (suc (suc j)) e within is = let o = hex_out (take j digits) e is in grind (arith, length-take-le)
 
   pub hex_by_digits : EscapesByDigits (92 ∷ x ∷ digits) digits 2 2 16
   hex_by_digits = record {
     long = omega arith;
     into = λ j n pos at_most within writes.
+        let len = length-take-le j digits within in
         let same : 2 + j ≡ suc (suc j) = omega arith in
-        rw same (inr (inr (
-          x,
-          take j digits,
-          refl,
-          form,
-          omega (arith, length-take-le j digits within),
-          omega (arith, length-take-le j digits within),
-          writes,
-        )));
-    out = out;
+        rw same (grind arith);
+    out = hex_at;
   }
-    where
-      out : (k : ℕ) (e : Escaped) → k ≤ length (92 ∷ x ∷ digits) → IsEscape (take k (92 ∷ x ∷ digits)) e
-          → (j : ℕ) × (n : ℕ) × (k ≡ 2 + j) × (0 < j) × (j ≤ 2) × (e ≡ byte n) × Writes 16 (take j digits) n
-      out zero e within is = absurd (omega (arith, escape_two [] e is))
-      out (suc zero) e within is = absurd (omega (arith, escape_two (92 ∷ []) e is))
-      out (suc (suc j)) e within is =
-          let len = length-take-le j digits (omega arith) in
-          let o = hex_out (take j digits) e is in
-          (j, o.0, omega arith, omega (arith, o.1, len), omega (arith, o.2, len), o.3, o.4)
 
 module _ (u count : ℕ) (form : ((u ≡ 117) × (count ≡ 4)) ⊎ ((u ≡ 85) × (count ≡ 8))) (digits : List ℕ) where
   u_is : (u ≡ 117) ⊎ (u ≡ 85)
@@ -207,61 +135,28 @@ module _ (u count : ℕ) (form : ((u ≡ 117) × (count ≡ 4)) ⊎ ((u ≡ 85) 
 
   pub unicode_out : (bs : List ℕ) (e : Escaped) → IsEscape (92 ∷ u ∷ bs) e
       → (n : ℕ) × (length bs ≡ count) × (e ≡ character n) × Writes 16 bs n
-  unicode_out bs (byte n) (inl simple) =
-      let same : u ≡ simple.0 = let e : 92 ∷ u ∷ bs ≡ 92 ∷ simple.0 ∷ [] = simple.1 in cc in
-      let none : simple_escape u ≡ None = elim u_is [ inl e ↦ ap simple_escape e | inr e ↦ ap simple_escape e ] in
-      absurd (let e : Some n ≡ None = sym simple.2 ∙ ap simple_escape (sym same) ∙ none in cc)
+  unicode_out bs (byte n) (inl simple) = grind (arith, u_is)
   unicode_out bs (byte n) (inr (inl octal)) =
       let same : u ∷ bs ≡ octal.0 = let e : 92 ∷ u ∷ bs ≡ 92 ∷ octal.0 = octal.1 in cc in
       let digit = All-head (λ d. is_digit d 8 ≡ true) u bs
       (subst (λ (l : List ℕ). AllPass (λ d. is_digit d 8) l) (sym same) octal.4.digits_of_base) in
       absurd (elim u_is [ inl e ↦ grind (arith, nat_tests) | inr e ↦ grind (arith, nat_tests) ])
-  unicode_out bs (byte n) (inr (inr hex)) =
-      let same : u ≡ hex.0 = let e : 92 ∷ u ∷ bs ≡ 92 ∷ hex.0 ∷ hex.1 = hex.2 in cc in
-      absurd (elim u_is [
-        | inl e ↦ elim hex.3 [ inl x ↦ omega arith | inr x ↦ omega arith ]
-        | inr e ↦ elim hex.3 [ inl x ↦ omega arith | inr x ↦ omega arith ]
-      ])
-  unicode_out bs (character n) unicode =
-      let first : u ≡ unicode.0 = let e : 92 ∷ u ∷ bs ≡ 92 ∷ unicode.0 ∷ unicode.1 = unicode.2 in cc in
-      let same : bs ≡ unicode.1 = let e : 92 ∷ u ∷ bs ≡ 92 ∷ unicode.0 ∷ unicode.1 = unicode.2 in cc in
-      let len : length unicode.1 ≡ count = elim form [
-        | inl f ↦ elim unicode.3 [ inl g ↦ omega (arith, f, g) | inr g ↦ omega (arith, f, g) ]
-        | inr f ↦
-            elim unicode.3 [ inl g ↦ omega (arith, f, g) | inr g ↦ omega (arith, f, g) ]
-      ] in
-      (n, ap length same ∙ len, refl, rw same unicode.4)
+  unicode_out bs (byte n) (inr (inr hex)) = grind (arith, u_is)
+  unicode_out bs (character n) unicode = grind arith
 
   unicode_at : (k : ℕ) (e : Escaped) → k ≤ length (92 ∷ u ∷ digits) → IsEscape (take k (92 ∷ u ∷ digits)) e
       → (n : ℕ) × (k ≡ count + 2) × (e ≡ character n) × Writes 16 (take count digits) n
   unicode_at zero e within is = absurd (omega (arith, escape_two [] e is))
   unicode_at (suc zero) e within is = absurd (omega (arith, escape_two (92 ∷ []) e is))
-  unicode_at (suc (suc j)) e within is =
-      let o = unicode_out (take j digits) e is in
-      let same : j ≡ count = omega (arith, length-take-le j digits (omega arith), o.1) in
-      (o.0, omega arith, o.2, subst (λ i. Writes 16 (take i digits) o.0) same o.3)
+  unicode_at (suc (suc j)) e within is = grind (arith, length-take-le, unicode_out)
 
   pub character_found : (n : ℕ) → count ≤ length digits → Writes 16 (take count digits) n → IsScalar n
       → IsAllowedEscape (92 ∷ u ∷ digits) (count + 2) (character n)
-  character_found n within writes scalar =
-      let two : count + 2 ≡ suc (suc count) = omega arith in
-      let len = length-take-le count digits within in
-      let sizes : ((u ≡ 117) × (length (take count digits) ≡ 4)) ⊎ ((u ≡ 85) × (length (take count digits) ≡ 8)) =
-      elim form [ inl f ↦ inl (f.0, omega (arith, f.1, len)) | inr f ↦ inr (f.0, omega (arith, f.1, len)) ] in (
-        record {
-          fits = omega arith;
-          escape_is = rw two (u, take count digits, refl, sizes, writes);
-          longest = λ k other lt fits is. omega (arith, (unicode_at k other fits is).1);
-        },
-        scalar,
-      )
+  character_found n within writes scalar = grind (arith, length-take-le, unicode_at)
 
   pub character_refused : ((n : ℕ) → count ≤ length digits → Writes 16 (take count digits) n → IsScalar n → ⊥)
       → HasNoEscape (92 ∷ u ∷ digits)
-  character_refused none n e allowed =
-      let o = unicode_at n e allowed.0.fits allowed.0.escape_is in
-      let fits = allowed.0.fits in
-      none o.0 (omega (arith, o.1)) o.3 (subst IsAllowed o.2 allowed.1)
+  character_refused none n e allowed = grind (arith, unicode_at)
 
 -- ---- the simple escapes
 
@@ -277,48 +172,25 @@ module _ (c : ℕ) (rest : List ℕ) (no_digit : is_digit c 8 ≡ false) (no_x :
       let same : c ∷ bs ≡ octal.0 = let e : 92 ∷ c ∷ bs ≡ 92 ∷ octal.0 = octal.1 in cc in
       absurd (both_ways (is_digit c 8) no_digit (All-head (λ d. is_digit d 8 ≡ true) c bs
       (subst (λ (l : List ℕ). AllPass (λ d. is_digit d 8) l) (sym same) octal.4.digits_of_base)))
-  simple_out bs (byte n) (inr (inr hex)) =
-      let same : c ≡ hex.0 = let e : 92 ∷ c ∷ bs ≡ 92 ∷ hex.0 ∷ hex.1 = hex.2 in cc in
-      absurd (elim hex.3 [ inl x ↦ no_x (same ∙ x) | inr x ↦ no_X (same ∙ x) ])
-  simple_out bs (character n) unicode =
-      let same : c ≡ unicode.0 = let e : 92 ∷ c ∷ bs ≡ 92 ∷ unicode.0 ∷ unicode.1 = unicode.2 in cc in
-      absurd (elim unicode.3 [ inl g ↦ no_u (same ∙ g.0) | inr g ↦ no_U (same ∙ g.0) ])
+  simple_out bs (byte n) (inr (inr hex)) = grind arith
+  simple_out bs (character n) unicode = grind arith
 
   simple_at : (k : ℕ) (e : Escaped) → k ≤ length (92 ∷ c ∷ rest) → IsEscape (take k (92 ∷ c ∷ rest)) e
       → (n : ℕ) × (k ≡ 2) × (e ≡ byte n) × (simple_escape c ≡ Some n)
   simple_at zero e within is = absurd (omega (arith, escape_two [] e is))
   simple_at (suc zero) e within is = absurd (omega (arith, escape_two (92 ∷ []) e is))
-  simple_at (suc (suc j)) e within is =
-      let o = simple_out (take j rest) e is in
-      (o.0, omega (arith, length-take-le j rest (omega arith), o.1), o.2, o.3)
+  simple_at (suc (suc j)) e within is = grind (arith, length-take-le, simple_out)
 
   pub simple_found : (n : ℕ) → simple_escape c ≡ Some n → n < 256 → IsAllowedEscape (92 ∷ c ∷ rest) 2 (byte n)
-  simple_found n simple small = (
-    record {
-      fits = omega arith;
-      escape_is = inl (c, refl, simple);
-      longest = λ k other lt fits is. omega (arith, (simple_at k other fits is).1);
-    },
-    small,
-  )
+  simple_found n simple small = grind (arith, simple_at)
 
   pub simple_refused : simple_escape c ≡ None → HasNoEscape (92 ∷ c ∷ rest)
-  simple_refused none n e allowed =
-      let o = simple_at n e allowed.0.fits allowed.0.escape_is in
-      absurd (let f : Some o.0 ≡ None = sym o.3 ∙ none in cc)
-
-pub nothing_behind : HasNoEscape (92 ∷ [])
-nothing_behind n e allowed =
-    let two = escape_two (take n (92 ∷ [])) e allowed.0.escape_is in
-    omega (arith, allowed.0.fits, length-take-le {A = ℕ} n (92 ∷ []) allowed.0.fits)
+  simple_refused none n e allowed = grind (arith, simple_at)
 
 pub digits_begin : (digits : List ℕ) (most m : ℕ) → begins (λ d. is_digit d 8) digits ≡ true → 0 < most
     → m ≡ prefix_len (λ d. is_digit d 8) (take most digits)
     → 0 < m
-digits_begin digits zero m e pos m_is = absurd (omega arith)
-digits_begin [] (suc most) m e pos m_is = absurd cc
-digits_begin (d ∷ digits) (suc most) m e pos m_is =
-    omega (arith, m_is, run_nonempty (λ d. is_digit d 8) (d ∷ take most digits) e)
+digits_begin digits most m e pos m_is = grind (arith, common_steps, run_nonempty)
 
 -- the byte behind the backslash is none of those that begin a longer escape
 pub record IsSimpleForm (c : ℕ) : Type 0 where
@@ -329,8 +201,7 @@ pub record IsSimpleForm (c : ℕ) : Type 0 where
   pub no_U : c ≢ 85
 
 no_octal : (c : ℕ) → (c < 48) ⊎ (56 ≤ c) → is_digit c 8 ≡ false
-no_octal c (inl below) = grind (arith, nat_tests)
-no_octal c (inr above) = grind (arith, nat_tests)
+no_octal c apart = grind (arith, nat_tests)
 
 pub simple_behind : (after : List ℕ) (c n : ℕ) → Some c ≡ slice_get after 0 → IsSimpleForm c
     → Some n ≡ simple_escape c → n < 256
@@ -344,6 +215,26 @@ simple_behind (b ∷ after) c n at form simple small =
 pub none_behind : (after : List ℕ) (c : ℕ) → Some c ≡ slice_get after 0 → IsSimpleForm c → None ≡ simple_escape c
     → HasNoEscape (92 ∷ after)
 none_behind [] c at form none = absurd cc
-none_behind (b ∷ after) c at form none =
-    let same : c ≡ b = cc in
-    rw (← same) (simple_refused c after (no_octal c form.no_digit) form.no_x form.no_X form.no_u form.no_U (sym none))
+none_behind (b ∷ after) c at form none = grind (arith, no_octal, simple_refused)
+
+-- ---- one escape alone
+
+simple_no_form : (c n : ℕ) → simple_escape c ≡ Some n → (is_digit c 8 ≡ false) × (c ≢ 120) × (c ≢ 88)
+    × (c ≢ 117) × (c ≢ 85)
+simple_no_form c n e = grind (arith, common_steps, false_from_ne_true, no_simple_digit)
+
+octal_begins : (digits : List ℕ) (n : ℕ) → 0 < length digits → Writes 8 digits n
+    → begins (λ d. is_digit d 8) digits ≡ true
+octal_begins digits n long writes = grind (arith, All-head)
+
+pub escape_one : (bs : List ℕ) (d e : Escaped) → IsEscape bs d → IsEscape bs e → d ≡ e
+escape_one bs (byte m) e (inl simple) other = grind (arith, nat_tests, simple_no_form, simple_out)
+escape_one bs (byte m) e (inr (inl octal)) other =
+    let digits = octal.0 in
+    let all : digits ≡ take (length digits) digits = sym (take_all (length digits) digits (omega arith)) in
+    let o =
+    octal_out digits (octal_begins digits m octal.2 octal.4) digits e (length digits) all
+    (subst (λ (l : List ℕ). IsEscape l e) octal.1 other) octal.2 in
+    grind arith
+escape_one bs (byte m) e (inr (inr hex)) other = grind (arith, hex_out)
+escape_one bs (character m) e unicode other = grind (arith, unicode_out)

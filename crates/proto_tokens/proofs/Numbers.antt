@@ -1,4 +1,5 @@
 -- Numbers that digits write.
+use Rattle.std.proofs.lemmas.Grind.{common_steps}
 use Rattle.std.proofs.Common.{◌≡◌, ℕ, ◌+◌, ◌*◌, ◌<◌, ◌≤◌, ◌^◌, true, false, Option, None, Some, Result, List, [], ◌∷◌, length, get_or, take, drop, refl, inr, sym, ap, ◌∙◌, arith}
 use Rattle.std.specs.List.{fold, list_all}
 use Rattle.std.specs.Char.{digit_value}
@@ -43,12 +44,10 @@ pub too_big_from_step : (base : ℕ) (ds : List ℕ) (i value factor : ℕ) → 
     → value ≡ digits_value base (take i ds) → factor ≡ base
     → 2 ^ 64 ≤ value * factor + digit_value (get_or ds i 0) → 2 ^ 64 ≤ digits_value base ds
 too_big_from_step base ds i value factor pos lt value_is factor_is big =
-    let product : value * factor ≡ digits_value base (take i ds) * base = (λ k. value_is k * factor_is k) in
-    omega (arith, digits_value_more base ds i lt, digits_value_prefix base ds (i + 1) pos, product)
+    grind (arith, common_steps, digits_value_more, digits_value_prefix)
 
 pub not_digits : (base : ℕ) (ds : List ℕ) (n : ℕ) → list_all (λ d. is_digit d base) ds ≡ false → Writes base ds n → ⊥
-not_digits base ds n off w =
-    absurd (false≢true (sym off ∙ list_all-from_AllPass (λ d. is_digit d base) ds w.digits_of_base))
+not_digits base ds n off w = grind (arith, false≢true, list_all-from_AllPass)
 
 pub has_value : (bs : List ℕ) (base : ℕ) (ds : List ℕ) (value : Option ℕ) (result : Result ℕ Kind)
     → list_all (λ d. is_digit d base) ds ≡ true
@@ -68,7 +67,4 @@ has_value bs base ds (Some n) result on parts same e =
 
 pub are_written : (base : ℕ) (ds : List ℕ) (n : ℕ) → list_all (λ d. is_digit d base) ds ≡ true
     → n ≡ digits_value base ds → Writes base ds n
-are_written base ds n on value = record {
-  digits_of_base = AllPass-from_list_all (λ d. is_digit d base) ds on;
-  value = value;
-}
+are_written base ds n on value = grind (arith, AllPass-from_list_all)

@@ -1,4 +1,5 @@
 -- Which pieces are the longest at their place.
+use Rattle.std.proofs.lemmas.Grind.{common_steps}
 use Rattle.std.proofs.Common.{◌≡◌, ℕ, zero, suc, ◌+◌, ◌<◌, ◌≤◌, ◌^◌, ◌⊎◌, ◌≢◌, true, false, Option, None, Some, List, [], ◌∷◌, ◌++◌, length, get_or, take, drop, refl, sym, ap, subst, ◌∙◌, inl, inr, append_assoc, arith, get_or-take, get_or-drop, length-drop, length-take-le, ◌-◌, add-zero}
 use Rattle.std.specs.List.{AllPass, prefix_len}
 use Rattle.std.specs.Char.{is_ascii_digit, is_digit}
@@ -34,146 +35,70 @@ digit_numeric : (base : ℕ) (d : ℕ) → base ≤ 16 → is_digit d base ≡ t
 digit_numeric base d small e = grind (arith, nat_tests)
 
 digits_numeric : (base : ℕ) (ds : List ℕ) (n : ℕ) → base ≤ 16 → Writes base ds n → AllPass is_numeric ds
-digits_numeric base ds n small w = All-weaker (λ d. is_digit d base ≡ true) (λ d. is_numeric d ≡ true)
-    (λ d e. digit_numeric base d small e) ds w.digits_of_base
+digits_numeric base ds n small w = grind (arith, common_steps, All-weaker, digit_numeric)
 
 -- a numeral is letters and digits, and begins with a digit
 pub numeral_numeric : (bs : List ℕ) (n : ℕ) → IsNumeral bs n → AllPass is_numeric bs × (begins is_ascii_digit bs ≡ true)
-numeral_numeric bs n (inl hex) =
-    let x_numeric : is_numeric hex.0 ≡ true = elim hex.3 [ inl e ↦ ap is_numeric e | inr e ↦ ap is_numeric e ] in
-    rw hex.2 (
-      All-cons (λ d. is_numeric d ≡ true) 48 (hex.0 ∷ hex.1) refl
-          (All-cons (λ d. is_numeric d ≡ true) hex.0 hex.1 x_numeric (digits_numeric 16 hex.1 n (omega arith) hex.5)),
-      refl,
-    )
-numeral_numeric bs n (inr (inl octal)) =
-    rw octal.1 (
-      All-cons (λ d. is_numeric d ≡ true) 48 octal.0 refl (digits_numeric 8 octal.0 n (omega arith) octal.2),
-      refl,
-    )
-numeral_numeric bs n (inr (inr decimal)) =
-    let first : begins is_ascii_digit bs ≡ true =
-    rw decimal.2 (let low = decimal.3.0 in let high = decimal.3.1 in grind (arith, nat_tests)) in
-    (digits_numeric 10 bs n (omega arith) decimal.4, first)
+numeral_numeric bs n (inl hex) = grind (arith, nat_tests, All-cons, digits_numeric)
+numeral_numeric bs n (inr (inl octal)) = grind (arith, nat_tests, All-cons, digits_numeric)
+numeral_numeric bs n (inr (inr decimal)) = grind (arith, digits_numeric, nat_tests)
 
 -- a string begins with its quote
 string_starts : (s : List ℕ) (n : ℕ) (value : List ℕ) → IsString s n value
     → (0 < length (take n s)) × (is_quote (get_or (take n s) 0 0) ≡ true)
-string_starts s n value is =
-    let n_is : n ≡ suc (suc is.3) = omega (arith, is.6) in
-    rw (n_is, is.4.begins_so) (omega arith, is.4.quote_is)
+string_starts s n value is = grind arith
 
 -- what a prefix that isn't empty begins with
 first_taken : (s : List ℕ) (n : ℕ) → 0 < length (take n s)
     → (0 < n) × (0 < length s) × (get_or (take n s) 0 0 ≡ get_or s 0 0)
-first_taken [] zero long = absurd (omega arith)
-first_taken [] (suc n) long = absurd (omega arith)
-first_taken (b ∷ s) zero long = absurd (omega arith)
-first_taken (b ∷ s) (suc n) long = (omega arith, omega arith, refl)
+first_taken s n long = grind arith
+
+prefix_starts : (s : List ℕ) (n : ℕ) (piece : Option Lexeme) → IsPiece s n piece
+    → (0 < length (take n s)) × Starts piece (get_or (take n s) 0 0)
+prefix_starts s n piece is = grind (arith, All-get_or, begins_first, numeral_numeric, string_starts)
 
 pub starts : (s : List ℕ) (n : ℕ) (piece : Option Lexeme) → IsPiece s n piece
     → (0 < n) × (0 < length s) × Starts piece (get_or s 0 0)
-starts s n piece is =
-    let prefix = prefix_starts s n piece is in
-    let first = first_taken s n prefix.0 in
-    (first.0, first.1, subst (Starts piece) first.2 prefix.1)
-  where
-    prefix_starts : (s : List ℕ) (n : ℕ) (piece : Option Lexeme) → IsPiece s n piece
-        → (0 < length (take n s)) × Starts piece (get_or (take n s) 0 0)
-    prefix_starts s n None (inl blanks) =
-        (blanks.0, inl (All-get_or (λ b. is_blank b ≡ true) (take n s) 0 0 blanks.0 blanks.1))
-    prefix_starts s n None (inr (inl line)) = rw line.1 (omega arith, inr refl)
-    prefix_starts s n None (inr (inr block)) = rw block.1 (omega arith, inr refl)
-    prefix_starts s n (Some (identifier name)) is = begins_first is_letter (take n s) is.0.0
-    prefix_starts s n (Some (number value)) is =
-        begins_first is_ascii_digit (take n s) (numeral_numeric (take n s) value is.0).1
-    prefix_starts s n (Some (string_literal value)) is = string_starts s n value is
-    prefix_starts s n (Some (punctuation b)) is = rw is.0 (omega arith, is.1)
+starts s n piece is = let prefix = prefix_starts s n piece is in grind (arith, first_taken)
 
 -- ---- longest pieces
 
 -- no two kinds of piece begin alike, except with `/`
 pub letter_alone : (b : ℕ) (piece : Option Lexeme) → is_letter b ≡ true → Starts piece b
     → (name : List ℕ) × (piece ≡ Some (identifier name))
-letter_alone b None e (inl f) = absurd (grind (arith, nat_tests))
-letter_alone b None e (inr f) = absurd (grind (arith, nat_tests))
-letter_alone b (Some (identifier name)) e f = (name, refl)
-letter_alone b (Some (number n)) e f = absurd (grind (arith, nat_tests))
-letter_alone b (Some (string_literal value)) e f = absurd (grind (arith, nat_tests))
-letter_alone b (Some (punctuation c)) e f = absurd (grind (arith, nat_tests))
+letter_alone b piece e f = grind (arith, nat_tests)
 
 pub digit_alone : (b : ℕ) (piece : Option Lexeme) → is_ascii_digit b ≡ true → Starts piece b
     → (n : ℕ) × (piece ≡ Some (number n))
-digit_alone b None e (inl f) = absurd (grind (arith, nat_tests))
-digit_alone b None e (inr f) = absurd (grind (arith, nat_tests))
-digit_alone b (Some (identifier name)) e f = absurd (grind (arith, nat_tests))
-digit_alone b (Some (number n)) e f = (n, refl)
-digit_alone b (Some (string_literal value)) e f = absurd (grind (arith, nat_tests))
-digit_alone b (Some (punctuation c)) e f = absurd (grind (arith, nat_tests))
+digit_alone b piece e f = grind (arith, nat_tests)
 
 pub quote_alone : (b : ℕ) (piece : Option Lexeme) → is_quote b ≡ true → Starts piece b
     → (value : List ℕ) × (piece ≡ Some (string_literal value))
-quote_alone b None e (inl f) = absurd (grind (arith, nat_tests))
-quote_alone b None e (inr f) = absurd (grind (arith, nat_tests))
-quote_alone b (Some (identifier name)) e f = absurd (grind (arith, nat_tests))
-quote_alone b (Some (number n)) e f = absurd (grind (arith, nat_tests))
-quote_alone b (Some (string_literal value)) e f = (value, refl)
-quote_alone b (Some (punctuation c)) e f = absurd (grind (arith, nat_tests))
+quote_alone b piece e f = grind (arith, nat_tests)
 
 pub slash_alone : (b : ℕ) (piece : Option Lexeme) → b ≡ 47 → Starts piece b
     → (piece ≡ None) ⊎ ((c : ℕ) × (piece ≡ Some (punctuation c)))
-slash_alone b None e f = inl refl
-slash_alone b (Some (identifier name)) e f = absurd (grind (arith, nat_tests))
-slash_alone b (Some (number n)) e f = absurd (grind (arith, nat_tests))
-slash_alone b (Some (string_literal value)) e f = absurd (grind (arith, nat_tests))
-slash_alone b (Some (punctuation c)) e f = inr (c, refl)
+slash_alone b piece e f = grind (arith, nat_tests)
 
 pub blank_alone : (b : ℕ) (piece : Option Lexeme) → is_blank b ≡ true → Starts piece b → piece ≡ None
-blank_alone b None e f = refl
-blank_alone b (Some (identifier name)) e f = absurd (grind (arith, nat_tests))
-blank_alone b (Some (number n)) e f = absurd (grind (arith, nat_tests))
-blank_alone b (Some (string_literal value)) e f = absurd (grind (arith, nat_tests))
-blank_alone b (Some (punctuation c)) e f = absurd (grind (arith, nat_tests))
+blank_alone b piece e f = grind (arith, nat_tests)
 
 pub punctuation_alone : (b : ℕ) (piece : Option Lexeme) → is_punctuation b ≡ true → Starts piece b
     → ((piece ≡ None) × (b ≡ 47)) ⊎ ((c : ℕ) × (piece ≡ Some (punctuation c)))
-punctuation_alone b None e (inl f) = absurd (grind (arith, nat_tests))
-punctuation_alone b None e (inr f) = inl (refl, f)
-punctuation_alone b (Some (identifier name)) e f = absurd (grind (arith, nat_tests))
-punctuation_alone b (Some (number n)) e f = absurd (grind (arith, nat_tests))
-punctuation_alone b (Some (string_literal value)) e f = absurd (grind (arith, nat_tests))
-punctuation_alone b (Some (punctuation c)) e f = inr (c, refl)
+punctuation_alone b piece e f = grind (arith, common_steps, nat_tests)
 
 first_alone : (s : List ℕ) → 0 < length s → take 1 s ≡ get_or s 0 0 ∷ []
-first_alone [] long = absurd (omega arith)
-first_alone (b ∷ s) long = refl
+first_alone s long = grind arith
 
 -- a comment begins with `/`
 no_comment : (s : List ℕ) (k : ℕ) → 0 < k → is_blank (get_or s 0 0) ≡ true
     → IsLineComment (take k s) ⊎ IsBlockComment (take k s) → ⊥
-no_comment s k pos blank comment =
-    let first : get_or (take k s) 0 0 ≡ 47 =
-    elim comment [
-      | inl line ↦ ap (λ (l : List ℕ). get_or l 0 0) line.1
-      | inr block ↦ ap (λ (l : List ℕ). get_or l 0 0) block.1
-    ] in
-    both_ways (is_blank (get_or s 0 0)) (ap is_blank (sym (get_or-take k s 0 0 pos) ∙ first)) blank
+no_comment s k pos blank comment = grind (arith, both_ways, get_or-take)
 
 -- a `/` that neither `/` nor `*` follows begins no comment
 lone_slash : (s : List ℕ) (k : ℕ) → 1 < k → k ≤ length s → get_or s 0 0 ≡ 47
     → begins is_slash_or_star (drop 1 s) ≡ false → IsPiece s k None → ⊥
-lone_slash s k lt within slash alone (inl blanks) =
-    let first : is_blank (get_or (take k s) 0 0) ≡ true =
-    All-get_or (λ b. is_blank b ≡ true) (take k s) 0 0 blanks.0 blanks.1 in
-    both_ways (is_blank 47) refl (sym (ap is_blank (get_or-take k s 0 0 (omega arith) ∙ slash)) ∙ first)
-lone_slash s k lt within slash alone (inr (inl line)) =
-    let second : get_or s 1 0 ≡ 47 = sym (get_or-take k s 1 0 lt) ∙ ap (λ (l : List ℕ). get_or l 1 0) line.1 in
-    both_ways (begins is_slash_or_star (drop 1 s)) alone
-    (begins_second is_slash_or_star s (omega arith) (ap is_slash_or_star second))
-lone_slash s k lt within slash alone (inr (inr block)) =
-    let second : get_or s 1 0 ≡ 42 = sym (get_or-take k s 1 0 lt) ∙ ap (λ (l : List ℕ). get_or l 1 0) block.1 in
-    both_ways (begins is_slash_or_star (drop 1 s)) alone
-    (begins_second is_slash_or_star s (omega arith) (ap is_slash_or_star second))
+lone_slash s k lt within slash alone is = grind (arith, All-get_or, begins_second, both_ways, get_or-take)
 
 module _ (s : List ℕ) where
   pub longest_identifier : begins is_letter s ≡ true
@@ -215,13 +140,11 @@ module _ (s : List ℕ) where
   pub longest_number : (n : ℕ) → IsNumeral (take (prefix_len is_numeric s) s) n → n < 2 ^ 64
       → IsLongestPiece s (prefix_len is_numeric s) (Some (number n))
   longest_number n numeral small =
-      let fits = prefix_len-le-length is_numeric s in
       let first = begins_first is_ascii_digit (take (prefix_len is_numeric s) s) (numeral_numeric _ n numeral).1 in
-      let pos : 0 < prefix_len is_numeric s = omega (arith, length-take-le (prefix_len is_numeric s) s fits) in
       let digit : is_ascii_digit (get_or s 0 0) ≡ true =
-      sym (ap is_ascii_digit (get_or-take (prefix_len is_numeric s) s 0 0 pos)) ∙ first.1 in
+      grind (arith, get_or-take, length-take-le, prefix_len-le-length) in
       record {
-        fits = fits;
+        fits = prefix_len-le-length is_numeric s;
         piece_is = (numeral, small, run_stops is_numeric s);
         longest = λ k other lt within is.
             let same = digit_alone (get_or s 0 0) other digit (starts s k other is).2 in
@@ -242,21 +165,7 @@ module _ (s : List ℕ) where
 
   pub number_fault : (kind : Kind) → begins is_ascii_digit s ≡ true
       → IsNumeralFault (take (prefix_len is_numeric s) s) kind → IsPieceFault s 0 kind
-  number_fault kind e (inl bad) = inr (inl (bad.0, refl, bad_number e bad.1))
-  number_fault kind e (inr big) =
-      inr (inr
-      (inl (
-        big.0,
-        refl,
-        (
-          prefix_len is_numeric s,
-          big.1,
-          prefix_len-le-length is_numeric s,
-          big.2,
-          run_stops is_numeric s,
-          big.3,
-        ),
-      )))
+  number_fault kind e fault = grind (arith, bad_number, prefix_len-le-length, run_stops)
 
   pub longest_punctuation : (b : ℕ) → begins is_punctuation s ≡ true → b ≡ get_or s 0 0
       → (b ≡ 47 → begins is_slash_or_star (drop 1 s) ≡ false)
@@ -315,46 +224,21 @@ module _ (body : List ℕ) where
 
 module _ (rest : List ℕ) (m : ℕ) (close : IsFirstClose rest m) where
   close_ends : take (suc (suc m)) rest ≡ take m rest ++ 42 ∷ 47 ∷ []
-  close_ends =
-      let fits = close.fits in
-      let one : take (m + 1) rest ≡ take m rest ++ get_or rest m 0 ∷ [] = take_more rest m 0 (omega arith) in
-      let two : take (m + 1 + 1) rest ≡ take (m + 1) rest ++ get_or rest (m + 1) 0 ∷ [] =
-      take_more rest (m + 1) 0 fits in
-      let same : suc (suc m) ≡ m + 1 + 1 = omega arith in
-      rw same (two ∙ rw (one, close.star, close.slash) (append_assoc (take m rest) (42 ∷ []) (47 ∷ [])))
+  close_ends = grind (arith, common_steps, append_assoc, take_more)
 
   no_close_before : HasNoClose (take m rest)
-  no_close_before i star slash =
-      let fits = close.fits in
-      let len = length-take-le m rest (omega arith) in
-      elim (cases_lt (i + 1) m) [
-        | inl lt ↦ close.first i (omega arith) (sym (get_or-take m rest i 0 (omega arith)) ∙ star)
-            (sym (get_or-take m rest (i + 1) 0 lt) ∙ slash)
-        | inr le ↦ let past : get_or (take m rest) (i + 1) 0 ≡ 0 = get_or_past (take m rest) (i + 1) 0 (omega arith) in
-            absurd (omega arith)
-      ]
+  no_close_before i star slash = grind (arith, get_or-take, get_or_past, length-take-le)
 
   no_longer_block : (k : ℕ) (body : List ℕ) → suc (suc m) < k → k ≤ length rest → take k rest ≡ body ++ 42 ∷ 47 ∷ []
       → HasNoClose body → ⊥
   no_longer_block k body lt within e none =
       let fits = close.fits in
-      let len : k ≡ length body + 2 = sym (length-take-le k rest within) ∙ ap length e
-      ∙ length-append body (42 ∷ 47 ∷ []) in
-      let star : get_or body m 0 ≡ 42 = sym (get_or_append_left body (42 ∷ 47 ∷ []) 0 m (omega arith))
-      ∙ ap (λ (l : List ℕ). get_or l m 0) (sym e)
-      ∙ get_or-take k rest m 0 (omega arith) ∙ close.star in
+      let len = ap length e ∙ length-append body (42 ∷ 47 ∷ []) in
+      let star = get_or-take k rest m 0 in
+      let slash = get_or-take k rest (m + 1) 0 in
       elim (cases_lt (m + 1) (length body)) [
-        | inl in_body ↦ none m star (sym (get_or_append_left body (42 ∷ 47 ∷ []) 0 (m + 1) in_body)
-            ∙ ap (λ (l : List ℕ). get_or l (m + 1) 0) (sym e)
-            ∙ get_or-take k rest (m + 1) 0 (omega arith) ∙ close.slash)
-        | inr past ↦
-            let here : length body ≡ m + 1 = omega arith in
-            let star_again : get_or (body ++ 42 ∷ 47 ∷ []) (m + 1) 0 ≡ 42 =
-            get_or_at body 42 (47 ∷ []) 0 (m + 1) here in
-            let slash : get_or (body ++ 42 ∷ 47 ∷ []) (m + 1) 0 ≡ 47 =
-            ap (λ (l : List ℕ). get_or l (m + 1) 0) (sym e) ∙ get_or-take k rest (m + 1) 0 (omega arith)
-            ∙ close.slash in
-            absurd (omega arith)
+        | inl in_body ↦ grind (arith, get_or_append_left, length-take-le)
+        | inr past ↦ grind (arith, get_or_at, length-take-le)
       ]
 
   pub longest_block : IsLongestPiece (47 ∷ 42 ∷ rest) (suc (suc (suc (suc m)))) None
@@ -379,21 +263,13 @@ module _ (rest : List ℕ) (m : ℕ) (close : IsFirstClose rest m) where
           in_block : (k : ℕ) → suc (suc m) < k → k ≤ length rest → IsPiece (47 ∷ 42 ∷ rest) (suc (suc k)) None → ⊥
           in_block k lt within (inl blanks) = both_ways (is_blank 47) refl
               (All-get_or (λ b. is_blank b ≡ true) (47 ∷ 42 ∷ take k rest) 0 0 blanks.0 blanks.1)
-          in_block k lt within (inr (inl line)) =
-              let second : get_or (47 ∷ 42 ∷ take k rest) 1 0 ≡ 47 = ap (λ (l : List ℕ). get_or l 1 0) line.1 in
-              absurd (omega arith)
-          in_block k lt within (inr (inr block)) =
-              let same : take k rest ≡ block.0 ++ 42 ∷ 47 ∷ [] = let e : 47 ∷ 42 ∷ take k rest ≡ 47 ∷ 42
-              ∷ (block.0 ++ 42 ∷ 47 ∷ []) = block.1 in cc in
-              no_longer_block k block.0 lt within same block.2
+          in_block k lt within (inr comment) = grind (arith, no_longer_block)
 
 -- ---- where a source may be cut
 
 pub identifier_fits : (source : List ℕ) (at : ℕ) → begins is_letter (drop at source) ≡ true
     → at + prefix_len is_word (drop at source) ≤ length source
-identifier_fits source at e =
-    let first = (begins_first is_letter (drop at source) e).0 in
-    omega (arith, prefix_len-le-length is_word (drop at source), length-drop at source)
+identifier_fits source at e = grind (arith, begins_first, length-drop, prefix_len-le-length)
 
 pub identifier_boundary : (source : List ℕ) (at : ℕ) → IsUtf8 source → begins is_letter (drop at source) ≡ true
     → IsCharBoundary source (at + prefix_len is_word (drop at source))
@@ -414,45 +290,32 @@ identifier_boundary source at utf8 e =
 -- ---- comments and punctuation, as the code finds them
 
 at_two : (s : List ℕ) → 2 ≤ length s → s ≡ get_or s 0 0 ∷ get_or s 1 0 ∷ drop 2 s
-at_two [] long = absurd (omega arith)
-at_two (a ∷ []) long = absurd (omega arith)
-at_two (a ∷ b ∷ s) long = refl
+at_two s long = grind arith
 
 two_more : (s : List ℕ) (a b : ℕ) → 2 ≤ length s → get_or s 0 0 ≡ a → get_or s 1 0 ≡ b
     → s ≡ a ∷ b ∷ take (length s - 2) (drop 2 s)
-two_more s a b long first second = at_two s long
-    ∙ rw (first, second) (ap (λ (l : List ℕ). a ∷ b ∷ l) (sym (take_rest s 2)))
+two_more s a b long first second = grind (arith, common_steps, at_two, take_rest)
 
 pub line_found : (s : List ℕ) (n : ℕ) → 2 ≤ length s → get_or s 0 0 ≡ 47 → get_or s 1 0 ≡ 47
     → n ≡ prefix_len is_in_line (take (length s - 2) (drop 2 s))
     → IsLongestPiece s (n + 2) None
-line_found s n long first second n_is =
-    let body = take (length s - 2) (drop 2 s) in
-    let same : n + 2 ≡ suc (suc (prefix_len is_in_line body)) = omega (arith, n_is) in
-    rw same (subst (λ (l : List ℕ). IsLongestPiece l (suc (suc (prefix_len is_in_line body))) None)
-    (sym (two_more s 47 47 long first second))
-    (longest_line body))
+line_found s n long first second n_is = grind (arith, longest_line, two_more)
 
 pub block_found : (s : List ℕ) (m : ℕ) → 2 ≤ length s → get_or s 0 0 ≡ 47 → get_or s 1 0 ≡ 42
     → IsFirstClose (take (length s - 2) (drop 2 s)) m
     → IsLongestPiece s (m + 4) None
 block_found s m long first second close =
-    let same : m + 4 ≡ suc (suc (suc (suc m))) = omega arith in
-    rw same (subst (λ (l : List ℕ). IsLongestPiece l (suc (suc (suc (suc m)))) None)
-    (sym (two_more s 47 42 long first second))
-    (longest_block (take (length s - 2) (drop 2 s)) m close))
+    let here = two_more s 47 42 long first second in
+    let found = longest_block (take (length s - 2) (drop 2 s)) m close in
+    grind arith
 
 -- a byte that no `/` or `*` follows
 pub alone_short : (s : List ℕ) → length s < 2 → begins is_slash_or_star (drop 1 s) ≡ false
-alone_short [] long = refl
-alone_short (a ∷ []) long = refl
-alone_short (a ∷ b ∷ s) long = absurd (omega arith)
+alone_short s long = grind arith
 
 pub alone_other : (s : List ℕ) → 2 ≤ length s → get_or s 1 0 ≢ 47 → get_or s 1 0 ≢ 42
     → begins is_slash_or_star (drop 1 s) ≡ false
-alone_other [] long no_slash no_star = absurd (omega arith)
-alone_other (a ∷ []) long no_slash no_star = absurd (omega arith)
-alone_other (a ∷ b ∷ s) long no_slash no_star = grind (arith, nat_tests)
+alone_other s long no_slash no_star = grind (arith, nat_tests)
 
 pub fault_here : (s rest : List ℕ) (at : ℕ) (kind : Kind) (e : TokenError) → rest ≡ s → IsPieceFault rest 0 kind
     → e ≡ errors.At (record { offset = at }) kind
@@ -468,7 +331,4 @@ bad_byte s long blank letter digit quote mark = inl (refl, refl, (long, blank, g
 
 pub found_identifier : (s name : List ℕ) → begins is_letter s ≡ true → name ≡ take (prefix_len is_word s) s
     → IsLongestPiece s (length name) (Some (identifier name))
-found_identifier s name e name_is =
-    let len : length name ≡ prefix_len is_word s =
-    ap length name_is ∙ length-take-le (prefix_len is_word s) s (prefix_len-le-length is_word s) in
-    rw (len, name_is) (longest_identifier s e)
+found_identifier s name e name_is = grind (arith, length-take-le, longest_identifier, prefix_len-le-length)

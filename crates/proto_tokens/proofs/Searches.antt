@@ -1,5 +1,5 @@
 -- What the searches for a byte and for the end of a block comment find.
-use Rattle.std.proofs.Common.{◌≡◌, ℕ, zero, suc, ◌+◌, ◌<◌, ◌≤◌, true, List, [], ◌∷◌, Option, Some, None, length, get_or, sym, ap, ◌∙◌, arith, add-zero}
+use Rattle.std.proofs.Common.{◌≡◌, ℕ, ◌+◌, ◌<◌, ◌≤◌, true, List, [], ◌∷◌, Option, Some, None, length, get_or, sym, ap, ◌∙◌, arith, add-zero}
 use Rattle.std.specs.Prelude.{MatchOption}
 use Rattle.std.specs.List.{prefix_len}
 use Rattle.std.specs.Option.{unwrap_or}
@@ -21,24 +21,15 @@ pub line_ends : (s : List ℕ) (r : Option ℕ) → IsFirstByte (is_byte 10) s r
 line_ends s None none =
     sym (prefix_len_is is_in_line s (length s) 0 (omega arith)
     (λ k lt. stays (get_or s k 0) (none k (omega arith) lt)) (λ lt. absurd (omega arith)))
-line_ends s (Some n) found =
-    let first = found.0 in
-    let within = first.high in
-    sym (prefix_len_is is_in_line s n 0 (omega arith)
-    (λ k lt. stays (get_or s k 0) (first.before k (omega arith) lt))
-    (λ lt. not_from_true (is_byte 10 (get_or s n 0)) found.1))
+line_ends s (Some n) found = grind (arith, not_from_true, prefix_len_is, stays)
 
 -- `*` and `/` behind it are the needle
 close_reads : (s : List ℕ) (i : ℕ) → get_or s i 0 ≡ 42 → get_or s (i + 1) 0 ≡ 47 → (j : ℕ) → j < 2
     → get_or s (i + j) 0 ≡ get_or (42 ∷ 47 ∷ []) j 0
-close_reads s i star slash zero lt = ap (λ k. get_or s k 0) (add-zero i) ∙ star
-close_reads s i star slash (suc zero) lt = slash
-close_reads s i star slash (suc (suc j)) lt = absurd (omega arith)
+close_reads s i star slash j lt = grind (arith, add-zero)
 
 close_occurs : (s : List ℕ) (i : ℕ) → get_or s i 0 ≡ 42 → get_or s (i + 1) 0 ≡ 47 → OccursAt s (42 ∷ 47 ∷ []) i
-close_occurs s i star slash =
-    let past : length s ≤ i + 1 → ⊥ = λ le. let e = sym (get_or_past s (i + 1) 0 le) ∙ slash in cc in
-    record { fits = omega (arith, past); reads = close_reads s i star slash }
+close_occurs s i star slash = grind (arith, close_reads, get_or_past)
 
 -- what a search for `*/` finds is its first place
 pub close_found : (s : List ℕ) (r : Option ℕ) → FindsNeedle s (42 ∷ 47 ∷ []) 0 r

@@ -1,6 +1,6 @@
 -- Strings, part after part.
 use Rattle.std.proofs.Common.{◌≡◌, ℕ, zero, suc, ◌+◌, ◌<◌, ◌≤◌, true, false, Some, List, [], ◌∷◌, ◌++◌, length, get_or, take, drop, ◌⊎◌, refl, sym, ap, subst, ◌∙◌, inl, inr, arith, append_assoc, length-take-le, length-drop, get_or-take, add-zero, zero-add, add-one}
-use Rattle.std.specs.Prelude.{slice_range, ◌-◌}
+use Rattle.std.specs.Prelude.{slice_range}
 use Rattle.std.specs.List.{prefix_len}
 use Rattle.std.proofs.lemmas.Bool.{both_ways}
 use Rattle.std.proofs.lemmas.Bool.Decides.{nat_tests}
@@ -19,8 +19,8 @@ use Rattle.proto_tokens.specs.Piece.{IsPiece, IsLongestPiece, IsPieceFault}
 use Rattle.std.specs.Str.{IsUtf8}
 use Rattle.proto_tokens.specs.Escape.{Escaped, IsLongestEscape, IsAllowedEscape, escaped_bytes}
 use Rattle.proto_tokens.specs.Steps.{HasNoEscape, IsClosed, IsFaultAfter}
-use Rattle.proto_tokens.proofs.CutLemmas.{cut_more}
-use Rattle.proto_tokens.proofs.Escapes.{escape_begins}
+use Rattle.proto_tokens.proofs.CutLemmas.{cut_more, cut_one}
+use Rattle.proto_tokens.proofs.Escapes.{escape_begins, escape_one}
 use Rattle.proto_tokens.proofs.Pieces.{starts, quote_alone}
 
 -- behind the quote the bytes up to a place have this value
@@ -97,10 +97,7 @@ read_plain quote after value n n_is value_is =
 -- an escape begins with a backslash
 pub escape_first : (s : List ℕ) (b : ℕ) (rest : List ℕ) (n : ℕ) (e : Escaped) → s ≡ b ∷ rest
     → IsAllowedEscape s n e → b ≡ 92
-escape_first s b rest n e s_is allowed =
-    let first = escape_begins (take n s) e allowed.0.escape_is in
-    let pos : 0 < n = omega (arith, first.0, length-take-le n s allowed.0.fits) in
-    ap (λ (l : List ℕ). get_or l 0 0) (sym s_is) ∙ sym (get_or-take n s 0 0 pos) ∙ first.1
+escape_first s b rest n e s_is allowed = grind (arith, escape_begins, get_or-take, length-take-le)
 
 pub not_plain : (quote b : ℕ) → b ≡ 92 → is_plain quote b ≡ false
 not_plain quote b e = grind (arith, nat_tests)
@@ -108,47 +105,24 @@ not_plain quote b e = grind (arith, nat_tests)
 pub no_part : (quote : ℕ) (s : List ℕ) (b : ℕ) (rest : List ℕ) → s ≡ b ∷ rest → is_plain quote b ≡ false
     → (b ≡ 92 → HasNoEscape s) → (p : Part)
     → IsPart quote s p → ⊥
-no_part quote s b rest s_is not_plain none p (inl plain) =
-    let same : b ≡ plain.0 = let e : b ∷ rest ≡ plain.0 ∷ plain.1 = sym s_is ∙ plain.2 in cc in
-    both_ways (is_plain quote b) not_plain (ap (is_plain quote) same ∙ plain.3)
-no_part quote s b rest s_is not_plain none p (inr escape) =
-    none (escape_first s b rest p.len escape.0 s_is escape.1) p.len escape.0 escape.1
+no_part quote s b rest s_is not_plain none p is = grind (arith, both_ways, escape_first, not_plain)
 
 -- ---- one cutting alone
 
 pub same_longest : (s : List ℕ) (m n : ℕ) (d e : Escaped) → IsLongestEscape s m d → IsLongestEscape s n e → m ≡ n
-same_longest s m n d e a b =
-    let fits_a = a.fits in
-    let fits_b = b.fits in
-    let no_less : m < n → ⊥ = λ lt. a.longest n e lt b.fits b.escape_is in
-    let no_more : n < m → ⊥ = λ lt. b.longest m d lt a.fits a.escape_is in
-    omega (arith, no_less, no_more)
+same_longest s m n d e a b = grind arith
 
--- two parts at one place are as long
-part_len : (quote : ℕ) (s : List ℕ) (p q : Part) → IsPart quote s p → IsPart quote s q → p.len ≡ q.len
-part_len quote s p q (inl a) (inl b) = a.4 ∙ sym b.4
-part_len quote s p q (inl a) (inr b) =
-    let backslash = escape_first s a.0 a.1 q.len b.0 a.2 b.1 in
-    absurd (both_ways (is_plain quote a.0) (not_plain quote a.0 backslash) a.3)
-part_len quote s p q (inr a) (inl b) =
-    let backslash = escape_first s b.0 b.1 p.len a.0 b.2 a.1 in
-    absurd (both_ways (is_plain quote b.0) (not_plain quote b.0 backslash) b.3)
-part_len quote s p q (inr a) (inr b) = same_longest s p.len q.len a.0 b.0 a.1.0 b.1.0
+part_one : (quote : ℕ) (s : List ℕ) (p q : Part) → IsPart quote s p → IsPart quote s q → p ≡ q
+part_one quote s p q a b = grind (arith, both_ways, escape_first, escape_one, not_plain, same_longest)
 
--- two cuttings that end where no part stands end at one place
-cut_end : (quote : ℕ) (s : List ℕ) (from : ℕ) (ps qs : List Part) (m n : ℕ)
-    → IsCutInto (IsPart quote) (λ p. p.len) s from ps m
-    → IsCutInto (IsPart quote) (λ p. p.len) s from qs n
-    → ((p : Part) → IsPart quote (drop m s) p → ⊥) → ((p : Part) → IsPart quote (drop n s) p → ⊥) → m ≡ n
-cut_end quote s from [] [] m n a b no_m no_n = sym a ∙ b
-cut_end quote s from [] (q ∷ qs) m n a b no_m no_n =
-    absurd (no_m q (subst (λ (i : ℕ). IsPart quote (drop i s) q) a b.0))
-cut_end quote s from (p ∷ ps) [] m n a b no_m no_n =
-    absurd (no_n p (subst (λ (i : ℕ). IsPart quote (drop i s) p) b a.0))
-cut_end quote s from (p ∷ ps) (q ∷ qs) m n a b no_m no_n =
-    let same = part_len quote (drop from s) p q a.0 b.0 in
-    cut_end quote s (from + p.len) ps qs m n a.1
-    (subst (λ (i : ℕ). IsCutInto (IsPart quote) (λ p. p.len) s (from + i) qs n) (sym same) b.1) no_m no_n
+pub opened_one : (s : List ℕ) (q r : ℕ) (a b : List ℕ) (ps qs : List Part) (m n : ℕ) → IsOpened s q a ps m
+    → IsOpened s r b qs n
+    → ((p : Part) → IsPart q (drop m a) p → ⊥) → ((p : Part) → IsPart r (drop n b) p → ⊥)
+    → (q ≡ r) × (a ≡ b) × (ps ≡ qs) × (m ≡ n)
+opened_one s q r a b ps qs m n x y no_m no_n =
+    let one = cut_one (IsPart q) (λ p. p.len) (part_one q) a 0 ps qs m n x.cut (grind arith) no_m
+    (λ p is. no_n p (grind arith)) in
+    grind arith
 
 -- no part stands at the closing quote
 pub no_part_at_quote : (quote : ℕ) (after : List ℕ) (end : ℕ) → is_quote quote ≡ true → HasByteAt after end quote
@@ -163,19 +137,10 @@ no_part_at_quote quote after end quote_is closes p is =
 module _ (s : List ℕ) (n : ℕ) (value : List ℕ) (is : IsString s n value) where
   string_longest : (k : ℕ) (other : List ℕ) → n < k → IsString s k other → ⊥
   string_longest k other lt more =
-      let same_cons : is.0 ∷ is.1 ≡ more.0 ∷ more.1 = sym is.4.begins_so ∙ more.4.begins_so in
-      let quote : more.0 ≡ is.0 = cc in
-      let after : more.1 ≡ is.1 = cc in
-      let cut : IsCutInto (IsPart is.0) (λ p. p.len) is.1 0 more.2 more.3 =
-      subst (λ (q : ℕ). IsCutInto (IsPart q) (λ p. p.len) is.1 0 more.2 more.3) quote
-      (subst (λ (l : List ℕ). IsCutInto (IsPart more.0) (λ p. p.len) l 0 more.2 more.3) after more.4.cut) in
-      let closes : HasByteAt is.1 more.3 is.0 =
-      subst (λ (q : ℕ). HasByteAt is.1 more.3 q) quote
-      (subst (λ (l : List ℕ). HasByteAt l more.3 more.0) after more.5) in
-      let same = cut_end is.0 is.1 0 is.2 more.2 is.3 more.3 is.4.cut cut
+      let one = opened_one s is.0 more.0 is.1 more.1 is.2 more.2 is.3 more.3 is.4 more.4
       (no_part_at_quote is.0 is.1 is.3 is.4.quote_is is.5)
-      (no_part_at_quote is.0 is.1 more.3 is.4.quote_is closes) in
-      omega (arith, is.6, more.6, same)
+      (no_part_at_quote more.0 more.1 more.3 more.4.quote_is more.5) in
+      omega (arith, is.6, more.6, one)
 
   pub longest_string : IsLongestPiece s n (Some (string_literal value))
   longest_string = record {
@@ -238,8 +203,7 @@ pub after_quote_boundary : (source : List ℕ) (at : ℕ) → IsUtf8 source → 
     → begins is_quote (drop at source) ≡ true
     → IsCharBoundary source (at + 1)
 after_quote_boundary source at utf8 lt e =
-    IsCharBoundary-after_ascii source at utf8 lt (quote_ascii (get_or source at 0)
-    (begins_quote source at (get_or source at 0) (drop (at + 1) source) e (drop_more source at 0 lt)))
+    grind (arith, IsCharBoundary-after_ascii, begins_quote, drop_more, quote_ascii)
 
 pub found_string : (s : List ℕ) (quote : ℕ) (after value bytes : List ℕ) (end : ℕ) → s ≡ quote ∷ after
     → IsClosed quote after value end → bytes ≡ value
@@ -249,9 +213,7 @@ found_string s quote after value bytes end s_is closed same utf8 =
 
 pub slice_behind : (source bytes after : List ℕ) (at len : ℕ) → bytes ≡ source → after ≡ drop (at + 1) bytes
     → slice_range source (at + 1) (at + 1 + len) ≡ take len after
-slice_behind source bytes after at len same after_is =
-    let size : at + 1 + len - (at + 1) ≡ len = omega arith in
-    rw (size, after_is, same) refl
+slice_behind source bytes after at len same after_is = grind arith
 
 pub not_text_here : (s : List ℕ) (quote : ℕ) (after value : List ℕ) (end at : ℕ) (e : TokenError) → s ≡ quote ∷ after
     → IsClosed quote after value end
@@ -267,13 +229,7 @@ not_text_here s quote after value end at e s_is closed no_text e_is =
 pub unclosed_here : (quote : ℕ) (after value : List ℕ) (end at : ℕ) (e : TokenError) → is_quote quote ≡ true
     → IsReadUpTo quote after value end → (length after ≤ end) ⊎ HasByteAt after end 10
     → e ≡ errors.At (record { offset = at }) kinds.UnclosedString → IsFaultAfter (quote ∷ after) at e
-unclosed_here quote after value end at e quote_is so_far ends e_is =
-    let opened : IsOpened (quote ∷ after) quote after so_far.parts end =
-    record { begins_so = refl; quote_is = quote_is; cut = so_far.cut; within = so_far.within } in
-    let stops : (end ≡ length after) ⊎ HasByteAt after end 10 =
-    elim ends [ inl past ↦ inl (omega (arith, so_far.within)) | inr line_feed ↦ inr line_feed ] in
-    let fault = inr (inr (inr (refl, refl, stops))) in
-    rw e_is (0, inr (inr (inr (inr (quote, after, so_far.parts, end, opened, fault)))), sym (add-zero at))
+unclosed_here quote after value end at e quote_is so_far ends e_is = grind (arith, add-zero)
 
 -- a backslash at which no escape stands
 pub no_escape_here : (quote : ℕ) (after value behind : List ℕ) (end at : ℕ) (e : TokenError) → is_quote quote ≡ true

@@ -1,199 +1,60 @@
 -- A text has one list of tokens or one fault.
-use Rattle.std.proofs.Common.{◌≡◌, ◌≢◌, ℕ, zero, suc, ◌+◌, ◌<◌, ◌≤◌, ◌⊎◌, true, false, Option, None, Some, List, [], ◌∷◌, ◌++◌, length, get_or, take, drop, refl, sym, ap, subst, ◌∙◌, inl, inr, arith, length-take-le, length-drop, get_or-take}
+use Rattle.std.proofs.lemmas.Grind.{common_steps}
+use Rattle.std.proofs.Common.{◌≡◌, ℕ, zero, suc, ◌+◌, ◌<◌, ◌≤◌, ◌⊎◌, true, false, Option, None, Some, List, [], ◌∷◌, ◌++◌, length, get_or, take, drop, refl, sym, ap, subst, ◌∙◌, inl, inr, arith, length-take-le, length-drop, get_or-take}
 use Rattle.std.specs.List.{AllPass, prefix_len}
-use Rattle.std.specs.Char.{is_digit, is_ascii_digit, is_ascii_graphic}
-use Rattle.std.proofs.lemmas.Bool.{both_ways, false_from_ne_true}
-use Rattle.std.proofs.lemmas.List.{length-append, get_or_at, get_or-append-add, take_all, drop_all, drop_more}
+use Rattle.std.specs.Char.{is_ascii_digit, is_ascii_graphic}
+use Rattle.std.proofs.lemmas.Bool.{both_ways}
+use Rattle.std.proofs.lemmas.List.{length-append, get_or_at, get_or-append-add, drop_all, drop_more}
 use Rattle.std.specs.Str.{IsUtf8}
 use Rattle.proto_base.specs.declared.kind.Kind.{Kind}
 use Rattle.proto_base.specs.declared.kind.Kind.TheVariants as kinds
 use Rattle.std.proofs.lemmas.Bool.Decides.{nat_tests}
 use Rattle.std.proofs.lemmas.List.Elements.{All-head, All-get_or}
-use Rattle.proto_tokens.specs.Bytes.{begins, is_blank, is_quote, is_numeric, is_slash_or_star}
-use Rattle.proto_tokens.specs.Cut.{IsCutInto}
-use Rattle.proto_tokens.specs.Numeral.{Writes, IsNumeral, digits_value}
-use Rattle.proto_tokens.specs.Quoted.{Part, IsPart, IsOpened, HasByteAt, IsString, IsStringFault, IsPartFault, is_plain, value_of}
+use Rattle.proto_tokens.specs.Bytes.{begins, is_blank, is_quote, is_numeric}
+use Rattle.proto_tokens.specs.Numeral.{Writes, IsNumeral}
+use Rattle.proto_tokens.specs.Quoted.{Part, IsPart, HasByteAt, IsString, IsStringFault, IsPartFault, is_plain, value_of}
 use Rattle.proto_tokens.specs.Token.{Lexeme, identifier, number, string_literal, punctuation, Spelled}
 use Rattle.proto_tokens.specs.ProgramTokens.{tokens_of}
-use Rattle.proto_tokens.specs.Piece.{IsPiece, IsLongestPiece, IsPieceFault, IsBadNumber, IsTooBig, HasNoClose}
+use Rattle.proto_tokens.specs.Piece.{IsUnclosedComment, IsPiece, IsLongestPiece, IsPieceFault, IsBadNumber, IsTooBig, HasNoClose}
 use Rattle.proto_tokens.specs.Spelling.{Piece, tokens_from, SpellsFrom, HasPieceFault, IsTokenList, IsFault, mark_len}
 use Rattle.proto_tokens.specs.Told.{IsFaultOf, TellsFault}
-use Rattle.proto_tokens.specs.Escape.{Escaped, byte, character, simple_escape, IsEscape, escaped_bytes}
 use Rattle.proto_tokens.specs.declared.token.Tokens.{Tokens}
 use Rattle.std.specs.Prelude.{Result, Ok, Err, MatchResult, IsErrAnd}
 use Rattle.proto_tokens.specs.declared.token.TokenError.{TokenError}
 use Rattle.proto_tokens.specs.declared.token.TokenError.TheVariants as errors
-use Rattle.proto_tokens.proofs.Escapes.{octal_out, hex_out, unicode_out, simple_out, no_simple_digit, escape_begins}
-use Rattle.proto_tokens.proofs.Strings.{same_longest, escape_first, not_plain, no_part_at_quote, no_part}
+use Rattle.proto_tokens.proofs.Escapes.{escape_begins}
+use Rattle.proto_tokens.proofs.Strings.{opened_one, no_part_at_quote, no_part}
+use Rattle.proto_tokens.proofs.CutLemmas.{cut_one}
 use Rattle.proto_tokens.proofs.Runs.{begins_first, run_longest, within_run}
 use Rattle.proto_tokens.proofs.Pieces.{Starts, starts, numeral_numeric, slash_alone, letter_alone, digit_alone, quote_alone, punctuation_alone}
 
 -- ---- numerals
 
 x_no_digit : (x : ℕ) (digits ds : List ℕ) (n : ℕ) → (x ≡ 120) ⊎ (x ≡ 88) → x ∷ digits ≡ ds → Writes 8 ds n → ⊥
-x_no_digit x digits ds n form same writes =
-    let digit = All-head (λ d. is_digit d 8 ≡ true) x digits
-    (subst (λ (l : List ℕ). AllPass (λ d. is_digit d 8) l) (sym same) writes.digits_of_base) in
-    elim form [ inl e ↦ grind (arith, nat_tests) | inr e ↦ grind (arith, nat_tests) ]
+x_no_digit x digits ds n form same writes = grind (arith, All-head, nat_tests)
 
 numeral_one : (bs : List ℕ) (m n : ℕ) → IsNumeral bs m → IsNumeral bs n → m ≡ n
-numeral_one bs m n (inl a) (inl b) =
-    let same : a.1 ≡ b.1 = let e : 48 ∷ a.0 ∷ a.1 ≡ 48 ∷ b.0 ∷ b.1 = sym a.2 ∙ b.2 in cc in
-    a.5.value ∙ ap (digits_value 16) same ∙ sym b.5.value
-numeral_one bs m n (inl a) (inr (inl b)) =
-    let same : a.0 ∷ a.1 ≡ b.0 = let e : 48 ∷ a.0 ∷ a.1 ≡ 48 ∷ b.0 = sym a.2 ∙ b.1 in cc in
-    absurd (x_no_digit a.0 a.1 b.0 n a.3 same b.2)
-numeral_one bs m n (inl a) (inr (inr b)) =
-    let first : 48 ≡ b.0 = let e : 48 ∷ a.0 ∷ a.1 ≡ b.0 ∷ b.1 = sym a.2 ∙ b.2 in cc in
-    absurd (omega (arith, b.3.0, first))
-numeral_one bs m n (inr (inl a)) (inl b) =
-    let same : b.0 ∷ b.1 ≡ a.0 = let e : 48 ∷ b.0 ∷ b.1 ≡ 48 ∷ a.0 = sym b.2 ∙ a.1 in cc in
-    absurd (x_no_digit b.0 b.1 a.0 m b.3 same a.2)
-numeral_one bs m n (inr (inl a)) (inr (inl b)) =
-    let same : a.0 ≡ b.0 = let e : 48 ∷ a.0 ≡ 48 ∷ b.0 = sym a.1 ∙ b.1 in cc in
-    a.2.value ∙ ap (digits_value 8) same ∙ sym b.2.value
-numeral_one bs m n (inr (inl a)) (inr (inr b)) =
-    let first : 48 ≡ b.0 = let e : 48 ∷ a.0 ≡ b.0 ∷ b.1 = sym a.1 ∙ b.2 in cc in absurd (omega (arith, b.3.0, first))
-numeral_one bs m n (inr (inr a)) (inl b) =
-    let first : 48 ≡ a.0 = let e : 48 ∷ b.0 ∷ b.1 ≡ a.0 ∷ a.1 = sym b.2 ∙ a.2 in cc in
-    absurd (omega (arith, a.3.0, first))
-numeral_one bs m n (inr (inr a)) (inr (inl b)) =
-    let first : 48 ≡ a.0 = let e : 48 ∷ b.0 ≡ a.0 ∷ a.1 = sym b.1 ∙ a.2 in cc in absurd (omega (arith, a.3.0, first))
-numeral_one bs m n (inr (inr a)) (inr (inr b)) = a.4.value ∙ sym b.4.value
-
--- ---- escapes
-
-simple_no_form : (c n : ℕ) → simple_escape c ≡ Some n → (is_digit c 8 ≡ false) × (c ≢ 120) × (c ≢ 88)
-    × (c ≢ 117) × (c ≢ 85)
-simple_no_form c n e = (
-  false_from_ne_true (is_digit c 8) (λ digit. no_simple_digit c n digit e),
-  (λ same. let none : simple_escape c ≡ None = ap simple_escape same in let f : Some n ≡ None = sym e ∙ none in
-      absurd cc),
-  (λ same. let none : simple_escape c ≡ None = ap simple_escape same in let f : Some n ≡ None = sym e ∙ none in
-      absurd cc),
-  (λ same. let none : simple_escape c ≡ None = ap simple_escape same in let f : Some n ≡ None = sym e ∙ none in
-      absurd cc),
-  (λ same. let none : simple_escape c ≡ None = ap simple_escape same in let f : Some n ≡ None = sym e ∙ none in
-      absurd cc),
-)
-
-octal_begins : (digits : List ℕ) (n : ℕ) → 0 < length digits → Writes 8 digits n
-    → begins (λ d. is_digit d 8) digits ≡ true
-octal_begins [] n long writes = absurd (omega arith)
-octal_begins (d ∷ digits) n long writes = All-head (λ d. is_digit d 8 ≡ true) d digits writes.digits_of_base
-
-escape_one : (bs : List ℕ) (d e : Escaped) → IsEscape bs d → IsEscape bs e → d ≡ e
-escape_one bs (byte m) e (inl simple) other =
-    let no = simple_no_form simple.0 m simple.2 in
-    let o = simple_out simple.0 [] no.0 no.1 no.2 no.3 no.4 [] e
-    (subst (λ (l : List ℕ). IsEscape l e) simple.1 other) in
-    let same : Some m ≡ Some o.0 = sym simple.2 ∙ o.3 in
-    let value : m ≡ o.0 = cc in
-    ap byte value ∙ sym o.2
-escape_one bs (byte m) e (inr (inl octal)) other =
-    let digits = octal.0 in
-    let all : digits ≡ take (length digits) digits = sym (take_all (length digits) digits (omega arith)) in
-    let o =
-    octal_out digits (octal_begins digits m octal.2 octal.4) digits e (length digits) all
-    (subst (λ (l : List ℕ). IsEscape l e) octal.1 other) octal.2 in
-    let value : m ≡ o.0 = octal.4.value ∙ sym o.3.value in
-    ap byte value ∙ sym o.2
-escape_one bs (byte m) e (inr (inr hex)) other =
-    let o = hex_out hex.0 hex.3 [] hex.1 e (subst (λ (l : List ℕ). IsEscape l e) hex.2 other) in
-    let value : m ≡ o.0 = hex.6.value ∙ sym o.4.value in
-    ap byte value ∙ sym o.3
-escape_one bs (character m) e unicode other =
-    let o = unicode_out unicode.0 (length unicode.1)
-    (elim unicode.3 [ inl f ↦ inl (f.0, f.1) | inr f ↦ inr (f.0, f.1) ]) [] unicode.1 e
-    (subst (λ (l : List ℕ). IsEscape l e) unicode.2 other) in
-    let value : m ≡ o.0 = unicode.4.value ∙ sym o.3.value in
-    ap character value ∙ sym o.2
-
--- ---- cuttings
-
--- where one part at most stands at a place, a text has one cutting that can't go on
-pub cut_one : {P : Type 0} (IsPart : List ℕ → P → Type 0) (len : P → ℕ)
-    → ((s : List ℕ) (p q : P) → IsPart s p → IsPart s q → p ≡ q)
-    → (s : List ℕ) (from : ℕ) (ps qs : List P) (m n : ℕ) → IsCutInto IsPart len s from ps m
-    → IsCutInto IsPart len s from qs n
-    → ((p : P) → IsPart (drop m s) p → ⊥) → ((p : P) → IsPart (drop n s) p → ⊥) → (ps ≡ qs) × (m ≡ n)
-cut_one IsPart len one s from [] [] m n a b no_m no_n = (refl, sym a ∙ b)
-cut_one IsPart len one s from [] (q ∷ qs) m n a b no_m no_n =
-    absurd (no_m q (subst (λ (i : ℕ). IsPart (drop i s) q) a b.0))
-cut_one IsPart len one s from (p ∷ ps) [] m n a b no_m no_n =
-    absurd (no_n p (subst (λ (i : ℕ). IsPart (drop i s) p) b a.0))
-cut_one {P} IsPart len one s from (p ∷ ps) (q ∷ qs) m n a b no_m no_n =
-    let same = one (drop from s) p q a.0 b.0 in
-    let rest = cut_one IsPart len one s (from + len p) ps qs m n a.1
-    (subst (λ (r : P). IsCutInto IsPart len s (from + len r) qs n) (sym same) b.1) no_m no_n in
-    ((λ i. same i ∷ rest.0 i), rest.1)
-
-same_part : (p q : Part) → p.len ≡ q.len → p.value ≡ q.value → p ≡ q
-same_part p q len value = λ i. record { len = len i; value = value i }
-
-part_one : (quote : ℕ) (s : List ℕ) (p q : Part) → IsPart quote s p → IsPart quote s q → p ≡ q
-part_one quote s p q (inl a) (inl b) =
-    let first : a.0 ≡ b.0 = let e : a.0 ∷ a.1 ≡ b.0 ∷ b.1 = sym a.2 ∙ b.2 in cc in
-    same_part p q (a.4 ∙ sym b.4) (a.5 ∙ ap (λ c. c ∷ []) first ∙ sym b.5)
-part_one quote s p q (inl a) (inr b) =
-    let backslash = escape_first s a.0 a.1 q.len b.0 a.2 b.1 in
-    absurd (both_ways (is_plain quote a.0) (not_plain quote a.0 backslash) a.3)
-part_one quote s p q (inr a) (inl b) =
-    let backslash = escape_first s b.0 b.1 p.len a.0 b.2 a.1 in
-    absurd (both_ways (is_plain quote b.0) (not_plain quote b.0 backslash) b.3)
-part_one quote s p q (inr a) (inr b) =
-    let len = same_longest s p.len q.len a.0 b.0 a.1.0 b.1.0 in
-    let e = escape_one (take q.len s) a.0 b.0 (subst (λ (n : ℕ). IsEscape (take n s) a.0) len a.1.0.escape_is)
-    b.1.0.escape_is in
-    same_part p q len (a.2 ∙ ap escaped_bytes e ∙ sym b.2)
+numeral_one bs m n a b = grind (arith, x_no_digit)
 
 -- ---- strings
-
-opened_one : (s : List ℕ) (q r : ℕ) (a b : List ℕ) (ps qs : List Part) (m n : ℕ) → IsOpened s q a ps m
-    → IsOpened s r b qs n
-    → ((p : Part) → IsPart q (drop m a) p → ⊥) → ((p : Part) → IsPart r (drop n b) p → ⊥)
-    → (q ≡ r) × (a ≡ b) × (ps ≡ qs) × (m ≡ n)
-opened_one s q r a b ps qs m n x y no_m no_n =
-    let same : q ∷ a ≡ r ∷ b = sym x.begins_so ∙ y.begins_so in
-    let quote : q ≡ r = cc in
-    let after : a ≡ b = cc in
-    let cut : IsCutInto (IsPart q) (λ p. p.len) a 0 qs n =
-    subst (λ (c : ℕ). IsCutInto (IsPart c) (λ p. p.len) a 0 qs n) (sym quote)
-    (subst (λ (l : List ℕ). IsCutInto (IsPart r) (λ p. p.len) l 0 qs n) (sym after) y.cut) in
-    let no_n' : (p : Part) → IsPart q (drop n a) p → ⊥ =
-    λ p is. no_n p
-    (subst (λ (c : ℕ). IsPart c (drop n b) p) quote (subst (λ (l : List ℕ). IsPart q (drop n l) p) after is)) in
-    let one = cut_one (IsPart q) (λ p. p.len) (part_one q) a 0 ps qs m n x.cut cut no_m no_n' in
-    (quote, after, one.0, one.1)
 
 string_one : (s : List ℕ) (m n : ℕ) (v w : List ℕ) → IsString s m v → IsString s n w → v ≡ w
 string_one s m n v w a b =
     let one =
     opened_one s a.0 b.0 a.1 b.1 a.2 b.2 a.3 b.3 a.4 b.4 (no_part_at_quote a.0 a.1 a.3 a.4.quote_is a.5)
     (no_part_at_quote b.0 b.1 b.3 b.4.quote_is b.5) in
-    a.7 ∙ ap value_of one.2 ∙ sym b.7
+    grind arith
 
 no_part_at_end : (quote : ℕ) (after : List ℕ) (end : ℕ) (p : Part) → length after ≤ end
     → IsPart quote (drop end after) p → ⊥
-no_part_at_end quote after end p le (inl plain) = let e : 0 ≡ suc (length plain.1) =
-    ap length (sym (drop_all end after le) ∙ plain.2) in omega arith
-no_part_at_end quote after end p le (inr escape) =
-    let long = (escape_begins (take p.len (drop end after)) escape.0 escape.1.0.escape_is).0 in
-    omega (
-      arith,
-      long,
-      length-take-le p.len (drop end after) escape.1.0.fits,
-      escape.1.0.fits,
-      ap length (drop_all end after le),
-    )
+no_part_at_end quote after end p le is = grind (arith, drop_all, escape_begins, length-take-le)
 
 no_part_at_byte : (quote : ℕ) (after : List ℕ) (end b : ℕ) → HasByteAt after end b → is_plain quote b ≡ false
     → (b ≡ 92 → ⊥) → (p : Part)
     → IsPart quote (drop end after) p → ⊥
 no_part_at_byte quote after end b here not_plain no_backslash p is =
     no_part quote (drop end after) (get_or after end 0) (drop (end + 1) after) (drop_more after end 0 here.0)
-    (ap (is_plain quote) here.1 ∙ not_plain)
-    (λ e. absurd (no_backslash (sym here.1 ∙ e))) p is
+    (grind arith) (λ e. grind arith) p is
 
 -- where a string's fault lies no part stands
 no_part_at_fault : (quote : ℕ) (after : List ℕ) (parts : List Part) (end at : ℕ) (kind : Kind) → is_quote quote ≡ true
@@ -214,66 +75,32 @@ no_part_at_fault quote after parts end at kind quote_is (inr (inr (inr open_))) 
 not_closed : (quote : ℕ) (after : List ℕ) (parts : List Part) (end at : ℕ) (kind : Kind) → is_quote quote ≡ true
     → IsPartFault quote after parts end at kind
     → HasByteAt after end quote → IsUtf8 (value_of parts) → ⊥
-not_closed quote after parts end at kind quote_is (inl escape) closes utf8 = let e : quote ≡ 92 =
-    sym closes.1 ∙ escape.2.1 in grind (arith, nat_tests)
-not_closed quote after parts end at kind quote_is (inr (inl closed)) closes utf8 = closed.3 utf8
-not_closed quote after parts end at kind quote_is (inr (inr (inl zero_byte))) closes utf8 =
-    let e : quote ≡ 0 = sym closes.1 ∙ zero_byte.2.1 in grind (arith, nat_tests)
-not_closed quote after parts end at kind quote_is (inr (inr (inr open_))) closes utf8 =
-    elim open_.2 [
-      | inl ends ↦ omega (arith, closes.0)
-      | inr line ↦ (let e : quote ≡ 10 = sym closes.1 ∙ line.1 in grind (arith, nat_tests))
-    ]
+not_closed quote after parts end at kind quote_is fault closes utf8 = grind (arith, nat_tests)
 
 -- a string with a fault is no string
 no_string : (s : List ℕ) (n at : ℕ) (v : List ℕ) (kind : Kind) → IsString s n v → IsStringFault s at kind → ⊥
 no_string s n at v kind a b =
     let one = opened_one s a.0 b.0 a.1 b.1 a.2 b.2 a.3 b.3 a.4 b.4 (no_part_at_quote a.0 a.1 a.3 a.4.quote_is a.5)
     (no_part_at_fault b.0 b.1 b.2 b.3 at kind b.4.quote_is b.5) in
-    let closes : HasByteAt b.1 b.3 b.0 =
-    subst (λ (q : ℕ). HasByteAt b.1 b.3 q) one.0
-    (subst (λ (i : ℕ). HasByteAt b.1 i a.0) one.3 (subst (λ (l : List ℕ). HasByteAt l a.3 a.0) one.1 a.5)) in
-    not_closed b.0 b.1 b.2 b.3 at kind b.4.quote_is b.5 closes (subst IsUtf8 (a.7 ∙ ap value_of one.2) a.8)
+    not_closed b.0 b.1 b.2 b.3 at kind b.4.quote_is b.5 (grind arith) (grind arith)
 
 -- ---- pieces
 
 none_one : (s : List ℕ) (n : ℕ) (w : Option Lexeme) → IsPiece s n None → IsPiece s n w → w ≡ None
 none_one s n None a b = refl
-none_one s n (Some (identifier name)) a b = absurd (elim (starts s n None a).2 [
-  | inl blank ↦
-      (let f = (starts s n (Some (identifier name)) b).2 in grind (arith, nat_tests))
-  | inr slash ↦
-      (let f = (starts s n (Some (identifier name)) b).2 in grind (arith, nat_tests))
-])
-none_one s n (Some (number v)) a b = absurd (elim (starts s n None a).2 [
-  | inl blank ↦
-      (let f = (starts s n (Some (number v)) b).2 in grind (arith, nat_tests))
-  | inr slash ↦
-      (let f = (starts s n (Some (number v)) b).2 in grind (arith, nat_tests))
-])
-none_one s n (Some (string_literal v)) a b = absurd (elim (starts s n None a).2 [
-  | inl blank ↦
-      (let f = (starts s n (Some (string_literal v)) b).2 in grind (arith, nat_tests))
-  | inr slash ↦
-      (let f = (starts s n (Some (string_literal v)) b).2 in grind (arith, nat_tests))
-])
-none_one s n (Some (punctuation c)) (inl blanks) b = absurd (elim (starts s n None (inl blanks)).2 [
-  | inl blank ↦ (let f = (starts s n (Some (punctuation c)) b).2 in grind (arith, nat_tests))
-  | inr slash ↦ (let f = All-get_or (λ b. is_blank b ≡ true) (take n s) 0 0 blanks.0 blanks.1 in
-      let g : is_blank c ≡ true =
-      sym (ap (λ (l : List ℕ). is_blank (get_or l 0 0)) b.0) ∙ f in let h = b.1 in grind (arith, nat_tests))
-])
-none_one s n (Some (punctuation c)) (inr (inl line)) b = let e : 47 ∷ 47 ∷ line.0 ≡ c ∷ [] = sym line.1 ∙ b.0 in
-    absurd cc
-none_one s n (Some (punctuation c)) (inr (inr block)) b = let e : 47 ∷ 42 ∷ (block.0 ++ 42 ∷ 47 ∷ []) ≡ c ∷ [] =
-    sym block.1 ∙ b.0 in absurd cc
+none_one s n (Some (identifier name)) a b =
+    let f = (starts s n None a).2 in let g = (starts s n (Some (identifier name)) b).2 in grind (arith, nat_tests)
+none_one s n (Some (number v)) a b =
+    let f = (starts s n None a).2 in let g = (starts s n (Some (number v)) b).2 in grind (arith, nat_tests)
+none_one s n (Some (string_literal v)) a b =
+    let f = (starts s n None a).2 in let g = (starts s n (Some (string_literal v)) b).2 in grind (arith, nat_tests)
+none_one s n (Some (punctuation c)) (inl blanks) b =
+    let f = All-get_or (λ b. is_blank b ≡ true) (take n s) 0 0 blanks.0 blanks.1 in grind (arith, nat_tests)
+none_one s n (Some (punctuation c)) (inr comment) b = grind arith
 
 piece_one : (s : List ℕ) (n : ℕ) (v w : Option Lexeme) → IsPiece s n v → IsPiece s n w → v ≡ w
 piece_one s n None w a b = sym (none_one s n w a b)
-piece_one s n (Some (identifier name)) w a b =
-    let same = letter_alone (get_or s 0 0) w (starts s n (Some (identifier name)) a).2 (starts s n w b).2 in
-    let b' = subst (IsPiece s n) same.1 b in
-    ap (λ (l : List ℕ). Some (identifier l)) (a.1 ∙ sym b'.1) ∙ sym same.1
+piece_one s n (Some (identifier name)) w a b = grind (arith, common_steps, letter_alone, starts)
 piece_one s n (Some (number v)) w a b =
     let same = digit_alone (get_or s 0 0) w (starts s n (Some (number v)) a).2 (starts s n w b).2 in
     let b' = subst (IsPiece s n) same.1 b in
@@ -285,21 +112,14 @@ piece_one s n (Some (string_literal v)) w a b =
 piece_one s n (Some (punctuation c)) w a b =
     elim (punctuation_alone (get_or s 0 0) w (starts s n (Some (punctuation c)) a).2 (starts s n w b).2) [
       | inl none ↦ none_one s n (Some (punctuation c)) (subst (IsPiece s n) none.0 b) a ∙ sym none.0
-      | inr same ↦ let b' = subst (IsPiece s n) same.1 b in let e : c ∷ [] ≡ same.0 ∷ [] =
-          sym a.0 ∙ b'.0 in let f : c ≡ same.0 = cc in ap (λ (x : ℕ). Some (punctuation x)) f ∙ sym same.1
+      | inr same ↦ grind arith
     ]
 
 same_piece : (p q : Piece) → p.len ≡ q.len → p.is ≡ q.is → p ≡ q
 same_piece p q len is = λ i. record { len = len i; is = is i }
 
 longest_one : (s : List ℕ) (p q : Piece) → IsLongestPiece s p.len p.is → IsLongestPiece s q.len q.is → p ≡ q
-longest_one s p q a b =
-    let fits_a = a.fits in
-    let fits_b = b.fits in
-    let no_less : p.len < q.len → ⊥ = λ lt. a.longest q.len q.is lt b.fits b.piece_is in
-    let no_more : q.len < p.len → ⊥ = λ lt. b.longest p.len p.is lt a.fits a.piece_is in
-    let len : p.len ≡ q.len = omega (arith, no_less, no_more) in
-    same_piece p q len (piece_one s q.len p.is q.is (subst (λ (n : ℕ). IsPiece s n p.is) len a.piece_is) b.piece_is)
+longest_one s p q a b = grind (arith, piece_one, same_piece)
 
 -- ---- whole texts
 
@@ -317,208 +137,66 @@ spelling_one s from ts us a b =
 
 -- ---- faults of strings
 
--- what decides a fault in a string
-abbrev PartFaultCase : ℕ → List ℕ → ℕ → ℕ → Kind → Type 0
-PartFaultCase quote after end at kind =
-    (HasByteAt after end 92 × (kind ≡ kinds.BadEscape) × (at ≡ end + 1))
-    ⊎ ((HasByteAt after end quote × (kind ≡ kinds.BadEscape) × (at ≡ 0))
-    ⊎ ((HasByteAt after end 0 × (kind ≡ kinds.BadByte) × (at ≡ end + 1))
-    ⊎ (((b : ℕ) → HasByteAt after end b → b ≡ 10) × (kind ≡ kinds.UnclosedString) × (at ≡ 0))))
-
-part_fault_case : (quote : ℕ) (after : List ℕ) (parts : List Part) (end at : ℕ) (kind : Kind)
-    → IsPartFault quote after parts end at kind
-    → PartFaultCase quote after end at kind
-part_fault_case quote after parts end at kind (inl escape) = inl (escape.2, escape.0, escape.1)
-part_fault_case quote after parts end at kind (inr (inl closed)) = inr (inl (closed.2, closed.0, closed.1))
-part_fault_case quote after parts end at kind (inr (inr (inl zero_byte))) =
-    inr (inr (inl (zero_byte.2, zero_byte.0, zero_byte.1)))
-part_fault_case quote after parts end at kind (inr (inr (inr open_))) =
-    inr (inr
-    (inr (
-      (λ b here. elim open_.2 [ inl ends ↦ absurd (omega (arith, here.0)) | inr line ↦ sym here.1 ∙ line.1 ]),
-      open_.0,
-      open_.1,
-    )))
-
-same_byte : (after : List ℕ) (end b c : ℕ) → HasByteAt after end b → HasByteAt after end c → b ≡ c
-same_byte after end b c x y = sym x.1 ∙ y.1
-
-quote_other : (quote b : ℕ) → is_quote quote ≡ true → quote ≡ b → is_quote b ≡ false → ⊥
-quote_other quote b e same other = both_ways (is_quote b) other (sym (ap is_quote same) ∙ e)
-
-part_fault_one : (quote : ℕ) (after : List ℕ) (end m n : ℕ) (j k : Kind) → is_quote quote ≡ true
-    → PartFaultCase quote after end m j
-    → PartFaultCase quote after end n k → (m ≡ n) × (j ≡ k)
-part_fault_one quote after end m n j k q (inl a) (inl b) = (a.2 ∙ sym b.2, a.1 ∙ sym b.1)
-part_fault_one quote after end m n j k q (inl a) (inr (inl b)) =
-    absurd (quote_other quote 92 q (same_byte after end quote 92 b.0 a.0) refl)
-part_fault_one quote after end m n j k q (inl a) (inr (inr (inl b))) = let e = same_byte after end 92 0 a.0 b.0 in
-    absurd (omega arith)
-part_fault_one quote after end m n j k q (inl a) (inr (inr (inr b))) = let e = b.0 92 a.0 in absurd (omega arith)
-part_fault_one quote after end m n j k q (inr (inl a)) (inl b) =
-    absurd (quote_other quote 92 q (same_byte after end quote 92 a.0 b.0) refl)
-part_fault_one quote after end m n j k q (inr (inl a)) (inr (inl b)) = (a.2 ∙ sym b.2, a.1 ∙ sym b.1)
-part_fault_one quote after end m n j k q (inr (inl a)) (inr (inr (inl b))) =
-    absurd (quote_other quote 0 q (same_byte after end quote 0 a.0 b.0) refl)
-part_fault_one quote after end m n j k q (inr (inl a)) (inr (inr (inr b))) =
-    absurd (quote_other quote 10 q (b.0 quote a.0) refl)
-part_fault_one quote after end m n j k q (inr (inr (inl a))) (inl b) = let e = same_byte after end 92 0 b.0 a.0 in
-    absurd (omega arith)
-part_fault_one quote after end m n j k q (inr (inr (inl a))) (inr (inl b)) =
-    absurd (quote_other quote 0 q (same_byte after end quote 0 b.0 a.0) refl)
-part_fault_one quote after end m n j k q (inr (inr (inl a))) (inr (inr (inl b))) = (a.2 ∙ sym b.2, a.1 ∙ sym b.1)
-part_fault_one quote after end m n j k q (inr (inr (inl a))) (inr (inr (inr b))) = let e = b.0 0 a.0 in
-    absurd (omega arith)
-part_fault_one quote after end m n j k q (inr (inr (inr a))) (inl b) = let e = a.0 92 b.0 in absurd (omega arith)
-part_fault_one quote after end m n j k q (inr (inr (inr a))) (inr (inl b)) =
-    absurd (quote_other quote 10 q (a.0 quote b.0) refl)
-part_fault_one quote after end m n j k q (inr (inr (inr a))) (inr (inr (inl b))) = let e = a.0 0 b.0 in
-    absurd (omega arith)
-part_fault_one quote after end m n j k q (inr (inr (inr a))) (inr (inr (inr b))) = (a.2 ∙ sym b.2, a.1 ∙ sym b.1)
-
 string_fault_one : (s : List ℕ) (m n : ℕ) (j k : Kind) → IsStringFault s m j → IsStringFault s n k → (m ≡ n) × (j ≡ k)
 string_fault_one s m n j k a b =
     let one = opened_one s a.0 b.0 a.1 b.1 a.2 b.2 a.3 b.3 a.4 b.4
     (no_part_at_fault a.0 a.1 a.2 a.3 m j a.4.quote_is a.5)
     (no_part_at_fault b.0 b.1 b.2 b.3 n k b.4.quote_is b.5) in
-    let case_a = part_fault_case a.0 a.1 a.2 a.3 m j a.5 in
-    let case_b : PartFaultCase a.0 a.1 a.3 n k = subst (λ (q : ℕ). PartFaultCase q a.1 a.3 n k) (sym one.0)
-    (subst (λ (l : List ℕ). PartFaultCase b.0 l a.3 n k) (sym one.1)
-    (subst (λ (i : ℕ). PartFaultCase b.0 b.1 i n k) (sym one.3) (part_fault_case b.0 b.1 b.2 b.3 n k b.5))) in
-    part_fault_one a.0 a.1 a.3 m n j k a.4.quote_is case_a case_b
+    grind (arith, nat_tests)
 
 -- ---- faults of pieces
 
--- what decides the fault of a piece that can't be made
+-- what decides the fault of a piece that can't be made, by the first byte and what may be wrong behind it
+abbrev FaultCase : ℕ → Type 0 → Type 0 → Type 0 → (ℕ → Kind → Type 0) → ℕ → Kind → Type 0
+FaultCase b Bad Big Open InString at kind =
+    ((is_blank b ≡ false) × (is_ascii_graphic b ≡ false) × (kind ≡ kinds.BadByte) × (at ≡ 0))
+    ⊎ (((is_ascii_digit b ≡ true) × Bad × (kind ≡ kinds.BadNumber) × (at ≡ 0))
+    ⊎ (((is_ascii_digit b ≡ true) × Big × (kind ≡ kinds.NumberTooBig) × (at ≡ 0))
+    ⊎ (((b ≡ 47) × Open × (kind ≡ kinds.UnclosedComment) × (at ≡ 0)) ⊎ ((is_quote b ≡ true) × InString at kind))))
+
 abbrev PieceFaultCase : List ℕ → ℕ → Kind → Type 0
 PieceFaultCase s at kind =
-    ((is_blank (get_or s 0 0) ≡ false) × (is_ascii_graphic (get_or s 0 0) ≡ false) × (kind ≡ kinds.BadByte) × (at ≡ 0))
-    ⊎ (((is_ascii_digit (get_or s 0 0) ≡ true) × IsBadNumber s × (kind ≡ kinds.BadNumber) × (at ≡ 0))
-    ⊎ (((is_ascii_digit (get_or s 0 0) ≡ true) × IsTooBig s × (kind ≡ kinds.NumberTooBig) × (at ≡ 0))
-    ⊎ (((rest : List ℕ) × (s ≡ 47 ∷ 42 ∷ rest) × HasNoClose rest × (kind ≡ kinds.UnclosedComment) × (at ≡ 0))
-    ⊎ ((is_quote (get_or s 0 0) ≡ true) × IsStringFault s at kind))))
+    FaultCase (get_or s 0 0) (IsBadNumber s) (IsTooBig s) (IsUnclosedComment s) (IsStringFault s) at kind
 
 fault_quote : (s : List ℕ) (at : ℕ) (kind : Kind) → IsStringFault s at kind → is_quote (get_or s 0 0) ≡ true
 fault_quote s at kind fault = ap (λ (l : List ℕ). is_quote (get_or l 0 0)) fault.4.begins_so ∙ fault.4.quote_is
 
 too_big_digit : (s : List ℕ) → IsTooBig s → is_ascii_digit (get_or s 0 0) ≡ true
-too_big_digit s big =
-    let first = begins_first is_ascii_digit (take big.0 s) (numeral_numeric (take big.0 s) big.1 big.3).1 in
-    let pos : 0 < big.0 = omega (arith, first.0, length-take-le big.0 s big.2) in
-    ap is_ascii_digit (sym (get_or-take big.0 s 0 0 pos)) ∙ first.1
+too_big_digit s big = grind (arith, nat_tests, begins_first, get_or-take, length-take-le, numeral_numeric)
 
 piece_fault_case : (s : List ℕ) (at : ℕ) (kind : Kind) → IsPieceFault s at kind → PieceFaultCase s at kind
-piece_fault_case s at kind (inl bad) = inl (bad.2.1, bad.2.2, bad.0, bad.1)
-piece_fault_case s at kind (inr (inl bad)) = inr (inl ((begins_first is_ascii_digit s bad.2.0).1, bad.2, bad.0, bad.1))
-piece_fault_case s at kind (inr (inr (inl big))) = inr (inr (inl (too_big_digit s big.2, big.2, big.0, big.1)))
-piece_fault_case s at kind (inr (inr (inr (inl open_)))) =
-    inr (inr (inr (inl (open_.2.0, open_.2.1, open_.2.2, open_.0, open_.1))))
-piece_fault_case s at kind (inr (inr (inr (inr fault)))) = inr (inr (inr (inr (fault_quote s at kind fault, fault))))
+piece_fault_case s at kind fault = grind (arith, begins_first, fault_quote, too_big_digit)
 
 no_number_both : (s : List ℕ) → IsBadNumber s → IsTooBig s → ⊥
 no_number_both s bad big = both_ways (begins is_numeric (drop big.0 s)) big.4 (bad.1 big.0 big.1 big.2 big.3)
 
-first_slash : (s rest : List ℕ) → s ≡ 47 ∷ 42 ∷ rest → get_or s 0 0 ≡ 47
-first_slash s rest e = ap (λ (l : List ℕ). get_or l 0 0) e
-
--- the first bytes of the four kinds of fault differ
-apart_graphic_digit : (b : ℕ) → is_ascii_graphic b ≡ false → is_ascii_digit b ≡ true → ⊥
-apart_graphic_digit b e f = grind (arith, nat_tests)
-
-apart_graphic_slash : (b : ℕ) → is_ascii_graphic b ≡ false → b ≡ 47 → ⊥
-apart_graphic_slash b e f = grind (arith, nat_tests)
-
-apart_graphic_quote : (b : ℕ) → is_ascii_graphic b ≡ false → is_quote b ≡ true → ⊥
-apart_graphic_quote b e f = grind (arith, nat_tests)
-
-apart_digit_slash : (b : ℕ) → is_ascii_digit b ≡ true → b ≡ 47 → ⊥
-apart_digit_slash b e f = grind (arith, nat_tests)
-
-apart_digit_quote : (b : ℕ) → is_ascii_digit b ≡ true → is_quote b ≡ true → ⊥
-apart_digit_quote b e f = grind (arith, nat_tests)
-
-apart_slash_quote : (b : ℕ) → b ≡ 47 → is_quote b ≡ true → ⊥
-apart_slash_quote b e f = grind (arith, nat_tests)
-
 no_start : (w : Option Lexeme) (b : ℕ) → is_blank b ≡ false → is_ascii_graphic b ≡ false → Starts w b → ⊥
-no_start None b e f (inl blank) = both_ways (is_blank b) e blank
-no_start None b e f (inr slash) = grind (arith, nat_tests)
-no_start (Some (identifier name)) b e f g = grind (arith, nat_tests)
-no_start (Some (number v)) b e f g = grind (arith, nat_tests)
-no_start (Some (string_literal v)) b e f g = grind (arith, nat_tests)
-no_start (Some (punctuation c)) b e f g = grind (arith, nat_tests)
+no_start w b e f g = grind (arith, both_ways, nat_tests)
 
 no_lone_slash : (rest : List ℕ) (n c : ℕ) → n ≤ length (47 ∷ 42 ∷ rest)
     → IsPiece (47 ∷ 42 ∷ rest) n (Some (punctuation c)) → ⊥
-no_lone_slash rest zero c within is = let e : [] ≡ c ∷ [] = is.0 in absurd cc
-no_lone_slash rest (suc zero) c within is = let e : c ≡ 47 = let f : 47 ∷ [] ≡ c ∷ [] = is.0 in cc in
-    both_ways (is_slash_or_star 42) (is.2 e) refl
-no_lone_slash rest (suc (suc n)) c within is = let e : 47 ∷ 42 ∷ take n rest ≡ c ∷ [] = is.0 in absurd cc
+no_lone_slash rest zero c within is = grind arith
+no_lone_slash rest (suc zero) c within is = grind (arith, nat_tests)
+no_lone_slash rest (suc (suc n)) c within is = grind arith
 
 fault_long : (s : List ℕ) (at : ℕ) (kind : Kind) → IsPieceFault s at kind → s ≡ [] → ⊥
-fault_long s at kind (inl bad) empty = omega (arith, bad.2.0, ap length empty)
-fault_long s at kind (inr (inl bad)) empty = omega (arith, (begins_first is_ascii_digit s bad.2.0).0, ap length empty)
-fault_long s at kind (inr (inr (inl big))) empty = omega (
-  arith,
-  (begins_first is_ascii_digit (take big.2.0 s) (numeral_numeric (take big.2.0 s) big.2.1 big.2.3).1).0,
-  length-take-le big.2.0 s big.2.2,
-  big.2.2,
-  ap length empty,
-)
-fault_long s at kind (inr (inr (inr (inl open_)))) empty = let e : 0 ≡ suc (suc (length open_.2.0)) =
-    ap length (sym empty ∙ open_.2.1) in omega arith
-fault_long s at kind (inr (inr (inr (inr fault)))) empty = let e : 0 ≡ suc (length fault.1) =
-    ap length (sym empty ∙ fault.4.begins_so) in omega arith
+fault_long s at kind fault empty = grind (arith, begins_first, length-take-le, numeral_numeric)
 
-fault_case_one : (s : List ℕ) (m n : ℕ) (j k : Kind) → PieceFaultCase s m j → PieceFaultCase s n k → (m ≡ n) × (j ≡ k)
-fault_case_one s m n j k (inl a) (inl b) = (a.3 ∙ sym b.3, a.2 ∙ sym b.2)
-fault_case_one s m n j k (inl a) (inr (inl b)) = absurd (apart_graphic_digit (get_or s 0 0) a.1 b.0)
-fault_case_one s m n j k (inl a) (inr (inr (inl b))) = absurd (apart_graphic_digit (get_or s 0 0) a.1 b.0)
-fault_case_one s m n j k (inl a) (inr (inr (inr (inl b)))) =
-    absurd (apart_graphic_slash (get_or s 0 0) a.1 (first_slash s b.0 b.1))
-fault_case_one s m n j k (inl a) (inr (inr (inr (inr b)))) = absurd (apart_graphic_quote (get_or s 0 0) a.1 b.0)
-fault_case_one s m n j k (inr (inl a)) (inl b) = absurd (apart_graphic_digit (get_or s 0 0) b.1 a.0)
-fault_case_one s m n j k (inr (inl a)) (inr (inl b)) = (a.3 ∙ sym b.3, a.2 ∙ sym b.2)
-fault_case_one s m n j k (inr (inl a)) (inr (inr (inl b))) = absurd (no_number_both s a.1 b.1)
-fault_case_one s m n j k (inr (inl a)) (inr (inr (inr (inl b)))) =
-    absurd (apart_digit_slash (get_or s 0 0) a.0 (first_slash s b.0 b.1))
-fault_case_one s m n j k (inr (inl a)) (inr (inr (inr (inr b)))) = absurd (apart_digit_quote (get_or s 0 0) a.0 b.0)
-fault_case_one s m n j k (inr (inr (inl a))) (inl b) = absurd (apart_graphic_digit (get_or s 0 0) b.1 a.0)
-fault_case_one s m n j k (inr (inr (inl a))) (inr (inl b)) = absurd (no_number_both s b.1 a.1)
-fault_case_one s m n j k (inr (inr (inl a))) (inr (inr (inl b))) = (a.3 ∙ sym b.3, a.2 ∙ sym b.2)
-fault_case_one s m n j k (inr (inr (inl a))) (inr (inr (inr (inl b)))) =
-    absurd (apart_digit_slash (get_or s 0 0) a.0 (first_slash s b.0 b.1))
-fault_case_one s m n j k (inr (inr (inl a))) (inr (inr (inr (inr b)))) =
-    absurd (apart_digit_quote (get_or s 0 0) a.0 b.0)
-fault_case_one s m n j k (inr (inr (inr (inl a)))) (inl b) =
-    absurd (apart_graphic_slash (get_or s 0 0) b.1 (first_slash s a.0 a.1))
-fault_case_one s m n j k (inr (inr (inr (inl a)))) (inr (inl b)) =
-    absurd (apart_digit_slash (get_or s 0 0) b.0 (first_slash s a.0 a.1))
-fault_case_one s m n j k (inr (inr (inr (inl a)))) (inr (inr (inl b))) =
-    absurd (apart_digit_slash (get_or s 0 0) b.0 (first_slash s a.0 a.1))
-fault_case_one s m n j k (inr (inr (inr (inl a)))) (inr (inr (inr (inl b)))) = (a.4 ∙ sym b.4, a.3 ∙ sym b.3)
-fault_case_one s m n j k (inr (inr (inr (inl a)))) (inr (inr (inr (inr b)))) =
-    absurd (apart_slash_quote (get_or s 0 0) (first_slash s a.0 a.1) b.0)
-fault_case_one s m n j k (inr (inr (inr (inr a)))) (inl b) = absurd (apart_graphic_quote (get_or s 0 0) b.1 a.0)
-fault_case_one s m n j k (inr (inr (inr (inr a)))) (inr (inl b)) = absurd (apart_digit_quote (get_or s 0 0) b.0 a.0)
-fault_case_one s m n j k (inr (inr (inr (inr a)))) (inr (inr (inl b))) =
-    absurd (apart_digit_quote (get_or s 0 0) b.0 a.0)
-fault_case_one s m n j k (inr (inr (inr (inr a)))) (inr (inr (inr (inl b)))) =
-    absurd (apart_slash_quote (get_or s 0 0) (first_slash s b.0 b.1) a.0)
-fault_case_one s m n j k (inr (inr (inr (inr a)))) (inr (inr (inr (inr b)))) = string_fault_one s m n j k a.1 b.1
+fault_case_one : (b m n : ℕ) (j k : Kind) (Bad Big Open : Type 0) (InString : ℕ → Kind → Type 0) → (Bad → Big → ⊥)
+    → (InString m j → InString n k → (m ≡ n) × (j ≡ k)) → FaultCase b Bad Big Open InString m j
+    → FaultCase b Bad Big Open InString n k → (m ≡ n) × (j ≡ k)
+fault_case_one b m n j k Bad Big Open InString apart one x y = grind (arith, nat_tests)
 
 -- a piece has one fault
 pub piece_fault_one : (s : List ℕ) (m n : ℕ) (j k : Kind) → IsPieceFault s m j → IsPieceFault s n k → (m ≡ n) × (j ≡ k)
-piece_fault_one s m n j k a b = fault_case_one s m n j k (piece_fault_case s m j a) (piece_fault_case s n k b)
+piece_fault_one s m n j k a b =
+    fault_case_one (get_or s 0 0) m n j k (IsBadNumber s) (IsTooBig s) (IsUnclosedComment s) (IsStringFault s)
+    (no_number_both s) (string_fault_one s m n j k) (piece_fault_case s m j a) (piece_fault_case s n k b)
 
 -- a prefix of numeric bytes that no such byte follows is the whole run
 whole_run : (s : List ℕ) (k : ℕ) → k ≤ length s → AllPass is_numeric (take k s) → begins is_numeric (drop k s) ≡ false
     → k ≡ prefix_len is_numeric s
-whole_run s k within all stops =
-    let le = run_longest is_numeric s k within all in
-    let no_less : k < prefix_len is_numeric s
-    → ⊥ = λ lt. both_ways (begins is_numeric (drop k s)) stops (within_run is_numeric s k lt) in
-    omega (arith, le, no_less)
+whole_run s k within all stops = grind (arith, both_ways, run_longest, within_run)
 
 no_small_number : (s : List ℕ) (n v : ℕ) → n ≤ length s → IsTooBig s → IsPiece s n (Some (number v)) → ⊥
 no_small_number s n v within big is =
@@ -534,10 +212,9 @@ no_comment_open rest n None none within (inl blanks) e = let first = (starts (47
     both_ways (is_blank 47) refl (sym (ap is_blank (get_or-take n (47 ∷ 42 ∷ rest) 0 0 first))
     ∙ All-get_or (λ b. is_blank b ≡ true) (take n (47 ∷ 42 ∷ rest)) 0 0 blanks.0 blanks.1)
 no_comment_open rest n None none within (inr (inl line)) e =
-    let len : n ≡ length line.0 + 2 = sym (length-take-le n (47 ∷ 42 ∷ rest) within) ∙ ap length line.1 ∙ omega arith in
-    let second : get_or (take n (47 ∷ 42 ∷ rest)) 1 0 ≡ 47 = ap (λ (l : List ℕ). get_or l 1 0) line.1 in
-    let there : get_or (take n (47 ∷ 42 ∷ rest)) 1 0 ≡ 42 = get_or-take n (47 ∷ 42 ∷ rest) 1 0 (omega arith) in
-    omega arith
+    let second = get_or-take n (47 ∷ 42 ∷ rest) 1 0 in
+    let len = length-take-le n (47 ∷ 42 ∷ rest) within in
+    grind arith
 no_comment_open rest n None none within (inr (inr block)) e =
     let body = block.0 in
     let len : n ≡ suc (suc (length (body ++ 42 ∷ 47 ∷ []))) = sym (length-take-le n (47 ∷ 42 ∷ rest) within)
@@ -563,13 +240,8 @@ no_piece_in_case s at kind n w within is (inr (inl bad)) =
 no_piece_in_case s at kind n w within is (inr (inr (inl big))) =
     let same = digit_alone (get_or s 0 0) w big.0 (starts s n w is).2 in
     no_small_number s n same.0 within big.1 (subst (IsPiece s n) same.1 is)
-no_piece_in_case s at kind n w within is (inr (inr (inr (inl opened)))) =
-    let here : IsPiece (47 ∷ 42 ∷ opened.0) n w = subst (λ (l : List ℕ). IsPiece l n w) opened.1 is in
-    let fits : n ≤ length (47 ∷ 42 ∷ opened.0) = subst (λ (l : List ℕ). n ≤ length l) opened.1 within in
-    elim (slash_alone 47 w refl (starts (47 ∷ 42 ∷ opened.0) n w here).2) [
-      | inl none ↦ no_comment_open opened.0 n w opened.2 fits here none
-      | inr mark ↦ no_lone_slash opened.0 n mark.0 fits (subst (IsPiece (47 ∷ 42 ∷ opened.0) n) mark.1 here)
-    ]
+no_piece_in_case s at kind n w within is (inr (inr (inr (inl (slash, opened, kind_is, at_is))))) =
+    grind (arith, no_comment_open, no_lone_slash, slash_alone, starts)
 no_piece_in_case s at kind n w within is (inr (inr (inr (inr fault)))) =
     let same = quote_alone (get_or s 0 0) w fault.0 (starts s n w is).2 in
     no_string s n at same.0 kind (subst (IsPiece s n) same.1 is) fault.1

@@ -1,5 +1,5 @@
 -- Fields as they are read: what is read is spelled so, and what is spelled so is read.
-use Rattle.std.proofs.Common.{◌≡◌, ◌≢◌, ◌∙◌, sym, ℕ, ◌+◌, ◌*◌, ◌/◌, ◌%◌, ◌^◌, ◌<◌, ◌≤◌, List, [], ◌∷◌, ◌++◌, length, take, drop, ap, refl, subst, arith, lit<, append_assoc, inl, inr}
+use Rattle.std.proofs.Common.{◌≡◌, ◌≢◌, sym, ℕ, ◌+◌, ◌*◌, ◌/◌, ◌%◌, ◌^◌, ◌<◌, List, [], ◌∷◌, ◌++◌, length, drop, refl, subst, arith, append_assoc, inl, inr}
 use Rattle.std.specs.Prelude.{Option, Some, None, true, option_and_then, nat_lt, if◌then◌else◌, ◌==◌}
 use Rattle.std.proofs.lemmas.Bool.{ne_eqb, eqb-true, eqb-false, ltb-true, ltb-false, lt-ltb, le-ltb}
 use Rattle.std.proofs.lemmas.Grind.{common_steps}
@@ -16,15 +16,10 @@ tag_kind : (n w : ℕ) → w < 8 → (n * 8 + w) % 8 ≡ w
 tag_kind n w h = omega arith
 
 below_eight : (b : Body) → wire_type b < 8
-below_eight (varint_body t n) = lit< tt
-below_eight (eight_bytes t) = lit< tt
-below_eight (delimited s c) = lit< tt
-below_eight (four_bytes t) = lit< tt
+below_eight b = grind arith
 
 split_again : (n : ℕ) (prefix rest : List ℕ) → length prefix ≡ n → split_off n (prefix ++ rest) ≡ Some (prefix, rest)
-split_again n prefix rest e =
-    let long : n ≤ length (prefix ++ rest) = grind (arith, common_steps) in
-    rw (le-ltb (length (prefix ++ rest)) n long, take_at prefix rest n e, drop_at prefix rest n e) refl
+split_again n prefix rest e = grind (arith, common_steps, drop_at, le-ltb, take_at)
 
 body_again : (b : Body) (n : ℕ) (rest : List ℕ) → IsBody b
     → body_at (wire_type b) n (body_text b ++ rest) ≡ Some (entry_by n b, rest)
@@ -66,18 +61,11 @@ pub record BodyTaken (kind n : ℕ) (text : List ℕ) (entry : Option (ℕ × Va
 
 split_takes : (n : ℕ) (text : List ℕ) (y : List ℕ × List ℕ) → split_off n text ≡ Some y
     → (length y.0 ≡ n) × (text ≡ y.0 ++ y.1)
-split_takes n text y e = elim (chosen (nat_lt (length text) n) None (Some (take n text, drop n text)) y e) [
-  | inl w ↦ absurd (none-some y w.1)
-  | inr w ↦ (let long = ltb-false (length text) n w.0 in
-      subst (λ (z : List ℕ × List ℕ). (length z.0 ≡ n) × (text ≡ z.0 ++ z.1))
-      (same_Some (take n text, drop n text) y w.1)
-      (length-take-le n text long, sym (take-append-drop n text)))
-]
+split_takes n text y e = grind (arith, chosen, length-take-le, ltb-false, none-some, same_Some, take-append-drop)
 
 bound : {A B : Type 0} (f : A → Option B) (o : Option A) (y : B) → option_and_then f o ≡ Some y
     → (x : A) × (o ≡ Some x) × (f x ≡ Some y)
-bound f None y e = absurd (none-some y e)
-bound f (Some x) y e = (x, refl, e)
+bound f o y e = grind (arith, none-some)
 
 -- what is read at the front: an entry, and the bytes behind it
 abbrev pub Read : Type 0
@@ -92,33 +80,27 @@ varint_taken : (n : ℕ) (text : List ℕ) (y : Read) → IsBytes text
 varint_taken n text y h e =
     let x = bound (λ (x : ℕ × List ℕ). some_read (Some (n, number x.0), x.1)) (varint_within 10 text) y e in
     let taken = varint_takes 10 text x.0 h x.1 in
-    let one : BodyTaken 0 n text (Some (n, number x.0.0)) x.0.1 =
     record {
       body = varint_body taken.prefix x.0.0;
       kind_is = refl;
-      ok = record { spelled = taken.spelled; short = taken.short; fits = taken.fits };
-      entry_is = refl;
-      split = taken.split;
-    } in
-    subst (λ (z : Read). BodyTaken 0 n text z.0 z.1) (same_Some (Some (n, number x.0.0), x.0.1) y x.2) one
+      ok = grind arith;
+      entry_is = grind arith;
+      split = grind arith;
+    }
 
 eight_taken : (n : ℕ) (text : List ℕ) (y : Read) → option_and_then (λ x. Some (None, x.1)) (split_off 8 text) ≡ Some y
     → BodyTaken 1 n text y.0 y.1
 eight_taken n text y e =
     let x = bound (λ (x : List ℕ × List ℕ). some_read (None, x.1)) (split_off 8 text) y e in
     let taken = split_takes 8 text x.0 x.1 in
-    let one : BodyTaken 1 n text None x.0.1 =
-    record { body = eight_bytes x.0.0; kind_is = refl; ok = taken.0; entry_is = refl; split = taken.1 } in
-    subst (λ (z : Read). BodyTaken 1 n text z.0 z.1) (same_Some (None, x.0.1) y x.2) one
+    record { body = eight_bytes x.0.0; kind_is = refl; ok = taken.0; entry_is = grind arith; split = grind arith }
 
 four_taken : (n : ℕ) (text : List ℕ) (y : Read) → option_and_then (λ x. Some (None, x.1)) (split_off 4 text) ≡ Some y
     → BodyTaken 5 n text y.0 y.1
 four_taken n text y e =
     let x = bound (λ (x : List ℕ × List ℕ). some_read (None, x.1)) (split_off 4 text) y e in
     let taken = split_takes 4 text x.0 x.1 in
-    let one : BodyTaken 5 n text None x.0.1 =
-    record { body = four_bytes x.0.0; kind_is = refl; ok = taken.0; entry_is = refl; split = taken.1 } in
-    subst (λ (z : Read). BodyTaken 5 n text z.0 z.1) (same_Some (None, x.0.1) y x.2) one
+    record { body = four_bytes x.0.0; kind_is = refl; ok = taken.0; entry_is = grind arith; split = grind arith }
 
 delimited_taken : (n : ℕ) (text : List ℕ) (y : Read) → IsBytes text
     → option_and_then (λ x. option_and_then (λ y. Some (Some (n, bytes y.0), y.1)) (split_off x.0 x.1))
@@ -130,14 +112,13 @@ delimited_taken n text y h e =
     let size = varint_takes 10 text x.0 h x.1 in
     let z = bound (λ (y : List ℕ × List ℕ). some_read (Some (n, bytes y.0), y.1)) (split_off x.0.0 x.0.1) y x.2 in
     let taken = split_takes x.0.0 x.0.1 z.0 z.1 in
-    let one : BodyTaken 2 n text (Some (n, bytes z.0.0)) z.0.1 = record {
+    record {
       body = delimited size.prefix z.0.0;
       kind_is = refl;
-      ok = rw taken.0 (record { spelled = size.spelled; short = size.short; fits = size.fits });
-      entry_is = refl;
-      split = size.split ∙ ap (λ xs. size.prefix ++ xs) taken.1 ∙ sym (append_assoc size.prefix z.0.0 z.0.1);
-    } in
-    subst (λ (z : Read). BodyTaken 2 n text z.0 z.1) (same_Some (Some (n, bytes z.0.0), z.0.1) y z.2) one
+      ok = grind arith;
+      entry_is = grind arith;
+      split = grind (arith, append_assoc);
+    }
 
 at_kind : (k kind n : ℕ) (text : List ℕ) (y : Read) → (kind == k) ≡ true → BodyTaken k n text y.0 y.1
     → BodyTaken kind n text y.0 y.1
@@ -145,19 +126,8 @@ at_kind k kind n text y e b = subst (λ (m : ℕ). BodyTaken m n text y.0 y.1) (
 
 body_takes : (kind n : ℕ) (text : List ℕ) (y : Read) → IsBytes text → body_at kind n text ≡ Some y
     → BodyTaken kind n text y.0 y.1
-body_takes kind n text y h e = elim (chosen (kind == 0) _ _ y e) [
-  | inl w ↦ at_kind 0 kind n text y w.0 (varint_taken n text y h w.1)
-  | inr w ↦ elim (chosen (kind == 1) _ _ y w.1) [
-    | inl v ↦ at_kind 1 kind n text y v.0 (eight_taken n text y v.1)
-    | inr v ↦ elim (chosen (kind == 2) _ _ y v.1) [
-      | inl u ↦ at_kind 2 kind n text y u.0 (delimited_taken n text y h u.1)
-      | inr u ↦ elim (chosen (kind == 5) _ _ y u.1) [
-        | inl t ↦ at_kind 5 kind n text y t.0 (four_taken n text y t.1)
-        | inr t ↦ absurd (none-some y t.1)
-      ]
-    ]
-  ]
-]
+body_takes kind n text y h e =
+    grind (arith, common_steps, at_kind, chosen, delimited_taken, eight_taken, four_taken, none-some, varint_taken)
 
 pub record FieldTaken (text : List ℕ) (entry : Option (ℕ × Value)) (rest : List ℕ) : Type 0 where
   pub field : Spelled
@@ -176,15 +146,9 @@ field_made {t} {rest} text y tag small some body =
     let whole : (t / 8) * 8 + wire_type body.body ≡ t = rw body.kind_is (omega arith) in
     record {
       field = record { tag = tag.prefix; number = t / 8; body = body.body };
-      ok = record {
-        tag = rw whole (record { spelled = tag.spelled; short = tag.short; fits = tag.fits });
-        small = rw whole small;
-        positive = omega (arith, some);
-        body = body.ok;
-      };
+      ok = grind arith;
       entry_is = body.entry_is;
-      split = tag.split ∙ ap (λ xs. tag.prefix ++ xs) body.split
-          ∙ sym (append_assoc tag.prefix (body_text body.body) y.1);
+      split = grind (arith, append_assoc);
     }
 
 pub field_takes : (text : List ℕ) (y : Read) → IsBytes text → field_at text ≡ Some y → FieldTaken text y.0 y.1

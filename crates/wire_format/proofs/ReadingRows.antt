@@ -5,7 +5,7 @@ use Rattle.std.specs.List.{filter_map, AllByRecursion}
 use Rattle.std.proofs.lemmas.Grind.{common_steps}
 use Rattle.std.proofs.lemmas.Option.{none-some, same_Some}
 use Rattle.wire_format.specs.Varint.{Spells}
-use Rattle.wire_format.specs.Reading.{Value, Spelled, body_text, IsSpelled, text_of, entry_of, IsRow}
+use Rattle.wire_format.specs.Reading.{Value, Spelled, IsSpelled, text_of, entry_of, IsRow}
 use Rattle.wire_format.specs.ReadingSteps.{field_at}
 use Rattle.wire_format.proofs.ReadingVarints.{IsBytes}
 use Rattle.wire_format.proofs.ReadingFields.{Read, some_read, FieldTaken, field_takes, field_again, rest_of_bytes}
@@ -13,24 +13,15 @@ use Rattle.wire_format.proofs.ReadingFields.{Read, some_read, FieldTaken, field_
 pub row_none : IsRow [] []
 row_none = ([], tt, refl, refl)
 
-pub row_ahead_some : (text : List ℕ) (e : ℕ × Value) (rest : List ℕ) (fs : List (ℕ × Value))
-    → FieldTaken text (Some e) rest → IsRow rest fs
-    → IsRow text (e ∷ fs)
-row_ahead_some text e rest fs taken (row, ok, split, is) = (
-  taken.field ∷ row,
-  (taken.ok, ok),
-  taken.split ∙ ap (λ xs. text_of taken.field ++ xs) split,
-  rw (taken.entry_is, is) refl,
-)
+-- a list behind the entry of a field, which a value that is read over has not
+abbrev pub with_entry : Option (ℕ × Value) → List (ℕ × Value) → List (ℕ × Value)
+with_entry None fs = fs
+with_entry (Some e) fs = e ∷ fs
 
-pub row_ahead_none : (text rest : List ℕ) (fs : List (ℕ × Value)) → FieldTaken text None rest → IsRow rest fs
-    → IsRow text fs
-row_ahead_none text rest fs taken (row, ok, split, is) = (
-  taken.field ∷ row,
-  (taken.ok, ok),
-  taken.split ∙ ap (λ xs. text_of taken.field ++ xs) split,
-  rw (taken.entry_is, is) refl,
-)
+row_ahead : (text : List ℕ) (e : Option (ℕ × Value)) (rest : List ℕ) (fs : List (ℕ × Value))
+    → FieldTaken text e rest → IsRow rest fs → IsRow text (with_entry e fs)
+row_ahead text e rest fs taken (row, ok, split, is) =
+    (taken.field ∷ row, (taken.ok, ok), grind (arith, append_assoc), rw (taken.entry_is, is) refl)
 
 field_at_none : field_at [] ≡ None
 unfolding field_at
@@ -51,20 +42,14 @@ empty_short text e h = let none = rw e at h in omega (arith, none)
 
 pub row_stop : (text : List ℕ) (fs : List (ℕ × Value)) → 0 < length text → field_at text ≡ None → IsRow text fs → ⊥
 row_stop text fs h e ([], ok, split, is) = empty_short text split h
-row_stop text fs h e (s ∷ row, ok, split, is) =
-    none-some (entry_of s, flat_map text_of row) (sym e ∙ ap field_at split ∙ field_again s (flat_map text_of row) ok.0)
+row_stop text fs h e (s ∷ row, ok, split, is) = grind (arith, field_again, none-some)
 
 spells_some : (xs : List ℕ) (n : ℕ) → Spells xs n → 0 < length xs
-spells_some [] n s = absurd s
-spells_some (x ∷ xs) n s = omega arith
+spells_some xs n s = grind (arith, common_steps)
 
 pub taken_shorter : (text : List ℕ) (e : Option (ℕ × Value)) (rest : List ℕ) → FieldTaken text e rest
     → length rest < length text
-taken_shorter text e rest taken =
-    let some = spells_some taken.field.tag _ taken.ok.tag.spelled in
-    let len : length text ≡ length taken.field.tag + length (body_text taken.field.body) + length rest =
-    rw taken.split (grind (arith, common_steps)) in
-    omega (arith, some, len)
+taken_shorter text e rest taken = grind (arith, common_steps, spells_some)
 
 -- what reading keeps: fields that are read, and a row that is left
 pub record Kept (whole rest : List ℕ) (done : List (ℕ × Value)) : Type 0 where
@@ -79,27 +64,17 @@ within_rest : (text : List ℕ) (e : Option (ℕ × Value)) (rest : List ℕ) �
     → IsBytes rest
 within_rest text e rest taken h = rest_of_bytes (text_of taken.field) rest (subst IsBytes taken.split h)
 
-pub kept_some : (whole rest others : List ℕ) (done : List (ℕ × Value)) (e : ℕ × Value)
-    → field_at rest ≡ some_read (Some e, others) → Kept whole rest done
-    → Kept whole others (done ++ e ∷ [])
-kept_some whole rest others done e read kept =
-    let taken : FieldTaken rest (Some e) others = field_takes rest (Some e, others) kept.within read in
+pub kept_more : (whole rest others : List ℕ) (done more : List (ℕ × Value)) (e : Option (ℕ × Value))
+    → field_at rest ≡ some_read (e, others) → more ≡ done ++ with_entry e [] → Kept whole rest done
+    → Kept whole others more
+kept_more whole rest others done more e read more_is kept =
+    let taken = field_takes rest (e, others) kept.within read in
+    let joined : (fs : List (ℕ × Value)) → more ++ fs ≡ done ++ with_entry e fs =
+    λ fs. grind (arith, append_assoc, append-nil) in
     record {
-      within = within_rest rest (Some e) others taken kept.within;
-      ahead = λ fs row. rw (append_assoc done (e ∷ []) fs)
-          (kept.ahead (e ∷ fs) (row_ahead_some rest e others fs taken row));
-      back = λ fs row. row_back rest (Some e, others) (kept.back fs row).0 read (kept.back fs row).1;
-    }
-
-pub kept_none : (whole rest others : List ℕ) (done : List (ℕ × Value)) → field_at rest ≡ some_read (None, others)
-    → Kept whole rest done
-    → Kept whole others done
-kept_none whole rest others done read kept =
-    let taken : FieldTaken rest None others = field_takes rest (None, others) kept.within read in
-    record {
-      within = within_rest rest None others taken kept.within;
-      ahead = λ fs row. kept.ahead fs (row_ahead_none rest others fs taken row);
-      back = λ fs row. row_back rest (None, others) (kept.back fs row).0 read (kept.back fs row).1;
+      within = within_rest rest e others taken kept.within;
+      ahead = λ fs row. rw (joined fs) (kept.ahead (with_entry e fs) (row_ahead rest e others fs taken row));
+      back = λ fs row. row_back rest (e, others) (kept.back fs row).0 read (kept.back fs row).1;
     }
 
 pub field_shorter : (rest others : List ℕ) (e : Option (ℕ × Value)) → IsBytes rest
@@ -118,12 +93,8 @@ pub row_one : (row others : List Spelled) → AllByRecursion IsSpelled row → A
     → flat_map text_of row ≡ flat_map text_of others
     → filter_map entry_of row ≡ filter_map entry_of others
 row_one [] [] h k e = refl
-row_one [] (t ∷ ts) h k e =
-    absurd (none-some (entry_of t, flat_map text_of ts)
-    (sym field_at_none ∙ ap field_at e ∙ field_again t (flat_map text_of ts) k.0))
-row_one (s ∷ ss) [] h k e =
-    absurd (none-some (entry_of s, flat_map text_of ss)
-    (sym field_at_none ∙ ap field_at (sym e) ∙ field_again s (flat_map text_of ss) h.0))
+row_one [] (t ∷ ts) h k e = grind (arith, field_again, field_at_none, none-some)
+row_one (s ∷ ss) [] h k e = grind (arith, field_again, field_at_none, none-some)
 row_one (s ∷ ss) (t ∷ ts) h k e =
     let both = same_Some (entry_of s, flat_map text_of ss) (entry_of t, flat_map text_of ts)
     (sym (field_again s (flat_map text_of ss) h.0) ∙ ap field_at e ∙ field_again t (flat_map text_of ts) k.0) in
@@ -137,5 +108,4 @@ spelled_once s t x h k e =
     ap (λ (z : Read). z.1) both
 
 pub one_list : (text : List ℕ) (first second : List (ℕ × Value)) → IsRow text first → IsRow text second → first ≡ second
-one_list text first second (row, ok, split, is) (others, fine, cut, same) =
-    is ∙ row_one row others ok fine (sym split ∙ cut) ∙ sym same
+one_list text first second is other = grind (arith, row_one)

@@ -1,12 +1,11 @@
 -- Rows of fields as they are written: what is written is a row of these fields.
-use Rattle.std.proofs.Common.{◌≡◌, sym, ℕ, ◌+◌, ◌*◌, ◌^◌, ◌<◌, List, [], ◌∷◌, ◌++◌, length, refl, arith, append_assoc}
+use Rattle.std.proofs.Common.{◌≡◌, ℕ, ◌+◌, ◌*◌, ◌^◌, ◌<◌, List, [], ◌∷◌, ◌++◌, length, refl, arith, append_assoc}
 use Rattle.std.specs.Prelude.{Some}
 use Rattle.std.specs.List.{All}
 use Rattle.std.proofs.lemmas.List.Elements.{All-head, All-tail}
 use Rattle.wire_format.specs.Varint.{varint_bytes}
 use Rattle.wire_format.specs.ProgramFields.{field_bytes, value_of}
 use Rattle.wire_format.specs.declared.field.FieldValue.{FieldValue}
-use Rattle.wire_format.specs.declared.field.FieldValue.TheVariants.{Varint, Delimited}
 use Rattle.wire_format.specs.Reading.{Value, number, bytes, IsVarint, Body, varint_body, delimited, wire_type, IsBody}
 use Rattle.wire_format.specs.Reading.{Spelled, text_of, IsSpelled, entry_of, IsRow}
 use Rattle.wire_format.specs.Writing.{FitsVarint, IsMessageField, entry_bytes, row_bytes}
@@ -15,8 +14,7 @@ use Rattle.wire_format.proofs.ReadingRows.{row_none, one_list}
 
 -- what `put_field` appends is the bytes of the field's number and its value
 pub field_written : (n : ℕ) (value : FieldValue) → field_bytes n value ≡ entry_bytes (n, value_of value)
-field_written n (Varint value) = refl
-field_written n (Delimited contents) = refl
+field_written n value = grind arith
 
 varint_written : (n : ℕ) → n < 2 ^ 64 → IsVarint (varint_bytes n) n
 varint_written n fits = record { spelled = varint_spelled n fits; short = varint_short n; fits = fits }
@@ -34,22 +32,17 @@ written_field field = record {
 }
 
 written_text : (field : ℕ × Value) → text_of (written_field field) ≡ entry_bytes field
-written_text (n, number value) = let kind : n * 8 + 0 ≡ n * 8 = omega arith in rw kind refl
-written_text (n, bytes contents) =
-    sym (append_assoc (varint_bytes (n * 8 + 2)) (varint_bytes (length contents)) contents)
+written_text field = grind (arith, append_assoc)
 
 written_entry : (field : ℕ × Value) → entry_of (written_field field) ≡ Some field
-written_entry (n, number value) = refl
-written_entry (n, bytes contents) = refl
+written_entry field = grind arith
 
 -- a number has wire type 0, and bytes have 2
 written_kind : (value : Value) → wire_type (written_body value) < 3
-written_kind (number value) = omega arith
-written_kind (bytes contents) = omega arith
+written_kind value = grind arith
 
 written_is_body : (value : Value) → FitsVarint value → IsBody (written_body value)
-written_is_body (number value) fits = varint_written value fits
-written_is_body (bytes contents) fits = varint_written (length contents) fits
+written_is_body value fits = grind (arith, varint_written)
 
 written_is_spelled : (field : ℕ × Value) → IsMessageField field → IsSpelled (written_field field)
 written_is_spelled field ok =

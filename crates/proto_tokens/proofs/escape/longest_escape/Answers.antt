@@ -5,48 +5,13 @@ use Rattle.proto_tokens.proofs.escape.longest_escape.Goals as goal
 use Rattle.proto_tokens.proofs.escape.longest_escape.Goals.{in_default-via-then-this-lt48, in_default-via-else-this-lt48+else-this-lt56}
 
 pub returns-in_err-simple_escape-in_default : goal.returns-in_err-simple_escape-in_default
-returns-in_err-simple_escape-in_default c =
-    let form : IsSimpleForm c.in_ok-form.field-0.now = elim c.in_default.branch [
-      | in_default-via-then-this-lt48 w ↦ record {
-        no_digit = grind arith;
-        no_x = λ e. grind arith;
-        no_X = λ e. grind arith;
-        no_u = λ e. grind arith;
-        no_U =
-            λ e. grind arith;
-      }
-      | in_default-via-else-this-lt48+else-this-lt56 w ↦ record {
-        no_digit = grind arith;
-        no_x = λ e. grind arith;
-        no_X = λ e. grind arith;
-        no_u =
-            λ e. grind arith;
-        no_U = λ e. grind arith;
-      }
-    ] in
-    rw c.from_residual-in_err-simple_escape-in_default.ensures
-    (none_behind c.args.after.now c.in_ok-form.field-0.now c.in_ok-form.ensures.value form
-    c.in_err-simple_escape-in_default.ensures)
+returns-in_err-simple_escape-in_default c = grind (arith, common_steps, none_behind)
 
 pub returns-in_ok-simple_escape-in_default : goal.returns-in_ok-simple_escape-in_default
 returns-in_ok-simple_escape-in_default c =
     let form : IsSimpleForm c.in_ok-form.field-0.now = elim c.in_default.branch [
-      | in_default-via-then-this-lt48 w ↦ record {
-        no_digit = grind arith;
-        no_x = λ e. grind arith;
-        no_X = λ e. grind arith;
-        no_u = λ e. grind arith;
-        no_U =
-            λ e. grind arith;
-      }
-      | in_default-via-else-this-lt48+else-this-lt56 w ↦ record {
-        no_digit = grind arith;
-        no_x = λ e. grind arith;
-        no_X = λ e. grind arith;
-        no_u =
-            λ e. grind arith;
-        no_U = λ e. grind arith;
-      }
+      | in_default-via-then-this-lt48 w ↦ grind arith
+      | in_default-via-else-this-lt48+else-this-lt56 w ↦ grind arith
     ] in
     simple_behind c.args.after.now c.in_ok-form.field-0.now c.in_ok-simple_escape-in_default.field-0
     c.in_ok-form.ensures.value form

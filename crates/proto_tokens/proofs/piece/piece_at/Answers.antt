@@ -1,15 +1,12 @@
-use Rattle.std.proofs.Common.{ℕ, List, drop, ap, sym, ◌∙◌, arith, subst, None, get_or, length-drop}
-use Rattle.proto_tokens.specs.Bytes.{is_blank, is_letter}
-use Rattle.proto_tokens.specs.Piece.{IsLongestPiece}
+use Rattle.std.proofs.lemmas.Grind.{common_steps}
+use Rattle.std.proofs.Common.{ℕ, List, drop, ap, sym, ◌∙◌, arith, get_or, length-drop}
+use Rattle.proto_tokens.specs.Bytes.{is_letter}
 use Rattle.proto_tokens.proofs.Runs.{begins_from}
 use Rattle.proto_tokens.proofs.Pieces.{longest_blanks, found_identifier, fault_here, bad_byte}
 use Rattle.proto_tokens.proofs.piece.piece_at.Goals as goal
 
 pub returns-then-is_blank : goal.returns-then-is_blank
-returns-then-is_blank c =
-    let begins_so = begins_from is_blank c.bytes_from-rest.result.now (omega arith) (sym c.if-is_blank.ensures) in
-    subst (λ (s : List ℕ). IsLongestPiece s c.blanks_len.result None) c.bytes_from-rest.ensures.rest
-    (rw c.blanks_len.ensures.run (longest_blanks c.bytes_from-rest.result.now begins_so))
+returns-then-is_blank c = grind (arith, common_steps, begins_from, longest_blanks)
 
 pub returns-then-is_letter : goal.returns-then-is_letter
 returns-then-is_letter c =

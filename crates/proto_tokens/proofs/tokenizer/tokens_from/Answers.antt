@@ -1,6 +1,5 @@
 use Rattle.std.proofs.lemmas.Grind.{common_steps}
-use Rattle.std.proofs.Common.{map, arith}
-use Rattle.proto_tokens.specs.ProgramTokens.{spelled}
+use Rattle.std.proofs.Common.{arith}
 use Rattle.proto_tokens.proofs.CutLemmas.{gap_passed, token_pushed}
 use Rattle.proto_tokens.proofs.tokenizer.tokens_from.Goals as goal
 
@@ -11,10 +10,7 @@ loop-at-preserved-in_ok-push c =
     c.loop-at.invariant c.in_ok-kind.ensures c.in-Some.is c.in_ok-push.ensures.items
 
 pub loop-at-preserved : goal.loop-at-preserved
-loop-at-preserved c =
-    gap_passed c.args.source.now c.args.start c.loop-at.at c.in_ok-kind.len
-    (map spelled c.loop-at.tokens.items) c.in_ok-kind.kind c.loop-at.invariant
-    c.in_ok-kind.ensures c.in_default.is
+loop-at-preserved c = grind (arith, common_steps, gap_passed)
 
 pub overflow_add-end : goal.overflow_add-end
 overflow_add-end c = grind (arith, common_steps)

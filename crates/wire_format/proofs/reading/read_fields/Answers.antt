@@ -1,13 +1,12 @@
 use Rattle.std.proofs.Common.{◌≡◌, sym, ap, List, [], ◌∷◌, ◌++◌, map, arith, Some, None}
-use Rattle.std.specs.Prelude.{option_map}
 use Rattle.std.proofs.lemmas.Grind.{common_steps}
 use Rattle.std.proofs.lemmas.Bool.{eqb-true, eqb-false}
+use Rattle.std.proofs.Common.{append-nil, refl}
 use Rattle.std.proofs.lemmas.List.{map-append, nil_from_length}
 use Rattle.wire_format.specs.ProgramFields.{field_of}
 use Rattle.wire_format.specs.ReadingSteps.{field_at}
 use Rattle.wire_format.specs.declared.reading.Field.{Field}
-use Rattle.wire_format.proofs.ReadingFields.{some_read}
-use Rattle.wire_format.proofs.ReadingRows.{kept_first, kept_some, kept_none, kept_stop, kept_all, field_shorter}
+use Rattle.wire_format.proofs.ReadingRows.{kept_first, kept_more, kept_stop, kept_all, field_shorter}
 use Rattle.wire_format.proofs.reading.read_fields.Goals as goal
 
 pub loop-rest-init : goal.loop-rest-init
@@ -24,36 +23,26 @@ returns-in_err-field-clause-malformed c e fs row =
     eqb-false _ _ (sym c.loop-rest-test.ensures) in omega (arith, some)) read row
 
 pub loop-rest-smaller-in_ok-push : goal.loop-rest-smaller-in_ok-push
-loop-rest-smaller-in_ok-push c =
-    let read : field_at c.loop-rest.rest.now
-    ≡ some_read (option_map field_of c.in_ok-field.field, c.in_ok-field.behind.now) =
-    grind (arith, common_steps, c.field_at.ensures, c.in_ok-field.ensures.ok_part) in
-    field_shorter c.loop-rest.rest.now c.in_ok-field.behind.now _ c.loop-rest.invariant.within read
+loop-rest-smaller-in_ok-push c = grind (arith, common_steps, field_shorter)
 
 pub loop-rest-smaller : goal.loop-rest-smaller
-loop-rest-smaller c =
-    let read : field_at c.loop-rest.rest.now
-    ≡ some_read (option_map field_of c.in_ok-field.field, c.in_ok-field.behind.now) =
-    grind (arith, common_steps, c.field_at.ensures, c.in_ok-field.ensures.ok_part) in
-    field_shorter c.loop-rest.rest.now c.in_ok-field.behind.now _ c.loop-rest.invariant.within read
+loop-rest-smaller c = grind (arith, common_steps, field_shorter)
 
 pub loop-rest-preserved-in_ok-push : goal.loop-rest-preserved-in_ok-push
 loop-rest-preserved-in_ok-push c =
-    let read : field_at c.loop-rest.rest.now ≡ some_read (Some (field_of c.in-Some.field), c.in_ok-field.behind.now) =
-    grind (arith, common_steps, c.field_at.ensures, c.in_ok-field.ensures.ok_part, c.in-Some.is) in
-    let kept = kept_some c.args.bytes.now c.loop-rest.rest.now c.in_ok-field.behind.now
-    (map field_of c.loop-rest.fields.items) (field_of c.in-Some.field) read
-    c.loop-rest.invariant in
     let items : c.push.new.self.items ≡ c.loop-rest.fields.items ++ c.in-Some.field ∷ [] =
     grind (arith, common_steps) in
-    rw (items, map-append) kept
+    kept_more c.args.bytes.now c.loop-rest.rest.now c.in_ok-field.behind.now
+    (map field_of c.loop-rest.fields.items) (map field_of c.push.new.self.items) (Some (field_of c.in-Some.field))
+    (grind (arith, common_steps, c.field_at.ensures, c.in_ok-field.ensures.ok_part, c.in-Some.is))
+    (rw (items, map-append) refl) c.loop-rest.invariant
 
 pub loop-rest-preserved : goal.loop-rest-preserved
 loop-rest-preserved c =
-    let read : field_at c.loop-rest.rest.now ≡ some_read (None, c.in_ok-field.behind.now) =
-    grind (arith, common_steps, c.field_at.ensures, c.in_ok-field.ensures.ok_part, c.in_default.is) in
-    kept_none c.args.bytes.now c.loop-rest.rest.now c.in_ok-field.behind.now
-    (map field_of c.loop-rest.fields.items) read c.loop-rest.invariant
+    kept_more c.args.bytes.now c.loop-rest.rest.now c.in_ok-field.behind.now
+    (map field_of c.loop-rest.fields.items) (map field_of c.loop-rest.fields.items) None
+    (grind (arith, common_steps, c.field_at.ensures, c.in_ok-field.ensures.ok_part, c.in_default.is))
+    (sym (append-nil (map field_of c.loop-rest.fields.items))) c.loop-rest.invariant
 
 pub returns-clause-found : goal.returns-clause-found
 returns-clause-found c = kept_all c.args.bytes.now c.loop-rest.rest.now
