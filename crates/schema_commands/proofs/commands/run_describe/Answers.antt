@@ -21,7 +21,7 @@ returns-in_err-line g c =
     (record {
       standard = c.standard-limits.ensures;
       named = refl;
-      read = subst P (sym c.deref.ensures.value) (subst Q c.read_bound.ensures.value c.in_ok-text.ensures.run);
+      read = subst P (sym c.deref.ensures.value) (subst Q c.read_bound-most.ensures.value c.in_ok-text.ensures.run);
     })
     c.in_err-line.ensures.refused
 
@@ -41,7 +41,7 @@ returns-in_err-write_bytes g c =
     (record {
       standard = c.standard-limits.ensures;
       named = refl;
-      read = subst P (sym c.deref.ensures.value) (subst Q c.read_bound.ensures.value c.in_ok-text.ensures.run);
+      read = subst P (sym c.deref.ensures.value) (subst Q c.read_bound-most.ensures.value c.in_ok-text.ensures.run);
     })
     (subst L (sym c.as_bytes.ensures.value) c.in_ok-line.ensures.line) c.in_err-write_bytes.ensures
 
@@ -59,7 +59,7 @@ returns g c =
       record {
         standard = c.standard-limits.ensures;
         named = refl;
-        read = subst P (sym c.deref.ensures.value) (subst Q c.read_bound.ensures.value c.in_ok-text.ensures.run);
+        read = subst P (sym c.deref.ensures.value) (subst Q c.read_bound-most.ensures.value c.in_ok-text.ensures.run);
       },
       c.as_bytes.result.now,
       subst L (sym c.as_bytes.ensures.value) c.in_ok-line.ensures.line,
