@@ -56,7 +56,7 @@ marked_range mark greatest r = record {
   place = (mark r.start).place;
 }
 
--- the number of a range's end that it has and that is no `max`
+-- the number behind `to`, where there is one and it is not `max`
 abbrev pub end_bound : {N : Type 0} → Option (RangeEnd N) → List N
 end_bound None = []
 end_bound (Some e) = option_to_list (number_of_bound e.bound)

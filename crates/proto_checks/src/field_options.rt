@@ -1,7 +1,7 @@
 //! Rules on the options of fields (`FieldOptions`).
 
 ghost use Rattle.std.specs.Prelude.{◌≡◌, ◌↔◌, IsTrue, IfOk};
-ghost use Rattle.proto_options.specs.Options.{separated};
+ghost use Rattle.proto_tree.specs.Lists.{separated};
 ghost use Rattle.proto_base.specs.Least.{IsLeast};
 ghost use Rattle.proto_checks.specs.Options.{is_packed_type, is_wide, is_repeated, IsWronglyPacked, IsOtherType, IsWronglyTyped, FieldOptionsBreak, optioned};
 ghost use Rattle.proto_checks.specs.Parts.{IsWrongOnField};
@@ -101,10 +101,9 @@ fn bracketed_fault(can_be_packed: bool, is_wide_integer: bool, options: &Options
     ensures { IsLeast (Each (separated options.now.settings)
         (IsWrongOnField can_be_packed is_wide_integer)) result }
 {
-    let settings = &options.settings;
-    let mut first = field_setting_fault(can_be_packed, is_wide_integer, &settings.first);
-    for next in settings.rest.as_slice() {
-        let here = field_setting_fault(can_be_packed, is_wide_integer, &next.item);
+    let mut first = None;
+    for setting in options.settings.iter() {
+        let here = field_setting_fault(can_be_packed, is_wide_integer, setting);
         first = lesser(first, here);
     }
     first

@@ -70,9 +70,8 @@ fn put_ranges<N: Copy>(
     ensures { OnOk result (ranges.new.items ≡ ranges.old.items ++ ranges_in items.now) }
 {
     if let ReservedItems::Ranges(listed) = items {
-        ranges.push(listed.first)?;
-        for next in listed.rest.as_slice() {
-            ranges.push(next.item)?;
+        for range in listed.iter() {
+            ranges.push(*range)?;
         }
     }
     Ok(())

@@ -46,21 +46,6 @@ impl<'s> HasText for ReservedName<'s> {
     }
 }
 
-/// Adds a reserved name.
-fn put_name<'s>(
-    alloc: Global,
-    names: &mut Vec<ReservedName<'s>>,
-    value: &StringValue<'s>,
-) -> Result<(), AllocError>
-    ensures { OnOk result (names.new.items ≡ names.old.items ++ reserved_name value.now ∷ []) }
-{
-    names.push(ReservedName {
-        text: joined(alloc, value)?,
-        place: value.first.span.start,
-    })?;
-    Ok(())
-}
-
 fn put_names<'s, N>(
     alloc: Global,
     names: &mut Vec<ReservedName<'s>>,
@@ -70,9 +55,11 @@ fn put_names<'s, N>(
         ++ map reserved_name (names_in items.now)) }
 {
     if let ReservedItems::Names(listed) = items {
-        put_name(alloc, names, &listed.first)?;
-        for next in listed.rest.as_slice() {
-            put_name(alloc, names, &next.item)?;
+        for name in listed.iter() {
+            names.push(ReservedName {
+                text: joined(alloc, name)?,
+                place: name.first.span.start,
+            })?;
         }
     }
     Ok(())

@@ -1,7 +1,8 @@
 //! The settings of an element, in source order, each judged by itself, and the first fault of them.
 
 ghost use Rattle.std.specs.Prelude.{◌≡◌, ◌∷◌, ◌++◌, IfOk, OnOk, [], map, flat_map};
-ghost use Rattle.proto_options.specs.Options.{bracketed, separated};
+ghost use Rattle.proto_options.specs.Options.{bracketed};
+ghost use Rattle.proto_tree.specs.Lists.{separated};
 ghost use Rattle.proto_base.specs.Least.{IsLeast};
 ghost use Rattle.proto_checks.specs.Judged.{judged};
 ghost use Rattle.proto_checks.specs.Options.{SettingsBreak};
@@ -66,9 +67,8 @@ fn put_bracketed<'s>(
     ensures { OnOk result (settings.new.items
         ≡ settings.old.items ++ map (judged element) (separated options.now.settings)) }
 {
-    put_judged(alloc, settings, element, &options.settings.first)?;
-    for next in options.settings.rest.as_slice() {
-        put_judged(alloc, settings, element, &next.item)?;
+    for setting in options.settings.iter() {
+        put_judged(alloc, settings, element, setting)?;
     }
     Ok(())
 }

@@ -3,8 +3,8 @@
 ghost use Rattle.std.specs.Prelude.{◌<◌, IfOk};
 ghost use Rattle.share_work.specs.Shares.{GivesItems, TakesAll};
 
-use proto_names::{FEWEST, Threading};
-use share_work::{Gate, Plan, Work, in_shares};
+use proto_names::Threading;
+use share_work::{FEWEST_SHARED, Gate, Plan, Work, in_shares};
 use std::alloc::{AllocError, AllocGlobal};
 use std::thread::Threads;
 
@@ -44,7 +44,7 @@ where
     pub(crate) fn threads_for(&self, items: usize) -> usize
         ensures { 0 < result }
     {
-        if items < FEWEST {
+        if items < FEWEST_SHARED {
             1
         } else {
             self.plan.workers() as usize

@@ -22,7 +22,8 @@ use Rattle.proto_desc.specs.declared.options.OptionDesc.{OptionDesc}
 use Rattle.proto_desc.specs.declared.rules.Element.{Element}
 use Rattle.proto_desc.specs.declared.rules.ValueKind.{ValueKind}
 use Rattle.proto_lower.specs.Fields.{type_place, kind_of, described, label_of, is_optional, inner, member_at, fields_from, reference_of, real_count}
-use Rattle.proto_options.specs.Options.{next_item, separated, bracketed, is_setting, first_setting, value_of}
+use Rattle.proto_options.specs.Options.{bracketed, is_setting, first_setting, value_of}
+use Rattle.proto_tree.specs.Lists.{next_item, separated}
 use Rattle.proto_lower.specs.Options.{option_at, option_by, option_under, options_of}
 use Rattle.proto_desc.specs.Places.{kind_places, option_place, field_places, reference_places, oneof_place, value_place, enum_places, places_step, message_places, method_places, service_places, package_places, import_place, places_of}
 use Rattle.proto_desc.specs.Rules.{Rule, rules_of}

@@ -1,6 +1,6 @@
 //! Reserved numbers and names (language guide, "Reserved Fields", "Reserved Values").
 
-ghost use Rattle.std.specs.Prelude.{◌≡◌, ◌∷◌, ◌++◌, [], OnOk, map, flat_map};
+ghost use Rattle.std.specs.Prelude.{◌≡◌, ◌++◌, OnOk, map, flat_map};
 ghost use Rattle.proto_tree.specs.Text.{joined};
 ghost use Rattle.proto_lower.specs.Reserveds.{message_range, enum_range, number_of_literal};
 ghost use Rattle.proto_options.specs.Statements.{message_reserved, ranges_in, names_in};
@@ -50,9 +50,8 @@ fn put_ranges(
     ensures { OnOk result (out.new.items ≡ out.old.items ++ map message_range (ranges_in items.now)) }
 {
     if let ReservedItems::Ranges(ranges) = items {
-        out.push(message_range(&ranges.first))?;
-        for next in ranges.rest.as_slice() {
-            out.push(message_range(&next.item))?;
+        for range in ranges.iter() {
+            out.push(message_range(range))?;
         }
     }
     Ok(())
@@ -67,23 +66,10 @@ pub(crate) fn put_enum_ranges(
         ≡ out.old.items ++ map enum_range (ranges_in items.now)) }
 {
     if let ReservedItems::Ranges(ranges) = items {
-        out.push(enum_range(&ranges.first))?;
-        for next in ranges.rest.as_slice() {
-            out.push(enum_range(&next.item))?;
+        for range in ranges.iter() {
+            out.push(enum_range(range))?;
         }
     }
-    Ok(())
-}
-
-/// Adds a name.
-fn put_name<'s>(
-    alloc: Global,
-    out: &mut Vec<Text<'s>>,
-    name: &StringValue<'s>,
-) -> Result<(), AllocError>
-    ensures { OnOk result (out.new.items ≡ out.old.items ++ joined name.now ∷ []) }
-{
-    out.push(joined(alloc, name)?)?;
     Ok(())
 }
 
@@ -96,9 +82,8 @@ pub(crate) fn put_names<'s, N>(
     ensures { OnOk result (out.new.items ≡ out.old.items ++ map joined (names_in items.now)) }
 {
     if let ReservedItems::Names(names) = items {
-        put_name(alloc, out, &names.first)?;
-        for next in names.rest.as_slice() {
-            put_name(alloc, out, &next.item)?;
+        for name in names.iter() {
+            out.push(joined(alloc, name)?)?;
         }
     }
     Ok(())

@@ -21,7 +21,8 @@ fn keys_of(alloc: Global, entries: &[Entry]) -> Result<Vec<u64>, AllocError>
     Ok(keys)
 }
 
-/// The entries in the order of their hashes. Keys are sorted, since an entry is five times as long.
+/// The entries in the order of their keys, which are sorted first, since an entry is five times as long. The sort by names that
+/// follows settles the order, and then moves few.
 pub(crate) fn by_hashes(alloc: Global, entries: &[Entry]) -> Result<Vec<Entry>, AllocError>
     requires { length entries.now ≤ 1_048_576 }
     ensures { IfOk result (λ sorted. IsPermutation entries.now sorted.items) }

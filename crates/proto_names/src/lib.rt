@@ -30,4 +30,4 @@ mod visible;
 pub use full_name::{name_in, push_name};
 pub use index::{Defined, NameError, NameIndex};
 pub use resolve::{FoundType, ResolveError, Resolved, Want, resolution_is_unique};
-pub use threading::{FEWEST, Threading};
+pub use threading::Threading;

@@ -10,9 +10,9 @@ use crate::entries::Entries;
 use crate::parts::{THREADS, collect_in_threads};
 use crate::share::Share;
 use crate::sorted::{SortedShare, sort_share};
-use crate::threading::{FEWEST, Threading};
+use crate::threading::Threading;
 use proto_desc::file::FileDesc;
-use share_work::{NoGate, Plan, Work, in_shares};
+use share_work::{FEWEST_SHARED, NoGate, Plan, Work, in_shares};
 use std::alloc::{AllocError, AllocGlobal, Global};
 use std::thread::Threads;
 
@@ -161,7 +161,7 @@ where
         (λ shares. AreSharesOf (occurrences files.now) shares.items)) }
 {
     match threading {
-        Threading::Shared if files.len() >= FEWEST => sorted_in_threads(rt, files, limit),
+        Threading::Shared if files.len() >= FEWEST_SHARED => sorted_in_threads(rt, files, limit),
         _ => sorted_alone(rt.alloc(), files, limit),
     }
 }

@@ -8,6 +8,3 @@ pub enum Threading {
     /// Threads that share the files.
     Shared,
 }
-
-/// Fewer items than this, each of which takes little, are not worth a thread.
-pub const FEWEST: usize = 64;

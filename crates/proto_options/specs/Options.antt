@@ -1,5 +1,5 @@
 -- The settings of each element, of which the first of an option counts, and what a constant is as a value.
-use Rattle.std.specs.Prelude.{ℕ, Bool, false, List, [], ◌∷◌, map, Option, Some, None, bytes_eq, cond}
+use Rattle.std.specs.Prelude.{ℕ, Bool, false, List, [], ◌∷◌, Option, Some, None, bytes_eq, cond}
 use Rattle.std.specs.Option.{option_map, option_and_then, unwrap_or}
 use Rattle.proto_tree.specs.declared.constant.Constant.{Constant}
 use Rattle.proto_tree.specs.declared.constant.Constant.TheVariants as constant
@@ -7,8 +7,6 @@ use Rattle.proto_tree.specs.declared.enumeration.EnumItem.{EnumItem}
 use Rattle.proto_tree.specs.declared.enumeration.EnumItem.TheVariants as enum_item
 use Rattle.proto_tree.specs.declared.file.Statement.{Statement}
 use Rattle.proto_tree.specs.declared.file.Statement.TheVariants as statement
-use Rattle.proto_tree.specs.declared.list.Next.{Next}
-use Rattle.proto_tree.specs.declared.list.Separated.{Separated}
 use Rattle.proto_tree.specs.declared.message.MessageItem.{MessageItem}
 use Rattle.proto_tree.specs.declared.message.MessageItem as message_item
 use Rattle.proto_tree.specs.declared.name.FullName.{FullName}
@@ -25,14 +23,8 @@ use Rattle.proto_desc.specs.declared.options.OptionValue.TheVariants.{Text, Numb
 use Rattle.proto_desc.specs.declared.rules.ValueKind.{ValueKind}
 use Rattle.proto_desc.specs.declared.rules.ValueKind.TheVariants as kind
 use Rattle.proto_desc.specs.Rules.{choice_number}
+use Rattle.proto_tree.specs.Lists.{separated}
 use Rattle.proto_tree.specs.Text.{joined, simple_name}
-
--- what stands with commas between
-abbrev pub next_item : {A : Type 0} → Next A → A
-next_item n = n.item
-
-abbrev pub separated : {A : Type 0} → Separated A → List A
-separated s = s.first ∷ map next_item s.rest
 
 -- the settings of a field or an enum value
 abbrev pub bracketed : Option Options → List Setting

@@ -27,7 +27,7 @@ use Rattle.proto_tree.specs.declared.service.RpcItem.{RpcItem}
 use Rattle.proto_tree.specs.declared.service.Service.{Service}
 use Rattle.proto_tree.specs.declared.service.ServiceItem.{ServiceItem}
 use Rattle.proto_tree.specs.declared.service.ServiceItem.TheVariants as service_item
-use Rattle.proto_options.specs.Options.{separated}
+use Rattle.proto_tree.specs.Lists.{separated}
 
 -- the package, the message, the enum or the service that a statement of a file is
 abbrev pub file_package : Statement → List Package

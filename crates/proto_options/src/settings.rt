@@ -108,12 +108,9 @@ pub fn first_bracketed<'t, 's>(
     let Some(options) = options else {
         return None;
     };
-    if is_setting(&options.settings.first, word) {
-        return Some(&options.settings.first);
-    }
-    for next in options.settings.rest.as_slice() {
-        if is_setting(&next.item, word) {
-            return Some(&next.item);
+    for listed in options.settings.iter() {
+        if is_setting(listed, word) {
+            return Some(listed);
         }
     }
     None

@@ -24,7 +24,7 @@ pub use constant::{Constant, ConstantNumber, Sign};
 pub use enumeration::{Enum, EnumItem, EnumValue};
 pub use field::{Declarator, Field, FieldType, Label};
 pub use file::{FileTree, Import, Package, Statement, Syntax};
-pub use list::{Next, Separated};
+pub use list::{Items, Next, Separated};
 pub use literal::{NumberLiteral, SignedNumber, StringLiteral, StringValue};
 pub use map_field::{MapField, MapType};
 pub use message::{Message, MessageItem};

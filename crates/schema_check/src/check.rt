@@ -76,7 +76,7 @@ where
         result }
 {
     let sources = sources_of(rt.alloc(), texts)?;
-    let found = findings_of(rt, places, &sources, limits, plan)?;
+    let found = findings_of(rt, places, &sources, limits, plan.evened(texts.len()))?;
     write_bytes(output, found.report.as_bytes())?;
     Ok(found.verdict)
 }

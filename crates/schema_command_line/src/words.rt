@@ -63,7 +63,7 @@ fn source_command<'a>(
     about: &'a str,
 ) -> Result<Command<'a>, AllocError> {
     let workers_help = "how many workers share the work, 1 to 64";
-    let cut_help = "how many files a worker takes at a time, 1 to 4096";
+    let cut_help = "the most files that a worker takes at a time, 1 to 4096";
     Command::new(alloc, name)
         .about(about)
         .arg(root_argument(alloc))?

@@ -81,6 +81,7 @@ where
 {
     let sources = sources_of(rt.alloc(), texts)?;
     let listed = sources.as_slice();
+    let plan = plan.evened(listed.len());
     match compile_by(rt, listed, limits, plan, &NoGate, leftovers) {
         Ok(compiled) => Ok(compiled),
         Err(CompileError::NoMemory) => Err(Failure::NoMemory),

@@ -90,6 +90,7 @@ where
         folder,
         limits: *limits,
     };
+    let plan = plan.evened(names.len());
     let mut seats = Vec::from_elem(rt.alloc(), (), plan.workers() as usize)?;
     in_shares(rt, plan, 0, &NoGate, names, &work, seats.as_mut_slice())
 }

@@ -7,3 +7,4 @@ pub mod Order
 pub mod Marks
 pub mod MarkRule
 pub mod Steps
+pub mod Plans

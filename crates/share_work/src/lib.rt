@@ -23,7 +23,7 @@ pub use least_table::{LeastSeat, LeastTable, NONE};
 pub use mark_table::{MarkSeat, MarkTable};
 pub use mark_view::{Debt, MarkView};
 pub use order::calls_replay;
-pub use plan::Plan;
+pub use plan::{FEWEST_SHARED, Plan};
 pub use reach::Reach;
 pub use shares::in_shares;
 pub use views::{Call, View};

@@ -1,6 +1,13 @@
 //! How items are cut into pieces, and pieces are shared among workers.
 
 ghost use Rattle.std.specs.Prelude.{◌≡◌, ◌<◌, ◌≤◌, ◌↔◌, IsSome, IfSome};
+ghost use Rattle.share_work.specs.Plans.{even_cut};
+
+/// Fewer items than this, each of which takes little, are not worth a thread.
+pub const FEWEST_SHARED: usize = 64;
+
+/// How many pieces each worker gets of many items, if these are shared evenly.
+const PIECES_EACH: usize = 64;
 
 /// A number of workers, 1 to 64, and how many items one piece has, 1 to 4,096.
 ///
@@ -35,6 +42,24 @@ impl Plan {
         ensures plan { (result.workers ≡ 1) × (result.cut ≡ 1) }
     {
         Plan { workers: 1, cut: 1 }
+    }
+
+    /// The same workers, and no greater pieces, which share so many items more evenly: each worker gets 64 pieces or some more,
+    /// or pieces of one item. Items of which no worker gets a second piece are shared as before, since fewer threads do for them.
+    pub fn evened(self, items: usize) -> Plan
+        ensures workers { result.workers ≡ self.workers }
+        ensures cut { result.cut ≡ even_cut self.workers self.cut items }
+    {
+        let workers = self.workers as usize;
+        let cut = self.cut as usize;
+        if items <= workers * cut {
+            return self;
+        }
+        let share = items / (workers * PIECES_EACH);
+        Plan {
+            workers: self.workers,
+            cut: share.clamp(1, cut) as u32,
+        }
     }
 
     /// How many workers there are.

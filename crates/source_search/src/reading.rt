@@ -64,6 +64,7 @@ where
     ensures { IfOk result (λ lists. AllZip (SourceImports limits.now) sources.now lists.items) }
 {
     let work = Reading { limits: *limits };
+    let plan = plan.evened(sources.len());
     let mut seats = Vec::from_elem(rt.alloc(), (), plan.workers() as usize)?;
     in_shares(rt, plan, 0, &NoGate, sources, &work, seats.as_mut_slice())
 }

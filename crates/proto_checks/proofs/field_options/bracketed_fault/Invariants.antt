@@ -1,10 +1,13 @@
+use Rattle.std.proofs.Common.{◌≡◌, ◌++◌, map}
 use Rattle.proto_base.specs.Least.{IsLeast}
+use Rattle.proto_base.specs.Sets.{Each}
+use Rattle.proto_tree.specs.Items.{items_left}
+use Rattle.proto_tree.specs.Lists.{separated}
 use Rattle.proto_checks.specs.Parts.{IsWrongOnField}
-use Rattle.proto_base.proofs.Sets.{WithTo}
 use Rattle.proto_checks.proofs.field_options.bracketed_fault.Given as goal
 
-abbrev pub invariant-loop-next : goal.invariant-loop-next
-invariant-loop-next l =
-    IsLeast (WithTo (IsWrongOnField l.fn.can_be_packed l.fn.is_wide_integer l.options.settings.first)
-    l.next-items l.next-index
-    (λ next. IsWrongOnField l.fn.can_be_packed l.fn.is_wide_integer next.item)) l.first
+abbrev pub invariant-loop-setting : goal.invariant-loop-setting
+invariant-loop-setting l = let seen = map (λ setting. setting.now) l.yielded in record {
+  least : IsLeast (Each seen (IsWrongOnField l.fn.can_be_packed l.fn.is_wide_integer)) l.first;
+  listed : seen ++ items_left l.setting-iterator ≡ separated l.options.settings;
+}

@@ -1,6 +1,7 @@
-use Rattle.std.proofs.Common.{◌≡◌, ◌++◌, take, map}
-use Rattle.proto_options.specs.Options.{next_item}
+use Rattle.std.proofs.Common.{◌≡◌, ◌++◌}
+use Rattle.proto_options.specs.Statements.{ranges_in}
+use Rattle.proto_tree.specs.Items.{items_left}
 use Rattle.proto_checks.proofs.gathered.put_ranges.Given as goal
 
-abbrev pub invariant-loop-next : goal.invariant-loop-next
-invariant-loop-next g l = l.ranges.items ≡ l.initial.ranges.items ++ map next_item (take l.next-index l.next-items)
+abbrev pub invariant-loop-range : goal.invariant-loop-range
+invariant-loop-range g l = l.ranges.items ++ items_left l.range-iterator ≡ l.initial.ranges.items ++ ranges_in l.items

@@ -1,7 +1,8 @@
 use Rattle.std.proofs.Common.{◌≡◌, ◌∙◌, ap, sym, subst, [], ◌∷◌, ◌++◌, map}
 use Rattle.std.proofs.lemmas.Bool.{eqb-true}
 use Rattle.std.proofs.lemmas.List.{nil_from_length}
-use Rattle.proto_options.specs.Options.{bracketed, separated, next_item}
+use Rattle.proto_options.specs.Options.{bracketed}
+use Rattle.proto_tree.specs.Lists.{next_item, separated}
 use Rattle.proto_base.specs.Least.{IsLeast}
 use Rattle.proto_base.proofs.Among.{if_ok}
 use Rattle.proto_checks.specs.Judged.{judged}

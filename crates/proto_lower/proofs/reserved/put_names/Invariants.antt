@@ -1,8 +1,9 @@
-use Rattle.std.proofs.Common.{◌≡◌, ◌++◌, take, map}
-use Rattle.proto_options.specs.Options.{next_item}
+use Rattle.std.proofs.Common.{◌≡◌, ◌++◌, map}
+use Rattle.proto_options.specs.Statements.{names_in}
+use Rattle.proto_tree.specs.Items.{items_left}
 use Rattle.proto_tree.specs.Text.{joined}
 use Rattle.proto_lower.proofs.reserved.put_names.Given as goal
 
-abbrev pub invariant-loop-next : goal.invariant-loop-next
-invariant-loop-next g l = l.out.items ≡ l.initial.out.items
-    ++ map joined (map next_item (take l.next-index l.next-items))
+abbrev pub invariant-loop-name : goal.invariant-loop-name
+invariant-loop-name g l = l.out.items ++ map joined (items_left l.name-iterator)
+    ≡ l.initial.out.items ++ map joined (names_in l.items)
