@@ -2,6 +2,7 @@
 
 ghost use Rattle.std.specs.Prelude.{◌-◌, ◌<◌, ◌^◌, [], ◌∷◌, IfErr, IfOk, string_bytes};
 ghost use Rattle.proto_compile.specs.Compilation.{set_of};
+ghost use Rattle.proto_compile.specs.FaultSet.{IsLeastFault, TellsOf};
 ghost use Rattle.schema_commands.specs.Runs.{AreCompiledTo, IsAnswerRun, IsCompileRun, IsCompiledTo, IsDescribeRun, IsExplainRun, IsLineOf, IsSetRun, IsToldOf, IsToldOfFolder, IsToldOfTexts};
 
 use crate::set_writing::SetWriter;
@@ -22,6 +23,18 @@ use std::random::RandomSource;
 use std::rt::Files;
 use std::thread::Threads;
 
+/// Why sources are not compiled: their first fault, with its line and its column, or want of memory.
+fn told(error: CompileError, sources: &[Source]) -> Failure
+    requires { (limits : Limits) × TellsOf (IsLeastFault limits sources.now) error }
+    ensures { (limits : Limits) → TellsOf (IsLeastFault limits sources.now) error
+        → IsToldOf limits sources.now result }
+{
+    match error {
+        CompileError::NoMemory => Failure::NoMemory,
+        CompileError::First(fault) => locate(fault, sources),
+    }
+}
+
 /// The descriptor of a source in hexadecimal digits, and a line feed.
 fn line_of_source<R>(rt: &R, name: &str, text: &[u8], limits: &Limits) -> Result<String, Failure>
 where
@@ -37,8 +50,7 @@ where
             line.push('\n')?;
             Ok(line)
         }
-        Err(CompileError::NoMemory) => Err(Failure::NoMemory),
-        Err(CompileError::First(fault)) => Err(locate(fault, &[Source { name, text }])),
+        Err(error) => Err(told(error, &[Source { name, text }])),
     }
 }
 
@@ -84,8 +96,7 @@ where
     let plan = plan.evened(listed.len());
     match compile_by(rt, listed, limits, plan, &NoGate, leftovers) {
         Ok(compiled) => Ok(compiled),
-        Err(CompileError::NoMemory) => Err(Failure::NoMemory),
-        Err(CompileError::First(fault)) => Err(locate(fault, listed)),
+        Err(error) => Err(told(error, listed)),
     }
 }
 
