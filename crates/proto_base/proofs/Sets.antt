@@ -158,11 +158,6 @@ later_all xs R at n r end h = least_same (LaterTo xs n R at) (Later xs R at) r
 abbrev pub WithTo : {X : Type 0} → (Spot → Type 0) → List X → ℕ → (X → Spot → Type 0) → Spot → Type 0
 WithTo {X} B xs n S x = B x ⊎ EachTo xs n S x
 
-pub with_none : {X : Type 0} (B : Spot → Type 0) (xs : List X) (S : X → Spot → Type 0) (p : Option Spot) → IsLeast B p
-    → IsLeast (WithTo B xs 0 S) p
-with_none B xs S p h = least_same B (WithTo B xs 0 S) p
-    (λ x v. elim v [ inl b ↦ b | inr w ↦ absurd (omega (arith, w.2)) ]) (λ x b. inl b) h
-
 with_split : {X : Type 0} (B : Spot → Type 0) (xs : List X) (S : X → Spot → Type 0) (n : ℕ) (a : X) → StandsAt xs n a
     → (x : Spot) → WithTo B xs (n + 1) S x
     → WithTo B xs n S x ⊎ S a x
