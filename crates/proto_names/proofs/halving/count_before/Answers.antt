@@ -14,12 +14,6 @@ use Rattle.proto_names.proofs.Searching.{parted_less, less_point}
 use Rattle.proto_names.proofs.Standing.{name_order, parted_entries, point_occurrences}
 use Rattle.proto_names.proofs.halving.count_before.Goals as goal
 
-pub returns-clause-bound : goal.returns-clause-bound
-returns-clause-bound c =
-    let l = length-map c.names.inside.entries.now (occurrence c.names.inside.text.now) in
-    let same = ap length c.names.view_is in
-    omega (arith, l, same, c.partition_point.ensures.bound)
-
 pub returns-clause-point : goal.returns-clause-point
 returns-clause-point c =
     let text = c.names.inside.text.now in

@@ -5,9 +5,6 @@ use Rattle.proto_names.specs.Keys.{found_by}
 use Rattle.proto_names.proofs.Keying.{found_all, found_more, found_within}
 use Rattle.proto_names.proofs.keys.by_hashes.Goals as goal
 
-pub loop-key-init : goal.loop-key-init
-loop-key-init c = ap (map Some) c.in_ok-sorted.ensures.items
-
 pub bounds-entries-key : goal.bounds-entries-key
 bounds-entries-key c =
     found_within c.args.entries.now c.in_ok-keys.keys.items c.as_slice-key-items.result.now c.loop-key.key-index

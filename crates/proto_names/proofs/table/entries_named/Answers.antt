@@ -11,22 +11,6 @@ use Rattle.proto_names.proofs.Ordered.{order_names}
 use Rattle.proto_names.proofs.Searching.{drop_sorted, drop_behind, none_is, run_is, start_below, start_named, start_point}
 use Rattle.proto_names.proofs.table.entries_named.Goals as goal
 
-pub skip-behind-requires : goal.skip-behind-requires
-skip-behind-requires c =
-    let os = c.args.names.now in
-    let sorted = order_names os c.requires.order in
-    let below = start_below os (scoped c.args.scope.text.now c.args.name.now) c.in-Some.start sorted
-    c.in-Some.ensures in
-    omega (arith, below)
-
-pub run_length-requires-clause-order : goal.run_length-requires-clause-order
-run_length-requires-clause-order c =
-    let os = c.args.names.now in
-    let sorted = order_names os c.requires.order in
-    let below = start_below os (scoped c.args.scope.text.now c.args.name.now) c.in-Some.start sorted
-    c.in-Some.ensures in
-    subst AreInHashOrder (sym c.skip-behind.ensures) (drop_sorted os c.in-Some.start (omega (arith, below)) sorted)
-
 pub run_length-requires-clause-behind : goal.run_length-requires-clause-behind
 run_length-requires-clause-behind c =
     let os = c.args.names.now in
@@ -36,24 +20,6 @@ run_length-requires-clause-behind c =
     subst (λ (ps : List Occurrence). All (λ o. name_cmp o.name target ≢ Less) ps) (sym c.skip-behind.ensures)
     (drop_behind os target c.in-Some.start (omega (arith, below))
     (start_point os target c.in-Some.start sorted c.in-Some.ensures))
-
-pub run_length-requires-clause-some : goal.run_length-requires-clause-some
-run_length-requires-clause-some c =
-    let os = c.args.names.now in
-    let sorted = order_names os c.requires.order in
-    let below = start_below os (scoped c.args.scope.text.now c.args.name.now) c.in-Some.start sorted
-    c.in-Some.ensures in
-    let l = length-drop c.in-Some.start os in
-    let same = ap length c.skip-behind.ensures in
-    omega (arith, l, below, same)
-
-pub run_length-requires-clause-first : goal.run_length-requires-clause-first
-run_length-requires-clause-first c =
-    let os = c.args.names.now in
-    let target = scoped c.args.scope.text.now c.args.name.now in
-    let below = start_below os target c.in-Some.start (order_names os c.requires.order) c.in-Some.ensures in
-    subst (λ (ps : List Occurrence). (d : Occurrence) → (get_or ps 0 d).name ≡ target) (sym c.skip-behind.ensures)
-    (start_named os target c.in-Some.start c.in-Some.ensures below)
 
 named_run : (c : goal.After-files_of-files) (o : Occurrence)
     → Contains (take c.run_length.result (drop c.in-Some.start c.args.names.now)) o

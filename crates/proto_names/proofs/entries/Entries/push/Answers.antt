@@ -13,19 +13,6 @@ invariant_of-self c =
     entries_more (string_bytes c.self.inside.text) (string_bytes c.push_name.new.full) c.self.inside.entries.items
     c.push_name.ensures.kept c.self.invariant
 
-pub overflow_sub-len : goal.overflow_sub-len
-overflow_sub-len c =
-    let long = length_kept (string_bytes c.self.inside.text)
-    (string_bytes c.push_name.new.full) c.push_name.ensures.kept in
-    omega (
-      arith,
-      long,
-      c.self.inside.text.bytes.ok.0,
-      c.push_name.new.full.bytes.ok.0,
-      c.len-start.ensures,
-      c.len.ensures,
-    )
-
 pub invariant_of-self-in_err-push : goal.invariant_of-self-in_err-push
 invariant_of-self-in_err-push c = subst (AreEntriesOf (string_bytes c.push_name.new.full))
     (sym c.in_err-push.ensures.items)

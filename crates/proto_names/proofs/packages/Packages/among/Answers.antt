@@ -42,15 +42,3 @@ loop-start-preserved c =
           × (start + c.len-start.result ≤ length os))
           (sym w.packages-is) (c.loop-start.invariant.0, c.loop-start.invariant.1, ends)
     ]
-
-pub take-named-requires : goal.take-named-requires
-take-named-requires c = grind (arith, common_steps)
-
-pub push-requires-clause-columns : goal.push-requires-clause-columns
-push-requires-clause-columns c = grind (arith, common_steps)
-
-pub overflow_add-start : goal.overflow_add-start
-overflow_add-start c = grind (arith, common_steps)
-
-pub loop-start-smaller : goal.loop-start-smaller
-loop-start-smaller c = grind (arith, common_steps)

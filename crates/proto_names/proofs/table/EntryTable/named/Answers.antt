@@ -4,9 +4,6 @@ use Rattle.proto_names.specs.Order.{AreInOrder}
 use Rattle.proto_names.specs.Occurrences.{Occurrence}
 use Rattle.proto_names.proofs.table.EntryTable.named.Goals as goal
 
-pub entries_named-requires-clause-order : goal.entries_named-requires-clause-order
-entries_named-requires-clause-order c = subst AreInOrder (sym c.names.ensures) c.self.invariant.0
-
 pub returns-clause-found : goal.returns-clause-found
 returns-clause-found c o within =
     let w = (c.entries_named.ensures.named o).0 within in
