@@ -22,10 +22,6 @@ pub scoped_some : (scope name : List ℕ) → 0 < length scope → scoped scope 
 scoped_some [] name h = absurd (omega (arith, h))
 scoped_some (c ∷ cs) name h = refl
 
-pub scoped_none : (scope name : List ℕ) → length scope ≡ 0 → scoped scope name ≡ name
-scoped_none [] name h = refl
-scoped_none (c ∷ cs) name h = absurd (omega (arith, h))
-
 short_all : (text scope name : List ℕ) → length text ≤ length scope
     → slice_cmp nat_cmp text (scope ++ 46 ∷ name) ≡ ordering_then (slice_cmp nat_cmp text scope) Less
 short_all [] [] name h = refl

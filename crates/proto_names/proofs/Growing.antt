@@ -1,6 +1,6 @@
 -- Entries whose names stand in a text that only grows.
-use Rattle.std.proofs.Common.{◌≡◌, ◌∙◌, sym, ap, ap₂, subst, refl, ℕ, zero, suc, ◌+◌, ◌-◌, ◌<◌, ◌≤◌, List, [], ◌∷◌, ◌++◌, length, take, drop, map, arith, append_assoc, length-append, length-drop, length-take-le}
-use Rattle.std.specs.Prelude.{IsAscii, IsUtf8, Result, Ok, Err, OnOk, is_ok, if◌then◌else◌}
+use Rattle.std.proofs.Common.{◌≡◌, ◌∙◌, sym, ap, ap₂, subst, refl, ℕ, zero, suc, ◌+◌, ◌-◌, ◌≤◌, List, [], ◌∷◌, ◌++◌, length, take, drop, map, arith, length-append, length-drop, length-take-le}
+use Rattle.std.specs.Prelude.{IsAscii, IsUtf8}
 use Rattle.std.proofs.lemmas.List.{drop-append-le, take-append-le, drop_at, take_all, map_push}
 use Rattle.std.proofs.lemmas.List.Elements.{All-head, All-tail, All-push, All-weaker}
 use Rattle.std.proofs.lemmas.Str.{IsUtf8-append, IsUtf8-from_ascii}
@@ -10,7 +10,6 @@ use Rattle.proto_names.specs.Entries.{name_at, occurrence, IsEntryOf, AreEntries
 use Rattle.proto_names.specs.Hashes.{hash_of}
 use Rattle.proto_names.specs.Occurrences.{Occurrence}
 use Rattle.proto_names.specs.declared.entry.Entry.{Entry}
-use Rattle.proto_names.proofs.Comparing.{scoped_some, scoped_none}
 use Rattle.digraph.proofs.Sharing.{length_kept}
 
 -- ---- what stands within the text stays
@@ -89,33 +88,6 @@ module _ (old new full : List ℕ) (es all : List Entry) (e : Entry) (whole : ne
       (ap (named e) last_name)
 
 -- ---- a name put behind the text in its parts
-
-pub prefix_more : (old base more new : List ℕ) → IsFrontOf old base → new ≡ base ++ more → IsFrontOf old new
-prefix_more old base more new prefix e =
-    (prefix.0 ++ more, e ∙ ap (λ (t : List ℕ). t ++ more) prefix.1 ∙ append_assoc old prefix.0 more)
-
-pub put_kept : {T E : Type 0} (r : Result T E) (old base more new : List ℕ) → IsFrontOf old base
-    → new ≡ (if is_ok r then base ++ more else base)
-    → IsFrontOf old new
-put_kept (Ok t) old base more new prefix e = prefix_more old base more new prefix e
-put_kept (Err d) old base more new prefix e = (prefix.0, e ∙ prefix.1)
-
-pub put_whole : {T E : Type 0} (r : Result T E) (base more new whole : List ℕ) → base ++ more ≡ whole
-    → new ≡ (if is_ok r then base ++ more else base)
-    → OnOk r (new ≡ whole)
-put_whole (Ok t) base more new whole is e = e ∙ is
-put_whole (Err d) base more new whole is e = tt
-
-pub scope_put : (old scope once base name : List ℕ) → 0 < length scope → once ≡ old ++ scope → base ≡ once ++ 46 ∷ []
-    → base ++ name ≡ old ++ scoped scope name
-scope_put old scope once base name some first second =
-    ap (λ (t : List ℕ). t ++ name) (second ∙ ap (λ (t : List ℕ). t ++ 46 ∷ []) first)
-    ∙ append_assoc (old ++ scope) (46 ∷ []) name
-    ∙ append_assoc old scope (46 ∷ name) ∙ ap (λ (t : List ℕ). old ++ t) (sym (scoped_some scope name some))
-
-pub no_scope : (old scope base name : List ℕ) → length scope ≡ 0 → base ≡ old → base ++ name ≡ old ++ scoped scope name
-no_scope old scope base name none same = ap (λ (t : List ℕ). t ++ name) same
-    ∙ ap (λ (t : List ℕ). old ++ t) (sym (scoped_none scope name none))
 
 dot_ascii : IsAscii (46 ∷ [])
 dot_ascii zero = omega arith

@@ -1,11 +1,10 @@
 -- Runs of one name, and what is repeated in them.
-use Rattle.std.proofs.Common.{◌≡◌, ◌≢◌, ◌∙◌, sym, ℕ, zero, suc, ◌+◌, ◌-◌, ◌<◌, ◌≤◌, List, [], ◌∷◌, ◌++◌, length, ap, refl, subst, arith, inl, inr, ◌⊎◌}
-use Rattle.std.specs.Prelude.{Contains, Bool, MatchBool, nat_lt, true, false, IsTrue, ◌↔◌, Option, None, Some, IfSome, IsSomeAnd, MatchOption, is_some, slice_get}
-use Rattle.std.proofs.lemmas.Bool.{cases_lt, false≢true, lt-ltb, ltb-true}
+use Rattle.std.proofs.Common.{◌≡◌, ◌≢◌, ◌∙◌, sym, ℕ, ◌+◌, ◌-◌, ◌<◌, ◌≤◌, List, [], ◌∷◌, ◌++◌, length, refl, arith, inl, inr}
+use Rattle.std.specs.Prelude.{Contains, false, Option, None, Some, IsSomeAnd, MatchOption}
+use Rattle.std.proofs.lemmas.Bool.{cases_lt}
 use Rattle.std.proofs.lemmas.List.Elements.{Contains-append_left, Contains-push, Contains-push_cases}
 use Rattle.std.proofs.lemmas.Option.{slice_get-get_or, slice_get_within, get_or_from_slice_get}
-use Rattle.proto_desc.specs.declared.name_kind.NameKind.{NameKind}
-use Rattle.proto_names.specs.Occurrences.{Occurrence, IsNoLater, IsPackage, IsTwice, NoneTwice}
+use Rattle.proto_names.specs.Occurrences.{Occurrence, IsNoLater, IsTwice, NoneTwice}
 use Rattle.proto_names.specs.Repeated.{IsFirstTwice}
 use Rattle.proto_names.specs.Order.{AreInOrder, IsEarlierOf, NoLater, location_of}
 use Rattle.proto_names.specs.Shares.{IsFirstOf}
@@ -24,62 +23,6 @@ run_new os k up below other = record {
   same = λ i h g. absurd (omega arith);
   element = λ i h g. absurd (omega arith);
 }
-
-pub run_same : (os : List Occurrence) (j k start : ℕ) (has : Bool) → (at os j).name ≡ (at os k).name
-    → IsRun os j k start has → IsRun os k k start has
-run_same os j k start has e run = record {
-  within = run.within;
-  whole = rw (← e) run.whole;
-  same = rw (← e) run.same;
-  element = run.element;
-}
-
-module _ (os : List Occurrence) (k start : ℕ) where
-  run_next : (old new : Bool) → IsRun os k k start old
-      → MatchBool new ((i : ℕ) × (start ≤ i) × (i < k + 1) × (IsPackage (at os i) → ⊥))
-      ((i : ℕ) → start ≤ i → i < k + 1 → IsPackage (at os i))
-      → IsRun os k (k + 1) start new
-  run_next old new run element = record {
-    within = omega arith;
-    whole = λ i h e. (elim (cases_lt i k) [ inl less ↦ run.whole i less e | inr over ↦ omega arith ]);
-    same = λ i h g. (elim (cases_lt i k) [
-      | inl less ↦ run.same i h less
-      | inr over ↦ (let last : i ≡ k = omega arith in rw last refl)
-    ]);
-    element = element;
-  }
-
-  -- one more, where there is an element before it
-  pub run_kept : IsRun os k k start true → IsRun os k (k + 1) start true
-  run_kept run = let (i, low, high, other) = run.element in run_next true true run (i, low, omega arith, other)
-
-  -- one more, where there is none
-  pub run_more : (kind : Option NameKind) → (at os k).kind ≡ kind → IsRun os k k start false
-      → IsRun os k (k + 1) start (is_some kind)
-  run_more None is run = run_next false false run (λ i h g. (elim (cases_lt i k) [
-    | inl less ↦ run.element i h less
-    | inr over ↦ (let last : i ≡ k = omega arith in rw last is)
-  ]))
-  run_more (Some kind) is run = run_next false true run (k, run.within, omega arith, λ p. cc)
-
-  -- ---- what is repeated
-
-  -- what stands at k, an element
-  pub element_twice : (has : Bool) (kind : NameKind) → (at os k).kind ≡ Some kind → IsRun os k k start has
-      → IsTrue (nat_lt start k) ↔ Repeats os k
-  element_twice has kind is run = (
-    λ t. (let less = ltb-true start k t in (start, less, run.same start (omega arith) less, λ p q. cc)),
-    λ r. (let (i, below, same, other) = r in lt-ltb start k (omega (arith, run.whole i below same))),
-  )
-
-  -- what stands at k, a package
-  pub package_repeats : (has : Bool) → IsPackage (at os k) → IsRun os k k start has → IsTrue has ↔ Repeats os k
-  package_repeats true pack run =
-      (λ t. (let (i, low, high, other) = run.element in (i, high, run.same i low high, λ p q. other p)), λ r. refl)
-  package_repeats false pack run = (
-    λ t. absurd (false≢true t),
-    λ r. (let (i, below, same, other) = r in absurd (other (run.element i (run.whole i below same) below) pack)),
-  )
 
 -- ---- repeated, and twice
 

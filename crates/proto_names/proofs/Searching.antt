@@ -140,13 +140,6 @@ module _ (os : List Occurrence) (target : List ℕ) (start : ℕ) (up : AreInHas
   pub start_below : start < length os
   start_below = inside
 
-pub start_named : (os : List Occurrence) (target : List ℕ) (start : ℕ) → IsStart os target start → start < length os
-    → (d : Occurrence)
-    → name_of (get_or (drop start os) 0 d) ≡ target
-start_named os target start is below d =
-    let back : start + 0 ≡ start = omega arith in
-    ap name_of (get_or-drop start os 0 d ∙ ap (λ k. get_or os k d) back) ∙ sym (named_at os start d below) ∙ is.named
-
 -- where the second has another name than the first, the first is alone
 pub one_point : (os : List Occurrence) (target : List ℕ) → AreInHashOrder os
     → ((k : ℕ) (d : Occurrence) → k < length os → name_cmp (name_of (get_or os k d)) target ≢ Less)
@@ -169,13 +162,6 @@ none_is os target none e = (
   λ w. absurd (nothing e w),
   λ w. absurd (none w.0.0 w.0.1 (named_at os w.0.0 e w.0.1 ∙ ap name_of w.0.2 ∙ w.1)),
 )
-
--- what is behind a place is in order too
-pub drop_sorted : (os : List Occurrence) (n : ℕ) → n ≤ length os → AreInHashOrder os → AreInHashOrder (drop n os)
-drop_sorted os n h up k d low inside =
-    let room : n + k + 1 < length os = (let l = length-drop n os in omega (arith, l, inside)) in
-    let at : n + (k + 1) ≡ n + k + 1 = omega arith in
-    rw (get_or-drop n os (k + 1) d, get_or-drop n os k d, at) (up (n + k) d (omega arith) room)
 
 pub drop_behind : (os : List Occurrence) (target : List ℕ) (n : ℕ) → n ≤ length os
     → IsPartitionPoint (λ e. name_cmp (name_of e) target ≡ Less) (λ e. name_cmp (name_of e) target ≢ Less) os n

@@ -1,6 +1,6 @@
 -- Entries and the occurrences that they stand for.
-use Rattle.std.proofs.Common.{◌≡◌, ◌∙◌, sym, ap, ap₂, ℕ, ◌+◌, ◌<◌, ◌≤◌, List, length, get_or, take, drop, map, min, arith, true, false, Bool, Ordering, Bor}
-use Rattle.std.specs.Prelude.{IsSorted, IsSortedBy, IsUtf8}
+use Rattle.std.proofs.Common.{◌≡◌, ◌∙◌, sym, ap, ap₂, ℕ, ◌+◌, ◌<◌, ◌≤◌, List, length, get_or, map, arith, true, false, Bool, Ordering, Bor}
+use Rattle.std.specs.Prelude.{IsSorted, IsSortedBy}
 use Rattle.std.specs.Cmp.{IsTotalOrder, IsStrictWeakOrder}
 use Rattle.std.specs.Cmp.Lexicographic.{slice_cmp}
 use Rattle.std.specs.Fn.{Called, ComparesAs, Mut}
@@ -8,24 +8,16 @@ use Rattle.std.specs.List.Sorted.{IsPartitionedBy, IsPartitionPoint}
 use Rattle.std.specs.Ordering.{nat_cmp, is_lt, ordering_then}
 use Rattle.std.proofs.lemmas.Cmp.{nat_cmp_total, nat_list_cmp_total, on_total, then_total}
 use Rattle.std.proofs.lemmas.Fn.{always_returns_same}
-use Rattle.std.proofs.lemmas.List.{get_or-map, length-map, take_min, drop_min}
+use Rattle.std.proofs.lemmas.List.{get_or-map, length-map}
 use Rattle.std.proofs.lemmas.List.MinMax.{ranks_by}
 use Rattle.proto_names.specs.Entries.{name_at, occurrence, AreEntriesOf}
 use Rattle.proto_names.specs.Hashes.{hash_of}
 use Rattle.proto_names.specs.Occurrences.{Occurrence}
-use Rattle.proto_names.specs.Order.{AreInOrder, name_cmp, occurrence_cmp, entry_cmp, location_of}
+use Rattle.proto_names.specs.Order.{AreInOrder, name_cmp, occurrence_cmp, entry_cmp}
 use Rattle.proto_names.specs.Runs.{at, blank}
 use Rattle.proto_names.specs.declared.entry.Entry.{Entry}
 use Rattle.proto_names.proofs.Comparing.{then_then}
 use Rattle.proto_names.proofs.Occurring.{first_of}
-
--- a part of a text, cut short where the text ends
-pub name_cut : (text behind part : List ℕ) (start len m n : ℕ) → m ≡ min start (length text) → behind ≡ drop m text
-    → n ≡ min len (length behind)
-    → part ≡ take n behind → part ≡ take len (drop start text)
-name_cut text behind part start len m n first at_first size cut =
-    cut ∙ ap (λ (k : ℕ). take k behind) size ∙ take_min len behind
-    ∙ ap (take len) (at_first ∙ ap (λ (k : ℕ). drop k text) first ∙ drop_min start text)
 
 -- ---- what stands at a position
 
@@ -40,20 +32,8 @@ module _ (text : List ℕ) (es : List Entry) (os : List Occurrence) (view : map 
   pub name_here : (d : Entry) → name_at text (get_or es k d) ≡ (at os k).name
   name_here d = ap (λ (o : Occurrence). o.name) (at_entry d)
 
-  pub location_here : (d : Entry) → (get_or es k d).location ≡ location_of (at os k)
-  location_here d = ap location_of (at_entry d)
-
-  pub kind_here : (d : Entry) → (get_or es k d).kind ≡ (at os k).kind
-  kind_here d = ap (λ (o : Occurrence). o.kind) (at_entry d)
-
   pub hash_here : AreEntriesOf text es → (d : Entry) → (get_or es k d).hash ≡ hash_of (at os k).name
   hash_here of d = (of k d entry_below).hashed ∙ ap hash_of (name_here d)
-
-  -- what reads as the entry's name, where it is text
-  pub text_here : AreEntriesOf text es → (d : Entry) (read : List ℕ)
-      → (IsUtf8 (name_at text (get_or es k d)) → read ≡ name_at text (get_or es k d))
-      → read ≡ (at os k).name
-  text_here of d read lossy = lossy (of k d entry_below).is_text ∙ name_here d
 
 -- ---- tests of entries, and of what they stand for
 

@@ -15,7 +15,7 @@ use Rattle.proto_names.specs.Index.{name_of}
 use Rattle.proto_names.specs.Occurrences.{Occurrence}
 use Rattle.proto_names.specs.Order.{AreInHashOrder, name_cmp}
 use Rattle.proto_names.specs.Runs.{at, blank}
-use Rattle.proto_names.specs.Starts.{AreStarts, BeginsSlot, IsNowhere, IsStart, slot_at, slot_of}
+use Rattle.proto_names.specs.Starts.{AreStarts, BeginsSlot, slot_at, slot_of}
 use Rattle.proto_names.proofs.NameOrder.{name_total}
 use Rattle.proto_names.proofs.Ordered.{first_not, last_case}
 
@@ -119,34 +119,3 @@ starts_whole os count n all old new whole is some few made so_far =
 -- none of the first n has this name
 abbrev pub NoneBefore : List Occurrence → List ℕ → ℕ → Type 0
 NoneBefore os name n = (k : ℕ) → k < n → (at os k).name ≢ name
-
-named_slot : (os : List Occurrence) (count slot : ℕ) (name : List ℕ) (k : ℕ) → slot ≡ slot_of count (hash_of name)
-    → (at os k).name ≡ name → slot_at os count k ≡ slot
-named_slot os count slot name k is same = ap (λ b. slot_of count (hash_of b)) same ∙ sym is
-
-pub none_before_slot : (os : List Occurrence) (count slot start : ℕ) (name : List ℕ)
-    → slot ≡ slot_of count (hash_of name)
-    → BeginsSlot os count slot start → NoneBefore os name start
-none_before_slot os count slot start name is begins k h same =
-    let low = begins.before k h in
-    let here = named_slot os count slot name k is same in
-    omega (arith, low, here)
-
-pub none_at_all : (os : List Occurrence) (count slot end n : ℕ) (name : List ℕ) → slot ≡ slot_of count (hash_of name)
-    → BeginsSlot os count (slot + 1) end → end ≤ n → NoneBefore os name n → IsNowhere os name
-none_at_all os count slot end n name is next past none k h same = elim (cases_lt k n) [
-  | inl less ↦ none k less same
-  | inr over ↦ (
-      let high = next.behind k (omega (arith, past, over)) h in
-      let here = named_slot os count slot name k is same in
-      absurd (omega (arith, high, here)))
-]
-
-pub starts_here : (os : List Occurrence) (name : List ℕ) (k : ℕ) → k < length os → (at os k).name ≡ name
-    → NoneBefore os name k
-    → IsStart os name k
-starts_here os name k below named none = record {
-  within = below;
-  named = named;
-  begins = λ some same. none (k - 1) (omega (arith, some)) (same ∙ named);
-}

@@ -1,19 +1,16 @@
 -- What stands in the tables of shares, one after the other.
-use Rattle.std.proofs.Common.{◌≡◌, ◌∙◌, sym, ap, ap₂, subst, refl, ℕ, zero, suc, ◌+◌, ◌-◌, ◌%◌, ◌<◌, ◌≤◌, ◌≢◌, Bool, true, false, not, List, [], ◌∷◌, ◌++◌, length, map, take, get_or, cond, length-append, arith, inl, inr}
+use Rattle.std.proofs.Common.{◌≡◌, ◌∙◌, sym, ap, refl, ℕ, zero, suc, ◌+◌, ◌-◌, ◌%◌, ◌<◌, ◌≤◌, Bool, true, not, List, [], ◌∷◌, ◌++◌, length, map, take, get_or, length-append, arith, inl, inr}
 use Rattle.std.specs.Option.{option_map}
 use Rattle.std.specs.Prelude.{◌==◌, All, Contains, IsPermutation, MatchOption, Option, None, Some, filter, flat_map, slice_get}
 use Rattle.std.proofs.lemmas.Bool.{cases_lt, eqb-true, eqb-false, ne_eqb, not_from_false, not-true}
-use Rattle.std.proofs.lemmas.List.{append-nil, get_or_append_left, length-map, map-append}
-use Rattle.std.proofs.lemmas.List.Elements.{All-filter, All-head, filter-append, filter_passes}
+use Rattle.std.proofs.lemmas.List.{append-nil, length-map, map-append}
+use Rattle.std.proofs.lemmas.List.Elements.{All-filter, filter-append, filter_passes}
 use Rattle.std.proofs.lemmas.List.Sorted.{All-permutation, IsPermutation-append, IsPermutation-filter_both, IsPermutation-refl, IsPermutation-trans}
 use Rattle.std.proofs.lemmas.Nat.{mod_below}
 use Rattle.std.proofs.lemmas.Option.{get_or_from_slice_get, slice_get-get_or, slice_get-map, slice_get_within}
-use Rattle.std.proofs.Math.Seq.{get_or-append-add}
-use Rattle.proto_base.specs.declared.place.Place.{Place}
 use Rattle.proto_names.specs.Hashes.{hash_of}
-use Rattle.proto_names.specs.Index.{is_service_kind, name_of, services_of}
+use Rattle.proto_names.specs.Index.{services_of}
 use Rattle.proto_names.specs.Occurrences.{Occurrence, IsNoLater, IsTwice, NoneTwice}
-use Rattle.proto_names.specs.Order.{NoLater, location_of}
 use Rattle.proto_names.specs.Repeated.{IsFirstTwice}
 use Rattle.proto_names.specs.Shares.{AreInShares, AreSharesOf, IsEarliest, all_of, share_at, services_in, share_of, table_of, twice_of}
 use Rattle.proto_names.specs.declared.entry.Location.{Location}

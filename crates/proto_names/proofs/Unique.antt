@@ -1,11 +1,11 @@
 -- The same occurrences, as far as they are seen, give a spelled name one meaning.
-use Rattle.std.proofs.Common.{◌≡◌, ◌∙◌, sym, ℕ, List, take, ap, refl, subst, inl, inr}
+use Rattle.std.proofs.Common.{◌≡◌, ℕ, List, take, ap, refl, inl, inr}
 use Rattle.std.specs.List.{position}
 use Rattle.std.specs.Prelude.{◌↔◌, Bool, Option, None, Some, MatchOption}
 use Rattle.proto_desc.specs.DeclaredNames.{scoped}
 use Rattle.proto_desc.specs.declared.name_kind.NameKind.{NameKind}
 use Rattle.proto_names.specs.Occurrences.{Occurrence}
-use Rattle.proto_names.specs.Resolution.{is_type, is_scope, is_message, Visible, Decides, IsInnermost, Means, IsType, Resolves, ResolvesNowhere}
+use Rattle.proto_names.specs.Resolution.{is_type, is_scope, is_message, Visible, Decides, Means, IsType, Resolves, ResolvesNowhere}
 use Rattle.proto_names.specs.SeenAlike.{AreSeenAlike}
 use Rattle.proto_names.specs.Resolution.IsType.{message, enumeration}
 use Rattle.proto_names.specs.Scopes.{is_dot}

@@ -1,5 +1,5 @@
-use Rattle.std.proofs.Common.{◌∙◌, sym, ap, subst, map, arith}
-use Rattle.std.specs.Prelude.{IsPermutation, Some}
+use Rattle.std.proofs.Common.{◌∙◌, sym, ap, subst, arith}
+use Rattle.std.specs.Prelude.{IsPermutation}
 use Rattle.std.proofs.lemmas.List.{take_all}
 use Rattle.proto_names.specs.Keys.{found_by}
 use Rattle.proto_names.proofs.Keying.{found_all, found_more, found_within}

@@ -1,14 +1,14 @@
-use Rattle.std.proofs.Common.{◌≡◌, ◌≢◌, ◌∙◌, sym, ap, subst, ◌≤◌, List, length, take, drop, get_or, arith, Less}
+use Rattle.std.proofs.Common.{◌≡◌, ◌≢◌, ◌∙◌, sym, ap, subst, ◌≤◌, List, length, take, drop, arith, Less}
 use Rattle.std.specs.Prelude.{All, Contains, ◌↔◌}
 use Rattle.std.specs.List.Sorted.{IsPartitionPoint}
-use Rattle.std.proofs.lemmas.List.{length-drop, length-take-le}
+use Rattle.std.proofs.lemmas.List.{length-take-le}
 use Rattle.std.proofs.lemmas.Option.{IfSome_then}
 use Rattle.proto_desc.specs.DeclaredNames.{scoped}
 use Rattle.proto_names.specs.Occurrences.{Occurrence}
 use Rattle.proto_names.specs.Packages.{IsPackageOf}
-use Rattle.proto_names.specs.Order.{AreInHashOrder, name_cmp}
+use Rattle.proto_names.specs.Order.{name_cmp}
 use Rattle.proto_names.proofs.Ordered.{order_names}
-use Rattle.proto_names.proofs.Searching.{drop_sorted, drop_behind, none_is, run_is, start_below, start_named, start_point}
+use Rattle.proto_names.proofs.Searching.{drop_behind, none_is, run_is, start_below, start_point}
 use Rattle.proto_names.proofs.table.entries_named.Goals as goal
 
 pub run_length-requires-clause-behind : goal.run_length-requires-clause-behind

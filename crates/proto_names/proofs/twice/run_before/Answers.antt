@@ -1,5 +1,4 @@
-use Rattle.std.proofs.Common.{◌-◌}
-use Rattle.proto_names.proofs.Repeating.{run_new, run_same}
+use Rattle.proto_names.proofs.Repeating.{run_new}
 use Rattle.proto_names.proofs.twice.run_before.Goals as goal
 
 pub returns-else-continues : goal.returns-else-continues

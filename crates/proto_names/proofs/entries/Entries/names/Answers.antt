@@ -1,6 +1,3 @@
-use Rattle.std.proofs.Common.{◌∙◌, ap₂, ℕ, List, map}
-use Rattle.proto_names.specs.Entries.{occurrence}
-use Rattle.proto_names.specs.declared.entry.Entry.{Entry}
 use Rattle.proto_names.proofs.entries.Entries.names.Goals as goal
 
 pub new-requires : goal.new-requires

@@ -1,4 +1,4 @@
-use Rattle.std.proofs.Common.{◌∙◌, sym, ap, subst, ◌++◌, ◌∷◌, [], ◌-◌, ℕ, List, arith}
+use Rattle.std.proofs.Common.{◌∙◌, sym, ap, subst, ◌++◌, ◌∷◌, [], ◌-◌, ℕ, List}
 use Rattle.std.specs.Prelude.{string_bytes}
 use Rattle.proto_desc.specs.DeclaredNames.{scoped}
 use Rattle.proto_names.specs.Entries.{AreEntriesOf}
@@ -6,7 +6,6 @@ use Rattle.proto_names.specs.Occurrences.{Occurrence}
 use Rattle.proto_names.specs.declared.entry.Entry.{Entry}
 use Rattle.proto_names.proofs.Growing.{entries_more, entries_pushed, occurrences_pushed, named}
 use Rattle.proto_names.proofs.entries.Entries.push.Goals as goal
-use Rattle.digraph.proofs.Sharing.{length_kept}
 
 pub invariant_of-self : goal.invariant_of-self
 invariant_of-self c =

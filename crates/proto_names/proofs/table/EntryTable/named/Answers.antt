@@ -1,6 +1,5 @@
 use Rattle.std.proofs.Common.{◌∙◌, sym, subst, List}
 use Rattle.std.specs.Prelude.{Contains}
-use Rattle.proto_names.specs.Order.{AreInOrder}
 use Rattle.proto_names.specs.Occurrences.{Occurrence}
 use Rattle.proto_names.proofs.table.EntryTable.named.Goals as goal
 
