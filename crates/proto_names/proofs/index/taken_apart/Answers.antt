@@ -1,3 +1,4 @@
+use Rattle.std.proofs.lemmas.Grind.{common_steps}
 use Rattle.std.proofs.Common.{◌∙◌, ap, arith, map, subst, List, ℕ}
 use Rattle.std.specs.Prelude.{IsPermutation, flat_map, string_bytes}
 use Rattle.std.proofs.lemmas.List.Sorted.{IsPermutation-map}
@@ -17,4 +18,4 @@ returns-clause-services c =
     (IsPermutation-map string_bytes l.services.items c.sort_unstable.new.self.items c.sort_unstable.ensures.permutation)
 
 pub returns-clause-order : goal.returns-clause-order
-returns-clause-order c = sorted_texts c.sort_unstable.new.self.items c.sort_unstable.ensures.sorted
+returns-clause-order c = grind (arith, common_steps, sorted_texts)

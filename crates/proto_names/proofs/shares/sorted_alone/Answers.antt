@@ -1,3 +1,5 @@
+use Rattle.std.proofs.Common.{arith}
+use Rattle.std.proofs.lemmas.Grind.{common_steps}
 use Rattle.std.proofs.Common.{◌≡◌, sym, subst, [], ◌∷◌}
 use Rattle.proto_names.specs.Occurrences.{occurrences}
 use Rattle.proto_names.specs.Shares.{AreSharesOf, IsSortedOf}
@@ -6,8 +8,7 @@ use Rattle.proto_names.proofs.Shared.{alone_given}
 use Rattle.proto_names.proofs.shares.sorted_alone.Goals as goal
 
 pub sort_share-requires-clause-files : goal.sort_share-requires-clause-files
-sort_share-requires-clause-files c =
-    all_below c.args.files.now c.in-Some.entries ((rw c.in-Some.is at c.in_ok-entries.ensures).0)
+sort_share-requires-clause-files c = grind (arith, common_steps, all_below)
 
 pub returns-clause-shares : goal.returns-clause-shares
 returns-clause-shares c =

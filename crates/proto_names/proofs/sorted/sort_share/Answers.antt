@@ -1,3 +1,4 @@
+use Rattle.std.proofs.lemmas.Grind.{common_steps}
 use Rattle.std.proofs.Common.{◌∙◌, sym, ap, subst, arith, List, ◌<◌}
 use Rattle.std.specs.Prelude.{IsPermutation, MatchOption}
 use Rattle.std.proofs.lemmas.List.Sorted.{All-permutation, length_permutation}
@@ -7,8 +8,7 @@ use Rattle.proto_names.specs.Repeated.{IsFirstTwice}
 use Rattle.proto_names.proofs.sorted.sort_share.Goals as goal
 
 pub new-requires-clause-many : goal.new-requires-clause-many
-new-requires-clause-many c = let same = length_permutation _ _ c.in_ok-sort.ensures.all in
-    omega (arith, same, c.requires.many)
+new-requires-clause-many c = grind (arith, common_steps, length_permutation)
 
 pub new-requires-clause-files : goal.new-requires-clause-files
 new-requires-clause-files c = All-permutation (λ (o : Occurrence). o.file < c.args.files) c.args.entries c.sort.new.self

@@ -1,3 +1,4 @@
+use Rattle.std.proofs.lemmas.Grind.{common_steps}
 use Rattle.std.proofs.Common.{◌≡◌, ◌≢◌, ◌∙◌, sym, ap, subst, ◌≤◌, List, length, take, drop, arith, Less}
 use Rattle.std.specs.Prelude.{All, Contains, ◌↔◌}
 use Rattle.std.specs.List.Sorted.{IsPartitionPoint}
@@ -45,12 +46,7 @@ returns-in-Some-clause-named c =
     (sym (c.take-names.ensures ∙ ap (take c.run_length.result) c.skip-behind.ensures)) (named_run c)
 
 pub returns-in-None-clause-named : goal.returns-in-None-clause-named
-returns-in-None-clause-named c =
-    let os = c.args.names.now in
-    let target = scoped c.args.scope.text.now c.args.name.now in
-    subst (λ (ps : List Occurrence). (o : Occurrence) → Contains ps o ↔ (Contains os o × (o.name ≡ target)))
-    (sym c.take.ensures)
-    (none_is os target c.in-None.ensures)
+returns-in-None-clause-named c = grind (arith, common_steps, none_is)
 
 pub returns-in-Some-clause-files : goal.returns-in-Some-clause-files
 returns-in-Some-clause-files c =

@@ -1,3 +1,4 @@
+use Rattle.std.proofs.lemmas.Grind.{common_steps}
 use Rattle.std.proofs.Common.{◌≡◌, ◌∙◌, sym, ◌+◌, ◌-◌, arith}
 use Rattle.std.proofs.lemmas.Bool.{true≢false}
 use Rattle.proto_names.proofs.Repeating.{repeats_twice, passed_twice, passed_skip, passed_all}
@@ -22,5 +23,4 @@ loop-position-preserved c =
     }
 
 pub returns : goal.returns
-returns c = passed_all c.args.names.now c.loop-position.position c.loop-position.first
-    (omega arith) c.loop-position.invariant.passed
+returns c = grind (arith, common_steps, passed_all)
