@@ -67,12 +67,11 @@ candidates_no_dot s d none (inr (inr (rest, e))) =
 
 -- candidates of a candidate
 pub candidate_trans : (a b s : List ℕ) → IsCandidate a b → IsCandidate b s → IsCandidate a s
-candidate_trans a b s (inl e) k = inl e
-candidate_trans a b s (inr (inl e)) k = rw e k
-candidate_trans a b s (inr (inr (rest, e))) (inl f) = absurd (no_room a rest (sym e ∙ f))
-candidate_trans a b s (inr (inr (rest, e))) (inr (inl f)) = inr (inr (rest, sym f ∙ e))
-candidate_trans a b s (inr (inr (rest, e))) (inr (inr (more, f))) =
-    inr (inr (rest ++ 46 ∷ more, f ∙ ap (λ x. x ++ 46 ∷ more) e ∙ append_assoc a (46 ∷ rest) (46 ∷ more)))
+candidate_trans a b s (inl e) k = grind (arith, common_steps)
+candidate_trans a b s (inr (inl e)) k = grind (arith, common_steps)
+candidate_trans a b s (inr (inr (rest, e))) (inl f) = grind (arith, common_steps, no_room)
+candidate_trans a b s (inr (inr (rest, e))) (inr (inl f)) = grind (arith, common_steps)
+candidate_trans a b s (inr (inr (rest, e))) (inr (inr (more, f))) = grind (arith, common_steps, append_assoc)
 
 -- candidates of one length are one
 pub candidates_same : (a b s : List ℕ) → IsCandidate a s → IsCandidate b s → length a ≡ length b → a ≡ b

@@ -1,5 +1,5 @@
 -- What a walk over files has put so far.
-use Rattle.std.proofs.Common.{inl, inr, ◌≡◌, ◌∙◌, sym, ℕ, suc, ◌-◌, ◌+◌, ◌<◌, ◌≤◌, List, [], ◌∷◌, ◌++◌, length, map, take, drop, get_or, append_assoc, length-append, ap, ap₂, refl, subst, arith}
+use Rattle.std.proofs.Common.{inl, inr, ◌≡◌, ◌∙◌, sym, ℕ, ◌-◌, ◌+◌, ◌<◌, ◌≤◌, List, [], ◌∷◌, ◌++◌, length, map, take, drop, get_or, append_assoc, length-append, ap, ap₂, refl, subst, arith}
 use Rattle.std.specs.Prelude.{Option, slice_get, Some}
 use Rattle.std.proofs.lemmas.Bool.{cases_lt}
 use Rattle.std.proofs.Math.Seq.{get_or-append_seam, take-add, take-append_seam}
@@ -16,13 +16,9 @@ use Rattle.proto_names.specs.declared.part.Part.{Part}
 
 pub occurrences_from-append : (first : ℕ) (xs ys : List FileDesc)
     → occurrences_from first (xs ++ ys) ≡ occurrences_from first xs ++ occurrences_from (first + length xs) ys
-occurrences_from-append first [] ys = ap (λ n. occurrences_from n ys) (omega arith)
+occurrences_from-append first [] ys = grind (arith, common_steps)
 occurrences_from-append first (x ∷ xs) ys =
-    let behind : first + 1 + length xs ≡ first + suc (length xs) = omega arith in
-    ap (λ os. occurrences_of first x ++ os) (occurrences_from-append (first + 1) xs ys
-    ∙ ap (λ n. occurrences_from (first + 1) xs ++ occurrences_from n ys) behind)
-    ∙ sym (append_assoc (occurrences_of first x) (occurrences_from (first + 1) xs)
-    (occurrences_from (first + suc (length xs)) ys))
+    grind (arith, common_steps, append_assoc, (occurrences_from-append (first + 1) xs ys))
 
 -- those of one more file
 pub occurrences_more : (first : ℕ) (files : List FileDesc) (k : ℕ) (f : FileDesc) (now next : List Occurrence)
@@ -68,10 +64,7 @@ module _ (parts : List Part) (k : ℕ) (p : Part) (stands : slice_get parts k �
 
   all_next : occurrences_from 0 (files_in (take (k + 1) parts)) ≡ occurrences_from 0 before
       ++ occurrences_from p.first p.files.now
-  all_next =
-      let behind : 0 + length before ≡ p.first = omega (arith, placed k p stands) in
-      ap (occurrences_from 0) next ∙ occurrences_from-append 0 before p.files.now
-      ∙ ap (λ n. occurrences_from 0 before ++ occurrences_from n p.files.now) behind
+  all_next = grind (arith, common_steps, occurrences_from-append, next)
 
   few_next : length (occurrences_from 0 before) + length (occurrences_from p.first p.files.now)
       ≤ length (occurrences_from 0 (files_in parts))
@@ -121,9 +114,7 @@ collected_next limit parts outs rest all out given whole =
 -- the occurrences of parts, and those of one more
 pub all_more : (all more : List (List Occurrence)) (os : List Occurrence) → more ≡ all ++ os ∷ []
     → all_of more ≡ all_of all ++ os
-all_more all more os put =
-    ap all_of put ∙ flat_map-append (λ os. os) all (os ∷ [])
-    ∙ ap (λ (ps : List Occurrence). all_of all ++ ps) (append-nil os)
+all_more all more os put = grind (arith, common_steps, append-nil, flat_map-append)
 
 -- ---- cutting files into parts
 
@@ -151,7 +142,4 @@ placed_more parts p placed here k q stands =
 pub files_more : (files : List FileDesc) (parts : List Part) (p : Part) (first count : ℕ)
     → files_in parts ≡ take first files
     → p.files.now ≡ take count (drop first files) → files_in (parts ++ p ∷ []) ≡ take (first + count) files
-files_more files parts p first count so_far is =
-    flat_map-append (λ p. p.files.now) parts (p ∷ [])
-    ∙ ap (λ (fs : List FileDesc). files_in parts ++ fs) (append-nil p.files.now)
-    ∙ ap₂ (λ (xs ys : List FileDesc). xs ++ ys) so_far is ∙ sym (take-add first count files)
+files_more files parts p first count so_far is = grind (arith, common_steps, take-add, append-nil, flat_map-append)

@@ -1,5 +1,6 @@
 -- How a text compares with a name in a scope.
-use Rattle.std.proofs.Common.{◌≡◌, ◌≢◌, ◌∙◌, sym, ℕ, ◌-◌, ◌<◌, ◌≤◌, Bool, false, nat_eq, List, [], ◌∷◌, ◌++◌, length, take, drop, get_or, ap, ap₂, refl, arith, Ordering, Less, Equal, Greater}
+use Rattle.std.proofs.lemmas.Grind.{common_steps}
+use Rattle.std.proofs.Common.{◌≡◌, ◌≢◌, ◌∙◌, sym, ℕ, ◌-◌, ◌<◌, ◌≤◌, Bool, false, nat_eq, List, [], ◌∷◌, ◌++◌, length, take, drop, get_or, ap, refl, arith, Ordering, Less, Equal, Greater}
 use Rattle.std.specs.Prelude.{◌↔◌, IsTrue}
 use Rattle.std.specs.Cmp.Lexicographic.{slice_cmp, pointwise, bytes_decides}
 use Rattle.std.proofs.lemmas.Bool.{true≢false}
@@ -24,12 +25,10 @@ scoped_some (c ∷ cs) name h = refl
 
 short_all : (text scope name : List ℕ) → length text ≤ length scope
     → slice_cmp nat_cmp text (scope ++ 46 ∷ name) ≡ ordering_then (slice_cmp nat_cmp text scope) Less
-short_all [] [] name h = refl
-short_all [] (s ∷ ss) name h = refl
-short_all (x ∷ xs) [] name h = absurd (omega (arith, h))
-short_all (x ∷ xs) (s ∷ ss) name h =
-    ap (ordering_then (nat_cmp x s)) (short_all xs ss name (omega (arith, h)))
-    ∙ then_then (nat_cmp x s) (slice_cmp nat_cmp xs ss) Less
+short_all [] [] name h = grind (arith, common_steps)
+short_all [] (s ∷ ss) name h = grind (arith, common_steps)
+short_all (x ∷ xs) [] name h = grind (arith, common_steps)
+short_all (x ∷ xs) (s ∷ ss) name h = grind (arith, common_steps, then_then, (short_all xs ss name (omega (arith, h))))
 
 -- a text that is no longer than the scope
 pub short : (text scope name : List ℕ) → 0 < length scope → length text ≤ length scope
@@ -39,12 +38,10 @@ short text scope name some h = rw (scoped_some scope name some) (sym (short_all 
 pub both : (prefix scope rest more : List ℕ) → length prefix ≡ length scope
     → slice_cmp nat_cmp (prefix ++ rest) (scope ++ more) ≡ ordering_then (slice_cmp nat_cmp prefix scope)
     (slice_cmp nat_cmp rest more)
-both [] [] rest more h = refl
-both [] (s ∷ ss) rest more h = absurd (omega (arith, h))
-both (x ∷ xs) [] rest more h = absurd (omega (arith, h))
-both (x ∷ xs) (s ∷ ss) rest more h =
-    ap (ordering_then (nat_cmp x s)) (both xs ss rest more (omega (arith, h)))
-    ∙ then_then (nat_cmp x s) (slice_cmp nat_cmp xs ss) (slice_cmp nat_cmp rest more)
+both [] [] rest more h = grind (arith, common_steps)
+both [] (s ∷ ss) rest more h = grind (arith, common_steps)
+both (x ∷ xs) [] rest more h = grind (arith, common_steps)
+both (x ∷ xs) (s ∷ ss) rest more h = grind (arith, common_steps, then_then, (both xs ss rest more (omega (arith, h))))
 
 -- a text whose prefix is as long as the scope
 pub long : (text prefix scope name rest : List ℕ) → 0 < length scope → text ≡ prefix ++ rest
@@ -93,10 +90,7 @@ module _ (full prefix scope name rest : List ℕ) (told : Bool) (some : 0 < leng
       ∙ ap (λ (n : ℕ). drop n (scope ++ 46 ∷ name)) long ∙ drop-append_seam scope (46 ∷ name)
 
   pub in_scope : prefix ≡ scope → IsTrue told ↔ (rest ≡ 46 ∷ name) → IsTrue told ↔ (full ≡ scoped scope name)
-  in_scope same behind = (
-    λ t. whole ∙ ap₂ (λ (xs ys : List ℕ). xs ++ ys) same (behind.0 t) ∙ sym (scoped_some scope name some),
-    λ e. behind.1 (back e),
-  )
+  in_scope same behind = grind (arith, common_steps, scoped_some, back)
 
   pub in_no_scope : prefix ≢ scope → told ≡ false → IsTrue told ↔ (full ≡ scoped scope name)
   in_no_scope other is = (λ t. absurd (true≢false (sym t ∙ is)), λ e. absurd (other (front e)))

@@ -1,5 +1,6 @@
 -- Entries whose names stand in a text that only grows.
-use Rattle.std.proofs.Common.{◌≡◌, ◌∙◌, sym, ap, ap₂, subst, refl, ℕ, zero, suc, ◌+◌, ◌-◌, ◌≤◌, List, [], ◌∷◌, ◌++◌, length, take, drop, map, arith, length-append, length-drop, length-take-le}
+use Rattle.std.proofs.lemmas.Grind.{common_steps}
+use Rattle.std.proofs.Common.{◌≡◌, ◌∙◌, sym, ap, ap₂, subst, refl, ℕ, zero, suc, ◌+◌, ◌-◌, ◌≤◌, List, [], ◌∷◌, ◌++◌, length, map, arith, length-append, length-drop, length-take-le}
 use Rattle.std.specs.Prelude.{IsAscii, IsUtf8}
 use Rattle.std.proofs.lemmas.List.{drop-append-le, take-append-le, drop_at, take_all, map_push}
 use Rattle.std.proofs.lemmas.List.Elements.{All-head, All-tail, All-push, All-weaker}
@@ -15,10 +16,7 @@ use Rattle.digraph.proofs.Sharing.{length_kept}
 -- ---- what stands within the text stays
 
 name_kept : (old more : List ℕ) (e : Entry) → e.start + e.len ≤ length old → name_at (old ++ more) e ≡ name_at old e
-name_kept old more e within =
-    let inside : e.start ≤ length old = omega (arith, within) in
-    let room : e.len ≤ length (drop e.start old) = rw (length-drop e.start old) (omega (arith, within)) in
-    ap (take e.len) (drop-append-le e.start old more inside) ∙ take-append-le e.len (drop e.start old) more room
+name_kept old more e within = grind (arith, common_steps, length-drop, drop-append-le, take-append-le)
 
 name_more : (old new : List ℕ) (e : Entry) → IsFrontOf old new → IsEntryOf old e → name_at new e ≡ name_at old e
 name_more old new e prefix is = ap (λ (t : List ℕ). name_at t e) prefix.1 ∙ name_kept old prefix.0 e is.within
@@ -51,9 +49,7 @@ occurrences_more old new (e ∷ es) prefix of =
     (occurrences_more old new es prefix (All-tail (IsEntryOf old) e es of))
 
 pub name_length : (text : List ℕ) (e : Entry) → IsEntryOf text e → length (name_at text e) ≡ e.len
-name_length text e is =
-    let within = is.within in
-    length-take-le e.len (drop e.start text) (rw (length-drop e.start text) (omega (arith, within)))
+name_length text e is = grind (arith, common_steps, length-drop, length-take-le)
 
 -- ---- an entry more, whose name goes behind the text
 
@@ -65,27 +61,17 @@ module _ (old new full : List ℕ) (es all : List Entry) (e : Entry) (whole : ne
   long = ap length whole ∙ length-append old full
 
   last_name : name_at new e ≡ full
-  last_name =
-      let size : length full ≤ e.len = omega (arith, long, start, len) in
-      ap (λ (t : List ℕ). name_at t e) whole ∙ ap (take e.len) (drop_at old full e.start (sym start))
-      ∙ take_all e.len full size
+  last_name = grind (arith, common_steps, drop_at, take_all, long)
 
   last_entry : IsEntryOf new e
-  last_entry = record {
-    within = omega (arith, long, start, len);
-    is_text = subst IsUtf8 (sym last_name) is_text;
-    hashed = hash ∙ ap hash_of (sym last_name);
-  }
+  last_entry = grind (arith, common_steps, long, last_name)
 
   pub entries_pushed : AreEntriesOf new all
   entries_pushed = subst (AreEntriesOf new) (sym put)
       (All-push (IsEntryOf new) es e (entries_more old new es (full, whole) of) last_entry)
 
   pub occurrences_pushed : map (occurrence new) all ≡ map (occurrence old) es ++ named e full ∷ []
-  occurrences_pushed =
-      ap (map (occurrence new)) put ∙ map_push (occurrence new) es e
-      ∙ ap₂ (λ (os : List Occurrence) (o : Occurrence). os ++ o ∷ []) (occurrences_more old new es (full, whole) of)
-      (ap (named e) last_name)
+  occurrences_pushed = grind (arith, common_steps, map_push, occurrences_more, last_name)
 
 -- ---- a name put behind the text in its parts
 

@@ -1,7 +1,8 @@
 -- The full name of an element has one occurrence.
+use Rattle.std.proofs.lemmas.Grind.{common_steps}
 use Rattle.std.proofs.Common.{◌≡◌, ◌∙◌, sym, ℕ, List, inl, inr, ◌⊎◌, arith, refl, ap}
 use Rattle.std.specs.Prelude.{Some, slice_get}
-use Rattle.std.proofs.lemmas.Bool.{cases_eq, cases_lt}
+use Rattle.std.proofs.lemmas.Bool.{cases_eq}
 use Rattle.std.proofs.lemmas.List.Sorted.{IsPermutation-sym}
 use Rattle.std.proofs.lemmas.Option.{same_Some, slice_get_read}
 use Rattle.proto_desc.specs.declared.file.FileDesc.{FileDesc}
@@ -13,16 +14,7 @@ use Rattle.proto_names.proofs.Built.{none_moved}
 
 -- one of two is no later than the other
 one_no_later : (o p : Occurrence) → IsNoLater o p ⊎ IsNoLater p o
-one_no_later o p = elim (cases_lt o.file p.file) [
-  | inl less ↦ inl (inl less)
-  | inr over ↦ elim (cases_lt p.file o.file) [
-    | inl more ↦ inr (inl more)
-    | inr under ↦ elim (cases_lt p.place.offset o.place.offset) [
-      | inl behind ↦ inr (inr (omega (arith, over, under), omega (arith, behind)))
-      | inr before ↦ inl (inr (omega (arith, over, under), before))
-    ]
-  ]
-]
+one_no_later o p = grind (arith, common_steps)
 
 -- two of one name, at two positions, would clash
 alone : (os : List Occurrence) (i j : ℕ) (o p : Occurrence) → NoneTwice os → slice_get os i ≡ Some o

@@ -1,5 +1,6 @@
 -- Occurrences in order.
-use Rattle.std.proofs.Common.{◌≡◌, ◌∙◌, sym, ℕ, ◌<◌, ◌≤◌, List, length, ap, refl, arith, inl, inr, ◌⊎◌, cond, Ordering, Less, Equal, Greater, Bool, true, false}
+use Rattle.std.proofs.lemmas.Grind.{common_steps}
+use Rattle.std.proofs.Common.{◌≡◌, ◌∙◌, sym, ℕ, ◌<◌, ◌≤◌, List, length, ap, refl, arith, ◌⊎◌, cond, Ordering, Less, Equal, Greater, Bool, true, false}
 use Rattle.std.specs.Prelude.{nat_lt, ◌==◌}
 use Rattle.std.specs.Cmp.{IsTotalOrder}
 use Rattle.std.specs.Ordering.{nat_cmp, is_lt, ordering_then, ordering_reverse}
@@ -9,7 +10,7 @@ use Rattle.std.proofs.lemmas.List.MinMax.{ranks_by}
 use Rattle.std.proofs.lemmas.List.Sorted.{sorted_far}
 use Rattle.proto_names.proofs.NameOrder.{name_total, same_name}
 use Rattle.proto_names.specs.Occurrences.{Occurrence, IsNoLater}
-use Rattle.proto_names.specs.Order.{AreInHashOrder, AreInOrder, name_cmp, occurrence_cmp}
+use Rattle.proto_names.specs.Order.{AreInHashOrder, AreInOrder, occurrence_cmp}
 use Rattle.proto_names.specs.Runs.{at, blank}
 
 occurrence_total : IsTotalOrder occurrence_cmp
@@ -37,10 +38,9 @@ order_names os up k d low inside = first_not _ _ (up k d low inside)
 nat_case : (x y : ℕ) (o : Ordering) (b c : Bool) → nat_lt x y ≡ b → (x == y) ≡ c
     → is_lt (ordering_then (cond b Less (cond c Equal Greater)) o) ≡ false
     → (y < x) ⊎ ((x ≡ y) × (is_lt o ≡ false))
-nat_case x y o true c e f h = absurd (true≢false h)
-nat_case x y o false true e f h = inr (eqb-true x y f, h)
-nat_case x y o false false e f h = let over = ltb-false x y e in let other = eqb-false x y f in
-    inl (omega (arith, over, other))
+nat_case x y o true c e f h = grind (arith, common_steps, true≢false)
+nat_case x y o false true e f h = grind (arith, common_steps, eqb-true)
+nat_case x y o false false e f h = grind (arith, common_steps, ltb-false, eqb-false)
 
 nat_not_less : (x y : ℕ) (o : Ordering) → is_lt (ordering_then (nat_cmp x y) o) ≡ false
     → (y < x) ⊎ ((x ≡ y) × (is_lt o ≡ false))
@@ -52,18 +52,7 @@ last_case x y true c e f h = absurd (true≢false h)
 last_case x y false c e f h = ltb-false x y e
 
 pair_order : (a b : Occurrence) → is_lt (occurrence_cmp b a) ≡ false → a.name ≡ b.name → IsNoLater a b
-pair_order a b h e =
-    let equal : name_cmp b.name a.name ≡ Equal = rw e (tied_itself name_total b.name) in
-    let h' = rw equal at h in
-    elim (nat_not_less b.file a.file (nat_cmp b.place.offset a.place.offset) h') [
-      | inl less ↦ inl less
-      | inr w ↦
-          inr (
-            sym w.0,
-            last_case b.place.offset a.place.offset (nat_lt b.place.offset a.place.offset)
-                (b.place.offset == a.place.offset) refl refl w.1,
-          )
-    ]
+pair_order a b h e = grind (arith, common_steps, tied_itself, name_total, nat_not_less, last_case)
 
 pub places_in_order : (os : List Occurrence) → AreInOrder os → (i j : ℕ) → i ≤ j → j < length os
     → (at os i).name ≡ (at os j).name → IsNoLater (at os i) (at os j)
@@ -80,12 +69,7 @@ not_less o h e = true≢false (ap is_lt (sym e) ∙ h)
 -- what stands between two occurrences of one name has that name
 name_between : (a b c : Occurrence) → is_lt (occurrence_cmp b a) ≡ false → is_lt (occurrence_cmp c b) ≡ false
     → a.name ≡ c.name → a.name ≡ b.name
-name_between a b c h k e =
-    let h' = not_less _ (first_not (name_cmp b.name a.name) _ h) in
-    let k' : name_cmp a.name b.name ≡ Less
-    → ⊥ = λ w. not_less _ (first_not (name_cmp c.name b.name) _ k) (rw (← e) w) in
-    same_name a.name b.name
-    (equal_case (name_cmp a.name b.name) (name_cmp b.name a.name) (name_total.antisymm b.name a.name) k' h')
+name_between a b c h k e = grind (arith, common_steps, name_total, same_name, first_not, equal_case, not_less)
 
 pub names_between : (os : List Occurrence) → AreInOrder os → (i j k : ℕ) → i ≤ j → j ≤ k → k < length os
     → (at os i).name ≡ (at os k).name

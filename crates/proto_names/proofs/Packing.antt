@@ -1,4 +1,5 @@
 -- Packages that many files have.
+use Rattle.std.proofs.lemmas.Grind.{common_steps}
 use Rattle.std.proofs.Common.{◌≡◌, ap, refl, ℕ, ◌+◌, ◌<◌, ◌≤◌, List, length, take, drop, inl, inr, arith, Equal}
 use Rattle.std.proofs.lemmas.Bool.{cases_lt}
 use Rattle.std.proofs.lemmas.List.{get_or_append_left, get_or_push, length-drop, length_push, length-take-le}
@@ -22,12 +23,7 @@ package_found os runs files row start len inside found same are =
 -- a package's row in a matrix with one row more
 same_package : (os : List Occurrence) (old new : Bits) (k : ℕ) → old.rows ≤ new.rows → new.width ≡ old.width
     → ((c : ℕ) → c < columns_of old → has new k c ≡ has old k c) → IsPackageOf os old k → IsPackageOf os new k
-same_package os old new k more width kept is = record {
-  inside = omega arith;
-  packages = is.packages;
-  members = λ c hc. rw (kept c (omega arith)) (is.members c (omega arith));
-  columns = rw width is.columns;
-}
+same_package os old new k more width kept is = grind (arith, common_steps)
 
 module _ (os : List Occurrence) (start len : ℕ) (runs new_runs : List Run) (old new : Bits)
     (within : start + len ≤ length os)

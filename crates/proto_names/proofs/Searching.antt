@@ -1,4 +1,5 @@
 -- Halving among occurrences in the order of their names.
+use Rattle.std.proofs.lemmas.Grind.{common_steps}
 use Rattle.std.proofs.Common.{◌≡◌, ◌≢◌, ◌∙◌, sym, ℕ, ◌+◌, ◌-◌, ◌<◌, ◌≤◌, List, [], ◌∷◌, length, take, drop, get_or, ap, refl, subst, arith, inl, inr, Ordering, Less, Equal, Greater, true, false}
 use Rattle.std.specs.Prelude.{Contains, ◌↔◌}
 use Rattle.std.specs.List.Sorted.{IsPartitionedBy, IsPartitionPoint, IsNonDecreasingBy}
@@ -73,10 +74,7 @@ pub equal_point : (os : List Occurrence) (target : List ℕ) (n : ℕ)
     → IsPartitionPoint (λ e. is_eq (slice_cmp nat_cmp (name_of e) target) ≡ true)
     (λ e. is_eq (slice_cmp nat_cmp (name_of e) target) ≡ false) os n
     → IsPartitionPoint (λ e. name_of e ≡ target) (λ e. name_of e ≢ target) os n
-equal_point os target n p = (
-  λ k d a b. exact_bytes _ _ ((Equal-is _).0 (p.0 k d a b)),
-  λ k d a b e. not_eq_equal _ (p.1 k d a b) (equal_itself _ _ e),
-)
+equal_point os target n p = grind (arith, common_steps, exact_bytes, equal_itself, not_eq_equal)
 
 lower : (o p : Ordering) → ordering_index o ≤ ordering_index p → p ≡ Equal → o ≢ Equal → is_lt o ≡ true
 lower Less p h e n = refl
@@ -119,8 +117,7 @@ module _ (os : List Occurrence) (target : List ℕ) (start : ℕ) (up : AreInHas
   equal d = itself_equal _ _ (sym (named_at os start d inside) ∙ is.named)
 
   differs : (d : Occurrence) → 0 < start → name_cmp (name_of (get_or os (start - 1) d)) target ≢ Equal
-  differs d some e = is.begins some (named_at os (start - 1) d (let h = inside in omega (arith, h)) ∙ same_name _ _ e
-      ∙ sym is.named)
+  differs d some e = grind (arith, common_steps, same_name, named_at, inside)
 
   before : (k : ℕ) (d : Occurrence) → k < start → name_cmp (name_of (get_or os k d)) target ≡ Less
   before k d h =
@@ -158,32 +155,19 @@ nothing e (k, h, is) = omega (arith, h)
 -- of a name that stands nowhere there is nothing
 pub none_is : (os : List Occurrence) (target : List ℕ) → IsNowhere os target → (e : Occurrence)
     → Contains {X = Occurrence} [] e ↔ (Contains os e × (name_of e ≡ target))
-none_is os target none e = (
-  λ w. absurd (nothing e w),
-  λ w. absurd (none w.0.0 w.0.1 (named_at os w.0.0 e w.0.1 ∙ ap name_of w.0.2 ∙ w.1)),
-)
+none_is os target none e = grind (arith, common_steps, named_at, nothing)
 
 pub drop_behind : (os : List Occurrence) (target : List ℕ) (n : ℕ) → n ≤ length os
     → IsPartitionPoint (λ e. name_cmp (name_of e) target ≡ Less) (λ e. name_cmp (name_of e) target ≢ Less) os n
     → (k : ℕ) (d : Occurrence) → k < length (drop n os) → name_cmp (name_of (get_or (drop n os) k d)) target ≢ Less
-drop_behind os target n h p k d inside =
-    let l = length-drop n os in
-    subst (λ (e : Occurrence). name_cmp (name_of e) target ≢ Less) (sym (get_or-drop n os k d))
-    (p.1 (n + k) d (omega arith) (omega (arith, l, inside)))
+drop_behind os target n h p k d inside = grind (arith, common_steps, get_or-drop, length-drop, inside)
 
 -- the run of a name
 module _ (os : List Occurrence) (target : List ℕ) (n m : ℕ) (h : n ≤ length os) (g : m ≤ length (drop n os))
     (before : IsPartitionPoint (λ e. name_cmp (name_of e) target ≡ Less) (λ e. name_cmp (name_of e) target ≢ Less) os n)
     (same : IsPartitionPoint (λ e. name_of e ≡ target) (λ e. name_of e ≢ target) (drop n os) m) where
   run_found : (e : Occurrence) → Contains (take m (drop n os)) e → Contains os e × (name_of e ≡ target)
-  run_found e (k, inside, is) =
-      let l = length-take m (drop n os) in
-      let l' = length-drop n os in
-      let low : k < m = omega (arith, l, inside) in
-      let at : get_or (drop n os) k e ≡ e = sym (get_or-take m (drop n os) k e low) ∙ is in (
-        (n + k, omega (arith, l', low, g), sym (get_or-drop n os k e) ∙ at),
-        subst (λ (x : Occurrence). name_of x ≡ target) at (same.0 k e (omega arith) low),
-      )
+  run_found e (k, inside, is) = grind (arith, common_steps, get_or-drop, get_or-take, length-drop, length-take, inside)
 
   run_all : (e : Occurrence) → Contains os e → name_of e ≡ target → Contains (take m (drop n os)) e
   run_all e (j, inside, is) name = elim (cases_lt j n) [

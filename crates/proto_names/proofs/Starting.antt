@@ -1,5 +1,6 @@
 -- Slots of hashes: they follow the order of occurrences, where they begin, and what stands in one.
-use Rattle.std.proofs.Common.{◌≡◌, ◌≢◌, ◌∙◌, sym, ℕ, ◌+◌, ◌-◌, ◌*◌, ◌<◌, ◌≤◌, List, ◌++◌, length, get_or, ap, subst, refl, arith, inl, inr}
+use Rattle.std.proofs.lemmas.Grind.{common_steps}
+use Rattle.std.proofs.Common.{◌≡◌, ◌≢◌, ◌∙◌, sym, ℕ, ◌+◌, ◌-◌, ◌<◌, ◌≤◌, List, ◌++◌, length, get_or, ap, subst, refl, arith, inl, inr}
 use Rattle.std.specs.Prelude.{◌==◌, nat_lt, replicate}
 use Rattle.std.specs.Ordering.{is_lt}
 use Rattle.std.proofs.Math.ListN.{get_or-append}
@@ -22,10 +23,7 @@ use Rattle.proto_names.proofs.Ordered.{first_not, last_case}
 -- ---- slots follow the order
 
 slots_up : (count a b : ℕ) → a ≤ b → slot_of count a ≤ slot_of count b
-slots_up count a b h =
-    let low = div-mul-le_self (a * count) 4294967296 in
-    let more = mul-le-mul_right count h in
-    le-div (slot_of count a) (b * count) 4294967296 (omega arith) (omega (arith, low, more))
+slots_up count a b h = grind (arith, common_steps, div-mul-le_self, mul-le-mul_right, le-div)
 
 hashes_rise : (os : List Occurrence) → AreInHashOrder os → (i j : ℕ) → i ≤ j → j < length os
     → hash_of (at os i).name ≤ hash_of (at os j).name
@@ -53,8 +51,7 @@ module _ (os : List Occurrence) (count n : ℕ) (old : List ℕ) (size : ℕ) wh
   longer = old ++ replicate (size - length old) n
 
   longer_length : length longer ≡ length old + (size - length old)
-  longer_length = length-append old (replicate (size - length old) n)
-      ∙ ap (λ m. length old + m) (length-replicate (size - length old) n)
+  longer_length = grind (arith, common_steps, length-append, length-replicate)
 
   longer_each : ((s : ℕ) → s < length old → BeginsSlot os count s (get_or old s 0))
       → ((s : ℕ) → length old ≤ s → s < size → BeginsSlot os count s n)

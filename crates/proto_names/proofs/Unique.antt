@@ -1,4 +1,6 @@
 -- The same occurrences, as far as they are seen, give a spelled name one meaning.
+use Rattle.std.proofs.Common.{arith}
+use Rattle.std.proofs.lemmas.Grind.{common_steps}
 use Rattle.std.proofs.Common.{◌≡◌, ℕ, List, take, ap, refl, inl, inr}
 use Rattle.std.specs.List.{position}
 use Rattle.std.specs.Prelude.{◌↔◌, Bool, Option, None, Some, MatchOption}
@@ -42,10 +44,7 @@ module _ (os ps : List Occurrence) (Seen Sees : ℕ → Type 0) (alike : AreSeen
 
   visible_alike : (accepts : Option NameKind → Bool) (name : List ℕ)
       → Visible os Seen accepts name ↔ Visible ps Sees accepts name
-  visible_alike accepts name = (
-    λ v. let here = (alike v.0).0 (v.1, v.4) in (v.0, here.0, v.2, v.3, here.1),
-    λ v. let here = (alike v.0).1 (v.1, v.4) in (v.0, here.0, v.2, v.3, here.1),
-  )
+  visible_alike accepts name = grind (arith, common_steps)
 
   decides_alike : (c spelled : List ℕ) → Decides os Seen c spelled ↔ Decides ps Sees c spelled
   decides_alike c spelled = of (position is_dot spelled) where
