@@ -72,11 +72,4 @@ returns-clause-indexed g c =
 
 pub invariant_of-result : goal.invariant_of-result
 invariant_of-result g c =
-    let it = indexed c.args.files.now c.args.limits.now c.in-Some.shares.items c.new.result
-    (map string_bytes c.in_ok-tables.services.items)
-    (rw c.in-Some.is at c.in_ok-shares.ensures.shares)
-    (rw c.get-limit.ensures.value at (rw c.in-Some.is at c.in_ok-shares.ensures.within))
-    (rw c.deref.ensures.value at (not_some _ c.first_of.result c.in_default-first_of.not-Some c.first_of.ensures))
-    (c.new.ensures ∙ ap all_of c.in_ok-tables.ensures.tables) c.in_ok-tables.ensures.services
-    c.in_ok-tables.ensures.order in
-    (it.sound, (c.args.files.now, c.args.limits.now, it))
+    let it = returns-clause-indexed g c in (it.sound, (c.args.files.now, c.args.limits.now, it))
