@@ -10,7 +10,6 @@ use Rattle.std.proofs.lemmas.Cmp.{tied_itself}
 use Rattle.std.proofs.lemmas.List.Sorted.{searchable_from_sorted}
 use Rattle.std.proofs.lemmas.List.{get_or-drop, get_or-take, get_or_default, length-drop, length-take}
 use Rattle.std.proofs.lemmas.Map.Lookups.{exact_bytes}
-use Rattle.std.specs.Cmp.{Equal-is}
 use Rattle.proto_links.proofs.NameRows.{equal_itself, less_not_equal}
 use Rattle.proto_names.proofs.NameOrder.{equal_alike, name_total, order_tells, same_name}
 use Rattle.proto_names.specs.Starts.{IsStart, IsNowhere}
@@ -53,10 +52,7 @@ pub equal_point : (os : List Occurrence) (target : List ℕ) (n : ℕ)
     → IsPartitionPoint (λ e. is_eq (slice_cmp nat_cmp (name_of e) target) ≡ true)
     (λ e. is_eq (slice_cmp nat_cmp (name_of e) target) ≡ false) os n
     → IsPartitionPoint (λ e. name_of e ≡ target) (λ e. name_of e ≢ target) os n
-equal_point os target n p = (
-  λ k d a b. exact_bytes _ _ ((Equal-is _).0 (p.0 k d a b)),
-  λ k d a b e. true≢false (sym (ap is_eq (equal_itself _ _ e)) ∙ p.1 k d a b),
-)
+equal_point os target n p = grind (arith, common_steps, true≢false, exact_bytes, equal_itself)
 
 pub named_at : (os : List Occurrence) (k : ℕ) (d : Occurrence) → k < length os
     → (at os k).name ≡ name_of (get_or os k d)

@@ -1,4 +1,5 @@
 -- Entries and the occurrences that they stand for.
+use Rattle.std.proofs.lemmas.Grind.{common_steps}
 use Rattle.std.proofs.Common.{◌≡◌, ◌∙◌, sym, ap, ap₂, ℕ, ◌+◌, ◌<◌, ◌≤◌, List, length, get_or, map, arith, true, false, Bool, Ordering, Bor}
 use Rattle.std.specs.Prelude.{IsSorted, IsSortedBy}
 use Rattle.std.specs.Cmp.{IsTotalOrder, IsStrictWeakOrder}
@@ -65,9 +66,7 @@ pub name_order : (text : List ℕ) (es : List Entry) (target : List ℕ) (hash k
     → AreEntriesOf text es → hash ≡ hash_of target
     → ordering_then (nat_cmp (get_or es k d).hash hash) (slice_cmp nat_cmp (name_at text (get_or es k d)) target)
     ≡ name_cmp (name_at text (get_or es k d)) target
-name_order text es target hash k d h of is =
-    ap₂ (λ (a b : ℕ). ordering_then (nat_cmp a b) (slice_cmp nat_cmp (name_at text (get_or es k d)) target))
-    (of k d h).hashed is
+name_order text es target hash k d h of is = grind (arith, common_steps)
 
 -- ---- the order of entries
 
@@ -91,12 +90,7 @@ sorted_by {g = g} {f = f} text es up h =
 
 same_order : (text : List ℕ) (a b : Entry) → a.hash ≡ hash_of (name_at text a) → b.hash ≡ hash_of (name_at text b)
     → entry_cmp text a b ≡ occurrence_cmp (occurrence text a) (occurrence text b)
-same_order text a b first second =
-    let names = slice_cmp nat_cmp (name_at text a) (name_at text b) in
-    let locations = ordering_then (nat_cmp a.location.file b.location.file)
-    (nat_cmp a.location.place.offset b.location.place.offset) in
-    ap₂ (λ (x y : ℕ). ordering_then (nat_cmp x y) (ordering_then names locations)) first second
-    ∙ then_then (nat_cmp (hash_of (name_at text a)) (hash_of (name_at text b))) names locations
+same_order text a b first second = grind (arith, common_steps, then_then)
 
 -- a sort of entries sorts what they stand for
 pub sorted_occurrences : (text : List ℕ) (es : List Entry) → AreEntriesOf text es → IsSorted (entry_cmp text) es

@@ -1,4 +1,5 @@
 -- What stands in the tables of shares, one after the other.
+use Rattle.std.proofs.lemmas.Grind.{common_steps}
 use Rattle.std.proofs.Common.{◌≡◌, ◌∙◌, sym, ap, refl, ℕ, zero, suc, ◌+◌, ◌-◌, ◌%◌, ◌<◌, ◌≤◌, Bool, true, not, List, [], ◌∷◌, ◌++◌, length, map, take, get_or, length-append, arith, inl, inr}
 use Rattle.std.specs.Option.{option_map}
 use Rattle.std.specs.Prelude.{◌==◌, All, Contains, IsPermutation, MatchOption, Option, None, Some, filter, flat_map, slice_get}
@@ -60,14 +61,10 @@ before tables k = length (all_of (take k tables))
 pub within_all : (tables : List (List Occurrence)) (k j : ℕ) (os : List Occurrence) (o : Occurrence)
     → slice_get tables k ≡ Some os
     → slice_get os j ≡ Some o → slice_get (all_of tables) (before tables k + j) ≡ Some o
-within_all [] k j os o at here = absurd (omega (arith, slice_get_within {A = List Occurrence} [] k os at))
-within_all (t ∷ ts) zero j os o at here =
-    let same : os ≡ t = cc in
-    let inside = rw same at here in
-    low t (all_of ts) (0 + j) (omega (arith, slice_get_within t j o inside)) ∙ ap (slice_get t) (omega arith) ∙ inside
+within_all [] k j os o at here = grind (arith, common_steps, slice_get_within, at)
+within_all (t ∷ ts) zero j os o at here = grind (arith, common_steps, slice_get_within, low, at, here)
 within_all (t ∷ ts) (suc k) j os o at here =
-    let size = length-append t (all_of (take k ts)) in
-    high t (all_of ts) _ (before ts k + j) (omega (arith, size)) ∙ within_all ts k j os o at here
+    grind (arith, common_steps, length-append, high, at, here, (within_all ts k j os o at here))
 
 -- where what stands at a position stands in its table
 pub record Stands (tables : List (List Occurrence)) (n : ℕ) (o : Occurrence) : Type 0 where
