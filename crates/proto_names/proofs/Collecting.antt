@@ -1,4 +1,5 @@
 -- What a walk over files has put so far.
+use Rattle.proto_names.proofs.Tabled.{high, low}
 use Rattle.std.proofs.Common.{inl, inr, ◌≡◌, ◌∙◌, sym, ℕ, ◌-◌, ◌+◌, ◌<◌, ◌≤◌, List, [], ◌∷◌, ◌++◌, length, map, take, drop, get_or, append_assoc, length-append, ap, ap₂, refl, subst, arith}
 use Rattle.std.specs.Prelude.{Option, slice_get, Some}
 use Rattle.std.proofs.lemmas.Bool.{cases_lt}
@@ -101,15 +102,10 @@ pub collected_next : (limit : ℕ) (parts : List Part) (outs rest : List (Option
     → map Some all ++ out ∷ rest ≡ outs
     → (p : Part) × (slice_get parts (length all) ≡ Some p) × IsCollected limit p.first p.files.now out
 collected_next limit parts outs rest all out given whole =
-    let k = length (map Some all) in
-    let size = ap length (sym whole) ∙ length-append (map Some all) (out ∷ rest) in
-    let within : k < length outs = omega (arith, size) in
-    let at : slice_get outs k ≡ Some out =
-    slice_get-get_or outs k out within ∙ ap Some
-    (ap (λ (l : List _). get_or l k out) (sym whole) ∙ get_or-append_seam (map Some all) out rest out) in
-    let (p, stands) = get_there parts k (omega (arith, given.0, within)) in
-    let same : k ≡ length all = length-map all Some in
-    (p, subst (λ n. slice_get parts n ≡ Some p) same stands, given.1 k p out stands at)
+    let at : slice_get outs (length all) ≡ Some out =
+    rw (← whole) (high (map Some all) (out ∷ rest) (length all) 0 (omega (arith, length-map all Some))) in
+    let (p, stands) = get_there parts (length all) (omega (arith, given.0, slice_get_within outs (length all) out at)) in
+    (p, stands, given.1 (length all) p out stands at)
 
 -- the occurrences of parts, and those of one more
 pub all_more : (all more : List (List Occurrence)) (os : List Occurrence) → more ≡ all ++ os ∷ []
@@ -121,23 +117,16 @@ all_more all more os put = grind (arith, common_steps, append-nil, flat_map-appe
 -- one more part
 pub placed_more : (parts : List Part) (p : Part) → ArePlaced parts → p.first ≡ length (files_in parts)
     → ArePlaced (parts ++ p ∷ [])
-placed_more parts p placed here k q stands =
-    let grown = slice_get_within (parts ++ p ∷ []) k q stands in
-    let long = length-append parts (p ∷ []) in
-    let value = get_or_from_slice_get (parts ++ p ∷ []) k q q stands in
-    elim (cases_lt k (length parts)) [
-      | inl less ↦ (
-          let old : slice_get parts k ≡ Some q = slice_get-get_or parts k q less
-          ∙ ap Some (sym (get_or_append_left parts (p ∷ []) q k less) ∙ value) in
-          placed k q old ∙ ap (λ (ps : List Part). length (files_in ps))
-          (sym (take-append-le k parts (p ∷ []) (omega (arith, less)))))
-      | inr over ↦ (
-          let last : k ≡ length parts = omega (arith, over, grown, long) in
-          let same : p ≡ q = sym (get_or-append_seam parts p [] q) ∙ ap (λ n. get_or (parts ++ p ∷ []) n q) (sym last)
-          ∙ value in
-          ap (λ (r : Part). r.first) (sym same) ∙ here ∙ ap (λ (ps : List Part). length (files_in ps))
-          (sym (take-append_seam parts (p ∷ [])) ∙ ap (λ n. take n (parts ++ p ∷ [])) (sym last)))
-    ]
+placed_more parts p placed here k q stands = elim (cases_lt k (length parts)) [
+  | inl less ↦ rw (take-append-le k parts (p ∷ []) (omega arith))
+      (placed k q (sym (low parts (p ∷ []) k less) ∙ stands))
+  | inr over ↦
+      let inside = slice_get_within (parts ++ p ∷ []) k q stands in
+      let last : k ≡ length parts = omega (arith, inside, length-append parts (p ∷ [])) in
+      let found : Some p ≡ Some q = sym (high parts (p ∷ []) k 0 (omega arith)) ∙ stands in
+      let same : q ≡ p = cc in
+      rw (same, last, take-append_seam parts (p ∷ [])) here
+]
 
 pub files_more : (files : List FileDesc) (parts : List Part) (p : Part) (first count : ℕ)
     → files_in parts ≡ take first files

@@ -55,16 +55,13 @@ pub long_equal : (text prefix scope name rest : List ℕ) (o r : Ordering) → 0
     → o ≡ slice_cmp nat_cmp prefix scope → o ≡ Equal → r ≡ slice_cmp nat_cmp rest (46 ∷ name)
     → r ≡ slice_cmp nat_cmp text (scoped scope name)
 long_equal text prefix scope name rest o r some is h compared equal behind =
-    behind ∙ ap (λ p. ordering_then p (slice_cmp nat_cmp rest (46 ∷ name))) (sym equal ∙ compared)
-    ∙ sym (long text prefix scope name rest some is h)
+    rw (long text prefix scope name rest some is h, ← compared, equal) behind
 
 pub long_unequal : (text prefix scope name rest : List ℕ) (o : Ordering) → 0 < length scope → text ≡ prefix ++ rest
     → length prefix ≡ length scope
     → o ≡ slice_cmp nat_cmp prefix scope → o ≢ Equal → o ≡ slice_cmp nat_cmp text (scoped scope name)
 long_unequal text prefix scope name rest o some is h compared unequal =
-    sym (then_unequal o (slice_cmp nat_cmp rest (46 ∷ name)) unequal)
-    ∙ ap (λ p. ordering_then p (slice_cmp nat_cmp rest (46 ∷ name))) compared
-    ∙ sym (long text prefix scope name rest some is h)
+    rw (long text prefix scope name rest some is h, ← compared) (sym (then_unequal o _ unequal))
 
 -- ---- whether a text is a name in a scope
 
@@ -82,12 +79,10 @@ behind_is (b ∷ bs) name told some dot is =
 module _ (full prefix scope name rest : List ℕ) (told : Bool) (some : 0 < length scope) (whole : full ≡ prefix ++ rest)
     (long : length prefix ≡ length scope) where
   front : full ≡ scoped scope name → prefix ≡ scope
-  front e = sym (take-append_seam prefix rest) ∙ ap (take (length prefix)) (sym whole ∙ e ∙ scoped_some scope name some)
-      ∙ ap (λ (n : ℕ). take n (scope ++ 46 ∷ name)) long ∙ take-append_seam scope (46 ∷ name)
+  front e = cc (scoped_some scope name some, take-append_seam prefix rest, take-append_seam scope (46 ∷ name))
 
   back : full ≡ scoped scope name → rest ≡ 46 ∷ name
-  back e = sym (drop-append_seam prefix rest) ∙ ap (drop (length prefix)) (sym whole ∙ e ∙ scoped_some scope name some)
-      ∙ ap (λ (n : ℕ). drop n (scope ++ 46 ∷ name)) long ∙ drop-append_seam scope (46 ∷ name)
+  back e = cc (scoped_some scope name some, drop-append_seam prefix rest, drop-append_seam scope (46 ∷ name))
 
   pub in_scope : prefix ≡ scope → IsTrue told ↔ (rest ≡ 46 ∷ name) → IsTrue told ↔ (full ≡ scoped scope name)
   in_scope same behind = grind (arith, common_steps, scoped_some, back)

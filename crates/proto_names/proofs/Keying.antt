@@ -65,9 +65,5 @@ pub found_all : (es sorted : List Entry) (keys moved : List ℕ) → AreKeysOf e
     → map Some sorted ≡ found_by es moved → IsPermutation es sorted
 found_all es sorted keys moved are same found =
     let f : ℕ → Option Entry = λ key. slice_get es (key % 4294967296) in
-    let all : IsPermutation (map Some es) (map Some sorted) =
-    subst (λ l. IsPermutation l (map Some sorted)) are
-    (subst (IsPermutation (found_by es keys)) (sym found) (IsPermutation-map f keys moved same)) in
-    subst (λ l. IsPermutation l sorted) (un_some es)
-    (subst (IsPermutation (map some_or (map Some es))) (un_some sorted)
-    (IsPermutation-map some_or (map Some es) (map Some sorted) all))
+    let all : IsPermutation (map Some es) (map Some sorted) = rw (← are, found) (IsPermutation-map f keys moved same) in
+    rw (un_some es, un_some sorted) at (IsPermutation-map some_or (map Some es) (map Some sorted) all)

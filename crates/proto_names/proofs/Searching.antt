@@ -86,9 +86,6 @@ module _ (os : List Occurrence) (target : List ℕ) (start : ℕ) (up : AreInHas
     λ k d a b. grind (arith, order_tells, rises os target up start k d a b, equal d),
   )
 
-  pub start_below : start < length os
-  start_below = is.within
-
 -- where the second has another name than the first, the first is alone
 pub one_point : (os : List Occurrence) (target : List ℕ) → AreInHashOrder os
     → ((k : ℕ) (d : Occurrence) → k < length os → name_cmp (name_of (get_or os k d)) target ≢ Less)

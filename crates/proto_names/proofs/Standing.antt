@@ -40,26 +40,24 @@ module _ (text : List ℕ) (es : List Entry) (os : List Occurrence) (view : map 
 
 module _ (text : List ℕ) (es : List Entry) (p : Entry → Bool) (q : Occurrence → Bool)
     (same : (k : ℕ) (d : Entry) → k < length es → p (get_or es k d) ≡ q (occurrence text (get_or es k d))) where
+  at_map : (k : ℕ) (d : Entry) (o : Occurrence) → k < length es
+      → q (get_or (map (occurrence text) es) k o) ≡ p (get_or es k d)
+  at_map k d o h = ap q (get_or-map (occurrence text) es k d o h) ∙ sym (same k d h)
+
   pub parted_entries : IsPartitionedBy q (map (occurrence text) es) → IsPartitionedBy p es
   parted_entries parted i j d h inside t =
-      let l = length-map es (occurrence text) in
-      let low : i < length es = omega (arith, h, inside) in
-      let high : j < length (map (occurrence text) es) = omega (arith, l, inside) in
       let o = occurrence text d in
-      same i d low ∙ ap q (sym (get_or-map (occurrence text) es i d o low))
-      ∙ parted i j o h high (ap q (get_or-map (occurrence text) es j d o inside) ∙ sym (same j d inside) ∙ t)
+      sym (at_map i d o (omega arith))
+      ∙ parted i j o h (omega (arith, length-map es (occurrence text))) (at_map j d o inside ∙ t)
 
   pub point_occurrences : (n : ℕ) → n ≤ length es → IsPartitionPoint (λ e. p e ≡ true) (λ e. p e ≡ false) es n
       → IsPartitionPoint (λ o. q o ≡ true) (λ o. q o ≡ false) (map (occurrence text) es) n
-  point_occurrences n bound point =
-      let l = length-map es (occurrence text) in (
-        λ k o a b. (let below : k < length es = omega (arith, b, bound) in
-            let e = first_of es k below in
-            ap q (get_or-map (occurrence text) es k e o below) ∙ sym (same k e below) ∙ point.0 k e a b),
-        λ k o a b. (let below : k < length es = omega (arith, b, l) in
-            let e = first_of es k below in
-            ap q (get_or-map (occurrence text) es k e o below) ∙ sym (same k e below) ∙ point.1 k e a below),
-      )
+  point_occurrences n bound point = (
+    λ k o a b. (let below : k < length es = omega arith in
+        let e = first_of es k below in at_map k e o below ∙ point.0 k e a b),
+    λ k o a b. (let below : k < length es = omega (arith, length-map es (occurrence text)) in
+        let e = first_of es k below in at_map k e o below ∙ point.1 k e a below),
+  )
 
 -- an entry's order by its hash and its name is that of its name
 pub name_order : (text : List ℕ) (es : List Entry) (target : List ℕ) (hash k : ℕ) (d : Entry) → k < length es
@@ -96,15 +94,10 @@ same_order text a b first second = grind (arith, common_steps, then_then)
 pub sorted_occurrences : (text : List ℕ) (es : List Entry) → AreEntriesOf text es → IsSorted (entry_cmp text) es
     → AreInOrder (map (occurrence text) es)
 sorted_occurrences text es of up k d low inside =
-    let l = length-map es (occurrence text) in
-    let room : k + 1 < length es = omega (arith, l, inside) in
-    let under : k < length es = omega (arith, room) in
+    let room : k + 1 < length es = omega (arith, length-map es (occurrence text)) in
     let e = first_of es (k + 1) room in
-    let a = get_or es (k + 1) e in
-    let b = get_or es k e in
-    let here : get_or (map (occurrence text) es) k d ≡ occurrence text b =
-    get_or-map (occurrence text) es k e d under in
-    let next : get_or (map (occurrence text) es) (k + 1) d ≡ occurrence text a =
-    get_or-map (occurrence text) es (k + 1) e d room in
-    ap₂ (λ (x y : Occurrence). is_lt (occurrence_cmp x y)) next here
-    ∙ ap is_lt (sym (same_order text a b (of (k + 1) e room).hashed (of k e under).hashed)) ∙ up k e low room
+    rw (
+      get_or-map (occurrence text) es k e d (omega arith),
+      get_or-map (occurrence text) es (k + 1) e d room,
+      ← same_order text (get_or es (k + 1) e) (get_or es k e) (of (k + 1) e room).hashed (of k e (omega arith)).hashed,
+    ) (up k e low room)

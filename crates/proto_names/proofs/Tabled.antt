@@ -44,12 +44,12 @@ pub in_map : {X Y : Type 0} (f : X → Y) (xs : List X) (k : ℕ) (x : X) → sl
     → slice_get (map f xs) k ≡ Some (f x)
 in_map f xs k x at = slice_get-map f xs k ∙ ap (option_map f) at
 
-low : {X : Type 0} (p q : List X) (n : ℕ) → n < length p → slice_get (p ++ q) n ≡ slice_get p n
+pub low : {X : Type 0} (p q : List X) (n : ℕ) → n < length p → slice_get (p ++ q) n ≡ slice_get p n
 low [] q n less = absurd (omega arith)
 low (x ∷ p) q zero less = refl
 low (x ∷ p) q (suc n) less = low p q n (omega arith)
 
-high : {X : Type 0} (p q : List X) (n m : ℕ) → n ≡ length p + m → slice_get (p ++ q) n ≡ slice_get q m
+pub high : {X : Type 0} (p q : List X) (n m : ℕ) → n ≡ length p + m → slice_get (p ++ q) n ≡ slice_get q m
 high [] q n m is = ap (slice_get q) (omega arith)
 high (x ∷ p) q zero m is = absurd (omega arith)
 high (x ∷ p) q (suc n) m is = high p q n m (omega arith)
