@@ -1,8 +1,7 @@
 -- What the index of files holds.
 use Rattle.share_work.proofs.Sums.{of_map}
-use Rattle.std.proofs.Common.{◌≡◌, ◌∙◌, sym, ℕ, ◌+◌, ◌<◌, List, [], ◌∷◌, length, get_or, map, ap, refl, subst, arith, inl, inr}
+use Rattle.std.proofs.Common.{◌≡◌, ℕ, ◌+◌, ◌<◌, List, [], ◌∷◌, length, map, refl, arith, inl, inr}
 use Rattle.std.specs.Prelude.{All, Contains, IsPermutation, Option, None, Some, MatchOption}
-use Rattle.std.proofs.lemmas.List.{get_or-map, get_or_default, length-map}
 use Rattle.std.proofs.lemmas.List.Elements.{Contains-append_cases, Contains-get_or}
 use Rattle.std.proofs.lemmas.List.Sorted.{Contains-permutation, IsPermutation-sym}
 use Rattle.proto_desc.specs.DeclaredNames.{declared_by}
@@ -12,7 +11,6 @@ use Rattle.proto_names.specs.Occurrences.{Occurrence, IsTwice, NoneTwice, declar
 use Rattle.proto_names.specs.Repeated.{IsFirstTwice}
 use Rattle.proto_names.specs.Scopes.{prefixes}
 use Rattle.proto_names.proofs.Apart.{ContainsBoth-permutation}
-use Rattle.proto_names.proofs.Occurring.{first_of}
 
 -- ---- the files of occurrences
 

@@ -1,11 +1,11 @@
 -- What a walk over files has put so far.
 use Rattle.proto_names.proofs.Tabled.{high, low}
-use Rattle.std.proofs.Common.{inl, inr, ◌≡◌, ◌∙◌, sym, ℕ, ◌-◌, ◌+◌, ◌<◌, ◌≤◌, List, [], ◌∷◌, ◌++◌, length, map, take, drop, get_or, append_assoc, length-append, ap, ap₂, refl, subst, arith}
+use Rattle.std.proofs.Common.{inl, inr, ◌≡◌, ◌∙◌, sym, ℕ, ◌-◌, ◌+◌, ◌<◌, ◌≤◌, List, [], ◌∷◌, ◌++◌, length, map, take, drop, get_or, append_assoc, length-append, ap, ap₂, refl, arith}
 use Rattle.std.specs.Prelude.{Option, slice_get, Some}
 use Rattle.std.proofs.lemmas.Bool.{cases_lt}
-use Rattle.std.proofs.Math.Seq.{get_or-append_seam, take-add, take-append_seam}
-use Rattle.std.proofs.lemmas.List.{get_or_append_left, length-map, take-append-le, take_more, take-append-drop, append-nil}
-use Rattle.std.proofs.lemmas.Option.{get_or_from_slice_get, slice_get-get_or, slice_get_within}
+use Rattle.std.proofs.Math.Seq.{take-add, take-append_seam}
+use Rattle.std.proofs.lemmas.List.{length-map, take-append-le, take_more, take-append-drop, append-nil}
+use Rattle.std.proofs.lemmas.Option.{get_or_from_slice_get, slice_get_within}
 use Rattle.std.proofs.lemmas.Grind.{common_steps, flat_map-append}
 use Rattle.proto_desc.specs.declared.file.FileDesc.{FileDesc}
 use Rattle.proto_names.specs.Collected.{ArePlaced, IsCollected, files_in}
@@ -58,10 +58,7 @@ module _ (parts : List Part) (k : ℕ) (p : Part) (stands : slice_get parts k �
   next : files_in (take (k + 1) parts) ≡ before ++ p.files.now
   next =
       let same : get_or parts k p ≡ p = get_or_from_slice_get parts k p p stands in
-      ap files_in (take_more parts k p (slice_get_within parts k p stands))
-      ∙ flat_map-append (λ p. p.files.now) (take k parts) (get_or parts k p ∷ [])
-      ∙ ap (λ (fs : List FileDesc). before ++ fs)
-      (append-nil (get_or parts k p).files.now ∙ ap (λ (q : Part). q.files.now) same)
+      rw (take_more parts k p (slice_get_within parts k p stands), flat_map-append, same, append-nil) refl
 
   all_next : occurrences_from 0 (files_in (take (k + 1) parts)) ≡ occurrences_from 0 before
       ++ occurrences_from p.first p.files.now

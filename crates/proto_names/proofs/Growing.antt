@@ -1,6 +1,6 @@
 -- Entries whose names stand in a text that only grows.
 use Rattle.std.proofs.lemmas.Grind.{common_steps}
-use Rattle.std.proofs.Common.{◌≡◌, ◌∙◌, sym, ap, ap₂, subst, refl, ℕ, zero, suc, ◌+◌, ◌-◌, ◌≤◌, List, [], ◌∷◌, ◌++◌, length, map, arith, length-append, length-drop, length-take-le}
+use Rattle.std.proofs.Common.{◌≡◌, ◌∙◌, ap, refl, ℕ, zero, suc, ◌+◌, ◌-◌, ◌≤◌, List, [], ◌∷◌, ◌++◌, length, map, arith, length-append, length-drop, length-take-le}
 use Rattle.std.specs.Prelude.{IsAscii, IsUtf8}
 use Rattle.std.proofs.lemmas.List.{drop-append-le, take-append-le, drop_at, take_all, map_push}
 use Rattle.std.proofs.lemmas.List.Elements.{All-head, All-tail, All-push, All-weaker}
@@ -24,12 +24,10 @@ name_more old new e prefix is = ap (λ (t : List ℕ). name_at t e) prefix.1 ∙
 entry_more : (old new : List ℕ) → IsFrontOf old new → (e : Entry) → IsEntryOf old e → IsEntryOf new e
 entry_more old new prefix e is =
     let same = name_more old new e prefix is in
-    let long = length_kept old new prefix in
-    let within = is.within in
     record {
-      within = omega (arith, within, long);
-      is_text = subst IsUtf8 (sym same) is.is_text;
-      hashed = is.hashed ∙ ap hash_of (sym same);
+      within = omega (arith, length_kept old new prefix, is.within);
+      is_text = rw same is.is_text;
+      hashed = rw same is.hashed;
     }
 
 pub entries_more : (old new : List ℕ) (es : List Entry) → IsFrontOf old new → AreEntriesOf old es → AreEntriesOf new es
@@ -42,11 +40,10 @@ named e name = record { name = name; file = e.location.file; place = e.location.
 pub occurrences_more : (old new : List ℕ) (es : List Entry) → IsFrontOf old new → AreEntriesOf old es
     → map (occurrence new) es ≡ map (occurrence old) es
 occurrences_more old new [] prefix of = refl
-occurrences_more old new (e ∷ es) prefix of =
-    let same : occurrence new e ≡ occurrence old e =
-    ap (named e) (name_more old new e prefix (All-head (IsEntryOf old) e es of)) in
-    ap₂ (λ (o : Occurrence) (os : List Occurrence). o ∷ os) same
-    (occurrences_more old new es prefix (All-tail (IsEntryOf old) e es of))
+occurrences_more old new (e ∷ es) prefix of = cc (
+  name_more old new e prefix (All-head (IsEntryOf old) e es of),
+  occurrences_more old new es prefix (All-tail (IsEntryOf old) e es of),
+)
 
 pub name_length : (text : List ℕ) (e : Entry) → IsEntryOf text e → length (name_at text e) ≡ e.len
 name_length text e is = grind (arith, common_steps, length-drop, length-take-le)
@@ -67,8 +64,7 @@ module _ (old new full : List ℕ) (es all : List Entry) (e : Entry) (whole : ne
   last_entry = grind (arith, common_steps, long, last_name)
 
   pub entries_pushed : AreEntriesOf new all
-  entries_pushed = subst (AreEntriesOf new) (sym put)
-      (All-push (IsEntryOf new) es e (entries_more old new es (full, whole) of) last_entry)
+  entries_pushed = rw put (All-push (IsEntryOf new) es e (entries_more old new es (full, whole) of) last_entry)
 
   pub occurrences_pushed : map (occurrence new) all ≡ map (occurrence old) es ++ named e full ∷ []
   occurrences_pushed = grind (arith, common_steps, map_push, occurrences_more, last_name)

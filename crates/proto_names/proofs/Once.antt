@@ -9,7 +9,7 @@ use Rattle.proto_desc.specs.declared.file.FileDesc.{FileDesc}
 use Rattle.proto_base.specs.declared.limits.Limits.{Limits}
 use Rattle.proto_names.specs.Index.{Index, Indexes}
 use Rattle.proto_names.specs.Repeated.{AreDeclaredOnce}
-use Rattle.proto_names.specs.Occurrences.{IsNoLater, IsPackage, NoneTwice, Occurrence, occurrences}
+use Rattle.proto_names.specs.Occurrences.{Clash, IsNoLater, IsPackage, NoneTwice, Occurrence, occurrences}
 use Rattle.proto_names.proofs.Built.{none_moved}
 
 -- one of two is no later than the other
@@ -23,16 +23,12 @@ alone : (os : List Occurrence) (i j : ℕ) (o p : Occurrence) → NoneTwice os �
 alone os i j o p none first second same element = elim (cases_eq i j) [
   | inl one ↦ one
   | inr apart ↦ elim (one_no_later o p) [
-    | inl before ↦ absurd (none p (
-      o,
-      (i, j, apart, first, second),
-      record { same = same; no_later = before; not_packages = λ x y. element x },
-    ))
-    | inr behind ↦ absurd (none o (
-      p,
-      (j, i, (λ e. apart (sym e)), second, first),
-      record { same = sym same; no_later = behind; not_packages = λ x y. element y },
-    ))
+    | inl before ↦
+        let clash : Clash o p = record { same = same; no_later = before; not_packages = λ x y. element x } in
+        absurd (none p (o, (i, j, apart, first, second), clash))
+    | inr behind ↦
+        let clash : Clash p o = record { same = sym same; no_later = behind; not_packages = λ x y. element y } in
+        absurd (none o (p, (j, i, (λ e. apart (sym e)), second, first), clash))
   ]
 ]
 

@@ -1,7 +1,6 @@
 -- The same occurrences, as far as they are seen, give a spelled name one meaning.
-use Rattle.std.proofs.Common.{arith}
+use Rattle.std.proofs.Common.{arith, ◌≡◌, ℕ, List, take, ap, refl, inl, inr}
 use Rattle.std.proofs.lemmas.Grind.{common_steps}
-use Rattle.std.proofs.Common.{◌≡◌, ℕ, List, take, ap, refl, inl, inr}
 use Rattle.std.specs.List.{position}
 use Rattle.std.specs.Prelude.{◌↔◌, Bool, Option, None, Some, MatchOption}
 use Rattle.proto_desc.specs.DeclaredNames.{scoped}

@@ -1,10 +1,9 @@
 use Rattle.std.proofs.lemmas.Grind.{common_steps}
-use Rattle.std.proofs.Common.{◌<◌, arith, subst, sym, take_all}
-use Rattle.std.specs.Prelude.{◌==◌, All}
+use Rattle.std.proofs.Common.{◌<◌, arith, take_all}
 use Rattle.std.proofs.lemmas.List.Elements.{All-filter}
 use Rattle.share_work.proofs.Giving.{all_next, gives_of_all}
 use Rattle.proto_names.specs.Occurrences.{Occurrence}
-use Rattle.proto_names.specs.Shares.{IsSortedOf, all_of, share_at, share_of}
+use Rattle.proto_names.specs.Shares.{IsSortedOf, all_of, share_of}
 use Rattle.proto_names.specs.declared.share.Share.{Share}
 use Rattle.proto_names.proofs.Shared.{share_few}
 use Rattle.proto_names.proofs.shares.SortingWorkShare.piece.Goals as goal
@@ -14,11 +13,8 @@ sort_share-requires-clause-many c = grind (arith, common_steps, share_few)
 
 pub sort_share-requires-clause-files : goal.sort_share-requires-clause-files
 sort_share-requires-clause-files c =
-    let s = c.share-item.result in
-    let within = λ (o : Occurrence). o.file < c.args.self.now.files in
-    subst (All within) (sym c.in_ok-entries.ensures)
-    (All-filter (λ (o : Occurrence). share_at s.count o == s.position) within
-    (all_of c.args.self.now.parts.now) c.args.self.now.inside)
+    rw c.in_ok-entries.ensures
+    (All-filter _ (λ (o : Occurrence). o.file < c.args.self.now.files) _ c.args.self.now.inside)
 
 pub loop-share-preserved : goal.loop-share-preserved
 loop-share-preserved c = grind (arith, common_steps, all_next)
