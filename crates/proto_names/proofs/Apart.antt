@@ -1,5 +1,5 @@
 -- Two elements of a list at two positions, in another order.
-use Rattle.std.proofs.Common.{◌≡◌, ◌≢◌, ◌∙◌, sym, ℕ, ◌<◌, List, length, get_or, refl, inl, inr, ◌⊎◌}
+use Rattle.std.proofs.Common.{arith, ◌≡◌, ◌≢◌, ◌∙◌, sym, ℕ, ◌<◌, List, length, get_or, refl, inl, inr, ◌⊎◌}
 use Rattle.std.specs.Prelude.{Some, slice_get, swap, IsPermutation}
 use Rattle.std.proofs.lemmas.Bool.{cases_eq}
 use Rattle.std.proofs.lemmas.List.Edits.{length-swap, swapped_from_swap}
@@ -12,34 +12,22 @@ abbrev IsMoved : ℕ → ℕ → ℕ → ℕ → Type 0
 IsMoved m n i k = ((i ≡ m) × (k ≡ n)) ⊎ ((i ≡ n) × (k ≡ m)) ⊎ ((i ≢ m) × (i ≢ n) × (k ≡ i))
 
 moved_apart : (m n i j k l : ℕ) → IsMoved m n i k → IsMoved m n j l → i ≢ j → k ≢ l
-moved_apart m n i j k l (inl a) (inl b) apart same = apart (a.0 ∙ sym b.0)
-moved_apart m n i j k l (inl a) (inr (inl b)) apart same = apart (a.0 ∙ sym b.1 ∙ sym same ∙ a.1 ∙ sym b.0)
-moved_apart m n i j k l (inl a) (inr (inr b)) apart same = b.1 (sym b.2 ∙ sym same ∙ a.1)
-moved_apart m n i j k l (inr (inl a)) (inl b) apart same = apart (a.0 ∙ sym b.1 ∙ sym same ∙ a.1 ∙ sym b.0)
-moved_apart m n i j k l (inr (inl a)) (inr (inl b)) apart same = apart (a.0 ∙ sym b.0)
-moved_apart m n i j k l (inr (inl a)) (inr (inr b)) apart same = b.0 (sym b.2 ∙ sym same ∙ a.1)
-moved_apart m n i j k l (inr (inr a)) (inl b) apart same = a.1 (sym a.2 ∙ same ∙ b.1)
-moved_apart m n i j k l (inr (inr a)) (inr (inl b)) apart same = a.0 (sym a.2 ∙ same ∙ b.1)
-moved_apart m n i j k l (inr (inr a)) (inr (inr b)) apart same = apart (sym a.2 ∙ same ∙ b.2)
+moved_apart m n i j k l a b apart same = grind arith
 
 moved : (os : List Occurrence) (m n i : ℕ) (o : Occurrence) → m < length os → n < length os → slice_get os i ≡ Some o
     → (k : ℕ) × IsMoved m n i k × (slice_get (swap os m n) k ≡ Some o)
 moved os m n i o low high stands =
     let swapped = swapped_from_swap os (swap os m n) m n o low high refl in
-    let size = length-swap os m n in
-    let within = slice_get_within os i o stands in
-    let here : get_or os i o ≡ o = get_or_from_slice_get os i o o stands in
+    let here = get_or_from_slice_get os i o o stands in
     let read : (k : ℕ) → k < length os → get_or (swap os m n) k o ≡ get_or os i o → slice_get (swap os m n) k ≡ Some o
-    = λ k below same. slice_get_read (swap os m n) (length os) k o (sym size) below (sym (same ∙ here)) in
+    = λ k below same. slice_get_read (swap os m n) _ k o (sym (length-swap os m n)) below (sym (same ∙ here)) in
     elim (cases_eq i m) [
       | inl first ↦ (n, inl (first, refl), read n high (rw first swapped.1))
       | inr not_first ↦ elim (cases_eq i n) [
         | inl second ↦ (m, inr (inl (second, refl)), read m low (rw second swapped.0))
-        | inr not_second ↦ (
-          i,
-          inr (inr (not_first, not_second, refl)),
-          read i within (swapped.2 i not_first not_second),
-        )
+        | inr not_second ↦
+            let same = read i (slice_get_within os i o stands) (swapped.2 i not_first not_second) in
+            (i, inr (inr (not_first, not_second, refl)), same)
       ]
     ]
 

@@ -1,5 +1,5 @@
 -- The candidates of a scope are the scope and those of the scope around it.
-use Rattle.std.proofs.Common.{◌≡◌, ◌≢◌, ◌∙◌, sym, ℕ, suc, ◌+◌, ◌-◌, ◌<◌, List, [], ◌∷◌, ◌++◌, length, take, drop, get_or, ap, refl, arith, inl, inr, ◌⊎◌, subst, add-one, append_assoc}
+use Rattle.std.proofs.Common.{◌≡◌, ◌≢◌, ◌∙◌, sym, ℕ, suc, ◌+◌, ◌-◌, ◌<◌, List, [], ◌∷◌, ◌++◌, length, take, drop, get_or, ap, refl, arith, inl, inr, ◌⊎◌, add-one, append_assoc}
 use Rattle.std.proofs.lemmas.Grind.{common_steps}
 use Rattle.std.proofs.lemmas.Bool.{cases_order}
 use Rattle.std.proofs.lemmas.List.{get_or_at}
@@ -22,12 +22,8 @@ take_past d rest m = take-append-add d (46 ∷ rest) (suc m)
 -- a candidate that ends before the last dot is one of what stands before that dot
 before_dot : (d rest s : List ℕ) (k : ℕ) → s ≡ d ++ 46 ∷ rest → length d < k → IsCandidate d (take k s)
 before_dot d rest s k e below =
-    inr (inr (
-      take (k - length d - 1) rest,
-      (let whole : length d + suc (k - length d - 1) ≡ k = omega arith in
-          rw e (subst (λ (n : ℕ). take n (d ++ 46 ∷ rest) ≡ d ++ 46 ∷ take (k - length d - 1) rest) whole
-          (take_past d rest (k - length d - 1)))),
-    ))
+    let whole : length d + suc (k - length d - 1) ≡ k = omega arith in
+    inr (inr (take (k - length d - 1) rest, cc (take_past d rest (k - length d - 1))))
 
 no_room : (a rest : List ℕ) → a ++ 46 ∷ rest ≡ [] → ⊥
 no_room [] rest h = cc
@@ -51,12 +47,7 @@ candidates_at_dot s d k below none (inr (inr (rest, e))) =
     ]
 
 pub candidate_before_dot : (s : List ℕ) (k : ℕ) → k < length s → get_or s k 0 ≡ 46 → IsCandidate (take k s) s
-candidate_before_dot s k below dot =
-    inr (inr (
-      drop (k + 1) s,
-      rw add-one
-          (subst (λ (b : ℕ). s ≡ take k s ++ b ∷ drop (suc k) s) dot (split_at s k 0 below)),
-    ))
+candidate_before_dot s k below dot = inr (inr (drop (k + 1) s, rw add-one (rw dot at (split_at s k 0 below))))
 
 pub candidates_no_dot : (s d : List ℕ) → ((i : ℕ) → i < length s → get_or s i 0 ≢ 46) → IsCandidate d s
     → (d ≡ s) ⊎ IsCandidate d []
@@ -67,12 +58,11 @@ candidates_no_dot s d none (inr (inr (rest, e))) =
 
 -- candidates of a candidate
 pub candidate_trans : (a b s : List ℕ) → IsCandidate a b → IsCandidate b s → IsCandidate a s
-candidate_trans a b s (inl e) k = inl e
-candidate_trans a b s (inr (inl e)) k = rw e k
-candidate_trans a b s (inr (inr (rest, e))) (inl f) = absurd (no_room a rest (sym e ∙ f))
-candidate_trans a b s (inr (inr (rest, e))) (inr (inl f)) = inr (inr (rest, sym f ∙ e))
-candidate_trans a b s (inr (inr (rest, e))) (inr (inr (more, f))) =
-    inr (inr (rest ++ 46 ∷ more, f ∙ ap (λ x. x ++ 46 ∷ more) e ∙ append_assoc a (46 ∷ rest) (46 ∷ more)))
+candidate_trans a b s (inl e) k = grind (arith, common_steps)
+candidate_trans a b s (inr (inl e)) k = grind (arith, common_steps)
+candidate_trans a b s (inr (inr (rest, e))) (inl f) = grind (arith, common_steps, no_room)
+candidate_trans a b s (inr (inr (rest, e))) (inr (inl f)) = grind (arith, common_steps)
+candidate_trans a b s (inr (inr (rest, e))) (inr (inr (more, f))) = grind (arith, common_steps, append_assoc)
 
 -- candidates of one length are one
 pub candidates_same : (a b s : List ℕ) → IsCandidate a s → IsCandidate b s → length a ≡ length b → a ≡ b

@@ -1,8 +1,8 @@
 -- What the index of files holds.
-use Rattle.std.proofs.Common.{◌≡◌, ◌∙◌, sym, ℕ, ◌+◌, ◌<◌, List, [], ◌∷◌, length, get_or, map, ap, refl, subst, arith, inl, inr}
+use Rattle.share_work.proofs.Sums.{of_map}
+use Rattle.std.proofs.Common.{◌≡◌, ℕ, ◌+◌, ◌<◌, List, [], ◌∷◌, length, map, refl, arith, inl, inr}
 use Rattle.std.specs.Prelude.{All, Contains, IsPermutation, Option, None, Some, MatchOption}
-use Rattle.std.proofs.lemmas.List.{get_or-map, get_or_default, length-map}
-use Rattle.std.proofs.lemmas.List.Elements.{Contains-append_cases}
+use Rattle.std.proofs.lemmas.List.Elements.{Contains-append_cases, Contains-get_or}
 use Rattle.std.proofs.lemmas.List.Sorted.{Contains-permutation, IsPermutation-sym}
 use Rattle.proto_desc.specs.DeclaredNames.{declared_by}
 use Rattle.proto_desc.specs.declared.file.FileDesc.{FileDesc}
@@ -11,18 +11,13 @@ use Rattle.proto_names.specs.Occurrences.{Occurrence, IsTwice, NoneTwice, declar
 use Rattle.proto_names.specs.Repeated.{IsFirstTwice}
 use Rattle.proto_names.specs.Scopes.{prefixes}
 use Rattle.proto_names.proofs.Apart.{ContainsBoth-permutation}
-use Rattle.proto_names.proofs.Occurring.{first_of}
 
 -- ---- the files of occurrences
 
 -- what a function of one file makes
 made_in : {X : Type 0} (f : X → Occurrence) (file : ℕ) → ((x : X) → (f x).file ≡ file) → (xs : List X) (o : Occurrence)
     → Contains (map f xs) o → o.file ≡ file
-made_in f file same xs o (k, inside, is) =
-    let l = length-map xs f in
-    let low : k < length xs = omega (arith, l, inside) in
-    let d = first_of xs k low in
-    ap (λ (x : Occurrence). x.file) (sym is ∙ get_or-map f xs k d o low) ∙ same (get_or xs k d)
+made_in f file same xs o within = let (x, inside, is) = of_map f xs o within in rw (← is) (same x)
 
 packages_in : (file : ℕ) (declared : Option PackageDesc) (o : Occurrence)
     → Contains (package_occurrences file declared) o → o.file ≡ file
@@ -59,10 +54,8 @@ below_files files os same o within =
 
 pub all_below : (files : List FileDesc) (os : List Occurrence) → os ≡ occurrences files
     → All (λ (o : Occurrence). o.file < length files) os
-all_below files os same k d within =
-    let below = below_from 0 files (get_or os k d)
-    (subst (λ ps. Contains ps (get_or os k d)) same (k, within, get_or_default os k (get_or os k d) d within)) in
-    omega (arith, below)
+all_below files os same = rw same
+    (λ k d within. omega (arith, below_from 0 files _ (Contains-get_or (occurrences files) k d within)))
 
 -- ---- in another order
 

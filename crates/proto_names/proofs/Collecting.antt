@@ -1,10 +1,11 @@
 -- What a walk over files has put so far.
-use Rattle.std.proofs.Common.{inl, inr, ◌≡◌, ◌∙◌, sym, ℕ, suc, ◌-◌, ◌+◌, ◌<◌, ◌≤◌, List, [], ◌∷◌, ◌++◌, length, map, take, drop, get_or, append_assoc, length-append, ap, ap₂, refl, subst, arith}
+use Rattle.proto_names.proofs.Tabled.{high, low}
+use Rattle.std.proofs.Common.{inl, inr, ◌≡◌, ◌∙◌, sym, ℕ, ◌-◌, ◌+◌, ◌<◌, ◌≤◌, List, [], ◌∷◌, ◌++◌, length, map, take, drop, get_or, append_assoc, length-append, ap, ap₂, refl, arith}
 use Rattle.std.specs.Prelude.{Option, slice_get, Some}
 use Rattle.std.proofs.lemmas.Bool.{cases_lt}
-use Rattle.std.proofs.Math.Seq.{get_or-append_seam, take-add, take-append_seam}
-use Rattle.std.proofs.lemmas.List.{get_or_append_left, length-map, take-append-le, take_more, take-append-drop, append-nil}
-use Rattle.std.proofs.lemmas.Option.{get_or_from_slice_get, slice_get-get_or, slice_get_within}
+use Rattle.std.proofs.Math.Seq.{take-add, take-append_seam}
+use Rattle.std.proofs.lemmas.List.{length-map, take-append-le, take_more, take-append-drop, append-nil}
+use Rattle.std.proofs.lemmas.Option.{get_or_from_slice_get, slice_get_within}
 use Rattle.std.proofs.lemmas.Grind.{common_steps, flat_map-append}
 use Rattle.proto_desc.specs.declared.file.FileDesc.{FileDesc}
 use Rattle.proto_names.specs.Collected.{ArePlaced, IsCollected, files_in}
@@ -16,13 +17,9 @@ use Rattle.proto_names.specs.declared.part.Part.{Part}
 
 pub occurrences_from-append : (first : ℕ) (xs ys : List FileDesc)
     → occurrences_from first (xs ++ ys) ≡ occurrences_from first xs ++ occurrences_from (first + length xs) ys
-occurrences_from-append first [] ys = ap (λ n. occurrences_from n ys) (omega arith)
+occurrences_from-append first [] ys = grind (arith, common_steps)
 occurrences_from-append first (x ∷ xs) ys =
-    let behind : first + 1 + length xs ≡ first + suc (length xs) = omega arith in
-    ap (λ os. occurrences_of first x ++ os) (occurrences_from-append (first + 1) xs ys
-    ∙ ap (λ n. occurrences_from (first + 1) xs ++ occurrences_from n ys) behind)
-    ∙ sym (append_assoc (occurrences_of first x) (occurrences_from (first + 1) xs)
-    (occurrences_from (first + suc (length xs)) ys))
+    grind (arith, common_steps, append_assoc, (occurrences_from-append (first + 1) xs ys))
 
 -- those of one more file
 pub occurrences_more : (first : ℕ) (files : List FileDesc) (k : ℕ) (f : FileDesc) (now next : List Occurrence)
@@ -61,17 +58,11 @@ module _ (parts : List Part) (k : ℕ) (p : Part) (stands : slice_get parts k �
   next : files_in (take (k + 1) parts) ≡ before ++ p.files.now
   next =
       let same : get_or parts k p ≡ p = get_or_from_slice_get parts k p p stands in
-      ap files_in (take_more parts k p (slice_get_within parts k p stands))
-      ∙ flat_map-append (λ p. p.files.now) (take k parts) (get_or parts k p ∷ [])
-      ∙ ap (λ (fs : List FileDesc). before ++ fs)
-      (append-nil (get_or parts k p).files.now ∙ ap (λ (q : Part). q.files.now) same)
+      rw (take_more parts k p (slice_get_within parts k p stands), flat_map-append, same, append-nil) refl
 
   all_next : occurrences_from 0 (files_in (take (k + 1) parts)) ≡ occurrences_from 0 before
       ++ occurrences_from p.first p.files.now
-  all_next =
-      let behind : 0 + length before ≡ p.first = omega (arith, placed k p stands) in
-      ap (occurrences_from 0) next ∙ occurrences_from-append 0 before p.files.now
-      ∙ ap (λ n. occurrences_from 0 before ++ occurrences_from n p.files.now) behind
+  all_next = grind (arith, common_steps, occurrences_from-append, next)
 
   few_next : length (occurrences_from 0 before) + length (occurrences_from p.first p.files.now)
       ≤ length (occurrences_from 0 (files_in parts))
@@ -108,50 +99,33 @@ pub collected_next : (limit : ℕ) (parts : List Part) (outs rest : List (Option
     → map Some all ++ out ∷ rest ≡ outs
     → (p : Part) × (slice_get parts (length all) ≡ Some p) × IsCollected limit p.first p.files.now out
 collected_next limit parts outs rest all out given whole =
-    let k = length (map Some all) in
-    let size = ap length (sym whole) ∙ length-append (map Some all) (out ∷ rest) in
-    let within : k < length outs = omega (arith, size) in
-    let at : slice_get outs k ≡ Some out =
-    slice_get-get_or outs k out within ∙ ap Some
-    (ap (λ (l : List _). get_or l k out) (sym whole) ∙ get_or-append_seam (map Some all) out rest out) in
-    let (p, stands) = get_there parts k (omega (arith, given.0, within)) in
-    let same : k ≡ length all = length-map all Some in
-    (p, subst (λ n. slice_get parts n ≡ Some p) same stands, given.1 k p out stands at)
+    let at : slice_get outs (length all) ≡ Some out =
+    rw (← whole) (high (map Some all) (out ∷ rest) (length all) 0 (omega (arith, length-map all Some))) in
+    let (p, stands) = get_there parts (length all) (omega (arith, given.0, slice_get_within outs (length all) out at)) in
+    (p, stands, given.1 (length all) p out stands at)
 
 -- the occurrences of parts, and those of one more
 pub all_more : (all more : List (List Occurrence)) (os : List Occurrence) → more ≡ all ++ os ∷ []
     → all_of more ≡ all_of all ++ os
-all_more all more os put =
-    ap all_of put ∙ flat_map-append (λ os. os) all (os ∷ [])
-    ∙ ap (λ (ps : List Occurrence). all_of all ++ ps) (append-nil os)
+all_more all more os put = grind (arith, common_steps, append-nil, flat_map-append)
 
 -- ---- cutting files into parts
 
 -- one more part
 pub placed_more : (parts : List Part) (p : Part) → ArePlaced parts → p.first ≡ length (files_in parts)
     → ArePlaced (parts ++ p ∷ [])
-placed_more parts p placed here k q stands =
-    let grown = slice_get_within (parts ++ p ∷ []) k q stands in
-    let long = length-append parts (p ∷ []) in
-    let value = get_or_from_slice_get (parts ++ p ∷ []) k q q stands in
-    elim (cases_lt k (length parts)) [
-      | inl less ↦ (
-          let old : slice_get parts k ≡ Some q = slice_get-get_or parts k q less
-          ∙ ap Some (sym (get_or_append_left parts (p ∷ []) q k less) ∙ value) in
-          placed k q old ∙ ap (λ (ps : List Part). length (files_in ps))
-          (sym (take-append-le k parts (p ∷ []) (omega (arith, less)))))
-      | inr over ↦ (
-          let last : k ≡ length parts = omega (arith, over, grown, long) in
-          let same : p ≡ q = sym (get_or-append_seam parts p [] q) ∙ ap (λ n. get_or (parts ++ p ∷ []) n q) (sym last)
-          ∙ value in
-          ap (λ (r : Part). r.first) (sym same) ∙ here ∙ ap (λ (ps : List Part). length (files_in ps))
-          (sym (take-append_seam parts (p ∷ [])) ∙ ap (λ n. take n (parts ++ p ∷ [])) (sym last)))
-    ]
+placed_more parts p placed here k q stands = elim (cases_lt k (length parts)) [
+  | inl less ↦ rw (take-append-le k parts (p ∷ []) (omega arith))
+      (placed k q (sym (low parts (p ∷ []) k less) ∙ stands))
+  | inr over ↦
+      let inside = slice_get_within (parts ++ p ∷ []) k q stands in
+      let last : k ≡ length parts = omega (arith, inside, length-append parts (p ∷ [])) in
+      let found : Some p ≡ Some q = sym (high parts (p ∷ []) k 0 (omega arith)) ∙ stands in
+      let same : q ≡ p = cc in
+      rw (same, last, take-append_seam parts (p ∷ [])) here
+]
 
 pub files_more : (files : List FileDesc) (parts : List Part) (p : Part) (first count : ℕ)
     → files_in parts ≡ take first files
     → p.files.now ≡ take count (drop first files) → files_in (parts ++ p ∷ []) ≡ take (first + count) files
-files_more files parts p first count so_far is =
-    flat_map-append (λ p. p.files.now) parts (p ∷ [])
-    ∙ ap (λ (fs : List FileDesc). files_in parts ++ fs) (append-nil p.files.now)
-    ∙ ap₂ (λ (xs ys : List FileDesc). xs ++ ys) so_far is ∙ sym (take-add first count files)
+files_more files parts p first count so_far is = grind (arith, common_steps, take-add, append-nil, flat_map-append)

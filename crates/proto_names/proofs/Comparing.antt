@@ -1,5 +1,6 @@
 -- How a text compares with a name in a scope.
-use Rattle.std.proofs.Common.{◌≡◌, ◌≢◌, ◌∙◌, sym, ℕ, ◌-◌, ◌<◌, ◌≤◌, Bool, false, nat_eq, List, [], ◌∷◌, ◌++◌, length, take, drop, get_or, ap, ap₂, refl, arith, Ordering, Less, Equal, Greater}
+use Rattle.std.proofs.lemmas.Grind.{common_steps}
+use Rattle.std.proofs.Common.{◌≡◌, ◌≢◌, ◌∙◌, sym, ℕ, ◌-◌, ◌<◌, ◌≤◌, Bool, false, nat_eq, List, [], ◌∷◌, ◌++◌, length, take, drop, get_or, ap, refl, arith, Ordering, Less, Equal, Greater}
 use Rattle.std.specs.Prelude.{◌↔◌, IsTrue}
 use Rattle.std.specs.Cmp.Lexicographic.{slice_cmp, pointwise, bytes_decides}
 use Rattle.std.proofs.lemmas.Bool.{true≢false}
@@ -22,18 +23,12 @@ pub scoped_some : (scope name : List ℕ) → 0 < length scope → scoped scope 
 scoped_some [] name h = absurd (omega (arith, h))
 scoped_some (c ∷ cs) name h = refl
 
-pub scoped_none : (scope name : List ℕ) → length scope ≡ 0 → scoped scope name ≡ name
-scoped_none [] name h = refl
-scoped_none (c ∷ cs) name h = absurd (omega (arith, h))
-
 short_all : (text scope name : List ℕ) → length text ≤ length scope
     → slice_cmp nat_cmp text (scope ++ 46 ∷ name) ≡ ordering_then (slice_cmp nat_cmp text scope) Less
-short_all [] [] name h = refl
-short_all [] (s ∷ ss) name h = refl
-short_all (x ∷ xs) [] name h = absurd (omega (arith, h))
-short_all (x ∷ xs) (s ∷ ss) name h =
-    ap (ordering_then (nat_cmp x s)) (short_all xs ss name (omega (arith, h)))
-    ∙ then_then (nat_cmp x s) (slice_cmp nat_cmp xs ss) Less
+short_all [] [] name h = grind (arith, common_steps)
+short_all [] (s ∷ ss) name h = grind (arith, common_steps)
+short_all (x ∷ xs) [] name h = grind (arith, common_steps)
+short_all (x ∷ xs) (s ∷ ss) name h = grind (arith, common_steps, then_then, (short_all xs ss name (omega (arith, h))))
 
 -- a text that is no longer than the scope
 pub short : (text scope name : List ℕ) → 0 < length scope → length text ≤ length scope
@@ -43,12 +38,10 @@ short text scope name some h = rw (scoped_some scope name some) (sym (short_all 
 pub both : (prefix scope rest more : List ℕ) → length prefix ≡ length scope
     → slice_cmp nat_cmp (prefix ++ rest) (scope ++ more) ≡ ordering_then (slice_cmp nat_cmp prefix scope)
     (slice_cmp nat_cmp rest more)
-both [] [] rest more h = refl
-both [] (s ∷ ss) rest more h = absurd (omega (arith, h))
-both (x ∷ xs) [] rest more h = absurd (omega (arith, h))
-both (x ∷ xs) (s ∷ ss) rest more h =
-    ap (ordering_then (nat_cmp x s)) (both xs ss rest more (omega (arith, h)))
-    ∙ then_then (nat_cmp x s) (slice_cmp nat_cmp xs ss) (slice_cmp nat_cmp rest more)
+both [] [] rest more h = grind (arith, common_steps)
+both [] (s ∷ ss) rest more h = grind (arith, common_steps)
+both (x ∷ xs) [] rest more h = grind (arith, common_steps)
+both (x ∷ xs) (s ∷ ss) rest more h = grind (arith, common_steps, then_then, (both xs ss rest more (omega (arith, h))))
 
 -- a text whose prefix is as long as the scope
 pub long : (text prefix scope name rest : List ℕ) → 0 < length scope → text ≡ prefix ++ rest
@@ -62,16 +55,13 @@ pub long_equal : (text prefix scope name rest : List ℕ) (o r : Ordering) → 0
     → o ≡ slice_cmp nat_cmp prefix scope → o ≡ Equal → r ≡ slice_cmp nat_cmp rest (46 ∷ name)
     → r ≡ slice_cmp nat_cmp text (scoped scope name)
 long_equal text prefix scope name rest o r some is h compared equal behind =
-    behind ∙ ap (λ p. ordering_then p (slice_cmp nat_cmp rest (46 ∷ name))) (sym equal ∙ compared)
-    ∙ sym (long text prefix scope name rest some is h)
+    rw (long text prefix scope name rest some is h, ← compared, equal) behind
 
 pub long_unequal : (text prefix scope name rest : List ℕ) (o : Ordering) → 0 < length scope → text ≡ prefix ++ rest
     → length prefix ≡ length scope
     → o ≡ slice_cmp nat_cmp prefix scope → o ≢ Equal → o ≡ slice_cmp nat_cmp text (scoped scope name)
 long_unequal text prefix scope name rest o some is h compared unequal =
-    sym (then_unequal o (slice_cmp nat_cmp rest (46 ∷ name)) unequal)
-    ∙ ap (λ p. ordering_then p (slice_cmp nat_cmp rest (46 ∷ name))) compared
-    ∙ sym (long text prefix scope name rest some is h)
+    rw (long text prefix scope name rest some is h, ← compared) (sym (then_unequal o _ unequal))
 
 -- ---- whether a text is a name in a scope
 
@@ -89,18 +79,13 @@ behind_is (b ∷ bs) name told some dot is =
 module _ (full prefix scope name rest : List ℕ) (told : Bool) (some : 0 < length scope) (whole : full ≡ prefix ++ rest)
     (long : length prefix ≡ length scope) where
   front : full ≡ scoped scope name → prefix ≡ scope
-  front e = sym (take-append_seam prefix rest) ∙ ap (take (length prefix)) (sym whole ∙ e ∙ scoped_some scope name some)
-      ∙ ap (λ (n : ℕ). take n (scope ++ 46 ∷ name)) long ∙ take-append_seam scope (46 ∷ name)
+  front e = cc (scoped_some scope name some, take-append_seam prefix rest, take-append_seam scope (46 ∷ name))
 
   back : full ≡ scoped scope name → rest ≡ 46 ∷ name
-  back e = sym (drop-append_seam prefix rest) ∙ ap (drop (length prefix)) (sym whole ∙ e ∙ scoped_some scope name some)
-      ∙ ap (λ (n : ℕ). drop n (scope ++ 46 ∷ name)) long ∙ drop-append_seam scope (46 ∷ name)
+  back e = cc (scoped_some scope name some, drop-append_seam prefix rest, drop-append_seam scope (46 ∷ name))
 
   pub in_scope : prefix ≡ scope → IsTrue told ↔ (rest ≡ 46 ∷ name) → IsTrue told ↔ (full ≡ scoped scope name)
-  in_scope same behind = (
-    λ t. whole ∙ ap₂ (λ (xs ys : List ℕ). xs ++ ys) same (behind.0 t) ∙ sym (scoped_some scope name some),
-    λ e. behind.1 (back e),
-  )
+  in_scope same behind = grind (arith, common_steps, scoped_some, back)
 
   pub in_no_scope : prefix ≢ scope → told ≡ false → IsTrue told ↔ (full ≡ scoped scope name)
   in_no_scope other is = (λ t. absurd (true≢false (sym t ∙ is)), λ e. absurd (other (front e)))

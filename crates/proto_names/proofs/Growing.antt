@@ -1,6 +1,7 @@
 -- Entries whose names stand in a text that only grows.
-use Rattle.std.proofs.Common.{◌≡◌, ◌∙◌, sym, ap, ap₂, subst, refl, ℕ, zero, suc, ◌+◌, ◌-◌, ◌<◌, ◌≤◌, List, [], ◌∷◌, ◌++◌, length, take, drop, map, arith, append_assoc, length-append, length-drop, length-take-le}
-use Rattle.std.specs.Prelude.{IsAscii, IsUtf8, Result, Ok, Err, OnOk, is_ok, if◌then◌else◌}
+use Rattle.std.proofs.lemmas.Grind.{common_steps}
+use Rattle.std.proofs.Common.{◌≡◌, ◌∙◌, ap, refl, ℕ, zero, suc, ◌+◌, ◌-◌, ◌≤◌, List, [], ◌∷◌, ◌++◌, length, map, arith, length-append, length-drop, length-take-le}
+use Rattle.std.specs.Prelude.{IsAscii, IsUtf8}
 use Rattle.std.proofs.lemmas.List.{drop-append-le, take-append-le, drop_at, take_all, map_push}
 use Rattle.std.proofs.lemmas.List.Elements.{All-head, All-tail, All-push, All-weaker}
 use Rattle.std.proofs.lemmas.Str.{IsUtf8-append, IsUtf8-from_ascii}
@@ -10,16 +11,12 @@ use Rattle.proto_names.specs.Entries.{name_at, occurrence, IsEntryOf, AreEntries
 use Rattle.proto_names.specs.Hashes.{hash_of}
 use Rattle.proto_names.specs.Occurrences.{Occurrence}
 use Rattle.proto_names.specs.declared.entry.Entry.{Entry}
-use Rattle.proto_names.proofs.Comparing.{scoped_some, scoped_none}
 use Rattle.digraph.proofs.Sharing.{length_kept}
 
 -- ---- what stands within the text stays
 
 name_kept : (old more : List ℕ) (e : Entry) → e.start + e.len ≤ length old → name_at (old ++ more) e ≡ name_at old e
-name_kept old more e within =
-    let inside : e.start ≤ length old = omega (arith, within) in
-    let room : e.len ≤ length (drop e.start old) = rw (length-drop e.start old) (omega (arith, within)) in
-    ap (take e.len) (drop-append-le e.start old more inside) ∙ take-append-le e.len (drop e.start old) more room
+name_kept old more e within = grind (arith, common_steps, length-drop, drop-append-le, take-append-le)
 
 name_more : (old new : List ℕ) (e : Entry) → IsFrontOf old new → IsEntryOf old e → name_at new e ≡ name_at old e
 name_more old new e prefix is = ap (λ (t : List ℕ). name_at t e) prefix.1 ∙ name_kept old prefix.0 e is.within
@@ -27,12 +24,10 @@ name_more old new e prefix is = ap (λ (t : List ℕ). name_at t e) prefix.1 ∙
 entry_more : (old new : List ℕ) → IsFrontOf old new → (e : Entry) → IsEntryOf old e → IsEntryOf new e
 entry_more old new prefix e is =
     let same = name_more old new e prefix is in
-    let long = length_kept old new prefix in
-    let within = is.within in
     record {
-      within = omega (arith, within, long);
-      is_text = subst IsUtf8 (sym same) is.is_text;
-      hashed = is.hashed ∙ ap hash_of (sym same);
+      within = omega (arith, length_kept old new prefix, is.within);
+      is_text = rw same is.is_text;
+      hashed = rw same is.hashed;
     }
 
 pub entries_more : (old new : List ℕ) (es : List Entry) → IsFrontOf old new → AreEntriesOf old es → AreEntriesOf new es
@@ -45,16 +40,13 @@ named e name = record { name = name; file = e.location.file; place = e.location.
 pub occurrences_more : (old new : List ℕ) (es : List Entry) → IsFrontOf old new → AreEntriesOf old es
     → map (occurrence new) es ≡ map (occurrence old) es
 occurrences_more old new [] prefix of = refl
-occurrences_more old new (e ∷ es) prefix of =
-    let same : occurrence new e ≡ occurrence old e =
-    ap (named e) (name_more old new e prefix (All-head (IsEntryOf old) e es of)) in
-    ap₂ (λ (o : Occurrence) (os : List Occurrence). o ∷ os) same
-    (occurrences_more old new es prefix (All-tail (IsEntryOf old) e es of))
+occurrences_more old new (e ∷ es) prefix of = cc (
+  name_more old new e prefix (All-head (IsEntryOf old) e es of),
+  occurrences_more old new es prefix (All-tail (IsEntryOf old) e es of),
+)
 
 pub name_length : (text : List ℕ) (e : Entry) → IsEntryOf text e → length (name_at text e) ≡ e.len
-name_length text e is =
-    let within = is.within in
-    length-take-le e.len (drop e.start text) (rw (length-drop e.start text) (omega (arith, within)))
+name_length text e is = grind (arith, common_steps, length-drop, length-take-le)
 
 -- ---- an entry more, whose name goes behind the text
 
@@ -66,56 +58,18 @@ module _ (old new full : List ℕ) (es all : List Entry) (e : Entry) (whole : ne
   long = ap length whole ∙ length-append old full
 
   last_name : name_at new e ≡ full
-  last_name =
-      let size : length full ≤ e.len = omega (arith, long, start, len) in
-      ap (λ (t : List ℕ). name_at t e) whole ∙ ap (take e.len) (drop_at old full e.start (sym start))
-      ∙ take_all e.len full size
+  last_name = grind (arith, common_steps, drop_at, take_all, long)
 
   last_entry : IsEntryOf new e
-  last_entry = record {
-    within = omega (arith, long, start, len);
-    is_text = subst IsUtf8 (sym last_name) is_text;
-    hashed = hash ∙ ap hash_of (sym last_name);
-  }
+  last_entry = grind (arith, common_steps, long, last_name)
 
   pub entries_pushed : AreEntriesOf new all
-  entries_pushed = subst (AreEntriesOf new) (sym put)
-      (All-push (IsEntryOf new) es e (entries_more old new es (full, whole) of) last_entry)
+  entries_pushed = rw put (All-push (IsEntryOf new) es e (entries_more old new es (full, whole) of) last_entry)
 
   pub occurrences_pushed : map (occurrence new) all ≡ map (occurrence old) es ++ named e full ∷ []
-  occurrences_pushed =
-      ap (map (occurrence new)) put ∙ map_push (occurrence new) es e
-      ∙ ap₂ (λ (os : List Occurrence) (o : Occurrence). os ++ o ∷ []) (occurrences_more old new es (full, whole) of)
-      (ap (named e) last_name)
+  occurrences_pushed = grind (arith, common_steps, map_push, occurrences_more, last_name)
 
 -- ---- a name put behind the text in its parts
-
-pub prefix_more : (old base more new : List ℕ) → IsFrontOf old base → new ≡ base ++ more → IsFrontOf old new
-prefix_more old base more new prefix e =
-    (prefix.0 ++ more, e ∙ ap (λ (t : List ℕ). t ++ more) prefix.1 ∙ append_assoc old prefix.0 more)
-
-pub put_kept : {T E : Type 0} (r : Result T E) (old base more new : List ℕ) → IsFrontOf old base
-    → new ≡ (if is_ok r then base ++ more else base)
-    → IsFrontOf old new
-put_kept (Ok t) old base more new prefix e = prefix_more old base more new prefix e
-put_kept (Err d) old base more new prefix e = (prefix.0, e ∙ prefix.1)
-
-pub put_whole : {T E : Type 0} (r : Result T E) (base more new whole : List ℕ) → base ++ more ≡ whole
-    → new ≡ (if is_ok r then base ++ more else base)
-    → OnOk r (new ≡ whole)
-put_whole (Ok t) base more new whole is e = e ∙ is
-put_whole (Err d) base more new whole is e = tt
-
-pub scope_put : (old scope once base name : List ℕ) → 0 < length scope → once ≡ old ++ scope → base ≡ once ++ 46 ∷ []
-    → base ++ name ≡ old ++ scoped scope name
-scope_put old scope once base name some first second =
-    ap (λ (t : List ℕ). t ++ name) (second ∙ ap (λ (t : List ℕ). t ++ 46 ∷ []) first)
-    ∙ append_assoc (old ++ scope) (46 ∷ []) name
-    ∙ append_assoc old scope (46 ∷ name) ∙ ap (λ (t : List ℕ). old ++ t) (sym (scoped_some scope name some))
-
-pub no_scope : (old scope base name : List ℕ) → length scope ≡ 0 → base ≡ old → base ++ name ≡ old ++ scoped scope name
-no_scope old scope base name none same = ap (λ (t : List ℕ). t ++ name) same
-    ∙ ap (λ (t : List ℕ). old ++ t) (sym (scoped_none scope name none))
 
 dot_ascii : IsAscii (46 ∷ [])
 dot_ascii zero = omega arith

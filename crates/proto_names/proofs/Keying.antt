@@ -1,5 +1,6 @@
 -- Entries that are found by sorted keys.
-use Rattle.std.proofs.Common.{◌≡◌, ◌∙◌, sym, ap, ap₂, subst, refl, arith, ℕ, ◌+◌, ◌*◌, ◌%◌, ◌<◌, ◌≤◌, List, [], ◌∷◌, ◌++◌, length, map, take, get_or}
+use Rattle.std.proofs.lemmas.Grind.{common_steps}
+use Rattle.std.proofs.Common.{◌≡◌, ◌∙◌, sym, ap, refl, arith, ℕ, ◌+◌, ◌*◌, ◌%◌, ◌<◌, ◌≤◌, List, [], ◌∷◌, ◌++◌, length, map, take, get_or}
 use Rattle.std.specs.Prelude.{All, IsPermutation, Option, None, Some, slice_get}
 use Rattle.std.proofs.lemmas.List.{map-append, take_more}
 use Rattle.std.proofs.lemmas.List.Elements.{All-cons, All-get_or, All-nil}
@@ -25,11 +26,7 @@ pub keys_more : (es : List Entry) (keys new : List ℕ) (k hash : ℕ) → lengt
     → new ≡ keys ++ (hash * 4294967296 + k) ∷ [] → found_by es keys ≡ map Some (take k es)
     → found_by es new ≡ map Some (take (k + 1) es)
 keys_more es keys new k hash few inside put so_far =
-    let position = mod-mul-add hash 4294967296 k (omega (arith, few, inside)) in
-    ap (found_by es) put
-    ∙ map-append (λ (key : ℕ). slice_get es (key % 4294967296)) keys ((hash * 4294967296 + k) ∷ [])
-    ∙ ap₂ (λ (os : List (Option Entry)) (o : Option Entry). os ++ o ∷ []) so_far (ap (slice_get es) position)
-    ∙ sym (some_more es k any_entry inside)
+    grind (arith, common_steps, map-append, mod-mul-add, any_entry, some_more)
 
 -- each key finds an entry
 all_within : (es : List Entry) (keys : List ℕ) (found : List Entry) → found_by es keys ≡ map Some found
@@ -53,12 +50,7 @@ pub found_more : (es sorted new : List Entry) (keys : List ℕ) (k : ℕ) (d : E
     → new ≡ sorted ++ get_or es (get_or keys k 0 % 4294967296) d ∷ [] → map Some sorted ≡ found_by es (take k keys)
     → map Some new ≡ found_by es (take (k + 1) keys)
 found_more es sorted new keys k d within inside put so_far =
-    let find : ℕ → Option Entry = λ key. slice_get es (key % 4294967296) in
-    let key = get_or keys k 0 in
-    ap (map Some) put ∙ map-append Some sorted (get_or es (key % 4294967296) d ∷ [])
-    ∙ ap₂ (λ (os : List (Option Entry)) (o : Option Entry). os ++ o ∷ []) so_far
-    (sym (slice_get-get_or es (key % 4294967296) d within))
-    ∙ sym (ap (map find) (take_more keys k 0 inside) ∙ map-append find (take k keys) (key ∷ []))
+    grind (arith, common_steps, map-append, take_more, slice_get-get_or)
 
 some_or : Option Entry → Entry
 some_or None = any_entry
@@ -73,9 +65,5 @@ pub found_all : (es sorted : List Entry) (keys moved : List ℕ) → AreKeysOf e
     → map Some sorted ≡ found_by es moved → IsPermutation es sorted
 found_all es sorted keys moved are same found =
     let f : ℕ → Option Entry = λ key. slice_get es (key % 4294967296) in
-    let all : IsPermutation (map Some es) (map Some sorted) =
-    subst (λ l. IsPermutation l (map Some sorted)) are
-    (subst (IsPermutation (found_by es keys)) (sym found) (IsPermutation-map f keys moved same)) in
-    subst (λ l. IsPermutation l sorted) (un_some es)
-    (subst (IsPermutation (map some_or (map Some es))) (un_some sorted)
-    (IsPermutation-map some_or (map Some es) (map Some sorted) all))
+    let all : IsPermutation (map Some es) (map Some sorted) = rw (← are, found) (IsPermutation-map f keys moved same) in
+    rw (un_some es, un_some sorted) at (IsPermutation-map some_or (map Some es) (map Some sorted) all)

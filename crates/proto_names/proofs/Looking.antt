@@ -1,5 +1,5 @@
 -- Looking through what occurs by a name.
-use Rattle.std.proofs.Common.{◌≡◌, ◌∙◌, sym, ℕ, List, subst, inl, inr}
+use Rattle.std.proofs.Common.{◌≡◌, ◌∙◌, ℕ, List, inl, inr}
 use Rattle.std.specs.Prelude.{Bool, IsTrue, Option, None, Some, MatchOption, Contains}
 use Rattle.std.proofs.lemmas.List.{get_or_default}
 use Rattle.proto_desc.specs.declared.name_kind.NameKind.{NameKind}
@@ -35,12 +35,8 @@ pub visible_among : (os : List Occurrence) (Seen : ℕ → Type 0) (accepts : Op
     → AreAllOf os name named → Visible os Seen accepts name → HasOneIn named accepts Seen
 visible_among os Seen accepts name named all (o, there, same, fitting, seen) =
     let here = all o there same in
-    let is : at named here.0 ≡ o = get_or_default named here.0 blank o here.1 ∙ here.2 in (
-      here.0,
-      here.1,
-      subst (λ (x : Occurrence). IsTrue (accepts x.kind)) (sym is) fitting,
-      subst (λ (x : Occurrence). Seen x.file) (sym is) seen,
-    )
+    let is : at named here.0 ≡ o = get_or_default named here.0 blank o here.1 ∙ here.2 in
+    (here.0, here.1, rw is fitting, rw is seen)
 
 -- so the type among those of a name is that of the name
 pub type_visible : (os : List Occurrence) (Seen : ℕ → Type 0) (name : List ℕ) (named : List Occurrence)
@@ -53,10 +49,9 @@ type_visible os Seen name named of all None none = (
   λ v. none.1 (visible_among os Seen is_type name named all v),
 )
 type_visible os Seen name named of all (Some what) (inl (one, is)) =
-    subst (IsType os Seen name) (sym is) (message (among_visible os Seen is_message name named of one))
+    rw is (message (among_visible os Seen is_message name named of one))
 type_visible os Seen name named of all (Some what) (inr (none, one, is)) =
-    subst (IsType os Seen name) (sym is)
-    (enumeration (among_visible os Seen is_type name named of one)
+    rw is (enumeration (among_visible os Seen is_type name named of one)
     (λ v. none (visible_among os Seen is_message name named all v)))
 
 pub no_type : (os : List Occurrence) (Seen : ℕ → Type 0) (name : List ℕ) → IsNoType os Seen name → (what : NameKind)

@@ -1,5 +1,5 @@
 -- What a spelled name means.
-use Rattle.std.proofs.Common.{◌≡◌, ◌∙◌, sym, ℕ, List, ◌∷◌, ap, refl, arith, inl, inr}
+use Rattle.std.proofs.Common.{◌≡◌, ◌∙◌, ℕ, List, ap, arith, inl, inr}
 use Rattle.proto_desc.specs.DeclaredNames.{scoped}
 use Rattle.proto_names.specs.Occurrences.{Occurrence}
 use Rattle.proto_names.specs.Resolution.{Decides, IsInnermost, IsAbsolute, Means}
@@ -18,10 +18,6 @@ innermost_same os Seen scope spelled a b h k =
 module _ (os : List Occurrence) (Seen : ℕ → Type 0) (scope spelled : List ℕ)
     (relative : (rest : List ℕ) → IsAbsolute spelled rest → ⊥) where
   -- a name means what it is in the innermost scope, and nothing else
-  pub means_innermost : (c : List ℕ) → IsInnermost os Seen scope spelled c
-      → Means os Seen scope spelled (scoped c spelled)
-  means_innermost c inner = inr (relative, c, inner, refl)
-
   pub only_innermost : (c full : List ℕ) → IsInnermost os Seen scope spelled c → Means os Seen scope spelled full
       → full ≡ scoped c spelled
   only_innermost c full inner means = elim means [
@@ -36,12 +32,3 @@ module _ (os : List Occurrence) (Seen : ℕ → Type 0) (scope spelled : List �
     | inl e ↦ relative full e
     | inr inside ↦ none inside.1 inside.2.candidate inside.2.decides
   ]
-
--- a name with a leading dot means what stands behind it
-pub only_absolute : (os : List Occurrence) (Seen : ℕ → Type 0) (scope spelled full other : List ℕ)
-    → IsAbsolute spelled full
-    → Means os Seen scope spelled other → other ≡ full
-only_absolute os Seen scope spelled full other is means = elim means [
-  | inl e ↦ (let same : 46 ∷ other ≡ 46 ∷ full = sym e ∙ is in cc)
-  | inr inside ↦ absurd (inside.0 full is)
-]

@@ -1,11 +1,9 @@
 -- Occurrences, and services among them.
-use Rattle.std.proofs.Common.{◌≡◌, ◌∙◌, ℕ, ◌+◌, ◌<◌, ◌≤◌, List, [], ◌∷◌, ◌++◌, length, map, take, cond, Bool, true, false, sym, ap, ap₂, subst, append-nil, arith}
-use Rattle.std.specs.Prelude.{Result, Ok, Err, OnOk, Contains, IsSorted, Option, Some, String, filter, string_bytes}
+use Rattle.std.proofs.Common.{◌≡◌, ◌∙◌, ℕ, ◌+◌, ◌<◌, ◌≤◌, List, [], ◌∷◌, length, map, subst, arith}
+use Rattle.std.specs.Prelude.{Result, Ok, Err, OnOk, Contains, IsSorted, Some, String, string_bytes}
 use Rattle.std.specs.Cmp.Lexicographic.{slice_cmp}
 use Rattle.std.specs.Ordering.{nat_cmp}
-use Rattle.std.proofs.lemmas.List.{get_or-map, get_or_default, length-map, map-append, map_push}
-use Rattle.std.proofs.lemmas.List.Elements.{filter_more}
-use Rattle.proto_names.specs.Index.{name_of, is_service_kind, services_of}
+use Rattle.std.proofs.lemmas.List.{get_or-map, get_or_default, length-map}
 use Rattle.proto_names.specs.Occurrences.{Occurrence, IsPackage}
 use Rattle.proto_names.specs.Runs.{at, blank}
 use Rattle.proto_desc.specs.declared.name_kind.NameKind.{NameKind}
@@ -35,40 +33,6 @@ defined_is d kind file e = (cc, cc)
 pub on_ok_of : {X E : Type 0} {B : Type 0} (r : Result X E) → B → OnOk r B
 on_ok_of (Ok x) b = b
 on_ok_of (Err e) b = tt
-
--- ---- services
-
--- those of one occurrence more
-services_more : (os : List Occurrence) (k : ℕ) → k < length os
-    → services_of (take (k + 1) os) ≡ services_of (take k os)
-    ++ map name_of (cond (is_service_kind (at os k).kind) (at os k ∷ []) [])
-services_more os k h =
-    let is_service = λ (o : Occurrence). is_service_kind o.kind in
-    ap (map name_of) (filter_more is_service os k blank h)
-    ∙ map-append name_of (filter is_service (take k os)) (cond (is_service_kind (at os k).kind) (at os k ∷ []) [])
-
-module _ {A : Type 0} (os : List Occurrence) (k : ℕ) (kind : Option NameKind) (told : Bool) (texts : List (String A))
-    (h : k < length os)
-    (is_kind : kind ≡ (at os k).kind) (tells : told ≡ is_service_kind kind)
-    (so_far : map string_bytes texts ≡ services_of (take k os)) where
-  is_service : told ≡ is_service_kind (at os k).kind
-  is_service = tells ∙ ap is_service_kind is_kind
-
-  abbrev more : Bool → List (List ℕ)
-  more b = services_of (take k os) ++ map name_of (cond b (at os k ∷ []) [])
-
-  -- a service, whose name is put behind the others
-  pub services_put : (text : String A) (all : List (String A)) → told ≡ true → string_bytes text ≡ (at os k).name
-      → all ≡ texts ++ text ∷ []
-      → map string_bytes all ≡ services_of (take (k + 1) os)
-  services_put text all passes named put =
-      ap (map string_bytes) put ∙ map_push string_bytes texts text
-      ∙ ap₂ (λ (xs : List (List ℕ)) (x : List ℕ). xs ++ x ∷ []) so_far named
-      ∙ ap more (sym passes ∙ is_service) ∙ sym (services_more os k h)
-
-  pub services_passed : told ≡ false → map string_bytes texts ≡ services_of (take (k + 1) os)
-  services_passed fails = so_far ∙ sym (append-nil (services_of (take k os))) ∙ ap more (sym fails ∙ is_service)
-      ∙ sym (services_more os k h)
 
 -- a sort of texts sorts their bytes
 pub sorted_texts : {A : Type 0} (texts : List (String A))

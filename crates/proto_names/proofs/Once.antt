@@ -1,28 +1,20 @@
 -- The full name of an element has one occurrence.
+use Rattle.std.proofs.lemmas.Grind.{common_steps}
 use Rattle.std.proofs.Common.{◌≡◌, ◌∙◌, sym, ℕ, List, inl, inr, ◌⊎◌, arith, refl, ap}
 use Rattle.std.specs.Prelude.{Some, slice_get}
-use Rattle.std.proofs.lemmas.Bool.{cases_eq, cases_lt}
+use Rattle.std.proofs.lemmas.Bool.{cases_eq}
 use Rattle.std.proofs.lemmas.List.Sorted.{IsPermutation-sym}
 use Rattle.std.proofs.lemmas.Option.{same_Some, slice_get_read}
 use Rattle.proto_desc.specs.declared.file.FileDesc.{FileDesc}
 use Rattle.proto_base.specs.declared.limits.Limits.{Limits}
 use Rattle.proto_names.specs.Index.{Index, Indexes}
 use Rattle.proto_names.specs.Repeated.{AreDeclaredOnce}
-use Rattle.proto_names.specs.Occurrences.{IsNoLater, IsPackage, NoneTwice, Occurrence, occurrences}
+use Rattle.proto_names.specs.Occurrences.{Clash, IsNoLater, IsPackage, NoneTwice, Occurrence, occurrences}
 use Rattle.proto_names.proofs.Built.{none_moved}
 
 -- one of two is no later than the other
 one_no_later : (o p : Occurrence) → IsNoLater o p ⊎ IsNoLater p o
-one_no_later o p = elim (cases_lt o.file p.file) [
-  | inl less ↦ inl (inl less)
-  | inr over ↦ elim (cases_lt p.file o.file) [
-    | inl more ↦ inr (inl more)
-    | inr under ↦ elim (cases_lt p.place.offset o.place.offset) [
-      | inl behind ↦ inr (inr (omega (arith, over, under), omega (arith, behind)))
-      | inr before ↦ inl (inr (omega (arith, over, under), before))
-    ]
-  ]
-]
+one_no_later o p = grind (arith, common_steps)
 
 -- two of one name, at two positions, would clash
 alone : (os : List Occurrence) (i j : ℕ) (o p : Occurrence) → NoneTwice os → slice_get os i ≡ Some o
@@ -31,16 +23,12 @@ alone : (os : List Occurrence) (i j : ℕ) (o p : Occurrence) → NoneTwice os �
 alone os i j o p none first second same element = elim (cases_eq i j) [
   | inl one ↦ one
   | inr apart ↦ elim (one_no_later o p) [
-    | inl before ↦ absurd (none p (
-      o,
-      (i, j, apart, first, second),
-      record { same = same; no_later = before; not_packages = λ x y. element x },
-    ))
-    | inr behind ↦ absurd (none o (
-      p,
-      (j, i, (λ e. apart (sym e)), second, first),
-      record { same = sym same; no_later = behind; not_packages = λ x y. element y },
-    ))
+    | inl before ↦
+        let clash : Clash o p = record { same = same; no_later = before; not_packages = λ x y. element x } in
+        absurd (none p (o, (i, j, apart, first, second), clash))
+    | inr behind ↦
+        let clash : Clash p o = record { same = sym same; no_later = behind; not_packages = λ x y. element y } in
+        absurd (none o (p, (j, i, (λ e. apart (sym e)), second, first), clash))
   ]
 ]
 

@@ -1,5 +1,6 @@
 -- Halving among occurrences in the order of their names.
-use Rattle.std.proofs.Common.{◌≡◌, ◌≢◌, ◌∙◌, sym, ℕ, ◌+◌, ◌-◌, ◌<◌, ◌≤◌, List, [], ◌∷◌, length, take, drop, get_or, ap, refl, subst, arith, inl, inr, Ordering, Less, Equal, Greater, true, false}
+use Rattle.std.proofs.lemmas.Grind.{common_steps}
+use Rattle.std.proofs.Common.{◌≡◌, ◌≢◌, ◌∙◌, sym, ℕ, ◌+◌, ◌-◌, ◌<◌, ◌≤◌, List, [], length, take, drop, get_or, ap, arith, inl, inr, Less, Equal, true, false}
 use Rattle.std.specs.Prelude.{Contains, ◌↔◌}
 use Rattle.std.specs.List.Sorted.{IsPartitionedBy, IsPartitionPoint, IsNonDecreasingBy}
 use Rattle.std.specs.Cmp.Lexicographic.{slice_cmp}
@@ -9,9 +10,8 @@ use Rattle.std.proofs.lemmas.Cmp.{tied_itself}
 use Rattle.std.proofs.lemmas.List.Sorted.{searchable_from_sorted}
 use Rattle.std.proofs.lemmas.List.{get_or-drop, get_or-take, get_or_default, length-drop, length-take}
 use Rattle.std.proofs.lemmas.Map.Lookups.{exact_bytes}
-use Rattle.std.specs.Cmp.{Equal-is}
 use Rattle.proto_links.proofs.NameRows.{equal_itself, less_not_equal}
-use Rattle.proto_names.proofs.NameOrder.{equal_alike, name_total, same_name}
+use Rattle.proto_names.proofs.NameOrder.{equal_alike, name_total, order_tells, same_name}
 use Rattle.proto_names.specs.Starts.{IsStart, IsNowhere}
 use Rattle.proto_names.specs.Index.{name_of}
 use Rattle.proto_names.specs.Occurrences.{Occurrence}
@@ -22,130 +22,69 @@ use Rattle.proto_names.specs.Runs.{at, blank}
 itself_equal : (xs ys : List ℕ) → xs ≡ ys → name_cmp xs ys ≡ Equal
 itself_equal xs ys e = rw (← e) (tied_itself name_total xs)
 
-lt_index : (o p : Ordering) → ordering_index o ≤ ordering_index p → is_lt p ≡ true → is_lt o ≡ true
-lt_index Less p h t = refl
-lt_index Equal Less h t = absurd (omega (arith, h))
-lt_index Equal Equal h t = absurd (true≢false (sym t))
-lt_index Equal Greater h t = absurd (true≢false (sym t))
-lt_index Greater Less h t = absurd (omega (arith, h))
-lt_index Greater Equal h t = absurd (true≢false (sym t))
-lt_index Greater Greater h t = absurd (true≢false (sym t))
-
-eq_index : (o p : Ordering) → ordering_index o ≤ ordering_index p → (o ≢ Less) → is_eq p ≡ true → is_eq o ≡ true
-eq_index Less p h n t = absurd (n refl)
-eq_index Equal p h n t = refl
-eq_index Greater Less h n t = absurd (true≢false (sym t))
-eq_index Greater Equal h n t = absurd (omega (arith, h))
-eq_index Greater Greater h n t = absurd (true≢false (sym t))
-
-pub lt_less : (o : Ordering) → is_lt o ≡ true → o ≡ Less
-lt_less Less h = refl
-lt_less Equal h = absurd (true≢false (sym h))
-lt_less Greater h = absurd (true≢false (sym h))
-
-pub not_lt_less : (o : Ordering) → is_lt o ≡ false → o ≢ Less
-not_lt_less o h e = true≢false (ap is_lt (sym e) ∙ h)
-
-pub not_eq_equal : (o : Ordering) → is_eq o ≡ false → o ≢ Equal
-not_eq_equal o h e = true≢false (ap is_eq (sym e) ∙ h)
+-- what comes before a name stands before a position
+abbrev pub IsLessPoint : List ℕ → List Occurrence → ℕ → Type 0
+IsLessPoint target = IsPartitionPoint (λ e. name_cmp (name_of e) target ≡ Less)
+    (λ e. name_cmp (name_of e) target ≢ Less)
 
 module _ (os : List Occurrence) (target : List ℕ) (up : AreInHashOrder os) where
   rises : IsNonDecreasingBy (λ e. ordering_index (name_cmp (name_of e) target)) os
   rises = searchable_from_sorted name_total name_of os target up
 
   pub parted_less : IsPartitionedBy (λ e. is_lt (name_cmp (name_of e) target)) os
-  parted_less i j d h inside t = lt_index _ _ (rises i j d h inside) t
+  parted_less i j d h inside t = grind (arith, order_tells, rises i j d h inside)
 
   pub parted_equal : ((k : ℕ) (d : Occurrence) → k < length os → name_cmp (name_of (get_or os k d)) target ≢ Less)
       → IsPartitionedBy (λ e. is_eq (slice_cmp nat_cmp (name_of e) target)) os
   parted_equal behind i j d h inside t =
-      sym (equal_alike (name_of (get_or os i d)) target)
-      ∙ eq_index _ _ (rises i j d h inside) (behind i d (omega arith))
-      (equal_alike (name_of (get_or os j d)) target ∙ t)
+      grind (arith, order_tells, equal_alike, rises i j d h inside, behind i d (omega arith))
 
 pub less_point : (os : List Occurrence) (target : List ℕ) (n : ℕ)
     → IsPartitionPoint (λ e. is_lt (name_cmp (name_of e) target) ≡ true)
     (λ e. is_lt (name_cmp (name_of e) target) ≡ false) os n
-    → IsPartitionPoint (λ e. name_cmp (name_of e) target ≡ Less) (λ e. name_cmp (name_of e) target ≢ Less) os n
-less_point os target n p = (λ k d a b. lt_less _ (p.0 k d a b), λ k d a b. not_lt_less _ (p.1 k d a b))
+    → IsLessPoint target os n
+less_point os target n p = (
+  λ k d a b. grind (arith, order_tells (name_cmp (name_of (get_or os k d)) target), p.0 k d a b),
+  λ k d a b e. true≢false (sym (ap is_lt e) ∙ p.1 k d a b),
+)
 
 pub equal_point : (os : List Occurrence) (target : List ℕ) (n : ℕ)
     → IsPartitionPoint (λ e. is_eq (slice_cmp nat_cmp (name_of e) target) ≡ true)
     (λ e. is_eq (slice_cmp nat_cmp (name_of e) target) ≡ false) os n
     → IsPartitionPoint (λ e. name_of e ≡ target) (λ e. name_of e ≢ target) os n
-equal_point os target n p = (
-  λ k d a b. exact_bytes _ _ ((Equal-is _).0 (p.0 k d a b)),
-  λ k d a b e. not_eq_equal _ (p.1 k d a b) (equal_itself _ _ e),
-)
-
-lower : (o p : Ordering) → ordering_index o ≤ ordering_index p → p ≡ Equal → o ≢ Equal → is_lt o ≡ true
-lower Less p h e n = refl
-lower Equal p h e n = absurd (n refl)
-lower Greater p h e n = let h' = rw e at h in absurd (omega (arith, h'))
-
-less_lt : (o : Ordering) → o ≡ Less → is_lt o ≡ true
-less_lt o e = ap is_lt e
+equal_point os target n p = grind (arith, common_steps, true≢false, exact_bytes, equal_itself)
 
 pub named_at : (os : List Occurrence) (k : ℕ) (d : Occurrence) → k < length os
     → (at os k).name ≡ name_of (get_or os k d)
 named_at os k d h = ap name_of (get_or_default os k blank d h)
 
 -- where the first that does not come before a name has another one, none has it
-pub nowhere_is : (os : List Occurrence) (target : List ℕ) (n : ℕ) → AreInHashOrder os
-    → IsPartitionPoint (λ e. name_cmp (name_of e) target ≡ Less) (λ e. name_cmp (name_of e) target ≢ Less) os n
+pub nowhere_is : (os : List Occurrence) (target : List ℕ) (n : ℕ) → AreInHashOrder os → IsLessPoint target os n
     → ((e : Occurrence) → n < length os → e ≡ get_or os n e → name_of e ≢ target) → IsNowhere os target
-nowhere_is [] target n up p other k within same = absurd (omega (arith, within))
-nowhere_is (d ∷ os) target n up p other k within same =
-    let all : List Occurrence = d ∷ os in
-    let below : k < length all = within in
-    let equal_k : name_cmp (name_of (get_or all k d)) target ≡ Equal =
-    itself_equal _ _ (sym (named_at all k d below) ∙ same) in
-    elim (cases_lt k n) [
-      | inl before ↦ less_not_equal _ (p.0 k d (omega arith) before) equal_k
-      | inr behind ↦
-          let n_below : n < length all = omega (arith, behind, below) in
-          p.1 n d (omega arith) n_below
-          (lt_less _ (lower _ _ (rises all target up n k d behind below) equal_k
-          (λ e. other (get_or all n d) n_below (get_or_default all n d (get_or all n d) n_below) (same_name _ _ e))))
-    ]
+nowhere_is os target n up p other k within same = elim (cases_lt k n) [
+  | inl before ↦ less_not_equal _ (p.0 k blank (omega arith) before) (itself_equal _ _ same)
+  | inr behind ↦
+      let below : n < length os = omega arith in
+      other (at os n) below (get_or_default os n blank (at os n) below) (same_name _ _
+      (grind (arith, order_tells, rises os target up n k blank behind within, itself_equal _ _ same, p.1 n blank)))
+]
 
 -- where a name begins, all before it come before it
 module _ (os : List Occurrence) (target : List ℕ) (start : ℕ) (up : AreInHashOrder os)
     (is : IsStart os target start) where
-  inside : start < length os
-  inside = is.within
-
   equal : (d : Occurrence) → name_cmp (name_of (get_or os start d)) target ≡ Equal
-  equal d = itself_equal _ _ (sym (named_at os start d inside) ∙ is.named)
+  equal d = itself_equal _ _ (sym (named_at os start d is.within) ∙ is.named)
 
   differs : (d : Occurrence) → 0 < start → name_cmp (name_of (get_or os (start - 1) d)) target ≢ Equal
-  differs d some e = is.begins some (named_at os (start - 1) d (let h = inside in omega (arith, h)) ∙ same_name _ _ e
-      ∙ sym is.named)
+  differs d some e = is.begins some (named_at os (start - 1) d (omega arith) ∙ same_name _ _ e ∙ sym is.named)
 
-  before : (k : ℕ) (d : Occurrence) → k < start → name_cmp (name_of (get_or os k d)) target ≡ Less
-  before k d h =
-      let in_ = inside in
-      let next : start - 1 ≤ start = omega arith in
-      let last = lower _ _ (rises os target up (start - 1) start d next in_) (equal d) (differs d (omega (arith, h))) in
-      lt_less _ (parted_less os target up k (start - 1) d (omega (arith, h)) (omega (arith, h, in_)) last)
-
-  behind : (k : ℕ) (d : Occurrence) → start ≤ k → k < length os → name_cmp (name_of (get_or os k d)) target ≢ Less
-  behind k d h below less = less_not_equal _ (lt_less _ (parted_less os target up start k d h below (less_lt _ less)))
-      (equal d)
-
-  pub start_point : IsPartitionPoint (λ e. name_cmp (name_of e) target ≡ Less)
-      (λ e. name_cmp (name_of e) target ≢ Less) os start
-  start_point = (λ k d a b. before k d b, λ k d a b. behind k d a b)
-
-  pub start_below : start < length os
-  start_below = inside
-
-pub start_named : (os : List Occurrence) (target : List ℕ) (start : ℕ) → IsStart os target start → start < length os
-    → (d : Occurrence)
-    → name_of (get_or (drop start os) 0 d) ≡ target
-start_named os target start is below d =
-    let back : start + 0 ≡ start = omega arith in
-    ap name_of (get_or-drop start os 0 d ∙ ap (λ k. get_or os k d) back) ∙ sym (named_at os start d below) ∙ is.named
+  pub start_point : IsLessPoint target os start
+  start_point = (
+    λ k d a b. (let last = rises os target up (start - 1) start d (omega arith) is.within in
+        let here = rises os target up k (start - 1) d (omega arith) (omega arith) in
+        grind (arith, order_tells, here, last, equal d, differs d (omega arith))),
+    λ k d a b. grind (arith, order_tells, rises os target up start k d a b, equal d),
+  )
 
 -- where the second has another name than the first, the first is alone
 pub one_point : (os : List Occurrence) (target : List ℕ) → AreInHashOrder os
@@ -154,9 +93,9 @@ pub one_point : (os : List Occurrence) (target : List ℕ) → AreInHashOrder os
     → ((d : Occurrence) → 1 < length os → name_of (get_or os 1 d) ≢ target)
     → IsPartitionPoint (λ e. name_of e ≡ target) (λ e. name_of e ≢ target) os 1
 one_point os target up behind first second = (
-  λ k d a b. (let zeroth : 0 ≡ k = omega arith in subst (λ i. name_of (get_or os i d) ≡ target) zeroth (first d)),
-  λ k d a b e. second d (omega (arith, a, b))
-      (exact_bytes _ _ ((Equal-is _).0 (parted_equal os target up behind 1 k d a b (ap is_eq (equal_itself _ _ e))))),
+  λ k d a b. (let zeroth : k ≡ 0 = omega arith in rw zeroth (first d)),
+  λ k d a b e. second d (omega arith) (same_name _ _
+      (grind (arith, order_tells, rises os target up 1 k d a b, behind 1 d (omega arith), itself_equal _ _ e))),
 )
 
 nothing : (e : Occurrence) → Contains {X = Occurrence} [] e → ⊥
@@ -165,46 +104,23 @@ nothing e (k, h, is) = omega (arith, h)
 -- of a name that stands nowhere there is nothing
 pub none_is : (os : List Occurrence) (target : List ℕ) → IsNowhere os target → (e : Occurrence)
     → Contains {X = Occurrence} [] e ↔ (Contains os e × (name_of e ≡ target))
-none_is os target none e = (
-  λ w. absurd (nothing e w),
-  λ w. absurd (none w.0.0 w.0.1 (named_at os w.0.0 e w.0.1 ∙ ap name_of w.0.2 ∙ w.1)),
-)
-
--- what is behind a place is in order too
-pub drop_sorted : (os : List Occurrence) (n : ℕ) → n ≤ length os → AreInHashOrder os → AreInHashOrder (drop n os)
-drop_sorted os n h up k d low inside =
-    let room : n + k + 1 < length os = (let l = length-drop n os in omega (arith, l, inside)) in
-    let at : n + (k + 1) ≡ n + k + 1 = omega arith in
-    rw (get_or-drop n os (k + 1) d, get_or-drop n os k d, at) (up (n + k) d (omega arith) room)
+none_is os target none e = grind (arith, common_steps, named_at, nothing)
 
 pub drop_behind : (os : List Occurrence) (target : List ℕ) (n : ℕ) → n ≤ length os
-    → IsPartitionPoint (λ e. name_cmp (name_of e) target ≡ Less) (λ e. name_cmp (name_of e) target ≢ Less) os n
-    → (k : ℕ) (d : Occurrence) → k < length (drop n os) → name_cmp (name_of (get_or (drop n os) k d)) target ≢ Less
-drop_behind os target n h p k d inside =
-    let l = length-drop n os in
-    subst (λ (e : Occurrence). name_cmp (name_of e) target ≢ Less) (sym (get_or-drop n os k d))
-    (p.1 (n + k) d (omega arith) (omega (arith, l, inside)))
+    → IsLessPoint target os n → (k : ℕ) (d : Occurrence) → k < length (drop n os) → name_cmp (name_of (get_or (drop n os) k d)) target ≢ Less
+drop_behind os target n h p k d inside = grind (arith, common_steps, get_or-drop, length-drop, inside)
 
 -- the run of a name
 module _ (os : List Occurrence) (target : List ℕ) (n m : ℕ) (h : n ≤ length os) (g : m ≤ length (drop n os))
-    (before : IsPartitionPoint (λ e. name_cmp (name_of e) target ≡ Less) (λ e. name_cmp (name_of e) target ≢ Less) os n)
+    (before : IsLessPoint target os n)
     (same : IsPartitionPoint (λ e. name_of e ≡ target) (λ e. name_of e ≢ target) (drop n os) m) where
   run_found : (e : Occurrence) → Contains (take m (drop n os)) e → Contains os e × (name_of e ≡ target)
-  run_found e (k, inside, is) =
-      let l = length-take m (drop n os) in
-      let l' = length-drop n os in
-      let low : k < m = omega (arith, l, inside) in
-      let at : get_or (drop n os) k e ≡ e = sym (get_or-take m (drop n os) k e low) ∙ is in (
-        (n + k, omega (arith, l', low, g), sym (get_or-drop n os k e) ∙ at),
-        subst (λ (x : Occurrence). name_of x ≡ target) at (same.0 k e (omega arith) low),
-      )
+  run_found e (k, inside, is) = grind (arith, common_steps, get_or-drop, get_or-take, length-drop, length-take, inside)
 
   run_all : (e : Occurrence) → Contains os e → name_of e ≡ target → Contains (take m (drop n os)) e
   run_all e (j, inside, is) name = elim (cases_lt j n) [
     | inl less ↦
-        absurd (less_not_equal _
-        (subst (λ (x : Occurrence). name_cmp (name_of x) target ≡ Less) is (before.0 j e (omega arith) less))
-        (itself_equal (name_of e) target name))
+        absurd (less_not_equal _ (rw is at (before.0 j e (omega arith) less)) (itself_equal (name_of e) target name))
     | inr over ↦ (
         let l = length-take m (drop n os) in
         let l' = length-drop n os in

@@ -1,5 +1,6 @@
 -- Occurrences in shares: together they are all, and what is twice is twice in one of them.
-use Rattle.std.proofs.Common.{◌≡◌, ◌∙◌, sym, ap, subst, refl, ℕ, zero, suc, ◌+◌, ◌<◌, ◌≤◌, Bool, true, List, [], ◌∷◌, ◌++◌, length, take, cond, arith}
+use Rattle.std.proofs.lemmas.Grind.{common_steps}
+use Rattle.std.proofs.Common.{◌≡◌, ◌∙◌, sym, subst, ℕ, zero, suc, ◌+◌, ◌<◌, ◌≤◌, Bool, true, List, [], ◌∷◌, ◌++◌, length, take, cond, arith}
 use Rattle.std.specs.Prelude.{◌==◌, Some, filter, slice_get}
 use Rattle.std.proofs.lemmas.Bool.{eq-eqb}
 use Rattle.std.proofs.lemmas.List.Elements.{filter_more}
@@ -8,7 +9,7 @@ use Rattle.std.proofs.lemmas.Option.{slice_get_within}
 use Rattle.share_work.specs.Shares.{GivesItems}
 use Rattle.share_work.proofs.Together.{get_there}
 use Rattle.proto_names.specs.Occurrences.{Occurrence}
-use Rattle.proto_names.specs.Runs.{at, blank}
+use Rattle.proto_names.specs.Runs.{at}
 use Rattle.proto_names.specs.Shares.{AreAllShares, AreSharesOf, IsSortedOf, share_at, share_of}
 use Rattle.proto_names.specs.declared.share.Share.{Share}
 use Rattle.proto_names.specs.declared.sorted.SortedShare.{SortedShare}
@@ -19,21 +20,14 @@ use Rattle.proto_names.specs.declared.sorted.SortedShare.{SortedShare}
 pub share_more : (count position k : ℕ) (os : List Occurrence) (told : Bool) → k < length os
     → told ≡ (share_at count (at os k) == position)
     → share_of count position (take (k + 1) os) ≡ share_of count position (take k os) ++ cond told (at os k ∷ []) []
-share_more count position k os told below is =
-    filter_more (λ o. share_at count o == position) os k blank below
-    ∙ ap (λ (b : Bool). share_of count position (take k os) ++ cond b (at os k ∷ []) []) (sym is)
+share_more count position k os told below is = grind (arith, common_steps, filter_more)
 
 pub share_few : (count position : ℕ) (os : List Occurrence) → length (share_of count position os) ≤ length os
-share_few count position os =
-    let p : Occurrence → Bool = λ o. share_at count o == position in
-    let same = length-filter p os in
-    let few = count_by-le-length p os in
-    omega (arith, same, few)
+share_few count position os = grind (arith, common_steps, count_by-le-length, length-filter)
 
 kept_all : (p : Occurrence → Bool) (os : List Occurrence) → ((o : Occurrence) → p o ≡ true) → filter p os ≡ os
-kept_all p [] all = refl
-kept_all p (o ∷ os) all = ap (λ (b : Bool). cond b (o ∷ filter p os) (filter p os)) (all o)
-    ∙ ap (λ (ps : List Occurrence). o ∷ ps) (kept_all p os all)
+kept_all p [] all = grind (arith, common_steps)
+kept_all p (o ∷ os) all = grind (arith, common_steps, (kept_all p os all))
 
 -- one share has all
 pub one_share : (os : List Occurrence) → share_of 1 0 os ≡ os

@@ -1,6 +1,7 @@
 -- Entries and the occurrences that they stand for.
-use Rattle.std.proofs.Common.{◌≡◌, ◌∙◌, sym, ap, ap₂, ℕ, ◌+◌, ◌<◌, ◌≤◌, List, length, get_or, take, drop, map, min, arith, true, false, Bool, Ordering, Bor}
-use Rattle.std.specs.Prelude.{IsSorted, IsSortedBy, IsUtf8}
+use Rattle.std.proofs.lemmas.Grind.{common_steps}
+use Rattle.std.proofs.Common.{◌≡◌, ◌∙◌, sym, ap, ℕ, ◌+◌, ◌<◌, ◌≤◌, List, length, get_or, map, arith, true, false, Bool, Ordering, Bor}
+use Rattle.std.specs.Prelude.{IsSorted, IsSortedBy}
 use Rattle.std.specs.Cmp.{IsTotalOrder, IsStrictWeakOrder}
 use Rattle.std.specs.Cmp.Lexicographic.{slice_cmp}
 use Rattle.std.specs.Fn.{Called, ComparesAs, Mut}
@@ -8,24 +9,16 @@ use Rattle.std.specs.List.Sorted.{IsPartitionedBy, IsPartitionPoint}
 use Rattle.std.specs.Ordering.{nat_cmp, is_lt, ordering_then}
 use Rattle.std.proofs.lemmas.Cmp.{nat_cmp_total, nat_list_cmp_total, on_total, then_total}
 use Rattle.std.proofs.lemmas.Fn.{always_returns_same}
-use Rattle.std.proofs.lemmas.List.{get_or-map, length-map, take_min, drop_min}
+use Rattle.std.proofs.lemmas.List.{get_or-map, length-map}
 use Rattle.std.proofs.lemmas.List.MinMax.{ranks_by}
 use Rattle.proto_names.specs.Entries.{name_at, occurrence, AreEntriesOf}
 use Rattle.proto_names.specs.Hashes.{hash_of}
 use Rattle.proto_names.specs.Occurrences.{Occurrence}
-use Rattle.proto_names.specs.Order.{AreInOrder, name_cmp, occurrence_cmp, entry_cmp, location_of}
+use Rattle.proto_names.specs.Order.{AreInOrder, name_cmp, occurrence_cmp, entry_cmp}
 use Rattle.proto_names.specs.Runs.{at, blank}
 use Rattle.proto_names.specs.declared.entry.Entry.{Entry}
 use Rattle.proto_names.proofs.Comparing.{then_then}
 use Rattle.proto_names.proofs.Occurring.{first_of}
-
--- a part of a text, cut short where the text ends
-pub name_cut : (text behind part : List ℕ) (start len m n : ℕ) → m ≡ min start (length text) → behind ≡ drop m text
-    → n ≡ min len (length behind)
-    → part ≡ take n behind → part ≡ take len (drop start text)
-name_cut text behind part start len m n first at_first size cut =
-    cut ∙ ap (λ (k : ℕ). take k behind) size ∙ take_min len behind
-    ∙ ap (take len) (at_first ∙ ap (λ (k : ℕ). drop k text) first ∙ drop_min start text)
 
 -- ---- what stands at a position
 
@@ -40,54 +33,38 @@ module _ (text : List ℕ) (es : List Entry) (os : List Occurrence) (view : map 
   pub name_here : (d : Entry) → name_at text (get_or es k d) ≡ (at os k).name
   name_here d = ap (λ (o : Occurrence). o.name) (at_entry d)
 
-  pub location_here : (d : Entry) → (get_or es k d).location ≡ location_of (at os k)
-  location_here d = ap location_of (at_entry d)
-
-  pub kind_here : (d : Entry) → (get_or es k d).kind ≡ (at os k).kind
-  kind_here d = ap (λ (o : Occurrence). o.kind) (at_entry d)
-
   pub hash_here : AreEntriesOf text es → (d : Entry) → (get_or es k d).hash ≡ hash_of (at os k).name
   hash_here of d = (of k d entry_below).hashed ∙ ap hash_of (name_here d)
-
-  -- what reads as the entry's name, where it is text
-  pub text_here : AreEntriesOf text es → (d : Entry) (read : List ℕ)
-      → (IsUtf8 (name_at text (get_or es k d)) → read ≡ name_at text (get_or es k d))
-      → read ≡ (at os k).name
-  text_here of d read lossy = lossy (of k d entry_below).is_text ∙ name_here d
 
 -- ---- tests of entries, and of what they stand for
 
 module _ (text : List ℕ) (es : List Entry) (p : Entry → Bool) (q : Occurrence → Bool)
     (same : (k : ℕ) (d : Entry) → k < length es → p (get_or es k d) ≡ q (occurrence text (get_or es k d))) where
+  at_map : (k : ℕ) (d : Entry) (o : Occurrence) → k < length es
+      → q (get_or (map (occurrence text) es) k o) ≡ p (get_or es k d)
+  at_map k d o h = ap q (get_or-map (occurrence text) es k d o h) ∙ sym (same k d h)
+
   pub parted_entries : IsPartitionedBy q (map (occurrence text) es) → IsPartitionedBy p es
   parted_entries parted i j d h inside t =
-      let l = length-map es (occurrence text) in
-      let low : i < length es = omega (arith, h, inside) in
-      let high : j < length (map (occurrence text) es) = omega (arith, l, inside) in
       let o = occurrence text d in
-      same i d low ∙ ap q (sym (get_or-map (occurrence text) es i d o low))
-      ∙ parted i j o h high (ap q (get_or-map (occurrence text) es j d o inside) ∙ sym (same j d inside) ∙ t)
+      sym (at_map i d o (omega arith))
+      ∙ parted i j o h (omega (arith, length-map es (occurrence text))) (at_map j d o inside ∙ t)
 
   pub point_occurrences : (n : ℕ) → n ≤ length es → IsPartitionPoint (λ e. p e ≡ true) (λ e. p e ≡ false) es n
       → IsPartitionPoint (λ o. q o ≡ true) (λ o. q o ≡ false) (map (occurrence text) es) n
-  point_occurrences n bound point =
-      let l = length-map es (occurrence text) in (
-        λ k o a b. (let below : k < length es = omega (arith, b, bound) in
-            let e = first_of es k below in
-            ap q (get_or-map (occurrence text) es k e o below) ∙ sym (same k e below) ∙ point.0 k e a b),
-        λ k o a b. (let below : k < length es = omega (arith, b, l) in
-            let e = first_of es k below in
-            ap q (get_or-map (occurrence text) es k e o below) ∙ sym (same k e below) ∙ point.1 k e a below),
-      )
+  point_occurrences n bound point = (
+    λ k o a b. (let below : k < length es = omega arith in
+        let e = first_of es k below in at_map k e o below ∙ point.0 k e a b),
+    λ k o a b. (let below : k < length es = omega (arith, length-map es (occurrence text)) in
+        let e = first_of es k below in at_map k e o below ∙ point.1 k e a below),
+  )
 
 -- an entry's order by its hash and its name is that of its name
 pub name_order : (text : List ℕ) (es : List Entry) (target : List ℕ) (hash k : ℕ) (d : Entry) → k < length es
     → AreEntriesOf text es → hash ≡ hash_of target
     → ordering_then (nat_cmp (get_or es k d).hash hash) (slice_cmp nat_cmp (name_at text (get_or es k d)) target)
     ≡ name_cmp (name_at text (get_or es k d)) target
-name_order text es target hash k d h of is =
-    ap₂ (λ (a b : ℕ). ordering_then (nat_cmp a b) (slice_cmp nat_cmp (name_at text (get_or es k d)) target))
-    (of k d h).hashed is
+name_order text es target hash k d h of is = grind (arith, common_steps)
 
 -- ---- the order of entries
 
@@ -111,26 +88,16 @@ sorted_by {g = g} {f = f} text es up h =
 
 same_order : (text : List ℕ) (a b : Entry) → a.hash ≡ hash_of (name_at text a) → b.hash ≡ hash_of (name_at text b)
     → entry_cmp text a b ≡ occurrence_cmp (occurrence text a) (occurrence text b)
-same_order text a b first second =
-    let names = slice_cmp nat_cmp (name_at text a) (name_at text b) in
-    let locations = ordering_then (nat_cmp a.location.file b.location.file)
-    (nat_cmp a.location.place.offset b.location.place.offset) in
-    ap₂ (λ (x y : ℕ). ordering_then (nat_cmp x y) (ordering_then names locations)) first second
-    ∙ then_then (nat_cmp (hash_of (name_at text a)) (hash_of (name_at text b))) names locations
+same_order text a b first second = grind (arith, common_steps, then_then)
 
 -- a sort of entries sorts what they stand for
 pub sorted_occurrences : (text : List ℕ) (es : List Entry) → AreEntriesOf text es → IsSorted (entry_cmp text) es
     → AreInOrder (map (occurrence text) es)
 sorted_occurrences text es of up k d low inside =
-    let l = length-map es (occurrence text) in
-    let room : k + 1 < length es = omega (arith, l, inside) in
-    let under : k < length es = omega (arith, room) in
+    let room : k + 1 < length es = omega (arith, length-map es (occurrence text)) in
     let e = first_of es (k + 1) room in
-    let a = get_or es (k + 1) e in
-    let b = get_or es k e in
-    let here : get_or (map (occurrence text) es) k d ≡ occurrence text b =
-    get_or-map (occurrence text) es k e d under in
-    let next : get_or (map (occurrence text) es) (k + 1) d ≡ occurrence text a =
-    get_or-map (occurrence text) es (k + 1) e d room in
-    ap₂ (λ (x y : Occurrence). is_lt (occurrence_cmp x y)) next here
-    ∙ ap is_lt (sym (same_order text a b (of (k + 1) e room).hashed (of k e under).hashed)) ∙ up k e low room
+    rw (
+      get_or-map (occurrence text) es k e d (omega arith),
+      get_or-map (occurrence text) es (k + 1) e d room,
+      ← same_order text (get_or es (k + 1) e) (get_or es k e) (of (k + 1) e room).hashed (of k e (omega arith)).hashed,
+    ) (up k e low room)

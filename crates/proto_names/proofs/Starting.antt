@@ -1,6 +1,7 @@
 -- Slots of hashes: they follow the order of occurrences, where they begin, and what stands in one.
-use Rattle.std.proofs.Common.{◌≡◌, ◌≢◌, ◌∙◌, sym, ℕ, ◌+◌, ◌-◌, ◌*◌, ◌<◌, ◌≤◌, List, ◌++◌, length, get_or, ap, subst, refl, arith, inl, inr}
-use Rattle.std.specs.Prelude.{◌==◌, nat_lt, replicate}
+use Rattle.std.proofs.lemmas.Grind.{common_steps}
+use Rattle.std.proofs.Common.{◌≡◌, ◌≢◌, ◌∙◌, ℕ, ◌+◌, ◌-◌, ◌<◌, ◌≤◌, List, ◌++◌, length, get_or, ap, arith, inl, inr}
+use Rattle.std.specs.Prelude.{replicate}
 use Rattle.std.specs.Ordering.{is_lt}
 use Rattle.std.proofs.Math.ListN.{get_or-append}
 use Rattle.std.proofs.Math.Nat.{div-mul-le_self, mul-le-mul_right}
@@ -15,26 +16,21 @@ use Rattle.proto_names.specs.Index.{name_of}
 use Rattle.proto_names.specs.Occurrences.{Occurrence}
 use Rattle.proto_names.specs.Order.{AreInHashOrder, name_cmp}
 use Rattle.proto_names.specs.Runs.{at, blank}
-use Rattle.proto_names.specs.Starts.{AreStarts, BeginsSlot, IsNowhere, IsStart, slot_at, slot_of}
+use Rattle.proto_names.specs.Starts.{AreStarts, BeginsSlot, slot_at, slot_of}
 use Rattle.proto_names.proofs.NameOrder.{name_total}
-use Rattle.proto_names.proofs.Ordered.{first_not, last_case}
+use Rattle.proto_names.proofs.Ordered.{first_not, not_below}
 
 -- ---- slots follow the order
 
 slots_up : (count a b : ℕ) → a ≤ b → slot_of count a ≤ slot_of count b
-slots_up count a b h =
-    let low = div-mul-le_self (a * count) 4294967296 in
-    let more = mul-le-mul_right count h in
-    le-div (slot_of count a) (b * count) 4294967296 (omega arith) (omega (arith, low, more))
+slots_up count a b h = grind (arith, common_steps, div-mul-le_self, mul-le-mul_right, le-div)
 
 hashes_rise : (os : List Occurrence) → AreInHashOrder os → (i j : ℕ) → i ≤ j → j < length os
     → hash_of (at os i).name ≤ hash_of (at os j).name
 hashes_rise os up i j h below =
-    let a = hash_of (at os i).name in
-    let b = hash_of (at os j).name in
     let far = sorted_far (λ x y. is_lt (name_cmp (name_of x) (name_of y)))
     (ranks_by name_total name_of) os up i j blank h below in
-    last_case b a (nat_lt b a) (b == a) refl refl (first_not _ _ far)
+    not_below (hash_of (at os j).name) (hash_of (at os i).name) (first_not _ _ far)
 
 pub slots_rise : (os : List Occurrence) (count : ℕ) → AreInHashOrder os → (i j : ℕ) → i ≤ j → j < length os
     → slot_at os count i ≤ slot_at os count j
@@ -53,22 +49,19 @@ module _ (os : List Occurrence) (count n : ℕ) (old : List ℕ) (size : ℕ) wh
   longer = old ++ replicate (size - length old) n
 
   longer_length : length longer ≡ length old + (size - length old)
-  longer_length = length-append old (replicate (size - length old) n)
-      ∙ ap (λ m. length old + m) (length-replicate (size - length old) n)
+  longer_length = grind (arith, common_steps, length-append, length-replicate)
 
   longer_each : ((s : ℕ) → s < length old → BeginsSlot os count s (get_or old s 0))
       → ((s : ℕ) → length old ≤ s → s < size → BeginsSlot os count s n)
       → (s : ℕ) → s < length longer → BeginsSlot os count s (get_or longer s 0)
   longer_each before new s h = elim (cases_lt s (length old)) [
-    | inl less ↦ subst (BeginsSlot os count s) (sym (get_or-append old (replicate (size - length old) n) 0 s less))
-        (before s less)
+    | inl less ↦ rw (get_or-append old (replicate (size - length old) n) 0 s less) (before s less)
     | inr over ↦ (
-        let long = longer_length in
-        let inside : s - length old < size - length old = omega (arith, h, long, over) in
-        subst (BeginsSlot os count s)
-        (sym (get_or-append_right old (replicate (size - length old) n) s 0 over
-        ∙ get_or-replicate (size - length old) (s - length old) n 0 inside))
-        (new s over (omega (arith, inside, over))))
+        let inside : s - length old < size - length old = omega (arith, longer_length) in
+        rw (
+          get_or-append_right old (replicate (size - length old) n) s 0 over,
+          get_or-replicate (size - length old) (s - length old) n 0 inside,
+        ) (new s over (omega arith)))
   ]
 
 pub starts_more : (os : List Occurrence) (count n slot : ℕ) (old new : List ℕ) → AreInHashOrder os → n < length os
@@ -78,18 +71,15 @@ starts_more os count n slot old new up below is few made so_far =
     let long : length new ≡ length old + (slot + 1 - length old) =
     ap length made ∙ longer_length os count n old (slot + 1) in
     record {
-      within = (let w = so_far.within in omega (arith, long, w, few));
+      within = omega arith;
       each = rw made (longer_each os count n old (slot + 1) so_far.each (λ s over under. record {
-        within = omega (arith, below);
-        before = λ k h. (let f = so_far.filled k h in omega (arith, f, over));
-        behind = λ k h g. (let r = slots_rise os count up n k h g in omega (arith, r, is, under));
+        within = omega arith;
+        before = λ k h. omega (arith, so_far.filled k h);
+        behind = λ k h g. omega (arith, slots_rise os count up n k h g);
       }));
       filled = λ k h. (elim (cases_lt k n) [
-        | inl less ↦ (let f = so_far.filled k less in omega (arith, f, long))
-        | inr over ↦ (
-            let same : n ≡ k = omega (arith, over, h) in
-            let here : slot_at os count k ≡ slot = ap (slot_at os count) (sym same) ∙ sym is in
-            omega (arith, here, long))
+        | inl less ↦ omega (arith, so_far.filled k less)
+        | inr over ↦ (let same : k ≡ n = omega arith in rw same (omega arith))
       ]);
     }
 
@@ -98,55 +88,19 @@ pub starts_whole : (os : List Occurrence) (count n all : ℕ) (old new : List �
     → count < 4294967296 → new ≡ old ++ replicate (count + 1 - length old) all → StartsTo os count n old
     → AreStarts os new
 starts_whole os count n all old new whole is some few made so_far =
-    let w = so_far.within in
     let long : length new ≡ length old + (count + 1 - length old) =
     ap length made ∙ longer_length os count all old (count + 1) in
-    let size : count ≡ length new - 1 = omega (arith, long, w) in
     let found : (s : ℕ) → s < length new → BeginsSlot os count s (get_or new s 0) =
     rw made (longer_each os count all old (count + 1) so_far.each (λ s over under. record {
-      within = omega (arith, is);
-      before = λ k h. (let f = so_far.filled k (omega (arith, h, whole, is)) in omega (arith, f, over));
-      behind = λ k h g. absurd (omega (arith, h, g, is));
+      within = omega arith;
+      before = λ k h. omega (arith, so_far.filled k (omega arith));
+      behind = λ k h g. absurd (omega arith);
     })) in
-    record {
-      some = omega (arith, long, w, some);
-      few = omega (arith, long, w, few);
-      each = λ s h. subst (λ c. BeginsSlot os c s (get_or new s 0)) size (found s h);
-    }
+    let size : length new - 1 ≡ count = omega (arith, so_far.within) in
+    record { some = omega (arith, so_far.within); few = omega (arith, so_far.within); each = rw size found }
 
 -- ---- looking through a slot
 
 -- none of the first n has this name
 abbrev pub NoneBefore : List Occurrence → List ℕ → ℕ → Type 0
 NoneBefore os name n = (k : ℕ) → k < n → (at os k).name ≢ name
-
-named_slot : (os : List Occurrence) (count slot : ℕ) (name : List ℕ) (k : ℕ) → slot ≡ slot_of count (hash_of name)
-    → (at os k).name ≡ name → slot_at os count k ≡ slot
-named_slot os count slot name k is same = ap (λ b. slot_of count (hash_of b)) same ∙ sym is
-
-pub none_before_slot : (os : List Occurrence) (count slot start : ℕ) (name : List ℕ)
-    → slot ≡ slot_of count (hash_of name)
-    → BeginsSlot os count slot start → NoneBefore os name start
-none_before_slot os count slot start name is begins k h same =
-    let low = begins.before k h in
-    let here = named_slot os count slot name k is same in
-    omega (arith, low, here)
-
-pub none_at_all : (os : List Occurrence) (count slot end n : ℕ) (name : List ℕ) → slot ≡ slot_of count (hash_of name)
-    → BeginsSlot os count (slot + 1) end → end ≤ n → NoneBefore os name n → IsNowhere os name
-none_at_all os count slot end n name is next past none k h same = elim (cases_lt k n) [
-  | inl less ↦ none k less same
-  | inr over ↦ (
-      let high = next.behind k (omega (arith, past, over)) h in
-      let here = named_slot os count slot name k is same in
-      absurd (omega (arith, high, here)))
-]
-
-pub starts_here : (os : List Occurrence) (name : List ℕ) (k : ℕ) → k < length os → (at os k).name ≡ name
-    → NoneBefore os name k
-    → IsStart os name k
-starts_here os name k below named none = record {
-  within = below;
-  named = named;
-  begins = λ some same. none (k - 1) (omega (arith, some)) (same ∙ named);
-}

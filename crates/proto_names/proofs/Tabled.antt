@@ -1,19 +1,17 @@
 -- What stands in the tables of shares, one after the other.
-use Rattle.std.proofs.Common.{◌≡◌, ◌∙◌, sym, ap, ap₂, subst, refl, ℕ, zero, suc, ◌+◌, ◌-◌, ◌%◌, ◌<◌, ◌≤◌, ◌≢◌, Bool, true, false, not, List, [], ◌∷◌, ◌++◌, length, map, take, get_or, cond, length-append, arith, inl, inr}
+use Rattle.std.proofs.lemmas.Grind.{common_steps}
+use Rattle.std.proofs.Common.{◌≡◌, ◌∙◌, sym, ap, refl, ℕ, zero, suc, ◌+◌, ◌-◌, ◌%◌, ◌<◌, ◌≤◌, Bool, true, not, List, [], ◌∷◌, ◌++◌, length, map, take, get_or, length-append, arith, inl, inr}
 use Rattle.std.specs.Option.{option_map}
 use Rattle.std.specs.Prelude.{◌==◌, All, Contains, IsPermutation, MatchOption, Option, None, Some, filter, flat_map, slice_get}
-use Rattle.std.proofs.lemmas.Bool.{cases_lt, eq-eqb, eqb-true, not-true, true≢false}
-use Rattle.std.proofs.lemmas.List.{append-nil, get_or_append_left, length-map, map-append}
-use Rattle.std.proofs.lemmas.List.Elements.{All-filter, All-head, filter-append, filter_passes}
+use Rattle.std.proofs.lemmas.Bool.{cases_lt, eqb-true, eqb-false, ne_eqb, not_from_false, not-true}
+use Rattle.std.proofs.lemmas.List.{append-nil, length-map, map-append}
+use Rattle.std.proofs.lemmas.List.Elements.{All-filter, filter-append, filter_passes}
 use Rattle.std.proofs.lemmas.List.Sorted.{All-permutation, IsPermutation-append, IsPermutation-filter_both, IsPermutation-refl, IsPermutation-trans}
 use Rattle.std.proofs.lemmas.Nat.{mod_below}
 use Rattle.std.proofs.lemmas.Option.{get_or_from_slice_get, slice_get-get_or, slice_get-map, slice_get_within}
-use Rattle.std.proofs.Math.Seq.{get_or-append-add}
-use Rattle.proto_base.specs.declared.place.Place.{Place}
 use Rattle.proto_names.specs.Hashes.{hash_of}
-use Rattle.proto_names.specs.Index.{is_service_kind, name_of, services_of}
-use Rattle.proto_names.specs.Occurrences.{Occurrence, IsTwice, NoneTwice}
-use Rattle.proto_names.specs.Order.{NoLater, location_of}
+use Rattle.proto_names.specs.Index.{services_of}
+use Rattle.proto_names.specs.Occurrences.{Occurrence, IsNoLater, IsTwice, NoneTwice}
 use Rattle.proto_names.specs.Repeated.{IsFirstTwice}
 use Rattle.proto_names.specs.Shares.{AreInShares, AreSharesOf, IsEarliest, all_of, share_at, services_in, share_of, table_of, twice_of}
 use Rattle.proto_names.specs.declared.entry.Location.{Location}
@@ -46,34 +44,15 @@ pub in_map : {X Y : Type 0} (f : X → Y) (xs : List X) (k : ℕ) (x : X) → sl
     → slice_get (map f xs) k ≡ Some (f x)
 in_map f xs k x at = slice_get-map f xs k ∙ ap (option_map f) at
 
-module _ {X : Type 0} (p q : List X) where
-  low : (n : ℕ) (x : X) → n < length p → slice_get (p ++ q) n ≡ Some x → slice_get p n ≡ Some x
-  low n x less at = slice_get-get_or p n x less
-      ∙ ap Some (sym (get_or_append_left p q x n less) ∙ get_or_from_slice_get (p ++ q) n x x at)
+pub low : {X : Type 0} (p q : List X) (n : ℕ) → n < length p → slice_get (p ++ q) n ≡ slice_get p n
+low [] q n less = absurd (omega arith)
+low (x ∷ p) q zero less = refl
+low (x ∷ p) q (suc n) less = low p q n (omega arith)
 
-  low_back : (n : ℕ) (x : X) → slice_get p n ≡ Some x → slice_get (p ++ q) n ≡ Some x
-  low_back n x at =
-      let less = slice_get_within p n x at in
-      let long = length-append p q in
-      slice_get-get_or (p ++ q) n x (omega (arith, long, less))
-      ∙ ap Some (get_or_append_left p q x n less ∙ get_or_from_slice_get p n x x at)
-
-  high : (n : ℕ) (x : X) → length p ≤ n → slice_get (p ++ q) n ≡ Some x → slice_get q (n - length p) ≡ Some x
-  high n x over at =
-      let m = n - length p in
-      let long = length-append p q in
-      let same : length p + m ≡ n = omega (arith, over) in
-      let inside = slice_get_within (p ++ q) n x at in
-      slice_get-get_or q m x (omega (arith, long, over, inside))
-      ∙ ap Some (sym (get_or-append-add p q m x) ∙ ap (λ i. get_or (p ++ q) i x) same
-      ∙ get_or_from_slice_get (p ++ q) n x x at)
-
-  high_back : (m : ℕ) (x : X) → slice_get q m ≡ Some x → slice_get (p ++ q) (length p + m) ≡ Some x
-  high_back m x at =
-      let less = slice_get_within q m x at in
-      let long = length-append p q in
-      slice_get-get_or (p ++ q) (length p + m) x (omega (arith, long, less))
-      ∙ ap Some (get_or-append-add p q m x ∙ get_or_from_slice_get q m x x at)
+pub high : {X : Type 0} (p q : List X) (n m : ℕ) → n ≡ length p + m → slice_get (p ++ q) n ≡ slice_get q m
+high [] q n m is = ap (slice_get q) (omega arith)
+high (x ∷ p) q zero m is = absurd (omega arith)
+high (x ∷ p) q (suc n) m is = high p q n m (omega arith)
 
 -- how many stand before a table
 abbrev pub before : List (List Occurrence) → ℕ → ℕ
@@ -82,17 +61,10 @@ before tables k = length (all_of (take k tables))
 pub within_all : (tables : List (List Occurrence)) (k j : ℕ) (os : List Occurrence) (o : Occurrence)
     → slice_get tables k ≡ Some os
     → slice_get os j ≡ Some o → slice_get (all_of tables) (before tables k + j) ≡ Some o
-within_all [] k j os o at here = let none = slice_get_within [] k os at in absurd (omega (arith, none))
-within_all (t ∷ ts) zero j os o at here =
-    let same : t ≡ os = cc in
-    let place : j ≡ before (t ∷ ts) 0 + j = omega arith in
-    subst (λ n. slice_get (t ++ all_of ts) n ≡ Some o) place
-    (low_back t (all_of ts) j o (subst (λ us. slice_get us j ≡ Some o) (sym same) here))
+within_all [] k j os o at here = grind (arith, common_steps, slice_get_within, at)
+within_all (t ∷ ts) zero j os o at here = grind (arith, common_steps, slice_get_within, low, at, here)
 within_all (t ∷ ts) (suc k) j os o at here =
-    let size = length-append t (all_of (take k ts)) in
-    let place : length t + (before ts k + j) ≡ before (t ∷ ts) (suc k) + j = omega (arith, size) in
-    subst (λ n. slice_get (t ++ all_of ts) n ≡ Some o) place
-    (high_back t (all_of ts) (before ts k + j) o (within_all ts k j os o at here))
+    grind (arith, common_steps, length-append, high, at, here, (within_all ts k j os o at here))
 
 -- where what stands at a position stands in its table
 pub record Stands (tables : List (List Occurrence)) (n : ℕ) (o : Occurrence) : Type 0 where
@@ -105,28 +77,15 @@ pub record Stands (tables : List (List Occurrence)) (n : ℕ) (o : Occurrence) :
 
 pub standing : (tables : List (List Occurrence)) (n : ℕ) (o : Occurrence) → slice_get (all_of tables) n ≡ Some o
     → Stands tables n o
-standing [] n o at = let none = slice_get_within [] n o at in absurd (omega (arith, none))
+standing [] n o at = absurd (omega (arith, slice_get_within {A = Occurrence} [] n o at))
 standing (t ∷ ts) n o at = elim (cases_lt n (length t)) [
-  | inl less ↦ record {
-    table = 0;
-    of = t;
-    place = n;
-    at = refl;
-    here = low t (all_of ts) n o less at;
-    is = omega arith;
-  }
+  | inl less ↦
+      record { table = 0; of = t; place = n; at = refl; here = sym (low t (all_of ts) n less) ∙ at; is = omega arith }
   | inr over ↦ (
-      let s = standing ts (n - length t) o (high t (all_of ts) n o over at) in
+      let s = standing ts (n - length t) o (sym (high t (all_of ts) n (n - length t) (omega arith)) ∙ at) in
       let size = length-append t (all_of (take s.table ts)) in
-      let is = s.is in
-      record {
-        table = suc s.table;
-        of = s.of;
-        place = s.place;
-        at = s.at;
-        here = s.here;
-        is = omega (arith, size, is, over);
-      })
+      let is : n ≡ before (t ∷ ts) (suc s.table) + s.place = omega (arith, size, s.is) in
+      record { table = suc s.table; of = s.of; place = s.place; at = s.at; here = s.here; is = is })
 ]
 
 -- ---- together they are all
@@ -134,25 +93,14 @@ standing (t ∷ ts) n o at = elim (cases_lt n (length t)) [
 kept_twice : (p q : Occurrence → Bool) → ((o : Occurrence) → p o ≡ true → q o ≡ true) → (os : List Occurrence)
     → filter p (filter q os) ≡ filter p os
 kept_twice p q more [] = refl
-kept_twice p q more (o ∷ os) = of (q o) refl (kept_twice p q more os) where
-  out : (b : Bool) → q o ≡ false → p o ≡ b → p o ≡ false
-  out true fails e = absurd (true≢false (sym (more o e) ∙ fails))
-  out false fails e = e
-
-  of : (b : Bool) → q o ≡ b → filter p (filter q os) ≡ filter p os → filter p (filter q (o ∷ os)) ≡ filter p (o ∷ os)
-  of true e rest = ap (λ (b : Bool). filter p (cond b (o ∷ filter q os) (filter q os))) e
-      ∙ ap (λ (ps : List Occurrence). cond (p o) (o ∷ ps) ps) rest
-  of false e rest =
-      ap (λ (b : Bool). filter p (cond b (o ∷ filter q os) (filter q os))) e ∙ rest
-      ∙ sym (ap (λ (b : Bool). cond b (o ∷ filter p os) (filter p os)) (out (p o) e refl))
+kept_twice p q more (o ∷ os) = grind (arith, kept_twice p q more os, more o)
 
 abbrev IsBetween : ℕ → ℕ → ℕ → Occurrence → Type 0
 IsBetween n low high o = (low ≤ share_at n o) × (share_at n o < high)
 
 nothing_left : (n k : ℕ) (os : List Occurrence) → All (IsBetween n k (k + 0)) os → IsPermutation os []
 nothing_left n k [] within = IsPermutation-refl []
-nothing_left n k (o ∷ os) within = let (low, high) = All-head (IsBetween n k (k + 0)) o os within in
-    absurd (omega (arith, low, high))
+nothing_left n k (o ∷ os) within = let (low, high) = within 0 o (omega arith) in absurd (omega arith)
 
 -- tables that have each share from the k-th on, of occurrences that are in these
 joined : (n k : ℕ) (os : List Occurrence) (tables : List (List Occurrence)) → All (IsBetween n k (k + length tables)) os
@@ -163,28 +111,18 @@ joined n k os (t ∷ ts) within each =
     let p : Occurrence → Bool = λ o. share_at n o == k in
     let q : Occurrence → Bool = λ o. not (share_at n o == k) in
     let here : k + 0 ≡ k = omega arith in
-    let first : IsPermutation (filter p os) t = subst (λ m. IsPermutation (share_of n m os) t) here (each 0 t refl) in
     let later : All (IsBetween n (k + 1) (k + 1 + length ts)) (filter q os) =
     λ i d h. (let (low, high) = All-filter q (IsBetween n k (k + suc (length ts))) os within i d h in
-    let other = apart (get_or (filter q os) i d) (filter_passes q os i d h) in
-    (omega (arith, low, other), omega (arith, high))) in
-    let rest : IsPermutation (filter q os) (all_of ts) = joined n (k + 1) (filter q os) ts later
-    (λ j u at. (let next : k + suc j ≡ k + 1 + j = omega arith in
-    subst (λ (ps : List Occurrence). IsPermutation ps u)
-    (sym (kept_twice (λ o. share_at n o == k + 1 + j) q (passes j) os))
-    (subst (λ m. IsPermutation (share_of n m os) u) next (each (suc j) u at)))) in
+    let other = eqb-false (share_at n (get_or (filter q os) i d)) k (not-true _ (filter_passes q os i d h)) in
+    (omega (arith, other), omega arith)) in
     IsPermutation-trans os (filter p os ++ filter q os) (t ++ all_of ts) (IsPermutation-filter_both p q (λ o. refl) os)
-    (IsPermutation-append (filter p os) t (filter q os) (all_of ts) first rest) where
-      apart : (o : Occurrence) → not (share_at n o == k) ≡ true → share_at n o ≢ k
-      apart o other same = true≢false (sym (eq-eqb (share_at n o) k same) ∙ not-true (share_at n o == k) other)
-
-      passes : (j : ℕ) (o : Occurrence) → (share_at n o == k + 1 + j) ≡ true → not (share_at n o == k) ≡ true
-      passes j o at =
-          let is = eqb-true (share_at n o) (k + 1 + j) at in
-          of (share_at n o == k) refl is where
-            of : (b : Bool) → (share_at n o == k) ≡ b → share_at n o ≡ k + 1 + j → not (share_at n o == k) ≡ true
-            of true e is = let here = eqb-true (share_at n o) k e in absurd (omega (arith, here, is))
-            of false e is = ap not e
+    (IsPermutation-append (filter p os) t (filter q os) (all_of ts) (rw here at (each 0 t refl))
+    (joined n (k + 1) (filter q os) ts later (λ j u at. (let next : k + 1 + j ≡ k + suc j = omega arith in
+    rw (kept_twice (λ o. share_at n o == k + 1 + j) q (passes j) os, next) (each (suc j) u at)))))
+  where
+    passes : (j : ℕ) (o : Occurrence) → (share_at n o == k + 1 + j) ≡ true → not (share_at n o == k) ≡ true
+    passes j o at = let is = eqb-true (share_at n o) (k + 1 + j) at in
+        not_from_false _ (ne_eqb (share_at n o) k (λ e. omega arith))
 
 -- ---- what is among the tables
 
@@ -198,10 +136,8 @@ among_all tables k os o at in_os =
 -- the share of what stands in a table
 share_here : (tables : List (List Occurrence)) (n : ℕ) (o : Occurrence) → AreInShares tables → (s : Stands tables n o)
     → share_at (length tables) o ≡ s.table
-share_here tables n o shared s =
-    let inside = slice_get_within s.of s.place o s.here in
-    ap (share_at (length tables)) (sym (get_or_from_slice_get s.of s.place o o s.here))
-    ∙ shared.each s.table s.of s.at s.place o inside
+share_here tables n o shared s = rw (get_or_from_slice_get s.of s.place o o s.here)
+    at (shared.each s.table s.of s.at s.place o (slice_get_within s.of s.place o s.here))
 
 -- what has a name is in the table of its share
 pub among_one : (tables : List (List Occurrence)) (k : ℕ) (os : List Occurrence) (o : Occurrence) → AreInShares tables
@@ -210,59 +146,29 @@ pub among_one : (tables : List (List Occurrence)) (k : ℕ) (os : List Occurrenc
 among_one tables k os o shared at key in_all =
     let (n, there) = stands (all_of tables) o in_all in
     let s = standing tables n o there in
-    let same : s.table ≡ k = sym (share_here tables n o shared s) ∙ key in
-    let one : Some s.of ≡ Some os = sym s.at ∙ ap (slice_get tables) same ∙ at in
-    let is : s.of ≡ os = cc in
-    subst (λ us. Contains us o) is (contained s.of s.place o s.here)
-
-abbrev the_location : ℕ → Place → Location
-the_location file place = record { file = file; place = place }
+    let is : s.of ≡ os = cc (share_here tables n o shared s) in
+    rw is at (contained s.of s.place o s.here)
 
 -- ---- what is twice
 
 pub twice_among : (tables : List (List Occurrence)) (k : ℕ) (os : List Occurrence) (b : Occurrence)
     → slice_get tables k ≡ Some os → IsTwice os b
     → IsTwice (all_of tables) b
-twice_among tables k os b at (a, (i, j, apart, first, second), clash) = (
-  a,
-  (
-    before tables k + i,
-    before tables k + j,
-    λ e. apart (omega (arith, e)),
-    within_all tables k i os a at first,
-    within_all tables k j os b at second,
-  ),
-  clash,
-)
+twice_among tables k os b at (a, (i, j, apart, first, second), clash) =
+    let one = within_all tables k i os a at first in
+    let other = within_all tables k j os b at second in
+    (a, (before tables k + i, before tables k + j, λ e. apart (omega arith), one, other), clash)
 
 pub twice_in_one : (tables : List (List Occurrence)) (b : Occurrence) → AreInShares tables → IsTwice (all_of tables) b
     → (k : ℕ) × (os : List Occurrence) × (slice_get tables k ≡ Some os) × IsTwice os b
 twice_in_one tables b shared (a, (i, j, apart, first, second), clash) =
     let s = standing tables i a first in
     let t = standing tables j b second in
-    let key : share_at (length tables) a ≡ share_at (length tables) b =
-    ap (λ (name : List ℕ). hash_of name % length tables) clash.same in
-    let same : s.table ≡ t.table = sym (share_here tables i a shared s) ∙ key ∙ share_here tables j b shared t in
-    let one : Some s.of ≡ Some t.of = sym s.at ∙ ap (slice_get tables) same ∙ t.at in
+    let key = ap (λ (name : List ℕ). hash_of name % length tables) clash.same in
+    let same : s.table ≡ t.table = cc (share_here tables i a shared s, key, share_here tables j b shared t) in
     let is : s.of ≡ t.of = cc in
-    let left = s.is in
-    let right = t.is in
-    let base = ap (before tables) same in (
-      t.table,
-      t.of,
-      t.at,
-      (
-        a,
-        (
-          s.place,
-          t.place,
-          λ e. apart (omega (arith, left, right, base, e)),
-          subst (λ us. slice_get us s.place ≡ Some a) is s.here,
-          t.here,
-        ),
-        clash,
-      ),
-    )
+    let other = λ (e : s.place ≡ t.place). apart (omega (arith, s.is, t.is, ap (before tables) same)) in
+    (t.table, t.of, t.at, (a, (s.place, t.place, other, rw is at s.here, t.here), clash))
 
 module _ (os : List Occurrence) (shares : List SortedShare) (are : AreSharesOf os shares) where
   abbrev tables : List (List Occurrence)
@@ -273,25 +179,20 @@ module _ (os : List Occurrence) (shares : List SortedShare) (are : AreSharesOf o
 
   pub in_shares : AreInShares tables
   in_shares = record {
-    some = (let some = are.some in omega (arith, many, some));
+    some = rw many are.some;
     each = λ k t at.
         (let (s, stands, is) = of_map table_of shares k t at in
-        let count = length shares in
-        let in_share = All-permutation (λ o. share_at count o ≡ k) (share_of count k os) s.table
+        rw (many, ← is) (All-permutation (λ o. share_at (length shares) o ≡ k) (share_of (length shares) k os) s.table
         (are.each k s stands).all
-        (λ i d h. eqb-true (share_at count (get_or (share_of count k os) i d)) k
-        (filter_passes (λ o. share_at count o == k) os i d h)) in
-        subst (λ n. All (λ o. share_at n o ≡ k) t) (sym many) (subst (All (λ o. share_at count o ≡ k)) is in_share));
+        (λ i d h. eqb-true _ k (filter_passes (λ o. share_at (length shares) o == k) os i d h))));
   }
 
   pub all_shares : IsPermutation os (all_of tables)
   all_shares = joined (length shares) 0 os tables
-      (λ i d h. (let high = mod_below (hash_of (get_or os i d).name) (length shares) are.some in
-      (omega arith, omega (arith, high, many))))
+      (λ i d h. (omega arith, omega (arith, mod_below (hash_of (get_or os i d).name) (length shares) are.some, many)))
       (λ j t at. (let (s, stands, is) = of_map table_of shares j t at in
-      let here : j ≡ 0 + j = omega arith in
-      subst (λ m. IsPermutation (share_of (length shares) m os) t) here
-      (subst (IsPermutation (share_of (length shares) j os)) is (are.each j s stands).all)))
+      let here : 0 + j ≡ j = omega arith in
+      rw (here, ← is) (are.each j s stands).all))
 
   -- the services of the tables
   pub all_services : flat_map services_in shares ≡ services_of (all_of tables)
@@ -301,47 +202,36 @@ module _ (os : List Occurrence) (shares : List SortedShare) (are : AreSharesOf o
         → flat_map services_in ss ≡ services_of (all_of (map table_of ss))
     each [] of = refl
     each (s ∷ ss) of =
-        let is_service : Occurrence → Bool = λ o. is_service_kind o.kind in
-        let rest = all_of (map table_of ss) in
-        ap₂ (λ (xs ys : List (List ℕ)). xs ++ ys) (of 0 s refl) (each ss (λ k t at. of (suc k) t at))
-        ∙ sym (ap (map name_of) (filter-append is_service s.table rest)
-        ∙ map-append name_of (filter is_service s.table) (filter is_service rest))
+        rw (of 0 s refl, each ss (λ k t at. of (suc k) t at), filter-append, map-append) refl
 
   -- the first that is twice in a share, where one is
-  in_share : (k : ℕ) (s : SortedShare) (b : Occurrence) → slice_get shares k ≡ Some s → IsTwice s.table b
-      → (l : Location) × (Contains (map twice_of shares) (Some l)) × IsFirstTwice s.table l.file l.place
-  in_share k s b at twice = of s.twice refl (are.each k s at).twice where
-    of : (t : Option Location) → s.twice ≡ t
-        → MatchOption t (NoneTwice s.table) (λ l. IsFirstTwice s.table l.file l.place)
-        → (l : Location) × (Contains (map twice_of shares) (Some l)) × IsFirstTwice s.table l.file l.place
-    of None e none = absurd (none b twice)
-    of (Some l) e first =
-        (l, contained (map twice_of shares) k (Some l) (in_map twice_of shares k s at ∙ ap Some e), first)
-
-  pub none_twice : ((l : Location) → Contains (map twice_of shares) (Some l) → ⊥) → NoneTwice (all_of tables)
-  none_twice none b twice =
+  in_share : (b : Occurrence) → IsTwice (all_of tables) b
+      → (s : SortedShare) × (l : Location) × Contains (map twice_of shares) (Some l) × IsTwice s.table b
+      × IsFirstTwice s.table l.file l.place
+  in_share b twice =
       let (k, t, at, here) = twice_in_one tables b in_shares twice in
       let (s, stands, is) = of_map table_of shares k t at in
-      let (l, known, first) = in_share k s b stands (subst (λ us. IsTwice us b) (sym is) here) in
-      none l known
+      of k s stands (rw is here) s.twice refl (are.each k s stands).twice
+    where
+      of : (k : ℕ) (s : SortedShare) → slice_get shares k ≡ Some s → IsTwice s.table b → (t : Option Location)
+          → s.twice ≡ t → MatchOption t (NoneTwice s.table) (λ l. IsFirstTwice s.table l.file l.place)
+          → (s : SortedShare) × (l : Location) × Contains (map twice_of shares) (Some l) × IsTwice s.table b
+          × IsFirstTwice s.table l.file l.place
+      of k s at here None e none = absurd (none b here)
+      of k s at here (Some l) e first =
+          let known = contained (map twice_of shares) k (Some l) (in_map twice_of shares k s at ∙ ap Some e) in
+          (s, l, known, here, first)
+
+  pub none_twice : ((l : Location) → Contains (map twice_of shares) (Some l) → ⊥) → NoneTwice (all_of tables)
+  none_twice none b twice = let (s, l, known, here, first) = in_share b twice in none l known
 
   pub first_twice_of : (l : Location) → IsEarliest (map twice_of shares) l → IsFirstTwice (all_of tables) l.file l.place
   first_twice_of l earliest =
       let (i, known) = stands (map twice_of shares) (Some l) earliest.among in
       let (s, at, is) = of_map twice_of shares i (Some l) known in
-      let (b, first, file, place) = rw is at (are.each i s at).twice in (
-        b,
-        record {
-          among = twice_among tables i s.table b (in_map table_of shares i s at) first.among;
-          least = λ c twice.
-              (let (k, t, there, here) = twice_in_one tables c in_shares twice in
-              let (r, stands, same) = of_map table_of shares k t there in
-              let (m, of, (d, least, its_file, its_place)) =
-              in_share k r c stands (subst (λ us. IsTwice us c) (sym same) here) in
-              let its : location_of d ≡ m = ap₂ (λ (f : ℕ) (p : Place). the_location f p) its_file its_place in
-              no_later b d c l file place (subst (NoLater l) (sym its) (earliest.least m of))
-              (least.least c (subst (λ us. IsTwice us c) (sym same) here)));
-        },
-        file,
-        place,
-      )
+      let (b, first, file, place) = rw is at (are.each i s at).twice in
+      let least : (c : Occurrence) → IsTwice (all_of tables) c → IsNoLater b c = λ c twice.
+      (let (r, m, of, here, (d, least, its_file, its_place)) = in_share c twice in
+      no_later b d c l m file place its_file its_place (earliest.least m of) (least.least c here)) in
+      let among = twice_among tables i s.table b (in_map table_of shares i s at) first.among in
+      (b, record { among = among; least = least }, file, place)

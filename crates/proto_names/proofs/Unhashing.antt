@@ -1,5 +1,6 @@
 -- Hashes with a byte fewer.
-use Rattle.std.proofs.Common.{◌≡◌, ◌∙◌, sym, ap, refl, ℕ, ◌+◌, ◌-◌, ◌*◌, ◌%◌, ◌<◌, ◌≤◌, ◌++◌, ◌∷◌, List, [], length, take, get_or, arith, lit<}
+use Rattle.std.proofs.lemmas.Grind.{common_steps}
+use Rattle.std.proofs.Common.{◌≡◌, ◌∙◌, ap, refl, ℕ, ◌+◌, ◌-◌, ◌*◌, ◌%◌, ◌<◌, ◌≤◌, ◌++◌, ◌∷◌, List, [], length, take, get_or, arith, lit<}
 use Rattle.std.specs.List.{fold}
 use Rattle.std.proofs.Math.Nat.{add-mod_right, add-mul-mod_self_right, mod-add-mod, mod-eq_of_lt, mod-lt}
 use Rattle.std.proofs.lemmas.List.{take_more}
@@ -9,27 +10,12 @@ use Rattle.proto_names.specs.Hashes.{hash_of, hash_step}
 
 -- the factor and its inverse
 undone : (before : ℕ) → before < 4294967296 → (before * 16777619 % 4294967296) * 899433627 % 4294967296 ≡ before
-undone before small =
-    let both : before * 16777619 * 899433627 ≡ before + before * 3513497 * 4294967296 = omega arith in
-    mul-mod_first (before * 16777619) 899433627 4294967296 ∙ ap (λ n. n % 4294967296) both
-    ∙ add-mul-mod_self_right before (before * 3513497) 4294967296
-    ∙ mod-eq_of_lt small
+undone before small = grind (arith, common_steps, add-mul-mod_self_right, mod-eq_of_lt, mul-mod_first)
 
 -- a hash before its last byte came
 pub without : (hash byte before : ℕ) → byte ≤ 255 → before < 4294967296 → hash ≡ hash_step before byte
     → (hash + 4294967296 - byte) * 899433627 % 4294967296 ≡ before
-without hash byte before few small is =
-    let x = before * 16777619 in
-    let d = 4294967296 - byte in
-    let apart : hash + 4294967296 - byte ≡ (x + byte) % 4294967296 + d = ap (λ n. n + 4294967296 - byte) is
-    ∙ omega (arith, few) in
-    let whole : x + byte + d ≡ x + 4294967296 = omega (arith, few) in
-    let same : ((x + byte) % 4294967296 + d) % 4294967296 ≡ x % 4294967296 =
-    mod-add-mod (x + byte) 4294967296 d ∙ ap (λ n. n % 4294967296) whole ∙ add-mod_right x 4294967296 in
-    ap (λ n. n * 899433627 % 4294967296) apart
-    ∙ sym (mul-mod_first ((x + byte) % 4294967296 + d) 899433627 4294967296)
-    ∙ ap (λ n. n * 899433627 % 4294967296) same
-    ∙ undone before small
+without hash byte before few small is = grind (arith, common_steps, add-mod_right, mod-add-mod, mul-mod_first, undone)
 
 hash_from_below : (start : ℕ) (name : List ℕ) → start < 4294967296 → fold hash_step start name < 4294967296
 hash_from_below start [] small = small

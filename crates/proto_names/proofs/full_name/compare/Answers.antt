@@ -15,7 +15,4 @@ returns-in-Equal c =
     c.compare_behind.ensures
 
 pub returns-in_default : goal.returns-in_default
-returns-in_default c = long_unequal c.args.full.now c.split_at.result.0.now c.args.scope.now c.args.name.now
-    c.split_at.result.1.now c.cmp-2.result
-    (grind (arith, common_steps)) (grind (arith, common_steps)) (grind (arith, common_steps))
-    (grind (arith, common_steps)) c.in_default.not-Equal
+returns-in_default c = grind (arith, common_steps, long_unequal)

@@ -1,24 +1,16 @@
-use Rattle.std.proofs.Common.{◌≡◌, ◌≢◌, sym, ap, subst, ℕ, ◌<◌, List, length, map, arith, rules, Less}
+use Rattle.std.proofs.Common.{ap, ℕ, ◌<◌, length, map, rules}
 use Rattle.std.specs.Cmp.Lexicographic.{slice_cmp}
-use Rattle.std.specs.List.Sorted.{IsPartitionPoint}
 use Rattle.std.specs.Ordering.{nat_cmp, is_lt, ordering_then}
-use Rattle.std.proofs.lemmas.List.{length-map}
 use Rattle.std.proofs.lemmas.List.Sorted.{IsPartitionPoint-from_clause}
 use Rattle.proto_desc.specs.DeclaredNames.{scoped}
 use Rattle.proto_names.specs.Entries.{name_at, occurrence}
 use Rattle.proto_names.specs.Index.{name_of}
 use Rattle.proto_names.specs.Occurrences.{Occurrence}
-use Rattle.proto_names.specs.Order.{AreInHashOrder, name_cmp}
+use Rattle.proto_names.specs.Order.{name_cmp}
 use Rattle.proto_names.specs.declared.entry.Entry.{Entry}
 use Rattle.proto_names.proofs.Searching.{parted_less, less_point}
 use Rattle.proto_names.proofs.Standing.{name_order, parted_entries, point_occurrences}
 use Rattle.proto_names.proofs.halving.count_before.Goals as goal
-
-pub returns-clause-bound : goal.returns-clause-bound
-returns-clause-bound c =
-    let l = length-map c.names.inside.entries.now (occurrence c.names.inside.text.now) in
-    let same = ap length c.names.view_is in
-    omega (arith, l, same, c.partition_point.ensures.bound)
 
 pub returns-clause-point : goal.returns-clause-point
 returns-clause-point c =
@@ -32,11 +24,9 @@ returns-clause-point c =
     let q = λ (o : Occurrence). is_lt (name_cmp (name_of o) target) in
     let same = λ (k : ℕ) (d : Entry) (h : k < length es). ap is_lt
     (name_order text es target hash k d h c.names.invariant c.hash_with-hash.ensures) in
-    let up = subst AreInHashOrder (sym c.names.view_is) c.requires in
+    let up = rw (← c.names.view_is) at c.requires in
     let parted = parted_entries text es p q same (parted_less os target up) in
     let point = IsPartitionPoint-from_clause p es n c.partition_point.ensures.partitioned parted
     (λ a r f called. search rules) in
-    subst (λ (ps : List Occurrence). IsPartitionPoint (λ o. name_cmp (name_of o) target ≡ Less)
-    (λ o. name_cmp (name_of o) target ≢ Less) ps n)
-    c.names.view_is
+    rw (← c.names.view_is)
     (less_point os target n (point_occurrences text es p q same n c.partition_point.ensures.bound point))

@@ -1,25 +1,15 @@
-use Rattle.std.proofs.Common.{◌≡◌, ◌≢◌, sym, ap, refl, subst, List, length, map, arith, rules, Less}
-use Rattle.std.specs.Prelude.{All}
+use Rattle.std.proofs.Common.{refl, map, rules}
 use Rattle.std.specs.Cmp.Lexicographic.{slice_cmp}
-use Rattle.std.specs.List.Sorted.{IsPartitionPoint}
 use Rattle.std.specs.Ordering.{nat_cmp, is_eq}
-use Rattle.std.proofs.lemmas.List.{length-map}
 use Rattle.std.proofs.lemmas.List.Sorted.{IsPartitionPoint-from_clause}
 use Rattle.proto_desc.specs.DeclaredNames.{scoped}
 use Rattle.proto_names.specs.Entries.{name_at, occurrence}
 use Rattle.proto_names.specs.Index.{name_of}
 use Rattle.proto_names.specs.Occurrences.{Occurrence}
-use Rattle.proto_names.specs.Order.{AreInHashOrder, name_cmp}
 use Rattle.proto_names.specs.declared.entry.Entry.{Entry}
 use Rattle.proto_names.proofs.Searching.{parted_equal, equal_point}
 use Rattle.proto_names.proofs.Standing.{parted_entries, point_occurrences}
 use Rattle.proto_names.proofs.halving.count_named.Goals as goal
-
-pub returns-clause-bound : goal.returns-clause-bound
-returns-clause-bound c =
-    let l = length-map c.names.inside.entries.now (occurrence c.names.inside.text.now) in
-    let same = ap length c.names.view_is in
-    omega (arith, l, same, c.partition_point.ensures.bound)
 
 pub returns-clause-point : goal.returns-clause-point
 returns-clause-point c =
@@ -30,12 +20,10 @@ returns-clause-point c =
     let target = scoped c.args.scope.now c.args.name.now in
     let p = λ (e : Entry). is_eq (slice_cmp nat_cmp (name_at text e) target) in
     let q = λ (o : Occurrence). is_eq (slice_cmp nat_cmp (name_of o) target) in
-    let up = subst AreInHashOrder (sym c.names.view_is) c.requires.order in
-    let behind = subst (λ (ps : List Occurrence). All (λ o. name_cmp (name_of o) target ≢ Less) ps)
-    (sym c.names.view_is) c.requires.behind in
+    let up = rw (← c.names.view_is) at c.requires.order in
+    let behind = rw (← c.names.view_is) at c.requires.behind in
     let parted = parted_entries text es p q (λ k d h. refl) (parted_equal os target up behind) in
     let point = IsPartitionPoint-from_clause p es n c.partition_point.ensures.partitioned parted
     (λ a r f called. search rules) in
-    subst (λ (ps : List Occurrence). IsPartitionPoint (λ o. name_of o ≡ target) (λ o. name_of o ≢ target) ps n)
-    c.names.view_is
+    rw (← c.names.view_is)
     (equal_point os target n (point_occurrences text es p q (λ k d h. refl) n c.partition_point.ensures.bound point))

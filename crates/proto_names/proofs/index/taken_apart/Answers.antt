@@ -1,7 +1,7 @@
-use Rattle.std.proofs.Common.{◌∙◌, ap, arith, map, subst, List, ℕ}
-use Rattle.std.specs.Prelude.{IsPermutation, flat_map, string_bytes}
+use Rattle.std.proofs.lemmas.Grind.{common_steps}
+use Rattle.std.proofs.Common.{arith}
+use Rattle.std.specs.Prelude.{string_bytes}
 use Rattle.std.proofs.lemmas.List.Sorted.{IsPermutation-map}
-use Rattle.proto_names.specs.Shares.{services_in}
 use Rattle.proto_names.proofs.Occurring.{sorted_texts}
 use Rattle.proto_names.proofs.Tabled.{all_taken}
 use Rattle.proto_names.proofs.index.taken_apart.Goals as goal
@@ -12,9 +12,8 @@ returns-clause-services c =
     let rest = l.share-iterator.rest in
     let all = all_taken l.yielded rest.items c.args.shares.items l.invariant.whole
     (omega (arith, rest.ok.0, c.in-None.ensures.steps.0)) in
-    subst (λ (xs : List (List ℕ)). IsPermutation xs (map string_bytes c.sort_unstable.new.self.items))
-    (l.invariant.services ∙ ap (flat_map services_in) all)
+    rw (← all, ← l.invariant.services)
     (IsPermutation-map string_bytes l.services.items c.sort_unstable.new.self.items c.sort_unstable.ensures.permutation)
 
 pub returns-clause-order : goal.returns-clause-order
-returns-clause-order c = sorted_texts c.sort_unstable.new.self.items c.sort_unstable.ensures.sorted
+returns-clause-order c = grind (arith, common_steps, sorted_texts)

@@ -1,5 +1,16 @@
-use Rattle.proto_names.proofs.Packing.{Inserting}
+use Rattle.std.proofs.Common.{◌≡◌, ◌⊎◌, ℕ, ◌<◌}
+use Rattle.std.specs.Prelude.{◌↔◌}
+use Rattle.bit_matrix.specs.Bits.{has}
+use Rattle.bit_matrix.specs.Changes.{Has, IsAsLarge, columns_of}
+use Rattle.proto_names.specs.Runs.{at}
 use Rattle.proto_names.proofs.packages.insert_files.Given as goal
 
+-- the files of those before the position are set
 abbrev pub invariant-loop-position : goal.invariant-loop-position
-invariant-loop-position l = Inserting l.fn.files l.row l.names l.position l.files
+invariant-loop-position l = record {
+  large : IsAsLarge l.fn.files l.files;
+  kept : (r c : ℕ) → r < l.fn.files.rows → c < columns_of l.fn.files → (r ≡ l.row → ⊥)
+      → has l.files r c ≡ has l.fn.files r c;
+  files : (c : ℕ) → c < columns_of l.fn.files
+      → Has l.files l.row c ↔ (Has l.fn.files l.row c ⊎ ((k : ℕ) × (k < l.position) × ((at l.names k).file ≡ c)));
+}

@@ -1,12 +1,4 @@
-use Rattle.std.proofs.Common.{◌∙◌, ap₂, ℕ, List, map}
-use Rattle.proto_names.specs.Entries.{occurrence}
-use Rattle.proto_names.specs.declared.entry.Entry.{Entry}
 use Rattle.proto_names.proofs.entries.Entries.names.Goals as goal
 
 pub new-requires : goal.new-requires
 new-requires c = rw (c.as_bytes.ensures.value, c.as_slice.ensures.value) c.self.invariant
-
-pub returns : goal.returns
-returns c =
-    c.new.ensures ∙ ap₂ (λ (text : List ℕ) (es : List Entry). map (occurrence text) es) c.as_bytes.ensures.value
-    c.as_slice.ensures.value ∙ c.self.view_is

@@ -1,6 +1,6 @@
-use Rattle.std.proofs.Common.{ap, subst, List, get_or, arith}
+use Rattle.std.proofs.Common.{ap, subst, List, arith}
 use Rattle.std.specs.Prelude.{MatchOption}
-use Rattle.std.proofs.lemmas.List.{get_or_default}
+use Rattle.std.proofs.lemmas.List.Elements.{Contains-get_or}
 use Rattle.proto_desc.specs.DeclaredNames.{scoped}
 use Rattle.proto_names.specs.Index.{Index}
 use Rattle.proto_names.specs.Occurrences.{Occurrence}
@@ -11,11 +11,9 @@ use Rattle.proto_names.proofs.index.NameIndex.type_of.Goals as goal
 
 pub type_among-requires-clause-entries : goal.type_among-requires-clause-entries
 type_among-requires-clause-entries c k d below =
-    let names = c.named.result.names in
-    let here = c.named.ensures.found (get_or names k d) (k, below, get_or_default names k (get_or names k d) d below) in
-    let inside = c.self.invariant.0.inside _ here.0 in
+    let here = c.named.ensures.found _ (Contains-get_or c.named.result.names k d below) in
     let files = ap (λ (index : Index). index.files) c.self.view_is in
-    omega (arith, inside, files, c.requires.links)
+    omega (arith, c.self.invariant.0.inside _ here.0, files, c.requires.links)
 
 pub returns : goal.returns
 returns c =

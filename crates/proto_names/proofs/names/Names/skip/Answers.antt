@@ -1,7 +1,8 @@
-use Rattle.std.proofs.Common.{◌∙◌, sym, ap, drop}
+use Rattle.std.proofs.Common.{arith}
+use Rattle.std.proofs.lemmas.Grind.{common_steps}
 use Rattle.std.proofs.lemmas.List.{drop-map, take_rest}
 use Rattle.std.proofs.lemmas.List.Elements.{All-drop}
-use Rattle.proto_names.specs.Entries.{occurrence, IsEntryOf}
+use Rattle.proto_names.specs.Entries.{IsEntryOf}
 use Rattle.proto_names.proofs.names.Names.skip.Goals as goal
 
 pub invariant_of-result : goal.invariant_of-result
@@ -10,7 +11,4 @@ invariant_of-result c =
     rw (take_rest es c.args.count) (All-drop (IsEntryOf c.self.inside.text.now) c.args.count es c.self.invariant)
 
 pub returns : goal.returns
-returns c =
-    let es = c.self.inside.entries.now in
-    rw (take_rest es c.args.count) (sym (drop-map (occurrence c.self.inside.text.now) c.args.count es)
-    ∙ ap (drop c.args.count) c.self.view_is)
+returns c = grind (arith, common_steps, drop-map, take_rest)

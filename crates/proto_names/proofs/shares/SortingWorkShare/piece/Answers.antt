@@ -1,40 +1,23 @@
-use Rattle.std.proofs.Common.{ap, ◌+◌, ◌<◌, List, arith, length, subst, sym, take, take_all}
-use Rattle.std.specs.Prelude.{◌==◌, All}
-use Rattle.std.specs.List.{AllZip}
+use Rattle.std.proofs.lemmas.Grind.{common_steps}
+use Rattle.std.proofs.Common.{◌<◌, arith, take_all}
 use Rattle.std.proofs.lemmas.List.Elements.{All-filter}
 use Rattle.share_work.proofs.Giving.{all_next, gives_of_all}
 use Rattle.proto_names.specs.Occurrences.{Occurrence}
-use Rattle.proto_names.specs.Shares.{IsSortedOf, all_of, share_at, share_of}
+use Rattle.proto_names.specs.Shares.{IsSortedOf, all_of, share_of}
 use Rattle.proto_names.specs.declared.share.Share.{Share}
 use Rattle.proto_names.proofs.Shared.{share_few}
 use Rattle.proto_names.proofs.shares.SortingWorkShare.piece.Goals as goal
 
 pub sort_share-requires-clause-many : goal.sort_share-requires-clause-many
-sort_share-requires-clause-many c =
-    let s = c.share-item.result in
-    let few = share_few s.count s.position (all_of c.args.self.now.parts.now) in
-    let same = ap length c.in_ok-entries.ensures in
-    omega (arith, few, same, c.args.self.now.few)
+sort_share-requires-clause-many c = grind (arith, common_steps, share_few)
 
 pub sort_share-requires-clause-files : goal.sort_share-requires-clause-files
 sort_share-requires-clause-files c =
-    let s = c.share-item.result in
-    let within = λ (o : Occurrence). o.file < c.args.self.now.files in
-    subst (All within) (sym c.in_ok-entries.ensures)
-    (All-filter (λ (o : Occurrence). share_at s.count o == s.position) within
-    (all_of c.args.self.now.parts.now) c.args.self.now.inside)
+    rw c.in_ok-entries.ensures
+    (All-filter _ (λ (o : Occurrence). o.file < c.args.self.now.files) _ c.args.self.now.inside)
 
 pub loop-share-preserved : goal.loop-share-preserved
-loop-share-preserved c =
-    let l = c.loop-share in
-    let Gives = λ (share : Share). IsSortedOf
-    (share_of share.count share.position (all_of c.args.self.now.parts.now)) in
-    let sorted = subst (λ (os : List Occurrence). IsSortedOf os c.in_ok-sort_share.field-0) c.in_ok-entries.ensures
-    c.in_ok-sort_share.ensures in
-    subst (AllZip Gives (take (l.share-index + 1) c.args.items.now)) (sym c.in_ok-push.ensures.items)
-    (all_next Gives c.args.items.now l.share-index c.share-item.result l.outs.items c.in_ok-sort_share.field-0
-    (omega arith)
-    l.invariant (subst (λ share. Gives share c.in_ok-sort_share.field-0) c.share-item.is sorted))
+loop-share-preserved c = grind (arith, common_steps, all_next)
 
 pub returns-clause-outs : goal.returns-clause-outs
 returns-clause-outs c =

@@ -1,18 +1,9 @@
-use Rattle.std.proofs.Common.{◌∙◌, sym, subst, List}
-use Rattle.std.specs.Prelude.{Contains}
-use Rattle.proto_names.specs.Order.{AreInOrder}
-use Rattle.proto_names.specs.Occurrences.{Occurrence}
 use Rattle.proto_names.proofs.table.EntryTable.named.Goals as goal
 
-pub entries_named-requires-clause-order : goal.entries_named-requires-clause-order
-entries_named-requires-clause-order c = subst AreInOrder (sym c.names.ensures) c.self.invariant.0
-
 pub returns-clause-found : goal.returns-clause-found
-returns-clause-found c o within =
-    let w = (c.entries_named.ensures.named o).0 within in
-    (subst (λ (os : List Occurrence). Contains os o) (c.names.ensures ∙ c.self.view_is) w.0, w.1)
+returns-clause-found c o within = let w = (c.entries_named.ensures.named o).0 within in
+    (rw (c.names.ensures, c.self.view_is) at w.0, w.1)
 
 pub returns-clause-all : goal.returns-clause-all
 returns-clause-all c o within name =
-    (c.entries_named.ensures.named o).1
-    (subst (λ (os : List Occurrence). Contains os o) (sym (c.names.ensures ∙ c.self.view_is)) within, name)
+    (c.entries_named.ensures.named o).1 (rw (c.names.ensures, c.self.view_is) within, name)

@@ -1,9 +1,0 @@
-use Rattle.std.proofs.Common.{arith}
-use Rattle.std.proofs.lemmas.Grind.{common_steps}
-use Rattle.proto_names.proofs.collect.put_members.Goals as goal
-
-pub loop-member-preserved : goal.loop-member-preserved
-loop-member-preserved g c = grind (arith, common_steps)
-
-pub returns : goal.returns
-returns g c = grind (arith, common_steps)
