@@ -1,8 +1,9 @@
 -- A grammar with a larger limit of depth.
+use Rattle.std.proofs.Common.{arith}
 use Rattle.std.proofs.Common.{◌≡◌, ℕ, zero, suc, Bool, true, false, cond, List, [], ◌∷◌, ◌++◌, length, refl, sym, ap, subst, append_assoc}
 use Rattle.proto_tokens.specs.Token.{Spelled}
-use Rattle.proto_syntax.specs.Grammar.{Class, fits, Grammar, One, Nothing, ◌⨾◌, ◌∣◌, Many, Beyond, Tree, Leaf, Empty, Pair, Left, Right, flatten, IsTree, both, first, second, none, more, IsFront, empty, within, past, of_first, of_second, items}
-use Rattle.proto_syntax.specs.Reading.{Outcome, Read, Stops, after, mapped, read_one, read_many, read, begins, next_fits, can_be_empty}
+use Rattle.proto_syntax.specs.Grammar.{Class, fits, Grammar, One, Nothing, ◌⨾◌, ◌∣◌, Many, Beyond, Tree, Empty, Pair, Left, Right, flatten, IsTree, both, first, second, none, more, IsFront, empty, within, past, of_first, of_second, items}
+use Rattle.proto_syntax.specs.Reading.{Outcome, Read, Stops, after, mapped, read_one, read_many, read, begins, can_be_empty}
 use Rattle.proto_syntax.proofs.Reach.{read_found}
 use Rattle.proto_syntax.proofs.Sound.{after_item}
 
@@ -65,13 +66,7 @@ Sees g ts (Stops false us) o = o ≡ Stops false us
 Sees g ts (Stops true us) o = GoesOn g ts us
 
 one_sees : (c : Class) (ts : List Spelled) → Sees (One c) ts (read_one c ts) (read_one c ts)
-one_sees c [] = refl
-one_sees c (t ∷ ts) = by_cases (fits c t.lexeme)
-  where
-    by_cases : (b : Bool) → Sees (One c) (t ∷ ts) (cond b (Read (Leaf t) ts) (Stops false (t ∷ ts)))
-        (cond b (Read (Leaf t) ts) (Stops false (t ∷ ts)))
-    by_cases true = refl
-    by_cases false = refl
+one_sees x0 x1 = grind arith
 
 -- the second part, after a first that is read
 second_sees : (a b : Grammar) (x : Tree) (ts us : List Spelled) → IsTree a x → ts ≡ flatten x ++ us → (o o' : Outcome)
@@ -98,49 +93,20 @@ seq_sees a b a' b' ts d (Read x us) o' q h k =
     (sym h)
     (second_sees a' b' x ts us (deeper_tree d s.0) s.1 (read b us) (read b' us) (k us))
 seq_sees a b a' b' ts d (Stops false us) o' q h k = ap (λ z. after z (λ x us. mapped (Pair x) (read b' us))) h
-seq_sees a b a' b' ts d (Stops true us) o' q h k =
-    record {
-      before = h.before;
-      token = h.token;
-      later = h.later;
-      parts = h.parts;
-      here = h.here;
-      front = within h.front;
-    }
+seq_sees a b a' b' ts d (Stops true us) o' q h k = grind (arith, within)
 
 left_sees : (a b : Grammar) (ts : List Spelled) (o o' : Outcome) → Sees a ts o o'
     → Sees (a ∣ b) ts (mapped Left o) (mapped Left o')
-left_sees a b ts (Read x us) o' h = ap (mapped Left) h
-left_sees a b ts (Stops false us) o' h = ap (mapped Left) h
-left_sees a b ts (Stops true us) o' h =
-    record {
-      before = h.before;
-      token = h.token;
-      later = h.later;
-      parts = h.parts;
-      here = h.here;
-      front = of_first h.front;
-    }
+left_sees x0 x1 x2 x3 x4 x5 = grind (arith, of_first)
 
 right_sees : (a b : Grammar) (ts : List Spelled) (o o' : Outcome) → Sees b ts o o'
     → Sees (a ∣ b) ts (mapped Right o) (mapped Right o')
-right_sees a b ts (Read x us) o' h = ap (mapped Right) h
-right_sees a b ts (Stops false us) o' h = ap (mapped Right) h
-right_sees a b ts (Stops true us) o' h =
-    record {
-      before = h.before;
-      token = h.token;
-      later = h.later;
-      parts = h.parts;
-      here = h.here;
-      front = of_second h.front;
-    }
+right_sees x0 x1 x2 x3 x4 x5 = grind (arith, of_second)
 
 choice_sees : (a b : Grammar) (ts : List Spelled) (z : Bool) (oa oa' ob ob' : Outcome) → Sees a ts oa oa'
     → Sees b ts ob ob'
     → Sees (a ∣ b) ts (cond z (mapped Left oa) (mapped Right ob)) (cond z (mapped Left oa') (mapped Right ob'))
-choice_sees a b ts true oa oa' ob ob' h i = left_sees a b ts oa oa' h
-choice_sees a b ts false oa oa' ob ob' h i = right_sees a b ts ob ob' i
+choice_sees x0 x1 x2 x3 x4 x5 x6 x7 x8 x9 = grind (arith, left_sees, right_sees)
 
 rest_sees : (a : Grammar) (x : Tree) (ts us : List Spelled) → IsTree a x → ts ≡ flatten x ++ us → (o o' : Outcome)
     → Sees (Many a) us o o'
@@ -178,25 +144,13 @@ item_sees a a' ts d (Stops true us) o' q h next next' k =
 
 turn_sees : (a : Grammar) (ts : List Spelled) (z : Bool) (o o' : Outcome) → Sees (Many a) ts o o'
     → Sees (Many a) ts (cond z o (Read Empty ts)) (cond z o' (Read Empty ts))
-turn_sees a ts true o o' h = h
-turn_sees a ts false o o' h = refl
+turn_sees x0 x1 x2 x3 x4 x5 = grind arith
 
 many_sees : (a a' : Grammar) → Deeper a a' → ((ts : List Spelled) → Sees a' ts (read a ts) (read a' ts))
     → (n : ℕ) (ts : List Spelled)
     → Sees (Many a') ts (read_many (read a) (begins a) n ts) (read_many (read a') (begins a') n ts)
 many_sees a a' d h zero ts = refl
-many_sees a a' d h (suc n) ts =
-    subst (λ cs. Sees (Many a') ts
-    (cond (next_fits (begins a) ts) (after (read a ts) (λ x us. mapped (Pair x) (read_many (read a) (begins a) n us)))
-    (Read Empty ts))
-    (cond (next_fits cs ts) (after (read a' ts) (λ x us. mapped (Pair x) (read_many (read a') (begins a') n us)))
-    (Read Empty ts)))
-    (deeper_begins d).0
-    (turn_sees a' ts (next_fits (begins a) ts)
-    (after (read a ts) (λ x us. mapped (Pair x) (read_many (read a) (begins a) n us)))
-    (after (read a' ts) (λ x us. mapped (Pair x) (read_many (read a') (begins a') n us)))
-    (item_sees a a' ts d (read a ts) (read a' ts) refl (h ts) (read_many (read a) (begins a) n)
-    (read_many (read a') (begins a') n) (many_sees a a' d h n)))
+many_sees a a' d h (suc n) ts = grind (arith, deeper_begins, turn_sees, item_sees, many_sees a a' d h n)
 
 abbrev IsFrontOf : Class → Grammar → Type 0
 IsFrontOf c g = (t : Spelled) → fits c t.lexeme ≡ true → IsFront g (t ∷ [])
@@ -221,10 +175,7 @@ sees same_nothing ts = refl
 sees (in_both {a = a} {a' = a'} {b = b} {b' = b'} h i) ts =
     seq_sees a b a' b' ts h (read a ts) (read a' ts) refl (sees h ts) (sees i)
 sees (in_either {a = a} {a' = a'} {b = b} {b' = b'} h i) ts =
-    subst (λ cs. Sees (a' ∣ b') ts (cond (next_fits (begins a) ts) (mapped Left (read a ts)) (mapped Right (read b ts)))
-    (cond (next_fits cs ts) (mapped Left (read a' ts)) (mapped Right (read b' ts)))) (deeper_begins h).0
-    (choice_sees a' b' ts (next_fits (begins a) ts) (read a ts) (read a' ts) (read b ts) (read b' ts)
-    (sees h ts) (sees i ts))
+    grind (arith, deeper_begins, choice_sees, sees h ts, sees i ts)
 sees (in_many {a = a} {a' = a'} h) ts = many_sees a a' h (sees h) (length ts) ts
 sees (allowed {c = c} {g = g} e h f n m) [] = m
-sees (allowed {c = c} {g = g} e h f n m) (t ∷ ts) = beyond_sees c g t ts f n (fits c t.lexeme) refl
+sees (allowed {c = c} {g = g} e h f n m) (t ∷ ts) = grind (arith, beyond_sees)

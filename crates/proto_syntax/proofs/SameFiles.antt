@@ -85,7 +85,8 @@ same_message_step x y e = subst (λ z. MessageSame (roll-Message z)) e message_s
     message_same : MessageSame (roll-Message (map-Message KnownItem KnownMessage MessageItem Message (λ i. i.0) (λ m. m.0) y))
     message_same m e =
         let p = both same_span (both same_name (both same_span (each (same_items y.items m.items) (same_span _ _)))) e in
-        λ i. record { keyword = p.0 i; name = p.1.0 i; open_brace = p.1.1.0 i; items = p.1.1.1.0 i; close_brace = p.1.1.1.1 i }
+        let q = p.1.1 in
+        λ i. record { keyword = p.0 i; name = p.1.0 i; open_brace = q.0 i; items = q.1.0 i; close_brace = q.1.1 i }
 
 same_message : (m : Message) → MessageSame m
 same_message = ind-Message ItemSame MessageSame same_item_step same_message_step

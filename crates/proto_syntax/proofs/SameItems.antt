@@ -80,7 +80,8 @@ same_service_item x y e = cc
 pub same_service : Same service_tree
 same_service x y e =
     let p = both same_span (both same_name (both same_span (both (same_row same_service_item) (same_span _ _)))) e in
-    λ i. record { keyword = p.0 i; name = p.1.0 i; open_brace = p.1.1.0 i; items = p.1.1.1.0 i; close_brace = p.1.1.1.1 i }
+    let q = p.1.1 in
+    λ i. record { keyword = p.0 i; name = p.1.0 i; open_brace = q.0 i; items = q.1.0 i; close_brace = q.1.1 i }
 
 same_bound : {N : Type 0} {f : N → Tree} → Same f → Same (bound_tree f)
 same_bound h (upper_bound.Number a) (upper_bound.Number b) e = ap upper_bound.Number (h a b (cc))
@@ -120,7 +121,8 @@ same_enum_item x y e = cc
 pub same_enum : Same enum_tree
 same_enum x y e =
     let p = both same_span (both same_name (both same_span (both (same_row same_enum_item) (same_span _ _)))) e in
-    λ i. record { keyword = p.0 i; name = p.1.0 i; open_brace = p.1.1.0 i; items = p.1.1.1.0 i; close_brace = p.1.1.1.1 i }
+    let q = p.1.1 in
+    λ i. record { keyword = p.0 i; name = p.1.0 i; open_brace = q.0 i; items = q.1.0 i; close_brace = q.1.1 i }
 
 pub same_declarator : Same declarator_tree
 same_declarator x y e =
@@ -140,7 +142,8 @@ same_oneof_item x y e = cc
 pub same_oneof : Same oneof_tree
 same_oneof x y e =
     let p = both same_span (both same_name (both same_span (both (same_row same_oneof_item) (same_span _ _)))) e in
-    λ i. record { keyword = p.0 i; name = p.1.0 i; open_brace = p.1.1.0 i; items = p.1.1.1.0 i; close_brace = p.1.1.1.1 i }
+    let q = p.1.1 in
+    λ i. record { keyword = p.0 i; name = p.1.0 i; open_brace = q.0 i; items = q.1.0 i; close_brace = q.1.1 i }
 
 same_map_type : Same map_type_tree
 same_map_type x y e =
