@@ -103,9 +103,13 @@ many_sees : {a a' : Grammar} → Deeper a a' → ((ts : List Spelled) → Sees a
     → Sees (Many a') ts (read_many (read a) (begins a) n ts) (read_many (read a') (begins a') n ts)
 many_sees d h zero ts = refl
 many_sees {a = a} {a' = a'} d h (suc n) ts =
-    grind (arith, deeper_begins d, after_sees d (λ ws f. items none f refl) (λ x ix ws f. after_item a' x ws ix f)
-    (read_many (read a) (begins a) n) (read_many (read a') (begins a') n) (many_sees d h n) ts (read a ts) (read a' ts)
-    refl (h ts))
+    grind (
+      arith,
+      deeper_begins d,
+      after_sees d (λ ws f. items none f refl) (λ x ix ws f. after_item a' x ws ix f)
+          (read_many (read a) (begins a) n) (read_many (read a') (begins a') n) (many_sees d h n) ts (read a ts) (read a' ts)
+          refl (h ts),
+    )
 
 pub sees : {g g' : Grammar} → Deeper g g' → (ts : List Spelled) → Sees g' ts (read g ts) (read g' ts)
 sees same_one ts = grind arith
