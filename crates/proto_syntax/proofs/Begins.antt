@@ -10,7 +10,8 @@ fits_append : (cs ds : List Class) (w : Lexeme) → fits_any (cs ++ ds) w ≡ (f
 fits_append [] ds w = refl
 fits_append (c ∷ cs) ds w = grind (arith, fits_append cs ds w)
 
-pub next_append : (cs ds : List Class) (ts : List Spelled) → next_fits (cs ++ ds) ts ≡ (next_fits cs ts || next_fits ds ts)
+pub next_append : (cs ds : List Class) (ts : List Spelled)
+    → next_fits (cs ++ ds) ts ≡ (next_fits cs ts || next_fits ds ts)
 next_append cs ds ts = grind (arith, fits_append)
 
 apart_each : (c : Class) (ds : List Class) (w : Lexeme) → apart_from_all c ds ≡ true → fits_any ds w ≡ true

@@ -1,9 +1,9 @@
 -- A grammar with a larger limit of depth.
 use Rattle.std.proofs.Common.{arith}
-use Rattle.std.proofs.Common.{◌≡◌, ℕ, zero, suc, Bool, true, false, cond, List, [], ◌∷◌, ◌++◌, length, refl, sym, ap, subst, append_assoc}
+use Rattle.std.proofs.Common.{◌≡◌, ℕ, zero, suc, true, false, List, [], ◌∷◌, ◌++◌, length, refl, sym, ap, append_assoc}
 use Rattle.proto_tokens.specs.Token.{Spelled}
-use Rattle.proto_syntax.specs.Grammar.{Class, fits, Grammar, One, Nothing, ◌⨾◌, ◌∣◌, Many, Beyond, Tree, Empty, Pair, Left, Right, flatten, IsTree, both, first, second, none, more, IsFront, empty, within, past, of_first, of_second, items}
-use Rattle.proto_syntax.specs.Reading.{Outcome, Read, Stops, after, mapped, read_one, read_many, read, begins, can_be_empty}
+use Rattle.proto_syntax.specs.Grammar.{Class, fits, Grammar, One, Nothing, ◌⨾◌, ◌∣◌, Many, Beyond, Tree, Pair, flatten, IsTree, both, first, second, none, more, IsFront, empty, within, past, of_first, of_second, items}
+use Rattle.proto_syntax.specs.Reading.{Outcome, Read, Stops, after, mapped, read_many, read, begins, can_be_empty}
 use Rattle.proto_syntax.proofs.Reach.{read_found}
 use Rattle.proto_syntax.proofs.Sound.{after_item}
 

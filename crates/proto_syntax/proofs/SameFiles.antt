@@ -82,10 +82,11 @@ same_message_step : (x : Message-F MessageItem Message) (y : Message-F KnownItem
     → map-Message KnownItem KnownMessage MessageItem Message (λ i. i.0) (λ m. m.0) y ≡ x → MessageSame (roll-Message x)
 same_message_step x y e = subst (λ z. MessageSame (roll-Message z)) e message_same
   where
-    message_same : MessageSame (roll-Message (map-Message KnownItem KnownMessage MessageItem Message (λ i. i.0) (λ m. m.0) y))
+    message_same : MessageSame
+        (roll-Message (map-Message KnownItem KnownMessage MessageItem Message (λ i. i.0) (λ m. m.0) y))
     message_same m e =
-        let p = both same_span (both same_name (both same_span (each (same_items y.items m.items) (same_span _ _)))) e in
-        let q = p.1.1 in
+        let p = both same_span (both same_name (λ r. r)) e in
+        let q = both same_span (each (same_items y.items m.items) (same_span _ _)) p.1.1 in
         λ i. record { keyword = p.0 i; name = p.1.0 i; open_brace = q.0 i; items = q.1.0 i; close_brace = q.1.1 i }
 
 same_message : (m : Message) → MessageSame m

@@ -67,14 +67,15 @@ same_rpc_body x y e = cc
 
 same_rpc : Same rpc_tree
 same_rpc x y e =
-    let p = both same_span (both same_name (both same_rpc_type (λ r. r))) e in
-    let q = both same_span (both same_rpc_type (same_rpc_body _ _)) p.1.1.1 in
-    λ i. record { keyword = p.0 i; name = p.1.0 i; input = p.1.1.0 i; returns = q.0 i; output = q.1.0 i; body = q.1.1 i }
+    let p = both same_span (both same_name (λ r. r)) e in
+    let q = both same_rpc_type (both same_span (both same_rpc_type (same_rpc_body _ _))) p.1.1 in
+    λ i. record { keyword = p.0 i; name = p.1.0 i; input = q.0 i; returns = q.1.0 i; output = q.1.1.0 i; body = q.1.1.1 i }
 
 same_service_item : Same service_item_tree
 same_service_item (service_item.Rpc a) (service_item.Rpc b) e = ap service_item.Rpc (same_rpc a b (cc))
 same_service_item (service_item.Option a) (service_item.Option b) e = ap service_item.Option (same_option a b (cc))
-same_service_item (service_item.Empty a) (service_item.Empty b) e = ap service_item.Empty (same_span a b (right_of (right_of e)))
+same_service_item (service_item.Empty a) (service_item.Empty b) e =
+    ap service_item.Empty (same_span a b (right_of (right_of e)))
 same_service_item x y e = cc
 
 pub same_service : Same service_tree
@@ -113,8 +114,10 @@ same_value x y e =
 
 same_enum_item : Same enum_item_tree
 same_enum_item (enum_item.Option a) (enum_item.Option b) e = ap enum_item.Option (same_option a b (cc))
-same_enum_item (enum_item.Reserved a) (enum_item.Reserved b) e = ap enum_item.Reserved (same_reserved same_signed a b (cc))
-same_enum_item (enum_item.Empty a) (enum_item.Empty b) e = ap enum_item.Empty (same_span a b (left_of (right_of (right_of e))))
+same_enum_item (enum_item.Reserved a) (enum_item.Reserved b) e =
+    ap enum_item.Reserved (same_reserved same_signed a b (cc))
+same_enum_item (enum_item.Empty a) (enum_item.Empty b) e =
+    ap enum_item.Empty (same_span a b (left_of (right_of (right_of e))))
 same_enum_item (enum_item.Value a) (enum_item.Value b) e = ap enum_item.Value (same_value a b (cc))
 same_enum_item x y e = cc
 
