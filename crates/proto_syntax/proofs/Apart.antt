@@ -31,5 +31,5 @@ not_all_among : (u : List ℕ) (ws vs : List (List ℕ)) → all_among ws vs ≡
 not_all_among u ws vs h i = grind (arith, false_from_ne_true, both_ways, not-true, all_among_same)
 
 pub apart_means : (c d : Class) (w : Lexeme) → apart c d ≡ true → fits c w ≡ true → fits d w ≡ false
-apart_means x0 x1 x2 x3 x4 =
+apart_means c d w h i =
     grind (arith, none_among_same, not_from_true, all_among_same, not_all_among, false_from_ne_true, not-true, eqb-true)

@@ -1,6 +1,5 @@
 -- A grammar with a larger limit of depth.
-use Rattle.std.proofs.Common.{arith}
-use Rattle.std.proofs.Common.{◌≡◌, ℕ, zero, suc, true, false, List, [], ◌∷◌, ◌++◌, length, refl, sym, ap, append_assoc}
+use Rattle.std.proofs.Common.{arith, ◌≡◌, ℕ, zero, suc, true, false, List, [], ◌∷◌, ◌++◌, length, refl, sym, ap, append_assoc}
 use Rattle.proto_tokens.specs.Token.{Spelled}
 use Rattle.proto_syntax.specs.Grammar.{Class, fits, Grammar, One, Nothing, ◌⨾◌, ◌∣◌, Many, Beyond, Tree, Pair, flatten, IsTree, both, first, second, none, more, IsFront, empty, within, past, of_first, of_second, items}
 use Rattle.proto_syntax.specs.Reading.{Outcome, Read, Stops, after, mapped, read_many, read, begins, can_be_empty}
@@ -107,7 +106,8 @@ many_sees {a = a} {a' = a'} d h (suc n) ts =
       arith,
       deeper_begins d,
       after_sees d (λ ws f. items none f refl) (λ x ix ws f. after_item a' x ws ix f)
-          (read_many (read a) (begins a) n) (read_many (read a') (begins a') n) (many_sees d h n) ts (read a ts) (read a' ts)
+          (read_many (read a) (begins a) n) (read_many (read a') (begins a') n) (many_sees d h n) ts (read a ts)
+          (read a' ts)
           refl (h ts),
     )
 
@@ -115,7 +115,8 @@ pub sees : {g g' : Grammar} → Deeper g g' → (ts : List Spelled) → Sees g' 
 sees same_one ts = grind arith
 sees same_nothing ts = refl
 sees (in_both {a = a} {a' = a'} {b = b} {b' = b'} h i) ts =
-    after_sees h (λ ws f. within f) (λ x ix ws f. past ix f refl) (read b) (read b') (sees i) ts (read a ts) (read a' ts)
+    after_sees h (λ ws f. within f) (λ x ix ws f. past ix f refl) (read b) (read b') (sees i) ts (read a ts)
+    (read a' ts)
     refl (sees h ts)
 sees (in_either h i) ts = grind (arith, deeper_begins h, of_first, of_second, sees h ts, sees i ts)
 sees (in_many h) ts = many_sees h (sees h) (length ts) ts

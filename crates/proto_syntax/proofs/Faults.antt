@@ -41,7 +41,7 @@ left_over g ts x t vs h e =
 ended_fault : (g : Grammar) (ts : List Spelled) (b : Bool) (us : List Spelled) → decides g ≡ true → (o : Outcome)
     → read g ts ≡ o → ended o ≡ Stops b us
     → IsFault g ts us
-ended_fault x0 x1 x2 x3 x4 x5 x6 x7 = grind (arith, left_over, fault_found)
+ended_fault g ts b us h o i j = grind (arith, left_over, fault_found)
 
 take_front : (before us ts : List Spelled) (k : ℕ) → ts ≡ before ++ us → k + length us ≡ length ts → take k ts ≡ before
 take_front before us ts k e l =
@@ -87,11 +87,11 @@ module _ (limit : ℕ) (ts us : List Spelled) (b : Bool) (k : ℕ) (e : ended (r
 -- what is seen at the end of the tokens
 ended_sees : (g : Grammar) (ts us : List Spelled) (o o' : Outcome) → Sees g ts o o' → ended o ≡ Stops false us
     → ended o' ≡ Stops false us
-ended_sees x0 x1 x2 x3 x4 x5 x6 = grind arith
+ended_sees g ts us o o' h i = grind arith
 
 ended_goes_on : (g : Grammar) (ts us : List Spelled) (o o' : Outcome) → Sees g ts o o' → ended o ≡ Stops true us
     → GoesOn g ts us
-ended_goes_on x0 x1 x2 x3 x4 x5 x6 = grind arith
+ended_goes_on g ts us o o' h i = grind arith
 
 -- the first of what is left is the token at k
 slice_get_front : (before us : List Spelled) → slice_get (before ++ us) (length before) ≡ slice_get us 0
@@ -172,7 +172,7 @@ too_deep_at limit ts us e =
 
 -- what is read is the tokens
 ended_read : (o : Outcome) (x : Tree) (us : List Spelled) → ended o ≡ Read x us → o ≡ Read x []
-ended_read x0 x1 x2 x3 = grind arith
+ended_read o x us h = grind arith
 
 pub tree_found : (limit : ℕ) (ts us : List Spelled) (x : Tree) → ended (read (file limit) ts) ≡ Read x us
     → IsTreeOf limit ts x

@@ -12,7 +12,7 @@ abbrev Cuts : (us vs a b : List Spelled) → Type 0
 Cuts us vs a b = ((c : List Spelled) × (us ≡ a ++ c)) ⊎ ((c : List Spelled) × (a ≡ us ++ c) × (vs ≡ c ++ b))
 
 cuts_more : (t u : Spelled) (us vs a b : List Spelled) → t ≡ u → Cuts us vs a b → Cuts (t ∷ us) vs (u ∷ a) b
-cuts_more x0 x1 x2 x3 x4 x5 x6 x7 = grind arith
+cuts_more t u us vs a b h i = grind arith
 
 cuts : (us vs a b : List Spelled) → us ++ vs ≡ a ++ b → Cuts us vs a b
 cuts [] vs a b e = inr (a, refl, e)

@@ -69,7 +69,8 @@ same_rpc : Same rpc_tree
 same_rpc x y e =
     let p = both same_span (both same_name (λ r. r)) e in
     let q = both same_rpc_type (both same_span (both same_rpc_type (same_rpc_body _ _))) p.1.1 in
-    λ i. record { keyword = p.0 i; name = p.1.0 i; input = q.0 i; returns = q.1.0 i; output = q.1.1.0 i; body = q.1.1.1 i }
+    let r = q.1.1 in
+    λ i. record { keyword = p.0 i; name = p.1.0 i; input = q.0 i; returns = q.1.0 i; output = r.0 i; body = r.1 i }
 
 same_service_item : Same service_item_tree
 same_service_item (service_item.Rpc a) (service_item.Rpc b) e = ap service_item.Rpc (same_rpc a b (cc))

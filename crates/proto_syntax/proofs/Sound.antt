@@ -1,6 +1,5 @@
 -- What is read is spelled so, and what was read before a fault is a front.
-use Rattle.std.proofs.Common.{arith}
-use Rattle.std.proofs.Common.{◌≡◌, ℕ, zero, suc, Bool, false, cond, List, [], ◌∷◌, ◌++◌, length, refl, sym, append_assoc}
+use Rattle.std.proofs.Common.{arith, ◌≡◌, ℕ, zero, suc, Bool, false, cond, List, [], ◌∷◌, ◌++◌, length, refl, sym, append_assoc}
 use Rattle.std.proofs.lemmas.List.{append-nil}
 use Rattle.proto_tokens.specs.Token.{Spelled}
 use Rattle.proto_syntax.specs.Grammar.{Class, fits, Grammar, One, Nothing, ◌⨾◌, ◌∣◌, Many, Beyond, Tree, Leaf, Empty, Pair, Left, Right, flatten, IsTree, one, nothing, both, first, second, none, more, IsFront, empty, within, past, of_first, of_second, items}
@@ -12,7 +11,7 @@ Sound g ts (Stops d us) = (fs : List Spelled) × (ts ≡ fs ++ us) × IsFront g 
 
 one_sound : (c : Class) (t : Spelled) (ts : List Spelled) (b : Bool) → fits c t.lexeme ≡ b
     → Sound (One c) (t ∷ ts) (cond b (Read (Leaf t) ts) (Stops false (t ∷ ts)))
-one_sound x0 x1 x2 x3 x4 = grind (arith, one, empty)
+one_sound c t ts b h = grind (arith, one, empty)
 
 second_sound : (a b : Grammar) (x : Tree) (ts us : List Spelled) → IsTree a x → ts ≡ flatten x ++ us → (o : Outcome)
     → Sound b us o
@@ -28,14 +27,14 @@ seq_sound a b ts (Read x us) (ix, e) h = second_sound a b x ts us ix e (read b u
 seq_sound a b ts (Stops d us) (fs, e, f) h = (fs, e, within f)
 
 left_sound : (a b : Grammar) (ts : List Spelled) (o : Outcome) → Sound a ts o → Sound (a ∣ b) ts (mapped Left o)
-left_sound x0 x1 x2 x3 x4 = grind (arith, first, of_first)
+left_sound a b ts o h = grind (arith, first, of_first)
 
 right_sound : (a b : Grammar) (ts : List Spelled) (o : Outcome) → Sound b ts o → Sound (a ∣ b) ts (mapped Right o)
-right_sound x0 x1 x2 x3 x4 = grind (arith, second, of_second)
+right_sound a b ts o h = grind (arith, second, of_second)
 
 choice_sound : (a b : Grammar) (ts : List Spelled) (z : Bool) → Sound a ts (read a ts) → Sound b ts (read b ts)
     → Sound (a ∣ b) ts (cond z (mapped Left (read a ts)) (mapped Right (read b ts)))
-choice_sound x0 x1 x2 x3 x4 x5 = grind (arith, left_sound, right_sound)
+choice_sound a b ts z h i = grind (arith, left_sound, right_sound)
 
 -- an item, and then a front of the others
 pub after_item : (a : Grammar) (x : Tree) (fs : List Spelled) → IsTree a x → IsFront (Many a) fs
@@ -47,7 +46,7 @@ after_item a x fs ix (items {x = y} {us = ws} iy f' q) =
 rest_sound : (a : Grammar) (x : Tree) (ts us : List Spelled) → IsTree a x → ts ≡ flatten x ++ us → (o : Outcome)
     → Sound (Many a) us o
     → Sound (Many a) ts (mapped (Pair x) o)
-rest_sound x0 x1 x2 x3 x4 x5 x6 x7 = grind (arith, more, append_assoc, after_item)
+rest_sound a x ts us h i o j = grind (arith, more, append_assoc, after_item)
 
 item_sound : (a : Grammar) (ts : List Spelled) (o : Outcome) → Sound a ts o → (next : List Spelled → Outcome)
     → ((us : List Spelled) → Sound (Many a) us (next us))
@@ -57,7 +56,7 @@ item_sound a ts (Stops d us) (fs, e, f) next h = (fs, e, items none f refl)
 
 turn_sound : (a : Grammar) (ts : List Spelled) (z : Bool) (o : Outcome) → Sound (Many a) ts o
     → Sound (Many a) ts (cond z o (Read Empty ts))
-turn_sound x0 x1 x2 x3 x4 = grind (arith, none)
+turn_sound a ts z o h = grind (arith, none)
 
 pub many_sound : (a : Grammar) (h : (ts : List Spelled) → Sound a ts (read a ts)) (n : ℕ) (ts : List Spelled)
     → Sound (Many a) ts (read_many (read a) (begins a) n ts)

@@ -33,7 +33,7 @@ pub of_every_tree : (limit : ℕ) (tokens : Tokens) (result : Result FileTree Pa
     → (x : Tree)
     → IsTreeOf limit (tokens_of tokens) x
     → MatchResult result (λ file. file_tree file ≡ x) (λ e. e ≡ NoMemory)
-of_every_tree x0 x1 x2 x3 x4 x5 = grind (arith, only_tree)
+of_every_tree limit tokens result h x i = grind (arith, only_tree)
 
 pub of_every_fault : (limit : ℕ) (tokens : Tokens) (result : Result FileTree ParseError)
     → MatchResult result (λ file. IsTreeOf limit (tokens_of tokens) (file_tree file)) (IsFaultOf limit tokens)

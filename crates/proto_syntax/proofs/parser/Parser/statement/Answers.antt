@@ -13,18 +13,21 @@ returns-then-at_keyword c = made_gives of.Import import_tree statement_tree (way
     (sym c.at_keyword.ensures ∙ c.if-at_keyword.true))
 
 pub returns-then-at_keyword-2 : goal.returns-then-at_keyword-2
-returns-then-at_keyword-2 c = made_gives of.Package package_tree statement_tree (way 1) _ _ _ _ _ (λ x e. refl) (λ d. refl)
+returns-then-at_keyword-2 c = made_gives of.Package package_tree statement_tree (way 1) _ _ _ _ _ (λ x e. refl)
+    (λ d. refl)
     c.map-then-at_keyword-2.ensures.cases c.boxed-then-at_keyword-2.ensures (statement_package (message c.args.depth) _
     (sym c.at_keyword.ensures ∙ c.if-at_keyword.false) (sym c.at_keyword-2.ensures ∙ c.if-at_keyword-2.true))
 
 pub returns-then-at_keyword-3 : goal.returns-then-at_keyword-3
-returns-then-at_keyword-3 c = made_gives of.Option option_tree statement_tree (way 2) _ _ _ _ _ (λ x e. refl) (λ d. refl)
+returns-then-at_keyword-3 c = made_gives of.Option option_tree statement_tree (way 2) _ _ _ _ _ (λ x e. refl)
+    (λ d. refl)
     c.map-then-at_keyword-3.ensures.cases c.boxed-then-at_keyword-3.ensures (statement_option (message c.args.depth) _
     (sym c.at_keyword.ensures ∙ c.if-at_keyword.false) (sym c.at_keyword-2.ensures ∙ c.if-at_keyword-2.false)
     (sym c.at_keyword-3.ensures ∙ c.if-at_keyword-3.true))
 
 pub returns-then-at_keyword-4 : goal.returns-then-at_keyword-4
-returns-then-at_keyword-4 c = made_gives of.Message message_tree statement_tree (way 3) _ _ _ _ _ (λ x e. refl) (λ d. refl)
+returns-then-at_keyword-4 c = made_gives of.Message message_tree statement_tree (way 3) _ _ _ _ _ (λ x e. refl)
+    (λ d. refl)
     c.map-then-at_keyword-4.ensures.cases c.message.ensures (statement_message _ (level c.args.depth) _
     (sym c.at_keyword.ensures ∙ c.if-at_keyword.false) (sym c.at_keyword-2.ensures ∙ c.if-at_keyword-2.false)
     (sym c.at_keyword-3.ensures ∙ c.if-at_keyword-3.false) (sym c.at_keyword-4.ensures ∙ c.if-at_keyword-4.true))
@@ -37,7 +40,8 @@ returns-then-at_keyword-5 c = made_gives of.Enum enum_tree statement_tree (way 4
     (sym c.at_keyword-5.ensures ∙ c.if-at_keyword-5.true))
 
 pub returns-then-at_keyword-6 : goal.returns-then-at_keyword-6
-returns-then-at_keyword-6 c = made_gives of.Service service_tree statement_tree (way 5) _ _ _ _ _ (λ x e. refl) (λ d. refl)
+returns-then-at_keyword-6 c = made_gives of.Service service_tree statement_tree (way 5) _ _ _ _ _ (λ x e. refl)
+    (λ d. refl)
     c.map-then-at_keyword-6.ensures.cases c.boxed-then-at_keyword-6.ensures (statement_service _ (level c.args.depth) _
     (sym c.at_keyword.ensures ∙ c.if-at_keyword.false) (sym c.at_keyword-2.ensures ∙ c.if-at_keyword-2.false)
     (sym c.at_keyword-3.ensures ∙ c.if-at_keyword-3.false) (sym c.at_keyword-4.ensures ∙ c.if-at_keyword-4.false)
