@@ -1,10 +1,10 @@
 -- Classes that are apart have no token in common.
 use Rattle.std.proofs.Common.{◌≡◌, ℕ, true, false, not, List, [], ◌∷◌, sym, subst, arith, inl, inr}
-use Rattle.std.specs.Prelude.{bytes_eq, nat_eq}
+use Rattle.std.specs.Prelude.{bytes_eq}
 use Rattle.std.proofs.lemmas.Slice.Eq.{bytes_eq-Decides}
 use Rattle.std.proofs.lemmas.Bool.{and_parts, or_cases, both_ways, not-true, not_from_true, false_from_ne_true, eqb-true}
-use Rattle.proto_tokens.specs.Token.{Lexeme, identifier, punctuation}
-use Rattle.proto_syntax.specs.Grammar.{Class, OneOf, NoneOf, Symbol, among, fits}
+use Rattle.proto_tokens.specs.Token.{Lexeme}
+use Rattle.proto_syntax.specs.Grammar.{Class, among, fits}
 use Rattle.proto_syntax.specs.Reading.{none_among, all_among, apart}
 
 -- a word among one list is not among another that shares none with it
@@ -28,14 +28,8 @@ all_among_same u (w ∷ ws) vs h i = elim (or_cases (bytes_eq u w) (among u ws) 
 -- u is not among ws, all of which are among vs, if it is not among vs
 not_all_among : (u : List ℕ) (ws vs : List (List ℕ)) → all_among ws vs ≡ true → not (among u vs) ≡ true
     → among u ws ≡ false
-not_all_among u ws vs h i =
-    false_from_ne_true (among u ws) (λ e. both_ways (among u vs) (not-true (among u vs) i) (all_among_same u ws vs h e))
+not_all_among u ws vs h i = grind (arith, false_from_ne_true, both_ways, not-true, all_among_same)
 
 pub apart_means : (c d : Class) (w : Lexeme) → apart c d ≡ true → fits c w ≡ true → fits d w ≡ false
-apart_means (OneOf ws) (OneOf vs) (identifier u) h i = none_among_same u ws vs h i
-apart_means (OneOf ws) (NoneOf vs) (identifier u) h i = not_from_true (among u vs) (all_among_same u ws vs h i)
-apart_means (NoneOf vs) (OneOf ws) (identifier u) h i = not_all_among u ws vs h i
-apart_means (Symbol b) (Symbol c) (punctuation x) h i =
-    false_from_ne_true (nat_eq c x) (λ e. let k : nat_eq b c ≡ false = not-true (nat_eq b c) h in
-    grind (arith, eqb-true))
-apart_means c d w h i = grind arith
+apart_means c d w h i =
+    grind (arith, none_among_same, not_from_true, all_among_same, not_all_among, false_from_ne_true, not-true, eqb-true)

@@ -1,8 +1,8 @@
 -- A grammar with a larger limit of depth.
-use Rattle.std.proofs.Common.{◌≡◌, ℕ, zero, suc, Bool, true, false, cond, List, [], ◌∷◌, ◌++◌, length, refl, sym, ap, subst, append_assoc}
+use Rattle.std.proofs.Common.{arith, ◌≡◌, ℕ, zero, suc, true, false, List, [], ◌∷◌, ◌++◌, length, refl, sym, ap, append_assoc}
 use Rattle.proto_tokens.specs.Token.{Spelled}
-use Rattle.proto_syntax.specs.Grammar.{Class, fits, Grammar, One, Nothing, ◌⨾◌, ◌∣◌, Many, Beyond, Tree, Leaf, Empty, Pair, Left, Right, flatten, IsTree, both, first, second, none, more, IsFront, empty, within, past, of_first, of_second, items}
-use Rattle.proto_syntax.specs.Reading.{Outcome, Read, Stops, after, mapped, read_one, read_many, read, begins, next_fits, can_be_empty}
+use Rattle.proto_syntax.specs.Grammar.{Class, fits, Grammar, One, Nothing, ◌⨾◌, ◌∣◌, Many, Beyond, Tree, Pair, flatten, IsTree, both, first, second, none, more, IsFront, empty, within, past, of_first, of_second, items}
+use Rattle.proto_syntax.specs.Reading.{Outcome, Read, Stops, after, mapped, read_many, read, begins, can_be_empty}
 use Rattle.proto_syntax.proofs.Reach.{read_found}
 use Rattle.proto_syntax.proofs.Sound.{after_item}
 
@@ -64,167 +64,61 @@ Sees g ts (Read x us) o = o ≡ Read x us
 Sees g ts (Stops false us) o = o ≡ Stops false us
 Sees g ts (Stops true us) o = GoesOn g ts us
 
-one_sees : (c : Class) (ts : List Spelled) → Sees (One c) ts (read_one c ts) (read_one c ts)
-one_sees c [] = refl
-one_sees c (t ∷ ts) = by_cases (fits c t.lexeme)
-  where
-    by_cases : (b : Bool) → Sees (One c) (t ∷ ts) (cond b (Read (Leaf t) ts) (Stops false (t ∷ ts)))
-        (cond b (Read (Leaf t) ts) (Stops false (t ∷ ts)))
-    by_cases true = refl
-    by_cases false = refl
-
--- the second part, after a first that is read
-second_sees : (a b : Grammar) (x : Tree) (ts us : List Spelled) → IsTree a x → ts ≡ flatten x ++ us → (o o' : Outcome)
-    → Sees b us o o'
-    → Sees (a ⨾ b) ts (mapped (Pair x) o) (mapped (Pair x) o')
-second_sees a b x ts us ix e (Read y vs) o' h = ap (mapped (Pair x)) h
-second_sees a b x ts us ix e (Stops false vs) o' h = ap (mapped (Pair x)) h
-second_sees a b x ts us ix e (Stops true vs) o' h = record {
-  before = flatten x ++ h.before;
+-- behind what is read, where a front of the rest is then one of the whole
+goes_later : {g g' : Grammar} (fs : List Spelled) {ts us vs : List Spelled} → ts ≡ fs ++ us
+    → ((ws : List Spelled) → IsFront g ws → IsFront g' (fs ++ ws)) → GoesOn g us vs → GoesOn g' ts vs
+goes_later fs {vs = vs} e f h = record {
+  before = fs ++ h.before;
   token = h.token;
   later = h.later;
-  parts = rw (e, h.parts) (sym (append_assoc (flatten x) h.before vs));
+  parts = rw (e, h.parts) (sym (append_assoc fs h.before vs));
   here = h.here;
-  front = past ix h.front (append_assoc (flatten x) h.before (h.token ∷ []));
+  front = rw append_assoc (f _ h.front);
 }
 
-seq_sees : (a b a' b' : Grammar) (ts : List Spelled) → Deeper a a' → (o o' : Outcome) → o ≡ read a ts → Sees a' ts o o'
-    → ((us : List Spelled) → Sees b' us (read b us) (read b' us))
-    → Sees (a' ⨾ b') ts (after o (λ x us. mapped (Pair x) (read b us)))
-    (after o' (λ x us. mapped (Pair x) (read b' us)))
-seq_sees a b a' b' ts d (Read x us) o' q h k =
-    let s = read_found a ts x us (sym q) in
-    subst (λ z. Sees (a' ⨾ b') ts (mapped (Pair x) (read b us)) (after z (λ x us. mapped (Pair x) (read b' us))))
-    (sym h)
-    (second_sees a' b' x ts us (deeper_tree d s.0) s.1 (read b us) (read b' us) (k us))
-seq_sees a b a' b' ts d (Stops false us) o' q h k = ap (λ z. after z (λ x us. mapped (Pair x) (read b' us))) h
-seq_sees a b a' b' ts d (Stops true us) o' q h k =
-    record {
-      before = h.before;
-      token = h.token;
-      later = h.later;
-      parts = h.parts;
-      here = h.here;
-      front = within h.front;
-    }
+goes_here : {g : Grammar} {t : Spelled} {ts : List Spelled} → IsFront g (t ∷ []) → GoesOn g (t ∷ ts) (t ∷ ts)
+goes_here {t = t} {ts = ts} f = record { before = []; token = t; later = ts; parts = refl; here = refl; front = f }
 
-left_sees : (a b : Grammar) (ts : List Spelled) (o o' : Outcome) → Sees a ts o o'
-    → Sees (a ∣ b) ts (mapped Left o) (mapped Left o')
-left_sees a b ts (Read x us) o' h = ap (mapped Left) h
-left_sees a b ts (Stops false us) o' h = ap (mapped Left) h
-left_sees a b ts (Stops true us) o' h =
-    record {
-      before = h.before;
-      token = h.token;
-      later = h.later;
-      parts = h.parts;
-      here = h.here;
-      front = of_first h.front;
-    }
+mapped_sees : {g g' : Grammar} (change : Tree → Tree) (fs ts us : List Spelled) → ts ≡ fs ++ us
+    → ((ws : List Spelled) → IsFront g ws → IsFront g' (fs ++ ws)) → (o o' : Outcome) → Sees g us o o'
+    → Sees g' ts (mapped change o) (mapped change o')
+mapped_sees change fs ts us e f (Read x vs) o' h = ap (mapped change) h
+mapped_sees change fs ts us e f (Stops false vs) o' h = ap (mapped change) h
+mapped_sees change fs ts us e f (Stops true vs) o' h = goes_later fs e f h
 
-right_sees : (a b : Grammar) (ts : List Spelled) (o o' : Outcome) → Sees b ts o o'
-    → Sees (a ∣ b) ts (mapped Right o) (mapped Right o')
-right_sees a b ts (Read x us) o' h = ap (mapped Right) h
-right_sees a b ts (Stops false us) o' h = ap (mapped Right) h
-right_sees a b ts (Stops true us) o' h =
-    record {
-      before = h.before;
-      token = h.token;
-      later = h.later;
-      parts = h.parts;
-      here = h.here;
-      front = of_second h.front;
-    }
+-- a part, and what is read after it
+after_sees : {a a' b g : Grammar} → Deeper a a' → ((ws : List Spelled) → IsFront a' ws → IsFront g ws)
+    → ((x : Tree) → IsTree a' x → (ws : List Spelled) → IsFront b ws → IsFront g (flatten x ++ ws))
+    → (next next' : List Spelled → Outcome) → ((us : List Spelled) → Sees b us (next us) (next' us))
+    → (ts : List Spelled) (o o' : Outcome) → o ≡ read a ts → Sees a' ts o o'
+    → Sees g ts (after o (λ x us. mapped (Pair x) (next us))) (after o' (λ x us. mapped (Pair x) (next' us)))
+after_sees {a = a} d f p next next' k ts (Read x us) o' q h = let s = read_found a ts x us (sym q) in
+    rw h (mapped_sees (Pair x) (flatten x) ts us s.1 (p x (deeper_tree d s.0)) (next us) (next' us) (k us))
+after_sees d f p next next' k ts (Stops false us) o' q h = rw h refl
+after_sees d f p next next' k ts (Stops true us) o' q h = goes_later [] refl f h
 
-choice_sees : (a b : Grammar) (ts : List Spelled) (z : Bool) (oa oa' ob ob' : Outcome) → Sees a ts oa oa'
-    → Sees b ts ob ob'
-    → Sees (a ∣ b) ts (cond z (mapped Left oa) (mapped Right ob)) (cond z (mapped Left oa') (mapped Right ob'))
-choice_sees a b ts true oa oa' ob ob' h i = left_sees a b ts oa oa' h
-choice_sees a b ts false oa oa' ob ob' h i = right_sees a b ts ob ob' i
-
-rest_sees : (a : Grammar) (x : Tree) (ts us : List Spelled) → IsTree a x → ts ≡ flatten x ++ us → (o o' : Outcome)
-    → Sees (Many a) us o o'
-    → Sees (Many a) ts (mapped (Pair x) o) (mapped (Pair x) o')
-rest_sees a x ts us ix e (Read y vs) o' h = ap (mapped (Pair x)) h
-rest_sees a x ts us ix e (Stops false vs) o' h = ap (mapped (Pair x)) h
-rest_sees a x ts us ix e (Stops true vs) o' h = record {
-  before = flatten x ++ h.before;
-  token = h.token;
-  later = h.later;
-  parts = rw (e, h.parts) (sym (append_assoc (flatten x) h.before vs));
-  here = h.here;
-  front = subst (IsFront (Many a)) (sym (append_assoc (flatten x) h.before (h.token ∷ [])))
-      (after_item a x (h.before ++ (h.token ∷ [])) ix h.front);
-}
-
-item_sees : (a a' : Grammar) (ts : List Spelled) → Deeper a a' → (o o' : Outcome) → o ≡ read a ts → Sees a' ts o o'
-    → (next next' : List Spelled → Outcome)
-    → ((us : List Spelled) → Sees (Many a') us (next us) (next' us))
-    → Sees (Many a') ts (after o (λ x us. mapped (Pair x) (next us))) (after o' (λ x us. mapped (Pair x) (next' us)))
-item_sees a a' ts d (Read x us) o' q h next next' k =
-    let s = read_found a ts x us (sym q) in
-    subst (λ z. Sees (Many a') ts (mapped (Pair x) (next us)) (after z (λ x us. mapped (Pair x) (next' us)))) (sym h)
-    (rest_sees a' x ts us (deeper_tree d s.0) s.1 (next us) (next' us) (k us))
-item_sees a a' ts d (Stops false us) o' q h next next' k = ap (λ z. after z (λ x us. mapped (Pair x) (next' us))) h
-item_sees a a' ts d (Stops true us) o' q h next next' k =
-    record {
-      before = h.before;
-      token = h.token;
-      later = h.later;
-      parts = h.parts;
-      here = h.here;
-      front = items none h.front refl;
-    }
-
-turn_sees : (a : Grammar) (ts : List Spelled) (z : Bool) (o o' : Outcome) → Sees (Many a) ts o o'
-    → Sees (Many a) ts (cond z o (Read Empty ts)) (cond z o' (Read Empty ts))
-turn_sees a ts true o o' h = h
-turn_sees a ts false o o' h = refl
-
-many_sees : (a a' : Grammar) → Deeper a a' → ((ts : List Spelled) → Sees a' ts (read a ts) (read a' ts))
+many_sees : {a a' : Grammar} → Deeper a a' → ((ts : List Spelled) → Sees a' ts (read a ts) (read a' ts))
     → (n : ℕ) (ts : List Spelled)
     → Sees (Many a') ts (read_many (read a) (begins a) n ts) (read_many (read a') (begins a') n ts)
-many_sees a a' d h zero ts = refl
-many_sees a a' d h (suc n) ts =
-    subst (λ cs. Sees (Many a') ts
-    (cond (next_fits (begins a) ts) (after (read a ts) (λ x us. mapped (Pair x) (read_many (read a) (begins a) n us)))
-    (Read Empty ts))
-    (cond (next_fits cs ts) (after (read a' ts) (λ x us. mapped (Pair x) (read_many (read a') (begins a') n us)))
-    (Read Empty ts)))
-    (deeper_begins d).0
-    (turn_sees a' ts (next_fits (begins a) ts)
-    (after (read a ts) (λ x us. mapped (Pair x) (read_many (read a) (begins a) n us)))
-    (after (read a' ts) (λ x us. mapped (Pair x) (read_many (read a') (begins a') n us)))
-    (item_sees a a' ts d (read a ts) (read a' ts) refl (h ts) (read_many (read a) (begins a) n)
-    (read_many (read a') (begins a') n) (many_sees a a' d h n)))
-
-abbrev IsFrontOf : Class → Grammar → Type 0
-IsFrontOf c g = (t : Spelled) → fits c t.lexeme ≡ true → IsFront g (t ∷ [])
-
-beyond_sees : (c : Class) (g : Grammar) (t : Spelled) (ts : List Spelled) → IsFrontOf c g
-    → ((t : Spelled) (ts : List Spelled) → fits c t.lexeme ≡ false → read g (t ∷ ts) ≡ Stops false (t ∷ ts))
-    → (b : Bool) → fits c t.lexeme ≡ b
-    → Sees g (t ∷ ts) (Stops b (t ∷ ts)) (read g (t ∷ ts))
-beyond_sees c g t ts f n true e = record {
-  before = [];
-  token = t;
-  later = ts;
-  parts = refl;
-  here = refl;
-  front = f t e;
-}
-beyond_sees c g t ts f n false e = n t ts e
+many_sees d h zero ts = refl
+many_sees {a = a} {a' = a'} d h (suc n) ts =
+    grind (
+      arith,
+      deeper_begins d,
+      after_sees d (λ ws f. items none f refl) (λ x ix ws f. after_item a' x ws ix f)
+          (read_many (read a) (begins a) n) (read_many (read a') (begins a') n) (many_sees d h n) ts (read a ts)
+          (read a' ts)
+          refl (h ts),
+    )
 
 pub sees : {g g' : Grammar} → Deeper g g' → (ts : List Spelled) → Sees g' ts (read g ts) (read g' ts)
-sees (same_one {c = c}) ts = one_sees c ts
+sees same_one ts = grind arith
 sees same_nothing ts = refl
 sees (in_both {a = a} {a' = a'} {b = b} {b' = b'} h i) ts =
-    seq_sees a b a' b' ts h (read a ts) (read a' ts) refl (sees h ts) (sees i)
-sees (in_either {a = a} {a' = a'} {b = b} {b' = b'} h i) ts =
-    subst (λ cs. Sees (a' ∣ b') ts (cond (next_fits (begins a) ts) (mapped Left (read a ts)) (mapped Right (read b ts)))
-    (cond (next_fits cs ts) (mapped Left (read a' ts)) (mapped Right (read b' ts)))) (deeper_begins h).0
-    (choice_sees a' b' ts (next_fits (begins a) ts) (read a ts) (read a' ts) (read b ts) (read b' ts)
-    (sees h ts) (sees i ts))
-sees (in_many {a = a} {a' = a'} h) ts = many_sees a a' h (sees h) (length ts) ts
-sees (allowed {c = c} {g = g} e h f n m) [] = m
-sees (allowed {c = c} {g = g} e h f n m) (t ∷ ts) = beyond_sees c g t ts f n (fits c t.lexeme) refl
+    after_sees h (λ ws f. within f) (λ x ix ws f. past ix f refl) (read b) (read b') (sees i) ts (read a ts)
+    (read a' ts)
+    refl (sees h ts)
+sees (in_either h i) ts = grind (arith, deeper_begins h, of_first, of_second, sees h ts, sees i ts)
+sees (in_many h) ts = many_sees h (sees h) (length ts) ts
+sees (allowed e h f n m) [] = m
+sees (allowed e h f n m) (t ∷ ts) = grind (arith, goes_here, f, n)

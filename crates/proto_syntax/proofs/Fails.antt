@@ -24,9 +24,8 @@ pub ends_fails : {A : Type 0} → (f : A → Tree) (g : Grammar) (xs : List A) (
     → can_be_empty g ≡ false → (length ts == 0) ≡ false → Fails e rest (read g (spellings ts))
     → Ends f g xs (spellings ts) ≡ o → Fails e rest o
 ends_fails f g xs ts rest stop.NoMemory o d h l i k = tt
-ends_fails f g xs [] rest stop.Unexpected o d h l i k = cc
-ends_fails f g xs [] rest stop.TooDeep o d h l i k = cc
 ends_fails f g xs (t ∷ ts) rest stop.Unexpected o d h l i k =
     ends_stop f g xs false (spelled t) (spellings ts) (spellings rest) o d h i k
 ends_fails f g xs (t ∷ ts) rest stop.TooDeep o d h l i k =
     ends_stop f g xs true (spelled t) (spellings ts) (spellings rest) o d h i k
+ends_fails f g xs [] rest e o d h l i k = cc

@@ -41,10 +41,7 @@ left_over g ts x t vs h e =
 ended_fault : (g : Grammar) (ts : List Spelled) (b : Bool) (us : List Spelled) → decides g ≡ true → (o : Outcome)
     → read g ts ≡ o → ended o ≡ Stops b us
     → IsFault g ts us
-ended_fault g ts b us h (Read x []) e q = cc
-ended_fault g ts b us h (Read x (t ∷ vs)) e q = let p : t ∷ vs ≡ us = cc in
-    subst (IsFault g ts) p (left_over g ts x t vs h e)
-ended_fault g ts b us h (Stops d vs) e q = let p : vs ≡ us = cc in subst (IsFault g ts) p (fault_found g ts d vs h e)
+ended_fault g ts b us h o i j = grind (arith, left_over, fault_found)
 
 take_front : (before us ts : List Spelled) (k : ℕ) → ts ≡ before ++ us → k + length us ≡ length ts → take k ts ≡ before
 take_front before us ts k e l =
@@ -90,16 +87,11 @@ module _ (limit : ℕ) (ts us : List Spelled) (b : Bool) (k : ℕ) (e : ended (r
 -- what is seen at the end of the tokens
 ended_sees : (g : Grammar) (ts us : List Spelled) (o o' : Outcome) → Sees g ts o o' → ended o ≡ Stops false us
     → ended o' ≡ Stops false us
-ended_sees g ts us (Read x vs) o' h e = ap ended h ∙ e
-ended_sees g ts us (Stops false vs) o' h e = ap ended h ∙ e
-ended_sees g ts us (Stops true vs) o' h e = cc
+ended_sees g ts us o o' h i = grind arith
 
 ended_goes_on : (g : Grammar) (ts us : List Spelled) (o o' : Outcome) → Sees g ts o o' → ended o ≡ Stops true us
     → GoesOn g ts us
-ended_goes_on g ts us (Read x []) o' h e = cc
-ended_goes_on g ts us (Read x (t ∷ vs)) o' h e = cc
-ended_goes_on g ts us (Stops false vs) o' h e = cc
-ended_goes_on g ts us (Stops true vs) o' h e = let p : vs ≡ us = cc in subst (GoesOn g ts) p h
+ended_goes_on g ts us o o' h i = grind arith
 
 -- the first of what is left is the token at k
 slice_get_front : (before us : List Spelled) → slice_get (before ++ us) (length before) ≡ slice_get us 0
@@ -108,9 +100,7 @@ slice_get_front (t ∷ before) us = slice_get_front before us
 
 get_front : (before us ts : List Spelled) (k : ℕ) → ts ≡ before ++ us → k + length us ≡ length ts
     → slice_get ts k ≡ slice_get us 0
-get_front before us ts k e l =
-    let n : k ≡ length before = omega (arith, ap length e, length-append before us) in
-    rw (n, e) (slice_get_front before us)
+get_front before us ts k e l = grind (arith, length-append, slice_get_front)
 
 kind_front : (limit : ℕ) (ts us : List Spelled) (k : ℕ) → ended (read (file limit) ts) ≡ Stops false us
     → k + length us ≡ length ts → (vs : List Spelled)
@@ -182,9 +172,7 @@ too_deep_at limit ts us e =
 
 -- what is read is the tokens
 ended_read : (o : Outcome) (x : Tree) (us : List Spelled) → ended o ≡ Read x us → o ≡ Read x []
-ended_read (Read y []) x us e = let p : y ≡ x = cc in ap (λ z. Read z []) p
-ended_read (Read y (t ∷ vs)) x us e = cc
-ended_read (Stops d vs) x us e = cc
+ended_read o x us h = grind arith
 
 pub tree_found : (limit : ℕ) (ts us : List Spelled) (x : Tree) → ended (read (file limit) ts) ≡ Read x us
     → IsTreeOf limit ts x
@@ -193,4 +181,4 @@ tree_found limit ts us x e =
     record { tree = s.0; tokens = sym (s.1 ∙ append-nil (flatten x)) }
 
 pub only_tree : (limit : ℕ) (ts : List Spelled) (x y : Tree) → IsTreeOf limit ts x → IsTreeOf limit ts y → x ≡ y
-only_tree limit ts x y h i = one_tree (file limit) x y (file_decides limit) h.tree i.tree (h.tokens ∙ sym i.tokens)
+only_tree limit ts x y h i = grind (arith, one_tree, file_decides)

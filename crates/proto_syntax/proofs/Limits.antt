@@ -2,7 +2,7 @@
 use Rattle.std.proofs.Common.{◌≡◌, ℕ, zero, suc, ◌+◌, Bool, true, false, ◌&&◌, refl, subst, arith}
 use Rattle.std.proofs.lemmas.Bool.{and_parts}
 use Rattle.proto_syntax.specs.Grammar.{Grammar, One, Nothing, ◌⨾◌, ◌∣◌, Many, Beyond, within, token}
-use Rattle.proto_syntax.specs.Language.{symbol, str, parts, full, named_but, type_but, signed, constant_number, constant, setting, options, option, rpc_type, rpc_body, rpc, service, erange, ereserved, value, enum, range, reserved, declarator, member, oneof, map_type, map_or_field, field_head, field, message_item, message, «package», import, syntax, statement, file}
+use Rattle.proto_syntax.specs.Language.{symbol, str, parts, full, named_but, type_but, signed, constant_number, constant, setting, options, option, rpc_type, rpc_body, rpc, service, erange, ereserved, value, enum, range, reserved, declarator, member, oneof, map_type, map_or_field, field_head, field, message_item, message, import, syntax, statement, file}
 use Rattle.proto_syntax.proofs.Deeper.{Deeper, same_one, same_nothing, in_both, in_either, in_many, allowed}
 
 -- no rule beyond the limit
@@ -40,24 +40,16 @@ item_deeper m m' h = in_either h (kept (enum ∣ option ∣ oneof ∣ reserved �
 message_deeper : (d k : ℕ) → Deeper (message d) (message (above d k))
 unfolding message
 message_deeper zero k = allowed refl refl (λ t h. within (token h)) (λ t ts h. rw h refl) refl
-message_deeper (suc d) k =
-    in_both same_one
-    (in_both same_one
-    (in_both same_one
-    (in_both (in_many (item_deeper (message d) (message (above d k)) (message_deeper d k))) same_one)))
+message_deeper (suc d) k = grind (arith, in_both, same_one, in_many, item_deeper, message_deeper d k)
 
 statement_deeper : (m m' : Grammar) → Deeper m m' → Deeper (statement m) (statement m')
 unfolding str parts full named_but signed constant_number constant setting options option rpc_type rpc_body rpc service
     erange ereserved value import
-statement_deeper m m' h =
-    in_either (kept import refl)
-    (in_either (kept «package» refl)
-    (in_either (kept option refl) (in_either h (kept (enum ∣ service ∣ symbol ";") refl))))
+statement_deeper m m' h = grind (arith, in_either, kept)
 
 pub file_deeper : (d k : ℕ) → Deeper (file d) (file (above d k))
 unfolding syntax str file
-file_deeper d k = in_both (kept syntax refl)
-    (in_many (statement_deeper (message d) (message (above d k)) (message_deeper d k)))
+file_deeper d k = grind (arith, in_both, kept, in_many, statement_deeper, message_deeper)
 
 -- a limit above both
 pub file_deeper_other : (d k : ℕ) → Deeper (file k) (file (above d k))

@@ -1,10 +1,9 @@
 -- What a front begins with is a front, so a list of tokens has at most one fault.
-use Rattle.std.proofs.Common.{true, append_assoc, ◌≡◌, ◌⊎◌, inl, inr, ℕ, zero, suc, ◌+◌, ◌≤◌, ◌<◌, List, [], ◌∷◌, ◌++◌, length, take, drop, refl, sym, ◌∙◌, ap, subst, arith}
+use Rattle.std.proofs.Common.{true, append_assoc, ◌≡◌, ◌⊎◌, inl, inr, ℕ, zero, suc, ◌≤◌, ◌<◌, List, [], ◌∷◌, ◌++◌, take, drop, refl, sym, ◌∙◌, ap, subst, arith}
 use Rattle.std.proofs.lemmas.List.{take-append-drop}
 use Rattle.proto_tokens.specs.Token.{Spelled}
 use Rattle.proto_syntax.specs.Grammar.{Class, fits, Grammar, One, ◌⨾◌, ◌∣◌, Many, Tree, flatten, IsTree, none, more, IsFront, empty, token, within, past, of_first, of_second, items}
 use Rattle.proto_syntax.specs.Fault.{IsFaultAt}
-use Rattle.proto_syntax.specs.Language.{file}
 use Rattle.proto_syntax.proofs.Begins.{tree_front}
 use Rattle.proto_syntax.proofs.Sound.{after_item}
 
@@ -13,8 +12,7 @@ abbrev Cuts : (us vs a b : List Spelled) → Type 0
 Cuts us vs a b = ((c : List Spelled) × (us ≡ a ++ c)) ⊎ ((c : List Spelled) × (a ≡ us ++ c) × (vs ≡ c ++ b))
 
 cuts_more : (t u : Spelled) (us vs a b : List Spelled) → t ≡ u → Cuts us vs a b → Cuts (t ∷ us) vs (u ∷ a) b
-cuts_more t u us vs a b e (inl (c, h)) = inl (c, (λ i. e i ∷ h i))
-cuts_more t u us vs a b e (inr (c, h, k)) = inr (c, (λ i. sym e i ∷ h i), k)
+cuts_more t u us vs a b h i = grind arith
 
 cuts : (us vs a b : List Spelled) → us ++ vs ≡ a ++ b → Cuts us vs a b
 cuts [] vs a b e = inr (a, refl, e)
@@ -79,11 +77,7 @@ shorter_front g ts j k h f =
     (sym (take-append-drop j (take k ts)) ∙ ap (λ z. z ++ drop j (take k ts)) (take_take j k ts h))
 
 no_earlier : (limit : ℕ) (ts : List Spelled) (j k : ℕ) → IsFaultAt limit ts j → IsFaultAt limit ts k → j < k → ⊥
-no_earlier limit ts j k h i l = h.no_front (let n : k ≤ length ts = i.within in omega arith)
-    (shorter_front (file limit) ts (j + 1) k (omega arith) i.front)
+no_earlier limit ts j k h i l = grind (arith, shorter_front)
 
 pub one_fault : (limit : ℕ) (ts : List Spelled) (j k : ℕ) → IsFaultAt limit ts j → IsFaultAt limit ts k → j ≡ k
-one_fault limit ts j k h i =
-    let a : j < k → ⊥ = no_earlier limit ts j k h i in
-    let b : k < j → ⊥ = no_earlier limit ts k j i h in
-    omega arith
+one_fault limit ts j k h i = grind (arith, no_earlier)

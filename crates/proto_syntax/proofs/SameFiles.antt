@@ -1,90 +1,34 @@
 -- Messages and files with one tree are one value.
-use Rattle.std.proofs.Common.{◌≡◌, Bool, true, false, cond, List, [], ◌∷◌, refl, sym, ◌∙◌, ap, subst, map}
-use Rattle.std.specs.Prelude.{Option, None, Some, bytes_eq, codes}
-use Rattle.std.specs.Str.{byte}
-use Rattle.proto_base.specs.declared.place.Span.{Span}
-use Rattle.proto_tree.specs.Name.{Identifier}
+use Rattle.std.proofs.Common.{◌≡◌, List, [], ◌∷◌, refl, sym, ◌∙◌, ap, subst, map, arith}
 use Rattle.proto_syntax.specs.Grammar.{Tree, Pair, Left, Right}
-use Rattle.proto_tree.specs.declared.field.Declarator.{Declarator}
 use Rattle.proto_tree.specs.declared.field.Field.{Field}
-use Rattle.proto_tree.specs.declared.field.FieldType.{FieldType}
-use Rattle.proto_tree.specs.declared.field.Label.{Label}
-use Rattle.proto_tree.specs.declared.file.FileTree.{FileTree}
-use Rattle.proto_tree.specs.declared.file.Import.{Import}
-use Rattle.proto_tree.specs.declared.file.Package.{Package}
-use Rattle.proto_tree.specs.declared.file.Statement.{Statement}
-use Rattle.proto_tree.specs.declared.file.Syntax.{Syntax}
-use Rattle.proto_tree.specs.declared.map_field.MapField.{MapField}
-use Rattle.proto_tree.specs.declared.name.FullName.{FullName}
-use Rattle.proto_tree.specs.declared.field.FieldType.TheVariants.{Scalar, Named}
 use Rattle.proto_tree.specs.declared.file.Statement.TheVariants as statement
-use Rattle.proto_syntax.specs.Trees.{symbol_tree, word_tree, name_tree, number_tree, row, part_tree, type_tree, option_tree, reserved_tree, enum_tree, declarator_tree, oneof_tree, map_tree, label_tree, field_head_tree, unlabelled_tree, field_statement_tree, item_step, message_step, message_item_tree, message_tree, package_tree, import_tree, syntax_tree, statement_tree, file_tree}
-use Rattle.proto_syntax.proofs.SameNames.{left_same, right_same, left_of, right_of, same_span, same_name, same_number, same_row, same_optional, same_str, same_full, same_type}
+use Rattle.proto_syntax.specs.Trees.{row, declarator_tree, field_head_tree, field_statement_tree, message_item_tree, message_tree, package_tree, import_tree, syntax_tree, statement_tree, file_tree}
+use Rattle.proto_syntax.proofs.SameNames.{Same, left_of, right_of, each, both, same_span, same_name, same_number, same_row, same_optional, same_str, same_full, same_before, same_type}
 use Rattle.proto_syntax.proofs.SameItems.{same_option, same_service, same_reserved, same_enum, same_declarator, same_oneof, same_map, same_label}
 use Rattle.proto_tree.specs.declared.message.Message.{Message, Message-F, roll-Message, ind-Message, map-Message}
-use Rattle.proto_tree.specs.declared.message.MessageItem.{MessageItem, MessageItem-F, out-MessageItem, roll-MessageItem, roll-out-MessageItem, fold-roll-MessageItem, map-MessageItem}
+use Rattle.proto_tree.specs.declared.message.MessageItem.{MessageItem, MessageItem-F, out-MessageItem, roll-MessageItem, roll-out-MessageItem, map-MessageItem}
 use Rattle.proto_tree.specs.declared.message.MessageItem.TheOpen as opened
-use Rattle.proto_syntax.proofs.Items.{fold_message}
+use Rattle.proto_syntax.proofs.Items.{layer_tree, layer}
 
 -- a field, whichever rule has its statement
-as_field : Tree → Tree
+abbrev as_field : Tree → Tree
 as_field (Left (Pair w (Pair (Right r) d))) = Pair (Right (Right (Right (Pair w r)))) d
 as_field (Right (Right t)) = t
 as_field t = t
 
-as_field_statement : (l : Option Label) (t : FieldType) (d : Declarator)
-    → as_field (field_statement_tree l t d) ≡ Pair (field_head_tree l t) (declarator_tree d)
-unfolding as_field
-as_field_statement None (Named n) d = unlabelled n.dot n.name
-  where
-    by_cases : (b : Bool) (w r : Tree) → as_field (cond b (Left (Pair w (Pair (Right r) (declarator_tree d))))
-        (Right (Right (Pair (Right (Right (Right (Pair w r)))) (declarator_tree d)))))
-        ≡ Pair (Right (Right (Right (Pair w r)))) (declarator_tree d)
-    by_cases true w r = refl
-    by_cases false w r = refl
-
-    unlabelled : (dot : Option Span) (m : FullName) → as_field (unlabelled_tree dot m d)
-        ≡ Pair (field_head_tree None (Named (record { dot = dot; name = m }))) (declarator_tree d)
-    unlabelled None m = by_cases (bytes_eq m.first.text (codes "map")) (name_tree m.first) (row part_tree m.rest)
-    unlabelled (Some dot) m = refl
-as_field_statement None (Scalar s span) d = refl
-as_field_statement (Some l) t d = refl
-
-same_field_head : (l m : Option Label) (t u : FieldType) → field_head_tree l t ≡ field_head_tree m u → (l ≡ m) × (t ≡ u)
-same_field_head None None t u e = (refl, same_type t u (cc))
-same_field_head (Some l) (Some m) t u e =
-    let p : Pair (label_tree l) (type_tree t) ≡ Pair (label_tree m) (type_tree u) = cc in
-    (ap Some (same_label l m (left_same p)), same_type t u (right_same p))
-same_field_head None (Some m) t u e = cc
-same_field_head (Some l) None t u e = cc
+as_field_statement : (f : Field) → as_field (field_statement_tree f.label f.field_type f.declarator)
+    ≡ Pair (field_head_tree f.label f.field_type) (declarator_tree f.declarator)
+as_field_statement f = grind arith
 
 same_field : (x y : Field) → field_statement_tree x.label x.field_type x.declarator
     ≡ field_statement_tree y.label y.field_type y.declarator → x ≡ y
 same_field x y e =
-    let p : Pair (field_head_tree x.label x.field_type) (declarator_tree x.declarator)
-    ≡ Pair (field_head_tree y.label y.field_type) (declarator_tree y.declarator) =
-    sym (as_field_statement x.label x.field_type x.declarator) ∙ ap as_field e
-    ∙ as_field_statement y.label y.field_type y.declarator in
-    let head = same_field_head x.label y.label x.field_type y.field_type (left_same p) in
-    let label_same : x.label ≡ y.label = head.0 in
-    let type_same : x.field_type ≡ y.field_type = head.1 in
-    let declarator_same : x.declarator ≡ y.declarator = same_declarator x.declarator y.declarator (right_same p) in
-    λ i. record { label = label_same i; field_type = type_same i; declarator = declarator_same i }
-
--- a field is no map and no empty statement
-field_no_map : (f : Field) (m : MapField) → field_statement_tree f.label f.field_type f.declarator ≡ Left (map_tree m)
-    → ⊥
-unfolding as_field
-field_no_map f m e = let p : Pair (field_head_tree f.label f.field_type) (declarator_tree f.declarator)
-    ≡ Left (map_tree m) =
-    sym (as_field_statement f.label f.field_type f.declarator) ∙ ap as_field e in cc
-
-field_not_empty : (f : Field) (s : Span)
-    → field_statement_tree f.label f.field_type f.declarator ≡ Right (Left (symbol_tree (byte ";") s)) → ⊥
-unfolding as_field
-field_not_empty f s e = let p : Pair (field_head_tree f.label f.field_type) (declarator_tree f.declarator)
-    ≡ Right (Left (symbol_tree (byte ";") s)) =
-    sym (as_field_statement f.label f.field_type f.declarator) ∙ ap as_field e in cc
+    let head = same_before field_head_tree (λ t. refl) (λ l t. refl) same_label same_type x.label y.label x.field_type
+    y.field_type in
+    let p = each head (same_declarator x.declarator y.declarator)
+    (sym (as_field_statement x) ∙ ap as_field e ∙ as_field_statement y) in
+    λ i. record { label = p.0.0 i; field_type = p.0.1 i; declarator = p.1 i }
 
 -- The statements of a message: by induction, from the statements of the messages in it.
 abbrev ItemSame : MessageItem → Type 0
@@ -93,161 +37,85 @@ ItemSame i = (j : MessageItem) → message_item_tree i ≡ message_item_tree j �
 abbrev MessageSame : Message → Type 0
 MessageSame m = (n : Message) → message_tree m ≡ message_tree n → m ≡ n
 
--- what the tree of a statement is, layer by layer
-abbrev layer_tree : MessageItem-F MessageItem Message → Tree
-layer_tree (opened.Message m) = Left (message_tree m)
-layer_tree (opened.Enum e) = Right (Left (enum_tree e))
-layer_tree (opened.Option o) = Right (Right (Left (option_tree o)))
-layer_tree (opened.Oneof o) = Right (Right (Right (Left (oneof_tree o))))
-layer_tree (opened.Reserved r) = Right (Right (Right (Right (Left (reserved_tree number_tree r)))))
-layer_tree (opened.Map m) = Right (Right (Right (Right (Right (Left (map_tree m))))))
-layer_tree (opened.Empty s) = Right (Right (Right (Right (Right (Right (Left (symbol_tree (byte ";") s)))))))
-layer_tree (opened.Field f) =
-    Right (Right (Right (Right (Right (field_statement_tree f.label f.field_type f.declarator)))))
+abbrev KnownItem : Type 0
+KnownItem = (i : MessageItem) × ItemSame i
 
-layer : (x : MessageItem-F MessageItem Message) → message_item_tree (roll-MessageItem x) ≡ layer_tree x
-layer (opened.Message m) = fold-roll-MessageItem Tree Tree item_step message_step (opened.Message m)
-    ∙ ap Left (fold_message m)
-layer (opened.Enum e) = fold-roll-MessageItem Tree Tree item_step message_step (opened.Enum e)
-layer (opened.Option o) = fold-roll-MessageItem Tree Tree item_step message_step (opened.Option o)
-layer (opened.Oneof o) = fold-roll-MessageItem Tree Tree item_step message_step (opened.Oneof o)
-layer (opened.Reserved r) = fold-roll-MessageItem Tree Tree item_step message_step (opened.Reserved r)
-layer (opened.Map m) = fold-roll-MessageItem Tree Tree item_step message_step (opened.Map m)
-layer (opened.Empty s) = fold-roll-MessageItem Tree Tree item_step message_step (opened.Empty s)
-layer (opened.Field f) = fold-roll-MessageItem Tree Tree item_step message_step (opened.Field f)
+abbrev KnownMessage : Type 0
+KnownMessage = (m : Message) × MessageSame m
 
-abbrev LayerSame : MessageItem-F MessageItem Message → Type 0
-LayerSame (opened.Message m) = MessageSame m
-LayerSame _ = Unit {0}
+abbrev plain : MessageItem-F KnownItem KnownMessage → MessageItem-F MessageItem Message
+plain = map-MessageItem KnownItem KnownMessage MessageItem Message (λ i. i.0) (λ m. m.0)
 
-same_layer : (x y : MessageItem-F MessageItem Message) → LayerSame x → layer_tree x ≡ layer_tree y → x ≡ y
-same_layer (opened.Message m) (opened.Message n) h e = ap opened.Message (h n (cc))
-same_layer (opened.Enum a) (opened.Enum b) h e = ap opened.Enum (same_enum a b (cc))
-same_layer (opened.Option a) (opened.Option b) h e = ap opened.Option (same_option a b (cc))
-same_layer (opened.Oneof a) (opened.Oneof b) h e = ap opened.Oneof (same_oneof a b (cc))
-same_layer (opened.Reserved a) (opened.Reserved b) h e =
-    ap opened.Reserved (same_reserved number_tree same_number a b (cc))
-same_layer (opened.Map a) (opened.Map b) h e = ap opened.Map (same_map a b (cc))
-same_layer (opened.Empty a) (opened.Empty b) h e =
+abbrev field_layer : Tree → Tree
+field_layer (Right (Right (Right (Right (Right t))))) = as_field t
+field_layer t = t
+
+same_layer : (x : MessageItem-F KnownItem KnownMessage) (y : MessageItem-F MessageItem Message)
+    → layer_tree (plain x) ≡ layer_tree y → plain x ≡ y
+same_layer (opened.Message m) (opened.Message n) e = ap opened.Message (m.1 n (cc))
+same_layer (opened.Enum a) (opened.Enum b) e = ap opened.Enum (same_enum a b (cc))
+same_layer (opened.Option a) (opened.Option b) e = ap opened.Option (same_option a b (cc))
+same_layer (opened.Oneof a) (opened.Oneof b) e = ap opened.Oneof (same_oneof a b (cc))
+same_layer (opened.Reserved a) (opened.Reserved b) e = ap opened.Reserved (same_reserved same_number a b (cc))
+same_layer (opened.Map a) (opened.Map b) e = ap opened.Map (same_map a b (cc))
+same_layer (opened.Empty a) (opened.Empty b) e =
     ap opened.Empty (same_span a b (left_of (right_of (right_of (right_of (right_of (right_of (right_of e))))))))
-same_layer (opened.Field a) (opened.Field b) h e = ap opened.Field (same_field a b (cc))
-same_layer (opened.Field f) (opened.Map m) h e = absurd (field_no_map f m (cc))
-same_layer (opened.Map m) (opened.Field f) h e = absurd (field_no_map f m (cc))
-same_layer (opened.Field f) (opened.Empty s) h e = absurd (field_not_empty f s (cc))
-same_layer (opened.Empty s) (opened.Field f) h e = absurd (field_not_empty f s (cc))
-same_layer x y h e = cc
+same_layer (opened.Field a) (opened.Field b) e = ap opened.Field (same_field a b (cc))
+same_layer (opened.Field f) y e = cc (as_field_statement f, ap field_layer e)
+same_layer x (opened.Field f) e = cc (as_field_statement f, ap field_layer e)
+same_layer x y e = cc
 
-item_same : (x : MessageItem-F MessageItem Message) → LayerSame x → ItemSame (roll-MessageItem x)
-item_same x h j e =
-    ap roll-MessageItem (same_layer x (out-MessageItem j) h
-    (sym (layer x) ∙ e ∙ ap message_item_tree (sym (roll-out-MessageItem j)) ∙ layer (out-MessageItem j)))
-    ∙ roll-out-MessageItem j
-
-same_items : (xs : List ((i : MessageItem) × ItemSame i)) (ys : List MessageItem)
-    → row message_item_tree (map (λ e. e.0) xs) ≡ row message_item_tree ys
-    → map (λ e. e.0) xs ≡ ys
+same_items : (xs : List KnownItem) (ys : List MessageItem)
+    → row message_item_tree (map (λ e. e.0) xs) ≡ row message_item_tree ys → map (λ e. e.0) xs ≡ ys
 same_items [] [] e = refl
-same_items [] (y ∷ ys) e = cc
-same_items (x ∷ xs) [] e = cc
-same_items (x ∷ xs) (y ∷ ys) e =
-    let first_same : x.0 ≡ y = x.1 y (left_same e) in
-    let rest_same : map (λ e. e.0) xs ≡ ys = same_items xs ys (right_same e) in
-    λ i. first_same i ∷ rest_same i
+same_items (x ∷ xs) (y ∷ ys) e = let p = each (x.1 y) (same_items xs ys) e in λ i. p.0 i ∷ p.1 i
+same_items x y e = cc
 
-message_same : (k : Span) (n : Identifier) (o : Span) (xs : List ((i : MessageItem) × ItemSame i)) (c : Span)
-    → MessageSame (record { keyword = k; name = n; open_brace = o; items = map (λ e. e.0) xs; close_brace = c })
-message_same k n o xs c m e =
-    let keyword_same : k ≡ m.keyword = same_span k m.keyword (left_same e) in
-    let name_same : n ≡ m.name = same_name n m.name (left_same (right_same e)) in
-    let open_same : o ≡ m.open_brace = same_span o m.open_brace (left_same (right_same (right_same e))) in
-    let items_same : map (λ e. e.0) xs ≡ m.items =
-    same_items xs m.items (left_same (right_same (right_same (right_same e)))) in
-    let close_same : c ≡ m.close_brace =
-    same_span c m.close_brace (right_same (right_same (right_same (right_same e)))) in
-    λ i. record {
-      keyword = keyword_same i;
-      name = name_same i;
-      open_brace = open_same i;
-      items = items_same i;
-      close_brace = close_same i;
-    }
+same_item_step : (x : MessageItem-F MessageItem Message) (y : MessageItem-F KnownItem KnownMessage)
+    → plain y ≡ x → ItemSame (roll-MessageItem x)
+same_item_step x y e j h =
+    let k = roll-out-MessageItem j in
+    let p = same_layer y (out-MessageItem j) (cc (layer x, layer (out-MessageItem j))) in
+    cc
 
-same_item_step : (x : MessageItem-F MessageItem Message)
-    (y : MessageItem-F ((i : MessageItem) × ItemSame i) ((m : Message) × MessageSame m))
-    → map-MessageItem ((i : MessageItem) × ItemSame i) ((m : Message) × MessageSame m) MessageItem Message (λ e. e.0)
-    (λ e. e.0) y ≡ x
-    → ItemSame (roll-MessageItem x)
-same_item_step x (opened.Message m) e =
-    subst (λ z. ItemSame (roll-MessageItem z)) e (item_same (opened.Message m.0) m.1)
-same_item_step x (opened.Enum a) e = subst (λ z. ItemSame (roll-MessageItem z)) e (item_same (opened.Enum a) tt)
-same_item_step x (opened.Option a) e = subst (λ z. ItemSame (roll-MessageItem z)) e (item_same (opened.Option a) tt)
-same_item_step x (opened.Oneof a) e = subst (λ z. ItemSame (roll-MessageItem z)) e (item_same (opened.Oneof a) tt)
-same_item_step x (opened.Reserved a) e = subst (λ z. ItemSame (roll-MessageItem z)) e (item_same (opened.Reserved a) tt)
-same_item_step x (opened.Map a) e = subst (λ z. ItemSame (roll-MessageItem z)) e (item_same (opened.Map a) tt)
-same_item_step x (opened.Empty a) e = subst (λ z. ItemSame (roll-MessageItem z)) e (item_same (opened.Empty a) tt)
-same_item_step x (opened.Field a) e = subst (λ z. ItemSame (roll-MessageItem z)) e (item_same (opened.Field a) tt)
-
-same_message_step : (x : Message-F MessageItem Message)
-    (y : Message-F ((i : MessageItem) × ItemSame i) ((m : Message) × MessageSame m))
-    → map-Message ((i : MessageItem) × ItemSame i) ((m : Message) × MessageSame m) MessageItem Message (λ e. e.0)
-    (λ e. e.0) y ≡ x
-    → MessageSame (roll-Message x)
-same_message_step x y e = subst (λ z. MessageSame (roll-Message z)) e
-    (message_same y.keyword y.name y.open_brace y.items y.close_brace)
+same_message_step : (x : Message-F MessageItem Message) (y : Message-F KnownItem KnownMessage)
+    → map-Message KnownItem KnownMessage MessageItem Message (λ i. i.0) (λ m. m.0) y ≡ x → MessageSame (roll-Message x)
+same_message_step x y e = subst (λ z. MessageSame (roll-Message z)) e message_same
+  where
+    message_same : MessageSame
+        (roll-Message (map-Message KnownItem KnownMessage MessageItem Message (λ i. i.0) (λ m. m.0) y))
+    message_same m e =
+        let p = both same_span (both same_name (λ r. r)) e in
+        let q = both same_span (each (same_items y.items m.items) (same_span _ _)) p.1.1 in
+        λ i. record { keyword = p.0 i; name = p.1.0 i; open_brace = q.0 i; items = q.1.0 i; close_brace = q.1.1 i }
 
 same_message : (m : Message) → MessageSame m
 same_message = ind-Message ItemSame MessageSame same_item_step same_message_step
 
-same_package : (x y : Package) → package_tree x ≡ package_tree y → x ≡ y
-same_package x y e =
-    let keyword_same : x.keyword ≡ y.keyword = same_span x.keyword y.keyword (left_same e) in
-    let name_same : x.name ≡ y.name = same_full x.name y.name (left_same (right_same e)) in
-    let semicolon_same : x.semicolon ≡ y.semicolon = same_span x.semicolon y.semicolon (right_same (right_same e)) in
-    λ i. record { keyword = keyword_same i; name = name_same i; semicolon = semicolon_same i }
+same_package : Same package_tree
+same_package x y e = let p = both same_span (both same_full (same_span _ _)) e in
+    λ i. record { keyword = p.0 i; name = p.1.0 i; semicolon = p.1.1 i }
 
-same_import : (x y : Import) → import_tree x ≡ import_tree y → x ≡ y
+same_import : Same import_tree
 same_import x y e =
-    let keyword_same : x.keyword ≡ y.keyword = same_span x.keyword y.keyword (left_same e) in
-    let public_same : x.public ≡ y.public =
-    same_optional (word_tree (codes "public")) same_span x.public y.public (left_same (right_same e)) in
-    let path_same : x.path ≡ y.path = same_str x.path y.path (left_same (right_same (right_same e))) in
-    let semicolon_same : x.semicolon ≡ y.semicolon =
-    same_span x.semicolon y.semicolon (right_same (right_same (right_same e))) in
-    λ i. record { keyword = keyword_same i; public = public_same i; path = path_same i; semicolon = semicolon_same i }
+    let p = both same_span (both (same_optional same_span) (both same_str (same_span _ _))) e in
+    λ i. record { keyword = p.0 i; public = p.1.0 i; path = p.1.1.0 i; semicolon = p.1.1.1 i }
 
-same_syntax : (x y : Syntax) → syntax_tree x ≡ syntax_tree y → x ≡ y
-same_syntax x y e =
-    let keyword_same : x.keyword ≡ y.keyword = same_span x.keyword y.keyword (left_same e) in
-    let equals_same : x.equals ≡ y.equals = same_span x.equals y.equals (left_same (right_same e)) in
-    let version_same : x.version ≡ y.version = same_str x.version y.version (left_same (right_same (right_same e))) in
-    let semicolon_same : x.semicolon ≡ y.semicolon =
-    same_span x.semicolon y.semicolon (right_same (right_same (right_same e))) in
-    λ i. record {
-      keyword = keyword_same i;
-      equals = equals_same i;
-      version = version_same i;
-      semicolon = semicolon_same i;
-    }
+same_syntax : Same syntax_tree
+same_syntax x y e = let p = both same_span (both same_span (both same_str (same_span _ _))) e in
+    λ i. record { keyword = p.0 i; equals = p.1.0 i; version = p.1.1.0 i; semicolon = p.1.1.1 i }
 
-same_statement : (x y : Statement) → statement_tree x ≡ statement_tree y → x ≡ y
-same_statement (statement.Import a) (statement.Import b) e = ap statement.Import (same_import a b (left_of e))
-same_statement (statement.Package a) (statement.Package b) e =
-    ap statement.Package (same_package a b (left_of (right_of e)))
-same_statement (statement.Option a) (statement.Option b) e =
-    ap statement.Option (same_option a b (left_of (right_of (right_of e))))
-same_statement (statement.Message a) (statement.Message b) e =
-    ap statement.Message (same_message a b (left_of (right_of (right_of (right_of e)))))
-same_statement (statement.Enum a) (statement.Enum b) e =
-    ap statement.Enum (same_enum a b (left_of (right_of (right_of (right_of (right_of e))))))
-same_statement (statement.Service a) (statement.Service b) e =
-    ap statement.Service (same_service a b (left_of (right_of (right_of (right_of (right_of (right_of e)))))))
+same_statement : Same statement_tree
+same_statement (statement.Import a) (statement.Import b) e = ap statement.Import (same_import a b (cc))
+same_statement (statement.Package a) (statement.Package b) e = ap statement.Package (same_package a b (cc))
+same_statement (statement.Option a) (statement.Option b) e = ap statement.Option (same_option a b (cc))
+same_statement (statement.Message a) (statement.Message b) e = ap statement.Message (same_message a b (cc))
+same_statement (statement.Enum a) (statement.Enum b) e = ap statement.Enum (same_enum a b (cc))
+same_statement (statement.Service a) (statement.Service b) e = ap statement.Service (same_service a b (cc))
 same_statement (statement.Empty a) (statement.Empty b) e =
     ap statement.Empty (same_span a b (right_of (right_of (right_of (right_of (right_of (right_of e)))))))
 same_statement x y e = cc
 
-pub same_file : (x y : FileTree) → file_tree x ≡ file_tree y → x ≡ y
-same_file x y e =
-    let syntax_same : x.syntax ≡ y.syntax = same_syntax x.syntax y.syntax (left_same e) in
-    let statements_same : x.statements ≡ y.statements =
-    same_row statement_tree same_statement x.statements y.statements (right_same e) in
-    λ i. record { syntax = syntax_same i; statements = statements_same i }
+pub same_file : Same file_tree
+same_file x y e = let p = both same_syntax (same_row same_statement _ _) e in
+    λ i. record { syntax = p.0 i; statements = p.1 i }

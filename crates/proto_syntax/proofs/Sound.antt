@@ -1,5 +1,5 @@
 -- What is read is spelled so, and what was read before a fault is a front.
-use Rattle.std.proofs.Common.{◌≡◌, ℕ, zero, suc, Bool, true, false, cond, List, [], ◌∷◌, ◌++◌, length, refl, sym, append_assoc}
+use Rattle.std.proofs.Common.{arith, ◌≡◌, ℕ, zero, suc, Bool, false, cond, List, [], ◌∷◌, ◌++◌, length, refl, sym, append_assoc}
 use Rattle.std.proofs.lemmas.List.{append-nil}
 use Rattle.proto_tokens.specs.Token.{Spelled}
 use Rattle.proto_syntax.specs.Grammar.{Class, fits, Grammar, One, Nothing, ◌⨾◌, ◌∣◌, Many, Beyond, Tree, Leaf, Empty, Pair, Left, Right, flatten, IsTree, one, nothing, both, first, second, none, more, IsFront, empty, within, past, of_first, of_second, items}
@@ -11,14 +11,12 @@ Sound g ts (Stops d us) = (fs : List Spelled) × (ts ≡ fs ++ us) × IsFront g 
 
 one_sound : (c : Class) (t : Spelled) (ts : List Spelled) (b : Bool) → fits c t.lexeme ≡ b
     → Sound (One c) (t ∷ ts) (cond b (Read (Leaf t) ts) (Stops false (t ∷ ts)))
-one_sound c t ts true e = (one e, refl)
-one_sound c t ts false e = ([], refl, empty)
+one_sound c t ts b h = grind (arith, one, empty)
 
 second_sound : (a b : Grammar) (x : Tree) (ts us : List Spelled) → IsTree a x → ts ≡ flatten x ++ us → (o : Outcome)
     → Sound b us o
     → Sound (a ⨾ b) ts (mapped (Pair x) o)
-second_sound a b x ts us ix e (Read y vs) (iy, e') =
-    (both ix iy, rw (e, e') (sym (append_assoc (flatten x) (flatten y) vs)))
+second_sound a b x ts us ix e (Read y vs) (iy, e') = grind (arith, both, append_assoc)
 second_sound a b x ts us ix e (Stops d vs) (fs, e', f) =
     (flatten x ++ fs, rw (e, e') (sym (append_assoc (flatten x) fs vs)), past ix f refl)
 
@@ -29,17 +27,14 @@ seq_sound a b ts (Read x us) (ix, e) h = second_sound a b x ts us ix e (read b u
 seq_sound a b ts (Stops d us) (fs, e, f) h = (fs, e, within f)
 
 left_sound : (a b : Grammar) (ts : List Spelled) (o : Outcome) → Sound a ts o → Sound (a ∣ b) ts (mapped Left o)
-left_sound a b ts (Read x us) (ix, e) = (first ix, e)
-left_sound a b ts (Stops d us) (fs, e, f) = (fs, e, of_first f)
+left_sound a b ts o h = grind (arith, first, of_first)
 
 right_sound : (a b : Grammar) (ts : List Spelled) (o : Outcome) → Sound b ts o → Sound (a ∣ b) ts (mapped Right o)
-right_sound a b ts (Read x us) (ix, e) = (second ix, e)
-right_sound a b ts (Stops d us) (fs, e, f) = (fs, e, of_second f)
+right_sound a b ts o h = grind (arith, second, of_second)
 
 choice_sound : (a b : Grammar) (ts : List Spelled) (z : Bool) → Sound a ts (read a ts) → Sound b ts (read b ts)
     → Sound (a ∣ b) ts (cond z (mapped Left (read a ts)) (mapped Right (read b ts)))
-choice_sound a b ts true ha hb = left_sound a b ts (read a ts) ha
-choice_sound a b ts false ha hb = right_sound a b ts (read b ts) hb
+choice_sound a b ts z h i = grind (arith, left_sound, right_sound)
 
 -- an item, and then a front of the others
 pub after_item : (a : Grammar) (x : Tree) (fs : List Spelled) → IsTree a x → IsFront (Many a) fs
@@ -51,10 +46,7 @@ after_item a x fs ix (items {x = y} {us = ws} iy f' q) =
 rest_sound : (a : Grammar) (x : Tree) (ts us : List Spelled) → IsTree a x → ts ≡ flatten x ++ us → (o : Outcome)
     → Sound (Many a) us o
     → Sound (Many a) ts (mapped (Pair x) o)
-rest_sound a x ts us ix e (Read y vs) (iy, e') =
-    (more ix iy, rw (e, e') (sym (append_assoc (flatten x) (flatten y) vs)))
-rest_sound a x ts us ix e (Stops d vs) (fs, e', f) =
-    (flatten x ++ fs, rw (e, e') (sym (append_assoc (flatten x) fs vs)), after_item a x fs ix f)
+rest_sound a x ts us h i o j = grind (arith, more, append_assoc, after_item)
 
 item_sound : (a : Grammar) (ts : List Spelled) (o : Outcome) → Sound a ts o → (next : List Spelled → Outcome)
     → ((us : List Spelled) → Sound (Many a) us (next us))
@@ -64,15 +56,12 @@ item_sound a ts (Stops d us) (fs, e, f) next h = (fs, e, items none f refl)
 
 turn_sound : (a : Grammar) (ts : List Spelled) (z : Bool) (o : Outcome) → Sound (Many a) ts o
     → Sound (Many a) ts (cond z o (Read Empty ts))
-turn_sound a ts true o h = h
-turn_sound a ts false o h = (none, refl)
+turn_sound a ts z o h = grind (arith, none)
 
 pub many_sound : (a : Grammar) (h : (ts : List Spelled) → Sound a ts (read a ts)) (n : ℕ) (ts : List Spelled)
     → Sound (Many a) ts (read_many (read a) (begins a) n ts)
 many_sound a h zero ts = (none, refl)
-many_sound a h (suc n) ts = turn_sound a ts (next_fits (begins a) ts)
-    (after (read a ts) (λ x us. mapped (Pair x) (read_many (read a) (begins a) n us)))
-    (item_sound a ts (read a ts) (h ts) (read_many (read a) (begins a) n) (many_sound a h n))
+many_sound a h (suc n) ts = grind (arith, turn_sound, item_sound, many_sound a h n)
 
 pub sound : (g : Grammar) (ts : List Spelled) → Sound g ts (read g ts)
 sound (One c) [] = ([], refl, empty)
@@ -82,4 +71,4 @@ sound (a ⨾ b) ts = seq_sound a b ts (read a ts) (sound a ts) (sound b)
 sound (a ∣ b) ts = choice_sound a b ts (next_fits (begins a) ts) (sound a ts) (sound b ts)
 sound (Many a) ts = many_sound a (sound a) (length ts) ts
 sound (Beyond c) [] = ([], refl, empty)
-sound (Beyond c) (t ∷ ts) = ([], refl, empty)
+sound (Beyond c) (t ∷ ts) = grind (arith, empty)

@@ -20,13 +20,11 @@ use Rattle.proto_syntax.proofs.Prefix.{one_fault}
 pub one_kind : (ts : List Spelled) (k : ℕ) (a b : Kind) → IsKindOf ts k a → IsKindOf ts k b → a ≡ b
 one_kind ts k _ _ (at_end e) (at_end f) = refl
 one_kind ts k _ _ (at_end e) (too_deep l g) = absurd (omega arith)
-one_kind ts k _ _ (at_end e) (other {t = t} f g) = let l : k < length ts = slice_get_within ts k t f in
-    absurd (omega arith)
+one_kind ts k _ _ (at_end e) (other {t = t} f g) = grind (arith, slice_get_within)
 one_kind ts k _ _ (too_deep l g) (at_end e) = absurd (omega arith)
 one_kind ts k _ _ (too_deep l g) (too_deep m h) = refl
 one_kind ts k _ _ (too_deep l g) (other e h) = absurd (h g)
-one_kind ts k _ _ (other {t = t} f g) (at_end e) = let l : k < length ts = slice_get_within ts k t f in
-    absurd (omega arith)
+one_kind ts k _ _ (other {t = t} f g) (at_end e) = grind (arith, slice_get_within)
 one_kind ts k _ _ (other f g) (too_deep l h) = absurd (g h)
 one_kind ts k _ _ (other {t = t} e g) (other {t = u} f h) = let p : t ≡ u = cc in ap (kind_of (token_before ts k)) p
 
@@ -35,9 +33,7 @@ pub of_every_tree : (limit : ℕ) (tokens : Tokens) (result : Result FileTree Pa
     → (x : Tree)
     → IsTreeOf limit (tokens_of tokens) x
     → MatchResult result (λ file. file_tree file ≡ x) (λ e. e ≡ NoMemory)
-of_every_tree limit tokens (Ok file) right x is = only_tree limit (tokens_of tokens) (file_tree file) x right is
-of_every_tree limit tokens (Err (At place kind)) (k, fault, is_kind, at) x is = absurd (fault.no_file x is)
-of_every_tree limit tokens (Err NoMemory) right x is = refl
+of_every_tree limit tokens result h x i = grind (arith, only_tree)
 
 pub of_every_fault : (limit : ℕ) (tokens : Tokens) (result : Result FileTree ParseError)
     → MatchResult result (λ file. IsTreeOf limit (tokens_of tokens) (file_tree file)) (IsFaultOf limit tokens)
@@ -46,8 +42,5 @@ pub of_every_fault : (limit : ℕ) (tokens : Tokens) (result : Result FileTree P
     → IsErrAnd result (TellsFault tokens k kind)
 of_every_fault limit tokens (Ok file) right k kind fault is_kind = fault.no_file (file_tree file) right
 of_every_fault limit tokens (Err (At place there)) (j, fault', is_kind', at) k kind fault is_kind =
-    let p : j ≡ k = one_fault limit (tokens_of tokens) j k fault' fault in
-    let same : there ≡ kind =
-    one_kind (tokens_of tokens) k there kind (subst (λ i. IsKindOf (tokens_of tokens) i there) p is_kind') is_kind in
-    (at ∙ ap (λ i. place_of_token (tokens_of tokens) i tokens.end.offset) p, same)
-of_every_fault limit tokens (Err NoMemory) right k kind fault is_kind = tt
+    grind (arith, one_fault, one_kind)
+of_every_fault limit tokens (Err NoMemory) right k kind fault is_kind = grind arith

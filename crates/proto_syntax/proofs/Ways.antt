@@ -24,21 +24,13 @@ behind (suc n) o = mapped Right (behind n o)
 abbrev pub way : ℕ → Outcome → Outcome
 way n o = behind n (mapped Left o)
 
-behind_stops : (n : ℕ) (d : Bool) (us : List Spelled) → behind n (Stops d us) ≡ Stops d us
-behind_stops zero d us = refl
-behind_stops (suc n) d us = ap (mapped Right) (behind_stops n d us)
-
 -- a fault of a way is the fault of the choice
-pub behind_fails : (n : ℕ) (e : Stop) (rest : List Token) (o p : Outcome) → p ≡ behind n o → Fails e rest o
+pub way_fails : (change : Outcome → Outcome) (e : Stop) (rest : List Token) (o p : Outcome)
+    → ((d : Bool) → change (Stops d (spellings rest)) ≡ Stops d (spellings rest)) → Fails e rest o → p ≡ change o
     → Fails e rest p
-behind_fails n stop.NoMemory rest o p i h = tt
-behind_fails n stop.Unexpected rest o p i h = i ∙ ap (behind n) h ∙ behind_stops n false (spellings rest)
-behind_fails n stop.TooDeep rest o p i h = i ∙ ap (behind n) h ∙ behind_stops n true (spellings rest)
-
-pub way_fails : (n : ℕ) (e : Stop) (rest : List Token) (o p : Outcome) → p ≡ way n o → Fails e rest o → Fails e rest p
-way_fails n stop.NoMemory rest o p i h = tt
-way_fails n stop.Unexpected rest o p i h = i ∙ ap (way n) h ∙ behind_stops n false (spellings rest)
-way_fails n stop.TooDeep rest o p i h = i ∙ ap (way n) h ∙ behind_stops n true (spellings rest)
+way_fails change stop.NoMemory rest o p stops h i = tt
+way_fails change stop.Unexpected rest o p stops h i = cc (stops false)
+way_fails change stop.TooDeep rest o p stops h i = cc (stops true)
 
 -- What was read is given in a box, unless memory runs out.
 pub boxed_gives : {X : Type 0} → (tree : X → Tree) (boxed : Result X Stop) (x : X) (rest : List Token) (o : Outcome)
@@ -52,18 +44,13 @@ pub made_gives : {X Y : Type 0} → (make : X → Y) (tree : X → Tree) (whole 
     (found : Result X Stop)
     (made : Result Y Stop) (rest : List Token) (o p : Outcome) → ((x : X) → o ≡ Read (tree x) (spellings rest)
     → change (Read (tree x) (spellings rest)) ≡ Read (whole (make x)) (spellings rest))
-    → ((d : Bool) → change (Stops d (spellings rest)) ≡ Stops d (spellings rest)) → p ≡ change o
+    → ((d : Bool) → change (Stops d (spellings rest)) ≡ Stops d (spellings rest))
     → MatchResult found (λ x. IsOkAnd made (λ y. y ≡ make x)) (λ e. made ≡ Err e) → Gives tree found rest o
-    → Gives whole made rest p
-made_gives make tree whole change (Ok x) (Ok y) rest o p same stops i m h =
-    i ∙ ap change h ∙ same x h ∙ ap (λ z. Read (whole z) (spellings rest)) (sym m)
-made_gives make tree whole change (Ok x) (Err e) rest o p same stops i m h = absurd m
-made_gives make tree whole change (Err e) made rest o p same stops i m h = rw m (fails e h)
-  where
-    fails : (e : Stop) → Fails e rest o → Fails e rest p
-    fails stop.NoMemory h = tt
-    fails stop.Unexpected h = i ∙ ap change h ∙ stops false
-    fails stop.TooDeep h = i ∙ ap change h ∙ stops true
+    → p ≡ change o → Gives whole made rest p
+made_gives make tree whole change (Ok x) (Ok y) rest o p same stops m h i = cc (same x h)
+made_gives make tree whole change (Ok x) (Err e) rest o p same stops m h i = absurd m
+made_gives make tree whole change (Err e) made rest o p same stops m h i =
+    rw m (way_fails change e rest o p stops h i)
 
 -- whether the next token is that word
 abbrev pub At : String → List Spelled → Bool → Type 0
