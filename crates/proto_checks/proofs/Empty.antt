@@ -1,4 +1,5 @@
 -- Oneofs without members and enums without values.
+use Rattle.std.proofs.Common.{arith}
 use Rattle.std.proofs.Common.{◌≡◌, refl, List, [], ◌∷◌, true, false}
 use Rattle.std.proofs.lemmas.Bool.{true≢false, false≢true}
 use Rattle.std.specs.Prelude.{Some, None, flat_map}
@@ -31,12 +32,10 @@ some_member (oneof_item.Empty s ∷ is) some empty = some_member is some empty
 
 pub oneof_empty : (o : Oneof) → list_any is_oneof_member o.items ≡ false
     → IsLeast (IsEmptyOneof o) (Some (spot o.name.span.start kind.OneofEmpty))
-oneof_empty o none = least_hit (flat_map oneof_field o.items ≡ []) (spot o.name.span.start kind.OneofEmpty)
-    (no_members o.items none)
+oneof_empty o none = grind (arith, least_hit, no_members)
 
 pub oneof_filled : (o : Oneof) → list_any is_oneof_member o.items ≡ true → IsLeast (IsEmptyOneof o) None
-oneof_filled o some = least_miss (flat_map oneof_field o.items ≡ []) (spot o.name.span.start kind.OneofEmpty)
-    (some_member o.items some)
+oneof_filled o some = grind (arith, least_miss, some_member)
 
 -- enums
 no_values : (is : List EnumItem) → list_any is_value is ≡ false → flat_map enum_value is ≡ []
@@ -55,9 +54,7 @@ some_value (enum_item.Empty s ∷ is) some empty = some_value is some empty
 
 pub enum_empty : (e : Enum) → list_any is_value e.items ≡ false
     → IsLeast (IsEmptyEnum e) (Some (spot e.name.span.start kind.EnumEmpty))
-enum_empty e none = least_hit (flat_map enum_value e.items ≡ []) (spot e.name.span.start kind.EnumEmpty)
-    (no_values e.items none)
+enum_empty e none = grind (arith, least_hit, no_values)
 
 pub enum_filled : (e : Enum) → list_any is_value e.items ≡ true → IsLeast (IsEmptyEnum e) None
-enum_filled e some = least_miss (flat_map enum_value e.items ≡ []) (spot e.name.span.start kind.EnumEmpty)
-    (some_value e.items some)
+enum_filled e some = grind (arith, least_miss, some_value)

@@ -15,16 +15,12 @@ pub stands_split : {X : Type 0} (xs ys : List X) (i : ℕ) (a : X) → StandsAt 
     → ((i < length xs) × StandsAt xs i a) ⊎ ((j : ℕ) × (i ≡ length xs + j) × StandsAt ys j a)
 stands_split [] ys i a s = inr (i, omega arith, s)
 stands_split (x ∷ xs) ys zero a s = inl (omega arith, (omega arith, s.1))
-stands_split (x ∷ xs) ys (suc i) a s = let below = s.0 in elim (stands_split xs ys i a (omega arith, s.1)) [
-  | inl w ↦ inl (omega (arith, w.0), (omega (arith, w.0), w.1.1))
-  | inr w ↦ inr (w.0, omega (arith, w.1), w.2)
-]
+stands_split (x ∷ xs) ys (suc i) a s = grind (arith, stands_split xs ys i a (omega arith, s.1))
 
 pub stands_left : {X : Type 0} (xs ys : List X) (i : ℕ) (a : X) → StandsAt xs i a → StandsAt (xs ++ ys) i a
 stands_left [] ys i a s = let below = s.0 in absurd (omega arith)
 stands_left (x ∷ xs) ys zero a s = (omega arith, s.1)
-stands_left (x ∷ xs) ys (suc i) a s = let below = s.0 in let w = stands_left xs ys i a (omega arith, s.1) in
-    (omega (arith, w.0), w.1)
+stands_left (x ∷ xs) ys (suc i) a s = grind (arith, stands_left xs ys i a (omega arith, s.1))
 
 pub stands_right : {X : Type 0} (xs ys : List X) (i k : ℕ) (a : X) → k ≡ length xs + i → StandsAt ys i a
     → StandsAt (xs ++ ys) k a
@@ -37,16 +33,7 @@ abbrev pub Halves : List MarkedRange → List MarkedRange → Spot → Type 0
 Halves xs ys = ReservedOverlap xs ∪ ReservedOverlap ys ∪ Each ys (IsAcross xs)
 
 halves_of : (xs ys : List MarkedRange) (x : Spot) → ReservedOverlap (xs ++ ys) x → Halves xs ys x
-halves_of xs ys x (i, j, a, b, before, there, then, r, e) = elim (stands_split xs ys j b then) [
-  | inl late ↦ elim (stands_split xs ys i a there) [
-    | inl early ↦ inl (inl (i, j, a, b, before, early.1, late.1, r, e))
-    | inr early ↦ absurd (omega (arith, late.0, early.1, before))
-  ]
-  | inr late ↦ elim (stands_split xs ys i a there) [
-    | inl early ↦ inr (late.0, b, late.2, ((i, a, early.1, r), e))
-    | inr early ↦ inl (inr (early.0, late.0, a, b, omega (arith, early.1, late.1), early.2, late.2, r, e))
-  ]
-]
+halves_of xs ys x w = grind (arith, stands_split)
 
 of_halves : (xs ys : List MarkedRange) (x : Spot) → Halves xs ys x → ReservedOverlap (xs ++ ys) x
 of_halves xs ys x (inl (inl (i, j, a, b, before, there, then, r, e))) =

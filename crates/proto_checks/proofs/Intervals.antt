@@ -83,9 +83,7 @@ raised_top : (top : ℕ) (rest : List Interval) (k : ℕ) (d : Interval) → k <
     → top ≤ (get_or (raised top rest) k d).end
 raised_top top [] k d h = absurd (omega arith)
 raised_top top (a ∷ rest) zero d h = let g : top ≤ max a.end top = omega arith in g
-raised_top top (a ∷ rest) (suc k) d h =
-    let below = raised_top (max a.end top) rest k d (omega arith) in let g : top ≤ max a.end top = omega arith in
-    omega (arith, below, g)
+raised_top top (a ∷ rest) (suc k) d h = grind (arith, raised_top (max a.end top) rest k d (omega arith))
 
 raised_rises : (top : ℕ) (rest : List Interval) (i j : ℕ) (d : Interval) → i ≤ j → j < length rest
     → (get_or (raised top rest) i d).end ≤ (get_or (raised top rest) j d).end
@@ -162,15 +160,11 @@ pub raised_more : (xs all : List Interval) (k top : ℕ) (d : Interval) → k < 
     → take (k + 1) (set xs k (record { start = (get_or xs k d).start; end = max (get_or xs k d).end top }))
     ++ raised (max (get_or xs k d).end top)
     (drop (k + 1) (set xs k (record { start = (get_or xs k d).start; end = max (get_or xs k d).end top }))) ≡ all
-raised_more xs all k top d h e =
-    let a : Interval = record { start = (get_or xs k d).start; end = max (get_or xs k d).end top } in
-    let whole = rw (raised_at top xs k d h) at e in
-    rw (take_more_set xs k a h, drop-set-lt (k + 1) xs k a (omega arith)) (simp append_assoc whole)
+raised_more xs all k top d h e = grind (arith, append_assoc, take_more_set, drop-set-lt, raised_at)
 
 pub raised_all : (xs all : List Interval) (k top : ℕ) → length xs ≤ k → take k xs ++ raised top (drop k xs) ≡ all
     → xs ≡ all
-raised_all xs all k top h e = let gone : drop k xs ≡ [] = grind (arith, common_steps) in let e' = rw gone at e in
-    grind (arith, common_steps)
+raised_all xs all k top h e = grind (arith, common_steps)
 
 -- what the intervals reach is what the ranges hold
 pub cover_is : (rs : List MarkedRange) (xs cover : List Interval) → AreIntervals rs xs → IsRaised xs cover

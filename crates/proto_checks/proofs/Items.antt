@@ -1,4 +1,5 @@
 -- The statements of messages, and the messages within them.
+use Rattle.std.proofs.Common.{arith}
 use Rattle.std.proofs.Common.{◌≡◌, ◌∙◌, ap, sym, refl, [], ◌∷◌, ◌++◌, map, false}
 use Rattle.std.proofs.lemmas.List.{append-nil}
 use Rattle.std.specs.Prelude.{Option, flat_map}
@@ -39,9 +40,7 @@ item_map m r h = first_of_three (Each (optioned m.declarator false false ∷ [])
     (least_single FieldOptionsBreak (optioned m.declarator false false) r h)
 
 pub item_enum : (e : Enum) (r : Option Spot) → IsLeast (EnumBreaks e) r → IsLeast (ItemBreaks (of.Enum e)) r
-item_enum e r h = last_of_three (Each [] FieldOptionsBreak) (Each [] OneofBreaks) (Each (e ∷ []) EnumBreaks) r
-    (among_of FieldOptionsBreak [])
-    (among_of OneofBreaks []) (least_single EnumBreaks e r h)
+item_enum e r h = grind (arith, among_of, least_single, last_of_three)
 
 pub item_oneof : (o : Oneof) (a b r : Option Spot) → IsLeast (Each (flat_map oneof_field o.items) MemberBreaks) a
     → IsLeast (OneofBreaks o) b

@@ -12,6 +12,7 @@ use Rattle.proto_base.specs.Least.{IsLeast, spot}
 use Rattle.proto_base.specs.Lesser.{IsLesser}
 use Rattle.proto_base.specs.Sets.{Where}
 use Rattle.proto_base.specs.declared.spot.Spot.{Spot}
+use Rattle.std.proofs.lemmas.Grind.{common_steps}
 use Rattle.proto_base.proofs.Among.{taken, later_short}
 use Rattle.proto_base.proofs.Sets.{least_or}
 
@@ -40,17 +41,7 @@ last_is [] p b = refl
 last_is (c ∷ rest) p b = last_is rest p b
 
 old_pair : (ps : List Package) (p : Package) (x : Spot) → PackageTwice ps x → PackageTwice (ps ++ p ∷ []) x
-old_pair ps p x (i, j, a, b, before, s, t, u, e) = (
-  i,
-  j,
-  a,
-  b,
-  before,
-  (omega (arith, s.0, length_push ps p), stands_left ps (p ∷ []) i a s.0 s.1),
-  (omega (arith, t.0, length_push ps p), stands_left ps (p ∷ []) j b t.0 t.1),
-  u,
-  e,
-)
+old_pair ps p x w = grind (arith, length_push, stands_left)
 
 new_pair : (ps : List Package) (p : Package) (x : Spot) → 0 < length ps → x ≡ again p → PackageTwice (ps ++ p ∷ []) x
 new_pair [] p x some e = absurd (omega arith)
@@ -98,10 +89,7 @@ repeated_more ps p is_named a b r h k w = record {
 }
 
 pub repeated_none : Repeated [] false None
-repeated_none = record {
-  named = (λ e. absurd (false≢true e), λ some. absurd (omega arith));
-  least = later_short [] (λ p q. Unit {0}) again (omega arith);
-}
+repeated_none = grind (arith, false≢true, later_short)
 
 -- a loop over statements
 pub repeated_next : (ss : List Statement) (i : ℕ) (s : Statement) (p : Package) (is_named : Bool) (a b r : Option Spot)
@@ -118,10 +106,7 @@ pub repeated_skip : (ss : List Statement) (i : ℕ) (s : Statement) (is_named : 
     → s ≡ get_or ss i s → file_package s ≡ []
     → Repeated (flat_map file_package (take i ss)) is_named a
     → Repeated (flat_map file_package (take (i + 1) ss)) is_named a
-repeated_skip ss i s is_named a within at none h =
-    subst (λ ps. Repeated ps is_named a)
-    (sym (taken file_package ss i s within at ∙ ap (λ z. flat_map file_package (take i ss) ++ z) none
-    ∙ append-nil (flat_map file_package (take i ss)))) h
+repeated_skip ss i s is_named a within at none h = grind (arith, common_steps, append-nil, taken)
 
 pub repeated_all : (ss : List Statement) (i : ℕ) (is_named : Bool) (a : Option Spot) → length ss ≤ i
     → Repeated (flat_map file_package (take i ss)) is_named a

@@ -32,29 +32,16 @@ differ [] = true
 differ (r ∷ rs) = not (list_any (λ (q : Rule). bytes_eq r.word q.word) rs) && differ rs
 
 words_differ : (e : Element) → differ (rules_of e) ≡ true
-words_differ element.File = refl
-words_differ element.Message = refl
-words_differ element.Field = refl
-words_differ element.Oneof = refl
-words_differ element.Enum = refl
-words_differ element.EnumValue = refl
-words_differ element.Service = refl
-words_differ element.Method = refl
+words_differ e = grind (arith)
 
 one_word : (o : Option (List ℕ)) (v w : List ℕ) → unwrap_or (option_map (λ n. bytes_eq n v) o) false ≡ true
     → unwrap_or (option_map (λ n. bytes_eq n w) o) false ≡ true → bytes_eq v w ≡ true
-one_word None v w h k = absurd (false≢true h)
-one_word (Some n) v w h k =
-    (bytes_eq-Decides v w).1 (sym ((bytes_eq-Decides n v).0 h) ∙ (bytes_eq-Decides n w).0 k)
+one_word o v w h k = grind (arith, false≢true, bytes_eq-Decides)
 
 passed_over : (s : Setting) (r : Rule) (rs : List Rule) (q : Rule) (b : Bool) → is_known_by s r ≡ b
     → list_any (λ (p : Rule). bytes_eq r.word p.word) rs ≡ false → Contains rs q → is_known_by s q ≡ true
     → find (is_known_by s) rs ≡ Some q → cond b (Some r) (find (is_known_by s) rs) ≡ Some q
-passed_over s r rs q true h none held named found =
-    let same = one_word (simple_name s.name.rest s.name.first) r.word q.word h named in
-    absurd (both_ways (list_any (λ (p : Rule). bytes_eq r.word p.word) rs) none
-    (list_any-from_Any (λ (p : Rule). bytes_eq r.word p.word) rs (held.0, q, held.1, held.2, same)))
-passed_over s r rs q false h none held named found = found
+passed_over s r rs q b h none held named found = grind (arith, both_ways, list_any-from_Any, one_word)
 
 -- a rule of the setting's name is the one that is found
 found_only : (s : Setting) (rs : List Rule) (i : ℕ) (q : Rule) → differ rs ≡ true → i < length rs → get_or rs i q ≡ q
@@ -69,8 +56,7 @@ found_only s (r ∷ rs) (suc i) q apart below at named =
     (found_only s rs i q parts.1 inside at named)
 
 none_by : {X : Type 0} (b : Bool) (x : X) (o : Option X) → cond b (Some x) o ≡ None → (b ≡ false) × (o ≡ None)
-none_by true x o e = absurd (cc)
-none_by false x o e = (refl, e)
+none_by b x o e = grind (arith)
 
 none_found : {X : Type 0} (p : X → Bool) (xs : List X) (i : ℕ) (a : X) → find p xs ≡ None → i < length xs
     → get_or xs i a ≡ a → p a ≡ false
@@ -108,18 +94,14 @@ taken : (s : Setting) (r : Rule) (v : OptionValue) → value_of r.kind s.value �
 taken s r v e = rw e refl
 
 fault_of : (e : Element) (s : Setting) (x : Spot) → SettingBreaks e s x → setting_fault e s ≡ Some x
-fault_of e s x (inl (u, at)) = told e s None (all_none (is_known_by s) (rules_of e) u) ∙ ap Some (sym at)
-fault_of e s x (inr (m, at)) =
-    told e s (Some m.0) (found_only s (rules_of e) m.1.0 m.0 (words_differ e) m.1.1 m.1.2 m.2)
-    ∙ mistaken s m.0 m.3 ∙ ap Some (sym at)
+fault_of e s x w = grind (arith, all_none, told, words_differ, found_only, mistaken)
 
 same_spot : (a b : Spot) → Some a ≡ Some b → a ≡ b
 same_spot a b e = cc
 
 ruled_by : (e : Element) (s : Setting) (x : Spot) (r : Rule) → Contains (rules_of e) r → is_known_by s r ≡ true
     → (v : Option OptionValue) → value_of r.kind s.value ≡ v → fault_under s (Some r) ≡ Some x → SettingBreaks e s x
-ruled_by e s x r held named None none f = inr ((r, held, named, none), same_spot x _ (sym f ∙ mistaken s r none))
-ruled_by e s x r held named (Some v) some f = absurd (let no : Some x ≡ None = sym f ∙ taken s r v some in cc)
+ruled_by e s x r held named o made f = grind (arith, mistaken, same_spot, taken)
 
 breaks_by : (e : Element) (s : Setting) (x : Spot) (o : Option Rule) → rule_named e s ≡ o → setting_fault e s ≡ Some x
     → SettingBreaks e s x

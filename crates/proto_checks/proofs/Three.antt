@@ -1,4 +1,5 @@
 -- Elements of three kinds, each with its rule.
+use Rattle.std.proofs.Common.{arith}
 use Rattle.std.proofs.Common.{List, inl, inr}
 use Rattle.std.specs.Prelude.{Option, flat_map}
 use Rattle.proto_base.specs.Least.{IsLeast}
@@ -11,37 +12,28 @@ use Rattle.proto_base.proofs.Sets.{least_same}
 pub first_of_three : (A B C : Spot → Type 0) (r : Option Spot) → ((x : Spot) → B x → ⊥)
     → ((x : Spot) → C x → ⊥) → IsLeast A r
     → IsLeast (A ∪ B ∪ C) r
-first_of_three A B C r none never h = least_same A (A ∪ B ∪ C) r
-    (λ x v. elim v [ inl s ↦ elim s [ inl a ↦ a | inr b ↦ absurd (none x b) ] | inr c ↦ absurd (never x c) ])
-    (λ x a. inl (inl a)) h
+first_of_three A B C r none never h = grind (arith, least_same)
 
 pub last_of_three : (A B C : Spot → Type 0) (r : Option Spot) → ((x : Spot) → A x → ⊥)
     → ((x : Spot) → B x → ⊥) → IsLeast C r
     → IsLeast (A ∪ B ∪ C) r
-last_of_three A B C r none never h = least_same C (A ∪ B ∪ C) r
-    (λ x v. elim v [ inl s ↦ elim s [ inl a ↦ absurd (none x a) | inr b ↦ absurd (never x b) ] | inr c ↦ c ])
-    (λ x c. inr c) h
+last_of_three A B C r none never h = grind (arith, least_same)
 
 pub two_of_three : (A B C : Spot → Type 0) (r : Option Spot) → ((x : Spot) → C x → ⊥) → IsLeast (A ∪ B) r
     → IsLeast (A ∪ B ∪ C) r
-two_of_three A B C r never h = least_same (A ∪ B) (A ∪ B ∪ C) r
-    (λ x v. elim v [ inl s ↦ s | inr c ↦ absurd (never x c) ]) (λ x s. inl s) h
+two_of_three A B C r never h = grind (arith, least_same)
 
 pub second_of_three : (A B C : Spot → Type 0) (r : Option Spot) → ((x : Spot) → A x → ⊥)
     → ((x : Spot) → C x → ⊥) → IsLeast B r
     → IsLeast (A ∪ B ∪ C) r
-second_of_three A B C r none never h = least_same B (A ∪ B ∪ C) r
-    (λ x v. elim v [ inl s ↦ elim s [ inl a ↦ absurd (none x a) | inr b ↦ b ] | inr c ↦ absurd (never x c) ])
-    (λ x b. inl (inr b)) h
+second_of_three A B C r none never h = grind (arith, least_same)
 
 -- what statements break, by the kinds of their elements
 split_three : {X A B C : Type 0} (S : A → Spot → Type 0) (T : B → Spot → Type 0) (U : C → Spot → Type 0)
     (f : X → List A) (g : X → List B) (h : X → List C)
     (xs : List X) (x : Spot) → Each xs (λ a. Each (f a) S ∪ Each (g a) T ∪ Each (h a) U) x
     → (Each (flat_map f xs) S ∪ Each (flat_map g xs) T ∪ Each (flat_map h xs) U) x
-split_three S T U f g h xs x (i, a, stands, inl (inl s)) = inl (inl (each_flat S f xs x (i, a, stands, s)))
-split_three S T U f g h xs x (i, a, stands, inl (inr s)) = inl (inr (each_flat T g xs x (i, a, stands, s)))
-split_three S T U f g h xs x (i, a, stands, inr s) = inr (each_flat U h xs x (i, a, stands, s))
+split_three S T U f g h xs x w = grind (arith, each_flat)
 
 join_three : {X A B C : Type 0} (S : A → Spot → Type 0) (T : B → Spot → Type 0) (U : C → Spot → Type 0) (f : X → List A)
     (g : X → List B) (h : X → List C)

@@ -1,4 +1,5 @@
 -- The rules of a file as unions of those that functions look at.
+use Rattle.std.proofs.Common.{arith}
 use Rattle.std.proofs.Common.{[], ◌∷◌, ◌++◌}
 use Rattle.std.specs.Prelude.{Option, flat_map}
 use Rattle.proto_base.specs.declared.limits.Limits.{Limits}
@@ -32,9 +33,7 @@ statement_enum e r h = second_of_three (Each [] MessageBreaks) (Each (e ∷ []) 
 
 pub statement_service : (s : Service) (r : Option Spot) → IsLeast (ServiceBreaks s) r
     → IsLeast (StatementBreaks (statement.Service s)) r
-statement_service s r h = last_of_three (Each [] MessageBreaks) (Each [] EnumBreaks) (Each (s ∷ []) ServiceBreaks) r
-    (among_of MessageBreaks [])
-    (among_of EnumBreaks []) (least_single ServiceBreaks s r h)
+statement_service s r h = grind (arith, among_of, least_single, last_of_three)
 
 pub declared_least : (limits : Limits) (desc : FileDesc) (a b p ab r : Option Spot) →
     IsLeast (Each (flat_map (λ m. declared_by_message m (file_scope desc.«package»)) desc.messages) (IsTooLong limits))

@@ -11,6 +11,4 @@ returns-then-has_value c = let some : list_any is_value c.args.declared.now.item
     grind (arith, common_steps) in enum_filled c.args.declared.now some
 
 pub returns-else-has_value : goal.returns-else-has_value
-returns-else-has_value c =
-    let none : list_any is_value c.args.declared.now.items ≡ false = grind (arith, common_steps) in
-    rw (ap (λ (d : Enum). d.name.span.start) c.declared.view_is) (enum_empty c.args.declared.now none)
+returns-else-has_value c = grind (arith, enum_empty)

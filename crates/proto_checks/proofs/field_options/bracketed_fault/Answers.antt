@@ -22,7 +22,4 @@ returns c =
     (omega arith) c.loop-next.invariant)
 
 pub loop-next-init : goal.loop-next-init
-loop-next-init c =
-    with_none (IsWrongOnField c.args.can_be_packed c.args.is_wide_integer c.args.options.now.settings.first)
-    c.as_slice-next-items.result.now (λ next. IsWrongOnField c.args.can_be_packed c.args.is_wide_integer next.item)
-    c.field_setting_fault-first.result c.field_setting_fault-first.ensures
+loop-next-init c = grind (arith, with_none)

@@ -16,9 +16,6 @@ empty : (A : Type 0) (S : Spot → Type 0) (o : Option Spot) → is_some o ≡ f
 empty A S None e least = least_none (λ x. (A → ⊥) × S x) (λ x w. least.is x w.1)
 empty A S (Some y) e least = absurd (cc)
 
-pub returns-then-is_aliasing : goal.returns-then-is_aliasing
-returns-then-is_aliasing c = search rules
-
 pub returns : goal.returns
 returns c = elim c.else-is_some.branch [
   | else-is_some-via-then-is_some+else-is_aliasing w ↦

@@ -12,6 +12,4 @@ returns-then-has_member c =
     oneof_filled c.args.oneof.now some
 
 pub returns-else-has_member : goal.returns-else-has_member
-returns-else-has_member c =
-    let none : list_any is_oneof_member c.args.oneof.now.items ≡ false = grind (arith, common_steps) in
-    rw (ap (λ (d : Oneof). d.name.span.start) c.oneof.view_is) (oneof_empty c.args.oneof.now none)
+returns-else-has_member c = grind (arith, oneof_empty)

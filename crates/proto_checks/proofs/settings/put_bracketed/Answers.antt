@@ -1,9 +1,0 @@
-use Rattle.std.proofs.Common.{arith}
-use Rattle.std.proofs.lemmas.Grind.{common_steps}
-use Rattle.proto_checks.proofs.settings.put_bracketed.Goals as goal
-
-pub loop-next-preserved : goal.loop-next-preserved
-loop-next-preserved c = grind (arith, common_steps)
-
-pub returns : goal.returns
-returns c = grind (arith, common_steps)
