@@ -14,7 +14,8 @@ use Rattle.proto_base.specs.Sets.{Where}
 use Rattle.proto_base.specs.declared.spot.Spot.{Spot}
 use Rattle.std.proofs.lemmas.Grind.{common_steps}
 use Rattle.proto_base.proofs.Among.{taken, later_short}
-use Rattle.proto_base.proofs.Sets.{least_or}
+use Rattle.proto_base.proofs.Sets.{least_or, item_at, one_at}
+use Rattle.proto_checks.proofs.Halves.{stands_split, stands_left, stands_right}
 
 abbrev pub again : Package → Spot
 again p = spot p.keyword.start kind.PackageTwice
@@ -24,58 +25,18 @@ pub record Repeated (ps : List Package) (is_named : Bool) (first : Option Spot) 
   pub named : (is_named ≡ true) ↔ (0 < length ps)
   pub least : IsLeast (PackageTwice ps) first
 
-stands_left : {X : Type 0} (xs ys : List X) (i : ℕ) (a : X) → i < length xs → get_or xs i a ≡ a
-    → get_or (xs ++ ys) i a ≡ a
-stands_left [] ys i a within at = absurd (omega arith)
-stands_left (b ∷ rest) ys zero a within at = at
-stands_left (b ∷ rest) ys (suc i) a within at = stands_left rest ys i a (omega arith) at
-
-stands_back : {X : Type 0} (xs ys : List X) (i : ℕ) (a : X) → i < length xs → get_or (xs ++ ys) i a ≡ a
-    → get_or xs i a ≡ a
-stands_back [] ys i a within at = absurd (omega arith)
-stands_back (b ∷ rest) ys zero a within at = at
-stands_back (b ∷ rest) ys (suc i) a within at = stands_back rest ys i a (omega arith) at
-
-last_is : {X : Type 0} (xs : List X) (p b : X) → get_or (xs ++ p ∷ []) (length xs) b ≡ p
-last_is [] p b = refl
-last_is (c ∷ rest) p b = last_is rest p b
-
 old_pair : (ps : List Package) (p : Package) (x : Spot) → PackageTwice ps x → PackageTwice (ps ++ p ∷ []) x
 old_pair ps p x w = grind (arith, length_push, stands_left)
 
 new_pair : (ps : List Package) (p : Package) (x : Spot) → 0 < length ps → x ≡ again p → PackageTwice (ps ++ p ∷ []) x
-new_pair [] p x some e = absurd (omega arith)
-new_pair (q ∷ qs) p x some e = (
-  0,
-  length (q ∷ qs),
-  q,
-  p,
-  some,
-  (omega (arith, length_push (q ∷ qs) p), refl),
-  (omega (arith, length_push (q ∷ qs) p), last_is (q ∷ qs) p p),
-  tt,
-  e,
-)
+new_pair ps p x some e =
+    let last = stands_right ps (p ∷ []) 0 (length ps) p (omega arith) (omega arith, refl) in
+    let first = stands_left ps (p ∷ []) 0 (get_or ps 0 p) (item_at ps 0 p some) in
+    (0, length ps, get_or ps 0 p, p, some, first, last, tt, e)
 
 split_pair : (ps : List Package) (p : Package) (x : Spot) → PackageTwice (ps ++ p ∷ []) x
     → PackageTwice ps x ⊎ ((0 < length ps) × (x ≡ again p))
-split_pair ps p x (i, j, a, b, before, s, t, u, e) = elim (cases_lt j (length ps)) [
-  | inl old ↦ inl (
-    i,
-    j,
-    a,
-    b,
-    before,
-    (omega arith, stands_back ps (p ∷ []) i a (omega arith) s.1),
-    (old, stands_back ps (p ∷ []) j b old t.1),
-    u,
-    e,
-  )
-  | inr last ↦ (
-      let here : j ≡ length ps = omega (arith, t.0, length_push ps p) in
-      let same : b ≡ p = sym t.1 ∙ ap (λ k. get_or (ps ++ p ∷ []) k b) here ∙ last_is ps p b in
-      inr (omega arith, e ∙ ap again same))
-]
+split_pair ps p x w = grind (arith, stands_split, one_at)
 
 pub repeated_more : (ps : List Package) (p : Package) (is_named : Bool) (a b r : Option Spot) → Repeated ps is_named a
     → IsLeast (Where (is_named ≡ true) (again p)) b → IsLesser a b r → Repeated (ps ++ p ∷ []) true r
