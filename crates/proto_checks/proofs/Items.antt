@@ -28,8 +28,8 @@ use Rattle.proto_base.proofs.Sets.{least_union, lesser_none}
 pub item_field : (f : Field) (r : Option Spot) → IsLeast (FieldOptionsBreak (optioned_plain f)) r
     → IsLeast (ItemBreaks (of.Field f)) r
 item_field f r h =
-    least_union (least_union (least_single FieldOptionsBreak (optioned_plain f) r h) (least_nil OneofBreaks) (lesser_none r)) (least_nil EnumBreaks)
-    (lesser_none r)
+    least_union (least_union (least_single FieldOptionsBreak (optioned_plain f) r h) (least_nil OneofBreaks)
+    (lesser_none r)) (least_nil EnumBreaks) (lesser_none r)
 
 pub item_map : (m : MapField) (r : Option Spot) → IsLeast (FieldOptionsBreak (optioned m.declarator false false)) r
     → IsLeast (ItemBreaks (of.Map m)) r
@@ -39,8 +39,8 @@ item_map m r h =
 
 pub item_enum : (e : Enum) (r : Option Spot) → IsLeast (EnumBreaks e) r → IsLeast (ItemBreaks (of.Enum e)) r
 item_enum e r h =
-    least_union (least_union (least_nil FieldOptionsBreak) (least_nil OneofBreaks) (none_lesser None)) (least_single EnumBreaks e r h)
-    (none_lesser r)
+    least_union (least_union (least_nil FieldOptionsBreak) (least_nil OneofBreaks) (none_lesser None)) (least_single
+    EnumBreaks e r h) (none_lesser r)
 
 pub item_oneof : (o : Oneof) (a b r : Option Spot) → IsLeast (Each (flat_map oneof_field o.items) MemberBreaks) a
     → IsLeast (OneofBreaks o) b

@@ -51,26 +51,3 @@ repeated_more ps p is_named a b r h k w = record {
 
 pub repeated_none : Repeated [] false None
 repeated_none = grind (arith, false≢true, later_short)
-
--- a loop over statements
-pub repeated_next : (ss : List Statement) (i : ℕ) (s : Statement) (p : Package) (is_named : Bool) (a b r : Option Spot)
-    → i < length ss → s ≡ get_or ss i s
-    → file_package s ≡ p ∷ [] → Repeated (flat_map file_package (take i ss)) is_named a
-    → IsLeast (Where (is_named ≡ true) (again p)) b → IsLesser a b r
-    → Repeated (flat_map file_package (take (i + 1) ss)) true r
-repeated_next ss i s p is_named a b r within at one h k w =
-    subst (λ ps. Repeated ps true r)
-    (sym (taken file_package ss i s within at ∙ ap (λ z. flat_map file_package (take i ss) ++ z) one))
-    (repeated_more (flat_map file_package (take i ss)) p is_named a b r h k w)
-
-pub repeated_skip : (ss : List Statement) (i : ℕ) (s : Statement) (is_named : Bool) (a : Option Spot) → i < length ss
-    → s ≡ get_or ss i s → file_package s ≡ []
-    → Repeated (flat_map file_package (take i ss)) is_named a
-    → Repeated (flat_map file_package (take (i + 1) ss)) is_named a
-repeated_skip ss i s is_named a within at none h = grind (arith, common_steps, append-nil, taken)
-
-pub repeated_all : (ss : List Statement) (i : ℕ) (is_named : Bool) (a : Option Spot) → length ss ≤ i
-    → Repeated (flat_map file_package (take i ss)) is_named a
-    → IsLeast (PackageTwice (flat_map file_package ss)) a
-repeated_all ss i is_named a end h =
-    subst (λ ys. IsLeast (PackageTwice (flat_map file_package ys)) a) (take_all i ss end) h.least

@@ -96,28 +96,23 @@ taken s r v e = rw e refl
 fault_of : (e : Element) (s : Setting) (x : Spot) → SettingBreaks e s x → setting_fault e s ≡ Some x
 fault_of e s x w = grind (arith, all_none, told, words_differ, found_only, mistaken)
 
-same_spot : (a b : Spot) → Some a ≡ Some b → a ≡ b
-same_spot a b e = cc
-
 ruled_by : (e : Element) (s : Setting) (x : Spot) (r : Rule) → Contains (rules_of e) r → is_known_by s r ≡ true
     → (v : Option OptionValue) → value_of r.kind s.value ≡ v → fault_under s (Some r) ≡ Some x → SettingBreaks e s x
-ruled_by e s x r held named o made f = grind (arith, mistaken, same_spot, taken)
+ruled_by e s x r held named o made f = grind (arith, mistaken, taken)
 
 breaks_by : (e : Element) (s : Setting) (x : Spot) (o : Option Rule) → rule_named e s ≡ o → setting_fault e s ≡ Some x
     → SettingBreaks e s x
 breaks_by e s x None h f = inl (
   λ r held. none_found (is_known_by s) (rules_of e) held.0 r h held.1 held.2,
-  same_spot x _ (sym f ∙ told e s None h),
+  let found : Some x ≡ fault_under s None = sym f ∙ told e s None h in cc,
 )
-breaks_by e s x (Some r) h f =
-    let w = some_found (is_known_by s) (rules_of e) r h in
+breaks_by e s x (Some r) h f = let w = some_found (is_known_by s) (rules_of e) r h in
     ruled_by e s x r w.0 w.1 (value_of r.kind s.value) refl (sym (told e s (Some r) h) ∙ f)
 
 pub setting_least : (e : Element) (ss : List Setting) (r : Option Spot) → IsLeast (Each (map (judged e) ss) IsFaultOf) r
     → IsLeast (Each ss (SettingBreaks e)) r
-setting_least e ss r h =
-    each_on (judged e) ss IsFaultOf (SettingBreaks e) r (λ s x f. breaks_by e s x (rule_named e s) refl f)
-    (fault_of e) h
+setting_least e ss r h = each_on (judged e) ss IsFaultOf (SettingBreaks e) r
+    (λ s x f. breaks_by e s x (rule_named e s) refl f) (fault_of e) h
 
 pub twice_least : (e : Element) (ss : List Setting) (r : Option Spot) → IsLeast (JudgedTwice (map (judged e) ss)) r
     → IsLeast (OptionTwice ss) r
@@ -128,13 +123,9 @@ pub judged_least : (js : List Judged) (a b r : Option Spot) → IsLeast (Each js
     → IsLesser a b r
     → (e : Element) (ss : List Setting) → js ≡ map (judged e) ss → IsLeast (SettingsBreak e ss) r
 judged_least js a b r h k w e ss made =
-    least_union
-    (setting_least e ss a (subst (λ ys. IsLeast (Each ys IsFaultOf) a) made h))
-    (twice_least e ss b (subst (λ ys. IsLeast (JudgedTwice ys) b) made k)) w
+    least_union (setting_least e ss a (rw made at h)) (twice_least e ss b (rw made at k)) w
 
 pub one_least : (e : Element) (s : Setting) → IsLeast (SettingsBreak e (s ∷ [])) (setting_fault e s)
 one_least e s = least_union
-    (setting_least e (s ∷ []) (setting_fault e s)
-    (least_single IsFaultOf (judged e s) (setting_fault e s) (least_known (setting_fault e s))))
-    (later_short (s ∷ []) (λ (s t : Setting). dotted s.name ≡ dotted t.name)
-    (λ t. spot (name_place t) kind.OptionTwice) (omega arith)) (lesser_none (setting_fault e s))
+    (setting_least e (s ∷ []) _ (least_single IsFaultOf (judged e s) _ (least_known (setting_fault e s))))
+    (later_short (s ∷ []) _ (λ t. spot (name_place t) kind.OptionTwice) (omega arith)) (lesser_none (setting_fault e s))

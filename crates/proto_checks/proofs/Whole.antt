@@ -22,31 +22,17 @@ use Rattle.proto_checks.proofs.Three.{none_lesser}
 pub statement_message : (m : Message) (r : Option Spot) → IsLeast (MessageBreaks m) r
     → IsLeast (StatementBreaks (statement.Message m)) r
 statement_message m r h =
-    least_union (least_union (least_single MessageBreaks m r h) (least_nil EnumBreaks) (lesser_none r)) (least_nil ServiceBreaks)
-    (lesser_none r)
+    least_union (least_union (least_single MessageBreaks m r h) (least_nil EnumBreaks) (lesser_none r)) (least_nil
+    ServiceBreaks) (lesser_none r)
 
 pub statement_enum : (e : Enum) (r : Option Spot) → IsLeast (EnumBreaks e) r
     → IsLeast (StatementBreaks (statement.Enum e)) r
 statement_enum e r h =
-    least_union (least_union (least_nil MessageBreaks) (least_single EnumBreaks e r h) (none_lesser r)) (least_nil ServiceBreaks)
-    (lesser_none r)
+    least_union (least_union (least_nil MessageBreaks) (least_single EnumBreaks e r h) (none_lesser r)) (least_nil
+    ServiceBreaks) (lesser_none r)
 
 pub statement_service : (s : Service) (r : Option Spot) → IsLeast (ServiceBreaks s) r
     → IsLeast (StatementBreaks (statement.Service s)) r
 statement_service s r h =
-    least_union (least_union (least_nil MessageBreaks) (least_nil EnumBreaks) (none_lesser None)) (least_single ServiceBreaks s r h)
-    (none_lesser r)
-
-pub declared_least : (limits : Limits) (desc : FileDesc) (a b p ab r : Option Spot) →
-    IsLeast (Each (flat_map (λ m. declared_by_message m (file_scope desc.«package»)) desc.messages) (IsTooLong limits))
-    a →
-    IsLeast (Each (flat_map (declared_by_enum (file_scope desc.«package»)) desc.enums) (IsTooLong limits)) b →
-    IsLeast (Each (flat_map (declared_by_service (file_scope desc.«package»)) desc.services) (IsTooLong limits)) p →
-    IsLesser a b ab → IsLesser ab p r → IsLeast (Each (declared_by desc) (IsTooLong limits)) r
-declared_least limits desc a b p ab r h k m u w =
-    let scope = file_scope desc.«package» in
-    let messages = flat_map (λ m. declared_by_message m scope) desc.messages in
-    let enums = flat_map (declared_by_enum scope) desc.enums in
-    let services = flat_map (declared_by_service scope) desc.services in
-    least_append (IsTooLong limits) (messages ++ enums) services ab p r
-    (least_append (IsTooLong limits) messages enums a b ab h k u) m w
+    least_union (least_union (least_nil MessageBreaks) (least_nil EnumBreaks) (none_lesser None)) (least_single
+    ServiceBreaks s r h) (none_lesser r)

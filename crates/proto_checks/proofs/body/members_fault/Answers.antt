@@ -9,7 +9,8 @@ use Rattle.proto_checks.proofs.body.members_fault.Goals.{in-Field+in_ok-member_f
 
 pub loop-item-preserved : goal.loop-item-preserved
 loop-item-preserved c = elim c.match-item.branch [
-  | in-Field+in_ok-member_fault w ↦ rw w.first-is (flat_one MemberBreaks oneof_field c.args.items.now c.loop-item.item-index _
+  | in-Field+in_ok-member_fault w ↦ rw w.first-is (flat_one MemberBreaks oneof_field c.args.items.now
+      c.loop-item.item-index _
       w.in-Field.field _ _ _ (omega arith) c.item-item.is (rw w.in-Field.is refl) c.loop-item.invariant
       (rw w.get.ensures at w.in_ok-member_fault.ensures) w.lesser-first.ensures)
   | in_default w ↦ rw w.first-is (flat_skip MemberBreaks oneof_field c.args.items.now c.loop-item.item-index _ _

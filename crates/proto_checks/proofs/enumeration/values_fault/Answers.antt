@@ -9,7 +9,8 @@ use Rattle.proto_checks.proofs.enumeration.values_fault.Goals.{in-Value+in_ok-va
 
 pub loop-item-preserved : goal.loop-item-preserved
 loop-item-preserved c = elim c.match-item.branch [
-  | in-Value+in_ok-value_fault w ↦ rw w.first-is (flat_one ValueBreaks enum_value c.args.items.now c.loop-item.item-index _
+  | in-Value+in_ok-value_fault w ↦ rw w.first-is (flat_one ValueBreaks enum_value c.args.items.now
+      c.loop-item.item-index _
       w.in-Value.value _ _ _ (omega arith) c.item-item.is (rw w.in-Value.is refl) c.loop-item.invariant
       (rw w.get.ensures at w.in_ok-value_fault.ensures) w.lesser-first.ensures)
   | in_default w ↦ rw w.first-is (flat_skip ValueBreaks enum_value c.args.items.now c.loop-item.item-index _ _

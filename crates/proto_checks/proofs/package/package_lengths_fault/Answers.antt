@@ -12,9 +12,10 @@ loop-statement-preserved c =
     let S = PackageTooLong c.args.limits.now in
     let ss = c.args.statements.now in
     elim c.match-statement.branch [
-      | in-Package w ↦ rw w.first-is (flat_one S file_package ss c.loop-statement.statement-index _ w.in-Package.«package» _ _ _
-          (omega arith) c.statement-item.is (rw w.in-Package.is refl) c.loop-statement.invariant (rw w.get.ensures at w.length_fault.ensures)
-          w.lesser-first.ensures)
+      | in-Package w ↦ rw w.first-is (flat_one S file_package ss c.loop-statement.statement-index _
+          w.in-Package.«package» _ _ _
+          (omega arith) c.statement-item.is (rw w.in-Package.is refl) c.loop-statement.invariant (rw w.get.ensures at
+          w.length_fault.ensures) w.lesser-first.ensures)
       | in_default w ↦ rw w.first-is (flat_skip S file_package ss c.loop-statement.statement-index _ _ (omega arith)
           c.statement-item.is (grind (arith, common_steps)) c.loop-statement.invariant)
     ]

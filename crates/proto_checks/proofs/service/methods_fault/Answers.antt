@@ -9,8 +9,8 @@ use Rattle.proto_checks.proofs.service.methods_fault.Goals.{in-Rpc+in_ok-method_
 
 pub loop-item-preserved : goal.loop-item-preserved
 loop-item-preserved c = elim c.match-item.branch [
-  | in-Rpc+in_ok-method_fault w ↦ rw w.first-is (flat_one RpcBreaks service_rpc c.args.items.now c.loop-item.item-index _
-      w.in-Rpc.rpc _ _ _ (omega arith) c.item-item.is (rw w.in-Rpc.is refl) c.loop-item.invariant
+  | in-Rpc+in_ok-method_fault w ↦ rw w.first-is (flat_one RpcBreaks service_rpc c.args.items.now c.loop-item.item-index
+      _ w.in-Rpc.rpc _ _ _ (omega arith) c.item-item.is (rw w.in-Rpc.is refl) c.loop-item.invariant
       (rw w.get.ensures at w.in_ok-method_fault.ensures) w.lesser-first.ensures)
   | in_default w ↦ rw w.first-is (flat_skip RpcBreaks service_rpc c.args.items.now c.loop-item.item-index _ _
       (omega arith) c.item-item.is (grind (arith, common_steps)) c.loop-item.invariant)
