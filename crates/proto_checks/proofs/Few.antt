@@ -1,5 +1,5 @@
 -- Lists of which each element is compared with all before it.
-use Rattle.std.proofs.Common.{◌≡◌, ◌∙◌, sym, ap, refl, subst, inl, inr, ℕ, zero, suc, ◌+◌, ◌%◌, ◌<◌}
+use Rattle.std.proofs.Common.{◌≡◌, ◌∙◌, sym, ap, refl, ℕ, zero, suc, ◌+◌, ◌%◌, ◌<◌}
 use Rattle.std.proofs.Common.{List, [], ◌∷◌, length, get_or, take, set, map, arith, Bool, true, false}
 use Rattle.std.specs.Prelude.{Option, Some}
 use Rattle.std.specs.Bool.{Decides}

@@ -38,28 +38,13 @@ halves_of xs ys x w = grind (arith, stands_split)
 of_halves : (xs ys : List MarkedRange) (x : Spot) → Halves xs ys x → ReservedOverlap (xs ++ ys) x
 of_halves xs ys x (inl (inl (i, j, a, b, before, there, then, r, e))) =
     (i, j, a, b, before, stands_left xs ys i a there, stands_left xs ys j b then, r, e)
-of_halves xs ys x (inl (inr (i, j, a, b, before, there, then, r, e))) = (
-  length xs + i,
-  length xs + j,
-  a,
-  b,
-  omega arith,
-  stands_right xs ys i (length xs + i) a refl there,
-  stands_right xs ys j (length xs + j) b refl then,
-  r,
-  e,
-)
-of_halves xs ys x (inr (j, b, then, ((i, a, there, r), e))) = (
-  i,
-  length xs + j,
-  a,
-  b,
-  omega (arith, there.0),
-  stands_left xs ys i a there,
-  stands_right xs ys j (length xs + j) b refl then,
-  r,
-  e,
-)
+of_halves xs ys x (inl (inr (i, j, a, b, before, there, then, r, e))) =
+    let first = stands_right xs ys i (length xs + i) a refl there in
+    let second = stands_right xs ys j (length xs + j) b refl then in
+    (length xs + i, length xs + j, a, b, omega arith, first, second, r, e)
+of_halves xs ys x (inr (j, b, then, ((i, a, there, r), e))) =
+    let second = stands_right xs ys j (length xs + j) b refl then in
+    (i, length xs + j, a, b, omega (arith, there.0), stands_left xs ys i a there, second, r, e)
 
 pub halves_least : (xs ys zs : List MarkedRange) (a b p c r : Option Spot) → zs ≡ xs ++ ys
     → IsLeast (ReservedOverlap xs) a → IsLeast (ReservedOverlap ys) b
@@ -96,6 +81,3 @@ pub of_shared : (rs : List MarkedRange) (cover : List Interval) (s : MarkedRange
 of_shared rs cover s h (i, r, there, (n, holds, (c, d))) =
     let up : s.start ≤ s.end = omega arith in
     (up, (h.reached s.start s.end up).1 (i, r, there, (n, c, d, holds)))
-
-pub bad_range : (s : MarkedRange) → s.end < s.start → s.start ≤ s.end → ⊥
-bad_range s h k = omega arith

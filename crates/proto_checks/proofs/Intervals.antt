@@ -167,17 +167,10 @@ cover_is rs xs cover members h = record {
       → IsHeld rs n m
   held_of rs xs n m members up (a, member, low, high) =
       let w = (members a).0 member in
-      let start = ap (λ (s : Interval). s.start) w.4 in
-      let end = ap (λ (s : Interval). s.end) w.4 in
-      let full = w.3 in (
-        w.0,
-        w.1,
-        w.2,
-        elim (cases_lt a.start n) [
-          | inl less ↦ (n, omega arith, up, (omega arith, omega arith))
-          | inr more ↦ (a.start, more, low, (omega arith, omega arith))
-        ],
-      )
+      let full = w.3 in
+      let low' = rw w.4 at low in
+      let high' = rw w.4 at high in
+      (w.0, w.1, w.2, (max n w.1.start, omega arith, omega arith, (omega arith, omega arith)))
 
   of_held : (rs : List MarkedRange) (xs : List Interval) (n m : ℕ) → AreIntervals rs xs → IsHeld rs n m → Reached xs n m
   of_held rs xs n m members (i, r, there, (k, over, under, holds)) =

@@ -1,19 +1,16 @@
 -- Package statements: each but the first is one too many.
-use Rattle.std.proofs.Common.{◌≡◌, ◌∙◌, sym, ap, refl, subst, ℕ, zero, suc, ◌+◌, ◌<◌, ◌≤◌, Bool, true, List, [], ◌∷◌, ◌++◌, length, get_or, take, false, arith, inl, inr, ◌⊎◌}
-use Rattle.std.specs.Prelude.{Option, None, ◌↔◌, flat_map}
-use Rattle.std.proofs.lemmas.Bool.{cases_lt, false≢true}
-use Rattle.std.proofs.lemmas.List.{append-nil, take_all, length_push}
+use Rattle.std.proofs.Common.{◌≡◌, refl, ◌<◌, Bool, true, List, [], ◌∷◌, ◌++◌, length, get_or, false, arith, inl, inr, ◌⊎◌}
+use Rattle.std.specs.Prelude.{Option, None, ◌↔◌}
+use Rattle.std.proofs.lemmas.Bool.{false≢true}
+use Rattle.std.proofs.lemmas.List.{length_push}
 use Rattle.proto_base.specs.declared.kind.Kind.TheVariants as kind
 use Rattle.proto_tree.specs.declared.file.Package.{Package}
-use Rattle.proto_tree.specs.declared.file.Statement.{Statement}
-use Rattle.proto_options.specs.Statements.{file_package}
 use Rattle.proto_checks.specs.Checks.{PackageTwice}
 use Rattle.proto_base.specs.Least.{IsLeast, spot}
 use Rattle.proto_base.specs.Lesser.{IsLesser}
 use Rattle.proto_base.specs.Sets.{Where}
 use Rattle.proto_base.specs.declared.spot.Spot.{Spot}
-use Rattle.std.proofs.lemmas.Grind.{common_steps}
-use Rattle.proto_base.proofs.Among.{taken, later_short}
+use Rattle.proto_base.proofs.Among.{later_short}
 use Rattle.proto_base.proofs.Sets.{least_or, item_at, one_at}
 use Rattle.proto_checks.proofs.Halves.{stands_split, stands_left, stands_right}
 

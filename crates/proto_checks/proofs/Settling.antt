@@ -1,5 +1,5 @@
 -- Settings by the rules of their element.
-use Rattle.std.proofs.Common.{◌≡◌, ◌∙◌, sym, ap, refl, subst, inl, inr, arith, ℕ, zero, suc, ◌<◌}
+use Rattle.std.proofs.Common.{◌≡◌, ◌∙◌, sym, ap, refl, inl, arith, ℕ, zero, suc, ◌<◌}
 use Rattle.std.proofs.Common.{Bool, true, false, ◌&&◌, cond, List, [], ◌∷◌, map, length, get_or}
 use Rattle.std.proofs.lemmas.Bool.{false≢true, both_ways, and_parts, cond-true, cond-false, not-true}
 use Rattle.std.specs.Prelude.{not, Option, Some, None, Contains, bytes_eq}
@@ -9,10 +9,8 @@ use Rattle.std.proofs.lemmas.List.Folds.{list_any-from_Any}
 use Rattle.std.proofs.lemmas.Slice.Eq.{bytes_eq-Decides}
 use Rattle.proto_base.specs.declared.kind.Kind.TheVariants as kind
 use Rattle.proto_tree.specs.declared.option.Setting.{Setting}
-use Rattle.proto_tree.specs.Text.{dotted, simple_name}
 use Rattle.proto_desc.specs.declared.options.OptionValue.{OptionValue}
 use Rattle.proto_desc.specs.declared.rules.Element.{Element}
-use Rattle.proto_desc.specs.declared.rules.Element.TheVariants as element
 use Rattle.proto_options.specs.Options.{value_of}
 use Rattle.proto_desc.specs.Rules.{Rule, rules_of}
 use Rattle.proto_base.specs.Least.{IsLeast, spot}

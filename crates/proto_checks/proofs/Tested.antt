@@ -1,6 +1,6 @@
 -- A test of elements, and of what is made of them.
 use Rattle.std.proofs.Common.{arith}
-use Rattle.std.proofs.Common.{◌≡◌, ap, refl, Bool, true, false, ◌||◌, cond, List, [], ◌∷◌, map}
+use Rattle.std.proofs.Common.{◌≡◌, ap, refl, Bool, ◌||◌, cond, List, [], ◌∷◌, map}
 use Rattle.std.specs.Prelude.{Option, Some}
 use Rattle.std.specs.List.{find, list_any}
 use Rattle.std.specs.Option.{option_map}

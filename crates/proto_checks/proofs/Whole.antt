@@ -1,21 +1,14 @@
 -- The rules of a file as unions of those that functions look at.
-use Rattle.std.proofs.Common.{[], ◌∷◌, ◌++◌}
-use Rattle.std.specs.Prelude.{Option, None, flat_map}
-use Rattle.proto_base.specs.declared.limits.Limits.{Limits}
+use Rattle.std.specs.Prelude.{Option, None}
 use Rattle.proto_tree.specs.declared.enumeration.Enum.{Enum}
 use Rattle.proto_tree.specs.declared.file.Statement.TheVariants as statement
 use Rattle.proto_tree.specs.declared.message.Message.{Message}
 use Rattle.proto_tree.specs.declared.service.Service.{Service}
-use Rattle.proto_desc.specs.DeclaredNames.{declared_by_message, declared_by_enum, declared_by_service, declared_by, file_scope}
-use Rattle.proto_desc.specs.declared.file.FileDesc.{FileDesc}
-use Rattle.proto_checks.specs.Checks.{IsTooLong}
 use Rattle.proto_checks.specs.Elements.{MessageBreaks, EnumBreaks, ServiceBreaks}
 use Rattle.proto_checks.specs.Parts.{StatementBreaks}
 use Rattle.proto_base.specs.Least.{IsLeast}
-use Rattle.proto_base.specs.Lesser.{IsLesser}
-use Rattle.proto_base.specs.Sets.{Each}
 use Rattle.proto_base.specs.declared.spot.Spot.{Spot}
-use Rattle.proto_base.proofs.Among.{least_nil, least_single, least_append}
+use Rattle.proto_base.proofs.Among.{least_nil, least_single}
 use Rattle.proto_base.proofs.Sets.{least_union, lesser_none}
 use Rattle.proto_checks.proofs.Three.{none_lesser}
 

@@ -1,4 +1,4 @@
-use Rattle.std.proofs.Common.{◌≤◌, arith, get_or}
+use Rattle.std.proofs.Common.{◌≤◌, arith}
 use Rattle.proto_base.specs.Least.{spot}
 use Rattle.proto_checks.specs.Marks.{IsOutside}
 use Rattle.proto_checks.specs.declared.marks.MarkedNumber.{MarkedNumber}

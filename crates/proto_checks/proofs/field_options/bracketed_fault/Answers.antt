@@ -7,19 +7,13 @@ use Rattle.proto_checks.proofs.field_options.bracketed_fault.Goals as goal
 
 pub loop-next-preserved : goal.loop-next-preserved
 loop-next-preserved c =
-    with_more (IsWrongOnField c.args.can_be_packed c.args.is_wide_integer c.args.options.now.settings.first)
-    c.as_slice-next-items.result.now (λ next. IsWrongOnField c.args.can_be_packed c.args.is_wide_integer next.item)
-    c.loop-next.next-index c.next-item.result
-    c.loop-next.first c.field_setting_fault-here.result c.lesser-first.result
-    (omega arith, sym c.next-item.is) c.loop-next.invariant
-    c.field_setting_fault-here.ensures c.lesser-first.ensures
+    with_more _ _ (λ next. IsWrongOnField c.args.can_be_packed c.args.is_wide_integer next.item) _ _ _ _ _
+    (omega arith, sym c.next-item.is) c.loop-next.invariant c.field_setting_fault-here.ensures c.lesser-first.ensures
 
 pub returns : goal.returns
-returns c =
-    rw c.as_slice-next-items.ensures at (with_rest (IsWrongOnField c.args.can_be_packed c.args.is_wide_integer)
-    next_item
-    c.args.options.now.settings.first c.as_slice-next-items.result.now c.loop-next.next-index c.loop-next.first
-    (omega arith) c.loop-next.invariant)
+returns c = rw c.as_slice-next-items.ensures at
+    (with_rest (IsWrongOnField c.args.can_be_packed c.args.is_wide_integer) next_item c.args.options.now.settings.first
+    c.as_slice-next-items.result.now _ _ (omega arith) c.loop-next.invariant)
 
 pub loop-next-init : goal.loop-next-init
 loop-next-init c = grind (arith, with_none)

@@ -1,5 +1,4 @@
 use Rattle.std.proofs.Common.{arith}
-use Rattle.proto_checks.specs.Checks.{names_of, MessageNamesBreak}
 use Rattle.proto_base.proofs.Among.{flat_more, flat_all}
 use Rattle.proto_checks.proofs.file.messages_names_fault.Goals as goal
 

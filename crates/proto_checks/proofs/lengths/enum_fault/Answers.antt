@@ -1,6 +1,3 @@
-use Rattle.std.proofs.Common.{map}
-use Rattle.proto_desc.specs.DeclaredNames.{declared_value}
-use Rattle.proto_desc.specs.declared.name_kind.NameKind.TheVariants as name_kind
 use Rattle.proto_checks.specs.Checks.{IsTooLong}
 use Rattle.proto_base.proofs.Among.{least_cons}
 use Rattle.proto_checks.proofs.lengths.enum_fault.Goals as goal

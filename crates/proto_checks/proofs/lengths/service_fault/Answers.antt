@@ -1,6 +1,4 @@
-use Rattle.std.proofs.Common.{map}
-use Rattle.proto_desc.specs.DeclaredNames.{scoped, declared_method}
-use Rattle.proto_desc.specs.declared.name_kind.NameKind.TheVariants as name_kind
+use Rattle.proto_desc.specs.DeclaredNames.{scoped}
 use Rattle.proto_checks.specs.Checks.{IsTooLong}
 use Rattle.proto_base.proofs.Among.{least_cons}
 use Rattle.proto_checks.proofs.lengths.service_fault.Goals as goal

@@ -1,4 +1,4 @@
-use Rattle.std.proofs.Common.{◌≡◌, Option, None, Some, false, rules, sym}
+use Rattle.std.proofs.Common.{◌≡◌, Option, None, Some, false, sym}
 use Rattle.std.proofs.lemmas.Bool.{false≢true}
 use Rattle.std.specs.Option.{is_some}
 use Rattle.proto_base.proofs.Sets.{least_none, least_same}

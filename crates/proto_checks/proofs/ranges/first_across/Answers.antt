@@ -6,7 +6,7 @@ use Rattle.proto_base.specs.Least.{spot}
 use Rattle.proto_checks.specs.declared.marks.MarkedRange.{MarkedRange}
 use Rattle.proto_base.proofs.Sets.{item_at, each_all}
 use Rattle.proto_checks.proofs.Hits.{each_hit, each_miss, no_range}
-use Rattle.proto_checks.proofs.Halves.{IsShared, shared_of, of_shared, bad_range}
+use Rattle.proto_checks.proofs.Halves.{IsShared, shared_of, of_shared}
 use Rattle.proto_checks.proofs.ranges.first_across.Goals as goal
 use Rattle.proto_checks.proofs.ranges.first_across.Goals.{then-range+then-is_reached, else-range, else-range-via-then-range+else-is_reached, else-range-via-else-range}
 
@@ -29,7 +29,7 @@ loop-range-preserved c =
             (λ shared. let told = rw v.deref.ensures.value at v.if-is_reached.ensures in
             false≢true (told.1 (of_shared rs cover here held shared).1))
         | else-range-via-else-range v ↦
-            (λ shared. bad_range here v.if-range.false (of_shared rs cover here held shared).0)
+            (λ shared. omega (arith, v.if-range.false, (of_shared rs cover here held shared).0))
       ]) c.loop-range.invariant)
     ]
 

@@ -1,11 +1,8 @@
 use Rattle.std.proofs.Common.{arith}
-use Rattle.std.proofs.Common.{◌≡◌, ◌∙◌, sym, ◌&&◌, leb, rules, tests}
-use Rattle.std.specs.List.{list_any}
+use Rattle.std.proofs.Common.{leb}
 use Rattle.std.proofs.lemmas.Bool.{and_from, and_parts}
-use Rattle.std.proofs.lemmas.Iterator.{YieldsList-from_slice}
 use Rattle.std.proofs.lemmas.Iterator.Search.{any_from_yields_List}
-use Rattle.std.proofs.lemmas.List.Folds.{Any-from_list_any, list_any-from_Any}
-use Rattle.proto_checks.specs.declared.marks.MarkedRange.{MarkedRange}
+use Rattle.std.proofs.lemmas.List.Folds.{list_any-from_Any}
 use Rattle.proto_checks.proofs.Halves.{used_of, of_used}
 use Rattle.proto_checks.proofs.Intervals.{leb_iff}
 use Rattle.proto_checks.proofs.ranges.is_held.Goals as goal

@@ -1,4 +1,4 @@
-use Rattle.std.proofs.Common.{◌≡◌, ◌∙◌, sym, arith, refl, map, subst}
+use Rattle.std.proofs.Common.{◌≡◌, ◌∙◌, sym, arith, refl, map}
 use Rattle.std.proofs.lemmas.Bool.{not-false, not-true}
 use Rattle.std.proofs.lemmas.List.{length-map}
 use Rattle.proto_base.specs.Least.{spot}

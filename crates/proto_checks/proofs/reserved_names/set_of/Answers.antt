@@ -1,4 +1,4 @@
-use Rattle.std.proofs.Common.{◌≡◌, ℕ, List, get_or, sym, subst, arith}
+use Rattle.std.proofs.Common.{arith}
 use Rattle.proto_checks.proofs.NameSets.{set_more}
 use Rattle.proto_checks.proofs.reserved_names.set_of.Goals as goal
 

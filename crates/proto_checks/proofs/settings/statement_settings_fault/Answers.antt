@@ -1,6 +1,4 @@
 use Rattle.std.proofs.Common.{arith}
-use Rattle.std.proofs.Common.{◌∙◌}
-use Rattle.std.specs.Prelude.{flat_map}
 use Rattle.proto_base.proofs.Among.{if_ok}
 use Rattle.proto_checks.proofs.settings.statement_settings_fault.Goals as goal
 
