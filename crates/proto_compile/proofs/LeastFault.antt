@@ -118,8 +118,7 @@ module _ (limits : Limits) (sources : List Source) where
       breaks =
           let (i, j, less, below, one, two) = two_moved files sources (name_at files k)
           (IsPermutation-sym sources files sorted.all) (two_at files k (k + 1) (omega arith) first.below first.same) in
-          subst (λ (n : List ℕ). Breaks limits sources (of_file 0 n start kind.FileNameTwice)) one
-          (repeated_file_name i j less (omega (arith, below, length-map sources name_of)) (one ∙ sym two))
+          rw (← one) (repeated_file_name i j less (omega (arith, below, length-map sources name_of)) (one ∙ sym two))
 
       own : (y : SourceFault) → Breaks limits sources y → y.pass ≡ 0
           → IsNoLater (of_file 0 (name_at files k) start kind.FileNameTwice) y
@@ -206,12 +205,10 @@ module _ (limits : Limits) (sources : List Source) where
       own : (y : SourceFault) → Breaks limits sources y → y.pass ≡ 2
           → IsNoLater (of_file 2 (imports.name_at descs a) place what) y
       own _ (bad_import others b q l described bad) same =
-          let Later : List FileDesc → Type 0 = λ ds. imports.IsBad ds b q l
-          → IsNoLater (of_file 2 (imports.name_at descs a) place what) (of_file 2 (imports.name_at ds b) q l) in
-          let one = one_descs limits sources descs others (as_described limits sources files descs d) described in
-          subst Later one (λ own. later_file 2 descs a b place q what l
-          (subst NamesRise (sym (same_names limits files descs d.each)) d.by_name.rises)
-          (bad_inside descs b q l own) (first.least (b, spot q l) own)) bad
+          let one = one_descs limits sources _ _ (as_described limits sources files descs d) described in
+          let own = rw (← one) at bad in
+          rw (← one) (later_file 2 descs a b place q what l (rw (same_names limits files descs d.each) d.by_name.rises)
+          (bad_inside descs b q l own) (first.least (b, spot q l) own))
       own y breaks same = absurd (omega (arith, same))
 
   -- ---- names
@@ -248,16 +245,14 @@ module _ (limits : Limits) (sources : List Source) where
       own : (o : Occurrence) → IsLeastBy names.IsNoLater (IsTwice (occurrences descs)) o → (y : SourceFault)
           → Breaks limits sources y → y.pass ≡ 3 → IsNoLater (told o) y
       own o first _ (many_names others described over) same =
-          let same = one_descs limits sources others descs described (as_described limits sources files descs d) in
-          let number = ap (λ (ds : List FileDesc). length (occurrences ds)) same in
-          absurd (omega (arith, over, repeated.within, number))
+          let one = one_descs limits sources _ _ described (as_described limits sources files descs d) in
+          let more = rw one at over in absurd (omega (arith, more, repeated.within))
       own o first _ (repeated_name others p described twice) same =
-          let Later : List FileDesc → Type 0 = λ ds. IsTwice (occurrences ds) p
-          → IsNoLater (told o) (of_file 3 (imports.name_at ds p.file) p.place kind.NameTwice) in
-          let one = one_descs limits sources descs others (as_described limits sources files descs d) described in
-          subst Later one (λ own. later_file 3 descs o.file p.file o.place p.place kind.NameTwice kind.NameTwice
-          (subst NamesRise (sym (same_names limits files descs d.each)) d.by_name.rises) (twice_within descs p own)
-          (twice_order o p (first.least p own))) twice
+          let one = one_descs limits sources _ _ (as_described limits sources files descs d) described in
+          let own = rw (← one) at twice in
+          rw (← one) (later_file 3 descs o.file p.file o.place p.place kind.NameTwice kind.NameTwice
+          (rw (same_names limits files descs d.each) d.by_name.rises) (twice_within descs p own)
+          (twice_order o p (first.least p own)))
       own o first y breaks same = absurd (omega (arith, same))
 
   -- ---- types
@@ -300,14 +295,13 @@ module _ (limits : Limits) (sources : List Source) where
 
       own : (y : SourceFault) → Breaks limits sources y → y.pass ≡ 4 → IsNoLater first y
       own _ (bad_type others b desc q l also stands breaks) same =
-          let Later : List FileDesc → Type 0 = λ ds.
-          StandsAt ds b desc → TypesBreak (occurrences ds) (Sees ds b) desc (spot q l)
-          → IsNoLater first (of_file 4 (imports.name_at ds b) q l) in
           let d = is.described in
-          let one = one_descs limits sources descs others (as_described limits sources files descs d) also in
-          let rise = subst NamesRise (sym (same_names limits files descs d.each)) d.by_name.rises in
-          subst Later one (λ at own. later_file 4 descs f.at b f.place q f.what l rise at.0 (order b desc q l at
-          (break_to_index limits descs links index is.linked is.indexed b desc (spot q l) at.0 own))) stands breaks
+          let one = one_descs limits sources _ _ (as_described limits sources files descs d) also in
+          let at = rw (← one) at stands in
+          let wrong = break_to_index limits descs links index is.linked is.indexed b desc (spot q l) at.0
+          (rw (← one) at breaks) in
+          rw (← one) (later_file 4 descs f.at b f.place q f.what l
+          (rw (same_names limits files descs d.each) d.by_name.rises) at.0 (order b desc q l at wrong))
       own y breaks same = absurd (omega (arith, same))
 
   -- ---- lengths
@@ -346,12 +340,10 @@ module _ (limits : Limits) (sources : List Source) where
 
       own : (y : SourceFault) → Breaks limits sources y → y.pass ≡ 5 → IsNoLater first y
       own _ (long_descriptor others also links' index' b desc resolved stands over) same =
-          let one = one_resolved limits sources files others typed also links links' index index' r resolved in
-          let Later : List FileDesc → Type 0 = λ ds. StandsAt ds b desc
-          → IsNoLater first (of_file 5 (imports.name_at ds b) start kind.DescriptorTooLong) in
-          subst Later one.1 (λ at. later_file 5 typed f.at b start start kind.DescriptorTooLong kind.DescriptorTooLong
-          (subst NamesRise (sym (resolved_names r)) r.analysed.described.by_name.rises) at.0 (order b desc at over))
-          stands
+          let one = (one_resolved limits sources _ _ _ _ _ _ _ _ r resolved).1 in
+          let at = rw (← one) at stands in
+          rw (← one) (later_file 5 typed f.at b start start kind.DescriptorTooLong kind.DescriptorTooLong
+          (rw (resolved_names r) r.analysed.described.by_name.rises) at.0 (order b desc at over))
       own y breaks same = absurd (omega (arith, same))
 
   pub set_least : (c : Compilation) → IsWritten limits sources c

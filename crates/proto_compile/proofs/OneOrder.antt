@@ -29,9 +29,8 @@ names_strict = record {
 
 sources_rise : (files : List Source) → NamesRise (map name_of files) → Rises IsNameBefore files
 sources_rise files up k d h =
-    subst (λ n. slice_cmp nat_cmp n (name_of (get_or files (k + 1) d)) ≡ Less) (name_is files k d (omega (arith, h)))
-    (subst (λ n. slice_cmp nat_cmp (name_at files k) n ≡ Less) (name_is files (k + 1) d h)
-    (up k (omega (arith, h, length-map files name_of))))
+    rw (← name_is files k d (omega (arith, h)), ← name_is files (k + 1) d h)
+    (up k (omega (arith, h, length-map files name_of)))
 
 -- members of one order of a list are members of another one
 pub moved : {X : Type 0} (xs ys zs : List X) → IsPermutation xs ys → IsPermutation xs zs → (x : X) → Contains ys x

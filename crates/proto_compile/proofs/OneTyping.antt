@@ -66,12 +66,8 @@ pub one_list_described : (limits : Limits) (sources f g : List Source) (ds es : 
     → (f ≡ g) × (ds ≡ es)
 one_list_described limits sources f g ds es order first other second =
     let same : f ≡ g = one_order sources f g order other in
-    let moved_back : AllZip (SourceDescribes limits) f es =
-    subst (λ (xs : List Source). AllZip (SourceDescribes limits) xs es) (sym same) second in (
-      same,
-      one_zip (SourceDescribes limits) (λ s. one_descriptor limits (name_of s) (text_of s)) f ds es first
-          moved_back,
-    )
+    (same, one_zip (SourceDescribes limits) (λ s. one_descriptor limits (name_of s) (text_of s)) f ds es first
+    (rw same second))
 
 -- the same of sources that are described
 pub one_description : (limits : Limits) (sources f g : List Source) (ds es : List FileDesc)
@@ -136,8 +132,7 @@ pub analysed_moved : (limits : Limits) (sources f g : List Source) (ds es : List
     (index : Index)
     → (f ≡ g) × (ds ≡ es) → IsAnalysed limits sources g es links index → IsAnalysed limits sources f ds links index
 analysed_moved limits sources f g ds es links index (order, same) analysed =
-    subst (λ (xs : List Source). IsAnalysed limits sources xs ds links index) (sym order)
-    (subst (λ (xs : List FileDesc). IsAnalysed limits sources g xs links index) (sym same) analysed)
+    rw (order, same) analysed
 
 -- what the files are with their types resolved
 pub one_resolved : (limits : Limits) (sources f g : List Source) (ds es : List FileDesc) (links others : Linked)
@@ -148,8 +143,7 @@ one_resolved limits sources f g ds es links others index other first second =
     let mine = first.analysed in
     let same = one_description limits sources f g descs second.descs mine.described second.analysed.described in
     let also = analysed_moved limits sources f g descs second.descs others other same second.analysed in
-    let typed : AreTypedFrom others other 0 descs es =
-    subst (λ (xs : List FileDesc). AreTypedFrom others other 0 xs es) (sym same.1) second.each in
+    let typed : AreTypedFrom others other 0 descs es = rw same.1 second.each in
     let alike = seen_alike descs limits links others index other mine.linked also.linked mine.indexed also.indexed in
     (same.0, one_typed descs links others index other alike 0 descs ds es (omega arith) first.each typed)
 

@@ -61,7 +61,7 @@ imports_are descs a desc at = get_or-map imports.imports_of descs a desc [] at.0
 bad_placed : (descs : List FileDesc) (a : ℕ) (desc : FileDesc) (place : Place) (kind : Kind) → StandsAt descs a desc
     → imports.IsBad descs a place kind → LiesWith desc place
 bad_placed descs a desc place kind at (i, here, is, wrong) n all =
-    let (k, below, there) = subst (λ (is : List ImportDesc). Contains is i) (imports_are descs a desc at) here in
+    let (k, below, there) = rw (imports_are descs a desc at) at here in
     subst (Placed n) is (standing (λ (j : ImportDesc). Placed n j.place) desc.imports k i (imports_at (upto n) desc all)
     (below, there))
 
@@ -177,14 +177,12 @@ module _ (limits : Limits) (sources : List Source) where
       let (s, there, is) = described_at limits d.files descs d.each k desc at in
       let within = places_within limits (name_of s) (text_of s) desc is in
       let file = (occurrence_at (length (text_of s)) (0 + k) desc o here within).0 in
-      let same : k ≡ o.file = omega (arith, file) in
-      subst (λ i. IsPlaced limits sources (imports.name_at descs i) o.place) same
-      (in_desc 2 none descs k desc o.place d at (λ n within. (occurrence_at n (0 + k) desc o here within).1))
+      let same : o.file ≡ k = omega (arith, file) in
+      rw same (in_desc 2 none descs k desc o.place d at (λ n within. (occurrence_at n (0 + k) desc o here within).1))
   placed _ (bad_type descs a desc place what d at wrong) none =
       in_desc 3 none descs a desc place d at (types_placed _ _ desc place what wrong)
   placed _ (long_descriptor files typed links index a desc r at over) none =
       let names = resolved_names r in
-      subst (λ (n : List ℕ). IsPlaced limits sources n start) (same_name_at files typed a names)
-      (at_start_of files a (of_files files r.analysed.described.by_name)
+      rw (← same_name_at files typed a names) (at_start_of files a (of_files files r.analysed.described.by_name)
       (omega (arith, at.0, as_many imports.name_of name_of typed files names)))
   placed _ (long_set c written over) none = at_start [] (inl refl)

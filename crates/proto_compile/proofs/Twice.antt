@@ -88,22 +88,18 @@ sorted_up : (name : ℕ → List ℕ) (n k m : ℕ)
     → ((j : ℕ) → j + 1 < n → slice_cmp nat_cmp (name j) (name (j + 1)) ≢ Greater) → k + m < n
     → is_gt (slice_cmp nat_cmp (name k) (name (k + m))) ≡ false
 sorted_up name n k zero up h =
-    let at : k ≡ k + 0 = omega arith in
-    subst (λ j. is_gt (slice_cmp nat_cmp (name k) (name j)) ≡ false) at
-    (ap is_gt (tied_itself nat_list_cmp_total (name k)))
+    let at : k + 0 ≡ k = omega arith in rw at (ap is_gt (tied_itself nat_list_cmp_total (name k)))
 sorted_up name n k (suc m) up h =
-    let at : k + m + 1 ≡ k + suc m = omega arith in
+    let at : k + suc m ≡ k + m + 1 = omega arith in
     let before = sorted_up name n k m up (omega (arith, h)) in
-    subst (λ j. is_gt (slice_cmp nat_cmp (name k) (name j)) ≡ false) at
-    (upto nat_list_cmp_total (name k) (name (k + m)) (name (k + m + 1)) before
+    rw at (upto nat_list_cmp_total (name k) (name (k + m)) (name (k + m + 1)) before
     (not_later (slice_cmp nat_cmp (name (k + m)) (name (k + m + 1))) (up (k + m) (omega (arith, h)))))
 
 not_after : (sources files : List Source) (k j : ℕ) → AreSorted sources files → k ≤ j → j < length files
     → is_gt (slice_cmp nat_cmp (name_at files k) (name_at files j)) ≡ false
 not_after sources files k j sorted most h =
-    let at : k + (j - k) ≡ j = omega (arith, most) in
-    subst (λ i. is_gt (slice_cmp nat_cmp (name_at files k) (name_at files i)) ≡ false) at
-    (sorted_up (name_at files) (length files) k (j - k) sorted.rises (omega (arith, most, h)))
+    let at : j ≡ k + (j - k) = omega (arith, most) in
+    rw at (sorted_up (name_at files) (length files) k (j - k) sorted.rises (omega (arith, most, h)))
 
 pub up_in_order : (sources files : List Source) (k j : ℕ) → AreSorted sources files → k ≤ j → j < length files
     → slice_cmp nat_cmp (name_at files k) (name_at files j) ≢ Greater
@@ -118,6 +114,5 @@ neighbours sources files n sorted two =
     let size = length-map files name_of in
     let left = not_after sources files i (i + 1) sorted (omega arith) (omega (arith, less, below, size)) in
     let right = not_after sources files (i + 1) j sorted (omega (arith, less)) (omega (arith, below, size)) in
-    let up : is_gt (slice_cmp nat_cmp (name_at files (i + 1)) (name_at files i)) ≡ false =
-    subst (λ (z : List ℕ). is_gt (slice_cmp nat_cmp (name_at files (i + 1)) z) ≡ false) (second ∙ sym first) right in
+    let up = rw (second ∙ sym first) at right in
     (i, omega (arith, less, below, size), first, same_name (name_at files i) (name_at files (i + 1)) left up)

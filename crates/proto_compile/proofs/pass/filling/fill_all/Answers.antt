@@ -11,7 +11,4 @@ returns-clause-each g c = λ i d h links index a are.
     let before = at.argument.now in
     let filled : (links : Linked) (index : Index) (a : ℕ) → AreTypesOf links index a before.desc before.types
     → IsTypedWhole links index a before.desc at.after_call.now.desc = at.call in
-    let ready = subst (λ (f : Untyped). AreTypesOf links index a f.desc f.types) (sym at.argument_is) are in
-    let whole = filled links index a ready in
-    subst (λ (f : Untyped). IsTypedWhole links index a f.desc (get_or c.for_each_mut.new.s i d).desc) at.argument_is
-    (subst (λ (f : Untyped). IsTypedWhole links index a before.desc f.desc) at.left whole)
+    rw (← at.argument_is, ← at.left) (filled links index a (rw at.argument_is are))
