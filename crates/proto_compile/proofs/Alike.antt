@@ -38,9 +38,7 @@ counted_step : (f : List ℕ → ℕ) (o : Occurrence) (os : List Occurrence) (b
     → sum_by f (services_of os) ≡ sum_by (counted f) os
     → sum_by f (map name_of (cond b (o ∷ filter (λ p. is_service_kind p.kind) os)
     (filter (λ p. is_service_kind p.kind) os))) ≡ cond b (f o.name) 0 + sum_by (counted f) os
-counted_step f o os true rest = sum_by-cons f o.name (services_of os) ∙ ap (λ n. f o.name + n) rest
-counted_step f o os false rest = let more : sum_by (counted f) os ≡ 0 + sum_by (counted f) os = omega arith in rest
-    ∙ more
+counted_step f o os b rest = grind (arith, sum_by-cons)
 
 counted_services : (f : List ℕ → ℕ) (os : List Occurrence) → sum_by f (services_of os) ≡ sum_by (counted f) os
 counted_services f [] = refl
@@ -52,9 +50,7 @@ names_rise names up k d h = not_greater (get_or names k d) (get_or names (k + 1)
 
 all_services : (f : List ℕ → ℕ) (index : Index) → IsPermutation (services_of index.occurrences) index.services
     → sum_by (counted f) index.occurrences ≡ sum_by f index.services
-all_services f index all =
-    sym (counted_services f index.occurrences) ∙ sym (sum_by-IsPermutation f
-    (services_of index.occurrences) index.services all)
+all_services f index all = grind (arith, sum_by-IsPermutation, counted_services)
 
 one_services : (descs : List FileDesc) (limits : Limits) (index other : Index) → Indexes descs limits index
     → Indexes descs limits other → index.services ≡ other.services
@@ -72,9 +68,7 @@ has_is g xs = (λ e. Contains-from_any (λ a b h. eqb-true a b h) g xs e, λ w. 
 
 has_alike : (g : ℕ) (xs ys : List ℕ) → (Contains xs g → Contains ys g) → (Contains ys g → Contains xs g)
     → is_member ◌==◌ xs g ≡ is_member ◌==◌ ys g
-has_alike g xs ys to back = both_ways (is_member ◌==◌ xs g) (is_member ◌==◌ ys g)
-    (λ h. (has_is g ys).1 (to ((has_is g xs).0 h)))
-    (λ h. (has_is g xs).1 (back ((has_is g ys).0 h)))
+has_alike g xs ys to back = grind (arith, has_is)
 
 one_reach : (descs : List FileDesc) (links others : Linked) → AreLinked descs links → AreLinked descs others
     → links.set_order ≡ others.set_order → (a : ℕ) → a < length descs → reach_of links a ≡ reach_of others a
@@ -92,10 +86,7 @@ one_reach descs links others first second order a below =
 -- as many files as descriptors
 pub described_count : (limits : Limits) (sources : List Source) (c : Compilation) (w : IsCompiled limits sources c)
     → length c.files ≡ length w.written.resolved.descs
-described_count limits sources c w =
-    let written = w.written in
-    let long = same_length limits written.sorted written.resolved.descs written.resolved.analysed.described.each in
-    omega (arith, as_many file_name source_name c.files written.sorted written.names, long)
+described_count limits sources c w = grind (arith, as_many, same_length)
 
 pub alike : (limits : Limits) (sources : List Source) (c d : Compilation) → IsCompiled limits sources c
     → IsCompiled limits sources d → AreAlike c d

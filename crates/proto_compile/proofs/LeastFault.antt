@@ -65,19 +65,13 @@ later_file pass descs a b p q k l rise h (inr (same, most)) =
 -- of two names that stand twice, the first
 twice_order : (a o : Occurrence) → names.IsNoLater a o
     → bad_imports.IsNoLater (a.file, spot a.place kind.NameTwice) (o.file, spot o.place kind.NameTwice)
-twice_order a o (inl less) = inl less
-twice_order a o (inr (same, most)) = elim (cases_lt a.place.offset o.place.offset) [
-  | inl before ↦ inr (same, inl before)
-  | inr over ↦ inr (same, inr (omega (arith, most, over), omega arith))
-]
+twice_order a o order = grind (arith, cases_lt)
 
 -- a source's outcome, by what it tells
 pub outcome_of : (limits : Limits) (s : Source) (r : Result FileDesc FileError) → IfOk r (SourceDescribes limits s)
     → ((step : ℕ) (place : Place) (what : Kind) → r ≡ Err (local.At step place what)
     → IsLocalFault limits (name_of s) (text_of s) step place what) → IsDescribed limits s r
-outcome_of limits s (Ok desc) described first = described
-outcome_of limits s (Err (local.At step place what)) described first = first step place what refl
-outcome_of limits s (Err local.NoMemory) described first = tt
+outcome_of limits s r described first = grind (arith)
 
 module _ (limits : Limits) (sources : List Source) where
   least_of : (x : SourceFault) → Breaks limits sources x → NoneBefore limits sources x.pass

@@ -25,8 +25,7 @@ one_list : (fs gs : List CompiledFile) → map file_name fs ≡ map file_name gs
 one_list [] [] names bytes = refl
 one_list [] (g ∷ gs) names bytes = let n = ap length names in absurd (omega (arith, n))
 one_list (f ∷ fs) [] names bytes = let n = ap length names in absurd (omega (arith, n))
-one_list (f ∷ fs) (g ∷ gs) names bytes =
-    ap (λ x. x ∷ fs) (one_file f g (cc) (cc)) ∙ ap (λ xs. g ∷ xs) (one_list fs gs (cc) (cc))
+one_list (f ∷ fs) (g ∷ gs) names bytes = grind (arith, one_file, one_list fs gs (cc) (cc))
 
 -- ---- compilations
 

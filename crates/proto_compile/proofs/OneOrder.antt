@@ -28,9 +28,7 @@ names_strict = record {
 }
 
 sources_rise : (files : List Source) → NamesRise (map name_of files) → Rises IsNameBefore files
-sources_rise files up k d h =
-    rw (← name_is files k d (omega (arith, h)), ← name_is files (k + 1) d h)
-    (up k (omega (arith, h, length-map files name_of)))
+sources_rise files up k d h = grind (arith, length-map, name_is)
 
 -- members of one order of a list are members of another one
 pub moved : {X : Type 0} (xs ys zs : List X) → IsPermutation xs ys → IsPermutation xs zs → (x : X) → Contains ys x
@@ -53,16 +51,10 @@ abbrev is_later : List ℕ → List ℕ → Bool
 is_later x y = is_gt (slice_cmp nat_cmp x y)
 
 pub not_later : (o : Ordering) → o ≢ Greater → is_gt o ≡ false
-not_later Less h = refl
-not_later Equal h = refl
-not_later Greater h = absurd (h refl)
+not_later o h = grind (arith)
 
 tied : (o p : Ordering) → o ≡ ordering_reverse p → is_gt o ≡ false → is_gt p ≡ false → o ≡ Equal
-tied Less Less e h k = cc
-tied Less Equal e h k = cc
-tied Less Greater e h k = cc
-tied Equal p e h k = refl
-tied Greater p e h k = cc
+tied o p e h k = grind (arith)
 
 pub same_name : (x y : List ℕ) → is_later x y ≡ false → is_later y x ≡ false → x ≡ y
 same_name x y h k = exact_bytes x y
@@ -72,8 +64,7 @@ abbrev one_if : Bool → ℕ
 one_if b = if b then 1 else 0
 
 none_if : (b : Bool) → one_if b ≡ 0 → b ≡ false
-none_if true e = absurd (omega (arith, e))
-none_if false e = refl
+none_if b e = grind (arith)
 
 -- 1 for a name before x
 abbrev before : List ℕ → List ℕ → ℕ

@@ -58,8 +58,7 @@ one_zip R one [] [] (z ∷ zs) first second = absurd second
 one_zip R one [] (y ∷ ys) zs first second = absurd first
 one_zip R one (x ∷ xs) [] zs first second = absurd first
 one_zip R one (x ∷ xs) (y ∷ ys) [] first second = absurd second
-one_zip R one (x ∷ xs) (y ∷ ys) (z ∷ zs) first second =
-    ap (λ w. w ∷ ys) (one x y z first.0 second.0) ∙ ap (λ ws. z ∷ ws) (one_zip R one xs ys zs first.1 second.1)
+one_zip R one (x ∷ xs) (y ∷ ys) (z ∷ zs) first second = grind (arith, one_zip R one xs ys zs first.1 second.1)
 
 pub one_list_described : (limits : Limits) (sources f g : List Source) (ds es : List FileDesc) → AreByName sources f
     → AllZip (SourceDescribes limits) f ds → AreByName sources g → AllZip (SourceDescribes limits) g es
@@ -131,8 +130,7 @@ module _ (descs : List FileDesc) (links others : Linked) (index other : Index)
 pub analysed_moved : (limits : Limits) (sources f g : List Source) (ds es : List FileDesc) (links : Linked)
     (index : Index)
     → (f ≡ g) × (ds ≡ es) → IsAnalysed limits sources g es links index → IsAnalysed limits sources f ds links index
-analysed_moved limits sources f g ds es links index (order, same) analysed =
-    rw (order, same) analysed
+analysed_moved limits sources f g ds es links index same analysed = grind (arith)
 
 -- what the files are with their types resolved
 pub one_resolved : (limits : Limits) (sources f g : List Source) (ds es : List FileDesc) (links others : Linked)

@@ -42,11 +42,9 @@ pub described_at : (limits : Limits) (files : List Source) (descs : List FileDes
 described_at limits [] [] all a desc at = absurd (omega (arith, at.0))
 described_at limits [] (d ∷ descs) all a desc at = absurd all
 described_at limits (s ∷ files) [] all a desc at = absurd all
-described_at limits (s ∷ files) (d ∷ descs) all zero desc at =
-    (s, (omega arith, refl), subst (SourceDescribes limits s) at.1 all.0)
+described_at limits (s ∷ files) (d ∷ descs) all zero desc at = grind (arith)
 described_at limits (s ∷ files) (d ∷ descs) all (suc a) desc at =
-    let (t, there, is) = described_at limits files descs all.1 a desc (omega (arith, at.0), at.1) in
-    (t, (omega (arith, there.0), there.1), is)
+    grind (arith, described_at limits files descs all.1 a desc (omega (arith, at.0), at.1))
 
 -- wherever the descriptor's places lie, this one does
 abbrev LiesWith : FileDesc → Place → Type 0

@@ -87,13 +87,9 @@ two_at sources i j less below same = (i, j, less, omega (arith, below, length-ma
 sorted_up : (name : ℕ → List ℕ) (n k m : ℕ)
     → ((j : ℕ) → j + 1 < n → slice_cmp nat_cmp (name j) (name (j + 1)) ≢ Greater) → k + m < n
     → is_gt (slice_cmp nat_cmp (name k) (name (k + m))) ≡ false
-sorted_up name n k zero up h =
-    let at : k + 0 ≡ k = omega arith in rw at (ap is_gt (tied_itself nat_list_cmp_total (name k)))
+sorted_up name n k zero up h = grind (arith, nat_list_cmp_total, tied_itself)
 sorted_up name n k (suc m) up h =
-    let at : k + suc m ≡ k + m + 1 = omega arith in
-    let before = sorted_up name n k m up (omega (arith, h)) in
-    rw at (upto nat_list_cmp_total (name k) (name (k + m)) (name (k + m + 1)) before
-    (not_later (slice_cmp nat_cmp (name (k + m)) (name (k + m + 1))) (up (k + m) (omega (arith, h)))))
+    grind (arith, nat_list_cmp_total, upto, not_later, sorted_up name n k m up (omega (arith, h)))
 
 not_after : (sources files : List Source) (k j : ℕ) → AreSorted sources files → k ≤ j → j < length files
     → is_gt (slice_cmp nat_cmp (name_at files k) (name_at files j)) ≡ false

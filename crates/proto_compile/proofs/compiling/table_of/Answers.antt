@@ -51,6 +51,3 @@ loop-bytes-preserved c =
           (name_at c.args.sources.now c.len-file.result) c.in-Some.bytes
           c.loop-bytes.invariant.bytes);
     }
-
-pub offset_bounds-sources-file : goal.offset_bounds-sources-file
-offset_bounds-sources-file c = grind (arith, common_steps)

@@ -10,9 +10,7 @@ use Rattle.proto_compile.proofs.Sorting.{name_is}
 use Rattle.proto_compile.proofs.outcome.judge.Goals as goal
 
 pub loop-outcome-preserved : goal.loop-outcome-preserved
-loop-outcome-preserved g c = rw c.in_ok-push-in-Ok.ensures.items
-    (well_more c.loop-outcome.all.items c.loop-outcome.yielded c.in-Ok.value c.in-Some.outcome c.loop-outcome.invariant
-    c.in-Ok.is)
+loop-outcome-preserved g c = grind (arith, well_more)
 
 pub returns-in-Err-clause-first : goal.returns-in-Err-clause-first
 returns-in-Err-clause-first g c =

@@ -28,12 +28,4 @@ both_ended f g files xs lefts ys rights left right same end =
     ]
 
 pub returns : goal.returns
-returns c = λ same.
-    let left = c.loop-desc.desc-iterator.a.rest in
-    let right = c.loop-desc.desc-iterator.b.rest in
-    both_ended (λ (f : Untyped). f.desc) (λ (f : Untyped). f.types) c.loop-desc.files.items c.args.descs.items
-    left.items c.args.types.items
-    right.items c.loop-desc.invariant.descs c.loop-desc.invariant.types same (elim c.in-None.ensures.steps [
-      | inl none ↦ inl (omega (arith, left.ok.0, none.1.0))
-      | inr none ↦ inr (omega (arith, right.ok.0, none.1.0))
-    ])
+returns c = grind (arith, both_ended)
