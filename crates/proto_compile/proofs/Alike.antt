@@ -93,12 +93,10 @@ pub alike : (limits : Limits) (sources : List Source) (c d : Compilation) → Is
 alike limits sources c d first second =
     let one = one_written limits sources c d first.written second.written in
     let mine = first.written.resolved in
-    let theirs = second.written.resolved in
+    let theirs = second.written.resolved.analysed in
     let descs = mine.descs in
-    let same = one_description limits sources first.written.sorted second.written.sorted descs theirs.descs
-    mine.analysed.described theirs.analysed.described in
-    let moved = analysed_moved limits sources first.written.sorted second.written.sorted descs theirs.descs d.links
-    d.index same theirs.analysed in
+    let same = one_description limits sources _ _ descs _ mine.analysed.described theirs.described in
+    let moved = analysed_moved limits sources _ _ _ _ d.links d.index same theirs in
     let linked = mine.analysed.linked in
     let indexed = mine.analysed.indexed in
     let count = described_count limits sources c first in

@@ -147,15 +147,12 @@ module _ (limits : Limits) (sources : List Source) where
       own : (y : SourceFault) → Breaks limits sources y → y.pass ≡ 1 → IsNoLater (fault 1 (name_of s) step place what) y
       own _ (file_fault t other q l within also) same =
           let (b, below, is) = Contains-permutation sources files t order.all within in
-          let Later : Source → Type 0 = λ u. IsLocalFault limits (name_of u) (text_of u) other q l
-          → IsNoLater (fault 1 (name_of s) step place what) (fault 1 (name_of u) other q l) in
           elim (cases_order k b) [
             | inl here ↦ (
-                let there = subst (λ i. get_or files i t ≡ t) (sym here) is in
-                subst Later (standing_one files k s t at.0 at.1 there) (λ own.
-                let one = one_local limits (name_of s) (text_of s) step other place q what l wrong own in
-                same_later (fault 1 (name_of s) step place what) (fault 1 (name_of s) other q l)
-                (same_told 1 1 step other (name_of s) (name_of s) place q what l refl refl one.0 one.1 one.2)) also)
+                let one = standing_one files k s t at.0 at.1 (rw (← here) at is) in
+                let told = one_local limits (name_of s) (text_of s) step other place q what l wrong (rw (← one) at
+                    also) in
+                rw (← one, told.0, told.1, told.2) (same_later (fault 1 (name_of s) other q l) _ refl))
             | inr (inl less) ↦ (
                 let inside : b < length (map name_of files) = omega (arith, below, length-map files name_of) in
                 let rise = rise_far (map name_of files) order.rises k b less inside in
@@ -182,9 +179,8 @@ module _ (limits : Limits) (sources : List Source) where
         given_at (λ k. IsDescribed limits) files outcomes b t none (Ok (f.well b less).0) gives there.0 there.1
             (f.well b less).1,
       ) in
-      let named = ap (λ (n : List ℕ). fault 1 n f.step f.place f.what) (name_of_item files f.at s at.0 (sym at.1)) in
-      subst (IsLeastFault limits sources) (sym (f.is ∙ named))
-      (local_least files f.at s f.step f.place f.what few order at wrong before)
+      rw (f.is, name_of_item files f.at s at.0 (sym at.1)) (local_least files f.at s f.step f.place f.what few order at
+      wrong before)
 
   -- ---- imports
 
@@ -263,9 +259,7 @@ module _ (limits : Limits) (sources : List Source) where
       let breaks = bad_type descs f.at desc f.place f.what described at
       (break_from_index limits descs links index is.linked is.indexed f.at desc (spot f.place f.what) at.0
       found.1.is.among) in
-      subst (IsLeastFault limits sources) (sym (f.is ∙ same_told 4 4 f.step 0 (name_at files f.at)
-      (imports.name_at descs f.at) f.place f.place f.what f.what refl name found.0 refl refl))
-      (least_of first breaks (none_of_names limits sources files descs links index is) own)
+      rw (f.is, name, found.0) (least_of first breaks (none_of_names limits sources files descs links index is) own)
     where
       first : SourceFault
       first = of_file 4 (imports.name_at descs f.at) f.place f.what
@@ -307,10 +301,8 @@ module _ (limits : Limits) (sources : List Source) where
   first_long files typed links index outcomes r gives x f =
       let (desc, at) = item_at typed f.at (omega (arith, f.below, gives.0)) in
       let found = outcome f.at desc (Err (local.At f.step f.place f.what)) at f.bad in
-      subst (IsLeastFault limits sources) (sym (f.is ∙ same_told 5 5 f.step 0 (name_at files f.at)
-      (imports.name_at typed f.at) f.place start f.what kind.DescriptorTooLong refl
-      (same_name_at files typed f.at (resolved_names r)) found.0 found.1 found.2))
-      (least_of first (long_descriptor files typed links index f.at desc r at found.3)
+      rw (f.is, same_name_at files typed f.at (resolved_names r), found.0, found.1, found.2) (least_of first
+      (long_descriptor files typed links index f.at desc r at found.3)
       (none_of_types limits sources files typed links index r) own)
     where
       first : SourceFault

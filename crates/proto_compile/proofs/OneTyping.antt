@@ -137,13 +137,13 @@ pub one_resolved : (limits : Limits) (sources f g : List Source) (ds es : List F
     (index other : Index) → AreResolved limits sources f ds links index → AreResolved limits sources g es others other
     → (f ≡ g) × (ds ≡ es)
 one_resolved limits sources f g ds es links others index other first second =
-    let descs = first.descs in
     let mine = first.analysed in
-    let same = one_description limits sources f g descs second.descs mine.described second.analysed.described in
-    let also = analysed_moved limits sources f g descs second.descs others other same second.analysed in
-    let typed : AreTypedFrom others other 0 descs es = rw same.1 second.each in
-    let alike = seen_alike descs limits links others index other mine.linked also.linked mine.indexed also.indexed in
-    (same.0, one_typed descs links others index other alike 0 descs ds es (omega arith) first.each typed)
+    let same = one_description limits sources _ _ _ _ mine.described second.analysed.described in
+    let also = analysed_moved limits sources _ _ _ _ others other same second.analysed in
+    let typed : AreTypedFrom others other 0 first.descs es = rw same.1 second.each in
+    let alike = seen_alike first.descs limits links others index other mine.linked also.linked mine.indexed also.indexed
+    in
+    (same.0, one_typed first.descs links others index other alike 0 _ ds es (omega arith) first.each typed)
 
 -- ---- what is wrong with types
 

@@ -21,13 +21,10 @@ name_of_item files k s h is = name_is files k s h ∙ ap name_of (sym is)
 
 -- no name is less than the one before it
 pub not_greater : (xs ys : List ℕ) → is_lt (slice_cmp nat_cmp ys xs) ≡ false → slice_cmp nat_cmp xs ys ≢ Greater
-not_greater xs ys h g =
-    true≢false (sym (ap is_lt (nat_list_cmp_total.antisymm ys xs ∙ ap ordering_reverse g)) ∙ h)
+not_greater xs ys h g = grind (arith, nat_list_cmp_total)
 
 less_left : (o : Ordering) → o ≢ Greater → o ≢ Equal → o ≡ Less
-less_left Less g e = refl
-less_left Equal g e = absurd (e refl)
-less_left Greater g e = absurd (g refl)
+less_left o g e = grind (arith)
 
 -- sorted names that differ rise
 pub strictly : (sources files : List Source) → AreSorted sources files
