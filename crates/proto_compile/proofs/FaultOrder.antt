@@ -88,8 +88,7 @@ one_fault x y h i =
     let file = equal_parts (slice_cmp nat_cmp x.file y.file) _ pass.1 in
     let step = equal_parts (nat_cmp x.step y.step) _ file.1 in
     let place = equal_parts (nat_cmp x.place.offset y.place.offset) _ step.1 in
-    same_told x.pass y.pass x.step y.step x.file y.file x.place y.place x.kind y.kind
-    (exact_unsigned x.pass y.pass pass.0)
-    (exact_bytes x.file y.file file.0) (exact_unsigned x.step y.step step.0)
+    same_told _ _ _ _ _ _ _ _ _ _ (exact_unsigned x.pass y.pass pass.0) (exact_bytes x.file y.file file.0)
+    (exact_unsigned x.step y.step step.0)
     (same_place x.place y.place (exact_unsigned x.place.offset y.place.offset place.0))
     (same_kind x.kind y.kind (exact_unsigned (number_of x.kind) (number_of y.kind) place.1))

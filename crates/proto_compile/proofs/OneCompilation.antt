@@ -23,9 +23,8 @@ one_file f g name bytes = ap (λ n. entry n (file_bytes f)) name ∙ ap (λ b. e
 one_list : (fs gs : List CompiledFile) → map file_name fs ≡ map file_name gs → map file_bytes fs ≡ map file_bytes gs
     → fs ≡ gs
 one_list [] [] names bytes = refl
-one_list [] (g ∷ gs) names bytes = let n = ap length names in absurd (omega (arith, n))
-one_list (f ∷ fs) [] names bytes = let n = ap length names in absurd (omega (arith, n))
 one_list (f ∷ fs) (g ∷ gs) names bytes = grind (arith, one_file, one_list fs gs (cc) (cc))
+one_list fs gs names bytes = let n = ap length names in absurd (omega (arith, n))
 
 -- ---- compilations
 

@@ -54,11 +54,8 @@ zipped_at R (a ∷ xs) (b ∷ ys) (suc k) x all h at = zipped_at R xs ys k x all
 one_zip : {X Y : Type 0} (R : X → Y → Type 0) → ((x : X) (y z : Y) → R x y → R x z → y ≡ z) → (xs : List X)
     (ys zs : List Y) → AllZip R xs ys → AllZip R xs zs → ys ≡ zs
 one_zip R one [] [] [] first second = refl
-one_zip R one [] [] (z ∷ zs) first second = absurd second
-one_zip R one [] (y ∷ ys) zs first second = absurd first
-one_zip R one (x ∷ xs) [] zs first second = absurd first
-one_zip R one (x ∷ xs) (y ∷ ys) [] first second = absurd second
 one_zip R one (x ∷ xs) (y ∷ ys) (z ∷ zs) first second = grind (arith, one_zip R one xs ys zs first.1 second.1)
+one_zip R one xs ys zs first second = grind (arith)
 
 pub one_list_described : (limits : Limits) (sources f g : List Source) (ds es : List FileDesc) → AreByName sources f
     → AllZip (SourceDescribes limits) f ds → AreByName sources g → AllZip (SourceDescribes limits) g es
@@ -118,14 +115,11 @@ module _ (descs : List FileDesc) (links others : Linked) (index other : Index)
   one_typed : (a : ℕ) (fs gs hs : List FileDesc) → a + length fs ≤ length descs → AreTypedFrom links index a fs gs
       → AreTypedFrom others other a fs hs → gs ≡ hs
   one_typed a [] [] [] h first second = refl
-  one_typed a [] [] (k ∷ hs) h first second = absurd second
-  one_typed a [] (g ∷ gs) hs h first second = absurd first
-  one_typed a (f ∷ fs) [] hs h first second = absurd first
-  one_typed a (f ∷ fs) (g ∷ gs) [] h first second = absurd second
   one_typed a (f ∷ fs) (g ∷ gs) (k ∷ hs) h first second =
       let same : g ≡ k = file_same index.occurrences other.occurrences (SeenBy links a) (SeenBy others a)
       (alike a (omega (arith, h))) (file_scope f.«package») f g k first.0.resolved second.0.resolved in
       ap (λ x. x ∷ gs) same ∙ ap (λ xs. k ∷ xs) (one_typed (a + 1) fs gs hs (omega (arith, h)) first.1 second.1)
+  one_typed a fs gs hs h first second = grind (arith)
 
 pub analysed_moved : (limits : Limits) (sources f g : List Source) (ds es : List FileDesc) (links : Linked)
     (index : Index)
@@ -156,11 +150,7 @@ typed_at links index fs gs all a desc at = from 0 fs gs all a (omega arith) at
     from first [] gs all k e at = absurd (omega (arith, at.0))
     from first (f ∷ fs) [] all k e at = absurd all
     from first (f ∷ fs) (g ∷ gs) all zero e at =
-        let here : first ≡ a = omega (arith, e) in (
-          g,
-          subst (λ n. TypesAt links index n desc g) here
-              (subst (λ (x : FileDesc). TypesAt links index first x g) at.1 all.0),
-        )
+        let here : a ≡ first = omega (arith, e) in (g, rw (here, ← at.1) all.0)
     from first (f ∷ fs) (g ∷ gs) all (suc k) e at =
         from (first + 1) fs gs all.1 k (omega (arith, e)) (omega (arith, at.0), at.1)
 

@@ -39,12 +39,10 @@ use Rattle.proto_compile.proofs.Zipping.{as_many, bad_inside, contains_second, r
 pub described_at : (limits : Limits) (files : List Source) (descs : List FileDesc)
     → AllZip (SourceDescribes limits) files descs → (a : ℕ) (desc : FileDesc)
     → StandsAt descs a desc → (s : Source) × StandsAt files a s × SourceDescribes limits s desc
-described_at limits [] [] all a desc at = absurd (omega (arith, at.0))
-described_at limits [] (d ∷ descs) all a desc at = absurd all
-described_at limits (s ∷ files) [] all a desc at = absurd all
 described_at limits (s ∷ files) (d ∷ descs) all zero desc at = grind (arith)
 described_at limits (s ∷ files) (d ∷ descs) all (suc a) desc at =
     grind (arith, described_at limits files descs all.1 a desc (omega (arith, at.0), at.1))
+described_at limits files descs all a desc at = absurd (grind (arith))
 
 -- wherever the descriptor's places lie, this one does
 abbrev LiesWith : FileDesc → Place → Type 0
@@ -70,13 +68,11 @@ pub occurrence_in : (first : ℕ) (descs : List FileDesc) (o : Occurrence) → C
 occurrence_in first [] o (j, inside, is) = absurd (omega (arith, inside))
 occurrence_in first (d ∷ descs) o here =
     elim (Contains-append_cases (occurrences_of first d) (occurrences_from (first + 1) descs) o here) [
-      | inl own ↦ (
-          let at : first ≡ first + 0 = omega arith in
-          (0, d, (omega arith, refl), subst (λ m. Contains (occurrences_of m d) o) at own))
+      | inl own ↦ (let at : first + 0 ≡ first = omega arith in (0, d, (omega arith, refl), rw at own))
       | inr later ↦ (
           let (k, desc, there, own) = occurrence_in (first + 1) descs o later in
-          let at : first + 1 + k ≡ first + suc k = omega arith in
-          (suc k, desc, (omega (arith, there.0), there.1), subst (λ m. Contains (occurrences_of m desc) o) at own))
+          let at : first + suc k ≡ first + 1 + k = omega arith in
+          (suc k, desc, (omega (arith, there.0), there.1), rw at own))
     ]
 
 occurrence_at : (n file : ℕ) (desc : FileDesc) (o : Occurrence) → Contains (occurrences_of file desc) o

@@ -74,11 +74,10 @@ module _ (limits : Limits) where
   files_short : (a : ℕ) (files : List Source) (descs : List FileDesc) → AllZip (SourceDescribes limits) files descs
       → All Fits (occurrences_from a descs)
   files_short a [] [] all = All-nil Fits
-  files_short a [] (desc ∷ descs) all = absurd all
-  files_short a (s ∷ files) [] all = absurd all
   files_short a (s ∷ files) (desc ∷ descs) all =
       All-append Fits (occurrences_of a desc) (occurrences_from (a + 1) descs) (file_short a s desc all.0)
       (files_short (a + 1) files descs all.1)
+  files_short a files descs all = absurd all
 
 -- ---- the services of an index
 

@@ -54,15 +54,10 @@ sorted_names cmp files finer up k h =
 pub first_pair : (files : List Source) (n : ℕ) → 0 < n → n < length files
     → name_at files (n - 1) ≡ name_at files (n - 1 + 1)
     → ((j : ℕ) → j + 1 < n → name_at files j ≢ name_at files (j + 1)) → IsFirstRepeated files (n - 1)
-first_pair files n some h same before =
-    record { below = omega (arith, some, h); same = same; first = λ j below. before j (omega (arith, below, some)) }
+first_pair files n some h same before = grind (arith)
 
 -- one more pair of neighbours that differ
 pub pairs_more : (files : List Source) (n : ℕ) → 0 < n → (name_at files (n - 1) ≡ name_at files (n - 1 + 1) → ⊥)
     → ((j : ℕ) → j + 1 < n → name_at files j ≢ name_at files (j + 1)) → (j : ℕ) → j + 1 < n + 1
     → name_at files j ≢ name_at files (j + 1)
-pairs_more files n some other before j below = elim (cases_lt (j + 1) n) [
-  | inl less ↦ before j less
-  | inr over ↦ (let first : n - 1 ≡ j = omega (arith, over, below) in
-      subst (λ i. name_at files i ≢ name_at files (i + 1)) first other)
-]
+pairs_more files n some other before j below = grind (arith, cases_lt)

@@ -27,17 +27,15 @@ use Rattle.proto_compile.specs.declared.source.Source.{Source}
 pub same_names : (limits : Limits) (files : List Source) (descs : List FileDesc)
     → AllZip (SourceDescribes limits) files descs → map imports.name_of descs ≡ map name_of files
 same_names limits [] [] all = refl
-same_names limits [] (d ∷ descs) all = absurd all
-same_names limits (s ∷ files) [] all = absurd all
 same_names limits (s ∷ files) (d ∷ descs) all = grind (arith, same_names limits files descs all.1)
+same_names limits files descs all = absurd all
 
 -- types resolved, a descriptor has its name
 typed_names : (links : Linked) (index : Index) (a : ℕ) (descs typed : List FileDesc)
     → AreTypedFrom links index a descs typed → map imports.name_of typed ≡ map imports.name_of descs
 typed_names links index a [] [] all = refl
-typed_names links index a [] (g ∷ gs) all = absurd all
-typed_names links index a (f ∷ fs) [] all = absurd all
 typed_names links index a (f ∷ fs) (g ∷ gs) all = grind (arith, typed_names links index (a + 1) fs gs all.1)
+typed_names links index a descs typed all = absurd all
 
 pub resolved_names : {limits : Limits} {sources files : List Source} {typed : List FileDesc} {links : Linked}
     {index : Index} → AreResolved limits sources files typed links index → map imports.name_of typed ≡ map name_of files
