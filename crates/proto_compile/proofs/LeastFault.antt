@@ -120,16 +120,10 @@ module _ (limits : Limits) (sources : List Source) where
       own _ (repeated_file_name i j less below twice) same =
           let (b, inside, name, next) =
           neighbours sources files (name_at sources i) sorted (two_at sources i j less below twice) in
-          let Later : List ℕ → Type 0 = λ n.
-          IsNoLater (of_file 0 (name_at files k) start kind.FileNameTwice) (of_file 0 n start kind.FileNameTwice) in
-          let later : k ≤ b → Later (name_at files b) = λ most.
-          later_spot 0 (name_at files k) (name_at files b) 0 start start kind.FileNameTwice kind.FileNameTwice
-          (up_in_order sources files k b sorted most (omega (arith, inside))) (inr (refl, omega arith)) in
-          subst Later name (elim (cases_order k b) [
-            | inl here ↦ later (omega (arith, here))
-            | inr (inl before) ↦ later (omega (arith, before))
-            | inr (inr over) ↦ absurd (first.first b over next)
-          ])
+          let most : k ≤ b = elim (cases_lt b k) [ inl over ↦ absurd (first.first b over next) | inr most ↦ most ] in
+          rw (← name) (later_spot 0 (name_at files k) (name_at files b) 0 start start kind.FileNameTwice
+          kind.FileNameTwice (up_in_order sources files k b sorted most (omega (arith, inside))) (inr (refl, omega
+          arith)))
       own y breaks same = absurd (omega (arith, same))
 
   -- ---- the sources by themselves
@@ -211,8 +205,7 @@ module _ (limits : Limits) (sources : List Source) where
       (none_of_imports limits sources files descs d whole) own
     where
       own : (y : SourceFault) → Breaks limits sources y → y.pass ≡ 3 → IsNoLater (of_list 3 kind.TooManyNames) y
-      own _ (many_names others described more) same =
-          same_later (of_list 3 kind.TooManyNames) (of_list 3 kind.TooManyNames) refl
+      own _ (many_names others described more) same = same_later (of_list 3 kind.TooManyNames) _ refl
       own _ (repeated_name others o described twice) same =
           let here = contains_second (occurrences others) twice.0 o twice.1 in
           later_spot 3 [] (imports.name_at others o.file) 0 start o.place kind.TooManyNames kind.NameTwice

@@ -89,16 +89,12 @@ seen_by_index : (limits : Limits) (descs : List FileDesc) (links : Linked) (inde
     → Indexes descs limits index → (a : ℕ) → a < length descs
     → AreSeenAlike (occurrences descs) (Sees descs a) index.occurrences (SeenBy links a)
 seen_by_index limits descs links index linked indexed a h o =
-    let back = IsPermutation-sym (occurrences descs) index.occurrences indexed.all in (
-      λ w. (
-          let inside = Contains-permutation (occurrences descs) index.occurrences o indexed.all w.0 in
-          let below = below_files descs index.occurrences indexed.all o inside in
-          (inside, (linked.sees a o.file h below).1 w.1)),
-      λ w. (
-        Contains-permutation index.occurrences (occurrences descs) o back w.0,
-        (linked.sees a o.file h (below_files descs index.occurrences indexed.all o w.0)).0 w.1,
-      ),
-    )
+    let into = Contains-permutation (occurrences descs) index.occurrences o indexed.all in
+    let back = Contains-permutation index.occurrences (occurrences descs) o
+    (IsPermutation-sym (occurrences descs) index.occurrences indexed.all) in
+    let sees = λ (w : Contains index.occurrences o).
+    linked.sees a o.file h (below_files descs index.occurrences indexed.all o w) in
+    (λ w. (into w.0, (sees (into w.0)).1 w.1), λ w. (back w.0, (sees w.0).0 w.1))
 
 seen_alike : (descs : List FileDesc) (limits : Limits) (links others : Linked) (index other : Index)
     → AreLinked descs links → AreLinked descs others → Indexes descs limits index → Indexes descs limits other

@@ -35,18 +35,8 @@ pub pushed : (es : List Entry) (key : String Global) (value : Vec ℕ Global)
     → ((a : ℕ) → IsNamed (map compiled_file es) (string_bytes key) a → ⊥)
     → map compiled_file (insert_entry string_eq es key value) ≡ map compiled_file es ++ compiled_file (key, value) ∷ []
 pushed [] key value none = refl
-pushed (e ∷ es) key value none = by (string_eq key e.0) refl
-    (pushed es key value (not_first (compiled_file e) (map compiled_file es) (string_bytes key) none))
-  where
-    by : (b : Bool) → string_eq key e.0 ≡ b
-        → map compiled_file (insert_entry string_eq es key value) ≡ map compiled_file es
-        ++ compiled_file (key, value) ∷ []
-        → map compiled_file (if b then (e.0, value) ∷ es else e ∷ insert_entry string_eq es key value) ≡ compiled_file e
-        ∷ map compiled_file es
-        ++ compiled_file (key, value) ∷ []
-    by true same rest =
-        absurd (none 0 (omega arith, sym ((bytes_eq-Decides (string_bytes key) (string_bytes e.0)).0 same)))
-    by false other rest = ap (λ fs. compiled_file e ∷ fs) rest
+pushed (e ∷ es) key value none = grind (arith, bytes_eq-Decides, none 0,
+    pushed es key value (not_first (compiled_file e) (map compiled_file es) (string_bytes key) none))
 
 -- ---- a file that is looked up
 

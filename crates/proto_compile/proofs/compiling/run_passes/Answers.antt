@@ -11,8 +11,7 @@ write_table-requires-clause-files g c κs within = grind (arith, descs_for_each)
 pub returns-in_err-table-clause-first : goal.returns-in_err-table-clause-first
 returns-in_err-table-clause-first g c =
     let sources = c.args.sources.now in
-    let few = c.in_ok-files.ensures.few in
-    let resolved = (rw c.deref.ensures.value at c.in_ok-analysis.ensures.resolved) sources few
+    let resolved = (rw c.deref.ensures.value at c.in_ok-analysis.ensures.resolved) sources c.in_ok-files.ensures.few
     c.in_ok-files.ensures.files in
     let analysis = c.in_ok-analysis.analysis in
     let lookup = analysis.lookup in
@@ -27,8 +26,7 @@ compilation_of-requires g c = grind (arith, written_of)
 pub returns : goal.returns
 returns g c =
     let sources = c.args.sources.now in
-    let few = c.in_ok-files.ensures.few in
-    let resolved = (rw c.deref.ensures.value at c.in_ok-analysis.ensures.resolved) sources few
+    let resolved = (rw c.deref.ensures.value at c.in_ok-analysis.ensures.resolved) sources c.in_ok-files.ensures.few
     c.in_ok-files.ensures.files in
     let table = c.in_ok-table.ensures in
     let written = written_of resolved table.short c.deref-2.ensures.value table.names table.bytes in

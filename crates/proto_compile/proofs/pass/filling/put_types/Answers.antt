@@ -52,9 +52,7 @@ module _ (P : ℕ → FileDesc → Vec NamedType Global → Type 0) (Q : ℕ →
 -- what a slice of all items of a vector leaves there
 written : {X : Type 0} (n : ℕ) (old new : List X) → length new ≡ n → length old ≡ length new
     → take n (new ++ drop (length new) old) ≡ new
-written n old new size same =
-    let none = drop_all (length new) old (omega (arith, same)) in
-    ap (λ (l : List _). take n (new ++ l)) none ∙ ap (take n) (append-nil new) ∙ take_all n new (omega (arith, size))
+written n old new size same = grind (arith, append-nil, drop_all, take_all)
 
 pub returns : goal.returns
 returns g c = IfOk-weaker c.descriptors.result _ _ (λ typed are links index gives.
