@@ -30,12 +30,7 @@ hit : (n x : List ℕ) → x ≡ n → hits n x ≡ 1
 hit n x e = ap one_where (ap (λ z. slice_cmp nat_cmp z n) e ∙ tied_itself nat_list_cmp_total n)
 
 hit_or_none : (n x : List ℕ) → ((x ≡ n) × (hits n x ≡ 1)) ⊎ (hits n x ≡ 0)
-hit_or_none n x = by (slice_cmp nat_cmp x n) refl
-  where
-    by : (o : Ordering) → slice_cmp nat_cmp x n ≡ o → ((x ≡ n) × (hits n x ≡ 1)) ⊎ (hits n x ≡ 0)
-    by Less e = inr (ap one_where e)
-    by Equal e = inl (exact_bytes x n e, ap one_where e)
-    by Greater e = inr (ap one_where e)
+hit_or_none n x = grind (arith, exact_bytes)
 
 abbrev pub Two : List (List ℕ) → List ℕ → Type 0
 Two ns n = (i : ℕ) × (j : ℕ) × (i < j) × (j < length ns) × (get_or ns i [] ≡ n) × (get_or ns j [] ≡ n)

@@ -1,5 +1,4 @@
-use Rattle.std.proofs.Common.{arith}
-use Rattle.std.proofs.Common.{List, rules, subst, sym}
+use Rattle.std.proofs.Common.{arith, List, rules, subst, sym}
 use Rattle.proto_compile.specs.Analysed.{AreResolved}
 use Rattle.proto_compile.specs.declared.source.Source.{Source}
 use Rattle.proto_compile.proofs.Making.{descs_for_each, written_of}

@@ -1,5 +1,4 @@
-use Rattle.std.proofs.Common.{arith}
-use Rattle.std.proofs.Common.{◌∙◌, rules}
+use Rattle.std.proofs.Common.{arith, ◌∙◌, rules}
 use Rattle.proto_compile.proofs.Making.{written_length}
 use Rattle.proto_compile.proofs.compiling.write_table.Goals as goal
 
