@@ -1,8 +1,8 @@
 -- What sources are compiled to, asked in any way.
-use Rattle.std.proofs.Common.{◌≡◌, ◌∙◌, sym, ℕ, ◌+◌, ◌<◌, List, [], ◌∷◌, length, get_or, map, ap, refl, arith, Bool, true, false, filter, cond}
+use Rattle.std.proofs.Common.{◌≡◌, ◌∙◌, sym, ℕ, ◌+◌, ◌<◌, List, [], ◌∷◌, length, get_or, map, ap, refl, arith, Bool, true, filter, cond}
 use Rattle.std.specs.Set.{is_member}
 use Rattle.std.specs.Prelude.{◌↔◌, Contains, IsPermutation, IsSorted, ◌==◌}
-use Rattle.std.specs.Cmp.{nat_eq_equiv, both_ways}
+use Rattle.std.specs.Cmp.{nat_eq_equiv}
 use Rattle.std.specs.Cmp.Lexicographic.{slice_cmp}
 use Rattle.std.specs.List.{sum_by}
 use Rattle.std.specs.Ordering.{nat_cmp}
@@ -19,8 +19,7 @@ use Rattle.proto_links.proofs.Whole.{whole_of}
 use Rattle.proto_names.specs.Index.{Index, Indexes, is_service_kind, name_of, services_of}
 use Rattle.proto_names.specs.Occurrences.{Occurrence, occurrences}
 use Rattle.proto_compile.specs.Alike.{AreAlike}
-use Rattle.proto_compile.specs.Compilation.{Compilation, IsCompiled, file_name}
-use Rattle.proto_compile.specs.Sources.{name_of as source_name}
+use Rattle.proto_compile.specs.Compilation.{Compilation, IsCompiled}
 use Rattle.proto_compile.specs.declared.source.Source.{Source}
 use Rattle.proto_compile.proofs.OneCompilation.{one_written}
 use Rattle.proto_compile.proofs.OneOrder.{IsNoLater, one_sorted}

@@ -1,6 +1,6 @@
 -- What a descriptor imports, declares and refers to stands at its places.
-use Rattle.std.proofs.Common.{◌≡◌, refl, ℕ, List, [], ◌++◌, map}
-use Rattle.std.specs.Prelude.{flat_map, Option, None, Some}
+use Rattle.std.proofs.Common.{◌≡◌, refl, ℕ, List, [], map}
+use Rattle.std.specs.Prelude.{Option, None, Some}
 use Rattle.std.specs.List.{AllByRecursion}
 use Rattle.proto_desc.specs.DeclaredNames.{scoped, declared_by_enum, declared_by_message, declared_method, declared_by_service, file_scope, declared_by}
 use Rattle.proto_desc.specs.Places.{reference_places, enum_places, message_places, method_places, service_places, package_places, import_place, places_of}

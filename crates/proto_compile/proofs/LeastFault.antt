@@ -24,12 +24,10 @@ use Rattle.proto_links.proofs.NameRows.{rise_far}
 use Rattle.proto_links.specs.Imports as imports
 use Rattle.proto_links.specs.Bad as bad_imports
 use Rattle.proto_links.specs.Linked.{Linked}
-use Rattle.proto_links.specs.Visible.{Sees}
 use Rattle.proto_names.specs.Index.{Index}
 use Rattle.proto_names.specs.Repeated.{IsRepeated}
 use Rattle.proto_names.specs.Occurrences as names
 use Rattle.proto_names.specs.Occurrences.{IsTwice, Occurrence, occurrences}
-use Rattle.proto_types.specs.References.{TypesBreak}
 use Rattle.proto_types.specs.declared.meaning.NamedType.{NamedType}
 use Rattle.wire_bytes.specs.Descriptor.{file_desc_bytes}
 use Rattle.proto_compile.specs.Analysed.{AreResolved, IsAnalysed, TypesBreakAt}
@@ -40,7 +38,7 @@ use Rattle.proto_compile.specs.Faults.{AreSorted, IsFirstRepeated}
 use Rattle.proto_compile.specs.Outcomes.{IsDescribed, IsFirstFound, IsResolved, IsWrittenShort}
 use Rattle.proto_compile.specs.Sources.{AreByName, name_at, name_of, text_of}
 use Rattle.proto_compile.specs.declared.source.Source.{Source}
-use Rattle.proto_compile.proofs.FaultOrder.{later_name, later_pass, later_spot, no_name_first, one_fault, same_later, same_name, same_told}
+use Rattle.proto_compile.proofs.FaultOrder.{later_name, later_pass, later_spot, no_name_first, one_fault, same_later, same_name}
 use Rattle.share_work.proofs.Giving.{given_at}
 pub use Rattle.proto_compile.proofs.NoneBroken.{no_fault_at_all}
 use Rattle.proto_compile.proofs.NoneBroken.{NoneBefore, as_described, none_of_files, none_of_imports, none_of_lengths, none_of_list, none_of_names, none_of_types, one_descs}
@@ -122,8 +120,11 @@ module _ (limits : Limits) (sources : List Source) where
           neighbours sources files (name_at sources i) sorted (two_at sources i j less below twice) in
           let most : k ≤ b = elim (cases_lt b k) [ inl over ↦ absurd (first.first b over next) | inr most ↦ most ] in
           rw (← name) (later_spot 0 (name_at files k) (name_at files b) 0 start start kind.FileNameTwice
-          kind.FileNameTwice (up_in_order sources files k b sorted most (omega (arith, inside))) (inr (refl, omega
-          arith)))
+          kind.FileNameTwice (up_in_order sources files k b sorted most (omega (arith, inside))) (inr (
+            refl,
+            omega
+                arith,
+          )))
       own y breaks same = absurd (omega (arith, same))
 
   -- ---- the sources by themselves
@@ -145,7 +146,7 @@ module _ (limits : Limits) (sources : List Source) where
             | inl here ↦ (
                 let one = standing_one files k s t at.0 at.1 (rw (← here) at is) in
                 let told = one_local limits (name_of s) (text_of s) step other place q what l wrong (rw (← one) at
-                    also) in
+                also) in
                 rw (← one, told.0, told.1, told.2) (same_later (fault 1 (name_of s) other q l) _ refl))
             | inr (inl less) ↦ (
                 let inside : b < length (map name_of files) = omega (arith, below, length-map files name_of) in

@@ -1,6 +1,5 @@
 -- What a message declares and refers to stands at its places.
-use Rattle.std.proofs.Common.{◌≡◌, sym, subst, ℕ, List, [], ◌∷◌, ◌++◌, map}
-use Rattle.std.specs.Prelude.{flat_map}
+use Rattle.std.proofs.Common.{sym, subst, ℕ, List, map}
 use Rattle.std.specs.List.{AllByRecursion}
 use Rattle.proto_desc.specs.DeclaredNames.{Declared, declared_field, declared_oneof, declared_value, declared_by_enum, declared_by_message}
 use Rattle.proto_desc.specs.Places.{reference_places, kind_places, option_place, field_places, oneof_place, value_place, enum_places, message_places}
@@ -10,7 +9,6 @@ use Rattle.proto_desc.specs.declared.field.FieldKind.{FieldKind}
 use Rattle.proto_desc.specs.declared.field.FieldKind.TheVariants.{Scalar, Named}
 use Rattle.proto_desc.specs.declared.message.MessageDesc.{MessageDesc}
 use Rattle.proto_desc.specs.declared.message.MessageDesc.TheViews.{out-MessageDesc}
-use Rattle.proto_desc.specs.declared.oneof.OneofDesc.{OneofDesc}
 use Rattle.proto_desc.specs.declared.options.OptionDesc.{OptionDesc}
 use Rattle.proto_desc.specs.declared.type_name.TypeReference.{TypeReference}
 use Rattle.proto_desc.specs.declared.type_name.TypeReference.TheVariants.{Spelled, Resolved}

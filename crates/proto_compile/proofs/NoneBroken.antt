@@ -1,8 +1,5 @@
 -- Where sources have passed, no rule of those passes is broken.
-use Rattle.std.proofs.Common.{◌≡◌, sym, ℕ, ◌<◌, ◌≤◌, List, length, ap, subst, arith, Less}
-use Rattle.std.specs.List.{All}
-use Rattle.std.specs.Cmp.Lexicographic.{slice_cmp}
-use Rattle.std.specs.Ordering.{nat_cmp}
+use Rattle.std.proofs.Common.{◌≡◌, ℕ, ◌<◌, ◌≤◌, List, length, ap, arith}
 use Rattle.std.proofs.lemmas.List.{length-map}
 use Rattle.std.proofs.lemmas.List.Elements.{All-contains}
 use Rattle.std.proofs.lemmas.List.Sorted.{Contains-permutation}
@@ -10,16 +7,12 @@ use Rattle.proto_base.specs.Least.{spot}
 use Rattle.proto_base.specs.Limits.{limit_of}
 use Rattle.proto_base.specs.declared.limits.Limit.TheVariants as limit
 use Rattle.proto_base.specs.declared.limits.Limits.{Limits}
-use Rattle.proto_base.specs.Sets.{StandsAt}
 use Rattle.proto_desc.specs.declared.file.FileDesc.{FileDesc}
 use Rattle.proto_file.proofs.OneLocal.{no_local}
 use Rattle.proto_links.proofs.NameRows.{not_less_itself}
 use Rattle.proto_links.specs.Imports as imports
 use Rattle.proto_links.specs.Linked.{Linked}
-use Rattle.proto_links.specs.Visible.{Sees}
 use Rattle.proto_names.specs.Index.{Index}
-use Rattle.proto_names.specs.Occurrences.{NoneTwice, occurrences}
-use Rattle.proto_types.specs.References.{TypesBreak}
 use Rattle.proto_compile.specs.Analysed.{AreResolved, IsAnalysed}
 use Rattle.proto_compile.specs.Compilation.{Compilation, IsCompiled, IsShort, IsWritten}
 use Rattle.proto_compile.specs.Descriptions.{Describe, SourceDescribes}

@@ -44,9 +44,10 @@ one_written limits sources c d first second =
     let names : map file_name c.files ≡ map file_name d.files =
     first.names ∙ ap (λ (xs : List Source). map name_of xs) same.0 ∙ sym second.names in
     let bytes : map file_bytes c.files ≡ map file_bytes d.files =
-    first.bytes ∙ ap (λ (xs : List FileDesc). map file_desc_bytes xs) same.1 ∙ sym second.bytes in
-    (one_list c.files d.files names bytes,
-    resolved_order limits sources _ _ _ _ _ _ _ _ first.resolved second.resolved)
+    first.bytes ∙ ap (λ (xs : List FileDesc). map file_desc_bytes xs) same.1 ∙ sym second.bytes in (
+      one_list c.files d.files names bytes,
+      resolved_order limits sources _ _ _ _ _ _ _ _ first.resolved second.resolved,
+    )
 
 set_in : List CompiledFile → List ℕ → List ℕ
 set_in files order = flat_map (λ a. bytes_field 1 (bytes_at files a)) order

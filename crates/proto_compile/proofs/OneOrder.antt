@@ -1,6 +1,6 @@
 -- Sources have one order by name, and names one sorted list.
-use Rattle.std.proofs.Common.{◌≡◌, ◌≢◌, ◌∙◌, sym, ℕ, ◌+◌, List, [], ◌∷◌, get_or, ap, refl, subst, arith, Ordering, Less, Equal, Greater, map}
-use Rattle.std.specs.Prelude.{Bool, true, false, if◌then◌else◌, Contains, IsPermutation}
+use Rattle.std.proofs.Common.{◌≡◌, ◌≢◌, ◌∙◌, sym, ℕ, List, [], ◌∷◌, ap, refl, arith, Ordering, Less, Equal, Greater, map}
+use Rattle.std.specs.Prelude.{Bool, false, if◌then◌else◌, Contains, IsPermutation}
 use Rattle.std.specs.Cmp.Lexicographic.{slice_cmp}
 use Rattle.std.specs.List.{sum_by}
 use Rattle.std.specs.Ordering.{nat_cmp, is_gt, ordering_reverse}
@@ -12,7 +12,7 @@ use Rattle.std.proofs.lemmas.Map.Lookups.{exact_bytes}
 use Rattle.proto_base.specs.NameOrder.{NamesRise}
 use Rattle.proto_links.proofs.NameRows.{not_less_itself}
 use Rattle.proto_links.proofs.Rising.{IsStrict, Rises, first_two, one_rising, rest_rises}
-use Rattle.proto_compile.specs.Sources.{AreByName, name_at, name_of}
+use Rattle.proto_compile.specs.Sources.{AreByName, name_of}
 use Rattle.proto_compile.specs.declared.source.Source.{Source}
 use Rattle.proto_compile.proofs.Sorting.{name_is}
 

@@ -60,9 +60,11 @@ pub one_list_described : (limits : Limits) (sources f g : List Source) (ds es : 
     → AllZip (SourceDescribes limits) f ds → AreByName sources g → AllZip (SourceDescribes limits) g es
     → (f ≡ g) × (ds ≡ es)
 one_list_described limits sources f g ds es order first other second =
-    let same : f ≡ g = one_order sources f g order other in
-    (same, one_zip (SourceDescribes limits) (λ s. one_descriptor limits (name_of s) (text_of s)) f ds es first
-    (rw same second))
+    let same : f ≡ g = one_order sources f g order other in (
+      same,
+      one_zip (SourceDescribes limits) (λ s. one_descriptor limits (name_of s) (text_of s)) f ds es first
+          (rw same second),
+    )
 
 -- the same of sources that are described
 pub one_description : (limits : Limits) (sources f g : List Source) (ds es : List FileDesc)

@@ -1,19 +1,18 @@
 -- The table of files.
-use Rattle.std.proofs.Common.{◌≡◌, ◌∙◌, ap, sym, refl, ℕ, zero, suc, ◌<◌, ◌≤◌, Bool, true, false, cond, List, [], ◌∷◌, ◌++◌, map, length, get_or, Option, Some, None, arith, if◌then◌else◌}
+use Rattle.std.proofs.Common.{◌≡◌, ◌∙◌, ap, sym, refl, ℕ, zero, suc, ◌<◌, ◌≤◌, Bool, true, false, cond, List, [], ◌∷◌, ◌++◌, map, length, get_or, Option, Some, None, arith}
 use Rattle.std.specs.Prelude.{String, Vec, string_bytes, string_eq, position, MatchOption, nat_lt, slice_get, is_some}
 use Rattle.std.specs.Str.{bytes_eq}
 use Rattle.std.specs.List.{position_or_len}
 use Rattle.std.specs.Map.{keys_of}
 use Rattle.std.specs.declared.alloc.Global.{Global}
 use Rattle.std.proofs.lemmas.Bool.{true≢false}
-use Rattle.std.proofs.lemmas.List.{get_or-map, length-map}
+use Rattle.std.proofs.lemmas.List.{length-map}
 use Rattle.std.proofs.lemmas.List.Quantifiers.{position-Some}
 use Rattle.std.proofs.lemmas.List.Sums.{fails_before_first}
-use Rattle.std.proofs.lemmas.Option.{slice_get_within, get_or_from_slice_get}
 use Rattle.std.proofs.lemmas.Slice.Eq.{bytes_eq-Decides}
 use borrow.Author.Tests.{ltb-false}
 use Rattle.indexmap.specs.IndexMap.{insert_entry}
-use Rattle.proto_compile.specs.Compilation.{CompiledFile, IsNamed, bytes_at, file_bytes, file_name}
+use Rattle.proto_compile.specs.Compilation.{CompiledFile, IsNamed, bytes_at, file_name}
 use Rattle.proto_compile.specs.Steps.{compiled_file}
 
 abbrev Entry : Type 0
@@ -35,8 +34,12 @@ pub pushed : (es : List Entry) (key : String Global) (value : Vec ℕ Global)
     → ((a : ℕ) → IsNamed (map compiled_file es) (string_bytes key) a → ⊥)
     → map compiled_file (insert_entry string_eq es key value) ≡ map compiled_file es ++ compiled_file (key, value) ∷ []
 pushed [] key value none = refl
-pushed (e ∷ es) key value none = grind (arith, bytes_eq-Decides, none 0,
-    pushed es key value (not_first (compiled_file e) (map compiled_file es) (string_bytes key) none))
+pushed (e ∷ es) key value none = grind (
+  arith,
+  bytes_eq-Decides,
+  none 0,
+  pushed es key value (not_first (compiled_file e) (map compiled_file es) (string_bytes key) none),
+)
 
 -- ---- a file that is looked up
 

@@ -1,7 +1,6 @@
 -- What files have in the set, by its length.
-use Rattle.std.proofs.Common.{sym, ap, subst, ℕ, ◌<◌, ◌≤◌, Bool, not, List, length, arith, refl}
-use Rattle.std.specs.Set.{is_member}
-use Rattle.std.specs.Prelude.{Contains, filter, flat_map, ◌==◌}
+use Rattle.std.proofs.Common.{ℕ, ◌<◌, ◌≤◌, Bool, not, List, length, arith, refl}
+use Rattle.std.specs.Prelude.{Contains, filter, flat_map}
 use Rattle.std.proofs.lemmas.List.Concat.{length-flat_map}
 use Rattle.std.proofs.lemmas.List.Filters.{sum_by-filter_both}
 use Rattle.std.proofs.lemmas.List.Sums.{get_or-le-sum_by}

@@ -1,5 +1,5 @@
 -- Sources and what they describe.
-use Rattle.std.proofs.Common.{◌≡◌, ◌∙◌, sym, ℕ, ◌+◌, ◌<◌, List, [], ◌∷◌, length, get_or, map, ap, subst, arith, refl, inl, inr}
+use Rattle.std.proofs.Common.{◌≡◌, ◌∙◌, sym, ℕ, ◌+◌, ◌<◌, List, [], ◌∷◌, length, get_or, map, ap, arith, refl}
 use Rattle.std.specs.List.{AllZip}
 use Rattle.std.specs.Prelude.{Contains}
 use Rattle.std.proofs.lemmas.Bool.{cases_lt}
@@ -9,7 +9,6 @@ pub use Rattle.std.proofs.lemmas.Slice.Zip.{all_zipped_more as zip_end}
 use Rattle.proto_desc.specs.declared.file.FileDesc.{FileDesc}
 use Rattle.proto_links.proofs.Rising.{none_in}
 use Rattle.proto_links.specs.Imports as imports
-use Rattle.proto_desc.specs.declared.file.ImportDesc.{ImportDesc}
 use Rattle.std.proofs.lemmas.Option.{get_or_from_slice_get, slice_get_within}
 use Rattle.proto_names.specs.Index.{Index}
 use Rattle.proto_names.specs.Repeated.{IsRepeated}

@@ -1,5 +1,4 @@
-use Rattle.std.proofs.Common.{rules, arith, sym, subst}
-use Rattle.proto_base.specs.NameOrder.{NamesRise}
+use Rattle.std.proofs.Common.{rules, arith}
 use Rattle.std.proofs.lemmas.Grind.{pieces}
 use Rattle.proto_compile.specs.Descriptions.{Describe}
 use Rattle.proto_compile.proofs.Making.{resolved_of}

@@ -1,10 +1,9 @@
-use Rattle.std.proofs.Common.{◌≡◌, ◌<◌, ◌+◌, ◌++◌, ◌∷◌, [], ◌∙◌, sym, ap, arith, subst, length, take, map, ℕ, List}
-use Rattle.std.proofs.lemmas.Grind.{common_steps}
+use Rattle.std.proofs.Common.{◌≡◌, ◌<◌, ◌+◌, ◌++◌, ◌∷◌, [], ◌∙◌, sym, ap, arith, subst, length, ℕ, List}
 use Rattle.std.proofs.lemmas.List.{length-append}
 use Rattle.std.proofs.lemmas.Iterator.Adapters.{YieldsList-from_vec}
 use Rattle.std.proofs.lemmas.Iterator.Consumers.{YieldsList-turn}
-use Rattle.proto_compile.specs.Compilation.{IsNamed, file_name}
-use Rattle.proto_compile.specs.Sources.{name_at, name_of}
+use Rattle.proto_compile.specs.Compilation.{IsNamed}
+use Rattle.proto_compile.specs.Sources.{name_at}
 use Rattle.proto_compile.proofs.Rising.{bytes_more, entry, fresh, names_more, same_count}
 use Rattle.proto_compile.proofs.Sorting.{name_is}
 use Rattle.proto_compile.proofs.compiling.table_of.Goals as goal

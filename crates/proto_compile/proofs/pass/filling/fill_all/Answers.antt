@@ -1,8 +1,7 @@
-use Rattle.std.proofs.Common.{ℕ, get_or, subst, sym}
+use Rattle.std.proofs.Common.{ℕ}
 use Rattle.proto_links.specs.Linked.{Linked}
 use Rattle.proto_names.specs.Index.{Index}
 use Rattle.proto_compile.specs.Outcomes.{AreTypesOf, IsTypedWhole}
-use Rattle.proto_compile.specs.declared.pass.filling.Untyped.{Untyped}
 use Rattle.proto_compile.proofs.pass.filling.fill_all.Goals as goal
 
 pub returns-clause-each : goal.returns-clause-each

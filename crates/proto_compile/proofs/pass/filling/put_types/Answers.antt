@@ -1,4 +1,4 @@
-use Rattle.std.proofs.Common.{Global, Vec, ◌≡◌, ◌∙◌, ℕ, ◌+◌, ◌<◌, ◌++◌, List, Some, ap, drop, get_or, length, map, subst, sym, take, arith}
+use Rattle.std.proofs.Common.{Global, Vec, ◌≡◌, ◌∙◌, ℕ, ◌+◌, ◌<◌, ◌++◌, List, Some, ap, drop, get_or, length, map, sym, take, arith}
 use Rattle.std.specs.Prelude.{slice_get}
 use Rattle.std.specs.Option.{option_map}
 use Rattle.std.proofs.lemmas.List.{append-nil, drop_all, length-map, take_all}

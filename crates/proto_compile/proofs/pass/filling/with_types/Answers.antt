@@ -1,6 +1,5 @@
-use Rattle.std.proofs.Common.{◌≡◌, ◌∙◌, ◌⊎◌, ◌+◌, ◌++◌, List, ap, arith, inl, inr, length, map, sym}
+use Rattle.std.proofs.Common.{◌≡◌, ◌⊎◌, ◌+◌, ◌++◌, List, arith, length, map}
 use Rattle.std.proofs.lemmas.List.{length-append, length-map}
-use Rattle.proto_compile.specs.declared.pass.filling.Untyped.{Untyped}
 use Rattle.proto_names.proofs.Tabled.{all_taken}
 use Rattle.proto_compile.proofs.pass.filling.with_types.Goals as goal
 
@@ -12,8 +11,13 @@ sizes f files rest xs e = grind (arith, length-map, length-append)
 both_ended : {F X Y : Type 0} (f : F → X) (g : F → Y) (files : List F) (xs lefts : List X) (ys rights : List Y)
     → map f files ++ lefts ≡ xs → map g files ++ rights ≡ ys → length ys ≡ length xs
     → (length lefts ≡ 0) ⊎ (length rights ≡ 0) → (map f files ≡ xs) × (map g files ≡ ys)
-both_ended f g files xs lefts ys rights left right same end = grind (arith, sizes f files lefts xs left,
-    sizes g files rights ys right, all_taken (map f files) lefts xs left, all_taken (map g files) rights ys right)
+both_ended f g files xs lefts ys rights left right same end = grind (
+  arith,
+  sizes f files lefts xs left,
+  sizes g files rights ys right,
+  all_taken (map f files) lefts xs left,
+  all_taken (map g files) rights ys right,
+)
 
 pub returns : goal.returns
 returns c = grind (arith, both_ended)

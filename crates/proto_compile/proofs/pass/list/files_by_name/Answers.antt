@@ -1,6 +1,4 @@
-use Rattle.std.proofs.Common.{arith, subst, List, ℕ}
-use Rattle.proto_base.specs.declared.kind.Kind.TheVariants as kind
-use Rattle.proto_compile.specs.FaultSet.{IsLeastFault, of_file, of_list, start}
+use Rattle.std.proofs.Common.{arith}
 use Rattle.proto_compile.proofs.Judging.{told}
 use Rattle.proto_compile.proofs.LeastFault.{many_least, repeated_least}
 use Rattle.proto_compile.proofs.Sorting.{strictly, name_is}

@@ -1,4 +1,4 @@
-use Rattle.std.proofs.Common.{◌∙◌, sym, arith}
+use Rattle.std.proofs.Common.{arith}
 use Rattle.std.proofs.lemmas.Bool.{true≢false}
 use Rattle.proto_compile.proofs.Sorting.{first_pair, pairs_more}
 use Rattle.proto_compile.proofs.pass.list.first_repeated.Goals as goal

@@ -1,4 +1,4 @@
-use Rattle.std.proofs.Common.{arith, ◌∙◌, sym}
+use Rattle.std.proofs.Common.{arith}
 use Rattle.proto_compile.proofs.Tabling.{bytes_are}
 use Rattle.proto_compile.proofs.table.FileTable.bytes.Goals as goal
 

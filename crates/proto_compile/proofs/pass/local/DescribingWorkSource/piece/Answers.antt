@@ -1,6 +1,5 @@
-use Rattle.std.proofs.Common.{◌+◌, arith, subst, sym, take}
+use Rattle.std.proofs.Common.{arith}
 use Rattle.std.proofs.lemmas.List.{take_all}
-use Rattle.std.specs.List.{AllZip}
 use Rattle.proto_compile.specs.Outcomes.{IsDescribed}
 use Rattle.share_work.proofs.Giving.{all_next, gives_of_all}
 use Rattle.proto_compile.proofs.pass.local.DescribingWorkSource.piece.Goals as goal
