@@ -1,5 +1,5 @@
 -- Lists of which each element is compared with all before it.
-use Rattle.std.proofs.Common.{◌≡◌, ◌∙◌, sym, ap, refl, subst, inl, inr, ℕ, zero, suc, ◌+◌, ◌%◌, ◌<◌}
+use Rattle.std.proofs.Common.{◌≡◌, ◌∙◌, sym, ap, refl, ℕ, zero, suc, ◌+◌, ◌%◌, ◌<◌}
 use Rattle.std.proofs.Common.{List, [], ◌∷◌, length, get_or, take, set, map, arith, Bool, true, false}
 use Rattle.std.specs.Prelude.{Option, Some}
 use Rattle.std.specs.Bool.{Decides}
@@ -36,11 +36,7 @@ pub few_skip : {X : Type 0} (xs : List X) (R : X → X → Type 0) (at : X → S
     (p : Option Spot) → ((a : X) → Decides (test a) (R a c)) → StandsAt xs n c → list_any test (take n xs) ≡ false
     → IsLeast (LaterTo xs n R at) p → IsLeast (LaterTo xs (n + 1) R at) p
 few_skip xs R at test n c p told here none h =
-    let under = here.0 in
-    let size = length-take-le n xs (omega arith) in
-    later_skip xs R at n c p here (λ (i, a, below, there, same). both_ways (list_any test (take n xs)) none
-    (list_any-from_Any test (take n xs)
-    (i, a, omega (arith, size), get_or-take n xs i a below ∙ there.1, (told a).1 same))) h
+    grind (arith, both_ways, get_or-take, length-take-le, list_any-from_Any, later_skip)
 
 -- the lengths of the first n texts are taken
 abbrev pub AreTaken : List Marked → ℕ → List Bool → Type 0
@@ -55,18 +51,10 @@ kept (b ∷ bs) (suc j) (suc k) h = kept bs j k h
 
 pub taken_more : (ts : List Marked) (n : ℕ) (taken : List Bool) (c : Marked) → length taken ≡ 64 → StandsAt ts n c
     → AreTaken ts n taken → AreTaken ts (n + 1) (set taken (length c.text % 64) true)
-taken_more ts n taken c size here old i a below there = elim (cases_lt i n) [
-  | inl before ↦ kept taken (length c.text % 64) (length a.text % 64) (old i a before there)
-  | inr last ↦ subst (λ (b : Marked). get_or (set taken (length c.text % 64) true) (length b.text % 64) false ≡ true)
-      (sym (one_at ts i n a c (omega arith) there here))
-      (get_or-set_same taken (length c.text % 64) true false (omega arith))
-]
+taken_more ts n taken c size here old i a below there = grind (arith, cases_lt, get_or-set_same, one_at, kept)
 
 -- a text of another length than all before it
 pub untaken_skip : (ts : List Marked) (at : Marked → Spot) (n : ℕ) (taken : List Bool) (c : Marked) (p : Option Spot)
     → StandsAt ts n c → AreTaken ts n taken → get_or taken (length c.text % 64) false ≡ false
     → IsLeast (LaterTo ts n (λ a b. a.text ≡ b.text) at) p → IsLeast (LaterTo ts (n + 1) (λ a b. a.text ≡ b.text) at) p
-untaken_skip ts at n taken c p here old free h =
-    later_skip ts (λ a b. a.text ≡ b.text) at n c p here (λ (i, a, below, there, same).
-    both_ways (get_or taken (length c.text % 64) false) free
-    (ap (λ text. get_or taken (length text % 64) false) (sym same) ∙ old i a below there)) h
+untaken_skip ts at n taken c p here old free h = grind (arith, both_ways, later_skip)

@@ -15,16 +15,12 @@ pub stands_split : {X : Type 0} (xs ys : List X) (i : ℕ) (a : X) → StandsAt 
     → ((i < length xs) × StandsAt xs i a) ⊎ ((j : ℕ) × (i ≡ length xs + j) × StandsAt ys j a)
 stands_split [] ys i a s = inr (i, omega arith, s)
 stands_split (x ∷ xs) ys zero a s = inl (omega arith, (omega arith, s.1))
-stands_split (x ∷ xs) ys (suc i) a s = let below = s.0 in elim (stands_split xs ys i a (omega arith, s.1)) [
-  | inl w ↦ inl (omega (arith, w.0), (omega (arith, w.0), w.1.1))
-  | inr w ↦ inr (w.0, omega (arith, w.1), w.2)
-]
+stands_split (x ∷ xs) ys (suc i) a s = grind (arith, stands_split xs ys i a (omega arith, s.1))
 
 pub stands_left : {X : Type 0} (xs ys : List X) (i : ℕ) (a : X) → StandsAt xs i a → StandsAt (xs ++ ys) i a
 stands_left [] ys i a s = let below = s.0 in absurd (omega arith)
 stands_left (x ∷ xs) ys zero a s = (omega arith, s.1)
-stands_left (x ∷ xs) ys (suc i) a s = let below = s.0 in let w = stands_left xs ys i a (omega arith, s.1) in
-    (omega (arith, w.0), w.1)
+stands_left (x ∷ xs) ys (suc i) a s = grind (arith, stands_left xs ys i a (omega arith, s.1))
 
 pub stands_right : {X : Type 0} (xs ys : List X) (i k : ℕ) (a : X) → k ≡ length xs + i → StandsAt ys i a
     → StandsAt (xs ++ ys) k a
@@ -37,42 +33,18 @@ abbrev pub Halves : List MarkedRange → List MarkedRange → Spot → Type 0
 Halves xs ys = ReservedOverlap xs ∪ ReservedOverlap ys ∪ Each ys (IsAcross xs)
 
 halves_of : (xs ys : List MarkedRange) (x : Spot) → ReservedOverlap (xs ++ ys) x → Halves xs ys x
-halves_of xs ys x (i, j, a, b, before, there, then, r, e) = elim (stands_split xs ys j b then) [
-  | inl late ↦ elim (stands_split xs ys i a there) [
-    | inl early ↦ inl (inl (i, j, a, b, before, early.1, late.1, r, e))
-    | inr early ↦ absurd (omega (arith, late.0, early.1, before))
-  ]
-  | inr late ↦ elim (stands_split xs ys i a there) [
-    | inl early ↦ inr (late.0, b, late.2, ((i, a, early.1, r), e))
-    | inr early ↦ inl (inr (early.0, late.0, a, b, omega (arith, early.1, late.1), early.2, late.2, r, e))
-  ]
-]
+halves_of xs ys x w = grind (arith, stands_split)
 
 of_halves : (xs ys : List MarkedRange) (x : Spot) → Halves xs ys x → ReservedOverlap (xs ++ ys) x
 of_halves xs ys x (inl (inl (i, j, a, b, before, there, then, r, e))) =
     (i, j, a, b, before, stands_left xs ys i a there, stands_left xs ys j b then, r, e)
-of_halves xs ys x (inl (inr (i, j, a, b, before, there, then, r, e))) = (
-  length xs + i,
-  length xs + j,
-  a,
-  b,
-  omega arith,
-  stands_right xs ys i (length xs + i) a refl there,
-  stands_right xs ys j (length xs + j) b refl then,
-  r,
-  e,
-)
-of_halves xs ys x (inr (j, b, then, ((i, a, there, r), e))) = (
-  i,
-  length xs + j,
-  a,
-  b,
-  omega (arith, there.0),
-  stands_left xs ys i a there,
-  stands_right xs ys j (length xs + j) b refl then,
-  r,
-  e,
-)
+of_halves xs ys x (inl (inr (i, j, a, b, before, there, then, r, e))) =
+    let first = stands_right xs ys i (length xs + i) a refl there in
+    let second = stands_right xs ys j (length xs + j) b refl then in
+    (length xs + i, length xs + j, a, b, omega arith, first, second, r, e)
+of_halves xs ys x (inr (j, b, then, ((i, a, there, r), e))) =
+    let second = stands_right xs ys j (length xs + j) b refl then in
+    (i, length xs + j, a, b, omega (arith, there.0), stands_left xs ys i a there, second, r, e)
 
 pub halves_least : (xs ys zs : List MarkedRange) (a b p c r : Option Spot) → zs ≡ xs ++ ys
     → IsLeast (ReservedOverlap xs) a → IsLeast (ReservedOverlap ys) b
@@ -109,6 +81,3 @@ pub of_shared : (rs : List MarkedRange) (cover : List Interval) (s : MarkedRange
 of_shared rs cover s h (i, r, there, (n, holds, (c, d))) =
     let up : s.start ≤ s.end = omega arith in
     (up, (h.reached s.start s.end up).1 (i, r, there, (n, c, d, holds)))
-
-pub bad_range : (s : MarkedRange) → s.end < s.start → s.start ≤ s.end → ⊥
-bad_range s h k = omega arith

@@ -2,7 +2,7 @@
 use Rattle.std.proofs.Common.{◌≡◌, ◌∙◌, sym, ℕ, ◌+◌, ◌-◌, ◌<◌, ◌≤◌, List, [], ◌∷◌, ◌++◌, length, get_or, take, drop, drop-cons, set, ap, refl, subst, arith, inl, inr, ◌⊎◌, zero, suc, add-one, append_assoc, rules, leb}
 use Rattle.std.specs.Prelude.{Contains, ◌↔◌, max, IsTrue, nat_lt, true, false}
 use Rattle.std.specs.List.Sorted.{IsPermutation, IsPartitionPoint}
-use Rattle.std.proofs.lemmas.Bool.{cases_lt}
+use Rattle.std.proofs.lemmas.Bool.{cases_lt, leb-true}
 use Rattle.std.proofs.lemmas.Grind.{common_steps}
 use Rattle.std.proofs.lemmas.List.{get_or_default, take_more_set, drop-set-lt}
 use Rattle.std.proofs.lemmas.List.Elements.{Contains-append_left, Contains-push, Contains-push_cases}
@@ -35,9 +35,6 @@ intervals_push rs n xs r here full h a = (
   ],
 )
 
-bad_full : (m n : ℕ) → n < m → m ≤ n → ⊥
-bad_full m n h k = omega arith
-
 pub intervals_skip : (rs : List MarkedRange) (n : ℕ) (xs : List Interval) (r : MarkedRange) → StandsAt rs n r
     → r.end < r.start → IntervalsTo rs n xs
     → IntervalsTo rs (n + 1) xs
@@ -45,8 +42,8 @@ intervals_skip rs n xs r here back h a = (
   λ w. let v = (h a).0 w in (v.0, v.1, omega (arith, v.2), v.3, v.4, v.5),
   λ v. elim (cases_lt v.0 n) [
     | inl old ↦ (h a).1 (v.0, v.1, old, v.3, v.4, v.5)
-    | inr last ↦ absurd (bad_full r.start r.end back (subst (λ (s : MarkedRange). s.start ≤ s.end)
-        (sym (one_at rs n v.0 r v.1 (omega (arith, v.2, last)) here v.3)) v.4))
+    | inr last ↦ (let full = rw (← one_at rs n v.0 r v.1 (omega (arith, v.2, last)) here v.3) at v.4 in
+        absurd (omega arith))
   ],
 )
 
@@ -83,9 +80,7 @@ raised_top : (top : ℕ) (rest : List Interval) (k : ℕ) (d : Interval) → k <
     → top ≤ (get_or (raised top rest) k d).end
 raised_top top [] k d h = absurd (omega arith)
 raised_top top (a ∷ rest) zero d h = let g : top ≤ max a.end top = omega arith in g
-raised_top top (a ∷ rest) (suc k) d h =
-    let below = raised_top (max a.end top) rest k d (omega arith) in let g : top ≤ max a.end top = omega arith in
-    omega (arith, below, g)
+raised_top top (a ∷ rest) (suc k) d h = grind (arith, raised_top (max a.end top) rest k d (omega arith))
 
 raised_rises : (top : ℕ) (rest : List Interval) (i j : ℕ) (d : Interval) → i ≤ j → j < length rest
     → (get_or (raised top rest) i d).end ≤ (get_or (raised top rest) j d).end
@@ -118,33 +113,22 @@ raised_back top (a ∷ rest) (suc k) n d e h w = elim (raised_back (max a.end to
 
 reached_on : (rest : List Interval) (n m : ℕ) → Reached rest n m → Reached (raised 0 rest) n m
 reached_on rest n m (a, (k, below, is), low, high) =
-    let start = raised_start 0 rest k a a below in
-    let over = raised_over 0 rest k a a below in
-    let start' : (get_or rest k a).start ≡ a.start = ap (λ (s : Interval). s.start) is in
-    let end' : (get_or rest k a).end ≡ a.end = ap (λ (s : Interval). s.end) is in
-    let size = length-raised 0 rest in
-    let inside : k < length (raised 0 rest) = omega arith in
+    let start = rw is at (raised_start 0 rest k a a below) in
+    let over = rw is at (raised_over 0 rest k a a below) in
+    let inside : k < length (raised 0 rest) = omega (arith, length-raised 0 rest) in
     let b = get_or (raised 0 rest) k a in
     (b, (k, inside, get_or_default (raised 0 rest) k b a inside), omega arith, omega arith)
 
 reached_back : (rest : List Interval) (n m : ℕ) → RisesByStart rest → Reached (raised 0 rest) n m → Reached rest n m
 reached_back rest n m up (b, (k, below, is), low, high) =
-    let size = length-raised 0 rest in
-    let inside : k < length rest = omega arith in
-    let start = raised_start 0 rest k b b inside in
-    let start' : (get_or (raised 0 rest) k b).start ≡ b.start = ap (λ (s : Interval). s.start) is in
-    let end' : (get_or (raised 0 rest) k b).end ≡ b.end = ap (λ (s : Interval). s.end) is in
-    elim (raised_back 0 rest k n b b inside (omega arith)) [
-      | inl none ↦ (
-        get_or rest k b,
-        (k, inside, get_or_default rest k (get_or rest k b) b inside),
-        omega arith,
-        omega arith,
-      )
-      | inr w ↦ (let j = w.0 in
-          let here : j < length rest = omega (arith, w.1) in
-          let rises = up j k b w.1 inside in
-          (get_or rest j b, (j, here, get_or_default rest j (get_or rest j b) b here), omega arith, w.2))
+    let inside : k < length rest = omega (arith, length-raised 0 rest) in
+    let start = rw is at (raised_start 0 rest k b b inside) in
+    let stands : (i : ℕ) → i < length rest → Contains rest (get_or rest i b) =
+    λ i here. (i, here, get_or_default rest i (get_or rest i b) b here) in
+    elim (raised_back 0 rest k n b b inside (rw is high)) [
+      | inl none ↦ (get_or rest k b, stands k inside, omega arith, omega arith)
+      | inr w ↦ (let rises = up w.0 k b w.1 inside in
+          (get_or rest w.0 b, stands w.0 (omega (arith, w.1)), omega arith, w.2))
     ]
 
 pub raised_is : (rest : List Interval) → RisesByStart rest → IsRaised rest (raised 0 rest)
@@ -162,15 +146,11 @@ pub raised_more : (xs all : List Interval) (k top : ℕ) (d : Interval) → k < 
     → take (k + 1) (set xs k (record { start = (get_or xs k d).start; end = max (get_or xs k d).end top }))
     ++ raised (max (get_or xs k d).end top)
     (drop (k + 1) (set xs k (record { start = (get_or xs k d).start; end = max (get_or xs k d).end top }))) ≡ all
-raised_more xs all k top d h e =
-    let a : Interval = record { start = (get_or xs k d).start; end = max (get_or xs k d).end top } in
-    let whole = rw (raised_at top xs k d h) at e in
-    rw (take_more_set xs k a h, drop-set-lt (k + 1) xs k a (omega arith)) (simp append_assoc whole)
+raised_more xs all k top d h e = grind (arith, append_assoc, take_more_set, drop-set-lt, raised_at)
 
 pub raised_all : (xs all : List Interval) (k top : ℕ) → length xs ≤ k → take k xs ++ raised top (drop k xs) ≡ all
     → xs ≡ all
-raised_all xs all k top h e = let gone : drop k xs ≡ [] = grind (arith, common_steps) in let e' = rw gone at e in
-    grind (arith, common_steps)
+raised_all xs all k top h e = grind (arith, common_steps)
 
 -- what the intervals reach is what the ranges hold
 pub cover_is : (rs : List MarkedRange) (xs cover : List Interval) → AreIntervals rs xs → IsRaised xs cover
@@ -187,28 +167,18 @@ cover_is rs xs cover members h = record {
       → IsHeld rs n m
   held_of rs xs n m members up (a, member, low, high) =
       let w = (members a).0 member in
-      let start = ap (λ (s : Interval). s.start) w.4 in
-      let end = ap (λ (s : Interval). s.end) w.4 in
-      let full = w.3 in (
-        w.0,
-        w.1,
-        w.2,
-        elim (cases_lt a.start n) [
-          | inl less ↦ (n, omega arith, up, (omega arith, omega arith))
-          | inr more ↦ (a.start, more, low, (omega arith, omega arith))
-        ],
-      )
+      let full = w.3 in
+      let low' = rw w.4 at low in
+      let high' = rw w.4 at high in
+      (w.0, w.1, w.2, (max n w.1.start, omega arith, omega arith, (omega arith, omega arith)))
 
   of_held : (rs : List MarkedRange) (xs : List Interval) (n m : ℕ) → AreIntervals rs xs → IsHeld rs n m → Reached xs n m
   of_held rs xs n m members (i, r, there, (k, over, under, holds)) =
       let above = holds.0 in let below = holds.1 in
       (interval_of r, (members (interval_of r)).1 (i, r, there, omega arith, refl), omega arith, omega arith)
 
-tested : (a b : ℕ) → leb a b ≡ true → a ≤ b
-tested a b e = search rules
-
-untested : (a b : ℕ) → leb a b ≡ false → b < a
-untested a b e = search rules
+leb_false : (a b : ℕ) → leb a b ≡ false → b < a
+leb_false a b e = search rules
 
 pub leb_iff : (a b : ℕ) → IsTrue (leb a b) ↔ (a ≤ b)
 leb_iff a b = search rules
@@ -227,15 +197,12 @@ IsBegun cover m begun = IsPartitionPoint (λ (a : Interval). leb a.start m ≡ t
 pub reached_last : (cover : List Interval) (n m begun : ℕ) (d : Interval) → RisesByEnd cover → begun ≤ length cover
     → IsBegun cover m begun → Reached cover n m
     → (0 < begun) × (n ≤ (get_or cover (begun - 1) d).end)
-reached_last cover n m begun d up within begins (a, (k, below, is), low, high) =
-    let start : (get_or cover k a).start ≡ a.start = ap (λ (s : Interval). s.start) is in
-    let end : (get_or cover k a).end ≡ a.end = ap (λ (s : Interval). s.end) is in
-    elim (cases_lt k begun) [
-      | inl less ↦ (let rises = up k (begun - 1) a (omega arith) (omega arith) in
-          let same = ap (λ (s : Interval). s.end) (get_or_default cover (begun - 1) a d (omega arith)) in
-          (omega arith, omega arith))
-      | inr more ↦ (let far = untested (get_or cover k a).start m (begins.1 k a more below) in absurd (omega arith))
-    ]
+reached_last cover n m begun d up within begins (a, (k, below, is), low, high) = elim (cases_lt k begun) [
+  | inl less ↦ (let rises = rw is at (up k (begun - 1) a (omega arith) (omega arith)) in
+      let same = ap (λ (s : Interval). s.end) (get_or_default cover (begun - 1) a d (omega arith)) in
+      (omega arith, omega arith))
+  | inr more ↦ (let far = leb_false _ m (rw is at (begins.1 k a more below)) in absurd (omega arith))
+]
 
 pub last_reached : (cover : List Interval) (n m begun : ℕ) (d : Interval) → begun ≤ length cover
     → IsBegun cover m begun → 0 < begun
@@ -244,6 +211,6 @@ last_reached cover n m begun d within begins some w =
     let inside : begun - 1 < length cover = omega arith in (
       get_or cover (begun - 1) d,
       (begun - 1, inside, get_or_default cover (begun - 1) (get_or cover (begun - 1) d) d inside),
-      tested (get_or cover (begun - 1) d).start m (begins.0 (begun - 1) d (omega arith) (omega arith)),
+      leb-true (get_or cover (begun - 1) d).start m (begins.0 (begun - 1) d (omega arith) (omega arith)),
       w,
     )

@@ -4,7 +4,6 @@ pub mod Halves
 pub mod Hits
 pub mod Intervals
 pub mod Items
-pub mod Measured
 pub mod NameSets
 pub mod Named
 pub mod Packages

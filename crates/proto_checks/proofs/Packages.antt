@@ -1,19 +1,18 @@
 -- Package statements: each but the first is one too many.
-use Rattle.std.proofs.Common.{◌≡◌, ◌∙◌, sym, ap, refl, subst, ℕ, zero, suc, ◌+◌, ◌<◌, ◌≤◌, Bool, true, List, [], ◌∷◌, ◌++◌, length, get_or, take, false, arith, inl, inr, ◌⊎◌}
-use Rattle.std.specs.Prelude.{Option, None, ◌↔◌, flat_map}
-use Rattle.std.proofs.lemmas.Bool.{cases_lt, false≢true}
-use Rattle.std.proofs.lemmas.List.{append-nil, take_all, length_push}
+use Rattle.std.proofs.Common.{◌≡◌, refl, ◌<◌, Bool, true, List, [], ◌∷◌, ◌++◌, length, get_or, false, arith, inl, inr, ◌⊎◌}
+use Rattle.std.specs.Prelude.{Option, None, ◌↔◌}
+use Rattle.std.proofs.lemmas.Bool.{false≢true}
+use Rattle.std.proofs.lemmas.List.{length_push}
 use Rattle.proto_base.specs.declared.kind.Kind.TheVariants as kind
 use Rattle.proto_tree.specs.declared.file.Package.{Package}
-use Rattle.proto_tree.specs.declared.file.Statement.{Statement}
-use Rattle.proto_options.specs.Statements.{file_package}
 use Rattle.proto_checks.specs.Checks.{PackageTwice}
 use Rattle.proto_base.specs.Least.{IsLeast, spot}
 use Rattle.proto_base.specs.Lesser.{IsLesser}
 use Rattle.proto_base.specs.Sets.{Where}
 use Rattle.proto_base.specs.declared.spot.Spot.{Spot}
-use Rattle.proto_base.proofs.Among.{taken, later_short}
-use Rattle.proto_base.proofs.Sets.{least_or}
+use Rattle.proto_base.proofs.Among.{later_short}
+use Rattle.proto_base.proofs.Sets.{least_or, item_at, one_at}
+use Rattle.proto_checks.proofs.Halves.{stands_split, stands_left, stands_right}
 
 abbrev pub again : Package → Spot
 again p = spot p.keyword.start kind.PackageTwice
@@ -23,68 +22,18 @@ pub record Repeated (ps : List Package) (is_named : Bool) (first : Option Spot) 
   pub named : (is_named ≡ true) ↔ (0 < length ps)
   pub least : IsLeast (PackageTwice ps) first
 
-stands_left : {X : Type 0} (xs ys : List X) (i : ℕ) (a : X) → i < length xs → get_or xs i a ≡ a
-    → get_or (xs ++ ys) i a ≡ a
-stands_left [] ys i a within at = absurd (omega arith)
-stands_left (b ∷ rest) ys zero a within at = at
-stands_left (b ∷ rest) ys (suc i) a within at = stands_left rest ys i a (omega arith) at
-
-stands_back : {X : Type 0} (xs ys : List X) (i : ℕ) (a : X) → i < length xs → get_or (xs ++ ys) i a ≡ a
-    → get_or xs i a ≡ a
-stands_back [] ys i a within at = absurd (omega arith)
-stands_back (b ∷ rest) ys zero a within at = at
-stands_back (b ∷ rest) ys (suc i) a within at = stands_back rest ys i a (omega arith) at
-
-last_is : {X : Type 0} (xs : List X) (p b : X) → get_or (xs ++ p ∷ []) (length xs) b ≡ p
-last_is [] p b = refl
-last_is (c ∷ rest) p b = last_is rest p b
-
 old_pair : (ps : List Package) (p : Package) (x : Spot) → PackageTwice ps x → PackageTwice (ps ++ p ∷ []) x
-old_pair ps p x (i, j, a, b, before, s, t, u, e) = (
-  i,
-  j,
-  a,
-  b,
-  before,
-  (omega (arith, s.0, length_push ps p), stands_left ps (p ∷ []) i a s.0 s.1),
-  (omega (arith, t.0, length_push ps p), stands_left ps (p ∷ []) j b t.0 t.1),
-  u,
-  e,
-)
+old_pair ps p x w = grind (arith, length_push, stands_left)
 
 new_pair : (ps : List Package) (p : Package) (x : Spot) → 0 < length ps → x ≡ again p → PackageTwice (ps ++ p ∷ []) x
-new_pair [] p x some e = absurd (omega arith)
-new_pair (q ∷ qs) p x some e = (
-  0,
-  length (q ∷ qs),
-  q,
-  p,
-  some,
-  (omega (arith, length_push (q ∷ qs) p), refl),
-  (omega (arith, length_push (q ∷ qs) p), last_is (q ∷ qs) p p),
-  tt,
-  e,
-)
+new_pair ps p x some e =
+    let last = stands_right ps (p ∷ []) 0 (length ps) p (omega arith) (omega arith, refl) in
+    let first = stands_left ps (p ∷ []) 0 (get_or ps 0 p) (item_at ps 0 p some) in
+    (0, length ps, get_or ps 0 p, p, some, first, last, tt, e)
 
 split_pair : (ps : List Package) (p : Package) (x : Spot) → PackageTwice (ps ++ p ∷ []) x
     → PackageTwice ps x ⊎ ((0 < length ps) × (x ≡ again p))
-split_pair ps p x (i, j, a, b, before, s, t, u, e) = elim (cases_lt j (length ps)) [
-  | inl old ↦ inl (
-    i,
-    j,
-    a,
-    b,
-    before,
-    (omega arith, stands_back ps (p ∷ []) i a (omega arith) s.1),
-    (old, stands_back ps (p ∷ []) j b old t.1),
-    u,
-    e,
-  )
-  | inr last ↦ (
-      let here : j ≡ length ps = omega (arith, t.0, length_push ps p) in
-      let same : b ≡ p = sym t.1 ∙ ap (λ k. get_or (ps ++ p ∷ []) k b) here ∙ last_is ps p b in
-      inr (omega arith, e ∙ ap again same))
-]
+split_pair ps p x w = grind (arith, stands_split, one_at)
 
 pub repeated_more : (ps : List Package) (p : Package) (is_named : Bool) (a b r : Option Spot) → Repeated ps is_named a
     → IsLeast (Where (is_named ≡ true) (again p)) b → IsLesser a b r → Repeated (ps ++ p ∷ []) true r
@@ -98,33 +47,4 @@ repeated_more ps p is_named a b r h k w = record {
 }
 
 pub repeated_none : Repeated [] false None
-repeated_none = record {
-  named = (λ e. absurd (false≢true e), λ some. absurd (omega arith));
-  least = later_short [] (λ p q. Unit {0}) again (omega arith);
-}
-
--- a loop over statements
-pub repeated_next : (ss : List Statement) (i : ℕ) (s : Statement) (p : Package) (is_named : Bool) (a b r : Option Spot)
-    → i < length ss → s ≡ get_or ss i s
-    → file_package s ≡ p ∷ [] → Repeated (flat_map file_package (take i ss)) is_named a
-    → IsLeast (Where (is_named ≡ true) (again p)) b → IsLesser a b r
-    → Repeated (flat_map file_package (take (i + 1) ss)) true r
-repeated_next ss i s p is_named a b r within at one h k w =
-    subst (λ ps. Repeated ps true r)
-    (sym (taken file_package ss i s within at ∙ ap (λ z. flat_map file_package (take i ss) ++ z) one))
-    (repeated_more (flat_map file_package (take i ss)) p is_named a b r h k w)
-
-pub repeated_skip : (ss : List Statement) (i : ℕ) (s : Statement) (is_named : Bool) (a : Option Spot) → i < length ss
-    → s ≡ get_or ss i s → file_package s ≡ []
-    → Repeated (flat_map file_package (take i ss)) is_named a
-    → Repeated (flat_map file_package (take (i + 1) ss)) is_named a
-repeated_skip ss i s is_named a within at none h =
-    subst (λ ps. Repeated ps is_named a)
-    (sym (taken file_package ss i s within at ∙ ap (λ z. flat_map file_package (take i ss) ++ z) none
-    ∙ append-nil (flat_map file_package (take i ss)))) h
-
-pub repeated_all : (ss : List Statement) (i : ℕ) (is_named : Bool) (a : Option Spot) → length ss ≤ i
-    → Repeated (flat_map file_package (take i ss)) is_named a
-    → IsLeast (PackageTwice (flat_map file_package ss)) a
-repeated_all ss i is_named a end h =
-    subst (λ ys. IsLeast (PackageTwice (flat_map file_package ys)) a) (take_all i ss end) h.least
+repeated_none = grind (arith, false≢true, later_short)

@@ -1,5 +1,5 @@
 -- Settings by the rules of their element.
-use Rattle.std.proofs.Common.{◌≡◌, ◌∙◌, sym, ap, refl, subst, inl, inr, arith, ℕ, zero, suc, ◌<◌}
+use Rattle.std.proofs.Common.{◌≡◌, ◌∙◌, sym, ap, refl, inl, arith, ℕ, zero, suc, ◌<◌}
 use Rattle.std.proofs.Common.{Bool, true, false, ◌&&◌, cond, List, [], ◌∷◌, map, length, get_or}
 use Rattle.std.proofs.lemmas.Bool.{false≢true, both_ways, and_parts, cond-true, cond-false, not-true}
 use Rattle.std.specs.Prelude.{not, Option, Some, None, Contains, bytes_eq}
@@ -9,10 +9,8 @@ use Rattle.std.proofs.lemmas.List.Folds.{list_any-from_Any}
 use Rattle.std.proofs.lemmas.Slice.Eq.{bytes_eq-Decides}
 use Rattle.proto_base.specs.declared.kind.Kind.TheVariants as kind
 use Rattle.proto_tree.specs.declared.option.Setting.{Setting}
-use Rattle.proto_tree.specs.Text.{dotted, simple_name}
 use Rattle.proto_desc.specs.declared.options.OptionValue.{OptionValue}
 use Rattle.proto_desc.specs.declared.rules.Element.{Element}
-use Rattle.proto_desc.specs.declared.rules.Element.TheVariants as element
 use Rattle.proto_options.specs.Options.{value_of}
 use Rattle.proto_desc.specs.Rules.{Rule, rules_of}
 use Rattle.proto_base.specs.Least.{IsLeast, spot}
@@ -32,29 +30,16 @@ differ [] = true
 differ (r ∷ rs) = not (list_any (λ (q : Rule). bytes_eq r.word q.word) rs) && differ rs
 
 words_differ : (e : Element) → differ (rules_of e) ≡ true
-words_differ element.File = refl
-words_differ element.Message = refl
-words_differ element.Field = refl
-words_differ element.Oneof = refl
-words_differ element.Enum = refl
-words_differ element.EnumValue = refl
-words_differ element.Service = refl
-words_differ element.Method = refl
+words_differ e = grind (arith)
 
 one_word : (o : Option (List ℕ)) (v w : List ℕ) → unwrap_or (option_map (λ n. bytes_eq n v) o) false ≡ true
     → unwrap_or (option_map (λ n. bytes_eq n w) o) false ≡ true → bytes_eq v w ≡ true
-one_word None v w h k = absurd (false≢true h)
-one_word (Some n) v w h k =
-    (bytes_eq-Decides v w).1 (sym ((bytes_eq-Decides n v).0 h) ∙ (bytes_eq-Decides n w).0 k)
+one_word o v w h k = grind (arith, false≢true, bytes_eq-Decides)
 
 passed_over : (s : Setting) (r : Rule) (rs : List Rule) (q : Rule) (b : Bool) → is_known_by s r ≡ b
     → list_any (λ (p : Rule). bytes_eq r.word p.word) rs ≡ false → Contains rs q → is_known_by s q ≡ true
     → find (is_known_by s) rs ≡ Some q → cond b (Some r) (find (is_known_by s) rs) ≡ Some q
-passed_over s r rs q true h none held named found =
-    let same = one_word (simple_name s.name.rest s.name.first) r.word q.word h named in
-    absurd (both_ways (list_any (λ (p : Rule). bytes_eq r.word p.word) rs) none
-    (list_any-from_Any (λ (p : Rule). bytes_eq r.word p.word) rs (held.0, q, held.1, held.2, same)))
-passed_over s r rs q false h none held named found = found
+passed_over s r rs q b h none held named found = grind (arith, both_ways, list_any-from_Any, one_word)
 
 -- a rule of the setting's name is the one that is found
 found_only : (s : Setting) (rs : List Rule) (i : ℕ) (q : Rule) → differ rs ≡ true → i < length rs → get_or rs i q ≡ q
@@ -69,8 +54,7 @@ found_only s (r ∷ rs) (suc i) q apart below at named =
     (found_only s rs i q parts.1 inside at named)
 
 none_by : {X : Type 0} (b : Bool) (x : X) (o : Option X) → cond b (Some x) o ≡ None → (b ≡ false) × (o ≡ None)
-none_by true x o e = absurd (cc)
-none_by false x o e = (refl, e)
+none_by b x o e = grind (arith)
 
 none_found : {X : Type 0} (p : X → Bool) (xs : List X) (i : ℕ) (a : X) → find p xs ≡ None → i < length xs
     → get_or xs i a ≡ a → p a ≡ false
@@ -108,34 +92,25 @@ taken : (s : Setting) (r : Rule) (v : OptionValue) → value_of r.kind s.value �
 taken s r v e = rw e refl
 
 fault_of : (e : Element) (s : Setting) (x : Spot) → SettingBreaks e s x → setting_fault e s ≡ Some x
-fault_of e s x (inl (u, at)) = told e s None (all_none (is_known_by s) (rules_of e) u) ∙ ap Some (sym at)
-fault_of e s x (inr (m, at)) =
-    told e s (Some m.0) (found_only s (rules_of e) m.1.0 m.0 (words_differ e) m.1.1 m.1.2 m.2)
-    ∙ mistaken s m.0 m.3 ∙ ap Some (sym at)
-
-same_spot : (a b : Spot) → Some a ≡ Some b → a ≡ b
-same_spot a b e = cc
+fault_of e s x w = grind (arith, all_none, told, words_differ, found_only, mistaken)
 
 ruled_by : (e : Element) (s : Setting) (x : Spot) (r : Rule) → Contains (rules_of e) r → is_known_by s r ≡ true
     → (v : Option OptionValue) → value_of r.kind s.value ≡ v → fault_under s (Some r) ≡ Some x → SettingBreaks e s x
-ruled_by e s x r held named None none f = inr ((r, held, named, none), same_spot x _ (sym f ∙ mistaken s r none))
-ruled_by e s x r held named (Some v) some f = absurd (let no : Some x ≡ None = sym f ∙ taken s r v some in cc)
+ruled_by e s x r held named o made f = grind (arith, mistaken, taken)
 
 breaks_by : (e : Element) (s : Setting) (x : Spot) (o : Option Rule) → rule_named e s ≡ o → setting_fault e s ≡ Some x
     → SettingBreaks e s x
 breaks_by e s x None h f = inl (
   λ r held. none_found (is_known_by s) (rules_of e) held.0 r h held.1 held.2,
-  same_spot x _ (sym f ∙ told e s None h),
+  let found : Some x ≡ fault_under s None = sym f ∙ told e s None h in cc,
 )
-breaks_by e s x (Some r) h f =
-    let w = some_found (is_known_by s) (rules_of e) r h in
+breaks_by e s x (Some r) h f = let w = some_found (is_known_by s) (rules_of e) r h in
     ruled_by e s x r w.0 w.1 (value_of r.kind s.value) refl (sym (told e s (Some r) h) ∙ f)
 
 pub setting_least : (e : Element) (ss : List Setting) (r : Option Spot) → IsLeast (Each (map (judged e) ss) IsFaultOf) r
     → IsLeast (Each ss (SettingBreaks e)) r
-setting_least e ss r h =
-    each_on (judged e) ss IsFaultOf (SettingBreaks e) r (λ s x f. breaks_by e s x (rule_named e s) refl f)
-    (fault_of e) h
+setting_least e ss r h = each_on (judged e) ss IsFaultOf (SettingBreaks e) r
+    (λ s x f. breaks_by e s x (rule_named e s) refl f) (fault_of e) h
 
 pub twice_least : (e : Element) (ss : List Setting) (r : Option Spot) → IsLeast (JudgedTwice (map (judged e) ss)) r
     → IsLeast (OptionTwice ss) r
@@ -146,13 +121,9 @@ pub judged_least : (js : List Judged) (a b r : Option Spot) → IsLeast (Each js
     → IsLesser a b r
     → (e : Element) (ss : List Setting) → js ≡ map (judged e) ss → IsLeast (SettingsBreak e ss) r
 judged_least js a b r h k w e ss made =
-    least_union
-    (setting_least e ss a (subst (λ ys. IsLeast (Each ys IsFaultOf) a) made h))
-    (twice_least e ss b (subst (λ ys. IsLeast (JudgedTwice ys) b) made k)) w
+    least_union (setting_least e ss a (rw made at h)) (twice_least e ss b (rw made at k)) w
 
 pub one_least : (e : Element) (s : Setting) → IsLeast (SettingsBreak e (s ∷ [])) (setting_fault e s)
 one_least e s = least_union
-    (setting_least e (s ∷ []) (setting_fault e s)
-    (least_single IsFaultOf (judged e s) (setting_fault e s) (least_known (setting_fault e s))))
-    (later_short (s ∷ []) (λ (s t : Setting). dotted s.name ≡ dotted t.name)
-    (λ t. spot (name_place t) kind.OptionTwice) (omega arith)) (lesser_none (setting_fault e s))
+    (setting_least e (s ∷ []) _ (least_single IsFaultOf (judged e s) _ (least_known (setting_fault e s))))
+    (later_short (s ∷ []) _ (λ t. spot (name_place t) kind.OptionTwice) (omega arith)) (lesser_none (setting_fault e s))

@@ -1,5 +1,6 @@
 -- A test of elements, and of what is made of them.
-use Rattle.std.proofs.Common.{◌≡◌, ap, refl, Bool, true, false, ◌||◌, cond, List, [], ◌∷◌, map}
+use Rattle.std.proofs.Common.{arith}
+use Rattle.std.proofs.Common.{◌≡◌, ap, refl, Bool, ◌||◌, cond, List, [], ◌∷◌, map}
 use Rattle.std.specs.Prelude.{Option, Some}
 use Rattle.std.specs.List.{find, list_any}
 use Rattle.std.specs.Option.{option_map}
@@ -11,8 +12,7 @@ mapped test view (x ∷ xs) = ap (λ b. test (view x) || b) (mapped test view xs
 
 first_or : {A B : Type 0} (view : A → B) (x : A) (rest : Option A) (made : Option B) (b : Bool)
     → option_map view rest ≡ made → option_map view (cond b (Some x) rest) ≡ cond b (Some (view x)) made
-first_or view x rest made true e = refl
-first_or view x rest made false e = e
+first_or view x rest made b e = grind (arith)
 
 pub found : {A B : Type 0} (test : B → Bool) (view : A → B) (xs : List A)
     → option_map view (find (λ x. test (view x)) xs) ≡ find test (map view xs)

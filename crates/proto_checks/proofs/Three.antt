@@ -1,60 +1,32 @@
 -- Elements of three kinds, each with its rule.
-use Rattle.std.proofs.Common.{List, inl, inr}
-use Rattle.std.specs.Prelude.{Option, flat_map}
+use Rattle.std.proofs.Common.{List, inl, inr, arith}
+use Rattle.std.specs.Prelude.{Option, None, flat_map}
 use Rattle.proto_base.specs.Least.{IsLeast}
+use Rattle.proto_base.specs.Lesser.{IsLesser}
 use Rattle.proto_base.specs.Sets.{◌∪◌, Each}
 use Rattle.proto_base.specs.declared.spot.Spot.{Spot}
 use Rattle.proto_base.proofs.Among.{each_flat, flat_each}
-use Rattle.proto_base.proofs.Sets.{least_same}
+use Rattle.proto_base.proofs.Sets.{least_same, least_known}
 
--- a statement of one kind breaks no rule of another
-pub first_of_three : (A B C : Spot → Type 0) (r : Option Spot) → ((x : Spot) → B x → ⊥)
-    → ((x : Spot) → C x → ⊥) → IsLeast A r
-    → IsLeast (A ∪ B ∪ C) r
-first_of_three A B C r none never h = least_same A (A ∪ B ∪ C) r
-    (λ x v. elim v [ inl s ↦ elim s [ inl a ↦ a | inr b ↦ absurd (none x b) ] | inr c ↦ absurd (never x c) ])
-    (λ x a. inl (inl a)) h
-
-pub last_of_three : (A B C : Spot → Type 0) (r : Option Spot) → ((x : Spot) → A x → ⊥)
-    → ((x : Spot) → B x → ⊥) → IsLeast C r
-    → IsLeast (A ∪ B ∪ C) r
-last_of_three A B C r none never h = least_same C (A ∪ B ∪ C) r
-    (λ x v. elim v [ inl s ↦ elim s [ inl a ↦ absurd (none x a) | inr b ↦ absurd (never x b) ] | inr c ↦ c ])
-    (λ x c. inr c) h
-
-pub two_of_three : (A B C : Spot → Type 0) (r : Option Spot) → ((x : Spot) → C x → ⊥) → IsLeast (A ∪ B) r
-    → IsLeast (A ∪ B ∪ C) r
-two_of_three A B C r never h = least_same (A ∪ B) (A ∪ B ∪ C) r
-    (λ x v. elim v [ inl s ↦ s | inr c ↦ absurd (never x c) ]) (λ x s. inl s) h
-
-pub second_of_three : (A B C : Spot → Type 0) (r : Option Spot) → ((x : Spot) → A x → ⊥)
-    → ((x : Spot) → C x → ⊥) → IsLeast B r
-    → IsLeast (A ∪ B ∪ C) r
-second_of_three A B C r none never h = least_same B (A ∪ B ∪ C) r
-    (λ x v. elim v [ inl s ↦ elim s [ inl a ↦ absurd (none x a) | inr b ↦ b ] | inr c ↦ absurd (never x c) ])
-    (λ x b. inl (inr b)) h
+pub none_lesser : (p : Option Spot) → IsLesser None p p
+none_lesser p = record { least = least_same _ _ p (λ x w. grind arith) (λ x e. inr e) (least_known p) }
 
 -- what statements break, by the kinds of their elements
-split_three : {X A B C : Type 0} (S : A → Spot → Type 0) (T : B → Spot → Type 0) (U : C → Spot → Type 0)
-    (f : X → List A) (g : X → List B) (h : X → List C)
-    (xs : List X) (x : Spot) → Each xs (λ a. Each (f a) S ∪ Each (g a) T ∪ Each (h a) U) x
-    → (Each (flat_map f xs) S ∪ Each (flat_map g xs) T ∪ Each (flat_map h xs) U) x
-split_three S T U f g h xs x (i, a, stands, inl (inl s)) = inl (inl (each_flat S f xs x (i, a, stands, s)))
-split_three S T U f g h xs x (i, a, stands, inl (inr s)) = inl (inr (each_flat T g xs x (i, a, stands, s)))
-split_three S T U f g h xs x (i, a, stands, inr s) = inr (each_flat U h xs x (i, a, stands, s))
+module _ {X A B C : Type 0} (S : A → Spot → Type 0) (T : B → Spot → Type 0) (U : C → Spot → Type 0) (f : X → List A)
+    (g : X → List B) (h : X → List C) (xs : List X) where
+  abbrev InParts : Spot → Type 0
+  InParts = Each xs (λ a. Each (f a) S ∪ Each (g a) T ∪ Each (h a) U)
 
-join_three : {X A B C : Type 0} (S : A → Spot → Type 0) (T : B → Spot → Type 0) (U : C → Spot → Type 0) (f : X → List A)
-    (g : X → List B) (h : X → List C)
-    (xs : List X) (x : Spot) → (Each (flat_map f xs) S ∪ Each (flat_map g xs) T ∪ Each (flat_map h xs) U) x
-    → Each xs (λ a. Each (f a) S ∪ Each (g a) T ∪ Each (h a) U) x
-join_three S T U f g h xs x (inl (inl s)) = let v = flat_each S f xs x s in (v.0, v.1, v.2, inl (inl v.3))
-join_three S T U f g h xs x (inl (inr s)) = let v = flat_each T g xs x s in (v.0, v.1, v.2, inl (inr v.3))
-join_three S T U f g h xs x (inr s) = let v = flat_each U h xs x s in (v.0, v.1, v.2, inr v.3)
+  abbrev Whole : Spot → Type 0
+  Whole = Each (flat_map f xs) S ∪ Each (flat_map g xs) T ∪ Each (flat_map h xs) U
 
-pub each_three : {X A B C : Type 0} (S : A → Spot → Type 0) (T : B → Spot → Type 0) (U : C → Spot → Type 0)
-    (f : X → List A) (g : X → List B) (h : X → List C)
-    (xs : List X) (r : Option Spot) → IsLeast (Each xs (λ a. Each (f a) S ∪ Each (g a) T ∪ Each (h a) U)) r
-    → IsLeast (Each (flat_map f xs) S ∪ Each (flat_map g xs) T ∪ Each (flat_map h xs) U) r
-each_three S T U f g h xs r m = least_same (Each xs (λ a. Each (f a) S ∪ Each (g a) T ∪ Each (h a) U))
-    (Each (flat_map f xs) S ∪ Each (flat_map g xs) T ∪ Each (flat_map h xs) U) r
-    (join_three S T U f g h xs) (split_three S T U f g h xs) m
+  split_three : (x : Spot) → InParts x → Whole x
+  split_three x w = grind (arith, each_flat)
+
+  join_three : (x : Spot) → Whole x → InParts x
+  join_three x (inl (inl s)) = let v = flat_each S f xs x s in (v.0, v.1, v.2, inl (inl v.3))
+  join_three x (inl (inr s)) = let v = flat_each T g xs x s in (v.0, v.1, v.2, inl (inr v.3))
+  join_three x (inr s) = let v = flat_each U h xs x s in (v.0, v.1, v.2, inr v.3)
+
+  pub each_three : (r : Option Spot) → IsLeast InParts r → IsLeast Whole r
+  each_three r m = least_same InParts Whole r join_three split_three m

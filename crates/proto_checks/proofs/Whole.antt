@@ -1,51 +1,31 @@
 -- The rules of a file as unions of those that functions look at.
-use Rattle.std.proofs.Common.{[], ◌∷◌, ◌++◌}
-use Rattle.std.specs.Prelude.{Option, flat_map}
-use Rattle.proto_base.specs.declared.limits.Limits.{Limits}
+use Rattle.std.specs.Prelude.{Option, None}
 use Rattle.proto_tree.specs.declared.enumeration.Enum.{Enum}
 use Rattle.proto_tree.specs.declared.file.Statement.TheVariants as statement
 use Rattle.proto_tree.specs.declared.message.Message.{Message}
 use Rattle.proto_tree.specs.declared.service.Service.{Service}
-use Rattle.proto_desc.specs.DeclaredNames.{declared_by_message, declared_by_enum, declared_by_service, declared_by, file_scope}
-use Rattle.proto_desc.specs.declared.file.FileDesc.{FileDesc}
-use Rattle.proto_checks.specs.Checks.{IsTooLong}
 use Rattle.proto_checks.specs.Elements.{MessageBreaks, EnumBreaks, ServiceBreaks}
 use Rattle.proto_checks.specs.Parts.{StatementBreaks}
 use Rattle.proto_base.specs.Least.{IsLeast}
-use Rattle.proto_base.specs.Lesser.{IsLesser}
-use Rattle.proto_base.specs.Sets.{Each}
 use Rattle.proto_base.specs.declared.spot.Spot.{Spot}
-use Rattle.proto_base.proofs.Among.{among_of, least_single, least_append}
-use Rattle.proto_checks.proofs.Three.{first_of_three, second_of_three, last_of_three}
+use Rattle.proto_base.proofs.Among.{least_nil, least_single}
+use Rattle.proto_base.proofs.Sets.{least_union, lesser_none}
+use Rattle.proto_checks.proofs.Three.{none_lesser}
 
 pub statement_message : (m : Message) (r : Option Spot) → IsLeast (MessageBreaks m) r
     → IsLeast (StatementBreaks (statement.Message m)) r
-statement_message m r h = first_of_three (Each (m ∷ []) MessageBreaks) (Each [] EnumBreaks) (Each [] ServiceBreaks) r
-    (among_of EnumBreaks [])
-    (among_of ServiceBreaks []) (least_single MessageBreaks m r h)
+statement_message m r h =
+    least_union (least_union (least_single MessageBreaks m r h) (least_nil EnumBreaks) (lesser_none r)) (least_nil
+    ServiceBreaks) (lesser_none r)
 
 pub statement_enum : (e : Enum) (r : Option Spot) → IsLeast (EnumBreaks e) r
     → IsLeast (StatementBreaks (statement.Enum e)) r
-statement_enum e r h = second_of_three (Each [] MessageBreaks) (Each (e ∷ []) EnumBreaks) (Each [] ServiceBreaks) r
-    (among_of MessageBreaks [])
-    (among_of ServiceBreaks []) (least_single EnumBreaks e r h)
+statement_enum e r h =
+    least_union (least_union (least_nil MessageBreaks) (least_single EnumBreaks e r h) (none_lesser r)) (least_nil
+    ServiceBreaks) (lesser_none r)
 
 pub statement_service : (s : Service) (r : Option Spot) → IsLeast (ServiceBreaks s) r
     → IsLeast (StatementBreaks (statement.Service s)) r
-statement_service s r h = last_of_three (Each [] MessageBreaks) (Each [] EnumBreaks) (Each (s ∷ []) ServiceBreaks) r
-    (among_of MessageBreaks [])
-    (among_of EnumBreaks []) (least_single ServiceBreaks s r h)
-
-pub declared_least : (limits : Limits) (desc : FileDesc) (a b p ab r : Option Spot) →
-    IsLeast (Each (flat_map (λ m. declared_by_message m (file_scope desc.«package»)) desc.messages) (IsTooLong limits))
-    a →
-    IsLeast (Each (flat_map (declared_by_enum (file_scope desc.«package»)) desc.enums) (IsTooLong limits)) b →
-    IsLeast (Each (flat_map (declared_by_service (file_scope desc.«package»)) desc.services) (IsTooLong limits)) p →
-    IsLesser a b ab → IsLesser ab p r → IsLeast (Each (declared_by desc) (IsTooLong limits)) r
-declared_least limits desc a b p ab r h k m u w =
-    let scope = file_scope desc.«package» in
-    let messages = flat_map (λ m. declared_by_message m scope) desc.messages in
-    let enums = flat_map (declared_by_enum scope) desc.enums in
-    let services = flat_map (declared_by_service scope) desc.services in
-    least_append (IsTooLong limits) (messages ++ enums) services ab p r
-    (least_append (IsTooLong limits) messages enums a b ab h k u) m w
+statement_service s r h =
+    least_union (least_union (least_nil MessageBreaks) (least_nil EnumBreaks) (none_lesser None)) (least_single
+    ServiceBreaks s r h) (none_lesser r)

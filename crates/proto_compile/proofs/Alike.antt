@@ -1,8 +1,8 @@
 -- What sources are compiled to, asked in any way.
-use Rattle.std.proofs.Common.{◌≡◌, ◌∙◌, sym, ℕ, ◌+◌, ◌<◌, List, [], ◌∷◌, length, get_or, map, ap, refl, arith, Bool, true, false, filter, cond}
+use Rattle.std.proofs.Common.{◌≡◌, ◌∙◌, sym, ℕ, ◌+◌, ◌<◌, List, [], ◌∷◌, length, get_or, map, ap, refl, arith, Bool, true, filter, cond}
 use Rattle.std.specs.Set.{is_member}
 use Rattle.std.specs.Prelude.{◌↔◌, Contains, IsPermutation, IsSorted, ◌==◌}
-use Rattle.std.specs.Cmp.{nat_eq_equiv, both_ways}
+use Rattle.std.specs.Cmp.{nat_eq_equiv}
 use Rattle.std.specs.Cmp.Lexicographic.{slice_cmp}
 use Rattle.std.specs.List.{sum_by}
 use Rattle.std.specs.Ordering.{nat_cmp}
@@ -19,8 +19,7 @@ use Rattle.proto_links.proofs.Whole.{whole_of}
 use Rattle.proto_names.specs.Index.{Index, Indexes, is_service_kind, name_of, services_of}
 use Rattle.proto_names.specs.Occurrences.{Occurrence, occurrences}
 use Rattle.proto_compile.specs.Alike.{AreAlike}
-use Rattle.proto_compile.specs.Compilation.{Compilation, IsCompiled, file_name}
-use Rattle.proto_compile.specs.Sources.{name_of as source_name}
+use Rattle.proto_compile.specs.Compilation.{Compilation, IsCompiled}
 use Rattle.proto_compile.specs.declared.source.Source.{Source}
 use Rattle.proto_compile.proofs.OneCompilation.{one_written}
 use Rattle.proto_compile.proofs.OneOrder.{IsNoLater, one_sorted}
@@ -38,9 +37,7 @@ counted_step : (f : List ℕ → ℕ) (o : Occurrence) (os : List Occurrence) (b
     → sum_by f (services_of os) ≡ sum_by (counted f) os
     → sum_by f (map name_of (cond b (o ∷ filter (λ p. is_service_kind p.kind) os)
     (filter (λ p. is_service_kind p.kind) os))) ≡ cond b (f o.name) 0 + sum_by (counted f) os
-counted_step f o os true rest = sum_by-cons f o.name (services_of os) ∙ ap (λ n. f o.name + n) rest
-counted_step f o os false rest = let more : sum_by (counted f) os ≡ 0 + sum_by (counted f) os = omega arith in rest
-    ∙ more
+counted_step f o os b rest = grind (arith, sum_by-cons)
 
 counted_services : (f : List ℕ → ℕ) (os : List Occurrence) → sum_by f (services_of os) ≡ sum_by (counted f) os
 counted_services f [] = refl
@@ -52,9 +49,7 @@ names_rise names up k d h = not_greater (get_or names k d) (get_or names (k + 1)
 
 all_services : (f : List ℕ → ℕ) (index : Index) → IsPermutation (services_of index.occurrences) index.services
     → sum_by (counted f) index.occurrences ≡ sum_by f index.services
-all_services f index all =
-    sym (counted_services f index.occurrences) ∙ sym (sum_by-IsPermutation f
-    (services_of index.occurrences) index.services all)
+all_services f index all = grind (arith, sum_by-IsPermutation, counted_services)
 
 one_services : (descs : List FileDesc) (limits : Limits) (index other : Index) → Indexes descs limits index
     → Indexes descs limits other → index.services ≡ other.services
@@ -72,9 +67,7 @@ has_is g xs = (λ e. Contains-from_any (λ a b h. eqb-true a b h) g xs e, λ w. 
 
 has_alike : (g : ℕ) (xs ys : List ℕ) → (Contains xs g → Contains ys g) → (Contains ys g → Contains xs g)
     → is_member ◌==◌ xs g ≡ is_member ◌==◌ ys g
-has_alike g xs ys to back = both_ways (is_member ◌==◌ xs g) (is_member ◌==◌ ys g)
-    (λ h. (has_is g ys).1 (to ((has_is g xs).0 h)))
-    (λ h. (has_is g xs).1 (back ((has_is g ys).0 h)))
+has_alike g xs ys to back = grind (arith, has_is)
 
 one_reach : (descs : List FileDesc) (links others : Linked) → AreLinked descs links → AreLinked descs others
     → links.set_order ≡ others.set_order → (a : ℕ) → a < length descs → reach_of links a ≡ reach_of others a
@@ -92,22 +85,17 @@ one_reach descs links others first second order a below =
 -- as many files as descriptors
 pub described_count : (limits : Limits) (sources : List Source) (c : Compilation) (w : IsCompiled limits sources c)
     → length c.files ≡ length w.written.resolved.descs
-described_count limits sources c w =
-    let written = w.written in
-    let long = same_length limits written.sorted written.resolved.descs written.resolved.analysed.described.each in
-    omega (arith, as_many file_name source_name c.files written.sorted written.names, long)
+described_count limits sources c w = grind (arith, as_many, same_length)
 
 pub alike : (limits : Limits) (sources : List Source) (c d : Compilation) → IsCompiled limits sources c
     → IsCompiled limits sources d → AreAlike c d
 alike limits sources c d first second =
     let one = one_written limits sources c d first.written second.written in
     let mine = first.written.resolved in
-    let theirs = second.written.resolved in
+    let theirs = second.written.resolved.analysed in
     let descs = mine.descs in
-    let same = one_description limits sources first.written.sorted second.written.sorted descs theirs.descs
-    mine.analysed.described theirs.analysed.described in
-    let moved = analysed_moved limits sources first.written.sorted second.written.sorted descs theirs.descs d.links
-    d.index same theirs.analysed in
+    let same = one_description limits sources _ _ descs _ mine.analysed.described theirs.described in
+    let moved = analysed_moved limits sources _ _ _ _ d.links d.index same theirs in
     let linked = mine.analysed.linked in
     let indexed = mine.analysed.indexed in
     let count = described_count limits sources c first in

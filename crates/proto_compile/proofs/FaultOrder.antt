@@ -1,5 +1,5 @@
 -- The order of faults.
-use Rattle.std.proofs.Common.{◌≡◌, ◌≢◌, sym, ℕ, ◌<◌, ◌≤◌, List, [], ◌∷◌, ap, refl, subst, arith, inl, inr, Ordering, Less, Equal, Greater}
+use Rattle.std.proofs.Common.{◌≡◌, ◌≢◌, sym, ℕ, ◌<◌, ◌≤◌, List, [], ap, refl, arith, Ordering, Less, Equal, Greater}
 use Rattle.std.specs.Cmp.{IsTotalOrder, nat_cmp_is}
 use Rattle.std.specs.Cmp.Lexicographic.{slice_cmp}
 use Rattle.std.specs.Ordering.{nat_cmp, ordering_reverse, ordering_then}
@@ -19,22 +19,16 @@ pub less_greater : (o : Ordering) → o ≡ Less → o ≢ Greater
 less_greater o less more = cc
 
 then_not : (a b : Ordering) → a ≢ Greater → b ≢ Greater → ordering_then a b ≢ Greater
-then_not Less b h k = h
-then_not Equal b h k = k
-then_not Greater b h k = h
+then_not a b h k = grind (arith)
 
 then_less : (a b : Ordering) → a ≡ Less → ordering_then a b ≢ Greater
 then_less a b e = less_greater (ordering_then a b) (ap (λ o. ordering_then o b) e)
 
 equal_parts : (a b : Ordering) → ordering_then a b ≡ Equal → (a ≡ Equal) × (b ≡ Equal)
-equal_parts Less b e = absurd (cc)
-equal_parts Equal b e = (refl, e)
-equal_parts Greater b e = absurd (cc)
+equal_parts a b e = grind (arith)
 
 both_not : (o p : Ordering) → p ≡ ordering_reverse o → o ≢ Greater → p ≢ Greater → o ≡ Equal
-both_not Less p e h k = absurd (k e)
-both_not Equal p e h k = refl
-both_not Greater p e h k = absurd (h refl)
+both_not o p e h k = grind (arith)
 
 at_most : (m n : ℕ) → m ≤ n → nat_cmp m n ≢ Greater
 at_most m n h more = let over : n < m = ranked m n Greater (sym more) in omega (arith, h, over)
@@ -49,8 +43,7 @@ pub same_name : (file : List ℕ) → slice_cmp nat_cmp file file ≢ Greater
 same_name file more = (let e = tied_itself nat_list_cmp_total file in cc)
 
 pub no_name_first : (name : List ℕ) → slice_cmp nat_cmp [] name ≢ Greater
-no_name_first [] = same_name []
-no_name_first (c ∷ cs) = less_greater (slice_cmp nat_cmp [] (c ∷ cs)) refl
+no_name_first name = grind (arith, same_name, less_greater)
 
 -- ---- which faults come no later
 
@@ -59,23 +52,18 @@ later_pass x y less = then_less (nat_cmp x.pass y.pass) _ (below x.pass y.pass l
 
 pub later_name : (pass : ℕ) (f g : List ℕ) (s t : ℕ) (p q : Place) (k l : Kind) → slice_cmp nat_cmp f g ≡ Less
     → IsNoLater (fault pass f s p k) (fault pass g t q l)
-later_name pass f g s t p q k l less =
-    then_not (nat_cmp pass pass) _ (itself pass) (then_less (slice_cmp nat_cmp f g) _ less)
+later_name pass f g s t p q k l less = grind (arith, then_not, then_less, itself)
 
 spots : (p q : Place) (k l : Kind) → AtMost (spot p k) (spot q l)
     → ordering_then (nat_cmp p.offset q.offset) (nat_cmp (number_of k) (number_of l)) ≢ Greater
-spots p q k l (inl before) = then_less (nat_cmp p.offset q.offset) _ (below p.offset q.offset before)
-spots p q k l (inr (same, most)) = then_not (nat_cmp p.offset q.offset) _
-    (at_most p.offset q.offset (omega (arith, same))) (at_most (number_of k) (number_of l) most)
+spots p q k l most = grind (arith, then_less, below, then_not, at_most)
 
 pub later_spot : (pass : ℕ) (f g : List ℕ) (s : ℕ) (p q : Place) (k l : Kind) → slice_cmp nat_cmp f g ≢ Greater
     → AtMost (spot p k) (spot q l) → IsNoLater (fault pass f s p k) (fault pass g s q l)
-later_spot pass f g s p q k l name most = then_not (nat_cmp pass pass) _ (itself pass)
-    (then_not (slice_cmp nat_cmp f g) _ name (then_not (nat_cmp s s) _ (itself s) (spots p q k l most)))
+later_spot pass f g s p q k l name most = grind (arith, then_not, itself, spots)
 
 pub same_later : (x y : SourceFault) → x ≡ y → IsNoLater x y
-same_later x y e = subst (IsNoLater x) e
-    (later_spot x.pass x.file x.file x.step x.place x.place x.kind x.kind (same_name x.file) (inr (refl, omega arith)))
+same_later x y e = grind (arith, same_name, later_spot)
 
 -- ---- two of which neither comes later are one
 
@@ -100,8 +88,7 @@ one_fault x y h i =
     let file = equal_parts (slice_cmp nat_cmp x.file y.file) _ pass.1 in
     let step = equal_parts (nat_cmp x.step y.step) _ file.1 in
     let place = equal_parts (nat_cmp x.place.offset y.place.offset) _ step.1 in
-    same_told x.pass y.pass x.step y.step x.file y.file x.place y.place x.kind y.kind
-    (exact_unsigned x.pass y.pass pass.0)
-    (exact_bytes x.file y.file file.0) (exact_unsigned x.step y.step step.0)
+    same_told _ _ _ _ _ _ _ _ _ _ (exact_unsigned x.pass y.pass pass.0) (exact_bytes x.file y.file file.0)
+    (exact_unsigned x.step y.step step.0)
     (same_place x.place y.place (exact_unsigned x.place.offset y.place.offset place.0))
     (same_kind x.kind y.kind (exact_unsigned (number_of x.kind) (number_of y.kind) place.1))

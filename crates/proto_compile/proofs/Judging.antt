@@ -18,8 +18,7 @@ use Rattle.proto_compile.specs.declared.source.Source.{Source}
 -- what follows of the fault that an error tells
 pub tells_more : (P Q : SourceFault → Type 0) → ((x : SourceFault) → P x → Q x) → (e : CompileError) → TellsOf P e
     → TellsOf Q e
-tells_more P Q h (errors.First f) p = h _ p
-tells_more P Q h errors.NoMemory p = tt
+tells_more P Q h e p = grind (arith)
 
 pub told : (P : SourceFault → Type 0) (x : SourceFault) (e : CompileError) → Tells x e → P x → TellsOf P e
 told P x e is p = tells_more (λ y. y ≡ x) P (λ y same. subst P (sym same) p) e is
@@ -66,6 +65,4 @@ told_first number files outcomes k ts o fault.NoMemory e t well below at is = rw
 -- one more without a fault
 pub well_more : {T : Type 0} (ts : List T) (os : List (Result T FileError)) (x : T) (o : Result T FileError)
     → map Ok ts ≡ os → o ≡ Ok x → map Ok (ts ++ x ∷ []) ≡ os ++ o ∷ []
-well_more ts os x o so_far is =
-    map-append Ok ts (x ∷ []) ∙ ap (λ (ps : List (Result _ FileError)). ps ++ Ok x ∷ []) so_far
-    ∙ ap (λ (p : Result _ FileError). os ++ p ∷ []) (sym is)
+well_more ts os x o so_far is = grind (arith, map-append)

@@ -24,12 +24,10 @@ use Rattle.proto_links.proofs.NameRows.{rise_far}
 use Rattle.proto_links.specs.Imports as imports
 use Rattle.proto_links.specs.Bad as bad_imports
 use Rattle.proto_links.specs.Linked.{Linked}
-use Rattle.proto_links.specs.Visible.{Sees}
 use Rattle.proto_names.specs.Index.{Index}
 use Rattle.proto_names.specs.Repeated.{IsRepeated}
 use Rattle.proto_names.specs.Occurrences as names
 use Rattle.proto_names.specs.Occurrences.{IsTwice, Occurrence, occurrences}
-use Rattle.proto_types.specs.References.{TypesBreak}
 use Rattle.proto_types.specs.declared.meaning.NamedType.{NamedType}
 use Rattle.wire_bytes.specs.Descriptor.{file_desc_bytes}
 use Rattle.proto_compile.specs.Analysed.{AreResolved, IsAnalysed, TypesBreakAt}
@@ -40,7 +38,7 @@ use Rattle.proto_compile.specs.Faults.{AreSorted, IsFirstRepeated}
 use Rattle.proto_compile.specs.Outcomes.{IsDescribed, IsFirstFound, IsResolved, IsWrittenShort}
 use Rattle.proto_compile.specs.Sources.{AreByName, name_at, name_of, text_of}
 use Rattle.proto_compile.specs.declared.source.Source.{Source}
-use Rattle.proto_compile.proofs.FaultOrder.{later_name, later_pass, later_spot, no_name_first, one_fault, same_later, same_name, same_told}
+use Rattle.proto_compile.proofs.FaultOrder.{later_name, later_pass, later_spot, no_name_first, one_fault, same_later, same_name}
 use Rattle.share_work.proofs.Giving.{given_at}
 pub use Rattle.proto_compile.proofs.NoneBroken.{no_fault_at_all}
 use Rattle.proto_compile.proofs.NoneBroken.{NoneBefore, as_described, none_of_files, none_of_imports, none_of_lengths, none_of_list, none_of_names, none_of_types, one_descs}
@@ -65,19 +63,13 @@ later_file pass descs a b p q k l rise h (inr (same, most)) =
 -- of two names that stand twice, the first
 twice_order : (a o : Occurrence) → names.IsNoLater a o
     → bad_imports.IsNoLater (a.file, spot a.place kind.NameTwice) (o.file, spot o.place kind.NameTwice)
-twice_order a o (inl less) = inl less
-twice_order a o (inr (same, most)) = elim (cases_lt a.place.offset o.place.offset) [
-  | inl before ↦ inr (same, inl before)
-  | inr over ↦ inr (same, inr (omega (arith, most, over), omega arith))
-]
+twice_order a o order = grind (arith, cases_lt)
 
 -- a source's outcome, by what it tells
 pub outcome_of : (limits : Limits) (s : Source) (r : Result FileDesc FileError) → IfOk r (SourceDescribes limits s)
     → ((step : ℕ) (place : Place) (what : Kind) → r ≡ Err (local.At step place what)
     → IsLocalFault limits (name_of s) (text_of s) step place what) → IsDescribed limits s r
-outcome_of limits s (Ok desc) described first = described
-outcome_of limits s (Err (local.At step place what)) described first = first step place what refl
-outcome_of limits s (Err local.NoMemory) described first = tt
+outcome_of limits s r described first = grind (arith)
 
 module _ (limits : Limits) (sources : List Source) where
   least_of : (x : SourceFault) → Breaks limits sources x → NoneBefore limits sources x.pass
@@ -118,8 +110,7 @@ module _ (limits : Limits) (sources : List Source) where
       breaks =
           let (i, j, less, below, one, two) = two_moved files sources (name_at files k)
           (IsPermutation-sym sources files sorted.all) (two_at files k (k + 1) (omega arith) first.below first.same) in
-          subst (λ (n : List ℕ). Breaks limits sources (of_file 0 n start kind.FileNameTwice)) one
-          (repeated_file_name i j less (omega (arith, below, length-map sources name_of)) (one ∙ sym two))
+          rw (← one) (repeated_file_name i j less (omega (arith, below, length-map sources name_of)) (one ∙ sym two))
 
       own : (y : SourceFault) → Breaks limits sources y → y.pass ≡ 0
           → IsNoLater (of_file 0 (name_at files k) start kind.FileNameTwice) y
@@ -127,16 +118,13 @@ module _ (limits : Limits) (sources : List Source) where
       own _ (repeated_file_name i j less below twice) same =
           let (b, inside, name, next) =
           neighbours sources files (name_at sources i) sorted (two_at sources i j less below twice) in
-          let Later : List ℕ → Type 0 = λ n.
-          IsNoLater (of_file 0 (name_at files k) start kind.FileNameTwice) (of_file 0 n start kind.FileNameTwice) in
-          let later : k ≤ b → Later (name_at files b) = λ most.
-          later_spot 0 (name_at files k) (name_at files b) 0 start start kind.FileNameTwice kind.FileNameTwice
-          (up_in_order sources files k b sorted most (omega (arith, inside))) (inr (refl, omega arith)) in
-          subst Later name (elim (cases_order k b) [
-            | inl here ↦ later (omega (arith, here))
-            | inr (inl before) ↦ later (omega (arith, before))
-            | inr (inr over) ↦ absurd (first.first b over next)
-          ])
+          let most : k ≤ b = elim (cases_lt b k) [ inl over ↦ absurd (first.first b over next) | inr most ↦ most ] in
+          rw (← name) (later_spot 0 (name_at files k) (name_at files b) 0 start start kind.FileNameTwice
+          kind.FileNameTwice (up_in_order sources files k b sorted most (omega (arith, inside))) (inr (
+            refl,
+            omega
+                arith,
+          )))
       own y breaks same = absurd (omega (arith, same))
 
   -- ---- the sources by themselves
@@ -154,15 +142,12 @@ module _ (limits : Limits) (sources : List Source) where
       own : (y : SourceFault) → Breaks limits sources y → y.pass ≡ 1 → IsNoLater (fault 1 (name_of s) step place what) y
       own _ (file_fault t other q l within also) same =
           let (b, below, is) = Contains-permutation sources files t order.all within in
-          let Later : Source → Type 0 = λ u. IsLocalFault limits (name_of u) (text_of u) other q l
-          → IsNoLater (fault 1 (name_of s) step place what) (fault 1 (name_of u) other q l) in
           elim (cases_order k b) [
             | inl here ↦ (
-                let there = subst (λ i. get_or files i t ≡ t) (sym here) is in
-                subst Later (standing_one files k s t at.0 at.1 there) (λ own.
-                let one = one_local limits (name_of s) (text_of s) step other place q what l wrong own in
-                same_later (fault 1 (name_of s) step place what) (fault 1 (name_of s) other q l)
-                (same_told 1 1 step other (name_of s) (name_of s) place q what l refl refl one.0 one.1 one.2)) also)
+                let one = standing_one files k s t at.0 at.1 (rw (← here) at is) in
+                let told = one_local limits (name_of s) (text_of s) step other place q what l wrong (rw (← one) at
+                also) in
+                rw (← one, told.0, told.1, told.2) (same_later (fault 1 (name_of s) other q l) _ refl))
             | inr (inl less) ↦ (
                 let inside : b < length (map name_of files) = omega (arith, below, length-map files name_of) in
                 let rise = rise_far (map name_of files) order.rises k b less inside in
@@ -189,9 +174,8 @@ module _ (limits : Limits) (sources : List Source) where
         given_at (λ k. IsDescribed limits) files outcomes b t none (Ok (f.well b less).0) gives there.0 there.1
             (f.well b less).1,
       ) in
-      let named = ap (λ (n : List ℕ). fault 1 n f.step f.place f.what) (name_of_item files f.at s at.0 (sym at.1)) in
-      subst (IsLeastFault limits sources) (sym (f.is ∙ named))
-      (local_least files f.at s f.step f.place f.what few order at wrong before)
+      rw (f.is, name_of_item files f.at s at.0 (sym at.1)) (local_least files f.at s f.step f.place f.what few order at
+      wrong before)
 
   -- ---- imports
 
@@ -206,12 +190,10 @@ module _ (limits : Limits) (sources : List Source) where
       own : (y : SourceFault) → Breaks limits sources y → y.pass ≡ 2
           → IsNoLater (of_file 2 (imports.name_at descs a) place what) y
       own _ (bad_import others b q l described bad) same =
-          let Later : List FileDesc → Type 0 = λ ds. imports.IsBad ds b q l
-          → IsNoLater (of_file 2 (imports.name_at descs a) place what) (of_file 2 (imports.name_at ds b) q l) in
-          let one = one_descs limits sources descs others (as_described limits sources files descs d) described in
-          subst Later one (λ own. later_file 2 descs a b place q what l
-          (subst NamesRise (sym (same_names limits files descs d.each)) d.by_name.rises)
-          (bad_inside descs b q l own) (first.least (b, spot q l) own)) bad
+          let one = one_descs limits sources _ _ (as_described limits sources files descs d) described in
+          let own = rw (← one) at bad in
+          rw (← one) (later_file 2 descs a b place q what l (rw (same_names limits files descs d.each) d.by_name.rises)
+          (bad_inside descs b q l own) (first.least (b, spot q l) own))
       own y breaks same = absurd (omega (arith, same))
 
   -- ---- names
@@ -224,8 +206,7 @@ module _ (limits : Limits) (sources : List Source) where
       (none_of_imports limits sources files descs d whole) own
     where
       own : (y : SourceFault) → Breaks limits sources y → y.pass ≡ 3 → IsNoLater (of_list 3 kind.TooManyNames) y
-      own _ (many_names others described more) same =
-          same_later (of_list 3 kind.TooManyNames) (of_list 3 kind.TooManyNames) refl
+      own _ (many_names others described more) same = same_later (of_list 3 kind.TooManyNames) _ refl
       own _ (repeated_name others o described twice) same =
           let here = contains_second (occurrences others) twice.0 o twice.1 in
           later_spot 3 [] (imports.name_at others o.file) 0 start o.place kind.TooManyNames kind.NameTwice
@@ -248,16 +229,14 @@ module _ (limits : Limits) (sources : List Source) where
       own : (o : Occurrence) → IsLeastBy names.IsNoLater (IsTwice (occurrences descs)) o → (y : SourceFault)
           → Breaks limits sources y → y.pass ≡ 3 → IsNoLater (told o) y
       own o first _ (many_names others described over) same =
-          let same = one_descs limits sources others descs described (as_described limits sources files descs d) in
-          let number = ap (λ (ds : List FileDesc). length (occurrences ds)) same in
-          absurd (omega (arith, over, repeated.within, number))
+          let one = one_descs limits sources _ _ described (as_described limits sources files descs d) in
+          let more = rw one at over in absurd (omega (arith, more, repeated.within))
       own o first _ (repeated_name others p described twice) same =
-          let Later : List FileDesc → Type 0 = λ ds. IsTwice (occurrences ds) p
-          → IsNoLater (told o) (of_file 3 (imports.name_at ds p.file) p.place kind.NameTwice) in
-          let one = one_descs limits sources descs others (as_described limits sources files descs d) described in
-          subst Later one (λ own. later_file 3 descs o.file p.file o.place p.place kind.NameTwice kind.NameTwice
-          (subst NamesRise (sym (same_names limits files descs d.each)) d.by_name.rises) (twice_within descs p own)
-          (twice_order o p (first.least p own))) twice
+          let one = one_descs limits sources _ _ (as_described limits sources files descs d) described in
+          let own = rw (← one) at twice in
+          rw (← one) (later_file 3 descs o.file p.file o.place p.place kind.NameTwice kind.NameTwice
+          (rw (same_names limits files descs d.each) d.by_name.rises) (twice_within descs p own)
+          (twice_order o p (first.least p own)))
       own o first y breaks same = absurd (omega (arith, same))
 
   -- ---- types
@@ -274,9 +253,7 @@ module _ (limits : Limits) (sources : List Source) where
       let breaks = bad_type descs f.at desc f.place f.what described at
       (break_from_index limits descs links index is.linked is.indexed f.at desc (spot f.place f.what) at.0
       found.1.is.among) in
-      subst (IsLeastFault limits sources) (sym (f.is ∙ same_told 4 4 f.step 0 (name_at files f.at)
-      (imports.name_at descs f.at) f.place f.place f.what f.what refl name found.0 refl refl))
-      (least_of first breaks (none_of_names limits sources files descs links index is) own)
+      rw (f.is, name, found.0) (least_of first breaks (none_of_names limits sources files descs links index is) own)
     where
       first : SourceFault
       first = of_file 4 (imports.name_at descs f.at) f.place f.what
@@ -300,14 +277,13 @@ module _ (limits : Limits) (sources : List Source) where
 
       own : (y : SourceFault) → Breaks limits sources y → y.pass ≡ 4 → IsNoLater first y
       own _ (bad_type others b desc q l also stands breaks) same =
-          let Later : List FileDesc → Type 0 = λ ds.
-          StandsAt ds b desc → TypesBreak (occurrences ds) (Sees ds b) desc (spot q l)
-          → IsNoLater first (of_file 4 (imports.name_at ds b) q l) in
           let d = is.described in
-          let one = one_descs limits sources descs others (as_described limits sources files descs d) also in
-          let rise = subst NamesRise (sym (same_names limits files descs d.each)) d.by_name.rises in
-          subst Later one (λ at own. later_file 4 descs f.at b f.place q f.what l rise at.0 (order b desc q l at
-          (break_to_index limits descs links index is.linked is.indexed b desc (spot q l) at.0 own))) stands breaks
+          let one = one_descs limits sources _ _ (as_described limits sources files descs d) also in
+          let at = rw (← one) at stands in
+          let wrong = break_to_index limits descs links index is.linked is.indexed b desc (spot q l) at.0
+          (rw (← one) at breaks) in
+          rw (← one) (later_file 4 descs f.at b f.place q f.what l
+          (rw (same_names limits files descs d.each) d.by_name.rises) at.0 (order b desc q l at wrong))
       own y breaks same = absurd (omega (arith, same))
 
   -- ---- lengths
@@ -319,10 +295,8 @@ module _ (limits : Limits) (sources : List Source) where
   first_long files typed links index outcomes r gives x f =
       let (desc, at) = item_at typed f.at (omega (arith, f.below, gives.0)) in
       let found = outcome f.at desc (Err (local.At f.step f.place f.what)) at f.bad in
-      subst (IsLeastFault limits sources) (sym (f.is ∙ same_told 5 5 f.step 0 (name_at files f.at)
-      (imports.name_at typed f.at) f.place start f.what kind.DescriptorTooLong refl
-      (same_name_at files typed f.at (resolved_names r)) found.0 found.1 found.2))
-      (least_of first (long_descriptor files typed links index f.at desc r at found.3)
+      rw (f.is, same_name_at files typed f.at (resolved_names r), found.0, found.1, found.2) (least_of first
+      (long_descriptor files typed links index f.at desc r at found.3)
       (none_of_types limits sources files typed links index r) own)
     where
       first : SourceFault
@@ -346,12 +320,10 @@ module _ (limits : Limits) (sources : List Source) where
 
       own : (y : SourceFault) → Breaks limits sources y → y.pass ≡ 5 → IsNoLater first y
       own _ (long_descriptor others also links' index' b desc resolved stands over) same =
-          let one = one_resolved limits sources files others typed also links links' index index' r resolved in
-          let Later : List FileDesc → Type 0 = λ ds. StandsAt ds b desc
-          → IsNoLater first (of_file 5 (imports.name_at ds b) start kind.DescriptorTooLong) in
-          subst Later one.1 (λ at. later_file 5 typed f.at b start start kind.DescriptorTooLong kind.DescriptorTooLong
-          (subst NamesRise (sym (resolved_names r)) r.analysed.described.by_name.rises) at.0 (order b desc at over))
-          stands
+          let one = (one_resolved limits sources _ _ _ _ _ _ _ _ r resolved).1 in
+          let at = rw (← one) at stands in
+          rw (← one) (later_file 5 typed f.at b start start kind.DescriptorTooLong kind.DescriptorTooLong
+          (rw (resolved_names r) r.analysed.described.by_name.rises) at.0 (order b desc at over))
       own y breaks same = absurd (omega (arith, same))
 
   pub set_least : (c : Compilation) → IsWritten limits sources c

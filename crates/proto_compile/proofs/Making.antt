@@ -96,5 +96,4 @@ sound limits sources files links index is services within =
 -- as many sources as written descriptors
 pub written_length : (files : List Source) (descs : List FileDesc) (all : List (Vec ℕ Global))
     → length files ≡ length descs → map items_of all ≡ map file_desc_bytes descs → length files ≡ length all
-written_length files descs all size bytes =
-    omega (arith, size, ap length bytes, length-map all items_of, length-map descs file_desc_bytes)
+written_length files descs all size bytes = grind (arith, length-map)

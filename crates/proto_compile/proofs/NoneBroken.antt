@@ -1,8 +1,5 @@
 -- Where sources have passed, no rule of those passes is broken.
-use Rattle.std.proofs.Common.{◌≡◌, sym, ℕ, ◌<◌, ◌≤◌, List, length, ap, subst, arith, Less}
-use Rattle.std.specs.List.{All}
-use Rattle.std.specs.Cmp.Lexicographic.{slice_cmp}
-use Rattle.std.specs.Ordering.{nat_cmp}
+use Rattle.std.proofs.Common.{◌≡◌, ℕ, ◌<◌, ◌≤◌, List, length, ap, arith}
 use Rattle.std.proofs.lemmas.List.{length-map}
 use Rattle.std.proofs.lemmas.List.Elements.{All-contains}
 use Rattle.std.proofs.lemmas.List.Sorted.{Contains-permutation}
@@ -10,16 +7,12 @@ use Rattle.proto_base.specs.Least.{spot}
 use Rattle.proto_base.specs.Limits.{limit_of}
 use Rattle.proto_base.specs.declared.limits.Limit.TheVariants as limit
 use Rattle.proto_base.specs.declared.limits.Limits.{Limits}
-use Rattle.proto_base.specs.Sets.{StandsAt}
 use Rattle.proto_desc.specs.declared.file.FileDesc.{FileDesc}
 use Rattle.proto_file.proofs.OneLocal.{no_local}
 use Rattle.proto_links.proofs.NameRows.{not_less_itself}
 use Rattle.proto_links.specs.Imports as imports
 use Rattle.proto_links.specs.Linked.{Linked}
-use Rattle.proto_links.specs.Visible.{Sees}
 use Rattle.proto_names.specs.Index.{Index}
-use Rattle.proto_names.specs.Occurrences.{NoneTwice, occurrences}
-use Rattle.proto_types.specs.References.{TypesBreak}
 use Rattle.proto_compile.specs.Analysed.{AreResolved, IsAnalysed}
 use Rattle.proto_compile.specs.Compilation.{Compilation, IsCompiled, IsShort, IsWritten}
 use Rattle.proto_compile.specs.Descriptions.{Describe, SourceDescribes}
@@ -57,8 +50,7 @@ module _ (limits : Limits) (sources : List Source) where
       record { all = order.all; rises = λ k h. less_greater _ (order.rises k (omega (arith, h, size))) } in
       let (k, inside, name, next) = neighbours sources files (name_at sources i) sorted
       (two_at sources i j before below same) in
-      not_less_itself (name_at files k) (subst (λ (n : List ℕ). slice_cmp nat_cmp (name_at files k) n ≡ Less) (sym next)
-      (order.rises k (omega (arith, inside, size))))
+      not_less_itself (name_at files k) (rw (← next) at (order.rises k (omega (arith, inside, size))))
   none_of_list files few order y breaks less = omega (arith, less)
 
   pub none_of_files : (files : List Source) (descs : List FileDesc) → Describe limits sources files descs → NoneBefore 2
@@ -71,21 +63,16 @@ module _ (limits : Limits) (sources : List Source) where
   pub none_of_imports : (files : List Source) (descs : List FileDesc) → Describe limits sources files descs
       → imports.NoneBad descs → NoneBefore 3
   none_of_imports files descs d none _ (bad_import others a place what described bad) less =
-      let same = one_descs descs others (as_described files descs d) described in
-      (subst imports.NoneBad same none) a place what bad
+      none a place what (rw (one_descs _ _ described (as_described files descs d)) at bad)
   none_of_imports files descs d none y breaks less = none_of_files files descs d y breaks (omega (arith, less))
 
   pub none_of_names : (files : List Source) (descs : List FileDesc) (links : Linked) (index : Index)
       → IsAnalysed limits sources files descs links index → NoneBefore 4
   none_of_names files descs links index is _ (many_names others described over) less =
-      let same = one_descs others descs described (as_described files descs is.described) in
-      let number = ap (λ (ds : List FileDesc). length (occurrences ds)) same in
-      omega (arith, over, is.indexed.within, number)
+      let more = rw (one_descs _ _ described (as_described files descs is.described)) at over in
+      omega (arith, more, is.indexed.within)
   none_of_names files descs links index is _ (repeated_name others o described twice) less =
-      let same = one_descs descs others (as_described files descs is.described) described in
-      let none : NoneTwice (occurrences others) =
-      subst (λ (ds : List FileDesc). NoneTwice (occurrences ds)) same is.indexed.once in
-      none o twice
+      is.indexed.once o (rw (one_descs _ _ described (as_described files descs is.described)) at twice)
   none_of_names files descs links index is y breaks less =
       none_of_imports files descs is.described is.linked.whole y breaks (omega (arith, less))
 
@@ -93,20 +80,17 @@ module _ (limits : Limits) (sources : List Source) where
       → AreResolved limits sources files typed links index → NoneBefore 5
   none_of_types files typed links index r _ (bad_type others a desc place what described stands breaks) less =
       let is = r.analysed in
-      let Wrong : List FileDesc → Type 0 = λ ds. StandsAt ds a desc
-      → TypesBreak (occurrences ds) (Sees ds a) desc (spot place what) → ⊥ in
-      subst Wrong (one_descs r.descs others (as_described files r.descs is.described) described) (λ at own.
-      (typed_at links index r.descs typed r.each a desc at).1.whole (spot place what)
-      (break_to_index limits r.descs links index is.linked is.indexed a desc (spot place what) at.0 own)) stands breaks
+      let one = one_descs _ _ described (as_described files r.descs is.described) in
+      let at = rw one at stands in
+      (typed_at links index r.descs typed r.each a desc at).1.whole (spot place what) (break_to_index limits r.descs
+      links index is.linked is.indexed a desc (spot place what) at.0 (rw one at breaks))
   none_of_types files typed links index r y breaks less =
       none_of_names files r.descs links index r.analysed y breaks (omega (arith, less))
 
   pub none_of_lengths : (c : Compilation) → IsWritten limits sources c → NoneBefore 6
   none_of_lengths c w _ (long_descriptor files typed links index a desc resolved stands over) less =
-      let same = one_resolved limits sources w.sorted files w.descs typed c.links links c.index index w.resolved
-      resolved in
-      let short = subst (λ (ds : List FileDesc). All (IsShort limits) ds) same.1 w.short in
-      let fits = All-contains (IsShort limits) typed desc short (a, stands.0, stands.1) in
+      let at = rw (one_resolved limits sources _ _ _ _ _ _ _ _ resolved w.resolved).1 at stands in
+      let fits = All-contains (IsShort limits) w.descs desc w.short (a, at.0, at.1) in
       omega (arith, fits, over)
   none_of_lengths c w y breaks less =
       none_of_types w.sorted w.descs c.links c.index w.resolved y breaks (omega (arith, less))

@@ -23,10 +23,8 @@ one_file f g name bytes = ap (λ n. entry n (file_bytes f)) name ∙ ap (λ b. e
 one_list : (fs gs : List CompiledFile) → map file_name fs ≡ map file_name gs → map file_bytes fs ≡ map file_bytes gs
     → fs ≡ gs
 one_list [] [] names bytes = refl
-one_list [] (g ∷ gs) names bytes = let n = ap length names in absurd (omega (arith, n))
-one_list (f ∷ fs) [] names bytes = let n = ap length names in absurd (omega (arith, n))
-one_list (f ∷ fs) (g ∷ gs) names bytes =
-    ap (λ x. x ∷ fs) (one_file f g (cc) (cc)) ∙ ap (λ xs. g ∷ xs) (one_list fs gs (cc) (cc))
+one_list (f ∷ fs) (g ∷ gs) names bytes = grind (arith, one_file, one_list fs gs (cc) (cc))
+one_list fs gs names bytes = let n = ap length names in absurd (omega (arith, n))
 
 -- ---- compilations
 
@@ -35,25 +33,20 @@ resolved_order : (limits : Limits) (sources f g : List Source) (ds es : List Fil
     (index other : Index) → AreResolved limits sources f ds links index → AreResolved limits sources g es others other
     → links.set_order ≡ others.set_order
 resolved_order limits sources f g ds es links others index other first second =
-    let mine = first.analysed in
-    let same = one_description limits sources f g first.descs second.descs mine.described second.analysed.described in
-    let also = analysed_moved limits sources f g first.descs second.descs others other same second.analysed in
-    one_set_order first.descs links others mine.linked also.linked
+    let same = one_description limits sources _ _ _ _ first.analysed.described second.analysed.described in
+    let also = analysed_moved limits sources _ _ _ _ others other same second.analysed in
+    one_set_order first.descs links others first.analysed.linked also.linked
 
 pub one_written : (limits : Limits) (sources : List Source) (c d : Compilation) → IsWritten limits sources c
     → IsWritten limits sources d → (c.files ≡ d.files) × (c.links.set_order ≡ d.links.set_order)
 one_written limits sources c d first second =
-    let mine = first.resolved in
-    let theirs = second.resolved in
-    let same = one_resolved limits sources first.sorted second.sorted first.descs second.descs c.links d.links c.index
-    d.index mine theirs in
+    let same = one_resolved limits sources _ _ _ _ _ _ _ _ first.resolved second.resolved in
     let names : map file_name c.files ≡ map file_name d.files =
     first.names ∙ ap (λ (xs : List Source). map name_of xs) same.0 ∙ sym second.names in
     let bytes : map file_bytes c.files ≡ map file_bytes d.files =
     first.bytes ∙ ap (λ (xs : List FileDesc). map file_desc_bytes xs) same.1 ∙ sym second.bytes in (
       one_list c.files d.files names bytes,
-      resolved_order limits sources first.sorted second.sorted first.descs second.descs c.links d.links c.index d.index
-          mine theirs,
+      resolved_order limits sources _ _ _ _ _ _ _ _ first.resolved second.resolved,
     )
 
 set_in : List CompiledFile → List ℕ → List ℕ

@@ -1,6 +1,6 @@
 -- Sources have one order by name, and names one sorted list.
-use Rattle.std.proofs.Common.{◌≡◌, ◌≢◌, ◌∙◌, sym, ℕ, ◌+◌, List, [], ◌∷◌, get_or, ap, refl, subst, arith, Ordering, Less, Equal, Greater, map}
-use Rattle.std.specs.Prelude.{Bool, true, false, if◌then◌else◌, Contains, IsPermutation}
+use Rattle.std.proofs.Common.{◌≡◌, ◌≢◌, ◌∙◌, sym, ℕ, List, [], ◌∷◌, ap, refl, arith, Ordering, Less, Equal, Greater, map}
+use Rattle.std.specs.Prelude.{Bool, false, if◌then◌else◌, Contains, IsPermutation}
 use Rattle.std.specs.Cmp.Lexicographic.{slice_cmp}
 use Rattle.std.specs.List.{sum_by}
 use Rattle.std.specs.Ordering.{nat_cmp, is_gt, ordering_reverse}
@@ -12,7 +12,7 @@ use Rattle.std.proofs.lemmas.Map.Lookups.{exact_bytes}
 use Rattle.proto_base.specs.NameOrder.{NamesRise}
 use Rattle.proto_links.proofs.NameRows.{not_less_itself}
 use Rattle.proto_links.proofs.Rising.{IsStrict, Rises, first_two, one_rising, rest_rises}
-use Rattle.proto_compile.specs.Sources.{AreByName, name_at, name_of}
+use Rattle.proto_compile.specs.Sources.{AreByName, name_of}
 use Rattle.proto_compile.specs.declared.source.Source.{Source}
 use Rattle.proto_compile.proofs.Sorting.{name_is}
 
@@ -28,10 +28,7 @@ names_strict = record {
 }
 
 sources_rise : (files : List Source) → NamesRise (map name_of files) → Rises IsNameBefore files
-sources_rise files up k d h =
-    subst (λ n. slice_cmp nat_cmp n (name_of (get_or files (k + 1) d)) ≡ Less) (name_is files k d (omega (arith, h)))
-    (subst (λ n. slice_cmp nat_cmp (name_at files k) n ≡ Less) (name_is files (k + 1) d h)
-    (up k (omega (arith, h, length-map files name_of))))
+sources_rise files up k d h = grind (arith, length-map, name_is)
 
 -- members of one order of a list are members of another one
 pub moved : {X : Type 0} (xs ys zs : List X) → IsPermutation xs ys → IsPermutation xs zs → (x : X) → Contains ys x
@@ -54,16 +51,10 @@ abbrev is_later : List ℕ → List ℕ → Bool
 is_later x y = is_gt (slice_cmp nat_cmp x y)
 
 pub not_later : (o : Ordering) → o ≢ Greater → is_gt o ≡ false
-not_later Less h = refl
-not_later Equal h = refl
-not_later Greater h = absurd (h refl)
+not_later o h = grind (arith)
 
 tied : (o p : Ordering) → o ≡ ordering_reverse p → is_gt o ≡ false → is_gt p ≡ false → o ≡ Equal
-tied Less Less e h k = cc
-tied Less Equal e h k = cc
-tied Less Greater e h k = cc
-tied Equal p e h k = refl
-tied Greater p e h k = cc
+tied o p e h k = grind (arith)
 
 pub same_name : (x y : List ℕ) → is_later x y ≡ false → is_later y x ≡ false → x ≡ y
 same_name x y h k = exact_bytes x y
@@ -73,8 +64,7 @@ abbrev one_if : Bool → ℕ
 one_if b = if b then 1 else 0
 
 none_if : (b : Bool) → one_if b ≡ 0 → b ≡ false
-none_if true e = absurd (omega (arith, e))
-none_if false e = refl
+none_if b e = grind (arith)
 
 -- 1 for a name before x
 abbrev before : List ℕ → List ℕ → ℕ

@@ -7,7 +7,6 @@ use Rattle.std.proofs.lemmas.List.Sorted.{Contains-permutation, IsPermutation-sy
 use Rattle.proto_base.specs.Sets.{StandsAt}
 use Rattle.proto_base.specs.declared.spot.Spot.{Spot}
 use Rattle.proto_desc.specs.DeclaredNames.{file_scope}
-use Rattle.proto_base.specs.Sets.{StandsAt}
 use Rattle.proto_desc.specs.declared.file.FileDesc.{FileDesc}
 use Rattle.proto_links.specs.Linked.{AreLinked, Linked}
 use Rattle.proto_links.specs.Visible.{Sees}
@@ -54,23 +53,17 @@ zipped_at R (a ∷ xs) (b ∷ ys) (suc k) x all h at = zipped_at R xs ys k x all
 one_zip : {X Y : Type 0} (R : X → Y → Type 0) → ((x : X) (y z : Y) → R x y → R x z → y ≡ z) → (xs : List X)
     (ys zs : List Y) → AllZip R xs ys → AllZip R xs zs → ys ≡ zs
 one_zip R one [] [] [] first second = refl
-one_zip R one [] [] (z ∷ zs) first second = absurd second
-one_zip R one [] (y ∷ ys) zs first second = absurd first
-one_zip R one (x ∷ xs) [] zs first second = absurd first
-one_zip R one (x ∷ xs) (y ∷ ys) [] first second = absurd second
-one_zip R one (x ∷ xs) (y ∷ ys) (z ∷ zs) first second =
-    ap (λ w. w ∷ ys) (one x y z first.0 second.0) ∙ ap (λ ws. z ∷ ws) (one_zip R one xs ys zs first.1 second.1)
+one_zip R one (x ∷ xs) (y ∷ ys) (z ∷ zs) first second = grind (arith, one_zip R one xs ys zs first.1 second.1)
+one_zip R one xs ys zs first second = grind (arith)
 
 pub one_list_described : (limits : Limits) (sources f g : List Source) (ds es : List FileDesc) → AreByName sources f
     → AllZip (SourceDescribes limits) f ds → AreByName sources g → AllZip (SourceDescribes limits) g es
     → (f ≡ g) × (ds ≡ es)
 one_list_described limits sources f g ds es order first other second =
-    let same : f ≡ g = one_order sources f g order other in
-    let moved_back : AllZip (SourceDescribes limits) f es =
-    subst (λ (xs : List Source). AllZip (SourceDescribes limits) xs es) (sym same) second in (
+    let same : f ≡ g = one_order sources f g order other in (
       same,
       one_zip (SourceDescribes limits) (λ s. one_descriptor limits (name_of s) (text_of s)) f ds es first
-          moved_back,
+          (rw same second),
     )
 
 -- the same of sources that are described
@@ -97,16 +90,12 @@ seen_by_index : (limits : Limits) (descs : List FileDesc) (links : Linked) (inde
     → Indexes descs limits index → (a : ℕ) → a < length descs
     → AreSeenAlike (occurrences descs) (Sees descs a) index.occurrences (SeenBy links a)
 seen_by_index limits descs links index linked indexed a h o =
-    let back = IsPermutation-sym (occurrences descs) index.occurrences indexed.all in (
-      λ w. (
-          let inside = Contains-permutation (occurrences descs) index.occurrences o indexed.all w.0 in
-          let below = below_files descs index.occurrences indexed.all o inside in
-          (inside, (linked.sees a o.file h below).1 w.1)),
-      λ w. (
-        Contains-permutation index.occurrences (occurrences descs) o back w.0,
-        (linked.sees a o.file h (below_files descs index.occurrences indexed.all o w.0)).0 w.1,
-      ),
-    )
+    let into = Contains-permutation (occurrences descs) index.occurrences o indexed.all in
+    let back = Contains-permutation index.occurrences (occurrences descs) o
+    (IsPermutation-sym (occurrences descs) index.occurrences indexed.all) in
+    let sees = λ (w : Contains index.occurrences o).
+    linked.sees a o.file h (below_files descs index.occurrences indexed.all o w) in
+    (λ w. (into w.0, (sees (into w.0)).1 w.1), λ w. (back w.0, (sees w.0).0 w.1))
 
 seen_alike : (descs : List FileDesc) (limits : Limits) (links others : Linked) (index other : Index)
     → AreLinked descs links → AreLinked descs others → Indexes descs limits index → Indexes descs limits other
@@ -123,35 +112,29 @@ module _ (descs : List FileDesc) (links others : Linked) (index other : Index)
   one_typed : (a : ℕ) (fs gs hs : List FileDesc) → a + length fs ≤ length descs → AreTypedFrom links index a fs gs
       → AreTypedFrom others other a fs hs → gs ≡ hs
   one_typed a [] [] [] h first second = refl
-  one_typed a [] [] (k ∷ hs) h first second = absurd second
-  one_typed a [] (g ∷ gs) hs h first second = absurd first
-  one_typed a (f ∷ fs) [] hs h first second = absurd first
-  one_typed a (f ∷ fs) (g ∷ gs) [] h first second = absurd second
   one_typed a (f ∷ fs) (g ∷ gs) (k ∷ hs) h first second =
       let same : g ≡ k = file_same index.occurrences other.occurrences (SeenBy links a) (SeenBy others a)
       (alike a (omega (arith, h))) (file_scope f.«package») f g k first.0.resolved second.0.resolved in
       ap (λ x. x ∷ gs) same ∙ ap (λ xs. k ∷ xs) (one_typed (a + 1) fs gs hs (omega (arith, h)) first.1 second.1)
+  one_typed a fs gs hs h first second = grind (arith)
 
 pub analysed_moved : (limits : Limits) (sources f g : List Source) (ds es : List FileDesc) (links : Linked)
     (index : Index)
     → (f ≡ g) × (ds ≡ es) → IsAnalysed limits sources g es links index → IsAnalysed limits sources f ds links index
-analysed_moved limits sources f g ds es links index (order, same) analysed =
-    subst (λ (xs : List Source). IsAnalysed limits sources xs ds links index) (sym order)
-    (subst (λ (xs : List FileDesc). IsAnalysed limits sources g xs links index) (sym same) analysed)
+analysed_moved limits sources f g ds es links index same analysed = grind (arith)
 
 -- what the files are with their types resolved
 pub one_resolved : (limits : Limits) (sources f g : List Source) (ds es : List FileDesc) (links others : Linked)
     (index other : Index) → AreResolved limits sources f ds links index → AreResolved limits sources g es others other
     → (f ≡ g) × (ds ≡ es)
 one_resolved limits sources f g ds es links others index other first second =
-    let descs = first.descs in
     let mine = first.analysed in
-    let same = one_description limits sources f g descs second.descs mine.described second.analysed.described in
-    let also = analysed_moved limits sources f g descs second.descs others other same second.analysed in
-    let typed : AreTypedFrom others other 0 descs es =
-    subst (λ (xs : List FileDesc). AreTypedFrom others other 0 xs es) (sym same.1) second.each in
-    let alike = seen_alike descs limits links others index other mine.linked also.linked mine.indexed also.indexed in
-    (same.0, one_typed descs links others index other alike 0 descs ds es (omega arith) first.each typed)
+    let same = one_description limits sources _ _ _ _ mine.described second.analysed.described in
+    let also = analysed_moved limits sources _ _ _ _ others other same second.analysed in
+    let typed : AreTypedFrom others other 0 first.descs es = rw same.1 second.each in
+    let alike = seen_alike first.descs limits links others index other mine.linked also.linked mine.indexed also.indexed
+    in
+    (same.0, one_typed first.descs links others index other alike 0 _ ds es (omega arith) first.each typed)
 
 -- ---- what is wrong with types
 
@@ -164,11 +147,7 @@ typed_at links index fs gs all a desc at = from 0 fs gs all a (omega arith) at
     from first [] gs all k e at = absurd (omega (arith, at.0))
     from first (f ∷ fs) [] all k e at = absurd all
     from first (f ∷ fs) (g ∷ gs) all zero e at =
-        let here : first ≡ a = omega (arith, e) in (
-          g,
-          subst (λ n. TypesAt links index n desc g) here
-              (subst (λ (x : FileDesc). TypesAt links index first x g) at.1 all.0),
-        )
+        let here : a ≡ first = omega (arith, e) in (g, rw (here, ← at.1) all.0)
     from first (f ∷ fs) (g ∷ gs) all (suc k) e at =
         from (first + 1) fs gs all.1 k (omega (arith, e)) (omega (arith, at.0), at.1)
 

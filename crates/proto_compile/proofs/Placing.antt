@@ -39,14 +39,10 @@ use Rattle.proto_compile.proofs.Zipping.{as_many, bad_inside, contains_second, r
 pub described_at : (limits : Limits) (files : List Source) (descs : List FileDesc)
     → AllZip (SourceDescribes limits) files descs → (a : ℕ) (desc : FileDesc)
     → StandsAt descs a desc → (s : Source) × StandsAt files a s × SourceDescribes limits s desc
-described_at limits [] [] all a desc at = absurd (omega (arith, at.0))
-described_at limits [] (d ∷ descs) all a desc at = absurd all
-described_at limits (s ∷ files) [] all a desc at = absurd all
-described_at limits (s ∷ files) (d ∷ descs) all zero desc at =
-    (s, (omega arith, refl), subst (SourceDescribes limits s) at.1 all.0)
+described_at limits (s ∷ files) (d ∷ descs) all zero desc at = grind (arith)
 described_at limits (s ∷ files) (d ∷ descs) all (suc a) desc at =
-    let (t, there, is) = described_at limits files descs all.1 a desc (omega (arith, at.0), at.1) in
-    (t, (omega (arith, there.0), there.1), is)
+    grind (arith, described_at limits files descs all.1 a desc (omega (arith, at.0), at.1))
+described_at limits files descs all a desc at = absurd (grind (arith))
 
 -- wherever the descriptor's places lie, this one does
 abbrev LiesWith : FileDesc → Place → Type 0
@@ -61,7 +57,7 @@ imports_are descs a desc at = get_or-map imports.imports_of descs a desc [] at.0
 bad_placed : (descs : List FileDesc) (a : ℕ) (desc : FileDesc) (place : Place) (kind : Kind) → StandsAt descs a desc
     → imports.IsBad descs a place kind → LiesWith desc place
 bad_placed descs a desc place kind at (i, here, is, wrong) n all =
-    let (k, below, there) = subst (λ (is : List ImportDesc). Contains is i) (imports_are descs a desc at) here in
+    let (k, below, there) = rw (imports_are descs a desc at) at here in
     subst (Placed n) is (standing (λ (j : ImportDesc). Placed n j.place) desc.imports k i (imports_at (upto n) desc all)
     (below, there))
 
@@ -72,13 +68,11 @@ pub occurrence_in : (first : ℕ) (descs : List FileDesc) (o : Occurrence) → C
 occurrence_in first [] o (j, inside, is) = absurd (omega (arith, inside))
 occurrence_in first (d ∷ descs) o here =
     elim (Contains-append_cases (occurrences_of first d) (occurrences_from (first + 1) descs) o here) [
-      | inl own ↦ (
-          let at : first ≡ first + 0 = omega arith in
-          (0, d, (omega arith, refl), subst (λ m. Contains (occurrences_of m d) o) at own))
+      | inl own ↦ (let at : first + 0 ≡ first = omega arith in (0, d, (omega arith, refl), rw at own))
       | inr later ↦ (
           let (k, desc, there, own) = occurrence_in (first + 1) descs o later in
-          let at : first + 1 + k ≡ first + suc k = omega arith in
-          (suc k, desc, (omega (arith, there.0), there.1), subst (λ m. Contains (occurrences_of m desc) o) at own))
+          let at : first + suc k ≡ first + 1 + k = omega arith in
+          (suc k, desc, (omega (arith, there.0), there.1), rw at own))
     ]
 
 occurrence_at : (n file : ℕ) (desc : FileDesc) (o : Occurrence) → Contains (occurrences_of file desc) o
@@ -177,14 +171,12 @@ module _ (limits : Limits) (sources : List Source) where
       let (s, there, is) = described_at limits d.files descs d.each k desc at in
       let within = places_within limits (name_of s) (text_of s) desc is in
       let file = (occurrence_at (length (text_of s)) (0 + k) desc o here within).0 in
-      let same : k ≡ o.file = omega (arith, file) in
-      subst (λ i. IsPlaced limits sources (imports.name_at descs i) o.place) same
-      (in_desc 2 none descs k desc o.place d at (λ n within. (occurrence_at n (0 + k) desc o here within).1))
+      let same : o.file ≡ k = omega (arith, file) in
+      rw same (in_desc 2 none descs k desc o.place d at (λ n within. (occurrence_at n (0 + k) desc o here within).1))
   placed _ (bad_type descs a desc place what d at wrong) none =
       in_desc 3 none descs a desc place d at (types_placed _ _ desc place what wrong)
   placed _ (long_descriptor files typed links index a desc r at over) none =
       let names = resolved_names r in
-      subst (λ (n : List ℕ). IsPlaced limits sources n start) (same_name_at files typed a names)
-      (at_start_of files a (of_files files r.analysed.described.by_name)
+      rw (← same_name_at files typed a names) (at_start_of files a (of_files files r.analysed.described.by_name)
       (omega (arith, at.0, as_many imports.name_of name_of typed files names)))
   placed _ (long_set c written over) none = at_start [] (inl refl)

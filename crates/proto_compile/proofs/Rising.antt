@@ -1,5 +1,5 @@
 -- Names that rise.
-use Rattle.std.proofs.Common.{◌≡◌, ◌∙◌, sym, ap, subst, ℕ, ◌+◌, ◌<◌, List, [], ◌∷◌, ◌++◌, map, length, take, get_or, arith}
+use Rattle.std.proofs.Common.{◌≡◌, ◌∙◌, sym, ap, ℕ, ◌+◌, ◌<◌, List, [], ◌∷◌, ◌++◌, map, length, take, arith}
 use Rattle.std.proofs.lemmas.List.{get_or-take, length-map, map-append, take_more}
 use Rattle.std.specs.Prelude.{Vec}
 use Rattle.std.specs.declared.alloc.Global.{Global}
@@ -14,20 +14,13 @@ use Rattle.proto_compile.specs.declared.source.Source.{Source}
 pub fresh : (sources : List Source) (files : List CompiledFile) (n : ℕ) → NamesRise (map name_of sources)
     → n < length sources → length files ≡ n → map file_name files ≡ take n (map name_of sources) → (a : ℕ)
     → IsNamed files (name_at sources n) a → ⊥
-fresh sources files n rise h len names a (below, is) =
-    let under : a < n = omega (arith, len, below) in
-    let same = ap (λ (ns : List (List ℕ)). get_or ns a []) names in
-    names_differ (map name_of sources) rise a n under (omega (arith, h, length-map sources name_of))
-    (sym (get_or-take n (map name_of sources) a [] under) ∙ sym same ∙ is)
+fresh sources files n rise h len names a named = grind (arith, get_or-take, length-map, names_differ)
 
 -- one file has a name
 pub named_once : (sources : List Source) (files : List CompiledFile) → NamesRise (map name_of sources)
     → map file_name files ≡ map name_of sources → (name : List ℕ) (a b : ℕ) → IsNamed files name a
     → IsNamed files name b → a ≡ b
-named_once sources files rise names name a b na nb =
-    let size = length-map files file_name in
-    one_position (map file_name files) (subst NamesRise (sym names) rise) a b (omega (arith, na.0, size))
-    (omega (arith, nb.0, size)) (na.1 ∙ sym nb.1)
+named_once sources files rise names name a b na nb = grind (arith, length-map, one_position)
 
 -- ---- a table that grows by one file
 
@@ -37,16 +30,12 @@ entry name bytes = record { name = name; bytes = bytes }
 pub names_more : (sources : List Source) (files : List CompiledFile) (n : ℕ) (bytes : List ℕ)
     → map file_name files ≡ take n (map name_of sources) → n < length sources
     → map file_name (files ++ entry (name_at sources n) bytes ∷ []) ≡ take (n + 1) (map name_of sources)
-names_more sources files n bytes names h =
-    map-append file_name files (entry (name_at sources n) bytes ∷ [])
-    ∙ ap (λ (ns : List (List ℕ)). ns ++ name_at sources n ∷ []) names
-    ∙ sym (take_more (map name_of sources) n [] (omega (arith, h, length-map sources name_of)))
+names_more sources files n bytes names h = grind (arith, length-map, map-append, take_more)
 
 pub bytes_more : (files : List CompiledFile) (yielded : List (Vec ℕ Global)) (name : List ℕ) (bytes : Vec ℕ Global)
     → map file_bytes files ≡ map items_of yielded
     → map file_bytes (files ++ entry name (items_of bytes) ∷ []) ≡ map items_of (yielded ++ bytes ∷ [])
-bytes_more files yielded name bytes all = map-append file_bytes files (entry name (items_of bytes) ∷ [])
-    ∙ ap (λ (bs : List (List ℕ)). bs ++ items_of bytes ∷ []) all ∙ sym (map-append items_of yielded (bytes ∷ []))
+bytes_more files yielded name bytes all = grind (arith, map-append)
 
 -- as many files as items so far
 pub same_count : (files : List CompiledFile) (yielded : List (Vec ℕ Global))

@@ -39,9 +39,7 @@ short_services n os short name has =
     subst (λ (xs : List ℕ). length xs ≤ n) is (fits service)
 
 few_services : (os : List Occurrence) → length (services_of os) ≤ length os
-few_services os =
-    let size = length-map (filter is_service os) name_of in
-    omega (arith, size, length-filter is_service os, count_by-le-length is_service os)
+few_services os = grind (arith, length-map, count_by-le-length, length-filter)
 
 -- ---- what files declare
 
@@ -76,11 +74,10 @@ module _ (limits : Limits) where
   files_short : (a : ℕ) (files : List Source) (descs : List FileDesc) → AllZip (SourceDescribes limits) files descs
       → All Fits (occurrences_from a descs)
   files_short a [] [] all = All-nil Fits
-  files_short a [] (desc ∷ descs) all = absurd all
-  files_short a (s ∷ files) [] all = absurd all
   files_short a (s ∷ files) (desc ∷ descs) all =
       All-append Fits (occurrences_of a desc) (occurrences_from (a + 1) descs) (file_short a s desc all.0)
       (files_short (a + 1) files descs all.1)
+  files_short a files descs all = absurd all
 
 -- ---- the services of an index
 
@@ -96,8 +93,4 @@ index_short limits files descs index all is services name has =
 
 pub index_few : (limits : Limits) (descs : List FileDesc) (index : Index) → Indexes descs limits index
     → IsPermutation (services_of index.occurrences) index.services → length index.services ≤ limit_of limits limit.Names
-index_few limits descs index is services =
-    let few = few_services index.occurrences in
-    let size = length_permutation (occurrences descs) index.occurrences is.all in
-    let same = length_permutation (services_of index.occurrences) index.services services in
-    omega (arith, few, size, same, is.within)
+index_few limits descs index is services = grind (arith, length_permutation, few_services)

@@ -1,9 +1,9 @@
 -- Sources in the order of their names.
-use Rattle.std.proofs.Common.{◌≡◌, ◌≢◌, ◌∙◌, sym, ℕ, ◌+◌, ◌-◌, ◌<◌, List, [], ◌∷◌, length, get_or, ap, arith, inl, inr, refl, subst, Ordering, Less, Equal, Greater, false}
+use Rattle.std.proofs.Common.{◌≡◌, ◌≢◌, ◌∙◌, sym, ℕ, ◌+◌, ◌-◌, ◌<◌, List, [], ◌∷◌, length, get_or, ap, arith, Ordering, Less, Equal, Greater, false}
 use Rattle.std.specs.Prelude.{IsSorted}
 use Rattle.std.specs.Cmp.Lexicographic.{slice_cmp}
-use Rattle.std.specs.Ordering.{nat_cmp, is_lt, ordering_reverse}
-use Rattle.std.proofs.lemmas.Bool.{true≢false, cases_lt}
+use Rattle.std.specs.Ordering.{nat_cmp, is_lt}
+use Rattle.std.proofs.lemmas.Bool.{cases_lt}
 use Rattle.std.proofs.lemmas.Cmp.{nat_list_cmp_total}
 use Rattle.std.proofs.lemmas.List.{get_or-map, length-map}
 use Rattle.std.proofs.lemmas.Map.Lookups.{exact_bytes}
@@ -21,13 +21,10 @@ name_of_item files k s h is = name_is files k s h ∙ ap name_of (sym is)
 
 -- no name is less than the one before it
 pub not_greater : (xs ys : List ℕ) → is_lt (slice_cmp nat_cmp ys xs) ≡ false → slice_cmp nat_cmp xs ys ≢ Greater
-not_greater xs ys h g =
-    true≢false (sym (ap is_lt (nat_list_cmp_total.antisymm ys xs ∙ ap ordering_reverse g)) ∙ h)
+not_greater xs ys h g = grind (arith, nat_list_cmp_total)
 
 less_left : (o : Ordering) → o ≢ Greater → o ≢ Equal → o ≡ Less
-less_left Less g e = refl
-less_left Equal g e = absurd (e refl)
-less_left Greater g e = absurd (g refl)
+less_left o g e = grind (arith)
 
 -- sorted names that differ rise
 pub strictly : (sources files : List Source) → AreSorted sources files
@@ -57,15 +54,10 @@ sorted_names cmp files finer up k h =
 pub first_pair : (files : List Source) (n : ℕ) → 0 < n → n < length files
     → name_at files (n - 1) ≡ name_at files (n - 1 + 1)
     → ((j : ℕ) → j + 1 < n → name_at files j ≢ name_at files (j + 1)) → IsFirstRepeated files (n - 1)
-first_pair files n some h same before =
-    record { below = omega (arith, some, h); same = same; first = λ j below. before j (omega (arith, below, some)) }
+first_pair files n some h same before = grind (arith)
 
 -- one more pair of neighbours that differ
 pub pairs_more : (files : List Source) (n : ℕ) → 0 < n → (name_at files (n - 1) ≡ name_at files (n - 1 + 1) → ⊥)
     → ((j : ℕ) → j + 1 < n → name_at files j ≢ name_at files (j + 1)) → (j : ℕ) → j + 1 < n + 1
     → name_at files j ≢ name_at files (j + 1)
-pairs_more files n some other before j below = elim (cases_lt (j + 1) n) [
-  | inl less ↦ before j less
-  | inr over ↦ (let first : n - 1 ≡ j = omega (arith, over, below) in
-      subst (λ i. name_at files i ≢ name_at files (i + 1)) first other)
-]
+pairs_more files n some other before j below = grind (arith, cases_lt)

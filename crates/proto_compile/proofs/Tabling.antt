@@ -1,19 +1,18 @@
 -- The table of files.
-use Rattle.std.proofs.Common.{◌≡◌, ◌∙◌, ap, sym, refl, ℕ, suc, ◌<◌, ◌≤◌, Bool, true, false, cond, List, [], ◌∷◌, ◌++◌, map, length, get_or, Option, Some, None, arith, if◌then◌else◌}
+use Rattle.std.proofs.Common.{◌≡◌, ◌∙◌, ap, sym, refl, ℕ, zero, suc, ◌<◌, ◌≤◌, Bool, true, false, cond, List, [], ◌∷◌, ◌++◌, map, length, get_or, Option, Some, None, arith}
 use Rattle.std.specs.Prelude.{String, Vec, string_bytes, string_eq, position, MatchOption, nat_lt, slice_get, is_some}
 use Rattle.std.specs.Str.{bytes_eq}
 use Rattle.std.specs.List.{position_or_len}
 use Rattle.std.specs.Map.{keys_of}
 use Rattle.std.specs.declared.alloc.Global.{Global}
 use Rattle.std.proofs.lemmas.Bool.{true≢false}
-use Rattle.std.proofs.lemmas.List.{get_or-map, length-map}
+use Rattle.std.proofs.lemmas.List.{length-map}
 use Rattle.std.proofs.lemmas.List.Quantifiers.{position-Some}
 use Rattle.std.proofs.lemmas.List.Sums.{fails_before_first}
-use Rattle.std.proofs.lemmas.Option.{slice_get_within, get_or_from_slice_get}
 use Rattle.std.proofs.lemmas.Slice.Eq.{bytes_eq-Decides}
 use borrow.Author.Tests.{ltb-false}
 use Rattle.indexmap.specs.IndexMap.{insert_entry}
-use Rattle.proto_compile.specs.Compilation.{CompiledFile, IsNamed, bytes_at, file_bytes, file_name}
+use Rattle.proto_compile.specs.Compilation.{CompiledFile, IsNamed, bytes_at, file_name}
 use Rattle.proto_compile.specs.Steps.{compiled_file}
 
 abbrev Entry : Type 0
@@ -35,29 +34,20 @@ pub pushed : (es : List Entry) (key : String Global) (value : Vec ℕ Global)
     → ((a : ℕ) → IsNamed (map compiled_file es) (string_bytes key) a → ⊥)
     → map compiled_file (insert_entry string_eq es key value) ≡ map compiled_file es ++ compiled_file (key, value) ∷ []
 pushed [] key value none = refl
-pushed (e ∷ es) key value none = by (string_eq key e.0) refl
-    (pushed es key value (not_first (compiled_file e) (map compiled_file es) (string_bytes key) none))
-  where
-    by : (b : Bool) → string_eq key e.0 ≡ b
-        → map compiled_file (insert_entry string_eq es key value) ≡ map compiled_file es
-        ++ compiled_file (key, value) ∷ []
-        → map compiled_file (if b then (e.0, value) ∷ es else e ∷ insert_entry string_eq es key value) ≡ compiled_file e
-        ∷ map compiled_file es
-        ++ compiled_file (key, value) ∷ []
-    by true same rest =
-        absurd (none 0 (omega arith, sym ((bytes_eq-Decides (string_bytes key) (string_bytes e.0)).0 same)))
-    by false other rest = ap (λ fs. compiled_file e ∷ fs) rest
+pushed (e ∷ es) key value none = grind (
+  arith,
+  bytes_eq-Decides,
+  none 0,
+  pushed es key value (not_first (compiled_file e) (map compiled_file es) (string_bytes key) none),
+)
 
 -- ---- a file that is looked up
 
 name_is : (es : List Entry) (a : ℕ) (e : Entry) → a < length es
     → get_or (map file_name (map compiled_file es)) a [] ≡ string_bytes (get_or (keys_of es) a e.0)
-name_is es a e h =
-    let first = get_or-map file_name (map compiled_file es) a (compiled_file e) []
-    (let l = length-map es compiled_file in omega (arith, l, h)) in
-    let second = get_or-map compiled_file es a e (compiled_file e) h in
-    let third = get_or-map key_of es a e e.0 h in
-    first ∙ ap file_name second ∙ sym (ap (λ (k : String Global). string_bytes k) third)
+name_is [] a e h = absurd (omega arith)
+name_is (x ∷ es) zero e h = refl
+name_is (x ∷ es) (suc a) e h = name_is es a e (omega arith)
 
 none_named : (es : List Entry) (name : List ℕ) → position (has_name name) (keys_of es) ≡ None → (a : ℕ)
     → IsNamed (map compiled_file es) name a → ⊥
@@ -98,10 +88,6 @@ positioned es name (Some a) is = one_named es name a (sym is)
 
 pub bytes_are : (es : List Entry) (a : ℕ) (e : Entry) → slice_get es a ≡ Some e
     → e.1.items ≡ bytes_at (map compiled_file es) a
-bytes_are es a e some =
-    let below = slice_get_within es a e some in
-    let first = get_or-map file_bytes (map compiled_file es) a (compiled_file e) []
-    (let l = length-map es compiled_file in omega (arith, l, below)) in
-    let second = get_or-map compiled_file es a e (compiled_file e) below in
-    let third = get_or_from_slice_get es a e e some in
-    sym (first ∙ ap file_bytes second ∙ ap (λ (x : Entry). x.1.items) third)
+bytes_are [] a e some = cc
+bytes_are (x ∷ es) zero e some = let same : x ≡ e = cc in ap (λ (x : Entry). x.1.items) (sym same)
+bytes_are (x ∷ es) (suc a) e some = bytes_are es a e some

@@ -1,5 +1,5 @@
 -- Names that stand twice in a list stand so in every order of it, and side by side where it is sorted.
-use Rattle.std.proofs.Common.{◌≡◌, ◌≢◌, ◌∙◌, sym, ℕ, zero, suc, ◌+◌, ◌-◌, ◌<◌, ◌≤◌, ◌⊎◌, inl, inr, List, [], ◌∷◌, length, take, get_or, map, ap, refl, subst, arith, Ordering, Less, Equal, Greater}
+use Rattle.std.proofs.Common.{◌≡◌, ◌≢◌, ◌∙◌, sym, ℕ, zero, suc, ◌+◌, ◌-◌, ◌<◌, ◌≤◌, ◌⊎◌, inl, inr, List, [], ◌∷◌, length, take, get_or, map, ap, refl, arith, Ordering, Less, Equal, Greater}
 use Rattle.std.specs.Prelude.{IsPermutation, false}
 use Rattle.std.specs.Cmp.Lexicographic.{slice_cmp}
 use Rattle.std.specs.List.{sum_by}
@@ -30,12 +30,7 @@ hit : (n x : List ℕ) → x ≡ n → hits n x ≡ 1
 hit n x e = ap one_where (ap (λ z. slice_cmp nat_cmp z n) e ∙ tied_itself nat_list_cmp_total n)
 
 hit_or_none : (n x : List ℕ) → ((x ≡ n) × (hits n x ≡ 1)) ⊎ (hits n x ≡ 0)
-hit_or_none n x = by (slice_cmp nat_cmp x n) refl
-  where
-    by : (o : Ordering) → slice_cmp nat_cmp x n ≡ o → ((x ≡ n) × (hits n x ≡ 1)) ⊎ (hits n x ≡ 0)
-    by Less e = inr (ap one_where e)
-    by Equal e = inl (exact_bytes x n e, ap one_where e)
-    by Greater e = inr (ap one_where e)
+hit_or_none n x = grind (arith, exact_bytes)
 
 abbrev pub Two : List (List ℕ) → List ℕ → Type 0
 Two ns n = (i : ℕ) × (j : ℕ) × (i < j) × (j < length ns) × (get_or ns i [] ≡ n) × (get_or ns j [] ≡ n)
@@ -87,23 +82,15 @@ two_at sources i j less below same = (i, j, less, omega (arith, below, length-ma
 sorted_up : (name : ℕ → List ℕ) (n k m : ℕ)
     → ((j : ℕ) → j + 1 < n → slice_cmp nat_cmp (name j) (name (j + 1)) ≢ Greater) → k + m < n
     → is_gt (slice_cmp nat_cmp (name k) (name (k + m))) ≡ false
-sorted_up name n k zero up h =
-    let at : k ≡ k + 0 = omega arith in
-    subst (λ j. is_gt (slice_cmp nat_cmp (name k) (name j)) ≡ false) at
-    (ap is_gt (tied_itself nat_list_cmp_total (name k)))
+sorted_up name n k zero up h = grind (arith, nat_list_cmp_total, tied_itself)
 sorted_up name n k (suc m) up h =
-    let at : k + m + 1 ≡ k + suc m = omega arith in
-    let before = sorted_up name n k m up (omega (arith, h)) in
-    subst (λ j. is_gt (slice_cmp nat_cmp (name k) (name j)) ≡ false) at
-    (upto nat_list_cmp_total (name k) (name (k + m)) (name (k + m + 1)) before
-    (not_later (slice_cmp nat_cmp (name (k + m)) (name (k + m + 1))) (up (k + m) (omega (arith, h)))))
+    grind (arith, nat_list_cmp_total, upto, not_later, sorted_up name n k m up (omega (arith, h)))
 
 not_after : (sources files : List Source) (k j : ℕ) → AreSorted sources files → k ≤ j → j < length files
     → is_gt (slice_cmp nat_cmp (name_at files k) (name_at files j)) ≡ false
 not_after sources files k j sorted most h =
-    let at : k + (j - k) ≡ j = omega (arith, most) in
-    subst (λ i. is_gt (slice_cmp nat_cmp (name_at files k) (name_at files i)) ≡ false) at
-    (sorted_up (name_at files) (length files) k (j - k) sorted.rises (omega (arith, most, h)))
+    let at : j ≡ k + (j - k) = omega (arith, most) in
+    rw at (sorted_up (name_at files) (length files) k (j - k) sorted.rises (omega (arith, most, h)))
 
 pub up_in_order : (sources files : List Source) (k j : ℕ) → AreSorted sources files → k ≤ j → j < length files
     → slice_cmp nat_cmp (name_at files k) (name_at files j) ≢ Greater
@@ -118,6 +105,5 @@ neighbours sources files n sorted two =
     let size = length-map files name_of in
     let left = not_after sources files i (i + 1) sorted (omega arith) (omega (arith, less, below, size)) in
     let right = not_after sources files (i + 1) j sorted (omega (arith, less)) (omega (arith, below, size)) in
-    let up : is_gt (slice_cmp nat_cmp (name_at files (i + 1)) (name_at files i)) ≡ false =
-    subst (λ (z : List ℕ). is_gt (slice_cmp nat_cmp (name_at files (i + 1)) z) ≡ false) (second ∙ sym first) right in
+    let up = rw (second ∙ sym first) at right in
     (i, omega (arith, less, below, size), first, same_name (name_at files i) (name_at files (i + 1)) left up)

@@ -1,7 +1,6 @@
 -- What files have in the set, by its length.
-use Rattle.std.proofs.Common.{sym, ap, subst, ℕ, ◌<◌, ◌≤◌, Bool, not, List, length, arith, refl}
-use Rattle.std.specs.Set.{is_member}
-use Rattle.std.specs.Prelude.{Contains, filter, flat_map, ◌==◌}
+use Rattle.std.proofs.Common.{ℕ, ◌<◌, ◌≤◌, Bool, not, List, length, arith, refl}
+use Rattle.std.specs.Prelude.{Contains, filter, flat_map}
 use Rattle.std.proofs.lemmas.List.Concat.{length-flat_map}
 use Rattle.std.proofs.lemmas.List.Filters.{sum_by-filter_both}
 use Rattle.std.proofs.lemmas.List.Sums.{get_or-le-sum_by}
@@ -13,9 +12,7 @@ use Rattle.proto_compile.specs.Sound.{IsOfSources}
 
 -- one of many
 one_of : (f : ℕ → List ℕ) (xs : List ℕ) (a : ℕ) → Contains xs a → length (f a) ≤ length (flat_map f xs)
-one_of f xs a (k, below, is) =
-    let same = ap (λ b. length (f b)) is in
-    omega (arith, length-flat_map f xs, get_or-le-sum_by (λ b. length (f b)) xs k a below, same)
+one_of f xs a has = grind (arith, length-flat_map, get_or-le-sum_by)
 
 -- some of many
 pub some_of : (f : ℕ → List ℕ) (p : ℕ → Bool) (xs : List ℕ) → length (flat_map f (filter p xs)) ≤ length (flat_map f xs)
@@ -31,9 +28,4 @@ file_within c (sources, is) a below =
 
 pub reached_within : (c : Compilation) → IsOfSources c → (a : ℕ) → a < count_of c.links
     → length (flat_map (λ b. bytes_field 1 (bytes_at c.files b)) (reach_of c.links a)) ≤ length (set_of c.files c.links)
-reached_within c (sources, is) a below =
-    let linked = is.written.resolved.analysed.linked in
-    let f : ℕ → List ℕ = λ b. bytes_field 1 (bytes_at c.files b) in
-    let part = (whole_of _ c.links linked).part a below in
-    subst (λ (xs : List ℕ). length (flat_map f xs) ≤ length (flat_map f c.links.set_order)) (sym part)
-    (some_of f (is_member ◌==◌ (reach_of c.links a)) c.links.set_order)
+reached_within c is a below = grind (arith, whole_of, some_of)

@@ -1,5 +1,5 @@
 -- Sources and what they describe.
-use Rattle.std.proofs.Common.{◌≡◌, ◌∙◌, sym, ℕ, ◌+◌, ◌<◌, List, [], ◌∷◌, length, get_or, map, ap, subst, arith, refl, inl, inr}
+use Rattle.std.proofs.Common.{◌≡◌, ◌∙◌, sym, ℕ, ◌+◌, ◌<◌, List, [], ◌∷◌, length, get_or, map, ap, arith, refl}
 use Rattle.std.specs.List.{AllZip}
 use Rattle.std.specs.Prelude.{Contains}
 use Rattle.std.proofs.lemmas.Bool.{cases_lt}
@@ -9,7 +9,6 @@ pub use Rattle.std.proofs.lemmas.Slice.Zip.{all_zipped_more as zip_end}
 use Rattle.proto_desc.specs.declared.file.FileDesc.{FileDesc}
 use Rattle.proto_links.proofs.Rising.{none_in}
 use Rattle.proto_links.specs.Imports as imports
-use Rattle.proto_desc.specs.declared.file.ImportDesc.{ImportDesc}
 use Rattle.std.proofs.lemmas.Option.{get_or_from_slice_get, slice_get_within}
 use Rattle.proto_names.specs.Index.{Index}
 use Rattle.proto_names.specs.Repeated.{IsRepeated}
@@ -27,22 +26,15 @@ use Rattle.proto_compile.specs.declared.source.Source.{Source}
 pub same_names : (limits : Limits) (files : List Source) (descs : List FileDesc)
     → AllZip (SourceDescribes limits) files descs → map imports.name_of descs ≡ map name_of files
 same_names limits [] [] all = refl
-same_names limits [] (d ∷ descs) all = absurd all
-same_names limits (s ∷ files) [] all = absurd all
-same_names limits (s ∷ files) (d ∷ descs) all =
-    let name : imports.name_of d ≡ name_of s = ap imports.name_of all.0.3 in
-    ap (λ n. n ∷ map imports.name_of descs) name ∙ ap (λ ns. name_of s ∷ ns) (same_names limits files descs all.1)
+same_names limits (s ∷ files) (d ∷ descs) all = grind (arith, same_names limits files descs all.1)
+same_names limits files descs all = absurd all
 
 -- types resolved, a descriptor has its name
 typed_names : (links : Linked) (index : Index) (a : ℕ) (descs typed : List FileDesc)
     → AreTypedFrom links index a descs typed → map imports.name_of typed ≡ map imports.name_of descs
 typed_names links index a [] [] all = refl
-typed_names links index a [] (g ∷ gs) all = absurd all
-typed_names links index a (f ∷ fs) [] all = absurd all
-typed_names links index a (f ∷ fs) (g ∷ gs) all =
-    let name : imports.name_of g ≡ imports.name_of f = ap imports.name_of all.0.resolved.same in
-    ap (λ (n : List ℕ). n ∷ map imports.name_of gs) name
-    ∙ ap (λ (ns : List (List ℕ)). imports.name_of f ∷ ns) (typed_names links index (a + 1) fs gs all.1)
+typed_names links index a (f ∷ fs) (g ∷ gs) all = grind (arith, typed_names links index (a + 1) fs gs all.1)
+typed_names links index a descs typed all = absurd all
 
 pub resolved_names : {limits : Limits} {sources files : List Source} {typed : List FileDesc} {links : Linked}
     {index : Index} → AreResolved limits sources files typed links index → map imports.name_of typed ≡ map name_of files
@@ -62,19 +54,11 @@ as_many f g xs ys same = omega (arith, ap length same, length-map xs f, length-m
 -- an import stands in one of the files
 pub bad_inside : (descs : List FileDesc) (a : ℕ) (place : Place) (kind : Kind) → imports.IsBad descs a place kind
     → a < length descs
-bad_inside descs a place kind bad = elim (cases_lt a (length descs)) [
-  | inl less ↦ less
-  | inr over ↦ (
-      let l = length-map descs imports.imports_of in
-      let none : imports.imports_at descs a ≡ [] = get_or_past (map imports.imports_of descs) a []
-      (omega (arith, l, over)) in
-      absurd (none_in bad.0 (subst (λ (is : List ImportDesc). Contains is bad.0) none bad.1)))
-]
+bad_inside descs a place kind bad = grind (arith, cases_lt, get_or_past, length-map, none_in)
 
 -- what occurs beside another
 pub contains_second : (os : List Occurrence) (a b : Occurrence) → ContainsBoth os a b → Contains os b
-contains_second os a b (i, j, other, first, second) =
-    (j, slice_get_within os j b second, get_or_from_slice_get os j b b second)
+contains_second os a b has = grind (arith, get_or_from_slice_get, slice_get_within)
 
 pub twice_within : (descs : List FileDesc) (o : Occurrence) → IsTwice (occurrences descs) o → o.file < length descs
 twice_within descs o twice =

@@ -7,8 +7,7 @@ use Rattle.proto_checks.proofs.body.body_fault.Goals as goal
 
 pub returns : goal.returns
 returns c =
-    let members = each_three FieldOptionsBreak OneofBreaks EnumBreaks optioned_fields message_oneof message_enum
-    c.args.items.now c.in_ok-elements.elements
+    let members = each_three FieldOptionsBreak OneofBreaks EnumBreaks optioned_fields message_oneof message_enum _ _
     c.in_ok-elements.ensures in
     least_union (least_union c.in_ok-numbers.ensures c.in_ok-own.ensures c.lesser-alone.ensures) members
     c.lesser.ensures

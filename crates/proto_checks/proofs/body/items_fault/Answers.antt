@@ -4,11 +4,8 @@ use Rattle.proto_base.proofs.Sets.{each_more, each_all}
 use Rattle.proto_checks.proofs.body.items_fault.Goals as goal
 
 pub loop-item-preserved : goal.loop-item-preserved
-loop-item-preserved c = each_more c.args.items.now ItemBreaks c.loop-item.item-index c.item-item.result
-    c.loop-item.first c.in_ok-item_fault.field-0
-    c.lesser-first.result (omega arith, sym c.item-item.is) c.loop-item.invariant c.in_ok-item_fault.ensures
-    c.lesser-first.ensures
+loop-item-preserved c = each_more _ ItemBreaks _ _ _ _ _ (omega arith, sym c.item-item.is)
+    c.loop-item.invariant c.in_ok-item_fault.ensures c.lesser-first.ensures
 
 pub returns : goal.returns
-returns c = each_all c.args.items.now ItemBreaks c.loop-item.item-index c.loop-item.first
-    (omega arith) c.loop-item.invariant
+returns c = each_all _ ItemBreaks _ _ (omega arith) c.loop-item.invariant

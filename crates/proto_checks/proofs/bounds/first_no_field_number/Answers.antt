@@ -1,4 +1,4 @@
-use Rattle.std.proofs.Common.{arith, get_or, refl}
+use Rattle.std.proofs.Common.{arith, refl}
 use Rattle.std.proofs.lemmas.Bool.{false≢true}
 use Rattle.proto_base.specs.declared.kind.Kind.TheVariants as kind
 use Rattle.proto_base.specs.Least.{spot}
@@ -13,19 +13,15 @@ pub loop-marked-preserved : goal.loop-marked-preserved
 loop-marked-preserved c =
     let ns = c.args.numbers.now in
     let n = c.loop-marked.marked-index in
-    let here = get_or ns n no_number in
-    let stands = item_at ns n no_number (omega arith) in
     let P = λ (a : MarkedNumber). IsFieldNumber a.number → ⊥ in
     let at = λ (a : MarkedNumber). spot a.place kind.FieldNumberRange in
+    let stands = item_at ns n no_number (omega arith) in
     elim c.if-not-is_field_number.branch [
-      | then-not-is_field_number w ↦ rw w.first-is
-          (each_hit ns P at n here c.loop-marked.first w.lesser-first.result stands
+      | then-not-is_field_number w ↦ rw w.first-is (each_hit ns P at n _ _ _ stands
           (λ h. false≢true (w.if-not-is_field_number.ensures.1 h)) c.loop-marked.invariant w.lesser-first.ensures)
-      | else-not-is_field_number w ↦ rw w.first-is
-          (each_miss ns P at n here c.loop-marked.first stands (λ out. out (w.if-not-is_field_number.ensures.0 refl))
-          c.loop-marked.invariant)
+      | else-not-is_field_number w ↦ rw w.first-is (each_miss ns P at n _ _ stands
+          (λ out. out (w.if-not-is_field_number.ensures.0 refl)) c.loop-marked.invariant)
     ]
 
 pub returns : goal.returns
-returns c = each_all c.args.numbers.now IsNoFieldNumber c.loop-marked.marked-index c.loop-marked.first
-    (omega arith) c.loop-marked.invariant
+returns c = each_all _ IsNoFieldNumber _ _ (omega arith) c.loop-marked.invariant

@@ -4,9 +4,7 @@ use Rattle.proto_checks.proofs.Intervals.{raised, raised_is, raised_more, raised
 use Rattle.proto_checks.proofs.covers.raise_ends.Goals as goal
 
 pub loop-interval-preserved : goal.loop-interval-preserved
-loop-interval-preserved c = rw c.max-top.ensures
-    (raised_more c.loop-interval.intervals (raised 0 c.args.intervals.now) c.loop-interval.interval-index
-    c.loop-interval.top blank (omega arith) c.loop-interval.invariant)
+loop-interval-preserved c = grind (arith, raised, raised_more, blank)
 
 pub returns : goal.returns
 returns c = subst (IsRaised c.args.intervals.now)

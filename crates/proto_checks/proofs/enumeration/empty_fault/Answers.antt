@@ -1,16 +1,11 @@
-use Rattle.std.proofs.Common.{◌≡◌, ap, true, false, arith}
+use Rattle.std.proofs.Common.{arith}
 use Rattle.std.proofs.lemmas.Grind.{common_steps}
-use Rattle.std.specs.List.{list_any}
-use Rattle.proto_tree.specs.declared.enumeration.Enum.{Enum}
-use Rattle.proto_checks.specs.Parts.{is_value}
-use Rattle.proto_checks.proofs.Empty.{enum_filled, enum_empty}
+use Rattle.proto_checks.proofs.Empty.{some_value, no_values}
+use Rattle.proto_base.proofs.Sets.{least_hit, least_miss}
 use Rattle.proto_checks.proofs.enumeration.empty_fault.Goals as goal
 
 pub returns-then-has_value : goal.returns-then-has_value
-returns-then-has_value c = let some : list_any is_value c.args.declared.now.items ≡ true =
-    grind (arith, common_steps) in enum_filled c.args.declared.now some
+returns-then-has_value c = grind (arith, common_steps, least_miss, some_value)
 
 pub returns-else-has_value : goal.returns-else-has_value
-returns-else-has_value c =
-    let none : list_any is_value c.args.declared.now.items ≡ false = grind (arith, common_steps) in
-    rw (ap (λ (d : Enum). d.name.span.start) c.declared.view_is) (enum_empty c.args.declared.now none)
+returns-else-has_value c = grind (arith, common_steps, least_hit, no_values)

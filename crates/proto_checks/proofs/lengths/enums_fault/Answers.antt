@@ -5,13 +5,9 @@ use Rattle.proto_base.proofs.Among.{flat_more, flat_all}
 use Rattle.proto_checks.proofs.lengths.enums_fault.Goals as goal
 
 pub loop-declared-preserved : goal.loop-declared-preserved
-loop-declared-preserved c = λ scope at. flat_more (IsTooLong c.args.limits.now)
-    (declared_by_enum scope) c.args.enums.now c.loop-declared.declared-index
-    c.declared-item.result c.loop-declared.first c.enum_fault.result c.lesser-first.result
-    (omega arith) c.declared-item.is (c.loop-declared.invariant scope at)
-    (c.enum_fault.ensures scope at) c.lesser-first.ensures
+loop-declared-preserved c = λ scope at. flat_more (IsTooLong c.args.limits.now) (declared_by_enum scope) _ _ _ _ _ _
+    (omega arith) c.declared-item.is (c.loop-declared.invariant scope at) (c.enum_fault.ensures scope at)
+    c.lesser-first.ensures
 
 pub returns : goal.returns
-returns c = λ scope at. flat_all (IsTooLong c.args.limits.now)
-    (declared_by_enum scope) c.args.enums.now c.loop-declared.declared-index c.loop-declared.first
-    (omega arith) (c.loop-declared.invariant scope at)
+returns c = grind (arith, flat_all)

@@ -1,10 +1,9 @@
-use Rattle.proto_checks.proofs.Measured.{inside_least}
+use Rattle.proto_checks.specs.Checks.{IsTooLong}
+use Rattle.proto_base.proofs.Among.{least_append}
 use Rattle.proto_checks.proofs.lengths.inside_fault.Goals as goal
 
 pub returns : goal.returns
-returns c = λ scope at. inside_least c.args.limits.now scope c.args.fields.now c.args.oneofs.now c.args.enums.now
-    c.members_fault-field.result
-    c.members_fault-oneof.result c.enums_fault-declared.result c.lesser-member.result c.lesser.result
-    (c.members_fault-field.ensures scope at) (c.members_fault-oneof.ensures scope at)
-    (c.enums_fault-declared.ensures scope at) c.lesser-member.ensures
+returns c = λ scope at. least_append (IsTooLong c.args.limits.now) _ _ _ _ _
+    (least_append (IsTooLong c.args.limits.now) _ _ _ _ _ (c.members_fault-field.ensures scope at)
+    (c.members_fault-oneof.ensures scope at) c.lesser-member.ensures) (c.enums_fault-declared.ensures scope at)
     c.lesser.ensures

@@ -5,13 +5,10 @@ use Rattle.proto_base.proofs.Among.{flat_more, flat_all}
 use Rattle.proto_checks.proofs.lengths.messages_fault.Goals as goal
 
 pub loop-message-preserved : goal.loop-message-preserved
-loop-message-preserved c = λ scope at. flat_more (IsTooLong c.args.limits.now)
-    (λ m. declared_by_message m scope) c.args.messages.now
-    c.loop-message.message-index c.message-item.result c.loop-message.first c.message_fault.result c.lesser-first.result
-    (omega arith) c.message-item.is
-    (c.loop-message.invariant scope at) (c.message_fault.ensures scope at) c.lesser-first.ensures
+loop-message-preserved c = λ scope at. flat_more (IsTooLong c.args.limits.now) (λ m. declared_by_message m scope) _ _ _
+    _ _ _
+    (omega arith) c.message-item.is (c.loop-message.invariant scope at) (c.message_fault.ensures scope at)
+    c.lesser-first.ensures
 
 pub returns : goal.returns
-returns c = λ scope at. flat_all (IsTooLong c.args.limits.now) (λ m. declared_by_message m scope) c.args.messages.now
-    c.loop-message.message-index
-    c.loop-message.first (omega arith) (c.loop-message.invariant scope at)
+returns c = grind (arith, flat_all)

@@ -5,13 +5,9 @@ use Rattle.proto_base.proofs.Among.{flat_more, flat_all}
 use Rattle.proto_checks.proofs.lengths.services_fault.Goals as goal
 
 pub loop-service-preserved : goal.loop-service-preserved
-loop-service-preserved c = λ scope at. flat_more (IsTooLong c.args.limits.now)
-    (declared_by_service scope) c.args.services.now c.loop-service.service-index
-    c.service-item.result c.loop-service.first c.service_fault.result c.lesser-first.result
-    (omega arith) c.service-item.is (c.loop-service.invariant scope at)
-    (c.service_fault.ensures scope at) c.lesser-first.ensures
+loop-service-preserved c = λ scope at. flat_more (IsTooLong c.args.limits.now) (declared_by_service scope) _ _ _ _ _ _
+    (omega arith) c.service-item.is (c.loop-service.invariant scope at) (c.service_fault.ensures scope at)
+    c.lesser-first.ensures
 
 pub returns : goal.returns
-returns c = λ scope at. flat_all (IsTooLong c.args.limits.now)
-    (declared_by_service scope) c.args.services.now c.loop-service.service-index c.loop-service.first
-    (omega arith) (c.loop-service.invariant scope at)
+returns c = grind (arith, flat_all)

@@ -9,14 +9,10 @@ loop-nested-init t c = least_single MessageNamesBreak (own_names c.args.message.
     (rw (c.as_slice-fields.ensures, c.as_slice-reserved.ensures, c.as_slice.ensures) at c.in_ok-first.ensures)
 
 pub loop-nested-preserved : goal.loop-nested-preserved
-loop-nested-preserved t c = behind_more MessageNamesBreak names_of
-    (own_names c.args.message.now ∷ []) c.as_slice-nested-items.result.now
-    c.loop-nested.nested-index c.nested-item.result c.loop-nested.first c.in_ok-message_names_fault.field-0
-    c.lesser-first.result (omega arith) c.nested-item.is
-    c.loop-nested.invariant c.in_ok-message_names_fault.ensures c.lesser-first.ensures
+loop-nested-preserved t c = behind_more MessageNamesBreak names_of (own_names c.args.message.now ∷ []) _ _ _ _ _ _
+    (omega arith) c.nested-item.is c.loop-nested.invariant c.in_ok-message_names_fault.ensures c.lesser-first.ensures
 
 pub returns : goal.returns
 returns t c = rw (names_out c.args.message.now) (rw c.as_slice-nested-items.ensures at
-    (behind_all MessageNamesBreak names_of (own_names c.args.message.now ∷ []) c.as_slice-nested-items.result.now
-    c.loop-nested.nested-index c.loop-nested.first
+    (behind_all MessageNamesBreak names_of (own_names c.args.message.now ∷ []) c.as_slice-nested-items.result.now _ _
     (omega arith) c.loop-nested.invariant))

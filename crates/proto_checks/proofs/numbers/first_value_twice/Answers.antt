@@ -1,4 +1,4 @@
-use Rattle.std.proofs.Common.{◌≡◌, Option, None, Some, false, rules, sym}
+use Rattle.std.proofs.Common.{◌≡◌, Option, None, Some, false, sym}
 use Rattle.std.proofs.lemmas.Bool.{false≢true}
 use Rattle.std.specs.Option.{is_some}
 use Rattle.proto_base.proofs.Sets.{least_none, least_same}
@@ -15,9 +15,6 @@ empty : (A : Type 0) (S : Spot → Type 0) (o : Option Spot) → is_some o ≡ f
     → IsLeast (λ x. (A → ⊥) × S x) o
 empty A S None e least = least_none (λ x. (A → ⊥) × S x) (λ x w. least.is x w.1)
 empty A S (Some y) e least = absurd (cc)
-
-pub returns-then-is_aliasing : goal.returns-then-is_aliasing
-returns-then-is_aliasing c = search rules
 
 pub returns : goal.returns
 returns c = elim c.else-is_some.branch [

@@ -8,14 +8,10 @@ use Rattle.proto_checks.proofs.package.parts_fault.Goals as goal
 
 pub returns : goal.returns
 returns c = rw (c.as_slice-part-items.ensures ∙ ap (λ (n : FullName). n.rest) c.name.view_is) at
-    (with_rest (IsPartTooLong c.args.limits.now c.args.place) part_name c.args.name.now.first.text
-    c.as_slice-part-items.result.now c.loop-part.part-index
-    c.loop-part.first (omega arith) c.loop-part.invariant)
+    (with_rest (IsPartTooLong c.args.limits.now c.args.place) part_name _ c.as_slice-part-items.result.now _ _
+    (omega arith) c.loop-part.invariant)
 
 pub loop-part-preserved : goal.loop-part-preserved
-loop-part-preserved c = with_more (IsPartTooLong c.args.limits.now c.args.place c.args.name.now.first.text)
-    c.as_slice-part-items.result.now
-    (λ part. IsPartTooLong c.args.limits.now c.args.place (part_name part)) c.loop-part.part-index c.part-item.result
-    c.loop-part.first
-    c.part_fault.result c.lesser-first.result (omega arith, sym c.part-item.is) c.loop-part.invariant
+loop-part-preserved c = with_more _ _ (λ part. IsPartTooLong c.args.limits.now c.args.place (part_name part)) _ _ _ _ _
+    (omega arith, sym c.part-item.is) c.loop-part.invariant
     (rw (ap part_name c.part.view_is) at c.part_fault.ensures) c.lesser-first.ensures

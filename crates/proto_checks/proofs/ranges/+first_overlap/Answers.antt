@@ -21,8 +21,5 @@ first_overlap-requires-2 t c =
     search rules
 
 pub returns : goal.returns
-returns t c = halves_least c.split_at.result.0.now c.split_at.result.1.now c.args.ranges.now
-    c.in_ok-first_overlap.field-0 c.in_ok-first_overlap-2.field-0
-    c.lesser-inside.result c.in_ok-first_across.field-0 c.lesser.result c.split_at.ensures.by_index.0
-    c.in_ok-first_overlap.ensures
+returns t c = halves_least _ _ c.args.ranges.now _ _ _ _ _ c.split_at.ensures.by_index.0 c.in_ok-first_overlap.ensures
     c.in_ok-first_overlap-2.ensures c.lesser-inside.ensures c.in_ok-first_across.ensures c.lesser.ensures

@@ -1,4 +1,4 @@
-use Rattle.std.proofs.Common.{◌∙◌, sym, arith, get_or}
+use Rattle.std.proofs.Common.{◌∙◌, sym, arith}
 use Rattle.std.proofs.lemmas.Bool.{false≢true}
 use Rattle.proto_base.specs.declared.kind.Kind.TheVariants as kind
 use Rattle.proto_base.specs.Least.{spot}
@@ -12,21 +12,18 @@ use Rattle.proto_checks.proofs.ranges.first_reserved_number.Goals.{then-is_held,
 
 pub loop-marked-preserved : goal.loop-marked-preserved
 loop-marked-preserved c =
-    let rs = c.args.ranges.now in
     let ns = c.args.numbers.now in
     let n = c.loop-marked.marked-index in
-    let here = get_or ns n no_number in
     let stands = item_at ns n no_number (omega arith) in
-    let P = λ (a : MarkedNumber). IsUsed rs a.number in
+    let P = λ (a : MarkedNumber). IsUsed c.args.ranges.now a.number in
     let at = λ (a : MarkedNumber). spot a.place kind.ReservedNumberUsed in
     let told = c.is_held.ensures in
     elim c.if-is_held.branch [
-      | then-is_held w ↦ rw w.first-is (each_hit ns P at n here c.loop-marked.first w.lesser-first.result stands
-          (told.0 w.if-is_held.true) c.loop-marked.invariant w.lesser-first.ensures)
-      | else-is_held w ↦ rw w.first-is (each_miss ns P at n here c.loop-marked.first stands
+      | then-is_held w ↦ rw w.first-is (each_hit ns P at n _ _ _ stands (told.0 w.if-is_held.true)
+          c.loop-marked.invariant w.lesser-first.ensures)
+      | else-is_held w ↦ rw w.first-is (each_miss ns P at n _ _ stands
           (λ used. false≢true (sym w.if-is_held.false ∙ told.1 used)) c.loop-marked.invariant)
     ]
 
 pub returns : goal.returns
-returns c = each_all c.args.numbers.now (IsReserved c.args.ranges.now) c.loop-marked.marked-index c.loop-marked.first
-    (omega arith) c.loop-marked.invariant
+returns c = each_all _ (IsReserved c.args.ranges.now) _ _ (omega arith) c.loop-marked.invariant

@@ -1,4 +1,4 @@
-use Rattle.std.proofs.Common.{◌≡◌, ◌∙◌, sym, arith, refl, get_or, rules}
+use Rattle.std.proofs.Common.{◌≡◌, ◌∙◌, sym, arith, refl, rules}
 use Rattle.std.specs.Prelude.{nat_lt}
 use Rattle.std.specs.Ordering.{nat_cmp}
 use Rattle.std.proofs.lemmas.Bool.{not-false, not-true}
@@ -20,25 +20,17 @@ pub loop-marked-preserved : goal.loop-marked-preserved
 loop-marked-preserved c =
     let ns = c.args.numbers.now in
     let n = c.loop-marked.marked-index in
-    let here = get_or ns n no_number in
     let at = λ (a : MarkedNumber). spot a.place c.args.kind in
     let stands = item_at ns n no_number (omega arith) in
+    let stored = c.in_ok-insert.ensures in
     elim c.if-not-branch.branch [
-      | then-not-branch w ↦
-          rw w.first-is
-          (passed_clash nat_cmp (λ k. k) number_in at ns c.loop-marked.seen c.insert.new.self n here here.number
-          c.loop-marked.first w.lesser-first.result exact_number stands refl c.in_ok-insert.ensures.updates
-          (not-false _ (sym c.in_ok-insert.ensures.added ∙ w.if-not-branch.true)) c.loop-marked.invariant
+      | then-not-branch w ↦ rw w.first-is (passed_clash nat_cmp (λ k. k) number_in at ns _ _ n _ _ _ _ exact_number
+          stands refl stored.updates (not-false _ (sym stored.added ∙ w.if-not-branch.true)) c.loop-marked.invariant
           w.lesser-first.ensures)
-      | else-not-branch w ↦
-          rw w.first-is
-          (passed_skip nat_cmp (λ k. k) number_in at ns c.loop-marked.seen c.insert.new.self n here here.number
-          c.loop-marked.first exact_number stands refl c.in_ok-insert.ensures.updates
-          (not-true _ (sym c.in_ok-insert.ensures.added ∙ w.if-not-branch.false))
-          c.loop-marked.invariant)
+      | else-not-branch w ↦ rw w.first-is (passed_skip nat_cmp (λ k. k) number_in at ns _ _ n _ _ _ exact_number
+          stands refl stored.updates (not-true _ (sym stored.added ∙ w.if-not-branch.false)) c.loop-marked.invariant)
     ]
 
 pub returns : goal.returns
-returns c = later_all c.args.numbers.now (λ (a b : MarkedNumber). a.number ≡ b.number)
-    (λ (b : MarkedNumber). spot b.place c.args.kind)
-    c.loop-marked.marked-index c.loop-marked.first (omega arith) c.loop-marked.invariant.least
+returns c = later_all _ (λ (a b : MarkedNumber). a.number ≡ b.number) (λ (b : MarkedNumber). spot b.place c.args.kind) _
+    _ (omega arith) c.loop-marked.invariant.least

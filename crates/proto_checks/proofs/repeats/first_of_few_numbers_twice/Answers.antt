@@ -20,14 +20,12 @@ loop-index-preserved c =
     let told = λ (a : MarkedNumber). Decides-eqb a.number here.number in
     let stands = item_at ns n no_number (omega arith) in
     elim c.if-number_stands_in.branch [
-      | then-number_stands_in w ↦ rw w.first-is (few_clash ns same at test n here c.loop-index.first
-          w.lesser-first.result told stands (sym c.number_stands_in.ensures ∙ w.if-number_stands_in.true)
-          c.loop-index.invariant w.lesser-first.ensures)
-      | else-number_stands_in w ↦ rw w.first-is (few_skip ns same at test n here c.loop-index.first told stands
+      | then-number_stands_in w ↦ rw w.first-is (few_clash ns same at test n here _ _ told stands
+          (sym c.number_stands_in.ensures ∙ w.if-number_stands_in.true) c.loop-index.invariant w.lesser-first.ensures)
+      | else-number_stands_in w ↦ rw w.first-is (few_skip ns same at test n here _ told stands
           (sym c.number_stands_in.ensures ∙ w.if-number_stands_in.false) c.loop-index.invariant)
     ]
 
 pub returns : goal.returns
-returns c = later_all c.args.numbers.now (λ (a b : MarkedNumber). a.number ≡ b.number)
-    (λ (b : MarkedNumber). spot b.place c.args.kind) c.loop-index.index c.loop-index.first (omega arith)
-    c.loop-index.invariant
+returns c = later_all _ (λ (a b : MarkedNumber). a.number ≡ b.number) (λ (b : MarkedNumber). spot b.place c.args.kind) _
+    _ (omega arith) c.loop-index.invariant

@@ -52,7 +52,5 @@ loop-index-preserved g c =
     }
 
 pub returns : goal.returns
-returns g c =
-    let ts = map g.T.HasText.mark c.args.items.now in
-    later_all ts (λ (a b : Marked). a.text ≡ b.text) (λ (b : Marked). spot b.place c.args.kind) c.loop-index.index
-    c.loop-index.first (omega (arith, length-map c.args.items.now g.T.HasText.mark)) c.loop-index.invariant.least
+returns g c = later_all _ (λ (a b : Marked). a.text ≡ b.text) (λ (b : Marked). spot b.place c.args.kind) _ _
+    (omega (arith, length-map c.args.items.now g.T.HasText.mark)) c.loop-index.invariant.least

@@ -1,4 +1,4 @@
-use Rattle.std.proofs.Common.{◌≡◌, ◌∙◌, sym, arith, refl, map, subst}
+use Rattle.std.proofs.Common.{◌≡◌, ◌∙◌, sym, arith, refl, map}
 use Rattle.std.proofs.lemmas.Bool.{not-false, not-true}
 use Rattle.std.proofs.lemmas.List.{length-map}
 use Rattle.proto_base.specs.Least.{spot}
@@ -18,21 +18,18 @@ loop-item-preserved g c =
     let here : Marked = record { text = key.now; place = c.marked.inside.place } in
     let at = λ (a : Marked). spot a.place c.args.kind in
     let text_of = λ (a : Marked). a.text in
-    let stands : StandsAt ts n here = subst (StandsAt ts n) (sym (c.marked.view_is ∙ c.marked_text-marked.ensures))
+    let stands : StandsAt ts n here = rw (c.marked.view_is ∙ c.marked_text-marked.ensures)
     (stands_made mark c.args.items.now n c.item-item.result (omega arith) c.item-item.is) in
-    let stored = c.in_ok-insert.ensures.updates in
-    let added = c.in_ok-insert.ensures.added in
+    let stored = c.in_ok-insert.ensures in
     elim c.if-not-branch.branch [
-      | then-not-branch w ↦ rw w.first-is (passed_clash text_cmp (λ k. k.now) text_of at ts c.loop-item.seen
-          c.insert.new.self n here key c.loop-item.first w.lesser-first.result exact_text stands refl stored
-          (not-false _ (sym added ∙ w.if-not-branch.true)) c.loop-item.invariant w.lesser-first.ensures)
-      | else-not-branch w ↦ rw w.first-is (passed_skip text_cmp (λ k. k.now) text_of at ts c.loop-item.seen
-          c.insert.new.self n here key c.loop-item.first exact_text stands refl stored
-          (not-true _ (sym added ∙ w.if-not-branch.false)) c.loop-item.invariant)
+      | then-not-branch w ↦ rw w.first-is (passed_clash text_cmp (λ k. k.now) text_of at ts _ _ n here key _ _
+          exact_text stands refl stored.updates (not-false _ (sym stored.added ∙ w.if-not-branch.true))
+          c.loop-item.invariant w.lesser-first.ensures)
+      | else-not-branch w ↦ rw w.first-is (passed_skip text_cmp (λ k. k.now) text_of at ts _ _ n here key _
+          exact_text stands refl stored.updates (not-true _ (sym stored.added ∙ w.if-not-branch.false))
+          c.loop-item.invariant)
     ]
 
 pub returns : goal.returns
-returns g c =
-    let ts = map g.T.HasText.mark c.args.items.now in
-    later_all ts (λ (a b : Marked). a.text ≡ b.text) (λ (b : Marked). spot b.place c.args.kind) c.loop-item.item-index
-    c.loop-item.first (omega (arith, length-map c.args.items.now g.T.HasText.mark)) c.loop-item.invariant.least
+returns g c = later_all _ (λ (a b : Marked). a.text ≡ b.text) (λ (b : Marked). spot b.place c.args.kind) _ _
+    (omega (arith, length-map c.args.items.now g.T.HasText.mark)) c.loop-item.invariant.least

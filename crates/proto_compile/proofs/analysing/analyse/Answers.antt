@@ -1,5 +1,4 @@
-use Rattle.std.proofs.Common.{rules, arith, sym, subst}
-use Rattle.proto_base.specs.NameOrder.{NamesRise}
+use Rattle.std.proofs.Common.{rules, arith}
 use Rattle.std.proofs.lemmas.Grind.{pieces}
 use Rattle.proto_compile.specs.Descriptions.{Describe}
 use Rattle.proto_compile.proofs.Making.{resolved_of}
@@ -7,11 +6,7 @@ use Rattle.proto_compile.proofs.Zipping.{same_length, same_names}
 use Rattle.proto_compile.proofs.analysing.analyse.Goals as goal
 
 pub lookup_of-requires-after_bounds : goal.lookup_of-requires-after_bounds
-lookup_of-requires-after_bounds g c κs h =
-    let files = c.args.files.now in
-    let descs = c.in_ok-descs.descs.items in
-    let names = same_names c.args.limits.now files descs c.in_ok-descs.ensures.described in
-    rw c.deref.ensures.value (subst NamesRise (sym names) c.requires.names)
+lookup_of-requires-after_bounds g c κs h = grind (arith, same_names)
 
 pub returns-in_err-lookup-clause-first : goal.returns-in_err-lookup-clause-first
 returns-in_err-lookup-clause-first g c sources few order =
@@ -21,13 +16,10 @@ returns-in_err-lookup-clause-first g c sources few order =
     search (rules, refused)
 
 pub resolve_all-requires-clause-files : goal.resolve_all-requires-clause-files
-resolve_all-requires-clause-files g c κs h =
-    same_length c.args.limits.now c.args.files.now c.in_ok-descs.descs.items c.in_ok-descs.ensures.described
+resolve_all-requires-clause-files g c κs h = grind (arith, same_length)
 
 pub returns-clause-resolved : goal.returns-clause-resolved
-returns-clause-resolved g c sources few order =
-    resolved_of few order c.in_ok-descs.ensures.described c.deref.ensures.value c.in_ok-lookup.ensures.linked
-    c.deref.ensures.value c.in_ok-lookup.ensures.indexed c.in_ok-descs-2.ensures.typed
+returns-clause-resolved g c sources few order = grind (arith, resolved_of)
 
 pub returns-in_err-descs-2-clause-first : goal.returns-in_err-descs-2-clause-first
 returns-in_err-descs-2-clause-first g c = search (pieces, arith)

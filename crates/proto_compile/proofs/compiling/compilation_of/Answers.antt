@@ -36,10 +36,3 @@ invariant_of-result-2 c =
           (rw (← c.index.view_is) c.index.invariant.0.services) within,
       (c.requires.0, record { written = is; within = within }),
     )
-
-pub returns-clause-compiled : goal.returns-clause-compiled
-returns-clause-compiled c sources is =
-    let measured = rw c.in-Some.is at c.set_len.ensures in
-    let within : length (set_of c.args.files c.args.links) ≤ limit_of c.args.limits.now limit.SetBytes =
-    rw (← c.get.ensures.value) (omega (arith, measured.0, measured.1)) in
-    record { written = is; within = within }

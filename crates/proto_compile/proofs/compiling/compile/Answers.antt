@@ -1,9 +1,9 @@
+use Rattle.std.proofs.Common.{arith}
 use Rattle.proto_compile.proofs.Answering.{every_compilation, every_fault, no_fault_left, placed}
 use Rattle.proto_compile.proofs.compiling.compile.Goals as goal
 
 pub returns-clause-whole : goal.returns-clause-whole
-returns-clause-whole g c =
-    no_fault_left c.args.limits.now c.args.sources.now c.compile_by.result c.compile_by.ensures.compiled
+returns-clause-whole g c = grind (arith, no_fault_left)
 
 pub returns-clause-placed : goal.returns-clause-placed
 returns-clause-placed g c =
@@ -14,5 +14,4 @@ returns-clause-every_compilation g c = every_compilation c.args.limits.now c.arg
     c.compile_by.ensures.compiled c.compile_by.ensures.first
 
 pub returns-clause-every_fault : goal.returns-clause-every_fault
-returns-clause-every_fault g c = every_fault c.args.limits.now c.args.sources.now c.compile_by.result
-    c.compile_by.ensures.compiled c.compile_by.ensures.first
+returns-clause-every_fault g c = grind (arith, every_fault)

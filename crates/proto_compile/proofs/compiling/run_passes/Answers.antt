@@ -1,20 +1,16 @@
-use Rattle.std.proofs.Common.{List, rules, subst, sym}
+use Rattle.std.proofs.Common.{arith, List, rules, subst, sym}
 use Rattle.proto_compile.specs.Analysed.{AreResolved}
 use Rattle.proto_compile.specs.declared.source.Source.{Source}
 use Rattle.proto_compile.proofs.Making.{descs_for_each, written_of}
 use Rattle.proto_compile.proofs.compiling.run_passes.Goals as goal
 
 pub write_table-requires-clause-files : goal.write_table-requires-clause-files
-write_table-requires-clause-files g c κs within =
-    let resolved = (rw c.deref.ensures.value at c.in_ok-analysis.ensures.resolved) c.args.sources.now
-    c.in_ok-files.ensures.few c.in_ok-files.ensures.files in
-    rw c.deref-2.ensures.value (descs_for_each resolved)
+write_table-requires-clause-files g c κs within = grind (arith, descs_for_each)
 
 pub returns-in_err-table-clause-first : goal.returns-in_err-table-clause-first
 returns-in_err-table-clause-first g c =
     let sources = c.args.sources.now in
-    let few = c.in_ok-files.ensures.few in
-    let resolved = (rw c.deref.ensures.value at c.in_ok-analysis.ensures.resolved) sources few
+    let resolved = (rw c.deref.ensures.value at c.in_ok-analysis.ensures.resolved) sources c.in_ok-files.ensures.few
     c.in_ok-files.ensures.files in
     let analysis = c.in_ok-analysis.analysis in
     let lookup = analysis.lookup in
@@ -24,19 +20,12 @@ returns-in_err-table-clause-first g c =
     search (rules, fact)
 
 pub compilation_of-requires : goal.compilation_of-requires
-compilation_of-requires g c =
-    let sources = c.args.sources.now in
-    let few = c.in_ok-files.ensures.few in
-    let resolved = (rw c.deref.ensures.value at c.in_ok-analysis.ensures.resolved) sources few
-    c.in_ok-files.ensures.files in
-    let table = c.in_ok-table.ensures in
-    (sources, written_of resolved table.short c.deref-2.ensures.value table.names table.bytes)
+compilation_of-requires g c = grind (arith, written_of)
 
 pub returns : goal.returns
 returns g c =
     let sources = c.args.sources.now in
-    let few = c.in_ok-files.ensures.few in
-    let resolved = (rw c.deref.ensures.value at c.in_ok-analysis.ensures.resolved) sources few
+    let resolved = (rw c.deref.ensures.value at c.in_ok-analysis.ensures.resolved) sources c.in_ok-files.ensures.few
     c.in_ok-files.ensures.files in
     let table = c.in_ok-table.ensures in
     let written = written_of resolved table.short c.deref-2.ensures.value table.names table.bytes in

@@ -10,9 +10,7 @@ use Rattle.proto_compile.proofs.Sorting.{name_is}
 use Rattle.proto_compile.proofs.outcome.judge.Goals as goal
 
 pub loop-outcome-preserved : goal.loop-outcome-preserved
-loop-outcome-preserved g c = rw c.in_ok-push-in-Ok.ensures.items
-    (well_more c.loop-outcome.all.items c.loop-outcome.yielded c.in-Ok.value c.in-Some.outcome c.loop-outcome.invariant
-    c.in-Ok.is)
+loop-outcome-preserved g c = grind (arith, well_more)
 
 pub returns-in-Err-clause-first : goal.returns-in-Err-clause-first
 returns-in-Err-clause-first g c =
@@ -21,8 +19,8 @@ returns-in-Err-clause-first g c =
     let l = c.loop-outcome in
     let so_far : l.yielded ≡ take (length l.yielded) c.args.outcomes.items =
     sym (map-id l.yielded) ∙ YieldsList-so_far all l.yielded l.outcome-iterator l.yielded_by in
-    let turn = YieldsList-turn all l.yielded l.outcome-iterator l.yielded_by c.next.result c.next.new.self
-    c.in-Some.outcome c.in-Some.is c.next.ensures.steps in
+    let turn = YieldsList-turn all _ l.outcome-iterator l.yielded_by _ c.next.new.self _ c.in-Some.is
+    c.next.ensures.steps in
     let at : c.len-in-Err.result ≡ length l.yielded =
     c.len-in-Err.ensures ∙ l.all.ok.0 ∙ sym (length-map l.all.items Ok) ∙ ap length l.invariant in
     let is : c.in-Some.outcome ≡ Err c.in-Err.error = c.in-Err.is in

@@ -1,8 +1,7 @@
-use Rattle.std.proofs.Common.{ℕ, get_or, subst, sym}
+use Rattle.std.proofs.Common.{ℕ}
 use Rattle.proto_links.specs.Linked.{Linked}
 use Rattle.proto_names.specs.Index.{Index}
 use Rattle.proto_compile.specs.Outcomes.{AreTypesOf, IsTypedWhole}
-use Rattle.proto_compile.specs.declared.pass.filling.Untyped.{Untyped}
 use Rattle.proto_compile.proofs.pass.filling.fill_all.Goals as goal
 
 pub returns-clause-each : goal.returns-clause-each
@@ -11,7 +10,4 @@ returns-clause-each g c = λ i d h links index a are.
     let before = at.argument.now in
     let filled : (links : Linked) (index : Index) (a : ℕ) → AreTypesOf links index a before.desc before.types
     → IsTypedWhole links index a before.desc at.after_call.now.desc = at.call in
-    let ready = subst (λ (f : Untyped). AreTypesOf links index a f.desc f.types) (sym at.argument_is) are in
-    let whole = filled links index a ready in
-    subst (λ (f : Untyped). IsTypedWhole links index a f.desc (get_or c.for_each_mut.new.s i d).desc) at.argument_is
-    (subst (λ (f : Untyped). IsTypedWhole links index a before.desc f.desc) at.left whole)
+    rw (← at.argument_is, ← at.left) (filled links index a (rw at.argument_is are))

@@ -1,4 +1,4 @@
-use Rattle.std.proofs.Common.{Global, Vec, ◌≡◌, ◌∙◌, ℕ, ◌+◌, ◌<◌, ◌++◌, List, Some, ap, drop, get_or, length, map, subst, sym, take, arith}
+use Rattle.std.proofs.Common.{Global, Vec, ◌≡◌, ◌∙◌, ℕ, ◌+◌, ◌<◌, ◌++◌, List, Some, ap, drop, get_or, length, map, sym, take, arith}
 use Rattle.std.specs.Prelude.{slice_get}
 use Rattle.std.specs.Option.{option_map}
 use Rattle.std.proofs.lemmas.List.{append-nil, drop_all, length-map, take_all}
@@ -29,20 +29,16 @@ module _ (P : ℕ → FileDesc → Vec NamedType Global → Type 0) (Q : ℕ →
       → map desc_in old ≡ descs → map types_in old ≡ types → typed ≡ map desc_in new → GivesItems P 0 descs types
       → slice_get descs i ≡ Some t → slice_get typed i ≡ Some o → Q (0 + i) t o
   filled_at i t o descs typed types is own are gives item out =
-      let from = of_map desc_in old i t (subst (λ (l : List _). slice_get l i ≡ Some t) (sym is) item) in
-      let to = of_map desc_in new i o (subst (λ (l : List _). slice_get l i ≡ Some o) are out) in
+      let from = of_map desc_in old i t (rw is item) in
+      let to = of_map desc_in new i o (rw are at out) in
       let f = from.0 in
-      let below = slice_get_within old i f from.1 in
       let before : get_or old i f ≡ f = get_or_from_slice_get old i f f from.1 in
       let after : get_or new i f ≡ to.0 = get_or_from_slice_get new i to.0 f to.1 in
       let given : slice_get types i ≡ Some f.types =
       ap (λ (l : List _). slice_get l i) (sym own) ∙ slice_get-map types_in old i ∙ ap (option_map types_in) from.1 in
-      let ready : P (0 + i) f.desc f.types =
-      subst (λ d. P (0 + i) d f.types) (sym from.2) (gives.1 i t f.types item given) in
-      let filled = each i f below (0 + i) (subst (λ (g : Untyped). P (0 + i) g.desc g.types) (sym before) ready) in
-      let made : Q (0 + i) f.desc to.0.desc = subst (λ (g : Untyped). Q (0 + i) f.desc g.desc) after
-      (subst (λ (g : Untyped). Q (0 + i) g.desc (get_or new i f).desc) before filled) in
-      subst (λ d. Q (0 + i) d o) from.2 (subst (λ d. Q (0 + i) f.desc d) to.2 made)
+      let ready : P (0 + i) f.desc f.types = rw from.2 (gives.1 i t f.types item given) in
+      let filled = each i f (slice_get_within old i f from.1) (0 + i) (rw before ready) in
+      rw (← from.2, ← to.2) (rw (before, after) at filled)
 
   filled_all : (descs typed : List FileDesc) (types : List (Vec NamedType Global)) → length new ≡ length old
       → map desc_in old ≡ descs → map types_in old ≡ types → typed ≡ map desc_in new → GivesItems P 0 descs types
@@ -56,9 +52,7 @@ module _ (P : ℕ → FileDesc → Vec NamedType Global → Type 0) (Q : ℕ →
 -- what a slice of all items of a vector leaves there
 written : {X : Type 0} (n : ℕ) (old new : List X) → length new ≡ n → length old ≡ length new
     → take n (new ++ drop (length new) old) ≡ new
-written n old new size same =
-    let none = drop_all (length new) old (omega (arith, same)) in
-    ap (λ (l : List _). take n (new ++ l)) none ∙ ap (take n) (append-nil new) ∙ take_all n new (omega (arith, size))
+written n old new size same = grind (arith, append-nil, drop_all, take_all)
 
 pub returns : goal.returns
 returns g c = IfOk-weaker c.descriptors.result _ _ (λ typed are links index gives.

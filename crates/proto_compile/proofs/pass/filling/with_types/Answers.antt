@@ -1,39 +1,23 @@
-use Rattle.std.proofs.Common.{◌≡◌, ◌∙◌, ◌⊎◌, ◌+◌, ◌++◌, List, ap, arith, inl, inr, length, map, sym}
+use Rattle.std.proofs.Common.{◌≡◌, ◌⊎◌, ◌+◌, ◌++◌, List, arith, length, map}
 use Rattle.std.proofs.lemmas.List.{length-append, length-map}
-use Rattle.proto_compile.specs.declared.pass.filling.Untyped.{Untyped}
 use Rattle.proto_names.proofs.Tabled.{all_taken}
 use Rattle.proto_compile.proofs.pass.filling.with_types.Goals as goal
 
 sizes : {F X : Type 0} (f : F → X) (files : List F) (rest xs : List X) → map f files ++ rest ≡ xs
     → length files + length rest ≡ length xs
-sizes f files rest xs e =
-    ap (λ n. n + length rest) (sym (length-map files f)) ∙ sym (length-append (map f files) rest) ∙ ap length e
+sizes f files rest xs e = grind (arith, length-map, length-append)
 
 -- two lists of one length end together
 both_ended : {F X Y : Type 0} (f : F → X) (g : F → Y) (files : List F) (xs lefts : List X) (ys rights : List Y)
     → map f files ++ lefts ≡ xs → map g files ++ rights ≡ ys → length ys ≡ length xs
     → (length lefts ≡ 0) ⊎ (length rights ≡ 0) → (map f files ≡ xs) × (map g files ≡ ys)
-both_ended f g files xs lefts ys rights left right same end =
-    let a : length files + length lefts ≡ length xs = sizes f files lefts xs left in
-    let b : length files + length rights ≡ length ys = sizes g files rights ys right in
-    elim end [
-      | inl none ↦ (
-        all_taken (map f files) lefts xs left none,
-        all_taken (map g files) rights ys right (omega (arith, a, b, same, none)),
-      )
-      | inr none ↦ (
-        all_taken (map f files) lefts xs left (omega (arith, a, b, same, none)),
-        all_taken (map g files) rights ys right none,
-      )
-    ]
+both_ended f g files xs lefts ys rights left right same end = grind (
+  arith,
+  sizes f files lefts xs left,
+  sizes g files rights ys right,
+  all_taken (map f files) lefts xs left,
+  all_taken (map g files) rights ys right,
+)
 
 pub returns : goal.returns
-returns c = λ same.
-    let left = c.loop-desc.desc-iterator.a.rest in
-    let right = c.loop-desc.desc-iterator.b.rest in
-    both_ended (λ (f : Untyped). f.desc) (λ (f : Untyped). f.types) c.loop-desc.files.items c.args.descs.items
-    left.items c.args.types.items
-    right.items c.loop-desc.invariant.descs c.loop-desc.invariant.types same (elim c.in-None.ensures.steps [
-      | inl none ↦ inl (omega (arith, left.ok.0, none.1.0))
-      | inr none ↦ inr (omega (arith, right.ok.0, none.1.0))
-    ])
+returns c = grind (arith, both_ended)

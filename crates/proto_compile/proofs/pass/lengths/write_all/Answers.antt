@@ -21,13 +21,12 @@ all_written : (limits : Limits) (descs : List FileDesc) (all : List (Vec ℕ Glo
     → AllZip (λ d bytes. IsWrittenShort limits d (Ok bytes)) descs all
     → (map items_of all ≡ map file_desc_bytes descs) × All (IsShort limits) descs
 all_written limits [] [] is = (refl, All-nil (IsShort limits))
-all_written limits [] (b ∷ all) is = absurd is
-all_written limits (d ∷ descs) [] is = absurd is
 all_written limits (d ∷ descs) (b ∷ all) is =
     let rest = all_written limits descs all is.1 in (
       ap (λ (n : List ℕ). n ∷ map items_of all) is.0.0 ∙ ap (λ (ns : List (List ℕ)). file_desc_bytes d ∷ ns) rest.0,
       All-cons (IsShort limits) d descs is.0.1 rest.1,
     )
+all_written limits descs all is = absurd is
 
 pub judge-requires : goal.judge-requires
 judge-requires g c = c.requires.files ∙ sym (rw c.as_slice.ensures.value at c.in_ok-outcomes.ensures.0)

@@ -1,6 +1,6 @@
+use Rattle.std.proofs.Common.{arith}
 use Rattle.proto_compile.proofs.LeastFault.{outcome_of}
 use Rattle.proto_compile.proofs.pass.local.describe_one.Goals as goal
 
 pub returns : goal.returns
-returns c = outcome_of c.args.limits.now c.args.source.now c.describe.result c.describe.ensures.described
-    c.describe.ensures.first
+returns c = grind (arith, outcome_of)

@@ -17,11 +17,10 @@ all_typed : (links : Linked) (index : Index) (a : ℕ) (descs typed : List FileD
     → AllZipFrom (IsTypedWhole links index) a descs typed
     → AreTypedFrom links index a descs typed × All (λ desc. file_resolved desc ≡ true) typed
 all_typed links index a [] [] all = (tt, All-nil (λ desc. file_resolved desc ≡ true))
-all_typed links index a [] (g ∷ gs) all = absurd all
-all_typed links index a (f ∷ fs) [] all = absurd all
 all_typed links index a (f ∷ fs) (g ∷ gs) all =
     let rest = all_typed links index (a + 1) fs gs all.1 in
     ((all.0.0, rest.0), All-cons (λ desc. file_resolved desc ≡ true) g gs all.0.1 rest.1)
+all_typed links index a descs typed all = absurd all
 
 pub returns-in_err-types-clause-first : goal.returns-in_err-types-clause-first
 returns-in_err-types-clause-first g c limits sources analysed =

@@ -1,17 +1,11 @@
-use Rattle.std.proofs.Common.{◌+◌, arith, subst, sym, take}
+use Rattle.std.proofs.Common.{arith}
 use Rattle.std.proofs.lemmas.List.{take_all}
-use Rattle.std.specs.List.{AllZip}
 use Rattle.proto_compile.specs.Outcomes.{IsDescribed}
 use Rattle.share_work.proofs.Giving.{all_next, gives_of_all}
 use Rattle.proto_compile.proofs.pass.local.DescribingWorkSource.piece.Goals as goal
 
 pub loop-source-preserved : goal.loop-source-preserved
-loop-source-preserved c =
-    let l = c.loop-source in
-    let R = IsDescribed c.args.self.now.limits in
-    subst (AllZip R (take (l.source-index + 1) c.args.items.now)) (sym c.in_ok-push.ensures.items)
-    (all_next R c.args.items.now l.source-index _ l.outcomes.items c.describe_one.result (omega arith) l.invariant
-    c.describe_one.ensures)
+loop-source-preserved c = grind (arith, all_next)
 
 pub returns-clause-outs : goal.returns-clause-outs
 returns-clause-outs c =
