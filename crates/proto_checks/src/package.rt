@@ -2,14 +2,13 @@
 
 ghost use Rattle.std.specs.Prelude.{◌≡◌, true, flat_map};
 ghost use Rattle.proto_base.specs.declared.kind.Kind.TheVariants as kind;
-ghost use Rattle.proto_tree.specs.Text.{dotted};
 ghost use Rattle.proto_options.specs.Statements.{file_package};
 ghost use Rattle.proto_checks.specs.Checks.{parts_of, IsPartTooLong, IsWholeTooLong, PackageTooLong, PackageTwice};
 ghost use Rattle.proto_base.specs.Least.{IsLeast, spot};
-ghost use Rattle.proto_checks.specs.Lengths.{capped};
 ghost use Rattle.proto_base.specs.Sets.{Each, Where};
 
 use proto_base::{Kind, Limit, Limits, Place, Spot, lesser};
+use proto_tree::text::dotted_len;
 use proto_tree::{FullName, Package, Statement};
 
 fn again_fault(is_again: bool, declared: &Package) -> Option<Spot>
@@ -39,17 +38,6 @@ pub(crate) fn package_twice(statements: &[Statement]) -> Option<Spot>
         }
     }
     first
-}
-
-/// The length of a name with its dots, up to the greatest that there is.
-fn dotted_len(name: &FullName) -> usize
-    ensures { result ≡ capped (dotted name.now) }
-{
-    let mut len = name.first.text.len();
-    for part in name.rest.as_slice() {
-        len = len.saturating_add(1).saturating_add(part.name.text.len());
-    }
-    len
 }
 
 fn part_fault(limits: &Limits, place: Place, part: &str) -> Option<Spot>

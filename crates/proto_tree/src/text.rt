@@ -1,6 +1,6 @@
 //! Texts of names and strings (proto3 language specification, "Identifiers", "String Literals").
 
-ghost use Rattle.std.specs.Prelude.{◌≡◌, ◌++◌, IfOk, OnOk, flat_map, string_bytes};
+ghost use Rattle.std.specs.Prelude.{◌≡◌, ◌-◌, ◌^◌, ◌++◌, IfOk, OnOk, flat_map, length, min, string_bytes};
 ghost use Rattle.std.specs.Option.{option_copied};
 ghost use Rattle.proto_tree.specs.Text.{joined, part_text, dotted, spelled, simple_name};
 
@@ -23,13 +23,15 @@ pub fn joined<'s>(alloc: Global, value: &StringValue<'s>) -> Result<Text<'s>, Al
     Ok(Text::owned(text))
 }
 
-/// How many bytes a name takes with its dots, so that its room is taken once.
-fn room_for(name: &FullName) -> usize {
-    let mut room = name.first.text.len();
+/// How many bytes a name has with its dots, up to the greatest number that there is.
+pub fn dotted_len(name: &FullName) -> usize
+    ensures { result ≡ min (length (dotted name.now)) (2 ^ 64 - 1) }
+{
+    let mut len = name.first.text.len();
     for part in name.rest.as_slice() {
-        room = room.saturating_add(part.name.text.len()).saturating_add(1);
+        len = len.saturating_add(1).saturating_add(part.name.text.len());
     }
-    room
+    len
 }
 
 /// Adds the parts of a name, each behind a dot.
@@ -48,7 +50,8 @@ fn put_parts(text: &mut String, parts: &[NamePart]) -> Result<(), AllocError>
 fn with_name(alloc: Global, start: &str, name: &FullName) -> Result<String, AllocError>
     ensures { IfOk result (λ text. string_bytes text ≡ start.now ++ dotted name.now) }
 {
-    let mut text = String::with_capacity(alloc, room_for(name).saturating_add(start.len()))?;
+    let room = start.len().saturating_add(dotted_len(name));
+    let mut text = String::with_capacity(alloc, room)?;
     text.push_str(start)?;
     text.push_str(name.first.text)?;
     put_parts(&mut text, name.rest.as_slice())?;
