@@ -27,8 +27,13 @@ static EVENED: [(u32, u32, usize, u32); 8] = [
 #[test]
 fn evened(rt: HostRuntime) {
     for (workers, cut, items, even) in &EVENED {
-        let plan = Plan::new(*workers, *cut).expect(rt, "a plan").evened(*items);
-        assert!(rt; plan.workers() == *workers && plan.cut() == *even, "{workers}, {cut}, {items}");
+        let plan = Plan::new(*workers, *cut)
+            .expect(rt, "a plan")
+            .evened(*items);
+        assert!(rt;
+            plan.workers() == *workers && plan.cut() == *even,
+            "{workers}, {cut}, {items}"
+        );
     }
 }
 

@@ -9,7 +9,7 @@ locate-requires-clause-within c =
 pub locate-requires-clause-short : goal.locate-requires-clause-short
 locate-requires-clause-short c =
     let short = (first_placed c.requires.0 c.args.sources.now c.args.error c.in-First.fault c.in-First.is
-        c.requires.1).short in
+    c.requires.1).short in
     search (rules, short)
 
 pub returns-in-First : goal.returns-in-First
