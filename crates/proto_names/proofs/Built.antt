@@ -38,19 +38,19 @@ pub below_from : (first : ℕ) (files : List FileDesc) (o : Occurrence) → Cont
 below_from first [] o (k, inside, is) = absurd (omega (arith, inside))
 below_from first (f ∷ files) o within =
     elim (Contains-append_cases (occurrences_of first f) (occurrences_from (first + 1) files) o within) [
-      | inl here ↦ (let same = one_file first f o here in omega (arith, same))
-      | inr later ↦ (let below = below_from (first + 1) files o later in omega (arith, below))
+      | inl here ↦ omega (arith, one_file first f o here)
+      | inr later ↦ omega (arith, below_from (first + 1) files o later)
     ]
 
 -- each occurrence is of one of the files
 pub below_files : (files : List FileDesc) (os : List Occurrence) → IsPermutation (occurrences files) os
     → (o : Occurrence) → Contains os o
     → o.file < length files
-below_files files os same o within =
-    let below =
-    below_from 0 files o
-    (Contains-permutation os (occurrences files) o (IsPermutation-sym (occurrences files) os same) within) in
-    omega (arith, below)
+below_files files os same o within = omega (
+  arith,
+  below_from 0 files o
+      (Contains-permutation os (occurrences files) o (IsPermutation-sym (occurrences files) os same) within),
+)
 
 pub all_below : (files : List FileDesc) (os : List Occurrence) → os ≡ occurrences files
     → All (λ (o : Occurrence). o.file < length files) os

@@ -101,7 +101,8 @@ pub collected_next : (limit : ℕ) (parts : List Part) (outs rest : List (Option
 collected_next limit parts outs rest all out given whole =
     let at : slice_get outs (length all) ≡ Some out =
     rw (← whole) (high (map Some all) (out ∷ rest) (length all) 0 (omega (arith, length-map all Some))) in
-    let (p, stands) = get_there parts (length all) (omega (arith, given.0, slice_get_within outs (length all) out at)) in
+    let within = slice_get_within outs (length all) out at in
+    let (p, stands) = get_there parts (length all) (omega (arith, given.0, within)) in
     (p, stands, given.1 (length all) p out stands at)
 
 -- the occurrences of parts, and those of one more

@@ -1,6 +1,6 @@
 -- How a text compares with a name in a scope.
 use Rattle.std.proofs.lemmas.Grind.{common_steps}
-use Rattle.std.proofs.Common.{◌≡◌, ◌≢◌, ◌∙◌, sym, ℕ, ◌-◌, ◌<◌, ◌≤◌, Bool, false, nat_eq, List, [], ◌∷◌, ◌++◌, length, take, drop, get_or, ap, refl, arith, Ordering, Less, Equal, Greater}
+use Rattle.std.proofs.Common.{◌≡◌, ◌≢◌, ◌∙◌, sym, ℕ, ◌-◌, ◌<◌, ◌≤◌, Bool, false, nat_eq, List, [], ◌∷◌, ◌++◌, length, take, drop, get_or, ap, refl, arith, Ordering, Less, Equal}
 use Rattle.std.specs.Prelude.{◌↔◌, IsTrue}
 use Rattle.std.specs.Cmp.Lexicographic.{slice_cmp, pointwise, bytes_decides}
 use Rattle.std.proofs.lemmas.Bool.{true≢false}
@@ -8,16 +8,13 @@ use Rattle.std.proofs.lemmas.List.{take_all}
 use Rattle.std.proofs.Math.Seq.{drop-append_seam, take-append_seam}
 use Rattle.std.specs.Ordering.{nat_cmp, ordering_then}
 use Rattle.proto_desc.specs.DeclaredNames.{scoped}
+use Rattle.proto_names.proofs.NameOrder.{order_tells}
 
 pub then_then : (o p q : Ordering) → ordering_then o (ordering_then p q) ≡ ordering_then (ordering_then o p) q
-then_then Less p q = refl
-then_then Equal p q = refl
-then_then Greater p q = refl
+then_then o p q = grind (arith, order_tells o)
 
 pub then_unequal : (o p : Ordering) → o ≢ Equal → ordering_then o p ≡ o
-then_unequal Less p h = refl
-then_unequal Equal p h = absurd (h refl)
-then_unequal Greater p h = refl
+then_unequal o p h = grind (arith, order_tells o)
 
 pub scoped_some : (scope name : List ℕ) → 0 < length scope → scoped scope name ≡ scope ++ 46 ∷ name
 scoped_some [] name h = absurd (omega (arith, h))

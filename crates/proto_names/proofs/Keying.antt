@@ -1,8 +1,8 @@
 -- Entries that are found by sorted keys.
 use Rattle.std.proofs.lemmas.Grind.{common_steps}
-use Rattle.std.proofs.Common.{◌≡◌, ◌∙◌, sym, ap, refl, arith, ℕ, ◌+◌, ◌*◌, ◌%◌, ◌<◌, ◌≤◌, List, [], ◌∷◌, ◌++◌, length, map, take, get_or}
+use Rattle.std.proofs.Common.{◌≡◌, ap, refl, arith, ℕ, ◌+◌, ◌*◌, ◌%◌, ◌<◌, ◌≤◌, List, [], ◌∷◌, ◌++◌, length, map, take, get_or}
 use Rattle.std.specs.Prelude.{All, IsPermutation, Option, None, Some, slice_get}
-use Rattle.std.proofs.lemmas.List.{map-append, take_more}
+use Rattle.std.proofs.lemmas.List.{map_more, map-append, take_more}
 use Rattle.std.proofs.lemmas.List.Elements.{All-cons, All-get_or, All-nil}
 use Rattle.std.proofs.lemmas.List.Sorted.{All-permutation, IsPermutation-map}
 use Rattle.std.proofs.lemmas.Nat.{mod-mul-add}
@@ -18,9 +18,7 @@ any_entry =
 -- what stands at one position more
 some_more : (es : List Entry) (k : ℕ) (d : Entry) → k < length es
     → map Some (take (k + 1) es) ≡ map Some (take k es) ++ slice_get es k ∷ []
-some_more es k d inside =
-    ap (map Some) (take_more es k d inside) ∙ map-append Some (take k es) (get_or es k d ∷ [])
-    ∙ ap (λ (o : Option Entry). map Some (take k es) ++ o ∷ []) (sym (slice_get-get_or es k d inside))
+some_more es k d inside = rw (slice_get-get_or es k d inside) (map_more Some es k d inside)
 
 pub keys_more : (es : List Entry) (keys new : List ℕ) (k hash : ℕ) → length es ≤ 1048576 → k < length es
     → new ≡ keys ++ (hash * 4294967296 + k) ∷ [] → found_by es keys ≡ map Some (take k es)

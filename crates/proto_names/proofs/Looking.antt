@@ -21,38 +21,31 @@ AreOf os name named = (o : Occurrence) → Contains named o → Contains os o ×
 abbrev pub AreAllOf : List Occurrence → List ℕ → List Occurrence → Type 0
 AreAllOf os name named = (o : Occurrence) → Contains os o → o.name ≡ name → Contains named o
 
--- one of those of a name is visible
-pub among_visible : (os : List Occurrence) (Seen : ℕ → Type 0) (accepts : Option NameKind → Bool) (name : List ℕ)
-    (named : List Occurrence)
-    → AreOf os name named → HasOneIn named accepts Seen → Visible os Seen accepts name
-among_visible os Seen accepts name named found (k, below, fitting, seen) =
-    let there = found (at named k) (occurs named k below) in
-    (at named k, there.0, there.1, fitting, seen)
+module _ (os : List Occurrence) (Seen : ℕ → Type 0) where
+  -- one of those of a name is visible
+  pub among_visible : (accepts : Option NameKind → Bool) (name : List ℕ) (named : List Occurrence)
+      → AreOf os name named → HasOneIn named accepts Seen → Visible os Seen accepts name
+  among_visible accepts name named found (k, below, fitting, seen) =
+      let (there, is) = found (at named k) (occurs named k below) in (at named k, there, is, fitting, seen)
 
--- and what is visible is one of them
-pub visible_among : (os : List Occurrence) (Seen : ℕ → Type 0) (accepts : Option NameKind → Bool) (name : List ℕ)
-    (named : List Occurrence)
-    → AreAllOf os name named → Visible os Seen accepts name → HasOneIn named accepts Seen
-visible_among os Seen accepts name named all (o, there, same, fitting, seen) =
-    let here = all o there same in
-    let is : at named here.0 ≡ o = get_or_default named here.0 blank o here.1 ∙ here.2 in
-    (here.0, here.1, rw is fitting, rw is seen)
+  -- and what is visible is one of them
+  pub visible_among : (accepts : Option NameKind → Bool) (name : List ℕ) (named : List Occurrence)
+      → AreAllOf os name named → Visible os Seen accepts name → HasOneIn named accepts Seen
+  visible_among accepts name named all (o, there, same, fitting, seen) =
+      let here = all o there same in
+      let is : at named here.0 ≡ o = get_or_default named here.0 blank o here.1 ∙ here.2 in
+      (here.0, here.1, rw is fitting, rw is seen)
 
--- so the type among those of a name is that of the name
-pub type_visible : (os : List Occurrence) (Seen : ℕ → Type 0) (name : List ℕ) (named : List Occurrence)
-    → AreOf os name named
-    → AreAllOf os name named → (found : Option NameKind)
-    → MatchOption found (HasNoType named Seen) (IsTypeAmong named Seen)
-    → MatchOption found (IsNoType os Seen name) (IsType os Seen name)
-type_visible os Seen name named of all None none = (
-  λ v. none.0 (visible_among os Seen is_message name named all v),
-  λ v. none.1 (visible_among os Seen is_type name named all v),
-)
-type_visible os Seen name named of all (Some what) (inl (one, is)) =
-    rw is (message (among_visible os Seen is_message name named of one))
-type_visible os Seen name named of all (Some what) (inr (none, one, is)) =
-    rw is (enumeration (among_visible os Seen is_type name named of one)
-    (λ v. none (visible_among os Seen is_message name named all v)))
+  -- so the type among those of a name is that of the name
+  pub type_visible : (name : List ℕ) (named : List Occurrence) → AreOf os name named → AreAllOf os name named
+      → (found : Option NameKind) → MatchOption found (HasNoType named Seen) (IsTypeAmong named Seen)
+      → MatchOption found (IsNoType os Seen name) (IsType os Seen name)
+  type_visible name named of all None none =
+      (λ v. none.0 (visible_among is_message name named all v), λ v. none.1 (visible_among is_type name named all v))
+  type_visible name named of all (Some what) (inl (one, is)) =
+      rw is (message (among_visible is_message name named of one))
+  type_visible name named of all (Some what) (inr (none, one, is)) = rw is (enumeration
+      (among_visible is_type name named of one) (λ v. none (visible_among is_message name named all v)))
 
 pub no_type : (os : List Occurrence) (Seen : ℕ → Type 0) (name : List ℕ) → IsNoType os Seen name → (what : NameKind)
     → IsType os Seen name what → ⊥

@@ -28,8 +28,7 @@ pub defined_is : (d : Defined) (kind : NameKind) (file : ℕ) → Some (record {
     → (kind ≡ d.kind) × (file ≡ d.file)
 defined_is d kind file e = (cc, cc)
 
--- ---- what holds where a call succeeds
-
+-- what holds where a call succeeds
 pub on_ok_of : {X E : Type 0} {B : Type 0} (r : Result X E) → B → OnOk r B
 on_ok_of (Ok x) b = b
 on_ok_of (Err e) b = tt

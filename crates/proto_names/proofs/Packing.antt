@@ -8,7 +8,7 @@ use Rattle.std.proofs.lemmas.Map.Lookups.{exact_unsigned}
 use Rattle.bit_matrix.specs.Bits.{Bits, has}
 use Rattle.bit_matrix.specs.Changes.{columns_of}
 use Rattle.proto_names.specs.Occurrences.{Occurrence}
-use Rattle.proto_names.specs.Packages.{ArePackagesOf, HasPackagePut, IsPackageOf, run_at}
+use Rattle.proto_names.specs.Packages.{ArePackagesOf, HasPackagePut, IsPackageOf, occurrences_in, run_at}
 use Rattle.proto_names.specs.declared.packages.Run.{Run}
 
 -- a package that is found
@@ -28,7 +28,7 @@ same_package os old new k more width kept is = grind (arith, common_steps)
 module _ (os : List Occurrence) (start len : ℕ) (runs new_runs : List Run) (old new : Bits)
     (within : start + len ≤ length os)
     (are : ArePackagesOf os runs old) (put : HasPackagePut (take len (drop start os)) start runs old new_runs new) where
-  each : (k : ℕ) → k < length new_runs → IsPackageOf (take (run_at new_runs k).len (drop (run_at new_runs k).start os)) new k
+  each : (k : ℕ) → k < length new_runs → IsPackageOf (occurrences_in os (run_at new_runs k)) new k
   each k h = elim (cases_lt k (length runs)) [
     | inl before ↦ rw (put.longer, get_or_append_left runs _ _ k before)
         (same_package _ old new k (omega arith) put.width (λ c. put.kept k c (omega arith)) (are.each k before))

@@ -39,24 +39,15 @@ twice_repeats : (os : List Occurrence) (b : Occurrence) → IsTwice os b
 twice_repeats os b (a, (i, j, apart, first, second), clash) =
     let here : at os i ≡ a = get_or_from_slice_get os i a blank first in
     let there : at os j ≡ b = get_or_from_slice_get os j b blank second in
+    let both = rw (← here, ← there) at clash in
     elim (cases_lt i j) [
-      | inl less ↦ (
-        j,
-        slice_get_within os j b second,
-        (i, less, rw (here, there) clash.same, rw (here, there) clash.not_packages),
-        rw there (inr (refl, omega arith)),
-      )
-      | inr over ↦ (
-        i,
-        slice_get_within os i a first,
-        (
-          j,
-          omega (arith, over, apart),
-          rw (here, there) (sym clash.same),
-          rw (here, there) (λ p q. clash.not_packages q p),
-        ),
-        rw here clash.no_later,
-      )
+      | inl less ↦
+          let last : IsNoLater (at os j) b = rw there (inr (refl, omega arith)) in
+          (j, slice_get_within os j b second, (i, less, both.same, both.not_packages), last)
+      | inr over ↦
+          let less : j < i = omega (arith, apart) in
+          let repeats : Repeats os i = (j, less, sym both.same, λ p q. both.not_packages q p) in
+          (i, slice_get_within os i a first, repeats, rw here clash.no_later)
     ]
 
 -- ---- the first that is repeated

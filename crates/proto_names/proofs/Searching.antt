@@ -107,7 +107,8 @@ pub none_is : (os : List Occurrence) (target : List ℕ) → IsNowhere os target
 none_is os target none e = grind (arith, common_steps, named_at, nothing)
 
 pub drop_behind : (os : List Occurrence) (target : List ℕ) (n : ℕ) → n ≤ length os
-    → IsLessPoint target os n → (k : ℕ) (d : Occurrence) → k < length (drop n os) → name_cmp (name_of (get_or (drop n os) k d)) target ≢ Less
+    → IsLessPoint target os n → (k : ℕ) (d : Occurrence) → k < length (drop n os)
+    → name_cmp (name_of (get_or (drop n os) k d)) target ≢ Less
 drop_behind os target n h p k d inside = grind (arith, common_steps, get_or-drop, length-drop, inside)
 
 -- the run of a name

@@ -29,11 +29,9 @@ contained xs k x at = (k, slice_get_within xs k x at, get_or_from_slice_get xs k
 -- what stands in a map is made of what stands there
 pub of_map : {X Y : Type 0} (f : X → Y) (xs : List X) (k : ℕ) (y : Y) → slice_get (map f xs) k ≡ Some y
     → (x : X) × (slice_get xs k ≡ Some x) × (f x ≡ y)
-of_map f xs k y at = of (slice_get xs k) refl where
-  of : (o : Option _) → slice_get xs k ≡ o → (x : _) × (slice_get xs k ≡ Some x) × (f x ≡ y)
-  of None none = let bad : None ≡ Some y = sym (slice_get-map f xs k ∙ ap (option_map f) none) ∙ at in absurd (cc)
-  of (Some x) some = let same : Some (f x) ≡ Some y = sym (slice_get-map f xs k ∙ ap (option_map f) some) ∙ at in
-      (x, some, cc)
+of_map f [] k y at = cc
+of_map f (x ∷ xs) zero y at = (x, refl, cc)
+of_map f (x ∷ xs) (suc k) y at = of_map f xs k y at
 
 -- all of a list are taken where none are left
 pub all_taken : {X : Type 0} (taken rest xs : List X) → taken ++ rest ≡ xs → length rest ≡ 0 → taken ≡ xs

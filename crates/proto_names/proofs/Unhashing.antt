@@ -1,9 +1,9 @@
 -- Hashes with a byte fewer.
 use Rattle.std.proofs.lemmas.Grind.{common_steps}
-use Rattle.std.proofs.Common.{◌≡◌, ◌∙◌, ap, refl, ℕ, ◌+◌, ◌-◌, ◌*◌, ◌%◌, ◌<◌, ◌≤◌, ◌++◌, ◌∷◌, List, [], length, take, get_or, arith, lit<}
+use Rattle.std.proofs.Common.{◌≡◌, ℕ, ◌+◌, ◌-◌, ◌*◌, ◌%◌, ◌<◌, ◌≤◌, ◌++◌, ◌∷◌, List, [], length, take, get_or, arith, lit<}
 use Rattle.std.specs.List.{fold}
 use Rattle.std.proofs.Math.Nat.{add-mod_right, add-mul-mod_self_right, mod-add-mod, mod-eq_of_lt, mod-lt}
-use Rattle.std.proofs.lemmas.List.{take_more}
+use Rattle.std.proofs.lemmas.List.{append_assoc, take_more}
 use Rattle.std.proofs.lemmas.List.Sums.{fold-append}
 use Rattle.std.proofs.lemmas.Nat.{mul-mod_first}
 use Rattle.proto_names.specs.Hashes.{hash_of, hash_step}
@@ -28,10 +28,5 @@ hash_below name = hash_from_below 0 name (lit< tt)
 pub hash_end : (prefix bytes : List ℕ) (k d : ℕ) → k < length bytes
     → hash_of (prefix ++ take (k + 1) bytes) ≡ hash_step (hash_of (prefix ++ take k bytes)) (get_or bytes k d)
 hash_end prefix bytes k d within =
-    ap (λ xs. hash_of (prefix ++ xs)) (take_more bytes k d within)
-    ∙ ap hash_of (append-end prefix (take k bytes) (get_or bytes k d))
-    ∙ fold-append hash_step 0 (prefix ++ take k bytes) (get_or bytes k d ∷ [])
-  where
-    append-end : (xs ys : List ℕ) (b : ℕ) → xs ++ (ys ++ b ∷ []) ≡ (xs ++ ys) ++ b ∷ []
-    append-end [] ys b = refl
-    append-end (x ∷ xs) ys b = ap (λ zs. x ∷ zs) (append-end xs ys b)
+    rw (take_more bytes k d within, ← append_assoc prefix (take k bytes) (get_or bytes k d ∷ []))
+    (fold-append hash_step 0 (prefix ++ take k bytes) (get_or bytes k d ∷ []))

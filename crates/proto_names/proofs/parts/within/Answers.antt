@@ -32,6 +32,12 @@ loop-out-preserved c =
       outs = rw (put, map_push, append_assoc) whole;
       all = rw (put, length_push) (all_together c.args.parts.now _ p stands c.requires.placed _ _
           c.loop-out.invariant.all part.0 _ (rw put at more));
-      count = omega (arith, ap length more, length-append (all_of all) os, c.len-len.ensures, c.loop-out.invariant.count);
+      count = omega (
+        arith,
+        ap length more,
+        length-append (all_of all) os,
+        c.len-len.ensures,
+        c.loop-out.invariant.count,
+      );
       within = omega (arith, c.if-len-limit.false, c.loop-out.invariant.within);
     }

@@ -2,7 +2,6 @@ use Rattle.std.proofs.Common.{◌≡◌, ◌≢◌, ◌∙◌, sym, ap, ◌<◌,
 use Rattle.std.proofs.lemmas.Bool.{true≢false}
 use Rattle.std.proofs.lemmas.List.{get_or_default}
 use Rattle.proto_desc.specs.DeclaredNames.{scoped}
-use Rattle.proto_names.specs.Hashes.{hash_of}
 use Rattle.proto_names.specs.Index.{name_of}
 use Rattle.proto_names.specs.Occurrences.{Occurrence}
 use Rattle.proto_names.specs.Runs.{blank}
@@ -16,10 +15,9 @@ returns-else-len-gt1-clause-point c =
     let target = scoped c.args.scope.now c.args.name.now in
     let other : (d : Occurrence) → 1 < length os → name_of (get_or os 1 d) ≢ target = elim c.else-len-gt1.branch [
       | else-len-gt1-via-then-len-gt1+else-hash w ↦
-          (λ d h e. let same : w.hash.result ≡ w.hash-then-len-gt1.result = w.hash.ensures
-          ∙ ap hash_of (ap name_of (get_or_default os 1 blank d h) ∙ e ∙ sym (c.requires.first blank))
-          ∙ sym w.hash-then-len-gt1.ensures in
-          absurd (omega (arith, same, w.if-hash.false)))
+          (λ d h e. let same : w.hash.result ≡ w.hash-then-len-gt1.result
+          = cc (w.hash.ensures, w.hash-then-len-gt1.ensures, get_or_default os 1 blank d h, c.requires.first blank) in
+          absurd (omega (arith, w.if-hash.false)))
       | else-len-gt1-via-then-len-gt1+then-hash+else-has_name w ↦
           (λ d h e. true≢false (sym (w.has_name.ensures.1 (ap name_of (get_or_default os 1 blank d h) ∙ e))
           ∙ w.if-has_name.false))

@@ -1,9 +1,8 @@
-use Rattle.std.proofs.Common.{sym, ap, subst, List, arith}
+use Rattle.std.proofs.Common.{ap, arith}
 use Rattle.std.proofs.lemmas.List.Elements.{Contains-get_or}
 use Rattle.proto_desc.specs.DeclaredNames.{scoped}
 use Rattle.proto_names.specs.Index.{Index}
-use Rattle.proto_names.specs.Occurrences.{Occurrence}
-use Rattle.proto_names.specs.Resolution.{SeenBy, Visible}
+use Rattle.proto_names.specs.Resolution.{SeenBy}
 use Rattle.proto_names.specs.Steps.{fits}
 use Rattle.proto_names.proofs.Looking.{among_visible, visible_among}
 use Rattle.proto_names.proofs.index.NameIndex.is_visible.Goals as goal
@@ -18,11 +17,10 @@ pub returns : goal.returns
 returns c =
     let seen = SeenBy c.args.links.now c.args.file in
     let name = scoped c.args.scope.text.now c.args.name.now in
-    let is = ap (λ (index : Index). index.occurrences) c.self.view_is in (
-      λ t. subst (λ (os : List Occurrence). Visible os seen (fits c.args.role) name) is
-          (among_visible c.self.inside.entries seen (fits c.args.role) name c.named.result.names c.named.ensures.found
+    let is = ap (λ (index : Index). index.occurrences) c.self.view_is in
+    let accepts = fits c.args.role in (
+      λ t. rw is at (among_visible c.self.inside.entries seen accepts name _ c.named.ensures.found
           (c.sees_one.ensures.0 t)),
       λ v. c.sees_one.ensures.1
-          (visible_among c.self.inside.entries seen (fits c.args.role) name c.named.result.names c.named.ensures.all
-          (subst (λ (os : List Occurrence). Visible os seen (fits c.args.role) name) (sym is) v)),
+          (visible_among c.self.inside.entries seen accepts name _ c.named.ensures.all (rw is v)),
     )

@@ -6,9 +6,8 @@ use Rattle.proto_names.specs.Entries.{IsEntryOf}
 use Rattle.proto_names.proofs.names.Names.skip.Goals as goal
 
 pub invariant_of-result : goal.invariant_of-result
-invariant_of-result c =
-    let es = c.self.inside.entries.now in
-    rw (take_rest es c.args.count) (All-drop (IsEntryOf c.self.inside.text.now) c.args.count es c.self.invariant)
+invariant_of-result c = rw (take_rest c.self.inside.entries.now c.args.count)
+    (All-drop (IsEntryOf c.self.inside.text.now) _ _ c.self.invariant)
 
 pub returns : goal.returns
 returns c = grind (arith, common_steps, drop-map, take_rest)

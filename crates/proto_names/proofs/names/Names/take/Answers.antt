@@ -6,8 +6,7 @@ use Rattle.proto_names.specs.Entries.{IsEntryOf}
 use Rattle.proto_names.proofs.names.Names.take.Goals as goal
 
 pub invariant_of-result : goal.invariant_of-result
-invariant_of-result c = All-take (IsEntryOf c.self.inside.text.now) c.args.count c.self.inside.entries.now
-    c.self.invariant
+invariant_of-result c = All-take (IsEntryOf c.self.inside.text.now) _ _ c.self.invariant
 
 pub returns : goal.returns
 returns c = grind (arith, common_steps, take-map)
