@@ -23,8 +23,7 @@ with_made-append names so_far (x ∷ xs) ys = with_made-append names (with_one n
 
 length-with_one : (names : List (List ℕ)) (so_far : List OneofDesc) (f : FieldDesc) (b : Bool)
     → length (with_one names so_far f b) ≡ length so_far + cond b 1 0
-length-with_one names so_far f true = simp length-append
-length-with_one names so_far f false = omega arith
+length-with_one names so_far f b = grind (arith, length-append)
 
 pub length-with_made : (names : List (List ℕ)) (so_far : List OneofDesc) (fs : List FieldDesc)
     → length (with_made names so_far fs) ≡ length so_far + made_count fs
@@ -70,8 +69,7 @@ get_start (y ∷ xs) ys (suc n) x at = get_start xs ys n x at
 -- with the oneof of one field, where it is `optional`
 with_one-made : (names : List (List ℕ)) (so_far : List OneofDesc) (f : FieldDesc) (b : Bool) → b ≡ true
     → with_one names so_far f b ≡ so_far ++ made_named (names ++ names_of_oneofs so_far) f ∷ []
-with_one-made names so_far f true here = refl
-with_one-made names so_far f false here = cc
+with_one-made names so_far f b h = grind arith
 
 pub with_made-seam : (names : List (List ℕ)) (so_far : List OneofDesc) (before : List FieldDesc) (f : FieldDesc)
     (after : List FieldDesc)

@@ -1,28 +1,26 @@
 -- The members of the oneofs of the source.
-use Rattle.std.proofs.Common.{◌≡◌, ◌∙◌, ap, refl, ◌<◌, ◌+◌, ◌++◌, ℕ, zero, suc, Bool, true, false, List, [], ◌∷◌, length, arith}
+use Rattle.std.proofs.lemmas.Bool.Decides.{nat_tests}
+use Rattle.std.proofs.Common.{◌≡◌, refl, ◌<◌, ◌+◌, ◌++◌, ℕ, zero, suc, false, List, [], ◌∷◌, length, arith}
 use Rattle.std.specs.Prelude.{◌==◌, Some, flat_map, slice_get}
 use Rattle.std.proofs.lemmas.List.{append-nil, length-map}
 use Rattle.std.proofs.lemmas.Option.{slice_get_within, slice_get-map}
-use Rattle.std.specs.Option.{option_map}
 use Rattle.proto_tree.specs.declared.message.MessageItem.{MessageItem}
 use Rattle.proto_tree.specs.declared.message.MessageItem as message_item
 use Rattle.proto_tree.specs.declared.oneof.Oneof.{Oneof}
 use Rattle.proto_tree.specs.declared.oneof.OneofItem.{OneofItem}
 use Rattle.proto_tree.specs.declared.oneof.OneofItem.TheVariants as oneof_item
 use Rattle.proto_desc.specs.declared.field.FieldDesc.{FieldDesc}
-use Rattle.proto_lower.specs.Fields.{is_optional, field_at, described, kind_of, real_count, fields_from}
-use Rattle.proto_desc.specs.declared.field.FieldLabel.TheVariants.{Optional}
+use Rattle.proto_lower.specs.Fields.{is_optional, real_count, fields_from}
 use Rattle.proto_options.specs.Statements.{message_oneof}
-use Rattle.proto_lower.specs.Laws.{has_index, fields_in}
+use Rattle.proto_lower.specs.Laws.{fields_in}
 use Rattle.proto_lower.specs.Oneofs.{real_named, real_oneofs}
-use Rattle.proto_lower.proofs.OneofIndexes.{made_index, made_by, members, apart, apart_above, passed, kept}
+use Rattle.proto_lower.proofs.OneofIndexes.{made_by, members}
 
 -- the oneofs of the source, lowered
 pub slice_get-real_oneofs : (is : List MessageItem) (k : ℕ) (o : Oneof)
     → slice_get (flat_map message_oneof is) k ≡ Some o
     → slice_get (real_oneofs is) k ≡ Some (real_named o.name)
-slice_get-real_oneofs is k o at = slice_get-map (λ (p : Oneof). real_named p.name) (flat_map message_oneof is) k
-    ∙ ap (option_map (λ (p : Oneof). real_named p.name)) at
+slice_get-real_oneofs is k o at = cc (slice_get-map (λ (p : Oneof). real_named p.name) (flat_map message_oneof is) k)
 
 pub length-real_oneofs : (is : List MessageItem) → length (real_oneofs is) ≡ real_count is
 length-real_oneofs is = length-map (flat_map message_oneof is) (λ (o : Oneof). real_named o.name)
@@ -31,74 +29,53 @@ length-real_oneofs is = length-map (flat_map message_oneof is) (λ (o : Oneof). 
 own-members : (k : ℕ) (is : List OneofItem) (rest : List FieldDesc)
     → fields_in k (members k is ++ rest) ≡ members k is ++ fields_in k rest
 own-members k [] rest = refl
-own-members k (oneof_item.Field f ∷ is) rest =
-    let member : FieldDesc = described f.declarator Optional (kind_of f.field_type) (Some k) false in
-    kept k member (members k is ++ rest) refl ∙ ap (λ fs. member ∷ fs) (own-members k is rest)
-own-members k (oneof_item.Option o ∷ is) rest = own-members k is rest
-own-members k (oneof_item.Empty s ∷ is) rest = own-members k is rest
+own-members k (oneof_item.Field f ∷ is) rest = grind (arith, nat_tests, own-members k is rest)
+own-members k (i ∷ is) rest = own-members k is rest
 
 other-members : (k real : ℕ) (is : List OneofItem) (rest : List FieldDesc) → (real == k) ≡ false
     → fields_in k (members real is ++ rest) ≡ fields_in k rest
 other-members k real [] rest other = refl
-other-members k real (oneof_item.Field f ∷ is) rest other =
-    let member : FieldDesc = described f.declarator Optional (kind_of f.field_type) (Some real) false in
-    passed k member (members real is ++ rest) other ∙ other-members k real is rest other
-other-members k real (oneof_item.Option o ∷ is) rest other = other-members k real is rest other
-other-members k real (oneof_item.Empty s ∷ is) rest other = other-members k real is rest other
-
-made-apart : (k next : ℕ) (b : Bool) → k < next → has_index k (made_index b next) ≡ false
-made-apart k next true below = apart_above next k below
-made-apart k next false below = refl
+other-members k real (oneof_item.Field f ∷ is) rest other = grind (arith, other-members k real is rest other)
+other-members k real (i ∷ is) rest other = other-members k real is rest other
 
 -- no field of statements that begin behind the oneof stands in it
 none-from : (full : List ℕ) (k real next : ℕ) (is : List MessageItem) → k < real → k < next
     → fields_in k (fields_from full real next is) ≡ []
 none-from full k real next [] before below = refl
 none-from full k real next (message_item.Field f ∷ is) before below =
-    passed k (field_at next f) (fields_from full real (next + made_by (is_optional f.label)) is)
-    (made-apart k next (is_optional f.label) below)
-    ∙ none-from full k real (next + made_by (is_optional f.label)) is before (omega (arith, below))
-none-from full k real next (message_item.Map m ∷ is) before below = none-from full k real next is before below
+    grind (arith, nat_tests, none-from full k real (next + made_by (is_optional f.label)) is before)
 none-from full k real next (message_item.Oneof o ∷ is) before below =
-    other-members k real o.items (fields_from full (real + 1) next is) (apart_above real k before)
-    ∙ none-from full k (real + 1) next is (omega (arith, before)) below
-none-from full k real next (message_item.Option o ∷ is) before below = none-from full k real next is before below
-none-from full k real next (message_item.Message' boxed message ∷ is) before below =
-    none-from full k real next is before below
-none-from full k real next (message_item.Enum e ∷ is) before below = none-from full k real next is before below
-none-from full k real next (message_item.Reserved r ∷ is) before below = none-from full k real next is before below
-none-from full k real next (message_item.Empty s ∷ is) before below = none-from full k real next is before below
+    grind (
+      arith,
+      nat_tests,
+      other-members k real o.items (fields_from full (real + 1) next is),
+      none-from full k (real + 1) next is,
+    )
+none-from full k real next (i ∷ is) before below = none-from full k real next is before below
 
 -- the fields with the index of a oneof of the source are its members
 members-from : (full : List ℕ) (real next j k : ℕ) (is : List MessageItem) (o : Oneof) → k ≡ real + j → k < next
     → slice_get (flat_map message_oneof is) j ≡ Some o → fields_in k (fields_from full real next is) ≡ members k o.items
 members-from full real next j k [] o at below stands = cc
 members-from full real next j k (message_item.Field f ∷ is) o at below stands =
-    passed k (field_at next f) (fields_from full real (next + made_by (is_optional f.label)) is)
-    (made-apart k next (is_optional f.label) below)
-    ∙ members-from full real (next + made_by (is_optional f.label)) j k is o at (omega (arith, below)) stands
-members-from full real next j k (message_item.Map m ∷ is) o at below stands =
-    members-from full real next j k is o at below stands
+    grind (arith, nat_tests, members-from full real (next + made_by (is_optional f.label)) j k is o at)
 members-from full real next zero k (message_item.Oneof p ∷ is) o at below stands =
-    let same : p ≡ o = cc in
-    let here : real ≡ k = omega (arith, at) in
-    ap (λ n. fields_in k (members n p.items ++ fields_from full (real + 1) next is)) here
-    ∙ own-members k p.items (fields_from full (real + 1) next is)
-    ∙ ap (λ fs. members k p.items ++ fs) (none-from full k (real + 1) next is (omega (arith, here)) below)
-    ∙ append-nil (members k p.items) ∙ ap (λ (q : Oneof). members k q.items) same
+    grind (
+      arith,
+      append-nil,
+      own-members k p.items (fields_from full (real + 1) next is),
+      none-from full k (real + 1)
+          next is,
+    )
 members-from full real next (suc j) k (message_item.Oneof p ∷ is) o at below stands =
-    other-members k real p.items (fields_from full (real + 1) next is) (apart real k (omega (arith, at)))
-    ∙ members-from full (real + 1) next j k is o (omega (arith, at)) below stands
-members-from full real next j k (message_item.Option p ∷ is) o at below stands =
-    members-from full real next j k is o at below stands
-members-from full real next j k (message_item.Message' boxed message ∷ is) o at below stands =
-    members-from full real next j k is o at below stands
-members-from full real next j k (message_item.Enum e ∷ is) o at below stands =
-    members-from full real next j k is o at below stands
-members-from full real next j k (message_item.Reserved r ∷ is) o at below stands =
-    members-from full real next j k is o at below stands
-members-from full real next j k (message_item.Empty s ∷ is) o at below stands =
-    members-from full real next j k is o at below stands
+    grind (
+      arith,
+      nat_tests,
+      other-members k real p.items (fields_from full (real + 1) next is),
+      members-from full
+          (real + 1) next j k is o,
+    )
+members-from full real next j k (i ∷ is) o at below stands = members-from full real next j k is o at below stands
 
 pub members-all : (full : List ℕ) (is : List MessageItem) (k : ℕ) (o : Oneof)
     → slice_get (flat_map message_oneof is) k ≡ Some o

@@ -1,5 +1,5 @@
 -- The oneofs of the lowered form of a message.
-use Rattle.std.proofs.Common.{◌≡◌, ◌∙◌, ap, sym, refl, subst, ◌+◌, ◌++◌, ℕ, List, [], ◌∷◌, length, arith}
+use Rattle.std.proofs.Common.{◌≡◌, ◌∙◌, ap, ℕ, List, [], ◌∷◌, length, arith}
 use Rattle.std.specs.Prelude.{Some, slice_get}
 use Rattle.proto_tree.specs.declared.message.Message.{Message}
 use Rattle.proto_tree.specs.declared.oneof.Oneof.{Oneof}
@@ -24,9 +24,7 @@ fields-lowered scope m = ap (λ d. d.fields) (out-roll-MessageDesc _)
 
 message-indexed : (scope : List ℕ) (m : Message) (fs : List FieldDesc) → fields_of (lowered_message scope m) ≡ fs
     → AllIndexed (real_count m.items) (real_count m.items) fs
-message-indexed scope m fs is =
-    subst (AllIndexed (real_count m.items) (real_count m.items)) (sym (fields-lowered scope m) ∙ is)
-    (fields-indexed (inner scope m.name.text) (real_count m.items) 0 (real_count m.items) m.items (omega arith))
+message-indexed scope m fs is = grind (arith, fields-lowered, fields-indexed)
 
 pub optional-index-lowered : (scope : List ℕ) (m : Message) (before : List FieldDesc) (field : FieldDesc)
     → IsOptionalBehind before field (lowered_message scope m) → field.oneof_index ≡ Some (index_behind before m)
@@ -45,19 +43,13 @@ sole-member-lowered scope m before field is =
 -- the oneofs of a message, of which these are the fields
 oneofs_by : (scope : List ℕ) (m : Message) (fs : List FieldDesc) → fields_of (lowered_message scope m) ≡ fs
     → oneofs_of (lowered_message scope m) ≡ with_made (names_of_fields fs) (real_oneofs m.items) fs
-oneofs_by scope m fs is = oneofs-lowered scope m
-    ∙ ap (λ gs. with_made (names_of_fields gs) (real_oneofs m.items) gs) (sym (fields-lowered scope m) ∙ is)
+oneofs_by scope m fs is = grind (arith, oneofs-lowered, fields-lowered)
 
 pub optional-oneof-lowered : (scope : List ℕ) (m : Message) (before : List FieldDesc) (field : FieldDesc)
     → IsOptionalBehind before field (lowered_message scope m)
     → slice_get (oneofs_of (lowered_message scope m)) (index_behind before m)
     ≡ Some (made_named (names_before (index_behind before m) (lowered_message scope m)) field)
-optional-oneof-lowered scope m before field is =
-    let fs : List FieldDesc = before ++ field ∷ is.after in
-    rw (oneofs_by scope m fs is.stands, is.stands)
-    (slice_get-with_made (names_of_fields fs) (real_oneofs m.items) before field is.after
-    (index_behind before m) is.optional
-    (omega (arith, length-real_oneofs m.items)))
+optional-oneof-lowered scope m before field is = grind (arith, oneofs_by, slice_get-with_made, length-real_oneofs)
 
 pub source-oneof-lowered : (scope : List ℕ) (m : Message) (index : ℕ) (o : Oneof)
     → slice_get (source_oneofs m) index ≡ Some o
@@ -71,12 +63,8 @@ source-oneof-lowered scope m index o stands =
 pub members-lowered : (scope : List ℕ) (m : Message) (index : ℕ) (o : Oneof)
     → slice_get (source_oneofs m) index ≡ Some o
     → fields_in index (fields_of (lowered_message scope m)) ≡ members index o.items
-members-lowered scope m index o stands = ap (fields_in index) (fields-lowered scope m)
-    ∙ members-all (inner scope m.name.text) m.items index o stands
+members-lowered scope m index o stands = grind (arith, fields-lowered, members-all)
 
 pub count-lowered : (scope : List ℕ) (m : Message)
     → length (oneofs_of (lowered_message scope m)) ≡ index_behind (fields_of (lowered_message scope m)) m
-count-lowered scope m =
-    let fs : List FieldDesc = fields_of (lowered_message scope m) in
-    ap length (oneofs_by scope m fs refl) ∙ length-with_made (names_of_fields fs) (real_oneofs m.items) fs
-    ∙ ap (λ n. n + made_count fs) (length-real_oneofs m.items)
+count-lowered scope m = grind (arith, oneofs_by, length-with_made, made_count, length-real_oneofs)

@@ -1,5 +1,5 @@
 -- The nested messages that a message gives as a statement.
-use Rattle.std.proofs.Common.{◌≡◌, ◌∙◌, ap, sym, refl, List, [], ◌∷◌, ◌++◌, ℕ, ◌+◌, ◌<◌, length, take, get_or, append_assoc}
+use Rattle.std.proofs.Common.{arith, ◌≡◌, ◌∙◌, ap, sym, refl, List, [], ◌∷◌, ◌++◌, ℕ, ◌+◌, ◌<◌, length, take, get_or, append_assoc}
 use Rattle.std.proofs.lemmas.List.{take_more, append-nil}
 use Rattle.std.proofs.lemmas.List.Concat.{flat_map-append}
 use Rattle.std.specs.Prelude.{flat_map}
@@ -42,9 +42,7 @@ next_given f xs i x new within at gives =
 pub one_more : {X Y : Type 0} (f : X → List Y) (xs : List X) (i : ℕ) (x : X) (before done new : List Y) → i < length xs
     → x ≡ get_or xs i x
     → done ≡ before ++ flat_map f (take i xs) → new ≡ f x → done ++ new ≡ before ++ flat_map f (take (i + 1) xs)
-one_more f xs i x before done new within at so_far gives =
-    ap (λ z. z ++ new) so_far ∙ append_assoc before (flat_map f (take i xs)) new
-    ∙ ap (λ z. before ++ z) (next_given f xs i x new within at gives)
+one_more f xs i x before done new within at so_far gives = grind (arith, append_assoc, next_given)
 
 pub none_more : {X Y : Type 0} (f : X → List Y) (xs : List X) (i : ℕ) (x : X) (before done : List Y) → i < length xs
     → x ≡ get_or xs i x

@@ -1,11 +1,10 @@
 -- What the rows of the table give is what its rules give.
-use Rattle.std.proofs.Common.{◌≡◌, ◌∙◌, [], ap, refl, sym, ℕ, ◌≤◌, List, map, length, take, take_all}
+use Rattle.std.proofs.Common.{arith, ◌≡◌, ◌∙◌, [], ap, sym, ℕ, ◌≤◌, List, map, length, take, take_all}
 use Rattle.std.specs.Prelude.{flat_map}
 use Rattle.std.proofs.lemmas.List.Folds.{flat_map-map}
 use Rattle.proto_tree.specs.declared.option.Setting.{Setting}
 use Rattle.proto_desc.specs.declared.options.OptionDesc.{OptionDesc}
 use Rattle.proto_desc.specs.declared.rules.Element.{Element}
-use Rattle.proto_desc.specs.declared.rules.Element.TheVariants as element
 use Rattle.proto_desc.specs.declared.rules.OptionRule.{OptionRule}
 use Rattle.proto_desc.specs.Rules.{rule_of, rules_of}
 use Rattle.proto_lower.specs.Options.{option_under, options_of}
@@ -25,11 +24,4 @@ rows_give settings e rows count made all by_rows table =
 -- an element without settings has no options
 pub no_options : (e : Element) → options_of e [] ≡ []
 unfolding options_of
-no_options element.File = refl
-no_options element.Message = refl
-no_options element.Field = refl
-no_options element.Oneof = refl
-no_options element.Enum = refl
-no_options element.EnumValue = refl
-no_options element.Service = refl
-no_options element.Method = refl
+no_options e = grind arith

@@ -1,16 +1,14 @@
 -- The options of an element rise by their number, as the rules do.
-use Rattle.std.proofs.Common.{◌≤◌, ◌<◌, ◌+◌, ◌++◌, ℕ, zero, suc, List, [], ◌∷◌, map, length, arith, rules, add-one}
-use Rattle.std.specs.Prelude.{⊤, Option, None, Some, flat_map, slice_index}
+use Rattle.std.proofs.Common.{◌≤◌, ◌<◌, ◌+◌, ◌++◌, ℕ, zero, suc, List, [], ◌∷◌, map, length, arith, add-one}
+use Rattle.std.specs.Prelude.{⊤, Option, Some, flat_map, slice_index}
 use Rattle.std.specs.Option.{option_to_list, option_map}
 use Rattle.std.specs.List.Sorted.{IsStrictlyIncreasing}
 use Rattle.proto_tree.specs.declared.option.Setting.{Setting}
 use Rattle.proto_desc.specs.declared.options.OptionDesc.{OptionDesc}
 use Rattle.proto_desc.specs.declared.options.OptionValue.{OptionValue}
 use Rattle.proto_desc.specs.declared.rules.Element.{Element}
-use Rattle.proto_desc.specs.declared.rules.Element.TheVariants as element
 use Rattle.proto_desc.specs.declared.rules.ValueKind.{ValueKind}
 use Rattle.proto_desc.specs.Rules.{Rule, rules_of}
-use Rattle.proto_options.specs.Options.{first_setting, value_of}
 use Rattle.proto_lower.specs.Options.{option_at, option_by, option_under, options_of}
 
 -- each number is above the one before it, and the first at least `least`
@@ -40,41 +38,27 @@ numbers options = map (λ o. o.number) options
 with_value : (least n : ℕ) (s : Setting) (value : Option OptionValue) (rest : List OptionDesc) → least ≤ n
     → RisesFrom (n + 1) (numbers rest)
     → RisesFrom least (numbers (option_to_list (option_map (option_at n s) value) ++ rest))
-with_value least n s None rest at_least rises = rises_below least (n + 1) (numbers rest) (omega arith) rises
-with_value least n s (Some v) rest at_least rises = (at_least, rises)
+with_value least n s value rest h i = grind (arith, rises_below)
 
 with_setting : (least n : ℕ) (kind : ValueKind) (found : Option Setting) (rest : List OptionDesc) → least ≤ n
     → RisesFrom (n + 1) (numbers rest)
     → RisesFrom least (numbers (option_to_list (option_by (Some n) kind found) ++ rest))
-with_setting least n kind None rest at_least rises = rises_below least (n + 1) (numbers rest) (omega arith) rises
-with_setting least n kind (Some s) rest at_least rises =
-    with_value least n s (value_of kind s.value) rest at_least rises
+with_setting least n kind found rest h i = grind (arith, rises_below, with_value)
 
 with_number : (least : ℕ) (number : Option ℕ) (kind : ValueKind) (found : Option Setting) (rest : List OptionDesc)
     (after : List ℕ)
     → ((m : ℕ) → RisesFrom m after → RisesFrom m (numbers rest)) → RisesFrom least (option_to_list number ++ after)
     → RisesFrom least (numbers (option_to_list (option_by number kind found) ++ rest))
-with_number least None kind found rest after later rises = later least rises
-with_number least (Some n) kind found rest after later rises =
-    with_setting least n kind found rest rises.0 (later (n + 1) rises.1)
+with_number least number kind found rest after h i = grind (arith, with_setting)
 
 under_rules : (settings : List Setting) (rs : List Rule) (least : ℕ) → RisesFrom least (flat_map rule_number rs)
     → RisesFrom least (numbers (flat_map (option_under settings) rs))
 under_rules settings [] least rises = tt
-under_rules settings (r ∷ rs) least rises =
-    with_number least r.number r.kind (first_setting r.word settings) (flat_map (option_under settings) rs)
-    (flat_map rule_number rs) (under_rules settings rs) rises
+under_rules settings (r ∷ rs) least rises = grind (arith, with_number, under_rules settings rs)
 
 -- the tables' numbers rise
 rules_rise : (e : Element) → RisesFrom 0 (flat_map rule_number (rules_of e))
-rules_rise element.File = search rules
-rules_rise element.Message = search rules
-rules_rise element.Field = search rules
-rules_rise element.Oneof = search rules
-rules_rise element.Enum = search rules
-rules_rise element.EnumValue = search rules
-rules_rise element.Service = search rules
-rules_rise element.Method = search rules
+rules_rise e = grind arith
 
 pub options_of-rise : (e : Element) (settings : List Setting)
     → IsStrictlyIncreasing (map (λ o. o.number) (options_of e settings))

@@ -1,5 +1,5 @@
 -- Names without underscores are their own JSON names.
-use Rattle.std.proofs.Common.{length, inl, inr, ◌⊎◌, ◌≢◌, ◌≡◌, ◌∙◌, ℕ, List, [], ◌∷◌, ◌++◌, append_assoc, ap, sym, refl, true, false, arith, if◌then◌else◌}
+use Rattle.std.proofs.Common.{length, ◌⊎◌, ◌≢◌, ◌≡◌, ◌∙◌, ℕ, List, [], ◌∷◌, ◌++◌, append_assoc, ap, sym, refl, true, false, arith, if◌then◌else◌}
 use Rattle.std.proofs.lemmas.List.{append-nil}
 use Rattle.std.proofs.lemmas.List.Folds.{list_any-append}
 use Rattle.std.specs.Prelude.{◌==◌, encode_utf8, encode_utf8_all}
@@ -32,10 +32,7 @@ none_of_letters (c ∷ cs) none =
 
 pub json_name_unchanged : (name : List ℕ) → IsUtf8 name → list_any (λ c. c == 95) name ≡ false
     → json_name_of name ≡ name
-json_name_unchanged name utf8 none =
-    let whole = encodes-chars name utf8 in
-    ap encode_utf8_all (letters_unchanged 32 (chars name) refl
-    (none_of_letters (chars name) (ap (list_any (λ c. c == 95)) whole ∙ none))) ∙ whole
+json_name_unchanged name utf8 none = grind (arith, encodes-chars, letters_unchanged, none_of_letters)
 
 -- what was made, and what becomes of the rest of the name behind the character `before`, is all that is to be made
 pub record IsSoFar (made : List ℕ) (before : ℕ) (rest all : List ℕ) : Type 0 where
@@ -48,38 +45,19 @@ so_far_start old name first utf8 = record { letters = chars name; spelled = enco
 
 pub so_far_dropped : (made : List ℕ) (before : ℕ) (rest all : List ℕ) (c : ℕ) (more : List ℕ)
     → IsSoFar made before rest all → rest ≡ encode_utf8 c ++ more → c ≡ 95 → IsSoFar made c more all
-so_far_dropped made before rest all c more so_far next underscore =
-    let split = cons_from_encodes so_far.letters more c (so_far.spelled ∙ next) in
-    let test : (c == 95) ≡ true = grind (arith, nat_tests) in
-    let dropped : letters_behind before (c ∷ split.0) ≡ letters_behind c split.0 = rw test refl in
-    record {
-      letters = split.0;
-      spelled = split.2;
-      whole = ap (λ (ls : List ℕ). made ++ encode_utf8_all ls)
-          (sym dropped ∙ ap (letters_behind before) (sym split.1)) ∙ so_far.whole;
-    }
+so_far_dropped made before rest all c more so_far next underscore = grind (arith, cons_from_encodes, nat_tests)
 
 pub so_far_pushed : (made : List ℕ) (before : ℕ) (rest all : List ℕ) (c d : ℕ) (pushed more : List ℕ)
     → IsSoFar made before rest all → rest ≡ encode_utf8 c ++ more → (c == 95) ≡ false
     → d ≡ (if before == 95 then to_ascii_uppercase c else c) → pushed ≡ made ++ encode_utf8 d
     → IsSoFar pushed c more all
 so_far_pushed made before rest all c d pushed more so_far next test raised_by pushed_is =
-    let split = cons_from_encodes so_far.letters more c (so_far.spelled ∙ next) in
-    let kept : letters_behind before (c ∷ split.0) ≡ d ∷ letters_behind c split.0 = rw (test, raised_by) refl in
-    record {
-      letters = split.0;
-      spelled = split.2;
-      whole = ap (λ (xs : List ℕ). xs ++ encode_utf8_all (letters_behind c split.0)) pushed_is
-          ∙ append_assoc made (encode_utf8 d) (encode_utf8_all (letters_behind c split.0))
-          ∙ ap (λ (ls : List ℕ). made ++ encode_utf8_all ls) (sym kept ∙ ap (letters_behind before) (sym split.1))
-          ∙ so_far.whole;
-    }
+    grind (arith, cons_from_encodes, append_assoc)
 
 pub raised_as : (before c pushed : ℕ) → ((before ≡ 95) × (pushed ≡ to_ascii_uppercase c))
     ⊎ ((before ≢ 95) × (pushed ≡ c))
     → pushed ≡ (if before == 95 then to_ascii_uppercase c else c)
-raised_as before c pushed (inl case) = let test : (before == 95) ≡ true = grind (arith, nat_tests) in rw test case.1
-raised_as before c pushed (inr case) = let test : (before == 95) ≡ false = grind (arith, nat_tests) in rw test case.1
+raised_as before c pushed h = grind (arith, nat_tests)
 
 pub so_far_end : (made : List ℕ) (before : ℕ) (rest all : List ℕ) → IsSoFar made before rest all → length rest ≡ 0
     → made ≡ all
@@ -87,4 +65,4 @@ so_far_end made before [] all so_far done =
     let none : so_far.letters ≡ [] = encodes_same so_far.letters [] so_far.spelled in
     sym (append-nil made) ∙ ap (λ (ls : List ℕ). made ++ encode_utf8_all (letters_behind before ls)) (sym none)
     ∙ so_far.whole
-so_far_end made before (b ∷ rest) all so_far done = absurd (omega (arith, done))
+so_far_end made before (b ∷ rest) all so_far done = grind arith
