@@ -1,5 +1,5 @@
 -- Tokens have one answer: their tree, or their fault with its kind.
-use Rattle.std.proofs.Common.{◌≡◌, ℕ, ◌<◌, List, length, refl, ◌∙◌, ap, subst, arith, Result, Ok, Err}
+use Rattle.std.proofs.Common.{◌≡◌, ℕ, List, refl, ap, arith, Result, Ok, Err}
 use Rattle.std.specs.Prelude.{MatchResult, IsErrAnd}
 use Rattle.std.proofs.lemmas.Option.{slice_get_within}
 use Rattle.proto_tokens.specs.Token.{Spelled}
@@ -13,7 +13,7 @@ use Rattle.proto_syntax.specs.Grammar.{Tree}
 use Rattle.proto_syntax.specs.Trees.{file_tree}
 use Rattle.proto_syntax.specs.Fault.{IsTreeOf, IsFaultAt, token_before, kind_of, IsKindOf, at_end, too_deep, other}
 use Rattle.proto_syntax.specs.Gives.{TellsFault}
-use Rattle.proto_syntax.specs.Told.{place_of_token, IsFaultOf}
+use Rattle.proto_syntax.specs.Told.{IsFaultOf}
 use Rattle.proto_syntax.proofs.Faults.{only_tree}
 use Rattle.proto_syntax.proofs.Prefix.{one_fault}
 
