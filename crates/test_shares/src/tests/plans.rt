@@ -28,7 +28,7 @@ static EVENED: [(u32, u32, usize, u32); 8] = [
 fn evened(rt: HostRuntime) {
     for (workers, cut, items, even) in &EVENED {
         let plan = Plan::new(*workers, *cut)
-            .expect(rt, "a plan")
+            .expect(&rt, "a plan")
             .evened(*items);
         assert!(rt;
             plan.workers() == *workers && plan.cut() == *even,
