@@ -1,10 +1,9 @@
 -- What work in shares gives for items, and what holds of each item and what is given for it.
-use Rattle.std.proofs.Common.{◌≡◌, ◌∙◌, sym, subst, refl, ℕ, suc, ◌+◌, ◌<◌, List, [], ◌∷◌, ◌++◌, length, take, get_or, map, arith}
+use Rattle.std.proofs.Common.{◌≡◌, ◌∙◌, sym, ap, subst, refl, Some, ℕ, zero, suc, ◌+◌, ◌<◌, List, [], ◌∷◌, ◌++◌, length, take, get_or, map, arith, rules}
 use Rattle.std.specs.List.{AllZip}
-use Rattle.std.specs.Prelude.{Result, Ok, IsSomeAnd, Option, slice_get}
-use Rattle.std.proofs.lemmas.List.{get_or_default, length-map, take_more}
-use Rattle.std.proofs.lemmas.Option.{MatchOption-at_some, slice_get-map, slice_get_read}
-use Rattle.std.proofs.lemmas.Slice.Zip.{AllZip-left, AllZip-long, all_zipped_more}
+use Rattle.std.specs.Prelude.{Result, Ok, slice_get}
+use Rattle.std.proofs.lemmas.List.{get_or_default, length-map, length-take-le, take_more}
+use Rattle.std.proofs.lemmas.Option.{slice_get-map, slice_get_read}
 use Rattle.share_work.specs.Shares.{GivesItems}
 
 -- what holds of no items, and with an item of those behind it also of all of them, holds of what is given
@@ -22,23 +21,47 @@ gives_each R P none more a (x ∷ xs) (y ∷ ys) gives =
           subst (λ k. R k t o) next (gives.1 (suc i) t o item out),
     ))
 
+-- one more in front
+gives_first : {X Y : Type 0} (R : ℕ → X → Y → Type 0) (a : ℕ) (x : X) (y : Y) (xs : List X) (ys : List Y) → R a x y
+    → GivesItems R (a + 1) xs ys → (i : ℕ) (t : X) (o : Y) → slice_get (x ∷ xs) i ≡ Some t
+    → slice_get (y ∷ ys) i ≡ Some o → R (a + i) t o
+gives_first R a x y xs ys here rest zero t o item out =
+    let at : a ≡ a + 0 = omega arith in
+    let is : x ≡ t = cc in
+    let gives : y ≡ o = cc in
+    subst (λ k. R k t o) at (subst (R a t) gives (subst (λ z. R a z y) is here))
+gives_first R a x y xs ys here rest (suc i) t o item out =
+    let at : a + 1 + i ≡ a + suc i = omega arith in
+    subst (λ k. R k t o) at (rest.1 i t o item out)
+
+-- one more behind
+gives_more : {X Y : Type 0} (R : ℕ → X → Y → Type 0) (x : X) (y : Y) (a : ℕ) (xs : List X) (ys : List Y)
+    → GivesItems R a xs ys → R (a + length xs) x y → GivesItems R a (xs ++ x ∷ []) (ys ++ y ∷ [])
+gives_more R x y =
+    gives_each R (λ a xs ys. R (a + length xs) x y → GivesItems R a (xs ++ x ∷ []) (ys ++ y ∷ []))
+    (λ a last. (
+      refl,
+      gives_first R a x y [] [] (let here : a + 0 ≡ a = omega arith in subst (λ k. R k x y) here last)
+          (refl, λ i t o item out. absurd (search rules)),
+    ))
+    (λ a x' y' xs ys here more last. let at : a + suc (length xs) ≡ a + 1 + length xs = omega arith in
+    let rest = more (subst (λ k. R k x y) at last) in
+    (ap suc rest.0, gives_first R a x' y' _ _ here rest))
+
+-- the item behind those that were taken
+pub gives_next : {X Y : Type 0} (R : ℕ → X → Y → Type 0) (a : ℕ) (xs : List X) (k : ℕ) (x : X) (ys : List Y) (y : Y)
+    → k < length xs → x ≡ get_or xs k x → GivesItems R a (take k xs) ys → R (a + k) x y
+    → GivesItems R a (take (k + 1) xs) (ys ++ y ∷ [])
+gives_next R a xs k x ys y h is gives here =
+    let taken : length (take k xs) ≡ k = grind (arith, length-take-le) in
+    let more : take (k + 1) xs ≡ take k xs ++ x ∷ [] = grind (arith, take_more) in
+    subst (λ items. GivesItems R a items (ys ++ y ∷ [])) (sym more)
+    (gives_more R x y a (take k xs) ys gives (subst (λ n. R (a + n) x y) (sym taken) here))
+
 -- where positions do not matter
 pub all_of_gives : {X Y : Type 0} (R : X → Y → Type 0) (a : ℕ) (xs : List X) (ys : List Y) → GivesItems (λ k. R) a xs ys
     → AllZip R xs ys
 all_of_gives R = gives_each (λ k. R) (λ k. AllZip R) (λ a. tt) (λ a x y xs ys here rest. (here, rest))
-
-pub gives_of_all : {X Y : Type 0} (R : X → Y → Type 0) (first : ℕ) (xs : List X) (ys : List Y) → AllZip R xs ys
-    → GivesItems (λ k. R) first xs ys
-gives_of_all {Y = Y} R first xs ys all = (
-  AllZip-long R xs ys all,
-  λ i x y item out. subst (λ (r : Option Y). IsSomeAnd r (R x)) out
-      (MatchOption-at_some (Unit {0}) (λ t. IsSomeAnd (slice_get ys i) (R t)) x item (AllZip-left R xs ys all i)),
-)
-
--- one more of each, read with any default
-pub all_next : {X Y : Type 0} (R : X → Y → Type 0) (xs : List X) (k : ℕ) (d : X) (ys : List Y) (y : Y) → k < length xs
-    → AllZip R (take k xs) ys → R (get_or xs k d) y → AllZip R (take (k + 1) xs) (ys ++ y ∷ [])
-all_next R xs k d ys y h all last = grind (arith, all_zipped_more, take_more)
 
 -- what stands at a position in both, the given with any default
 pub given_at : {X Y : Type 0} (R : ℕ → X → Y → Type 0) (xs : List X) (ys : List Y) (k : ℕ) (x : X) (d y : Y)

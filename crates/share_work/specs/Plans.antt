@@ -1,8 +1,9 @@
--- How many items a piece has.
-use Rattle.std.specs.Prelude.{ℕ, ◌*◌, ◌/◌, if◌then◌else◌, nat_le, max, min}
+-- How many items a piece has, where they are shared evenly.
+use Rattle.std.specs.Prelude.{ℕ, ◌⊎◌, ◌≡◌, ◌≤◌, ◌*◌}
 
--- where so many items are shared evenly: about 64 pieces for each worker, of at most cut items and one at least, unless one
--- piece of cut items for each worker has them all
-abbrev pub even_cut : ℕ → ℕ → ℕ → ℕ
-even_cut workers cut items =
-    if nat_le items (workers * cut) then cut else max 1 (min (items / (workers * 64)) cut)
+-- the greatest cut up to `most` by which each worker gets 64 pieces of so many items, or 1 where no cut gives as many
+pub record IsEvenCut (workers most items cut : ℕ) : Type 0 where
+  pub within : cut ≤ most
+  pub even : (cut ≡ 1) ⊎ (cut * (workers * 64) ≤ items)
+  pub some : 1 ≤ cut
+  pub greatest : (c : ℕ) → c ≤ most → c * (workers * 64) ≤ items → c ≤ cut

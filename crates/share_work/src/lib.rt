@@ -4,6 +4,7 @@
 //! numbers at words that all threads share, and each word keeps the least number posted there.
 #![tactic(auto)]
 
+mod each;
 mod gate;
 mod least;
 mod least_table;
@@ -17,6 +18,7 @@ mod shares;
 mod views;
 mod work;
 
+pub use each::{ItemWork, each_in_shares};
 pub use gate::{Gate, NoGate};
 pub use least::Least;
 pub use least_table::{LeastSeat, LeastTable, NONE};

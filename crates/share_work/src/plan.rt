@@ -1,7 +1,7 @@
 //! How items are cut into pieces, and pieces are shared among workers.
 
-ghost use Rattle.std.specs.Prelude.{◌≡◌, ◌<◌, ◌≤◌, ◌↔◌, IsSome, IfSome};
-ghost use Rattle.share_work.specs.Plans.{even_cut};
+ghost use Rattle.std.specs.Prelude.{◌≡◌, ◌<◌, ◌≤◌, ◌*◌, ◌↔◌, IsSome, IfSome};
+ghost use Rattle.share_work.specs.Plans.{IsEvenCut};
 
 /// Fewer items than this, each of which takes little, are not worth a thread.
 pub const FEWEST_SHARED: usize = 64;
@@ -48,7 +48,8 @@ impl Plan {
     /// or pieces of one item. Items of which no worker gets a second piece are shared as before, since fewer threads do for them.
     pub fn evened(self, items: usize) -> Plan
         ensures workers { result.workers ≡ self.workers }
-        ensures cut { result.cut ≡ even_cut self.workers self.cut items }
+        ensures few { items ≤ self.workers * self.cut → result.cut ≡ self.cut }
+        ensures even { self.workers * self.cut < items → IsEvenCut self.workers self.cut items result.cut }
     {
         let workers = self.workers as usize;
         let cut = self.cut as usize;
