@@ -32,11 +32,11 @@ pub placed : (limits : Limits) (files : List Source) (xs : List SourceFault) (x 
     → (x.place.offset ≤ length (text_of s)) × (x.place.offset ≤ limit_of limits limit.FileBytes)
 placed limits files xs x s differ all told inside name =
     let (t, there, own) = no_other limits files xs x all told in
-    let (step, place, what, found, is) = own in
+    let (f, found, is) = own in
     let one : s ≡ t = one_of_name files s t differ inside there (name ∙ ap (λ (y : SourceFault). y.file) is) in
-    let at : place.offset ≡ x.place.offset = sym (ap (λ (y : SourceFault). y.place.offset) is) in
+    let at : f.spot.place.offset ≡ x.place.offset = sym (ap (λ (y : SourceFault). y.place.offset) is) in
     let P : ℕ → Type 0 = λ n. n ≤ length (text_of s) in
-    let Q : Source → Type 0 = λ r. place.offset ≤ length (text_of r) in
+    let Q : Source → Type 0 = λ r. f.spot.place.offset ≤ length (text_of r) in
     let R : ℕ → Type 0 = λ n. n ≤ limit_of limits limit.FileBytes in
-    let stands = fault_inside limits (name_of t) (text_of t) step place what found in
+    let stands = fault_inside limits (name_of t) (text_of t) f found in
     (subst P at (subst Q (sym one) stands.within), subst R at stands.short)

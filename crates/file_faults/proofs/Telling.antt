@@ -4,16 +4,14 @@ use Rattle.std.specs.List.{AllZip}
 use Rattle.std.specs.Prelude.{Contains}
 use Rattle.proto_base.specs.Limits.{limit_of}
 use Rattle.proto_base.specs.declared.fault.Fault.{Fault}
-use Rattle.proto_base.specs.declared.kind.Kind.{Kind}
+use Rattle.proto_base.specs.declared.file_fault.FileFault.{FileFault}
 use Rattle.proto_base.specs.declared.limits.Limit.TheVariants as limit
 use Rattle.proto_base.specs.declared.limits.Limits.{Limits}
-use Rattle.proto_base.specs.declared.place.Place.{Place}
 use Rattle.proto_compile.specs.Descriptions.{SourceDescribes}
 use Rattle.proto_base.specs.Sets.{StandsAt}
 use Rattle.proto_compile.specs.FaultSet.{IsLeastFault, SourceFault, fault, told_by}
 use Rattle.proto_compile.specs.Sources.{AreByName, name_of, text_of}
 use Rattle.proto_compile.specs.declared.source.Source.{Source}
-use Rattle.proto_compile.proofs.FaultOrder.{same_told}
 use Rattle.proto_compile.proofs.LeastFault.{local_least}
 use Rattle.proto_compile.proofs.OneTyping.{standing_in, zipped_at}
 use Rattle.proto_desc.specs.declared.file.FileDesc.{FileDesc}
@@ -28,13 +26,11 @@ record IsFirst (limits : Limits) (files : List Source) (x : SourceFault) : Type 
   descs : List FileDesc
   at : ℕ
   source : Source
-  step : ℕ
-  place : Place
-  what : Kind
+  told : FileFault
   before : AllZip (SourceDescribes limits) (take at files) descs
   stands : StandsAt files at source
-  found : IsLocalFault limits (name_of source) (text_of source) step place what
-  is : x ≡ fault 1 (name_of source) step place what
+  found : IsLocalFault limits (name_of source) (text_of source) told
+  is : x ≡ fault 1 (name_of source) told
 
 first_found : (limits : Limits) (files : List Source) (xs : List SourceFault) → AreFileFaults limits files xs
     → (x : SourceFault) (rest : List SourceFault)
@@ -47,21 +43,17 @@ first_found limits _ _ (sound s desc files faults is all) x rest e =
       descs = desc ∷ r.descs;
       at = suc r.at;
       source = r.source;
-      step = r.step;
-      place = r.place;
-      what = r.what;
+      told = r.told;
       before = (is, r.before);
       stands = (omega (arith, below), r.stands.1);
       found = r.found;
       is = r.is;
     }
-first_found limits _ _ (faulty s step place what files faults found all) x rest e = record {
+first_found limits _ _ (faulty s f files faults found all) x rest e = record {
   descs = [];
   at = zero;
   source = s;
-  step = step;
-  place = place;
-  what = what;
+  told = f;
   before = tt;
   stands = (omega arith, refl);
   found = found;
@@ -73,7 +65,7 @@ first_least : (limits : Limits) (sources files : List Source) (x : SourceFault)
     → IsFirst limits files x → IsLeastFault limits sources x
 first_least limits sources files x few order r =
     subst (IsLeastFault limits sources) (sym r.is)
-    (local_least limits sources files r.at r.source r.step r.place r.what few order r.stands r.found (λ b t less there.
+    (local_least limits sources files r.at r.source r.told few order r.stands r.found (λ b t less there.
     let (below, is) = standing_in files b r.at t less there.0 there.1 in
     zipped_at (SourceDescribes limits) (take r.at files) r.descs b t r.before below is))
 
@@ -95,12 +87,10 @@ pub record IsSound (limits : Limits) (s : Source) (files : List Source) (xs : Li
   pub all : AreFileFaults limits files xs
 
 pub record IsFaulty (limits : Limits) (s : Source) (files : List Source) (xs : List SourceFault) : Type 0 where
-  pub step : ℕ
-  pub place : Place
-  pub what : Kind
+  pub told : FileFault
   pub rest : List SourceFault
-  pub found : IsLocalFault limits (name_of s) (text_of s) step place what
-  pub is : xs ≡ fault 1 (name_of s) step place what ∷ rest
+  pub found : IsLocalFault limits (name_of s) (text_of s) told
+  pub is : xs ≡ fault 1 (name_of s) told ∷ rest
   pub all : AreFileFaults limits files rest
 
 none_at_all : (limits : Limits) (xs : List SourceFault) → AreFileFaults limits [] xs → xs ≡ []
@@ -110,10 +100,8 @@ pub head_of : (limits : Limits) (s : Source) (files : List Source) (xs : List So
     → AreFileFaults limits (s ∷ files) xs
     → IsSound limits s files xs ⊎ IsFaulty limits s files xs
 head_of limits _ _ _ (sound s desc files faults is all) = inl (record { desc = desc; is = is; all = all })
-head_of limits _ _ _ (faulty s step place what files faults found all) = inr (record {
-  step = step;
-  place = place;
-  what = what;
+head_of limits _ _ _ (faulty s f files faults found all) = inr (record {
+  told = f;
   rest = faults;
   found = found;
   is = refl;
@@ -124,7 +112,7 @@ not_both : {A : Type 0} (limits : Limits) (s : Source) (files : List Source) (xs
     → IsSound limits s files xs → IsFaulty limits s files ys
     → A
 not_both limits s files xs ys g h = absurd (no_local limits (name_of s)
-    (text_of s) g.desc h.step h.place h.what g.is h.found)
+    (text_of s) g.desc h.told g.is h.found)
 
 -- ---- one list
 
@@ -146,24 +134,19 @@ one_list limits (s ∷ files) xs ys a b = elim (head_of limits s files xs a) [
         (g : IsFaulty limits s files xs)
         (h : IsFaulty limits s files ys) → g.rest ≡ h.rest → xs ≡ ys
     same_heads limits s files xs ys g h rest =
-        let one = one_local limits (name_of s)
-        (text_of s) g.step h.step g.place h.place g.what h.what g.found h.found in
-        let head = same_told 1 1 g.step h.step (name_of s)
-        (name_of s) g.place h.place g.what h.what refl refl one.0 one.1 one.2 in
-        g.is ∙ ap (λ (x : SourceFault). x ∷ g.rest) head
-        ∙ ap (λ (r : List SourceFault). fault 1 (name_of s) h.step h.place h.what ∷ r) rest ∙ sym h.is
+        let one = one_local limits (name_of s) (text_of s) g.told h.told g.found h.found in
+        g.is ∙ ap (λ f. fault 1 (name_of s) f ∷ g.rest) one
+        ∙ ap (λ (r : List SourceFault). fault 1 (name_of s) h.told ∷ r) rest ∙ sym h.is
 
 -- ---- which faults are told
 
 has_head : (limits : Limits) (s : Source) (files : List Source) (xs : List SourceFault) (x : SourceFault)
     → IsFaulty limits s files xs → HasFault limits s x
     → Contains xs x
-has_head limits s files xs x g (step, place, what, found, is) =
-    let one = one_local limits (name_of s) (text_of s) g.step step g.place place g.what what g.found found in
-    let head = same_told 1 1 g.step step (name_of s)
-    (name_of s) g.place place g.what what refl refl one.0 one.1 one.2 in
+has_head limits s files xs x g (f, found, is) =
+    let one = one_local limits (name_of s) (text_of s) g.told f g.found found in
     let P : List SourceFault → Type 0 = λ ys. Contains ys x in
-    subst P (sym g.is) (zero, omega arith, head ∙ sym is)
+    subst P (sym g.is) (zero, omega arith, ap (fault 1 (name_of s)) one ∙ sym is)
 
 pub every_fault : (limits : Limits) (files : List Source) (xs : List SourceFault) (s : Source) (x : SourceFault)
     → AreFileFaults limits files xs
@@ -173,14 +156,14 @@ every_fault limits (t ∷ files) xs s x all (zero, inside, here) has =
     let P : Source → Type 0 = λ r. HasFault limits r x in
     let own : HasFault limits t x = subst P (sym here) has in
     elim (head_of limits t files xs all) [
-      | inl g ↦ absurd (no_local limits (name_of t) (text_of t) g.desc own.0 own.1 own.2 g.is own.3)
+      | inl g ↦ absurd (no_local limits (name_of t) (text_of t) g.desc own.0 g.is own.1)
       | inr g ↦ has_head limits t files xs x g own
     ]
 every_fault limits (t ∷ files) xs s x all (suc k, inside, here) has = elim (head_of limits t files xs all) [
   | inl g ↦ every_fault limits files xs s x g.all (k, omega (arith, inside), here) has
   | inr g ↦ (
       let P : List SourceFault → Type 0 = λ ys. Contains ys x in
-      let first = fault 1 (name_of t) g.step g.place g.what in
+      let first = fault 1 (name_of t) g.told in
       subst P (sym g.is) (behind first g.rest x (every_fault limits files g.rest s x g.all (
         k,
         omega
@@ -199,12 +182,12 @@ some_later limits t files x (s, inside, has) = (s, behind t files s inside, has)
 
 some_here : (limits : Limits) (t : Source) (files : List Source) (xs : List SourceFault) (x : SourceFault)
     (g : IsFaulty limits t files xs)
-    → Contains (fault 1 (name_of t) g.step g.place g.what ∷ g.rest) x → (Contains g.rest x
+    → Contains (fault 1 (name_of t) g.told ∷ g.rest) x → (Contains g.rest x
     → SomeHas limits files x) → SomeHas limits (t ∷ files) x
 some_here limits t files xs x g (zero, inside, is) later = (
   t,
   (zero, omega arith, refl),
-  (g.step, g.place, g.what, g.found, sym is),
+  (g.told, g.found, sym is),
 )
 some_here limits t files xs x g (suc k, inside, is) later = some_later limits t files x (later (
   k,

@@ -1,8 +1,7 @@
 -- The faults of sources by themselves: of each that has one, the first.
 use Rattle.std.specs.Prelude.{◌≡◌, ℕ, ◌<◌, List, [], ◌∷◌, length}
-use Rattle.proto_base.specs.declared.kind.Kind.{Kind}
+use Rattle.proto_base.specs.declared.file_fault.FileFault.{FileFault}
 use Rattle.proto_base.specs.declared.limits.Limits.{Limits}
-use Rattle.proto_base.specs.declared.place.Place.{Place}
 use Rattle.proto_compile.specs.Descriptions.{SourceDescribes}
 use Rattle.proto_compile.specs.FaultSet.{SourceFault, fault}
 use Rattle.proto_compile.specs.Sources.{name_at, name_of, text_of}
@@ -15,14 +14,14 @@ pub data AreFileFaults (limits : Limits) : List Source → List SourceFault → 
   none : AreFileFaults limits [] []
   sound : (s : Source) (desc : FileDesc) (files : List Source) (faults : List SourceFault)
       → SourceDescribes limits s desc → AreFileFaults limits files faults → AreFileFaults limits (s ∷ files) faults
-  faulty : (s : Source) (step : ℕ) (place : Place) (kind : Kind) (files : List Source) (faults : List SourceFault)
-      → IsLocalFault limits (name_of s) (text_of s) step place kind → AreFileFaults limits files faults
-      → AreFileFaults limits (s ∷ files) (fault 1 (name_of s) step place kind ∷ faults)
+  faulty : (s : Source) (f : FileFault) (files : List Source) (faults : List SourceFault)
+      → IsLocalFault limits (name_of s) (text_of s) f → AreFileFaults limits files faults
+      → AreFileFaults limits (s ∷ files) (fault 1 (name_of s) f ∷ faults)
 
 -- the fault is the source's first by itself
 abbrev pub HasFault : Limits → Source → SourceFault → Type 0
-HasFault limits s x = (step : ℕ) × (place : Place) × (kind : Kind)
-    × IsLocalFault limits (name_of s) (text_of s) step place kind × (x ≡ fault 1 (name_of s) step place kind)
+HasFault limits s x =
+    (f : FileFault) × IsLocalFault limits (name_of s) (text_of s) f × (x ≡ fault 1 (name_of s) f)
 
 -- no two sources have one name
 abbrev pub NamesDiffer : List Source → Type 0

@@ -2,40 +2,24 @@
 
 ghost use Rattle.std.specs.Prelude.{◌≡◌, ◌≤◌, [], ◌∷◌, ◌++◌, List, IfOk, OnOk, length, map};
 ghost use Rattle.file_faults.specs.FileFaults.{AreFileFaults};
-ghost use Rattle.file_faults.specs.Found.{IsFoundIn, added_by, fault_in, faults_in};
+ghost use Rattle.file_faults.specs.Found.{added_by, faults_in};
 ghost use Rattle.proto_base.specs.Limits.{limit_of};
 ghost use Rattle.proto_base.specs.declared.fault.Fault.{Fault};
 ghost use Rattle.proto_base.specs.declared.limits.Limit.TheVariants as limit;
-ghost use Rattle.proto_compile.specs.FaultSet.{IsLeastFault, told_by};
+ghost use Rattle.proto_compile.specs.FaultSet.{IsLeastFault, fault as source_fault, told_by};
 ghost use Rattle.proto_compile.specs.Sources.{AreByName};
 ghost use Rattle.proto_compile.specs.declared.source.Source.{Source};
 
-use crate::local::LocalFault;
-use proto_base::{Fault, Limits};
+use proto_base::{Fault, FileError, FileFault, Limits};
 use proto_compile::Source;
-use proto_file::{FileError, describe};
+use proto_file::describe;
 use share_work::phases::DESCRIBING;
-use share_work::{Gate, Plan, Work, in_shares};
+use share_work::{Gate, ItemWork, Plan, each_in_shares};
 use std::alloc::{AllocError, AllocGlobal, Global};
 use std::thread::Threads;
 
 /// The compiler's pass over each source by itself.
 const LOCAL: u8 = 1;
-
-/// The first fault of a source by itself, if it has one. What the source describes is let go here, in the worker.
-fn fault_of(
-    alloc: Global,
-    source: &Source,
-    limits: &Limits,
-) -> Result<Option<LocalFault>, AllocError>
-    ensures { IfOk result (IsFoundIn limits.now source.now) }
-{
-    match describe(alloc, source.name, source.text, limits) {
-        Ok(_) => Ok(None),
-        Err(FileError::At(step, place, kind)) => Ok(Some(LocalFault { step, place, kind })),
-        Err(FileError::NoMemory) => Err(AllocError),
-    }
-}
 
 /// Finds the first fault of each source by itself.
 #[derive(Drop)]
@@ -43,52 +27,41 @@ struct Finding {
     limits: Limits,
 }
 
-impl<'s> Work<Source<'s>> for Finding {
+impl<'s> ItemWork<Source<'s>> for Finding {
     ghost use Rattle.std.specs.Prelude.{⊤};
     ghost use Rattle.file_faults.specs.Found.{IsFoundIn};
 
-    type Out = Option<LocalFault>;
-
-    type Seat = ();
+    type Out = Option<FileFault>;
 
     ghost takes = { λ _ _ _. ⊤ };
 
-    ghost fits = { λ _ _. ⊤ };
-
     ghost gives = { λ work _ source found. IsFoundIn work.limits source found };
 
-    ghost number = { λ _ _. 0 };
-
-    ghost holds = { λ _ _ _ _. ⊤ };
-
-    ghost adds = { λ _ _ _ _ _. ⊤ };
-
-    fn piece(
+    /// What the source describes is let go here, in the worker.
+    fn item(
         &self,
         alloc: Global,
-        _seat: &mut (),
-        _first: usize,
-        items: &[Source<'s>],
-    ) -> Result<Vec<Option<LocalFault>>, AllocError> {
-        let mut all = Vec::with_capacity(alloc, items.len())?;
-        for source in items {
-            let found = fault_of(alloc, source, &self.limits)?;
-            all.push(found)?;
+        _position: usize,
+        source: &Source<'s>,
+    ) -> Result<Option<FileFault>, AllocError> {
+        match describe(alloc, source.name, source.text, &self.limits) {
+            Ok(_) => Ok(None),
+            Err(FileError::First(fault)) => Ok(Some(fault)),
+            Err(FileError::NoMemory) => Err(AllocError),
         }
-        Ok(all)
     }
 }
 
 /// A fault with the name of its file.
-fn named(alloc: Global, name: &str, local: LocalFault) -> Result<Fault, AllocError>
-    ensures { IfOk result (λ fault. told_by fault ≡ fault_in name.now local) }
+fn named(alloc: Global, name: &str, found: FileFault) -> Result<Fault, AllocError>
+    ensures { IfOk result (λ fault. told_by fault ≡ source_fault 1 name.now found) }
 {
     Ok(Fault {
         pass: LOCAL,
         file: String::from_str(alloc, name)?,
-        step: local.step,
-        place: local.place,
-        kind: local.kind,
+        step: found.step,
+        place: found.spot.place,
+        kind: found.spot.kind,
     })
 }
 
@@ -96,14 +69,14 @@ fn named(alloc: Global, name: &str, local: LocalFault) -> Result<Fault, AllocErr
 fn put_found(
     alloc: Global,
     source: &Source,
-    found: Option<LocalFault>,
+    found: Option<FileFault>,
     faults: &mut Vec<Fault>,
 ) -> Result<(), AllocError>
     ensures { OnOk result (map told_by faults.new.items
         ≡ map told_by faults.old.items ++ added_by source.now found []) }
 {
-    if let Some(local) = found {
-        faults.push(named(alloc, source.name, local)?)?;
+    if let Some(fault) = found {
+        faults.push(named(alloc, source.name, fault)?)?;
     }
     Ok(())
 }
@@ -112,7 +85,7 @@ fn put_found(
 fn all_named(
     alloc: Global,
     files: &[Source],
-    found: &[Option<LocalFault>],
+    found: &[Option<FileFault>],
 ) -> Result<Vec<Fault>, AllocError>
     requires { length found.now ≡ length files.now }
     ensures { IfOk result (λ faults. map told_by faults.items ≡ faults_in files.now found.now) }
@@ -147,15 +120,6 @@ where
         → IsLeastFault limits.now sources (told_by f)) }
 {
     let work = Finding { limits: *limits };
-    let mut seats = Vec::from_elem(rt.alloc(), (), plan.workers() as usize)?;
-    let found = in_shares(
-        rt,
-        plan,
-        DESCRIBING,
-        gate,
-        files,
-        &work,
-        seats.as_mut_slice(),
-    )?;
+    let found = each_in_shares(rt, plan, DESCRIBING, gate, files, &work)?;
     all_named(rt.alloc(), files, &found)
 }

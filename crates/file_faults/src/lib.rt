@@ -5,7 +5,6 @@
 
 mod finding;
 mod laws;
-mod local;
 
 pub use finding::faults_of_files;
 pub use laws::{file_faults_are_all, file_faults_are_placed};

@@ -8,7 +8,7 @@ use crate::marking::firsts;
 use crate::mode::Mode;
 use crate::replying::Replying;
 use share_work::phases::REPLYING;
-use share_work::{Gate, Plan, Reach, in_shares};
+use share_work::{Gate, Plan, Reach, each_in_shares};
 use std::alloc::{AllocError, AllocGlobal};
 use std::thread::Threads;
 
@@ -39,6 +39,5 @@ where
         least: &least,
         mode,
     };
-    let mut seats = Vec::from_elem(rt.alloc(), (), plan.workers() as usize)?;
-    in_shares(rt, plan, REPLYING, gate, roots, &work, seats.as_mut_slice())
+    each_in_shares(rt, plan, REPLYING, gate, roots, &work)
 }

@@ -4,7 +4,7 @@ ghost use Rattle.std.specs.Prelude.{Some, ◌≡◌, ◌<◌, ◌++◌, IfOk, On
 ghost use Rattle.first_reach.specs.Reply.{reply_at, others_at, RootIsFirstToo};
 
 use crate::mode::Mode;
-use share_work::{Least, Reach, Work};
+use share_work::{ItemWork, Least, Reach};
 use std::alloc::{AllocError, Global};
 
 /// Lists the files of each reply.
@@ -15,47 +15,30 @@ pub(crate) struct Replying<'a, F: Reach> {
     pub(crate) mode: Mode,
 }
 
-impl<F: Reach> Work<Option<usize>> for Replying<'_, F> {
-    ghost use Rattle.std.specs.Prelude.{⊤, ◌≡◌, ◌<◌, length};
+impl<F: Reach> ItemWork<Option<usize>> for Replying<'_, F> {
+    ghost use Rattle.std.specs.Prelude.{◌≡◌, ◌<◌, length};
     ghost use Rattle.std.specs.Option.{ForSome};
-    ghost use Rattle.share_work.specs.Posts.{NONE};
     ghost use Rattle.first_reach.specs.Reply.{reply_at, RootIsFirstToo};
 
     type Out = Vec<usize>;
 
-    type Seat = ();
-
-    ghost takes = { λ w i root. (i < NONE)
-        × ForSome root (λ r. (r < F.files w.reach.now)
+    ghost takes = { λ w i root. ForSome root (λ r. (length w.least.now ≡ F.files w.reach.now)
+        × (r < F.files w.reach.now)
         × RootIsFirstToo (F.list w.reach.now) w.least.now i r) };
-
-    ghost fits = { λ w _. length w.least.now ≡ F.files w.reach.now };
 
     ghost gives = { λ w i root out. out.items
         ≡ reply_at w.mode (F.list w.reach.now) w.least.now i root };
 
-    ghost number = { λ _ _. 0 };
-
-    ghost holds = { λ _ _ _ _. ⊤ };
-
-    ghost adds = { λ _ _ _ _ _. ⊤ };
-
-    fn piece(
+    fn item(
         &self,
         alloc: Global,
-        seat: &mut (),
-        first: usize,
-        items: &[Option<usize>],
-    ) -> Result<Vec<Vec<usize>>, AllocError> {
-        let mut outs = Vec::new(alloc);
-        for (k, root) in items.iter().enumerate() {
-            let files = match root {
-                Some(root) => self.reply(alloc, *root, (first + k) as u64)?,
-                None => Vec::new(alloc),
-            };
-            outs.push(files)?;
+        position: usize,
+        root: &Option<usize>,
+    ) -> Result<Vec<usize>, AllocError> {
+        match root {
+            Some(root) => self.reply(alloc, *root, position as u64),
+            None => Ok(Vec::new(alloc)),
         }
-        Ok(outs)
     }
 }
 

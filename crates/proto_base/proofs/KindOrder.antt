@@ -1,5 +1,4 @@
 -- Kinds are declared in the order of their numbers, and no two have one number.
-use Prim.Native.Nat.{zero, suc}
 use mathlib.Core.Logic.{inl, inr}
 use denote.Struct.Field.{Field}
 use denote.Enum.Bare.{Bare, sameb}

@@ -7,5 +7,6 @@ pub mod Sets
 pub mod Lesser
 pub mod StandardLimits
 pub mod Told
+pub mod FileFaults
 pub mod Lines
 pub mod NameOrder

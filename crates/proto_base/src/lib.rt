@@ -4,6 +4,7 @@
 
 pub mod boxed;
 mod fault;
+mod file_fault;
 mod kind;
 mod limits;
 mod place;
@@ -13,6 +14,7 @@ mod spot;
 pub mod text;
 
 pub use fault::Fault;
+pub use file_fault::{FileError, FileFault, ONLY_STEP};
 pub use kind::Kind;
 pub use limits::{Limit, Limits};
 pub use place::{Place, Span, line_column};

@@ -8,9 +8,10 @@ use Rattle.std.proofs.lemmas.Map.Lookups.{exact_bytes, exact_unsigned}
 use Rattle.proto_base.proofs.Spots.{same_kind, same_place}
 use Rattle.proto_base.specs.Fault.{Found, found_cmp}
 use Rattle.proto_base.specs.Kind.{number_of}
-use Rattle.proto_base.specs.Least.{AtMost, spot}
-use Rattle.proto_base.specs.declared.kind.Kind.{Kind}
-use Rattle.proto_base.specs.declared.place.Place.{Place}
+use Rattle.proto_base.specs.FileFaults.{at_step}
+use Rattle.proto_base.specs.Least.{AtMost}
+use Rattle.proto_base.specs.declared.file_fault.FileFault.{FileFault}
+use Rattle.proto_base.specs.declared.spot.Spot.{Spot}
 use Rattle.proto_compile.specs.FaultSet.{IsNoLater, SourceFault, fault, numbered}
 
 -- ---- orderings, one after another
@@ -50,17 +51,17 @@ no_name_first name = grind (arith, same_name, less_greater)
 pub later_pass : (x y : SourceFault) → x.pass < y.pass → IsNoLater x y
 later_pass x y less = then_less (nat_cmp x.pass y.pass) _ (below x.pass y.pass less)
 
-pub later_name : (pass : ℕ) (f g : List ℕ) (s t : ℕ) (p q : Place) (k l : Kind) → slice_cmp nat_cmp f g ≡ Less
-    → IsNoLater (fault pass f s p k) (fault pass g t q l)
-later_name pass f g s t p q k l less = grind (arith, then_not, then_less, itself)
+pub later_name : (pass : ℕ) (f g : List ℕ) (x y : FileFault) → slice_cmp nat_cmp f g ≡ Less
+    → IsNoLater (fault pass f x) (fault pass g y)
+later_name pass f g x y less = grind (arith, then_not, then_less, itself)
 
-spots : (p q : Place) (k l : Kind) → AtMost (spot p k) (spot q l)
-    → ordering_then (nat_cmp p.offset q.offset) (nat_cmp (number_of k) (number_of l)) ≢ Greater
-spots p q k l most = grind (arith, then_less, below, then_not, at_most)
+spots : (x y : Spot) → AtMost x y
+    → ordering_then (nat_cmp x.place.offset y.place.offset) (nat_cmp (number_of x.kind) (number_of y.kind)) ≢ Greater
+spots x y most = grind (arith, then_less, below, then_not, at_most)
 
-pub later_spot : (pass : ℕ) (f g : List ℕ) (s : ℕ) (p q : Place) (k l : Kind) → slice_cmp nat_cmp f g ≢ Greater
-    → AtMost (spot p k) (spot q l) → IsNoLater (fault pass f s p k) (fault pass g s q l)
-later_spot pass f g s p q k l name most = grind (arith, then_not, itself, spots)
+pub later_spot : (pass : ℕ) (f g : List ℕ) (s : ℕ) (x y : Spot) → slice_cmp nat_cmp f g ≢ Greater
+    → AtMost x y → IsNoLater (fault pass f (at_step s x)) (fault pass g (at_step s y))
+later_spot pass f g s x y name most = grind (arith, then_not, itself, spots)
 
 pub same_later : (x y : SourceFault) → x ≡ y → IsNoLater x y
 same_later x y e = grind (arith, same_name, later_spot)
@@ -75,9 +76,9 @@ found_total =
     (then_total (on_total (λ (f : Found). f.place) nat_cmp_total)
     (on_total (λ (f : Found). f.number) nat_cmp_total))))
 
-pub same_told : (p q s t : ℕ) (f g : List ℕ) (x y : Place) (k l : Kind) → p ≡ q → f ≡ g → s ≡ t → x ≡ y → k ≡ l
-    → fault p f s x k ≡ fault q g t y l
-same_told p q s t f g x y k l pass file step place what = rw (pass, file, step, place, what) refl
+same_told : (x y : SourceFault) → x.pass ≡ y.pass → x.file ≡ y.file → x.step ≡ y.step → x.place ≡ y.place
+    → x.kind ≡ y.kind → x ≡ y
+same_told x y pass file step place what = cc
 
 pub one_fault : (x y : SourceFault) → IsNoLater x y → IsNoLater y x → x ≡ y
 one_fault x y h i =
@@ -88,7 +89,7 @@ one_fault x y h i =
     let file = equal_parts (slice_cmp nat_cmp x.file y.file) _ pass.1 in
     let step = equal_parts (nat_cmp x.step y.step) _ file.1 in
     let place = equal_parts (nat_cmp x.place.offset y.place.offset) _ step.1 in
-    same_told _ _ _ _ _ _ _ _ _ _ (exact_unsigned x.pass y.pass pass.0) (exact_bytes x.file y.file file.0)
+    same_told x y (exact_unsigned x.pass y.pass pass.0) (exact_bytes x.file y.file file.0)
     (exact_unsigned x.step y.step step.0)
     (same_place x.place y.place (exact_unsigned x.place.offset y.place.offset place.0))
     (same_kind x.kind y.kind (exact_unsigned (number_of x.kind) (number_of y.kind) place.1))

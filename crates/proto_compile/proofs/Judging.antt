@@ -3,8 +3,8 @@ use Rattle.std.proofs.Common.{◌≡◌, ◌∙◌, sym, ap, refl, subst, ℕ, z
 use Rattle.std.specs.Prelude.{Result, Ok, Err, IfErr}
 use Rattle.std.proofs.lemmas.List.{get_or_default, get_or-take, length-map, length-take, map-append}
 use Rattle.std.proofs.lemmas.Result.{IfErr-weaker}
-use Rattle.proto_file.specs.declared.error.FileError.{FileError}
-use Rattle.proto_file.specs.declared.error.FileError.TheVariants as fault
+use Rattle.proto_base.specs.declared.file_fault.FileError.{FileError}
+use Rattle.proto_base.specs.declared.file_fault.FileError.TheVariants as fault
 use Rattle.proto_compile.specs.FaultSet.{SourceFault, TellsOf}
 use Rattle.proto_compile.specs.Faults.{Tells}
 use Rattle.proto_compile.specs.Outcomes.{IsFirstFound, TellsOfFile}
@@ -40,15 +40,13 @@ pub told_first : {T : Type 0} (number : ℕ) (files : List Source) (outcomes : L
     (ts : List T) (o : Result T FileError) (error : FileError) (e : CompileError)
     → TellsOfFile number (name_at files k) error e → map Ok ts ≡ take k outcomes → k < length outcomes
     → o ≡ get_or outcomes k o → o ≡ Err error → TellsOf (IsFirstFound number files outcomes) e
-told_first {T = T} number files outcomes k ts o (fault.At step place kind) (errors.First f) t well below at is =
+told_first {T = T} number files outcomes k ts o (fault.First found) (errors.First f) t well below at is =
     let none : Result T FileError = Err fault.NoMemory in
     let size : length ts ≡ length (take k outcomes) = sym (length-map ts Ok) ∙ ap length well in
     let long : k ≡ length ts = omega (arith, size, length-take k outcomes, below) in
     record {
       at = k;
-      step = step;
-      place = place;
-      what = kind;
+      found = found;
       well = λ j less.
           let w = well_at ts j none (omega (arith, less, long)) in (
             w.0,
@@ -59,7 +57,7 @@ told_first {T = T} number files outcomes k ts o (fault.At step place kind) (erro
       bad = get_or_default outcomes k none o below ∙ sym at ∙ is;
       is = t;
     }
-told_first number files outcomes k ts o (fault.At step place kind) errors.NoMemory t well below at is = tt
+told_first number files outcomes k ts o (fault.First found) errors.NoMemory t well below at is = tt
 told_first number files outcomes k ts o fault.NoMemory e t well below at is = rw t tt
 
 -- one more without a fault

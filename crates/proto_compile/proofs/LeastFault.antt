@@ -9,6 +9,9 @@ use Rattle.share_work.specs.Shares.{GivesItems}
 use Rattle.proto_base.specs.Least.{IsLeastBy, spot}
 use Rattle.proto_base.specs.NameOrder.{NamesRise}
 use Rattle.proto_base.specs.Limits.{limit_of}
+use Rattle.proto_base.specs.declared.file_fault.FileError.{FileError}
+use Rattle.proto_base.specs.declared.file_fault.FileError.TheVariants as local
+use Rattle.proto_base.specs.declared.file_fault.FileFault.{FileFault}
 use Rattle.proto_base.specs.declared.kind.Kind.{Kind}
 use Rattle.proto_base.specs.declared.kind.Kind.TheVariants as kind
 use Rattle.proto_base.specs.declared.limits.Limit.TheVariants as limit
@@ -18,8 +21,6 @@ use Rattle.proto_base.specs.Sets.{StandsAt}
 use Rattle.proto_desc.specs.declared.file.FileDesc.{FileDesc}
 use Rattle.proto_file.proofs.OneLocal.{no_local, one_local}
 use Rattle.proto_file.specs.Local.{IsLocalFault}
-use Rattle.proto_file.specs.declared.error.FileError.{FileError}
-use Rattle.proto_file.specs.declared.error.FileError.TheVariants as local
 use Rattle.proto_links.proofs.NameRows.{rise_far}
 use Rattle.proto_links.specs.Imports as imports
 use Rattle.proto_links.specs.Bad as bad_imports
@@ -53,23 +54,17 @@ later_file : (pass : ℕ) (descs : List FileDesc) (a b : ℕ) (p q : Place) (k l
     → NamesRise (map imports.name_of descs) → b < length descs → bad_imports.IsNoLater (a, spot p k) (b, spot q l)
     → IsNoLater (of_file pass (imports.name_at descs a) p k) (of_file pass (imports.name_at descs b) q l)
 later_file pass descs a b p q k l rise h (inl less) =
-    later_name pass (imports.name_at descs a) (imports.name_at descs b) 0 0 p q k l
+    later_name pass (imports.name_at descs a) (imports.name_at descs b) _ _
     (rise_far (map imports.name_of descs) rise a b less (omega (arith, h, length-map descs imports.name_of)))
 later_file pass descs a b p q k l rise h (inr (same, most)) =
     let name = imports.name_at descs a in
     subst (λ i. IsNoLater (of_file pass name p k) (of_file pass (imports.name_at descs i) q l)) same
-    (later_spot pass name name 0 p q k l (same_name name) most)
+    (later_spot pass name name 0 (spot p k) (spot q l) (same_name name) most)
 
 -- of two names that stand twice, the first
 twice_order : (a o : Occurrence) → names.IsNoLater a o
     → bad_imports.IsNoLater (a.file, spot a.place kind.NameTwice) (o.file, spot o.place kind.NameTwice)
 twice_order a o order = grind (arith, cases_lt)
-
--- a source's outcome, by what it tells
-pub outcome_of : (limits : Limits) (s : Source) (r : Result FileDesc FileError) → IfOk r (SourceDescribes limits s)
-    → ((step : ℕ) (place : Place) (what : Kind) → r ≡ Err (local.At step place what)
-    → IsLocalFault limits (name_of s) (text_of s) step place what) → IsDescribed limits s r
-outcome_of limits s r described first = grind (arith)
 
 module _ (limits : Limits) (sources : List Source) where
   least_of : (x : SourceFault) → Breaks limits sources x → NoneBefore limits sources x.pass
@@ -96,8 +91,7 @@ module _ (limits : Limits) (sources : List Source) where
       own : (y : SourceFault) → Breaks limits sources y → y.pass ≡ 0 → IsNoLater (of_list 0 kind.TooManyFiles) y
       own _ (many_files over) same = same_later (of_list 0 kind.TooManyFiles) (of_list 0 kind.TooManyFiles) refl
       own _ (repeated_file_name i j less below twice) same =
-          later_spot 0 [] (name_at sources i) 0 start start kind.TooManyFiles kind.FileNameTwice
-          (no_name_first (name_at sources i)) (inr (refl, omega arith))
+          later_spot 0 [] (name_at sources i) 0 _ _ (no_name_first (name_at sources i)) (inr (refl, omega arith))
       own y breaks same = absurd (omega (arith, same))
 
   pub repeated_least : (files : List Source) (k : ℕ) → length sources ≤ limit_of limits limit.Files
@@ -119,8 +113,7 @@ module _ (limits : Limits) (sources : List Source) where
           let (b, inside, name, next) =
           neighbours sources files (name_at sources i) sorted (two_at sources i j less below twice) in
           let most : k ≤ b = elim (cases_lt b k) [ inl over ↦ absurd (first.first b over next) | inr most ↦ most ] in
-          rw (← name) (later_spot 0 (name_at files k) (name_at files b) 0 start start kind.FileNameTwice
-          kind.FileNameTwice (up_in_order sources files k b sorted most (omega (arith, inside))) (inr (
+          rw (← name) (later_spot 0 (name_at files k) (name_at files b) 0 _ _ (up_in_order sources files k b sorted most (omega (arith, inside))) (inr (
             refl,
             omega
                 arith,
@@ -129,33 +122,31 @@ module _ (limits : Limits) (sources : List Source) where
 
   -- ---- the sources by themselves
 
-  pub local_least : (files : List Source) (k : ℕ) (s : Source) (step : ℕ) (place : Place) (what : Kind)
+  pub local_least : (files : List Source) (k : ℕ) (s : Source) (f : FileFault)
       → length sources ≤ limit_of limits limit.Files → AreByName sources files → StandsAt files k s
-      → IsLocalFault limits (name_of s) (text_of s) step place what
+      → IsLocalFault limits (name_of s) (text_of s) f
       → ((b : ℕ) (t : Source) → b < k → StandsAt files b t → (desc : FileDesc) × SourceDescribes limits t desc)
-      → IsLeastFault limits sources (fault 1 (name_of s) step place what)
-  local_least files k s step place what few order at wrong before =
+      → IsLeastFault limits sources (fault 1 (name_of s) f)
+  local_least files k s f few order at wrong before =
       let inside = Contains-permutation files sources s (IsPermutation-sym sources files order.all) (k, at.0, at.1) in
-      least_of (fault 1 (name_of s) step place what) (file_fault s step place what inside wrong)
-      (none_of_list limits sources files few order) own
+      least_of (fault 1 (name_of s) f) (file_fault s f inside wrong) (none_of_list limits sources files few order) own
     where
-      own : (y : SourceFault) → Breaks limits sources y → y.pass ≡ 1 → IsNoLater (fault 1 (name_of s) step place what) y
-      own _ (file_fault t other q l within also) same =
+      own : (y : SourceFault) → Breaks limits sources y → y.pass ≡ 1 → IsNoLater (fault 1 (name_of s) f) y
+      own _ (file_fault t g within also) same =
           let (b, below, is) = Contains-permutation sources files t order.all within in
           elim (cases_order k b) [
             | inl here ↦ (
                 let one = standing_one files k s t at.0 at.1 (rw (← here) at is) in
-                let told = one_local limits (name_of s) (text_of s) step other place q what l wrong (rw (← one) at
-                also) in
-                rw (← one, told.0, told.1, told.2) (same_later (fault 1 (name_of s) other q l) _ refl))
+                let told = one_local limits (name_of s) (text_of s) f g wrong (rw (← one) at also) in
+                rw (← one, told) (same_later (fault 1 (name_of s) g) _ refl))
             | inr (inl less) ↦ (
                 let inside : b < length (map name_of files) = omega (arith, below, length-map files name_of) in
                 let rise = rise_far (map name_of files) order.rises k b less inside in
-                later_name 1 (name_of s) (name_of t) step other place q what l
+                later_name 1 (name_of s) (name_of t) f g
                 (rw (← name_of_item files k s at.0 (sym at.1), ← name_of_item files b t below (sym is)) rise))
             | inr (inr over) ↦ (
                 let d = before b t over (below, is) in
-                absurd (no_local limits (name_of t) (text_of t) d.0 other q l d.1 also))
+                absurd (no_local limits (name_of t) (text_of t) d.0 g d.1 also))
           ]
       own y breaks same = absurd (omega (arith, same))
 
@@ -166,7 +157,7 @@ module _ (limits : Limits) (sources : List Source) where
   first_local files outcomes few order gives x f =
       let none : Result FileDesc FileError = Err local.NoMemory in
       let (s, at) = item_at files f.at (omega (arith, f.below, gives.0)) in
-      let wrong = given_at (λ k. IsDescribed limits) files outcomes f.at s none (Err (local.At f.step f.place f.what))
+      let wrong = given_at (λ k. IsDescribed limits) files outcomes f.at s none (Err (local.First f.found))
       gives at.0 at.1 f.bad in
       let before : (b : ℕ) (t : Source) → b < f.at → StandsAt files b t
       → (desc : FileDesc) × SourceDescribes limits t desc = λ b t less there. (
@@ -174,8 +165,7 @@ module _ (limits : Limits) (sources : List Source) where
         given_at (λ k. IsDescribed limits) files outcomes b t none (Ok (f.well b less).0) gives there.0 there.1
             (f.well b less).1,
       ) in
-      rw (f.is, name_of_item files f.at s at.0 (sym at.1)) (local_least files f.at s f.step f.place f.what few order at
-      wrong before)
+      rw (f.is, name_of_item files f.at s at.0 (sym at.1)) (local_least files f.at s f.found few order at wrong before)
 
   -- ---- imports
 
@@ -209,8 +199,7 @@ module _ (limits : Limits) (sources : List Source) where
       own _ (many_names others described more) same = same_later (of_list 3 kind.TooManyNames) _ refl
       own _ (repeated_name others o described twice) same =
           let here = contains_second (occurrences others) twice.0 o twice.1 in
-          later_spot 3 [] (imports.name_at others o.file) 0 start o.place kind.TooManyNames kind.NameTwice
-          (no_name_first (imports.name_at others o.file))
+          later_spot 3 [] (imports.name_at others o.file) 0 _ _ (no_name_first (imports.name_at others o.file))
           (inl (names_after limits described.files others o described.each here))
       own y breaks same = absurd (omega (arith, same))
 
@@ -249,14 +238,14 @@ module _ (limits : Limits) (sources : List Source) where
       let described = as_described limits sources files descs is.described in
       let name = same_name_at files descs f.at (same_names limits files descs is.described.each) in
       let (desc, at) = item_at descs f.at (omega (arith, f.below, gives.0)) in
-      let found = outcome f.at desc (Err (local.At f.step f.place f.what)) at f.bad in
-      let breaks = bad_type descs f.at desc f.place f.what described at
-      (break_from_index limits descs links index is.linked is.indexed f.at desc (spot f.place f.what) at.0
+      let found = outcome f.at desc (Err (local.First f.found)) at f.bad in
+      let breaks = bad_type descs f.at desc f.found.spot.place f.found.spot.kind described at
+      (break_from_index limits descs links index is.linked is.indexed f.at desc f.found.spot at.0
       found.1.is.among) in
       rw (f.is, name, found.0) (least_of first breaks (none_of_names limits sources files descs links index is) own)
     where
       first : SourceFault
-      first = of_file 4 (imports.name_at descs f.at) f.place f.what
+      first = of_file 4 (imports.name_at descs f.at) f.found.spot.place f.found.spot.kind
 
       outcome : (b : ℕ) (desc : FileDesc) (o : Result (Vec NamedType Global) FileError) → StandsAt descs b desc
           → get_or outcomes b (Err local.NoMemory) ≡ o → IsResolved links index b desc o
@@ -264,11 +253,11 @@ module _ (limits : Limits) (sources : List Source) where
           given_at (IsResolved links index) descs outcomes b desc (Err local.NoMemory) o gives at.0 at.1
 
       order : (b : ℕ) (desc : FileDesc) (q : Place) (l : Kind) → StandsAt descs b desc
-          → TypesBreakAt links index b desc (spot q l) → bad_imports.IsNoLater (f.at, spot f.place f.what) (b, spot q l)
+          → TypesBreakAt links index b desc (spot q l) → bad_imports.IsNoLater (f.at, f.found.spot) (b, spot q l)
       order b desc q l at wrong = elim (cases_order f.at b) [
         | inl here ↦ (
             let bad = ap (λ i. get_or outcomes i (Err local.NoMemory)) (sym here) ∙ f.bad in
-            inr (here, (outcome b desc (Err (local.At f.step f.place f.what)) at bad).1.is.least (spot q l) wrong))
+            inr (here, (outcome b desc (Err (local.First f.found)) at bad).1.is.least (spot q l) wrong))
         | inr (inl less) ↦ inl less
         | inr (inr over) ↦ (
             let t = f.well b over in
@@ -282,7 +271,7 @@ module _ (limits : Limits) (sources : List Source) where
           let at = rw (← one) at stands in
           let wrong = break_to_index limits descs links index is.linked is.indexed b desc (spot q l) at.0
           (rw (← one) at breaks) in
-          rw (← one) (later_file 4 descs f.at b f.place q f.what l
+          rw (← one) (later_file 4 descs f.at b f.found.spot.place q f.found.spot.kind l
           (rw (same_names limits files descs d.each) d.by_name.rises) at.0 (order b desc q l at wrong))
       own y breaks same = absurd (omega (arith, same))
 
@@ -294,9 +283,9 @@ module _ (limits : Limits) (sources : List Source) where
       → IsLeastFault limits sources x
   first_long files typed links index outcomes r gives x f =
       let (desc, at) = item_at typed f.at (omega (arith, f.below, gives.0)) in
-      let found = outcome f.at desc (Err (local.At f.step f.place f.what)) at f.bad in
-      rw (f.is, same_name_at files typed f.at (resolved_names r), found.0, found.1, found.2) (least_of first
-      (long_descriptor files typed links index f.at desc r at found.3)
+      let found = outcome f.at desc (Err (local.First f.found)) at f.bad in
+      rw (f.is, same_name_at files typed f.at (resolved_names r), found.0) (least_of first
+      (long_descriptor files typed links index f.at desc r at found.1)
       (none_of_types limits sources files typed links index r) own)
     where
       first : SourceFault

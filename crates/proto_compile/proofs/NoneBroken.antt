@@ -54,10 +54,10 @@ module _ (limits : Limits) (sources : List Source) where
   none_of_list files few order y breaks less = omega (arith, less)
 
   pub none_of_files : (files : List Source) (descs : List FileDesc) → Describe limits sources files descs → NoneBefore 2
-  none_of_files files descs d _ (file_fault s step place what inside wrong) less =
+  none_of_files files descs d _ (file_fault s f inside wrong) less =
       let (b, below, at) = Contains-permutation sources files s d.by_name.all inside in
       let own = zipped_at (SourceDescribes limits) files descs b s d.each below at in
-      no_local limits (name_of s) (text_of s) own.0 step place what own.1 wrong
+      no_local limits (name_of s) (text_of s) own.0 f own.1 wrong
   none_of_files files descs d y breaks less = none_of_list files d.few d.by_name y breaks (omega (arith, less))
 
   pub none_of_imports : (files : List Source) (descs : List FileDesc) → Describe limits sources files descs

@@ -160,8 +160,8 @@ module _ (limits : Limits) (sources : List Source) where
   placed _ (many_files over) none = at_start [] (inl refl)
   placed _ (repeated_file_name i j less below same) none =
       at_start_of sources i (λ s here. here) (omega (arith, less, below))
-  placed _ (file_fault s step place what here wrong) none = in_source limits sources none s (name_of s) place here refl
-      (fault_inside limits (name_of s) (text_of s) step place what wrong)
+  placed _ (file_fault s f here wrong) none = in_source limits sources none s (name_of s) f.spot.place here refl
+      (fault_inside limits (name_of s) (text_of s) f wrong)
   placed _ (bad_import descs a place what d bad) none =
       let (desc, at) = item_at descs a (bad_inside descs a place what bad) in
       in_desc 1 none descs a desc place d at (bad_placed descs a desc place what at bad)

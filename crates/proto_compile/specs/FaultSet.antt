@@ -3,11 +3,13 @@ use Rattle.std.specs.Prelude.{◌≡◌, ◌≢◌, ◌⊎◌, ℕ, ◌<◌, ◌
 use Rattle.std.specs.List.{AllZip}
 use Rattle.std.specs.declared.cmp.Ordering.TheVariants.{Greater}
 use Rattle.proto_base.specs.Fault.{Found, found_cmp}
+use Rattle.proto_base.specs.FileFaults.{at_step}
 use Rattle.proto_base.specs.Kind.{number_of}
 use Rattle.proto_base.specs.Least.{IsLeastBy, spot}
 use Rattle.proto_base.specs.Limits.{limit_of}
 use Rattle.proto_base.specs.Sets.{StandsAt}
 use Rattle.proto_base.specs.declared.fault.Fault.{Fault}
+use Rattle.proto_base.specs.declared.file_fault.FileFault.{FileFault}
 use Rattle.proto_base.specs.declared.kind.Kind.{Kind}
 use Rattle.proto_base.specs.declared.kind.Kind.TheVariants as kind
 use Rattle.proto_base.specs.declared.limits.Limit.TheVariants as limit
@@ -41,15 +43,16 @@ pub record SourceFault : Type 0 where
 abbrev pub start : Place
 start = record { offset = 0 }
 
-abbrev pub fault : ℕ → List ℕ → ℕ → Place → Kind → SourceFault
-fault pass file step place kind = record { pass = pass; file = file; step = step; place = place; kind = kind }
+-- one of a file, as a pass finds it
+abbrev pub fault : ℕ → List ℕ → FileFault → SourceFault
+fault pass file f = record { pass = pass; file = file; step = f.step; place = f.spot.place; kind = f.spot.kind }
 
 -- one of the whole list of sources, which has no file name and stands at 0; and one of a file, in a pass of one step
 abbrev pub of_list : ℕ → Kind → SourceFault
-of_list pass kind = fault pass [] 0 start kind
+of_list pass kind = fault pass [] (at_step 0 (spot start kind))
 
 abbrev pub of_file : ℕ → List ℕ → Place → Kind → SourceFault
-of_file pass file place kind = fault pass file 0 place kind
+of_file pass file place kind = fault pass file (at_step 0 (spot place kind))
 
 -- ---- what breaks a rule
 
@@ -64,9 +67,8 @@ pub data Breaks (limits : Limits) (sources : List Source) : SourceFault → Type
   many_files : limit_of limits limit.Files < length sources → Breaks limits sources (of_list 0 kind.TooManyFiles)
   repeated_file_name : (i j : ℕ) → i < j → j < length sources → name_at sources i ≡ name_at sources j
       → Breaks limits sources (of_file 0 (name_at sources i) start kind.FileNameTwice)
-  file_fault : (s : Source) (step : ℕ) (place : Place) (what : Kind) → Contains sources s
-      → IsLocalFault limits (name_of s) (text_of s) step place what
-      → Breaks limits sources (fault 1 (name_of s) step place what)
+  file_fault : (s : Source) (f : FileFault) → Contains sources s → IsLocalFault limits (name_of s) (text_of s) f
+      → Breaks limits sources (fault 1 (name_of s) f)
   bad_import : (descs : List FileDesc) (a : ℕ) (place : Place) (what : Kind) → AreDescribed limits sources descs
       → imports.IsBad descs a place what → Breaks limits sources (of_file 2 (imports.name_at descs a) place what)
   many_names : (descs : List FileDesc) → AreDescribed limits sources descs
@@ -107,7 +109,7 @@ IsLeastFault limits sources = IsLeastBy IsNoLater (IsFault limits sources)
 -- ---- what an error tells
 
 abbrev pub told_by : Fault → SourceFault
-told_by f = fault f.pass (string_bytes f.file) f.step f.place f.kind
+told_by f = fault f.pass (string_bytes f.file) (at_step f.step (spot f.place f.kind))
 
 -- the error is for want of memory, or tells a fault that is so
 abbrev pub TellsOf : (SourceFault → Type 0) → CompileError → Type 0

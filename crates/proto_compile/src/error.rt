@@ -1,13 +1,13 @@
 //! Why sources have no descriptors.
 
 ghost use Rattle.std.specs.Prelude.{◌≡◌};
-ghost use Rattle.proto_compile.specs.FaultSet.{fault, of_file};
+ghost use Rattle.proto_compile.specs.FaultSet.{fault as source_fault, of_file};
 ghost use Rattle.proto_compile.specs.Faults.{Tells};
 ghost use Rattle.proto_compile.specs.Passes.{number_of};
 ghost use Rattle.proto_compile.specs.declared.error.CompileError.TheVariants.{NoMemory};
 
 use crate::pass::Pass;
-use proto_base::{Fault, Kind, Place};
+use proto_base::{Fault, FileFault, Kind, ONLY_STEP, Place, Spot};
 use std::alloc::{AllocError, AllocFailed, Global};
 use thiserror::Error;
 
@@ -39,27 +39,22 @@ impl<T: Drop> From<AllocFailed<T>> for CompileError {
 /// The first byte of a source, where faults of a whole file stand.
 pub(crate) const START: Place = Place { offset: 0 };
 
-/// The step of each fault that a pass of one step finds.
-pub(crate) const ONLY_STEP: u8 = 0;
-
-/// The error of a fault, if there is memory for the file's name.
-pub(crate) fn refusal_of_step(
+/// The error of a fault of a file, if there is memory for the file's name.
+pub(crate) fn refusal_of_fault(
     alloc: Global,
     pass: Pass,
     file: &str,
-    step: u8,
-    place: Place,
-    kind: Kind,
+    fault: FileFault,
 ) -> CompileError
-    ensures { Tells (fault (number_of pass) file.now step place kind) result }
+    ensures { Tells (source_fault (number_of pass) file.now fault) result }
 {
     match String::from_str(alloc, file) {
         Ok(file) => CompileError::First(Fault {
             pass: pass.number(),
             file,
-            step,
-            place,
-            kind,
+            step: fault.step,
+            place: fault.spot.place,
+            kind: fault.spot.kind,
         }),
         Err(_) => CompileError::NoMemory,
     }
@@ -75,5 +70,9 @@ pub(crate) fn refusal(
 ) -> CompileError
     ensures { Tells (of_file (number_of pass) file.now place kind) result }
 {
-    refusal_of_step(alloc, pass, file, ONLY_STEP, place, kind)
+    let fault = FileFault {
+        step: ONLY_STEP,
+        spot: Spot { place, kind },
+    };
+    refusal_of_fault(alloc, pass, file, fault)
 }

@@ -5,10 +5,10 @@ ghost use Rattle.proto_compile.specs.FaultSet.{TellsOf};
 ghost use Rattle.proto_compile.specs.Outcomes.{IsFirstFound, TellsOfFile};
 ghost use Rattle.proto_compile.specs.Passes.{number_of};
 
-use crate::error::{CompileError, refusal_of_step};
+use crate::error::{CompileError, refusal_of_fault};
 use crate::pass::Pass;
 use crate::source::Source;
-use proto_file::FileError;
+use proto_base::FileError;
 use std::alloc::Global;
 
 /// The error of what a pass finds in a file of this name.
@@ -16,7 +16,7 @@ fn refusal_of_file(alloc: Global, pass: Pass, file: &str, error: FileError) -> C
     ensures { TellsOfFile (number_of pass) file.now error result }
 {
     match error {
-        FileError::At(step, place, kind) => refusal_of_step(alloc, pass, file, step, place, kind),
+        FileError::First(fault) => refusal_of_fault(alloc, pass, file, fault),
         FileError::NoMemory => CompileError::NoMemory,
     }
 }

@@ -4,7 +4,7 @@ ghost use Rattle.std.specs.Prelude.{◌<◌, IfOk};
 ghost use Rattle.share_work.specs.Shares.{GivesItems, TakesAll};
 
 use proto_names::Threading;
-use share_work::{FEWEST_SHARED, Gate, Plan, Work, in_shares};
+use share_work::{FEWEST_SHARED, Gate, ItemWork, Plan, each_in_shares};
 use std::alloc::{AllocError, AllocGlobal};
 use std::thread::Threads;
 
@@ -51,7 +51,7 @@ where
         }
     }
 
-    /// What a work whose workers keep nothing gives for each item. The gate is told the phase.
+    /// What a work gives for each item. The gate is told the phase.
     pub(crate) fn each<T, W, O>(
         &self,
         phase: u8,
@@ -60,21 +60,11 @@ where
     ) -> Result<Vec<O>, AllocError>
     where
         T: Sync,
-        W: Work<T, Out = O, Seat = ()> + Sync,
+        W: ItemWork<T, Out = O> + Sync,
         O: Send + Drop,
-        requires fits { (seat : Unit {0}) → W.fits work.now seat }
-        requires takes { TakesAll (W.takes work.now) 0 items.now }
+        requires { TakesAll (W.takes work.now) 0 items.now }
         ensures { IfOk result (λ outs. GivesItems (W.gives work.now) 0 items.now outs.items) }
     {
-        let mut seats = Vec::from_elem(self.rt.alloc(), (), self.plan.workers() as usize)?;
-        in_shares(
-            self.rt,
-            self.plan,
-            phase,
-            self.gate,
-            items,
-            work,
-            seats.as_mut_slice(),
-        )
+        each_in_shares(self.rt, self.plan, phase, self.gate, items, work)
     }
 }

@@ -13,26 +13,15 @@ use Rattle.proto_syntax.specs.Told.{place_of_token}
 use Rattle.proto_tree.specs.declared.file.FileTree.{FileTree}
 use Rattle.proto_lower.specs.Files.{lowered}
 use Rattle.proto_checks.specs.Checks.{FileBreaks}
-use Rattle.proto_base.specs.Least.{IsLeast}
+use Rattle.proto_base.specs.FileFaults.{at_step}
+use Rattle.proto_base.specs.Least.{IsLeast, spot}
 use Rattle.proto_file.specs.Local.{IsLocalFault, of_grammar, IsUnbroken}
-use Rattle.proto_file.specs.declared.error.FileError.TheVariants as errors
-
--- a fault that an error has
-pub answered : (limits : Limits) (name text : List ℕ) (a : ℕ) (p : Place) (k : Kind) (step : ℕ)
-    (place : Place) (kind : Kind)
-    → IsLocalFault limits name text a p k
-    → (errors.At a p k ≡ errors.At step place kind) → IsLocalFault limits name text step place kind
-answered limits name text a p k step place kind fault e =
-    let same_step : a ≡ step = cc in
-    let same_place : p ≡ place = cc in
-    let same_kind : k ≡ kind = cc in
-    rw (← same_step, ← same_place, ← same_kind) fault
 
 pub grammar_fault : (limits : Limits) (name text : List ℕ) (tokens : Tokens) (place : Place) (kind : Kind)
     → (k : ℕ) × IsFaultAt (limit_of limits limit.Depth) (tokens_of tokens) k × IsKindOf (tokens_of tokens) k kind
     × (place.offset ≡ place_of_token (tokens_of tokens) k tokens.end.offset)
     → IsTokenList (limit_of limits limit.FileBytes) text (tokens_of tokens) → tokens.end.offset ≡ length text
-    → IsLocalFault limits name text 1 place kind
+    → IsLocalFault limits name text (at_step 1 (spot place kind))
 grammar_fault limits name text tokens place kind (k, fault, is_kind, at) is end =
     of_grammar refl (tokens_of tokens, k, is, fault, is_kind, at ∙ ap (place_of_token (tokens_of tokens) k) end)
 

@@ -9,6 +9,7 @@ use Rattle.proto_base.specs.Limits.{limit_of}
 use Rattle.proto_tokens.specs.Spelling.{Piece, IsCutIntoPieces, IsFault, IsTokenList, mark_len, with_token, tokens_from}
 use Rattle.proto_tokens.specs.Token.{Spelled}
 use Rattle.proto_tokens.proofs.CutLemmas.{cut_within, piece_fault_within}
+use Rattle.proto_base.specs.declared.file_fault.FileFault.{FileFault}
 use Rattle.proto_base.specs.declared.kind.Kind.{Kind}
 use Rattle.proto_base.specs.declared.limits.Limit.TheVariants as limit
 use Rattle.proto_base.specs.declared.limits.Limits.{Limits}
@@ -109,19 +110,18 @@ inside_file : (limits : Limits) (text : List ℕ) (file : FileTree) (place : Pla
 inside_file limits text file place is within =
     record { within = within; short = omega (arith, within, file_short limits text file is) }
 
-pub fault_inside : (limits : Limits) (name text : List ℕ) (step : ℕ) (place : Place) (kind : Kind)
-    → IsLocalFault limits name text step place kind
-    → IsInside limits text place
-fault_inside limits name text step place kind (of_tokens at_step fault) =
-    let within : place.offset ≤ length text = token_fault_within _ text place.offset kind fault in
-    record { within = within; short = token_fault_short _ text place.offset kind fault within }
-fault_inside limits name text step place kind (of_grammar at_step (ts, k, is, fault, is_kind, at)) =
-    let within : place.offset ≤ length text =
+pub fault_inside : (limits : Limits) (name text : List ℕ) (f : FileFault) → IsLocalFault limits name text f
+    → IsInside limits text f.spot.place
+fault_inside limits name text f (of_tokens at_step fault) =
+    let within : f.spot.place.offset ≤ length text = token_fault_within _ text _ f.spot.kind fault in
+    record { within = within; short = token_fault_short _ text _ f.spot.kind fault within }
+fault_inside limits name text f (of_grammar at_step (ts, k, is, fault, is_kind, at)) =
+    let within : f.spot.place.offset ≤ length text =
     subst (λ p. p ≤ length text) (sym at) (token_begins (length text) ts k (tokens_begin _ text ts is)) in
     record { within = within; short = omega (arith, within, is.short) }
-fault_inside limits name text step place kind (of_checks at_step (file, is, least)) =
-    inside_file limits text file place is
-    (breaks_within (length text) limits name file (spot place kind) (tree_begins limits text file is) least.is.among)
+fault_inside limits name text f (of_checks at_step (file, is, least)) =
+    inside_file limits text file f.spot.place is
+    (breaks_within (length text) limits name file f.spot (tree_begins limits text file is) least.is.among)
 
 -- all places of a descriptor are those of its text
 pub places_within : (limits : Limits) (name text : List ℕ) (desc : FileDesc) → Describes limits name text desc

@@ -2,10 +2,12 @@
 use Rattle.std.proofs.Common.{◌≡◌, ◌∙◌, ℕ, List, Some, ap, sym, subst, length}
 use Rattle.proto_base.specs.Limits.{limit_of}
 use Rattle.proto_tokens.specs.Spelling.{IsFault}
+use Rattle.proto_base.specs.declared.file_fault.FileFault.{FileFault}
 use Rattle.proto_base.specs.declared.kind.Kind.{Kind}
 use Rattle.proto_base.specs.declared.limits.Limit.TheVariants as limit
 use Rattle.proto_base.specs.declared.limits.Limits.{Limits}
 use Rattle.proto_base.specs.declared.place.Place.{Place}
+use Rattle.proto_base.specs.declared.spot.Spot.{Spot}
 use Rattle.proto_tokens.proofs.Unique.{tokens_one, tokens_no_fault, file_fault_one}
 use Rattle.proto_syntax.specs.Fault.{IsTreeOf, IsFaultAt, IsKindOf}
 use Rattle.proto_syntax.specs.Trees.{file_tree}
@@ -57,21 +59,23 @@ one_grammar_fault limits text p q a b (ts, j, is, fault, is_kind, at) (us, k, is
 
 -- ---- broken rules
 
-no_broken : (limits : Limits) (name text : List ℕ) (f : FileTree) (place : Place) (kind : Kind) → IsFile limits text f
-    → IsUnbroken limits name f
-    → IsBrokenAt limits name text place kind → ⊥
-no_broken limits name text f place kind is unbroken (g, is', least) =
-    unbroken (spot place kind) (subst (λ h. FileBreaks limits h (lowered name h) (spot place kind))
-    (one_file limits text g f is' is) least.is.among)
+-- spots of one place and kind are one
+same_spot : (x y : Spot) → x.place.offset ≡ y.place.offset → x.kind ≡ y.kind → x ≡ y
+same_spot x y place kind = let at = same_place x.place y.place place in cc
 
-one_broken : (limits : Limits) (name text : List ℕ) (p q : Place) (a b : Kind) → IsBrokenAt limits name text p a
-    → IsBrokenAt limits name text q b
-    → (p ≡ q) × (a ≡ b)
-one_broken limits name text p q a b (f, is, least) (g, is', least') =
-    let other : IsLeast (FileBreaks limits f (lowered name f)) (Some (spot q b)) =
-    subst (λ h. IsLeast (FileBreaks limits h (lowered name h)) (Some (spot q b)))
-    (one_file limits text g f is' is) least' in
-    one_spot p q a b (least.is.least (spot q b) other.is.among) (other.is.least (spot p a) least.is.among)
+no_broken : (limits : Limits) (name text : List ℕ) (f : FileTree) (x : Spot) → IsFile limits text f
+    → IsUnbroken limits name f → IsBrokenAt limits name text x → ⊥
+no_broken limits name text f x is unbroken (g, is', least) =
+    unbroken x (subst (λ h. FileBreaks limits h (lowered name h) x) (one_file limits text g f is' is) least.is.among)
+
+one_broken : (limits : Limits) (name text : List ℕ) (x y : Spot) → IsBrokenAt limits name text x
+    → IsBrokenAt limits name text y → x ≡ y
+one_broken limits name text x y (f, is, least) (g, is', least') =
+    let other : IsLeast (FileBreaks limits f (lowered name f)) (Some y) =
+    subst (λ h. IsLeast (FileBreaks limits h (lowered name h)) (Some y)) (one_file limits text g f is' is) least' in
+    let one = one_spot x.place y.place x.kind y.kind (least.is.least y other.is.among)
+    (other.is.least x least.is.among) in
+    same_spot x y (ap (λ (p : Place). p.offset) one.0) one.1
 
 -- ---- one source
 
@@ -81,36 +85,38 @@ one_descriptor limits name text f g (tree, is, unbroken, made) (other, is', unbr
     made ∙ ap (lowered name) (one_file limits text tree other is is') ∙ sym made'
 
 -- a source that describes something has no fault by itself
-pub no_local : (limits : Limits) (name text : List ℕ) (desc : FileDesc) (step : ℕ) (place : Place) (kind : Kind)
-    → Describes limits name text desc
-    → IsLocalFault limits name text step place kind → ⊥
-no_local limits name text desc step place kind (f, is, unbroken, made) (of_tokens s fault) =
-    no_token_fault limits text f place.offset kind is fault
-no_local limits name text desc step place kind (f, is, unbroken, made) (of_grammar s fault) =
-    no_grammar_fault limits text f place.offset kind is fault
-no_local limits name text desc step place kind (f, is, unbroken, made) (of_checks s broken) =
-    no_broken limits name text f place kind is unbroken broken
+pub no_local : (limits : Limits) (name text : List ℕ) (desc : FileDesc) (x : FileFault)
+    → Describes limits name text desc → IsLocalFault limits name text x → ⊥
+no_local limits name text desc x (f, is, unbroken, made) (of_tokens s fault) =
+    no_token_fault limits text f _ _ is fault
+no_local limits name text desc x (f, is, unbroken, made) (of_grammar s fault) =
+    no_grammar_fault limits text f _ _ is fault
+no_local limits name text desc x (f, is, unbroken, made) (of_checks s broken) =
+    no_broken limits name text f _ is unbroken broken
 
-pub one_local : (limits : Limits) (name text : List ℕ) (s t : ℕ) (p q : Place) (a b : Kind)
-    → IsLocalFault limits name text s p a
-    → IsLocalFault limits name text t q b → (s ≡ t) × (p ≡ q) × (a ≡ b)
-one_local limits name text s t p q a b (of_tokens step fault) (of_tokens step' fault') =
-    let same = file_fault_one _ text p.offset q.offset a b fault fault' in
-    (step ∙ sym step', same_place p q same.0, same.1)
-one_local limits name text s t p q a b (of_tokens step fault) (of_grammar step' fault') =
-    absurd (tokens_no_fault _ text fault'.0 p.offset a fault'.2 fault)
-one_local limits name text s t p q a b (of_tokens step fault) (of_checks step' broken) =
-    absurd (no_token_fault limits text broken.0 p.offset a broken.1 fault)
-one_local limits name text s t p q a b (of_grammar step fault) (of_tokens step' fault') =
-    absurd (tokens_no_fault _ text fault.0 q.offset b fault.2 fault')
-one_local limits name text s t p q a b (of_grammar step fault) (of_grammar step' fault') =
-    let same = one_grammar_fault limits text p.offset q.offset a b fault fault' in
-    (step ∙ sym step', same_place p q same.0, same.1)
-one_local limits name text s t p q a b (of_grammar step fault) (of_checks step' broken) =
-    absurd (no_grammar_fault limits text broken.0 p.offset a broken.1 fault)
-one_local limits name text s t p q a b (of_checks step broken) (of_tokens step' fault') =
-    absurd (no_token_fault limits text broken.0 q.offset b broken.1 fault')
-one_local limits name text s t p q a b (of_checks step broken) (of_grammar step' fault') =
-    absurd (no_grammar_fault limits text broken.0 q.offset b broken.1 fault')
-one_local limits name text s t p q a b (of_checks step broken) (of_checks step' broken') =
-    let same = one_broken limits name text p q a b broken broken' in (step ∙ sym step', same.0, same.1)
+-- faults of one step, place and kind are one
+same_fault : (x y : FileFault) → x.step ≡ y.step → x.spot ≡ y.spot → x ≡ y
+same_fault x y step spot = cc
+
+pub one_local : (limits : Limits) (name text : List ℕ) (x y : FileFault) → IsLocalFault limits name text x
+    → IsLocalFault limits name text y → x ≡ y
+one_local limits name text x y (of_tokens step fault) (of_tokens step' fault') =
+    let same = file_fault_one _ text _ _ _ _ fault fault' in
+    same_fault x y (step ∙ sym step') (same_spot x.spot y.spot same.0 same.1)
+one_local limits name text x y (of_tokens step fault) (of_grammar step' fault') =
+    absurd (tokens_no_fault _ text fault'.0 _ _ fault'.2 fault)
+one_local limits name text x y (of_tokens step fault) (of_checks step' broken) =
+    absurd (no_token_fault limits text broken.0 _ _ broken.1 fault)
+one_local limits name text x y (of_grammar step fault) (of_tokens step' fault') =
+    absurd (tokens_no_fault _ text fault.0 _ _ fault.2 fault')
+one_local limits name text x y (of_grammar step fault) (of_grammar step' fault') =
+    let same = one_grammar_fault limits text _ _ _ _ fault fault' in
+    same_fault x y (step ∙ sym step') (same_spot x.spot y.spot same.0 same.1)
+one_local limits name text x y (of_grammar step fault) (of_checks step' broken) =
+    absurd (no_grammar_fault limits text broken.0 _ _ broken.1 fault)
+one_local limits name text x y (of_checks step broken) (of_tokens step' fault') =
+    absurd (no_token_fault limits text broken.0 _ _ broken.1 fault')
+one_local limits name text x y (of_checks step broken) (of_grammar step' fault') =
+    absurd (no_grammar_fault limits text broken.0 _ _ broken.1 fault')
+one_local limits name text x y (of_checks step broken) (of_checks step' broken') =
+    same_fault x y (step ∙ sym step') (one_broken limits name text _ _ broken broken')

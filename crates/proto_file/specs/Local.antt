@@ -3,10 +3,10 @@ use Rattle.std.specs.Prelude.{◌≡◌, ℕ, List, length, Some}
 use Rattle.proto_base.specs.Limits.{limit_of}
 use Rattle.proto_tokens.specs.Spelling.{IsTokenList, IsFault}
 use Rattle.proto_tokens.specs.Token.{Spelled}
+use Rattle.proto_base.specs.declared.file_fault.FileFault.{FileFault}
 use Rattle.proto_base.specs.declared.kind.Kind.{Kind}
 use Rattle.proto_base.specs.declared.limits.Limit.TheVariants as limit
 use Rattle.proto_base.specs.declared.limits.Limits.{Limits}
-use Rattle.proto_base.specs.declared.place.Place.{Place}
 use Rattle.proto_syntax.specs.Fault.{IsTreeOf, IsFaultAt, IsKindOf}
 use Rattle.proto_syntax.specs.Told.{place_of_token}
 use Rattle.proto_syntax.specs.Trees.{file_tree}
@@ -14,7 +14,7 @@ use Rattle.proto_tree.specs.declared.file.FileTree.{FileTree}
 use Rattle.proto_lower.specs.Files.{lowered}
 use Rattle.proto_desc.specs.declared.file.FileDesc.{FileDesc}
 use Rattle.proto_checks.specs.Checks.{FileBreaks}
-use Rattle.proto_base.specs.Least.{IsLeast, spot}
+use Rattle.proto_base.specs.Least.{IsLeast}
 use Rattle.proto_base.specs.declared.spot.Spot.{Spot}
 
 -- the text is a file within the limits, with this tree
@@ -39,13 +39,14 @@ IsGrammarFault limits text place kind =
     × IsKindOf ts k kind × (place ≡ place_of_token ts k (length text))
 
 -- the text is a file that breaks rules, of which this is the first
-abbrev pub IsBrokenAt : Limits → (name text : List ℕ) → Place → Kind → Type 0
-IsBrokenAt limits name text place kind = (file : FileTree) × IsFile limits text file
-    × IsLeast (FileBreaks limits file (lowered name file)) (Some (spot place kind))
+abbrev pub IsBrokenAt : Limits → (name text : List ℕ) → Spot → Type 0
+IsBrokenAt limits name text x = (file : FileTree) × IsFile limits text file
+    × IsLeast (FileBreaks limits file (lowered name file)) (Some x)
 
 -- the first fault of one source by itself: a later step is judged where there is none in the earlier ones
-pub data IsLocalFault (limits : Limits) (name text : List ℕ) (step : ℕ) (place : Place) (kind : Kind) : Type 0 where
-  of_tokens : step ≡ 0 → IsFault (limit_of limits limit.FileBytes) text place.offset kind
-      → IsLocalFault limits name text step place kind
-  of_grammar : step ≡ 1 → IsGrammarFault limits text place.offset kind → IsLocalFault limits name text step place kind
-  of_checks : step ≡ 2 → IsBrokenAt limits name text place kind → IsLocalFault limits name text step place kind
+pub data IsLocalFault (limits : Limits) (name text : List ℕ) (f : FileFault) : Type 0 where
+  of_tokens : f.step ≡ 0 → IsFault (limit_of limits limit.FileBytes) text f.spot.place.offset f.spot.kind
+      → IsLocalFault limits name text f
+  of_grammar : f.step ≡ 1 → IsGrammarFault limits text f.spot.place.offset f.spot.kind
+      → IsLocalFault limits name text f
+  of_checks : f.step ≡ 2 → IsBrokenAt limits name text f.spot → IsLocalFault limits name text f

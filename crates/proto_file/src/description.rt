@@ -1,16 +1,13 @@
 //! What a file describes: its tokens, its grammar, and the rules that one file can break.
 
-ghost use Rattle.std.specs.Prelude.{◌≡◌, ℕ, List, Err, IfOk, Some};
+ghost use Rattle.std.specs.Prelude.{◌≡◌, ℕ, List, IfErr, IfOk, Some};
 ghost use Rattle.proto_file.specs.Local.{Describes, IsFile, IsLocalFault, IsUnbroken};
-ghost use Rattle.proto_file.specs.declared.error.FileError.TheVariants as errors;
-ghost use Rattle.proto_base.specs.Least.{IsLeast, spot};
-ghost use Rattle.proto_base.specs.declared.kind.Kind.{Kind};
-ghost use Rattle.proto_base.specs.declared.place.Place.{Place};
+ghost use Rattle.proto_base.specs.FileFaults.{TellsFirst};
+ghost use Rattle.proto_base.specs.Least.{IsLeast};
 ghost use Rattle.proto_checks.specs.Checks.{FileBreaks};
 ghost use Rattle.proto_lower.specs.Files.{lowered};
 
-use crate::error::FileError;
-use proto_base::Limits;
+use proto_base::{FileError, Limits, Spot};
 use proto_checks::first_check_fault;
 use proto_desc::file::FileDesc;
 use proto_lower::lower;
@@ -29,19 +26,21 @@ const RULES: u8 = 2;
 /// The tree of a text, or its first fault of tokens or grammar.
 fn tree_of<'s>(alloc: Global, text: &'s [u8], limits: &Limits) -> Result<FileTree<'s>, FileError>
     ensures file { IfOk result (IsFile limits.now text.now) }
-    ensures first { (name : List ℕ) (step : ℕ) (place : Place) (kind : Kind)
-        → result ≡ Err (errors.At step place kind)
-        → IsLocalFault limits.now name text.now step place kind }
+    ensures first { (name : List ℕ) → IfErr result (TellsFirst (IsLocalFault limits.now name
+        text.now)) }
 {
     let tokens = match tokenize(alloc, text, limits) {
         Ok(tokens) => tokens,
         Err(TokenError::NoMemory) => return Err(FileError::NoMemory),
-        Err(TokenError::At(place, kind)) => return Err(FileError::At(TOKENS, place, kind)),
+        Err(TokenError::At(place, kind)) => return Err(FileError::at(TOKENS, Spot { place, kind })),
     };
     let file = match parse(alloc, &tokens, limits) {
         Ok(file) => file,
         Err(ParseError::NoMemory) => return Err(FileError::NoMemory),
-        Err(ParseError::At(place, kind)) => return Err(FileError::At(GRAMMAR, place, kind)),
+        Err(ParseError::At(place, kind)) => return Err(FileError::at(
+            GRAMMAR,
+            Spot { place, kind },
+        )),
     };
     Ok(file)
 }
@@ -55,14 +54,12 @@ fn judge<'s>(
 ) -> Result<FileDesc<'s>, FileError>
     ensures described { IfOk result (λ desc. IsUnbroken limits.now name.now file.now
         × (desc ≡ lowered name.now file.now)) }
-    ensures first { (step : ℕ) (place : Place) (kind : Kind)
-        → result ≡ Err (errors.At step place kind)
-        → (step ≡ 2) × IsLeast (FileBreaks limits.now file.now (lowered name.now file.now))
-        (Some (spot place kind)) }
+    ensures first { IfErr result (TellsFirst (λ f. (f.step ≡ 2)
+        × IsLeast (FileBreaks limits.now file.now (lowered name.now file.now)) (Some f.spot))) }
 {
     let desc = lower(alloc, name, file)?;
     match first_check_fault(alloc, file, &desc, limits)? {
-        Some((place, kind)) => Err(FileError::At(RULES, place, kind)),
+        Some((place, kind)) => Err(FileError::at(RULES, Spot { place, kind })),
         None => Ok(desc),
     }
 }
@@ -76,9 +73,7 @@ pub fn describe<'s>(
     limits: &Limits,
 ) -> Result<FileDesc<'s>, FileError>
     ensures described { IfOk result (Describes limits.now name.now text.now) }
-    ensures first { (step : ℕ) (place : Place) (kind : Kind)
-        → result ≡ Err (errors.At step place kind)
-        → IsLocalFault limits.now name.now text.now step place kind }
+    ensures first { IfErr result (TellsFirst (IsLocalFault limits.now name.now text.now)) }
 {
     let file = tree_of(alloc, text, limits)?;
     judge(alloc, name, &file, limits)

@@ -4,9 +4,7 @@
 #![tactic(auto)]
 
 mod description;
-mod error;
 mod laws;
 
 pub use description::describe;
-pub use error::FileError;
 pub use laws::{file_is_one_thing, places_lie_within};

@@ -9,7 +9,7 @@ use crate::collect::collect_files;
 use crate::entries::Entries;
 use crate::part::Part;
 use proto_desc::file::FileDesc;
-use share_work::{NoGate, Plan, Work, in_shares};
+use share_work::{ItemWork, NoGate, Plan, each_in_shares};
 use std::alloc::{AllocError, AllocGlobal, Global};
 use std::thread::Threads;
 
@@ -19,38 +19,23 @@ struct Collecting {
     limit: u64,
 }
 
-impl<'f, 's> Work<Part<'f, 's>> for Collecting {
+impl<'f, 's> ItemWork<Part<'f, 's>> for Collecting {
     ghost use Rattle.std.specs.Prelude.{⊤};
     ghost use Rattle.proto_names.specs.Collected.{IsCollected};
 
     type Out = Option<Entries>;
 
-    type Seat = ();
-
     ghost takes = { λ _ _ _. ⊤ };
-
-    ghost fits = { λ _ _. ⊤ };
 
     ghost gives = { λ work _ part out. IsCollected work.limit part.first part.files.now out };
 
-    ghost number = { λ _ _. 0 };
-
-    ghost holds = { λ _ _ _ _. ⊤ };
-
-    ghost adds = { λ _ _ _ _ _. ⊤ };
-
-    fn piece(
+    fn item(
         &self,
         alloc: Global,
-        _seat: &mut (),
-        _first: usize,
-        items: &[Part<'f, 's>],
-    ) -> Result<Vec<Option<Entries>>, AllocError> {
-        let mut outs = Vec::with_capacity(alloc, items.len())?;
-        for part in items {
-            outs.push(collect_files(alloc, part.first, part.files, self.limit)?)?;
-        }
-        Ok(outs)
+        _position: usize,
+        part: &Part<'f, 's>,
+    ) -> Result<Option<Entries>, AllocError> {
+        collect_files(alloc, part.first, part.files, self.limit)
     }
 }
 
@@ -90,8 +75,7 @@ where
         unreachable!()
     };
     let work = Collecting { limit };
-    let mut seats = Vec::from_elem(rt.alloc(), (), THREADS as usize)?;
-    in_shares(rt, plan, 0, &NoGate, parts, &work, seats.as_mut_slice())
+    each_in_shares(rt, plan, 0, &NoGate, parts, &work)
 }
 
 /// The occurrences in each part, or none where all of them are more than the limit.

@@ -12,7 +12,7 @@ use crate::share::Share;
 use crate::sorted::{SortedShare, sort_share};
 use crate::threading::Threading;
 use proto_desc::file::FileDesc;
-use share_work::{FEWEST_SHARED, NoGate, Plan, Work, in_shares};
+use share_work::{FEWEST_SHARED, ItemWork, NoGate, Plan, each_in_shares};
 use std::alloc::{AllocError, AllocGlobal, Global};
 use std::thread::Threads;
 
@@ -36,40 +36,25 @@ fn in_share(alloc: Global, parts: &[Entries], share: Share) -> Result<Entries, A
     Ok(entries)
 }
 
-impl Work<Share> for Sorting<'_> {
+impl ItemWork<Share> for Sorting<'_> {
     ghost use Rattle.std.specs.Prelude.{⊤};
     ghost use Rattle.proto_names.specs.Shares.{IsSortedOf, all_of, share_of};
 
     type Out = SortedShare;
 
-    type Seat = ();
-
     ghost takes = { λ _ _ _. ⊤ };
-
-    ghost fits = { λ _ _. ⊤ };
 
     ghost gives = { λ work _ share out.
         IsSortedOf (share_of share.count share.position (all_of work.parts.now)) out };
 
-    ghost number = { λ _ _. 0 };
-
-    ghost holds = { λ _ _ _ _. ⊤ };
-
-    ghost adds = { λ _ _ _ _ _. ⊤ };
-
-    fn piece(
+    fn item(
         &self,
         alloc: Global,
-        _seat: &mut (),
-        _first: usize,
-        items: &[Share],
-    ) -> Result<Vec<SortedShare>, AllocError> {
-        let mut outs = Vec::with_capacity(alloc, items.len())?;
-        for share in items {
-            let entries = in_share(alloc, self.parts, *share)?;
-            outs.push(sort_share(alloc, entries, self.files)?)?;
-        }
-        Ok(outs)
+        _position: usize,
+        share: &Share,
+    ) -> Result<SortedShare, AllocError> {
+        let entries = in_share(alloc, self.parts, *share)?;
+        sort_share(alloc, entries, self.files)
     }
 }
 
@@ -101,8 +86,7 @@ where
     };
     let work = Sorting { parts, files };
     let shares = all_shares(rt.alloc(), THREADS)?;
-    let mut seats = Vec::from_elem(rt.alloc(), (), THREADS as usize)?;
-    in_shares(rt, plan, 0, &NoGate, &shares, &work, seats.as_mut_slice())
+    each_in_shares(rt, plan, 0, &NoGate, &shares, &work)
 }
 
 /// The occurrences in files, in shares that are sorted by threads, or none where they are more than the limit.

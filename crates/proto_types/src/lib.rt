@@ -11,4 +11,4 @@ mod recalled;
 mod typing;
 
 pub use meaning::NamedType;
-pub use typing::{TypeError, fill_types, resolve_types, typing_is_unique};
+pub use typing::{fill_types, resolve_types, typing_is_unique};

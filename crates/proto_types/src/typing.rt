@@ -1,8 +1,9 @@
 //! Resolving the names of types in a file.
 
-ghost use Rattle.std.specs.Prelude.{◌≡◌, ℕ, ◌<◌, List, Bool, Err, IfOk, OnOk, Some, true};
+ghost use Rattle.std.specs.Prelude.{◌≡◌, ℕ, ◌<◌, List, Bool, IfErr, IfOk, OnOk, Some, true};
 ghost use Rattle.std.specs.List.{AllZip};
-ghost use Rattle.proto_base.specs.Least.{IsLeast, spot};
+ghost use Rattle.proto_base.specs.FileFaults.{TellsFirst};
+ghost use Rattle.proto_base.specs.Least.{IsLeast};
 ghost use Rattle.proto_base.specs.declared.spot.Spot.{Spot};
 ghost use Rattle.proto_desc.specs.Resolved.{file_resolved};
 ghost use Rattle.proto_desc.specs.declared.file.FileDesc.{FileDesc};
@@ -10,63 +11,41 @@ ghost use Rattle.proto_links.specs.Linked.{count_of};
 ghost use Rattle.proto_names.specs.Occurrences.{Occurrence};
 ghost use Rattle.proto_names.specs.Resolution.{SeenBy};
 ghost use Rattle.proto_names.specs.SeenAlike.{AreSeenAlike, IsSeen};
-ghost use Rattle.proto_base.specs.declared.kind.Kind.{Kind};
-ghost use Rattle.proto_base.specs.declared.place.Place.{Place};
 ghost use Rattle.proto_types.specs.References.{TypesBreak, references};
 ghost use Rattle.proto_types.specs.Typed.{IsTypedFile, Means};
-ghost use Rattle.proto_types.specs.declared.typing.TypeError.TheVariants as errors;
 
 use crate::filling::fill_file;
 use crate::finder::Finder;
 use crate::found::Found;
 use crate::meaning::NamedType;
-use proto_base::{Kind, Place};
+use proto_base::{FileError, ONLY_STEP};
 use proto_desc::file::FileDesc;
 use proto_links::{FileId, Links};
 use proto_names::NameIndex;
-use std::alloc::{AllocError, Global};
+use std::alloc::Global;
 use std::collections::VecDeque;
-use thiserror::Error;
-
-/// Why the types of a file have no meaning.
-#[derive(Debug, Drop, Error)]
-pub enum TypeError {
-    /// The first fault, by place, then by the number of its kind.
-    #[error("a wrong type")]
-    At(Place, Kind),
-    #[error("out of memory")]
-    NoMemory,
-}
-
-impl From<AllocError> for TypeError {
-    ghost from_gives = { λ _ e. e ≡ errors.NoMemory };
-
-    fn from(_error: AllocError) -> TypeError {
-        TypeError::NoMemory
-    }
-}
 
 /// What each name of a type that a file spells means, in the order in which the file names them, among the names that the
 /// file sees.
 ///
-/// `At` is the first fault of the file's types, by place, then by the number of its kind: `TypeNotFound`, `TypeNotMessage`
-/// for a method's type that is an enum, or `PackedOnMessage`. `NoMemory` comes only where the allocator had none.
+/// An error tells the first fault of the file's types, by place, then by the number of its kind: `TypeNotFound`,
+/// `TypeNotMessage` for a method's type that is an enum, or `PackedOnMessage`. `NoMemory` comes only where the allocator had none.
 pub fn resolve_types(
     alloc: Global,
     index: &NameIndex,
     links: &Links,
     file: FileId,
     desc: &FileDesc,
-) -> Result<Vec<NamedType>, TypeError>
+) -> Result<Vec<NamedType>, FileError>
     requires links { count_of links.now ≡ index.now.files }
     requires file { file < index.now.files }
     ensures types { IfOk result (λ types. AllZip
         (Means index.now.occurrences (SeenBy links.now file)) (references desc.now) types.items) }
     ensures whole { OnOk result ((x : Spot)
         → TypesBreak index.now.occurrences (SeenBy links.now file) desc.now x → ⊥) }
-    ensures first { (place : Place) (kind : Kind) → result ≡ Err (errors.At place kind)
-        → IsLeast (TypesBreak index.now.occurrences (SeenBy links.now file) desc.now)
-        (Some (spot place kind)) }
+    ensures first { IfErr result (TellsFirst (λ f. (f.step ≡ 0)
+        × IsLeast (TypesBreak index.now.occurrences (SeenBy links.now file) desc.now)
+        (Some f.spot))) }
 {
     let finder = Finder {
         alloc,
@@ -78,7 +57,7 @@ pub fn resolve_types(
     finder.file(desc, &mut found)?;
     match found.fault {
         None => Ok(found.types),
-        Some(fault) => Err(TypeError::At(fault.place, fault.kind)),
+        Some(fault) => Err(FileError::at(ONLY_STEP, fault)),
     }
 }
 

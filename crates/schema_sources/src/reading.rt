@@ -9,7 +9,7 @@ ghost use Rattle.schema_sources.specs.Texts.{AreTextsOf};
 
 use crate::folder::SourceFolder;
 use proto_base::Limits;
-use share_work::{NoGate, Plan, Work, in_shares};
+use share_work::{ItemWork, NoGate, Plan, each_in_shares};
 use source_folder::{FolderFault, NamedText};
 use std::alloc::{AllocError, AllocGlobal, Global};
 use std::thread::Threads;
@@ -35,39 +35,24 @@ struct Reading<'f, F> {
     limits: Limits,
 }
 
-impl<F: SourceFolder> Work<String> for Reading<'_, F> {
+impl<F: SourceFolder> ItemWork<String> for Reading<'_, F> {
     ghost use Rattle.std.specs.Prelude.{⊤, string_bytes};
     ghost use Rattle.schema_sources.specs.Reading.{IsReadUnder};
 
     type Out = Result<NamedText, FolderFault>;
 
-    type Seat = ();
-
     ghost takes = { λ _ _ _. ⊤ };
-
-    ghost fits = { λ _ _. ⊤ };
 
     ghost gives = { λ work _ name outcome. IsReadUnder (F.sources work.folder.now)
         (string_bytes name) outcome };
 
-    ghost number = { λ _ _. 0 };
-
-    ghost holds = { λ _ _ _ _. ⊤ };
-
-    ghost adds = { λ _ _ _ _ _. ⊤ };
-
-    fn piece(
+    fn item(
         &self,
         alloc: Global,
-        _seat: &mut (),
-        _first: usize,
-        items: &[String],
-    ) -> Result<Vec<Result<NamedText, FolderFault>>, AllocError> {
-        let mut outcomes = Vec::with_capacity(alloc, items.len())?;
-        for name in items {
-            outcomes.push(source_under(alloc, self.folder, name.as_str(), &self.limits))?;
-        }
-        Ok(outcomes)
+        _position: usize,
+        name: &String,
+    ) -> Result<Result<NamedText, FolderFault>, AllocError> {
+        Ok(source_under(alloc, self.folder, name.as_str(), &self.limits))
     }
 }
 
@@ -91,8 +76,7 @@ where
         limits: *limits,
     };
     let plan = plan.evened(names.len());
-    let mut seats = Vec::from_elem(rt.alloc(), (), plan.workers() as usize)?;
-    in_shares(rt, plan, 0, &NoGate, names, &work, seats.as_mut_slice())
+    each_in_shares(rt, plan, 0, &NoGate, names, &work)
 }
 
 /// The sources, or the first fault.

@@ -6,7 +6,7 @@ ghost use Rattle.source_search.specs.Searching.{SourceImports};
 
 use crate::imports::imports_of;
 use proto_base::Limits;
-use share_work::{NoGate, Plan, Work, in_shares};
+use share_work::{ItemWork, NoGate, Plan, each_in_shares};
 use source_folder::NamedText;
 use std::alloc::{AllocError, AllocGlobal, Global};
 use std::thread::Threads;
@@ -17,38 +17,23 @@ struct Reading {
     limits: Limits,
 }
 
-impl Work<NamedText> for Reading {
+impl ItemWork<NamedText> for Reading {
     ghost use Rattle.std.specs.Prelude.{⊤};
     ghost use Rattle.source_search.specs.Searching.{SourceImports};
 
     type Out = Vec<String>;
 
-    type Seat = ();
-
     ghost takes = { λ _ _ _. ⊤ };
-
-    ghost fits = { λ _ _. ⊤ };
 
     ghost gives = { λ work _ source names. SourceImports work.limits source names };
 
-    ghost number = { λ _ _. 0 };
-
-    ghost holds = { λ _ _ _ _. ⊤ };
-
-    ghost adds = { λ _ _ _ _ _. ⊤ };
-
-    fn piece(
+    fn item(
         &self,
         alloc: Global,
-        _seat: &mut (),
-        _first: usize,
-        items: &[NamedText],
-    ) -> Result<Vec<Vec<String>>, AllocError> {
-        let mut lists = Vec::with_capacity(alloc, items.len())?;
-        for source in items {
-            lists.push(imports_of(alloc, &source.text, &self.limits)?)?;
-        }
-        Ok(lists)
+        _position: usize,
+        source: &NamedText,
+    ) -> Result<Vec<String>, AllocError> {
+        imports_of(alloc, &source.text, &self.limits)
     }
 }
 
@@ -65,6 +50,5 @@ where
 {
     let work = Reading { limits: *limits };
     let plan = plan.evened(sources.len());
-    let mut seats = Vec::from_elem(rt.alloc(), (), plan.workers() as usize)?;
-    in_shares(rt, plan, 0, &NoGate, sources, &work, seats.as_mut_slice())
+    each_in_shares(rt, plan, 0, &NoGate, sources, &work)
 }

@@ -12,17 +12,16 @@ ghost use Rattle.proto_links.specs.Linked.{Linked};
 ghost use Rattle.proto_names.specs.Index.{Index};
 ghost use Rattle.wire_bytes.specs.Descriptor.{file_desc_bytes};
 
-use crate::error::{CompileError, ONLY_STEP, START};
+use crate::error::{CompileError, START};
 use crate::letting_go::leave;
 use crate::outcome::judge;
 use crate::pass::Pass;
 use crate::source::Source;
 use crate::workers::Workers;
-use proto_base::{Kind, Limit, Limits};
+use proto_base::{FileError, Kind, Limit, Limits, ONLY_STEP, Spot};
 use proto_desc::file::FileDesc;
-use proto_file::FileError;
 use share_work::phases::WRITING;
-use share_work::{Gate, Work};
+use share_work::{Gate, ItemWork};
 use std::alloc::{AllocError, AllocGlobal, Global};
 use std::thread::Threads;
 use wire_bytes::file_bytes;
@@ -34,7 +33,8 @@ fn write(alloc: Global, desc: &FileDesc, limits: &Limits) -> Result<Vec<u8>, Fil
 {
     let bytes = file_bytes(alloc, desc)?;
     if bytes.len() as u64 > limits.get(Limit::DescriptorBytes) {
-        return Err(FileError::At(ONLY_STEP, START, Kind::DescriptorTooLong));
+        let kind = Kind::DescriptorTooLong;
+        return Err(FileError::at(ONLY_STEP, Spot { place: START, kind }));
     }
     Ok(bytes)
 }
@@ -45,39 +45,24 @@ struct Writing {
     limits: Limits,
 }
 
-impl<'s> Work<FileDesc<'s>> for Writing {
-    ghost use Rattle.std.specs.Prelude.{⊤, ◌≡◌, true};
+impl<'s> ItemWork<FileDesc<'s>> for Writing {
+    ghost use Rattle.std.specs.Prelude.{◌≡◌, true};
     ghost use Rattle.proto_compile.specs.Outcomes.{IsWrittenShort};
     ghost use Rattle.proto_desc.specs.Resolved.{file_resolved};
 
     type Out = Result<Vec<u8>, FileError>;
 
-    type Seat = ();
-
     ghost takes = { λ _ _ desc. file_resolved desc ≡ true };
-
-    ghost fits = { λ _ _. ⊤ };
 
     ghost gives = { λ work _ desc outcome. IsWrittenShort work.limits desc outcome };
 
-    ghost number = { λ _ _. 0 };
-
-    ghost holds = { λ _ _ _ _. ⊤ };
-
-    ghost adds = { λ _ _ _ _ _. ⊤ };
-
-    fn piece(
+    fn item(
         &self,
         alloc: Global,
-        _seat: &mut (),
-        _first: usize,
-        items: &[FileDesc<'s>],
-    ) -> Result<Vec<Result<Vec<u8>, FileError>>, AllocError> {
-        let mut outcomes = Vec::with_capacity(alloc, items.len())?;
-        for desc in items {
-            outcomes.push(write(alloc, desc, &self.limits))?;
-        }
-        Ok(outcomes)
+        _position: usize,
+        desc: &FileDesc<'s>,
+    ) -> Result<Result<Vec<u8>, FileError>, AllocError> {
+        Ok(write(alloc, desc, &self.limits))
     }
 }
 

@@ -6,7 +6,6 @@ ghost use Rattle.proto_base.specs.Limits.{limit_of};
 ghost use Rattle.proto_base.specs.declared.limits.Limit.TheVariants as limit;
 ghost use Rattle.proto_compile.specs.Descriptions.{SourceDescribes};
 ghost use Rattle.proto_compile.specs.FaultSet.{IsLeastFault, TellsOf};
-ghost use Rattle.proto_compile.specs.Outcomes.{IsDescribed};
 ghost use Rattle.proto_compile.specs.Sources.{AreByName};
 ghost use Rattle.proto_compile.specs.declared.source.Source.{Source};
 
@@ -15,24 +14,13 @@ use crate::outcome::judge;
 use crate::pass::Pass;
 use crate::source::Source;
 use crate::workers::Workers;
-use proto_base::Limits;
+use proto_base::{FileError, Limits};
 use proto_desc::file::FileDesc;
-use proto_file::{FileError, describe};
+use proto_file::describe;
 use share_work::phases::DESCRIBING;
-use share_work::{Gate, Work};
+use share_work::{Gate, ItemWork};
 use std::alloc::{AllocError, AllocGlobal, Global};
 use std::thread::Threads;
-
-/// What a source describes, or its first fault by itself.
-fn describe_one<'s>(
-    alloc: Global,
-    source: &Source<'s>,
-    limits: &Limits,
-) -> Result<FileDesc<'s>, FileError>
-    ensures { IsDescribed limits.now source.now result }
-{
-    describe(alloc, source.name, source.text, limits)
-}
 
 /// Describes sources, each by itself.
 #[derive(Drop)]
@@ -40,38 +28,23 @@ struct Describing {
     limits: Limits,
 }
 
-impl<'s> Work<Source<'s>> for Describing {
+impl<'s> ItemWork<Source<'s>> for Describing {
     ghost use Rattle.std.specs.Prelude.{⊤};
     ghost use Rattle.proto_compile.specs.Outcomes.{IsDescribed};
 
     type Out = Result<FileDesc<'s>, FileError>;
 
-    type Seat = ();
-
     ghost takes = { λ _ _ _. ⊤ };
-
-    ghost fits = { λ _ _. ⊤ };
 
     ghost gives = { λ work _ source outcome. IsDescribed work.limits source outcome };
 
-    ghost number = { λ _ _. 0 };
-
-    ghost holds = { λ _ _ _ _. ⊤ };
-
-    ghost adds = { λ _ _ _ _ _. ⊤ };
-
-    fn piece(
+    fn item(
         &self,
         alloc: Global,
-        _seat: &mut (),
-        _first: usize,
-        items: &[Source<'s>],
-    ) -> Result<Vec<Result<FileDesc<'s>, FileError>>, AllocError> {
-        let mut outcomes = Vec::with_capacity(alloc, items.len())?;
-        for source in items {
-            outcomes.push(describe_one(alloc, source, &self.limits))?;
-        }
-        Ok(outcomes)
+        _position: usize,
+        source: &Source<'s>,
+    ) -> Result<Result<FileDesc<'s>, FileError>, AllocError> {
+        Ok(describe(alloc, source.name, source.text, &self.limits))
     }
 }
 

@@ -4,46 +4,26 @@ ghost use Rattle.std.specs.Prelude.{◌≡◌, ◌<◌, List, length, All, IfOk,
 ghost use Rattle.proto_desc.specs.Resolved.{file_resolved};
 ghost use Rattle.proto_compile.specs.Analysed.{AreTypedFrom, IsAnalysed};
 ghost use Rattle.proto_compile.specs.FaultSet.{IsLeastFault, TellsOf};
-ghost use Rattle.proto_compile.specs.Outcomes.{IsResolved};
 ghost use Rattle.proto_compile.specs.declared.source.Source.{Source};
 ghost use Rattle.proto_links.specs.Linked.{Linked, count_of};
 ghost use Rattle.proto_names.specs.Index.{Index};
 ghost use Rattle.proto_base.specs.declared.limits.Limits.{Limits};
 
-use crate::error::{CompileError, ONLY_STEP};
+use crate::error::CompileError;
 use crate::outcome::judge;
 use crate::pass::Pass;
 use crate::pass::filling::put_types;
 use crate::source::Source;
 use crate::workers::Workers;
+use proto_base::FileError;
 use proto_desc::file::FileDesc;
-use proto_file::FileError;
-use proto_links::{FileId, Links};
+use proto_links::Links;
 use proto_names::NameIndex;
-use proto_types::{NamedType, TypeError, resolve_types};
+use proto_types::{NamedType, resolve_types};
 use share_work::phases::RESOLVING;
-use share_work::{Gate, Work};
+use share_work::{Gate, ItemWork};
 use std::alloc::{AllocError, AllocGlobal, Global};
 use std::thread::Threads;
-
-/// What the names of types in the file at a position mean, or the first rule of types that it breaks.
-fn resolve(
-    alloc: Global,
-    links: &Links,
-    index: &NameIndex,
-    file: FileId,
-    desc: &FileDesc,
-) -> Result<Vec<NamedType>, FileError>
-    requires links { file < count_of links.now }
-    requires index { index.now.files ≡ count_of links.now }
-    ensures { IsResolved links.now index.now file desc.now result }
-{
-    match resolve_types(alloc, index, links, file, desc) {
-        Ok(types) => Ok(types),
-        Err(TypeError::At(place, kind)) => Err(FileError::At(ONLY_STEP, place, kind)),
-        Err(TypeError::NoMemory) => Err(FileError::NoMemory),
-    }
-}
 
 /// Resolves the names of types in files, each by itself.
 #[derive(Drop)]
@@ -53,40 +33,25 @@ struct Resolving<'a> {
     ghost indexed: { index.now.files ≡ count_of links.now },
 }
 
-impl<'s> Work<FileDesc<'s>> for Resolving<'_> {
-    ghost use Rattle.std.specs.Prelude.{⊤, ◌<◌, ◌^◌};
+impl<'s> ItemWork<FileDesc<'s>> for Resolving<'_> {
+    ghost use Rattle.std.specs.Prelude.{◌<◌};
     ghost use Rattle.proto_compile.specs.Outcomes.{IsResolved};
     ghost use Rattle.proto_links.specs.Linked.{count_of};
 
     type Out = Result<Vec<NamedType>, FileError>;
 
-    type Seat = ();
-
-    ghost takes = { λ work file _. (file < count_of work.links.now) × (file < 2 ^ 64) };
-
-    ghost fits = { λ _ _. ⊤ };
+    ghost takes = { λ work file _. file < count_of work.links.now };
 
     ghost gives = { λ work file desc outcome. IsResolved work.links.now work.index.now file desc
         outcome };
 
-    ghost number = { λ _ _. 0 };
-
-    ghost holds = { λ _ _ _ _. ⊤ };
-
-    ghost adds = { λ _ _ _ _ _. ⊤ };
-
-    fn piece(
+    fn item(
         &self,
         alloc: Global,
-        _seat: &mut (),
-        first: usize,
-        items: &[FileDesc<'s>],
-    ) -> Result<Vec<Result<Vec<NamedType>, FileError>>, AllocError> {
-        let mut outcomes = Vec::with_capacity(alloc, items.len())?;
-        for (k, desc) in items.iter().enumerate() {
-            outcomes.push(resolve(alloc, self.links, self.index, first + k, desc))?;
-        }
-        Ok(outcomes)
+        file: usize,
+        desc: &FileDesc<'s>,
+    ) -> Result<Result<Vec<NamedType>, FileError>, AllocError> {
+        Ok(resolve_types(alloc, self.index, self.links, file, desc))
     }
 }
 

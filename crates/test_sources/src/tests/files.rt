@@ -1,11 +1,11 @@
 //! Files by themselves: what they describe, under the standard limits and under lower ones.
 
 use super::{expect, field};
-use proto_base::{Limit, Limits};
+use proto_base::{FileError, Limit, Limits, Spot};
 use proto_desc::file::FileDesc;
 use proto_desc::is_resolved;
 use proto_desc::options::{OptionDesc, OptionValue};
-use proto_file::{FileError, describe};
+use proto_file::describe;
 use std::alloc::{AllocError, AllocGlobal, Global};
 use std::borrow::CowStr;
 use std::process::Abort;
@@ -38,7 +38,10 @@ fn told(alloc: Global, file: &FileDesc) -> Result<String, AllocError> {
 fn judged(alloc: Global, text: &str, limits: &Limits) -> Result<String, AllocError> {
     match describe(alloc, "a.proto", text.as_bytes(), limits) {
         Ok(file) => told(alloc, &file),
-        Err(FileError::At(_, place, kind)) => format!(in alloc; "{kind} at {place}"),
+        Err(FileError::First(fault)) => {
+            let Spot { place, kind } = fault.spot;
+            format!(in alloc; "{kind} at {place}")
+        }
         Err(FileError::NoMemory) => Err(AllocError),
     }
 }

@@ -5,7 +5,7 @@ use Rattle.std.specs.declared.alloc.Global.{Global}
 use Rattle.std.proofs.lemmas.Result.{IfOk-weaker}
 use Rattle.file_faults.specs.FileFaults.{AreFileFaults}
 use Rattle.file_faults.specs.Found.{IsFoundIn, faults_in}
-use Rattle.file_faults.specs.declared.local.LocalFault.{LocalFault}
+use Rattle.proto_base.specs.declared.file_fault.FileFault.{FileFault}
 use Rattle.proto_base.specs.declared.fault.Fault.{Fault}
 use Rattle.proto_compile.specs.FaultSet.{IsLeastFault, told_by}
 use Rattle.share_work.proofs.Giving.{all_of_gives}
@@ -20,7 +20,7 @@ returns-clause-each g c =
     let found = c.in_ok-found.found.items in
     let each : AllZip (IsFoundIn limits) files found =
     all_of_gives (IsFoundIn limits) 0 files found c.in_ok-found.ensures.outs in
-    let P : List (Option LocalFault) → Type 0 = λ fs. AllZip (IsFoundIn limits) files fs in
+    let P : List (Option FileFault) → Type 0 = λ fs. AllZip (IsFoundIn limits) files fs in
     let lent : AllZip (IsFoundIn limits) files c.deref.result.now = subst P (sym c.deref.ensures.value) each in
     IfOk-weaker c.all_named.result
     (λ (faults : Vec Fault Global). map told_by faults.items ≡ faults_in files c.deref.result.now)
