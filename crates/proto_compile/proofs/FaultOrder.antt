@@ -9,8 +9,10 @@ use Rattle.proto_base.proofs.Spots.{same_kind, same_place}
 use Rattle.proto_base.specs.Fault.{Found, found_cmp}
 use Rattle.proto_base.specs.Kind.{number_of}
 use Rattle.proto_base.specs.FileFaults.{at_step}
-use Rattle.proto_base.specs.Least.{AtMost}
+use Rattle.proto_base.specs.Least.{AtMost, spot}
 use Rattle.proto_base.specs.declared.file_fault.FileFault.{FileFault}
+use Rattle.proto_base.specs.declared.kind.Kind.{Kind}
+use Rattle.proto_base.specs.declared.place.Place.{Place}
 use Rattle.proto_base.specs.declared.spot.Spot.{Spot}
 use Rattle.proto_compile.specs.FaultSet.{IsNoLater, SourceFault, fault, numbered}
 
@@ -76,9 +78,9 @@ found_total =
     (then_total (on_total (λ (f : Found). f.place) nat_cmp_total)
     (on_total (λ (f : Found). f.number) nat_cmp_total))))
 
-same_told : (x y : SourceFault) → x.pass ≡ y.pass → x.file ≡ y.file → x.step ≡ y.step → x.place ≡ y.place
-    → x.kind ≡ y.kind → x ≡ y
-same_told x y pass file step place what = cc
+same_told : (p q s t : ℕ) (f g : List ℕ) (x y : Place) (k l : Kind) → p ≡ q → f ≡ g → s ≡ t → x ≡ y → k ≡ l
+    → fault p f (at_step s (spot x k)) ≡ fault q g (at_step t (spot y l))
+same_told p q s t f g x y k l pass file step place what = rw (pass, file, step, place, what) refl
 
 pub one_fault : (x y : SourceFault) → IsNoLater x y → IsNoLater y x → x ≡ y
 one_fault x y h i =
@@ -89,7 +91,7 @@ one_fault x y h i =
     let file = equal_parts (slice_cmp nat_cmp x.file y.file) _ pass.1 in
     let step = equal_parts (nat_cmp x.step y.step) _ file.1 in
     let place = equal_parts (nat_cmp x.place.offset y.place.offset) _ step.1 in
-    same_told x y (exact_unsigned x.pass y.pass pass.0) (exact_bytes x.file y.file file.0)
+    same_told _ _ _ _ _ _ _ _ _ _ (exact_unsigned x.pass y.pass pass.0) (exact_bytes x.file y.file file.0)
     (exact_unsigned x.step y.step step.0)
     (same_place x.place y.place (exact_unsigned x.place.offset y.place.offset place.0))
     (same_kind x.kind y.kind (exact_unsigned (number_of x.kind) (number_of y.kind) place.1))

@@ -19,6 +19,7 @@ use Rattle.proto_syntax.proofs.SameFiles.{same_file}
 use Rattle.proto_lower.specs.Files.{lowered}
 use Rattle.proto_desc.specs.declared.file.FileDesc.{FileDesc}
 use Rattle.proto_checks.specs.Checks.{FileBreaks}
+use Rattle.proto_base.specs.FileFaults.{at_step}
 use Rattle.proto_base.specs.Least.{IsLeast, spot}
 use Rattle.proto_base.proofs.Spots.{one_spot, same_place}
 use Rattle.proto_file.specs.Local.{Describes, IsBrokenAt, IsFile, IsGrammarFault, IsLocalFault, IsUnbroken, of_tokens, of_grammar, of_checks}
@@ -61,7 +62,8 @@ one_grammar_fault limits text p q a b (ts, j, is, fault, is_kind, at) (us, k, is
 
 -- spots of one place and kind are one
 same_spot : (x y : Spot) → x.place.offset ≡ y.place.offset → x.kind ≡ y.kind → x ≡ y
-same_spot x y place kind = let at = same_place x.place y.place place in cc
+same_spot x y place kind =
+    let at = same_place x.place y.place place in ap (λ p. spot p x.kind) at ∙ ap (spot y.place) kind
 
 no_broken : (limits : Limits) (name text : List ℕ) (f : FileTree) (x : Spot) → IsFile limits text f
     → IsUnbroken limits name f → IsBrokenAt limits name text x → ⊥
@@ -96,7 +98,7 @@ no_local limits name text desc x (f, is, unbroken, made) (of_checks s broken) =
 
 -- faults of one step, place and kind are one
 same_fault : (x y : FileFault) → x.step ≡ y.step → x.spot ≡ y.spot → x ≡ y
-same_fault x y step spot = cc
+same_fault x y step same = ap (λ s. at_step s x.spot) step ∙ ap (at_step y.step) same
 
 pub one_local : (limits : Limits) (name text : List ℕ) (x y : FileFault) → IsLocalFault limits name text x
     → IsLocalFault limits name text y → x ≡ y

@@ -5,7 +5,7 @@ use Rattle.proto_names.proofs.Shared.{shares_given}
 use Rattle.proto_names.proofs.shares.sort_in_threads.Goals as goal
 
 pub returns : goal.returns
-returns g c = IfOk-weaker c.in_shares.result _ _ (λ outs given.
+returns g c = IfOk-weaker c.each_in_shares.result _ _ (λ outs given.
     shares_given 4 (all_of c.args.parts.now) c.in_ok-shares.shares.items outs.items (omega arith) c.in_ok-shares.ensures
     (rw c.deref.ensures.value at given))
-    c.in_shares.ensures.outs
+    c.each_in_shares.ensures.outs

@@ -1,4 +1,4 @@
-use Rattle.std.proofs.Common.{◌≡◌}
+use Rattle.std.proofs.Common.{refl}
 use Rattle.proto_types.proofs.Walking.{found_all}
 use Rattle.proto_types.proofs.typing.resolve_types.Goals as goal
 
@@ -14,9 +14,6 @@ returns-in-None-clause-whole c = λ x broken.
     least.is x broken
 
 pub returns-in-Some-clause-first : goal.returns-in-Some-clause-first
-returns-in-Some-clause-first c = λ place kind e.
+returns-in-Some-clause-first c =
     let found = found_all c.new-found.ensures.types c.new-found.ensures.fault c.in_ok-file.ensures in
-    let least = rw c.in-Some.is at found.least in
-    let at : c.in-Some.fault.place ≡ place = cc in
-    let what : c.in-Some.fault.kind ≡ kind = cc in
-    rw (← at, ← what) least
+    rw c.at.ensures (refl, rw c.in-Some.is at found.least)
