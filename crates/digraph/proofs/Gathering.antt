@@ -1,6 +1,5 @@
 -- Steps of loops that gather, whatever they gather.
-use Rattle.std.proofs.Common.{◌≡◌, ◌⊎◌, ℕ, ◌+◌, ◌<◌, arith}
-use Rattle.std.specs.Prelude.{◌↔◌}
+use Rattle.std.proofs.Common.{◌≡◌, ◌⊎◌, ℕ, ◌+◌, ◌<◌, arith, ◌↔◌}
 
 -- nothing is met yet
 pub joined_none : {I M : Type 0} → (M → ⊥) → I ↔ (I ⊎ M)
@@ -18,6 +17,29 @@ joined_more f g h = grind arith
 pub joined_where : {A B M N O P Q : Type 0} → A ↔ (B ⊎ (O × Q)) → B ↔ (M × Q) → O ↔ P → N ↔ (M ⊎ P) → A ↔ (N × Q)
 joined_where f g e h = grind arith
 
+-- the end of a loop that meets all
+pub joined_all : {A B C : Type 0} → A ↔ B → C ↔ B → A ↔ C
+joined_all f g = grind arith
+
+-- what is the same as what is joined to what was found
+pub joined_moved : {F G I M N S : Type 0} → S ↔ F → F ↔ (G ⊎ M) → G ↔ I → M ↔ N → S ↔ (I ⊎ N)
+joined_moved s f g m = grind arith
+
+pub joined_all_where : {A B C Q : Type 0} → A ↔ (B × Q) → C ↔ B → A ↔ (C × Q)
+joined_all_where f g = grind arith
+
+pub joined_both : {A B C P Q : Type 0} → A ↔ (B ⊎ P) → B ↔ C → P ↔ Q → A ↔ (C ⊎ Q)
+joined_both f g h = grind arith
+
+pub joined_fresh : {A B C M P Q : Type 0} → A ↔ (B ⊎ P) → B ↔ (C ⊎ M) → (C → ⊥) → P ↔ Q → A ↔ (M ⊎ Q)
+joined_fresh f g out h = grind arith
+
+pub joined_two : {A B C : Type 0} → A ↔ B → B ↔ C → A ↔ C
+joined_two f g = grind arith
+
+pub joined_through : {A B C D : Type 0} → A ↔ B → B ↔ C → C ↔ D → A ↔ D
+joined_through f g h = grind arith
+
 -- one more of what holds where S does
 pub joined_if : {A B P S : Type 0} → A ↔ (B ⊎ P) → S → A ↔ (B ⊎ (S × P))
 joined_if f s = grind arith
@@ -26,6 +48,9 @@ pub joined_first : {B P S : Type 0} → (B → ⊥) → S → P ↔ (B ⊎ (S ×
 joined_first out s = grind arith
 
 -- what is met is there already
+pub joined_there : {A M N P : Type 0} → A ↔ M → N ↔ (M ⊎ P) → (P → A) → A ↔ N
+joined_there f g h = grind arith
+
 pub joined_again : {A I M N P : Type 0} → A ↔ (I ⊎ M) → N ↔ (M ⊎ P) → (P → A) → A ↔ (I ⊎ N)
 joined_again f g h = grind arith
 

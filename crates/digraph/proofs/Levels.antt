@@ -1,30 +1,26 @@
 -- What the rounds keep that find the ranks.
-use Rattle.digraph.proofs.Visiting.{append_iff}
+use Rattle.digraph.proofs.Visiting.{append_iff, no_position, push_iff, distinct_push}
 use Rattle.digraph.proofs.Gathering.{joined_more}
 use Rattle.digraph.proofs.Rising.{steps_append}
-use Rattle.std.proofs.Common.{◌≡◌, ◌∙◌, sym, ℕ, ◌+◌, ◌<◌, ◌≤◌, List, [], ◌∷◌, ◌++◌, length, get_or, ap, refl, subst, arith, inl, inr, ◌⊎◌, length-append}
-use Rattle.std.specs.Prelude.{Bool, true, false, replicate, Contains, ◌↔◌}
+use Rattle.std.proofs.Common.{◌≡◌, ◌∙◌, sym, ℕ, ◌+◌, ◌<◌, ◌≤◌, List, [], ◌∷◌, ◌++◌, length, get_or, ap, refl, arith, inl, inr, ◌⊎◌, length-append, Bool, replicate, Contains, ◌↔◌, eqb-true, ne_eqb, eqb}
 use Rattle.std.specs.Cmp.{nat_eq_equiv}
-use Rattle.std.specs.List.{IsDistinct, list_any}
+use Rattle.std.specs.List.{IsDistinct}
 use Rattle.std.specs.List.Sorted.{IsStrictlyIncreasing}
-use Rattle.std.proofs.lemmas.Bool.{eqb-true, ne_eqb}
 use Rattle.std.proofs.lemmas.Grind.{common_steps}
 use Rattle.std.proofs.lemmas.List.Elements.{Contains-get_or}
 use Rattle.std.proofs.lemmas.Map.Keys.{IsDistinct-from_apart}
 use Rattle.std.proofs.lemmas.Map.Steps.{length-le_from_distinct_below, le-length_from_below}
 use Rattle.std.proofs.lemmas.Map.Views.{Contains-from_any, list_any-from_Contains}
-use lib.Dec.{eqb}
-use Rattle.digraph.specs.Edges.{Graph, Edge, IsWithin, successors}
+use Rattle.digraph.specs.Edges.{Graph, Edge, IsWithin}
 use Rattle.digraph.specs.Reaches.{HasNoCycle}
-use Rattle.digraph.specs.Marks.{IsMarked, NoneMarked}
+use Rattle.digraph.specs.Marks.{IsMarked}
 use Rattle.digraph.specs.Ranks.{rank_in, IsBefore, IsRanked, IsRankOrder}
 use Rattle.digraph.specs.Rounds.{ArePassed, AllMarked, GoesInto}
 use Rattle.digraph.proofs.Marking.{default_same}
 use Rattle.digraph.proofs.Renumbering.{before_apart, before_differs}
-use Rattle.digraph.proofs.Rounding.{mark_cases, row_cases, passed_none}
-use Rattle.digraph.proofs.Rows.{edge_below, no_items}
+use Rattle.digraph.proofs.Rounding.{mark_cases, row_cases}
+use Rattle.digraph.proofs.Rows.{edge_below}
 use Rattle.digraph.proofs.Stuck.{none_stuck}
-use Rattle.digraph.proofs.Visiting.{no_position, push_iff, distinct_push}
 
 -- what the loop over the rounds has
 pub record Stage : Type 0 where
@@ -56,48 +52,12 @@ pub record Levels (g : Graph) (s : Stage) : Type 0 where
 
 -- ---- before the first round
 
-no_marks : (marks : List Bool) → NoneMarked marks → (a : ℕ) → IsMarked marks a ↔ Contains [] a
-no_marks marks none a = (λ m. absurd (none a m), λ w. absurd (no_items a w))
-
-empty_from : (xs : List ℕ) → ((c : ℕ) → Contains xs c → ⊥) → xs ≡ []
+pub empty_from : (xs : List ℕ) → ((c : ℕ) → Contains xs c → ⊥) → xs ≡ []
 empty_from [] none = refl
 empty_from (x ∷ xs) none = absurd (none x (0, omega arith, refl))
 
-leaf_ready : (g : Graph) (marks : List Bool) (leaves : List ℕ) → NoneMarked marks
-    → ((a : ℕ) → Contains leaves a ↔ ((a < length g) × (successors g a ≡ []))) → (a : ℕ)
-    → Contains leaves a ↔ IsReady g marks a
-leaf_ready g marks leaves none members a = (
-  λ w. (let leaf = (members a).0 w in
-      (leaf.0, none a, λ b edge. absurd (no_items b (subst (λ (xs : List ℕ). Contains xs b) leaf.1 edge)))),
-  λ w. (members a).1 (w.0, empty_from (successors g a) (λ b edge. none b (w.2 b edge))),
-)
-
-zero_at : (n a : ℕ) → get_or {A = ℕ} (replicate n 0) a 0 ≡ 0
-zero_at n a = grind (arith, common_steps)
-
 pub all_zero : (xs : List ℕ) (n : ℕ) → xs ≡ replicate n 0 → (a : ℕ) → get_or xs a 0 ≡ 0
-all_zero xs n e a = ap (λ ys. get_or ys a 0) e ∙ zero_at n a
-
-pub levels_start : (g : Graph) (marks : List Bool) (ranks order ready passed : List ℕ) → length marks ≡ length g
-    → length ranks ≡ length g
-    → NoneMarked marks → order ≡ [] → IsStrictlyIncreasing ready
-    → ((a : ℕ) → Contains ready a ↔ ((a < length g) × (successors g a ≡ [])))
-    → length passed ≡ length g → ((a : ℕ) → get_or passed a 0 ≡ 0)
-    → Levels g (record { marks = marks; ranks = ranks; order = order; ready = ready; passed = passed; round = 0 })
-levels_start g marks ranks order ready passed room size none empty rises members long zeros = rw empty (record {
-  room = room;
-  size = size;
-  known = no_marks marks none;
-  rises = rises;
-  ready = leaf_ready g marks ready none members;
-  passed = passed_none g marks passed long zeros;
-  few = omega arith;
-  above = λ a b m. absurd (none a m);
-  least = λ a m. absurd (none a m);
-  below = λ a m. absurd (none a m);
-  late = λ a w. inl refl;
-  ordered = λ k h. absurd (no_position (k + 1) h);
-})
+all_zero xs n e a = rw e (grind (arith, common_steps))
 
 -- ---- a round
 
@@ -114,11 +74,6 @@ pub record Round (g : Graph) (s t : Stage) : Type 0 where
   pub passed : ArePassed g t.marks t.passed
   pub rises : IsStrictlyIncreasing t.ready
   pub members : (a : ℕ) → Contains t.ready a ↔ (GoesInto g s.ready a × AllMarked g t.marks a)
-
-before_same : (ranks new_ranks : List ℕ) (a b : ℕ) → rank_in new_ranks a ≡ rank_in ranks a
-    → rank_in new_ranks b ≡ rank_in ranks b → IsBefore ranks a b
-    → IsBefore new_ranks a b
-before_same ranks new_ranks a b ea eb w = grind arith
 
 module _ (g : Graph) (s t : Stage) (l : Levels g s) (r : Round g s t) where
   kept : (a : ℕ) → IsMarked s.marks a → rank_in t.ranks a ≡ rank_in s.ranks a
@@ -149,8 +104,7 @@ module _ (g : Graph) (s t : Stage) (l : Levels g s) (r : Round g s t) where
   below_next : (a : ℕ) → IsMarked s.marks a ⊎ Contains s.ready a → rank_in t.ranks a < t.round
   below_next a w = grind arith
 
-  late_next : (a : ℕ) → Contains t.ready a
-      → (t.round ≡ 0) ⊎ ((b : ℕ) × Edge g a b × (t.round ≡ rank_in t.ranks b + 1))
+  late_next : (a : ℕ) → Contains t.ready a → (t.round ≡ 0) ⊎ ((b : ℕ) × Edge g a b × (t.round ≡ rank_in t.ranks b + 1))
   late_next a w = let into = ((r.members a).0 w).0 in
       inr (into.0, into.2, omega (arith, r.next, r.ranked into.0 into.1))
 
@@ -179,10 +133,10 @@ module _ (g : Graph) (s t : Stage) (l : Levels g s) (r : Round g s t) where
   ]
 
   ordered_kept : (k : ℕ) → k + 1 < length s.order → IsBefore t.ranks (get_or s.order k 0) (get_or s.order (k + 1) 0)
-  ordered_kept k h = before_same s.ranks t.ranks (get_or s.order k 0) (get_or s.order (k + 1) 0)
-      (kept (get_or s.order k 0) ((l.known (get_or s.order k 0)).1 (Contains-get_or s.order k 0 (omega arith))))
-      (kept (get_or s.order (k + 1) 0) ((l.known (get_or s.order (k + 1) 0)).1 (Contains-get_or s.order (k + 1) 0 h)))
-      (l.ordered k h)
+  ordered_kept k h =
+      let first = kept _ ((l.known _).1 (Contains-get_or s.order k 0 (omega arith))) in
+      let next = kept _ ((l.known _).1 (Contains-get_or s.order (k + 1) 0 h)) in
+      let was = l.ordered k h in grind arith
 
   ready_rank : (k : ℕ) → k < length s.ready → rank_in t.ranks (get_or s.ready k 0) ≡ s.round
   ready_rank k h = r.ranked (get_or s.ready k 0) (Contains-get_or s.ready k 0 h)
@@ -209,36 +163,26 @@ module _ (g : Graph) (s t : Stage) (l : Levels g s) (r : Round g s t) where
 
 -- ---- no node stands twice in the order
 
-found_in : (xs : List ℕ) (q : ℕ) → list_any (eqb q) xs ≡ true → Contains xs q
-found_in xs q e = Contains-from_any (λ a b h. eqb-true a b h) q xs e
-
 module _ (g : Graph) (s : Stage) (l : Levels g s) where
-  apart : (i j d : ℕ) → i < j → j < length s.order → eqb (get_or s.order i d) (get_or s.order j d) ≡ false
-  apart i j d less inside =
-      let first : get_or s.order i d ≡ get_or s.order i 0 = default_same s.order i d 0 (omega arith) in
-      let second : get_or s.order j d ≡ get_or s.order j 0 = default_same s.order j d 0 inside in
-      ne_eqb (get_or s.order i d) (get_or s.order j d)
-      (λ e. before_differs s.ranks (get_or s.order i 0) (get_or s.order j 0)
-      (before_apart s.ranks s.order l.ordered i j less inside) (sym first ∙ e ∙ second))
-
   order_distinct : IsDistinct eqb s.order
-  order_distinct = IsDistinct-from_apart eqb s.order apart
+  order_distinct = IsDistinct-from_apart eqb s.order (λ i j d less inside.
+      rw (default_same s.order i d 0 (omega arith), default_same s.order j d 0 inside)
+      (ne_eqb _ _ (before_differs s.ranks _ _ (before_apart s.ranks s.order l.ordered i j less inside))))
 
   in_order : (q : ℕ) → Contains s.order q → q < length g
   in_order q w = let m = (l.known q).1 w in omega (arith, m.0, l.room)
 
   order_short : length s.order ≤ length g
   order_short = length-le_from_distinct_below s.order (length g) order_distinct
-      (λ q e. in_order q (found_in s.order q e))
+      (λ q e. in_order q (Contains-from_any eqb-true q s.order e))
 
   -- where a node has no mark, the order has not all of them
   pub order_shorter : (a : ℕ) → a < length g → (IsMarked s.marks a → ⊥) → length s.order < length g
   order_shorter a h out =
-      let more = s.order ++ a ∷ [] in
       let once = distinct_push s.order a order_distinct (λ w. out ((l.known a).1 w)) in
       let size : length (s.order ++ a ∷ []) ≡ length s.order + 1 = grind (arith, common_steps) in
       let short = length-le_from_distinct_below (s.order ++ a ∷ []) (length g) once
-      (λ q e. elim ((push_iff s.order a q).0 (found_in (s.order ++ a ∷ []) q e)) [
+      (λ q e. elim ((push_iff s.order a q).0 (Contains-from_any eqb-true q (s.order ++ a ∷ []) e)) [
         | inl old ↦ in_order q old
         | inr is ↦ omega (arith, is, h)
       ]) in
@@ -249,10 +193,6 @@ module _ (g : Graph) (s : Stage) (l : Levels g s) where
   round_shorter some =
       let is = (l.ready (get_or s.ready 0 0)).0 (Contains-get_or s.ready 0 0 some) in
       order_shorter (get_or s.ready 0 0) is.0 is.1
-
-  -- what gets a rank is a node
-  pub ready_below : (a : ℕ) → Contains s.ready a → a < length g
-  ready_below a w = ((l.ready a).0 w).0
 
   -- ---- after the last round
 
@@ -279,51 +219,18 @@ module _ (g : Graph) (s : Stage) (l : Levels g s) where
     );
   }
 
-stuck_at : (g : Graph) (s : Stage) → IsWithin g (length g) → Levels g s → length s.ready ≡ 0 → (a : ℕ)
-    → (a < length g) × (IsMarked s.marks a → ⊥)
-    → (a < length g) × (b : ℕ) × Edge g a b × ((b < length g) × (IsMarked s.marks b → ⊥))
-stuck_at g s within l none a (h, out) = elim (row_cases g s.marks a) [
-  | inl all ↦ (let w = (l.ready a).1 (h, out, all) in absurd (no_position w.0 (omega (arith, w.1, none))))
-  | inr found ↦ (h, found.0, found.1, (within a found.0 found.1, found.2))
-]
-
 -- a node that no round found leads into a cycle
 pub levels_stuck : (g : Graph) (s : Stage) → IsWithin g (length g) → Levels g s → length s.ready ≡ 0
     → length s.order < length g → HasNoCycle g → ⊥
 levels_stuck g s within l none short acyclic =
     let free = none_stuck g (length g) (λ a. (a < length g) × (IsMarked s.marks a → ⊥))
-    (stuck_at g s within l none) acyclic in
+    (λ a (h, out). elim (row_cases g s.marks a) [
+      | inl all ↦ (let w = (l.ready a).1 (h, out, all) in absurd (no_position w.0 (omega (arith, w.1, none))))
+      | inr found ↦ (h, found.0, found.1, (within a found.0 found.1, found.2))
+    ]) acyclic in
     let long = le-length_from_below s.order (length g)
     (λ q h. list_any-from_Contains nat_eq_equiv q s.order ((l.known q).0 (elim (mark_cases s.marks q) [
       | inl m ↦ m
       | inr out ↦ absurd (free q (h, out))
     ]))) in
     no_position 0 (omega (arith, long, short))
-
--- ---- the round as the code has it: the slices that it is given are the lists
-
-pub round_of : (g : Graph) (s t : Stage) (old_marks seen : List Bool) (old_ranks nodes new settled : List ℕ)
-    → old_marks ≡ s.marks → seen ≡ t.marks
-    → old_ranks ≡ s.ranks → nodes ≡ s.ready → new ≡ s.ready → settled ≡ s.ready → t.round ≡ s.round + 1
-    → 0 < length s.ready → t.order ≡ s.order ++ new
-    → length t.marks ≡ length s.marks → length t.ranks ≡ length s.ranks
-    → ((c : ℕ) → IsMarked t.marks c ↔ (IsMarked old_marks c ⊎ Contains nodes c))
-    → ((c : ℕ) → Contains nodes c → rank_in t.ranks c ≡ s.round)
-    → ((c : ℕ) → (Contains nodes c → ⊥) → rank_in t.ranks c ≡ rank_in old_ranks c) → ArePassed g seen t.passed
-    → IsStrictlyIncreasing t.ready
-    → ((a : ℕ) → Contains t.ready a ↔ (GoesInto g settled a × AllMarked g seen a)) → Round g s t
-round_of g s t old_marks seen old_ranks nodes new settled em es er en ew et next some appended marks_size ranks_size
-    marked ranked others passed rises
-    members = record {
-      next = next;
-      some = some;
-      appended = appended ∙ ap (λ xs. s.order ++ xs) ew;
-      marks_size = marks_size;
-      ranks_size = ranks_size;
-      marked = rw (em, en) at marked;
-      ranked = rw en at ranked;
-      others = rw (er, en) at others;
-      passed = rw es at passed;
-      rises = rises;
-      members = rw (es, et) at members;
-    }

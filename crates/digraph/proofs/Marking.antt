@@ -1,11 +1,8 @@
 -- Lists of nodes, and marks at nodes.
-use Rattle.std.proofs.Common.{inl, inr}
-use Rattle.std.proofs.Common.{refl, sym, subst}
-use Rattle.std.proofs.Common.{◌≡◌, ℕ, ◌+◌, ◌<◌, List, length, get_or, arith, ◌⊎◌}
-use Rattle.std.specs.Prelude.{Bool, true, Contains, ◌↔◌}
+use Rattle.std.proofs.Common.{inl, inr, refl, sym, subst, ◌≡◌, ℕ, ◌+◌, ◌<◌, List, length, get_or, arith, ◌⊎◌, Bool, true, Contains, ◌↔◌, set, IsPermutation}
 use Rattle.std.proofs.lemmas.Grind.{common_steps}
 use Rattle.std.proofs.lemmas.Bool.{cases_eq}
-use Rattle.std.proofs.Math.ListN.{set}
+use Rattle.std.proofs.lemmas.List.Sorted.{Contains-permutation, IsPermutation-sym}
 use Rattle.digraph.specs.Marks.{IsMarked, Among}
 
 pub among_more : (xs : List ℕ) (n c : ℕ) → Among xs (n + 1) c ↔ (Among xs n c ⊎ (get_or xs n 0 ≡ c))
@@ -17,17 +14,10 @@ default_same xs k c d h = grind (arith, common_steps)
 pub among_all : (xs : List ℕ) (n c : ℕ) → n ≡ length xs → Contains xs c ↔ Among xs n c
 among_all xs n c e = grind (arith, common_steps)
 
-mark_to : (marks : List Bool) (p c : ℕ) → (p ≡ c) ⊎ (p ≡ c → ⊥) → IsMarked (set marks p true) c
-    → IsMarked marks c ⊎ (p ≡ c)
-mark_to marks p c w k = grind (arith, common_steps)
-
-mark_from : (marks : List Bool) (p c : ℕ) → p < length marks → (p ≡ c) ⊎ (p ≡ c → ⊥) → IsMarked marks c ⊎ (p ≡ c)
-    → IsMarked (set marks p true) c
-mark_from marks p c h w k = grind (arith, common_steps)
-
 pub mark_one : (marks : List Bool) (p c : ℕ) → p < length marks
     → IsMarked (set marks p true) c ↔ (IsMarked marks c ⊎ (p ≡ c))
-mark_one marks p c h = (mark_to marks p c (cases_eq p c), mark_from marks p c h (cases_eq p c))
+mark_one marks p c h =
+    let which = cases_eq p c in (λ k. grind (arith, common_steps), λ k. grind (arith, common_steps))
 
 -- what holds of one of the first n
 pub among_some : (Q : ℕ → Type 0) (xs : List ℕ) (n : ℕ)
@@ -44,3 +34,7 @@ pub among_some_all : (Q : ℕ → Type 0) (xs : List ℕ) (n : ℕ) → n ≡ le
     → ((c : ℕ) × Contains xs c × Q c) ↔ ((c : ℕ) × Among xs n c × Q c)
 among_some_all Q xs n e =
     (λ (c, w, q). (c, (among_all xs n c e).0 w, q), λ (c, w, q). (c, (among_all xs n c e).1 w, q))
+
+pub same_members : (xs ys : List ℕ) (c : ℕ) → IsPermutation xs ys → Contains ys c ↔ Contains xs c
+same_members xs ys c moved =
+    (Contains-permutation ys xs c (IsPermutation-sym xs ys moved), Contains-permutation xs ys c moved)

@@ -1,25 +1,15 @@
 -- Names for what stands in ranges.
-use Rattle.std.proofs.Common.{◌≡◌, ◌∙◌, ap, sym, subst, ℕ, zero, suc, ◌<◌, List, [], ◌∷◌, length, map, take, drop, get_or, refl, arith}
-use Rattle.std.specs.Prelude.{Contains}
+use Rattle.std.proofs.Common.{◌≡◌, ◌∙◌, ap, sym, ℕ, suc, ◌<◌, List, [], ◌∷◌, length, map, get_or, refl, arith, Contains}
 use Rattle.std.specs.List.{AllByRecursion}
 use Rattle.std.proofs.lemmas.Grind.{common_steps}
-use Rattle.std.proofs.lemmas.List.{get_or-map}
+use Rattle.std.proofs.lemmas.List.{get_or-map, drop-map, take-map}
+use Rattle.std.proofs.lemmas.List.Elements.{recursion_from_All}
 use Rattle.digraph.specs.Ranges.{range_of, ranges_of, name_of}
 use Rattle.digraph.specs.Renumbered.{node_at}
 use Rattle.digraph.proofs.Marking.{default_same}
 
-take_map : (f : ℕ → ℕ) (n : ℕ) (xs : List ℕ) → take n (map f xs) ≡ map f (take n xs)
-take_map f zero xs = refl
-take_map f (suc n) [] = refl
-take_map f (suc n) (x ∷ xs) = ap (λ ys. f x ∷ ys) (take_map f n xs)
-
-drop_map : (f : ℕ → ℕ) (n : ℕ) (xs : List ℕ) → drop n (map f xs) ≡ map f (drop n xs)
-drop_map f zero xs = refl
-drop_map f (suc n) [] = refl
-drop_map f (suc n) (x ∷ xs) = drop_map f n xs
-
 range_mapped : (f : ℕ → ℕ) (items : List ℕ) (r : ℕ × ℕ) → range_of (map f items) r ≡ map f (range_of items r)
-range_mapped f items r = ap (take r.1) (drop_map f r.0 items) ∙ take_map f r.1 (drop r.0 items)
+range_mapped f items r = grind (arith, drop-map, take-map)
 
 map_same : (f g : ℕ → ℕ) (xs : List ℕ) → ((k : ℕ) → Contains xs k → f k ≡ g k) → map f xs ≡ map g xs
 map_same f g [] same = refl
@@ -33,11 +23,6 @@ ranges_mapped f g items [] same = refl
 ranges_mapped f g items (r ∷ rs) same =
     rw (range_mapped f items r ∙ map_same f g (range_of items r) same.0, ranges_mapped f g items rs same.1) refl
 
-all_from : {X : Type 0} (P : X → Type 0) (xs : List X) (d : X) → ((k : ℕ) → k < length xs → P (get_or xs k d))
-    → AllByRecursion P xs
-all_from P [] d each = tt
-all_from P (x ∷ xs) d each = (each 0 (omega arith), all_from P xs d (λ k h. each (suc k) (omega arith)))
-
 -- the names of what lists share are the names of each list
 pub view_named : (names items : List ℕ) (rs : List (ℕ × ℕ)) (lists : List (List ℕ)) → ranges_of items rs ≡ lists
     → ((a k : ℕ) → a < length lists → Contains (get_or lists a []) k → k < length names)
@@ -45,9 +30,8 @@ pub view_named : (names items : List ℕ) (rs : List (ℕ × ℕ)) (lists : List
 view_named names items rs lists e below =
     let size : length (ranges_of items rs) ≡ length rs = grind (arith, common_steps) in
     let sizes = ap length e in
-    ranges_mapped (name_of names) (node_at names) items rs (all_from _ rs (0, 0) (λ a h k w. (
-    let at : range_of items (get_or rs a (0, 0)) ≡ get_or lists a [] =
-    sym (get_or-map (range_of items) rs a (0, 0) [] h) ∙ ap (λ ls. get_or ls a []) e in
-    let inside = below a k (omega (arith, h, size, sizes)) (subst (λ (xs : List ℕ). Contains xs k) at w) in
-    default_same names k k 0 inside)))
+    ranges_mapped (name_of names) (node_at names) items rs (recursion_from_All _ rs (λ a d h k w. (
+    let at : range_of items (get_or rs a d) ≡ get_or lists a [] =
+    sym (get_or-map (range_of items) rs a d [] h) ∙ ap (λ ls. get_or ls a []) e in
+    let inside = below a k (omega (arith, h, size, sizes)) (rw at at w) in default_same names k k 0 inside)))
     ∙ ap (λ ls. map (λ (list : List ℕ). map (node_at names) list) ls) e

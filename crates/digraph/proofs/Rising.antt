@@ -1,17 +1,12 @@
 -- Lists of rising numbers.
-use Rattle.std.proofs.Common.{◌≡◌}
-use Rattle.std.proofs.Common.{length-append}
+use Rattle.std.proofs.Common.{◌≡◌, length-append, ℕ, ◌+◌, ◌-◌, ◌<◌, List, [], ◌∷◌, ◌++◌, length, get_or, arith, inl, inr, Contains}
 use Rattle.std.proofs.Math.Seq.{get_or-append_right}
-use Rattle.std.proofs.Common.{ℕ, ◌+◌, ◌-◌, ◌<◌, ◌≤◌, List, [], ◌∷◌, ◌++◌, length, get_or, refl, arith, inl, inr, ◌⊎◌}
-use Rattle.std.specs.Prelude.{Contains}
 use Rattle.std.specs.List.{AllByRecursion}
 use Rattle.std.specs.List.Sorted.{IsStrictlyIncreasing}
 use Rattle.std.proofs.Math.ListN.{get_or-append}
 use Rattle.std.proofs.lemmas.Bool.{cases_lt}
 use Rattle.std.proofs.lemmas.Grind.{common_steps}
 use Rattle.std.proofs.lemmas.List.Elements.{Contains-get_or}
-use Rattle.std.proofs.lemmas.Map.Keys.{below_from_sorted, sorted_from_strictly_increasing}
-use Rattle.digraph.proofs.Marking.{among_all}
 
 -- from each element of the list to the next
 abbrev pub Steps : (ℕ → ℕ → Type 0) → List ℕ → Type 0
@@ -41,31 +36,8 @@ pub rises_push : (xs : List ℕ) (p : ℕ) → IsStrictlyIncreasing xs → ((c :
 rises_push xs p up below = steps_append (λ a b. a < b) xs (p ∷ []) up (λ k h. absurd (omega arith))
     (λ a b w v. let is = one_only p b v in let less = below a w in omega (arith, less, is))
 
--- numbers at a distance
-pub rises_far : (xs : List ℕ) → IsStrictlyIncreasing xs → (i j : ℕ) → i < j → j < length xs
-    → get_or xs i 0 < get_or xs j 0
-rises_far xs up i j h inside = below_from_sorted xs i j 0 (sorted_from_strictly_increasing xs up) h inside
-
-last_case : (xs : List ℕ) → IsStrictlyIncreasing xs → (number k : ℕ) → k < length xs
-    → get_or xs (length xs - 1) 0 < number
-    → (k < length xs - 1) ⊎ (length xs - 1 ≤ k) → get_or xs k 0 < number
-last_case xs up number k h below w = grind (arith, rises_far)
-
--- where the last is below a number, all are
-pub below_last : (xs : List ℕ) → IsStrictlyIncreasing xs → (number c : ℕ) → get_or xs (length xs - 1) 0 < number
-    → Contains xs c → c < number
-below_last xs up number c below w =
-    let at = (among_all xs (length xs) c refl).0 w in
-    let less = last_case xs up number at.0 at.1 below (cases_lt at.0 (length xs - 1)) in
-    omega (arith, less, at.2)
-
 -- ---- what holds of each
 
 pub all_push : {X : Type 0} (P : X → Type 0) (xs : List X) (x : X) → AllByRecursion P xs → P x
     → AllByRecursion P (xs ++ x ∷ [])
 all_push P xs x w p = grind (arith, common_steps)
-
-pub all_map : {X : Type 0} (P Q : X → Type 0) → ((x : X) → P x → Q x) → (xs : List X) → AllByRecursion P xs
-    → AllByRecursion Q xs
-all_map P Q f [] h = tt
-all_map P Q f (x ∷ xs) h = (f x h.0, all_map P Q f xs h.1)

@@ -1,25 +1,14 @@
 -- Rows that are appended, and rows that get one node more.
-use Rattle.std.proofs.lemmas.Bool.{cases_lt}
-use Rattle.digraph.proofs.Gathering.{joined_first}
-use Rattle.std.proofs.lemmas.List.{get_or_push}
-use Rattle.std.proofs.Common.{length-append}
-use Rattle.std.proofs.Math.ListN.{get_or-append}
-use Rattle.digraph.proofs.Gathering.{joined_if}
+use Rattle.std.proofs.lemmas.Bool.{cases_lt, cases_eq}
+use Rattle.digraph.proofs.Gathering.{joined_first, joined_if, joined_none, joined_step}
+use Rattle.std.proofs.lemmas.List.{get_or_push, map-set, map-append}
+use Rattle.std.proofs.Common.{length-append, get_or-set_other, ◌≡◌, sym, ℕ, ◌+◌, ◌<◌, ◌≤◌, List, [], ◌∷◌, ◌++◌, length, take, drop, get_or, arith, inl, inr, ◌⊎◌, Vec, Global, get_or-set_same, Contains, ◌↔◌}
+use Rattle.std.proofs.Math.ListN.{get_or-append, set, length-set}
 use Rattle.digraph.proofs.Marking.{among_more}
-use Rattle.std.proofs.Common.{get_or-set_other}
 use Rattle.digraph.proofs.Visiting.{push_iff}
-use Rattle.digraph.proofs.Gathering.{joined_none, joined_step, joined_end, below_more}
-use Rattle.std.proofs.Common.{◌≡◌, ◌∙◌, sym, ℕ, ◌+◌, ◌<◌, ◌≤◌, List, [], ◌∷◌, ◌++◌, length, take, drop, get_or, ap, refl, subst, arith, inl, inr, ◌⊎◌, Vec, Global, get_or-set_same}
-use Rattle.std.specs.Prelude.{Contains, ◌↔◌}
-use Rattle.std.proofs.Math.ListN.{set, length-set}
-use Rattle.std.proofs.lemmas.Bool.{cases_eq, cases_lt}
-use Rattle.std.proofs.lemmas.List.{map-set, map-append}
-use Rattle.std.proofs.lemmas.List.Elements.{Contains-get_or}
 use Rattle.std.proofs.lemmas.Grind.{common_steps}
 use Rattle.digraph.specs.Edges.{Graph, graph_of, successors, Edge}
 use Rattle.digraph.specs.Marks.{Among}
-use Rattle.digraph.proofs.Visiting.{no_position}
-use Rattle.digraph.proofs.Marking.{among_all}
 
 pub row_items : (rows : List (Vec ℕ Global)) (k : ℕ) (v : Vec ℕ Global) → v ≡ get_or rows k v → k < length rows
     → v.items ≡ successors (graph_of rows) k
@@ -54,31 +43,9 @@ pub record Empties (rows : List (Vec ℕ Global)) (n : ℕ) : Type 0 where
   pub size : length rows ≡ n
   pub empty : (a b : ℕ) → Edge (graph_of rows) a b → ⊥
 
-pub no_rows : (a b : ℕ) → Edge [] a b → ⊥
-no_rows a b edge = let h = edge_below [] a b edge in omega (arith, h)
-
-pub empties_none : (rows : List (Vec ℕ Global)) → rows ≡ [] → Empties rows 0
-empties_none rows e = rw e (record { size = refl; empty = no_rows })
-
-one_empty : (rows : List (Vec ℕ Global)) (v : Vec ℕ Global) → v.items ≡ [] → ((a b : ℕ) → Edge (graph_of rows) a b → ⊥)
-    → (a b : ℕ)
-    → Edge (graph_of rows) a b ⊎ ((a ≡ length (graph_of rows)) × Contains v.items b) → ⊥
-one_empty rows v e none a b (inl edge) = none a b edge
-one_empty rows v e none a b (inr (last, w)) = no_items b (subst (λ (ys : List ℕ). Contains ys b) e w)
-
 pub graph_push : (rows : List (Vec ℕ Global)) (v : Vec ℕ Global) → graph_of (rows ++ v ∷ []) ≡ graph_of rows
     ++ v.items ∷ []
 graph_push rows v = map-append (λ (x : Vec ℕ Global). x.items) rows (v ∷ [])
-
-pub empties_push : (rows new : List (Vec ℕ Global)) (n : ℕ) (v : Vec ℕ Global) → new ≡ rows ++ v ∷ [] → v.items ≡ []
-    → Empties rows n → Empties new (n + 1)
-empties_push rows new n v e items old = rw e (record {
-  size = (let len : length (rows ++ v ∷ []) ≡ length rows + 1 = grind (arith, common_steps) in
-      omega (arith, len, old.size));
-  empty =
-      λ a b edge. one_empty rows v items old.empty a b
-      ((edge_push (graph_of rows) v.items a b).0 (subst (λ (g : Graph). Edge g a b) (graph_push rows v) edge));
-})
 
 -- ---- a row gets one node more
 
@@ -103,76 +70,30 @@ length_graph rows = grind (arith, common_steps)
 pub row_pushed : (rows : List (Vec ℕ Global)) (s node : ℕ) (v w : Vec ℕ Global) → v ≡ get_or rows s v → s < length rows
     → w.items ≡ v.items ++ node ∷ []
     → (b a : ℕ) → Edge (graph_of (set rows s w)) b a ↔ (Edge (graph_of rows) b a ⊎ ((b ≡ s) × (node ≡ a)))
-row_pushed rows s node v w e h items b a =
-    let g = graph_of rows in
-    let inside : s < length g = omega (arith, h, length_graph rows) in
-    let same : graph_of (set rows s w) ≡ set g s (successors g s ++ node ∷ []) =
-    graph_set rows s w ∙ ap (set g s) (items ∙ ap (λ xs. xs ++ node ∷ []) (row_items rows s v e h)) in
-    subst (λ (k : Graph). Edge k b a ↔ (Edge g b a ⊎ ((b ≡ s) × (node ≡ a)))) (sym same) (edge_set g s node b a inside)
+row_pushed rows s node v w e h items b a = rw (graph_set rows s w, items, row_items rows s v e h)
+    (edge_set (graph_of rows) s node b a (omega (arith, h, length_graph rows)))
 
 -- what a loop keeps that pushes one node to the rows of others
 pub record Turning (nodes : List ℕ) (node : ℕ) (old : Graph) (n : ℕ) (rows : List (Vec ℕ Global)) : Type 0 where
   pub room : (k : ℕ) → k < length nodes → get_or nodes k 0 < length rows
   pub edges : (b a : ℕ) → Edge (graph_of rows) b a ↔ (Edge old b a ⊎ ((a ≡ node) × Among nodes n b))
 
-pub turning_none : (nodes : List ℕ) (node : ℕ) (rows : List (Vec ℕ Global))
-    → ((b : ℕ) → Contains nodes b → b < length rows)
-    → Turning nodes node (graph_of rows) 0 rows
-turning_none nodes node rows room = record {
-  room = λ k h. room (get_or nodes k 0) (Contains-get_or nodes k 0 h);
-  edges = λ b a. joined_none (λ w. no_position w.1.0 w.1.1);
-}
-
 pub turning_more : (nodes : List ℕ) (node : ℕ) (old : Graph) (n : ℕ) (rows : List (Vec ℕ Global)) (v w : Vec ℕ Global)
-    → n < length nodes
-    → v ≡ get_or rows (get_or nodes n 0) v → w.items ≡ (get_or rows (get_or nodes n 0) v).items ++ node ∷ []
-    → Turning nodes node old n rows
+    → n < length nodes → v ≡ get_or rows (get_or nodes n 0) v
+    → w.items ≡ (get_or rows (get_or nodes n 0) v).items ++ node ∷ [] → Turning nodes node old n rows
     → Turning nodes node old (n + 1) (set rows (get_or nodes n 0) w)
 turning_more nodes node old n rows v w h e items t =
     let s = get_or nodes n 0 in
     record {
       room = λ k inside. (let room = t.room k inside in omega (arith, room, length-set rows s w));
-      edges = λ b a. joined_step
-          (row_pushed rows s node v w e (t.room n h) (items ∙ ap (λ (x : Vec ℕ Global). x.items ++ node ∷ []) (sym e)) b
-          a) (t.edges b a)
+      edges = λ b a. joined_step (row_pushed rows s node v w e (t.room n h) (rw (sym e) at items) b a) (t.edges b a)
           (λ w. grind (arith, among_more), λ w. grind (arith, among_more));
     }
-
-all_to : (nodes : List ℕ) (n node b a : ℕ) → n ≡ length nodes
-    → ((a ≡ node) × Contains nodes b) ↔ ((a ≡ node) × Among nodes n b)
-all_to nodes n node b a h = (λ (e, w). (e, (among_all nodes n b h).0 w), λ (e, w). (e, (among_all nodes n b h).1 w))
-
-pub turning_all : (nodes : List ℕ) (node : ℕ) (old : Graph) (n : ℕ) (rows : List (Vec ℕ Global)) → n ≡ length nodes
-    → Turning nodes node old n rows → (b a : ℕ)
-    → Edge (graph_of rows) b a ↔ (Edge old b a ⊎ ((a ≡ node) × Contains nodes b))
-turning_all nodes node old n rows h t b a = joined_end (t.edges b a) (all_to nodes n node b a h)
 
 -- what a loop keeps that turns the edges of one node after the other
 pub record Turned (g : Graph) (n : ℕ) (rows : List (Vec ℕ Global)) : Type 0 where
   pub size : length rows ≡ length g
   pub edges : (b a : ℕ) → Edge (graph_of rows) b a ↔ ((a < n) × Edge g a b)
-
-pub turned_none : (g : Graph) (rows : List (Vec ℕ Global)) → length rows ≡ length g
-    → ((b a : ℕ) → Edge (graph_of rows) b a → ⊥) → Turned g 0 rows
-turned_none g rows size empty =
-    record { size = size; edges = λ b a. (λ edge. absurd (empty b a edge), λ w. absurd (no_position a w.0)) }
-
-pub turned_more : (g : Graph) (n : ℕ) (rows new : List (Vec ℕ Global)) (nodes : List ℕ) → nodes ≡ successors g n
-    → length new ≡ length rows
-    → ((b a : ℕ) → Edge (graph_of new) b a ↔ (Edge (graph_of rows) b a ⊎ ((a ≡ n) × Contains nodes b)))
-    → Turned g n rows → Turned g (n + 1) new
-turned_more g n rows new nodes e len step t = record {
-  size = len ∙ t.size;
-  edges = λ b a. below_more (λ x. Edge g x b) n a (step b a) (t.edges b a) (rw e (λ w. w, λ w. w));
-}
-
-pub turned_all : (g : Graph) (n : ℕ) (rows : List (Vec ℕ Global)) → length g ≤ n → Turned g n rows → (b a : ℕ)
-    → Edge (graph_of rows) b a ↔ Edge g a b
-turned_all g n rows h t b a = (
-  λ edge. ((t.edges b a).0 edge).1,
-  λ edge. (t.edges b a).1
-      ((let below = edge_below g a b edge in omega (arith, below)), edge),
-)
 
 -- what is written to all of a list replaces it
 pub written : {X : Type 0} (new items : List X) (n : ℕ) → n ≡ length items → length new ≡ length items

@@ -1,11 +1,7 @@
 -- Ranges of a list that only grows.
-use Rattle.std.proofs.Common.{◌≡◌, ℕ, ◌+◌, ◌<◌, ◌≤◌, List, [], ◌∷◌, ◌++◌, length, drop, get_or, refl, arith, length-append}
-use Rattle.std.specs.Prelude.{Result, OnErr, true}
-use Rattle.std.specs.Cmp.Lexicographic.{pointwise}
-use Rattle.std.proofs.lemmas.Bool.{and_parts, eqb-true}
+use Rattle.std.proofs.Common.{◌≡◌, ℕ, ◌+◌, ◌<◌, ◌≤◌, List, [], ◌∷◌, ◌++◌, length, drop, get_or, refl, arith, length-append, Result, OnErr}
 use Rattle.std.proofs.lemmas.List.{map-append, take_all}
 use Rattle.std.proofs.lemmas.Grind.{common_steps}
-use lib.Dec.{eqb}
 use Rattle.digraph.specs.Marks.{IsFrontOf}
 use Rattle.digraph.specs.Ranges.{range_of, ranges_of, AreWithin, Holds}
 use Rattle.digraph.proofs.Rising.{all_push}
@@ -30,8 +26,7 @@ pub length_kept : (old new : List ℕ) → IsFrontOf old new → length old ≤ 
 length_kept old new prefix = rw prefix.1 (rw (length-append old prefix.0) (omega arith))
 
 pub view_pushed : (old new : List ℕ) (rs ss : List (ℕ × ℕ)) (start : ℕ) (list : List ℕ) → IsFrontOf old new
-    → Holds new start list
-    → ss ≡ rs ++ (start, length list) ∷ [] → AreWithin (length old) rs
+    → Holds new start list → ss ≡ rs ++ (start, length list) ∷ [] → AreWithin (length old) rs
     → ranges_of new ss ≡ ranges_of old rs ++ list ∷ []
 view_pushed old new rs ss start list prefix holds e w = grind (arith, map-append, take_all, view_kept)
 
@@ -39,14 +34,6 @@ pub within_pushed : (old new : List ℕ) (rs ss : List (ℕ × ℕ)) (start : �
     → Holds new start list
     → ss ≡ rs ++ (start, length list) ∷ [] → AreWithin (length old) rs → AreWithin (length new) ss
 within_pushed old new rs ss start list prefix holds e w = grind (arith, all_push, length_kept, within_more)
-
-pub same_numbers : (xs ys : List ℕ) → pointwise eqb xs ys ≡ true → xs ≡ ys
-same_numbers [] [] e = refl
-same_numbers [] (y ∷ ys) e = cc
-same_numbers (x ∷ xs) [] e = cc
-same_numbers (x ∷ xs) (y ∷ ys) e =
-    let both = and_parts (eqb x y) (pointwise eqb xs ys) e in let rest = same_numbers xs ys both.1 in
-    let first = eqb-true x y both.0 in cc
 
 -- a list goes on where the positions end
 pub goes_on : (positions new prefix list : List ℕ) (last k : ℕ) → prefix ≡ drop k positions
@@ -56,8 +43,7 @@ goes_on positions new prefix list last k e len whole pushed = grind (arith, comm
 
 -- the list at k, by its range
 pub list_at : (items : List ℕ) (rs : List (ℕ × ℕ)) (lists : List (List ℕ)) (k : ℕ) (r : ℕ × ℕ)
-    → ranges_of items rs ≡ lists → r ≡ get_or rs k r
-    → k < length lists → range_of items r ≡ get_or lists k []
+    → ranges_of items rs ≡ lists → r ≡ get_or rs k r → k < length lists → range_of items r ≡ get_or lists k []
 list_at items rs lists k r e at h = grind (arith, common_steps)
 
 pub range_inside : (items : List ℕ) (rs : List (ℕ × ℕ)) (lists : List (List ℕ)) (k : ℕ) (r : ℕ × ℕ)

@@ -1,19 +1,14 @@
 -- Nodes that have edges among themselves lie on a cycle.
-use Rattle.std.proofs.Common.{◌≡◌, sym, ℕ, zero, suc, ◌<◌, ◌≤◌, List, [], ◌∷◌, length, ap, refl, subst, arith, inl, inr}
-use Rattle.std.specs.Prelude.{true, false}
-use Rattle.std.specs.List.{AllByRecursion, IsDistinct, list_any}
-use Rattle.std.proofs.lemmas.Bool.{false≢true, or_cases, eqb-true, ne_eqb}
+use Rattle.std.proofs.Common.{◌≡◌, sym, ℕ, zero, suc, ◌<◌, List, [], ◌∷◌, length, get_or, ap, refl, arith, eqb-true, ne_eqb, eqb}
+use Rattle.std.specs.List.{All, IsDistinct}
+use Rattle.std.proofs.lemmas.List.Elements.{All-nil, All-cons, All-contains, recursion_from_All}
+use Rattle.std.proofs.lemmas.Map.Views.{Contains-from_any}
 use Rattle.std.proofs.lemmas.Map.Keys.{IsDistinct-cons}
 use Rattle.std.proofs.lemmas.Map.Steps.{length-le_from_distinct_below}
-use lib.Dec.{eqb}
 use Rattle.digraph.specs.Edges.{Graph, Edge}
 use Rattle.digraph.specs.Leads.{Leads, here, through}
 use Rattle.digraph.specs.Reaches.{HasNoCycle}
-use Rattle.digraph.proofs.Rising.{all_map}
 use Rattle.digraph.proofs.Ways.{leads_trans}
-
-too_long : (m n : ℕ) → m ≤ n → m ≡ suc n → ⊥
-too_long m n h e = omega arith
 
 pub IsDistinct_none : IsDistinct eqb []
 unfolding IsDistinct
@@ -23,35 +18,22 @@ IsDistinct_none = tt
 abbrev pub IsStuck : Graph → ℕ → (ℕ → Type 0) → Type 0
 IsStuck g n R = (a : ℕ) → R a → (a < n) × (b : ℕ) × Edge g a b × R b
 
-any_all : (P : ℕ → Type 0) (q : ℕ) (xs : List ℕ) → AllByRecursion P xs → list_any (eqb q) xs ≡ true → P q
-any_all P q [] h e = absurd (false≢true e)
-any_all P q (x ∷ xs) h e =
-    elim (or_cases (eqb q x) (list_any (eqb q) xs) e) [
-      | inl same ↦ subst P (sym (eqb-true q x same)) h.0
-      | inr rest ↦ any_all P q xs h.1 rest
-    ]
-
 -- distinct numbers below n that all reach the head
 record Path (g : Graph) (n : ℕ) (R : ℕ → Type 0) (head : ℕ) (xs : List ℕ) : Type 0 where
   first : R head
-  reach : AllByRecursion (λ x. Leads (Edge g) head x) xs
-  below : AllByRecursion (λ x. x < n) xs
+  reach : All (λ x. Leads (Edge g) head x) xs
+  below : All (λ x. x < n) xs
   distinct : IsDistinct eqb xs
 
 longer : (g : Graph) (n : ℕ) (R : ℕ → Type 0) → HasNoCycle g → (head b : ℕ) (xs : List ℕ) → Edge g head b → R b → b < n
-    → Path g n R head xs
-    → Path g n R b (b ∷ xs)
+    → Path g n R head xs → Path g n R b (b ∷ xs)
 longer g n R acyclic head b xs edge rb under path = record {
   first = rb;
-  reach = (
-    here,
-    all_map (λ x. Leads (Edge g) head x) (λ x. Leads (Edge g) b x)
-        (λ x r. leads_trans (Edge g) head b x r (through head b edge here)) xs path.reach,
-  );
-  below = (under, path.below);
-  distinct = IsDistinct-cons eqb b xs (all_map (λ x. Leads (Edge g) head x) (λ x. eqb b x ≡ false)
-      (λ x r. ne_eqb b x (λ e. acyclic head b edge (subst (Leads (Edge g) head) (sym e) r))) xs path.reach)
-      path.distinct;
+  reach = All-cons (λ x. Leads (Edge g) b x) b xs here
+      (λ k d h. leads_trans (Edge g) head b _ (path.reach k d h) (through head b edge here));
+  below = All-cons (λ x. x < n) b xs under path.below;
+  distinct = IsDistinct-cons eqb b xs (recursion_from_All _ xs (λ k d h. ne_eqb b (get_or xs k d)
+      (λ e. acyclic head b edge (rw (sym e) at (path.reach k d h))))) path.distinct;
 }
 
 walk : (g : Graph) (n : ℕ) (R : ℕ → Type 0) → IsStuck g n R → HasNoCycle g → (a : ℕ) → R a → (k : ℕ)
@@ -61,8 +43,8 @@ walk g n R stuck acyclic a ra zero = (
   a ∷ [],
   record {
     first = ra;
-    reach = (here, tt);
-    below = ((stuck a ra).0, tt);
+    reach = All-cons (λ x. Leads (Edge g) a x) a [] here (All-nil _);
+    below = All-cons (λ x. x < n) a [] (stuck a ra).0 (All-nil _);
     distinct = IsDistinct-cons eqb a [] tt IsDistinct_none;
   },
   refl,
@@ -76,5 +58,6 @@ walk g n R stuck acyclic a ra (suc k) =
 pub none_stuck : (g : Graph) (n : ℕ) (R : ℕ → Type 0) → IsStuck g n R → HasNoCycle g → (a : ℕ) → R a → ⊥
 none_stuck g n R stuck acyclic a ra =
     let w = walk g n R stuck acyclic a ra n in
-    let small = length-le_from_distinct_below w.1 n w.2.distinct (λ q e. any_all (λ x. x < n) q w.1 w.2.below e) in
-    too_long (length w.1) n small w.3
+    let small = length-le_from_distinct_below w.1 n w.2.distinct
+    (λ q e. All-contains (λ x. x < n) w.1 q w.2.below (Contains-from_any eqb-true q w.1 e)) in
+    omega (arith, small, w.3)

@@ -1,18 +1,14 @@
 -- What the loops keep that mark nodes and take marks away.
-use Rattle.std.proofs.lemmas.List.Elements.{Contains-append_cases, Contains-append_right}
-use Rattle.digraph.proofs.Gathering.{joined_none, joined_step, joined_more, joined_again, joined_end}
-use Rattle.std.proofs.Common.{◌≡◌, ◌≢◌, ◌∙◌, sym, ℕ, ◌+◌, ◌<◌, List, [], ◌∷◌, ◌++◌, length, get_or, ap, subst, arith, inl, inr, ◌⊎◌, append_assoc, append-nil, get_or-set_same, get_or-set_other}
-use Rattle.std.specs.Prelude.{Bool, true, false, Contains, ◌↔◌}
+use Rattle.std.proofs.lemmas.List.Elements.{Contains-append_cases, Contains-append_right, Contains-push, Contains-push_cases, Contains-append_left}
+use Rattle.digraph.proofs.Gathering.{joined_step, joined_more, joined_again}
+use Rattle.std.proofs.Common.{◌≡◌, ◌∙◌, sym, ℕ, ◌+◌, ◌<◌, List, [], ◌∷◌, ◌++◌, length, get_or, ap, subst, arith, inl, inr, ◌⊎◌, append_assoc, Bool, true, false, Contains, ◌↔◌, set, length-set, eqb}
 use Rattle.std.specs.List.{IsDistinct, list_any}
-use Rattle.std.proofs.Math.ListN.{set, length-set}
 use Rattle.std.proofs.lemmas.Bool.{true≢false, eqb-true, false_from_ne_true}
-use Rattle.std.proofs.lemmas.List.Elements.{Contains-get_or, Contains-push, Contains-push_cases, Contains-append_left}
 use Rattle.std.proofs.lemmas.Map.Views.{Contains-from_any}
 use Rattle.std.specs.Cmp.{nat_eq_equiv}
 use Rattle.std.proofs.lemmas.Map.Keys.{IsDistinct-push}
-use lib.Dec.{eqb}
-use Rattle.digraph.specs.Marks.{IsMarked, AreMarked, Among, IsFrontOf, NoneMarked}
-use Rattle.digraph.proofs.Marking.{among_more, among_all, mark_one}
+use Rattle.digraph.specs.Marks.{IsMarked, AreMarked, Among, IsFrontOf}
+use Rattle.digraph.proofs.Marking.{among_more, mark_one}
 
 pub no_position : (k : ℕ) → k < 0 → ⊥
 no_position k h = omega arith
@@ -39,33 +35,28 @@ append_iff xs ys c = (
   ],
 )
 
-push_from : (xs : List ℕ) (p c : ℕ) → Contains xs c ⊎ (p ≡ c) → Contains (xs ++ p ∷ []) c
-push_from xs p c (inl h) = Contains-append_left xs (p ∷ []) c h
-push_from xs p c (inr e) = subst (Contains (xs ++ p ∷ [])) e (Contains-push xs p)
-
 pub push_iff : (xs : List ℕ) (p c : ℕ) → Contains (xs ++ p ∷ []) c ↔ (Contains xs c ⊎ (p ≡ c))
-push_iff xs p c = (Contains-push_cases xs p c, push_from xs p c)
-
--- the marks and the marked nodes after one more
-marked_push : (marks : List Bool) (marked : List ℕ) (p : ℕ) → p < length marks → (Contains marked p → ⊥)
-    → AreMarked marks marked
-    → AreMarked (set marks p true) (marked ++ p ∷ [])
-marked_push marks marked p h fresh q = record {
-  same = λ c. joined_more (mark_one marks p c h) (q.same c) (push_iff marked p c);
-  once = distinct_push marked p q.once fresh;
-}
+push_iff xs p c = (
+  Contains-push_cases xs p c,
+  λ w. elim w [
+    | inl h ↦ Contains-append_left xs (p ∷ []) c h
+    | inr e ↦ subst (Contains (xs ++ p ∷ [])) e (Contains-push xs p)
+  ],
+)
 
 pub visited_push : (old nodes : List ℕ) (n : ℕ) (marks new : List Bool) (marked ys : List ℕ) → n < length nodes
-    → get_or marks (get_or nodes n 0) false ≡ false
-    → new ≡ set marks (get_or nodes n 0) true → ys ≡ marked ++ get_or nodes n 0 ∷ [] → Visited old nodes n marks marked
-    → Visited old nodes (n + 1) new ys
+    → get_or marks (get_or nodes n 0) false ≡ false → new ≡ set marks (get_or nodes n 0) true
+    → ys ≡ marked ++ get_or nodes n 0 ∷ [] → Visited old nodes n marks marked → Visited old nodes (n + 1) new ys
 visited_push old nodes n marks new marked ys h out new_is ys_is v =
     let p = get_or nodes n 0 in
     let below : p < length marks = v.room n h in
     let fresh : Contains marked p → ⊥ = λ w. true≢false (sym ((v.are.same p).1 w).1 ∙ out) in
     rw (new_is, ys_is) (record {
       room = λ k inside. (let old_room = v.room k inside in omega (arith, old_room, length-set marks p true));
-      are = marked_push marks marked p below fresh v.are;
+      are = record {
+        same = λ c. joined_more (mark_one marks p c below) (v.are.same c) (push_iff marked p c);
+        once = distinct_push marked p v.are.once fresh;
+      };
       prefix = (v.prefix.0 ++ p ∷ [], ap (λ xs. xs ++ p ∷ []) v.prefix.1 ∙ append_assoc old v.prefix.0 (p ∷ []));
       added = λ c. joined_step (push_iff marked p c) (v.added c) (among_more nodes n c);
     })
@@ -82,49 +73,9 @@ visited_skip old nodes n marks new marked ys h inside new_is ys_is v =
       added = λ c. joined_again (v.added c) (among_more nodes n c) (λ e. subst (Contains marked) e found);
     })
 
-none_at : (nodes : List ℕ) (c : ℕ) → Among nodes 0 c → ⊥
-none_at nodes c (k, h, e) = no_position k h
-
-pub visited_none : (old nodes : List ℕ) (marks : List Bool) → ((c : ℕ) → Contains nodes c → c < length marks)
-    → AreMarked marks old
-    → Visited old nodes 0 marks old
-visited_none old nodes marks room are = record {
-  room = λ k h. room (get_or nodes k 0) (Contains-get_or nodes k 0 h);
-  are = are;
-  prefix = ([], sym (append-nil old));
-  added = λ c. joined_none (none_at nodes c);
-}
-
-pub visited_all : (old nodes : List ℕ) (n : ℕ) (marks : List Bool) (marked : List ℕ) → n ≡ length nodes
-    → Visited old nodes n marks marked → (c : ℕ)
-    → Contains marked c ↔ (Contains old c ⊎ Contains nodes c)
-visited_all old nodes n marks marked e v c = joined_end (v.added c) (among_all nodes n c e)
-
 -- ---- taking marks away
 
 -- what a loop over the marked nodes keeps
 pub record Cleared (nodes : List ℕ) (n : ℕ) (marks : List Bool) : Type 0 where
   pub room : (k : ℕ) → k < length nodes → get_or nodes k 0 < length marks
   pub left : (c : ℕ) → IsMarked marks c → Contains nodes c × (Among nodes n c → ⊥)
-
-pub cleared_none : (nodes : List ℕ) (marks : List Bool) → AreMarked marks nodes → Cleared nodes 0 marks
-cleared_none nodes marks are = record {
-  room = λ k h. ((are.same (get_or nodes k 0)).1 (Contains-get_or nodes k 0 h)).0;
-  left = λ c m. ((are.same c).0 m, none_at nodes c);
-}
-
-cleared_other : (nodes : List ℕ) (n : ℕ) (marks : List Bool) (c : ℕ) → Cleared nodes n marks
-    → (c ≡ get_or nodes n 0) ⊎ (c ≢ get_or nodes n 0)
-    → get_or nodes n 0 < length marks → IsMarked (set marks (get_or nodes n 0) false) c
-    → Contains nodes c × (Among nodes (n + 1) c → ⊥)
-cleared_other nodes n marks c v w h u =
-    grind (arith, among_more, get_or-set_other, get_or-set_same, length-set, true≢false)
-
-pub cleared_more : (nodes : List ℕ) (n : ℕ) (marks new : List Bool) → n < length nodes
-    → new ≡ set marks (get_or nodes n 0) false → Cleared nodes n marks
-    → Cleared nodes (n + 1) new
-cleared_more nodes n marks new h new_is v = grind (arith, cleared_other, length-set)
-
-pub cleared_all : (nodes : List ℕ) (n : ℕ) (marks : List Bool) → n ≡ length nodes → Cleared nodes n marks
-    → NoneMarked marks
-cleared_all nodes n marks e v c m = let old = v.left c m in old.1 ((among_all nodes n c e).0 old.0)

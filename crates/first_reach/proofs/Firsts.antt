@@ -1,5 +1,6 @@
 -- The first root that reaches a file.
-use Rattle.std.proofs.Common.{◌≡◌, ℕ, zero, suc, ◌+◌, ◌<◌, ◌≤◌, ◌⊎◌, inl, inr, Bool, true, false, cond, Option, Some, None, List, [], ◌∷◌, length, refl, sym, arith, rules, slice_get, IsTrue}
+use Rattle.std.proofs.Common.{◌≡◌, ℕ, zero, suc, ◌+◌, ◌<◌, ◌≤◌, ◌⊎◌, inl, inr, true, Option, Some, None, List, [], ◌∷◌, length, refl, arith, rules, slice_get, IsTrue}
+use Rattle.std.proofs.lemmas.Bool.{cases_Bool}
 use Rattle.share_work.specs.Posts.{NONE, least_at}
 use Rattle.share_work.proofs.Legal.{least_at-le-NONE, least_at-above, least_at-below}
 use Rattle.first_reach.specs.Carried.{reached}
@@ -40,18 +41,13 @@ pub first_found : (reach : ℕ → List ℕ) (roots : List (Option ℕ)) (i g : 
     → (first_from reach i roots g ≡ NONE) ⊎ ((k : ℕ) × (first_from reach i roots g ≡ i + k)
     × ((root : Option ℕ) × (slice_get roots k ≡ Some root) × IsTrue (has g (reached reach root))))
 first_found reach [] i g = inl refl
-first_found reach (r ∷ roots) i g = pick (has g (reached reach r)) refl (first_found reach roots (i + 1) g) where
-  pick : (b : Bool) → b ≡ has g (reached reach r)
-      → ((first_from reach (i + 1) roots g ≡ NONE) ⊎ ((k : ℕ) × (first_from reach (i + 1) roots g ≡ i + 1 + k)
-      × ((root : Option ℕ) × (slice_get roots k ≡ Some root) × IsTrue (has g (reached reach root)))))
-      → (cond b i (first_from reach (i + 1) roots g) ≡ NONE)
-      ⊎ ((k : ℕ) × (cond b i (first_from reach (i + 1) roots g) ≡ i + k)
-      × ((root : Option ℕ) × (slice_get (r ∷ roots) k ≡ Some root) × IsTrue (has g (reached reach root))))
-  pick true t ih = inr (0, omega arith, (r, refl, sym t))
-  pick false t ih = elim ih [
-    | inl none ↦ inl none
-    | inr at ↦ let e = at.1 in inr (suc at.0, omega arith, at.2)
+first_found reach (r ∷ roots) i g = elim (cases_Bool (has g (reached reach r))) [
+  | inl t ↦ inr (0, rw t (omega arith), (r, refl, t))
+  | inr f ↦ elim (first_found reach roots (i + 1) g) [
+    | inl none ↦ inl (rw f none)
+    | inr at ↦ let e = at.1 in inr (suc at.0, rw f (omega arith), at.2)
   ]
+]
 
 -- where root i reaches a file that no root before it reaches, none before it reaches what reaches that file
 pub first_spreads : (reach : ℕ → List ℕ) (roots : List (Option ℕ)) (i r g : ℕ) → length roots ≤ NONE

@@ -1,14 +1,14 @@
 -- What workers' marks post.
 use Rattle.std.proofs.lemmas.List.{length-take}
 use Rattle.share_work.proofs.PieceRows.{take_get}
-use Rattle.std.proofs.Common.{◌≡◌, ℕ, zero, suc, ◌+◌, ◌<◌, ◌⊎◌, inl, inr, ◌↔◌, Option, Some, None, List, [], ◌∷◌, ◌++◌, take, length, reverse, refl, sym, ap, subst, ◌∙◌, arith, slice_get, All, drop, map, sum_by, append-nil}
+use Rattle.std.proofs.Common.{◌≡◌, ℕ, zero, suc, ◌+◌, ◌<◌, ◌⊎◌, inl, inr, ◌↔◌, Option, Some, None, List, [], ◌∷◌, ◌++◌, take, length, reverse, sym, ap, subst, ◌∙◌, arith, slice_get, All, drop, map, sum, sum_by, append-nil}
 use Rattle.std.specs.Prelude.{Contains}
 use Rattle.std.specs.List.{flat_map}
 use Rattle.std.proofs.lemmas.Bool.{cases_lt}
-use Rattle.std.proofs.lemmas.Option.{slice_get-get_or, slice_get_within, get_or_from_slice_get}
+use Rattle.std.proofs.lemmas.Option.{slice_get-get_or, slice_get_within}
 use Rattle.std.proofs.lemmas.List.Elements.{Contains-append_left, Contains-append_right, Contains-append_cases}
 use Rattle.std.proofs.lemmas.List.Sorted.{Contains-permutation, IsPermutation-reverse, IsPermutation-sym}
-use Rattle.std.proofs.lemmas.List.Sums.{sum_by-cons}
+use Rattle.std.proofs.lemmas.List.Sums.{sum-map}
 use Rattle.std.proofs.Math.Seq.{take-length}
 use Rattle.std.proofs.Math.ListN.{drop_of_length-le}
 use Rattle.share_work.specs.Marks.{MarkSeatValue, at_each, marked_posts}
@@ -18,7 +18,7 @@ use Rattle.share_work.proofs.Sums.{none_in, in_map, in_flat, of_flat}
 use Rattle.share_work.proofs.Together.{HoldTogether}
 use Rattle.first_reach.specs.First.{RootReaches}
 use Rattle.first_reach.specs.Seats.{HasPosted, Posts}
-use Rattle.first_reach.proofs.Lists.{all_get}
+use Rattle.first_reach.proofs.Lists.{all_get, contains_at}
 
 take_under : {X : Type 0} (n : ℕ) (xs : List X) (o : ℕ) (t : X) → slice_get (take n xs) o ≡ Some t
     → (o < n) × (slice_get xs o ≡ Some t)
@@ -103,24 +103,19 @@ all_posted reach roots old new marks together none final g n =
                 absurd (none_in (g, n)
                 (subst Q (all_get (λ (s : MarkSeatValue). s.view.marks ≡ []) old was.0 was.1 none was.2) was.3))
             | inr a ↦
-                let same : a.0 ≡ n = let e = a.3.0 in omega arith in
-                let P : ℕ → Type 0 = λ k. slice_get roots k ≡ Some a.1 in (a.1, subst P same a.2, a.3.1)
+                let same : a.0 ≡ n = let e = a.3.0 in omega arith in (a.1, rw same at a.2, a.3.1)
           ],
       λ r.
           let got = (together g n).1 (inr (n, r.0, r.1, (omega arith, r.2))) in
-          let there : Contains new got.1 =
-          (got.0, slice_get_within new got.0 got.1 got.2, get_or_from_slice_get new got.0 got.1 got.1 got.2) in
-          let seat = Contains-permutation new (reverse new) got.1 (IsPermutation-reverse new) there in
+          let seat = Contains-permutation new (reverse new) got.1 (IsPermutation-reverse new)
+          (contains_at new got.0 got.1 got.2) in
           let post = marked_to reach got.1.view.marks g n got.3 in
           subst Q (sym final) (marked_from reach (flat_map of_seat (reverse new)) post.0 g n
           (in_flat of_seat (reverse new) got.1 (post.0, n) seat post.1) post.2),
     )
 
 pub same_sums : {X : Type 0} (f : X → ℕ) (xs ys : List X) → map f xs ≡ map f ys → sum_by f xs ≡ sum_by f ys
-same_sums f [] [] e = refl
-same_sums f [] (y ∷ ys) e = let bad : [] ≡ f y ∷ map f ys = e in cc
-same_sums f (x ∷ xs) [] e = let bad : f x ∷ map f xs ≡ [] = e in cc
-same_sums f (x ∷ xs) (y ∷ ys) e = grind (arith, sum_by-cons, same_sums f xs ys)
+same_sums f xs ys e = sym (sum-map f xs) ∙ ap sum e ∙ sum-map f ys
 
 -- a vector whose whole slice was written
 pub written : {X : Type 0} (items slice new : List X) (n : ℕ) → slice ≡ items → length slice ≡ n

@@ -1,5 +1,5 @@
 -- The files of a reply but its root.
-use Rattle.std.proofs.Common.{arith, ◌≡◌, ℕ, ◌+◌, ◌⊎◌, ◌||◌, ◌&&◌, not, Bool, cond, Some, List, [], ◌∷◌, ◌++◌, filter, take, refl, ap, ◌∙◌, eqb, slice_get, slice_index, append_assoc, append-nil}
+use Rattle.std.proofs.Common.{arith, ◌≡◌, ℕ, ◌+◌, ◌||◌, ◌&&◌, not, Bool, cond, Some, List, [], ◌∷◌, ◌++◌, filter, take, refl, ap, ◌∙◌, eqb, slice_get, slice_index}
 use Rattle.std.proofs.lemmas.Bool.{ne_eqb, and_right}
 use Rattle.std.proofs.lemmas.List.Elements.{filter_more}
 use Rattle.std.proofs.lemmas.Option.{slice_get_within, get_or_from_slice_get}
@@ -10,27 +10,13 @@ use Rattle.first_reach.specs.Reply.{reply_at, others_at, RootIsFirstToo}
 use Rattle.first_reach.proofs.Lists.{filter_on, filter_filter, filter_none, has_is}
 
 -- one more file
-others_more : (first : List ℕ) (i r k file : ℕ) (files : List ℕ) → slice_get files k ≡ Some file
+pub others_more : (first : List ℕ) (i r k file : ℕ) (files : List ℕ) → slice_get files k ≡ Some file
     → others_at first i r (take (k + 1) files) ≡ others_at first i r (take k files)
     ++ cond (not (eqb file r) && eqb (slice_index first file) i) (file ∷ []) []
 others_more first i r k file files at =
     let p : ℕ → Bool = λ g. not (eqb g r) && eqb (slice_index first g) i in
     filter_more p files k file (slice_get_within files k file at)
     ∙ ap (λ g. filter p (take k files) ++ cond (p g) (g ∷ []) []) (get_or_from_slice_get files k file file at)
-
-pub others_put : (first : List ℕ) (i r k file : ℕ) (files start was new : List ℕ) → slice_get files k ≡ Some file
-    → (file ≡ r → ⊥) → slice_index first file ≡ i
-    → was ≡ start ++ others_at first i r (take k files) → new ≡ was ++ file ∷ []
-    → new ≡ start ++ others_at first i r (take (k + 1) files)
-others_put first i r k file files start was new at other here before put =
-    grind (arith, append_assoc, others_more first i r k file files at)
-
-pub others_skip : (first : List ℕ) (i r k file : ℕ) (files start was new : List ℕ) → slice_get files k ≡ Some file
-    → (file ≡ r) ⊎ (slice_index first file ≡ i → ⊥)
-    → was ≡ start ++ others_at first i r (take k files) → new ≡ was
-    → new ≡ start ++ others_at first i r (take (k + 1) files)
-others_skip first i r k file files start was new at why before same =
-    grind (arith, append-nil, others_more first i r k file files at)
 
 -- a reply is its root, where it carries that, and the others
 parts : (mode : Mode) (reach : ℕ → List ℕ) (first : List ℕ) (i r : ℕ)

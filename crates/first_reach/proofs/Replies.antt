@@ -30,16 +30,9 @@ replies_are : (mode : Mode) (reach : ℕ → List ℕ) (roots : List (Option ℕ
     (root_first reach root))
 replies_are mode reach [] sent i k root own e = let bad : None ≡ Some root = e in absurd (search rules)
 replies_are mode reach (r ∷ roots) sent i zero root own e =
-    let same : r ≡ root = cc in
-    let F : ℕ → ℕ = λ g. first_from reach (i + 1) roots g in
-    let q : Option ℕ → ℕ → Bool = λ x g.
-    repeats mode x g || (not (has g sent) && eqb (cond (has g (reached reach r)) i (F g)) (i + 0)) in
-    let f : filter (λ g. repeats mode r g || not (has g sent)) (root_first reach r) ≡ filter (q r)
-    (root_first reach r) =
-    filter_on _ _ (root_first reach r) (λ g h.
+    let same : root ≡ r = cc in rw same (ap (λ (l : List ℕ). Some l) (filter_on _ _ (root_first reach r) (λ g h.
     let of_root = has_root_first reach r (λ x is. own 0 x (ap (λ (y : Option ℕ). Some y) is)) g in
-    grind (arith, eq-eqb)) in
-    λ j. Some ((f ∙ ap (λ x. filter (q x) (root_first reach x)) same) j)
+    grind (arith, eq-eqb))))
 replies_are mode reach (r ∷ roots) sent i (suc k) root own e =
     replies_are mode reach roots (sent ++ reached reach r) (i + 1) k root (λ j x is. own (suc j) x is) e
     ∙ ap (λ (l : List ℕ). Some l) (filter_on _ _ (root_first reach root) (λ g h.

@@ -1,10 +1,6 @@
 -- Laws of files in the order of their names.
-use Rattle.std.proofs.lemmas.Grind.{common_steps}
-use Rattle.std.proofs.Common.{◌≡◌, ◌∙◌, sym, ℕ, ◌+◌, ◌-◌, ◌<◌, ◌≤◌, List, [], ◌∷◌, length, get_or, arith, Less, Equal, Greater, map}
-use Rattle.std.specs.Prelude.{◌↔◌}
+use Rattle.std.proofs.Common.{◌≡◌, ◌∙◌, sym, ℕ, ◌-◌, ◌<◌, ◌≤◌, List, [], ◌∷◌, length, get_or, arith, Less, Equal, Greater, map, ◌↔◌, IsSortedByKey, nat_cmp}
 use Rattle.std.specs.Cmp.Lexicographic.{slice_cmp}
-use Rattle.std.specs.List.Sorted.{IsSortedByKey}
-use Rattle.std.specs.Ordering.{nat_cmp}
 use Rattle.std.proofs.lemmas.Cmp.{nat_list_cmp_total}
 use Rattle.std.proofs.lemmas.Map.Lookups.{exact_bytes}
 use Rattle.std.proofs.lemmas.List.{get_or-map, length-map}
@@ -28,24 +24,12 @@ pub sorted_names : (files : List FileDesc) → NamesRise (map name_of files)
     → IsSortedByKey name_of (slice_cmp nat_cmp) files
 sorted_names files order k d low h = grind (arith, length-map, name_is, nat_list_cmp_total)
 
--- one more pair of neighbours
-pub order_more : (files : List FileDesc) (n : ℕ) → slice_cmp nat_cmp (name_at files (n - 1)) (name_at files n) ≡ Less
-    → 0 < n
-    → ((k : ℕ) → k + 1 < n → slice_cmp nat_cmp (name_at files k) (name_at files (k + 1)) ≡ Less) → (k : ℕ)
-    → k + 1 < n + 1
-    → slice_cmp nat_cmp (name_at files k) (name_at files (k + 1)) ≡ Less
-order_more files n last some old k h = grind (arith, common_steps)
-
 -- names of neighbours as an index gives them
 pub pair_names : (files : List FileDesc) (n : ℕ) (f g : FileDesc) → 0 < n → n < length files
     → f ≡ get_or files (n - 1) f → g ≡ get_or files n g
     → (slice_cmp nat_cmp (name_of f) (name_of g) ≡ Less)
     ↔ (slice_cmp nat_cmp (name_at files (n - 1)) (name_at files n) ≡ Less)
 pair_names files n f g some h ef eg = grind (arith, name_is)
-
-pub last_pair : (files : List FileDesc) (n : ℕ) → 0 < n → n < length files → NamesRise (map name_of files)
-    → slice_cmp nat_cmp (name_at files (n - 1)) (name_at files n) ≡ Less
-last_pair files n some h order = grind (arith, length-map)
 
 -- ---- what a search finds
 

@@ -1,9 +1,7 @@
 -- Files by their positions in set order, and what lists of positions say of files.
-use Rattle.std.proofs.Common.{◌≡◌, ◌∙◌, sym, refl, ℕ, ◌+◌, ◌<◌, List, [], length, map, get_or, subst, arith, inl, inr, Vec, Global}
+use Rattle.std.proofs.Common.{◌≡◌, refl, ℕ, ◌+◌, ◌<◌, List, [], length, map, get_or, arith, inl, inr, Vec, Global, Contains, ◌↔◌, IsTrue, ◌==◌, eqb-true}
 use Rattle.std.specs.Set.{is_member}
-use Rattle.std.specs.Prelude.{Contains, ◌↔◌, IsTrue, ◌==◌}
 use Rattle.std.specs.Cmp.{nat_eq_equiv}
-use Rattle.std.proofs.lemmas.Bool.{eqb-true}
 use Rattle.std.proofs.lemmas.Grind.{common_steps}
 use Rattle.std.proofs.lemmas.List.{get_or-map, get_or_default, length-map}
 use Rattle.std.proofs.lemmas.Map.Views.{Contains-from_any, list_any-from_Contains}
@@ -11,19 +9,20 @@ use Rattle.bit_matrix.specs.Bits.{Bits}
 use Rattle.bit_matrix.specs.Changes.{Has, columns_of}
 use Rattle.digraph.specs.Edges.{Graph, Edge, IsFalling, IsWithin, graph_of}
 use Rattle.digraph.specs.Leads.{Leads, here, through}
-use Rattle.digraph.specs.Reaches.{IsReach as IsReachList, AreReaches}
+use Rattle.digraph.specs.Reaches.{IsReach as IsReachList}
 use Rattle.digraph.specs.Ranks.{rank_in}
 use Rattle.digraph.specs.Renumbered.{IsRenumbered, node_at}
 use Rattle.digraph.specs.declared.ranks.Ranking.{Ranking}
+use Rattle.digraph.proofs.Gathering.{joined_two}
 use Rattle.digraph.proofs.Renumbering.{before_far, map_members, renumbered_falls, ways_to, ways_from}
-use Rattle.digraph.proofs.Rows.{edge_below, length_graph}
+use Rattle.digraph.proofs.Rows.{length_graph}
 use Rattle.digraph.proofs.Ways.{leads_map, leads_le}
 use Rattle.proto_desc.specs.declared.file.FileDesc.{FileDesc}
 use Rattle.proto_links.specs.Graphs.{IsGraph, IsPublicGraph}
-use Rattle.proto_links.specs.Imports.{Imports, ImportsPublicly, Reaches}
+use Rattle.proto_links.specs.Imports.{Imports, ImportsPublicly}
 use Rattle.proto_links.specs.Layout.{IsLaidOut, linked}
-use Rattle.proto_links.specs.Linked.{AreLinked, IsSetOrder, AreRanks, IsReach, reach_of, sees}
-use Rattle.proto_links.specs.Positioned.{ArePositioned, AreFilesReached, AreFilesSeen, AreRanked, file_imports, file_public_imports, import_rows, public_rows}
+use Rattle.proto_links.specs.Linked.{AreLinked, IsReach}
+use Rattle.proto_links.specs.Positioned.{ArePositioned, AreFilesReached, AreFilesSeen, AreRanked, file_imports, import_rows}
 use Rattle.proto_links.specs.Visible.{Sees}
 use Rattle.proto_links.specs.declared.graph.Graph.{Graph as ImportGraph}
 use Rattle.proto_links.specs.declared.links.Links.TheInside.{Inside}
@@ -41,14 +40,7 @@ public_within is a b edge = let named = ((is.edges a b).0 edge).3 in omega (arit
 
 pub rows_within : (rows : List (Vec ℕ Global)) → IsWithin (graph_of rows) (length (graph_of rows))
     → IsWithin (graph_of rows) (length rows)
-rows_within rows within = subst (IsWithin (graph_of rows)) (length_graph rows) within
-
--- a list has only positions
-pub positions_below : (g : Graph) (lists : List (List ℕ)) (n : ℕ) → IsFalling g → AreReaches g lists n → (a k : ℕ)
-    → a < n → Contains (get_or lists a []) k
-    → k < n
-positions_below g lists n falls all a k h w = let le = leads_le g k a falls (((all a h).members k).0 w) in
-    omega (arith, le, h)
+rows_within rows within = rw (length_graph rows) at within
 
 -- ---- words
 
@@ -69,28 +61,13 @@ layout ranking positioned reach seen =
 
 -- `has` is membership
 pub has_is : (x : ℕ) (xs : List ℕ) → IsTrue (is_member ◌==◌ xs x) ↔ Contains xs x
-has_is x xs = (λ e. Contains-from_any (λ a b h. eqb-true a b h) x xs e, λ w. list_any-from_Contains nat_eq_equiv x xs w)
+has_is x xs = (Contains-from_any eqb-true x xs, list_any-from_Contains nat_eq_equiv x xs)
 
 -- ---- ranks and order
 
 module _ {files : List FileDesc} {graph : ImportGraph} {ranking : Ranking} (r : AreRanked files graph ranking) where
   order_size : length ranking.order.items ≡ length files
   order_size = omega (arith, r.order.size, r.ranks.size, r.imports.size)
-
-  ranks_are : AreRanks files (rank_of ranking)
-  ranks_are = record {
-    above = λ a b i. r.ranks.above a b ((r.imports.edges a b).1 i);
-    least = λ a h. (elim (r.ranks.least a (omega (arith, h, r.imports.size))) [
-      | inl zero ↦ inl zero
-      | inr (b, edge, more) ↦ inr (b, (r.imports.edges a b).0 edge, more)
-    ]);
-  }
-
-  order_is : IsSetOrder (length files) (rank_of ranking) ranking.order.items
-  order_is = record {
-    rises = r.order.rises;
-    every = λ a. (let whole = r.order.whole a in grind (arith, order_size));
-  }
 
 -- ---- files and positions
 
@@ -104,15 +81,8 @@ module _ {files : List FileDesc} {graph : ImportGraph} {ranking : Ranking} {posi
 
   -- imports go to lower positions
   pub rows_fall : IsFalling (import_rows positioned)
-  rows_fall =
-      renumbered_falls (file_imports graph) (file_imports graph) ranking.ranks.items ranking.order.items
+  rows_fall = renumbered_falls (file_imports graph) (file_imports graph) ranking.ranks.items ranking.order.items
       (import_rows positioned) m.ranked.ranks m.ranked.order (λ a b edge. edge) m.imports
-
-  pub public_falls : IsFalling (public_rows positioned)
-  public_falls =
-      renumbered_falls (file_imports graph) (file_public_imports graph) ranking.ranks.items ranking.order.items
-      (public_rows positioned) m.ranked.ranks m.ranked.order (λ a b edge. (m.ranked.imports.edges a b).1
-      (public_imports files a b ((m.ranked.public_imports.edges a b).0 edge))) m.public_imports
 
   -- each file has a position, and is the file there
   position_below : (a : ℕ) → a < length files → position_of positioned a < length positioned.imports.items
@@ -123,61 +93,42 @@ module _ {files : List FileDesc} {graph : ImportGraph} {ranking : Ranking} {posi
 
   -- ---- ways between positions, and between files
 
-  edge_to : (k j : ℕ) → Edge (import_rows positioned) k j → Imports files (file_at ranking k) (file_at ranking j)
-  edge_to k j edge =
-      let inside = edge_below (import_rows positioned) k j edge in
-      let real = (m.imports.edges k j (omega (arith, inside, m.imports.size)) (m.imports.within k j edge)).0 edge in
-      (m.ranked.imports.edges (file_at ranking k) (file_at ranking j)).0 real
+  edge_is : (a b : ℕ) → a < length files → b < length files
+      → Edge (import_rows positioned) (position_of positioned a) (position_of positioned b) ↔ Imports files a b
+  edge_is a b ha hb = joined_two
+      (rw (file_there a ha, file_there b hb) at (m.imports.edges (position_of positioned a) (position_of positioned b)
+      (omega (arith, position_below a ha, rows_size)) (omega (arith, position_below b hb, rows_size))))
+      (m.ranked.imports.edges a b)
 
-  edge_from : (a b : ℕ) → a < length files → Imports files a b
-      → Edge (import_rows positioned) (position_of positioned a) (position_of positioned b)
-  edge_from a b h i =
-      let k = position_of positioned a in
-      let j = position_of positioned b in
-      let hk = position_below a h in
-      let hj = position_below b i.2.0 in
-      (m.imports.edges k j (omega (arith, hk, rows_size)) (omega (arith, hj, rows_size))).1
-      (rw (file_there a h, file_there b i.2.0) ((m.ranked.imports.edges a b).1 i))
-
-  way_to : {P : ℕ → ℕ → Type 0} {g rows : Graph} → IsRenumbered g ranking.order.items rows
-      → ((a b : ℕ) → Edge g a b ↔ P a b) → (k j : ℕ) → Leads (Edge rows) k j
-      → Leads P (file_at ranking k) (file_at ranking j)
-  way_to {P = P} {g = g} {rows = rows} r edges k j way =
-      leads_map (Edge g) P (λ x y. (edges x y).0) (file_at ranking k) (file_at ranking j)
-      (ways_to g ranking.order.items rows r k j way)
-
-  way_from : {P : ℕ → ℕ → Type 0} {g rows : Graph} → IsRenumbered g ranking.order.items rows
+  way_is : {P : ℕ → ℕ → Type 0} {g rows : Graph} → IsRenumbered g ranking.order.items rows
       → ((a b : ℕ) → Edge g a b ↔ P a b) → length g ≡ length files → IsWithin g (length g) → (a c : ℕ)
-      → a < length files → Leads P c a
-      → Leads (Edge rows) (position_of positioned c) (position_of positioned a)
-  way_from {P = P} {g = g} {rows = rows} r edges size within a c h way =
-      ways_from g ranking.order.items positioned.positions.items rows m.positions
-      (omega (arith, size, order_size m.ranked)) within r c a (omega (arith, h, order_size m.ranked))
-      (leads_map P (Edge g) (λ x y. (edges x y).1) c a way)
-
-  -- ---- what a file reaches
-
-  reach_members : (a c : ℕ) (list : List ℕ) → a < length files
-      → IsReachList (import_rows positioned) (position_of positioned a) list
-      → Contains (map (file_at ranking) list) c ↔ Reaches files a c
-  reach_members a c list h is = (
-    λ w. (let (k, inside, at) = (map_members (file_at ranking) list c).0 w in
-        subst (λ x. Reaches files x c) (file_there a h)
-        (subst (Reaches files (file_at ranking (position_of positioned a))) at
-        (way_to m.imports m.ranked.imports.edges k (position_of positioned a) ((is.members k).0 inside)))),
-    λ way. (map_members (file_at ranking) list c).1 (
+      → a < length files → (Leads P c a → c < length files)
+      → ((k : ℕ) × Leads (Edge rows) k (position_of positioned a) × (file_at ranking k ≡ c)) ↔ Leads P c a
+  way_is {P = P} {g = g} {rows = rows} r edges size within a c h inside = (
+    λ (k, way, at). rw (file_there a h, at) at (leads_map (Edge g) P (λ x y. (edges x y).0) (file_at ranking k) _
+        (ways_to g ranking.order.items rows r k (position_of positioned a) way)),
+    λ way. (
       position_of positioned c,
-      (is.members (position_of positioned c)).1
-          (way_from m.imports m.ranked.imports.edges m.ranked.imports.size (graph_within m.ranked.imports) a c h way),
-      file_there c (leads_inside files c a h way),
+      ways_from g ranking.order.items positioned.positions.items rows m.positions
+          (omega (arith, size, order_size m.ranked)) within r c a (omega (arith, h, order_size m.ranked))
+          (leads_map P (Edge g) (λ x y. (edges x y).1) c a way),
+      file_there c (inside way),
     ),
   )
+
+  -- ---- what a file reaches
 
   reach_is : (a : ℕ) (list : List ℕ) → a < length files
       → IsReachList (import_rows positioned) (position_of positioned a) list
       → IsReach files (rank_of ranking) a (map (file_at ranking) list)
   reach_is a list h is = record {
-    members = λ c. reach_members a c list h is;
+    members = λ c. (
+        let ways = way_is m.imports m.ranked.imports.edges m.ranked.imports.size (graph_within m.ranked.imports) a c h
+        (leads_inside files c a h) in
+        let list_is = map_members (file_at ranking) list c in (
+          λ w. (let (k, inside, at) = list_is.0 w in ways.0 (k, (is.members k).0 inside, at)),
+          λ r. (let (k, way, at) = ways.1 r in list_is.1 (k, (is.members k).1 way, at)),
+        ));
     rises = λ k more. (
         let next : k + 1 < length list = omega (arith, more, length-map list (file_at ranking)) in
         let last = get_or list (k + 1) 0 in
@@ -185,8 +136,7 @@ module _ {files : List FileDesc} {graph : ImportGraph} {ranking : Ranking} {posi
         ((is.members last).0 (k + 1, next, grind (arith, common_steps))) in
         let inside = position_below a h in
         let far = before_far ranking.ranks.items ranking.order.items m.ranked.order (get_or list k 0) last
-        (is.rises k next)
-        (omega (arith, below, inside, rows_size)) in
+        (is.rises k next) (omega (arith, below, inside, rows_size)) in
         rw (
           get_or-map (file_at ranking) list k 0 0 (omega (arith, next)),
           get_or-map (file_at ranking) list (k + 1) 0 0 next,
@@ -201,68 +151,43 @@ module _ {files : List FileDesc} {graph : ImportGraph} {ranking : Ranking} {posi
   public_seen a b (through _ e edge more) = inr (e, public_imports files a e edge, more)
 
   module _ {seen : Bits} (s : AreFilesSeen ranking positioned seen) where
-    row_inside : (k : ℕ) → k < length positioned.imports.items → k < s.reach.rows
-    row_inside k h = omega (arith, h, rows_size, s.reaches.rows)
-
     column_inside : (b : ℕ) → b < length files → b < columns_of s.reach
     column_inside b h = omega (arith, h, order_size m.ranked, s.reaches.columns)
 
+    row_inside : (a : ℕ) → a < length files → position_of positioned a < s.reach.rows
+    row_inside a h = omega (arith, position_below a h, rows_size, s.reaches.rows)
+
     -- by public imports
-    reached_to : (k b : ℕ) → k < length positioned.imports.items → b < length files → Has s.reach k b
-        → Leads (ImportsPublicly files) b (file_at ranking k)
-    reached_to k b hk hb w =
-        let (j, way, at) = (s.reaches.members k b (row_inside k hk) (column_inside b hb)).0 w in
-        subst (λ x. Leads (ImportsPublicly files) x (file_at ranking k)) at
-        (way_to m.public_imports m.ranked.public_imports.edges j k way)
-
-    reached_from : (d b : ℕ) → d < length files → b < length files → Leads (ImportsPublicly files) b d
-        → Has s.reach (position_of positioned d) b
-    reached_from d b hd hb way =
-        (s.reaches.members (position_of positioned d) b (row_inside (position_of positioned d) (position_below d hd))
-        (column_inside b hb)).1 (
-          position_of positioned b,
-          way_from m.public_imports m.ranked.public_imports.edges m.ranked.public_imports.size
-              (public_within m.ranked.public_imports) d b hd way,
-          file_there b hb,
-        )
-
-    seen_to : (a b : ℕ) → a < length files → b < length files → Has seen (position_of positioned a) b → SeesBy files a b
-    seen_to a b ha hb w =
-        let p = position_of positioned a in
-        elim ((s.joined.members p b (row_inside p (position_below a ha)) (column_inside b hb)).0 w) [
-          | inl own ↦
-              public_seen a b
-              (subst (Leads (ImportsPublicly files) b) (file_there a ha) (reached_to p b (position_below a ha) hb own))
-          | inr (k, edge, v) ↦
-              let inside : k < length positioned.imports.items =
-              (let below = m.imports.within p k edge in omega (arith, below, rows_size)) in
-              inr (
-                file_at ranking k,
-                subst (λ x. Imports files x (file_at ranking k)) (file_there a ha) (edge_to p k edge),
-                reached_to k b inside hb v,
-              )
-        ]
-
-    seen_from : (a b : ℕ) → a < length files → b < length files → SeesBy files a b
-        → Has seen (position_of positioned a) b
-    seen_from a b ha hb by =
-        let p = position_of positioned a in
-        (s.joined.members p b (row_inside p (position_below a ha)) (column_inside b hb)).1 (elim by [
-          | inl same ↦ inl (subst (λ x. Has s.reach p x) same (reached_from a a ha ha here))
-          | inr (d, i, way) ↦ inr (position_of positioned d, edge_from a d ha i, reached_from d b i.2.0 hb way)
-        ])
+    reached : (a b : ℕ) → a < length files → b < length files
+        → Has s.reach (position_of positioned a) b ↔ Leads (ImportsPublicly files) b a
+    reached a b ha hb = joined_two
+        (s.reaches.members (position_of positioned a) b (row_inside a ha) (column_inside b hb))
+        (way_is m.public_imports m.ranked.public_imports.edges m.ranked.public_imports.size
+        (public_within m.ranked.public_imports) a b ha (λ way. hb))
 
     seen_is : (a b : ℕ) → a < length files → b < length files → Has seen (position_of positioned a) b ↔ Sees files a b
     seen_is a b ha hb =
-        let sees = sees_is files m.ranked.none_bad a b in
-        (λ w. sees.0 (seen_to a b ha hb w), λ w. seen_from a b ha hb (sees.1 w))
+        let joined = s.joined.members (position_of positioned a) b (row_inside a ha) (column_inside b hb) in
+        joined_two {B = SeesBy files a b} (
+          λ w. elim (joined.0 w) [
+            | inl own ↦ public_seen a b ((reached a b ha hb).0 own)
+            | inr (k, edge, v) ↦
+                let (less, at) = m.positions.position k (m.imports.within (position_of positioned a) k edge) in
+                let inside : file_at ranking k < length files = omega (arith, less, order_size m.ranked) in
+                inr (
+                  file_at ranking k,
+                  (edge_is a (file_at ranking k) ha inside).0 (rw at edge),
+                  (reached (file_at ranking k) b inside hb).0 (rw at v),
+                )
+          ],
+          λ by. joined.1 (elim by [
+            | inl same ↦ inl ((reached a b ha hb).1 (rw same here))
+            | inr (d, i, way) ↦
+                inr (position_of positioned d, (edge_is a d ha i.2.0).1 i, (reached d b i.2.0 hb).1 way)
+          ]),
+        ) (sees_is files m.ranked.none_bad a b)
 
 -- ---- the links
-
-named_list : (f : ℕ → ℕ) (lists named : List (List ℕ)) (k : ℕ) → named ≡ map (λ (list : List ℕ). map f list) lists
-    → k < length lists
-    → get_or named k [] ≡ map f (get_or lists k [])
-named_list f lists named k e h = grind (arith, get_or-map)
 
 named_length : (f : ℕ → ℕ) (lists named : List (List ℕ)) → named ≡ map (λ (list : List ℕ). map f list) lists
     → length named ≡ length lists
@@ -289,27 +214,29 @@ module _ {files : List FileDesc} {graph : ImportGraph} {ranking : Ranking} {posi
   laid_out =
       grind (arith, common_steps, named_length, order_size, position_inside, positions_size, ranks_size, rows_size)
 
-  reach_of_file : (a : ℕ) → a < length files → IsReach files (rank_of ranking) a (reach_of (linked kept) a)
-  reach_of_file a h =
-      let k = position_of positioned a in
-      let inside = position_below m a h in
-      let list = get_or r.lists k [] in
-      let named = named_list (file_at ranking) r.lists reach k r.named (omega (arith, inside, r.size)) in
-      subst (IsReach files (rank_of ranking) a) (sym (reach_there kept a (omega (arith, h, positions_size)) ∙ named))
-      (reach_is m a list h (r.reaches k inside))
-
-  sees_of_file : (a b : ℕ) → a < length files → b < length files → IsTrue (sees (linked kept) a b) ↔ Sees files a b
-  sees_of_file a b ha hb =
-      let there = sees_there kept a (omega (arith, ha, positions_size)) b
-      (omega (arith, hb, ranks_size, laid_out.columns)) in
-      let is = seen_is m s a b ha hb in (λ t. is.0 (sym there ∙ t), λ v. there ∙ is.1 v)
-
   pub linked_of : AreLinked files (linked kept)
   linked_of = record {
     whole = m.ranked.none_bad;
     count = ranks_size;
-    ranks = ranks_are m.ranked;
-    order = order_is m.ranked;
-    reach = reach_of_file;
-    sees = sees_of_file;
+    ranks = record {
+      above = λ a b i. m.ranked.ranks.above a b ((m.ranked.imports.edges a b).1 i);
+      least = λ a h. (elim (m.ranked.ranks.least a (omega (arith, h, m.ranked.imports.size))) [
+        | inl zero ↦ inl zero
+        | inr (b, edge, more) ↦ inr (b, (m.ranked.imports.edges a b).0 edge, more)
+      ]);
+    };
+    order = record {
+      rises = m.ranked.order.rises;
+      every = λ a. (let whole = m.ranked.order.whole a in grind (arith, order_size));
+    };
+    reach = λ a h. (
+        let k = position_of positioned a in
+        let inside = position_below m a h in
+        rw (
+          reach_there kept a (omega (arith, h, positions_size)),
+          r.named,
+          get_or-map (λ (list : List ℕ). map (file_at ranking) list) r.lists k [] [] (omega (arith, inside, r.size)),
+        ) (reach_is m a (get_or r.lists k []) h (r.reaches k inside)));
+    sees = λ a b ha hb. rw (sees_there kept a (omega (arith, ha, positions_size)) b
+        (omega (arith, hb, ranks_size, laid_out.columns))) (seen_is m s a b ha hb);
   }

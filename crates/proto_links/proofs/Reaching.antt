@@ -1,6 +1,5 @@
 -- What files reach and see, and when none of their imports is bad.
-use Rattle.std.proofs.Common.{◌≡◌, ℕ, ◌<◌, ◌≤◌, List, length, refl, subst, arith, inl, inr, ◌⊎◌}
-use Rattle.std.specs.Prelude.{Contains, ◌↔◌}
+use Rattle.std.proofs.Common.{◌≡◌, ℕ, ◌<◌, ◌≤◌, List, length, refl, subst, arith, inl, inr, ◌⊎◌, Contains, ◌↔◌}
 use Rattle.digraph.specs.Edges.{Graph, Edge}
 use Rattle.digraph.specs.Leads.{Leads, here, through}
 use Rattle.digraph.specs.Reaches.{HasNoCycle}
@@ -31,13 +30,10 @@ abbrev pub SeesBy : List FileDesc → ℕ → ℕ → Type 0
 SeesBy files a b = (a ≡ b) ⊎ ((d : ℕ) × Imports files a d × Leads (ImportsPublicly files) b d)
 
 module _ (files : List FileDesc) (none : NoneBad files) (a : ℕ) where
-  sees_more : (b c : ℕ) → SeesBy files a b → (b ≡ a → ⊥) → ImportsPublicly files b c → SeesBy files a c
-  sees_more b c seen other p = grind (arith, leads_last)
-
   sees_to : (b : ℕ) → Sees files a b → SeesBy files a b
   sees_to _ itself = inl refl
   sees_to _ (imported b i) = inr (b, i, here)
-  sees_to _ (re_exported b c s other p) = sees_more b c (sees_to b s) other p
+  sees_to _ (re_exported b c s other p) = let seen = sees_to b s in grind (arith, leads_last)
 
   -- an import leads to no file that imports it, so what it leads to is seen
   sees_on : (d b e : ℕ) → Imports files a d → Reaches files d e → Sees files a e → Leads (ImportsPublicly files) b e
@@ -47,12 +43,14 @@ module _ (files : List FileDesc) (none : NoneBad files) (a : ℕ) where
       sees_on d b f i (leads_last (Imports files) e f d r (public_imports files e f p))
       (re_exported e f s (λ same. no_way_back files a d none i (subst (Reaches files d) same r)) p) more
 
-  sees_from : (b : ℕ) → SeesBy files a b → Sees files a b
-  sees_from b (inl same) = subst (Sees files a) same itself
-  sees_from b (inr (d, i, way)) = sees_on d b d i here (imported d i) way
-
   pub sees_is : (b : ℕ) → SeesBy files a b ↔ Sees files a b
-  sees_is b = (sees_from b, sees_to b)
+  sees_is b = (
+    λ w. elim w [
+      | inl same ↦ subst (Sees files a) same itself
+      | inr (d, i, way) ↦ sees_on d b d i here (imported d i) way
+    ],
+    sees_to b,
+  )
 
 -- ---- files without a bad import
 
@@ -73,8 +71,7 @@ module _ {files : List FileDesc} {g : Graph} {ranks : List ℕ} (is : IsGraph fi
   none_bad whole a p k (i, w, at, wrong) = not_wrong a i k (whole a) w wrong
 
 pub no_cycle : {files : List FileDesc} {g : Graph} → IsGraph files g → NoneBad files → HasNoCycle g
-no_cycle {files} {g} is none a b edge way =
-    no_way_back files a b none ((is.edges a b).0 edge)
+no_cycle {files} {g} is none a b edge way = no_way_back files a b none ((is.edges a b).0 edge)
     (leads_map (Edge g) (Imports files) (λ x y. (is.edges x y).0) a b way)
 
 pub none_missing : (files : List FileDesc) → NoneBad files → (a : ℕ) → HasMissing files (imports_at files a) → ⊥

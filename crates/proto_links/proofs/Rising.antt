@@ -1,7 +1,6 @@
 -- Lists that rise by one order and have the same members are the same.
 use Rattle.std.proofs.lemmas.Grind.{common_steps}
-use Rattle.std.proofs.Common.{◌≡◌, ◌∙◌, sym, ℕ, zero, suc, ◌+◌, ◌<◌, List, [], ◌∷◌, length, get_or, ap, refl, subst, arith, ◌⊎◌}
-use Rattle.std.specs.Prelude.{Contains}
+use Rattle.std.proofs.Common.{◌≡◌, sym, ℕ, zero, suc, ◌+◌, ◌<◌, List, [], ◌∷◌, length, get_or, ap, refl, subst, arith, ◌⊎◌, Contains}
 
 -- each comes before the next one
 abbrev pub Rises : {X : Type 0} → (X → X → Type 0) → List X → Type 0
@@ -38,31 +37,15 @@ rest_rises R x xs up k d h = subst (R (get_or xs k d)) (next_behind x xs k d) (u
 pub first_two : {X : Type 0} (R : X → X → Type 0) (x y : X) (xs : List X) → Rises R (x ∷ y ∷ xs) → R x y
 first_two R x y xs up = up zero x (omega arith)
 
--- a list rises without its second member
-skip : {X : Type 0} (R : X → X → Type 0) → IsStrict R → (x y : X) (xs : List X) → Rises R (x ∷ y ∷ xs)
-    → Rises R (x ∷ xs)
-skip R strict x y [] up k d h = absurd (omega (arith, h))
-skip R strict x y (z ∷ xs) up zero d h =
-    strict.trans x y z (first_two R x y (z ∷ xs) up) (first_two R y z xs (rest_rises R x (y ∷ z ∷ xs) up))
-skip R strict x y (z ∷ xs) up (suc k) d h =
-    let rest = rest_rises R y (z ∷ xs) (rest_rises R x (y ∷ z ∷ xs) up) k d (omega (arith, h)) in
-    subst (R (get_or (z ∷ xs) k d)) (sym (next_behind x (z ∷ xs) k d)) rest
-
 pub first_before : {X : Type 0} (R : X → X → Type 0) → IsStrict R → (x : X) (xs : List X) → Rises R (x ∷ xs) → (z : X)
     → Contains xs z → R x z
 first_before R strict x [] up z w = absurd (none_in z w)
 first_before R strict x (y ∷ xs) up z w =
     let cases = front_or_behind y xs z w in
-    grind (arith, first_two R x y xs up, first_before R strict x xs (skip R strict x y xs up) z)
+    let rest = first_before R strict y xs (rest_rises R x (y ∷ xs) up) z in
+    grind (arith, first_two R x y xs up, rest, strict.trans x y z)
 
 -- ---- one list
-
-same_first : {X : Type 0} (R : X → X → Type 0) → IsStrict R → (x y : X) (xs ys : List X) → Rises R (x ∷ xs)
-    → Rises R (y ∷ ys) → (x ≡ y) ⊎ Contains xs y
-    → (y ≡ x) ⊎ Contains ys x → x ≡ y
-same_first R strict x y xs ys up over first other =
-    let before = first_before R strict x xs up y in let after = first_before R strict y ys over x in
-    grind (arith, strict.never x, strict.trans x y x)
 
 same_rest : {X : Type 0} (R : X → X → Type 0) → IsStrict R → (x y : X) (xs ys : List X) → Rises R (x ∷ xs) → x ≡ y
     → ((z : X) → Contains (x ∷ xs) z → Contains (y ∷ ys) z) → (z : X) → Contains xs z → Contains ys z
@@ -71,15 +54,15 @@ same_rest R strict x y xs ys up same to z w =
     grind (arith, first_before R strict x xs up z w, strict.never x)
 
 pub one_rising : {X : Type 0} (R : X → X → Type 0) → IsStrict R → (xs ys : List X) → Rises R xs → Rises R ys
-    → ((x : X) → Contains xs x → Contains ys x)
-    → ((x : X) → Contains ys x → Contains xs x) → xs ≡ ys
+    → ((x : X) → Contains xs x → Contains ys x) → ((x : X) → Contains ys x → Contains xs x) → xs ≡ ys
 one_rising R strict [] [] up over to from = refl
 one_rising R strict [] (y ∷ ys) up over to from = absurd (none_in y (from y (front y ys)))
 one_rising R strict (x ∷ xs) [] up over to from = absurd (none_in x (to x (front x xs)))
 one_rising R strict (x ∷ xs) (y ∷ ys) up over to from =
-    let same : x ≡ y = same_first R strict x y xs ys up over (front_or_behind x xs y (from y (front y ys)))
-    (front_or_behind y ys x (to x (front x xs))) in
+    let first = front_or_behind x xs y (from y (front y ys)) in
+    let other = front_or_behind y ys x (to x (front x xs)) in
+    let before = first_before R strict x xs up y in let after = first_before R strict y ys over x in
+    let same : x ≡ y = grind (arith, strict.never x, strict.trans x y x) in
     let rest : xs ≡ ys = one_rising R strict xs ys (rest_rises R x xs up) (rest_rises R y ys over)
-    (same_rest R strict x y xs ys up same to)
-    (same_rest R strict y x ys xs over (sym same) from) in
-    ap (λ z. z ∷ xs) same ∙ ap (λ zs. y ∷ zs) rest
+    (same_rest R strict x y xs ys up same to) (same_rest R strict y x ys xs over (sym same) from) in
+    cc

@@ -1,7 +1,5 @@
 -- What the loops keep that find the files of imports.
-use Rattle.std.proofs.Common.{◌≡◌, ◌∙◌, sym, ℕ, ◌+◌, ◌<◌, List, [], ◌∷◌, ◌++◌, length, map, take, get_or, ap, subst, arith, inl, inr, ◌⊎◌, Vec, Global}
-use Rattle.std.specs.Prelude.{Bool, true, false, Contains, ◌↔◌, IsTrue}
-use Rattle.std.proofs.Math.Seq.{take-length}
+use Rattle.std.proofs.Common.{◌≡◌, ◌∙◌, sym, ℕ, ◌+◌, ◌<◌, List, [], ◌∷◌, ◌++◌, length, map, take, get_or, subst, arith, inl, inr, ◌⊎◌, Vec, Global, Bool, true, false, Contains, ◌↔◌, IsTrue}
 use Rattle.std.proofs.lemmas.Bool.{cases_lt}
 use Rattle.std.proofs.lemmas.Grind.{common_steps}
 use Rattle.std.proofs.lemmas.List.{get_or-map}
@@ -12,7 +10,7 @@ use Rattle.digraph.proofs.Rows.{edge_push}
 use Rattle.digraph.proofs.Visiting.{push_iff}
 use Rattle.proto_desc.specs.declared.file.FileDesc.{FileDesc}
 use Rattle.proto_desc.specs.declared.file.ImportDesc.{ImportDesc}
-use Rattle.proto_links.specs.Graphs.{HasMissing, IsGraph, IsPublicGraph}
+use Rattle.proto_links.specs.Graphs.{HasMissing}
 use Rattle.proto_links.specs.Imports.{imports_of, imports_at, IsNamed, Targets, PublicTargets, Imports, ImportsPublicly, name_of}
 use Rattle.proto_base.specs.NameOrder.{NamesRise}
 use Rattle.proto_links.proofs.Named.{named_once}
@@ -69,8 +67,7 @@ targeting_more {files} {xs} i all_more public_more which r =
 
 -- the new target is the one file of the name
 pub one_more : (files : List FileDesc) {name new : List ℕ} (xs : List ℕ) (t b : ℕ) → NamesRise (map name_of files)
-    → IsNamed files name t → new ≡ xs ++ t ∷ []
-    → Contains new b ↔ (Contains xs b ⊎ IsNamed files name b)
+    → IsNamed files name t → new ≡ xs ++ t ∷ [] → Contains new b ↔ (Contains xs b ⊎ IsNamed files name b)
 one_more files {name} xs t b order n e =
     rw e (joined_end (push_iff xs t b) (named_once files name order t b n, λ e. subst (IsNamed files name) e n))
 
@@ -84,12 +81,8 @@ pub record Rows (P : ℕ → ℕ → Type 0) (n : ℕ) (g : Graph) : Type 0 wher
   pub size : length g ≡ n
   pub edges : (a b : ℕ) → Edge g a b ↔ ((a < n) × P a b)
 
-pub rows_none : (P : ℕ → ℕ → Type 0) (g : Graph) → g ≡ [] → Rows P 0 g
-rows_none P g e = grind (arith, common_steps)
-
 pub rows_more : (P : ℕ → ℕ → Type 0) (n : ℕ) (g new : Graph) (row : List ℕ) → new ≡ g ++ row ∷ []
-    → ((b : ℕ) → Contains row b ↔ P n b) → Rows P n g
-    → Rows P (n + 1) new
+    → ((b : ℕ) → Contains row b ↔ P n b) → Rows P n g → Rows P (n + 1) new
 rows_more P n g new row e members r = rw e (record {
   size = grind (arith, common_steps);
   edges = λ a b. below_more (λ k. P k b) n a (rw r.size at (edge_push g row a b)) (r.edges a b) (members b);
@@ -111,15 +104,6 @@ pub record Graphing (files : List FileDesc) (n : ℕ) (imports public : List (Ve
   pub found : IsTrue whole → (a : ℕ) → a < n → HasMissing files (imports_at files a) → ⊥
   pub lacking : whole ≡ false → (a : ℕ) × HasMissing files (imports_at files a)
 
-found_more : (files : List FileDesc) (n : ℕ) (xs : List ImportDesc) → xs ≡ imports_at files n
-    → ((a : ℕ) → a < n → HasMissing files (imports_at files a) → ⊥)
-    → (HasMissing files xs → ⊥) → (a : ℕ) → a < n + 1 → HasMissing files (imports_at files a) → ⊥
-found_more files n xs e old last a h m = elim (cases_lt a n) [
-  | inl less ↦ old a less m
-  | inr over ↦ (let at : a ≡ n = omega arith in
-      last (subst (HasMissing files) (sym e) (subst (λ k. HasMissing files (imports_at files k)) at m)))
-]
-
 pub graphing_more : {files : List FileDesc} {n : ℕ} {imports public new_imports new_public : List (Vec ℕ Global)}
     {whole part now : Bool} {xs : List ImportDesc} (all some : List ℕ) → Graphing files n imports public whole
     → xs ≡ imports_at files n → graph_of new_imports ≡ graph_of imports ++ all ∷ []
@@ -128,45 +112,25 @@ pub graphing_more : {files : List FileDesc} {n : ℕ} {imports public new_import
     → ((b : ℕ) → Contains all b ↔ Targets files xs b) → ((b : ℕ) → Contains some b ↔ PublicTargets files xs b)
     → (IsTrue part → HasMissing files xs → ⊥) → (part ≡ false → HasMissing files xs)
     → Graphing files (n + 1) new_imports new_public now
-graphing_more {files} {n} {imports} {public} {new_imports} {new_public} {whole} {part} {now} {xs} all some g e ei ep
-    which are_all are_public found lacking = record {
-      all_rows = rows_more (Imports files) n (graph_of imports) (graph_of new_imports) all ei
-          (rw e at are_all) g.all_rows;
-      public_rows = rows_more (ImportsPublicly files) n (graph_of public) (graph_of new_public) some ep
-          (rw e at are_public) g.public_rows;
-      found = λ t. (let both : IsTrue whole × IsTrue part = grind arith in
-          found_more files n xs e (g.found both.0) (found both.1));
+graphing_more {files} {n} {whole = whole} {part = part} all some g e ei ep which are_all are_public found
+    lacking = record {
+      all_rows = rows_more _ _ _ _ _ ei (rw e at are_all) g.all_rows;
+      public_rows = rows_more _ _ _ _ _ ep (rw e at are_public) g.public_rows;
+      found = λ t a h m. (let both : IsTrue whole × IsTrue part = grind arith in elim (cases_lt a n) [
+        | inl less ↦ g.found both.0 a less m
+        | inr over ↦ (let at : a ≡ n = omega arith in found both.1 (rw (at, sym e) at m))
+      ]);
       lacking = λ f. (elim which [
-        | inl new ↦ (n, subst (HasMissing files) e (lacking (sym new.1 ∙ f)))
+        | inl new ↦ (n, rw e at (lacking (sym new.1 ∙ f)))
         | inr old ↦ g.lacking old.0
       ]);
     }
 
-rows_all : {P : ℕ → ℕ → Type 0} {n m : ℕ} {g : Graph} → Rows P n g → n ≡ m → ((a b : ℕ) → P a b → a < m) → (a b : ℕ)
+pub rows_all : {P : ℕ → ℕ → Type 0} {n m : ℕ} {g : Graph} → Rows P n g → n ≡ m → ((a b : ℕ) → P a b → a < m) → (a b : ℕ)
     → Edge g a b ↔ P a b
 rows_all r e inside a b =
     (λ edge. ((r.edges a b).0 edge).1, λ w. (r.edges a b).1 ((let h = inside a b w in omega (arith, h, e)), w))
 
-module _ {files : List FileDesc} {n : ℕ} {imports public : List (Vec ℕ Global)} {whole : Bool}
-    (g : Graphing files n imports public whole) (e : n ≡ length files) where
-  pub graphing_all : IsGraph files (graph_of imports)
-  graphing_all = record {
-    size = g.all_rows.size ∙ e;
-    edges = rows_all g.all_rows e (λ a b i. importer_inside files a i.0 i.1);
-  }
-
-  pub graphing_public : IsPublicGraph files (graph_of public)
-  graphing_public = record {
-    size = g.public_rows.size ∙ e;
-    edges = rows_all g.public_rows e (λ a b i. importer_inside files a i.0 i.1);
-  }
-
-  pub graphing_found : IsTrue whole → (a : ℕ) → HasMissing files (imports_at files a) → ⊥
-  graphing_found t a m = g.found t a (let h = importer_inside files a m.0 m.1 in omega (arith, h, e)) m
-
 pub prefix_more : {X : Type 0} (xs : List X) (n : ℕ) (x : X) → n < length xs → x ≡ get_or xs n x
     → take (n + 1) xs ≡ take n xs ++ x ∷ []
 prefix_more xs n x h is = grind (arith, common_steps)
-
-pub whole_prefix : {X : Type 0} (xs : List X) (n : ℕ) → n ≡ length xs → take n xs ≡ xs
-whole_prefix xs n e = ap (λ k. take k xs) e ∙ take-length xs

@@ -1,17 +1,15 @@
 -- What the links of any files reach.
 use Rattle.std.proofs.lemmas.Grind.{common_steps}
-use Rattle.std.proofs.Common.{◌≡◌, sym, ℕ, ◌<◌, Bool, true, false, List, [], ◌∷◌, length, refl, subst, arith}
+use Rattle.std.proofs.Common.{ne_eqb, get_or, ◌≡◌, sym, ℕ, ◌<◌, Bool, true, false, List, [], ◌∷◌, length, refl, arith, Contains, filter, ◌==◌, cond, ◌↔◌, true≢false}
 use Rattle.std.specs.Set.{is_member}
-use Rattle.std.specs.Prelude.{Contains, filter, ◌==◌, cond, ◌↔◌}
-use Rattle.std.specs.List.{IsDistinct, AllByRecursion}
-use Rattle.std.proofs.lemmas.Bool.{true≢false, eqb-true}
+use Rattle.std.specs.List.{IsDistinct}
 use Rattle.std.proofs.lemmas.Map.Steps.{length-le_from_distinct_below, le-length_from_below}
-use Rattle.std.proofs.lemmas.List.Elements.{All-contains, All-contains_itself, All-filter, filter_passes}
+use Rattle.std.proofs.lemmas.List.Elements.{recursion_from_All, Contains-get_or, All-contains, All-contains_itself, All-filter, filter_passes}
 use Rattle.digraph.specs.Leads.{here}
 use Rattle.digraph.proofs.Ways.{leads_trans}
 use Rattle.proto_desc.specs.declared.file.FileDesc.{FileDesc}
 use Rattle.proto_links.specs.Imports.{Imports}
-use Rattle.proto_links.specs.Linked.{Linked, AreLinked, IsBefore, count_of, rank_of, reach_of}
+use Rattle.proto_links.specs.Linked.{IsReach, Linked, AreLinked, IsBefore, count_of, rank_of, reach_of}
 use Rattle.proto_links.specs.Whole.{AreReachesWhole}
 use Rattle.proto_links.proofs.Positions.{has_is}
 use Rattle.proto_links.proofs.Reaching.{leads_inside}
@@ -20,16 +18,13 @@ use Rattle.proto_links.proofs.Unique.{before_strict, order_rises}
 
 -- ---- lists that rise
 
-all_apart : (x : ℕ) (xs : List ℕ) → ((y : ℕ) → Contains xs y → x ≡ y → ⊥) → AllByRecursion (λ y. x == y ≡ false) xs
-all_apart x [] never = tt
-all_apart x (y ∷ ys) never =
-    (grind (arith, eqb-true, never y (front y ys)), all_apart x ys (λ z w. never z (behind y ys z w)))
-
 pub once_of : (R : ℕ → ℕ → Type 0) → IsStrict R → (xs : List ℕ) → Rises R xs → IsDistinct ◌==◌ xs
 unfolding IsDistinct
 once_of R strict [] up = tt
 once_of R strict (x ∷ xs) up = (
-  all_apart x xs (λ y w same. strict.never x (subst (R x) (sym same) (first_before R strict x xs up y w))),
+  recursion_from_All (λ y. x == y ≡ false) xs (λ k d h. (
+      let before = first_before R strict x xs up (get_or xs k d) (Contains-get_or xs k d h) in
+      ne_eqb x (get_or xs k d) (λ same. strict.never x (rw (sym same) at before)))),
   once_of R strict xs (rest_rises R x xs up),
 )
 
@@ -62,13 +57,6 @@ kept_rises R strict p (x ∷ xs) up =
     let led = rises_behind R x (filter p xs) (λ z w. first_before R strict x xs up z (kept_to p xs z w).0) rest in
     grind arith
 
--- as many as there are numbers below n
-size_of : (xs : List ℕ) (n : ℕ) → IsDistinct ◌==◌ xs → ((a : ℕ) → Contains xs a ↔ (a < n)) → length xs ≡ n
-size_of xs n once every =
-    let most = length-le_from_distinct_below xs n once (λ q w. (every q).0 ((has_is q xs).0 w)) in
-    let least = le-length_from_below xs n (λ q h. (has_is q xs).1 ((every q).1 h)) in
-    omega (arith, most, least)
-
 -- ---- the links of files
 
 pub whole_of : (files : List FileDesc) (links : Linked) → AreLinked files links → AreReachesWhole links
@@ -78,29 +66,32 @@ whole_of files links is =
     let strict = before_strict rank in
     let order = order_rises rank links.set_order is.order.rises in
     let below : (a : ℕ) → a < count_of links → a < length files = λ a h. omega (arith, h, is.count) in
-    let back : (a : ℕ) → a < length files → a < count_of links = λ a h. omega (arith, h, is.count) in
+    let at : (a : ℕ) → a < count_of links → IsReach files rank a (reach_of links a) = λ a h. is.reach a (below a h) in
     let within : (a b : ℕ) → a < count_of links → Contains (reach_of links a) b → b < count_of links =
-    λ a b h w. back b (leads_inside files b a (below a h) (((is.reach a (below a h)).members b).0 w)) in
+    λ a b h w. (let inside = leads_inside files b a (below a h) (((at a h).members b).0 w) in
+    omega (arith, inside, is.count)) in
     let every : (a : ℕ) → Contains links.set_order a ↔ (a < count_of links) =
-    λ a. (λ w. back a ((is.order.every a).0 w), λ h. (is.order.every a).1 (below a h)) in
+    λ a. rw (sym is.count) at (is.order.every a) in
     let each : IsDistinct ◌==◌ links.set_order = once_of R strict links.set_order order in
     record {
       within = within;
-      itself = λ a h. ((is.reach a (below a h)).members a).1 here;
-      closed = λ a b c h w v. (
-          let i = within a b h w in
-          ((is.reach a (below a h)).members c).1
-          (leads_trans (Imports files) b c a (((is.reach a (below a h)).members b).0 w)
-          (((is.reach b (below b i)).members c).0 v)));
-      once = λ a h. once_of R strict (reach_of links a)
-          (order_rises rank (reach_of links a) (is.reach a (below a h)).rises);
-      part = λ a h. one_rising R strict (reach_of links a) (filter (is_member ◌==◌ (reach_of links a)) links.set_order)
-          (order_rises rank (reach_of links a) (is.reach a (below a h)).rises)
-          (kept_rises R strict (is_member ◌==◌ (reach_of links a)) links.set_order order)
-          (λ b w. kept_from (is_member ◌==◌ (reach_of links a)) links.set_order b ((has_is b (reach_of links a)).1 w)
-          ((is.order.every b).1 (below b (within a b h w))))
-          (λ b w. (has_is b (reach_of links a)).0 (kept_to (is_member ◌==◌ (reach_of links a)) links.set_order b w).1);
+      itself = λ a h. ((at a h).members a).1 here;
+      closed = λ a b c h w v. ((at a h).members c).1 (leads_trans (Imports files) b c a
+          (((at a h).members b).0 w) (((at b (within a b h w)).members c).0 v));
+      once = λ a h. once_of R strict (reach_of links a) (order_rises rank (reach_of links a) (at a h).rises);
+      part = λ a h. (
+          let test = is_member ◌==◌ (reach_of links a) in
+          one_rising R strict (reach_of links a) (filter test links.set_order)
+          (order_rises rank (reach_of links a) (at a h).rises) (kept_rises R strict test links.set_order order)
+          (λ b w. kept_from test links.set_order b ((has_is b (reach_of links a)).1 w)
+          ((every b).1 (within a b h w)))
+          (λ b w. (has_is b (reach_of links a)).0 (kept_to test links.set_order b w).1));
       every = every;
       each_once = each;
-      size = size_of links.set_order (count_of links) each every;
+      size = (
+          let most = length-le_from_distinct_below links.set_order (count_of links) each
+          (λ q w. (every q).0 ((has_is q links.set_order).0 w)) in
+          let least = le-length_from_below links.set_order (count_of links)
+          (λ q h. (has_is q links.set_order).1 ((every q).1 h)) in
+          omega (arith, most, least));
     }

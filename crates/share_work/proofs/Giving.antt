@@ -34,19 +34,13 @@ gives_first R a x y xs ys here rest (suc i) t o item out =
     let at : a + 1 + i ≡ a + suc i = omega arith in
     subst (λ k. R k t o) at (rest.1 i t o item out)
 
--- one more behind
-gives_more : {X Y : Type 0} (R : ℕ → X → Y → Type 0) (x : X) (y : Y) (a : ℕ) (xs : List X) (ys : List Y)
-    → GivesItems R a xs ys → R (a + length xs) x y → GivesItems R a (xs ++ x ∷ []) (ys ++ y ∷ [])
-gives_more R x y =
-    gives_each R (λ a xs ys. R (a + length xs) x y → GivesItems R a (xs ++ x ∷ []) (ys ++ y ∷ []))
-    (λ a last. (
-      refl,
-      gives_first R a x y [] [] (let here : a + 0 ≡ a = omega arith in subst (λ k. R k x y) here last)
-          (refl, λ i t o item out. absurd (search rules)),
-    ))
-    (λ a x' y' xs ys here more last. let at : a + suc (length xs) ≡ a + 1 + length xs = omega arith in
-    let rest = more (subst (λ k. R k x y) at last) in
-    (ap suc rest.0, gives_first R a x' y' _ _ here rest))
+-- more behind
+pub gives_append : {X Y : Type 0} (R : ℕ → X → Y → Type 0) (ys : List X) (b : List Y) (a : ℕ) (xs : List X) (o : List Y)
+    → GivesItems R a xs o → GivesItems R (a + length xs) ys b → GivesItems R a (xs ++ ys) (o ++ b)
+gives_append R ys b = gives_each R (λ a xs o. GivesItems R (a + length xs) ys b → GivesItems R a (xs ++ ys) (o ++ b))
+    (λ a h. let here : a ≡ a + 0 = omega arith in rw here h)
+    (λ a x y xs o here more h. let at : a + 1 + length xs ≡ a + suc (length xs) = omega arith in
+    let rest = more (rw at h) in (ap suc rest.0, gives_first R a x y _ _ here rest))
 
 -- the item behind those that were taken
 pub gives_next : {X Y : Type 0} (R : ℕ → X → Y → Type 0) (a : ℕ) (xs : List X) (k : ℕ) (x : X) (ys : List Y) (y : Y)
@@ -55,8 +49,8 @@ pub gives_next : {X Y : Type 0} (R : ℕ → X → Y → Type 0) (a : ℕ) (xs :
 gives_next R a xs k x ys y h is gives here =
     let taken : length (take k xs) ≡ k = grind (arith, length-take-le) in
     let more : take (k + 1) xs ≡ take k xs ++ x ∷ [] = grind (arith, take_more) in
-    subst (λ items. GivesItems R a items (ys ++ y ∷ [])) (sym more)
-    (gives_more R x y a (take k xs) ys gives (subst (λ n. R (a + n) x y) (sym taken) here))
+    let last = gives_first R (a + k) x y [] [] here (refl, λ i t o item out. absurd (search rules)) in
+    rw more (gives_append R (x ∷ []) (y ∷ []) a (take k xs) ys gives (rw taken (refl, last)))
 
 -- where positions do not matter
 pub all_of_gives : {X Y : Type 0} (R : X → Y → Type 0) (a : ℕ) (xs : List X) (ys : List Y) → GivesItems (λ k. R) a xs ys

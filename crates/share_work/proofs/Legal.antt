@@ -1,15 +1,14 @@
 -- The least number at a word, and calls that stay legal.
-use Rattle.std.proofs.Common.{◌≡◌, ◌≢◌, ℕ, suc, ◌<◌, ◌≤◌, ◌⊎◌, inl, inr, ⊎_elim, Bool, true, false, cond, ◌==◌, ◌&&◌, ltb, List, [], ◌∷◌, sym, refl, ap, ◌∙◌, subst, arith, min}
+use Rattle.std.proofs.Common.{◌≡◌, ◌≢◌, ℕ, suc, ◌<◌, ◌≤◌, ◌⊎◌, inl, inr, Bool, true, cond, ◌==◌, ◌&&◌, ltb, List, [], ◌∷◌, sym, refl, ap, ◌∙◌, subst, arith, min}
 use Rattle.std.specs.Prelude.{AllPairs, Contains}
 use Rattle.std.specs.List.{sum_by, count_by}
 use Rattle.std.proofs.lemmas.Bool.{eq-eqb, ne_eqb, cases_Bool, cases_lt, cases_eq}
-use Rattle.std.proofs.lemmas.List.Kept.{AllPairs-cons}
 use Rattle.std.proofs.lemmas.List.Sums.{sum_by-cons}
 use Rattle.share_work.specs.declared.views.Call.{Call}
 use Rattle.share_work.specs.Posts.{NONE, least_at}
 use Rattle.share_work.specs.Views.{call, posts_of}
 use Rattle.share_work.specs.Rule.{FallsAt, IsLegalAt, IsLegal}
-use Rattle.share_work.proofs.Sums.{none_in, front, behind, front_or_behind, all_of, pairs_first, in_map, of_map, count_by-no, count_by-yes, count_in, count_of, calls_in}
+use Rattle.share_work.proofs.Sums.{none_in, front, behind, front_or_behind, pairs_cons, pairs_first, in_map, of_map, count_by-no, count_by-yes, count_in, count_of, calls_in}
 
 -- least_at at a pair of that word, and of another
 pub least_here : (w : ℕ) (p : ℕ × ℕ) (ps : List (ℕ × ℕ)) → p.0 ≡ w → least_at w (p ∷ ps) ≡ min p.1 (least_at w ps)
@@ -28,43 +27,32 @@ pub least_at-above : (w m : ℕ) (ps : List (ℕ × ℕ)) → m ≤ NONE → ((x
 least_at-above w m [] top each = top
 least_at-above w m (p ∷ ps) top each =
     let ih = least_at-above w m ps top (λ x h. each x (behind p ps (w, x) h)) in
-    ⊎_elim
-    (λ (e : p.0 ≡ w). let here : m ≤ p.1 = each p.1 (subst (λ y. Contains (p ∷ ps) (y, p.1)) e (front p ps)) in
-    omega (arith, least_here w p ps e))
-    (λ (n : p.0 ≡ w → ⊥). omega (arith, least_else w p ps n)) (cases_eq p.0 w)
+    let here : p.0 ≡ w → m ≤ p.1 = λ e. each p.1 (rw (← e) (front p ps)) in
+    grind (arith, least_else, least_here, ih, here)
 
 pub least_at-below : (w x : ℕ) (ps : List (ℕ × ℕ)) → Contains ps (w, x) → least_at w ps ≤ x
 least_at-below w x [] h = absurd (none_in (w, x) h)
-least_at-below w x (p ∷ ps) h = ⊎_elim
-    (λ (e : p ≡ (w, x)). omega (arith, least_here w p ps (λ i. (e i).0), ap (λ (q : ℕ × ℕ). q.1) e))
-    (λ (k : Contains ps (w, x)). let ih = least_at-below w x ps k in
-    ⊎_elim (λ (e : p.0 ≡ w). omega (arith, least_here w p ps e))
-    (λ (n : p.0 ≡ w → ⊥). omega (arith, least_else w p ps n)) (cases_eq p.0 w))
-    (front_or_behind p ps (w, x) h)
+least_at-below w x (p ∷ ps) h =
+    grind (arith, least_else, least_here, front_or_behind p ps, least_at-below w x ps)
 
 pub least_at-reached : (w : ℕ) (ps : List (ℕ × ℕ)) → (least_at w ps ≡ NONE) ⊎ Contains ps (w, least_at w ps)
 least_at-reached w [] = inl refl
 least_at-reached w (p ∷ ps) =
-    let m : ℕ = least_at w ps in let k : ℕ = least_at w (p ∷ ps) in
-    let P : ℕ → Type 0 = λ y. (y ≡ NONE) ⊎ Contains (p ∷ ps) (w, y) in
-    let rest : P m = ⊎_elim (λ a. inl a) (λ b. inr (behind p ps (w, m) b)) (least_at-reached w ps) in
-    ⊎_elim
-    (λ (e : p.0 ≡ w). ⊎_elim
-    (λ (lt : p.1 < m). let q : p.1 ≡ k = omega (arith, least_here w p ps e) in
-    subst P q (inr (subst (λ y. Contains (p ∷ ps) (y, p.1)) e (front p ps))))
-    (λ (ge : m ≤ p.1). let q : m ≡ k = omega (arith, least_here w p ps e) in subst P q rest)
-    (cases_lt p.1 m))
-    (λ (n : p.0 ≡ w → ⊥). subst P (sym (least_else w p ps n)) rest) (cases_eq p.0 w)
+    let m : ℕ = least_at w ps in
+    let rest : (m ≡ NONE) ⊎ Contains (p ∷ ps) (w, m) =
+    elim (least_at-reached w ps) [ inl a ↦ inl a | inr b ↦ inr (behind p ps (w, m) b) ] in
+    elim (cases_eq p.0 w) [
+      | inl e ↦ rw (least_here w p ps e) (elim (cases_lt p.1 m) [
+        | inl lt ↦ let q : min p.1 m ≡ p.1 = omega arith in rw q (inr (rw (← e) (front p ps)))
+        | inr ge ↦ let q : min p.1 m ≡ m = omega arith in rw q rest
+      ])
+      | inr n ↦ rw (least_else w p ps n) rest
+    ]
 
-least_le : (w : ℕ) (ps qs : List (ℕ × ℕ)) → ((x : ℕ) → Contains qs (w, x) → Contains ps (w, x))
+pub least_le : (w : ℕ) (ps qs : List (ℕ × ℕ)) → ((x : ℕ) → Contains qs (w, x) → Contains ps (w, x))
     → least_at w ps ≤ least_at w qs
 least_le w ps qs here = least_at-above w (least_at w ps) qs (least_at-le-NONE w ps)
     (λ x h. least_at-below w x ps (here x h))
-
--- the least depends on the set of the pairs alone
-pub least_at-members : (w : ℕ) (ps qs : List (ℕ × ℕ)) → ((x : ℕ) → Contains ps (w, x) → Contains qs (w, x))
-    → ((x : ℕ) → Contains qs (w, x) → Contains ps (w, x)) → least_at w ps ≡ least_at w qs
-least_at-members w ps qs there here = omega (arith, least_le w ps qs here, least_le w qs ps there)
 
 -- ---- calls
 
@@ -76,7 +64,7 @@ same_in : (xs ys : List Call) → SameCalls xs ys → (c : Call) → Contains xs
 same_in xs ys same = calls_in xs ys (λ h. omega (arith, same h))
 
 pub post_in : (w : ℕ) (xs : List Call) (c : Call) → Contains xs c → c.word ≡ w → Contains (posts_of xs) (w, c.number)
-post_in w xs c h e = subst (λ y. Contains (posts_of xs) (y, c.number)) e (in_map (λ d. (d.word, d.number)) xs c h)
+post_in w xs c h e = rw (← e) (in_map (λ d. (d.word, d.number)) xs c h)
 
 pub posts_same : (xs ys : List Call) → SameCalls xs ys → (p : ℕ × ℕ) → Contains (posts_of xs) p
     → Contains (posts_of ys) p
@@ -85,8 +73,9 @@ posts_same xs ys same p h = let r = of_map (λ (c : Call). (c.word, c.number)) x
 
 pub least_at-same : (w : ℕ) (xs ys : List Call) → SameCalls xs ys → least_at w (posts_of xs) ≡ least_at w (posts_of ys)
 least_at-same w xs ys same =
-    least_at-members w (posts_of xs) (posts_of ys) (λ x. posts_same xs ys same (w, x))
-    (λ x. posts_same ys xs (λ h. sym (same h)) (w, x))
+    let ps : List (ℕ × ℕ) = posts_of xs in let qs : List (ℕ × ℕ) = posts_of ys in
+    let low = least_le w ps qs (λ x. posts_same ys xs (λ h. sym (same h)) (w, x)) in
+    let high = least_le w qs ps (λ x. posts_same xs ys same (w, x)) in omega arith
 
 -- if both fell, they found different numbers
 abbrev pub Apart : ℕ → Call → Call → Type 0
@@ -106,34 +95,32 @@ once_of : (w x : ℕ) (cs : List Call) → AllPairs (Apart w) cs → count_by (f
 once_of w x [] apart = omega arith
 once_of w x (c ∷ cs) apart =
     let ih = once_of w x cs (λ i j d a b. apart (suc i) (suc j) d (omega arith) (omega arith)) in
-    ⊎_elim
-    (λ (t : falls_from w x c ≡ true). ⊎_elim
-    (λ (some_other : 0 < count_by (falls_from w x) cs).
-    let r = count_of (falls_from w x) cs some_other in let mine = from_is w x c t in let its = from_is w x r.0 r.2 in
-    absurd (pairs_first (Apart w) c cs apart r.0 r.1 mine.0 its.0 (mine.1 ∙ sym its.1)))
-    (λ (none : count_by (falls_from w x) cs ≤ 0). omega (arith, count_by-yes (falls_from w x) c cs t))
-    (cases_lt 0 (count_by (falls_from w x) cs)))
-    (λ (f : falls_from w x c ≡ false). omega (arith, count_by-no (falls_from w x) c cs f))
-    (cases_Bool (falls_from w x c))
+    elim (cases_Bool (falls_from w x c)) [
+      | inl t ↦
+          let none : 0 < count_by (falls_from w x) cs → ⊥ = λ some_other.
+          let r = count_of (falls_from w x) cs some_other in let its = from_is w x r.0 r.2 in
+          let mine = from_is w x c t in pairs_first (Apart w) c cs apart r.0 r.1 mine.0 its.0 (mine.1 ∙ sym its.1) in
+          elim (cases_lt 0 (count_by (falls_from w x) cs)) [
+            | inl some_other ↦ absurd (none some_other)
+            | inr no_other ↦ omega (arith, count_by-yes (falls_from w x) c cs t)
+          ]
+      | inr f ↦ omega (arith, count_by-no (falls_from w x) c cs f)
+    ]
 
 once_from : (w : ℕ) (cs : List Call) → ((x : ℕ) → count_by (falls_from w x) cs ≤ 1) → AllPairs (Apart w) cs
 once_from w [] once = λ i j d a b. absurd (omega arith)
-once_from w (c ∷ cs) once = AllPairs-cons (Apart w) c cs
-    (all_of (Apart w c) cs (λ d k mine its e. let p : Call → Bool = falls_from w c.found in
-    absurd (omega (
-      arith,
-      once c.found,
-      count_by-yes p c cs (from_true w c.found c mine refl),
-      count_in p cs d k (from_true w c.found d its (sym e)),
-    ))))
+once_from w (c ∷ cs) once = pairs_cons (Apart w) c cs
+    (λ d k mine its e. let p : Call → Bool = falls_from w c.found in
+    let yes = count_by-yes p c cs (from_true w c.found c mine refl) in
+    let in_rest = count_in p cs d k (from_true w c.found d its (sym e)) in absurd (omega (arith, once c.found)))
     (once_from w cs (λ x. omega (arith, once x, sum_by-cons (λ d. cond (falls_from w x d) 1 0) c cs)))
 
 pub IsLegal-same : (xs ys : List Call) → SameCalls xs ys → IsLegal xs → IsLegal ys
 IsLegal-same xs ys same l = λ w. let back : SameCalls ys xs = λ f. sym (same f) in record {
   under = λ c h. (l w).under c (same_in ys xs back c h);
   once = once_from w ys (λ x. omega (arith, same (λ c. cond (falls_from w x c) 1 0), once_of w x xs (l w).once));
-  linked = λ c h at. ⊎_elim (λ a. inl a) (λ b. inr (b.0, same_in xs ys same b.0 b.1, b.2, b.3))
-      ((l w).linked c (same_in ys xs back c h) at);
+  linked = λ c h at. elim ((l w).linked c (same_in ys xs back c h) at)
+      [ inl a ↦ inl a | inr b ↦ inr (b.0, same_in xs ys same b.0 b.1, b.2, b.3) ];
 }
 
 -- some call fell to x
@@ -143,47 +130,40 @@ FellTo w xs x = (d : Call) × Contains xs d × FallsAt w d × (d.number ≡ x)
 -- what a word holds is NONE or the number of a call that fell
 pub least_falls : (w : ℕ) (xs : List Call) → IsLegalAt w xs
     → (least_at w (posts_of xs) ≡ NONE) ⊎ FellTo w xs (least_at w (posts_of xs))
-least_falls w xs l = let m : ℕ = least_at w (posts_of xs) in
-    ⊎_elim (λ e. inl e)
-    (λ (h : Contains (posts_of xs) (w, m)).
-    let r = of_map (λ (c : Call). (c.word, c.number)) xs (w, m) h in let d : Call = r.0 in
-    let at_w : d.word ≡ w = λ i. (r.2 i).0 in let is_m : d.number ≡ m = λ i. (r.2 i).1 in
-    ⊎_elim
-    (λ (lt : d.number < d.found). inr (d, r.1, (at_w, lt), is_m))
-    (λ (ge : d.found ≤ d.number).
-    ⊎_elim
-    (λ (e : d.found ≡ NONE). inl (omega (arith, least_at-le-NONE w (posts_of xs))))
-    (λ (f : FellTo w xs d.found). inr (
-      f.0,
-      f.1,
-      f.2,
-      omega (arith, least_at-below w f.0.number (posts_of xs) (post_in w xs f.0 f.1 f.2.0), f.3),
-    ))
-    (l.linked d r.1 at_w))
-    (cases_lt d.number d.found))
-    (least_at-reached w (posts_of xs))
+least_falls w xs l = let m : ℕ = least_at w (posts_of xs) in elim (least_at-reached w (posts_of xs)) [
+  | inl e ↦ inl e
+  | inr h ↦
+      let r = of_map (λ (c : Call). (c.word, c.number)) xs (w, m) h in let d : Call = r.0 in
+      let at_w : d.word ≡ w = λ i. (r.2 i).0 in let is_m : d.number ≡ m = λ i. (r.2 i).1 in
+      elim (cases_lt d.number d.found) [
+        | inl lt ↦ inr (d, r.1, (at_w, lt), is_m)
+        | inr ge ↦ elim (l.linked d r.1 at_w) [
+          | inl e ↦ let top = least_at-le-NONE w (posts_of xs) in inl (omega arith)
+          | inr f ↦ let low = least_at-below w f.0.number (posts_of xs) (post_in w xs f.0 f.1 f.2.0) in
+              inr (f.0, f.1, f.2, omega (arith, f.3))
+        ]
+      ]
+]
+
+falls_more : (w y : ℕ) (c : Call) (xs : List Call) → (y ≡ NONE) ⊎ FellTo w xs y → (y ≡ NONE) ⊎ FellTo w (c ∷ xs) y
+falls_more w y c xs f = elim f [ inl e ↦ inl e | inr b ↦ inr (b.0, behind c xs b.0 b.1, b.2, b.3) ]
 
 -- a call that finds what the word holds
 pub IsLegal-post : (w n : ℕ) (xs : List Call) → n < NONE → IsLegal xs
     → IsLegal (call w (least_at w (posts_of xs)) n ∷ xs)
 IsLegal-post w n xs lt l = λ v. let m : ℕ = least_at w (posts_of xs) in let c : Call = call w m n in record {
-  under = λ d h at. ⊎_elim (λ (e : c ≡ d). omega (arith, ap (λ (f : Call). f.number) e)) (λ k. (l v).under d k at)
-      (front_or_behind c xs d h);
-  once = AllPairs-cons (Apart v) c xs
-      (all_of (Apart v c) xs (λ d k mine its e.
-      absurd (omega (
-        arith,
-        e,
-        its.1,
-        least_at-below w d.number (posts_of xs)
-            (post_in w xs d k (its.0 ∙ sym mine.0)),
-      ))))
+  under = λ d h at. elim (front_or_behind c xs d h) [
+    | inl e ↦ omega (arith, ap (λ (f : Call). f.number) e)
+    | inr k ↦ (l v).under d k at
+  ];
+  once = pairs_cons (Apart v) c xs
+      (λ d k mine its e.
+      let low = least_at-below w d.number (posts_of xs) (post_in w xs d k (its.0 ∙ sym mine.0)) in
+      absurd (omega (arith, e, its.1)))
       (l v).once;
-  linked = λ d h at. ⊎_elim
-      (λ (e : c ≡ d).
-      let P : ℕ → ℕ → Type 0 = λ a b. (b ≡ NONE) ⊎ FellTo a (c ∷ xs) b in
-      let p : P w m = ⊎_elim (λ a. inl a) (λ b. inr (b.0, behind c xs b.0 b.1, b.2, b.3)) (least_falls w xs (l w)) in
-      subst (λ (a : ℕ). P a d.found) (ap (λ (f : Call). f.word) e ∙ at) (subst (P w) (ap (λ (f : Call). f.found) e) p))
-      (λ k. ⊎_elim (λ a. inl a) (λ b. inr (b.0, behind c xs b.0 b.1, b.2, b.3)) ((l v).linked d k at))
-      (front_or_behind c xs d h);
+  linked = λ d h at. elim (front_or_behind c xs d h) [
+    | inl e ↦ let is_v : w ≡ v = ap (λ (f : Call). f.word) e ∙ at in
+        rw (← e, ← is_v) (falls_more w m c xs (least_falls w xs (l w)))
+    | inr k ↦ falls_more v d.found c xs ((l v).linked d k at)
+  ];
 }

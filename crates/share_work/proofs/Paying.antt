@@ -33,18 +33,15 @@ none_past xs k e = grind (arith, slice_get_cases)
 pub get_none : (files : List ℕ) (k : ℕ) → slice_get files k ≡ None → (take k files ≡ files) × (drop k files ≡ [])
 get_none files k e = let past = none_past files k e in (take_all k files past, drop_all k files past)
 
-pub some_length : (files : List ℕ) (g : ℕ) → Contains files g → 0 < length files
-some_length files g h = grind arith
-
 pub posts-append : (xs ys : List Call) → posts_of (xs ++ ys) ≡ posts_of xs ++ posts_of ys
 posts-append xs ys = grind (arith, common_steps)
 
 each-append : (n : ℕ) (xs ys : List ℕ) → at_each n (xs ++ ys) ≡ at_each n xs ++ at_each n ys
 each-append n xs ys = grind (arith, common_steps)
 
-pub paying_none : (v : MarkView) (root n : ℕ) (files : List ℕ) → 0 < length files → v.debt ≡ Some (make_debt root n 0)
-    → IsPaying v v root n 0 files
-paying_none v root n files some_file e = grind (arith, common_steps)
+pub paying_none : (v : MarkView) (root n g : ℕ) (files : List ℕ) → Contains files g
+    → v.debt ≡ Some (make_debt root n 0) → IsPaying v v root n 0 files
+paying_none v root n g files some_file e = grind (arith, common_steps)
 
 -- the debt while a file is left
 pub debt_now : (v u : MarkView) (root n k : ℕ) (files : List ℕ) → IsPaying v u root n k files → k < length files

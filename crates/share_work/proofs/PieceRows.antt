@@ -1,15 +1,15 @@
 -- Facts on the row of one worker, and on the rows of some workers.
 use Rattle.std.proofs.lemmas.Grind.{common_steps}
-use Rattle.std.proofs.Common.{◌≡◌, ℕ, zero, suc, ◌+◌, ◌-◌, ◌*◌, ◌/◌, ◌%◌, ◌<◌, ◌≤◌, ◌⊎◌, min, List, [], ◌∷◌, ◌++◌, length, take, drop, slice_get, Some, None, Result, IfOk, IsOkAnd, OnOk, length-append, get_or, refl, sym, ap, ◌∙◌, subst, arith, inl, inr, rules, set}
+use Rattle.std.proofs.Common.{◌≡◌, ℕ, zero, suc, ◌+◌, ◌-◌, ◌*◌, ◌/◌, ◌%◌, ◌<◌, ◌≤◌, ◌⊎◌, min, List, [], ◌∷◌, ◌++◌, length, take, drop, slice_get, Some, None, Result, IfOk, IsOkAnd, OnOk, length-append, get_or, refl, ap, subst, arith, inl, inr, rules, set}
 use Rattle.std.specs.List.{slice_range}
 use Rattle.std.proofs.lemmas.List.{length-take-le}
 use Rattle.std.proofs.lemmas.Option.{slice_get_within}
-use Rattle.std.proofs.Math.Seq.{take-add}
+use Rattle.std.proofs.Math.Seq.{take-add, take-nil}
 use Rattle.std.proofs.Math.ListN.{drop_of_length-le, set}
-use Rattle.std.proofs.Math.Seq.{take-nil}
 use Rattle.std.proofs.lemmas.Bool.{cases_lt}
 use Rattle.std.proofs.Math.Nat.{mul-le-mul_right, zero-mul}
-use Rattle.share_work.specs.Shares.{AddsSome, SeatGains, SeatHas, SeatsGain, SeatsHave, GivesItems, TakesAll}
+use Rattle.share_work.specs.Shares.{AddsSome, AddsInRow, SeatGains, SeatHas, SeatsGain, SeatsHave, GivesItems, TakesAll}
+use Rattle.share_work.proofs.Giving.{gives_append}
 use Rattle.share_work.specs.WorkerRows.{GivesUpTo, GivesPiece, GivesRow, GivesRows}
 
 module _ {V : Type 0} where
@@ -27,37 +27,8 @@ pub range_piece : {X : Type 0} (xs : List X) (a c : ℕ)
     → slice_range xs a (a + min c (length xs - a)) ≡ take c (drop a xs)
 range_piece xs a c = grind (arith, common_steps)
 
-pub next_first : (w n W c : ℕ) → (w + (n + 1) * W) * c ≡ (w + n * W) * c + W * c
-next_first w n W c = grind arith
-
 pub rising : (w k n W c : ℕ) → n ≤ k → (w + n * W) * c ≤ (w + k * W) * c
 rising w k n W c le = grind arith
-
-pub length_pushed : {V : Type 0} (row : List V) (y : V) (more : List V) → more ≡ row ++ y ∷ []
-    → length more ≡ length row + 1
-length_pushed row y more is = rw is (length-append row (y ∷ []))
-
--- a row of pieces of at most 4,096 items each, for at most 64 workers, has few items
-pub few_items : (w c : ℕ) → w ≤ 64 → c ≤ 4096 → w * c ≤ 262144
-few_items w c few small = let most : w * c ≤ 64 * c = mul-le-mul_right c few in omega arith
-
--- past the end of the items there is no piece
-pub whole_at : (w n W c len k : ℕ) → len ≤ (w + n * W) * c → (w + k * W) * c < len → k < n
-whole_at w n W c len k past inside = grind arith
-
-module _ {T O V : Type 0} (gives : ℕ → T → O → Type 0) (outs_of : V → List O) (workers cut : ℕ)
-    (items : List T) (w : ℕ) where
-  -- a row and the outs of one more piece
-  pub pushed : (row : List V) (y : V) (first : ℕ) (part : List T)
-      → first ≡ (w + length row * workers) * cut → part ≡ take cut (drop first items)
-      → GivesItems gives first part (outs_of y)
-      → ((k : ℕ) (v : V) → slice_get row k ≡ Some v → GivesPiece gives cut items (w + k * workers) (outs_of v))
-      → (k : ℕ) (v : V) → slice_get (row ++ y ∷ []) k ≡ Some v
-      → GivesPiece gives cut items (w + k * workers) (outs_of v)
-  pushed row y first part at is h all =
-      let P : ℕ → Type 0 = λ n. GivesItems gives n (take cut (drop n items)) (outs_of y) in
-      let Q : List T → Type 0 = λ p. GivesItems gives first p (outs_of y) in
-      each_push (λ k v. GivesPiece gives cut items (w + k * workers) (outs_of v)) row y all (subst P at (subst Q is h))
 
 -- what is found in two lists together is found in one of them
 pub found_in : {V : Type 0} (xs ys : List V) (k : ℕ) (v : V) → slice_get (xs ++ ys) k ≡ Some v
@@ -71,57 +42,26 @@ module _ {T O V : Type 0} (gives : ℕ → T → O → Type 0) (outs_of : V → 
   pub row_tail : (w : ℕ) (y : V) (ys : List V) → GivesRow gives outs_of workers cut items w (y ∷ ys)
       → GivesRow gives outs_of workers cut items (w + workers) ys
   row_tail w y ys r = record {
-    pieces = λ k v e.
-        let P : ℕ → Type 0 = λ p. GivesPiece gives cut items p (outs_of v) in
-        let same : w + suc k * workers ≡ w + workers + k * workers = grind arith in
-        subst P same (r.pieces (suc k) v e);
-    whole = λ k inside.
-        let same : (w + suc k * workers) * cut ≡ (w + workers + k * workers) * cut = grind arith in
+    pieces = λ k v e. let same : w + workers + k * workers ≡ w + suc k * workers = grind arith in
+        rw same (r.pieces (suc k) v e);
+    whole = λ k inside. let same : (w + suc k * workers) * cut ≡ (w + workers + k * workers) * cut = grind arith in
         let all = r.whole (suc k) (rw same inside) in omega arith;
   }
 
 module _ {T O : Type 0} (gives : ℕ → T → O → Type 0) where
-  -- the outs of two lists of items
-  pub items_append : (first : ℕ) (xs ys : List T) (a b : List O) → ((ys ≡ []) ⊎ (first ≡ length xs))
-      → GivesItems gives 0 xs a → GivesItems gives first ys b → GivesItems gives 0 (xs ++ ys) (a ++ b)
-  items_append first xs ys a b where_it_is f h = (
-    length-append a b ∙ ap (λ n. n + length b) f.0 ∙ ap (λ n. length xs + n) h.0 ∙ sym (length-append xs ys),
-    λ i t o et eo. elim (found_in xs ys i t et) [
-      | inl left ↦ elim (found_in a b i o eo) [
-        | inl l ↦ f.1 i t o left l
-        | inr r ↦ let within = slice_get_within xs i t left in let len = f.0 in let at = r.1 in absurd (omega arith)
-      ]
-      | inr right ↦ elim (found_in a b i o eo) [
-        | inl l ↦ let within = slice_get_within a i o l in let len = f.0 in let at = right.1 in absurd (omega arith)
-        | inr r ↦
-            let len = f.0 in let at = right.1 in let at' = r.1 in
-            let same : right.0 ≡ r.0 = omega arith in
-            let P : ℕ → Type 0 = λ j. slice_get b j ≡ Some o in
-            let got = h.1 right.0 t o right.2 (subst P (sym same) r.2) in
-            elim where_it_is [
-              | inl none ↦ let Q : List T → Type 0 = λ l. slice_get l right.0 ≡ Some t in
-                  let bad : None ≡ Some t = subst Q none right.2 in absurd (search rules)
-              | inr is ↦ let G : ℕ → Type 0 = λ n. gives n t o in
-                  let position : first + right.0 ≡ 0 + i = omega arith in subst G position got
-            ]
-      ]
-    ],
-  )
-
   -- the outs before a piece, and those of the piece
   pub one_piece_more : (cut : ℕ) (items : List T) (p : ℕ) (a b : List O)
       → GivesUpTo gives cut items p a → GivesPiece gives cut items p b → GivesUpTo gives cut items (p + 1) (a ++ b)
   one_piece_more cut items p a b f h =
-      let P : List T → Type 0 = λ l. GivesItems gives 0 l (a ++ b) in
+      let now : List T = take cut (drop (p * cut) items) in let size : ℕ = length (take (p * cut) items) in
       let more : (p + 1) * cut ≡ p * cut + cut = grind arith in
-      let split : take (p * cut) items ++ take cut (drop (p * cut) items) ≡ take ((p + 1) * cut) items =
-      sym (ap (λ n. take n items) more ∙ take-add (p * cut) cut items) in
-      let positions : (take cut (drop (p * cut) items) ≡ []) ⊎ (p * cut ≡ length (take (p * cut) items)) =
-      elim (cases_lt (p * cut) (length items)) [
-        | inl lt ↦ inr (sym (length-take-le (p * cut) items (omega arith)))
-        | inr le ↦ inl (ap (λ l. take cut l) (drop_of_length-le items le) ∙ take-nil cut)
+      let here : GivesItems gives (0 + size) now b = elim (cases_lt (p * cut) (length items)) [
+        | inl lt ↦ let long = length-take-le (p * cut) items (omega arith) in
+            let e : 0 + size ≡ p * cut = omega arith in rw e h
+        | inr le ↦ let none : now ≡ [] = rw (drop_of_length-le items le) (take-nil cut) in
+            (h.0, λ i t o e x. let bad = rw none at e in absurd (search rules))
       ] in
-      subst P split (items_append (p * cut) (take (p * cut) items) (take cut (drop (p * cut) items)) a b positions f h)
+      rw (more, take-add (p * cut) cut items) (gives_append gives now b 0 (take (p * cut) items) a f here)
 
 module _ {T O V R : Type 0} (gives : ℕ → T → O → Type 0) (outs_of : V → List O) (parts_of : R → List V)
     (workers cut : ℕ) (items : List T) where
@@ -131,14 +71,11 @@ module _ {T O V R : Type 0} (gives : ℕ → T → O → Type 0) (outs_of : V �
       → GivesRows gives outs_of parts_of workers cut items up m high
       → GivesRows gives outs_of parts_of workers cut items from (n + m) (low ++ high)
   rows_joined from n up m low high at a b = record {
-    len = length-append low high ∙ ap (λ k. k + length high) a.len ∙ ap (λ k. n + k) b.len;
+    len = let x = a.len in let y = b.len in omega (arith, length-append low high);
     each = λ j r e. elim (found_in low high j r e) [
       | inl h ↦ a.each j r h
-      | inr h ↦
-          let P : ℕ → Type 0 = λ p. GivesRow gives outs_of workers cut items p (parts_of r) in
-          let x = a.len in
-          let same : up + h.0 ≡ from + j = let y = h.1 in omega arith in
-          subst P same (b.each h.0 r h.2)
+      | inr h ↦ let x = a.len in let y = h.1 in let same : from + j ≡ up + h.0 = omega arith in
+          rw same (b.each h.0 r h.2)
     ];
   }
 
@@ -148,28 +85,13 @@ module _ {T O V R : Type 0} (gives : ℕ → T → O → Type 0) (outs_of : V �
       → parts_of r ≡ y ∷ parts_of r' → GivesRows gives outs_of parts_of workers cut items (p + 1) workers
       (rest ++ r' ∷ [])
   rows_turned p r r' rest y h is = record {
-    len = length-append rest (r' ∷ []) ∙ (let n = h.len in omega arith);
-    each = λ j q e. elim (found_in rest (r' ∷ []) j q e) [
-      | inl here ↦
-          let P : ℕ → Type 0 = λ n. GivesRow gives outs_of workers cut items n (parts_of q) in
-          let same : p + suc j ≡ p + 1 + j = omega arith in subst P same (h.each (suc j) q here)
-      | inr there ↦ last j q there
-    ];
-  } where
-    last : (j : ℕ) (q : R) → (i : ℕ) × (j ≡ length rest + i) × (slice_get (r' ∷ []) i ≡ Some q)
-        → GivesRow gives outs_of workers cut items (p + 1 + j) (parts_of q)
-    last j q (zero, at, e) =
-        let tail = row_tail gives outs_of workers cut items p y (parts_of r')
-        (let Q : List V → Type 0 = λ l. GivesRow gives outs_of workers cut items p l in
-        let P : ℕ → Type 0 = λ n. GivesRow gives outs_of workers cut items n (parts_of r) in
-        let none : p + 0 ≡ p = omega arith in subst Q is (subst P none (h.each 0 r refl))) in
-        let n = h.len in
-        let P : ℕ → Type 0 = λ n. GivesRow gives outs_of workers cut items n (parts_of r') in
-        let same : p + workers ≡ p + 1 + j = omega arith in
-        let q_is : r' ≡ q = cc in
-        let S : R → Type 0 = λ x. GivesRow gives outs_of workers cut items (p + 1 + j) (parts_of x) in
-        subst S q_is (subst P same tail)
-    last j q (suc i, at, e) = let bad : None ≡ Some q = e in absurd (search rules)
+    len = let n = h.len in omega (arith, length-append rest (r' ∷ []));
+    each = each_push (λ j q. GivesRow gives outs_of workers cut items (p + 1 + j) (parts_of q)) rest r'
+        (λ j q here. let same : p + 1 + j ≡ p + suc j = omega arith in rw same (h.each (suc j) q here))
+        (let n = h.len in let none : p + 0 ≡ p = omega arith in
+        let end : p + 1 + length rest ≡ p + workers = omega arith in
+        rw end (row_tail gives outs_of workers cut items p y (parts_of r') (rw (none, is) at (h.each 0 r refl))));
+  }
 
   pub one_row : (w : ℕ) (r : R) → GivesRow gives outs_of workers cut items w (parts_of r)
       → GivesRows gives outs_of parts_of workers cut items w 1 (r ∷ [])
@@ -184,9 +106,7 @@ module _ {T O V R : Type 0} (gives : ℕ → T → O → Type 0) (outs_of : V �
         pieces = λ k v e. let bad : None ≡ Some v = e in absurd (search rules);
         whole = grind (arith, mul-le-mul_right, rising, zero-mul);
       } in
-      let P : List V → Type 0 = λ l. GivesRow gives outs_of workers cut items (from + n) l in
-      rows_joined from n (from + n) 1 rows (r ∷ []) refl h
-      (one_row (from + n) r (subst P (sym none) idle))
+      rows_joined from n (from + n) 1 rows (r ∷ []) refl h (one_row (from + n) r (rw none idle))
 
 module _ {T O : Type 0} (gives : ℕ → T → O → Type 0) (cut : ℕ) (items : List T) where
   -- the outs of all pieces are those of all items
@@ -197,19 +117,48 @@ module _ {T O : Type 0} (gives : ℕ → T → O → Type 0) (cut : ℕ) (items 
 pub piece_inside : (len c p : ℕ) → 0 < c → p < len / c + min 1 (len % c) → p * c < len
 piece_inside len c p some below = grind arith
 
-module _ {T : Type 0} (adds : ℕ → T → ℕ → ℕ → Type 0) (workers cut : ℕ) (items : List T) (w : ℕ) where
-  -- what the row adds at its number, a piece adds
-  pub piece_adds : (len first : ℕ) (part : List T) → first ≡ (w + len * workers) * cut
-      → part ≡ take cut (drop first items)
-      → (x n k : ℕ) → k ≡ len → AddsSome adds ((w + k * workers) * cut)
-      (take cut (drop ((w + k * workers) * cut) items)) x n → AddsSome adds first part x n
-  piece_adds len first part at is x n k same h = grind arith
+-- the row of a worker so far, and what its seat holds
+module _ {T O V S : Type 0} (gives : ℕ → T → O → Type 0) (outs_of : V → List O) (holds : S → ℕ → ℕ → Type 0)
+    (adds : ℕ → T → ℕ → ℕ → Type 0) (workers cut : ℕ) (items : List T) (w : ℕ) (entry : S) where
+  pub record IsRow (first : ℕ) (row : List V) (seat : S) : Type 0 where
+    pub at : first ≡ (w + length row * workers) * cut
+    pub pieces : (k : ℕ) (v : V) → slice_get row k ≡ Some v → GivesPiece gives cut items (w + k * workers) (outs_of v)
+    pub kept : (x n : ℕ) → holds entry x n → holds seat x n
+    pub within : (x n : ℕ) → holds seat x n → holds entry x n ⊎ AddsInRow adds workers cut items w x n
+    pub gained : (x n k : ℕ) → k < length row → AddsSome adds ((w + k * workers) * cut)
+        (take cut (drop ((w + k * workers) * cut) items)) x n → holds seat x n
 
-  -- past the end nothing is added
-  pub adds_within : (x n k : ℕ) → AddsSome adds ((w + k * workers) * cut)
-      (take cut (drop ((w + k * workers) * cut) items)) x n
-      → (w + k * workers) * cut < length items
-  adds_within x n k h = grind (arith, common_steps)
+  -- and one more piece
+  pub row_more : (first : ℕ) (row : List V) (seat : S) (more : List V) (y : V) (new : S) (part : List T) (W C : ℕ)
+      → IsRow first row seat → part ≡ take C (drop first items) → W ≡ workers → C ≡ cut
+      → GivesItems gives first part (outs_of y)
+      → ((x n : ℕ) → holds seat x n → holds new x n)
+      → ((x n : ℕ) → holds new x n → holds seat x n ⊎ AddsSome adds first part x n)
+      → ((x n : ℕ) → AddsSome adds first part x n → holds new x n)
+      → more ≡ row ++ y ∷ [] → IsRow (first + W * C) more new
+  row_more first row seat more y new part W C r is W_is C_is out keeps inner outer more_is = record {
+    at = rw (W_is, C_is, more_is, length-append, r.at) (grind arith);
+    pieces = rw more_is (each_push (λ k v. GivesPiece gives cut items (w + k * workers) (outs_of v)) row y r.pieces
+        (rw (← r.at, ← C_is, ← is) out));
+    kept = λ x n h. keeps x n (r.kept x n h);
+    within = λ x n h. grind (arith, r.within x n, inner x n h);
+    gained = λ x n k below h. elim (cases_lt k (length row)) [
+      | inl lt ↦ keeps x n (r.gained x n k lt h)
+      | inr le ↦ let len = length-append row (y ∷ []) in let e : k ≡ length row = grind arith in
+          outer x n (rw (is, C_is, r.at, ← e) h)
+    ];
+  }
+
+  -- past the end of the items the row is whole
+  module _ (first : ℕ) (row : List V) (seat : S) (r : IsRow first row seat) (past : length items ≤ first) where
+    row_end : (k : ℕ) → (w + k * workers) * cut < length items → k < length row
+    row_end k inside = let at = r.at in grind arith
+
+    pub row_whole : GivesRow gives outs_of workers cut items w row
+    row_whole = record { pieces = r.pieces; whole = row_end }
+
+    pub row_has : (x n : ℕ) → AddsInRow adds workers cut items w x n → holds seat x n
+    row_has x n h = r.gained x n h.0 (row_end h.0 (grind (arith, common_steps))) h.1
 
 pub OnOk-all : {X E : Type 0} (r : Result X E) (P : Type 0) → P → OnOk r P
 OnOk-all r P h = grind arith
@@ -228,13 +177,8 @@ module _ {S T : Type 0} (holds : S → ℕ → ℕ → Type 0) (adds : ℕ → T
       ]
       | inr h ↦ elim (found_in low' high' j s' e') [
         | inl h' ↦ let w = slice_get_within low' j s' h' in let x = a.len in let y = h.1 in absurd (omega arith)
-        | inr h' ↦
-            let x = a.len in let y = h.1 in let y' = h'.1 in
-            let same : h.0 ≡ h'.0 = omega arith in
-            let P : ℕ → Type 0 = λ k. slice_get high' k ≡ Some s' in
-            let Q : ℕ → Type 0 = λ w. SeatGains holds adds workers cut items w s s' in
-            let position : up + h.0 ≡ from + j = omega arith in
-            subst Q position (b.each h.0 s s' h.2 (subst P (sym same) h'.2))
+        | inr h' ↦ let x = a.len in let y = h.1 in let y' = h'.1 in let same : h'.0 ≡ h.0 = omega arith in
+            let position : from + j ≡ up + h.0 = omega arith in rw position (b.each h.0 s s' h.2 (rw same at h'.2))
       ]
     ];
   }
@@ -245,10 +189,7 @@ module _ {S T : Type 0} (holds : S → ℕ → ℕ → Type 0) (adds : ℕ → T
   haves_joined from up low high low' high' at len a b = record {
     each = λ j s e. elim (found_in low' high' j s e) [
       | inl h ↦ a.each j s h
-      | inr h ↦
-          let y = h.1 in
-          let Q : ℕ → Type 0 = λ w. SeatHas holds adds workers cut items w s in
-          let position : up + h.0 ≡ from + j = omega arith in subst Q position (b.each h.0 s h.2)
+      | inr h ↦ let y = h.1 in let position : from + j ≡ up + h.0 = omega arith in rw position (b.each h.0 s h.2)
     ];
   }
 
@@ -303,7 +244,5 @@ pub takes_part : {T : Type 0} (takes : ℕ → T → Type 0) (items part : List 
     → part ≡ take c (drop first items) → TakesAll takes 0 items
     → TakesAll takes first part
 takes_part takes items part first c is all i t e =
-    let at : slice_get items (first + i) ≡ Some t = sym (get_drop first items i)
-    ∙ take_get c (drop first items) i t (ap (λ l. slice_get l i) (sym is) ∙ e) in
-    let P : ℕ → Type 0 = λ k. takes k t in let same : 0 + (first + i) ≡ first + i = omega arith in
-    subst P same (all (first + i) t at)
+    let at = take_get c (drop first items) i t (rw is at e) in
+    let same : first + i ≡ 0 + (first + i) = omega arith in rw same (all (first + i) t (rw get_drop at at))

@@ -1,16 +1,16 @@
 -- The calls at a word have an order in which each found the least number posted before it.
-use Rattle.std.proofs.Common.{◌≡◌, ℕ, zero, suc, ◌<◌, ◌≤◌, ◌⊎◌, inl, inr, ⊎_elim, Bool, true, ◌==◌, List, [], ◌∷◌, length, get_or, take, filter, ap, subst, arith, min}
+use Rattle.std.proofs.Common.{◌≡◌, ℕ, zero, suc, ◌<◌, ◌≤◌, ◌⊎◌, inl, inr, ⊎_elim, Bool, true, ◌==◌, List, [], ◌∷◌, length, get_or, take, filter, ap, arith, min}
 use Rattle.std.specs.Prelude.{AllPairs, Contains}
 use Rattle.std.specs.List.Sorted.{IsPermutation}
 use Rattle.std.proofs.lemmas.Bool.{eqb-true, eq-eqb}
-use Rattle.std.proofs.lemmas.List.Kept.{AllPairs-cons, AllPairs-filter}
+use Rattle.std.proofs.lemmas.List.Kept.{AllPairs-filter}
 use Rattle.std.proofs.lemmas.List.Sorted.{Contains-permutation, IsPermutation-refl, IsPermutation-sym, IsPermutation-trans, IsPermutation-cons, IsPermutation-middle}
 use Rattle.share_work.specs.declared.views.Call.{Call}
 use Rattle.share_work.specs.Posts.{NONE, least_at}
 use Rattle.share_work.specs.Views.{posts_of}
 use Rattle.share_work.specs.Rule.{IsLegalAt}
 use Rattle.share_work.specs.Order.{MayFollow, IsOrderAt, EachFindsLeast, CallsReplay}
-use Rattle.share_work.proofs.Sums.{none_in, front, behind, front_or_behind, all_of, pairs_first, of_filter, in_filter}
+use Rattle.share_work.proofs.Sums.{none_in, front, behind, front_or_behind, pairs_cons, pairs_first, of_filter, in_filter}
 use Rattle.share_work.proofs.Legal.{Apart, FellTo, least_here, least_at-le-NONE}
 
 pairs_rest : {A : Type 0} (R : A → A → Type 0) (x : A) (xs : List A) → AllPairs R (x ∷ xs) → AllPairs R xs
@@ -41,16 +41,13 @@ module _ (w m : ℕ) (c : Call) (cs : List Call) (pairs : AllPairs MayFollow (c 
       (linked c (front c cs))
 
   next_linked : LinkedFrom w (min m c.number) cs
-  next_linked d h = let mine = first_finds in ⊎_elim
-      (λ (e : d.found ≡ m). ⊎_elim
-      (λ (a : d.found < c.found). absurd (omega arith))
-      (λ (b : (d.found ≡ c.found) × (c.found ≤ c.number)). inl (omega (arith, b.1)))
-      (pairs_first MayFollow c cs pairs d h))
-      (λ (f : FellTo w (c ∷ cs) d.found). ⊎_elim
-      (λ (e : c ≡ f.0). inl (omega (arith, ap (λ (x : Call). x.found) e, ap (λ (x : Call). x.number) e, f.2.1, f.3)))
-      (λ k. inr (f.0, k, f.2, f.3))
-      (front_or_behind c cs f.0 f.1))
-      (linked d (behind c cs d h))
+  next_linked d h = grind (
+    arith,
+    first_finds,
+    linked d (behind c cs d h),
+    pairs_first MayFollow c cs pairs d h,
+    front_or_behind,
+  )
 
 finds_least : (w m : ℕ) (ys : List Call) → AllPairs MayFollow ys → LinkedFrom w m ys → Finds m ys
 finds_least w m [] pairs linked = tt
@@ -76,19 +73,13 @@ replays w calls l ys o =
     let was : (c : Call) → Contains ys c → Contains calls c × (at_w c ≡ true) =
     λ c h. of_filter at_w calls c (Contains-permutation ys zs c (IsPermutation-sym zs ys o.same) h) in
     let at : (c : Call) → Contains ys c → c.word ≡ w = λ c h. eqb-true c.word w (was c h).1 in
-    let linked : LinkedFrom w NONE ys = λ c h. ⊎_elim (λ a. inl a)
-    (λ b. inr (
-      b.0,
-      Contains-permutation zs ys b.0 o.same (in_filter at_w calls b.0 b.1 (eq-eqb b.0.word w b.2.0)),
-      b.2,
-      b.3,
-    ))
-    (l.linked c (was c h).0 (at c h)) in
-    λ i d h. omega (
-      arith,
-      each_finds w NONE ys (omega arith) at (finds_least w NONE ys o.falling_last linked) i d h,
-      least_at-le-NONE w (posts_of (take i ys)),
-    )
+    let linked : LinkedFrom w NONE ys = λ c h. elim (l.linked c (was c h).0 (at c h)) [
+      | inl a ↦ inl a
+      | inr b ↦ let kept = in_filter at_w calls b.0 b.1 (eq-eqb b.0.word w b.2.0) in
+          inr (b.0, Contains-permutation zs ys b.0 o.same kept, b.2, b.3)
+    ] in
+    λ i d h. let top = least_at-le-NONE w (posts_of (take i ys)) in
+    omega (arith, each_finds w NONE ys (omega arith) at (finds_least w NONE ys o.falling_last linked) i d h)
 
 -- ---- there is such an order
 
@@ -105,28 +96,27 @@ Ordered xs = (ys : List Call) × IsPermutation xs ys × AllPairs MayFollow ys
 
 placed : (c : Call) (ys : List Call) → ((d : Call) → Contains ys d → MayFollow c d ⊎ MayFollow d c)
     → AllPairs MayFollow ys → Ordered (c ∷ ys)
-placed c [] f pairs = (
-  c ∷ [],
-  IsPermutation-refl (c ∷ []),
-  AllPairs-cons MayFollow c [] (all_of (MayFollow c) [] (λ d h. absurd (none_in d h))) pairs,
-)
-placed c (d ∷ ds) f pairs = ⊎_elim
-    (λ (a : MayFollow c d). (
-      c ∷ d ∷ ds,
-      IsPermutation-refl (c ∷ d ∷ ds),
-      AllPairs-cons MayFollow c (d ∷ ds)
-          (all_of (MayFollow c) (d ∷ ds) (λ e h. ⊎_elim (λ (s : d ≡ e). subst (MayFollow c) s a)
-          (λ k. follows_on c d e a (pairs_first MayFollow d ds pairs e k)) (front_or_behind d ds e h))) pairs,
-    ))
-    (λ (b : MayFollow d c). let r = placed c ds (λ e h. f e (behind d ds e h)) (pairs_rest MayFollow d ds pairs) in (
-      d ∷ r.0,
-      IsPermutation-trans (c ∷ d ∷ ds) (d ∷ c ∷ ds) (d ∷ r.0) (IsPermutation-middle (c ∷ []) d ds)
-          (IsPermutation-cons d (c ∷ ds) r.0 r.1),
-      AllPairs-cons MayFollow d r.0 (all_of (MayFollow d) r.0 (λ e h. ⊎_elim (λ (s : c ≡ e). subst (MayFollow d) s b)
-          (λ k. pairs_first MayFollow d ds pairs e k)
-          (front_or_behind c ds e (Contains-permutation r.0 (c ∷ ds) e (IsPermutation-sym (c ∷ ds) r.0 r.1) h)))) r.2,
-    ))
-    (f d (front d ds))
+placed c [] f pairs =
+    (c ∷ [], IsPermutation-refl (c ∷ []), pairs_cons MayFollow c [] (λ d h. absurd (none_in d h)) pairs)
+placed c (d ∷ ds) f pairs = elim (f d (front d ds)) [
+  | inl a ↦
+      let all = pairs_cons MayFollow c (d ∷ ds) (λ e h. elim (front_or_behind d ds e h) [
+        | inl s ↦ rw (← s) a
+        | inr k ↦ follows_on c d e a (pairs_first MayFollow d ds pairs e k)
+      ]) pairs in
+      (c ∷ d ∷ ds, IsPermutation-refl (c ∷ d ∷ ds), all)
+  | inr b ↦
+      let r = placed c ds (λ e h. f e (behind d ds e h)) (pairs_rest MayFollow d ds pairs) in
+      let moved = IsPermutation-trans (c ∷ d ∷ ds) (d ∷ c ∷ ds) (d ∷ r.0) (IsPermutation-middle (c ∷ []) d ds)
+      (IsPermutation-cons d (c ∷ ds) r.0 r.1) in
+      let back = IsPermutation-sym (c ∷ ds) r.0 r.1 in
+      let all = pairs_cons MayFollow d r.0
+      (λ e h. elim (front_or_behind c ds e (Contains-permutation r.0 (c ∷ ds) e back h)) [
+        | inl s ↦ rw (← s) b
+        | inr k ↦ pairs_first MayFollow d ds pairs e k
+      ]) r.2 in
+      (d ∷ r.0, moved, all)
+]
 
 ordered : (w : ℕ) (zs : List Call) → ((c : Call) → Contains zs c → c.word ≡ w) → AllPairs (Apart w) zs → Ordered zs
 ordered w [] at apart = ([], IsPermutation-refl [], λ i j d a b. absurd (omega arith))

@@ -1,14 +1,15 @@
 -- Members of lists, and sums over the lists of all views.
-use Rattle.std.proofs.Common.{append-nil, ◌++◌}
+use Rattle.std.proofs.Common.{append-nil, ◌++◌, ◌≡◌, ℕ, zero, suc, ◌+◌, ◌<◌, ◌≤◌, ◌⊎◌, inl, inr, Bool, true, false, cond, eqb, ◌&&◌, List, [], ◌∷◌, map, set, sym, refl, ap, subst, arith, filter}
 use Rattle.std.proofs.lemmas.Grind.{common_steps}
-use Rattle.std.proofs.Common.{◌≡◌, ℕ, zero, suc, ◌+◌, ◌<◌, ◌≤◌, ◌⊎◌, inl, inr, Bool, true, false, cond, eqb, ◌&&◌, List, [], ◌∷◌, map, set, sym, refl, ap, ◌∙◌, subst, arith, filter, ⊎_elim}
 use Rattle.std.specs.Prelude.{All, AllPairs, Contains}
 use Rattle.std.specs.List.{flat_map, sum_by, count_by}
-use Rattle.std.proofs.lemmas.Bool.{and_parts, and_from, eqb-true, eq-eqb, cases_Bool}
+use Rattle.std.proofs.lemmas.Bool.{cases_Bool}
 use Rattle.std.proofs.lemmas.List.Elements.{Contains-get_or, Contains-append_left, Contains-append_right, Contains-append_cases, All-contains, All-contains_itself, All-filter, filter_passes}
-use Rattle.std.proofs.lemmas.List.Sums.{sum_by-cons, sum_by-append}
+use Rattle.std.proofs.lemmas.List.Sums.{sum_by-cons, sum_by-append, sum_by_push}
+use Rattle.std.proofs.lemmas.List.Kept.{AllPairs-cons}
 use mathlib.Core.Option.{some, some-injective, some-ne-none}
 use lib.ListN.{get_elem?}
+use Rattle.atomic_table.proofs.Lists.{at_set, at_snoc}
 use Rattle.share_work.specs.declared.views.Call.{Call}
 
 pub none_in : {A : Type 0} (x : A) → Contains {X = A} [] x → ⊥
@@ -30,6 +31,10 @@ pub pairs_first : {A : Type 0} (R : A → A → Type 0) (x : A) (xs : List A) �
     → Contains xs y → R x y
 pairs_first R x xs pairs y (k, inside, is) = subst (R x) is (pairs 0 (suc k) y (omega arith) (omega (arith, inside)))
 
+pub pairs_cons : {A : Type 0} (R : A → A → Type 0) (x : A) (xs : List A) → ((y : A) → Contains xs y → R x y)
+    → AllPairs R xs → AllPairs R (x ∷ xs)
+pairs_cons R x xs each pairs = AllPairs-cons R x xs (all_of (R x) xs each) pairs
+
 pub at_in : {A : Type 0} (xs : List A) (i : ℕ) (x : A) → get_elem? xs i ≡ some x → Contains xs x
 at_in [] i x e = absurd (some-ne-none x (sym e))
 at_in (y ∷ ys) zero x e = subst (Contains (y ∷ ys)) (some-injective y x e) (front y ys)
@@ -49,10 +54,8 @@ of_map f (x ∷ xs) y h = elim (front_or_behind (f x) (map f xs) y h) [
 pub in_flat : {A B : Type 0} (f : A → List B) (xs : List A) (x : A) (y : B) → Contains xs x → Contains (f x) y
     → Contains (flat_map f xs) y
 in_flat f [] x y h k = absurd (none_in x h)
-in_flat f (z ∷ zs) x y h k = elim (front_or_behind z zs x h) [
-  | inl e ↦ Contains-append_left (f z) (flat_map f zs) y (subst (λ u. Contains (f u) y) (sym e) k)
-  | inr r ↦ Contains-append_right (f z) (flat_map f zs) y (in_flat f zs x y r k)
-]
+in_flat f (z ∷ zs) x y h k =
+    grind (arith, front_or_behind, Contains-append_left, Contains-append_right, in_flat f zs x y)
 
 pub of_flat : {A B : Type 0} (f : A → List B) (xs : List A) (y : B) → Contains (flat_map f xs) y
     → (x : A) × Contains xs x × Contains (f x) y
@@ -72,14 +75,11 @@ of_filter p xs x h = (
 pub in_filter : {A : Type 0} (p : A → Bool) (xs : List A) (x : A) → Contains xs x → p x ≡ true
     → Contains (filter p xs) x
 in_filter p [] x h t = absurd (none_in x h)
-in_filter p (y ∷ ys) x h t =
-    let P : Bool → Type 0 = λ b. Contains (cond b (y ∷ filter p ys) (filter p ys)) x in
-    ⊎_elim
-    (λ (e : y ≡ x). subst P (sym (ap p e ∙ t)) (subst (Contains (y ∷ filter p ys)) e (front y (filter p ys))))
-    (λ k. let r = in_filter p ys x k t in
-    ⊎_elim (λ (s : p y ≡ true). subst P (sym s) (behind y (filter p ys) x r)) (λ (f : p y ≡ false). subst P (sym f) r)
-    (cases_Bool (p y)))
-    (front_or_behind y ys x h)
+in_filter p (y ∷ ys) x h t = elim (front_or_behind y ys x h) [
+  | inl e ↦ rw (e, t) (front x (filter p ys))
+  | inr k ↦ let r = in_filter p ys x k t in
+      elim (cases_Bool (p y)) [ inl s ↦ rw s (behind y (filter p ys) x r) | inr f ↦ rw f r ]
+]
 
 -- ---- sums and counts
 
@@ -103,6 +103,41 @@ pub sum_by-map : {A B : Type 0} (f : B → ℕ) (g : A → B) (xs : List A) → 
 sum_by-map f g [] = refl
 sum_by-map f g (x ∷ xs) = grind (arith, common_steps, sum_by-cons, sum_by-map f g xs)
 
+-- sums over the lists of all views, where one is set, and where one more is pushed or set to nothing
+module _ {V A : Type 0} (h : A → ℕ) (f : V → List A) (views : List V) (id : ℕ) (v : V)
+    (at : get_elem? views id ≡ some v) (w : V) where
+  pub flat_set : sum_by h (flat_map f (set views id w)) + sum_by h (f v) ≡ sum_by h (flat_map f views) + sum_by h (f w)
+  flat_set = grind (arith, sum_by-at_set, sum_by-flat_map)
+
+  pub flat_split : (r : V) → sum_by h (flat_map f (set views id w ++ r ∷ [])) + sum_by h (f v)
+      ≡ sum_by h (flat_map f views) + sum_by h (f w) + sum_by h (f r)
+  flat_split r =
+      let a = flat_set in let b = sum_by-flat_map h f (set views id w ++ r ∷ []) in
+      let c = sum_by-flat_map h f (set views id w) in
+      omega (arith, sum_by_push (λ u. sum_by h (f u)) (set views id w) r)
+
+  pub flat_join : (other : ℕ) (u s : V) → get_elem? (set views id w) other ≡ some u
+      → sum_by h (flat_map f (set (set views id w) other s)) + sum_by h (f v) + sum_by h (f u)
+      ≡ sum_by h (flat_map f views) + sum_by h (f w) + sum_by h (f s)
+  flat_join other u s at' =
+      let a = flat_set in let b = sum_by-flat_map h f (set views id w) in
+      let c = sum_by-flat_map h f (set (set views id w) other s) in
+      omega (arith, sum_by-at_set (λ x. sum_by h (f x)) (set views id w) other u s at')
+
+-- what holds of each view, where one is set and one is pushed
+module _ {V : Type 0} (P : V → Type 0) where
+  abbrev pub EachAt : List V → Type 0
+  EachAt views = (id : ℕ) (v : V) → get_elem? views id ≡ some v → P v
+
+  pub each_set : (views : List V) (id : ℕ) (w : V) → P w → EachAt views → EachAt (set views id w)
+  each_set views id w mine old j u e = grind (arith, at_set, get_elem?, some)
+
+  pub each_split : (views : List V) (id : ℕ) (w r : V) → P w → P r → EachAt views → EachAt (set views id w ++ r ∷ [])
+  each_split views id w r mine new old j u e = elim (at_snoc (set views id w) r u j e) [
+    | inl x ↦ each_set views id w mine old j u x
+    | inr x ↦ subst P x new
+  ]
+
 -- where one view has all the parts, and a view without parts has no items, all items are that view's
 module _ {V A : Type 0} (parts : V → ℕ) (items : V → List A) where
   abbrev EmptyIfSpent : List V → Type 0
@@ -110,22 +145,18 @@ module _ {V A : Type 0} (parts : V → ℕ) (items : V → List A) where
 
   none_left : (views : List V) → EmptyIfSpent views → sum_by parts views ≡ 0 → flat_map items views ≡ []
   none_left [] empty e = refl
-  none_left (u ∷ us) empty e =
-      let sum = sum_by-cons parts u us in
-      let here = empty 0 u refl (omega arith) in
-      let rest = none_left us (λ id w at. empty (suc id) w at) (omega arith) in λ i. here i ++ rest i
+  none_left (u ∷ us) empty e = grind (arith, sum_by-cons, empty 0 u refl, none_left us (λ id. empty (suc id)))
 
   pub only_one : (views : List V) (id : ℕ) (v : V) → get_elem? views id ≡ some v → EmptyIfSpent views
       → sum_by parts views ≡ parts v → flat_map items views ≡ items v
   only_one [] id v at empty e = absurd (some-ne-none v (sym at))
   only_one (u ∷ us) zero v at empty e =
-      let same = some-injective u v at in let sum = sum_by-cons parts u us in
-      let rest = none_left us (λ id w a. empty (suc id) w a) (omega (arith, ap parts same)) in
-      (λ i. items (same i) ++ rest i) ∙ append-nil (items v)
+      let same = some-injective u v at in
+      let rest = none_left us (λ id. empty (suc id)) (omega (arith, ap parts same, sum_by-cons parts u us)) in
+      rw (same, rest) (append-nil (items v))
   only_one (u ∷ us) (suc id) v at empty e =
       let sum = sum_by-cons parts u us in let mine = sum_by-at parts us id v at in
-      let here = empty 0 u refl (omega arith) in
-      let rest = only_one us id v at (λ j w a. empty (suc j) w a) (omega arith) in λ i. here i ++ rest i
+      let here = empty 0 u refl (omega arith) in rw here (only_one us id v at (λ j. empty (suc j)) (omega arith))
 
 module _ {A : Type 0} (p : A → Bool) where
   pub count_by-no : (x : A) (xs : List A) → p x ≡ false → count_by p (x ∷ xs) ≡ count_by p xs
@@ -156,19 +187,15 @@ within_by p self is xs ys le x h =
     subst (Contains ys) (sym (is x r.0 r.2)) r.1
 
 pub pairs_in : (ps qs : List (ℕ × ℕ)) → Within ps qs → (p : ℕ × ℕ) → Contains ps p → Contains qs p
-pairs_in = within_by (λ p q. eqb p.0 q.0 && eqb p.1 q.1)
-    (λ p. and_from (eqb p.0 p.0) (eqb p.1 p.1) (eq-eqb p.0 p.0 refl) (eq-eqb p.1 p.1 refl))
-    (λ p q e. let t = and_parts (eqb p.0 q.0) (eqb p.1 q.1) e in λ i. (eqb-true p.0 q.0 t.0 i, eqb-true p.1 q.1 t.1 i))
+pairs_in = within_by (λ p q. eqb p.0 q.0 && eqb p.1 q.1) (λ p. grind arith)
+    (λ p q e. let is : (p.0 ≡ q.0) × (p.1 ≡ q.1) = grind arith in λ i. (is.0 i, is.1 i))
+
+-- pairs that weigh the same, however they are weighed, are the same
+pub pairs_both : (ps qs : List (ℕ × ℕ)) → ((h : ℕ × ℕ → ℕ) → sum_by h ps ≡ sum_by h qs)
+    → ((p : ℕ × ℕ) → Contains ps p → Contains qs p) × ((p : ℕ × ℕ) → Contains qs p → Contains ps p)
+pairs_both ps qs same = (pairs_in ps qs (λ h. omega (arith, same h)), pairs_in qs ps (λ h. omega (arith, same h)))
 
 pub calls_in : (xs ys : List Call) → Within xs ys → (c : Call) → Contains xs c → Contains ys c
-calls_in = within_by (λ c d. eqb c.word d.word && (eqb c.found d.found && eqb c.number d.number))
-    (λ c. and_from (eqb c.word c.word) (eqb c.found c.found && eqb c.number c.number) (eq-eqb c.word c.word refl)
-    (and_from (eqb c.found c.found) (eqb c.number c.number) (eq-eqb c.found c.found refl)
-    (eq-eqb c.number c.number refl)))
-    (λ c d e. let t = and_parts (eqb c.word d.word) (eqb c.found d.found && eqb c.number d.number) e in
-    let u = and_parts (eqb c.found d.found) (eqb c.number d.number) t.1 in
-    λ i. record {
-      word = eqb-true c.word d.word t.0 i;
-      found = eqb-true c.found d.found u.0 i;
-      number = eqb-true c.number d.number u.1 i;
-    })
+calls_in = within_by (λ c d. eqb c.word d.word && (eqb c.found d.found && eqb c.number d.number)) (λ c. grind arith)
+    (λ c d e. let is : (c.word ≡ d.word) × (c.found ≡ d.found) × (c.number ≡ d.number) = grind arith in
+    λ i. record { word = is.0 i; found = is.1 i; number = is.2 i })

@@ -1,5 +1,5 @@
 -- What all seats hold together, as a caller of `in_shares` gets it from what each seat gains.
-use Rattle.std.proofs.Common.{◌≡◌, ℕ, zero, suc, ◌+◌, ◌*◌, ◌/◌, ◌%◌, ◌<◌, ◌⊎◌, ◌↔◌, inl, inr, List, [], ◌∷◌, take, drop, length, refl, sym, ap, subst, ◌∙◌, arith, slice_get, Some}
+use Rattle.std.proofs.Common.{◌≡◌, ℕ, zero, suc, ◌+◌, ◌*◌, ◌/◌, ◌%◌, ◌<◌, ◌⊎◌, ◌↔◌, inl, inr, List, [], ◌∷◌, take, drop, length, refl, ap, ◌∙◌, arith, slice_get, Some}
 use Rattle.std.proofs.lemmas.Option.{slice_get_within}
 use Rattle.std.proofs.lemmas.Nat.{mod_below, div-add-mod'}
 use Rattle.share_work.specs.Shares.{AddsSome, SeatsGain, SeatsHave}
@@ -41,11 +41,9 @@ module _ {S T : Type 0} (holds : S → ℕ → ℕ → Type 0) (adds : ℕ → T
         | inl b ↦ inl (h.0, was.0, was.1, b)
         | inr a ↦
             let p : ℕ = (0 + h.0 + a.0 * workers) * cut in
-            let at : slice_get items (p + a.1.0) ≡ Some a.1.1 = sym (get_drop p items a.1.0)
-            ∙ take_get cut (drop p items) a.1.0 a.1.1 a.1.2 in
-            let P : ℕ → Type 0 = λ q. adds q a.1.1 x n in
-            let same : p + a.1.0 ≡ 0 + (p + a.1.0) = omega arith in
-            inr (p + a.1.0, a.1.1, at, subst P same a.1.3)
+            let at = take_get cut (drop p items) a.1.0 a.1.1 a.1.2 in
+            let same : 0 + (p + a.1.0) ≡ p + a.1.0 = omega arith in
+            inr (p + a.1.0, a.1.1, rw get_drop at at, rw same a.1.3)
       ]
 
   -- what an item adds, one of the seats holds
@@ -61,12 +59,10 @@ module _ {S T : Type 0} (holds : S → ℕ → ℕ → Type 0) (adds : ℕ → T
       let whole : 0 + w + k * workers ≡ piece = let e = div-add-mod' piece workers in omega arith in
       let at : p + o ≡ i = ap (λ q. q * cut + o) whole ∙ div-add-mod' i cut in
       let seat = get_there new w (omega arith) in
-      let P : ℕ → Type 0 = λ q. slice_get items q ≡ Some a.1 in
       let got : slice_get (take cut (drop p items)) o ≡ Some a.1 = get_take cut (drop p items) o inside
-      ∙ get_drop p items o ∙ subst P (sym at) a.2 in
-      let Q : ℕ → Type 0 = λ q. adds q a.1 x n in
-      let position : 0 + i ≡ p + o = omega arith in
-      (w, seat.0, seat.1, (have.each w seat.0 seat.1).gained x n (k, (o, a.1, got, subst Q position a.3)))
+      ∙ get_drop p items o ∙ rw at a.2 in
+      let position : p + o ≡ 0 + i = omega arith in
+      (w, seat.0, seat.1, (have.each w seat.0 seat.1).gained x n (k, (o, a.1, got, rw position a.3)))
 
   -- what a seat held it still holds
   held_kept : SeatsGain holds adds workers cut items 0 old new → (x n : ℕ) → SomeHolds holds old x n

@@ -17,7 +17,6 @@ returns-in-len1-clause-union c =
     on_ok_weaker c.push_extended.result (λ (appended : c.push_extended.new.self ≡ lists ++ list ∷ []). (
       list,
       appended,
-      union_of_one lists c.args.nodes.now node c.args.own list
-          (one_long c.args.nodes.now c.in-len1.len_at_least c.in-len1.len_below) refl
-          (c.requires.rises node inside) (λ x w. c.requires.below node x inside w),
+      union_of_one _ _ _ _ _ (one_long _ c.in-len1.len_at_least c.in-len1.len_below) refl (c.requires.rises node inside)
+          (λ x w. c.requires.below node x inside w),
     )) c.push_extended.ensures.appended

@@ -1,11 +1,12 @@
-use Rattle.std.proofs.lemmas.Grind.{common_steps}
 use Rattle.std.proofs.Common.{◌≡◌, ◌∙◌, sym, ℕ, List, ◌-◌, length, drop, arith, ap, subst}
-use Rattle.digraph.proofs.Sharing.{goes_on, same_numbers}
+use Rattle.std.proofs.lemmas.Slice.Eq.{slice_eq-Decides}
+use Rattle.std.proofs.lemmas.Bool.Decides.{Decides-eqb}
+use Rattle.digraph.proofs.Sharing.{goes_on}
 use Rattle.digraph.proofs.lists.put.Goals as goal
 
 pub returns-then-ends_with-clause-holds : goal.returns-then-ends_with-clause-holds
 returns-then-ends_with-clause-holds c =
-    let same = same_numbers _ _ (sym c.ends_with.ensures.value ∙ c.if-ends_with.true) in
+    let same = (slice_eq-Decides Decides-eqb _ _ _ c.ends_with.ensures.value).0 c.if-ends_with.true in
     let items = c.args.items.now.items in
     let prefix = c.in-Some.prefix.now in
     let there : prefix ≡ drop (length items - length prefix) items =
@@ -14,9 +15,5 @@ returns-then-ends_with-clause-holds c =
     let k_is : length items - length prefix ≡ c.len.result - length prefix = ap (λ n. n - length prefix) (sym size) in
     let fits = c.ends_with.ensures.bound c.if-ends_with.true in
     let len : length c.as_slice.result.now ≡ length items = ap length c.as_slice.ensures.value in
-    goes_on items c.push.new.self.items prefix c.args.list.now c.in-Some.last.now (c.len.result - length prefix)
-    (subst (λ (n : ℕ). prefix ≡ drop n items) k_is there) (omega (arith, size, fits, len)) c.in-Some.ensures.cases.0
-    c.in_ok-push.ensures.items
-
-pub returns-clause-holds : goal.returns-clause-holds
-returns-clause-holds c = grind (arith, common_steps)
+    goes_on _ _ _ _ _ _ (subst (λ (n : ℕ). prefix ≡ drop n items) k_is there) (omega (arith, size, fits, len))
+    c.in-Some.ensures.cases.0 c.in_ok-push.ensures.items

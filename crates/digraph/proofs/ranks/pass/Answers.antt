@@ -1,11 +1,6 @@
-use Rattle.std.proofs.lemmas.Grind.{common_steps}
-use Rattle.std.proofs.Common.{arith}
 use Rattle.std.proofs.lemmas.List.Elements.{Contains-get_or}
 use Rattle.digraph.proofs.ranks.pass.Goals as goal
 
 pub bounds-marks-successors : goal.bounds-marks-successors
 bounds-marks-successors c = c.requires.room _
     (Contains-get_or c.args.successors.now c.loop-count.count 0 c.loop-count-test.true)
-
-pub loop-count-preserved : goal.loop-count-preserved
-loop-count-preserved c = grind (arith, common_steps)

@@ -1,20 +1,21 @@
-use Rattle.std.proofs.Common.{arith}
-use Rattle.digraph.proofs.Rounding.{settled_none, settled_more, settled_marks, settled_ranks, settled_others}
+use Rattle.std.proofs.Common.{arith, get_or, refl}
+use Rattle.std.proofs.lemmas.List.Elements.{Contains-get_or}
+use Rattle.digraph.proofs.Gathering.{joined_end}
+use Rattle.digraph.proofs.Marking.{among_all}
 use Rattle.digraph.proofs.ranks.settle.Goals as goal
 
 pub loop-node-init : goal.loop-node-init
-loop-node-init c = settled_none c.args.nodes.now c.args.rank c.args.marks.now c.args.ranks.now c.requires.room
-
-pub loop-node-preserved : goal.loop-node-preserved
-loop-node-preserved c = grind (arith, settled_more)
+loop-node-init c = record {
+  room = λ k h. c.requires.room (get_or c.args.nodes.now k 0) (Contains-get_or c.args.nodes.now k 0 h);
+  marked = λ x. grind arith;
+  ranked = λ x w. grind arith;
+  others = λ x out. refl;
+}
 
 pub returns-clause-marked : goal.returns-clause-marked
-returns-clause-marked c = settled_marks c.args.nodes.now c.args.rank c.args.marks.now c.args.ranks.now
-    c.loop-node.node-index c.loop-node.marks
-    c.loop-node.ranks (omega arith) c.loop-node.invariant
+returns-clause-marked c x =
+    joined_end (c.loop-node.invariant.marked x) (among_all c.args.nodes.now c.loop-node.node-index x (omega arith))
 
 pub returns-clause-ranked : goal.returns-clause-ranked
-returns-clause-ranked c = grind (arith, settled_ranks)
-
-pub returns-clause-others : goal.returns-clause-others
-returns-clause-others c = grind (arith, settled_others)
+returns-clause-ranked c x w =
+    c.loop-node.invariant.ranked x ((among_all c.args.nodes.now c.loop-node.node-index x (omega arith)).0 w)

@@ -1,8 +1,10 @@
-use Rattle.digraph.proofs.Renumbering.{positions_members, members_moved}
+use Rattle.std.proofs.Common.{get_or}
+use Rattle.digraph.proofs.Gathering.{joined_through}
+use Rattle.digraph.proofs.Marking.{same_members}
+use Rattle.digraph.proofs.Renumbering.{map_members}
 use Rattle.digraph.proofs.renumber.falling_positions.Goals as goal
 
 pub returns : goal.returns
-returns c = members_moved c.args.positions.now c.args.nodes.now c.in_ok-row.row.items c.sort_unstable.new.self.items
-    c.reverse.new.self.items
-    c.sort_unstable.ensures.permutation c.reverse.ensures.permutation
-    (positions_members c.args.positions.now c.args.nodes.now c.in_ok-row.row.items c.in_ok-row.ensures)
+returns c j = joined_through (same_members _ _ j c.reverse.ensures.permutation)
+    (same_members _ _ j c.sort_unstable.ensures.permutation)
+    (rw c.in_ok-row.ensures (map_members (λ b. get_or c.args.positions.now b 0) c.args.nodes.now j))

@@ -1,4 +1,3 @@
-use Rattle.std.proofs.lemmas.Grind.{common_steps}
 use Rattle.std.proofs.Common.{arith}
 use Rattle.std.proofs.lemmas.List.Elements.{Contains-get_or}
 use Rattle.digraph.proofs.renumber.positions_in.Goals as goal
@@ -9,9 +8,3 @@ offset_bounds-positions-node c = let below =
 
 pub bounds-positions-node : goal.bounds-positions-node
 bounds-positions-node c = c.requires _ (Contains-get_or c.args.nodes.now c.loop-node.node-index 0 (omega arith))
-
-pub loop-node-preserved : goal.loop-node-preserved
-loop-node-preserved c = grind (arith, common_steps)
-
-pub returns : goal.returns
-returns c = grind (arith, common_steps)

@@ -1,26 +1,27 @@
-use Rattle.std.proofs.lemmas.Grind.{common_steps}
-use Rattle.std.proofs.Common.{sym, subst, ℕ, List, arith}
-use Rattle.digraph.specs.Ranks.{IsRankOrder}
-use Rattle.digraph.specs.Renumbered.{ArePositions}
-use Rattle.digraph.proofs.Renumbering.{placed_more, placed_all, inside_order}
+use Rattle.std.proofs.Common.{◌≡◌, ◌∙◌, ap, sym, length, get_or, refl, arith}
+use Rattle.digraph.specs.Renumbered.{node_at}
+use Rattle.digraph.proofs.Marking.{among_all}
+use Rattle.digraph.proofs.Renumbering.{placed_more, inside_order}
 use Rattle.digraph.proofs.renumber.positions_of.Goals as goal
-
-pub loop-position-init : goal.loop-position-init
-loop-position-init c = grind (arith, common_steps)
 
 pub index_mut-requires : goal.index_mut-requires
 index_mut-requires c = grind (arith, inside_order)
 
 pub loop-position-preserved : goal.loop-position-preserved
-loop-position-preserved c = placed_more c.args.ranking.now.ranks.items c.as_slice-order.result.now
-    c.loop-position.position c.loop-position.positions.items
-    (subst (IsRankOrder c.args.ranking.now.ranks.items) (sym c.as_slice-order.ensures.value) c.requires)
-    (omega arith) c.loop-position.invariant
+loop-position-preserved c = placed_more _ _ _ _
+    (rw (sym c.as_slice-order.ensures.value) at c.requires) (omega arith) c.loop-position.invariant
 
 pub returns : goal.returns
-returns c = subst (λ (order : List ℕ). ArePositions order c.loop-position.positions.items)
-    c.as_slice-order.ensures.value
-    (placed_all c.args.ranking.now.ranks.items c.as_slice-order.result.now c.loop-position.position
-    c.loop-position.positions.items
-    (subst (IsRankOrder c.args.ranking.now.ranks.items) (sym c.as_slice-order.ensures.value) c.requires)
-    (omega arith) c.loop-position.invariant)
+returns c =
+    let o = rw (sym c.as_slice-order.ensures.value) at c.requires in
+    let order = c.as_slice-order.result.now in
+    let p = c.loop-position.invariant in
+    rw (sym c.as_slice-order.ensures.value) (record {
+      size = p.size;
+      position = λ k below. (inside_order _ order o k below, p.placed k (omega arith));
+      node = λ a below. (
+          let at = (among_all order (length order) a refl).0 ((o.whole a).1 (omega (arith, below, o.size))) in
+          let same : get_or c.loop-position.positions.items a 0 ≡ at.0 =
+          ap (λ i. get_or c.loop-position.positions.items i 0) (sym at.2) ∙ p.placed at.0 (omega (arith, at.1)) in
+          (omega (arith, same, at.1), ap (node_at order) same ∙ at.2));
+    })

@@ -1,26 +1,43 @@
-use Rattle.std.proofs.Common.{◌∙◌, ap, subst, ℕ, List, get_or, arith}
-use Rattle.std.specs.Prelude.{Contains}
-use Rattle.digraph.specs.Edges.{graph_of}
-use Rattle.digraph.proofs.Renumbering.{rowed_more, rowed_all}
-use Rattle.digraph.proofs.Rows.{graph_push, length_graph}
+use Rattle.std.proofs.Common.{◌≡◌, sym, [], ◌∷◌, ◌++◌, ◌+◌, length, ◌∙◌, ap, get_or, arith}
+use Rattle.digraph.specs.Edges.{IsWithin, successors, graph_of}
+use Rattle.std.proofs.lemmas.Grind.{common_steps}
+use Rattle.digraph.specs.Renumbered.{HasPosition, node_at}
+use Rattle.digraph.proofs.Gathering.{below_more}
+use Rattle.digraph.proofs.Rows.{edge_push, graph_push, length_graph}
 use Rattle.digraph.proofs.renumber.renumber_rows.Goals as goal
 
 pub falling_positions-requires : goal.falling_positions-requires
 falling_positions-requires c b w =
-    let below = c.requires.within (get_or c.args.order.now c.loop-node.node-index 0) b
-    (subst (λ (xs : List ℕ). Contains xs b) c.row.ensures w) in
+    let below = c.requires.within (get_or c.args.order.now c.loop-node.node-index 0) b (rw c.row.ensures at w) in
     omega (arith, below, c.requires.size, c.requires.positions.size, length_graph c.args.graph.now)
 
 pub loop-node-preserved : goal.loop-node-preserved
-loop-node-preserved c = rowed_more (graph_of c.args.graph.now) c.args.order.now c.args.positions.now
-    c.loop-node.node-index (graph_of c.loop-node.rows.items)
-    (graph_of c.push.new.self.items) c.in_ok-row.row.items c.row.result.now
-    (ap graph_of c.in_ok-push.ensures.items ∙ graph_push c.loop-node.rows.items c.in_ok-row.row) c.row.ensures
-    c.in_ok-row.ensures c.loop-node.invariant
+loop-node-preserved c =
+    let rows = graph_of c.loop-node.rows.items in
+    rw (ap graph_of c.in_ok-push.ensures.items ∙ graph_push c.loop-node.rows.items c.in_ok-row.row) (record {
+      size = (let more : length (rows ++ c.in_ok-row.row.items ∷ []) ≡ length rows + 1 = grind (arith, common_steps) in
+          omega (arith, more, c.loop-node.invariant.size));
+      rowed = λ k j. below_more (λ i. HasPosition c.args.positions.now
+          (successors (graph_of c.args.graph.now) (node_at c.args.order.now i)) j) c.loop-node.node-index k
+          (rw c.loop-node.invariant.size at (edge_push rows c.in_ok-row.row.items k j))
+          (c.loop-node.invariant.rowed k j) (rw c.row.ensures at (c.in_ok-row.ensures j));
+    })
 
 pub returns : goal.returns
-returns c = rowed_all (graph_of c.args.graph.now) c.args.order.now c.args.positions.now c.loop-node.node-index
-    (graph_of c.loop-node.rows.items) (omega arith)
-    (omega (arith, c.requires.size, length_graph c.args.graph.now))
-    (λ a b edge. (let within = c.requires.within a b edge in omega (arith, within, length_graph c.args.graph.now)))
-    c.requires.positions c.loop-node.invariant
+returns c =
+    let order = c.args.order.now in
+    let p = c.requires.positions in
+    let r = c.loop-node.invariant in
+    let inside : IsWithin (graph_of c.args.graph.now) (length order) = rw c.requires.size at c.requires.within in
+    record {
+      size = r.size ∙ omega arith;
+      edges = λ k j hk hj. (
+        λ edge. (let (b, way, is) = ((r.rowed k j).0 edge).1 in
+            rw (ap (node_at order) (sym is) ∙ (p.node b (inside (node_at order k) b way)).1) way),
+        λ edge. (r.rowed k j).1 (omega (arith, hk), (node_at order j, edge, (p.position j hj).1)),
+      );
+      within = λ k j edge. (
+          let w = ((r.rowed k j).0 edge).1 in
+          let at = (p.node w.0 (inside (node_at order k) w.0 w.1)).0 in
+          omega (arith, at, w.2));
+    }

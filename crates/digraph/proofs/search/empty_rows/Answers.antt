@@ -1,9 +1,18 @@
-use Rattle.digraph.proofs.Rows.{empties_none, empties_push}
+use Rattle.std.proofs.Common.{◌≡◌, ◌+◌, [], ◌∷◌, ◌++◌, length, inl, inr, arith}
+use Rattle.std.proofs.lemmas.Grind.{common_steps}
+use Rattle.digraph.specs.Edges.{graph_of}
+use Rattle.digraph.proofs.Rows.{edge_push, graph_push, no_items}
 use Rattle.digraph.proofs.search.empty_rows.Goals as goal
 
-pub loop-init : goal.loop-init
-loop-init c = empties_none c.new-rows.result.items c.new-rows.ensures.items
-
 pub loop-preserved : goal.loop-preserved
-loop-preserved c = empties_push c.loop.rows.items c.push.new.self.items c.loop.counter _ c.in_ok-push.ensures.items
-    c.new.ensures.items c.loop.invariant
+loop-preserved c =
+    let rows = c.loop.rows.items in
+    let v = c.new.result in
+    rw c.in_ok-push.ensures.items (record {
+      size = (let len : length (rows ++ v ∷ []) ≡ length rows + 1 = grind (arith, common_steps) in
+          omega (arith, len, c.loop.invariant.size));
+      empty = λ a b edge. elim ((edge_push (graph_of rows) v.items a b).0 (rw (graph_push rows v) at edge)) [
+        | inl before ↦ c.loop.invariant.empty a b before
+        | inr (last, w) ↦ no_items b (rw c.new.ensures.items at w)
+      ];
+    })

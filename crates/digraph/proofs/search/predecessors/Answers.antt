@@ -1,32 +1,35 @@
-use Rattle.std.proofs.Common.{◌≡◌, subst, ℕ, List, length, arith, Vec, Global}
-use Rattle.std.specs.Prelude.{Contains, ◌↔◌, ◌⊎◌}
-use Rattle.digraph.specs.Edges.{graph_of, Edge}
-use Rattle.digraph.proofs.Rows.{turned_none, turned_more, turned_all, written, length_graph}
+use Rattle.std.proofs.Common.{◌∙◌, ◌≡◌, length, arith}
+use Rattle.digraph.proofs.Rows.{edge_below, written, length_graph}
+use Rattle.digraph.specs.Edges.{Edge, graph_of}
+use Rattle.digraph.proofs.Gathering.{below_more}
+use Rattle.digraph.proofs.Visiting.{no_position}
 use Rattle.digraph.proofs.search.predecessors.Goals as goal
 
 pub loop-node-init : goal.loop-node-init
-loop-node-init c = turned_none (graph_of c.args.graph.now) c.in_ok-rows.rows.items
-    (omega (arith, length_graph c.args.graph.now, c.in_ok-rows.ensures.size))
-    c.in_ok-rows.ensures.empty
+loop-node-init c = record {
+  size = omega (arith, length_graph c.args.graph.now, c.in_ok-rows.ensures.size);
+  edges = λ b a. (λ edge. absurd (c.in_ok-rows.ensures.empty b a edge), λ w. absurd (no_position a w.0));
+}
 
 pub turn-requires : goal.turn-requires
 turn-requires c = record {
-  room = λ b w. (let within = c.requires c.loop-node.node b (subst (λ (xs : List ℕ). Contains xs b) c.row.ensures w) in
+  room = λ b w. (let within = c.requires c.loop-node.node b (rw c.row.ensures at w) in
       omega (arith, within, c.loop-node.invariant.size, length_graph c.args.graph.now, c.deref_mut.ensures.len));
 }
 
 pub loop-node-preserved : goal.loop-node-preserved
 loop-node-preserved c =
     let len : length c.turn.new.rows ≡ length c.loop-node.rows.items = omega (arith, c.deref_mut.ensures.len) in
-    rw (written c.turn.new.rows c.loop-node.rows.items c.loop-node.rows.len c.loop-node.rows.ok.0 len)
-    (turned_more (graph_of c.args.graph.now) c.loop-node.node c.loop-node.rows.items c.turn.new.rows c.row.result.now
-    c.row.ensures len
-    (subst (λ (rs : List (Vec ℕ Global)). (b a : ℕ) → Edge (graph_of c.turn.new.rows) b a
-    ↔ (Edge (graph_of rs) b a ⊎ ((a ≡ c.loop-node.node) × Contains c.row.result.now b))) c.deref_mut.ensures.value
-    c.in_ok-turn.ensures)
-    c.loop-node.invariant)
+    rw (written _ _ _ c.loop-node.rows.ok.0 len) (record {
+      size = len ∙ c.loop-node.invariant.size;
+      edges = λ b a. below_more (λ x. Edge (graph_of c.args.graph.now) x b) c.loop-node.node a
+          (rw c.deref_mut.ensures.value at (c.in_ok-turn.ensures b a)) (c.loop-node.invariant.edges b a)
+          (rw c.row.ensures (λ w. w, λ w. w));
+    })
 
 pub returns-clause-turned : goal.returns-clause-turned
-returns-clause-turned c =
-    turned_all (graph_of c.args.graph.now) c.loop-node.node c.loop-node.rows.items
-    (omega (arith, length_graph c.args.graph.now)) c.loop-node.invariant
+returns-clause-turned c b a = (
+  λ edge. ((c.loop-node.invariant.edges b a).0 edge).1,
+  λ edge. (let below = edge_below (graph_of c.args.graph.now) a b edge in
+      (c.loop-node.invariant.edges b a).1 (omega (arith, below, length_graph c.args.graph.now), edge)),
+)

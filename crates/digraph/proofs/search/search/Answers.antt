@@ -1,17 +1,29 @@
-use Rattle.std.proofs.Common.{◌≡◌, ◌∙◌, ap, ℕ, ◌<◌, List, length, get_or, arith, subst}
-use Rattle.std.specs.Prelude.{Contains}
+use Rattle.std.proofs.Common.{eqb-true, length, inl, inr, lit<, refl, sym, ◌≡◌, ◌∙◌, ap, ◌<◌, length, get_or, arith}
 use Rattle.std.proofs.lemmas.List.{get_or_default}
+use Rattle.std.proofs.lemmas.List.Elements.{Contains-get_or}
 use Rattle.digraph.specs.Edges.{graph_of, successors}
-use Rattle.digraph.proofs.Searching.{none_are, found_below, found_short, searching_start, searching_next, searching_all}
+use Rattle.digraph.specs.Leads.{here}
+use Rattle.digraph.proofs.Rising.{one_only}
+use Rattle.digraph.proofs.Visiting.{no_position}
+use Rattle.std.proofs.lemmas.Map.Steps.{length-le_from_distinct_below}
+use Rattle.std.proofs.lemmas.Map.Views.{Contains-from_any}
+use Rattle.digraph.proofs.Searching.{none_are, no_member, searching_next, closed}
 use Rattle.digraph.proofs.search.search.Goals as goal
 
 pub visit-requires-clause-marked : goal.visit-requires-clause-marked
-visit-requires-clause-marked c = none_are c.args.marks.now c.args.found.now.items c.requires.none c.requires.empty
+visit-requires-clause-marked c = none_are _ _ c.requires.none c.requires.empty
 
 pub loop-next-init : goal.loop-next-init
-loop-next-init c = searching_start (graph_of c.args.graph.now)
-    (length c.args.graph.now) c.args.start c.args.found.now.items c.visit.new.marks
-    c.visit.new.marked.items c.requires.empty (omega arith) c.in_ok-visit.ensures.marked c.in_ok-visit.ensures.added
+loop-next-init c = record {
+  room = omega arith;
+  are = c.in_ok-visit.ensures.marked;
+  first = (c.in_ok-visit.ensures.added c.args.start).1 (inr (0, lit< tt, refl));
+  sound = λ x w. elim ((c.in_ok-visit.ensures.added x).0 w) [
+    | inl h ↦ absurd (no_member _ x c.requires.empty h)
+    | inr h ↦ rw (sym (one_only c.args.start x h)) here
+  ];
+  done = λ k b h w. absurd (no_position k h);
+}
 
 pub row-requires : goal.row-requires
 row-requires c =
@@ -19,20 +31,22 @@ row-requires c =
     omega (arith, c.loop-next.found.ok.0, c.len.ensures) in
     let at : c.index-node.result.now ≡ get_or c.loop-next.found.items c.loop-next.next 0 =
     c.index-node.ensures ∙ get_or_default c.loop-next.found.items c.loop-next.next c.index-node.result.now 0 inside in
-    let below = found_below (graph_of c.args.graph.now) (length c.args.graph.now) c.args.start c.loop-next.marks
-    c.loop-next.found.items c.loop-next.next
-    c.loop-next.next c.loop-next.invariant inside in
-    omega (arith, at, below)
+    let below =
+    ((c.loop-next.invariant.are.same _).1 (Contains-get_or c.loop-next.found.items c.loop-next.next 0 inside)).0 in
+    omega (arith, at, below, c.loop-next.invariant.room)
 
 pub visit-requires-in-loop-next-clause-room : goal.visit-requires-in-loop-next-clause-room
 visit-requires-in-loop-next-clause-room c k w =
-    let within = c.requires.within c.index-node.result.now k (subst (λ (xs : List ℕ). Contains xs k) c.row.ensures w) in
+    let within = c.requires.within c.index-node.result.now k (rw c.row.ensures at w) in
     omega (arith, within, c.loop-next.invariant.room)
 
 pub loop-next-smaller : goal.loop-next-smaller
-loop-next-smaller c = let short = found_short (graph_of c.args.graph.now)
-    (length c.args.graph.now) c.args.start c.loop-next.marks c.loop-next.found.items
-    c.loop-next.next c.loop-next.invariant in omega (arith, short, c.loop-next.found.ok.0, c.len.ensures)
+loop-next-smaller c =
+    let inv = c.loop-next.invariant in
+    let short = length-le_from_distinct_below c.loop-next.found.items (length c.args.graph.now) inv.are.once (λ q e. (
+    let inside = ((inv.are.same q).1 (Contains-from_any eqb-true q c.loop-next.found.items e)).0 in
+    omega (arith, inside, inv.room))) in
+    omega (arith, short, c.loop-next.found.ok.0, c.len.ensures)
 
 pub loop-next-preserved : goal.loop-next-preserved
 loop-next-preserved c =
@@ -40,15 +54,14 @@ loop-next-preserved c =
     omega (arith, c.loop-next.found.ok.0, c.len.ensures) in
     let at : c.index-node.result.now ≡ get_or c.loop-next.found.items c.loop-next.next 0 =
     c.index-node.ensures ∙ get_or_default c.loop-next.found.items c.loop-next.next c.index-node.result.now 0 inside in
-    searching_next (graph_of c.args.graph.now) (length c.args.graph.now) c.args.start c.loop-next.marks
-    c.visit-in-loop-next.new.marks c.loop-next.found.items
-    c.visit-in-loop-next.new.marked.items c.row.result.now c.loop-next.next inside
-    (c.row.ensures ∙ ap (successors (graph_of c.args.graph.now)) at)
+    searching_next _ _ _ _ _ _ _ _ _ inside (c.row.ensures ∙ ap (successors (graph_of c.args.graph.now)) at)
     (omega (arith, c.loop-next.invariant.room)) c.in_ok-visit-2.ensures.marked c.in_ok-visit-2.ensures.prefix
-    c.in_ok-visit-2.ensures.added
-    c.loop-next.invariant
+    c.in_ok-visit-2.ensures.added c.loop-next.invariant
 
 pub returns : goal.returns
-returns c = searching_all (graph_of c.args.graph.now) (length c.args.graph.now) c.args.start c.loop-next.marks
-    c.loop-next.found.items c.loop-next.next
-    (omega (arith, c.loop-next.found.ok.0, c.len.ensures)) c.loop-next.invariant
+returns c x =
+    let inv = c.loop-next.invariant in (
+      λ m. inv.sound x ((inv.are.same x).0 m),
+      λ w. (inv.are.same x).1 (closed _ _ _ x (omega (arith, c.loop-next.found.ok.0, c.len.ensures)) inv.done _ w
+          inv.first),
+    )

@@ -1,21 +1,24 @@
-use Rattle.std.proofs.Common.{◌∙◌, sym, subst, ℕ, arith}
+use Rattle.std.proofs.Common.{◌∙◌, sym, arith}
 use Rattle.std.proofs.lemmas.Bool.{false≢true}
-use Rattle.proto_links.specs.Imports.{IsNamed}
-use Rattle.proto_links.proofs.Faulting.{missing_fault, cyclic_fault, no_fault}
+use Rattle.proto_links.specs.Imports.{missing, cyclic}
+use Rattle.proto_links.proofs.Faulting.{only_missing, only_cyclic, no_fault}
 use Rattle.proto_links.proofs.faults.fault_of.Goals as goal
 
 pub returns-in-None : goal.returns-in-None
-returns-in-None c = missing_fault c.args.files.now c.args.file c.args.import.now
-    (subst (λ name. (b : ℕ) → IsNamed c.args.files.now name b → ⊥) c.as_str.ensures c.in-None.ensures)
+returns-in-None c =
+    let none = rw c.as_str.ensures at c.in-None.ensures in
+    (missing none, only_missing _ _ c.args.import.now none)
 
 pub returns-then-reaching-target : goal.returns-then-reaching-target
 returns-then-reaching-target c =
-    let named = subst (λ name. IsNamed c.args.files.now name c.in-Some.target) c.as_str.ensures c.in-Some.ensures in
-    cyclic_fault c.args.files.now c.args.file c.args.import.now c.in-Some.target named
-    ((c.requires.reaching c.in-Some.target).0 (omega (arith, named.0, c.requires.room), c.if-reaching-target.true))
+    let named = rw c.as_str.ensures at c.in-Some.ensures in
+    let back = (c.requires.reaching c.in-Some.target).0
+    (omega (arith, named.0, c.requires.room), c.if-reaching-target.true) in (
+      cyclic c.in-Some.target named back,
+      only_cyclic _ _ c.args.import.now _ named,
+    )
 
 pub returns-else-reaching-target : goal.returns-else-reaching-target
-returns-else-reaching-target c =
-    let named = subst (λ name. IsNamed c.args.files.now name c.in-Some.target) c.as_str.ensures c.in-Some.ensures in
-    no_fault c.args.files.now c.args.file c.args.import.now c.in-Some.target c.requires.order named
+returns-else-reaching-target c = no_fault _ _ c.args.import.now _
+    c.requires.order (rw c.as_str.ensures at c.in-Some.ensures)
     (λ r. false≢true (sym c.if-reaching-target.false ∙ ((c.requires.reaching c.in-Some.target).1 r).1))

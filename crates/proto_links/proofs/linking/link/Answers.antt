@@ -1,21 +1,14 @@
-use Rattle.digraph.specs.Edges.{graph_of}
-use Rattle.digraph.specs.Reaches.{HasNoCycle}
-use Rattle.digraph.specs.Ranks.{IsRanked}
-use Rattle.proto_links.specs.Imports.{NoneBad}
 use Rattle.proto_links.proofs.Positions.{graph_within, rows_within}
 use Rattle.proto_links.proofs.Reaching.{none_bad, no_cycle, none_missing}
 use Rattle.proto_links.proofs.linking.link.Goals as goal
 use Rattle.proto_links.proofs.linking.link.Goals.{in-Some+else-graph, in_default}
 
 pub rank_nodes-requires : goal.rank_nodes-requires
-rank_nodes-requires c = rw c.deref.ensures.value
-    (rows_within c.in_ok-graph.graph.imports.items (graph_within c.in_ok-graph.ensures.imports))
+rank_nodes-requires c = rw c.deref.ensures.value (rows_within _ (graph_within c.in_ok-graph.ensures.imports))
 
 pub link_files-requires : goal.link_files-requires
 link_files-requires c =
-    let ranks : IsRanked (graph_of c.in_ok-graph.graph.imports.items) c.in-Some.ranking.ranks.items =
-    rw c.deref.ensures.value at
-    (rw c.in-Some.is at c.in_ok-ranking.ensures.ranks) in
+    let ranks = rw c.deref.ensures.value at (rw c.in-Some.is at c.in_ok-ranking.ensures.ranks) in
     record {
       none_bad = none_bad c.in_ok-graph.ensures.imports ranks (c.in_ok-graph.ensures.whole c.if-graph.true);
       imports = c.in_ok-graph.ensures.imports;
@@ -26,12 +19,10 @@ link_files-requires c =
 
 pub unreachable-requires : goal.unreachable-requires
 unreachable-requires c =
-    let none : NoneBad c.args.files.now = rw c.in-None.is at c.in_ok-file.ensures in
+    let none = rw c.in-None.is at c.in_ok-file.ensures in
     elim c.match-branch-3.branch [
       | in-Some+else-graph w ↦ (let (file, lacking) = c.in_ok-graph.ensures.part w.if-graph.false in
-          none_missing c.args.files.now none file lacking)
-      | in_default w ↦ (
-          let cyclic : HasNoCycle (graph_of c.deref.result.now)
-          → ⊥ = rw w.in_default.is at c.in_ok-ranking.ensures.none in
-          cyclic (rw c.deref.ensures.value (no_cycle c.in_ok-graph.ensures.imports none)))
+          none_missing _ none _ lacking)
+      | in_default w ↦ (rw w.in_default.is at c.in_ok-ranking.ensures.none)
+          (rw c.deref.ensures.value (no_cycle c.in_ok-graph.ensures.imports none))
     ]

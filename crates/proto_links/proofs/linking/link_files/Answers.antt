@@ -1,6 +1,8 @@
 use Rattle.std.proofs.Common.{arith}
 use Rattle.std.proofs.lemmas.List.{get_or_default}
-use Rattle.proto_links.proofs.Positions.{rows_size, public_size, rows_fall, public_falls, laid_out, linked_of}
+use Rattle.digraph.proofs.Renumbering.{renumbered_falls}
+use Rattle.proto_links.proofs.Reaching.{public_imports}
+use Rattle.proto_links.proofs.Positions.{rows_size, public_size, rows_fall, laid_out, linked_of}
 use Rattle.proto_links.proofs.linking.link_files.Goals as goal
 
 pub files_reached-requires : goal.files_reached-requires
@@ -10,7 +12,8 @@ pub files_seen-requires : goal.files_seen-requires
 files_seen-requires c =
     let m = c.in_ok-positioned.ensures in record {
       imports = rows_fall m;
-      public = public_falls m;
+      public = renumbered_falls _ _ _ _ _ m.ranked.ranks m.ranked.order (λ a b edge. (m.ranked.imports.edges a b).1
+          (public_imports c.args.files.now a b ((m.ranked.public_imports.edges a b).0 edge))) m.public_imports;
       size = rows_size m;
       public_size = omega (arith, public_size m, rows_size m);
       files = λ k d h. rw (get_or_default c.args.ranking.order.items k d 0 h) (m.positions.position k h).0;

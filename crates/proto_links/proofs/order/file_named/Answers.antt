@@ -1,5 +1,4 @@
-use Rattle.std.proofs.Common.{rules}
-use Rattle.std.specs.Ordering.{nat_cmp}
+use Rattle.std.proofs.Common.{rules, nat_cmp}
 use Rattle.std.specs.Cmp.Lexicographic.{slice_cmp}
 use Rattle.std.proofs.lemmas.Cmp.{nat_list_cmp_total}
 use Rattle.std.proofs.lemmas.List.Sorted.{searchable_from_sorted}
@@ -13,14 +12,13 @@ returns-in-Ok c =
     let found =
     rw c.in-Ok.is at (c.binary_search_by.ensures.position (λ f. slice_cmp nat_cmp (name_of f) c.args.name.now)
     (always_returns_same _ _ _ (λ a r g called. search rules))) in
-    found_name c.args.files.now c.in-Ok.at c.args.name.now c.in-Ok.ensures.bound found
+    found_name _ _ _ c.in-Ok.ensures.bound found
 
 pub returns-in-Err : goal.returns-in-Err
 returns-in-Err c =
     let found =
     rw c.in-Err.is at (c.binary_search_by.ensures.position (λ f. slice_cmp nat_cmp (name_of f) c.args.name.now)
     (always_returns_same _ _ _ (λ a r g called. search rules))) in
-    let split =
-    found (searchable_from_sorted nat_list_cmp_total name_of c.args.files.now c.args.name.now
-    (sorted_names c.args.files.now c.requires)) in
-    no_name c.args.files.now c.in-Err.field-0 c.args.name.now split.0 split.1
+    let split = found
+    (searchable_from_sorted nat_list_cmp_total name_of c.args.files.now c.args.name.now (sorted_names _ c.requires)) in
+    no_name _ _ _ split.0 split.1

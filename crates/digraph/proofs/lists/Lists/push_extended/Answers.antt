@@ -1,4 +1,3 @@
-use Rattle.std.proofs.lemmas.Grind.{common_steps}
 use Rattle.std.proofs.Common.{arith}
 use Rattle.digraph.proofs.Sharing.{always_on_err, view_kept, length_kept, view_pushed, within_more, within_pushed, list_at, range_inside, extended_length}
 use Rattle.digraph.proofs.lists.Lists.push_extended.Goals as goal
@@ -17,12 +16,3 @@ invariant_of-self-2 c = grind (arith, extended_length, range_inside, within_push
 
 pub returns-clause-appended : goal.returns-clause-appended
 returns-clause-appended c = grind (arith, extended_length, list_at, range_inside, view_pushed)
-
-pub index-requires : goal.index-requires
-index-requires c = grind (arith, common_steps)
-
-pub put_extended-requires : goal.put_extended-requires
-put_extended-requires c = grind (arith, common_steps)
-
-pub overflow_add-size : goal.overflow_add-size
-overflow_add-size c = grind (arith, common_steps)

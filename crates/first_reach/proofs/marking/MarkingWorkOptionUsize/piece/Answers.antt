@@ -1,4 +1,4 @@
-use Rattle.std.proofs.Common.{◌≡◌, ℕ, inl, inr, ap, ◌∙◌, subst, List, length, take, Option, Some, None, arith}
+use Rattle.std.proofs.Common.{◌≡◌, ℕ, inl, inr, ap, ◌∙◌, length, Option, Some, None, arith}
 use Rattle.std.proofs.Math.Seq.{take-length}
 use Rattle.std.proofs.lemmas.Option.{slice_get-get_or}
 use Rattle.share_work.specs.Marks.{MarkSeatValue}
@@ -36,12 +36,7 @@ all_marked : (g : given.Over) (c : goal.After-loop-k g)
     → HasMarked (g.F.Reach.list c.args.self.now.table.now.reach) c.args.first c.args.items.now
     c.args.seat.now c.loop-k.seat
 all_marked g c =
-    let items = c.args.items.now in
-    let all : take c.loop-k.k items ≡ items =
-    ap (λ k. take k items) (let e : c.loop-k.k ≡ length items = omega arith in e) ∙ take-length items in
-    subst (λ (xs : List (Option ℕ)). HasMarked (g.F.Reach.list c.args.self.now.table.now.reach) c.args.first xs
-    c.args.seat.now c.loop-k.seat) all
-    c.loop-k.invariant.2
+    let e : c.loop-k.k ≡ length c.args.items.now = omega arith in rw (e, take-length) at c.loop-k.invariant.2
 
 pub returns-clause-kept : goal.returns-clause-kept
 returns-clause-kept g c = λ x n h. (all_marked g c x n).1 (inl h)

@@ -1,6 +1,5 @@
-use Rattle.std.proofs.Common.{◌+◌, arith, refl, subst, sym, take}
+use Rattle.std.proofs.Common.{arith, refl}
 use Rattle.std.proofs.lemmas.Option.{slice_get_read}
-use Rattle.share_work.specs.Shares.{GivesItems}
 use Rattle.share_work.proofs.Giving.{gives_next}
 use Rattle.share_work.proofs.each.OneByOneWork.piece.Goals as goal
 
@@ -16,8 +15,5 @@ item-requires g c =
 
 pub loop-k-preserved : goal.loop-k-preserved
 loop-k-preserved g c =
-    let l = c.loop-k in
-    let gives = g.W.ItemWork.gives c.args.self.now.work.now in
-    subst (GivesItems gives c.args.first (take (l.k + 1) c.args.items.now)) (sym c.in_ok-push.ensures.items)
-    (gives_next gives c.args.first c.args.items.now l.k _ l.outs.items _ (omega arith) c.index-items-k.is l.invariant
-    c.in_ok-item.ensures.gives)
+    rw c.in_ok-push.ensures.items (gives_next (g.W.ItemWork.gives c.args.self.now.work.now) c.args.first
+    c.args.items.now c.loop-k.k _ _ _ (omega arith) c.index-items-k.is c.loop-k.invariant c.in_ok-item.ensures.gives)

@@ -1,26 +1,13 @@
-use Rattle.std.proofs.Common.{length, ◌-◌, ◌≡◌, ℕ, ◌+◌, ◌*◌, ◌≤◌, ◌<◌, ◌⊎◌, Some, slice_get, take, drop}
-use Rattle.share_work.specs.Shares.{AddsInRow, AddsSome}
-use Rattle.share_work.specs.WorkerRows.{GivesPiece}
+use Rattle.std.proofs.Common.{length, ◌-◌, ◌≡◌, ◌≤◌}
+use Rattle.share_work.proofs.PieceRows.{IsRow}
 use Rattle.share_work.proofs.shares.rows.row_of.Given as goal
 
 abbrev pub invariant-loop-first : goal.invariant-loop-first
 invariant-loop-first g l =
-    (l.workers ≡ l.fn.job.plan.workers)
-    × (l.cut ≡ l.fn.job.plan.cut)
-    × (l.items ≡ l.fn.job.items.now)
-    × (l.first ≡ (l.worker + length l.row.items * l.workers) * l.cut)
-    × (l.piece ≤ l.first)
-    × ((k : ℕ) (v : _) → slice_get l.row.items k ≡ Some v
-    → GivesPiece (g.W.Work.gives l.fn.job.work.now) l.cut l.items (l.worker + k * l.workers) v.items)
-    × g.W.Work.fits l.fn.job.work.now l.seat
-    × (g.W.Work.number l.fn.job.work.now l.seat ≡ g.W.Work.number l.fn.job.work.now l.fn.seat)
-    × ((x n : ℕ) → g.W.Work.holds l.fn.job.work.now l.fn.seat x n → g.W.Work.holds l.fn.job.work.now l.seat x n)
-    × ((x n : ℕ) → g.W.Work.holds l.fn.job.work.now l.seat x n → g.W.Work.holds l.fn.job.work.now l.fn.seat x n
-    ⊎ AddsInRow (g.W.Work.adds l.fn.job.work.now) l.workers l.cut l.items l.worker x n)
-    × ((x n k : ℕ) → k < length l.row.items
-    → AddsSome (g.W.Work.adds l.fn.job.work.now) ((l.worker + k * l.workers) * l.cut)
-    (take l.cut (drop ((l.worker + k * l.workers) * l.cut) l.items)) x n
-    → g.W.Work.holds l.fn.job.work.now l.seat x n)
+    let job = l.fn.job in let work = job.work.now in
+    (l.piece ≤ l.first) × g.W.Work.fits work l.seat × (g.W.Work.number work l.seat ≡ g.W.Work.number work l.fn.seat)
+    × IsRow (g.W.Work.gives work) (λ v. v.items) (g.W.Work.holds work) (g.W.Work.adds work) job.plan.workers
+    job.plan.cut job.items.now l.worker l.fn.seat l.first l.row.items l.seat
 
 abbrev pub decreases-loop-first : goal.decreases-loop-first
 decreases-loop-first g l = length l.items - l.first
