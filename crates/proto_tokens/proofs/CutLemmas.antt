@@ -1,5 +1,5 @@
 -- A text cut into pieces, one after another.
-use Rattle.std.proofs.Common.{◌≡◌, ℕ, ◌+◌, ◌<◌, ◌≤◌, Option, None, Some, List, [], ◌∷◌, ◌++◌, length, drop, map, refl, sym, ap, subst, ◌∙◌, arith, length-drop, length-take-le}
+use Rattle.std.proofs.Common.{◌≡◌, ℕ, ◌+◌, ◌<◌, ◌≤◌, Option, None, Some, List, [], ◌∷◌, ◌++◌, length, drop, map, refl, sym, ap, subst, ◌∙◌, inr, arith, length-drop, length-take-le}
 use Rattle.std.proofs.lemmas.List.{append-nil, map_push}
 use Rattle.std.specs.Option.{option_map}
 use Rattle.std.specs.Str.{IsUtf8}
@@ -11,9 +11,9 @@ use Rattle.proto_base.specs.declared.kind.Kind.{Kind}
 use Rattle.proto_tokens.specs.Token.{Lexeme, Spelled}
 use Rattle.proto_tokens.specs.ProgramTokens.{spelled, lexeme_of}
 use Rattle.proto_tokens.specs.Piece.{IsLongestPiece, IsPieceFault}
-use Rattle.proto_tokens.specs.Spelling.{Piece, IsCutIntoPieces, tokens_from, with_token, SpellsFrom, mark_len}
+use Rattle.proto_tokens.specs.Spelling.{Piece, IsCutIntoPieces, tokens_from, with_token, mark_len}
 use Rattle.proto_tokens.specs.Told.{IsPlacedWithin, IsFaultOf}
-use Rattle.proto_tokens.specs.Steps.{IsFaultFrom, IsFaultAfter}
+use Rattle.proto_tokens.specs.Steps.{IsFaultFrom}
 use Rattle.proto_tokens.specs.declared.token.TokenError.{TokenError}
 use Rattle.proto_tokens.specs.declared.token.TokenError.TheVariants as errors
 use Rattle.proto_tokens.proofs.Pieces.{starts}
@@ -43,10 +43,9 @@ pub cut_one : {P : Type 0} (IsPart : List ℕ → P → Type 0) (len : P → ℕ
 cut_one IsPart len one s from [] [] m n a b no_m no_n = (refl, sym a ∙ b)
 cut_one IsPart len one s from [] (q ∷ qs) m n a b no_m no_n = grind arith
 cut_one IsPart len one s from (p ∷ ps) [] m n a b no_m no_n = grind arith
-cut_one {P} IsPart len one s from (p ∷ ps) (q ∷ qs) m n a b no_m no_n =
+cut_one IsPart len one s from (p ∷ ps) (q ∷ qs) m n a b no_m no_n =
     let same = one (drop from s) p q a.0 b.0 in
-    let rest = cut_one IsPart len one s (from + len p) ps qs m n a.1
-    (subst (λ (r : P). IsCutInto IsPart len s (from + len r) qs n) (sym same) b.1) no_m no_n in
+    let rest = cut_one IsPart len one s (from + len p) ps qs m n a.1 (rw same b.1) no_m no_n in
     ((λ i. same i ∷ rest.0 i), rest.1)
 
 with_token-append : (piece : Option Lexeme) (start end : ℕ) (ts us : List Spelled)
@@ -55,10 +54,8 @@ with_token-append piece start end ts us = grind arith
 
 tokens_more : (s : List ℕ) (from : ℕ) (ps : List Piece) (to : ℕ) (p : Piece) → IsCutIntoPieces s from ps to
     → tokens_from from (ps ++ p ∷ []) ≡ tokens_from from ps ++ with_token p.is to (to + p.len) []
-tokens_more s from [] to p cut = ap (λ i. with_token p.is i (i + p.len) []) cut
-tokens_more s from (q ∷ ps) to p cut =
-    ap (with_token q.is from (from + q.len)) (tokens_more s (from + q.len) ps to p cut.1)
-    ∙ with_token-append q.is from (from + q.len) (tokens_from (from + q.len) ps) (with_token p.is to (to + p.len) [])
+tokens_more s from [] to p cut = grind arith
+tokens_more s from (q ∷ ps) to p cut = grind (arith, with_token-append, tokens_more s (from + q.len) ps to p cut.1)
 
 cut_on : (s : List ℕ) (start at n : ℕ) (piece : Option Lexeme) (ts : List Spelled) → IsCutUpTo s start at ts
     → IsLongestPiece (drop at s) n piece
@@ -73,19 +70,10 @@ cut_on s start at n piece ts so_far is =
           ∙ ap (λ us. us ++ with_token piece at (at + n) []) so_far.tokens;
     }
 
-pub cut_gap : (s : List ℕ) (start at n : ℕ) (ts : List Spelled) → IsCutUpTo s start at ts
-    → IsLongestPiece (drop at s) n None → IsCutUpTo s start (at + n) ts
-cut_gap s start at n ts so_far is = subst (λ us. IsCutUpTo s start (at + n) us) (append-nil ts)
-    (cut_on s start at n None ts so_far is)
-
-pub cut_token : (s : List ℕ) (start at n : ℕ) (lexeme : Lexeme) (ts : List Spelled) → IsCutUpTo s start at ts
-    → IsLongestPiece (drop at s) n (Some lexeme)
-    → IsCutUpTo s start (at + n) (ts ++ record { start = at; end = at + n; lexeme = lexeme } ∷ [])
-cut_token s start at n lexeme ts so_far is = cut_on s start at n (Some lexeme) ts so_far is
-
 pub gap_passed : (s : List ℕ) (start at n : ℕ) (ts : List Spelled) (kind : Option TokenKind) → IsCutUpTo s start at ts
     → IsLongestPiece (drop at s) n (option_map lexeme_of kind) → kind ≡ None → IsCutUpTo s start (at + n) ts
-gap_passed s start at n ts kind so_far is none = grind (arith, cut_gap)
+gap_passed s start at n ts kind so_far is none = subst (IsCutUpTo s start (at + n)) (append-nil ts)
+    (cut_on s start at n None ts so_far (rw none at is))
 
 pub token_pushed : (s : List ℕ) (start at n : ℕ) (items more : List Token) (kind : Option TokenKind) (k : TokenKind)
     → IsCutUpTo s start at (map spelled items)
@@ -93,17 +81,16 @@ pub token_pushed : (s : List ℕ) (start at n : ℕ) (items more : List Token) (
     → more ≡ items
     ++ record { kind = k; span = record { start = record { offset = at }; end = record { offset = at + n } } } ∷ []
     → IsCutUpTo s start (at + n) (map spelled more)
-token_pushed s start at n items more kind k so_far is some more_is = grind (arith, cut_token, map_push)
-
-fault_of : (limit : ℕ) (s : List ℕ) (e : TokenError) → length s ≤ limit → IsUtf8 s → IsFaultFrom s (mark_len s) e
-    → IsFaultOf limit s e
-fault_of limit s e short utf8 fault = grind arith
+token_pushed s start at n items more kind k so_far is some more_is =
+    rw (more_is, map_push) (cut_on s start at n (Some (lexeme_of k)) (map spelled items) so_far (rw some at is))
 
 -- what the cutting answers of a fault is the text's fault, where the text is short and UTF-8
 pub fault_answer : (limit : ℕ) (s source : List ℕ) (mark : ℕ) (e : TokenError) → length s ≤ limit → IsUtf8 s
     → source ≡ s → mark ≡ mark_len s
     → IsFaultFrom source mark e → IsFaultOf limit s e
-fault_answer limit s source mark e short utf8 same mark_is fault = grind (arith, fault_of)
+fault_answer limit s source mark (errors.At place kind) short utf8 same mark_is fault =
+    inr (inr (short, utf8, rw (same, mark_is) at fault))
+fault_answer limit s source mark errors.NoMemory short utf8 same mark_is fault = tt
 
 -- ---- places
 
@@ -119,18 +106,11 @@ string_fault_within s at kind fault = grind arith
 pub piece_fault_within : (s : List ℕ) (at : ℕ) (kind : Kind) → IsPieceFault s at kind → at ≤ length s
 piece_fault_within s at kind fault = grind (arith, string_fault_within)
 
-fault_within : (s : List ℕ) (from : ℕ) (e : TokenError) → from ≤ length s → IsFaultFrom s from e
-    → IsPlacedWithin (length s) e
-fault_within s from (errors.At place kind) within fault =
-    omega (
-      arith,
-      cut_within s from fault.0 fault.1 within fault.3,
-      piece_fault_within (drop fault.1 s) fault.2 kind fault.4,
-      fault.5,
-      length-drop fault.1 s,
-    )
-fault_within s from errors.NoMemory within fault = tt
-
 pub placed_within : (s source : List ℕ) (mark : ℕ) (e : TokenError) → source ≡ s → mark ≤ length s
     → IsFaultFrom source mark e → IsPlacedWithin (length s) e
-placed_within s source mark e same within fault = grind (arith, fault_within)
+placed_within s source mark (errors.At place kind) same within fault =
+    let len = ap length same in
+    let cut = cut_within source mark fault.0 fault.1 (omega arith) fault.3 in
+    let inside = piece_fault_within (drop fault.1 source) fault.2 kind fault.4 in
+    omega (arith, fault.5, length-drop fault.1 source)
+placed_within s source mark errors.NoMemory same within fault = tt

@@ -18,11 +18,6 @@ use Rattle.proto_tokens.specs.Steps.{IsNumeralFault}
 abbrev pub step : ℕ → ℕ → ℕ → ℕ
 step base n d = n * base + digit_value d
 
--- one digit more
-pub digits_value_more : (base : ℕ) (ds : List ℕ) (i : ℕ) → i < length ds
-    → digits_value base (take (i + 1) ds) ≡ digits_value base (take i ds) * base + digit_value (get_or ds i 0)
-digits_value_more base ds i lt = fold_more (step base) 0 ds i 0 lt
-
 -- more digits write no less
 step_grows : (base : ℕ) (n : ℕ) (ds : List ℕ) → 0 < base → n ≤ fold (step base) n ds
 step_grows base n [] pos = omega arith
@@ -34,8 +29,7 @@ step_grows base n (d ∷ ds) pos =
 pub digits_value_prefix : (base : ℕ) (ds : List ℕ) (i : ℕ) → 0 < base
     → digits_value base (take i ds) ≤ digits_value base ds
 digits_value_prefix base ds i pos =
-    let joined : fold (step base) 0 ds ≡ fold (step base) (fold (step base) 0 (take i ds)) (drop i ds) =
-    ap (λ (l : List ℕ). fold (step base) 0 l) (sym (take-append-drop i ds))
+    let joined = ap (fold (step base) 0) (sym (take-append-drop i ds))
     ∙ fold-append (step base) 0 (take i ds) (drop i ds) in
     omega (arith, joined, step_grows base (fold (step base) 0 (take i ds)) (drop i ds) pos)
 
@@ -44,10 +38,14 @@ pub too_big_from_step : (base : ℕ) (ds : List ℕ) (i value factor : ℕ) → 
     → value ≡ digits_value base (take i ds) → factor ≡ base
     → 2 ^ 64 ≤ value * factor + digit_value (get_or ds i 0) → 2 ^ 64 ≤ digits_value base ds
 too_big_from_step base ds i value factor pos lt value_is factor_is big =
-    grind (arith, common_steps, digits_value_more, digits_value_prefix)
+    grind (arith, common_steps, fold_more (step base) 0 ds i 0 lt, digits_value_prefix)
 
 pub not_digits : (base : ℕ) (ds : List ℕ) (n : ℕ) → list_all (λ d. is_digit d base) ds ≡ false → Writes base ds n → ⊥
 not_digits base ds n off w = grind (arith, false≢true, list_all-from_AllPass)
+
+pub are_written : (base : ℕ) (ds : List ℕ) (n : ℕ) → list_all (λ d. is_digit d base) ds ≡ true
+    → n ≡ digits_value base ds → Writes base ds n
+are_written base ds n on value = grind (arith, AllPass-from_list_all)
 
 pub has_value : (bs : List ℕ) (base : ℕ) (ds : List ℕ) (value : Option ℕ) (result : Result ℕ Kind)
     → list_all (λ d. is_digit d base) ds ≡ true
@@ -55,16 +53,6 @@ pub has_value : (bs : List ℕ) (base : ℕ) (ds : List ℕ) (value : Option ℕ
     → MatchOption value (2 ^ 64 ≤ digits_value base ds) (λ n. n ≡ digits_value base ds)
     → result ≡ ok_or value NumberTooBig
     → MatchResult result (IsNumeral bs) (IsNumeralFault bs)
-has_value bs base ds None result on parts big e = rw e (inr (
-  refl,
-  digits_value base ds,
-  (parts (digits_value base ds)).1
-      (record { digits_of_base = AllPass-from_list_all (λ d. is_digit d base) ds on; value = refl }),
-  big,
-))
-has_value bs base ds (Some n) result on parts same e =
-    rw e ((parts n).1 (record { digits_of_base = AllPass-from_list_all (λ d. is_digit d base) ds on; value = same }))
-
-pub are_written : (base : ℕ) (ds : List ℕ) (n : ℕ) → list_all (λ d. is_digit d base) ds ≡ true
-    → n ≡ digits_value base ds → Writes base ds n
-are_written base ds n on value = grind (arith, AllPass-from_list_all)
+has_value bs base ds None result on parts big e =
+    rw e (inr (refl, digits_value base ds, (parts (digits_value base ds)).1 (are_written base ds _ on refl), big))
+has_value bs base ds (Some n) result on parts same e = rw e ((parts n).1 (are_written base ds n on same))

@@ -4,19 +4,18 @@ use Rattle.std.proofs.Common.{◌≡◌, ℕ, zero, suc, ◌+◌, ◌<◌, ◌�
 use Rattle.std.specs.List.{AllPass, prefix_len}
 use Rattle.std.specs.Char.{is_ascii_digit, is_digit}
 use Rattle.std.proofs.lemmas.Bool.{both_ways, cases_lt}
-use Rattle.std.proofs.lemmas.List.{take_more, take_rest, get_or_past, get_or_at, get_or_append_left, length-append}
+use Rattle.std.proofs.lemmas.List.{take_more, take_rest, get_or_past, get_or_at, get_or_append_left, get_or-append-add, length-append}
 use Rattle.std.proofs.lemmas.Bool.Decides.{nat_tests}
 use Rattle.std.proofs.lemmas.List.Sums.{prefix_len-le-length, prefix_len_passes}
 use Rattle.std.specs.Str.{IsUtf8, IsCharBoundary}
 use Rattle.std.proofs.lemmas.Str.{IsCharBoundary-after_ascii}
-use Rattle.std.proofs.lemmas.List.Elements.{All-cons, All-weaker, All-get_or}
+use Rattle.std.proofs.lemmas.List.Elements.{All-cons, All-head, All-weaker, All-get_or}
 use Rattle.proto_tokens.specs.Bytes.{is_blank, is_letter, is_word, is_numeric, is_quote, is_punctuation, is_slash_or_star, is_in_line, begins}
 use Rattle.proto_tokens.specs.Numeral.{Writes, IsNumeral}
 use Rattle.proto_tokens.specs.Quoted.{IsString}
 use Rattle.proto_tokens.specs.Token.{Lexeme, identifier, number, string_literal, punctuation}
 use Rattle.proto_tokens.specs.Piece.{IsPiece, IsLongestPiece, IsPieceFault, IsBadNumber, IsLineComment, IsBlockComment, HasNoClose}
 use Rattle.proto_base.specs.declared.kind.Kind.{Kind}
-use Rattle.proto_base.specs.declared.kind.Kind.TheVariants as kinds
 use Rattle.proto_tokens.specs.declared.token.TokenError.{TokenError}
 use Rattle.proto_tokens.specs.declared.token.TokenError.TheVariants as errors
 use Rattle.proto_tokens.specs.Steps.{IsNumeralFault, IsFirstClose, IsFaultAfter}
@@ -87,9 +86,6 @@ pub punctuation_alone : (b : ℕ) (piece : Option Lexeme) → is_punctuation b �
     → ((piece ≡ None) × (b ≡ 47)) ⊎ ((c : ℕ) × (piece ≡ Some (punctuation c)))
 punctuation_alone b piece e f = grind (arith, common_steps, nat_tests)
 
-first_alone : (s : List ℕ) → 0 < length s → take 1 s ≡ get_or s 0 0 ∷ []
-first_alone s long = grind arith
-
 -- a comment begins with `/`
 no_comment : (s : List ℕ) (k : ℕ) → 0 < k → is_blank (get_or s 0 0) ≡ true
     → IsLineComment (take k s) ⊎ IsBlockComment (take k s) → ⊥
@@ -108,16 +104,14 @@ module _ (s : List ℕ) where
       let word : is_word (get_or s 0 0) ≡ true = let f = first.1 in grind (arith, nat_tests) in
       let pos = run_nonempty is_word s (begins_from is_word s first.0 word) in
       let fits = prefix_len-le-length is_word s in
-      let begins_so = begins_from is_letter (take (prefix_len is_word s) s)
-      (omega (arith, length-take-le (prefix_len is_word s) s fits))
-      (ap is_letter (get_or-take (prefix_len is_word s) s 0 0 pos) ∙ first.1) in
+      let begins_so : begins is_letter (take (prefix_len is_word s) s) ≡ true =
+      grind (arith, begins_from, get_or-take, length-take-le) in
       record {
         fits = fits;
         piece_is = ((begins_so, run_passes is_word s), refl);
         longest = λ k other lt within is.
             let same = letter_alone (get_or s 0 0) other first.1 (starts s k other is).2 in
-            let is' = subst (IsPiece s k) same.1 is in
-            omega (arith, run_longest is_word s k within is'.0.1);
+            omega (arith, run_longest is_word s k within (rw same.1 at is).0.1);
       }
 
   pub longest_blanks : begins is_blank s ≡ true → IsLongestPiece s (prefix_len is_blank s) None
@@ -130,8 +124,7 @@ module _ (s : List ℕ) where
         piece_is = inl (omega (arith, length-take-le (prefix_len is_blank s) s fits), run_passes is_blank s);
         longest = λ k other lt within is.
             let same = blank_alone (get_or s 0 0) other first.1 (starts s k other is).2 in
-            let is' = subst (IsPiece s k) same is in
-            elim is' [
+            elim (rw same at is) [
               | inl blanks ↦ omega (arith, run_longest is_blank s k within blanks.1)
               | inr comment ↦ absurd (no_comment s k (omega arith) first.1 comment)
             ];
@@ -148,8 +141,7 @@ module _ (s : List ℕ) where
         piece_is = (numeral, small, run_stops is_numeric s);
         longest = λ k other lt within is.
             let same = digit_alone (get_or s 0 0) other digit (starts s k other is).2 in
-            let is' = subst (IsPiece s k) same.1 is in
-            omega (arith, run_longest is_numeric s k within (numeral_numeric (take k s) same.0 is'.0).0);
+            omega (arith, run_longest is_numeric s k within (numeral_numeric _ same.0 (rw same.1 at is).0).0);
       }
 
   pub bad_number : begins is_ascii_digit s ≡ true → ((n : ℕ) → IsNumeral (take (prefix_len is_numeric s) s) n → ⊥)
@@ -158,8 +150,7 @@ module _ (s : List ℕ) where
     e,
     λ k n within numeral.
         let k_le = run_longest is_numeric s k within (numeral_numeric (take k s) n numeral).0 in
-        let k_ne : k ≢ prefix_len is_numeric s =
-        λ same. none n (subst (λ (j : ℕ). IsNumeral (take j s) n) same numeral) in
+        let k_ne : k ≢ prefix_len is_numeric s = λ same. none n (rw same at numeral) in
         within_run is_numeric s k (omega arith),
   )
 
@@ -172,55 +163,69 @@ module _ (s : List ℕ) where
       → IsLongestPiece s 1 (Some (punctuation b))
   longest_punctuation b e b_is alone =
       let first = begins_first is_punctuation s e in
+      let one : take 1 s ≡ b ∷ [] = grind arith in
       record {
         fits = omega (arith, first.0);
-        piece_is = (first_alone s first.0 ∙ ap (λ c. c ∷ []) (sym b_is), ap is_punctuation b_is ∙ first.1, alone);
+        piece_is = (one, ap is_punctuation b_is ∙ first.1, alone);
         longest = λ k other lt within is.
             elim (punctuation_alone (get_or s 0 0) other first.1 (starts s k other is).2) [
-              | inl none ↦ lone_slash s k lt within none.1 (alone (b_is ∙ none.1)) (subst (IsPiece s k) none.0 is)
-              | inr same ↦ let is' =
-                  subst (IsPiece s k) same.1 is in let one : length (take k s) ≡ 1 = ap length is'.0 in
-                  omega (arith, length-take-le k s within)
+              | inl none ↦ lone_slash s k lt within none.1 (alone (b_is ∙ none.1)) (rw none.0 at is)
+              | inr same ↦ omega (arith, ap length (rw same.1 at is).0, length-take-le k s within)
             ];
       }
 
 -- ---- comments
 
-module _ (body : List ℕ) where
-  pub longest_line : IsLongestPiece (47 ∷ 47 ∷ body) (suc (suc (prefix_len is_in_line body))) None
-  longest_line = record {
-    fits = omega (arith, prefix_len-le-length is_in_line body);
-    piece_is = inr (inl (take (prefix_len is_in_line body) body, refl, run_passes is_in_line body));
-    longest = longest;
-  }
-    where
-      longest : (k : ℕ) (other : Option Lexeme) → suc (suc (prefix_len is_in_line body)) < k
-          → k ≤ length (47 ∷ 47 ∷ body) → IsPiece (47 ∷ 47 ∷ body) k other
-          → ⊥
-      longest zero other lt within is = omega arith
-      longest (suc zero) other lt within is = omega arith
-      longest (suc (suc k)) other lt within is =
-          elim (slash_alone 47 other refl (starts (47 ∷ 47 ∷ body) (suc (suc k)) other is).2) [
-            | inl none ↦ in_line k (omega arith) (omega arith) (subst (IsPiece (47 ∷ 47 ∷ body) (suc (suc k))) none is)
-            | inr same ↦ let is' =
-                subst (IsPiece (47 ∷ 47 ∷ body) (suc (suc k))) same.1 is in
-                absurd (let e : 47 ∷ 47 ∷ take k body ≡ same.0 ∷ [] = is'.0 in cc)
-          ]
-        where
-          in_line : (k : ℕ) → prefix_len is_in_line body < k → k ≤ length body
-              → IsPiece (47 ∷ 47 ∷ body) (suc (suc k)) None → ⊥
-          in_line k lt within (inl blanks) = both_ways (is_blank 47) refl
-              (All-get_or (λ b. is_blank b ≡ true) (47 ∷ 47 ∷ take k body) 0 0 blanks.0 blanks.1)
-          in_line k lt within (inr (inl line)) =
-              let same : line.0 ≡ take k body = let e : 47 ∷ 47 ∷ take k body ≡ 47 ∷ 47 ∷ line.0 = line.1 in cc in
-              omega (
-                arith,
-                run_longest is_in_line body k within
-                    (subst (λ (l : List ℕ). AllPass is_in_line l) same line.2),
-              )
-          in_line k lt within (inr (inr block)) =
-              let second : get_or (47 ∷ 47 ∷ take k body) 1 0 ≡ 42 = ap (λ (l : List ℕ). get_or l 1 0) block.1 in
-              absurd (omega arith)
+no_blanks : (bs : List ℕ) → AllPass is_blank (47 ∷ bs) → ⊥
+no_blanks bs blanks = let h = All-head (λ b. is_blank b ≡ true) 47 bs blanks in cc
+
+none_at : (b : ℕ) (rest : List ℕ) (j : ℕ) → IsPiece (47 ∷ b ∷ rest) (suc (suc j)) None
+    → ((b ≡ 47) × AllPass is_in_line (take j rest))
+    ⊎ ((b ≡ 42) × (body : List ℕ) × (take j rest ≡ body ++ 42 ∷ 47 ∷ []) × HasNoClose body)
+none_at b rest j (inl blanks) = absurd (no_blanks (b ∷ take j rest) blanks.1)
+none_at b rest j (inr (inl line)) = grind arith
+none_at b rest j (inr (inr block)) = grind arith
+
+-- a piece that begins with `//` or `/*` is a comment
+pub comment_at : (b : ℕ) (rest : List ℕ) (k : ℕ) (w : Option Lexeme) → (b ≡ 47) ⊎ (b ≡ 42) → k ≤ length (47 ∷ b ∷ rest)
+    → IsPiece (47 ∷ b ∷ rest) k w
+    → (j : ℕ) × (k ≡ suc (suc j)) × (((b ≡ 47) × AllPass is_in_line (take j rest))
+    ⊎ ((b ≡ 42) × (body : List ℕ) × (take j rest ≡ body ++ 42 ∷ 47 ∷ []) × HasNoClose body))
+comment_at b rest zero w form within is = absurd (omega (arith, (starts (47 ∷ b ∷ rest) 0 w is).0))
+comment_at b rest (suc zero) w form within is =
+    absurd (elim (slash_alone 47 w refl (starts (47 ∷ b ∷ rest) 1 w is).2) [
+      | inl none ↦ let is' = subst (IsPiece (47 ∷ b ∷ rest) 1) none is in grind (arith, no_blanks [])
+      | inr same ↦ let is' = subst (IsPiece (47 ∷ b ∷ rest) 1) same.1 is in grind (arith, nat_tests)
+    ])
+comment_at b rest (suc (suc j)) w form within is =
+    elim (slash_alone 47 w refl (starts (47 ∷ b ∷ rest) (suc (suc j)) w is).2) [
+      | inl none ↦ (j, refl, none_at b rest j (subst (IsPiece (47 ∷ b ∷ rest) (suc (suc j))) none is))
+      | inr same ↦ let is' = subst (IsPiece (47 ∷ b ∷ rest) (suc (suc j))) same.1 is in absurd (grind arith)
+    ]
+
+pub longest_line : (body : List ℕ) → IsLongestPiece (47 ∷ 47 ∷ body) (suc (suc (prefix_len is_in_line body))) None
+longest_line body = record {
+  fits = omega (arith, prefix_len-le-length is_in_line body);
+  piece_is = inr (inl (take (prefix_len is_in_line body) body, refl, run_passes is_in_line body));
+  longest = λ k other lt within is.
+      let c = comment_at 47 body k other (inl refl) within is in
+      elim c.2 [ inl line ↦ omega (arith, c.1, run_longest is_in_line body c.0 (omega arith) line.1) | inr block ↦ cc ];
+}
+
+-- where a text has the end of a comment
+pub close_at : (rest : List ℕ) (j : ℕ) (body : List ℕ) → j ≤ length rest → take j rest ≡ body ++ 42 ∷ 47 ∷ []
+    → (j ≡ length body + 2) × (get_or rest (length body) 0 ≡ 42) × (get_or rest (length body + 1) 0 ≡ 47)
+    × ((i : ℕ) → i < length body → get_or rest i 0 ≡ get_or body i 0)
+close_at rest j body within e =
+    let len = ap length e ∙ length-append body (42 ∷ 47 ∷ []) in
+    let size = length-take-le j rest within in
+    let at : (i : ℕ) → i < j → get_or rest i 0 ≡ get_or (body ++ 42 ∷ 47 ∷ []) i 0 =
+    λ i lt. grind (arith, get_or-take) in (
+      omega arith,
+      at (length body) (omega arith) ∙ get_or_at body 42 (47 ∷ []) 0 (length body) refl,
+      at (length body + 1) (omega arith) ∙ get_or-append-add body (42 ∷ 47 ∷ []) 1 0,
+      λ i lt. grind (arith, get_or_append_left),
+    )
 
 module _ (rest : List ℕ) (m : ℕ) (close : IsFirstClose rest m) where
   close_ends : take (suc (suc m)) rest ≡ take m rest ++ 42 ∷ 47 ∷ []
@@ -229,47 +234,27 @@ module _ (rest : List ℕ) (m : ℕ) (close : IsFirstClose rest m) where
   no_close_before : HasNoClose (take m rest)
   no_close_before i star slash = grind (arith, get_or-take, get_or_past, length-take-le)
 
-  no_longer_block : (k : ℕ) (body : List ℕ) → suc (suc m) < k → k ≤ length rest → take k rest ≡ body ++ 42 ∷ 47 ∷ []
+  no_longer_block : (j : ℕ) (body : List ℕ) → suc (suc m) < j → j ≤ length rest → take j rest ≡ body ++ 42 ∷ 47 ∷ []
       → HasNoClose body → ⊥
-  no_longer_block k body lt within e none =
-      let fits = close.fits in
-      let len = ap length e ∙ length-append body (42 ∷ 47 ∷ []) in
-      let star = get_or-take k rest m 0 in
-      let slash = get_or-take k rest (m + 1) 0 in
-      elim (cases_lt (m + 1) (length body)) [
-        | inl in_body ↦ grind (arith, get_or_append_left, length-take-le)
-        | inr past ↦ grind (arith, get_or_at, length-take-le)
-      ]
+  no_longer_block j body lt within e none =
+      let at = close_at rest j body within e in
+      let before = at.3 m in
+      let behind = at.3 (m + 1) in
+      elim (cases_lt (m + 1) (length body)) [ inl inside ↦ grind arith | inr past ↦ grind arith ]
 
   pub longest_block : IsLongestPiece (47 ∷ 42 ∷ rest) (suc (suc (suc (suc m)))) None
   longest_block = record {
     fits = omega (arith, close.fits);
     piece_is = inr (inr (take m rest, ap (λ (l : List ℕ). 47 ∷ 42 ∷ l) close_ends, no_close_before));
-    longest = longest;
+    longest = λ k other lt within is.
+        let c = comment_at 42 rest k other (inr refl) within is in
+        elim c.2 [
+          | inl line ↦ cc
+          | inr block ↦ no_longer_block c.0 block.1 (omega (arith, c.1)) (omega (arith, c.1)) block.2 block.3
+        ];
   }
-    where
-      longest : (k : ℕ) (other : Option Lexeme) → suc (suc (suc (suc m))) < k → k ≤ length (47 ∷ 42 ∷ rest)
-          → IsPiece (47 ∷ 42 ∷ rest) k other → ⊥
-      longest zero other lt within is = omega arith
-      longest (suc zero) other lt within is = omega arith
-      longest (suc (suc k)) other lt within is =
-          elim (slash_alone 47 other refl (starts (47 ∷ 42 ∷ rest) (suc (suc k)) other is).2) [
-            | inl none ↦ in_block k (omega arith) (omega arith) (subst (IsPiece (47 ∷ 42 ∷ rest) (suc (suc k))) none is)
-            | inr same ↦ let is' =
-                subst (IsPiece (47 ∷ 42 ∷ rest) (suc (suc k))) same.1 is in
-                absurd (let e : 47 ∷ 42 ∷ take k rest ≡ same.0 ∷ [] = is'.0 in cc)
-          ]
-        where
-          in_block : (k : ℕ) → suc (suc m) < k → k ≤ length rest → IsPiece (47 ∷ 42 ∷ rest) (suc (suc k)) None → ⊥
-          in_block k lt within (inl blanks) = both_ways (is_blank 47) refl
-              (All-get_or (λ b. is_blank b ≡ true) (47 ∷ 42 ∷ take k rest) 0 0 blanks.0 blanks.1)
-          in_block k lt within (inr comment) = grind (arith, no_longer_block)
 
 -- ---- where a source may be cut
-
-pub identifier_fits : (source : List ℕ) (at : ℕ) → begins is_letter (drop at source) ≡ true
-    → at + prefix_len is_word (drop at source) ≤ length source
-identifier_fits source at e = grind (arith, begins_first, length-drop, prefix_len-le-length)
 
 pub identifier_boundary : (source : List ℕ) (at : ℕ) → IsUtf8 source → begins is_letter (drop at source) ≡ true
     → IsCharBoundary source (at + prefix_len is_word (drop at source))
@@ -279,22 +264,18 @@ identifier_boundary source at utf8 e =
     let first = begins_first is_letter s e in
     let pos : 0 < n = run_nonempty is_word s
     (begins_from is_word s first.0 (let f = first.1 in grind (arith, nat_tests))) in
-    let fits = identifier_fits source at e in
+    let fits = prefix_len-le-length is_word s in
     let last : is_word (get_or source (at + (n - 1)) 0) ≡ true =
     ap is_word (sym (get_or-drop at source (n - 1) 0)) ∙ prefix_len_passes is_word s (n - 1) 0 (omega arith) in
     let ascii : get_or source (at + (n - 1)) 0 < 128 = grind (arith, nat_tests) in
-    let after = IsCharBoundary-after_ascii source (at + (n - 1)) utf8 (omega arith) ascii in
-    let same : at + (n - 1) + 1 ≡ at + n = omega arith in
-    subst (IsCharBoundary source) same after
+    let same : at + n ≡ at + (n - 1) + 1 = omega arith in
+    rw same (IsCharBoundary-after_ascii source (at + (n - 1)) utf8 (omega (arith, length-drop at source)) ascii)
 
 -- ---- comments and punctuation, as the code finds them
 
-at_two : (s : List ℕ) → 2 ≤ length s → s ≡ get_or s 0 0 ∷ get_or s 1 0 ∷ drop 2 s
-at_two s long = grind arith
-
 two_more : (s : List ℕ) (a b : ℕ) → 2 ≤ length s → get_or s 0 0 ≡ a → get_or s 1 0 ≡ b
     → s ≡ a ∷ b ∷ take (length s - 2) (drop 2 s)
-two_more s a b long first second = grind (arith, common_steps, at_two, take_rest)
+two_more s a b long first second = grind (arith, common_steps, take_rest)
 
 pub line_found : (s : List ℕ) (n : ℕ) → 2 ≤ length s → get_or s 0 0 ≡ 47 → get_or s 1 0 ≡ 47
     → n ≡ prefix_len is_in_line (take (length s - 2) (drop 2 s))
@@ -321,13 +302,7 @@ pub fault_here : (s rest : List ℕ) (at : ℕ) (kind : Kind) (e : TokenError) �
     → e ≡ errors.At (record { offset = at }) kind
     → IsFaultAfter s at e
 fault_here s rest at kind e same fault e_is =
-    rw e_is (0, subst (λ (l : List ℕ). IsPieceFault l 0 kind) same fault, sym (add-zero at))
-
--- no piece begins with any other byte
-pub bad_byte : (s : List ℕ) → 0 < length s → is_blank (get_or s 0 0) ≡ false → is_letter (get_or s 0 0) ≡ false
-    → is_ascii_digit (get_or s 0 0) ≡ false
-    → is_quote (get_or s 0 0) ≡ false → is_punctuation (get_or s 0 0) ≡ false → IsPieceFault s 0 kinds.BadByte
-bad_byte s long blank letter digit quote mark = inl (refl, refl, (long, blank, grind (arith, nat_tests)))
+    rw e_is (0, rw (← same) fault, sym (add-zero at))
 
 pub found_identifier : (s name : List ℕ) → begins is_letter s ≡ true → name ≡ take (prefix_len is_word s) s
     → IsLongestPiece s (length name) (Some (identifier name))

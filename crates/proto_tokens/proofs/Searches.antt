@@ -1,5 +1,5 @@
 -- What the searches for a byte and for the end of a block comment find.
-use Rattle.std.proofs.Common.{◌≡◌, ℕ, ◌+◌, ◌<◌, ◌≤◌, true, List, [], ◌∷◌, Option, Some, None, length, get_or, sym, ap, ◌∙◌, arith, add-zero}
+use Rattle.std.proofs.Common.{◌≡◌, ℕ, ◌+◌, true, List, [], ◌∷◌, Option, Some, None, length, get_or, sym, arith, add-zero}
 use Rattle.std.specs.Prelude.{MatchOption}
 use Rattle.std.specs.List.{prefix_len}
 use Rattle.std.specs.Option.{unwrap_or}
@@ -24,24 +24,18 @@ line_ends s None none =
 line_ends s (Some n) found = grind (arith, not_from_true, prefix_len_is, stays)
 
 -- `*` and `/` behind it are the needle
-close_reads : (s : List ℕ) (i : ℕ) → get_or s i 0 ≡ 42 → get_or s (i + 1) 0 ≡ 47 → (j : ℕ) → j < 2
-    → get_or s (i + j) 0 ≡ get_or (42 ∷ 47 ∷ []) j 0
-close_reads s i star slash j lt = grind (arith, add-zero)
-
 close_occurs : (s : List ℕ) (i : ℕ) → get_or s i 0 ≡ 42 → get_or s (i + 1) 0 ≡ 47 → OccursAt s (42 ∷ 47 ∷ []) i
-close_occurs s i star slash = grind (arith, close_reads, get_or_past)
+close_occurs s i star slash =
+    record { fits = grind (arith, get_or_past); reads = λ j lt. grind (arith, add-zero) }
 
 -- what a search for `*/` finds is its first place
 pub close_found : (s : List ℕ) (r : Option ℕ) → FindsNeedle s (42 ∷ 47 ∷ []) 0 r
     → MatchOption r (HasNoClose s) (IsFirstClose s)
 close_found s None none = λ i star slash.
-    let here = close_occurs s i star slash in
-    none i (omega arith) (omega (arith, here.fits)) here
-close_found s (Some n) found =
-    let fits : n + 2 ≤ length s = found.1.fits in
-    record {
-      fits = omega arith;
-      star = ap (λ k. get_or s k 0) (sym (add-zero n)) ∙ found.1.reads 0 (omega arith);
-      slash = found.1.reads 1 (omega arith);
-      first = λ i lt star slash. found.0.before i (omega arith) lt (close_occurs s i star slash);
-    }
+    let here = close_occurs s i star slash in none i (omega arith) (omega (arith, here.fits)) here
+close_found s (Some n) found = record {
+  fits = omega (arith, found.1.fits);
+  star = rw add-zero at (found.1.reads 0 (omega arith));
+  slash = found.1.reads 1 (omega arith);
+  first = λ i lt star slash. found.0.before i (omega arith) lt (close_occurs s i star slash);
+}

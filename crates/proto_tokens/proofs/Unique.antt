@@ -1,10 +1,10 @@
 -- A text has one list of tokens or one fault.
 use Rattle.std.proofs.lemmas.Grind.{common_steps}
-use Rattle.std.proofs.Common.{◌≡◌, ℕ, zero, suc, ◌+◌, ◌<◌, ◌≤◌, ◌⊎◌, true, false, Option, None, Some, List, [], ◌∷◌, ◌++◌, length, get_or, take, drop, refl, sym, ap, subst, ◌∙◌, inl, inr, arith, length-take-le, length-drop, get_or-take}
+use Rattle.std.proofs.Common.{◌≡◌, ℕ, ◌<◌, ◌≤◌, ◌⊎◌, true, false, Option, None, Some, List, [], ◌∷◌, length, get_or, take, drop, refl, sym, ap, subst, ◌∙◌, inl, inr, arith, length-take-le, length-drop, get_or-take}
 use Rattle.std.specs.List.{AllPass, prefix_len}
 use Rattle.std.specs.Char.{is_ascii_digit, is_ascii_graphic}
 use Rattle.std.proofs.lemmas.Bool.{both_ways}
-use Rattle.std.proofs.lemmas.List.{length-append, get_or_at, get_or-append-add, drop_all, drop_more}
+use Rattle.std.proofs.lemmas.List.{drop_all}
 use Rattle.std.specs.Str.{IsUtf8}
 use Rattle.proto_base.specs.declared.kind.Kind.{Kind}
 use Rattle.proto_base.specs.declared.kind.Kind.TheVariants as kinds
@@ -12,21 +12,21 @@ use Rattle.std.proofs.lemmas.Bool.Decides.{nat_tests}
 use Rattle.std.proofs.lemmas.List.Elements.{All-head, All-get_or}
 use Rattle.proto_tokens.specs.Bytes.{begins, is_blank, is_quote, is_numeric}
 use Rattle.proto_tokens.specs.Numeral.{Writes, IsNumeral}
-use Rattle.proto_tokens.specs.Quoted.{Part, IsPart, HasByteAt, IsString, IsStringFault, IsPartFault, is_plain, value_of}
+use Rattle.proto_tokens.specs.Quoted.{Part, IsPart, HasByteAt, IsString, IsStringFault, IsPartFault, value_of}
 use Rattle.proto_tokens.specs.Token.{Lexeme, identifier, number, string_literal, punctuation, Spelled}
 use Rattle.proto_tokens.specs.ProgramTokens.{tokens_of}
 use Rattle.proto_tokens.specs.Piece.{IsUnclosedComment, IsPiece, IsLongestPiece, IsPieceFault, IsBadNumber, IsTooBig, HasNoClose}
-use Rattle.proto_tokens.specs.Spelling.{Piece, tokens_from, SpellsFrom, HasPieceFault, IsTokenList, IsFault, mark_len}
+use Rattle.proto_tokens.specs.Spelling.{Piece, tokens_from, HasPieceFault, IsTokenList, IsFault, mark_len}
 use Rattle.proto_tokens.specs.Told.{IsFaultOf, TellsFault}
 use Rattle.proto_tokens.specs.declared.token.Tokens.{Tokens}
 use Rattle.std.specs.Prelude.{Result, Ok, Err, MatchResult, IsErrAnd}
 use Rattle.proto_tokens.specs.declared.token.TokenError.{TokenError}
 use Rattle.proto_tokens.specs.declared.token.TokenError.TheVariants as errors
 use Rattle.proto_tokens.proofs.Escapes.{escape_begins}
-use Rattle.proto_tokens.proofs.Strings.{opened_one, no_part_at_quote, no_part}
+use Rattle.proto_tokens.proofs.Strings.{opened_one, string_one, no_part_at_quote, no_part}
 use Rattle.proto_tokens.proofs.CutLemmas.{cut_one}
 use Rattle.proto_tokens.proofs.Runs.{begins_first, run_longest, within_run}
-use Rattle.proto_tokens.proofs.Pieces.{Starts, starts, numeral_numeric, slash_alone, letter_alone, digit_alone, quote_alone, punctuation_alone}
+use Rattle.proto_tokens.proofs.Pieces.{Starts, starts, numeral_numeric, comment_at, close_at, letter_alone, digit_alone, quote_alone, punctuation_alone}
 
 -- ---- numerals
 
@@ -38,23 +38,9 @@ numeral_one bs m n a b = grind (arith, x_no_digit)
 
 -- ---- strings
 
-string_one : (s : List ℕ) (m n : ℕ) (v w : List ℕ) → IsString s m v → IsString s n w → v ≡ w
-string_one s m n v w a b =
-    let one =
-    opened_one s a.0 b.0 a.1 b.1 a.2 b.2 a.3 b.3 a.4 b.4 (no_part_at_quote a.0 a.1 a.3 a.4.quote_is a.5)
-    (no_part_at_quote b.0 b.1 b.3 b.4.quote_is b.5) in
-    grind arith
-
 no_part_at_end : (quote : ℕ) (after : List ℕ) (end : ℕ) (p : Part) → length after ≤ end
     → IsPart quote (drop end after) p → ⊥
 no_part_at_end quote after end p le is = grind (arith, drop_all, escape_begins, length-take-le)
-
-no_part_at_byte : (quote : ℕ) (after : List ℕ) (end b : ℕ) → HasByteAt after end b → is_plain quote b ≡ false
-    → (b ≡ 92 → ⊥) → (p : Part)
-    → IsPart quote (drop end after) p → ⊥
-no_part_at_byte quote after end b here not_plain no_backslash p is =
-    no_part quote (drop end after) (get_or after end 0) (drop (end + 1) after) (drop_more after end 0 here.0)
-    (grind arith) (λ e. grind arith) p is
 
 -- where a string's fault lies no part stands
 no_part_at_fault : (quote : ℕ) (after : List ℕ) (parts : List Part) (end at : ℕ) (kind : Kind) → is_quote quote ≡ true
@@ -63,12 +49,11 @@ no_part_at_fault quote after parts end at kind quote_is (inl escape) p is = esca
 no_part_at_fault quote after parts end at kind quote_is (inr (inl closed)) p is =
     no_part_at_quote quote after end quote_is closed.2 p is
 no_part_at_fault quote after parts end at kind quote_is (inr (inr (inl zero_byte))) p is =
-    no_part_at_byte quote after end 0 zero_byte.2 (grind (arith, nat_tests)) (λ e. omega arith) p is
+    no_part quote after end 0 zero_byte.2 (grind (arith, nat_tests)) (λ e. absurd (omega arith)) p is
 no_part_at_fault quote after parts end at kind quote_is (inr (inr (inr open_))) p is =
     elim open_.2 [
       | inl ends ↦ no_part_at_end quote after end p (omega arith) is
-      | inr line ↦
-          no_part_at_byte quote after end 10 line (grind (arith, nat_tests)) (λ e. omega arith) p is
+      | inr line ↦ no_part quote after end 10 line (grind (arith, nat_tests)) (λ e. absurd (omega arith)) p is
     ]
 
 -- the byte where a fault lies is not the closing quote, or else the value is no text
@@ -80,67 +65,49 @@ not_closed quote after parts end at kind quote_is fault closes utf8 = grind (ari
 -- a string with a fault is no string
 no_string : (s : List ℕ) (n at : ℕ) (v : List ℕ) (kind : Kind) → IsString s n v → IsStringFault s at kind → ⊥
 no_string s n at v kind a b =
-    let one = opened_one s a.0 b.0 a.1 b.1 a.2 b.2 a.3 b.3 a.4 b.4 (no_part_at_quote a.0 a.1 a.3 a.4.quote_is a.5)
+    let one = opened_one a.4 b.4 (no_part_at_quote a.0 a.1 a.3 a.4.quote_is a.5)
     (no_part_at_fault b.0 b.1 b.2 b.3 at kind b.4.quote_is b.5) in
     not_closed b.0 b.1 b.2 b.3 at kind b.4.quote_is b.5 (grind arith) (grind arith)
 
 -- ---- pieces
 
-none_one : (s : List ℕ) (n : ℕ) (w : Option Lexeme) → IsPiece s n None → IsPiece s n w → w ≡ None
-none_one s n None a b = refl
-none_one s n (Some (identifier name)) a b =
-    let f = (starts s n None a).2 in let g = (starts s n (Some (identifier name)) b).2 in grind (arith, nat_tests)
-none_one s n (Some (number v)) a b =
-    let f = (starts s n None a).2 in let g = (starts s n (Some (number v)) b).2 in grind (arith, nat_tests)
-none_one s n (Some (string_literal v)) a b =
-    let f = (starts s n None a).2 in let g = (starts s n (Some (string_literal v)) b).2 in grind (arith, nat_tests)
-none_one s n (Some (punctuation c)) (inl blanks) b =
+none_mark : (s : List ℕ) (n c : ℕ) → IsPiece s n None → IsPiece s n (Some (punctuation c)) → ⊥
+none_mark s n c (inl blanks) b =
     let f = All-get_or (λ b. is_blank b ≡ true) (take n s) 0 0 blanks.0 blanks.1 in grind (arith, nat_tests)
-none_one s n (Some (punctuation c)) (inr comment) b = grind arith
+none_mark s n c (inr comment) b = grind arith
 
-piece_one : (s : List ℕ) (n : ℕ) (v w : Option Lexeme) → IsPiece s n v → IsPiece s n w → v ≡ w
-piece_one s n None w a b = sym (none_one s n w a b)
-piece_one s n (Some (identifier name)) w a b = grind (arith, common_steps, letter_alone, starts)
-piece_one s n (Some (number v)) w a b =
+lexeme_one : (s : List ℕ) (n : ℕ) (l : Lexeme) (w : Option Lexeme) → IsPiece s n (Some l) → IsPiece s n w → w ≡ Some l
+lexeme_one s n (identifier name) w a b = grind (arith, common_steps, letter_alone, starts)
+lexeme_one s n (number v) w a b =
     let same = digit_alone (get_or s 0 0) w (starts s n (Some (number v)) a).2 (starts s n w b).2 in
-    let b' = subst (IsPiece s n) same.1 b in
-    ap (λ (x : ℕ). Some (number x)) (numeral_one (take n s) v same.0 a.0 b'.0) ∙ sym same.1
-piece_one s n (Some (string_literal v)) w a b =
+    same.1 ∙ ap (λ (x : ℕ). Some (number x)) (numeral_one (take n s) same.0 v (rw same.1 at b).0 a.0)
+lexeme_one s n (string_literal v) w a b =
     let same = quote_alone (get_or s 0 0) w (starts s n (Some (string_literal v)) a).2 (starts s n w b).2 in
-    let b' = subst (IsPiece s n) same.1 b in
-    ap (λ (l : List ℕ). Some (string_literal l)) (string_one s n n v same.0 a b') ∙ sym same.1
-piece_one s n (Some (punctuation c)) w a b =
+    same.1 ∙ ap (λ (l : List ℕ). Some (string_literal l)) (string_one s n n same.0 v (rw same.1 at b) a).1
+lexeme_one s n (punctuation c) w a b =
     elim (punctuation_alone (get_or s 0 0) w (starts s n (Some (punctuation c)) a).2 (starts s n w b).2) [
-      | inl none ↦ none_one s n (Some (punctuation c)) (subst (IsPiece s n) none.0 b) a ∙ sym none.0
+      | inl none ↦ absurd (none_mark s n c (subst (IsPiece s n) none.0 b) a)
       | inr same ↦ grind arith
     ]
 
-same_piece : (p q : Piece) → p.len ≡ q.len → p.is ≡ q.is → p ≡ q
-same_piece p q len is = λ i. record { len = len i; is = is i }
+piece_one : (s : List ℕ) (n : ℕ) (v w : Option Lexeme) → IsPiece s n v → IsPiece s n w → v ≡ w
+piece_one s n None None a b = refl
+piece_one s n None (Some l) a b = lexeme_one s n l None b a
+piece_one s n (Some l) w a b = sym (lexeme_one s n l w a b)
 
 longest_one : (s : List ℕ) (p q : Piece) → IsLongestPiece s p.len p.is → IsLongestPiece s q.len q.is → p ≡ q
-longest_one s p q a b = grind (arith, piece_one, same_piece)
+longest_one s p q a b = grind (arith, piece_one)
 
 -- ---- whole texts
 
 no_piece_at_end : (s : List ℕ) (p : Piece) → IsLongestPiece (drop (length s) s) p.len p.is → ⊥
 no_piece_at_end s p is = omega (arith, (starts (drop (length s) s) p.len p.is is.piece_is).1, length-drop (length s) s)
 
--- a text spells one list of tokens
-pub spelling_one : (s : List ℕ) (from : ℕ) (ts us : List Spelled) → SpellsFrom s from ts
-    → SpellsFrom s from us → ts ≡ us
-spelling_one s from ts us a b =
-    let one = cut_one (λ rest (p : Piece). IsLongestPiece rest p.len p.is) (λ p. p.len) longest_one s from a.0 b.0
-    (length s) (length s) a.1 b.1
-    (no_piece_at_end s) (no_piece_at_end s) in
-    sym a.2 ∙ ap (tokens_from from) one.0 ∙ b.2
-
 -- ---- faults of strings
 
 string_fault_one : (s : List ℕ) (m n : ℕ) (j k : Kind) → IsStringFault s m j → IsStringFault s n k → (m ≡ n) × (j ≡ k)
 string_fault_one s m n j k a b =
-    let one = opened_one s a.0 b.0 a.1 b.1 a.2 b.2 a.3 b.3 a.4 b.4
-    (no_part_at_fault a.0 a.1 a.2 a.3 m j a.4.quote_is a.5)
+    let one = opened_one a.4 b.4 (no_part_at_fault a.0 a.1 a.2 a.3 m j a.4.quote_is a.5)
     (no_part_at_fault b.0 b.1 b.2 b.3 n k b.4.quote_is b.5) in
     grind (arith, nat_tests)
 
@@ -158,26 +125,17 @@ abbrev PieceFaultCase : List ℕ → ℕ → Kind → Type 0
 PieceFaultCase s at kind =
     FaultCase (get_or s 0 0) (IsBadNumber s) (IsTooBig s) (IsUnclosedComment s) (IsStringFault s) at kind
 
-fault_quote : (s : List ℕ) (at : ℕ) (kind : Kind) → IsStringFault s at kind → is_quote (get_or s 0 0) ≡ true
-fault_quote s at kind fault = ap (λ (l : List ℕ). is_quote (get_or l 0 0)) fault.4.begins_so ∙ fault.4.quote_is
-
 too_big_digit : (s : List ℕ) → IsTooBig s → is_ascii_digit (get_or s 0 0) ≡ true
 too_big_digit s big = grind (arith, nat_tests, begins_first, get_or-take, length-take-le, numeral_numeric)
 
 piece_fault_case : (s : List ℕ) (at : ℕ) (kind : Kind) → IsPieceFault s at kind → PieceFaultCase s at kind
-piece_fault_case s at kind fault = grind (arith, begins_first, fault_quote, too_big_digit)
+piece_fault_case s at kind fault = grind (arith, begins_first, too_big_digit)
 
 no_number_both : (s : List ℕ) → IsBadNumber s → IsTooBig s → ⊥
 no_number_both s bad big = both_ways (begins is_numeric (drop big.0 s)) big.4 (bad.1 big.0 big.1 big.2 big.3)
 
 no_start : (w : Option Lexeme) (b : ℕ) → is_blank b ≡ false → is_ascii_graphic b ≡ false → Starts w b → ⊥
 no_start w b e f g = grind (arith, both_ways, nat_tests)
-
-no_lone_slash : (rest : List ℕ) (n c : ℕ) → n ≤ length (47 ∷ 42 ∷ rest)
-    → IsPiece (47 ∷ 42 ∷ rest) n (Some (punctuation c)) → ⊥
-no_lone_slash rest zero c within is = grind arith
-no_lone_slash rest (suc zero) c within is = grind (arith, nat_tests)
-no_lone_slash rest (suc (suc n)) c within is = grind arith
 
 fault_long : (s : List ℕ) (at : ℕ) (kind : Kind) → IsPieceFault s at kind → s ≡ [] → ⊥
 fault_long s at kind fault empty = grind (arith, begins_first, length-take-le, numeral_numeric)
@@ -202,46 +160,31 @@ no_small_number : (s : List ℕ) (n v : ℕ) → n ≤ length s → IsTooBig s �
 no_small_number s n v within big is =
     let a = whole_run s big.0 big.2 (numeral_numeric (take big.0 s) big.1 big.3).0 big.4 in
     let b = whole_run s n within (numeral_numeric (take n s) v is.0).0 is.2 in
-    let same : big.0 ≡ n = a ∙ sym b in
-    let value = numeral_one (take n s) big.1 v (subst (λ (k : ℕ). IsNumeral (take k s) big.1) same big.3) is.0 in
+    let value = numeral_one (take n s) big.1 v (rw (b, ← a) big.3) is.0 in
     omega (arith, big.5, value, is.1)
 
 no_comment_open : (rest : List ℕ) (n : ℕ) (w : Option Lexeme) → HasNoClose rest → n ≤ length (47 ∷ 42 ∷ rest)
-    → IsPiece (47 ∷ 42 ∷ rest) n w → w ≡ None → ⊥
-no_comment_open rest n None none within (inl blanks) e = let first = (starts (47 ∷ 42 ∷ rest) n None (inl blanks)).0 in
-    both_ways (is_blank 47) refl (sym (ap is_blank (get_or-take n (47 ∷ 42 ∷ rest) 0 0 first))
-    ∙ All-get_or (λ b. is_blank b ≡ true) (take n (47 ∷ 42 ∷ rest)) 0 0 blanks.0 blanks.1)
-no_comment_open rest n None none within (inr (inl line)) e =
-    let second = get_or-take n (47 ∷ 42 ∷ rest) 1 0 in
-    let len = length-take-le n (47 ∷ 42 ∷ rest) within in
-    grind arith
-no_comment_open rest n None none within (inr (inr block)) e =
-    let body = block.0 in
-    let len : n ≡ suc (suc (length (body ++ 42 ∷ 47 ∷ []))) = sym (length-take-le n (47 ∷ 42 ∷ rest) within)
-    ∙ ap length block.1 in
-    let size = length-append body (42 ∷ 47 ∷ []) in
-    let at : (i : ℕ) → i < length body + 2 → get_or rest i 0 ≡ get_or (body ++ 42 ∷ 47 ∷ []) i 0 =
-    λ i lt. sym (get_or-take n (47 ∷ 42 ∷ rest) (suc (suc i)) 0 (omega arith))
-    ∙ ap (λ (l : List ℕ). get_or l (suc (suc i)) 0) block.1 in
-    let star : get_or rest (length body) 0 ≡ 42 = at (length body) (omega arith)
-    ∙ get_or_at body 42 (47 ∷ []) 0 (length body) refl in
-    let slash : get_or rest (length body + 1) 0 ≡ 47 = at (length body + 1) (omega arith)
-    ∙ get_or-append-add body (42 ∷ 47 ∷ []) 1 0 in
-    none (length body) star slash
-no_comment_open rest n (Some lexeme) none within is e = absurd cc
+    → IsPiece (47 ∷ 42 ∷ rest) n w → ⊥
+no_comment_open rest n w none within is =
+    let c = comment_at 42 rest n w (inr refl) within is in
+    elim c.2 [
+      | inl line ↦ cc
+      | inr block ↦
+          let at = close_at rest c.0 block.1 (omega (arith, c.1)) block.2 in none (length block.1) at.1 at.2
+    ]
 
 no_piece_in_case : (s : List ℕ) (at : ℕ) (kind : Kind) (n : ℕ) (w : Option Lexeme) → n ≤ length s → IsPiece s n w
     → PieceFaultCase s at kind → ⊥
 no_piece_in_case s at kind n w within is (inl bad) = no_start w (get_or s 0 0) bad.0 bad.1 (starts s n w is).2
 no_piece_in_case s at kind n w within is (inr (inl bad)) =
     let same = digit_alone (get_or s 0 0) w bad.0 (starts s n w is).2 in
-    let is' = subst (IsPiece s n) same.1 is in
-    both_ways (begins is_numeric (drop n s)) is'.2 (bad.1.1 n same.0 within is'.0)
+    let number_is = rw same.1 at is in
+    both_ways (begins is_numeric (drop n s)) number_is.2 (bad.1.1 n same.0 within number_is.0)
 no_piece_in_case s at kind n w within is (inr (inr (inl big))) =
     let same = digit_alone (get_or s 0 0) w big.0 (starts s n w is).2 in
     no_small_number s n same.0 within big.1 (subst (IsPiece s n) same.1 is)
 no_piece_in_case s at kind n w within is (inr (inr (inr (inl (slash, opened, kind_is, at_is))))) =
-    grind (arith, no_comment_open, no_lone_slash, slash_alone, starts)
+    no_comment_open opened.0 n w opened.2 (rw opened.1 at within) (rw opened.1 at is)
 no_piece_in_case s at kind n w within is (inr (inr (inr (inr fault)))) =
     let same = quote_alone (get_or s 0 0) w fault.0 (starts s n w is).2 in
     no_string s n at same.0 kind (subst (IsPiece s n) same.1 is) fault.1
@@ -254,49 +197,49 @@ no_piece_at_fault s at kind p fault is =
 
 -- ---- one answer
 
-pub no_spelling : (s : List ℕ) (from place : ℕ) (kind : Kind) (ts : List Spelled) → SpellsFrom s from ts
-    → HasPieceFault s from place kind → ⊥
-no_spelling s from place kind ts a b =
-    let one = cut_one (λ rest (p : Piece). IsLongestPiece rest p.len p.is) (λ p. p.len) longest_one s from a.0 b.0
-    (length s) b.1 a.1 b.3 (no_piece_at_end s)
-    (λ p. no_piece_at_fault (drop b.1 s) b.2 kind p b.4) in
-    let nothing : drop b.1 s ≡ [] = drop_all b.1 s (omega (arith, one.1)) in
-    fault_long (drop b.1 s) b.2 kind b.4 nothing
-
 pub fault_one : (s : List ℕ) (from m n : ℕ) (j k : Kind) → HasPieceFault s from m j → HasPieceFault s from n k
     → (m ≡ n) × (j ≡ k)
 fault_one s from m n j k a b =
-    let one = cut_one (λ rest (p : Piece). IsLongestPiece rest p.len p.is)
-    (λ p. p.len) longest_one s from a.0 b.0 a.1 b.1 a.3 b.3
+    let one = cut_one _ (λ (p : Piece). p.len) longest_one s from a.0 b.0 _ _ a.3 b.3
     (λ p. no_piece_at_fault (drop a.1 s) a.2 j p a.4) (λ p. no_piece_at_fault (drop b.1 s) b.2 k p b.4) in
-    let same = piece_fault_one (drop a.1 s) a.2 b.2 j k a.4
-    (subst (λ (i : ℕ). IsPieceFault (drop i s) b.2 k) (sym one.1) b.4) in
-    (a.5 ∙ (λ i. one.1 i + same.0 i) ∙ sym b.5, same.1)
+    let same = piece_fault_one (drop a.1 s) a.2 b.2 j k a.4 (rw one.1 b.4) in
+    (omega (arith, a.5, b.5, one.1, same.0), same.1)
 
 -- ---- whole answers
 
 pub tokens_one : (limit : ℕ) (s : List ℕ) (ts us : List Spelled) → IsTokenList limit s ts
     → IsTokenList limit s us → ts ≡ us
-tokens_one limit s ts us a b = spelling_one s (mark_len s) ts us a.spelled_so b.spelled_so
+tokens_one limit s ts us a b =
+    let x = a.spelled_so in
+    let y = b.spelled_so in
+    let one = cut_one _ (λ (p : Piece). p.len) longest_one s (mark_len s) x.0 y.0 _ _ x.1 y.1 (no_piece_at_end s)
+    (no_piece_at_end s) in
+    sym x.2 ∙ ap (tokens_from (mark_len s)) one.0 ∙ y.2
 
 pub tokens_no_fault : (limit : ℕ) (s : List ℕ) (ts : List Spelled) (place : ℕ) (kind : Kind) → IsTokenList limit s ts
     → IsFault limit s place kind → ⊥
 tokens_no_fault limit s ts place kind a (inl long) = omega (arith, a.short, long.2)
 tokens_no_fault limit s ts place kind a (inr (inl no_utf8)) = no_utf8.3 a.utf8
 tokens_no_fault limit s ts place kind a (inr (inr fault)) =
-    no_spelling s (mark_len s) place kind ts a.spelled_so fault.2
+    let x = a.spelled_so in
+    let y = fault.2 in
+    let one = cut_one _ (λ (p : Piece). p.len) longest_one s (mark_len s) x.0 y.0 _ _ x.1 y.3 (no_piece_at_end s)
+    (λ p. no_piece_at_fault (drop y.1 s) y.2 kind p y.4) in
+    fault_long (drop y.1 s) y.2 kind y.4 (drop_all y.1 s (omega (arith, one.1)))
+
+abbrev FileCase : ℕ → ℕ → ℕ → Type 0 → (ℕ → Kind → Type 0) → ℕ → Kind → Type 0
+FileCase limit len end Utf8 Fault place kind = ((kind ≡ kinds.FileTooLong) × (place ≡ 0) × (limit < len))
+    ⊎ (((kind ≡ kinds.NotUtf8) × (place ≡ end) × (len ≤ limit) × ¬ Utf8) ⊎ ((len ≤ limit) × Utf8 × Fault place kind))
+
+file_case_one : (limit len end m n : ℕ) (j k : Kind) (Utf8 : Type 0) (Fault : ℕ → Kind → Type 0)
+    → (Fault m j → Fault n k → (m ≡ n) × (j ≡ k)) → FileCase limit len end Utf8 Fault m j
+    → FileCase limit len end Utf8 Fault n k → (m ≡ n) × (j ≡ k)
+file_case_one limit len end m n j k Utf8 Fault one a b = grind arith
 
 pub file_fault_one : (limit : ℕ) (s : List ℕ) (m n : ℕ) (j k : Kind) → IsFault limit s m j → IsFault limit s n k
     → (m ≡ n) × (j ≡ k)
-file_fault_one limit s m n j k (inl a) (inl b) = (a.1 ∙ sym b.1, a.0 ∙ sym b.0)
-file_fault_one limit s m n j k (inl a) (inr (inl b)) = absurd (omega (arith, a.2, b.2))
-file_fault_one limit s m n j k (inl a) (inr (inr b)) = absurd (omega (arith, a.2, b.0))
-file_fault_one limit s m n j k (inr (inl a)) (inl b) = absurd (omega (arith, a.2, b.2))
-file_fault_one limit s m n j k (inr (inl a)) (inr (inl b)) = (a.1 ∙ sym b.1, a.0 ∙ sym b.0)
-file_fault_one limit s m n j k (inr (inl a)) (inr (inr b)) = absurd (a.3 b.1)
-file_fault_one limit s m n j k (inr (inr a)) (inl b) = absurd (omega (arith, a.0, b.2))
-file_fault_one limit s m n j k (inr (inr a)) (inr (inl b)) = absurd (b.3 a.1)
-file_fault_one limit s m n j k (inr (inr a)) (inr (inr b)) = fault_one s (mark_len s) m n j k a.2 b.2
+file_fault_one limit s m n j k = file_case_one limit (length s) _ m n j k (IsUtf8 s) (HasPieceFault s (mark_len s))
+    (fault_one s (mark_len s) m n j k)
 
 -- what an answer that is right says of every spelling and of every fault
 

@@ -19,71 +19,64 @@ use Rattle.proto_types.specs.declared.meaning.Meaning.{Meaning}
 use Rattle.proto_types.specs.declared.meaning.Meaning.TheVariants.{Named, Wrong}
 use Rattle.proto_types.specs.Typed.{named_by}
 
--- a name of a message names no enum
-pub apart : (os : List Occurrence) (Seen : ℕ → Type 0) (scope spelled a b : List ℕ)
-    → Resolves os Seen scope spelled a name_kind.Message
-    → Resolves os Seen scope spelled b name_kind.Enum → ⊥
-apart os Seen scope spelled a b h k =
-    let same = (resolves_one os Seen scope spelled a b name_kind.Message name_kind.Enum h k).1 in cc
+module _ (os : List Occurrence) (Seen : ℕ → Type 0) where
+  -- a name of a message names no enum
+  pub apart : (scope spelled a b : List ℕ) → Resolves os Seen scope spelled a name_kind.Message
+      → Resolves os Seen scope spelled b name_kind.Enum → ⊥
+  apart scope spelled a b h k =
+      let same = (resolves_one os Seen scope spelled a b name_kind.Message name_kind.Enum h k).1 in cc
 
--- what a name of a type is declared for
-pub kind_named : (os : List Occurrence) (Seen : ℕ → Type 0) (full : List ℕ) (k : NameKind) → IsType os Seen full k
-    → named_by (type_kind_of k) ≡ k
-kind_named os Seen full k type = grind arith
+  -- what a name of a type is declared for
+  pub kind_named : (full : List ℕ) (k : NameKind) → IsType os Seen full k → named_by (type_kind_of k) ≡ k
+  kind_named full k type = grind arith
 
--- ---- of one reference
+  -- ---- of one reference
 
-pub not_found : (os : List Occurrence) (Seen : ℕ → Type 0) (r : Reference) → ResolvesNowhere os Seen r.scope r.text
-    → IsLeast (ReferenceBreaks os Seen r) (Some (spot r.place kind.TypeNotFound))
-not_found os Seen r none = grind (arith, least_same, least_one)
+  pub not_found : (r : Reference) → ResolvesNowhere os Seen r.scope r.text
+      → IsLeast (ReferenceBreaks os Seen r) (Some (spot r.place kind.TypeNotFound))
+  not_found r none = grind (arith, least_same, least_one)
 
-pub not_message : (os : List Occurrence) (Seen : ℕ → Type 0) (r : Reference) (full : List ℕ)
-    → r.wanted ≡ want.MessageOnly
-    → Resolves os Seen r.scope r.text full name_kind.Enum
-    → IsLeast (ReferenceBreaks os Seen r) (Some (spot r.place kind.TypeNotMessage))
-not_message os Seen r full only found =
-    let one = apart os Seen r.scope r.text in
-    grind (arith, least_same (λ x. x ≡ spot r.place kind.TypeNotMessage) (ReferenceBreaks os Seen r), least_one, one)
+  pub not_message : (r : Reference) (full : List ℕ) → r.wanted ≡ want.MessageOnly
+      → Resolves os Seen r.scope r.text full name_kind.Enum
+      → IsLeast (ReferenceBreaks os Seen r) (Some (spot r.place kind.TypeNotMessage))
+  not_message r full only found =
+      let one = apart r.scope r.text in
+      grind (arith, least_same (λ x. x ≡ spot r.place kind.TypeNotMessage) (ReferenceBreaks os Seen r), least_one, one)
 
-pub found_enum : (os : List Occurrence) (Seen : ℕ → Type 0) (r : Reference) (full : List ℕ)
-    → (r.wanted ≡ want.MessageOnly → ⊥)
-    → Resolves os Seen r.scope r.text full name_kind.Enum → IsLeast (ReferenceBreaks os Seen r) None
-found_enum os Seen r full any found = least_none (ReferenceBreaks os Seen r)
-    (λ x w. grind (arith, apart os Seen r.scope r.text))
+  pub found_enum : (r : Reference) (full : List ℕ) → (r.wanted ≡ want.MessageOnly → ⊥)
+      → Resolves os Seen r.scope r.text full name_kind.Enum → IsLeast (ReferenceBreaks os Seen r) None
+  found_enum r full any found = least_none (ReferenceBreaks os Seen r) (λ x w. grind (arith, apart r.scope r.text))
 
-pub found_message : (os : List Occurrence) (Seen : ℕ → Type 0) (r : Reference) (full : List ℕ) (first : Option Spot)
-    → Resolves os Seen r.scope r.text full name_kind.Message → IsLeast (Each r.options SetsPacked) first
-    → IsLeast (ReferenceBreaks os Seen r) first
-found_message os Seen r full first found least =
-    least_same (Each r.options SetsPacked) (ReferenceBreaks os Seen r) first
-    (λ x w. elim w [
-      | inl none ↦ absurd (none.0 full name_kind.Message found)
-      | inr (inl enum) ↦ absurd (apart os Seen r.scope r.text full enum.1.0 found enum.1.1)
-      | inr (inr packed) ↦ (packed.2.0, packed.1, (packed.2.1, packed.2.2), (packed.3, packed.4))
-    ])
-    (λ x w. inr (inr ((full, found), w.1, (w.0, w.2.0, w.2.1), w.3.0, w.3.1)))
-    least
+  pub found_message : (r : Reference) (full : List ℕ) (first : Option Spot)
+      → Resolves os Seen r.scope r.text full name_kind.Message → IsLeast (Each r.options SetsPacked) first
+      → IsLeast (ReferenceBreaks os Seen r) first
+  found_message r full first found least = least_same (Each r.options SetsPacked) (ReferenceBreaks os Seen r) first
+      (λ x w. elim w [
+        | inl none ↦ absurd (none.0 full name_kind.Message found)
+        | inr (inl enum) ↦ absurd (apart r.scope r.text full enum.1.0 found enum.1.1)
+        | inr (inr packed) ↦ (packed.2.0, packed.1, (packed.2.1, packed.2.2), (packed.3, packed.4))
+      ])
+      (λ x w. inr (inr ((full, found), w.1, (w.0, w.2.0, w.2.1), w.3.0, w.3.1)))
+      least
 
-resolved_least : (os : List Occurrence) (Seen : ℕ → Type 0) (r : Reference) (full : List ℕ) (k : NameKind)
-    (fault : Option Spot)
-    → Resolves os Seen r.scope r.text full k → IsType os Seen full k
-    → (r.wanted ≡ want.MessageOnly → k ≡ name_kind.Message)
-    → IsPackedFault (type_kind_of k) r.options fault → IsLeast (ReferenceBreaks os Seen r) fault
-resolved_least os Seen r full k fault found (message seen) only packed = found_message os Seen r full fault found packed
-resolved_least os Seen r full k fault found (enumeration seen none) only packed =
-    rw packed (found_enum os Seen r full (λ e. cc (only e)) found)
+  resolved_least : (r : Reference) (full : List ℕ) (k : NameKind) (fault : Option Spot)
+      → Resolves os Seen r.scope r.text full k → IsType os Seen full k
+      → (r.wanted ≡ want.MessageOnly → k ≡ name_kind.Message)
+      → IsPackedFault (type_kind_of k) r.options fault → IsLeast (ReferenceBreaks os Seen r) fault
+  resolved_least r full k fault found (message seen) only packed = found_message r full fault found packed
+  resolved_least r full k fault found (enumeration seen none) only packed =
+      rw packed (found_enum r full (λ e. cc (only e)) found)
 
--- ---- what one name means
+  -- ---- what one name means
 
--- what is found of a full name is what a reference to it means
-pub naming_means : (os : List Occurrence) (Seen : ℕ → Type 0) (r : Reference) (full : List ℕ)
-    (k : NameKind) (m : Meaning)
-    → Resolves os Seen r.scope r.text full k → (r.wanted ≡ want.MessageOnly → k ≡ name_kind.Message)
-    → IsNaming full (type_kind_of k) r.options m
-    → IsMeaning os Seen r m
-naming_means os Seen r full k (Named t) found only naming = (
-  resolved_least os Seen r full k None found found.type only naming.0,
-  (full, rw naming.2 (rw (kind_named os Seen full k found.type) found), naming.1),
-)
-naming_means os Seen r full k (Wrong x) found only naming =
-    resolved_least os Seen r full k (Some x) found found.type only naming
+  -- what is found of a full name is what a reference to it means
+  pub naming_means : (r : Reference) (full : List ℕ) (k : NameKind) (m : Meaning)
+      → Resolves os Seen r.scope r.text full k → (r.wanted ≡ want.MessageOnly → k ≡ name_kind.Message)
+      → IsNaming full (type_kind_of k) r.options m
+      → IsMeaning os Seen r m
+  naming_means r full k (Named t) found only naming = (
+    resolved_least r full k None found found.type only naming.0,
+    (full, rw naming.2 (rw (kind_named full k found.type) found), naming.1),
+  )
+  naming_means r full k (Wrong x) found only naming =
+      resolved_least r full k (Some x) found found.type only naming

@@ -21,34 +21,6 @@ use Rattle.proto_types.specs.declared.meaning.Meaning.{Meaning}
 use Rattle.proto_types.specs.declared.recalled.Recalled.{Recalled}
 use Rattle.proto_types.proofs.Meanings.{naming_means, not_found, not_message}
 
-by_kind : (os : List Occurrence) (Seen : ℕ → Type 0) (scope text : List ℕ) (place : Place) (wanted : Want)
-    (options : List OptionDesc) (t : FoundType) (m : Meaning) (what : NameKind) → t.kind ≡ what
-    → IsType os Seen (scoped t.scope.now t.name.now) what
-    → Resolves os Seen scope text (scoped t.scope.now t.name.now) t.kind → IsMeaningBy wanted (Some t) place options m
-    → IsMeaning os Seen (reference_to scope text place wanted options) m
-by_kind os Seen scope text place want.AnyType options t m what same type named is =
-    naming_means os Seen (reference_to scope text place want.AnyType options) (scoped t.scope.now t.name.now) t.kind m
-    named (λ e. cc) (is.0 (λ e. cc))
-by_kind os Seen scope text place want.MessageOnly options t m what same (message seen) named is =
-    naming_means os Seen (reference_to scope text place want.MessageOnly options) (scoped t.scope.now t.name.now) t.kind
-    m named (λ e. same) (is.0 (λ e. same))
-by_kind os Seen scope text place want.MessageOnly options t m what same (enumeration seen none) named is =
-    rw (is.1 (λ fits. cc (fits refl)))
-    (not_message os Seen (reference_to scope text place want.MessageOnly options) (scoped t.scope.now t.name.now) refl
-    (rw same at named))
-
--- what is made of what a name means is what a reference to it means
-pub meaning_by : (os : List Occurrence) (Seen : ℕ → Type 0) (scope text : List ℕ) (place : Place) (wanted : Want)
-    (options : List OptionDesc) (found : Option FoundType) (m : Meaning)
-    → IsNamed os Seen scope text found → IsMeaningBy wanted found place options m
-    → IsMeaning os Seen (reference_to scope text place wanted options) m
-meaning_by os Seen scope text place wanted options None m none is =
-    rw is (not_found os Seen (reference_to scope text place wanted options) none)
-meaning_by os Seen scope text place wanted options (Some t) m named is =
-    by_kind os Seen scope text place wanted options t m t.kind refl named.type named is
-
--- ---- one among those that are recalled
-
 -- what holds of all holds of the one that is found, which passes
 found_one : {X : Type 0} (P : X → Type 0) (test : X → Bool) (xs : List X) (x : X) → All P xs
     → find test xs ≡ Some x → P x × (test x ≡ true)
@@ -56,24 +28,48 @@ found_one P test [] x all is = absurd (none-some x is)
 found_one P test (y ∷ ys) x all is =
     grind (arith, All-head P y ys all, found_one P test ys x (All-tail P y ys all))
 
--- the one that is recalled of a name says what it means
-pub recalled_type : (os : List Occurrence) (Seen : ℕ → Type 0) (scope text : List ℕ) (recalled : List Recalled)
-    (one : Recalled)
-    → AreRecalled os Seen scope recalled → find (λ r. bytes_eq r.spelled.now text) recalled ≡ Some one
-    → IsNamed os Seen scope text one.found
-recalled_type os Seen scope text recalled one all is =
-    let found = found_one (λ r. IsNamed os Seen scope r.spelled.now r.found) (λ r. bytes_eq r.spelled.now text)
-    recalled one all is in
-    rw (← (bytes_eq-Decides one.spelled.now text).0 found.1) found.0
+module _ (os : List Occurrence) (Seen : ℕ → Type 0) where
+  by_kind : (scope text : List ℕ) (place : Place) (wanted : Want)
+      (options : List OptionDesc) (t : FoundType) (m : Meaning) (what : NameKind) → t.kind ≡ what
+      → IsType os Seen (scoped t.scope.now t.name.now) what
+      → Resolves os Seen scope text (scoped t.scope.now t.name.now) t.kind → IsMeaningBy wanted (Some t) place options m
+      → IsMeaning os Seen (reference_to scope text place wanted options) m
+  by_kind scope text place want.AnyType options t m what same type named is =
+      naming_means os Seen (reference_to scope text place want.AnyType options) _ t.kind m named (λ e. cc)
+      (is.0 (λ e. cc))
+  by_kind scope text place want.MessageOnly options t m what same (message seen) named is =
+      naming_means os Seen (reference_to scope text place want.MessageOnly options) _ t.kind m named (λ e. same)
+      (is.0 (λ e. same))
+  by_kind scope text place want.MessageOnly options t m what same (enumeration seen none) named is =
+      rw (is.1 (λ fits. cc (fits refl)))
+      (not_message os Seen (reference_to scope text place want.MessageOnly options) _ refl (rw same at named))
 
--- what is recalled after one more name
-pub recalled_more : (os : List Occurrence) (Seen : ℕ → Type 0) (scope : List ℕ) (one : Recalled)
-    (old new : List Recalled)
-    → AreRecalled os Seen scope old → IsNamed os Seen scope one.spelled.now one.found → Remembers one old new
-    → AreRecalled os Seen scope new
-recalled_more os Seen scope one old new all is remembers =
-    let P : Recalled → Type 0 = λ r. IsNamed os Seen scope r.spelled.now r.found in
-    elim remembers [
-      | inl alone ↦ rw alone (All-cons P one [] is (All-nil P))
-      | inr more ↦ rw more (All-push P old one all is)
-    ]
+  -- what is made of what a name means is what a reference to it means
+  pub meaning_by : (scope text : List ℕ) (place : Place) (wanted : Want)
+      (options : List OptionDesc) (found : Option FoundType) (m : Meaning)
+      → IsNamed os Seen scope text found → IsMeaningBy wanted found place options m
+      → IsMeaning os Seen (reference_to scope text place wanted options) m
+  meaning_by scope text place wanted options None m none is =
+      rw is (not_found os Seen (reference_to scope text place wanted options) none)
+  meaning_by scope text place wanted options (Some t) m named is =
+      by_kind scope text place wanted options t m t.kind refl named.type named is
+
+  -- the one that is recalled of a name says what it means
+  pub recalled_type : (scope text : List ℕ) (recalled : List Recalled) (one : Recalled)
+      → AreRecalled os Seen scope recalled → find (λ r. bytes_eq r.spelled.now text) recalled ≡ Some one
+      → IsNamed os Seen scope text one.found
+  recalled_type scope text recalled one all is =
+      let found = found_one (λ r. IsNamed os Seen scope r.spelled.now r.found) (λ r. bytes_eq r.spelled.now text)
+      recalled one all is in
+      rw (← (bytes_eq-Decides one.spelled.now text).0 found.1) found.0
+
+  -- what is recalled after one more name
+  pub recalled_more : (scope : List ℕ) (one : Recalled) (old new : List Recalled)
+      → AreRecalled os Seen scope old → IsNamed os Seen scope one.spelled.now one.found → Remembers one old new
+      → AreRecalled os Seen scope new
+  recalled_more scope one old new all is remembers =
+      let P : Recalled → Type 0 = λ r. IsNamed os Seen scope r.spelled.now r.found in
+      elim remembers [
+        | inl alone ↦ rw alone (All-cons P one [] is (All-nil P))
+        | inr more ↦ rw more (All-push P old one all is)
+      ]

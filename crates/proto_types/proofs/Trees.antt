@@ -57,14 +57,6 @@ remade_typed os Seen scope m x fields nested e own inside =
 
 -- ---- what is typed is resolved
 
-field_typed : (os : List Occurrence) (Seen : ℕ → Type 0) (scope : List ℕ) (f g : FieldDesc)
-    → IsTypedField os Seen scope f g → field_resolved g ≡ true
-field_typed os Seen scope f g h = grind arith
-
-method_typed : (os : List Occurrence) (Seen : ℕ → Type 0) (scope : List ℕ) (m g : MethodDesc)
-    → IsTypedMethod os Seen scope m g → method_resolved g ≡ true
-method_typed os Seen scope m g h = grind arith
-
 -- all of a list, where each is what another is typed as
 zip_all : {X : Type 0} (R : X → X → Type 0) (p : X → Bool) → ((x y : X) → R x y → p y ≡ true) → (xs ys : List X)
     → AllZip R xs ys → list_all p ys ≡ true
@@ -73,23 +65,26 @@ zip_all R p turn [] (y ∷ ys) h = absurd h
 zip_all R p turn (x ∷ xs) [] h = absurd h
 zip_all R p turn (x ∷ xs) (y ∷ ys) h = and_from (p y) (list_all p ys) (turn x y h.0) (zip_all R p turn xs ys h.1)
 
-service_typed : (os : List Occurrence) (Seen : ℕ → Type 0) (scope : List ℕ) (s g : ServiceDesc)
-    → IsTypedService os Seen scope s g → service_resolved g ≡ true
-service_typed os Seen scope s g h = grind (arith, zip_all, method_typed)
+module _ (os : List Occurrence) (Seen : ℕ → Type 0) where
+  field_typed : (scope : List ℕ) (f g : FieldDesc) → IsTypedField os Seen scope f g → field_resolved g ≡ true
+  field_typed scope f g h = grind arith
 
-mutual
-  message_typed : (os : List Occurrence) (Seen : ℕ → Type 0) (scope : List ℕ) (m g : MessageDesc)
-      → IsTypedMessage os Seen scope m g → message_resolved g ≡ true
-  message_typed os Seen scope m g (message s n o body nested) =
-      grind (arith, message_resolved_out, zip_all, field_typed, all_typed os Seen _ _ _ nested)
+  method_typed : (scope : List ℕ) (m g : MethodDesc) → IsTypedMethod os Seen scope m g → method_resolved g ≡ true
+  method_typed scope m g h = grind arith
 
-  all_typed : (os : List Occurrence) (Seen : ℕ → Type 0) (scope : List ℕ) (ms gs : List MessageDesc)
-      → AreTypedMessages os Seen scope ms gs
-      → list_all message_resolved gs ≡ true
-  all_typed os Seen scope ms gs (none s) = refl
-  all_typed os Seen scope ms gs (more s m g rest made one others) =
-      grind (arith, message_typed os Seen scope m g one, all_typed os Seen scope rest made others)
+  service_typed : (scope : List ℕ) (s g : ServiceDesc) → IsTypedService os Seen scope s g → service_resolved g ≡ true
+  service_typed scope s g h = grind (arith, zip_all, method_typed)
 
-pub typed_resolved : (os : List Occurrence) (Seen : ℕ → Type 0) (scope : List ℕ) (f g : FileDesc)
-    → IsTypedIn os Seen scope f g → file_resolved g ≡ true
-typed_resolved os Seen scope f g h = grind (arith, all_typed, zip_all, service_typed)
+  mutual
+    message_typed : (scope : List ℕ) (m g : MessageDesc) → IsTypedMessage os Seen scope m g → message_resolved g ≡ true
+    message_typed scope m g (message s n o body nested) =
+        grind (arith, message_resolved_out, zip_all, field_typed, all_typed _ _ _ nested)
+
+    all_typed : (scope : List ℕ) (ms gs : List MessageDesc) → AreTypedMessages os Seen scope ms gs
+        → list_all message_resolved gs ≡ true
+    all_typed scope ms gs (none s) = refl
+    all_typed scope ms gs (more s m g rest made one others) =
+        grind (arith, message_typed scope m g one, all_typed scope rest made others)
+
+  pub typed_resolved : (scope : List ℕ) (f g : FileDesc) → IsTypedIn os Seen scope f g → file_resolved g ≡ true
+  typed_resolved scope f g h = grind (arith, all_typed, zip_all, service_typed)

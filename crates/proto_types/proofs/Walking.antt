@@ -1,5 +1,5 @@
 -- What walks over references find and put, one behind another.
-use Rattle.std.proofs.Common.{inr, ◌≡◌, ◌∙◌, sym, ℕ, ◌+◌, ◌<◌, ◌≤◌, List, [], ◌∷◌, ◌++◌, append_assoc, ap, arith, get_or, get_or-set_other, le_refl, length, length-set, refl, set, take, take_all}
+use Rattle.std.proofs.Common.{inr, ◌≡◌, ◌∙◌, sym, ℕ, ◌+◌, ◌<◌, ◌≤◌, List, [], ◌∷◌, ◌++◌, append_assoc, ap, arith, get_or, get_or-set_other, le_refl, length, length-set, refl, set, take}
 use Rattle.std.proofs.lemmas.List.{append-nil, take_more, take_more_set}
 use Rattle.std.proofs.lemmas.List.Concat.{flat_map-append}
 use Rattle.std.specs.List.{AllZip}
@@ -95,11 +95,3 @@ filled_next {X} {refs} {Typed} {before} {now} {k} {x} {y} {a} {b} {c} so_far bel
             (put.0, all_zipped_more (Typed os (IsSeen seen) scope) (take k before) (take k now) x y put.1.0 put.1.1)));
       });
 }
-
--- all items of a list
-pub filled_all : {X : Type 0} {refs : List ℕ → X → List Reference}
-    {Typed : List Occurrence → (ℕ → Type 0) → List ℕ → X → X → Type 0}
-    {old before now new : List X} {k : ℕ} {a b : List NamedType} → AreFilledTo refs Typed before now k a b
-    → length now ≤ k → before ≡ old → new ≡ now → AreFilled refs Typed old new a b
-filled_all {before = before} {now = now} {k = k} so_far past is made =
-    rw (← is, made) (rw (take_all k before (omega arith), take_all k now past) at so_far.filled)

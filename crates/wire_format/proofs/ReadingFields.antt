@@ -1,19 +1,13 @@
 -- Fields as they are read: what is read is spelled so, and what is spelled so is read.
-use Rattle.std.proofs.Common.{◌≡◌, ◌≢◌, sym, ℕ, ◌+◌, ◌*◌, ◌/◌, ◌%◌, ◌^◌, ◌<◌, List, [], ◌∷◌, ◌++◌, length, drop, refl, subst, arith, append_assoc, inl, inr}
-use Rattle.std.specs.Prelude.{Option, Some, None, true, option_and_then, nat_lt, if◌then◌else◌, ◌==◌}
+use Rattle.std.proofs.Common.{◌≡◌, ◌≢◌, ℕ, ◌+◌, ◌*◌, ◌/◌, ◌%◌, ◌^◌, ◌<◌, List, [], ◌∷◌, ◌++◌, length, refl, arith, append_assoc}
+use Rattle.std.specs.Prelude.{Option, Some, None, option_and_then, nat_lt, if◌then◌else◌, ◌==◌}
 use Rattle.std.proofs.lemmas.Bool.{ne_eqb, eqb-true, eqb-false, ltb-true, ltb-false, lt-ltb, le-ltb}
 use Rattle.std.proofs.lemmas.Grind.{common_steps}
 use Rattle.std.proofs.lemmas.List.{take-append-drop, length-take-le, take_at, drop_at}
 use Rattle.std.proofs.lemmas.Option.{none-some, same_Some}
 use Rattle.wire_format.specs.Reading.{Value, number, bytes, Body, varint_body, eight_bytes, four_bytes, delimited, Spelled, wire_type, body_text, IsBody, IsSpelled, text_of, entry_of, entry_by}
 use Rattle.wire_format.specs.ReadingSteps.{varint_within, split_off, body_at, field_at}
-use Rattle.wire_format.proofs.ReadingVarints.{IsBytes, rest_bytes, chosen, Taken, varint_takes, varint_again}
-
-tag_number : (n w : ℕ) → w < 8 → (n * 8 + w) / 8 ≡ n
-tag_number n w h = omega arith
-
-tag_kind : (n w : ℕ) → w < 8 → (n * 8 + w) % 8 ≡ w
-tag_kind n w h = omega arith
+use Rattle.wire_format.proofs.ReadingVarints.{IsBytes, rest_bytes, chosen, varint_takes, varint_again}
 
 below_eight : (b : Body) → wire_type b < 8
 below_eight b = grind arith
@@ -37,8 +31,8 @@ pub field_again : (s : Spelled) (rest : List ℕ) → IsSpelled s → field_at (
 unfolding field_at
 field_again s rest h =
     let w = below_eight s.body in
-    let number_is = tag_number s.number (wire_type s.body) w in
-    let kind_is = tag_kind s.number (wire_type s.body) w in
+    let number_is : (s.number * 8 + wire_type s.body) / 8 ≡ s.number = omega arith in
+    let kind_is : (s.number * 8 + wire_type s.body) % 8 ≡ wire_type s.body = omega arith in
     let some : s.number ≢ 0 = omega (arith, h.positive) in
     rw (
       append_assoc,
@@ -78,56 +72,40 @@ varint_taken : (n : ℕ) (text : List ℕ) (y : Read) → IsBytes text
     → option_and_then (λ x. Some (Some (n, number x.0), x.1)) (varint_within 10 text) ≡ Some y
     → BodyTaken 0 n text y.0 y.1
 varint_taken n text y h e =
-    let x = bound (λ (x : ℕ × List ℕ). some_read (Some (n, number x.0), x.1)) (varint_within 10 text) y e in
+    let x = bound _ (varint_within 10 text) y e in
     let taken = varint_takes 10 text x.0 h x.1 in
-    record {
-      body = varint_body taken.prefix x.0.0;
-      kind_is = refl;
-      ok = grind arith;
-      entry_is = grind arith;
-      split = grind arith;
-    }
+    let body = varint_body taken.prefix x.0.0 in
+    record { body = body; kind_is = refl; ok = grind arith; entry_is = grind arith; split = grind arith }
 
-eight_taken : (n : ℕ) (text : List ℕ) (y : Read) → option_and_then (λ x. Some (None, x.1)) (split_off 8 text) ≡ Some y
-    → BodyTaken 1 n text y.0 y.1
-eight_taken n text y e =
-    let x = bound (λ (x : List ℕ × List ℕ). some_read (None, x.1)) (split_off 8 text) y e in
-    let taken = split_takes 8 text x.0 x.1 in
-    record { body = eight_bytes x.0.0; kind_is = refl; ok = taken.0; entry_is = grind arith; split = grind arith }
-
-four_taken : (n : ℕ) (text : List ℕ) (y : Read) → option_and_then (λ x. Some (None, x.1)) (split_off 4 text) ≡ Some y
-    → BodyTaken 5 n text y.0 y.1
-four_taken n text y e =
-    let x = bound (λ (x : List ℕ × List ℕ). some_read (None, x.1)) (split_off 4 text) y e in
-    let taken = split_takes 4 text x.0 x.1 in
-    record { body = four_bytes x.0.0; kind_is = refl; ok = taken.0; entry_is = grind arith; split = grind arith }
+skipped_taken : (size kind n : ℕ) (f : List ℕ → Body) (text : List ℕ) (y : Read)
+    → ((t : List ℕ) → length t ≡ size
+    → (wire_type (f t) ≡ kind) × IsBody (f t) × (entry_by n (f t) ≡ None) × (body_text (f t) ≡ t))
+    → option_and_then (λ x. Some (None, x.1)) (split_off size text) ≡ Some y → BodyTaken kind n text y.0 y.1
+skipped_taken size kind n f text y form e =
+    let x = bound _ (split_off size text) y e in
+    let taken = split_takes size text x.0 x.1 in
+    let is = form x.0.0 taken.0 in
+    record { body = f x.0.0; kind_is = is.0; ok = is.1; entry_is = grind arith; split = rw is.3 (grind arith) }
 
 delimited_taken : (n : ℕ) (text : List ℕ) (y : Read) → IsBytes text
     → option_and_then (λ x. option_and_then (λ y. Some (Some (n, bytes y.0), y.1)) (split_off x.0 x.1))
     (varint_within 10 text) ≡ Some y
     → BodyTaken 2 n text y.0 y.1
 delimited_taken n text y h e =
-    let x = bound (λ (x : ℕ × List ℕ). option_and_then (λ y. some_read (Some (n, bytes y.0), y.1)) (split_off x.0 x.1))
-    (varint_within 10 text) y e in
+    let x = bound _ (varint_within 10 text) y e in
     let size = varint_takes 10 text x.0 h x.1 in
-    let z = bound (λ (y : List ℕ × List ℕ). some_read (Some (n, bytes y.0), y.1)) (split_off x.0.0 x.0.1) y x.2 in
+    let z = bound _ (split_off x.0.0 x.0.1) y x.2 in
     let taken = split_takes x.0.0 x.0.1 z.0 z.1 in
-    record {
-      body = delimited size.prefix z.0.0;
-      kind_is = refl;
-      ok = grind arith;
-      entry_is = grind arith;
-      split = grind (arith, append_assoc);
-    }
-
-at_kind : (k kind n : ℕ) (text : List ℕ) (y : Read) → (kind == k) ≡ true → BodyTaken k n text y.0 y.1
-    → BodyTaken kind n text y.0 y.1
-at_kind k kind n text y e b = subst (λ (m : ℕ). BodyTaken m n text y.0 y.1) (sym (eqb-true kind k e)) b
+    let body = delimited size.prefix z.0.0 in
+    let split = append_assoc size.prefix z.0.0 y.1 in
+    record { body = body; kind_is = refl; ok = grind arith; entry_is = grind arith; split = grind arith }
 
 body_takes : (kind n : ℕ) (text : List ℕ) (y : Read) → IsBytes text → body_at kind n text ≡ Some y
     → BodyTaken kind n text y.0 y.1
 body_takes kind n text y h e =
-    grind (arith, common_steps, at_kind, chosen, delimited_taken, eight_taken, four_taken, none-some, varint_taken)
+    let eight = skipped_taken 8 1 n eight_bytes text y (λ t size. (refl, size, refl, refl)) in
+    let four = skipped_taken 4 5 n four_bytes text y (λ t size. (refl, size, refl, refl)) in
+    grind (arith, common_steps, eqb-true, chosen, delimited_taken, none-some, varint_taken)
 
 pub record FieldTaken (text : List ℕ) (entry : Option (ℕ × Value)) (rest : List ℕ) : Type 0 where
   pub field : Spelled
@@ -139,31 +117,23 @@ pub rest_of_bytes : (prefix rest : List ℕ) → IsBytes (prefix ++ rest) → Is
 rest_of_bytes [] rest h = h
 rest_of_bytes (b ∷ bs) rest h = rest_of_bytes bs rest (rest_bytes b (bs ++ rest) h)
 
-field_made : {t : ℕ} {rest : List ℕ} (text : List ℕ) (y : Read) → Taken 10 text t rest → t < 2 ^ 32 → (t / 8 ≡ 0 → ⊥)
-    → BodyTaken (t % 8) (t / 8) rest y.0 y.1
-    → FieldTaken text y.0 y.1
-field_made {t} {rest} text y tag small some body =
-    let whole : (t / 8) * 8 + wire_type body.body ≡ t = rw body.kind_is (omega arith) in
-    record {
-      field = record { tag = tag.prefix; number = t / 8; body = body.body };
-      ok = grind arith;
-      entry_is = body.entry_is;
-      split = grind (arith, append_assoc);
-    }
+tag_fits : (t : ℕ) (o : Option Read) (y : Read)
+    → (if nat_lt t (2 ^ 32) then (if t / 8 == 0 then None else o) else None) ≡ Some y
+    → (t < 2 ^ 32) × (t / 8 ≢ 0) × (o ≡ Some y)
+tag_fits t o y e = grind (arith, chosen, eqb-false, ltb-true, none-some)
 
 pub field_takes : (text : List ℕ) (y : Read) → IsBytes text → field_at text ≡ Some y → FieldTaken text y.0 y.1
 unfolding field_at
 field_takes text y h e =
-    let x = bound (λ (x : ℕ × List ℕ). if nat_lt x.0 (2 ^ 32) then
-    (if x.0 / 8 == 0 then None else body_at (x.0 % 8) (x.0 / 8) x.1) else None)
-    (varint_within 10 text) y e in
+    let x = bound _ (varint_within 10 text) y e in
     let tag = varint_takes 10 text x.0 h x.1 in
-    elim (chosen (nat_lt x.0.0 (2 ^ 32)) _ _ y x.2) [
-      | inl w ↦ elim (chosen (x.0.0 / 8 == 0) _ _ y w.1) [
-        | inl v ↦ absurd (none-some y v.1)
-        | inr v ↦ field_made text y tag (ltb-true x.0.0 (2 ^ 32) w.0) (eqb-false (x.0.0 / 8) 0 v.0)
-            (body_takes (x.0.0 % 8) (x.0.0 / 8) x.0.1 y
-            (rest_of_bytes tag.prefix x.0.1 (subst IsBytes tag.split h)) v.1)
-      ]
-      | inr w ↦ absurd (none-some y w.1)
-    ]
+    let fits = tag_fits x.0.0 (body_at (x.0.0 % 8) (x.0.0 / 8) x.0.1) y x.2 in
+    let body = body_takes (x.0.0 % 8) (x.0.0 / 8) x.0.1 y
+    (rest_of_bytes tag.prefix x.0.1 (rw tag.split at h)) fits.2 in
+    let whole : (x.0.0 / 8) * 8 + wire_type body.body ≡ x.0.0 = rw body.kind_is (omega arith) in
+    record {
+      field = record { tag = tag.prefix; number = x.0.0 / 8; body = body.body };
+      ok = grind arith;
+      entry_is = body.entry_is;
+      split = grind (arith, append_assoc);
+    }

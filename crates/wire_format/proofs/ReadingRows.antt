@@ -1,5 +1,5 @@
 -- Rows of fields as they are read.
-use Rattle.std.proofs.Common.{◌≡◌, ◌∙◌, sym, ℕ, ◌+◌, ◌<◌, List, [], ◌∷◌, ◌++◌, length, ap, refl, subst, arith, append_assoc, append-nil}
+use Rattle.std.proofs.Common.{◌≡◌, ◌∙◌, sym, ℕ, ◌<◌, List, [], ◌∷◌, ◌++◌, length, ap, refl, arith, append_assoc, append-nil}
 use Rattle.std.specs.Prelude.{Option, Some, None, flat_map}
 use Rattle.std.specs.List.{filter_map, AllByRecursion}
 use Rattle.std.proofs.lemmas.Grind.{common_steps}
@@ -29,27 +29,16 @@ field_at_none = refl
 
 pub row_back : (text : List ℕ) (y : Read) (fs : List (ℕ × Value)) → field_at text ≡ Some y → IsRow text fs
     → (more : List (ℕ × Value)) × IsRow y.1 more
-row_back text y fs e ([], ok, split, is) = absurd (none-some y (sym field_at_none ∙ ap field_at (sym split) ∙ e))
+row_back text y fs e ([], ok, split, is) = absurd (cc field_at_none)
 row_back text y fs e (s ∷ row, ok, split, is) =
-    let again : Some (entry_of s, flat_map text_of row) ≡ Some y = sym (field_again s (flat_map text_of row) ok.0)
-    ∙ ap field_at (sym split) ∙ e in (
-      filter_map entry_of row,
-      (row, ok.1, ap (λ (z : Read). z.1) (sym (same_Some (entry_of s, flat_map text_of row) y again)), refl),
-    )
-
-empty_short : (text : List ℕ) → text ≡ [] → 0 < length text → ⊥
-empty_short text e h = let none = rw e at h in omega (arith, none)
+    (filter_map entry_of row, (row, ok.1, cc (field_again s (flat_map text_of row) ok.0), refl))
 
 pub row_stop : (text : List ℕ) (fs : List (ℕ × Value)) → 0 < length text → field_at text ≡ None → IsRow text fs → ⊥
-row_stop text fs h e ([], ok, split, is) = empty_short text split h
+row_stop text fs h e ([], ok, split, is) = omega (arith, ap length split)
 row_stop text fs h e (s ∷ row, ok, split, is) = grind (arith, field_again, none-some)
 
 spells_some : (xs : List ℕ) (n : ℕ) → Spells xs n → 0 < length xs
 spells_some xs n s = grind (arith, common_steps)
-
-pub taken_shorter : (text : List ℕ) (e : Option (ℕ × Value)) (rest : List ℕ) → FieldTaken text e rest
-    → length rest < length text
-taken_shorter text e rest taken = grind (arith, common_steps, spells_some)
 
 -- what reading keeps: fields that are read, and a row that is left
 pub record Kept (whole rest : List ℕ) (done : List (ℕ × Value)) : Type 0 where
@@ -60,10 +49,6 @@ pub record Kept (whole rest : List ℕ) (done : List (ℕ × Value)) : Type 0 wh
 pub kept_first : (whole : List ℕ) (done : List (ℕ × Value)) → done ≡ [] → IsBytes whole → Kept whole whole done
 kept_first whole done e h = rw e (record { within = h; ahead = λ fs row. row; back = λ fs row. (fs, row) })
 
-within_rest : (text : List ℕ) (e : Option (ℕ × Value)) (rest : List ℕ) → FieldTaken text e rest → IsBytes text
-    → IsBytes rest
-within_rest text e rest taken h = rest_of_bytes (text_of taken.field) rest (subst IsBytes taken.split h)
-
 pub kept_more : (whole rest others : List ℕ) (done more : List (ℕ × Value)) (e : Option (ℕ × Value))
     → field_at rest ≡ some_read (e, others) → more ≡ done ++ with_entry e [] → Kept whole rest done
     → Kept whole others more
@@ -72,23 +57,26 @@ kept_more whole rest others done more e read more_is kept =
     let joined : (fs : List (ℕ × Value)) → more ++ fs ≡ done ++ with_entry e fs =
     λ fs. grind (arith, append_assoc, append-nil) in
     record {
-      within = within_rest rest e others taken kept.within;
+      within = rest_of_bytes (text_of taken.field) others (rw taken.split at kept.within);
       ahead = λ fs row. rw (joined fs) (kept.ahead (with_entry e fs) (row_ahead rest e others fs taken row));
       back = λ fs row. row_back rest (e, others) (kept.back fs row).0 read (kept.back fs row).1;
     }
 
 pub field_shorter : (rest others : List ℕ) (e : Option (ℕ × Value)) → IsBytes rest
     → field_at rest ≡ some_read (e, others) → length others < length rest
-field_shorter rest others e h read = taken_shorter rest e others (field_takes rest (e, others) h read)
-
-pub kept_stop : (whole rest : List ℕ) (done fs : List (ℕ × Value)) → Kept whole rest done → 0 < length rest
-    → field_at rest ≡ None → IsRow whole fs → ⊥
-kept_stop whole rest done fs kept h none row = row_stop rest (kept.back fs row).0 h none (kept.back fs row).1
+field_shorter rest others e h read =
+    let taken = field_takes rest (e, others) h read in grind (arith, common_steps, spells_some)
 
 pub kept_all : (whole rest : List ℕ) (done : List (ℕ × Value)) → Kept whole rest done → rest ≡ [] → IsRow whole done
 kept_all whole rest done kept e = rw (← append-nil done) (kept.ahead [] (rw e row_none))
 
 -- one row of bytes, one list
+same_front : (s t : Spelled) (x y : List ℕ) → IsSpelled s → IsSpelled t → text_of s ++ x ≡ text_of t ++ y
+    → (entry_of s ≡ entry_of t) × (x ≡ y)
+same_front s t x y h k e =
+    let both = same_Some _ _ (sym (field_again s x h) ∙ ap field_at e ∙ field_again t y k) in
+    (ap (λ (z : Read). z.0) both, ap (λ (z : Read). z.1) both)
+
 pub row_one : (row others : List Spelled) → AllByRecursion IsSpelled row → AllByRecursion IsSpelled others
     → flat_map text_of row ≡ flat_map text_of others
     → filter_map entry_of row ≡ filter_map entry_of others
@@ -96,16 +84,11 @@ row_one [] [] h k e = refl
 row_one [] (t ∷ ts) h k e = grind (arith, field_again, field_at_none, none-some)
 row_one (s ∷ ss) [] h k e = grind (arith, field_again, field_at_none, none-some)
 row_one (s ∷ ss) (t ∷ ts) h k e =
-    let both = same_Some (entry_of s, flat_map text_of ss) (entry_of t, flat_map text_of ts)
-    (sym (field_again s (flat_map text_of ss) h.0) ∙ ap field_at e ∙ field_again t (flat_map text_of ts) k.0) in
-    let rest = row_one ss ts h.1 k.1 (ap (λ (z : Read). z.1) both) in
-    rw (ap (λ (z : Read). z.0) both, rest) refl
+    let both = same_front s t (flat_map text_of ss) (flat_map text_of ts) h.0 k.0 e in
+    rw (both.0, row_one ss ts h.1 k.1 both.1) refl
 
 pub spelled_once : (s t : Spelled) (x : List ℕ) → IsSpelled s → IsSpelled t → text_of s ++ x ≡ text_of t → x ≡ []
-spelled_once s t x h k e =
-    let both = same_Some (entry_of s, x) (entry_of t, [])
-    (sym (field_again s x h) ∙ ap field_at (e ∙ sym (append-nil (text_of t))) ∙ field_again t [] k) in
-    ap (λ (z : Read). z.1) both
+spelled_once s t x h k e = (same_front s t x [] h k (e ∙ sym (append-nil (text_of t)))).1
 
 pub one_list : (text : List ℕ) (first second : List (ℕ × Value)) → IsRow text first → IsRow text second → first ≡ second
 one_list text first second is other = grind (arith, row_one)

@@ -49,15 +49,10 @@ varint_takes (suc k) (b ∷ bs) y h e = elim (chosen (nat_lt b 128) (Some (b, bs
       }
 ]
 
-pub none_fit : (n : ℕ) → suc n ≤ 0 → ⊥
-none_fit n h = omega arith
-
 pub varint_again : (k : ℕ) (prefix : List ℕ) (n : ℕ) (rest : List ℕ) → Spells prefix n → length prefix ≤ k → n < 2 ^ 64
     → varint_within k (prefix ++ rest) ≡ Some (n, rest)
 varint_again k [] n rest s h f = absurd s
-varint_again zero (b ∷ bs) n rest s h f = absurd (none_fit (length bs) h)
+varint_again zero (b ∷ bs) n rest s h f = absurd (omega (arith, h))
 varint_again (suc k) (b ∷ []) n rest s h f = rw (lt-ltb b 128 s.0, s.1) refl
 varint_again (suc k) (b ∷ c ∷ bs) n rest (large, under, high, e, more) h f =
-    let again = varint_again k (c ∷ bs) high rest more (omega arith) (omega arith) in
-    let value : b - 128 + 128 * high ≡ n = omega arith in
-    rw (le-ltb b 128 large, again, value, lt-ltb n (2 ^ 64) f) refl
+    grind (arith, le-ltb, lt-ltb, varint_again k (c ∷ bs) high rest more (omega arith) (omega arith))

@@ -9,19 +9,16 @@ small_rest k n h = grind (arith, div-lt_iff_lt-mul)
 
 groups-small : (k n : ℕ) → n < 128 → groups k n ≡ n ∷ []
 unfolding groups
-groups-small zero n h = refl
-groups-small (suc k) n h = grind (arith, nat_tests)
+groups-small k n h = grind (arith, nat_tests)
 
 groups-large : (k n : ℕ) → 128 ≤ n → groups (suc k) n ≡ (n % 128 + 128) ∷ groups k (n / 128)
 unfolding groups
 groups-large k n h = grind (arith, nat_tests)
 
 -- one more group changes nothing where the number has room
-pub groups-more : (k n : ℕ) → n < 128 ^ suc k → groups k n ≡ groups (suc k) n
+groups-more : (k n : ℕ) → n < 128 ^ suc k → groups k n ≡ groups (suc k) n
 groups-more zero n h = grind (arith, groups-small)
-groups-more (suc k) n h =
-    let more : n / 128 < 128 ^ suc k → groups k (n / 128) ≡ groups (suc k) (n / 128) = groups-more k (n / 128) in
-    grind (arith, groups-small, groups-large, small_rest)
+groups-more (suc k) n h = grind (arith, groups-small, groups-large, small_rest, groups-more k (n / 128))
 
 pub varint_bytes-small : (n : ℕ) → n < 128 → varint_bytes n ≡ n ∷ []
 unfolding varint_bytes
@@ -41,23 +38,19 @@ groups_spelled : (k n : ℕ) → n < 128 ^ suc k → Spells (groups k n) n
 unfolding groups
 groups_spelled zero n h = let small : n < 128 = omega (arith, h) in (small, refl)
 groups_spelled (suc k) n h =
-    let rest : n / 128 < 128 ^ suc k → Spells (groups k (n / 128)) (n / 128) = groups_spelled k (n / 128) in
-    grind (arith, groups-small, groups-large, small_rest, spells_more)
+    grind (arith, groups-small, groups-large, small_rest, spells_more, groups_spelled k (n / 128))
 
 groups_short : (k n : ℕ) → length (groups k n) ≤ suc k
 unfolding groups
 groups_short zero n = omega arith
-groups_short (suc k) n = let rest = groups_short k (n / 128) in grind (arith, groups-small, groups-large)
+groups_short (suc k) n = grind (arith, groups-small, groups-large, groups_short k (n / 128))
 
-groups_shortest : (k n : ℕ) (bytes : List ℕ) → n < 128 ^ suc k → Spells bytes n → length (groups k n) ≤ length bytes
+pub groups_shortest : (k n : ℕ) (bytes : List ℕ) → n < 128 ^ suc k → Spells bytes n → length (groups k n) ≤ length bytes
 groups_shortest k n [] h spelled = absurd spelled
 groups_shortest k n (b ∷ []) h spelled = grind (arith, groups-small)
 groups_shortest zero n (b ∷ c ∷ bytes) h spelled = grind (arith, groups-small)
 groups_shortest (suc k) n (b ∷ c ∷ bytes) h spelled =
-    let rest : n / 128 < 128 ^ suc k → Spells (c ∷ bytes) (n / 128)
-    → length (groups k (n / 128)) ≤ length (c ∷ bytes) = groups_shortest k (n / 128) (c ∷ bytes) in
-    let high : spelled.2 ≡ n / 128 = omega (arith, spelled.0, spelled.1, spelled.3) in
-    grind (arith, groups-small, groups-large, small_rest)
+    grind (arith, groups-small, groups-large, small_rest, groups_shortest k (n / 128) (c ∷ bytes))
 
 pub varint_spelled : (n : ℕ) → n < 2 ^ 64 → Spells (varint_bytes n) n
 unfolding varint_bytes
@@ -66,7 +59,3 @@ varint_spelled n fits = groups_spelled 9 n (omega (arith, fits))
 pub varint_short : (n : ℕ) → length (varint_bytes n) ≤ 10
 unfolding varint_bytes
 varint_short n = groups_short 9 n
-
-pub varint_shortest : (n : ℕ) (bytes : List ℕ) → n < 2 ^ 64 → Spells bytes n → length (varint_bytes n) ≤ length bytes
-unfolding varint_bytes
-varint_shortest n bytes fits spelled = groups_shortest 9 n bytes (omega (arith, fits)) spelled

@@ -8,9 +8,3 @@ returns-in_err-checked_mul c = grind (arith, common_steps, too_big_from_step)
 
 pub returns-in_err-value : goal.returns-in_err-value
 returns-in_err-value c = grind (arith, common_steps, too_big_from_step)
-
-pub loop-digit-preserved : goal.loop-digit-preserved
-loop-digit-preserved c = grind (arith, common_steps)
-
-pub returns : goal.returns
-returns c = grind (arith, common_steps)

@@ -6,12 +6,9 @@ pub returns-then-not-are_digits : goal.returns-then-not-are_digits
 returns-then-not-are_digits c = inl (
   refl,
   λ n is.
-      not_digits c.numeral_parts-base.result.0 c.numeral_parts-base.result.1.now n (sym c.if-not-are_digits.ensures)
-      ((c.numeral_parts-base.ensures.parts n).0 is),
+      not_digits _ _ n (sym c.if-not-are_digits.ensures) ((c.numeral_parts-base.ensures.parts n).0 is),
 )
 
 pub returns : goal.returns
-returns c =
-    has_value c.args.bytes.now c.numeral_parts-base.result.0 c.numeral_parts-base.result.1.now c.digits_value.result
-    c.ok_or.result
-    (sym c.if-not-are_digits.ensures) c.numeral_parts-base.ensures.parts c.digits_value.ensures c.ok_or.ensures.value
+returns c = has_value _ _ _ _ _ (sym c.if-not-are_digits.ensures) c.numeral_parts-base.ensures.parts
+    c.digits_value.ensures c.ok_or.ensures.value

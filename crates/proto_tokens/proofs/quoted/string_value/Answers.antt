@@ -13,22 +13,13 @@ pub loop-end-preserved : goal.loop-end-preserved
 loop-end-preserved c = grind (arith, common_steps, read_run)
 
 pub returns-in-None : goal.returns-in-None
-returns-in-None c =
-    no_escape_here c.args.quote c.args.after.now c.loop-end.value.items c.bytes_behind.result.now c.loop-end.end
-    c.args.at c.fault_at.result c.requires.quote
-    c.loop-end.invariant c.loop-end-test.true c.if-byte-eq92.true c.bytes_behind.ensures.rest c.in-None.ensures
-    c.fault_at.ensures
+returns-in-None c = no_escape_here _ _ _ _ _ _ _ c.requires.quote c.loop-end.invariant c.loop-end-test.true
+    c.if-byte-eq92.true c.bytes_behind.ensures.rest c.in-None.ensures c.fault_at.ensures
 
 pub returns-then-byte-eq10 : goal.returns-then-byte-eq10
-returns-then-byte-eq10 c =
-    unclosed_here c.args.quote c.args.after.now c.loop-end.value.items c.loop-end.end c.args.at
-    c.fault_at-then-byte-eq10.result c.requires.quote c.loop-end.invariant
+returns-then-byte-eq10 c = unclosed_here _ _ _ _ _ _ c.requires.quote c.loop-end.invariant
     (inr (c.loop-end-test.true, c.if-byte-eq10.true)) c.fault_at-then-byte-eq10.ensures
 
 pub returns : goal.returns
-returns c =
-    unclosed_here c.args.quote c.args.after.now c.loop-end.value.items c.loop-end.end c.args.at c.fault_at-2.result
-    c.requires.quote c.loop-end.invariant (inl c.loop-end-test.false) c.fault_at-2.ensures
-
-pub loop-end-smaller : goal.loop-end-smaller
-loop-end-smaller c = grind (arith, common_steps)
+returns c = unclosed_here _ _ _ _ _ _ c.requires.quote c.loop-end.invariant (inl c.loop-end-test.false)
+    c.fault_at-2.ensures

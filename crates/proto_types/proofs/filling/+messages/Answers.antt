@@ -1,10 +1,10 @@
-use Rattle.std.proofs.Common.{◌∙◌, arith, rules}
+use Rattle.std.proofs.Common.{arith, rules}
 use Rattle.proto_desc.specs.declared.message.MessageDesc.TheViews.{out-MessageDesc, out-roll-MessageDesc, roll-MessageDesc}
 use Rattle.proto_desc.proofs.Declared.{scope_in}
 use Rattle.proto_names.specs.SeenAlike.{IsSeen}
 use Rattle.proto_types.specs.References.{field_scope}
 use Rattle.proto_types.proofs.Trees.{references_out, remade_typed}
-use Rattle.proto_types.proofs.Walking.{filled_all, filled_next, puts_both}
+use Rattle.proto_types.proofs.Walking.{filled_next, puts_both}
 use Rattle.proto_types.proofs.filling.+messages.Goals as goal
 
 pub fill_message-returns : goal.fill_message-returns
@@ -32,9 +32,3 @@ fill_messages-loop-position-preserved t c =
     let next = filled_next (record { size = so_far.0.0; rest = so_far.0.1; filled = so_far.1 })
     (search (rules, arith)) c.index_mut.ensures.value c.fill_message.ensures in
     ((next.size, next.rest), next.filled)
-
-pub fill_messages-returns : goal.fill_messages-returns
-fill_messages-returns t c =
-    let so_far = c.loop-position.invariant in
-    filled_all (record { size = so_far.0.0; rest = so_far.0.1; filled = so_far.1 }) (search (rules, arith))
-    (c.into_vec-list.ensures ∙ c.replace.ensures.value) (c.swap.ensures.x_after ∙ c.from_vec-filled.ensures)

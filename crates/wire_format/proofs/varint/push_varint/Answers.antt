@@ -1,7 +1,6 @@
-use Rattle.std.proofs.Common.{arith, ap, ◌<◌, ◌+◌, length, length-append, vec_capacity, vec_len}
+use Rattle.std.proofs.Common.{arith, ap, length, length-append}
 use Rattle.wire_format.proofs.Varints.{varint_bytes-small, varint_bytes-step}
 use Rattle.std.proofs.lemmas.Grind.{common_steps}
-use Rattle.wire_format.specs.Varint.{varint_bytes}
 use Rattle.wire_format.proofs.varint.push_varint.Goals as goal
 
 pub loop-rest-preserved : goal.loop-rest-preserved
@@ -16,16 +15,10 @@ pub returns-in_err-push-clause-full : goal.returns-in_err-push-clause-full
 returns-in_err-push-clause-full c =
     let step = ap length (varint_bytes-step c.loop-rest.rest (omega arith) (omega arith)) in
     let whole = simp length-append at (ap length c.loop-rest.invariant.whole) in
-    let refused = c.in_err-push.ensures.full in
-    let full : vec_capacity c.args.out.now < vec_len c.args.out.now + length (varint_bytes c.args.value) =
-    omega (arith, step, whole, refused) in
-    grind (arith, common_steps, full)
+    grind (arith, common_steps, step, whole)
 
 pub returns-in_err-push-2-clause-full : goal.returns-in_err-push-2-clause-full
 returns-in_err-push-2-clause-full c =
     let step = ap length (varint_bytes-small c.loop-rest.rest (omega arith)) in
     let whole = simp length-append at (ap length c.loop-rest.invariant.whole) in
-    let refused = c.in_err-push-2.ensures.full in
-    let full : vec_capacity c.args.out.now < vec_len c.args.out.now + length (varint_bytes c.args.value) =
-    omega (arith, step, whole, refused) in
-    grind (arith, common_steps, full)
+    grind (arith, common_steps, step, whole)

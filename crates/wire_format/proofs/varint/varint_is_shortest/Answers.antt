@@ -1,4 +1,6 @@
-use Rattle.wire_format.proofs.Varints.{varint_spelled, varint_short, varint_shortest}
+use Rattle.std.proofs.Common.{arith}
+use Rattle.wire_format.specs.Varint.{varint_bytes}
+use Rattle.wire_format.proofs.Varints.{groups_shortest, varint_spelled, varint_short}
 use Rattle.wire_format.proofs.varint.varint_is_shortest.Goals as goal
 
 pub returns-clause-spelled : goal.returns-clause-spelled
@@ -8,4 +10,5 @@ pub returns-clause-short : goal.returns-clause-short
 returns-clause-short c n fits = varint_short n
 
 pub returns-clause-shortest : goal.returns-clause-shortest
-returns-clause-shortest c = varint_shortest
+unfolding varint_bytes
+returns-clause-shortest c n bytes fits = groups_shortest 9 n bytes (omega (arith, fits))

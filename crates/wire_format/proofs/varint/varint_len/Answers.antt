@@ -7,14 +7,11 @@ overflow_add-len c = omega (arith, c.loop-rest.invariant, varint_short c.args.va
 
 pub loop-rest-preserved : goal.loop-rest-preserved
 loop-rest-preserved c =
-    let step = ap length (varint_bytes-step c.loop-rest.rest (omega arith) (omega arith)) in
-    omega (arith, c.loop-rest.invariant, step)
+    omega (arith, c.loop-rest.invariant, ap length (varint_bytes-step c.loop-rest.rest (omega arith) (omega arith)))
 
 pub returns-clause-len : goal.returns-clause-len
-returns-clause-len c = let last = ap length (varint_bytes-small c.loop-rest.rest (omega arith)) in
-    omega (arith, c.loop-rest.invariant, last)
+returns-clause-len c =
+    omega (arith, c.loop-rest.invariant, ap length (varint_bytes-small c.loop-rest.rest (omega arith)))
 
 pub returns-clause-most : goal.returns-clause-most
-returns-clause-most c =
-    let last = ap length (varint_bytes-small c.loop-rest.rest (omega arith)) in
-    omega (arith, c.loop-rest.invariant, last, varint_short c.args.value)
+returns-clause-most c = omega (arith, returns-clause-len c, varint_short c.args.value)

@@ -1,10 +1,6 @@
-use Rattle.std.proofs.lemmas.Grind.{common_steps}
 use Rattle.std.proofs.Common.{arith}
 use Rattle.std.proofs.lemmas.List.{take_all}
 use Rattle.proto_types.proofs.finder.Finder.messages.Goals as goal
 
 pub returns : goal.returns
 returns c = rw (take_all c.loop-message.message-index c.args.messages.now (omega arith)) at c.loop-message.invariant
-
-pub loop-message-preserved : goal.loop-message-preserved
-loop-message-preserved c = grind (arith, common_steps)
